@@ -1,0 +1,2 @@
+pub mod CommaLists
+pub mod Writing

@@ -1,0 +1,6 @@
+-- An interrupted read consumes nothing.
+use Rattle.std.specs.Io.KnownBytes.{Keeps}
+use Rattle.byte_ends.proofs.feed.read_uninterrupted.Given as goal
+
+abbrev pub invariant-loop : goal.invariant-loop
+invariant-loop g l = Keeps (g.R.Read.remaining l.fn.reader) (g.R.Read.remaining l.reader)

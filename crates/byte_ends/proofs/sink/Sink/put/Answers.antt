@@ -1,0 +1,30 @@
+-- What one write of the device took, after those before it.
+use Rattle.std.proofs.Common.{arith}
+use Rattle.byte_ends.proofs.Writing.{Takes-none, Takes-more, rest_of}
+use Rattle.byte_ends.proofs.sink.Sink.put.Goals as goal
+
+pub returns-then-failures-gt0-clause-wrote : goal.returns-then-failures-gt0-clause-wrote
+returns-then-failures-gt0-clause-wrote g c = record {
+  many = 0;
+  took = rw (← c.self.view_is) (Takes-none _ _ c.self.invariant);
+  counted = omega arith;
+  failed = rw (← c.self.view_is) (omega arith);
+}
+
+pub loop-at-init : goal.loop-at-init
+loop-at-init g c = record {
+  counted = omega arith;
+  takes = rw (← c.self.view_is) (Takes-none _ _ c.self.invariant);
+  sound = omega arith;
+  small = c.self.invariant;
+}
+
+pub loop-at-preserved : goal.loop-at-preserved
+loop-at-preserved g c =
+    let told = rw rest_of at c.in-Ok.ensures in
+    record {
+      counted = omega arith;
+      takes = Takes-more _ _ _ _ _ _ c.loop-at.invariant.takes told.bound told.bytes c.saturating_add-self-inside.ensures;
+      sound = omega arith;
+      small = omega arith;
+    }

@@ -1,0 +1,15 @@
+-- The bytes so far are those that the source gave, within the limit and without a failure.
+use Rattle.std.proofs.Common.{◌≡◌, ◌<◌, ◌≤◌, ◌-◌, length, vec_len}
+use Rattle.std.specs.Io.KnownBytes.{Consumes}
+use Rattle.byte_ends.proofs.source.read_all.Given as goal
+
+abbrev pub invariant-loop-bytes : goal.invariant-loop-bytes
+invariant-loop-bytes g l = record {
+  gave : Consumes l.fn.source.left l.source.left l.bytes.items;
+  short : vec_len l.bytes ≤ l.limit;
+  sound : l.source.failures ≡ l.fn.source.failures;
+  room : 0 < length l.block;
+}
+
+abbrev pub decreases-loop-bytes : goal.decreases-loop-bytes
+decreases-loop-bytes g l = l.limit - vec_len l.bytes

@@ -1,0 +1,22 @@
+//! The two ends of a program's bytes: a `Source` that is read to its end, and a `Sink` that is written.
+//! Both stand on std's `Read` and `Write` by way of the traits `Feed` and `Drain`, which count the failures of a device.
+//! A writer above calls `Sink::put`, and its contract is the relation `Writes` of `specs/Writes.antt`: the whole text,
+//! or a prefix of it and a failed device. `proofs/Writing.antt` has the lemmas that join such writes.
+#![tactic(auto)]
+
+pub mod devices;
+mod drain;
+mod feed;
+mod memory;
+mod memory_drain;
+mod sink;
+mod source;
+#[cfg(test)]
+mod tests;
+
+pub use drain::{Drain, ToWrite};
+pub use feed::{Failed, Feed, FromRead};
+pub use memory::Memory;
+pub use memory_drain::MemoryDrain;
+pub use sink::{Broken, Sink, WriteFault};
+pub use source::{MAX_INPUT, ReadFault, Source, read_all};

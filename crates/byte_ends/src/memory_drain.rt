@@ -1,0 +1,90 @@
+// A drain that keeps its bytes in memory.
+ghost use Rattle.std.specs.Prelude.{◌≡◌, ◌<◌, ℕ, List, [], Option, Some, IfOk, IsOk, length};
+ghost use Rattle.std.specs.Io.{WritesAtMost};
+ghost use Rattle.std.specs.Io.KnownBytes.{WriteAppends, Keeps};
+ghost use Rattle.byte_ends.specs.Ends.{CountsFailure};
+
+use crate::drain::Drain;
+use crate::feed::Failed;
+use std::alloc::Global;
+use std::marker::Model;
+
+/// A drain that holds all its bytes in memory, as a text that is to be sent on only once it is whole.
+/// Its one failure is an allocation that is refused.
+#[derive(Drop)]
+pub struct MemoryDrain {
+    bytes: Vec<u8>,
+    failures: u64,
+}
+
+impl Model for MemoryDrain {
+    ghost use Rattle.byte_ends.specs.Ends.{Held};
+
+    ghost Value = { Held };
+
+    ghost view = { λ s. record { bytes = s.bytes.items; failures = s.failures } };
+}
+
+impl MemoryDrain {
+    /// A drain that holds nothing. This allocates nothing.
+    pub fn new(alloc: Global) -> MemoryDrain
+        ensures bytes { result.bytes ≡ [] }
+        ensures failures { result.failures ≡ 0 }
+    {
+        MemoryDrain {
+            bytes: Vec::new(alloc),
+            failures: 0,
+        }
+    }
+
+    /// The bytes that it took.
+    pub fn as_slice(&self) -> &[u8]
+        ensures { result.now ≡ self.now.bytes }
+    {
+        self.bytes.as_slice()
+    }
+
+    /// The bytes that it took.
+    pub fn into_inner(self) -> Vec<u8>
+        ensures { result.items ≡ self.bytes }
+    {
+        self.bytes
+    }
+}
+
+impl Drain for MemoryDrain {
+    ghost taken = { λ s. Some s.bytes };
+
+    ghost failures = { λ s. s.failures };
+
+    /// Takes the whole slice, or nothing where an allocation is refused.
+    fn write(&mut self, buf: &[u8]) -> Result<usize, Failed>
+        ensures bound { WritesAtMost result buf.now }
+        ensures some { IfOk result (λ n. 0 < length buf.now → 0 < n) }
+        ensures bytes { WriteAppends (Some self.old.bytes) (Some self.new.bytes) result buf.now }
+        ensures failures { CountsFailure self.old.failures result self.new.failures }
+        ensures whole { IfOk result (λ n. n ≡ length buf.now) }
+    {
+        match self.bytes.extend_from_slice(buf) {
+            Ok(()) => Ok(buf.len()),
+            Err(_) => {
+                self.failures = self.failures.saturating_add(1);
+                Err(Failed)
+            }
+        }
+    }
+
+    /// Does nothing: there is nowhere to pass the bytes on to.
+    fn flush(&mut self) -> Result<(), Failed>
+        ensures bytes { Keeps (Some self.old.bytes) (Some self.new.bytes) }
+        ensures failures { CountsFailure self.old.failures result self.new.failures }
+        ensures ok { IsOk result }
+        ensures same { self.new ≡ self.old }
+    {
+        Ok(())
+    }
+
+    fn failures(&self) -> u64 {
+        self.failures
+    }
+}

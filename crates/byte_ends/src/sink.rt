@@ -1,0 +1,148 @@
+// A sink for bytes.
+ghost use Rattle.std.specs.Prelude.{◌≡◌, ◌<◌, ◌≤◌, ℕ, OnOk, OnErr, length};
+ghost use Rattle.std.specs.Io.KnownBytes.{Keeps};
+ghost use Rattle.byte_ends.specs.Commas.{comma_unless};
+ghost use Rattle.byte_ends.specs.Ends.{Takes};
+ghost use Rattle.byte_ends.specs.Writes.{Writes};
+
+use crate::drain::Drain;
+use crate::feed::Failed;
+use std::marker::Model;
+use thiserror::Error;
+
+/// The device of a sink has failed, in this call or earlier.
+#[derive(Clone, Copy, Debug, PartialEq, Eq, Error)]
+#[error("the sink is broken")]
+pub struct Broken;
+
+/// Why a text was not written whole.
+#[derive(Clone, Copy, Debug, PartialEq, Eq, Error)]
+pub enum WriteFault {
+    /// The device failed, once it had taken this many bytes of the text.
+    #[error("the sink is broken after {sent} bytes")]
+    Write { sent: u64 },
+    /// An allocation was refused. No writer of this crate answers it, and the relation `Writes` rules it out:
+    /// it is for a caller that first holds its text whole.
+    #[error("out of memory")]
+    Memory,
+}
+
+/// Bytes to be written, to a device that had not failed when the sink was made. Once the device has failed the sink is
+/// broken: it answers faults alone, and the device gets no further call.
+#[derive(Drop)]
+pub struct Sink<W: Drain> {
+    drain: W,
+    sent: u64,
+}
+
+impl<W: Drain> Model for Sink<W> {
+    ghost use Rattle.std.specs.Prelude.{◌<◌, ◌^◌};
+    ghost use Rattle.byte_ends.specs.Ends.{Drained};
+
+    ghost Value = { Drained };
+
+    ghost view = { λ s. record { taken = W.taken s.drain; sent = s.sent; failures = W.failures s.drain } };
+
+    ghost invariant = { λ s. s.sent < 2 ^ 64 };
+}
+
+impl<W: Drain> Sink<W> {
+    /// A sink over a device that has not failed.
+    pub fn new(drain: W) -> Sink<W>
+        requires { W.failures drain ≡ 0 }
+        ensures taken { result.taken ≡ W.taken drain }
+        ensures sent { result.sent ≡ 0 }
+        ensures failures { result.failures ≡ 0 }
+    {
+        Sink { drain, sent: 0 }
+    }
+
+    /// The device, with all that it took and its failures.
+    pub fn into_inner(self) -> W
+        ensures taken { W.taken result ≡ self.taken }
+        ensures failures { W.failures result ≡ self.failures }
+    {
+        self.drain
+    }
+
+    /// How many bytes the device took through this sink: a count that stays at `u64::MAX` once it is there.
+    pub fn sent(&self) -> u64
+        ensures { result ≡ self.now.sent }
+    {
+        self.sent
+    }
+
+    /// How many calls of the device failed. The sink is broken where this isn't zero.
+    pub fn failures(&self) -> u64
+        ensures { result ≡ self.now.failures }
+    {
+        self.drain.failures()
+    }
+
+    /// Flushes the device. A sink that is broken already is left as it is.
+    pub fn finish(&mut self) -> Result<(), Broken>
+        ensures taken { Keeps self.old.taken self.new.taken }
+        ensures sent { self.new.sent ≡ self.old.sent }
+        ensures ok { OnOk result (self.new.failures ≡ 0) }
+        ensures err { OnErr result (0 < self.new.failures) }
+        ensures broken { 0 < self.old.failures → self.new ≡ self.old }
+    {
+        if self.drain.failures() > 0 {
+            return Err(Broken);
+        }
+        match self.drain.flush() {
+            Ok(()) => Ok(()),
+            Err(Failed) => Err(Broken),
+        }
+    }
+
+    /// Writes all of the bytes, or those up to the device's failure, and counts on from `count`: a writer of a longer
+    /// text passes each answer to its next `put`, so that the last answer, or the fault's `sent`, counts its whole text.
+    pub fn put(&mut self, count: u64, bytes: &[u8]) -> Result<u64, WriteFault>
+        ensures wrote { Writes self.old self.new count bytes.now result }
+        ensures broken { 0 < self.old.failures → self.new ≡ self.old }
+    {
+        let mut count = count;
+        if self.drain.failures() > 0 {
+            return Err(WriteFault::Write { sent: count });
+        }
+        let mut at = 0;
+        while at < bytes.len() {
+            match self.drain.write(&bytes[at..]) {
+                Ok(n) => {
+                    self.sent = self.sent.saturating_add(n as u64);
+                    count = count.saturating_add(n as u64);
+                    at += n;
+                }
+                Err(Failed) => return Err(WriteFault::Write { sent: count }),
+            }
+        }
+        Ok(count)
+    }
+
+    /// Writes the comma in front of a list's element, as `put` does, or nothing in front of the first.
+    pub fn put_comma(&mut self, count: u64, is_first: bool) -> Result<u64, WriteFault>
+        ensures wrote { Writes self.old self.new count (comma_unless is_first) result }
+        ensures broken { 0 < self.old.failures → self.new ≡ self.old }
+    {
+        if is_first {
+            self.put(count, b"")
+        } else {
+            self.put(count, b",")
+        }
+    }
+
+    /// Writes all of the bytes, or those up to the device's failure.
+    pub fn push(&mut self, bytes: &[u8]) -> Result<(), Broken>
+        ensures all { OnOk result (Takes self.old self.new bytes.now (length bytes.now)) }
+        ensures prefix { (n : ℕ) × Takes self.old self.new bytes.now n }
+        ensures ok { OnOk result (self.new.failures ≡ 0) }
+        ensures err { OnErr result (0 < self.new.failures) }
+        ensures broken { 0 < self.old.failures → self.new ≡ self.old }
+    {
+        match self.put(0, bytes) {
+            Ok(_) => Ok(()),
+            Err(_) => Err(Broken),
+        }
+    }
+}

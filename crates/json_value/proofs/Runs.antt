@@ -1,0 +1,31 @@
+-- The escaped bytes of a text, run by run.
+use Rattle.std.proofs.Common.{◌≡◌, ℕ, ◌⊎◌, true, false, inl, inr, List, [], ◌∷◌, ◌++◌, take, drop, one-add, refl, ap, ◌∙◌, append_assoc, arith}
+use Rattle.std.specs.List.{prefix_len}
+use Rattle.std.proofs.lemmas.Bool.Decides.{nat_tests}
+use Rattle.json_value.specs.Grammar.{is_plain}
+use Rattle.json_value.specs.Text.{escaped_byte, escaped}
+
+plain_stays : (b : ℕ) → is_plain b ≡ true → escaped_byte b ≡ b ∷ []
+unfolding escaped_byte
+plain_stays b h = grind (arith, nat_tests)
+
+plain_tells : (b : ℕ) → (is_plain b ≡ true) ⊎ (is_plain b ≡ false)
+plain_tells b = elim (is_plain b) as (λ x. (x ≡ true) ⊎ (x ≡ false)) [ true ↦ inl refl | false ↦ inr refl ]
+
+-- the bytes in front that stand for themselves, and the rest
+run_first : (bytes : List ℕ) → escaped bytes ≡ take (prefix_len is_plain bytes) bytes ++ escaped (drop (prefix_len is_plain bytes) bytes)
+run_first [] = refl
+run_first (b ∷ bytes) =
+    elim (plain_tells b) [
+      | inl p ↦ rw (p, one-add) (rw (plain_stays b p) (ap (λ z. b ∷ z) (run_first bytes)))
+      | inr p ↦ rw p refl
+    ]
+
+-- what is left to write before a run, and behind it
+pub run_is : (rest run behind closing : List ℕ) (n : ℕ) → n ≡ prefix_len is_plain rest → run ≡ take n rest → behind ≡ drop n rest → escaped rest ++ closing ≡ run ++ (escaped behind ++ closing)
+run_is rest run behind closing n many front back =
+    ap (λ z. z ++ closing) (run_first rest) ∙ rw (front, back, many) (append_assoc (take (prefix_len is_plain rest) rest) _ closing)
+
+-- and before and behind an escape
+pub escape_is : (behind after closing : List ℕ) (b : ℕ) → behind ≡ b ∷ after → escaped behind ++ closing ≡ escaped_byte b ++ (escaped after ++ closing)
+escape_is behind after closing b is = rw is (append_assoc (escaped_byte b) (escaped after) closing)

@@ -1,0 +1,6 @@
+pub mod Depth
+pub mod Grammar
+pub mod Kinds
+pub mod Numbers
+pub mod Text
+pub mod formers

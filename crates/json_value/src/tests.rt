@@ -1,0 +1,98 @@
+// What no clause says: that the calls succeed, and the texts of RFC 8259, section 7, byte by byte.
+ghost use Rattle.std.specs.Prelude.{◌≡◌, reverse};
+
+use crate::{Items, Json, NumText, OwnText, put_text, write_text};
+use byte_ends::devices::{CutWriter, Fault};
+use byte_ends::{Sink, ToWrite, WriteFault};
+use std::alloc::Global;
+use std::test::Fail;
+
+fn sink_of(alloc: Global, fault: Fault) -> Sink<ToWrite<CutWriter>> {
+    Sink::new(ToWrite::new(CutWriter::new(Vec::new(alloc), 2, fault)))
+}
+
+#[test]
+fn writes_a_plain_text(rt: HostRuntime) {
+    let mut sink = sink_of(rt.alloc(), Fault::Never);
+    assert_eq!(rt; write_text("007", &mut sink), Ok(5));
+    assert_eq!(rt; put_text("", 5, &mut sink), Ok(7));
+    assert_eq!(rt;
+        sink.into_inner().into_inner().held(),
+        b"\"007\"\"\"".as_slice()
+    );
+}
+
+#[test]
+fn writes_each_escape(rt: HostRuntime) {
+    let mut sink = sink_of(rt.alloc(), Fault::Never);
+    let text = "\"a\\\u{8}b\t\n\u{c}\r\u{1}\u{1f}/\u{7f}é";
+    assert_eq!(rt; write_text(text, &mut sink), Ok(34));
+    let wanted = b"\"\\\"a\\\\\\bb\\t\\n\\f\\r\\u0001\\u001f/\x7f\xc3\xa9\"";
+    assert_eq!(rt; sink.into_inner().into_inner().held(), wanted.as_slice());
+}
+
+#[test]
+fn a_broken_sink_holds_the_front(rt: HostRuntime) {
+    let mut sink = sink_of(rt.alloc(), Fault::AtByte(3));
+    assert_eq!(rt;
+        write_text("007", &mut sink),
+        Err(WriteFault::Write { sent: 3 })
+    );
+    assert_eq!(rt;
+        write_text("007", &mut sink),
+        Err(WriteFault::Write { sent: 0 })
+    );
+    assert_eq!(rt; sink.into_inner().into_inner().held(), b"\"00".as_slice());
+}
+
+// What is left in the lent slice are the elements.
+fn turn(items: &mut Items<u8>)
+    ensures { items.new ≡ reverse items.old }
+{
+    items.as_mut_slice().reverse();
+}
+
+#[test]
+fn items_are_lent(rt: HostRuntime) -> Result<(), Fail> {
+    let mut items = Items::of(vec![in rt.alloc(); 1, 2, 3]?);
+    turn(&mut items);
+    assert_eq!(rt; items.as_slice(), [3, 2, 1].as_slice());
+    assert_eq!(rt; items.len(), 3);
+    assert!(rt; !items.is_empty());
+    assert_eq!(rt; items.into_inner().as_slice(), [3, 2, 1].as_slice());
+    Ok(())
+}
+
+#[test]
+fn a_value_has_one_kind(rt: HostRuntime) -> Result<(), Fail> {
+    let alloc = rt.alloc();
+    let text = Json::Text(OwnText::of(String::from_str(alloc, "ab")?));
+    assert!(rt; text.as_text() == Some("ab"));
+    assert!(rt;
+        text.as_array().is_none() && text.as_object().is_none() && text.as_number().is_none()
+    );
+    let Some(one) = NumText::read(alloc, "1.0")? else {
+        return Err(Fail::new("no number"));
+    };
+    let number = Json::Number(one);
+    assert!(rt; number.as_number().is_some_and(|one| one.text() == "1.0"));
+    assert!(rt; number.as_text().is_none());
+    let array = Json::Array(Items::of(vec![in alloc; text, number]?));
+    assert!(rt; array.as_array().is_some_and(|elements| elements.len() == 2));
+    let name = OwnText::of(String::from_str(alloc, "k")?);
+    let object = Json::Object(Items::of(vec![in alloc; (name, array)]?));
+    assert!(rt; matches!(object.as_object(), Some([(_, Json::Array(_))])));
+    let Some(members) = object.into_object() else {
+        return Err(Fail::new("no object"));
+    };
+    for (name, value) in members.into_inner() {
+        assert_eq!(rt; name.into_inner().as_bytes(), b"k".as_slice());
+        assert!(rt;
+            value
+                .into_array()
+                .is_some_and(|elements| elements.len() == 2)
+        );
+    }
+    assert!(rt; Json::Null.into_text().is_none() && Json::Bool(true).into_number().is_none());
+    Ok(())
+}

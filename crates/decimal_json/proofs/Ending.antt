@@ -1,0 +1,40 @@
+-- What may stand behind a value: nothing, white space, a comma or a closing bracket.
+use Rattle.std.proofs.Common.{◌≡◌, ℕ, Bool, true, inl, inr, List, [], ◌∷◌, ◌++◌, refl}
+use Rattle.std.specs.Prelude.{◌||◌, ◌==◌}
+use Rattle.json_value.specs.Grammar.{is_space, IsSpace}
+use Rattle.decimal_json.proofs.Steps.{at, or_cases}
+
+abbrev pub is_end : ℕ → Bool
+is_end b = is_space b || (b == 44 || (b == 93 || b == 125))
+
+abbrev pub Ends : List ℕ → Type 0
+Ends [] = Unit {0}
+Ends (b ∷ bs) = is_end b ≡ true
+
+pub Ends-space : (u : List ℕ) (b : ℕ) (bs : List ℕ) → IsSpace u → is_end b ≡ true → Ends (u ++ (b ∷ bs))
+Ends-space [] b bs h e = e
+Ends-space (c ∷ u) b bs h e = rw h.0 refl
+
+pub Ends-only : (u : List ℕ) → IsSpace u → Ends u
+Ends-only [] h = tt
+Ends-only (c ∷ u) h = rw h.0 refl
+
+-- what holds of each white space byte
+pub space_is : (P : ℕ → Type 0) → P 32 → P 9 → P 10 → P 13 → (b : ℕ) → is_space b ≡ true → P b
+space_is P a c d e b h = elim (or_cases _ _ h) [
+  | inl s ↦ elim (or_cases _ _ s) [
+    | inl t ↦ elim (or_cases _ _ t) [ inl x ↦ at P 32 b a x | inr x ↦ at P 9 b c x ]
+    | inr x ↦ at P 10 b d x
+  ]
+  | inr x ↦ at P 13 b e x
+]
+
+-- what holds of each byte that may stand behind a value
+pub end_is : (P : ℕ → Type 0) → P 32 → P 9 → P 10 → P 13 → P 44 → P 93 → P 125 → (b : ℕ) → is_end b ≡ true → P b
+end_is P a c d e f g k b h = elim (or_cases _ _ h) [
+  | inl s ↦ space_is P a c d e b s
+  | inr s ↦ elim (or_cases _ _ s) [
+    | inl x ↦ at P 44 b f x
+    | inr t ↦ elim (or_cases _ _ t) [ inl x ↦ at P 93 b g x | inr x ↦ at P 125 b k x ]
+  ]
+]

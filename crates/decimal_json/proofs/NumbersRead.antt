@@ -1,0 +1,173 @@
+-- What is read as a number is a number, and ASCII.
+use Rattle.std.proofs.Common.{◌≡◌, ◌≢◌, ℕ, zero, suc, ◌-◌, ◌<◌, ◌≤◌, Bool, true, false, eqb, inl, inr, List, [], ◌∷◌, ◌++◌, length, take, Some, None, refl, sym, ap, subst, ◌∙◌, append_assoc, length-append, arith}
+use Rattle.std.specs.Prelude.{IsUtf8}
+use Rattle.std.specs.Str.{IsAscii}
+use Rattle.std.proofs.lemmas.Str.{IsAscii-append, IsUtf8-from_ascii}
+use Rattle.std.proofs.lemmas.Str.Ascii.{IsAscii-nil}
+use Rattle.std.proofs.lemmas.Bool.{eqb-true, leb-true}
+use Rattle.std.proofs.lemmas.Option.{option_and_then_some}
+use Rattle.std.proofs.Math.Seq.{take-append_seam}
+use Rattle.decimal_text.specs.Grammar.{is_digit, AllDigits, IsMinus, no_minus, one_minus, IsWhole, whole_zero, whole_digits, IsFraction, no_fraction, fraction, IsSign, no_sign, plus_sign, minus_sign, is_e, IsExponent, no_exponent, exponent, IsNumber, number_of}
+use Rattle.decimal_json.specs.Reading.{after_digits, after_some_digits, after_minus, after_whole, after_fraction, after_sign, after_exponent, after_number, number_at}
+use Rattle.decimal_json.proofs.Steps.{chosen, not_equal, pair_is, IsSound, at, or_cases, both}
+
+-- ---- what is read is a number
+
+digits_takes : (bs : List ℕ) → (t : List ℕ) × AllDigits t × (bs ≡ t ++ after_digits bs)
+unfolding after_digits
+digits_takes [] = ([], tt, refl)
+digits_takes (b ∷ bs) = elim (chosen (is_digit b) (after_digits bs) (b ∷ bs) _ refl) [
+  | inl h ↦ (let r = digits_takes bs in (b ∷ r.0, (h.0, r.1), ap (λ xs. b ∷ xs) r.2 ∙ ap (λ xs. b ∷ (r.0 ++ xs)) h.1))
+  | inr h ↦ ([], tt, h.1)
+]
+
+abbrev SomeDigits : List ℕ → List ℕ → Type 0
+SomeDigits bs rest = (b : ℕ) × (t : List ℕ) × (is_digit b ≡ true) × AllDigits t × (bs ≡ b ∷ (t ++ rest))
+
+some_takes : (bs rest : List ℕ) → after_some_digits bs ≡ Some rest → SomeDigits bs rest
+unfolding after_some_digits
+some_takes [] rest e = cc
+some_takes (b ∷ bs) rest e = elim (chosen (is_digit b) (Some (after_digits bs)) None _ e) [
+  | inl h ↦ (let r = digits_takes bs in let same : after_digits bs ≡ rest = (let f = h.1 in cc) in (b, r.0, h.0, r.1, ap (λ xs. b ∷ xs) r.2 ∙ ap (λ xs. b ∷ (r.0 ++ xs)) same))
+  | inr h ↦ (let wrong = h.1 in cc)
+]
+
+abbrev Part : (List ℕ → Type 0) → List ℕ → List ℕ → Type 0
+Part R bs rest = (t : List ℕ) × R t × (bs ≡ t ++ rest)
+
+minus_takes : (bs : List ℕ) → Part IsMinus bs (after_minus bs)
+unfolding after_minus
+minus_takes [] = ([], no_minus, refl)
+minus_takes (b ∷ bs) = elim (chosen (eqb b 45) bs (b ∷ bs) _ refl) [
+  | inl h ↦ (45 ∷ [], one_minus, ap (λ c. c ∷ bs) (eqb-true b 45 h.0) ∙ ap (λ xs. 45 ∷ xs) h.1)
+  | inr h ↦ ([], no_minus, h.1)
+]
+
+whole_takes : (bs rest : List ℕ) → after_whole bs ≡ Some rest → Part IsWhole bs rest
+unfolding after_whole
+whole_takes [] rest e = cc
+whole_takes (b ∷ bs) rest e = elim (chosen (eqb b 48) (Some bs) (after_some_digits (b ∷ bs)) _ e) [
+  | inl h ↦ (let same : bs ≡ rest = (let f = h.1 in cc) in (48 ∷ [], whole_zero, ap (λ c. c ∷ bs) (eqb-true b 48 h.0) ∙ ap (λ xs. 48 ∷ xs) same))
+  | inr h ↦ (let r = some_takes (b ∷ bs) rest h.1 in let same : b ≡ r.0 = (let f = r.4 in cc) in
+      (r.0 ∷ r.1, whole_digits r.0 r.1 r.2 (subst (λ c. eqb c 48 ≡ false) same h.0) r.3, r.4))
+]
+
+fraction_takes : (bs rest : List ℕ) → after_fraction bs ≡ Some rest → Part IsFraction bs rest
+unfolding after_fraction
+fraction_takes [] rest e = ([], no_fraction, cc)
+fraction_takes (b ∷ bs) rest e = elim (chosen (eqb b 46) (after_some_digits bs) (Some (b ∷ bs)) _ e) [
+  | inl h ↦ (let r = some_takes bs rest h.1 in (46 ∷ r.0 ∷ r.1, fraction r.0 r.1 r.2 r.3, ap (λ c. c ∷ bs) (eqb-true b 46 h.0) ∙ ap (λ xs. 46 ∷ xs) r.4))
+  | inr h ↦ (let f = h.1 in ([], no_fraction, cc))
+]
+
+sign_by : (b : ℕ) (bs : List ℕ) (p q : Bool) → eqb b 43 ≡ p → eqb b 45 ≡ q → Part IsSign (b ∷ bs) (after_sign (b ∷ bs))
+unfolding after_sign
+sign_by b bs true q e f = (43 ∷ [], plus_sign, rw (eqb-true b 43 e) refl)
+sign_by b bs false true e f = (45 ∷ [], minus_sign, rw (eqb-true b 45 f) refl)
+sign_by b bs false false e f = ([], no_sign, rw (e, f) refl)
+
+sign_takes : (bs : List ℕ) → Part IsSign bs (after_sign bs)
+unfolding after_sign
+sign_takes [] = ([], no_sign, refl)
+sign_takes (b ∷ bs) = sign_by b bs (eqb b 43) (eqb b 45) refl refl
+
+exponent_joined : (e : ℕ) (bs s xs : List ℕ) (b : ℕ) (t rest : List ℕ) → bs ≡ s ++ xs → xs ≡ b ∷ (t ++ rest) → e ∷ bs ≡ (e ∷ s ++ b ∷ t) ++ rest
+exponent_joined e bs s xs b t rest p q = rw (p, q) (ap (λ z. e ∷ z) (sym (append_assoc s (b ∷ t) rest)))
+
+exponent_takes : (bs rest : List ℕ) → after_exponent bs ≡ Some rest → Part IsExponent bs rest
+unfolding after_exponent
+exponent_takes [] rest e = ([], no_exponent, cc)
+exponent_takes (b ∷ bs) rest e = elim (chosen (is_e b) (after_some_digits (after_sign bs)) (Some (b ∷ bs)) _ e) [
+  | inl h ↦ (let s = sign_takes bs in let r = some_takes (after_sign bs) rest h.1 in
+      (b ∷ s.0 ++ r.0 ∷ r.1, exponent b s.0 r.0 r.1 h.0 s.1 r.2 r.3, exponent_joined b bs s.0 (after_sign bs) r.0 r.1 rest s.2 r.4))
+  | inr h ↦ (let f = h.1 in ([], no_exponent, cc))
+]
+
+number_joined : (m w f e bs xs ys zs rest : List ℕ) → bs ≡ m ++ xs → xs ≡ w ++ ys → ys ≡ f ++ zs → zs ≡ e ++ rest → bs ≡ (m ++ (w ++ (f ++ e))) ++ rest
+number_joined m w f e bs xs ys zs rest p q r s = rw (p, q, r, s, append_assoc, append_assoc, append_assoc) refl
+
+after_takes : (bs rest : List ℕ) → after_number bs ≡ Some rest → Part IsNumber bs rest
+unfolding after_number
+after_takes bs rest e = option_and_then_some _ _ _ e (λ xs p q. option_and_then_some _ _ _ q (λ ys r s.
+    let m = minus_takes bs in
+    let w = whole_takes (after_minus bs) xs p in
+    let f = fraction_takes xs ys r in
+    let x = exponent_takes ys rest s in
+    (m.0 ++ (w.0 ++ (f.0 ++ x.0)), number_of m.0 w.0 f.0 x.0 m.1 w.1 f.1 x.1, number_joined m.0 w.0 f.0 x.0 bs (after_minus bs) xs ys rest m.2 w.2 f.2 x.2)))
+
+pub cut : (t rest bs : List ℕ) → bs ≡ t ++ rest → take (length bs - length rest) bs ≡ t
+cut t rest bs e =
+    let k : length bs - length rest ≡ length t = (let l = ap length e in omega (arith, l, length-append t rest)) in
+    rw (k, e) (take-append_seam t rest)
+
+pub number_takes : IsSound (λ t v. IsNumber t × (t ≡ v)) number_at
+unfolding number_at
+number_takes bs x e = option_and_then_some _ _ _ e (λ rest f g.
+    let r = after_takes bs rest f in
+    let p = pair_is (take (length bs - length rest) bs) rest x g in
+    (r.0, (r.1, sym (cut r.0 rest bs r.2) ∙ p.0), r.2 ∙ ap (λ z. r.0 ++ z) p.1))
+
+-- ---- a number is ASCII
+
+pub e_is : (P : ℕ → Type 0) → P 101 → P 69 → (b : ℕ) → is_e b ≡ true → P b
+e_is P p q b h = elim (or_cases _ _ h) [ inl x ↦ at P 101 b p x | inr x ↦ at P 69 b q x ]
+
+ascii_cons : (b : ℕ) (bs : List ℕ) → b < 128 → IsAscii bs → IsAscii (b ∷ bs)
+ascii_cons b bs h r zero = h
+ascii_cons b bs h r (suc i) = r i
+
+digit_ascii : (b : ℕ) → is_digit b ≡ true → b < 128
+digit_ascii b h = let p = both _ _ h in let le = leb-true b 57 p.1 in omega (arith, le)
+
+digits_ascii : (ds : List ℕ) → AllDigits ds → IsAscii ds
+digits_ascii [] h = IsAscii-nil
+digits_ascii (b ∷ ds) h = ascii_cons b ds (digit_ascii b h.0) (digits_ascii ds h.1)
+
+minus_ascii : {m : List ℕ} → IsMinus m → IsAscii m
+minus_ascii no_minus = IsAscii-nil
+minus_ascii one_minus = ascii_cons 45 [] (omega arith) IsAscii-nil
+
+whole_ascii : {w : List ℕ} → IsWhole w → IsAscii w
+whole_ascii whole_zero = ascii_cons 48 [] (omega arith) IsAscii-nil
+whole_ascii (whole_digits b bs d z ds) = ascii_cons b bs (digit_ascii b d) (digits_ascii bs ds)
+
+fraction_ascii : {f : List ℕ} → IsFraction f → IsAscii f
+fraction_ascii no_fraction = IsAscii-nil
+fraction_ascii (fraction b bs d ds) = ascii_cons 46 (b ∷ bs) (omega arith) (ascii_cons b bs (digit_ascii b d) (digits_ascii bs ds))
+
+sign_ascii : {s : List ℕ} → IsSign s → IsAscii s
+sign_ascii no_sign = IsAscii-nil
+sign_ascii plus_sign = ascii_cons 43 [] (omega arith) IsAscii-nil
+sign_ascii minus_sign = ascii_cons 45 [] (omega arith) IsAscii-nil
+
+exponent_ascii : {e : List ℕ} → IsExponent e → IsAscii e
+exponent_ascii no_exponent = IsAscii-nil
+exponent_ascii (exponent e s b bs k t d ds) =
+    ascii_cons e (s ++ b ∷ bs) (e_is (λ x. x < 128) (omega arith) (omega arith) e k) (IsAscii-append s (b ∷ bs) (sign_ascii t) (ascii_cons b bs (digit_ascii b d) (digits_ascii bs ds)))
+
+pub number_ascii : {t : List ℕ} → IsNumber t → IsAscii t
+number_ascii (number_of m w f e hm hw hf he) =
+    IsAscii-append m _ (minus_ascii hm) (IsAscii-append w _ (whole_ascii hw) (IsAscii-append f e (fraction_ascii hf) (exponent_ascii he)))
+
+-- ---- what the code asks
+
+pub whole_none : (bs : List ℕ) → bs ≡ [] → after_whole bs ≡ None
+unfolding after_whole
+whole_none bs h = rw h refl
+
+pub whole_by_zero : (b : ℕ) (bs rest : List ℕ) → bs ≡ b ∷ rest → b ≡ 48 → after_whole bs ≡ Some rest
+unfolding after_whole
+whole_by_zero b bs rest h e = rw (h, e) refl
+
+pub whole_by_digits : (b : ℕ) (bs rest : List ℕ) → bs ≡ b ∷ rest → b ≢ 48 → after_whole bs ≡ after_some_digits bs
+unfolding after_whole
+whole_by_digits b bs rest h other = rw (h, not_equal b 48 other) refl
+
+pub shorter : (bs rest : List ℕ) → after_number bs ≡ Some rest → length rest ≤ length bs
+shorter bs rest h = let r = after_takes bs rest h in let l = ap length r.2 in omega (arith, l, length-append r.0 rest)
+
+pub front_number : (bs rest : List ℕ) → after_number bs ≡ Some rest → IsNumber (take (length bs - length rest) bs)
+front_number bs rest h = let r = after_takes bs rest h in rw (cut r.0 rest bs r.2) r.1
+
+pub front_utf8 : (bs rest : List ℕ) → after_number bs ≡ Some rest → IsUtf8 (take (length bs - length rest) bs)
+front_utf8 bs rest h = IsUtf8-from_ascii _ (number_ascii (front_number bs rest h))

@@ -1,0 +1,116 @@
+-- How a value and a member go on, step by step.
+use Rattle.std.proofs.Common.{◌≡◌, ◌≢◌, ℕ, zero, suc, ◌-◌, Bool, true, false, List, [], ◌∷◌, length, Some, None, refl, ◌∙◌, arith}
+use Rattle.std.specs.Prelude.{codes}
+use Rattle.json_value.specs.declared.json.Json.{Json}
+use Rattle.json_value.specs.declared.json.Json.TheVariants as j
+use Rattle.decimal_json.specs.declared.fault.Fault.{Fault}
+use Rattle.decimal_json.specs.declared.fault.Fault.TheVariants as fault
+use Rattle.decimal_json.specs.Gives.{Fails}
+use Rattle.decimal_json.specs.Reading.{Parse, ◌>>=◌, skip, after_word, word_at, string_at, number_at, list_at, closes, items_unless, items_at, name_at, member_at, value_with, value_at}
+use Rattle.decimal_json.proofs.Steps.{not_equal}
+
+pub is_closed : (A : Type 0) (close : ℕ) (item : Parse A) (bs rest : List ℕ) → Some rest ≡ after_word (close ∷ []) (skip bs) → items_at close item bs ≡ Some ([], rest)
+unfolding items_at items_unless closes
+is_closed A close item bs rest h = rw (← h) refl
+
+pub is_open : (A : Type 0) (close : ℕ) (item : Parse A) (bs : List ℕ) → None ≡ after_word (close ∷ []) (skip bs) → items_at close item bs ≡ list_at close item (length bs) bs
+unfolding items_at items_unless closes
+is_open A close item bs h = rw (← h) refl
+
+module _ (fits : List ℕ → Bool) where
+  pub value_at_is : (d : ℕ) → (items : Parse (List Json)) × (members : Parse (List (List ℕ × Json))) × (value_at fits d ≡ value_with fits items members)
+  unfolding value_at
+  value_at_is zero = (λ _. None, λ _. None, refl)
+  value_at_is (suc d) = (items_at 93 (value_at fits d), items_at 125 (member_at fits (value_at fits d)), refl)
+
+  -- how a value goes on, behind each first byte
+  module _ (d b : ℕ) (bs rest : List ℕ) (first : bs ≡ b ∷ rest) where
+    pub at_n : b ≡ 110 → value_at fits d bs ≡ word_at (codes "ull") j.Null rest
+    unfolding value_with
+    at_n h = rw ((value_at_is d).2, first, h) refl
+
+    pub at_t : b ≡ 116 → value_at fits d bs ≡ word_at (codes "rue") (j.Bool true) rest
+    unfolding value_with
+    at_t h = rw ((value_at_is d).2, first, h) refl
+
+    pub at_f : b ≡ 102 → value_at fits d bs ≡ word_at (codes "alse") (j.Bool false) rest
+    unfolding value_with
+    at_f h = rw ((value_at_is d).2, first, h) refl
+
+    at_text : b ≡ 34 → value_at fits d bs ≡ (string_at fits rest >>= λ t. Some (j.Text t.0, t.1))
+    unfolding value_with
+    at_text h = rw ((value_at_is d).2, first, h) refl
+
+    pub text_fails : b ≡ 34 → (e : Fault) → Fails e (string_at fits rest) → Fails e (value_at fits d bs)
+    text_fails h fault.Memory f = tt
+    text_fails h (fault.Malformed left why) f = at_text h ∙ rw f refl
+
+    pub text_found : b ≡ 34 → (t after : List ℕ) → string_at fits rest ≡ Some (t, after) → value_at fits d bs ≡ Some (j.Text t, after)
+    text_found h t after f = at_text h ∙ rw f refl
+
+    at_number : b ≢ 110 → b ≢ 116 → b ≢ 102 → b ≢ 34 → b ≢ 91 → b ≢ 123 → value_at fits d bs ≡ (number_at bs >>= λ t. Some (j.Number t.0, t.1))
+    unfolding value_with
+    at_number n t f q a o = rw ((value_at_is d).2, first, not_equal b 110 n, not_equal b 116 t, not_equal b 102 f, not_equal b 34 q, not_equal b 91 a, not_equal b 123 o) refl
+
+    pub number_fails : b ≢ 110 → b ≢ 116 → b ≢ 102 → b ≢ 34 → b ≢ 91 → b ≢ 123 → (e : Fault) → Fails e (number_at bs) → Fails e (value_at fits d bs)
+    number_fails n t f q a o fault.Memory r = tt
+    number_fails n t f q a o (fault.Malformed left why) r = at_number n t f q a o ∙ rw r refl
+
+    pub number_found : b ≢ 110 → b ≢ 116 → b ≢ 102 → b ≢ 34 → b ≢ 91 → b ≢ 123 → (t after : List ℕ) → number_at bs ≡ Some (t, after) → value_at fits d bs ≡ Some (j.Number t, after)
+    number_found n t f q a o text after r = at_number n t f q a o ∙ rw r refl
+
+    pub array_too_deep : b ≡ 91 → d ≡ 0 → value_at fits d bs ≡ None
+    unfolding value_at value_with
+    array_too_deep h e = rw (e, first, h) refl
+
+    at_array : b ≡ 91 → (less : ℕ) → d ≡ suc less → value_at fits d bs ≡ (items_at 93 (value_at fits less) rest >>= λ xs. Some (j.Array xs.0, xs.1))
+    unfolding value_at value_with
+    at_array h less e = rw (e, first, h) refl
+
+    pub array_fails : b ≡ 91 → d ≢ 0 → (e : Fault) → Fails e (items_at 93 (value_at fits (d - 1)) rest) → Fails e (value_at fits d bs)
+    array_fails h deep fault.Memory f = tt
+    array_fails h deep (fault.Malformed left why) f = at_array h (d - 1) (omega arith) ∙ rw f refl
+
+    pub array_found : b ≡ 91 → d ≢ 0 → (vs : List Json) (after : List ℕ) → items_at 93 (value_at fits (d - 1)) rest ≡ Some (vs, after) → value_at fits d bs ≡ Some (j.Array vs, after)
+    array_found h deep vs after f = at_array h (d - 1) (omega arith) ∙ rw f refl
+
+    pub object_too_deep : b ≡ 123 → d ≡ 0 → value_at fits d bs ≡ None
+    unfolding value_at value_with
+    object_too_deep h e = rw (e, first, h) refl
+
+    at_object : b ≡ 123 → (less : ℕ) → d ≡ suc less → value_at fits d bs ≡ (items_at 125 (member_at fits (value_at fits less)) rest >>= λ ms. Some (j.Object ms.0, ms.1))
+    unfolding value_at value_with
+    at_object h less e = rw (e, first, h) refl
+
+    pub object_fails : b ≡ 123 → d ≢ 0 → (e : Fault) → Fails e (items_at 125 (member_at fits (value_at fits (d - 1))) rest) → Fails e (value_at fits d bs)
+    object_fails h deep fault.Memory f = tt
+    object_fails h deep (fault.Malformed left why) f = at_object h (d - 1) (omega arith) ∙ rw f refl
+
+    pub object_found : b ≡ 123 → d ≢ 0 → (ms : List (List ℕ × Json)) (after : List ℕ) → items_at 125 (member_at fits (value_at fits (d - 1))) rest ≡ Some (ms, after) → value_at fits d bs ≡ Some (j.Object ms, after)
+    object_found h deep ms after f = at_object h (d - 1) (omega arith) ∙ rw f refl
+
+  pub at_nothing : (d : ℕ) (bs : List ℕ) → bs ≡ [] → value_at fits d bs ≡ None
+  unfolding value_with
+  at_nothing d bs h = rw ((value_at_is d).2, h) refl
+
+  -- a member, step by step
+  module _ (value : Parse Json) (bs : List ℕ) where
+    pub name_fails : (e : Fault) → Fails e (name_at fits bs) → Fails e (member_at fits value bs)
+    unfolding member_at
+    name_fails fault.Memory f = tt
+    name_fails (fault.Malformed left why) f = rw f refl
+
+    module _ (name n : List ℕ) (named : name_at fits bs ≡ Some (name, n)) where
+      pub no_colon : None ≡ after_word (58 ∷ []) (skip n) → member_at fits value bs ≡ None
+      unfolding member_at
+      no_colon h = rw (named, ← h) refl
+
+      module _ (rest : List ℕ) (colon : Some rest ≡ after_word (58 ∷ []) (skip n)) where
+        pub value_fails : (e : Fault) → Fails e (value (skip rest)) → Fails e (member_at fits value bs)
+        unfolding member_at
+        value_fails fault.Memory f = tt
+        value_fails (fault.Malformed left why) f = rw (named, ← colon, f) refl
+
+        pub member_found : (v : Json) (after : List ℕ) → value (skip rest) ≡ Some (v, after) → member_at fits value bs ≡ Some ((name, v), after)
+        unfolding member_at
+        member_found v after f = rw (named, ← colon, f) refl

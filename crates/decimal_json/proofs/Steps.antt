@@ -1,0 +1,61 @@
+-- Steps that the other proofs share: tests, pairs, and what it is to read soundly.
+use Rattle.std.proofs.Common.{◌≡◌, ◌≢◌, ℕ, zero, suc, ◌<◌, ◌≤◌, Bool, true, false, cond, eqb, ◌⊎◌, inl, inr, List, ◌++◌, Option, Some, None, refl, sym, ap, subst, ◌∙◌, arith}
+use Rattle.std.specs.Prelude.{◌||◌, ◌&&◌}
+use Rattle.std.proofs.lemmas.Bool.{eqb-true, eq-eqb}
+use Rattle.std.proofs.lemmas.Bool.Decides.{eqb_tells}
+use Rattle.decimal_json.specs.declared.fault.Fault.{Fault}
+use Rattle.decimal_json.specs.declared.fault.Fault.TheVariants as fault
+use Rattle.decimal_json.specs.Gives.{Fails}
+use Rattle.decimal_json.specs.Reading.{Parse}
+
+pub chosen : {A : Type 0} (b : Bool) (x y z : A) → cond b x y ≡ z → ((b ≡ true) × (x ≡ z)) ⊎ ((b ≡ false) × (y ≡ z))
+chosen true x y z e = inl (refl, e)
+chosen false x y z e = inr (refl, e)
+
+pub not_equal : (a b : ℕ) → a ≢ b → eqb a b ≡ false
+not_equal a b h = elim (eqb_tells a b) [ inl e ↦ absurd (h e.1) | inr e ↦ e.0 ]
+
+-- A byte that passes a test is none that fails it.
+pub differs : (test : ℕ → Bool) (b q : ℕ) → test q ≡ false → test b ≡ true → eqb b q ≡ false
+differs test b q other h = elim (eqb_tells b q) [
+  | inl e ↦ (let yes : test q ≡ true = subst (λ x. test x ≡ true) e.1 h in cc)
+  | inr e ↦ e.0
+]
+
+-- what holds of a number holds of an equal one
+pub at : (P : ℕ → Type 0) (q b : ℕ) → P q → eqb b q ≡ true → P b
+at P q b p h = subst P (sym (eqb-true b q h)) p
+
+pub or_cases : (x y : Bool) → (x || y) ≡ true → (x ≡ true) ⊎ (y ≡ true)
+or_cases true y h = inl refl
+or_cases false y h = inr h
+
+pub both : (a b : Bool) → (a && b) ≡ true → (a ≡ true) × (b ≡ true)
+both true b h = (refl, h)
+both false b h = cc
+
+pub none_or_some : {A : Type 0} (o : Option A) → (o ≡ None) ⊎ ((x : A) × (o ≡ Some x))
+none_or_some None = inl refl
+none_or_some (Some x) = inr (x, refl)
+
+-- the parts of a pair that was read
+pub pair_is : {A B : Type 0} (a : A) (b : B) (x : A × B) → Some (a, b) ≡ Some x → (a ≡ x.0) × (b ≡ x.1)
+pair_is a b x e = let same : ◌≡◌ {A = _ × _} (a, b) x = cc in (ap (λ p. p.0) same, ap (λ p. p.1) same)
+
+-- a turn is left
+pub turn : (n m : ℕ) → m < n → (k : ℕ) × (n ≡ suc k) × (m ≤ k)
+turn zero m h = absurd (omega arith)
+turn (suc k) m h = (k, refl, omega arith)
+
+-- Any fault fits where nothing is read.
+pub none_fails : {Y : Type 0} (e : Fault) (read : Option Y) → read ≡ None → Fails e read
+none_fails (fault.Malformed left why) read h = h
+none_fails fault.Memory read h = tt
+
+-- A reader takes what R says of it and its value.
+abbrev pub IsSound : {A : Type 0} → (List ℕ → A → Type 0) → Parse A → Type 0
+IsSound {A} R read = (bs : List ℕ) (x : A × List ℕ) → read bs ≡ Some x → (t : List ℕ) × R t x.0 × (bs ≡ t ++ x.1)
+
+-- A closing byte is no comma.
+pub no_comma : (b close : ℕ) → eqb close 44 ≡ false → b ≡ close → b ≢ 44
+no_comma b close other h e = let same = eq-eqb close 44 (sym h ∙ e) in cc

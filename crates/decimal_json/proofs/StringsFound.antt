@@ -1,0 +1,108 @@
+-- A string is read, behind its first quotation mark.
+use Rattle.std.proofs.Common.{◌≡◌, ℕ, suc, ◌<◌, Bool, true, false, eqb, inl, inr, List, [], ◌∷◌, ◌++◌, length, Some, refl, ap, subst, ◌∙◌, append_assoc, length-append, arith}
+use Rattle.std.specs.Prelude.{encode_utf8}
+use Rattle.std.proofs.lemmas.Option.{option_and_then_some}
+use Rattle.std.proofs.lemmas.Str.{encode_ascii}
+use Rattle.json_value.specs.Grammar.{is_plain, unescape, SpellsUnit, unit_of, is_high, is_low, paired, SpellsChars, chars_end, chars_plain, chars_escape, chars_unit, chars_pair}
+use Rattle.decimal_json.specs.Reading.{Parse, ◌>>=◌, after_word, plain_front, after_plain, hex_at, unit_at, low_at, unicode_at, escape_at, chars_after, chars_at, if_text, string_at}
+use Rattle.decimal_json.proofs.Steps.{chosen, pair_is, turn}
+use Rattle.decimal_json.proofs.StringsRead.{letter_kind}
+
+-- ---- escapes
+
+-- four digits, wherever they stand
+record UnitFound (u : List ℕ) (n : ℕ) (xs : List ℕ) : Type 0 where
+  digits : List ℕ
+  begins : u ++ xs ≡ 92 ∷ 117 ∷ digits
+  found : unit_at digits ≡ Some (n, xs)
+
+unit_found : {u : List ℕ} {n : ℕ} → SpellsUnit u n → (xs : List ℕ) → UnitFound u n xs
+unfolding unit_at hex_at
+unit_found (unit_of a b c d p q r s) xs = record { digits = a ∷ b ∷ c ∷ d ∷ xs; begins = refl; found = rw (p, q, r, s) refl }
+
+-- an escape, wherever it stands
+record EscapeFound (u : List ℕ) (c : ℕ) (xs : List ℕ) : Type 0 where
+  behind : List ℕ
+  begins : u ++ xs ≡ 92 ∷ behind
+  found : escape_at behind ≡ Some (c, xs)
+
+letter_found : (e c : ℕ) → unescape e ≡ Some c → (xs : List ℕ) → EscapeFound (92 ∷ e ∷ []) c xs
+unfolding escape_at
+letter_found e c h xs = record { behind = e ∷ xs; begins = refl; found = rw ((letter_kind e c h).no_u, h) refl }
+
+single_found : {u : List ℕ} {n : ℕ} → SpellsUnit u n → is_high n ≡ false → is_low n ≡ false → (xs : List ℕ) → EscapeFound u n xs
+unfolding escape_at unicode_at
+single_found su high low xs = let f = unit_found su xs in
+    record { behind = 117 ∷ f.digits; begins = f.begins; found = rw (f.found, high, low) refl }
+
+pair_found : {u v : List ℕ} {h l : ℕ} → SpellsUnit u h → SpellsUnit v l → is_high h ≡ true → is_low l ≡ true → (xs : List ℕ) → EscapeFound (u ++ v) (paired h l) xs
+unfolding escape_at unicode_at low_at after_word
+pair_found {u} {v} su sv high low xs =
+    let g = unit_found sv xs in
+    let f = unit_found su (v ++ xs) in
+    record { behind = 117 ∷ f.digits; begins = append_assoc u v xs ∙ f.begins; found = rw (f.found, high, g.begins, g.found, low) refl }
+
+not_empty : (u : List ℕ) (c : ℕ) → EscapeFound u c [] → 0 < length u
+not_empty u c f = let l = ap length f.begins in omega (arith, l, length-append u [])
+
+-- ---- strings
+
+-- behind plain bytes and a reverse solidus
+abbrev going_on : Parse (List ℕ) → List ℕ → Parse (List ℕ)
+going_on more run bs = escape_at bs >>= λ c. more c.1 >>= λ x. Some (run ++ (encode_utf8 c.0 ++ x.0), x.1)
+
+escape_more : (more : Parse (List ℕ)) (b : ℕ) (run bs t rest : List ℕ) → going_on more run bs ≡ Some (t, rest) → going_on more (b ∷ run) bs ≡ Some (b ∷ t, rest)
+escape_more more b run bs t rest e = option_and_then_some _ (escape_at bs) _ e (λ c f g. option_and_then_some _ (more c.1) _ g (λ x l m.
+    let p = pair_is (run ++ (encode_utf8 c.0 ++ x.0)) x.1 (t, rest) m in
+    rw (f, l) (rw (← p.0, ← p.1) refl)))
+
+-- one more plain byte
+plain_more : (more : Parse (List ℕ)) (b : ℕ) (run bs t rest : List ℕ) → chars_after more run bs ≡ Some (t, rest) → chars_after more (b ∷ run) bs ≡ Some (b ∷ t, rest)
+unfolding chars_after
+plain_more more b run [] t rest e = cc
+plain_more more b run (c ∷ bs) t rest e = elim (chosen (eqb c 34) _ _ _ e) [
+  | inl h ↦ (let p = pair_is run bs (t, rest) h.1 in rw (h.0, p.0, p.1) refl)
+  | inr h ↦ elim (chosen (eqb c 92) _ _ _ h.1) [
+    | inl k ↦ rw (h.0, k.0) (escape_more more b run bs t rest k.1)
+    | inr k ↦ (let wrong = k.1 in cc)
+  ]
+]
+
+plain_again : (n b : ℕ) (bs t rest : List ℕ) → is_plain b ≡ true → chars_at (suc n) bs ≡ Some (t, rest) → chars_at (suc n) (b ∷ bs) ≡ Some (b ∷ t, rest)
+unfolding chars_at plain_front after_plain
+plain_again n b bs t rest h e = rw h (plain_more (chars_at n) b (plain_front bs) (after_plain bs) t rest e)
+
+escape_again : (n c : ℕ) (bs more t rest : List ℕ) → escape_at bs ≡ Some (c, more) → chars_at n more ≡ Some (t, rest) → chars_at (suc n) (92 ∷ bs) ≡ Some (encode_utf8 c ++ t, rest)
+unfolding chars_at plain_front after_plain chars_after
+escape_again n c bs more t rest f g = rw (f, g) refl
+
+any_again : (u s : List ℕ) (c n : ℕ) (t rest : List ℕ) → EscapeFound u c (s ++ (34 ∷ rest)) → chars_at n (s ++ (34 ∷ rest)) ≡ Some (t, rest) → chars_at (suc n) ((u ++ s) ++ (34 ∷ rest)) ≡ Some (encode_utf8 c ++ t, rest)
+any_again u s c n t rest f g = rw (append_assoc u s (34 ∷ rest), f.begins) (escape_again n c f.behind (s ++ (34 ∷ rest)) t rest f.found g)
+
+end_again : (n : ℕ) (rest : List ℕ) → chars_at (suc n) (34 ∷ rest) ≡ Some ([], rest)
+unfolding chars_at plain_front after_plain chars_after
+end_again n rest = refl
+
+chars_again : {s t : List ℕ} → SpellsChars s t → (n : ℕ) (rest : List ℕ) → length s < n → chars_at n (s ++ (34 ∷ rest)) ≡ Some (t, rest)
+chars_again chars_end n rest h = let k = turn n 0 h in rw k.1 (end_again k.0 rest)
+chars_again (chars_plain b {s} {t} p more) n rest h =
+    let k = turn n _ h in
+    rw k.1 (plain_again k.0 b (s ++ (34 ∷ rest)) t rest p (chars_again more (suc k.0) rest (omega arith)))
+chars_again (chars_escape e c {s} {t} p more) n rest h =
+    let k = turn n _ h in
+    let again = any_again (92 ∷ e ∷ []) s c k.0 t rest (letter_found e c p (s ++ (34 ∷ rest))) (chars_again more k.0 rest (omega arith)) in
+    rw k.1 (rw (encode_ascii c (letter_kind e c p).ascii) at again)
+chars_again (chars_unit u c s t su high low more) n rest h =
+    let longer = not_empty u c (single_found su high low []) in
+    let k = turn n (length (u ++ s)) h in
+    rw k.1 (any_again u s c k.0 t rest (single_found su high low (s ++ (34 ∷ rest))) (chars_again more k.0 rest (omega (arith, length-append u s))))
+chars_again (chars_pair u v high low s t su sv h l more) n rest lt =
+    let longer = not_empty (u ++ v) (paired high low) (pair_found su sv h l []) in
+    let k = turn n (length (u ++ (v ++ s))) lt in
+    let again = any_again (u ++ v) s (paired high low) k.0 t rest (pair_found su sv h l (s ++ (34 ∷ rest))) (chars_again more k.0 rest (omega (arith, length-append u v, length-append v s, length-append u (v ++ s)))) in
+    rw k.1 (subst (λ z. chars_at (suc k.0) (z ++ (34 ∷ rest)) ≡ Some (encode_utf8 (paired high low) ++ t, rest)) (append_assoc u v s) again)
+
+pub string_again : (fits : List ℕ → Bool) (s t rest : List ℕ) → SpellsChars s t → fits t ≡ true → string_at fits (s ++ (34 ∷ rest)) ≡ Some (t, rest)
+unfolding string_at if_text
+string_again fits s t rest h passes =
+    rw (chars_again h (length (s ++ (34 ∷ rest))) rest (omega (arith, length-append s (34 ∷ rest))), passes) refl

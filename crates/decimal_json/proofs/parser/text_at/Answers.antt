@@ -1,0 +1,10 @@
+use Rattle.decimal_json.specs.Reading.{text_at}
+use Rattle.decimal_json.proofs.parser.text_at.Goals as goal
+
+pub returns-in-Some : goal.returns-in-Some
+unfolding text_at
+returns-in-Some c = rw (← c.in-Some.ensures) c.document.ensures
+
+pub returns-in-None : goal.returns-in-None
+unfolding text_at
+returns-in-None c = rw (← c.in-None.ensures) c.document-in-None.ensures

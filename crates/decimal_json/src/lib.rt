@@ -1,0 +1,26 @@
+//! Reads JSON (RFC 8259) with exact number texts, and passes on the crates below it: values, number texts and the ends
+//! of byte streams. It stands on `json_value`, whose `Grammar` says which bytes spell which value, on `decimal_text` and
+//! on `byte_ends`. A crate above uses the contract of `parse`: what is read is spelled so, and what is spelled so is read.
+#![tactic(auto)]
+
+mod bytes;
+mod fault;
+mod numbers;
+mod parser;
+mod strings;
+#[cfg(test)]
+mod tests;
+mod values;
+
+pub use fault::{JsonFault, Why};
+pub use parser::{LAYER_DEPTH, TOPOLOGY_DEPTH, one_value, parse};
+
+// The crates below, which a crate above reaches through this one.
+pub use byte_ends::{
+    Broken, Drain, Failed, Feed, FromRead, MAX_INPUT, Memory, MemoryDrain, ReadFault, Sink, Source,
+    ToWrite, WriteFault, devices, read_all,
+};
+pub use decimal_text::{NumText, Range, Scaled, print_units, put_units, units_again};
+pub use json_value::{
+    Items, Json, OwnText, put_text, read_values_are_bounded, text_spells_value, write_text,
+};

@@ -1,0 +1,60 @@
+-- The turns of a loop that reads one value after another: what is still to read, put behind what was read, is
+-- what the whole list gives.
+use Rattle.std.proofs.Common.{◌≡◌, ℕ, zero, suc, ◌+◌, ◌<◌, ◌≤◌, List, [], ◌∷◌, ◌++◌, length, get_or, drop, Result, Ok, Err, refl, sym, ap, ◌∙◌, add-one, append_assoc, arith, drop-cons, append-nil}
+use Rattle.geojson_model.specs.declared.counts.Counts.{Counts}
+use Rattle.geojson_model.specs.declared.fault.GeoFaultKind.{GeoFaultKind}
+use Rattle.geojson_model.specs.declared.fault.Stop.{Stop}
+use Rattle.geojson_model.specs.declared.fault.Stop.TheVariants as stop
+use Rattle.geojson_model.specs.Answers.{Fails}
+use Rattle.geojson_model.specs.Reader.{Reader, and_then, ◌>>=◌, give, gather, each}
+
+-- what is read, behind these
+abbrev pub with_front : {B : Type 0} → List B → Result (List B × Counts) GeoFaultKind → Result (List B × Counts) GeoFaultKind
+with_front front (Ok x) = Ok (front ++ x.0, x.1)
+with_front front (Err e) = Err e
+
+front_twice : {B : Type 0} (ys x : List B) (r : Result (List B × Counts) GeoFaultKind) → with_front ys (and_then (λ xs. give (x ++ xs)) r) ≡ with_front (ys ++ x) r
+front_twice ys x (Ok r) = ap (λ z. Ok (z, r.1)) (sym (append_assoc ys x r.0))
+front_twice ys x (Err e) = refl
+
+-- nothing is left at the end
+pub drop_end : {A : Type 0} (i : ℕ) (vs : List A) → length vs ≤ i → drop i vs ≡ []
+drop_end zero [] le = refl
+drop_end (suc i) [] le = refl
+drop_end zero (v ∷ vs) le = absurd (omega arith)
+drop_end (suc i) (v ∷ vs) le = drop_end i vs (omega arith)
+
+-- what is left is the element here and what is left behind it
+pub drop_here : {A : Type 0} (vs : List A) (i : ℕ) (v : A) → i < length vs → v ≡ get_or vs i v → drop i vs ≡ v ∷ drop (i + 1) vs
+drop_here vs i v lt is = rw add-one (drop-cons vs i v lt ∙ ap (λ z. z ∷ drop (suc i) vs) (sym is))
+
+module _ {A B : Type 0} (read : A → Reader (List B)) (vs : List A) (i : ℕ) (v : A) (ys : List B) (c : Counts) (whole : Result (List B × Counts) GeoFaultKind)
+    (lt : i < length vs) (is : v ≡ get_or vs i v) (now : with_front ys (gather read (drop i vs) c) ≡ whole) where
+  abbrev then_rest : Result (List B × Counts) GeoFaultKind → Result (List B × Counts) GeoFaultKind
+  then_rest z = with_front ys (and_then (λ x. λ d. and_then (λ xs. give (x ++ xs)) (gather read (drop (i + 1) vs) d)) z)
+
+  opened : then_rest (read v c) ≡ whole
+  unfolding gather
+  opened = sym (ap (λ z. with_front ys (gather read z c)) (drop_here vs i v lt is)) ∙ now
+
+  pub turns : (x : List B) (after : Counts) → read v c ≡ Ok (x, after) → with_front (ys ++ x) (gather read (drop (i + 1) vs) after) ≡ whole
+  turns x after e = sym (front_twice ys x (gather read (drop (i + 1) vs) after)) ∙ (sym (ap then_rest e) ∙ opened)
+
+  pub stops : (e : GeoFaultKind) → read v c ≡ Err e → whole ≡ Err e
+  stops e r = sym opened ∙ ap then_rest r
+
+pub ends : {A B : Type 0} (read : A → Reader (List B)) (vs : List A) (i : ℕ) (ys : List B) (c : Counts) (whole : Result (List B × Counts) GeoFaultKind)
+    → length vs ≤ i → with_front ys (gather read (drop i vs) c) ≡ whole → whole ≡ Ok (ys, c)
+unfolding gather
+ends read vs i ys c whole le now = sym now ∙ (rw (drop_end i vs le) (ap (λ z. Ok (z, c)) (append-nil ys)))
+
+-- ---- what each gives
+
+module _ {A B : Type 0} (read : A → Reader B) (vs : List A) (i : ℕ) (v : A) (ys : List B) (c : Counts) (whole : Result (List B × Counts) GeoFaultKind)
+    (lt : i < length vs) (is : v ≡ get_or vs i v) (now : with_front ys (each read (drop i vs) c) ≡ whole) where
+  pub each_turns : (x : B) (after : Counts) → read v c ≡ Ok (x, after) → with_front (ys ++ x ∷ []) (each read (drop (i + 1) vs) after) ≡ whole
+  each_turns x after e = turns (λ v. read v >>= λ x. give (x ∷ [])) vs i v ys c whole lt is now (x ∷ []) after (rw e refl)
+
+  pub each_fails : (e : Stop) → Fails e (read v c) → Fails e whole
+  each_fails stop.Memory r = tt
+  each_fails (stop.Fault e) r = stops (λ v. read v >>= λ x. give (x ∷ [])) vs i v ys c whole lt is now e (rw r refl)

@@ -1,0 +1,9 @@
+pub mod BareLines
+pub mod Gathering
+pub mod LineGeometries
+pub mod Looking
+pub mod Places
+pub mod Proper
+pub mod Rows
+pub mod Stricter
+pub mod Taken

@@ -1,0 +1,14 @@
+pub mod Answers
+pub mod Codes
+pub mod Coordinates
+pub mod Counting
+pub mod Faults
+pub mod Features
+pub mod Laws
+pub mod Layers
+pub mod Lines
+pub mod Members
+pub mod Places
+pub mod Points
+pub mod Reader
+pub mod Rings

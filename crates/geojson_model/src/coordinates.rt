@@ -1,0 +1,84 @@
+// Reading positions.
+ghost use Rattle.std.specs.Prelude.{◌≡◌, ◌≤◌, IfOk, unsigned_abs};
+ghost use Rattle.std.specs.List.{All};
+ghost use Rattle.geojson_model.specs.Answers.{Gives};
+ghost use Rattle.geojson_model.specs.Coordinates as spec;
+ghost use Rattle.geojson_model.specs.Points.{IsInput, input_limit};
+ghost use Rattle.geojson_model.specs.Reader.{each};
+
+use crate::counts::Counts;
+use crate::fault::{GeoFaultKind, Stop};
+use crate::position::{INPUT_LIMIT, Position};
+use json_value::Json;
+use std::alloc::Global;
+
+/// The decimal places of a unit.
+const COORDINATE_PLACES: u32 = 7;
+
+/// A coordinate in whole units.
+#[tactic(auto, unfolding(crate::specs::Coordinates::coordinate))]
+fn coordinate(value: &Json, exact: bool, counts: &mut Counts) -> Result<i64, Stop>
+    ensures value { Gives (λ x. x) result counts.new (spec.coordinate exact value.now counts.old) }
+    ensures within { IfOk result (λ x. unsigned_abs x ≤ input_limit) }
+{
+    let Some(number) = value.as_number() else {
+        return Err(Stop::Fault(GeoFaultKind::WrongKind));
+    };
+    match number.scaled(COORDINATE_PLACES, INPUT_LIMIT as i128) {
+        Err(_) => Err(Stop::Fault(GeoFaultKind::Range)),
+        Ok(scaled) => {
+            if exact && !scaled.exact {
+                return Err(Stop::Fault(GeoFaultKind::Inexact));
+            }
+            counts.count_rounded(!scaled.exact);
+            Ok(scaled.value as i64)
+        }
+    }
+}
+
+/// The position with these elements. Those behind the second are not looked at.
+#[tactic(auto, unfolding(crate::specs::Coordinates::elements_position))]
+fn elements_position(elements: &[Json], exact: bool, counts: &mut Counts) -> Result<Position, Stop>
+    ensures position { Gives (λ p. p) result counts.new (spec.elements_position exact elements.now counts.old) }
+    ensures input { IfOk result IsInput }
+{
+    match elements {
+        [] => Err(Stop::Fault(GeoFaultKind::ShortPosition)),
+        [_] => Err(Stop::Fault(GeoFaultKind::ShortPosition)),
+        [x, y, more @ ..] => {
+            let x = coordinate(x, exact, counts)?;
+            let y = coordinate(y, exact, counts)?;
+            counts.count_extra(!more.is_empty());
+            Ok(Position::at(x, y))
+        }
+    }
+}
+
+/// A position.
+#[tactic(auto, unfolding(crate::specs::Coordinates::position))]
+fn position(value: &Json, exact: bool, counts: &mut Counts) -> Result<Position, Stop>
+    ensures position { Gives (λ p. p) result counts.new (spec.position exact value.now counts.old) }
+    ensures input { IfOk result IsInput }
+{
+    match value.as_array() {
+        None => Err(Stop::Fault(GeoFaultKind::WrongKind)),
+        Some(elements) => elements_position(elements, exact, counts),
+    }
+}
+
+/// Positions in order.
+pub(crate) fn positions(
+    alloc: Global,
+    values: &[Json],
+    exact: bool,
+    counts: &mut Counts,
+) -> Result<Vec<Position>, Stop>
+    ensures positions { Gives (λ ps. ps.items) result counts.new (each (spec.position exact) values.now counts.old) }
+    ensures inputs { IfOk result (λ ps. All IsInput ps.items) }
+{
+    let mut read = Vec::new(alloc);
+    'values: for value in values {
+        read.push(position(value, exact, counts)?)?;
+    }
+    Ok(read)
+}

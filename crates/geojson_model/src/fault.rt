@@ -1,0 +1,162 @@
+ghost use Rattle.std.specs.Prelude.{◌≡◌, codes};
+ghost use Rattle.geojson_model.specs.Answers.{fault_at};
+ghost use Rattle.geojson_model.specs.Faults as spec;
+
+use std::alloc::AllocFailed;
+use thiserror::Error;
+
+/// Why a value is no layer. Section numbers are those of RFC 7946.
+#[derive(Clone, Copy, Debug, Error, PartialEq, Eq)]
+pub enum GeoFaultKind {
+    /// The layer, or a feature of it, isn't an object (section 3).
+    #[error("NotObject")]
+    NotObject,
+    /// A `type` isn't one that the value can have there (sections 1.4 and 7).
+    #[error("UnknownType")]
+    UnknownType,
+    /// A member that must be there is absent (sections 3.1 to 3.3).
+    #[error("Missing")]
+    Missing,
+    /// Two members or more have the name that is looked up (RFC 8259, section 4).
+    #[error("Duplicate")]
+    Duplicate,
+    /// A value isn't of the kind of JSON value that it must be.
+    #[error("WrongKind")]
+    WrongKind,
+    /// A position has fewer than two elements (section 3.1.1).
+    #[error("ShortPosition")]
+    ShortPosition,
+    /// A line has fewer than two positions (section 3.1.4).
+    #[error("ShortLine")]
+    ShortLine,
+    /// A ring has fewer than four positions (section 3.1.6).
+    #[error("ShortRing")]
+    ShortRing,
+    /// The first and the last position of a ring differ (section 3.1.6).
+    #[error("OpenRing")]
+    OpenRing,
+    /// The magnitude of a rounded coordinate is above `INPUT_LIMIT`.
+    #[error("Range")]
+    Range,
+    /// A coordinate isn't whole in units of `10^-7`, where that is asked for.
+    #[error("Inexact")]
+    Inexact,
+    /// An allocation was refused.
+    #[error("Memory")]
+    Memory,
+    /// The type is known to RFC 7946 but isn't read yet.
+    #[error("NotYet")]
+    NotYet,
+}
+
+impl GeoFaultKind {
+    /// The short code that a program prints.
+    #[tactic(auto, unfolding(crate::specs::Faults::code))]
+    pub fn code(&self) -> &'static str
+        ensures { result.now ≡ spec.code self.now }
+    {
+        match self {
+            GeoFaultKind::NotObject => "G1",
+            GeoFaultKind::UnknownType => "G2",
+            GeoFaultKind::Missing => "G3",
+            GeoFaultKind::Duplicate => "G4",
+            GeoFaultKind::WrongKind => "G5",
+            GeoFaultKind::ShortPosition => "G6",
+            GeoFaultKind::ShortLine => "G7",
+            GeoFaultKind::ShortRing => "G8",
+            GeoFaultKind::OpenRing => "G9",
+            GeoFaultKind::Range => "G10",
+            GeoFaultKind::Inexact => "G11",
+            GeoFaultKind::Memory => "G12",
+            GeoFaultKind::NotYet => "G13",
+        }
+    }
+
+    /// The name that a program prints behind the code.
+    #[tactic(auto, unfolding(crate::specs::Faults::name))]
+    pub fn name(&self) -> &'static str
+        ensures { result.now ≡ spec.name self.now }
+    {
+        match self {
+            GeoFaultKind::NotObject => "NotObject",
+            GeoFaultKind::UnknownType => "UnknownType",
+            GeoFaultKind::Missing => "Missing",
+            GeoFaultKind::Duplicate => "Duplicate",
+            GeoFaultKind::WrongKind => "WrongKind",
+            GeoFaultKind::ShortPosition => "ShortPosition",
+            GeoFaultKind::ShortLine => "ShortLine",
+            GeoFaultKind::ShortRing => "ShortRing",
+            GeoFaultKind::OpenRing => "OpenRing",
+            GeoFaultKind::Range => "Range",
+            GeoFaultKind::Inexact => "Inexact",
+            GeoFaultKind::Memory => "Memory",
+            GeoFaultKind::NotYet => "NotYet",
+        }
+    }
+}
+
+/// Why a value is no layer, and the number of the feature, from zero, that the fault is in. A fault before any
+/// feature begins has no number.
+#[derive(Clone, Copy, Debug, Error, PartialEq, Eq)]
+#[error("{kind}")]
+pub struct GeoFault {
+    pub feature: Option<usize>,
+    pub kind: GeoFaultKind,
+}
+
+/// Why the reading of a part stopped: a fault of the value, or a refused allocation.
+#[derive(Clone, Copy, Debug)]
+pub(crate) enum Stop {
+    Memory,
+    Fault(GeoFaultKind),
+}
+
+impl Stop {
+    /// The fault that it is in the feature of this number, or in none.
+    pub(crate) fn at(self, feature: Option<usize>) -> GeoFault
+        ensures { result ≡ fault_at feature self }
+    {
+        let kind = match self {
+            Stop::Memory => GeoFaultKind::Memory,
+            Stop::Fault(kind) => kind,
+        };
+        GeoFault { feature, kind }
+    }
+}
+
+impl<T: Drop> From<AllocFailed<T>> for Stop {
+    ghost use Rattle.std.specs.Prelude.{◌≡◌};
+    ghost use Rattle.geojson_model.specs.declared.fault.Stop.TheVariants.{Memory};
+
+    ghost from_gives = { λ _ e. e ≡ Memory };
+
+    fn from(_e: AllocFailed<T>) -> Stop {
+        Stop::Memory
+    }
+}
+
+/// Before any feature begins.
+impl From<Stop> for GeoFault {
+    ghost use Rattle.std.specs.Prelude.{◌≡◌, None};
+    ghost use Rattle.geojson_model.specs.Answers.{fault_at};
+
+    ghost from_gives = { λ stop e. e ≡ fault_at None stop };
+
+    fn from(stop: Stop) -> GeoFault {
+        stop.at(None)
+    }
+}
+
+impl<T: Drop> From<AllocFailed<T>> for GeoFault {
+    ghost use Rattle.std.specs.Prelude.{◌≡◌};
+    ghost use Rattle.geojson_model.specs.declared.fault.GeoFaultKind.TheVariants.{Memory};
+
+    ghost from_gives = { λ _ e. e.kind ≡ Memory };
+
+    fn from(_e: AllocFailed<T>) -> GeoFault {
+        GeoFault {
+            feature: None,
+            kind: GeoFaultKind::Memory,
+        }
+    }
+}

@@ -1,0 +1,36 @@
+// Looking up the members of an object by name.
+ghost use Rattle.std.specs.Prelude.{◌≡◌};
+ghost use Rattle.std.specs.Option.{option_copied};
+ghost use Rattle.geojson_model.specs.Answers.{Finds};
+ghost use Rattle.geojson_model.specs.Members as spec;
+
+use crate::fault::{GeoFaultKind, Stop};
+use json_value::{Json, OwnText};
+
+/// The value of the member of this name, if there is one.
+pub(crate) fn find<'a>(members: &'a [(OwnText, Json)], name: &str) -> Result<Option<&'a Json>, Stop>
+    ensures { Finds option_copied result (spec.find name.now members.now) }
+{
+    let mut found = None;
+    'members: for member in members {
+        if member.0.as_str() != name {
+            continue;
+        }
+        if found.is_some() {
+            return Err(Stop::Fault(GeoFaultKind::Duplicate));
+        }
+        found = Some(&member.1);
+    }
+    Ok(found)
+}
+
+/// The value of the member of this name, which must be there.
+#[tactic(auto, unfolding(crate::specs::Members::need))]
+pub(crate) fn need<'a>(members: &'a [(OwnText, Json)], name: &str) -> Result<&'a Json, Stop>
+    ensures { Finds (λ v. v.now) result (spec.need name.now members.now) }
+{
+    match find(members, name)? {
+        None => Err(Stop::Fault(GeoFaultKind::Missing)),
+        Some(value) => Ok(value),
+    }
+}

@@ -1,0 +1,9 @@
+pub mod Built
+pub mod Decided
+pub mod Decoded
+pub mod LayoutText
+pub mod Lists
+pub mod NamesFound
+pub mod Says
+pub mod Steps
+pub mod Visited

@@ -1,0 +1,9 @@
+pub mod Building
+pub mod Decoding
+pub mod Layout
+pub mod Names
+pub mod Outcomes
+pub mod Ranges
+pub mod Reading
+pub mod Repeats
+pub mod Reports

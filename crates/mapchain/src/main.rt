@@ -1,0 +1,51 @@
+//! The program `mapchain` over the file system and the standard streams. `mapchain_cli` has all that it does.
+#![tactic(auto)]
+
+use byte_ends::{FromRead, Sink, Source, ToWrite};
+use mapchain_cli::{Files, command};
+use std::fs::File;
+use std::io::ErrorKind;
+use std::process::ExitCode;
+use std::{env, io};
+
+/// The file system.
+#[derive(Drop)]
+struct System {
+    rt: HostRuntime,
+}
+
+impl Files for System {
+    type R = FromRead<File>;
+
+    fn open(&mut self, path: &str) -> Option<Source<FromRead<File>>> {
+        let file = File::open(&self.rt, path).ok()?;
+        Some(Source::new(FromRead::new(file)))
+    }
+}
+
+/// The words behind the program's name.
+fn words(rt: &HostRuntime) -> io::Result<Vec<String>> {
+    let words = env::args(rt)?.skip(1).collect(rt.alloc())?;
+    Ok(words)
+}
+
+/// The status where the words can't be had: 2 where one is not UTF-8, and 3 for want of memory.
+fn refuse(rt: &HostRuntime, error: &io::Error) -> ExitCode {
+    if error.kind() == ErrorKind::InvalidData {
+        let _ = eprintln!(rt; "error: a word is not UTF-8");
+        return ExitCode::from(2);
+    }
+    ExitCode::from(3)
+}
+
+fn main(rt: HostRuntime) -> ExitCode {
+    let words = match words(&rt) {
+        Ok(words) => words,
+        Err(error) => return refuse(&rt, &error),
+    };
+    let alloc = rt.alloc();
+    let mut out = Sink::new(ToWrite::new(rt.stdout()));
+    let mut err = Sink::new(ToWrite::new(rt.stderr()));
+    let mut files = System { rt };
+    ExitCode::from(command(alloc, words, &mut files, &mut out, &mut err))
+}

@@ -1,0 +1,45 @@
+// How a run ends that builds nothing.
+use mapchain_engine::BuildFault;
+use std::alloc::{AllocError, AllocFailed};
+
+/// How a run ends that builds nothing.
+#[derive(Drop)]
+pub(crate) enum Ending {
+    /// The words are refused, or ask for help.
+    Words(clap::Error),
+    /// The layer word of this number has no `=`.
+    NoEquals { layer: usize },
+    /// A file couldn't be opened, or the engine refused.
+    Refused(BuildFault),
+    /// An allocation was refused before the engine was called.
+    Memory,
+}
+
+impl From<clap::Error> for Ending {
+    fn from(error: clap::Error) -> Ending {
+        Ending::Words(error)
+    }
+}
+
+impl From<BuildFault> for Ending {
+    ghost use Rattle.std.specs.Prelude.{◌≡◌};
+    ghost use Rattle.mapchain_cli.specs.declared.ending.Ending.TheVariants.{Refused};
+
+    ghost from_gives = { λ fault e. e ≡ Refused fault };
+
+    fn from(fault: BuildFault) -> Ending {
+        Ending::Refused(fault)
+    }
+}
+
+impl From<AllocError> for Ending {
+    fn from(_error: AllocError) -> Ending {
+        Ending::Memory
+    }
+}
+
+impl<T: Drop> From<AllocFailed<T>> for Ending {
+    fn from(_refused: AllocFailed<T>) -> Ending {
+        Ending::Memory
+    }
+}

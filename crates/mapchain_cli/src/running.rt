@@ -1,0 +1,112 @@
+// Running the program.
+ghost use Rattle.std.specs.Prelude.{◌≡◌, ◌⊎◌, ◌≤◌, IfErr, IfOk, map};
+ghost use Rattle.mapchain_cli.specs.LayerWords.{name_of};
+ghost use Rattle.mapchain_cli.specs.Endings.{BuildsOf, KeepsUnlessWriting};
+
+use crate::ending::Ending;
+use crate::files::Files;
+use crate::layer_words::names_and_paths;
+use crate::statuses::DONE;
+use crate::telling::tell;
+use crate::usage::{BUILD, EXACT, LAYERS, program};
+use byte_ends::{Drain, ReadFault, Sink, Source};
+use clap::error::ErrorKind;
+use json_value::OwnText;
+use mapchain_engine::{BuildFault, Options, Report, build, report_text};
+use std::alloc::Global;
+
+/// Opens the file of each layer, in order.
+fn open_layers<F: Files>(
+    alloc: Global,
+    layers: &[(&str, &str)],
+    files: &mut F,
+) -> Result<Vec<(OwnText, Source<F::R>)>, Ending>
+    ensures { IfOk result (λ v. map (λ s. s.0) v.items ≡ map (λ l. l.0.now) layers.now) }
+{
+    let mut sources = Vec::new(alloc);
+    'layers: for (layer, (name, path)) in layers.iter().enumerate() {
+        let name = OwnText::of(String::from_str(alloc, name)?);
+        match files.open(path) {
+            Some(source) => sources.push((name, source))?,
+            None => {
+                let fault = ReadFault::Read;
+                return Err(Ending::Refused(BuildFault::Read { layer, fault }));
+            }
+        }
+    }
+    Ok(sources)
+}
+
+/// Builds the topology of the layers that these words name.
+fn build_layers<F: Files, V: Drain>(
+    alloc: Global,
+    words: &[&str],
+    exact: bool,
+    files: &mut F,
+    out: &mut Sink<V>,
+) -> Result<Report, Ending>
+    ensures built { IfOk result (λ report. BuildsOf exact (map (λ w. w.now) words.now) out.old out.new report) }
+    ensures refused { IfErr result (λ ending. KeepsUnlessWriting ending out.old out.new) }
+{
+    let layers = names_and_paths(alloc, words)?;
+    let mut sources = open_layers(alloc, &layers, files)?;
+    let options = Options {
+        grid: None,
+        threshold: 0,
+        exact,
+    };
+    let report = build(alloc, sources.as_mut_slice(), &options, out)?;
+    Ok(report)
+}
+
+/// Runs the command that the words name.
+fn run<F: Files, V: Drain>(
+    alloc: Global,
+    words: &[String],
+    files: &mut F,
+    out: &mut Sink<V>,
+) -> Result<Report, Ending>
+    ensures built { IfOk result (λ _. out.new.failures ≡ 0) }
+    ensures refused { IfErr result (λ ending. KeepsUnlessWriting ending out.old out.new) }
+{
+    let mut program = program(alloc)?;
+    let matches = program.try_get_matches_from_mut(words)?;
+    match matches.subcommand_matches(BUILD) {
+        Some(arguments) => {
+            let layers = arguments.get_strs(LAYERS).unwrap_or(&[]);
+            let exact = arguments.get_flag(EXACT);
+            build_layers(alloc, layers, exact, files, out)
+        }
+        None => {
+            let error = program.error(ErrorKind::MissingSubcommand, "a command is missing")?;
+            Err(Ending::Words(error))
+        }
+    }
+}
+
+/// Runs the program on the words behind its name. Standard output takes the topology or the help, standard error the
+/// report or a line that says what is wrong. The answer is the exit status: 0 where it is done, 1 where the contents of
+/// a file are refused, 2 where the words are, and 3 where reading, writing or memory failed.
+pub fn command<F: Files, V: Drain, W: Drain>(
+    alloc: Global,
+    words: Vec<String>,
+    files: &mut F,
+    out: &mut Sink<V>,
+    err: &mut Sink<W>,
+) -> u8
+    ensures status { result ≤ 3 }
+    // At status 0 standard output took all that was written to it.
+    ensures done { result ≡ 0 → out.new.failures ≡ 0 }
+    // Where the input or the words are refused, standard output takes nothing.
+    ensures refused { (result ≡ 1) ⊎ (result ≡ 2) → out.new ≡ out.old }
+{
+    let status = match run(alloc, words.as_slice(), files, out) {
+        Ok(report) => {
+            let _ = report_text(&report, err);
+            DONE
+        }
+        Err(ending) => tell(&ending, out, err),
+    };
+    let _ = err.finish();
+    status
+}

@@ -1,7 +1,8 @@
 -- What a number text scales to.
-use Rattle.std.proofs.Common.{◌≡◌, ℕ, ◌<◌, ◌≤◌, Bool, true, false, suc, zero, List, Some, IfOk, refl, ap, arith, unsigned_abs, ⊎_elim}
+use Rattle.std.proofs.Common.{◌≡◌, ℕ, ◌<◌, ◌≤◌, Bool, true, false, suc, zero, List, Option, None, Some, Ok, IfOk, refl, subst, ap, arith, unsigned_abs, ⊎_elim}
 use Rattle.std.proofs.Math.Nat.{one-le-pow}
 use Rattle.std.proofs.lemmas.Bool.{cases_lt}
+use Rattle.decimal_text.specs.declared.num_text.Scaled.{Scaled}
 use Rattle.decimal_text.specs.Parts.{Parts, parts_of}
 use Rattle.decimal_text.specs.Rounding.{signed, nearest, rounded_of}
 use Rattle.decimal_text.specs.Scaling.{numerator, denominator, scaled_of, scaled_parts}
@@ -35,3 +36,12 @@ rounded_of-limit negative num den limit =
     (λ past. rw (rounded_of-past negative num den limit past) tt)
     (λ small. rw (rounded_of-within negative num den limit small) (rw (unsigned_abs-signed negative (nearest num den)) small))
     (cases_lt limit (nearest num den))
+
+scaled_parts-limit : (places limit : ℕ) (o : Option Parts) → IfOk (scaled_parts places limit o) (λ s. unsigned_abs s.value ≤ limit)
+scaled_parts-limit places limit None = tt
+scaled_parts-limit places limit (Some n) = rounded_of-limit n.negative (numerator n places) (denominator n) limit
+
+-- what a number text scales to is within the limit
+pub scaled_of-within : (places limit : ℕ) (t : List ℕ) (s : Scaled) → scaled_of places limit t ≡ Ok s → unsigned_abs s.value ≤ limit
+unfolding scaled_of
+scaled_of-within places limit t s e = subst (λ r. IfOk r (λ x. unsigned_abs x.value ≤ limit)) e (scaled_parts-limit places limit (parts_of t))

@@ -63,6 +63,15 @@ impl NumText {
         }
     }
 
+    /// The same number text once more, in memory of its own.
+    pub fn copy(&self, alloc: Global) -> Result<NumText, Memory>
+        ensures { IfOk result (λ n. n ≡ self.now) }
+    {
+        Ok(NumText {
+            text: String::from_str(alloc, self.text())?,
+        })
+    }
+
     /// The number's text as it was read.
     pub fn text(&self) -> &str
         ensures text { result.now ≡ self.now }

@@ -71,6 +71,14 @@ fn reads_numbers_only(rt: HostRuntime) -> Result<(), Fail> {
 }
 
 #[test]
+fn copies_a_number(rt: HostRuntime) -> Result<(), Fail> {
+    let number = NumText::read(rt.alloc(), "-1.50E+2")?.ok_or("no number")?;
+    let copy = number.copy(rt.alloc())?;
+    assert_eq!(rt; copy.text().as_bytes(), b"-1.50E+2".as_slice());
+    Ok(())
+}
+
+#[test]
 fn prints_units(rt: HostRuntime) -> Result<(), Fail> {
     for (units, text) in [
         (0, "0"),

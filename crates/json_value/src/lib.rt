@@ -1,10 +1,11 @@
-//! JSON values (RFC 8259), what their texts are, and the writer of a string.
+//! JSON values (RFC 8259), what their texts are, their writer, and the writer of a string.
 //! It stands on `decimal_text` for the numbers, whose texts it keeps, and on `byte_ends` for the sinks that it writes to.
 //! `specs/Grammar.antt` says which bytes spell which value and `specs/Text.antt` which text is written for a value; the
 //! contract of `text_spells_value` joins the two. The layers above look into a value by `Json::as_object` and its kin,
-//! and write texts by `put_text`.
+//! copy one by `Json::copy`, and write texts by `put_text` and values by `put_json` and `put_members`.
 #![tactic(auto)]
 
+mod copying;
 mod items;
 mod json;
 mod laws;
@@ -12,10 +13,13 @@ mod own_text;
 #[cfg(test)]
 mod tests;
 mod text_writer;
+mod value_writer;
 
+pub use copying::copy_members;
 pub use decimal_text::{NumText, Range, Scaled};
 pub use items::Items;
 pub use json::Json;
 pub use laws::{read_values_are_bounded, text_spells_value};
 pub use own_text::OwnText;
 pub use text_writer::{put_text, write_text};
+pub use value_writer::{put_json, put_members, write_json, write_members};

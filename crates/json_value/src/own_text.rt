@@ -1,6 +1,8 @@
 // Texts that are owned.
-ghost use Rattle.std.specs.Prelude.{◌≡◌, IsUtf8, string_bytes};
+ghost use Rattle.std.specs.Prelude.{◌≡◌, IfOk, IsUtf8, string_bytes};
 
+use byte_ends::Memory;
+use std::alloc::Global;
 use std::marker::Model;
 
 /// A `String` that contracts see as the list of its bytes, which are UTF-8.
@@ -23,6 +25,15 @@ impl OwnText {
         ensures { result ≡ string_bytes text }
     {
         OwnText { text }
+    }
+
+    /// The same text once more, in memory of its own.
+    pub fn copy(&self, alloc: Global) -> Result<OwnText, Memory>
+        ensures { IfOk result (λ t. t ≡ self.now) }
+    {
+        Ok(OwnText {
+            text: String::from_str(alloc, self.as_str())?,
+        })
     }
 
     /// The whole text.

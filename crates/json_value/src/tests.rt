@@ -1,7 +1,10 @@
-// What no clause says: that the calls succeed, and the texts of RFC 8259, section 7, byte by byte.
+// What no clause says: that the calls succeed, and the texts of RFC 8259, section 7, and of whole values, byte by byte.
 ghost use Rattle.std.specs.Prelude.{◌≡◌, reverse};
 
-use crate::{Items, Json, NumText, OwnText, put_text, write_text};
+use crate::{
+    Items, Json, NumText, OwnText, copy_members, put_members, put_text, write_json, write_members,
+    write_text,
+};
 use byte_ends::devices::{CutWriter, Fault};
 use byte_ends::{Sink, ToWrite, WriteFault};
 use std::alloc::Global;
@@ -94,5 +97,84 @@ fn a_value_has_one_kind(rt: HostRuntime) -> Result<(), Fail> {
         );
     }
     assert!(rt; Json::Null.into_text().is_none() && Json::Bool(true).into_number().is_none());
+    Ok(())
+}
+
+fn text_of(alloc: Global, text: &str) -> Result<OwnText, Fail> {
+    Ok(OwnText::of(String::from_str(alloc, text)?))
+}
+
+fn number_of(alloc: Global, text: &str) -> Result<Json, Fail> {
+    Ok(Json::Number(NumText::read(alloc, text)?.ok_or("no number")?))
+}
+
+// An object whose members are in no order, with one name that stands twice.
+fn doubled(alloc: Global) -> Result<Json, Fail> {
+    Ok(Json::Object(Items::of(vec![in alloc;
+        (text_of(alloc, "b")?, number_of(alloc, "1.50")?),
+        (text_of(alloc, "a")?, number_of(alloc, "1e2")?),
+        (text_of(alloc, "b")?, Json::Null),
+    ]?)))
+}
+
+const DOUBLED: &[u8] = b"{\"b\":1.50,\"a\":1e2,\"b\":null}";
+
+#[test]
+fn members_keep_order_and_duplicates(rt: HostRuntime) -> Result<(), Fail> {
+    let value = doubled(rt.alloc())?;
+    let copy = value.copy(rt.alloc())?;
+    drop(value);
+    let mut sink = sink_of(rt.alloc(), Fault::Never);
+    assert_eq!(rt; write_json(&copy, &mut sink), Ok(27));
+    assert_eq!(rt; sink.into_inner().into_inner().held(), DOUBLED);
+    Ok(())
+}
+
+#[test]
+fn writes_and_copies_members(rt: HostRuntime) -> Result<(), Fail> {
+    let value = doubled(rt.alloc())?;
+    let members = value.as_object().ok_or("no object")?;
+    let copy = copy_members(rt.alloc(), members)?;
+    let mut sink = sink_of(rt.alloc(), Fault::Never);
+    assert_eq!(rt; write_members(copy.as_slice(), &mut sink), Ok(27));
+    assert_eq!(rt; sink.into_inner().into_inner().held(), DOUBLED);
+    let mut sink = sink_of(rt.alloc(), Fault::Never);
+    assert_eq!(rt; put_members(members, 5, &mut sink), Ok(32));
+    assert_eq!(rt; put_members(&members[..0], 32, &mut sink), Ok(34));
+    Ok(())
+}
+
+#[test]
+fn writes_and_copies_what_nests(rt: HostRuntime) -> Result<(), Fail> {
+    let alloc = rt.alloc();
+    let words = vec![in alloc; Json::Bool(true), Json::Bool(false), Json::Null]?;
+    let member = (text_of(alloc, "k\"")?, Json::Array(Items::of(words)));
+    let value = Json::Array(Items::of(vec![in alloc;
+        Json::Array(Items::of(Vec::new(alloc))),
+        Json::Object(Items::of(Vec::new(alloc))),
+        Json::Array(Items::of(vec![in alloc; Json::Object(Items::of(vec![in alloc; member]?))]?)),
+        Json::Text(text_of(alloc, "a\n\u{1f}\\é")?),
+    ]?));
+    let copy = value.copy(alloc)?;
+    drop(value);
+    let mut sink = sink_of(alloc, Fault::Never);
+    assert_eq!(rt; write_json(&copy, &mut sink), Ok(51));
+    let wanted = b"[[],{},[{\"k\\\"\":[true,false,null]}],\"a\\n\\u001f\\\\\xc3\xa9\"]";
+    assert_eq!(rt; sink.into_inner().into_inner().held(), wanted.as_slice());
+    Ok(())
+}
+
+#[test]
+fn a_broken_sink_holds_the_front_of_a_value(rt: HostRuntime) -> Result<(), Fail> {
+    let value = doubled(rt.alloc())?;
+    let mut sink = sink_of(rt.alloc(), Fault::AtByte(5));
+    assert_eq!(rt;
+        write_json(&value, &mut sink),
+        Err(WriteFault::Write { sent: 5 })
+    );
+    assert_eq!(rt;
+        sink.into_inner().into_inner().held(),
+        b"{\"b\":".as_slice()
+    );
     Ok(())
 }

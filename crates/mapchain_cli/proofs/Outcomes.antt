@@ -1,5 +1,5 @@
 -- What the engine's contract says of standard output, and of the one layer word.
-use Rattle.std.proofs.Common.{◌≡◌, ◌⊎◌, inl, inr, ℕ, Bool, false, List, [], ◌∷◌, suc, length, map, slice_index_or, Option, Some, refl, ◌∙◌, ap, subst, Bor, arith}
+use Rattle.std.proofs.Common.{◌≡◌, ◌⊎◌, inl, inr, ℕ, Bool, false, List, [], ◌∷◌, suc, length, map, slice_index_or, Option, Some, refl, ap, subst, Bor, arith}
 use Rattle.std.proofs.lemmas.Bool.{true≢false}
 use Rattle.byte_ends.specs.Ends.{Fed, Drained}
 use Rattle.mapchain_engine.specs.declared.fault.BuildFault.{BuildFault}

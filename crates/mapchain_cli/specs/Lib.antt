@@ -1,3 +1,4 @@
 pub mod Endings
+pub mod FaultLines
 pub mod LayerWords
 pub mod Statuses

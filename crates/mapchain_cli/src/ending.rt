@@ -16,6 +16,11 @@ pub(crate) enum Ending {
 }
 
 impl From<clap::Error> for Ending {
+    ghost use Rattle.std.specs.Prelude.{◌≡◌};
+    ghost use Rattle.mapchain_cli.specs.declared.ending.Ending.TheVariants.{Words};
+
+    ghost from_gives = { λ error e. e ≡ Words error };
+
     fn from(error: clap::Error) -> Ending {
         Ending::Words(error)
     }
@@ -33,12 +38,22 @@ impl From<BuildFault> for Ending {
 }
 
 impl From<AllocError> for Ending {
+    ghost use Rattle.std.specs.Prelude.{◌≡◌};
+    ghost use Rattle.mapchain_cli.specs.declared.ending.Ending.TheVariants.{Memory};
+
+    ghost from_gives = { λ _ e. e ≡ Memory };
+
     fn from(_error: AllocError) -> Ending {
         Ending::Memory
     }
 }
 
 impl<T: Drop> From<AllocFailed<T>> for Ending {
+    ghost use Rattle.std.specs.Prelude.{◌≡◌};
+    ghost use Rattle.mapchain_cli.specs.declared.ending.Ending.TheVariants.{Memory};
+
+    ghost from_gives = { λ _ e. e ≡ Memory };
+
     fn from(_refused: AllocFailed<T>) -> Ending {
         Ending::Memory
     }

@@ -11,6 +11,11 @@ use std::fmt;
 pub(crate) struct FaultLine<'a>(pub(crate) &'a BuildFault);
 
 impl fmt::Display for FaultLine<'_> {
+    ghost use Rattle.std.specs.Prelude.{Some};
+    ghost use Rattle.mapchain_cli.specs.FaultLines.{fault_text};
+
+    ghost output = { λ line. Some (fault_text line.0.now) };
+
     fn fmt<W: fmt::Write>(&self, f: &mut fmt::Formatter<W>) -> fmt::Result {
         match self.0 {
             BuildFault::EmptyName { layer } => writeln!(f, "error: layer {layer} B1 EmptyName"),
@@ -45,6 +50,11 @@ impl fmt::Display for FaultLine<'_> {
 struct ReadWords<'a>(&'a ReadFault);
 
 impl fmt::Display for ReadWords<'_> {
+    ghost use Rattle.std.specs.Prelude.{Some};
+    ghost use Rattle.mapchain_cli.specs.FaultLines.{read_text};
+
+    ghost output = { λ line. Some (read_text line.0.now) };
+
     fn fmt<W: fmt::Write>(&self, f: &mut fmt::Formatter<W>) -> fmt::Result {
         match self.0 {
             ReadFault::Read => write!(f, "F1 Read"),
@@ -59,6 +69,11 @@ impl fmt::Display for ReadWords<'_> {
 struct JsonWords<'a>(&'a JsonFault);
 
 impl fmt::Display for JsonWords<'_> {
+    ghost use Rattle.std.specs.Prelude.{Some};
+    ghost use Rattle.mapchain_cli.specs.FaultLines.{json_text};
+
+    ghost output = { λ line. Some (json_text line.0.now) };
+
     fn fmt<W: fmt::Write>(&self, f: &mut fmt::Formatter<W>) -> fmt::Result {
         match self.0 {
             JsonFault::NotUtf8 { at } => write!(f, "J1 NotUtf8 at {at}"),
@@ -73,6 +88,11 @@ impl fmt::Display for JsonWords<'_> {
 struct GeoWords<'a>(&'a GeoFault);
 
 impl fmt::Display for GeoWords<'_> {
+    ghost use Rattle.std.specs.Prelude.{Some};
+    ghost use Rattle.mapchain_cli.specs.FaultLines.{geo_text};
+
+    ghost output = { λ line. Some (geo_text line.0.now) };
+
     fn fmt<W: fmt::Write>(&self, f: &mut fmt::Formatter<W>) -> fmt::Result {
         let code = self.0.kind.code();
         let name = self.0.kind.name();

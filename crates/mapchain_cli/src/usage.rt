@@ -34,8 +34,8 @@ const BUILD_ABOUT: &str = "Build a topology from GeoJSON files";
 const BUILD_LONG_ABOUT: &str = "Build a topology from GeoJSON files.
 
 Each file (RFC 7946) is a layer of the map. Standard output takes the topology
-(TopoJSON 1.0) as one text, or nothing where something is refused. Standard error
-takes a report then, with a line each:
+(TopoJSON 1.0) as one text. Where something is refused it takes nothing, and standard
+error says what. Else standard error takes a report, with a line each:
   rounded  coordinates that were rounded to seven decimal places
   extra    positions with more than x and y, as a height: the rest is left out
   empty    empty arrays in the place of coordinates
@@ -65,8 +65,8 @@ const EXACT_HELP: &str = "Refuse coordinates that would have to be rounded";
 
 const EXACT_LONG_HELP: &str =
     "Refuse a file with a coordinate that isn't a whole multiple of 0.0000001.
-Without this option such a coordinate is rounded to the nearest multiple, halves away
-from zero, and counted in the report";
+Without this option such a coordinate is rounded to the nearest multiple,
+halves away from zero, and counted in the report";
 
 /// The command line of the program.
 pub(crate) fn program<'a>(alloc: Global) -> Result<Command<'a>, AllocError> {

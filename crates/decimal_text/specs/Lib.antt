@@ -1,5 +1,6 @@
 pub mod Grammar
 pub mod Digits
+pub mod FewBytes
 pub mod Parts
 pub mod PartsInCode
 pub mod Rounding

@@ -5,6 +5,7 @@
 #![tactic(auto)]
 
 mod digits;
+mod few_bytes;
 mod laws;
 mod num_text;
 mod number_parts;

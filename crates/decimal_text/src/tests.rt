@@ -54,7 +54,7 @@ fn refuses_what_passes_the_limit(rt: HostRuntime) -> Result<(), Fail> {
 fn reads_numbers_only(rt: HostRuntime) -> Result<(), Fail> {
     let number = NumText::read(rt.alloc(), "1.5")?.ok_or("no number")?;
     assert_eq!(rt; number.text().as_bytes(), b"1.5".as_slice());
-    let copy = NumText::of(String::from_str(rt.alloc(), number.text())?);
+    let copy = NumText::of(rt.alloc(), number.as_bytes())?;
     assert_eq!(rt;
         copy.scaled(1, 15),
         Ok(Scaled {
@@ -75,6 +75,21 @@ fn copies_a_number(rt: HostRuntime) -> Result<(), Fail> {
     let number = NumText::read(rt.alloc(), "-1.50E+2")?.ok_or("no number")?;
     let copy = number.copy(rt.alloc())?;
     assert_eq!(rt; copy.text().as_bytes(), b"-1.50E+2".as_slice());
+    Ok(())
+}
+
+// Of 22 bytes, which lie in the value, and of more, which lie in memory.
+#[test]
+fn keeps_short_and_long_numbers(rt: HostRuntime) -> Result<(), Fail> {
+    for text in [
+        "1234567890.12345678901",
+        "1234567890.123456789012",
+        "-0.0000000000000000000000000000000000001E+37",
+    ] {
+        let number = NumText::read(rt.alloc(), text)?.ok_or("no number")?;
+        assert_eq!(rt; number.as_bytes(), text.as_bytes());
+        assert_eq!(rt; number.copy(rt.alloc())?.text().as_bytes(), text.as_bytes());
+    }
     Ok(())
 }
 

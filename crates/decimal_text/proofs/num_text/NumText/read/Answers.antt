@@ -2,12 +2,12 @@ use Rattle.std.proofs.Common.{◌∙◌, sym}
 use Rattle.decimal_text.proofs.SpellsParts.{number-from_parts, no_number-from_parts}
 use Rattle.decimal_text.proofs.num_text.NumText.read.Goals as goal
 
-pub invariant_of-result : goal.invariant_of-result
-invariant_of-result c =
-    number-from_parts c.as_bytes.result.now _ _ (c.as_bytes.ensures.value ∙ sym c.in_ok-from_str-in-Some.ensures.ok) c.in-Some.ensures.some
+pub of-requires : goal.of-requires
+of-requires c =
+    number-from_parts c.as_bytes.result.now _ _ (c.as_bytes.ensures.value ∙ sym c.as_bytes-in-Some.ensures.value) c.in-Some.ensures.some
 
-pub returns-in_ok-from_str-in-Some-clause-some : goal.returns-in_ok-from_str-in-Some-clause-some
-returns-in_ok-from_str-in-Some-clause-some c =
+pub returns-in_ok-of-in-Some-clause-some : goal.returns-in_ok-of-in-Some-clause-some
+returns-in_ok-of-in-Some-clause-some c =
     number-from_parts c.as_bytes.result.now c.args.text.now _ c.as_bytes.ensures.value c.in-Some.ensures.some
 
 pub returns-in-None-clause-none : goal.returns-in-None-clause-none

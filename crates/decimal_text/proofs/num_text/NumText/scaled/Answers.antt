@@ -11,7 +11,7 @@ use Rattle.decimal_text.proofs.num_text.NumText.scaled.Goals as goal
 use Rattle.decimal_text.proofs.num_text.NumText.scaled.Goals.{After-scaled_number}
 
 pub unreachable-requires : goal.unreachable-requires
-unreachable-requires c = no_number-from_parts c.as_bytes.result.now _ c.as_bytes.ensures.value c.in-None.ensures.none c.self.invariant
+unreachable-requires c = no_number-from_parts c.as_bytes.result.now _ c.as_bytes.ensures.text c.in-None.ensures.none c.as_bytes.ensures.number
 
 answer : (c : After-scaled_number) → c.scaled_number.result
     ≡ rounded_of c.in-Some.parts.negative (numerator (parts_in c.in-Some.parts) c.args.places) (denominator (parts_in c.in-Some.parts)) (unsigned_abs c.args.limit)
@@ -22,7 +22,7 @@ answer c =
 
 pub returns-clause-value : goal.returns-clause-value
 returns-clause-value c =
-    let same = c.as_bytes.ensures.value ∙ c.self.view_is in
+    let same = c.as_bytes.ensures.text in
     let read : parts_of c.args.self.now ≡ Some (parts_in c.in-Some.parts) = ap parts_of (sym same) ∙ c.in-Some.ensures.some in
     answer c ∙ sym (scaled_of-read c.args.places (unsigned_abs c.args.limit) c.args.self.now (parts_in c.in-Some.parts) read)
 

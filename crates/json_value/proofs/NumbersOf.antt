@@ -23,7 +23,7 @@ unfolding numbers_of
 numbers-text t = ap (fold-Json (List (List ℕ)) numbers_step) (sym (j.rolls-Text t)) ∙ fold-roll-Json (List (List ℕ)) numbers_step (Json-F.Text t)
 
 -- one by one is the lists of a map, joined
-gathered : {A B : Type 0} (h : B → List (List ℕ)) (g : A → B) (k : A → List (List ℕ)) → ((a : A) → h (g a) ≡ k a) → (xs : List A) → flat_map h (map g xs) ≡ flat_map k xs
+pub gathered : {A B : Type 0} (h : B → List (List ℕ)) (g : A → B) (k : A → List (List ℕ)) → ((a : A) → h (g a) ≡ k a) → (xs : List A) → flat_map h (map g xs) ≡ flat_map k xs
 gathered h g k e [] = refl
 gathered h g k e (x ∷ xs) = rw (e x, gathered h g k e xs) refl
 

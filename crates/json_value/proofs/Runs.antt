@@ -5,11 +5,11 @@ use Rattle.std.proofs.lemmas.Bool.Decides.{nat_tests}
 use Rattle.json_value.specs.Grammar.{is_plain}
 use Rattle.json_value.specs.Text.{escaped_byte, escaped}
 
-plain_stays : (b : ℕ) → is_plain b ≡ true → escaped_byte b ≡ b ∷ []
+pub plain_stays : (b : ℕ) → is_plain b ≡ true → escaped_byte b ≡ b ∷ []
 unfolding escaped_byte
 plain_stays b h = grind (arith, nat_tests)
 
-plain_tells : (b : ℕ) → (is_plain b ≡ true) ⊎ (is_plain b ≡ false)
+pub plain_tells : (b : ℕ) → (is_plain b ≡ true) ⊎ (is_plain b ≡ false)
 plain_tells b = elim (is_plain b) as (λ x. (x ≡ true) ⊎ (x ≡ false)) [ true ↦ inl refl | false ↦ inr refl ]
 
 -- the bytes in front that stand for themselves, and the rest

@@ -3,4 +3,5 @@ pub mod Grammar
 pub mod Kinds
 pub mod Numbers
 pub mod Text
+pub mod WellFormed
 pub mod formers

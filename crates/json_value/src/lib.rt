@@ -14,12 +14,16 @@ mod own_text;
 mod tests;
 mod text_writer;
 mod value_writer;
+mod well_formed;
 
 pub use copying::copy_members;
 pub use decimal_text::{NumText, Range, Scaled};
 pub use items::Items;
 pub use json::Json;
-pub use laws::{read_values_are_bounded, text_spells_value};
+pub use laws::{
+    read_values_are_bounded, read_values_are_well_formed, text_spells_value, written_text_is_utf8,
+};
 pub use own_text::OwnText;
 pub use text_writer::{put_text, write_text};
 pub use value_writer::{put_json, put_members, write_json, write_members};
+pub use well_formed::values_are_well_formed;

@@ -28,7 +28,7 @@ pub fn put_json<W: Drain>(value: &Json, count: u64, sink: &mut Sink<W>) -> Resul
     match value {
         Json::Null => sink.put(count, b"null"),
         Json::Bool(is_true) => put_bool(*is_true, count, sink),
-        Json::Number(number) => sink.put(count, number.text().as_bytes()),
+        Json::Number(number) => sink.put(count, number.as_bytes()),
         Json::Text(text) => put_text(text.as_str(), count, sink),
         Json::Array(elements) => put_elements(elements.as_slice(), count, sink),
         Json::Object(members) => put_members(members.as_slice(), count, sink),

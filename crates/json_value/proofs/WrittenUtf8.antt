@@ -1,0 +1,174 @@
+-- The text that is written for a well-formed value is UTF-8.
+use Rattle.std.proofs.Common.{◌≡◌, ℕ, ◌/◌, ◌%◌, ◌<◌, Bool, true, false, inl, inr, List, [], ◌∷◌, ◌++◌, map, if◌then◌else◌, refl, sym, subst, append_assoc, arith}
+use Rattle.std.specs.Prelude.{IsUtf8, ◌==◌, ◌&&◌, nat_lt, codes}
+use Rattle.std.specs.Str.{IsAscii}
+use Rattle.std.specs.List.{flat_map, AllByRecursion}
+use Rattle.std.proofs.lemmas.Bool.Decides.{nat_tests}
+use Rattle.std.proofs.lemmas.Str.{IsAscii-append, IsUtf8-append, IsUtf8-from_ascii}
+use Rattle.std.proofs.lemmas.Str.Ascii.{IsAscii-nil}
+use Rattle.decimal_text.specs.Grammar.{IsNumber}
+use Rattle.decimal_text.proofs.NumberBytes.{ascii_cons, number_utf8}
+use Rattle.byte_ends.specs.Commas.{comma_unless, with_commas, comma_separated}
+use Rattle.json_value.specs.declared.json.Json.{Json, roll-Json, ind-Json, map-Json}
+use Rattle.json_value.specs.declared.json.Json.TheOpen.{Json-F}
+use Rattle.json_value.specs.declared.json.Json.TheVariants as j
+use Rattle.json_value.specs.Grammar.{is_plain}
+use Rattle.json_value.specs.Numbers.{numbers_of, HasNumbers}
+use Rattle.json_value.specs.Text.{json_text, hex_digit, escaped_byte, escaped, quoted}
+use Rattle.json_value.specs.WellFormed.{texts_of, HasTexts, IsWellFormed}
+use Rattle.json_value.proofs.Letters.{both}
+use Rattle.json_value.proofs.NumbersOf.{numbers-number, numbers-array, numbers-object}
+use Rattle.json_value.proofs.Runs.{plain_stays, plain_tells}
+use Rattle.json_value.proofs.Texts.{text-null, text-bool, text-number, text-text, text-array, text-object, one_member}
+use Rattle.json_value.proofs.TextsOf.{texts-text, texts-array, texts-object}
+use Rattle.json_value.proofs.Utf8.{ascii_split}
+use Rattle.json_value.proofs.Written.{all_split}
+
+-- ---- strings
+
+abbrev all_small : List ℕ → Bool
+all_small [] = true
+all_small (b ∷ bs) = nat_lt b 128 && all_small bs
+
+small_one : (b : ℕ) → nat_lt b 128 ≡ true → b < 128
+small_one b h = grind (arith, nat_tests)
+
+-- a list that is written out
+ascii : (bs : List ℕ) → all_small bs ≡ true → IsAscii bs
+ascii [] h = IsAscii-nil
+ascii (b ∷ bs) h = let p = both (nat_lt b 128) (all_small bs) h in ascii_cons b bs (small_one b p.0) (ascii bs p.1)
+
+ascii_one : (a : ℕ) → a < 128 → IsAscii (a ∷ [])
+ascii_one a p = ascii_cons a [] p IsAscii-nil
+
+either : (b : Bool) (s t : List ℕ) → IsAscii s → IsAscii t → IsAscii (if b then s else t)
+either true s t p q = p
+either false s t p q = q
+
+hex_ascii : (n : ℕ) → n < 16 → hex_digit n < 128
+hex_ascii n h = grind (arith, nat_tests)
+
+control_ascii : (b : ℕ) → b < 128 → IsAscii (codes "\\u00" ++ hex_digit (b / 16) ∷ hex_digit (b % 16) ∷ [])
+control_ascii b h =
+    IsAscii-append (codes "\\u00") (hex_digit (b / 16) ∷ hex_digit (b % 16) ∷ []) (ascii (codes "\\u00") refl)
+    (ascii_cons (hex_digit (b / 16)) (hex_digit (b % 16) ∷ []) (hex_ascii (b / 16) (omega arith)) (ascii_one (hex_digit (b % 16)) (hex_ascii (b % 16) (omega arith))))
+
+escape_ascii : (b : ℕ) → b < 128 → IsAscii (escaped_byte b)
+unfolding escaped_byte
+escape_ascii b h =
+    either (b == 34) _ _ (ascii (codes "\\\"") refl)
+    (either (b == 92) _ _ (ascii (codes "\\\\") refl)
+    (either (b == 8) _ _ (ascii (codes "\\b") refl)
+    (either (b == 9) _ _ (ascii (codes "\\t") refl)
+    (either (b == 10) _ _ (ascii (codes "\\n") refl)
+    (either (b == 12) _ _ (ascii (codes "\\f") refl)
+    (either (b == 13) _ _ (ascii (codes "\\r") refl)
+    (either (nat_lt b 32) _ _ (control_ascii b h) (ascii_one b h))))))))
+
+not_plain : (b : ℕ) → is_plain b ≡ false → b < 128
+not_plain b h = grind (arith, nat_tests)
+
+-- Bytes that stand for themselves stay in their characters, and each other byte is a character.
+escaped_behind : (t p : List ℕ) → IsUtf8 (p ++ t) → IsUtf8 (p ++ escaped t)
+escaped_behind [] p h = h
+escaped_behind (b ∷ t) p h =
+    elim (plain_tells b) [
+      | inl plain ↦
+          rw (plain_stays b plain) (subst (λ z. IsUtf8 z) (append_assoc p (b ∷ []) (escaped t))
+          (escaped_behind t (p ++ b ∷ []) (subst (λ z. IsUtf8 z) (sym (append_assoc p (b ∷ []) t)) h)))
+      | inr other ↦
+          (let small = not_plain b other in
+          let cut = ascii_split p t b small h in
+          IsUtf8-append p (escaped_byte b ++ escaped t) cut.0
+          (IsUtf8-append (escaped_byte b) (escaped t) (IsUtf8-from_ascii _ (escape_ascii b small)) (escaped_behind t [] cut.1)))
+    ]
+
+one_utf8 : (a : ℕ) → a < 128 → IsUtf8 (a ∷ [])
+one_utf8 a h = IsUtf8-from_ascii _ (ascii_one a h)
+
+pub quoted_utf8 : (t : List ℕ) → IsUtf8 t → IsUtf8 (quoted t)
+quoted_utf8 t h =
+    IsUtf8-append (34 ∷ escaped t) (34 ∷ []) (IsUtf8-append (34 ∷ []) (escaped t) (one_utf8 34 (omega arith)) (escaped_behind t [] h)) (one_utf8 34 (omega arith))
+
+-- ---- lists
+
+comma_utf8 : (is_first : Bool) → IsUtf8 (comma_unless is_first)
+comma_utf8 true = IsUtf8-from_ascii [] IsAscii-nil
+comma_utf8 false = one_utf8 44 (omega arith)
+
+pub commas_utf8 : (is_first : Bool) (ts : List (List ℕ)) → AllByRecursion IsUtf8 ts → IsUtf8 (with_commas is_first ts)
+commas_utf8 is_first [] h = IsUtf8-from_ascii [] IsAscii-nil
+commas_utf8 is_first (t ∷ ts) h =
+    IsUtf8-append (comma_unless is_first) (t ++ with_commas false ts) (comma_utf8 is_first) (IsUtf8-append t (with_commas false ts) h.0 (commas_utf8 false ts h.1))
+
+-- a list between its brackets
+bracketed : (x y : ℕ) (ts : List (List ℕ)) → x < 128 → y < 128 → AllByRecursion IsUtf8 ts → IsUtf8 (x ∷ comma_separated ts ++ y ∷ [])
+bracketed x y ts p q h =
+    IsUtf8-append (x ∷ comma_separated ts) (y ∷ []) (IsUtf8-append (x ∷ []) (comma_separated ts) (one_utf8 x p) (commas_utf8 true ts h)) (one_utf8 y q)
+
+-- ---- each value, by induction
+
+abbrev Claim : Json → Type 0
+Claim v = HasNumbers v → HasTexts v → IsUtf8 (json_text v)
+
+abbrev Such : Type 0
+Such = (v : Json) × Claim v
+
+abbrev inner : List ℕ × Such → List ℕ × Json
+inner m = (m.0, m.1.0)
+
+elements_utf8 : (ys : List Such) → AllByRecursion IsNumber (flat_map numbers_of (map (λ e. e.0) ys)) → AllByRecursion IsUtf8 (flat_map texts_of (map (λ e. e.0) ys))
+    → AllByRecursion IsUtf8 (map json_text (map (λ e. e.0) ys))
+elements_utf8 [] n h = tt
+elements_utf8 (y ∷ ys) n h =
+    let p = all_split IsNumber (numbers_of y.0) _ n in
+    let q = all_split IsUtf8 (texts_of y.0) _ h in
+    (y.1 p.0 q.0, elements_utf8 ys p.1 q.1)
+
+member_utf8 : (m : List ℕ × Such) → HasNumbers m.1.0 → IsUtf8 m.0 → HasTexts m.1.0 → IsUtf8 (one_member (inner m))
+member_utf8 m n name h = IsUtf8-append (quoted m.0 ++ 58 ∷ []) (json_text m.1.0) (IsUtf8-append (quoted m.0) (58 ∷ []) (quoted_utf8 m.0 name) (one_utf8 58 (omega arith))) (m.1.1 n h)
+
+members_utf8 : (ys : List (List ℕ × Such)) → AllByRecursion IsNumber (flat_map (λ m. numbers_of m.1) (map inner ys)) → AllByRecursion IsUtf8 (flat_map (λ m. m.0 ∷ texts_of m.1) (map inner ys))
+    → AllByRecursion IsUtf8 (map one_member (map inner ys))
+members_utf8 [] n h = tt
+members_utf8 (y ∷ ys) n h =
+    let p = all_split IsNumber (numbers_of y.1.0) _ n in
+    let q = all_split IsUtf8 (y.0 ∷ texts_of y.1.0) _ h in
+    (member_utf8 y p.0 q.0.0 q.0.1, members_utf8 ys p.1 q.1)
+
+word_utf8 : (b : Bool) → Claim (j.Bool b)
+word_utf8 true n h = rw (text-bool true) (IsUtf8-from_ascii (codes "true") (ascii (codes "true") refl))
+word_utf8 false n h = rw (text-bool false) (IsUtf8-from_ascii (codes "false") (ascii (codes "false") refl))
+
+null_utf8 : Claim j.Null
+null_utf8 n h = rw text-null (IsUtf8-from_ascii (codes "null") (ascii (codes "null") refl))
+
+number_claim : (t : List ℕ) → Claim (j.Number t)
+number_claim t n h = let p = rw (numbers-number t) at n in rw (text-number t) (number_utf8 p.0)
+
+text_claim : (t : List ℕ) → Claim (j.Text t)
+text_claim t n h = let p = rw (texts-text t) at h in rw (text-text t) (quoted_utf8 t p.0)
+
+array_claim : (ys : List Such) → Claim (j.Array (map (λ e. e.0) ys))
+array_claim ys n h =
+    let vs : List Json = map (λ e. e.0) ys in
+    rw (text-array vs) (bracketed 91 93 (map json_text vs) (omega arith) (omega arith) (elements_utf8 ys (rw (numbers-array vs) at n) (rw (texts-array vs) at h)))
+
+object_claim : (ys : List (List ℕ × Such)) → Claim (j.Object (map inner ys))
+object_claim ys n h =
+    let ms : List (List ℕ × Json) = map inner ys in
+    rw (text-object ms) (bracketed 123 125 (map one_member ms) (omega arith) (omega arith) (members_utf8 ys (rw (numbers-object ms) at n) (rw (texts-object ms) at h)))
+
+step : (x : Json-F Json) (y : Json-F Such) → map-Json Such Json (λ e. e.0) y ≡ x → Claim (roll-Json x)
+step x Json-F.Null e = subst (λ z. Claim (roll-Json z)) e (subst Claim (sym j.rolls-Null) null_utf8)
+step x (Json-F.Bool b) e = subst (λ z. Claim (roll-Json z)) e (subst Claim (sym (j.rolls-Bool b)) (word_utf8 b))
+step x (Json-F.Number t) e = subst (λ z. Claim (roll-Json z)) e (subst Claim (sym (j.rolls-Number t)) (number_claim t))
+step x (Json-F.Text t) e = subst (λ z. Claim (roll-Json z)) e (subst Claim (sym (j.rolls-Text t)) (text_claim t))
+step x (Json-F.Array ys) e = subst (λ z. Claim (roll-Json z)) e (subst Claim (sym (j.rolls-Array (map (λ e. e.0) ys))) (array_claim ys))
+step x (Json-F.Object ys) e = subst (λ z. Claim (roll-Json z)) e (subst Claim (sym (j.rolls-Object (map inner ys))) (object_claim ys))
+
+any_value : (v : Json) → Claim v
+any_value = ind-Json Claim step
+
+pub written_utf8 : (v : Json) → IsWellFormed v → IsUtf8 (json_text v)
+written_utf8 v h = any_value v h.numbers h.texts

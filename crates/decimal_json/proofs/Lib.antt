@@ -12,7 +12,6 @@ pub mod ListLoop
 pub mod Opened
 pub mod ValuesRead
 pub mod TextsRead
-pub mod Utf8
 pub mod StringsFound
 pub mod ValuesFound
 pub mod TextsFound

@@ -15,7 +15,7 @@ module _ (A : Type 0) (close : ℕ) (value : Parse A) (front : List A) (n i : �
   pub fails : (e : Fault) → i < n → Fails e (value (skip bs)) → Fails e total
   unfolding list_at
   fails fault.Memory lt h = tt
-  fails (fault.Malformed left why) lt h =
+  fails (fault.Malformed why left) lt h =
       let k : n - i ≡ suc (n - (i + 1)) = omega arith in
       let one : with_front front (list_at close value (n - i) bs) ≡ None = rw (k, h) refl in
       sym so_far ∙ one

@@ -1,15 +1,11 @@
--- What is read as a number is a number, and ASCII.
-use Rattle.std.proofs.Common.{◌≡◌, ◌≢◌, ℕ, zero, suc, ◌-◌, ◌<◌, ◌≤◌, Bool, true, false, eqb, inl, inr, List, [], ◌∷◌, ◌++◌, length, take, Some, None, refl, sym, ap, subst, ◌∙◌, append_assoc, length-append, arith}
-use Rattle.std.specs.Prelude.{IsUtf8}
-use Rattle.std.specs.Str.{IsAscii}
-use Rattle.std.proofs.lemmas.Str.{IsAscii-append, IsUtf8-from_ascii}
-use Rattle.std.proofs.lemmas.Str.Ascii.{IsAscii-nil}
-use Rattle.std.proofs.lemmas.Bool.{eqb-true, leb-true}
+-- What is read as a number is a number.
+use Rattle.std.proofs.Common.{◌≡◌, ◌≢◌, ℕ, ◌-◌, ◌≤◌, Bool, true, false, eqb, inl, inr, List, [], ◌∷◌, ◌++◌, length, take, Some, None, refl, sym, ap, subst, ◌∙◌, append_assoc, length-append, arith}
+use Rattle.std.proofs.lemmas.Bool.{eqb-true}
 use Rattle.std.proofs.lemmas.Option.{option_and_then_some}
 use Rattle.std.proofs.Math.Seq.{take-append_seam}
 use Rattle.decimal_text.specs.Grammar.{is_digit, AllDigits, IsMinus, no_minus, one_minus, IsWhole, whole_zero, whole_digits, IsFraction, no_fraction, fraction, IsSign, no_sign, plus_sign, minus_sign, is_e, IsExponent, no_exponent, exponent, IsNumber, number_of}
 use Rattle.decimal_json.specs.Reading.{after_digits, after_some_digits, after_minus, after_whole, after_fraction, after_sign, after_exponent, after_number, number_at}
-use Rattle.decimal_json.proofs.Steps.{chosen, not_equal, pair_is, IsSound, at, or_cases, both}
+use Rattle.decimal_json.proofs.Steps.{chosen, not_equal, pair_is, IsSound, at, or_cases}
 
 -- ---- what is read is a number
 
@@ -107,47 +103,8 @@ number_takes bs x e = option_and_then_some _ _ _ e (λ rest f g.
     let p = pair_is (take (length bs - length rest) bs) rest x g in
     (r.0, (r.1, sym (cut r.0 rest bs r.2) ∙ p.0), r.2 ∙ ap (λ z. r.0 ++ z) p.1))
 
--- ---- a number is ASCII
-
 pub e_is : (P : ℕ → Type 0) → P 101 → P 69 → (b : ℕ) → is_e b ≡ true → P b
 e_is P p q b h = elim (or_cases _ _ h) [ inl x ↦ at P 101 b p x | inr x ↦ at P 69 b q x ]
-
-ascii_cons : (b : ℕ) (bs : List ℕ) → b < 128 → IsAscii bs → IsAscii (b ∷ bs)
-ascii_cons b bs h r zero = h
-ascii_cons b bs h r (suc i) = r i
-
-digit_ascii : (b : ℕ) → is_digit b ≡ true → b < 128
-digit_ascii b h = let p = both _ _ h in let le = leb-true b 57 p.1 in omega (arith, le)
-
-digits_ascii : (ds : List ℕ) → AllDigits ds → IsAscii ds
-digits_ascii [] h = IsAscii-nil
-digits_ascii (b ∷ ds) h = ascii_cons b ds (digit_ascii b h.0) (digits_ascii ds h.1)
-
-minus_ascii : {m : List ℕ} → IsMinus m → IsAscii m
-minus_ascii no_minus = IsAscii-nil
-minus_ascii one_minus = ascii_cons 45 [] (omega arith) IsAscii-nil
-
-whole_ascii : {w : List ℕ} → IsWhole w → IsAscii w
-whole_ascii whole_zero = ascii_cons 48 [] (omega arith) IsAscii-nil
-whole_ascii (whole_digits b bs d z ds) = ascii_cons b bs (digit_ascii b d) (digits_ascii bs ds)
-
-fraction_ascii : {f : List ℕ} → IsFraction f → IsAscii f
-fraction_ascii no_fraction = IsAscii-nil
-fraction_ascii (fraction b bs d ds) = ascii_cons 46 (b ∷ bs) (omega arith) (ascii_cons b bs (digit_ascii b d) (digits_ascii bs ds))
-
-sign_ascii : {s : List ℕ} → IsSign s → IsAscii s
-sign_ascii no_sign = IsAscii-nil
-sign_ascii plus_sign = ascii_cons 43 [] (omega arith) IsAscii-nil
-sign_ascii minus_sign = ascii_cons 45 [] (omega arith) IsAscii-nil
-
-exponent_ascii : {e : List ℕ} → IsExponent e → IsAscii e
-exponent_ascii no_exponent = IsAscii-nil
-exponent_ascii (exponent e s b bs k t d ds) =
-    ascii_cons e (s ++ b ∷ bs) (e_is (λ x. x < 128) (omega arith) (omega arith) e k) (IsAscii-append s (b ∷ bs) (sign_ascii t) (ascii_cons b bs (digit_ascii b d) (digits_ascii bs ds)))
-
-pub number_ascii : {t : List ℕ} → IsNumber t → IsAscii t
-number_ascii (number_of m w f e hm hw hf he) =
-    IsAscii-append m _ (minus_ascii hm) (IsAscii-append w _ (whole_ascii hw) (IsAscii-append f e (fraction_ascii hf) (exponent_ascii he)))
 
 -- ---- what the code asks
 
@@ -168,6 +125,3 @@ shorter bs rest h = let r = after_takes bs rest h in let l = ap length r.2 in om
 
 pub front_number : (bs rest : List ℕ) → after_number bs ≡ Some rest → IsNumber (take (length bs - length rest) bs)
 front_number bs rest h = let r = after_takes bs rest h in rw (cut r.0 rest bs r.2) r.1
-
-pub front_utf8 : (bs rest : List ℕ) → after_number bs ≡ Some rest → IsUtf8 (take (length bs - length rest) bs)
-front_utf8 bs rest h = IsUtf8-from_ascii _ (number_ascii (front_number bs rest h))

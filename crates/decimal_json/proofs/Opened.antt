@@ -43,7 +43,7 @@ module _ (fits : List ℕ → Bool) where
 
     pub text_fails : b ≡ 34 → (e : Fault) → Fails e (string_at fits rest) → Fails e (value_at fits d bs)
     text_fails h fault.Memory f = tt
-    text_fails h (fault.Malformed left why) f = at_text h ∙ rw f refl
+    text_fails h (fault.Malformed why left) f = at_text h ∙ rw f refl
 
     pub text_found : b ≡ 34 → (t after : List ℕ) → string_at fits rest ≡ Some (t, after) → value_at fits d bs ≡ Some (j.Text t, after)
     text_found h t after f = at_text h ∙ rw f refl
@@ -54,7 +54,7 @@ module _ (fits : List ℕ → Bool) where
 
     pub number_fails : b ≢ 110 → b ≢ 116 → b ≢ 102 → b ≢ 34 → b ≢ 91 → b ≢ 123 → (e : Fault) → Fails e (number_at bs) → Fails e (value_at fits d bs)
     number_fails n t f q a o fault.Memory r = tt
-    number_fails n t f q a o (fault.Malformed left why) r = at_number n t f q a o ∙ rw r refl
+    number_fails n t f q a o (fault.Malformed why left) r = at_number n t f q a o ∙ rw r refl
 
     pub number_found : b ≢ 110 → b ≢ 116 → b ≢ 102 → b ≢ 34 → b ≢ 91 → b ≢ 123 → (t after : List ℕ) → number_at bs ≡ Some (t, after) → value_at fits d bs ≡ Some (j.Number t, after)
     number_found n t f q a o text after r = at_number n t f q a o ∙ rw r refl
@@ -69,7 +69,7 @@ module _ (fits : List ℕ → Bool) where
 
     pub array_fails : b ≡ 91 → d ≢ 0 → (e : Fault) → Fails e (items_at 93 (value_at fits (d - 1)) rest) → Fails e (value_at fits d bs)
     array_fails h deep fault.Memory f = tt
-    array_fails h deep (fault.Malformed left why) f = at_array h (d - 1) (omega arith) ∙ rw f refl
+    array_fails h deep (fault.Malformed why left) f = at_array h (d - 1) (omega arith) ∙ rw f refl
 
     pub array_found : b ≡ 91 → d ≢ 0 → (vs : List Json) (after : List ℕ) → items_at 93 (value_at fits (d - 1)) rest ≡ Some (vs, after) → value_at fits d bs ≡ Some (j.Array vs, after)
     array_found h deep vs after f = at_array h (d - 1) (omega arith) ∙ rw f refl
@@ -84,7 +84,7 @@ module _ (fits : List ℕ → Bool) where
 
     pub object_fails : b ≡ 123 → d ≢ 0 → (e : Fault) → Fails e (items_at 125 (member_at fits (value_at fits (d - 1))) rest) → Fails e (value_at fits d bs)
     object_fails h deep fault.Memory f = tt
-    object_fails h deep (fault.Malformed left why) f = at_object h (d - 1) (omega arith) ∙ rw f refl
+    object_fails h deep (fault.Malformed why left) f = at_object h (d - 1) (omega arith) ∙ rw f refl
 
     pub object_found : b ≡ 123 → d ≢ 0 → (ms : List (List ℕ × Json)) (after : List ℕ) → items_at 125 (member_at fits (value_at fits (d - 1))) rest ≡ Some (ms, after) → value_at fits d bs ≡ Some (j.Object ms, after)
     object_found h deep ms after f = at_object h (d - 1) (omega arith) ∙ rw f refl
@@ -98,7 +98,7 @@ module _ (fits : List ℕ → Bool) where
     pub name_fails : (e : Fault) → Fails e (name_at fits bs) → Fails e (member_at fits value bs)
     unfolding member_at
     name_fails fault.Memory f = tt
-    name_fails (fault.Malformed left why) f = rw f refl
+    name_fails (fault.Malformed why left) f = rw f refl
 
     module _ (name n : List ℕ) (named : name_at fits bs ≡ Some (name, n)) where
       pub no_colon : None ≡ after_word (58 ∷ []) (skip n) → member_at fits value bs ≡ None
@@ -109,7 +109,7 @@ module _ (fits : List ℕ → Bool) where
         pub value_fails : (e : Fault) → Fails e (value (skip rest)) → Fails e (member_at fits value bs)
         unfolding member_at
         value_fails fault.Memory f = tt
-        value_fails (fault.Malformed left why) f = rw (named, ← colon, f) refl
+        value_fails (fault.Malformed why left) f = rw (named, ← colon, f) refl
 
         pub member_found : (v : Json) (after : List ℕ) → value (skip rest) ≡ Some (v, after) → member_at fits value bs ≡ Some ((name, v), after)
         unfolding member_at

@@ -49,7 +49,7 @@ turn (suc k) m h = (k, refl, omega arith)
 
 -- Any fault fits where nothing is read.
 pub none_fails : {Y : Type 0} (e : Fault) (read : Option Y) → read ≡ None → Fails e read
-none_fails (fault.Malformed left why) read h = h
+none_fails (fault.Malformed why left) read h = h
 none_fails fault.Memory read h = tt
 
 -- A reader takes what R says of it and its value.

@@ -53,7 +53,7 @@ module _ (front : List ℕ) (n i : ℕ) (bs : List ℕ) (total : Option (List �
       pub escape_fails : b ≡ 92 → (e : Fault) → Fails e (escape_at after) → Fails e total
       unfolding chars_after
       escape_fails s fault.Memory f = tt
-      escape_fails s (fault.Malformed left why) f = goes_by ∙ rw (here, s, f) refl
+      escape_fails s (fault.Malformed why left) f = goes_by ∙ rw (here, s, f) refl
 
       pub at_escape : b ≡ 92 → (c : ℕ) (more : List ℕ) → escape_at after ≡ Some (c, more)
           → with_front ((front ++ plain_front bs) ++ encode_utf8 c) (chars_at (n - (i + 1)) more) ≡ total

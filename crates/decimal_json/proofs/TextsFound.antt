@@ -13,7 +13,7 @@ use Rattle.decimal_json.proofs.Words.{skip-space, skip_all, after_word_again}
 use Rattle.decimal_json.proofs.Ending.{Ends-only}
 use Rattle.decimal_json.proofs.NumbersFound.{number_no_word}
 use Rattle.decimal_json.proofs.ValuesFound.{skip_value, found, after_space, before_space}
-use Rattle.decimal_json.proofs.Utf8.{ascii_split, text_utf8}
+use Rattle.json_value.proofs.Utf8.{ascii_split, text_utf8}
 
 -- No text begins with a mark, but one behind a mark.
 space_no_mark : (b : ℕ) → is_space b ≡ true → eqb b 239 ≡ false

@@ -5,17 +5,17 @@ use Rattle.decimal_json.specs.declared.fault.Fault.TheVariants.{Malformed, Memor
 
 -- the fault is one of the text, and not of memory
 abbrev pub IsMalformed : Fault → Type 0
-IsMalformed (Malformed left why) = Unit {0}
+IsMalformed (Malformed why left) = Unit {0}
 IsMalformed Memory = ⊥
 
 -- the same, with so many bytes left
 abbrev pub StopsBefore : ℕ → Fault → Type 0
-StopsBefore n (Malformed left why) = left ≡ n
+StopsBefore n (Malformed why left) = left ≡ n
 StopsBefore n Memory = ⊥
 
 -- A text is malformed only where reading gives nothing.
 abbrev pub Fails : {Y : Type 0} → Fault → Option Y → Type 0
-Fails (Malformed left why) read = read ≡ None
+Fails (Malformed why left) read = read ≡ None
 Fails Memory read = Unit {0}
 
 -- Seen by view, it is what reading gives, unless memory ran out.

@@ -36,10 +36,11 @@ pub enum JsonFault {
     Memory,
 }
 
-/// The same inside the reader, where the place is the number of bytes that are left.
+/// The same inside the reader, where the place is the number of bytes that are left. The reason stands first, beside the
+/// tag, so that a `Result` of a value lies in whole words and is moved by them.
 #[derive(Debug, Drop)]
 pub enum Fault {
-    Malformed { left: usize, why: Why },
+    Malformed { why: Why, left: usize },
     Memory,
 }
 
@@ -47,6 +48,14 @@ impl From<AllocError> for Fault {
     ghost from_gives = { λ _ e. e ≡ Memory };
 
     fn from(_e: AllocError) -> Fault {
+        Fault::Memory
+    }
+}
+
+impl From<byte_ends::Memory> for Fault {
+    ghost from_gives = { λ _ e. e ≡ Memory };
+
+    fn from(_e: byte_ends::Memory) -> Fault {
         Fault::Memory
     }
 }
@@ -69,7 +78,7 @@ pub fn stopped(rest: &[u8]) -> Fault
         Why::Syntax
     };
     Fault::Malformed {
-        left: rest.len(),
         why,
+        left: rest.len(),
     }
 }

@@ -23,5 +23,6 @@ pub use byte_ends::{
 pub use decimal_text::{NumText, Range, Scaled, print_units, put_units, units_again};
 pub use json_value::{
     Items, Json, OwnText, copy_members, put_json, put_members, put_text, read_values_are_bounded,
-    text_spells_value, write_json, write_members, write_text,
+    read_values_are_well_formed, text_spells_value, values_are_well_formed, write_json,
+    write_members, write_text, written_text_is_utf8,
 };

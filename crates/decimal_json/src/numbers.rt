@@ -95,9 +95,6 @@ pub fn number_at<'a>(alloc: Global, bytes: &'a [u8]) -> Result<(NumText, &'a [u8
     ensures { Gives (λ x. (x.0, x.1.now)) result (spec.number_at bytes.now) }
 {
     let rest = after_number(bytes)?;
-    let (front, _) = bytes.split_at(bytes.len() - rest.len());
-    let Ok(text) = std::str::from_utf8(front) else {
-        unreachable!();
-    };
-    Ok((NumText::of(String::from_str(alloc, text)?), rest))
+    let number = NumText::front(alloc, bytes, bytes.len() - rest.len())?;
+    Ok((number, rest))
 }

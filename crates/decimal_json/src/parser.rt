@@ -2,6 +2,7 @@
 ghost use Rattle.std.specs.Prelude.{◌≡◌, ◌≤◌, ℕ, List, IfOk, IsUtf8};
 ghost use Rattle.json_value.specs.declared.json.Json.{Json as Value};
 ghost use Rattle.json_value.specs.Grammar.{Reads};
+ghost use Rattle.json_value.specs.WellFormed.{IsWellFormed};
 ghost use Rattle.decimal_json.specs.Gives.{Gives};
 ghost use Rattle.decimal_json.specs.Outcome.{IsReadAs, SaysUtf8, SpellsNothing};
 ghost use Rattle.std.specs.Str.{is_utf8};
@@ -51,6 +52,7 @@ pub fn parse(alloc: Global, bytes: &[u8], deepest: u32) -> Result<Json, JsonFaul
     ensures read { IfOk result (λ v. Reads deepest bytes.now v) }
     // What is spelled so is read, unless memory runs out.
     ensures only { (v : Value) → IsUtf8 bytes.now → Reads deepest bytes.now v → IsReadAs v result }
+    ensures formed { IfOk result (λ v. IsWellFormed v) }
     // Which error it is.
     ensures utf8 { SaysUtf8 bytes.now result }
     ensures none { SpellsNothing deepest bytes.now result }

@@ -190,6 +190,24 @@ fn numbers_keep_their_text(rt: HostRuntime) {
     }
 }
 
+// Numbers with more bytes behind them than a value has room for, and with fewer.
+#[test]
+fn elements_keep_their_numbers(rt: HostRuntime) -> Result<(), Fail> {
+    let json = b"[1.25,-2.5e3,12345678901234567890.25,0]";
+    let value = parse(rt.alloc(), json, 1).ok().ok_or("no value")?;
+    let elements = value.as_array().ok_or("no array")?;
+    for (i, want) in ["1.25", "-2.5e3", "12345678901234567890.25", "0"]
+        .iter()
+        .enumerate()
+    {
+        match elements.get(i) {
+            Some(Json::Number(number)) => assert_eq!(rt; number.as_bytes(), want.as_bytes()),
+            other => panic!(rt; "{other:?} for {want}"),
+        }
+    }
+    Ok(())
+}
+
 // RFC 8259, sections 2 to 5
 #[test]
 fn texts_are_refused(rt: HostRuntime) {

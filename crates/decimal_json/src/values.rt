@@ -11,6 +11,9 @@ use crate::strings::string_at;
 use json_value::{Items, Json, OwnText};
 use std::alloc::Global;
 
+// The room that an array is given first. Most arrays of geographic data are positions, of two numbers.
+const POSITION: usize = 2;
+
 /// A word behind its first letter.
 #[tactic(auto, unfolding(crate::specs::Reading::word_at))]
 fn word_at<'a>(word: &[u8], value: Json, bytes: &'a [u8]) -> Result<(Json, &'a [u8]), Fault>
@@ -41,32 +44,31 @@ pub fn value_at<'a>(alloc: Global, deepest: u32, bytes: &'a [u8]) -> Result<(Jso
         return Err(stopped(bytes));
     };
     match first {
-        b'n' => word_at(b"ull", Json::Null, rest),
-        b't' => word_at(b"rue", Json::Bool(true), rest),
-        b'f' => word_at(b"alse", Json::Bool(false), rest),
+        b'n' => return word_at(b"ull", Json::Null, rest),
+        b't' => return word_at(b"rue", Json::Bool(true), rest),
+        b'f' => return word_at(b"alse", Json::Bool(false), rest),
         b'"' => {
             let (text, rest) = string_at(alloc, rest)?;
-            Ok((Json::Text(text), rest))
+            return Ok((Json::Text(text), rest));
         }
         b'[' => {
             if deepest == 0 {
                 return Err(too_deep(bytes));
             }
             let (items, rest) = array_at(alloc, deepest - 1, rest)?;
-            Ok((Json::Array(Items::of(items)), rest))
+            return Ok((Json::Array(Items::of(items)), rest));
         }
         b'{' => {
             if deepest == 0 {
                 return Err(too_deep(bytes));
             }
             let (members, rest) = object_at(alloc, deepest - 1, rest)?;
-            Ok((Json::Object(Items::of(members)), rest))
+            return Ok((Json::Object(Items::of(members)), rest));
         }
-        _ => {
-            let (number, rest) = number_at(alloc, bytes)?;
-            Ok((Json::Number(number), rest))
-        }
+        _ => {}
     }
+    let (number, rest) = number_at(alloc, bytes)?;
+    Ok((Json::Number(number), rest))
 }
 
 /// The elements of an array, behind the bracket that opens it.
@@ -92,7 +94,7 @@ fn elements_at<'a>(
 ) -> Result<(Vec<Json>, &'a [u8]), Fault>
     ensures { Gives (λ x. (x.0.items, x.1.now)) result (spec.elements_at is_utf8 deepest (length bytes.now) bytes.now) }
 {
-    let mut items = Vec::new(alloc);
+    let mut items = Vec::with_capacity(alloc, POSITION)?;
     let mut rest = bytes;
     for _ in 0..bytes.len() {
         let (item, after) = value_at(alloc, deepest, skip(rest))?;
@@ -102,6 +104,7 @@ fn elements_at<'a>(
             return Err(stopped(after));
         };
         if mark == b']' {
+            items.shrink_to_fit();
             return Ok((items, more));
         }
         if mark != b',' {

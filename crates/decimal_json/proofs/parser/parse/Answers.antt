@@ -1,10 +1,14 @@
 use Rattle.std.specs.Str.{is_utf8}
+use Rattle.json_value.proofs.SpelledTexts.{reads_well_formed}
 use Rattle.decimal_json.proofs.TextsRead.{text_takes}
 use Rattle.decimal_json.proofs.TextsFound.{is_read, not_read}
 use Rattle.decimal_json.proofs.parser.parse.Goals as goal
 
 pub returns-in-Ok-clause-read : goal.returns-in-Ok-clause-read
 returns-in-Ok-clause-read c = text_takes is_utf8 _ _ _ c.in-Ok.ensures
+
+pub returns-in-Ok-clause-formed : goal.returns-in-Ok-clause-formed
+returns-in-Ok-clause-formed c = reads_well_formed _ _ _ c.in_default.ensures.cases.1 (text_takes is_utf8 _ _ _ c.in-Ok.ensures)
 
 pub returns-in-Ok-clause-only : goal.returns-in-Ok-clause-only
 returns-in-Ok-clause-only c v utf8 reads = is_read _ _ _ _ utf8 c.in-Ok.ensures reads

@@ -11,7 +11,7 @@ use Rattle.decimal_json.proofs.values.+reader.Goals as goal
 
 pub elements_at-returns-in_err-item : goal.elements_at-returns-in_err-item
 elements_at-returns-in_err-item t c =
-    let p = err_from_is_err_and c.from_residual.result c.from_residual.ensures.1 in
+    let p = err_from_is_err_and c.from_residual-in_err-item.result c.from_residual-in_err-item.ensures.1 in
     rw (p.1, p.2) (loop.fails Json 93 (spec.value_at is_utf8 c.args.deepest) _ _ _ _ _ c.loop.invariant _ c.loop-test.true (rw c.skip.ensures at c.in_err-item.ensures))
 
 pub elements_at-returns-in_default : goal.elements_at-returns-in_default
@@ -19,7 +19,7 @@ elements_at-returns-in_default t c = none_fails _ _
     (loop.at_nothing Json 93 (spec.value_at is_utf8 c.args.deepest) _ _ _ _ _ c.loop.invariant _ _ c.loop-test.true (rw c.skip.ensures at c.in_ok-item.ensures) (sym c.skip-after.ensures ∙ c.in_default.ensures))
 
 pub elements_at-returns-then-mark-eq93 : goal.elements_at-returns-then-mark-eq93
-elements_at-returns-then-mark-eq93 t c = rw c.in_ok-push.ensures.items
+elements_at-returns-then-mark-eq93 t c = rw (c.shrink_to_fit.ensures.items, c.in_ok-push.ensures.items)
     (loop.at_end Json 93 (spec.value_at is_utf8 c.args.deepest) _ _ _ _ _ c.loop.invariant _ _ c.loop-test.true (rw c.skip.ensures at c.in_ok-item.ensures) _ _ (sym c.skip-after.ensures ∙ c.in-Some.ensures) (no_comma _ 93 refl c.if-mark-eq93.true) (eq-eqb _ _ c.if-mark-eq93.true))
 
 pub elements_at-returns-then-mark-ne44 : goal.elements_at-returns-then-mark-ne44
@@ -124,20 +124,20 @@ value_at-returns-in-116 t c = rw (opened.at_t is_utf8 c.args.deepest _ c.args.by
 pub value_at-returns-in-102 : goal.value_at-returns-in-102
 value_at-returns-in-102 t c = rw (opened.at_f is_utf8 c.args.deepest _ c.args.bytes.now _ c.in-Some.ensures c.in-102.is) c.word_at-in-102.ensures
 
-pub value_at-returns-in_ok-text-in-34 : goal.value_at-returns-in_ok-text-in-34
-value_at-returns-in_ok-text-in-34 t c = opened.text_found is_utf8 c.args.deepest _ c.args.bytes.now _ c.in-Some.ensures c.in-34.is _ _ c.in_ok-text-in-34.ensures
+pub value_at-returns-in-34 : goal.value_at-returns-in-34
+value_at-returns-in-34 t c = opened.text_found is_utf8 c.args.deepest _ c.args.bytes.now _ c.in-Some.ensures c.in-34.is _ _ c.in_ok-text-in-34.ensures
 
-pub value_at-returns-in_ok-items-in-91 : goal.value_at-returns-in_ok-items-in-91
-value_at-returns-in_ok-items-in-91 t c = rw c.of.ensures (opened.array_found is_utf8 c.args.deepest _ c.args.bytes.now _ c.in-Some.ensures c.in-91.is c.if-deepest-eq0.false _ _ c.in_ok-items-in-91.ensures)
+pub value_at-returns-in-91 : goal.value_at-returns-in-91
+value_at-returns-in-91 t c = rw c.of.ensures (opened.array_found is_utf8 c.args.deepest _ c.args.bytes.now _ c.in-Some.ensures c.in-91.is c.if-deepest-eq0.false _ _ c.in_ok-items-in-91.ensures)
 
-pub value_at-returns-in_ok-members-in-123 : goal.value_at-returns-in_ok-members-in-123
-value_at-returns-in_ok-members-in-123 t c = rw c.of-in-123.ensures (opened.object_found is_utf8 c.args.deepest _ c.args.bytes.now _ c.in-Some.ensures c.in-123.is c.if-deepest-eq0-2.false _ _ c.in_ok-members-in-123.ensures)
+pub value_at-returns-in-123 : goal.value_at-returns-in-123
+value_at-returns-in-123 t c = rw c.of-in-123.ensures (opened.object_found is_utf8 c.args.deepest _ c.args.bytes.now _ c.in-Some.ensures c.in-123.is c.if-deepest-eq0-2.false _ _ c.in_ok-members-in-123.ensures)
 
-pub value_at-returns-in_err-number-in_default-first : goal.value_at-returns-in_err-number-in_default-first
-value_at-returns-in_err-number-in_default-first t c =
-    let p = err_from_is_err_and c.from_residual-in_err-number-in_default-first.result c.from_residual-in_err-number-in_default-first.ensures.1 in
-    rw (p.1, p.2) (opened.number_fails is_utf8 c.args.deepest _ c.args.bytes.now _ c.in-Some.ensures (omega arith) (omega arith) (omega arith) (omega arith) (omega arith) (omega arith) _ c.in_err-number-in_default-first.ensures)
+pub value_at-returns-in_err-number : goal.value_at-returns-in_err-number
+value_at-returns-in_err-number t c =
+    let p = err_from_is_err_and c.from_residual-in_err-number.result c.from_residual-in_err-number.ensures.1 in
+    rw (p.1, p.2) (opened.number_fails is_utf8 c.args.deepest _ c.args.bytes.now _ c.in-Some.ensures (omega arith) (omega arith) (omega arith) (omega arith) (omega arith) (omega arith) _ c.in_err-number.ensures)
 
-pub value_at-returns-in_ok-number-in_default-first : goal.value_at-returns-in_ok-number-in_default-first
-value_at-returns-in_ok-number-in_default-first t c =
-    opened.number_found is_utf8 c.args.deepest _ c.args.bytes.now _ c.in-Some.ensures (omega arith) (omega arith) (omega arith) (omega arith) (omega arith) (omega arith) _ _ c.in_ok-number-in_default-first.ensures
+pub value_at-returns : goal.value_at-returns
+value_at-returns t c =
+    opened.number_found is_utf8 c.args.deepest _ c.args.bytes.now _ c.in-Some.ensures (omega arith) (omega arith) (omega arith) (omega arith) (omega arith) (omega arith) _ _ c.in_ok-number.ensures

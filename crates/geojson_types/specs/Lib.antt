@@ -1,0 +1,14 @@
+pub mod Areas
+pub mod Codes
+pub mod Counting
+pub mod Features
+pub mod Lists
+pub mod Nesting
+pub mod Numbers
+pub mod Omissions
+pub mod Order
+pub mod Paths
+pub mod Places
+pub mod Points
+pub mod Pruning
+pub mod Rings

@@ -1,12 +1,13 @@
 -- The turns of a loop that reads one value after another: what is still to read, put behind what was read, is
 -- what the whole list gives.
-use Rattle.std.proofs.Common.{◌≡◌, ℕ, zero, suc, ◌+◌, ◌<◌, ◌≤◌, List, [], ◌∷◌, ◌++◌, length, get_or, drop, Result, Ok, Err, refl, sym, ap, ◌∙◌, add-one, append_assoc, arith, drop-cons, append-nil}
-use Rattle.geojson_model.specs.declared.counts.Counts.{Counts}
+use Rattle.std.proofs.Common.{◌≡◌, ℕ, zero, suc, ◌+◌, ◌<◌, ◌≤◌, List, [], ◌∷◌, ◌++◌, length, get_or, drop, Option, None, Result, Ok, Err, refl, sym, ap, ◌∙◌, subst, add-one, append_assoc, arith, drop-cons, append-nil}
+use Rattle.std.specs.Prelude.{option_to_list}
+use Rattle.geojson_types.specs.declared.counts.Counts.{Counts}
 use Rattle.geojson_model.specs.declared.fault.GeoFaultKind.{GeoFaultKind}
 use Rattle.geojson_model.specs.declared.fault.Stop.{Stop}
 use Rattle.geojson_model.specs.declared.fault.Stop.TheVariants as stop
 use Rattle.geojson_model.specs.Answers.{Fails}
-use Rattle.geojson_model.specs.Reader.{Reader, and_then, ◌>>=◌, give, gather, each}
+use Rattle.geojson_model.specs.Reader.{Reader, and_then, ◌>>=◌, give, gather, each, kept}
 
 -- what is read, behind these
 abbrev pub with_front : {B : Type 0} → List B → Result (List B × Counts) GeoFaultKind → Result (List B × Counts) GeoFaultKind
@@ -58,3 +59,17 @@ module _ {A B : Type 0} (read : A → Reader B) (vs : List A) (i : ℕ) (v : A) 
   pub each_fails : (e : Stop) → Fails e (read v c) → Fails e whole
   each_fails stop.Memory r = tt
   each_fails (stop.Fault e) r = stops (λ v. read v >>= λ x. give (x ∷ [])) vs i v ys c whole lt is now e (rw r refl)
+
+-- ---- what each gives that gives something
+
+module _ {A B : Type 0} (read : A → Reader (Option B)) (vs : List A) (i : ℕ) (v : A) (ys : List B) (c : Counts) (whole : Result (List B × Counts) GeoFaultKind)
+    (lt : i < length vs) (is : v ≡ get_or vs i v) (now : with_front ys (kept read (drop i vs) c) ≡ whole) where
+  pub kept_turns : (x : Option B) (after : Counts) → read v c ≡ Ok (x, after) → with_front (ys ++ option_to_list x) (kept read (drop (i + 1) vs) after) ≡ whole
+  kept_turns x after e = turns (λ v. read v >>= λ x. give (option_to_list x)) vs i v ys c whole lt is now (option_to_list x) after (rw e refl)
+
+  pub kept_skips : (after : Counts) → read v c ≡ Ok (None, after) → with_front ys (kept read (drop (i + 1) vs) after) ≡ whole
+  kept_skips after e = subst (λ z. with_front z (kept read (drop (i + 1) vs) after) ≡ whole) (append-nil ys) (kept_turns None after e)
+
+  pub kept_fails : (e : Stop) → Fails e (read v c) → Fails e whole
+  kept_fails stop.Memory r = tt
+  kept_fails (stop.Fault e) r = stops (λ v. read v >>= λ x. give (option_to_list x)) vs i v ys c whole lt is now e (rw r refl)

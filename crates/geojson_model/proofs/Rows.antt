@@ -1,105 +1,180 @@
 -- Worked rows of the definition: small values and the layers or faults that they are.
-use Rattle.std.proofs.Common.{◌≡◌, ℕ, Bool, true, false, List, [], ◌∷◌, Some, None, Result, Ok, Err}
+use Rattle.std.proofs.Common.{◌≡◌, ℕ, Bool, true, false, List, [], ◌∷◌, Option, Some, None, Result, Ok, Err, ap}
 use Rattle.std.specs.Prelude.{codes, pos}
 use Rattle.json_value.specs.declared.json.Json.{Json}
 use Rattle.json_value.specs.declared.json.Json.TheVariants as j
+use Rattle.json_value.proofs.KindsOf.{array_of-array, object_of-object, array_kinds, object_kinds, text_kinds, number_kinds}
 use Rattle.decimal_text.specs.Scaling.{scaled_of}
-use Rattle.geojson_model.specs.declared.counts.Counts.{Counts}
+use Rattle.geojson_types.specs.declared.counts.Counts.{Counts}
 use Rattle.geojson_model.specs.declared.fault.GeoFault.{GeoFault}
 use Rattle.geojson_model.specs.declared.fault.GeoFaultKind.{GeoFaultKind}
-use Rattle.geojson_model.specs.declared.fault.GeoFaultKind.TheVariants.{NotObject, Missing, Duplicate, WrongKind, ShortPosition, ShortLine, Range, Inexact, NotYet}
-use Rattle.geojson_model.specs.declared.geometry.Geometry.TheVariants as g
+use Rattle.geojson_model.specs.declared.fault.GeoFaultKind.TheVariants.{NotObject, UnknownType, Missing, Duplicate, WrongKind, ShortPosition, ShortLine, Range, Inexact}
+use Rattle.geojson_types.specs.declared.geometry.Geometry.TheVariants as g
+use Rattle.geojson_types.specs.declared.id.Id.TheVariants as i
+use Rattle.geojson_types.specs.Features.{Featured, Shape}
 use Rattle.geojson_model.specs.Coordinates.{coordinate, elements_position, position, coordinate_places}
-use Rattle.geojson_model.specs.Features.{Featured}
-use Rattle.json_value.specs.Kinds.{array_of, object_of, text_of, number_of}
-use Rattle.geojson_model.specs.Layers.{layer, features, typed_features, bare}
-use Rattle.geojson_model.specs.Lines.{some_elements, line, line_in, line_coordinates, line_geometry}
-use Rattle.geojson_model.specs.Members.{named, need}
-use Rattle.geojson_model.specs.Points.{input_limit}
-use Rattle.geojson_model.specs.Reader.{gather}
+use Rattle.geojson_model.specs.Features.{feature, feature_element}
+use Rattle.geojson_model.specs.Geometries.{typed_geometry, geometry, shape, shapes, coordinates_shape, shape_in}
+use Rattle.geojson_model.specs.Layers.{layer, features, typed_features, bare_feature, single_feature, collection_features, features_from, bare}
+use Rattle.geojson_model.specs.Lines.{some_elements, line_in}
+use Rattle.geojson_model.specs.Members.{named, need, type_name}
+use Rattle.geojson_model.specs.Polygons.{polygon_in, ring}
+use Rattle.geojson_model.specs.Reader.{Reader, gather, kept}
+use Rattle.geojson_model.specs.Types.{geojson_type, geometry_type, coordinates_type}
+use Rattle.geojson_types.specs.Points.{input_limit}
+use Rattle.geojson_model.proofs.Unrolled.{shape_object, shapes_array}
 
--- a fault before any feature, and one in the first
-abbrev before : GeoFaultKind → Result (List Featured × Counts) GeoFault
+-- a layer, a fault before any feature, and one in a feature
+abbrev Layered : Type 0
+Layered = Result (List Featured × Counts) GeoFault
+
+abbrev before : GeoFaultKind → Layered
 before kind = Err (record { feature = None; kind = kind })
 
-abbrev first : GeoFaultKind → Result (List Featured × Counts) GeoFault
-first kind = Err (record { feature = Some 0; kind = kind })
+abbrev within_feature : ℕ → GeoFaultKind → Layered
+within_feature n kind = Err (record { feature = Some n; kind = kind })
 
-abbrev typed : Json → List ℕ × Json
-typed v = (codes "type", v)
+abbrev counted : List Featured → ℕ → ℕ → ℕ → Layered
+counted fs rounded extra empty = Ok (fs, record { rounded = rounded; extra = extra; empty = empty })
 
--- a LineString with these values as `coordinates`
-abbrev line_string : Json → Json
-line_string v = j.Object (typed (j.Text (codes "LineString")) ∷ (codes "coordinates", v) ∷ [])
+-- members, and objects of a type
+abbrev Members : Type 0
+Members = List (List ℕ × Json)
+
+abbrev typed : List ℕ → Members → Json
+typed name ms = j.Object ((codes "type", j.Text name) ∷ ms)
+
+abbrev coordinates : Json → Members
+coordinates v = (codes "coordinates", v) ∷ []
+
+-- what an array and an object are read as
+read_array : (exact : Bool) (vs : List Json) (c : Counts) → shapes exact (j.Array vs) c ≡ kept (shape exact) vs c
+read_array exact vs c = ap (λ (r : Reader (List Shape)). r c) (shapes_array exact (j.Array vs) vs (array_of-array vs))
+
+read_object : (exact : Bool) (ms : Members) (c : Counts) → shape exact (j.Object ms) c ≡ geometry exact ms c
+read_object exact ms c = ap (λ (r : Reader (Option Shape)). r c) (shape_object exact (j.Object ms) ms (object_of-object ms))
+
+ruleset read = (read_array, read_object)
+
+-- ---- the layer's own members
 
 pub row_array : (exact : Bool) → layer exact (j.Array []) ≡ before NotObject
-unfolding layer features object_of
-row_array exact = simp (j.outs-Array)
+unfolding layer features
+row_array exact = simp object_kinds
 
 pub row_untyped : (exact : Bool) → layer exact (j.Object []) ≡ before Missing
-unfolding layer features object_of need named
-row_untyped exact = simp (j.outs-Object)
+unfolding layer features type_name need named
+row_untyped exact = simp object_kinds
 
-pub row_typed_twice : (exact : Bool) (v w : Json) → layer exact (j.Object (typed v ∷ typed w ∷ [])) ≡ before Duplicate
-unfolding layer features object_of need named
-row_typed_twice exact v w = simp (j.outs-Object)
+pub row_typed_twice : (exact : Bool) (v w : Json) → layer exact (j.Object ((codes "type", v) ∷ (codes "type", w) ∷ [])) ≡ before Duplicate
+unfolding layer features type_name need named
+row_typed_twice exact v w = simp object_kinds
 
-pub row_type_kind : (exact : Bool) → layer exact (j.Object (typed j.Null ∷ [])) ≡ before WrongKind
-unfolding layer features object_of need named text_of
-row_type_kind exact = simp (j.outs-Object, j.outs-Null)
+pub row_type_kind : (exact : Bool) → layer exact (j.Object ((codes "type", j.Null) ∷ [])) ≡ before WrongKind
+unfolding layer features type_name need named
+row_type_kind exact = simp (object_kinds, text_kinds)
 
-pub row_point : (exact : Bool) → layer exact (j.Object (typed (j.Text (codes "Point")) ∷ [])) ≡ before NotYet
-unfolding layer features object_of need named text_of typed_features
-row_point exact = simp (j.outs-Object, j.outs-Text)
+pub row_circle : (exact : Bool) → layer exact (typed (codes "Circle") []) ≡ before UnknownType
+unfolding layer features type_name need named geojson_type geometry_type coordinates_type
+row_circle exact = simp (object_kinds, text_kinds)
 
-pub row_no_coordinates : (exact : Bool) → layer exact (j.Object (typed (j.Text (codes "LineString")) ∷ [])) ≡ first Missing
-unfolding layer features object_of need named text_of typed_features line_geometry
-row_no_coordinates exact = simp (j.outs-Object, j.outs-Text)
+-- ---- features
 
-pub row_empty : (exact : Bool) → layer exact (line_string (j.Array [])) ≡ Ok (bare None ∷ [], record { rounded = 0; extra = 0; empty = 1 })
-unfolding layer features object_of need named text_of typed_features line_geometry line_coordinates line some_elements array_of
-row_empty exact = simp (j.outs-Object, j.outs-Text, j.outs-Array)
+pub row_null_feature : (exact : Bool) → layer exact (typed (codes "FeatureCollection") ((codes "features", j.Array (typed (codes "Feature") [] ∷ [])) ∷ [])) ≡ counted (bare None ∷ []) 0 0 0
+unfolding layer features type_name need named geojson_type typed_features collection_features features_from feature_element feature
+row_null_feature exact = simp (object_kinds, text_kinds, array_kinds)
 
-pub row_short_position : (exact : Bool) (v : Json) → layer exact (line_string (j.Array (j.Array (v ∷ []) ∷ []))) ≡ first ShortPosition
-unfolding layer features object_of need named text_of typed_features line_geometry line_coordinates line some_elements array_of line_in gather position elements_position
-row_short_position exact v = simp (j.outs-Object, j.outs-Text, j.outs-Array)
+-- the second feature's properties come before its geometry
+pub row_second : (exact : Bool) (v : Json) → layer exact (typed (codes "FeatureCollection") ((
+  codes "features",
+  j.Array (
+      typed (codes "Feature") []
+      ∷ typed (codes "Feature") ((codes "geometry", v) ∷ (codes "properties", j.Bool true) ∷ []) ∷ []),
+) ∷ [])) ≡ within_feature 1 WrongKind
+unfolding layer features type_name need named geojson_type typed_features collection_features features_from feature_element feature
+row_second exact v = simp (object_kinds, text_kinds, array_kinds, j.outs-Bool)
 
-pub row_position_kind : (exact : Bool) (v : Json) → layer exact (line_string (j.Array (j.Array (j.Text (codes "0") ∷ v ∷ []) ∷ []))) ≡ first WrongKind
-unfolding layer features object_of need named text_of typed_features line_geometry line_coordinates line some_elements array_of line_in gather position elements_position coordinate number_of
-row_position_kind exact v = simp (j.outs-Object, j.outs-Text, j.outs-Array)
+-- an identifier stays the text that it is, and members stay as they are, duplicates too
+pub row_kept : (exact : Bool) (v w : Json) → layer exact (typed (codes "Feature") ((codes "id", j.Text (codes "007")) ∷ (codes "properties", j.Object ((codes "b", v) ∷ (codes "b", w) ∷ [])) ∷ []))
+    ≡ counted (record { id = Some (i.Text (codes "007")); properties = Some ((codes "b", v) ∷ (codes "b", w) ∷ []); shape = None } ∷ []) 0 0 0
+unfolding layer features type_name need named geojson_type typed_features single_feature feature
+row_kept exact v w = simp (object_kinds, text_kinds, j.outs-Text, j.outs-Object)
+
+-- ---- geometries
+
+pub row_no_coordinates : (exact : Bool) → layer exact (typed (codes "Point") []) ≡ within_feature 0 Missing
+unfolding layer features type_name need named geojson_type geometry_type coordinates_type typed_features bare_feature typed_geometry
+row_no_coordinates exact = simp (object_kinds, text_kinds)
+
+pub row_empty : (exact : Bool) → layer exact (typed (codes "LineString") (coordinates (j.Array []))) ≡ counted (bare None ∷ []) 0 0 1
+unfolding layer features type_name need named geojson_type geometry_type coordinates_type typed_features bare_feature typed_geometry coordinates_shape some_elements
+row_empty exact = simp (object_kinds, text_kinds, array_kinds)
+
+-- a polygon whose outer ring is an empty array is left out
+pub row_no_outer : (exact : Bool) → layer exact (typed (codes "Polygon") (coordinates (j.Array (j.Array [] ∷ [])))) ≡ counted (bare None ∷ []) 0 0 1
+unfolding layer features type_name need named geojson_type geometry_type coordinates_type typed_features bare_feature typed_geometry coordinates_shape some_elements shape_in polygon_in ring gather
+row_no_outer exact = simp (object_kinds, text_kinds, array_kinds)
+
+-- after its other rings were read
+pub row_faulty_inner : (exact : Bool) → layer exact (typed (codes "Polygon") (coordinates (j.Array (j.Array [] ∷ j.Null ∷ [])))) ≡ within_feature 0 WrongKind
+unfolding layer features type_name need named geojson_type geometry_type coordinates_type typed_features bare_feature typed_geometry coordinates_shape some_elements shape_in polygon_in ring gather
+row_faulty_inner exact = simp (object_kinds, text_kinds, array_kinds)
+
+-- ---- collections
+
+abbrev collection : List Json → Json
+collection vs = typed (codes "GeometryCollection") ((codes "geometries", j.Array vs) ∷ [])
+
+-- an empty collection is no null geometry, and isn't counted
+pub row_nested : (exact : Bool) → layer exact (collection (collection [] ∷ [])) ≡ counted (bare (Some (g.Group (g.Group [] ∷ []))) ∷ []) 0 0 0
+unfolding layer features type_name need named geojson_type geometry_type coordinates_type typed_features bare_feature typed_geometry geometry gather
+row_nested exact = simp (object_kinds, text_kinds, read)
+
+-- a null geometry is left out of its collection
+pub row_empty_inside : (exact : Bool) → layer exact (collection (typed (codes "Point") (coordinates (j.Array [])) ∷ [])) ≡ counted (bare (Some (g.Group [])) ∷ []) 0 0 1
+unfolding layer features type_name need named geojson_type geometry_type coordinates_type typed_features bare_feature typed_geometry geometry gather coordinates_shape some_elements
+row_empty_inside exact = simp (object_kinds, text_kinds, array_kinds, read)
+
+-- ---- positions
+
+pub row_short_position : (exact : Bool) (v : Json) → layer exact (typed (codes "LineString") (coordinates (j.Array (j.Array (v ∷ []) ∷ [])))) ≡ within_feature 0 ShortPosition
+unfolding layer features type_name need named geojson_type geometry_type coordinates_type typed_features bare_feature typed_geometry coordinates_shape some_elements shape_in line_in gather position elements_position
+row_short_position exact v = simp (object_kinds, text_kinds, array_kinds)
 
 -- numbers by their texts, of which the value is given
 module _ (zero_is : scaled_of coordinate_places input_limit (codes "0") ≡ Ok (record { value = pos 0; exact = true })) where
   abbrev zero : Json
   zero = j.Number (codes "0")
 
-  pub row_short_line : (exact : Bool) → layer exact (line_string (j.Array (j.Array (zero ∷ zero ∷ []) ∷ []))) ≡ first ShortLine
-  unfolding layer features object_of need named text_of typed_features line_geometry line_coordinates line some_elements array_of line_in gather position elements_position coordinate number_of
-  row_short_line true = simp (j.outs-Object, j.outs-Text, j.outs-Array, j.outs-Number, zero_is)
-  row_short_line false = simp (j.outs-Object, j.outs-Text, j.outs-Array, j.outs-Number, zero_is)
+  abbrev line_string : List Json → Json
+  line_string vs = typed (codes "LineString") (coordinates (j.Array vs))
+
+  pub row_short_line : (exact : Bool) → layer exact (line_string (j.Array (zero ∷ zero ∷ []) ∷ [])) ≡ within_feature 0 ShortLine
+  unfolding layer features type_name need named geojson_type geometry_type coordinates_type typed_features bare_feature typed_geometry coordinates_shape some_elements shape_in line_in gather position elements_position coordinate
+  row_short_line true = simp (object_kinds, text_kinds, array_kinds, number_kinds, zero_is)
+  row_short_line false = simp (object_kinds, text_kinds, array_kinds, number_kinds, zero_is)
 
   -- a third element is counted once and not looked at
-  pub row_extra : (v : Json) → layer true (line_string (j.Array (j.Array (zero ∷ zero ∷ v ∷ v ∷ []) ∷ j.Array (zero ∷ zero ∷ []) ∷ [])))
-      ≡ Ok (bare (Some (g.Line (record { x = pos 0; y = pos 0 } ∷ record { x = pos 0; y = pos 0 } ∷ []))) ∷ [], record { rounded = 0; extra = 1; empty = 0 })
-  unfolding layer features object_of need named text_of typed_features line_geometry line_coordinates line some_elements array_of line_in gather position elements_position coordinate number_of
-  row_extra v = simp (j.outs-Object, j.outs-Text, j.outs-Array, j.outs-Number, zero_is)
+  pub row_extra : (v : Json) → layer true (line_string (j.Array (zero ∷ zero ∷ v ∷ v ∷ []) ∷ j.Array (zero ∷ zero ∷ []) ∷ []))
+      ≡ counted (bare (Some (g.Line (record { x = pos 0; y = pos 0 } ∷ record { x = pos 0; y = pos 0 } ∷ []))) ∷ []) 0 1 0
+  unfolding layer features type_name need named geojson_type geometry_type coordinates_type typed_features bare_feature typed_geometry coordinates_shape some_elements shape_in line_in gather position elements_position coordinate
+  row_extra v = simp (object_kinds, text_kinds, array_kinds, number_kinds, zero_is)
 
   -- the range of x comes before the kind of y
   pub row_range_first : scaled_of coordinate_places input_limit (codes "1e30") ≡ Err (record {})
-      → (exact : Bool) → layer exact (line_string (j.Array (j.Array (j.Number (codes "1e30") ∷ j.Text (codes "y") ∷ []) ∷ []))) ≡ first Range
-  unfolding layer features object_of need named text_of typed_features line_geometry line_coordinates line some_elements array_of line_in gather position elements_position coordinate number_of
-  row_range_first far exact = simp (j.outs-Object, j.outs-Text, j.outs-Array, j.outs-Number, far)
+      → (exact : Bool) → layer exact (line_string (j.Array (j.Number (codes "1e30") ∷ j.Text (codes "y") ∷ []) ∷ [])) ≡ within_feature 0 Range
+  unfolding layer features type_name need named geojson_type geometry_type coordinates_type typed_features bare_feature typed_geometry coordinates_shape some_elements shape_in line_in gather position elements_position coordinate
+  row_range_first far exact = simp (object_kinds, text_kinds, array_kinds, number_kinds, far)
 
   -- half a unit is rounded up and counted, or refused
   module _ (half_is : scaled_of coordinate_places input_limit (codes "0.00000005") ≡ Ok (record { value = pos 1; exact = false })) where
-    abbrev halves : Json
-    halves = line_string (j.Array (j.Array (j.Number (codes "0.00000005") ∷ zero ∷ []) ∷ j.Array (zero ∷ zero ∷ []) ∷ []))
+    abbrev half_point : Json
+    half_point = typed (codes "Point") (coordinates (j.Array (j.Number (codes "0.00000005") ∷ zero ∷ [])))
 
-    pub row_inexact : layer true halves ≡ first Inexact
-    unfolding layer features object_of need named text_of typed_features line_geometry line_coordinates line some_elements array_of line_in gather position elements_position coordinate number_of
-    row_inexact = simp (j.outs-Object, j.outs-Text, j.outs-Array, j.outs-Number, half_is)
+    pub row_inexact : layer true half_point ≡ within_feature 0 Inexact
+    unfolding layer features type_name need named geojson_type geometry_type coordinates_type typed_features bare_feature typed_geometry coordinates_shape some_elements shape_in elements_position coordinate
+    row_inexact = simp (object_kinds, text_kinds, array_kinds, number_kinds, half_is)
 
-    pub row_rounded : layer false halves
-        ≡ Ok (bare (Some (g.Line (record { x = pos 1; y = pos 0 } ∷ record { x = pos 0; y = pos 0 } ∷ []))) ∷ [], record { rounded = 1; extra = 0; empty = 0 })
-    unfolding layer features object_of need named text_of typed_features line_geometry line_coordinates line some_elements array_of line_in gather position elements_position coordinate number_of
-    row_rounded = simp (j.outs-Object, j.outs-Text, j.outs-Array, j.outs-Number, half_is, zero_is)
+    pub row_rounded : layer false half_point ≡ counted (bare (Some (g.Point (record { x = pos 1; y = pos 0 }))) ∷ []) 1 0 0
+    unfolding layer features type_name need named geojson_type geometry_type coordinates_type typed_features bare_feature typed_geometry coordinates_shape some_elements shape_in elements_position coordinate
+    row_rounded = simp (object_kinds, text_kinds, array_kinds, number_kinds, half_is, zero_is)

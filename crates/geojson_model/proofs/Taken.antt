@@ -1,6 +1,6 @@
 -- Opening a reader that gave something.
 use Rattle.std.proofs.Common.{◌≡◌, ℕ, Option, Result, Ok, Err, refl, ap}
-use Rattle.geojson_model.specs.declared.counts.Counts.{Counts}
+use Rattle.geojson_types.specs.declared.counts.Counts.{Counts}
 use Rattle.geojson_model.specs.declared.fault.GeoFaultKind.{GeoFaultKind}
 use Rattle.geojson_model.specs.Reader.{Counting, and_then, located}
 

@@ -1,6 +1,6 @@
 -- How what a function answers relates to what a definition gives. Want of memory leaves it open.
 use Rattle.std.specs.Prelude.{◌≡◌, ◌≢◌, ℕ, Option, Result, Ok, Err}
-use Rattle.geojson_model.specs.declared.counts.Counts.{Counts}
+use Rattle.geojson_types.specs.declared.counts.Counts.{Counts}
 use Rattle.geojson_model.specs.declared.fault.GeoFault.{GeoFault}
 use Rattle.geojson_model.specs.declared.fault.GeoFaultKind.{GeoFaultKind}
 use Rattle.geojson_model.specs.declared.fault.GeoFaultKind.TheVariants as kind

@@ -5,9 +5,9 @@ use Rattle.decimal_text.specs.declared.num_text.Scaled.{Scaled}
 use Rattle.decimal_text.specs.declared.num_text.Range.{Range as OutOfRange}
 use Rattle.decimal_text.specs.Scaling.{scaled_of}
 use Rattle.geojson_model.specs.declared.fault.GeoFaultKind.TheVariants.{WrongKind, ShortPosition, Range, Inexact}
-use Rattle.geojson_model.specs.Counting.{count_rounded, count_extra}
+use Rattle.geojson_types.specs.Counting.{count_rounded, count_extra}
 use Rattle.json_value.specs.Kinds.{array_of, number_of}
-use Rattle.geojson_model.specs.Points.{Point, input_limit}
+use Rattle.geojson_types.specs.Points.{Point, input_limit}
 use Rattle.geojson_model.specs.Reader.{Reader, ◌>>=◌, fail}
 
 -- the decimal places of a unit

@@ -1,7 +1,7 @@
 -- How faults are printed.
 use Rattle.std.specs.Prelude.{ℕ, List, codes}
 use Rattle.geojson_model.specs.declared.fault.GeoFaultKind.{GeoFaultKind}
-use Rattle.geojson_model.specs.declared.fault.GeoFaultKind.TheVariants.{NotObject, UnknownType, Missing, Duplicate, WrongKind, ShortPosition, ShortLine, ShortRing, OpenRing, Range, Inexact, Memory, NotYet}
+use Rattle.geojson_model.specs.declared.fault.GeoFaultKind.TheVariants.{NotObject, UnknownType, Missing, Duplicate, WrongKind, ShortPosition, ShortLine, ShortRing, OpenRing, Range, Inexact, Memory}
 
 -- the short code of a kind of fault
 unfoldable pub code : GeoFaultKind → List ℕ
@@ -17,7 +17,6 @@ code OpenRing = codes "G9"
 code Range = codes "G10"
 code Inexact = codes "G11"
 code Memory = codes "G12"
-code NotYet = codes "G13"
 
 -- the name of a kind of fault
 unfoldable pub name : GeoFaultKind → List ℕ
@@ -33,4 +32,3 @@ name OpenRing = codes "OpenRing"
 name Range = codes "Range"
 name Inexact = codes "Inexact"
 name Memory = codes "Memory"
-name NotYet = codes "NotYet"

@@ -1,51 +1,56 @@
--- What contracts see of a feature (RFC 7946, section 3.2), and which shapes a feature may have.
-use Rattle.std.specs.Prelude.{ℕ, Bool, true, false, ◌&&◌, nat_le, List, [], ◌∷◌, length, Option, Some, None}
-use Rattle.std.specs.List.{list_all}
+-- The feature that a JSON value stands for (RFC 7946, section 3.2), or the first fault.
+use Rattle.std.specs.Prelude.{ℕ, Bool, List, Option, Some, None, Result, Ok, Err, codes, bytes_eq, if◌then◌else◌}
 use Rattle.json_value.specs.declared.json.Json.{Json}
-use Rattle.geojson_model.specs.Points.{Point}
-use Rattle.geojson_model.specs.declared.id.Id.{Id}
-use Rattle.geojson_model.specs.declared.geometry.Geometry.{Geometry, fold-Geometry}
-use Rattle.geojson_model.specs.declared.geometry.Geometry.TheOpen.{Geometry-F}
+use Rattle.json_value.specs.declared.json.Json.TheViews.{out-Json}
+use Rattle.json_value.specs.declared.json.Json.TheOpen.{Json-F}
+use Rattle.geojson_types.specs.declared.id.Id.{Id}
+use Rattle.geojson_types.specs.declared.id.Id.TheVariants as id
+use Rattle.geojson_model.specs.declared.fault.GeoFaultKind.{GeoFaultKind}
+use Rattle.geojson_model.specs.declared.fault.GeoFaultKind.TheVariants.{NotObject, UnknownType, WrongKind}
+use Rattle.geojson_types.specs.Features.{Featured}
+use Rattle.geojson_model.specs.Geometries.{geometry}
+use Rattle.json_value.specs.Kinds.{object_of}
+use Rattle.geojson_model.specs.Members.{find, type_name}
+use Rattle.geojson_model.specs.Reader.{Reader, ◌>>=◌, give, fail, pure, or_fail, if_some}
 
--- a geometry over positions, where a line and a ring are the list of theirs
-abbrev pub Shape : Type 0
-Shape = Geometry Point (List Point) (List Point)
+-- an identifier is a text or a number; null is none
+abbrev pub identifier_in : Json-F Json → Result (Option Id) GeoFaultKind
+identifier_in Json-F.Null = Ok None
+identifier_in (Json-F.Text t) = Ok (Some (id.Text t))
+identifier_in (Json-F.Number t) = Ok (Some (id.Number t))
+identifier_in _ = Err WrongKind
 
--- an identifier or none, the members of the properties or null, and a shape or null
-pub record Featured : Type 0 where
-  pub id : Option Id
-  pub properties : Option (List (List ℕ × Json))
-  pub shape : Option Shape
+-- the identifier that the member `id` gives, if it is there
+abbrev pub identifier : Option Json → Result (Option Id) GeoFaultKind
+identifier None = Ok None
+identifier (Some v) = identifier_in (out-Json v)
 
--- there is an element
-abbrev pub is_some_list : {A : Type 0} → List A → Bool
-is_some_list [] = false
-is_some_list (x ∷ xs) = true
+-- the members of an object; null has none
+abbrev pub members_in : Json-F Json → Result (Option (List (List ℕ × Json))) GeoFaultKind
+members_in Json-F.Null = Ok None
+members_in (Json-F.Object ms) = Ok (Some ms)
+members_in _ = Err WrongKind
 
--- two positions or more
-abbrev pub is_line : List Point → Bool
-is_line ps = nat_le 2 (length ps)
+-- the members of the object that a member is, if it is there
+abbrev pub members_if : Option Json → Result (Option (List (List ℕ × Json))) GeoFaultKind
+members_if None = Ok None
+members_if (Some v) = members_in (out-Json v)
 
--- the same of a line that may be absent
-abbrev pub is_line_option : Option (List Point) → Bool
-is_line_option None = true
-is_line_option (Some ps) = is_line ps
+-- the feature with these members
+unfoldable pub feature : Bool → List (List ℕ × Json) → Reader Featured
+feature exact ms = do
+  i ← pure (find (codes "id") ms)
+  id ← pure (identifier i)
+  p ← pure (find (codes "properties") ms)
+  properties ← pure (members_if p)
+  o ← pure (find (codes "geometry") ms)
+  object ← pure (members_if o)
+  shape ← if_some (geometry exact) object
+  give (record { id = id; properties = properties; shape = shape })
 
--- one level, with the answers for the shapes of a group in their place
-abbrev pub proper_step : Geometry-F Point (List Point) (List Point) Bool → Bool
-proper_step (Geometry-F.Point p) = true
-proper_step (Geometry-F.MultiPoint ps) = is_some_list ps
-proper_step (Geometry-F.Line ps) = is_line ps
-proper_step (Geometry-F.Lines ls) = is_some_list ls && list_all is_line ls
-proper_step (Geometry-F.Area rs) = is_some_list rs
-proper_step (Geometry-F.Areas rss) = is_some_list rss && list_all is_some_list rss
-proper_step (Geometry-F.Group bs) = list_all (λ b. b) bs
-
--- no list is empty but a Group's, and each line has two positions or more
-unfoldable pub is_proper : Shape → Bool
-is_proper = fold-Geometry Point (List Point) (List Point) Bool proper_step
-
--- the same of a shape that may be null
-abbrev pub is_proper_option : Option Shape → Bool
-is_proper_option None = true
-is_proper_option (Some s) = is_proper s
+-- the feature that an element of `features` is: an object whose type is Feature
+unfoldable pub feature_element : Bool → Json → Reader Featured
+feature_element exact v = do
+  ms ← pure (or_fail NotObject (object_of v))
+  name ← pure (type_name ms)
+  if bytes_eq name (codes "Feature") then feature exact ms else fail UnknownType

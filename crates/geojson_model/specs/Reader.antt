@@ -1,6 +1,6 @@
 -- Readers: from the counts so far to what is read beside the counts after it, or to the first fault.
-use Rattle.std.specs.Prelude.{ℕ, List, [], ◌∷◌, ◌++◌, Option, None, Some, Result, Ok, Err}
-use Rattle.geojson_model.specs.declared.counts.Counts.{Counts}
+use Rattle.std.specs.Prelude.{ℕ, List, [], ◌∷◌, ◌++◌, Option, None, Some, Result, Ok, Err, option_to_list}
+use Rattle.geojson_types.specs.declared.counts.Counts.{Counts}
 use Rattle.geojson_model.specs.declared.fault.GeoFault.{GeoFault}
 use Rattle.geojson_model.specs.declared.fault.GeoFaultKind.{GeoFaultKind}
 
@@ -64,3 +64,12 @@ gather read (v ∷ vs) = do
 -- what each gives, in order
 abbrev pub each : {A B : Type 0} → (A → Reader B) → List A → Reader (List B)
 each read = gather (λ v. do x ← read v; give (x ∷ []))
+
+-- nothing stays nothing
+abbrev pub if_some : {A B : Type 0} → (A → Reader (Option B)) → Option A → Reader (Option B)
+if_some read None = give None
+if_some read (Some x) = read x
+
+-- what each gives, in order, without those that give nothing
+abbrev pub kept : {A B : Type 0} → (A → Reader (Option B)) → List A → Reader (List B)
+kept read = gather (λ v. do x ← read v; give (option_to_list x))

@@ -1,14 +1,12 @@
 // Reading positions.
 ghost use Rattle.std.specs.Prelude.{◌≡◌, ◌≤◌, IfOk, unsigned_abs};
-ghost use Rattle.std.specs.List.{All};
 ghost use Rattle.geojson_model.specs.Answers.{Gives};
 ghost use Rattle.geojson_model.specs.Coordinates as spec;
-ghost use Rattle.geojson_model.specs.Points.{IsInput, input_limit};
+ghost use Rattle.geojson_types.specs.Points.{input_limit};
 ghost use Rattle.geojson_model.specs.Reader.{each};
 
-use crate::counts::Counts;
 use crate::fault::{GeoFaultKind, Stop};
-use crate::position::{INPUT_LIMIT, Position};
+use geojson_types::{Counts, INPUT_LIMIT, Position};
 use json_value::Json;
 use std::alloc::Global;
 
@@ -38,9 +36,12 @@ fn coordinate(value: &Json, exact: bool, counts: &mut Counts) -> Result<i64, Sto
 
 /// The position with these elements. Those behind the second are not looked at.
 #[tactic(auto, unfolding(crate::specs::Coordinates::elements_position))]
-fn elements_position(elements: &[Json], exact: bool, counts: &mut Counts) -> Result<Position, Stop>
-    ensures position { Gives (λ p. p) result counts.new (spec.elements_position exact elements.now counts.old) }
-    ensures input { IfOk result IsInput }
+pub(crate) fn elements_position(
+    elements: &[Json],
+    exact: bool,
+    counts: &mut Counts,
+) -> Result<Position, Stop>
+    ensures { Gives (λ p. p) result counts.new (spec.elements_position exact elements.now counts.old) }
 {
     match elements {
         [] => Err(Stop::Fault(GeoFaultKind::ShortPosition)),
@@ -57,8 +58,7 @@ fn elements_position(elements: &[Json], exact: bool, counts: &mut Counts) -> Res
 /// A position.
 #[tactic(auto, unfolding(crate::specs::Coordinates::position))]
 fn position(value: &Json, exact: bool, counts: &mut Counts) -> Result<Position, Stop>
-    ensures position { Gives (λ p. p) result counts.new (spec.position exact value.now counts.old) }
-    ensures input { IfOk result IsInput }
+    ensures { Gives (λ p. p) result counts.new (spec.position exact value.now counts.old) }
 {
     match value.as_array() {
         None => Err(Stop::Fault(GeoFaultKind::WrongKind)),
@@ -73,8 +73,7 @@ pub(crate) fn positions(
     exact: bool,
     counts: &mut Counts,
 ) -> Result<Vec<Position>, Stop>
-    ensures positions { Gives (λ ps. ps.items) result counts.new (each (spec.position exact) values.now counts.old) }
-    ensures inputs { IfOk result (λ ps. All IsInput ps.items) }
+    ensures { Gives (λ ps. ps.items) result counts.new (each (spec.position exact) values.now counts.old) }
 {
     let mut read = Vec::new(alloc);
     'values: for value in values {

@@ -44,9 +44,6 @@ pub enum GeoFaultKind {
     /// An allocation was refused.
     #[error("Memory")]
     Memory,
-    /// The type is known to RFC 7946 but isn't read yet.
-    #[error("NotYet")]
-    NotYet,
 }
 
 impl GeoFaultKind {
@@ -68,7 +65,6 @@ impl GeoFaultKind {
             GeoFaultKind::Range => "G10",
             GeoFaultKind::Inexact => "G11",
             GeoFaultKind::Memory => "G12",
-            GeoFaultKind::NotYet => "G13",
         }
     }
 
@@ -90,13 +86,13 @@ impl GeoFaultKind {
             GeoFaultKind::Range => "Range",
             GeoFaultKind::Inexact => "Inexact",
             GeoFaultKind::Memory => "Memory",
-            GeoFaultKind::NotYet => "NotYet",
         }
     }
 }
 
 /// Why a value is no layer, and the number of the feature, from zero, that the fault is in. A fault before any
-/// feature begins has no number.
+/// feature begins has no number. Of a refused allocation the number says nothing: it may be that of the feature
+/// that was being read, or absent.
 #[derive(Clone, Copy, Debug, Error, PartialEq, Eq)]
 #[error("{kind}")]
 pub struct GeoFault {

@@ -1,32 +1,34 @@
-//! GeoJSON layers (RFC 7946): the types of positions, geometries and features, and the reader that makes a
-//! layer of a JSON value. It stands on `json_value` for the values and on `decimal_text` for coordinates.
-//! The layer above uses the contract of `read_layer`: what it answers is what the definition `layer` of
-//! `specs/Layers.antt` gives. A bare LineString alone is read yet; any other type is answered `NotYet`.
+//! GeoJSON layers (RFC 7946): the reader that makes a layer of a JSON value. It stands on `geojson_types` for what
+//! layers are made of, which it passes on with the writer of `geojson_writer`, on `json_value` for the values and on
+//! `decimal_text` for coordinates. The layer above uses the contract of `read_layer`: what it answers is what the
+//! definition `layer` of `specs/Layers.antt` gives.
 #![tactic(auto)]
 
 mod coordinates;
-mod counts;
 mod fault;
-mod feature;
-mod geometry;
-mod id;
+#[cfg(test)]
+mod fault_tests;
+mod features;
+mod geometries;
 mod laws;
-mod layer;
 mod lines;
 mod members;
-mod position;
+mod polygons;
 mod reading;
-mod ring;
+mod slots;
+#[cfg(test)]
+mod test_values;
 #[cfg(test)]
 mod tests;
+mod types;
 
-pub use counts::Counts;
 pub use fault::{GeoFault, GeoFaultKind};
-pub use feature::Feature;
-pub use geometry::{Geometry, Shape};
-pub use id::Id;
-pub use laws::exact_is_stricter;
-pub use layer::{FeatureSet, Layer};
-pub use position::{INPUT_LIMIT, POSITION_LIMIT, Position};
+pub use geojson_types::{
+    Address, Cause, Counts, Dropped, Feature, FeatureSet, Geometry, INPUT_LIMIT, Id, Layer,
+    POSITION_LIMIT, Position, Ring, Shape, is_closed,
+};
+pub use geojson_writer::{features_text_spells_value, put_features, write_features};
+pub use laws::{
+    exact_is_stricter, inputs_alone, nothing_deeper, numbers_stay, rings_close, shapes_are_proper,
+};
 pub use reading::read_layer;
-pub use ring::{Ring, is_closed};

@@ -34,3 +34,14 @@ pub(crate) fn need<'a>(members: &'a [(OwnText, Json)], name: &str) -> Result<&'a
         Some(value) => Ok(value),
     }
 }
+
+/// The name of the type of an object with these members.
+#[tactic(auto, unfolding(crate::specs::Members::type_name))]
+pub(crate) fn type_name(members: &[(OwnText, Json)]) -> Result<&str, Stop>
+    ensures { Finds (λ t. t.now) result (spec.type_name members.now) }
+{
+    match need(members, "type")?.as_text() {
+        None => Err(Stop::Fault(GeoFaultKind::WrongKind)),
+        Some(name) => Ok(name),
+    }
+}

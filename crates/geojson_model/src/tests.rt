@@ -1,168 +1,208 @@
-// Worked layers: a value of each fault, in the order in which they are found, and what is counted.
-use crate::counts::Counts;
-use crate::fault::{GeoFault, GeoFaultKind};
-use crate::geometry::{Geometry, Shape};
-use crate::position::Position;
+// Layers that are read: their values, what is counted, and the printed names of faults.
+use crate::fault::GeoFaultKind;
 use crate::reading::read_layer;
-use json_value::{Items, Json, NumText, OwnText};
+use crate::test_values::{
+    Made, empty_object, feature, features, group, lines, one, row, rows, shape, two, typed, with,
+    word,
+};
+use geojson_types::{Counts, Feature, Geometry, Id, Position, Shape};
+use json_value::Json;
 use std::alloc::Global;
 use std::test::Fail;
 
-fn text(alloc: Global, text: &str) -> Result<OwnText, Fail> {
-    Ok(OwnText::of(String::from_str(alloc, text)?))
+const RING: &[&[&str]] = &[&["0", "0"], &["1", "2"], &["1", "1"], &["0", "0"]];
+
+/// The features of a layer, beside how many coordinates were rounded, positions cut and empty arrays left out.
+fn read(alloc: Global, value: Made, exact: bool) -> Result<(Vec<Feature>, [u64; 3]), Fail> {
+    let value = value.ok_or("no value")?;
+    let (layer, counts) = read_layer(alloc, value, exact)?;
+    let Counts {
+        rounded,
+        extra,
+        empty,
+    } = counts;
+    Ok((layer.features.into_inner(), [rounded, extra, empty]))
 }
 
-/// A number by its text, or else a text.
-fn scalar(alloc: Global, written: &str) -> Result<Json, Fail> {
-    match NumText::read(alloc, written)? {
-        Some(number) => Ok(Json::Number(number)),
-        None => Ok(Json::Text(text(alloc, written)?)),
-    }
-}
-
-/// The array of positions with these coordinates.
-fn positions(alloc: Global, rows: &[&[&str]]) -> Result<Json, Fail> {
-    let mut read = Vec::new(alloc);
-    for row in rows {
-        let mut elements = Vec::new(alloc);
-        for written in *row {
-            elements.push(scalar(alloc, written)?)?;
-        }
-        read.push(Json::Array(Items::of(elements)))?;
-    }
-    Ok(Json::Array(Items::of(read)))
-}
-
-fn member(alloc: Global, name: &str, value: Json) -> Result<(OwnText, Json), Fail> {
-    Ok((text(alloc, name)?, value))
-}
-
-/// The object with this type and these positions as `coordinates`.
-fn object(alloc: Global, name: &str, rows: &[&[&str]]) -> Result<Vec<(OwnText, Json)>, Fail> {
-    let mut members = Vec::new(alloc);
-    members.push(member(alloc, "type", Json::Text(text(alloc, name)?))?)?;
-    members.push(member(alloc, "coordinates", positions(alloc, rows)?)?)?;
-    Ok(members)
-}
-
-fn line_string(alloc: Global, rows: &[&[&str]]) -> Result<Json, Fail> {
-    Ok(Json::Object(Items::of(object(alloc, "LineString", rows)?)))
+/// The properties `{"b":1.50,"a":1e2,"b":null}`.
+fn odd_properties(alloc: Global) -> Made {
+    let first = with(alloc, empty_object(alloc), "b", word(alloc, "1.50"));
+    let second = with(alloc, first, "a", word(alloc, "1e2"));
+    with(alloc, second, "b", Some(Json::Null))
 }
 
 #[test]
-fn refuses_before_a_feature(rt: HostRuntime) -> Result<(), Fail> {
+fn keeps_identifier_and_properties(rt: HostRuntime) -> Result<(), Fail> {
     let alloc = rt.alloc();
-    let none = Json::Array(Items::of(Vec::new(alloc)));
-    let untyped = Json::Object(Items::of(Vec::new(alloc)));
-    let mut twice = object(alloc, "LineString", &[])?;
-    twice.push(member(alloc, "type", Json::Null)?)?;
-    let mut null = Vec::new(alloc);
-    null.push(member(alloc, "type", Json::Null)?)?;
-    let point = object(alloc, "Point", &[])?;
-    for (value, kind) in vec![in alloc;
-        (none, GeoFaultKind::NotObject),
-        (untyped, GeoFaultKind::Missing),
-        (Json::Object(Items::of(twice)), GeoFaultKind::Duplicate),
-        (Json::Object(Items::of(null)), GeoFaultKind::WrongKind),
-        (Json::Object(Items::of(point)), GeoFaultKind::NotYet),
-    ]? {
-        let fault = GeoFault {
-            feature: None,
-            kind,
-        };
-        assert_eq!(rt; read_layer(alloc, value, false).err(), Some(fault));
-    }
-    Ok(())
-}
-
-#[test]
-fn refuses_coordinates(rt: HostRuntime) -> Result<(), Fail> {
-    let alloc = rt.alloc();
-    let cases: [(&[&[&str]], GeoFaultKind); 8] = [
-        (&[&["0", "0"]], GeoFaultKind::ShortLine),
-        (&[&["1"], &["0", "0"]], GeoFaultKind::ShortPosition),
-        (&[&["zero", "0"], &["1", "1"]], GeoFaultKind::WrongKind),
-        (
-            &[&["100000000.0000001", "0"], &["1", "1"]],
-            GeoFaultKind::Range,
-        ),
-        (&[&["0.00000005", "0"], &["1", "1"]], GeoFaultKind::Inexact),
-        (&[&["x", "1e30"], &["0", "0"]], GeoFaultKind::WrongKind),
-        (&[&["1e30", "y"], &["0", "0"]], GeoFaultKind::Range),
-        (&[&["0", "0.00000005"], &["1e30"]], GeoFaultKind::Inexact),
-    ];
-    for (rows, kind) in cases {
-        let fault = GeoFault {
-            feature: Some(0),
-            kind,
-        };
-        assert_eq!(rt;
-            read_layer(alloc, line_string(alloc, rows)?, true).err(),
-            Some(fault)
-        );
-    }
-    let mut twice = object(alloc, "LineString", &[&["0", "0"], &["1", "1"]])?;
-    twice.push(member(alloc, "coordinates", Json::Null)?)?;
-    let fault = GeoFault {
-        feature: Some(0),
-        kind: GeoFaultKind::Duplicate,
-    };
-    let twice = Json::Object(Items::of(twice));
-    assert_eq!(rt; read_layer(alloc, twice, false).err(), Some(fault));
-    Ok(())
-}
-
-#[test]
-fn counts_what_it_takes(rt: HostRuntime) -> Result<(), Fail> {
-    let alloc = rt.alloc();
-    let cases: [(&[&[&str]], bool, [u64; 3]); 5] = [
-        (&[], true, [0, 0, 1]),
-        (&[&["0", "0"], &["1.5", "0.25"]], true, [0, 0, 0]),
-        (&[&["0.00000005", "0"], &["1", "1"]], false, [1, 0, 0]),
-        (&[&["1e-9", "1e-9"], &["1", "1e-9"]], false, [3, 0, 0]),
-        (&[&["0", "0", "x", "9"], &["1", "1"]], true, [0, 1, 0]),
-    ];
-    for (rows, exact, [rounded, extra, empty]) in cases {
-        let (layer, counts) = read_layer(alloc, line_string(alloc, rows)?, exact)?;
-        let wanted = Counts {
-            rounded,
-            extra,
-            empty,
-        };
-        assert_eq!(rt; counts, wanted);
-        assert_eq!(rt; layer.features.as_slice().len(), 1);
-    }
-    Ok(())
-}
-
-#[test]
-fn gives_the_positions(rt: HostRuntime) -> Result<(), Fail> {
-    let alloc = rt.alloc();
-    let rows: &[&[&str]] = &[&["-0.00000005", "0"], &["1.5", "100000000.00000004"]];
-    let (layer, _) = read_layer(alloc, line_string(alloc, rows)?, false)?;
-    let [feature] = layer.features.as_slice() else {
+    let named = feature(alloc, "id", word(alloc, "007"));
+    let odd = with(alloc, named, "properties", odd_properties(alloc));
+    let point = shape(alloc, "Point", row(alloc, &["1", "2", "9"]));
+    let array = one(alloc, with(alloc, odd, "geometry", point));
+    let layer = with(alloc, features(alloc, array), "crs", Some(Json::Null));
+    let foreign = with(alloc, layer, "crs", Some(Json::Bool(true)));
+    let (features, counts) = read(alloc, with(alloc, foreign, "bbox", Some(Json::Null)), true)?;
+    assert_eq!(rt; counts, [0, 1, 0]);
+    let [feature] = features.as_slice() else {
         return Err("not one feature")?;
     };
-    assert!(rt; feature.id().is_none());
-    assert!(rt; feature.properties().is_none());
-    let Some(Geometry::Line(line)) = feature.shape() else {
-        return Err("no line")?;
+    assert!(rt; matches!(feature.id(), Some(Id::Text(id)) if id.as_str() == "007"));
+    let Some(Geometry::Point(place)) = feature.shape() else {
+        return Err("no point")?;
     };
-    let wanted = [
-        Position::new(-1, 0),
-        Position::new(15_000_000, 1_000_000_000_000_000),
-    ];
-    assert_eq!(rt; line.as_slice().first().copied(), wanted[0]);
-    assert_eq!(rt; line.as_slice().last().copied(), wanted[1]);
-    assert!(rt; line.as_slice().iter().all(|position| position.is_input()));
+    assert_eq!(rt; Some(*place), Position::new(10_000_000, 20_000_000));
+    let Some(properties) = feature.properties() else {
+        return Err("no properties")?;
+    };
+    let [
+        (first, Json::Number(one)),
+        (second, Json::Number(two)),
+        (third, Json::Null),
+    ] = properties.as_slice()
+    else {
+        return Err("not three members")?;
+    };
+    assert_eq!(rt;
+        [first.as_str(), second.as_str(), third.as_str()],
+        ["b", "a", "b"]
+    );
+    assert_eq!(rt; [one.text(), two.text()], ["1.50", "1e2"]);
     Ok(())
 }
 
 #[test]
-fn bounds_positions(rt: HostRuntime) -> Result<(), Fail> {
-    assert!(rt; Position::new(3_000_000_000_000_000, -3_000_000_000_000_000).is_some());
-    assert!(rt; Position::new(3_000_000_000_000_001, 0).is_none());
-    assert!(rt; Position::new(0, i64::MIN).is_none());
+fn reads_null_features(rt: HostRuntime) -> Result<(), Fail> {
+    let alloc = rt.alloc();
+    let nulls = with(
+        alloc,
+        feature(alloc, "id", Some(Json::Null)),
+        "geometry",
+        Some(Json::Null),
+    );
+    let named = feature(alloc, "id", word(alloc, "7.0"));
+    let (features, counts) = read(alloc, features(alloc, two(alloc, nulls, named)), false)?;
+    assert_eq!(rt; counts, [0, 0, 0]);
+    let [first, second] = features.as_slice() else {
+        return Err("not two features")?;
+    };
+    assert!(rt; first.id().is_none());
+    assert!(rt; first.properties().is_none());
+    assert!(rt; first.shape().is_none());
+    assert!(rt; matches!(second.id(), Some(Id::Number(id)) if id.text() == "7.0"));
+    let (features, _) = read(alloc, typed(alloc, "Feature"), false)?;
+    assert_eq!(rt; features.len(), 1);
+    Ok(())
+}
+
+/// How many parts the list of a shape has, 1 for a point, and 0 for none.
+fn parts(shape: Option<&Shape>) -> usize {
+    match shape {
+        None => 0,
+        Some(Geometry::Point(_)) => 1,
+        Some(Geometry::MultiPoint(positions)) => positions.as_slice().len(),
+        Some(Geometry::Line(positions)) => positions.as_slice().len(),
+        Some(Geometry::Lines(lines)) => lines.as_slice().len(),
+        Some(Geometry::Area(rings)) => rings.as_slice().len(),
+        Some(Geometry::Areas(areas)) => areas.as_slice().len(),
+        Some(Geometry::Group(shapes)) => shapes.as_slice().len(),
+    }
+}
+
+/// How many parts the one feature of a bare geometry has, beside the empty arrays that were left out.
+fn bare_parts(alloc: Global, value: Made) -> Result<(usize, u64), Fail> {
+    let (features, [_, _, empty]) = read(alloc, value, true)?;
+    let [feature] = features.as_slice() else {
+        return Err("not one feature")?;
+    };
+    Ok((parts(feature.shape()), empty))
+}
+
+#[test]
+fn reads_each_type(rt: HostRuntime) -> Result<(), Fail> {
+    let alloc = rt.alloc();
+    let points = shape(alloc, "MultiPoint", rows(alloc, RING));
+    let line = shape(alloc, "LineString", rows(alloc, RING));
+    let strings = shape(alloc, "MultiLineString", lines(alloc, &[RING, &[], RING]));
+    let polygon = shape(alloc, "Polygon", lines(alloc, &[RING, &[], RING]));
+    let areas = two(alloc, lines(alloc, &[RING]), lines(alloc, &[&[], RING]));
+    assert_eq!(rt; bare_parts(alloc, points)?, (4, 0));
+    assert_eq!(rt; bare_parts(alloc, line)?, (4, 0));
+    assert_eq!(rt; bare_parts(alloc, strings)?, (2, 1));
+    assert_eq!(rt; bare_parts(alloc, polygon)?, (2, 1));
+    assert_eq!(rt;
+        bare_parts(alloc, shape(alloc, "MultiPolygon", areas))?,
+        (1, 1)
+    );
+    Ok(())
+}
+
+#[test]
+fn leaves_empty_arrays_out(rt: HostRuntime) -> Result<(), Fail> {
+    let alloc = rt.alloc();
+    let point = shape(alloc, "Point", row(alloc, &[]));
+    let inside = group(alloc, one(alloc, shape(alloc, "Point", row(alloc, &[]))));
+    let polygon = shape(alloc, "Polygon", lines(alloc, &[&[]]));
+    let hole = shape(alloc, "Polygon", lines(alloc, &[&[], RING, &[]]));
+    let strings = shape(alloc, "MultiLineString", lines(alloc, &[&[], &[]]));
+    assert_eq!(rt; bare_parts(alloc, point)?, (0, 1));
+    assert_eq!(rt; bare_parts(alloc, inside)?, (0, 1));
+    assert_eq!(rt; bare_parts(alloc, polygon)?, (0, 1));
+    assert_eq!(rt; bare_parts(alloc, hole)?, (0, 2));
+    assert_eq!(rt; bare_parts(alloc, strings)?, (0, 2));
+    Ok(())
+}
+
+#[test]
+fn reads_a_collection_in_a_collection(rt: HostRuntime) -> Result<(), Fail> {
+    let alloc = rt.alloc();
+    let polygon = shape(alloc, "Polygon", lines(alloc, &[RING]));
+    let inner = two(alloc, group(alloc, row(alloc, &[])), polygon);
+    let (features, _) = read(alloc, group(alloc, one(alloc, group(alloc, inner))), true)?;
+    let [feature] = features.as_slice() else {
+        return Err("not one feature")?;
+    };
+    let Some(Geometry::Group(outer)) = feature.shape() else {
+        return Err("no collection")?;
+    };
+    let [Geometry::Group(inner)] = outer.as_slice() else {
+        return Err("no collection inside")?;
+    };
+    let [Geometry::Group(none), Geometry::Area(rings)] = inner.as_slice() else {
+        return Err("no empty collection and polygon")?;
+    };
+    assert_eq!(rt; none.as_slice().len(), 0);
+    let [ring] = rings.as_slice() else {
+        return Err("not one ring")?;
+    };
+    assert_eq!(rt; ring.as_slice().len(), 4);
+    Ok(())
+}
+
+#[test]
+fn rounds_coordinates(rt: HostRuntime) -> Result<(), Fail> {
+    let alloc = rt.alloc();
+    let cases: [(&str, i64, u64); 9] = [
+        ("1e-7", 1, 0),
+        ("0.00000005", 1, 1),
+        ("-0.00000005", -1, 1),
+        ("0.00000004", 0, 1),
+        ("-0", 0, 0),
+        ("0e999999999999", 0, 0),
+        ("1e-999999999999", 0, 1),
+        ("100000000", 1_000_000_000_000_000, 0),
+        ("100000000.00000004", 1_000_000_000_000_000, 1),
+    ];
+    for (written, wanted, rounded) in cases {
+        let point = shape(alloc, "Point", row(alloc, &[written, "-1"]));
+        let (features, counts) = read(alloc, point, false)?;
+        assert_eq!(rt; counts, [rounded, 0, 0]);
+        let [feature] = features.as_slice() else {
+            return Err("not one feature")?;
+        };
+        let Some(Geometry::Point(place)) = feature.shape() else {
+            return Err("no point")?;
+        };
+        assert_eq!(rt; Some(*place), Position::new(wanted, -10_000_000));
+    }
     Ok(())
 }
 

@@ -1,13 +1,8 @@
 use Rattle.std.proofs.Common.{◌≡◌, drop}
-use Rattle.std.specs.List.{All}
 use Rattle.geojson_model.specs.Coordinates.{position}
-use Rattle.geojson_model.specs.Points.{IsInput}
 use Rattle.geojson_model.specs.Reader.{each}
 use Rattle.geojson_model.proofs.Gathering.{with_front}
 use Rattle.geojson_model.proofs.coordinates.positions.Given as goal
 
 abbrev pub invariant-values : goal.invariant-values
-invariant-values l = record {
-  whole : with_front l.read.items (each (position l.exact) (drop l.value-index l.values) l.counts) ≡ each (position l.exact) l.values l.fn.counts;
-  inputs : All IsInput l.read.items;
-}
+invariant-values l = with_front l.read.items (each (position l.exact) (drop l.value-index l.values) l.counts) ≡ each (position l.exact) l.values l.fn.counts

@@ -1,0 +1,89 @@
+-- What is inside a value is less deep, and has no other numbers.
+use Rattle.std.proofs.Common.{◌≡◌, ℕ, ◌<◌, Bool, true, false, cond, List, [], ◌∷◌, map, Option, Some, None, Result, Ok, Err, ap, ◌∙◌, subst, arith}
+use Rattle.std.specs.Prelude.{bytes_eq, flat_map}
+use Rattle.std.specs.List.{AllByRecursion}
+use Rattle.decimal_text.specs.Grammar.{IsNumber}
+use Rattle.json_value.specs.declared.json.Json.{Json}
+use Rattle.json_value.specs.Depth.{depth, greatest}
+use Rattle.json_value.specs.Kinds.{array_of, object_of}
+use Rattle.json_value.specs.Numbers.{numbers_of, HasNumbers}
+use Rattle.json_value.proofs.Depths.{depth-array, depth-object}
+use Rattle.json_value.proofs.KindsOf.{array_of_is, object_of_is}
+use Rattle.json_value.proofs.NumbersOf.{numbers-array, numbers-object}
+use Rattle.geojson_types.proofs.Agreement.{all_left, all_right}
+use Rattle.geojson_model.specs.declared.fault.GeoFaultKind.{GeoFaultKind}
+use Rattle.geojson_model.specs.Members.{named, only, find, there, need}
+use Rattle.geojson_model.proofs.Yields.{IfThere}
+
+-- ---- depths
+
+-- less deep than n
+abbrev pub Shallower : ℕ → Json → Type 0
+Shallower n v = depth v < n
+
+-- so is the value of a member
+abbrev pub ShallowerMember : ℕ → List ℕ × Json → Type 0
+ShallowerMember n m = depth m.1 < n
+
+under : {A : Type 0} (f : A → ℕ) (n : ℕ) (xs : List A) → greatest (map f xs) < n → AllByRecursion (λ x. f x < n) xs
+under f n [] h = tt
+under f n (x ∷ xs) h = (omega arith, under f n xs (omega arith))
+
+pub array_shallower : (v : Json) (vs : List Json) → array_of v ≡ Some vs → AllByRecursion (Shallower (depth v)) vs
+array_shallower v vs e = under depth (depth v) vs (rw (array_of_is v vs e, depth-array vs) (omega arith))
+
+pub object_shallower : (v : Json) (ms : List (List ℕ × Json)) → object_of v ≡ Some ms → AllByRecursion (ShallowerMember (depth v)) ms
+object_shallower v ms e = under (λ m. depth m.1) (depth v) ms (rw (object_of_is v ms e, depth-object ms) (omega arith))
+
+pub array_deep : (v : Json) (vs : List Json) → array_of v ≡ Some vs → 0 < depth v
+array_deep v vs e = rw (array_of_is v vs e, depth-array vs) (omega arith)
+
+pub object_deep : (v : Json) (ms : List (List ℕ × Json)) → object_of v ≡ Some ms → 0 < depth v
+object_deep v ms e = rw (object_of_is v ms e, depth-object ms) (omega arith)
+
+-- ---- numbers
+
+-- the value of a member has numbers
+abbrev pub HasNumbersMember : List ℕ × Json → Type 0
+HasNumbersMember m = HasNumbers m.1
+
+parted : {A : Type 0} (f : A → List (List ℕ)) (xs : List A) → AllByRecursion IsNumber (flat_map f xs) → AllByRecursion (λ x. AllByRecursion IsNumber (f x)) xs
+parted f [] h = tt
+parted f (x ∷ xs) h = (all_left IsNumber (f x) (flat_map f xs) h, parted f xs (all_right IsNumber (f x) (flat_map f xs) h))
+
+pub array_numbers : (v : Json) (vs : List Json) → array_of v ≡ Some vs → HasNumbers v → AllByRecursion HasNumbers vs
+array_numbers v vs e h = parted numbers_of vs (subst (AllByRecursion IsNumber) (ap numbers_of (array_of_is v vs e) ∙ numbers-array vs) h)
+
+pub object_numbers : (v : Json) (ms : List (List ℕ × Json)) → object_of v ≡ Some ms → HasNumbers v → AllByRecursion HasNumbersMember ms
+object_numbers v ms e h = parted (λ m. numbers_of m.1) ms (subst (AllByRecursion IsNumber) (ap numbers_of (object_of_is v ms e) ∙ numbers-object ms) h)
+
+-- ---- members that are looked up
+
+module _ {V : Type 0} (P : V → Type 0) where
+  named_part : (name : List ℕ) (ms : List (List ℕ × V)) → AllByRecursion (λ m. P m.1) ms → AllByRecursion P (named name ms)
+  unfolding named
+  named_part name [] h = tt
+  named_part name (m ∷ ms) h = on (bytes_eq m.0 name) (named_part name ms h.1)
+    where
+      on : (b : Bool) → AllByRecursion P (named name ms) → AllByRecursion P (cond b (m.1 ∷ named name ms) (named name ms))
+      on true k = (h.0, k)
+      on false k = k
+
+  only_part : (vs : List V) (o : Option V) → only vs ≡ Ok o → AllByRecursion P vs → IfThere P o
+  only_part [] None e h = tt
+  only_part [] (Some v) e h = absurd cc
+  only_part (w ∷ []) None e h = tt
+  only_part (w ∷ []) (Some v) e h = let k : w ≡ v = cc in subst P k h.0
+  only_part (w ∷ x ∷ vs) o e h = absurd cc
+
+  pub find_part : (name : List ℕ) (ms : List (List ℕ × V)) (o : Option V) → find name ms ≡ Ok o → AllByRecursion (λ m. P m.1) ms → IfThere P o
+  find_part name ms o e h = only_part (named name ms) o e (named_part name ms h)
+
+  there_is : (r : Result (Option V) GeoFaultKind) (v : V) → there r ≡ Ok v → r ≡ Ok (Some v)
+  there_is (Err e) v h = absurd cc
+  there_is (Ok None) v h = absurd cc
+  there_is (Ok (Some w)) v h = cc
+
+  pub need_part : (name : List ℕ) (ms : List (List ℕ × V)) (v : V) → need name ms ≡ Ok v → AllByRecursion (λ m. P m.1) ms → P v
+  unfolding need
+  need_part name ms v e h = find_part name ms (Some v) (there_is (find name ms) v e) h

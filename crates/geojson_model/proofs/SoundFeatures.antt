@@ -1,0 +1,173 @@
+-- What holds of each feature that is read.
+use Rattle.std.proofs.Common.{◌≡◌, ℕ, ◌+◌, ◌<◌, ◌≤◌, Bool, List, [], ◌∷◌, Option, None, Some, Ok, refl, ap, ◌∙◌, subst, arith}
+use Rattle.std.specs.Prelude.{codes, bytes_eq}
+use Rattle.std.specs.List.{AllByRecursion}
+use Rattle.decimal_text.specs.Grammar.{IsNumber}
+use Rattle.json_value.specs.declared.json.Json.{Json}
+use Rattle.json_value.specs.declared.json.Json.TheVariants as j
+use Rattle.json_value.specs.declared.json.Json.TheOpen.{Json-F}
+use Rattle.json_value.specs.declared.json.Json.TheViews.{out-Json}
+use Rattle.json_value.specs.Depth.{depth}
+use Rattle.json_value.specs.Kinds.{array_of, object_of, object_in, number_of, number_in}
+use Rattle.json_value.specs.Numbers.{numbers_of, HasNumbers}
+use Rattle.json_value.proofs.KindsOf.{object_of_is, object_of-object, number_of_is}
+use Rattle.json_value.proofs.NumbersOf.{numbers-number}
+use Rattle.geojson_types.specs.declared.id.Id.{Id}
+use Rattle.geojson_types.specs.declared.id.Id.TheVariants as id
+use Rattle.geojson_types.specs.Features.{Shape, Featured}
+use Rattle.geojson_types.specs.Nesting.{nesting, option_nesting, properties_nesting, feature_nesting}
+use Rattle.geojson_types.specs.Numbers.{IdHasNumbers, PropertiesHaveNumbers, FeatureHasNumbers}
+use Rattle.geojson_types.specs.Points.{Point}
+use Rattle.geojson_model.specs.declared.fault.GeoFaultKind.{GeoFaultKind}
+use Rattle.geojson_model.specs.declared.fault.GeoFaultKind.TheVariants.{NotObject, UnknownType}
+use Rattle.geojson_model.specs.Features.{identifier_in, identifier, members_in, members_if, feature, feature_element}
+use Rattle.geojson_model.specs.Geometries.{geometry}
+use Rattle.geojson_model.specs.Layers.{bare}
+use Rattle.geojson_model.specs.Members.{find, type_name}
+use Rattle.geojson_model.specs.Reader.{fail, pure, or_fail, if_some}
+use Rattle.geojson_model.proofs.Inside.{ShallowerMember, HasNumbersMember, array_shallower, object_shallower, array_numbers, object_numbers, find_part}
+use Rattle.geojson_model.proofs.Sound.{IsSound}
+use Rattle.geojson_model.proofs.SoundParts.{SoundIn}
+use Rattle.geojson_model.proofs.SoundShapes.{geometry_yields}
+use Rattle.geojson_model.proofs.Yields.{Yields, IfThere, all_weaker, weaker_yields, there_weaker, then_yields, give_yields, fail_yields, pure_yields, if_yields, if_some_yields}
+
+-- less deep than n, and with numbers alone where N holds
+abbrev pub IsPart : ℕ → Type 0 → Json → Type 0
+IsPart n N v = (depth v < n) × (N → HasNumbers v)
+
+-- so is the value of a member
+abbrev pub IsPartMember : ℕ → Type 0 → List ℕ × Json → Type 0
+IsPartMember n N m = (depth m.1 < n) × (N → HasNumbers m.1)
+
+-- Its shape keeps the rules of its kind, it is no deeper than n, and has numbers alone where N holds.
+pub record IsSoundFeature (n : ℕ) (N : Type 0) (f : Featured) : Type 0 where
+  pub shape : IfThere IsSound f.shape
+  pub nests : feature_nesting f ≤ n
+  pub numbers : N → FeatureHasNumbers f
+
+-- ---- parts
+
+both : {A : Type 0} (P Q : A → Type 0) (N : Type 0) (xs : List A) → AllByRecursion P xs → (N → AllByRecursion Q xs) → AllByRecursion (λ x. P x × (N → Q x)) xs
+both P Q N [] h k = tt
+both P Q N (x ∷ xs) h k = ((h.0, λ n. (k n).0), both P Q N xs h.1 (λ n. (k n).1))
+
+pub array_parts : (n : ℕ) (N : Type 0) (v : Json) (vs : List Json) → array_of v ≡ Some vs → depth v ≤ n → (N → HasNumbers v) → AllByRecursion (IsPart n N) vs
+array_parts n N v vs e le h =
+    both (λ w. depth w < n) HasNumbers N vs (all_weaker (λ w. depth w < depth v) (λ w. depth w < n) (λ w lt. omega (arith, lt, le)) vs (array_shallower v vs e)) (λ k. array_numbers v vs e (h k))
+
+pub object_parts : (n : ℕ) (N : Type 0) (v : Json) (ms : List (List ℕ × Json)) → object_of v ≡ Some ms → depth v ≤ n → (N → HasNumbers v) → AllByRecursion (IsPartMember n N) ms
+object_parts n N v ms e le h =
+    both (ShallowerMember n) HasNumbersMember N ms (all_weaker (ShallowerMember (depth v)) (ShallowerMember n) (λ m lt. omega (arith, lt, le)) ms (object_shallower v ms e)) (λ k. object_numbers v ms e (h k))
+
+-- ---- identifiers
+
+number_is_number : (v : Json) (t : List ℕ) → number_of v ≡ Some t → HasNumbers v → IsNumber t
+number_is_number v t e h = (subst (AllByRecursion IsNumber) (ap numbers_of (number_of_is v t e) ∙ numbers-number t) h).0
+
+identifier_in_numbers : (v : Json) (x : Json-F Json) (o : Option Id) → out-Json v ≡ x → HasNumbers v → identifier_in x ≡ Ok o → IdHasNumbers o
+unfolding number_of
+identifier_in_numbers v Json-F.Null o is h e = let k : None ≡ o = cc in subst IdHasNumbers k tt
+identifier_in_numbers v (Json-F.Text t) o is h e = let k : Some (id.Text t) ≡ o = cc in subst IdHasNumbers k tt
+identifier_in_numbers v (Json-F.Number t) o is h e = let k : Some (id.Number t) ≡ o = cc in subst IdHasNumbers k (number_is_number v t (ap number_in is) h)
+identifier_in_numbers v (Json-F.Bool b) o is h e = absurd cc
+identifier_in_numbers v (Json-F.Array vs) o is h e = absurd cc
+identifier_in_numbers v (Json-F.Object ms) o is h e = absurd cc
+
+identifier_numbers : (i : Option Json) (o : Option Id) → IfThere HasNumbers i → identifier i ≡ Ok o → IdHasNumbers o
+identifier_numbers None o h e = let k : None ≡ o = cc in subst IdHasNumbers k tt
+identifier_numbers (Some v) o h e = identifier_in_numbers v (out-Json v) o refl h e
+
+-- ---- members of members
+
+members_in_are : (v : Json) (x : Json-F Json) (o : Option (List (List ℕ × Json))) → out-Json v ≡ x → members_in x ≡ Ok o → IfThere (λ ms. v ≡ j.Object ms) o
+unfolding object_of
+members_in_are v Json-F.Null None is e = tt
+members_in_are v Json-F.Null (Some ms) is e = absurd cc
+members_in_are v (Json-F.Object ns) None is e = absurd cc
+members_in_are v (Json-F.Object ns) (Some ms) is e = let k : ns ≡ ms = cc in object_of_is v ms (ap object_in is ∙ ap (λ z. Some z) k)
+members_in_are v (Json-F.Text t) o is e = absurd cc
+members_in_are v (Json-F.Number t) o is e = absurd cc
+members_in_are v (Json-F.Bool b) o is e = absurd cc
+members_in_are v (Json-F.Array vs) o is e = absurd cc
+
+-- the members that a member gives are those of an object
+members_are : (p : Option Json) (o : Option (List (List ℕ × Json))) → members_if p ≡ Ok o → IfThere (λ ms. p ≡ Some (j.Object ms)) o
+members_are None None e = tt
+members_are None (Some ms) e = absurd cc
+members_are (Some v) o e = there_weaker (λ ms. v ≡ j.Object ms) (λ ms. Some v ≡ Some (j.Object ms)) (λ ms k. ap (λ z. Some z) k) o (members_in_are v (out-Json v) o refl e)
+
+-- ---- features
+
+abbrev SoundUnder : ℕ → Shape → Type 0
+SoundUnder n s = IsSound s × (nesting {P = Point} {L = List Point} s < n)
+
+option_under : (n : ℕ) (o : Option Shape) → IfThere (SoundUnder n) o → option_nesting {P = Point} {L = List Point} o ≤ n
+option_under n None h = omega arith
+option_under n (Some s) h = omega (arith, h.1)
+
+properties_under : (n : ℕ) (o : Option (List (List ℕ × Json))) → 0 < n → IfThere (λ ms. depth (j.Object ms) < n) o → 1 + properties_nesting o ≤ n
+properties_under n None pos h = omega arith
+properties_under n (Some ms) pos h = omega (arith, h)
+
+properties_numbers : (o : Option (List (List ℕ × Json))) → IfThere (λ ms. HasNumbers (j.Object ms)) o → PropertiesHaveNumbers o
+properties_numbers None h = tt
+properties_numbers (Some ms) h = h
+
+member_parts : (n : ℕ) (N : Type 0) (p : Option Json) (o : Option (List (List ℕ × Json))) → IfThere (IsPart n N) p → members_if p ≡ Ok o → IfThere (λ ms. IsPart n N (j.Object ms)) o
+member_parts n N p o h e = there_weaker (λ ms. p ≡ Some (j.Object ms)) (λ ms. IsPart n N (j.Object ms)) (λ ms k. subst (IfThere (IsPart n N)) k h) o (members_are p o e)
+
+shape_under : (exact : Bool) (n : ℕ) (N : Type 0) (o : Option (List (List ℕ × Json))) → IfThere (λ ms. IsPart n N (j.Object ms)) o → Yields (IfThere (SoundUnder n)) (if_some (geometry exact) o)
+shape_under exact n N = if_some_yields (λ ms. IsPart n N (j.Object ms)) (SoundUnder n) (geometry exact) (λ ms h.
+    weaker_yields (IfThere (SoundIn (depth (j.Object ms)))) (IfThere (SoundUnder n)) (geometry exact ms)
+    (there_weaker (SoundIn (depth (j.Object ms))) (SoundUnder n) (λ s k. (k.0, omega (arith, k.1, h.0))))
+    (geometry_yields exact (depth (j.Object ms)) ms (object_shallower (j.Object ms) ms (object_of-object ms))))
+
+made : (n : ℕ) (N : Type 0) (i : Option Id) (ps : Option (List (List ℕ × Json))) (s : Option Shape) → 0 < n
+    → (N → IdHasNumbers i) → IfThere (λ ms. IsPart n N (j.Object ms)) ps → IfThere (SoundUnder n) s → IsSoundFeature n N (record { id = i; properties = ps; shape = s })
+made n N i ps s pos hi hp hs = record {
+  shape = there_weaker (SoundUnder n) IsSound (λ z k. k.0) s hs;
+  nests = omega (arith, option_under n s hs, properties_under n ps pos (there_weaker (λ ms. IsPart n N (j.Object ms)) (λ ms. depth (j.Object ms) < n) (λ ms k. k.0) ps hp));
+  numbers = λ k. (hi k, properties_numbers ps (there_weaker (λ ms. IsPart n N (j.Object ms)) (λ ms. HasNumbers (j.Object ms)) (λ ms h. h.1 k) ps hp));
+}
+
+pub feature_yields : (exact : Bool) (n : ℕ) (N : Type 0) (ms : List (List ℕ × Json)) → 0 < n → AllByRecursion (IsPartMember n N) ms → Yields (IsSoundFeature n N) (feature exact ms)
+unfolding feature
+feature_yields exact n N ms pos inside =
+    then_yields _ (IsSoundFeature n N) (pure (find (codes "id") ms)) _ (pure_yields (find (codes "id") ms))
+    (λ i hi. then_yields _ (IsSoundFeature n N) (pure (identifier i)) _ (pure_yields (identifier i))
+    (λ id hid. then_yields _ (IsSoundFeature n N) (pure (find (codes "properties") ms)) _ (pure_yields (find (codes "properties") ms))
+    (λ p hp. then_yields _ (IsSoundFeature n N) (pure (members_if p)) _ (pure_yields (members_if p))
+    (λ ps hps. then_yields _ (IsSoundFeature n N) (pure (find (codes "geometry") ms)) _ (pure_yields (find (codes "geometry") ms))
+    (λ o ho. then_yields _ (IsSoundFeature n N) (pure (members_if o)) _ (pure_yields (members_if o))
+    (λ object hobject. then_yields (IfThere (SoundUnder n)) (IsSoundFeature n N) (if_some (geometry exact) object) _
+    (shape_under exact n N object (member_parts n N o object (find_part (IsPart n N) (codes "geometry") ms o ho inside) hobject))
+    (λ s hs. give_yields (IsSoundFeature n N) (record { id = id; properties = ps; shape = s })
+    (made n N id ps s pos
+    (λ k. identifier_numbers i id (there_weaker (IsPart n N) HasNumbers (λ v h. h.1 k) i (find_part (IsPart n N) (codes "id") ms i hi inside)) hid)
+    (member_parts n N p ps (find_part (IsPart n N) (codes "properties") ms p hp inside) hps)
+    hs))))))))
+
+pub or_fail_is : {A : Type 0} (e : GeoFaultKind) (o : Option A) (x : A) → or_fail e o ≡ Ok x → o ≡ Some x
+or_fail_is e None x h = absurd cc
+or_fail_is e (Some y) x h = cc
+
+-- of a value that is a part
+pub feature_element_yields : (exact : Bool) (n : ℕ) (N : Type 0) (v : Json) → IsPart n N v → Yields (IsSoundFeature n N) (feature_element exact v)
+unfolding feature_element
+feature_element_yields exact n N v h =
+    then_yields _ (IsSoundFeature n N) (pure (or_fail NotObject (object_of v))) _ (pure_yields (or_fail NotObject (object_of v)))
+    (λ ms e. then_yields _ (IsSoundFeature n N) (pure (type_name ms)) _ (pure_yields (type_name ms))
+    (λ name f. if_yields (IsSoundFeature n N) (bytes_eq name (codes "Feature")) (feature exact ms) (fail UnknownType)
+    (λ is. feature_yields exact n N ms (omega (arith, h.0)) (object_parts n N v ms (or_fail_is NotObject (object_of v) ms e) (omega (arith, h.0)) h.1))
+    (λ is. fail_yields (IsSoundFeature n N) UnknownType)))
+
+pub bare_sound : (n : ℕ) (N : Type 0) (s : Option Shape) → 0 < n → IfThere (SoundIn n) s → IsSoundFeature n N (bare s)
+bare_sound n N s pos h = record {
+  shape = there_weaker (SoundIn n) IsSound (λ z k. k.0) s h;
+  nests = omega (arith, within s h);
+  numbers = λ k. (tt, tt);
+}
+  where
+    within : (o : Option Shape) → IfThere (SoundIn n) o → option_nesting {P = Point} {L = List Point} o ≤ n
+    within None k = omega arith
+    within (Some z) k = k.1

@@ -1,0 +1,132 @@
+-- What a value is read as, by one level of it.
+use Rattle.std.proofs.Common.{◌≡◌, ℕ, Bool, true, false, List, [], ◌∷◌, ◌++◌, map, Some, None, Result, Ok, Err, refl, sym, ap, ◌∙◌, cond}
+use Rattle.std.specs.Prelude.{bytes_eq, codes, option_to_list}
+use Rattle.json_value.specs.declared.json.Json.{Json}
+use Rattle.json_value.specs.declared.json.Json.TheFolds.{para-Json, para-roll-Json, map-Json}
+use Rattle.json_value.specs.declared.json.Json.TheViews.{out-Json, roll-out-Json}
+use Rattle.json_value.specs.declared.json.Json.TheOpen.{Json-F}
+use Rattle.json_value.specs.Kinds.{array_of, array_in, object_of, object_in}
+use Rattle.geojson_model.specs.declared.fault.GeoFaultKind.{GeoFaultKind}
+use Rattle.geojson_model.specs.declared.fault.GeoFaultKind.TheVariants.{WrongKind}
+use Rattle.geojson_model.specs.Geometries.{Readings, readings_step, readings, shape, shapes, geometry, geometry_with, typed_geometry}
+use Rattle.geojson_model.specs.Members.{named, only, there, need, need_as}
+use Rattle.geojson_model.specs.Reader.{Reader, ◌>>=◌, give, fail, pure, gather, kept}
+
+-- ---- reading under a map
+
+pub gather_map : {A B C : Type 0} (read : B → Reader (List C)) (g : A → B) (vs : List A) → gather read (map g vs) ≡ gather (λ v. read (g v)) vs
+unfolding gather
+gather_map read g [] = refl
+gather_map {C = C} read g (v ∷ vs) = ap (λ (more : Reader (List C)). read (g v) >>= λ x. more >>= λ xs. give (x ++ xs)) (gather_map read g vs)
+
+named_map : {V W : Type 0} (h : V → W) (g : List ℕ × V → List ℕ × W) → ((m : List ℕ × V) → g m ≡ (m.0, h m.1)) → (name : List ℕ) (ms : List (List ℕ × V)) → named name (map g ms) ≡ map h (named name ms)
+unfolding named
+named_map h g e name [] = refl
+named_map {V = V} {W = W} h g e name (m ∷ ms) = rw (e m, named_map h g e name ms) (on (bytes_eq m.0 name))
+  where
+    on : (b : Bool) → cond b (h m.1 ∷ map h (named name ms)) (map h (named name ms)) ≡ map h (cond b (m.1 ∷ named name ms) (named name ms))
+    on true = refl
+    on false = refl
+
+abbrev result_map : {V W : Type 0} → (V → W) → Result V GeoFaultKind → Result W GeoFaultKind
+result_map h (Ok v) = Ok (h v)
+result_map h (Err e) = Err e
+
+there_map : {V W : Type 0} (h : V → W) (vs : List V) → there (only (map h vs)) ≡ result_map h (there (only vs))
+there_map h [] = refl
+there_map h (v ∷ []) = refl
+there_map h (v ∷ w ∷ vs) = refl
+
+need_map : {V W : Type 0} (h : V → W) (g : List ℕ × V → List ℕ × W) → ((m : List ℕ × V) → g m ≡ (m.0, h m.1)) → (name : List ℕ) (ms : List (List ℕ × V)) → need name (map g ms) ≡ result_map h (need name ms)
+unfolding need
+need_map h g e name ms = ap (λ z. there (only z)) (named_map h g e name ms) ∙ there_map h (named name ms)
+
+pure_map : {V W B : Type 0} (h : V → W) (f : W → Reader B) (r : Result V GeoFaultKind) → (pure (result_map h r) >>= f) ≡ (pure r >>= λ v. f (h v))
+pure_map h f (Ok v) = refl
+pure_map h f (Err e) = refl
+
+pub need_as_map : {V W B : Type 0} (h : V → W) (g : List ℕ × V → List ℕ × W) → ((m : List ℕ × V) → g m ≡ (m.0, h m.1)) → (name : List ℕ) (read : W → Reader B) (ms : List (List ℕ × V))
+    → need_as name read (map g ms) ≡ need_as name (λ v. read (h v)) ms
+need_as_map h g e name read ms = ap (λ r. pure r >>= read) (need_map h g e name ms) ∙ pure_map h read (need name ms)
+
+map_back : {A B : Type 0} (f : B → A) (g : A → B) → ((x : A) → f (g x) ≡ x) → (xs : List A) → map f (map g xs) ≡ xs
+map_back f g e [] = refl
+map_back f g e (x ∷ xs) = rw (e x, map_back f g e xs) refl
+
+-- ---- one level
+
+abbrev beside : Bool → Json → Json × Readings
+beside exact v = (v, readings exact v)
+
+abbrev member_beside : Bool → List ℕ × Json → List ℕ × (Json × Readings)
+member_beside exact m = (m.0, beside exact m.1)
+
+unrolled : (exact : Bool) (v : Json) → readings exact v ≡ readings_step exact (map-Json Json (Json × Readings) (beside exact) (out-Json v))
+unfolding readings
+unrolled exact v = ap (para-Json Readings (readings_step exact)) (sym (roll-out-Json v)) ∙ para-roll-Json Readings (readings_step exact) (out-Json v)
+
+plain_members : (exact : Bool) (ms : List (List ℕ × Json)) → geometry_with (need_as (codes "geometries") (λ v. v.1.geometries) (map (member_beside exact) ms)) exact (map (λ m. (m.0, m.1.0)) (map (member_beside exact) ms)) ≡ geometry exact ms
+unfolding geometry typed_geometry shapes
+plain_members exact ms = rw (map_back (λ m. (m.0, m.1.0)) (member_beside exact) (λ m. refl) ms, need_as_map (beside exact) (member_beside exact) (λ m. refl) (codes "geometries") (λ v. v.1.geometries) ms) refl
+
+object_in_shape : (exact : Bool) (v : Json) (x : Json-F Json) (ms : List (List ℕ × Json)) → out-Json v ≡ x → object_in x ≡ Some ms → shape exact v ≡ geometry exact ms
+unfolding shape
+object_in_shape exact v (Json-F.Object ws) ms e f = ap (λ r. r.geometry) (unrolled exact v) ∙ rw e (plain_members exact ws ∙ ap (geometry exact) (same_members f))
+  where
+    same_members : Some ws ≡ Some ms → ws ≡ ms
+    same_members h = cc
+object_in_shape exact v (Json-F.Array ws) ms e f = absurd cc
+object_in_shape exact v (Json-F.Text t) ms e f = absurd cc
+object_in_shape exact v (Json-F.Number t) ms e f = absurd cc
+object_in_shape exact v (Json-F.Bool t) ms e f = absurd cc
+object_in_shape exact v Json-F.Null ms e f = absurd cc
+
+-- An object is read as the geometry with its members.
+pub shape_object : (exact : Bool) (v : Json) (ms : List (List ℕ × Json)) → object_of v ≡ Some ms → shape exact v ≡ geometry exact ms
+unfolding object_of
+shape_object exact v ms e = object_in_shape exact v (out-Json v) ms refl e
+
+object_in_none : (exact : Bool) (v : Json) (x : Json-F Json) → out-Json v ≡ x → object_in x ≡ None → shape exact v ≡ fail WrongKind
+unfolding shape
+object_in_none exact v (Json-F.Object ws) e f = absurd cc
+object_in_none exact v (Json-F.Array ws) e f = ap (λ r. r.geometry) (unrolled exact v) ∙ rw e refl
+object_in_none exact v (Json-F.Text t) e f = ap (λ r. r.geometry) (unrolled exact v) ∙ rw e refl
+object_in_none exact v (Json-F.Number t) e f = ap (λ r. r.geometry) (unrolled exact v) ∙ rw e refl
+object_in_none exact v (Json-F.Bool t) e f = ap (λ r. r.geometry) (unrolled exact v) ∙ rw e refl
+object_in_none exact v Json-F.Null e f = ap (λ r. r.geometry) (unrolled exact v) ∙ rw e refl
+
+-- Nothing else is a geometry.
+pub shape_other : (exact : Bool) (v : Json) → object_of v ≡ None → shape exact v ≡ fail WrongKind
+unfolding object_of
+shape_other exact v e = object_in_none exact v (out-Json v) refl e
+
+array_in_shapes : (exact : Bool) (v : Json) (x : Json-F Json) (vs : List Json) → out-Json v ≡ x → array_in x ≡ Some vs → shapes exact v ≡ kept (shape exact) vs
+unfolding shapes shape
+array_in_shapes exact v (Json-F.Array ws) vs e f = ap (λ r. r.geometries) (unrolled exact v) ∙ rw e (gather_map (λ v. v.1.geometry >>= λ x. give (option_to_list x)) (beside exact) ws ∙ ap (λ z. kept (λ v. (readings exact v).geometry) z) (same_values f))
+  where
+    same_values : Some ws ≡ Some vs → ws ≡ vs
+    same_values h = cc
+array_in_shapes exact v (Json-F.Object ws) vs e f = absurd cc
+array_in_shapes exact v (Json-F.Text t) vs e f = absurd cc
+array_in_shapes exact v (Json-F.Number t) vs e f = absurd cc
+array_in_shapes exact v (Json-F.Bool t) vs e f = absurd cc
+array_in_shapes exact v Json-F.Null vs e f = absurd cc
+
+-- The elements of an array are read as geometries in order, those left out that are null.
+pub shapes_array : (exact : Bool) (v : Json) (vs : List Json) → array_of v ≡ Some vs → shapes exact v ≡ kept (shape exact) vs
+unfolding array_of
+shapes_array exact v vs e = array_in_shapes exact v (out-Json v) vs refl e
+
+array_in_none : (exact : Bool) (v : Json) (x : Json-F Json) → out-Json v ≡ x → array_in x ≡ None → shapes exact v ≡ fail WrongKind
+unfolding shapes
+array_in_none exact v (Json-F.Array ws) e f = absurd cc
+array_in_none exact v (Json-F.Object ws) e f = ap (λ r. r.geometries) (unrolled exact v) ∙ rw e refl
+array_in_none exact v (Json-F.Text t) e f = ap (λ r. r.geometries) (unrolled exact v) ∙ rw e refl
+array_in_none exact v (Json-F.Number t) e f = ap (λ r. r.geometries) (unrolled exact v) ∙ rw e refl
+array_in_none exact v (Json-F.Bool t) e f = ap (λ r. r.geometries) (unrolled exact v) ∙ rw e refl
+array_in_none exact v Json-F.Null e f = ap (λ r. r.geometries) (unrolled exact v) ∙ rw e refl
+
+-- Nothing else is read as `geometries`.
+pub shapes_other : (exact : Bool) (v : Json) → array_of v ≡ None → shapes exact v ≡ fail WrongKind
+unfolding array_of
+shapes_other exact v e = array_in_none exact v (out-Json v) refl e

@@ -1,0 +1,80 @@
+-- The texts of positions, features and collections in parts.
+use Rattle.std.proofs.Common.{◌≡◌, ℕ, true, false, List, [], ◌∷◌, ◌++◌, map, refl, ap, ◌∙◌, append_assoc, Option, Some, None}
+use Rattle.std.specs.Prelude.{codes}
+use Rattle.byte_ends.proofs.CommaLists.{list_left}
+use Rattle.decimal_text.specs.Scaling.{units_text}
+use Rattle.json_value.specs.declared.json.Json.TheVariants as j
+use Rattle.json_value.specs.Text.{json_text, quoted, escaped_byte}
+use Rattle.json_value.proofs.Texts.{text-number, text-text}
+use Rattle.geojson_types.specs.declared.id.Id.{Id}
+use Rattle.geojson_types.specs.Features.{Featured}
+use Rattle.geojson_types.specs.Points.{Point}
+use Rattle.geojson_writer.specs.FeatureTexts.{id_text}
+use Rattle.geojson_writer.specs.FeatureValues.{Member, coordinate_value, position_value, type_member, geometry_value, properties_value, id_value, id_members, feature_value, collection_value}
+use Rattle.geojson_writer.proofs.Arrays.{text_by, array-text, array-text_before}
+use Rattle.geojson_writer.proofs.Objects.{members_left, object-text, member-text, quoted-type, object-of_two}
+
+-- ---- a position
+
+pair-text : (x y : List ℕ) → (codes "[" ++ (x ++ (codes "," ++ (y ++ [])))) ++ codes "]" ≡ codes "[" ++ (x ++ (codes "," ++ (y ++ codes "]")))
+pair-text x y = simp append_assoc
+
+pub position-text : (p : Point) → json_text (position_value p) ≡ codes "[" ++ (units_text p.x 7 ++ (codes "," ++ (units_text p.y 7 ++ codes "]")))
+position-text p =
+    array-text coordinate_value (p.x ∷ (p.y ∷ []))
+    ∙ rw (text-number (units_text p.x 7), text-number (units_text p.y 7)) (pair-text (units_text p.x 7) (units_text p.y 7))
+
+-- ---- a feature
+
+quoted-id : quoted (codes "id") ≡ codes "\"id\""
+unfolding escaped_byte
+quoted-id = refl
+
+quoted-properties : quoted (codes "properties") ≡ codes "\"properties\""
+unfolding escaped_byte
+quoted-properties = refl
+
+quoted-geometry : quoted (codes "geometry") ≡ codes "\"geometry\""
+unfolding escaped_byte
+quoted-geometry = refl
+
+quoted-Feature : quoted (codes "Feature") ≡ codes "\"Feature\""
+unfolding escaped_byte
+quoted-Feature = refl
+
+quoted-features : quoted (codes "features") ≡ codes "\"features\""
+unfolding escaped_byte
+quoted-features = refl
+
+quoted-FeatureCollection : quoted (codes "FeatureCollection") ≡ codes "\"FeatureCollection\""
+unfolding escaped_byte
+quoted-FeatureCollection = refl
+
+-- the identifier, in front of the other members
+id-text : (id : Option Id) (ms : List Member) → members_left false (id_members id ++ ms) ≡ id_text id ++ members_left false ms
+id-text None ms = refl
+id-text (Some id) ms = member-text false (codes "id") (codes "\"id\"") (id_value id) (json_text (id_value id)) ms quoted-id refl
+
+pub feature-text : (f : Featured) → json_text (feature_value f)
+    ≡ codes "{\"type\":\"Feature\"" ++ (id_text f.id ++ (codes ",\"properties\":" ++ (json_text (properties_value f.properties)
+    ++ (codes ",\"geometry\":" ++ (json_text (geometry_value f.shape) ++ codes "}")))))
+unfolding feature_value
+feature-text f =
+    let geometry : List Member = (codes "geometry", geometry_value f.shape) ∷ [] in
+    let rest : List Member = (codes "properties", properties_value f.properties) ∷ geometry in
+    object-text (type_member (codes "Feature") ∷ (id_members f.id ++ rest))
+    ∙ ap (λ (text : List ℕ). codes "{" ++ text)
+    (member-text true (codes "type") (codes "\"type\"") (j.Text (codes "Feature")) (codes "\"Feature\"") (id_members f.id ++ rest) quoted-type (text-text (codes "Feature") ∙ quoted-Feature))
+    ∙ ap (λ (text : List ℕ). codes "{\"type\":\"Feature\"" ++ text) (id-text f.id rest)
+    ∙ ap (λ (text : List ℕ). codes "{\"type\":\"Feature\"" ++ (id_text f.id ++ text))
+    (member-text false (codes "properties") (codes "\"properties\"") (properties_value f.properties) (json_text (properties_value f.properties)) geometry quoted-properties refl)
+    ∙ ap (λ (text : List ℕ). codes "{\"type\":\"Feature\"" ++ (id_text f.id ++ (codes ",\"properties\":" ++ (json_text (properties_value f.properties) ++ text))))
+    (member-text false (codes "geometry") (codes "\"geometry\"") (geometry_value f.shape) (json_text (geometry_value f.shape)) [] quoted-geometry refl)
+
+-- ---- a collection
+
+pub collection-text : (fs : List Featured) → json_text (collection_value fs)
+    ≡ codes "{\"type\":\"FeatureCollection\",\"features\":[" ++ list_left (text_by feature_value) (codes "]}") true fs
+collection-text fs =
+    object-of_two (codes "FeatureCollection") (codes "\"FeatureCollection\"") (codes "features") (codes "\"features\"") (j.Array (map feature_value fs)) quoted-FeatureCollection quoted-features
+    ∙ ap (λ (text : List ℕ). codes "{\"type\":\"FeatureCollection\",\"features\":" ++ text) (array-text_before feature_value fs (codes "}"))

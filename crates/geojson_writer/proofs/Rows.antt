@@ -1,0 +1,64 @@
+-- Worked examples, computed, and which shapes they are made of.
+use Rattle.std.proofs.Common.{◌≡◌, Bool, true, List, [], ◌∷◌, Some, None, refl, sym, ap, ◌∙◌}
+use Rattle.std.specs.Prelude.{codes, pos, negsuc}
+use Rattle.std.specs.Fmt.{digits}
+use Rattle.decimal_text.specs.Scaling.{units_text}
+use Rattle.json_value.specs.declared.json.Json.TheVariants as j
+use Rattle.json_value.specs.Text.{json_text, escaped_byte}
+use Rattle.json_value.proofs.Texts.{texts}
+use Rattle.geojson_types.specs.declared.geometry.Geometry.{fold-Geometry, fold-roll-Geometry}
+use Rattle.geojson_types.specs.declared.geometry.Geometry.TheOpen.{Geometry-F}
+use Rattle.geojson_types.specs.declared.geometry.Geometry.TheVariants as g
+use Rattle.geojson_types.specs.declared.id.Id.TheVariants as id
+use Rattle.geojson_types.specs.declared.layer.FeatureSet.{FeatureSet}
+use Rattle.geojson_types.specs.declared.layer.FeatureSet.TheVariants.{One, Many}
+use Rattle.geojson_types.specs.Features.{is_line, is_proper, proper_step}
+use Rattle.geojson_types.specs.Points.{Point}
+use Rattle.geojson_writer.specs.FeatureValues.{feature_value, features_value}
+use Rattle.geojson_writer.proofs.ShapeParts.{value-point, value-line, value-group}
+
+-- ---- a FeatureCollection of one LineString
+
+abbrev corner : Point
+corner = record { x = pos 0; y = pos 0 }
+
+abbrev tip : Point
+tip = record { x = pos 15000000; y = pos 2500000 }
+
+abbrev one_line : FeatureSet
+one_line = Many (record { id = None; properties = None; shape = Some (g.Line (corner ∷ (tip ∷ []))) } ∷ [])
+
+line_row : json_text (features_value one_line)
+    ≡ codes "{\"type\":\"FeatureCollection\",\"features\":[{\"type\":\"Feature\",\"properties\":null,\"geometry\":{\"type\":\"LineString\",\"coordinates\":[[0,0],[1.5,0.25]]}}]}"
+unfolding feature_value units_text escaped_byte digits
+line_row = simp (value-line, texts) refl
+
+-- ---- a Feature with an identifier, properties with a doubled name and a collection of a Point and of nothing
+
+abbrev one_feature : FeatureSet
+one_feature = One (record {
+  id = Some (id.Number (codes "7.0"));
+  properties = Some ((codes "k", j.Number (codes "1.50")) ∷ ((codes "k", j.Null) ∷ []));
+  shape = Some (g.Group (g.Point (record { x = negsuc 4999999; y = pos 1 }) ∷ (g.Group [] ∷ [])));
+})
+
+feature_row : json_text (features_value one_feature)
+    ≡ codes "{\"type\":\"Feature\",\"id\":7.0,\"properties\":{\"k\":1.50,\"k\":null},\"geometry\":{\"type\":\"GeometryCollection\",\"geometries\":[{\"type\":\"Point\",\"coordinates\":[-0.5,0.0000001]},{\"type\":\"GeometryCollection\",\"geometries\":[]}]}}"
+unfolding feature_value units_text escaped_byte digits
+feature_row = simp (value-group, value-point, texts) refl
+
+-- ---- shapes that a feature may have
+
+pub proper-line : (ps : List Point) → is_proper (g.Line ps) ≡ is_line ps
+unfolding is_proper
+proper-line ps =
+    ap (fold-Geometry Point (List Point) (List Point) Bool proper_step) (sym (g.rolls-Line ps))
+    ∙ fold-roll-Geometry Point (List Point) (List Point) Bool proper_step (Geometry-F.Line ps)
+
+pub proper-empty_group : is_proper (g.Group []) ≡ true
+unfolding is_proper
+proper-empty_group =
+    ap (fold-Geometry Point (List Point) (List Point) Bool proper_step) (sym (g.rolls-Group []))
+    ∙ fold-roll-Geometry Point (List Point) (List Point) Bool proper_step (Geometry-F.Group [])
+
+pub ruleset propers = (proper-line, proper-empty_group)

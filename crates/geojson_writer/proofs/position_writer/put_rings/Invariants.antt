@@ -1,0 +1,12 @@
+use Rattle.std.proofs.Common.{drop}
+use Rattle.std.specs.Prelude.{codes}
+use Rattle.byte_ends.proofs.CommaLists.{list_left}
+use Rattle.byte_ends.proofs.Writing.{WritesUpTo}
+use Rattle.json_value.specs.Text.{json_text}
+use Rattle.geojson_writer.specs.FeatureValues.{positions_value, lines_value}
+use Rattle.geojson_writer.proofs.Arrays.{text_by}
+use Rattle.geojson_writer.proofs.position_writer.put_rings.Given as goal
+
+abbrev pub invariant-rings : goal.invariant-rings
+invariant-rings g l =
+    WritesUpTo l.fn.sink l.sink l.fn.count (json_text (lines_value l.fn.rings)) (list_left (text_by positions_value) (codes "]") l.is_first (drop l.ring-index l.rings)) l.count

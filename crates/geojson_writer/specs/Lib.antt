@@ -1,0 +1,3 @@
+pub mod FeatureTexts
+pub mod FeatureValues
+pub mod Numbered

@@ -1,0 +1,57 @@
+-- A line from its start is clean, as the line is.
+use Rattle.std.proofs.Common.{◌≡◌, ℕ, ◌<◌, ◌≤◌, Bool, true, false, List, [], ◌∷◌, ◌++◌, length, map, refl, ap, sym, ◌∙◌, subst, arith, inl, inr}
+use Rattle.cutter.specs.Pieces.{start_in, turned}
+use Rattle.cutter.specs.Places.{In}
+use Rattle.cutter.specs.Slices.{started, split_of, strokes}
+use Rattle.geojson_types.specs.Points.{Point}
+use Rattle.geojson_types.specs.declared.address.Address.{Address}
+use Rattle.linework.specs.Cleaning.{Moves, IsCleanList, IsClean, AllClean}
+use Rattle.linework.specs.Cuts.{is_cut}
+use Rattle.linework.specs.Visits.{last}
+use Rattle.linework.specs.declared.stroke.Stroke.{Stroke}
+use Rattle.cutter.proofs.Joins.{turned_length}
+use Rattle.cutter.proofs.RingPieces.{moves_more, firsts, firsts_last, firsts_length, turned_is}
+use Rattle.cutter.proofs.Starts.{ring_cut, start_cut, line}
+use Rattle.cutter.proofs.TurnedRings.{Goes, Good, turned_good}
+
+-- any three positions are a passage here, so that only moves count
+abbrev Any : Point → Point → Point → Type 0
+Any a b c = Unit {0}
+
+goes_any : (p q : Point) (ps : List Point) → Moves p (q ∷ ps) → Goes Any p q ps
+goes_any p q [] m = m.0
+goes_any p q (r ∷ ps) m = (m.0, tt, goes_any q r ps m.1)
+
+moves_any : (p q : Point) (ps : List Point) → Goes Any p q ps → Moves p (q ∷ ps)
+moves_any p q [] h = (h, tt)
+moves_any p q (r ∷ ps) h = (h.0, moves_any q r ps h.2)
+
+clean_of : (zs : List Point) (g : Point) (ys : List Point) → zs ≡ g ∷ ys → last g ys ≡ g → 2 ≤ length zs → Good Any zs → IsCleanList true zs
+clean_of zs g [] e l n h = absurd (omega (arith, n, ap length e))
+clean_of zs g (y ∷ ys) e l n h = subst (λ z. IsCleanList true z) (sym e) (moves_any g y ys (subst (λ z. Good Any z) e h), λ w. l)
+
+-- a ring that is turned to another start is clean
+clean_turned : (ls : List Stroke) (p q : Point) (ps : List Point) → last q ps ≡ p → Moves p (q ∷ ps) → (k : ℕ) → k < length (p ∷ (q ∷ ps)) → IsCleanList true (turned k (p ∷ (q ∷ ps)))
+clean_turned ls p q ps e m k n =
+    let more : Moves p (q ∷ (ps ++ (q ∷ []))) = moves_more ls p (q ∷ ps) q m (λ z. m.0 (sym e ∙ z)) in
+    let good : Good Any ((p ∷ (q ∷ ps)) ++ (q ∷ [])) = goes_any p q (ps ++ (q ∷ [])) more in
+    let ended : p ∷ (q ∷ ps) ≡ firsts p (q ∷ ps) ++ (p ∷ []) = firsts_last p (q ∷ ps) ∙ ap (λ z. firsts p (q ∷ ps) ++ (z ∷ [])) e in
+    let t = turned_is p p q ps e k n in
+    clean_of (turned k (p ∷ (q ∷ ps))) _ t.0 t.1 t.2 (omega (arith, turned_length k (p ∷ (q ∷ ps)) n))
+    (turned_good Any k p q ps (firsts p (q ∷ ps)) ended (omega (arith, n, firsts_length p (q ∷ ps))) good)
+
+clean_start : (ls : List Stroke) (at : Address) (c : Bool) (ps : List Point) → In (line at c ps) ls → IsClean (line at c ps) → IsClean (started (is_cut ls) (line at c ps))
+clean_start ls at c [] k h = elim h [ ]
+clean_start ls at c (p ∷ []) k h = elim h [ ]
+clean_start ls at false (p ∷ (q ∷ ps)) k h = h
+clean_start ls at true (p ∷ (q ∷ ps)) k h =
+    let c = ring_cut ls at p (q ∷ ps) k in
+    clean_turned ls p q ps (h.1 refl) h.0 (start_in (is_cut ls) (p ∷ (q ∷ ps))) (start_cut (is_cut ls) c.0 p (p ∷ (q ∷ ps)) c.1 c.2).0
+
+starts_from : (ls ms : List Stroke) → ((s : Stroke) → In s ms → In s ls) → AllClean ms → AllClean (strokes (map (split_of ls) ms))
+starts_from ls [] f h = tt
+starts_from ls (s ∷ ms) f h = (clean_start ls s.address s.closed s.positions (f s (inl refl)) h.0, starts_from ls ms (λ t k. f t (inr k)) h.1)
+
+-- so it is with all lines
+pub clean_starts : (ls : List Stroke) → AllClean ls → AllClean (strokes (map (split_of ls) ls))
+clean_starts ls h = starts_from ls ls (λ s k. k) h

@@ -1,0 +1,112 @@
+-- The pieces of lines, joined again, are the lines, and their segments occur as often.
+use Rattle.std.proofs.Common.{◌≡◌, ℕ, ◌+◌, ◌<◌, ◌≤◌, Bool, true, false, cond, List, [], ◌∷◌, ◌++◌, take, drop, length, map, refl, ap, sym, ◌∙◌, arith, add_comm, inl, inr}
+use Rattle.std.specs.List.{flat_map}
+use Rattle.cutter.specs.Pieces.{joined, pieces_from, split_at, start_in, turned, from_start, pieces_of, pieces, but_first, rejoined}
+use Rattle.cutter.specs.Places.{In}
+use Rattle.cutter.specs.Segments.{Segment, segments, segments_from, is_segment, line_segments, piece_segments, times}
+use Rattle.cutter.specs.Slices.{split_of, IsSplit, AllSplit, all_pieces}
+use Rattle.geojson_types.specs.Points.{Point}
+use Rattle.geojson_types.specs.declared.address.Address.{Address}
+use Rattle.linework.specs.Cleaning.{AllClean, IsClean}
+use Rattle.linework.specs.Cuts.{is_cut}
+use Rattle.linework.specs.declared.stroke.Stroke.{Stroke}
+use Rattle.cutter.proofs.SegmentLaws.{split_at_segments, segments_split, turned_segments}
+use Rattle.cutter.proofs.Starts.{ring_cut, start_cut, line}
+use Rattle.std.proofs.lemmas.List.Sums.{sum_by-append}
+use Rattle.std.proofs.lemmas.Grind.{flat_map-append}
+use Rattle.std.proofs.lemmas.List.{length-append, length-drop, length-take-le}
+
+-- the first piece begins at p
+abbrev BeginsAt : Point → List (List Point) → Type 0
+BeginsAt p [] = ⊥
+BeginsAt p ([] ∷ pieces) = ⊥
+BeginsAt p ((q ∷ ps) ∷ pieces) = q ≡ p
+
+joined_begins : (b : Bool) (p q : Point) (pieces : List (List Point)) → BeginsAt p (joined b p q pieces)
+joined_begins true p q pieces = refl
+joined_begins false p q [] = refl
+joined_begins false p q (piece ∷ pieces) = refl
+
+joined_joins : (b : Bool) (p q : Point) (pieces : List (List Point)) → BeginsAt q pieces → rejoined (joined b p q pieces) ≡ p ∷ rejoined pieces
+joined_joins b p q [] h = elim h [ ]
+joined_joins b p q ([] ∷ pieces) h = elim h [ ]
+joined_joins true p q ((r ∷ ps) ∷ pieces) h = ap (λ z. p ∷ (z ∷ (ps ++ flat_map but_first pieces))) (sym h)
+joined_joins false p q ((r ∷ ps) ∷ pieces) h = refl
+
+pub pieces_join : (cut : Point → Bool) (p q : Point) (ps : List Point) → rejoined (pieces_from cut p (q ∷ ps)) ≡ p ∷ (q ∷ ps)
+pieces_join cut p q [] = on (cut q)
+  where
+    on : (b : Bool) → rejoined (joined b p q []) ≡ p ∷ (q ∷ [])
+    on true = refl
+    on false = refl
+pieces_join cut p q (r ∷ ps) =
+    joined_joins (cut q) p q (pieces_from cut q (r ∷ ps)) (joined_begins (cut r) q r (pieces_from cut r ps)) ∙ ap (λ l. p ∷ l) (pieces_join cut q r ps)
+
+pub turned_length : (k : ℕ) (ps : List Point) → k < length ps → length (turned k ps) ≡ length ps
+turned_length k ps h =
+    omega (arith, h, length-append (drop k ps) (drop 1 (take (k + 1) ps)), length-drop k ps, length-drop 1 (take (k + 1) ps), length-take-le (k + 1) ps (omega (arith, h)))
+
+pub split_joins : (cut : Point → Bool) (ps : List Point) → 2 ≤ length ps → rejoined (split_at cut ps) ≡ ps
+split_joins cut [] h = refl
+split_joins cut (p ∷ []) h = absurd (omega arith)
+split_joins cut (p ∷ (q ∷ ps)) h = pieces_join cut p q ps
+
+-- the pieces of a line, joined again, are the line from its start
+joins : (ls : List Stroke) (at : Address) (c : Bool) (ps : List Point) → In (line at c ps) ls → IsClean (line at c ps) → rejoined (pieces_of ls (line at c ps)) ≡ from_start (is_cut ls) (line at c ps)
+joins ls at c [] k h = elim h [ ]
+joins ls at c (p ∷ []) k h = elim h [ ]
+joins ls at false (p ∷ (q ∷ ps)) k h = pieces_join (is_cut ls) p q ps
+joins ls at true (p ∷ (q ∷ ps)) k h =
+    let c = ring_cut ls at p (q ∷ ps) k in
+    let b = start_cut (is_cut ls) c.0 p (p ∷ (q ∷ ps)) c.1 c.2 in
+    let n : start_in (is_cut ls) (p ∷ (q ∷ ps)) < length (p ∷ (q ∷ ps)) = b.0 in
+    split_joins (is_cut ls) (turned (start_in (is_cut ls) (p ∷ (q ∷ ps))) (p ∷ (q ∷ ps)))
+    (omega (arith, turned_length (start_in (is_cut ls) (p ∷ (q ∷ ps))) (p ∷ (q ∷ ps)) n))
+
+pub stroke_split : (ls : List Stroke) (s : Stroke) → In s ls → IsClean s → IsSplit (split_of ls s)
+stroke_split ls s k h = record {
+  joins = joins ls s.address s.closed s.positions k h;
+  segments = split_at_segments (is_cut ls) (from_start (is_cut ls) s);
+}
+
+splits_from : (ls ms : List Stroke) → ((s : Stroke) → In s ms → In s ls) → AllClean ms → AllSplit (map (split_of ls) ms)
+splits_from ls [] f h = tt
+splits_from ls (s ∷ ms) f h = (stroke_split ls s (f s (inl refl)) h.0, splits_from ls ms (λ t k. f t (inr k)) h.1)
+
+-- so it is with all lines
+pub all_split : (ls : List Stroke) → AllClean ls → AllSplit (map (split_of ls) ls)
+all_split ls h = splits_from ls ls (λ s k. k) h
+
+-- a segment occurs in two lists as often as in each of them together
+times_append : (a b : Point) (xs ys : List Segment) → times a b (xs ++ ys) ≡ times a b xs + times a b ys
+times_append a b xs ys = sum_by-append (λ s. cond (is_segment a b s) 1 0) xs ys
+
+-- a line from its start has each segment as often as the line
+times_start : (ls : List Stroke) (a b : Point) (at : Address) (c : Bool) (ps : List Point) → In (line at c ps) ls → IsClean (line at c ps) →
+    times a b (segments (from_start (is_cut ls) (line at c ps))) ≡ times a b (segments ps)
+times_start ls a b at c [] k h = elim h [ ]
+times_start ls a b at c (p ∷ []) k h = elim h [ ]
+times_start ls a b at false (p ∷ (q ∷ ps)) k h = refl
+times_start ls a b at true (p ∷ (q ∷ ps)) k h =
+    let c = ring_cut ls at p (q ∷ ps) k in
+    let t = start_cut (is_cut ls) c.0 p (p ∷ (q ∷ ps)) c.1 c.2 in
+    let j : ℕ = start_in (is_cut ls) (p ∷ (q ∷ ps)) in
+    let n : start_in (is_cut ls) (p ∷ (q ∷ ps)) ≤ length (q ∷ ps) = omega (arith, t.0) in
+    ap (times a b) (turned_segments j p (q ∷ ps) (h.1 refl) n)
+    ∙ times_append a b (segments (drop j (p ∷ (q ∷ ps)))) (segments_from p (take j (q ∷ ps)))
+    ∙ add_comm (times a b (segments (drop j (p ∷ (q ∷ ps))))) (times a b (segments_from p (take j (q ∷ ps))))
+    ∙ sym (ap (times a b) (segments_split j p (q ∷ ps) n) ∙ times_append a b (segments_from p (take j (q ∷ ps))) (segments (drop j (p ∷ (q ∷ ps)))))
+
+times_from : (ls ms : List Stroke) (a b : Point) → ((s : Stroke) → In s ms → In s ls) → AllClean ms → times a b (piece_segments (all_pieces (map (split_of ls) ms))) ≡ times a b (line_segments ms)
+times_from ls [] a b f h = refl
+times_from ls (s ∷ ms) a b f h =
+    ap (times a b) (flat_map-append segments (pieces_of ls s) (all_pieces (map (split_of ls) ms)))
+    ∙ times_append a b (piece_segments (pieces_of ls s)) (piece_segments (all_pieces (map (split_of ls) ms)))
+    ∙ ap (λ l. times a b l + times a b (piece_segments (all_pieces (map (split_of ls) ms)))) (split_at_segments (is_cut ls) (from_start (is_cut ls) s))
+    ∙ ap (λ n. n + times a b (piece_segments (all_pieces (map (split_of ls) ms)))) (times_start ls a b s.address s.closed s.positions (f s (inl refl)) h.0)
+    ∙ ap (λ n. times a b (segments s.positions) + n) (times_from ls ms a b (λ t k. f t (inr k)) h.1)
+    ∙ sym (times_append a b (segments s.positions) (line_segments ms))
+
+-- the pieces of the lines have each segment as often as the lines
+pub same_times : (ls : List Stroke) → AllClean ls → (a b : Point) → times a b (piece_segments (all_pieces (map (split_of ls) ls))) ≡ times a b (line_segments ls)
+same_times ls h a b = times_from ls ls a b (λ s k. k) h

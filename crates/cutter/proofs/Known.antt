@@ -1,0 +1,143 @@
+-- What is known of lines by their vertices.
+use Rattle.std.proofs.Common.{◌≡◌, ℕ, zero, suc, ◌<◌, Bool, true, false, ◌||◌, List, [], ◌∷◌, ◌++◌, length, map, get_or, append_assoc, append-nil, refl, ap, sym, ◌∙◌, subst, arith, inl, inr}
+use Rattle.std.specs.Prelude.{slice_get, Some}
+use Rattle.std.specs.List.{flat_map}
+use Rattle.cutter.specs.Known.{AllKnown, IsReady}
+use Rattle.cutter.specs.Pieces.{split_at, start_in, from_start, pieces_of}
+use Rattle.cutter.specs.Places.{In, IsStructured}
+use Rattle.cutter.specs.Slices.{slices, indexes, SplitStroke, split_by, split_of, all_pieces, EndsPass}
+use Rattle.geojson_types.specs.Points.{Point}
+use Rattle.geojson_types.specs.Rings.{same}
+use Rattle.geojson_types.specs.declared.address.Address.{Address}
+use Rattle.linework.specs.Cleaning.{AllClean, IsClean}
+use Rattle.linework.specs.Cuts.{is_cut}
+use Rattle.linework.specs.Answers.{Answers, is_member, IsOf}
+use Rattle.linework.specs.Visits.{last}
+use Rattle.linework.specs.declared.stroke.Stroke.{Stroke}
+use Rattle.cutter.proofs.Agreement.{in_start, start_agree, by_agree, ends_agree, split}
+use Rattle.cutter.proofs.Junctions.{same_self, in_right}
+use Rattle.cutter.proofs.OpenPieces.{end_cut}
+use Rattle.cutter.proofs.RingPieces.{turned_is}
+use Rattle.cutter.proofs.SliceLaws.{slices_are}
+use Rattle.cutter.proofs.Starts.{any_of, ring_cut, start_cut, line}
+use Rattle.cutter.proofs.Structured.{clean_in, structured}
+use Rattle.std.proofs.lemmas.List.{map-append}
+
+pub in_get : {X : Type 0} (xs : List X) (i : ℕ) (d : X) → i < length xs → In (get_or xs i d) xs
+in_get [] i d h = absurd (omega arith)
+in_get (x ∷ xs) zero d h = inl refl
+in_get (x ∷ xs) (suc i) d h = inr (in_get xs i d (omega arith))
+
+-- the answers are those of the lines
+pub cuts_known : (ls : List Stroke) (v : Answers) → IsOf ls v → (s : Stroke) → In s ls → (x : Point) → In x s.positions → is_member v.cuts x ≡ is_cut ls x
+cuts_known ls v k s m x i = k.cuts x (k.points x ∙ any_of (λ t. is_member t.positions x) s ls m (any_of (same x) x s.positions i (same_self x)))
+
+-- the vertices of lines know each position of them
+pub stroke_known : (ls : List Stroke) (v : Answers) → IsOf ls v → (s : Stroke) → In s ls → AllKnown v.points s.positions
+stroke_known ls v k s m x i = k.points x ∙ any_of (λ t. is_member t.positions x) s ls m (any_of (same x) x s.positions i (same_self x))
+
+in_slice_get : {X : Type 0} (xs : List X) (i : ℕ) (x : X) → slice_get xs i ≡ Some x → In x xs
+in_slice_get [] i x e = cc
+in_slice_get (y ∷ ys) zero x e = inl (some_is e)
+  where
+    some_is : Some y ≡ Some x → x ≡ y
+    some_is e = cc
+in_slice_get (y ∷ ys) (suc i) x e = inr (in_slice_get ys i x e)
+
+-- those of the line that is asked for: what the start of a ring asks of its caller
+pub line_known : (ls : List Stroke) (v : Answers) → IsOf ls v → (i : ℕ) (s : Stroke) → slice_get ls i ≡ Some s → AllKnown v.points s.positions
+line_known ls v k i s e = stroke_known ls v k s (in_slice_get ls i s e)
+
+-- they know the element of the list that is read
+pub known_at : (known ps : List Point) (i : ℕ) (x : Point) → AllKnown known ps → i < length ps → x ≡ get_or ps i x → is_member known x ≡ true
+known_at known ps i x h k e = h x (subst (λ z. In z ps) (sym e) (in_get ps i x k))
+
+-- a line from its start has no other positions than the line
+pub known_start : (known : List Point) (cut : Point → Bool) (s : Stroke) → AllKnown known s.positions → AllKnown known (from_start cut s)
+known_start known cut s h x i = h x (in_start cut s.address s.closed s.positions x i)
+
+-- each line begins and ends at cut positions, from its start
+ends : (ls : List Stroke) (at : Address) (c : Bool) (ps : List Point) → In (line at c ps) ls → IsClean (line at c ps) → EndsPass (is_cut ls) (from_start (is_cut ls) (line at c ps))
+ends ls at c [] m h = elim h [ ]
+ends ls at c (p ∷ []) m h = elim h [ ]
+ends ls at false (p ∷ (q ∷ ps)) m h = (
+  end_cut ls (line at false (p ∷ (q ∷ ps))) p m (ap (λ b. b || same p (last q ps)) (same_self p)),
+  end_cut ls (line at false (p ∷ (q ∷ ps))) (last q ps) m (ap (λ b. same (last q ps) p || b) (same_self (last q ps)) ∙ or_right (same (last q ps) p)),
+)
+  where
+    or_right : (b : Bool) → (b || true) ≡ true
+    or_right true = refl
+    or_right false = refl
+ends ls at true (p ∷ (q ∷ ps)) m h =
+    let c = ring_cut ls at p (q ∷ ps) m in
+    let s = start_cut (is_cut ls) c.0 p (p ∷ (q ∷ ps)) c.1 c.2 in
+    let t = turned_is p p q ps (h.1 refl) (start_in (is_cut ls) (p ∷ (q ∷ ps))) s.0 in
+    subst (λ l. EndsPass (is_cut ls) l) (sym t.1) (s.1, ap (is_cut ls) t.2 ∙ s.1)
+
+-- the start of a ring is one of its indexes
+starts : (ls : List Stroke) (at : Address) (c : Bool) (ps : List Point) → In (line at c ps) ls → IsClean (line at c ps) → c ≡ true → start_in (is_cut ls) ps < length ps
+starts ls at c [] m h e = elim h [ ]
+starts ls at c (p ∷ ps) m h e =
+    let r = ring_cut ls at p ps (subst (λ b. In (line at b (p ∷ ps)) ls) e m) in
+    (start_cut (is_cut ls) r.0 p (p ∷ ps) r.1 r.2).0
+
+module _ (ls : List Stroke) (v : Answers) (known : IsOf ls v) (s : Stroke) (m : In s ls) where
+  -- the start by the vertices is that by the lines
+  pub start_known : start_in (is_member v.cuts) s.positions ≡ start_in (is_cut ls) s.positions
+  start_known = start_agree (is_member v.cuts) (is_cut ls) s.positions (cuts_known ls v known s m)
+
+  pub starts_known : AllClean ls → s.closed ≡ true → start_in (is_member v.cuts) s.positions < length s.positions
+  starts_known clean e = subst (λ k. k < length s.positions) (sym start_known) (starts ls s.address s.closed s.positions m (clean_in s ls clean m) e)
+
+  -- so the line can be split ..
+  pub ready : AllClean ls → IsReady v s
+  ready clean = record {
+    known = stroke_known ls v known s m;
+    starts = starts_known clean;
+    ends = ends_agree (is_member v.cuts) (is_cut ls) s (cuts_known ls v known s m) (ends ls s.address s.closed s.positions m (clean_in s ls clean m));
+  }
+
+  -- .. and is split as the lines say
+  pub split_known : split_by (is_member v.cuts) s ≡ split_of ls s
+  split_known = by_agree (is_member v.cuts) (is_cut ls) s (cuts_known ls v known s m)
+
+pub flat_split : (ls ms : List Stroke) → all_pieces (map (split_of ls) ms) ≡ flat_map (pieces_of ls) ms
+flat_split ls [] = refl
+flat_split ls (s ∷ ms) = ap (λ l. pieces_of ls s ++ l) (flat_split ls ms)
+
+pub structured_splits : (ls : List Stroke) (ss : List SplitStroke) → AllClean ls → ss ≡ map (split_of ls) ls → IsStructured (all_pieces ss)
+structured_splits ls ss clean e = subst (λ z. IsStructured z) (sym (ap all_pieces e ∙ flat_split ls ls)) (structured ls clean)
+
+pub still_all : {X : Type 0} (done rest more all : List X) → done ++ rest ≡ all → rest ≡ more → done ++ more ≡ all
+still_all done rest more all e n = ap (λ l. done ++ l) (sym n) ∙ e
+
+-- what comes next is one of them
+pub in_next : {X : Type 0} (done : List X) (x : X) (rest all : List X) → done ++ (x ∷ rest) ≡ all → In x all
+in_next done x rest all e = subst (λ l. In x l) e (in_right x done (x ∷ rest) (inl refl))
+
+-- one more is done
+pub next_done : {X : Type 0} (done : List X) (x : X) (rest all : List X) → done ++ (x ∷ rest) ≡ all → (done ++ (x ∷ [])) ++ rest ≡ all
+next_done done x rest all e = append_assoc done (x ∷ []) rest ∙ e
+
+pub next_map : {X Y : Type 0} (f : X → Y) (done : List X) (x : X) (ys zs : List Y) (y w : Y) → zs ≡ ys ++ (y ∷ []) → ys ≡ map f done → y ≡ w → w ≡ f x → zs ≡ map f (done ++ (x ∷ []))
+next_map f done x ys zs y w g e h k = g ∙ ap (λ l. l ++ (y ∷ [])) e ∙ ap (λ z. map f done ++ (z ∷ [])) (h ∙ k) ∙ sym (map-append f done (x ∷ []))
+
+pub none_left : {X : Type 0} (rest : List X) → length rest ≡ 0 → rest ≡ []
+none_left [] e = refl
+none_left (x ∷ xs) e = absurd (omega arith)
+
+-- all is done where nothing is left
+pub all_done : {X Y : Type 0} (f : X → Y) (done rest all : List X) (ys : List Y) → done ++ rest ≡ all → rest ≡ [] → ys ≡ map f done → ys ≡ map f all
+all_done f done rest all ys e n k = k ∙ ap (map f) (sym (append-nil done) ∙ ap (λ l. done ++ l) (sym n) ∙ e)
+
+-- a line from its start with its cut indexes is a split line
+pub split_view : (cut : Point → Bool) (s : Stroke) (t : Stroke) (is : List ℕ) → t ≡ line s.address s.closed (from_start cut s) → is ≡ indexes cut 0 t.positions → EndsPass cut (from_start cut s) →
+    split t.address t.closed t.positions (slices t.positions is) ≡ split_by cut s
+split_view cut s t is et ei h =
+    ap (λ l. split t.address t.closed t.positions (slices t.positions l)) ei
+    ∙ ap (λ z. split z.address z.closed z.positions (slices z.positions (indexes cut 0 z.positions))) et
+    ∙ ap (λ l. split s.address s.closed (from_start cut s) l) (all (from_start cut s) h)
+  where
+    all : (qs : List Point) → EndsPass cut qs → slices qs (indexes cut 0 qs) ≡ split_at cut qs
+    all [] k = refl
+    all (q ∷ qs) k = slices_are cut q qs k.0 k.1

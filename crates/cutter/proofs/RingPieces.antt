@@ -1,0 +1,89 @@
+-- The pieces of a ring.
+use Rattle.std.proofs.Common.{◌≡◌, ◌≢◌, ℕ, zero, suc, ◌+◌, ◌<◌, ◌≤◌, true, List, [], ◌∷◌, ◌++◌, take, drop, length, get_or, append-nil, refl, ap, sym, ◌∙◌, subst, arith, inl, inr}
+use Rattle.cutter.specs.Pieces.{pieces_of, split_at, turned, start_in}
+use Rattle.geojson_types.specs.Points.{Point}
+use Rattle.geojson_types.specs.declared.address.Address.{Address}
+use Rattle.linework.specs.Cleaning.{Moves}
+use Rattle.linework.specs.Cuts.{is_cut}
+use Rattle.linework.specs.Visits.{Visit, visits, visits_from, all_visits, last}
+use Rattle.linework.specs.declared.stroke.Stroke.{Stroke}
+use Rattle.cutter.proofs.Junctions.{In, visit, Via}
+use Rattle.cutter.proofs.Splits.{Steps, AllWalks, all_walks}
+use Rattle.cutter.proofs.TurnedRings.{Goes, Good, turned_good}
+use Rattle.cutter.proofs.Starts.{start_cut, ring_cut, line}
+use Rattle.cutter.proofs.OpenPieces.{in_flat}
+
+steps_from : (ls : List Stroke) (p q : Point) (ps : List Point) → Goes (Via ls) p q ps → Steps (is_cut ls) (Via ls) p q ps
+steps_from ls p q [] h = tt
+steps_from ls p q (r ∷ ps) h = (h.1, steps_from ls q r ps h.2)
+
+moves_from : (ls : List Stroke) (p q : Point) (ps : List Point) → Goes (Via ls) p q ps → Moves p (q ∷ ps)
+moves_from ls p q [] h = (h, tt)
+moves_from ls p q (r ∷ ps) h = (h.0, moves_from ls q r ps h.2)
+
+goes_from : (ls : List Stroke) (p q : Point) (ps : List Point) → ((v : Visit) → In v (visits_from p q ps) → In v (all_visits ls)) → Moves p (q ∷ ps) → Goes (Via ls) p q ps
+goes_from ls p q [] f m = m.0
+goes_from ls p q (r ∷ ps) f m = (m.0, record { seen = inl (f (visit p q r) (inl refl)); comes = m.0; goes = m.1.0 }, goes_from ls q r ps (λ v k. f v (inr k)) m.1)
+
+-- one more move at the end
+pub moves_more : (ls : List Stroke) (p : Point) (ps : List Point) (q : Point) → Moves p ps → last p ps ≢ q → Moves p (ps ++ (q ∷ []))
+moves_more ls p [] q m n = (n, tt)
+moves_more ls p (r ∷ ps) q m n = (m.0, moves_more ls r ps q m.1 n)
+
+-- the list without its last position
+abbrev pub firsts : Point → List Point → List Point
+firsts p [] = []
+firsts p (q ∷ ps) = p ∷ firsts q ps
+
+pub firsts_last : (p : Point) (ps : List Point) → p ∷ ps ≡ firsts p ps ++ (last p ps ∷ [])
+firsts_last p [] = refl
+firsts_last p (q ∷ ps) = ap (λ l. p ∷ l) (firsts_last q ps)
+
+pub firsts_length : (p : Point) (ps : List Point) → length (firsts p ps) ≡ length ps
+firsts_length p [] = refl
+firsts_length p (q ∷ ps) = ap suc (firsts_length q ps)
+
+-- a list from the same cut position to it, all good, splits into walks
+split_good : (ls : List Stroke) (xs : List Point) (g : Point) → (ys : List Point) → xs ≡ g ∷ ys → Good (Via ls) xs → is_cut ls g ≡ true → is_cut ls (last g ys) ≡ true → AllWalks (is_cut ls) (Via ls) (split_at (is_cut ls) xs)
+split_good ls xs g [] e h c d = subst (λ l. AllWalks (is_cut ls) (Via ls) (split_at (is_cut ls) l)) (sym e) tt
+split_good ls xs g (y ∷ ys) e h c d =
+    let h' : Goes (Via ls) g y ys = subst (λ l. Good (Via ls) l) e h in
+    subst (λ l. AllWalks (is_cut ls) (Via ls) (split_at (is_cut ls) l)) (sym e) (all_walks (is_cut ls) (Via ls) g y ys c (steps_from ls g y ys h') (moves_from ls g y ys h') d)
+
+last_take : (q d : Point) (j : ℕ) (ps : List Point) → j ≤ length ps → last q (take j ps) ≡ get_or (q ∷ ps) j d
+last_take q d zero ps h = refl
+last_take q d (suc j) [] h = absurd (omega arith)
+last_take q d (suc j) (r ∷ ps) h = last_take r d j ps (omega arith)
+
+last_append : (p : Point) (xs : List Point) (q : Point) (ys : List Point) → last p (xs ++ (q ∷ ys)) ≡ last q ys
+last_append p [] q ys = refl
+last_append p (x ∷ xs) q ys = last_append x xs q ys
+
+pub drop_at : (d : Point) (k : ℕ) (xs : List Point) → k < length xs → drop k xs ≡ get_or xs k d ∷ drop (suc k) xs
+drop_at d k [] h = absurd (omega arith)
+drop_at d zero (x ∷ xs) h = refl
+drop_at d (suc k) (x ∷ xs) h = drop_at d k xs (omega arith)
+
+-- a turned ring begins and ends at its start
+pub turned_is : (d p q : Point) (ps : List Point) → last q ps ≡ p → (k : ℕ) → k < length (p ∷ (q ∷ ps)) →
+    (ys : List Point) × (turned k (p ∷ (q ∷ ps)) ≡ get_or (p ∷ (q ∷ ps)) k d ∷ ys) × (last (get_or (p ∷ (q ∷ ps)) k d) ys ≡ get_or (p ∷ (q ∷ ps)) k d)
+turned_is d p q ps e zero l = (q ∷ ps, append-nil (p ∷ (q ∷ ps)), e)
+turned_is d p q ps e (suc j) l =
+    let n : suc j + 1 ≡ suc (suc j) = omega arith in (
+      drop (suc (suc j)) (p ∷ (q ∷ ps)) ++ (q ∷ take j ps),
+      ap (λ m. drop (suc j) (p ∷ (q ∷ ps)) ++ drop 1 (take m (p ∷ (q ∷ ps)))) n ∙ ap (λ zs. zs ++ (q ∷ take j ps)) (drop_at d (suc j) (p ∷ (q ∷ ps)) l),
+      last_append (get_or (q ∷ ps) j d) (drop j ps) q (take j ps) ∙ last_take q d j ps (omega arith),
+    )
+
+pub ring_pieces : (ls : List Stroke) (at : Address) (p q : Point) (ps : List Point) → In (line at true (p ∷ (q ∷ ps))) ls → last q ps ≡ p → Moves p (q ∷ ps) →
+    AllWalks (is_cut ls) (Via ls) (pieces_of ls (line at true (p ∷ (q ∷ ps))))
+ring_pieces ls at p q ps k e m =
+    let c = ring_cut ls at p (q ∷ ps) k in
+    let s = start_cut (is_cut ls) c.0 p (p ∷ (q ∷ ps)) c.1 c.2 in
+    let t = turned_is p p q ps e (start_in (is_cut ls) (p ∷ (q ∷ ps))) s.0 in
+    let more : Moves p (q ∷ (ps ++ (q ∷ []))) = moves_more ls p (q ∷ ps) q m (λ z. m.0 (sym e ∙ z)) in
+    let good : Good (Via ls) ((p ∷ (q ∷ ps)) ++ (q ∷ [])) = goes_from ls p q (ps ++ (q ∷ [])) (λ v h. in_flat visits (line at true (p ∷ (q ∷ ps))) v ls k h) more in
+    let ended : p ∷ (q ∷ ps) ≡ firsts p (q ∷ ps) ++ (p ∷ []) = firsts_last p (q ∷ ps) ∙ ap (λ z. firsts p (q ∷ ps) ++ (z ∷ [])) e in
+    split_good ls (turned (start_in (is_cut ls) (p ∷ (q ∷ ps))) (p ∷ (q ∷ ps))) (get_or (p ∷ (q ∷ ps)) (start_in (is_cut ls) (p ∷ (q ∷ ps))) p) t.0 t.1
+    (turned_good (Via ls) (start_in (is_cut ls) (p ∷ (q ∷ ps))) p q ps (firsts p (q ∷ ps)) ended (omega (arith, s.0, firsts_length p (q ∷ ps))) good)
+    s.1 (ap (is_cut ls) t.2 ∙ s.1)

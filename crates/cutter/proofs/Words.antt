@@ -1,0 +1,127 @@
+-- The structure of pieces, said by how often segments occur in them.
+use Rattle.std.proofs.Common.{◌≡◌, ◌+◌, ◌<◌, ◌≤◌, Bool, true, false, cond, ◌&&◌, ◌||◌, List, [], ◌∷◌, ◌++◌, length, reverse, refl, ap, sym, ◌∙◌, subst, arith, ◌⊎◌, inl, inr}
+use Rattle.std.specs.List.{count_by}
+use Rattle.std.proofs.lemmas.List.Sums.{sum_by-cons}
+use Rattle.cutter.specs.Places.{At, In, IsStructured, first, later}
+use Rattle.cutter.specs.Segments.{Segment, segments, segments_from, is_segment, times}
+use Rattle.cutter.specs.Structure.{SharersAreAlike, SegmentsAreOnce}
+use Rattle.geojson_types.specs.Points.{Point}
+use Rattle.geojson_types.specs.Rings.{same}
+use Rattle.cutter.proofs.Junctions.{same_is, and_true}
+
+-- the segment between a and b goes from the one to the other
+pub segment_ends : (a b : Point) (s : Segment) → is_segment a b s ≡ true → ((a ≡ s.from) × (b ≡ s.to)) ⊎ ((a ≡ s.to) × (b ≡ s.from))
+unfolding is_segment
+segment_ends a b s h = elim (or_case (same a s.from && same b s.to) (same a s.to && same b s.from) h) [
+  | inl e ↦ inl (same_is a s.from (and_true (same a s.from) (same b s.to) e).0, same_is b s.to (and_true (same a s.from) (same b s.to) e).1)
+  | inr e ↦ inr (same_is a s.to (and_true (same a s.to) (same b s.from) e).0, same_is b s.from (and_true (same a s.to) (same b s.from) e).1)
+]
+  where
+    or_case : (x y : Bool) → (x || y) ≡ true → (x ≡ true) ⊎ (y ≡ true)
+    or_case true y h = inl refl
+    or_case false y h = inr h
+
+-- no two of the list pass
+abbrev Once : {X : Type 0} → (X → Bool) → List X → Type 0
+Once t [] = Unit {0}
+Once {X = X} t (x ∷ xs) = ((y : X) → In y xs → t x ≡ true → t y ≡ true → ⊥) × Once t xs
+
+count_none : {X : Type 0} (t : X → Bool) (xs : List X) → ((y : X) → In y xs → t y ≡ true → ⊥) → count_by t xs ≡ 0
+count_none t [] h = refl
+count_none t (x ∷ xs) h = sum_by-cons (λ z. cond (t z) 1 0) x xs ∙ on (t x) refl (count_none t xs (λ y k. h y (inr k)))
+  where
+    on : (b : Bool) → t x ≡ b → count_by t xs ≡ 0 → cond b 1 0 + count_by t xs ≡ 0
+    on true e ih = absurd (h x (inl refl) e)
+    on false e ih = omega (arith, ih)
+
+count_most : {X : Type 0} (t : X → Bool) (xs : List X) → Once t xs → count_by t xs ≤ 1
+count_most t [] o = omega arith
+count_most t (y ∷ ys) o = subst (λ n. n ≤ 1) (sym (sum_by-cons (λ z. cond (t z) 1 0) y ys)) (on (t y) refl (count_most t ys o.1))
+  where
+    on : (b : Bool) → t y ≡ b → count_by t ys ≤ 1 → cond b 1 0 + count_by t ys ≤ 1
+    on true e ih = omega (arith, count_none t ys (λ z i u. o.0 z i e u))
+    on false e ih = omega (arith, ih)
+
+-- where a test passes at times, one of the list passes
+pub count_some : {X : Type 0} (t : X → Bool) (xs : List X) → 0 < count_by t xs → (x : X) × In x xs × (t x ≡ true)
+count_some t [] h = absurd (omega arith)
+count_some {X = X} t (y ∷ ys) h = on (t y) refl (subst (λ n. 0 < n) (sum_by-cons (λ z. cond (t z) 1 0) y ys) h) (λ k. count_some t ys k)
+  where
+    on : (b : Bool) → t y ≡ b → 0 < cond b 1 0 + count_by t ys → (0 < count_by t ys → (x : X) × In x ys × (t x ≡ true)) → (x : X) × In x (y ∷ ys) × (t x ≡ true)
+    on true e k ih = (y, inl refl, e)
+    on false e k ih = let r = ih (omega (arith, k)) in (r.0, inr r.1, r.2)
+
+at_more : {l : List Point} {a b : Point} {r xs : List Point} → (p : Point) → At l a b r xs → At (l ++ (p ∷ [])) a b r (p ∷ xs)
+at_more p first = later first
+at_more p (later h) = later (at_more p h)
+
+-- a segment of a list has a place in it
+place_of : (s : Segment) (p : Point) (ps : List Point) → In s (segments_from p ps) → (l : List Point) × (r : List Point) × At l s.from s.to r (p ∷ ps)
+place_of s p [] k = elim k [ ]
+place_of s p (q ∷ ps) (inl e) = ([], ps, subst (λ z. At [] z.from z.to ps (p ∷ (q ∷ ps))) (sym e) first)
+place_of s p (q ∷ ps) (inr k) = let h = place_of s q ps k in (h.0 ++ (p ∷ []), h.1, at_more p h.2)
+
+pub place : (s : Segment) (xs : List Point) → In s (segments xs) → (l : List Point) × (r : List Point) × At l s.from s.to r xs
+place s [] k = elim k [ ]
+place s (p ∷ ps) k = place_of s p ps k
+
+-- a segment that occurs has a place, in one of the directions
+occurs_at : (a b : Point) (x : List Point) → 0 < times a b (segments x) → (l : List Point) × (r : List Point) × (At l a b r x ⊎ At l b a r x)
+occurs_at a b x h =
+    let s = count_some (is_segment a b) (segments x) h in
+    let p = place s.0 x s.1 in (
+      p.0,
+      p.1,
+      elim (segment_ends a b s.0 s.2) [
+        | inl e ↦ inl (subst (λ z. At p.0 z b p.1 x) (sym e.0) (subst (λ z. At p.0 s.0.from z p.1 x) (sym e.1) p.2))
+        | inr e ↦ inr (subst (λ z. At p.0 z a p.1 x) (sym e.1) (subst (λ z. At p.0 s.0.from z p.1 x) (sym e.0) p.2))
+      ],
+    )
+
+module _ (xs : List (List Point)) (h : IsStructured xs) where
+  pub sharers : SharersAreAlike xs
+  sharers x y i j a b m n = on (occurs_at a b x m) (occurs_at a b y n)
+    where
+      on : (l : List Point) × (r : List Point) × (At l a b r x ⊎ At l b a r x) → (l : List Point) × (r : List Point) × (At l a b r y ⊎ At l b a r y) → (x ≡ y) ⊎ (x ≡ reverse y)
+      on (l, r, inl p) (l', r', inl q) = inl (h.same_way x y i j l a b r l' r' p q)
+      on (l, r, inl p) (l', r', inr q) = inr (h.opposite x y i j l a b r l' r' p q)
+      on (l, r, inr p) (l', r', inl q) = inr (h.opposite x y i j l b a r l' r' p q)
+      on (l, r, inr p) (l', r', inr q) = inl (h.same_way x y i j l b a r l' r' p q)
+
+  -- two places of a segment are one
+  clash : (x : List Point) → In x xs → (a b : Point) (l : List Point) (s : Segment) (r : List Point) (l' : List Point) (t : Segment) (r' : List Point) →
+      At l s.from s.to r x → At l' t.from t.to r' x → is_segment a b s ≡ true → is_segment a b t ≡ true → length l < length l' → ⊥
+  clash x i a b l s r l' t r' m n u v k = on (segment_ends a b s u) (segment_ends a b t v)
+    where
+      far : l ≡ l' → ⊥
+      far e = absurd (omega (arith, k, ap length e))
+
+      same_place : s.from ≡ t.from → s.to ≡ t.to → ⊥
+      same_place e f = far (h.once x i l s.from s.to r l' r' m (subst (λ z. At l' s.from z r' x) (sym f) (subst (λ z. At l' z t.to r' x) (sym e) n)))
+
+      back : s.to ≡ t.from → s.from ≡ t.to → ⊥
+      back e f = h.not_back x i l s.from s.to r l' r' m (subst (λ z. At l' s.to z r' x) (sym f) (subst (λ z. At l' z t.to r' x) (sym e) n))
+
+      on : ((a ≡ s.from) × (b ≡ s.to)) ⊎ ((a ≡ s.to) × (b ≡ s.from)) → ((a ≡ t.from) × (b ≡ t.to)) ⊎ ((a ≡ t.to) × (b ≡ t.from)) → ⊥
+      on (inl p) (inl q) = same_place (sym p.0 ∙ q.0) (sym p.1 ∙ q.1)
+      on (inl p) (inr q) = back (sym p.1 ∙ q.1) (sym p.0 ∙ q.0)
+      on (inr p) (inl q) = back (sym p.0 ∙ q.0) (sym p.1 ∙ q.1)
+      on (inr p) (inr q) = same_place (sym p.1 ∙ q.1) (sym p.0 ∙ q.0)
+
+  none_later : (x : List Point) → In x xs → (a b : Point) (l0 : List Point) (s : Segment) (r0 : List Point) → At l0 s.from s.to r0 x → is_segment a b s ≡ true →
+      (l : List Point) (p q : Point) (r : List Point) → At l p q r x → length l0 < length l → (t : Segment) → In t (segments_from p (q ∷ r)) → is_segment a b t ≡ true → ⊥
+  none_later x k a b l0 s r0 m u l p q r n o t (inl e) v = clash x k a b l0 s r0 l (record { from = p; to = q }) r m n u (subst (λ z. is_segment a b z ≡ true) e v) o
+  none_later x k a b l0 s r0 m u l p q [] n o t (inr i) v = elim i [ ]
+  none_later x k a b l0 s r0 m u l p q (c ∷ r) n o t (inr i) v = none_later x k a b l0 s r0 m u (p ∷ l) q c r (later n) (omega (arith, o)) t i v
+
+  once_from : (x : List Point) → In x xs → (a b : Point) (l : List Point) (p q : Point) (r : List Point) → At l p q r x → Once (is_segment a b) (segments_from p (q ∷ r))
+  once_from x k a b l p q [] n = (λ t i u v. elim i [ ], tt)
+  once_from x k a b l p q (c ∷ r) n = (λ t i u v. none_later x k a b l (record { from = p; to = q }) (c ∷ r) n u (p ∷ l) q c r (later n) (omega arith) t i v, once_from x k a b (p ∷ l) q c r (later n))
+
+  once_in : (x : List Point) → In x xs → (a b : Point) → Once (is_segment a b) (segments x)
+  once_in [] k a b = tt
+  once_in (p ∷ []) k a b = tt
+  once_in (p ∷ (q ∷ r)) k a b = once_from (p ∷ (q ∷ r)) k a b [] p q r first
+
+  pub segments_once : SegmentsAreOnce xs
+  segments_once x k a b = count_most (is_segment a b) (segments x) (once_in x k a b)

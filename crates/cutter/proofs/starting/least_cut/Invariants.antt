@@ -1,0 +1,8 @@
+use Rattle.std.proofs.Common.{◌≡◌, take}
+use Rattle.std.specs.List.{filter}
+use Rattle.linework.specs.Answers.{is_member}
+use Rattle.cutter.specs.Slices.{least_point}
+use Rattle.cutter.proofs.starting.least_cut.Given as goal
+
+abbrev pub invariant-loop-p : goal.invariant-loop-p
+invariant-loop-p l = l.best ≡ least_point (filter (is_member l.vertices.cuts) (take l.p-index l.positions))

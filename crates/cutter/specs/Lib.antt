@@ -1,0 +1,6 @@
+pub mod Known
+pub mod Pieces
+pub mod Places
+pub mod Segments
+pub mod Slices
+pub mod Structure

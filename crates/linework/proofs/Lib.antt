@@ -1,0 +1,10 @@
+pub mod Cleaned
+pub mod Flags
+pub mod Gathered
+pub mod Noting
+pub mod Placing
+pub mod Positions
+pub mod Proper
+pub mod Rows
+pub mod Settled
+pub mod Visiting

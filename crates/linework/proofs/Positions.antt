@@ -1,0 +1,175 @@
+-- The positions of lines are those of their shapes, and so the positions of the linework are those of the layers.
+use Rattle.std.proofs.Common.{◌≡◌, ℕ, suc, Bool, true, false, cond, not, List, [], ◌∷◌, ◌++◌, map, Option, None, Some, ◌⊎◌, inl, inr, refl, ap, sym, ◌∙◌, subst}
+use Rattle.std.specs.List.{filter, AllByRecursion}
+use Rattle.geojson_types.specs.declared.address.Address.{Address}
+use Rattle.geojson_types.specs.declared.geometry.Geometry.{fold-Geometry, fold-roll-Geometry}
+use Rattle.geojson_types.specs.declared.geometry.Geometry.TheOpen.{Geometry-F}
+use Rattle.geojson_types.specs.declared.geometry.Geometry.TheVariants as g
+use Rattle.geojson_types.specs.declared.layer.Layer.{Layer}
+use Rattle.geojson_types.specs.Features.{Shape, Featured}
+use Rattle.geojson_types.specs.Lists.{joined}
+use Rattle.geojson_types.specs.Paths.{placed_strokes}
+use Rattle.geojson_types.specs.Places.{points_step, shape_points, option_points, features_points}
+use Rattle.geojson_types.specs.Points.{Point}
+use Rattle.geojson_types.specs.Pruning.{strokes}
+use Rattle.geojson_types.specs.Rings.{same}
+use Rattle.geojson_types.proofs.Cases.{strokes-point, strokes-points, strokes-line, strokes-lines, strokes-area, strokes-areas, strokes-group}
+use Rattle.geojson_types.proofs.Induction.{by_kinds}
+use Rattle.linework.specs.declared.stroke.Stroke.{Stroke}
+use Rattle.linework.specs.Among.{In}
+use Rattle.linework.specs.Cleaning.{clean_from, clean}
+use Rattle.linework.specs.Laws.{layers_points}
+use Rattle.linework.specs.Linework.{stroke_at, option_placed, feature_address, strokes_of_layer, strokes_of_layers, is_collapsed, linework}
+use Rattle.linework.proofs.Placing.{told}
+
+-- elements of lists that are joined, made of others, or chosen
+in_left : {X : Type 0} (x : X) (xs ys : List X) → In x xs → In x (xs ++ ys)
+in_left x [] ys k = elim k [ ]
+in_left x (z ∷ xs) ys (inl e) = inl e
+in_left x (z ∷ xs) ys (inr k) = inr (in_left x xs ys k)
+
+in_right : {X : Type 0} (x : X) (xs ys : List X) → In x ys → In x (xs ++ ys)
+in_right x [] ys k = k
+in_right x (z ∷ xs) ys k = inr (in_right x xs ys k)
+
+in_either : {X : Type 0} (x : X) (xs ys : List X) → In x (xs ++ ys) → In x xs ⊎ In x ys
+in_either x [] ys k = inr k
+in_either x (z ∷ xs) ys (inl e) = inl (inl e)
+in_either x (z ∷ xs) ys (inr k) = elim (in_either x xs ys k) [ inl m ↦ inl (inr m) | inr m ↦ inr m ]
+
+in_map : {X Y : Type 0} (f : X → Y) (x : X) (xs : List X) → In x xs → In (f x) (map f xs)
+in_map f x [] k = elim k [ ]
+in_map f x (z ∷ xs) (inl e) = inl (ap f e)
+in_map f x (z ∷ xs) (inr k) = inr (in_map f x xs k)
+
+from_map : {X Y : Type 0} (f : X → Y) (y : Y) (xs : List X) → In y (map f xs) → (x : X) × In x xs × (y ≡ f x)
+from_map f y [] k = elim k [ ]
+from_map f y (z ∷ xs) (inl e) = (z, inl refl, e)
+from_map f y (z ∷ xs) (inr k) = let m = from_map f y xs k in (m.0, inr m.1, m.2)
+
+from_filter : {X : Type 0} (t : X → Bool) (x : X) (xs : List X) → In x (filter t xs) → In x xs
+from_filter t x [] k = k
+from_filter t x (y ∷ ys) k = on (t y) k (λ m. from_filter t x ys m)
+  where
+    on : (b : Bool) → In x (cond b (y ∷ filter t ys) (filter t ys)) → (In x (filter t ys) → In x ys) → In x (y ∷ ys)
+    on true (inl e) ih = inl e
+    on true (inr k) ih = inr (ih k)
+    on false k ih = inr (ih k)
+
+joined_left : {X : Type 0} (x : X) (xss yss : List (List X)) → In x (joined xss) → In x (joined (xss ++ yss))
+joined_left x [] yss k = elim k [ ]
+joined_left x (xs ∷ xss) yss k = elim (in_either x xs (joined xss) k) [ inl m ↦ in_left x xs (joined (xss ++ yss)) m | inr m ↦ in_right x xs (joined (xss ++ yss)) (joined_left x xss yss m) ]
+
+joined_right : {X : Type 0} (x : X) (xss yss : List (List X)) → In x (joined yss) → In x (joined (xss ++ yss))
+joined_right x [] yss k = k
+joined_right x (xs ∷ xss) yss k = in_right x xs (joined (xss ++ yss)) (joined_right x xss yss k)
+
+-- a cleaned list has no other positions
+clean_in : (p q : Point) (qs : List Point) → In p (clean_from q qs) → In p (q ∷ qs)
+clean_in p q [] k = k
+clean_in p q (r ∷ qs) k = on (same q r) k (λ m. clean_in p r qs m)
+  where
+    on : (b : Bool) → In p (cond b (clean_from r qs) (q ∷ clean_from r qs)) → (In p (clean_from r qs) → In p (r ∷ qs)) → In p (q ∷ (r ∷ qs))
+    on true k ih = inr (ih k)
+    on false (inl e) ih = inl e
+    on false (inr k) ih = inr (ih k)
+
+-- the positions of a shape, at each kind
+abbrev collect : Shape → List Point
+collect = fold-Geometry Point (List Point) (List Point) (List Point) points_step
+
+points-line : (l : List Point) → shape_points (g.Line l) ≡ l
+unfolding shape_points
+points-line l = ap collect (sym (g.rolls-Line l)) ∙ fold-roll-Geometry Point (List Point) (List Point) (List Point) points_step (Geometry-F.Line l)
+
+points-lines : (ls : List (List Point)) → shape_points (g.Lines ls) ≡ joined ls
+unfolding shape_points
+points-lines ls = ap collect (sym (g.rolls-Lines ls)) ∙ fold-roll-Geometry Point (List Point) (List Point) (List Point) points_step (Geometry-F.Lines ls)
+
+points-area : (rs : List (List Point)) → shape_points (g.Area rs) ≡ joined rs
+unfolding shape_points
+points-area rs = ap collect (sym (g.rolls-Area rs)) ∙ fold-roll-Geometry Point (List Point) (List Point) (List Point) points_step (Geometry-F.Area rs)
+
+points-areas : (rss : List (List (List Point))) → shape_points (g.Areas rss) ≡ joined (joined rss)
+unfolding shape_points
+points-areas rss = ap collect (sym (g.rolls-Areas rss)) ∙ fold-roll-Geometry Point (List Point) (List Point) (List Point) points_step (Geometry-F.Areas rss)
+
+points-group : (ss : List Shape) → shape_points (g.Group ss) ≡ joined (map shape_points ss)
+unfolding shape_points
+points-group ss = ap collect (sym (g.rolls-Group ss)) ∙ fold-roll-Geometry Point (List Point) (List Point) (List Point) points_step (Geometry-F.Group ss)
+
+-- the positions of the lines of a shape are its own
+abbrev Line : Type 0
+Line = Bool × List Point
+
+abbrev AreIn : List Line → List Point → Type 0
+AreIn ls ps = (b : Line) (p : Point) → In b ls → In p b.1 → In p ps
+
+abbrev Holds : Shape → Type 0
+Holds s = AreIn (strokes s) (shape_points s)
+
+none_in : (ps : List Point) → AreIn [] ps
+none_in ps b p k m = elim k [ ]
+
+lines_in : (closed : Bool) (ls : List (List Point)) → AreIn (map (λ l. (closed, l)) ls) (joined ls)
+lines_in closed [] b p k m = elim k [ ]
+lines_in closed (l ∷ ls) b p (inl e) m = in_left p l (joined ls) (subst (λ (z : Line). In p z.1) e m)
+lines_in closed (l ∷ ls) b p (inr k) m = in_right p l (joined ls) (lines_in closed ls b p k m)
+
+areas_in : (rss : List (List (List Point))) → AreIn (joined (map (map (λ r. (true, r))) rss)) (joined (joined rss))
+areas_in [] b p k m = elim k [ ]
+areas_in (rs ∷ rss) b p k m = elim (in_either b (map (λ r. (true, r)) rs) (joined (map (map (λ r. (true, r))) rss)) k) [
+  | inl n ↦ joined_left p rs (joined rss) (lines_in true rs b p n m)
+  | inr n ↦ joined_right p rs (joined rss) (areas_in rss b p n m)
+]
+
+members_in : (ss : List Shape) → AllByRecursion Holds ss → AreIn (joined (map strokes ss)) (joined (map shape_points ss))
+members_in [] all b p k m = elim k [ ]
+members_in (s ∷ ss) all b p k m = elim (in_either b (strokes s) (joined (map strokes ss)) k) [
+  | inl n ↦ in_left p (shape_points s) (joined (map shape_points ss)) (all.0 b p n m)
+  | inr n ↦ in_right p (shape_points s) (joined (map shape_points ss)) (members_in ss all.1 b p n m)
+]
+
+by_both : (s : Shape) (ls : List Line) (ps : List Point) → strokes s ≡ ls → shape_points s ≡ ps → AreIn ls ps → Holds s
+by_both s ls ps e f h b p k m = subst (In p) (sym f) (h b p (subst (In b) e k) m)
+
+lines_are_in : (s : Shape) → Holds s
+lines_are_in = by_kinds Holds (record {
+  point = λ p. by_both (g.Point p) [] (shape_points (g.Point p)) (strokes-point Point (List Point) p) refl (none_in (shape_points (g.Point p)));
+  points = λ ps. by_both (g.MultiPoint ps) [] (shape_points (g.MultiPoint ps)) (strokes-points Point (List Point) ps) refl (none_in (shape_points (g.MultiPoint ps)));
+  line = λ l. by_both (g.Line l) ((false, l) ∷ []) l (strokes-line Point (List Point) l) (points-line l) (λ b p k m. elim k [ inl e ↦ subst (λ (z : Line). In p z.1) e m | inr k ↦ absurd k ]);
+  lines = λ ls. by_both (g.Lines ls) (map (λ l. (false, l)) ls) (joined ls) (strokes-lines Point (List Point) ls) (points-lines ls) (lines_in false ls);
+  area = λ rs. by_both (g.Area rs) (map (λ r. (true, r)) rs) (joined rs) (strokes-area Point (List Point) rs) (points-area rs) (lines_in true rs);
+  areas = λ rss. by_both (g.Areas rss) (joined (map (map (λ r. (true, r))) rss)) (joined (joined rss)) (strokes-areas Point (List Point) rss) (points-areas rss) (areas_in rss);
+  group = λ ss all. by_both (g.Group ss) (joined (map strokes ss)) (joined (map shape_points ss)) (strokes-group Point (List Point) ss) (points-group ss) (members_in ss all);
+})
+
+-- those of features and of layers
+clean_list_in : (p : Point) (ps : List Point) → In p (clean ps) → In p ps
+clean_list_in p [] k = k
+clean_list_in p (q ∷ qs) k = clean_in p q qs k
+
+shape_in : (a : Address) (o : Option Shape) (s : Stroke) (p : Point) → In s (map (stroke_at a) (option_placed o)) → In p s.positions → In p (option_points o)
+shape_in a None s p k m = elim k [ ]
+shape_in a (Some h) s p k m =
+    let x = from_map (stroke_at a) s (placed_strokes h) k in
+    let n : In p x.0.part.1 = clean_list_in p x.0.part.1 (subst (λ (z : Stroke). In p z.positions) x.2 m) in
+    lines_are_in h x.0.part p (subst (In x.0.part) (told h) (in_map (λ z. z.part) x.0 (placed_strokes h) x.1)) n
+
+features_in : (i j : ℕ) (fs : List Featured) (s : Stroke) (p : Point) → In s (strokes_of_layer i j fs) → In p s.positions → In p (features_points fs)
+features_in i j [] s p k m = elim k [ ]
+features_in i j (f ∷ fs) s p k m = elim (in_either s (map (stroke_at (feature_address i j)) (option_placed f.shape)) (strokes_of_layer i (suc j) fs) k) [
+  | inl n ↦ in_left p (option_points f.shape) (features_points fs) (shape_in (feature_address i j) f.shape s p n m)
+  | inr n ↦ in_right p (option_points f.shape) (features_points fs) (features_in i (suc j) fs s p n m)
+]
+
+layers_in : (i : ℕ) (ls : List Layer) (s : Stroke) (p : Point) → In s (strokes_of_layers i ls) → In p s.positions → In p (layers_points ls)
+layers_in i [] s p k m = elim k [ ]
+layers_in i (l ∷ ls) s p k m = elim (in_either s (strokes_of_layer i 0 l.features) (strokes_of_layers (suc i) ls) k) [
+  | inl n ↦ in_left p (features_points l.features) (layers_points ls) (features_in i 0 l.features s p n m)
+  | inr n ↦ in_right p (features_points l.features) (layers_points ls) (layers_in (suc i) ls s p n m)
+]
+
+pub none_is_new : (layers : List Layer) (s : Stroke) (p : Point) → In s (linework layers) → In p s.positions → In p (layers_points layers)
+unfolding linework
+none_is_new layers s p k m = layers_in 0 layers s p (from_filter (λ s. not (is_collapsed s)) s (strokes_of_layers 0 layers) k) m

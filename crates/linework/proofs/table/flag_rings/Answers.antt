@@ -1,0 +1,31 @@
+use Rattle.std.proofs.Common.{◌≡◌, ◌≤◌, ◌&&◌, length, ap, ◌∙◌, arith}
+use Rattle.indexmap.specs.IndexMap.{get}
+use Rattle.geojson_types.specs.Order.{is_least}
+use Rattle.linework.specs.Notes.{equal, flagged, is_free}
+use Rattle.linework.proofs.Flags.{ring_turn, line_turn, all_flagged}
+use Rattle.linework.proofs.Visiting.{clean_two}
+use Rattle.linework.proofs.table.flag_rings.Goals as goal
+use Rattle.linework.proofs.table.flag_rings.Goals.{then-stroke, else-stroke}
+
+pub flag_ring-requires : goal.flag_ring-requires
+flag_ring-requires c =
+    let h : 2 ≤ length c.stroke-item.result.positions = clean_two c.args.strokes.now c.loop-stroke.stroke-index c.stroke-item.result c.requires.clean c.loop-stroke-test.true c.stroke-item.is in
+    let e : length c.as_slice.result.now ≡ length c.stroke-item.result.positions = ap length c.as_slice.ensures in
+    omega (arith, h, e)
+
+pub loop-stroke-init : goal.loop-stroke-init
+loop-stroke-init c = c.requires.known
+
+pub loop-stroke-preserved : goal.loop-stroke-preserved
+loop-stroke-preserved c = elim c.if-stroke.branch [
+  | then-stroke w ↦ λ p.
+      ap (λ t. get equal t p) w.table-is
+      ∙ ring_turn c.args.strokes.now c.loop-stroke.stroke-index c.stroke-item.result (get equal c.loop-stroke.table) (get equal w.flag_ring.new.table) c.loop-stroke-test.true c.stroke-item.is w.if-stroke.true c.loop-stroke.invariant
+      (λ q. w.flag_ring.ensures q ∙ ap (λ ps. flagged (is_free (get equal c.loop-stroke.table) ps && is_least q ps) (get equal c.loop-stroke.table q)) w.as_slice.ensures) p
+  | else-stroke w ↦ λ p.
+      ap (λ t. get equal t p) w.table-is
+      ∙ line_turn c.args.strokes.now c.loop-stroke.stroke-index c.stroke-item.result (get equal c.loop-stroke.table) c.loop-stroke-test.true c.stroke-item.is w.if-stroke.false c.loop-stroke.invariant p
+]
+
+pub returns : goal.returns
+returns c = all_flagged c.args.strokes.now c.loop-stroke.stroke-index (get equal c.loop-stroke.table) c.loop-stroke-test.false c.loop-stroke.invariant

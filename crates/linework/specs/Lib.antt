@@ -1,0 +1,9 @@
+pub mod Among
+pub mod Answers
+pub mod Cleaning
+pub mod Cuts
+pub mod Gathering
+pub mod Laws
+pub mod Linework
+pub mod Notes
+pub mod Visits

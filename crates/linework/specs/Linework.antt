@@ -1,0 +1,60 @@
+-- The linework of layers: their lines and rings in reading order, in which equal neighbours count as one position.
+use Rattle.std.specs.Prelude.{ℕ, suc, Bool, not, List, [], ◌∷◌, ◌++◌, map, Option, None, Some}
+use Rattle.std.specs.List.{filter}
+use Rattle.geojson_types.specs.Points.{Point}
+use Rattle.geojson_types.specs.Features.{Shape, Featured}
+use Rattle.geojson_types.specs.Paths.{Placed, placed_strokes}
+use Rattle.geojson_types.specs.declared.address.Address.{Address}
+use Rattle.geojson_types.specs.declared.address.Cause.TheVariants.{Collapsed}
+use Rattle.geojson_types.specs.declared.address.Dropped.{Dropped}
+use Rattle.geojson_types.specs.declared.layer.Layer.{Layer}
+use Rattle.linework.specs.declared.stroke.Stroke.{Stroke}
+use Rattle.linework.specs.Cleaning.{clean, is_short}
+
+-- what stands inside a shape at this address
+abbrev pub stroke_at : Address → Placed (Bool × List Point) → Stroke
+stroke_at a s =
+    record {
+      address = record { layer = a.layer; feature = a.feature; path = a.path ++ s.path };
+      closed = s.part.0;
+      positions = clean s.part.1;
+    }
+
+-- the lines and rings of a shape that may be null
+abbrev pub option_placed : Option Shape → List (Placed (Bool × List Point))
+option_placed None = []
+option_placed (Some s) = placed_strokes s
+
+-- the address of a feature's geometry
+abbrev pub feature_address : ℕ → ℕ → Address
+feature_address layer feature = record { layer = layer; feature = feature; path = [] }
+
+-- the lines and rings of a feature
+abbrev pub feature_strokes : ℕ → ℕ → Featured → List Stroke
+feature_strokes layer feature f = map (stroke_at (feature_address layer feature)) (option_placed f.shape)
+
+-- those of the features of a layer, of which the first has this number
+abbrev pub strokes_of_layer : ℕ → ℕ → List Featured → List Stroke
+strokes_of_layer layer feature [] = []
+strokes_of_layer layer feature (f ∷ fs) = feature_strokes layer feature f ++ strokes_of_layer layer (suc feature) fs
+
+-- those of the layers, of which the first has this number
+abbrev pub strokes_of_layers : ℕ → List Layer → List Stroke
+strokes_of_layers layer [] = []
+strokes_of_layers layer (l ∷ ls) = strokes_of_layer layer 0 l.features ++ strokes_of_layers (suc layer) ls
+
+-- it is left with fewer positions than an open line or a ring has
+abbrev pub is_collapsed : Stroke → Bool
+is_collapsed s = is_short s.closed s.positions
+
+-- it is dropped for that
+abbrev pub collapse : Stroke → Dropped
+collapse s = record { address = s.address; cause = Collapsed }
+
+-- the lines and rings of all layers that have enough positions
+unfoldable pub linework : List Layer → List Stroke
+linework layers = filter (λ s. not (is_collapsed s)) (strokes_of_layers 0 layers)
+
+-- the addresses of the others
+unfoldable pub collapsed : List Layer → List Dropped
+collapsed layers = map collapse (filter is_collapsed (strokes_of_layers 0 layers))

@@ -1,0 +1,149 @@
+-- What is noted of each position while the lines are read.
+use Rattle.std.specs.Prelude.{◌≡◌, Bool, true, false, not, ◌||◌, ◌&&◌, List, [], ◌∷◌, ◌++◌, map, Option, None, Some, if◌then◌else◌}
+use Rattle.std.specs.List.{flat_map, list_all}
+use Rattle.std.specs.Option.{is_some}
+use Rattle.std.specs.Ordering.{int_eq}
+use Rattle.indexmap.specs.IndexMap.{IndexMap, get}
+use Rattle.geojson_types.specs.Points.{Point}
+use Rattle.geojson_types.specs.Rings.{same}
+use Rattle.linework.specs.declared.neighbors.Neighbors.{Neighbors}
+use Rattle.linework.specs.declared.stroke.Stroke.{Stroke}
+use Rattle.linework.specs.declared.vertex.Note.{Note}
+use Rattle.linework.specs.declared.vertex.Vertex.{Vertex}
+use Rattle.linework.specs.Visits.{Visit, visits, last, neighbors, ends_open, is_turn, is_position_of}
+
+-- the equality by which a table finds a position
+abbrev pub equal : Point → Point → Bool
+equal p q = int_eq p.x q.x && int_eq p.y q.y
+
+-- neighbors, as far as they matter
+abbrev pub settled : Option Point → Option Point → Bool → Neighbors
+settled a b more = record { first = a; second = b; more = more }
+
+-- none yet
+abbrev pub no_neighbors : Neighbors
+no_neighbors = settled None None false
+
+-- one more, behind the first
+abbrev pub with_second : Point → Option Point → Bool → Point → Neighbors
+with_second a None more p = settled (Some a) (Some p) more
+with_second a (Some b) more p = if same b p then settled (Some a) (Some b) more else settled (Some a) (Some b) true
+
+-- one more
+abbrev pub with_first : Option Point → Option Point → Bool → Point → Neighbors
+with_first None b more p = settled (Some p) b more
+with_first (Some a) b more p = if same a p then settled (Some a) b more else with_second a b more p
+
+-- one neighbor more: the first two different ones are kept, and whether there is a third
+abbrev pub with_neighbor : Neighbors → Point → Neighbors
+with_neighbor n p = with_first n.first n.second n.more p
+
+-- more of them, in order
+abbrev pub with_neighbors : Neighbors → List Point → Neighbors
+with_neighbors n [] = n
+with_neighbors n (p ∷ ps) = with_neighbors (with_neighbor n p) ps
+
+-- there are exactly two
+abbrev pub is_two : Neighbors → Bool
+is_two n = is_some n.second && not n.more
+
+-- the positions before and after it, if the line visits it there
+abbrev pub beside : Option (Point × Point) → List Point
+beside None = []
+beside (Some pair) = pair.0 ∷ (pair.1 ∷ [])
+
+-- the line turns back there
+abbrev pub is_back : Option (Point × Point) → Bool
+is_back None = false
+is_back (Some pair) = same pair.0 pair.1
+
+-- nothing is known yet
+abbrev pub new_vertex : Vertex
+new_vertex = record { neighbors = no_neighbors; turns = false; ends = false; loose = false }
+
+abbrev pub known : Option Vertex → Vertex
+known None = new_vertex
+known (Some v) = v
+
+-- what is known with one note more
+abbrev pub noted : Option Vertex → Note → Vertex
+noted o n =
+    record {
+      neighbors = with_neighbors (known o).neighbors (beside n.beside);
+      turns = is_back n.beside || (known o).turns;
+      ends = n.ends || (known o).ends;
+      loose = (known o).loose;
+    }
+
+-- what is known of a position after notes
+abbrev pub after : Option Vertex → List Note → Point → Option Vertex
+after o [] p = o
+after o (n ∷ ns) p = after (if same n.here p then Some (noted o n) else o) ns p
+
+-- a note of a position that is read
+abbrev pub touch : Bool → Point → Note
+touch ends p = record { here = p; beside = None; ends = ends }
+
+-- a note of a visit
+abbrev pub pass : Visit → Note
+pass v = record { here = v.here; beside = Some (v.before, v.after); ends = false }
+
+-- the notes of a line: its first position, its visits, and an open line's last position
+abbrev pub line_notes : Bool → List Point → List Visit → List Note
+line_notes closed [] vs = []
+line_notes closed (p ∷ ps) vs = touch (not closed) p ∷ (map pass vs ++ (if closed then [] else touch true (last p ps) ∷ []))
+
+abbrev pub notes_of : Stroke → List Note
+notes_of s = line_notes s.closed s.positions (visits s)
+
+-- the notes of all lines
+abbrev pub all_notes : List Stroke → List Note
+all_notes ls = flat_map notes_of ls
+
+-- the notes were taken, in order
+abbrev pub Takes : {S : Type 0} → IndexMap Point Vertex S → IndexMap Point Vertex S → List Note → Type 0
+Takes old new ns = (p : Point) → get equal new p ≡ after (get equal old p) ns p
+
+-- what the lines say of a position; whether it is the least of a ring without a junction, is given
+abbrev pub vertex_of : List Stroke → (Point → Bool) → Point → Vertex
+vertex_of ls is_loose p =
+    record {
+      neighbors = with_neighbors no_neighbors (neighbors ls p);
+      turns = is_turn ls p;
+      ends = ends_open ls p;
+      loose = is_loose p;
+    }
+
+-- what is known of a position when all lines are read
+abbrev pub vertex_at : List Stroke → (Point → Bool) → Point → Option Vertex
+vertex_at ls is_loose p = if is_position_of ls p then Some (vertex_of ls is_loose p) else None
+
+-- the table knows this of each position
+abbrev pub IsTable : {S : Type 0} → List Stroke → (Point → Bool) → IndexMap Point Vertex S → Type 0
+IsTable ls is_loose m = (p : Point) → get equal m p ≡ vertex_at ls is_loose p
+
+-- lines end or turn back there, or there are not exactly two neighbors
+abbrev pub is_knot : Vertex → Bool
+is_knot v = v.ends || (v.turns || not (is_two v.neighbors))
+
+abbrev pub is_knot_option : Option Vertex → Bool
+is_knot_option None = false
+is_knot_option (Some v) = is_knot v
+
+-- the same, or it is the least of a ring without a junction
+abbrev pub is_cut_option : Option Vertex → Bool
+is_cut_option None = false
+is_cut_option (Some v) = is_knot v || v.loose
+
+-- no position of a ring is a junction
+abbrev pub is_free : (Point → Option Vertex) → List Point → Bool
+is_free at ps = list_all (λ q. not (is_knot_option (at q))) ps
+
+-- it is the least of a ring without a junction
+abbrev pub loosened : Vertex → Vertex
+loosened v = record { neighbors = v.neighbors; turns = v.turns; ends = v.ends; loose = true }
+
+-- the same, if the test passes
+abbrev pub flagged : Bool → Option Vertex → Option Vertex
+flagged b None = None
+flagged b (Some v) = if b then Some (loosened v) else Some v

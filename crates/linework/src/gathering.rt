@@ -1,0 +1,148 @@
+// The walk over layers that gathers their lines and rings, each with its address.
+ghost use Rattle.std.specs.Prelude.{◌≡◌, IfOk, OnOk, true, false, map};
+ghost use Rattle.geojson_types.specs.Rings.{is_ring};
+ghost use Rattle.geojson_types.specs.Paths.{alone, of_parts, placed_strokes};
+ghost use Rattle.linework.specs.Linework.{stroke_at, strokes_of_layer};
+ghost use Rattle.linework.specs.Gathering.{with_strokes, part_address};
+
+use crate::cleaning::cleaned;
+use crate::lines::Lines;
+use crate::stroke::Stroke;
+use byte_ends::Memory;
+use geojson_types::{Address, Feature, Position, Ring, Shape};
+use json_value::Items;
+use std::alloc::Global;
+
+/// Adds the lines and rings of the features of the layer with this number.
+pub fn add_layer(
+    alloc: Global,
+    layer: usize,
+    features: &[Feature],
+    lines: &mut Lines,
+) -> Result<(), Memory>
+    ensures { OnOk result (lines.new ≡ with_strokes lines.old (strokes_of_layer layer 0 features.now)) }
+{
+    for (number, feature) in features.iter().enumerate() {
+        if let Some(shape) = feature.shape() {
+            let address = Address {
+                layer,
+                feature: number,
+                path: Items::of(Vec::new(alloc)),
+            };
+            add_shape(alloc, address, shape, lines)?;
+        }
+    }
+    Ok(())
+}
+
+// Adds the lines and rings of the shape at this address.
+fn add_shape(
+    alloc: Global,
+    address: Address,
+    shape: &Shape,
+    lines: &mut Lines,
+) -> Result<(), Memory>
+    ensures { OnOk result (lines.new ≡ with_strokes lines.old (map (stroke_at address) (placed_strokes shape.now))) }
+{
+    match shape {
+        Shape::Point(_) => Ok(()),
+        Shape::MultiPoint(_) => Ok(()),
+        Shape::Line(line) => add_stroke(alloc, address, false, line.as_slice(), lines),
+        Shape::Lines(parts) => add_lines(alloc, &address, parts.as_slice(), lines),
+        Shape::Area(rings) => add_rings(alloc, &address, rings.as_slice(), lines),
+        Shape::Areas(areas) => add_areas(alloc, &address, areas.as_slice(), lines),
+        Shape::Group(shapes) => {
+            'shapes: for (number, shape) in shapes.as_slice().iter().enumerate() {
+                let part = part_of(alloc, &address, number)?;
+                add_shape(alloc, part, shape, lines)?;
+            }
+            Ok(())
+        }
+    }
+}
+
+// Adds the rings of the polygons at this address.
+fn add_areas(
+    alloc: Global,
+    address: &Address,
+    areas: &[Items<Ring>],
+    lines: &mut Lines,
+) -> Result<(), Memory>
+    ensures { OnOk result
+        (lines.new ≡ with_strokes lines.old
+        (map (stroke_at address.now) (of_parts 0 (map (λ rs. of_parts 0 (map (λ r. alone (true, r)) rs)) areas.now)))) }
+{
+    for (number, rings) in areas.iter().enumerate() {
+        let part = part_of(alloc, address, number)?;
+        add_rings(alloc, &part, rings.as_slice(), lines)?;
+    }
+    Ok(())
+}
+
+// Adds the rings of the polygon at this address.
+fn add_rings(
+    alloc: Global,
+    address: &Address,
+    rings: &[Ring],
+    lines: &mut Lines,
+) -> Result<(), Memory>
+    ensures { OnOk result
+        (lines.new ≡ with_strokes lines.old (map (stroke_at address.now) (of_parts 0 (map (λ r. alone (true, r)) rings.now)))) }
+{
+    for (number, ring) in rings.iter().enumerate() {
+        let part = part_of(alloc, address, number)?;
+        add_stroke(alloc, part, true, ring.as_slice(), lines)?;
+    }
+    Ok(())
+}
+
+// Adds the lines at this address.
+fn add_lines(
+    alloc: Global,
+    address: &Address,
+    parts: &[Items<Position>],
+    lines: &mut Lines,
+) -> Result<(), Memory>
+    ensures { OnOk result
+        (lines.new ≡ with_strokes lines.old (map (stroke_at address.now) (of_parts 0 (map (λ l. alone (false, l)) parts.now)))) }
+{
+    for (number, line) in parts.iter().enumerate() {
+        let part = part_of(alloc, address, number)?;
+        add_stroke(alloc, part, false, line.as_slice(), lines)?;
+    }
+    Ok(())
+}
+
+// Adds a line or a ring.
+fn add_stroke(
+    alloc: Global,
+    address: Address,
+    closed: bool,
+    positions: &[Position],
+    lines: &mut Lines,
+) -> Result<(), Memory>
+    requires { closed ≡ true → is_ring positions.now ≡ true }
+    ensures { OnOk result (lines.new ≡ with_strokes lines.old (map (stroke_at address) (alone (closed, positions.now)))) }
+{
+    let positions = Items::of(cleaned(alloc, positions)?);
+    lines.add(Stroke {
+        address,
+        closed,
+        positions,
+    })
+}
+
+// The address of the part with this number.
+fn part_of(alloc: Global, address: &Address, number: usize) -> Result<Address, Memory>
+    ensures { IfOk result (λ part. part ≡ part_address address.now number) }
+{
+    let outer = address.path.as_slice();
+    let mut path = Vec::with_capacity(alloc, outer.len() + 1)?;
+    path.extend_from_slice(outer)?;
+    path.push(number)?;
+    Ok(Address {
+        layer: address.layer,
+        feature: address.feature,
+        path: Items::of(path),
+    })
+}

@@ -1,0 +1,84 @@
+// What is known of a position of the linework.
+ghost use Rattle.std.specs.Prelude.{◌≡◌};
+ghost use Rattle.linework.specs.Notes as spec;
+
+use crate::neighbors::{Neighbors, is_same};
+use geojson_types::Position;
+
+/// A note of a position: the positions before and after it if a line visits it, and whether it ends an open line.
+#[derive(Clone, Copy, Debug)]
+pub struct Note {
+    pub here: Position,
+    pub beside: Option<(Position, Position)>,
+    pub ends: bool,
+}
+
+/// What is known of a position.
+#[derive(Clone, Copy, Debug)]
+pub struct Vertex {
+    pub neighbors: Neighbors,
+    /// A line turns back there.
+    pub turns: bool,
+    /// An open line ends there.
+    pub ends: bool,
+    /// It is the least position of a ring without a junction.
+    pub loose: bool,
+}
+
+impl Vertex {
+    // Nothing is known yet.
+    fn new() -> Vertex
+        ensures { result ≡ spec.new_vertex }
+    {
+        Vertex {
+            neighbors: Neighbors::none(),
+            turns: false,
+            ends: false,
+            loose: false,
+        }
+    }
+
+    /// Whether it is a junction.
+    pub fn is_knot(self) -> bool
+        ensures { result ≡ spec.is_knot self }
+    {
+        self.ends || self.turns || !self.neighbors.are_two()
+    }
+}
+
+/// What is known with one note more.
+pub fn noted(old: Option<Vertex>, note: Note) -> Vertex
+    ensures { result ≡ spec.noted old note }
+{
+    let vertex = match old {
+        Some(vertex) => vertex,
+        None => Vertex::new(),
+    };
+    let ends = note.ends || vertex.ends;
+    let Some((before, after)) = note.beside else {
+        return Vertex {
+            neighbors: vertex.neighbors,
+            turns: vertex.turns,
+            ends,
+            loose: vertex.loose,
+        };
+    };
+    Vertex {
+        neighbors: vertex.neighbors.with(before).with(after),
+        turns: is_same(before, after) || vertex.turns,
+        ends,
+        loose: vertex.loose,
+    }
+}
+
+/// The same of the least position of a ring without a junction.
+pub fn loosened(vertex: Vertex) -> Vertex
+    ensures { result ≡ spec.loosened vertex }
+{
+    Vertex {
+        neighbors: vertex.neighbors,
+        turns: vertex.turns,
+        ends: vertex.ends,
+        loose: true,
+    }
+}

@@ -1,0 +1,95 @@
+-- The arc that a piece's index names is the piece.
+use Rattle.std.proofs.Common.{◌≡◌, ℕ, suc, ◌<◌, Bool, true, false, cond, ◌||◌, List, [], ◌∷◌, length, reverse, map, refl, ap, sym, ◌∙◌, arith, inl, inr, Option, None, Some}
+use Rattle.std.proofs.lemmas.List.{reverse-reverse}
+use Rattle.std.specs.Option.{option_map}
+use Rattle.std.specs.Prelude.{ℤ, pos, negsuc}
+use Rattle.arc_table.specs.Arcs.{same_line, alike, number_in, number_or_complement, index_in}
+use Rattle.arc_table.specs.Growth.{directed, next, has_alike, first_alike}
+use Rattle.arc_table.specs.Laws.{AreUnlike}
+use Rattle.cutter.specs.Places.{In}
+use Rattle.geojson_types.specs.Points.{Point}
+use Rattle.topo_types.specs.Joins.{number_of, arc_at}
+use Rattle.arc_table.proofs.Alike.{same_line_is, is_alike}
+
+arc_next : (q : List Point) (qs : List (List Point)) (z : ℤ) → arc_at (q ∷ qs) (next z) ≡ arc_at qs z
+arc_next q qs (pos i) = refl
+arc_next q qs (negsuc i) = refl
+
+number_next : (z : ℤ) → number_of (next z) ≡ suc (number_of z)
+unfolding number_of
+number_next (pos i) = refl
+number_next (negsuc i) = refl
+
+number_directed : (b : Bool) (i : ℕ) → number_of (directed b i) ≡ i
+unfolding number_of
+number_directed true i = refl
+number_directed false i = refl
+
+-- an arc alike the piece is named, and is the piece as it is directed
+pub named_is : (arcs : List (List Point)) (x : List Point) → has_alike arcs x ≡ true → (arc_at arcs (first_alike arcs x) ≡ x) × (number_of (first_alike arcs x) < length arcs)
+named_is [] x h = cc
+named_is (q ∷ qs) x h = on (alike q x) refl h (λ m. named_is qs x m)
+  where
+    or_case : (a b : Bool) → (a || b) ≡ true → a ≡ false → b ≡ true
+    or_case true b h e = cc
+    or_case false b h e = h
+
+    way : (b : Bool) → same_line q x ≡ b → alike q x ≡ true → arc_at (q ∷ qs) (directed b 0) ≡ x
+    way true e h = same_line_is q x e
+    way false e h = ap reverse (same_line_is q (reverse x) (or_case (same_line q x) (same_line q (reverse x)) h e)) ∙ reverse-reverse x
+
+    on : (b : Bool) → alike q x ≡ b → (b || has_alike qs x) ≡ true → (has_alike qs x ≡ true → (arc_at qs (first_alike qs x) ≡ x) × (number_of (first_alike qs x) < length qs)) →
+        let z = cond b (directed (same_line q x) 0) (next (first_alike qs x)) in (arc_at (q ∷ qs) z ≡ x) × (number_of z < length (q ∷ qs))
+    on true e m ih = (way (same_line q x) refl e, omega (arith, number_directed (same_line q x) 0))
+    on false e m ih =
+        let r = ih m in
+        (arc_next q qs (first_alike qs x) ∙ r.0, omega (arith, number_next (first_alike qs x), r.1))
+
+pub named_all : (arcs xs : List (List Point)) → ((x : List Point) → In x xs → has_alike arcs x ≡ true) → map (arc_at arcs) (map (first_alike arcs) xs) ≡ xs
+named_all arcs [] h = refl
+named_all arcs (x ∷ xs) h =
+    ap (λ z. z ∷ map (arc_at arcs) (map (first_alike arcs) xs)) (named_is arcs x (h x (inl refl))).0 ∙ ap (λ l. x ∷ l) (named_all arcs xs (λ z k. h z (inr k)))
+
+-- a line that equals no arc has no number
+none_in : (qs : List (List Point)) (x : List Point) → ((y : List Point) → In y qs → same_line y x ≡ true → ⊥) → number_in qs x ≡ None
+none_in [] x h = refl
+none_in (y ∷ ys) x h = on (same_line y x) refl (none_in ys x (λ z k. h z (inr k)))
+  where
+    on : (b : Bool) → same_line y x ≡ b → number_in ys x ≡ None → cond b (Some 0) (option_map suc (number_in ys x)) ≡ None
+    on true e ih = absurd (h y (inl refl) e)
+    on false e ih = ap (λ o. option_map suc o) ih
+
+-- a piece that is alike an arc has a number, or its reverse has
+none_both : (qs : List (List Point)) (x : List Point) → number_in qs x ≡ None → number_in qs (reverse x) ≡ None → has_alike qs x ≡ false
+none_both [] x e f = refl
+none_both (q ∷ qs) x e f = on (same_line q x) (same_line q (reverse x)) (number_in qs x) (number_in qs (reverse x)) e f (λ g h. none_both qs x g h)
+  where
+    on : (b c : Bool) (o u : Option ℕ) → cond b (Some 0) (option_map suc o) ≡ None → cond c (Some 0) (option_map suc u) ≡ None → (o ≡ None → u ≡ None → has_alike qs x ≡ false) →
+        ((b || c) || has_alike qs x) ≡ false
+    on true c o u e f ih = cc
+    on false true o u e f ih = cc
+    on false false None None e f ih = ih refl refl
+    on false false (Some i) u e f ih = cc
+    on false false None (Some i) e f ih = cc
+
+shift : (o u : Option ℕ) → (o ≡ None → u ≡ None → ⊥) → number_or_complement (option_map suc o) (option_map suc u) ≡ next (number_or_complement o u)
+shift (Some i) u n = refl
+shift None (Some i) n = refl
+shift None None n = absurd (n refl refl)
+
+-- no two arcs are alike, so the number of the arc that equals the piece or whose reverse does is that of the first that is alike
+pub index_is : (qs : List (List Point)) (x : List Point) → AreUnlike qs → has_alike qs x ≡ true → index_in qs x ≡ first_alike qs x
+index_is [] x u h = cc
+index_is (q ∷ qs) x u h = on (same_line q x) refl (same_line q (reverse x)) refl h (λ k. index_is qs x u.1 k)
+  where
+    others : q ≡ reverse x → (y : List Point) → In y qs → same_line y x ≡ true → ⊥
+    others e y k m =
+        let z : true ≡ false = sym (is_alike q y (inr (e ∙ ap reverse (sym (same_line_is y x m))))) ∙ u.0 y k in cc
+
+    on : (b : Bool) → same_line q x ≡ b → (c : Bool) → same_line q (reverse x) ≡ c → ((b || c) || has_alike qs x) ≡ true → (has_alike qs x ≡ true → index_in qs x ≡ first_alike qs x) →
+        number_or_complement (cond b (Some 0) (option_map suc (number_in qs x))) (cond c (Some 0) (option_map suc (number_in qs (reverse x)))) ≡ cond (b || c) (directed b 0) (next (first_alike qs x))
+    on true e c f k ih = refl
+    on false e true f k ih = ap (λ o. number_or_complement (option_map suc o) (Some 0)) (none_in qs x (others (same_line_is q (reverse x) f)))
+    on false e false f k ih =
+        shift (number_in qs x) (number_in qs (reverse x)) (λ m n. let z : true ≡ false = sym k ∙ none_both qs x m n in cc)
+        ∙ ap next (ih k)

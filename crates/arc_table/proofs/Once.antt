@@ -1,0 +1,128 @@
+-- Each segment of the pieces lies once, in exactly one arc, and no other segment lies in one.
+use Rattle.std.proofs.Common.{◌≡◌, ℕ, zero, suc, ◌+◌, ◌<◌, ◌≤◌, Bool, true, false, cond, ◌&&◌, ◌||◌, List, [], ◌∷◌, ◌++◌, reverse, refl, ap, sym, ◌∙◌, subst, arith, inl, inr}
+use Rattle.std.proofs.lemmas.Grind.{flat_map-append}
+use Rattle.std.proofs.lemmas.List.{reverse-append}
+use Rattle.std.proofs.lemmas.List.Sums.{sum_by-append, sum_by-cons}
+use Rattle.arc_table.specs.Arcs.{alike, arcs_of}
+use Rattle.arc_table.specs.Laws.{AreUnlike, AreOnceIn, AreAllIn}
+use Rattle.cutter.specs.Places.{In}
+use Rattle.cutter.specs.Segments.{Segment, segments, is_segment, line_segments, piece_segments, times}
+use Rattle.cutter.specs.Slices.{SplitStroke, AllSplit, all_pieces, strokes}
+use Rattle.cutter.specs.Structure.{SharersAreAlike, SegmentsAreOnce}
+use Rattle.geojson_types.specs.Points.{Point}
+use Rattle.geojson_types.specs.Rings.{same}
+use Rattle.arc_table.proofs.Alike.{arcs_unlike, arc_is_piece, piece_has_arc, alike_is, is_alike}
+
+segment : Point → Point → Segment
+segment p q = record { from = p; to = q }
+
+times_append : (a b : Point) (xs ys : List Segment) → times a b (xs ++ ys) ≡ times a b xs + times a b ys
+times_append a b xs ys = sum_by-append (λ s. cond (is_segment a b s) 1 0) xs ys
+
+times_cons : (a b : Point) (s : Segment) (ss : List Segment) → times a b (s ∷ ss) ≡ cond (is_segment a b s) 1 0 + times a b ss
+times_cons a b s ss = sum_by-cons (λ s. cond (is_segment a b s) 1 0) s ss
+
+-- ---- a line backwards
+
+segments_last : (zs : List Point) (q p : Point) → segments ((zs ++ (q ∷ [])) ++ (p ∷ [])) ≡ segments (zs ++ (q ∷ [])) ++ (record { from = q; to = p } ∷ [])
+segments_last [] q p = refl
+segments_last (z ∷ []) q p = refl
+segments_last (z ∷ (w ∷ zs)) q p = ap (λ l. record { from = z; to = w } ∷ l) (segments_last (w ∷ zs) q p)
+
+is_turned : (a b p q : Point) → is_segment a b (record { from = q; to = p }) ≡ is_segment a b (record { from = p; to = q })
+unfolding is_segment
+is_turned a b p q = swap (same a q && same b p) (same a p && same b q)
+  where
+    swap : (x y : Bool) → (x || y) ≡ (y || x)
+    swap true true = refl
+    swap true false = refl
+    swap false true = refl
+    swap false false = refl
+
+-- it has each segment as often
+pub times_reverse : (a b : Point) (ps : List Point) → times a b (segments (reverse ps)) ≡ times a b (segments ps)
+times_reverse a b [] = refl
+times_reverse a b (p ∷ []) = refl
+times_reverse a b (p ∷ (q ∷ ps)) =
+    let turn : reverse (p ∷ (q ∷ ps)) ≡ (reverse ps ++ (q ∷ [])) ++ (p ∷ []) = reverse-append (p ∷ []) (q ∷ ps) ∙ ap (λ l. l ++ (p ∷ [])) (reverse-append (q ∷ []) ps) in
+    let ih : times a b (segments (reverse ps ++ (q ∷ []))) ≡ times a b (segments (q ∷ ps)) = ap (λ l. times a b (segments l)) (sym (reverse-append (q ∷ []) ps)) ∙ times_reverse a b (q ∷ ps) in
+    ap (λ l. times a b (segments l)) turn
+    ∙ ap (times a b) (segments_last (reverse ps) q p)
+    ∙ times_append a b (segments (reverse ps ++ (q ∷ []))) (record { from = q; to = p } ∷ [])
+    ∙ ap (λ n. n + times a b (record { from = q; to = p } ∷ [])) ih
+    ∙ ap (λ n. times a b (segments (q ∷ ps)) + n) (times_cons a b (record { from = q; to = p }) [])
+    ∙ ap (λ t. times a b (segments (q ∷ ps)) + (cond t 1 0 + times a b [])) (is_turned a b p q)
+    ∙ swap (times a b (segments (q ∷ ps))) (cond (is_segment a b (record { from = p; to = q })) 1 0)
+    ∙ sym (times_cons a b (record { from = p; to = q }) (segments (q ∷ ps)))
+  where
+    swap : (n m : ℕ) → n + (m + 0) ≡ m + n
+    swap n m = omega arith
+
+alike_times : (a b : Point) (x y : List Point) → alike x y ≡ true → times a b (segments x) ≡ times a b (segments y)
+alike_times a b x y h = elim (alike_is x y h) [ inl e ↦ ap (λ z. times a b (segments z)) e | inr e ↦ ap (λ z. times a b (segments z)) e ∙ times_reverse a b y ]
+
+-- ---- pieces and their segments
+
+times_pieces : (a b : Point) (y : List Point) (ys : List (List Point)) → times a b (piece_segments (y ∷ ys)) ≡ times a b (segments y) + times a b (piece_segments ys)
+times_pieces a b y ys = times_append a b (segments y) (piece_segments ys)
+
+part : (a b : Point) (ys : List (List Point)) (z : List Point) → In z ys → times a b (segments z) ≤ times a b (piece_segments ys)
+part a b [] z k = elim k [ ]
+part a b (y ∷ ys) z (inl e) = subst (λ w. times a b (segments w) ≤ times a b (piece_segments (y ∷ ys))) (sym e) (omega (arith, times_pieces a b y ys))
+part a b (y ∷ ys) z (inr k) = omega (arith, times_pieces a b y ys, part a b ys z k)
+
+-- a segment of the pieces is one of a piece
+some_piece : (a b : Point) (ys : List (List Point)) → 0 < times a b (piece_segments ys) → (z : List Point) × In z ys × (0 < times a b (segments z))
+some_piece a b [] h = absurd (omega (arith, h))
+some_piece a b (y ∷ ys) h = on (times a b (segments y)) refl (subst (λ n. 0 < n) (times_pieces a b y ys) h) (λ k. some_piece a b ys k)
+  where
+    on : (n : ℕ) → times a b (segments y) ≡ n → 0 < times a b (segments y) + times a b (piece_segments ys) →
+        (0 < times a b (piece_segments ys) → (z : List Point) × In z ys × (0 < times a b (segments z))) → (z : List Point) × In z (y ∷ ys) × (0 < times a b (segments z))
+    on zero e k ih = let r = ih (omega (arith, k, e)) in (r.0, inr r.1, r.2)
+    on (suc n) e k ih = (y, inl refl, omega (arith, e))
+
+module _ (xs : List (List Point)) (sharing : SharersAreAlike xs) (once : SegmentsAreOnce xs) where
+  -- pieces that are unlike have a segment at most once
+  at_most : (a b : Point) (ys : List (List Point)) → ((y : List Point) → In y ys → In y xs) → AreUnlike ys → times a b (piece_segments ys) ≤ 1
+  at_most a b [] f u = omega arith
+  at_most a b (y ∷ ys) f u =
+      subst (λ n. n ≤ 1) (sym (times_pieces a b y ys))
+      (sum (times a b (segments y)) (times a b (piece_segments ys)) (once y (f y (inl refl)) a b) (at_most a b ys (λ z k. f z (inr k)) u.1) both)
+    where
+      both : 0 < times a b (segments y) → 0 < times a b (piece_segments ys) → ⊥
+      both m n =
+          let r = some_piece a b ys n in
+          let z : true ≡ false = sym (is_alike y r.0 (sharing y r.0 (f y (inl refl)) (f r.0 (inr r.1)) a b m r.2)) ∙ u.0 r.0 r.1 in cc
+
+      sum : (n m : ℕ) → n ≤ 1 → m ≤ 1 → (0 < n → 0 < m → ⊥) → n + m ≤ 1
+      sum zero m h k c = omega (arith, k)
+      sum (suc n) zero h k c = omega (arith, h)
+      sum (suc n) (suc m) h k c = absurd (c (omega arith) (omega arith))
+
+  -- each segment of the pieces lies in an arc
+  at_least : (a b : Point) → 0 < times a b (piece_segments xs) → 0 < times a b (piece_segments (arcs_of xs))
+  at_least a b h =
+      let r = some_piece a b xs h in
+      let y = piece_has_arc r.0 xs r.1 in
+      omega (arith, r.2, alike_times a b y.0 r.0 y.2, part a b (arcs_of xs) y.0 y.1)
+
+  pub once_in_arcs : AreOnceIn (arcs_of xs) (piece_segments xs)
+  once_in_arcs a b h = omega (arith, at_least a b h, at_most a b (arcs_of xs) (λ y k. arc_is_piece y xs k) (arcs_unlike xs))
+
+-- each segment of an arc is one of a piece
+pub all_in_arcs : (xs : List (List Point)) → AreAllIn (arcs_of xs) (piece_segments xs)
+all_in_arcs xs a b h = on (times a b (piece_segments (arcs_of xs))) refl
+  where
+    on : (n : ℕ) → times a b (piece_segments (arcs_of xs)) ≡ n → n ≡ 0
+    on zero e = refl
+    on (suc n) e =
+        let r = some_piece a b (arcs_of xs) (omega (arith, e)) in
+        absurd (omega (arith, h, r.2, part a b xs r.0 (arc_is_piece r.0 xs r.1)))
+
+-- the segments of the pieces are those of the lines
+pub same_segments : (ss : List SplitStroke) → AllSplit ss → piece_segments (all_pieces ss) ≡ line_segments (strokes ss)
+same_segments [] h = refl
+same_segments (s ∷ ss) h =
+    flat_map-append segments s.pieces (all_pieces ss)
+    ∙ ap (λ l. l ++ piece_segments (all_pieces ss)) h.0.segments
+    ∙ ap (λ l. segments s.stroke.positions ++ l) (same_segments ss h.1)

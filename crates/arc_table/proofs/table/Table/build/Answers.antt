@@ -1,0 +1,63 @@
+use Rattle.std.proofs.Common.{◌≡◌, map, arith, sym, ◌∙◌, subst}
+use Rattle.cutter.specs.Segments.{line_segments, piece_segments}
+use Rattle.cutter.specs.Slices.{all_pieces, piece_lists, strokes}
+use Rattle.topo_types.specs.Joins.{arc_at, rejoined}
+use Rattle.arc_table.specs.Arcs.{table_of}
+use Rattle.arc_table.specs.Laws.{AreAllIn, AreOnceIn, IsTable, RingsClose}
+use Rattle.arc_table.proofs.Growth.{build_arcs, build_refs}
+use Rattle.arc_table.proofs.Kept.{table, built, kept, once_in_table, pieces_once, all_in_table, named_lists, lines_of_table, closed_in_table}
+use Rattle.arc_table.proofs.table.Table.build.Goals as goal
+
+pub loop-i-preserved : goal.loop-i-preserved
+loop-i-preserved c = (
+  build_arcs (piece_lists c.args.pieces.now) c.loop-i.i c.loop-i.arcs.items c.loop-i.refs.items c.loop-i.invariant.0 c.loop-i.invariant.1 c.of_stroke.result c.add_line.new.arcs.items c.of_stroke.ensures c.in_ok-add_line.ensures.arcs,
+  c.in_ok-push.ensures.items
+      ∙ build_refs (piece_lists c.args.pieces.now) c.loop-i.i c.loop-i.arcs.items c.loop-i.refs.items c.loop-i.invariant.0 c.loop-i.invariant.1 c.of_stroke.result c.add_line.new.arcs.items c.of_stroke.ensures c.in_ok-add_line.ensures.arcs
+      c.in_ok-add_line.field-0 c.in_ok-add_line.ensures.named,
+)
+
+pub returns-clause-table : goal.returns-clause-table
+returns-clause-table c =
+    built c.args.pieces.now c.loop-i.i c.loop-i.arcs.items c.loop-i.refs.items (omega (arith, c.loop-i-test.false, c.len-i-end.ensures)) c.loop-i.invariant.0 c.loop-i.invariant.1
+
+pub invariant_of-result : goal.invariant_of-result
+invariant_of-result c =
+    let e : table c.loop-i.arcs.items c.loop-i.refs.items ≡ table_of c.args.pieces.now =
+    built c.args.pieces.now c.loop-i.i c.loop-i.arcs.items c.loop-i.refs.items (omega (arith, c.loop-i-test.false, c.len-i-end.ensures)) c.loop-i.invariant.0 c.loop-i.invariant.1 in
+    subst IsTable (sym e) (kept c.args.pieces.now c.law.ensures.joined c.law.ensures.long c.law.ensures.clean)
+
+pub returns-clause-once : goal.returns-clause-once
+returns-clause-once c =
+    let e : table c.loop-i.arcs.items c.loop-i.refs.items ≡ table_of c.args.pieces.now =
+    built c.args.pieces.now c.loop-i.i c.loop-i.arcs.items c.loop-i.refs.items (omega (arith, c.loop-i-test.false, c.len-i-end.ensures)) c.loop-i.invariant.0 c.loop-i.invariant.1 in
+    subst (λ t. AreOnceIn t.arcs (line_segments (strokes c.args.pieces.now))) (sym e) (once_in_table c.args.pieces.now c.law.ensures.joined c.law.ensures.sharing c.law.ensures.once)
+
+pub returns-clause-pieces_once : goal.returns-clause-pieces_once
+returns-clause-pieces_once c =
+    let e : table c.loop-i.arcs.items c.loop-i.refs.items ≡ table_of c.args.pieces.now =
+    built c.args.pieces.now c.loop-i.i c.loop-i.arcs.items c.loop-i.refs.items (omega (arith, c.loop-i-test.false, c.len-i-end.ensures)) c.loop-i.invariant.0 c.loop-i.invariant.1 in
+    subst (λ t. AreOnceIn t.arcs (piece_segments (all_pieces c.args.pieces.now))) (sym e) (pieces_once c.args.pieces.now c.law.ensures.sharing c.law.ensures.once)
+
+pub returns-clause-all : goal.returns-clause-all
+returns-clause-all c =
+    let e : table c.loop-i.arcs.items c.loop-i.refs.items ≡ table_of c.args.pieces.now =
+    built c.args.pieces.now c.loop-i.i c.loop-i.arcs.items c.loop-i.refs.items (omega (arith, c.loop-i-test.false, c.len-i-end.ensures)) c.loop-i.invariant.0 c.loop-i.invariant.1 in
+    subst (λ t. AreAllIn t.arcs (line_segments (strokes c.args.pieces.now))) (sym e) (all_in_table c.args.pieces.now c.law.ensures.joined)
+
+pub returns-clause-named : goal.returns-clause-named
+returns-clause-named c =
+    let e : table c.loop-i.arcs.items c.loop-i.refs.items ≡ table_of c.args.pieces.now =
+    built c.args.pieces.now c.loop-i.i c.loop-i.arcs.items c.loop-i.refs.items (omega (arith, c.loop-i-test.false, c.len-i-end.ensures)) c.loop-i.invariant.0 c.loop-i.invariant.1 in
+    subst (λ t. map (map (arc_at t.arcs)) t.refs ≡ piece_lists c.args.pieces.now) (sym e) (named_lists c.args.pieces.now)
+
+pub returns-clause-joined : goal.returns-clause-joined
+returns-clause-joined c =
+    let e : table c.loop-i.arcs.items c.loop-i.refs.items ≡ table_of c.args.pieces.now =
+    built c.args.pieces.now c.loop-i.i c.loop-i.arcs.items c.loop-i.refs.items (omega (arith, c.loop-i-test.false, c.len-i-end.ensures)) c.loop-i.invariant.0 c.loop-i.invariant.1 in
+    subst (λ t. map (λ refs. rejoined (map (arc_at t.arcs) refs)) t.refs ≡ map (λ s. s.positions) (strokes c.args.pieces.now)) (sym e) (lines_of_table c.args.pieces.now c.law.ensures.joined)
+
+pub returns-clause-closed : goal.returns-clause-closed
+returns-clause-closed c =
+    let e : table c.loop-i.arcs.items c.loop-i.refs.items ≡ table_of c.args.pieces.now =
+    built c.args.pieces.now c.loop-i.i c.loop-i.arcs.items c.loop-i.refs.items (omega (arith, c.loop-i-test.false, c.len-i-end.ensures)) c.loop-i.invariant.0 c.loop-i.invariant.1 in
+    subst (λ t. RingsClose t.arcs (strokes c.args.pieces.now) t.refs) (sym e) (closed_in_table c.args.pieces.now c.law.ensures.joined c.law.ensures.long c.law.ensures.clean)

@@ -1,0 +1,3 @@
+pub mod Arcs
+pub mod Growth
+pub mod Laws

@@ -1,0 +1,112 @@
+// The table of arcs.
+ghost use Rattle.std.specs.Prelude.{◌≡◌, ◌<◌, ◌≤◌, IfOk, Some, length, map, slice_get};
+ghost use Rattle.std.specs.List.{AllByRecursion};
+ghost use Rattle.cutter.specs.Segments.{line_segments, piece_segments};
+ghost use Rattle.cutter.specs.Slices.{all_pieces, piece_lists, strokes};
+ghost use Rattle.topo_types.specs.Joins.{arc_at, rejoined, Meet};
+ghost use Rattle.topo_types.specs.Validity.{AreInRange};
+ghost use Rattle.arc_table.specs.Arcs.{table_of};
+ghost use Rattle.arc_table.specs.Laws.{AreAllIn, AreOnceIn, AreUnlike, IsTable, RingsClose};
+
+use crate::placing::add_line;
+use byte_ends::Memory;
+use cutter::Pieces;
+use geojson_types::Position;
+use json_value::Items;
+use std::alloc::Global;
+use std::marker::Model;
+use topo_types::ArcRef;
+
+/// The arcs of lines and rings, and for each of these its arc indexes. No two arcs are equal or each other's reverse, and each
+/// has two positions or more. Each line has an index, each index names an arc, and the arcs that a line's indexes name meet.
+#[derive(Debug, Drop)]
+pub struct Table {
+    arcs: Vec<Items<Position>>,
+    refs: Vec<Items<ArcRef>>,
+}
+
+impl Model for Table {
+    ghost use Rattle.arc_table.specs.Arcs.{ArcsAndIndexes};
+    ghost use Rattle.arc_table.specs.Laws.{IsTable};
+
+    ghost Value = { ArcsAndIndexes };
+
+    ghost view = { λ t. record { arcs = t.arcs.items; refs = t.refs.items } };
+
+    ghost invariant = { λ t. IsTable (record { arcs = t.arcs.items; refs = t.refs.items }) };
+}
+
+impl Table {
+    /// The distinct pieces up to reversal, in the order and direction of first use, and the arc indexes of each line. Each
+    /// segment of the lines lies once, in exactly one arc; the arcs that a line's indexes name are its pieces, and joined
+    /// again they are the line, a ring turned to its start.
+    pub fn build(alloc: Global, pieces: &Pieces) -> Result<Table, Memory>
+        ensures table { IfOk result (λ t. t ≡ table_of pieces.now) }
+        ensures once { IfOk result (λ t. AreOnceIn t.arcs (line_segments (strokes pieces.now))) }
+        ensures pieces_once { IfOk result (λ t. AreOnceIn t.arcs (piece_segments (all_pieces pieces.now))) }
+        ensures all { IfOk result (λ t. AreAllIn t.arcs (line_segments (strokes pieces.now))) }
+        ensures named { IfOk result (λ t. map (map (arc_at t.arcs)) t.refs ≡ piece_lists pieces.now) }
+        ensures joined { IfOk result
+            (λ t. map (λ refs. rejoined (map (arc_at t.arcs) refs)) t.refs ≡ map (λ s. s.positions) (strokes pieces.now)) }
+        ensures closed { IfOk result (λ t. RingsClose t.arcs (strokes pieces.now) t.refs) }
+    {
+        pieces.law();
+        let mut arcs = Vec::new(alloc);
+        let mut refs = Vec::new(alloc);
+        for i in 0..pieces.len() {
+            refs.push(add_line(alloc, &mut arcs, pieces.of_stroke(i))?)?;
+        }
+        Ok(Table { arcs, refs })
+    }
+
+    /// How many arcs there are.
+    pub fn len(&self) -> usize
+        ensures { result ≡ length self.now.arcs }
+    {
+        self.arcs.as_slice().len()
+    }
+
+    /// How many lines and rings have arc indexes.
+    pub fn lines(&self) -> usize
+        ensures { result ≡ length self.now.refs }
+    {
+        self.refs.as_slice().len()
+    }
+
+    /// The arc of this number, counted from zero.
+    pub fn arc(&self, i: usize) -> &[Position]
+        requires { i < length self.now.arcs }
+        ensures { slice_get self.now.arcs i ≡ Some result.now }
+    {
+        self.arcs[i].as_slice()
+    }
+
+    /// The arc indexes of the line or ring of this number, counted from zero.
+    pub fn refs(&self, stroke: usize) -> &[ArcRef]
+        requires { stroke < length self.now.refs }
+        ensures { slice_get self.now.refs stroke ≡ Some result.now }
+    {
+        self.refs[stroke].as_slice()
+    }
+
+    /// The arcs, and the arc indexes of each line and ring, by value.
+    pub fn into_parts(self) -> (Vec<Items<Position>>, Vec<Items<ArcRef>>)
+        ensures arcs { result.0.items ≡ self.arcs }
+        ensures refs { result.1.items ≡ self.refs }
+        ensures kept { IsTable self }
+    {
+        let table = self;
+        (table.arcs, table.refs)
+    }
+
+    /// What arcs and indexes keep. A call does nothing; its contract is what `Table` keeps.
+    pub fn law(&self)
+        ensures unlike { AreUnlike self.now.arcs }
+        ensures long { AllByRecursion (λ arc. 2 ≤ length arc) self.now.arcs }
+        ensures ranged { AllByRecursion (AreInRange (length self.now.arcs)) self.now.refs }
+        ensures joined { AllByRecursion (λ refs. Meet (map (arc_at self.now.arcs) refs)) self.now.refs }
+        ensures some { AllByRecursion (λ refs. 1 ≤ length refs) self.now.refs }
+    {
+        let _ = &self.arcs;
+    }
+}

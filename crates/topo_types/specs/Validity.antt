@@ -1,0 +1,112 @@
+-- Which topologies are valid: TopoJSON 1.0, section 2.
+use Rattle.std.specs.Prelude.{◌≡◌, ◌≢◌, ℕ, ◌<◌, ◌≤◌, ℤ, Bool, true, false, not, ◌&&◌, List, [], ◌∷◌, Option, None, Some, length, map}
+use Rattle.std.specs.List.{AllByRecursion, list_all}
+use Rattle.geojson_types.specs.declared.geometry.Geometry.{fold-Geometry}
+use Rattle.geojson_types.specs.declared.geometry.Geometry.TheOpen.{Geometry-F}
+use Rattle.geojson_types.specs.Features.{is_some_list}
+use Rattle.geojson_types.specs.Lists.{joined}
+use Rattle.geojson_types.specs.Points.{Point, IsPosition}
+use Rattle.topo_types.specs.declared.feature.TopoFeature.{TopoFeature}
+use Rattle.topo_types.specs.declared.object.TopoObject.{TopoObject}
+use Rattle.topo_types.specs.declared.object.TopoObject.TheVariants.{One, Many}
+use Rattle.topo_types.specs.Joins.{number_of, arc_at, Meet, Closes}
+use Rattle.topo_types.specs.Topologies.{TopoShape, Contents, object_features, objects_strokes}
+
+-- ---- shapes
+
+-- one level, with the answers for the shapes of a group in their place
+abbrev pub full_step : Geometry-F Point (List ℤ) (List ℤ) Bool → Bool
+full_step (Geometry-F.Point p) = true
+full_step (Geometry-F.MultiPoint ps) = is_some_list ps
+full_step (Geometry-F.Line refs) = is_some_list refs
+full_step (Geometry-F.Lines ls) = is_some_list ls && list_all is_some_list ls
+full_step (Geometry-F.Area rs) = is_some_list rs && list_all is_some_list rs
+full_step (Geometry-F.Areas areas) = is_some_list areas && list_all (λ rs. is_some_list rs && list_all is_some_list rs) areas
+full_step (Geometry-F.Group bs) = list_all (λ b. b) bs
+
+-- no list is empty but a Group's
+unfoldable pub is_full : TopoShape → Bool
+is_full = fold-Geometry Point (List ℤ) (List ℤ) Bool full_step
+
+abbrev pub is_full_option : Option TopoShape → Bool
+is_full_option None = true
+is_full_option (Some s) = is_full s
+
+-- one level, with the places of the shapes of a group in their place
+abbrev pub places_step : Geometry-F Point (List ℤ) (List ℤ) (List Point) → List Point
+places_step (Geometry-F.Point p) = p ∷ []
+places_step (Geometry-F.MultiPoint ps) = ps
+places_step (Geometry-F.Line refs) = []
+places_step (Geometry-F.Lines ls) = []
+places_step (Geometry-F.Area rs) = []
+places_step (Geometry-F.Areas areas) = []
+places_step (Geometry-F.Group pss) = joined pss
+
+-- the places of the Points and MultiPoints of a shape
+unfoldable pub places : TopoShape → List Point
+places = fold-Geometry Point (List ℤ) (List ℤ) (List Point) places_step
+
+abbrev pub option_places : Option TopoShape → List Point
+option_places None = []
+option_places (Some s) = places s
+
+-- one level, and the shape is no Group
+abbrev pub single_step : Geometry-F Point (List ℤ) (List ℤ) Bool → Bool
+single_step (Geometry-F.Point p) = true
+single_step (Geometry-F.MultiPoint ps) = true
+single_step (Geometry-F.Line refs) = true
+single_step (Geometry-F.Lines ls) = true
+single_step (Geometry-F.Area rs) = true
+single_step (Geometry-F.Areas areas) = true
+single_step (Geometry-F.Group bs) = false
+
+unfoldable pub is_single : TopoShape → Bool
+is_single = fold-Geometry Point (List ℤ) (List ℤ) Bool single_step
+
+abbrev pub is_single_option : Option TopoShape → Bool
+is_single_option None = true
+is_single_option (Some s) = is_single s
+
+-- ---- objects
+
+-- all lists of it are full, and its Points and MultiPoints are positions
+abbrev pub IsFeature : TopoFeature → Type 0
+IsFeature f = (is_full_option f.shape ≡ true) × AllByRecursion IsPosition (option_places f.shape)
+
+-- its features are, and one alone is no collection
+abbrev pub IsObject : TopoObject → Type 0
+IsObject (One f) = IsFeature f × (is_single_option f.shape ≡ true)
+IsObject (Many fs) = AllByRecursion IsFeature fs
+
+-- no two are equal
+abbrev pub AreDistinct : {X : Type 0} → List X → Type 0
+AreDistinct [] = Unit {0}
+AreDistinct (x ∷ xs) = AllByRecursion (λ y. x ≢ y) xs × AreDistinct xs
+
+-- ---- lines
+
+-- each index names an arc
+abbrev pub AreInRange : ℕ → List ℤ → Type 0
+AreInRange count refs = AllByRecursion (λ r. number_of r < count) refs
+
+-- the line's arcs meet
+abbrev pub IsJoined : List (List Point) → Bool × List ℤ → Type 0
+IsJoined arcs b = Meet (map (arc_at arcs) b.1)
+
+-- and a ring's arcs close
+abbrev pub IsClosed : List (List Point) → Bool × List ℤ → Type 0
+IsClosed arcs b = b.0 ≡ true → Closes (map (arc_at arcs) b.1)
+
+-- ---- topologies
+
+-- two positions or more
+abbrev pub IsArc : List Point → Type 0
+IsArc ps = (2 ≤ length ps) × AllByRecursion IsPosition ps
+
+pub record IsTopology (t : Contents) : Type 0 where
+  pub names : AreDistinct (map (λ o. o.0) t.objects)
+  pub objects : AllByRecursion (λ o. IsObject o.1) t.objects
+  pub arcs : AllByRecursion IsArc t.arcs
+  pub ranged : AllByRecursion (λ b. AreInRange (length t.arcs) b.1) (objects_strokes t.objects)
+  pub joined : AllByRecursion (IsJoined t.arcs) (objects_strokes t.objects)
+  pub closed : AllByRecursion (IsClosed t.arcs) (objects_strokes t.objects)

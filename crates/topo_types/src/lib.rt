@@ -1,0 +1,19 @@
+//! What topologies (TopoJSON 1.0) are made of: cells, arc indexes, geometries over arc indexes, features, objects, and the
+//! topology itself, which is valid by its type. It stands on `geojson_types`, whose generic geometry and identifiers it uses.
+//! `specs/Decoding.antt` says which features a topology stands for, `specs/Values.antt` which JSON value it is. The layers above
+//! build a `Topology` of parts that are known to be valid, write it, and decode it.
+#![tactic(auto)]
+
+mod arc_ref;
+mod cell;
+mod feature;
+mod object;
+#[cfg(test)]
+mod tests;
+mod topology;
+
+pub use arc_ref::ArcRef;
+pub use cell::{CELL_LIMIT, Cell};
+pub use feature::{TopoFeature, TopoShape};
+pub use object::TopoObject;
+pub use topology::Topology;

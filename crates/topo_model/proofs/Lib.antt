@@ -1,0 +1,14 @@
+pub mod All
+pub mod Back
+pub mod ByKind
+pub mod Found
+pub mod Gathered
+pub mod Lists
+pub mod Numbered
+pub mod Pruned
+pub mod Replaced
+pub mod Rows
+pub mod Taking
+pub mod Total
+pub mod Valid
+pub mod Visited

@@ -1,0 +1,95 @@
+-- What replacing the lines of a part of a shape says of the shape.
+use Rattle.std.proofs.Common.{◌≡◌, ℕ, ◌≤◌, ℤ, Bool, true, false, List, [], ◌∷◌, ◌++◌, map, length, Option, None, Some, refl, sym, ap, ◌∙◌, arith}
+use Rattle.geojson_types.specs.declared.geometry.Geometry.TheVariants as g
+use Rattle.geojson_types.specs.Features.{Shape}
+use Rattle.geojson_types.specs.Lists.{map_some, then_some, some_of, unless_empty, joined}
+use Rattle.geojson_types.specs.Points.{Point}
+use Rattle.geojson_types.specs.Pruning.{area_by, prune, strokes, option_strokes}
+use Rattle.geojson_types.proofs.Cases.{prune-point, prune-points, prune-line, prune-lines, prune-area, prune-areas, prune-group, strokes-point, strokes-points, strokes-line, strokes-lines, strokes-area, strokes-areas, strokes-group}
+use Rattle.topo_types.specs.Topologies.{TopoShape}
+use Rattle.topo_model.specs.Entries.{Kept, Entries, entries_of, TakesNext, TakesSome, Replaces}
+use Rattle.topo_model.proofs.Taking.{taken, tagged, lines_replaced, SoFar, ends}
+
+-- the shape with its lines and rings replaced
+abbrev pub Shaped : Shape → Entries → Option TopoShape → Entries → Type 0
+Shaped s entries got rest = Replaces (strokes s) (λ kept. prune (λ p. p) kept s) entries got rest
+
+abbrev pruned : Kept → Shape → Option TopoShape
+pruned kept s = prune (λ p. p) kept s
+
+-- the lines, and what is made of them, said in another way
+abbrev pub Out : Type 0
+Out = Option TopoShape
+
+pub given : (s : Shape) (entries rest : Entries) (made got : Out) → got ≡ made → Shaped s entries made rest → Shaped s entries got rest
+given s entries rest made got e r = rw e r
+
+again : {Y : Type 0} (s : Shape) (ls : List (Bool × List Point)) (made : Kept → Y) (finish : Y → Option TopoShape) (entries rest : Entries) (y : Y) → strokes s ≡ ls
+    → ((kept : Kept) → pruned kept s ≡ finish (made kept)) → Replaces ls made entries y rest → Shaped s entries (finish y) rest
+again s ls made finish entries rest y e same r kept tail h =
+    let k = r kept tail (h ∙ ap (λ zs. entries_of kept zs ++ tail) e) in
+    (ap finish k.0 ∙ sym (same kept), k.1)
+
+pub at_point : (s : Shape) (p q : Point) (entries : Entries) → s ≡ g.Point p → q ≡ p → Shaped s entries (Some (g.Point q)) entries
+at_point s p q entries e is kept tail h =
+    (ap (λ z. Some (g.Point z)) is ∙ sym (ap (pruned kept) e ∙ prune-point (λ p. p) kept p), h ∙ ap (λ zs. entries_of kept zs ++ tail) (ap strokes e ∙ strokes-point Point (List Point) p))
+
+map_same : (ps : List Point) → map (λ p. p) ps ≡ ps
+map_same [] = refl
+map_same (p ∷ ps) = ap (λ qs. p ∷ qs) (map_same ps)
+
+pub at_points : (s : Shape) (ps qs : List Point) (entries : Entries) → s ≡ g.MultiPoint ps → qs ≡ ps → Shaped s entries (Some (g.MultiPoint qs)) entries
+at_points s ps qs entries e is kept tail h =
+    (ap (λ z. Some (g.MultiPoint z)) (is ∙ sym (map_same ps)) ∙ sym (ap (pruned kept) e ∙ prune-points (λ p. p) kept ps), h ∙ ap (λ zs. entries_of kept zs ++ tail) (ap strokes e ∙ strokes-points Point (List Point) ps))
+
+pub at_line : (s : Shape) (l : List Point) (entries rest : Entries) (o : Option (List ℤ)) (out : Out) → s ≡ g.Line l → TakesNext entries o rest → out ≡ map_some g.Line o → Shaped s entries out rest
+at_line s l entries rest o out e next m kept tail h =
+    let k = taken entries o rest next (kept false l) tail (h ∙ ap (λ zs. entries_of kept zs ++ tail) (ap strokes e ∙ strokes-line Point (List Point) l)) in
+    (m ∙ ap (map_some g.Line) k.0 ∙ sym (ap (pruned kept) e ∙ prune-line (λ p. p) kept l), k.1)
+
+pub at_lines : (s : Shape) (ls : List (List Point)) (many : ℕ) (entries rest : Entries) (got : List (List ℤ)) (out : Out) → s ≡ g.Lines ls → many ≡ length ls → TakesSome [] many entries got rest
+    → out ≡ unless_empty g.Lines got → Shaped s entries out rest
+at_lines s ls many entries rest got out e m some is =
+    given s entries rest (unless_empty g.Lines got) out is
+    (again s (tagged false ls) (λ kept. some_of (kept false) ls) (unless_empty g.Lines) entries rest got (ap strokes e ∙ strokes-lines Point (List Point) ls)
+    (λ kept. ap (pruned kept) e ∙ prune-lines (λ p. p) kept ls) (lines_replaced [] false ls entries rest got (rw (sym m) some)))
+
+pub at_area : (s : Shape) (rs : List (List Point)) (entries rest : Entries) (got : Option (List (List ℤ))) (out : Out) → s ≡ g.Area rs
+    → Replaces (map (λ l. (true, l)) rs) (λ kept. area_by (kept true) rs) entries got rest → out ≡ map_some g.Area got → Shaped s entries out rest
+at_area s rs entries rest got out e r is =
+    given s entries rest (map_some g.Area got) out is
+    (again s (tagged true rs) (λ kept. area_by (kept true) rs) (map_some g.Area) entries rest got (ap strokes e ∙ strokes-area Point (List Point) rs)
+    (λ kept. ap (pruned kept) e ∙ prune-area (λ p. p) kept rs) r)
+
+pub at_areas : (s : Shape) (rss : List (List (List Point))) (entries rest : Entries) (got : List (List (List ℤ))) (out : Out) → s ≡ g.Areas rss
+    → Replaces (joined (map (map (λ l. (true, l))) rss)) (λ kept. some_of (area_by (kept true)) rss) entries got rest → out ≡ unless_empty g.Areas got → Shaped s entries out rest
+at_areas s rss entries rest got out e r is =
+    given s entries rest (unless_empty g.Areas got) out is
+    (again s (joined (map (map (λ l. (true, l))) rss)) (λ kept. some_of (area_by (kept true)) rss) (unless_empty g.Areas) entries rest got (ap strokes e ∙ strokes-areas Point (List Point) rss)
+    (λ kept. ap (pruned kept) e ∙ prune-areas (λ p. p) kept rss) r)
+
+pub at_group : (s : Shape) (ss : List Shape) (i : ℕ) (entries rest : Entries) (got made : List TopoShape) → s ≡ g.Group ss → length ss ≤ i
+    → SoFar strokes (λ kept. prune (λ p. p) kept) ss i entries got rest → made ≡ got → Shaped s entries (Some (g.Group made)) rest
+at_group s ss i entries rest got made e le so_far m =
+    again s (joined (map strokes ss)) (λ kept. some_of (pruned kept) ss) (λ ts. Some (g.Group ts)) entries rest made (ap strokes e ∙ strokes-group Point (List Point) ss)
+    (λ kept. ap (pruned kept) e ∙ prune-group (λ p. p) kept ss)
+    (rw m (ends strokes (λ kept. prune (λ p. p) kept) ss i entries got rest le so_far))
+
+-- nothing is left of it
+pub none_of : {A B : Type 0} (make : List A → B) (got : List A) → length got ≡ 0 → unless_empty make got ≡ None
+none_of make [] h = refl
+none_of make (x ∷ xs) h = absurd (omega (arith, h))
+
+pub some_left : {A B : Type 0} (make : List A → B) (got : List A) (made : List A) → (length got ≡ 0 → ⊥) → made ≡ got → unless_empty make got ≡ Some (make made)
+some_left make [] made h e = absurd (h refl)
+some_left make (x ∷ xs) made h e = ap (λ z. Some (make z)) (sym e)
+
+pub null_stays : (s : Option Shape) (entries : Entries) → s ≡ None → Replaces (option_strokes s) (λ kept. then_some (prune (λ p. p) kept) s) entries None entries
+null_stays None entries e kept tail h = (refl, h)
+null_stays (Some s) entries e kept tail h = absurd cc
+
+pub some_stays : (o : Option Shape) (s : Shape) (entries rest : Entries) (got : Option TopoShape) → o ≡ Some s → Shaped s entries got rest
+    → Replaces (option_strokes o) (λ kept. then_some (prune (λ p. p) kept) o) entries got rest
+some_stays o s entries rest got e r = rw e r
+
+pub ruleset null_replaced = (null_stays, some_stays)

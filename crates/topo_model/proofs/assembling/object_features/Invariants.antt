@@ -1,0 +1,7 @@
+use Rattle.geojson_types.specs.Pruning.{option_strokes}
+use Rattle.topo_model.specs.Objects.{feature_by}
+use Rattle.topo_model.proofs.Taking.{Mapped}
+use Rattle.topo_model.proofs.assembling.object_features.Given as goal
+
+abbrev pub invariant-features : goal.invariant-features
+invariant-features l = Mapped (λ f. option_strokes f.shape) feature_by l.yielded l.entries l.made.items l.rest

@@ -1,0 +1,8 @@
+pub mod Arrays
+pub mod Features
+pub mod Objects
+pub mod Parts
+pub mod Rows
+pub mod Shapes
+pub mod Valid
+pub mod Whole

@@ -1,0 +1,77 @@
+-- Worked rows of the definition: the texts of small topologies and of geometry objects, computed.
+use Rattle.std.proofs.Common.{◌≡◌, ℕ, ◌*◌, pos, negsuc, List, [], ◌∷◌, refl, Some, None}
+use Rattle.std.specs.Prelude.{codes}
+use Rattle.std.specs.Fmt.{digits}
+use Rattle.decimal_text.specs.Scaling.{units_text}
+use Rattle.json_value.specs.declared.json.Json.TheVariants as j
+use Rattle.json_value.specs.Text.{json_text, escaped_byte}
+use Rattle.json_value.proofs.Texts.{texts}
+use Rattle.geojson_types.specs.declared.geometry.Geometry.TheVariants as g
+use Rattle.geojson_types.specs.declared.id.Id.TheVariants as id
+use Rattle.geojson_types.specs.Points.{Point}
+use Rattle.topo_types.specs.declared.feature.TopoFeature.{TopoFeature}
+use Rattle.topo_types.specs.declared.object.TopoObject.TheVariants.{Many}
+use Rattle.topo_types.specs.Topologies.{TopoShape, Contents}
+use Rattle.topo_types.specs.Values.{feature_value, object_value, topology_value}
+use Rattle.topojson_writer.proofs.Shapes.{kinds}
+
+-- a position at a whole number of the input's units from zero
+abbrev pub at : ℕ → ℕ → Point
+at x y = record { x = pos (x * 10000000); y = pos (y * 10000000) }
+
+-- without identifier and properties
+abbrev pub bare : TopoShape → TopoFeature
+bare s = record { id = None; properties = None; shape = Some s }
+
+-- one LineString in a layer
+abbrev pub line_of : List ℕ → Contents
+line_of name = record {
+  objects = (name, Many (bare (g.Line (pos 0 ∷ [])) ∷ [])) ∷ [];
+  arcs = (at 0 0 ∷ (record { x = pos 15000000; y = pos 2500000 } ∷ [])) ∷ [];
+}
+
+row_line : json_text (topology_value (line_of (codes "a")))
+    ≡ codes "{\"type\":\"Topology\",\"objects\":{\"a\":{\"type\":\"GeometryCollection\",\"geometries\":[{\"type\":\"LineString\",\"arcs\":[0]}]}},\"arcs\":[[[0,0],[1.5,0.25]]]}"
+unfolding topology_value escaped_byte units_text digits
+row_line = simp (texts, kinds) refl
+
+-- two squares that share a side
+abbrev pub squares_of : List ℕ → Contents
+squares_of name = record {
+  objects = (name, Many (bare (g.Area ((pos 0 ∷ (pos 1 ∷ [])) ∷ [])) ∷ (bare (g.Area ((pos 2 ∷ (negsuc 0 ∷ [])) ∷ [])) ∷ []))) ∷ [];
+  arcs = (at 1 0 ∷ (at 1 1 ∷ []))
+      ∷ ((at 1 1 ∷ (at 0 1 ∷ (at 0 0 ∷ (at 1 0 ∷ []))))
+      ∷ ((at 1 0 ∷ (at 2 0 ∷ (at 2 1 ∷ (at 1 1 ∷ [])))) ∷ []));
+}
+
+row_squares : json_text (topology_value (squares_of (codes "land")))
+    ≡ codes "{\"type\":\"Topology\",\"objects\":{\"land\":{\"type\":\"GeometryCollection\",\"geometries\":[{\"type\":\"Polygon\",\"arcs\":[[0,1]]},{\"type\":\"Polygon\",\"arcs\":[[2,-1]]}]}},\"arcs\":[[[1,0],[1,1]],[[1,1],[0,1],[0,0],[1,0]],[[1,0],[2,0],[2,1],[1,1]]]}"
+unfolding topology_value escaped_byte units_text digits
+row_squares = simp (texts, kinds) refl
+
+-- a Point with identifier and properties that have one name twice
+abbrev point : TopoFeature
+point = record {
+  id = Some (id.Text (codes "007"));
+  properties = Some ((codes "b", j.Number (codes "1.50")) ∷ ((codes "a", j.Number (codes "1e2")) ∷ ((codes "b", j.Null) ∷ [])));
+  shape = Some (g.Point (at 1 2));
+}
+
+row_point : json_text (feature_value point) ≡ codes "{\"type\":\"Point\",\"id\":\"007\",\"properties\":{\"b\":1.50,\"a\":1e2,\"b\":null},\"coordinates\":[1,2]}"
+unfolding escaped_byte units_text digits
+row_point = simp (texts, kinds) refl
+
+-- a null geometry with an identifier, and an empty GeometryCollection
+row_null : json_text (feature_value (record { id = Some (id.Number (codes "7")); properties = None; shape = None })) ≡ codes "{\"type\":null,\"id\":7}"
+unfolding escaped_byte
+row_null = simp texts refl
+
+row_empty : json_text (object_value (Many [])) ≡ codes "{\"type\":\"GeometryCollection\",\"geometries\":[]}"
+unfolding escaped_byte
+row_empty = simp texts refl
+
+-- a GeometryCollection inside a feature
+row_group : json_text (feature_value (bare (g.Group (g.MultiPoint (at 0 1 ∷ []) ∷ (g.Lines ((pos 0 ∷ []) ∷ []) ∷ (g.Areas (((negsuc 2 ∷ []) ∷ []) ∷ []) ∷ []))))))
+    ≡ codes "{\"type\":\"GeometryCollection\",\"geometries\":[{\"type\":\"MultiPoint\",\"coordinates\":[[0,1]]},{\"type\":\"MultiLineString\",\"arcs\":[[0]]},{\"type\":\"MultiPolygon\",\"arcs\":[[[-3]]]}]}"
+unfolding escaped_byte units_text digits
+row_group = simp (texts, kinds) refl

@@ -1,0 +1,60 @@
+-- The text of a geometry object (TopoJSON 1.0, section 2.2) part by part, as it is written.
+use Rattle.std.specs.Prelude.{ℕ, ℤ, false, List, [], ◌∷◌, ◌++◌, map, codes}
+use Rattle.byte_ends.specs.Commas.{with_commas}
+use Rattle.json_value.specs.declared.json.Json.{Json}
+use Rattle.json_value.specs.declared.json.Json.TheVariants as j
+use Rattle.json_value.specs.Text.{json_text, name_text, member_text}
+use Rattle.geojson_types.specs.Points.{Point}
+use Rattle.topo_types.specs.declared.object.TopoObject.{TopoObject}
+use Rattle.topo_types.specs.Topologies.{TopoShape}
+use Rattle.topo_types.specs.Values.{Members, Geometrical, geometrical, inner_value, positions_value, lines_value, object_value}
+
+-- a geometry inside a collection
+abbrev pub shape_value : TopoShape → Json
+shape_value s = inner_value (geometrical s)
+
+-- the opening brace and the type
+unfoldable pub type_text : Geometrical → List ℕ
+type_text o = codes "{\"type\":" ++ json_text o.type
+
+-- members, each behind a comma
+unfoldable pub members_text : Members → List ℕ
+members_text ms = with_commas false (map (λ m. member_text (m.0, json_text m.1)) ms)
+
+-- the name of the first member behind a comma, and its colon
+abbrev pub first_name : Members → List ℕ
+first_name [] = []
+first_name (m ∷ ms) = codes "," ++ name_text m.0
+
+-- the value of the first member
+abbrev pub first_value : Members → Json
+first_value [] = j.Null
+first_value (m ∷ ms) = m.1
+
+-- the name of what is behind the type: `coordinates`, `arcs` or `geometries`
+unfoldable pub parts_name : Geometrical → List ℕ
+parts_name o = first_name o.parts
+
+-- the coordinates, arc indexes or geometries
+unfoldable pub parts_value : Geometrical → Json
+parts_value o = first_value o.parts
+
+-- arcs
+abbrev pub arcs_value : List (List Point) → Json
+arcs_value arcs = j.Array (map positions_value arcs)
+
+-- the polygons of a MultiPolygon
+abbrev pub areas_value : List (List (List ℤ)) → Json
+areas_value areas = j.Array (map lines_value areas)
+
+-- the geometries of a GeometryCollection
+abbrev pub shapes_value : List TopoShape → Json
+shapes_value shapes = j.Array (map shape_value shapes)
+
+-- the objects of a topology by name
+abbrev pub objects_value : List (List ℕ × TopoObject) → Json
+objects_value os = j.Object (map (λ o. (o.0, object_value o.1)) os)
+
+-- an object of a topology behind its name and a colon
+abbrev pub named_text : List ℕ × TopoObject → List ℕ
+named_text o = member_text (o.0, json_text (object_value o.1))

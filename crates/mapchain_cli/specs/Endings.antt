@@ -1,20 +1,20 @@
 -- How a run ends, and what it did to standard output.
-use Rattle.std.specs.Prelude.{◌≡◌, ℕ, Bool, true, false, List, [], ◌∷◌}
-use Rattle.byte_ends.specs.Ends.{Fed, Drained}
+use Rattle.std.specs.Prelude.{◌≡◌, ℕ, Bool, true, false, List, map}
+use Rattle.byte_ends.specs.Ends.{Drained}
 use Rattle.mapchain_engine.specs.declared.fault.BuildFault.TheVariants.{Write}
 use Rattle.mapchain_engine.specs.declared.report.Report.{Report}
 use Rattle.mapchain_engine.specs.Building.{IsBuilt}
+use Rattle.mapchain_engine.specs.Sources.{Sources}
 use Rattle.mapchain_cli.specs.declared.ending.Ending.{Ending}
 use Rattle.mapchain_cli.specs.declared.ending.Ending.TheVariants.{Refused}
 use Rattle.mapchain_cli.specs.LayerWords.{name_of}
 
--- the topology of the one layer word was written, under the name before its first `=`
+-- the topology of the layers that the words name was written, each under the name before its word's first `=`
 pub record BuildsOf (exact : Bool) (words : List (List ℕ)) (old new : Drained) (report : Report) : Type 0 where
-  pub word : List ℕ
-  pub only : words ≡ word ∷ []
-  pub source_old : Fed
-  pub source_new : Fed
-  pub built : IsBuilt exact (name_of word) source_old source_new old new report
+  pub sources_old : Sources
+  pub sources_new : Sources
+  pub names : map (λ s. s.0) sources_old ≡ map name_of words
+  pub built : IsBuilt exact sources_old sources_new old new report
 
 -- the device failed while the topology was written
 abbrev pub is_write_fault : Ending → Bool

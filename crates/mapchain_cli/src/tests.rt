@@ -121,7 +121,9 @@ fn words_and_files_are_refused(rt: HostRuntime) -> Result<(), Fail> {
 fn layers_are_refused(rt: HostRuntime) -> Result<(), Fail> {
     let line = b"{\"type\":\"LineString\",\"coordinates\":[[0,0],[1,0],[0,0]]}".as_slice();
     let short = b"{\"type\":\"LineString\",\"coordinates\":[[0,0]]}".as_slice();
-    let point = b"{\"type\":\"Point\",\"coordinates\":[0,0]}".as_slice();
+    let circle = b"{\"type\":\"Circle\"}".as_slice();
+    let three = b"{\"type\":\"Polygon\",\"coordinates\":[[[0,0],[1,0],[0,0]]]}".as_slice();
+    let open = b"{\"type\":\"Polygon\",\"coordinates\":[[[0,0],[1,0],[1,1],[0,1]]]}".as_slice();
     let half = b"{\"type\":\"LineString\",\"coordinates\":[[0,0],[0.00000005,0]]}".as_slice();
     let cases = [
         (
@@ -133,7 +135,9 @@ fn layers_are_refused(rt: HostRuntime) -> Result<(), Fail> {
         (b"[]".as_slice(), 1, "error: layer 0 G1 NotObject\n"),
         (short, 1, "error: layer 0 G7 ShortLine feature 0\n"),
         (half, 1, "error: layer 0 G11 Inexact feature 0\n"),
-        (point, 1, "error: layer 0 G13 NotYet\n"),
+        (circle, 1, "error: layer 0 G2 UnknownType\n"),
+        (three, 1, "error: layer 0 G8 ShortRing feature 0\n"),
+        (open, 1, "error: layer 0 G9 OpenRing feature 0\n"),
         (line, 1, "error: B8 NotYet\n"),
     ];
     for (bytes, status, line) in cases {

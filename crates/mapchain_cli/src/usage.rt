@@ -44,15 +44,15 @@ error says what. Else standard error takes a report, with a line each:
   kept     positions in these arcs
   removed  positions that were taken out of these arcs
 
-So far there must be one layer, and its file must be a LineString that goes through
-no position twice. Another type of GeoJSON is refused as 'G13 NotYet', a second layer
-and a position that comes again as 'B8 NotYet'.";
+So far each line is an arc of its own: where a position stands twice among the lines
+and rings of all layers, which a ring's first position does, they are refused as
+'B8 NotYet'.";
 
 const BUILD_AFTER_HELP: &str = "Example:
-  mapchain build coast=coast.json > coast.topojson";
+  mapchain build coast=coast.json rivers=rivers.json > map.topojson";
 
 const BUILD_AFTER_LONG_HELP: &str = "Example:
-  mapchain build coast=coast.json > coast.topojson
+  mapchain build coast=coast.json rivers=rivers.json > map.topojson
 
 'mapchain --help' lists the exit statuses.";
 

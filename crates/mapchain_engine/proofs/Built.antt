@@ -1,54 +1,105 @@
--- What building one layer comes to.
-use Rattle.std.proofs.Common.{◌≡◌, ℕ, Bool, false, List, [], ◌∷◌, length, ◌∙◌, ap, sym, Err}
-use Rattle.std.specs.Prelude.{All, option_to_list}
-use Rattle.byte_ends.specs.Ends.{Fed, Drained, Takes}
-use Rattle.geojson_model.specs.declared.counts.Counts.{Counts}
-use Rattle.geojson_model.specs.Features.{Featured}
-use Rattle.geojson_model.specs.Places.{features_points}
-use Rattle.geojson_model.specs.Points.{IsInput}
-use Rattle.geojson_model.proofs.BareLines.{layer_is_line}
+-- What building layers comes to.
+use Rattle.std.proofs.Common.{◌≡◌, inl, inr, ℕ, suc, ◌+◌, ◌<◌, ◌≤◌, ◌^◌, Bool, false, true, List, [], ◌∷◌, length, map, ◌∙◌, ap, sym, Option, Some, None, Ok, Err, arith, refl}
+use Rattle.std.specs.Prelude.{if◌then◌else◌}
+use Rattle.std.specs.List.{AllByRecursion}
+use Rattle.byte_ends.specs.Ends.{Fed, Drained, Takes, saturated}
+use Rattle.json_value.specs.Text.{json_text}
+use Rattle.geojson_types.specs.declared.counts.Counts.{Counts}
+use Rattle.topo_types.specs.Topologies.{Contents}
+use Rattle.topo_types.specs.Validity.{AreDistinct}
+use Rattle.topo_types.specs.Values.{topology_value}
+use Rattle.topo_model.specs.Assembled.{assembled, lines_of, own_arc}
+use Rattle.topo_model.specs.Laws.{AreSound, DecodesBack, IsValid, names_of}
+use Rattle.topo_model.specs.Repeats.{any_repeats}
+use Rattle.topojson_decoder.specs.Laws.{ReadsBack, TextIsRead}
 use Rattle.mapchain_engine.specs.declared.fault.BuildFault.{BuildFault}
 use Rattle.mapchain_engine.specs.declared.fault.BuildFault.TheVariants.{EmptyName, DuplicateName, Read, Json, Geo, Write, Memory, NotYet}
 use Rattle.mapchain_engine.specs.declared.report.Report.{Report}
-use Rattle.mapchain_engine.specs.Building.{any_repeats, line_of, Builds, IsBuilt, IsLateFault, Sends, report_of}
-use Rattle.mapchain_engine.specs.Layout.{topology_text}
-use Rattle.mapchain_engine.specs.Reading.{IsRead, SpellsLayer}
-use Rattle.mapchain_engine.proofs.Says.{one_says, one_line_of}
+use Rattle.mapchain_engine.specs.Building.{is_built_yet, early_fault, SaysTopology, Builds, IsBuilt, IsLateFault, Sends, report_of, report_with}
+use Rattle.mapchain_engine.specs.declared.options.Options.{Options}
+use Rattle.mapchain_engine.specs.Names.{name_fault, or_else, IsRefusedFor}
+use Rattle.mapchain_engine.specs.Reading.{FailsToRead}
+use Rattle.mapchain_engine.specs.Sources.{Sources, Named, AllRead, FailsAt, FailsToReadAll, AreUntroubled, added}
+use Rattle.mapchain_engine.proofs.SoundLayers.{AllTaken, all_taken, layers_sound, names_kept, names_read, objects_nest, objects_number}
+use Rattle.mapchain_engine.proofs.NamesDistinct.{distinct_names}
+use Rattle.mapchain_engine.proofs.SourcesRead.{untroubled_all}
 
--- a layer is one feature
-pub one_feature : (exact : Bool) (bytes : List ℕ) (fs shown : List Featured) (counts : Counts) → SpellsLayer exact bytes fs counts → shown ≡ fs → length shown ≡ 1
-one_feature exact bytes fs shown counts layer e = let b = layer_is_line exact layer.value fs counts layer.stands in ap length (e ∙ b.features)
+-- the text of the topology of layers
+abbrev pub text_of : Named → List ℕ
+text_of ls = json_text (topology_value (assembled ls))
 
-module _ (exact : Bool) (name : List ℕ) (old new : Fed) (fs : List Featured) (counts : Counts) (x : Featured) (bytes : List ℕ) (read : IsRead old new bytes)
-    (layer : SpellsLayer exact bytes fs counts) (inputs : All IsInput (features_points fs)) (one : fs ≡ x ∷ []) (apart : any_repeats (option_to_list (line_of x)) ≡ false) where
-  builds : Builds exact name old new fs counts (topology_text name (line_of x))
-  builds = record {
-    bytes = bytes;
-    read = read;
-    layer = layer;
-    apart = ap any_repeats (one_line_of fs x one) ∙ apart;
-    topology = one_says name fs x (layer_is_line exact layer.value fs counts layer.stands) inputs one;
-  }
+module _ (valid : IsValid) (back : DecodesBack) (read : ReadsBack) (spelled : TextIsRead) where
+  says : (ls : Named) → AllTaken ls → AreDistinct (names_of ls) → length (lines_of ls) < 2 ^ 63 → SaysTopology ls (text_of ls)
+  says ls taken distinct few =
+      let sound = layers_sound ls taken in
+      let kept = own_arc (lines_of ls) in
+      record {
+        value = topology_value (assembled ls);
+        spelled = spelled (assembled ls) 127 255 (valid ls sound distinct, few) (objects_number kept ls taken) (objects_nest kept ls taken) (omega arith);
+        contents = assembled ls;
+        stands = read (assembled ls) (valid ls sound distinct, few);
+        names = names_kept kept ls;
+        features = back ls sound distinct;
+        arcs = refl;
+      }
 
-  module _ (sink_old sink_new : Drained) where
-    pub cut_short : (e : BuildFault) → Sends sink_old sink_new (topology_text name (line_of x)) (Err e) → IsLateFault exact name old new sink_old sink_new e
-    cut_short (Write sent) s = record { features = fs; counts = counts; text = topology_text name (line_of x); builds = builds; many = s.0; written = s.1; counted = s.2; failed = s.3 }
-    cut_short (EmptyName i) s = absurd s
-    cut_short (DuplicateName i) s = absurd s
-    cut_short (Read i f) s = absurd s
-    cut_short (Json i f) s = absurd s
-    cut_short (Geo i f) s = absurd s
-    cut_short Memory s = absurd s
-    cut_short NotYet s = absurd s
+  module _ (exact : Bool) (olds news : Sources) (ls : Named) (cs : List Counts) (all : AllRead exact olds news ls cs) (apart : any_repeats (lines_of ls) ≡ false)
+      (distinct : AreDistinct (names_of ls)) (few : length (lines_of ls) < 2 ^ 63) where
+    builds : Builds exact olds news ls cs (text_of ls)
+    builds = record { read = all; apart = apart; topology = says ls (all_taken exact olds news ls cs all) distinct few }
 
-    pub is_built : (report : Report) → Takes sink_old sink_new (topology_text name (line_of x)) (length (topology_text name (line_of x))) × (sink_new.failures ≡ 0)
-        → report ≡ report_of counts (option_to_list (line_of x)) → IsBuilt exact name old new sink_old sink_new report
-    is_built report s told = record {
-      features = fs;
-      counts = counts;
-      text = topology_text name (line_of x);
-      builds = builds;
-      written = s.0;
-      sound = s.1;
-      told = told ∙ ap (report_of counts) (sym (one_line_of fs x one));
-    }
+    module _ (sink_old sink_new : Drained) where
+      pub cut_short : (e : BuildFault) → Sends sink_old sink_new (text_of ls) (Err e) → IsLateFault exact olds news sink_old sink_new e
+      cut_short (Write sent) s = record { layers = ls; counts = cs; text = text_of ls; builds = builds; many = s.0; written = s.1; counted = s.2; failed = s.3 }
+      cut_short (EmptyName i) s = absurd s
+      cut_short (DuplicateName i) s = absurd s
+      cut_short (Read i f) s = absurd s
+      cut_short (Json i f) s = absurd s
+      cut_short (Geo i f) s = absurd s
+      cut_short Memory s = absurd s
+      cut_short NotYet s = absurd s
+
+      pub is_built : (report : Report) → Takes sink_old sink_new (text_of ls) (length (text_of ls)) × (sink_new.failures ≡ 0) → report ≡ report_of cs (lines_of ls)
+          → IsBuilt exact olds news sink_old sink_new report
+      is_built report s told = record { layers = ls; counts = cs; text = text_of ls; builds = builds; written = s.0; sound = s.1; told = told }
+
+-- ---- nothing is written
+
+never : (exact : Bool) (e : BuildFault) → ((n : ℕ) (old new : Fed) → FailsToRead n exact old new e → ⊥) → (n : ℕ) (olds news : Sources) → FailsAt exact n olds news e → ⊥
+never exact e ruled_out n [] news f = f
+never exact e ruled_out n (s ∷ ss) [] f = f
+never exact e ruled_out n (s ∷ ss) (t ∷ ts) (inl f) = ruled_out n s.1 t.1 f.1
+never exact e ruled_out n (s ∷ ss) (t ∷ ts) (inr f) = never exact e ruled_out (suc n) ss ts f.3
+
+pub not_read : (exact : Bool) (olds news : Sources) (sink : Drained) (e : BuildFault) → FailsToReadAll exact olds news e → IsLateFault exact olds news sink sink e
+not_read exact olds news sink (Read i r) f = (refl, f)
+not_read exact olds news sink (Json i r) f = (refl, f)
+not_read exact olds news sink (Geo i r) f = (refl, f)
+not_read exact olds news sink (EmptyName i) f = (refl, f)
+not_read exact olds news sink (DuplicateName i) f = (refl, f)
+not_read exact olds news sink Memory f = (refl, f)
+not_read exact olds news sink (Write sent) f = absurd (never exact (Write sent) (λ n old new h. absurd h.2) 0 olds news f)
+not_read exact olds news sink NotYet f = absurd (never exact NotYet (λ n old new h. absurd h.2) 0 olds news f)
+
+pub no_memory : (exact : Bool) (olds news : Sources) (sink : Drained) (ls : Named) (cs : List Counts) → AllRead exact olds news ls cs → IsLateFault exact olds news sink sink Memory
+no_memory exact olds news sink ls cs all = (refl, untroubled_all exact olds news ls cs all)
+
+pub too_early : (exact : Bool) (olds news : Sources) (sink : Drained) (ls : Named) (cs : List Counts) (b : Bool) → AllRead exact olds news ls cs → b ≡ any_repeats (lines_of ls) → b ≡ true
+    → IsLateFault exact olds news sink sink NotYet
+too_early exact olds news sink ls cs b all e h = (refl, record { layers = ls; counts = cs; read = all; repeated = sym e ∙ h })
+
+-- ---- names and lines
+
+pub distinct : (exact : Bool) (olds news : Sources) (ls : Named) (cs : List Counts) → AllRead exact olds news ls cs → name_fault (map (λ s. s.0) olds) ≡ None → AreDistinct (names_of ls)
+distinct exact olds news ls cs all e = rw (names_read exact olds news ls cs all) (distinct_names (map (λ s. s.0) olds) e)
+
+pub sound : (exact : Bool) (olds news : Sources) (ls : Named) (cs : List Counts) → AllRead exact olds news ls cs → AreSound ls
+sound exact olds news ls cs all = layers_sound ls (all_taken exact olds news ls cs all)
+
+-- the fault of the names is the first of all
+pub early_names : (options : Options) (names : List (List ℕ)) (found e : BuildFault) → IsRefusedFor (name_fault names) (Err found) → early_fault options names ≡ Some e → found ≡ e
+early_names options names found e refused early = on (name_fault names) refused early
+  where
+    on : (f : Option BuildFault) → IsRefusedFor f (Err found) → or_else f (if is_built_yet options then None else Some NotYet) ≡ Some e → found ≡ e
+    on None r k = absurd cc
+    on (Some x) r k = cc

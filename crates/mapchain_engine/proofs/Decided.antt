@@ -1,5 +1,5 @@
--- The bytes of a layer come to one outcome, and what building says of its answer makes it follow that outcome.
-use Rattle.std.proofs.Common.{◌≡◌, ℕ, ◌<◌, ◌≤◌, Bool, false, true, List, [], ◌∷◌, length, get_or, ◌∙◌, ap, sym, subst, refl, inl, inr, Option, Some, Result, Ok, Err, arith, cond}
+-- The bytes of the layers come to one outcome, and what building says of its answer makes it follow that outcome.
+use Rattle.std.proofs.Common.{◌≡◌, ◌⊎◌, ℕ, suc, ◌<◌, ◌≤◌, Bool, false, true, List, [], ◌∷◌, length, ◌∙◌, ap, sym, subst, refl, inl, inr, Option, Some, Result, Ok, Err, arith, cond}
 use Rattle.std.specs.Prelude.{IfSome, IfOk, IfErr}
 use Rattle.byte_ends.specs.Ends.{Fed, Drained}
 use Rattle.byte_ends.specs.declared.source.ReadFault.TheVariants as read
@@ -7,22 +7,32 @@ use Rattle.decimal_json.specs.declared.fault.JsonFault.{JsonFault}
 use Rattle.decimal_json.specs.declared.fault.JsonFault.TheVariants as text
 use Rattle.decimal_json.proofs.TextsFound.{one_value}
 use Rattle.json_value.specs.declared.json.Json.{Json}
-use Rattle.geojson_model.specs.declared.counts.Counts.{Counts}
-use Rattle.geojson_model.specs.Features.{Featured}
+use Rattle.geojson_types.specs.declared.counts.Counts.{Counts}
+use Rattle.geojson_types.specs.declared.layer.Layer.{Layer}
+use Rattle.geojson_types.specs.Features.{Featured}
+use Rattle.topo_model.specs.Assembled.{lines_of}
+use Rattle.topo_model.specs.Repeats.{any_repeats}
 use Rattle.mapchain_engine.specs.declared.fault.BuildFault.{BuildFault}
 use Rattle.mapchain_engine.specs.declared.fault.BuildFault.TheVariants.{EmptyName, DuplicateName, Read, Json as Text, Geo, Write, Memory, NotYet}
 use Rattle.mapchain_engine.specs.declared.report.Report.{Report}
-use Rattle.mapchain_engine.specs.Building.{any_repeats, lines_of, report_of, IsBuilt, IsLateFault}
-use Rattle.mapchain_engine.specs.Outcomes.{Outcome, IsTextOf, of_layer, of_text, ComesTo, plain_text_fault, plain_fault, IsOutside, IsOutsideRead, Follows, HasBytes}
-use Rattle.mapchain_engine.specs.Reading.{layer_depth, max_input, SpellsLayer, IsRead}
+use Rattle.mapchain_engine.specs.Building.{report_of, IsBuilt, IsLateFault}
+use Rattle.mapchain_engine.specs.Outcomes.{LayerOutcome, Outcome, IsTextOf, of_layer, of_text, LayerComesTo, with_layer, Continues, AllComeTo, of_layers, ComesTo, plain_text_fault, plain_fault, IsOutside, IsOutsideRead, Follows, HaveBytes}
+use Rattle.mapchain_engine.specs.Reading.{layer_depth, max_input, SpellsLayer, IsRead, FailsToRead}
+use Rattle.mapchain_engine.specs.Sources.{Sources, Named, IsLayerRead, AllRead, FailsAt}
+
+-- bytes under names
+abbrev Texts : Type 0
+Texts = List (List ℕ × List ℕ)
+
+-- ---- one layer
 
 abbrev plain_text : Result Json JsonFault → Result Json JsonFault
 plain_text (Ok v) = Ok v
 plain_text (Err f) = Err (plain_text_fault f)
 
-abbrev plain : Outcome → Outcome
-plain (Ok r) = Ok r
-plain (Err e) = Err (plain_fault e)
+abbrev plain_layer : LayerOutcome → LayerOutcome
+plain_layer (Ok r) = Ok r
+plain_layer (Err e) = Err (plain_fault e)
 
 one_text : (b : List ℕ) (t u : Result Json JsonFault) → IsTextOf b t → IsTextOf b u → plain_text t ≡ plain_text u
 one_text b (Ok v) (Ok w) h k = ap (λ z. Ok z) (one_value layer_depth layer_depth b v w h.1 k.1)
@@ -39,33 +49,117 @@ one_text b (Err (text.Malformed at why)) (Err (text.Malformed other how)) h k = 
 one_text b (Err (text.Malformed at why)) (Err text.Memory) h k = absurd k
 one_text b (Err text.Memory) u h k = absurd h
 
-plain-of_text : (exact : Bool) (t : Result Json JsonFault) → plain (of_text exact t) ≡ plain (of_text exact (plain_text t))
-plain-of_text exact (Ok v) = refl
-plain-of_text exact (Err (text.NotUtf8 at)) = refl
-plain-of_text exact (Err (text.Malformed at why)) = refl
-plain-of_text exact (Err text.Memory) = refl
+plain-of_text : (n : ℕ) (exact : Bool) (t : Result Json JsonFault) → plain_layer (of_text n exact t) ≡ plain_layer (of_text n exact (plain_text t))
+plain-of_text n exact (Ok v) = refl
+plain-of_text n exact (Err (text.NotUtf8 at)) = refl
+plain-of_text n exact (Err (text.Malformed at why)) = refl
+plain-of_text n exact (Err text.Memory) = refl
 
-one_outcome : (exact : Bool) (b : List ℕ) (x y : Outcome) → ComesTo exact b x → ComesTo exact b y → plain x ≡ plain y
-one_outcome exact b x y (inl h) (inl k) = ap plain (h.1 ∙ sym k.1)
-one_outcome exact b x y (inl h) (inr k) = let long : max_input < length b = h.0 in let short : length b ≤ max_input = k.0 in absurd (omega arith)
-one_outcome exact b x y (inr h) (inl k) = let short : length b ≤ max_input = h.0 in let long : max_input < length b = k.0 in absurd (omega arith)
-one_outcome exact b x y (inr h) (inr k) =
-    ap plain h.3 ∙ plain-of_text exact h.1 ∙ ap (λ z. plain (of_text exact z)) (one_text b h.1 k.1 h.2 k.2) ∙ sym (plain-of_text exact k.1) ∙ sym (ap plain k.3)
+one_layer : (n : ℕ) (exact : Bool) (b : List ℕ) (x y : LayerOutcome) → LayerComesTo n exact b x → LayerComesTo n exact b y → plain_layer x ≡ plain_layer y
+one_layer n exact b x y (inl h) (inl k) = ap plain_layer (h.1 ∙ sym k.1)
+one_layer n exact b x y (inl h) (inr k) = let long : max_input < length b = h.0 in let short : length b ≤ max_input = k.0 in absurd (omega arith)
+one_layer n exact b x y (inr h) (inl k) = let short : length b ≤ max_input = h.0 in let long : max_input < length b = k.0 in absurd (omega arith)
+one_layer n exact b x y (inr h) (inr k) =
+    ap plain_layer h.3 ∙ plain-of_text n exact h.1 ∙ ap (λ z. plain_layer (of_text n exact z)) (one_text b h.1 k.1 h.2 k.2) ∙ sym (plain-of_text n exact k.1) ∙ sym (ap plain_layer k.3)
+
+-- ---- all layers
+
+abbrev plain : Outcome → Outcome
+plain (Ok r) = Ok r
+plain (Err e) = Err (plain_fault e)
+
+plain-with : (name : List ℕ) (l : List Featured × Counts) (o : Outcome) → plain (with_layer name l o) ≡ with_layer name l (plain o)
+plain-with name l (Ok r) = refl
+plain-with name l (Err e) = refl
+
+continued : (name : List ℕ) (x y : LayerOutcome) (others : Outcome → Type 0) (o p : Outcome) → ((q r : Outcome) → others q → others r → plain q ≡ plain r) → plain_layer x ≡ plain_layer y
+    → Continues name x others o → Continues name y others p → plain o ≡ plain p
+continued name (Err e) (Err f) others o p once same h k = let g : plain_fault e ≡ plain_fault f = cc in ap plain h ∙ ap (λ z. Err z) g ∙ sym (ap plain k)
+continued name (Err e) (Ok l) others o p once same h k = absurd cc
+continued name (Ok l) (Err f) others o p once same h k = absurd cc
+continued name (Ok l) (Ok m) others o p once same h k =
+    let g : l ≡ m = cc in
+    ap plain h.2 ∙ plain-with name l h.0 ∙ ap (λ z. with_layer name z (plain h.0)) g ∙ ap (with_layer name m) (once h.0 k.0 h.1 k.1) ∙ sym (plain-with name m k.0) ∙ sym (ap plain k.2)
+
+all_once : (n : ℕ) (exact : Bool) (bs : Texts) (o p : Outcome) → AllComeTo n exact bs o → AllComeTo n exact bs p → plain o ≡ plain p
+all_once n exact [] o p h k = ap plain (h ∙ sym k)
+all_once n exact (b ∷ bs) o p h k = continued b.0 h.0 k.0 (AllComeTo (suc n) exact bs) o p (all_once (suc n) exact bs) (one_layer n exact b.1 h.0 k.0 h.1 k.1) h.2 k.2
+
+plain-of_layers : (o : Outcome) → plain (of_layers o) ≡ plain (of_layers (plain o))
+plain-of_layers (Ok r) = refl
+plain-of_layers (Err e) = plain_twice e
+  where
+    plain_twice : (e : BuildFault) → plain (of_layers (Err e)) ≡ plain (of_layers (plain (Err e)))
+    plain_twice (Text i (text.NotUtf8 at)) = refl
+    plain_twice (Text i (text.Malformed at why)) = refl
+    plain_twice (Text i text.Memory) = refl
+    plain_twice (EmptyName i) = refl
+    plain_twice (DuplicateName i) = refl
+    plain_twice (Read i fault) = refl
+    plain_twice (Geo i fault) = refl
+    plain_twice (Write sent) = refl
+    plain_twice Memory = refl
+    plain_twice NotYet = refl
+
+-- what the layers come to in one way is what they come to in the other
+once : (exact : Bool) (bs : Texts) (r o : Outcome) → AllComeTo 0 exact bs r → ComesTo exact bs o → plain (of_layers r) ≡ plain o
+once exact bs r o all comes =
+    plain-of_layers r ∙ ap (λ z. plain (of_layers z)) (all_once 0 exact bs r comes.0 all comes.1) ∙ sym (plain-of_layers comes.0) ∙ sym (ap plain comes.2)
 
 -- ---- what an answer says of the bytes
 
 same_bytes : (left : Option (List ℕ)) (b bytes : List ℕ) → left ≡ Some b → IfSome left (λ l. bytes ≡ l) → bytes ≡ b
 same_bytes left b bytes e h = subst (λ z. IfSome z (λ l. bytes ≡ l)) e h
 
-built_layer : (apart : Bool) (fs : List Featured) (counts : Counts) → any_repeats (lines_of fs) ≡ apart → of_layer (Ok (fs, counts)) ≡ cond apart (Err NotYet) (Ok (fs, counts))
-built_layer apart fs counts e = ap (λ b. cond b (Err NotYet) (Ok (fs, counts))) e
+text_comes : (n : ℕ) (exact : Bool) (old new : Fed) (b bytes : List ℕ) (t : Result Json JsonFault) → old.left ≡ Some b → IsRead old new bytes → IsTextOf bytes t → LayerComesTo n exact b (of_text n exact t)
+text_comes n exact old new b bytes t e read is = subst (λ z. LayerComesTo n exact z (of_text n exact t)) (same_bytes old.left b bytes e read.all) (inr (read.short, t, is, refl))
 
-layer_comes : (exact : Bool) (old new : Fed) (b bytes : List ℕ) (fs : List Featured) (counts : Counts) (r : Bool) → old.left ≡ Some b → IsRead old new bytes → SpellsLayer exact bytes fs counts
-    → any_repeats (lines_of fs) ≡ r → ComesTo exact b (cond r (Err NotYet) (Ok (fs, counts)))
-layer_comes exact old new b bytes fs counts r e read spells repeated =
-    let same = same_bytes old.left b bytes e read.all in
-    subst (λ z. ComesTo exact z (cond r (Err NotYet) (Ok (fs, counts)))) same
-    (inr (read.short, Ok spells.value, (spells.utf8, spells.spelled), sym (ap of_layer spells.stands ∙ built_layer r fs counts repeated)))
+layer_comes : (n : ℕ) (exact : Bool) (old new : List ℕ × Fed) (b : List ℕ) (l : List ℕ × Layer) (c : Counts) → old.1.left ≡ Some b → IsLayerRead exact old new l c → LayerComesTo n exact b (Ok (l.1.features, c))
+layer_comes n exact old new b l c e is =
+    subst (LayerComesTo n exact b) (ap (of_layer n) is.spells.stands) (text_comes n exact old.1 new.1 b is.bytes (Ok is.spells.value) e is.read (is.spells.utf8, is.spells.spelled))
+
+read_comes : (n : ℕ) (exact : Bool) (olds news : Sources) (ls : Named) (cs : List Counts) (bs : Texts) → AllRead exact olds news ls cs → HaveBytes olds bs → AllComeTo n exact bs (Ok (ls, cs))
+read_comes n exact [] [] [] [] [] h k = refl
+read_comes n exact (s ∷ ss) (t ∷ ts) (l ∷ ls) (c ∷ cs) (b ∷ bs) h k =
+    (Ok (l.1.features, c), layer_comes n exact s t b.1 l c k.1 h.0, (Ok (ls, cs), read_comes (suc n) exact ss ts ls cs bs h.1 k.2, ap (λ name. Ok ((name, l.1) ∷ ls, c ∷ cs)) (h.0.name ∙ sym k.0)))
+read_comes n exact [] [] [] [] (b ∷ bs) h k = absurd k
+read_comes n exact [] [] [] (c ∷ cs) bs h k = absurd h
+read_comes n exact [] [] (l ∷ ls) cs bs h k = absurd h
+read_comes n exact [] (t ∷ ts) ls cs bs h k = absurd h
+read_comes n exact (s ∷ ss) [] ls cs bs h k = absurd h
+read_comes n exact (s ∷ ss) (t ∷ ts) [] cs bs h k = absurd h
+read_comes n exact (s ∷ ss) (t ∷ ts) (l ∷ ls) [] bs h k = absurd h
+read_comes n exact (s ∷ ss) (t ∷ ts) (l ∷ ls) (c ∷ cs) [] h k = absurd k
+
+fails_layer : (n : ℕ) (exact : Bool) (old new : Fed) (b : List ℕ) (e : BuildFault) → old.left ≡ Some b → FailsToRead n exact old new e → IsOutsideRead e ⊎ LayerComesTo n exact b (Err e)
+fails_layer n exact old new b (Read i read.Read) e f = inl tt
+fails_layer n exact old new b (Read i read.TooLong) e f =
+    inr (inl (subst (λ z. IfSome z (λ left. max_input < length left)) e f.2, ap (λ m. Err (Read m read.TooLong)) f.0))
+fails_layer n exact old new b (Read i read.Memory) e f = absurd f
+fails_layer n exact old new b Memory e f = inl tt
+fails_layer n exact old new b (Text i fault) e f =
+    inr (subst (LayerComesTo n exact b) (ap (λ m. Err (Text m fault)) (sym f.2.0)) (text_comes n exact old new b f.0 (Err fault) e f.1 f.2.1))
+fails_layer n exact old new b (Geo i fault) e f =
+    inr (subst (LayerComesTo n exact b) (ap (of_layer n) f.2.5 ∙ ap (λ m. Err (Geo m fault)) (sym f.2.0)) (text_comes n exact old new b f.0 (Ok f.2.3) e f.1 (f.2.2, f.2.4)))
+fails_layer n exact old new b (EmptyName i) e f = absurd f.2
+fails_layer n exact old new b (DuplicateName i) e f = absurd f.2
+fails_layer n exact old new b (Write sent) e f = absurd f.2
+fails_layer n exact old new b NotYet e f = absurd f.2
+
+fails_come : (n : ℕ) (exact : Bool) (olds news : Sources) (bs : Texts) (e : BuildFault) → FailsAt exact n olds news e → HaveBytes olds bs → IsOutsideRead e ⊎ AllComeTo n exact bs (Err e)
+fails_come n exact [] news bs e f k = absurd f
+fails_come n exact (s ∷ ss) [] bs e f k = absurd f
+fails_come n exact (s ∷ ss) (t ∷ ts) [] e f k = absurd k
+fails_come n exact (s ∷ ss) (t ∷ ts) (b ∷ bs) e (inl f) k = on (fails_layer n exact s.1 t.1 b.1 e k.1 f.1)
+  where
+    on : IsOutsideRead e ⊎ LayerComesTo n exact b.1 (Err e) → IsOutsideRead e ⊎ AllComeTo n exact (b ∷ bs) (Err e)
+    on (inl out) = inl out
+    on (inr comes) = inr (Err e, comes, refl)
+fails_come n exact (s ∷ ss) (t ∷ ts) (b ∷ bs) e (inr f) k = on (fails_come (suc n) exact ss ts bs e f.3 k.2)
+  where
+    on : IsOutsideRead e ⊎ AllComeTo (suc n) exact bs (Err e) → IsOutsideRead e ⊎ AllComeTo n exact (b ∷ bs) (Err e)
+    on (inl out) = inl out
+    on (inr comes) = inr (Ok (f.0.1.features, f.1), layer_comes n exact s t b.1 f.0 f.1 k.1 f.2, (Err e, comes, refl))
 
 -- ---- the answer follows
 
@@ -73,63 +167,59 @@ follows_outside : (outcome : Outcome) (e : BuildFault) → IsOutsideRead e → I
 follows_outside (Ok r) e h k = k
 follows_outside (Err f) e h k = inr h
 
+is_outside : (e : BuildFault) → IsOutsideRead e → IsOutside e
+is_outside (Read i r) h = h
+is_outside Memory h = h
+is_outside (EmptyName i) h = absurd h
+is_outside (DuplicateName i) h = absurd h
+is_outside (Text i r) h = absurd h
+is_outside (Geo i r) h = absurd h
+is_outside (Write sent) h = tt
+is_outside NotYet h = absurd h
+
 follows_fault : (outcome : Outcome) (e : BuildFault) → plain (Err e) ≡ plain outcome → Follows outcome (Err e)
 follows_fault (Ok r) e h = absurd cc
 follows_fault (Err f) e h = inl cc
 
-follows_built : (outcome : Outcome) (fs : List Featured) (counts : Counts) (report : Report) → plain (Ok (fs, counts)) ≡ plain outcome → report ≡ report_of counts (lines_of fs) → Follows outcome (Ok report)
-follows_built (Ok r) fs counts report h told = let e : (fs, counts) ≡ r = cc in told ∙ ap (λ (z : List Featured × Counts). report_of z.1 (lines_of z.0)) e
-follows_built (Err f) fs counts report h told = absurd cc
+follows_built : (outcome : Outcome) (ls : Named) (cs : List Counts) (report : Report) → plain (Ok (ls, cs)) ≡ plain outcome → report ≡ report_of cs (lines_of ls) → Follows outcome (Ok report)
+follows_built (Ok r) ls cs report h told = let e : (ls, cs) ≡ r = cc in told ∙ ap (λ (z : Named × List Counts). report_of z.1 (lines_of z.0)) e
+follows_built (Err f) ls cs report h told = absurd cc
 
-follows_cut : (outcome : Outcome) (fs : List Featured) (counts : Counts) (sent : ℕ) → plain (Ok (fs, counts)) ≡ plain outcome → Follows outcome (Err (Write sent))
-follows_cut (Ok r) fs counts sent h = tt
-follows_cut (Err f) fs counts sent h = absurd cc
+follows_cut : (outcome : Outcome) (ls : Named) (cs : List Counts) (sent : ℕ) → plain (Ok (ls, cs)) ≡ plain outcome → Follows outcome (Err (Write sent))
+follows_cut (Ok r) ls cs sent h = tt
+follows_cut (Err f) ls cs sent h = absurd cc
 
-pub built_follows : (exact : Bool) (name : List ℕ) (old new : Fed) (sink_old sink_new : Drained) (report : Report) → IsBuilt exact name old new sink_old sink_new report
-    → (b : List ℕ) → old.left ≡ Some b → (outcome : Outcome) → ComesTo exact b outcome → Follows outcome (Ok report)
-built_follows exact name old new sink_old sink_new report is b e outcome comes =
-    follows_built outcome is.features is.counts report
-    (one_outcome exact b (Ok (is.features, is.counts)) outcome
-    (layer_comes exact old new b is.builds.bytes is.features is.counts false e is.builds.read is.builds.layer is.builds.apart) comes)
-    is.told
+-- layers in which a position stands twice, or none does
+taken : (b : Bool) (ls : Named) (cs : List Counts) → any_repeats (lines_of ls) ≡ b → of_layers (Ok (ls, cs)) ≡ cond b (Err NotYet) (Ok (ls, cs))
+taken b ls cs e = ap (λ z. cond z (Err NotYet) (Ok (ls, cs))) e
 
-text_comes : (exact : Bool) (old new : Fed) (b bytes : List ℕ) (t : Result Json JsonFault) → old.left ≡ Some b → IsRead old new bytes → IsTextOf bytes t → ComesTo exact b (of_text exact t)
-text_comes exact old new b bytes t e read is =
-    subst (λ z. ComesTo exact z (of_text exact t)) (same_bytes old.left b bytes e read.all) (inr (read.short, t, is, refl))
+module _ (exact : Bool) (olds news : Sources) (sink_old sink_new : Drained) (bs : Texts) (have : HaveBytes olds bs) (outcome : Outcome) (comes : ComesTo exact bs outcome) where
+  built_follows : (report : Report) → IsBuilt exact olds news sink_old sink_new report → Follows outcome (Ok report)
+  built_follows report is =
+      let all = read_comes 0 exact olds news is.layers is.counts bs is.builds.read have in
+      follows_built outcome is.layers is.counts report (sym (ap plain (taken false is.layers is.counts is.builds.apart)) ∙ once exact bs (Ok (is.layers, is.counts)) outcome all comes) is.told
 
-module _ (exact : Bool) (name : List ℕ) (old new : Fed) (sink_old sink_new : Drained) (b : List ℕ) (known : old.left ≡ Some b) (outcome : Outcome) (comes : ComesTo exact b outcome) where
-  pub late_follows : (e : BuildFault) → IsLateFault exact name old new sink_old sink_new e → Follows outcome (Err e)
+  failed : (e : BuildFault) → FailsAt exact 0 olds news e → Follows outcome (Err e)
+  failed e f = on (fails_come 0 exact olds news bs e f have)
+    where
+      on : IsOutsideRead e ⊎ AllComeTo 0 exact bs (Err e) → Follows outcome (Err e)
+      on (inl out) = follows_outside outcome e out (is_outside e out)
+      on (inr all) = follows_fault outcome e (once exact bs (Err e) outcome all comes)
+
+  pub late_follows : (e : BuildFault) → IsLateFault exact olds news sink_old sink_new e → Follows outcome (Err e)
   late_follows (Write sent) is =
-      follows_cut outcome is.features is.counts sent
-      (one_outcome exact b (Ok (is.features, is.counts)) outcome
-      (layer_comes exact old new b is.builds.bytes is.features is.counts false known is.builds.read is.builds.layer is.builds.apart) comes)
+      let all = read_comes 0 exact olds news is.layers is.counts bs is.builds.read have in
+      follows_cut outcome is.layers is.counts sent (sym (ap plain (taken false is.layers is.counts is.builds.apart)) ∙ once exact bs (Ok (is.layers, is.counts)) outcome all comes)
   late_follows NotYet is =
-      follows_fault outcome NotYet (one_outcome exact b (Err NotYet) outcome
-      (layer_comes exact old new b is.1.bytes is.1.features is.1.counts true known is.1.read is.1.layer is.1.repeated) comes)
-  late_follows (Read i read.Read) is = follows_outside outcome (Read i read.Read) tt tt
-  late_follows (Read i read.TooLong) is =
-      follows_fault outcome (Read i read.TooLong)
-      (ap (λ n. plain (Err (Read n read.TooLong))) is.1.0
-      ∙ one_outcome exact b (Err (Read 0 read.TooLong)) outcome (inl (subst (λ z. IfSome z (λ left. max_input < length left)) known is.1.2, refl)) comes)
-  late_follows (Read i read.Memory) is = absurd is.1
+      let all = read_comes 0 exact olds news is.1.layers is.1.counts bs is.1.read have in
+      follows_fault outcome NotYet (sym (ap plain (taken true is.1.layers is.1.counts is.1.repeated)) ∙ once exact bs (Ok (is.1.layers, is.1.counts)) outcome all comes)
   late_follows Memory is = follows_outside outcome Memory tt tt
-  late_follows (Text i fault) is =
-      follows_fault outcome (Text i fault)
-      (ap (λ n. plain (Err (Text n fault))) is.1.2.0 ∙ one_outcome exact b (of_text exact (Err fault)) outcome (text_comes exact old new b is.1.0 (Err fault) known is.1.1 is.1.2.1) comes)
-  late_follows (Geo i fault) is =
-      follows_fault outcome (Geo i fault)
-      (ap (λ n. plain (Err (Geo n fault))) is.1.2.0
-      ∙ ap (λ z. plain (of_layer z)) (sym is.1.2.5)
-      ∙ one_outcome exact b (of_text exact (Ok is.1.2.3)) outcome (text_comes exact old new b is.1.0 (Ok is.1.2.3) known is.1.1 (is.1.2.2, is.1.2.4)) comes)
-  late_follows (EmptyName i) is = absurd is.1.2
-  late_follows (DuplicateName i) is = absurd is.1.2
+  late_follows (Read i r) is = failed (Read i r) is.1
+  late_follows (Text i r) is = failed (Text i r) is.1
+  late_follows (Geo i r) is = failed (Geo i r) is.1
+  late_follows (EmptyName i) is = failed (EmptyName i) is.1
+  late_follows (DuplicateName i) is = failed (DuplicateName i) is.1
 
-  pub decides : (r : Result Report BuildFault) → IfOk r (λ report. IsBuilt exact name old new sink_old sink_new report) → IfErr r (λ e. IsLateFault exact name old new sink_old sink_new e) → Follows outcome r
-  decides (Ok report) is late = built_follows exact name old new sink_old sink_new report is b known outcome comes
+  pub decides : (r : Result Report BuildFault) → IfOk r (λ report. IsBuilt exact olds news sink_old sink_new report) → IfErr r (λ e. IsLateFault exact olds news sink_old sink_new e) → Follows outcome r
+  decides (Ok report) is late = built_follows report is
   decides (Err e) is late = late_follows e late
-
--- the one source
-pub one_has : (sources : List (List ℕ × Fed)) (other : List ℕ × Fed) (bytes : List ℕ) → HasBytes sources bytes → (get_or sources 0 other).1.left ≡ Some bytes
-one_has [] other bytes has = absurd has
-one_has (s ∷ []) other bytes has = has
-one_has (s ∷ t ∷ more) other bytes has = absurd has

@@ -1,9 +1,8 @@
 pub mod Built
 pub mod Decided
-pub mod Decoded
-pub mod LayoutText
 pub mod Lists
+pub mod NamesDistinct
 pub mod NamesFound
-pub mod Says
+pub mod SourcesRead
+pub mod SoundLayers
 pub mod Steps
-pub mod Visited

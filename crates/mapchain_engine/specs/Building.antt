@@ -1,21 +1,25 @@
--- What `build` answers, reads and writes, for one layer that is a bare LineString.
-use Rattle.std.specs.Prelude.{◌≡◌, ℕ, ◌<◌, ◌==◌, Bool, true, false, ◌&&◌, List, [], ◌∷◌, ◌++◌, length, map, sum, Option, Some, None, Result, Ok, Err, if◌then◌else◌, option_to_list}
+-- What `build` answers, reads and writes.
+use Rattle.std.specs.Prelude.{◌≡◌, ℕ, ◌+◌, ◌<◌, ◌==◌, Bool, true, false, ◌&&◌, List, [], ◌∷◌, length, map, sum, Option, Some, None, Result, Ok, Err, if◌then◌else◌}
+use Rattle.std.specs.List.{AllByRecursion}
 use Rattle.byte_ends.specs.Ends.{Fed, Drained, Takes, saturated}
 use Rattle.json_value.specs.declared.json.Json.{Json}
 use Rattle.json_value.specs.Grammar.{Reads}
-use Rattle.geojson_model.specs.declared.counts.Counts.{Counts}
-use Rattle.geojson_model.specs.declared.geometry.Geometry.TheOpen.{Geometry-F}
-use Rattle.geojson_model.specs.declared.geometry.Geometry.TheViews.{out-Geometry}
-use Rattle.geojson_model.specs.Features.{Featured, Shape}
-use Rattle.geojson_model.specs.Points.{Point}
+use Rattle.geojson_types.specs.declared.counts.Counts.{Counts}
+use Rattle.geojson_types.specs.declared.layer.FeatureSet.TheVariants as set
+use Rattle.geojson_types.specs.declared.layer.Layer.{Layer}
+use Rattle.geojson_types.specs.Counting.{no_counts}
+use Rattle.geojson_types.specs.Points.{Point}
+use Rattle.topo_types.specs.Decoding.{decoded}
+use Rattle.topo_types.specs.Topologies.{Contents}
+use Rattle.topo_model.specs.Assembled.{lines_of}
+use Rattle.topo_model.specs.Repeats.{any_repeats}
+use Rattle.topojson_decoder.specs.Topologies.{topology}
 use Rattle.mapchain_engine.specs.declared.fault.BuildFault.{BuildFault}
-use Rattle.mapchain_engine.specs.declared.fault.BuildFault.TheVariants.{Write, NotYet}
+use Rattle.mapchain_engine.specs.declared.fault.BuildFault.TheVariants.{Write, NotYet, Memory}
 use Rattle.mapchain_engine.specs.declared.options.Options.{Options}
 use Rattle.mapchain_engine.specs.declared.report.Report.{Report}
-use Rattle.mapchain_engine.specs.Decoding.{decoded, object_names, topology_arcs}
 use Rattle.mapchain_engine.specs.Names.{name_fault, or_else}
-use Rattle.mapchain_engine.specs.Reading.{SpellsLayer, IsRead, FailsToRead}
-use Rattle.mapchain_engine.specs.Repeats.{repeats}
+use Rattle.mapchain_engine.specs.Sources.{Sources, Named, AllRead, FailsAt, AreUntroubled, added}
 
 -- ---- before anything is read
 
@@ -23,107 +27,82 @@ abbrev pub is_none : {A : Type 0} → Option A → Bool
 is_none None = true
 is_none (Some x) = false
 
--- one layer, no grid and no threshold
-abbrev pub is_built_yet : Options → ℕ → Bool
-is_built_yet options layers = (layers == 1) && (is_none options.grid && (options.threshold == 0))
+-- no grid and no threshold
+abbrev pub is_built_yet : Options → Bool
+is_built_yet options = is_none options.grid && (options.threshold == 0)
 
 -- the first fault of the names, or else of what is asked for
 abbrev pub early_fault : Options → List (List ℕ) → Option BuildFault
-early_fault options names = or_else (name_fault names) (if is_built_yet options (length names) then None else Some NotYet)
-
--- ---- the lines of the features
-
-abbrev pub line_in : Geometry-F Point (List Point) (List Point) Shape → Option (List Point)
-line_in (Geometry-F.Line ps) = Some ps
-line_in _ = None
-
--- the line of a shape that is one
-abbrev pub line_of_some : Option Shape → Option (List Point)
-line_of_some None = None
-line_of_some (Some s) = line_in (out-Geometry Point (List Point) (List Point) s)
-
--- the line of a feature's shape, where that is one
-unfoldable pub line_of : Featured → Option (List Point)
-line_of f = line_of_some f.shape
-
--- the lines of all features, in order
-abbrev pub lines_of : List Featured → List (List Point)
-lines_of [] = []
-lines_of (f ∷ fs) = option_to_list (line_of f) ++ lines_of fs
-
--- a line goes through a position twice
-abbrev pub any_repeats : List (List Point) → Bool
-any_repeats [] = false
-any_repeats (ps ∷ pss) = if repeats ps then true else any_repeats pss
+early_fault options names = or_else (name_fault names) (if is_built_yet options then None else Some NotYet)
 
 -- ---- what is written
 
--- The text is JSON (RFC 8259) of a topology (TopoJSON 1.0) with one object, of this name. Decoding gives the features, and the arcs are their lines.
-pub record SaysTopology (name : List ℕ) (fs : List Featured) (text : List ℕ) : Type 0 where
+-- The text is JSON (RFC 8259) of a topology (TopoJSON 1.0) whose objects have the names of the layers, in order. Decoding each gives the
+-- features of its layer, and the arcs are the lines of all layers.
+pub record SaysTopology (layers : Named) (text : List ℕ) : Type 0 where
   pub value : Json
   pub spelled : Reads 255 text value
-  pub names : object_names value ≡ Some (name ∷ [])
-  pub features : decoded value name ≡ Some fs
-  pub arcs : topology_arcs value ≡ Some (lines_of fs)
+  pub contents : Contents
+  pub stands : topology value ≡ Ok (contents, no_counts)
+  pub names : map (λ o. o.0) contents.objects ≡ map (λ l. l.0) layers
+  pub features : AllByRecursion (λ l. decoded contents l.0 ≡ Some (set.Many l.1.features)) layers
+  pub arcs : contents.arcs ≡ lines_of layers
 
--- the counts of reading, nothing dropped, and the arcs with their positions, of which none was taken out
-abbrev pub report_of : Counts → List (List Point) → Report
-report_of counts lines = record { counts = counts; dropped = []; arcs = length lines; kept = sum (map length lines); removed = 0 }
+-- the positions of all arcs
+abbrev pub positions_in : List (List Point) → ℕ
+positions_in arcs = saturated (sum (map length arcs))
 
--- the source's bytes spell a layer, in which no line goes through a position twice, and the text is its topology
-pub record Builds (exact : Bool) (name : List ℕ) (old new : Fed) (features : List Featured) (counts : Counts) (text : List ℕ) : Type 0 where
-  pub bytes : List ℕ
-  pub read : IsRead old new bytes
-  pub layer : SpellsLayer exact bytes features counts
-  pub apart : any_repeats (lines_of features) ≡ false
-  pub topology : SaysTopology name features text
+-- these counts, nothing dropped, and the arcs with their positions, of which none was taken out
+abbrev pub report_with : Counts → List (List Point) → Report
+report_with counts arcs = record { counts = counts; dropped = []; arcs = length arcs; kept = positions_in arcs; removed = 0 }
 
--- the sink took the whole text of the source's topology, and the report is that of its features
-pub record IsBuilt (exact : Bool) (name : List ℕ) (old new : Fed) (sink_old sink_new : Drained) (report : Report) : Type 0 where
-  pub features : List Featured
-  pub counts : Counts
+-- the counts of all layers, and their lines as arcs
+abbrev pub report_of : List Counts → List (List Point) → Report
+report_of counts lines = report_with (added counts) lines
+
+-- all sources spell layers, among whose lines no position stands twice, and the text is their topology
+pub record Builds (exact : Bool) (olds news : Sources) (layers : Named) (counts : List Counts) (text : List ℕ) : Type 0 where
+  pub read : AllRead exact olds news layers counts
+  pub apart : any_repeats (lines_of layers) ≡ false
+  pub topology : SaysTopology layers text
+
+-- the sink took the whole text of the topology, and the report is that of the layers
+pub record IsBuilt (exact : Bool) (olds news : Sources) (sink_old sink_new : Drained) (report : Report) : Type 0 where
+  pub layers : Named
+  pub counts : List Counts
   pub text : List ℕ
-  pub builds : Builds exact name old new features counts text
+  pub builds : Builds exact olds news layers counts text
   pub written : Takes sink_old sink_new text (length text)
   pub sound : sink_new.failures ≡ 0
-  pub told : report ≡ report_of counts (lines_of features)
+  pub told : report ≡ report_of counts (lines_of layers)
 
--- the device failed when it had taken a prefix of the text of the source's topology
-pub record IsCutShort (exact : Bool) (name : List ℕ) (old new : Fed) (sink_old sink_new : Drained) (sent : ℕ) : Type 0 where
-  pub features : List Featured
-  pub counts : Counts
+-- the device failed when it had taken a prefix of the text of the topology
+pub record IsCutShort (exact : Bool) (olds news : Sources) (sink_old sink_new : Drained) (sent : ℕ) : Type 0 where
+  pub layers : Named
+  pub counts : List Counts
   pub text : List ℕ
-  pub builds : Builds exact name old new features counts text
+  pub builds : Builds exact olds news layers counts text
   pub many : ℕ
   pub written : Takes sink_old sink_new text many
   pub counted : sent ≡ saturated many
   pub failed : 0 < sink_new.failures
 
--- a line of the layer goes through a position twice
-pub record IsTooEarly (exact : Bool) (old new : Fed) : Type 0 where
-  pub features : List Featured
-  pub counts : Counts
-  pub bytes : List ℕ
-  pub read : IsRead old new bytes
-  pub layer : SpellsLayer exact bytes features counts
-  pub repeated : any_repeats (lines_of features) ≡ true
+-- a position stands twice among the lines of the layers
+pub record IsTooEarly (exact : Bool) (olds news : Sources) : Type 0 where
+  pub layers : Named
+  pub counts : List Counts
+  pub read : AllRead exact olds news layers counts
+  pub repeated : any_repeats (lines_of layers) ≡ true
 
--- why the one layer isn't built once its source is read: nothing is written unless the device failed
-abbrev pub IsLateFault : Bool → List ℕ → Fed → Fed → Drained → Drained → BuildFault → Type 0
-IsLateFault exact name old new sink_old sink_new (Write sent) = IsCutShort exact name old new sink_old sink_new sent
-IsLateFault exact name old new sink_old sink_new NotYet = (sink_new ≡ sink_old) × IsTooEarly exact old new
-IsLateFault exact name old new sink_old sink_new e = (sink_new ≡ sink_old) × FailsToRead 0 exact old new e
+-- why nothing is built once the names and what is asked for are taken: nothing is written unless the device failed
+abbrev pub IsLateFault : Bool → Sources → Sources → Drained → Drained → BuildFault → Type 0
+IsLateFault exact olds news sink_old sink_new (Write sent) = IsCutShort exact olds news sink_old sink_new sent
+IsLateFault exact olds news sink_old sink_new NotYet = (sink_new ≡ sink_old) × IsTooEarly exact olds news
+IsLateFault exact olds news sink_old sink_new Memory = (sink_new ≡ sink_old) × AreUntroubled olds news
+IsLateFault exact olds news sink_old sink_new e = (sink_new ≡ sink_old) × FailsAt exact 0 olds news e
 
--- of one named source, before and after: it keeps its name, and the fact holds
-abbrev pub OfOne : (List ℕ → Fed → Fed → Type 0) → List (List ℕ × Fed) → List (List ℕ × Fed) → Type 0
-OfOne holds [] new = ⊥
-OfOne holds (s ∷ []) [] = ⊥
-OfOne holds (s ∷ []) (t ∷ []) = (t.0 ≡ s.0) × holds s.0 s.1 t.1
-OfOne holds (s ∷ []) (t ∷ u ∷ more) = ⊥
-OfOne holds (s ∷ r ∷ rest) new = ⊥
-
--- all of the bytes were taken and flushed, or a front of them, and the device failed
+-- all of the text was taken and flushed, or a front of it, and the device failed
 abbrev pub Sends : Drained → Drained → List ℕ → Result (Unit {0}) BuildFault → Type 0
-Sends old new bytes (Ok done) = Takes old new bytes (length bytes) × (new.failures ≡ 0)
-Sends old new bytes (Err (Write sent)) = (many : ℕ) × Takes old new bytes many × (sent ≡ saturated many) × (0 < new.failures)
-Sends old new bytes (Err e) = ⊥
+Sends old new text (Ok done) = Takes old new text (length text) × (new.failures ≡ 0)
+Sends old new text (Err (Write sent)) = (many : ℕ) × Takes old new text many × (sent ≡ saturated many) × (0 < new.failures)
+Sends old new text (Err e) = ⊥

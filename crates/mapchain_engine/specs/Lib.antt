@@ -1,9 +1,7 @@
 pub mod Building
-pub mod Decoding
-pub mod Layout
 pub mod Names
 pub mod Outcomes
 pub mod Ranges
 pub mod Reading
-pub mod Repeats
 pub mod Reports
+pub mod Sources

@@ -1,5 +1,5 @@
--- What the bytes of the one layer come to, and which answers follow it.
-use Rattle.std.specs.Prelude.{◌≡◌, ◌⊎◌, ℕ, ◌<◌, ◌≤◌, Bool, List, [], ◌∷◌, length, Some, Result, Ok, Err, IsUtf8, if◌then◌else◌}
+-- What the bytes of all layers come to, and which answers follow it.
+use Rattle.std.specs.Prelude.{◌≡◌, ◌⊎◌, ℕ, suc, ◌<◌, ◌≤◌, Bool, List, [], ◌∷◌, length, Some, Result, Ok, Err, IsUtf8, if◌then◌else◌}
 use Rattle.byte_ends.specs.Ends.{Fed}
 use Rattle.byte_ends.specs.declared.source.ReadFault.TheVariants as read
 use Rattle.decimal_json.specs.declared.fault.JsonFault.{JsonFault}
@@ -7,39 +7,76 @@ use Rattle.decimal_json.specs.declared.fault.JsonFault.TheVariants as text
 use Rattle.decimal_json.specs.declared.fault.Why.TheVariants.{Syntax}
 use Rattle.json_value.specs.declared.json.Json.{Json}
 use Rattle.json_value.specs.Grammar.{Reads}
-use Rattle.geojson_model.specs.declared.counts.Counts.{Counts}
+use Rattle.geojson_types.specs.declared.counts.Counts.{Counts}
+use Rattle.geojson_types.specs.declared.layer.Layer.{Layer}
+use Rattle.geojson_types.specs.Features.{Featured}
 use Rattle.geojson_model.specs.declared.fault.GeoFault.{GeoFault}
-use Rattle.geojson_model.specs.Features.{Featured}
 use Rattle.geojson_model.specs.Layers.{layer}
+use Rattle.topo_model.specs.Assembled.{lines_of}
+use Rattle.topo_model.specs.Repeats.{any_repeats}
 use Rattle.mapchain_engine.specs.declared.fault.BuildFault.{BuildFault}
 use Rattle.mapchain_engine.specs.declared.fault.BuildFault.TheVariants.{EmptyName, DuplicateName, Read, Json as Text, Geo, Write, Memory, NotYet}
 use Rattle.mapchain_engine.specs.declared.report.Report.{Report}
-use Rattle.mapchain_engine.specs.Building.{any_repeats, lines_of, report_of}
+use Rattle.mapchain_engine.specs.Building.{report_of}
 use Rattle.mapchain_engine.specs.Reading.{layer_depth, max_input, IsNoText}
+use Rattle.mapchain_engine.specs.Sources.{Sources, Named}
 
--- the features and counts of a layer that is built, or the fault that it is refused with
-abbrev pub Outcome : Type 0
-Outcome = Result (List Featured × Counts) BuildFault
+-- ---- one layer
 
 -- the bytes are UTF-8 and spell this value, or this is why they are no JSON text
 abbrev pub IsTextOf : List ℕ → Result Json JsonFault → Type 0
 IsTextOf bytes (Ok v) = IsUtf8 bytes × Reads layer_depth bytes v
 IsTextOf bytes (Err fault) = IsNoText bytes fault
 
--- a layer is built unless a line of it goes through a position twice
-abbrev pub of_layer : Result (List Featured × Counts) GeoFault → Outcome
-of_layer (Err fault) = Err (Geo 0 fault)
-of_layer (Ok r) = if any_repeats (lines_of r.0) then Err NotYet else Ok r
+-- the features and counts of a layer, or the fault that it is refused with
+abbrev pub LayerOutcome : Type 0
+LayerOutcome = Result (List Featured × Counts) BuildFault
 
-abbrev pub of_text : Bool → Result Json JsonFault → Outcome
-of_text exact (Err fault) = Err (Text 0 fault)
-of_text exact (Ok v) = of_layer (layer exact v)
+abbrev pub of_layer : ℕ → Result (List Featured × Counts) GeoFault → LayerOutcome
+of_layer n (Err fault) = Err (Geo n fault)
+of_layer n (Ok r) = Ok r
 
--- the bytes are too many, or else their text decides
-abbrev pub ComesTo : Bool → List ℕ → Outcome → Type 0
-ComesTo exact bytes outcome =
-    ((max_input < length bytes) × (outcome ≡ Err (Read 0 read.TooLong)))
-    ⊎ ((length bytes ≤ max_input) × (t : Result Json JsonFault) × IsTextOf bytes t × (outcome ≡ of_text exact t))
+abbrev pub of_text : ℕ → Bool → Result Json JsonFault → LayerOutcome
+of_text n exact (Err fault) = Err (Text n fault)
+of_text n exact (Ok v) = of_layer n (layer exact v)
+
+-- the bytes of the layer of this number are too many, or else their text decides
+abbrev pub LayerComesTo : ℕ → Bool → List ℕ → LayerOutcome → Type 0
+LayerComesTo n exact bytes outcome =
+    ((max_input < length bytes) × (outcome ≡ Err (Read n read.TooLong)))
+    ⊎ ((length bytes ≤ max_input) × (t : Result Json JsonFault) × IsTextOf bytes t × (outcome ≡ of_text n exact t))
+
+-- ---- all layers
+
+-- all layers with their counts, or the first fault
+abbrev pub Outcome : Type 0
+Outcome = Result (Named × List Counts) BuildFault
+
+-- a layer before the others
+abbrev pub with_layer : List ℕ → List Featured × Counts → Outcome → Outcome
+with_layer name l (Err e) = Err e
+with_layer name l (Ok r) = Ok ((name, record { features = l.0 }) ∷ r.0, l.1 ∷ r.1)
+
+-- the first layer's fault, or what the others come to behind it
+abbrev pub Continues : List ℕ → LayerOutcome → (Outcome → Type 0) → Outcome → Type 0
+Continues name (Err e) others outcome = outcome ≡ Err e
+Continues name (Ok l) others outcome = (rest : Outcome) × others rest × (outcome ≡ with_layer name l rest)
+
+-- the bytes under these names come to this, where the first layer has this number
+abbrev pub AllComeTo : ℕ → Bool → List (List ℕ × List ℕ) → Outcome → Type 0
+AllComeTo n exact [] outcome = outcome ≡ Ok ([], [])
+AllComeTo n exact (b ∷ bs) outcome = (first : LayerOutcome) × LayerComesTo n exact b.1 first × Continues b.0 first (AllComeTo (suc n) exact bs) outcome
+
+-- layers are built unless a position stands twice among their lines
+abbrev pub of_layers : Outcome → Outcome
+of_layers (Err e) = Err e
+of_layers (Ok r) = if any_repeats (lines_of r.0) then Err NotYet else Ok r
+
+-- the bytes under these names come to this
+abbrev pub ComesTo : Bool → List (List ℕ × List ℕ) → Outcome → Type 0
+ComesTo exact bs outcome = (read : Outcome) × AllComeTo 0 exact bs read × (outcome ≡ of_layers read)
+
+-- ---- answers
 
 -- the fault without the place and the reason in a malformed text, which nothing promises
 abbrev pub plain_text_fault : JsonFault → JsonFault
@@ -57,7 +94,7 @@ plain_fault (Write sent) = Write sent
 plain_fault Memory = Memory
 plain_fault NotYet = NotYet
 
--- memory was refused, or the source failed
+-- memory was refused, or a source failed
 abbrev pub IsOutsideRead : BuildFault → Type 0
 IsOutsideRead (Read i read.Read) = Unit {0}
 IsOutsideRead Memory = Unit {0}
@@ -68,15 +105,15 @@ abbrev pub IsOutside : BuildFault → Type 0
 IsOutside (Write sent) = Unit {0}
 IsOutside e = IsOutsideRead e
 
--- the answer is that of the outcome, unless memory, the source or the sink failed
+-- the answer is that of the outcome, unless memory, a source or the sink failed
 abbrev pub Follows : Outcome → Result Report BuildFault → Type 0
 Follows (Ok r) (Ok report) = report ≡ report_of r.1 (lines_of r.0)
 Follows (Ok r) (Err e) = IsOutside e
 Follows (Err f) (Ok report) = ⊥
 Follows (Err f) (Err e) = (plain_fault e ≡ plain_fault f) ⊎ IsOutsideRead e
 
--- the one source has these bytes left
-abbrev pub HasBytes : List (List ℕ × Fed) → List ℕ → Type 0
-HasBytes [] bytes = ⊥
-HasBytes (s ∷ []) bytes = s.1.left ≡ Some bytes
-HasBytes (s ∷ t ∷ more) bytes = ⊥
+-- the sources have these names, and these bytes left
+abbrev pub HaveBytes : Sources → List (List ℕ × List ℕ) → Type 0
+HaveBytes [] [] = Unit {0}
+HaveBytes (s ∷ ss) (b ∷ bs) = (b.0 ≡ s.0) × (s.1.left ≡ Some b.1) × HaveBytes ss bs
+HaveBytes ss bs = ⊥

@@ -7,10 +7,10 @@ use Rattle.decimal_json.specs.declared.fault.JsonFault.{JsonFault}
 use Rattle.decimal_json.specs.declared.fault.JsonFault.TheVariants as text
 use Rattle.json_value.specs.declared.json.Json.{Json}
 use Rattle.json_value.specs.Grammar.{Reads}
-use Rattle.geojson_model.specs.declared.counts.Counts.{Counts}
-use Rattle.geojson_model.specs.declared.layer.Layer.{Layer}
+use Rattle.geojson_types.specs.declared.counts.Counts.{Counts}
+use Rattle.geojson_types.specs.declared.layer.Layer.{Layer}
 use Rattle.geojson_model.specs.declared.fault.GeoFaultKind.TheVariants as geo
-use Rattle.geojson_model.specs.Features.{Featured}
+use Rattle.geojson_types.specs.Features.{Featured}
 use Rattle.geojson_model.specs.Layers.{layer}
 use Rattle.mapchain_engine.specs.declared.fault.BuildFault.{BuildFault}
 use Rattle.mapchain_engine.specs.declared.fault.BuildFault.TheVariants.{EmptyName, DuplicateName, Read, Json as Text, Geo, Write, Memory, NotYet}

@@ -1,8 +1,8 @@
 -- The report of a built topology as a text: a line each, ended by a line feed.
 use Rattle.std.specs.Prelude.{ℕ, List, [], ◌∷◌, ◌++◌, length, codes, decimal}
-use Rattle.mapchain_engine.specs.declared.address.Cause.{Cause}
-use Rattle.mapchain_engine.specs.declared.address.Cause.TheVariants.{Collapsed, Small, Outer}
-use Rattle.mapchain_engine.specs.declared.address.Dropped.{Dropped}
+use Rattle.geojson_types.specs.declared.address.Cause.{Cause}
+use Rattle.geojson_types.specs.declared.address.Cause.TheVariants.{Collapsed, Small, Outer}
+use Rattle.geojson_types.specs.declared.address.Dropped.{Dropped}
 use Rattle.mapchain_engine.specs.declared.report.Report.{Report}
 
 -- a word and a number

@@ -1,40 +1,32 @@
 // Building a topology.
-ghost use Rattle.std.specs.Prelude.{◌≡◌, ◌⊎◌, ℕ, List, None, Some, IfOk, IfErr, map, option_to_list};
-ghost use Rattle.byte_ends.specs.Ends.{Fed};
+ghost use Rattle.std.specs.Prelude.{◌≡◌, ◌⊎◌, ℕ, List, None, Some, IfOk, IfErr, map};
+ghost use Rattle.json_value.specs.Text.{json_text};
+ghost use Rattle.topo_types.specs.Values.{topology_value};
 ghost use Rattle.mapchain_engine.specs.Building as spec;
-ghost use Rattle.mapchain_engine.specs.Building.{any_repeats, early_fault, line_of, IsBuilt, IsLateFault, OfOne, Sends};
-ghost use Rattle.mapchain_engine.specs.Layout.{topology_text};
-ghost use Rattle.mapchain_engine.specs.Outcomes.{ComesTo, Follows, HasBytes, Outcome};
+ghost use Rattle.mapchain_engine.specs.Building.{early_fault, IsBuilt, IsLateFault, Sends};
+ghost use Rattle.mapchain_engine.specs.Names.{name_fault};
+ghost use Rattle.mapchain_engine.specs.Outcomes.{ComesTo, Follows, HaveBytes, Outcome};
 
 use crate::fault::BuildFault;
-use crate::lines::{line_of, only};
 use crate::names::check_names;
 use crate::options::Options;
-use crate::positions::repeats;
-use crate::reading::read_source;
+use crate::reading::read_layers;
 use crate::report::Report;
-use crate::topology_writer::put_topology;
-use byte_ends::{Broken, Drain, Feed, Memory, MemoryDrain, Sink, Source, WriteFault};
-use geojson_model::{Counts, Feature};
+use byte_ends::{Broken, Drain, Feed, Sink, Source, WriteFault};
+use geojson_model::Counts;
 use json_value::{Items, OwnText};
 use std::alloc::Global;
+use topo_model::{
+    Cell, Topology, any_repeats, assemble, assembled_decodes_back, assembled_is_valid, named_lines,
+};
+use topojson_decoder::{reads_back, topology_text_is_read};
+use topojson_writer::write_topology;
 
-/// The topology of the feature's layer under this name, as a whole text.
-fn topology_bytes(alloc: Global, name: &str, feature: &Feature) -> Result<Vec<u8>, Memory>
-    ensures { IfOk result (λ v. v.items ≡ topology_text name.now (line_of feature.now)) }
+/// Writes the topology and flushes the sink.
+fn send<W: Drain>(topology: &Topology, sink: &mut Sink<W>) -> Result<(), BuildFault>
+    ensures { Sends sink.old sink.new (json_text (topology_value topology.now)) result }
 {
-    let mut sink = Sink::new(MemoryDrain::new(alloc));
-    match put_topology(name, feature, 0, &mut sink) {
-        Ok(_) => Ok(sink.into_inner().into_inner()),
-        Err(_) => Err(Memory),
-    }
-}
-
-/// Writes all of the bytes and flushes the sink.
-fn send<W: Drain>(bytes: &[u8], sink: &mut Sink<W>) -> Result<(), BuildFault>
-    ensures { Sends sink.old sink.new bytes.now result }
-{
-    match sink.put(0, bytes) {
+    match write_topology(topology, sink) {
         Ok(sent) => match sink.finish() {
             Ok(()) => Ok(()),
             Err(Broken) => Err(BuildFault::Write { sent }),
@@ -44,60 +36,62 @@ fn send<W: Drain>(bytes: &[u8], sink: &mut Sink<W>) -> Result<(), BuildFault>
     }
 }
 
-/// The report of a layer of this one feature.
-fn report_of(alloc: Global, feature: &Feature, counts: Counts) -> Report
-    ensures { result ≡ spec.report_of counts (option_to_list (line_of feature.now)) }
+/// The positions of all arcs.
+fn positions_in(arcs: &[Items<Cell>]) -> u64
+    ensures { result ≡ spec.positions_in arcs.now }
 {
-    let (arcs, kept) = match line_of(feature) {
-        None => (0, 0),
-        Some(line) => (1, line.len() as u64),
-    };
+    let mut kept: u64 = 0;
+    'arcs: for arc in arcs {
+        kept = kept.saturating_add(arc.len() as u64);
+    }
+    kept
+}
+
+/// The report of layers with these counts and these arcs.
+fn report_of(alloc: Global, counts: Counts, arcs: &[Items<Cell>]) -> Report
+    ensures { result ≡ spec.report_with counts arcs.now }
+{
     Report {
         counts,
         dropped: Items::of(Vec::new(alloc)),
-        arcs,
-        kept,
+        arcs: arcs.len() as u64,
+        kept: positions_in(arcs),
         removed: 0,
     }
 }
 
-/// Whether the feature's line goes through a position twice.
-fn line_repeats(alloc: Global, feature: &Feature) -> Result<bool, Memory>
-    ensures { IfOk result (λ b. b ≡ any_repeats (option_to_list (line_of feature.now))) }
-{
-    match line_of(feature) {
-        None => Ok(false),
-        Some(line) => repeats(alloc, line),
-    }
-}
-
-/// Builds the topology of one named layer and writes it.
-fn build_one<R: Feed, W: Drain>(
+/// Builds the topology of named layers, whose names are taken, and writes it.
+fn build_layers<R: Feed, W: Drain>(
     alloc: Global,
-    named: &mut (OwnText, Source<R>),
+    sources: &mut [(OwnText, Source<R>)],
     exact: bool,
     sink: &mut Sink<W>,
 ) -> Result<Report, BuildFault>
-    ensures name { named.new.0 ≡ named.old.0 }
-    ensures built { IfOk result (λ report. IsBuilt exact named.old.0 named.old.1 named.new.1 sink.old sink.new report) }
-    ensures refused { IfErr result (λ e. IsLateFault exact named.old.0 named.old.1 named.new.1 sink.old sink.new e) }
+    requires names { name_fault (map (λ s. s.0) sources.old) ≡ None }
+    ensures built { IfOk result (λ report. IsBuilt exact sources.old sources.new sink.old sink.new report) }
+    ensures refused { IfErr result (λ e. IsLateFault exact sources.old sources.new sink.old sink.new e) }
 {
-    let (layer, counts) = read_source(alloc, &mut named.1, 0, exact)?;
-    let feature = only(layer.features.as_slice());
-    if line_repeats(alloc, feature)? {
+    assembled_is_valid();
+    assembled_decodes_back();
+    reads_back();
+    topology_text_is_read();
+    let (layers, counts) = read_layers(alloc, sources, exact)?;
+    let lines = named_lines(alloc, &layers)?;
+    if any_repeats(alloc, &lines)? {
         return Err(BuildFault::NotYet);
     }
-    let bytes = topology_bytes(alloc, named.0.as_str(), feature)?;
-    send(&bytes, sink)?;
-    Ok(report_of(alloc, feature, counts))
+    let report = report_of(alloc, counts, &lines);
+    let topology = assemble(alloc, layers, lines)?;
+    send(&topology, sink)?;
+    Ok(report)
 }
 
 /// Builds the topology (TopoJSON 1.0) of named layers (RFC 7946), each read from its source to the end, and writes it.
 ///
-/// So far there is one layer, a bare LineString, in which no position stands twice; everything else that GeoJSON allows
-/// is `NotYet`. Names are looked at first, in order, and then what is asked for: up to there nothing is read. Nothing is
-/// written before the whole layer is taken and its topology is held in memory, so on each fault but `Write` the sink is
-/// as it was. On `Write` it took a prefix of the topology's text, of the length that is told. The sink is flushed.
+/// So far each line is an arc of its own: layers in whose lines and rings, taken together, a position stands twice are `NotYet`, and
+/// so is each ring. Names are looked at first, in order, and then what is asked for: up to there nothing is read. Then each layer
+/// is read, parsed and modelled before the next. Nothing is written before all layers are taken, so on each fault but `Write` the
+/// sink is as it was. On `Write` it took a prefix of the topology's text, of the length that is told. The sink is flushed.
 pub fn build<R: Feed, W: Drain>(
     alloc: Global,
     sources: &mut [(OwnText, Source<R>)],
@@ -107,20 +101,20 @@ pub fn build<R: Feed, W: Drain>(
     // The first fault of the names, or of what is asked for, is answered, and nothing is read or written.
     ensures early { (e : BuildFault) → early_fault options.now (map (λ s. s.0) sources.old) ≡ Some e
         → (result ≡ Err e) × (sources.new ≡ sources.old) × (sink.new ≡ sink.old) }
-    // The text that was written is JSON whose topology bears the layer's name. Decoding it gives the layer's features, its
-    // arcs are their lines, nothing is dropped, and the report counts just this.
-    ensures built { IfOk result (λ report. OfOne (λ name old new. IsBuilt options.now.exact name old new sink.old sink.new report) sources.old sources.new) }
-    // Every other fault is one that the source or its bytes have, or a prefix of that text was written.
+    // The text that was written is JSON of a topology whose objects bear the layers' names in order. Decoding each gives the layer's
+    // features, the arcs are the lines of all layers, nothing is dropped, and the report counts just this.
+    ensures built { IfOk result (λ report. IsBuilt options.now.exact sources.old sources.new sink.old sink.new report) }
+    // Every other fault is one that the sources or their bytes have, or a prefix of that text was written.
     ensures refused { IfErr result (λ e. (early_fault options.now (map (λ s. s.0) sources.old) ≡ Some e)
-        ⊎ OfOne (λ name old new. IsLateFault options.now.exact name old new sink.old sink.new e) sources.old sources.new) }
+        ⊎ IsLateFault options.now.exact sources.old sources.new sink.old sink.new e) }
 
-    // And the other way round: what the source's bytes come to is answered, unless memory, the source or the sink failed.
-    ensures decided { (bytes : List ℕ) (outcome : Outcome) → early_fault options.now (map (λ s. s.0) sources.old) ≡ None
-        → HasBytes sources.old bytes → ComesTo options.now.exact bytes outcome → Follows outcome result }
+    // And the other way round: what the bytes of the sources come to is answered, unless memory, a source or the sink failed.
+    ensures decided { (bytes : List (List ℕ × List ℕ)) (outcome : Outcome) → early_fault options.now (map (λ s. s.0) sources.old) ≡ None
+        → HaveBytes sources.old bytes → ComesTo options.now.exact bytes outcome → Follows outcome result }
 {
     check_names(sources)?;
-    if sources.len() != 1 || options.grid.is_some() || options.threshold != 0 {
+    if options.grid.is_some() || options.threshold != 0 {
         return Err(BuildFault::NotYet);
     }
-    build_one(alloc, &mut sources[0], options.exact, sink)
+    build_layers(alloc, sources, options.exact, sink)
 }

@@ -2,6 +2,7 @@
 use byte_ends::{Memory, ReadFault};
 use decimal_json::JsonFault;
 use geojson_model::GeoFault;
+use std::alloc::AllocFailed;
 use thiserror::Error;
 
 /// Why a topology couldn't be built. Layers count from zero. On every fault but `Write` nothing was written.
@@ -28,8 +29,7 @@ pub enum BuildFault {
     /// An allocation was refused.
     #[error("out of memory")]
     Memory,
-    /// What is asked for can't be built yet: other than one layer, a grid, a threshold, or a line with a position that
-    /// stands in it twice.
+    /// What is asked for can't be built yet: a grid, a threshold, or layers among whose lines and rings a position stands twice.
     #[error("not built yet")]
     NotYet,
 }
@@ -41,6 +41,17 @@ impl From<Memory> for BuildFault {
     ghost from_gives = { λ _ e. e ≡ Memory };
 
     fn from(_e: Memory) -> BuildFault {
+        BuildFault::Memory
+    }
+}
+
+impl<T: Drop> From<AllocFailed<T>> for BuildFault {
+    ghost use Rattle.std.specs.Prelude.{◌≡◌};
+    ghost use Rattle.mapchain_engine.specs.declared.fault.BuildFault.TheVariants.{Memory};
+
+    ghost from_gives = { λ _ e. e ≡ Memory };
+
+    fn from(_e: AllocFailed<T>) -> BuildFault {
         BuildFault::Memory
     }
 }

@@ -1,6 +1,6 @@
 // What building tells beside the topology.
-use crate::address::Dropped;
 use geojson_model::Counts;
+use geojson_types::Dropped;
 use json_value::Items;
 
 /// What was counted in building a topology. A count that would pass `u64::MAX` stays there.

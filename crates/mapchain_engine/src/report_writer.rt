@@ -3,9 +3,9 @@ ghost use Rattle.std.specs.Prelude.{◌≡◌, ◌++◌, codes, decimal};
 ghost use Rattle.byte_ends.specs.Writes.{Writes};
 ghost use Rattle.mapchain_engine.specs.Reports as spec;
 
-use crate::address::{Cause, Dropped};
 use crate::report::Report;
 use byte_ends::{Drain, Sink, WriteFault};
+use geojson_types::{Cause, Dropped};
 use itoa::Buffer;
 
 /// Writes a whole number.

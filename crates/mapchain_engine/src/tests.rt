@@ -31,6 +31,21 @@ fn name(alloc: Global, text: &str) -> Result<OwnText, Fail> {
     Ok(OwnText::of(String::from_str(alloc, text)?))
 }
 
+/// Builds layers of these names and bytes into memory.
+fn built_layers(
+    alloc: Global,
+    layers: &[(&str, &[u8])],
+    exact: bool,
+    sink: &mut Sink<MemoryDrain>,
+) -> Result<Result<Report, BuildFault>, Fail> {
+    let mut sources = Vec::new(alloc);
+    for (text, bytes) in layers {
+        let layer = (name(alloc, text)?, source(bytes, Fault::Never));
+        sources.push(layer).map_err(|_| "memory")?;
+    }
+    Ok(build(alloc, &mut sources, &options(exact), sink))
+}
+
 /// Builds one layer into memory.
 fn built(
     alloc: Global,
@@ -44,6 +59,13 @@ fn built(
         .push((name(alloc, "a")?, source(bytes, fault)))
         .map_err(|_| "memory")?;
     Ok(build(alloc, &mut sources, &options(exact), sink))
+}
+
+/// The topology that is written for layers of these names and bytes, and its report.
+fn topology(alloc: Global, layers: &[(&str, &[u8])]) -> Result<(MemoryDrain, Report), Fail> {
+    let mut sink = Sink::new(MemoryDrain::new(alloc));
+    let report = built_layers(alloc, layers, false, &mut sink)??;
+    Ok((sink.into_inner(), report))
 }
 
 #[test]
@@ -91,12 +113,14 @@ fn refusals_of_a_layer(rt: HostRuntime) -> Result<(), Fail> {
     let alloc = rt.alloc();
     let twice = b"{\"type\":\"LineString\",\"coordinates\":[[0,0],[1,0],[0,0]]}";
     assert_eq!(rt; refused(alloc, twice, false)?, BuildFault::NotYet);
-    let point = refused(alloc, b"{\"type\":\"Point\",\"coordinates\":[0,0]}", false)?;
+    let ring = b"{\"type\":\"Polygon\",\"coordinates\":[[[0,0],[1,0],[0,1],[0,0]]]}";
+    assert_eq!(rt; refused(alloc, ring, false)?, BuildFault::NotYet);
+    let circle = refused(alloc, b"{\"type\":\"Circle\"}", false)?;
     let fault = GeoFault {
         feature: None,
-        kind: GeoFaultKind::NotYet,
+        kind: GeoFaultKind::UnknownType,
     };
-    assert_eq!(rt; point, BuildFault::Geo { layer: 0, fault });
+    assert_eq!(rt; circle, BuildFault::Geo { layer: 0, fault });
     let finer = b"{\"type\":\"LineString\",\"coordinates\":[[0.00000005,0],[1,0]]}";
     let fault = GeoFault {
         feature: Some(0),
@@ -149,8 +173,91 @@ fn refusals_of_names(rt: HostRuntime) -> Result<(), Fail> {
         refused_names(alloc, &["a", "a"])?,
         BuildFault::DuplicateName { layer: 1 }
     );
-    assert_eq!(rt; refused_names(alloc, &["a", "b"])?, BuildFault::NotYet);
-    assert_eq!(rt; refused_names(alloc, &[])?, BuildFault::NotYet);
+    Ok(())
+}
+
+#[test]
+fn no_layer(rt: HostRuntime) -> Result<(), Fail> {
+    let (held, report) = topology(rt.alloc(), &[])?;
+    assert_eq!(rt;
+        held.as_slice(),
+        b"{\"type\":\"Topology\",\"objects\":{},\"arcs\":[]}".as_slice()
+    );
+    assert_eq!(rt; report.arcs, 0);
+    Ok(())
+}
+
+#[test]
+fn no_feature(rt: HostRuntime) -> Result<(), Fail> {
+    let layer = b"{\"type\":\"FeatureCollection\",\"features\":[]}";
+    let (held, report) = topology(rt.alloc(), &[("e", layer)])?;
+    assert_eq!(rt;
+        held.as_slice(),
+        b"{\"type\":\"Topology\",\"objects\":{\"e\":{\"type\":\"GeometryCollection\",\"geometries\":[]}},\"arcs\":[]}".as_slice()
+    );
+    assert_eq!(rt; report.kept, 0);
+    Ok(())
+}
+
+#[test]
+fn an_identifier_and_odd_properties(rt: HostRuntime) -> Result<(), Fail> {
+    let layer =
+        b"{\"type\":\"FeatureCollection\",\"crs\":7,\"bbox\":[],\"features\":[{\"type\":\"Feature\",\"id\":\"007\",\"properties\":{\"b\":1.50,\"a\":1e2,\"b\":null},\"geometry\":{\"type\":\"Point\",\"coordinates\":[1,2,9]}}]}";
+    let (held, report) = topology(rt.alloc(), &[("p", layer)])?;
+    assert_eq!(rt;
+        held.as_slice(),
+        b"{\"type\":\"Topology\",\"objects\":{\"p\":{\"type\":\"GeometryCollection\",\"geometries\":[{\"type\":\"Point\",\"id\":\"007\",\"properties\":{\"b\":1.50,\"a\":1e2,\"b\":null},\"coordinates\":[1,2]}]}},\"arcs\":[]}".as_slice()
+    );
+    assert_eq!(rt; report.counts.extra, 1);
+    Ok(())
+}
+
+#[test]
+fn empty_arrays(rt: HostRuntime) -> Result<(), Fail> {
+    let polygon = b"{\"type\":\"Polygon\",\"coordinates\":[[]]}";
+    let point = b"{\"type\":\"Point\",\"coordinates\":[]}";
+    let group =
+        b"{\"type\":\"GeometryCollection\",\"geometries\":[{\"type\":\"Point\",\"coordinates\":[]}]}";
+    let (held, report) = topology(rt.alloc(), &[("a", polygon), ("b", point), ("c", group)])?;
+    assert_eq!(rt;
+        held.as_slice(),
+        b"{\"type\":\"Topology\",\"objects\":{\"a\":{\"type\":\"GeometryCollection\",\"geometries\":[{\"type\":null}]},\"b\":{\"type\":\"GeometryCollection\",\"geometries\":[{\"type\":null}]},\"c\":{\"type\":\"GeometryCollection\",\"geometries\":[{\"type\":\"GeometryCollection\",\"geometries\":[]}]}},\"arcs\":[]}".as_slice()
+    );
+    assert_eq!(rt; report.counts.empty, 3);
+    Ok(())
+}
+
+#[test]
+fn lines_of_two_layers(rt: HostRuntime) -> Result<(), Fail> {
+    let one = b"{\"type\":\"MultiLineString\",\"coordinates\":[[[0,0],[1,0]],[],[[2,0],[2.5,-1]]]}";
+    let two =
+        b"{\"type\":\"GeometryCollection\",\"geometries\":[{\"type\":\"MultiPoint\",\"coordinates\":[[0,0],[0,0]]},{\"type\":\"LineString\",\"coordinates\":[[5,5],[6,6],[7,5]]}]}";
+    let (held, report) = topology(rt.alloc(), &[("x", one), ("y", two)])?;
+    assert_eq!(rt;
+        held.as_slice(),
+        b"{\"type\":\"Topology\",\"objects\":{\"x\":{\"type\":\"GeometryCollection\",\"geometries\":[{\"type\":\"MultiLineString\",\"arcs\":[[0],[1]]}]},\"y\":{\"type\":\"GeometryCollection\",\"geometries\":[{\"type\":\"GeometryCollection\",\"geometries\":[{\"type\":\"MultiPoint\",\"coordinates\":[[0,0],[0,0]]},{\"type\":\"LineString\",\"arcs\":[2]}]}]}},\"arcs\":[[[0,0],[1,0]],[[2,0],[2.5,-1]],[[5,5],[6,6],[7,5]]]}".as_slice()
+    );
+    assert_eq!(rt; report.counts.empty, 1);
+    assert_eq!(rt; report.arcs, 3);
+    assert_eq!(rt; report.kept, 7);
+    Ok(())
+}
+
+#[test]
+fn a_later_layer_is_refused(rt: HostRuntime) -> Result<(), Fail> {
+    let alloc = rt.alloc();
+    let mut sink = Sink::new(MemoryDrain::new(alloc));
+    let answer = built_layers(alloc, &[("a", LINE), ("b", b"[]")], false, &mut sink)?;
+    let fault = GeoFault {
+        feature: None,
+        kind: GeoFaultKind::NotObject,
+    };
+    assert_eq!(rt; answer.err(), Some(BuildFault::Geo { layer: 1, fault }));
+    assert_eq!(rt; sink.sent(), 0);
+    let touching = b"{\"type\":\"LineString\",\"coordinates\":[[1.5,0.25],[9,9]]}";
+    let answer = built_layers(alloc, &[("a", LINE), ("b", touching)], false, &mut sink)?;
+    assert_eq!(rt; answer.err(), Some(BuildFault::NotYet));
+    assert_eq!(rt; sink.sent(), 0);
     Ok(())
 }
 

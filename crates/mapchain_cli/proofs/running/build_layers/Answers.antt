@@ -1,6 +1,6 @@
 use Rattle.std.proofs.Common.{◌∙◌, ap, map}
 use Rattle.std.proofs.lemmas.Result.{err_from_is_err_and}
-use Rattle.mapchain_cli.proofs.Outcomes.{refused_keeps, builds_one}
+use Rattle.mapchain_cli.proofs.Outcomes.{refused_keeps, named}
 use Rattle.mapchain_cli.proofs.running.build_layers.Goals as goal
 
 pub returns-in_err-report-clause-refused : goal.returns-in_err-report-clause-refused
@@ -9,6 +9,9 @@ returns-in_err-report-clause-refused g c =
     rw (p.1, p.2) (refused_keeps _ c.args.exact c.as_mut_slice.result.now c.build.new.sources c.args.out.now c.build.new.sink _ (λ is. (c.in_err-report.ensures.early _ is).2) c.in_err-report.ensures.refused)
 
 pub returns-clause-built : goal.returns-clause-built
-returns-clause-built g c =
-    builds_one c.args.exact c.args.words.now c.as_mut_slice.result.now c.build.new.sources c.args.out.now c.build.new.sink c.in_ok-report.report c.in_ok-report.ensures.built
-    (ap (map (λ s. s.0)) c.as_mut_slice.ensures.value ∙ c.in_ok-sources.ensures ∙ ap (map (λ l. l.0.now)) c.deref.ensures.value ∙ c.in_ok-layers.ensures)
+returns-clause-built g c = record {
+  sources_old = c.as_mut_slice.result.now;
+  sources_new = c.build.new.sources;
+  names = ap (map (λ s. s.0)) c.as_mut_slice.ensures.value ∙ c.in_ok-sources.ensures ∙ ap (map (λ l. l.0.now)) c.deref.ensures.value ∙ c.in_ok-layers.ensures ∙ named c.args.words.now;
+  built = c.in_ok-report.ensures.built;
+}

@@ -1,37 +1,13 @@
 -- Where segments and positions stand in pieces, and what the pieces of lines keep.
-use Rattle.std.specs.Prelude.{◌≡◌, ◌≢◌, ◌≤◌, List, [], ◌∷◌, length, reverse}
-use Rattle.std.specs.List.{AllByRecursion}
+use Rattle.std.specs.Prelude.{◌≡◌, ◌≤◌, List, [], ◌∷◌, length, reverse}
 use Rattle.geojson_types.specs.Points.{Point}
+pub use Rattle.geojson_types.specs.Lists.{tail, front_of, front, interior, Apart}
 pub use Rattle.linework.specs.Among.{In}
 
 -- the piece has the segment from a to b, with the positions l before it, backwards, and r behind it
 pub data At : List Point → Point → Point → List Point → List Point → Type 0 where
   first : {a b : Point} {r : List Point} → At [] a b r (a ∷ (b ∷ r))
   later : {l : List Point} {a b c : Point} {r xs : List Point} → At l a b (c ∷ r) xs → At (a ∷ l) b c r xs
-
--- the list without its first element
-abbrev pub tail : {X : Type 0} → List X → List X
-tail [] = []
-tail (x ∷ xs) = xs
-
--- an element and more of them, without the last
-abbrev pub front_of : {X : Type 0} → X → List X → List X
-front_of x [] = []
-front_of x (y ∷ ys) = x ∷ front_of y ys
-
--- the list without its last element
-abbrev pub front : {X : Type 0} → List X → List X
-front [] = []
-front (x ∷ xs) = front_of x xs
-
--- the elements between the ends
-abbrev pub interior : {X : Type 0} → List X → List X
-interior xs = front (tail xs)
-
--- each differs from each later one
-abbrev pub Apart : {X : Type 0} → List X → Type 0
-Apart [] = Unit {0}
-Apart (x ∷ xs) = AllByRecursion (λ y. x ≢ y) xs × Apart xs
 
 -- What the pieces of lines have in common. Two that have the same segment in the same direction are equal; two that have it in
 -- opposite directions are each other's reverse; none has a segment at two places, in the same direction or in opposite

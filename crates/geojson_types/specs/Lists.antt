@@ -1,5 +1,6 @@
 -- Lists and options of which parts are left out.
-use Rattle.std.specs.Prelude.{List, [], ◌∷◌, ◌++◌, Option, None, Some}
+use Rattle.std.specs.Prelude.{◌≢◌, List, [], ◌∷◌, ◌++◌, Option, None, Some}
+use Rattle.std.specs.List.{AllByRecursion}
 
 -- what is made of it, if there is one
 abbrev pub map_some : {A B : Type 0} → (A → B) → Option A → Option B
@@ -30,3 +31,27 @@ unless_empty make (x ∷ xs) = Some (make (x ∷ xs))
 abbrev pub joined : {A : Type 0} → List (List A) → List A
 joined [] = []
 joined (xs ∷ xss) = xs ++ joined xss
+
+-- the list without its first element
+abbrev pub tail : {X : Type 0} → List X → List X
+tail [] = []
+tail (x ∷ xs) = xs
+
+-- an element and more of them, without the last
+abbrev pub front_of : {X : Type 0} → X → List X → List X
+front_of x [] = []
+front_of x (y ∷ ys) = x ∷ front_of y ys
+
+-- the list without its last element
+abbrev pub front : {X : Type 0} → List X → List X
+front [] = []
+front (x ∷ xs) = front_of x xs
+
+-- the elements between the ends
+abbrev pub interior : {X : Type 0} → List X → List X
+interior xs = front (tail xs)
+
+-- each differs from each later one
+abbrev pub Apart : {X : Type 0} → List X → Type 0
+Apart [] = Unit {0}
+Apart (x ∷ xs) = AllByRecursion (λ y. x ≢ y) xs × Apart xs

@@ -1,7 +1,6 @@
 -- The code of the contents of a topology, by which a proof tells two of them apart.
 use Rattle.std.specs.Prelude.{ℕ, List, refl}
 use Rattle.std.specs.Coded.{Coded, code_by, coded×, coded_ℕ, coded_list}
-use Rattle.json_value.specs.contracts.items.Items as items
 use Rattle.geojson_types.specs.Points.{Point}
 use Rattle.topo_types.specs.declared.object.TopoObject.{TopoObject}
 use Rattle.topo_types.specs.contracts.cell.Cell as cell

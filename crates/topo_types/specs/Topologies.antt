@@ -1,6 +1,5 @@
 -- What contracts see of a topology, and its lines.
-use Rattle.std.specs.Prelude.{ℕ, ℤ, Bool, List, [], ◌∷◌, Option, map}
-use Rattle.json_value.specs.declared.json.Json.{Json}
+use Rattle.std.specs.Prelude.{ℕ, ℤ, Bool, List, [], ◌∷◌, map}
 use Rattle.geojson_types.specs.declared.geometry.Geometry.{Geometry}
 use Rattle.geojson_types.specs.Lists.{joined}
 use Rattle.geojson_types.specs.Points.{Point}

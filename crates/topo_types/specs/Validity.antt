@@ -1,5 +1,5 @@
 -- Which topologies are valid: TopoJSON 1.0, section 2.
-use Rattle.std.specs.Prelude.{◌≡◌, ◌≢◌, ℕ, ◌<◌, ◌≤◌, ℤ, Bool, true, false, not, ◌&&◌, List, [], ◌∷◌, Option, None, Some, length, map}
+use Rattle.std.specs.Prelude.{◌≡◌, ◌≢◌, ℕ, ◌<◌, ◌≤◌, ℤ, Bool, true, false, ◌&&◌, List, [], ◌∷◌, Option, None, Some, length, map}
 use Rattle.std.specs.List.{AllByRecursion, list_all}
 use Rattle.geojson_types.specs.declared.geometry.Geometry.{fold-Geometry}
 use Rattle.geojson_types.specs.declared.geometry.Geometry.TheOpen.{Geometry-F}
@@ -10,7 +10,7 @@ use Rattle.topo_types.specs.declared.feature.TopoFeature.{TopoFeature}
 use Rattle.topo_types.specs.declared.object.TopoObject.{TopoObject}
 use Rattle.topo_types.specs.declared.object.TopoObject.TheVariants.{One, Many}
 use Rattle.topo_types.specs.Joins.{number_of, arc_at, Meet, Closes}
-use Rattle.topo_types.specs.Topologies.{TopoShape, Contents, object_features, objects_strokes}
+use Rattle.topo_types.specs.Topologies.{TopoShape, Contents, objects_strokes}
 
 -- ---- shapes
 

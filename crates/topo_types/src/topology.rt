@@ -1,8 +1,10 @@
-ghost use Rattle.std.specs.Prelude.{◌≡◌};
+ghost use Rattle.std.specs.Prelude.{◌≡◌, ◌<◌, [], Some, get_or, length, slice_get};
+ghost use Rattle.geojson_types.specs.Points.{IsPosition};
 ghost use Rattle.topo_types.specs.Validity.{IsTopology};
 
 use crate::cell::Cell;
 use crate::object::TopoObject;
+use geojson_types::Position;
 use json_value::{Items, OwnText};
 use std::marker::Model;
 
@@ -56,4 +58,21 @@ impl Topology {
     {
         self.lines.as_slice()
     }
+
+    /// The position with this number of the arc with that number, both counted from zero.
+    pub fn place(&self, arc: usize, i: usize) -> Position
+        requires arc { arc < length self.now.arcs }
+        requires position { i < length (get_or self.now.arcs arc []) }
+        ensures { slice_get (get_or self.now.arcs arc []) i ≡ Some result }
+    {
+        position_of(self.lines.as_slice()[arc].as_slice()[i])
+    }
+}
+
+/// The position whose units a cell holds.
+fn position_of(cell: Cell) -> Position
+    requires { IsPosition cell }
+    ensures { result ≡ cell }
+{
+    Position::at(cell.x(), cell.y())
 }

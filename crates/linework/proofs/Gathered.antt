@@ -113,6 +113,14 @@ pub layers_turn : (g now new : Gathered) (ls : List Layer) (i : ℕ) (l : Layer)
     now ≡ with_strokes g (strokes_of_layers 0 (take i ls)) → new ≡ with_strokes now (strokes_of_layer i 0 l.features) → new ≡ with_strokes g (strokes_of_layers 0 (take (i + 1) ls))
 layers_turn = all_turn (λ i l. strokes_of_layer i 0 l.features) strokes_of_layers (λ i. refl) (λ i x xs. refl)
 
+-- the same of layers with names
+abbrev unnamed : List (List ℕ × Layer) → List Layer
+unnamed ls = map (λ l. l.1) ls
+
+pub named_turn : (g now new : Gathered) (ls : List (List ℕ × Layer)) (i : ℕ) (l : List ℕ × Layer) → i < length ls → l ≡ get_or ls i l →
+    now ≡ with_strokes g (strokes_of_layers 0 (unnamed (take i ls))) → new ≡ with_strokes now (strokes_of_layer i 0 l.1.features) → new ≡ with_strokes g (strokes_of_layers 0 (unnamed (take (i + 1) ls)))
+named_turn = all_turn (λ i l. strokes_of_layer i 0 l.1.features) (λ i ls. strokes_of_layers i (unnamed ls)) (λ i. refl) (λ i x xs. refl)
+
 -- gathered from nothing, they are the two lists of the definition
 gathered_strokes : (g : Gathered) (ss : List Stroke) → (with_strokes g ss).strokes ≡ g.strokes ++ filter (λ s. not (is_collapsed s)) ss
 unfolding with_strokes
@@ -141,3 +149,15 @@ linework_is g ls i l h = ap (λ z. z.strokes) h ∙ gathered_strokes nothing_gat
 pub collapsed_is : (g : Gathered) (ls : List Layer) (i : ℕ) → length ls ≤ i → g ≡ with_strokes nothing_gathered (strokes_of_layers 0 (take i ls)) → g.dropped ≡ collapsed ls
 unfolding collapsed
 collapsed_is g ls i l h = ap (λ z. z.dropped) h ∙ gathered_dropped nothing_gathered (strokes_of_layers 0 (take i ls)) ∙ ap (λ z. map collapse (filter is_collapsed (strokes_of_layers 0 z))) (take_all i ls l)
+
+pub named_linework_is : (g : Gathered) (ls : List (List ℕ × Layer)) (i : ℕ) → length ls ≤ i → g ≡ with_strokes nothing_gathered (strokes_of_layers 0 (unnamed (take i ls))) → g.strokes ≡ linework (map (λ l. l.1) ls)
+unfolding linework
+named_linework_is g ls i l h =
+    ap (λ z. z.strokes) h ∙ gathered_strokes nothing_gathered (strokes_of_layers 0 (unnamed (take i ls)))
+    ∙ ap (λ z. filter (λ s. not (is_collapsed s)) (strokes_of_layers 0 (unnamed z))) (take_all i ls l)
+
+pub named_collapsed_is : (g : Gathered) (ls : List (List ℕ × Layer)) (i : ℕ) → length ls ≤ i → g ≡ with_strokes nothing_gathered (strokes_of_layers 0 (unnamed (take i ls))) → g.dropped ≡ collapsed (map (λ l. l.1) ls)
+unfolding collapsed
+named_collapsed_is g ls i l h =
+    ap (λ z. z.dropped) h ∙ gathered_dropped nothing_gathered (strokes_of_layers 0 (unnamed (take i ls)))
+    ∙ ap (λ z. map collapse (filter is_collapsed (strokes_of_layers 0 (unnamed z)))) (take_all i ls l)

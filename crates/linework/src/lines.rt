@@ -1,5 +1,5 @@
 // The linework of layers.
-ghost use Rattle.std.specs.Prelude.{◌≡◌, ◌<◌, IfOk, OnOk, Some, length, slice_get, false};
+ghost use Rattle.std.specs.Prelude.{◌≡◌, ◌<◌, IfOk, OnOk, Some, length, map, slice_get, false};
 ghost use Rattle.linework.specs.Cleaning.{AllClean, IsClean};
 ghost use Rattle.linework.specs.Gathering.{nothing_gathered, with_stroke};
 ghost use Rattle.linework.specs.Linework.{linework, collapsed};
@@ -9,6 +9,7 @@ use crate::gathering::add_layer;
 use crate::stroke::Stroke;
 use byte_ends::Memory;
 use geojson_types::{Cause, Dropped, Layer};
+use json_value::OwnText;
 use std::alloc::Global;
 use std::marker::Model;
 
@@ -40,6 +41,18 @@ impl Lines {
         let mut lines = Lines::none(alloc);
         for (number, layer) in layers.iter().enumerate() {
             add_layer(alloc, number, layer.features.as_slice(), &mut lines)?;
+        }
+        Ok(lines)
+    }
+
+    /// The linework of layers with names.
+    pub fn of_named(alloc: Global, layers: &[(OwnText, Layer)]) -> Result<Lines, Memory>
+        ensures strokes { IfOk result (λ lines. lines.strokes ≡ linework (map (λ l. l.1) layers.now)) }
+        ensures dropped { IfOk result (λ lines. lines.dropped ≡ collapsed (map (λ l. l.1) layers.now)) }
+    {
+        let mut lines = Lines::none(alloc);
+        for (number, layer) in layers.iter().enumerate() {
+            add_layer(alloc, number, layer.1.features.as_slice(), &mut lines)?;
         }
         Ok(lines)
     }

@@ -1,0 +1,16 @@
+pub mod Decoding
+pub mod DecodingLines
+pub mod Linework
+pub mod Lists
+pub mod Once
+pub mod Renumbered
+pub mod Strokes
+pub mod Trimmed
+pub mod Valid
+pub mod ValidEnds
+pub mod ValidIndexes
+pub mod ValidKinds
+pub mod ValidPositions
+pub mod ValidShapes
+pub mod ValidTrimmed
+pub mod Whole

@@ -1,0 +1,25 @@
+-- The lines and rings of named layers, in reading order.
+use Rattle.std.specs.Prelude.{ℕ, Bool, List, map}
+use Rattle.geojson_types.specs.declared.layer.Layer.{Layer}
+use Rattle.geojson_types.specs.Features.{Featured}
+use Rattle.geojson_types.specs.Lists.{joined}
+use Rattle.geojson_types.specs.Points.{Point}
+use Rattle.geojson_types.specs.Pruning.{option_strokes}
+
+-- layers with their names
+abbrev pub Named : Type 0
+Named = List (List ℕ × Layer)
+
+abbrev pub names_of : Named → List (List ℕ)
+names_of ls = map (λ l. l.0) ls
+
+abbrev pub layers_of : Named → List Layer
+layers_of ls = map (λ l. l.1) ls
+
+-- the open lines (false) and rings (true) of features
+abbrev pub features_strokes : List Featured → List (Bool × List Point)
+features_strokes fs = joined (map (λ f. option_strokes f.shape) fs)
+
+-- those of all layers
+abbrev pub named_strokes : Named → List (Bool × List Point)
+named_strokes ls = joined (map (λ l. features_strokes l.1.features) ls)

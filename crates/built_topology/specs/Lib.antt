@@ -1,0 +1,6 @@
+pub mod Built
+pub mod Expected
+pub mod Laws
+pub mod Layers
+pub mod Objects
+pub mod Trimming

@@ -7,8 +7,9 @@ use Rattle.geojson_types.specs.Points.{Point}
 use Rattle.geojson_types.specs.Pruning.{area_by, prune, strokes, option_strokes}
 use Rattle.geojson_types.proofs.Cases.{prune-point, prune-points, prune-line, prune-lines, prune-area, prune-areas, prune-group, strokes-point, strokes-points, strokes-line, strokes-lines, strokes-area, strokes-areas, strokes-group}
 use Rattle.topo_types.specs.Topologies.{TopoShape}
-use Rattle.topo_model.specs.Entries.{Kept, Entries, entries_of, TakesNext, TakesSome, Replaces}
-use Rattle.topo_model.proofs.Taking.{taken, tagged, lines_replaced, SoFar, ends}
+use Rattle.built_topology.specs.Objects.{Kept}
+use Rattle.topo_model.specs.Entries.{Entries, entries_of, unless_short, Replaces}
+use Rattle.topo_model.proofs.Taking.{Taken, tagged, SoFar, ends}
 
 -- the shape with its lines and rings replaced
 abbrev pub Shaped : Shape → Entries → Option TopoShape → Entries → Type 0
@@ -28,11 +29,11 @@ again : {Y : Type 0} (s : Shape) (ls : List (Bool × List Point)) (made : Kept �
     → ((kept : Kept) → pruned kept s ≡ finish (made kept)) → Replaces ls made entries y rest → Shaped s entries (finish y) rest
 again s ls made finish entries rest y e same r kept tail h =
     let k = r kept tail (h ∙ ap (λ zs. entries_of kept zs ++ tail) e) in
-    (ap finish k.0 ∙ sym (same kept), k.1)
+    (ap finish k.0 ∙ sym (same (unless_short kept)), k.1)
 
 pub at_point : (s : Shape) (p q : Point) (entries : Entries) → s ≡ g.Point p → q ≡ p → Shaped s entries (Some (g.Point q)) entries
 at_point s p q entries e is kept tail h =
-    (ap (λ z. Some (g.Point z)) is ∙ sym (ap (pruned kept) e ∙ prune-point (λ p. p) kept p), h ∙ ap (λ zs. entries_of kept zs ++ tail) (ap strokes e ∙ strokes-point Point (List Point) p))
+    (ap (λ z. Some (g.Point z)) is ∙ sym (ap (pruned (unless_short kept)) e ∙ prune-point (λ p. p) (unless_short kept) p), h ∙ ap (λ zs. entries_of kept zs ++ tail) (ap strokes e ∙ strokes-point Point (List Point) p))
 
 map_same : (ps : List Point) → map (λ p. p) ps ≡ ps
 map_same [] = refl
@@ -40,19 +41,20 @@ map_same (p ∷ ps) = ap (λ qs. p ∷ qs) (map_same ps)
 
 pub at_points : (s : Shape) (ps qs : List Point) (entries : Entries) → s ≡ g.MultiPoint ps → qs ≡ ps → Shaped s entries (Some (g.MultiPoint qs)) entries
 at_points s ps qs entries e is kept tail h =
-    (ap (λ z. Some (g.MultiPoint z)) (is ∙ sym (map_same ps)) ∙ sym (ap (pruned kept) e ∙ prune-points (λ p. p) kept ps), h ∙ ap (λ zs. entries_of kept zs ++ tail) (ap strokes e ∙ strokes-points Point (List Point) ps))
+    (ap (λ z. Some (g.MultiPoint z)) (is ∙ sym (map_same ps)) ∙ sym (ap (pruned (unless_short kept)) e ∙ prune-points (λ p. p) (unless_short kept) ps), h ∙ ap (λ zs. entries_of kept zs ++ tail) (ap strokes e ∙ strokes-points Point (List Point) ps))
 
-pub at_line : (s : Shape) (l : List Point) (entries rest : Entries) (o : Option (List ℤ)) (out : Out) → s ≡ g.Line l → TakesNext entries o rest → out ≡ map_some g.Line o → Shaped s entries out rest
-at_line s l entries rest o out e next m kept tail h =
-    let k = taken entries o rest next (kept false l) tail (h ∙ ap (λ zs. entries_of kept zs ++ tail) (ap strokes e ∙ strokes-line Point (List Point) l)) in
-    (m ∙ ap (map_some g.Line) k.0 ∙ sym (ap (pruned kept) e ∙ prune-line (λ p. p) kept l), k.1)
+pub at_line : (s : Shape) (l : List Point) (entries rest : Entries) (o : Option (List ℤ)) (out : Out) → s ≡ g.Line l → Taken false l entries o rest → out ≡ map_some g.Line o → Shaped s entries out rest
+at_line s l entries rest o out e r is =
+    given s entries rest (map_some g.Line o) out is
+    (again s ((false, l) ∷ []) (λ kept. kept false l) (map_some g.Line) entries rest o (ap strokes e ∙ strokes-line Point (List Point) l)
+    (λ kept. ap (pruned kept) e ∙ prune-line (λ p. p) kept l) r)
 
-pub at_lines : (s : Shape) (ls : List (List Point)) (many : ℕ) (entries rest : Entries) (got : List (List ℤ)) (out : Out) → s ≡ g.Lines ls → many ≡ length ls → TakesSome [] many entries got rest
-    → out ≡ unless_empty g.Lines got → Shaped s entries out rest
-at_lines s ls many entries rest got out e m some is =
+pub at_lines : (s : Shape) (ls : List (List Point)) (entries rest : Entries) (got : List (List ℤ)) (out : Out) → s ≡ g.Lines ls
+    → Replaces (map (λ l. (false, l)) ls) (λ kept. some_of (kept false) ls) entries got rest → out ≡ unless_empty g.Lines got → Shaped s entries out rest
+at_lines s ls entries rest got out e r is =
     given s entries rest (unless_empty g.Lines got) out is
     (again s (tagged false ls) (λ kept. some_of (kept false) ls) (unless_empty g.Lines) entries rest got (ap strokes e ∙ strokes-lines Point (List Point) ls)
-    (λ kept. ap (pruned kept) e ∙ prune-lines (λ p. p) kept ls) (lines_replaced [] false ls entries rest got (rw (sym m) some)))
+    (λ kept. ap (pruned kept) e ∙ prune-lines (λ p. p) kept ls) r)
 
 pub at_area : (s : Shape) (rs : List (List Point)) (entries rest : Entries) (got : Option (List (List ℤ))) (out : Out) → s ≡ g.Area rs
     → Replaces (map (λ l. (true, l)) rs) (λ kept. area_by (kept true) rs) entries got rest → out ≡ map_some g.Area got → Shaped s entries out rest

@@ -1,11 +1,15 @@
 -- Entries that are taken one after another.
-use Rattle.std.proofs.Common.{◌≡◌, ℕ, zero, suc, ◌+◌, ◌-◌, ◌<◌, ◌≤◌, ℤ, Bool, true, false, ◌==◌, List, [], ◌∷◌, ◌++◌, map, length, take, get_or, Option, None, Some, refl, sym, ap, ◌∙◌, arith, append-nil, append_assoc}
+use Rattle.std.proofs.Common.{◌≡◌, ℕ, ◌+◌, ◌<◌, ◌≤◌, ℤ, Bool, true, false, not, ◌==◌, List, [], ◌∷◌, ◌++◌, map, length, take, get_or, Option, None, Some, refl, sym, ap, ◌∙◌, arith, append-nil, append_assoc, if◌then◌else◌}
+use Rattle.std.specs.List.{filter}
 use Rattle.std.proofs.lemmas.Bool.Decides.{nat_tests}
 use Rattle.std.proofs.lemmas.List.{take_more, take_all, map-append}
+use Rattle.std.proofs.lemmas.List.Elements.{filter-append}
 use Rattle.geojson_types.specs.Lists.{map_some, with_some, some_of, joined}
 use Rattle.geojson_types.specs.Points.{Point}
 use Rattle.geojson_types.specs.Pruning.{area_by}
-use Rattle.topo_model.specs.Entries.{Kept, Entries, entries_of, TakesNext, TakesSome, Replaces}
+use Rattle.linework.specs.Cleaning.{clean, is_short}
+use Rattle.built_topology.specs.Objects.{Kept}
+use Rattle.topo_model.specs.Entries.{Entries, is_long, entries_of, unless_short, Replaces}
 
 -- ---- lists
 
@@ -17,7 +21,7 @@ abbrev behind : {A : Type 0} → List A → List A
 behind [] = []
 behind (x ∷ xs) = xs
 
-pub some_append : {A B : Type 0} (f : A → Option B) (xs ys : List A) → some_of f (xs ++ ys) ≡ some_of f xs ++ some_of f ys
+some_append : {A B : Type 0} (f : A → Option B) (xs ys : List A) → some_of f (xs ++ ys) ≡ some_of f xs ++ some_of f ys
 some_append f [] ys = refl
 some_append f (x ∷ xs) ys = ap (with_some (f x)) (some_append f xs ys) ∙ on (f x) (some_of f xs) (some_of f ys)
   where
@@ -29,98 +33,70 @@ joined_append : {A : Type 0} (xs ys : List (List A)) → joined (xs ++ ys) ≡ j
 joined_append [] ys = refl
 joined_append (x ∷ xs) ys = ap (λ zs. x ++ zs) (joined_append xs ys) ∙ sym (append_assoc x (joined xs) (joined ys))
 
--- all but the last, and the last
-record Ends (A : Type 0) (xs : List A) (n : ℕ) : Type 0 where
-  front : List A
-  end : A
-  whole : xs ≡ front ++ end ∷ []
-  many : length front ≡ n
-
-split_end : {A : Type 0} (n : ℕ) (xs : List A) → length xs ≡ n + 1 → Ends A xs n
-split_end n [] h = absurd (omega (arith, h))
-split_end zero (x ∷ []) h = record { front = []; end = x; whole = refl; many = refl }
-split_end zero (x ∷ y ∷ xs) h = absurd (omega (arith, h))
-split_end (suc n) (x ∷ xs) h = let e = split_end n xs (omega (arith, h)) in record { front = x ∷ e.front; end = e.end; whole = ap (λ zs. x ∷ zs) e.whole; many = ap suc e.many }
-
-pub not_empty : (b : Bool) (n : ℕ) → b ≡ (n == 0) → b ≡ false → 0 < n
-not_empty b n e h = grind (arith, nat_tests)
-
 pub is_empty : (b : Bool) (n m : ℕ) → b ≡ (n == 0) → n ≡ m → b ≡ true → m ≡ 0
 is_empty b n m e k h = grind (arith, nat_tests)
 
 pub not_zero : (b : Bool) (n m : ℕ) → b ≡ (n == 0) → n ≡ m → b ≡ false → m ≡ 0 → ⊥
 not_zero b n m e k h z = grind (arith, nat_tests)
 
--- ---- one entry and so many
+-- ---- one line
 
-pub taken : (entries : Entries) (o : Option (List ℤ)) (rest : Entries) → TakesNext entries o rest → (e : Option (List ℤ)) (tail : Entries) → entries ≡ e ∷ tail → (o ≡ e) × (rest ≡ tail)
-taken [] o rest h e tail is = absurd cc
-taken (x ∷ xs) o rest h e tail is = (h.0 ∙ ap (first_or x) is, h.1 ∙ ap behind is)
+abbrev Line : Type 0
+Line = Bool × List Point
 
-pub none_taken : (before : List (List ℤ)) (entries : Entries) → TakesSome before 0 entries before entries
-none_taken before entries [] tail h many = (sym (append-nil before), h)
-none_taken before entries (x ∷ xs) tail h many = absurd (omega (arith, many))
+-- what is made of it
+abbrev pub Taken : Bool → List Point → Entries → Option (List ℤ) → Entries → Type 0
+Taken closed ps entries o rest = Replaces ((closed, ps) ∷ []) (λ kept. kept closed ps) entries o rest
 
-pub one_taken : (before : List (List ℤ)) (i : ℕ) (entries rest after : Entries) (kept new : List (List ℤ)) (o : Option (List ℤ)) → TakesSome before i entries kept rest → TakesNext rest o after
-    → new ≡ kept ++ with_some o [] → TakesSome before (i + 1) entries new after
-one_taken before i entries rest after kept new o some next e front tail h many =
-    let ends = split_end i front many in
-    let before_it = some ends.front (ends.end ∷ tail) (h ∙ ap (λ zs. zs ++ tail) ends.whole ∙ append_assoc ends.front (ends.end ∷ []) tail) ends.many in
-    let it = taken rest o after next ends.end tail before_it.1 in (
-      e ∙ ap (λ zs. zs ++ with_some o []) before_it.0 ∙ append_assoc before (some_of (λ e. e) ends.front) (with_some o [])
-          ∙ ap (λ z. before ++ (some_of (λ e. e) ends.front ++ with_some z [])) it.0
-          ∙ ap (λ zs. before ++ zs) (sym (ap (some_of (λ e. e)) ends.whole ∙ some_append (λ e. e) ends.front (ends.end ∷ []))),
-      it.1,
-    )
+pub short_taken : (closed : Bool) (ps : List Point) (entries : Entries) → is_short closed (clean ps) ≡ true → Taken closed ps entries None entries
+short_taken closed ps entries short kept tail h =
+    (sym (ap (λ b. if b then None else kept closed ps) short), h ∙ ap (λ b. (map (λ (l : Line). kept l.0 l.1) (if not b then (closed, ps) ∷ [] else [])) ++ tail) short)
 
--- ---- lines, rings and polygons
+pub long_taken : (closed : Bool) (ps : List Point) (e : Option (List ℤ)) (entries rest : Entries) → is_short closed (clean ps) ≡ false → entries ≡ e ∷ rest → Taken closed ps entries e rest
+long_taken closed ps e entries rest long is kept tail h =
+    let k : e ∷ rest ≡ kept closed ps ∷ tail = sym is ∙ h ∙ ap (λ b. (map (λ (l : Line). kept l.0 l.1) (if not b then (closed, ps) ∷ [] else [])) ++ tail) long in
+    (ap (first_or e) k ∙ sym (ap (λ b. if b then None else kept closed ps) long), ap behind k)
 
-abbrev pub tagged : Bool → List (List Point) → List (Bool × List Point)
+pub none_taken : (closed : Bool) (ps : List Point) (entries : Entries) → is_short closed (clean ps) ≡ false → entries ≡ [] → Taken closed ps entries None entries
+none_taken closed ps entries long is kept tail h =
+    let k : [] ≡ kept closed ps ∷ tail = sym is ∙ h ∙ ap (λ b. (map (λ (l : Line). kept l.0 l.1) (if not b then (closed, ps) ∷ [] else [])) ++ tail) long in absurd cc
+
+-- ---- lines and polygons
+
+pub entries_append : (kept : Kept) (ls ks : List Line) (tail : Entries) → entries_of kept (ls ++ ks) ++ tail ≡ entries_of kept ls ++ (entries_of kept ks ++ tail)
+entries_append kept ls ks tail =
+    ap (λ (bs : List Line). map (λ b. kept b.0 b.1) bs ++ tail) (filter-append is_long ls ks)
+    ∙ ap (λ zs. zs ++ tail) (map-append (λ (b : Line). kept b.0 b.1) (filter is_long ls) (filter is_long ks))
+    ∙ append_assoc (entries_of kept ls) (entries_of kept ks) tail
+
+abbrev pub tagged : Bool → List (List Point) → List Line
 tagged closed ls = map (λ l. (closed, l)) ls
 
-pub entries_many : (kept : Kept) (closed : Bool) (ls : List (List Point)) → length (entries_of kept (tagged closed ls)) ≡ length ls
-entries_many kept closed [] = refl
-entries_many kept closed (l ∷ ls) = ap suc (entries_many kept closed ls)
+-- each line in a list of its own
+abbrev pub alone : Bool → List Point → List Line
+alone closed l = (closed, l) ∷ []
 
-pub entries_some : (kept : Kept) (closed : Bool) (ls : List (List Point)) → some_of (λ e. e) (entries_of kept (tagged closed ls)) ≡ some_of (kept closed) ls
-entries_some kept closed [] = refl
-entries_some kept closed (l ∷ ls) = ap (with_some (kept closed l)) (entries_some kept closed ls)
+pub each_alone : (closed : Bool) (ls : List (List Point)) → joined (map (alone closed) ls) ≡ tagged closed ls
+each_alone closed [] = refl
+each_alone closed (l ∷ ls) = ap (λ zs. (closed, l) ∷ zs) (each_alone closed ls)
 
-pub lines_replaced : (before : List (List ℤ)) (closed : Bool) (ls : List (List Point)) (entries rest : Entries) (got : List (List ℤ)) → TakesSome before (length ls) entries got rest
-    → Replaces (tagged closed ls) (λ kept. before ++ some_of (kept closed) ls) entries got rest
-lines_replaced before closed ls entries rest got some kept tail h =
-    let r = some (entries_of kept (tagged closed ls)) tail h (entries_many kept closed ls) in
-    (r.0 ∙ ap (λ zs. before ++ zs) (entries_some kept closed ls), r.1)
+abbrev Area : List (List Point) → Entries → Option (List (List ℤ)) → Entries → Type 0
+Area rs entries got rest = Replaces (tagged true rs) (λ kept. area_by (kept true) rs) entries got rest
+
+pub no_rings : (rs : List (List Point)) (entries : Entries) → rs ≡ [] → Area rs entries None entries
+no_rings rs entries is kept tail h = rw is (refl, h ∙ ap (λ zs. entries_of kept (tagged true zs) ++ tail) is)
 
 -- what is made of a polygon, whose outer ring comes first
 abbrev area_of : Option (List ℤ) → List (List ℤ) → Option (List (List ℤ))
 area_of outer holes = map_some (λ o. o ∷ holes) outer
 
-abbrev Area : List (List Point) → Entries → Option (List (List ℤ)) → Entries → Type 0
-Area rs entries got rest = Replaces (tagged true rs) (λ kept. area_by (kept true) rs) entries got rest
-
-pub no_rings : (rs : List (List Point)) (entries : Entries) → length rs ≡ 0 → Area rs entries None entries
-no_rings [] entries h kept tail is = (refl, is)
-no_rings (r ∷ rs) entries h kept tail is = absurd (omega (arith, h))
-
-pub without_outer : (rs : List (List Point)) (entries mid rest : Entries) (before got : List (List ℤ)) (many : ℕ) → many ≡ length rs - 1 → 0 < length rs → TakesNext entries None mid
-    → TakesSome before many mid got rest → Area rs entries None rest
-without_outer [] entries mid rest before got many e lt next some kept tail is = absurd (omega (arith, lt))
-without_outer (r ∷ rs) entries mid rest before got many e lt next some kept tail is =
-    let o = taken entries None mid next (kept true r) (entries_of kept (tagged true rs) ++ tail) is in
-    let p = some (entries_of kept (tagged true rs)) tail o.1 (entries_many kept true rs ∙ sym (e ∙ omega arith)) in
-    (ap (λ z. area_of z (some_of (kept true) rs)) o.0, p.1)
-
-pub with_outer : (rs : List (List Point)) (entries mid rest : Entries) (outer : List ℤ) (before got : List (List ℤ)) (many : ℕ) → many ≡ length rs - 1 → 0 < length rs
-    → TakesNext entries (Some outer) mid → before ≡ outer ∷ [] → TakesSome before many mid got rest → Area rs entries (Some got) rest
-with_outer [] entries mid rest outer before got many e lt next b some kept tail is = absurd (omega (arith, lt))
-with_outer (r ∷ rs) entries mid rest outer before got many e lt next b some kept tail is =
-    let o = taken entries (Some outer) mid next (kept true r) (entries_of kept (tagged true rs) ++ tail) is in
-    let p = some (entries_of kept (tagged true rs)) tail o.1 (entries_many kept true rs ∙ sym (e ∙ omega arith)) in (
-      ap (λ z. Some z) (p.0 ∙ ap (λ z. z ++ some_of (λ e. e) (entries_of kept (tagged true rs))) b ∙ ap (λ zs. outer ∷ zs) (entries_some kept true rs))
-          ∙ ap (λ z. area_of z (some_of (kept true) rs)) o.0,
-      p.1,
-    )
+pub rings_taken : (rs : List (List Point)) (outer : List Point) (holes : List (List Point)) (entries mid rest : Entries) (o : Option (List ℤ)) (got : List (List ℤ)) (out : Option (List (List ℤ)))
+    → rs ≡ outer ∷ holes → Taken true outer entries o mid → Replaces (tagged true holes) (λ kept. some_of (kept true) holes) mid got rest → out ≡ map_some (λ o. o ∷ got) o → Area rs entries out rest
+rings_taken rs outer holes entries mid rest o got out is first more e kept tail h =
+    let a = first kept (entries_of kept (tagged true holes) ++ tail)
+    (h ∙ ap (λ zs. entries_of kept (tagged true zs) ++ tail) is ∙ entries_append kept (alone true outer) (tagged true holes) tail) in
+    let b = more kept tail a.1 in
+    (e ∙ ap (area_of o) b.0 ∙ ap (λ z. area_of z (some_of (unless_short kept true) holes)) a.0 ∙ sym (ap (area_by (unless_short kept true)) is), b.1)
 
 -- ---- a loop over parts, each with lines of its own
 
@@ -146,12 +122,11 @@ module _ {X Y : Type 0} (lines_of : X → List (Bool × List Point)) (made : Kep
       → SoFar xs i entries got rest → Replaces (lines_of x) (λ kept. made kept x) rest o after → new ≡ got ++ with_some o [] → SoFar xs (i + 1) entries new after
   turn xs i entries rest after got new x o lt is so_far here e kept tail h =
       let all = joined (map lines_of (take i xs)) in
-      let apart = ap (λ ls. entries_of kept ls ++ tail) (lines_more xs i x lt is) ∙ ap (λ zs. zs ++ tail) (map-append (λ (l : Bool × List Point). kept l.0 l.1) all (lines_of x))
-      ∙ append_assoc (entries_of kept all) (entries_of kept (lines_of x)) tail in
+      let apart = ap (λ ls. entries_of kept ls ++ tail) (lines_more xs i x lt is) ∙ entries_append kept all (lines_of x) tail in
       let before = so_far kept (entries_of kept (lines_of x) ++ tail) (h ∙ apart) in
       let now = here kept tail before.1 in (
-        e ∙ ap (λ zs. zs ++ with_some o []) before.0 ∙ ap (λ z. some_of (made kept) (take i xs) ++ with_some z []) now.0
-            ∙ sym (ap (some_of (made kept)) (one_more xs i x lt is) ∙ some_append (made kept) (take i xs) (x ∷ [])),
+        e ∙ ap (λ zs. zs ++ with_some o []) before.0 ∙ ap (λ z. some_of (made (unless_short kept)) (take i xs) ++ with_some z []) now.0
+            ∙ sym (ap (some_of (made (unless_short kept))) (one_more xs i x lt is) ∙ some_append (made (unless_short kept)) (take i xs) (x ∷ [])),
         now.1,
       )
 
@@ -160,7 +135,7 @@ module _ {X Y : Type 0} (lines_of : X → List (Bool × List Point)) (made : Kep
   ends xs i entries got rest le so_far kept tail h =
       let all = take_all i xs le in
       let r = so_far kept tail (h ∙ ap (λ ts. entries_of kept (joined (map lines_of ts)) ++ tail) (sym all)) in
-      (r.0 ∙ ap (some_of (made kept)) all, r.1)
+      (r.0 ∙ ap (some_of (made (unless_short kept))) all, r.1)
 
 -- ---- a loop over parts of which each gives one thing
 
@@ -178,8 +153,13 @@ module _ {X Y : Type 0} (lines_of : X → List (Bool × List Point)) (made : Kep
       let all = joined (map lines_of xs) in
       let lines : joined (map lines_of (xs ++ x ∷ [])) ≡ all ++ lines_of x =
       ap joined (map-append lines_of xs (x ∷ [])) ∙ joined_append (map lines_of xs) (lines_of x ∷ []) ∙ ap (λ zs. all ++ zs) (append-nil (lines_of x)) in
-      let apart = ap (λ ls. entries_of kept ls ++ tail) lines ∙ ap (λ zs. zs ++ tail) (map-append (λ (l : Bool × List Point). kept l.0 l.1) all (lines_of x))
-      ∙ append_assoc (entries_of kept all) (entries_of kept (lines_of x)) tail in
+      let apart = ap (λ ls. entries_of kept ls ++ tail) lines ∙ entries_append kept all (lines_of x) tail in
       let before = so_far kept (entries_of kept (lines_of x) ++ tail) (h ∙ apart) in
       let now = here kept tail before.1 in
-      (e ∙ ap (λ zs. zs ++ o ∷ []) before.0 ∙ ap (λ z. map (made kept) xs ++ z ∷ []) now.0 ∙ sym (map-append (made kept) xs (x ∷ [])), now.1)
+      (e ∙ ap (λ zs. zs ++ o ∷ []) before.0 ∙ ap (λ z. map (made (unless_short kept)) xs ++ z ∷ []) now.0 ∙ sym (map-append (made (unless_short kept)) xs (x ∷ [])), now.1)
+
+-- the lines of a list, each in a list of its own
+pub lines_end : (closed : Bool) (ls : List (List Point)) (i : ℕ) (entries : Entries) (got : List (List ℤ)) (rest : Entries) → length ls ≤ i → SoFar (alone closed) (λ kept. kept closed) ls i entries got rest
+    → Replaces (tagged closed ls) (λ kept. some_of (kept closed) ls) entries got rest
+lines_end closed ls i entries got rest le so_far =
+    rw (sym (each_alone closed ls)) (ends (alone closed) (λ kept. kept closed) ls i entries got rest le so_far)

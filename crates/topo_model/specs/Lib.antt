@@ -1,6 +1,4 @@
-pub mod Assembled
+pub mod Drops
 pub mod Entries
-pub mod Laws
-pub mod Layers
-pub mod Objects
-pub mod Repeats
+pub mod Marks
+pub mod Uses

@@ -1,21 +1,30 @@
 // The objects of a topology, made of layers, and the topology.
-ghost use Rattle.std.specs.Prelude.{◌≡◌, ◌<◌, ◌^◌, ◌++◌, IfOk, false, map};
+ghost use Rattle.std.specs.Prelude.{◌≡◌, ◌<◌, ◌^◌, IfOk, length, map};
+ghost use Rattle.arc_table.specs.Arcs.{table_of};
+ghost use Rattle.built_topology.specs.Built.{built};
+ghost use Rattle.built_topology.specs.Expected.{expected_dropped};
+ghost use Rattle.built_topology.specs.Laws.{AreSound};
+ghost use Rattle.built_topology.specs.Layers.{features_strokes, layers_of, named_strokes, names_of};
+ghost use Rattle.built_topology.specs.Objects.{Kept, feature_by, features_by, objects_by};
+ghost use Rattle.cutter.specs.Slices.{split_of};
 ghost use Rattle.geojson_types.specs.Pruning.{option_strokes};
+ghost use Rattle.linework.specs.Linework.{linework};
 ghost use Rattle.topo_types.specs.Validity.{AreDistinct};
-ghost use Rattle.topo_model.specs.Assembled.{assembled, lines_of};
-ghost use Rattle.topo_model.specs.Entries.{Kept, Replaces, entries_of, numbers};
-ghost use Rattle.topo_model.specs.Laws.{AreSound, names_of};
-ghost use Rattle.topo_model.specs.Layers.{features_strokes, named_strokes};
-ghost use Rattle.topo_model.specs.Objects.{feature_by, features_by, objects_by};
-ghost use Rattle.topo_model.specs.Repeats.{any_repeats};
+ghost use Rattle.topo_model.specs.Entries.{Replaces, entries_of, unless_short};
 
+use crate::dropping::dropped_lines;
 use crate::entries::Entry;
+use crate::marking::used_arcs;
 use crate::shapes::replaced_option;
+use crate::trimming::{entries_of_table, kept_arcs, renumbered_entries};
+use arc_table::Table;
+use built_topology::{built_is_valid, zero_loses_nothing};
 use byte_ends::Memory;
-use geojson_types::{Feature, Layer};
+use effective_area::zero_law;
+use geojson_types::{Dropped, Feature, Layer};
 use json_value::{Items, OwnText};
 use std::alloc::Global;
-use topo_types::{ArcRef, Cell, TopoFeature, TopoObject, Topology};
+use topo_types::{TopoFeature, TopoObject, Topology};
 
 /// The feature with its lines replaced by the next entries, and the entries behind them. Identifier and properties are moved.
 fn object_feature<'a>(
@@ -72,46 +81,41 @@ fn named_objects<'a>(
 }
 
 /// The objects of named layers, a collection each, with each line and ring replaced by its entry. The entries stand for the lines
-/// and rings of all layers in reading order.
-pub fn assemble_objects(
+/// and rings of all layers that have enough positions, in reading order.
+fn assemble_objects(
     alloc: Global,
     layers: Vec<(OwnText, Layer)>,
     entries: &[Entry],
 ) -> Result<Vec<(OwnText, TopoObject)>, Memory>
-    ensures { IfOk result (λ os. (kept : Kept) → entries.now ≡ entries_of kept (named_strokes layers.items) → os.items ≡ objects_by kept layers.items) }
+    ensures { IfOk result (λ os. (kept : Kept) → entries.now ≡ entries_of kept (named_strokes layers.items) → os.items ≡ objects_by (unless_short kept) layers.items) }
 {
     let (objects, _rest) = named_objects(alloc, layers, entries)?;
     Ok(objects)
 }
 
-/// The entries of so many lines, of which each is an arc of its own.
-fn own_entries(alloc: Global, count: usize) -> Result<Vec<Entry>, Memory>
-    requires { count < 2 ^ 63 }
-    ensures { IfOk result (λ entries. entries.items ≡ numbers 0 count) }
-{
-    let mut entries = Vec::with_capacity(alloc, count)?;
-    'lines: for index in 0..count {
-        let mut refs = Vec::with_capacity(alloc, 1)?;
-        refs.push(ArcRef::forward(index))?;
-        entries.push(Some(Items::of(refs)))?;
-    }
-    Ok(entries)
-}
-
-/// The topology of named layers in which each line and ring is an arc of its own, where no position stands twice among these. The
-/// lines are those of the layers in reading order.
+/// The topology of named layers over the arcs of their lines, without those that no kept line uses, and the lines and rings that
+/// are dropped, in reading order. Nothing is reduced.
 pub fn assemble(
     alloc: Global,
     layers: Vec<(OwnText, Layer)>,
-    lines: Vec<Items<Cell>>,
-) -> Result<Topology, Memory>
-    requires lines { lines.items ≡ lines_of layers.items }
-    requires apart { any_repeats lines.items ≡ false }
+    table: &Table,
+) -> Result<(Topology, Vec<Dropped>), Memory>
+    requires table { table.now ≡ table_of (map (split_of (linework (layers_of layers.items))) (linework (layers_of layers.items))) }
     requires sound { AreSound layers.items }
     requires names { AreDistinct (names_of layers.items) }
-    ensures { IfOk result (λ t. t ≡ assembled layers.items) }
+    ensures topology { IfOk result (λ r. r.0 ≡ built 0 layers.items) }
+    ensures dropped { IfOk result (λ r. r.1.items ≡ expected_dropped 0 layers.items) }
+    ensures few { IfOk result (λ r. length r.0.arcs < 2 ^ 63) }
 {
-    let entries = own_entries(alloc, lines.len())?;
+    zero_law();
+    zero_loses_nothing();
+    built_is_valid();
+    let whole = entries_of_table(alloc, table)?;
+    let used = used_arcs(alloc, &layers, &whole, table.len())?;
+    let dropped = dropped_lines(alloc, &layers)?;
+    let entries = renumbered_entries(alloc, table, &used)?;
+    let arcs = kept_arcs(alloc, table, &used)?;
     let objects = assemble_objects(alloc, layers, &entries)?;
-    Ok(Topology::of(Items::of(objects), Items::of(lines)))
+    let topology = Topology::of(Items::of(objects), Items::of(arcs));
+    Ok((topology, dropped))
 }

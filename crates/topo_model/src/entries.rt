@@ -1,8 +1,11 @@
-// Entries: what stands for each line and ring of the layers in reading order, if it is kept.
-ghost use Rattle.std.specs.Prelude.{◌≡◌, IfOk};
-ghost use Rattle.topo_model.specs.Entries.{TakesNext, TakesSome};
+// Entries: what stands for each line and ring of the linework in reading order, if it is kept.
+ghost use Rattle.std.specs.Prelude.{◌≡◌, ◌∷◌, [], IfOk, false, map, true};
+ghost use Rattle.geojson_types.specs.Lists.{some_of};
+ghost use Rattle.topo_model.specs.Entries.{Replaces};
 
+use crate::lines::is_short_line;
 use byte_ends::Memory;
+use geojson_types::{Position, Ring};
 use json_value::Items;
 use std::alloc::Global;
 use topo_types::ArcRef;
@@ -11,7 +14,7 @@ use topo_types::ArcRef;
 pub type Entry = Option<Items<ArcRef>>;
 
 /// The same arc indexes once more.
-fn copied(alloc: Global, refs: &[ArcRef]) -> Result<Items<ArcRef>, Memory>
+pub fn copied(alloc: Global, refs: &[ArcRef]) -> Result<Items<ArcRef>, Memory>
     ensures { IfOk result (λ copy. copy ≡ refs.now) }
 {
     let mut copy = Vec::with_capacity(alloc, refs.len())?;
@@ -19,10 +22,19 @@ fn copied(alloc: Global, refs: &[ArcRef]) -> Result<Items<ArcRef>, Memory>
     Ok(Items::of(copy))
 }
 
-/// The first entry and those behind it. There is none in an empty slice, which stays.
-pub fn next_entry(alloc: Global, entries: &[Entry]) -> Result<(Entry, &[Entry]), Memory>
-    ensures { IfOk result (λ r. TakesNext entries.now r.0 r.1.now) }
+/// What stands for an open line or a ring, and the entries behind it: the first one, unless it has too few positions and so
+/// takes none. Where no entry is left it has none.
+pub fn next_entry<'a>(
+    alloc: Global,
+    closed: bool,
+    positions: &[Position],
+    entries: &'a [Entry],
+) -> Result<(Entry, &'a [Entry]), Memory>
+    ensures { IfOk result (λ r. Replaces ((closed, positions.now) ∷ []) (λ kept. kept closed positions.now) entries.now r.0 r.1.now) }
 {
+    if is_short_line(closed, positions) {
+        return Ok((None, entries));
+    }
     let Some((entry, rest)) = entries.split_first() else {
         return Ok((None, entries));
     };
@@ -32,19 +44,39 @@ pub fn next_entry(alloc: Global, entries: &[Entry]) -> Result<(Entry, &[Entry]),
     }
 }
 
-/// What is kept of so many entries, behind what was kept before, and the entries behind them.
-pub fn next_entries(
+/// What is kept of open lines, and the entries behind them.
+pub fn next_lines<'a>(
     alloc: Global,
-    before: Vec<Items<ArcRef>>,
-    count: usize,
-    entries: &[Entry],
-) -> Result<(Vec<Items<ArcRef>>, &[Entry]), Memory>
-    ensures { IfOk result (λ r. TakesSome before.items count entries.now r.0.items r.1.now) }
+    lines: &[Items<Position>],
+    entries: &'a [Entry],
+) -> Result<(Vec<Items<ArcRef>>, &'a [Entry]), Memory>
+    ensures { IfOk result (λ r. Replaces (map (λ l. (false, l)) lines.now) (λ kept. some_of (kept false) lines.now) entries.now r.0.items r.1.now) }
 {
-    let mut kept = before;
+    let mut kept = Vec::new(alloc);
     let mut rest = entries;
-    'lines: for _line in 0..count {
-        let (entry, after) = next_entry(alloc, rest)?;
+    'lines: for line in lines {
+        let (entry, after) = next_entry(alloc, false, line.as_slice(), rest)?;
+        rest = after;
+        let Some(refs) = entry else {
+            continue;
+        };
+        kept.push(refs)?;
+    }
+    Ok((kept, rest))
+}
+
+/// What is kept of rings, and the entries behind them.
+pub fn next_rings<'a>(
+    alloc: Global,
+    rings: &[Ring],
+    entries: &'a [Entry],
+) -> Result<(Vec<Items<ArcRef>>, &'a [Entry]), Memory>
+    ensures { IfOk result (λ r. Replaces (map (λ l. (true, l)) rings.now) (λ kept. some_of (kept true) rings.now) entries.now r.0.items r.1.now) }
+{
+    let mut kept = Vec::new(alloc);
+    let mut rest = entries;
+    'rings: for ring in rings {
+        let (entry, after) = next_entry(alloc, true, ring.as_slice(), rest)?;
         rest = after;
         let Some(refs) = entry else {
             continue;

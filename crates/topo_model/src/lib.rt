@@ -1,20 +1,15 @@
-//! From layers to topologies (TopoJSON 1.0): the lines of layers, and the topology in which each of them is replaced by arc
-//! indexes. It stands on `geojson_types` and `topo_types`. The layer above uses the contracts of `named_lines` and `assemble`,
-//! and the law that decoding gives the layers back.
+//! From layers and the table of their arcs to a topology (TopoJSON 1.0): each line and ring is replaced by its arc indexes, what
+//! has too few positions is dropped, and arcs that no line uses are left out. It stands on `built_topology`, which says what
+//! topology that is, and on `arc_table`. The layer above uses the contract of `assemble`.
 #![tactic(auto)]
 
 mod assembling;
+mod dropping;
 mod entries;
-mod laws;
 mod lines;
-mod positions;
+mod marking;
 mod shapes;
-#[cfg(test)]
-mod tests;
+mod trimming;
 
-pub use assembling::{assemble, assemble_objects};
-pub use entries::Entry;
-pub use laws::{assembled_decodes_back, assembled_is_valid};
-pub use lines::{layers_lines, named_lines};
-pub use positions::any_repeats;
+pub use assembling::assemble;
 pub use topo_types::{ArcRef, CELL_LIMIT, Cell, TopoFeature, TopoObject, TopoShape, Topology};

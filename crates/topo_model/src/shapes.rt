@@ -4,7 +4,7 @@ ghost use Rattle.geojson_types.specs.Lists.{joined, some_of, then_some};
 ghost use Rattle.geojson_types.specs.Pruning.{area_by, option_strokes, prune, strokes};
 ghost use Rattle.topo_model.specs.Entries.{Replaces};
 
-use crate::entries::{Entry, next_entries, next_entry};
+use crate::entries::{Entry, next_entry, next_lines, next_rings};
 use byte_ends::Memory;
 use geojson_types::{Geometry, Position, Ring, Shape};
 use json_value::Items;
@@ -12,7 +12,7 @@ use std::alloc::Global;
 use topo_types::{ArcRef, Cell, TopoShape};
 
 /// The cells of positions.
-fn cells(alloc: Global, positions: &[Position]) -> Result<Items<Cell>, Memory>
+pub fn cells(alloc: Global, positions: &[Position]) -> Result<Items<Cell>, Memory>
     ensures { IfOk result (λ cs. cs ≡ positions.now) }
 {
     let mut read = Vec::with_capacity(alloc, positions.len())?;
@@ -30,17 +30,15 @@ fn area<'a>(
 ) -> Result<(Option<Items<Items<ArcRef>>>, &'a [Entry]), Memory>
     ensures { IfOk result (λ r. Replaces (map (λ l. (true, l)) rings.now) (λ kept. area_by (kept true) rings.now) entries.now r.0 r.1.now) }
 {
-    if rings.is_empty() {
+    let Some((outer, holes)) = rings.split_first() else {
         return Ok((None, entries));
-    }
-    let (outer, entries) = next_entry(alloc, entries)?;
-    let mut kept = Vec::new(alloc);
-    let Some(outer) = outer else {
-        let (_holes, after) = next_entries(alloc, kept, rings.len() - 1, entries)?;
-        return Ok((None, after));
     };
-    kept.push(outer)?;
-    let (kept, rest) = next_entries(alloc, kept, rings.len() - 1, entries)?;
+    let (outer, entries) = next_entry(alloc, true, outer.as_slice(), entries)?;
+    let (mut kept, rest) = next_rings(alloc, holes, entries)?;
+    let Some(outer) = outer else {
+        return Ok((None, rest));
+    };
+    kept.insert(0, outer)?;
     Ok((Some(Items::of(kept)), rest))
 }
 
@@ -79,15 +77,15 @@ pub fn replaced<'a>(
             Some(Geometry::MultiPoint(cells(alloc, positions.as_slice())?)),
             entries,
         )),
-        Geometry::Line(_) => {
-            let (refs, rest) = next_entry(alloc, entries)?;
+        Geometry::Line(line) => {
+            let (refs, rest) = next_entry(alloc, false, line.as_slice(), entries)?;
             match refs {
                 None => Ok((None, rest)),
                 Some(refs) => Ok((Some(Geometry::Line(refs)), rest)),
             }
         }
         Geometry::Lines(lines) => {
-            let (kept, rest) = next_entries(alloc, Vec::new(alloc), lines.len(), entries)?;
+            let (kept, rest) = next_lines(alloc, lines.as_slice(), entries)?;
             if kept.is_empty() {
                 return Ok((None, rest));
             }

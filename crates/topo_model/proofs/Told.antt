@@ -1,0 +1,77 @@
+-- What is dropped, told part by part, feature by feature and layer by layer.
+use Rattle.std.proofs.Common.{◌≡◌, ℕ, suc, ◌+◌, ◌<◌, ◌≤◌, true, false, List, [], ◌∷◌, ◌++◌, map, drop, length, get_or, append_assoc, append-nil, refl, ap, sym, ◌∙◌, arith}
+use Rattle.std.proofs.lemmas.List.{at_drop_all, at_drop_more, map-append}
+use Rattle.geojson_types.specs.declared.address.Address.{Address}
+use Rattle.geojson_types.specs.declared.address.Cause.{Cause}
+use Rattle.geojson_types.specs.declared.address.Dropped.{Dropped}
+use Rattle.geojson_types.specs.declared.geometry.Geometry.{Geometry, fold-Geometry, fold-roll-Geometry}
+use Rattle.geojson_types.specs.declared.geometry.Geometry.TheOpen.{Geometry-F}
+use Rattle.geojson_types.specs.declared.geometry.Geometry.TheVariants as g
+use Rattle.geojson_types.specs.Features.{Featured}
+use Rattle.geojson_types.specs.Omissions.{here, area_omissions, omissions_step, omissions}
+use Rattle.geojson_types.specs.Paths.{Placed, inside_part, of_parts}
+use Rattle.geojson_types.specs.Points.{Point}
+use Rattle.geojson_types.proofs.Cases.{omissions-line, omissions-lines, omissions-area, omissions-areas, omissions-group}
+use Rattle.linework.specs.Gathering.{part_address}
+use Rattle.linework.specs.Linework.{feature_address}
+use Rattle.topo_model.specs.Drops.{short_cause, option_drops, dropped_at, layer_drops}
+
+abbrev tell : Geometry Point (List Point) (List Point) → List (Placed Cause)
+tell = fold-Geometry Point (List Point) (List Point) (List (Placed Cause)) (omissions_step short_cause)
+
+pub of_point : (p : Point) → omissions {P = Point} {L = List Point} short_cause (g.Point p) ≡ []
+unfolding omissions
+of_point p = ap tell (sym (g.rolls-Point p)) ∙ fold-roll-Geometry Point (List Point) (List Point) (List (Placed Cause)) (omissions_step short_cause) (Geometry-F.Point p)
+
+pub of_points : (ps : List Point) → omissions {P = Point} {L = List Point} short_cause (g.MultiPoint ps) ≡ []
+unfolding omissions
+of_points ps = ap tell (sym (g.rolls-MultiPoint ps)) ∙ fold-roll-Geometry Point (List Point) (List Point) (List (Placed Cause)) (omissions_step short_cause) (Geometry-F.MultiPoint ps)
+
+pub of_line : (l : List Point) → omissions {P = Point} {L = List Point} short_cause (g.Line l) ≡ here (short_cause false l)
+of_line = omissions-line Point (List Point) short_cause
+
+pub of_lines : (ls : List (List Point)) → omissions {P = Point} {L = List Point} short_cause (g.Lines ls) ≡ of_parts 0 (map (λ l. here (short_cause false l)) ls)
+of_lines = omissions-lines Point (List Point) short_cause
+
+pub of_area : (rs : List (List Point)) → omissions {P = Point} {L = List Point} short_cause (g.Area rs) ≡ area_omissions (short_cause true) rs
+of_area = omissions-area Point (List Point) short_cause
+
+pub of_areas : (areas : List (List (List Point))) → omissions {P = Point} {L = List Point} short_cause (g.Areas areas) ≡ of_parts 0 (map (area_omissions (short_cause true)) areas)
+of_areas = omissions-areas Point (List Point) short_cause
+
+pub of_group : (ss : List (Geometry Point (List Point) (List Point))) → omissions {P = Point} {L = List Point} short_cause (g.Group ss) ≡ of_parts 0 (map (omissions {P = Point} {L = List Point} short_cause) ss)
+of_group = omissions-group Point (List Point) short_cause
+
+-- one element more of a list whose elements are told one after the other
+told_more : {X : Type 0} (of : ℕ → X → List Dropped) (all : ℕ → List X → List Dropped) → ((i : ℕ) (x : X) (xs : List X) → all i (x ∷ xs) ≡ of i x ++ all (suc i) xs) →
+    (k i : ℕ) (now new whole : List Dropped) (xs : List X) (x : X) → i < length xs → x ≡ get_or xs i x →
+    now ++ all k (drop i xs) ≡ whole → new ≡ now ++ of k x → new ++ all (k + 1) (drop (i + 1) xs) ≡ whole
+told_more of all some k i now new whole xs x l g h e =
+    let n : k + 1 ≡ suc k = omega arith in
+    ap (λ k. new ++ all k (drop (i + 1) xs)) n ∙ ap (λ ds. ds ++ all (suc k) (drop (i + 1) xs)) e ∙ append_assoc now (of k x) (all (suc k) (drop (i + 1) xs))
+    ∙ ap (λ ds. now ++ ds) (sym (at_drop_more (all k) xs i x l ∙ ap (λ y. all k (y ∷ drop (i + 1) xs)) (sym g) ∙ some k x (drop (i + 1) xs))) ∙ h
+
+-- the end of such a list
+pub told_all : {X : Type 0} (all : List X → List Dropped) (i : ℕ) (now whole : List Dropped) (xs : List X) → all [] ≡ [] → length xs ≤ i → now ++ all (drop i xs) ≡ whole → now ≡ whole
+told_all all i now whole xs n l h = sym (append-nil now) ∙ ap (λ ds. now ++ ds) (sym (at_drop_all all xs i l ∙ n)) ∙ h
+
+inside_at : (a : Address) (i : ℕ) (os : List (Placed Cause)) → dropped_at a (inside_part i os) ≡ dropped_at (part_address a i) os
+inside_at a i [] = refl
+inside_at a i (o ∷ os) =
+    ap (λ p. record { address = record { layer = a.layer; feature = a.feature; path = p }; cause = o.part } ∷ dropped_at a (inside_part i os)) (sym (append_assoc a.path (i ∷ []) o.path))
+    ∙ ap (λ ds. record { address = record { layer = a.layer; feature = a.feature; path = (a.path ++ (i ∷ [])) ++ o.path }; cause = o.part } ∷ ds) (inside_at a i os)
+
+-- the first of the parts
+pub first_part : (a : Address) (k : ℕ) (os : List (Placed Cause)) (more : List (List (Placed Cause))) → dropped_at a (of_parts k (os ∷ more)) ≡ dropped_at (part_address a k) os ++ dropped_at a (of_parts (suc k) more)
+first_part a k os more = map-append (λ o. record { address = record { layer = a.layer; feature = a.feature; path = a.path ++ o.path }; cause = o.part }) (inside_part k os) (of_parts (suc k) more)
+    ∙ ap (λ ds. ds ++ dropped_at a (of_parts (suc k) more)) (inside_at a k os)
+
+-- one part more
+pub parts_more : {X : Type 0} (f : X → List (Placed Cause)) (a : Address) (k i : ℕ) (now new whole : List Dropped) (xs : List X) (x : X) → i < length xs → x ≡ get_or xs i x →
+    now ++ dropped_at a (of_parts k (map f (drop i xs))) ≡ whole → new ≡ now ++ dropped_at (part_address a k) (f x) → new ++ dropped_at a (of_parts (k + 1) (map f (drop (i + 1) xs))) ≡ whole
+parts_more f a = told_more (λ k x. dropped_at (part_address a k) (f x)) (λ k xs. dropped_at a (of_parts k (map f xs))) (λ k x xs. first_part a k (f x) (map f xs))
+
+-- one feature more
+pub features_more : (layer i : ℕ) (now new whole : List Dropped) (fs : List Featured) (f : Featured) → i < length fs → f ≡ get_or fs i f →
+    now ++ layer_drops layer i (drop i fs) ≡ whole → new ≡ now ++ dropped_at (feature_address layer i) (option_drops f.shape) → new ++ layer_drops layer (i + 1) (drop (i + 1) fs) ≡ whole
+features_more layer i = told_more (λ i f. dropped_at (feature_address layer i) (option_drops f.shape)) (layer_drops layer) (λ i f fs. refl) i i

@@ -1,0 +1,11 @@
+use Rattle.std.proofs.Common.{◌≡◌, ◌++◌, map, drop}
+use Rattle.geojson_types.specs.Omissions.{omissions}
+use Rattle.geojson_types.specs.Paths.{of_parts}
+use Rattle.topo_model.specs.Drops.{dropped_at, short_cause}
+use Rattle.topo_model.proofs.dropping.+add_shape.Given as goal
+
+abbrev pub invariant-shapes : goal.invariant-shapes
+invariant-shapes l =
+    (l.place ≡ l.initial.place)
+    × (l.dropped.items ++ dropped_at l.initial.place (of_parts l.number (map (omissions short_cause) (drop l.number l.shape-items)))
+    ≡ l.initial.dropped.items ++ dropped_at l.initial.place (of_parts 0 (map (omissions short_cause) l.shape-items)))

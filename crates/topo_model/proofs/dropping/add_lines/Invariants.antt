@@ -1,0 +1,10 @@
+use Rattle.std.proofs.Common.{◌≡◌, ◌++◌, false, map, drop}
+use Rattle.geojson_types.specs.Omissions.{here}
+use Rattle.geojson_types.specs.Paths.{of_parts}
+use Rattle.topo_model.specs.Drops.{dropped_at, short_cause}
+use Rattle.topo_model.proofs.dropping.add_lines.Given as goal
+
+abbrev pub invariant-loop-number : goal.invariant-loop-number
+invariant-loop-number l =
+    l.dropped.items ++ dropped_at l.place (of_parts l.number (map (λ l. here (short_cause false l)) (drop l.number l.parts)))
+    ≡ l.initial.dropped.items ++ dropped_at l.place (of_parts 0 (map (λ l. here (short_cause false l)) l.parts))

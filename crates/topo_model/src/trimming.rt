@@ -1,0 +1,106 @@
+// The arcs that are used, and their new numbers.
+ghost use Rattle.std.specs.Prelude.{◌≡◌, ◌<◌, ℕ, Bool, IfOk, Some, length, map, negsuc, pos, ◌-ℤ◌};
+ghost use Rattle.built_topology.specs.Trimming.{keep_from, rank_from, renumbered};
+ghost use Rattle.topo_types.specs.Joins.{number_of};
+ghost use Rattle.topo_types.specs.Validity.{AreInRange};
+ghost use Rattle.topo_model.specs.Uses.{answers};
+
+use crate::entries::{Entry, copied};
+use crate::shapes::cells;
+use arc_table::Table;
+use byte_ends::Memory;
+use json_value::Items;
+use std::alloc::Global;
+use topo_types::{ArcRef, Cell};
+
+/// For each arc the index that it has, forwards, where only the arcs with a set flag are left: how many of these stand before it.
+fn ranks(alloc: Global, used: &[bool]) -> Result<Vec<ArcRef>, Memory>
+    ensures many { IfOk result (λ ranks. length ranks.items ≡ length used.now) }
+    ensures ranks { IfOk result (λ ranks. (u : ℕ → Bool) → used.now ≡ answers u 0 (length used.now)
+        → ranks.items ≡ answers (λ i. pos (rank_from u 0 i)) 0 (length used.now)) }
+{
+    let mut ranks = Vec::with_capacity(alloc, used.len())?;
+    let mut rank: usize = 0;
+    'arcs: for flag in used {
+        ranks.push(ArcRef::forward(rank))?;
+        if *flag {
+            rank += 1;
+        }
+    }
+    Ok(ranks)
+}
+
+/// The ones' complement of an index: the same arc in the other direction.
+fn complement(index: ArcRef) -> ArcRef
+    ensures { result ≡ negsuc 0 -ℤ index }
+{
+    ArcRef::of(-1 - index.written())
+}
+
+/// The index of the same arc in the same direction by the ranks.
+fn renumber(index: ArcRef, ranks: &[ArcRef]) -> ArcRef
+    requires { number_of index < length ranks.now }
+    ensures { (u : ℕ → Bool) → ranks.now ≡ answers (λ i. pos (rank_from u 0 i)) 0 (length ranks.now) → result ≡ renumbered u index }
+{
+    let rank = ranks[index.index()];
+    if index.reversed() {
+        complement(rank)
+    } else {
+        rank
+    }
+}
+
+/// The same of each index of a line or ring.
+fn renumber_all(alloc: Global, refs: &[ArcRef], ranks: &[ArcRef]) -> Result<Items<ArcRef>, Memory>
+    requires { AreInRange (length ranks.now) refs.now }
+    ensures { IfOk result (λ made. (u : ℕ → Bool) → ranks.now ≡ answers (λ i. pos (rank_from u 0 i)) 0 (length ranks.now)
+        → made ≡ map (renumbered u) refs.now) }
+{
+    let mut made = Vec::with_capacity(alloc, refs.len())?;
+    'refs: for index in refs {
+        made.push(renumber(*index, ranks))?;
+    }
+    Ok(Items::of(made))
+}
+
+/// The arc indexes of each line and ring of the table, where only the arcs with a set flag are left.
+pub fn renumbered_entries(alloc: Global, table: &Table, used: &[bool]) -> Result<Vec<Entry>, Memory>
+    requires { length used.now ≡ length table.now.arcs }
+    ensures { IfOk result (λ entries. (u : ℕ → Bool) → used.now ≡ answers u 0 (length table.now.arcs)
+        → entries.items ≡ map (λ refs. Some (map (renumbered u) refs)) table.now.refs) }
+{
+    table.law();
+    let ranks = ranks(alloc, used)?;
+    let mut entries = Vec::with_capacity(alloc, table.lines())?;
+    'lines: for i in 0..table.lines() {
+        entries.push(Some(renumber_all(alloc, table.refs(i), &ranks)?))?;
+    }
+    Ok(entries)
+}
+
+/// The arc indexes of each line and ring of the table.
+pub fn entries_of_table(alloc: Global, table: &Table) -> Result<Vec<Entry>, Memory>
+    ensures { IfOk result (λ entries. entries.items ≡ map Some table.now.refs) }
+{
+    let mut entries = Vec::with_capacity(alloc, table.lines())?;
+    'lines: for i in 0..table.lines() {
+        entries.push(Some(copied(alloc, table.refs(i))?))?;
+    }
+    Ok(entries)
+}
+
+/// The arcs with a set flag, in order.
+pub fn kept_arcs(alloc: Global, table: &Table, used: &[bool]) -> Result<Vec<Items<Cell>>, Memory>
+    requires { length used.now ≡ length table.now.arcs }
+    ensures { IfOk result (λ arcs. (u : ℕ → Bool) → used.now ≡ answers u 0 (length table.now.arcs)
+        → arcs.items ≡ keep_from u 0 table.now.arcs) }
+{
+    let mut kept = Vec::new(alloc);
+    'arcs: for i in 0..table.len() {
+        if !used[i] {
+            continue;
+        }
+        kept.push(cells(alloc, table.arc(i))?)?;
+    }
+    Ok(kept)
+}

@@ -14,7 +14,7 @@ pub record BuildsOf (exact : Bool) (words : List (List ℕ)) (old new : Drained)
   pub sources_old : Sources
   pub sources_new : Sources
   pub names : map (λ s. s.0) sources_old ≡ map name_of words
-  pub built : IsBuilt exact sources_old sources_new old new report
+  pub built : IsBuilt exact 0 sources_old sources_new old new report
 
 -- the device failed while the topology was written
 abbrev pub is_write_fault : Ending → Bool

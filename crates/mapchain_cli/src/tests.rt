@@ -102,7 +102,6 @@ fn words_and_files_are_refused(rt: HostRuntime) -> Result<(), Fail> {
             2,
             "error: layer 1 B2 DuplicateName\n",
         ),
-        (["a=line.json", "b=line.json"], 1, "error: B8 NotYet\n"),
     ];
     for ([first, second], status, line) in cases {
         let mut shelf = Shelf {
@@ -119,7 +118,6 @@ fn words_and_files_are_refused(rt: HostRuntime) -> Result<(), Fail> {
 
 #[test]
 fn layers_are_refused(rt: HostRuntime) -> Result<(), Fail> {
-    let line = b"{\"type\":\"LineString\",\"coordinates\":[[0,0],[1,0],[0,0]]}".as_slice();
     let short = b"{\"type\":\"LineString\",\"coordinates\":[[0,0]]}".as_slice();
     let circle = b"{\"type\":\"Circle\"}".as_slice();
     let three = b"{\"type\":\"Polygon\",\"coordinates\":[[[0,0],[1,0],[0,0]]]}".as_slice();
@@ -138,7 +136,6 @@ fn layers_are_refused(rt: HostRuntime) -> Result<(), Fail> {
         (circle, 1, "error: layer 0 G2 UnknownType\n"),
         (three, 1, "error: layer 0 G8 ShortRing feature 0\n"),
         (open, 1, "error: layer 0 G9 OpenRing feature 0\n"),
-        (line, 1, "error: B8 NotYet\n"),
     ];
     for (bytes, status, line) in cases {
         let mut shelf = Shelf {

@@ -44,9 +44,10 @@ error says what. Else standard error takes a report, with a line each:
   kept     positions in these arcs
   removed  positions that were taken out of these arcs
 
-So far each line is an arc of its own: where a position stands twice among the lines
-and rings of all layers, which a ring's first position does, they are refused as
-'B8 NotYet'.";
+A border that lines and rings share, be it between layers, is one arc. Positions that
+are equal and follow each other count as one. A line that is left with one position,
+or a ring with fewer than four, is dropped as 'collapsed', and a hole whose outer ring
+is dropped as 'outer'.";
 
 const BUILD_AFTER_HELP: &str = "Example:
   mapchain build coast=coast.json rivers=rivers.json > map.topojson";

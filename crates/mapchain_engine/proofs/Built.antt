@@ -1,5 +1,5 @@
 -- What building layers comes to.
-use Rattle.std.proofs.Common.{◌≡◌, inl, inr, ℕ, suc, ◌+◌, ◌<◌, ◌≤◌, ◌^◌, Bool, false, true, List, [], ◌∷◌, length, map, ◌∙◌, ap, sym, Option, Some, None, Ok, Err, arith, refl}
+use Rattle.std.proofs.Common.{◌≡◌, inl, inr, ℕ, suc, ◌+◌, ◌<◌, ◌≤◌, ◌^◌, Bool, false, true, List, [], ◌∷◌, length, map, ◌∙◌, ap, sym, Option, Some, None, Ok, Err, arith, refl, subst}
 use Rattle.std.specs.Prelude.{if◌then◌else◌}
 use Rattle.std.specs.List.{AllByRecursion}
 use Rattle.byte_ends.specs.Ends.{Fed, Drained, Takes, saturated}
@@ -8,14 +8,21 @@ use Rattle.geojson_types.specs.declared.counts.Counts.{Counts}
 use Rattle.topo_types.specs.Topologies.{Contents}
 use Rattle.topo_types.specs.Validity.{AreDistinct}
 use Rattle.topo_types.specs.Values.{topology_value}
-use Rattle.topo_model.specs.Assembled.{assembled, lines_of, own_arc}
-use Rattle.topo_model.specs.Laws.{AreSound, DecodesBack, IsValid, names_of}
-use Rattle.topo_model.specs.Repeats.{any_repeats}
+use Rattle.topo_types.specs.declared.object.TopoObject.{TopoObject}
+use Rattle.effective_area.specs.Elimination.{reduced}
+use Rattle.effective_area.specs.Laws.{ZeroLaw}
+use Rattle.built_topology.specs.Built.{built, positions_of, used_arcs, taken_out}
+use Rattle.built_topology.specs.Expected.{expected_dropped}
+use Rattle.built_topology.specs.Laws.{AreSound, DecodesBack, EachSegmentOnce, IsValid}
+use Rattle.built_topology.specs.Layers.{names_of}
+use Rattle.built_topology.proofs.Renumbered.{kept_in, built_objects}
+use Rattle.geojson_types.specs.Points.{Point}
+use Rattle.topojson_decoder.specs.Bounds as bounds
 use Rattle.topojson_decoder.specs.Laws.{ReadsBack, TextIsRead}
 use Rattle.mapchain_engine.specs.declared.fault.BuildFault.{BuildFault}
 use Rattle.mapchain_engine.specs.declared.fault.BuildFault.TheVariants.{EmptyName, DuplicateName, Read, Json, Geo, Write, Memory, NotYet}
 use Rattle.mapchain_engine.specs.declared.report.Report.{Report}
-use Rattle.mapchain_engine.specs.Building.{is_built_yet, early_fault, SaysTopology, Builds, IsBuilt, IsLateFault, Sends, report_of, report_with}
+use Rattle.mapchain_engine.specs.Building.{is_built_yet, early_fault, SaysTopology, Builds, IsBuilt, IsLateFault, Sends, positions_in, report_of, report_with}
 use Rattle.mapchain_engine.specs.declared.options.Options.{Options}
 use Rattle.mapchain_engine.specs.Names.{name_fault, or_else, IsRefusedFor}
 use Rattle.mapchain_engine.specs.Reading.{FailsToRead}
@@ -25,32 +32,39 @@ use Rattle.mapchain_engine.proofs.NamesDistinct.{distinct_names}
 use Rattle.mapchain_engine.proofs.SourcesRead.{untroubled_all}
 
 -- the text of the topology of layers
-abbrev pub text_of : Named → List ℕ
-text_of ls = json_text (topology_value (assembled ls))
+abbrev pub text_of : ℕ → Named → List ℕ
+text_of t ls = json_text (topology_value (built t ls))
 
-module _ (valid : IsValid) (back : DecodesBack) (read : ReadsBack) (spelled : TextIsRead) where
-  says : (ls : Named) → AllTaken ls → AreDistinct (names_of ls) → length (lines_of ls) < 2 ^ 63 → SaysTopology ls (text_of ls)
+-- ---- what is written
+
+module _ (valid : IsValid) (back : DecodesBack) (segments : EachSegmentOnce) (read : ReadsBack) (spelled : TextIsRead) (t : ℕ) where
+  says : (ls : Named) → AllTaken ls → AreDistinct (names_of ls) → length (built t ls).arcs < 2 ^ 63 → SaysTopology t ls (text_of t ls)
   says ls taken distinct few =
       let sound = layers_sound ls taken in
-      let kept = own_arc (lines_of ls) in
+      let kept = kept_in t ls in
       record {
-        value = topology_value (assembled ls);
-        spelled = spelled (assembled ls) 127 255 (valid ls sound distinct, few) (objects_number kept ls taken) (objects_nest kept ls taken) (omega arith);
-        contents = assembled ls;
-        stands = read (assembled ls) (valid ls sound distinct, few);
-        names = names_kept kept ls;
-        features = back ls sound distinct;
-        arcs = refl;
+        value = topology_value (built t ls);
+        spelled = spelled (built t ls) 127 255 (valid t ls sound distinct, few)
+            (subst (λ os. AllByRecursion bounds.FeatureHasNumbers (bounds.objects_features os)) (sym (built_objects t ls)) (objects_number kept ls taken))
+            (subst (λ os. AllByRecursion (λ f. bounds.feature_nesting f ≤ 127) (bounds.objects_features os)) (sym (built_objects t ls)) (objects_nest kept ls taken))
+            (omega arith);
+        contents = built t ls;
+        stands = read (built t ls) (valid t ls sound distinct, few);
+        names = ap (map (λ (o : List ℕ × TopoObject). o.0)) (built_objects t ls) ∙ names_kept kept ls;
+        features = back t ls sound distinct;
+        shared = refl;
+        written = refl;
+        once = segments ls sound;
       }
 
-  module _ (exact : Bool) (olds news : Sources) (ls : Named) (cs : List Counts) (all : AllRead exact olds news ls cs) (apart : any_repeats (lines_of ls) ≡ false)
-      (distinct : AreDistinct (names_of ls)) (few : length (lines_of ls) < 2 ^ 63) where
-    builds : Builds exact olds news ls cs (text_of ls)
-    builds = record { read = all; apart = apart; topology = says ls (all_taken exact olds news ls cs all) distinct few }
+  module _ (exact : Bool) (olds news : Sources) (ls : Named) (cs : List Counts) (all : AllRead exact olds news ls cs)
+      (distinct : AreDistinct (names_of ls)) (few : length (built t ls).arcs < 2 ^ 63) where
+    builds : Builds exact t olds news ls cs (text_of t ls)
+    builds = record { read = all; topology = says ls (all_taken exact olds news ls cs all) distinct few }
 
     module _ (sink_old sink_new : Drained) where
-      pub cut_short : (e : BuildFault) → Sends sink_old sink_new (text_of ls) (Err e) → IsLateFault exact olds news sink_old sink_new e
-      cut_short (Write sent) s = record { layers = ls; counts = cs; text = text_of ls; builds = builds; many = s.0; written = s.1; counted = s.2; failed = s.3 }
+      pub cut_short : (e : BuildFault) → Sends sink_old sink_new (text_of t ls) (Err e) → IsLateFault exact t olds news sink_old sink_new e
+      cut_short (Write sent) s = record { layers = ls; counts = cs; text = text_of t ls; builds = builds; many = s.0; written = s.1; counted = s.2; failed = s.3 }
       cut_short (EmptyName i) s = absurd s
       cut_short (DuplicateName i) s = absurd s
       cut_short (Read i f) s = absurd s
@@ -59,9 +73,24 @@ module _ (valid : IsValid) (back : DecodesBack) (read : ReadsBack) (spelled : Te
       cut_short Memory s = absurd s
       cut_short NotYet s = absurd s
 
-      pub is_built : (report : Report) → Takes sink_old sink_new (text_of ls) (length (text_of ls)) × (sink_new.failures ≡ 0) → report ≡ report_of cs (lines_of ls)
-          → IsBuilt exact olds news sink_old sink_new report
-      is_built report s told = record { layers = ls; counts = cs; text = text_of ls; builds = builds; written = s.0; sound = s.1; told = told }
+      pub is_built : (report : Report) → Takes sink_old sink_new (text_of t ls) (length (text_of t ls)) × (sink_new.failures ≡ 0) → report ≡ report_of t ls cs
+          → IsBuilt exact t olds news sink_old sink_new report
+      is_built report s told = record { layers = ls; counts = cs; text = text_of t ls; builds = builds; written = s.0; sound = s.1; told = told }
+
+-- ---- the report at a threshold of zero
+
+all_whole : ZeroLaw → (arcs : List (List Point)) → map (reduced 0) arcs ≡ arcs
+all_whole zero [] = refl
+all_whole zero (a ∷ arcs) = rw (zero a, all_whole zero arcs) refl
+
+none_out : ZeroLaw → (ls : Named) → taken_out 0 ls ≡ 0
+unfolding taken_out
+none_out zero ls = let e = ap positions_of (all_whole zero (used_arcs 0 ls)) in omega (arith, e)
+
+pub report_at_zero : ZeroLaw → (ls : Named) (cs : List Counts) → report_with (added cs) (expected_dropped 0 ls) (built 0 ls).arcs ≡ report_of 0 ls cs
+report_at_zero zero ls cs =
+    ap (λ n. record { counts = added cs; dropped = expected_dropped 0 ls; arcs = length (built 0 ls).arcs; kept = positions_in (built 0 ls).arcs; removed = n })
+    (sym (ap saturated (none_out zero ls)))
 
 -- ---- nothing is written
 
@@ -71,24 +100,20 @@ never exact e ruled_out n (s ∷ ss) [] f = f
 never exact e ruled_out n (s ∷ ss) (t ∷ ts) (inl f) = ruled_out n s.1 t.1 f.1
 never exact e ruled_out n (s ∷ ss) (t ∷ ts) (inr f) = never exact e ruled_out (suc n) ss ts f.3
 
-pub not_read : (exact : Bool) (olds news : Sources) (sink : Drained) (e : BuildFault) → FailsToReadAll exact olds news e → IsLateFault exact olds news sink sink e
-not_read exact olds news sink (Read i r) f = (refl, f)
-not_read exact olds news sink (Json i r) f = (refl, f)
-not_read exact olds news sink (Geo i r) f = (refl, f)
-not_read exact olds news sink (EmptyName i) f = (refl, f)
-not_read exact olds news sink (DuplicateName i) f = (refl, f)
-not_read exact olds news sink Memory f = (refl, f)
-not_read exact olds news sink (Write sent) f = absurd (never exact (Write sent) (λ n old new h. absurd h.2) 0 olds news f)
-not_read exact olds news sink NotYet f = absurd (never exact NotYet (λ n old new h. absurd h.2) 0 olds news f)
+pub not_read : (exact : Bool) (t : ℕ) (olds news : Sources) (sink : Drained) (e : BuildFault) → FailsToReadAll exact olds news e → IsLateFault exact t olds news sink sink e
+not_read exact t olds news sink (Read i r) f = (refl, f)
+not_read exact t olds news sink (Json i r) f = (refl, f)
+not_read exact t olds news sink (Geo i r) f = (refl, f)
+not_read exact t olds news sink (EmptyName i) f = (refl, f)
+not_read exact t olds news sink (DuplicateName i) f = (refl, f)
+not_read exact t olds news sink NotYet f = (refl, f)
+not_read exact t olds news sink Memory f = (refl, f)
+not_read exact t olds news sink (Write sent) f = absurd (never exact (Write sent) (λ n old new h. absurd h.2) 0 olds news f)
 
-pub no_memory : (exact : Bool) (olds news : Sources) (sink : Drained) (ls : Named) (cs : List Counts) → AllRead exact olds news ls cs → IsLateFault exact olds news sink sink Memory
-no_memory exact olds news sink ls cs all = (refl, untroubled_all exact olds news ls cs all)
+pub no_memory : (exact : Bool) (t : ℕ) (olds news : Sources) (sink : Drained) (ls : Named) (cs : List Counts) → AllRead exact olds news ls cs → IsLateFault exact t olds news sink sink Memory
+no_memory exact t olds news sink ls cs all = (refl, untroubled_all exact olds news ls cs all)
 
-pub too_early : (exact : Bool) (olds news : Sources) (sink : Drained) (ls : Named) (cs : List Counts) (b : Bool) → AllRead exact olds news ls cs → b ≡ any_repeats (lines_of ls) → b ≡ true
-    → IsLateFault exact olds news sink sink NotYet
-too_early exact olds news sink ls cs b all e h = (refl, record { layers = ls; counts = cs; read = all; repeated = sym e ∙ h })
-
--- ---- names and lines
+-- ---- names
 
 pub distinct : (exact : Bool) (olds news : Sources) (ls : Named) (cs : List Counts) → AllRead exact olds news ls cs → name_fault (map (λ s. s.0) olds) ≡ None → AreDistinct (names_of ls)
 distinct exact olds news ls cs all e = rw (names_read exact olds news ls cs all) (distinct_names (map (λ s. s.0) olds) e)

@@ -10,13 +10,11 @@ use Rattle.json_value.specs.declared.json.Json.{Json}
 use Rattle.geojson_types.specs.declared.counts.Counts.{Counts}
 use Rattle.geojson_types.specs.declared.layer.Layer.{Layer}
 use Rattle.geojson_types.specs.Features.{Featured}
-use Rattle.topo_model.specs.Assembled.{lines_of}
-use Rattle.topo_model.specs.Repeats.{any_repeats}
 use Rattle.mapchain_engine.specs.declared.fault.BuildFault.{BuildFault}
 use Rattle.mapchain_engine.specs.declared.fault.BuildFault.TheVariants.{EmptyName, DuplicateName, Read, Json as Text, Geo, Write, Memory, NotYet}
 use Rattle.mapchain_engine.specs.declared.report.Report.{Report}
 use Rattle.mapchain_engine.specs.Building.{report_of, IsBuilt, IsLateFault}
-use Rattle.mapchain_engine.specs.Outcomes.{LayerOutcome, Outcome, IsTextOf, of_layer, of_text, LayerComesTo, with_layer, Continues, AllComeTo, of_layers, ComesTo, plain_text_fault, plain_fault, IsOutside, IsOutsideRead, Follows, HaveBytes}
+use Rattle.mapchain_engine.specs.Outcomes.{LayerOutcome, Outcome, IsTextOf, of_layer, of_text, LayerComesTo, with_layer, Continues, AllComeTo, ComesTo, plain_text_fault, plain_fault, IsOutside, IsOutsideRead, Follows, HaveBytes}
 use Rattle.mapchain_engine.specs.Reading.{layer_depth, max_input, SpellsLayer, IsRead, FailsToRead}
 use Rattle.mapchain_engine.specs.Sources.{Sources, Named, IsLayerRead, AllRead, FailsAt}
 
@@ -85,26 +83,9 @@ all_once : (n : ℕ) (exact : Bool) (bs : Texts) (o p : Outcome) → AllComeTo n
 all_once n exact [] o p h k = ap plain (h ∙ sym k)
 all_once n exact (b ∷ bs) o p h k = continued b.0 h.0 k.0 (AllComeTo (suc n) exact bs) o p (all_once (suc n) exact bs) (one_layer n exact b.1 h.0 k.0 h.1 k.1) h.2 k.2
 
-plain-of_layers : (o : Outcome) → plain (of_layers o) ≡ plain (of_layers (plain o))
-plain-of_layers (Ok r) = refl
-plain-of_layers (Err e) = plain_twice e
-  where
-    plain_twice : (e : BuildFault) → plain (of_layers (Err e)) ≡ plain (of_layers (plain (Err e)))
-    plain_twice (Text i (text.NotUtf8 at)) = refl
-    plain_twice (Text i (text.Malformed at why)) = refl
-    plain_twice (Text i text.Memory) = refl
-    plain_twice (EmptyName i) = refl
-    plain_twice (DuplicateName i) = refl
-    plain_twice (Read i fault) = refl
-    plain_twice (Geo i fault) = refl
-    plain_twice (Write sent) = refl
-    plain_twice Memory = refl
-    plain_twice NotYet = refl
-
 -- what the layers come to in one way is what they come to in the other
-once : (exact : Bool) (bs : Texts) (r o : Outcome) → AllComeTo 0 exact bs r → ComesTo exact bs o → plain (of_layers r) ≡ plain o
-once exact bs r o all comes =
-    plain-of_layers r ∙ ap (λ z. plain (of_layers z)) (all_once 0 exact bs r comes.0 all comes.1) ∙ sym (plain-of_layers comes.0) ∙ sym (ap plain comes.2)
+once : (exact : Bool) (bs : Texts) (r o : Outcome) → AllComeTo 0 exact bs r → ComesTo exact bs o → plain r ≡ plain o
+once exact bs r o all comes = all_once 0 exact bs r o all comes
 
 -- ---- what an answer says of the bytes
 
@@ -163,9 +144,9 @@ fails_come n exact (s ∷ ss) (t ∷ ts) (b ∷ bs) e (inr f) k = on (fails_come
 
 -- ---- the answer follows
 
-follows_outside : (outcome : Outcome) (e : BuildFault) → IsOutsideRead e → IsOutside e → Follows outcome (Err e)
-follows_outside (Ok r) e h k = k
-follows_outside (Err f) e h k = inr h
+follows_outside : (t : ℕ) (outcome : Outcome) (e : BuildFault) → IsOutsideRead e → IsOutside e → Follows t outcome (Err e)
+follows_outside t (Ok r) e h k = k
+follows_outside t (Err f) e h k = inr h
 
 is_outside : (e : BuildFault) → IsOutsideRead e → IsOutside e
 is_outside (Read i r) h = h
@@ -177,49 +158,43 @@ is_outside (Geo i r) h = absurd h
 is_outside (Write sent) h = tt
 is_outside NotYet h = absurd h
 
-follows_fault : (outcome : Outcome) (e : BuildFault) → plain (Err e) ≡ plain outcome → Follows outcome (Err e)
-follows_fault (Ok r) e h = absurd cc
-follows_fault (Err f) e h = inl cc
+follows_fault : (t : ℕ) (outcome : Outcome) (e : BuildFault) → plain (Err e) ≡ plain outcome → Follows t outcome (Err e)
+follows_fault t (Ok r) e h = absurd cc
+follows_fault t (Err f) e h = inl cc
 
-follows_built : (outcome : Outcome) (ls : Named) (cs : List Counts) (report : Report) → plain (Ok (ls, cs)) ≡ plain outcome → report ≡ report_of cs (lines_of ls) → Follows outcome (Ok report)
-follows_built (Ok r) ls cs report h told = let e : (ls, cs) ≡ r = cc in told ∙ ap (λ (z : Named × List Counts). report_of z.1 (lines_of z.0)) e
-follows_built (Err f) ls cs report h told = absurd cc
+follows_built : (t : ℕ) (outcome : Outcome) (ls : Named) (cs : List Counts) (report : Report) → plain (Ok (ls, cs)) ≡ plain outcome → report ≡ report_of t ls cs → Follows t outcome (Ok report)
+follows_built t (Ok r) ls cs report h told = let e : (ls, cs) ≡ r = cc in told ∙ ap (λ (z : Named × List Counts). report_of t z.0 z.1) e
+follows_built t (Err f) ls cs report h told = absurd cc
 
-follows_cut : (outcome : Outcome) (ls : Named) (cs : List Counts) (sent : ℕ) → plain (Ok (ls, cs)) ≡ plain outcome → Follows outcome (Err (Write sent))
-follows_cut (Ok r) ls cs sent h = tt
-follows_cut (Err f) ls cs sent h = absurd cc
+follows_cut : (t : ℕ) (outcome : Outcome) (ls : Named) (cs : List Counts) (sent : ℕ) → plain (Ok (ls, cs)) ≡ plain outcome → Follows t outcome (Err (Write sent))
+follows_cut t (Ok r) ls cs sent h = tt
+follows_cut t (Err f) ls cs sent h = absurd cc
 
--- layers in which a position stands twice, or none does
-taken : (b : Bool) (ls : Named) (cs : List Counts) → any_repeats (lines_of ls) ≡ b → of_layers (Ok (ls, cs)) ≡ cond b (Err NotYet) (Ok (ls, cs))
-taken b ls cs e = ap (λ z. cond z (Err NotYet) (Ok (ls, cs))) e
-
-module _ (exact : Bool) (olds news : Sources) (sink_old sink_new : Drained) (bs : Texts) (have : HaveBytes olds bs) (outcome : Outcome) (comes : ComesTo exact bs outcome) where
-  built_follows : (report : Report) → IsBuilt exact olds news sink_old sink_new report → Follows outcome (Ok report)
+module _ (exact : Bool) (t : ℕ) (olds news : Sources) (sink_old sink_new : Drained) (bs : Texts) (have : HaveBytes olds bs) (outcome : Outcome) (comes : ComesTo exact bs outcome) where
+  built_follows : (report : Report) → IsBuilt exact t olds news sink_old sink_new report → Follows t outcome (Ok report)
   built_follows report is =
       let all = read_comes 0 exact olds news is.layers is.counts bs is.builds.read have in
-      follows_built outcome is.layers is.counts report (sym (ap plain (taken false is.layers is.counts is.builds.apart)) ∙ once exact bs (Ok (is.layers, is.counts)) outcome all comes) is.told
+      follows_built t outcome is.layers is.counts report (once exact bs (Ok (is.layers, is.counts)) outcome all comes) is.told
 
-  failed : (e : BuildFault) → FailsAt exact 0 olds news e → Follows outcome (Err e)
+  failed : (e : BuildFault) → FailsAt exact 0 olds news e → Follows t outcome (Err e)
   failed e f = on (fails_come 0 exact olds news bs e f have)
     where
-      on : IsOutsideRead e ⊎ AllComeTo 0 exact bs (Err e) → Follows outcome (Err e)
-      on (inl out) = follows_outside outcome e out (is_outside e out)
-      on (inr all) = follows_fault outcome e (once exact bs (Err e) outcome all comes)
+      on : IsOutsideRead e ⊎ AllComeTo 0 exact bs (Err e) → Follows t outcome (Err e)
+      on (inl out) = follows_outside t outcome e out (is_outside e out)
+      on (inr all) = follows_fault t outcome e (once exact bs (Err e) outcome all comes)
 
-  pub late_follows : (e : BuildFault) → IsLateFault exact olds news sink_old sink_new e → Follows outcome (Err e)
+  pub late_follows : (e : BuildFault) → IsLateFault exact t olds news sink_old sink_new e → Follows t outcome (Err e)
   late_follows (Write sent) is =
       let all = read_comes 0 exact olds news is.layers is.counts bs is.builds.read have in
-      follows_cut outcome is.layers is.counts sent (sym (ap plain (taken false is.layers is.counts is.builds.apart)) ∙ once exact bs (Ok (is.layers, is.counts)) outcome all comes)
-  late_follows NotYet is =
-      let all = read_comes 0 exact olds news is.1.layers is.1.counts bs is.1.read have in
-      follows_fault outcome NotYet (sym (ap plain (taken true is.1.layers is.1.counts is.1.repeated)) ∙ once exact bs (Ok (is.1.layers, is.1.counts)) outcome all comes)
-  late_follows Memory is = follows_outside outcome Memory tt tt
+      follows_cut t outcome is.layers is.counts sent (once exact bs (Ok (is.layers, is.counts)) outcome all comes)
+  late_follows Memory is = follows_outside t outcome Memory tt tt
+  late_follows NotYet is = failed NotYet is.1
   late_follows (Read i r) is = failed (Read i r) is.1
   late_follows (Text i r) is = failed (Text i r) is.1
   late_follows (Geo i r) is = failed (Geo i r) is.1
   late_follows (EmptyName i) is = failed (EmptyName i) is.1
   late_follows (DuplicateName i) is = failed (DuplicateName i) is.1
 
-  pub decides : (r : Result Report BuildFault) → IfOk r (λ report. IsBuilt exact olds news sink_old sink_new report) → IfErr r (λ e. IsLateFault exact olds news sink_old sink_new e) → Follows outcome r
+  pub decides : (r : Result Report BuildFault) → IfOk r (λ report. IsBuilt exact t olds news sink_old sink_new report) → IfErr r (λ e. IsLateFault exact t olds news sink_old sink_new e) → Follows t outcome r
   decides (Ok report) is late = built_follows report is
   decides (Err e) is late = late_follows e late

@@ -23,9 +23,9 @@ use Rattle.geojson_model.proofs.Yields.{IfThere}
 use Rattle.topo_types.specs.declared.feature.TopoFeature.{TopoFeature}
 use Rattle.topo_types.specs.declared.object.TopoObject.{TopoObject}
 use Rattle.topo_types.specs.Topologies.{object_features}
-use Rattle.topo_model.specs.Entries.{Kept}
-use Rattle.topo_model.specs.Laws.{IsSound, AreSound, IsRingIfClosed, names_of}
-use Rattle.topo_model.specs.Objects.{feature_by, features_by, objects_by}
+use Rattle.built_topology.specs.Laws.{IsSound, AreSound, IsRingIfClosed}
+use Rattle.built_topology.specs.Layers.{names_of}
+use Rattle.built_topology.specs.Objects.{Kept, feature_by, features_by, objects_by}
 use Rattle.topojson_decoder.specs.Bounds as bounds
 use Rattle.mapchain_engine.specs.Reading.{layer_depth}
 use Rattle.mapchain_engine.specs.Sources.{Sources, Named, IsLayerRead, AllRead}

@@ -6,13 +6,19 @@ use Rattle.json_value.specs.declared.json.Json.{Json}
 use Rattle.json_value.specs.Grammar.{Reads}
 use Rattle.geojson_types.specs.declared.counts.Counts.{Counts}
 use Rattle.geojson_types.specs.declared.layer.FeatureSet.TheVariants as set
-use Rattle.geojson_types.specs.declared.layer.Layer.{Layer}
 use Rattle.geojson_types.specs.Counting.{no_counts}
+use Rattle.geojson_types.specs.declared.address.Dropped.{Dropped}
 use Rattle.geojson_types.specs.Points.{Point}
+use Rattle.json_value.specs.Text.{json_text}
 use Rattle.topo_types.specs.Decoding.{decoded}
 use Rattle.topo_types.specs.Topologies.{Contents}
-use Rattle.topo_model.specs.Assembled.{lines_of}
-use Rattle.topo_model.specs.Repeats.{any_repeats}
+use Rattle.topo_types.specs.Values.{topology_value}
+use Rattle.arc_table.specs.Laws.{AreOnceIn}
+use Rattle.built_topology.specs.Built.{all_arcs, built, positions_of, taken_out}
+use Rattle.built_topology.specs.Expected.{expected, expected_dropped}
+use Rattle.built_topology.specs.Layers.{layers_of, names_of}
+use Rattle.cutter.specs.Segments.{line_segments}
+use Rattle.linework.specs.Linework.{linework}
 use Rattle.topojson_decoder.specs.Topologies.{topology}
 use Rattle.mapchain_engine.specs.declared.fault.BuildFault.{BuildFault}
 use Rattle.mapchain_engine.specs.declared.fault.BuildFault.TheVariants.{Write, NotYet, Memory}
@@ -37,69 +43,70 @@ early_fault options names = or_else (name_fault names) (if is_built_yet options 
 
 -- ---- what is written
 
--- The text is JSON (RFC 8259) of a topology (TopoJSON 1.0) whose objects have the names of the layers, in order. Decoding each gives the
--- features of its layer, and the arcs are the lines of all layers.
-pub record SaysTopology (layers : Named) (text : List ℕ) : Type 0 where
+-- The text is JSON (RFC 8259) of a topology (TopoJSON 1.0) whose objects have the names of the layers, in order. Decoding each gives
+-- the features that are expected of its layer at the threshold. The topology is the one that is built of the layers, the text is
+-- its text, and before reduction each segment of the layers' lines lies once, in exactly one arc.
+pub record SaysTopology (threshold : ℕ) (layers : Named) (text : List ℕ) : Type 0 where
   pub value : Json
   pub spelled : Reads 255 text value
   pub contents : Contents
   pub stands : topology value ≡ Ok (contents, no_counts)
-  pub names : map (λ o. o.0) contents.objects ≡ map (λ l. l.0) layers
-  pub features : AllByRecursion (λ l. decoded contents l.0 ≡ Some (set.Many l.1.features)) layers
-  pub arcs : contents.arcs ≡ lines_of layers
+  pub names : map (λ o. o.0) contents.objects ≡ names_of layers
+  pub features : AllByRecursion (λ l. decoded contents l.0 ≡ Some (set.Many l.1.features)) (expected threshold layers)
+  pub shared : contents ≡ built threshold layers
+  pub written : text ≡ json_text (topology_value contents)
+  pub once : AreOnceIn (all_arcs (linework (layers_of layers))) (line_segments (linework (layers_of layers)))
 
 -- the positions of all arcs
 abbrev pub positions_in : List (List Point) → ℕ
-positions_in arcs = saturated (sum (map length arcs))
+positions_in arcs = saturated (positions_of arcs)
 
--- these counts, nothing dropped, and the arcs with their positions, of which none was taken out
-abbrev pub report_with : Counts → List (List Point) → Report
-report_with counts arcs = record { counts = counts; dropped = []; arcs = length arcs; kept = positions_in arcs; removed = 0 }
+-- the counts, what is dropped, and the arcs with their positions, of which none was taken out
+abbrev pub report_with : Counts → List Dropped → List (List Point) → Report
+report_with counts dropped arcs = record { counts = counts; dropped = dropped; arcs = length arcs; kept = positions_in arcs; removed = 0 }
 
--- the counts of all layers, and their lines as arcs
-abbrev pub report_of : List Counts → List (List Point) → Report
-report_of counts lines = report_with (added counts) lines
+-- the counts of all layers, the lines and rings that are dropped, the arcs, their positions, and those that were taken out of them
+abbrev pub report_of : ℕ → Named → List Counts → Report
+report_of threshold layers counts =
+    record {
+      counts = added counts;
+      dropped = expected_dropped threshold layers;
+      arcs = length (built threshold layers).arcs;
+      kept = positions_in (built threshold layers).arcs;
+      removed = saturated (taken_out threshold layers);
+    }
 
--- all sources spell layers, among whose lines no position stands twice, and the text is their topology
-pub record Builds (exact : Bool) (olds news : Sources) (layers : Named) (counts : List Counts) (text : List ℕ) : Type 0 where
+-- all sources spell layers, and the text is their topology
+pub record Builds (exact : Bool) (threshold : ℕ) (olds news : Sources) (layers : Named) (counts : List Counts) (text : List ℕ) : Type 0 where
   pub read : AllRead exact olds news layers counts
-  pub apart : any_repeats (lines_of layers) ≡ false
-  pub topology : SaysTopology layers text
+  pub topology : SaysTopology threshold layers text
 
 -- the sink took the whole text of the topology, and the report is that of the layers
-pub record IsBuilt (exact : Bool) (olds news : Sources) (sink_old sink_new : Drained) (report : Report) : Type 0 where
+pub record IsBuilt (exact : Bool) (threshold : ℕ) (olds news : Sources) (sink_old sink_new : Drained) (report : Report) : Type 0 where
   pub layers : Named
   pub counts : List Counts
   pub text : List ℕ
-  pub builds : Builds exact olds news layers counts text
+  pub builds : Builds exact threshold olds news layers counts text
   pub written : Takes sink_old sink_new text (length text)
   pub sound : sink_new.failures ≡ 0
-  pub told : report ≡ report_of counts (lines_of layers)
+  pub told : report ≡ report_of threshold layers counts
 
 -- the device failed when it had taken a prefix of the text of the topology
-pub record IsCutShort (exact : Bool) (olds news : Sources) (sink_old sink_new : Drained) (sent : ℕ) : Type 0 where
+pub record IsCutShort (exact : Bool) (threshold : ℕ) (olds news : Sources) (sink_old sink_new : Drained) (sent : ℕ) : Type 0 where
   pub layers : Named
   pub counts : List Counts
   pub text : List ℕ
-  pub builds : Builds exact olds news layers counts text
+  pub builds : Builds exact threshold olds news layers counts text
   pub many : ℕ
   pub written : Takes sink_old sink_new text many
   pub counted : sent ≡ saturated many
   pub failed : 0 < sink_new.failures
 
--- a position stands twice among the lines of the layers
-pub record IsTooEarly (exact : Bool) (olds news : Sources) : Type 0 where
-  pub layers : Named
-  pub counts : List Counts
-  pub read : AllRead exact olds news layers counts
-  pub repeated : any_repeats (lines_of layers) ≡ true
-
 -- why nothing is built once the names and what is asked for are taken: nothing is written unless the device failed
-abbrev pub IsLateFault : Bool → Sources → Sources → Drained → Drained → BuildFault → Type 0
-IsLateFault exact olds news sink_old sink_new (Write sent) = IsCutShort exact olds news sink_old sink_new sent
-IsLateFault exact olds news sink_old sink_new NotYet = (sink_new ≡ sink_old) × IsTooEarly exact olds news
-IsLateFault exact olds news sink_old sink_new Memory = (sink_new ≡ sink_old) × AreUntroubled olds news
-IsLateFault exact olds news sink_old sink_new e = (sink_new ≡ sink_old) × FailsAt exact 0 olds news e
+abbrev pub IsLateFault : Bool → ℕ → Sources → Sources → Drained → Drained → BuildFault → Type 0
+IsLateFault exact threshold olds news sink_old sink_new (Write sent) = IsCutShort exact threshold olds news sink_old sink_new sent
+IsLateFault exact threshold olds news sink_old sink_new Memory = (sink_new ≡ sink_old) × AreUntroubled olds news
+IsLateFault exact threshold olds news sink_old sink_new e = (sink_new ≡ sink_old) × FailsAt exact 0 olds news e
 
 -- all of the text was taken and flushed, or a front of it, and the device failed
 abbrev pub Sends : Drained → Drained → List ℕ → Result (Unit {0}) BuildFault → Type 0

@@ -12,8 +12,6 @@ use Rattle.geojson_types.specs.declared.layer.Layer.{Layer}
 use Rattle.geojson_types.specs.Features.{Featured}
 use Rattle.geojson_model.specs.declared.fault.GeoFault.{GeoFault}
 use Rattle.geojson_model.specs.Layers.{layer}
-use Rattle.topo_model.specs.Assembled.{lines_of}
-use Rattle.topo_model.specs.Repeats.{any_repeats}
 use Rattle.mapchain_engine.specs.declared.fault.BuildFault.{BuildFault}
 use Rattle.mapchain_engine.specs.declared.fault.BuildFault.TheVariants.{EmptyName, DuplicateName, Read, Json as Text, Geo, Write, Memory, NotYet}
 use Rattle.mapchain_engine.specs.declared.report.Report.{Report}
@@ -67,14 +65,9 @@ abbrev pub AllComeTo : ℕ → Bool → List (List ℕ × List ℕ) → Outcome 
 AllComeTo n exact [] outcome = outcome ≡ Ok ([], [])
 AllComeTo n exact (b ∷ bs) outcome = (first : LayerOutcome) × LayerComesTo n exact b.1 first × Continues b.0 first (AllComeTo (suc n) exact bs) outcome
 
--- layers are built unless a position stands twice among their lines
-abbrev pub of_layers : Outcome → Outcome
-of_layers (Err e) = Err e
-of_layers (Ok r) = if any_repeats (lines_of r.0) then Err NotYet else Ok r
-
 -- the bytes under these names come to this
 abbrev pub ComesTo : Bool → List (List ℕ × List ℕ) → Outcome → Type 0
-ComesTo exact bs outcome = (read : Outcome) × AllComeTo 0 exact bs read × (outcome ≡ of_layers read)
+ComesTo exact bs outcome = AllComeTo 0 exact bs outcome
 
 -- ---- answers
 
@@ -106,11 +99,11 @@ IsOutside (Write sent) = Unit {0}
 IsOutside e = IsOutsideRead e
 
 -- the answer is that of the outcome, unless memory, a source or the sink failed
-abbrev pub Follows : Outcome → Result Report BuildFault → Type 0
-Follows (Ok r) (Ok report) = report ≡ report_of r.1 (lines_of r.0)
-Follows (Ok r) (Err e) = IsOutside e
-Follows (Err f) (Ok report) = ⊥
-Follows (Err f) (Err e) = (plain_fault e ≡ plain_fault f) ⊎ IsOutsideRead e
+abbrev pub Follows : ℕ → Outcome → Result Report BuildFault → Type 0
+Follows threshold (Ok r) (Ok report) = report ≡ report_of threshold r.0 r.1
+Follows threshold (Ok r) (Err e) = IsOutside e
+Follows threshold (Err f) (Ok report) = ⊥
+Follows threshold (Err f) (Err e) = (plain_fault e ≡ plain_fault f) ⊎ IsOutsideRead e
 
 -- the sources have these names, and these bytes left
 abbrev pub HaveBytes : Sources → List (List ℕ × List ℕ) → Type 0

@@ -4,6 +4,7 @@ use Rattle.byte_ends.specs.Ends.{Fed, saturated}
 use Rattle.geojson_types.specs.declared.counts.Counts.{Counts}
 use Rattle.geojson_types.specs.Counting.{no_counts}
 use Rattle.geojson_types.specs.declared.layer.Layer.{Layer}
+pub use Rattle.built_topology.specs.Layers.{Named}
 use Rattle.mapchain_engine.specs.declared.fault.BuildFault.{BuildFault}
 use Rattle.mapchain_engine.specs.declared.fault.BuildFault.TheVariants.{Memory}
 use Rattle.mapchain_engine.specs.Reading.{IsRead, SpellsLayer, FailsToRead}
@@ -11,10 +12,6 @@ use Rattle.mapchain_engine.specs.Reading.{IsRead, SpellsLayer, FailsToRead}
 -- sources with their names
 abbrev pub Sources : Type 0
 Sources = List (List ℕ × Fed)
-
--- layers with their names
-abbrev pub Named : Type 0
-Named = List (List ℕ × Layer)
 
 -- the source was read to its end, and its bytes spell the layer of these counts under its name
 pub record IsLayerRead (exact : Bool) (old new : List ℕ × Fed) (layer : List ℕ × Layer) (counts : Counts) : Type 0 where

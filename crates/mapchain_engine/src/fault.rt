@@ -29,7 +29,7 @@ pub enum BuildFault {
     /// An allocation was refused.
     #[error("out of memory")]
     Memory,
-    /// What is asked for can't be built yet: a grid, a threshold, or layers among whose lines and rings a position stands twice.
+    /// What is asked for can't be built yet: a grid or a threshold.
     #[error("not built yet")]
     NotYet,
 }

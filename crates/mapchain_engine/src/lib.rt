@@ -1,7 +1,8 @@
 //! Builds a topology (TopoJSON 1.0) of GeoJSON layers (RFC 7946): from the bytes that are read to the bytes that are written. It
-//! stands on `decimal_json` for JSON and the ends of byte streams, on `geojson_model` for layers, on `topo_model` for the topology
-//! of layers, on `topojson_writer` for its text, and on `topojson_decoder` for the law that the text is read back. A program above
-//! uses the contract of `build`. So far each line is an arc of its own: a position that stands twice among the lines is refused.
+//! stands on `decimal_json` for JSON and the ends of byte streams, on `geojson_model` for layers, on `linework`, `cutter` and
+//! `arc_table` for the arcs that their lines share, on `topo_model` for the topology over these, on `topojson_writer` for its text,
+//! and on `built_topology` and `topojson_decoder` for the laws that what is written decodes to what is expected of the layers. A
+//! program above uses the contract of `build`.
 #![tactic(auto)]
 
 mod building;

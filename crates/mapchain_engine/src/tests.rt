@@ -2,7 +2,7 @@
 use crate::{BuildFault, Options, Report, build, report_text};
 use byte_ends::devices::{CutReader, CutWriter, Fault};
 use byte_ends::{FromRead, MemoryDrain, ReadFault, Sink, Source, ToWrite};
-use decimal_json::{JsonFault, OwnText};
+use decimal_json::{JsonFault, OwnText, print_units};
 use geojson_model::{GeoFault, GeoFaultKind};
 use std::alloc::Global;
 use std::test::Fail;
@@ -111,10 +111,6 @@ fn refused(alloc: Global, bytes: &[u8], exact: bool) -> Result<BuildFault, Fail>
 #[test]
 fn refusals_of_a_layer(rt: HostRuntime) -> Result<(), Fail> {
     let alloc = rt.alloc();
-    let twice = b"{\"type\":\"LineString\",\"coordinates\":[[0,0],[1,0],[0,0]]}";
-    assert_eq!(rt; refused(alloc, twice, false)?, BuildFault::NotYet);
-    let ring = b"{\"type\":\"Polygon\",\"coordinates\":[[[0,0],[1,0],[0,1],[0,0]]]}";
-    assert_eq!(rt; refused(alloc, ring, false)?, BuildFault::NotYet);
     let circle = refused(alloc, b"{\"type\":\"Circle\"}", false)?;
     let fault = GeoFault {
         feature: None,
@@ -254,10 +250,6 @@ fn a_later_layer_is_refused(rt: HostRuntime) -> Result<(), Fail> {
     };
     assert_eq!(rt; answer.err(), Some(BuildFault::Geo { layer: 1, fault }));
     assert_eq!(rt; sink.sent(), 0);
-    let touching = b"{\"type\":\"LineString\",\"coordinates\":[[1.5,0.25],[9,9]]}";
-    let answer = built_layers(alloc, &[("a", LINE), ("b", touching)], false, &mut sink)?;
-    assert_eq!(rt; answer.err(), Some(BuildFault::NotYet));
-    assert_eq!(rt; sink.sent(), 0);
     Ok(())
 }
 
@@ -268,6 +260,164 @@ fn a_failing_reader(rt: HostRuntime) -> Result<(), Fail> {
     let fault = ReadFault::Read;
     assert_eq!(rt; answer.err(), Some(BuildFault::Read { layer: 0, fault }));
     assert_eq!(rt; sink.sent(), 0);
+    Ok(())
+}
+
+/// Two unit squares that share a side.
+const SQUARES: &[u8] =
+    b"{\"type\":\"FeatureCollection\",\"features\":[{\"type\":\"Feature\",\"properties\":null,\"geometry\":{\"type\":\"Polygon\",\"coordinates\":[[[0,0],[1,0],[1,1],[0,1],[0,0]]]}},{\"type\":\"Feature\",\"properties\":null,\"geometry\":{\"type\":\"Polygon\",\"coordinates\":[[[1,0],[2,0],[2,1],[1,1],[1,0]]]}}]}";
+
+const SQUARES_TOPOLOGY: &[u8] =
+    b"{\"type\":\"Topology\",\"objects\":{\"land\":{\"type\":\"GeometryCollection\",\"geometries\":[{\"type\":\"Polygon\",\"arcs\":[[0,1]]},{\"type\":\"Polygon\",\"arcs\":[[2,-1]]}]}},\"arcs\":[[[1,0],[1,1]],[[1,1],[0,1],[0,0],[1,0]],[[1,0],[2,0],[2,1],[1,1]]]}";
+
+#[test]
+fn two_squares(rt: HostRuntime) -> Result<(), Fail> {
+    let (held, report) = topology(rt.alloc(), &[("land", SQUARES)])?;
+    assert_eq!(rt; held.as_slice(), SQUARES_TOPOLOGY);
+    assert_eq!(rt; report.arcs, 3);
+    assert_eq!(rt; report.kept, 10);
+    assert_eq!(rt; report.removed, 0);
+    Ok(())
+}
+
+#[test]
+fn one_ring_of_two_layers(rt: HostRuntime) -> Result<(), Fail> {
+    let one = b"{\"type\":\"Polygon\",\"coordinates\":[[[0,0],[2,0],[0,2],[0,0]]]}";
+    let two = b"{\"type\":\"Polygon\",\"coordinates\":[[[2,0],[0,0],[0,2],[2,0]]]}";
+    let (held, report) = topology(rt.alloc(), &[("p", one), ("q", two)])?;
+    assert_eq!(rt;
+        held.as_slice(),
+        b"{\"type\":\"Topology\",\"objects\":{\"p\":{\"type\":\"GeometryCollection\",\"geometries\":[{\"type\":\"Polygon\",\"arcs\":[[0]]}]},\"q\":{\"type\":\"GeometryCollection\",\"geometries\":[{\"type\":\"Polygon\",\"arcs\":[[-1]]}]}},\"arcs\":[[[0,0],[2,0],[0,2],[0,0]]]}".as_slice()
+    );
+    assert_eq!(rt; report.kept, 4);
+    Ok(())
+}
+
+#[test]
+fn lines_that_turn_back(rt: HostRuntime) -> Result<(), Fail> {
+    let back = b"{\"type\":\"LineString\",\"coordinates\":[[0,0],[1,0],[0,0]]}";
+    let (held, _report) = topology(rt.alloc(), &[("l", back)])?;
+    assert_eq!(rt;
+        held.as_slice(),
+        b"{\"type\":\"Topology\",\"objects\":{\"l\":{\"type\":\"GeometryCollection\",\"geometries\":[{\"type\":\"LineString\",\"arcs\":[0,-1]}]}},\"arcs\":[[[0,0],[1,0]]]}".as_slice()
+    );
+    let over =
+        b"{\"type\":\"MultiLineString\",\"coordinates\":[[[0,0],[1,0],[2,0]],[[0,0],[1,0],[0,0]]]}";
+    let (held, _report) = topology(rt.alloc(), &[("l", over)])?;
+    assert_eq!(rt;
+        held.as_slice(),
+        b"{\"type\":\"Topology\",\"objects\":{\"l\":{\"type\":\"GeometryCollection\",\"geometries\":[{\"type\":\"MultiLineString\",\"arcs\":[[0,1],[0,-1]]}]}},\"arcs\":[[[0,0],[1,0]],[[1,0],[2,0]]]}".as_slice()
+    );
+    Ok(())
+}
+
+#[test]
+fn a_ring_that_winds_twice(rt: HostRuntime) -> Result<(), Fail> {
+    let ring =
+        b"{\"type\":\"Polygon\",\"coordinates\":[[[0,0],[1,0],[0,1],[0,0],[1,0],[0,1],[0,0]]]}";
+    let (held, report) = topology(rt.alloc(), &[("r", ring)])?;
+    assert_eq!(rt;
+        held.as_slice(),
+        b"{\"type\":\"Topology\",\"objects\":{\"r\":{\"type\":\"GeometryCollection\",\"geometries\":[{\"type\":\"Polygon\",\"arcs\":[[0,0]]}]}},\"arcs\":[[[0,0],[1,0],[0,1],[0,0]]]}".as_slice()
+    );
+    assert_eq!(rt; report.arcs, 1);
+    Ok(())
+}
+
+/// The report of one layer as a text, and whether the layer's feature is written like this, over no arc.
+fn dropped(alloc: Global, layer: &[u8], feature: &[u8]) -> Result<(MemoryDrain, bool), Fail> {
+    let (held, report) = topology(alloc, &[("d", layer)])?;
+    let mut text = Sink::new(MemoryDrain::new(alloc));
+    report_text(&report, &mut text)?;
+    let front =
+        b"{\"type\":\"Topology\",\"objects\":{\"d\":{\"type\":\"GeometryCollection\",\"geometries\":[";
+    let behind = b"]}},\"arcs\":[]}";
+    let mut whole = Vec::new(alloc);
+    whole.extend_from_slice(front).map_err(|_| "memory")?;
+    whole.extend_from_slice(feature).map_err(|_| "memory")?;
+    whole.extend_from_slice(behind).map_err(|_| "memory")?;
+    Ok((text.into_inner(), held.as_slice() == whole.as_slice()))
+}
+
+#[test]
+fn a_hole_behind_a_dropped_outer_ring(rt: HostRuntime) -> Result<(), Fail> {
+    let polygon =
+        b"{\"type\":\"Polygon\",\"coordinates\":[[[0,0],[0,0],[0,0],[0,0]],[[1,1],[2,1],[1,2],[1,1]]]}";
+    let (report, is_null) = dropped(rt.alloc(), polygon, b"{\"type\":null}")?;
+    assert!(rt; is_null);
+    assert_eq!(rt;
+        report.as_slice(),
+        b"rounded 0\nextra 0\nempty 0\ndropped 2\ndrop 0 0 0 collapsed\ndrop 0 0 1 outer\narcs 0\nkept 0\nremoved 0\n".as_slice()
+    );
+    Ok(())
+}
+
+#[test]
+fn a_collection_whose_members_are_dropped(rt: HostRuntime) -> Result<(), Fail> {
+    let group =
+        b"{\"type\":\"GeometryCollection\",\"geometries\":[{\"type\":\"LineString\",\"coordinates\":[[0,0],[0,0]]}]}";
+    let empty = b"{\"type\":\"GeometryCollection\",\"geometries\":[]}";
+    let (report, is_empty) = dropped(rt.alloc(), group, empty)?;
+    assert!(rt; is_empty);
+    assert_eq!(rt;
+        report.as_slice(),
+        b"rounded 0\nextra 0\nempty 0\ndropped 1\ndrop 0 0 0 collapsed\narcs 0\nkept 0\nremoved 0\n".as_slice()
+    );
+    Ok(())
+}
+
+/// Writes a square of the side one as a polygon, from its lower left corner.
+fn put_square(text: &mut Sink<MemoryDrain>, x: i64, y: i64) -> Result<(), Fail> {
+    text.push(b"{\"type\":\"Polygon\",\"coordinates\":[[")?;
+    let right = x.saturating_add(1);
+    let top = y.saturating_add(1);
+    for (x, y) in [(x, y), (right, y), (right, top), (x, top)] {
+        text.push(b"[")?;
+        print_units(x, 0, text)?;
+        text.push(b",")?;
+        print_units(y, 0, text)?;
+        text.push(b"],")?;
+    }
+    text.push(b"[")?;
+    print_units(x, 0, text)?;
+    text.push(b",")?;
+    print_units(y, 0, text)?;
+    Ok(text.push(b"]]]}")?)
+}
+
+#[test]
+fn twenty_by_twenty_squares(rt: HostRuntime) -> Result<(), Fail> {
+    let alloc = rt.alloc();
+    let mut text = Sink::new(MemoryDrain::new(alloc));
+    text.push(b"{\"type\":\"GeometryCollection\",\"geometries\":[")?;
+    for i in 0..400 {
+        if i > 0 {
+            text.push(b",")?;
+        }
+        put_square(&mut text, i % 20, i / 20)?;
+    }
+    text.push(b"]}")?;
+    let layer = text.into_inner();
+    let (_held, report) = topology(alloc, &[("squares", layer.as_slice())])?;
+    assert_eq!(rt; report.arcs, 836);
+    assert_eq!(rt; report.kept, 1676);
+    assert_eq!(rt; report.removed, 0);
+    Ok(())
+}
+
+#[test]
+fn a_writer_that_fails_after_twenty_bytes(rt: HostRuntime) -> Result<(), Fail> {
+    let alloc = rt.alloc();
+    let device = CutWriter::new(Vec::new(alloc), 20, Fault::AtByte(20));
+    let mut sink = Sink::new(ToWrite::new(device));
+    let mut sources = Vec::new(alloc);
+    sources
+        .push((name(alloc, "land")?, source(SQUARES, Fault::Never)))
+        .map_err(|_| "memory")?;
+    let answer = build(alloc, &mut sources, &options(false), &mut sink);
+    assert_eq!(rt; answer.err(), Some(BuildFault::Write { sent: 20 }));
+    let device = sink.into_inner().into_inner();
+    assert_eq!(rt; device.held(), b"{\"type\":\"Topology\",\"".as_slice());
     Ok(())
 }
 

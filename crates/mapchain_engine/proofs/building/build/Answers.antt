@@ -1,7 +1,9 @@
-use Rattle.std.proofs.Common.{◌∙◌, ap, refl, map, Err}
+use Rattle.std.proofs.Common.{◌≡◌, ◌∙◌, ap, refl, sym, subst, map, Err, arith}
+use Rattle.std.proofs.lemmas.Bool.Decides.{nat_tests}
 use Rattle.std.proofs.lemmas.Result.{err_from_is_err_and}
 use Rattle.mapchain_engine.proofs.Built.{early_names}
 use Rattle.mapchain_engine.proofs.Decided as decided
+use Rattle.mapchain_engine.specs.Outcomes.{Follows}
 use Rattle.mapchain_engine.proofs.building.build.Goals as goal
 
 pub returns-in_err-check_names-clause-early : goal.returns-in_err-check_names-clause-early
@@ -12,4 +14,6 @@ returns-in_err-check_names-clause-early g c e early =
 
 pub returns-clause-decided : goal.returns-clause-decided
 returns-clause-decided g c bytes outcome early have comes =
-    decided.decides c.args.options.now.exact c.args.sources.now c.build_layers.new.sources c.args.sink.now c.build_layers.new.sink bytes have outcome comes c.build_layers.result c.build_layers.ensures.built c.build_layers.ensures.refused
+    let zero : c.args.options.now.threshold ≡ 0 = grind (arith, nat_tests, c.if-options-ne0.false) in
+    subst (λ t. Follows t outcome c.build_layers.result) (sym zero)
+    (decided.decides c.args.options.now.exact 0 c.args.sources.now c.build_layers.new.sources c.args.sink.now c.build_layers.new.sink bytes have outcome comes c.build_layers.result c.build_layers.ensures.built c.build_layers.ensures.refused)

@@ -19,8 +19,15 @@ difference_is a b = omega (arith, ints)
 
 -- a difference times an integer, and an integer times a difference
 pub sub_times : (a b c : ℤ) → (a -ℤ b) *ℤ c ≡ a *ℤ c -ℤ b *ℤ c
-sub_times a b c = omega (arith, ints, product_is (a -ℤ b) c, product_is a c, product_is b c,
-    ap (λ n. n * up c) (difference_is a b), ap (λ n. n * down c) (difference_is a b))
+sub_times a b c = omega (
+  arith,
+  ints,
+  product_is (a -ℤ b) c,
+  product_is a c,
+  product_is b c,
+  ap (λ n. n * up c) (difference_is a b),
+  ap (λ n. n * down c) (difference_is a b),
+)
 
 pub times_sub : (a b c : ℤ) → c *ℤ (a -ℤ b) ≡ c *ℤ a -ℤ c *ℤ b
 times_sub a b c = *ℤ_comm c (a -ℤ b) ∙ sub_times a b c ∙ ap (λ z. z -ℤ b *ℤ c) (*ℤ_comm a c) ∙ ap (λ z. c *ℤ a -ℤ z) (*ℤ_comm b c)
@@ -33,9 +40,14 @@ sub_times_sub a b c d = sub_times a b (c -ℤ d) ∙ ap (λ z. z -ℤ b *ℤ (c 
 -- the cross product from the other end is the same under the other sign
 pub cross_turned : (a b c : Point) → cross a b c +ℤ cross c b a ≡ pos 0
 unfolding cross
-cross_turned a b c = omega (arith, ints,
-    sub_times_sub b.x a.x c.y a.y, sub_times_sub c.x a.x b.y a.y,
-    sub_times_sub b.x c.x a.y c.y, sub_times_sub a.x c.x b.y c.y)
+cross_turned a b c = omega (
+  arith,
+  ints,
+  sub_times_sub b.x a.x c.y a.y,
+  sub_times_sub c.x a.x b.y a.y,
+  sub_times_sub b.x c.x a.y c.y,
+  sub_times_sub a.x c.x b.y c.y,
+)
 
 apart_abs : (y z : ℤ) → y +ℤ z ≡ pos 0 → unsigned_abs y ≡ unsigned_abs z
 apart_abs y z sum = omega (arith, ints)

@@ -4,7 +4,7 @@
 #
 #     scripts/refused-memory.sh           from the first allocation on
 #     scripts/refused-memory.sh 40        from the 40th on
-#     JOBS=3 scripts/refused-memory.sh    three runs at a time (a run takes some 20 seconds and 1 GB, and there are some 80)
+#     JOBS=3 scripts/refused-memory.sh    three runs at a time (a run takes some 20 seconds and 1 GB)
 #
 # The runs are the tests of crates/refusals, each in a process of its own: building a line's layer and refusing one that is
 # cut off, by the engine, and `mapchain build a=line.json`. For N = 1, 2, .. the Nth allocation of each is refused. A test

@@ -29,7 +29,7 @@ tails : (xs : List (List Point)) → joined_behind_first xs ≡ flat_map but_fir
 tails [] = refl
 tails (p ∷ ps) = ap (λ l. l ++ joined_behind_first ps) (behind p) ∙ ap (λ l. but_first p ++ l) (tails ps)
 
-same_rejoined : (xs : List (List Point)) → rejoined xs ≡ pieces.rejoined xs
+pub same_rejoined : (xs : List (List Point)) → rejoined xs ≡ pieces.rejoined xs
 same_rejoined [] = refl
 same_rejoined (p ∷ ps) = ap (λ l. p ++ l) (tails ps)
 

@@ -7,8 +7,6 @@
 mod comparing;
 mod placing;
 mod table;
-#[cfg(test)]
-mod tests;
 
 pub use table::Table;
 pub use topo_types::ArcRef;

@@ -72,7 +72,7 @@ module _ (lines : List Stroke) (t : ℕ) where
   Returns b = then_some (back lines t b.0) (kept_refs lines t b.0 b.1) ≡ kept_line lines t b.0 b.1
 
   shape_back : (s : Option Shape) → AllByRecursion Returns (option_strokes s) →
-      then_some (decoded_shape arcs) (then_some (prune (λ p. p) (kept_refs lines t)) s) ≡ then_some (prune (λ p. p) (kept_line lines t)) s
+      then_some (decoded_shape (λ p. p) arcs) (then_some (prune (λ p. p) (kept_refs lines t)) s) ≡ then_some (prune (λ p. p) (kept_line lines t)) s
   shape_back None h = refl
   shape_back (Some s) h =
       composed (λ p. p) (λ p. p) (kept_refs lines t) (back lines t) s
@@ -81,14 +81,14 @@ module _ (lines : List Stroke) (t : ℕ) where
   abbrev with_shape : Featured → Option Shape → Featured
   with_shape f s = record { id = f.id; properties = f.properties; shape = s }
 
-  features_back : (fs : List Featured) → AllByRecursion Returns (features_strokes fs) → map (decoded_feature arcs) (features_by (kept_refs lines t) fs) ≡ map (expected_feature lines t) fs
+  features_back : (fs : List Featured) → AllByRecursion Returns (features_strokes fs) → map (decoded_feature (λ p. p) arcs) (features_by (kept_refs lines t) fs) ≡ map (expected_feature lines t) fs
   features_back [] h = refl
   features_back (f ∷ fs) h =
-      ap (λ g. g ∷ map (decoded_feature arcs) (features_by (kept_refs lines t) fs)) (ap (with_shape f) (shape_back f.shape (all_left Returns (option_strokes f.shape) (features_strokes fs) h)))
+      ap (λ g. g ∷ map (decoded_feature (λ p. p) arcs) (features_by (kept_refs lines t) fs)) (ap (with_shape f) (shape_back f.shape (all_left Returns (option_strokes f.shape) (features_strokes fs) h)))
       ∙ ap (λ gs. expected_feature lines t f ∷ gs) (features_back fs (all_right Returns (option_strokes f.shape) (features_strokes fs) h))
 
   abbrev LayerReturns : List ℕ × Layer → Type 0
-  LayerReturns l = map (decoded_feature arcs) (features_by (kept_refs lines t) l.1.features) ≡ map (expected_feature lines t) l.1.features
+  LayerReturns l = map (decoded_feature (λ p. p) arcs) (features_by (kept_refs lines t) l.1.features) ≡ map (expected_feature lines t) l.1.features
 
   layers_back : (ls : Named) → AllByRecursion Returns (named_strokes ls) → AllByRecursion LayerReturns ls
   layers_back [] h = tt
@@ -114,7 +114,7 @@ untrimmed_decodes law t ls sound distinct =
     let returns = weaker (StandsIn lines) (Returns lines t) (line_back law lines t (own_apart ls sound)) (named_strokes ls) (each_stands ls) in
     all_two (LayerReturns lines t) (λ l. of_name l.0 (objects_by (kept_refs lines t) ls) ≡ Some (Many (features_by (kept_refs lines t) l.1.features)))
     (λ l. decoded (untrimmed t ls) l.0 ≡ Some (set.Many (expected_of ls t l.1)))
-    (λ l e n. ap (map_some (decoded_object (arcs lines t))) n ∙ ap (λ fs. Some (set.Many fs)) e)
+    (λ l e n. ap (map_some (decoded_object (λ p. p) (arcs lines t))) n ∙ ap (λ fs. Some (set.Many fs)) e)
     ls (layers_back lines t ls returns) (by_name (λ y. Many (features_by (kept_refs lines t) y.features)) ls distinct)
 
 -- decoding gives each layer what is expected of it

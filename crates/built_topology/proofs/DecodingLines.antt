@@ -1,13 +1,12 @@
 -- What is decoded of a line's indexes among all arcs, each of which is reduced, is the line rebuilt of its own pieces.
 use Rattle.std.proofs.Common.{◌≡◌, ℕ, zero, suc, ◌-◌, ◌<◌, ◌≤◌, ℤ, pos, negsuc, Bool, true, false, cond, List, [], ◌∷◌, ◌++◌, map, length, append-nil, reverse, Option, None, Some, refl, sym, ap, ◌∙◌, arith, inl, inr}
-use Rattle.std.specs.List.{flat_map}
 use Rattle.std.proofs.lemmas.Bool.Decides.{nat_tests}
 use Rattle.arc_table.specs.Arcs.{arcs_of, index_in}
 use Rattle.arc_table.specs.Growth.{first_alike}
 use Rattle.arc_table.proofs.Alike.{arcs_unlike, arc_is_piece, piece_has_alike}
 use Rattle.arc_table.proofs.Indexes.{named_is, index_is}
-use Rattle.cutter.specs.Pieces.{pieces, but_first}
-use Rattle.cutter.specs.Pieces as cut
+use Rattle.arc_table.proofs.Rejoining.{same_rejoined}
+use Rattle.cutter.specs.Pieces.{pieces}
 use Rattle.cutter.specs.Places.{In, Apart, interior}
 use Rattle.effective_area.specs.Elimination.{reduced}
 use Rattle.effective_area.specs.Laws.{DirectionLaw}
@@ -19,7 +18,7 @@ use Rattle.geojson_types.specs.Rings.{same}
 use Rattle.linework.specs.Cleaning.{clean_from, clean, is_short}
 use Rattle.linework.specs.declared.stroke.Stroke.{Stroke}
 use Rattle.topo_types.specs.Decoding.{repeated, filled, completed, decoded_line}
-use Rattle.topo_types.specs.Joins.{number_of, at, or_empty, arc_at, behind_first, joined_behind_first, rejoined}
+use Rattle.topo_types.specs.Joins.{number_of, at, or_empty, arc_at, rejoined}
 use Rattle.built_topology.specs.Built.{all_arcs, kept_refs}
 use Rattle.built_topology.specs.Expected.{own_pieces, own_cause, rebuilt, unless, kept_line}
 use Rattle.built_topology.proofs.Linework.{Line, StandsIn, own_in}
@@ -63,20 +62,6 @@ pieces_back law t ps apart [] f = refl
 pieces_back law t ps apart (x ∷ xs) f =
     ap (λ y. y ∷ map (arc_at (map (reduced t) (arcs_of ps))) (map (index_in (arcs_of ps)) xs)) (piece_back law t ps apart x (f x (inl refl)))
     ∙ ap (λ ys. reduced t x ∷ ys) (pieces_back law t ps apart xs (λ y k. f y (inr k)))
-
--- ---- joined again
-
-behind : (p : List Point) → behind_first p ≡ but_first p
-behind [] = refl
-behind (x ∷ xs) = refl
-
-tails : (xs : List (List Point)) → joined_behind_first xs ≡ flat_map but_first xs
-tails [] = refl
-tails (p ∷ ps) = ap (λ l. l ++ joined_behind_first ps) (behind p) ∙ ap (λ l. but_first p ++ l) (tails ps)
-
-pub same_rejoined : (xs : List (List Point)) → rejoined xs ≡ cut.rejoined xs
-same_rejoined [] = refl
-same_rejoined (p ∷ ps) = ap (λ l. p ++ l) (tails ps)
 
 -- ---- a ring that is kept has enough positions
 

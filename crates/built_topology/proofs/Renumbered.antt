@@ -1,4 +1,4 @@
--- Objects made of layers and then renumbered are made of the layers at once.
+-- Objects made of layers and then renumbered are made of the layers at once, and the topology that is built has no transform.
 use Rattle.std.proofs.Common.{◌≡◌, ℕ, Bool, List, [], ◌∷◌, map, Option, None, Some, refl}
 use Rattle.geojson_types.specs.Features.{Shape, Featured}
 use Rattle.geojson_types.specs.Lists.{then_some}
@@ -34,3 +34,7 @@ kept_in t ls = kept_renumbered (is_used (untrimmed t ls).objects) (kept_refs (li
 pub built_objects : (t : ℕ) (ls : Named) → (built t ls).objects ≡ objects_by (kept_in t ls) ls
 unfolding built trimmed
 built_objects t ls = objects_once (is_used (untrimmed t ls).objects) (kept_refs (linework (layers_of ls)) t) ls
+
+pub built_has_no_transform : (t : ℕ) (ls : Named) → (built t ls).transform ≡ None
+unfolding built trimmed
+built_has_no_transform t ls = refl

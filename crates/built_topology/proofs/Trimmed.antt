@@ -13,9 +13,11 @@ use Rattle.geojson_types.proofs.Composition.{composed}
 use Rattle.topo_types.specs.declared.feature.TopoFeature.{TopoFeature}
 use Rattle.topo_types.specs.declared.object.TopoObject.{TopoObject}
 use Rattle.topo_types.specs.declared.object.TopoObject.TheVariants.{One, Many}
-use Rattle.topo_types.specs.Decoding.{completed, decoded_line, decoded_shape, decoded_feature, decoded_object, of_name, decoded}
+use Rattle.topo_types.specs.declared.transform.Transform.{Transform}
+use Rattle.topo_types.specs.Decoding.{completed, decoded_line, decoded_shape, decoded_feature, decoded_object, of_name, placed_arcs, decoded}
 use Rattle.topo_types.specs.Joins.{number_of, at, or_empty, arc_at, rejoined}
 use Rattle.topo_types.specs.Topologies.{TopoShape, Contents, object_features, features_strokes, objects_strokes}
+use Rattle.topo_types.specs.Transforms.{place, place_on}
 use Rattle.geojson_types.specs.Features.{Featured, Shape}
 use Rattle.built_topology.specs.Trimming.{is_used, keep_from, rank_from, renumbered, line_renumbered, feature_renumbered, object_renumbered, trimmed}
 use Rattle.built_topology.proofs.Lists.{weaker}
@@ -72,7 +74,7 @@ all_used os =
 
 -- ---- what is decoded
 
-module _ (used : ℕ → Bool) (arcs : List (List Point)) where
+module _ (lies : Point → Point) (used : ℕ → Bool) (arcs : List (List Point)) where
   abbrev kept : List (List Point)
   kept = keep_from used 0 arcs
 
@@ -83,31 +85,31 @@ module _ (used : ℕ → Bool) (arcs : List (List Point)) where
   line_same b h = ap (λ xs. Some (completed b.0 (rejoined xs))) (all_renumbered used arcs b.1 h)
 
   shape_same : (s : Option TopoShape) → AllByRecursion (AllUsed used) (option_strokes s)
-      → then_some (decoded_shape kept) (then_some (prune (λ p. p) (line_renumbered used)) s) ≡ then_some (decoded_shape arcs) s
+      → then_some (decoded_shape lies kept) (then_some (prune (λ p. p) (line_renumbered used)) s) ≡ then_some (decoded_shape lies arcs) s
   shape_same None h = refl
   shape_same (Some s) h =
-      composed (λ p. p) (λ p. p) (line_renumbered used) (line_of kept) s
-      ∙ agreed (λ p. p) (λ closed refs. line_of kept closed (map (renumbered used) refs)) (line_of arcs) s
+      composed (λ p. p) lies (line_renumbered used) (line_of kept) s
+      ∙ agreed lies (λ closed refs. line_of kept closed (map (renumbered used) refs)) (line_of arcs) s
       (weaker (AllUsed used) (λ b. line_of kept b.0 (map (renumbered used) b.1) ≡ line_of arcs b.0 b.1) line_same (option_strokes (Some s)) h)
 
   abbrev with_shape : TopoFeature → Option Shape → Featured
   with_shape f s = record { id = f.id; properties = f.properties; shape = s }
 
-  feature_same : (f : TopoFeature) → AllByRecursion (AllUsed used) (option_strokes f.shape) → decoded_feature kept (feature_renumbered used f) ≡ decoded_feature arcs f
+  feature_same : (f : TopoFeature) → AllByRecursion (AllUsed used) (option_strokes f.shape) → decoded_feature lies kept (feature_renumbered used f) ≡ decoded_feature lies arcs f
   feature_same f h = ap (with_shape f) (shape_same f.shape h)
 
-  features_same : (fs : List TopoFeature) → AllByRecursion (AllUsed used) (features_strokes fs) → map (decoded_feature kept) (map (feature_renumbered used) fs) ≡ map (decoded_feature arcs) fs
+  features_same : (fs : List TopoFeature) → AllByRecursion (AllUsed used) (features_strokes fs) → map (decoded_feature lies kept) (map (feature_renumbered used) fs) ≡ map (decoded_feature lies arcs) fs
   features_same [] h = refl
   features_same (f ∷ fs) h =
-      ap (λ g. g ∷ map (decoded_feature kept) (map (feature_renumbered used) fs)) (feature_same f (all_left (AllUsed used) (option_strokes f.shape) (features_strokes fs) h))
-      ∙ ap (λ gs. decoded_feature arcs f ∷ gs) (features_same fs (all_right (AllUsed used) (option_strokes f.shape) (features_strokes fs) h))
+      ap (λ g. g ∷ map (decoded_feature lies kept) (map (feature_renumbered used) fs)) (feature_same f (all_left (AllUsed used) (option_strokes f.shape) (features_strokes fs) h))
+      ∙ ap (λ gs. decoded_feature lies arcs f ∷ gs) (features_same fs (all_right (AllUsed used) (option_strokes f.shape) (features_strokes fs) h))
 
-  object_same : (o : TopoObject) → AllByRecursion (AllUsed used) (features_strokes (object_features o)) → decoded_object kept (object_renumbered used o) ≡ decoded_object arcs o
+  object_same : (o : TopoObject) → AllByRecursion (AllUsed used) (features_strokes (object_features o)) → decoded_object lies kept (object_renumbered used o) ≡ decoded_object lies arcs o
   object_same (One f) h = ap set.One (feature_same f (all_left (AllUsed used) (option_strokes f.shape) [] h))
   object_same (Many fs) h = ap set.Many (features_same fs h)
 
   name_same : (name : List ℕ) (os : List (List ℕ × TopoObject)) → AllByRecursion (AllUsed used) (objects_strokes os)
-      → map_some (decoded_object kept) (of_name name (map (λ o. (o.0, object_renumbered used o.1)) os)) ≡ map_some (decoded_object arcs) (of_name name os)
+      → map_some (decoded_object lies kept) (of_name name (map (λ o. (o.0, object_renumbered used o.1)) os)) ≡ map_some (decoded_object lies arcs) (of_name name os)
   name_same name [] h = refl
   name_same name (o ∷ os) h =
       on (bytes_eq o.0 name) (object_same o.1 (all_left (AllUsed used) (features_strokes (object_features o.1)) (objects_strokes os) h))
@@ -116,13 +118,29 @@ module _ (used : ℕ → Bool) (arcs : List (List Point)) where
       rest : List (List ℕ × TopoObject)
       rest = map (λ o. (o.0, object_renumbered used o.1)) os
 
-      on : (b : Bool) → decoded_object kept (object_renumbered used o.1) ≡ decoded_object arcs o.1
-          → map_some (decoded_object kept) (of_name name rest) ≡ map_some (decoded_object arcs) (of_name name os)
-          → map_some (decoded_object kept) (cond b (Some (object_renumbered used o.1)) (of_name name rest)) ≡ map_some (decoded_object arcs) (cond b (Some o.1) (of_name name os))
+      on : (b : Bool) → decoded_object lies kept (object_renumbered used o.1) ≡ decoded_object lies arcs o.1
+          → map_some (decoded_object lies kept) (of_name name rest) ≡ map_some (decoded_object lies arcs) (of_name name os)
+          → map_some (decoded_object lies kept) (cond b (Some (object_renumbered used o.1)) (of_name name rest)) ≡ map_some (decoded_object lies arcs) (cond b (Some o.1) (of_name name os))
       on true e ih = ap Some e
       on false e ih = ih
+
+-- arcs are placed one by one
+kept_of_map : {X Y : Type 0} (f : X → Y) (used : ℕ → Bool) (n : ℕ) (xs : List X) → map f (keep_from used n xs) ≡ keep_from used n (map f xs)
+kept_of_map f used n [] = refl
+kept_of_map {X = X} f used n (x ∷ xs) = on (used n) (kept_of_map f used (suc n) xs)
+  where
+    on : (b : Bool) → map f (keep_from used (suc n) xs) ≡ keep_from used (suc n) (map f xs)
+        → map f (cond b (x ∷ keep_from used (suc n) xs) (keep_from used (suc n) xs)) ≡ cond b (f x ∷ keep_from used (suc n) (map f xs)) (keep_from used (suc n) (map f xs))
+    on true ih = ap (λ ys. f x ∷ ys) ih
+    on false ih = ih
+
+kept_placed : (transform : Option Transform) (used : ℕ → Bool) (arcs : List (List Point)) → placed_arcs transform (keep_from used 0 arcs) ≡ keep_from used 0 (placed_arcs transform arcs)
+kept_placed None used arcs = refl
+kept_placed (Some t) used arcs = kept_of_map (map (place_on t)) used 0 arcs
 
 -- the same is decoded of each name
 pub trimmed_decodes : (t : Contents) (name : List ℕ) → decoded (trimmed t) name ≡ decoded t name
 unfolding decoded trimmed
-trimmed_decodes t name = name_same (is_used t.objects) t.arcs name t.objects (all_used t.objects)
+trimmed_decodes t name =
+    ap (λ arcs. map_some (decoded_object (place t.transform) arcs) (of_name name (trimmed t).objects)) (kept_placed t.transform (is_used t.objects) t.arcs)
+    ∙ name_same (place t.transform) (is_used t.objects) (placed_arcs t.transform t.arcs) name t.objects (all_used t.objects)

@@ -75,11 +75,11 @@ module _ (kept : Kept) (used : ℕ → Bool) (some : (closed : Bool) (l : List P
   option_stay None h = tt
   option_stay (Some s) h = subst (λ o. AllByRecursion IsPosition (option_places o)) (sym (composed (λ p. p) (λ p. p) kept (line_renumbered used) s)) (places_stay both IsPosition s h)
 
-  features_are : (fs : List Featured) → AllByRecursion IsSound fs → AllByRecursion IsFeature (map (feature_renumbered used) (features_by kept fs))
+  features_are : (fs : List Featured) → AllByRecursion IsSound fs → AllByRecursion (IsFeature None) (map (feature_renumbered used) (features_by kept fs))
   features_are [] h = tt
   features_are (f ∷ fs) h = ((option_full f.shape h.0.proper, option_stay f.shape h.0.places), features_are fs h.1)
 
-  objects_are : (ls : Named) → AreSound ls → AllByRecursion (λ o. IsObject o.1) (now used (objects_by kept ls))
+  objects_are : (ls : Named) → AreSound ls → AllByRecursion (λ o. IsObject None o.1) (now used (objects_by kept ls))
   objects_are [] h = tt
   objects_are (l ∷ ls) h = (features_are l.1.features h.0, objects_are ls h.1)
 
@@ -179,10 +179,10 @@ module _ (stay : EndsStay) (none : NoneIsNew) (t : ℕ) (ls : Named) (sound : Ar
   abbrev left : List (List Point)
   left = keep_from used 0 all_fewer
 
-  fewer_are_arcs : AllByRecursion IsArc all_fewer
+  fewer_are_arcs : AllByRecursion (IsArc None) all_fewer
   fewer_are_arcs =
-      all_map IsArc (reduced t) (all_arcs lines)
-      (all_two (λ x. 2 ≤ length x) (λ x. AllByRecursion IsPosition x) (λ x. IsArc (reduced t x))
+      all_map (IsArc None) (reduced t) (all_arcs lines)
+      (all_two (λ x. 2 ≤ length x) (λ x. AllByRecursion IsPosition x) (λ x. IsArc None (reduced t x))
       (λ x h k. ((ends_kept stay t x h).1, sub_all IsPosition (none t x) k)) (all_arcs lines) (arcs_long lines (all_clean ls sound)) (arcs_placed ls sound))
 
   before_fine : AllByRecursion (IsFine all_fewer) (objects_strokes objects_of)
@@ -206,8 +206,9 @@ module _ (stay : EndsStay) (none : NoneIsNew) (t : ℕ) (ls : Named) (sound : Ar
   unfolding built trimmed
   valid distinct = record {
     names = subst AreDistinct (sym (names_stay used (kept_refs lines t) ls)) distinct;
+    transform = tt;
     objects = objects_are (kept_refs lines t) used (some_kept lines t) ls sound;
-    arcs = all_kept IsArc used 0 all_fewer fewer_are_arcs;
+    arcs = all_kept (IsArc None) used 0 all_fewer fewer_are_arcs;
     ranged = weaker (IsFine left) (λ b. AreInRange (length left) b.1) (λ b h. h.0) (objects_strokes (now used objects_of)) all_fine;
     joined = weaker (IsFine left) (IsJoined left) (λ b h. h.1) (objects_strokes (now used objects_of)) all_fine;
     closed = weaker (IsFine left) (IsClosed left) (λ b h. h.2) (objects_strokes (now used objects_of)) all_fine;

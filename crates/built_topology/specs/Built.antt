@@ -1,5 +1,5 @@
 -- The topology that is built of layers.
-use Rattle.std.specs.Prelude.{ℕ, ◌-◌, ℤ, Bool, List, Option, length, map, sum}
+use Rattle.std.specs.Prelude.{ℕ, ◌-◌, ℤ, Bool, List, Option, None, length, map, sum}
 use Rattle.arc_table.specs.Arcs.{arcs_of, index_in}
 use Rattle.cutter.specs.Pieces.{pieces}
 use Rattle.effective_area.specs.Elimination.{reduced}
@@ -20,10 +20,10 @@ all_arcs lines = arcs_of (pieces lines)
 abbrev pub kept_refs : List Stroke → ℕ → Bool → List Point → Option (List ℤ)
 kept_refs lines t closed ps = unless (own_cause lines t closed ps) (map (index_in (all_arcs lines)) (own_pieces lines closed ps))
 
--- the layers over all arcs, each arc reduced once as it stands
+-- the layers over all arcs, each arc reduced once as it stands; there is no transform
 abbrev pub untrimmed : ℕ → Named → Contents
 untrimmed t ls =
-    record { objects = objects_by (kept_refs (linework (layers_of ls)) t) ls; arcs = map (reduced t) (all_arcs (linework (layers_of ls))) }
+    record { objects = objects_by (kept_refs (linework (layers_of ls)) t) ls; arcs = map (reduced t) (all_arcs (linework (layers_of ls))); transform = None }
 
 -- the same without the arcs that no kept line uses
 unfoldable pub built : ℕ → Named → Contents

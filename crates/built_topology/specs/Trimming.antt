@@ -41,4 +41,4 @@ object_renumbered used (Many fs) = Many (map (feature_renumbered used) fs)
 
 -- only the arcs that a line or ring uses, in the same order, and each index renumbered
 unfoldable pub trimmed : Contents → Contents
-trimmed t = record { objects = map (λ o. (o.0, object_renumbered (is_used t.objects) o.1)) t.objects; arcs = keep_from (is_used t.objects) 0 t.arcs }
+trimmed t = record { objects = map (λ o. (o.0, object_renumbered (is_used t.objects) o.1)) t.objects; arcs = keep_from (is_used t.objects) 0 t.arcs; transform = t.transform }

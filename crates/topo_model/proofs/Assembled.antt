@@ -7,9 +7,10 @@ use Rattle.built_topology.specs.Expected.{own_pieces, rebuilt, own_cause, unless
 use Rattle.built_topology.specs.Laws.{AreSound, LosesNothing}
 use Rattle.built_topology.specs.Layers.{Named, layers_of, features_strokes, named_strokes}
 use Rattle.built_topology.specs.Objects.{Kept, features_by, objects_by}
-use Rattle.built_topology.specs.Trimming.{is_used, keep_from, renumbered, line_renumbered, feature_renumbered, object_renumbered, trimmed}
+use Rattle.built_topology.specs.Trimming.{is_used, keep_from, renumbered, line_renumbered, object_renumbered, trimmed}
 use Rattle.built_topology.proofs.Linework.{long_strokes, split_lists}
 use Rattle.built_topology.proofs.Lists.{weaker}
+use Rattle.built_topology.proofs.Renumbered.{kept_renumbered, objects_once}
 use Rattle.cutter.specs.Pieces.{pieces_of}
 use Rattle.cutter.specs.Slices.{split_of, all_pieces, piece_lists}
 use Rattle.effective_area.specs.Elimination.{reduced}
@@ -21,7 +22,6 @@ use Rattle.geojson_types.specs.Omissions.{dropped_of_layers}
 use Rattle.geojson_types.specs.Points.{Point}
 use Rattle.geojson_types.specs.Pruning.{prune, option_strokes}
 use Rattle.geojson_types.proofs.Agreement.{all_left, all_right, agreed}
-use Rattle.geojson_types.proofs.Composition.{composed}
 use Rattle.geojson_types.proofs.Omitted.{omissions_agree}
 use Rattle.linework.specs.Cleaning.{clean, is_short}
 use Rattle.linework.specs.Linework.{linework}
@@ -138,27 +138,11 @@ module _ (one two : Kept) where
   objects_agree (l ∷ ls) h =
       rw (features_agree l.1.features (all_left Same (features_strokes l.1.features) (named_strokes ls) h), objects_agree ls (all_right Same (features_strokes l.1.features) (named_strokes ls) h)) refl
 
-module _ (used : ℕ → Bool) (kept : Kept) where
-  -- the indexes of each kept line, renumbered
-  abbrev then_renumbered : Kept
-  then_renumbered closed ps = then_some (line_renumbered used closed) (kept closed ps)
-
-  option_once : (s : Option Shape) → then_some (prune (λ p. p) (line_renumbered used)) (then_some (prune (λ p. p) kept) s) ≡ then_some (prune (λ p. p) then_renumbered) s
-  option_once None = refl
-  option_once (Some s) = composed (λ p. p) (λ p. p) kept (line_renumbered used) s
-
-  features_once : (fs : List Featured) → map (feature_renumbered used) (features_by kept fs) ≡ features_by then_renumbered fs
-  features_once [] = refl
-  features_once (f ∷ fs) = rw (option_once f.shape, features_once fs) refl
-
-  objects_once : (ls : Named) → map (λ o. (o.0, object_renumbered used o.1)) (objects_by kept ls) ≡ objects_by then_renumbered ls
-  objects_once [] = refl
-  objects_once (l ∷ ls) = rw (features_once l.1.features, objects_once ls) refl
-
 -- ---- the topology
 
+-- objects over arcs, without a transform
 abbrev pub contents : List (List ℕ × TopoObject) → List (List Point) → Contents
-contents os arcs = record { objects = os; arcs = arcs }
+contents os arcs = record { objects = os; arcs = arcs; transform = None }
 
 -- each line by its indexes
 abbrev each : Named → Kept
@@ -200,7 +184,7 @@ module _ (zero : ZeroLaw) (whole : LosesNothing) (ls : Named) (sound : AreSound 
   assembled flags entries arcs objects of_flags of_entries of_arcs of_objects =
       let marked = of_flags (each ls) (table_entries ls t is (λ refs. refs)) in
       let made = of_objects (λ closed ps. Some (map (renumbered used) (refs_in (lines_of ls) closed ps))) (of_entries used marked ∙ table_entries ls t is (map (renumbered used)))
-      ∙ objects_agree (unless_short (λ closed ps. Some (map (renumbered used) (refs_in (lines_of ls) closed ps)))) (then_renumbered used (unless_short (each ls))) ls
+      ∙ objects_agree (unless_short (λ closed ps. Some (map (renumbered used) (refs_in (lines_of ls) closed ps)))) (kept_renumbered used (unless_short (each ls))) ls
       (everywhere _ (λ b. then_by used b.0 (is_short b.0 (clean b.1)) (refs_in (lines_of ls) b.0 b.1)) (named_strokes ls))
       ∙ sym (objects_once used (unless_short (each ls)) ls) in
       ap (λ os. contents os arcs) made

@@ -116,6 +116,6 @@ pub fn assemble(
     let entries = renumbered_entries(alloc, table, &used)?;
     let arcs = kept_arcs(alloc, table, &used)?;
     let objects = assemble_objects(alloc, layers, &entries)?;
-    let topology = Topology::of(Items::of(objects), Items::of(arcs));
+    let topology = Topology::of(Items::of(objects), Items::of(arcs), None);
     Ok((topology, dropped))
 }

@@ -12,4 +12,7 @@ mod shapes;
 mod trimming;
 
 pub use assembling::assemble;
-pub use topo_types::{ArcRef, CELL_LIMIT, Cell, TopoFeature, TopoObject, TopoShape, Topology};
+pub use topo_types::{
+    ArcRef, CELL_LIMIT, Cell, GRID_LIMIT, SumFault, TopoFeature, TopoObject, TopoShape, Topology,
+    Transform, TransformNumber, placed, sums,
+};

@@ -9,8 +9,10 @@ use Rattle.geojson_types.specs.Pruning.{prune}
 use Rattle.topo_types.specs.declared.feature.TopoFeature.{TopoFeature}
 use Rattle.topo_types.specs.declared.object.TopoObject.{TopoObject}
 use Rattle.topo_types.specs.declared.object.TopoObject.TheVariants.{One, Many}
+use Rattle.topo_types.specs.declared.transform.Transform.{Transform}
 use Rattle.topo_types.specs.Joins.{arc_at, rejoined}
 use Rattle.topo_types.specs.Topologies.{TopoShape, Contents}
+use Rattle.topo_types.specs.Transforms.{place, place_on}
 
 -- the same so many times
 abbrev pub repeated : {X : Type 0} → ℕ → X → List X
@@ -30,23 +32,28 @@ completed closed ps = if closed then filled ps else ps
 abbrev pub decoded_line : List (List Point) → Bool → List ℤ → List Point
 decoded_line arcs closed refs = completed closed (rejoined (map (arc_at arcs) refs))
 
--- each line and ring as its positions
-abbrev pub decoded_shape : List (List Point) → TopoShape → Option Shape
-decoded_shape arcs s = prune (λ p. p) (λ closed refs. Some (decoded_line arcs closed refs)) s
+-- each cell as where it lies, and each line and ring as the positions of its arcs
+abbrev pub decoded_shape : (Point → Point) → List (List Point) → TopoShape → Option Shape
+decoded_shape lies arcs s = prune lies (λ closed refs. Some (decoded_line arcs closed refs)) s
 
-abbrev pub decoded_feature : List (List Point) → TopoFeature → Featured
-decoded_feature arcs f = record { id = f.id; properties = f.properties; shape = then_some (decoded_shape arcs) f.shape }
+abbrev pub decoded_feature : (Point → Point) → List (List Point) → TopoFeature → Featured
+decoded_feature lies arcs f = record { id = f.id; properties = f.properties; shape = then_some (decoded_shape lies arcs) f.shape }
 
 -- a geometry object is a feature, and a collection is its members
-abbrev pub decoded_object : List (List Point) → TopoObject → FeatureSet
-decoded_object arcs (One f) = set.One (decoded_feature arcs f)
-decoded_object arcs (Many fs) = set.Many (map (decoded_feature arcs) fs)
+abbrev pub decoded_object : (Point → Point) → List (List Point) → TopoObject → FeatureSet
+decoded_object lies arcs (One f) = set.One (decoded_feature lies arcs f)
+decoded_object lies arcs (Many fs) = set.Many (map (decoded_feature lies arcs) fs)
 
 -- the first value of this name
 abbrev pub of_name : {V : Type 0} → List ℕ → List (List ℕ × V) → Option V
 of_name name [] = None
 of_name name (m ∷ ms) = if bytes_eq m.0 name then Some m.1 else of_name name ms
 
+-- the arcs as the positions that their cells stand for; without a transform these are the cells
+abbrev pub placed_arcs : Option Transform → List (List Point) → List (List Point)
+placed_arcs None arcs = arcs
+placed_arcs (Some t) arcs = map (map (place_on t)) arcs
+
 -- the features of the object of this name, if there is one
 unfoldable pub decoded : Contents → List ℕ → Option FeatureSet
-decoded t name = map_some (decoded_object t.arcs) (of_name name t.objects)
+decoded t name = map_some (decoded_object (place t.transform) (placed_arcs t.transform t.arcs)) (of_name name t.objects)

@@ -3,5 +3,7 @@ pub mod Codes
 pub mod Decoding
 pub mod Joins
 pub mod Topologies
+pub mod TransformNumbers
+pub mod Transforms
 pub mod Validity
 pub mod Values

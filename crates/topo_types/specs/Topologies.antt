@@ -1,5 +1,5 @@
 -- What contracts see of a topology, and its lines.
-use Rattle.std.specs.Prelude.{ℕ, ℤ, Bool, List, [], ◌∷◌, map}
+use Rattle.std.specs.Prelude.{ℕ, ℤ, Bool, List, [], ◌∷◌, Option, map}
 use Rattle.geojson_types.specs.declared.geometry.Geometry.{Geometry}
 use Rattle.geojson_types.specs.Lists.{joined}
 use Rattle.geojson_types.specs.Points.{Point}
@@ -7,15 +7,17 @@ use Rattle.geojson_types.specs.Pruning.{option_strokes}
 use Rattle.topo_types.specs.declared.feature.TopoFeature.{TopoFeature}
 use Rattle.topo_types.specs.declared.object.TopoObject.{TopoObject}
 use Rattle.topo_types.specs.declared.object.TopoObject.TheVariants.{One, Many}
+use Rattle.topo_types.specs.declared.transform.Transform.{Transform}
 
 -- a geometry over cells, where a line and a ring are lists of arc indexes
 abbrev pub TopoShape : Type 0
 TopoShape = Geometry Point (List ℤ) (List ℤ)
 
--- the objects by name, in order, and the arcs
+-- the objects by name, in order, the arcs as their cells, and the transform by which cells lie in the plane
 pub record Contents : Type 0 where
   pub objects : List (List ℕ × TopoObject)
   pub arcs : List (List Point)
+  pub transform : Option Transform
 
 -- the features of an object
 abbrev pub object_features : TopoObject → List TopoFeature

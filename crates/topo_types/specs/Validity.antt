@@ -5,12 +5,14 @@ use Rattle.geojson_types.specs.declared.geometry.Geometry.{fold-Geometry}
 use Rattle.geojson_types.specs.declared.geometry.Geometry.TheOpen.{Geometry-F}
 use Rattle.geojson_types.specs.Features.{is_some_list}
 use Rattle.geojson_types.specs.Lists.{joined}
-use Rattle.geojson_types.specs.Points.{Point, IsPosition}
+use Rattle.geojson_types.specs.Points.{Point, IsWithin, IsPosition}
 use Rattle.topo_types.specs.declared.feature.TopoFeature.{TopoFeature}
 use Rattle.topo_types.specs.declared.object.TopoObject.{TopoObject}
 use Rattle.topo_types.specs.declared.object.TopoObject.TheVariants.{One, Many}
+use Rattle.topo_types.specs.declared.transform.Transform.{Transform}
 use Rattle.topo_types.specs.Joins.{number_of, arc_at, Meet, Closes}
 use Rattle.topo_types.specs.Topologies.{TopoShape, Contents, objects_strokes}
+use Rattle.topo_types.specs.Transforms.{grid_limit, place_on, IsTransform}
 
 -- ---- shapes
 
@@ -32,7 +34,7 @@ abbrev pub is_full_option : Option TopoShape → Bool
 is_full_option None = true
 is_full_option (Some s) = is_full s
 
--- one level, with the places of the shapes of a group in their place
+-- one level, with the cells of the shapes of a group in their place
 abbrev pub places_step : Geometry-F Point (List ℤ) (List ℤ) (List Point) → List Point
 places_step (Geometry-F.Point p) = p ∷ []
 places_step (Geometry-F.MultiPoint ps) = ps
@@ -42,7 +44,7 @@ places_step (Geometry-F.Area rs) = []
 places_step (Geometry-F.Areas areas) = []
 places_step (Geometry-F.Group pss) = joined pss
 
--- the places of the Points and MultiPoints of a shape
+-- the cells of the Points and MultiPoints of a shape
 unfoldable pub places : TopoShape → List Point
 places = fold-Geometry Point (List ℤ) (List ℤ) (List Point) places_step
 
@@ -69,14 +71,19 @@ is_single_option (Some s) = is_single s
 
 -- ---- objects
 
--- all lists of it are full, and its Points and MultiPoints are positions
-abbrev pub IsFeature : TopoFeature → Type 0
-IsFeature f = (is_full_option f.shape ≡ true) × AllByRecursion IsPosition (option_places f.shape)
+-- a cell may stand in the topology: without a transform it is a position, and with one a cell of the grid that lies at one
+abbrev pub IsPlace : Option Transform → Point → Type 0
+IsPlace None c = IsPosition c
+IsPlace (Some t) c = IsWithin grid_limit c × IsPosition (place_on t c)
+
+-- all lists of it are full, and the cells of its Points and MultiPoints may stand there
+abbrev pub IsFeature : Option Transform → TopoFeature → Type 0
+IsFeature transform f = (is_full_option f.shape ≡ true) × AllByRecursion (IsPlace transform) (option_places f.shape)
 
 -- its features are, and one alone is no collection
-abbrev pub IsObject : TopoObject → Type 0
-IsObject (One f) = IsFeature f × (is_single_option f.shape ≡ true)
-IsObject (Many fs) = AllByRecursion IsFeature fs
+abbrev pub IsObject : Option Transform → TopoObject → Type 0
+IsObject transform (One f) = IsFeature transform f × (is_single_option f.shape ≡ true)
+IsObject transform (Many fs) = AllByRecursion (IsFeature transform) fs
 
 -- no two are equal
 abbrev pub AreDistinct : {X : Type 0} → List X → Type 0
@@ -99,14 +106,20 @@ IsClosed arcs b = b.0 ≡ true → Closes (map (arc_at arcs) b.1)
 
 -- ---- topologies
 
--- two positions or more
-abbrev pub IsArc : List Point → Type 0
-IsArc ps = (2 ≤ length ps) × AllByRecursion IsPosition ps
+-- two cells or more that may stand there
+abbrev pub IsArc : Option Transform → List Point → Type 0
+IsArc transform cs = (2 ≤ length cs) × AllByRecursion (IsPlace transform) cs
+
+-- the numbers of a transform are numbers that are within their limit
+abbrev pub IsTransformed : Option Transform → Type 0
+IsTransformed None = Unit {0}
+IsTransformed (Some t) = IsTransform t
 
 pub record IsTopology (t : Contents) : Type 0 where
   pub names : AreDistinct (map (λ o. o.0) t.objects)
-  pub objects : AllByRecursion (λ o. IsObject o.1) t.objects
-  pub arcs : AllByRecursion IsArc t.arcs
+  pub transform : IsTransformed t.transform
+  pub objects : AllByRecursion (λ o. IsObject t.transform o.1) t.objects
+  pub arcs : AllByRecursion (IsArc t.transform) t.arcs
   pub ranged : AllByRecursion (λ b. AreInRange (length t.arcs) b.1) (objects_strokes t.objects)
   pub joined : AllByRecursion (IsJoined t.arcs) (objects_strokes t.objects)
   pub closed : AllByRecursion (IsClosed t.arcs) (objects_strokes t.objects)

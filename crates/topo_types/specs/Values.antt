@@ -1,4 +1,4 @@
--- The JSON value that a topology is written as: TopoJSON 1.0, section 2.
+-- The JSON value that a topology without a transform is written as: TopoJSON 1.0, section 2.
 use Rattle.std.specs.Prelude.{ℕ, ℤ, List, [], ◌∷◌, ◌++◌, Option, None, Some, map, codes}
 use Rattle.json_value.specs.declared.json.Json.{Json}
 use Rattle.json_value.specs.declared.json.Json.TheVariants as j

@@ -8,12 +8,18 @@ mod arc_ref;
 mod cell;
 mod feature;
 mod object;
-#[cfg(test)]
-mod tests;
+mod placing;
+mod summing;
 mod topology;
+mod transform;
+mod transform_number;
 
 pub use arc_ref::ArcRef;
 pub use cell::{CELL_LIMIT, Cell};
 pub use feature::{TopoFeature, TopoShape};
 pub use object::TopoObject;
+pub use placing::{placed, position_at};
+pub use summing::{GRID_LIMIT, SumFault, cell_after, sums};
 pub use topology::Topology;
+pub use transform::Transform;
+pub use transform_number::{TRANSFORM_LIMIT, TRANSFORM_PLACES, TransformNumber};

@@ -1,0 +1,2 @@
+pub mod FarUnits
+pub mod Grids

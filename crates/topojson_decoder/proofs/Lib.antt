@@ -1,12 +1,12 @@
-mod Rows
-pub mod ShapeKinds
-pub mod Steps
-pub mod Unrolled
-pub mod ArcsBack
-pub mod LinesBack
-pub mod ShapesBack
-pub mod FeaturesBack
-pub mod ObjectsBack
-pub mod TopologiesBack
-pub mod WrittenDepth
-pub mod WrittenNumbers
+pub mod Assembled
+pub mod Collecting
+pub mod Deeper
+pub mod Ends
+pub mod Featured
+pub mod Filling
+pub mod Following
+pub mod Gathering
+pub mod Looking
+pub mod Naming
+pub mod Repeating
+pub mod Unrolling

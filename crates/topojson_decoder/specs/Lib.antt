@@ -1,12 +1,3 @@
-pub mod Arcs
-pub mod Bounds
-pub mod Faults
-pub mod Features
-pub mod GeometryTypes
-pub mod Laws
-pub mod Lines
-pub mod Members
-pub mod Objects
-pub mod Reader
-pub mod Shapes
-pub mod Topologies
+pub mod Answers
+pub mod Names
+pub mod Slots

@@ -1,11 +1,26 @@
-//! Topologies (TopoJSON 1.0) out of JSON values. `specs/Topologies.antt` says which topology a value stands for, with its counts,
-//! or its first fault. It stands on `topo_types` for topologies and on `json_value` and `decimal_text` for values and numbers.
-//! The layers above use the laws of `laws.rt`: the value that is written for a topology stands for that topology again.
+//! Topologies (TopoJSON 1.0) out of JSON values, and the GeoJSON features that they stand for. It stands on `topology_reading`, which
+//! says which topology a value stands for, on `topo_types` for topologies, and on `topology_features`, whose walk along arcs and
+//! `features` it passes on. The layer above uses the contract of `read_topology`: it answers what that definition gives.
 #![tactic(auto)]
 
-mod fault;
-mod geometry_type;
-mod laws;
+mod arcs;
+mod cells;
+mod feature_reading;
+mod lines;
+mod members;
+mod numbers;
+mod objects;
+mod polygons;
+mod reading;
+mod shapes;
+mod slots;
+mod stop;
+mod transforms;
+mod types;
 
-pub use fault::TopoFaultKind;
-pub use laws::{reads_back, topology_text_is_read, topology_value_is_bounded};
+pub use reading::read_topology;
+pub use topo_types::{
+    ArcRef, Cell, TopoFeature, TopoObject, TopoShape, Topology, Transform, TransformNumber,
+};
+pub use topology_features::{DecodeFault, Walk, features};
+pub use topology_reading::TopoFault;

@@ -1,0 +1,24 @@
+mod Rows
+mod TransformRows
+pub mod ArcsBack
+pub mod FeaturesBack
+pub mod LinesBack
+pub mod ObjectsBack
+pub mod ShapeKinds
+pub mod ShapesBack
+pub mod Steps
+pub mod TopologiesBack
+pub mod Unrolled
+pub mod ValidArcs
+pub mod ValidKept
+pub mod ValidKinds
+pub mod ValidLines
+pub mod ValidMembers
+pub mod ValidObjects
+pub mod ValidReadings
+pub mod ValidShapes
+pub mod ValidTopologies
+pub mod ValidTransforms
+pub mod ValidYields
+pub mod WrittenDepth
+pub mod WrittenNumbers

@@ -1,0 +1,13 @@
+pub mod Arcs
+pub mod Bounds
+pub mod Faults
+pub mod Features
+pub mod GeometryTypes
+pub mod Laws
+pub mod Lines
+pub mod Members
+pub mod Objects
+pub mod Reader
+pub mod Shapes
+pub mod Topologies
+pub mod Transforms

@@ -1,0 +1,8 @@
+pub mod Decoded
+pub mod Elements
+pub mod Ends
+pub mod Filling
+pub mod NamedObjects
+pub mod Opening
+pub mod Placing
+pub mod Standing

@@ -1,0 +1,10 @@
+use Rattle.std.proofs.Common.{◌≡◌}
+use Rattle.std.specs.Option.{option_copied}
+use Rattle.std.specs.Vec.Iter.{into_iter_items}
+use Rattle.topology_reading.specs.Arcs.{arc}
+use Rattle.topology_reading.specs.Reader.{each}
+use Rattle.topojson_decoder.proofs.Gathering.{with_front}
+use Rattle.topojson_decoder.proofs.arcs.arcs_in.Given as goal
+
+abbrev pub invariant-values : goal.invariant-values
+invariant-values l = with_front l.read.items (each (arc (option_copied l.transform)) (into_iter_items l.value-iterator) l.counts) ≡ each (arc (option_copied l.transform)) l.fn.values.items l.fn.counts

@@ -1,0 +1,104 @@
+// Reading arcs (TopoJSON 1.0, section 2.1.3).
+ghost use Rattle.std.specs.Prelude.{◌≡◌};
+ghost use Rattle.std.specs.Option.{option_copied};
+ghost use Rattle.topojson_decoder.specs.Answers.{Gives};
+ghost use Rattle.topo_types.specs.Transforms.{origin};
+ghost use Rattle.topology_reading.specs.Arcs as spec;
+ghost use Rattle.topology_reading.specs.Reader.{each};
+
+use crate::cells::{cell, places};
+use crate::stop::Stop;
+use geojson_types::Counts;
+use json_value::{Items, Json};
+use std::alloc::Global;
+use topo_types::{Cell, Transform};
+use topology_reading::TopoFault;
+
+/// How far from zero a difference may be.
+const DIFFERENCE_LIMIT: u64 = 4_294_967_296;
+
+/// The cells of an arc on a grid: the first, and then each by its difference from the one before.
+fn grid_cells(
+    alloc: Global,
+    transform: &Transform,
+    values: &[Json],
+    counts: &mut Counts,
+) -> Result<Vec<Cell>, Stop>
+    ensures { Gives (λ cs. cs.items) result counts.new (spec.cells_behind transform.now origin values.now counts.old) }
+{
+    let mut read = Vec::new(alloc);
+    let mut before = Cell::at(0, 0);
+    'values: for value in values {
+        before = cell(transform, DIFFERENCE_LIMIT, before, value, counts)?;
+        read.push(before)?;
+    }
+    Ok(read)
+}
+
+/// The cells of an arc with these elements.
+#[tactic(auto, unfolding(topology_reading::specs::Arcs::arc_cells))]
+fn arc_cells(
+    alloc: Global,
+    transform: Option<&Transform>,
+    values: &[Json],
+    counts: &mut Counts,
+) -> Result<Vec<Cell>, Stop>
+    ensures { Gives (λ cs. cs.items) result counts.new (spec.arc_cells (option_copied transform.entry) values.now counts.old) }
+{
+    match transform {
+        None => places(alloc, None, values, counts),
+        Some(transform) => grid_cells(alloc, transform, values, counts),
+    }
+}
+
+/// An arc, which has two cells or more.
+#[tactic(auto, unfolding(topology_reading::specs::Arcs::arc, topology_reading::specs::Members::elements))]
+fn arc(
+    alloc: Global,
+    transform: Option<&Transform>,
+    value: Json,
+    counts: &mut Counts,
+) -> Result<Items<Cell>, Stop>
+    ensures { Gives (λ cs. cs) result counts.new (spec.arc (option_copied transform.entry) value counts.old) }
+{
+    let Some(elements) = value.into_array() else {
+        return Err(Stop::Fault(TopoFault::WrongKind));
+    };
+    let cells = arc_cells(alloc, transform, elements.as_slice(), counts)?;
+    if cells.len() < 2 {
+        return Err(Stop::Fault(TopoFault::ShortArc));
+    }
+    Ok(Items::of(cells))
+}
+
+/// Arcs in order. Each value is let go once its arc is read.
+fn arcs_in(
+    alloc: Global,
+    transform: Option<&Transform>,
+    values: Vec<Json>,
+    counts: &mut Counts,
+) -> Result<Vec<Items<Cell>>, Stop>
+    ensures { Gives (λ cs. cs.items) result counts.new (each (spec.arc (option_copied transform.entry)) values.items counts.old) }
+{
+    let mut read = Vec::new(alloc);
+    'values: for value in values {
+        read.push(arc(alloc, transform, value, counts)?)?;
+    }
+    Ok(read)
+}
+
+/// The arcs of a topology in order.
+#[tactic(auto, unfolding(topology_reading::specs::Arcs::arc_list, topology_reading::specs::Members::elements))]
+pub(crate) fn arc_list(
+    alloc: Global,
+    transform: Option<&Transform>,
+    value: Json,
+    counts: &mut Counts,
+) -> Result<Vec<Items<Cell>>, Stop>
+    ensures { Gives (λ cs. cs.items) result counts.new (spec.arc_list (option_copied transform.entry) value counts.old) }
+{
+    match value.into_array() {
+        None => Err(Stop::Fault(TopoFault::WrongKind)),
+        Some(values) => arcs_in(alloc, transform, values.into_inner(), counts),
+    }
+}

@@ -1,0 +1,100 @@
+// Reading a topology.
+ghost use Rattle.std.specs.Prelude.{◌≡◌, ◌≢◌, Ok, Err, IfOk, IfErr};
+ghost use Rattle.std.specs.Option.{option_copied};
+ghost use Rattle.topojson_decoder.specs.Answers.{Gives};
+ghost use Rattle.topojson_decoder.specs.Slots.{slots_contents};
+ghost use Rattle.topology_reading.specs.Topologies as spec;
+ghost use Rattle.topology_reading.specs.declared.fault.TopoFault.TheVariants.{Memory};
+
+use crate::arcs::arc_list;
+use crate::members::need;
+use crate::objects::objects;
+use crate::slots::{Slot, TopologySlots, topology_slots};
+use crate::stop::Stop;
+use crate::transforms::transform_if;
+use geojson_types::Counts;
+use json_value::{Items, Json, OwnText};
+use std::alloc::Global;
+use topo_types::{Cell, TopoObject, Topology, Transform};
+use topology_reading::{TopoFault, topology_is_valid};
+
+/// What a topology is made of.
+#[derive(Debug, Drop)]
+struct TopologyParts {
+    objects: Items<(OwnText, TopoObject)>,
+    arcs: Items<Items<Cell>>,
+    transform: Option<Transform>,
+}
+
+/// The objects and the arcs that are held by these slots. The arcs are read first.
+fn objects_and_arcs(
+    alloc: Global,
+    transform: Option<&Transform>,
+    arcs: Slot,
+    named: Slot,
+    counts: &mut Counts,
+) -> Result<(Items<(OwnText, TopoObject)>, Items<Items<Cell>>), Stop>
+    ensures { Gives (λ p. record { objects = p.0; arcs = p.1; transform = option_copied transform.entry }) result counts.new (slots_contents (option_copied transform.entry) arcs named counts.old) }
+{
+    let arcs = arc_list(alloc, transform, arcs.needed()?, counts)?;
+    let objects = objects(alloc, transform, &arcs, named.needed()?, counts)?;
+    Ok((Items::of(objects), Items::of(arcs)))
+}
+
+/// The parts of the topology with these members.
+#[tactic(auto, using(crate::proofs::Filling::find_slot), unfolding(topology_reading::specs::Topologies::contents))]
+fn parts_in(
+    alloc: Global,
+    members: Vec<(OwnText, Json)>,
+    counts: &mut Counts,
+) -> Result<TopologyParts, Stop>
+    ensures { Gives (λ p. record { objects = p.objects; arcs = p.arcs; transform = p.transform }) result counts.new (spec.contents members.items counts.old) }
+{
+    let Some(name) = need(&members, "type")?.as_text() else {
+        return Err(Stop::Fault(TopoFault::WrongKind));
+    };
+    if name != "Topology" {
+        return Err(Stop::Fault(TopoFault::NotTopology));
+    }
+    let TopologySlots {
+        transform,
+        arcs,
+        objects,
+    } = topology_slots(members);
+    let transform = transform_if(alloc, transform.value()?)?;
+    let (objects, arcs) = objects_and_arcs(alloc, transform.as_ref(), arcs, objects, counts)?;
+    Ok(TopologyParts {
+        objects,
+        arcs,
+        transform,
+    })
+}
+
+/// The parts of the topology that a value is.
+#[tactic(auto, unfolding(topology_reading::specs::Topologies::value_contents))]
+fn parts_of(alloc: Global, value: Json, counts: &mut Counts) -> Result<TopologyParts, Stop>
+    ensures { Gives (λ p. record { objects = p.objects; arcs = p.arcs; transform = p.transform }) result counts.new (spec.value_contents value counts.old) }
+{
+    match value.into_object() {
+        None => Err(Stop::Fault(TopoFault::NotTopology)),
+        Some(members) => parts_in(alloc, members.into_inner(), counts),
+    }
+}
+
+/// The topology that a JSON value stands for (TopoJSON 1.0, section 2.1), with what was counted, or the first fault on the way through
+/// its `type`, `transform`, `arcs` and `objects`. Identifiers and properties are moved, unchanged. An empty array in place of a line,
+/// a ring, a polygon or coordinates is left out and counted; a geometry of which nothing is left is null.
+#[tactic(auto, unfolding(topology_reading::specs::Topologies::topology))]
+pub fn read_topology(alloc: Global, value: Json) -> Result<(Topology, Counts), TopoFault>
+    ensures topology { IfOk result (λ r. spec.topology value ≡ Ok (r.0, r.1)) }
+    ensures fault { IfErr result (λ e. e ≢ Memory → spec.topology value ≡ Err e) }
+{
+    let mut counts = Counts::none();
+    let TopologyParts {
+        objects,
+        arcs,
+        transform,
+    } = parts_of(alloc, value, &mut counts)?;
+    topology_is_valid();
+    Ok((Topology::of(objects, arcs, transform), counts))
+}

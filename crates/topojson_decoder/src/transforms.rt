@@ -1,0 +1,73 @@
+// Reading the transform of a topology (TopoJSON 1.0, section 2.1.2).
+ghost use Rattle.std.specs.Prelude.{◌≡◌};
+ghost use Rattle.topojson_decoder.specs.Answers.{Finds, Reads};
+ghost use Rattle.topology_reading.specs.Transforms as spec;
+
+use crate::members::{elements, need};
+use crate::numbers::number_text;
+use crate::stop::Stop;
+use decimal_text::NumText;
+use json_value::{Json, OwnText};
+use std::alloc::Global;
+use topo_types::{Transform, TransformNumber};
+use topology_reading::TopoFault;
+
+/// The two number texts of an array. Elements behind them are not looked at.
+#[tactic(auto, unfolding(topology_reading::specs::Transforms::texts))]
+fn texts(alloc: Global, value: &Json) -> Result<(NumText, NumText), Stop>
+    ensures { Reads (λ ts. ts) result (spec.texts value.now) }
+{
+    match elements(value)? {
+        [] => Err(Stop::Fault(TopoFault::WrongKind)),
+        [_] => Err(Stop::Fault(TopoFault::WrongKind)),
+        [x, y, ..] => {
+            let x = number_text(x)?;
+            let y = number_text(y)?;
+            Ok((x.copy(alloc)?, y.copy(alloc)?))
+        }
+    }
+}
+
+/// The number with this text, unless it is out of range.
+#[tactic(auto, unfolding(topology_reading::specs::Transforms::transform_number))]
+fn transform_number(text: NumText) -> Result<TransformNumber, Stop>
+    ensures { Finds (λ n. n) result (spec.transform_number text) }
+{
+    match TransformNumber::of(text) {
+        None => Err(Stop::Fault(TopoFault::Range)),
+        Some(number) => Ok(number),
+    }
+}
+
+/// Two numbers of a transform.
+#[tactic(auto, unfolding(topology_reading::specs::Transforms::transform_pair))]
+fn transform_pair(texts: (NumText, NumText)) -> Result<(TransformNumber, TransformNumber), Stop>
+    ensures { Reads (λ ns. ns) result (spec.transform_pair texts) }
+{
+    let (x, y) = texts;
+    Ok((transform_number(x)?, transform_number(y)?))
+}
+
+/// The transform with these members: the texts of both are looked at before their ranges.
+#[tactic(auto, unfolding(topology_reading::specs::Transforms::transform_members))]
+fn transform_members(alloc: Global, members: &[(OwnText, Json)]) -> Result<Transform, Stop>
+    ensures { Reads (λ t. t) result (spec.transform_members members.now) }
+{
+    let scale = texts(alloc, need(members, "scale")?)?;
+    let translate = texts(alloc, need(members, "translate")?)?;
+    let scale = transform_pair(scale)?;
+    let translate = transform_pair(translate)?;
+    Ok(Transform { scale, translate })
+}
+
+/// The transform that the member `transform` gives, if it is there. Null is none.
+#[tactic(auto, unfolding(topology_reading::specs::Transforms::transform_if))]
+pub(crate) fn transform_if(alloc: Global, value: Option<Json>) -> Result<Option<Transform>, Stop>
+    ensures { Reads (λ t. t) result (spec.transform_if value) }
+{
+    match value {
+        None | Some(Json::Null) => Ok(None),
+        Some(Json::Object(members)) => Ok(Some(transform_members(alloc, members.as_slice())?)),
+        Some(_) => Err(Stop::Fault(TopoFault::WrongKind)),
+    }
+}

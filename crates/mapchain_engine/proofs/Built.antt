@@ -1,11 +1,10 @@
 -- What building layers comes to.
-use Rattle.std.proofs.Common.{◌≡◌, inl, inr, ℕ, suc, ◌+◌, ◌<◌, ◌≤◌, ◌^◌, Bool, false, true, List, [], ◌∷◌, length, map, ◌∙◌, ap, sym, Option, Some, None, Ok, Err, arith, refl, subst}
+use Rattle.std.proofs.Common.{◌≡◌, inl, inr, ℕ, suc, ◌<◌, ◌≤◌, ◌^◌, Bool, List, [], ◌∷◌, length, map, ◌∙◌, ap, sym, Option, Some, None, Err, arith, refl, subst}
 use Rattle.std.specs.Prelude.{if◌then◌else◌}
 use Rattle.std.specs.List.{AllByRecursion}
 use Rattle.byte_ends.specs.Ends.{Fed, Drained, Takes, saturated}
 use Rattle.json_value.specs.Text.{json_text}
 use Rattle.geojson_types.specs.declared.counts.Counts.{Counts}
-use Rattle.topo_types.specs.Topologies.{Contents}
 use Rattle.topo_types.specs.Validity.{AreDistinct}
 use Rattle.topo_types.specs.Values.{topology_value}
 use Rattle.topo_types.specs.declared.object.TopoObject.{TopoObject}
@@ -15,10 +14,10 @@ use Rattle.built_topology.specs.Built.{built, positions_of, used_arcs, taken_out
 use Rattle.built_topology.specs.Expected.{expected_dropped}
 use Rattle.built_topology.specs.Laws.{AreSound, DecodesBack, EachSegmentOnce, IsValid}
 use Rattle.built_topology.specs.Layers.{names_of}
-use Rattle.built_topology.proofs.Renumbered.{kept_in, built_objects}
+use Rattle.built_topology.proofs.Renumbered.{kept_in, built_objects, built_has_no_transform}
 use Rattle.geojson_types.specs.Points.{Point}
-use Rattle.topojson_decoder.specs.Bounds as bounds
-use Rattle.topojson_decoder.specs.Laws.{ReadsBack, TextIsRead}
+use Rattle.topology_reading.specs.Bounds as bounds
+use Rattle.topology_reading.specs.Laws.{ReadsBack, TextIsRead}
 use Rattle.mapchain_engine.specs.declared.fault.BuildFault.{BuildFault}
 use Rattle.mapchain_engine.specs.declared.fault.BuildFault.TheVariants.{EmptyName, DuplicateName, Read, Json, Geo, Write, Memory, NotYet}
 use Rattle.mapchain_engine.specs.declared.report.Report.{Report}
@@ -26,7 +25,7 @@ use Rattle.mapchain_engine.specs.Building.{is_built_yet, early_fault, SaysTopolo
 use Rattle.mapchain_engine.specs.declared.options.Options.{Options}
 use Rattle.mapchain_engine.specs.Names.{name_fault, or_else, IsRefusedFor}
 use Rattle.mapchain_engine.specs.Reading.{FailsToRead}
-use Rattle.mapchain_engine.specs.Sources.{Sources, Named, AllRead, FailsAt, FailsToReadAll, AreUntroubled, added}
+use Rattle.mapchain_engine.specs.Sources.{Sources, Named, AllRead, FailsAt, FailsToReadAll, added}
 use Rattle.mapchain_engine.proofs.SoundLayers.{AllTaken, all_taken, layers_sound, names_kept, names_read, objects_nest, objects_number}
 use Rattle.mapchain_engine.proofs.NamesDistinct.{distinct_names}
 use Rattle.mapchain_engine.proofs.SourcesRead.{untroubled_all}
@@ -44,12 +43,12 @@ module _ (valid : IsValid) (back : DecodesBack) (segments : EachSegmentOnce) (re
       let kept = kept_in t ls in
       record {
         value = topology_value (built t ls);
-        spelled = spelled (built t ls) 127 255 (valid t ls sound distinct, few)
+        spelled = spelled (built t ls) 127 255 ((valid t ls sound distinct, few), built_has_no_transform t ls)
             (subst (λ os. AllByRecursion bounds.FeatureHasNumbers (bounds.objects_features os)) (sym (built_objects t ls)) (objects_number kept ls taken))
             (subst (λ os. AllByRecursion (λ f. bounds.feature_nesting f ≤ 127) (bounds.objects_features os)) (sym (built_objects t ls)) (objects_nest kept ls taken))
             (omega arith);
         contents = built t ls;
-        stands = read (built t ls) (valid t ls sound distinct, few);
+        stands = read (built t ls) ((valid t ls sound distinct, few), built_has_no_transform t ls);
         names = ap (map (λ (o : List ℕ × TopoObject). o.0)) (built_objects t ls) ∙ names_kept kept ls;
         features = back t ls sound distinct;
         shared = refl;

@@ -1,11 +1,10 @@
 -- The bytes of the layers come to one outcome, and what building says of its answer makes it follow that outcome.
-use Rattle.std.proofs.Common.{◌≡◌, ◌⊎◌, ℕ, suc, ◌<◌, ◌≤◌, Bool, false, true, List, [], ◌∷◌, length, ◌∙◌, ap, sym, subst, refl, inl, inr, Option, Some, Result, Ok, Err, arith, cond}
+use Rattle.std.proofs.Common.{◌≡◌, ◌⊎◌, ℕ, suc, ◌<◌, Bool, List, [], ◌∷◌, length, ◌∙◌, ap, sym, subst, refl, inl, inr, Some, Result, Ok, Err}
 use Rattle.std.specs.Prelude.{IfSome, IfOk, IfErr}
 use Rattle.byte_ends.specs.Ends.{Fed, Drained}
 use Rattle.byte_ends.specs.declared.source.ReadFault.TheVariants as read
 use Rattle.decimal_json.specs.declared.fault.JsonFault.{JsonFault}
 use Rattle.decimal_json.specs.declared.fault.JsonFault.TheVariants as text
-use Rattle.decimal_json.proofs.TextsFound.{one_value}
 use Rattle.json_value.specs.declared.json.Json.{Json}
 use Rattle.geojson_types.specs.declared.counts.Counts.{Counts}
 use Rattle.geojson_types.specs.declared.layer.Layer.{Layer}
@@ -14,9 +13,10 @@ use Rattle.mapchain_engine.specs.declared.fault.BuildFault.{BuildFault}
 use Rattle.mapchain_engine.specs.declared.fault.BuildFault.TheVariants.{EmptyName, DuplicateName, Read, Json as Text, Geo, Write, Memory, NotYet}
 use Rattle.mapchain_engine.specs.declared.report.Report.{Report}
 use Rattle.mapchain_engine.specs.Building.{report_of, IsBuilt, IsLateFault}
-use Rattle.mapchain_engine.specs.Outcomes.{LayerOutcome, Outcome, IsTextOf, of_layer, of_text, LayerComesTo, with_layer, Continues, AllComeTo, ComesTo, plain_text_fault, plain_fault, IsOutside, IsOutsideRead, Follows, HaveBytes}
-use Rattle.mapchain_engine.specs.Reading.{layer_depth, max_input, SpellsLayer, IsRead, FailsToRead}
+use Rattle.mapchain_engine.specs.Outcomes.{LayerOutcome, Outcome, of_layer, of_text, LayerComesTo, with_layer, Continues, AllComeTo, ComesTo, plain_fault, IsOutside, IsOutsideRead, Follows, HaveBytes}
+use Rattle.mapchain_engine.specs.Reading.{layer_depth, max_input, FailsToRead}
 use Rattle.mapchain_engine.specs.Sources.{Sources, Named, IsLayerRead, AllRead, FailsAt}
+use Rattle.mapchain_engine.proofs.BytesDecided.{plain_text, one_outcome, text_comes}
 
 -- bytes under names
 abbrev Texts : Type 0
@@ -24,28 +24,9 @@ Texts = List (List ℕ × List ℕ)
 
 -- ---- one layer
 
-abbrev plain_text : Result Json JsonFault → Result Json JsonFault
-plain_text (Ok v) = Ok v
-plain_text (Err f) = Err (plain_text_fault f)
-
 abbrev plain_layer : LayerOutcome → LayerOutcome
 plain_layer (Ok r) = Ok r
 plain_layer (Err e) = Err (plain_fault e)
-
-one_text : (b : List ℕ) (t u : Result Json JsonFault) → IsTextOf b t → IsTextOf b u → plain_text t ≡ plain_text u
-one_text b (Ok v) (Ok w) h k = ap (λ z. Ok z) (one_value layer_depth layer_depth b v w h.1 k.1)
-one_text b (Ok v) (Err (text.NotUtf8 at)) h k = absurd (k.0 h.0)
-one_text b (Ok v) (Err (text.Malformed at why)) h k = absurd (k.1 v h.1)
-one_text b (Ok v) (Err text.Memory) h k = absurd k
-one_text b (Err (text.NotUtf8 at)) (Ok w) h k = absurd (h.0 k.0)
-one_text b (Err (text.NotUtf8 at)) (Err (text.NotUtf8 other)) h k = ap (λ n. Err (text.NotUtf8 n)) (h.1 ∙ sym k.1)
-one_text b (Err (text.NotUtf8 at)) (Err (text.Malformed other why)) h k = absurd (h.0 k.0)
-one_text b (Err (text.NotUtf8 at)) (Err text.Memory) h k = absurd k
-one_text b (Err (text.Malformed at why)) (Ok w) h k = absurd (h.1 w k.1)
-one_text b (Err (text.Malformed at why)) (Err (text.NotUtf8 other)) h k = absurd (k.0 h.0)
-one_text b (Err (text.Malformed at why)) (Err (text.Malformed other how)) h k = refl
-one_text b (Err (text.Malformed at why)) (Err text.Memory) h k = absurd k
-one_text b (Err text.Memory) u h k = absurd h
 
 plain-of_text : (n : ℕ) (exact : Bool) (t : Result Json JsonFault) → plain_layer (of_text n exact t) ≡ plain_layer (of_text n exact (plain_text t))
 plain-of_text n exact (Ok v) = refl
@@ -54,11 +35,7 @@ plain-of_text n exact (Err (text.Malformed at why)) = refl
 plain-of_text n exact (Err text.Memory) = refl
 
 one_layer : (n : ℕ) (exact : Bool) (b : List ℕ) (x y : LayerOutcome) → LayerComesTo n exact b x → LayerComesTo n exact b y → plain_layer x ≡ plain_layer y
-one_layer n exact b x y (inl h) (inl k) = ap plain_layer (h.1 ∙ sym k.1)
-one_layer n exact b x y (inl h) (inr k) = let long : max_input < length b = h.0 in let short : length b ≤ max_input = k.0 in absurd (omega arith)
-one_layer n exact b x y (inr h) (inl k) = let short : length b ≤ max_input = h.0 in let long : max_input < length b = k.0 in absurd (omega arith)
-one_layer n exact b x y (inr h) (inr k) =
-    ap plain_layer h.3 ∙ plain-of_text n exact h.1 ∙ ap (λ z. plain_layer (of_text n exact z)) (one_text b h.1 k.1 h.2 k.2) ∙ sym (plain-of_text n exact k.1) ∙ sym (ap plain_layer k.3)
+one_layer n exact b x y h k = one_outcome layer_depth (Read n read.TooLong) (of_text n exact) plain_layer (plain-of_text n exact) b x y h k
 
 -- ---- all layers
 
@@ -89,15 +66,9 @@ once exact bs r o all comes = all_once 0 exact bs r o all comes
 
 -- ---- what an answer says of the bytes
 
-same_bytes : (left : Option (List ℕ)) (b bytes : List ℕ) → left ≡ Some b → IfSome left (λ l. bytes ≡ l) → bytes ≡ b
-same_bytes left b bytes e h = subst (λ z. IfSome z (λ l. bytes ≡ l)) e h
-
-text_comes : (n : ℕ) (exact : Bool) (old new : Fed) (b bytes : List ℕ) (t : Result Json JsonFault) → old.left ≡ Some b → IsRead old new bytes → IsTextOf bytes t → LayerComesTo n exact b (of_text n exact t)
-text_comes n exact old new b bytes t e read is = subst (λ z. LayerComesTo n exact z (of_text n exact t)) (same_bytes old.left b bytes e read.all) (inr (read.short, t, is, refl))
-
 layer_comes : (n : ℕ) (exact : Bool) (old new : List ℕ × Fed) (b : List ℕ) (l : List ℕ × Layer) (c : Counts) → old.1.left ≡ Some b → IsLayerRead exact old new l c → LayerComesTo n exact b (Ok (l.1.features, c))
 layer_comes n exact old new b l c e is =
-    subst (LayerComesTo n exact b) (ap (of_layer n) is.spells.stands) (text_comes n exact old.1 new.1 b is.bytes (Ok is.spells.value) e is.read (is.spells.utf8, is.spells.spelled))
+    subst (LayerComesTo n exact b) (ap (of_layer n) is.spells.stands) (text_comes layer_depth (Read n read.TooLong) (of_text n exact) old.1 new.1 b is.bytes (Ok is.spells.value) e is.read (is.spells.utf8, is.spells.spelled))
 
 read_comes : (n : ℕ) (exact : Bool) (olds news : Sources) (ls : Named) (cs : List Counts) (bs : Texts) → AllRead exact olds news ls cs → HaveBytes olds bs → AllComeTo n exact bs (Ok (ls, cs))
 read_comes n exact [] [] [] [] [] h k = refl
@@ -115,13 +86,13 @@ read_comes n exact (s ∷ ss) (t ∷ ts) (l ∷ ls) (c ∷ cs) [] h k = absurd k
 fails_layer : (n : ℕ) (exact : Bool) (old new : Fed) (b : List ℕ) (e : BuildFault) → old.left ≡ Some b → FailsToRead n exact old new e → IsOutsideRead e ⊎ LayerComesTo n exact b (Err e)
 fails_layer n exact old new b (Read i read.Read) e f = inl tt
 fails_layer n exact old new b (Read i read.TooLong) e f =
-    inr (inl (subst (λ z. IfSome z (λ left. max_input < length left)) e f.2, ap (λ m. Err (Read m read.TooLong)) f.0))
-fails_layer n exact old new b (Read i read.Memory) e f = absurd f
+    inr (inl (subst (λ z. IfSome z (λ left. max_input < length left)) e f.1.1, ap (λ m. Err (Read m read.TooLong)) f.0))
+fails_layer n exact old new b (Read i read.Memory) e f = absurd f.1
 fails_layer n exact old new b Memory e f = inl tt
 fails_layer n exact old new b (Text i fault) e f =
-    inr (subst (LayerComesTo n exact b) (ap (λ m. Err (Text m fault)) (sym f.2.0)) (text_comes n exact old new b f.0 (Err fault) e f.1 f.2.1))
+    inr (subst (LayerComesTo n exact b) (ap (λ m. Err (Text m fault)) (sym f.2.0)) (text_comes layer_depth (Read n read.TooLong) (of_text n exact) old new b f.0 (Err fault) e f.1 f.2.1))
 fails_layer n exact old new b (Geo i fault) e f =
-    inr (subst (LayerComesTo n exact b) (ap (of_layer n) f.2.5 ∙ ap (λ m. Err (Geo m fault)) (sym f.2.0)) (text_comes n exact old new b f.0 (Ok f.2.3) e f.1 (f.2.2, f.2.4)))
+    inr (subst (LayerComesTo n exact b) (ap (of_layer n) f.2.5 ∙ ap (λ m. Err (Geo m fault)) (sym f.2.0)) (text_comes layer_depth (Read n read.TooLong) (of_text n exact) old new b f.0 (Ok f.2.3) e f.1 (f.2.2, f.2.4)))
 fails_layer n exact old new b (EmptyName i) e f = absurd f.2
 fails_layer n exact old new b (DuplicateName i) e f = absurd f.2
 fails_layer n exact old new b (Write sent) e f = absurd f.2

@@ -1,5 +1,5 @@
 -- What holds of all layers that were read.
-use Rattle.std.proofs.Common.{◌≡◌, ℕ, ◌+◌, ◌≤◌, max, Bool, true, List, [], ◌∷◌, ◌++◌, map, Option, Some, None, refl, sym, ap, ◌∙◌, arith}
+use Rattle.std.proofs.Common.{◌≡◌, ℕ, ◌≤◌, Bool, true, List, [], ◌∷◌, ◌++◌, map, Option, Some, None, refl, ap, arith}
 use Rattle.std.specs.List.{AllByRecursion}
 use Rattle.json_value.specs.Depth.{depth}
 use Rattle.json_value.specs.Numbers.{HasNumbers}
@@ -9,7 +9,6 @@ use Rattle.byte_ends.specs.Ends.{Fed}
 use Rattle.geojson_types.specs.declared.counts.Counts.{Counts}
 use Rattle.geojson_types.specs.declared.layer.Layer.{Layer}
 use Rattle.geojson_types.specs.Features.{Featured, Shape, is_proper_option}
-use Rattle.geojson_types.specs.Lists.{joined}
 use Rattle.geojson_types.specs.Nesting.{feature_nesting}
 use Rattle.geojson_types.specs.Numbers.{FeatureHasNumbers}
 use Rattle.geojson_types.specs.Places.{option_points}
@@ -20,13 +19,10 @@ use Rattle.geojson_model.proofs.SoundFeatures.{IsSoundFeature}
 use Rattle.geojson_model.proofs.SoundLayers.{layer_sound}
 use Rattle.geojson_model.proofs.Sound as shape
 use Rattle.geojson_model.proofs.Yields.{IfThere}
-use Rattle.topo_types.specs.declared.feature.TopoFeature.{TopoFeature}
-use Rattle.topo_types.specs.declared.object.TopoObject.{TopoObject}
-use Rattle.topo_types.specs.Topologies.{object_features}
 use Rattle.built_topology.specs.Laws.{IsSound, AreSound, IsRingIfClosed}
 use Rattle.built_topology.specs.Layers.{names_of}
-use Rattle.built_topology.specs.Objects.{Kept, feature_by, features_by, objects_by}
-use Rattle.topojson_decoder.specs.Bounds as bounds
+use Rattle.built_topology.specs.Objects.{Kept, features_by, objects_by}
+use Rattle.topology_reading.specs.Bounds as bounds
 use Rattle.mapchain_engine.specs.Reading.{layer_depth}
 use Rattle.mapchain_engine.specs.Sources.{Sources, Named, IsLayerRead, AllRead}
 

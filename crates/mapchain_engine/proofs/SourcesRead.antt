@@ -1,9 +1,8 @@
 -- The sources, as a loop reads one after another.
-use Rattle.std.proofs.Common.{◌≡◌, ◌⊎◌, inl, inr, ℕ, zero, suc, ◌+◌, ◌<◌, ◌≤◌, Bool, List, [], ◌∷◌, ◌++◌, length, get_or, slice_set, refl, sym, ap, ◌∙◌, subst, arith, min}
+use Rattle.std.proofs.Common.{◌≡◌, inl, inr, ℕ, zero, suc, ◌+◌, ◌<◌, ◌≤◌, Bool, List, [], ◌∷◌, ◌++◌, length, get_or, slice_set, refl, sym, ap, ◌∙◌, subst, arith}
 use Rattle.byte_ends.specs.Ends.{Fed, saturated}
 use Rattle.geojson_types.specs.declared.counts.Counts.{Counts}
 use Rattle.geojson_types.specs.declared.layer.Layer.{Layer}
-use Rattle.geojson_types.specs.Counting.{no_counts}
 use Rattle.mapchain_engine.specs.declared.fault.BuildFault.{BuildFault}
 use Rattle.mapchain_engine.specs.declared.fault.BuildFault.TheVariants.{EmptyName, DuplicateName, Read, Json, Geo, Write, Memory, NotYet}
 use Rattle.mapchain_engine.specs.Reading.{FailsToRead, IsRead, SpellsLayer}

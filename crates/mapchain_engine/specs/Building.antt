@@ -1,7 +1,7 @@
 -- What `build` answers, reads and writes.
-use Rattle.std.specs.Prelude.{◌≡◌, ℕ, ◌+◌, ◌<◌, ◌==◌, Bool, true, false, ◌&&◌, List, [], ◌∷◌, length, map, sum, Option, Some, None, Result, Ok, Err, if◌then◌else◌}
+use Rattle.std.specs.Prelude.{◌≡◌, ℕ, ◌<◌, ◌==◌, Bool, true, false, ◌&&◌, List, length, map, Option, Some, None, Result, Ok, Err, if◌then◌else◌}
 use Rattle.std.specs.List.{AllByRecursion}
-use Rattle.byte_ends.specs.Ends.{Fed, Drained, Takes, saturated}
+use Rattle.byte_ends.specs.Ends.{Drained, Takes, saturated}
 use Rattle.json_value.specs.declared.json.Json.{Json}
 use Rattle.json_value.specs.Grammar.{Reads}
 use Rattle.geojson_types.specs.declared.counts.Counts.{Counts}
@@ -19,7 +19,7 @@ use Rattle.built_topology.specs.Expected.{expected, expected_dropped}
 use Rattle.built_topology.specs.Layers.{layers_of, names_of}
 use Rattle.cutter.specs.Segments.{line_segments}
 use Rattle.linework.specs.Linework.{linework}
-use Rattle.topojson_decoder.specs.Topologies.{topology}
+use Rattle.topology_reading.specs.Topologies.{topology}
 use Rattle.mapchain_engine.specs.declared.fault.BuildFault.{BuildFault}
 use Rattle.mapchain_engine.specs.declared.fault.BuildFault.TheVariants.{Write, NotYet, Memory}
 use Rattle.mapchain_engine.specs.declared.options.Options.{Options}

@@ -1,6 +1,5 @@
 -- What the bytes of all layers come to, and which answers follow it.
-use Rattle.std.specs.Prelude.{◌≡◌, ◌⊎◌, ℕ, suc, ◌<◌, ◌≤◌, Bool, List, [], ◌∷◌, length, Some, Result, Ok, Err, IsUtf8, if◌then◌else◌}
-use Rattle.byte_ends.specs.Ends.{Fed}
+use Rattle.std.specs.Prelude.{◌≡◌, ◌⊎◌, ℕ, suc, ◌<◌, ◌≤◌, Bool, List, [], ◌∷◌, length, Some, Result, Ok, Err, IsUtf8}
 use Rattle.byte_ends.specs.declared.source.ReadFault.TheVariants as read
 use Rattle.decimal_json.specs.declared.fault.JsonFault.{JsonFault}
 use Rattle.decimal_json.specs.declared.fault.JsonFault.TheVariants as text
@@ -8,7 +7,6 @@ use Rattle.decimal_json.specs.declared.fault.Why.TheVariants.{Syntax}
 use Rattle.json_value.specs.declared.json.Json.{Json}
 use Rattle.json_value.specs.Grammar.{Reads}
 use Rattle.geojson_types.specs.declared.counts.Counts.{Counts}
-use Rattle.geojson_types.specs.declared.layer.Layer.{Layer}
 use Rattle.geojson_types.specs.Features.{Featured}
 use Rattle.geojson_model.specs.declared.fault.GeoFault.{GeoFault}
 use Rattle.geojson_model.specs.Layers.{layer}
@@ -19,12 +17,20 @@ use Rattle.mapchain_engine.specs.Building.{report_of}
 use Rattle.mapchain_engine.specs.Reading.{layer_depth, max_input, IsNoText}
 use Rattle.mapchain_engine.specs.Sources.{Sources, Named}
 
--- ---- one layer
+-- ---- the bytes of one source
 
--- the bytes are UTF-8 and spell this value, or this is why they are no JSON text
-abbrev pub IsTextOf : List ℕ → Result Json JsonFault → Type 0
-IsTextOf bytes (Ok v) = IsUtf8 bytes × Reads layer_depth bytes v
-IsTextOf bytes (Err fault) = IsNoText bytes fault
+-- the bytes are UTF-8 and spell this value, which nests no deeper than this, or this is why they are no JSON text
+abbrev pub IsTextOf : ℕ → List ℕ → Result Json JsonFault → Type 0
+IsTextOf deepest bytes (Ok v) = IsUtf8 bytes × Reads deepest bytes v
+IsTextOf deepest bytes (Err fault) = IsNoText deepest bytes fault
+
+-- the bytes are too many, which is this fault, or else their text decides
+abbrev pub BytesComeTo : {A E : Type 0} → ℕ → E → (Result Json JsonFault → Result A E) → List ℕ → Result A E → Type 0
+BytesComeTo deepest too_long of_text bytes outcome =
+    ((max_input < length bytes) × (outcome ≡ Err too_long))
+    ⊎ ((length bytes ≤ max_input) × (t : Result Json JsonFault) × IsTextOf deepest bytes t × (outcome ≡ of_text t))
+
+-- ---- one layer
 
 -- the features and counts of a layer, or the fault that it is refused with
 abbrev pub LayerOutcome : Type 0
@@ -40,9 +46,7 @@ of_text n exact (Ok v) = of_layer n (layer exact v)
 
 -- the bytes of the layer of this number are too many, or else their text decides
 abbrev pub LayerComesTo : ℕ → Bool → List ℕ → LayerOutcome → Type 0
-LayerComesTo n exact bytes outcome =
-    ((max_input < length bytes) × (outcome ≡ Err (Read n read.TooLong)))
-    ⊎ ((length bytes ≤ max_input) × (t : Result Json JsonFault) × IsTextOf bytes t × (outcome ≡ of_text n exact t))
+LayerComesTo n exact bytes outcome = BytesComeTo layer_depth (Read n read.TooLong) (of_text n exact) bytes outcome
 
 -- ---- all layers
 

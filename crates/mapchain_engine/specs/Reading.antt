@@ -1,7 +1,8 @@
--- The layer that a source's bytes spell, or why they spell none.
+-- What a source's bytes are, and the layer that they spell, or why they spell none.
 use Rattle.std.specs.Prelude.{◌≡◌, ◌≢◌, ℕ, ◌+◌, ◌^◌, ◌<◌, ◌≤◌, Bool, List, length, IfSome, Result, Ok, Err, IsUtf8}
 use Rattle.std.specs.Str.Lossy.{utf8_valid_len}
 use Rattle.byte_ends.specs.Ends.{Fed, saturated}
+use Rattle.byte_ends.specs.declared.source.ReadFault.{ReadFault}
 use Rattle.byte_ends.specs.declared.source.ReadFault.TheVariants as read
 use Rattle.decimal_json.specs.declared.fault.JsonFault.{JsonFault}
 use Rattle.decimal_json.specs.declared.fault.JsonFault.TheVariants as text
@@ -19,7 +20,7 @@ use Rattle.mapchain_engine.specs.declared.fault.BuildFault.TheVariants.{EmptyNam
 abbrev pub layer_depth : ℕ
 layer_depth = 127
 
--- how many bytes a layer may have
+-- how many bytes an input may have
 abbrev pub max_input : ℕ
 max_input = 10 ^ 9
 
@@ -30,15 +31,15 @@ pub record SpellsLayer (exact : Bool) (bytes : List ℕ) (features : List Featur
   pub spelled : Reads layer_depth bytes value
   pub stands : layer exact value ≡ Ok (features, counts)
 
--- the bytes are no JSON text
-abbrev pub IsNoText : List ℕ → JsonFault → Type 0
-IsNoText bytes (text.NotUtf8 at) = ¬ (IsUtf8 bytes) × (at ≡ utf8_valid_len bytes)
-IsNoText bytes (text.Malformed at why) = IsUtf8 bytes × ((v : Json) → ¬ (Reads layer_depth bytes v))
-IsNoText bytes text.Memory = ⊥
+-- the bytes are no JSON text that nests no deeper than this
+abbrev pub IsNoText : ℕ → List ℕ → JsonFault → Type 0
+IsNoText deepest bytes (text.NotUtf8 at) = ¬ (IsUtf8 bytes) × (at ≡ utf8_valid_len bytes)
+IsNoText deepest bytes (text.Malformed at why) = IsUtf8 bytes × ((v : Json) → ¬ (Reads deepest bytes v))
+IsNoText deepest bytes text.Memory = ⊥
 
 -- why the bytes of the layer of this number spell no layer
 abbrev pub IsNoLayer : ℕ → Bool → List ℕ → BuildFault → Type 0
-IsNoLayer n exact bytes (Text i fault) = (i ≡ n) × IsNoText bytes fault
+IsNoLayer n exact bytes (Text i fault) = (i ≡ n) × IsNoText layer_depth bytes fault
 IsNoLayer n exact bytes (Geo i fault) = (i ≡ n) × (fault.kind ≢ geo.Memory) × IsUtf8 bytes × (v : Json) × Reads layer_depth bytes v × (layer exact v ≡ Err fault)
 IsNoLayer n exact bytes Memory = Unit {0}
 IsNoLayer n exact bytes (EmptyName i) = ⊥
@@ -52,21 +53,27 @@ abbrev pub IsLayerOf : ℕ → Bool → List ℕ → Result (Layer × Counts) Bu
 IsLayerOf n exact bytes (Ok r) = SpellsLayer exact bytes r.0.features r.1
 IsLayerOf n exact bytes (Err e) = IsNoLayer n exact bytes e
 
+-- ---- sources
+
 -- these are all bytes that the source had left, where that is known
 abbrev pub AreLeft : Fed → List ℕ → Type 0
 AreLeft source bytes = IfSome source.left (λ left. bytes ≡ left)
 
--- the source was read to its end without a failure, and is no longer than a layer may be
+-- the source was read to its end without a failure, and is no longer than an input may be
 pub record IsRead (old new : Fed) (bytes : List ℕ) : Type 0 where
   pub all : AreLeft old bytes
   pub short : length bytes ≤ max_input
   pub sound : new.failures ≡ old.failures
 
+-- why the source wasn't read to its end
+abbrev pub FailsToEnd : Fed → Fed → ReadFault → Type 0
+FailsToEnd old new read.Read = new.failures ≡ saturated (old.failures + 1)
+FailsToEnd old new read.TooLong = (new.failures ≡ old.failures) × IfSome old.left (λ left. max_input < length left)
+FailsToEnd old new read.Memory = ⊥
+
 -- why the layer of this number can't be had of the source
 abbrev pub FailsToRead : ℕ → Bool → Fed → Fed → BuildFault → Type 0
-FailsToRead n exact old new (Read i read.Read) = (i ≡ n) × (new.failures ≡ saturated (old.failures + 1))
-FailsToRead n exact old new (Read i read.TooLong) = (i ≡ n) × (new.failures ≡ old.failures) × IfSome old.left (λ left. max_input < length left)
-FailsToRead n exact old new (Read i read.Memory) = ⊥
+FailsToRead n exact old new (Read i fault) = (i ≡ n) × FailsToEnd old new fault
 FailsToRead n exact old new Memory = new.failures ≡ old.failures
 FailsToRead n exact old new e = (bytes : List ℕ) × IsRead old new bytes × IsNoLayer n exact bytes e
 

@@ -27,11 +27,12 @@ use json_value::{Items, OwnText};
 use linework::{Lines, Vertices};
 use std::alloc::Global;
 use topo_model::{Cell, Topology, assemble};
-use topojson_decoder::{reads_back, topology_text_is_read};
 use topojson_writer::write_topology;
+use topology_reading::{reads_back, topology_text_is_read};
 
-/// Writes the topology and flushes the sink.
+/// Writes the topology, which has no transform, and flushes the sink.
 fn send<W: Drain>(topology: &Topology, sink: &mut Sink<W>) -> Result<(), BuildFault>
+    requires { topology.now.transform ≡ None }
     ensures { Sends sink.old sink.new (json_text (topology_value topology.now)) result }
 {
     match write_topology(topology, sink) {
@@ -45,7 +46,7 @@ fn send<W: Drain>(topology: &Topology, sink: &mut Sink<W>) -> Result<(), BuildFa
 }
 
 /// The positions of all arcs.
-fn positions_in(arcs: &[Items<Cell>]) -> u64
+pub(crate) fn positions_in(arcs: &[Items<Cell>]) -> u64
     ensures { result ≡ spec.positions_in arcs.now }
 {
     let mut kept: u64 = 0;

@@ -9,7 +9,11 @@ use geojson_types::{Cause, Dropped};
 use itoa::Buffer;
 
 /// Writes a whole number.
-fn put_number<W: Drain>(number: u64, count: u64, sink: &mut Sink<W>) -> Result<u64, WriteFault>
+pub(crate) fn put_number<W: Drain>(
+    number: u64,
+    count: u64,
+    sink: &mut Sink<W>,
+) -> Result<u64, WriteFault>
     ensures { Writes sink.old sink.new count (decimal number) result }
 {
     let mut buffer = Buffer::new();
@@ -17,7 +21,7 @@ fn put_number<W: Drain>(number: u64, count: u64, sink: &mut Sink<W>) -> Result<u
 }
 
 /// Writes a line of a word and a number.
-fn put_line<W: Drain>(
+pub(crate) fn put_line<W: Drain>(
     word: &str,
     number: u64,
     count: u64,

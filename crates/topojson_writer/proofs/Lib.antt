@@ -4,5 +4,4 @@ pub mod Objects
 pub mod Parts
 pub mod Rows
 pub mod Shapes
-pub mod Valid
 pub mod Whole

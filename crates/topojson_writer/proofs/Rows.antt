@@ -28,6 +28,7 @@ abbrev pub line_of : List ℕ → Contents
 line_of name = record {
   objects = (name, Many (bare (g.Line (pos 0 ∷ [])) ∷ [])) ∷ [];
   arcs = (at 0 0 ∷ (record { x = pos 15000000; y = pos 2500000 } ∷ [])) ∷ [];
+  transform = None;
 }
 
 row_line : json_text (topology_value (line_of (codes "a")))
@@ -42,6 +43,7 @@ squares_of name = record {
   arcs = (at 1 0 ∷ (at 1 1 ∷ []))
       ∷ ((at 1 1 ∷ (at 0 1 ∷ (at 0 0 ∷ (at 1 0 ∷ []))))
       ∷ ((at 1 0 ∷ (at 2 0 ∷ (at 2 1 ∷ (at 1 1 ∷ [])))) ∷ []));
+  transform = None;
 }
 
 row_squares : json_text (topology_value (squares_of (codes "land")))

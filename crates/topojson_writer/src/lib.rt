@@ -8,8 +8,6 @@ mod cell_writer;
 mod feature_writer;
 mod index_writer;
 mod shape_writer;
-#[cfg(test)]
-mod tests;
 mod topology_writer;
 
 pub use topology_writer::{put_topology, write_topology};

@@ -1,4 +1,5 @@
 // Objects and topologies as they are written (TopoJSON 1.0, sections 2.1 and 2.2).
+ghost use Rattle.std.specs.Prelude.{◌≡◌, None};
 ghost use Rattle.byte_ends.specs.Writes.{Writes};
 ghost use Rattle.json_value.specs.Text.{json_text, name_text};
 ghost use Rattle.topo_types.specs.declared.object.TopoObject.TheVariants.{Many};
@@ -88,6 +89,7 @@ pub fn put_topology<W: Drain>(
     count: u64,
     sink: &mut Sink<W>,
 ) -> Result<u64, WriteFault>
+    requires { topology.now.transform ≡ None }
     ensures { Writes sink.old sink.new count (json_text (topology_value topology.now)) result }
 {
     let count = sink.put(count, b"{\"type\":\"Topology\",\"objects\":")?;
@@ -100,8 +102,10 @@ pub fn put_topology<W: Drain>(
 /// Writes the text of the topology (TopoJSON 1.0, section 2) with no white space, and answers the number of bytes: its objects by
 /// name in order, and then its arcs. A position is two least decimals, x first, and an arc index a whole number. Identifiers and
 /// properties keep the texts of their numbers, their order and their duplicates; a null geometry has the type null. `Write` tells
-/// how many bytes of the text the device took before it failed. This takes no memory.
+/// how many bytes of the text the device took before it failed. This takes no memory. A topology with a transform is not written
+/// yet.
 pub fn write_topology<W: Drain>(topology: &Topology, sink: &mut Sink<W>) -> Result<u64, WriteFault>
+    requires { topology.now.transform ≡ None }
     ensures { Writes sink.old sink.new 0 (json_text (topology_value topology.now)) result }
 {
     put_topology(topology, 0, sink)

@@ -1,8 +1,9 @@
-use Rattle.std.proofs.Common.{◌≡◌, ◌∙◌, ap, sym, subst, Err, length, ◌<◌, ◌^◌}
+use Rattle.std.proofs.Common.{◌∙◌, ap, subst, Err, length, ◌<◌, ◌^◌}
 use Rattle.std.proofs.lemmas.Result.{err_from_is_err_and}
 use Rattle.json_value.specs.Text.{json_text}
 use Rattle.topo_types.specs.Values.{topology_value}
 use Rattle.built_topology.specs.Built.{built}
+use Rattle.built_topology.proofs.Renumbered.{built_has_no_transform}
 use Rattle.built_topology.specs.Expected.{expected_dropped}
 use Rattle.mapchain_engine.specs.Building.{Sends, report_with}
 use Rattle.mapchain_engine.proofs.Built as built
@@ -54,3 +55,6 @@ returns-clause-built g c =
     (c.report_of-report.ensures ∙ ap (λ arcs. report_with c.in_ok-layers.counts c.in_ok-topology.dropped.items arcs) (c.arcs.ensures.arcs ∙ ap (λ z. z.arcs) e)
     ∙ ap (λ ds. report_with c.in_ok-layers.counts ds (built 0 ls).arcs) c.in_ok-topology.ensures.dropped
     ∙ ap (λ n. report_with n (expected_dropped 0 ls) (built 0 ls).arcs) r.2 ∙ built.report_at_zero c.zero_law.ensures ls r.0)
+
+pub send-requires : goal.send-requires
+send-requires g c = ap (λ z. z.transform) c.in_ok-topology.ensures.topology ∙ built_has_no_transform 0 c.in_ok-layers.layers.items

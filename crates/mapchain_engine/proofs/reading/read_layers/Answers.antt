@@ -1,4 +1,4 @@
-use Rattle.std.proofs.Common.{get_or, ap, refl, sym, ◌∙◌}
+use Rattle.std.proofs.Common.{get_or, ap, refl}
 use Rattle.std.proofs.lemmas.Result.{err_from_is_err_and}
 use Rattle.mapchain_engine.proofs.SourcesRead as sources
 use Rattle.mapchain_engine.proofs.reading.read_layers.Goals as goal

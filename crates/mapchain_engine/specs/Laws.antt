@@ -1,0 +1,47 @@
+-- What is true of a topology that was built and is read again.
+use Rattle.std.specs.Prelude.{◌≡◌, ℕ, Bool, List, ◌++◌, Some}
+use Rattle.std.specs.List.{AllByRecursion}
+use Rattle.byte_ends.specs.Ends.{Fed, Drained}
+use Rattle.byte_ends.specs.Writes.{WritesAll}
+use Rattle.geojson_types.specs.declared.layer.FeatureSet.TheVariants.{Many}
+use Rattle.built_topology.specs.Built.{built}
+use Rattle.built_topology.specs.Expected.{expected, kept_line}
+use Rattle.built_topology.specs.Laws.{whole_line}
+use Rattle.built_topology.specs.Layers.{layers_of, named_strokes}
+use Rattle.linework.specs.Linework.{linework}
+use Rattle.mapchain_engine.specs.declared.report.Report.{Report}
+use Rattle.mapchain_engine.specs.declared.summary.Summary.{Summary}
+use Rattle.mapchain_engine.specs.Building.{IsBuilt}
+use Rattle.mapchain_engine.specs.Geo.{features_text, IsDecoded}
+use Rattle.mapchain_engine.specs.Sources.{Sources, Named}
+use Rattle.mapchain_engine.specs.Summaries.{summary_of, IsSummarised}
+
+-- A source has left what a build wrote to its sink behind what had been there.
+pub record IsWrittenTo (sink_old sink_new : Drained) (source : Fed) : Type 0 where
+  pub before : List ℕ
+  pub bytes : List ℕ
+  pub had : sink_old.taken ≡ Some before
+  pub took : sink_new.taken ≡ Some (before ++ bytes)
+  pub left : source.left ≡ Some bytes
+
+-- where `to_geo` answers with one of these layers' names, it wrote the text of the layer's features
+abbrev pub WritesEach : Named → Fed → Type 0
+WritesEach layers source =
+    AllByRecursion (λ l. (after : Fed) (out_old out_new : Drained) (sent : ℕ) → IsDecoded l.0 source after out_old out_new sent
+    → WritesAll out_old out_new 0 (features_text (Many l.1.features)) sent) layers
+
+-- what a build wrote is decoded to the features that are expected of each layer
+abbrev pub DecodesBack : Type 0
+DecodesBack = (exact : Bool) (threshold : ℕ) (olds news : Sources) (sink_old sink_new : Drained) (report : Report) (is : IsBuilt exact threshold olds news sink_old sink_new report)
+    (source : Fed) → IsWrittenTo sink_old sink_new source → WritesEach (expected threshold is.layers) source
+
+-- at a threshold of zero each line of the layers is expected as it is, with equal neighbours as one position, a ring from its start,
+-- unless it has too few positions
+abbrev pub LosesNothing : Type 0
+LosesNothing = (exact : Bool) (olds news : Sources) (sink_old sink_new : Drained) (report : Report) (is : IsBuilt exact 0 olds news sink_old sink_new report)
+    → AllByRecursion (λ b. kept_line (linework (layers_of is.layers)) 0 b.0 b.1 ≡ whole_line is.layers b.0 b.1) (named_strokes is.layers)
+
+-- the summary of what a build wrote is that of the topology that is built of the layers
+abbrev pub SummarisesBack : Type 0
+SummarisesBack = (exact : Bool) (threshold : ℕ) (olds news : Sources) (sink_old sink_new : Drained) (report : Report) (is : IsBuilt exact threshold olds news sink_old sink_new report)
+    (source after : Fed) (summary : Summary) → IsWrittenTo sink_old sink_new source → IsSummarised source after summary → summary ≡ summary_of (built threshold is.layers)

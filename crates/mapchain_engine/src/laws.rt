@@ -1,0 +1,23 @@
+// Laws of the contracts. A function here does nothing: its contract is the law.
+ghost use Rattle.mapchain_engine.specs.Laws.{DecodesBack, LosesNothing, SummarisesBack};
+
+use built_topology::zero_loses_nothing;
+
+/// What `build` wrote, at any threshold, `to_geo` reads again: with the name of a layer, answering `Ok`, it writes the text of the
+/// features that are expected of this layer, the same as in the contract of `build`.
+pub fn built_text_decodes_back()
+    ensures { DecodesBack }
+{}
+
+/// At a threshold of zero what is expected of each line of the layers is the line, with equal neighbours as one position and a ring
+/// from its start; only what has too few positions is dropped.
+pub fn built_at_zero_loses_nothing()
+    ensures { LosesNothing }
+{
+    zero_loses_nothing();
+}
+
+/// Of what `build` wrote, `stat` tells the summary of the topology that is built of the layers.
+pub fn built_text_is_summarised()
+    ensures { SummarisesBack }
+{}

@@ -4,7 +4,7 @@
 use byte_ends::{FromRead, Sink, Source, ToWrite};
 use mapchain_cli::{Files, command};
 use std::fs::File;
-use std::io::ErrorKind;
+use std::io::{BufWriter, ErrorKind};
 use std::process::ExitCode;
 use std::{env, io};
 
@@ -22,6 +22,9 @@ impl Files for System {
         Some(Source::new(FromRead::new(file)))
     }
 }
+
+/// The bytes that standard output holds back, so that small parts go out together.
+const OUT_BUFFER: usize = 65_536;
 
 /// The words behind the program's name.
 fn words(rt: &HostRuntime) -> io::Result<Vec<String>> {
@@ -44,7 +47,10 @@ fn main(rt: HostRuntime) -> ExitCode {
         Err(error) => return refuse(&rt, &error),
     };
     let alloc = rt.alloc();
-    let mut out = Sink::new(ToWrite::new(rt.stdout()));
+    let Ok(stdout) = BufWriter::with_capacity(alloc, OUT_BUFFER, rt.stdout()) else {
+        return ExitCode::from(3);
+    };
+    let mut out = Sink::new(ToWrite::new(stdout));
     let mut err = Sink::new(ToWrite::new(rt.stderr()));
     let mut files = System { rt };
     ExitCode::from(command(alloc, words, &mut files, &mut out, &mut err))

@@ -1,12 +1,16 @@
 -- How a run ends, and what it did to standard output.
-use Rattle.std.specs.Prelude.{◌≡◌, ℕ, Bool, true, false, List, map}
-use Rattle.byte_ends.specs.Ends.{Drained}
+use Rattle.std.specs.Prelude.{◌≡◌, ℕ, Bool, true, false, List, length, map}
+use Rattle.byte_ends.specs.Ends.{Fed, Drained, Takes}
 use Rattle.mapchain_engine.specs.declared.fault.BuildFault.TheVariants.{Write}
+use Rattle.mapchain_engine.specs.declared.file_fault.FileFault.TheVariants as file
 use Rattle.mapchain_engine.specs.declared.report.Report.{Report}
+use Rattle.mapchain_engine.specs.declared.summary.Summary.{Summary}
 use Rattle.mapchain_engine.specs.Building.{IsBuilt}
+use Rattle.mapchain_engine.specs.Geo.{IsDecoded}
 use Rattle.mapchain_engine.specs.Sources.{Sources}
+use Rattle.mapchain_engine.specs.Summaries.{summary_text, IsSummarised}
 use Rattle.mapchain_cli.specs.declared.ending.Ending.{Ending}
-use Rattle.mapchain_cli.specs.declared.ending.Ending.TheVariants.{Refused}
+use Rattle.mapchain_cli.specs.declared.ending.Ending.TheVariants.{Refused, FileRefused}
 use Rattle.mapchain_cli.specs.LayerWords.{name_of}
 
 -- the topology of the layers that the words name was written, each under the name before its word's first `=`
@@ -16,9 +20,29 @@ pub record BuildsOf (exact : Bool) (words : List (List ℕ)) (old new : Drained)
   pub names : map (λ s. s.0) sources_old ≡ map name_of words
   pub built : IsBuilt exact 0 sources_old sources_new old new report
 
--- the device failed while the topology was written
+-- the text of the features of an object of this name was written, of the topology that a source's bytes spell
+pub record DecodesOf (name : List ℕ) (old new : Drained) : Type 0 where
+  pub source_old : Fed
+  pub source_new : Fed
+  pub sent : ℕ
+  pub decoded : IsDecoded name source_old source_new old new sent
+
+-- all of the text of this summary was taken and flushed
+abbrev pub SendsSummary : Drained → Drained → Summary → Type 0
+SendsSummary old new summary = Takes old new (summary_text summary) (length (summary_text summary)) × (new.failures ≡ 0)
+
+-- the summary was written of the topology that a source's bytes spell
+pub record Summarises (old new : Drained) : Type 0 where
+  pub source_old : Fed
+  pub source_new : Fed
+  pub summary : Summary
+  pub told : IsSummarised source_old source_new summary
+  pub sent : SendsSummary old new summary
+
+-- the device failed while the topology, the features or the summary was written
 abbrev pub is_write_fault : Ending → Bool
 is_write_fault (Refused (Write sent)) = true
+is_write_fault (FileRefused (file.Write sent)) = true
 is_write_fault _ = false
 
 -- nothing was written, unless the device failed

@@ -6,16 +6,19 @@ use Rattle.decimal_json.specs.declared.fault.JsonFault.{JsonFault}
 use Rattle.decimal_json.specs.declared.fault.JsonFault.TheVariants as json
 use Rattle.geojson_model.specs.declared.fault.GeoFault.{GeoFault}
 use Rattle.geojson_model.specs.Faults.{code, name}
+use Rattle.topology_reading.specs.Faults as topo
 use Rattle.mapchain_engine.specs.declared.fault.BuildFault.{BuildFault}
 use Rattle.mapchain_engine.specs.declared.fault.BuildFault.TheVariants.{EmptyName, DuplicateName, Read, Json, Geo, Write, Memory, NotYet}
+use Rattle.mapchain_engine.specs.declared.file_fault.FileFault.{FileFault}
+use Rattle.mapchain_engine.specs.declared.file_fault.FileFault.TheVariants as file
 
--- why a layer couldn't be read to its end
+-- why a file couldn't be read to its end
 abbrev pub read_text : ReadFault → List ℕ
 read_text read.Read = codes "F1 Read"
 read_text read.TooLong = codes "F2 TooLong"
 read_text read.Memory = codes "F3 Memory"
 
--- why a layer is no JSON text
+-- why a file is no JSON text
 abbrev pub json_text : JsonFault → List ℕ
 json_text (json.NotUtf8 at) = codes "J1 NotUtf8 at " ++ decimal at
 json_text (json.Malformed at why) = codes "J2 Malformed"
@@ -44,3 +47,16 @@ fault_text (Geo layer fault) = layer_text layer (geo_text fault)
 fault_text (Write sent) = (codes "error: B6 Write sent " ++ decimal sent) ++ codes "\n"
 fault_text Memory = codes "error: B7 Memory\n"
 fault_text NotYet = codes "error: B8 NotYet\n"
+
+-- what the file of a topology is refused for
+abbrev pub file_text : List ℕ → List ℕ
+file_text why = (codes "error: " ++ why) ++ codes "\n"
+
+-- a fault of the file of a topology, in a line of its own
+abbrev pub file_fault_text : FileFault → List ℕ
+file_fault_text (file.Read fault) = file_text (read_text fault)
+file_fault_text (file.Json fault) = file_text (json_text fault)
+file_fault_text (file.Topo fault) = file_text ((topo.code fault ++ codes " ") ++ topo.name fault)
+file_fault_text file.NoObject = codes "error: E4 NoObject\n"
+file_fault_text (file.Write sent) = (codes "error: E5 Write sent " ++ decimal sent) ++ codes "\n"
+file_fault_text file.Memory = codes "error: E6 Memory\n"

@@ -1,16 +1,18 @@
-// How a run ends that builds nothing.
-use mapchain_engine::BuildFault;
+// How a run ends that isn't done.
+use mapchain_engine::{BuildFault, FileFault};
 use std::alloc::{AllocError, AllocFailed};
 
-/// How a run ends that builds nothing.
+/// How a run ends that isn't done.
 #[derive(Drop)]
 pub(crate) enum Ending {
     /// The words are refused, or ask for help.
     Words(clap::Error),
     /// The layer word of this number has no `=`.
     NoEquals { layer: usize },
-    /// A file couldn't be opened, or the engine refused.
+    /// The file of a layer couldn't be opened, or the engine refused to build.
     Refused(BuildFault),
+    /// The file of a topology couldn't be opened, or the engine refused it.
+    FileRefused(FileFault),
     /// An allocation was refused before the engine was called.
     Memory,
 }
@@ -34,6 +36,17 @@ impl From<BuildFault> for Ending {
 
     fn from(fault: BuildFault) -> Ending {
         Ending::Refused(fault)
+    }
+}
+
+impl From<FileFault> for Ending {
+    ghost use Rattle.std.specs.Prelude.{◌≡◌};
+    ghost use Rattle.mapchain_cli.specs.declared.ending.Ending.TheVariants.{FileRefused};
+
+    ghost from_gives = { λ fault e. e ≡ FileRefused fault };
+
+    fn from(fault: FileFault) -> Ending {
+        Ending::FileRefused(fault)
     }
 }
 

@@ -2,7 +2,7 @@
 use byte_ends::ReadFault;
 use decimal_json::JsonFault;
 use geojson_model::GeoFault;
-use mapchain_engine::BuildFault;
+use mapchain_engine::{BuildFault, FileFault};
 use std::fmt;
 
 /// A fault as the program tells it, in a line of its own: the layer's number, the fault's code and name, and the number
@@ -45,7 +45,34 @@ impl fmt::Display for FaultLine<'_> {
     }
 }
 
-/// The words for a layer that couldn't be read to its end.
+/// A fault of a topology's file as the program tells it, in a line of its own: the fault's code and name, and the number of the
+/// byte or of the bytes sent, where the fault has it.
+#[derive(Drop)]
+pub(crate) struct FileFaultLine<'a>(pub(crate) &'a FileFault);
+
+impl fmt::Display for FileFaultLine<'_> {
+    ghost use Rattle.std.specs.Prelude.{Some};
+    ghost use Rattle.mapchain_cli.specs.FaultLines.{file_fault_text};
+
+    ghost output = { λ line. Some (file_fault_text line.0.now) };
+
+    fn fmt<W: fmt::Write>(&self, f: &mut fmt::Formatter<W>) -> fmt::Result {
+        match self.0 {
+            FileFault::Read(fault) => writeln!(f, "error: {}", ReadWords(fault)),
+            FileFault::Json(fault) => writeln!(f, "error: {}", JsonWords(fault)),
+            FileFault::Topo(fault) => {
+                let code = fault.code();
+                let name = fault.name();
+                writeln!(f, "error: {code} {name}")
+            }
+            FileFault::NoObject => writeln!(f, "error: E4 NoObject"),
+            FileFault::Write { sent } => writeln!(f, "error: E5 Write sent {sent}"),
+            FileFault::Memory => writeln!(f, "error: E6 Memory"),
+        }
+    }
+}
+
+/// The words for a file that couldn't be read to its end.
 #[derive(Drop)]
 struct ReadWords<'a>(&'a ReadFault);
 
@@ -64,7 +91,7 @@ impl fmt::Display for ReadWords<'_> {
     }
 }
 
-/// The words for a layer that is no JSON text.
+/// The words for a file that is no JSON text.
 #[derive(Drop)]
 struct JsonWords<'a>(&'a JsonFault);
 

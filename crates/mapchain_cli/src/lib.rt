@@ -5,6 +5,8 @@
 
 mod ending;
 mod fault_line;
+mod file_running;
+mod file_usage;
 mod files;
 mod layer_words;
 mod running;
@@ -18,4 +20,4 @@ mod usage;
 pub use files::Files;
 pub use layer_words::name_and_path;
 pub use running::command;
-pub use statuses::status;
+pub use statuses::{file_status, status};

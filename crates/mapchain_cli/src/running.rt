@@ -4,6 +4,8 @@ ghost use Rattle.mapchain_cli.specs.LayerWords.{name_of};
 ghost use Rattle.mapchain_cli.specs.Endings.{BuildsOf, KeepsUnlessWriting};
 
 use crate::ending::Ending;
+use crate::file_running::{decode_object, summarise};
+use crate::file_usage::{FILE, GEO, OBJECT, STAT};
 use crate::files::Files;
 use crate::layer_words::names_and_paths;
 use crate::statuses::DONE;
@@ -59,34 +61,43 @@ fn build_layers<F: Files, V: Drain>(
     Ok(report)
 }
 
-/// Runs the command that the words name.
+/// Runs the command that the words name, and gives the report of a build.
 fn run<F: Files, V: Drain>(
     alloc: Global,
     words: &[String],
     files: &mut F,
     out: &mut Sink<V>,
-) -> Result<Report, Ending>
-    ensures built { IfOk result (λ _. out.new.failures ≡ 0) }
+) -> Result<Option<Report>, Ending>
+    ensures done { IfOk result (λ _. out.new.failures ≡ 0) }
     ensures refused { IfErr result (λ ending. KeepsUnlessWriting ending out.old out.new) }
 {
     let mut program = program(alloc)?;
     let matches = program.try_get_matches_from_mut(words)?;
-    match matches.subcommand_matches(BUILD) {
-        Some(arguments) => {
-            let layers = arguments.get_strs(LAYERS).unwrap_or(&[]);
-            let exact = arguments.get_flag(EXACT);
-            build_layers(alloc, layers, exact, files, out)
-        }
-        None => {
-            let error = program.error(ErrorKind::MissingSubcommand, "a command is missing")?;
-            Err(Ending::Words(error))
-        }
+    if let Some(arguments) = matches.subcommand_matches(BUILD) {
+        let layers = arguments.get_strs(LAYERS).unwrap_or(&[]);
+        let exact = arguments.get_flag(EXACT);
+        let report = build_layers(alloc, layers, exact, files, out)?;
+        return Ok(Some(report));
     }
+    if let Some(arguments) = matches.subcommand_matches(GEO) {
+        let name = arguments.get_str(OBJECT).unwrap_or("");
+        let path = arguments.get_str(FILE).unwrap_or("");
+        decode_object(alloc, name, path, files, out)?;
+        return Ok(None);
+    }
+    if let Some(arguments) = matches.subcommand_matches(STAT) {
+        let path = arguments.get_str(FILE).unwrap_or("");
+        summarise(alloc, path, files, out)?;
+        return Ok(None);
+    }
+    let error = program.error(ErrorKind::MissingSubcommand, "a command is missing")?;
+    Err(Ending::Words(error))
 }
 
-/// Runs the program on the words behind its name. Standard output takes the topology or the help, standard error the
-/// report or a line that says what is wrong. The answer is the exit status: 0 where it is done, 1 where the contents of
-/// a file are refused, 2 where the words are, and 3 where reading, writing or memory failed.
+/// Runs the program on the words behind its name. Standard output takes the topology, the features, the summary or the
+/// help, standard error the report of a build or a line that says what is wrong. The answer is the exit status: 0 where
+/// it is done, 1 where the contents of a file are refused, 2 where the words are, and 3 where reading, writing or memory
+/// failed.
 pub fn command<F: Files, V: Drain, W: Drain>(
     alloc: Global,
     words: Vec<String>,
@@ -101,10 +112,11 @@ pub fn command<F: Files, V: Drain, W: Drain>(
     ensures refused { (result ≡ 1) ⊎ (result ≡ 2) → out.new ≡ out.old }
 {
     let status = match run(alloc, words.as_slice(), files, out) {
-        Ok(report) => {
+        Ok(Some(report)) => {
             let _ = report_text(&report, err);
             DONE
         }
+        Ok(None) => DONE,
         Err(ending) => tell(&ending, out, err),
     };
     let _ = err.finish();

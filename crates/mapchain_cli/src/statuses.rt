@@ -1,9 +1,9 @@
 // The exit statuses.
 ghost use Rattle.std.specs.Prelude.{◌≡◌};
-ghost use Rattle.mapchain_cli.specs.Statuses.{read_status_of, status_of};
+ghost use Rattle.mapchain_cli.specs.Statuses.{file_status_of, read_status_of, status_of};
 
 use byte_ends::ReadFault;
-use mapchain_engine::BuildFault;
+use mapchain_engine::{BuildFault, FileFault};
 
 /// What was asked for is done.
 pub(crate) const DONE: u8 = 0;
@@ -30,7 +30,19 @@ pub fn status(fault: &BuildFault) -> u8
     }
 }
 
-/// The exit status where a layer couldn't be read to its end.
+/// The exit status after the file of a topology was used and it ended so: 1 for a file that is refused or has no object of the name,
+/// and 3 where reading, writing or memory failed.
+pub fn file_status(fault: &FileFault) -> u8
+    ensures { result ≡ file_status_of fault.now }
+{
+    match fault {
+        FileFault::Read(fault) => read_status(*fault),
+        FileFault::Json(_) | FileFault::Topo(_) | FileFault::NoObject => INPUT_REFUSED,
+        FileFault::Write { .. } | FileFault::Memory => FAILED,
+    }
+}
+
+/// The exit status where a file couldn't be read to its end.
 fn read_status(fault: ReadFault) -> u8
     ensures { result ≡ read_status_of fault }
 {

@@ -1,11 +1,12 @@
 // What no clause says: which text goes where.
-use crate::telling::tell_fault;
+use crate::telling::{tell_fault, tell_file_fault};
 use crate::{Files, command};
 use byte_ends::devices::{CutReader, CutWriter, Fault};
 use byte_ends::{FromRead, MemoryDrain, ReadFault, Sink, Source, ToWrite};
-use mapchain_engine::BuildFault;
+use mapchain_engine::{BuildFault, FileFault};
 use std::alloc::{AllocError, Global};
 use std::test::Fail;
+use topojson_decoder::TopoFault;
 
 /// How many bytes a read gives at most.
 const STEP: usize = 7;
@@ -237,6 +238,135 @@ fn a_lost_report_changes_no_status(rt: HostRuntime) -> Result<(), Fail> {
     Ok(())
 }
 
+const FEATURES: &[u8] =
+    b"{\"type\":\"FeatureCollection\",\"features\":[{\"type\":\"Feature\",\"properties\":null,\"geometry\":{\"type\":\"LineString\",\"coordinates\":[[0,0],[1.5,0.25]]}}]}";
+
+const SUMMARY: &[u8] = b"objects 1\n\"a\" 1\narcs 1\npositions 2\ngrid no\n";
+
+#[test]
+fn a_topology_is_decoded_and_counted(rt: HostRuntime) -> Result<(), Fail> {
+    let cases = [
+        (["geo", "--object", "a", "map"].as_slice(), FEATURES),
+        (["geo", "map", "--object=a"].as_slice(), FEATURES),
+        (["stat", "map"].as_slice(), SUMMARY),
+    ];
+    for (words, text) in cases {
+        let mut shelf = Shelf {
+            files: &[("map", TOPOLOGY)],
+            fault: Fault::Never,
+        };
+        let ran = run(rt.alloc(), words, &mut shelf)?;
+        assert_eq!(rt; ran.err.len(), 0);
+        assert_eq!(rt; ran.out.as_slice(), text);
+        assert_eq!(rt; ran.status, 0);
+    }
+    Ok(())
+}
+
+#[test]
+fn topologies_are_refused(rt: HostRuntime) -> Result<(), Fail> {
+    let range =
+        b"{\"type\":\"Topology\",\"objects\":{\"a\":{\"type\":\"LineString\",\"arcs\":[2]}},\"arcs\":[]}".as_slice();
+    let cases = [
+        ("missing", TOPOLOGY, 3, "error: F1 Read\n"),
+        ("map", b"\x7b\xff".as_slice(), 1, "error: J1 NotUtf8 at 1\n"),
+        ("map", b"".as_slice(), 1, "error: J2 Malformed\n"),
+        ("map", b"[]".as_slice(), 1, "error: P1 NotTopology\n"),
+        ("map", range, 1, "error: P7 IndexRange\n"),
+        ("map", TOPOLOGY, 1, "error: E4 NoObject\n"),
+    ];
+    for (path, bytes, status, line) in cases {
+        let mut shelf = Shelf {
+            files: &[("map", bytes)],
+            fault: Fault::Never,
+        };
+        let ran = run(rt.alloc(), &["geo", "--object", "b", path], &mut shelf)?;
+        assert_eq!(rt; ran.err.as_slice(), line.as_bytes());
+        assert_eq!(rt; ran.out.len(), 0);
+        assert_eq!(rt; ran.status, status);
+    }
+    Ok(())
+}
+
+// What `tell_file_fault` writes for each fault.
+#[test]
+fn file_faults_have_their_lines(rt: HostRuntime) {
+    let cases = [
+        (
+            FileFault::Read(ReadFault::TooLong),
+            1,
+            "error: F2 TooLong\n",
+        ),
+        (
+            FileFault::Topo(TopoFault::GridNumber),
+            1,
+            "error: P10 GridNumber\n",
+        ),
+        (
+            FileFault::Write { sent: 20 },
+            3,
+            "error: E5 Write sent 20\n",
+        ),
+        (FileFault::Memory, 3, "error: E6 Memory\n"),
+    ];
+    for (fault, status, line) in cases {
+        let mut err = Sink::new(MemoryDrain::new(rt.alloc()));
+        assert_eq!(rt; tell_file_fault(&fault, &mut err), status);
+        assert_eq!(rt; err.into_inner().as_slice(), line.as_bytes());
+    }
+}
+
+// A device that fails behind some bytes, and at the flush.
+#[test]
+fn a_failed_write_of_a_file_is_told(rt: HostRuntime) -> Result<(), Fail> {
+    let geo = ["geo", "--object", "a", "map"].as_slice();
+    let stat = ["stat", "map"].as_slice();
+    let cases = [
+        (
+            geo,
+            FEATURES,
+            Fault::AtByte(20),
+            20,
+            "error: E5 Write sent 20\n",
+        ),
+        (
+            geo,
+            FEATURES,
+            Fault::AtFlush,
+            144,
+            "error: E5 Write sent 144\n",
+        ),
+        (
+            stat,
+            SUMMARY,
+            Fault::AtByte(12),
+            12,
+            "error: E5 Write sent 12\n",
+        ),
+        (
+            stat,
+            SUMMARY,
+            Fault::AtFlush,
+            43,
+            "error: E5 Write sent 43\n",
+        ),
+    ];
+    for (words, text, fault, sent, line) in cases {
+        let mut shelf = Shelf {
+            files: &[("map", TOPOLOGY)],
+            fault: Fault::Never,
+        };
+        let alloc = rt.alloc();
+        let words = words_of(alloc, words)?;
+        let mut out = Sink::new(ToWrite::new(CutWriter::new(Vec::new(alloc), STEP, fault)));
+        let mut err = Sink::new(MemoryDrain::new(alloc));
+        assert_eq!(rt; command(alloc, words, &mut shelf, &mut out, &mut err), 3);
+        assert_eq!(rt; err.into_inner().as_slice(), line.as_bytes());
+        assert_eq!(rt; out.into_inner().into_inner().held(), &text[..sent]);
+    }
+    Ok(())
+}
+
 fn read_fault(fault: ReadFault) -> BuildFault {
     BuildFault::Read { layer: 7, fault }
 }
@@ -256,6 +386,13 @@ fn clap_answers_other_words(rt: HostRuntime) -> Result<(), Fail> {
         (["build", "--exact"].as_slice(), 2),
         (["build", "--grid", "4", "a=line.json"].as_slice(), 2),
         (["build", "--exact", "--exact", "a=line.json"].as_slice(), 2),
+        (["geo", "--help"].as_slice(), 0),
+        (["help", "stat"].as_slice(), 0),
+        (["geo", "map"].as_slice(), 2),
+        (["geo", "--object", "a"].as_slice(), 2),
+        (["stat"].as_slice(), 2),
+        (["stat", "map", "more"].as_slice(), 2),
+        (["stat", "--object", "a", "map"].as_slice(), 2),
     ];
     for (words, status) in cases {
         let mut shelf = Shelf {

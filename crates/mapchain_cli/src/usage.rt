@@ -1,4 +1,5 @@
 // The words that the program takes, and its help.
+use crate::file_usage::{geo, stat};
 use clap::{Arg, ArgAction, Command};
 use std::alloc::{AllocError, Global};
 
@@ -11,14 +12,15 @@ pub(crate) const LAYERS: &str = "layers";
 /// The option of `build` that refuses coordinates that would have to be rounded.
 pub(crate) const EXACT: &str = "exact";
 
-const ABOUT: &str = "Build TopoJSON topologies from GeoJSON files";
+const ABOUT: &str = "Build TopoJSON topologies from GeoJSON files, and decode them again";
 
-const LONG_ABOUT: &str = "Build TopoJSON topologies from GeoJSON files.
+const LONG_ABOUT: &str = "Build TopoJSON topologies from GeoJSON files, and decode them again.
 
 A topology is a map in which a line that several shapes share, as a border, is
 stored once, as a numbered arc, and each shape lists the arcs that it runs along.";
 
-const AFTER_HELP: &str = "'mapchain build --help' says what is read and written, with an example.";
+const AFTER_HELP: &str =
+    "'mapchain build --help' and the like say what is read and written, with an example.";
 
 const AFTER_LONG_HELP: &str = "Exit status:
   0  done
@@ -27,7 +29,7 @@ const AFTER_LONG_HELP: &str = "Exit status:
   3  a file can't be opened or read, the output can't be written, or memory ran out
 Standard error says what is wrong, but may be silent where memory ran out.
 
-'mapchain build --help' says what is read and written, with an example.";
+'mapchain build --help' and the like say what is read and written, with an example.";
 
 const BUILD_ABOUT: &str = "Build a topology from GeoJSON files";
 
@@ -79,7 +81,9 @@ pub(crate) fn program<'a>(alloc: Global) -> Result<Command<'a>, AllocError> {
         .no_binary_name(true)
         .bin_name("mapchain")?
         .subcommand_required(true)
-        .subcommand(build(alloc)?)
+        .subcommand(build(alloc)?)?
+        .subcommand(geo(alloc)?)?
+        .subcommand(stat(alloc)?)
 }
 
 /// The command line of `build`.

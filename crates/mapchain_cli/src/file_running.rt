@@ -1,0 +1,65 @@
+// Running the commands that take the file of a topology.
+ghost use Rattle.std.specs.Prelude.{◌≡◌, ℕ, IfErr, IfOk};
+ghost use Rattle.mapchain_cli.specs.Endings.{DecodesOf, KeepsUnlessWriting, SendsSummary, Summarises};
+ghost use Rattle.mapchain_engine.specs.declared.file_fault.FileFault.TheVariants as file;
+
+use crate::ending::Ending;
+use crate::files::Files;
+use byte_ends::{Broken, Drain, ReadFault, Sink, Source, WriteFault};
+use mapchain_engine::{FileFault, Summary, stat, summary_text, to_geo};
+use std::alloc::Global;
+
+/// Opens the file of a topology.
+fn open_file<F: Files>(path: &str, files: &mut F) -> Result<Source<F::R>, Ending> {
+    match files.open(path) {
+        Some(source) => Ok(source),
+        None => Err(Ending::FileRefused(FileFault::Read(ReadFault::Read))),
+    }
+}
+
+/// Decodes the object of this name.
+pub(crate) fn decode_object<F: Files, V: Drain>(
+    alloc: Global,
+    name: &str,
+    path: &str,
+    files: &mut F,
+    out: &mut Sink<V>,
+) -> Result<(), Ending>
+    ensures decoded { IfOk result (λ _. DecodesOf name.now out.old out.new) }
+    ensures refused { IfErr result (λ ending. KeepsUnlessWriting ending out.old out.new) }
+{
+    let mut source = open_file(path, files)?;
+    to_geo(alloc, &mut source, name, out)?;
+    Ok(())
+}
+
+/// Writes a summary and flushes the sink.
+fn send_summary<V: Drain>(summary: &Summary, out: &mut Sink<V>) -> Result<(), FileFault>
+    ensures sent { IfOk result (λ _. SendsSummary out.old out.new summary.now) }
+    ensures failed { IfErr result (λ e. (sent : ℕ) × (e ≡ file.Write sent)) }
+{
+    match summary_text(summary, out) {
+        Ok(sent) => match out.finish() {
+            Ok(()) => Ok(()),
+            Err(Broken) => Err(FileFault::Write { sent }),
+        },
+        Err(WriteFault::Write { sent }) => Err(FileFault::Write { sent }),
+        Err(WriteFault::Memory) => unreachable!(),
+    }
+}
+
+/// Counts what is in a topology.
+pub(crate) fn summarise<F: Files, V: Drain>(
+    alloc: Global,
+    path: &str,
+    files: &mut F,
+    out: &mut Sink<V>,
+) -> Result<(), Ending>
+    ensures told { IfOk result (λ _. Summarises out.old out.new) }
+    ensures refused { IfErr result (λ ending. KeepsUnlessWriting ending out.old out.new) }
+{
+    let mut source = open_file(path, files)?;
+    let summary = stat(alloc, &mut source)?;
+    send_summary(&summary, out)?;
+    Ok(())
+}

@@ -8,8 +8,6 @@ mod piece_iter;
 mod pieces;
 mod splitting;
 mod starting;
-#[cfg(test)]
-mod tests;
 
 pub use piece_iter::PieceIter;
 pub use pieces::{Pieces, cut};

@@ -8,8 +8,6 @@ mod fault;
 mod numbers;
 mod parser;
 mod strings;
-#[cfg(test)]
-mod tests;
 mod values;
 
 pub use fault::{JsonFault, Why};

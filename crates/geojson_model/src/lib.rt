@@ -6,8 +6,6 @@
 
 mod coordinates;
 mod fault;
-#[cfg(test)]
-mod fault_tests;
 mod features;
 mod geometries;
 mod laws;
@@ -16,10 +14,6 @@ mod members;
 mod polygons;
 mod reading;
 mod slots;
-#[cfg(test)]
-mod test_values;
-#[cfg(test)]
-mod tests;
 mod types;
 
 pub use fault::{GeoFault, GeoFaultKind};

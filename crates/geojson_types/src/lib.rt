@@ -12,8 +12,6 @@ mod id;
 mod layer;
 mod position;
 mod ring;
-#[cfg(test)]
-mod tests;
 
 pub use address::{Address, Cause, Dropped};
 pub use counts::Counts;

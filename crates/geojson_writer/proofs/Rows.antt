@@ -1,18 +1,15 @@
--- Worked examples, computed, and which shapes they are made of.
-use Rattle.std.proofs.Common.{◌≡◌, Bool, true, List, [], ◌∷◌, Some, None, refl, sym, ap, ◌∙◌}
+-- Worked examples, computed.
+use Rattle.std.proofs.Common.{◌≡◌, [], ◌∷◌, Some, None, refl}
 use Rattle.std.specs.Prelude.{codes, pos, negsuc}
 use Rattle.std.specs.Fmt.{digits}
 use Rattle.decimal_text.specs.Scaling.{units_text}
 use Rattle.json_value.specs.declared.json.Json.TheVariants as j
 use Rattle.json_value.specs.Text.{json_text, escaped_byte}
 use Rattle.json_value.proofs.Texts.{texts}
-use Rattle.geojson_types.specs.declared.geometry.Geometry.{fold-Geometry, fold-roll-Geometry}
-use Rattle.geojson_types.specs.declared.geometry.Geometry.TheOpen.{Geometry-F}
 use Rattle.geojson_types.specs.declared.geometry.Geometry.TheVariants as g
 use Rattle.geojson_types.specs.declared.id.Id.TheVariants as id
 use Rattle.geojson_types.specs.declared.layer.FeatureSet.{FeatureSet}
 use Rattle.geojson_types.specs.declared.layer.FeatureSet.TheVariants.{One, Many}
-use Rattle.geojson_types.specs.Features.{is_line, is_proper, proper_step}
 use Rattle.geojson_types.specs.Points.{Point}
 use Rattle.geojson_writer.specs.FeatureValues.{feature_value, features_value}
 use Rattle.geojson_writer.proofs.ShapeParts.{value-point, value-line, value-group}
@@ -46,19 +43,3 @@ feature_row : json_text (features_value one_feature)
     ≡ codes "{\"type\":\"Feature\",\"id\":7.0,\"properties\":{\"k\":1.50,\"k\":null},\"geometry\":{\"type\":\"GeometryCollection\",\"geometries\":[{\"type\":\"Point\",\"coordinates\":[-0.5,0.0000001]},{\"type\":\"GeometryCollection\",\"geometries\":[]}]}}"
 unfolding feature_value units_text escaped_byte digits
 feature_row = simp (value-group, value-point, texts) refl
-
--- ---- shapes that a feature may have
-
-pub proper-line : (ps : List Point) → is_proper (g.Line ps) ≡ is_line ps
-unfolding is_proper
-proper-line ps =
-    ap (fold-Geometry Point (List Point) (List Point) Bool proper_step) (sym (g.rolls-Line ps))
-    ∙ fold-roll-Geometry Point (List Point) (List Point) Bool proper_step (Geometry-F.Line ps)
-
-pub proper-empty_group : is_proper (g.Group []) ≡ true
-unfolding is_proper
-proper-empty_group =
-    ap (fold-Geometry Point (List Point) (List Point) Bool proper_step) (sym (g.rolls-Group []))
-    ∙ fold-roll-Geometry Point (List Point) (List Point) Bool proper_step (Geometry-F.Group [])
-
-pub ruleset propers = (proper-line, proper-empty_group)

@@ -8,8 +8,6 @@ mod feature_writer;
 mod laws;
 mod position_writer;
 mod shape_writer;
-#[cfg(test)]
-mod tests;
 
 pub use feature_writer::{put_features, write_features};
 pub use laws::features_text_spells_value;

@@ -10,8 +10,6 @@ mod items;
 mod json;
 mod laws;
 mod own_text;
-#[cfg(test)]
-mod tests;
 mod text_writer;
 mod value_writer;
 mod well_formed;

@@ -4,7 +4,6 @@ pub mod Gathered
 pub mod Noting
 pub mod Placing
 pub mod Positions
-pub mod Proper
 pub mod Rows
 pub mod Settled
 pub mod Visiting

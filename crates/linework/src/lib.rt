@@ -13,8 +13,6 @@ mod lines;
 mod neighbors;
 mod stroke;
 mod table;
-#[cfg(test)]
-mod tests;
 mod vertex;
 mod vertices;
 

@@ -1,22 +1,19 @@
 // What no clause says: that the calls succeed, and the texts of RFC 8259, section 7, and of whole values, byte by byte.
 ghost use Rattle.std.specs.Prelude.{◌≡◌, reverse};
 
-use crate::{
+use crate::fixtures::{odd_members, sink_of, text_of};
+use byte_ends::WriteFault;
+use byte_ends::devices::Fault;
+use json_value::{
     Items, Json, NumText, OwnText, copy_members, put_members, put_text, write_json, write_members,
     write_text,
 };
-use byte_ends::devices::{CutWriter, Fault};
-use byte_ends::{Sink, ToWrite, WriteFault};
 use std::alloc::Global;
 use std::test::Fail;
 
-fn sink_of(alloc: Global, fault: Fault) -> Sink<ToWrite<CutWriter>> {
-    Sink::new(ToWrite::new(CutWriter::new(Vec::new(alloc), 2, fault)))
-}
-
 #[test]
 fn writes_a_plain_text(rt: HostRuntime) {
-    let mut sink = sink_of(rt.alloc(), Fault::Never);
+    let mut sink = sink_of(rt.alloc(), 2, Fault::Never);
     assert_eq!(rt; write_text("007", &mut sink), Ok(5));
     assert_eq!(rt; put_text("", 5, &mut sink), Ok(7));
     assert_eq!(rt;
@@ -27,7 +24,7 @@ fn writes_a_plain_text(rt: HostRuntime) {
 
 #[test]
 fn writes_each_escape(rt: HostRuntime) {
-    let mut sink = sink_of(rt.alloc(), Fault::Never);
+    let mut sink = sink_of(rt.alloc(), 2, Fault::Never);
     let text = "\"a\\\u{8}b\t\n\u{c}\r\u{1}\u{1f}/\u{7f}é";
     assert_eq!(rt; write_text(text, &mut sink), Ok(34));
     let wanted = b"\"\\\"a\\\\\\bb\\t\\n\\f\\r\\u0001\\u001f/\x7f\xc3\xa9\"";
@@ -36,7 +33,7 @@ fn writes_each_escape(rt: HostRuntime) {
 
 #[test]
 fn a_broken_sink_holds_the_front(rt: HostRuntime) {
-    let mut sink = sink_of(rt.alloc(), Fault::AtByte(3));
+    let mut sink = sink_of(rt.alloc(), 2, Fault::AtByte(3));
     assert_eq!(rt;
         write_text("007", &mut sink),
         Err(WriteFault::Write { sent: 3 })
@@ -100,21 +97,9 @@ fn a_value_has_one_kind(rt: HostRuntime) -> Result<(), Fail> {
     Ok(())
 }
 
-fn text_of(alloc: Global, text: &str) -> Result<OwnText, Fail> {
-    Ok(OwnText::of(String::from_str(alloc, text)?))
-}
-
-fn number_of(alloc: Global, text: &str) -> Result<Json, Fail> {
-    Ok(Json::Number(NumText::read(alloc, text)?.ok_or("no number")?))
-}
-
 // An object whose members are in no order, with one name that stands twice.
 fn doubled(alloc: Global) -> Result<Json, Fail> {
-    Ok(Json::Object(Items::of(vec![in alloc;
-        (text_of(alloc, "b")?, number_of(alloc, "1.50")?),
-        (text_of(alloc, "a")?, number_of(alloc, "1e2")?),
-        (text_of(alloc, "b")?, Json::Null),
-    ]?)))
+    Ok(Json::Object(odd_members(alloc)?))
 }
 
 const DOUBLED: &[u8] = b"{\"b\":1.50,\"a\":1e2,\"b\":null}";
@@ -124,7 +109,7 @@ fn members_keep_order_and_duplicates(rt: HostRuntime) -> Result<(), Fail> {
     let value = doubled(rt.alloc())?;
     let copy = value.copy(rt.alloc())?;
     drop(value);
-    let mut sink = sink_of(rt.alloc(), Fault::Never);
+    let mut sink = sink_of(rt.alloc(), 2, Fault::Never);
     assert_eq!(rt; write_json(&copy, &mut sink), Ok(27));
     assert_eq!(rt; sink.into_inner().into_inner().held(), DOUBLED);
     Ok(())
@@ -135,10 +120,10 @@ fn writes_and_copies_members(rt: HostRuntime) -> Result<(), Fail> {
     let value = doubled(rt.alloc())?;
     let members = value.as_object().ok_or("no object")?;
     let copy = copy_members(rt.alloc(), members)?;
-    let mut sink = sink_of(rt.alloc(), Fault::Never);
+    let mut sink = sink_of(rt.alloc(), 2, Fault::Never);
     assert_eq!(rt; write_members(copy.as_slice(), &mut sink), Ok(27));
     assert_eq!(rt; sink.into_inner().into_inner().held(), DOUBLED);
-    let mut sink = sink_of(rt.alloc(), Fault::Never);
+    let mut sink = sink_of(rt.alloc(), 2, Fault::Never);
     assert_eq!(rt; put_members(members, 5, &mut sink), Ok(32));
     assert_eq!(rt; put_members(&members[..0], 32, &mut sink), Ok(34));
     Ok(())
@@ -157,7 +142,7 @@ fn writes_and_copies_what_nests(rt: HostRuntime) -> Result<(), Fail> {
     ]?));
     let copy = value.copy(alloc)?;
     drop(value);
-    let mut sink = sink_of(alloc, Fault::Never);
+    let mut sink = sink_of(alloc, 2, Fault::Never);
     assert_eq!(rt; write_json(&copy, &mut sink), Ok(51));
     let wanted = b"[[],{},[{\"k\\\"\":[true,false,null]}],\"a\\n\\u001f\\\\\xc3\xa9\"]";
     assert_eq!(rt; sink.into_inner().into_inner().held(), wanted.as_slice());
@@ -167,7 +152,7 @@ fn writes_and_copies_what_nests(rt: HostRuntime) -> Result<(), Fail> {
 #[test]
 fn a_broken_sink_holds_the_front_of_a_value(rt: HostRuntime) -> Result<(), Fail> {
     let value = doubled(rt.alloc())?;
-    let mut sink = sink_of(rt.alloc(), Fault::AtByte(5));
+    let mut sink = sink_of(rt.alloc(), 2, Fault::AtByte(5));
     assert_eq!(rt;
         write_json(&value, &mut sink),
         Err(WriteFault::Write { sent: 5 })

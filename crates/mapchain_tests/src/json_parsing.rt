@@ -1,8 +1,7 @@
 // Expected values: RFC 8259 (the sections are named) and, for the places and reasons of faults, the documentation of `JsonFault`.
 ghost use Rattle.std.specs.Prelude.{◌≤◌};
 
-use crate::fault::{JsonFault, Why};
-use crate::parser::{LAYER_DEPTH, TOPOLOGY_DEPTH, parse};
+use decimal_json::{JsonFault, LAYER_DEPTH, TOPOLOGY_DEPTH, Why, parse};
 use json_value::Json;
 use std::alloc::Global;
 use std::process::Abort;

@@ -1,46 +1,23 @@
 // What no clause says: that the calls succeed, and whole texts byte by byte.
-ghost use Rattle.std.specs.Prelude.{◌≡◌, true, IfOk};
-ghost use Rattle.geojson_types.specs.Features.{is_line};
+ghost use Rattle.std.specs.Prelude.{◌≡◌, IfOk, true};
+ghost use Rattle.geojson_types.specs.Features.{is_proper};
 
-use crate::shape_writer::put_shape;
-use crate::{put_features, write_features};
-use byte_ends::devices::{CutWriter, Fault};
-use byte_ends::{MemoryDrain, Sink, ToWrite, WriteFault};
-use geojson_types::{Feature, FeatureSet, Geometry, Id, Position, Ring, Shape, is_closed};
-use json_value::{Items, Json, NumText, OwnText};
+use crate::fixtures::{joined, line, line_feature, number_of, position, ring, sink_of, text_of};
+use byte_ends::devices::Fault;
+use byte_ends::{MemoryDrain, Sink, WriteFault};
+use geojson_types::{Feature, FeatureSet, Geometry, Id, Shape};
+use geojson_writer::{put_features, write_features};
+use json_value::{Items, Json, OwnText};
 use std::alloc::Global;
 use std::test::Fail;
 
 const LINE: &[u8] =
     b"{\"type\":\"FeatureCollection\",\"features\":[{\"type\":\"Feature\",\"properties\":null,\"geometry\":{\"type\":\"LineString\",\"coordinates\":[[0,0],[1.5,0.25]]}}]}";
 
-fn at(x: i64, y: i64) -> Result<Position, Fail> {
-    Ok(Position::new(x, y).ok_or("no position")?)
-}
-
-fn text(alloc: Global, text: &str) -> Result<OwnText, Fail> {
-    Ok(OwnText::of(String::from_str(alloc, text)?))
-}
-
-fn number(alloc: Global, text: &str) -> Result<NumText, Fail> {
-    Ok(NumText::read(alloc, text)?.ok_or("no number")?)
-}
-
-// A line of two positions.
-fn line(alloc: Global) -> Result<Items<Position>, Fail>
-    ensures { IfOk result (λ ps. is_line ps ≡ true) }
-{
-    let positions = vec![in alloc; at(0, 0)?, at(15_000_000, 2_500_000)?]?;
-    Ok(Items::of(positions))
-}
-
-#[tactic(auto, using(crate::proofs::Rows::propers))]
-fn line_feature(alloc: Global) -> Result<Feature, Fail> {
-    Ok(Feature::of(None, None, Some(Geometry::Line(line(alloc)?))))
-}
+const PLACES: &[(i64, i64)] = &[(0, 0), (15_000_000, 2_500_000)];
 
 fn lines(alloc: Global) -> Result<FeatureSet, Fail> {
-    Ok(FeatureSet::Many(Items::of(vec![in alloc; line_feature(alloc)?]?)))
+    Ok(FeatureSet::Many(Items::of(vec![in alloc; line_feature(alloc, PLACES)?]?)))
 }
 
 #[test]
@@ -55,8 +32,7 @@ fn writes_a_line(rt: HostRuntime) -> Result<(), Fail> {
 #[test]
 fn writes_byte_by_byte(rt: HostRuntime) -> Result<(), Fail> {
     let features = lines(rt.alloc())?;
-    let writer = CutWriter::new(Vec::new(rt.alloc()), 1, Fault::Never);
-    let mut sink = Sink::new(ToWrite::new(writer));
+    let mut sink = sink_of(rt.alloc(), 1, Fault::Never);
     assert_eq!(rt; put_features(&features, 9, &mut sink), Ok(153));
     assert_eq!(rt; sink.into_inner().into_inner().held(), LINE);
     Ok(())
@@ -66,8 +42,7 @@ fn writes_byte_by_byte(rt: HostRuntime) -> Result<(), Fail> {
 fn a_broken_sink_holds_the_front(rt: HostRuntime) -> Result<(), Fail> {
     let features = lines(rt.alloc())?;
     for taken in [0, 41, 100, 143] {
-        let writer = CutWriter::new(Vec::new(rt.alloc()), 3, Fault::AtByte(taken));
-        let mut sink = Sink::new(ToWrite::new(writer));
+        let mut sink = sink_of(rt.alloc(), 3, Fault::AtByte(taken));
         assert_eq!(rt;
             write_features(&features, &mut sink),
             Err(WriteFault::Write { sent: taken as u64 })
@@ -80,20 +55,23 @@ fn a_broken_sink_holds_the_front(rt: HostRuntime) -> Result<(), Fail> {
 // Members in no order, with one name that stands twice and numbers by their texts.
 fn properties(alloc: Global) -> Result<Items<(OwnText, Json)>, Fail> {
     Ok(Items::of(vec![in alloc;
-        (text(alloc, "b")?, Json::Number(number(alloc, "1.50")?)),
         (
-            text(alloc, "a")?,
+            text_of(alloc, "b")?,
+            Json::Number(number_of(alloc, "1.50")?)
+        ),
+        (
+            text_of(alloc, "a")?,
             Json::Array(Items::of(vec![in alloc; Json::Bool(true)]?))
         ),
-        (text(alloc, "b")?, Json::Number(number(alloc, "1e2")?)),
+        (text_of(alloc, "b")?, Json::Number(number_of(alloc, "1e2")?)),
     ]?))
 }
 
 #[test]
 fn writes_identifiers_and_properties(rt: HostRuntime) -> Result<(), Fail> {
     let alloc = rt.alloc();
-    let named = Id::Text(text(alloc, "n\"1")?);
-    let numbered = Id::Number(number(alloc, "7.0")?);
+    let named = Id::Text(text_of(alloc, "n\"1")?);
+    let numbered = Id::Number(number_of(alloc, "7.0")?);
     let features = FeatureSet::Many(Items::of(vec![in alloc;
         Feature::of(Some(named), Some(properties(alloc)?), None),
         Feature::of(Some(numbered), Some(Items::of(Vec::new(alloc))), None),
@@ -124,7 +102,7 @@ fn writes_no_features(rt: HostRuntime) -> Result<(), Fail> {
     Ok(())
 }
 
-#[tactic(auto, using(crate::proofs::Rows::propers))]
+#[tactic(auto, using(crate::proofs::ProperShapes::propers))]
 fn empty_group(alloc: Global) -> Result<Feature, Fail> {
     Ok(Feature::of(
         None,
@@ -147,27 +125,22 @@ fn writes_one_feature(rt: HostRuntime) -> Result<(), Fail> {
     Ok(())
 }
 
-#[tactic(auto, unfolding(geojson_types::specs::Rings::is_ring))]
-fn ring(alloc: Global) -> Result<Ring, Fail> {
-    let (a, b, c) = (at(0, 0)?, at(10_000_000, 0)?, at(0, -1)?);
-    if !is_closed(&[a, b, c, a]) {
-        return Err("no ring")?;
-    }
-    Ok(Ring::of(vec![in alloc; a, b, c, a]?))
-}
+const CORNERS: &[(i64, i64)] = &[(0, 0), (10_000_000, 0), (0, -1), (0, 0)];
 
-// A geometry of each kind.
-fn all_kinds(alloc: Global) -> Result<Shape, Fail> {
+// A GeometryCollection of a geometry of each kind.
+fn all_kinds(alloc: Global) -> Result<Shape, Fail>
+    ensures { IfOk result (λ shape. is_proper shape ≡ true) }
+{
     let areas = vec![in alloc;
-        Items::of(vec![in alloc; ring(alloc)?, ring(alloc)?]?),
-        Items::of(vec![in alloc; ring(alloc)?]?),
+        Items::of(vec![in alloc; ring(alloc, CORNERS)?, ring(alloc, CORNERS)?]?),
+        Items::of(vec![in alloc; ring(alloc, CORNERS)?]?),
     ]?;
     Ok(Geometry::Group(Items::of(vec![in alloc;
-        Geometry::Point(at(-1, 2)?),
-        Geometry::MultiPoint(Items::of(vec![in alloc; at(-5_000_000, 1)?]?)),
-        Geometry::Line(line(alloc)?),
-        Geometry::Lines(Items::of(vec![in alloc; line(alloc)?, line(alloc)?]?)),
-        Geometry::Area(Items::of(vec![in alloc; ring(alloc)?]?)),
+        Geometry::Point(position(-1, 2)?),
+        Geometry::MultiPoint(Items::of(vec![in alloc; position(-5_000_000, 1)?]?)),
+        Geometry::Line(line(alloc, PLACES)?),
+        Geometry::Lines(Items::of(vec![in alloc; line(alloc, PLACES)?, line(alloc, PLACES)?]?)),
+        Geometry::Area(Items::of(vec![in alloc; ring(alloc, CORNERS)?]?)),
         Geometry::Areas(Items::of(areas)),
         Geometry::Group(Items::of(Vec::new(alloc))),
     ]?)))
@@ -175,8 +148,9 @@ fn all_kinds(alloc: Global) -> Result<Shape, Fail> {
 
 #[test]
 fn writes_each_kind(rt: HostRuntime) -> Result<(), Fail> {
-    let shape = all_kinds(rt.alloc())?;
-    let wanted = b"{\"type\":\"GeometryCollection\",\"geometries\":[\
+    let alloc = rt.alloc();
+    let features = FeatureSet::One(Feature::of(None, None, Some(all_kinds(alloc)?)));
+    let shape = b"{\"type\":\"GeometryCollection\",\"geometries\":[\
         {\"type\":\"Point\",\"coordinates\":[-0.0000001,0.0000002]},\
         {\"type\":\"MultiPoint\",\"coordinates\":[[-0.5,0.0000001]]},\
         {\"type\":\"LineString\",\"coordinates\":[[0,0],[1.5,0.25]]},\
@@ -184,8 +158,13 @@ fn writes_each_kind(rt: HostRuntime) -> Result<(), Fail> {
         {\"type\":\"Polygon\",\"coordinates\":[[[0,0],[1,0],[0,-0.0000001],[0,0]]]},\
         {\"type\":\"MultiPolygon\",\"coordinates\":[[[[0,0],[1,0],[0,-0.0000001],[0,0]],[[0,0],[1,0],[0,-0.0000001],[0,0]]],[[[0,0],[1,0],[0,-0.0000001],[0,0]]]]},\
         {\"type\":\"GeometryCollection\",\"geometries\":[]}]}";
-    let mut sink = Sink::new(MemoryDrain::new(rt.alloc()));
-    assert_eq!(rt; put_shape(&shape, 0, &mut sink), Ok(wanted.len() as u64));
+    let front = b"{\"type\":\"Feature\",\"properties\":null,\"geometry\":";
+    let wanted = joined(alloc, &[front, shape, b"}"])?;
+    let mut sink = Sink::new(MemoryDrain::new(alloc));
+    assert_eq!(rt;
+        write_features(&features, &mut sink),
+        Ok(wanted.len() as u64)
+    );
     assert_eq!(rt; sink.into_inner().as_slice(), wanted.as_slice());
     Ok(())
 }

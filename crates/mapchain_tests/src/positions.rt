@@ -1,6 +1,5 @@
 // The bounds of positions, and rings that close.
-use crate::position::Position;
-use crate::ring::is_closed;
+use geojson_types::{Position, is_closed};
 use std::test::Fail;
 
 #[test]

@@ -1,10 +1,9 @@
 // Layers that are read: their values, what is counted, and the printed names of faults.
-use crate::fault::GeoFaultKind;
-use crate::reading::read_layer;
-use crate::test_values::{
+use crate::layer_values::{
     Made, empty_object, feature, features, group, lines, one, row, rows, shape, two, typed, with,
     word,
 };
+use geojson_model::{GeoFaultKind, read_layer};
 use geojson_types::{Counts, Feature, Geometry, Id, Position, Shape};
 use json_value::Json;
 use std::alloc::Global;

@@ -1,55 +1,13 @@
 // Worked lines: which of them stay, where the others stood, and which positions are junctions and cut positions.
 ghost use Rattle.std.specs.Prelude.{◌≡◌, IfOk, true};
-ghost use Rattle.geojson_types.specs.Features.{is_proper, is_some_list};
+ghost use Rattle.geojson_types.specs.Features.{is_proper};
 
-use crate::lines::Lines;
-use crate::vertices::Vertices;
-use geojson_types::{Address, Feature, Layer, Position, Ring, Shape, is_closed};
+use crate::fixtures::{line_feature, lines_of, one_ring, polygon, position};
+use geojson_types::{Address, Feature, Position, Shape};
 use json_value::Items;
+use linework::{Lines, Vertices};
 use std::alloc::Global;
 use std::test::Fail;
-
-fn position(x: u8, y: u8) -> Result<Position, Fail> {
-    Ok(Position::new(i64::from(x), i64::from(y)).ok_or("no position")?)
-}
-
-fn positions(alloc: Global, rows: &[[u8; 2]]) -> Result<Vec<Position>, Fail> {
-    let mut read = Vec::new(alloc);
-    for row in rows {
-        read.push(position(row[0], row[1])?)?;
-    }
-    Ok(read)
-}
-
-fn line(alloc: Global, rows: &[[u8; 2]]) -> Result<Feature, Fail> {
-    let read = Items::of(positions(alloc, rows)?);
-    if read.len() < 2 {
-        return Err("a short line")?;
-    }
-    let feature = Feature::of(None, None, Some(Shape::Line(read)));
-    Ok(feature)
-}
-
-/// The rings of a polygon that has one.
-fn rings(alloc: Global, rows: &[[u8; 2]]) -> Result<Items<Ring>, Fail>
-    ensures { IfOk result (λ rings. is_some_list rings ≡ true) }
-{
-    let read = positions(alloc, rows)?;
-    if read.as_slice().len() < 4 || !is_closed(read.as_slice()) {
-        return Err("no ring")?;
-    }
-    let ring = Ring::of(read);
-    let mut rings = Vec::new(alloc);
-    rings.push(ring)?;
-    let items = Items::of(rings);
-    Ok(items)
-}
-
-fn polygon(alloc: Global, rows: &[[u8; 2]]) -> Result<Feature, Fail> {
-    let rings = rings(alloc, rows)?;
-    let feature = Feature::of(None, None, Some(Shape::Area(rings)));
-    Ok(feature)
-}
 
 /// A GeometryCollection of a Point and the shape.
 fn grouped(alloc: Global, place: Position, shape: Shape) -> Result<Shape, Fail>
@@ -64,19 +22,13 @@ fn grouped(alloc: Global, place: Position, shape: Shape) -> Result<Shape, Fail>
 }
 
 /// The polygon in a GeometryCollection inside a GeometryCollection, each time behind a Point.
-fn nested(alloc: Global, rows: &[[u8; 2]]) -> Result<Feature, Fail> {
+fn nested(alloc: Global, places: &[(i64, i64)]) -> Result<Feature, Fail> {
     let place = position(3, 3)?;
-    let rings = rings(alloc, rows)?;
+    let rings = one_ring(alloc, places)?;
     let inner = grouped(alloc, place, Shape::Area(rings))?;
     let outer = grouped(alloc, place, inner)?;
     let feature = Feature::of(None, None, Some(outer));
     Ok(feature)
-}
-
-fn lines_of(alloc: Global, features: Vec<Feature>) -> Result<Lines, Fail> {
-    let features = Items::of(features);
-    let layers = vec![in alloc; Layer { features }]?;
-    Ok(Lines::of(alloc, layers.as_slice())?)
 }
 
 /// Two features' lines.
@@ -93,7 +45,7 @@ fn is_at(address: &Address, feature: usize, path: &[usize]) -> bool {
 }
 
 /// Whether the position is a junction or not and a cut position or not, as is said of it.
-fn is_known(vertices: &Vertices, row: (u8, u8, bool, bool)) -> Result<bool, Fail> {
+fn is_known(vertices: &Vertices, row: (i64, i64, bool, bool)) -> Result<bool, Fail> {
     let p = position(row.0, row.1)?;
     if !vertices.has(p) {
         return Ok(false);
@@ -104,8 +56,8 @@ fn is_known(vertices: &Vertices, row: (u8, u8, bool, bool)) -> Result<bool, Fail
 #[test]
 fn drops_a_line_that_collapses(rt: HostRuntime) -> Result<(), Fail> {
     let alloc = rt.alloc();
-    let stays = line(alloc, &[[0, 5], [10, 5]])?;
-    let goes = line(alloc, &[[0, 5], [0, 5]])?;
+    let stays = line_feature(alloc, &[(0, 5), (10, 5)])?;
+    let goes = line_feature(alloc, &[(0, 5), (0, 5)])?;
     let lines = both(alloc, stays, goes)?;
     assert_eq!(rt; lines.len(), 1);
     assert!(rt; is_at(&lines.stroke(0).address, 0, &[]));
@@ -118,8 +70,8 @@ fn drops_a_line_that_collapses(rt: HostRuntime) -> Result<(), Fail> {
 #[test]
 fn finds_a_ring_in_collections(rt: HostRuntime) -> Result<(), Fail> {
     let alloc = rt.alloc();
-    let goes = nested(alloc, &[[0, 0], [1, 0], [1, 0], [0, 0]])?;
-    let stays = nested(alloc, &[[0, 0], [1, 0], [0, 1], [0, 1], [0, 0]])?;
+    let goes = nested(alloc, &[(0, 0), (1, 0), (1, 0), (0, 0)])?;
+    let stays = nested(alloc, &[(0, 0), (1, 0), (0, 1), (0, 1), (0, 0)])?;
     let lines = both(alloc, goes, stays)?;
     let (strokes, dropped) = lines.into_parts();
     let strokes = strokes.as_slice();
@@ -136,8 +88,8 @@ fn finds_a_ring_in_collections(rt: HostRuntime) -> Result<(), Fail> {
 #[test]
 fn knows_two_squares(rt: HostRuntime) -> Result<(), Fail> {
     let alloc = rt.alloc();
-    let left = polygon(alloc, &[[0, 0], [1, 0], [1, 1], [0, 1], [0, 0]])?;
-    let right = polygon(alloc, &[[1, 0], [2, 0], [2, 1], [1, 1], [1, 0]])?;
+    let left = polygon(alloc, &[(0, 0), (1, 0), (1, 1), (0, 1), (0, 0)])?;
+    let right = polygon(alloc, &[(1, 0), (2, 0), (2, 1), (1, 1), (1, 0)])?;
     let lines = both(alloc, left, right)?;
     let vertices = Vertices::of(alloc, &lines)?;
     assert!(rt; !vertices.has(position(5, 5)?));
@@ -150,8 +102,8 @@ fn knows_two_squares(rt: HostRuntime) -> Result<(), Fail> {
 #[test]
 fn knows_lines(rt: HostRuntime) -> Result<(), Fail> {
     let alloc = rt.alloc();
-    let back = line(alloc, &[[0, 0], [1, 0], [0, 0]])?;
-    let on = line(alloc, &[[0, 0], [1, 0], [2, 0]])?;
+    let back = line_feature(alloc, &[(0, 0), (1, 0), (0, 0)])?;
+    let on = line_feature(alloc, &[(0, 0), (1, 0), (2, 0)])?;
     let lines = both(alloc, back, on)?;
     let vertices = Vertices::of(alloc, &lines)?;
     assert!(rt; is_known(&vertices, (1, 0, true, true))?);
@@ -163,9 +115,9 @@ fn knows_equal_ends(rt: HostRuntime) -> Result<(), Fail> {
     let alloc = rt.alloc();
     let twice = polygon(
         alloc,
-        &[[0, 0], [1, 0], [0, 1], [0, 0], [1, 0], [0, 1], [0, 0]],
+        &[(0, 0), (1, 0), (0, 1), (0, 0), (1, 0), (0, 1), (0, 0)],
     )?;
-    let open = line(alloc, &[[7, 7], [8, 7], [7, 8], [7, 7]])?;
+    let open = line_feature(alloc, &[(7, 7), (8, 7), (7, 8), (7, 7)])?;
     let lines = both(alloc, twice, open)?;
     let vertices = Vertices::of(alloc, &lines)?;
     assert!(rt; is_known(&vertices, (0, 0, false, true))?);
@@ -180,9 +132,9 @@ fn knows_a_figure_eight(rt: HostRuntime) -> Result<(), Fail> {
     let alloc = rt.alloc();
     let eight = polygon(
         alloc,
-        &[[1, 1], [2, 2], [2, 0], [1, 1], [0, 2], [0, 0], [1, 1]],
+        &[(1, 1), (2, 2), (2, 0), (1, 1), (0, 2), (0, 0), (1, 1)],
     )?;
-    let touching = line(alloc, &[[2, 0], [5, 0]])?;
+    let touching = line_feature(alloc, &[(2, 0), (5, 0)])?;
     let lines = both(alloc, eight, touching)?;
     let vertices = Vertices::of(alloc, &lines)?;
     assert!(rt; is_known(&vertices, (1, 1, true, true))?);

@@ -1,57 +1,16 @@
 // What no clause says: that the calls succeed, on small linework whose pieces are known by hand.
 ghost use Rattle.std.specs.Prelude.{◌<◌, length};
 
-use crate::{Pieces, cut, ring_start};
-use geojson_types::{Feature, Layer, Position, Ring, Shape, is_closed};
-use json_value::Items;
-use linework::{Lines, Vertices};
+use crate::fixtures::{is_list, linework_of};
+use cutter::{Pieces, cut, ring_start};
+use linework::Vertices;
 use std::alloc::Global;
 use std::test::Fail;
 
-// The feature that is a line or, where `closed`, a polygon of one ring.
-fn feature_of(alloc: Global, closed: bool, places: &[(i64, i64)]) -> Result<Feature, Fail> {
-    let mut positions = Vec::new(alloc);
-    for (x, y) in places {
-        positions.push(Position::new(*x, *y).ok_or("no position")?)?;
-    }
-    if !closed {
-        if positions.len() < 2 {
-            return Err("a short line")?;
-        }
-        return Ok(Feature::of(None, None, Some(Shape::Line(Items::of(positions)))));
-    }
-    if positions.len() < 4 || !is_closed(positions.as_slice()) {
-        return Err("no ring")?;
-    }
-    let rings = vec![in alloc; Ring::of(positions)]?;
-    Ok(Feature::of(None, None, Some(Shape::Area(Items::of(rings)))))
-}
-
-// The linework of one layer, whose features these are.
-fn lines_of(alloc: Global, lists: &[(bool, &[(i64, i64)])]) -> Result<Lines, Fail> {
-    let mut features = Vec::new(alloc);
-    for (closed, places) in lists {
-        features.push(feature_of(alloc, *closed, places)?)?;
-    }
-    let layer = Layer {
-        features: Items::of(features),
-    };
-    let layers = vec![in alloc; layer]?;
-    Ok(Lines::of(alloc, layers.as_slice())?)
-}
-
 fn pieces_of(alloc: Global, lists: &[(bool, &[(i64, i64)])]) -> Result<Pieces, Fail> {
-    let lines = lines_of(alloc, lists)?;
+    let lines = linework_of(alloc, lists)?;
     let vertices = Vertices::of(alloc, &lines)?;
     Ok(cut(alloc, lines, &vertices)?)
-}
-
-fn is_list(positions: &[Position], wanted: &[(i64, i64)]) -> bool {
-    positions.len() == wanted.len()
-        && positions
-            .iter()
-            .zip(wanted)
-            .all(|(p, (x, y))| p.x() == *x && p.y() == *y)
 }
 
 // Whether these are the pieces of the line with this number, and no more lines have pieces.
@@ -73,7 +32,7 @@ fn has_pieces(pieces: &Pieces, i: usize, wanted: &[&[(i64, i64)]]) -> bool {
 
 #[test]
 fn squares_that_share_a_side(rt: HostRuntime) -> Result<(), Fail> {
-    let lines = lines_of(
+    let lines = linework_of(
         rt.alloc(),
         &[
             (true, &[(0, 0), (1, 0), (1, 1), (0, 1), (0, 0)]),

@@ -1,10 +1,9 @@
 // Layers that are refused: each kind of fault with the number of its feature, in the order in which faults are found.
-use crate::fault::{GeoFault, GeoFaultKind};
-use crate::reading::read_layer;
-use crate::test_values::{
+use crate::layer_values::{
     Made, empty_object, feature, features, group, lines, one, row, rows, shape, two, typed, with,
     word,
 };
+use geojson_model::{GeoFault, GeoFaultKind, read_layer};
 use json_value::Json;
 use std::alloc::Global;
 use std::process::Abort;

@@ -1,4 +1,4 @@
-// JSON values made in code, for the tests. Nothing is made where memory runs out.
+// JSON values of layers, made in code. Nothing is made where memory runs out.
 use json_value::{Items, Json, NumText, OwnText};
 use std::alloc::Global;
 

@@ -11,8 +11,6 @@ mod memory;
 mod memory_drain;
 mod sink;
 mod source;
-#[cfg(test)]
-mod tests;
 
 pub use drain::{Drain, ToWrite};
 pub use feed::{Failed, Feed, FromRead};

@@ -11,8 +11,6 @@ mod num_text;
 mod number_parts;
 mod rounding;
 mod scaling;
-#[cfg(test)]
-mod tests;
 mod units;
 
 pub use laws::{numbers_have_parts, parts_are_spelled, rounded_is_unique, scaled_is_nearest};

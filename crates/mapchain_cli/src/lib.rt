@@ -13,8 +13,6 @@ mod running;
 mod sink_text;
 mod statuses;
 mod telling;
-#[cfg(test)]
-mod tests;
 mod usage;
 
 pub use files::Files;

@@ -1,5 +1,7 @@
 -- Alike is an equivalence. No two arcs are alike, each is a piece, and each piece is alike one.
 use Rattle.std.proofs.Common.{◌≡◌, Bool, true, false, cond, not, ◌&&◌, ◌||◌, List, [], ◌∷◌, reverse, refl, ap, sym, ◌∙◌, subst, ◌⊎◌, inl, inr}
+use Rattle.std.proofs.Math.Bool.{or-true}
+use Rattle.std.proofs.lemmas.Bool.{and_parts, not-true, or_cases}
 use Rattle.std.proofs.lemmas.List.{reverse-reverse}
 use Rattle.std.specs.List.{filter}
 use Rattle.arc_table.specs.Arcs.{same_line, alike, arcs_of}
@@ -8,8 +10,8 @@ use Rattle.arc_table.specs.Laws.{AreUnlike}
 use Rattle.cutter.specs.Places.{In}
 use Rattle.geojson_types.specs.Points.{Point}
 use Rattle.geojson_types.specs.Rings.{same}
-use Rattle.cutter.proofs.Junctions.{same_self, same_is, and_true, in_filter}
-use Rattle.cutter.proofs.Starts.{from_filter, any_of}
+use Rattle.linework.proofs.Cleaned.{same_self, same_is}
+use Rattle.linework.proofs.Members.{in_filter, from_filter, any_of}
 
 pub same_line_self : (ps : List Point) → same_line ps ps ≡ true
 same_line_self [] = refl
@@ -20,23 +22,15 @@ same_line_is [] [] h = refl
 same_line_is [] (q ∷ qs) h = cc
 same_line_is (p ∷ ps) [] h = cc
 same_line_is (p ∷ ps) (q ∷ qs) h =
-    let b = and_true (same p q) (same_line ps qs) h in
+    let b = and_parts (same p q) (same_line ps qs) h in
     ap (λ x. x ∷ ps) (same_is p q b.0) ∙ ap (λ l. q ∷ l) (same_line_is ps qs b.1)
 
-or_case : (x y : Bool) → (x || y) ≡ true → (x ≡ true) ⊎ (y ≡ true)
-or_case true y h = inl refl
-or_case false y h = inr h
-
-or_right : (b : Bool) → (b || true) ≡ true
-or_right true = refl
-or_right false = refl
-
 pub alike_is : (x y : List Point) → alike x y ≡ true → (x ≡ y) ⊎ (x ≡ reverse y)
-alike_is x y h = elim (or_case (same_line x y) (same_line x (reverse y)) h) [ inl e ↦ inl (same_line_is x y e) | inr e ↦ inr (same_line_is x (reverse y) e) ]
+alike_is x y h = elim (or_cases (same_line x y) (same_line x (reverse y)) h) [ inl e ↦ inl (same_line_is x y e) | inr e ↦ inr (same_line_is x (reverse y) e) ]
 
 pub is_alike : (x y : List Point) → (x ≡ y) ⊎ (x ≡ reverse y) → alike x y ≡ true
 is_alike x y (inl e) = ap (λ b. b || same_line x (reverse y)) (subst (λ z. same_line x z ≡ true) e (same_line_self x))
-is_alike x y (inr e) = ap (λ b. same_line x y || b) (subst (λ z. same_line x z ≡ true) e (same_line_self x)) ∙ or_right (same_line x y)
+is_alike x y (inr e) = ap (λ b. same_line x y || b) (subst (λ z. same_line x z ≡ true) e (same_line_self x)) ∙ or-true (same_line x y)
 
 pub alike_self : (x : List Point) → alike x x ≡ true
 alike_self x = is_alike x x (inl refl)
@@ -50,10 +44,6 @@ alike_trans x y z h k = is_alike x z (on (alike_is x y h) (alike_is y z k))
     on (inr e) (inl f) = inr (e ∙ ap reverse f)
     on (inr e) (inr f) = inl (e ∙ ap reverse f ∙ reverse-reverse z)
 
-not_true : (b : Bool) → not b ≡ true → b ≡ false
-not_true true h = cc
-not_true false h = refl
-
 unlike_filter : (t : List Point → Bool) (xs : List (List Point)) → AreUnlike xs → AreUnlike (filter t xs)
 unlike_filter t [] h = tt
 unlike_filter t (x ∷ xs) h = on (t x) (unlike_filter t xs h.1)
@@ -65,7 +55,7 @@ unlike_filter t (x ∷ xs) h = on (t x) (unlike_filter t xs h.1)
 -- no two arcs are alike
 pub arcs_unlike : (ps : List (List Point)) → AreUnlike (arcs_of ps)
 arcs_unlike [] = tt
-arcs_unlike (p ∷ ps) = (λ y k. not_true (alike p y) (from_filter (λ q. not (alike p q)) y (arcs_of ps) k).1, unlike_filter (λ q. not (alike p q)) (arcs_of ps) (arcs_unlike ps))
+arcs_unlike (p ∷ ps) = (λ y k. not-true (alike p y) (from_filter (λ q. not (alike p q)) y (arcs_of ps) k).1, unlike_filter (λ q. not (alike p q)) (arcs_of ps) (arcs_unlike ps))
 
 -- an arc is a piece
 pub arc_is_piece : (x : List Point) (ps : List (List Point)) → In x (arcs_of ps) → In x ps

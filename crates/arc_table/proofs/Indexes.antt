@@ -60,7 +60,7 @@ none_in (y ∷ ys) x h = on (same_line y x) refl (none_in ys x (λ z k. h z (inr
     on false e ih = ap (λ o. option_map suc o) ih
 
 -- a piece that is alike an arc has a number, or its reverse has
-none_both : (qs : List (List Point)) (x : List Point) → number_in qs x ≡ None → number_in qs (reverse x) ≡ None → has_alike qs x ≡ false
+pub none_both : (qs : List (List Point)) (x : List Point) → number_in qs x ≡ None → number_in qs (reverse x) ≡ None → has_alike qs x ≡ false
 none_both [] x e f = refl
 none_both (q ∷ qs) x e f = on (same_line q x) (same_line q (reverse x)) (number_in qs x) (number_in qs (reverse x)) e f (λ g h. none_both qs x g h)
   where

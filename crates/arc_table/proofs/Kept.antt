@@ -19,9 +19,9 @@ use Rattle.arc_table.proofs.Growth.{every, refs_in, in_every, map_same, build_en
 use Rattle.arc_table.proofs.Indexes.{index_is, named_is, named_all}
 use Rattle.arc_table.proofs.Once.{once_in_arcs, all_in_arcs, same_segments}
 use Rattle.arc_table.proofs.Rejoining.{lines_again, rejoined_of, pieces_meet, rings_close}
-use Rattle.cutter.proofs.OpenPieces.{in_flat}
+use Rattle.linework.proofs.Members.{in_flat}
 
-every_piece : (ss : List SplitStroke) → every (piece_lists ss) ≡ all_pieces ss
+pub every_piece : (ss : List SplitStroke) → every (piece_lists ss) ≡ all_pieces ss
 every_piece [] = refl
 every_piece (s ∷ ss) = ap (λ l. s.pieces ++ l) (every_piece ss)
 

@@ -15,8 +15,7 @@ use Rattle.geojson_types.specs.Points.{Point}
 use Rattle.linework.specs.Cleaning.{IsCleanList, AllClean}
 use Rattle.linework.specs.Visits.{last}
 use Rattle.topo_types.specs.Joins.{arc_at, behind_first, joined_behind_first, rejoined, first_of, last_of, Meet, Closes}
-use Rattle.cutter.proofs.Junctions.{in_right}
-use Rattle.cutter.proofs.OpenPieces.{in_left}
+use Rattle.linework.proofs.Members.{in_left, in_right}
 use Rattle.cutter.proofs.SegmentLaws.{segments_append}
 
 -- ---- joined again

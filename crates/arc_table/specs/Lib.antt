@@ -1,3 +1,4 @@
 pub mod Arcs
 pub mod Growth
 pub mod Laws
+pub mod Starts

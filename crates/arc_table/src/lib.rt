@@ -2,10 +2,12 @@
 //! 2.1.4). It stands on `cutter`, whose pieces become arcs, and on `topo_types`. The layers above use the contract of
 //! `Table::build`: the arcs and indexes of `specs/Arcs.antt`, each segment of the lines once, in exactly one arc, and the arcs
 //! that a line's indexes name, joined again, are the line.
+//! A piece is looked up by its first and by its last segment, and compared with the arc that is found: `Table::compared` counts.
 #![tactic(auto)]
 
 mod comparing;
 mod placing;
+mod starts;
 mod table;
 
 pub use table::Table;

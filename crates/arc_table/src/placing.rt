@@ -1,8 +1,11 @@
 // The arcs that pieces name, found or added.
-ghost use Rattle.std.specs.Prelude.{◌≡◌, ◌<◌, ◌^◌, negsuc, IfOk, OnOk, length, map};
+ghost use Rattle.std.specs.Prelude.{◌≡◌, ◌<◌, ◌≤◌, ◌+◌, ◌^◌, ◌++◌, negsuc, IfNone, IfOk, IfSome, OnOk, length, map, reverse};
+ghost use Rattle.cutter.specs.Structure.{PiecesAreLong};
 ghost use Rattle.arc_table.specs.Growth.{first_alike, found, grow_all, grown};
+ghost use Rattle.arc_table.specs.Laws.{AreUnlike};
+ghost use Rattle.arc_table.specs.Starts.{IsStarts, StartTells, StartsTell};
 
-use crate::comparing::{is_reverse, is_same_line};
+use crate::starts::{Starts, equal_arc, first_segment, reversed_arc};
 use byte_ends::Memory;
 use cutter::PieceIter;
 use geojson_types::Position;
@@ -14,14 +17,25 @@ use topo_types::ArcRef;
 pub fn add_line(
     alloc: Global,
     arcs: &mut Vec<Items<Position>>,
+    starts: &mut Starts,
+    compared: &mut u64,
     pieces: PieceIter<'_>,
 ) -> Result<Items<ArcRef>, Memory>
+    requires unlike { AreUnlike arcs.old.items }
+    requires known { IsStarts arcs.old.items starts.old }
+    requires tell { StartsTell (arcs.old.items ++ pieces) }
+    requires long { PiecesAreLong pieces }
     ensures arcs { OnOk result (arcs.new.items ≡ grow_all arcs.old.items pieces.entry) }
     ensures named { IfOk result (λ refs. refs ≡ map (first_alike arcs.new.items) pieces.entry) }
+    ensures known { OnOk result (IsStarts arcs.new.items starts.new) }
+    ensures compared { IfOk result (λ refs. compared.new ≤ compared.old + length refs) }
+    ensures counted { IfOk result
+        (λ refs. compared.old + length refs < 2 ^ 64
+        → compared.new + length arcs.new.items ≡ compared.old + length arcs.old.items + length refs) }
 {
     let mut refs = Vec::new(alloc);
     for piece in pieces {
-        refs.push(place(alloc, arcs, piece)?)?;
+        refs.push(place(alloc, arcs, starts, compared, piece)?)?;
     }
     Ok(Items::of(refs))
 }
@@ -30,33 +44,56 @@ pub fn add_line(
 fn place(
     alloc: Global,
     arcs: &mut Vec<Items<Position>>,
+    starts: &mut Starts,
+    compared: &mut u64,
     piece: &[Position],
 ) -> Result<ArcRef, Memory>
+    requires long { 2 ≤ length piece.now }
+    requires unlike { AreUnlike arcs.old.items }
+    requires known { IsStarts arcs.old.items starts.old }
+    requires tells { StartTells arcs.old.items piece.now }
+    requires tells_back { StartTells arcs.old.items (reverse piece.now) }
     ensures arcs { OnOk result (arcs.new.items ≡ grown arcs.old.items piece.now) }
     ensures named { IfOk result (λ r. r ≡ first_alike arcs.new.items piece.now) }
+    ensures known { OnOk result (IsStarts arcs.new.items starts.new) }
+    ensures compared { compared.new ≤ compared.old + 1 }
+    ensures counted { OnOk result
+        (compared.old + 1 < 2 ^ 64 → compared.new + length arcs.new.items ≡ compared.old + length arcs.old.items + 1) }
 {
-    if let Some(r) = find(arcs.as_slice(), piece) {
+    if let Some(r) = find(arcs.as_slice(), starts, compared, piece) {
         return Ok(r);
     }
     let index = arcs.as_slice().len();
     let positions = copied(alloc, piece)?;
     arcs.push(Items::of(positions))?;
+    starts.insert(first_segment(piece), index)?;
     Ok(ArcRef::forward(index))
 }
 
-// The index of the first arc that is alike the piece: it is compared with each arc and its reverse.
-fn find(arcs: &[Items<Position>], piece: &[Position]) -> Option<ArcRef>
-    requires { length arcs.now < 2 ^ 63 }
-    ensures { result ≡ found 0 arcs.now piece.now }
+// The index of the first arc that is alike the piece. At most one arc starts as the piece does, and at most one as the piece
+// does backwards: the piece is compared with these.
+fn find(
+    arcs: &[Items<Position>],
+    starts: &Starts,
+    compared: &mut u64,
+    piece: &[Position],
+) -> Option<ArcRef>
+    requires few { length arcs.now < 2 ^ 63 }
+    requires long { 2 ≤ length piece.now }
+    requires unlike { AreUnlike arcs.now }
+    requires known { IsStarts arcs.now starts.now }
+    requires tells { StartTells arcs.now piece.now }
+    requires tells_back { StartTells arcs.now (reverse piece.now) }
+    ensures found { result ≡ found 0 arcs.now piece.now }
+    ensures compared { compared.new ≤ compared.old + 1 }
+    ensures once { IfSome result (λ r. compared.old + 1 < 2 ^ 64 → compared.new ≡ compared.old + 1) }
+    ensures never { IfNone result (compared.new ≡ compared.old) }
 {
-    for i in 0..arcs.len() {
-        let arc = arcs[i].as_slice();
-        if is_same_line(arc, piece) {
-            return Some(ArcRef::forward(i));
-        }
-        if is_reverse(arc, piece) {
-            return Some(backward(i));
-        }
+    if let Some(i) = equal_arc(arcs, starts, compared, piece) {
+        return Some(ArcRef::forward(i));
+    }
+    if let Some(i) = reversed_arc(arcs, starts, compared, piece) {
+        return Some(backward(i));
     }
     None
 }

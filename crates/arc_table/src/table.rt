@@ -1,5 +1,5 @@
 // The table of arcs.
-ghost use Rattle.std.specs.Prelude.{◌≡◌, ◌<◌, ◌≤◌, IfOk, Some, length, map, slice_get};
+ghost use Rattle.std.specs.Prelude.{◌≡◌, ◌<◌, ◌≤◌, ◌+◌, ◌^◌, IfOk, Some, length, map, slice_get, sum_by};
 ghost use Rattle.std.specs.List.{AllByRecursion};
 ghost use Rattle.cutter.specs.Segments.{line_segments, piece_segments};
 ghost use Rattle.cutter.specs.Slices.{all_pieces, piece_lists, strokes};
@@ -12,6 +12,7 @@ use crate::placing::add_line;
 use byte_ends::Memory;
 use cutter::Pieces;
 use geojson_types::Position;
+use indexmap::IndexMap;
 use json_value::Items;
 use std::alloc::Global;
 use std::marker::Model;
@@ -23,9 +24,11 @@ use topo_types::ArcRef;
 pub struct Table {
     arcs: Vec<Items<Position>>,
     refs: Vec<Items<ArcRef>>,
+    compared: u64,
 }
 
 impl Model for Table {
+    ghost use Rattle.std.specs.Prelude.{◌≡◌, ◌<◌, ◌≤◌, ◌+◌, ◌^◌, length, sum_by};
     ghost use Rattle.arc_table.specs.Arcs.{ArcsAndIndexes};
     ghost use Rattle.arc_table.specs.Laws.{IsTable};
 
@@ -33,7 +36,9 @@ impl Model for Table {
 
     ghost view = { λ t. record { arcs = t.arcs.items; refs = t.refs.items } };
 
-    ghost invariant = { λ t. IsTable (record { arcs = t.arcs.items; refs = t.refs.items }) };
+    ghost invariant = { λ t. IsTable (record { arcs = t.arcs.items; refs = t.refs.items })
+        × (t.compared ≤ sum_by length t.refs.items)
+        × (sum_by length t.refs.items < 2 ^ 64 → t.compared + length t.arcs.items ≡ sum_by length t.refs.items) };
 }
 
 impl Table {
@@ -53,10 +58,23 @@ impl Table {
         pieces.law();
         let mut arcs = Vec::new(alloc);
         let mut refs = Vec::new(alloc);
+        let mut starts = IndexMap::new(alloc);
+        let mut compared = 0;
         for i in 0..pieces.len() {
-            refs.push(add_line(alloc, &mut arcs, pieces.of_stroke(i))?)?;
+            let named = add_line(
+                alloc,
+                &mut arcs,
+                &mut starts,
+                &mut compared,
+                pieces.of_stroke(i),
+            )?;
+            refs.push(named)?;
         }
-        Ok(Table { arcs, refs })
+        Ok(Table {
+            arcs,
+            refs,
+            compared,
+        })
     }
 
     /// How many arcs there are.
@@ -71,6 +89,14 @@ impl Table {
         ensures { result ≡ length self.now.refs }
     {
         self.refs.as_slice().len()
+    }
+
+    /// How often `build` compared a piece with a stored arc or its reverse: once for each piece that didn't become an arc.
+    pub fn compared(&self) -> u64
+        ensures bounded { result ≤ sum_by length self.now.refs }
+        ensures counted { sum_by length self.now.refs < 2 ^ 64 → result + length self.now.arcs ≡ sum_by length self.now.refs }
+    {
+        self.compared
     }
 
     /// The arc of this number, counted from zero.

@@ -10,7 +10,7 @@ use Rattle.geojson_types.specs.declared.address.Address.{Address}
 use Rattle.linework.specs.Visits.{last}
 use Rattle.linework.specs.declared.stroke.Stroke.{Stroke}
 use Rattle.cutter.proofs.Starts.{line}
-use Rattle.cutter.proofs.Structured.{in_append}
+use Rattle.linework.proofs.Members.{in_either}
 
 in_drop : (k : ℕ) (x : Point) (ps : List Point) → In x (drop k ps) → In x ps
 in_drop zero x ps h = h
@@ -24,7 +24,7 @@ in_take (suc k) x (p ∷ ps) (inl e) = inl e
 in_take (suc k) x (p ∷ ps) (inr h) = inr (in_take k x ps h)
 
 in_turned : (k : ℕ) (x : Point) (ps : List Point) → In x (turned k ps) → In x ps
-in_turned k x ps h = elim (in_append x (drop k ps) (drop 1 (take (k + 1) ps)) h) [ inl i ↦ in_drop k x ps i | inr i ↦ in_take (k + 1) x ps (in_drop 1 x (take (k + 1) ps) i) ]
+in_turned k x ps h = elim (in_either x (drop k ps) (drop 1 (take (k + 1) ps)) h) [ inl i ↦ in_drop k x ps i | inr i ↦ in_take (k + 1) x ps (in_drop 1 x (take (k + 1) ps) i) ]
 
 -- a line from its start has the positions of the line
 pub in_start : (f : Point → Bool) (at : Address) (c : Bool) (ps : List Point) (x : Point) → In x (from_start f (line at c ps)) → In x ps

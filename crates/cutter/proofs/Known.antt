@@ -15,12 +15,14 @@ use Rattle.linework.specs.Answers.{Answers, is_member, IsOf}
 use Rattle.linework.specs.Visits.{last}
 use Rattle.linework.specs.declared.stroke.Stroke.{Stroke}
 use Rattle.cutter.proofs.Agreement.{in_start, start_agree, by_agree, ends_agree, split}
-use Rattle.cutter.proofs.Junctions.{same_self, in_right}
+use Rattle.linework.proofs.Cleaned.{same_self}
+use Rattle.linework.proofs.Members.{in_right, any_of, slice_in}
 use Rattle.cutter.proofs.OpenPieces.{end_cut}
 use Rattle.cutter.proofs.RingPieces.{turned_is}
 use Rattle.cutter.proofs.SliceLaws.{slices_are}
-use Rattle.cutter.proofs.Starts.{any_of, ring_cut, start_cut, line}
+use Rattle.cutter.proofs.Starts.{ring_cut, start_cut, line}
 use Rattle.cutter.proofs.Structured.{clean_in, structured}
+use Rattle.std.proofs.Math.Bool.{or-true}
 use Rattle.std.proofs.lemmas.List.{map-append}
 
 pub in_get : {X : Type 0} (xs : List X) (i : ℕ) (d : X) → i < length xs → In (get_or xs i d) xs
@@ -36,17 +38,9 @@ cuts_known ls v k s m x i = k.cuts x (k.points x ∙ any_of (λ t. is_member t.p
 pub stroke_known : (ls : List Stroke) (v : Answers) → IsOf ls v → (s : Stroke) → In s ls → AllKnown v.points s.positions
 stroke_known ls v k s m x i = k.points x ∙ any_of (λ t. is_member t.positions x) s ls m (any_of (same x) x s.positions i (same_self x))
 
-in_slice_get : {X : Type 0} (xs : List X) (i : ℕ) (x : X) → slice_get xs i ≡ Some x → In x xs
-in_slice_get [] i x e = cc
-in_slice_get (y ∷ ys) zero x e = inl (some_is e)
-  where
-    some_is : Some y ≡ Some x → x ≡ y
-    some_is e = cc
-in_slice_get (y ∷ ys) (suc i) x e = inr (in_slice_get ys i x e)
-
 -- those of the line that is asked for: what the start of a ring asks of its caller
 pub line_known : (ls : List Stroke) (v : Answers) → IsOf ls v → (i : ℕ) (s : Stroke) → slice_get ls i ≡ Some s → AllKnown v.points s.positions
-line_known ls v k i s e = stroke_known ls v k s (in_slice_get ls i s e)
+line_known ls v k i s e = stroke_known ls v k s (slice_in ls i s e)
 
 -- they know the element of the list that is read
 pub known_at : (known ps : List Point) (i : ℕ) (x : Point) → AllKnown known ps → i < length ps → x ≡ get_or ps i x → is_member known x ≡ true
@@ -62,12 +56,8 @@ ends ls at c [] m h = elim h [ ]
 ends ls at c (p ∷ []) m h = elim h [ ]
 ends ls at false (p ∷ (q ∷ ps)) m h = (
   end_cut ls (line at false (p ∷ (q ∷ ps))) p m (ap (λ b. b || same p (last q ps)) (same_self p)),
-  end_cut ls (line at false (p ∷ (q ∷ ps))) (last q ps) m (ap (λ b. same (last q ps) p || b) (same_self (last q ps)) ∙ or_right (same (last q ps) p)),
+  end_cut ls (line at false (p ∷ (q ∷ ps))) (last q ps) m (ap (λ b. same (last q ps) p || b) (same_self (last q ps)) ∙ or-true (same (last q ps) p)),
 )
-  where
-    or_right : (b : Bool) → (b || true) ≡ true
-    or_right true = refl
-    or_right false = refl
 ends ls at true (p ∷ (q ∷ ps)) m h =
     let c = ring_cut ls at p (q ∷ ps) m in
     let s = start_cut (is_cut ls) c.0 p (p ∷ (q ∷ ps)) c.1 c.2 in

@@ -1,6 +1,7 @@
 -- The pieces of an open line.
-use Rattle.std.proofs.Common.{◌≡◌, Bool, true, false, not, eqb, length, ◌&&◌, ◌||◌, List, [], ◌∷◌, ◌++◌, append-nil, refl, ap, sym, ◌∙◌, subst, inl, inr}
-use Rattle.std.specs.List.{flat_map, list_any}
+use Rattle.std.proofs.Common.{◌≡◌, true, false, not, eqb, length, ◌&&◌, ◌||◌, List, [], ◌∷◌, append-nil, ap, sym, ◌∙◌, subst}
+use Rattle.std.specs.List.{list_any}
+use Rattle.std.proofs.Math.Bool.{or-true}
 use Rattle.cutter.specs.Pieces.{pieces_of}
 use Rattle.geojson_types.specs.Points.{Point}
 use Rattle.geojson_types.specs.declared.address.Address.{Address}
@@ -9,24 +10,13 @@ use Rattle.linework.specs.Cleaning.{Moves}
 use Rattle.linework.specs.Cuts.{is_cut, is_loose_least}
 use Rattle.linework.specs.Visits.{visits, visits_from, visits_at, neighbors, distinct, last, is_end, ends_open}
 use Rattle.linework.specs.declared.stroke.Stroke.{Stroke}
-use Rattle.cutter.proofs.Junctions.{In, in_right, same_self, Via}
+pub use Rattle.linework.proofs.Members.{in_flat}
+use Rattle.linework.proofs.Cleaned.{same_self}
+use Rattle.linework.proofs.Members.{any_of}
+use Rattle.cutter.proofs.Junctions.{In, Via}
 use Rattle.cutter.proofs.Splits.{AllWalks}
 use Rattle.cutter.proofs.PieceLaws.{pieces_hold}
-use Rattle.cutter.proofs.Starts.{any_of, line}
-
-pub in_left : {X : Type 0} (x : X) (xs ys : List X) → In x xs → In x (xs ++ ys)
-in_left x [] ys k = elim k [ ]
-in_left x (y ∷ xs) ys (inl e) = inl e
-in_left x (y ∷ xs) ys (inr k) = inr (in_left x xs ys k)
-
-pub in_flat : {X Y : Type 0} (f : X → List Y) (x : X) (y : Y) (xs : List X) → In x xs → In y (f x) → In y (flat_map f xs)
-in_flat f x y [] k m = elim k [ ]
-in_flat f x y (z ∷ zs) (inl e) m = in_left y (f z) (flat_map f zs) (subst (λ w. In y (f w)) e m)
-in_flat f x y (z ∷ zs) (inr k) m = in_right y (f z) (flat_map f zs) (in_flat f x y zs k m)
-
-or_right : (b : Bool) → (b || true) ≡ true
-or_right true = refl
-or_right false = refl
+use Rattle.cutter.proofs.Starts.{line}
 
 -- an end of an open line is a cut position
 pub end_cut : (ls : List Stroke) (s : Stroke) (x : Point) → In s ls → (not s.closed && is_end x s.positions) ≡ true → is_cut ls x ≡ true
@@ -38,6 +28,6 @@ pub open_pieces : (ls : List Stroke) (at : Address) (p q : Point) (ps : List Poi
     AllWalks (is_cut ls) (Via ls) (pieces_of ls (line at false (p ∷ (q ∷ ps))))
 open_pieces ls at p q ps k m = pieces_hold ls p q ps
     (end_cut ls (line at false (p ∷ (q ∷ ps))) p k (ap (λ b. b || same p (last q ps)) (same_self p)))
-    (end_cut ls (line at false (p ∷ (q ∷ ps))) (last q ps) k (ap (λ b. same (last q ps) p || b) (same_self (last q ps)) ∙ or_right (same (last q ps) p)))
+    (end_cut ls (line at false (p ∷ (q ∷ ps))) (last q ps) k (ap (λ b. same (last q ps) p || b) (same_self (last q ps)) ∙ or-true (same (last q ps) p)))
     m
     (λ v h. in_flat visits (line at false (p ∷ (q ∷ ps))) v ls k (subst (λ l. In v (visits_from p q l)) (sym (append-nil ps)) h))

@@ -11,7 +11,7 @@ use Rattle.cutter.proofs.Junctions.{In, visit, Via}
 use Rattle.cutter.proofs.Splits.{Steps, AllWalks, all_walks}
 use Rattle.cutter.proofs.TurnedRings.{Goes, Good, turned_good}
 use Rattle.cutter.proofs.Starts.{start_cut, ring_cut, line}
-use Rattle.cutter.proofs.OpenPieces.{in_flat}
+use Rattle.linework.proofs.Members.{in_flat}
 
 steps_from : (ls : List Stroke) (p q : Point) (ps : List Point) → Goes (Via ls) p q ps → Steps (is_cut ls) (Via ls) p q ps
 steps_from ls p q [] h = tt

@@ -9,9 +9,9 @@ use Rattle.linework.specs.Cleaning.{IsClean, AllClean}
 use Rattle.linework.specs.Cuts.{is_cut}
 use Rattle.linework.specs.Visits.{last}
 use Rattle.linework.specs.declared.stroke.Stroke.{Stroke}
-use Rattle.cutter.proofs.Junctions.{In, in_right}
-use Rattle.cutter.proofs.Structured.{in_append, from_flat, clean_in}
-use Rattle.cutter.proofs.OpenPieces.{in_left, in_flat}
+use Rattle.linework.proofs.Members.{in_left, in_right, in_either, in_flat, from_flat}
+use Rattle.cutter.proofs.Junctions.{In}
+use Rattle.cutter.proofs.Structured.{clean_in}
 use Rattle.cutter.proofs.Starts.{ring_cut, start_cut, line}
 use Rattle.cutter.proofs.RingPieces.{drop_at}
 
@@ -84,7 +84,7 @@ turned_segments k p ps e h =
     on zs g ys d l = ap (λ z. segments (z ++ take k ps)) d ∙ segments_append g ys (take k ps) ∙ ap (λ z. segments_from g ys ++ segments_from z (take k ps)) l ∙ ap (λ z. segments z ++ segments_from p (take k ps)) (sym d)
 
 in_swap : {X : Type 0} (x : X) (xs ys : List X) → In x (xs ++ ys) → In x (ys ++ xs)
-in_swap x xs ys k = elim (in_append x xs ys k) [ inl h ↦ in_right x ys xs h | inr h ↦ in_left x ys xs h ]
+in_swap x xs ys k = elim (in_either x xs ys k) [ inl h ↦ in_right x ys xs h | inr h ↦ in_left x ys xs h ]
 
 -- a line's segments, from its start
 pub from_start_segments : (ls : List Stroke) (at : Address) (closed : Bool) (ps : List Point) → In (line at closed ps) ls → IsClean (line at closed ps) → (s : Segment) → In s (segments ps) → In s (segments (from_start (is_cut ls) (line at closed ps)))

@@ -2,6 +2,7 @@
 use Rattle.std.proofs.Common.{◌≡◌, suc, ◌<◌, Bool, true, false, cond, not, ◌&&◌, ◌||◌, List, [], ◌∷◌, length, get_or, refl, ap, sym, ◌∙◌, subst, arith, inl, inr}
 use Rattle.std.specs.List.{filter, list_any, list_all}
 use Rattle.std.specs.Ordering.{is_lt}
+use Rattle.std.proofs.Math.Bool.{or-true}
 use Rattle.cutter.specs.Pieces.{first_at, start_in}
 use Rattle.geojson_types.specs.Order.{point_cmp, least_of, is_least}
 use Rattle.geojson_types.specs.Points.{Point}
@@ -10,7 +11,10 @@ use Rattle.geojson_types.specs.Rings.{same}
 use Rattle.linework.specs.Cuts.{is_loose_least, is_cut}
 use Rattle.linework.specs.Visits.{is_junction}
 use Rattle.linework.specs.declared.stroke.Stroke.{Stroke}
-use Rattle.cutter.proofs.Junctions.{In, same_self, same_is, in_filter}
+pub use Rattle.linework.proofs.Members.{any_of}
+use Rattle.linework.proofs.Cleaned.{same_self, same_is}
+use Rattle.linework.proofs.Members.{in_filter, from_filter}
+use Rattle.cutter.proofs.Junctions.{In}
 
 least_in : (p : Point) (qs : List Point) → In (least_of p qs) (p ∷ qs)
 least_in p [] = inl refl
@@ -20,15 +24,6 @@ least_in p (q ∷ qs) = on (is_lt (point_cmp q p)) (least_in q qs) (least_in p q
     on true h k = inr h
     on false (h) (inl e) = inl e
     on false (h) (inr k) = inr (inr k)
-
-pub from_filter : {X : Type 0} (t : X → Bool) (x : X) (xs : List X) → In x (filter t xs) → In x xs × (t x ≡ true)
-from_filter t x [] k = elim k [ ]
-from_filter t x (y ∷ ys) k = on (t y) refl k (λ m. from_filter t x ys m)
-  where
-    on : (b : Bool) → t y ≡ b → In x (cond b (y ∷ filter t ys) (filter t ys)) → (In x (filter t ys) → In x ys × (t x ≡ true)) → In x (y ∷ ys) × (t x ≡ true)
-    on true e (inl k) ih = (inl k, ap t k ∙ e)
-    on true e (inr k) ih = let m = ih k in (inr m.0, m.1)
-    on false e k ih = let m = ih k in (inr m.0, m.1)
 
 pub first_passes : (t : Point → Bool) (x d : Point) (xs : List Point) → In x xs → t x ≡ true → (first_at t xs < length xs) × (t (get_or xs (first_at t xs) d) ≡ true)
 first_passes t x d [] k h = elim k [ ]
@@ -59,15 +54,6 @@ start_cut cut q d ps k h = on (filter cut ps) refl (in_filter cut q ps k h)
         let r = first_passes (λ p. is_least p (filter cut ps)) (least_of f fs) d ps there.0 passes in
         (r.0, (from_filter cut (get_or ps (start_in cut ps) d) ps (least_is_in (get_or ps (start_in cut ps) d) (filter cut ps) r.1)).1)
 
-pub any_of : {X : Type 0} (t : X → Bool) (x : X) (xs : List X) → In x xs → t x ≡ true → list_any t xs ≡ true
-any_of t x [] k h = elim k [ ]
-any_of t x (y ∷ ys) (inl e) h = ap (λ b. b || list_any t ys) (sym (ap t e) ∙ h)
-any_of t x (y ∷ ys) (inr k) h = ap (λ b. t y || b) (any_of t x ys k h) ∙ or_true (t y)
-  where
-    or_true : (b : Bool) → (b || true) ≡ true
-    or_true true = refl
-    or_true false = refl
-
 not_all : (t : Point → Bool) (xs : List Point) → list_all (λ q. not (t q)) xs ≡ false → (x : Point) × In x xs × (t x ≡ true)
 not_all t [] h = cc
 not_all t (y ∷ ys) h = on (t y) refl (λ k. not_all t ys k)
@@ -84,13 +70,9 @@ line at closed ps = record { address = at; closed = closed; positions = ps }
 pub ring_cut : (ls : List Stroke) (at : Address) (a : Point) (as' : List Point) → In (line at true (a ∷ as')) ls → (q : Point) × In q (a ∷ as') × (is_cut ls q ≡ true)
 ring_cut ls at a as' k = on (list_all (λ q. not (is_junction ls q)) (a ∷ as')) refl
   where
-    or_true : (b : Bool) → (b || true) ≡ true
-    or_true true = refl
-    or_true false = refl
-
     on : (b : Bool) → list_all (λ q. not (is_junction ls q)) (a ∷ as') ≡ b → (q : Point) × In q (a ∷ as') × (is_cut ls q ≡ true)
     on true e =
         let m = least_of a as' in
         let loose : is_loose_least ls (least_of a as') (line at true (a ∷ as')) ≡ true = ap (λ b. b && same (least_of a as') (least_of a as')) e ∙ same_self (least_of a as') in
-        (least_of a as', least_in a as', ap (λ b. is_junction ls (least_of a as') || b) (any_of (is_loose_least ls (least_of a as')) (line at true (a ∷ as')) ls k loose) ∙ or_true (is_junction ls (least_of a as')))
+        (least_of a as', least_in a as', ap (λ b. is_junction ls (least_of a as') || b) (any_of (is_loose_least ls (least_of a as')) (line at true (a ∷ as')) ls k loose) ∙ or-true (is_junction ls (least_of a as')))
     on false e = let j = not_all (is_junction ls) (a ∷ as') e in (j.0, j.1, ap (λ b. b || list_any (is_loose_least ls j.0) ls) j.2)

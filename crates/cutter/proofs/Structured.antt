@@ -1,6 +1,5 @@
 -- All pieces of all strokes.
-use Rattle.std.proofs.Common.{Bool, true, false, List, [], ◌∷◌, ◌++◌, refl, sym, subst, ◌⊎◌, inl, inr, ◌≤◌, length, arith}
-use Rattle.std.specs.List.{flat_map}
+use Rattle.std.proofs.Common.{Bool, true, false, List, [], ◌∷◌, refl, sym, subst, inl, inr, ◌≤◌, length, arith}
 use Rattle.cutter.specs.Pieces.{pieces_of, pieces}
 use Rattle.cutter.specs.Places.{IsStructured}
 use Rattle.geojson_types.specs.Points.{Point}
@@ -9,25 +8,12 @@ use Rattle.cutter.proofs.Starts.{line}
 use Rattle.linework.specs.Cleaning.{IsClean, AllClean}
 use Rattle.linework.specs.Cuts.{is_cut}
 use Rattle.linework.specs.declared.stroke.Stroke.{Stroke}
+pub use Rattle.linework.proofs.Members.{in_either as in_append, from_flat}
 use Rattle.cutter.proofs.Junctions.{In, Via}
 use Rattle.cutter.proofs.Splits.{IsWalk, AllWalks}
 use Rattle.cutter.proofs.PieceLaws.{IsPieceOf, one_way, two_ways, once, not_back, interior_apart}
 use Rattle.cutter.proofs.OpenPieces.{open_pieces}
 use Rattle.cutter.proofs.RingPieces.{ring_pieces}
-
-pub in_append : {X : Type 0} (x : X) (xs ys : List X) → In x (xs ++ ys) → In x xs ⊎ In x ys
-in_append x [] ys k = inr k
-in_append x (y ∷ xs) ys (inl e) = inl (inl e)
-in_append x (y ∷ xs) ys (inr k) = elim (in_append x xs ys k) [ inl h ↦ inl (inr h) | inr h ↦ inr h ]
-
--- what stands in a flat_map stands in one of its parts
-pub from_flat : {X Y : Type 0} (f : X → List Y) (y : Y) (xs : List X) → In y (flat_map f xs) → (x : X) × In x xs × In y (f x)
-from_flat f y [] k = elim k [ ]
-from_flat {X = X} f y (x ∷ xs) k = on (in_append y (f x) (flat_map f xs) k) (λ h. from_flat f y xs h)
-  where
-    on : In y (f x) ⊎ In y (flat_map f xs) → (In y (flat_map f xs) → (z : X) × In z xs × In y (f z)) → (z : X) × In z (x ∷ xs) × In y (f z)
-    on (inl h) ih = (x, inl refl, h)
-    on (inr h) ih = let r = ih h in (r.0, inr r.1, r.2)
 
 walk_in : (cut : Point → Bool) (Go : Point → Point → Point → Type 0) (x : List Point) (xs : List (List Point)) → AllWalks cut Go xs → In x xs → IsWalk cut Go x
 walk_in cut Go x [] h k = elim k [ ]

@@ -7,14 +7,15 @@ use Rattle.cutter.specs.Segments.{Segment, segments, segments_from, is_segment, 
 use Rattle.cutter.specs.Structure.{SharersAreAlike, SegmentsAreOnce}
 use Rattle.geojson_types.specs.Points.{Point}
 use Rattle.geojson_types.specs.Rings.{same}
-use Rattle.cutter.proofs.Junctions.{same_is, and_true}
+use Rattle.std.proofs.lemmas.Bool.{and_parts}
+use Rattle.linework.proofs.Cleaned.{same_is}
 
 -- the segment between a and b goes from the one to the other
 pub segment_ends : (a b : Point) (s : Segment) → is_segment a b s ≡ true → ((a ≡ s.from) × (b ≡ s.to)) ⊎ ((a ≡ s.to) × (b ≡ s.from))
 unfolding is_segment
 segment_ends a b s h = elim (or_case (same a s.from && same b s.to) (same a s.to && same b s.from) h) [
-  | inl e ↦ inl (same_is a s.from (and_true (same a s.from) (same b s.to) e).0, same_is b s.to (and_true (same a s.from) (same b s.to) e).1)
-  | inr e ↦ inr (same_is a s.to (and_true (same a s.to) (same b s.from) e).0, same_is b s.from (and_true (same a s.to) (same b s.from) e).1)
+  | inl e ↦ inl (same_is a s.from (and_parts (same a s.from) (same b s.to) e).0, same_is b s.to (and_parts (same a s.from) (same b s.to) e).1)
+  | inr e ↦ inr (same_is a s.to (and_parts (same a s.to) (same b s.from) e).0, same_is b s.from (and_parts (same a s.to) (same b s.from) e).1)
 ]
   where
     or_case : (x y : Bool) → (x || y) ≡ true → (x ≡ true) ⊎ (y ≡ true)

@@ -1,5 +1,7 @@
 -- Cleaned lists: neighbours differ, the ends stay, and what one position more adds.
 use Rattle.std.proofs.Common.{◌≡◌, ◌≢◌, ℕ, zero, suc, ◌+◌, ◌-◌, ◌<◌, ◌≤◌, Bool, true, false, cond, ◌&&◌, List, [], ◌∷◌, ◌++◌, drop, length, get_or, append_assoc, append-nil, nat_le, slice_get, Some, refl, ap, sym, ◌∙◌, subst, arith, if◌then◌else◌}
+use Rattle.std.proofs.Math.ListN.{drop_of_length-le}
+use Rattle.std.proofs.lemmas.Bool.{and_parts}
 use Rattle.std.proofs.lemmas.Bool.Decides.{Decides-int_eq}
 use Rattle.std.proofs.lemmas.Cmp.{int_eq_equiv}
 use Rattle.std.proofs.lemmas.List.{drop_more}
@@ -12,10 +14,6 @@ use Rattle.linework.specs.Visits.{last}
 use Rattle.linework.specs.Cleaning.{clean_from, clean, is_short, Moves, IsCleanList, IsClean, AllClean}
 use Rattle.linework.specs.Gathering.{starts_twice}
 
-pub and_true : (x y : Bool) → (x && y) ≡ true → (x ≡ true) × (y ≡ true)
-and_true true y h = (refl, h)
-and_true false y h = cc
-
 abbrev point_of : ℤ → ℤ → Point
 point_of x y = record { x = x; y = y }
 
@@ -26,10 +24,19 @@ same_self p = ap (λ b. b && int_eq p.y p.y) (int_eq_equiv.refl p.x) ∙ int_eq_
 pub same_is : (p q : Point) → same p q ≡ true → p ≡ q
 unfolding same
 same_is p q h =
-    let b = and_true (int_eq p.x q.x) (int_eq p.y q.y) h in
+    let b = and_parts (int_eq p.x q.x) (int_eq p.y q.y) h in
     let ex : p.x ≡ q.x = (Decides-int_eq p.x q.x).0 b.0 in
     let ey : p.y ≡ q.y = (Decides-int_eq p.y q.y).0 b.1 in
     ap (λ x. point_of x p.y) ex ∙ ap (point_of q.x) ey
+
+pub same_sym : (p q : Point) → same p q ≡ same q p
+same_sym p q = on (same p q) refl (same q p) refl
+  where
+    on : (b : Bool) → same p q ≡ b → (c : Bool) → same q p ≡ c → same p q ≡ same q p
+    on true e true f = e ∙ sym f
+    on false e false f = e ∙ sym f
+    on true e false f = e ∙ sym (subst (λ x. same q x ≡ true) (sym (same_is p q e)) (same_self q))
+    on false e true f = subst (λ x. same p x ≡ true) (sym (same_is q p f)) (same_self p) ∙ sym f
 
 pub differs : (p q : Point) → same p q ≡ false → p ≢ q
 differs p q h e = let z : true ≡ false = sym (subst (λ x. same p x ≡ true) e (same_self p)) ∙ h in cc
@@ -76,7 +83,7 @@ closed_ends p ps h =
 
 ring_closed : (ps : List Point) → is_ring ps ≡ true → is_closed ps ≡ true
 unfolding is_ring
-ring_closed ps k = (and_true (nat_le 4 (length ps)) (is_closed ps) k).1
+ring_closed ps k = (and_parts (nat_le 4 (length ps)) (is_closed ps) k).1
 
 -- a cleaned list that is long enough
 pub clean_is_clean : (closed : Bool) (ps : List Point) → (closed ≡ true → is_ring ps ≡ true) → is_short closed (clean ps) ≡ false → IsCleanList closed (clean ps)
@@ -122,13 +129,7 @@ clean_keep ps kept all i p l g t e =
     ∙ ap (λ l. kept ++ l) (sym (ap clean d ∙ clean_more p (drop (i + 1) ps) ∙ ap (λ b. cond b (clean (drop (i + 1) ps)) (p ∷ clean (drop (i + 1) ps))) k)) ∙ e
 
 pub clean_done : (ps kept all : List Point) (i : ℕ) → length ps ≤ i → kept ++ clean (drop i ps) ≡ all → kept ≡ all
-clean_done ps kept all i l e = sym (append-nil kept) ∙ ap (λ l. kept ++ clean l) (sym (none ps i l)) ∙ e
-  where
-    none : (xs : List Point) (j : ℕ) → length xs ≤ j → drop j xs ≡ []
-    none [] zero h = refl
-    none [] (suc j) h = refl
-    none (x ∷ xs) zero h = absurd (omega arith)
-    none (x ∷ xs) (suc j) h = none xs j (omega arith)
+clean_done ps kept all i l e = sym (append-nil kept) ∙ ap (λ l. kept ++ clean l) (sym (drop_of_length-le ps l)) ∙ e
 
 -- whether the first two of what is left are equal
 pub twice_none : (ps : List Point) (i : ℕ) → i + 1 ≡ length ps → starts_twice (drop i ps) ≡ false

@@ -1,7 +1,8 @@
 -- The flags of the least positions of rings without a junction, and what the table answers then.
-use Rattle.std.proofs.Common.{◌≡◌, ℕ, zero, suc, ◌+◌, ◌<◌, ◌≤◌, Bool, true, false, cond, not, ◌||◌, ◌&&◌, List, [], ◌∷◌, take, drop, ◌-◌, get_or, length, Option, None, Some, inl, inr, refl, ap, sym, ◌∙◌, arith}
+use Rattle.std.proofs.Common.{◌≡◌, ℕ, ◌+◌, ◌<◌, ◌≤◌, Bool, true, false, cond, not, ◌||◌, ◌&&◌, List, [], ◌∷◌, take, drop, ◌-◌, get_or, length, Option, None, Some, inl, inr, refl, ap, sym, ◌∙◌, arith}
 use Rattle.std.specs.List.{filter, list_any, list_all}
 use Rattle.std.specs.Option.{is_some}
+use Rattle.std.proofs.Math.Bool.{and-false, or-false, or-true}
 use Rattle.std.proofs.Math.ListN.{drop_of_length-le}
 use Rattle.std.proofs.lemmas.List.Folds.{list_any_more}
 use Rattle.std.proofs.lemmas.List.{take_all}
@@ -17,9 +18,9 @@ use Rattle.linework.specs.Answers.{Answers, is_member, IsOf}
 use Rattle.linework.specs.Cuts.{is_loose_least}
 use Rattle.linework.specs.Visits.{is_junction, is_position_of}
 use Rattle.linework.specs.Notes.{equal, vertex_of, vertex_at, IsTable, is_knot_option, is_cut_option, is_free, loosened, flagged}
-use Rattle.linework.proofs.Cleaned.{same_is, same_self}
-use Rattle.linework.proofs.Settled.{any_of}
-use Rattle.linework.proofs.Noting.{equal_same, same_sym, knot_is}
+use Rattle.linework.proofs.Cleaned.{same_is, same_self, same_sym}
+use Rattle.linework.proofs.Members.{any_of, get_in}
+use Rattle.linework.proofs.Noting.{equal_same, knot_is}
 
 -- one flag more
 pub flag_one : (g h : Point → Option Vertex) (w : Point) (x : Vertex) → g w ≡ Some x → ((p : Point) → h p ≡ cond (equal w p) (Some (loosened x)) (g p)) →
@@ -52,25 +53,12 @@ loose_in ls ss p = list_any (is_loose_least ls p) ss
 flag_at : (b : Bool) (ls : List Stroke) (f g : Point → Bool) (p : Point) → g p ≡ (f p || b) → flagged b (vertex_at ls f p) ≡ vertex_at ls g p
 flag_at b ls f g p e = on b (is_position_of ls p) e
   where
-    or_true : (a : Bool) → true ≡ (a || true)
-    or_true true = refl
-    or_true false = refl
-
-    or_none : (a : Bool) → a ≡ (a || false)
-    or_none true = refl
-    or_none false = refl
-
     on : (b c : Bool) → g p ≡ (f p || b) → flagged b (cond c (Some (vertex_of ls f p)) None) ≡ cond c (Some (vertex_of ls g p)) None
     on b false e = refl
-    on true true e = ap (λ x. Some (vertex_of ls (λ q. x) p)) (or_true (f p) ∙ sym e)
-    on false true e = ap (λ x. Some (vertex_of ls (λ q. x) p)) (or_none (f p) ∙ sym e)
+    on true true e = ap (λ x. Some (vertex_of ls (λ q. x) p)) (sym (or-true (f p)) ∙ sym e)
+    on false true e = ap (λ x. Some (vertex_of ls (λ q. x) p)) (sym (or-false (f p)) ∙ sym e)
 
 -- positions of the lines
-get_in : {X : Type 0} (xs : List X) (i : ℕ) (x : X) → i < length xs → x ≡ get_or xs i x → In x xs
-get_in [] i x l e = absurd (omega arith)
-get_in (y ∷ ys) zero x l e = inl e
-get_in (y ∷ ys) (suc i) x l e = inr (get_in ys i x (omega arith) e)
-
 position_in : (ls : List Stroke) (s : Stroke) (q : Point) → In s ls → In q s.positions → is_position_of ls q ≡ true
 position_in ls s q k m = any_of (λ s. list_any (same q) s.positions) s ls k (any_of (same q) q s.positions m (same_self q))
 
@@ -119,25 +107,21 @@ pub member_filter : (t : Point → Bool) (ps : List Point) (p : Point) → is_me
 member_filter t [] p = refl
 member_filter t (q ∷ qs) p = on (same p q) refl (t q) refl (member_filter t qs p)
   where
-    and_none : (a b : Bool) → b ≡ false → (a && b) ≡ false
-    and_none true b e = e
-    and_none false b e = refl
-
     on : (b : Bool) → same p q ≡ b → (c : Bool) → t q ≡ c → is_member (filter t qs) p ≡ (is_member qs p && t p) →
         is_member (cond c (q ∷ filter t qs) (filter t qs)) p ≡ ((b || is_member qs p) && t p)
     on true i true j ih = ap (λ b. b || is_member (filter t qs) p) i ∙ sym (ap t (same_is p q i) ∙ j)
-    on true i false j ih = let n : t p ≡ false = ap t (same_is p q i) ∙ j in ih ∙ and_none (is_member qs p) (t p) n ∙ sym n
+    on true i false j ih = let n : t p ≡ false = ap t (same_is p q i) ∙ j in ih ∙ ap (λ c. is_member qs p && c) n ∙ and-false (is_member qs p) ∙ sym n
     on false i true j ih = ap (λ b. b || is_member (filter t qs) p) i ∙ ih
     on false i false j ih = ih
 
-any_equal : (p : Point) (ps : List Point) → list_any (equal p) ps ≡ list_any (same p) ps
-any_equal p [] = refl
-any_equal p (q ∷ qs) = ap (λ b. b || list_any (equal p) qs) (equal_same p q) ∙ ap (λ b. same p q || b) (any_equal p qs)
+pub equal_as : (p : Point) → equal p ≡ same p
+unfolding same
+equal_as p = refl
 
 module _ {S : Type 0} (m : IndexMap Point Vertex S) where
   -- the keys are the positions that the table knows
   pub member_known : (p : Point) → is_some (get equal m p) ≡ is_member (keys m) p
-  member_known p = is_some-lookup (equal p) m.entries ∙ any_equal p (keys m)
+  member_known p = is_some-lookup (equal p) m.entries ∙ ap (λ t. list_any t (keys m)) (equal_as p)
 
   abbrev pub answers : Answers
   answers = record {

@@ -1,6 +1,6 @@
 -- Lines gathered part by part, feature by feature and layer by layer.
-use Rattle.std.proofs.Common.{◌≡◌, ℕ, zero, suc, ◌+◌, ◌<◌, ◌≤◌, Bool, true, false, cond, not, List, [], ◌∷◌, ◌++◌, map, filter, take, length, get_or, append_assoc, append-nil, refl, ap, sym, ◌∙◌, arith}
-use Rattle.std.proofs.lemmas.List.{take_more, take_all, map-append}
+use Rattle.std.proofs.Common.{◌≡◌, ℕ, suc, ◌+◌, ◌<◌, ◌≤◌, Bool, true, false, cond, not, List, [], ◌∷◌, ◌++◌, map, filter, take, length, get_or, append_assoc, append-nil, refl, ap, sym, ◌∙◌, arith}
+use Rattle.std.proofs.lemmas.List.{take_more, take_all, length-map, length-take-le, map-append}
 use Rattle.geojson_types.specs.Points.{Point}
 use Rattle.geojson_types.specs.Features.{Featured}
 use Rattle.geojson_types.specs.Paths.{Placed, alone, inside_part, of_parts}
@@ -51,16 +51,6 @@ parts_more i (ys ∷ xss) xs =
     ap (λ l. inside_part i ys ++ l) (parts_more (suc i) xss xs ∙ ap (λ k. of_parts (suc i) xss ++ inside_part k xs) n)
     ∙ sym (append_assoc (inside_part i ys) (of_parts (suc i) xss) (inside_part (i + suc (length xss)) xs))
 
-taken : {A : Type 0} (xs : List A) (i : ℕ) → i ≤ length xs → length (take i xs) ≡ i
-taken [] zero h = refl
-taken [] (suc i) h = absurd (omega arith)
-taken (x ∷ xs) zero h = refl
-taken (x ∷ xs) (suc i) h = ap suc (taken xs i (omega arith))
-
-length_map : {A B : Type 0} (f : A → B) (xs : List A) → length (map f xs) ≡ length xs
-length_map f [] = refl
-length_map f (x ∷ xs) = ap suc (length_map f xs)
-
 -- one element more of a list that is read by index
 turned : {A : Type 0} (xs : List A) (i : ℕ) (x : A) → i < length xs → x ≡ get_or xs i x → take (i + 1) xs ≡ take i xs ++ (x ∷ [])
 turned xs i x l e = take_more xs i x l ∙ ap (λ z. take i xs ++ (z ∷ [])) (sym e)
@@ -72,7 +62,7 @@ pub parts_turn : {A : Type 0} (f : A → Lines) (a : Address) (g now new : Gathe
     new ≡ with_strokes now (map (stroke_at part) ys) →
     new ≡ with_strokes g (map (stroke_at a) (of_parts 0 (map f (take (i + 1) xs))))
 parts_turn f a g now new xs i x part ys l e h pe ye k =
-    let n : 0 + length (map f (take i xs)) ≡ i = ap (λ m. 0 + m) (length_map f (take i xs) ∙ taken xs i (omega arith)) ∙ (let z : 0 + i ≡ i = omega arith in z) in
+    let n : 0 + length (map f (take i xs)) ≡ i = ap (λ m. 0 + m) (length-map (take i xs) f ∙ length-take-le i xs (omega arith)) ∙ (let z : 0 + i ≡ i = omega arith in z) in
     let m : of_parts 0 (map f (take (i + 1) xs)) ≡ of_parts 0 (map f (take i xs)) ++ inside_part i (f x) =
     ap (λ l. of_parts 0 (map f l)) (turned xs i x l e) ∙ ap (of_parts 0) (map-append f (take i xs) (x ∷ []))
     ∙ parts_more 0 (map f (take i xs)) (f x) ∙ ap (λ j. of_parts 0 (map f (take i xs)) ++ inside_part j (f x)) n in
@@ -101,7 +91,7 @@ module _ {X : Type 0} (of : ℕ → X → List Stroke) (all : ℕ → List X →
   all_turn : (g now new : Gathered) (xs : List X) (i : ℕ) (x : X) → i < length xs → x ≡ get_or xs i x →
       now ≡ with_strokes g (all 0 (take i xs)) → new ≡ with_strokes now (of i x) → new ≡ with_strokes g (all 0 (take (i + 1) xs))
   all_turn g now new xs i x l e h k =
-      let n : 0 + length (take i xs) ≡ i = ap (λ m. 0 + m) (taken xs i (omega arith)) ∙ (let z : 0 + i ≡ i = omega arith in z) in
+      let n : 0 + length (take i xs) ≡ i = ap (λ m. 0 + m) (length-take-le i xs (omega arith)) ∙ (let z : 0 + i ≡ i = omega arith in z) in
       k ∙ ap (λ z. with_strokes z (of i x)) h ∙ with_append g (all 0 (take i xs)) (of i x)
       ∙ ap (with_strokes g) (sym (ap (all 0) (turned xs i x l e) ∙ all_more 0 (take i xs) x ∙ ap (λ j. all 0 (take i xs) ++ of j x) n))
 

@@ -1,7 +1,9 @@
 pub mod Cleaned
 pub mod Flags
 pub mod Gathered
+pub mod Members
 pub mod Noting
+pub mod Numbering
 pub mod Placing
 pub mod Positions
 pub mod Rows

@@ -1,18 +1,27 @@
 -- What notes of positions add up to.
-use Rattle.std.proofs.Common.{◌≡◌, ℕ, ◌+◌, ◌-◌, ◌<◌, ◌≤◌, Bool, true, false, cond, not, ◌||◌, ◌&&◌, List, [], ◌∷◌, ◌++◌, map, take, drop, get_or, length, append_assoc, append-nil, Option, None, Some, refl, ap, sym, ◌∙◌, subst, arith}
+use Rattle.std.proofs.Common.{◌≡◌, ℕ, ◌+◌, ◌-◌, ◌<◌, ◌≤◌, Bool, true, false, cond, not, ◌||◌, ◌&&◌, List, [], ◌∷◌, ◌++◌, map, take, drop, get_or, length, append-nil, Option, None, Some, IsSome, refl, ap, sym, ◌∙◌, subst, arith}
 use Rattle.std.specs.List.{filter, flat_map, list_any}
+use Rattle.std.specs.Map.{keys_of, lookup}
 use Rattle.std.specs.Option.{is_some}
-use Rattle.std.proofs.lemmas.List.{take_more, map-append}
+use Rattle.std.proofs.Math.Bool.{and-true, and-false, or-false, or-true}
+use Rattle.std.proofs.lemmas.Grind.{flat_map-append}
+use Rattle.std.proofs.lemmas.List.{take_all, take_more, map-append}
+use Rattle.std.proofs.lemmas.List.Elements.{filter-append}
+use Rattle.std.proofs.lemmas.List.Folds.{list_any-append}
+use Rattle.std.proofs.lemmas.Map.Made.{is_some-lookup}
+use Rattle.indexmap.specs.IndexMap.{IndexMap, get, keys}
 use Rattle.geojson_types.specs.Points.{Point}
 use Rattle.geojson_types.specs.Rings.{same}
 use Rattle.linework.specs.declared.neighbors.Neighbors.{Neighbors}
+use Rattle.linework.specs.declared.neighbors.Neighbors.TheVariants.{Zero}
 use Rattle.linework.specs.declared.stroke.Stroke.{Stroke}
 use Rattle.linework.specs.declared.vertex.Note.{Note}
 use Rattle.linework.specs.declared.vertex.Vertex.{Vertex}
 use Rattle.linework.specs.Cleaning.{IsCleanList, AllClean}
-use Rattle.linework.specs.Visits.{Visit, visits_from, inner_visits, visits, all_visits, neighbors, last, is_end, ends_open, is_turn, is_junction, is_position_of}
-use Rattle.linework.specs.Notes.{equal, with_neighbor, with_neighbors, no_neighbors, beside, is_back, known, noted, after, touch, pass, line_notes, notes_of, all_notes, vertex_at, is_knot}
-use Rattle.linework.proofs.Cleaned.{same_is, same_self}
+use Rattle.linework.specs.Visits.{Visit, visits_from, inner_visits, visits, all_visits, neighbors, first_seen, positions, last, is_end, ends_open, is_turn, is_junction, is_position_of}
+use Rattle.linework.specs.Notes.{equal, with_neighbor, with_neighbors, beside, is_back, known, noted, after, touch, pass, line_notes, notes_of, all_notes, with_position, with_positions, heres, Takes, IsTable, vertex_at, is_knot}
+use Rattle.linework.proofs.Cleaned.{same_is, same_sym}
+use Rattle.linework.proofs.Numbering.{positions_append, seen_in_order}
 use Rattle.linework.proofs.Settled.{two_settled}
 use Rattle.linework.proofs.Visiting.{visit, last_read, ring_visits}
 
@@ -20,24 +29,7 @@ pub equal_same : (p q : Point) → equal p q ≡ same p q
 unfolding same
 equal_same p q = refl
 
-pub same_sym : (p q : Point) → same p q ≡ same q p
-same_sym p q = on (same p q) refl (same q p) refl
-  where
-    on : (b : Bool) → same p q ≡ b → (c : Bool) → same q p ≡ c → same p q ≡ same q p
-    on true e true f = e ∙ sym f
-    on false e false f = e ∙ sym f
-    on true e false f = e ∙ sym (subst (λ x. same q x ≡ true) (sym (same_is p q e)) (same_self q))
-    on false e true f = subst (λ x. same p x ≡ true) (sym (same_is q p f)) (same_self p) ∙ sym f
-
 -- Booleans
-or_assoc : (a b c : Bool) → ((a || b) || c) ≡ (a || (b || c))
-or_assoc true b c = refl
-or_assoc false b c = refl
-
-or_none : (a : Bool) → (a || false) ≡ a
-or_none true = refl
-or_none false = refl
-
 or_swap : (a b c : Bool) → (a || (b || c)) ≡ ((b || a) || c)
 or_swap true true c = refl
 or_swap true false c = refl
@@ -47,24 +39,37 @@ or_swap false false c = refl
 -- one list of notes and then another
 pub after_append : (o : Option Vertex) (ns ms : List Note) (p : Point) → after (after o ns p) ms p ≡ after o (ns ++ ms) p
 after_append o [] ms p = refl
-after_append o (n ∷ ns) ms p = after_append (cond (same n.here p) (Some (noted o n)) o) ns ms p
+after_append o (n ∷ ns) ms p = after_append (cond (same n.here p) (Some (noted (known o) n)) o) ns ms p
 
--- a table is one note further
-pub takes_one : (g h : Point → Option Vertex) (n : Note) → ((p : Point) → h p ≡ cond (equal n.here p) (Some (noted (g n.here) n)) (g p)) →
-    (p : Point) → h p ≡ after (g p) (n ∷ []) p
-takes_one g h n e p = e p ∙ ap (λ b. cond b (Some (noted (g n.here) n)) (g p)) (equal_same n.here p) ∙ on (same n.here p) refl
-  where
-    on : (b : Bool) → same n.here p ≡ b → cond b (Some (noted (g n.here) n)) (g p) ≡ cond b (Some (noted (g p) n)) (g p)
-    on true k = ap (λ q. Some (noted (g q) n)) (same_is n.here p k)
-    on false k = refl
+-- a table with its notes
+module _ {S : Type 0} where
+  -- no note
+  pub takes_none : (m : IndexMap Point Vertex S) → Takes m m []
+  takes_none m = record { known = λ p. refl; order = refl }
 
--- and then further
-pub takes_then : (f g h : Point → Option Vertex) (ns ms : List Note) → ((p : Point) → g p ≡ after (f p) ns p) → ((p : Point) → h p ≡ after (g p) ms p) →
-    (p : Point) → h p ≡ after (f p) (ns ++ ms) p
-takes_then f g h ns ms e k p = k p ∙ ap (λ o. after o ms p) (e p) ∙ after_append (f p) ns ms p
+  -- one note
+  pub takes_one : (m n : IndexMap Point Vertex S) (x : Note) → ((p : Point) → get equal n p ≡ cond (equal x.here p) (Some (noted (known (get equal m x.here)) x)) (get equal m p)) →
+      keys n ≡ with_position (keys m) x.here → Takes m n (x ∷ [])
+  takes_one m n x e k = record {
+    known = λ p. e p ∙ ap (λ b. cond b (Some (noted (known (get equal m x.here)) x)) (get equal m p)) (equal_same x.here p) ∙ on p (same x.here p) refl;
+    order = k;
+  }
+    where
+      on : (p : Point) (b : Bool) → same x.here p ≡ b → cond b (Some (noted (known (get equal m x.here)) x)) (get equal m p) ≡ cond b (Some (noted (known (get equal m p)) x)) (get equal m p)
+      on p true h = ap (λ q. Some (noted (known (get equal m q)) x)) (same_is x.here p h)
+      on p false h = refl
 
-pub takes_as : (f g : Point → Option Vertex) (ns ms : List Note) → ns ≡ ms → ((p : Point) → g p ≡ after (f p) ns p) → (p : Point) → g p ≡ after (f p) ms p
-takes_as f g ns ms e k p = k p ∙ ap (λ l. after (f p) l p) e
+  -- a position that is known has its place
+  pub keys_stay : (m : IndexMap Point Vertex S) (p : Point) → IsSome (get equal m p) → keys m ≡ with_position (keys m) p
+  unfolding same
+  keys_stay m p h = ap (λ b. cond b (keys m) (keys m ++ (p ∷ []))) (sym (sym (is_some-lookup (equal p) m.entries) ∙ h))
+
+  -- some notes and then more
+  pub takes_then : (l m n : IndexMap Point Vertex S) (ns ms : List Note) → Takes l m ns → Takes m n ms → Takes l n (ns ++ ms)
+  takes_then l m n ns ms e k = record {
+    known = λ p. k.known p ∙ ap (λ o. after o ms p) (e.known p) ∙ after_append (get equal l p) ns ms p;
+    order = k.order ∙ ap (λ ps. with_positions ps (heres ms)) e.order ∙ positions_append (keys l) (heres ns) (heres ms) ∙ ap (with_positions (keys l)) (sym (map-append (λ x. x.here) ns ms));
+  }
 
 -- the notes at a position
 abbrev pub at : Point → List Note → List Note
@@ -87,48 +92,54 @@ adds_up o ns = vertex (with_neighbors (known o).neighbors (nearby ns)) (list_any
 
 known_after : (o : Option Vertex) (ns : List Note) (p : Point) → known (after o ns p) ≡ adds_up o (at p ns)
 known_after o [] p = refl
-known_after o (n ∷ ns) p = on (same n.here p) (known_after (cond (same n.here p) (Some (noted o n)) o) ns p)
+known_after o (n ∷ ns) p = on (same n.here p) (known_after (cond (same n.here p) (Some (noted (known o) n)) o) ns p)
   where
-    on : (b : Bool) → known (after (cond (same n.here p) (Some (noted o n)) o) ns p) ≡ adds_up (cond b (Some (noted o n)) o) (at p ns) →
-        known (after (cond (same n.here p) (Some (noted o n)) o) ns p) ≡ adds_up o (cond b (n ∷ at p ns) (at p ns))
+    on : (b : Bool) → known (after (cond (same n.here p) (Some (noted (known o) n)) o) ns p) ≡ adds_up (cond b (Some (noted (known o) n)) o) (at p ns) →
+        known (after (cond (same n.here p) (Some (noted (known o) n)) o) ns p) ≡ adds_up o (cond b (n ∷ at p ns) (at p ns))
     on true h = h
-        ∙ ap (λ x. vertex x (list_any (λ n. is_back n.beside) (at p ns) || (noted o n).turns) (list_any (λ n. n.ends) (at p ns) || (noted o n).ends) (known o).loose)
+        ∙ ap (λ x. vertex x (list_any (λ n. is_back n.beside) (at p ns) || (noted (known o) n).turns) (list_any (λ n. n.ends) (at p ns) || (noted (known o) n).ends) (known o).loose)
         (neighbors_append (known o).neighbors (beside n.beside) (nearby (at p ns)))
-        ∙ ap (λ x. vertex (with_neighbors (known o).neighbors (beside n.beside ++ nearby (at p ns))) x (list_any (λ n. n.ends) (at p ns) || (noted o n).ends) (known o).loose)
+        ∙ ap (λ x. vertex (with_neighbors (known o).neighbors (beside n.beside ++ nearby (at p ns))) x (list_any (λ n. n.ends) (at p ns) || (noted (known o) n).ends) (known o).loose)
         (or_swap (list_any (λ n. is_back n.beside) (at p ns)) (is_back n.beside) (known o).turns)
         ∙ ap (λ x. vertex (with_neighbors (known o).neighbors (beside n.beside ++ nearby (at p ns))) ((is_back n.beside || list_any (λ n. is_back n.beside) (at p ns)) || (known o).turns) x (known o).loose)
         (or_swap (list_any (λ n. n.ends) (at p ns)) n.ends (known o).ends)
     on false h = h
 
 some_after : (o : Option Vertex) (ns : List Note) (p : Point) → is_some (after o ns p) ≡ (is_some o || list_any (λ n. same n.here p) ns)
-some_after o [] p = sym (or_none (is_some o))
-some_after o (n ∷ ns) p = on (same n.here p) (some_after (cond (same n.here p) (Some (noted o n)) o) ns p)
+some_after o [] p = sym (or-false (is_some o))
+some_after o (n ∷ ns) p = on (same n.here p) (some_after (cond (same n.here p) (Some (noted (known o) n)) o) ns p)
   where
-    both : (a : Bool) → true ≡ (a || true)
-    both true = refl
-    both false = refl
-
-    on : (b : Bool) → is_some (after (cond (same n.here p) (Some (noted o n)) o) ns p) ≡ (is_some (cond b (Some (noted o n)) o) || list_any (λ n. same n.here p) ns) →
-        is_some (after (cond (same n.here p) (Some (noted o n)) o) ns p) ≡ (is_some o || (b || list_any (λ n. same n.here p) ns))
-    on true h = h ∙ both (is_some o)
+    on : (b : Bool) → is_some (after (cond (same n.here p) (Some (noted (known o) n)) o) ns p) ≡ (is_some (cond b (Some (noted (known o) n)) o) || list_any (λ n. same n.here p) ns) →
+        is_some (after (cond (same n.here p) (Some (noted (known o) n)) o) ns p) ≡ (is_some o || (b || list_any (λ n. same n.here p) ns))
+    on true h = h ∙ sym (or-true (is_some o))
     on false h = h
 
--- tests and neighbors of notes that are joined
-at_append : {X : Type 0} (t : X → Bool) (xs ys : List X) → filter t (xs ++ ys) ≡ filter t xs ++ filter t ys
-at_append t [] ys = refl
-at_append t (x ∷ xs) ys = on (t x) (at_append t xs ys)
-  where
-    on : (b : Bool) → filter t (xs ++ ys) ≡ filter t xs ++ filter t ys → cond b (x ∷ filter t (xs ++ ys)) (filter t (xs ++ ys)) ≡ cond b (x ∷ filter t xs) (filter t xs) ++ filter t ys
-    on true h = ap (λ l. x ∷ l) h
-    on false h = h
+-- the notes of a line are at its positions, in their order
+heres_passes : (vs : List Visit) (ns : List Note) → heres (map pass vs ++ ns) ≡ map (λ v. v.here) vs ++ heres ns
+heres_passes [] ns = refl
+heres_passes (v ∷ vs) ns = ap (λ l. v.here ∷ l) (heres_passes vs ns)
 
-flat_append : {X Y : Type 0} (f : X → List Y) (xs ys : List X) → flat_map f (xs ++ ys) ≡ flat_map f xs ++ flat_map f ys
-flat_append f [] ys = refl
-flat_append f (x ∷ xs) ys = ap (λ l. f x ++ l) (flat_append f xs ys) ∙ sym (append_assoc (f x) (flat_map f xs) (flat_map f ys))
+heres_open : (a b : Point) (ps : List Point) → map (λ v. v.here) (visits_from a b ps) ++ (last b ps ∷ []) ≡ b ∷ ps
+heres_open a b [] = refl
+heres_open a b (c ∷ ps) = ap (λ l. b ∷ l) (heres_open b c ps)
 
-any_append : {X : Type 0} (t : X → Bool) (xs ys : List X) → list_any t (xs ++ ys) ≡ (list_any t xs || list_any t ys)
-any_append t [] ys = refl
-any_append t (x ∷ xs) ys = ap (λ b. t x || b) (any_append t xs ys) ∙ sym (or_assoc (t x) (list_any t xs) (list_any t ys))
+heres_ring : (a b z : Point) (ps : List Point) → map (λ v. v.here) (visits_from a b (ps ++ (z ∷ []))) ≡ b ∷ ps
+heres_ring a b z [] = refl
+heres_ring a b z (c ∷ ps) = ap (λ l. b ∷ l) (heres_ring b c z ps)
+
+heres_line : (closed : Bool) (ps : List Point) → IsCleanList closed ps → heres (line_notes closed ps (inner_visits (ps ++ (cond closed (take 1 (drop 1 ps)) [])))) ≡ ps
+heres_line closed [] k = elim k [ ]
+heres_line closed (q ∷ []) k = elim k [ ]
+heres_line true (q ∷ (r ∷ ps)) k =
+    ap (λ l. q ∷ l) (heres_passes (visits_from q r (ps ++ (r ∷ []))) [] ∙ append-nil (map (λ v. v.here) (visits_from q r (ps ++ (r ∷ [])))) ∙ heres_ring q r r ps)
+heres_line false (q ∷ (r ∷ ps)) k =
+    ap (λ l. q ∷ l) (heres_passes (visits_from q r (ps ++ [])) (touch true (last r ps) ∷ [])
+    ∙ ap (λ l. map (λ v. v.here) (visits_from q r l) ++ (last r ps ∷ [])) (append-nil ps) ∙ heres_open q r ps)
+
+pub heres_all : (ls : List Stroke) → AllClean ls → heres (all_notes ls) ≡ positions ls
+heres_all [] c = refl
+heres_all (s ∷ ls) c =
+    map-append (λ n. n.here) (notes_of s) (all_notes ls) ∙ ap (λ l. l ++ heres (all_notes ls)) (heres_line s.closed s.positions c.0) ∙ ap (λ l. s.positions ++ l) (heres_all ls c.1)
 
 module _ (p : Point) where
   abbrev near : List Note → List Point
@@ -147,13 +158,13 @@ module _ (p : Point) where
   visited vs = filter (λ v. same v.here p) vs
 
   near_append : (ns ms : List Note) → near (ns ++ ms) ≡ near ns ++ near ms
-  near_append ns ms = ap nearby (at_append (λ n. same n.here p) ns ms) ∙ flat_append (λ n. beside n.beside) (at p ns) (at p ms)
+  near_append ns ms = ap nearby (filter-append (λ n. same n.here p) ns ms) ∙ flat_map-append (λ n. beside n.beside) (at p ns) (at p ms)
 
   turn_append : (ns ms : List Note) → turn (ns ++ ms) ≡ (turn ns || turn ms)
-  turn_append ns ms = ap (list_any (λ n. is_back n.beside)) (at_append (λ n. same n.here p) ns ms) ∙ any_append (λ n. is_back n.beside) (at p ns) (at p ms)
+  turn_append ns ms = ap (list_any (λ n. is_back n.beside)) (filter-append (λ n. same n.here p) ns ms) ∙ list_any-append (λ n. is_back n.beside) (at p ns) (at p ms)
 
   ends_append : (ns ms : List Note) → ends (ns ++ ms) ≡ (ends ns || ends ms)
-  ends_append ns ms = ap (list_any (λ n. n.ends)) (at_append (λ n. same n.here p) ns ms) ∙ any_append (λ n. n.ends) (at p ns) (at p ms)
+  ends_append ns ms = ap (list_any (λ n. n.ends)) (filter-append (λ n. same n.here p) ns ms) ∙ list_any-append (λ n. n.ends) (at p ns) (at p ms)
 
   -- a position that is read
   near_touch : (e : Bool) (q : Point) (ns : List Note) → near (touch e q ∷ ns) ≡ near ns
@@ -204,10 +215,6 @@ module _ (p : Point) where
       on true h = h
       on false h = h
 
-  seen_pass : (vs : List Visit) → seen (map pass vs) ≡ list_any (λ v. same v.here p) vs
-  seen_pass [] = refl
-  seen_pass (v ∷ vs) = ap (λ b. same v.here p || b) (seen_pass vs)
-
   -- a line
   near_line : (closed : Bool) (q : Point) (ps : List Point) (vs : List Visit) → near (line_notes closed (q ∷ ps) vs) ≡ flat_map (λ v. v.before ∷ (v.after ∷ [])) (visited vs)
   near_line true q ps vs = near_touch false q (map pass vs ++ []) ∙ near_append (map pass vs) [] ∙ append-nil (near (map pass vs)) ∙ near_pass vs
@@ -216,50 +223,20 @@ module _ (p : Point) where
       ∙ ap (λ l. near (map pass vs) ++ l) (near_touch true (last q ps) []) ∙ append-nil (near (map pass vs)) ∙ near_pass vs
 
   turn_line : (closed : Bool) (q : Point) (ps : List Point) (vs : List Visit) → turn (line_notes closed (q ∷ ps) vs) ≡ list_any (λ v. same v.before v.after) (visited vs)
-  turn_line true q ps vs = turn_touch false q (map pass vs ++ []) ∙ turn_append (map pass vs) [] ∙ or_none (turn (map pass vs)) ∙ turn_pass vs
+  turn_line true q ps vs = turn_touch false q (map pass vs ++ []) ∙ turn_append (map pass vs) [] ∙ or-false (turn (map pass vs)) ∙ turn_pass vs
   turn_line false q ps vs =
       turn_touch true q (map pass vs ++ (touch true (last q ps) ∷ [])) ∙ turn_append (map pass vs) (touch true (last q ps) ∷ [])
-      ∙ ap (λ b. turn (map pass vs) || b) (turn_touch true (last q ps) []) ∙ or_none (turn (map pass vs)) ∙ turn_pass vs
-
-  and_true' : (b : Bool) → (b && true) ≡ b
-  and_true' true = refl
-  and_true' false = refl
-
-  and_false' : (b : Bool) → (b && false) ≡ false
-  and_false' true = refl
-  and_false' false = refl
+      ∙ ap (λ b. turn (map pass vs) || b) (turn_touch true (last q ps) []) ∙ or-false (turn (map pass vs)) ∙ turn_pass vs
 
   ends_line : (closed : Bool) (q : Point) (ps : List Point) (vs : List Visit) → ends (line_notes closed (q ∷ ps) vs) ≡ (not closed && is_end p (q ∷ ps))
   ends_line true q ps vs =
-      ends_touch false q (map pass vs ++ []) ∙ ap (λ b. b || ends (map pass vs ++ [])) (and_false' (same q p))
-      ∙ ends_append (map pass vs) [] ∙ or_none (ends (map pass vs)) ∙ ends_pass vs
+      ends_touch false q (map pass vs ++ []) ∙ ap (λ b. b || ends (map pass vs ++ [])) (and-false (same q p))
+      ∙ ends_append (map pass vs) [] ∙ or-false (ends (map pass vs)) ∙ ends_pass vs
   ends_line false q ps vs =
       ends_touch true q (map pass vs ++ (touch true (last q ps) ∷ []))
-      ∙ ap (λ b. b || ends (map pass vs ++ (touch true (last q ps) ∷ []))) (and_true' (same q p) ∙ same_sym q p)
+      ∙ ap (λ b. b || ends (map pass vs ++ (touch true (last q ps) ∷ []))) (and-true (same q p) ∙ same_sym q p)
       ∙ ap (λ b. same p q || b) (ends_append (map pass vs) (touch true (last q ps) ∷ []) ∙ ap (λ b. b || ends (touch true (last q ps) ∷ [])) (ends_pass vs)
-      ∙ ends_touch true (last q ps) [] ∙ or_none (same (last q ps) p && true) ∙ and_true' (same (last q ps) p) ∙ same_sym (last q ps) p)
-
-  -- the positions of a line are its first, those that it visits, and its last
-  heres_open : (a b : Point) (ps : List Point) → (list_any (λ v. same v.here p) (visits_from a b ps) || same (last b ps) p) ≡ list_any (same p) (b ∷ ps)
-  heres_open a b [] = same_sym b p ∙ sym (or_none (same p b))
-  heres_open a b (c ∷ ps) =
-      or_assoc (same b p) (list_any (λ v. same v.here p) (visits_from b c ps)) (same (last c ps) p)
-      ∙ ap (λ x. same b p || x) (heres_open b c ps) ∙ ap (λ x. x || list_any (same p) (c ∷ ps)) (same_sym b p)
-
-  heres_ring : (a b z : Point) (ps : List Point) → list_any (λ v. same v.here p) (visits_from a b (ps ++ (z ∷ []))) ≡ list_any (same p) (b ∷ ps)
-  heres_ring a b z [] = ap (λ x. x || false) (same_sym b p)
-  heres_ring a b z (c ∷ ps) = ap (λ x. same b p || x) (heres_ring b c z ps) ∙ ap (λ x. x || list_any (same p) (c ∷ ps)) (same_sym b p)
-
-  seen_line : (closed : Bool) (q r : Point) (ps : List Point) → seen (line_notes closed (q ∷ (r ∷ ps)) (inner_visits ((q ∷ (r ∷ ps)) ++ (cond closed (r ∷ []) [])))) ≡ list_any (same p) (q ∷ (r ∷ ps))
-  seen_line true q r ps =
-      ap (λ b. same q p || b) (any_append (λ n. same n.here p) (map pass (visits_from q r (ps ++ (r ∷ [])))) [] ∙ or_none (seen (map pass (visits_from q r (ps ++ (r ∷ [])))))
-      ∙ seen_pass (visits_from q r (ps ++ (r ∷ []))) ∙ heres_ring q r r ps)
-      ∙ ap (λ x. x || list_any (same p) (r ∷ ps)) (same_sym q p)
-  seen_line false q r ps =
-      ap (λ b. same q p || b) (any_append (λ n. same n.here p) (map pass (visits_from q r (ps ++ []))) (touch true (last r ps) ∷ [])
-      ∙ ap (λ x. x || (same (last r ps) p || false)) (seen_pass (visits_from q r (ps ++ [])) ∙ ap (λ l. list_any (λ v. same v.here p) (visits_from q r l)) (append-nil ps))
-      ∙ ap (λ x. list_any (λ v. same v.here p) (visits_from q r ps) || x) (or_none (same (last r ps) p)) ∙ heres_open q r ps)
-      ∙ ap (λ x. x || list_any (same p) (r ∷ ps)) (same_sym q p)
+      ∙ ends_touch true (last q ps) [] ∙ or-false (same (last q ps) p && true) ∙ and-true (same (last q ps) p) ∙ same_sym (last q ps) p)
 
   -- all lines
   near_all : (ls : List Stroke) → AllClean ls → near (all_notes ls) ≡ neighbors ls p
@@ -267,7 +244,7 @@ module _ (p : Point) where
   near_all (s ∷ ls) c =
       near_append (notes_of s) (all_notes ls) ∙ ap (λ l. near (notes_of s) ++ l) (near_all ls c.1)
       ∙ ap (λ l. l ++ neighbors ls p) (on s.closed s.positions (visits s) c.0)
-      ∙ sym (ap (flat_map (λ v. v.before ∷ (v.after ∷ []))) (at_append (λ v. same v.here p) (visits s) (all_visits ls)) ∙ flat_append (λ v. v.before ∷ (v.after ∷ [])) (visited (visits s)) (visited (all_visits ls)))
+      ∙ sym (ap (flat_map (λ v. v.before ∷ (v.after ∷ []))) (filter-append (λ v. same v.here p) (visits s) (all_visits ls)) ∙ flat_map-append (λ v. v.before ∷ (v.after ∷ [])) (visited (visits s)) (visited (all_visits ls)))
     where
       on : (closed : Bool) (ps : List Point) (vs : List Visit) → IsCleanList closed ps → near (line_notes closed ps vs) ≡ flat_map (λ v. v.before ∷ (v.after ∷ [])) (visited vs)
       on closed [] vs k = elim k [ ]
@@ -278,7 +255,7 @@ module _ (p : Point) where
   turn_all (s ∷ ls) c =
       turn_append (notes_of s) (all_notes ls) ∙ ap (λ b. turn (notes_of s) || b) (turn_all ls c.1)
       ∙ ap (λ b. b || is_turn ls p) (on s.closed s.positions (visits s) c.0)
-      ∙ sym (ap (list_any (λ v. same v.before v.after)) (at_append (λ v. same v.here p) (visits s) (all_visits ls)) ∙ any_append (λ v. same v.before v.after) (visited (visits s)) (visited (all_visits ls)))
+      ∙ sym (ap (list_any (λ v. same v.before v.after)) (filter-append (λ v. same v.here p) (visits s) (all_visits ls)) ∙ list_any-append (λ v. same v.before v.after) (visited (visits s)) (visited (all_visits ls)))
     where
       on : (closed : Bool) (ps : List Point) (vs : List Visit) → IsCleanList closed ps → turn (line_notes closed ps vs) ≡ list_any (λ v. same v.before v.after) (visited vs)
       on closed [] vs k = elim k [ ]
@@ -293,42 +270,54 @@ module _ (p : Point) where
       on closed [] vs k = elim k [ ]
       on closed (q ∷ ps) vs k = ends_line closed q ps vs
 
+  -- the positions of the notes are those of the lines
+  seen_heres : (ns : List Note) → seen ns ≡ list_any (same p) (heres ns)
+  seen_heres [] = refl
+  seen_heres (n ∷ ns) = ap (λ b. b || seen ns) (same_sym n.here p) ∙ ap (λ b. same p n.here || b) (seen_heres ns)
+
+  seen_lines : (ls : List Stroke) → list_any (same p) (positions ls) ≡ is_position_of ls p
+  seen_lines [] = refl
+  seen_lines (s ∷ ls) = list_any-append (same p) s.positions (positions ls) ∙ ap (λ b. list_any (same p) s.positions || b) (seen_lines ls)
+
   seen_all : (ls : List Stroke) → AllClean ls → seen (all_notes ls) ≡ is_position_of ls p
-  seen_all [] c = refl
-  seen_all (s ∷ ls) c =
-      any_append (λ n. same n.here p) (notes_of s) (all_notes ls) ∙ ap (λ b. seen (notes_of s) || b) (seen_all ls c.1) ∙ ap (λ b. b || is_position_of ls p) (on s.closed s.positions c.0)
-    where
-      on : (closed : Bool) (ps : List Point) → IsCleanList closed ps → seen (line_notes closed ps (inner_visits (ps ++ (cond closed (take 1 (drop 1 ps)) [])))) ≡ list_any (same p) ps
-      on closed [] k = elim k [ ]
-      on closed (q ∷ []) k = elim k [ ]
-      on closed (q ∷ (r ∷ ps)) k = seen_line closed q r ps
+  seen_all ls c = seen_heres (all_notes ls) ∙ ap (list_any (same p)) (heres_all ls c) ∙ seen_lines ls
 
 -- the notes of all lines give what the lines say
 pub all_noted : (ls : List Stroke) → AllClean ls → (p : Point) → after None (all_notes ls) p ≡ vertex_at ls (λ q. false) p
 all_noted ls c p = on (after None (all_notes ls) p) (is_position_of ls p) (some_after None (all_notes ls) p ∙ seen_all p ls c)
     (known_after None (all_notes ls) p
-    ∙ ap (λ x. vertex (with_neighbors no_neighbors x) (turn p (all_notes ls) || false) (ends p (all_notes ls) || false) false) (near_all p ls c)
-    ∙ ap (λ x. vertex (with_neighbors no_neighbors (neighbors ls p)) x (ends p (all_notes ls) || false) false) (or_none (turn p (all_notes ls)) ∙ turn_all p ls c)
-    ∙ ap (λ x. vertex (with_neighbors no_neighbors (neighbors ls p)) (is_turn ls p) x false) (or_none (ends p (all_notes ls)) ∙ ends_all p ls c))
+    ∙ ap (λ x. vertex (with_neighbors Zero x) (turn p (all_notes ls) || false) (ends p (all_notes ls) || false) false) (near_all p ls c)
+    ∙ ap (λ x. vertex (with_neighbors Zero (neighbors ls p)) x (ends p (all_notes ls) || false) false) (or-false (turn p (all_notes ls)) ∙ turn_all p ls c)
+    ∙ ap (λ x. vertex (with_neighbors Zero (neighbors ls p)) (is_turn ls p) x false) (or-false (ends p (all_notes ls)) ∙ ends_all p ls c))
   where
-    on : (o : Option Vertex) (b : Bool) → is_some o ≡ b → known o ≡ vertex (with_neighbors no_neighbors (neighbors ls p)) (is_turn ls p) (ends_open ls p) false →
-        o ≡ cond b (Some (vertex (with_neighbors no_neighbors (neighbors ls p)) (is_turn ls p) (ends_open ls p) false)) None
+    on : (o : Option Vertex) (b : Bool) → is_some o ≡ b → known o ≡ vertex (with_neighbors Zero (neighbors ls p)) (is_turn ls p) (ends_open ls p) false →
+        o ≡ cond b (Some (vertex (with_neighbors Zero (neighbors ls p)) (is_turn ls p) (ends_open ls p) false)) None
     on None true e k = cc
     on None false e k = refl
     on (Some v) true e k = ap (λ x. Some x) k
     on (Some v) false e k = cc
 
 -- one line more of those whose notes are taken
-pub notes_turn : (f g h : Point → Option Vertex) (ls : List Stroke) (i : ℕ) (s : Stroke) → i < length ls → s ≡ get_or ls i s →
-    ((p : Point) → g p ≡ after (f p) (all_notes (take i ls)) p) → ((p : Point) → h p ≡ after (g p) (notes_of s) p) →
-    (p : Point) → h p ≡ after (f p) (all_notes (take (i + 1) ls)) p
-notes_turn f g h ls i s l e k m p =
-    takes_then f g h (all_notes (take i ls)) (notes_of s) k m p
-    ∙ ap (λ x. after (f p) x p) (sym (ap all_notes (take_more ls i s l ∙ ap (λ z. take i ls ++ (z ∷ [])) (sym e)) ∙ flat_append notes_of (take i ls) (s ∷ [])
-    ∙ ap (λ x. all_notes (take i ls) ++ x) (append-nil (notes_of s))))
+pub notes_turn : {S : Type 0} (l m n : IndexMap Point Vertex S) (ls : List Stroke) (i : ℕ) (s : Stroke) → i < length ls → s ≡ get_or ls i s →
+    Takes l m (all_notes (take i ls)) → Takes m n (notes_of s) → Takes l n (all_notes (take (i + 1) ls))
+notes_turn l m n ls i s h e k x =
+    subst (Takes l n) (sym (ap all_notes (take_more ls i s h ∙ ap (λ z. take i ls ++ (z ∷ [])) (sym e)) ∙ flat_map-append notes_of (take i ls) (s ∷ [])
+    ∙ ap (λ z. all_notes (take i ls) ++ z) (append-nil (notes_of s)))) (takes_then l m n (all_notes (take i ls)) (notes_of s) k x)
+
+-- what an empty table is then, where all are taken
+pub all_taken : {S : Type 0} (l m : IndexMap Point Vertex S) (ls : List Stroke) (i : ℕ) → l.entries ≡ [] → AllClean ls → length ls ≤ i → Takes l m (all_notes (take i ls)) →
+    IsTable ls (λ q. false) m × (keys m ≡ first_seen (positions ls))
+all_taken l m ls i e c h k = (
+  known,
+  k.order ∙ ap (λ es. with_positions (keys_of es) (heres (all_notes (take i ls)))) e ∙ ap (λ ss. with_positions [] (heres (all_notes ss))) (take_all i ls h)
+      ∙ ap (with_positions []) (heres_all ls c) ∙ seen_in_order (positions ls),
+)
+  where
+    known : (p : Point) → get equal m p ≡ vertex_at ls (λ q. false) p
+    known p = k.known p ∙ ap (λ es. after (lookup (equal p) es) (all_notes (take i ls)) p) e ∙ ap (λ ss. after None (all_notes ss) p) (take_all i ls h) ∙ all_noted ls c p
 
 -- a junction is a knot of what is known
-pub knot_is : (ls : List Stroke) (loose : Bool) (p : Point) → is_knot (vertex (with_neighbors no_neighbors (neighbors ls p)) (is_turn ls p) (ends_open ls p) loose) ≡ is_junction ls p
+pub knot_is : (ls : List Stroke) (loose : Bool) (p : Point) → is_knot (vertex (with_neighbors Zero (neighbors ls p)) (is_turn ls p) (ends_open ls p) loose) ≡ is_junction ls p
 knot_is ls loose p = ap (λ b. ends_open ls p || (is_turn ls p || not b)) (two_settled (neighbors ls p))
 
 abbrev pub note : Point → Option (Point × Point) → Bool → Note

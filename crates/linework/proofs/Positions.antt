@@ -1,6 +1,6 @@
 -- The positions of lines are those of their shapes, and so the positions of the linework are those of the layers.
-use Rattle.std.proofs.Common.{◌≡◌, ℕ, suc, Bool, true, false, cond, not, List, [], ◌∷◌, ◌++◌, map, Option, None, Some, ◌⊎◌, inl, inr, refl, ap, sym, ◌∙◌, subst}
-use Rattle.std.specs.List.{filter, AllByRecursion}
+use Rattle.std.proofs.Common.{◌≡◌, ℕ, suc, Bool, true, false, cond, not, List, [], ◌∷◌, ◌++◌, map, Option, None, Some, inl, inr, refl, ap, sym, ◌∙◌, subst}
+use Rattle.std.specs.List.{AllByRecursion}
 use Rattle.geojson_types.specs.declared.address.Address.{Address}
 use Rattle.geojson_types.specs.declared.geometry.Geometry.{fold-Geometry, fold-roll-Geometry}
 use Rattle.geojson_types.specs.declared.geometry.Geometry.TheOpen.{Geometry-F}
@@ -20,42 +20,10 @@ use Rattle.linework.specs.Among.{In}
 use Rattle.linework.specs.Cleaning.{clean_from, clean}
 use Rattle.linework.specs.Laws.{layers_points}
 use Rattle.linework.specs.Linework.{stroke_at, option_placed, feature_address, strokes_of_layer, strokes_of_layers, is_collapsed, linework}
+use Rattle.linework.proofs.Members.{in_left, in_right, in_either, in_map, from_map, from_filter}
 use Rattle.linework.proofs.Placing.{told}
 
--- elements of lists that are joined, made of others, or chosen
-in_left : {X : Type 0} (x : X) (xs ys : List X) → In x xs → In x (xs ++ ys)
-in_left x [] ys k = elim k [ ]
-in_left x (z ∷ xs) ys (inl e) = inl e
-in_left x (z ∷ xs) ys (inr k) = inr (in_left x xs ys k)
-
-in_right : {X : Type 0} (x : X) (xs ys : List X) → In x ys → In x (xs ++ ys)
-in_right x [] ys k = k
-in_right x (z ∷ xs) ys k = inr (in_right x xs ys k)
-
-in_either : {X : Type 0} (x : X) (xs ys : List X) → In x (xs ++ ys) → In x xs ⊎ In x ys
-in_either x [] ys k = inr k
-in_either x (z ∷ xs) ys (inl e) = inl (inl e)
-in_either x (z ∷ xs) ys (inr k) = elim (in_either x xs ys k) [ inl m ↦ inl (inr m) | inr m ↦ inr m ]
-
-in_map : {X Y : Type 0} (f : X → Y) (x : X) (xs : List X) → In x xs → In (f x) (map f xs)
-in_map f x [] k = elim k [ ]
-in_map f x (z ∷ xs) (inl e) = inl (ap f e)
-in_map f x (z ∷ xs) (inr k) = inr (in_map f x xs k)
-
-from_map : {X Y : Type 0} (f : X → Y) (y : Y) (xs : List X) → In y (map f xs) → (x : X) × In x xs × (y ≡ f x)
-from_map f y [] k = elim k [ ]
-from_map f y (z ∷ xs) (inl e) = (z, inl refl, e)
-from_map f y (z ∷ xs) (inr k) = let m = from_map f y xs k in (m.0, inr m.1, m.2)
-
-from_filter : {X : Type 0} (t : X → Bool) (x : X) (xs : List X) → In x (filter t xs) → In x xs
-from_filter t x [] k = k
-from_filter t x (y ∷ ys) k = on (t y) k (λ m. from_filter t x ys m)
-  where
-    on : (b : Bool) → In x (cond b (y ∷ filter t ys) (filter t ys)) → (In x (filter t ys) → In x ys) → In x (y ∷ ys)
-    on true (inl e) ih = inl e
-    on true (inr k) ih = inr (ih k)
-    on false k ih = inr (ih k)
-
+-- elements of lists that are joined
 joined_left : {X : Type 0} (x : X) (xss yss : List (List X)) → In x (joined xss) → In x (joined (xss ++ yss))
 joined_left x [] yss k = elim k [ ]
 joined_left x (xs ∷ xss) yss k = elim (in_either x xs (joined xss) k) [ inl m ↦ in_left x xs (joined (xss ++ yss)) m | inr m ↦ in_right x xs (joined (xss ++ yss)) (joined_left x xss yss m) ]
@@ -172,4 +140,4 @@ layers_in i (l ∷ ls) s p k m = elim (in_either s (strokes_of_layer i 0 l.featu
 
 pub none_is_new : (layers : List Layer) (s : Stroke) (p : Point) → In s (linework layers) → In p s.positions → In p (layers_points layers)
 unfolding linework
-none_is_new layers s p k m = layers_in 0 layers s p (from_filter (λ s. not (is_collapsed s)) s (strokes_of_layers 0 layers) k) m
+none_is_new layers s p k m = layers_in 0 layers s p (from_filter (λ s. not (is_collapsed s)) s (strokes_of_layers 0 layers) k).0 m

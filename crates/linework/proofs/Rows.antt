@@ -1,5 +1,5 @@
 -- Worked rows of the definitions: junctions and cut positions of small lines, the linework of small layers.
-use Rattle.std.proofs.Common.{◌≡◌, ℕ, Bool, true, false, List, [], ◌∷◌, map, Some, None, refl}
+use Rattle.std.proofs.Common.{◌≡◌, ℕ, Bool, true, false, List, [], ◌∷◌, map, position, Some, None, refl}
 use Rattle.std.specs.Prelude.{pos}
 use Rattle.geojson_types.specs.declared.address.Cause.TheVariants.{Collapsed}
 use Rattle.geojson_types.specs.declared.geometry.Geometry.TheVariants as g
@@ -11,7 +11,7 @@ use Rattle.linework.specs.declared.stroke.Stroke.{Stroke}
 use Rattle.linework.specs.Cleaning.{clean}
 use Rattle.linework.specs.Cuts.{is_cut}
 use Rattle.linework.specs.Linework.{linework, collapsed}
-use Rattle.linework.specs.Visits.{is_junction}
+use Rattle.linework.specs.Visits.{first_seen, positions, is_junction}
 use Rattle.linework.proofs.Placing.{placed-point, placed-line, placed-area, placed-group}
 
 abbrev at : ℕ → ℕ → Point
@@ -36,6 +36,15 @@ squares_junctions = refl
 pub squares_cuts : map (is_cut squares) corners ≡ false ∷ (true ∷ (true ∷ (false ∷ (false ∷ (false ∷ [])))))
 unfolding same
 squares_cuts = refl
+
+-- the numbers of their positions
+pub squares_seen : first_seen (positions squares) ≡ corners
+unfolding same
+squares_seen = refl
+
+pub last_corner : position (same (at 2 1)) (first_seen (positions squares)) ≡ Some 5
+unfolding same
+last_corner = refl
 
 -- a line that turns back beside one that goes on
 abbrev back : List Stroke

@@ -1,5 +1,5 @@
 -- Whether a position has exactly two neighbors, by what was kept of them.
-use Rattle.std.proofs.Common.{◌≡◌, ◌≢◌, ℕ, Bool, true, false, cond, eqb, ◌||◌, List, [], ◌∷◌, ◌++◌, length, append_assoc, append-nil, refl, ap, sym, ◌∙◌, subst, Option, None, Some, ◌⊎◌, inl, inr, arith}
+use Rattle.std.proofs.Common.{◌≡◌, ◌≢◌, ℕ, Bool, true, false, cond, eqb, ◌||◌, List, [], ◌∷◌, ◌++◌, length, append_assoc, append-nil, refl, ap, sym, ◌∙◌, subst, ◌⊎◌, inl, inr, arith}
 use Rattle.std.proofs.lemmas.Bool.Decides.{nat_tests}
 use Rattle.std.specs.List.{list_any}
 use Rattle.geojson_types.specs.Points.{Point}
@@ -7,31 +7,12 @@ use Rattle.geojson_types.specs.Rings.{same}
 use Rattle.linework.specs.Among.{In}
 use Rattle.linework.specs.Visits.{distinct}
 use Rattle.linework.specs.declared.neighbors.Neighbors.{Neighbors}
-use Rattle.linework.specs.Notes.{settled as around, with_neighbor, with_first, no_neighbors, with_neighbors, is_two}
+use Rattle.linework.specs.declared.neighbors.Neighbors.TheVariants.{Zero, One, Two, More}
+use Rattle.linework.specs.Notes.{with_neighbor, with_neighbors, is_two}
 use Rattle.linework.proofs.Cleaned.{same_is, same_self, differs}
+use Rattle.linework.proofs.Members.{in_left, in_right, in_either, any_of, some_of}
 
-or_false : (x y : Bool) → (x || y) ≡ false → (x ≡ false) × (y ≡ false)
-or_false true y h = cc
-or_false false y h = (refl, h)
-
-some_of : {X : Type 0} (p : X → Bool) (xs : List X) → list_any p xs ≡ true → (x : X) × In x xs × (p x ≡ true)
-some_of p [] h = cc
-some_of {X = X} p (y ∷ ys) h = on (p y) refl (λ k. some_of p ys k)
-  where
-    on : (b : Bool) → p y ≡ b → (list_any p ys ≡ true → (x : X) × In x ys × (p x ≡ true)) → (x : X) × In x (y ∷ ys) × (p x ≡ true)
-    on true e ih = (y, inl refl, e)
-    on false e ih = let k = ih (ap (λ b. b || list_any p ys) (sym e) ∙ h) in (k.0, inr k.1, k.2)
-
-pub any_of : {X : Type 0} (t : X → Bool) (x : X) (xs : List X) → In x xs → t x ≡ true → list_any t xs ≡ true
-any_of t x [] k h = elim k [ ]
-any_of t x (y ∷ ys) (inl e) h = ap (λ b. b || list_any t ys) (sym (ap t e) ∙ h)
-any_of t x (y ∷ ys) (inr k) h = ap (λ b. t y || b) (any_of t x ys k h) ∙ or_true (t y)
-  where
-    or_true : (b : Bool) → (b || true) ≡ true
-    or_true true = refl
-    or_true false = refl
-
-in_distinct : (x : Point) (xs : List Point) → In x xs → In x (distinct xs)
+pub in_distinct : (x : Point) (xs : List Point) → In x xs → In x (distinct xs)
 in_distinct x [] k = k
 in_distinct x (y ∷ ys) k = on (list_any (same y) (distinct ys)) refl k (λ m. in_distinct x ys m)
   where
@@ -41,7 +22,7 @@ in_distinct x (y ∷ ys) k = on (list_any (same y) (distinct ys)) refl k (λ m. 
     on false e (inl k) ih = inl k
     on false e (inr k) ih = inr (ih k)
 
-of_two : (ds : List Point) (a d e : Point) → length ds ≡ 2 → In a ds → In d ds → In e ds → d ≢ e → (a ≡ d) ⊎ (a ≡ e)
+pub of_two : (ds : List Point) (a d e : Point) → length ds ≡ 2 → In a ds → In d ds → In e ds → d ≢ e → (a ≡ d) ⊎ (a ≡ e)
 of_two [] a d e h x y z n = elim x [ ]
 of_two (u ∷ []) a d e h x y z n = absurd (omega arith)
 of_two (u ∷ (v ∷ (w ∷ ws))) a d e h x y z n = absurd (omega arith)
@@ -57,12 +38,12 @@ of_two (u ∷ (v ∷ [])) a d e h (inr (inl x)) (inl y) (inr (inr z)) n = elim z
 of_two (u ∷ (v ∷ [])) a d e h (inr (inl x)) (inr (inr y)) z n = elim y [ ]
 of_two (u ∷ (v ∷ [])) a d e h (inr (inr x)) y z n = elim x [ ]
 
--- what a state says of the points so far
-abbrev pub Says : Option Point → Option Point → Bool → List Point → Type 0
-Says None b m ps = (b ≡ None) × (m ≡ false) × ((x : Point) → In x ps → ⊥)
-Says (Some u) None m ps = (m ≡ false) × In u ps × ((x : Point) → In x ps → x ≡ u)
-Says (Some u) (Some v) false ps = (u ≢ v) × In u ps × In v ps × ((x : Point) → In x ps → (x ≡ u) ⊎ (x ≡ v))
-Says (Some u) (Some v) true ps = (u ≢ v) × In u ps × In v ps × ((w : Point) × In w ps × (w ≢ u) × (w ≢ v))
+-- what is kept says of the points so far
+abbrev Says : Neighbors → List Point → Type 0
+Says Zero ps = (x : Point) → In x ps → ⊥
+Says (One u) ps = In u ps × ((x : Point) → In x ps → x ≡ u)
+Says (Two u v) ps = (u ≢ v) × In u ps × In v ps × ((x : Point) → In x ps → (x ≡ u) ⊎ (x ≡ v))
+Says More ps = (u : Point) × (v : Point) × (u ≢ v) × In u ps × In v ps × ((w : Point) × In w ps × (w ≢ u) × (w ≢ v))
 
 -- no two are equal
 abbrev Apart : List Point → Type 0
@@ -116,73 +97,43 @@ just_two (x ∷ (y ∷ (z ∷ ds))) u v h n i j k = absurd (on (k x (inl refl)) 
 not_two : (n : ℕ) → n ≢ 2 → eqb n 2 ≡ false
 not_two n h = grind (arith, nat_tests)
 
-says_two : (a b : Option Point) (m : Bool) (ps : List Point) → Says a b m ps → is_two (around a b m) ≡ eqb (length (distinct ps)) 2
-says_two None b m ps h = on b h.0
+says_two : (n : Neighbors) (ps : List Point) → Says n ps → is_two n ≡ eqb (length (distinct ps)) 2
+says_two Zero ps h = sym (ap (λ l. eqb (length l) 2) (none ps h))
   where
     none : (qs : List Point) → ((x : Point) → In x qs → ⊥) → distinct qs ≡ []
     none [] k = refl
     none (q ∷ qs) k = absurd (k q (inl refl))
-
-    on : (b : Option Point) → b ≡ None → is_two (around None b m) ≡ eqb (length (distinct ps)) 2
-    on None e = sym (ap (λ l. eqb (length l) 2) (none ps h.2))
-    on (Some x) e = cc
-says_two (Some u) None m ps h = sym (not_two (length (distinct ps)) (not_one (distinct ps) u (distinct_apart ps) (λ x k. h.2 x (from_distinct x ps k))))
-says_two (Some u) (Some v) false ps h = sym (ap (λ n. eqb n 2) (just_two (distinct ps) u v (distinct_apart ps) h.0 (in_distinct u ps h.1) (in_distinct v ps h.2) (λ x k. h.3 x (from_distinct x ps k))))
-says_two (Some u) (Some v) true ps h = sym (not_two (length (distinct ps)) no)
+says_two (One u) ps h = sym (not_two (length (distinct ps)) (not_one (distinct ps) u (distinct_apart ps) (λ x k. h.1 x (from_distinct x ps k))))
+says_two (Two u v) ps h = sym (ap (λ n. eqb n 2) (just_two (distinct ps) u v (distinct_apart ps) h.0 (in_distinct u ps h.1) (in_distinct v ps h.2) (λ x k. h.3 x (from_distinct x ps k))))
+says_two More ps (u, v, n, k, l, (w, m, nu, nv)) = sym (not_two (length (distinct ps)) no)
   where
     no : length (distinct ps) ≡ 2 → ⊥
-    no e = elim (of_two (distinct ps) h.3.0 u v e (in_distinct h.3.0 ps h.3.1) (in_distinct u ps h.1) (in_distinct v ps h.2) h.0) [ inl k ↦ h.3.2 k | inr k ↦ h.3.3 k ]
+    no e = elim (of_two (distinct ps) w u v e (in_distinct w ps m) (in_distinct u ps k) (in_distinct v ps l) n) [ inl k ↦ nu k | inr k ↦ nv k ]
 
 in_end : (x : Point) (ps : List Point) (p : Point) → In x (ps ++ (p ∷ [])) → In x ps ⊎ (x ≡ p)
-in_end x [] p (inl e) = inr e
-in_end x [] p (inr k) = elim k [ ]
-in_end x (q ∷ ps) p (inl e) = inl (inl e)
-in_end x (q ∷ ps) p (inr k) = elim (in_end x ps p k) [ inl m ↦ inl (inr m) | inr m ↦ inr m ]
-
-in_old : (x : Point) (ps : List Point) (p : Point) → In x ps → In x (ps ++ (p ∷ []))
-in_old x [] p k = elim k [ ]
-in_old x (q ∷ ps) p (inl e) = inl e
-in_old x (q ∷ ps) p (inr k) = inr (in_old x ps p k)
-
-in_new : (ps : List Point) (p : Point) → In p (ps ++ (p ∷ []))
-in_new [] p = inl refl
-in_new (q ∷ ps) p = inr (in_new ps p)
-
-abbrev SaysOf : Neighbors → List Point → Type 0
-SaysOf a ps = Says a.first a.second a.more ps
+in_end x ps p k = elim (in_either x ps (p ∷ []) k) [ inl m ↦ inl m | inr m ↦ elim m [ inl e ↦ inr e | inr n ↦ absurd n ] ]
 
 -- one neighbor more
-says_more : (a b : Option Point) (m : Bool) (ps : List Point) (p : Point) → Says a b m ps → SaysOf (with_first a b m p) (ps ++ (p ∷ []))
-says_more None b m ps p h = subst (λ o. Says (Some p) o m (ps ++ (p ∷ []))) (sym h.0) (h.1, in_new ps p, only)
+says_more : (n : Neighbors) (ps : List Point) (p : Point) → Says n ps → Says (with_neighbor n p) (ps ++ (p ∷ []))
+says_more Zero ps p h = (in_right p ps (p ∷ []) (inl refl), λ x k. elim (in_end x ps p k) [ inl i ↦ absurd (h x i) | inr e ↦ e ])
+says_more (One u) ps p h = on (same u p) refl
   where
-    only : (x : Point) → In x (ps ++ (p ∷ [])) → x ≡ p
-    only x k = elim (in_end x ps p k) [ inl i ↦ absurd (h.2 x i) | inr e ↦ e ]
-says_more (Some u) None m ps p h = on (same u p) refl
+    on : (b : Bool) → same u p ≡ b → Says (cond b (One u) (Two u p)) (ps ++ (p ∷ []))
+    on true e = (in_left u ps (p ∷ []) h.0, λ x k. elim (in_end x ps p k) [ inl i ↦ h.1 x i | inr i ↦ i ∙ sym (same_is u p e) ])
+    on false e = (differs u p e, in_left u ps (p ∷ []) h.0, in_right p ps (p ∷ []) (inl refl), λ x k. elim (in_end x ps p k) [ inl i ↦ inl (h.1 x i) | inr i ↦ inr i ])
+says_more (Two u v) ps p h = on (same u p) refl (same v p) refl
   where
-    on : (b : Bool) → same u p ≡ b → SaysOf (cond b (around (Some u) None m) (around (Some u) (Some p) m)) (ps ++ (p ∷ []))
-    on true e = (h.0, in_old u ps p h.1, λ x k. elim (in_end x ps p k) [ inl i ↦ h.2 x i | inr i ↦ i ∙ sym (same_is u p e) ])
-    on false e = subst (λ z. Says (Some u) (Some p) z (ps ++ (p ∷ []))) (sym h.0)
-        (differs u p e, in_old u ps p h.1, in_new ps p, λ x k. elim (in_end x ps p k) [ inl i ↦ inl (h.2 x i) | inr i ↦ inr i ])
-says_more (Some u) (Some v) false ps p h = on (same u p) refl (same v p) refl
-  where
-    on : (b : Bool) → same u p ≡ b → (c : Bool) → same v p ≡ c → SaysOf (cond b (around (Some u) (Some v) false) (cond c (around (Some u) (Some v) false) (around (Some u) (Some v) true))) (ps ++ (p ∷ []))
-    on true e c f = (h.0, in_old u ps p h.1, in_old v ps p h.2, λ x k. elim (in_end x ps p k) [ inl i ↦ h.3 x i | inr i ↦ inl (i ∙ sym (same_is u p e)) ])
-    on false e true f = (h.0, in_old u ps p h.1, in_old v ps p h.2, λ x k. elim (in_end x ps p k) [ inl i ↦ h.3 x i | inr i ↦ inr (i ∙ sym (same_is v p f)) ])
-    on false e false f = (h.0, in_old u ps p h.1, in_old v ps p h.2, (p, in_new ps p, (λ z. differs u p e (sym z)), (λ z. differs v p f (sym z))))
-says_more (Some u) (Some v) true ps p h = on (same u p) (same v p)
-  where
-    keep : Says (Some u) (Some v) true (ps ++ (p ∷ []))
-    keep = (h.0, in_old u ps p h.1, in_old v ps p h.2, (h.3.0, in_old h.3.0 ps p h.3.1, h.3.2, h.3.3))
+    on : (b : Bool) → same u p ≡ b → (c : Bool) → same v p ≡ c → Says (cond (b || c) (Two u v) More) (ps ++ (p ∷ []))
+    on true e c f = (h.0, in_left u ps (p ∷ []) h.1, in_left v ps (p ∷ []) h.2, λ x k. elim (in_end x ps p k) [ inl i ↦ h.3 x i | inr i ↦ inl (i ∙ sym (same_is u p e)) ])
+    on false e true f = (h.0, in_left u ps (p ∷ []) h.1, in_left v ps (p ∷ []) h.2, λ x k. elim (in_end x ps p k) [ inl i ↦ h.3 x i | inr i ↦ inr (i ∙ sym (same_is v p f)) ])
+    on false e false f =
+        (u, v, h.0, in_left u ps (p ∷ []) h.1, in_left v ps (p ∷ []) h.2, (p, in_right p ps (p ∷ []) (inl refl), (λ z. differs u p e (sym z)), (λ z. differs v p f (sym z))))
+says_more More ps p (u, v, n, k, l, (w, m, nu, nv)) = (u, v, n, in_left u ps (p ∷ []) k, in_left v ps (p ∷ []) l, (w, in_left w ps (p ∷ []) m, nu, nv))
 
-    on : (b c : Bool) → SaysOf (cond b (around (Some u) (Some v) true) (cond c (around (Some u) (Some v) true) (around (Some u) (Some v) true))) (ps ++ (p ∷ []))
-    on true c = keep
-    on false true = keep
-    on false false = keep
-
-says_all : (a : Neighbors) (ps qs : List Point) → SaysOf a ps → SaysOf (with_neighbors a qs) (ps ++ qs)
-says_all a ps [] h = subst (λ l. SaysOf a l) (sym (append-nil ps)) h
-says_all a ps (q ∷ qs) h = subst (λ l. SaysOf (with_neighbors (with_neighbor a q) qs) l) (append_assoc ps (q ∷ []) qs) (says_all (with_neighbor a q) (ps ++ (q ∷ [])) qs (says_more a.first a.second a.more ps q h))
+says_all : (n : Neighbors) (ps qs : List Point) → Says n ps → Says (with_neighbors n qs) (ps ++ qs)
+says_all n ps [] h = subst (λ l. Says n l) (sym (append-nil ps)) h
+says_all n ps (q ∷ qs) h = subst (λ l. Says (with_neighbors (with_neighbor n q) qs) l) (append_assoc ps (q ∷ []) qs) (says_all (with_neighbor n q) (ps ++ (q ∷ [])) qs (says_more n ps q h))
 
 -- exactly two are kept where there are exactly two
-pub two_settled : (ps : List Point) → is_two (with_neighbors no_neighbors ps) ≡ eqb (length (distinct ps)) 2
-two_settled ps = let n = with_neighbors no_neighbors ps in says_two n.first n.second n.more ps (says_all no_neighbors [] ps (refl, refl, λ x k. k))
+pub two_settled : (ps : List Point) → is_two (with_neighbors Zero ps) ≡ eqb (length (distinct ps)) 2
+two_settled ps = says_two (with_neighbors Zero ps) ps (says_all Zero [] ps (λ x k. k))

@@ -1,12 +1,12 @@
 -- What is noted of each position while the lines are read.
 use Rattle.std.specs.Prelude.{◌≡◌, Bool, true, false, not, ◌||◌, ◌&&◌, List, [], ◌∷◌, ◌++◌, map, Option, None, Some, if◌then◌else◌}
-use Rattle.std.specs.List.{flat_map, list_all}
-use Rattle.std.specs.Option.{is_some}
+use Rattle.std.specs.List.{flat_map, list_any, list_all}
 use Rattle.std.specs.Ordering.{int_eq}
-use Rattle.indexmap.specs.IndexMap.{IndexMap, get}
+use Rattle.indexmap.specs.IndexMap.{IndexMap, get, keys}
 use Rattle.geojson_types.specs.Points.{Point}
 use Rattle.geojson_types.specs.Rings.{same}
 use Rattle.linework.specs.declared.neighbors.Neighbors.{Neighbors}
+use Rattle.linework.specs.declared.neighbors.Neighbors.TheVariants.{Zero, One, Two, More}
 use Rattle.linework.specs.declared.stroke.Stroke.{Stroke}
 use Rattle.linework.specs.declared.vertex.Note.{Note}
 use Rattle.linework.specs.declared.vertex.Vertex.{Vertex}
@@ -16,27 +16,12 @@ use Rattle.linework.specs.Visits.{Visit, visits, last, neighbors, ends_open, is_
 abbrev pub equal : Point → Point → Bool
 equal p q = int_eq p.x q.x && int_eq p.y q.y
 
--- neighbors, as far as they matter
-abbrev pub settled : Option Point → Option Point → Bool → Neighbors
-settled a b more = record { first = a; second = b; more = more }
-
--- none yet
-abbrev pub no_neighbors : Neighbors
-no_neighbors = settled None None false
-
--- one more, behind the first
-abbrev pub with_second : Point → Option Point → Bool → Point → Neighbors
-with_second a None more p = settled (Some a) (Some p) more
-with_second a (Some b) more p = if same b p then settled (Some a) (Some b) more else settled (Some a) (Some b) true
-
--- one more
-abbrev pub with_first : Option Point → Option Point → Bool → Point → Neighbors
-with_first None b more p = settled (Some p) b more
-with_first (Some a) b more p = if same a p then settled (Some a) b more else with_second a b more p
-
--- one neighbor more: the first two different ones are kept, and whether there is a third
+-- one neighbor more: two different ones are kept, and then that there are more
 abbrev pub with_neighbor : Neighbors → Point → Neighbors
-with_neighbor n p = with_first n.first n.second n.more p
+with_neighbor Zero p = One p
+with_neighbor (One a) p = if same a p then One a else Two a p
+with_neighbor (Two a b) p = if same a p || same b p then Two a b else More
+with_neighbor More p = More
 
 -- more of them, in order
 abbrev pub with_neighbors : Neighbors → List Point → Neighbors
@@ -45,7 +30,10 @@ with_neighbors n (p ∷ ps) = with_neighbors (with_neighbor n p) ps
 
 -- there are exactly two
 abbrev pub is_two : Neighbors → Bool
-is_two n = is_some n.second && not n.more
+is_two Zero = false
+is_two (One a) = false
+is_two (Two a b) = true
+is_two More = false
 
 -- the positions before and after it, if the line visits it there
 abbrev pub beside : Option (Point × Point) → List Point
@@ -59,26 +47,26 @@ is_back (Some pair) = same pair.0 pair.1
 
 -- nothing is known yet
 abbrev pub new_vertex : Vertex
-new_vertex = record { neighbors = no_neighbors; turns = false; ends = false; loose = false }
+new_vertex = record { neighbors = Zero; turns = false; ends = false; loose = false }
 
 abbrev pub known : Option Vertex → Vertex
 known None = new_vertex
 known (Some v) = v
 
 -- what is known with one note more
-abbrev pub noted : Option Vertex → Note → Vertex
-noted o n =
+abbrev pub noted : Vertex → Note → Vertex
+noted v n =
     record {
-      neighbors = with_neighbors (known o).neighbors (beside n.beside);
-      turns = is_back n.beside || (known o).turns;
-      ends = n.ends || (known o).ends;
-      loose = (known o).loose;
+      neighbors = with_neighbors v.neighbors (beside n.beside);
+      turns = is_back n.beside || v.turns;
+      ends = n.ends || v.ends;
+      loose = v.loose;
     }
 
 -- what is known of a position after notes
 abbrev pub after : Option Vertex → List Note → Point → Option Vertex
 after o [] p = o
-after o (n ∷ ns) p = after (if same n.here p then Some (noted o n) else o) ns p
+after o (n ∷ ns) p = after (if same n.here p then Some (noted (known o) n) else o) ns p
 
 -- a note of a position that is read
 abbrev pub touch : Bool → Point → Note
@@ -100,15 +88,29 @@ notes_of s = line_notes s.closed s.positions (visits s)
 abbrev pub all_notes : List Stroke → List Note
 all_notes ls = flat_map notes_of ls
 
--- the notes were taken, in order
-abbrev pub Takes : {S : Type 0} → IndexMap Point Vertex S → IndexMap Point Vertex S → List Note → Type 0
-Takes old new ns = (p : Point) → get equal new p ≡ after (get equal old p) ns p
+-- one position more, behind the others if it is new
+abbrev pub with_position : List Point → Point → List Point
+with_position ps q = if list_any (same q) ps then ps else ps ++ (q ∷ [])
+
+-- more of them, in order
+abbrev pub with_positions : List Point → List Point → List Point
+with_positions ps [] = ps
+with_positions ps (q ∷ qs) = with_positions (with_position ps q) qs
+
+-- the positions of notes
+abbrev pub heres : List Note → List Point
+heres ns = map (λ n. n.here) ns
+
+-- the notes were taken, in order: what is known of each position, and in which order the positions came
+pub record Takes {S : Type 0} (old new : IndexMap Point Vertex S) (ns : List Note) : Type 0 where
+  pub known : (p : Point) → get equal new p ≡ after (get equal old p) ns p
+  pub order : keys new ≡ with_positions (keys old) (heres ns)
 
 -- what the lines say of a position; whether it is the least of a ring without a junction, is given
 abbrev pub vertex_of : List Stroke → (Point → Bool) → Point → Vertex
 vertex_of ls is_loose p =
     record {
-      neighbors = with_neighbors no_neighbors (neighbors ls p);
+      neighbors = with_neighbors Zero (neighbors ls p);
       turns = is_turn ls p;
       ends = ends_open ls p;
       loose = is_loose p;

@@ -43,6 +43,15 @@ abbrev pub distinct : List Point → List Point
 distinct [] = []
 distinct (p ∷ ps) = if list_any (same p) (distinct ps) then distinct ps else p ∷ distinct ps
 
+-- each position once, in the order in which they are first seen
+abbrev pub first_seen : List Point → List Point
+first_seen [] = []
+first_seen (p ∷ ps) = p ∷ filter (λ q. not (same p q)) (first_seen ps)
+
+-- the positions of all lines
+abbrev pub positions : List Stroke → List Point
+positions ls = flat_map (λ s. s.positions) ls
+
 -- the last of a position and more of them
 abbrev pub last : Point → List Point → Point
 last p [] = p

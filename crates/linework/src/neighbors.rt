@@ -1,58 +1,41 @@
 // The neighbors of a position.
 ghost use Rattle.std.specs.Prelude.{◌≡◌};
 ghost use Rattle.geojson_types.specs.Rings.{same};
-ghost use Rattle.linework.specs.Notes.{no_neighbors, with_neighbor, is_two};
+ghost use Rattle.linework.specs.Notes.{with_neighbor, is_two};
 
 use geojson_types::Position;
 
-/// The different neighbors of a position as far as they matter: the first two, and whether there is a third.
+/// The different neighbors of a position as far as they matter: up to two of them, or that there are more.
 #[derive(Clone, Copy, Debug)]
-pub struct Neighbors {
-    first: Option<Position>,
-    second: Option<Position>,
-    more: bool,
+pub enum Neighbors {
+    Zero,
+    One(Position),
+    Two(Position, Position),
+    More,
 }
 
 impl Neighbors {
-    /// None yet.
-    pub fn none() -> Neighbors
-        ensures { result ≡ no_neighbors }
-    {
-        Neighbors {
-            first: None,
-            second: None,
-            more: false,
-        }
-    }
-
     /// One neighbor more.
     pub fn with(self, p: Position) -> Neighbors
         ensures { result ≡ with_neighbor self p }
     {
-        let Some(first) = self.first else {
-            return Neighbors {
-                first: Some(p),
-                second: self.second,
-                more: self.more,
-            };
-        };
-        if is_same(first, p) {
-            return self;
-        }
-        let Some(second) = self.second else {
-            return Neighbors {
-                first: self.first,
-                second: Some(p),
-                more: self.more,
-            };
-        };
-        if is_same(second, p) {
-            return self;
-        }
-        Neighbors {
-            first: self.first,
-            second: self.second,
-            more: true,
+        match self {
+            Neighbors::Zero => Neighbors::One(p),
+            Neighbors::One(first) => {
+                if is_same(first, p) {
+                    Neighbors::One(first)
+                } else {
+                    Neighbors::Two(first, p)
+                }
+            }
+            Neighbors::Two(first, second) => {
+                if is_same(first, p) || is_same(second, p) {
+                    Neighbors::Two(first, second)
+                } else {
+                    Neighbors::More
+                }
+            }
+            Neighbors::More => Neighbors::More,
         }
     }
 
@@ -60,7 +43,7 @@ impl Neighbors {
     pub fn are_two(self) -> bool
         ensures { result ≡ is_two self }
     {
-        self.second.is_some() && !self.more
+        matches!(self, Neighbors::Two(_, _))
     }
 }
 

@@ -1,18 +1,18 @@
 // The table of the positions of lines.
-ghost use Rattle.std.specs.Prelude.{◌≡◌, ◌<◌, ◌≤◌, IfOk, OnOk, Some, [], ◌∷◌, ◌&&◌, false, length, map};
+ghost use Rattle.std.specs.Prelude.{◌≡◌, ◌<◌, ◌≤◌, IfOk, OnOk, Some, [], ◌∷◌, ◌&&◌, false, length, map, sum_by};
 ghost use Rattle.std.specs.List.{list_any};
-ghost use Rattle.indexmap.specs.IndexMap.{get};
+ghost use Rattle.indexmap.specs.IndexMap.{get, keys};
 ghost use Rattle.geojson_types.specs.Points.{Point};
 ghost use Rattle.geojson_types.specs.Order.{is_least};
 ghost use Rattle.geojson_types.specs.Rings.{same};
 ghost use Rattle.linework.specs.Cleaning.{AllClean};
 ghost use Rattle.linework.specs.Cuts.{is_loose_least};
-ghost use Rattle.linework.specs.Visits.{inner_visits};
+ghost use Rattle.linework.specs.Visits.{first_seen, inner_visits, positions};
 ghost use Rattle.linework.specs.Notes as spec;
 ghost use Rattle.linework.specs.Notes.{equal, pass, notes_of, Takes, IsTable, flagged, is_knot_option, is_cut_option};
 
 use crate::stroke::Stroke;
-use crate::vertex::{Note, Vertex, loosened, noted};
+use crate::vertex::{Note, Vertex, noted};
 use byte_ends::Memory;
 use geojson_types::Position;
 use indexmap::IndexMap;
@@ -24,13 +24,25 @@ pub type Table = IndexMap<Position, Vertex>;
 /// The table of the lines, in which no position is the least of a ring yet.
 pub fn table_of(alloc: Global, strokes: &[Stroke]) -> Result<Table, Memory>
     requires { AllClean strokes.now }
-    ensures { IfOk result (λ table. IsTable strokes.now (λ p. false) table) }
+    ensures known { IfOk result (λ table. IsTable strokes.now (λ p. false) table) }
+    ensures order { IfOk result (λ table. keys table ≡ first_seen (positions strokes.now)) }
 {
-    let mut table = IndexMap::new(alloc);
+    let mut table = IndexMap::with_capacity(alloc, room_for(strokes))?;
     for stroke in strokes {
         note_stroke(&mut table, stroke)?;
     }
     Ok(table)
+}
+
+// How many different positions the lines have at most.
+fn room_for(strokes: &[Stroke]) -> usize
+    ensures { result ≤ sum_by (λ s. length s.positions) strokes.now }
+{
+    let mut count: usize = 0;
+    for stroke in strokes {
+        count = count.saturating_add(stroke.positions.len());
+    }
+    count
 }
 
 // Notes the positions and visits of a line.
@@ -88,10 +100,10 @@ fn note(table: &mut Table, note: Note) -> Result<(), Memory>
 {
     let here = note.here;
     if let Some(vertex) = table.get_mut(&here) {
-        *vertex = noted(Some(*vertex), note);
+        *vertex = noted(*vertex, note);
         return Ok(());
     }
-    table.insert(here, noted(None, note))?;
+    table.insert(here, noted(Vertex::new(), note))?;
     Ok(())
 }
 
@@ -99,7 +111,8 @@ fn note(table: &mut Table, note: Note) -> Result<(), Memory>
 pub fn flag_rings(table: &mut Table, strokes: &[Stroke])
     requires clean { AllClean strokes.now }
     requires known { IsTable strokes.now (λ p. false) table.old }
-    ensures { IsTable strokes.now (λ p. list_any (is_loose_least strokes.now p) strokes.now) table.new }
+    ensures known { IsTable strokes.now (λ p. list_any (is_loose_least strokes.now p) strokes.now) table.new }
+    ensures order { keys table.new ≡ keys table.old }
 {
     for stroke in strokes {
         if stroke.closed {
@@ -111,15 +124,16 @@ pub fn flag_rings(table: &mut Table, strokes: &[Stroke])
 // Flags the least position of the ring, if no position of it is a junction.
 fn flag_ring(table: &mut Table, ring: &[Position])
     requires { 0 < length ring.now }
-    ensures { (p : Point) →
+    ensures known { (p : Point) →
         get equal table.new p ≡ flagged (spec.is_free (get equal table.old) ring.now && is_least p ring.now) (get equal table.old p) }
+    ensures order { keys table.new ≡ keys table.old }
 {
     if !is_free(table, ring) {
         return;
     }
     let least = least(ring);
     if let Some(vertex) = table.get_mut(&least) {
-        *vertex = loosened(*vertex);
+        vertex.loose = true;
     }
 }
 

@@ -26,12 +26,12 @@ pub struct Vertex {
 }
 
 impl Vertex {
-    // Nothing is known yet.
-    fn new() -> Vertex
+    /// Nothing is known yet.
+    pub fn new() -> Vertex
         ensures { result ≡ spec.new_vertex }
     {
         Vertex {
-            neighbors: Neighbors::none(),
+            neighbors: Neighbors::Zero,
             turns: false,
             ends: false,
             loose: false,
@@ -47,13 +47,9 @@ impl Vertex {
 }
 
 /// What is known with one note more.
-pub fn noted(old: Option<Vertex>, note: Note) -> Vertex
-    ensures { result ≡ spec.noted old note }
+pub fn noted(vertex: Vertex, note: Note) -> Vertex
+    ensures { result ≡ spec.noted vertex note }
 {
-    let vertex = match old {
-        Some(vertex) => vertex,
-        None => Vertex::new(),
-    };
     let ends = note.ends || vertex.ends;
     let Some((before, after)) = note.beside else {
         return Vertex {
@@ -68,17 +64,5 @@ pub fn noted(old: Option<Vertex>, note: Note) -> Vertex
         turns: is_same(before, after) || vertex.turns,
         ends,
         loose: vertex.loose,
-    }
-}
-
-/// The same of the least position of a ring without a junction.
-pub fn loosened(vertex: Vertex) -> Vertex
-    ensures { result ≡ spec.loosened vertex }
-{
-    Vertex {
-        neighbors: vertex.neighbors,
-        turns: vertex.turns,
-        ends: vertex.ends,
-        loose: true,
     }
 }

@@ -1,6 +1,8 @@
 // Junctions and cut positions of the linework.
-ghost use Rattle.std.specs.Prelude.{◌≡◌, IfOk, true};
+ghost use Rattle.std.specs.Prelude.{◌≡◌, IfOk, Some, position, true};
+ghost use Rattle.geojson_types.specs.Rings.{same};
 ghost use Rattle.linework.specs.Answers.{IsOf, is_member};
+ghost use Rattle.linework.specs.Visits.{first_seen, positions};
 
 use crate::lines::Lines;
 use crate::table::{Table, flag_rings, is_cut_in, is_junction_in, table_of};
@@ -35,7 +37,8 @@ impl Model for Vertices {
 impl Vertices {
     /// What is known of the positions of these lines.
     pub fn of(alloc: Global, lines: &Lines) -> Result<Vertices, Memory>
-        ensures { IfOk result (λ vertices. IsOf lines.now.strokes vertices) }
+        ensures answers { IfOk result (λ vertices. IsOf lines.now.strokes vertices) }
+        ensures order { IfOk result (λ vertices. vertices.points ≡ first_seen (positions lines.now.strokes)) }
     {
         let strokes = lines.as_slice();
         let mut table = table_of(alloc, strokes)?;
@@ -48,6 +51,15 @@ impl Vertices {
         ensures { result ≡ is_member self.now.points p }
     {
         self.table.contains_key(&p)
+    }
+
+    /// The number of the position, counted from zero, among the different positions of the lines in reading order: each counts
+    /// where it is first seen.
+    pub fn number(&self, p: Position) -> usize
+        requires { is_member self.now.points p ≡ true }
+        ensures { position (same p) self.now.points ≡ Some result }
+    {
+        self.table.get_index_of(&p).unwrap()
     }
 
     /// Whether the position is a junction.

@@ -1,5 +1,5 @@
-use Rattle.std.proofs.Common.{◌≡◌, ◌≤◌, ◌&&◌, length, ap, ◌∙◌, arith}
-use Rattle.indexmap.specs.IndexMap.{get}
+use Rattle.std.proofs.Common.{◌≡◌, ◌≤◌, ◌&&◌, length, refl, ap, ◌∙◌, arith}
+use Rattle.indexmap.specs.IndexMap.{get, keys}
 use Rattle.geojson_types.specs.Order.{is_least}
 use Rattle.linework.specs.Notes.{equal, flagged, is_free}
 use Rattle.linework.proofs.Flags.{ring_turn, line_turn, all_flagged}
@@ -14,18 +14,27 @@ flag_ring-requires c =
     omega (arith, h, e)
 
 pub loop-stroke-init : goal.loop-stroke-init
-loop-stroke-init c = c.requires.known
+loop-stroke-init c = (c.requires.known, refl)
 
 pub loop-stroke-preserved : goal.loop-stroke-preserved
 loop-stroke-preserved c = elim c.if-stroke.branch [
-  | then-stroke w ↦ λ p.
-      ap (λ t. get equal t p) w.table-is
-      ∙ ring_turn c.args.strokes.now c.loop-stroke.stroke-index c.stroke-item.result (get equal c.loop-stroke.table) (get equal w.flag_ring.new.table) c.loop-stroke-test.true c.stroke-item.is w.if-stroke.true c.loop-stroke.invariant
-      (λ q. w.flag_ring.ensures q ∙ ap (λ ps. flagged (is_free (get equal c.loop-stroke.table) ps && is_least q ps) (get equal c.loop-stroke.table q)) w.as_slice.ensures) p
-  | else-stroke w ↦ λ p.
-      ap (λ t. get equal t p) w.table-is
-      ∙ line_turn c.args.strokes.now c.loop-stroke.stroke-index c.stroke-item.result (get equal c.loop-stroke.table) c.loop-stroke-test.true c.stroke-item.is w.if-stroke.false c.loop-stroke.invariant p
+  | then-stroke w ↦ (
+    λ p.
+        ap (λ t. get equal t p) w.table-is
+        ∙ ring_turn c.args.strokes.now c.loop-stroke.stroke-index c.stroke-item.result (get equal c.loop-stroke.table) (get equal w.flag_ring.new.table) c.loop-stroke-test.true c.stroke-item.is w.if-stroke.true c.loop-stroke.invariant.0
+        (λ q. w.flag_ring.ensures.known q ∙ ap (λ ps. flagged (is_free (get equal c.loop-stroke.table) ps && is_least q ps) (get equal c.loop-stroke.table q)) w.as_slice.ensures) p,
+    ap keys w.table-is ∙ w.flag_ring.ensures.order ∙ c.loop-stroke.invariant.1,
+  )
+  | else-stroke w ↦ (
+    λ p.
+        ap (λ t. get equal t p) w.table-is
+        ∙ line_turn c.args.strokes.now c.loop-stroke.stroke-index c.stroke-item.result (get equal c.loop-stroke.table) c.loop-stroke-test.true c.stroke-item.is w.if-stroke.false c.loop-stroke.invariant.0 p,
+    ap keys w.table-is ∙ c.loop-stroke.invariant.1,
+  )
 ]
 
 pub returns : goal.returns
-returns c = all_flagged c.args.strokes.now c.loop-stroke.stroke-index (get equal c.loop-stroke.table) c.loop-stroke-test.false c.loop-stroke.invariant
+returns c = record {
+  known = all_flagged c.args.strokes.now c.loop-stroke.stroke-index (get equal c.loop-stroke.table) c.loop-stroke-test.false c.loop-stroke.invariant.0;
+  order = c.loop-stroke.invariant.1;
+}

@@ -1,8 +1,7 @@
 use Rattle.std.proofs.Common.{◌≡◌, ◌≤◌, ◌++◌, [], ◌∷◌, not, map, take, drop, length, subst, ap, sym, ◌∙◌, arith, if◌then◌else◌}
-use Rattle.indexmap.specs.IndexMap.{get}
 use Rattle.linework.specs.Visits.{inner_visits}
-use Rattle.linework.specs.Notes.{equal, touch, pass, line_notes}
-use Rattle.linework.proofs.Noting.{takes_then, takes_as, note, notes_are, Closes}
+use Rattle.linework.specs.Notes.{touch, pass, line_notes, Takes}
+use Rattle.linework.proofs.Noting.{takes_then, note, notes_are, Closes}
 use Rattle.linework.proofs.table.note_stroke.Goals as goal
 use Rattle.linework.proofs.table.note_stroke.Goals.{then-stroke, else-stroke}
 
@@ -18,9 +17,8 @@ returns c =
     let start = touch (not c.args.stroke.now.closed) c.index-positions-0.result ∷ [] in
     let visits = map pass (inner_visits ps) in
     let end = note c.index-positions-last-2.result c.if-stroke.beside (not c.args.stroke.now.closed) ∷ [] in
-    let whole = line_notes c.args.stroke.now.closed c.args.stroke.now.positions (inner_visits (c.args.stroke.now.positions ++ (if c.args.stroke.now.closed then take 1 (drop 1 c.args.stroke.now.positions) else []))) in
-    let first = takes_then (get equal c.args.table.now) (get equal c.note.new.table) (get equal c.note_visits.new.table) start visits c.in_ok-note.ensures c.in_ok-note_visits.ensures in
-    takes_as (get equal c.args.table.now) (get equal c.note-2.new.table) ((start ++ visits) ++ end) whole
+    let first = takes_then c.args.table.now c.note.new.table c.note_visits.new.table start visits c.in_ok-note.ensures c.in_ok-note_visits.ensures in
+    subst (Takes c.args.table.now c.note-2.new.table)
     (notes_are c.args.stroke.now.closed ps c.index-positions-0.result c.index-positions-last-2.result c.if-stroke.beside h c.index-positions-0.is c.index-positions-last-2.is closes
     ∙ ap (λ qs. line_notes c.args.stroke.now.closed qs (inner_visits (qs ++ (if c.args.stroke.now.closed then take 1 (drop 1 qs) else [])))) e)
-    (takes_then (get equal c.args.table.now) (get equal c.note_visits.new.table) (get equal c.note-2.new.table) (start ++ visits) end first c.in_ok-note-2.ensures)
+    (takes_then c.args.table.now c.note_visits.new.table c.note-2.new.table (start ++ visits) end first c.in_ok-note-2.ensures)

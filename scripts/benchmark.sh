@@ -1,0 +1,68 @@
+#!/bin/sh
+# Measures the program on meshes (scripts/mesh.py) of 10^4 and 10^6 positions, without and with properties:
+#
+#     scripts/benchmark.sh                    the program of ./mapchain, which is proved and built first where it has to be
+#     scripts/benchmark.sh path/to/mapchain   another program with the same commands
+#     RUNS=9 scripts/benchmark.sh             the fastest of nine runs each, instead of five
+#
+# For each mesh and each of `build`, `geo` and `stat` (these two on what `build` wrote) it prints a row of a table: the
+# seconds of the fastest run, the MB/s of its input, and the greatest peak of memory. Then, for each command, the growth: the
+# time a byte at 10^6 positions over that at 10^4. Where topo2geo (topojson-client) or ogr2ogr (GDAL) is installed, rows of
+# theirs for the same decoding come beside. Runs follow one another; nothing else should run meanwhile.
+set -eu
+
+root=$(dirname "$(readlink -f "$0")")/..
+program=${1:-}
+runs=${RUNS:-5}
+work=$(mktemp -d)
+trap 'rm -rf "$work"' EXIT
+trap 'exit 130' INT TERM
+
+if [ -z "$program" ]; then
+    "$root/mapchain" --help >/dev/null
+    program=$root/crates/mapchain/out/mapchain
+fi
+
+# row MESH INPUT OUTPUT NAME COMMAND..: runs the command, prints its row, and keeps its time a byte.
+row() {
+    mesh=$1 input=$2 output=$3 name=$4
+    shift 4
+    measured=$("$root/scripts/timed.py" "$runs" "$output" "$@") || { echo "benchmark: $name failed on $mesh" >&2; return 1; }
+    size=$(wc -c <"$input")
+    echo "$measured" | awk -v mesh="$mesh" -v name="$name" -v size="$size" -v rows="$work/rows" '{
+        printf "| %s | %.2f | %s | %.3f | %.1f | %.0f |\n", mesh, size / 1e6, name, $1, size / 1e6 / $1, $2
+        printf "%s\t%s\t%.6g\n", mesh, name, $1 / size >>rows
+    }'
+}
+
+# measure MESH N M WORD..: a mesh of N x N cells with M segments a side, and all rows of it.
+measure() {
+    mesh=$1 cells=$2 segments=$3
+    shift 3
+    "$root/scripts/mesh.py" "$cells" "$segments" "$@" >"$work/mesh.json"
+    row "$mesh" "$work/mesh.json" "$work/mesh.topojson" build "$program" build "mesh=$work/mesh.json"
+    row "$mesh" "$work/mesh.topojson" "$work/out" geo "$program" geo --object mesh "$work/mesh.topojson"
+    row "$mesh" "$work/mesh.topojson" "$work/out" stat "$program" stat "$work/mesh.topojson"
+    if command -v topo2geo >/dev/null; then
+        row "$mesh" "$work/mesh.topojson" "$work/out" topo2geo topo2geo --in "$work/mesh.topojson" mesh=- || true
+    fi
+    if command -v ogr2ogr >/dev/null; then
+        row "$mesh" "$work/mesh.topojson" "$work/out" ogr2ogr ogr2ogr -f GeoJSON /vsistdout/ "$work/mesh.topojson" mesh || true
+    fi
+}
+
+echo "| mesh | MB | command | seconds | MB/s | peak MB |"
+echo "|---|---|---|---|---|---|"
+measure "10^4" 12 16
+measure "10^6" 124 16
+measure "10^4, properties" 12 16 --properties
+measure "10^6, properties" 124 16 --properties
+echo
+for name in build geo stat; do
+    for kind in "" ", properties"; do
+        awk -F '\t' -v name="$name" -v kind="$kind" '
+            $1 == "10^4" kind && $2 == name { small = $3 }
+            $1 == "10^6" kind && $2 == name { great = $3 }
+            END { printf "growth of %s%s: %.2f\n", name, kind, great / small }' "$work/rows"
+    done
+done

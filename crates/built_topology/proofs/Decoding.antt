@@ -25,17 +25,9 @@ use Rattle.built_topology.specs.Objects.{features_by, objects_by}
 use Rattle.built_topology.proofs.DecodingLines.{back, line_back}
 use Rattle.built_topology.proofs.Linework.{Line, StandsIn, each_stands, own_apart}
 use Rattle.built_topology.proofs.Trimmed.{trimmed_decodes}
-use Rattle.built_topology.proofs.Lists.{weaker}
+use Rattle.built_topology.proofs.Lists.{weaker, all_two, all_map}
 
 -- ---- names
-
-all_two : {A : Type 0} (X Y Z : A → Type 0) → ((a : A) → X a → Y a → Z a) → (xs : List A) → AllByRecursion X xs → AllByRecursion Y xs → AllByRecursion Z xs
-all_two X Y Z f [] h k = tt
-all_two X Y Z f (x ∷ xs) h k = (f x h.0 k.0, all_two X Y Z f xs h.1 k.1)
-
-all_map : {A B : Type 0} (X : B → Type 0) (f : A → B) (xs : List A) → AllByRecursion (λ x. X (f x)) xs → AllByRecursion X (map f xs)
-all_map X f [] h = tt
-all_map X f (x ∷ xs) h = (h.0, all_map X f xs h.1)
 
 differ : (b : Bool) (P : Type 0) → (b ≡ true → P) → (P → ⊥) → b ≡ false
 differ true P h k = absurd (k (h refl))

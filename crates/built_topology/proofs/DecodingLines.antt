@@ -20,7 +20,7 @@ use Rattle.linework.specs.declared.stroke.Stroke.{Stroke}
 use Rattle.topo_types.specs.Decoding.{repeated, filled, completed, decoded_line}
 use Rattle.topo_types.specs.Joins.{number_of, at, or_empty, arc_at, rejoined}
 use Rattle.built_topology.specs.Built.{all_arcs, kept_refs}
-use Rattle.built_topology.specs.Expected.{own_pieces, own_cause, rebuilt, unless, kept_line}
+use Rattle.built_topology.specs.Expected.{own_pieces, own_cause, rebuilt, is_small, unless, kept_line}
 use Rattle.built_topology.proofs.Linework.{Line, StandsIn, own_in}
 
 -- ---- an arc that is found again when all are replaced
@@ -81,15 +81,15 @@ full : (ps : List Point) → 4 ≤ length ps → filled ps ≡ ps
 full [] h = refl
 full (p ∷ ps) h = ap (λ n. p ∷ (ps ++ repeated n p)) (let e : 4 - length (p ∷ ps) ≡ 0 = omega arith in e) ∙ append-nil (p ∷ ps)
 
-complete : (closed : Bool) (ps : List Point) → is_short closed (clean ps) ≡ false → completed closed ps ≡ ps
+complete : (closed : Bool) (ps : List Point) → is_small closed ps ≡ false → completed closed ps ≡ ps
 complete true ps h = full ps (long_ring ps h)
 complete false ps h = refl
 
 -- ---- lines and rings
 
 -- there is no cause to drop it
-no_cause : (lines : List Stroke) (t : ℕ) (b : Line) → own_cause lines t b.0 b.1 ≡ None → (is_short b.0 (clean b.1) ≡ false) × (is_short b.0 (clean (rebuilt lines t b.0 b.1)) ≡ false)
-no_cause lines t b h = on (is_short b.0 (clean b.1)) (is_short b.0 (clean (rebuilt lines t b.0 b.1))) h
+no_cause : (lines : List Stroke) (t : ℕ) (b : Line) → own_cause lines t b.0 b.1 ≡ None → (is_short b.0 (clean b.1) ≡ false) × (is_small b.0 (rebuilt lines t b.0 b.1) ≡ false)
+no_cause lines t b h = on (is_short b.0 (clean b.1)) (is_small b.0 (rebuilt lines t b.0 b.1)) h
   where
     on : (c d : Bool) → cond c (Some Collapsed) (cond d (Some Small) None) ≡ None → (c ≡ false) × (d ≡ false)
     on true d e = cc

@@ -1,3 +1,4 @@
+pub mod Candidates
 pub mod Decoding
 pub mod DecodingLines
 pub mod Linework

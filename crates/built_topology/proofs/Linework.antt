@@ -124,11 +124,6 @@ all_clean ls h =
 
 -- ---- pieces
 
--- the pieces of a line don't depend on where it stands
-pub pieces_alone : (lines : List Stroke) (s : Stroke) (ps : List Point) → s.positions ≡ clean ps → pieces_of lines s ≡ own_pieces lines s.closed ps
-pieces_alone lines s ps e =
-    ap (λ l. split_at (is_cut lines) (cond s.closed (turned (start_in (is_cut lines) l) l) l)) e
-
 -- the pieces of a clean line
 abbrev pub plain_pieces : List Stroke → Line → List (List Point)
 plain_pieces lines b = split_at (is_cut lines) (cond b.0 (turned (start_in (is_cut lines) b.1) b.1) b.1)

@@ -13,7 +13,7 @@ use Rattle.cutter.proofs.Words.{sharers, segments_once}
 use Rattle.linework.specs.Cleaning.{AllClean}
 use Rattle.linework.specs.declared.stroke.Stroke.{Stroke}
 
-same_pieces : (ls ms : List Stroke) → all_pieces (map (split_of ls) ms) ≡ flat_map (pieces_of ls) ms
+pub same_pieces : (ls ms : List Stroke) → all_pieces (map (split_of ls) ms) ≡ flat_map (pieces_of ls) ms
 same_pieces ls [] = refl
 same_pieces ls (s ∷ ms) = ap (λ xs. pieces_of ls s ++ xs) (same_pieces ls ms)
 

@@ -1,8 +1,7 @@
 -- Leaving out the arcs that no line uses changes nothing of what is decoded.
-use Rattle.std.proofs.Common.{◌≡◌, ℕ, zero, suc, ◌+◌, ◌==◌, ℤ, pos, negsuc, Bool, true, false, cond, bytes_eq, List, [], ◌∷◌, map, reverse, Option, None, Some, refl, ap, ◌∙◌, arith, inl, inr}
+use Rattle.std.proofs.Common.{◌≡◌, ℕ, zero, suc, ◌+◌, ◌==◌, ℤ, pos, negsuc, Bool, true, false, cond, bytes_eq, List, [], ◌∷◌, map, reverse, Option, None, Some, refl, ap, ◌∙◌, arith}
 use Rattle.std.specs.List.{AllByRecursion, list_any}
 use Rattle.std.proofs.lemmas.Bool.Decides.{nat_tests}
-use Rattle.cutter.specs.Places.{In}
 use Rattle.cutter.proofs.Starts.{any_of}
 use Rattle.geojson_types.specs.declared.layer.FeatureSet.TheVariants as set
 use Rattle.geojson_types.specs.Lists.{map_some, then_some}
@@ -20,7 +19,7 @@ use Rattle.topo_types.specs.Topologies.{TopoShape, Contents, object_features, fe
 use Rattle.topo_types.specs.Transforms.{place, place_on}
 use Rattle.geojson_types.specs.Features.{Featured, Shape}
 use Rattle.built_topology.specs.Trimming.{is_used, keep_from, rank_from, renumbered, line_renumbered, feature_renumbered, object_renumbered, trimmed}
-use Rattle.built_topology.proofs.Lists.{weaker}
+use Rattle.built_topology.proofs.Lists.{weaker, all_of}
 
 -- ---- each arc that is kept is found again
 
@@ -58,14 +57,10 @@ all_renumbered used arcs (r ∷ refs) h = rw (renumbered_at used arcs r h.0, all
 
 -- ---- each index of a line of the objects is used
 
-each_in : {X : Type 0} (P : X → Type 0) (xs : List X) → ((x : X) → In x xs → P x) → AllByRecursion P xs
-each_in P [] f = tt
-each_in P (x ∷ xs) f = (f x (inl refl), each_in P xs (λ y k. f y (inr k)))
-
 pub all_used : (os : List (List ℕ × TopoObject)) → AllByRecursion (AllUsed (is_used os)) (objects_strokes os)
 all_used os =
-    each_in (AllUsed (is_used os)) (objects_strokes os)
-    (λ b k. each_in (IsUsed (is_used os)) b.1
+    all_of (AllUsed (is_used os)) (objects_strokes os)
+    (λ b k. all_of (IsUsed (is_used os)) b.1
     (λ r m. any_of (λ c. list_any (λ s. number_of s == number_of r) c.1) b (objects_strokes os) k
     (any_of (λ s. number_of s == number_of r) r b.1 m (itself (number_of r)))))
   where

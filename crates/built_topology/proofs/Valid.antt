@@ -1,5 +1,6 @@
 -- The topology that is built of layers is valid.
-use Rattle.std.proofs.Common.{◌≡◌, ℕ, ◌≤◌, ℤ, Bool, true, false, List, [], ◌∷◌, map, length, Option, None, Some, suc, refl, sym, ap, ◌∙◌, subst, if◌then◌else◌}
+use Rattle.std.proofs.Common.{◌≡◌, ℕ, ◌≤◌, ℤ, Bool, true, false, List, [], ◌∷◌, map, length, Option, None, Some, refl, sym, ap, ◌∙◌, subst, if◌then◌else◌}
+use Rattle.std.proofs.lemmas.List.{length-map}
 use Rattle.std.specs.List.{AllByRecursion}
 use Rattle.arc_table.specs.Arcs.{index_in}
 use Rattle.cutter.specs.Pieces.{split_at, start_in, turned, pieces_of, rejoined}
@@ -25,7 +26,7 @@ use Rattle.topo_types.specs.Topologies.{objects_strokes}
 use Rattle.topo_types.specs.Topologies as topology
 use Rattle.topo_types.specs.Validity.{is_full_option, option_places, IsFeature, IsObject, AreDistinct, AreInRange, IsJoined, IsClosed, IsArc, IsTopology}
 use Rattle.built_topology.specs.Built.{all_arcs, kept_refs, built}
-use Rattle.built_topology.specs.Expected.{unless, own_pieces}
+use Rattle.built_topology.specs.Expected.{unless, own_pieces, is_small}
 use Rattle.built_topology.specs.Laws.{IsSound, AreSound, IsValid, EachSegmentOnce}
 use Rattle.built_topology.specs.Layers.{Named, names_of, layers_of, features_strokes, named_strokes}
 use Rattle.built_topology.specs.Objects.{Kept, feature_by, features_by, objects_by}
@@ -105,10 +106,6 @@ module _ (kept : Kept) (X : Bool × List ℤ → Type 0) where
 
 -- ---- kept lines
 
-same_length : {A B : Type 0} (f : A → B) (xs : List A) → length (map f xs) ≡ length xs
-same_length f [] = refl
-same_length f (x ∷ xs) = ap suc (same_length f xs)
-
 -- the indexes name arcs that meet, and those of a ring close
 abbrev IsFine : List (List Point) → Bool × List ℤ → Type 0
 IsFine arcs b = AreInRange (length arcs) b.1 × IsJoined arcs b × IsClosed arcs b
@@ -123,11 +120,11 @@ module _ (lines : List Stroke) (t : ℕ) where
       some false x xs h = subst (λ z. is_some_list z ≡ true) (ap (or_else m) h) refl
 
       on : (b : Bool) (xs : List (List Point)) (c : Bool)
-          → unless (if c then Some Collapsed else (if is_short b (clean (rejoined (map (reduced t) xs))) then Some Small else None)) (map (index_in (all_arcs lines)) xs) ≡ Some m → is_some_list m ≡ true
+          → unless (if c then Some Collapsed else (if is_small b (rejoined (map (reduced t) xs)) then Some Small else None)) (map (index_in (all_arcs lines)) xs) ≡ Some m → is_some_list m ≡ true
       on b xs true h = cc
       on true [] false h = cc
       on false [] false h = cc
-      on b (x ∷ xs) false h = some (is_short b (clean (rejoined (map (reduced t) (x ∷ xs))))) (index_in (all_arcs lines) x) (map (index_in (all_arcs lines)) xs) h
+      on b (x ∷ xs) false h = some (is_small b (rejoined (map (reduced t) (x ∷ xs)))) (index_in (all_arcs lines) x) (map (index_in (all_arcs lines)) xs) h
 
   module _ (stay : EndsStay) (cleaned : AllClean lines) where
     abbrev arcs : List (List Point)
@@ -144,7 +141,7 @@ module _ (lines : List Stroke) (t : ℕ) where
 
     stroke_fine : (s : Stroke) → In s lines → IsFine fewer (s.closed, map (index_in arcs) (pieces_of lines s))
     stroke_fine s k = (
-      subst (λ n. AreInRange n (map (index_in arcs) (pieces_of lines s))) (sym (same_length (reduced t) arcs)) (ranged lines cleaned s k),
+      subst (λ n. AreInRange n (map (index_in arcs) (pieces_of lines s))) (sym (length-map arcs (reduced t))) (ranged lines cleaned s k),
       meet_as (arc_at fewer) (arc_at arcs) same_ends (map (index_in arcs) (pieces_of lines s)) (met lines cleaned s k),
       λ c. close_as (arc_at fewer) (arc_at arcs) same_ends (map (index_in arcs) (pieces_of lines s)) (closed lines cleaned s k c),
     )
@@ -153,7 +150,7 @@ module _ (lines : List Stroke) (t : ℕ) where
     line_fine b r = subst (λ x. IsFine fewer (x.0, map (index_in arcs) (plain_pieces x))) r.2 (stroke_fine r.0 r.1)
 
     kept_fine : (b : Bool × List Point) → StandsIn lines b → (m : List ℤ) → kept_refs lines t b.0 b.1 ≡ Some m → IsFine fewer (b.0, m)
-    kept_fine b stands m e = on (is_short b.0 (clean b.1)) (is_short b.0 (clean (rejoined (map (reduced t) (own_pieces lines b.0 b.1))))) refl e
+    kept_fine b stands m e = on (is_short b.0 (clean b.1)) (is_small b.0 (rejoined (map (reduced t) (own_pieces lines b.0 b.1)))) refl e
       where
         on : (c d : Bool) → is_short b.0 (clean b.1) ≡ c
             → unless (if c then Some Collapsed else (if d then Some Small else None)) (map (index_in arcs) (own_pieces lines b.0 b.1)) ≡ Some m → IsFine fewer (b.0, m)

@@ -39,22 +39,6 @@ pub points-points : (ps : List Point) → shape_points (g.MultiPoint ps) ≡ ps
 unfolding shape_points
 points-points ps = ap listed (sym (g.rolls-MultiPoint ps)) ∙ fold-roll-Geometry Point (List Point) (List Point) (List Point) points_step (Geometry-F.MultiPoint ps)
 
-pub points-line : (l : List Point) → shape_points (g.Line l) ≡ l
-unfolding shape_points
-points-line l = ap listed (sym (g.rolls-Line l)) ∙ fold-roll-Geometry Point (List Point) (List Point) (List Point) points_step (Geometry-F.Line l)
-
-pub points-lines : (ls : List (List Point)) → shape_points (g.Lines ls) ≡ joined ls
-unfolding shape_points
-points-lines ls = ap listed (sym (g.rolls-Lines ls)) ∙ fold-roll-Geometry Point (List Point) (List Point) (List Point) points_step (Geometry-F.Lines ls)
-
-pub points-area : (rs : List (List Point)) → shape_points (g.Area rs) ≡ joined rs
-unfolding shape_points
-points-area rs = ap listed (sym (g.rolls-Area rs)) ∙ fold-roll-Geometry Point (List Point) (List Point) (List Point) points_step (Geometry-F.Area rs)
-
-pub points-areas : (areas : List (List (List Point))) → shape_points (g.Areas areas) ≡ joined (joined areas)
-unfolding shape_points
-points-areas areas = ap listed (sym (g.rolls-Areas areas)) ∙ fold-roll-Geometry Point (List Point) (List Point) (List Point) points_step (Geometry-F.Areas areas)
-
 pub points-group : (ss : List Shape) → shape_points (g.Group ss) ≡ joined (map shape_points ss)
 unfolding shape_points
 points-group ss = ap listed (sym (g.rolls-Group ss)) ∙ fold-roll-Geometry Point (List Point) (List Point) (List Point) points_step (Geometry-F.Group ss)

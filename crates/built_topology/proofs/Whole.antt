@@ -18,7 +18,7 @@ use Rattle.linework.specs.Cuts.{is_cut}
 use Rattle.linework.specs.Linework.{linework}
 use Rattle.linework.specs.declared.stroke.Stroke.{Stroke}
 use Rattle.linework.proofs.Cleaned.{same_is}
-use Rattle.built_topology.specs.Expected.{cleaned, own_pieces, rebuilt, unless, kept_line}
+use Rattle.built_topology.specs.Expected.{cleaned, own_pieces, rebuilt, is_small, unless, kept_line}
 use Rattle.built_topology.specs.Laws.{whole_line, LosesNothing}
 use Rattle.built_topology.specs.Layers.{layers_of, named_strokes}
 use Rattle.built_topology.proofs.Linework.{Line, plain, clean_line, plain_pieces, StandsIn, all_clean, each_stands}
@@ -63,7 +63,7 @@ plain_start lines b = cond b.0 (turned (start_in (is_cut lines) b.1) b.1) b.1
 
 -- its pieces, joined again, are the line from its start, which is as long when it is cleaned
 abbrev IsWhole : List Stroke → Line → Type 0
-IsWhole lines b = (rejoined (plain_pieces lines b) ≡ plain_start lines b) × (is_short b.0 (clean (plain_start lines b)) ≡ is_short b.0 b.1)
+IsWhole lines b = (rejoined (plain_pieces lines b) ≡ plain_start lines b) × (is_small b.0 (plain_start lines b) ≡ is_short b.0 b.1)
 
 stroke_whole : (lines : List Stroke) (s : Stroke) → AllClean lines → In s lines → IsWhole lines (plain s)
 stroke_whole lines s h k = (
@@ -74,7 +74,7 @@ stroke_whole lines s h k = (
 
 -- ---- what is expected at a threshold of zero
 
-each_stays : ZeroLaw → (xs : List (List Point)) → map (reduced 0) xs ≡ xs
+pub each_stays : ZeroLaw → (xs : List (List Point)) → map (reduced 0) xs ≡ xs
 each_stays zero [] = refl
 each_stays zero (x ∷ xs) = ap (λ y. y ∷ map (reduced 0) xs) (zero x) ∙ ap (λ ys. x ∷ ys) (each_stays zero xs)
 
@@ -83,14 +83,14 @@ line_whole : ZeroLaw → (lines : List Stroke) → AllClean lines → (b : Line)
 line_whole zero lines h b stands = on (is_short b.0 (clean b.1)) refl
   where
     on : (c : Bool) → is_short b.0 (clean b.1) ≡ c →
-        unless (cond c (Some Collapsed) (cond (is_short b.0 (clean (rebuilt lines 0 b.0 b.1))) (Some Small) None)) (rebuilt lines 0 b.0 b.1)
+        unless (cond c (Some Collapsed) (cond (is_small b.0 (rebuilt lines 0 b.0 b.1)) (Some Small) None)) (rebuilt lines 0 b.0 b.1)
         ≡ cond c None (Some (from_start (is_cut lines) (cleaned b.0 b.1)))
     on true e = refl
     on false e =
         let s = stands e in
         let w : IsWhole lines (clean_line b) = subst (IsWhole lines) s.2 (stroke_whole lines s.0 h s.1) in
         let r : rebuilt lines 0 b.0 b.1 ≡ from_start (is_cut lines) (cleaned b.0 b.1) = ap rejoined (each_stays zero (own_pieces lines b.0 b.1)) ∙ w.0 in
-        let n : is_short b.0 (clean (rebuilt lines 0 b.0 b.1)) ≡ false = ap (λ l. is_short b.0 (clean l)) r ∙ w.1 ∙ e in
+        let n : is_small b.0 (rebuilt lines 0 b.0 b.1) ≡ false = ap (is_small b.0) r ∙ w.1 ∙ e in
         ap (λ c. unless (cond c (Some Small) None) (rebuilt lines 0 b.0 b.1)) n ∙ ap (λ l. Some l) r
 
 -- nothing is taken out

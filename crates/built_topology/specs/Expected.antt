@@ -31,10 +31,14 @@ own_pieces lines closed ps = pieces_of lines (cleaned closed ps)
 abbrev pub rebuilt : List Stroke → ℕ → Bool → List Point → List Point
 rebuilt lines t closed ps = rejoined (map (reduced t) (own_pieces lines closed ps))
 
+-- a rebuilt line is left with too few positions, with equal neighbours as one
+abbrev pub is_small : Bool → List Point → Bool
+is_small closed ps = is_short closed (clean ps)
+
 -- why it is dropped for its own sake: it has too few positions from the first, or else when it is rebuilt
 abbrev pub own_cause : List Stroke → ℕ → Bool → List Point → Option Cause
 own_cause lines t closed ps =
-    if is_short closed (clean ps) then Some Collapsed else (if is_short closed (clean (rebuilt lines t closed ps)) then Some Small else None)
+    if is_short closed (clean ps) then Some Collapsed else (if is_small closed (rebuilt lines t closed ps) then Some Small else None)
 
 -- what stands for a line, unless there is a cause to drop it
 abbrev pub unless : {A : Type 0} → Option Cause → A → Option A

@@ -1,4 +1,5 @@
 pub mod Built
+pub mod Candidates
 pub mod Expected
 pub mod Laws
 pub mod Layers

@@ -1,24 +1,27 @@
 -- What is assembled of layers and the table of their arcs is the topology that is built of them, where nothing is reduced.
-use Rattle.std.proofs.Common.{◌≡◌, ℕ, ℤ, Bool, true, false, List, [], ◌∷◌, ◌++◌, map, length, Option, None, Some, refl, sym, ap, ◌∙◌, if◌then◌else◌}
-use Rattle.std.specs.List.{AllByRecursion, flat_map}
+use Rattle.std.proofs.Common.{◌≡◌, ℕ, ℤ, Bool, true, false, not, ◌||◌, List, [], ◌∷◌, map, length, Option, None, Some, refl, sym, ap, ◌∙◌, if◌then◌else◌}
+use Rattle.std.specs.List.{AllByRecursion, list_any}
 use Rattle.arc_table.specs.Arcs.{ArcsAndIndexes, arcs_of, index_in, table_of}
 use Rattle.built_topology.specs.Built.{all_arcs, kept_refs, untrimmed, built}
-use Rattle.built_topology.specs.Expected.{own_pieces, rebuilt, own_cause, unless, option_omissions, expected_dropped}
+use Rattle.built_topology.specs.Candidates.{Candidate, fate, if_kept, named_candidates}
+use Rattle.built_topology.specs.Expected.{own_pieces, rebuilt, is_small, own_cause, unless, option_omissions, expected_dropped}
 use Rattle.built_topology.specs.Laws.{AreSound, LosesNothing}
 use Rattle.built_topology.specs.Layers.{Named, layers_of, features_strokes, named_strokes}
 use Rattle.built_topology.specs.Objects.{Kept, features_by, objects_by}
 use Rattle.built_topology.specs.Trimming.{is_used, keep_from, renumbered, line_renumbered, object_renumbered, trimmed}
-use Rattle.built_topology.proofs.Linework.{long_strokes, split_lists}
+use Rattle.built_topology.proofs.Candidates.{map_map, stroke, named_are, own_left, objects_left}
+use Rattle.built_topology.proofs.Linework.{long_of, long_strokes, split_lists}
 use Rattle.built_topology.proofs.Lists.{weaker}
+use Rattle.built_topology.proofs.Once.{same_pieces}
 use Rattle.built_topology.proofs.Renumbered.{kept_renumbered, objects_once}
-use Rattle.cutter.specs.Pieces.{pieces_of}
-use Rattle.cutter.specs.Slices.{split_of, all_pieces, piece_lists}
-use Rattle.effective_area.specs.Elimination.{reduced}
+use Rattle.built_topology.proofs.Whole.{each_stays}
+use Rattle.cutter.specs.Slices.{split_of, piece_lists}
 use Rattle.effective_area.specs.Laws.{ZeroLaw}
-use Rattle.geojson_types.specs.declared.address.Cause.TheVariants.{Collapsed, Small}
+use Rattle.geojson_types.specs.declared.address.Cause.{Cause}
+use Rattle.geojson_types.specs.declared.address.Cause.TheVariants.{Collapsed, Small, Outer}
 use Rattle.geojson_types.specs.Features.{Shape, Featured}
-use Rattle.geojson_types.specs.Lists.{then_some}
-use Rattle.geojson_types.specs.Omissions.{dropped_of_layers}
+use Rattle.geojson_types.specs.Lists.{map_some, then_some, with_some, some_of}
+use Rattle.geojson_types.specs.Omissions.{inner_cause, dropped_of_layers}
 use Rattle.geojson_types.specs.Points.{Point}
 use Rattle.geojson_types.specs.Pruning.{prune, option_strokes}
 use Rattle.geojson_types.proofs.Agreement.{all_left, all_right, agreed}
@@ -29,22 +32,11 @@ use Rattle.linework.specs.declared.stroke.Stroke.{Stroke}
 use Rattle.topo_types.specs.declared.object.TopoObject.{TopoObject}
 use Rattle.topo_types.specs.Topologies.{Contents}
 use Rattle.topo_model.specs.Drops.{short_cause, option_drops, drops}
-use Rattle.topo_model.specs.Entries.{Entries, entries_of, unless_short}
+use Rattle.topo_model.specs.Entries.{Entries, entries_of}
+use Rattle.topo_model.specs.Fates.{fates, dealt, dealt_kept}
+use Rattle.topo_model.specs.Marks.{names_arc, any_names_arc}
 use Rattle.topo_model.specs.Uses.{answers}
-
--- ---- lists
-
-map_map : {A B C : Type 0} (g : B → C) (f : A → B) (xs : List A) → map g (map f xs) ≡ map (λ x. g (f x)) xs
-map_map g f [] = refl
-map_map g f (x ∷ xs) = ap (λ ys. g (f x) ∷ ys) (map_map g f xs)
-
-everywhere : {A : Type 0} (X : A → Type 0) → ((a : A) → X a) → (xs : List A) → AllByRecursion X xs
-everywhere X f [] = tt
-everywhere X f (x ∷ xs) = (f x, everywhere X f xs)
-
-unreduced : ZeroLaw → (arcs : List (List Point)) → map (reduced 0) arcs ≡ arcs
-unreduced zero [] = refl
-unreduced zero (a ∷ arcs) = rw (zero a, unreduced zero arcs) refl
+use Rattle.topo_model.proofs.Ranked.{answers_same}
 
 -- ---- the table
 
@@ -59,26 +51,69 @@ refs_in lines closed ps = map (index_in (all_arcs lines)) (own_pieces lines clos
 abbrev pub IsTableOf : Named → ArcsAndIndexes → Type 0
 IsTableOf ls t = t ≡ table_of (map (split_of (linework (layers_of ls))) (linework (layers_of ls)))
 
-split_pieces : (lines ms : List Stroke) → all_pieces (map (split_of lines) ms) ≡ flat_map (pieces_of lines) ms
-split_pieces lines [] = refl
-split_pieces lines (s ∷ ms) = ap (λ ps. pieces_of lines s ++ ps) (split_pieces lines ms)
-
 table_arcs : (ls : Named) (t : ArcsAndIndexes) → IsTableOf ls t → t.arcs ≡ all_arcs (lines_of ls)
-table_arcs ls t is = ap (λ t. t.arcs) is ∙ ap arcs_of (split_pieces (lines_of ls) (lines_of ls))
+table_arcs ls t is = ap (λ t. t.arcs) is ∙ ap arcs_of (same_pieces (lines_of ls) (lines_of ls))
 
 table_refs : (ls : Named) (t : ArcsAndIndexes) → IsTableOf ls t → t.refs ≡ map (λ b. refs_in (lines_of ls) b.0 b.1) (long_strokes ls)
 table_refs ls t is =
     let lines = lines_of ls in
     ap (λ t. t.refs) is
-    ∙ ap (λ ps. map (map (index_in (arcs_of ps))) (piece_lists (map (split_of lines) lines))) (split_pieces lines lines)
+    ∙ ap (λ ps. map (map (index_in (arcs_of ps))) (piece_lists (map (split_of lines) lines))) (same_pieces lines lines)
     ∙ ap (map (map (index_in (all_arcs lines)))) (split_lists ls)
     ∙ map_map (map (index_in (all_arcs lines))) (λ (b : Bool × List Point). own_pieces lines b.0 b.1) (long_strokes ls)
 
--- the entries that are made of its indexes
-table_entries : (ls : Named) (t : ArcsAndIndexes) → IsTableOf ls t → (f : List ℤ → List ℤ)
-    → map (λ refs. Some (f refs)) t.refs ≡ entries_of (λ closed ps. Some (f (refs_in (lines_of ls) closed ps))) (named_strokes ls)
-table_entries ls t is f =
-    ap (map (λ refs. Some (f refs))) (table_refs ls t is) ∙ map_map (λ refs. Some (f refs)) (λ (b : Bool × List Point). refs_in (lines_of ls) b.0 b.1) (long_strokes ls)
+-- ---- fates
+
+-- a fate and what the linework has for it
+abbrev Deal : Type 0
+Deal = Option Cause × Option (List ℤ)
+
+abbrev Alone : Type 0
+Alone = Candidate (List Point)
+
+-- what the linework has for each line and ring is dealt to it
+dealt_all : {X : Type 0} (of : Bool → List Point → X) (cs : List Alone)
+    → dealt (fates cs) (map (λ (b : Bool × List Point). of b.0 b.1) (long_of (map stroke cs))) ≡ map (λ (c : Alone). (fate short_cause c, unless (short_cause c.closed c.line) (of c.closed c.line))) cs
+dealt_all of [] = refl
+dealt_all {X} of (c ∷ cs) =
+    on c.outer (is_short c.closed (clean c.line)) (long_of (map stroke cs)) (map (λ (c : Alone). (fate short_cause c, unless (short_cause c.closed c.line) (of c.closed c.line))) cs) (dealt_all of cs)
+  where
+    on : (o : Option Cause) (b : Bool) (long : List (Bool × List Point)) (all : List (Option Cause × Option X)) → dealt (fates cs) (map (λ (b : Bool × List Point). of b.0 b.1) long) ≡ all
+        → dealt (inner_cause o (if b then Some Collapsed else None) ∷ fates cs) (map (λ (b : Bool × List Point). of b.0 b.1) (if not b then stroke c ∷ long else long))
+        ≡ (inner_cause o (if b then Some Collapsed else None), unless (if b then Some Collapsed else None) (of c.closed c.line)) ∷ all
+    on None true long all ih = ap (λ (ds : List (Option Cause × Option X)). (Some Collapsed, None) ∷ ds) ih
+    on None false long all ih = ap (λ (ds : List (Option Cause × Option X)). (None, Some (of c.closed c.line)) ∷ ds) ih
+    on (Some d) true long all ih = ap (λ (ds : List (Option Cause × Option X)). (Some Collapsed, None) ∷ ds) ih
+    on (Some d) false long all ih = ap (λ (ds : List (Option Cause × Option X)). (Some Outer, Some (of c.closed c.line)) ∷ ds) ih
+
+module _ (why : Bool → List Point → Option Cause) (of : Bool → List Point → List ℤ) where
+  abbrev part : Candidate (List Point) → Deal
+  part c = (fate why c, unless (why c.closed c.line) (of c.closed c.line))
+
+  -- the arcs of those that are kept
+  kept_arcs_named : (i : ℕ) (cs : List (Candidate (List Point)))
+      → any_names_arc (some_of (λ (d : Deal). if_kept d.0 d.1) (map part cs)) i ≡ list_any (λ (b : Bool × List ℤ). names_arc b.1 i) (some_of (own_left why of) cs)
+  kept_arcs_named i [] = refl
+  kept_arcs_named i (c ∷ cs) =
+      on c.outer (why c.closed c.line) (some_of (λ (d : Deal). if_kept d.0 d.1) (map part cs)) (some_of (own_left why of) cs) (kept_arcs_named i cs)
+    where
+      on : (o w : Option Cause) (lists : List (List ℤ)) (left : List (Bool × List ℤ)) → any_names_arc lists i ≡ list_any (λ (b : Bool × List ℤ). names_arc b.1 i) left
+          → any_names_arc (with_some (if_kept (inner_cause o w) (unless w (of c.closed c.line))) lists) i
+          ≡ list_any (λ (b : Bool × List ℤ). names_arc b.1 i) (with_some (if_kept o (map_some (λ refs. (c.closed, refs)) (unless w (of c.closed c.line)))) left)
+      on None None lists left ih = ap (λ z. names_arc (of c.closed c.line) i || z) ih
+      on None (Some d) lists left ih = ih
+      on (Some d) None lists left ih = ih
+      on (Some d) (Some e) lists left ih = ih
+
+  -- the entries of all, with new indexes
+  entries_renumbered : (u : ℕ → Bool) (cs : List (Candidate (List Point)))
+      → map (λ (d : Deal). map_some (map (renumbered u)) d.1) (map part cs) ≡ entries_of (kept_renumbered u (λ closed ps. unless (why closed ps) (of closed ps))) (map stroke cs)
+  entries_renumbered u [] = refl
+  entries_renumbered u (c ∷ cs) = on (why c.closed c.line) _ _ (entries_renumbered u cs)
+    where
+      on : (w : Option Cause) (one two : Entries) → one ≡ two → map_some (map (renumbered u)) (unless w (of c.closed c.line)) ∷ one ≡ then_some (line_renumbered u c.closed) (unless w (of c.closed c.line)) ∷ two
+      on None one two ih = ap (λ (es : Entries). Some (map (renumbered u) (of c.closed c.line)) ∷ es) ih
+      on (Some d) one two ih = ap (λ (es : Entries). None ∷ es) ih
 
 -- ---- what is dropped
 
@@ -92,7 +127,7 @@ cause_by false false r w h = refl
 causes : LosesNothing → (ls : Named) → AreSound ls → AllByRecursion (λ b. own_cause (lines_of ls) 0 b.0 b.1 ≡ short_cause b.0 b.1) (named_strokes ls)
 causes whole ls sound =
     weaker _ (λ b. own_cause (lines_of ls) 0 b.0 b.1 ≡ short_cause b.0 b.1)
-    (λ b h. cause_by (is_short b.0 (clean b.1)) (is_short b.0 (clean (rebuilt (lines_of ls) 0 b.0 b.1))) (rebuilt (lines_of ls) 0 b.0 b.1) _ h)
+    (λ b h. cause_by (is_short b.0 (clean b.1)) (is_small b.0 (rebuilt (lines_of ls) 0 b.0 b.1)) (rebuilt (lines_of ls) 0 b.0 b.1) _ h)
     (named_strokes ls) (whole ls sound)
 
 module _ (lines : List Stroke) where
@@ -144,49 +179,54 @@ module _ (one two : Kept) where
 abbrev pub contents : List (List ℕ × TopoObject) → List (List Point) → Contents
 contents os arcs = record { objects = os; arcs = arcs; transform = None }
 
--- each line by its indexes
+-- each line by its indexes, unless it has too few positions
 abbrev each : Named → Kept
-each ls closed ps = Some (refs_in (lines_of ls) closed ps)
+each ls closed ps = unless (short_cause closed ps) (refs_in (lines_of ls) closed ps)
 
 -- the objects over all arcs
 abbrev whole_objects : Named → List (List ℕ × TopoObject)
-whole_objects ls = objects_by (unless_short (each ls)) ls
-
-unless_by : {A : Type 0} (b : Bool) (x : A) → (if b then None else Some x) ≡ unless (if b then Some Collapsed else None) x
-unless_by true x = refl
-unless_by false x = refl
+whole_objects ls = objects_by (each ls) ls
 
 before_trimming : ZeroLaw → LosesNothing → (ls : Named) → AreSound ls → contents (whole_objects ls) (all_arcs (lines_of ls)) ≡ untrimmed 0 ls
 before_trimming zero whole ls sound =
     let lines = lines_of ls in
-    ap (λ os. contents os (all_arcs lines)) (objects_agree (unless_short (each ls)) (kept_refs lines 0) ls
-    (weaker (λ b. own_cause lines 0 b.0 b.1 ≡ short_cause b.0 b.1) (λ b. unless_short (each ls) b.0 b.1 ≡ kept_refs lines 0 b.0 b.1)
-    (λ b h. unless_by (is_short b.0 (clean b.1)) (refs_in lines b.0 b.1) ∙ ap (λ c. unless c (refs_in lines b.0 b.1)) (sym h))
-    (named_strokes ls) (causes whole ls sound)))
-    ∙ ap (contents (untrimmed 0 ls).objects) (sym (unreduced zero (all_arcs lines)))
-
-then_by : (used : ℕ → Bool) (closed b : Bool) (refs : List ℤ) → (if b then None else Some (map (renumbered used) refs)) ≡ then_some (line_renumbered used closed) (if b then None else Some refs)
-then_by used closed true refs = refl
-then_by used closed false refs = refl
+    ap (λ os. contents os (all_arcs lines)) (objects_agree (each ls) (kept_refs lines 0) ls
+    (weaker (λ b. own_cause lines 0 b.0 b.1 ≡ short_cause b.0 b.1) (λ b. each ls b.0 b.1 ≡ kept_refs lines 0 b.0 b.1)
+    (λ b h. ap (λ c. unless c (refs_in lines b.0 b.1)) (sym h)) (named_strokes ls) (causes whole ls sound)))
+    ∙ ap (contents (untrimmed 0 ls).objects) (sym (each_stays zero (all_arcs lines)))
 
 module _ (zero : ZeroLaw) (whole : LosesNothing) (ls : Named) (sound : AreSound ls) (t : ArcsAndIndexes) (is : IsTableOf ls t) where
   abbrev used : ℕ → Bool
   used = is_used (whole_objects ls)
 
+  abbrev all : List (Candidate (List Point))
+  all = named_candidates (short_cause true) ls
+
+  table_dealt : dealt (fates all) t.refs ≡ map (part short_cause (refs_in (lines_of ls))) all
+  table_dealt =
+      ap (dealt (fates all)) (table_refs ls t is ∙ ap (λ ks. map (λ (b : Bool × List Point). refs_in (lines_of ls) b.0 b.1) (long_of ks)) (sym (named_are (short_cause true) ls)))
+      ∙ dealt_all (refs_in (lines_of ls)) all
+
   -- What the steps say of the flags of the arcs, of the entries with new indexes, of the arcs that are kept, and of the objects.
-  pub assembled : (flags : List Bool) (entries : Entries) (arcs : List (List Point)) (objects : List (List ℕ × TopoObject))
-      → ((kept : Kept) → map Some t.refs ≡ entries_of kept (named_strokes ls) → flags ≡ answers (is_used (objects_by (unless_short kept) ls)) 0 (length t.arcs))
-      → ((u : ℕ → Bool) → flags ≡ answers u 0 (length t.arcs) → entries ≡ map (λ refs. Some (map (renumbered u) refs)) t.refs)
+  pub assembled : (fs : List (Option Cause)) (flags : List Bool) (entries : Entries) (arcs : List (List Point)) (objects : List (List ℕ × TopoObject))
+      → fs ≡ fates all
+      → flags ≡ answers (any_names_arc (dealt_kept fs t.refs)) 0 (length t.arcs)
+      → ((u : ℕ → Bool) → flags ≡ answers u 0 (length t.arcs) → entries ≡ map (λ d. map_some (map (renumbered u)) d.1) (dealt fs t.refs))
       → ((u : ℕ → Bool) → flags ≡ answers u 0 (length t.arcs) → arcs ≡ keep_from u 0 t.arcs)
-      → ((kept : Kept) → entries ≡ entries_of kept (named_strokes ls) → objects ≡ objects_by (unless_short kept) ls)
+      → ((kept : Kept) → entries ≡ entries_of kept (named_strokes ls) → objects ≡ objects_by kept ls)
       → contents objects arcs ≡ built 0 ls
   unfolding built trimmed
-  assembled flags entries arcs objects of_flags of_entries of_arcs of_objects =
-      let marked = of_flags (each ls) (table_entries ls t is (λ refs. refs)) in
-      let made = of_objects (λ closed ps. Some (map (renumbered used) (refs_in (lines_of ls) closed ps))) (of_entries used marked ∙ table_entries ls t is (map (renumbered used)))
-      ∙ objects_agree (unless_short (λ closed ps. Some (map (renumbered used) (refs_in (lines_of ls) closed ps)))) (kept_renumbered used (unless_short (each ls))) ls
-      (everywhere _ (λ b. then_by used b.0 (is_short b.0 (clean b.1)) (refs_in (lines_of ls) b.0 b.1)) (named_strokes ls))
-      ∙ sym (objects_once used (unless_short (each ls)) ls) in
+  assembled fs flags entries arcs objects of_fates of_flags of_entries of_arcs of_objects =
+      let refs = refs_in (lines_of ls) in
+      let deal : dealt fs t.refs ≡ map (part short_cause refs) all = ap (λ gs. dealt gs t.refs) of_fates ∙ table_dealt in
+      let marked : flags ≡ answers used 0 (length t.arcs) =
+      of_flags ∙ answers_same (any_names_arc (dealt_kept fs t.refs)) used (λ i.
+      ap (λ (ds : List Deal). any_names_arc (some_of (λ (d : Deal). if_kept d.0 d.1) ds) i) deal ∙ kept_arcs_named short_cause refs i all
+      ∙ ap (list_any (λ (b : Bool × List ℤ). names_arc b.1 i)) (sym (objects_left short_cause refs ls))) 0 (length t.arcs) in
+      let made : objects ≡ map (λ o. (o.0, object_renumbered used o.1)) (whole_objects ls) =
+      of_objects (kept_renumbered used (each ls)) (of_entries used marked ∙ ap (map (λ (d : Deal). map_some (map (renumbered used)) d.1)) deal
+      ∙ entries_renumbered short_cause refs used all ∙ ap (entries_of (kept_renumbered used (each ls))) (named_are (short_cause true) ls))
+      ∙ sym (objects_once used (each ls) ls) in
       ap (λ os. contents os arcs) made
       ∙ ap (contents (map (λ o. (o.0, object_renumbered used o.1)) (whole_objects ls))) (of_arcs used marked ∙ ap (keep_from used 0) (table_arcs ls t is))
       ∙ ap trimmed (before_trimming zero whole ls sound)

@@ -1,4 +1,5 @@
 pub mod Assembled
+pub mod Dealt
 pub mod Marked
 pub mod Ranked
 pub mod Replaced

@@ -1,8 +1,8 @@
 -- Ranks of arcs, and the arcs that are kept.
-use Rattle.std.proofs.Common.{◌≡◌, ℕ, zero, suc, ◌+◌, ◌<◌, ◌≤◌, ℤ, pos, negsuc, ◌-ℤ◌, Bool, true, false, List, [], ◌∷◌, ◌++◌, length, map, take, get_or, if◌then◌else◌, refl, sym, ap, ◌∙◌, arith, append-nil}
+use Rattle.std.proofs.Common.{◌≡◌, ℕ, zero, suc, ◌+◌, ◌<◌, ◌≤◌, ℤ, pos, negsuc, ◌-ℤ◌, Bool, true, false, List, [], ◌∷◌, ◌++◌, length, take, get_or, if◌then◌else◌, refl, sym, ap, ◌∙◌, arith, append-nil}
 use Rattle.std.specs.Prelude.{slice_get, Some}
-use Rattle.std.proofs.lemmas.List.{map-append, length-take}
-use Rattle.std.proofs.lemmas.Option.{slice_get-get_or}
+use Rattle.std.proofs.lemmas.List.{length-take, take_more}
+use Rattle.std.proofs.lemmas.Option.{slice_get-get_or, slice_get_within, get_or_from_slice_get}
 use Rattle.built_topology.specs.Trimming.{keep_from, rank_from, renumbered}
 use Rattle.topo_types.specs.Joins.{number_of, is_reversed}
 use Rattle.topo_model.specs.Uses.{answers}
@@ -23,6 +23,10 @@ answers_get f n (suc count) (suc i) k d e lt = answers_get f (suc n) count i k d
 
 pub answers_at : {X : Type 0} (f : ℕ → X) (xs : List X) (count i : ℕ) (d x : X) → xs ≡ answers f 0 count → i < count → get_or xs i d ≡ x → f i ≡ x
 answers_at f xs count i d x are lt is = sym (ap (λ ys. get_or ys i d) are ∙ answers_get f 0 count i i d (omega arith) lt) ∙ is
+
+pub answers_same : {X : Type 0} (f g : ℕ → X) → ((i : ℕ) → f i ≡ g i) → (n count : ℕ) → answers f n count ≡ answers g n count
+answers_same f g same n zero = refl
+answers_same f g same n (suc count) = rw (same n, answers_same f g same (suc n) count) refl
 
 -- ---- ranks
 
@@ -103,15 +107,8 @@ kept_backwards u (negsuc i) rank turned e b t = t ∙ ap (λ z. negsuc 0 -ℤ z)
 
 -- ---- lists read by number
 
-pub take_got : {X : Type 0} (xs : List X) (i : ℕ) (x : X) → slice_get xs i ≡ Some x → take (i + 1) xs ≡ take i xs ++ (x ∷ [])
-take_got [] i x e = cc
-take_got (y ∷ ys) zero x e = ap (λ z. z ∷ []) (some_is e)
-  where
-    some_is : Some y ≡ Some x → y ≡ x
-    some_is e = cc
-take_got (y ∷ ys) (suc i) x e =
-    let m : suc i + 1 ≡ suc (i + 1) = omega arith in
-    ap (λ n. take n (y ∷ ys)) m ∙ ap (λ l. y ∷ l) (take_got ys i x e)
+take_got : {X : Type 0} (xs : List X) (i : ℕ) (x : X) → slice_get xs i ≡ Some x → take (i + 1) xs ≡ take i xs ++ (x ∷ [])
+take_got xs i x got = take_more xs i x (slice_get_within xs i x got) ∙ ap (λ y. take i xs ++ (y ∷ [])) (get_or_from_slice_get xs i x x got)
 
 -- ---- arcs that are kept
 
@@ -145,10 +142,3 @@ kept_less used (a ∷ arcs) kept i lt is so_far =
 pub kept_one : {X : Type 0} (used : List Bool) (arcs kept more : List X) (i : ℕ) (arc copy : X) → i < length arcs → slice_get arcs i ≡ Some arc → get_or used i false ≡ true → more ≡ kept ++ copy ∷ [] → copy ≡ arc
     → AreKept used arcs i kept → AreKept used arcs (i + 1) more
 kept_one used arcs kept more i arc copy lt got is m same so_far = kept_more used arcs kept more i true arc lt got is (m ∙ ap (λ a. kept ++ a ∷ []) same) so_far
-
--- ---- lines by number
-
-pub line_more : {X Y : Type 0} (made : X → Y) (xs : List X) (ys more : List Y) (i : ℕ) (x : X) (y : Y) → slice_get xs i ≡ Some x → ys ≡ map made (take i xs) → more ≡ ys ++ y ∷ [] → y ≡ made x
-    → more ≡ map made (take (i + 1) xs)
-line_more made xs ys more i x y got so_far m is =
-    m ∙ ap (λ zs. zs ++ y ∷ []) so_far ∙ ap (λ z. map made (take i xs) ++ z ∷ []) is ∙ sym (ap (map made) (take_got xs i x got) ∙ map-append made (take i xs) (x ∷ []))

@@ -8,7 +8,7 @@ use Rattle.geojson_types.specs.Pruning.{area_by, prune, strokes, option_strokes}
 use Rattle.geojson_types.proofs.Cases.{prune-point, prune-points, prune-line, prune-lines, prune-area, prune-areas, prune-group, strokes-point, strokes-points, strokes-line, strokes-lines, strokes-area, strokes-areas, strokes-group}
 use Rattle.topo_types.specs.Topologies.{TopoShape}
 use Rattle.built_topology.specs.Objects.{Kept}
-use Rattle.topo_model.specs.Entries.{Entries, entries_of, unless_short, Replaces}
+use Rattle.topo_model.specs.Entries.{Entries, entries_of, Replaces}
 use Rattle.topo_model.proofs.Taking.{Taken, tagged, SoFar, ends}
 
 -- the shape with its lines and rings replaced
@@ -29,11 +29,11 @@ again : {Y : Type 0} (s : Shape) (ls : List (Bool × List Point)) (made : Kept �
     → ((kept : Kept) → pruned kept s ≡ finish (made kept)) → Replaces ls made entries y rest → Shaped s entries (finish y) rest
 again s ls made finish entries rest y e same r kept tail h =
     let k = r kept tail (h ∙ ap (λ zs. entries_of kept zs ++ tail) e) in
-    (ap finish k.0 ∙ sym (same (unless_short kept)), k.1)
+    (ap finish k.0 ∙ sym (same kept), k.1)
 
 pub at_point : (s : Shape) (p q : Point) (entries : Entries) → s ≡ g.Point p → q ≡ p → Shaped s entries (Some (g.Point q)) entries
 at_point s p q entries e is kept tail h =
-    (ap (λ z. Some (g.Point z)) is ∙ sym (ap (pruned (unless_short kept)) e ∙ prune-point (λ p. p) (unless_short kept) p), h ∙ ap (λ zs. entries_of kept zs ++ tail) (ap strokes e ∙ strokes-point Point (List Point) p))
+    (ap (λ z. Some (g.Point z)) is ∙ sym (ap (pruned kept) e ∙ prune-point (λ p. p) kept p), h ∙ ap (λ zs. entries_of kept zs ++ tail) (ap strokes e ∙ strokes-point Point (List Point) p))
 
 map_same : (ps : List Point) → map (λ p. p) ps ≡ ps
 map_same [] = refl
@@ -41,7 +41,7 @@ map_same (p ∷ ps) = ap (λ qs. p ∷ qs) (map_same ps)
 
 pub at_points : (s : Shape) (ps qs : List Point) (entries : Entries) → s ≡ g.MultiPoint ps → qs ≡ ps → Shaped s entries (Some (g.MultiPoint qs)) entries
 at_points s ps qs entries e is kept tail h =
-    (ap (λ z. Some (g.MultiPoint z)) (is ∙ sym (map_same ps)) ∙ sym (ap (pruned (unless_short kept)) e ∙ prune-points (λ p. p) (unless_short kept) ps), h ∙ ap (λ zs. entries_of kept zs ++ tail) (ap strokes e ∙ strokes-points Point (List Point) ps))
+    (ap (λ z. Some (g.MultiPoint z)) (is ∙ sym (map_same ps)) ∙ sym (ap (pruned kept) e ∙ prune-points (λ p. p) kept ps), h ∙ ap (λ zs. entries_of kept zs ++ tail) (ap strokes e ∙ strokes-points Point (List Point) ps))
 
 pub at_line : (s : Shape) (l : List Point) (entries rest : Entries) (o : Option (List ℤ)) (out : Out) → s ≡ g.Line l → Taken false l entries o rest → out ≡ map_some g.Line o → Shaped s entries out rest
 at_line s l entries rest o out e r is =

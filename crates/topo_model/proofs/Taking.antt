@@ -1,33 +1,16 @@
 -- Entries that are taken one after another.
-use Rattle.std.proofs.Common.{◌≡◌, ℕ, ◌+◌, ◌<◌, ◌≤◌, ℤ, Bool, true, false, not, ◌==◌, List, [], ◌∷◌, ◌++◌, map, length, take, get_or, Option, None, Some, refl, sym, ap, ◌∙◌, arith, append-nil, append_assoc, if◌then◌else◌}
-use Rattle.std.specs.List.{filter}
+use Rattle.std.proofs.Common.{◌≡◌, ℕ, zero, suc, ◌+◌, ◌-◌, ◌<◌, ◌≤◌, ℤ, Bool, true, false, ◌==◌, List, [], ◌∷◌, ◌++◌, map, length, take, drop, get_or, Option, None, Some, refl, sym, ap, ◌∙◌, arith, append-nil, append_assoc}
 use Rattle.std.proofs.lemmas.Bool.Decides.{nat_tests}
 use Rattle.std.proofs.lemmas.List.{take_more, take_all, map-append}
-use Rattle.std.proofs.lemmas.List.Elements.{filter-append}
-use Rattle.geojson_types.specs.Lists.{map_some, with_some, some_of, joined}
+use Rattle.geojson_types.specs.Lists.{map_some, with_some, some_of, joined, tail}
+use Rattle.geojson_types.specs.Lists as lists
 use Rattle.geojson_types.specs.Points.{Point}
 use Rattle.geojson_types.specs.Pruning.{area_by}
-use Rattle.linework.specs.Cleaning.{clean, is_short}
 use Rattle.built_topology.specs.Objects.{Kept}
-use Rattle.topo_model.specs.Entries.{Entries, is_long, entries_of, unless_short, Replaces}
+use Rattle.built_topology.proofs.Candidates.{some_append}
+use Rattle.topo_model.specs.Entries.{Entries, next_of, entries_of, Replaces}
 
 -- ---- lists
-
-abbrev first_or : {A : Type 0} → A → List A → A
-first_or d [] = d
-first_or d (x ∷ xs) = x
-
-abbrev behind : {A : Type 0} → List A → List A
-behind [] = []
-behind (x ∷ xs) = xs
-
-some_append : {A B : Type 0} (f : A → Option B) (xs ys : List A) → some_of f (xs ++ ys) ≡ some_of f xs ++ some_of f ys
-some_append f [] ys = refl
-some_append f (x ∷ xs) ys = ap (with_some (f x)) (some_append f xs ys) ∙ on (f x) (some_of f xs) (some_of f ys)
-  where
-    on : {B : Type 0} (o : Option B) (zs ws : List B) → with_some o (zs ++ ws) ≡ with_some o zs ++ ws
-    on None zs ws = refl
-    on (Some b) zs ws = refl
 
 joined_append : {A : Type 0} (xs ys : List (List A)) → joined (xs ++ ys) ≡ joined xs ++ joined ys
 joined_append [] ys = refl
@@ -44,59 +27,89 @@ not_zero b n m e k h z = grind (arith, nat_tests)
 abbrev Line : Type 0
 Line = Bool × List Point
 
+abbrev pub tagged : Bool → List (List Point) → List Line
+tagged closed ls = map (λ l. (closed, l)) ls
+
 -- what is made of it
 abbrev pub Taken : Bool → List Point → Entries → Option (List ℤ) → Entries → Type 0
 Taken closed ps entries o rest = Replaces ((closed, ps) ∷ []) (λ kept. kept closed ps) entries o rest
 
-pub short_taken : (closed : Bool) (ps : List Point) (entries : Entries) → is_short closed (clean ps) ≡ true → Taken closed ps entries None entries
-short_taken closed ps entries short kept tail h =
-    (sym (ap (λ b. if b then None else kept closed ps) short), h ∙ ap (λ b. (map (λ (l : Line). kept l.0 l.1) (if not b then (closed, ps) ∷ [] else [])) ++ tail) short)
+pub one_taken : (closed : Bool) (ps : List Point) (entries : Entries) (o : Option (List ℤ)) (rest : Entries) → o ≡ next_of entries → rest ≡ tail entries → Taken closed ps entries o rest
+one_taken closed ps entries o rest is behind kept tail h = (is ∙ ap next_of h, behind ∙ ap lists.tail h)
 
-pub long_taken : (closed : Bool) (ps : List Point) (e : Option (List ℤ)) (entries rest : Entries) → is_short closed (clean ps) ≡ false → entries ≡ e ∷ rest → Taken closed ps entries e rest
-long_taken closed ps e entries rest long is kept tail h =
-    let k : e ∷ rest ≡ kept closed ps ∷ tail = sym is ∙ h ∙ ap (λ b. (map (λ (l : Line). kept l.0 l.1) (if not b then (closed, ps) ∷ [] else [])) ++ tail) long in
-    (ap (first_or e) k ∙ sym (ap (λ b. if b then None else kept closed ps) long), ap behind k)
+-- ---- so many entries
 
-pub none_taken : (closed : Bool) (ps : List Point) (entries : Entries) → is_short closed (clean ps) ≡ false → entries ≡ [] → Taken closed ps entries None entries
-none_taken closed ps entries long is kept tail h =
-    let k : [] ≡ kept closed ps ∷ tail = sym is ∙ h ∙ ap (λ b. (map (λ (l : Line). kept l.0 l.1) (if not b then (closed, ps) ∷ [] else [])) ++ tail) long in absurd cc
+one_kept : (entries : Entries) (i : ℕ) → some_of (λ e. e) (take (suc i) entries) ≡ some_of (λ e. e) (take i entries) ++ with_some (next_of (drop i entries)) []
+one_kept [] zero = refl
+one_kept [] (suc i) = refl
+one_kept (e ∷ es) zero = refl
+one_kept (e ∷ es) (suc i) = on e (one_kept es i)
+  where
+    on : (o : Option (List ℤ)) → some_of (λ e. e) (take (suc i) es) ≡ some_of (λ e. e) (take i es) ++ with_some (next_of (drop i es)) []
+        → with_some o (some_of (λ e. e) (take (suc i) es)) ≡ with_some o (some_of (λ e. e) (take i es)) ++ with_some (next_of (drop i es)) []
+    on None ih = ih
+    on (Some refs) ih = ap (λ zs. refs ∷ zs) ih
+
+tail_drop : {A : Type 0} (xs : List A) (i : ℕ) → tail (drop i xs) ≡ drop (suc i) xs
+tail_drop [] zero = refl
+tail_drop [] (suc i) = refl
+tail_drop (x ∷ xs) zero = refl
+tail_drop (x ∷ xs) (suc i) = tail_drop xs i
+
+-- what is kept of the first so many entries, and the entries behind them
+abbrev pub KeptOf : Entries → ℕ → List (List ℤ) → Entries → Type 0
+KeptOf entries i got rest = (got ≡ some_of (λ e. e) (take i entries)) × (rest ≡ drop i entries)
+
+pub entry_more : (entries : Entries) (i : ℕ) (got new : List (List ℤ)) (rest after : Entries) (o : Option (List ℤ)) → KeptOf entries i got rest → o ≡ next_of rest → after ≡ tail rest → new ≡ got ++ with_some o []
+    → KeptOf entries (i + 1) new after
+entry_more entries i got new rest after o so_far is behind e =
+    let next : suc i ≡ i + 1 = omega arith in (
+      e ∙ ap (λ z. got ++ with_some z []) (is ∙ ap next_of so_far.1) ∙ ap (λ zs. zs ++ with_some (next_of (drop i entries)) []) so_far.0 ∙ sym (one_kept entries i) ∙ ap (λ n. some_of (λ e. e) (take n entries)) next,
+      behind ∙ ap tail so_far.1 ∙ tail_drop entries i ∙ ap (λ n. drop n entries) next,
+    )
+
+front_kept : (kept : Kept) (closed : Bool) (ls : List (List Point)) (tail : Entries)
+    → some_of (λ e. e) (take (length ls) (entries_of kept (tagged closed ls) ++ tail)) ≡ some_of (kept closed) ls
+front_kept kept closed [] tail = refl
+front_kept kept closed (l ∷ ls) tail = ap (with_some (kept closed l)) (front_kept kept closed ls tail)
+
+front_dropped : (kept : Kept) (closed : Bool) (ls : List (List Point)) (tail : Entries) → drop (length ls) (entries_of kept (tagged closed ls) ++ tail) ≡ tail
+front_dropped kept closed [] tail = refl
+front_dropped kept closed (l ∷ ls) tail = front_dropped kept closed ls tail
+
+pub many_taken : (closed : Bool) (ls : List (List Point)) (entries : Entries) (got : List (List ℤ)) (rest : Entries) → got ≡ some_of (λ e. e) (take (length ls) entries) → rest ≡ drop (length ls) entries
+    → Replaces (tagged closed ls) (λ kept. some_of (kept closed) ls) entries got rest
+many_taken closed ls entries got rest is behind kept tail h = (
+  is ∙ ap (λ es. some_of (λ e. e) (take (length ls) es)) h ∙ front_kept kept closed ls tail,
+  behind ∙ ap (drop (length ls)) h ∙ front_dropped kept closed ls tail,
+)
 
 -- ---- lines and polygons
 
 pub entries_append : (kept : Kept) (ls ks : List Line) (tail : Entries) → entries_of kept (ls ++ ks) ++ tail ≡ entries_of kept ls ++ (entries_of kept ks ++ tail)
 entries_append kept ls ks tail =
-    ap (λ (bs : List Line). map (λ b. kept b.0 b.1) bs ++ tail) (filter-append is_long ls ks)
-    ∙ ap (λ zs. zs ++ tail) (map-append (λ (b : Line). kept b.0 b.1) (filter is_long ls) (filter is_long ks))
-    ∙ append_assoc (entries_of kept ls) (entries_of kept ks) tail
-
-abbrev pub tagged : Bool → List (List Point) → List Line
-tagged closed ls = map (λ l. (closed, l)) ls
-
--- each line in a list of its own
-abbrev pub alone : Bool → List Point → List Line
-alone closed l = (closed, l) ∷ []
-
-pub each_alone : (closed : Bool) (ls : List (List Point)) → joined (map (alone closed) ls) ≡ tagged closed ls
-each_alone closed [] = refl
-each_alone closed (l ∷ ls) = ap (λ zs. (closed, l) ∷ zs) (each_alone closed ls)
+    ap (λ zs. zs ++ tail) (map-append (λ (b : Line). kept b.0 b.1) ls ks) ∙ append_assoc (entries_of kept ls) (entries_of kept ks) tail
 
 abbrev Area : List (List Point) → Entries → Option (List (List ℤ)) → Entries → Type 0
 Area rs entries got rest = Replaces (tagged true rs) (λ kept. area_by (kept true) rs) entries got rest
 
-pub no_rings : (rs : List (List Point)) (entries : Entries) → rs ≡ [] → Area rs entries None entries
-no_rings rs entries is kept tail h = rw is (refl, h ∙ ap (λ zs. entries_of kept (tagged true zs) ++ tail) is)
+pub no_rings : (rs : List (List Point)) (entries : Entries) (empty : Bool) → empty ≡ (length rs == 0) → empty ≡ true → Area rs entries None entries
+no_rings [] entries empty e h kept tail k = (refl, k)
+no_rings (r ∷ rs) entries empty e h kept tail k = let none = is_empty empty (length (r ∷ rs)) (length (r ∷ rs)) e refl h in absurd (omega (arith, none))
 
 -- what is made of a polygon, whose outer ring comes first
 abbrev area_of : Option (List ℤ) → List (List ℤ) → Option (List (List ℤ))
 area_of outer holes = map_some (λ o. o ∷ holes) outer
 
-pub rings_taken : (rs : List (List Point)) (outer : List Point) (holes : List (List Point)) (entries mid rest : Entries) (o : Option (List ℤ)) (got : List (List ℤ)) (out : Option (List (List ℤ)))
-    → rs ≡ outer ∷ holes → Taken true outer entries o mid → Replaces (tagged true holes) (λ kept. some_of (kept true) holes) mid got rest → out ≡ map_some (λ o. o ∷ got) o → Area rs entries out rest
-rings_taken rs outer holes entries mid rest o got out is first more e kept tail h =
-    let a = first kept (entries_of kept (tagged true holes) ++ tail)
-    (h ∙ ap (λ zs. entries_of kept (tagged true zs) ++ tail) is ∙ entries_append kept (alone true outer) (tagged true holes) tail) in
-    let b = more kept tail a.1 in
-    (e ∙ ap (area_of o) b.0 ∙ ap (λ z. area_of z (some_of (unless_short kept true) holes)) a.0 ∙ sym (ap (area_by (unless_short kept true)) is), b.1)
+pub rings_taken : (rs : List (List Point)) (entries mid rest : Entries) (o : Option (List ℤ)) (got : List (List ℤ)) (out : Option (List (List ℤ))) (empty : Bool) (n : ℕ)
+    → empty ≡ (length rs == 0) → empty ≡ false → o ≡ next_of entries → mid ≡ tail entries → n ≡ length rs → got ≡ some_of (λ e. e) (take (n - 1) mid) → rest ≡ drop (n - 1) mid
+    → out ≡ map_some (λ o. o ∷ got) o → Area rs entries out rest
+rings_taken [] entries mid rest o got out empty n e h first behind many is left out_is kept tail k = absurd (not_zero empty 0 0 e refl h refl)
+rings_taken (outer ∷ holes) entries mid rest o got out empty n e h first behind many is left out_is kept tail k =
+    let count : n - 1 ≡ length holes = omega (arith, many) in
+    let a = one_taken true outer entries o mid first behind kept (entries_of kept (tagged true holes) ++ tail) k in
+    let b = many_taken true holes mid got rest (is ∙ ap (λ m. some_of (λ e. e) (take m mid)) count) (left ∙ ap (λ m. drop m mid) count) kept tail a.1 in
+    (out_is ∙ ap (area_of o) b.0 ∙ ap (λ z. area_of z (some_of (kept true) holes)) a.0, b.1)
 
 -- ---- a loop over parts, each with lines of its own
 
@@ -104,9 +117,6 @@ module _ {X Y : Type 0} (lines_of : X → List (Bool × List Point)) (made : Kep
   -- what a loop over parts has kept of the first of them
   abbrev pub SoFar : List X → ℕ → Entries → List Y → Entries → Type 0
   SoFar xs i entries got rest = Replaces (joined (map lines_of (take i xs))) (λ kept. some_of (made kept) (take i xs)) entries got rest
-
-  pub starts : (xs : List X) (entries : Entries) → SoFar xs 0 entries [] entries
-  starts xs entries kept tail h = (refl, h)
 
   one_more : (xs : List X) (i : ℕ) (x : X) → i < length xs → x ≡ get_or xs i x → take (i + 1) xs ≡ take i xs ++ x ∷ []
   one_more xs i x lt is = take_more xs i x lt ∙ ap (λ t. take i xs ++ t ∷ []) (sym is)
@@ -125,8 +135,8 @@ module _ {X Y : Type 0} (lines_of : X → List (Bool × List Point)) (made : Kep
       let apart = ap (λ ls. entries_of kept ls ++ tail) (lines_more xs i x lt is) ∙ entries_append kept all (lines_of x) tail in
       let before = so_far kept (entries_of kept (lines_of x) ++ tail) (h ∙ apart) in
       let now = here kept tail before.1 in (
-        e ∙ ap (λ zs. zs ++ with_some o []) before.0 ∙ ap (λ z. some_of (made (unless_short kept)) (take i xs) ++ with_some z []) now.0
-            ∙ sym (ap (some_of (made (unless_short kept))) (one_more xs i x lt is) ∙ some_append (made (unless_short kept)) (take i xs) (x ∷ [])),
+        e ∙ ap (λ zs. zs ++ with_some o []) before.0 ∙ ap (λ z. some_of (made kept) (take i xs) ++ with_some z []) now.0
+            ∙ sym (ap (some_of (made kept)) (one_more xs i x lt is) ∙ some_append (made kept) (take i xs) (x ∷ [])),
         now.1,
       )
 
@@ -135,7 +145,7 @@ module _ {X Y : Type 0} (lines_of : X → List (Bool × List Point)) (made : Kep
   ends xs i entries got rest le so_far kept tail h =
       let all = take_all i xs le in
       let r = so_far kept tail (h ∙ ap (λ ts. entries_of kept (joined (map lines_of ts)) ++ tail) (sym all)) in
-      (r.0 ∙ ap (some_of (made (unless_short kept))) all, r.1)
+      (r.0 ∙ ap (some_of (made kept)) all, r.1)
 
 -- ---- a loop over parts of which each gives one thing
 
@@ -143,9 +153,6 @@ module _ {X Y : Type 0} (lines_of : X → List (Bool × List Point)) (made : Kep
   -- what is made of all parts so far
   abbrev pub Mapped : List X → Entries → List Y → Entries → Type 0
   Mapped xs entries got rest = Replaces (joined (map lines_of xs)) (λ kept. map (made kept) xs) entries got rest
-
-  pub mapped_starts : (entries : Entries) → Mapped [] entries [] entries
-  mapped_starts entries kept tail h = (refl, h)
 
   pub mapped_more : (xs : List X) (x : X) (entries rest after : Entries) (got new : List Y) (o : Y) → Mapped xs entries got rest → Replaces (lines_of x) (λ kept. made kept x) rest o after
       → new ≡ got ++ o ∷ [] → Mapped (xs ++ x ∷ []) entries new after
@@ -156,10 +163,4 @@ module _ {X Y : Type 0} (lines_of : X → List (Bool × List Point)) (made : Kep
       let apart = ap (λ ls. entries_of kept ls ++ tail) lines ∙ entries_append kept all (lines_of x) tail in
       let before = so_far kept (entries_of kept (lines_of x) ++ tail) (h ∙ apart) in
       let now = here kept tail before.1 in
-      (e ∙ ap (λ zs. zs ++ o ∷ []) before.0 ∙ ap (λ z. map (made (unless_short kept)) xs ++ z ∷ []) now.0 ∙ sym (map-append (made (unless_short kept)) xs (x ∷ [])), now.1)
-
--- the lines of a list, each in a list of its own
-pub lines_end : (closed : Bool) (ls : List (List Point)) (i : ℕ) (entries : Entries) (got : List (List ℤ)) (rest : Entries) → length ls ≤ i → SoFar (alone closed) (λ kept. kept closed) ls i entries got rest
-    → Replaces (tagged closed ls) (λ kept. some_of (kept closed) ls) entries got rest
-lines_end closed ls i entries got rest le so_far =
-    rw (sym (each_alone closed ls)) (ends (alone closed) (λ kept. kept closed) ls i entries got rest le so_far)
+      (e ∙ ap (λ zs. zs ++ o ∷ []) before.0 ∙ ap (λ z. map (made kept) xs ++ z ∷ []) now.0 ∙ sym (map-append (made kept) xs (x ∷ [])), now.1)

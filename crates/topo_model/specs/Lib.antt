@@ -1,4 +1,5 @@
 pub mod Drops
 pub mod Entries
+pub mod Fates
 pub mod Marks
 pub mod Uses

@@ -1,6 +1,7 @@
 -- The arcs that arc indexes name, and flags that are set for numbers that pass.
-use Rattle.std.specs.Prelude.{ℕ, suc, ◌==◌, ℤ, Bool, ◌||◌, List, [], ◌∷◌}
+use Rattle.std.specs.Prelude.{ℕ, suc, ◌==◌, ℤ, Bool, false, ◌||◌, List, [], ◌∷◌, Option, None, Some}
 use Rattle.std.specs.List.{list_any}
+use Rattle.geojson_types.specs.declared.address.Cause.{Cause}
 use Rattle.topo_types.specs.Joins.{number_of}
 
 -- one of the indexes names the arc of this number
@@ -11,9 +12,10 @@ names_arc refs i = list_any (λ r. number_of r == i) refs
 abbrev pub any_names_arc : List (List ℤ) → ℕ → Bool
 any_names_arc lists i = list_any (λ refs. names_arc refs i) lists
 
--- an index of one of the lines and rings does
-abbrev pub uses_arc : List (Bool × List ℤ) → ℕ → Bool
-uses_arc lines i = list_any (λ b. names_arc b.1 i) lines
+-- an index of a line or ring with this fate does, if it is kept
+abbrev pub kept_names_arc : Option Cause → List ℤ → ℕ → Bool
+kept_names_arc None refs i = names_arc refs i
+kept_names_arc (Some c) refs i = false
 
 -- the flags of the numbers from this one on, set too where the number passes
 abbrev pub also_set : (ℕ → Bool) → ℕ → List Bool → List Bool

@@ -1,5 +1,5 @@
 // The objects of a topology, made of layers, and the topology.
-ghost use Rattle.std.specs.Prelude.{◌≡◌, ◌<◌, ◌^◌, IfOk, length, map};
+ghost use Rattle.std.specs.Prelude.{◌≡◌, ◌<◌, ◌^◌, IfOk, None, length, map};
 ghost use Rattle.arc_table.specs.Arcs.{table_of};
 ghost use Rattle.built_topology.specs.Built.{built};
 ghost use Rattle.built_topology.specs.Expected.{expected_dropped};
@@ -10,13 +10,13 @@ ghost use Rattle.cutter.specs.Slices.{split_of};
 ghost use Rattle.geojson_types.specs.Pruning.{option_strokes};
 ghost use Rattle.linework.specs.Linework.{linework};
 ghost use Rattle.topo_types.specs.Validity.{AreDistinct};
-ghost use Rattle.topo_model.specs.Entries.{Replaces, entries_of, unless_short};
+ghost use Rattle.topo_model.specs.Entries.{Replaces, entries_of};
 
-use crate::dropping::dropped_lines;
+use crate::dropping::fates_of;
 use crate::entries::Entry;
 use crate::marking::used_arcs;
 use crate::shapes::replaced_option;
-use crate::trimming::{entries_of_table, kept_arcs, renumbered_entries};
+use crate::trimming::{kept_arcs, renumbered_entries};
 use arc_table::Table;
 use built_topology::{built_is_valid, zero_loses_nothing};
 use byte_ends::Memory;
@@ -24,7 +24,7 @@ use effective_area::zero_law;
 use geojson_types::{Dropped, Feature, Layer};
 use json_value::{Items, OwnText};
 use std::alloc::Global;
-use topo_types::{TopoFeature, TopoObject, Topology};
+use topo_types::{Cell, TopoFeature, TopoObject, Topology};
 
 /// The feature with its lines replaced by the next entries, and the entries behind them. Identifier and properties are moved.
 fn object_feature<'a>(
@@ -81,16 +81,38 @@ fn named_objects<'a>(
 }
 
 /// The objects of named layers, a collection each, with each line and ring replaced by its entry. The entries stand for the lines
-/// and rings of all layers that have enough positions, in reading order.
+/// and rings of all layers in reading order.
 fn assemble_objects(
     alloc: Global,
     layers: Vec<(OwnText, Layer)>,
     entries: &[Entry],
 ) -> Result<Vec<(OwnText, TopoObject)>, Memory>
-    ensures { IfOk result (λ os. (kept : Kept) → entries.now ≡ entries_of kept (named_strokes layers.items) → os.items ≡ objects_by (unless_short kept) layers.items) }
+    ensures { IfOk result (λ os. (kept : Kept) → entries.now ≡ entries_of kept (named_strokes layers.items) → os.items ≡ objects_by kept layers.items) }
 {
     let (objects, _rest) = named_objects(alloc, layers, entries)?;
     Ok(objects)
+}
+
+/// The objects and the arcs of the topology of named layers, without the arcs that no kept line uses, and the lines and rings that
+/// are dropped, in reading order.
+fn objects_and_arcs(
+    alloc: Global,
+    layers: Vec<(OwnText, Layer)>,
+    table: &Table,
+) -> Result<(Vec<(OwnText, TopoObject)>, Vec<Items<Cell>>, Vec<Dropped>), Memory>
+    requires table { table.now ≡ table_of (map (split_of (linework (layers_of layers.items))) (linework (layers_of layers.items))) }
+    requires sound { AreSound layers.items }
+    ensures built { IfOk result (λ r. built 0 layers.items ≡ record { objects = r.0.items; arcs = r.1.items; transform = None }) }
+    ensures dropped { IfOk result (λ r. r.2.items ≡ expected_dropped 0 layers.items) }
+{
+    zero_law();
+    zero_loses_nothing();
+    let (causes, dropped) = fates_of(alloc, &layers)?;
+    let used = used_arcs(alloc, &causes, table)?;
+    let entries = renumbered_entries(alloc, &causes, table, &used)?;
+    let arcs = kept_arcs(alloc, table, &used)?;
+    let objects = assemble_objects(alloc, layers, &entries)?;
+    Ok((objects, arcs, dropped))
 }
 
 /// The topology of named layers over the arcs of their lines, without those that no kept line uses, and the lines and rings that
@@ -107,15 +129,8 @@ pub fn assemble(
     ensures dropped { IfOk result (λ r. r.1.items ≡ expected_dropped 0 layers.items) }
     ensures few { IfOk result (λ r. length r.0.arcs < 2 ^ 63) }
 {
-    zero_law();
-    zero_loses_nothing();
     built_is_valid();
-    let whole = entries_of_table(alloc, table)?;
-    let used = used_arcs(alloc, &layers, &whole, table.len())?;
-    let dropped = dropped_lines(alloc, &layers)?;
-    let entries = renumbered_entries(alloc, table, &used)?;
-    let arcs = kept_arcs(alloc, table, &used)?;
-    let objects = assemble_objects(alloc, layers, &entries)?;
+    let (objects, arcs, dropped) = objects_and_arcs(alloc, layers, table)?;
     let topology = Topology::of(Items::of(objects), Items::of(arcs), None);
     Ok((topology, dropped))
 }

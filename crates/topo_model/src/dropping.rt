@@ -1,11 +1,14 @@
-// The lines and rings that are dropped, with the places where they stand.
-ghost use Rattle.std.specs.Prelude.{◌≡◌, ℕ, ◌++◌, IfOk, OnOk, map, true, false};
+// What becomes of the lines and rings of layers: why each is dropped, if it is, and where those stand that are.
+ghost use Rattle.std.specs.Prelude.{◌≡◌, ℕ, ◌∷◌, [], ◌++◌, IfOk, OnOk, map, true, false};
+ghost use Rattle.built_topology.specs.Candidates.{area_candidates, candidates, features_candidates, free, named_candidates};
 ghost use Rattle.geojson_types.specs.declared.address.Address as declared;
+ghost use Rattle.geojson_types.specs.Lists.{joined};
 ghost use Rattle.geojson_types.specs.Omissions.{here, inner_cause, area_omissions, omissions};
 ghost use Rattle.geojson_types.specs.Paths.{of_parts};
 ghost use Rattle.linework.specs.Gathering.{part_address};
 ghost use Rattle.linework.specs.Linework.{feature_address};
 ghost use Rattle.topo_model.specs.Drops.{drops, dropped_at, layer_drops, short_cause};
+ghost use Rattle.topo_model.specs.Fates.{fates};
 
 use crate::lines::is_short_line;
 use byte_ends::Memory;
@@ -14,65 +17,82 @@ use json_value::{Items, OwnText};
 use std::alloc::Global;
 use std::marker::Model;
 
-/// The lines and rings of named layers that are dropped where nothing is reduced, in reading order.
-pub fn dropped_lines(alloc: Global, layers: &[(OwnText, Layer)]) -> Result<Vec<Dropped>, Memory>
-    ensures { IfOk result (λ ds. ds.items ≡ drops layers.now) }
+/// What becomes of the lines and rings of named layers where nothing is reduced: for each in reading order why it is dropped, if it
+/// is, and those that are dropped, with their places.
+pub fn fates_of(
+    alloc: Global,
+    layers: &[(OwnText, Layer)],
+) -> Result<(Vec<Option<Cause>>, Vec<Dropped>), Memory>
+    ensures causes { IfOk result (λ told. told.0.items ≡ fates (named_candidates (short_cause true) layers.now)) }
+    ensures dropped { IfOk result (λ told. told.1.items ≡ drops layers.now) }
 {
-    let mut dropped = Vec::new(alloc);
+    let mut told = Fates {
+        causes: Vec::new(alloc),
+        dropped: Vec::new(alloc),
+    };
     let mut place = Place::first(alloc);
-    for (number, (_name, layer)) in layers.iter().enumerate() {
+    for (number, layer) in layers.iter().enumerate() {
         add_layer(
             alloc,
             &mut place,
             number,
-            layer.features.as_slice(),
-            &mut dropped,
+            layer.1.features.as_slice(),
+            &mut told,
         )?;
     }
-    Ok(dropped)
+    Ok((told.causes, told.dropped))
 }
 
-// Adds those of the features of the layer with this number.
+// What becomes of lines and rings: why each is dropped, if it is, and those that are dropped.
+#[derive(Drop)]
+struct Fates {
+    causes: Vec<Option<Cause>>,
+    dropped: Vec<Dropped>,
+}
+
+// Adds what becomes of the lines and rings of the features of the layer with this number.
 fn add_layer(
     alloc: Global,
     place: &mut Place,
     layer: usize,
     features: &[Feature],
-    dropped: &mut Vec<Dropped>,
+    told: &mut Fates,
 ) -> Result<(), Memory>
-    ensures { OnOk result (dropped.new.items ≡ dropped.old.items ++ layer_drops layer 0 features.now) }
+    ensures causes { OnOk result (told.new.causes.items ≡ told.old.causes.items ++ fates (features_candidates (short_cause true) features.now)) }
+    ensures dropped { OnOk result (told.new.dropped.items ≡ told.old.dropped.items ++ layer_drops layer 0 features.now) }
 {
     for (number, feature) in features.iter().enumerate() {
         if let Some(shape) = feature.shape() {
             place.go_to(layer, number);
-            add_shape(alloc, place, shape, dropped)?;
+            add_shape(alloc, place, shape, told)?;
         }
     }
     Ok(())
 }
 
-// Adds those of the shape at this place.
-#[tactic(auto, using(crate::proofs::Told::of_line, crate::proofs::Told::of_lines, crate::proofs::Told::of_area, crate::proofs::Told::of_areas))]
+// Adds what becomes of those of the shape at this place.
+#[tactic(auto, using(crate::proofs::Told::of_line, crate::proofs::Told::of_lines, crate::proofs::Told::of_area, crate::proofs::Told::of_areas, crate::proofs::Told::fates_of_line, crate::proofs::Told::fates_of_lines, crate::proofs::Told::fates_of_area, crate::proofs::Told::fates_of_areas))]
 fn add_shape(
     alloc: Global,
     place: &mut Place,
     shape: &Shape,
-    dropped: &mut Vec<Dropped>,
+    told: &mut Fates,
 ) -> Result<(), Memory>
     ensures place { OnOk result (place.new ≡ place.old) }
-    ensures dropped { OnOk result (dropped.new.items ≡ dropped.old.items ++ dropped_at place.old (omissions short_cause shape.now)) }
+    ensures causes { OnOk result (told.new.causes.items ≡ told.old.causes.items ++ fates (candidates (short_cause true) shape.now)) }
+    ensures dropped { OnOk result (told.new.dropped.items ≡ told.old.dropped.items ++ dropped_at place.old (omissions short_cause shape.now)) }
 {
     match shape {
         Shape::Point(_) => Ok(()),
         Shape::MultiPoint(_) => Ok(()),
-        Shape::Line(line) => add_line(alloc, place, line.as_slice(), dropped),
-        Shape::Lines(parts) => add_lines(alloc, place, parts.as_slice(), dropped),
-        Shape::Area(rings) => add_rings(alloc, place, rings.as_slice(), dropped),
-        Shape::Areas(areas) => add_areas(alloc, place, areas.as_slice(), dropped),
+        Shape::Line(line) => add_line(alloc, place, line.as_slice(), told),
+        Shape::Lines(parts) => add_lines(alloc, place, parts.as_slice(), told),
+        Shape::Area(rings) => add_rings(alloc, place, rings.as_slice(), told),
+        Shape::Areas(areas) => add_areas(alloc, place, areas.as_slice(), told),
         Shape::Group(shapes) => {
             'shapes: for (number, shape) in shapes.as_slice().iter().enumerate() {
                 place.enter(number)?;
-                add_shape(alloc, place, shape, dropped)?;
+                add_shape(alloc, place, shape, told)?;
                 place.leave();
             }
             Ok(())
@@ -80,97 +100,89 @@ fn add_shape(
     }
 }
 
-// Adds those of the polygons at this place.
+// Adds what becomes of those of the polygons at this place.
 fn add_areas(
     alloc: Global,
     place: &mut Place,
     areas: &[Items<Ring>],
-    dropped: &mut Vec<Dropped>,
+    told: &mut Fates,
 ) -> Result<(), Memory>
     ensures place { OnOk result (place.new ≡ place.old) }
+    ensures causes { OnOk result (told.new.causes.items ≡ told.old.causes.items ++ fates (joined (map (area_candidates (short_cause true)) areas.now))) }
     ensures dropped { OnOk result
-        (dropped.new.items ≡ dropped.old.items ++ dropped_at place.old (of_parts 0 (map (area_omissions (short_cause true)) areas.now))) }
+        (told.new.dropped.items ≡ told.old.dropped.items ++ dropped_at place.old (of_parts 0 (map (area_omissions (short_cause true)) areas.now))) }
 {
     for (number, rings) in areas.iter().enumerate() {
         place.enter(number)?;
-        add_rings(alloc, place, rings.as_slice(), dropped)?;
+        add_rings(alloc, place, rings.as_slice(), told)?;
         place.leave();
     }
     Ok(())
 }
 
-// Adds those of the rings of the polygon at this place. With the outer ring each hole is dropped.
-fn add_rings(
-    alloc: Global,
-    place: &Place,
-    rings: &[Ring],
-    dropped: &mut Vec<Dropped>,
-) -> Result<(), Memory>
-    ensures { OnOk result (dropped.new.items ≡ dropped.old.items ++ dropped_at place.now (area_omissions (short_cause true) rings.now)) }
+// Adds what becomes of those of the rings of the polygon at this place. With the outer ring each hole is dropped.
+fn add_rings(alloc: Global, place: &Place, rings: &[Ring], told: &mut Fates) -> Result<(), Memory>
+    ensures causes { OnOk result (told.new.causes.items ≡ told.old.causes.items ++ fates (area_candidates (short_cause true) rings.now)) }
+    ensures dropped { OnOk result (told.new.dropped.items ≡ told.old.dropped.items ++ dropped_at place.now (area_omissions (short_cause true) rings.now)) }
 {
     let Some((outer, holes)) = rings.split_first() else {
         return Ok(());
     };
     let outer_cause = cause_of(true, outer.as_slice());
-    add_part(alloc, place, 0, outer_cause, dropped)?;
+    add_part(alloc, place, 0, outer_cause, told)?;
     for (number, hole) in holes.iter().enumerate() {
         let cause = hole_cause(outer_cause, cause_of(true, hole.as_slice()));
-        add_part(alloc, place, number + 1, cause, dropped)?;
+        add_part(alloc, place, number + 1, cause, told)?;
     }
     Ok(())
 }
 
-// Adds those of the lines at this place.
+// Adds what becomes of those of the lines at this place.
 fn add_lines(
     alloc: Global,
     place: &Place,
     parts: &[Items<Position>],
-    dropped: &mut Vec<Dropped>,
+    told: &mut Fates,
 ) -> Result<(), Memory>
-    ensures { OnOk result
-        (dropped.new.items ≡ dropped.old.items ++ dropped_at place.now (of_parts 0 (map (λ l. here (short_cause false l)) parts.now))) }
+    ensures causes { OnOk result (told.new.causes.items ≡ told.old.causes.items ++ fates (map (free false) parts.now)) }
+    ensures dropped { OnOk result
+        (told.new.dropped.items ≡ told.old.dropped.items ++ dropped_at place.now (of_parts 0 (map (λ l. here (short_cause false l)) parts.now))) }
 {
     for (number, line) in parts.iter().enumerate() {
-        add_part(
-            alloc,
-            place,
-            number,
-            cause_of(false, line.as_slice()),
-            dropped,
-        )?;
+        add_part(alloc, place, number, cause_of(false, line.as_slice()), told)?;
     }
     Ok(())
 }
 
-// Adds the line at this place, if it is dropped.
-fn add_line(
-    alloc: Global,
-    place: &Place,
-    line: &[Position],
-    dropped: &mut Vec<Dropped>,
-) -> Result<(), Memory>
-    ensures { OnOk result (dropped.new.items ≡ dropped.old.items ++ dropped_at place.now (here (short_cause false line.now))) }
+// Adds what becomes of the line at this place.
+fn add_line(alloc: Global, place: &Place, line: &[Position], told: &mut Fates) -> Result<(), Memory>
+    ensures causes { OnOk result (told.new.causes.items ≡ told.old.causes.items ++ short_cause false line.now ∷ []) }
+    ensures dropped { OnOk result (told.new.dropped.items ≡ told.old.dropped.items ++ dropped_at place.now (here (short_cause false line.now))) }
 {
-    if let Some(cause) = cause_of(false, line) {
+    let cause = cause_of(false, line);
+    told.causes.push(cause)?;
+    if let Some(cause) = cause {
         let address = place.address(alloc)?;
-        dropped.push(Dropped { address, cause })?;
+        told.dropped.push(Dropped { address, cause })?;
     }
     Ok(())
 }
 
-// Adds the part with this number of what stands at this place, if there is a cause to drop it.
+// Adds what becomes of the part with this number of what stands at this place.
 fn add_part(
     alloc: Global,
     place: &Place,
     number: usize,
     cause: Option<Cause>,
-    dropped: &mut Vec<Dropped>,
+    told: &mut Fates,
 ) -> Result<(), Memory>
-    ensures { OnOk result (dropped.new.items ≡ dropped.old.items ++ dropped_at (part_address place.now number) (here cause)) }
+    ensures causes { OnOk result (told.new.causes.items ≡ told.old.causes.items ++ cause ∷ []) }
+    ensures dropped { OnOk result (told.new.dropped.items ≡ told.old.dropped.items ++ dropped_at (part_address place.now number) (here cause)) }
 {
+    told.causes.push(cause)?;
     if let Some(cause) = cause {
         let address = place.part(alloc, number)?;
-        dropped.push(Dropped { address, cause })?;
+        told.dropped.push(Dropped { address, cause })?;
     }
     Ok(())
 }

@@ -1,11 +1,9 @@
-// Entries: what stands for each line and ring of the linework in reading order, if it is kept.
-ghost use Rattle.std.specs.Prelude.{◌≡◌, ◌∷◌, [], IfOk, false, map, true};
-ghost use Rattle.geojson_types.specs.Lists.{some_of};
-ghost use Rattle.topo_model.specs.Entries.{Replaces};
+// Entries: what stands for each line and ring in reading order, if it is kept.
+ghost use Rattle.std.specs.Prelude.{◌≡◌, IfOk, drop, take};
+ghost use Rattle.geojson_types.specs.Lists.{some_of, tail};
+ghost use Rattle.topo_model.specs.Entries.{next_of};
 
-use crate::lines::is_short_line;
 use byte_ends::Memory;
-use geojson_types::{Position, Ring};
 use json_value::Items;
 use std::alloc::Global;
 use topo_types::ArcRef;
@@ -14,7 +12,7 @@ use topo_types::ArcRef;
 pub type Entry = Option<Items<ArcRef>>;
 
 /// The same arc indexes once more.
-pub fn copied(alloc: Global, refs: &[ArcRef]) -> Result<Items<ArcRef>, Memory>
+fn copied(alloc: Global, refs: &[ArcRef]) -> Result<Items<ArcRef>, Memory>
     ensures { IfOk result (λ copy. copy ≡ refs.now) }
 {
     let mut copy = Vec::with_capacity(alloc, refs.len())?;
@@ -22,19 +20,11 @@ pub fn copied(alloc: Global, refs: &[ArcRef]) -> Result<Items<ArcRef>, Memory>
     Ok(Items::of(copy))
 }
 
-/// What stands for an open line or a ring, and the entries behind it: the first one, unless it has too few positions and so
-/// takes none. Where no entry is left it has none.
-pub fn next_entry<'a>(
-    alloc: Global,
-    closed: bool,
-    positions: &[Position],
-    entries: &'a [Entry],
-) -> Result<(Entry, &'a [Entry]), Memory>
-    ensures { IfOk result (λ r. Replaces ((closed, positions.now) ∷ []) (λ kept. kept closed positions.now) entries.now r.0 r.1.now) }
+/// What stands for the next line or ring, and the entries behind it. Where no entry is left it has none.
+pub fn next_entry<'a>(alloc: Global, entries: &'a [Entry]) -> Result<(Entry, &'a [Entry]), Memory>
+    ensures taken { IfOk result (λ r. r.0 ≡ next_of entries.now) }
+    ensures rest { IfOk result (λ r. r.1.now ≡ tail entries.now) }
 {
-    if is_short_line(closed, positions) {
-        return Ok((None, entries));
-    }
     let Some((entry, rest)) = entries.split_first() else {
         return Ok((None, entries));
     };
@@ -44,39 +34,19 @@ pub fn next_entry<'a>(
     }
 }
 
-/// What is kept of open lines, and the entries behind them.
-pub fn next_lines<'a>(
+/// What is kept of so many lines or rings, and the entries behind theirs.
+pub fn next_entries<'a>(
     alloc: Global,
-    lines: &[Items<Position>],
+    count: usize,
     entries: &'a [Entry],
 ) -> Result<(Vec<Items<ArcRef>>, &'a [Entry]), Memory>
-    ensures { IfOk result (λ r. Replaces (map (λ l. (false, l)) lines.now) (λ kept. some_of (kept false) lines.now) entries.now r.0.items r.1.now) }
+    ensures kept { IfOk result (λ r. r.0.items ≡ some_of (λ e. e) (take count entries.now)) }
+    ensures rest { IfOk result (λ r. r.1.now ≡ drop count entries.now) }
 {
     let mut kept = Vec::new(alloc);
     let mut rest = entries;
-    'lines: for line in lines {
-        let (entry, after) = next_entry(alloc, false, line.as_slice(), rest)?;
-        rest = after;
-        let Some(refs) = entry else {
-            continue;
-        };
-        kept.push(refs)?;
-    }
-    Ok((kept, rest))
-}
-
-/// What is kept of rings, and the entries behind them.
-pub fn next_rings<'a>(
-    alloc: Global,
-    rings: &[Ring],
-    entries: &'a [Entry],
-) -> Result<(Vec<Items<ArcRef>>, &'a [Entry]), Memory>
-    ensures { IfOk result (λ r. Replaces (map (λ l. (true, l)) rings.now) (λ kept. some_of (kept true) rings.now) entries.now r.0.items r.1.now) }
-{
-    let mut kept = Vec::new(alloc);
-    let mut rest = entries;
-    'rings: for ring in rings {
-        let (entry, after) = next_entry(alloc, true, ring.as_slice(), rest)?;
+    'entries: for _taken in 0..count {
+        let (entry, after) = next_entry(alloc, rest)?;
         rest = after;
         let Some(refs) = entry else {
             continue;

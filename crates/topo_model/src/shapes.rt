@@ -4,7 +4,7 @@ ghost use Rattle.geojson_types.specs.Lists.{joined, some_of, then_some};
 ghost use Rattle.geojson_types.specs.Pruning.{area_by, option_strokes, prune, strokes};
 ghost use Rattle.topo_model.specs.Entries.{Replaces};
 
-use crate::entries::{Entry, next_entry, next_lines, next_rings};
+use crate::entries::{Entry, next_entries, next_entry};
 use byte_ends::Memory;
 use geojson_types::{Geometry, Position, Ring, Shape};
 use json_value::Items;
@@ -30,11 +30,11 @@ fn area<'a>(
 ) -> Result<(Option<Items<Items<ArcRef>>>, &'a [Entry]), Memory>
     ensures { IfOk result (λ r. Replaces (map (λ l. (true, l)) rings.now) (λ kept. area_by (kept true) rings.now) entries.now r.0 r.1.now) }
 {
-    let Some((outer, holes)) = rings.split_first() else {
+    if rings.is_empty() {
         return Ok((None, entries));
-    };
-    let (outer, entries) = next_entry(alloc, true, outer.as_slice(), entries)?;
-    let (mut kept, rest) = next_rings(alloc, holes, entries)?;
+    }
+    let (outer, behind) = next_entry(alloc, entries)?;
+    let (mut kept, rest) = next_entries(alloc, rings.len() - 1, behind)?;
     let Some(outer) = outer else {
         return Ok((None, rest));
     };
@@ -77,15 +77,15 @@ pub fn replaced<'a>(
             Some(Geometry::MultiPoint(cells(alloc, positions.as_slice())?)),
             entries,
         )),
-        Geometry::Line(line) => {
-            let (refs, rest) = next_entry(alloc, false, line.as_slice(), entries)?;
+        Geometry::Line(_) => {
+            let (refs, rest) = next_entry(alloc, entries)?;
             match refs {
                 None => Ok((None, rest)),
                 Some(refs) => Ok((Some(Geometry::Line(refs)), rest)),
             }
         }
         Geometry::Lines(lines) => {
-            let (kept, rest) = next_lines(alloc, lines.as_slice(), entries)?;
+            let (kept, rest) = next_entries(alloc, lines.len(), entries)?;
             if kept.is_empty() {
                 return Ok((None, rest));
             }

@@ -1,14 +1,18 @@
 // The arcs that are used, and their new numbers.
-ghost use Rattle.std.specs.Prelude.{◌≡◌, ◌<◌, ℕ, Bool, IfOk, Some, length, map, negsuc, pos, ◌-ℤ◌};
+ghost use Rattle.std.specs.Prelude.{◌≡◌, ◌<◌, ℕ, Bool, IfOk, length, map, negsuc, pos, ◌-ℤ◌};
 ghost use Rattle.built_topology.specs.Trimming.{keep_from, rank_from, renumbered};
 ghost use Rattle.topo_types.specs.Joins.{number_of};
 ghost use Rattle.topo_types.specs.Validity.{AreInRange};
+ghost use Rattle.geojson_types.specs.Lists.{map_some};
+ghost use Rattle.topo_model.specs.Fates.{dealt};
 ghost use Rattle.topo_model.specs.Uses.{answers};
 
-use crate::entries::{Entry, copied};
+use crate::entries::Entry;
+use crate::marking::has_line;
 use crate::shapes::cells;
 use arc_table::Table;
 use byte_ends::Memory;
+use geojson_types::Cause;
 use json_value::Items;
 use std::alloc::Global;
 use topo_types::{ArcRef, Cell};
@@ -63,28 +67,29 @@ fn renumber_all(alloc: Global, refs: &[ArcRef], ranks: &[ArcRef]) -> Result<Item
     Ok(Items::of(made))
 }
 
-/// The arc indexes of each line and ring of the table, where only the arcs with a set flag are left.
-pub fn renumbered_entries(alloc: Global, table: &Table, used: &[bool]) -> Result<Vec<Entry>, Memory>
+/// What stands for each line and ring, by its fate: the arc indexes that the table has for it, where only the arcs with a set flag
+/// are left.
+pub fn renumbered_entries(
+    alloc: Global,
+    fates: &[Option<Cause>],
+    table: &Table,
+    used: &[bool],
+) -> Result<Vec<Entry>, Memory>
     requires { length used.now ≡ length table.now.arcs }
     ensures { IfOk result (λ entries. (u : ℕ → Bool) → used.now ≡ answers u 0 (length table.now.arcs)
-        → entries.items ≡ map (λ refs. Some (map (renumbered u) refs)) table.now.refs) }
+        → entries.items ≡ map (λ d. map_some (map (renumbered u)) d.1) (dealt fates.now table.now.refs)) }
 {
     table.law();
     let ranks = ranks(alloc, used)?;
-    let mut entries = Vec::with_capacity(alloc, table.lines())?;
-    'lines: for i in 0..table.lines() {
-        entries.push(Some(renumber_all(alloc, table.refs(i), &ranks)?))?;
-    }
-    Ok(entries)
-}
-
-/// The arc indexes of each line and ring of the table.
-pub fn entries_of_table(alloc: Global, table: &Table) -> Result<Vec<Entry>, Memory>
-    ensures { IfOk result (λ entries. entries.items ≡ map Some table.now.refs) }
-{
-    let mut entries = Vec::with_capacity(alloc, table.lines())?;
-    'lines: for i in 0..table.lines() {
-        entries.push(Some(copied(alloc, table.refs(i))?))?;
+    let mut entries = Vec::with_capacity(alloc, fates.len())?;
+    let mut next: usize = 0;
+    'fates: for fate in fates {
+        if !has_line(*fate, next, table.lines()) {
+            entries.push(None)?;
+            continue;
+        }
+        entries.push(Some(renumber_all(alloc, table.refs(next), &ranks)?))?;
+        next += 1;
     }
     Ok(entries)
 }

@@ -1,10 +1,13 @@
 use Rattle.std.proofs.Common.{◌≡◌, ◌++◌, false, map, drop}
+use Rattle.built_topology.specs.Candidates.{free}
 use Rattle.geojson_types.specs.Omissions.{here}
 use Rattle.geojson_types.specs.Paths.{of_parts}
 use Rattle.topo_model.specs.Drops.{dropped_at, short_cause}
+use Rattle.topo_model.specs.Fates.{fates}
 use Rattle.topo_model.proofs.dropping.add_lines.Given as goal
 
 abbrev pub invariant-loop-number : goal.invariant-loop-number
 invariant-loop-number l =
-    l.dropped.items ++ dropped_at l.place (of_parts l.number (map (λ l. here (short_cause false l)) (drop l.number l.parts)))
-    ≡ l.initial.dropped.items ++ dropped_at l.place (of_parts 0 (map (λ l. here (short_cause false l)) l.parts))
+    (l.told.causes.items ++ fates (map (free false) (drop l.number l.parts)) ≡ l.initial.told.causes.items ++ fates (map (free false) l.parts))
+    × (l.told.dropped.items ++ dropped_at l.place (of_parts l.number (map (λ l. here (short_cause false l)) (drop l.number l.parts)))
+    ≡ l.initial.told.dropped.items ++ dropped_at l.place (of_parts 0 (map (λ l. here (short_cause false l)) l.parts)))

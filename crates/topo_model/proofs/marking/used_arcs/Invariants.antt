@@ -1,6 +1,10 @@
-use Rattle.std.proofs.Common.{◌≡◌, false, length, replicate, take}
-use Rattle.topo_model.proofs.Marked.{LayersMarked}
+use Rattle.std.proofs.Common.{◌≡◌, false, length, replicate}
+use Rattle.topo_model.specs.Fates.{dealt_kept}
+use Rattle.topo_model.specs.Marks.{also_set, any_names_arc}
+use Rattle.topo_model.proofs.Marked.{Sets}
 use Rattle.topo_model.proofs.marking.used_arcs.Given as goal
 
-abbrev pub invariant-layers : goal.invariant-layers
-invariant-layers l = (length l.used.items ≡ l.count) × LayersMarked (take l.layer-index l.layers) (replicate l.count false) l.entries l.used.items l.rest
+abbrev pub invariant-fates : goal.invariant-fates
+invariant-fates l =
+    (length l.used.items ≡ length l.table.arcs)
+    × Sets l.fates l.table.refs l.fate-index l.next l.used.items (also_set (any_names_arc (dealt_kept l.fates l.table.refs)) 0 (replicate (length l.table.arcs) false))

@@ -1,15 +1,15 @@
-use Rattle.std.proofs.Common.{sym, ap, ◌∙◌, append-nil, [], ◌++◌}
+use Rattle.std.proofs.Common.{false, sym, ap, ◌∙◌, append-nil, [], ◌++◌}
 use Rattle.geojson_types.specs.declared.geometry.Geometry.TheVariants as g
 use Rattle.geojson_types.specs.Lists.{map_some, with_some}
 use Rattle.geojson_types.specs.Pruning.{prune, strokes}
 use Rattle.topo_model.proofs.Replaced as replaced
-use Rattle.topo_model.proofs.Taking.{turn, is_empty, not_zero}
+use Rattle.topo_model.proofs.Taking.{turn, is_empty, many_taken, not_zero, one_taken}
 use Rattle.topo_model.proofs.shapes.+replaced.Goals as goal
 
 pub returns-then-is_empty : goal.returns-then-is_empty
 returns-then-is_empty t c =
     replaced.at_lines c.args.shape.now c.in-Lines.lines c.args.entries.now c.in_ok-kept-in-Lines.rest.now c.in_ok-kept-in-Lines.kept.items _ c.in-Lines.is
-    (rw c.as_slice-in-Lines.ensures at c.in_ok-kept-in-Lines.ensures) (sym (replaced.none_of g.Lines c.in_ok-kept-in-Lines.kept.items (is_empty _ _ _ c.is_empty.ensures c.in_ok-kept-in-Lines.kept.ok.0 c.if-is_empty.true)))
+    (many_taken false c.in-Lines.lines c.args.entries.now c.in_ok-kept-in-Lines.kept.items c.in_ok-kept-in-Lines.rest.now (rw c.len.ensures at c.in_ok-kept-in-Lines.ensures.kept) (rw c.len.ensures at c.in_ok-kept-in-Lines.ensures.rest)) (sym (replaced.none_of g.Lines c.in_ok-kept-in-Lines.kept.items (is_empty _ _ _ c.is_empty.ensures c.in_ok-kept-in-Lines.kept.ok.0 c.if-is_empty.true)))
 
 pub returns-then-is_empty-2 : goal.returns-then-is_empty-2
 returns-then-is_empty-2 t c =
@@ -37,16 +37,16 @@ returns-in_ok-cells-in-MultiPoint t c =
 
 pub returns-in-None : goal.returns-in-None
 returns-in-None t c =
-    replaced.at_line c.args.shape.now c.in-Line.line c.args.entries.now c.in_ok-refs-in-Line.rest.now c.in_ok-refs-in-Line.refs _ c.in-Line.is (rw c.as_slice-in-Line.ensures at c.in_ok-refs-in-Line.ensures) (sym (ap (map_some g.Line) c.in-None.is))
+    replaced.at_line c.args.shape.now c.in-Line.field-0 c.args.entries.now c.in_ok-refs-in-Line.rest.now c.in_ok-refs-in-Line.refs _ c.in-Line.is (one_taken false c.in-Line.field-0 c.args.entries.now c.in_ok-refs-in-Line.refs c.in_ok-refs-in-Line.rest.now c.in_ok-refs-in-Line.ensures.taken c.in_ok-refs-in-Line.ensures.rest) (sym (ap (map_some g.Line) c.in-None.is))
 
 pub returns-in-Some : goal.returns-in-Some
 returns-in-Some t c =
-    replaced.at_line c.args.shape.now c.in-Line.line c.args.entries.now c.in_ok-refs-in-Line.rest.now c.in_ok-refs-in-Line.refs _ c.in-Line.is (rw c.as_slice-in-Line.ensures at c.in_ok-refs-in-Line.ensures) (sym (ap (map_some g.Line) c.in-Some.is))
+    replaced.at_line c.args.shape.now c.in-Line.field-0 c.args.entries.now c.in_ok-refs-in-Line.rest.now c.in_ok-refs-in-Line.refs _ c.in-Line.is (one_taken false c.in-Line.field-0 c.args.entries.now c.in_ok-refs-in-Line.refs c.in_ok-refs-in-Line.rest.now c.in_ok-refs-in-Line.ensures.taken c.in_ok-refs-in-Line.ensures.rest) (sym (ap (map_some g.Line) c.in-Some.is))
 
 pub returns-else-is_empty : goal.returns-else-is_empty
 returns-else-is_empty t c =
     replaced.at_lines c.args.shape.now c.in-Lines.lines c.args.entries.now c.in_ok-kept-in-Lines.rest.now c.in_ok-kept-in-Lines.kept.items _ c.in-Lines.is
-    (rw c.as_slice-in-Lines.ensures at c.in_ok-kept-in-Lines.ensures) (sym (replaced.some_left g.Lines c.in_ok-kept-in-Lines.kept.items c.of-in-Lines.result (not_zero _ _ _ c.is_empty.ensures c.in_ok-kept-in-Lines.kept.ok.0 c.if-is_empty.false) c.of-in-Lines.ensures))
+    (many_taken false c.in-Lines.lines c.args.entries.now c.in_ok-kept-in-Lines.kept.items c.in_ok-kept-in-Lines.rest.now (rw c.len.ensures at c.in_ok-kept-in-Lines.ensures.kept) (rw c.len.ensures at c.in_ok-kept-in-Lines.ensures.rest)) (sym (replaced.some_left g.Lines c.in_ok-kept-in-Lines.kept.items c.of-in-Lines.result (not_zero _ _ _ c.is_empty.ensures c.in_ok-kept-in-Lines.kept.ok.0 c.if-is_empty.false) c.of-in-Lines.ensures))
 
 pub returns-in-None-kept : goal.returns-in-None-kept
 returns-in-None-kept t c =

@@ -1,0 +1,32 @@
+-- What becomes of lines and rings where nothing is reduced, and which line of the linework stands for each.
+use Rattle.std.specs.Prelude.{Bool, true, false, List, [], ◌∷◌, map, Option, None, Some, if◌then◌else◌}
+use Rattle.built_topology.specs.Candidates.{Candidate, fate, if_kept}
+use Rattle.geojson_types.specs.declared.address.Cause.{Cause}
+use Rattle.geojson_types.specs.declared.address.Cause.TheVariants.{Collapsed, Small, Outer}
+use Rattle.geojson_types.specs.Lists.{some_of, tail}
+use Rattle.geojson_types.specs.Points.{Point}
+use Rattle.topo_model.specs.Drops.{short_cause}
+
+-- why each is left out, if it is
+abbrev pub fates : List (Candidate (List Point)) → List (Option Cause)
+fates cs = map (fate short_cause) cs
+
+-- it has too few positions, so that no line of the linework stands for it
+abbrev pub is_collapsed : Option Cause → Bool
+is_collapsed None = false
+is_collapsed (Some Collapsed) = true
+is_collapsed (Some Small) = false
+is_collapsed (Some Outer) = false
+
+abbrev pub first : {X : Type 0} → List X → Option X
+first [] = None
+first (x ∷ xs) = Some x
+
+-- each fate with what stands for its line or ring, where the list has this for each line of the linework
+abbrev pub dealt : {X : Type 0} → List (Option Cause) → List X → List (Option Cause × Option X)
+dealt [] xs = []
+dealt (f ∷ fs) xs = if is_collapsed f then (f, None) ∷ dealt fs xs else (f, first xs) ∷ dealt fs (tail xs)
+
+-- what stands for the lines and rings that are kept
+abbrev pub dealt_kept : {X : Type 0} → List (Option Cause) → List X → List X
+dealt_kept fs xs = some_of (λ d. if_kept d.0 d.1) (dealt fs xs)

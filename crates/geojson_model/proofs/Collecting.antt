@@ -1,20 +1,19 @@
 -- The turns of the loop over the geometries of a collection.
-use Rattle.std.proofs.Common.{◌≡◌, ℕ, ◌+◌, ◌<◌, ◌≤◌, Bool, List, [], ◌∷◌, ◌++◌, length, get_or, drop, Option, Some, None, Ok, Err, refl, sym, ap, ◌∙◌, subst}
+use Rattle.std.proofs.Common.{◌≡◌, ℕ, ◌+◌, ◌<◌, ◌≤◌, Bool, List, [], ◌∷◌, ◌++◌, length, get_or, drop, Option, Some, None, Ok, Err, refl, ap, ◌∙◌}
 use Rattle.std.specs.Prelude.{codes}
 use Rattle.json_value.specs.declared.json.Json.{Json}
 use Rattle.json_value.specs.Kinds.{array_of, object_of}
 use Rattle.geojson_types.specs.declared.counts.Counts.{Counts}
 use Rattle.geojson_types.specs.Features.{Shape}
+use Rattle.geojson_model.specs.declared.fault.GeoFaultKind.{GeoFaultKind}
 use Rattle.geojson_model.specs.declared.fault.GeoFaultKind.TheVariants.{WrongKind}
 use Rattle.geojson_model.specs.declared.types.CoordinatesType.{CoordinatesType}
 use Rattle.geojson_model.specs.declared.types.GeometryType.TheVariants.{Coordinates}
-use Rattle.geojson_model.specs.declared.fault.Stop.{Stop}
-use Rattle.geojson_model.specs.declared.fault.Stop.TheVariants as stop
-use Rattle.geojson_model.specs.Answers.{Fails}
 use Rattle.geojson_model.specs.Geometries.{shape, shapes, geometry, typed_geometry, coordinates_shape}
+use Rattle.json_members.specs.Members as members_by
 use Rattle.geojson_model.specs.Members.{need}
 use Rattle.geojson_model.specs.Reader.{Reader, kept}
-use Rattle.geojson_model.proofs.Gathering.{with_front, kept_turns, kept_skips, kept_fails, ends}
+use Rattle.json_members.proofs.Turns.{with_front, kept_turns, kept_skips, kept_fails, ends}
 use Rattle.geojson_model.proofs.Unrolled.{shapes_array, shape_object, shape_other}
 
 module _ (exact : Bool) (v : Json) (vs : List Json) (is : array_of v ≡ Some vs) (i : ℕ) (w : Json) (ys : List Shape) (before c : Counts)
@@ -23,14 +22,14 @@ module _ (exact : Bool) (v : Json) (vs : List Json) (is : array_of v ≡ Some vs
   at_shapes = ap (λ (r : Reader (List Shape)). r before) (shapes_array exact v vs is)
 
   pub not_object : object_of w ≡ None → shapes exact v before ≡ Err WrongKind
-  not_object e = at_shapes ∙ kept_fails (shape exact) vs i w ys c _ lt item now (stop.Fault WrongKind) (ap (λ (r : Reader (Option Shape)). r c) (shape_other exact w e))
+  not_object e = at_shapes ∙ kept_fails (shape exact) vs i w ys c _ lt item now WrongKind (ap (λ (r : Reader (Option Shape)). r c) (shape_other exact w e))
 
   module _ (ms : List (List ℕ × Json)) (members : object_of w ≡ Some ms) where
     at_shape : shape exact w c ≡ geometry exact ms c
     at_shape = ap (λ (r : Reader (Option Shape)). r c) (shape_object exact w ms members)
 
-    pub shape_fails : (e : Stop) → Fails e (geometry exact ms c) → Fails e (shapes exact v before)
-    shape_fails e f = subst (λ z. Fails e z) (sym at_shapes) (kept_fails (shape exact) vs i w ys c _ lt item now e (subst (λ z. Fails e z) (sym at_shape) f))
+    pub shape_fails : (e : GeoFaultKind) → geometry exact ms c ≡ Err e → shapes exact v before ≡ Err e
+    shape_fails e f = at_shapes ∙ kept_fails (shape exact) vs i w ys c _ lt item now e (at_shape ∙ f)
 
     pub shape_kept : (x : Shape) (after : Counts) → geometry exact ms c ≡ Ok (Some x, after) → with_front (ys ++ x ∷ []) (kept (shape exact) (drop (i + 1) vs) after) ≡ kept (shape exact) vs before
     shape_kept x after e = kept_turns (shape exact) vs i w ys c _ lt item now (Some x) after (at_shape ∙ e)
@@ -42,6 +41,6 @@ pub shapes_end : (exact : Bool) (v : Json) (vs : List Json) → array_of v ≡ S
 shapes_end exact v vs is i ys before c le now = ap (λ (r : Reader (List Shape)). r before) (shapes_array exact v vs is) ∙ ends _ vs i ys c _ le now
 
 -- a geometry with `coordinates` is what they give
-pub coordinates_are : (exact : Bool) (type : CoordinatesType) (ms : List (List ℕ × Json)) (v : Json) (c : Counts) → need (codes "coordinates") ms ≡ Ok v → typed_geometry exact (Coordinates type) ms c ≡ coordinates_shape exact type v c
-unfolding typed_geometry
+pub coordinates_are : (exact : Bool) (type : CoordinatesType) (ms : List (List ℕ × Json)) (v : Json) (c : Counts) → members_by.need (codes "coordinates") ms ≡ Ok v → typed_geometry exact (Coordinates type) ms c ≡ coordinates_shape exact type v c
+unfolding typed_geometry need
 coordinates_are exact type ms v c e = rw e refl

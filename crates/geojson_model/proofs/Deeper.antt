@@ -6,8 +6,9 @@ use Rattle.json_value.specs.declared.json.Json.TheVariants as j
 use Rattle.json_value.specs.Depth.{depth}
 use Rattle.json_value.specs.Kinds.{array_of, object_of}
 use Rattle.json_value.proofs.KindsOf.{object_of_is, object_of-object}
-use Rattle.geojson_model.specs.Members.{need}
-use Rattle.geojson_model.proofs.Inside.{Shallower, array_shallower, object_shallower, need_part}
+use Rattle.json_members.specs.Members.{need}
+use Rattle.json_members.proofs.Parts.{need_part}
+use Rattle.geojson_model.proofs.Inside.{Shallower, array_shallower, object_shallower}
 
 -- the depth of the object with these members
 abbrev pub object_depth : List (List ℕ × Json) → ℕ

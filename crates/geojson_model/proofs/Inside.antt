@@ -1,6 +1,6 @@
 -- What is inside a value is less deep, and has no other numbers.
-use Rattle.std.proofs.Common.{◌≡◌, ℕ, ◌<◌, Bool, true, false, cond, List, [], ◌∷◌, map, Option, Some, None, Result, Ok, Err, ap, ◌∙◌, subst, arith}
-use Rattle.std.specs.Prelude.{bytes_eq, flat_map}
+use Rattle.std.proofs.Common.{◌≡◌, ℕ, ◌<◌, List, [], ◌∷◌, map, Option, Some, Ok, ap, ◌∙◌, subst, arith}
+use Rattle.std.specs.Prelude.{flat_map}
 use Rattle.std.specs.List.{AllByRecursion}
 use Rattle.decimal_text.specs.Grammar.{IsNumber}
 use Rattle.json_value.specs.declared.json.Json.{Json}
@@ -11,9 +11,10 @@ use Rattle.json_value.proofs.Depths.{depth-array, depth-object}
 use Rattle.json_value.proofs.KindsOf.{array_of_is, object_of_is}
 use Rattle.json_value.proofs.NumbersOf.{numbers-array, numbers-object}
 use Rattle.geojson_types.proofs.Agreement.{all_left, all_right}
-use Rattle.geojson_model.specs.declared.fault.GeoFaultKind.{GeoFaultKind}
-use Rattle.geojson_model.specs.Members.{named, only, find, there, need}
-use Rattle.geojson_model.proofs.Yields.{IfThere}
+use Rattle.json_members.proofs.Parts as p
+use Rattle.json_members.specs.Members as members_by
+use Rattle.geojson_model.specs.Members.{lookup_fault, find, need}
+use Rattle.json_members.proofs.Yields.{IfThere}
 
 -- ---- depths
 
@@ -60,30 +61,9 @@ object_numbers v ms e h = parted (λ m. numbers_of m.1) ms (subst (AllByRecursio
 -- ---- members that are looked up
 
 module _ {V : Type 0} (P : V → Type 0) where
-  named_part : (name : List ℕ) (ms : List (List ℕ × V)) → AllByRecursion (λ m. P m.1) ms → AllByRecursion P (named name ms)
-  unfolding named
-  named_part name [] h = tt
-  named_part name (m ∷ ms) h = on (bytes_eq m.0 name) (named_part name ms h.1)
-    where
-      on : (b : Bool) → AllByRecursion P (named name ms) → AllByRecursion P (cond b (m.1 ∷ named name ms) (named name ms))
-      on true k = (h.0, k)
-      on false k = k
-
-  only_part : (vs : List V) (o : Option V) → only vs ≡ Ok o → AllByRecursion P vs → IfThere P o
-  only_part [] None e h = tt
-  only_part [] (Some v) e h = absurd cc
-  only_part (w ∷ []) None e h = tt
-  only_part (w ∷ []) (Some v) e h = let k : w ≡ v = cc in subst P k h.0
-  only_part (w ∷ x ∷ vs) o e h = absurd cc
-
   pub find_part : (name : List ℕ) (ms : List (List ℕ × V)) (o : Option V) → find name ms ≡ Ok o → AllByRecursion (λ m. P m.1) ms → IfThere P o
-  find_part name ms o e h = only_part (named name ms) o e (named_part name ms h)
-
-  there_is : (r : Result (Option V) GeoFaultKind) (v : V) → there r ≡ Ok v → r ≡ Ok (Some v)
-  there_is (Err e) v h = absurd cc
-  there_is (Ok None) v h = absurd cc
-  there_is (Ok (Some w)) v h = cc
+  find_part name ms o e h = p.find_part P name ms o (p.given lookup_fault (members_by.find name ms) o e) h
 
   pub need_part : (name : List ℕ) (ms : List (List ℕ × V)) (v : V) → need name ms ≡ Ok v → AllByRecursion (λ m. P m.1) ms → P v
   unfolding need
-  need_part name ms v e h = find_part name ms (Some v) (there_is (find name ms) v e) h
+  need_part name ms v e h = p.need_part P name ms v (p.given lookup_fault (members_by.need name ms) v e) h

@@ -1,11 +1,7 @@
 pub mod Collecting
 pub mod Deeper
-pub mod Featured
-pub mod Filling
-pub mod Gathering
 pub mod Inputs
 pub mod Inside
-pub mod Looking
 pub mod Numbered
 pub mod Proper
 pub mod Rows
@@ -18,6 +14,4 @@ pub mod SoundShapes
 pub mod Stricter
 pub mod StricterLayers
 pub mod StricterParts
-pub mod Taken
 pub mod Unrolled
-pub mod Yields

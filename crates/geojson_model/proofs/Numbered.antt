@@ -1,16 +1,13 @@
 -- The turns of the loop over the elements of `features`.
-use Rattle.std.proofs.Common.{◌≡◌, ◌≢◌, ℕ, ◌+◌, Bool, List, [], ◌∷◌, ◌++◌, length, Some, Result, Ok, Err, refl, sym, ap, ◌∙◌, append_assoc, append-nil, length-append}
+use Rattle.std.proofs.Common.{◌≡◌, ℕ, ◌+◌, Bool, List, [], ◌∷◌, ◌++◌, length, Some, Result, Ok, Err, refl, sym, ap, ◌∙◌, append_assoc, append-nil, length-append}
 use Rattle.json_value.specs.declared.json.Json.{Json}
 use Rattle.geojson_types.specs.declared.counts.Counts.{Counts}
 use Rattle.geojson_types.specs.Features.{Featured}
 use Rattle.geojson_model.specs.declared.fault.GeoFault.{GeoFault}
-use Rattle.geojson_model.specs.declared.fault.GeoFaultKind.TheVariants.{Memory}
-use Rattle.geojson_model.specs.declared.fault.Stop.{Stop}
-use Rattle.geojson_model.specs.declared.fault.Stop.TheVariants as stop
-use Rattle.geojson_model.specs.Answers.{Fails, fault_at}
+use Rattle.geojson_model.specs.declared.fault.GeoFaultKind.{GeoFaultKind}
 use Rattle.geojson_model.specs.Features.{feature_element}
 use Rattle.geojson_model.specs.Layers.{features_from}
-use Rattle.geojson_model.specs.Reader.{and_then, give, located}
+use Rattle.geojson_model.specs.Reader.{and_then, give, fault_in, with_fault}
 
 -- the features, behind these
 abbrev pub with_features : List Featured → Result (List Featured × Counts) GeoFault → Result (List Featured × Counts) GeoFault
@@ -29,16 +26,15 @@ module _ (exact : Bool) (v : Json) (vs items : List Json) (fs : List Featured) (
   abbrev then_rest : Result (Featured × Counts) GeoFault → Result (List Featured × Counts) GeoFault
   then_rest z = with_features fs (and_then (λ f. λ d. and_then (λ gs. give (f ∷ gs)) (features_from exact (length fs + 1) vs d)) z)
 
-  opened : then_rest (located (Some (length fs)) (feature_element exact v c)) ≡ whole
+  opened : then_rest (with_fault (fault_in (Some (length fs))) (feature_element exact v c)) ≡ whole
   unfolding features_from
   opened = sym (ap (λ z. with_features fs (features_from exact (length fs) z c)) at) ∙ now
 
   pub turns : (f : Featured) (after : Counts) → feature_element exact v c ≡ Ok (f, after) → with_features (fs ++ f ∷ []) (features_from exact (length (fs ++ f ∷ [])) vs after) ≡ whole
-  turns f after e = rw (longer fs f) (sym (one_more fs f (features_from exact (length fs + 1) vs after)) ∙ (sym (ap (λ z. then_rest (located (Some (length fs)) z)) e) ∙ opened))
+  turns f after e = rw (longer fs f) (sym (one_more fs f (features_from exact (length fs + 1) vs after)) ∙ (sym (ap (λ z. then_rest (with_fault (fault_in (Some (length fs))) z)) e) ∙ opened))
 
-  pub fails : (e : Stop) (n : ℕ) → n ≡ length fs → Fails e (feature_element exact v c) → (fault_at (Some n) e).kind ≢ Memory → whole ≡ Err (fault_at (Some n) e)
-  fails stop.Memory n is f not_memory = absurd (not_memory refl)
-  fails (stop.Fault e) n is f not_memory = sym opened ∙ (ap (λ z. then_rest (located (Some (length fs)) z)) f ∙ rw (← is) refl)
+  pub fails : (e : GeoFaultKind) (n : ℕ) → n ≡ length fs → feature_element exact v c ≡ Err e → whole ≡ Err (fault_in (Some n) e)
+  fails e n is f = sym opened ∙ (ap (λ z. then_rest (with_fault (fault_in (Some (length fs))) z)) f ∙ rw (← is) refl)
 
 pub ends : (exact : Bool) (items : List Json) (fs : List Featured) (c : Counts) (whole : Result (List Featured × Counts) GeoFault) → items ≡ [] → with_features fs (features_from exact (length fs) items c) ≡ whole → whole ≡ Ok (fs, c)
 unfolding features_from

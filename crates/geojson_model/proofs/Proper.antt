@@ -12,8 +12,7 @@ use Rattle.geojson_model.specs.Reader.{if_some}
 use Rattle.geojson_model.proofs.Inside.{object_shallower}
 use Rattle.geojson_model.proofs.SoundParts.{SoundIn}
 use Rattle.geojson_model.proofs.SoundShapes.{ShallowMembers, geometry_yields, typed_geometry_yields}
-use Rattle.geojson_model.proofs.Taken.{first_is}
-use Rattle.geojson_model.proofs.Yields.{IfThere}
+use Rattle.json_members.proofs.Yields.{IfThere, first_is}
 
 option_proper : (n : ℕ) (o : Option Shape) → IfThere (SoundIn n) o → is_proper_option o ≡ true
 option_proper n None h = refl
@@ -32,5 +31,3 @@ geometry_proper exact ms c d x e = option_proper (depth (j.Object ms)) x (geomet
 pub object_proper : (exact : Bool) (o : Option (List (List ℕ × Json))) (c d : Counts) (x : Option Shape) → if_some (geometry exact) o c ≡ Ok (x, d) → is_proper_option x ≡ true
 object_proper exact None c d x e = subst (λ z. is_proper_option z ≡ true) (first_is e) refl
 object_proper exact (Some ms) c d x e = geometry_proper exact ms c d x e
-
-pub ruleset proper = (typed_geometry_proper, geometry_proper, object_proper)

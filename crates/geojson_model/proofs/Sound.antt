@@ -11,7 +11,7 @@ use Rattle.geojson_types.specs.Rings.{is_ring}
 use Rattle.geojson_types.proofs.Cases.{strokes-point, strokes-points, strokes-line, strokes-lines, strokes-area, strokes-areas, strokes-group}
 use Rattle.geojson_model.specs.Laws.{RingCloses}
 use Rattle.geojson_model.proofs.ShapeCases.{proper-point, proper-points, proper-line, proper-lines, proper-area, proper-areas, proper-group, points-point, points-points, points-line, points-lines, points-area, points-areas, points-group}
-use Rattle.geojson_model.proofs.Yields.{all_append, all_weaker}
+use Rattle.json_members.proofs.Yields.{all_append, all_weaker}
 
 -- a line of two inputs or more
 abbrev pub IsLine : List Point → Type 0

@@ -18,7 +18,6 @@ use Rattle.geojson_types.specs.Features.{Shape, Featured}
 use Rattle.geojson_types.specs.Nesting.{nesting, option_nesting, properties_nesting, feature_nesting}
 use Rattle.geojson_types.specs.Numbers.{IdHasNumbers, PropertiesHaveNumbers, FeatureHasNumbers}
 use Rattle.geojson_types.specs.Points.{Point}
-use Rattle.geojson_model.specs.declared.fault.GeoFaultKind.{GeoFaultKind}
 use Rattle.geojson_model.specs.declared.fault.GeoFaultKind.TheVariants.{NotObject, UnknownType}
 use Rattle.geojson_model.specs.Features.{identifier_in, identifier, members_in, members_if, feature, feature_element}
 use Rattle.geojson_model.specs.Geometries.{geometry}
@@ -29,7 +28,7 @@ use Rattle.geojson_model.proofs.Inside.{ShallowerMember, HasNumbersMember, array
 use Rattle.geojson_model.proofs.Sound.{IsSound}
 use Rattle.geojson_model.proofs.SoundParts.{SoundIn}
 use Rattle.geojson_model.proofs.SoundShapes.{geometry_yields}
-use Rattle.geojson_model.proofs.Yields.{Yields, IfThere, all_weaker, weaker_yields, there_weaker, then_yields, give_yields, fail_yields, pure_yields, if_yields, if_some_yields}
+use Rattle.json_members.proofs.Yields.{Yields, or_fail_is, IfThere, all_weaker, weaker_yields, there_weaker, then_yields, give_yields, fail_yields, pure_yields, if_yields, if_some_yields}
 
 -- less deep than n, and with numbers alone where N holds
 abbrev pub IsPart : ℕ → Type 0 → Json → Type 0
@@ -146,10 +145,6 @@ feature_yields exact n N ms pos inside =
     (λ k. identifier_numbers i id (there_weaker (IsPart n N) HasNumbers (λ v h. h.1 k) i (find_part (IsPart n N) (codes "id") ms i hi inside)) hid)
     (member_parts n N p ps (find_part (IsPart n N) (codes "properties") ms p hp inside) hps)
     hs))))))))
-
-pub or_fail_is : {A : Type 0} (e : GeoFaultKind) (o : Option A) (x : A) → or_fail e o ≡ Ok x → o ≡ Some x
-or_fail_is e None x h = absurd cc
-or_fail_is e (Some y) x h = cc
 
 -- of a value that is a part
 pub feature_element_yields : (exact : Bool) (n : ℕ) (N : Type 0) (v : Json) → IsPart n N v → Yields (IsSoundFeature n N) (feature_element exact v)

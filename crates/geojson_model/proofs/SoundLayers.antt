@@ -24,14 +24,18 @@ use Rattle.geojson_model.specs.Geometries.{typed_geometry}
 use Rattle.geojson_model.specs.Laws.{ShapesAreProper, InputsAlone, RingCloses, RingsClose, NothingDeeper, NumbersStay}
 use Rattle.geojson_model.specs.Layers.{features_from, collection_features, single_feature, bare, bare_feature, typed_features, features, layer}
 use Rattle.geojson_model.specs.Members.{need, type_name}
-use Rattle.geojson_model.specs.Reader.{pure, or_fail, within}
+use Rattle.geojson_model.specs.Reader.{Reader, fault_in, pure, or_fail, within}
 use Rattle.geojson_model.specs.Types.{geojson_type}
 use Rattle.geojson_model.proofs.Inside.{ShallowerMember, object_deep, need_part}
 use Rattle.geojson_model.proofs.Sound.{IsSound, all_joined, all_map}
-use Rattle.geojson_model.proofs.SoundFeatures.{IsPart, IsPartMember, IsSoundFeature, array_parts, object_parts, or_fail_is, feature_yields, feature_element_yields, bare_sound}
+use Rattle.geojson_model.proofs.SoundFeatures.{IsPart, IsPartMember, IsSoundFeature, array_parts, object_parts, feature_yields, feature_element_yields, bare_sound}
 use Rattle.geojson_model.proofs.SoundParts.{SoundIn}
 use Rattle.geojson_model.proofs.SoundShapes.{typed_geometry_yields}
-use Rattle.geojson_model.proofs.Yields.{Yields, IfThere, all_weaker, then_yields, give_yields, pure_yields, within_yields}
+use Rattle.json_members.proofs.Parts.{given}
+use Rattle.json_members.proofs.Yields.{Yields, or_fail_is, IfThere, all_weaker, then_yields, give_yields, pure_yields}
+
+within_yields : {A : Type 0} (n : Option ℕ) (P : A → Type 0) (m : Reader A) → Yields P m → Yields P (within n m)
+within_yields n P m h c d x e = h c d x (given (fault_in n) (m c) (x, d) e)
 
 module _ (exact : Bool) (n : ℕ) (N : Type 0) where
   abbrev SoundFeatures : List Featured → Type 0

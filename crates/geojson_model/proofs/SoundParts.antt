@@ -27,7 +27,7 @@ use Rattle.geojson_model.specs.Reader.{Reader, ◌>>=◌, give, fail, each, kept
 use Rattle.geojson_model.proofs.Inside.{Shallower, array_shallower, array_deep}
 use Rattle.geojson_model.proofs.ShapeCases.{nesting-point, nesting-points, nesting-line, nesting-lines, nesting-area, nesting-areas}
 use Rattle.geojson_model.proofs.Sound.{IsLine, IsRing, IsArea, IsSound, sound-point, sound-points, sound-line, sound-lines, sound-area, sound-areas}
-use Rattle.geojson_model.proofs.Yields.{Yields, IfThere, all_weaker, weaker_yields, there_weaker, then_yields, give_yields, count_yields, fail_yields, if_yields, if_some_yields, each_yields, kept_yields}
+use Rattle.json_members.proofs.Yields.{Yields, IfThere, all_weaker, weaker_yields, there_weaker, then_yields, give_yields, count_yields, fail_yields, if_yields, if_some_yields, each_of_yields, kept_of_yields}
 
 -- a P, and at least k levels of n
 abbrev pub Takes : {A : Type 0} → (A → Type 0) → ℕ → ℕ → A → Type 0
@@ -79,13 +79,13 @@ position_yields exact v = array_position_yields exact v (array_of v) refl
 
 -- each part takes a level more of what is around it
 pub each_takes : {A : Type 0} (P : A → Type 0) (k : ℕ) (read : Json → Reader A) → ((v : Json) → Yields (Takes P k (depth v)) (read v)) → (n : ℕ) (vs : List Json) → Shallow n vs → Yields (AllByRecursion (Takes P (suc k) n)) (each read vs)
-each_takes P k read h n = each_yields (Shallower n) (Takes P (suc k) n) read (λ v lt. weaker_yields (Takes P k (depth v)) (Takes P (suc k) n) (read v) (λ x t. (t.0, omega (arith, t.1, lt))) (h v))
+each_takes P k read h n = each_of_yields (Shallower n) (Takes P (suc k) n) read (λ v lt. weaker_yields (Takes P k (depth v)) (Takes P (suc k) n) (read v) (λ x t. (t.0, omega (arith, t.1, lt))) (h v))
 
 pub there_takes : {A : Type 0} (P : A → Type 0) (k : ℕ) (read : Json → Reader (Option A)) → ((v : Json) → Yields (IfThere (Takes P k (depth v))) (read v)) → (n : ℕ) (v : Json) → depth v < n → Yields (IfThere (Takes P (suc k) n)) (read v)
 there_takes P k read h n v lt = weaker_yields (IfThere (Takes P k (depth v))) (IfThere (Takes P (suc k) n)) (read v) (there_weaker (Takes P k (depth v)) (Takes P (suc k) n) (λ x t. (t.0, omega (arith, t.1, lt)))) (h v)
 
 pub kept_takes : {A : Type 0} (P : A → Type 0) (k : ℕ) (read : Json → Reader (Option A)) → ((v : Json) → Yields (IfThere (Takes P k (depth v))) (read v)) → (n : ℕ) (vs : List Json) → Shallow n vs → Yields (AllByRecursion (Takes P (suc k) n)) (kept read vs)
-kept_takes P k read h n = kept_yields (Shallower n) (Takes P (suc k) n) read (there_takes P k read h n)
+kept_takes P k read h n = kept_of_yields (Shallower n) (Takes P (suc k) n) read (there_takes P k read h n)
 
 parts_are : {A : Type 0} (P : A → Type 0) (k n : ℕ) (xs : List A) → AllByRecursion (Takes P k n) xs → AllByRecursion P xs
 parts_are P k n = all_weaker (Takes P k n) P (λ x t. t.0)

@@ -5,6 +5,7 @@ use Rattle.std.specs.List.{AllByRecursion}
 use Rattle.json_value.specs.declared.json.Json.{Json}
 use Rattle.json_value.specs.Depth.{depth, greatest}
 use Rattle.json_value.specs.Kinds.{array_of, object_of}
+use Rattle.geojson_types.specs.declared.counts.Counts.{Counts}
 use Rattle.geojson_types.specs.declared.geometry.Geometry.TheVariants as g
 use Rattle.geojson_types.specs.Features.{Shape}
 use Rattle.geojson_types.specs.Nesting.{nesting}
@@ -22,7 +23,7 @@ use Rattle.geojson_model.proofs.ShapeCases.{nesting-group}
 use Rattle.geojson_model.proofs.Sound.{IsSound, sound-group}
 use Rattle.geojson_model.proofs.SoundParts.{SoundIn, coordinates_shape_yields}
 use Rattle.geojson_model.proofs.Unrolled.{shape_object, shape_other, shapes_array, shapes_other}
-use Rattle.geojson_model.proofs.Yields.{Yields, IfThere, all_weaker, there_weaker, weaker_yields, then_yields, give_yields, fail_yields, pure_yields, kept_yields}
+use Rattle.json_members.proofs.Yields.{Yields, IfThere, all_weaker, there_weaker, weaker_yields, then_yields, give_yields, fail_yields, pure_yields, kept_of_yields}
 
 -- members whose values are less deep than n
 abbrev pub ShallowMembers : ℕ → List (List ℕ × Json) → Type 0
@@ -45,7 +46,7 @@ need_as_yields P name read ms h = then_yields (λ v. need name ms ≡ Ok v) P (p
 
 -- ---- one level
 
-group_yields : (n : ℕ) (ss : List Shape) (m : ℕ) → m < n → SoundInside m ss → Yields {E = GeoFaultKind} (IfThere (SoundIn n)) (give (Some (g.Group ss)))
+group_yields : (n : ℕ) (ss : List Shape) (m : ℕ) → m < n → SoundInside m ss → Yields {C = Counts} {E = GeoFaultKind} (IfThere (SoundIn n)) (give (Some (g.Group ss)))
 group_yields n ss m lt h = give_yields (IfThere (SoundIn n)) (Some (g.Group ss)) (sound-group ss h.0, rw (nesting-group ss) (omega (arith, h.1, lt)))
 
 module _ (exact : Bool) (n : ℕ) (ms : List (List ℕ × Json)) (inside : ShallowMembers n ms) (inner : (v : Json) → depth v < n → Yields (SoundInside (depth v)) (shapes exact v)) where
@@ -85,7 +86,7 @@ module _ (exact : Bool) (v : Json) (inner : (w : Json) → depth w < depth v →
   many_yield (Some vs) e = rw (shapes_array exact v vs e)
       (weaker_yields (AllByRecursion (SoundBelow (depth v))) (SoundInside (depth v)) (kept (shape exact) vs)
       (λ ss h. (all_weaker (SoundBelow (depth v)) IsSound (λ s k. k.0) ss h, all_below (depth v) ss (array_deep v vs e) h))
-      (kept_yields (Shallower (depth v)) (SoundBelow (depth v)) (shape exact)
+      (kept_of_yields (Shallower (depth v)) (SoundBelow (depth v)) (shape exact)
       (λ w lt. weaker_yields (IfThere (SoundIn (depth w))) (IfThere (SoundBelow (depth v))) (shape exact w) (there_weaker (SoundIn (depth w)) (SoundBelow (depth v)) (λ s k. (k.0, omega (arith, k.1, lt)))) (inner w lt).one)
       vs (array_shallower v vs e)))
 

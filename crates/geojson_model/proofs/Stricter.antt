@@ -3,8 +3,9 @@ use Rattle.std.proofs.Common.{◌≡◌, ℕ, Bool, true, false, cond, List, [],
 use Rattle.std.specs.Prelude.{option_to_list}
 use Rattle.std.specs.List.{AllByRecursion}
 use Rattle.geojson_types.specs.declared.counts.Counts.{Counts}
-use Rattle.geojson_model.specs.Reader.{Counting, Reader, and_then, ◌>>=◌, give, fail, pure, within, located, gather, each, kept, if_some}
-use Rattle.geojson_model.proofs.Taken.{taken, second_is, located_taken}
+use Rattle.geojson_model.specs.Reader.{Counting, Reader, and_then, ◌>>=◌, give, fail, pure, within, fault_in, with_fault, gather, each, kept, if_some}
+use Rattle.json_members.proofs.Parts.{given}
+use Rattle.json_members.proofs.Yields.{taken, second_is}
 
 -- what the strict reader gives the lax one gives, and the strict one counts no rounding
 abbrev pub Stricter : {E A : Type 0} → Counting E A → Counting E A → Type 0
@@ -42,8 +43,8 @@ if_stricter false m n k l h i = i
 
 pub within_stricter : {A : Type 0} (n : Option ℕ) (m l : Reader A) → Stricter m l → Stricter (within n m) (within n l)
 within_stricter n m l h c d x e =
-    let t = h c d x (located_taken n (m c) (x, d) e) in
-    (ap (located n) t.0, t.1)
+    let t = h c d x (given (fault_in n) (m c) (x, d) e) in
+    (ap (with_fault (fault_in n)) t.0, t.1)
 
 pub if_some_stricter : {A B : Type 0} (m n : A → Reader (Option B)) → ((x : A) → Stricter (m x) (n x)) → (o : Option A) → Stricter (if_some m o) (if_some n o)
 if_some_stricter m n h None = give_stricter None

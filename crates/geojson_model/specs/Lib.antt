@@ -9,5 +9,4 @@ pub mod Lines
 pub mod Members
 pub mod Polygons
 pub mod Reader
-pub mod Slots
 pub mod Types

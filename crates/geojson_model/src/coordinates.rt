@@ -5,7 +5,7 @@ ghost use Rattle.geojson_model.specs.Coordinates as spec;
 ghost use Rattle.geojson_types.specs.Points.{input_limit};
 ghost use Rattle.geojson_model.specs.Reader.{each};
 
-use crate::fault::{GeoFaultKind, Stop};
+use crate::fault::GeoFaultKind;
 use geojson_types::{Counts, INPUT_LIMIT, Position};
 use json_value::Json;
 use std::alloc::Global;
@@ -15,18 +15,18 @@ const COORDINATE_PLACES: u32 = 7;
 
 /// A coordinate in whole units.
 #[tactic(auto, unfolding(crate::specs::Coordinates::coordinate))]
-fn coordinate(value: &Json, exact: bool, counts: &mut Counts) -> Result<i64, Stop>
+fn coordinate(value: &Json, exact: bool, counts: &mut Counts) -> Result<i64, GeoFaultKind>
     ensures value { Gives (λ x. x) result counts.new (spec.coordinate exact value.now counts.old) }
     ensures within { IfOk result (λ x. unsigned_abs x ≤ input_limit) }
 {
     let Some(number) = value.as_number() else {
-        return Err(Stop::Fault(GeoFaultKind::WrongKind));
+        return Err(GeoFaultKind::WrongKind);
     };
     match number.scaled(COORDINATE_PLACES, INPUT_LIMIT as i128) {
-        Err(_) => Err(Stop::Fault(GeoFaultKind::Range)),
+        Err(_) => Err(GeoFaultKind::Range),
         Ok(scaled) => {
             if exact && !scaled.exact {
-                return Err(Stop::Fault(GeoFaultKind::Inexact));
+                return Err(GeoFaultKind::Inexact);
             }
             counts.count_rounded(!scaled.exact);
             Ok(scaled.value as i64)
@@ -40,12 +40,12 @@ pub(crate) fn elements_position(
     elements: &[Json],
     exact: bool,
     counts: &mut Counts,
-) -> Result<Position, Stop>
+) -> Result<Position, GeoFaultKind>
     ensures { Gives (λ p. p) result counts.new (spec.elements_position exact elements.now counts.old) }
 {
     match elements {
-        [] => Err(Stop::Fault(GeoFaultKind::ShortPosition)),
-        [_] => Err(Stop::Fault(GeoFaultKind::ShortPosition)),
+        [] => Err(GeoFaultKind::ShortPosition),
+        [_] => Err(GeoFaultKind::ShortPosition),
         [x, y, more @ ..] => {
             let x = coordinate(x, exact, counts)?;
             let y = coordinate(y, exact, counts)?;
@@ -57,11 +57,11 @@ pub(crate) fn elements_position(
 
 /// A position.
 #[tactic(auto, unfolding(crate::specs::Coordinates::position))]
-fn position(value: &Json, exact: bool, counts: &mut Counts) -> Result<Position, Stop>
+fn position(value: &Json, exact: bool, counts: &mut Counts) -> Result<Position, GeoFaultKind>
     ensures { Gives (λ p. p) result counts.new (spec.position exact value.now counts.old) }
 {
     match value.as_array() {
-        None => Err(Stop::Fault(GeoFaultKind::WrongKind)),
+        None => Err(GeoFaultKind::WrongKind),
         Some(elements) => elements_position(elements, exact, counts),
     }
 }
@@ -72,7 +72,7 @@ pub(crate) fn positions(
     values: &[Json],
     exact: bool,
     counts: &mut Counts,
-) -> Result<Vec<Position>, Stop>
+) -> Result<Vec<Position>, GeoFaultKind>
     ensures { Gives (λ ps. ps.items) result counts.new (each (spec.position exact) values.now counts.old) }
 {
     let mut read = Vec::new(alloc);

@@ -1,7 +1,8 @@
 ghost use Rattle.std.specs.Prelude.{◌≡◌, codes};
-ghost use Rattle.geojson_model.specs.Answers.{fault_at};
 ghost use Rattle.geojson_model.specs.Faults as spec;
+ghost use Rattle.geojson_model.specs.Reader.{fault_in};
 
+use json_members::LookupFault;
 use std::alloc::AllocFailed;
 use thiserror::Error;
 
@@ -88,6 +89,16 @@ impl GeoFaultKind {
             GeoFaultKind::Memory => "Memory",
         }
     }
+
+    /// The fault of this kind in the feature of this number, or in none.
+    pub(crate) fn within(self, feature: Option<usize>) -> GeoFault
+        ensures { result ≡ fault_in feature self }
+    {
+        GeoFault {
+            feature,
+            kind: self,
+        }
+    }
 }
 
 /// Why a value is no layer, and the number of the feature, from zero, that the fault is in. A fault before any
@@ -100,46 +111,54 @@ pub struct GeoFault {
     pub kind: GeoFaultKind,
 }
 
-/// Why the reading of a part stopped: a fault of the value, or a refused allocation.
-#[derive(Clone, Copy, Debug)]
-pub(crate) enum Stop {
-    Memory,
-    Fault(GeoFaultKind),
-}
-
-impl Stop {
-    /// The fault that it is in the feature of this number, or in none.
-    pub(crate) fn at(self, feature: Option<usize>) -> GeoFault
-        ensures { result ≡ fault_at feature self }
-    {
-        let kind = match self {
-            Stop::Memory => GeoFaultKind::Memory,
-            Stop::Fault(kind) => kind,
-        };
-        GeoFault { feature, kind }
-    }
-}
-
-impl<T: Drop> From<AllocFailed<T>> for Stop {
+impl<T: Drop> From<AllocFailed<T>> for GeoFaultKind {
     ghost use Rattle.std.specs.Prelude.{◌≡◌};
-    ghost use Rattle.geojson_model.specs.declared.fault.Stop.TheVariants.{Memory};
+    ghost use Rattle.geojson_model.specs.declared.fault.GeoFaultKind.TheVariants.{Memory};
 
     ghost from_gives = { λ _ e. e ≡ Memory };
 
-    fn from(_e: AllocFailed<T>) -> Stop {
-        Stop::Memory
+    fn from(_e: AllocFailed<T>) -> GeoFaultKind {
+        GeoFaultKind::Memory
+    }
+}
+
+impl From<LookupFault> for GeoFaultKind {
+    ghost use Rattle.std.specs.Prelude.{◌≡◌};
+    ghost use Rattle.geojson_model.specs.Members.{lookup_fault};
+
+    ghost from_gives = { λ fault e. e ≡ lookup_fault fault };
+
+    fn from(fault: LookupFault) -> GeoFaultKind {
+        match fault {
+            LookupFault::Missing => GeoFaultKind::Missing,
+            LookupFault::Duplicate => GeoFaultKind::Duplicate,
+            LookupFault::WrongKind => GeoFaultKind::WrongKind,
+        }
     }
 }
 
 /// Before any feature begins.
-impl From<Stop> for GeoFault {
+impl From<GeoFaultKind> for GeoFault {
     ghost use Rattle.std.specs.Prelude.{◌≡◌, None};
-    ghost use Rattle.geojson_model.specs.Answers.{fault_at};
+    ghost use Rattle.geojson_model.specs.Reader.{fault_in};
 
-    ghost from_gives = { λ stop e. e ≡ fault_at None stop };
+    ghost from_gives = { λ kind e. e ≡ fault_in None kind };
 
-    fn from(stop: Stop) -> GeoFault {
-        stop.at(None)
+    fn from(kind: GeoFaultKind) -> GeoFault {
+        kind.within(None)
+    }
+}
+
+/// Before any feature begins.
+impl From<LookupFault> for GeoFault {
+    ghost use Rattle.std.specs.Prelude.{◌≡◌, None};
+    ghost use Rattle.geojson_model.specs.Members.{lookup_fault};
+    ghost use Rattle.geojson_model.specs.Reader.{fault_in};
+
+    ghost from_gives = { λ fault e. e ≡ fault_in None (lookup_fault fault) };
+
+    fn from(fault: LookupFault) -> GeoFault {
+        GeoFaultKind::from(fault).within(None)
     }
 }
 

@@ -5,12 +5,12 @@ ghost use Rattle.geojson_model.specs.Geometries as spec;
 ghost use Rattle.geojson_types.specs.Lists.{unless_empty};
 
 use crate::coordinates::{elements_position, positions};
-use crate::fault::{GeoFaultKind, Stop};
+use crate::fault::GeoFaultKind;
 use crate::lines::{line_in, lines, some_elements};
-use crate::members::{need, type_name};
 use crate::polygons::{polygon_in, polygons};
 use crate::types::{CoordinatesType, GeometryType, geometry_type};
 use geojson_types::{Counts, Shape};
+use json_members::{need, need_text};
 use json_value::{Items, Json, OwnText};
 use std::alloc::Global;
 
@@ -32,7 +32,7 @@ fn shape_in(
     values: &[Json],
     exact: bool,
     counts: &mut Counts,
-) -> Result<Option<Shape>, Stop>
+) -> Result<Option<Shape>, GeoFaultKind>
     ensures { Gives (λ x. x) result counts.new (spec.shape_in exact coordinates values.now counts.old) }
 {
     match coordinates {
@@ -68,7 +68,7 @@ fn coordinates_shape(
     value: &Json,
     exact: bool,
     counts: &mut Counts,
-) -> Result<Option<Shape>, Stop>
+) -> Result<Option<Shape>, GeoFaultKind>
     ensures { Gives (λ x. x) result counts.new (spec.coordinates_shape exact coordinates value.now counts.old) }
 {
     match some_elements(value, counts)? {
@@ -79,14 +79,14 @@ fn coordinates_shape(
 
 /// The geometry of this type with these members.
 #[cycle(geometries)]
-#[tactic(auto, using(crate::proofs::Deeper::deeper), unfolding(crate::specs::Geometries::typed_geometry))]
+#[tactic(auto, using(crate::proofs::Deeper::deeper), unfolding(crate::specs::Geometries::typed_geometry, crate::specs::Members::need))]
 pub(crate) fn typed_geometry(
     alloc: Global,
     geometry: GeometryType,
     members: &[(OwnText, Json)],
     exact: bool,
     counts: &mut Counts,
-) -> Result<Option<Shape>, Stop>
+) -> Result<Option<Shape>, GeoFaultKind>
     ensures { Gives (λ x. x) result counts.new (spec.typed_geometry exact geometry members.now counts.old) }
 {
     match geometry {
@@ -104,17 +104,17 @@ pub(crate) fn typed_geometry(
 
 /// The geometry with these members.
 #[cycle(geometries)]
-#[tactic(auto, using(crate::proofs::Deeper::deeper), unfolding(crate::specs::Geometries::geometry))]
+#[tactic(auto, using(crate::proofs::Deeper::deeper), unfolding(crate::specs::Geometries::geometry, crate::specs::Members::type_name))]
 pub(crate) fn geometry(
     alloc: Global,
     members: &[(OwnText, Json)],
     exact: bool,
     counts: &mut Counts,
-) -> Result<Option<Shape>, Stop>
+) -> Result<Option<Shape>, GeoFaultKind>
     ensures { Gives (λ x. x) result counts.new (spec.geometry exact members.now counts.old) }
 {
-    match geometry_type(type_name(members)?) {
-        None => Err(Stop::Fault(GeoFaultKind::UnknownType)),
+    match geometry_type(need_text(members, "type")?) {
+        None => Err(GeoFaultKind::UnknownType),
         Some(geometry) => typed_geometry(alloc, geometry, members, exact, counts),
     }
 }
@@ -122,16 +122,21 @@ pub(crate) fn geometry(
 /// The geometries of a collection in order. Those that are null are left out.
 #[cycle(geometries)]
 #[tactic(auto, using(crate::proofs::Deeper::deeper))]
-fn shapes(alloc: Global, value: &Json, exact: bool, counts: &mut Counts) -> Result<Vec<Shape>, Stop>
+fn shapes(
+    alloc: Global,
+    value: &Json,
+    exact: bool,
+    counts: &mut Counts,
+) -> Result<Vec<Shape>, GeoFaultKind>
     ensures { Gives (λ xs. xs.items) result counts.new (spec.shapes exact value.now counts.old) }
 {
     let Some(values) = value.as_array() else {
-        return Err(Stop::Fault(GeoFaultKind::WrongKind));
+        return Err(GeoFaultKind::WrongKind);
     };
     let mut read = Vec::new(alloc);
     'values: for value in values {
         let Some(members) = value.as_object() else {
-            return Err(Stop::Fault(GeoFaultKind::WrongKind));
+            return Err(GeoFaultKind::WrongKind);
         };
         let Some(shape) = geometry(alloc, members, exact, counts)? else {
             continue;

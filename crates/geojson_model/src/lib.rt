@@ -10,10 +10,8 @@ mod features;
 mod geometries;
 mod laws;
 mod lines;
-mod members;
 mod polygons;
 mod reading;
-mod slots;
 mod types;
 
 pub use fault::{GeoFault, GeoFaultKind};

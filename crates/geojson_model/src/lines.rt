@@ -6,7 +6,7 @@ ghost use Rattle.geojson_model.specs.Lines as spec;
 ghost use Rattle.geojson_model.specs.Reader.{kept};
 
 use crate::coordinates::positions;
-use crate::fault::{GeoFaultKind, Stop};
+use crate::fault::GeoFaultKind;
 use geojson_types::{Counts, Position};
 use json_value::{Items, Json};
 use std::alloc::Global;
@@ -16,11 +16,11 @@ use std::alloc::Global;
 pub(crate) fn some_elements<'a>(
     value: &'a Json,
     counts: &mut Counts,
-) -> Result<Option<&'a [Json]>, Stop>
+) -> Result<Option<&'a [Json]>, GeoFaultKind>
     ensures { Gives option_copied result counts.new (spec.some_elements value.now counts.old) }
 {
     match value.as_array() {
-        None => Err(Stop::Fault(GeoFaultKind::WrongKind)),
+        None => Err(GeoFaultKind::WrongKind),
         Some([]) => {
             counts.count_empty();
             Ok(None)
@@ -36,12 +36,12 @@ pub(crate) fn line_in(
     values: &[Json],
     exact: bool,
     counts: &mut Counts,
-) -> Result<Option<Items<Position>>, Stop>
+) -> Result<Option<Items<Position>>, GeoFaultKind>
     ensures { Gives (λ x. x) result counts.new (spec.line_in exact values.now counts.old) }
 {
     let positions = positions(alloc, values, exact, counts)?;
     if positions.len() < 2 {
-        return Err(Stop::Fault(GeoFaultKind::ShortLine));
+        return Err(GeoFaultKind::ShortLine);
     }
     Ok(Some(Items::of(positions)))
 }
@@ -53,7 +53,7 @@ fn line(
     value: &Json,
     exact: bool,
     counts: &mut Counts,
-) -> Result<Option<Items<Position>>, Stop>
+) -> Result<Option<Items<Position>>, GeoFaultKind>
     ensures { Gives (λ x. x) result counts.new (spec.line exact value.now counts.old) }
 {
     match some_elements(value, counts)? {
@@ -68,7 +68,7 @@ pub(crate) fn lines(
     values: &[Json],
     exact: bool,
     counts: &mut Counts,
-) -> Result<Vec<Items<Position>>, Stop>
+) -> Result<Vec<Items<Position>>, GeoFaultKind>
     ensures { Gives (λ ls. ls.items) result counts.new (kept (spec.line exact) values.now counts.old) }
 {
     let mut read = Vec::new(alloc);

@@ -5,7 +5,7 @@ ghost use Rattle.geojson_model.specs.Polygons as spec;
 ghost use Rattle.geojson_model.specs.Reader.{kept};
 
 use crate::coordinates::positions;
-use crate::fault::{GeoFaultKind, Stop};
+use crate::fault::GeoFaultKind;
 use crate::lines::some_elements;
 use geojson_types::{Counts, Ring, is_closed};
 use json_value::{Items, Json};
@@ -18,22 +18,27 @@ fn ring_in(
     values: &[Json],
     exact: bool,
     counts: &mut Counts,
-) -> Result<Option<Ring>, Stop>
+) -> Result<Option<Ring>, GeoFaultKind>
     ensures { Gives (λ x. x) result counts.new (spec.ring_in exact values.now counts.old) }
 {
     let positions = positions(alloc, values, exact, counts)?;
     if positions.len() < 4 {
-        return Err(Stop::Fault(GeoFaultKind::ShortRing));
+        return Err(GeoFaultKind::ShortRing);
     }
     if !is_closed(&positions) {
-        return Err(Stop::Fault(GeoFaultKind::OpenRing));
+        return Err(GeoFaultKind::OpenRing);
     }
     Ok(Some(Ring::of(positions)))
 }
 
 /// A ring, if its array isn't empty.
 #[tactic(auto, unfolding(crate::specs::Polygons::ring))]
-fn ring(alloc: Global, value: &Json, exact: bool, counts: &mut Counts) -> Result<Option<Ring>, Stop>
+fn ring(
+    alloc: Global,
+    value: &Json,
+    exact: bool,
+    counts: &mut Counts,
+) -> Result<Option<Ring>, GeoFaultKind>
     ensures { Gives (λ x. x) result counts.new (spec.ring exact value.now counts.old) }
 {
     match some_elements(value, counts)? {
@@ -48,7 +53,7 @@ fn rings(
     values: &[Json],
     exact: bool,
     counts: &mut Counts,
-) -> Result<Vec<Ring>, Stop>
+) -> Result<Vec<Ring>, GeoFaultKind>
     ensures { Gives (λ rs. rs.items) result counts.new (kept (spec.ring exact) values.now counts.old) }
 {
     let mut read = Vec::new(alloc);
@@ -68,7 +73,7 @@ pub(crate) fn polygon_in(
     values: &[Json],
     exact: bool,
     counts: &mut Counts,
-) -> Result<Option<Items<Ring>>, Stop>
+) -> Result<Option<Items<Ring>>, GeoFaultKind>
     ensures { Gives (λ x. x) result counts.new (spec.polygon_in exact values.now counts.old) }
 {
     let [first, more @ ..] = values else {
@@ -90,7 +95,7 @@ fn polygon(
     value: &Json,
     exact: bool,
     counts: &mut Counts,
-) -> Result<Option<Items<Ring>>, Stop>
+) -> Result<Option<Items<Ring>>, GeoFaultKind>
     ensures { Gives (λ x. x) result counts.new (spec.polygon exact value.now counts.old) }
 {
     match some_elements(value, counts)? {
@@ -105,7 +110,7 @@ pub(crate) fn polygons(
     values: &[Json],
     exact: bool,
     counts: &mut Counts,
-) -> Result<Vec<Items<Ring>>, Stop>
+) -> Result<Vec<Items<Ring>>, GeoFaultKind>
     ensures { Gives (λ rss. rss.items) result counts.new (kept (spec.polygon exact) values.now counts.old) }
 {
     let mut read = Vec::new(alloc);

@@ -7,13 +7,12 @@ ghost use Rattle.geojson_model.specs.declared.fault.GeoFaultKind.TheVariants.{Me
 ghost use Rattle.geojson_types.specs.Places.{features_points};
 ghost use Rattle.geojson_types.specs.Points.{IsInput};
 
-use crate::fault::{GeoFault, GeoFaultKind, Stop};
+use crate::fault::{GeoFault, GeoFaultKind};
 use crate::features::{feature, feature_element, members_of};
 use crate::geometries::typed_geometry;
-use crate::members::type_name;
-use crate::slots::take;
 use crate::types::{GeoJsonType, GeometryType, geojson_type};
 use geojson_types::{Counts, Feature, Layer};
+use json_members::{need_text, take_needed};
 use json_value::{Items, Json, OwnText};
 use std::alloc::Global;
 
@@ -29,7 +28,7 @@ fn features_in(
     let mut read = Vec::new(alloc);
     'values: for value in values {
         match feature_element(alloc, value, exact, counts) {
-            Err(stop) => return Err(stop.at(Some(read.len()))),
+            Err(kind) => return Err(kind.within(Some(read.len()))),
             Ok(feature) => read.push(feature)?,
         }
     }
@@ -37,17 +36,17 @@ fn features_in(
 }
 
 /// The features of a FeatureCollection with these members.
-#[tactic(auto, unfolding(crate::specs::Layers::collection_features))]
+#[tactic(auto, unfolding(crate::specs::Layers::collection_features, crate::specs::Members::need))]
 fn collection_features(
     alloc: Global,
-    members: Vec<(OwnText, Json)>,
+    mut members: Vec<(OwnText, Json)>,
     exact: bool,
     counts: &mut Counts,
 ) -> Result<Vec<Feature>, GeoFault>
     ensures { Tells (λ fs. fs.items) result counts.new (spec.collection_features exact members.items counts.old) }
 {
-    match take(members, "features")?.into_array() {
-        None => Err(Stop::Fault(GeoFaultKind::WrongKind).at(None)),
+    match take_needed(&mut members, "features")?.into_array() {
+        None => Err(GeoFaultKind::WrongKind.within(None)),
         Some(values) => features_in(alloc, values.into_inner(), exact, counts),
     }
 }
@@ -63,7 +62,7 @@ fn single_feature(
     ensures { Tells (λ fs. fs.items) result counts.new (spec.single_feature exact members.items counts.old) }
 {
     match feature(alloc, members, exact, counts) {
-        Err(stop) => Err(stop.at(Some(0))),
+        Err(kind) => Err(kind.within(Some(0))),
         Ok(feature) => Ok(vec![in alloc; feature]?),
     }
 }
@@ -80,13 +79,13 @@ fn bare_feature(
     ensures { Tells (λ fs. fs.items) result counts.new (spec.bare_feature exact geometry members.now counts.old) }
 {
     match typed_geometry(alloc, geometry, members, exact, counts) {
-        Err(stop) => Err(stop.at(Some(0))),
+        Err(kind) => Err(kind.within(Some(0))),
         Ok(shape) => Ok(vec![in alloc; Feature::of(None, None, shape)]?),
     }
 }
 
 /// The features of a value.
-#[tactic(auto, unfolding(crate::specs::Layers::features, crate::specs::Layers::typed_features))]
+#[tactic(auto, unfolding(crate::specs::Layers::features, crate::specs::Layers::typed_features, crate::specs::Members::type_name))]
 fn features(
     alloc: Global,
     value: Json,
@@ -96,8 +95,8 @@ fn features(
     ensures { Tells (λ fs. fs.items) result counts.new (spec.features exact value counts.old) }
 {
     let members = members_of(value)?;
-    match geojson_type(type_name(&members)?) {
-        None => Err(Stop::Fault(GeoFaultKind::UnknownType).at(None)),
+    match geojson_type(need_text(&members, "type")?) {
+        None => Err(GeoFaultKind::UnknownType.within(None)),
         Some(GeoJsonType::FeatureCollection) => collection_features(alloc, members, exact, counts),
         Some(GeoJsonType::Feature) => single_feature(alloc, members, exact, counts),
         Some(GeoJsonType::Geometry(geometry)) => {

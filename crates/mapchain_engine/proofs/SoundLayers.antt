@@ -18,7 +18,7 @@ use Rattle.geojson_types.proofs.Nestings.{option_pruned_nests}
 use Rattle.geojson_model.proofs.SoundFeatures.{IsSoundFeature}
 use Rattle.geojson_model.proofs.SoundLayers.{layer_sound}
 use Rattle.geojson_model.proofs.Sound as shape
-use Rattle.geojson_model.proofs.Yields.{IfThere}
+use Rattle.json_members.proofs.Yields.{IfThere}
 use Rattle.built_topology.specs.Laws.{IsSound, AreSound, IsRingIfClosed}
 use Rattle.built_topology.specs.Layers.{names_of}
 use Rattle.built_topology.specs.Objects.{Kept, features_by, objects_by}

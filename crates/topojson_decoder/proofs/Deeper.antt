@@ -1,6 +1,5 @@
 -- The measures of the reading of collections fall: what is inside a value is less deep.
-use Rattle.std.proofs.Common.{◌≡◌, ℕ, zero, suc, ◌+◌, ◌*◌, ◌<◌, Bool, true, false, cond, List, [], ◌∷◌, length, map, get_or, Some, Ok, sym, subst, arith}
-use Rattle.std.specs.Prelude.{bytes_eq}
+use Rattle.std.proofs.Common.{◌≡◌, ℕ, zero, suc, ◌+◌, ◌*◌, ◌<◌, List, [], ◌∷◌, length, map, get_or, Some, Ok, sym, subst, arith}
 use Rattle.std.specs.List.{AllByRecursion}
 use Rattle.json_value.specs.declared.json.Json.{Json}
 use Rattle.json_value.specs.declared.json.Json.TheVariants as j
@@ -8,7 +7,8 @@ use Rattle.json_value.specs.Depth.{depth, greatest}
 use Rattle.json_value.specs.Kinds.{array_of, object_of}
 use Rattle.json_value.proofs.Depths.{depth-array, depth-object}
 use Rattle.json_value.proofs.KindsOf.{array_of_is, object_of_is}
-use Rattle.topology_reading.specs.Members.{named, only, there, need}
+use Rattle.json_members.specs.Members.{need}
+use Rattle.json_members.proofs.Parts.{need_part}
 
 -- the depth of the object with these members
 abbrev pub object_depth : List (List ℕ × Json) → ℕ
@@ -29,35 +29,14 @@ element_part P [] i x lt e h = absurd (omega arith)
 element_part P (y ∷ xs) zero x lt e h = subst P (sym e) h.0
 element_part P (y ∷ xs) (suc i) x lt e h = element_part P xs i x (omega arith) e h.1
 
--- ---- members that are looked up
-
-module _ {V : Type 0} (P : V → Type 0) where
-  named_part : (name : List ℕ) (ms : List (List ℕ × V)) → AllByRecursion (λ m. P m.1) ms → AllByRecursion P (named name ms)
-  unfolding named
-  named_part name [] h = tt
-  named_part name (m ∷ ms) h = on (bytes_eq m.0 name) (named_part name ms h.1)
-    where
-      on : (b : Bool) → AllByRecursion P (named name ms) → AllByRecursion P (cond b (m.1 ∷ named name ms) (named name ms))
-      on true k = (h.0, k)
-      on false k = k
-
-  there_part : (vs : List V) (v : V) → there (only vs) ≡ Ok v → AllByRecursion P vs → P v
-  there_part [] v e h = absurd cc
-  there_part (w ∷ []) v e h = let k : w ≡ v = cc in subst P k h.0
-  there_part (w ∷ x ∷ vs) v e h = absurd cc
-
-  need_part : (name : List ℕ) (ms : List (List ℕ × V)) (v : V) → need name ms ≡ Ok v → AllByRecursion (λ m. P m.1) ms → P v
-  unfolding need
-  need_part name ms v e h = there_part (named name ms) v e (named_part name ms h)
-
 -- ---- measures
 
 -- from an object to the member that it is made of
-pub member_falls : (name : List ℕ) (ms : List (List ℕ × Json)) (v : Json) → need name ms ≡ Ok v → 3 * depth v + 2 < 3 * object_depth ms
+pub member_falls : (name : List ℕ) (ms : List (List ℕ × Json)) (v : Json) → need name ms ≡ Ok v → 4 * depth v + 3 < 4 * object_depth ms
 member_falls name ms v e = omega (arith, need_part (λ w. depth w < object_depth ms) name ms v e (object_shallower ms))
 
 -- from the array to an object that is an element
-pub element_falls : (v : Json) (vs : List Json) (i : ℕ) (w : Json) (ms : List (List ℕ × Json)) → array_of v ≡ Some vs → i < length vs → w ≡ get_or vs i w → object_of w ≡ Some ms → 3 * object_depth ms < 3 * depth v + 1
+pub element_falls : (v : Json) (vs : List Json) (i : ℕ) (w : Json) (ms : List (List ℕ × Json)) → array_of v ≡ Some vs → i < length vs → w ≡ get_or vs i w → object_of w ≡ Some ms → 4 * object_depth ms + 1 < 4 * depth v + 2
 element_falls v vs i w ms e lt is f = rw (← object_of_is w ms f) (omega (arith, element_part (λ w. depth w < depth v) vs i w lt is (array_shallower v vs e)))
 
 pub ruleset deeper = (member_falls, element_falls)

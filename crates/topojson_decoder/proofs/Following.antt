@@ -10,10 +10,7 @@ use Rattle.topology_reading.specs.declared.fault.TopoFault.TheVariants.{Unjoined
 use Rattle.topology_reading.specs.Arcs.{cell, cells_behind, difference_limit}
 use Rattle.topology_reading.specs.Lines.{index, meets, joined_to, indexes, indexes_behind}
 use Rattle.topology_reading.specs.Reader.{Reader, and_then, give}
-use Rattle.topojson_decoder.specs.declared.stop.Stop.{Stop}
-use Rattle.topojson_decoder.specs.declared.stop.Stop.TheVariants as stop
-use Rattle.topojson_decoder.specs.Answers.{Fails}
-use Rattle.topojson_decoder.proofs.Gathering.{with_front, drop_here, drop_end}
+use Rattle.json_members.proofs.Turns.{with_front, drop_here, drop_end}
 
 front_one : {B : Type 0} (ys : List B) (x : B) (r : Result (List B × Counts) TopoFault) → with_front ys (and_then (λ xs. give (x ∷ xs)) r) ≡ with_front (ys ++ x ∷ []) r
 front_one ys x (Ok r) = ap (λ z. Ok (z, r.1)) (sym (append_assoc ys (x ∷ []) r.0))
@@ -33,9 +30,8 @@ module _ (t : Transform) (before : Point) (vs : List Json) (i : ℕ) (v : Json) 
   pub cells_turn : (x : Point) (after : Counts) → cell t difference_limit before v c ≡ Ok (x, after) → with_front (ys ++ x ∷ []) (cells_behind t x (drop (i + 1) vs) after) ≡ whole
   cells_turn x after e = sym (front_one ys x (cells_behind t x (drop (i + 1) vs) after)) ∙ (sym (ap then_cells e) ∙ opened_cell)
 
-  pub cells_fail : (e : Stop) → Fails e (cell t difference_limit before v c) → Fails e whole
-  cells_fail stop.Memory r = tt
-  cells_fail (stop.Fault e) r = sym opened_cell ∙ ap then_cells r
+  pub cells_fail : (e : TopoFault) → cell t difference_limit before v c ≡ Err e → whole ≡ Err e
+  cells_fail e r = sym opened_cell ∙ ap then_cells r
 
 pub cells_end : (t : Transform) (before : Point) (vs : List Json) (i : ℕ) (ys : List Point) (c : Counts) (whole : Result (List Point × Counts) TopoFault)
     → length vs ≤ i → with_front ys (cells_behind t before (drop i vs) c) ≡ whole → whole ≡ Ok (ys, c)
@@ -69,10 +65,9 @@ module _ (arcs : List (List Point)) (vs : List Json) (i : ℕ) (v : Json) (ys : 
   unfolding indexes_behind
   opened_behind b now = sym (reordered b (index (length arcs) v c)) ∙ (sym (ap (λ z. with_front ys (indexes_behind arcs b z c)) (drop_here vs i v lt is)) ∙ now)
 
-  pub indexes_fail : (before : Option ℤ) → with_front ys (indexes_from arcs before (drop i vs) c) ≡ whole → (e : Stop) → Fails e (index (length arcs) v c) → Fails e whole
-  indexes_fail before now stop.Memory r = tt
-  indexes_fail None now (stop.Fault e) r = sym (opened_first now) ∙ ap then_first r
-  indexes_fail (Some b) now (stop.Fault e) r = sym (opened_behind b now) ∙ ap (then_joined b) r
+  pub indexes_fail : (before : Option ℤ) → with_front ys (indexes_from arcs before (drop i vs) c) ≡ whole → (e : TopoFault) → index (length arcs) v c ≡ Err e → whole ≡ Err e
+  indexes_fail None now e r = sym (opened_first now) ∙ ap then_first r
+  indexes_fail (Some b) now e r = sym (opened_behind b now) ∙ ap (then_joined b) r
 
   module _ (j : ℤ) (read : index (length arcs) v c ≡ Ok (j, c)) where
     pub not_joined : (before : Option ℤ) → with_front ys (indexes_from arcs before (drop i vs) c) ≡ whole → (r : Bool) → MatchOption before (r ≡ true) (λ b. r ≡ meets arcs b j) → r ≡ false → whole ≡ Err Unjoined

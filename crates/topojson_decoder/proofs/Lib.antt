@@ -1,12 +1,8 @@
-pub mod Assembled
 pub mod Collecting
 pub mod Deeper
 pub mod Ends
-pub mod Featured
-pub mod Filling
 pub mod Following
-pub mod Gathering
-pub mod Looking
 pub mod Naming
+pub mod Remaining
 pub mod Repeating
 pub mod Unrolling

@@ -10,11 +10,8 @@ use Rattle.topology_reading.specs.declared.fault.TopoFault.TheVariants.{Duplicat
 use Rattle.topology_reading.specs.Members.{Members}
 use Rattle.topology_reading.specs.Objects.{is_met, object, objects_behind}
 use Rattle.topology_reading.specs.Reader.{and_then, give}
-use Rattle.topojson_decoder.specs.declared.stop.Stop.{Stop}
-use Rattle.topojson_decoder.specs.declared.stop.Stop.TheVariants as stop
-use Rattle.topojson_decoder.specs.Answers.{Fails}
 use Rattle.topojson_decoder.specs.Names.{names_before_repeat}
-use Rattle.topojson_decoder.proofs.Gathering.{with_front}
+use Rattle.json_members.proofs.Turns.{with_front}
 use Rattle.topojson_decoder.proofs.Repeating.{names_of, counted_more}
 
 -- objects by name
@@ -69,9 +66,8 @@ module _ (met : List (List ℕ)) (m : List ℕ × Json) (ms items : Members) (re
       pub turns : (o : TopoObject) (after : Counts) → object transform arcs m.1 c ≡ Ok (o, after) → with_front (read ++ (m.0, o) ∷ []) (objects_behind transform arcs (m.0 ∷ met) ms after) ≡ whole
       turns o after e = sym (one_more read (m.0, o) (objects_behind transform arcs (m.0 ∷ met) ms after)) ∙ (sym (ap then_rest e) ∙ opened)
 
-      pub fails : (e : Stop) → Fails e (object transform arcs m.1 c) → Fails e whole
-      fails stop.Memory f = tt
-      fails (stop.Fault e) f = sym opened ∙ ap then_rest f
+      pub fails : (e : TopoFault) → object transform arcs m.1 c ≡ Err e → whole ≡ Err e
+      fails e f = sym opened ∙ ap then_rest f
 
 pub ends : (transform : Option Transform) (arcs : List (List Point)) (met : List (List ℕ)) (items : Members) (read : Named) (c : Counts) (whole : Result (Named × Counts) TopoFault)
     → items ≡ [] → with_front read (objects_behind transform arcs met items c) ≡ whole → whole ≡ Ok (read, c)

@@ -6,7 +6,7 @@ use Rattle.json_value.specs.declared.json.Json.{Json}
 use Rattle.topology_reading.specs.Members.{Members}
 use Rattle.topology_reading.specs.Objects.{is_met}
 use Rattle.topojson_decoder.specs.Names.{names_before_repeat}
-use Rattle.topojson_decoder.proofs.Gathering.{drop_end, drop_here}
+use Rattle.json_members.proofs.Turns.{drop_end, drop_here}
 
 abbrev pub names_of : Members → List (List ℕ)
 names_of ms = map (λ m. m.0) ms

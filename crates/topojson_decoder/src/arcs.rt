@@ -7,7 +7,6 @@ ghost use Rattle.topology_reading.specs.Arcs as spec;
 ghost use Rattle.topology_reading.specs.Reader.{each};
 
 use crate::cells::{cell, places};
-use crate::stop::Stop;
 use geojson_types::Counts;
 use json_value::{Items, Json};
 use std::alloc::Global;
@@ -23,7 +22,7 @@ fn grid_cells(
     transform: &Transform,
     values: &[Json],
     counts: &mut Counts,
-) -> Result<Vec<Cell>, Stop>
+) -> Result<Vec<Cell>, TopoFault>
     ensures { Gives (λ cs. cs.items) result counts.new (spec.cells_behind transform.now origin values.now counts.old) }
 {
     let mut read = Vec::new(alloc);
@@ -42,7 +41,7 @@ fn arc_cells(
     transform: Option<&Transform>,
     values: &[Json],
     counts: &mut Counts,
-) -> Result<Vec<Cell>, Stop>
+) -> Result<Vec<Cell>, TopoFault>
     ensures { Gives (λ cs. cs.items) result counts.new (spec.arc_cells (option_copied transform.entry) values.now counts.old) }
 {
     match transform {
@@ -58,15 +57,15 @@ fn arc(
     transform: Option<&Transform>,
     value: Json,
     counts: &mut Counts,
-) -> Result<Items<Cell>, Stop>
+) -> Result<Items<Cell>, TopoFault>
     ensures { Gives (λ cs. cs) result counts.new (spec.arc (option_copied transform.entry) value counts.old) }
 {
     let Some(elements) = value.into_array() else {
-        return Err(Stop::Fault(TopoFault::WrongKind));
+        return Err(TopoFault::WrongKind);
     };
     let cells = arc_cells(alloc, transform, elements.as_slice(), counts)?;
     if cells.len() < 2 {
-        return Err(Stop::Fault(TopoFault::ShortArc));
+        return Err(TopoFault::ShortArc);
     }
     Ok(Items::of(cells))
 }
@@ -77,7 +76,7 @@ fn arcs_in(
     transform: Option<&Transform>,
     values: Vec<Json>,
     counts: &mut Counts,
-) -> Result<Vec<Items<Cell>>, Stop>
+) -> Result<Vec<Items<Cell>>, TopoFault>
     ensures { Gives (λ cs. cs.items) result counts.new (each (spec.arc (option_copied transform.entry)) values.items counts.old) }
 {
     let mut read = Vec::new(alloc);
@@ -94,11 +93,11 @@ pub(crate) fn arc_list(
     transform: Option<&Transform>,
     value: Json,
     counts: &mut Counts,
-) -> Result<Vec<Items<Cell>>, Stop>
+) -> Result<Vec<Items<Cell>>, TopoFault>
     ensures { Gives (λ cs. cs.items) result counts.new (spec.arc_list (option_copied transform.entry) value counts.old) }
 {
     match value.into_array() {
-        None => Err(Stop::Fault(TopoFault::WrongKind)),
+        None => Err(TopoFault::WrongKind),
         Some(values) => arcs_in(alloc, transform, values.into_inner(), counts),
     }
 }

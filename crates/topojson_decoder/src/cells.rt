@@ -8,7 +8,6 @@ ghost use Rattle.topology_reading.specs.Reader.{each};
 
 use crate::members::elements;
 use crate::numbers::{grid_number, number_text, units};
-use crate::stop::Stop;
 use geojson_types::Counts;
 use json_value::Json;
 use std::alloc::Global;
@@ -17,12 +16,12 @@ use topology_reading::TopoFault;
 
 /// The position with these elements. Those behind the second are not looked at.
 #[tactic(auto, unfolding(topology_reading::specs::Arcs::elements_position))]
-fn elements_position(elements: &[Json], counts: &mut Counts) -> Result<Cell, Stop>
+fn elements_position(elements: &[Json], counts: &mut Counts) -> Result<Cell, TopoFault>
     ensures { Gives (λ p. p) result counts.new (spec.elements_position elements.now counts.old) }
 {
     match elements {
-        [] => Err(Stop::Fault(TopoFault::WrongKind)),
-        [_] => Err(Stop::Fault(TopoFault::WrongKind)),
+        [] => Err(TopoFault::WrongKind),
+        [_] => Err(TopoFault::WrongKind),
         [x, y, more @ ..] => {
             let x = number_text(x)?;
             let y = number_text(y)?;
@@ -36,14 +35,14 @@ fn elements_position(elements: &[Json], counts: &mut Counts) -> Result<Cell, Sto
 
 /// The cell of the grid that lies so far from another, and at a position.
 #[tactic(auto, unfolding(topology_reading::specs::Arcs::grid_cell, topo_types::specs::Transforms::placed))]
-fn grid_cell(transform: &Transform, before: Cell, difference: Cell) -> Result<Cell, Stop>
+fn grid_cell(transform: &Transform, before: Cell, difference: Cell) -> Result<Cell, TopoFault>
     ensures { Finds (λ c. c) result (spec.grid_cell transform.now (moved before difference)) }
 {
     let Some(cell) = cell_after(before, difference) else {
-        return Err(Stop::Fault(TopoFault::GridNumber));
+        return Err(TopoFault::GridNumber);
     };
     match placed(Some(transform), cell) {
-        None => Err(Stop::Fault(TopoFault::Range)),
+        None => Err(TopoFault::Range),
         Some(_) => Ok(cell),
     }
 }
@@ -56,13 +55,13 @@ fn elements_cell(
     before: Cell,
     elements: &[Json],
     counts: &mut Counts,
-) -> Result<Cell, Stop>
+) -> Result<Cell, TopoFault>
     requires { bound ≤ 2 ^ 32 }
     ensures { Gives (λ c. c) result counts.new (spec.elements_cell transform.now bound before elements.now counts.old) }
 {
     match elements {
-        [] => Err(Stop::Fault(TopoFault::WrongKind)),
-        [_] => Err(Stop::Fault(TopoFault::WrongKind)),
+        [] => Err(TopoFault::WrongKind),
+        [_] => Err(TopoFault::WrongKind),
         [x, y, more @ ..] => {
             let x = number_text(x)?;
             let y = number_text(y)?;
@@ -83,7 +82,7 @@ pub(crate) fn cell(
     before: Cell,
     value: &Json,
     counts: &mut Counts,
-) -> Result<Cell, Stop>
+) -> Result<Cell, TopoFault>
     requires { bound ≤ 2 ^ 32 }
     ensures { Gives (λ c. c) result counts.new (spec.cell transform.now bound before value.now counts.old) }
 {
@@ -97,7 +96,7 @@ pub(crate) fn elements_place(
     transform: Option<&Transform>,
     elements: &[Json],
     counts: &mut Counts,
-) -> Result<Cell, Stop>
+) -> Result<Cell, TopoFault>
     ensures { Gives (λ c. c) result counts.new (spec.elements_place (option_copied transform.entry) elements.now counts.old) }
 {
     match transform {
@@ -111,7 +110,11 @@ pub(crate) fn elements_place(
 
 /// The place that a value is.
 #[tactic(auto, unfolding(topology_reading::specs::Arcs::place))]
-fn place(transform: Option<&Transform>, value: &Json, counts: &mut Counts) -> Result<Cell, Stop>
+fn place(
+    transform: Option<&Transform>,
+    value: &Json,
+    counts: &mut Counts,
+) -> Result<Cell, TopoFault>
     ensures { Gives (λ c. c) result counts.new (spec.place (option_copied transform.entry) value.now counts.old) }
 {
     let elements = elements(value)?;
@@ -124,7 +127,7 @@ pub(crate) fn places(
     transform: Option<&Transform>,
     values: &[Json],
     counts: &mut Counts,
-) -> Result<Vec<Cell>, Stop>
+) -> Result<Vec<Cell>, TopoFault>
     ensures { Gives (λ cs. cs.items) result counts.new (each (spec.place (option_copied transform.entry)) values.now counts.old) }
 {
     let mut read = Vec::new(alloc);

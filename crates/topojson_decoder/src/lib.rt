@@ -13,8 +13,6 @@ mod objects;
 mod polygons;
 mod reading;
 mod shapes;
-mod slots;
-mod stop;
 mod transforms;
 mod types;
 

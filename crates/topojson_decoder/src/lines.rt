@@ -8,7 +8,6 @@ ghost use Rattle.topology_reading.specs.Lines as spec;
 ghost use Rattle.topology_reading.specs.Reader.{kept};
 
 use crate::numbers::number_text;
-use crate::stop::Stop;
 use geojson_types::Counts;
 use json_value::{Items, Json};
 use std::alloc::Global;
@@ -23,11 +22,11 @@ const INDEX_LIMIT: i128 = i64::MAX as i128;
 pub(crate) fn some_elements<'a>(
     value: &'a Json,
     counts: &mut Counts,
-) -> Result<Option<&'a [Json]>, Stop>
+) -> Result<Option<&'a [Json]>, TopoFault>
     ensures { Gives option_copied result counts.new (spec.some_elements value.now counts.old) }
 {
     match value.as_array() {
-        None => Err(Stop::Fault(TopoFault::WrongKind)),
+        None => Err(TopoFault::WrongKind),
         Some([]) => {
             counts.count_empty();
             Ok(None)
@@ -38,18 +37,18 @@ pub(crate) fn some_elements<'a>(
 
 /// The index that a value is, where there are so many arcs.
 #[tactic(auto, unfolding(topology_reading::specs::Lines::index))]
-fn index(count: usize, value: &Json) -> Result<ArcRef, Stop>
+fn index(count: usize, value: &Json) -> Result<ArcRef, TopoFault>
     ensures { Reads (λ i. i) result (spec.index count value.now) }
 {
     let Ok(scaled) = number_text(value)?.scaled(0, INDEX_LIMIT) else {
-        return Err(Stop::Fault(TopoFault::IndexRange));
+        return Err(TopoFault::IndexRange);
     };
     if !scaled.exact {
-        return Err(Stop::Fault(TopoFault::WrongKind));
+        return Err(TopoFault::WrongKind);
     }
     let reference = ArcRef::of(scaled.value as i64);
     if reference.index() >= count {
-        return Err(Stop::Fault(TopoFault::IndexRange));
+        return Err(TopoFault::IndexRange);
     }
     Ok(reference)
 }
@@ -104,7 +103,7 @@ pub(crate) fn indexes(
     alloc: Global,
     arcs: &[Items<Cell>],
     values: &[Json],
-) -> Result<Vec<ArcRef>, Stop>
+) -> Result<Vec<ArcRef>, TopoFault>
     ensures { Reads (λ refs. refs.items) result (spec.indexes arcs.now values.now) }
 {
     let mut refs = Vec::new(alloc);
@@ -112,7 +111,7 @@ pub(crate) fn indexes(
     'values: for value in values {
         let reference = index(arcs.len(), value)?;
         if !is_joined(arcs, before, reference) {
-            return Err(Stop::Fault(TopoFault::Unjoined));
+            return Err(TopoFault::Unjoined);
         }
         refs.push(reference)?;
         before = Some(reference);
@@ -136,7 +135,7 @@ pub(crate) fn line_in(
     alloc: Global,
     arcs: &[Items<Cell>],
     values: &[Json],
-) -> Result<Option<Items<ArcRef>>, Stop>
+) -> Result<Option<Items<ArcRef>>, TopoFault>
     ensures { Reads (λ refs. refs) result (spec.line_in arcs.now values.now) }
 {
     Ok(Some(Items::of(indexes(alloc, arcs, values)?)))
@@ -149,7 +148,7 @@ fn line(
     arcs: &[Items<Cell>],
     value: &Json,
     counts: &mut Counts,
-) -> Result<Option<Items<ArcRef>>, Stop>
+) -> Result<Option<Items<ArcRef>>, TopoFault>
     ensures { Gives (λ refs. refs) result counts.new (spec.line arcs.now value.now counts.old) }
 {
     match some_elements(value, counts)? {
@@ -164,7 +163,7 @@ pub(crate) fn lines(
     arcs: &[Items<Cell>],
     values: &[Json],
     counts: &mut Counts,
-) -> Result<Vec<Items<ArcRef>>, Stop>
+) -> Result<Vec<Items<ArcRef>>, TopoFault>
     ensures { Gives (λ ls. ls.items) result counts.new (kept (spec.line arcs.now) values.now counts.old) }
 {
     let mut read = Vec::new(alloc);

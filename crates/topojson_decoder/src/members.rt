@@ -1,48 +1,40 @@
-// Looking up the members of an object by name, and the elements of an array.
+// What a value must be: an object or an array.
 ghost use Rattle.std.specs.Prelude.{◌≡◌};
-ghost use Rattle.std.specs.Option.{option_copied};
 ghost use Rattle.topojson_decoder.specs.Answers.{Finds};
 ghost use Rattle.topology_reading.specs.Members as spec;
 
-use crate::stop::Stop;
 use json_value::{Json, OwnText};
 use topology_reading::TopoFault;
 
-/// The value of the member of this name, if there is one.
-pub(crate) fn find<'a>(members: &'a [(OwnText, Json)], name: &str) -> Result<Option<&'a Json>, Stop>
-    ensures { Finds option_copied result (spec.find name.now members.now) }
+/// The elements of a value that must be an array.
+#[tactic(auto, unfolding(topology_reading::specs::Members::elements))]
+pub(crate) fn elements(value: &Json) -> Result<&[Json], TopoFault>
+    ensures { Finds (λ vs. vs.now) result (spec.elements value.now) }
 {
-    let mut found = None;
-    'members: for member in members {
-        if member.0.as_str() != name {
-            continue;
-        }
-        if found.is_some() {
-            return Err(Stop::Fault(TopoFault::Duplicate));
-        }
-        found = Some(&member.1);
+    match value.as_array() {
+        None => Err(TopoFault::WrongKind),
+        Some(elements) => Ok(elements),
     }
-    Ok(found)
 }
 
-/// The value of the member of this name, which must be there.
-#[tactic(auto, unfolding(topology_reading::specs::Members::need))]
-pub(crate) fn need<'a>(members: &'a [(OwnText, Json)], name: &str) -> Result<&'a Json, Stop>
-    ensures { Finds (λ v. v.now) result (spec.need name.now members.now) }
+/// The members of a value that must be an object.
+#[tactic(auto, unfolding(topology_reading::specs::Members::members))]
+pub(crate) fn members_of(value: Json) -> Result<Vec<(OwnText, Json)>, TopoFault>
+    ensures { Finds (λ ms. ms.items) result (spec.members value) }
 {
-    match find(members, name)? {
-        None => Err(Stop::Fault(TopoFault::Missing)),
-        Some(value) => Ok(value),
+    match value.into_object() {
+        None => Err(TopoFault::WrongKind),
+        Some(members) => Ok(members.into_inner()),
     }
 }
 
 /// The elements of a value that must be an array.
 #[tactic(auto, unfolding(topology_reading::specs::Members::elements))]
-pub(crate) fn elements(value: &Json) -> Result<&[Json], Stop>
-    ensures { Finds (λ vs. vs.now) result (spec.elements value.now) }
+pub(crate) fn elements_of(value: Json) -> Result<Vec<Json>, TopoFault>
+    ensures { Finds (λ vs. vs.items) result (spec.elements value) }
 {
-    match value.as_array() {
-        None => Err(Stop::Fault(TopoFault::WrongKind)),
-        Some(elements) => Ok(elements),
+    match value.into_array() {
+        None => Err(TopoFault::WrongKind),
+        Some(elements) => Ok(elements.into_inner()),
     }
 }

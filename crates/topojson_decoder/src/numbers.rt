@@ -4,7 +4,6 @@ ghost use Rattle.geojson_types.specs.Points.{position_limit};
 ghost use Rattle.topojson_decoder.specs.Answers.{Finds, Gives};
 ghost use Rattle.topology_reading.specs.Arcs as spec;
 
-use crate::stop::Stop;
 use decimal_text::NumText;
 use geojson_types::{Counts, POSITION_LIMIT};
 use json_value::Json;
@@ -15,23 +14,23 @@ const UNIT_PLACES: u32 = 7;
 
 /// The text of a value that must be a number.
 #[tactic(auto, unfolding(topology_reading::specs::Arcs::number_text))]
-pub(crate) fn number_text(value: &Json) -> Result<&NumText, Stop>
+pub(crate) fn number_text(value: &Json) -> Result<&NumText, TopoFault>
     ensures { Finds (λ t. t.now) result (spec.number_text value.now) }
 {
     match value.as_number() {
-        None => Err(Stop::Fault(TopoFault::WrongKind)),
+        None => Err(TopoFault::WrongKind),
         Some(number) => Ok(number),
     }
 }
 
 /// A number in whole units.
 #[tactic(auto, unfolding(topology_reading::specs::Arcs::units))]
-pub(crate) fn units(number: &NumText, counts: &mut Counts) -> Result<i64, Stop>
+pub(crate) fn units(number: &NumText, counts: &mut Counts) -> Result<i64, TopoFault>
     ensures value { Gives (λ x. x) result counts.new (spec.units number.now counts.old) }
     ensures within { IfOk result (λ x. unsigned_abs x ≤ position_limit) }
 {
     match number.scaled(UNIT_PLACES, POSITION_LIMIT as i128) {
-        Err(_) => Err(Stop::Fault(TopoFault::Range)),
+        Err(_) => Err(TopoFault::Range),
         Ok(scaled) => {
             counts.count_rounded(!scaled.exact);
             Ok(scaled.value as i64)
@@ -41,16 +40,16 @@ pub(crate) fn units(number: &NumText, counts: &mut Counts) -> Result<i64, Stop>
 
 /// A whole number that is no farther from zero than the bound.
 #[tactic(auto, unfolding(topology_reading::specs::Arcs::grid_number))]
-pub(crate) fn grid_number(bound: u64, number: &NumText) -> Result<i64, Stop>
+pub(crate) fn grid_number(bound: u64, number: &NumText) -> Result<i64, TopoFault>
     requires { bound ≤ 2 ^ 32 }
     ensures value { Finds (λ x. x) result (spec.grid_number bound number.now) }
     ensures within { IfOk result (λ x. unsigned_abs x ≤ bound) }
 {
     match number.scaled(0, i128::from(bound)) {
-        Err(_) => Err(Stop::Fault(TopoFault::GridNumber)),
+        Err(_) => Err(TopoFault::GridNumber),
         Ok(scaled) => {
             if !scaled.exact {
-                return Err(Stop::Fault(TopoFault::GridNumber));
+                return Err(TopoFault::GridNumber);
             }
             Ok(scaled.value as i64)
         }

@@ -8,12 +8,12 @@ ghost use Rattle.topology_reading.specs.GeometryTypes.{is_collection as is_colle
 ghost use Rattle.topology_reading.specs.Objects as spec;
 ghost use Rattle.topology_reading.specs.Reader.{each};
 
-use crate::feature_reading::{elements_of, feature, feature_element, members_of};
-use crate::slots::take;
-use crate::stop::Stop;
+use crate::feature_reading::{feature, feature_element};
+use crate::members::{elements_of, members_of};
 use crate::types::object_type;
 use byte_ends::Memory;
 use geojson_types::Counts;
+use json_members::take_needed;
 use json_value::{Items, Json, OwnText};
 use std::alloc::Global;
 use std::collections::HashSet;
@@ -27,7 +27,7 @@ fn features_in(
     arcs: &[Items<Cell>],
     values: Vec<Json>,
     counts: &mut Counts,
-) -> Result<Vec<TopoFeature>, Stop>
+) -> Result<Vec<TopoFeature>, TopoFault>
     ensures { Gives (λ fs. fs.items) result counts.new (each (element_of (option_copied transform.entry) arcs.now) values.items counts.old) }
 {
     let mut read = Vec::new(alloc);
@@ -38,17 +38,17 @@ fn features_in(
 }
 
 /// The object that a collection with these members is: its geometries as features.
-#[tactic(auto, unfolding(topology_reading::specs::Objects::collection, topology_reading::specs::Objects::features))]
+#[tactic(auto, unfolding(topology_reading::specs::Objects::collection, topology_reading::specs::Objects::features, topology_reading::specs::Members::need))]
 fn collection(
     alloc: Global,
     transform: Option<&Transform>,
     arcs: &[Items<Cell>],
-    members: Vec<(OwnText, Json)>,
+    mut members: Vec<(OwnText, Json)>,
     counts: &mut Counts,
-) -> Result<TopoObject, Stop>
+) -> Result<TopoObject, TopoFault>
     ensures { Gives (λ o. o) result counts.new (spec.collection (option_copied transform.entry) arcs.now members.items counts.old) }
 {
-    let values = elements_of(take(members, "geometries")?)?;
+    let values = elements_of(take_needed(&mut members, "geometries")?)?;
     let features = features_in(alloc, transform, arcs, values, counts)?;
     Ok(TopoObject::Many(Items::of(features)))
 }
@@ -73,7 +73,7 @@ fn object(
     arcs: &[Items<Cell>],
     value: Json,
     counts: &mut Counts,
-) -> Result<TopoObject, Stop>
+) -> Result<TopoObject, TopoFault>
     ensures { Gives (λ o. o) result counts.new (spec.object (option_copied transform.entry) arcs.now value counts.old) }
 {
     let members = members_of(value)?;
@@ -106,14 +106,14 @@ fn objects_in(
     arcs: &[Items<Cell>],
     members: Vec<(OwnText, Json)>,
     counts: &mut Counts,
-) -> Result<Vec<(OwnText, TopoObject)>, Stop>
+) -> Result<Vec<(OwnText, TopoObject)>, TopoFault>
     ensures { Gives (λ os. os.items) result counts.new (spec.objects_behind (option_copied transform.entry) arcs.now [] members.items counts.old) }
 {
     let repeat = members_before_repeat(alloc, &members)?;
     let mut read = Vec::new(alloc);
     'members: for (name, value) in members {
         if read.len() == repeat {
-            return Err(Stop::Fault(TopoFault::Duplicate));
+            return Err(TopoFault::Duplicate);
         }
         let object = object(alloc, transform, arcs, value, counts)?;
         read.push((name, object))?;
@@ -129,7 +129,7 @@ pub(crate) fn objects(
     arcs: &[Items<Cell>],
     value: Json,
     counts: &mut Counts,
-) -> Result<Vec<(OwnText, TopoObject)>, Stop>
+) -> Result<Vec<(OwnText, TopoObject)>, TopoFault>
     ensures { Gives (λ os. os.items) result counts.new (spec.objects (option_copied transform.entry) arcs.now value counts.old) }
 {
     let members = members_of(value)?;

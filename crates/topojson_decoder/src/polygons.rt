@@ -5,7 +5,6 @@ ghost use Rattle.topology_reading.specs.Lines as spec;
 ghost use Rattle.topology_reading.specs.Reader.{kept};
 
 use crate::lines::{closes, indexes, some_elements};
-use crate::stop::Stop;
 use geojson_types::Counts;
 use json_value::{Items, Json};
 use std::alloc::Global;
@@ -18,12 +17,12 @@ fn ring_in(
     alloc: Global,
     arcs: &[Items<Cell>],
     values: &[Json],
-) -> Result<Option<Items<ArcRef>>, Stop>
+) -> Result<Option<Items<ArcRef>>, TopoFault>
     ensures { Reads (λ refs. refs) result (spec.ring_in arcs.now values.now) }
 {
     let refs = indexes(alloc, arcs, values)?;
     if !closes(arcs, &refs) {
-        return Err(Stop::Fault(TopoFault::OpenRing));
+        return Err(TopoFault::OpenRing);
     }
     Ok(Some(Items::of(refs)))
 }
@@ -35,7 +34,7 @@ fn ring(
     arcs: &[Items<Cell>],
     value: &Json,
     counts: &mut Counts,
-) -> Result<Option<Items<ArcRef>>, Stop>
+) -> Result<Option<Items<ArcRef>>, TopoFault>
     ensures { Gives (λ refs. refs) result counts.new (spec.ring arcs.now value.now counts.old) }
 {
     match some_elements(value, counts)? {
@@ -50,7 +49,7 @@ fn rings(
     arcs: &[Items<Cell>],
     values: &[Json],
     counts: &mut Counts,
-) -> Result<Vec<Items<ArcRef>>, Stop>
+) -> Result<Vec<Items<ArcRef>>, TopoFault>
     ensures { Gives (λ rs. rs.items) result counts.new (kept (spec.ring arcs.now) values.now counts.old) }
 {
     let mut read = Vec::new(alloc);
@@ -70,7 +69,7 @@ pub(crate) fn polygon_in(
     arcs: &[Items<Cell>],
     values: &[Json],
     counts: &mut Counts,
-) -> Result<Option<Items<Items<ArcRef>>>, Stop>
+) -> Result<Option<Items<Items<ArcRef>>>, TopoFault>
     ensures { Gives (λ rs. rs) result counts.new (spec.polygon_in arcs.now values.now counts.old) }
 {
     let [first, more @ ..] = values else {
@@ -92,7 +91,7 @@ fn polygon(
     arcs: &[Items<Cell>],
     value: &Json,
     counts: &mut Counts,
-) -> Result<Option<Items<Items<ArcRef>>>, Stop>
+) -> Result<Option<Items<Items<ArcRef>>>, TopoFault>
     ensures { Gives (λ rs. rs) result counts.new (spec.polygon arcs.now value.now counts.old) }
 {
     match some_elements(value, counts)? {
@@ -107,7 +106,7 @@ pub(crate) fn polygons(
     arcs: &[Items<Cell>],
     values: &[Json],
     counts: &mut Counts,
-) -> Result<Vec<Items<Items<ArcRef>>>, Stop>
+) -> Result<Vec<Items<Items<ArcRef>>>, TopoFault>
     ensures { Gives (λ rss. rss.items) result counts.new (kept (spec.polygon arcs.now) values.now counts.old) }
 {
     let mut read = Vec::new(alloc);

@@ -2,17 +2,14 @@
 ghost use Rattle.std.specs.Prelude.{◌≡◌, ◌≢◌, Ok, Err, IfOk, IfErr};
 ghost use Rattle.std.specs.Option.{option_copied};
 ghost use Rattle.topojson_decoder.specs.Answers.{Gives};
-ghost use Rattle.topojson_decoder.specs.Slots.{slots_contents};
 ghost use Rattle.topology_reading.specs.Topologies as spec;
 ghost use Rattle.topology_reading.specs.declared.fault.TopoFault.TheVariants.{Memory};
 
 use crate::arcs::arc_list;
-use crate::members::need;
 use crate::objects::objects;
-use crate::slots::{Slot, TopologySlots, topology_slots};
-use crate::stop::Stop;
 use crate::transforms::transform_if;
 use geojson_types::Counts;
+use json_members::{need, take, take_needed};
 use json_value::{Items, Json, OwnText};
 use std::alloc::Global;
 use topo_types::{Cell, TopoObject, Topology, Transform};
@@ -26,43 +23,40 @@ struct TopologyParts {
     transform: Option<Transform>,
 }
 
-/// The objects and the arcs that are held by these slots. The arcs are read first.
+/// The objects and the arcs among these members. The arcs are read first.
+#[tactic(auto, unfolding(topology_reading::specs::Members::need))]
 fn objects_and_arcs(
     alloc: Global,
     transform: Option<&Transform>,
-    arcs: Slot,
-    named: Slot,
+    mut members: Vec<(OwnText, Json)>,
     counts: &mut Counts,
-) -> Result<(Items<(OwnText, TopoObject)>, Items<Items<Cell>>), Stop>
-    ensures { Gives (λ p. record { objects = p.0; arcs = p.1; transform = option_copied transform.entry }) result counts.new (slots_contents (option_copied transform.entry) arcs named counts.old) }
+) -> Result<(Items<(OwnText, TopoObject)>, Items<Items<Cell>>), TopoFault>
+    ensures { Gives (λ p. record { objects = p.0; arcs = p.1; transform = option_copied transform.entry }) result counts.new (spec.contents_on (option_copied transform.entry) members.items counts.old) }
 {
-    let arcs = arc_list(alloc, transform, arcs.needed()?, counts)?;
-    let objects = objects(alloc, transform, &arcs, named.needed()?, counts)?;
+    let value = take_needed(&mut members, "arcs")?;
+    let arcs = arc_list(alloc, transform, value, counts)?;
+    let named = take_needed(&mut members, "objects")?;
+    let objects = objects(alloc, transform, &arcs, named, counts)?;
     Ok((Items::of(objects), Items::of(arcs)))
 }
 
 /// The parts of the topology with these members.
-#[tactic(auto, using(crate::proofs::Filling::find_slot), unfolding(topology_reading::specs::Topologies::contents))]
+#[tactic(auto, unfolding(topology_reading::specs::Topologies::contents, topology_reading::specs::Members::need))]
 fn parts_in(
     alloc: Global,
-    members: Vec<(OwnText, Json)>,
+    mut members: Vec<(OwnText, Json)>,
     counts: &mut Counts,
-) -> Result<TopologyParts, Stop>
+) -> Result<TopologyParts, TopoFault>
     ensures { Gives (λ p. record { objects = p.objects; arcs = p.arcs; transform = p.transform }) result counts.new (spec.contents members.items counts.old) }
 {
     let Some(name) = need(&members, "type")?.as_text() else {
-        return Err(Stop::Fault(TopoFault::WrongKind));
+        return Err(TopoFault::WrongKind);
     };
     if name != "Topology" {
-        return Err(Stop::Fault(TopoFault::NotTopology));
+        return Err(TopoFault::NotTopology);
     }
-    let TopologySlots {
-        transform,
-        arcs,
-        objects,
-    } = topology_slots(members);
-    let transform = transform_if(alloc, transform.value()?)?;
-    let (objects, arcs) = objects_and_arcs(alloc, transform.as_ref(), arcs, objects, counts)?;
+    let transform = transform_if(alloc, take(&mut members, "transform")?)?;
+    let (objects, arcs) = objects_and_arcs(alloc, transform.as_ref(), members, counts)?;
     Ok(TopologyParts {
         objects,
         arcs,
@@ -72,11 +66,11 @@ fn parts_in(
 
 /// The parts of the topology that a value is.
 #[tactic(auto, unfolding(topology_reading::specs::Topologies::value_contents))]
-fn parts_of(alloc: Global, value: Json, counts: &mut Counts) -> Result<TopologyParts, Stop>
+fn parts_of(alloc: Global, value: Json, counts: &mut Counts) -> Result<TopologyParts, TopoFault>
     ensures { Gives (λ p. record { objects = p.objects; arcs = p.arcs; transform = p.transform }) result counts.new (spec.value_contents value counts.old) }
 {
     match value.into_object() {
-        None => Err(Stop::Fault(TopoFault::NotTopology)),
+        None => Err(TopoFault::NotTopology),
         Some(members) => parts_in(alloc, members.into_inner(), counts),
     }
 }

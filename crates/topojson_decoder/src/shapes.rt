@@ -7,11 +7,10 @@ ghost use Rattle.topology_reading.specs.Shapes as spec;
 
 use crate::cells::{elements_place, places};
 use crate::lines::{line_in, lines, some_elements};
-use crate::members::need;
 use crate::polygons::{polygon_in, polygons};
-use crate::stop::Stop;
 use crate::types::{object_type, part_name};
 use geojson_types::Counts;
+use json_members::need;
 use json_value::{Items, Json, OwnText};
 use std::alloc::Global;
 use topo_types::{Cell, TopoShape, Transform};
@@ -35,7 +34,7 @@ fn places_in(
     kind: PlacesType,
     values: &[Json],
     counts: &mut Counts,
-) -> Result<Option<TopoShape>, Stop>
+) -> Result<Option<TopoShape>, TopoFault>
     ensures { Gives (λ x. x) result counts.new (spec.places_in (option_copied transform.entry) kind values.now counts.old) }
 {
     match kind {
@@ -58,7 +57,7 @@ fn arcs_in(
     kind: ArcsType,
     values: &[Json],
     counts: &mut Counts,
-) -> Result<Option<TopoShape>, Stop>
+) -> Result<Option<TopoShape>, TopoFault>
     ensures { Gives (λ x. x) result counts.new (spec.arcs_in arcs.now kind values.now counts.old) }
 {
     match kind {
@@ -89,7 +88,7 @@ fn places_shape(
     kind: PlacesType,
     value: &Json,
     counts: &mut Counts,
-) -> Result<Option<TopoShape>, Stop>
+) -> Result<Option<TopoShape>, TopoFault>
     ensures { Gives (λ x. x) result counts.new (spec.places_shape (option_copied transform.entry) kind value.now counts.old) }
 {
     match some_elements(value, counts)? {
@@ -106,7 +105,7 @@ fn arcs_shape(
     kind: ArcsType,
     value: &Json,
     counts: &mut Counts,
-) -> Result<Option<TopoShape>, Stop>
+) -> Result<Option<TopoShape>, TopoFault>
     ensures { Gives (λ x. x) result counts.new (spec.arcs_shape arcs.now kind value.now counts.old) }
 {
     match some_elements(value, counts)? {
@@ -118,14 +117,14 @@ fn arcs_shape(
 /// The shape of this type with this value as the member that it is made of.
 #[cycle(geometries)]
 #[tactic(auto, using(crate::proofs::Deeper::deeper), unfolding(topology_reading::specs::Shapes::part))]
-pub(crate) fn part(
+fn part(
     alloc: Global,
     transform: Option<&Transform>,
     arcs: &[Items<Cell>],
     geometry: GeometryType,
     value: &Json,
     counts: &mut Counts,
-) -> Result<Option<TopoShape>, Stop>
+) -> Result<Option<TopoShape>, TopoFault>
     ensures { Gives (λ x. x) result counts.new (spec.part (option_copied transform.entry) arcs.now geometry value.now counts.old) }
 {
     match geometry {
@@ -138,25 +137,42 @@ pub(crate) fn part(
     }
 }
 
-/// The shape of the geometry object with these members.
+/// The shape of this type with these members. A null type reads none of them.
 #[cycle(geometries)]
-#[tactic(auto, using(crate::proofs::Deeper::deeper), unfolding(topology_reading::specs::Shapes::geometry, topology_reading::specs::Shapes::typed_shape))]
-fn geometry(
+#[tactic(auto, using(crate::proofs::Deeper::deeper), unfolding(topology_reading::specs::Shapes::typed_shape, topology_reading::specs::Members::need))]
+pub(crate) fn typed_shape(
     alloc: Global,
     transform: Option<&Transform>,
     arcs: &[Items<Cell>],
+    geometry: Option<GeometryType>,
     members: &[(OwnText, Json)],
     counts: &mut Counts,
-) -> Result<Option<TopoShape>, Stop>
-    ensures { Gives (λ x. x) result counts.new (spec.geometry (option_copied transform.entry) arcs.now members.now counts.old) }
+) -> Result<Option<TopoShape>, TopoFault>
+    ensures { Gives (λ x. x) result counts.new (spec.typed_shape (option_copied transform.entry) arcs.now geometry members.now counts.old) }
 {
-    match object_type(members)? {
+    match geometry {
         None => Ok(None),
         Some(geometry) => {
             let value = need(members, part_name(geometry))?;
             part(alloc, transform, arcs, geometry, value, counts)
         }
     }
+}
+
+/// The shape of the geometry object with these members.
+#[cycle(geometries)]
+#[tactic(auto, using(crate::proofs::Deeper::deeper), unfolding(topology_reading::specs::Shapes::geometry))]
+fn geometry(
+    alloc: Global,
+    transform: Option<&Transform>,
+    arcs: &[Items<Cell>],
+    members: &[(OwnText, Json)],
+    counts: &mut Counts,
+) -> Result<Option<TopoShape>, TopoFault>
+    ensures { Gives (λ x. x) result counts.new (spec.geometry (option_copied transform.entry) arcs.now members.now counts.old) }
+{
+    let geometry = object_type(members)?;
+    typed_shape(alloc, transform, arcs, geometry, members, counts)
 }
 
 /// The geometries of a collection in order (TopoJSON 1.0, section 2.2.7). Those that are null are left out.
@@ -168,16 +184,16 @@ fn shapes(
     arcs: &[Items<Cell>],
     value: &Json,
     counts: &mut Counts,
-) -> Result<Vec<TopoShape>, Stop>
+) -> Result<Vec<TopoShape>, TopoFault>
     ensures { Gives (λ xs. xs.items) result counts.new (spec.shapes (option_copied transform.entry) arcs.now value.now counts.old) }
 {
     let Some(values) = value.as_array() else {
-        return Err(Stop::Fault(TopoFault::WrongKind));
+        return Err(TopoFault::WrongKind);
     };
     let mut read = Vec::new(alloc);
     'values: for value in values {
         let Some(members) = value.as_object() else {
-            return Err(Stop::Fault(TopoFault::WrongKind));
+            return Err(TopoFault::WrongKind);
         };
         let Some(shape) = geometry(alloc, transform, arcs, members, counts)? else {
             continue;

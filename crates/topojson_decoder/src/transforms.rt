@@ -1,47 +1,59 @@
 // Reading the transform of a topology (TopoJSON 1.0, section 2.1.2).
-ghost use Rattle.std.specs.Prelude.{◌≡◌};
+ghost use Rattle.std.specs.Prelude.{◌≡◌, IfOk};
 ghost use Rattle.topojson_decoder.specs.Answers.{Finds, Reads};
 ghost use Rattle.topology_reading.specs.Transforms as spec;
 
-use crate::members::{elements, need};
+use crate::members::elements;
 use crate::numbers::number_text;
-use crate::stop::Stop;
+use byte_ends::Memory;
 use decimal_text::NumText;
+use json_members::need;
 use json_value::{Json, OwnText};
 use std::alloc::Global;
 use topo_types::{Transform, TransformNumber};
 use topology_reading::TopoFault;
 
+/// Both texts once more.
+fn copies(alloc: Global, x: &NumText, y: &NumText) -> Result<(NumText, NumText), Memory>
+    ensures { IfOk result (λ ts. ts ≡ (x.now, y.now)) }
+{
+    let x = x.copy(alloc)?;
+    let y = y.copy(alloc)?;
+    Ok((x, y))
+}
+
 /// The two number texts of an array. Elements behind them are not looked at.
 #[tactic(auto, unfolding(topology_reading::specs::Transforms::texts))]
-fn texts(alloc: Global, value: &Json) -> Result<(NumText, NumText), Stop>
+fn texts(alloc: Global, value: &Json) -> Result<(NumText, NumText), TopoFault>
     ensures { Reads (λ ts. ts) result (spec.texts value.now) }
 {
     match elements(value)? {
-        [] => Err(Stop::Fault(TopoFault::WrongKind)),
-        [_] => Err(Stop::Fault(TopoFault::WrongKind)),
+        [] => Err(TopoFault::WrongKind),
+        [_] => Err(TopoFault::WrongKind),
         [x, y, ..] => {
             let x = number_text(x)?;
             let y = number_text(y)?;
-            Ok((x.copy(alloc)?, y.copy(alloc)?))
+            Ok(copies(alloc, x, y)?)
         }
     }
 }
 
 /// The number with this text, unless it is out of range.
 #[tactic(auto, unfolding(topology_reading::specs::Transforms::transform_number))]
-fn transform_number(text: NumText) -> Result<TransformNumber, Stop>
+fn transform_number(text: NumText) -> Result<TransformNumber, TopoFault>
     ensures { Finds (λ n. n) result (spec.transform_number text) }
 {
     match TransformNumber::of(text) {
-        None => Err(Stop::Fault(TopoFault::Range)),
+        None => Err(TopoFault::Range),
         Some(number) => Ok(number),
     }
 }
 
 /// Two numbers of a transform.
 #[tactic(auto, unfolding(topology_reading::specs::Transforms::transform_pair))]
-fn transform_pair(texts: (NumText, NumText)) -> Result<(TransformNumber, TransformNumber), Stop>
+fn transform_pair(
+    texts: (NumText, NumText),
+) -> Result<(TransformNumber, TransformNumber), TopoFault>
     ensures { Reads (λ ns. ns) result (spec.transform_pair texts) }
 {
     let (x, y) = texts;
@@ -49,8 +61,8 @@ fn transform_pair(texts: (NumText, NumText)) -> Result<(TransformNumber, Transfo
 }
 
 /// The transform with these members: the texts of both are looked at before their ranges.
-#[tactic(auto, unfolding(topology_reading::specs::Transforms::transform_members))]
-fn transform_members(alloc: Global, members: &[(OwnText, Json)]) -> Result<Transform, Stop>
+#[tactic(auto, unfolding(topology_reading::specs::Transforms::transform_members, topology_reading::specs::Members::need))]
+fn transform_members(alloc: Global, members: &[(OwnText, Json)]) -> Result<Transform, TopoFault>
     ensures { Reads (λ t. t) result (spec.transform_members members.now) }
 {
     let scale = texts(alloc, need(members, "scale")?)?;
@@ -62,12 +74,15 @@ fn transform_members(alloc: Global, members: &[(OwnText, Json)]) -> Result<Trans
 
 /// The transform that the member `transform` gives, if it is there. Null is none.
 #[tactic(auto, unfolding(topology_reading::specs::Transforms::transform_if))]
-pub(crate) fn transform_if(alloc: Global, value: Option<Json>) -> Result<Option<Transform>, Stop>
+pub(crate) fn transform_if(
+    alloc: Global,
+    value: Option<Json>,
+) -> Result<Option<Transform>, TopoFault>
     ensures { Reads (λ t. t) result (spec.transform_if value) }
 {
     match value {
         None | Some(Json::Null) => Ok(None),
         Some(Json::Object(members)) => Ok(Some(transform_members(alloc, members.as_slice())?)),
-        Some(_) => Err(Stop::Fault(TopoFault::WrongKind)),
+        Some(_) => Err(TopoFault::WrongKind),
     }
 }

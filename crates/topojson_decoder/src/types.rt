@@ -3,8 +3,7 @@ ghost use Rattle.std.specs.Prelude.{◌≡◌};
 ghost use Rattle.topojson_decoder.specs.Answers.{Finds};
 ghost use Rattle.topology_reading.specs.GeometryTypes as spec;
 
-use crate::members::need;
-use crate::stop::Stop;
+use json_members::need;
 use json_value::{Json, OwnText};
 use topology_reading::{ArcsType, GeometryType, PlacesType, TopoFault};
 
@@ -34,22 +33,22 @@ fn geometry_type(name: &str) -> Option<GeometryType>
 
 /// The type that a value names. Null stands for no shape.
 #[tactic(auto, unfolding(topology_reading::specs::GeometryTypes::type_of))]
-fn type_of(value: &Json) -> Result<Option<GeometryType>, Stop>
+fn type_of(value: &Json) -> Result<Option<GeometryType>, TopoFault>
     ensures { Finds (λ t. t) result (spec.type_of value.now) }
 {
     match value {
         Json::Null => Ok(None),
         Json::Text(name) => match geometry_type(name.as_str()) {
-            None => Err(Stop::Fault(TopoFault::UnknownType)),
+            None => Err(TopoFault::UnknownType),
             Some(geometry) => Ok(Some(geometry)),
         },
-        _ => Err(Stop::Fault(TopoFault::WrongKind)),
+        _ => Err(TopoFault::WrongKind),
     }
 }
 
 /// The type of a geometry object with these members.
-#[tactic(auto, unfolding(topology_reading::specs::GeometryTypes::object_type))]
-pub(crate) fn object_type(members: &[(OwnText, Json)]) -> Result<Option<GeometryType>, Stop>
+#[tactic(auto, unfolding(topology_reading::specs::GeometryTypes::object_type, topology_reading::specs::Members::need))]
+pub(crate) fn object_type(members: &[(OwnText, Json)]) -> Result<Option<GeometryType>, TopoFault>
     ensures { Finds (λ t. t) result (spec.object_type members.now) }
 {
     type_of(need(members, "type")?)

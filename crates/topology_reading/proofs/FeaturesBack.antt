@@ -17,7 +17,9 @@ use Rattle.topology_reading.specs.declared.geometry_type.GeometryType.{GeometryT
 use Rattle.topology_reading.specs.declared.geometry_type.GeometryType.TheVariants.{Places, Arcs, Collection}
 use Rattle.topology_reading.specs.Features.{identifier, identifier_in, members_if, members_in, feature, feature_element}
 use Rattle.topology_reading.specs.GeometryTypes.{part_name, is_collection, type_in, type_of, object_type}
-use Rattle.topology_reading.specs.Members.{named, only, there, find, need}
+use Rattle.json_members.specs.Members.{only, there}
+use Rattle.topology_reading.specs.Members.{lookup_fault, named, find, need}
+use Rattle.topology_reading.specs.Reader.{with_fault}
 use Rattle.topology_reading.specs.Shapes.{typed_shape}
 use Rattle.topology_reading.proofs.ArcsBack.{object_members}
 use Rattle.topology_reading.proofs.LinesBack.{Sound}
@@ -71,19 +73,19 @@ module _ (i : Option Id) (ps : Option Members) (t : Json) (parts : Members) wher
 
   type_found : named (codes "type") parts ≡ [] → need (codes "type") (feature_members i ps t parts) ≡ Ok t
   unfolding need named
-  type_found e = ap (λ ts. there (only (t ∷ ts))) (past_id (codes "type") i (properties_members ps ++ parts) refl ∙ past_properties (codes "type") ps parts refl ∙ e)
+  type_found e = ap (λ ts. with_fault lookup_fault (there (only (t ∷ ts)))) (past_id (codes "type") i (properties_members ps ++ parts) refl ∙ past_properties (codes "type") ps parts refl ∙ e)
 
   id_found : named (codes "id") parts ≡ [] → find (codes "id") (feature_members i ps t parts) ≡ Ok (map_some id_value i)
   unfolding named
-  id_found e = ids_found i (properties_members ps ++ parts) (past_properties (codes "id") ps parts refl ∙ e)
+  id_found e = ap (with_fault lookup_fault) (ids_found i (properties_members ps ++ parts) (past_properties (codes "id") ps parts refl ∙ e))
 
   properties_found : named (codes "properties") parts ≡ [] → find (codes "properties") (feature_members i ps t parts) ≡ Ok (map_some j.Object ps)
   unfolding named
-  properties_found e = ap only (past_id (codes "properties") i (properties_members ps ++ parts) refl) ∙ objects_found ps parts e
+  properties_found e = ap (with_fault lookup_fault) (ap only (past_id (codes "properties") i (properties_members ps ++ parts) refl) ∙ objects_found ps parts e)
 
   found : AreParts parts → Found i ps t parts
   unfolding need
-  found h = record { type = type_found h.0; id = id_found h.1; properties = properties_found h.2; others = λ name e f k. ap (λ ts. there (only ts)) (past_both name e f k) }
+  found h = record { type = type_found h.0; id = id_found h.1; properties = properties_found h.2; others = λ name e f k. ap (λ ts. with_fault lookup_fault (there (only ts))) (past_both name e f k) }
 
 -- ---- identifiers and properties
 

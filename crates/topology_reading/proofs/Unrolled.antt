@@ -1,57 +1,28 @@
 -- What a value is read as, by one level of it.
-use Rattle.std.proofs.Common.{◌≡◌, ℕ, Bool, true, false, List, [], ◌∷◌, ◌++◌, map, Option, None, Some, Result, Ok, Err, refl, sym, ap, ◌∙◌, cond}
-use Rattle.std.specs.Prelude.{bytes_eq, option_to_list}
+use Rattle.std.proofs.Common.{◌≡◌, ℕ, List, [], ◌∷◌, map, Option, None, Some, refl, sym, ap, ◌∙◌}
+use Rattle.std.specs.Prelude.{option_to_list}
 use Rattle.json_value.specs.declared.json.Json.{Json}
 use Rattle.json_value.specs.declared.json.Json.TheFolds.{para-Json, para-roll-Json}
 use Rattle.json_value.specs.declared.json.Json.TheOpen.{Json-F}
 use Rattle.json_value.specs.declared.json.Json.TheVariants as j
 use Rattle.geojson_types.specs.Points.{Point}
-use Rattle.topology_reading.specs.declared.fault.TopoFault.{TopoFault}
 use Rattle.topology_reading.specs.declared.geometry_type.GeometryType.{GeometryType}
 use Rattle.topology_reading.specs.declared.geometry_type.GeometryType.TheVariants.{Places, Arcs, Collection}
 use Rattle.topo_types.specs.declared.transform.Transform.{Transform}
 use Rattle.topo_types.specs.Topologies.{TopoShape}
 use Rattle.topology_reading.specs.GeometryTypes.{part_name, object_type}
-use Rattle.topology_reading.specs.Members.{Members, named, only, there, need, need_as}
-use Rattle.topology_reading.specs.Reader.{Reader, ◌>>=◌, give, pure, gather, kept}
+use Rattle.json_members.proofs.Parts.{gather_map, need_map, pure_map}
+use Rattle.json_members.specs.Members as members_by
+use Rattle.topology_reading.specs.Members.{Members, lookup_fault, need, need_as}
+use Rattle.topology_reading.specs.Reader.{Reader, ◌>>=◌, give, pure, with_fault, kept}
 use Rattle.topology_reading.specs.Shapes.{part_with, typed_with, Readings, readings_step, readings, shape, shapes, part, typed_shape, geometry}
 
 -- ---- reading under a map
 
-pub gather_map : {A B C : Type 0} (read : B → Reader (List C)) (g : A → B) (vs : List A) → gather read (map g vs) ≡ gather (λ v. read (g v)) vs
-unfolding gather
-gather_map read g [] = refl
-gather_map {C = C} read g (v ∷ vs) = ap (λ (more : Reader (List C)). read (g v) >>= λ x. more >>= λ xs. give (x ++ xs)) (gather_map read g vs)
-
-named_map : {V W : Type 0} (h : V → W) (g : List ℕ × V → List ℕ × W) → ((m : List ℕ × V) → g m ≡ (m.0, h m.1)) → (name : List ℕ) (ms : List (List ℕ × V)) → named name (map g ms) ≡ map h (named name ms)
-unfolding named
-named_map h g e name [] = refl
-named_map {V = V} {W = W} h g e name (m ∷ ms) = rw (e m, named_map h g e name ms) (on (bytes_eq m.0 name))
-  where
-    on : (b : Bool) → cond b (h m.1 ∷ map h (named name ms)) (map h (named name ms)) ≡ map h (cond b (m.1 ∷ named name ms) (named name ms))
-    on true = refl
-    on false = refl
-
-abbrev result_map : {V W : Type 0} → (V → W) → Result V TopoFault → Result W TopoFault
-result_map h (Ok v) = Ok (h v)
-result_map h (Err e) = Err e
-
-there_map : {V W : Type 0} (h : V → W) (vs : List V) → there (only (map h vs)) ≡ result_map h (there (only vs))
-there_map h [] = refl
-there_map h (v ∷ []) = refl
-there_map h (v ∷ w ∷ vs) = refl
-
-need_map : {V W : Type 0} (h : V → W) (g : List ℕ × V → List ℕ × W) → ((m : List ℕ × V) → g m ≡ (m.0, h m.1)) → (name : List ℕ) (ms : List (List ℕ × V)) → need name (map g ms) ≡ result_map h (need name ms)
-unfolding need
-need_map h g e name ms = ap (λ z. there (only z)) (named_map h g e name ms) ∙ there_map h (named name ms)
-
-pure_map : {V W B : Type 0} (h : V → W) (f : W → Reader B) (r : Result V TopoFault) → (pure (result_map h r) >>= f) ≡ (pure r >>= λ v. f (h v))
-pure_map h f (Ok v) = refl
-pure_map h f (Err e) = refl
-
 need_as_map : {V W B : Type 0} (h : V → W) (g : List ℕ × V → List ℕ × W) → ((m : List ℕ × V) → g m ≡ (m.0, h m.1)) → (name : List ℕ) (read : W → Reader B) (ms : List (List ℕ × V))
     → need_as name read (map g ms) ≡ need_as name (λ v. read (h v)) ms
-need_as_map h g e name read ms = ap (λ r. pure r >>= read) (need_map h g e name ms) ∙ pure_map h read (need name ms)
+unfolding need
+need_as_map h g e name read ms = ap (λ r. pure (with_fault lookup_fault r) >>= read) (need_map h g e name ms) ∙ pure_map lookup_fault h read (members_by.need name ms)
 
 map_back : {A B : Type 0} (f : B → A) (g : A → B) → ((x : A) → f (g x) ≡ x) → (xs : List A) → map f (map g xs) ≡ xs
 map_back f g e [] = refl

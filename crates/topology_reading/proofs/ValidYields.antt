@@ -1,34 +1,14 @@
--- What holds of all that a reader gives.
-use Rattle.std.proofs.Common.{◌≡◌, Bool, true, false, cond, List, [], ◌∷◌, ◌++◌, map, Option, Some, None, Result, Ok, Err, refl, ap, subst}
-use Rattle.std.specs.Prelude.{◌&&◌, option_to_list}
+-- What holds of all that a reader gives, and of lists.
+use Rattle.std.proofs.Common.{◌≡◌, Bool, true, false, List, [], ◌∷◌, map, refl}
+use Rattle.std.specs.Prelude.{◌&&◌}
 use Rattle.std.specs.List.{AllByRecursion}
-use Rattle.geojson_types.specs.declared.counts.Counts.{Counts}
 use Rattle.geojson_types.specs.Lists.{joined}
-use Rattle.topology_reading.specs.declared.fault.TopoFault.{TopoFault}
-use Rattle.topology_reading.specs.Reader.{Reader, and_then, ◌>>=◌, give, fail, pure, or_fail, gather, each, kept, if_some}
-
--- whatever the reader gives is a P
-abbrev pub Yields : {A : Type 0} → (A → Type 0) → Reader A → Type 0
-Yields {A} P m = (c d : Counts) (x : A) → m c ≡ Ok (x, d) → P x
-
--- nothing, or a P
-abbrev pub IfThere : {A : Type 0} → (A → Type 0) → Option A → Type 0
-IfThere P None = Unit {0}
-IfThere P (Some x) = P x
-
--- ---- tests and lists
+use Rattle.json_members.proofs.Yields.{all_append}
+pub use Rattle.json_members.proofs.Yields.{Yields, IfThere, all_weaker, all_trivial, weaker_yields, then_yields, give_yields, count_yields, fail_yields, pure_then, if_yields, there_weaker, if_some_yields, each_yields, kept_of_yields, kept_yields, or_fail_is}
 
 pub both_are : (a b : Bool) → (a && b) ≡ true → (a ≡ true) × (b ≡ true)
 both_are true b h = (refl, h)
 both_are false b h = absurd cc
-
-pub all_append : {A : Type 0} (P : A → Type 0) (xs ys : List A) → AllByRecursion P xs → AllByRecursion P ys → AllByRecursion P (xs ++ ys)
-all_append P [] ys h k = k
-all_append P (x ∷ xs) ys h k = (h.0, all_append P xs ys h.1 k)
-
-pub all_weaker : {A : Type 0} (P Q : A → Type 0) → ((x : A) → P x → Q x) → (xs : List A) → AllByRecursion P xs → AllByRecursion Q xs
-all_weaker P Q f [] h = tt
-all_weaker P Q f (x ∷ xs) h = (f x h.0, all_weaker P Q f xs h.1)
 
 pub all_joined : {A : Type 0} (P : A → Type 0) (xss : List (List A)) → AllByRecursion (AllByRecursion P) xss → AllByRecursion P (joined xss)
 all_joined P [] h = tt
@@ -37,90 +17,3 @@ all_joined P (xs ∷ xss) h = all_append P xs (joined xss) h.0 (all_joined P xss
 pub all_map : {A B : Type 0} (P : B → Type 0) (f : A → B) (xs : List A) → AllByRecursion (λ x. P (f x)) xs → AllByRecursion P (map f xs)
 all_map P f [] h = tt
 all_map P f (x ∷ xs) h = (h.0, all_map P f xs h.1)
-
--- ---- what was given
-
-taken : {A B : Type 0} (m : Result (A × Counts) TopoFault) (f : A → Reader B) (y : B × Counts) → and_then f m ≡ Ok y → (x : A) × ((c : Counts) × ((m ≡ Ok (x, c)) × (f x c ≡ Ok y)))
-taken (Ok x) f y e = (x.0, (x.1, (refl, e)))
-taken (Err d) f y e = absurd cc
-
-abbrev okay : {A : Type 0} → A × Counts → Result (A × Counts) TopoFault
-okay x = Ok x
-
-abbrev value_or : {A : Type 0} → A → Result (A × Counts) TopoFault → A
-value_or a (Ok x) = x.0
-value_or a (Err e) = a
-
-first_is : {A : Type 0} {a b : A} {c d : Counts} → okay (a, c) ≡ okay (b, d) → a ≡ b
-first_is {a = a} h = ap (value_or a) h
-
--- ---- readers
-
-pub weaker_yields : {A : Type 0} (P Q : A → Type 0) (m : Reader A) → ((x : A) → P x → Q x) → Yields P m → Yields Q m
-weaker_yields P Q m f h c d x e = f x (h c d x e)
-
-pub then_yields : {A B : Type 0} (P : A → Type 0) (Q : B → Type 0) (m : Reader A) (f : A → Reader B) → Yields P m → ((x : A) → P x → Yields Q (f x)) → Yields Q (m >>= f)
-then_yields P Q m f first second c d y e =
-    let t = taken (m c) f (y, d) e in
-    second t.0 (first c t.1.0 t.0 t.1.1.0) t.1.0 d y t.1.1.1
-
-pub give_yields : {A : Type 0} (P : A → Type 0) (x : A) → P x → Yields P (give x)
-give_yields P x h c d y e = subst P (first_is e) h
-
--- it is given, and counted
-pub count_yields : {A : Type 0} (P : A → Type 0) (x : A) (count : Counts → Counts) → P x → Yields P (λ c. Ok (x, count c))
-count_yields P x count h c d y e = subst P (first_is e) h
-
-pub fail_yields : {A : Type 0} (P : A → Type 0) (f : TopoFault) → Yields P (fail f)
-fail_yields P f c d y e = absurd cc
-
-pub pure_yields : {A : Type 0} (r : Result A TopoFault) → Yields (λ x. r ≡ Ok x) (pure r)
-pure_yields (Ok y) c d x e = let k : y ≡ x = first_is e in rw k refl
-pure_yields (Err f) c d x e = absurd cc
-
--- one reader after what counts nothing
-pub pure_then : {A B : Type 0} (Q : B → Type 0) (r : Result A TopoFault) (f : A → Reader B) → ((x : A) → r ≡ Ok x → Yields Q (f x)) → Yields Q (pure r >>= f)
-pure_then Q r f h = then_yields (λ x. r ≡ Ok x) Q (pure r) f (pure_yields r) h
-
--- one of two readers, by a test
-pub if_yields : {A : Type 0} (P : A → Type 0) (b : Bool) (m n : Reader A) → (b ≡ true → Yields P m) → (b ≡ false → Yields P n) → Yields P (cond b m n)
-if_yields P true m n h k = h refl
-if_yields P false m n h k = k refl
-
-pub there_weaker : {A : Type 0} (P Q : A → Type 0) → ((x : A) → P x → Q x) → (o : Option A) → IfThere P o → IfThere Q o
-there_weaker P Q f None h = tt
-there_weaker P Q f (Some x) h = f x h
-
-pub if_some_yields : {A B : Type 0} (Q : A → Type 0) (P : B → Type 0) (read : A → Reader (Option B)) → ((x : A) → Q x → Yields (IfThere P) (read x)) → (o : Option A) → IfThere Q o → Yields (IfThere P) (if_some read o)
-if_some_yields Q P read h None k = give_yields (IfThere P) None tt
-if_some_yields Q P read h (Some x) k = h x k
-
--- each part is a P where each element is a Q
-pub gather_yields : {A B : Type 0} (Q : A → Type 0) (P : B → Type 0) (read : A → Reader (List B)) → ((v : A) → Q v → Yields (AllByRecursion P) (read v)) → (vs : List A) → AllByRecursion Q vs → Yields (AllByRecursion P) (gather read vs)
-unfolding gather
-gather_yields Q P read h [] k = give_yields (AllByRecursion P) [] tt
-gather_yields Q P read h (v ∷ vs) k =
-    then_yields (AllByRecursion P) (AllByRecursion P) (read v) _ (h v k.0)
-    (λ x p. then_yields (AllByRecursion P) (AllByRecursion P) (gather read vs) _ (gather_yields Q P read h vs k.1)
-    (λ xs q. give_yields (AllByRecursion P) (x ++ xs) (all_append P x xs p q)))
-
-pub all_trivial : {A : Type 0} (xs : List A) → AllByRecursion (λ x. Unit {0}) xs
-all_trivial [] = tt
-all_trivial (x ∷ xs) = (tt, all_trivial xs)
-
-pub each_yields : {A B : Type 0} (P : B → Type 0) (read : A → Reader B) → ((v : A) → Yields P (read v)) → (vs : List A) → Yields (AllByRecursion P) (each read vs)
-each_yields P read h vs = gather_yields (λ v. Unit {0}) P _ (λ v k. then_yields P (AllByRecursion P) (read v) _ (h v) (λ x p. give_yields (AllByRecursion P) (x ∷ []) (p, tt))) vs (all_trivial vs)
-
-one_or_none : {A : Type 0} (P : A → Type 0) (o : Option A) → IfThere P o → AllByRecursion P (option_to_list o)
-one_or_none P None h = tt
-one_or_none P (Some x) h = (h, tt)
-
-pub kept_of_yields : {A B : Type 0} (Q : A → Type 0) (P : B → Type 0) (read : A → Reader (Option B)) → ((v : A) → Q v → Yields (IfThere P) (read v)) → (vs : List A) → AllByRecursion Q vs → Yields (AllByRecursion P) (kept read vs)
-kept_of_yields Q P read h = gather_yields Q P _ (λ v k. then_yields (IfThere P) (AllByRecursion P) (read v) _ (h v k) (λ o p. give_yields (AllByRecursion P) (option_to_list o) (one_or_none P o p)))
-
-pub kept_yields : {A B : Type 0} (P : B → Type 0) (read : A → Reader (Option B)) → ((v : A) → Yields (IfThere P) (read v)) → (vs : List A) → Yields (AllByRecursion P) (kept read vs)
-kept_yields P read h vs = kept_of_yields (λ v. Unit {0}) P read (λ v k. h v) vs (all_trivial vs)
-
-pub or_fail_is : {A : Type 0} (e : TopoFault) (o : Option A) (x : A) → or_fail e o ≡ Ok x → o ≡ Some x
-or_fail_is e None x h = absurd cc
-or_fail_is e (Some y) x h = cc

@@ -1,10 +1,11 @@
 -- The topology that a JSON value stands for (TopoJSON 1.0, section 2.1), with its counts, or the first fault on the way through its
 -- `type`, `transform`, `arcs` and `objects`.
-use Rattle.std.specs.Prelude.{ℕ, List, Result, codes, bytes_eq, if◌then◌else◌}
+use Rattle.std.specs.Prelude.{ℕ, List, Option, Result, codes, bytes_eq, if◌then◌else◌}
 use Rattle.json_value.specs.declared.json.Json.{Json}
 use Rattle.json_value.specs.Kinds.{object_of, text_of}
 use Rattle.geojson_types.specs.declared.counts.Counts.{Counts}
 use Rattle.geojson_types.specs.Counting.{no_counts}
+use Rattle.topo_types.specs.declared.transform.Transform.{Transform}
 use Rattle.topo_types.specs.Topologies.{Contents}
 use Rattle.topology_reading.specs.declared.fault.TopoFault.{TopoFault}
 use Rattle.topology_reading.specs.declared.fault.TopoFault.TheVariants.{NotTopology, WrongKind}
@@ -18,6 +19,13 @@ use Rattle.topology_reading.specs.Transforms.{transform_if}
 abbrev pub topology_type : List ℕ → Reader (Unit {0})
 topology_type name = if bytes_eq name (codes "Topology") then give tt else fail NotTopology
 
+-- the topology with this transform, of the arcs and the objects among these members
+abbrev pub contents_on : Option Transform → Members → Reader Contents
+contents_on transform ms = do
+  arcs ← need_as (codes "arcs") (arc_list transform) ms
+  os ← need_as (codes "objects") (objects transform arcs) ms
+  give (record { objects = os; arcs = arcs; transform = transform })
+
 -- the topology with these members
 unfoldable pub contents : Members → Reader Contents
 contents ms = do
@@ -26,9 +34,7 @@ contents ms = do
   _ ← topology_type name
   r ← pure (find (codes "transform") ms)
   transform ← transform_if r
-  arcs ← need_as (codes "arcs") (arc_list transform) ms
-  os ← need_as (codes "objects") (objects transform arcs) ms
-  give (record { objects = os; arcs = arcs; transform = transform })
+  contents_on transform ms
 
 -- the topology of a value
 unfoldable pub value_contents : Json → Reader Contents

@@ -1,6 +1,9 @@
 ghost use Rattle.std.specs.Prelude.{◌≡◌};
 ghost use Rattle.topology_reading.specs.Faults as spec;
 
+use byte_ends::Memory;
+use json_members::LookupFault;
+use std::alloc::AllocFailed;
 use thiserror::Error;
 
 /// Why a value is no topology. Section numbers are those of TopoJSON 1.0.
@@ -84,6 +87,43 @@ impl TopoFault {
             TopoFault::GridNumber => "GridNumber",
             TopoFault::Range => "Range",
             TopoFault::Memory => "Memory",
+        }
+    }
+}
+
+impl<T: Drop> From<AllocFailed<T>> for TopoFault {
+    ghost use Rattle.std.specs.Prelude.{◌≡◌};
+    ghost use Rattle.topology_reading.specs.declared.fault.TopoFault.TheVariants.{Memory};
+
+    ghost from_gives = { λ _ e. e ≡ Memory };
+
+    fn from(_refused: AllocFailed<T>) -> TopoFault {
+        TopoFault::Memory
+    }
+}
+
+impl From<Memory> for TopoFault {
+    ghost use Rattle.std.specs.Prelude.{◌≡◌};
+    ghost use Rattle.topology_reading.specs.declared.fault.TopoFault.TheVariants.{Memory};
+
+    ghost from_gives = { λ _ e. e ≡ Memory };
+
+    fn from(_memory: Memory) -> TopoFault {
+        TopoFault::Memory
+    }
+}
+
+impl From<LookupFault> for TopoFault {
+    ghost use Rattle.std.specs.Prelude.{◌≡◌};
+    ghost use Rattle.topology_reading.specs.Members.{lookup_fault};
+
+    ghost from_gives = { λ fault e. e ≡ lookup_fault fault };
+
+    fn from(fault: LookupFault) -> TopoFault {
+        match fault {
+            LookupFault::Missing => TopoFault::Missing,
+            LookupFault::Duplicate => TopoFault::Duplicate,
+            LookupFault::WrongKind => TopoFault::WrongKind,
         }
     }
 }

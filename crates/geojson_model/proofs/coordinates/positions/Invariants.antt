@@ -1,7 +1,7 @@
 use Rattle.std.proofs.Common.{◌≡◌, drop}
 use Rattle.geojson_model.specs.Coordinates.{position}
 use Rattle.geojson_model.specs.Reader.{each}
-use Rattle.geojson_model.proofs.Gathering.{with_front}
+use Rattle.json_members.proofs.Turns.{with_front}
 use Rattle.geojson_model.proofs.coordinates.positions.Given as goal
 
 abbrev pub invariant-values : goal.invariant-values

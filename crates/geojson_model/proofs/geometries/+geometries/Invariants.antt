@@ -3,7 +3,7 @@ use Rattle.json_value.specs.Depth.{depth}
 use Rattle.geojson_model.specs.Geometries.{shape}
 use Rattle.geojson_model.specs.Reader.{kept}
 use Rattle.geojson_model.proofs.Deeper.{object_depth}
-use Rattle.geojson_model.proofs.Gathering.{with_front}
+use Rattle.json_members.proofs.Turns.{with_front}
 use Rattle.geojson_model.proofs.geometries.+geometries.Given as goal
 
 abbrev pub decreases-shapes : goal.decreases-shapes

@@ -1,7 +1,7 @@
 use Rattle.std.proofs.Common.{◌≡◌, drop}
 use Rattle.geojson_model.specs.Polygons.{ring}
 use Rattle.geojson_model.specs.Reader.{kept}
-use Rattle.geojson_model.proofs.Gathering.{with_front}
+use Rattle.json_members.proofs.Turns.{with_front}
 use Rattle.geojson_model.proofs.polygons.rings.Given as goal
 
 abbrev pub invariant-values : goal.invariant-values

@@ -3,13 +3,13 @@ use Rattle.std.specs.Option.{option_copied}
 use Rattle.std.proofs.lemmas.List.{nil_from_length}
 use Rattle.std.proofs.lemmas.Result.{err_from_is_err_and}
 use Rattle.topology_reading.specs.Arcs.{arc}
-use Rattle.topojson_decoder.proofs.Gathering as g
+use Rattle.json_members.proofs.Turns as g
 use Rattle.topojson_decoder.proofs.arcs.arcs_in.Goals as goal
 
 pub returns-in_err-arc : goal.returns-in_err-arc
 returns-in_err-arc c =
     let p = err_from_is_err_and c.from_residual.result c.from_residual.ensures.1 in
-    rw (p.1, p.2) (g.next_fails (arc (option_copied c.args.transform)) _ _ _ _ _ _ c.in-Some.ensures.steps.0 c.values.invariant _ c.in_err-arc.ensures)
+    rw (p.1, p.2) (λ n. g.next_fails (arc (option_copied c.args.transform)) _ _ _ _ _ _ c.in-Some.ensures.steps.0 c.values.invariant _ (c.in_err-arc.ensures n))
 
 pub values-preserved : goal.values-preserved
 values-preserved c = rw c.in_ok-push.ensures.items (g.next_turns (arc (option_copied c.args.transform)) _ _ _ _ _ _ c.in-Some.ensures.steps.0 c.values.invariant _ _ c.in_ok-arc.ensures)

@@ -3,7 +3,7 @@ use Rattle.std.specs.Option.{option_copied}
 use Rattle.std.specs.Vec.Iter.{into_iter_items}
 use Rattle.topology_reading.specs.Arcs.{arc}
 use Rattle.topology_reading.specs.Reader.{each}
-use Rattle.topojson_decoder.proofs.Gathering.{with_front}
+use Rattle.json_members.proofs.Turns.{with_front}
 use Rattle.topojson_decoder.proofs.arcs.arcs_in.Given as goal
 
 abbrev pub invariant-values : goal.invariant-values

@@ -1,7 +1,7 @@
 use Rattle.std.proofs.Common.{◌≡◌, drop}
 use Rattle.topology_reading.specs.Lines.{line}
 use Rattle.topology_reading.specs.Reader.{kept}
-use Rattle.topojson_decoder.proofs.Gathering.{with_front}
+use Rattle.json_members.proofs.Turns.{with_front}
 use Rattle.topojson_decoder.proofs.lines.lines.Given as goal
 
 abbrev pub invariant-values : goal.invariant-values

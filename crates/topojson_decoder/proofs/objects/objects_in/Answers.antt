@@ -7,13 +7,13 @@ use Rattle.topojson_decoder.proofs.objects.objects_in.Goals as goal
 pub returns-then-len-repeat : goal.returns-then-len-repeat
 returns-then-len-repeat c =
     let v = c.members.invariant in
-    k.refused v.met (c.in-Some.name, c.in-Some.value) _ _ _ _ c.in-Some.ensures.steps.0 v.repeats _ _ _ _ v.reads (omega (arith, c.len.ensures, c.members.read.ok, c.if-len-repeat.true))
+    λ n. k.refused v.met (c.in-Some.name, c.in-Some.value) _ _ _ _ c.in-Some.ensures.steps.0 v.repeats _ _ _ _ v.reads (omega (arith, c.len.ensures, c.members.read.ok, c.if-len-repeat.true))
 
 pub returns-in_err-object : goal.returns-in_err-object
 returns-in_err-object c =
     let v = c.members.invariant in
     let p = err_from_is_err_and c.from_residual-in_err-object.result c.from_residual-in_err-object.ensures.1 in
-    rw (p.1, p.2) (k.fails v.met (c.in-Some.name, c.in-Some.value) _ _ _ _ c.in-Some.ensures.steps.0 v.repeats _ _ _ _ v.reads (λ e. c.if-len-repeat.false (omega (arith, c.len.ensures, c.members.read.ok, e))) _ c.in_err-object.ensures)
+    rw (p.1, p.2) (λ n. k.fails v.met (c.in-Some.name, c.in-Some.value) _ _ _ _ c.in-Some.ensures.steps.0 v.repeats _ _ _ _ v.reads (λ e. c.if-len-repeat.false (omega (arith, c.len.ensures, c.members.read.ok, e))) _ (c.in_err-object.ensures n))
 
 pub members-preserved : goal.members-preserved
 members-preserved c =

@@ -5,15 +5,15 @@ use Rattle.topojson_decoder.proofs.Unrolling as u
 use Rattle.topojson_decoder.proofs.shapes.+geometries.Goals as goal
 
 pub shapes-returns-in_default : goal.shapes-returns-in_default
-shapes-returns-in_default t c = ap (λ r. r c.args.counts.now) (u.shapes_other _ _ _ c.in_default.ensures)
+shapes-returns-in_default t c = λ n. ap (λ r. r c.args.counts.now) (u.shapes_other _ _ _ c.in_default.ensures)
 
 pub shapes-returns-in_default-as_object : goal.shapes-returns-in_default-as_object
-shapes-returns-in_default-as_object t c = k.not_object _ _ _ _ c.in-Some.ensures _ _ _ _ _ c.values-test.true c.value-item.is c.values.invariant c.in_default-as_object.ensures
+shapes-returns-in_default-as_object t c = λ n. k.not_object _ _ _ _ c.in-Some.ensures _ _ _ _ _ c.values-test.true c.value-item.is c.values.invariant c.in_default-as_object.ensures
 
 pub shapes-returns-in_err-shape : goal.shapes-returns-in_err-shape
 shapes-returns-in_err-shape t c =
     let p = err_from_is_err_and c.from_residual.result c.from_residual.ensures.1 in
-    rw (p.1, p.2) (k.shape_fails _ _ _ _ c.in-Some.ensures _ _ _ _ _ c.values-test.true c.value-item.is c.values.invariant _ c.in-Some-as_object.ensures _ c.in_err-shape.ensures)
+    rw (p.1, p.2) (λ n. k.shape_fails _ _ _ _ c.in-Some.ensures _ _ _ _ _ c.values-test.true c.value-item.is c.values.invariant _ c.in-Some-as_object.ensures _ (c.in_err-shape.ensures n))
 
 pub shapes-values-preserved-in_default-2 : goal.shapes-values-preserved-in_default-2
 shapes-values-preserved-in_default-2 t c = k.shape_skipped _ _ _ _ c.in-Some.ensures _ _ _ _ _ c.values-test.true c.value-item.is c.values.invariant _ c.in-Some-as_object.ensures _ (rw c.in_default-2.is at c.in_ok-shape.ensures)

@@ -1,0 +1,4 @@
+pub mod Looking
+pub mod Parts
+pub mod Turns
+pub mod Yields

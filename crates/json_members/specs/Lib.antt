@@ -1,0 +1,4 @@
+pub mod Answers
+pub mod Members
+pub mod Places
+pub mod Readers

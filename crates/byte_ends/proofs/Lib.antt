@@ -1,2 +1,2 @@
-pub mod CommaLists
+pub mod Parts
 pub mod Writing

@@ -1,3 +1,4 @@
 pub mod Commas
+pub mod Continues
 pub mod Ends
 pub mod Writes

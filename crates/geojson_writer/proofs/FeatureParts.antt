@@ -1,28 +1,14 @@
 -- The texts of positions, features and collections in parts.
-use Rattle.std.proofs.Common.{◌≡◌, ℕ, true, false, List, [], ◌∷◌, ◌++◌, map, refl, ap, ◌∙◌, append_assoc, Option, Some, None}
+use Rattle.std.proofs.Common.{◌≡◌, ℕ, true, false, List, [], ◌∷◌, ◌++◌, map, refl, ap, ◌∙◌, Option, Some, None}
 use Rattle.std.specs.Prelude.{codes}
-use Rattle.byte_ends.proofs.CommaLists.{list_left}
-use Rattle.decimal_text.specs.Scaling.{units_text}
 use Rattle.json_value.specs.declared.json.Json.TheVariants as j
 use Rattle.json_value.specs.Text.{json_text, quoted, escaped_byte}
-use Rattle.json_value.proofs.Texts.{text-number, text-text}
+use Rattle.json_value.proofs.Texts.{text-text}
 use Rattle.geojson_types.specs.declared.id.Id.{Id}
 use Rattle.geojson_types.specs.Features.{Featured}
-use Rattle.geojson_types.specs.Points.{Point}
 use Rattle.geojson_writer.specs.FeatureTexts.{id_text}
-use Rattle.geojson_writer.specs.FeatureValues.{Member, coordinate_value, position_value, type_member, geometry_value, properties_value, id_value, id_members, feature_value, collection_value}
-use Rattle.geojson_writer.proofs.Arrays.{text_by, array-text, array-text_before}
+use Rattle.geojson_writer.specs.FeatureValues.{Member, type_member, geometry_value, properties_value, id_value, id_members, feature_value, collection_value}
 use Rattle.geojson_writer.proofs.Objects.{members_left, object-text, member-text, quoted-type, object-of_two}
-
--- ---- a position
-
-pair-text : (x y : List ℕ) → (codes "[" ++ (x ++ (codes "," ++ (y ++ [])))) ++ codes "]" ≡ codes "[" ++ (x ++ (codes "," ++ (y ++ codes "]")))
-pair-text x y = simp append_assoc
-
-pub position-text : (p : Point) → json_text (position_value p) ≡ codes "[" ++ (units_text p.x 7 ++ (codes "," ++ (units_text p.y 7 ++ codes "]")))
-position-text p =
-    array-text coordinate_value (p.x ∷ (p.y ∷ []))
-    ∙ rw (text-number (units_text p.x 7), text-number (units_text p.y 7)) (pair-text (units_text p.x 7) (units_text p.y 7))
 
 -- ---- a feature
 
@@ -74,7 +60,5 @@ feature-text f =
 -- ---- a collection
 
 pub collection-text : (fs : List Featured) → json_text (collection_value fs)
-    ≡ codes "{\"type\":\"FeatureCollection\",\"features\":[" ++ list_left (text_by feature_value) (codes "]}") true fs
-collection-text fs =
-    object-of_two (codes "FeatureCollection") (codes "\"FeatureCollection\"") (codes "features") (codes "\"features\"") (j.Array (map feature_value fs)) quoted-FeatureCollection quoted-features
-    ∙ ap (λ (text : List ℕ). codes "{\"type\":\"FeatureCollection\",\"features\":" ++ text) (array-text_before feature_value fs (codes "}"))
+    ≡ codes "{\"type\":\"FeatureCollection\",\"features\":" ++ (json_text (j.Array (map feature_value fs)) ++ codes "}")
+collection-text fs = object-of_two (codes "FeatureCollection") (codes "\"FeatureCollection\"") (codes "features") (codes "\"features\"") (j.Array (map feature_value fs)) quoted-FeatureCollection quoted-features

@@ -1,9 +1,7 @@
-pub mod Arrays
 pub mod FeatureParts
 pub mod Numbers
 pub mod NumbersInside
 pub mod Objects
-pub mod Parts
 pub mod Rows
 pub mod ShapeParts
 pub mod ShapePoints

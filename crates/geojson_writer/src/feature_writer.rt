@@ -1,118 +1,109 @@
 // Features as they are written (RFC 7946, sections 3.2 and 3.3).
+ghost use Rattle.byte_ends.specs.Continues.{Continues};
 ghost use Rattle.byte_ends.specs.Writes.{Writes};
 ghost use Rattle.json_value.specs.Text.{json_text};
 ghost use Rattle.geojson_writer.specs.FeatureTexts.{id_text};
 ghost use Rattle.geojson_writer.specs.FeatureValues.{id_value, properties_value, geometry_value, feature_value, collection_value, features_value};
 
 use crate::shape_writer::put_shape;
-use byte_ends::{Drain, Sink, WriteFault};
+use byte_ends::{Drain, Progress, Sink, WriteFault, put_part};
 use geojson_types::{Feature, FeatureSet, Id};
-use json_value::{put_members, put_text};
+use json_value::{PutValue, put_array, put_members, put_text};
 
 /// Writes an identifier: a text, or a number by its text.
 #[tactic(auto, using(crate::proofs::Objects::leaves))]
-fn put_id<W: Drain>(id: &Id, count: u64, sink: &mut Sink<W>) -> Result<u64, WriteFault>
-    ensures { Writes sink.old sink.new count (json_text (id_value id.now)) result }
+fn put_id<W: Drain>(id: &Id, so_far: Progress, sink: &mut Sink<W>) -> Progress
+    ensures { Continues sink.old sink.new so_far (json_text (id_value id.now)) result }
 {
     match id {
-        Id::Text(text) => put_text(text.as_str(), count, sink),
-        Id::Number(number) => sink.put(count, number.text().as_bytes()),
+        Id::Text(text) => put_text(text.as_str(), so_far, sink),
+        Id::Number(number) => put_part(number.text().as_bytes(), so_far, sink),
     }
 }
 
 /// Writes the member `id` behind a comma, if the feature has an identifier.
-fn put_id_member<W: Drain>(
-    feature: &Feature,
-    count: u64,
-    sink: &mut Sink<W>,
-) -> Result<u64, WriteFault>
-    ensures { Writes sink.old sink.new count (id_text feature.now.id) result }
+fn put_id_member<W: Drain>(feature: &Feature, so_far: Progress, sink: &mut Sink<W>) -> Progress
+    ensures { Continues sink.old sink.new so_far (id_text feature.now.id) result }
 {
     match feature.id() {
-        None => sink.put(count, b""),
+        None => put_part(b"", so_far, sink),
         Some(id) => {
-            let count = sink.put(count, b",\"id\":")?;
-            put_id(id, count, sink)
+            let so_far = put_part(b",\"id\":", so_far, sink);
+            put_id(id, so_far, sink)
         }
     }
 }
 
 /// Writes the feature's properties, or null.
 #[tactic(auto, using(crate::proofs::Objects::leaves))]
-fn put_properties<W: Drain>(
-    feature: &Feature,
-    count: u64,
-    sink: &mut Sink<W>,
-) -> Result<u64, WriteFault>
-    ensures { Writes sink.old sink.new count (json_text (properties_value feature.now.properties)) result }
+fn put_properties<W: Drain>(feature: &Feature, so_far: Progress, sink: &mut Sink<W>) -> Progress
+    ensures { Continues sink.old sink.new so_far (json_text (properties_value feature.now.properties)) result }
 {
     match feature.properties() {
-        None => sink.put(count, b"null"),
-        Some(members) => put_members(members.as_slice(), count, sink),
+        None => put_part(b"null", so_far, sink),
+        Some(members) => put_members(members.as_slice(), so_far, sink),
     }
 }
 
 /// Writes the feature's geometry, or null.
 #[tactic(auto, using(crate::proofs::Objects::leaves))]
-fn put_geometry<W: Drain>(
-    feature: &Feature,
-    count: u64,
-    sink: &mut Sink<W>,
-) -> Result<u64, WriteFault>
-    ensures { Writes sink.old sink.new count (json_text (geometry_value feature.now.shape)) result }
+fn put_geometry<W: Drain>(feature: &Feature, so_far: Progress, sink: &mut Sink<W>) -> Progress
+    ensures { Continues sink.old sink.new so_far (json_text (geometry_value feature.now.shape)) result }
 {
     match feature.shape() {
-        None => sink.put(count, b"null"),
-        Some(shape) => put_shape(shape, count, sink),
+        None => put_part(b"null", so_far, sink),
+        Some(shape) => put_shape(shape, so_far, sink),
     }
 }
 
 /// Writes a feature.
-fn put_feature<W: Drain>(
-    feature: &Feature,
-    count: u64,
-    sink: &mut Sink<W>,
-) -> Result<u64, WriteFault>
-    ensures { Writes sink.old sink.new count (json_text (feature_value feature.now)) result }
+fn put_feature<W: Drain>(feature: &Feature, so_far: Progress, sink: &mut Sink<W>) -> Progress
+    ensures { Continues sink.old sink.new so_far (json_text (feature_value feature.now)) result }
 {
-    let count = sink.put(count, b"{\"type\":\"Feature\"")?;
-    let count = put_id_member(feature, count, sink)?;
-    let count = sink.put(count, b",\"properties\":")?;
-    let count = put_properties(feature, count, sink)?;
-    let count = sink.put(count, b",\"geometry\":")?;
-    let count = put_geometry(feature, count, sink)?;
-    sink.put(count, b"}")
+    let so_far = put_part(b"{\"type\":\"Feature\"", so_far, sink);
+    let so_far = put_id_member(feature, so_far, sink);
+    let so_far = put_part(b",\"properties\":", so_far, sink);
+    let so_far = put_properties(feature, so_far, sink);
+    let so_far = put_part(b",\"geometry\":", so_far, sink);
+    let so_far = put_geometry(feature, so_far, sink);
+    put_part(b"}", so_far, sink)
+}
+
+// The way to write features.
+struct Features;
+
+impl PutValue<Feature> for Features {
+    ghost value = { feature_value };
+
+    fn put<W: Drain>(feature: &Feature, so_far: Progress, sink: &mut Sink<W>) -> Progress {
+        put_feature(feature, so_far, sink)
+    }
 }
 
 /// Writes a collection of these features.
-fn put_collection<W: Drain>(
-    features: &[Feature],
-    count: u64,
-    sink: &mut Sink<W>,
-) -> Result<u64, WriteFault>
-    ensures { Writes sink.old sink.new count (json_text (collection_value features.now)) result }
+fn put_collection<W: Drain>(features: &[Feature], so_far: Progress, sink: &mut Sink<W>) -> Progress
+    ensures { Continues sink.old sink.new so_far (json_text (collection_value features.now)) result }
 {
-    let mut count = sink.put(count, b"{\"type\":\"FeatureCollection\",\"features\":[")?;
-    let mut is_first = true;
-    'features: for feature in features {
-        count = sink.put_comma(count, is_first)?;
-        is_first = false;
-        count = put_feature(feature, count, sink)?;
-    }
-    sink.put(count, b"]}")
+    let so_far = put_part(
+        b"{\"type\":\"FeatureCollection\",\"features\":",
+        so_far,
+        sink,
+    );
+    let so_far = put_array::<Features, Feature, W>(features, so_far, sink);
+    put_part(b"}", so_far, sink)
 }
 
-/// Writes the features, as `write_features`, and counts on from `count` as `Sink::put` does.
+/// Writes the features, as `write_features`, as a part of a longer text.
 pub fn put_features<W: Drain>(
     features: &FeatureSet,
-    count: u64,
+    so_far: Progress,
     sink: &mut Sink<W>,
-) -> Result<u64, WriteFault>
-    ensures { Writes sink.old sink.new count (json_text (features_value features.now)) result }
+) -> Progress
+    ensures { Continues sink.old sink.new so_far (json_text (features_value features.now)) result }
 {
     match features {
-        FeatureSet::One(feature) => put_feature(feature, count, sink),
-        FeatureSet::Many(features) => put_collection(features.as_slice(), count, sink),
+        FeatureSet::One(feature) => put_feature(feature, so_far, sink),
+        FeatureSet::Many(features) => put_collection(features.as_slice(), so_far, sink),
     }
 }
 
@@ -126,5 +117,5 @@ pub fn write_features<W: Drain>(
 ) -> Result<u64, WriteFault>
     ensures { Writes sink.old sink.new 0 (json_text (features_value features.now)) result }
 {
-    put_features(features, 0, sink)
+    put_features(features, Ok(0), sink)
 }

@@ -1,112 +1,40 @@
-// Positions as they are written, and lists of positions in lists.
-ghost use Rattle.byte_ends.specs.Writes.{Writes};
-ghost use Rattle.decimal_text.specs.Scaling.{units_text};
+// Positions and linear rings as they are written.
+ghost use Rattle.byte_ends.specs.Continues.{Continues};
 ghost use Rattle.json_value.specs.Text.{json_text};
-ghost use Rattle.geojson_writer.specs.FeatureValues.{position_value, positions_value, lines_value, polygons_value};
+ghost use Rattle.geojson_writer.specs.FeatureValues.{position_value, positions_value};
 
-use byte_ends::{Drain, Sink, WriteFault};
-use decimal_text::put_units;
+use byte_ends::{Drain, Progress, Sink};
 use geojson_types::{Position, Ring};
-use json_value::Items;
+use json_value::{PutValue, put_array, put_pair};
 
 /// Decimal places of a coordinate.
 const PLACES: u32 = 7;
 
-fn put_x<W: Drain>(position: Position, count: u64, sink: &mut Sink<W>) -> Result<u64, WriteFault>
-    ensures { Writes sink.old sink.new count (units_text position.x 7) result }
-{
-    put_units(position.x(), PLACES, count, sink)
-}
-
-fn put_y<W: Drain>(position: Position, count: u64, sink: &mut Sink<W>) -> Result<u64, WriteFault>
-    ensures { Writes sink.old sink.new count (units_text position.y 7) result }
-{
-    put_units(position.y(), PLACES, count, sink)
-}
-
 /// Writes a position, x first.
-pub fn put_position<W: Drain>(
-    position: Position,
-    count: u64,
-    sink: &mut Sink<W>,
-) -> Result<u64, WriteFault>
-    ensures { Writes sink.old sink.new count (json_text (position_value position)) result }
+pub fn put_position<W: Drain>(position: Position, so_far: Progress, sink: &mut Sink<W>) -> Progress
+    ensures { Continues sink.old sink.new so_far (json_text (position_value position)) result }
 {
-    let count = sink.put(count, b"[")?;
-    let count = put_x(position, count, sink)?;
-    let count = sink.put(count, b",")?;
-    let count = put_y(position, count, sink)?;
-    sink.put(count, b"]")
+    put_pair(position.x(), position.y(), PLACES, so_far, sink)
 }
 
-/// Writes the positions of a MultiPoint, of a LineString or of a linear ring.
-pub fn put_positions<W: Drain>(
-    positions: &[Position],
-    count: u64,
-    sink: &mut Sink<W>,
-) -> Result<u64, WriteFault>
-    ensures { Writes sink.old sink.new count (json_text (positions_value positions.now)) result }
-{
-    let mut count = sink.put(count, b"[")?;
-    let mut is_first = true;
-    'positions: for position in positions {
-        count = sink.put_comma(count, is_first)?;
-        is_first = false;
-        count = put_position(*position, count, sink)?;
+/// The way to write positions.
+pub struct Positions;
+
+impl PutValue<Position> for Positions {
+    ghost value = { position_value };
+
+    fn put<W: Drain>(position: &Position, so_far: Progress, sink: &mut Sink<W>) -> Progress {
+        put_position(*position, so_far, sink)
     }
-    sink.put(count, b"]")
 }
 
-/// Writes the lines of a MultiLineString.
-pub fn put_lines<W: Drain>(
-    lines: &[Items<Position>],
-    count: u64,
-    sink: &mut Sink<W>,
-) -> Result<u64, WriteFault>
-    ensures { Writes sink.old sink.new count (json_text (lines_value lines.now)) result }
-{
-    let mut count = sink.put(count, b"[")?;
-    let mut is_first = true;
-    'lines: for line in lines {
-        count = sink.put_comma(count, is_first)?;
-        is_first = false;
-        count = put_positions(line.as_slice(), count, sink)?;
-    }
-    sink.put(count, b"]")
-}
+/// The way to write linear rings.
+pub struct Rings;
 
-/// Writes the rings of a Polygon.
-pub fn put_rings<W: Drain>(
-    rings: &[Ring],
-    count: u64,
-    sink: &mut Sink<W>,
-) -> Result<u64, WriteFault>
-    ensures { Writes sink.old sink.new count (json_text (lines_value rings.now)) result }
-{
-    let mut count = sink.put(count, b"[")?;
-    let mut is_first = true;
-    'rings: for ring in rings {
-        count = sink.put_comma(count, is_first)?;
-        is_first = false;
-        count = put_positions(ring.as_slice(), count, sink)?;
-    }
-    sink.put(count, b"]")
-}
+impl PutValue<Ring> for Rings {
+    ghost value = { positions_value };
 
-/// Writes the polygons of a MultiPolygon.
-pub fn put_polygons<W: Drain>(
-    polygons: &[Items<Ring>],
-    count: u64,
-    sink: &mut Sink<W>,
-) -> Result<u64, WriteFault>
-    ensures { Writes sink.old sink.new count (json_text (polygons_value polygons.now)) result }
-{
-    let mut count = sink.put(count, b"[")?;
-    let mut is_first = true;
-    'polygons: for polygon in polygons {
-        count = sink.put_comma(count, is_first)?;
-        is_first = false;
-        count = put_rings(polygon.as_slice(), count, sink)?;
+    fn put<W: Drain>(ring: &Ring, so_far: Progress, sink: &mut Sink<W>) -> Progress {
+        put_array::<Positions, Position, W>(ring.as_slice(), so_far, sink)
     }
-    sink.put(count, b"]")
 }

@@ -1,12 +1,13 @@
 // The strings of RFC 8259, section 7, as they are written.
 ghost use Rattle.std.specs.Prelude.{◌≡◌, ◌<◌};
 ghost use Rattle.std.specs.List.{prefix_len};
+ghost use Rattle.byte_ends.specs.Continues.{Continues};
 ghost use Rattle.byte_ends.specs.Writes.{Writes};
 ghost use Rattle.json_value.specs.Grammar as grammar;
 ghost use Rattle.json_value.specs.Text.{escaped_byte, quoted};
 ghost use Rattle.json_value.specs.Text as spec;
 
-use byte_ends::{Drain, Sink, WriteFault};
+use byte_ends::{Drain, Progress, Sink, WriteFault, put_part};
 
 /// A byte that stands for itself between quotation marks.
 fn is_plain(byte: u8) -> bool
@@ -41,51 +42,51 @@ fn hex_digit(number: u8) -> u8
 
 /// Writes what stands for the byte between quotation marks.
 #[tactic(auto, unfolding(crate::specs::Text::escaped_byte))]
-fn put_escaped<W: Drain>(byte: u8, count: u64, sink: &mut Sink<W>) -> Result<u64, WriteFault>
-    ensures { Writes sink.old sink.new count (escaped_byte byte) result }
+fn put_escaped<W: Drain>(byte: u8, so_far: Progress, sink: &mut Sink<W>) -> Progress
+    ensures { Continues sink.old sink.new so_far (escaped_byte byte) result }
 {
     if byte == b'"' {
-        return sink.put(count, b"\\\"");
+        return put_part(b"\\\"", so_far, sink);
     }
     if byte == b'\\' {
-        return sink.put(count, b"\\\\");
+        return put_part(b"\\\\", so_far, sink);
     }
     if byte == 0x08 {
-        return sink.put(count, b"\\b");
+        return put_part(b"\\b", so_far, sink);
     }
     if byte == b'\t' {
-        return sink.put(count, b"\\t");
+        return put_part(b"\\t", so_far, sink);
     }
     if byte == b'\n' {
-        return sink.put(count, b"\\n");
+        return put_part(b"\\n", so_far, sink);
     }
     if byte == 0x0c {
-        return sink.put(count, b"\\f");
+        return put_part(b"\\f", so_far, sink);
     }
     if byte == b'\r' {
-        return sink.put(count, b"\\r");
+        return put_part(b"\\r", so_far, sink);
     }
     if byte < 0x20 {
         let high = hex_digit(byte / 16);
         let low = hex_digit(byte % 16);
-        return sink.put(count, &[b'\\', b'u', b'0', b'0', high, low]);
+        return put_part(&[b'\\', b'u', b'0', b'0', high, low], so_far, sink);
     }
-    sink.put(count, &[byte])
+    put_part(&[byte], so_far, sink)
 }
 
-/// Writes the text between quotation marks, as `write_text`, and counts on from `count` as `Sink::put` does.
-pub fn put_text<W: Drain>(text: &str, count: u64, sink: &mut Sink<W>) -> Result<u64, WriteFault>
-    ensures { Writes sink.old sink.new count (quoted text.now) result }
+/// Writes the text between quotation marks, as `write_text`, as a part of a longer text.
+pub fn put_text<W: Drain>(text: &str, so_far: Progress, sink: &mut Sink<W>) -> Progress
+    ensures { Continues sink.old sink.new so_far (quoted text.now) result }
 {
-    let mut written = sink.put(count, b"\"")?;
+    let mut so_far = put_part(b"\"", so_far, sink);
     let mut rest = text.as_bytes();
     'runs: loop {
         let (run, behind) = rest.split_at(plain_len(rest));
-        written = sink.put(written, run)?;
+        so_far = put_part(run, so_far, sink);
         let Some((byte, after)) = behind.split_first() else {
-            return sink.put(written, b"\"");
+            return put_part(b"\"", so_far, sink);
         };
-        written = put_escaped(*byte, written, sink)?;
+        so_far = put_escaped(*byte, so_far, sink);
         rest = after;
     }
 }
@@ -96,5 +97,5 @@ pub fn put_text<W: Drain>(text: &str, count: u64, sink: &mut Sink<W>) -> Result<
 pub fn write_text<W: Drain>(text: &str, sink: &mut Sink<W>) -> Result<u64, WriteFault>
     ensures { Writes sink.old sink.new 0 (quoted text.now) result }
 {
-    put_text(text, 0, sink)
+    put_text(text, Ok(0), sink)
 }

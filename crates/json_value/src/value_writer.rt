@@ -1,4 +1,5 @@
 // Values as they are written.
+ghost use Rattle.byte_ends.specs.Continues.{Continues};
 ghost use Rattle.byte_ends.specs.Writes.{Writes};
 ghost use Rattle.json_value.specs.Text.{bool_text, json_text, member_text, name_text};
 ghost use Rattle.json_value.specs.declared.json.Json.TheVariants as j;
@@ -6,71 +7,67 @@ ghost use Rattle.json_value.specs.declared.json.Json.TheVariants as j;
 use crate::json::Json;
 use crate::own_text::OwnText;
 use crate::text_writer::put_text;
-use byte_ends::{Drain, Sink, WriteFault};
+use byte_ends::{Drain, Progress, Sink, WriteFault, put_comma, put_part};
 
 /// Writes the word of a truth value.
-fn put_bool<W: Drain>(is_true: bool, count: u64, sink: &mut Sink<W>) -> Result<u64, WriteFault>
-    ensures { Writes sink.old sink.new count (bool_text is_true) result }
+fn put_bool<W: Drain>(is_true: bool, so_far: Progress, sink: &mut Sink<W>) -> Progress
+    ensures { Continues sink.old sink.new so_far (bool_text is_true) result }
 {
     if is_true {
-        sink.put(count, b"true")
+        put_part(b"true", so_far, sink)
     } else {
-        sink.put(count, b"false")
+        put_part(b"false", so_far, sink)
     }
 }
 
-/// Writes the value, as `write_json`, and counts on from `count` as `Sink::put` does.
+/// Writes the value, as `write_json`, as a part of a longer text.
 #[cycle(values)]
 #[tactic(auto, using(crate::proofs::Texts::texts))]
-pub fn put_json<W: Drain>(value: &Json, count: u64, sink: &mut Sink<W>) -> Result<u64, WriteFault>
-    ensures { Writes sink.old sink.new count (json_text value.now) result }
+pub fn put_json<W: Drain>(value: &Json, so_far: Progress, sink: &mut Sink<W>) -> Progress
+    ensures { Continues sink.old sink.new so_far (json_text value.now) result }
 {
     match value {
-        Json::Null => sink.put(count, b"null"),
-        Json::Bool(is_true) => put_bool(*is_true, count, sink),
-        Json::Number(number) => sink.put(count, number.as_bytes()),
-        Json::Text(text) => put_text(text.as_str(), count, sink),
-        Json::Array(elements) => put_elements(elements.as_slice(), count, sink),
-        Json::Object(members) => put_members(members.as_slice(), count, sink),
+        Json::Null => put_part(b"null", so_far, sink),
+        Json::Bool(is_true) => put_bool(*is_true, so_far, sink),
+        Json::Number(number) => put_part(number.as_bytes(), so_far, sink),
+        Json::Text(text) => put_text(text.as_str(), so_far, sink),
+        Json::Array(elements) => put_elements(elements.as_slice(), so_far, sink),
+        Json::Object(members) => put_members(members.as_slice(), so_far, sink),
     }
 }
 
 /// Writes the array with these elements.
 #[cycle(values)]
-fn put_elements<W: Drain>(
-    elements: &[Json],
-    count: u64,
-    sink: &mut Sink<W>,
-) -> Result<u64, WriteFault>
-    ensures { Writes sink.old sink.new count (json_text (j.Array elements.now)) result }
+fn put_elements<W: Drain>(elements: &[Json], so_far: Progress, sink: &mut Sink<W>) -> Progress
+    ensures { Continues sink.old sink.new so_far (json_text (j.Array elements.now)) result }
 {
-    let mut count = sink.put(count, b"[")?;
+    let mut so_far = put_part(b"[", so_far, sink);
     let mut is_first = true;
     'elements: for element in elements {
-        count = sink.put_comma(count, is_first)?;
+        so_far = put_comma(is_first, so_far, sink);
         is_first = false;
-        count = put_json(element, count, sink)?;
+        so_far = put_json(element, so_far, sink);
     }
-    sink.put(count, b"]")
+    put_part(b"]", so_far, sink)
 }
 
-/// Writes the object with these members, as `write_members`, and counts on from `count` as `Sink::put` does.
+/// Writes the object with these members, as `write_members`, as a part of a longer text.
 #[cycle(values)]
 pub fn put_members<W: Drain>(
     members: &[(OwnText, Json)],
-    count: u64,
+    so_far: Progress,
     sink: &mut Sink<W>,
-) -> Result<u64, WriteFault>
-    ensures { Writes sink.old sink.new count (json_text (j.Object members.now)) result }
+) -> Progress
+    ensures { Continues sink.old sink.new so_far (json_text (j.Object members.now)) result }
 {
-    let mut count = sink.put(count, b"{")?;
+    let mut so_far = put_part(b"{", so_far, sink);
     let mut is_first = true;
     'members: for member in members {
-        count = sink.put_comma(count, is_first)?;
+        so_far = put_comma(is_first, so_far, sink);
         is_first = false;
-        count = put_member(&member.0, &member.1, count, sink)?;
+        so_far = put_member(&member.0, &member.1, so_far, sink);
     }
-    sink.put(count, b"}")
+    put_part(b"}", so_far, sink)
 }
 
 /// Writes the member: its name, a colon and its value.
@@ -78,21 +75,21 @@ pub fn put_members<W: Drain>(
 fn put_member<W: Drain>(
     name: &OwnText,
     value: &Json,
-    count: u64,
+    so_far: Progress,
     sink: &mut Sink<W>,
-) -> Result<u64, WriteFault>
-    ensures { Writes sink.old sink.new count (member_text (name.now, json_text value.now)) result }
+) -> Progress
+    ensures { Continues sink.old sink.new so_far (member_text (name.now, json_text value.now)) result }
 {
-    let count = put_name(name, count, sink)?;
-    put_json(value, count, sink)
+    let so_far = put_name(name, so_far, sink);
+    put_json(value, so_far, sink)
 }
 
 /// Writes the name of a member, and the colon.
-fn put_name<W: Drain>(name: &OwnText, count: u64, sink: &mut Sink<W>) -> Result<u64, WriteFault>
-    ensures { Writes sink.old sink.new count (name_text name.now) result }
+pub fn put_name<W: Drain>(name: &OwnText, so_far: Progress, sink: &mut Sink<W>) -> Progress
+    ensures { Continues sink.old sink.new so_far (name_text name.now) result }
 {
-    let count = put_text(name.as_str(), count, sink)?;
-    sink.put(count, b":")
+    let so_far = put_text(name.as_str(), so_far, sink);
+    put_part(b":", so_far, sink)
 }
 
 /// Writes the value with no white space, and answers the number of bytes: members in their order and with their
@@ -100,7 +97,7 @@ fn put_name<W: Drain>(name: &OwnText, count: u64, sink: &mut Sink<W>) -> Result<
 pub fn write_json<W: Drain>(value: &Json, sink: &mut Sink<W>) -> Result<u64, WriteFault>
     ensures { Writes sink.old sink.new 0 (json_text value.now) result }
 {
-    put_json(value, 0, sink)
+    put_json(value, Ok(0), sink)
 }
 
 /// Writes the object with these members, as `write_json` does, and answers the number of bytes.
@@ -110,5 +107,5 @@ pub fn write_members<W: Drain>(
 ) -> Result<u64, WriteFault>
     ensures { Writes sink.old sink.new 0 (json_text (j.Object members.now)) result }
 {
-    put_members(members, 0, sink)
+    put_members(members, Ok(0), sink)
 }

@@ -8,4 +8,3 @@ pub mod NamesDistinct
 pub mod NamesFound
 pub mod SourcesRead
 pub mod SoundLayers
-pub mod Steps

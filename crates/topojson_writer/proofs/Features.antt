@@ -1,26 +1,12 @@
--- The texts of positions and of geometry objects with identifiers and properties, in parts.
-use Rattle.std.proofs.Common.{◌≡◌, ℕ, List, [], ◌∷◌, ◌++◌, ap, ◌∙◌, append_assoc, Option, Some}
+-- The texts of geometry objects with identifiers and properties, in parts.
+use Rattle.std.proofs.Common.{◌≡◌, ℕ, List, ◌++◌, ap, ◌∙◌, append_assoc, Option, Some}
 use Rattle.std.specs.Prelude.{codes}
-use Rattle.decimal_text.specs.Scaling.{units_text}
 use Rattle.json_value.specs.declared.json.Json.TheVariants as j
 use Rattle.json_value.specs.Text.{json_text, escaped_byte}
-use Rattle.json_value.proofs.Texts.{text-number}
 use Rattle.geojson_types.specs.declared.id.Id.{Id}
-use Rattle.geojson_types.specs.Points.{Point}
-use Rattle.topo_types.specs.Values.{Members, Geometrical, units_value, position_value, id_value, id_members, properties_members, feature_with}
+use Rattle.topo_types.specs.Values.{Members, Geometrical, id_value, id_members, properties_members, feature_with}
 use Rattle.topojson_writer.specs.Texts.{type_text, members_text}
-use Rattle.topojson_writer.proofs.Arrays.{array-text}
 use Rattle.topojson_writer.proofs.Objects.{member-alone, members-append, object-text}
-
--- ---- a position
-
-pair-text : (x y : List ℕ) → (codes "[" ++ (x ++ (codes "," ++ (y ++ [])))) ++ codes "]" ≡ codes "[" ++ (x ++ (codes "," ++ (y ++ codes "]")))
-pair-text x y = simp append_assoc
-
-pub position-text : (p : Point) → json_text (position_value p) ≡ codes "[" ++ (units_text p.x 7 ++ (codes "," ++ (units_text p.y 7 ++ codes "]")))
-position-text p =
-    array-text units_value (p.x ∷ (p.y ∷ []))
-    ∙ rw (text-number (units_text p.x 7), text-number (units_text p.y 7)) (pair-text (units_text p.x 7) (units_text p.y 7))
 
 -- ---- identifier and properties
 

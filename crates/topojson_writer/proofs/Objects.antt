@@ -1,22 +1,14 @@
 -- The text of an object that has a type and further members.
-use Rattle.std.proofs.Common.{◌≡◌, ℕ, false, List, [], ◌∷◌, ◌++◌, map, refl, sym, ap, subst, ◌∙◌, append_assoc, Result}
+use Rattle.std.proofs.Common.{◌≡◌, ℕ, false, List, [], ◌∷◌, ◌++◌, map, refl, sym, ap, ◌∙◌, append_assoc}
 use Rattle.std.specs.Prelude.{codes}
 use Rattle.std.proofs.lemmas.List.{append-nil}
 use Rattle.byte_ends.specs.Commas.{with_commas}
-use Rattle.byte_ends.specs.Ends.{Drained}
-use Rattle.byte_ends.specs.Writes.{Writes}
-use Rattle.byte_ends.specs.declared.sink.WriteFault.{WriteFault}
 use Rattle.json_value.specs.declared.json.Json.{Json}
 use Rattle.json_value.specs.declared.json.Json.TheVariants as j
 use Rattle.json_value.specs.Text.{json_text, name_text, escaped_byte}
 use Rattle.json_value.proofs.Texts.{text-null, text-number, text-text, text-object, one_member}
 use Rattle.topo_types.specs.Values.{Members, Geometrical, inner_value}
 use Rattle.topojson_writer.specs.Texts.{type_text, members_text}
-
--- what is known of a value by its variant is written
-pub as_known : {A : Type 0} (text_of : A → List ℕ) (old new : Drained) (count : ℕ) (value variant : A) (text : List ℕ) (r : Result ℕ WriteFault) → value ≡ variant → text_of variant ≡ text
-    → Writes old new count text r → Writes old new count (text_of value) r
-as_known text_of old new count value variant text r is known wrote = subst (λ t. Writes old new count t r) (sym (ap text_of is ∙ known)) wrote
 
 -- the values that are no array and no object
 pub ruleset leaves = (text-null, text-number, text-text)

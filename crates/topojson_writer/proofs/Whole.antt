@@ -1,47 +1,24 @@
--- The texts of objects and topologies in parts.
-use Rattle.std.proofs.Common.{◌≡◌, ℕ, true, List, [], ◌∷◌, ◌++◌, map, refl, ap, ◌∙◌, append_assoc}
+-- The texts of collections and topologies in parts.
+use Rattle.std.proofs.Common.{◌≡◌, ℕ, List, [], ◌∷◌, ◌++◌, ap, ◌∙◌, append_assoc}
 use Rattle.std.specs.Prelude.{codes}
-use Rattle.byte_ends.specs.Commas.{comma_separated}
-use Rattle.byte_ends.proofs.CommaLists.{list_left}
 use Rattle.json_value.specs.declared.json.Json.{Json}
 use Rattle.json_value.specs.declared.json.Json.TheVariants as j
 use Rattle.json_value.specs.Text.{json_text, escaped_byte}
-use Rattle.json_value.proofs.Texts.{text-text, text-object, one_member, fused}
-use Rattle.topo_types.specs.declared.feature.TopoFeature.{TopoFeature}
-use Rattle.topo_types.specs.declared.object.TopoObject.{TopoObject}
-use Rattle.topo_types.specs.declared.object.TopoObject.TheVariants.{Many}
+use Rattle.json_value.proofs.Texts.{text-text}
 use Rattle.topo_types.specs.Topologies.{Contents}
-use Rattle.topo_types.specs.Values.{feature_value, object_value, topology_value}
-use Rattle.topojson_writer.specs.Texts.{type_text, members_text, arcs_value, objects_value, named_text}
-use Rattle.topojson_writer.proofs.Arrays.{text_by, array-text_before}
+use Rattle.topo_types.specs.Values.{topology_value}
+use Rattle.topojson_writer.specs.Texts.{type_text, members_text, arcs_value, objects_value}
 use Rattle.topojson_writer.proofs.Objects.{member-alone, members-append, object-text}
 
 -- ---- a collection
 
--- behind its name: its features
-collected : (features : Json) → json_text (j.Object ((codes "type", j.Text (codes "GeometryCollection")) ∷ ((codes "geometries", features) ∷ [])))
+pub collected : (features : Json) → json_text (j.Object ((codes "type", j.Text (codes "GeometryCollection")) ∷ ((codes "geometries", features) ∷ [])))
     ≡ codes "{\"type\":\"GeometryCollection\",\"geometries\":" ++ (json_text features ++ codes "}")
 unfolding type_text escaped_byte
 collected features =
     object-text (record { type = j.Text (codes "GeometryCollection"); parts = (codes "geometries", features) ∷ [] })
     ∙ ap (λ (text : List ℕ). type_text (record { type = j.Text (codes "GeometryCollection"); parts = [] }) ++ (text ++ codes "}")) (member-alone (codes "geometries") features)
     ∙ ap (λ (text : List ℕ). (codes "{\"type\":" ++ text) ++ (codes ",\"geometries\":" ++ (json_text features ++ codes "}"))) (text-text (codes "GeometryCollection"))
-
-pub collection-text : (fs : List TopoFeature) → json_text (object_value (Many fs))
-    ≡ codes "{\"type\":\"GeometryCollection\",\"geometries\":[" ++ list_left (text_by feature_value) (codes "]}") true fs
-collection-text fs =
-    collected (j.Array (map feature_value fs))
-    ∙ ap (λ (text : List ℕ). codes "{\"type\":\"GeometryCollection\",\"geometries\":" ++ text) (array-text_before feature_value fs (codes "}"))
-
--- ---- the objects by name
-
-abbrev named_value : List ℕ × TopoObject → List ℕ × Json
-named_value o = (o.0, object_value o.1)
-
-pub objects-text : (os : List (List ℕ × TopoObject)) → json_text (objects_value os) ≡ codes "{" ++ list_left named_text (codes "}") true os
-objects-text os =
-    text-object (map named_value os)
-    ∙ ap (λ (texts : List (List ℕ)). codes "{" ++ comma_separated texts ++ codes "}") (fused one_member named_value named_text (λ o. refl) os)
 
 -- ---- a topology
 

@@ -1,5 +1,5 @@
 -- The text of a geometry object (TopoJSON 1.0, section 2.2) part by part, as it is written.
-use Rattle.std.specs.Prelude.{ℕ, ℤ, false, List, [], ◌∷◌, ◌++◌, map, codes}
+use Rattle.std.specs.Prelude.{ℕ, false, List, [], ◌∷◌, ◌++◌, map, codes}
 use Rattle.byte_ends.specs.Commas.{with_commas}
 use Rattle.json_value.specs.declared.json.Json.{Json}
 use Rattle.json_value.specs.declared.json.Json.TheVariants as j
@@ -7,7 +7,7 @@ use Rattle.json_value.specs.Text.{json_text, name_text, member_text}
 use Rattle.geojson_types.specs.Points.{Point}
 use Rattle.topo_types.specs.declared.object.TopoObject.{TopoObject}
 use Rattle.topo_types.specs.Topologies.{TopoShape}
-use Rattle.topo_types.specs.Values.{Members, Geometrical, geometrical, inner_value, positions_value, lines_value, object_value}
+use Rattle.topo_types.specs.Values.{Members, Geometrical, geometrical, inner_value, positions_value, object_value}
 
 -- a geometry inside a collection
 abbrev pub shape_value : TopoShape → Json
@@ -43,10 +43,6 @@ parts_value o = first_value o.parts
 abbrev pub arcs_value : List (List Point) → Json
 arcs_value arcs = j.Array (map positions_value arcs)
 
--- the polygons of a MultiPolygon
-abbrev pub areas_value : List (List (List ℤ)) → Json
-areas_value areas = j.Array (map lines_value areas)
-
 -- the geometries of a GeometryCollection
 abbrev pub shapes_value : List TopoShape → Json
 shapes_value shapes = j.Array (map shape_value shapes)
@@ -54,7 +50,3 @@ shapes_value shapes = j.Array (map shape_value shapes)
 -- the objects of a topology by name
 abbrev pub objects_value : List (List ℕ × TopoObject) → Json
 objects_value os = j.Object (map (λ o. (o.0, object_value o.1)) os)
-
--- an object of a topology behind its name and a colon
-abbrev pub named_text : List ℕ × TopoObject → List ℕ
-named_text o = member_text (o.0, json_text (object_value o.1))

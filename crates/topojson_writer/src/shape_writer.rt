@@ -1,112 +1,105 @@
 // Geometries as they are written (TopoJSON 1.0, section 2.2).
-ghost use Rattle.byte_ends.specs.Writes.{Writes};
+ghost use Rattle.byte_ends.specs.Continues.{Continues};
 ghost use Rattle.json_value.specs.Text.{json_text};
 ghost use Rattle.topo_types.specs.Values.{geometrical};
 ghost use Rattle.topojson_writer.specs.Texts.{shape_value, shapes_value, type_text, members_text, parts_name, parts_value};
 
-use crate::cell_writer::{put_cell, put_cells};
-use crate::index_writer::{put_areas, put_lists, put_refs};
-use byte_ends::{Drain, Sink, WriteFault};
+use crate::cell_writer::{Cells, put_cell};
+use crate::index_writer::ArcRefs;
+use byte_ends::{Drain, Progress, Sink, put_comma, put_part};
 use geojson_types::Geometry;
-use topo_types::TopoShape;
+use json_value::{ArrayOf, Items, put_array};
+use topo_types::{ArcRef, Cell, TopoShape};
 
 /// Writes the opening brace of a geometry object, and its type.
-pub fn put_type<W: Drain>(
-    shape: &TopoShape,
-    count: u64,
-    sink: &mut Sink<W>,
-) -> Result<u64, WriteFault>
-    ensures { Writes sink.old sink.new count (type_text (geometrical shape.now)) result }
+pub fn put_type<W: Drain>(shape: &TopoShape, so_far: Progress, sink: &mut Sink<W>) -> Progress
+    ensures { Continues sink.old sink.new so_far (type_text (geometrical shape.now)) result }
 {
     match shape {
-        Geometry::Point(_) => sink.put(count, b"{\"type\":\"Point\""),
-        Geometry::MultiPoint(_) => sink.put(count, b"{\"type\":\"MultiPoint\""),
-        Geometry::Line(_) => sink.put(count, b"{\"type\":\"LineString\""),
-        Geometry::Lines(_) => sink.put(count, b"{\"type\":\"MultiLineString\""),
-        Geometry::Area(_) => sink.put(count, b"{\"type\":\"Polygon\""),
-        Geometry::Areas(_) => sink.put(count, b"{\"type\":\"MultiPolygon\""),
-        Geometry::Group(_) => sink.put(count, b"{\"type\":\"GeometryCollection\""),
+        Geometry::Point(_) => put_part(b"{\"type\":\"Point\"", so_far, sink),
+        Geometry::MultiPoint(_) => put_part(b"{\"type\":\"MultiPoint\"", so_far, sink),
+        Geometry::Line(_) => put_part(b"{\"type\":\"LineString\"", so_far, sink),
+        Geometry::Lines(_) => put_part(b"{\"type\":\"MultiLineString\"", so_far, sink),
+        Geometry::Area(_) => put_part(b"{\"type\":\"Polygon\"", so_far, sink),
+        Geometry::Areas(_) => put_part(b"{\"type\":\"MultiPolygon\"", so_far, sink),
+        Geometry::Group(_) => put_part(b"{\"type\":\"GeometryCollection\"", so_far, sink),
     }
 }
 
 /// Writes a comma, the name of what a geometry of this type has, and the colon.
-fn put_parts_name<W: Drain>(
-    shape: &TopoShape,
-    count: u64,
-    sink: &mut Sink<W>,
-) -> Result<u64, WriteFault>
-    ensures { Writes sink.old sink.new count (parts_name (geometrical shape.now)) result }
+fn put_parts_name<W: Drain>(shape: &TopoShape, so_far: Progress, sink: &mut Sink<W>) -> Progress
+    ensures { Continues sink.old sink.new so_far (parts_name (geometrical shape.now)) result }
 {
     match shape {
-        Geometry::Point(_) => sink.put(count, b",\"coordinates\":"),
-        Geometry::MultiPoint(_) => sink.put(count, b",\"coordinates\":"),
-        Geometry::Line(_) => sink.put(count, b",\"arcs\":"),
-        Geometry::Lines(_) => sink.put(count, b",\"arcs\":"),
-        Geometry::Area(_) => sink.put(count, b",\"arcs\":"),
-        Geometry::Areas(_) => sink.put(count, b",\"arcs\":"),
-        Geometry::Group(_) => sink.put(count, b",\"geometries\":"),
+        Geometry::Point(_) => put_part(b",\"coordinates\":", so_far, sink),
+        Geometry::MultiPoint(_) => put_part(b",\"coordinates\":", so_far, sink),
+        Geometry::Line(_) => put_part(b",\"arcs\":", so_far, sink),
+        Geometry::Lines(_) => put_part(b",\"arcs\":", so_far, sink),
+        Geometry::Area(_) => put_part(b",\"arcs\":", so_far, sink),
+        Geometry::Areas(_) => put_part(b",\"arcs\":", so_far, sink),
+        Geometry::Group(_) => put_part(b",\"geometries\":", so_far, sink),
     }
 }
 
 /// Writes the coordinates, the arc indexes or the geometries.
 #[cycle(shapes)]
 #[tactic(auto, using(crate::proofs::Shapes::values))]
-fn put_parts_value<W: Drain>(
-    shape: &TopoShape,
-    count: u64,
-    sink: &mut Sink<W>,
-) -> Result<u64, WriteFault>
-    ensures { Writes sink.old sink.new count (json_text (parts_value (geometrical shape.now))) result }
+fn put_parts_value<W: Drain>(shape: &TopoShape, so_far: Progress, sink: &mut Sink<W>) -> Progress
+    ensures { Continues sink.old sink.new so_far (json_text (parts_value (geometrical shape.now))) result }
 {
     match shape {
-        Geometry::Point(cell) => put_cell(*cell, count, sink),
-        Geometry::MultiPoint(cells) => put_cells(cells.as_slice(), count, sink),
-        Geometry::Line(references) => put_refs(references.as_slice(), count, sink),
-        Geometry::Lines(lines) => put_lists(lines.as_slice(), count, sink),
-        Geometry::Area(rings) => put_lists(rings.as_slice(), count, sink),
-        Geometry::Areas(areas) => put_areas(areas.as_slice(), count, sink),
-        Geometry::Group(shapes) => put_shapes(shapes.as_slice(), count, sink),
+        Geometry::Point(cell) => put_cell(*cell, so_far, sink),
+        Geometry::MultiPoint(cells) => {
+            put_array::<Cells, Cell, W>(cells.as_slice(), so_far, sink)
+        }
+        Geometry::Line(references) => {
+            put_array::<ArcRefs, ArcRef, W>(references.as_slice(), so_far, sink)
+        }
+        Geometry::Lines(lines) => {
+            put_array::<ArrayOf<ArcRefs>, Items<ArcRef>, W>(lines.as_slice(), so_far, sink)
+        }
+        Geometry::Area(rings) => {
+            put_array::<ArrayOf<ArcRefs>, Items<ArcRef>, W>(rings.as_slice(), so_far, sink)
+        }
+        Geometry::Areas(areas) => put_array::<ArrayOf<ArrayOf<ArcRefs>>, Items<Items<ArcRef>>, W>(
+            areas.as_slice(),
+            so_far,
+            sink,
+        ),
+        Geometry::Group(shapes) => put_shapes(shapes.as_slice(), so_far, sink),
     }
 }
 
 /// Writes what a geometry has behind its type, identifier and properties.
 #[cycle(shapes)]
-pub fn put_parts<W: Drain>(
-    shape: &TopoShape,
-    count: u64,
-    sink: &mut Sink<W>,
-) -> Result<u64, WriteFault>
-    ensures { Writes sink.old sink.new count (members_text (geometrical shape.now).parts) result }
+pub fn put_parts<W: Drain>(shape: &TopoShape, so_far: Progress, sink: &mut Sink<W>) -> Progress
+    ensures { Continues sink.old sink.new so_far (members_text (geometrical shape.now).parts) result }
 {
-    let count = put_parts_name(shape, count, sink)?;
-    put_parts_value(shape, count, sink)
+    let so_far = put_parts_name(shape, so_far, sink);
+    put_parts_value(shape, so_far, sink)
 }
 
 /// Writes the geometries of a GeometryCollection.
 #[cycle(shapes)]
-fn put_shapes<W: Drain>(
-    shapes: &[TopoShape],
-    count: u64,
-    sink: &mut Sink<W>,
-) -> Result<u64, WriteFault>
-    ensures { Writes sink.old sink.new count (json_text (shapes_value shapes.now)) result }
+fn put_shapes<W: Drain>(shapes: &[TopoShape], so_far: Progress, sink: &mut Sink<W>) -> Progress
+    ensures { Continues sink.old sink.new so_far (json_text (shapes_value shapes.now)) result }
 {
-    let mut count = sink.put(count, b"[")?;
+    let mut so_far = put_part(b"[", so_far, sink);
     let mut is_first = true;
     'shapes: for shape in shapes {
-        count = sink.put_comma(count, is_first)?;
+        so_far = put_comma(is_first, so_far, sink);
         is_first = false;
-        count = put_shape(shape, count, sink)?;
+        so_far = put_shape(shape, so_far, sink);
     }
-    sink.put(count, b"]")
+    put_part(b"]", so_far, sink)
 }
 
 /// Writes a geometry inside a GeometryCollection, which has no identifier and no properties.
 #[cycle(shapes)]
-fn put_shape<W: Drain>(shape: &TopoShape, count: u64, sink: &mut Sink<W>) -> Result<u64, WriteFault>
-    ensures { Writes sink.old sink.new count (json_text (shape_value shape.now)) result }
+fn put_shape<W: Drain>(shape: &TopoShape, so_far: Progress, sink: &mut Sink<W>) -> Progress
+    ensures { Continues sink.old sink.new so_far (json_text (shape_value shape.now)) result }
 {
-    let count = put_type(shape, count, sink)?;
-    let count = put_parts(shape, count, sink)?;
-    sink.put(count, b"}")
+    let so_far = put_type(shape, so_far, sink);
+    let so_far = put_parts(shape, so_far, sink);
+    put_part(b"}", so_far, sink)
 }

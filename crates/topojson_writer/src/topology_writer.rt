@@ -1,102 +1,58 @@
 // Objects and topologies as they are written (TopoJSON 1.0, sections 2.1 and 2.2).
 ghost use Rattle.std.specs.Prelude.{◌≡◌, None};
+ghost use Rattle.byte_ends.specs.Continues.{Continues};
 ghost use Rattle.byte_ends.specs.Writes.{Writes};
-ghost use Rattle.json_value.specs.Text.{json_text, name_text};
+ghost use Rattle.json_value.specs.Text.{json_text};
 ghost use Rattle.topo_types.specs.declared.object.TopoObject.TheVariants.{Many};
 ghost use Rattle.topo_types.specs.Values.{object_value, topology_value};
-ghost use Rattle.topojson_writer.specs.Texts.{named_text, objects_value};
 
-use crate::cell_writer::put_arcs;
-use crate::feature_writer::put_feature;
-use byte_ends::{Drain, Sink, WriteFault};
-use json_value::{OwnText, put_text};
-use topo_types::{TopoFeature, TopoObject, Topology};
+use crate::cell_writer::Cells;
+use crate::feature_writer::{Features, put_feature};
+use byte_ends::{Drain, Progress, Sink, WriteFault, put_part};
+use json_value::{ArrayOf, Items, PutValue, put_array, put_object};
+use topo_types::{Cell, TopoFeature, TopoObject, Topology};
 
 /// Writes the GeometryCollection of these features.
 fn put_collection<W: Drain>(
     features: &[TopoFeature],
-    count: u64,
+    so_far: Progress,
     sink: &mut Sink<W>,
-) -> Result<u64, WriteFault>
-    ensures { Writes sink.old sink.new count (json_text (object_value (Many features.now))) result }
+) -> Progress
+    ensures { Continues sink.old sink.new so_far (json_text (object_value (Many features.now))) result }
 {
-    let mut count = sink.put(count, b"{\"type\":\"GeometryCollection\",\"geometries\":[")?;
-    let mut is_first = true;
-    'features: for feature in features {
-        count = sink.put_comma(count, is_first)?;
-        is_first = false;
-        count = put_feature(feature, count, sink)?;
+    let so_far = put_part(
+        b"{\"type\":\"GeometryCollection\",\"geometries\":",
+        so_far,
+        sink,
+    );
+    let so_far = put_array::<Features, TopoFeature, W>(features, so_far, sink);
+    put_part(b"}", so_far, sink)
+}
+
+// The way to write the objects of a topology.
+struct Objects;
+
+impl PutValue<TopoObject> for Objects {
+    ghost value = { object_value };
+
+    fn put<W: Drain>(object: &TopoObject, so_far: Progress, sink: &mut Sink<W>) -> Progress {
+        match object {
+            TopoObject::One(feature) => put_feature(feature, so_far, sink),
+            TopoObject::Many(features) => put_collection(features.as_slice(), so_far, sink),
+        }
     }
-    sink.put(count, b"]}")
 }
 
-/// Writes an object of a topology.
-pub fn put_object<W: Drain>(
-    object: &TopoObject,
-    count: u64,
-    sink: &mut Sink<W>,
-) -> Result<u64, WriteFault>
-    ensures { Writes sink.old sink.new count (json_text (object_value object.now)) result }
-{
-    match object {
-        TopoObject::One(feature) => put_feature(feature, count, sink),
-        TopoObject::Many(features) => put_collection(features.as_slice(), count, sink),
-    }
-}
-
-/// Writes the name of an object, and the colon.
-fn put_name<W: Drain>(name: &OwnText, count: u64, sink: &mut Sink<W>) -> Result<u64, WriteFault>
-    ensures { Writes sink.old sink.new count (name_text name.now) result }
-{
-    let count = put_text(name.as_str(), count, sink)?;
-    sink.put(count, b":")
-}
-
-/// Writes an object of a topology behind its name.
-fn put_named<W: Drain>(
-    name: &OwnText,
-    object: &TopoObject,
-    count: u64,
-    sink: &mut Sink<W>,
-) -> Result<u64, WriteFault>
-    ensures { Writes sink.old sink.new count (named_text (name.now, object.now)) result }
-{
-    let count = put_name(name, count, sink)?;
-    put_object(object, count, sink)
-}
-
-/// Writes the objects of a topology by name, in order.
-fn put_objects<W: Drain>(
-    objects: &[(OwnText, TopoObject)],
-    count: u64,
-    sink: &mut Sink<W>,
-) -> Result<u64, WriteFault>
-    ensures { Writes sink.old sink.new count (json_text (objects_value objects.now)) result }
-{
-    let mut count = sink.put(count, b"{")?;
-    let mut is_first = true;
-    'objects: for object in objects {
-        count = sink.put_comma(count, is_first)?;
-        is_first = false;
-        count = put_named(&object.0, &object.1, count, sink)?;
-    }
-    sink.put(count, b"}")
-}
-
-/// Writes the topology, as `write_topology`, and counts on from `count` as `Sink::put` does.
-pub fn put_topology<W: Drain>(
-    topology: &Topology,
-    count: u64,
-    sink: &mut Sink<W>,
-) -> Result<u64, WriteFault>
+/// Writes the topology, as `write_topology`, as a part of a longer text.
+pub fn put_topology<W: Drain>(topology: &Topology, so_far: Progress, sink: &mut Sink<W>) -> Progress
     requires { topology.now.transform ≡ None }
-    ensures { Writes sink.old sink.new count (json_text (topology_value topology.now)) result }
+    ensures { Continues sink.old sink.new so_far (json_text (topology_value topology.now)) result }
 {
-    let count = sink.put(count, b"{\"type\":\"Topology\",\"objects\":")?;
-    let count = put_objects(topology.objects(), count, sink)?;
-    let count = sink.put(count, b",\"arcs\":")?;
-    let count = put_arcs(topology.arcs(), count, sink)?;
-    sink.put(count, b"}")
+    let so_far = put_part(b"{\"type\":\"Topology\",\"objects\":", so_far, sink);
+    let so_far = put_object::<Objects, TopoObject, W>(topology.objects(), so_far, sink);
+    let so_far = put_part(b",\"arcs\":", so_far, sink);
+    let so_far = put_array::<ArrayOf<Cells>, Items<Cell>, W>(topology.arcs(), so_far, sink);
+    put_part(b"}", so_far, sink)
 }
 
 /// Writes the text of the topology (TopoJSON 1.0, section 2) with no white space, and answers the number of bytes: its objects by
@@ -108,5 +64,5 @@ pub fn write_topology<W: Drain>(topology: &Topology, sink: &mut Sink<W>) -> Resu
     requires { topology.now.transform ≡ None }
     ensures { Writes sink.old sink.new 0 (json_text (topology_value topology.now)) result }
 {
-    put_topology(topology, 0, sink)
+    put_topology(topology, Ok(0), sink)
 }

@@ -1,13 +1,12 @@
 use Rattle.std.proofs.Common.{drop, map}
 use Rattle.std.specs.Prelude.{codes}
-use Rattle.byte_ends.proofs.CommaLists.{list_left}
-use Rattle.byte_ends.proofs.Writing.{WritesUpTo}
+use Rattle.byte_ends.proofs.Parts.{UpTo, list_left}
 use Rattle.json_value.specs.Text.{json_text}
 use Rattle.json_value.specs.declared.json.Json.TheVariants as j
+use Rattle.json_value.proofs.Lists.{text_by}
 use Rattle.geojson_writer.specs.FeatureValues.{shape_value}
-use Rattle.geojson_writer.proofs.Arrays.{text_by}
 use Rattle.geojson_writer.proofs.shape_writer.+shapes.Given as goal
 
 abbrev pub invariant-put_shapes-shapes : goal.invariant-put_shapes-shapes
 invariant-put_shapes-shapes g l =
-    WritesUpTo l.fn.sink l.sink l.fn.count (json_text (j.Array (map shape_value l.shapes))) (list_left (text_by shape_value) (codes "]") l.is_first (drop l.shape-index l.shapes)) l.count
+    UpTo l.fn.sink l.sink l.fn.so_far (json_text (j.Array (map shape_value l.shapes))) (list_left (text_by shape_value) (codes "]") l.is_first (drop l.shape-index l.shapes)) l.so_far

@@ -1,13 +1,17 @@
-use Rattle.std.proofs.Common.{ap}
-use Rattle.byte_ends.proofs.Writing.{Writes-passed, WritesUpTo-step, WritesUpTo-stop}
-use Rattle.mapchain_engine.specs.Reports.{path_rest}
+use Rattle.std.proofs.Common.{ap, ◌∙◌}
+use Rattle.std.proofs.lemmas.List.{append-nil, drop_all}
+use Rattle.byte_ends.proofs.Parts.{as_text, begins, goes}
+use Rattle.mapchain_engine.specs.Reports.{path_text, path_rest}
 use Rattle.mapchain_engine.proofs.Lists.{drop-number}
 use Rattle.mapchain_engine.proofs.report_writer.put_path.Goals as goal
 
-pub returns-in_err-count-2 : goal.returns-in_err-count-2
-returns-in_err-count-2 g c = Writes-passed _ _ _ _ _ _ c.from_residual-in_err-count-2.ensures.1
-    (WritesUpTo-stop _ _ _ _ _ _ _ _ _ _ c.numbers.invariant (ap path_rest (drop-number _ _ c.numbers-test.true)) c.in_err-count-2.ensures)
+pub numbers-init : goal.numbers-init
+numbers-init g c = begins _ _ (ap path_text c.in-Some.ensures.cases.0) c.put_number-so_far.ensures
 
 pub numbers-preserved : goal.numbers-preserved
-numbers-preserved g c =
-    WritesUpTo-step _ _ _ _ _ _ _ _ _ _ c.numbers.invariant (ap path_rest (drop-number _ _ c.numbers-test.true)) c.in_ok-count-2.ensures
+numbers-preserved g c = goes c.numbers.invariant (ap path_rest (drop-number _ _ c.numbers-test.true)) c.put_next-so_far.ensures
+
+pub returns : goal.returns
+returns g c =
+    let up = rw (drop_all _ _ c.numbers-test.false) at c.numbers.invariant in
+    as_text (up.whole ∙ append-nil up.done) up.wrote

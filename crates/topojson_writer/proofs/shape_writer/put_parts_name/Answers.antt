@@ -1,26 +1,27 @@
+use Rattle.std.proofs.Common.{ap, ◌∙◌}
+use Rattle.byte_ends.proofs.Parts.{as_text}
 use Rattle.topo_types.specs.Values.{geometrical}
 use Rattle.topojson_writer.specs.Texts.{parts_name}
-use Rattle.topojson_writer.proofs.Shapes as k
-use Rattle.topojson_writer.proofs.Objects.{as_known}
+use Rattle.topojson_writer.proofs.Shapes as kind
 use Rattle.topojson_writer.proofs.shape_writer.put_parts_name.Goals as goal
 
 pub returns-in-Point : goal.returns-in-Point
-returns-in-Point g c = as_known (λ shape. parts_name (geometrical shape)) _ _ _ _ _ _ _ c.in-Point.is (k.name-point _) c.put.ensures.wrote
+returns-in-Point g c = as_text (ap (λ shape. parts_name (geometrical shape)) c.in-Point.is ∙ kind.name-point _) c.put_part.ensures
 
 pub returns-in-MultiPoint : goal.returns-in-MultiPoint
-returns-in-MultiPoint g c = as_known (λ shape. parts_name (geometrical shape)) _ _ _ _ _ _ _ c.in-MultiPoint.is (k.name-points _) c.put-in-MultiPoint.ensures.wrote
+returns-in-MultiPoint g c = as_text (ap (λ shape. parts_name (geometrical shape)) c.in-MultiPoint.is ∙ kind.name-points _) c.put_part-in-MultiPoint.ensures
 
 pub returns-in-Line : goal.returns-in-Line
-returns-in-Line g c = as_known (λ shape. parts_name (geometrical shape)) _ _ _ _ _ _ _ c.in-Line.is (k.name-line _) c.put-in-Line.ensures.wrote
+returns-in-Line g c = as_text (ap (λ shape. parts_name (geometrical shape)) c.in-Line.is ∙ kind.name-line _) c.put_part-in-Line.ensures
 
 pub returns-in-Lines : goal.returns-in-Lines
-returns-in-Lines g c = as_known (λ shape. parts_name (geometrical shape)) _ _ _ _ _ _ _ c.in-Lines.is (k.name-lines _) c.put-in-Lines.ensures.wrote
+returns-in-Lines g c = as_text (ap (λ shape. parts_name (geometrical shape)) c.in-Lines.is ∙ kind.name-lines _) c.put_part-in-Lines.ensures
 
 pub returns-in-Area : goal.returns-in-Area
-returns-in-Area g c = as_known (λ shape. parts_name (geometrical shape)) _ _ _ _ _ _ _ c.in-Area.is (k.name-area _) c.put-in-Area.ensures.wrote
+returns-in-Area g c = as_text (ap (λ shape. parts_name (geometrical shape)) c.in-Area.is ∙ kind.name-area _) c.put_part-in-Area.ensures
 
 pub returns-in-Areas : goal.returns-in-Areas
-returns-in-Areas g c = as_known (λ shape. parts_name (geometrical shape)) _ _ _ _ _ _ _ c.in-Areas.is (k.name-areas _) c.put-in-Areas.ensures.wrote
+returns-in-Areas g c = as_text (ap (λ shape. parts_name (geometrical shape)) c.in-Areas.is ∙ kind.name-areas _) c.put_part-in-Areas.ensures
 
 pub returns-in-Group : goal.returns-in-Group
-returns-in-Group g c = as_known (λ shape. parts_name (geometrical shape)) _ _ _ _ _ _ _ c.in-Group.is (k.name-group _) c.put-in-Group.ensures.wrote
+returns-in-Group g c = as_text (ap (λ shape. parts_name (geometrical shape)) c.in-Group.is ∙ kind.name-group _) c.put_part-in-Group.ensures

@@ -1,0 +1,30 @@
+// Texts that are written part by part.
+ghost use Rattle.byte_ends.specs.Commas.{comma_unless};
+ghost use Rattle.byte_ends.specs.Continues.{Continues};
+
+use crate::drain::Drain;
+use crate::sink::{Sink, WriteFault};
+
+/// How far a text is written: the count of its bytes so far, or the fault that cut it short. Behind a fault no part is
+/// written, and the fault stays.
+pub type Progress = Result<u64, WriteFault>;
+
+/// Writes a part of a text as `Sink::put` does, unless an earlier part failed.
+pub fn put_part<W: Drain>(bytes: &[u8], so_far: Progress, sink: &mut Sink<W>) -> Progress
+    ensures { Continues sink.old sink.new so_far bytes.now result }
+{
+    match so_far {
+        Ok(count) => sink.put(count, bytes),
+        Err(fault) => Err(fault),
+    }
+}
+
+/// Writes the comma in front of a list's element as a part, or nothing in front of the first.
+pub fn put_comma<W: Drain>(is_first: bool, so_far: Progress, sink: &mut Sink<W>) -> Progress
+    ensures { Continues sink.old sink.new so_far (comma_unless is_first) result }
+{
+    match so_far {
+        Ok(count) => sink.put_comma(count, is_first),
+        Err(fault) => Err(fault),
+    }
+}

@@ -1,0 +1,43 @@
+// Decimal numbers as they are written.
+ghost use Rattle.std.specs.Prelude.{◌≤◌, [], ◌∷◌};
+ghost use Rattle.byte_ends.specs.Continues.{Continues};
+ghost use Rattle.decimal_text.specs.Scaling.{units_text};
+ghost use Rattle.json_value.specs.Text.{json_text};
+ghost use Rattle.json_value.specs.declared.json.Json.TheVariants as j;
+
+use byte_ends::{Drain, Progress, Sink, put_part};
+use decimal_text::put_units;
+
+/// Writes a number of units of `10^-places` by its least decimal, as a part of a longer text.
+pub fn put_decimal<W: Drain>(
+    units: i64,
+    places: u32,
+    so_far: Progress,
+    sink: &mut Sink<W>,
+) -> Progress
+    requires { places ≤ 18 }
+    ensures { Continues sink.old sink.new so_far (json_text (j.Number (units_text units places))) result }
+{
+    match so_far {
+        Ok(count) => put_units(units, places, count, sink),
+        Err(fault) => Err(fault),
+    }
+}
+
+/// Writes the array of two such numbers.
+pub fn put_pair<W: Drain>(
+    x: i64,
+    y: i64,
+    places: u32,
+    so_far: Progress,
+    sink: &mut Sink<W>,
+) -> Progress
+    requires { places ≤ 18 }
+    ensures { Continues sink.old sink.new so_far (json_text (j.Array (j.Number (units_text x places) ∷ (j.Number (units_text y places) ∷ [])))) result }
+{
+    let so_far = put_part(b"[", so_far, sink);
+    let so_far = put_decimal(x, places, so_far, sink);
+    let so_far = put_part(b",", so_far, sink);
+    let so_far = put_decimal(y, places, so_far, sink);
+    put_part(b"]", so_far, sink)
+}

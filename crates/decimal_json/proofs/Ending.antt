@@ -1,8 +1,9 @@
 -- What may stand behind a value: nothing, white space, a comma or a closing bracket.
 use Rattle.std.proofs.Common.{◌≡◌, ℕ, Bool, true, inl, inr, List, [], ◌∷◌, ◌++◌, refl}
 use Rattle.std.specs.Prelude.{◌||◌, ◌==◌}
+use Rattle.std.proofs.lemmas.Bool.{or_cases}
 use Rattle.json_value.specs.Grammar.{is_space, IsSpace}
-use Rattle.decimal_json.proofs.Steps.{at, or_cases}
+use Rattle.decimal_json.proofs.Steps.{at}
 
 abbrev pub is_end : ℕ → Bool
 is_end b = is_space b || (b == 44 || (b == 93 || b == 125))

@@ -4,10 +4,11 @@ use Rattle.std.specs.Option.{option_copied}
 use Rattle.std.proofs.lemmas.Bool.{eqb-true, eq-eqb}
 use Rattle.std.proofs.lemmas.List.{append-nil}
 use Rattle.std.proofs.lemmas.Option.{option_and_then_some}
+use Rattle.list_laws.proofs.Tests.{chosen}
 use Rattle.json_value.specs.declared.json.Json.{Json}
 use Rattle.json_value.specs.Grammar.{is_space, IsSpace}
 use Rattle.decimal_json.specs.Reading.{skip, after_word, word_at}
-use Rattle.decimal_json.proofs.Steps.{chosen, none_or_some}
+use Rattle.decimal_json.proofs.Steps.{none_or_some}
 
 pub skip-space : (w bs : List ℕ) → IsSpace w → skip (w ++ bs) ≡ skip bs
 unfolding skip

@@ -1,15 +1,11 @@
 -- Runs of digits by the grammar, and where a reading of them stops.
-use Rattle.std.proofs.Common.{◌≡◌, ℕ, ◌≤◌, ◌==◌, ◌++◌, true, false, List, [], ◌∷◌, length, take, drop, All, refl, ap, ◌∙◌, arith, ⊎_elim}
+use Rattle.std.proofs.Common.{◌≡◌, ℕ, ◌≤◌, ◌++◌, true, false, List, [], ◌∷◌, length, take, drop, All, refl, ap, ◌∙◌, arith}
 use Rattle.std.proofs.Math.Seq.{take-append_seam, drop-append_seam}
-use Rattle.std.proofs.lemmas.Bool.Decides.{nat_tests, eqb_tells}
+use Rattle.std.proofs.lemmas.Bool.Decides.{nat_tests}
 use Rattle.std.proofs.lemmas.List.Elements.{All-head, All-tail}
 use Rattle.std.specs.List.{prefix_len}
 use Rattle.decimal_text.specs.Grammar.{is_digit, AllDigits}
 use Rattle.decimal_text.specs.Digits.{IsDigit, front_digits, after_digits}
-
--- another number does not pass the test of equality
-pub other : (c d : ℕ) → (c ≡ d → ⊥) → (c == d) ≡ false
-other c d h = ⊎_elim (λ t. absurd (h t.1)) (λ f. f.0) (eqb_tells c d)
 
 pub digit_true : (c : ℕ) → 48 ≤ c → c ≤ 57 → is_digit c ≡ true
 digit_true c low high = grind (arith, nat_tests)

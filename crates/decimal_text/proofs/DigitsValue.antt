@@ -1,10 +1,10 @@
 -- The number that digits write.
-use Rattle.std.proofs.Common.{◌≡◌, ℕ, ◌+◌, ◌-◌, ◌*◌, ◌^◌, ◌<◌, ◌≤◌, suc, List, [], ◌∷◌, ◌++◌, length, All, refl, ap, ◌∙◌, arith, get_or, drop, add-one, ⊎_elim, true}
-use Rattle.std.proofs.lemmas.Bool.Decides.{nat_tests}
+use Rattle.std.proofs.Common.{◌≡◌, ℕ, ◌+◌, ◌-◌, ◌*◌, ◌^◌, ◌<◌, ◌≤◌, suc, List, [], ◌∷◌, ◌++◌, length, All, refl, ap, ◌∙◌, arith, get_or, drop, add-one, ⊎_elim}
 use Rattle.std.proofs.lemmas.List.Elements.{All-head, All-tail, All-cons, All-append}
 use Rattle.std.proofs.lemmas.Bool.{cases_lt}
 use Rattle.std.proofs.lemmas.List.{at_drop_more}
 use Rattle.std.proofs.Math.Nat.{pow-suc, one-le-pow, mul-le-mul_left, pow-le-pow_right}
+use Rattle.decimal_text.proofs.DigitRuns.{digit_range}
 use Rattle.decimal_text.specs.Grammar.{is_digit}
 use Rattle.std.specs.List.{prefix_len}
 use Rattle.std.proofs.lemmas.List.{get_or-take}
@@ -141,10 +141,6 @@ zero_front xs ys h e =
 
 pub zero_back : (xs ys : List ℕ) → digits_value (xs ++ ys) ≡ 0 → digits_value ys ≡ 0
 zero_back xs ys e = omega (arith, digits_value-cut xs ys)
-
--- what the test of a digit says
-digit_range : (c : ℕ) → is_digit c ≡ true → (48 ≤ c) × (c ≤ 57)
-digit_range c h = grind (arith, nat_tests)
 
 -- the digits at the front are digits
 pub front_digits-all : (bs : List ℕ) → All IsDigit (front_digits bs)

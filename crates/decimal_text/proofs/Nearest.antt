@@ -1,8 +1,7 @@
 -- The nearest whole number as a function: it is the rounded number of the inequalities, and the only one.
-use Rattle.std.proofs.Common.{◌≡◌, ℕ, ◌+◌, ◌*◌, ◌/◌, ◌%◌, ◌<◌, ◌≤◌, ◌==◌, ◌↔◌, Bool, true, false, Ok, Err, refl, sym, ap, ◌∙◌, subst, arith, ⊎_elim, Decides}
-use Rattle.std.specs.Prelude.{nat_le}
-use Rattle.std.proofs.lemmas.Bool.{cases_lt}
-use Rattle.std.proofs.lemmas.Bool.Decides.{nat_tests, Decides-eqb, same_from_decides}
+use Rattle.std.proofs.Common.{◌≡◌, ℕ, ◌+◌, ◌*◌, ◌/◌, ◌%◌, ◌<◌, ◌≤◌, ◌==◌, ◌↔◌, Bool, true, Ok, Err, refl, sym, ap, ◌∙◌, subst, arith, ⊎_elim, Decides}
+use Rattle.std.proofs.lemmas.Bool.{cases_lt, le-leb, lt-leb}
+use Rattle.std.proofs.lemmas.Bool.Decides.{Decides-eqb, same_from_decides}
 use Rattle.std.proofs.lemmas.Nat.{mod-mul-add}
 use Rattle.decimal_text.specs.declared.rounding.Magnitude.{Magnitude}
 use Rattle.decimal_text.specs.Rounding.{IsRounded, IsRoundedTo, ScalesTo, nearest, signed, rounded_of}
@@ -37,19 +36,12 @@ rest-test num den u h r =
     let test = Decides-eqb (num % den) 0 in
     (λ t. both.1 (test.0 t), λ e. test.1 (both.0 e))
 
--- the tests of `rounded_of`
-within-test : (n limit : ℕ) → n ≤ limit → nat_le n limit ≡ true
-within-test n limit h = grind (arith, nat_tests)
-
-past-test : (n limit : ℕ) → limit < n → nat_le n limit ≡ false
-past-test n limit h = grind (arith, nat_tests)
-
 pub rounded_of-within : (negative : Bool) (num den limit : ℕ) → nearest num den ≤ limit
     → rounded_of negative num den limit ≡ Ok (record { value = signed negative (nearest num den); exact = num % den == 0 })
-rounded_of-within negative num den limit h = rw (within-test (nearest num den) limit h) refl
+rounded_of-within negative num den limit h = rw (le-leb (nearest num den) limit h) refl
 
 pub rounded_of-past : (negative : Bool) (num den limit : ℕ) → limit < nearest num den → rounded_of negative num den limit ≡ Err (record {})
-rounded_of-past negative num den limit h = rw (past-test (nearest num den) limit h) refl
+rounded_of-past negative num den limit h = rw (lt-leb (nearest num den) limit h) refl
 
 -- what a magnitude within the limit gives
 pub rounded_of-magnitude : (negative : Bool) (num den limit : ℕ) (m : Magnitude) → 0 < den → IsRoundedTo num den limit m

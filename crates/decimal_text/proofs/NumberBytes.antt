@@ -1,15 +1,12 @@
 -- A number is ASCII, and so it is UTF-8.
-use Rattle.std.proofs.Common.{◌≡◌, ℕ, zero, suc, ◌<◌, true, List, [], ◌∷◌, ◌++◌, sym, subst, arith}
+pub use Rattle.std.proofs.lemmas.Str.Ascii.{IsAscii-cons as ascii_cons}
+use Rattle.std.proofs.Common.{◌≡◌, ℕ, ◌<◌, true, List, [], ◌∷◌, ◌++◌, sym, subst, arith}
 use Rattle.std.specs.Prelude.{IsUtf8}
 use Rattle.std.specs.Str.{IsAscii}
 use Rattle.std.proofs.lemmas.Bool.Decides.{nat_tests}
 use Rattle.std.proofs.lemmas.Str.{IsAscii-append, IsUtf8-from_ascii}
 use Rattle.std.proofs.lemmas.Str.Ascii.{IsAscii-nil}
 use Rattle.decimal_text.specs.Grammar.{is_digit, is_e, AllDigits, IsMinus, no_minus, one_minus, IsWhole, whole_zero, whole_digits, IsFraction, no_fraction, fraction, IsSign, no_sign, plus_sign, minus_sign, IsExponent, no_exponent, exponent, IsNumber, number_of}
-
-pub ascii_cons : (b : ℕ) (bs : List ℕ) → b < 128 → IsAscii bs → IsAscii (b ∷ bs)
-ascii_cons b bs h r zero = h
-ascii_cons b bs h r (suc i) = r i
 
 digit_ascii : (b : ℕ) → is_digit b ≡ true → b < 128
 digit_ascii b h = grind (arith, nat_tests)

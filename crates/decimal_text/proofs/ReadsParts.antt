@@ -3,14 +3,15 @@ use Rattle.std.proofs.Common.{◌≡◌, ℕ, ◌<◌, ◌==◌, ◌++◌, Bool,
 use Rattle.std.specs.Prelude.{option_and_then}
 use Rattle.std.proofs.lemmas.Bool.Decides.{nat_tests}
 use Rattle.std.proofs.lemmas.List.{append-nil}
+use Rattle.std.proofs.lemmas.Bool.{ne_eqb}
 use Rattle.decimal_text.specs.Grammar.{is_digit, AllDigits, IsWhole, whole_zero, whole_digits}
 use Rattle.decimal_text.specs.Digits.{front_digits, after_digits}
 use Rattle.decimal_text.specs.Parts.{Parts, parts_of, unsigned_of, exponent_of, signed_digits_of, all_digits_of, fraction_of, is_whole, fraction_text, sign_text, SpellsSign, spells_no_sign, spells_plus, spells_minus, SpellsExponent, spells_no_exponent, spells_exponent, SpellsNumber}
-use Rattle.decimal_text.proofs.DigitRuns.{other, digit_range, StopsDigits, front_digits-run, after_digits-run}
+use Rattle.decimal_text.proofs.DigitRuns.{digit_range, StopsDigits, front_digits-run, after_digits-run}
 
 pick_all : (f a ds : List ℕ) → f ≡ ds → a ≡ [] → 0 < length ds
     → if◌then◌else◌ {A = Option (List ℕ)} (length f == 0) None (if length a == 0 then Some f else None) ≡ Some ds
-pick_all f a ds e1 e2 some = rw (e1, e2) (rw (other (length ds) 0 (λ e. omega arith)) refl)
+pick_all f a ds e1 e2 some = rw (e1, e2) (rw (ne_eqb (length ds) 0 (λ e. omega arith)) refl)
 
 all_digits-read : (b : ℕ) (bs : List ℕ) → is_digit b ≡ true → AllDigits bs → all_digits_of (b ∷ bs) ≡ Some (b ∷ bs)
 all_digits-read b bs hb h =
@@ -23,7 +24,7 @@ signed_digits-read : (s : List ℕ) (negative : Bool) (b : ℕ) (bs : List ℕ) 
     → signed_digits_of (s ++ b ∷ bs) ≡ Some (negative, b ∷ bs)
 signed_digits-read s negative b bs spells_no_sign hb h =
     let r = digit_range b hb in
-    rw (other b 45 (λ e. omega arith)) (rw (other b 43 (λ e. omega arith)) (ap (option_and_then (λ ds. Some (false, ds))) (all_digits-read b bs hb h)))
+    rw (ne_eqb b 45 (λ e. omega arith)) (rw (ne_eqb b 43 (λ e. omega arith)) (ap (option_and_then (λ ds. Some (false, ds))) (all_digits-read b bs hb h)))
 signed_digits-read s negative b bs spells_plus hb h = ap (option_and_then (λ ds. Some (false, ds))) (all_digits-read b bs hb h)
 signed_digits-read s negative b bs spells_minus hb h = ap (option_and_then (λ ds. Some (true, ds))) (all_digits-read b bs hb h)
 
@@ -52,7 +53,7 @@ fraction-stops (x ∷ xs) rest h = refl
 
 pick_some : (f a ds rest : List ℕ) → f ≡ ds → a ≡ rest → 0 < length ds
     → if◌then◌else◌ {A = Option (List ℕ × List ℕ)} (length f == 0) None (Some (f, a)) ≡ Some (ds, rest)
-pick_some f a ds rest e1 e2 some = rw (e1, e2) (rw (other (length ds) 0 (λ e. omega arith)) refl)
+pick_some f a ds rest e1 e2 some = rw (e1, e2) (rw (ne_eqb (length ds) 0 (λ e. omega arith)) refl)
 
 fraction-read : (f rest : List ℕ) → AllDigits f → IsAfter rest → fraction_of (fraction_text f ++ rest) ≡ Some (f, rest)
 unfolding IsAfter
@@ -106,7 +107,7 @@ unsigned-parts : (w rest : List ℕ) → AllDigits w → 0 < length w → parts_
 unsigned-parts [] rest h some = absurd (omega arith)
 unsigned-parts (c ∷ cs) rest h some =
     let r = digit_range c h.0 in
-    rw (other c 45 (λ e. omega arith)) refl
+    rw (ne_eqb c 45 (λ e. omega arith)) refl
 
 signed-parts : (negative : Bool) (w rest : List ℕ) → IsWhole w → parts_of (sign_text negative ++ (w ++ rest)) ≡ unsigned_of negative (w ++ rest)
 signed-parts true w rest h = refl

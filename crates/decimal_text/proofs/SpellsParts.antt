@@ -1,9 +1,10 @@
 -- The parts that a text is read as are those that it spells.
-use Rattle.std.proofs.Common.{◌≡◌, ℕ, ◌<◌, ◌==◌, ◌++◌, Bool, true, false, not, List, [], ◌∷◌, length, Option, Some, None, refl, sym, ap, ◌∙◌, subst, arith, if◌then◌else◌, ⊎_elim}
+use Rattle.std.proofs.Common.{◌≡◌, ℕ, ◌<◌, ◌==◌, ◌++◌, Bool, true, false, List, [], ◌∷◌, length, Option, Some, None, refl, sym, ap, ◌∙◌, subst, arith, if◌then◌else◌, ⊎_elim}
 use Rattle.std.specs.Prelude.{option_and_then, IsSome, is_some}
-use Rattle.std.proofs.lemmas.Bool.{eqb-true, true≢false, false≢true}
+use Rattle.std.proofs.lemmas.Bool.{eqb-true, true≢false, false≢true, not-true}
 use Rattle.std.proofs.lemmas.Bool.Decides.{eqb_tells}
 use Rattle.std.proofs.lemmas.List.{append-nil, take-append-drop}
+use Rattle.std.proofs.lemmas.Option.{some_pair_parts}
 use Rattle.decimal_text.specs.Grammar.{is_e, AllDigits, IsMinus, no_minus, one_minus, IsWhole, whole_zero, whole_digits, IsFraction, no_fraction, fraction as fraction_digits, IsSign, no_sign, plus_sign, minus_sign, IsExponent, no_exponent, exponent as exponent_digits, IsNumber, number_of}
 use Rattle.decimal_text.specs.Digits.{front_digits, after_digits}
 use Rattle.decimal_text.specs.Parts.{Parts, parts_of, unsigned_of, exponent_of, signed_digits_of, all_digits_of, fraction_of, is_whole, fraction_text, sign_text, SpellsSign, spells_no_sign, spells_plus, spells_minus, SpellsExponent, spells_no_exponent, spells_exponent, SpellsNumber}
@@ -48,15 +49,10 @@ all_digits-spelled t ds h =
       some = subst (λ d. 0 < length d) is (some_from_length (front_digits t) tests.0);
     }
 
-same_pair : {A B : Type 0} (a c : A) (b d : B) → ◌≡◌ {A = Option (A × B)} (Some (a, b)) (Some (c, d)) → (a ≡ c) × (b ≡ d)
-same_pair {A} {B} a c b d h =
-    let e : ◌≡◌ {A = A × B} (a, b) (c, d) = cc in
-    (ap (λ (p : A × B). p.0) e, ap (λ (p : A × B). p.1) e)
-
 option_some : (b : Bool) (o : Option (List ℕ)) (negative : Bool) (ds : List ℕ)
     → option_and_then {U = Bool × List ℕ} (λ r. Some (b, r)) o ≡ Some (negative, ds) → (b ≡ negative) × (o ≡ Some ds)
 option_some b None negative ds h = absurd cc
-option_some b (Some r) negative ds h = let e = same_pair b negative r ds h in (e.0, ap (λ x. Some x) e.1)
+option_some b (Some r) negative ds h = let e = some_pair_parts b negative r ds h in (e.0, ap (λ x. Some x) e.1)
 
 -- a sign or none, and then a run of digits
 record IsSignedRun (t : List ℕ) (negative : Bool) (ds : List ℕ) : Type 0 where
@@ -112,7 +108,7 @@ e_test false o r h = absurd cc
 
 exponent-spelled : (t : List ℕ) (negative : Bool) (ds : List ℕ) → exponent_of t ≡ Some (negative, ds) → SpellsExponent t negative ds
 exponent-spelled [] negative ds h =
-    let parts = same_pair {A = Bool} {B = List ℕ} false negative [] ds h in
+    let parts = some_pair_parts {A = Bool} {B = List ℕ} false negative [] ds h in
     subst (λ n. SpellsExponent [] n ds) parts.0 (subst (λ d. SpellsExponent [] false d) parts.1 spells_no_exponent)
 exponent-spelled (e ∷ rest) negative ds h =
     let tests = e_test (is_e e) (signed_digits_of rest) (negative, ds) h in
@@ -127,7 +123,7 @@ record IsFractionAnd (t f rest : List ℕ) : Type 0 where
 fraction_test : (b : Bool) (f a : List ℕ) (g rest : List ℕ) → if◌then◌else◌ {A = Option (List ℕ × List ℕ)} b None (Some (f, a)) ≡ Some (g, rest)
     → (b ≡ false) × (f ≡ g) × (a ≡ rest)
 fraction_test true f a g rest h = absurd cc
-fraction_test false f a g rest h = let e = same_pair f g a rest h in (refl, e.0, e.1)
+fraction_test false f a g rest h = let e = some_pair_parts f g a rest h in (refl, e.0, e.1)
 
 fraction_text-some : (f : List ℕ) → 0 < length f → fraction_text f ≡ 46 ∷ f
 fraction_text-some [] h = absurd (omega arith)
@@ -147,12 +143,12 @@ point_case c cs f rest t h =
 other_case : (c : ℕ) (cs f rest : List ℕ) → (c == 46) ≡ false → fraction_of (c ∷ cs) ≡ Some (f, rest) → IsFractionAnd (c ∷ cs) f rest
 other_case c cs f rest t h =
     let made : ◌≡◌ {A = Option (List ℕ × List ℕ)} (Some ([], c ∷ cs)) (Some (f, rest)) = rw t at h in
-    let parts = same_pair {A = List ℕ} {B = List ℕ} [] f (c ∷ cs) rest made in
+    let parts = some_pair_parts {A = List ℕ} {B = List ℕ} [] f (c ∷ cs) rest made in
     subst (λ g. IsFractionAnd (c ∷ cs) g rest) parts.0 record { same = parts.1; digits = tt }
 
 fraction-spelled : (t f rest : List ℕ) → fraction_of t ≡ Some (f, rest) → IsFractionAnd t f rest
 fraction-spelled [] f rest h =
-    let parts = same_pair {A = List ℕ} {B = List ℕ} [] f [] rest h in
+    let parts = some_pair_parts {A = List ℕ} {B = List ℕ} [] f [] rest h in
     subst (λ g. IsFractionAnd [] g rest) parts.0 record { same = parts.1; digits = tt }
 fraction-spelled (c ∷ cs) f rest h =
     ⊎_elim (λ y. point_case c cs f rest y.0 h) (λ n. other_case c cs f rest n.0 h) (eqb_tells c 46)
@@ -161,11 +157,7 @@ whole-made : (w : List ℕ) → AllDigits w → is_whole w ≡ true → IsWhole 
 whole-made [] h t = absurd (false≢true t)
 whole-made (c ∷ []) h t =
     ⊎_elim (λ y. let is : c ≡ 48 = y.1 in rw is whole_zero) (λ n. whole_digits c [] h.0 n.0 tt) (eqb_tells c 48)
-whole-made (c ∷ d ∷ ds) h t = whole_digits c (d ∷ ds) h.0 (not_true (c == 48) t) h.1
-  where
-    not_true : (b : Bool) → not b ≡ true → b ≡ false
-    not_true true e = sym e
-    not_true false e = refl
+whole-made (c ∷ d ∷ ds) h t = whole_digits c (d ∷ ds) h.0 (not-true (c == 48) t) h.1
 
 -- the steps of `unsigned_of` where it gives parts
 record UnsignedSteps (negative : Bool) (front after : List ℕ) (n : Parts) : Type 0 where

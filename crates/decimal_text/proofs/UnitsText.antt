@@ -5,6 +5,7 @@ use Rattle.std.proofs.lemmas.Bool.Decides.{nat_tests, eqb_tells}
 use Rattle.std.proofs.lemmas.Fmt.{decimal_by_steps_wide}
 use Rattle.std.proofs.lemmas.List.{append-nil, append_assoc}
 use Rattle.std.proofs.lemmas.List.Elements.{All-head, All-tail, All-cons, All-append}
+use Rattle.std.proofs.lemmas.Bool.{ne_eqb}
 use Rattle.decimal_text.specs.Grammar.{IsWhole, whole_zero, whole_digits, IsNumber}
 use Rattle.decimal_text.specs.Digits.{IsDigit, digits_value}
 use Rattle.decimal_text.specs.Parts.{Parts, parts_of, sign_text, fraction_text, SpellsNumber, spells_no_exponent}
@@ -14,7 +15,7 @@ use Rattle.decimal_text.specs.Units.{fixed, trimmed, before_trimmed}
 use Rattle.decimal_text.specs.Laws.{ReadsAgain, EndsInNoZero}
 use Rattle.decimal_text.proofs.Trimmed.{trimmed-end}
 use Rattle.decimal_text.proofs.DigitsValue.{digits_value_after-append, digits_value_after-split, digits_value-cut}
-use Rattle.decimal_text.proofs.DigitRuns.{other, digit_true, AllDigits-from_All}
+use Rattle.decimal_text.proofs.DigitRuns.{digit_true, AllDigits-from_All}
 use Rattle.decimal_text.proofs.Nearest.{rounded_of-whole}
 use Rattle.decimal_text.proofs.ReadsParts.{parts-read}
 use Rattle.decimal_text.proofs.SpellsParts.{spelled-number}
@@ -38,7 +39,7 @@ whole-push [] x h b some head = absurd (omega arith)
 whole-push (c ∷ cs) x h b some head =
     let first : (48 ≤ c) × (c ≤ 57) = All-head IsDigit c cs h in
     let rest = All-append IsDigit cs (x ∷ []) (All-tail IsDigit c cs h) (one_digit x b.0 b.1) in
-    whole_digits c (cs ++ x ∷ []) (digit_true c first.0 first.1) (other c 48 (λ e. omega arith)) (AllDigits-from_All (cs ++ x ∷ []) rest)
+    whole_digits c (cs ++ x ∷ []) (digit_true c first.0 first.1) (ne_eqb c 48 (λ e. omega arith)) (AllDigits-from_All (cs ++ x ∷ []) rest)
 
 head-push : (ds : List ℕ) (x : ℕ) → 0 < length ds → get_or (ds ++ x ∷ []) 0 0 ≡ get_or ds 0 0
 head-push [] x some = absurd (omega arith)
@@ -46,7 +47,7 @@ head-push (c ∷ cs) x some = refl
 
 whole-one : (n : ℕ) → n < 10 → IsWhole ((48 + n) ∷ [])
 whole-one zero h = whole_zero
-whole-one (suc n) h = whole_digits (48 + suc n) [] (digit_true (48 + suc n) (omega arith) (omega arith)) (other (48 + suc n) 48 (λ e. omega arith)) tt
+whole-one (suc n) h = whole_digits (48 + suc n) [] (digit_true (48 + suc n) (omega arith) (omega arith)) (ne_eqb (48 + suc n) 48 (λ e. omega arith)) tt
 
 text-one : (n : ℕ) → n < 10 → IsText n ((48 + n) ∷ [])
 text-one n h = record {

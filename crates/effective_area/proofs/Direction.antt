@@ -3,7 +3,7 @@ use Rattle.std.proofs.Common.{◌≡◌, ℕ, ◌+◌, ◌-◌, ◌<◌, List, [
 use Rattle.std.proofs.lemmas.Bool.Decides.{nat_tests}
 use Rattle.std.proofs.lemmas.List.{map-append, length-reverse}
 use mathlib.Core.List.{reverse-cons}
-use Rattle.geojson_types.specs.Lists.{front_of, interior, Apart}
+use Rattle.geojson_types.specs.Lists.{front_of, interior, AreDistinct}
 use Rattle.geojson_types.specs.Points.{Point}
 use Rattle.effective_area.specs.Elimination.{Vertex, eliminate, numbered, remaining, reduced}
 use Rattle.effective_area.specs.Laws.{DirectionLaw}
@@ -74,6 +74,6 @@ reduced_reverse t ps h =
     ap (λ m. map (λ v. v.point) (eliminate m t (numbered 0 (reverse ps)))) (length-reverse ps)
     ∙ ap (λ l. map (λ v. v.point) (eliminate (length ps) t l)) (numbered_reverse (flipped (length ps)) 0 0 ps (flipped_at (length ps)))
     ∙ ap (map (λ v. v.point)) (eliminate_reverse (length ps) t (map (relabelled (flipped (length ps))) (numbered 0 ps)))
-    ∙ ap (λ l. map (λ v. v.point) (reverse l)) (eliminate_relabelled (flipped (length ps)) (flipped_one (length ps)) (length ps) t (numbered 0 ps) (subst (λ l. Apart l) (sym (between_is ps)) h))
+    ∙ ap (λ l. map (λ v. v.point) (reverse l)) (eliminate_relabelled (flipped (length ps)) (flipped_one (length ps)) (length ps) t (numbered 0 ps) (subst (λ l. AreDistinct l) (sym (between_is ps)) h))
     ∙ map_reverse (λ v. v.point) (map (relabelled (flipped (length ps))) (remaining t ps))
     ∙ ap reverse (map_points (flipped (length ps)) (remaining t ps))

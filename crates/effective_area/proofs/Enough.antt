@@ -1,6 +1,9 @@
 -- There are steps enough: where elimination ends, no corner is under the threshold.
 use Rattle.std.proofs.Common.{◌≡◌, ℕ, zero, suc, ◌+◌, ◌<◌, ◌≤◌, Bool, true, false, not, List, [], ◌∷◌, Option, Some, None, length, refl, ap, arith, if◌then◌else◌, ◌==◌, nat_lt}
 use Rattle.std.specs.List.{filter, AllByRecursion}
+use Rattle.std.proofs.lemmas.List.Filters.{length-filter_both}
+use Rattle.list_laws.proofs.Elements.{all_weaker}
+use Rattle.list_laws.proofs.Tests.{holds_of_chosen}
 use Rattle.geojson_types.specs.Points.{Point}
 use Rattle.effective_area.specs.Elimination.{Vertex, Corner, corners, least, without, without_under, next, eliminate, numbered}
 use Rattle.effective_area.specs.Laws.{NoneIsLeft}
@@ -13,12 +16,7 @@ abbrev Shortens : List Vertex → Vertex → Type 0
 Shortens vs v = length (without v.index vs) < length vs
 
 not_longer : {X : Type 0} (p : X → Bool) (xs : List X) → length (filter p xs) ≤ length xs
-not_longer p [] = omega arith
-not_longer p (x ∷ xs) = let k = not_longer p xs in on k (p x)
-  where
-    on : length (filter p xs) ≤ length xs → (b : Bool) → length (if b then x ∷ filter p xs else filter p xs) ≤ length (x ∷ xs)
-    on k true = omega (arith, k)
-    on k false = omega (arith, k)
+not_longer p xs = omega (arith, length-filter_both p (λ x. not (p x)) (λ x. refl) xs)
 
 shortens_here : (v : Vertex) (vs : List Vertex) → Shortens (v ∷ vs) v
 shortens_here v vs = on (v.index == v.index) (same v.index)
@@ -31,30 +29,19 @@ shortens_here v vs = on (v.index == v.index) (same v.index)
     on false e = cc
 
 shortens_later : (w v : Vertex) (vs : List Vertex) → Shortens vs v → Shortens (w ∷ vs) v
-shortens_later w v vs h = on (not (w.index == v.index))
-  where
-    on : (b : Bool) → length (if b then w ∷ without v.index vs else without v.index vs) < length (w ∷ vs)
-    on true = omega (arith, h)
-    on false = omega (arith, h)
-
-all_then : {X : Type 0} (P Q : X → Type 0) → ((x : X) → P x → Q x) → (xs : List X) → AllByRecursion P xs → AllByRecursion Q xs
-all_then P Q f [] h = h
-all_then P Q f (x ∷ xs) h = (f x h.0, all_then P Q f xs h.1)
+shortens_later w v vs h =
+    holds_of_chosen (λ l. length l < length (w ∷ vs)) (not (w.index == v.index)) (w ∷ without v.index vs) (without v.index vs) (omega (arith, h)) (omega (arith, h))
 
 all_shorten : (vs : List Vertex) → AllByRecursion (Shortens vs) vs
 all_shorten [] = tt
-all_shorten (v ∷ vs) = (shortens_here v vs, all_then (Shortens vs) (Shortens (v ∷ vs)) (λ w h. shortens_later v w vs h) vs (all_shorten vs))
+all_shorten (v ∷ vs) = (shortens_here v vs, all_weaker (Shortens vs) (Shortens (v ∷ vs)) (λ w h. shortens_later v w vs h) vs (all_shorten vs))
 
 next_shorter : (t : ℕ) (vs : List Vertex) → Holds (λ ws. length ws < length vs) (next t vs)
 next_shorter t vs = by_least (least (corners vs)) (least_between (Shortens vs) vs (sub_all (Shortens vs) (sub_interior vs) (all_shorten vs)))
   where
-    on : (i : ℕ) → length (without i vs) < length vs → (b : Bool) → Holds (λ ws. length ws < length vs) (if b then Some (without i vs) else None)
-    on i h true = h
-    on i h false = tt
-
     by_least : (o : Option Corner) → Holds (λ c. Shortens vs (vertex_of c)) o → Holds (λ ws. length ws < length vs) (without_under t vs o)
     by_least None h = tt
-    by_least (Some c) h = on c.index h (nat_lt c.area t)
+    by_least (Some c) h = holds_of_chosen (Holds (λ ws. length ws < length vs)) (nat_lt c.area t) (Some (without c.index vs)) None h tt
 
 go_ends : (n t : ℕ) (vs : List Vertex) → length vs ≤ n + 1 → ((ws : List Vertex) → length ws ≤ n → next t (eliminate n t ws) ≡ None) →
     (o : Option (List Vertex)) → next t vs ≡ o → Holds (λ ws. length ws < length vs) o → next t (go_on n t vs o) ≡ None

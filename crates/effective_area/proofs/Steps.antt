@@ -1,7 +1,9 @@
 -- One step: the least corner is one of the vertices between the ends, and what is left is a sublist.
-use Rattle.std.proofs.Common.{◌≡◌, ℕ, zero, suc, ◌+◌, Bool, true, false, not, List, [], ◌∷◌, Option, Some, None, length, map, refl, ap, sym, ◌∙◌, subst, arith, if◌then◌else◌, ◌==◌, nat_lt}
+use Rattle.std.proofs.Common.{◌≡◌, ℕ, zero, suc, ◌+◌, false, not, List, [], ◌∷◌, Option, Some, None, length, map, refl, ap, sym, ◌∙◌, subst, arith, if◌then◌else◌, ◌==◌, nat_lt}
 use Rattle.std.specs.List.{AllByRecursion}
 use Rattle.std.proofs.lemmas.Bool.Decides.{nat_tests}
+use Rattle.list_laws.proofs.Elements.{all_of_map}
+use Rattle.list_laws.proofs.Tests.{holds_of_chosen}
 use Rattle.geojson_types.specs.Lists.{front_of, interior}
 use Rattle.geojson_types.specs.Points.{Point}
 use Rattle.effective_area.specs.Elimination.{Vertex, Corner, corners_from, corners, is_before, lesser, least, without, without_under, next, eliminate, numbered, remaining, reduced}
@@ -25,19 +27,11 @@ Holds P (Some x) = P x
 
 lesser_holds : (P : Corner → Type 0) (c : Corner) (o : Option Corner) → P c → Holds P o → Holds P (lesser (Some c) o)
 lesser_holds P c None p h = p
-lesser_holds P c (Some d) p h = on (is_before d c)
-  where
-    on : (b : Bool) → P (if b then d else c)
-    on true = h
-    on false = p
+lesser_holds P c (Some d) p h = holds_of_chosen P (is_before d c) d c h p
 
 pub least_holds : (P : Corner → Type 0) (cs : List Corner) → AllByRecursion P cs → Holds P (least cs)
 least_holds P [] h = tt
 least_holds P (c ∷ cs) h = lesser_holds P c (least cs) h.0 (least_holds P cs h.1)
-
-pub all_made : {X Y : Type 0} (f : X → Y) (P : Y → Type 0) (xs : List X) → AllByRecursion P (map f xs) → AllByRecursion (λ x. P (f x)) xs
-all_made f P [] h = h
-all_made f P (x ∷ xs) h = (h.0, all_made f P xs h.1)
 
 -- ---- the vertices of the corners are those between the ends
 
@@ -51,20 +45,17 @@ corner_vertices (a ∷ []) = refl
 corner_vertices (a ∷ (b ∷ vs)) = from_vertices a b vs
 
 pub least_between : (P : Vertex → Type 0) (vs : List Vertex) → AllByRecursion P (interior vs) → Holds (λ c. P (vertex_of c)) (least (corners vs))
-least_between P vs h = least_holds (λ c. P (vertex_of c)) (corners vs) (all_made vertex_of P (corners vs) (subst (λ l. AllByRecursion P l) (sym (corner_vertices vs)) h))
+least_between P vs h = least_holds (λ c. P (vertex_of c)) (corners vs) (all_of_map P vertex_of (corners vs) (subst (λ l. AllByRecursion P l) (sym (corner_vertices vs)) h))
 
 -- ---- what is left is a sublist
 
 pub next_sub : (t : ℕ) (vs : List Vertex) → Holds (λ ws. Sublist ws vs) (next t vs)
 next_sub t vs = by_least (least (corners vs))
   where
-    on : (i : ℕ) (b : Bool) → Holds (λ ws. Sublist ws vs) (if b then Some (without i vs) else None)
-    on i true = sub_filter (λ v. not (v.index == i)) vs
-    on i false = tt
-
     by_least : (o : Option Corner) → Holds (λ ws. Sublist ws vs) (without_under t vs o)
     by_least None = tt
-    by_least (Some c) = on c.index (nat_lt c.area t)
+    by_least (Some c) =
+        holds_of_chosen (Holds (λ ws. Sublist ws vs)) (nat_lt c.area t) (Some (without c.index vs)) None (sub_filter (λ v. not (v.index == c.index)) vs) tt
 
 go_sub : (n t : ℕ) (vs : List Vertex) → ((ws : List Vertex) → Sublist (eliminate n t ws) ws) → (o : Option (List Vertex)) → Holds (λ ws. Sublist ws vs) o → Sublist (go_on n t vs o) vs
 go_sub n t vs ih None h = sub_same vs

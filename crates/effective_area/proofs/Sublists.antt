@@ -1,7 +1,8 @@
 -- Sublists: of parts of lists, of what is made of their elements, and what they take over.
-use Rattle.std.proofs.Common.{◌≢◌, Bool, true, false, List, [], ◌∷◌, map, if◌then◌else◌}
+use Rattle.std.proofs.Common.{◌≢◌, Bool, List, [], ◌∷◌, map}
 use Rattle.std.specs.List.{filter, AllByRecursion}
-use Rattle.geojson_types.specs.Lists.{tail, front, front_of, interior, Apart}
+use Rattle.list_laws.proofs.Tests.{holds_of_chosen}
+use Rattle.geojson_types.specs.Lists.{tail, front, front_of, interior, AreDistinct}
 use Rattle.effective_area.specs.Sublists.{Sublist, none, keep, skip}
 
 sub_nil : {X : Type 0} (ys : List X) → Sublist [] ys
@@ -60,11 +61,7 @@ sub_map f (skip s) = skip (sub_map f s)
 
 pub sub_filter : {X : Type 0} (p : X → Bool) (xs : List X) → Sublist (filter p xs) xs
 sub_filter p [] = none
-sub_filter p (x ∷ xs) = on p x xs (p x) (sub_filter p xs)
-  where
-    on : {X : Type 0} (p : X → Bool) (x : X) (xs : List X) (b : Bool) → Sublist (filter p xs) xs → Sublist (if b then x ∷ filter p xs else filter p xs) (x ∷ xs)
-    on p x xs true s = keep s
-    on p x xs false s = skip s
+sub_filter p (x ∷ xs) = holds_of_chosen (λ l. Sublist l (x ∷ xs)) (p x) (x ∷ filter p xs) (filter p xs) (keep (sub_filter p xs)) (skip (sub_filter p xs))
 
 -- what holds of all elements of a list holds of all of a sublist
 pub sub_all : {X : Type 0} (P : X → Type 0) {xs ys : List X} → Sublist xs ys → AllByRecursion P ys → AllByRecursion P xs
@@ -72,7 +69,7 @@ sub_all P none h = h
 sub_all P (keep s) h = (h.0, sub_all P s h.1)
 sub_all P (skip s) h = sub_all P s h.1
 
-pub sub_apart : {X : Type 0} {xs ys : List X} → Sublist xs ys → Apart ys → Apart xs
+pub sub_apart : {X : Type 0} {xs ys : List X} → Sublist xs ys → AreDistinct ys → AreDistinct xs
 sub_apart none h = h
 sub_apart (keep {x} s) h = (sub_all (λ y. x ≢ y) s h.0, sub_apart s h.1)
 sub_apart (skip s) h = sub_apart s h.1

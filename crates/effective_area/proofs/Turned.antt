@@ -4,6 +4,7 @@ use Rattle.std.specs.List.{filter}
 use Rattle.std.proofs.lemmas.List.{reverse-append}
 use Rattle.std.proofs.lemmas.List.Elements.{filter-append}
 use mathlib.Core.List.{reverse-cons}
+use Rattle.list_laws.proofs.Tests.{chosen_of}
 use Rattle.geojson_types.specs.Lists.{map_some}
 use Rattle.geojson_types.proofs.Areas.{area_turned}
 use Rattle.effective_area.specs.Elimination.{Vertex, Corner, corner_at, corners_from, corners, lesser, least, without, without_under, next, eliminate}
@@ -54,11 +55,9 @@ filter_reverse p (x ∷ xs) =
 
 under_reverse : (t : ℕ) (vs : List Vertex) (o : Option Corner) → without_under t (reverse vs) o ≡ map_some reverse (without_under t vs o)
 under_reverse t vs None = refl
-under_reverse t vs (Some c) = on (nat_lt c.area t)
-  where
-    on : (b : Bool) → (if b then Some (without c.index (reverse vs)) else None) ≡ map_some reverse (if b then Some (without c.index vs) else None)
-    on true = ap (λ l. Some l) (filter_reverse (λ v. not (v.index == c.index)) vs)
-    on false = refl
+under_reverse t vs (Some c) =
+    ap (λ l. if nat_lt c.area t then Some l else None) (filter_reverse (λ v. not (v.index == c.index)) vs)
+    ∙ chosen_of (map_some reverse) (nat_lt c.area t) (Some (without c.index vs)) None
 
 next_reverse : (t : ℕ) (vs : List Vertex) → next t (reverse vs) ≡ map_some reverse (next t vs)
 next_reverse t vs = ap (without_under t (reverse vs)) (ap least (corners_reverse vs) ∙ least_reverse (corners vs)) ∙ under_reverse t vs (least (corners vs))

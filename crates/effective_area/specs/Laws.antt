@@ -1,13 +1,13 @@
 -- What is true of reduction.
 use Rattle.std.specs.Prelude.{◌≡◌, ℕ, List, [], ◌∷◌, ◌++◌, reverse, None}
-use Rattle.geojson_types.specs.Lists.{Apart, interior}
+use Rattle.geojson_types.specs.Lists.{AreDistinct, interior}
 use Rattle.geojson_types.specs.Points.{Point}
 use Rattle.effective_area.specs.Elimination.{next, remaining, reduced}
 use Rattle.effective_area.specs.Sublists.{Sublist}
 
 -- where the positions between the ends are distinct, the reversed line is reduced to the reversed positions
 abbrev pub DirectionLaw : Type 0
-DirectionLaw = (t : ℕ) (ps : List Point) → Apart (interior ps) → reduced t (reverse ps) ≡ reverse (reduced t ps)
+DirectionLaw = (t : ℕ) (ps : List Point) → AreDistinct (interior ps) → reduced t (reverse ps) ≡ reverse (reduced t ps)
 
 -- nothing is under a threshold of zero
 abbrev pub ZeroLaw : Type 0

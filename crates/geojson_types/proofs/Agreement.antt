@@ -1,28 +1,14 @@
 -- What is said of the lines and rings of a shape alone.
-use Rattle.std.proofs.Common.{◌≡◌, ℕ, suc, Bool, true, false, List, [], ◌∷◌, ◌++◌, map, Option, None, Some, refl, sym, ap, ◌∙◌, subst}
+use Rattle.std.proofs.Common.{◌≡◌, Bool, true, false, List, [], ◌∷◌, ◌++◌, map, Option, Some, refl, ap, subst}
 use Rattle.std.specs.List.{AllByRecursion}
+pub use Rattle.list_laws.proofs.Elements.{all_left, all_right, all_of_map}
+use Rattle.list_laws.proofs.Lists.{some_agree}
 use Rattle.geojson_types.specs.declared.geometry.Geometry.{Geometry}
 use Rattle.geojson_types.specs.declared.geometry.Geometry.TheVariants as g
-use Rattle.geojson_types.specs.Lists.{map_some, with_some, some_of, unless_empty, joined}
+use Rattle.geojson_types.specs.Lists.{map_some, some_of, unless_empty, joined}
 use Rattle.geojson_types.specs.Pruning.{area_by, prune, strokes}
 use Rattle.geojson_types.proofs.Cases.{prune-point, prune-points, prune-line, prune-lines, prune-area, prune-areas, prune-group, strokes-line, strokes-lines, strokes-area, strokes-areas, strokes-group}
-use Rattle.geojson_types.proofs.Induction.{Kinds, by_kinds}
-
-pub all_left : {A : Type 0} (X : A → Type 0) (xs ys : List A) → AllByRecursion X (xs ++ ys) → AllByRecursion X xs
-all_left X [] ys h = tt
-all_left X (x ∷ xs) ys h = (h.0, all_left X xs ys h.1)
-
-pub all_right : {A : Type 0} (X : A → Type 0) (xs ys : List A) → AllByRecursion X (xs ++ ys) → AllByRecursion X ys
-all_right X [] ys h = h
-all_right X (x ∷ xs) ys h = all_right X xs ys h.1
-
-pub all_of_map : {A B : Type 0} (X : B → Type 0) (g : A → B) (xs : List A) → AllByRecursion X (map g xs) → AllByRecursion (λ x. X (g x)) xs
-all_of_map X g [] h = tt
-all_of_map X g (x ∷ xs) h = (h.0, all_of_map X g xs h.1)
-
-some_agree : {A B : Type 0} (f g : A → Option B) (xs : List A) → AllByRecursion (λ x. f x ≡ g x) xs → some_of f xs ≡ some_of g xs
-some_agree f g [] h = refl
-some_agree f g (x ∷ xs) h = rw (h.0, some_agree f g xs h.1) refl
+use Rattle.geojson_types.proofs.Induction.{by_kinds}
 
 area_agree : {L M : Type 0} (f g : L → Option M) (rs : List L) → AllByRecursion (λ x. f x ≡ g x) rs → area_by f rs ≡ area_by g rs
 area_agree f g [] h = refl

@@ -1,12 +1,13 @@
 -- Leaving out twice is leaving out once.
-use Rattle.std.proofs.Common.{◌≡◌, ℕ, Bool, true, false, List, [], ◌∷◌, ◌++◌, map, Option, None, Some, refl, sym, ap, ◌∙◌}
+use Rattle.std.proofs.Common.{◌≡◌, Bool, true, false, List, [], ◌∷◌, map, Option, None, Some, refl, sym, ap, ◌∙◌}
 use Rattle.std.specs.List.{AllByRecursion}
+use Rattle.std.proofs.lemmas.Simd.{map-map}
 use Rattle.geojson_types.specs.declared.geometry.Geometry.{Geometry}
 use Rattle.geojson_types.specs.declared.geometry.Geometry.TheVariants as g
-use Rattle.geojson_types.specs.Lists.{map_some, then_some, with_some, some_of, unless_empty, joined}
+use Rattle.geojson_types.specs.Lists.{map_some, then_some, with_some, some_of, unless_empty}
 use Rattle.geojson_types.specs.Pruning.{area_by, prune}
 use Rattle.geojson_types.proofs.Cases.{prune-point, prune-points, prune-line, prune-lines, prune-area, prune-areas, prune-group}
-use Rattle.geojson_types.proofs.Induction.{Kinds, by_kinds}
+use Rattle.geojson_types.proofs.Induction.{by_kinds}
 
 with_then : {A B : Type 0} (g : A → Option B) (o : Option A) (xs : List A) → some_of g (with_some o xs) ≡ with_some (then_some g o) (some_of g xs)
 with_then g None xs = refl
@@ -29,10 +30,6 @@ area_then f g (o ∷ holes) = outer_then f g holes (f o)
 pub some_same : {A B : Type 0} (f g : A → Option B) → ((x : A) → f x ≡ g x) → (xs : List A) → some_of f xs ≡ some_of g xs
 some_same f g e [] = refl
 some_same f g e (x ∷ xs) = rw (e x, some_same f g e xs) refl
-
-map_map : {A B C : Type 0} (g : B → C) (f : A → B) (xs : List A) → map g (map f xs) ≡ map (λ x. g (f x)) xs
-map_map g f [] = refl
-map_map g f (x ∷ xs) = ap (λ ys. g (f x) ∷ ys) (map_map g f xs)
 
 module _ {P Q U L M N : Type 0} (place : P → Q) (onto : Q → U) (kept : Bool → L → Option M) (next : Bool → M → Option N) where
   abbrev pub both : Bool → L → Option N
@@ -93,7 +90,7 @@ module _ {P Q U L M N : Type 0} (place : P → Q) (onto : Q → U) (kept : Bool 
 
   at_points : (ps : List P) → Composes (g.MultiPoint ps)
   at_points ps = ap (then_some second) (prune-points place kept ps) ∙ prune-points onto next (map place ps)
-      ∙ ap (λ us. Some (g.MultiPoint us)) (map_map onto place ps) ∙ sym (prune-points (λ p. onto (place p)) both ps)
+      ∙ ap (λ us. Some (g.MultiPoint us)) (map-map onto place ps) ∙ sym (prune-points (λ p. onto (place p)) both ps)
 
   pub composed : (s : Geometry P L L) → then_some (prune onto next) (prune place kept s) ≡ prune (λ p. onto (place p)) both s
   composed = by_kinds Composes (record { point = at_point; points = at_points; line = at_line; lines = at_lines; area = at_area; areas = at_areas; group = at_group })

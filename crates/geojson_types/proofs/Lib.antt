@@ -1,8 +1,9 @@
-pub mod Areas
 pub mod Agreement
+pub mod Areas
+pub mod ByKind
 pub mod Cases
 pub mod Composition
 pub mod Induction
 pub mod Nestings
 pub mod Omitted
-pub mod Places
+pub mod Points

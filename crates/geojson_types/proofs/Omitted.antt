@@ -1,33 +1,16 @@
 -- What is told of dropped lines depends on the lines of the shape alone.
-use Rattle.std.proofs.Common.{◌≡◌, ℕ, Bool, true, false, List, [], ◌∷◌, ◌++◌, map, Option, None, Some, refl, sym, ap, ◌∙◌, subst}
+use Rattle.std.proofs.Common.{◌≡◌, Bool, true, false, List, [], ◌∷◌, map, Option, refl, sym, ap, ◌∙◌, subst}
 use Rattle.std.specs.List.{AllByRecursion}
-use Rattle.geojson_types.specs.declared.geometry.Geometry.{Geometry, fold-Geometry, fold-roll-Geometry}
-use Rattle.geojson_types.specs.declared.geometry.Geometry.TheOpen.{Geometry-F}
+use Rattle.geojson_types.specs.declared.geometry.Geometry.{Geometry}
 use Rattle.geojson_types.specs.declared.geometry.Geometry.TheVariants as g
 use Rattle.geojson_types.specs.declared.address.Cause.{Cause}
 use Rattle.geojson_types.specs.Lists.{joined}
 use Rattle.geojson_types.specs.Pruning.{strokes}
-use Rattle.geojson_types.specs.Paths.{Placed, of_parts}
-use Rattle.geojson_types.specs.Omissions.{here, inner_cause, area_omissions, omissions_step, omissions}
-use Rattle.geojson_types.proofs.Cases.{omissions-line, omissions-lines, omissions-area, omissions-areas, omissions-group, strokes-line, strokes-lines, strokes-area, strokes-areas, strokes-group}
+use Rattle.geojson_types.specs.Paths.{of_parts}
+use Rattle.geojson_types.specs.Omissions.{here, inner_cause, area_omissions, omissions}
+use Rattle.geojson_types.proofs.Cases.{strokes-line, strokes-lines, strokes-area, strokes-areas, strokes-group, omissions_at}
 use Rattle.geojson_types.proofs.Agreement.{all_left, all_right, all_of_map}
-use Rattle.geojson_types.proofs.Induction.{Kinds, by_kinds}
-
-map_agree : {A B : Type 0} (f g : A → B) (xs : List A) → AllByRecursion (λ x. f x ≡ g x) xs → map f xs ≡ map g xs
-map_agree f g [] h = refl
-map_agree f g (x ∷ xs) h = rw (h.0, map_agree f g xs h.1) refl
-
-module _ (P L : Type 0) (why : Bool → L → Option Cause) where
-  abbrev tell : Geometry P L L → List (Placed Cause)
-  tell = fold-Geometry P L L (List (Placed Cause)) (omissions_step why)
-
-  omissions-point : (p : P) → omissions {P = P} {L = L} why (g.Point p) ≡ []
-  unfolding omissions
-  omissions-point p = ap tell (sym (g.rolls-Point p)) ∙ fold-roll-Geometry P L L (List (Placed Cause)) (omissions_step why) (Geometry-F.Point p)
-
-  omissions-points : (ps : List P) → omissions {P = P} {L = L} why (g.MultiPoint ps) ≡ []
-  unfolding omissions
-  omissions-points ps = ap tell (sym (g.rolls-MultiPoint ps)) ∙ fold-roll-Geometry P L L (List (Placed Cause)) (omissions_step why) (Geometry-F.MultiPoint ps)
+use Rattle.geojson_types.proofs.Induction.{by_kinds}
 
 module _ (P L : Type 0) (one two : Bool → L → Option Cause) where
   abbrev Same : Bool × L → Type 0
@@ -56,14 +39,14 @@ module _ (P L : Type 0) (one two : Bool → L → Option Cause) where
   lines_agree (l ∷ ls) h = rw (h.0, lines_agree ls h.1) refl
 
   at_line : (l : L) → Agrees (g.Line l)
-  at_line l h = let k = subst (AllByRecursion Same) (strokes-line P L l) h in omissions-line P L one l ∙ ap here k.0 ∙ sym (omissions-line P L two l)
+  at_line l h = let k = subst (AllByRecursion Same) (strokes-line P L l) h in (omissions_at P L one).line l ∙ ap here k.0 ∙ sym ((omissions_at P L two).line l)
 
   at_lines : (ls : List L) → Agrees (g.Lines ls)
   at_lines ls h = let k = all_of_map Same (λ l. (false, l)) ls (subst (AllByRecursion Same) (strokes-lines P L ls) h) in
-      omissions-lines P L one ls ∙ ap (of_parts 0) (lines_agree ls k) ∙ sym (omissions-lines P L two ls)
+      (omissions_at P L one).lines ls ∙ ap (of_parts 0) (lines_agree ls k) ∙ sym ((omissions_at P L two).lines ls)
 
   at_area : (rs : List L) → Agrees (g.Area rs)
-  at_area rs h = omissions-area P L one rs ∙ area_agree rs (rings rs (subst (AllByRecursion Same) (strokes-area P L rs) h)) ∙ sym (omissions-area P L two rs)
+  at_area rs h = (omissions_at P L one).area rs ∙ area_agree rs (rings rs (subst (AllByRecursion Same) (strokes-area P L rs) h)) ∙ sym ((omissions_at P L two).area rs)
 
   areas_agree : (areas : List (List L)) → AllByRecursion Same (joined (map (map (λ l. (true, l))) areas)) → map (area_omissions (one true)) areas ≡ map (area_omissions (two true)) areas
   areas_agree [] h = refl
@@ -74,19 +57,19 @@ module _ (P L : Type 0) (one two : Bool → L → Option Cause) where
       ) refl
 
   at_areas : (areas : List (List L)) → Agrees (g.Areas areas)
-  at_areas areas h = omissions-areas P L one areas ∙ ap (of_parts 0) (areas_agree areas (subst (AllByRecursion Same) (strokes-areas P L areas) h)) ∙ sym (omissions-areas P L two areas)
+  at_areas areas h = (omissions_at P L one).areas areas ∙ ap (of_parts 0) (areas_agree areas (subst (AllByRecursion Same) (strokes-areas P L areas) h)) ∙ sym ((omissions_at P L two).areas areas)
 
   members : (ss : List (Geometry P L L)) → AllByRecursion Agrees ss → AllByRecursion Same (joined (map strokes ss)) → map (omissions one) ss ≡ map (omissions two) ss
   members [] all h = refl
   members (s ∷ ss) all h = rw (all.0 (all_left Same (strokes s) (joined (map strokes ss)) h), members ss all.1 (all_right Same (strokes s) (joined (map strokes ss)) h)) refl
 
   at_group : (ss : List (Geometry P L L)) → AllByRecursion Agrees ss → Agrees (g.Group ss)
-  at_group ss all h = omissions-group P L one ss ∙ ap (of_parts 0) (members ss all (subst (AllByRecursion Same) (strokes-group P L ss) h)) ∙ sym (omissions-group P L two ss)
+  at_group ss all h = (omissions_at P L one).group ss ∙ ap (of_parts 0) (members ss all (subst (AllByRecursion Same) (strokes-group P L ss) h)) ∙ sym ((omissions_at P L two).group ss)
 
   pub omissions_agree : (s : Geometry P L L) → AllByRecursion Same (strokes s) → omissions one s ≡ omissions two s
   omissions_agree = by_kinds Agrees (record {
-    point = λ p h. omissions-point P L one p ∙ sym (omissions-point P L two p);
-    points = λ ps h. omissions-points P L one ps ∙ sym (omissions-points P L two ps);
+    point = λ p h. (omissions_at P L one).point p ∙ sym ((omissions_at P L two).point p);
+    points = λ ps h. (omissions_at P L one).points ps ∙ sym ((omissions_at P L two).points ps);
     line = at_line;
     lines = at_lines;
     area = at_area;

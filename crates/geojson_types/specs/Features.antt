@@ -2,6 +2,7 @@
 use Rattle.std.specs.Prelude.{ℕ, Bool, true, false, ◌&&◌, nat_le, List, [], ◌∷◌, length, Option, Some, None}
 use Rattle.std.specs.List.{list_all}
 use Rattle.json_value.specs.declared.json.Json.{Json}
+pub use Rattle.list_laws.specs.Lists.{is_some_list}
 use Rattle.geojson_types.specs.Points.{Point}
 use Rattle.geojson_types.specs.declared.id.Id.{Id}
 use Rattle.geojson_types.specs.declared.geometry.Geometry.{Geometry, fold-Geometry}
@@ -16,11 +17,6 @@ pub record Featured : Type 0 where
   pub id : Option Id
   pub properties : Option (List (List ℕ × Json))
   pub shape : Option Shape
-
--- there is an element
-abbrev pub is_some_list : {A : Type 0} → List A → Bool
-is_some_list [] = false
-is_some_list (x ∷ xs) = true
 
 -- two positions or more
 abbrev pub is_line : List Point → Bool

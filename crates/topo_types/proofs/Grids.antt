@@ -4,6 +4,7 @@ use Rattle.std.proofs.lemmas.Bool.Decides.{nat_tests}
 use Rattle.std.proofs.lemmas.List.{at_drop_more, at_drop_all}
 use Rattle.std.proofs.lemmas.List.Folds.{list_all-append}
 use Rattle.std.specs.List.{list_all}
+use Rattle.std.proofs.lemmas.Bool.{and_right}
 use Rattle.geojson_types.specs.Points.{Point}
 use Rattle.topo_types.specs.Transforms.{is_within, grid_limit, moved, sums_from, sums, origin}
 
@@ -13,13 +14,9 @@ pub is_within-x : (bound : ℕ) (p : Point) → bound < unsigned_abs p.x → is_
 unfolding is_within
 is_within-x bound p h = let e : leb (unsigned_abs p.x) bound ≡ false = grind (arith, nat_tests) in rw e refl
 
-and_false : (b : Bool) → (b && false) ≡ false
-and_false true = refl
-and_false false = refl
-
 pub is_within-y : (bound : ℕ) (p : Point) → bound < unsigned_abs p.y → is_within bound p ≡ false
 unfolding is_within
-is_within-y bound p h = let e : leb (unsigned_abs p.y) bound ≡ false = grind (arith, nat_tests) in rw e (and_false _)
+is_within-y bound p h = let e : leb (unsigned_abs p.y) bound ≡ false = grind (arith, nat_tests) in rw e (and_right _ false refl)
 
 pub is_within-both : (bound : ℕ) (p : Point) → unsigned_abs p.x ≤ bound → unsigned_abs p.y ≤ bound → is_within bound p ≡ true
 unfolding is_within
@@ -71,7 +68,7 @@ breaks ds i cells before d h is so outside =
     ∙ list_all-append (is_within grid_limit) cells _ ∙ fails (list_all (is_within grid_limit) cells) _ outside
   where
     fails : (a : Bool) {b : Bool} (c : Bool) → b ≡ false → (a && (b && c)) ≡ false
-    fails a c q = rw q (and_false a)
+    fails a c q = rw q (and_right a false refl)
 
 pub ends : (differences : List Point) (i : ℕ) (cells : List Point) (before : Point) → length differences ≤ i → SoFar differences i cells before → cells ≡ sums differences
 unfolding sums_from

@@ -1,2 +1,3 @@
+pub mod ByKind
 pub mod FarUnits
 pub mod Grids

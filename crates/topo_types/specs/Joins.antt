@@ -1,5 +1,7 @@
 -- Arc indexes, the arcs that they name, and lines put together of arcs: TopoJSON 1.0, sections 2.1.3 and 2.1.4.
 use Rattle.std.specs.Prelude.{◌≡◌, ℕ, zero, suc, ℤ, pos, negsuc, Bool, true, false, List, [], ◌∷◌, ◌++◌, Option, None, Some, reverse}
+use Rattle.list_laws.specs.Lists.{tail}
+pub use Rattle.list_laws.specs.Lists.{tail as behind_first}
 
 -- the number of the arc that an index names
 unfoldable pub number_of : ℤ → ℕ
@@ -26,15 +28,10 @@ abbrev pub arc_at : {X : Type 0} → List (List X) → ℤ → List X
 arc_at arcs (pos i) = or_empty (at arcs i)
 arc_at arcs (negsuc i) = reverse (or_empty (at arcs i))
 
--- all but the first
-abbrev pub behind_first : {X : Type 0} → List X → List X
-behind_first [] = []
-behind_first (x ∷ xs) = xs
-
 -- lists one behind another, each without its first
 abbrev pub joined_behind_first : {X : Type 0} → List (List X) → List X
 joined_behind_first [] = []
-joined_behind_first (p ∷ ps) = behind_first p ++ joined_behind_first ps
+joined_behind_first (p ∷ ps) = tail p ++ joined_behind_first ps
 
 -- the first list, and then each later one without its first
 abbrev pub rejoined : {X : Type 0} → List (List X) → List X

@@ -1,6 +1,7 @@
 -- Which topologies are valid: TopoJSON 1.0, section 2.
-use Rattle.std.specs.Prelude.{◌≡◌, ◌≢◌, ℕ, ◌<◌, ◌≤◌, ℤ, Bool, true, false, ◌&&◌, List, [], ◌∷◌, Option, None, Some, length, map}
+use Rattle.std.specs.Prelude.{◌≡◌, ℕ, ◌<◌, ◌≤◌, ℤ, Bool, true, false, ◌&&◌, List, [], ◌∷◌, Option, None, Some, length, map}
 use Rattle.std.specs.List.{AllByRecursion, list_all}
+pub use Rattle.list_laws.specs.Lists.{AreDistinct}
 use Rattle.geojson_types.specs.declared.geometry.Geometry.{fold-Geometry}
 use Rattle.geojson_types.specs.declared.geometry.Geometry.TheOpen.{Geometry-F}
 use Rattle.geojson_types.specs.Features.{is_some_list}
@@ -84,11 +85,6 @@ IsFeature transform f = (is_full_option f.shape ≡ true) × AllByRecursion (IsP
 abbrev pub IsObject : Option Transform → TopoObject → Type 0
 IsObject transform (One f) = IsFeature transform f × (is_single_option f.shape ≡ true)
 IsObject transform (Many fs) = AllByRecursion (IsFeature transform) fs
-
--- no two are equal
-abbrev pub AreDistinct : {X : Type 0} → List X → Type 0
-AreDistinct [] = Unit {0}
-AreDistinct (x ∷ xs) = AllByRecursion (λ y. x ≢ y) xs × AreDistinct xs
 
 -- ---- lines
 

@@ -1,59 +1,25 @@
 -- Shapes over positions, by their kinds: what is decoded, and that it is proper.
 use Rattle.std.proofs.Common.{◌≡◌, ℕ, zero, suc, ◌+◌, ◌<◌, ◌≤◌, ℤ, Bool, true, false, ◌&&◌, List, [], ◌∷◌, ◌++◌, map, length, take, get_or, Option, Some, refl, ap, sym, ◌∙◌, arith}
 use Rattle.std.proofs.lemmas.List.{take_all, map-append}
-use Rattle.std.proofs.lemmas.List.Folds.{list_all-map, list_all-append}
+use Rattle.std.proofs.lemmas.List.Folds.{list_all-append}
 use Rattle.std.specs.List.{AllByRecursion, list_all}
+use Rattle.list_laws.proofs.Lists.{made_of_some, mapped_more}
+use Rattle.geojson_types.proofs.ByKind.{proper_at, proper-group}
 use Rattle.json_value.specs.Depth.{greatest}
-use Rattle.geojson_types.specs.declared.geometry.Geometry.{fold-Geometry, fold-roll-Geometry}
-use Rattle.geojson_types.specs.declared.geometry.Geometry.TheOpen.{Geometry-F}
 use Rattle.geojson_types.specs.declared.geometry.Geometry.TheVariants as g
-use Rattle.geojson_types.specs.Features.{Shape, is_some_list, is_line, proper_step, is_proper}
+use Rattle.geojson_types.specs.Features.{Shape, is_some_list, is_line, is_proper}
 use Rattle.geojson_types.specs.Lists.{map_some, some_of, unless_empty}
 use Rattle.geojson_types.specs.Nesting.{nesting}
 use Rattle.geojson_types.specs.Points.{Point}
 use Rattle.geojson_types.specs.Pruning.{area_by}
 use Rattle.geojson_types.proofs.Cases.{prune-point, prune-points, prune-line, prune-lines, prune-area, prune-areas, prune-group}
-use Rattle.geojson_types.proofs.Nestings.{nesting-group}
+use Rattle.geojson_types.proofs.Cases.{nesting-group}
 use Rattle.topo_types.specs.Decoding.{decoded_line, decoded_shape, placed_arcs}
 use Rattle.topo_types.specs.Topologies.{TopoShape, Contents}
 use Rattle.topo_types.specs.Transforms.{place}
 use Rattle.topology_features.specs.Strokes.{IsStroke, IsShape}
-use Rattle.topology_features.proofs.Elements.{mapped_more}
 use Rattle.topology_features.proofs.Ends.{line_is}
 use Rattle.topology_features.proofs.Standing.{points_full, line_stands, lines_stand, lines_full, area_full, areas_full}
-
--- ---- which shapes are proper
-
-abbrev proper : Shape → Bool
-proper = fold-Geometry Point (List Point) (List Point) Bool proper_step
-
-proper-point : (p : Point) → is_proper (g.Point p) ≡ true
-unfolding is_proper
-proper-point p = ap proper (sym (g.rolls-Point p)) ∙ fold-roll-Geometry Point (List Point) (List Point) Bool proper_step (Geometry-F.Point p)
-
-proper-points : (ps : List Point) → is_proper (g.MultiPoint ps) ≡ is_some_list ps
-unfolding is_proper
-proper-points ps = ap proper (sym (g.rolls-MultiPoint ps)) ∙ fold-roll-Geometry Point (List Point) (List Point) Bool proper_step (Geometry-F.MultiPoint ps)
-
-proper-line : (ps : List Point) → is_proper (g.Line ps) ≡ is_line ps
-unfolding is_proper
-proper-line ps = ap proper (sym (g.rolls-Line ps)) ∙ fold-roll-Geometry Point (List Point) (List Point) Bool proper_step (Geometry-F.Line ps)
-
-proper-lines : (ls : List (List Point)) → is_proper (g.Lines ls) ≡ (is_some_list ls && list_all is_line ls)
-unfolding is_proper
-proper-lines ls = ap proper (sym (g.rolls-Lines ls)) ∙ fold-roll-Geometry Point (List Point) (List Point) Bool proper_step (Geometry-F.Lines ls)
-
-proper-area : (rs : List (List Point)) → is_proper (g.Area rs) ≡ is_some_list rs
-unfolding is_proper
-proper-area rs = ap proper (sym (g.rolls-Area rs)) ∙ fold-roll-Geometry Point (List Point) (List Point) Bool proper_step (Geometry-F.Area rs)
-
-proper-areas : (rss : List (List (List Point))) → is_proper (g.Areas rss) ≡ (is_some_list rss && list_all is_some_list rss)
-unfolding is_proper
-proper-areas rss = ap proper (sym (g.rolls-Areas rss)) ∙ fold-roll-Geometry Point (List Point) (List Point) Bool proper_step (Geometry-F.Areas rss)
-
-proper-group : (ss : List Shape) → is_proper (g.Group ss) ≡ list_all is_proper ss
-unfolding is_proper
-proper-group ss = ap proper (sym (g.rolls-Group ss)) ∙ fold-roll-Geometry Point (List Point) (List Point) Bool proper_step (Geometry-F.Group ss) ∙ list_all-map (λ b. b) proper ss
 
 -- ---- lists
 
@@ -69,10 +35,6 @@ areas_map : {A B : Type 0} (f : A → B) (xss : List (List A)) → list_all is_s
 areas_map f [] h = refl
 areas_map f ([] ∷ xss) h = cc
 areas_map f ((x ∷ xs) ∷ xss) h = rw (some_map f xs, areas_map f xss h) refl
-
-made_of_some : {A B : Type 0} (make : List A → B) (xs : List A) → is_some_list xs ≡ true → unless_empty make xs ≡ Some (make xs)
-made_of_some make [] h = cc
-made_of_some make (x ∷ xs) h = refl
 
 some_mapped : {A B : Type 0} (f : A → B) (xs : List A) → is_some_list (map f xs) ≡ is_some_list xs
 some_mapped f [] = refl
@@ -117,32 +79,32 @@ module _ (t : Contents) where
 
   module _ (s : TopoShape) (is : IsShape t s) where
     pub point_decodes : (c p : Point) → s ≡ g.Point c → p ≡ place t.transform c → Decodes s (g.Point p)
-    point_decodes c p e made = rw (e, made) (prune-point lies kept c, proper-point _)
+    point_decodes c p e made = rw (e, made) (prune-point lies kept c, proper_at.point _)
 
     pub points_decode : (cs ps : List Point) → s ≡ g.MultiPoint cs → ps ≡ map (place t.transform) cs → Decodes s (g.MultiPoint ps)
     points_decode cs ps e made = (
       ap shown e ∙ prune-points lies kept cs ∙ ap (λ qs. Some (g.MultiPoint qs)) (sym made),
-      proper-points ps ∙ ap is_some_list made ∙ some_mapped lies cs ∙ points_full t s cs e is,
+      proper_at.points ps ∙ ap is_some_list made ∙ some_mapped lies cs ∙ points_full t s cs e is,
     )
 
     pub line_decodes : (refs : List ℤ) (ps : List Point) → s ≡ g.Line refs → ps ≡ drawn false refs → Decodes s (g.Line ps)
     line_decodes refs ps e made = (
       ap shown e ∙ prune-line lies kept refs ∙ ap (λ qs. Some (g.Line qs)) (sym made),
-      proper-line ps ∙ ap is_line made ∙ line_is t refs (line_stands t s refs e is),
+      proper_at.line ps ∙ ap is_line made ∙ line_is t refs (line_stands t s refs e is),
     )
 
     pub lines_decode : (ls : List (List ℤ)) (ps : List (List Point)) → s ≡ g.Lines ls → ps ≡ map (drawn false) ls → Decodes s (g.Lines ps)
     lines_decode ls ps e made =
         let some : is_some_list (map (drawn false) ls) ≡ true = some_mapped (drawn false) ls ∙ lines_full t s ls e is in (
           ap shown e ∙ prune-lines lies kept ls ∙ ap (unless_empty g.Lines) (some_map (drawn false) ls) ∙ made_of_some g.Lines (map (drawn false) ls) some ∙ ap (λ qs. Some (g.Lines qs)) (sym made),
-          proper-lines ps ∙ ap (λ qs. is_some_list qs && list_all is_line qs) made ∙ rw (some) (lines_proper ls (lines_stand t s ls e is)),
+          proper_at.lines ps ∙ ap (λ qs. is_some_list qs && list_all is_line qs) made ∙ rw (some) (lines_proper ls (lines_stand t s ls e is)),
         )
 
     pub area_decodes : (rs : List (List ℤ)) (ps : List (List Point)) → s ≡ g.Area rs → ps ≡ map (drawn true) rs → Decodes s (g.Area ps)
     area_decodes rs ps e made =
         let some = area_full t s rs e is in (
           ap shown e ∙ prune-area lies kept rs ∙ ap (map_some g.Area) (area_map (drawn true) rs some) ∙ ap (λ qs. Some (g.Area qs)) (sym made),
-          proper-area ps ∙ ap is_some_list made ∙ some_mapped (drawn true) rs ∙ some,
+          proper_at.area ps ∙ ap is_some_list made ∙ some_mapped (drawn true) rs ∙ some,
         )
 
     pub areas_decode : (areas : List (List (List ℤ))) (ps : List (List (List Point))) → s ≡ g.Areas areas → ps ≡ map (map (drawn true)) areas → Decodes s (g.Areas ps)
@@ -151,7 +113,7 @@ module _ (t : Contents) where
         let some : is_some_list (map (map (drawn true)) areas) ≡ true = some_mapped (map (drawn true)) areas ∙ full.0 in (
           ap shown e ∙ prune-areas lies kept areas ∙ ap (unless_empty g.Areas) (areas_map (drawn true) areas full.1)
               ∙ made_of_some g.Areas (map (map (drawn true)) areas) some ∙ ap (λ qs. Some (g.Areas qs)) (sym made),
-          proper-areas ps ∙ ap (λ qs. is_some_list qs && list_all is_some_list qs) made ∙ rw (some) (all_some_mapped (drawn true) areas ∙ full.1),
+          proper_at.areas ps ∙ ap (λ qs. is_some_list qs && list_all is_some_list qs) made ∙ rw (some) (all_some_mapped (drawn true) areas ∙ full.1),
         )
 
   -- ---- the members of a group

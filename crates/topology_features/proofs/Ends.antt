@@ -1,8 +1,10 @@
 -- Lines have two positions or more, and rings four, of which the first and the last are equal.
 use Rattle.std.proofs.Common.{◌≡◌, ℕ, zero, suc, ◌-◌, ◌<◌, ◌≤◌, ℤ, true, false, List, [], ◌∷◌, ◌++◌, map, length, Option, None, Some, refl, ap, sym, ◌∙◌, subst, arith, append-nil, length-append, leb}
-use Rattle.std.proofs.lemmas.Bool.Decides.{nat_tests, Decides-int_eq}
+use Rattle.std.proofs.lemmas.Bool.Decides.{nat_tests}
 use Rattle.std.proofs.lemmas.List.{length-map}
 use Rattle.std.specs.List.{slice_get}
+use Rattle.geojson_types.proofs.Points.{same_self}
+use Rattle.list_laws.proofs.Elements.{all_weaker, all_map}
 use Rattle.geojson_types.specs.Features.{is_some_list, is_line}
 use Rattle.geojson_types.specs.Lists.{map_some, then_some}
 use Rattle.geojson_types.specs.Points.{Point}
@@ -13,7 +15,6 @@ use Rattle.topo_types.specs.Topologies.{Contents}
 use Rattle.topo_types.specs.Transforms.{place}
 use Rattle.topo_types.specs.Validity.{AreInRange}
 use Rattle.topology_features.specs.Strokes.{IsStroke}
-use Rattle.topology_features.proofs.Elements.{all_map, weaker}
 use Rattle.topology_features.proofs.Opening.{AreLong, arc_long}
 use Rattle.topology_features.proofs.Placing.{placed_rejoined, long_arcs}
 
@@ -73,10 +74,6 @@ last_repeated : (n : ℕ) (xs : List Point) (p : Point) → last_of xs ≡ Some 
 last_repeated zero xs p h = ap last_of (append-nil xs) ∙ h
 last_repeated (suc n) xs p h = last_append xs p (repeated n p) ∙ last_of_same n p
 
-same_self : (p : Point) → same p p ≡ true
-unfolding same
-same_self p = rw ((Decides-int_eq p.x p.x).1 refl, (Decides-int_eq p.y p.y).1 refl) refl
-
 -- where the last is the first, the list filled up to four is a ring
 ring_filled : (p : Point) (ps : List Point) → last_of (p ∷ ps) ≡ Some p → is_ring (filled (p ∷ ps)) ≡ true
 unfolding is_ring is_closed
@@ -102,7 +99,7 @@ closes_at ps p q e f h = subst (CloseAt (Some p)) f (subst (λ o. CloseAt o (las
 
 long_map : (arcs : List (List Point)) (refs : List ℤ) → AreLong arcs → AreInRange (length arcs) refs → AreLong (map (arc_at arcs) refs)
 long_map arcs refs long ranged =
-    all_map (λ cs. 2 ≤ length cs) (arc_at arcs) refs (weaker (λ r. number_of r < length arcs) (λ r. 2 ≤ length (arc_at arcs r)) (λ r h. arc_long arcs r long h) refs ranged)
+    all_map (λ cs. 2 ≤ length cs) (arc_at arcs) refs (all_weaker (λ r. number_of r < length arcs) (λ r. 2 ≤ length (arc_at arcs r)) (λ r h. arc_long arcs r long h) refs ranged)
 
 -- the cells of a ring begin and end with one cell
 ring_ends : (arcs : List (List Point)) (refs : List ℤ) → AreLong arcs → is_some_list refs ≡ true → AreInRange (length arcs) refs → Closes (map (arc_at arcs) refs)

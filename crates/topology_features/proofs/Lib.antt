@@ -1,5 +1,4 @@
 pub mod Decoded
-pub mod Elements
 pub mod Ends
 pub mod Filling
 pub mod NamedObjects

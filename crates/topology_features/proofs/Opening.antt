@@ -3,11 +3,12 @@ use Rattle.std.proofs.Common.{◌≡◌, ℕ, zero, suc, ◌<◌, ◌≤◌, ℤ
 use Rattle.std.proofs.lemmas.List.{length-reverse, map-append}
 use Rattle.std.specs.Iterator.{YieldsFirst, YieldsLast}
 use Rattle.std.specs.List.{AllByRecursion}
+use Rattle.list_laws.proofs.Elements.{all_at}
+use Rattle.geojson_types.specs.Lists.{tail}
 use Rattle.geojson_types.specs.Points.{Point}
 use Rattle.geojson_types.proofs.Agreement.{all_right}
-use Rattle.topo_types.specs.Joins.{number_of, is_reversed, at, or_empty, arc_at, behind_first, joined_behind_first, rejoined}
+use Rattle.topo_types.specs.Joins.{number_of, is_reversed, at, or_empty, arc_at, joined_behind_first, rejoined}
 use Rattle.topo_types.specs.Validity.{AreInRange}
-use Rattle.topology_features.proofs.Elements.{all_at}
 
 -- ---- the arc of an index
 
@@ -30,8 +31,8 @@ arc_is arcs r i backwards cells h e b is =
 
 pub arc_lasts : (X : List Point → Type 0) → ((cs : List Point) → X cs → X (reverse cs)) → (arcs : List (List Point)) (r : ℤ) → AllByRecursion X arcs → number_of r < length arcs → X (arc_at arcs r)
 unfolding number_of
-arc_lasts X turned arcs (pos i) all h = all_at X arcs i (or_empty (at arcs i)) all h (at_there arcs i (or_empty (at arcs i)) h)
-arc_lasts X turned arcs (negsuc i) all h = turned (or_empty (at arcs i)) (all_at X arcs i (or_empty (at arcs i)) all h (at_there arcs i (or_empty (at arcs i)) h))
+arc_lasts X turned arcs (pos i) all h = all_at X arcs i (or_empty (at arcs i)) h (at_there arcs i (or_empty (at arcs i)) h) all
+arc_lasts X turned arcs (negsuc i) all h = turned (or_empty (at arcs i)) (all_at X arcs i (or_empty (at arcs i)) h (at_there arcs i (or_empty (at arcs i)) h) all)
 
 abbrev pub AreLong : List (List Point) → Type 0
 AreLong arcs = AllByRecursion (λ cs. 2 ≤ length cs) arcs
@@ -59,9 +60,9 @@ abbrev Last : List Point → Option Point → List Point → Type 0
 Last = YieldsLast {S = List Point} {A = Point} (λ w. w)
 
 -- the first of an arc is let go
-opened : (run more : List Point) (joint : Option Point) → 2 ≤ length run → First run joint more → (behind_first run ≡ more) × (1 ≤ length more)
+opened : (run more : List Point) (joint : Option Point) → 2 ≤ length run → First run joint more → (tail run ≡ more) × (1 ≤ length more)
 opened run more None h e = absurd (omega (arith, h, ap length e.0))
-opened run more (Some p) h e = (ap behind_first e, omega (arith, h, ap length e))
+opened run more (Some p) h e = (ap tail e, omega (arith, h, ap length e))
 
 pub first_of_opened : (arcs : List (List Point)) (front back now : List Point) (refs rest : List ℤ) (r : ℤ) (run one two : List Point) (joint cell : Option Point)
     → AreLong arcs → AreInRange (length arcs) refs → left arcs front refs back ≡ now → front ≡ [] → refs ≡ r ∷ rest → run ≡ arc_at arcs r
@@ -70,16 +71,16 @@ first_of_opened arcs front back now refs rest r run one two joint cell long rang
     let k = opened run one joint (rw arc (arc_long arcs r long (subst (AreInRange (length arcs)) split ranged).0)) before in
     on cell after k
     (sym is ∙ ap (λ f. left arcs f refs back) none ∙ ap (λ rs. left arcs [] rs back) split
-    ∙ ap (λ a. (behind_first a ++ joined_behind_first (map (arc_at arcs) rest)) ++ back) (sym arc)
+    ∙ ap (λ a. (tail a ++ joined_behind_first (map (arc_at arcs) rest)) ++ back) (sym arc)
     ∙ ap (λ a. (a ++ joined_behind_first (map (arc_at arcs) rest)) ++ back) k.0 ∙ append_assoc one (joined_behind_first (map (arc_at arcs) rest)) back)
   where
-    on : (cell : Option Point) → First one cell two → (behind_first run ≡ one) × (1 ≤ length one) → now ≡ left arcs one rest back → First now cell (left arcs two rest back)
+    on : (cell : Option Point) → First one cell two → (tail run ≡ one) × (1 ≤ length one) → now ≡ left arcs one rest back → First now cell (left arcs two rest back)
     on None e k w = absurd (omega (arith, k.1, ap length e.0))
     on (Some q) e k w = w ∙ ap (λ a. left arcs a rest back) e
 
 joined_append : (ps qs : List (List Point)) → joined_behind_first (ps ++ qs) ≡ joined_behind_first ps ++ joined_behind_first qs
 joined_append [] qs = refl
-joined_append (p ∷ ps) qs = ap (λ zs. behind_first p ++ zs) (joined_append ps qs) ∙ sym (append_assoc (behind_first p) (joined_behind_first ps) (joined_behind_first qs))
+joined_append (p ∷ ps) qs = ap (λ zs. tail p ++ zs) (joined_append ps qs) ∙ sym (append_assoc (tail p) (joined_behind_first ps) (joined_behind_first qs))
 
 pub last_of_opened : (arcs : List (List Point)) (front back now : List Point) (refs rest : List ℤ) (r : ℤ) (run one two : List Point) (joint cell : Option Point)
     → AreLong arcs → AreInRange (length arcs) refs → left arcs front refs back ≡ now → back ≡ [] → refs ≡ rest ++ (r ∷ []) → run ≡ arc_at arcs r
@@ -92,9 +93,9 @@ last_of_opened arcs front back now refs rest r run one two joint cell long range
     ∙ ap (λ zs. front ++ zs) (append-nil (joined_behind_first (map (arc_at arcs) refs))
     ∙ ap (λ rs. joined_behind_first (map (arc_at arcs) rs)) split
     ∙ ap joined_behind_first (map-append (arc_at arcs) rest (r ∷ [])) ∙ joined_append (map (arc_at arcs) rest) (arc_at arcs r ∷ [])
-    ∙ ap (λ zs. joined_behind_first (map (arc_at arcs) rest) ++ zs) (append-nil (behind_first (arc_at arcs r)) ∙ ap behind_first (sym arc) ∙ k.0)))
+    ∙ ap (λ zs. joined_behind_first (map (arc_at arcs) rest) ++ zs) (append-nil (tail (arc_at arcs r)) ∙ ap tail (sym arc) ∙ k.0)))
   where
-    on : (cell : Option Point) → Last one cell two → (behind_first run ≡ one) × (1 ≤ length one) → now ≡ left arcs front rest one → Last now cell (left arcs front rest two)
+    on : (cell : Option Point) → Last one cell two → (tail run ≡ one) × (1 ≤ length one) → now ≡ left arcs front rest one → Last now cell (left arcs front rest two)
     on None e k w = absurd (omega (arith, k.1, ap length e.0))
     on (Some q) e k w = w ∙ ap (λ b. left arcs front rest b) e
         ∙ ap (λ zs. front ++ zs) (sym (append_assoc (joined_behind_first (map (arc_at arcs) rest)) two (q ∷ [])))

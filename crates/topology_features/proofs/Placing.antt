@@ -2,14 +2,15 @@
 use Rattle.std.proofs.Common.{◌≡◌, ℕ, zero, suc, ◌<◌, ◌≤◌, ℤ, pos, negsuc, List, [], ◌∷◌, ◌++◌, map, length, reverse, Option, None, Some, refl, ap, sym, ◌∙◌}
 use Rattle.std.proofs.lemmas.List.{reverse-append, map-append}
 use Rattle.std.specs.List.{AllByRecursion}
+use Rattle.geojson_types.specs.Lists.{tail}
+use Rattle.list_laws.proofs.Elements.{all_weaker, all_append, all_reverse}
 use Rattle.geojson_types.specs.Points.{Point}
 use Rattle.topo_types.specs.declared.transform.Transform.{Transform}
 use Rattle.topo_types.specs.Decoding.{placed_arcs}
-use Rattle.topo_types.specs.Joins.{number_of, at, or_empty, arc_at, behind_first, joined_behind_first, rejoined}
+use Rattle.topo_types.specs.Joins.{number_of, at, or_empty, arc_at, joined_behind_first, rejoined}
 use Rattle.topo_types.specs.Topologies.{Contents}
 use Rattle.topo_types.specs.Transforms.{place, place_on}
 use Rattle.topo_types.specs.Validity.{AreInRange, IsArc, IsPlace, IsTopology}
-use Rattle.topology_features.proofs.Elements.{weaker, all_append, all_reverse}
 use Rattle.topology_features.proofs.Opening.{arc_lasts, AreLong}
 
 -- ---- places, arc by arc
@@ -30,16 +31,16 @@ module _ (f : Point → Point) where
   map_arc arcs (pos i) = map_at arcs i
   map_arc arcs (negsuc i) = map_reverse (or_empty (at arcs i)) ∙ ap reverse (map_at arcs i)
 
-  map_behind : (xs : List Point) → map f (behind_first xs) ≡ behind_first (map f xs)
+  map_behind : (xs : List Point) → map f (tail xs) ≡ tail (map f xs)
   map_behind [] = refl
   map_behind (x ∷ xs) = refl
 
   map_joined : (arcs : List (List Point)) (refs : List ℤ) → map f (joined_behind_first (map (arc_at arcs) refs)) ≡ joined_behind_first (map (arc_at (map (map f) arcs)) refs)
   map_joined arcs [] = refl
   map_joined arcs (r ∷ refs) =
-      map-append f (behind_first (arc_at arcs r)) (joined_behind_first (map (arc_at arcs) refs))
-      ∙ ap (λ zs. zs ++ map f (joined_behind_first (map (arc_at arcs) refs))) (map_behind (arc_at arcs r) ∙ ap behind_first (map_arc arcs r))
-      ∙ ap (λ zs. behind_first (arc_at (map (map f) arcs) r) ++ zs) (map_joined arcs refs)
+      map-append f (tail (arc_at arcs r)) (joined_behind_first (map (arc_at arcs) refs))
+      ∙ ap (λ zs. zs ++ map f (joined_behind_first (map (arc_at arcs) refs))) (map_behind (arc_at arcs r) ∙ ap tail (map_arc arcs r))
+      ∙ ap (λ zs. tail (arc_at (map (map f) arcs) r) ++ zs) (map_joined arcs refs)
 
   map_rejoined : (arcs : List (List Point)) (refs : List ℤ) → map f (rejoined (map (arc_at arcs) refs)) ≡ rejoined (map (arc_at (map (map f) arcs)) refs)
   map_rejoined arcs [] = refl
@@ -61,12 +62,12 @@ placed_rejoined (Some t) arcs refs = map_rejoined (place_on t) arcs refs
 -- ---- in a valid topology
 
 pub long_arcs : (t : Contents) → IsTopology t → AreLong t.arcs
-long_arcs t is = weaker (IsArc t.transform) (λ cs. 2 ≤ length cs) (λ cs h. h.0) t.arcs is.arcs
+long_arcs t is = all_weaker (IsArc t.transform) (λ cs. 2 ≤ length cs) (λ cs h. h.0) t.arcs is.arcs
 
 abbrev pub ArePlaces : Option Transform → List Point → Type 0
 ArePlaces transform cs = AllByRecursion (IsPlace transform) cs
 
-behind_places : (transform : Option Transform) (cs : List Point) → ArePlaces transform cs → ArePlaces transform (behind_first cs)
+behind_places : (transform : Option Transform) (cs : List Point) → ArePlaces transform cs → ArePlaces transform (tail cs)
 behind_places transform [] h = tt
 behind_places transform (c ∷ cs) h = h.1
 
@@ -74,12 +75,12 @@ module _ (t : Contents) (is : IsTopology t) where
   arc_places : (r : ℤ) → number_of r < length t.arcs → ArePlaces t.transform (arc_at t.arcs r)
   arc_places r =
       arc_lasts (ArePlaces t.transform) (all_reverse (IsPlace t.transform)) t.arcs r
-      (weaker (IsArc t.transform) (ArePlaces t.transform) (λ cs h. h.1) t.arcs is.arcs)
+      (all_weaker (IsArc t.transform) (ArePlaces t.transform) (λ cs h. h.1) t.arcs is.arcs)
 
   joined_places : (refs : List ℤ) → AreInRange (length t.arcs) refs → ArePlaces t.transform (joined_behind_first (map (arc_at t.arcs) refs))
   joined_places [] h = tt
   joined_places (r ∷ refs) h =
-      all_append (IsPlace t.transform) (behind_first (arc_at t.arcs r)) _ (behind_places t.transform (arc_at t.arcs r) (arc_places r h.0)) (joined_places refs h.1)
+      all_append (IsPlace t.transform) (tail (arc_at t.arcs r)) _ (behind_places t.transform (arc_at t.arcs r) (arc_places r h.0)) (joined_places refs h.1)
 
   pub walk_places : (refs : List ℤ) → AreInRange (length t.arcs) refs → ArePlaces t.transform (rejoined (map (arc_at t.arcs) refs))
   walk_places [] h = tt

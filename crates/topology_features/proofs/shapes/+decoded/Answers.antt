@@ -1,10 +1,10 @@
 use Rattle.std.proofs.Common.{◌<◌, subst, sym, ◌∙◌, ap, arith}
 use Rattle.std.specs.List.{AllByRecursion}
+use Rattle.list_laws.proofs.Elements.{all_at}
 use Rattle.geojson_types.specs.declared.geometry.Geometry.TheVariants as g
 use Rattle.geojson_types.specs.Nesting.{nesting}
 use Rattle.topology_features.specs.Strokes.{IsShape}
 use Rattle.topology_features.proofs.Decoded.{point_decodes, points_decode, line_decodes, lines_decode, area_decodes, areas_decode, group_decodes, member_nests}
-use Rattle.topology_features.proofs.Elements.{all_at}
 use Rattle.topology_features.proofs.Standing.{point_stands, points_stand, line_stands, lines_stand, area_stands, areas_stand, group_stands}
 use Rattle.topology_features.proofs.shapes.+decoded.Goals as goal
 
@@ -88,7 +88,7 @@ decoded-requires t c =
     let is = c.in-Group.is ∙ ap (λ ss. g.Group ss) (sym c.as_slice-member-items.ensures) in
     let lower : nesting c.member-item.result < nesting c.args.shape.now =
     member_nests c.args.shape.now c.as_slice-member-items.result.now c.members.member-index c.member-item.result is c.members-test.true c.member-item.is in
-    (omega arith, all_at (IsShape c.args.topology.now) c.as_slice-member-items.result.now c.members.member-index c.member-item.result all c.members-test.true c.member-item.is)
+    (omega arith, all_at (IsShape c.args.topology.now) c.as_slice-member-items.result.now c.members.member-index c.member-item.result c.members-test.true c.member-item.is all)
 
 pub returns-after-members-clause-decoded : goal.returns-after-members-clause-decoded
 returns-after-members-clause-decoded t c =

@@ -1,0 +1,4 @@
+pub mod Elements
+pub mod Lists
+pub mod Members
+pub mod Tests

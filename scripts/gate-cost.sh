@@ -91,5 +91,6 @@ awk -v ticks="$ticks" -v wall="$wall" '
         printf "Longest chain of proofs: %d seconds: %s.\n", chain[last], path
         printf "In all: %d processor seconds seen, %d seconds by the clock.\n", (proof + tests + edits + build) / ticks, wall
     }' crates.txt - <"$samples"
-times | awk 'NR == 2 { print "Processor time of the command and this script, as the system counts it: " $1 " and " $2 " in the system." }'
+times >"$samples"
+awk 'NR == 2 { print "As the system counts it, with this script: " $1 " in programs and " $2 " in the system." }' "$samples"
 exit "$status"

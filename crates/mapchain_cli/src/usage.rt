@@ -86,24 +86,32 @@ pub(crate) fn program<'a>(alloc: Global) -> Result<Command<'a>, AllocError> {
         .subcommand(stat(alloc)?)
 }
 
-/// The command line of `build`.
-fn build<'a>(alloc: Global) -> Result<Command<'a>, AllocError> {
-    let exact = Arg::new(alloc, EXACT)
+/// The option of `build` that refuses coordinates that would have to be rounded.
+fn exact<'a>(alloc: Global) -> Arg<'a> {
+    Arg::new(alloc, EXACT)
         .long("exact")
         .action(ArgAction::SetTrue)
         .help(EXACT_HELP)
-        .long_help(EXACT_LONG_HELP);
-    let layers = Arg::new(alloc, LAYERS)
+        .long_help(EXACT_LONG_HELP)
+}
+
+/// The layer words of `build`.
+fn layers<'a>(alloc: Global) -> Arg<'a> {
+    Arg::new(alloc, LAYERS)
         .value_name("NAME=PATH")
         .required(true)
         .num_args(1..)
         .help(LAYERS_HELP)
-        .long_help(LAYERS_LONG_HELP);
+        .long_help(LAYERS_LONG_HELP)
+}
+
+/// The command line of `build`.
+fn build<'a>(alloc: Global) -> Result<Command<'a>, AllocError> {
     Command::new(alloc, BUILD)
         .about(BUILD_ABOUT)
         .long_about(BUILD_LONG_ABOUT)
         .after_help(BUILD_AFTER_HELP)
         .after_long_help(BUILD_AFTER_LONG_HELP)
-        .arg(exact)?
-        .arg(layers)
+        .arg(exact(alloc))?
+        .arg(layers(alloc))
 }

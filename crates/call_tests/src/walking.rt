@@ -8,25 +8,12 @@ use std::alloc::Global;
 use std::test::Fail;
 use topojson_decoder::{ArcRef, Topology, Walk, read_topology};
 
-/// The topology that a JSON text stands for.
-fn topology_of(alloc: Global, text: &[u8]) -> Result<Topology, Fail> {
-    let value = parse(alloc, text, TOPOLOGY_DEPTH)?;
-    let (topology, _counts) = read_topology(alloc, value)?;
-    Ok(topology)
-}
-
-/// Whether these are the positions.
-fn is_list(positions: &[Position], wanted: &[(i64, i64)]) -> bool {
-    positions.len() == wanted.len()
-        && positions
-            .iter()
-            .zip(wanted)
-            .all(|(p, (x, y))| p.x() == *x && p.y() == *y)
-}
-
 // The arcs are (1,0),(1,1), then (1,1),(0,1),(0,0),(1,0), then (1,0),(2,0),(2,1),(1,1).
 const SQUARES: &[u8] =
     b"{\"type\":\"Topology\",\"objects\":{},\"arcs\":[[[1,0],[1,1]],[[1,1],[0,1],[0,0],[1,0]],[[1,0],[2,0],[2,1],[1,1]]]}";
+
+// Units of 10^-7.
+const ONE: i64 = 10_000_000;
 
 /// The two indexes, if the topology has their arcs.
 fn pair_of(topology: &Topology, first: i64, second: i64) -> Option<[ArcRef; 2]>
@@ -44,54 +31,58 @@ fn pair_of(topology: &Topology, first: i64, second: i64) -> Option<[ArcRef; 2]>
     Some([first, second])
 }
 
-fn backwards(alloc: Global, topology: &Topology, refs: &[ArcRef]) -> Result<Vec<Position>, Fail>
-    requires { AreInRange (length topology.now.arcs) refs.now }
-{
-    let mut walked = Vec::new(alloc);
-    for position in Walk::over(topology, refs).rev() {
-        walked.push(position)?;
+/// Whether these steps of a walk give these positions, each from the back where it says so, and then both ends nothing.
+fn gives(mut walk: Walk<'_>, steps: &[(bool, i64, i64)]) -> bool {
+    for (is_back, x, y) in steps {
+        let position = if *is_back {
+            walk.next_back()
+        } else {
+            walk.next()
+        };
+        if position != Position::new(*x, *y) {
+            return false;
+        }
     }
-    Ok(walked)
+    walk.next().is_none() && walk.next_back().is_none()
 }
 
-// Units of 10^-7.
-const ONE: i64 = 10_000_000;
-
-#[test]
-fn rings_from_the_back(rt: HostRuntime) -> Result<(), Fail> {
-    let topology = topology_of(rt.alloc(), SQUARES)?;
-    let refs = pair_of(&topology, 0, 1).ok_or("no arcs")?;
-    let walked = backwards(rt.alloc(), &topology, &refs)?;
-    let left = [(ONE, 0), (0, 0), (0, ONE), (ONE, ONE), (ONE, 0)];
-    assert!(rt; is_list(walked.as_slice(), &left));
-    let refs = pair_of(&topology, 2, -1).ok_or("no arcs")?;
-    let walked = backwards(rt.alloc(), &topology, &refs)?;
-    let right = [(ONE, 0), (ONE, ONE), (2 * ONE, ONE), (2 * ONE, 0), (ONE, 0)];
-    assert!(rt; is_list(walked.as_slice(), &right));
-    Ok(())
+/// Whether the walk along the two arcs gives these positions.
+fn walks(topology: &Topology, first: i64, second: i64, steps: &[(bool, i64, i64)]) -> bool {
+    match pair_of(topology, first, second) {
+        Some(refs) => gives(Walk::over(topology, &refs), steps),
+        None => false,
+    }
 }
 
 #[test]
-fn both_ends_in_turn(rt: HostRuntime) -> Result<(), Fail> {
-    let topology = topology_of(rt.alloc(), SQUARES)?;
-    let refs = pair_of(&topology, 0, 1).ok_or("no arcs")?;
-    let mut walk = Walk::over(&topology, &refs);
-    assert_eq!(rt; walk.next_back(), Position::new(ONE, 0));
-    assert_eq!(rt; walk.next(), Position::new(ONE, 0));
-    assert_eq!(rt; walk.next_back(), Position::new(0, 0));
-    assert_eq!(rt; walk.next(), Position::new(ONE, ONE));
-    assert_eq!(rt; walk.next(), Position::new(0, ONE));
-    assert_eq!(rt; walk.next_back(), None);
-    assert_eq!(rt; walk.next(), None);
-    Ok(())
-}
-
-#[test]
-fn no_arcs(rt: HostRuntime) -> Result<(), Fail> {
-    let topology = topology_of(rt.alloc(), SQUARES)?;
-    let mut walk = Walk::over(&topology, &[]);
-    assert_eq!(rt; walk.next_back(), None);
-    assert_eq!(rt; walk.next(), None);
+fn walks_go_from_both_ends(rt: HostRuntime) -> Result<(), Fail> {
+    let value = parse(rt.alloc(), SQUARES, TOPOLOGY_DEPTH)?;
+    let (topology, _counts) = read_topology(rt.alloc(), value)?;
+    let left = [
+        (true, ONE, 0),
+        (true, 0, 0),
+        (true, 0, ONE),
+        (true, ONE, ONE),
+        (true, ONE, 0),
+    ];
+    let right = [
+        (true, ONE, 0),
+        (true, ONE, ONE),
+        (true, 2 * ONE, ONE),
+        (true, 2 * ONE, 0),
+        (true, ONE, 0),
+    ];
+    let in_turn = [
+        (true, ONE, 0),
+        (false, ONE, 0),
+        (true, 0, 0),
+        (false, ONE, ONE),
+        (false, 0, ONE),
+    ];
+    assert!(rt; walks(&topology, 0, 1, &left));
+    assert!(rt; walks(&topology, 2, -1, &right));
+    assert!(rt; walks(&topology, 0, 1, &in_turn));
+    assert!(rt; gives(Walk::over(&topology, &[]), &[]));
     Ok(())
 }
 

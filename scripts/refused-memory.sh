@@ -6,7 +6,7 @@
 #     scripts/refused-memory.sh 40        from the 40th on
 #     JOBS=3 scripts/refused-memory.sh    three runs at a time (a run takes some 20 seconds and 1 GB)
 #
-# The runs are the tests of crates/refusals, each in a process of its own: building a line's layer and refusing one that is
+# The runs are the tests of crates/allocation_tests, each in a process of its own: building a line's layer and refusing one that is
 # cut off, by the engine, and `mapchain build a=line.json`. For N = 1, 2, .. the Nth allocation of each is refused. A test
 # `.._or_memory` must pass for every N. A test `.._unrefused` fails while the refusal is felt, and passes once N is past
 # the run's last allocation. The script ends where two N in a row change nothing, with status 0, or with status 1 at the
@@ -15,7 +15,7 @@ set -u
 
 n=${1:-1}
 jobs=${JOBS:-1}
-cd "$(dirname "$(readlink -f "$0")")/../crates/refusals" || exit 2
+cd "$(dirname "$(readlink -f "$0")")/../crates/allocation_tests" || exit 2
 command -v rt >/dev/null || { echo "refused-memory: the toolchain's command 'rt' isn't on PATH" >&2; exit 2; }
 logs=$(mktemp -d) || exit 2
 trap 'rm -rf "$logs"' EXIT

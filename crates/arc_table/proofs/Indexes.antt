@@ -8,7 +8,7 @@ use Rattle.arc_table.specs.Growth.{directed, next, has_alike, first_alike}
 use Rattle.arc_table.specs.Laws.{AreUnlike}
 use Rattle.cutter.specs.Places.{In}
 use Rattle.geojson_types.specs.Points.{Point}
-use Rattle.topo_types.specs.Joins.{number_of, arc_at}
+use Rattle.topojson_types.specs.Joins.{number_of, arc_at}
 use Rattle.arc_table.proofs.Alike.{same_line_is, is_alike}
 
 arc_next : (q : List Point) (qs : List (List Point)) (z : ℤ) → arc_at (q ∷ qs) (next z) ≡ arc_at qs z

@@ -12,8 +12,8 @@ use Rattle.cutter.specs.Slices.{SplitStroke, IsSplit, AllSplit, all_pieces, piec
 use Rattle.cutter.specs.Structure.{SharersAreAlike, SegmentsAreOnce, PiecesAreLong}
 use Rattle.geojson_types.specs.Points.{Point}
 use Rattle.linework.specs.Cleaning.{IsClean, IsCleanList, AllClean}
-use Rattle.topo_types.specs.Joins.{arc_at, number_of, rejoined, Meet}
-use Rattle.topo_types.specs.Validity.{AreInRange}
+use Rattle.topojson_types.specs.Joins.{arc_at, number_of, rejoined, Meet}
+use Rattle.topojson_types.specs.Validity.{AreInRange}
 use Rattle.arc_table.proofs.Alike.{arcs_unlike, arc_is_piece, piece_has_alike}
 use Rattle.arc_table.proofs.Growth.{every, refs_in, in_every, map_same, build_end}
 use Rattle.arc_table.proofs.Indexes.{index_is, named_is, named_all}

@@ -14,7 +14,7 @@ use Rattle.cutter.specs.Structure.{PiecesAreLong}
 use Rattle.geojson_types.specs.Points.{Point}
 use Rattle.linework.specs.Cleaning.{IsCleanList, AllClean}
 use Rattle.linework.specs.Visits.{last}
-use Rattle.topo_types.specs.Joins.{arc_at, behind_first, joined_behind_first, rejoined, first_of, last_of, Meet, Closes}
+use Rattle.topojson_types.specs.Joins.{arc_at, behind_first, joined_behind_first, rejoined, first_of, last_of, Meet, Closes}
 use Rattle.linework.proofs.Members.{in_left, in_right}
 use Rattle.cutter.proofs.SegmentLaws.{segments_append}
 

@@ -5,8 +5,8 @@ use Rattle.cutter.specs.Places.{In}
 use Rattle.cutter.specs.Segments.{Segment, piece_segments, times}
 use Rattle.geojson_types.specs.Points.{Point}
 use Rattle.linework.specs.declared.stroke.Stroke.{Stroke}
-use Rattle.topo_types.specs.Joins.{arc_at, Meet, Closes}
-use Rattle.topo_types.specs.Validity.{AreInRange}
+use Rattle.topojson_types.specs.Joins.{arc_at, Meet, Closes}
+use Rattle.topojson_types.specs.Validity.{AreInRange}
 use Rattle.arc_table.specs.Arcs.{ArcsAndIndexes, alike}
 
 -- no two of the arcs are equal or each other's reverse

@@ -11,7 +11,7 @@ use cutter::PieceIter;
 use geojson_types::Position;
 use json_value::Items;
 use std::alloc::Global;
-use topo_types::ArcRef;
+use topojson_types::ArcRef;
 
 /// The indexes of the pieces of a line, where each piece that is alike no arc becomes one, behind the others.
 pub fn add_line(
@@ -35,13 +35,13 @@ pub fn add_line(
 {
     let mut refs = Vec::new(alloc);
     for piece in pieces {
-        refs.push(place(alloc, arcs, starts, compared, piece)?)?;
+        refs.push(find_or_add(alloc, arcs, starts, compared, piece)?)?;
     }
     Ok(Items::of(refs))
 }
 
 // The index of a piece, which becomes an arc if it is alike none.
-fn place(
+fn find_or_add(
     alloc: Global,
     arcs: &mut Vec<Items<Position>>,
     starts: &mut Starts,

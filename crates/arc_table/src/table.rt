@@ -3,8 +3,8 @@ ghost use Rattle.std.specs.Prelude.{◌≡◌, ◌<◌, ◌≤◌, ◌+◌, ◌^
 ghost use Rattle.std.specs.List.{AllByRecursion};
 ghost use Rattle.cutter.specs.Segments.{line_segments, piece_segments};
 ghost use Rattle.cutter.specs.Slices.{all_pieces, piece_lists, strokes};
-ghost use Rattle.topo_types.specs.Joins.{arc_at, rejoined, Meet};
-ghost use Rattle.topo_types.specs.Validity.{AreInRange};
+ghost use Rattle.topojson_types.specs.Joins.{arc_at, rejoined, Meet};
+ghost use Rattle.topojson_types.specs.Validity.{AreInRange};
 ghost use Rattle.arc_table.specs.Arcs.{table_of};
 ghost use Rattle.arc_table.specs.Laws.{AreAllIn, AreOnceIn, AreUnlike, IsTable, RingsClose};
 
@@ -16,7 +16,7 @@ use indexmap::IndexMap;
 use json_value::Items;
 use std::alloc::Global;
 use std::marker::Model;
-use topo_types::ArcRef;
+use topojson_types::ArcRef;
 
 /// The arcs of lines and rings, and for each of these its arc indexes. No two arcs are equal or each other's reverse, and each
 /// has two positions or more. Each line has an index, each index names an arc, and the arcs that a line's indexes name meet.

@@ -4,7 +4,7 @@ use decimal_json::{Items, NumText};
 use geojson_types::Layer;
 use linework::Lines;
 use std::test::Fail;
-use topo_types::{Cell, sums};
+use topojson_types::{Cell, sums};
 
 #[test]
 fn memory_takes_bytes(rt: HostRuntime) {

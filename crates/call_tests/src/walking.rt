@@ -1,6 +1,6 @@
 // What no command shows of topologies that are read: walks from the back, and what is counted. Two squares share a side.
 ghost use Rattle.std.specs.Prelude.{IfSome, length};
-ghost use Rattle.topo_types.specs.Validity.{AreInRange};
+ghost use Rattle.topojson_types.specs.Validity.{AreInRange};
 
 use decimal_json::{TOPOLOGY_DEPTH, parse};
 use geojson_types::Position;

@@ -6,7 +6,7 @@ use Rattle.std.proofs.lemmas.Bool.Decides.{nat_tests}
 pub use Rattle.cutter.specs.Places.{In}
 use Rattle.geojson_types.specs.Points.{Point}
 use Rattle.geojson_types.specs.Rings.{same}
-use Rattle.linework.specs.Cuts.{is_cut, is_loose_least}
+use Rattle.linework.specs.Cuts.{is_cut, starts_free_ring}
 use Rattle.linework.specs.Visits.{Visit, all_visits, visits_at, neighbors, distinct, ends_open, is_junction}
 use Rattle.linework.specs.declared.stroke.Stroke.{Stroke}
 use Rattle.linework.proofs.Cleaned.{same_self}
@@ -23,7 +23,7 @@ two_test n h = grind (arith, nat_tests)
 
 module _ (ls : List Stroke) (b : Point) (free : is_cut ls b ≡ false) where
   plain : is_junction ls b ≡ false
-  plain = (or_parts (is_junction ls b) (list_any (is_loose_least ls b) ls) free).0
+  plain = (or_parts (is_junction ls b) (list_any (starts_free_ring ls b) ls) free).0
 
   later_parts : ((list_any (λ v. same v.before v.after) (visits_at ls b)) || not (eqb (length (distinct (neighbors ls b))) 2)) ≡ false
   later_parts = (or_parts (ends_open ls b) _ plain).1

@@ -11,7 +11,7 @@ use Rattle.geojson_types.specs.Rings.{same}
 use Rattle.geojson_types.specs.declared.address.Address.{Address}
 use Rattle.linework.specs.Cleaning.{AllClean, IsClean}
 use Rattle.linework.specs.Cuts.{is_cut}
-use Rattle.linework.specs.Answers.{Answers, is_member, IsOf}
+use Rattle.linework.specs.Answers.{Answers, is_member, AnswersFor}
 use Rattle.linework.specs.Visits.{last}
 use Rattle.linework.specs.declared.stroke.Stroke.{Stroke}
 use Rattle.cutter.proofs.Agreement.{in_start, start_agree, by_agree, ends_agree, split}
@@ -31,15 +31,15 @@ in_get (x ∷ xs) zero d h = inl refl
 in_get (x ∷ xs) (suc i) d h = inr (in_get xs i d (omega arith))
 
 -- the answers are those of the lines
-pub cuts_known : (ls : List Stroke) (v : Answers) → IsOf ls v → (s : Stroke) → In s ls → (x : Point) → In x s.positions → is_member v.cuts x ≡ is_cut ls x
+pub cuts_known : (ls : List Stroke) (v : Answers) → AnswersFor ls v → (s : Stroke) → In s ls → (x : Point) → In x s.positions → is_member v.cuts x ≡ is_cut ls x
 cuts_known ls v k s m x i = k.cuts x (k.points x ∙ any_of (λ t. is_member t.positions x) s ls m (any_of (same x) x s.positions i (same_self x)))
 
 -- the vertices of lines know each position of them
-pub stroke_known : (ls : List Stroke) (v : Answers) → IsOf ls v → (s : Stroke) → In s ls → AllKnown v.points s.positions
+pub stroke_known : (ls : List Stroke) (v : Answers) → AnswersFor ls v → (s : Stroke) → In s ls → AllKnown v.points s.positions
 stroke_known ls v k s m x i = k.points x ∙ any_of (λ t. is_member t.positions x) s ls m (any_of (same x) x s.positions i (same_self x))
 
 -- those of the line that is asked for: what the start of a ring asks of its caller
-pub line_known : (ls : List Stroke) (v : Answers) → IsOf ls v → (i : ℕ) (s : Stroke) → slice_get ls i ≡ Some s → AllKnown v.points s.positions
+pub line_known : (ls : List Stroke) (v : Answers) → AnswersFor ls v → (i : ℕ) (s : Stroke) → slice_get ls i ≡ Some s → AllKnown v.points s.positions
 line_known ls v k i s e = stroke_known ls v k s (slice_in ls i s e)
 
 -- they know the element of the list that is read
@@ -71,7 +71,7 @@ starts ls at c (p ∷ ps) m h e =
     let r = ring_cut ls at p ps (subst (λ b. In (line at b (p ∷ ps)) ls) e m) in
     (start_cut (is_cut ls) r.0 p (p ∷ ps) r.1 r.2).0
 
-module _ (ls : List Stroke) (v : Answers) (known : IsOf ls v) (s : Stroke) (m : In s ls) where
+module _ (ls : List Stroke) (v : Answers) (known : AnswersFor ls v) (s : Stroke) (m : In s ls) where
   -- the start by the vertices is that by the lines
   pub start_known : start_in (is_member v.cuts) s.positions ≡ start_in (is_cut ls) s.positions
   start_known = start_agree (is_member v.cuts) (is_cut ls) s.positions (cuts_known ls v known s m)

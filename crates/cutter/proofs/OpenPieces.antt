@@ -7,7 +7,7 @@ use Rattle.geojson_types.specs.Points.{Point}
 use Rattle.geojson_types.specs.declared.address.Address.{Address}
 use Rattle.geojson_types.specs.Rings.{same}
 use Rattle.linework.specs.Cleaning.{Moves}
-use Rattle.linework.specs.Cuts.{is_cut, is_loose_least}
+use Rattle.linework.specs.Cuts.{is_cut, starts_free_ring}
 use Rattle.linework.specs.Visits.{visits, visits_from, visits_at, neighbors, distinct, last, is_end, ends_open}
 use Rattle.linework.specs.declared.stroke.Stroke.{Stroke}
 pub use Rattle.linework.proofs.Members.{in_flat}
@@ -22,7 +22,7 @@ use Rattle.cutter.proofs.Starts.{line}
 pub end_cut : (ls : List Stroke) (s : Stroke) (x : Point) → In s ls → (not s.closed && is_end x s.positions) ≡ true → is_cut ls x ≡ true
 end_cut ls s x k h =
     let e : ends_open ls x ≡ true = any_of (λ s. not s.closed && is_end x s.positions) s ls k h in
-    ap (λ b. (b || (list_any (λ v. same v.before v.after) (visits_at ls x) || not (eqb (length (distinct (neighbors ls x))) 2))) || list_any (is_loose_least ls x) ls) e
+    ap (λ b. (b || (list_any (λ v. same v.before v.after) (visits_at ls x) || not (eqb (length (distinct (neighbors ls x))) 2))) || list_any (starts_free_ring ls x) ls) e
 
 pub open_pieces : (ls : List Stroke) (at : Address) (p q : Point) (ps : List Point) → In (line at false (p ∷ (q ∷ ps))) ls → Moves p (q ∷ ps) →
     AllWalks (is_cut ls) (Via ls) (pieces_of ls (line at false (p ∷ (q ∷ ps))))

@@ -8,7 +8,7 @@ use Rattle.geojson_types.specs.Order.{point_cmp, least_of, is_least}
 use Rattle.geojson_types.specs.Points.{Point}
 use Rattle.geojson_types.specs.declared.address.Address.{Address}
 use Rattle.geojson_types.specs.Rings.{same}
-use Rattle.linework.specs.Cuts.{is_loose_least, is_cut}
+use Rattle.linework.specs.Cuts.{starts_free_ring, is_cut}
 use Rattle.linework.specs.Visits.{is_junction}
 use Rattle.linework.specs.declared.stroke.Stroke.{Stroke}
 pub use Rattle.linework.proofs.Members.{any_of}
@@ -73,6 +73,6 @@ ring_cut ls at a as' k = on (list_all (λ q. not (is_junction ls q)) (a ∷ as')
     on : (b : Bool) → list_all (λ q. not (is_junction ls q)) (a ∷ as') ≡ b → (q : Point) × In q (a ∷ as') × (is_cut ls q ≡ true)
     on true e =
         let m = least_of a as' in
-        let loose : is_loose_least ls (least_of a as') (line at true (a ∷ as')) ≡ true = ap (λ b. b && same (least_of a as') (least_of a as')) e ∙ same_self (least_of a as') in
-        (least_of a as', least_in a as', ap (λ b. is_junction ls (least_of a as') || b) (any_of (is_loose_least ls (least_of a as')) (line at true (a ∷ as')) ls k loose) ∙ or-true (is_junction ls (least_of a as')))
-    on false e = let j = not_all (is_junction ls) (a ∷ as') e in (j.0, j.1, ap (λ b. b || list_any (is_loose_least ls j.0) ls) j.2)
+        let loose : starts_free_ring ls (least_of a as') (line at true (a ∷ as')) ≡ true = ap (λ b. b && same (least_of a as') (least_of a as')) e ∙ same_self (least_of a as') in
+        (least_of a as', least_in a as', ap (λ b. is_junction ls (least_of a as') || b) (any_of (starts_free_ring ls (least_of a as')) (line at true (a ∷ as')) ls k loose) ∙ or-true (is_junction ls (least_of a as')))
+    on false e = let j = not_all (is_junction ls) (a ∷ as') e in (j.0, j.1, ap (λ b. b || list_any (starts_free_ring ls j.0) ls) j.2)

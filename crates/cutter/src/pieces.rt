@@ -1,7 +1,7 @@
 // The pieces of all lines.
 ghost use Rattle.std.specs.Prelude.{◌≡◌, ◌<◌, IfOk, Some, length, map, slice_get};
 ghost use Rattle.geojson_types.specs.Points.{Point};
-ghost use Rattle.linework.specs.Answers.{IsOf};
+ghost use Rattle.linework.specs.Answers.{AnswersFor};
 ghost use Rattle.linework.specs.Cleaning.{AllClean};
 ghost use Rattle.cutter.specs.Places.{IsStructured};
 ghost use Rattle.cutter.specs.Segments.{line_segments, piece_segments, times};
@@ -39,7 +39,7 @@ impl Model for Pieces {
 /// The lines, each split at its cut positions, which both pieces keep; a ring is first turned to its start. What was left
 /// out of the lines isn't kept.
 pub fn cut(alloc: Global, lines: Lines, vertices: &Vertices) -> Result<Pieces, Memory>
-    requires { IsOf lines.strokes vertices.now }
+    requires { AnswersFor lines.strokes vertices.now }
     ensures pieces { IfOk result (λ ps. ps ≡ map (split_of lines.strokes) lines.strokes) }
     ensures segments { IfOk result
         (λ ps. (a b : Point) → times a b (piece_segments (all_pieces ps)) ≡ times a b (line_segments lines.strokes)) }

@@ -4,7 +4,7 @@ ghost use Rattle.std.specs.List.{filter};
 ghost use Rattle.geojson_types.specs.Rings.{same};
 ghost use Rattle.linework.specs.Cleaning.{AllClean};
 ghost use Rattle.linework.specs.Cuts.{is_cut};
-ghost use Rattle.linework.specs.Answers.{IsOf, is_member};
+ghost use Rattle.linework.specs.Answers.{AnswersFor, is_member};
 ghost use Rattle.linework.specs.declared.stroke.Stroke as line;
 ghost use Rattle.cutter.specs.Known.{AllKnown};
 ghost use Rattle.cutter.specs.Pieces.{first_at, start_in};
@@ -19,8 +19,8 @@ use linework::{Stroke, Vertices};
 pub fn ring_start(stroke: &Stroke, vertices: &Vertices) -> usize
     requires { AllKnown vertices.now.points stroke.now.positions }
     ensures start { result ≡ start_in (is_member vertices.now.cuts) stroke.now.positions }
-    ensures of_lines { (ls : List line.Stroke) → IsOf ls vertices.now → In stroke.now ls → result ≡ start_in (is_cut ls) stroke.now.positions }
-    ensures within { (ls : List line.Stroke) → IsOf ls vertices.now → AllClean ls → In stroke.now ls → stroke.now.closed ≡ true
+    ensures of_lines { (ls : List line.Stroke) → AnswersFor ls vertices.now → In stroke.now ls → result ≡ start_in (is_cut ls) stroke.now.positions }
+    ensures within { (ls : List line.Stroke) → AnswersFor ls vertices.now → AllClean ls → In stroke.now ls → stroke.now.closed ≡ true
         → result < length stroke.now.positions }
 {
     first_of_least_cut(stroke.positions.as_slice(), vertices)

@@ -14,22 +14,22 @@ use Rattle.geojson_types.specs.Rings.{same}
 use Rattle.linework.specs.declared.stroke.Stroke.{Stroke}
 use Rattle.linework.specs.declared.vertex.Vertex.{Vertex}
 use Rattle.linework.specs.Among.{In}
-use Rattle.linework.specs.Answers.{Answers, is_member, IsOf}
-use Rattle.linework.specs.Cuts.{is_loose_least}
+use Rattle.linework.specs.Answers.{Answers, is_member, AnswersFor}
+use Rattle.linework.specs.Cuts.{starts_free_ring}
 use Rattle.linework.specs.Visits.{is_junction, is_position_of}
-use Rattle.linework.specs.Notes.{equal, vertex_of, vertex_at, IsTable, is_knot_option, is_cut_option, is_free, loosened, flagged}
+use Rattle.linework.specs.Notes.{equal, vertex_of, vertex_at, IsTable, at_junction_option, is_cut_option, is_free, with_ring_start, flagged}
 use Rattle.linework.proofs.Cleaned.{same_is, same_self, same_sym}
 use Rattle.linework.proofs.Members.{any_of, get_in}
-use Rattle.linework.proofs.Noting.{equal_same, knot_is}
+use Rattle.linework.proofs.Noting.{equal_same, junction_is}
 
 -- one flag more
-pub flag_one : (g h : Point → Option Vertex) (w : Point) (x : Vertex) → g w ≡ Some x → ((p : Point) → h p ≡ cond (equal w p) (Some (loosened x)) (g p)) →
+pub flag_one : (g h : Point → Option Vertex) (w : Point) (x : Vertex) → g w ≡ Some x → ((p : Point) → h p ≡ cond (equal w p) (Some (with_ring_start x)) (g p)) →
     (p : Point) → h p ≡ flagged (same p w) (g p)
-flag_one g h w x e k p = k p ∙ ap (λ b. cond b (Some (loosened x)) (g p)) (equal_same w p ∙ same_sym w p) ∙ on (same p w) refl (g p) refl
+flag_one g h w x e k p = k p ∙ ap (λ b. cond b (Some (with_ring_start x)) (g p)) (equal_same w p ∙ same_sym w p) ∙ on (same p w) refl (g p) refl
   where
-    on : (b : Bool) → same p w ≡ b → (o : Option Vertex) → g p ≡ o → cond b (Some (loosened x)) o ≡ flagged b o
+    on : (b : Bool) → same p w ≡ b → (o : Option Vertex) → g p ≡ o → cond b (Some (with_ring_start x)) o ≡ flagged b o
     on true i None j = let z : None ≡ Some x = sym j ∙ ap g (same_is p w i) ∙ e in cc
-    on true i (Some y) j = let z : Some y ≡ Some x = sym j ∙ ap g (same_is p w i) ∙ e in let y : y ≡ x = cc in ap (λ v. Some (loosened v)) (sym y)
+    on true i (Some y) j = let z : Some y ≡ Some x = sym j ∙ ap g (same_is p w i) ∙ e in let y : y ≡ x = cc in ap (λ v. Some (with_ring_start v)) (sym y)
     on false i None j = refl
     on false i (Some y) j = refl
 
@@ -46,8 +46,8 @@ flag_not None = refl
 flag_not (Some v) = refl
 
 -- the rings whose least positions are flagged
-abbrev pub loose_in : List Stroke → List Stroke → Point → Bool
-loose_in ls ss p = list_any (is_loose_least ls p) ss
+abbrev pub starts_in : List Stroke → List Stroke → Point → Bool
+starts_in ls ss p = list_any (starts_free_ring ls p) ss
 
 -- a flag in what is known when all lines are read
 flag_at : (b : Bool) (ls : List Stroke) (f g : Point → Bool) (p : Point) → g p ≡ (f p || b) → flagged b (vertex_at ls f p) ≡ vertex_at ls g p
@@ -62,45 +62,45 @@ flag_at b ls f g p e = on b (is_position_of ls p) e
 position_in : (ls : List Stroke) (s : Stroke) (q : Point) → In s ls → In q s.positions → is_position_of ls q ≡ true
 position_in ls s q k m = any_of (λ s. list_any (same q) s.positions) s ls k (any_of (same q) q s.positions m (same_self q))
 
-knot_known : (ls : List Stroke) (f : Point → Bool) (p : Point) → is_position_of ls p ≡ true → is_knot_option (vertex_at ls f p) ≡ is_junction ls p
-knot_known ls f p e = ap (λ b. is_knot_option (cond b (Some (vertex_of ls f p)) None)) e ∙ knot_is ls (f p) p
+junction_known : (ls : List Stroke) (f : Point → Bool) (p : Point) → is_position_of ls p ≡ true → at_junction_option (vertex_at ls f p) ≡ is_junction ls p
+junction_known ls f p e = ap (λ b. at_junction_option (cond b (Some (vertex_of ls f p)) None)) e ∙ junction_is ls (f p) p
 
 cut_known : (ls : List Stroke) (f : Point → Bool) (p : Point) → is_position_of ls p ≡ true → is_cut_option (vertex_at ls f p) ≡ (is_junction ls p || f p)
-cut_known ls f p e = ap (λ b. is_cut_option (cond b (Some (vertex_of ls f p)) None)) e ∙ ap (λ b. b || f p) (knot_is ls (f p) p)
+cut_known ls f p e = ap (λ b. is_cut_option (cond b (Some (vertex_of ls f p)) None)) e ∙ ap (λ b. b || f p) (junction_is ls (f p) p)
 
 free_is : (ls : List Stroke) (f : Point → Bool) (g : Point → Option Vertex) → ((p : Point) → g p ≡ vertex_at ls f p) → (ps : List Point) → ((q : Point) → In q ps → is_position_of ls q ≡ true) →
     is_free g ps ≡ list_all (λ q. not (is_junction ls q)) ps
 free_is ls f g k [] h = refl
 free_is ls f g k (q ∷ qs) h =
-    ap (λ b. not b && is_free g qs) (ap is_knot_option (k q) ∙ knot_known ls f q (h q (inl refl)))
+    ap (λ b. not b && is_free g qs) (ap at_junction_option (k q) ∙ junction_known ls f q (h q (inl refl)))
     ∙ ap (λ b. not (is_junction ls q) && b) (free_is ls f g k qs (λ x m. h x (inr m)))
 
-loose_more : (ls : List Stroke) (i : ℕ) (s : Stroke) (p : Point) → i < length ls → s ≡ get_or ls i s → loose_in ls (take (i + 1) ls) p ≡ (loose_in ls (take i ls) p || is_loose_least ls p s)
-loose_more ls i s p l e = list_any_more (is_loose_least ls p) ls i s l ∙ ap (λ z. loose_in ls (take i ls) p || is_loose_least ls p z) (sym e)
+starts_more : (ls : List Stroke) (i : ℕ) (s : Stroke) (p : Point) → i < length ls → s ≡ get_or ls i s → starts_in ls (take (i + 1) ls) p ≡ (starts_in ls (take i ls) p || starts_free_ring ls p s)
+starts_more ls i s p l e = list_any_more (starts_free_ring ls p) ls i s l ∙ ap (λ z. starts_in ls (take i ls) p || starts_free_ring ls p z) (sym e)
 
 -- one line more, a ring
 pub ring_turn : (ls : List Stroke) (i : ℕ) (s : Stroke) (g h : Point → Option Vertex) → i < length ls → s ≡ get_or ls i s → s.closed ≡ true →
-    ((p : Point) → g p ≡ vertex_at ls (loose_in ls (take i ls)) p) →
+    ((p : Point) → g p ≡ vertex_at ls (starts_in ls (take i ls)) p) →
     ((p : Point) → h p ≡ flagged (is_free g s.positions && is_least p s.positions) (g p)) →
-    (p : Point) → h p ≡ vertex_at ls (loose_in ls (take (i + 1) ls)) p
+    (p : Point) → h p ≡ vertex_at ls (starts_in ls (take (i + 1) ls)) p
 ring_turn ls i s g h l e c k m p =
-    let n : (is_free g s.positions && is_least p s.positions) ≡ is_loose_least ls p s =
-    ap (λ b. b && is_least p s.positions) (free_is ls (loose_in ls (take i ls)) g k s.positions (λ q. position_in ls s q (get_in ls i s l e)))
+    let n : (is_free g s.positions && is_least p s.positions) ≡ starts_free_ring ls p s =
+    ap (λ b. b && is_least p s.positions) (free_is ls (starts_in ls (take i ls)) g k s.positions (λ q. position_in ls s q (get_in ls i s l e)))
     ∙ ap (λ b. b && (list_all (λ q. not (is_junction ls q)) s.positions && is_least p s.positions)) (sym c) in
-    m p ∙ ap (λ b. flagged b (g p)) n ∙ ap (flagged (is_loose_least ls p s)) (k p)
-    ∙ flag_at (is_loose_least ls p s) ls (loose_in ls (take i ls)) (loose_in ls (take (i + 1) ls)) p (loose_more ls i s p l e)
+    m p ∙ ap (λ b. flagged b (g p)) n ∙ ap (flagged (starts_free_ring ls p s)) (k p)
+    ∙ flag_at (starts_free_ring ls p s) ls (starts_in ls (take i ls)) (starts_in ls (take (i + 1) ls)) p (starts_more ls i s p l e)
 
 -- or an open line
 pub line_turn : (ls : List Stroke) (i : ℕ) (s : Stroke) (g : Point → Option Vertex) → i < length ls → s ≡ get_or ls i s → s.closed ≡ false →
-    ((p : Point) → g p ≡ vertex_at ls (loose_in ls (take i ls)) p) →
-    (p : Point) → g p ≡ vertex_at ls (loose_in ls (take (i + 1) ls)) p
+    ((p : Point) → g p ≡ vertex_at ls (starts_in ls (take i ls)) p) →
+    (p : Point) → g p ≡ vertex_at ls (starts_in ls (take (i + 1) ls)) p
 line_turn ls i s g l e c k p =
-    let n : false ≡ is_loose_least ls p s = ap (λ b. b && (list_all (λ q. not (is_junction ls q)) s.positions && is_least p s.positions)) (sym c) in
-    k p ∙ flag_not (vertex_at ls (loose_in ls (take i ls)) p) ∙ ap (λ b. flagged b (vertex_at ls (loose_in ls (take i ls)) p)) n
-    ∙ flag_at (is_loose_least ls p s) ls (loose_in ls (take i ls)) (loose_in ls (take (i + 1) ls)) p (loose_more ls i s p l e)
+    let n : false ≡ starts_free_ring ls p s = ap (λ b. b && (list_all (λ q. not (is_junction ls q)) s.positions && is_least p s.positions)) (sym c) in
+    k p ∙ flag_not (vertex_at ls (starts_in ls (take i ls)) p) ∙ ap (λ b. flagged b (vertex_at ls (starts_in ls (take i ls)) p)) n
+    ∙ flag_at (starts_free_ring ls p s) ls (starts_in ls (take i ls)) (starts_in ls (take (i + 1) ls)) p (starts_more ls i s p l e)
 
-pub all_flagged : (ls : List Stroke) (i : ℕ) (g : Point → Option Vertex) → length ls ≤ i → ((p : Point) → g p ≡ vertex_at ls (loose_in ls (take i ls)) p) → (p : Point) → g p ≡ vertex_at ls (loose_in ls ls) p
-all_flagged ls i g l k p = k p ∙ ap (λ z. vertex_at ls (loose_in ls z) p) (take_all i ls l)
+pub all_flagged : (ls : List Stroke) (i : ℕ) (g : Point → Option Vertex) → length ls ≤ i → ((p : Point) → g p ≡ vertex_at ls (starts_in ls (take i ls)) p) → (p : Point) → g p ≡ vertex_at ls (starts_in ls ls) p
+all_flagged ls i g l k p = k p ∙ ap (λ z. vertex_at ls (starts_in ls z) p) (take_all i ls l)
 
 -- members of a list, and of those that pass a test
 pub member_filter : (t : Point → Bool) (ps : List Point) (p : Point) → is_member (filter t ps) p ≡ (is_member ps p && t p)
@@ -126,7 +126,7 @@ module _ {S : Type 0} (m : IndexMap Point Vertex S) where
   abbrev pub answers : Answers
   answers = record {
     points = keys m;
-    junctions = filter (λ p. is_knot_option (get equal m p)) (keys m);
+    junctions = filter (λ p. at_junction_option (get equal m p)) (keys m);
     cuts = filter (λ p. is_cut_option (get equal m p)) (keys m);
   }
 
@@ -135,19 +135,19 @@ module _ {S : Type 0} (m : IndexMap Point Vertex S) where
   some_at false v = refl
 
   -- where the table knows what the lines say, its answers are theirs
-  pub answers_of : (ls : List Stroke) → IsTable ls (loose_in ls ls) m → IsOf ls answers
+  pub answers_of : (ls : List Stroke) → IsTable ls (starts_in ls ls) m → AnswersFor ls answers
   answers_of ls k = record {
     points = points;
-    junctions = λ p h. member_filter (λ p. is_knot_option (get equal m p)) (keys m) p ∙ ap (λ b. b && is_knot_option (get equal m p)) h ∙ ap is_knot_option (k p) ∙ knot_known ls (loose_in ls ls) p (sym (points p) ∙ h);
-    cuts = λ p h. member_filter (λ p. is_cut_option (get equal m p)) (keys m) p ∙ ap (λ b. b && is_cut_option (get equal m p)) h ∙ ap is_cut_option (k p) ∙ cut_known ls (loose_in ls ls) p (sym (points p) ∙ h);
+    junctions = λ p h. member_filter (λ p. at_junction_option (get equal m p)) (keys m) p ∙ ap (λ b. b && at_junction_option (get equal m p)) h ∙ ap at_junction_option (k p) ∙ junction_known ls (starts_in ls ls) p (sym (points p) ∙ h);
+    cuts = λ p h. member_filter (λ p. is_cut_option (get equal m p)) (keys m) p ∙ ap (λ b. b && is_cut_option (get equal m p)) h ∙ ap is_cut_option (k p) ∙ cut_known ls (starts_in ls ls) p (sym (points p) ∙ h);
   }
     where
       points : (p : Point) → is_member (keys m) p ≡ is_position_of ls p
-      points p = sym (member_known p) ∙ ap is_some (k p) ∙ some_at (is_position_of ls p) (vertex_of ls (loose_in ls ls) p)
+      points p = sym (member_known p) ∙ ap is_some (k p) ∙ some_at (is_position_of ls p) (vertex_of ls (starts_in ls ls) p)
 
   -- an answer of the table is that of the list
-  pub junction_member : (p : Point) → is_member (keys m) p ≡ true → is_knot_option (get equal m p) ≡ is_member (filter (λ p. is_knot_option (get equal m p)) (keys m)) p
-  junction_member p h = sym (member_filter (λ p. is_knot_option (get equal m p)) (keys m) p ∙ ap (λ b. b && is_knot_option (get equal m p)) h)
+  pub junction_member : (p : Point) → is_member (keys m) p ≡ true → at_junction_option (get equal m p) ≡ is_member (filter (λ p. at_junction_option (get equal m p)) (keys m)) p
+  junction_member p h = sym (member_filter (λ p. at_junction_option (get equal m p)) (keys m) p ∙ ap (λ b. b && at_junction_option (get equal m p)) h)
 
   pub cut_member : (p : Point) → is_member (keys m) p ≡ true → is_cut_option (get equal m p) ≡ is_member (filter (λ p. is_cut_option (get equal m p)) (keys m)) p
   cut_member p h = sym (member_filter (λ p. is_cut_option (get equal m p)) (keys m) p ∙ ap (λ b. b && is_cut_option (get equal m p)) h)

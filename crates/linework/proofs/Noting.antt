@@ -19,7 +19,7 @@ use Rattle.linework.specs.declared.vertex.Note.{Note}
 use Rattle.linework.specs.declared.vertex.Vertex.{Vertex}
 use Rattle.linework.specs.Cleaning.{IsCleanList, AllClean}
 use Rattle.linework.specs.Visits.{Visit, visits_from, inner_visits, visits, all_visits, neighbors, first_seen, positions, last, is_end, ends_open, is_turn, is_junction, is_position_of}
-use Rattle.linework.specs.Notes.{equal, with_neighbor, with_neighbors, beside, is_back, known, noted, after, touch, pass, line_notes, notes_of, all_notes, with_position, with_positions, heres, Takes, IsTable, vertex_at, is_knot}
+use Rattle.linework.specs.Notes.{equal, with_neighbor, with_neighbors, beside, is_back, known, noted, after, touch, pass, line_notes, notes_of, all_notes, with_position, with_positions, heres, Takes, IsTable, vertex_at, at_junction}
 use Rattle.linework.proofs.Cleaned.{same_is, same_sym}
 use Rattle.linework.proofs.Numbering.{positions_append, seen_in_order}
 use Rattle.linework.proofs.Settled.{two_settled}
@@ -84,11 +84,11 @@ neighbors_append n [] qs = refl
 neighbors_append n (p ∷ ps) qs = neighbors_append (with_neighbor n p) ps qs
 
 abbrev vertex : Neighbors → Bool → Bool → Bool → Vertex
-vertex n turns ends loose = record { neighbors = n; turns = turns; ends = ends; loose = loose }
+vertex n turns ends is_ring_start = record { neighbors = n; turns = turns; ends = ends; is_ring_start = is_ring_start }
 
 -- what is known of a position is settled by the notes at it
 abbrev adds_up : Option Vertex → List Note → Vertex
-adds_up o ns = vertex (with_neighbors (known o).neighbors (nearby ns)) (list_any (λ n. is_back n.beside) ns || (known o).turns) (list_any (λ n. n.ends) ns || (known o).ends) (known o).loose
+adds_up o ns = vertex (with_neighbors (known o).neighbors (nearby ns)) (list_any (λ n. is_back n.beside) ns || (known o).turns) (list_any (λ n. n.ends) ns || (known o).ends) (known o).is_ring_start
 
 known_after : (o : Option Vertex) (ns : List Note) (p : Point) → known (after o ns p) ≡ adds_up o (at p ns)
 known_after o [] p = refl
@@ -97,11 +97,11 @@ known_after o (n ∷ ns) p = on (same n.here p) (known_after (cond (same n.here 
     on : (b : Bool) → known (after (cond (same n.here p) (Some (noted (known o) n)) o) ns p) ≡ adds_up (cond b (Some (noted (known o) n)) o) (at p ns) →
         known (after (cond (same n.here p) (Some (noted (known o) n)) o) ns p) ≡ adds_up o (cond b (n ∷ at p ns) (at p ns))
     on true h = h
-        ∙ ap (λ x. vertex x (list_any (λ n. is_back n.beside) (at p ns) || (noted (known o) n).turns) (list_any (λ n. n.ends) (at p ns) || (noted (known o) n).ends) (known o).loose)
+        ∙ ap (λ x. vertex x (list_any (λ n. is_back n.beside) (at p ns) || (noted (known o) n).turns) (list_any (λ n. n.ends) (at p ns) || (noted (known o) n).ends) (known o).is_ring_start)
         (neighbors_append (known o).neighbors (beside n.beside) (nearby (at p ns)))
-        ∙ ap (λ x. vertex (with_neighbors (known o).neighbors (beside n.beside ++ nearby (at p ns))) x (list_any (λ n. n.ends) (at p ns) || (noted (known o) n).ends) (known o).loose)
+        ∙ ap (λ x. vertex (with_neighbors (known o).neighbors (beside n.beside ++ nearby (at p ns))) x (list_any (λ n. n.ends) (at p ns) || (noted (known o) n).ends) (known o).is_ring_start)
         (or_swap (list_any (λ n. is_back n.beside) (at p ns)) (is_back n.beside) (known o).turns)
-        ∙ ap (λ x. vertex (with_neighbors (known o).neighbors (beside n.beside ++ nearby (at p ns))) ((is_back n.beside || list_any (λ n. is_back n.beside) (at p ns)) || (known o).turns) x (known o).loose)
+        ∙ ap (λ x. vertex (with_neighbors (known o).neighbors (beside n.beside ++ nearby (at p ns))) ((is_back n.beside || list_any (λ n. is_back n.beside) (at p ns)) || (known o).turns) x (known o).is_ring_start)
         (or_swap (list_any (λ n. n.ends) (at p ns)) n.ends (known o).ends)
     on false h = h
 
@@ -317,8 +317,8 @@ all_taken l m ls i e c h k = (
     known p = k.known p ∙ ap (λ es. after (lookup (equal p) es) (all_notes (take i ls)) p) e ∙ ap (λ ss. after None (all_notes ss) p) (take_all i ls h) ∙ all_noted ls c p
 
 -- a junction is a knot of what is known
-pub knot_is : (ls : List Stroke) (loose : Bool) (p : Point) → is_knot (vertex (with_neighbors Zero (neighbors ls p)) (is_turn ls p) (ends_open ls p) loose) ≡ is_junction ls p
-knot_is ls loose p = ap (λ b. ends_open ls p || (is_turn ls p || not b)) (two_settled (neighbors ls p))
+pub junction_is : (ls : List Stroke) (is_ring_start : Bool) (p : Point) → at_junction (vertex (with_neighbors Zero (neighbors ls p)) (is_turn ls p) (ends_open ls p) is_ring_start) ≡ is_junction ls p
+junction_is ls is_ring_start p = ap (λ b. ends_open ls p || (is_turn ls p || not b)) (two_settled (neighbors ls p))
 
 abbrev pub note : Point → Option (Point × Point) → Bool → Note
 note p o ends = record { here = p; beside = o; ends = ends }

@@ -18,7 +18,7 @@ abbrev pub is_member : List Point → Point → Bool
 is_member ps p = list_any (same p) ps
 
 -- the answers are those of the lines
-pub record IsOf (ls : List Stroke) (v : Answers) : Type 0 where
+pub record AnswersFor (ls : List Stroke) (v : Answers) : Type 0 where
   pub points : (p : Point) → is_member v.points p ≡ is_position_of ls p
   pub junctions : (p : Point) → is_member v.points p ≡ true → is_member v.junctions p ≡ is_junction ls p
   pub cuts : (p : Point) → is_member v.points p ≡ true → is_member v.cuts p ≡ is_cut ls p

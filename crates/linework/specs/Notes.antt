@@ -47,7 +47,7 @@ is_back (Some pair) = same pair.0 pair.1
 
 -- nothing is known yet
 abbrev pub new_vertex : Vertex
-new_vertex = record { neighbors = Zero; turns = false; ends = false; loose = false }
+new_vertex = record { neighbors = Zero; turns = false; ends = false; is_ring_start = false }
 
 abbrev pub known : Option Vertex → Vertex
 known None = new_vertex
@@ -60,7 +60,7 @@ noted v n =
       neighbors = with_neighbors v.neighbors (beside n.beside);
       turns = is_back n.beside || v.turns;
       ends = n.ends || v.ends;
-      loose = v.loose;
+      is_ring_start = v.is_ring_start;
     }
 
 -- what is known of a position after notes
@@ -108,44 +108,44 @@ pub record Takes {S : Type 0} (old new : IndexMap Point Vertex S) (ns : List Not
 
 -- what the lines say of a position; whether it is the least of a ring without a junction, is given
 abbrev pub vertex_of : List Stroke → (Point → Bool) → Point → Vertex
-vertex_of ls is_loose p =
+vertex_of ls starts_ring p =
     record {
       neighbors = with_neighbors Zero (neighbors ls p);
       turns = is_turn ls p;
       ends = ends_open ls p;
-      loose = is_loose p;
+      is_ring_start = starts_ring p;
     }
 
 -- what is known of a position when all lines are read
 abbrev pub vertex_at : List Stroke → (Point → Bool) → Point → Option Vertex
-vertex_at ls is_loose p = if is_position_of ls p then Some (vertex_of ls is_loose p) else None
+vertex_at ls starts_ring p = if is_position_of ls p then Some (vertex_of ls starts_ring p) else None
 
 -- the table knows this of each position
 abbrev pub IsTable : {S : Type 0} → List Stroke → (Point → Bool) → IndexMap Point Vertex S → Type 0
-IsTable ls is_loose m = (p : Point) → get equal m p ≡ vertex_at ls is_loose p
+IsTable ls starts_ring m = (p : Point) → get equal m p ≡ vertex_at ls starts_ring p
 
 -- lines end or turn back there, or there are not exactly two neighbors
-abbrev pub is_knot : Vertex → Bool
-is_knot v = v.ends || (v.turns || not (is_two v.neighbors))
+abbrev pub at_junction : Vertex → Bool
+at_junction v = v.ends || (v.turns || not (is_two v.neighbors))
 
-abbrev pub is_knot_option : Option Vertex → Bool
-is_knot_option None = false
-is_knot_option (Some v) = is_knot v
+abbrev pub at_junction_option : Option Vertex → Bool
+at_junction_option None = false
+at_junction_option (Some v) = at_junction v
 
 -- the same, or it is the least of a ring without a junction
 abbrev pub is_cut_option : Option Vertex → Bool
 is_cut_option None = false
-is_cut_option (Some v) = is_knot v || v.loose
+is_cut_option (Some v) = at_junction v || v.is_ring_start
 
 -- no position of a ring is a junction
 abbrev pub is_free : (Point → Option Vertex) → List Point → Bool
-is_free at ps = list_all (λ q. not (is_knot_option (at q))) ps
+is_free at ps = list_all (λ q. not (at_junction_option (at q))) ps
 
 -- it is the least of a ring without a junction
-abbrev pub loosened : Vertex → Vertex
-loosened v = record { neighbors = v.neighbors; turns = v.turns; ends = v.ends; loose = true }
+abbrev pub with_ring_start : Vertex → Vertex
+with_ring_start v = record { neighbors = v.neighbors; turns = v.turns; ends = v.ends; is_ring_start = true }
 
 -- the same, if the test passes
 abbrev pub flagged : Bool → Option Vertex → Option Vertex
 flagged b None = None
-flagged b (Some v) = if b then Some (loosened v) else Some v
+flagged b (Some v) = if b then Some (with_ring_start v) else Some v

@@ -1,7 +1,7 @@
 //! The linework of layers: their lines and rings in reading order, with equal neighbours as one position, and what is known
 //! of each position of it: whether it is a junction and whether lines are cut there. It stands on `geojson_types`.
 //! The layers above use the contracts of `Lines::of` and, for layers with names, `Lines::of_named`, which give the linework of
-//! `specs/Linework.antt`, and of `Vertices::of`, whose answers are those of `specs/Visits.antt` and `specs/Cuts.antt` (`IsOf` in
+//! `specs/Linework.antt`, and of `Vertices::of`, whose answers are those of `specs/Visits.antt` and `specs/Cuts.antt` (`AnswersFor` in
 //! `specs/Answers.antt`).
 //! The table of positions, with what is noted of each, is in `specs/Notes.antt` and no part of these contracts.
 #![tactic(auto)]

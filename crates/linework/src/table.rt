@@ -6,10 +6,10 @@ ghost use Rattle.geojson_types.specs.Points.{Point};
 ghost use Rattle.geojson_types.specs.Order.{is_least};
 ghost use Rattle.geojson_types.specs.Rings.{same};
 ghost use Rattle.linework.specs.Cleaning.{AllClean};
-ghost use Rattle.linework.specs.Cuts.{is_loose_least};
+ghost use Rattle.linework.specs.Cuts.{starts_free_ring};
 ghost use Rattle.linework.specs.Visits.{first_seen, inner_visits, positions};
 ghost use Rattle.linework.specs.Notes as spec;
-ghost use Rattle.linework.specs.Notes.{equal, pass, notes_of, Takes, IsTable, flagged, is_knot_option, is_cut_option};
+ghost use Rattle.linework.specs.Notes.{equal, pass, notes_of, Takes, IsTable, flagged, at_junction_option, is_cut_option};
 
 use crate::stroke::Stroke;
 use crate::vertex::{Note, Vertex, noted};
@@ -19,10 +19,10 @@ use indexmap::IndexMap;
 use std::alloc::Global;
 
 /// What is known of each position of lines.
-pub type Table = IndexMap<Position, Vertex>;
+pub type PositionTable = IndexMap<Position, Vertex>;
 
 /// The table of the lines, in which no position is the least of a ring yet.
-pub fn table_of(alloc: Global, strokes: &[Stroke]) -> Result<Table, Memory>
+pub fn table_of(alloc: Global, strokes: &[Stroke]) -> Result<PositionTable, Memory>
     requires { AllClean strokes.now }
     ensures known { IfOk result (λ table. IsTable strokes.now (λ p. false) table) }
     ensures order { IfOk result (λ table. keys table ≡ first_seen (positions strokes.now)) }
@@ -46,7 +46,7 @@ fn room_for(strokes: &[Stroke]) -> usize
 }
 
 // Notes the positions and visits of a line.
-fn note_stroke(table: &mut Table, stroke: &Stroke) -> Result<(), Memory>
+fn note_stroke(table: &mut PositionTable, stroke: &Stroke) -> Result<(), Memory>
     requires { 2 ≤ length stroke.now.positions }
     ensures { OnOk result (Takes table.old table.new (notes_of stroke.now)) }
 {
@@ -79,7 +79,7 @@ fn note_stroke(table: &mut Table, stroke: &Stroke) -> Result<(), Memory>
 }
 
 // Notes the visits between the ends.
-fn note_visits(table: &mut Table, positions: &[Position]) -> Result<(), Memory>
+fn note_visits(table: &mut PositionTable, positions: &[Position]) -> Result<(), Memory>
     requires { 2 ≤ length positions.now }
     ensures { OnOk result (Takes table.old table.new (map pass (inner_visits positions.now))) }
 {
@@ -95,7 +95,7 @@ fn note_visits(table: &mut Table, positions: &[Position]) -> Result<(), Memory>
 }
 
 // Takes a note.
-fn note(table: &mut Table, note: Note) -> Result<(), Memory>
+fn note(table: &mut PositionTable, note: Note) -> Result<(), Memory>
     ensures { OnOk result (Takes table.old table.new (note ∷ [])) }
 {
     let here = note.here;
@@ -108,10 +108,10 @@ fn note(table: &mut Table, note: Note) -> Result<(), Memory>
 }
 
 /// Flags the least position of each ring without a junction.
-pub fn flag_rings(table: &mut Table, strokes: &[Stroke])
+pub fn flag_rings(table: &mut PositionTable, strokes: &[Stroke])
     requires clean { AllClean strokes.now }
     requires known { IsTable strokes.now (λ p. false) table.old }
-    ensures known { IsTable strokes.now (λ p. list_any (is_loose_least strokes.now p) strokes.now) table.new }
+    ensures known { IsTable strokes.now (λ p. list_any (starts_free_ring strokes.now p) strokes.now) table.new }
     ensures order { keys table.new ≡ keys table.old }
 {
     for stroke in strokes {
@@ -122,7 +122,7 @@ pub fn flag_rings(table: &mut Table, strokes: &[Stroke])
 }
 
 // Flags the least position of the ring, if no position of it is a junction.
-fn flag_ring(table: &mut Table, ring: &[Position])
+fn flag_ring(table: &mut PositionTable, ring: &[Position])
     requires { 0 < length ring.now }
     ensures known { (p : Point) →
         get equal table.new p ≡ flagged (spec.is_free (get equal table.old) ring.now && is_least p ring.now) (get equal table.old p) }
@@ -133,33 +133,33 @@ fn flag_ring(table: &mut Table, ring: &[Position])
     }
     let least = least(ring);
     if let Some(vertex) = table.get_mut(&least) {
-        vertex.loose = true;
+        vertex.is_ring_start = true;
     }
 }
 
 // Whether no position of the ring is a junction.
-fn is_free(table: &Table, ring: &[Position]) -> bool
+fn is_free(table: &PositionTable, ring: &[Position]) -> bool
     ensures { result ≡ spec.is_free (get equal table.now) ring.now }
 {
     ring.iter().all(|p| !is_junction_in(table, *p))
 }
 
 /// Whether the table knows the position as a junction.
-pub fn is_junction_in(table: &Table, p: Position) -> bool
-    ensures { result ≡ is_knot_option (get equal table.now p) }
+pub fn is_junction_in(table: &PositionTable, p: Position) -> bool
+    ensures { result ≡ at_junction_option (get equal table.now p) }
 {
     match table.get(&p) {
-        Some(vertex) => vertex.is_knot(),
+        Some(vertex) => vertex.at_junction(),
         None => false,
     }
 }
 
 /// Whether the table knows the position as a cut position.
-pub fn is_cut_in(table: &Table, p: Position) -> bool
+pub fn is_cut_in(table: &PositionTable, p: Position) -> bool
     ensures { result ≡ is_cut_option (get equal table.now p) }
 {
     match table.get(&p) {
-        Some(vertex) => vertex.is_knot() || vertex.loose,
+        Some(vertex) => vertex.at_junction() || vertex.is_ring_start,
         None => false,
     }
 }

@@ -22,7 +22,7 @@ pub struct Vertex {
     /// An open line ends there.
     pub ends: bool,
     /// It is the least position of a ring without a junction.
-    pub loose: bool,
+    pub is_ring_start: bool,
 }
 
 impl Vertex {
@@ -34,13 +34,13 @@ impl Vertex {
             neighbors: Neighbors::Zero,
             turns: false,
             ends: false,
-            loose: false,
+            is_ring_start: false,
         }
     }
 
     /// Whether it is a junction.
-    pub fn is_knot(self) -> bool
-        ensures { result ≡ spec.is_knot self }
+    pub fn at_junction(self) -> bool
+        ensures { result ≡ spec.at_junction self }
     {
         self.ends || self.turns || !self.neighbors.are_two()
     }
@@ -56,13 +56,13 @@ pub fn noted(vertex: Vertex, note: Note) -> Vertex
             neighbors: vertex.neighbors,
             turns: vertex.turns,
             ends,
-            loose: vertex.loose,
+            is_ring_start: vertex.is_ring_start,
         };
     };
     Vertex {
         neighbors: vertex.neighbors.with(before).with(after),
         turns: is_same(before, after) || vertex.turns,
         ends,
-        loose: vertex.loose,
+        is_ring_start: vertex.is_ring_start,
     }
 }

@@ -1,11 +1,11 @@
 // Junctions and cut positions of the linework.
 ghost use Rattle.std.specs.Prelude.{◌≡◌, IfOk, Some, position, true};
 ghost use Rattle.geojson_types.specs.Rings.{same};
-ghost use Rattle.linework.specs.Answers.{IsOf, is_member};
+ghost use Rattle.linework.specs.Answers.{AnswersFor, is_member};
 ghost use Rattle.linework.specs.Visits.{first_seen, positions};
 
 use crate::lines::Lines;
-use crate::table::{Table, flag_rings, is_cut_in, is_junction_in, table_of};
+use crate::table::{PositionTable, flag_rings, is_cut_in, is_junction_in, table_of};
 use byte_ends::Memory;
 use geojson_types::Position;
 use std::alloc::Global;
@@ -16,20 +16,20 @@ use std::marker::Model;
 /// over all lines. A cut position is a junction, or the least position of a ring that goes through none.
 #[derive(Debug, Drop)]
 pub struct Vertices {
-    table: Table,
+    table: PositionTable,
 }
 
 impl Model for Vertices {
     ghost use Rattle.std.specs.List.{filter};
     ghost use Rattle.indexmap.specs.IndexMap.{get, keys};
     ghost use Rattle.linework.specs.Answers.{Answers};
-    ghost use Rattle.linework.specs.Notes.{equal, is_knot_option, is_cut_option};
+    ghost use Rattle.linework.specs.Notes.{equal, at_junction_option, is_cut_option};
 
     ghost Value = { Answers };
 
     ghost view = { λ v. record {
       points = keys v.table;
-      junctions = filter (λ p. is_knot_option (get equal v.table p)) (keys v.table);
+      junctions = filter (λ p. at_junction_option (get equal v.table p)) (keys v.table);
       cuts = filter (λ p. is_cut_option (get equal v.table p)) (keys v.table);
     } };
 }
@@ -37,7 +37,7 @@ impl Model for Vertices {
 impl Vertices {
     /// What is known of the positions of these lines.
     pub fn of(alloc: Global, lines: &Lines) -> Result<Vertices, Memory>
-        ensures answers { IfOk result (λ vertices. IsOf lines.now.strokes vertices) }
+        ensures answers { IfOk result (λ vertices. AnswersFor lines.now.strokes vertices) }
         ensures order { IfOk result (λ vertices. vertices.points ≡ first_seen (positions lines.now.strokes)) }
     {
         let strokes = lines.as_slice();

@@ -5,19 +5,19 @@ use Rattle.std.specs.List.{AllByRecursion}
 use Rattle.byte_ends.specs.Ends.{Fed, Drained, Takes, saturated}
 use Rattle.json_value.specs.Text.{json_text}
 use Rattle.geojson_types.specs.declared.counts.Counts.{Counts}
-use Rattle.topo_types.specs.Validity.{AreDistinct}
-use Rattle.topo_types.specs.Values.{topology_value}
-use Rattle.topo_types.specs.declared.object.TopoObject.{TopoObject}
-use Rattle.effective_area.specs.Elimination.{reduced}
-use Rattle.effective_area.specs.Laws.{ZeroLaw}
-use Rattle.built_topology.specs.Built.{built, positions_of, used_arcs, taken_out}
-use Rattle.built_topology.specs.Expected.{expected_dropped}
-use Rattle.built_topology.specs.Laws.{AreSound, DecodesBack, EachSegmentOnce, IsValid}
-use Rattle.built_topology.specs.Layers.{names_of}
-use Rattle.built_topology.proofs.Renumbered.{kept_in, built_objects, built_has_no_transform}
+use Rattle.topojson_types.specs.Validity.{AreDistinct}
+use Rattle.topojson_types.specs.Values.{topology_value}
+use Rattle.topojson_types.specs.declared.object.TopoObject.{TopoObject}
+use Rattle.elimination_meaning.specs.Elimination.{reduced}
+use Rattle.elimination_meaning.specs.Laws.{ZeroLaw}
+use Rattle.build_meaning.specs.Built.{built, positions_of, used_arcs, taken_out}
+use Rattle.build_meaning.specs.Expected.{expected_dropped}
+use Rattle.build_meaning.specs.Laws.{AreSound, DecodesBack, EachSegmentOnce, IsValid}
+use Rattle.build_meaning.specs.Layers.{names_of}
+use Rattle.build_meaning.proofs.Renumbered.{kept_in, built_objects, built_has_no_transform}
 use Rattle.geojson_types.specs.Points.{Point}
-use Rattle.topology_reading.specs.Bounds as bounds
-use Rattle.topology_reading.specs.Laws.{ReadsBack, TextIsRead}
+use Rattle.topojson_meaning.specs.Bounds as bounds
+use Rattle.topojson_meaning.specs.Laws.{ReadsBack, TextIsRead}
 use Rattle.mapchain_engine.specs.declared.fault.BuildFault.{BuildFault}
 use Rattle.mapchain_engine.specs.declared.fault.BuildFault.TheVariants.{EmptyName, DuplicateName, Read, Json, Geo, Write, Memory, NotYet}
 use Rattle.mapchain_engine.specs.declared.report.Report.{Report}

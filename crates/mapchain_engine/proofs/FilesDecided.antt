@@ -8,7 +8,7 @@ use Rattle.decimal_json.specs.declared.fault.JsonFault.{JsonFault}
 use Rattle.decimal_json.specs.declared.fault.JsonFault.TheVariants as text
 use Rattle.json_value.specs.declared.json.Json.{Json as Value}
 use Rattle.geojson_types.specs.declared.layer.FeatureSet.{FeatureSet}
-use Rattle.topo_types.specs.Topologies.{Contents}
+use Rattle.topojson_types.specs.Topologies.{Contents}
 use Rattle.mapchain_engine.specs.declared.file_fault.FileFault.{FileFault}
 use Rattle.mapchain_engine.specs.declared.file_fault.FileFault.TheVariants.{Read, Json, Topo, NoObject, Write, Memory}
 use Rattle.mapchain_engine.specs.declared.summary.Summary.{Summary}

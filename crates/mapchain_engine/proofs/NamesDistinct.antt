@@ -3,7 +3,7 @@ use Rattle.std.proofs.Common.{◌≡◌, ◌≢◌, ℕ, Bool, true, false, ◌|
 use Rattle.std.specs.Prelude.{bytes_eq}
 use Rattle.std.proofs.lemmas.Slice.Eq.{bytes_eq-Decides}
 use Rattle.std.specs.List.{AllByRecursion}
-use Rattle.topo_types.specs.Validity.{AreDistinct}
+use Rattle.topojson_types.specs.Validity.{AreDistinct}
 use Rattle.mapchain_engine.specs.declared.fault.BuildFault.TheVariants.{DuplicateName}
 use Rattle.mapchain_engine.specs.Names.{is_among, fault_of_name, or_else, name_fault, name_fault_behind}
 

@@ -19,10 +19,10 @@ use Rattle.geojson_model.proofs.SoundFeatures.{IsSoundFeature}
 use Rattle.geojson_model.proofs.SoundLayers.{layer_sound}
 use Rattle.geojson_model.proofs.Sound as shape
 use Rattle.json_members.proofs.Yields.{IfThere}
-use Rattle.built_topology.specs.Laws.{IsSound, AreSound, IsRingIfClosed}
-use Rattle.built_topology.specs.Layers.{names_of}
-use Rattle.built_topology.specs.Objects.{Kept, features_by, objects_by}
-use Rattle.topology_reading.specs.Bounds as bounds
+use Rattle.build_meaning.specs.Laws.{IsSound, AreSound, IsRingIfClosed}
+use Rattle.build_meaning.specs.Layers.{names_of}
+use Rattle.build_meaning.specs.Objects.{Kept, features_by, objects_by}
+use Rattle.topojson_meaning.specs.Bounds as bounds
 use Rattle.mapchain_engine.specs.Reading.{layer_depth}
 use Rattle.mapchain_engine.specs.Sources.{Sources, Named, IsLayerRead, AllRead}
 

@@ -10,16 +10,16 @@ use Rattle.geojson_types.specs.Counting.{no_counts}
 use Rattle.geojson_types.specs.declared.address.Dropped.{Dropped}
 use Rattle.geojson_types.specs.Points.{Point}
 use Rattle.json_value.specs.Text.{json_text}
-use Rattle.topo_types.specs.Decoding.{decoded}
-use Rattle.topo_types.specs.Topologies.{Contents}
-use Rattle.topo_types.specs.Values.{topology_value}
+use Rattle.topojson_types.specs.Decoding.{decoded}
+use Rattle.topojson_types.specs.Topologies.{Contents}
+use Rattle.topojson_types.specs.Values.{topology_value}
 use Rattle.arc_table.specs.Laws.{AreOnceIn}
-use Rattle.built_topology.specs.Built.{all_arcs, built, positions_of, taken_out}
-use Rattle.built_topology.specs.Expected.{expected, expected_dropped}
-use Rattle.built_topology.specs.Layers.{layers_of, names_of}
+use Rattle.build_meaning.specs.Built.{all_arcs, built, positions_of, taken_out}
+use Rattle.build_meaning.specs.Expected.{expected, expected_dropped}
+use Rattle.build_meaning.specs.Layers.{layers_of, names_of}
 use Rattle.cutter.specs.Segments.{line_segments}
 use Rattle.linework.specs.Linework.{linework}
-use Rattle.topology_reading.specs.Topologies.{topology}
+use Rattle.topojson_meaning.specs.Topologies.{topology}
 use Rattle.mapchain_engine.specs.declared.fault.BuildFault.{BuildFault}
 use Rattle.mapchain_engine.specs.declared.fault.BuildFault.TheVariants.{Write, NotYet, Memory}
 use Rattle.mapchain_engine.specs.declared.options.Options.{Options}

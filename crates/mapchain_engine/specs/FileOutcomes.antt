@@ -7,10 +7,10 @@ use Rattle.decimal_json.specs.declared.fault.JsonFault.{JsonFault}
 use Rattle.json_value.specs.declared.json.Json.{Json as Value}
 use Rattle.geojson_types.specs.declared.counts.Counts.{Counts}
 use Rattle.geojson_types.specs.declared.layer.FeatureSet.{FeatureSet}
-use Rattle.topo_types.specs.Decoding.{decoded}
-use Rattle.topo_types.specs.Topologies.{Contents}
-use Rattle.topology_reading.specs.declared.fault.TopoFault.{TopoFault}
-use Rattle.topology_reading.specs.Topologies.{topology}
+use Rattle.topojson_types.specs.Decoding.{decoded}
+use Rattle.topojson_types.specs.Topologies.{Contents}
+use Rattle.topojson_meaning.specs.declared.fault.TopoFault.{TopoFault}
+use Rattle.topojson_meaning.specs.Topologies.{topology}
 use Rattle.mapchain_engine.specs.declared.file_fault.FileFault.{FileFault}
 use Rattle.mapchain_engine.specs.declared.file_fault.FileFault.TheVariants.{Read, Json, Topo, NoObject, Write, Memory}
 use Rattle.mapchain_engine.specs.declared.summary.Summary.{Summary}

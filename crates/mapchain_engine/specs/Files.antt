@@ -4,9 +4,9 @@ use Rattle.byte_ends.specs.Ends.{Fed}
 use Rattle.json_value.specs.declared.json.Json.{Json as Value}
 use Rattle.json_value.specs.Grammar.{Reads}
 use Rattle.geojson_types.specs.declared.counts.Counts.{Counts}
-use Rattle.topo_types.specs.Topologies.{Contents}
-use Rattle.topology_reading.specs.declared.fault.TopoFault.TheVariants as topo
-use Rattle.topology_reading.specs.Topologies.{topology}
+use Rattle.topojson_types.specs.Topologies.{Contents}
+use Rattle.topojson_meaning.specs.declared.fault.TopoFault.TheVariants as topo
+use Rattle.topojson_meaning.specs.Topologies.{topology}
 use Rattle.mapchain_engine.specs.declared.file_fault.FileFault.{FileFault}
 use Rattle.mapchain_engine.specs.declared.file_fault.FileFault.TheVariants.{Read, Json, Topo, NoObject, Write, Memory}
 use Rattle.mapchain_engine.specs.Reading.{IsNoText, IsRead, FailsToEnd}

@@ -5,8 +5,8 @@ use Rattle.byte_ends.specs.Writes.{WritesAll, WritesFront}
 use Rattle.json_value.specs.Text.{json_text}
 use Rattle.geojson_types.specs.declared.layer.FeatureSet.{FeatureSet}
 use Rattle.geojson_writer.specs.FeatureValues.{features_value}
-use Rattle.topo_types.specs.Decoding.{decoded}
-use Rattle.topo_types.specs.Topologies.{Contents}
+use Rattle.topojson_types.specs.Decoding.{decoded}
+use Rattle.topojson_types.specs.Topologies.{Contents}
 use Rattle.mapchain_engine.specs.declared.file_fault.FileFault.{FileFault}
 use Rattle.mapchain_engine.specs.declared.file_fault.FileFault.TheVariants.{NoObject, Write}
 use Rattle.mapchain_engine.specs.Files.{IsTopologyRead, FailsToGive}

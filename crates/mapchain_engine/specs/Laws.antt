@@ -4,10 +4,10 @@ use Rattle.std.specs.List.{AllByRecursion}
 use Rattle.byte_ends.specs.Ends.{Fed, Drained}
 use Rattle.byte_ends.specs.Writes.{WritesAll}
 use Rattle.geojson_types.specs.declared.layer.FeatureSet.TheVariants.{Many}
-use Rattle.built_topology.specs.Built.{built}
-use Rattle.built_topology.specs.Expected.{expected, kept_line}
-use Rattle.built_topology.specs.Laws.{whole_line}
-use Rattle.built_topology.specs.Layers.{layers_of, named_strokes}
+use Rattle.build_meaning.specs.Built.{built}
+use Rattle.build_meaning.specs.Expected.{expected, kept_line}
+use Rattle.build_meaning.specs.Laws.{whole_line}
+use Rattle.build_meaning.specs.Layers.{layers_of, named_strokes}
 use Rattle.linework.specs.Linework.{linework}
 use Rattle.mapchain_engine.specs.declared.report.Report.{Report}
 use Rattle.mapchain_engine.specs.declared.summary.Summary.{Summary}

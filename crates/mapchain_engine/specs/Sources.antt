@@ -4,7 +4,7 @@ use Rattle.byte_ends.specs.Ends.{Fed, saturated}
 use Rattle.geojson_types.specs.declared.counts.Counts.{Counts}
 use Rattle.geojson_types.specs.Counting.{no_counts}
 use Rattle.geojson_types.specs.declared.layer.Layer.{Layer}
-pub use Rattle.built_topology.specs.Layers.{Named}
+pub use Rattle.build_meaning.specs.Layers.{Named}
 use Rattle.mapchain_engine.specs.declared.fault.BuildFault.{BuildFault}
 use Rattle.mapchain_engine.specs.declared.fault.BuildFault.TheVariants.{Memory}
 use Rattle.mapchain_engine.specs.Reading.{IsRead, SpellsLayer, FailsToRead}

@@ -2,8 +2,8 @@
 use Rattle.std.specs.Prelude.{◌≡◌, ℕ, Bool, true, false, List, [], ◌∷◌, ◌++◌, Option, Some, None, length, map, codes}
 use Rattle.byte_ends.specs.Ends.{Fed}
 use Rattle.json_value.specs.Text.{quoted}
-use Rattle.topo_types.specs.Topologies.{Contents, object_features}
-use Rattle.topo_types.specs.declared.object.TopoObject.{TopoObject}
+use Rattle.topojson_types.specs.Topologies.{Contents, object_features}
+use Rattle.topojson_types.specs.declared.object.TopoObject.{TopoObject}
 use Rattle.mapchain_engine.specs.declared.summary.Summary.{Summary}
 use Rattle.mapchain_engine.specs.Building.{positions_in}
 use Rattle.mapchain_engine.specs.Files.{IsTopologyRead}

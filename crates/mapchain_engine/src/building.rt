@@ -1,9 +1,9 @@
 // Building a topology.
 ghost use Rattle.std.specs.Prelude.{◌≡◌, ◌⊎◌, ℕ, List, None, Some, IfOk, IfErr, map};
 ghost use Rattle.json_value.specs.Text.{json_text};
-ghost use Rattle.topo_types.specs.Values.{topology_value};
+ghost use Rattle.topojson_types.specs.Values.{topology_value};
 ghost use Rattle.arc_table.specs.Arcs.{table_of};
-ghost use Rattle.built_topology.specs.Layers.{layers_of};
+ghost use Rattle.build_meaning.specs.Layers.{layers_of};
 ghost use Rattle.cutter.specs.Slices.{split_of};
 ghost use Rattle.linework.specs.Linework.{linework};
 ghost use Rattle.mapchain_engine.specs.Building as spec;
@@ -17,10 +17,10 @@ use crate::options::Options;
 use crate::reading::read_layers;
 use crate::report::Report;
 use arc_table::Table;
-use built_topology::{built_decodes_back, built_is_valid, each_segment_once};
+use build_meaning::{built_decodes_back, built_is_valid, each_segment_once};
 use byte_ends::{Broken, Drain, Feed, Memory, Sink, Source, WriteFault};
 use cutter::cut;
-use effective_area::zero_law;
+use elimination_meaning::zero_law;
 use geojson_model::{Counts, Layer};
 use geojson_types::Dropped;
 use json_value::{Items, OwnText};
@@ -28,7 +28,7 @@ use linework::{Lines, Vertices};
 use std::alloc::Global;
 use topo_model::{Cell, Topology, assemble};
 use topojson_writer::write_topology;
-use topology_reading::{reads_back, topology_text_is_read};
+use topojson_meaning::{reads_back, topology_text_is_read};
 
 /// Writes the topology, which has no transform, and flushes the sink.
 fn send<W: Drain>(topology: &Topology, sink: &mut Sink<W>) -> Result<(), BuildFault>

@@ -1,7 +1,7 @@
 // Laws of the contracts. A function here does nothing: its contract is the law.
 ghost use Rattle.mapchain_engine.specs.Laws.{DecodesBack, LosesNothing, SummarisesBack};
 
-use built_topology::zero_loses_nothing;
+use build_meaning::zero_loses_nothing;
 
 /// What `build` wrote, at any threshold, `to_geo` reads again: with the name of a layer, answering `Ok`, it writes the text of the
 /// features that are expected of this layer, the same as in the contract of `build`.

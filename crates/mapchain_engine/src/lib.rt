@@ -1,8 +1,8 @@
 //! Builds a topology (TopoJSON 1.0) of GeoJSON layers (RFC 7946), decodes the objects of one again, and counts what is in one:
 //! from the bytes that are read to the bytes that are written. It stands on `decimal_json` for JSON and the ends of byte streams, on
 //! `geojson_model` for layers, on `linework`, `cutter` and `arc_table` for the arcs that their lines share, on `topo_model` for the
-//! topology over these, on `topojson_writer` for its text, on `topojson_decoder` for reading one, and on `topology_reading` and
-//! `built_topology` for the laws that what is written decodes to what is expected of the layers. A program above uses the contracts
+//! topology over these, on `topojson_writer` for its text, on `topojson_decoder` for reading one, and on `topojson_meaning` and
+//! `build_meaning` for the laws that what is written decodes to what is expected of the layers. A program above uses the contracts
 //! of `build`, `to_geo` and `stat`, and the laws of `laws.rt`, which join them.
 #![tactic(auto)]
 

@@ -1,6 +1,6 @@
 // Summaries of topologies.
 ghost use Rattle.std.specs.Prelude.{◌≡◌, ℕ, List, Some, Result, IfOk, IfErr, length, map};
-ghost use Rattle.topo_types.specs.Topologies.{object_features};
+ghost use Rattle.topojson_types.specs.Topologies.{object_features};
 ghost use Rattle.mapchain_engine.specs.declared.file_fault.FileFault.{FileFault as Fault};
 ghost use Rattle.mapchain_engine.specs.declared.summary.Summary.{Summary as Counted};
 ghost use Rattle.mapchain_engine.specs.FileOutcomes.{FileComesTo, FollowsSummary, summarised};

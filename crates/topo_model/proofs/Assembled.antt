@@ -2,21 +2,21 @@
 use Rattle.std.proofs.Common.{◌≡◌, ℕ, ℤ, Bool, true, false, not, ◌||◌, List, [], ◌∷◌, map, length, Option, None, Some, refl, sym, ap, ◌∙◌, if◌then◌else◌}
 use Rattle.std.specs.List.{AllByRecursion, list_any}
 use Rattle.arc_table.specs.Arcs.{ArcsAndIndexes, arcs_of, index_in, table_of}
-use Rattle.built_topology.specs.Built.{all_arcs, kept_refs, untrimmed, built}
-use Rattle.built_topology.specs.Candidates.{Candidate, fate, if_kept, named_candidates}
-use Rattle.built_topology.specs.Expected.{own_pieces, rebuilt, is_small, own_cause, unless, option_omissions, expected_dropped}
-use Rattle.built_topology.specs.Laws.{AreSound, LosesNothing}
-use Rattle.built_topology.specs.Layers.{Named, layers_of, features_strokes, named_strokes}
-use Rattle.built_topology.specs.Objects.{Kept, features_by, objects_by}
-use Rattle.built_topology.specs.Trimming.{is_used, keep_from, renumbered, line_renumbered, object_renumbered, trimmed}
-use Rattle.built_topology.proofs.Candidates.{map_map, stroke, named_are, own_left, objects_left}
-use Rattle.built_topology.proofs.Linework.{long_of, long_strokes, split_lists}
-use Rattle.built_topology.proofs.Lists.{weaker}
-use Rattle.built_topology.proofs.Once.{same_pieces}
-use Rattle.built_topology.proofs.Renumbered.{kept_renumbered, objects_once}
-use Rattle.built_topology.proofs.Whole.{each_stays}
+use Rattle.build_meaning.specs.Built.{all_arcs, kept_refs, untrimmed, built}
+use Rattle.build_meaning.specs.Candidates.{Candidate, fate, if_kept, named_candidates}
+use Rattle.build_meaning.specs.Expected.{own_pieces, rebuilt, is_small, own_cause, unless, option_omissions, expected_dropped}
+use Rattle.build_meaning.specs.Laws.{AreSound, LosesNothing}
+use Rattle.build_meaning.specs.Layers.{Named, layers_of, features_strokes, named_strokes}
+use Rattle.build_meaning.specs.Objects.{Kept, features_by, objects_by}
+use Rattle.build_meaning.specs.Trimming.{is_used, keep_from, renumbered, line_renumbered, object_renumbered, trimmed}
+use Rattle.build_meaning.proofs.Candidates.{map_map, stroke, named_are, own_left, objects_left}
+use Rattle.build_meaning.proofs.Linework.{long_of, long_strokes, split_lists}
+use Rattle.build_meaning.proofs.Lists.{weaker}
+use Rattle.build_meaning.proofs.Once.{same_pieces}
+use Rattle.build_meaning.proofs.Renumbered.{kept_renumbered, objects_once}
+use Rattle.build_meaning.proofs.Whole.{each_stays}
 use Rattle.cutter.specs.Slices.{split_of, piece_lists}
-use Rattle.effective_area.specs.Laws.{ZeroLaw}
+use Rattle.elimination_meaning.specs.Laws.{ZeroLaw}
 use Rattle.geojson_types.specs.declared.address.Cause.{Cause}
 use Rattle.geojson_types.specs.declared.address.Cause.TheVariants.{Collapsed, Small, Outer}
 use Rattle.geojson_types.specs.Features.{Shape, Featured}
@@ -29,8 +29,8 @@ use Rattle.geojson_types.proofs.Omitted.{omissions_agree}
 use Rattle.linework.specs.Cleaning.{clean, is_short}
 use Rattle.linework.specs.Linework.{linework}
 use Rattle.linework.specs.declared.stroke.Stroke.{Stroke}
-use Rattle.topo_types.specs.declared.object.TopoObject.{TopoObject}
-use Rattle.topo_types.specs.Topologies.{Contents}
+use Rattle.topojson_types.specs.declared.object.TopoObject.{TopoObject}
+use Rattle.topojson_types.specs.Topologies.{Contents}
 use Rattle.topo_model.specs.Drops.{short_cause, option_drops, drops}
 use Rattle.topo_model.specs.Entries.{Entries, entries_of}
 use Rattle.topo_model.specs.Fates.{fates, dealt, dealt_kept}

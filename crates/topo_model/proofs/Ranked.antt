@@ -3,8 +3,8 @@ use Rattle.std.proofs.Common.{◌≡◌, ℕ, zero, suc, ◌+◌, ◌<◌, ◌�
 use Rattle.std.specs.Prelude.{slice_get, Some}
 use Rattle.std.proofs.lemmas.List.{length-take, take_more}
 use Rattle.std.proofs.lemmas.Option.{slice_get-get_or, slice_get_within, get_or_from_slice_get}
-use Rattle.built_topology.specs.Trimming.{keep_from, rank_from, renumbered}
-use Rattle.topo_types.specs.Joins.{number_of, is_reversed}
+use Rattle.build_meaning.specs.Trimming.{keep_from, rank_from, renumbered}
+use Rattle.topojson_types.specs.Joins.{number_of, is_reversed}
 use Rattle.topo_model.specs.Uses.{answers}
 
 -- ---- answers

@@ -6,8 +6,8 @@ use Rattle.geojson_types.specs.Lists.{map_some, then_some, some_of, unless_empty
 use Rattle.geojson_types.specs.Points.{Point}
 use Rattle.geojson_types.specs.Pruning.{area_by, prune, strokes, option_strokes}
 use Rattle.geojson_types.proofs.Cases.{prune-point, prune-points, prune-line, prune-lines, prune-area, prune-areas, prune-group, strokes-point, strokes-points, strokes-line, strokes-lines, strokes-area, strokes-areas, strokes-group}
-use Rattle.topo_types.specs.Topologies.{TopoShape}
-use Rattle.built_topology.specs.Objects.{Kept}
+use Rattle.topojson_types.specs.Topologies.{TopoShape}
+use Rattle.build_meaning.specs.Objects.{Kept}
 use Rattle.topo_model.specs.Entries.{Entries, entries_of, Replaces}
 use Rattle.topo_model.proofs.Taking.{Taken, tagged, SoFar, ends}
 

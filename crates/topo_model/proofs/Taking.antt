@@ -6,8 +6,8 @@ use Rattle.geojson_types.specs.Lists.{map_some, with_some, some_of, joined, tail
 use Rattle.geojson_types.specs.Lists as lists
 use Rattle.geojson_types.specs.Points.{Point}
 use Rattle.geojson_types.specs.Pruning.{area_by}
-use Rattle.built_topology.specs.Objects.{Kept}
-use Rattle.built_topology.proofs.Candidates.{some_append}
+use Rattle.build_meaning.specs.Objects.{Kept}
+use Rattle.build_meaning.proofs.Candidates.{some_append}
 use Rattle.topo_model.specs.Entries.{Entries, next_of, entries_of, Replaces}
 
 -- ---- lists

@@ -13,9 +13,9 @@ use Rattle.geojson_types.specs.Omissions.{here, area_omissions, omissions_step, 
 use Rattle.geojson_types.specs.Paths.{Placed, inside_part, of_parts}
 use Rattle.geojson_types.specs.Points.{Point}
 use Rattle.geojson_types.proofs.Cases.{omissions-line, omissions-lines, omissions-area, omissions-areas, omissions-group}
-use Rattle.built_topology.specs.Candidates.{Candidate, free, area_candidates, candidates, option_candidates, features_candidates, named_candidates, fate}
-use Rattle.built_topology.proofs.Candidates as candidate
-use Rattle.built_topology.specs.Layers.{Named}
+use Rattle.build_meaning.specs.Candidates.{Candidate, free, area_candidates, candidates, option_candidates, features_candidates, named_candidates, fate}
+use Rattle.build_meaning.proofs.Candidates as candidate
+use Rattle.build_meaning.specs.Layers.{Named}
 use Rattle.geojson_types.specs.declared.layer.Layer.{Layer}
 use Rattle.linework.specs.Gathering.{part_address}
 use Rattle.linework.specs.Linework.{feature_address}

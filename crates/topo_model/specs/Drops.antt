@@ -1,7 +1,7 @@
 -- The lines and rings of layers that are dropped where nothing is reduced: those with too few positions, and the rings of a polygon
 -- whose outer ring is dropped.
 use Rattle.std.specs.Prelude.{ℕ, Bool, List, [], ◌++◌, Option, None, Some, map, if◌then◌else◌}
-use Rattle.built_topology.specs.Layers.{Named}
+use Rattle.build_meaning.specs.Layers.{Named}
 use Rattle.geojson_types.specs.declared.address.Address.{Address}
 use Rattle.geojson_types.specs.declared.address.Cause.{Cause}
 use Rattle.geojson_types.specs.declared.address.Cause.TheVariants.{Collapsed}

@@ -1,6 +1,6 @@
 -- Entries: what stands for each line and ring in reading order, if it is kept, and what is made of a shape and the like by them.
 use Rattle.std.specs.Prelude.{◌≡◌, ℤ, Bool, List, [], ◌∷◌, ◌++◌, map, Option, None}
-use Rattle.built_topology.specs.Objects.{Kept}
+use Rattle.build_meaning.specs.Objects.{Kept}
 use Rattle.geojson_types.specs.Points.{Point}
 
 abbrev pub Entries : Type 0

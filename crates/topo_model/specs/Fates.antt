@@ -1,6 +1,6 @@
 -- What becomes of lines and rings where nothing is reduced, and which line of the linework stands for each.
 use Rattle.std.specs.Prelude.{Bool, true, false, List, [], ◌∷◌, map, Option, None, Some, if◌then◌else◌}
-use Rattle.built_topology.specs.Candidates.{Candidate, fate, if_kept}
+use Rattle.build_meaning.specs.Candidates.{Candidate, fate, if_kept}
 use Rattle.geojson_types.specs.declared.address.Cause.{Cause}
 use Rattle.geojson_types.specs.declared.address.Cause.TheVariants.{Collapsed, Small, Outer}
 use Rattle.geojson_types.specs.Lists.{some_of, tail}

@@ -1,37 +1,37 @@
 // The objects of a topology, made of layers, and the topology.
 ghost use Rattle.std.specs.Prelude.{◌≡◌, ◌<◌, ◌^◌, IfOk, None, length, map};
 ghost use Rattle.arc_table.specs.Arcs.{table_of};
-ghost use Rattle.built_topology.specs.Built.{built};
-ghost use Rattle.built_topology.specs.Expected.{expected_dropped};
-ghost use Rattle.built_topology.specs.Laws.{AreSound};
-ghost use Rattle.built_topology.specs.Layers.{features_strokes, layers_of, named_strokes, names_of};
-ghost use Rattle.built_topology.specs.Objects.{Kept, feature_by, features_by, objects_by};
+ghost use Rattle.build_meaning.specs.Built.{built};
+ghost use Rattle.build_meaning.specs.Expected.{expected_dropped};
+ghost use Rattle.build_meaning.specs.Laws.{AreSound};
+ghost use Rattle.build_meaning.specs.Layers.{features_strokes, layers_of, named_strokes, names_of};
+ghost use Rattle.build_meaning.specs.Objects.{Kept, feature_by, features_by, objects_by};
 ghost use Rattle.cutter.specs.Slices.{split_of};
 ghost use Rattle.geojson_types.specs.Pruning.{option_strokes};
 ghost use Rattle.linework.specs.Linework.{linework};
-ghost use Rattle.topo_types.specs.Validity.{AreDistinct};
+ghost use Rattle.topojson_types.specs.Validity.{AreDistinct};
 ghost use Rattle.topo_model.specs.Entries.{Replaces, entries_of};
 
 use crate::dropping::fates_of;
-use crate::entries::Entry;
+use crate::entries::KeptArcs;
 use crate::marking::used_arcs;
 use crate::shapes::replaced_option;
 use crate::trimming::{kept_arcs, renumbered_entries};
 use arc_table::Table;
-use built_topology::{built_is_valid, zero_loses_nothing};
+use build_meaning::{built_is_valid, zero_loses_nothing};
 use byte_ends::Memory;
-use effective_area::zero_law;
+use elimination_meaning::zero_law;
 use geojson_types::{Dropped, Feature, Layer};
 use json_value::{Items, OwnText};
 use std::alloc::Global;
-use topo_types::{Cell, TopoFeature, TopoObject, Topology};
+use topojson_types::{Cell, TopoFeature, TopoObject, Topology};
 
 /// The feature with its lines replaced by the next entries, and the entries behind them. Identifier and properties are moved.
 fn object_feature<'a>(
     alloc: Global,
     feature: Feature,
-    entries: &'a [Entry],
-) -> Result<(TopoFeature, &'a [Entry]), Memory>
+    entries: &'a [KeptArcs],
+) -> Result<(TopoFeature, &'a [KeptArcs]), Memory>
     ensures { IfOk result (λ r. Replaces (option_strokes feature.shape) (λ kept. feature_by kept feature) entries.now r.0 r.1.now) }
 {
     let (id, properties, shape) = feature.into_parts();
@@ -48,8 +48,8 @@ fn object_feature<'a>(
 fn object_features<'a>(
     alloc: Global,
     features: Vec<Feature>,
-    entries: &'a [Entry],
-) -> Result<(Vec<TopoFeature>, &'a [Entry]), Memory>
+    entries: &'a [KeptArcs],
+) -> Result<(Vec<TopoFeature>, &'a [KeptArcs]), Memory>
     ensures { IfOk result (λ r. Replaces (features_strokes features.items) (λ kept. features_by kept features.items) entries.now r.0.items r.1.now) }
 {
     let mut made = Vec::with_capacity(alloc, features.len())?;
@@ -66,8 +66,8 @@ fn object_features<'a>(
 fn named_objects<'a>(
     alloc: Global,
     layers: Vec<(OwnText, Layer)>,
-    entries: &'a [Entry],
-) -> Result<(Vec<(OwnText, TopoObject)>, &'a [Entry]), Memory>
+    entries: &'a [KeptArcs],
+) -> Result<(Vec<(OwnText, TopoObject)>, &'a [KeptArcs]), Memory>
     ensures { IfOk result (λ r. Replaces (named_strokes layers.items) (λ kept. objects_by kept layers.items) entries.now r.0.items r.1.now) }
 {
     let mut objects = Vec::with_capacity(alloc, layers.len())?;
@@ -85,7 +85,7 @@ fn named_objects<'a>(
 fn assemble_objects(
     alloc: Global,
     layers: Vec<(OwnText, Layer)>,
-    entries: &[Entry],
+    entries: &[KeptArcs],
 ) -> Result<Vec<(OwnText, TopoObject)>, Memory>
     ensures { IfOk result (λ os. (kept : Kept) → entries.now ≡ entries_of kept (named_strokes layers.items) → os.items ≡ objects_by kept layers.items) }
 {

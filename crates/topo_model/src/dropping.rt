@@ -1,6 +1,6 @@
 // What becomes of the lines and rings of layers: why each is dropped, if it is, and where those stand that are.
 ghost use Rattle.std.specs.Prelude.{◌≡◌, ℕ, ◌∷◌, [], ◌++◌, IfOk, OnOk, map, true, false};
-ghost use Rattle.built_topology.specs.Candidates.{area_candidates, candidates, features_candidates, free, named_candidates};
+ghost use Rattle.build_meaning.specs.Candidates.{area_candidates, candidates, features_candidates, free, named_candidates};
 ghost use Rattle.geojson_types.specs.declared.address.Address as declared;
 ghost use Rattle.geojson_types.specs.Lists.{joined};
 ghost use Rattle.geojson_types.specs.Omissions.{here, inner_cause, area_omissions, omissions};

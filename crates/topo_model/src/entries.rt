@@ -6,10 +6,10 @@ ghost use Rattle.topo_model.specs.Entries.{next_of};
 use byte_ends::Memory;
 use json_value::Items;
 use std::alloc::Global;
-use topo_types::ArcRef;
+use topojson_types::ArcRef;
 
 /// The arc indexes that stand for a line or a ring, or `None` where it is left out.
-pub type Entry = Option<Items<ArcRef>>;
+pub type KeptArcs = Option<Items<ArcRef>>;
 
 /// The same arc indexes once more.
 fn copied(alloc: Global, refs: &[ArcRef]) -> Result<Items<ArcRef>, Memory>
@@ -21,7 +21,7 @@ fn copied(alloc: Global, refs: &[ArcRef]) -> Result<Items<ArcRef>, Memory>
 }
 
 /// What stands for the next line or ring, and the entries behind it. Where no entry is left it has none.
-pub fn next_entry<'a>(alloc: Global, entries: &'a [Entry]) -> Result<(Entry, &'a [Entry]), Memory>
+pub fn next_entry<'a>(alloc: Global, entries: &'a [KeptArcs]) -> Result<(KeptArcs, &'a [KeptArcs]), Memory>
     ensures taken { IfOk result (λ r. r.0 ≡ next_of entries.now) }
     ensures rest { IfOk result (λ r. r.1.now ≡ tail entries.now) }
 {
@@ -38,8 +38,8 @@ pub fn next_entry<'a>(alloc: Global, entries: &'a [Entry]) -> Result<(Entry, &'a
 pub fn next_entries<'a>(
     alloc: Global,
     count: usize,
-    entries: &'a [Entry],
-) -> Result<(Vec<Items<ArcRef>>, &'a [Entry]), Memory>
+    entries: &'a [KeptArcs],
+) -> Result<(Vec<Items<ArcRef>>, &'a [KeptArcs]), Memory>
     ensures kept { IfOk result (λ r. r.0.items ≡ some_of (λ e. e) (take count entries.now)) }
     ensures rest { IfOk result (λ r. r.1.now ≡ drop count entries.now) }
 {

@@ -1,5 +1,5 @@
 //! From layers and the table of their arcs to a topology (TopoJSON 1.0): each line and ring is replaced by its arc indexes, what
-//! has too few positions is dropped, and arcs that no line uses are left out. It stands on `built_topology`, which says what
+//! has too few positions is dropped, and arcs that no line uses are left out. It stands on `build_meaning`, which says what
 //! topology that is, and on `arc_table`. The layer above uses the contract of `assemble`.
 #![tactic(auto)]
 
@@ -12,7 +12,7 @@ mod shapes;
 mod trimming;
 
 pub use assembling::assemble;
-pub use topo_types::{
+pub use topojson_types::{
     ArcRef, CELL_LIMIT, Cell, GRID_LIMIT, SumFault, TopoFeature, TopoObject, TopoShape, Topology,
     Transform, TransformNumber, placed, sums,
 };

@@ -9,7 +9,7 @@ use arc_table::Table;
 use byte_ends::Memory;
 use geojson_types::Cause;
 use std::alloc::Global;
-use topo_types::ArcRef;
+use topojson_types::ArcRef;
 
 /// Sets the flags of the arcs that the indexes name.
 fn mark_refs(refs: &[ArcRef], used: &mut [bool])

@@ -4,12 +4,12 @@ ghost use Rattle.geojson_types.specs.Lists.{joined, some_of, then_some};
 ghost use Rattle.geojson_types.specs.Pruning.{area_by, option_strokes, prune, strokes};
 ghost use Rattle.topo_model.specs.Entries.{Replaces};
 
-use crate::entries::{Entry, next_entries, next_entry};
+use crate::entries::{KeptArcs, next_entries, next_entry};
 use byte_ends::Memory;
 use geojson_types::{Geometry, Position, Ring, Shape};
 use json_value::Items;
 use std::alloc::Global;
-use topo_types::{ArcRef, Cell, TopoShape};
+use topojson_types::{ArcRef, Cell, TopoShape};
 
 /// The cells of positions.
 pub fn cells(alloc: Global, positions: &[Position]) -> Result<Items<Cell>, Memory>
@@ -26,8 +26,8 @@ pub fn cells(alloc: Global, positions: &[Position]) -> Result<Items<Cell>, Memor
 fn area<'a>(
     alloc: Global,
     rings: &[Ring],
-    entries: &'a [Entry],
-) -> Result<(Option<Items<Items<ArcRef>>>, &'a [Entry]), Memory>
+    entries: &'a [KeptArcs],
+) -> Result<(Option<Items<Items<ArcRef>>>, &'a [KeptArcs]), Memory>
     ensures { IfOk result (λ r. Replaces (map (λ l. (true, l)) rings.now) (λ kept. area_by (kept true) rings.now) entries.now r.0 r.1.now) }
 {
     if rings.is_empty() {
@@ -46,8 +46,8 @@ fn area<'a>(
 fn areas<'a>(
     alloc: Global,
     areas: &[Items<Ring>],
-    entries: &'a [Entry],
-) -> Result<(Vec<Items<Items<ArcRef>>>, &'a [Entry]), Memory>
+    entries: &'a [KeptArcs],
+) -> Result<(Vec<Items<Items<ArcRef>>>, &'a [KeptArcs]), Memory>
     ensures { IfOk result (λ r. Replaces (joined (map (map (λ l. (true, l))) areas.now)) (λ kept. some_of (area_by (kept true)) areas.now) entries.now r.0.items r.1.now) }
 {
     let mut kept = Vec::new(alloc);
@@ -67,8 +67,8 @@ fn areas<'a>(
 pub fn replaced<'a>(
     alloc: Global,
     shape: &Shape,
-    entries: &'a [Entry],
-) -> Result<(Option<TopoShape>, &'a [Entry]), Memory>
+    entries: &'a [KeptArcs],
+) -> Result<(Option<TopoShape>, &'a [KeptArcs]), Memory>
     ensures { IfOk result (λ r. Replaces (strokes shape.now) (λ kept. prune (λ p. p) kept shape.now) entries.now r.0 r.1.now) }
 {
     match shape {
@@ -126,8 +126,8 @@ pub fn replaced<'a>(
 pub fn replaced_option<'a>(
     alloc: Global,
     shape: &Option<Shape>,
-    entries: &'a [Entry],
-) -> Result<(Option<TopoShape>, &'a [Entry]), Memory>
+    entries: &'a [KeptArcs],
+) -> Result<(Option<TopoShape>, &'a [KeptArcs]), Memory>
     ensures { IfOk result (λ r. Replaces (option_strokes shape.now) (λ kept. then_some (prune (λ p. p) kept) shape.now) entries.now r.0 r.1.now) }
 {
     match shape {

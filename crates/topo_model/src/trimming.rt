@@ -1,13 +1,13 @@
 // The arcs that are used, and their new numbers.
 ghost use Rattle.std.specs.Prelude.{◌≡◌, ◌<◌, ℕ, Bool, IfOk, length, map, negsuc, pos, ◌-ℤ◌};
-ghost use Rattle.built_topology.specs.Trimming.{keep_from, rank_from, renumbered};
-ghost use Rattle.topo_types.specs.Joins.{number_of};
-ghost use Rattle.topo_types.specs.Validity.{AreInRange};
+ghost use Rattle.build_meaning.specs.Trimming.{keep_from, rank_from, renumbered};
+ghost use Rattle.topojson_types.specs.Joins.{number_of};
+ghost use Rattle.topojson_types.specs.Validity.{AreInRange};
 ghost use Rattle.geojson_types.specs.Lists.{map_some};
 ghost use Rattle.topo_model.specs.Fates.{dealt};
 ghost use Rattle.topo_model.specs.Uses.{answers};
 
-use crate::entries::Entry;
+use crate::entries::KeptArcs;
 use crate::marking::has_line;
 use crate::shapes::cells;
 use arc_table::Table;
@@ -15,7 +15,7 @@ use byte_ends::Memory;
 use geojson_types::Cause;
 use json_value::Items;
 use std::alloc::Global;
-use topo_types::{ArcRef, Cell};
+use topojson_types::{ArcRef, Cell};
 
 /// For each arc the index that it has, forwards, where only the arcs with a set flag are left: how many of these stand before it.
 fn ranks(alloc: Global, used: &[bool]) -> Result<Vec<ArcRef>, Memory>
@@ -74,7 +74,7 @@ pub fn renumbered_entries(
     fates: &[Option<Cause>],
     table: &Table,
     used: &[bool],
-) -> Result<Vec<Entry>, Memory>
+) -> Result<Vec<KeptArcs>, Memory>
     requires { length used.now ≡ length table.now.arcs }
     ensures { IfOk result (λ entries. (u : ℕ → Bool) → used.now ≡ answers u 0 (length table.now.arcs)
         → entries.items ≡ map (λ d. map_some (map (renumbered u)) d.1) (dealt fates.now table.now.refs)) }

@@ -4,13 +4,13 @@ use Rattle.json_value.specs.declared.json.Json.{Json}
 use Rattle.json_value.specs.Kinds.{array_of, object_of}
 use Rattle.geojson_types.specs.declared.counts.Counts.{Counts}
 use Rattle.geojson_types.specs.Points.{Point}
-use Rattle.topo_types.specs.declared.transform.Transform.{Transform}
-use Rattle.topo_types.specs.Topologies.{TopoShape}
-use Rattle.topology_reading.specs.declared.fault.TopoFault.{TopoFault}
-use Rattle.topology_reading.specs.declared.fault.TopoFault.TheVariants.{WrongKind}
-use Rattle.topology_reading.specs.Members.{Members}
-use Rattle.topology_reading.specs.Reader.{Reader, kept}
-use Rattle.topology_reading.specs.Shapes.{shape, shapes, geometry}
+use Rattle.topojson_types.specs.declared.transform.Transform.{Transform}
+use Rattle.topojson_types.specs.Topologies.{TopoShape}
+use Rattle.topojson_meaning.specs.declared.fault.TopoFault.{TopoFault}
+use Rattle.topojson_meaning.specs.declared.fault.TopoFault.TheVariants.{WrongKind}
+use Rattle.topojson_meaning.specs.Members.{Members}
+use Rattle.topojson_meaning.specs.Reader.{Reader, kept}
+use Rattle.topojson_meaning.specs.Shapes.{shape, shapes, geometry}
 use Rattle.json_members.proofs.Turns.{with_front, kept_turns, kept_skips, kept_fails, ends}
 use Rattle.topojson_decoder.proofs.Unrolling.{shapes_array, shape_object, shape_other}
 

@@ -5,8 +5,8 @@ use Rattle.std.proofs.lemmas.Option.{slice_get_past, slice_get_read}
 use Rattle.std.proofs.lemmas.List.{reverse-reverse, reverse-append}
 use Rattle.geojson_types.specs.Points.{Point}
 use Rattle.geojson_types.specs.Rings.{both_same}
-use Rattle.topology_reading.specs.Lines.{meets, line_start, line_end}
-use Rattle.topo_types.specs.Joins.{number_of, is_reversed, at, or_empty, arc_at, first_of, last_of}
+use Rattle.topojson_meaning.specs.Lines.{meets, line_start, line_end}
+use Rattle.topojson_types.specs.Joins.{number_of, is_reversed, at, or_empty, arc_at, first_of, last_of}
 
 at_got : {X : Type 0} (xs : List X) (i : ℕ) → at xs i ≡ slice_get xs i
 at_got [] i = refl

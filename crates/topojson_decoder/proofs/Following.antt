@@ -4,12 +4,12 @@ use Rattle.std.specs.Prelude.{MatchOption}
 use Rattle.json_value.specs.declared.json.Json.{Json}
 use Rattle.geojson_types.specs.declared.counts.Counts.{Counts}
 use Rattle.geojson_types.specs.Points.{Point}
-use Rattle.topo_types.specs.declared.transform.Transform.{Transform}
-use Rattle.topology_reading.specs.declared.fault.TopoFault.{TopoFault}
-use Rattle.topology_reading.specs.declared.fault.TopoFault.TheVariants.{Unjoined}
-use Rattle.topology_reading.specs.Arcs.{cell, cells_behind, difference_limit}
-use Rattle.topology_reading.specs.Lines.{index, meets, joined_to, indexes, indexes_behind}
-use Rattle.topology_reading.specs.Reader.{Reader, and_then, give}
+use Rattle.topojson_types.specs.declared.transform.Transform.{Transform}
+use Rattle.topojson_meaning.specs.declared.fault.TopoFault.{TopoFault}
+use Rattle.topojson_meaning.specs.declared.fault.TopoFault.TheVariants.{Unjoined}
+use Rattle.topojson_meaning.specs.Arcs.{cell, cells_behind, difference_limit}
+use Rattle.topojson_meaning.specs.Lines.{index, meets, joined_to, indexes, indexes_behind}
+use Rattle.topojson_meaning.specs.Reader.{Reader, and_then, give}
 use Rattle.json_members.proofs.Turns.{with_front, drop_here, drop_end}
 
 front_one : {B : Type 0} (ys : List B) (x : B) (r : Result (List B × Counts) TopoFault) → with_front ys (and_then (λ xs. give (x ∷ xs)) r) ≡ with_front (ys ++ x ∷ []) r

@@ -3,13 +3,13 @@ use Rattle.std.proofs.Common.{◌≡◌, ◌≢◌, ℕ, ◌+◌, Bool, true, fa
 use Rattle.json_value.specs.declared.json.Json.{Json}
 use Rattle.geojson_types.specs.declared.counts.Counts.{Counts}
 use Rattle.geojson_types.specs.Points.{Point}
-use Rattle.topo_types.specs.declared.object.TopoObject.{TopoObject}
-use Rattle.topo_types.specs.declared.transform.Transform.{Transform}
-use Rattle.topology_reading.specs.declared.fault.TopoFault.{TopoFault}
-use Rattle.topology_reading.specs.declared.fault.TopoFault.TheVariants.{Duplicate}
-use Rattle.topology_reading.specs.Members.{Members}
-use Rattle.topology_reading.specs.Objects.{is_met, object, objects_behind}
-use Rattle.topology_reading.specs.Reader.{and_then, give}
+use Rattle.topojson_types.specs.declared.object.TopoObject.{TopoObject}
+use Rattle.topojson_types.specs.declared.transform.Transform.{Transform}
+use Rattle.topojson_meaning.specs.declared.fault.TopoFault.{TopoFault}
+use Rattle.topojson_meaning.specs.declared.fault.TopoFault.TheVariants.{Duplicate}
+use Rattle.topojson_meaning.specs.Members.{Members}
+use Rattle.topojson_meaning.specs.Objects.{is_met, object, objects_behind}
+use Rattle.topojson_meaning.specs.Reader.{and_then, give}
 use Rattle.topojson_decoder.specs.Names.{names_before_repeat}
 use Rattle.json_members.proofs.Turns.{with_front}
 use Rattle.topojson_decoder.proofs.Repeating.{names_of, counted_more}

@@ -7,16 +7,16 @@ use Rattle.geojson_types.specs.Points.{Point}
 use Rattle.json_value.specs.declared.json.Json.{Json}
 use Rattle.json_members.specs.Members.{there, only}
 use Rattle.json_members.specs.Members as members_by
-use Rattle.topo_types.specs.declared.transform.Transform.{Transform}
-use Rattle.topo_types.specs.Topologies.{TopoShape}
-use Rattle.topology_reading.specs.declared.fault.TopoFault.{TopoFault}
-use Rattle.topology_reading.specs.declared.geometry_type.GeometryType.{GeometryType}
-use Rattle.topology_reading.specs.declared.geometry_type.GeometryType.TheVariants.{Places, Arcs, Collection}
-use Rattle.topology_reading.specs.Features.{feature, identifier, members_if}
-use Rattle.topology_reading.specs.GeometryTypes.{part_name}
-use Rattle.topology_reading.specs.Members.{Members, lookup_fault, named, need}
-use Rattle.topology_reading.specs.Reader.{and_then, ◌>>=◌, give, pure, with_fault}
-use Rattle.topology_reading.specs.Shapes.{part, typed_shape}
+use Rattle.topojson_types.specs.declared.transform.Transform.{Transform}
+use Rattle.topojson_types.specs.Topologies.{TopoShape}
+use Rattle.topojson_meaning.specs.declared.fault.TopoFault.{TopoFault}
+use Rattle.topojson_meaning.specs.declared.geometry_type.GeometryType.{GeometryType}
+use Rattle.topojson_meaning.specs.declared.geometry_type.GeometryType.TheVariants.{Places, Arcs, Collection}
+use Rattle.topojson_meaning.specs.Features.{feature, identifier, members_if}
+use Rattle.topojson_meaning.specs.GeometryTypes.{part_name}
+use Rattle.topojson_meaning.specs.Members.{Members, lookup_fault, named, need}
+use Rattle.topojson_meaning.specs.Reader.{and_then, ◌>>=◌, give, pure, with_fault}
+use Rattle.topojson_meaning.specs.Shapes.{part, typed_shape}
 
 -- the members of each name but this one are the same
 abbrev pub OthersStay : List ℕ → Members → Members → Type 0

@@ -3,8 +3,8 @@ use Rattle.std.proofs.Common.{◌≡◌, ℕ, ◌+◌, ◌<◌, ◌≤◌, Bool,
 use Rattle.std.specs.Prelude.{bytes_eq}
 use Rattle.std.specs.HashSet.{HashSet, contains, Updates}
 use Rattle.json_value.specs.declared.json.Json.{Json}
-use Rattle.topology_reading.specs.Members.{Members}
-use Rattle.topology_reading.specs.Objects.{is_met}
+use Rattle.topojson_meaning.specs.Members.{Members}
+use Rattle.topojson_meaning.specs.Objects.{is_met}
 use Rattle.topojson_decoder.specs.Names.{names_before_repeat}
 use Rattle.json_members.proofs.Turns.{drop_end, drop_here}
 

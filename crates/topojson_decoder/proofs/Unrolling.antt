@@ -7,12 +7,12 @@ use Rattle.json_value.specs.declared.json.Json.TheOpen.{Json-F}
 use Rattle.json_value.specs.Kinds.{array_of, array_in, object_of, object_in}
 use Rattle.json_value.proofs.KindsOf.{array_of_is, object_of_is}
 use Rattle.geojson_types.specs.Points.{Point}
-use Rattle.topo_types.specs.declared.transform.Transform.{Transform}
-use Rattle.topology_reading.specs.declared.fault.TopoFault.TheVariants.{WrongKind}
-use Rattle.topology_reading.specs.Members.{Members}
-use Rattle.topology_reading.specs.Reader.{fail, kept}
-use Rattle.topology_reading.specs.Shapes.{Readings, readings_step, readings, shape, shapes, geometry}
-use Rattle.topology_reading.proofs.Unrolled as u
+use Rattle.topojson_types.specs.declared.transform.Transform.{Transform}
+use Rattle.topojson_meaning.specs.declared.fault.TopoFault.TheVariants.{WrongKind}
+use Rattle.topojson_meaning.specs.Members.{Members}
+use Rattle.topojson_meaning.specs.Reader.{fail, kept}
+use Rattle.topojson_meaning.specs.Shapes.{Readings, readings_step, readings, shape, shapes, geometry}
+use Rattle.topojson_meaning.proofs.Unrolled as u
 
 module _ (transform : Option Transform) (arcs : List (List Point)) where
   -- an object is read as the geometry with its members

@@ -3,9 +3,9 @@ use Rattle.std.specs.Prelude.{Result}
 use Rattle.geojson_types.specs.declared.counts.Counts.{Counts}
 use Rattle.json_members.specs.Answers.{GivesUnless}
 pub use Rattle.json_members.specs.Answers.{Finds}
-use Rattle.topology_reading.specs.declared.fault.TopoFault.{TopoFault}
-use Rattle.topology_reading.specs.declared.fault.TopoFault.TheVariants.{Memory}
-use Rattle.topology_reading.specs.Reader.{Reader}
+use Rattle.topojson_meaning.specs.declared.fault.TopoFault.{TopoFault}
+use Rattle.topojson_meaning.specs.declared.fault.TopoFault.TheVariants.{Memory}
+use Rattle.topojson_meaning.specs.Reader.{Reader}
 
 -- the answer, as a clause sees it, and the counts after it are what a reader gives, or its fault is the reader's
 abbrev pub Gives : {X Y : Type 0} → (X → Y) → Result X TopoFault → Counts → Result (Y × Counts) TopoFault → Type 0

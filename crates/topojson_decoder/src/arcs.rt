@@ -2,16 +2,16 @@
 ghost use Rattle.std.specs.Prelude.{◌≡◌};
 ghost use Rattle.std.specs.Option.{option_copied};
 ghost use Rattle.topojson_decoder.specs.Answers.{Gives};
-ghost use Rattle.topo_types.specs.Transforms.{origin};
-ghost use Rattle.topology_reading.specs.Arcs as spec;
-ghost use Rattle.topology_reading.specs.Reader.{each};
+ghost use Rattle.topojson_types.specs.Transforms.{origin};
+ghost use Rattle.topojson_meaning.specs.Arcs as spec;
+ghost use Rattle.topojson_meaning.specs.Reader.{each};
 
 use crate::cells::{cell, places};
 use geojson_types::Counts;
 use json_value::{Items, Json};
 use std::alloc::Global;
-use topo_types::{Cell, Transform};
-use topology_reading::TopoFault;
+use topojson_types::{Cell, Transform};
+use topojson_meaning::TopoFault;
 
 /// How far from zero a difference may be.
 const DIFFERENCE_LIMIT: u64 = 4_294_967_296;
@@ -35,7 +35,7 @@ fn grid_cells(
 }
 
 /// The cells of an arc with these elements.
-#[tactic(auto, unfolding(topology_reading::specs::Arcs::arc_cells))]
+#[tactic(auto, unfolding(topojson_meaning::specs::Arcs::arc_cells))]
 fn arc_cells(
     alloc: Global,
     transform: Option<&Transform>,
@@ -51,7 +51,7 @@ fn arc_cells(
 }
 
 /// An arc, which has two cells or more.
-#[tactic(auto, unfolding(topology_reading::specs::Arcs::arc, topology_reading::specs::Members::elements))]
+#[tactic(auto, unfolding(topojson_meaning::specs::Arcs::arc, topojson_meaning::specs::Members::elements))]
 fn arc(
     alloc: Global,
     transform: Option<&Transform>,
@@ -87,7 +87,7 @@ fn arcs_in(
 }
 
 /// The arcs of a topology in order.
-#[tactic(auto, unfolding(topology_reading::specs::Arcs::arc_list, topology_reading::specs::Members::elements))]
+#[tactic(auto, unfolding(topojson_meaning::specs::Arcs::arc_list, topojson_meaning::specs::Members::elements))]
 pub(crate) fn arc_list(
     alloc: Global,
     transform: Option<&Transform>,

@@ -2,20 +2,20 @@
 ghost use Rattle.std.specs.Prelude.{◌≡◌, ◌≤◌, ◌^◌};
 ghost use Rattle.std.specs.Option.{option_copied};
 ghost use Rattle.topojson_decoder.specs.Answers.{Finds, Gives};
-ghost use Rattle.topo_types.specs.Transforms.{moved};
-ghost use Rattle.topology_reading.specs.Arcs as spec;
-ghost use Rattle.topology_reading.specs.Reader.{each};
+ghost use Rattle.topojson_types.specs.Transforms.{moved};
+ghost use Rattle.topojson_meaning.specs.Arcs as spec;
+ghost use Rattle.topojson_meaning.specs.Reader.{each};
 
 use crate::members::elements;
 use crate::numbers::{grid_number, number_text, units};
 use geojson_types::Counts;
 use json_value::Json;
 use std::alloc::Global;
-use topo_types::{Cell, GRID_LIMIT, Transform, cell_after, placed};
-use topology_reading::TopoFault;
+use topojson_types::{Cell, GRID_LIMIT, Transform, cell_after, placed};
+use topojson_meaning::TopoFault;
 
 /// The position with these elements. Those behind the second are not looked at.
-#[tactic(auto, unfolding(topology_reading::specs::Arcs::elements_position))]
+#[tactic(auto, unfolding(topojson_meaning::specs::Arcs::elements_position))]
 fn elements_position(elements: &[Json], counts: &mut Counts) -> Result<Cell, TopoFault>
     ensures { Gives (λ p. p) result counts.new (spec.elements_position elements.now counts.old) }
 {
@@ -34,7 +34,7 @@ fn elements_position(elements: &[Json], counts: &mut Counts) -> Result<Cell, Top
 }
 
 /// The cell of the grid that lies so far from another, and at a position.
-#[tactic(auto, unfolding(topology_reading::specs::Arcs::grid_cell, topo_types::specs::Transforms::placed))]
+#[tactic(auto, unfolding(topojson_meaning::specs::Arcs::grid_cell, topojson_types::specs::Transforms::placed))]
 fn grid_cell(transform: &Transform, before: Cell, difference: Cell) -> Result<Cell, TopoFault>
     ensures { Finds (λ c. c) result (spec.grid_cell transform.now (moved before difference)) }
 {
@@ -48,7 +48,7 @@ fn grid_cell(transform: &Transform, before: Cell, difference: Cell) -> Result<Ce
 }
 
 /// The cell that these elements give, which is the difference from the cell before. Those behind the second are not looked at.
-#[tactic(auto, unfolding(topology_reading::specs::Arcs::elements_cell))]
+#[tactic(auto, unfolding(topojson_meaning::specs::Arcs::elements_cell))]
 fn elements_cell(
     transform: &Transform,
     bound: u64,
@@ -75,7 +75,7 @@ fn elements_cell(
 }
 
 /// The cell that a value is, which is the difference from the cell before.
-#[tactic(auto, unfolding(topology_reading::specs::Arcs::cell))]
+#[tactic(auto, unfolding(topojson_meaning::specs::Arcs::cell))]
 pub(crate) fn cell(
     transform: &Transform,
     bound: u64,
@@ -91,7 +91,7 @@ pub(crate) fn cell(
 }
 
 /// The place with these elements. With a transform it is a cell that is no difference (TopoJSON 1.0, section 2.1.2).
-#[tactic(auto, unfolding(topology_reading::specs::Arcs::elements_place))]
+#[tactic(auto, unfolding(topojson_meaning::specs::Arcs::elements_place))]
 pub(crate) fn elements_place(
     transform: Option<&Transform>,
     elements: &[Json],
@@ -109,7 +109,7 @@ pub(crate) fn elements_place(
 }
 
 /// The place that a value is.
-#[tactic(auto, unfolding(topology_reading::specs::Arcs::place))]
+#[tactic(auto, unfolding(topojson_meaning::specs::Arcs::place))]
 fn place(
     transform: Option<&Transform>,
     value: &Json,

@@ -2,7 +2,7 @@
 ghost use Rattle.std.specs.Prelude.{◌≡◌};
 ghost use Rattle.std.specs.Option.{option_copied};
 ghost use Rattle.topojson_decoder.specs.Answers.{Gives, Finds};
-ghost use Rattle.topology_reading.specs.Features as spec;
+ghost use Rattle.topojson_meaning.specs.Features as spec;
 
 use crate::members::members_of;
 use crate::shapes::typed_shape;
@@ -11,8 +11,8 @@ use geojson_types::{Counts, Id};
 use json_members::take;
 use json_value::{Items, Json, OwnText};
 use std::alloc::Global;
-use topo_types::{Cell, TopoFeature, Transform};
-use topology_reading::{GeometryType, TopoFault};
+use topojson_types::{Cell, TopoFeature, Transform};
+use topojson_meaning::{GeometryType, TopoFault};
 
 /// The identifier that the member `id` gives. Absent and null are none.
 fn identifier(value: Option<Json>) -> Result<Option<Id>, TopoFault>
@@ -40,7 +40,7 @@ fn members_if(value: Option<Json>) -> Result<Option<Items<(OwnText, Json)>>, Top
 }
 
 /// The feature of this type with these members. Its identifier and its properties are moved out of them, unchanged.
-#[tactic(auto, unfolding(topology_reading::specs::Features::feature))]
+#[tactic(auto, unfolding(topojson_meaning::specs::Features::feature))]
 pub(crate) fn feature(
     alloc: Global,
     transform: Option<&Transform>,
@@ -62,7 +62,7 @@ pub(crate) fn feature(
 }
 
 /// The feature that a member of a collection is, which is an object of the topology.
-#[tactic(auto, unfolding(topology_reading::specs::Features::feature_element))]
+#[tactic(auto, unfolding(topojson_meaning::specs::Features::feature_element))]
 pub(crate) fn feature_element(
     alloc: Global,
     transform: Option<&Transform>,

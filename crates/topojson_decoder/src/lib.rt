@@ -1,5 +1,5 @@
-//! Topologies (TopoJSON 1.0) out of JSON values, and the GeoJSON features that they stand for. It stands on `topology_reading`, which
-//! says which topology a value stands for, on `topo_types` for topologies, and on `topology_features`, whose walk along arcs and
+//! Topologies (TopoJSON 1.0) out of JSON values, and the GeoJSON features that they stand for. It stands on `topojson_meaning`, which
+//! says which topology a value stands for, on `topojson_types` for topologies, and on `topojson_features`, whose walk along arcs and
 //! `features` it passes on. The layer above uses the contract of `read_topology`: it answers what that definition gives.
 #![tactic(auto)]
 
@@ -17,8 +17,8 @@ mod transforms;
 mod types;
 
 pub use reading::read_topology;
-pub use topo_types::{
+pub use topojson_types::{
     ArcRef, Cell, TopoFeature, TopoObject, TopoShape, Topology, Transform, TransformNumber,
 };
-pub use topology_features::{DecodeFault, Walk, features};
-pub use topology_reading::TopoFault;
+pub use topojson_features::{DecodeFault, Walk, features};
+pub use topojson_meaning::TopoFault;

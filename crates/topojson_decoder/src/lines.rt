@@ -2,23 +2,23 @@
 ghost use Rattle.std.specs.Prelude.{◌≡◌, MatchOption, true};
 ghost use Rattle.std.specs.Option.{option_copied};
 ghost use Rattle.geojson_types.specs.Rings.{both_same};
-ghost use Rattle.topo_types.specs.Joins.{arc_at, first_of, last_of};
+ghost use Rattle.topojson_types.specs.Joins.{arc_at, first_of, last_of};
 ghost use Rattle.topojson_decoder.specs.Answers.{Gives, Reads};
-ghost use Rattle.topology_reading.specs.Lines as spec;
-ghost use Rattle.topology_reading.specs.Reader.{kept};
+ghost use Rattle.topojson_meaning.specs.Lines as spec;
+ghost use Rattle.topojson_meaning.specs.Reader.{kept};
 
 use crate::numbers::number_text;
 use geojson_types::Counts;
 use json_value::{Items, Json};
 use std::alloc::Global;
-use topo_types::{ArcRef, Cell};
-use topology_reading::TopoFault;
+use topojson_types::{ArcRef, Cell};
+use topojson_meaning::TopoFault;
 
 /// The greatest magnitude of a number that may be an index.
 const INDEX_LIMIT: i128 = i64::MAX as i128;
 
 /// The elements of an array. An empty one is counted, and gives nothing.
-#[tactic(auto, unfolding(topology_reading::specs::Lines::some_elements))]
+#[tactic(auto, unfolding(topojson_meaning::specs::Lines::some_elements))]
 pub(crate) fn some_elements<'a>(
     value: &'a Json,
     counts: &mut Counts,
@@ -36,7 +36,7 @@ pub(crate) fn some_elements<'a>(
 }
 
 /// The index that a value is, where there are so many arcs.
-#[tactic(auto, unfolding(topology_reading::specs::Lines::index))]
+#[tactic(auto, unfolding(topojson_meaning::specs::Lines::index))]
 fn index(count: usize, value: &Json) -> Result<ArcRef, TopoFault>
     ensures { Reads (λ i. i) result (spec.index count value.now) }
 {
@@ -130,7 +130,7 @@ pub(crate) fn closes(arcs: &[Items<Cell>], refs: &[ArcRef]) -> bool
 }
 
 /// The line with these indexes.
-#[tactic(auto, unfolding(topology_reading::specs::Lines::line_in))]
+#[tactic(auto, unfolding(topojson_meaning::specs::Lines::line_in))]
 pub(crate) fn line_in(
     alloc: Global,
     arcs: &[Items<Cell>],
@@ -142,7 +142,7 @@ pub(crate) fn line_in(
 }
 
 /// A line, if its array isn't empty.
-#[tactic(auto, unfolding(topology_reading::specs::Lines::line))]
+#[tactic(auto, unfolding(topojson_meaning::specs::Lines::line))]
 fn line(
     alloc: Global,
     arcs: &[Items<Cell>],

@@ -1,13 +1,13 @@
 // What a value must be: an object or an array.
 ghost use Rattle.std.specs.Prelude.{◌≡◌};
 ghost use Rattle.topojson_decoder.specs.Answers.{Finds};
-ghost use Rattle.topology_reading.specs.Members as spec;
+ghost use Rattle.topojson_meaning.specs.Members as spec;
 
 use json_value::{Json, OwnText};
-use topology_reading::TopoFault;
+use topojson_meaning::TopoFault;
 
 /// The elements of a value that must be an array.
-#[tactic(auto, unfolding(topology_reading::specs::Members::elements))]
+#[tactic(auto, unfolding(topojson_meaning::specs::Members::elements))]
 pub(crate) fn elements(value: &Json) -> Result<&[Json], TopoFault>
     ensures { Finds (λ vs. vs.now) result (spec.elements value.now) }
 {
@@ -18,7 +18,7 @@ pub(crate) fn elements(value: &Json) -> Result<&[Json], TopoFault>
 }
 
 /// The members of a value that must be an object.
-#[tactic(auto, unfolding(topology_reading::specs::Members::members))]
+#[tactic(auto, unfolding(topojson_meaning::specs::Members::members))]
 pub(crate) fn members_of(value: Json) -> Result<Vec<(OwnText, Json)>, TopoFault>
     ensures { Finds (λ ms. ms.items) result (spec.members value) }
 {
@@ -29,7 +29,7 @@ pub(crate) fn members_of(value: Json) -> Result<Vec<(OwnText, Json)>, TopoFault>
 }
 
 /// The elements of a value that must be an array.
-#[tactic(auto, unfolding(topology_reading::specs::Members::elements))]
+#[tactic(auto, unfolding(topojson_meaning::specs::Members::elements))]
 pub(crate) fn elements_of(value: Json) -> Result<Vec<Json>, TopoFault>
     ensures { Finds (λ vs. vs.items) result (spec.elements value) }
 {

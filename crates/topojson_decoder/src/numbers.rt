@@ -2,18 +2,18 @@
 ghost use Rattle.std.specs.Prelude.{◌≡◌, ◌≤◌, ◌^◌, IfOk, unsigned_abs};
 ghost use Rattle.geojson_types.specs.Points.{position_limit};
 ghost use Rattle.topojson_decoder.specs.Answers.{Finds, Gives};
-ghost use Rattle.topology_reading.specs.Arcs as spec;
+ghost use Rattle.topojson_meaning.specs.Arcs as spec;
 
 use decimal_text::NumText;
 use geojson_types::{Counts, POSITION_LIMIT};
 use json_value::Json;
-use topology_reading::TopoFault;
+use topojson_meaning::TopoFault;
 
 /// The decimal places of a unit.
 const UNIT_PLACES: u32 = 7;
 
 /// The text of a value that must be a number.
-#[tactic(auto, unfolding(topology_reading::specs::Arcs::number_text))]
+#[tactic(auto, unfolding(topojson_meaning::specs::Arcs::number_text))]
 pub(crate) fn number_text(value: &Json) -> Result<&NumText, TopoFault>
     ensures { Finds (λ t. t.now) result (spec.number_text value.now) }
 {
@@ -24,7 +24,7 @@ pub(crate) fn number_text(value: &Json) -> Result<&NumText, TopoFault>
 }
 
 /// A number in whole units.
-#[tactic(auto, unfolding(topology_reading::specs::Arcs::units))]
+#[tactic(auto, unfolding(topojson_meaning::specs::Arcs::units))]
 pub(crate) fn units(number: &NumText, counts: &mut Counts) -> Result<i64, TopoFault>
     ensures value { Gives (λ x. x) result counts.new (spec.units number.now counts.old) }
     ensures within { IfOk result (λ x. unsigned_abs x ≤ position_limit) }
@@ -39,7 +39,7 @@ pub(crate) fn units(number: &NumText, counts: &mut Counts) -> Result<i64, TopoFa
 }
 
 /// A whole number that is no farther from zero than the bound.
-#[tactic(auto, unfolding(topology_reading::specs::Arcs::grid_number))]
+#[tactic(auto, unfolding(topojson_meaning::specs::Arcs::grid_number))]
 pub(crate) fn grid_number(bound: u64, number: &NumText) -> Result<i64, TopoFault>
     requires { bound ≤ 2 ^ 32 }
     ensures value { Finds (λ x. x) result (spec.grid_number bound number.now) }

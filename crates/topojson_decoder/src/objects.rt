@@ -3,10 +3,10 @@ ghost use Rattle.std.specs.Prelude.{◌≡◌, [], IfOk, map};
 ghost use Rattle.std.specs.Option.{option_copied};
 ghost use Rattle.topojson_decoder.specs.Answers.{Gives};
 ghost use Rattle.topojson_decoder.specs.Names.{names_before_repeat};
-ghost use Rattle.topology_reading.specs.Features.{feature_element as element_of};
-ghost use Rattle.topology_reading.specs.GeometryTypes.{is_collection as is_collection_type};
-ghost use Rattle.topology_reading.specs.Objects as spec;
-ghost use Rattle.topology_reading.specs.Reader.{each};
+ghost use Rattle.topojson_meaning.specs.Features.{feature_element as element_of};
+ghost use Rattle.topojson_meaning.specs.GeometryTypes.{is_collection as is_collection_type};
+ghost use Rattle.topojson_meaning.specs.Objects as spec;
+ghost use Rattle.topojson_meaning.specs.Reader.{each};
 
 use crate::feature_reading::{feature, feature_element};
 use crate::members::{elements_of, members_of};
@@ -17,8 +17,8 @@ use json_members::take_needed;
 use json_value::{Items, Json, OwnText};
 use std::alloc::Global;
 use std::collections::HashSet;
-use topo_types::{Cell, TopoFeature, TopoObject, Transform};
-use topology_reading::{GeometryType, TopoFault};
+use topojson_types::{Cell, TopoFeature, TopoObject, Transform};
+use topojson_meaning::{GeometryType, TopoFault};
 
 /// The features that these values are, in order.
 fn features_in(
@@ -38,7 +38,7 @@ fn features_in(
 }
 
 /// The object that a collection with these members is: its geometries as features.
-#[tactic(auto, unfolding(topology_reading::specs::Objects::collection, topology_reading::specs::Objects::features, topology_reading::specs::Members::need))]
+#[tactic(auto, unfolding(topojson_meaning::specs::Objects::collection, topojson_meaning::specs::Objects::features, topojson_meaning::specs::Members::need))]
 fn collection(
     alloc: Global,
     transform: Option<&Transform>,
@@ -66,7 +66,7 @@ fn is_collection(geometry: Option<GeometryType>) -> bool
 }
 
 /// The object that a value is (TopoJSON 1.0, section 2.2).
-#[tactic(auto, unfolding(topology_reading::specs::Objects::object, topology_reading::specs::Objects::single))]
+#[tactic(auto, unfolding(topojson_meaning::specs::Objects::object, topojson_meaning::specs::Objects::single))]
 fn object(
     alloc: Global,
     transform: Option<&Transform>,
@@ -122,7 +122,7 @@ fn objects_in(
 }
 
 /// The objects by name that a value is, in order.
-#[tactic(auto, unfolding(topology_reading::specs::Objects::objects))]
+#[tactic(auto, unfolding(topojson_meaning::specs::Objects::objects))]
 pub(crate) fn objects(
     alloc: Global,
     transform: Option<&Transform>,

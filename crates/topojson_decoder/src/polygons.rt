@@ -1,18 +1,18 @@
 // Reading rings and polygons as arc indexes (TopoJSON 1.0, sections 2.1.4 and 2.2.5).
 ghost use Rattle.std.specs.Prelude.{◌≡◌};
 ghost use Rattle.topojson_decoder.specs.Answers.{Gives, Reads};
-ghost use Rattle.topology_reading.specs.Lines as spec;
-ghost use Rattle.topology_reading.specs.Reader.{kept};
+ghost use Rattle.topojson_meaning.specs.Lines as spec;
+ghost use Rattle.topojson_meaning.specs.Reader.{kept};
 
 use crate::lines::{closes, indexes, some_elements};
 use geojson_types::Counts;
 use json_value::{Items, Json};
 use std::alloc::Global;
-use topo_types::{ArcRef, Cell};
-use topology_reading::TopoFault;
+use topojson_types::{ArcRef, Cell};
+use topojson_meaning::TopoFault;
 
 /// The ring with these indexes.
-#[tactic(auto, unfolding(topology_reading::specs::Lines::ring_in))]
+#[tactic(auto, unfolding(topojson_meaning::specs::Lines::ring_in))]
 fn ring_in(
     alloc: Global,
     arcs: &[Items<Cell>],
@@ -28,7 +28,7 @@ fn ring_in(
 }
 
 /// A ring, if its array isn't empty.
-#[tactic(auto, unfolding(topology_reading::specs::Lines::ring))]
+#[tactic(auto, unfolding(topojson_meaning::specs::Lines::ring))]
 fn ring(
     alloc: Global,
     arcs: &[Items<Cell>],
@@ -63,7 +63,7 @@ fn rings(
 }
 
 /// The rings of the polygon with these elements, the outer one first. Without the outer one there is no polygon.
-#[tactic(auto, unfolding(topology_reading::specs::Lines::polygon_in))]
+#[tactic(auto, unfolding(topojson_meaning::specs::Lines::polygon_in))]
 pub(crate) fn polygon_in(
     alloc: Global,
     arcs: &[Items<Cell>],
@@ -85,7 +85,7 @@ pub(crate) fn polygon_in(
 }
 
 /// A polygon, if its array isn't empty and its outer ring is there.
-#[tactic(auto, unfolding(topology_reading::specs::Lines::polygon))]
+#[tactic(auto, unfolding(topojson_meaning::specs::Lines::polygon))]
 fn polygon(
     alloc: Global,
     arcs: &[Items<Cell>],

@@ -2,8 +2,8 @@
 ghost use Rattle.std.specs.Prelude.{◌≡◌, ◌≢◌, Ok, Err, IfOk, IfErr};
 ghost use Rattle.std.specs.Option.{option_copied};
 ghost use Rattle.topojson_decoder.specs.Answers.{Gives};
-ghost use Rattle.topology_reading.specs.Topologies as spec;
-ghost use Rattle.topology_reading.specs.declared.fault.TopoFault.TheVariants.{Memory};
+ghost use Rattle.topojson_meaning.specs.Topologies as spec;
+ghost use Rattle.topojson_meaning.specs.declared.fault.TopoFault.TheVariants.{Memory};
 
 use crate::arcs::arc_list;
 use crate::objects::objects;
@@ -12,8 +12,8 @@ use geojson_types::Counts;
 use json_members::{need, take, take_needed};
 use json_value::{Items, Json, OwnText};
 use std::alloc::Global;
-use topo_types::{Cell, TopoObject, Topology, Transform};
-use topology_reading::{TopoFault, topology_is_valid};
+use topojson_types::{Cell, TopoObject, Topology, Transform};
+use topojson_meaning::{TopoFault, topology_is_valid};
 
 /// What a topology is made of.
 #[derive(Debug, Drop)]
@@ -24,7 +24,7 @@ struct TopologyParts {
 }
 
 /// The objects and the arcs among these members. The arcs are read first.
-#[tactic(auto, unfolding(topology_reading::specs::Members::need))]
+#[tactic(auto, unfolding(topojson_meaning::specs::Members::need))]
 fn objects_and_arcs(
     alloc: Global,
     transform: Option<&Transform>,
@@ -41,7 +41,7 @@ fn objects_and_arcs(
 }
 
 /// The parts of the topology with these members.
-#[tactic(auto, unfolding(topology_reading::specs::Topologies::contents, topology_reading::specs::Members::need))]
+#[tactic(auto, unfolding(topojson_meaning::specs::Topologies::contents, topojson_meaning::specs::Members::need))]
 fn parts_in(
     alloc: Global,
     mut members: Vec<(OwnText, Json)>,
@@ -65,7 +65,7 @@ fn parts_in(
 }
 
 /// The parts of the topology that a value is.
-#[tactic(auto, unfolding(topology_reading::specs::Topologies::value_contents))]
+#[tactic(auto, unfolding(topojson_meaning::specs::Topologies::value_contents))]
 fn parts_of(alloc: Global, value: Json, counts: &mut Counts) -> Result<TopologyParts, TopoFault>
     ensures { Gives (λ p. record { objects = p.objects; arcs = p.arcs; transform = p.transform }) result counts.new (spec.value_contents value counts.old) }
 {
@@ -78,7 +78,7 @@ fn parts_of(alloc: Global, value: Json, counts: &mut Counts) -> Result<TopologyP
 /// The topology that a JSON value stands for (TopoJSON 1.0, section 2.1), with what was counted, or the first fault on the way through
 /// its `type`, `transform`, `arcs` and `objects`. Identifiers and properties are moved, unchanged. An empty array in place of a line,
 /// a ring, a polygon or coordinates is left out and counted; a geometry of which nothing is left is null.
-#[tactic(auto, unfolding(topology_reading::specs::Topologies::topology))]
+#[tactic(auto, unfolding(topojson_meaning::specs::Topologies::topology))]
 pub fn read_topology(alloc: Global, value: Json) -> Result<(Topology, Counts), TopoFault>
     ensures topology { IfOk result (λ r. spec.topology value ≡ Ok (r.0, r.1)) }
     ensures fault { IfErr result (λ e. e ≢ Memory → spec.topology value ≡ Err e) }

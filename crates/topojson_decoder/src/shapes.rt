@@ -3,7 +3,7 @@ ghost use Rattle.std.specs.Prelude.{◌≡◌};
 ghost use Rattle.std.specs.Option.{option_copied};
 ghost use Rattle.geojson_types.specs.Lists.{unless_empty};
 ghost use Rattle.topojson_decoder.specs.Answers.{Gives};
-ghost use Rattle.topology_reading.specs.Shapes as spec;
+ghost use Rattle.topojson_meaning.specs.Shapes as spec;
 
 use crate::cells::{elements_place, places};
 use crate::lines::{line_in, lines, some_elements};
@@ -13,8 +13,8 @@ use geojson_types::Counts;
 use json_members::need;
 use json_value::{Items, Json, OwnText};
 use std::alloc::Global;
-use topo_types::{Cell, TopoShape, Transform};
-use topology_reading::{ArcsType, GeometryType, PlacesType, TopoFault};
+use topojson_types::{Cell, TopoShape, Transform};
+use topojson_meaning::{ArcsType, GeometryType, PlacesType, TopoFault};
 
 /// The items, unless there is none.
 fn some_items<T: Drop>(items: Vec<T>) -> Option<Items<T>>
@@ -27,7 +27,7 @@ fn some_items<T: Drop>(items: Vec<T>) -> Option<Items<T>>
 }
 
 /// The shape of this type with these elements of `coordinates` (TopoJSON 1.0, sections 2.2.1 and 2.2.2).
-#[tactic(auto, unfolding(topology_reading::specs::Shapes::places_in))]
+#[tactic(auto, unfolding(topojson_meaning::specs::Shapes::places_in))]
 fn places_in(
     alloc: Global,
     transform: Option<&Transform>,
@@ -50,7 +50,7 @@ fn places_in(
 }
 
 /// The shape of this type with these elements of `arcs` (TopoJSON 1.0, sections 2.2.3 to 2.2.6).
-#[tactic(auto, unfolding(topology_reading::specs::Shapes::arcs_in))]
+#[tactic(auto, unfolding(topojson_meaning::specs::Shapes::arcs_in))]
 fn arcs_in(
     alloc: Global,
     arcs: &[Items<Cell>],
@@ -81,7 +81,7 @@ fn arcs_in(
 }
 
 /// The shape of this type with this value as `coordinates`.
-#[tactic(auto, unfolding(topology_reading::specs::Shapes::places_shape))]
+#[tactic(auto, unfolding(topojson_meaning::specs::Shapes::places_shape))]
 fn places_shape(
     alloc: Global,
     transform: Option<&Transform>,
@@ -98,7 +98,7 @@ fn places_shape(
 }
 
 /// The shape of this type with this value as `arcs`.
-#[tactic(auto, unfolding(topology_reading::specs::Shapes::arcs_shape))]
+#[tactic(auto, unfolding(topojson_meaning::specs::Shapes::arcs_shape))]
 fn arcs_shape(
     alloc: Global,
     arcs: &[Items<Cell>],
@@ -116,7 +116,7 @@ fn arcs_shape(
 
 /// The shape of this type with this value as the member that it is made of.
 #[cycle(geometries)]
-#[tactic(auto, using(crate::proofs::Deeper::deeper), unfolding(topology_reading::specs::Shapes::part))]
+#[tactic(auto, using(crate::proofs::Deeper::deeper), unfolding(topojson_meaning::specs::Shapes::part))]
 fn part(
     alloc: Global,
     transform: Option<&Transform>,
@@ -139,7 +139,7 @@ fn part(
 
 /// The shape of this type with these members. A null type reads none of them.
 #[cycle(geometries)]
-#[tactic(auto, using(crate::proofs::Deeper::deeper), unfolding(topology_reading::specs::Shapes::typed_shape, topology_reading::specs::Members::need))]
+#[tactic(auto, using(crate::proofs::Deeper::deeper), unfolding(topojson_meaning::specs::Shapes::typed_shape, topojson_meaning::specs::Members::need))]
 pub(crate) fn typed_shape(
     alloc: Global,
     transform: Option<&Transform>,
@@ -161,7 +161,7 @@ pub(crate) fn typed_shape(
 
 /// The shape of the geometry object with these members.
 #[cycle(geometries)]
-#[tactic(auto, using(crate::proofs::Deeper::deeper), unfolding(topology_reading::specs::Shapes::geometry))]
+#[tactic(auto, using(crate::proofs::Deeper::deeper), unfolding(topojson_meaning::specs::Shapes::geometry))]
 fn geometry(
     alloc: Global,
     transform: Option<&Transform>,

@@ -1,7 +1,7 @@
 // Reading the transform of a topology (TopoJSON 1.0, section 2.1.2).
 ghost use Rattle.std.specs.Prelude.{◌≡◌, IfOk};
 ghost use Rattle.topojson_decoder.specs.Answers.{Finds, Reads};
-ghost use Rattle.topology_reading.specs.Transforms as spec;
+ghost use Rattle.topojson_meaning.specs.Transforms as spec;
 
 use crate::members::elements;
 use crate::numbers::number_text;
@@ -10,8 +10,8 @@ use decimal_text::NumText;
 use json_members::need;
 use json_value::{Json, OwnText};
 use std::alloc::Global;
-use topo_types::{Transform, TransformNumber};
-use topology_reading::TopoFault;
+use topojson_types::{Transform, TransformNumber};
+use topojson_meaning::TopoFault;
 
 /// Both texts once more.
 fn copies(alloc: Global, x: &NumText, y: &NumText) -> Result<(NumText, NumText), Memory>
@@ -23,7 +23,7 @@ fn copies(alloc: Global, x: &NumText, y: &NumText) -> Result<(NumText, NumText),
 }
 
 /// The two number texts of an array. Elements behind them are not looked at.
-#[tactic(auto, unfolding(topology_reading::specs::Transforms::texts))]
+#[tactic(auto, unfolding(topojson_meaning::specs::Transforms::texts))]
 fn texts(alloc: Global, value: &Json) -> Result<(NumText, NumText), TopoFault>
     ensures { Reads (λ ts. ts) result (spec.texts value.now) }
 {
@@ -39,7 +39,7 @@ fn texts(alloc: Global, value: &Json) -> Result<(NumText, NumText), TopoFault>
 }
 
 /// The number with this text, unless it is out of range.
-#[tactic(auto, unfolding(topology_reading::specs::Transforms::transform_number))]
+#[tactic(auto, unfolding(topojson_meaning::specs::Transforms::transform_number))]
 fn transform_number(text: NumText) -> Result<TransformNumber, TopoFault>
     ensures { Finds (λ n. n) result (spec.transform_number text) }
 {
@@ -50,7 +50,7 @@ fn transform_number(text: NumText) -> Result<TransformNumber, TopoFault>
 }
 
 /// Two numbers of a transform.
-#[tactic(auto, unfolding(topology_reading::specs::Transforms::transform_pair))]
+#[tactic(auto, unfolding(topojson_meaning::specs::Transforms::transform_pair))]
 fn transform_pair(
     texts: (NumText, NumText),
 ) -> Result<(TransformNumber, TransformNumber), TopoFault>
@@ -61,7 +61,7 @@ fn transform_pair(
 }
 
 /// The transform with these members: the texts of both are looked at before their ranges.
-#[tactic(auto, unfolding(topology_reading::specs::Transforms::transform_members, topology_reading::specs::Members::need))]
+#[tactic(auto, unfolding(topojson_meaning::specs::Transforms::transform_members, topojson_meaning::specs::Members::need))]
 fn transform_members(alloc: Global, members: &[(OwnText, Json)]) -> Result<Transform, TopoFault>
     ensures { Reads (λ t. t) result (spec.transform_members members.now) }
 {
@@ -73,7 +73,7 @@ fn transform_members(alloc: Global, members: &[(OwnText, Json)]) -> Result<Trans
 }
 
 /// The transform that the member `transform` gives, if it is there. Null is none.
-#[tactic(auto, unfolding(topology_reading::specs::Transforms::transform_if))]
+#[tactic(auto, unfolding(topojson_meaning::specs::Transforms::transform_if))]
 pub(crate) fn transform_if(
     alloc: Global,
     value: Option<Json>,

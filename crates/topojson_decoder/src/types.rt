@@ -1,14 +1,14 @@
 // The types of geometry objects (TopoJSON 1.0, section 2.2).
 ghost use Rattle.std.specs.Prelude.{◌≡◌};
 ghost use Rattle.topojson_decoder.specs.Answers.{Finds};
-ghost use Rattle.topology_reading.specs.GeometryTypes as spec;
+ghost use Rattle.topojson_meaning.specs.GeometryTypes as spec;
 
 use json_members::need;
 use json_value::{Json, OwnText};
-use topology_reading::{ArcsType, GeometryType, PlacesType, TopoFault};
+use topojson_meaning::{ArcsType, GeometryType, PlacesType, TopoFault};
 
 /// The type of this name.
-#[tactic(auto, unfolding(topology_reading::specs::GeometryTypes::geometry_type))]
+#[tactic(auto, unfolding(topojson_meaning::specs::GeometryTypes::geometry_type))]
 fn geometry_type(name: &str) -> Option<GeometryType>
     ensures { result ≡ spec.geometry_type name.now }
 {
@@ -32,7 +32,7 @@ fn geometry_type(name: &str) -> Option<GeometryType>
 }
 
 /// The type that a value names. Null stands for no shape.
-#[tactic(auto, unfolding(topology_reading::specs::GeometryTypes::type_of))]
+#[tactic(auto, unfolding(topojson_meaning::specs::GeometryTypes::type_of))]
 fn type_of(value: &Json) -> Result<Option<GeometryType>, TopoFault>
     ensures { Finds (λ t. t) result (spec.type_of value.now) }
 {
@@ -47,7 +47,7 @@ fn type_of(value: &Json) -> Result<Option<GeometryType>, TopoFault>
 }
 
 /// The type of a geometry object with these members.
-#[tactic(auto, unfolding(topology_reading::specs::GeometryTypes::object_type, topology_reading::specs::Members::need))]
+#[tactic(auto, unfolding(topojson_meaning::specs::GeometryTypes::object_type, topojson_meaning::specs::Members::need))]
 pub(crate) fn object_type(members: &[(OwnText, Json)]) -> Result<Option<GeometryType>, TopoFault>
     ensures { Finds (λ t. t) result (spec.object_type members.now) }
 {

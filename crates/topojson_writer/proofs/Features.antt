@@ -4,7 +4,7 @@ use Rattle.std.specs.Prelude.{codes}
 use Rattle.json_value.specs.declared.json.Json.TheVariants as j
 use Rattle.json_value.specs.Text.{json_text, escaped_byte}
 use Rattle.geojson_types.specs.declared.id.Id.{Id}
-use Rattle.topo_types.specs.Values.{Members, Geometrical, id_value, id_members, properties_members, feature_with}
+use Rattle.topojson_types.specs.Values.{Members, Geometrical, id_value, id_members, properties_members, feature_with}
 use Rattle.topojson_writer.specs.Texts.{type_text, members_text}
 use Rattle.topojson_writer.proofs.Objects.{member-alone, members-append, object-text}
 

@@ -9,10 +9,10 @@ use Rattle.json_value.proofs.Texts.{texts}
 use Rattle.geojson_types.specs.declared.geometry.Geometry.TheVariants as g
 use Rattle.geojson_types.specs.declared.id.Id.TheVariants as id
 use Rattle.geojson_types.specs.Points.{Point}
-use Rattle.topo_types.specs.declared.feature.TopoFeature.{TopoFeature}
-use Rattle.topo_types.specs.declared.object.TopoObject.TheVariants.{Many}
-use Rattle.topo_types.specs.Topologies.{TopoShape, Contents}
-use Rattle.topo_types.specs.Values.{feature_value, object_value, topology_value}
+use Rattle.topojson_types.specs.declared.feature.TopoFeature.{TopoFeature}
+use Rattle.topojson_types.specs.declared.object.TopoObject.TheVariants.{Many}
+use Rattle.topojson_types.specs.Topologies.{TopoShape, Contents}
+use Rattle.topojson_types.specs.Values.{feature_value, object_value, topology_value}
 use Rattle.topojson_writer.proofs.Shapes.{kinds}
 
 -- a position at a whole number of the input's units from zero

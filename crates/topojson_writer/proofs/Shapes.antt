@@ -10,8 +10,8 @@ use Rattle.geojson_types.specs.declared.geometry.Geometry.TheOpen.{Geometry-F}
 use Rattle.geojson_types.specs.declared.geometry.Geometry.TheVariants as g
 use Rattle.geojson_types.specs.Points.{Point}
 use Rattle.geojson_types.proofs.Induction.{by_kinds}
-use Rattle.topo_types.specs.Topologies.{TopoShape}
-use Rattle.topo_types.specs.Values.{Geometrical, typed, inner_value, position_value, positions_value, line_value, lines_value, geometrical_step, geometrical}
+use Rattle.topojson_types.specs.Topologies.{TopoShape}
+use Rattle.topojson_types.specs.Values.{Geometrical, typed, inner_value, position_value, positions_value, line_value, lines_value, geometrical_step, geometrical}
 use Rattle.topojson_writer.specs.Texts.{shape_value, type_text, members_text, parts_name, parts_value}
 use Rattle.topojson_writer.proofs.Objects.{member-alone}
 

@@ -5,8 +5,8 @@ use Rattle.json_value.specs.declared.json.Json.{Json}
 use Rattle.json_value.specs.declared.json.Json.TheVariants as j
 use Rattle.json_value.specs.Text.{json_text, escaped_byte}
 use Rattle.json_value.proofs.Texts.{text-text}
-use Rattle.topo_types.specs.Topologies.{Contents}
-use Rattle.topo_types.specs.Values.{topology_value}
+use Rattle.topojson_types.specs.Topologies.{Contents}
+use Rattle.topojson_types.specs.Values.{topology_value}
 use Rattle.topojson_writer.specs.Texts.{type_text, members_text, arcs_value, objects_value}
 use Rattle.topojson_writer.proofs.Objects.{member-alone, members-append, object-text}
 

@@ -5,9 +5,9 @@ use Rattle.json_value.specs.declared.json.Json.{Json}
 use Rattle.json_value.specs.declared.json.Json.TheVariants as j
 use Rattle.json_value.specs.Text.{json_text, name_text, member_text}
 use Rattle.geojson_types.specs.Points.{Point}
-use Rattle.topo_types.specs.declared.object.TopoObject.{TopoObject}
-use Rattle.topo_types.specs.Topologies.{TopoShape}
-use Rattle.topo_types.specs.Values.{Members, Geometrical, geometrical, inner_value, positions_value, object_value}
+use Rattle.topojson_types.specs.declared.object.TopoObject.{TopoObject}
+use Rattle.topojson_types.specs.Topologies.{TopoShape}
+use Rattle.topojson_types.specs.Values.{Members, Geometrical, geometrical, inner_value, positions_value, object_value}
 
 -- a geometry inside a collection
 abbrev pub shape_value : TopoShape → Json

@@ -1,11 +1,11 @@
 // Positions as they are written (TopoJSON 1.0, section 2.1.1).
 ghost use Rattle.byte_ends.specs.Continues.{Continues};
 ghost use Rattle.json_value.specs.Text.{json_text};
-ghost use Rattle.topo_types.specs.Values.{position_value};
+ghost use Rattle.topojson_types.specs.Values.{position_value};
 
 use byte_ends::{Drain, Progress, Sink};
 use json_value::{PutValue, put_pair};
-use topo_types::Cell;
+use topojson_types::Cell;
 
 /// Decimal places of a unit.
 const PLACES: u32 = 7;

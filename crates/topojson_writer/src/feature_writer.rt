@@ -2,14 +2,14 @@
 ghost use Rattle.std.specs.Prelude.{Some};
 ghost use Rattle.byte_ends.specs.Continues.{Continues};
 ghost use Rattle.json_value.specs.Text.{json_text};
-ghost use Rattle.topo_types.specs.Values.{geometrical_option, id_value, id_members, properties_members, feature_value};
+ghost use Rattle.topojson_types.specs.Values.{geometrical_option, id_value, id_members, properties_members, feature_value};
 ghost use Rattle.topojson_writer.specs.Texts.{type_text, members_text};
 
 use crate::shape_writer::{put_parts, put_type};
 use byte_ends::{Drain, Progress, Sink, put_part};
 use geojson_types::Id;
 use json_value::{Items, Json, OwnText, PutValue, put_members, put_text};
-use topo_types::{TopoFeature, TopoShape};
+use topojson_types::{TopoFeature, TopoShape};
 
 /// Writes an identifier: a text, or a number by its text.
 #[tactic(auto, using(crate::proofs::Objects::leaves))]

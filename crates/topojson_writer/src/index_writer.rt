@@ -1,9 +1,9 @@
 // Arc indexes as they are written (TopoJSON 1.0, section 2.1.4).
-ghost use Rattle.topo_types.specs.Values.{whole_value};
+ghost use Rattle.topojson_types.specs.Values.{whole_value};
 
 use byte_ends::{Drain, Progress, Sink};
 use json_value::{PutValue, put_decimal};
-use topo_types::ArcRef;
+use topojson_types::ArcRef;
 
 /// The way to write arc indexes, which are whole numbers.
 pub struct ArcRefs;

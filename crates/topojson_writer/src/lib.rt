@@ -1,6 +1,6 @@
-//! The writer of topologies (TopoJSON 1.0). It stands on `topo_types` for the topologies, on `json_value` for the texts of names,
+//! The writer of topologies (TopoJSON 1.0). It stands on `topojson_types` for the topologies, on `json_value` for the texts of names,
 //! identifiers and properties, on `decimal_text` for the numbers, and on `byte_ends` for the sinks.
-//! `topo_types` says in `specs/Values.antt` which JSON value a topology is. The layers above use the contract of `write_topology`:
+//! `topojson_types` says in `specs/Values.antt` which JSON value a topology is. The layers above use the contract of `write_topology`:
 //! what it writes is the text of that value.
 #![tactic(auto)]
 

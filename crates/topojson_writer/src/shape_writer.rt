@@ -1,7 +1,7 @@
 // Geometries as they are written (TopoJSON 1.0, section 2.2).
 ghost use Rattle.byte_ends.specs.Continues.{Continues};
 ghost use Rattle.json_value.specs.Text.{json_text};
-ghost use Rattle.topo_types.specs.Values.{geometrical};
+ghost use Rattle.topojson_types.specs.Values.{geometrical};
 ghost use Rattle.topojson_writer.specs.Texts.{shape_value, shapes_value, type_text, members_text, parts_name, parts_value};
 
 use crate::cell_writer::{Cells, put_cell};
@@ -9,7 +9,7 @@ use crate::index_writer::ArcRefs;
 use byte_ends::{Drain, Progress, Sink, put_comma, put_part};
 use geojson_types::Geometry;
 use json_value::{ArrayOf, Items, put_array};
-use topo_types::{ArcRef, Cell, TopoShape};
+use topojson_types::{ArcRef, Cell, TopoShape};
 
 /// Writes the opening brace of a geometry object, and its type.
 pub fn put_type<W: Drain>(shape: &TopoShape, so_far: Progress, sink: &mut Sink<W>) -> Progress

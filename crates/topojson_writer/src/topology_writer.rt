@@ -3,14 +3,14 @@ ghost use Rattle.std.specs.Prelude.{◌≡◌, None};
 ghost use Rattle.byte_ends.specs.Continues.{Continues};
 ghost use Rattle.byte_ends.specs.Writes.{Writes};
 ghost use Rattle.json_value.specs.Text.{json_text};
-ghost use Rattle.topo_types.specs.declared.object.TopoObject.TheVariants.{Many};
-ghost use Rattle.topo_types.specs.Values.{object_value, topology_value};
+ghost use Rattle.topojson_types.specs.declared.object.TopoObject.TheVariants.{Many};
+ghost use Rattle.topojson_types.specs.Values.{object_value, topology_value};
 
 use crate::cell_writer::Cells;
 use crate::feature_writer::{Features, put_feature};
 use byte_ends::{Drain, Progress, Sink, WriteFault, put_part};
 use json_value::{ArrayOf, Items, PutValue, put_array, put_object};
-use topo_types::{Cell, TopoFeature, TopoObject, Topology};
+use topojson_types::{Cell, TopoFeature, TopoObject, Topology};
 
 /// Writes the GeometryCollection of these features.
 fn put_collection<W: Drain>(

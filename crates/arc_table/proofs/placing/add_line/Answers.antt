@@ -9,34 +9,34 @@ pub loop-piece-preserved : goal.loop-piece-preserved
 loop-piece-preserved c = (
   c.loop-piece.invariant.0 ++ (c.in-Some.piece.now ∷ []),
   append_assoc c.loop-piece.invariant.0 (c.in-Some.piece.now ∷ []) c.next.new.self ∙ ap (λ l. c.loop-piece.invariant.0 ++ l) (sym c.in-Some.ensures.steps) ∙ c.loop-piece.invariant.1,
-  c.in_ok-place.ensures.arcs ∙ ap (λ l. grown l c.in-Some.piece.now) c.loop-piece.invariant.2 ∙ sym (grow_more c.args.arcs.now.items c.loop-piece.invariant.0 c.in-Some.piece.now),
+  c.in_ok-find_or_add.ensures.arcs ∙ ap (λ l. grown l c.in-Some.piece.now) c.loop-piece.invariant.2 ∙ sym (grow_more c.args.arcs.now.items c.loop-piece.invariant.0 c.in-Some.piece.now),
   c.in_ok-push.ensures.items
-      ∙ refs_turn c.args.arcs.now.items c.loop-piece.invariant.0 c.in-Some.piece.now c.loop-piece.refs.items c.in_ok-place.field-0 c.loop-piece.invariant.3
-      (c.in_ok-place.ensures.named ∙ ap (λ l. first_alike l c.in-Some.piece.now) (c.in_ok-place.ensures.arcs ∙ ap (λ l. grown l c.in-Some.piece.now) c.loop-piece.invariant.2)),
-  c.in_ok-place.ensures.known,
-  omega (arith, c.loop-piece.invariant.5, c.place.ensures.compared, c.in_ok-push.ensures.len),
+      ∙ refs_turn c.args.arcs.now.items c.loop-piece.invariant.0 c.in-Some.piece.now c.loop-piece.refs.items c.in_ok-find_or_add.field-0 c.loop-piece.invariant.3
+      (c.in_ok-find_or_add.ensures.named ∙ ap (λ l. first_alike l c.in-Some.piece.now) (c.in_ok-find_or_add.ensures.arcs ∙ ap (λ l. grown l c.in-Some.piece.now) c.loop-piece.invariant.2)),
+  c.in_ok-find_or_add.ensures.known,
+  omega (arith, c.loop-piece.invariant.5, c.find_or_add.ensures.compared, c.in_ok-push.ensures.len),
   λ h.
       let more : length c.push.new.self.items ≡ length c.loop-piece.refs.items + 1 = omega (arith, c.in_ok-push.ensures.len) in
-      count_piece c.args.compared.now c.loop-piece.compared (length c.loop-piece.refs.items) (length c.loop-piece.arcs.items) (length c.place.new.arcs.items) (length c.args.arcs.now.items) c.place.new.compared (2 ^ 64)
-      c.loop-piece.invariant.5 c.loop-piece.invariant.6 c.in_ok-place.ensures.counted (omega (arith, h, more)) ∙ ap (λ n. c.args.compared.now + length c.args.arcs.now.items + n) (sym more),
+      count_piece c.args.compared.now c.loop-piece.compared (length c.loop-piece.refs.items) (length c.loop-piece.arcs.items) (length c.find_or_add.new.arcs.items) (length c.args.arcs.now.items) c.find_or_add.new.compared (2 ^ 64)
+      c.loop-piece.invariant.5 c.loop-piece.invariant.6 c.in_ok-find_or_add.ensures.counted (omega (arith, h, more)) ∙ ap (λ n. c.args.compared.now + length c.args.arcs.now.items + n) (sym more),
 )
 
-pub place-requires-clause-long : goal.place-requires-clause-long
-place-requires-clause-long c =
+pub find_or_add-requires-clause-long : goal.find_or_add-requires-clause-long
+find_or_add-requires-clause-long c =
     c.requires.long c.in-Some.piece.now
     (piece_in c.args.arcs.now.items c.loop-piece.invariant.0 c.in-Some.piece.now c.next.new.self c.args.pieces c.loop-piece.arcs.items
     (ap (λ l. c.loop-piece.invariant.0 ++ l) (sym c.in-Some.ensures.steps) ∙ c.loop-piece.invariant.1))
 
-pub place-requires-clause-unlike : goal.place-requires-clause-unlike
-place-requires-clause-unlike c =
+pub find_or_add-requires-clause-unlike : goal.find_or_add-requires-clause-unlike
+find_or_add-requires-clause-unlike c =
     subst AreUnlike (sym c.loop-piece.invariant.2) (unlike_all c.args.arcs.now.items c.loop-piece.invariant.0 c.requires.unlike)
 
-pub place-requires-clause-tells : goal.place-requires-clause-tells
-place-requires-clause-tells c =
+pub find_or_add-requires-clause-tells : goal.find_or_add-requires-clause-tells
+find_or_add-requires-clause-tells c =
     (turn_tells c.args.arcs.now.items c.loop-piece.invariant.0 c.in-Some.piece.now c.next.new.self c.args.pieces c.loop-piece.arcs.items
     (ap (λ l. c.loop-piece.invariant.0 ++ l) (sym c.in-Some.ensures.steps) ∙ c.loop-piece.invariant.1) c.requires.tell c.loop-piece.invariant.2).0
 
-pub place-requires-clause-tells_back : goal.place-requires-clause-tells_back
-place-requires-clause-tells_back c =
+pub find_or_add-requires-clause-tells_back : goal.find_or_add-requires-clause-tells_back
+find_or_add-requires-clause-tells_back c =
     (turn_tells c.args.arcs.now.items c.loop-piece.invariant.0 c.in-Some.piece.now c.next.new.self c.args.pieces c.loop-piece.arcs.items
     (ap (λ l. c.loop-piece.invariant.0 ++ l) (sym c.in-Some.ensures.steps) ∙ c.loop-piece.invariant.1) c.requires.tell c.loop-piece.invariant.2).1

@@ -1,7 +1,7 @@
 use Rattle.std.proofs.Common.{rules, ◌≡◌, ◌&&◌, refl, ap, sym, ◌∙◌, subst, Some, None, IsSome}
 use Rattle.indexmap.specs.IndexMap.{get, keys}
 use Rattle.geojson_types.specs.Order.{is_least}
-use Rattle.linework.specs.Notes.{equal, flagged, loosened}
+use Rattle.linework.specs.Notes.{equal, flagged, with_ring_start}
 use Rattle.linework.proofs.Flags.{flag_one, flag_absent, flag_not}
 use Rattle.linework.proofs.table.flag_ring.Goals as goal
 
@@ -15,7 +15,7 @@ returns-then-not-is_free c = record {
 
 pub returns-in-Some : goal.returns-in-Some
 returns-in-Some c =
-    let x = loosened c.in-Some.vertex.now in
+    let x = with_ring_start c.in-Some.vertex.now in
     let e : Some c.in-Some.vertex.now ≡ get equal c.args.table.now c.least-least.result = search rules in
     let k : IsSome (get equal c.args.table.now c.least-least.result) = subst (λ o. IsSome o) e (search rules) in
     let h = c.get_mut.follows.holds x in

@@ -1,10 +1,10 @@
 use Rattle.std.proofs.Common.{◌∙◌, ap, subst, Err, length, ◌<◌, ◌^◌}
 use Rattle.std.proofs.lemmas.Result.{err_from_is_err_and}
 use Rattle.json_value.specs.Text.{json_text}
-use Rattle.topo_types.specs.Values.{topology_value}
-use Rattle.built_topology.specs.Built.{built}
-use Rattle.built_topology.proofs.Renumbered.{built_has_no_transform}
-use Rattle.built_topology.specs.Expected.{expected_dropped}
+use Rattle.topojson_types.specs.Values.{topology_value}
+use Rattle.build_meaning.specs.Built.{built}
+use Rattle.build_meaning.proofs.Renumbered.{built_has_no_transform}
+use Rattle.build_meaning.specs.Expected.{expected_dropped}
 use Rattle.mapchain_engine.specs.Building.{Sends, report_with}
 use Rattle.mapchain_engine.proofs.Built as built
 use Rattle.mapchain_engine.proofs.building.build_layers.Goals as goal

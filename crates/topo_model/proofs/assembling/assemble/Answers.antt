@@ -1,5 +1,5 @@
 use Rattle.std.proofs.Common.{sym, ap, ◌∙◌, subst, arith, length, ◌<◌, ◌^◌}
-use Rattle.topo_types.specs.Validity.{IsTopology}
+use Rattle.topojson_types.specs.Validity.{IsTopology}
 use Rattle.topo_model.proofs.Assembled.{contents}
 use Rattle.topo_model.proofs.assembling.assemble.Goals as goal
 

@@ -1,6 +1,6 @@
 use Rattle.std.proofs.Common.{[], append-nil, ◌∙◌, sym}
 use Rattle.topo_model.specs.Entries.{entries_of}
-use Rattle.built_topology.specs.Layers.{named_strokes}
+use Rattle.build_meaning.specs.Layers.{named_strokes}
 use Rattle.topo_model.proofs.assembling.assemble_objects.Goals as goal
 
 pub returns : goal.returns

@@ -1,8 +1,8 @@
 use Rattle.std.proofs.Common.{◌++◌, ap, ◌∙◌, sym}
-use Rattle.topo_types.specs.declared.object.TopoObject.TheVariants.{Many}
+use Rattle.topojson_types.specs.declared.object.TopoObject.TheVariants.{Many}
 use Rattle.topo_model.specs.Entries.{entries_of}
-use Rattle.built_topology.specs.Layers.{features_strokes}
-use Rattle.built_topology.specs.Objects.{features_by}
+use Rattle.build_meaning.specs.Layers.{features_strokes}
+use Rattle.build_meaning.specs.Objects.{features_by}
 use Rattle.topo_model.proofs.Taking.{mapped_more}
 use Rattle.topo_model.proofs.assembling.named_objects.Goals as goal
 

@@ -1,6 +1,6 @@
-use Rattle.topo_types.specs.declared.object.TopoObject.TheVariants.{Many}
-use Rattle.built_topology.specs.Layers.{features_strokes}
-use Rattle.built_topology.specs.Objects.{features_by}
+use Rattle.topojson_types.specs.declared.object.TopoObject.TheVariants.{Many}
+use Rattle.build_meaning.specs.Layers.{features_strokes}
+use Rattle.build_meaning.specs.Objects.{features_by}
 use Rattle.topo_model.proofs.Taking.{Mapped}
 use Rattle.topo_model.proofs.assembling.named_objects.Given as goal
 

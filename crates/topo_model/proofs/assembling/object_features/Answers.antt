@@ -1,5 +1,5 @@
 use Rattle.geojson_types.specs.Pruning.{option_strokes}
-use Rattle.built_topology.specs.Objects.{feature_by}
+use Rattle.build_meaning.specs.Objects.{feature_by}
 use Rattle.topo_model.proofs.Taking.{mapped_more}
 use Rattle.topo_model.proofs.assembling.object_features.Goals as goal
 

@@ -1,5 +1,5 @@
 use Rattle.std.proofs.Common.{◌≡◌, ◌++◌, List, true, map, append-nil, refl, ap, sym, ◌∙◌}
-use Rattle.built_topology.specs.Candidates.{candidates}
+use Rattle.build_meaning.specs.Candidates.{candidates}
 use Rattle.geojson_types.specs.declared.address.Dropped.{Dropped}
 use Rattle.geojson_types.specs.Lists.{joined}
 use Rattle.geojson_types.specs.Omissions.{omissions}

@@ -1,5 +1,5 @@
 use Rattle.std.proofs.Common.{true, ◌≡◌, ◌++◌, map, drop}
-use Rattle.built_topology.specs.Candidates.{candidates}
+use Rattle.build_meaning.specs.Candidates.{candidates}
 use Rattle.geojson_types.specs.Lists.{joined}
 use Rattle.geojson_types.specs.Omissions.{omissions}
 use Rattle.geojson_types.specs.Paths.{of_parts}

@@ -1,5 +1,5 @@
 use Rattle.std.proofs.Common.{◌≡◌, ◌++◌, true, ap, ◌∙◌}
-use Rattle.built_topology.specs.Candidates.{area_candidates}
+use Rattle.build_meaning.specs.Candidates.{area_candidates}
 use Rattle.geojson_types.specs.Omissions.{area_omissions}
 use Rattle.linework.specs.Gathering.{part_address}
 use Rattle.topo_model.specs.Drops.{dropped_at, short_cause}

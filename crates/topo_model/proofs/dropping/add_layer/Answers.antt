@@ -1,5 +1,5 @@
 use Rattle.std.proofs.Common.{◌≡◌, ◌++◌, true, Some, None, append-nil, ap, sym, ◌∙◌, rules}
-use Rattle.built_topology.specs.Candidates.{option_candidates}
+use Rattle.build_meaning.specs.Candidates.{option_candidates}
 use Rattle.geojson_types.specs.Omissions.{omissions}
 use Rattle.linework.specs.Linework.{feature_address}
 use Rattle.topo_model.specs.Drops.{dropped_at, option_drops, short_cause}

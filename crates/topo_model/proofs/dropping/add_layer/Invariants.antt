@@ -1,5 +1,5 @@
 use Rattle.std.proofs.Common.{◌≡◌, ◌++◌, true, drop}
-use Rattle.built_topology.specs.Candidates.{features_candidates}
+use Rattle.build_meaning.specs.Candidates.{features_candidates}
 use Rattle.topo_model.specs.Drops.{layer_drops, short_cause}
 use Rattle.topo_model.specs.Fates.{fates}
 use Rattle.topo_model.proofs.dropping.add_layer.Given as goal

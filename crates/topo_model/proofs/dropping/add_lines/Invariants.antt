@@ -1,5 +1,5 @@
 use Rattle.std.proofs.Common.{◌≡◌, ◌++◌, false, map, drop}
-use Rattle.built_topology.specs.Candidates.{free}
+use Rattle.build_meaning.specs.Candidates.{free}
 use Rattle.geojson_types.specs.Omissions.{here}
 use Rattle.geojson_types.specs.Paths.{of_parts}
 use Rattle.topo_model.specs.Drops.{dropped_at, short_cause}

@@ -1,5 +1,5 @@
 use Rattle.std.proofs.Common.{◌≡◌, ◌+◌, [], ◌∷◌, ◌++◌, true, map, append_assoc, refl, ap, sym, ◌∙◌, rules}
-use Rattle.built_topology.specs.Candidates.{area_candidates, hole}
+use Rattle.build_meaning.specs.Candidates.{area_candidates, hole}
 use Rattle.geojson_types.specs.Omissions.{here, inner_cause, area_omissions}
 use Rattle.geojson_types.specs.Paths.{of_parts}
 use Rattle.linework.specs.Gathering.{part_address}

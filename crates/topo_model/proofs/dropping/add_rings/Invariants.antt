@@ -1,5 +1,5 @@
 use Rattle.std.proofs.Common.{◌≡◌, ◌+◌, ◌++◌, true, map, drop}
-use Rattle.built_topology.specs.Candidates.{hole}
+use Rattle.build_meaning.specs.Candidates.{hole}
 use Rattle.geojson_types.specs.Omissions.{here, inner_cause}
 use Rattle.geojson_types.specs.Paths.{of_parts}
 use Rattle.topo_model.specs.Drops.{dropped_at, short_cause}

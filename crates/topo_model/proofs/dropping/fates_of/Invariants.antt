@@ -1,5 +1,5 @@
 use Rattle.std.proofs.Common.{◌≡◌, ◌++◌, true, map, drop}
-use Rattle.built_topology.specs.Candidates.{named_candidates}
+use Rattle.build_meaning.specs.Candidates.{named_candidates}
 use Rattle.geojson_types.specs.Omissions.{dropped_of_layers}
 use Rattle.topo_model.specs.Drops.{drops, option_drops, short_cause}
 use Rattle.topo_model.specs.Fates.{fates}

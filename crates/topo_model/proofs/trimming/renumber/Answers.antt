@@ -1,5 +1,5 @@
 use Rattle.std.proofs.Common.{length, ◌<◌, ap, ◌∙◌, sym, pos}
-use Rattle.built_topology.specs.Trimming.{rank_from}
+use Rattle.build_meaning.specs.Trimming.{rank_from}
 use Rattle.topo_model.proofs.Ranked.{rank_at, kept_forwards, kept_backwards}
 use Rattle.topo_model.proofs.trimming.renumber.Goals as goal
 

@@ -1,5 +1,5 @@
 use Rattle.std.proofs.Common.{◌≡◌, ℕ, Bool, map, take}
-use Rattle.built_topology.specs.Trimming.{renumbered}
+use Rattle.build_meaning.specs.Trimming.{renumbered}
 use Rattle.topo_model.proofs.Ranked.{RanksOf}
 use Rattle.topo_model.proofs.trimming.renumber_all.Given as goal
 

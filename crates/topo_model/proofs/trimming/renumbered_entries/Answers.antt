@@ -1,5 +1,5 @@
 use Rattle.std.proofs.Common.{Some, [], ◌∷◌, ◌++◌, ap, map, length, ◌≡◌, ◌∙◌, refl, sym, pos}
-use Rattle.built_topology.specs.Trimming.{rank_from, renumbered}
+use Rattle.build_meaning.specs.Trimming.{rank_from, renumbered}
 use Rattle.topo_model.specs.Uses.{answers}
 use Rattle.topo_model.proofs.Ranked.{RanksOf}
 use Rattle.topo_model.proofs.Dealt.{entry_none, entry_some, entries_all, tested}

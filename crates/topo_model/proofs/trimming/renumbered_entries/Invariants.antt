@@ -1,5 +1,5 @@
 use Rattle.std.proofs.Common.{◌≡◌, ℕ, Bool, ◌++◌, length, map, drop}
-use Rattle.built_topology.specs.Trimming.{renumbered}
+use Rattle.build_meaning.specs.Trimming.{renumbered}
 use Rattle.geojson_types.specs.Lists.{map_some}
 use Rattle.topo_model.specs.Fates.{dealt}
 use Rattle.topo_model.specs.Uses.{answers}

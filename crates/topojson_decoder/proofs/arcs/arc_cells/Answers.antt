@@ -1,8 +1,8 @@
 use Rattle.std.proofs.Common.{◌≡◌, None, refl, subst}
 use Rattle.json_value.specs.declared.json.Json.{Json}
 use Rattle.geojson_types.specs.Points.{Point}
-use Rattle.topology_reading.specs.Arcs.{arc_cells, elements_place, place, position}
-use Rattle.topology_reading.specs.Reader.{Reader, each}
+use Rattle.topojson_meaning.specs.Arcs.{arc_cells, elements_place, place, position}
+use Rattle.topojson_meaning.specs.Reader.{Reader, each}
 use Rattle.topojson_decoder.specs.Answers.{Gives}
 use Rattle.topojson_decoder.proofs.arcs.arc_cells.Goals as goal
 

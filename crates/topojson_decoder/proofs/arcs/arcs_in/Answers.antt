@@ -2,7 +2,7 @@ use Rattle.std.proofs.Common.{arith}
 use Rattle.std.specs.Option.{option_copied}
 use Rattle.std.proofs.lemmas.List.{nil_from_length}
 use Rattle.std.proofs.lemmas.Result.{err_from_is_err_and}
-use Rattle.topology_reading.specs.Arcs.{arc}
+use Rattle.topojson_meaning.specs.Arcs.{arc}
 use Rattle.json_members.proofs.Turns as g
 use Rattle.topojson_decoder.proofs.arcs.arcs_in.Goals as goal
 

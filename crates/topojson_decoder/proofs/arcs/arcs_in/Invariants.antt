@@ -1,8 +1,8 @@
 use Rattle.std.proofs.Common.{◌≡◌}
 use Rattle.std.specs.Option.{option_copied}
 use Rattle.std.specs.Vec.Iter.{into_iter_items}
-use Rattle.topology_reading.specs.Arcs.{arc}
-use Rattle.topology_reading.specs.Reader.{each}
+use Rattle.topojson_meaning.specs.Arcs.{arc}
+use Rattle.topojson_meaning.specs.Reader.{each}
 use Rattle.json_members.proofs.Turns.{with_front}
 use Rattle.topojson_decoder.proofs.arcs.arcs_in.Given as goal
 

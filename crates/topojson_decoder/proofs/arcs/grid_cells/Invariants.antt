@@ -1,6 +1,6 @@
 use Rattle.std.proofs.Common.{◌≡◌, drop}
-use Rattle.topo_types.specs.Transforms.{origin}
-use Rattle.topology_reading.specs.Arcs.{cells_behind}
+use Rattle.topojson_types.specs.Transforms.{origin}
+use Rattle.topojson_meaning.specs.Arcs.{cells_behind}
 use Rattle.json_members.proofs.Turns.{with_front}
 use Rattle.topojson_decoder.proofs.arcs.grid_cells.Given as goal
 

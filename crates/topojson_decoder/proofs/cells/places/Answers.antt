@@ -1,6 +1,6 @@
 use Rattle.std.proofs.lemmas.Result.{err_from_is_err_and}
 use Rattle.std.specs.Option.{option_copied}
-use Rattle.topology_reading.specs.Arcs.{place}
+use Rattle.topojson_meaning.specs.Arcs.{place}
 use Rattle.json_members.proofs.Turns as g
 use Rattle.topojson_decoder.proofs.cells.places.Goals as goal
 

@@ -1,7 +1,7 @@
 use Rattle.std.proofs.Common.{◌≡◌, drop}
 use Rattle.std.specs.Option.{option_copied}
-use Rattle.topology_reading.specs.Arcs.{place}
-use Rattle.topology_reading.specs.Reader.{each}
+use Rattle.topojson_meaning.specs.Arcs.{place}
+use Rattle.topojson_meaning.specs.Reader.{each}
 use Rattle.json_members.proofs.Turns.{with_front}
 use Rattle.topojson_decoder.proofs.cells.places.Given as goal
 

@@ -1,6 +1,6 @@
 use Rattle.std.proofs.Common.{◌≡◌, drop}
 use Rattle.geojson_types.specs.declared.counts.Counts.{Counts}
-use Rattle.topology_reading.specs.Lines.{indexes}
+use Rattle.topojson_meaning.specs.Lines.{indexes}
 use Rattle.topojson_decoder.proofs.Following.{indexes_from}
 use Rattle.json_members.proofs.Turns.{with_front}
 use Rattle.topojson_decoder.proofs.lines.indexes.Given as goal

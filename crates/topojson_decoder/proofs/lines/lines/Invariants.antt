@@ -1,6 +1,6 @@
 use Rattle.std.proofs.Common.{◌≡◌, drop}
-use Rattle.topology_reading.specs.Lines.{line}
-use Rattle.topology_reading.specs.Reader.{kept}
+use Rattle.topojson_meaning.specs.Lines.{line}
+use Rattle.topojson_meaning.specs.Reader.{kept}
 use Rattle.json_members.proofs.Turns.{with_front}
 use Rattle.topojson_decoder.proofs.lines.lines.Given as goal
 

@@ -1,8 +1,8 @@
 use Rattle.std.proofs.Common.{◌≡◌}
 use Rattle.std.specs.Option.{option_copied}
 use Rattle.std.specs.Vec.Iter.{into_iter_items}
-use Rattle.topology_reading.specs.Features.{feature_element}
-use Rattle.topology_reading.specs.Reader.{each}
+use Rattle.topojson_meaning.specs.Features.{feature_element}
+use Rattle.topojson_meaning.specs.Reader.{each}
 use Rattle.json_members.proofs.Turns.{with_front}
 use Rattle.topojson_decoder.proofs.objects.features_in.Given as goal
 

@@ -2,7 +2,7 @@ use Rattle.std.proofs.Common.{◌≡◌, ℕ, List}
 use Rattle.std.specs.Prelude.{[]}
 use Rattle.std.specs.Option.{option_copied}
 use Rattle.std.specs.Vec.Iter.{into_iter_items}
-use Rattle.topology_reading.specs.Objects.{objects_behind}
+use Rattle.topojson_meaning.specs.Objects.{objects_behind}
 use Rattle.json_members.proofs.Turns.{with_front}
 use Rattle.topojson_decoder.proofs.Naming.{Repeats}
 use Rattle.topojson_decoder.proofs.objects.objects_in.Given as goal

@@ -1,6 +1,6 @@
 use Rattle.std.proofs.Common.{◌≡◌, drop}
-use Rattle.topology_reading.specs.Lines.{polygon}
-use Rattle.topology_reading.specs.Reader.{kept}
+use Rattle.topojson_meaning.specs.Lines.{polygon}
+use Rattle.topojson_meaning.specs.Reader.{kept}
 use Rattle.json_members.proofs.Turns.{with_front}
 use Rattle.topojson_decoder.proofs.polygons.polygons.Given as goal
 

@@ -1,6 +1,6 @@
 use Rattle.std.proofs.Common.{Some}
 use Rattle.std.proofs.lemmas.Result.{err_from_is_err_and}
-use Rattle.topology_reading.specs.Lines.{ring}
+use Rattle.topojson_meaning.specs.Lines.{ring}
 use Rattle.json_members.proofs.Turns as g
 use Rattle.topojson_decoder.proofs.polygons.rings.Goals as goal
 

@@ -1,8 +1,8 @@
 use Rattle.std.proofs.Common.{◌≡◌, ◌+◌, ◌*◌, drop}
 use Rattle.std.specs.Option.{option_copied}
 use Rattle.json_value.specs.Depth.{depth}
-use Rattle.topology_reading.specs.Reader.{kept}
-use Rattle.topology_reading.specs.Shapes.{shape}
+use Rattle.topojson_meaning.specs.Reader.{kept}
+use Rattle.topojson_meaning.specs.Shapes.{shape}
 use Rattle.topojson_decoder.proofs.Deeper.{object_depth}
 use Rattle.json_members.proofs.Turns.{with_front}
 use Rattle.topojson_decoder.proofs.shapes.+geometries.Given as goal

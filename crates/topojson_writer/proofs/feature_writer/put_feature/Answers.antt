@@ -1,5 +1,5 @@
 use Rattle.byte_ends.proofs.Parts.{as_text, then}
-use Rattle.topo_types.specs.Values.{geometrical_option}
+use Rattle.topojson_types.specs.Values.{geometrical_option}
 use Rattle.topojson_writer.proofs.Features.{feature-text}
 use Rattle.topojson_writer.proofs.feature_writer.put_feature.Goals as goal
 

@@ -1,7 +1,7 @@
 use Rattle.std.specs.Prelude.{codes}
 use Rattle.byte_ends.proofs.Parts.{as_text, begins, list-goes, list-ends, then}
 use Rattle.json_value.proofs.Lists.{array-text, text_by}
-use Rattle.topo_types.specs.Values.{geometrical}
+use Rattle.topojson_types.specs.Values.{geometrical}
 use Rattle.topojson_writer.specs.Texts.{shape_value}
 use Rattle.topojson_writer.proofs.Objects.{object-text}
 use Rattle.topojson_writer.proofs.Shapes.{parts-text}

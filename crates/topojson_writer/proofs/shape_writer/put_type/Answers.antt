@@ -1,6 +1,6 @@
 use Rattle.std.proofs.Common.{ap, ◌∙◌}
 use Rattle.byte_ends.proofs.Parts.{as_text}
-use Rattle.topo_types.specs.Values.{geometrical}
+use Rattle.topojson_types.specs.Values.{geometrical}
 use Rattle.topojson_writer.specs.Texts.{type_text}
 use Rattle.topojson_writer.proofs.Shapes as kind
 use Rattle.topojson_writer.proofs.shape_writer.put_type.Goals as goal

@@ -1,0 +1,118 @@
+-- What is decoded of the topology that is built of layers is what is expected of it.
+use Rattle.std.proofs.Common.{◌≡◌, ◌≢◌, ℕ, bytes_eq, Bool, true, false, List, [], ◌∷◌, map, Option, None, Some, refl, ap, ◌∙◌, if◌then◌else◌}
+use Rattle.std.specs.List.{AllByRecursion}
+use Rattle.std.proofs.lemmas.Slice.Eq.{bytes_eq-Decides}
+use Rattle.elimination_meaning.specs.Elimination.{reduced}
+use Rattle.elimination_meaning.specs.Laws.{DirectionLaw}
+use Rattle.geojson_types.specs.declared.layer.FeatureSet.TheVariants as set
+use Rattle.geojson_types.specs.declared.layer.Layer.{Layer}
+use Rattle.geojson_types.specs.Features.{Shape, Featured}
+use Rattle.geojson_types.specs.Lists.{map_some, then_some}
+use Rattle.geojson_types.specs.Points.{Point}
+use Rattle.geojson_types.specs.Pruning.{prune, option_strokes}
+use Rattle.geojson_types.proofs.Agreement.{all_left, all_right, all_of_map, agreed}
+use Rattle.geojson_types.proofs.Composition.{composed}
+use Rattle.linework.specs.Linework.{linework}
+use Rattle.linework.specs.declared.stroke.Stroke.{Stroke}
+use Rattle.topojson_types.specs.declared.object.TopoObject.TheVariants.{Many}
+use Rattle.topojson_types.specs.Decoding.{decoded_shape, decoded_feature, decoded_object, of_name, decoded}
+use Rattle.topojson_types.specs.Validity.{AreDistinct}
+use Rattle.build_meaning.specs.Built.{all_arcs, kept_refs, untrimmed, built}
+use Rattle.build_meaning.specs.Expected.{kept_line, expected_feature, expected}
+use Rattle.build_meaning.specs.Laws.{AreSound, DecodesBack}
+use Rattle.build_meaning.specs.Layers.{Named, names_of, layers_of, features_strokes, named_strokes}
+use Rattle.build_meaning.specs.Objects.{features_by, objects_by}
+use Rattle.build_meaning.proofs.DecodingLines.{back, line_back}
+use Rattle.build_meaning.proofs.Linework.{Line, StandsIn, each_stands, own_apart}
+use Rattle.build_meaning.proofs.Trimmed.{trimmed_decodes}
+use Rattle.build_meaning.proofs.Lists.{weaker, all_two, all_map}
+
+-- ---- names
+
+differ : (b : Bool) (P : Type 0) → (b ≡ true → P) → (P → ⊥) → b ≡ false
+differ true P h k = absurd (k (h refl))
+differ false P h k = refl
+
+module _ {A V : Type 0} (value : A → V) where
+  abbrev entries : List (List ℕ × A) → List (List ℕ × V)
+  entries ms = map (λ m. (m.0, value m.1)) ms
+
+  abbrev IsFirst : List (List ℕ × A) → List ℕ × A → Type 0
+  IsFirst ms m = of_name m.0 (entries ms) ≡ Some (value m.1)
+
+  past : (m : List ℕ × A) (ms : List (List ℕ × A)) (n : List ℕ × A) → m.0 ≢ n.0 → IsFirst ms n → IsFirst (m ∷ ms) n
+  past m ms n apart h =
+      let e : bytes_eq m.0 n.0 ≡ false = differ (bytes_eq m.0 n.0) (m.0 ≡ n.0) (bytes_eq-Decides m.0 n.0).0 apart in
+      ap (λ b. if b then Some (value m.1) else of_name n.0 (entries ms)) e ∙ h
+
+  -- where no name stands twice, each names its own value
+  pub by_name : (ms : List (List ℕ × A)) → AreDistinct (map (λ m. m.0) ms) → AllByRecursion (λ m. of_name m.0 (map (λ m. (m.0, value m.1)) ms) ≡ Some (value m.1)) ms
+  by_name [] h = tt
+  by_name (m ∷ ms) h = (
+    ap (λ b. if b then Some (value m.1) else of_name m.0 (entries ms)) ((bytes_eq-Decides m.0 m.0).1 refl),
+    all_two (λ n. m.0 ≢ n.0) (IsFirst ms) (IsFirst (m ∷ ms)) (past m ms) ms (all_of_map (λ n. m.0 ≢ n) (λ n. n.0) ms h.0) (by_name ms h.1),
+  )
+
+-- ---- features
+
+module _ (lines : List Stroke) (t : ℕ) where
+  abbrev arcs : List (List Point)
+  arcs = map (reduced t) (all_arcs lines)
+
+  -- what is decoded of its indexes is what is expected of it
+  abbrev Returns : Line → Type 0
+  Returns b = then_some (back lines t b.0) (kept_refs lines t b.0 b.1) ≡ kept_line lines t b.0 b.1
+
+  shape_back : (s : Option Shape) → AllByRecursion Returns (option_strokes s) →
+      then_some (decoded_shape (λ p. p) arcs) (then_some (prune (λ p. p) (kept_refs lines t)) s) ≡ then_some (prune (λ p. p) (kept_line lines t)) s
+  shape_back None h = refl
+  shape_back (Some s) h =
+      composed (λ p. p) (λ p. p) (kept_refs lines t) (back lines t) s
+      ∙ agreed (λ p. p) (λ closed ps. then_some (back lines t closed) (kept_refs lines t closed ps)) (kept_line lines t) s h
+
+  abbrev with_shape : Featured → Option Shape → Featured
+  with_shape f s = record { id = f.id; properties = f.properties; shape = s }
+
+  features_back : (fs : List Featured) → AllByRecursion Returns (features_strokes fs) → map (decoded_feature (λ p. p) arcs) (features_by (kept_refs lines t) fs) ≡ map (expected_feature lines t) fs
+  features_back [] h = refl
+  features_back (f ∷ fs) h =
+      ap (λ g. g ∷ map (decoded_feature (λ p. p) arcs) (features_by (kept_refs lines t) fs)) (ap (with_shape f) (shape_back f.shape (all_left Returns (option_strokes f.shape) (features_strokes fs) h)))
+      ∙ ap (λ gs. expected_feature lines t f ∷ gs) (features_back fs (all_right Returns (option_strokes f.shape) (features_strokes fs) h))
+
+  abbrev LayerReturns : List ℕ × Layer → Type 0
+  LayerReturns l = map (decoded_feature (λ p. p) arcs) (features_by (kept_refs lines t) l.1.features) ≡ map (expected_feature lines t) l.1.features
+
+  layers_back : (ls : Named) → AllByRecursion Returns (named_strokes ls) → AllByRecursion LayerReturns ls
+  layers_back [] h = tt
+  layers_back (l ∷ ls) h = (
+    features_back l.1.features (all_left Returns (features_strokes l.1.features) (named_strokes ls) h),
+    layers_back ls (all_right Returns (features_strokes l.1.features) (named_strokes ls) h),
+  )
+
+-- ---- layers
+
+abbrev lines_of : Named → List Stroke
+lines_of ls = linework (layers_of ls)
+
+-- the features that are expected of a layer
+abbrev expected_of : Named → ℕ → Layer → List Featured
+expected_of ls t l = map (expected_feature (lines_of ls) t) l.features
+
+untrimmed_decodes : DirectionLaw → (t : ℕ) (ls : Named) → AreSound ls → AreDistinct (names_of ls) →
+    AllByRecursion (λ l. decoded (untrimmed t ls) l.0 ≡ Some (set.Many (expected_of ls t l.1))) ls
+unfolding decoded
+untrimmed_decodes law t ls sound distinct =
+    let lines = lines_of ls in
+    let returns = weaker (StandsIn lines) (Returns lines t) (line_back law lines t (own_apart ls sound)) (named_strokes ls) (each_stands ls) in
+    all_two (LayerReturns lines t) (λ l. of_name l.0 (objects_by (kept_refs lines t) ls) ≡ Some (Many (features_by (kept_refs lines t) l.1.features)))
+    (λ l. decoded (untrimmed t ls) l.0 ≡ Some (set.Many (expected_of ls t l.1)))
+    (λ l e n. ap (map_some (decoded_object (λ p. p) (arcs lines t))) n ∙ ap (λ fs. Some (set.Many fs)) e)
+    ls (layers_back lines t ls returns) (by_name (λ y. Many (features_by (kept_refs lines t) y.features)) ls distinct)
+
+-- decoding gives each layer what is expected of it
+pub decodes_back : DirectionLaw → DecodesBack
+unfolding built expected
+decodes_back law t ls sound distinct =
+    all_map (λ l. decoded (built t ls) l.0 ≡ Some (set.Many l.1.features)) (λ l. (l.0, record { features = expected_of ls t l.1 })) ls
+    (weaker (λ l. decoded (untrimmed t ls) l.0 ≡ Some (set.Many (expected_of ls t l.1))) (λ l. decoded (built t ls) l.0 ≡ Some (set.Many (expected_of ls t l.1)))
+    (λ l e. trimmed_decodes (untrimmed t ls) l.0 ∙ e) ls (untrimmed_decodes law t ls sound distinct))

@@ -1,0 +1,40 @@
+-- Objects made of layers and then renumbered are made of the layers at once, and the topology that is built has no transform.
+use Rattle.std.proofs.Common.{◌≡◌, ℕ, Bool, List, [], ◌∷◌, map, Option, None, Some, refl}
+use Rattle.geojson_types.specs.Features.{Shape, Featured}
+use Rattle.geojson_types.specs.Lists.{then_some}
+use Rattle.geojson_types.specs.Pruning.{prune}
+use Rattle.geojson_types.proofs.Composition.{composed}
+use Rattle.build_meaning.specs.Built.{untrimmed, built, kept_refs}
+use Rattle.build_meaning.specs.Layers.{Named, layers_of}
+use Rattle.build_meaning.specs.Objects.{Kept, features_by, objects_by}
+use Rattle.build_meaning.specs.Trimming.{is_used, line_renumbered, feature_renumbered, object_renumbered, trimmed}
+use Rattle.linework.specs.Linework.{linework}
+
+module _ (used : ℕ → Bool) (kept : Kept) where
+  -- the indexes of each kept line, renumbered
+  abbrev pub kept_renumbered : Kept
+  kept_renumbered closed ps = then_some (line_renumbered used closed) (kept closed ps)
+
+  shape_once : (s : Option Shape) → then_some (prune (λ p. p) (line_renumbered used)) (then_some (prune (λ p. p) kept) s) ≡ then_some (prune (λ p. p) kept_renumbered) s
+  shape_once None = refl
+  shape_once (Some s) = composed (λ p. p) (λ p. p) kept (line_renumbered used) s
+
+  features_once : (fs : List Featured) → map (feature_renumbered used) (features_by kept fs) ≡ features_by kept_renumbered fs
+  features_once [] = refl
+  features_once (f ∷ fs) = rw (shape_once f.shape, features_once fs) refl
+
+  pub objects_once : (ls : Named) → map (λ o. (o.0, object_renumbered used o.1)) (objects_by kept ls) ≡ objects_by kept_renumbered ls
+  objects_once [] = refl
+  objects_once (l ∷ ls) = rw (features_once l.1.features, objects_once ls) refl
+
+-- those of the topology that is built
+abbrev pub kept_in : ℕ → Named → Kept
+kept_in t ls = kept_renumbered (is_used (untrimmed t ls).objects) (kept_refs (linework (layers_of ls)) t)
+
+pub built_objects : (t : ℕ) (ls : Named) → (built t ls).objects ≡ objects_by (kept_in t ls) ls
+unfolding built trimmed
+built_objects t ls = objects_once (is_used (untrimmed t ls).objects) (kept_refs (linework (layers_of ls)) t) ls
+
+pub built_has_no_transform : (t : ℕ) (ls : Named) → (built t ls).transform ≡ None
+unfolding built trimmed
+built_has_no_transform t ls = refl

@@ -1,0 +1,51 @@
+-- The lines and rings of a shape of which some are left out are among what is given for its lines and rings.
+use Rattle.std.proofs.Common.{◌≡◌, Bool, true, List, [], ◌∷◌, map, Option, None, Some, refl, sym, subst}
+use Rattle.std.specs.List.{AllByRecursion}
+use Rattle.geojson_types.specs.declared.address.Cause.{Cause}
+use Rattle.geojson_types.specs.declared.address.Cause.TheVariants.{Collapsed}
+use Rattle.geojson_types.specs.declared.geometry.Geometry.{Geometry}
+use Rattle.geojson_types.specs.Lists.{map_some, then_some, with_some, some_of}
+use Rattle.geojson_types.specs.Pruning.{prune, strokes, option_strokes}
+use Rattle.build_meaning.specs.Candidates.{Candidate, candidates, if_kept}
+use Rattle.build_meaning.proofs.Candidates.{Matches, all_strokes, stroke}
+use Rattle.build_meaning.proofs.Candidates as candidate
+
+module _ {P Q L M : Type 0} (place : P → Q) (kept : Bool → L → Option M) (X : Bool × M → Type 0) where
+  -- what is given for it, if something is, has the property
+  abbrev pub Gives : Bool × L → Type 0
+  Gives b = (m : M) → kept b.0 b.1 ≡ Some m → X (b.0, m)
+
+  -- a ring for which nothing is given is left out
+  abbrev cause_of : Option M → Option Cause
+  cause_of None = Some Collapsed
+  cause_of (Some m) = None
+
+  matching : (o : Option M) → Matches (cause_of o) o
+  matching None = tt
+  matching (Some m) = tt
+
+  abbrev out : L → Option Cause
+  out l = cause_of (kept true l)
+
+  abbrev left : Candidate L → Option (Bool × M)
+  left c = if_kept c.outer (map_some (λ m. (c.closed, m)) (kept c.closed c.line))
+
+  each_left : (cs : List (Candidate L)) → AllByRecursion Gives (map stroke cs) → AllByRecursion X (some_of left cs)
+  each_left [] h = tt
+  each_left (c ∷ cs) h = on c.outer (kept c.closed c.line) h.0 (each_left cs h.1)
+    where
+      on : (o : Option Cause) (k : Option M) → ((m : M) → k ≡ Some m → X (c.closed, m)) → AllByRecursion X (some_of left cs)
+          → AllByRecursion X (with_some (if_kept o (map_some (λ m. (c.closed, m)) k)) (some_of left cs))
+      on None None gives ih = ih
+      on None (Some m) gives ih = (gives m refl, ih)
+      on (Some d) k gives ih = ih
+
+  pub strokes_left : (s : Geometry P L L) → AllByRecursion Gives (strokes s) → AllByRecursion X (option_strokes (prune place kept s))
+  strokes_left s h =
+      subst (AllByRecursion X) (sym (candidate.strokes_left place kept out (λ l. matching (kept true l)) s))
+      (each_left (candidates out s) (subst (AllByRecursion Gives) (sym (all_strokes out s)) h))
+
+  -- so it is with a shape that may be null
+  pub option_left : (o : Option (Geometry P L L)) → AllByRecursion Gives (option_strokes o) → AllByRecursion X (option_strokes (then_some (prune place kept) o))
+  option_left None h = tt
+  option_left (Some s) h = strokes_left s h

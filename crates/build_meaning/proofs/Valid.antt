@@ -1,0 +1,218 @@
+-- The topology that is built of layers is valid.
+use Rattle.std.proofs.Common.{◌≡◌, ℕ, ◌≤◌, ℤ, Bool, true, false, List, [], ◌∷◌, map, length, Option, None, Some, refl, sym, ap, ◌∙◌, subst, if◌then◌else◌}
+use Rattle.std.proofs.lemmas.List.{length-map}
+use Rattle.std.specs.List.{AllByRecursion}
+use Rattle.arc_table.specs.Arcs.{index_in}
+use Rattle.cutter.specs.Pieces.{split_at, start_in, turned, pieces_of, rejoined}
+use Rattle.cutter.specs.Places.{In}
+use Rattle.elimination_meaning.specs.Elimination.{reduced}
+use Rattle.elimination_meaning.specs.Laws.{EndsStay, NoneIsNew}
+use Rattle.elimination_meaning.proofs.Sublists.{sub_all}
+use Rattle.geojson_types.specs.declared.address.Cause.TheVariants.{Collapsed, Small}
+use Rattle.geojson_types.specs.Features.{Shape, Featured, is_some_list, is_proper_option}
+use Rattle.geojson_types.specs.Lists.{then_some}
+use Rattle.geojson_types.specs.Places.{option_points}
+use Rattle.geojson_types.specs.Points.{Point, IsPosition}
+use Rattle.geojson_types.specs.Pruning.{prune, option_strokes}
+use Rattle.geojson_types.proofs.Agreement.{all_left, all_right}
+use Rattle.geojson_types.proofs.Composition.{composed}
+use Rattle.linework.specs.Cleaning.{clean, is_short, AllClean}
+use Rattle.linework.specs.Cuts.{is_cut}
+use Rattle.linework.specs.Linework.{linework}
+use Rattle.linework.specs.declared.stroke.Stroke.{Stroke}
+use Rattle.topojson_types.specs.declared.object.TopoObject.{TopoObject}
+use Rattle.topojson_types.specs.Joins.{arc_at, Meet, Closes}
+use Rattle.topojson_types.specs.Topologies.{objects_strokes}
+use Rattle.topojson_types.specs.Topologies as topology
+use Rattle.topojson_types.specs.Validity.{is_full_option, option_places, IsFeature, IsObject, AreDistinct, AreInRange, IsJoined, IsClosed, IsArc, IsTopology}
+use Rattle.build_meaning.specs.Built.{all_arcs, kept_refs, built}
+use Rattle.build_meaning.specs.Expected.{unless, own_pieces, is_small}
+use Rattle.build_meaning.specs.Laws.{IsSound, AreSound, IsValid, EachSegmentOnce}
+use Rattle.build_meaning.specs.Layers.{Named, names_of, layers_of, features_strokes, named_strokes}
+use Rattle.build_meaning.specs.Objects.{Kept, feature_by, features_by, objects_by}
+use Rattle.build_meaning.specs.Trimming.{is_used, keep_from, renumbered, line_renumbered, feature_renumbered, object_renumbered, trimmed}
+use Rattle.build_meaning.proofs.ValidEnds.{SameEnds, ends_kept, named_ends, meet_as, close_as}
+use Rattle.build_meaning.proofs.Lists.{weaker, all_two, all_append, all_map}
+use Rattle.build_meaning.proofs.ValidShapes.{places_stay, made_full}
+use Rattle.build_meaning.proofs.ValidIndexes.{arcs_long, ranged, met, closed}
+use Rattle.build_meaning.proofs.Linework.{StandsIn, plain, clean_line, all_clean, each_stands}
+use Rattle.build_meaning.proofs.Once.{once_in_lines}
+use Rattle.build_meaning.proofs.ValidPositions.{arcs_placed}
+use Rattle.build_meaning.proofs.Trimmed.{IsUsed, all_renumbered, all_used}
+use Rattle.build_meaning.proofs.ValidTrimmed.{all_kept, all_below, of_objects}
+use Rattle.build_meaning.proofs.Strokes.{option_left}
+
+-- ---- names
+
+abbrev now : (ℕ → Bool) → List (List ℕ × TopoObject) → List (List ℕ × TopoObject)
+now used os = map (λ o. (o.0, object_renumbered used o.1)) os
+
+names_stay : (used : ℕ → Bool) (kept : Kept) (ls : Named) → map (λ o. o.0) (now used (objects_by kept ls)) ≡ names_of ls
+names_stay used kept [] = refl
+names_stay used kept (l ∷ ls) = ap (λ ns. l.0 ∷ ns) (names_stay used kept ls)
+
+-- ---- objects
+
+abbrev or_else : List ℤ → Option (List ℤ) → List ℤ
+or_else d None = d
+or_else d (Some m) = m
+
+module _ (kept : Kept) (used : ℕ → Bool) (some : (closed : Bool) (l : List Point) (m : List ℤ) → kept closed l ≡ Some m → is_some_list m ≡ true) where
+  abbrev both : Kept
+  both closed l = then_some (line_renumbered used closed) (kept closed l)
+
+  some_then : (closed : Bool) (o : Option (List ℤ)) (m : List ℤ) → ((r : List ℤ) → o ≡ Some r → is_some_list r ≡ true) → then_some (line_renumbered used closed) o ≡ Some m → is_some_list m ≡ true
+  some_then closed None m h e = cc
+  some_then closed (Some []) m h e = let z : false ≡ true = h [] refl in cc
+  some_then closed (Some (r ∷ rs)) m h e = subst (λ z. is_some_list z ≡ true) (ap (or_else m) e) refl
+
+  option_full : (s : Option Shape) → is_proper_option s ≡ true → is_full_option (then_some (prune (λ p. p) (line_renumbered used)) (then_some (prune (λ p. p) kept) s)) ≡ true
+  option_full None h = refl
+  option_full (Some s) h =
+      ap is_full_option (composed (λ p. p) (λ p. p) kept (line_renumbered used) s)
+      ∙ made_full both (λ closed l m. some_then closed (kept closed l) m (some closed l)) s h
+
+  option_stay : (s : Option Shape) → AllByRecursion IsPosition (option_points s) → AllByRecursion IsPosition (option_places (then_some (prune (λ p. p) (line_renumbered used)) (then_some (prune (λ p. p) kept) s)))
+  option_stay None h = tt
+  option_stay (Some s) h = subst (λ o. AllByRecursion IsPosition (option_places o)) (sym (composed (λ p. p) (λ p. p) kept (line_renumbered used) s)) (places_stay both IsPosition s h)
+
+  features_are : (fs : List Featured) → AllByRecursion IsSound fs → AllByRecursion (IsFeature None) (map (feature_renumbered used) (features_by kept fs))
+  features_are [] h = tt
+  features_are (f ∷ fs) h = ((option_full f.shape h.0.proper, option_stay f.shape h.0.places), features_are fs h.1)
+
+  objects_are : (ls : Named) → AreSound ls → AllByRecursion (λ o. IsObject None o.1) (now used (objects_by kept ls))
+  objects_are [] h = tt
+  objects_are (l ∷ ls) h = (features_are l.1.features h.0, objects_are ls h.1)
+
+-- ---- lines of the objects
+
+module _ (kept : Kept) (X : Bool × List ℤ → Type 0) where
+  abbrev Gives : Bool × List Point → Type 0
+  Gives b = (m : List ℤ) → kept b.0 b.1 ≡ Some m → X (b.0, m)
+
+  features_left : (fs : List Featured) → AllByRecursion Gives (features_strokes fs) → AllByRecursion X (topology.features_strokes (features_by kept fs))
+  features_left [] h = tt
+  features_left (f ∷ fs) h =
+      all_append X (option_strokes (feature_by kept f).shape) (topology.features_strokes (features_by kept fs))
+      (option_left (λ p. p) kept X f.shape (all_left Gives (option_strokes f.shape) (features_strokes fs) h))
+      (features_left fs (all_right Gives (option_strokes f.shape) (features_strokes fs) h))
+
+  objects_left : (ls : Named) → AllByRecursion Gives (named_strokes ls) → AllByRecursion X (objects_strokes (objects_by kept ls))
+  objects_left [] h = tt
+  objects_left (l ∷ ls) h =
+      all_append X (topology.features_strokes (features_by kept l.1.features)) (objects_strokes (objects_by kept ls))
+      (features_left l.1.features (all_left Gives (features_strokes l.1.features) (named_strokes ls) h))
+      (objects_left ls (all_right Gives (features_strokes l.1.features) (named_strokes ls) h))
+
+-- ---- kept lines
+
+-- the indexes name arcs that meet, and those of a ring close
+abbrev IsFine : List (List Point) → Bool × List ℤ → Type 0
+IsFine arcs b = AreInRange (length arcs) b.1 × IsJoined arcs b × IsClosed arcs b
+
+module _ (lines : List Stroke) (t : ℕ) where
+  -- a line without pieces is dropped
+  some_kept : (closed : Bool) (l : List Point) (m : List ℤ) → kept_refs lines t closed l ≡ Some m → is_some_list m ≡ true
+  some_kept closed l m e = on closed (own_pieces lines closed l) (is_short closed (clean l)) e
+    where
+      some : (d : Bool) (x : ℤ) (xs : List ℤ) → unless (if d then Some Small else None) (x ∷ xs) ≡ Some m → is_some_list m ≡ true
+      some true x xs h = cc
+      some false x xs h = subst (λ z. is_some_list z ≡ true) (ap (or_else m) h) refl
+
+      on : (b : Bool) (xs : List (List Point)) (c : Bool)
+          → unless (if c then Some Collapsed else (if is_small b (rejoined (map (reduced t) xs)) then Some Small else None)) (map (index_in (all_arcs lines)) xs) ≡ Some m → is_some_list m ≡ true
+      on b xs true h = cc
+      on true [] false h = cc
+      on false [] false h = cc
+      on b (x ∷ xs) false h = some (is_small b (rejoined (map (reduced t) (x ∷ xs)))) (index_in (all_arcs lines) x) (map (index_in (all_arcs lines)) xs) h
+
+  module _ (stay : EndsStay) (cleaned : AllClean lines) where
+    abbrev arcs : List (List Point)
+    arcs = all_arcs lines
+
+    abbrev fewer : List (List Point)
+    fewer = map (reduced t) (all_arcs lines)
+
+    abbrev plain_pieces : Bool × List Point → List (List Point)
+    plain_pieces b = split_at (is_cut lines) (if b.0 then turned (start_in (is_cut lines) b.1) b.1 else b.1)
+
+    same_ends : (r : ℤ) → SameEnds (arc_at fewer r) (arc_at arcs r)
+    same_ends = named_ends (reduced t) arcs (weaker (λ x. 2 ≤ length x) (λ x. SameEnds (reduced t x) x) (λ x h. (ends_kept stay t x h).0) arcs (arcs_long lines cleaned))
+
+    stroke_fine : (s : Stroke) → In s lines → IsFine fewer (s.closed, map (index_in arcs) (pieces_of lines s))
+    stroke_fine s k = (
+      subst (λ n. AreInRange n (map (index_in arcs) (pieces_of lines s))) (sym (length-map arcs (reduced t))) (ranged lines cleaned s k),
+      meet_as (arc_at fewer) (arc_at arcs) same_ends (map (index_in arcs) (pieces_of lines s)) (met lines cleaned s k),
+      λ c. close_as (arc_at fewer) (arc_at arcs) same_ends (map (index_in arcs) (pieces_of lines s)) (closed lines cleaned s k c),
+    )
+
+    line_fine : (b : Bool × List Point) → (s : Stroke) × In s lines × (plain s ≡ clean_line b) → IsFine fewer (b.0, map (index_in arcs) (own_pieces lines b.0 b.1))
+    line_fine b r = subst (λ x. IsFine fewer (x.0, map (index_in arcs) (plain_pieces x))) r.2 (stroke_fine r.0 r.1)
+
+    kept_fine : (b : Bool × List Point) → StandsIn lines b → (m : List ℤ) → kept_refs lines t b.0 b.1 ≡ Some m → IsFine fewer (b.0, m)
+    kept_fine b stands m e = on (is_short b.0 (clean b.1)) (is_small b.0 (rejoined (map (reduced t) (own_pieces lines b.0 b.1)))) refl e
+      where
+        on : (c d : Bool) → is_short b.0 (clean b.1) ≡ c
+            → unless (if c then Some Collapsed else (if d then Some Small else None)) (map (index_in arcs) (own_pieces lines b.0 b.1)) ≡ Some m → IsFine fewer (b.0, m)
+        on true d k h = cc
+        on false true k h = cc
+        on false false k h = subst (λ z. IsFine fewer (b.0, z)) (ap (or_else m) h) (line_fine b (stands k))
+
+-- ---- topologies
+
+module _ (stay : EndsStay) (none : NoneIsNew) (t : ℕ) (ls : Named) (sound : AreSound ls) where
+  abbrev lines : List Stroke
+  lines = linework (layers_of ls)
+
+  abbrev all_fewer : List (List Point)
+  all_fewer = map (reduced t) (all_arcs (linework (layers_of ls)))
+
+  abbrev objects_of : List (List ℕ × TopoObject)
+  objects_of = objects_by (kept_refs (linework (layers_of ls)) t) ls
+
+  abbrev used : ℕ → Bool
+  used = is_used objects_of
+
+  abbrev left : List (List Point)
+  left = keep_from used 0 all_fewer
+
+  fewer_are_arcs : AllByRecursion (IsArc None) all_fewer
+  fewer_are_arcs =
+      all_map (IsArc None) (reduced t) (all_arcs lines)
+      (all_two (λ x. 2 ≤ length x) (λ x. AllByRecursion IsPosition x) (λ x. IsArc None (reduced t x))
+      (λ x h k. ((ends_kept stay t x h).1, sub_all IsPosition (none t x) k)) (all_arcs lines) (arcs_long lines (all_clean ls sound)) (arcs_placed ls sound))
+
+  before_fine : AllByRecursion (IsFine all_fewer) (objects_strokes objects_of)
+  before_fine =
+      objects_left (kept_refs lines t) (IsFine all_fewer) ls
+      (weaker (StandsIn lines) (λ b. (m : List ℤ) → kept_refs lines t b.0 b.1 ≡ Some m → IsFine all_fewer (b.0, m)) (kept_fine lines t stay (all_clean ls sound)) (named_strokes ls) (each_stands ls))
+
+  still_fine : (b : Bool × List ℤ) → IsFine all_fewer b → AllByRecursion (IsUsed used) b.1 → IsFine left (b.0, map (renumbered used) b.1)
+  still_fine b h k = (
+    all_below used all_fewer b.1 k h.0,
+    subst Meet (sym (all_renumbered used all_fewer b.1 k)) h.1,
+    λ c. subst Closes (sym (all_renumbered used all_fewer b.1 k)) (h.2 c),
+  )
+
+  all_fine : AllByRecursion (IsFine left) (objects_strokes (now used objects_of))
+  all_fine =
+      of_objects used (IsFine left) objects_of
+      (all_two (IsFine all_fewer) (λ b. AllByRecursion (IsUsed used) b.1) (λ b. IsFine left (b.0, map (renumbered used) b.1)) still_fine (objects_strokes objects_of) before_fine (all_used objects_of))
+
+  valid : AreDistinct (names_of ls) → IsTopology (built t ls)
+  unfolding built trimmed
+  valid distinct = record {
+    names = subst AreDistinct (sym (names_stay used (kept_refs lines t) ls)) distinct;
+    transform = tt;
+    objects = objects_are (kept_refs lines t) used (some_kept lines t) ls sound;
+    arcs = all_kept (IsArc None) used 0 all_fewer fewer_are_arcs;
+    ranged = weaker (IsFine left) (λ b. AreInRange (length left) b.1) (λ b h. h.0) (objects_strokes (now used objects_of)) all_fine;
+    joined = weaker (IsFine left) (IsJoined left) (λ b h. h.1) (objects_strokes (now used objects_of)) all_fine;
+    closed = weaker (IsFine left) (IsClosed left) (λ b h. h.2) (objects_strokes (now used objects_of)) all_fine;
+  }
+
+pub is_valid : EndsStay → NoneIsNew → IsValid
+is_valid stay none t ls sound distinct = valid stay none t ls sound distinct
+
+pub segments_once : EachSegmentOnce
+segments_once ls sound = once_in_lines (linework (layers_of ls)) (all_clean ls sound)

@@ -1,0 +1,91 @@
+-- The arcs of lines, and the indexes of one of the lines: they are in range, their arcs meet, and those of a ring close.
+use Rattle.std.proofs.Common.{◌≡◌, ◌<◌, ◌≤◌, Bool, true, List, [], ◌∷◌, map, length, refl, ap, sym, ◌∙◌, subst, inl, inr}
+use Rattle.std.specs.List.{AllByRecursion}
+use Rattle.std.specs.Prelude.{ℤ}
+use Rattle.arc_table.specs.Arcs.{arcs_of, index_in}
+use Rattle.arc_table.specs.Growth.{first_alike}
+use Rattle.arc_table.proofs.Alike.{arcs_unlike, arc_is_piece, piece_has_alike}
+use Rattle.arc_table.proofs.Growth.{map_same}
+use Rattle.arc_table.proofs.Indexes.{index_is, named_is, named_all}
+use Rattle.arc_table.proofs.Rejoining.{pieces_meet, rings_close}
+use Rattle.cutter.specs.Pieces.{pieces_of, pieces}
+use Rattle.cutter.specs.Pieces as pieces
+use Rattle.cutter.specs.Segments.{segments}
+use Rattle.cutter.specs.Slices.{IsSplit, started, split_of, strokes}
+use Rattle.cutter.specs.Structure.{PiecesAreLong}
+use Rattle.cutter.proofs.CleanStarts.{clean_starts}
+use Rattle.cutter.proofs.Joins.{stroke_split}
+use Rattle.cutter.proofs.OpenPieces.{in_flat}
+use Rattle.cutter.proofs.Structured.{structured, clean_in, in_append}
+use Rattle.geojson_types.specs.Features.{is_some_list}
+use Rattle.geojson_types.specs.Points.{Point}
+use Rattle.linework.specs.Among.{In}
+use Rattle.linework.specs.Cleaning.{IsCleanList, IsClean, AllClean}
+use Rattle.linework.specs.Cuts.{is_cut}
+use Rattle.linework.specs.declared.stroke.Stroke.{Stroke}
+use Rattle.topojson_types.specs.Joins.{number_of, arc_at, Meet, Closes}
+use Rattle.build_meaning.proofs.Lists.{all_of}
+
+some_pieces : (f : List Point → ℤ) (xs : List (List Point)) (closed : Bool) (ps : List Point) → pieces.rejoined xs ≡ ps → IsCleanList closed ps → is_some_list (map f xs) ≡ true
+some_pieces f xs closed [] e c = elim c [ ]
+some_pieces f xs closed (p ∷ []) e c = elim c [ ]
+some_pieces f [] closed (p ∷ (q ∷ ps)) e c = cc
+some_pieces f (x ∷ xs) closed (p ∷ (q ∷ ps)) e c = refl
+
+started_clean : (lines : List Stroke) (s : Stroke) (ms : List Stroke) → AllClean (strokes (map (split_of lines) ms)) → In s ms → IsClean (started (is_cut lines) s)
+started_clean lines s [] h k = elim k [ ]
+started_clean lines s (m ∷ ms) h (inl e) = subst (λ z. IsClean (started (is_cut lines) z)) (sym e) h.0
+started_clean lines s (m ∷ ms) h (inr k) = started_clean lines s ms h.1 k
+
+all_indexes : {A B : Type 0} (X : B → Type 0) (f : A → B) (xs : List A) → ((x : A) → In x xs → X (f x)) → AllByRecursion X (map f xs)
+all_indexes X f [] h = tt
+all_indexes X f (x ∷ xs) h = (h x (inl refl), all_indexes X f xs (λ y k. h y (inr k)))
+
+module _ (lines : List Stroke) (clean : AllClean lines) where
+  abbrev arcs : List (List Point)
+  arcs = arcs_of (pieces lines)
+
+  abbrev index : List Point → ℤ
+  index = index_in (arcs_of (pieces lines))
+
+  long : PiecesAreLong (pieces lines)
+  long = (structured lines clean).long
+
+  -- each arc has two positions or more
+  pub arcs_long : AllByRecursion (λ arc. 2 ≤ length arc) (arcs_of (pieces lines))
+  arcs_long = all_of (λ arc. 2 ≤ length arc) arcs (λ x k. long x (arc_is_piece x (pieces lines) k))
+
+  piece_index : (x : List Point) → In x (pieces lines) → index x ≡ first_alike arcs x
+  piece_index x k = index_is arcs x (arcs_unlike (pieces lines)) (piece_has_alike x (pieces lines) k)
+
+  module _ (s : Stroke) (k : In s lines) where
+    inside : (x : List Point) → In x (pieces_of lines s) → In x (pieces lines)
+    inside x m = in_flat (pieces_of lines) s x lines k m
+
+    split : IsSplit (split_of lines s)
+    split = stroke_split lines s k (clean_in s lines clean k)
+
+    begun : IsClean (started (is_cut lines) s)
+    begun = started_clean lines s lines (clean_starts lines clean) k
+
+    named : map (arc_at arcs) (map index (pieces_of lines s)) ≡ pieces_of lines s
+    named =
+        ap (map (arc_at arcs)) (map_same index (first_alike arcs) (pieces_of lines s) (λ x m. piece_index x (inside x m)))
+        ∙ named_all arcs (pieces_of lines s) (λ x m. piece_has_alike x (pieces lines) (inside x m))
+
+    pub ranged : AllByRecursion (λ r. number_of r < length (arcs_of (pieces lines))) (map (index_in (arcs_of (pieces lines))) (pieces_of lines s))
+    ranged =
+        all_indexes (λ r. number_of r < length arcs) index (pieces_of lines s)
+        (λ x m. subst (λ z. number_of z < length arcs) (sym (piece_index x (inside x m))) (named_is arcs x (piece_has_alike x (pieces lines) (inside x m))).1)
+
+    pub met : Meet (map (arc_at (arcs_of (pieces lines))) (map (index_in (arcs_of (pieces lines))) (pieces_of lines s)))
+    met = subst Meet (sym named) (pieces_meet (pieces_of lines s) (λ x m. long x (inside x m)) (split.segments ∙ ap segments (sym split.joins)))
+
+    pub closed : s.closed ≡ true → Closes (map (arc_at (arcs_of (pieces lines))) (map (index_in (arcs_of (pieces lines))) (pieces_of lines s)))
+    closed =
+        (rings_close arcs (split_of lines s ∷ []) (map index (pieces_of lines s) ∷ [])
+        (λ x m. elim (in_append x (pieces_of lines s) [] m) [ inl h ↦ long x (inside x h) | inr h ↦ elim h [ ] ])
+        (split, tt) (begun, tt) (ap (λ xs. xs ∷ []) named)).0
+
+    pub some : is_some_list (map (index_in (arcs_of (pieces lines))) (pieces_of lines s)) ≡ true
+    some = some_pieces index (pieces_of lines s) s.closed (started (is_cut lines) s).positions split.joins begun

@@ -1,0 +1,100 @@
+-- At a threshold of zero what is expected of a line is the line.
+use Rattle.std.proofs.Common.{◌≡◌, nat_lt, Bool, true, false, cond, List, [], ◌∷◌, map, length, None, Some, refl, ap, ◌∙◌, subst, inl, inr}
+use Rattle.cutter.specs.Pieces.{start_in, turned, from_start, rejoined}
+use Rattle.cutter.specs.Places.{In}
+use Rattle.cutter.specs.Slices.{started, split_of, strokes}
+use Rattle.cutter.proofs.CleanStarts.{clean_starts}
+use Rattle.cutter.proofs.Joins.{stroke_split, turned_length}
+use Rattle.cutter.proofs.Starts.{ring_cut, start_cut, line}
+use Rattle.cutter.proofs.Structured.{clean_in}
+use Rattle.elimination_meaning.specs.Elimination.{reduced}
+use Rattle.elimination_meaning.specs.Laws.{ZeroLaw}
+use Rattle.geojson_types.specs.declared.address.Address.{Address}
+use Rattle.geojson_types.specs.declared.address.Cause.TheVariants.{Collapsed, Small}
+use Rattle.geojson_types.specs.Points.{Point}
+use Rattle.geojson_types.specs.Rings.{same}
+use Rattle.linework.specs.Cleaning.{clean_from, clean, is_short, Moves, IsCleanList, IsClean, AllClean}
+use Rattle.linework.specs.Cuts.{is_cut}
+use Rattle.linework.specs.Linework.{linework}
+use Rattle.linework.specs.declared.stroke.Stroke.{Stroke}
+use Rattle.linework.proofs.Cleaned.{same_is}
+use Rattle.build_meaning.specs.Expected.{cleaned, own_pieces, rebuilt, is_small, unless, kept_line}
+use Rattle.build_meaning.specs.Laws.{whole_line, LosesNothing}
+use Rattle.build_meaning.specs.Layers.{layers_of, named_strokes}
+use Rattle.build_meaning.proofs.Linework.{Line, plain, clean_line, plain_pieces, StandsIn, all_clean, each_stands}
+use Rattle.build_meaning.proofs.Lists.{weaker}
+
+-- ---- a clean line stays when it is cleaned
+
+moves_stay : (p : Point) (ps : List Point) → Moves p ps → clean_from p ps ≡ p ∷ ps
+moves_stay p [] m = refl
+moves_stay p (q ∷ ps) m = on (same p q) refl (moves_stay q ps m.1)
+  where
+    on : (b : Bool) → same p q ≡ b → clean_from q ps ≡ q ∷ ps → cond b (clean_from q ps) (p ∷ clean_from q ps) ≡ p ∷ (q ∷ ps)
+    on true e ih = absurd (m.0 (same_is p q e))
+    on false e ih = ap (λ l. p ∷ l) ih
+
+pub clean_stays : (closed : Bool) (ps : List Point) → IsCleanList closed ps → clean ps ≡ ps
+clean_stays closed [] h = elim h [ ]
+clean_stays closed (p ∷ []) h = elim h [ ]
+clean_stays closed (p ∷ (q ∷ ps)) h = moves_stay p (q ∷ ps) h.0
+
+-- ---- a line from its start
+
+in_started : (lines ms : List Stroke) (s : Stroke) → In s ms → In (started (is_cut lines) s) (strokes (map (split_of lines) ms))
+in_started lines [] s k = elim k [ ]
+in_started lines (m ∷ ms) s (inl e) = inl (ap (started (is_cut lines)) e)
+in_started lines (m ∷ ms) s (inr k) = inr (in_started lines ms s k)
+
+start_clean : (lines : List Stroke) (s : Stroke) → AllClean lines → In s lines → IsClean (started (is_cut lines) s)
+start_clean lines s h k = clean_in (started (is_cut lines) s) (strokes (map (split_of lines) lines)) (clean_starts lines h) (in_started lines lines s k)
+
+start_length : (lines : List Stroke) (at : Address) (c : Bool) (ps : List Point) → In (line at c ps) lines → IsClean (line at c ps) → length (from_start (is_cut lines) (line at c ps)) ≡ length ps
+start_length lines at c [] k h = elim h [ ]
+start_length lines at c (p ∷ []) k h = elim h [ ]
+start_length lines at false (p ∷ (q ∷ ps)) k h = refl
+start_length lines at true (p ∷ (q ∷ ps)) k h =
+    let c = ring_cut lines at p (q ∷ ps) k in
+    turned_length (start_in (is_cut lines) (p ∷ (q ∷ ps))) (p ∷ (q ∷ ps)) (start_cut (is_cut lines) c.0 p (p ∷ (q ∷ ps)) c.1 c.2).0
+
+-- from its start, without its address
+abbrev plain_start : List Stroke → Line → List Point
+plain_start lines b = cond b.0 (turned (start_in (is_cut lines) b.1) b.1) b.1
+
+-- its pieces, joined again, are the line from its start, which is as long when it is cleaned
+abbrev IsWhole : List Stroke → Line → Type 0
+IsWhole lines b = (rejoined (plain_pieces lines b) ≡ plain_start lines b) × (is_small b.0 (plain_start lines b) ≡ is_short b.0 b.1)
+
+stroke_whole : (lines : List Stroke) (s : Stroke) → AllClean lines → In s lines → IsWhole lines (plain s)
+stroke_whole lines s h k = (
+  (stroke_split lines s k (clean_in s lines h k)).joins,
+  ap (is_short s.closed) (clean_stays s.closed (from_start (is_cut lines) s) (start_clean lines s h k))
+      ∙ ap (λ n. nat_lt n (cond s.closed 4 2)) (start_length lines s.address s.closed s.positions k (clean_in s lines h k)),
+)
+
+-- ---- what is expected at a threshold of zero
+
+pub each_stays : ZeroLaw → (xs : List (List Point)) → map (reduced 0) xs ≡ xs
+each_stays zero [] = refl
+each_stays zero (x ∷ xs) = ap (λ y. y ∷ map (reduced 0) xs) (zero x) ∙ ap (λ ys. x ∷ ys) (each_stays zero xs)
+
+line_whole : ZeroLaw → (lines : List Stroke) → AllClean lines → (b : Line) → StandsIn lines b →
+    kept_line lines 0 b.0 b.1 ≡ cond (is_short b.0 (clean b.1)) None (Some (from_start (is_cut lines) (cleaned b.0 b.1)))
+line_whole zero lines h b stands = on (is_short b.0 (clean b.1)) refl
+  where
+    on : (c : Bool) → is_short b.0 (clean b.1) ≡ c →
+        unless (cond c (Some Collapsed) (cond (is_small b.0 (rebuilt lines 0 b.0 b.1)) (Some Small) None)) (rebuilt lines 0 b.0 b.1)
+        ≡ cond c None (Some (from_start (is_cut lines) (cleaned b.0 b.1)))
+    on true e = refl
+    on false e =
+        let s = stands e in
+        let w : IsWhole lines (clean_line b) = subst (IsWhole lines) s.2 (stroke_whole lines s.0 h s.1) in
+        let r : rebuilt lines 0 b.0 b.1 ≡ from_start (is_cut lines) (cleaned b.0 b.1) = ap rejoined (each_stays zero (own_pieces lines b.0 b.1)) ∙ w.0 in
+        let n : is_small b.0 (rebuilt lines 0 b.0 b.1) ≡ false = ap (is_small b.0) r ∙ w.1 ∙ e in
+        ap (λ c. unless (cond c (Some Small) None) (rebuilt lines 0 b.0 b.1)) n ∙ ap (λ l. Some l) r
+
+-- nothing is taken out
+pub loses_nothing : ZeroLaw → LosesNothing
+loses_nothing zero ls sound =
+    let lines = linework (layers_of ls) in
+    weaker (StandsIn lines) (λ b. kept_line lines 0 b.0 b.1 ≡ whole_line ls b.0 b.1) (line_whole zero lines (all_clean ls sound)) (named_strokes ls) (each_stands ls)

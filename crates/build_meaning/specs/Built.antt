@@ -1,0 +1,41 @@
+-- The topology that is built of layers.
+use Rattle.std.specs.Prelude.{ℕ, ◌-◌, ℤ, Bool, List, Option, None, length, map, sum}
+use Rattle.arc_table.specs.Arcs.{arcs_of, index_in}
+use Rattle.cutter.specs.Pieces.{pieces}
+use Rattle.elimination_meaning.specs.Elimination.{reduced}
+use Rattle.geojson_types.specs.Points.{Point}
+use Rattle.linework.specs.Linework.{linework}
+use Rattle.linework.specs.declared.stroke.Stroke.{Stroke}
+use Rattle.topojson_types.specs.Topologies.{Contents}
+use Rattle.build_meaning.specs.Expected.{own_pieces, own_cause, unless}
+use Rattle.build_meaning.specs.Layers.{Named, layers_of}
+use Rattle.build_meaning.specs.Objects.{objects_by}
+use Rattle.build_meaning.specs.Trimming.{is_used, keep_from, trimmed}
+
+-- the arcs of all lines: their distinct pieces up to reversal
+abbrev pub all_arcs : List Stroke → List (List Point)
+all_arcs lines = arcs_of (pieces lines)
+
+-- the indexes of a line's pieces among the arcs, unless it is dropped
+abbrev pub kept_refs : List Stroke → ℕ → Bool → List Point → Option (List ℤ)
+kept_refs lines t closed ps = unless (own_cause lines t closed ps) (map (index_in (all_arcs lines)) (own_pieces lines closed ps))
+
+-- the layers over all arcs, each arc reduced once as it stands; there is no transform
+abbrev pub untrimmed : ℕ → Named → Contents
+untrimmed t ls =
+    record { objects = objects_by (kept_refs (linework (layers_of ls)) t) ls; arcs = map (reduced t) (all_arcs (linework (layers_of ls))); transform = None }
+
+-- the same without the arcs that no kept line uses
+unfoldable pub built : ℕ → Named → Contents
+built t ls = trimmed (untrimmed t ls)
+
+-- the arcs of lines that are kept, as they are before they are reduced
+abbrev pub used_arcs : ℕ → Named → List (List Point)
+used_arcs t ls = keep_from (is_used (untrimmed t ls).objects) 0 (all_arcs (linework (layers_of ls)))
+
+abbrev pub positions_of : List (List Point) → ℕ
+positions_of arcs = sum (map length arcs)
+
+-- how many positions reduction takes out of the arcs that stay
+unfoldable pub taken_out : ℕ → Named → ℕ
+taken_out t ls = positions_of (used_arcs t ls) - positions_of (map (reduced t) (used_arcs t ls))

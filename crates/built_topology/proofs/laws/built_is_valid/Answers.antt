@@ -1,5 +1,0 @@
-use Rattle.built_topology.proofs.Valid.{is_valid}
-use Rattle.built_topology.proofs.laws.built_is_valid.Goals as goal
-
-pub returns : goal.returns
-returns c t ls sound distinct = is_valid c.ends_stay.ensures c.nothing_is_new.ensures t ls sound distinct

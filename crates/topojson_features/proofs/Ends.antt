@@ -1,0 +1,141 @@
+-- Lines have two positions or more, and rings four, of which the first and the last are equal.
+use Rattle.std.proofs.Common.{◌≡◌, ℕ, zero, suc, ◌-◌, ◌<◌, ◌≤◌, ℤ, true, false, List, [], ◌∷◌, ◌++◌, map, length, Option, None, Some, refl, ap, sym, ◌∙◌, subst, arith, append-nil, length-append, leb}
+use Rattle.std.proofs.lemmas.Bool.Decides.{nat_tests}
+use Rattle.std.proofs.lemmas.List.{length-map}
+use Rattle.std.specs.List.{slice_get}
+use Rattle.geojson_types.proofs.Points.{same_self}
+use Rattle.list_laws.proofs.Elements.{all_weaker, all_map}
+use Rattle.geojson_types.specs.Features.{is_some_list, is_line}
+use Rattle.geojson_types.specs.Lists.{map_some, then_some}
+use Rattle.geojson_types.specs.Points.{Point}
+use Rattle.geojson_types.specs.Rings.{same, is_closed, is_ring}
+use Rattle.topojson_types.specs.Decoding.{repeated, filled, decoded_line, placed_arcs}
+use Rattle.topojson_types.specs.Joins.{number_of, arc_at, joined_behind_first, rejoined, first_of, last_of, Closes}
+use Rattle.topojson_types.specs.Topologies.{Contents}
+use Rattle.topojson_types.specs.Transforms.{place}
+use Rattle.topojson_types.specs.Validity.{AreInRange}
+use Rattle.topojson_features.specs.Strokes.{IsStroke}
+use Rattle.topojson_features.proofs.Opening.{AreLong, arc_long}
+use Rattle.topojson_features.proofs.Placing.{placed_rejoined, long_arcs}
+
+-- ---- ends of lists
+
+last_append : {X : Type 0} (xs : List X) (y : X) (ys : List X) → last_of (xs ++ (y ∷ ys)) ≡ last_of (y ∷ ys)
+last_append [] y ys = refl
+last_append (x ∷ []) y ys = refl
+last_append (x ∷ (z ∷ xs)) y ys = last_append (z ∷ xs) y ys
+
+last_map : {X Y : Type 0} (f : X → Y) (xs : List X) (x : X) → last_of xs ≡ Some x → last_of (map f xs) ≡ Some (f x)
+last_map f [] x h = cc
+last_map f (y ∷ []) x h = ap (map_some f) h
+last_map f (y ∷ (z ∷ xs)) x h = last_map f (z ∷ xs) x h
+
+first_map : {X Y : Type 0} (f : X → Y) (xs : List X) (x : X) → first_of xs ≡ Some x → first_of (map f xs) ≡ Some (f x)
+first_map f [] x h = cc
+first_map f (y ∷ xs) x h = ap (map_some f) h
+
+first_append : (xs ys : List Point) → 2 ≤ length xs → first_of (xs ++ ys) ≡ first_of xs
+first_append [] ys h = absurd (omega (arith, h))
+first_append (x ∷ xs) ys h = refl
+
+first_there : (xs : List Point) → 2 ≤ length xs → (x : Point) × (first_of xs ≡ Some x)
+first_there [] h = absurd (omega (arith, h))
+first_there (x ∷ xs) h = (x, refl)
+
+last_there : {X : Type 0} (x : X) (xs : List X) → (y : X) × (last_of (x ∷ xs) ≡ Some y)
+last_there x [] = (x, refl)
+last_there x (y ∷ ys) = last_there y ys
+
+-- the last of lists one behind another is that of the last, where each has two elements or more
+last_joined : (p : List Point) (ps : List (List Point)) (q : List Point) → AreLong ps → last_of (p ∷ ps) ≡ Some q → last_of (p ++ joined_behind_first ps) ≡ last_of q
+last_joined p [] q long h = ap last_of (append-nil p) ∙ ap (then_some last_of) h
+last_joined p ([] ∷ ps) q long h = absurd (omega (arith, long.0))
+last_joined p ((a ∷ []) ∷ ps) q long h = absurd (omega (arith, long.0))
+last_joined p ((a ∷ (b ∷ r)) ∷ ps) q long h = last_append p b (r ++ joined_behind_first ps) ∙ last_joined (a ∷ (b ∷ r)) ps q long.1 h
+
+-- ---- rings
+
+slice_last : (xs : List Point) → slice_get xs (length xs - 1) ≡ last_of xs
+slice_last [] = refl
+slice_last (x ∷ []) = refl
+slice_last (x ∷ (y ∷ ys)) =
+    let e : length (x ∷ (y ∷ ys)) - 1 ≡ suc (length (y ∷ ys) - 1) = omega arith in
+    ap (slice_get (x ∷ (y ∷ ys))) e ∙ slice_last (y ∷ ys)
+
+length_repeated : {X : Type 0} (n : ℕ) (x : X) → length (repeated n x) ≡ n
+length_repeated zero x = refl
+length_repeated (suc n) x = ap suc (length_repeated n x)
+
+last_of_same : (n : ℕ) (p : Point) → last_of (p ∷ repeated n p) ≡ Some p
+last_of_same zero p = refl
+last_of_same (suc n) p = last_of_same n p
+
+last_repeated : (n : ℕ) (xs : List Point) (p : Point) → last_of xs ≡ Some p → last_of (xs ++ repeated n p) ≡ Some p
+last_repeated zero xs p h = ap last_of (append-nil xs) ∙ h
+last_repeated (suc n) xs p h = last_append xs p (repeated n p) ∙ last_of_same n p
+
+-- where the last is the first, the list filled up to four is a ring
+ring_filled : (p : Point) (ps : List Point) → last_of (p ∷ ps) ≡ Some p → is_ring (filled (p ∷ ps)) ≡ true
+unfolding is_ring is_closed
+ring_filled p ps h =
+    let more = repeated (4 - length (p ∷ ps)) p in
+    let size : 4 ≤ length ((p ∷ ps) ++ more) = omega (arith, length-append (p ∷ ps) more, length_repeated (4 - length (p ∷ ps)) p) in
+    let large : leb 4 (length ((p ∷ ps) ++ more)) ≡ true = grind (arith, nat_tests) in
+    let last : slice_get ((p ∷ ps) ++ more) (length ((p ∷ ps) ++ more) - 1) ≡ Some p = slice_last ((p ∷ ps) ++ more) ∙ last_repeated (4 - length (p ∷ ps)) (p ∷ ps) p h in
+    rw (large, last) (same_self p)
+
+pub ring_of_ends : (ps : List Point) (p : Point) → first_of ps ≡ Some p → last_of ps ≡ Some p → is_ring (filled ps) ≡ true
+ring_of_ends [] p e h = cc
+ring_of_ends (q ∷ qs) p e h = ring_filled q qs (h ∙ sym e)
+
+-- ---- lines of a valid topology
+
+-- the last list, if there is one, ends where the first begins
+abbrev CloseAt : Option (List Point) → Option (List Point) → Type 0
+CloseAt o e = elim o [ None ↦ ⊥ | Some p ↦ elim e [ None ↦ ⊥ | Some q ↦ last_of q ≡ first_of p ] ]
+
+closes_at : (ps : List (List Point)) (p q : List Point) → first_of ps ≡ Some p → last_of ps ≡ Some q → Closes ps → last_of q ≡ first_of p
+closes_at ps p q e f h = subst (CloseAt (Some p)) f (subst (λ o. CloseAt o (last_of ps)) e h)
+
+long_map : (arcs : List (List Point)) (refs : List ℤ) → AreLong arcs → AreInRange (length arcs) refs → AreLong (map (arc_at arcs) refs)
+long_map arcs refs long ranged =
+    all_map (λ cs. 2 ≤ length cs) (arc_at arcs) refs (all_weaker (λ r. number_of r < length arcs) (λ r. 2 ≤ length (arc_at arcs r)) (λ r h. arc_long arcs r long h) refs ranged)
+
+-- the cells of a ring begin and end with one cell
+ring_ends : (arcs : List (List Point)) (refs : List ℤ) → AreLong arcs → is_some_list refs ≡ true → AreInRange (length arcs) refs → Closes (map (arc_at arcs) refs)
+    → (p : Point) × (first_of (rejoined (map (arc_at arcs) refs)) ≡ Some p) × (last_of (rejoined (map (arc_at arcs) refs)) ≡ Some p)
+ring_ends arcs [] long some ranged closes = cc
+ring_ends arcs (r ∷ refs) long some ranged closes =
+    let many = long_map arcs (r ∷ refs) long ranged in
+    let first = first_there (arc_at arcs r) many.0 in
+    let last = last_there (arc_at arcs r) (map (arc_at arcs) refs) in
+    let meets = closes_at (map (arc_at arcs) (r ∷ refs)) (arc_at arcs r) last.0 refl last.1 closes in (
+      first.0,
+      first_append (arc_at arcs r) (joined_behind_first (map (arc_at arcs) refs)) many.0 ∙ first.1,
+      last_joined (arc_at arcs r) (map (arc_at arcs) refs) last.0 many.1 last.1 ∙ meets ∙ first.1,
+    )
+
+module _ (t : Contents) (refs : List ℤ) where
+  -- its positions, before any is added
+  abbrev pub drawn : List Point
+  drawn = decoded_line (placed_arcs t.transform t.arcs) false refs
+
+  pub ring_is : IsStroke t (true, refs) → (ps : List Point) → ps ≡ filled drawn → is_ring ps ≡ true
+  ring_is stroke ps e =
+      let cells = rejoined (map (arc_at t.arcs) refs) in
+      let k = ring_ends t.arcs refs (long_arcs t stroke.topology) stroke.full stroke.ranged (stroke.closed refl) in
+      let same : drawn ≡ map (place t.transform) cells = sym (placed_rejoined t.transform t.arcs refs) in
+      rw (e, same)
+      (ring_of_ends (map (place t.transform) cells) (place t.transform k.0) (first_map (place t.transform) cells k.0 k.1) (last_map (place t.transform) cells k.0 k.2))
+
+  pub line_is : IsStroke t (false, refs) → is_line drawn ≡ true
+  line_is stroke = rw (← placed_rejoined t.transform t.arcs refs) (on refs stroke.full stroke.ranged)
+    where
+      on : (rs : List ℤ) → is_some_list rs ≡ true → AreInRange (length t.arcs) rs → is_line (map (place t.transform) (rejoined (map (arc_at t.arcs) rs))) ≡ true
+      on [] s h = cc
+      on (r ∷ rs) s h =
+          let a = arc_at t.arcs r in
+          let more = joined_behind_first (map (arc_at t.arcs) rs) in
+          let long : 2 ≤ length a = arc_long t.arcs r (long_arcs t stroke.topology) h.0 in
+          let size : 2 ≤ length (map (place t.transform) (a ++ more)) = omega (arith, length-append a more, length-map (a ++ more) (place t.transform)) in
+          grind (arith, nat_tests)

@@ -1,0 +1,175 @@
+-- The features and objects that are written are read back.
+use Rattle.std.proofs.Common.{◌≡◌, ℕ, ◌<◌, true, false, List, [], ◌∷◌, ◌++◌, length, Option, Some, None, Ok, refl, sym, ap, ◌∙◌, subst}
+use Rattle.std.specs.Prelude.{codes, ◌^◌, bytes_eq}
+use Rattle.std.specs.List.{AllByRecursion}
+use Rattle.json_value.specs.declared.json.Json.{Json}
+use Rattle.json_value.specs.declared.json.Json.TheVariants as j
+use Rattle.geojson_types.specs.declared.id.Id.{Id}
+use Rattle.geojson_types.specs.declared.id.Id.TheVariants as id
+use Rattle.geojson_types.specs.Lists.{map_some}
+use Rattle.geojson_types.specs.Points.{Point, IsPosition}
+use Rattle.geojson_types.specs.Pruning.{option_strokes}
+use Rattle.topojson_types.specs.declared.feature.TopoFeature.{TopoFeature}
+use Rattle.topojson_types.specs.Topologies.{TopoShape}
+use Rattle.topojson_types.specs.Validity.{IsArc, IsFeature, is_full_option, option_places, is_single_option}
+use Rattle.topojson_types.specs.Values.{Members, Geometrical, id_value, id_members, properties_members, typed, geometrical, geometrical_option, feature_value}
+use Rattle.topojson_meaning.specs.declared.geometry_type.GeometryType.{GeometryType}
+use Rattle.topojson_meaning.specs.declared.geometry_type.GeometryType.TheVariants.{Places, Arcs, Collection}
+use Rattle.topojson_meaning.specs.Features.{identifier, identifier_in, members_if, members_in, feature, feature_element}
+use Rattle.topojson_meaning.specs.GeometryTypes.{part_name, is_collection, type_in, type_of, object_type}
+use Rattle.json_members.specs.Members.{only, there}
+use Rattle.topojson_meaning.specs.Members.{lookup_fault, named, find, need}
+use Rattle.topojson_meaning.specs.Reader.{with_fault}
+use Rattle.topojson_meaning.specs.Shapes.{typed_shape}
+use Rattle.topojson_meaning.proofs.ArcsBack.{object_members}
+use Rattle.topojson_meaning.proofs.LinesBack.{Sound}
+use Rattle.topojson_meaning.proofs.ShapesBack.{Parts, object_typed, shape_parts, type_named, typed_back}
+use Rattle.topojson_meaning.proofs.Steps.{Gives, pure_gives}
+
+-- ---- members
+
+-- a name that isn't `id` isn't found there
+past_id : (name : List ℕ) (i : Option Id) (ms : Members) → bytes_eq (codes "id") name ≡ false → named name (id_members i ++ ms) ≡ named name ms
+unfolding named
+past_id name None ms e = refl
+past_id name (Some i) ms e = rw e refl
+
+past_properties : (name : List ℕ) (ps : Option Members) (ms : Members) → bytes_eq (codes "properties") name ≡ false → named name (properties_members ps ++ ms) ≡ named name ms
+unfolding named
+past_properties name None ms e = refl
+past_properties name (Some p) ms e = rw e refl
+
+ids_found : (i : Option Id) (ms : Members) → named (codes "id") ms ≡ [] → only (named (codes "id") (id_members i ++ ms)) ≡ Ok (map_some id_value i)
+unfolding named
+ids_found None ms e = ap only e
+ids_found (Some i) ms e = ap (λ vs. only (id_value i ∷ vs)) e
+
+objects_found : (ps : Option Members) (ms : Members) → named (codes "properties") ms ≡ [] → only (named (codes "properties") (properties_members ps ++ ms)) ≡ Ok (map_some j.Object ps)
+unfolding named
+objects_found None ms e = ap only e
+objects_found (Some p) ms e = ap (λ vs. only (j.Object p ∷ vs)) e
+
+-- the members of a feature whose shape is made of these
+abbrev pub feature_members : Option Id → Option Members → Json → Members → Members
+feature_members i ps t parts = (codes "type", t) ∷ (id_members i ++ (properties_members ps ++ parts))
+
+-- what the four look-ups in the members of a feature find: its parts have another name than those of all features
+pub record Found (i : Option Id) (ps : Option Members) (t : Json) (parts : Members) : Type 0 where
+  pub type : need (codes "type") (feature_members i ps t parts) ≡ Ok t
+  pub id : find (codes "id") (feature_members i ps t parts) ≡ Ok (map_some id_value i)
+  pub properties : find (codes "properties") (feature_members i ps t parts) ≡ Ok (map_some j.Object ps)
+  pub others : (name : List ℕ) → bytes_eq (codes "type") name ≡ false → bytes_eq (codes "id") name ≡ false → bytes_eq (codes "properties") name ≡ false
+      → need name (feature_members i ps t parts) ≡ need name parts
+
+-- they are no members that all features have
+abbrev AreParts : Members → Type 0
+AreParts parts = (named (codes "type") parts ≡ []) × (named (codes "id") parts ≡ []) × (named (codes "properties") parts ≡ [])
+
+module _ (i : Option Id) (ps : Option Members) (t : Json) (parts : Members) where
+  past_both : (name : List ℕ) → bytes_eq (codes "type") name ≡ false → bytes_eq (codes "id") name ≡ false → bytes_eq (codes "properties") name ≡ false
+      → named name (feature_members i ps t parts) ≡ named name parts
+  unfolding named
+  past_both name e f k = rw e (past_id name i (properties_members ps ++ parts) f ∙ past_properties name ps parts k)
+
+  type_found : named (codes "type") parts ≡ [] → need (codes "type") (feature_members i ps t parts) ≡ Ok t
+  unfolding need named
+  type_found e = ap (λ ts. with_fault lookup_fault (there (only (t ∷ ts)))) (past_id (codes "type") i (properties_members ps ++ parts) refl ∙ past_properties (codes "type") ps parts refl ∙ e)
+
+  id_found : named (codes "id") parts ≡ [] → find (codes "id") (feature_members i ps t parts) ≡ Ok (map_some id_value i)
+  unfolding named
+  id_found e = ap (with_fault lookup_fault) (ids_found i (properties_members ps ++ parts) (past_properties (codes "id") ps parts refl ∙ e))
+
+  properties_found : named (codes "properties") parts ≡ [] → find (codes "properties") (feature_members i ps t parts) ≡ Ok (map_some j.Object ps)
+  unfolding named
+  properties_found e = ap (with_fault lookup_fault) (ap only (past_id (codes "properties") i (properties_members ps ++ parts) refl) ∙ objects_found ps parts e)
+
+  found : AreParts parts → Found i ps t parts
+  unfolding need
+  found h = record { type = type_found h.0; id = id_found h.1; properties = properties_found h.2; others = λ name e f k. ap (λ ts. with_fault lookup_fault (there (only ts))) (past_both name e f k) }
+
+-- ---- identifiers and properties
+
+id_back : (i : Option Id) → identifier (map_some id_value i) ≡ Ok i
+id_back None = refl
+id_back (Some (id.Text t)) = ap identifier_in (j.outs-Text t)
+id_back (Some (id.Number n)) = ap identifier_in (j.outs-Number n)
+
+properties_back : (ps : Option Members) → members_if (map_some j.Object ps) ≡ Ok ps
+properties_back None = refl
+properties_back (Some ms) = ap members_in (j.outs-Object ms)
+
+-- ---- features
+
+-- the member that a shape is made of has another name than those of all features
+no_parts : (type : GeometryType) (v : Json) → AreParts ((part_name type, v) ∷ [])
+unfolding named
+no_parts (Places type) v = (refl, refl, refl)
+no_parts (Arcs type) v = (refl, refl, refl)
+no_parts Collection v = (refl, refl, refl)
+
+part_found : (i : Option Id) (ps : Option Members) (t : Json) (type : GeometryType) (v : Json) → need (part_name type) (feature_members i ps t ((part_name type, v) ∷ [])) ≡ Ok v
+unfolding need named
+part_found i ps t (Places type) v = (found i ps t _ (no_parts (Places type) v)).others (codes "coordinates") refl refl refl
+part_found i ps t (Arcs type) v = (found i ps t _ (no_parts (Arcs type) v)).others (codes "arcs") refl refl refl
+part_found i ps t Collection v = (found i ps t _ (no_parts Collection v)).others (codes "geometries") refl refl refl
+
+null_type : type_of j.Null ≡ Ok None
+unfolding type_of
+null_type = ap type_in j.outs-Null
+
+-- a feature with this identifier, these properties and a shape that is written so is read back, by its type
+pub record Shaped (arcs : List (List Point)) (i : Option Id) (ps : Option Members) (x : Option TopoShape) (o : Geometrical) : Type 0 where
+  pub type : Option GeometryType
+  pub is : object_type (feature_members i ps o.type o.parts) ≡ Ok type
+  pub reads : Gives (feature None arcs type (feature_members i ps o.type o.parts)) (record { id = i; properties = ps; shape = x })
+  pub single : is_single_option x ≡ true → is_collection type ≡ false
+
+module _ (arcs : List (List Point)) (long : AllByRecursion (IsArc None) arcs) (few : length arcs < 2 ^ 63) (i : Option Id) (ps : Option Members) where
+  feature_reads : (type : Option GeometryType) (ms : Members) (x : Option TopoShape) → find (codes "id") ms ≡ Ok (map_some id_value i) → find (codes "properties") ms ≡ Ok (map_some j.Object ps)
+      → Gives (typed_shape None arcs type ms) x → Gives (feature None arcs type ms) (record { id = i; properties = ps; shape = x })
+  unfolding feature
+  feature_reads type ms x e f h c = rw (e, id_back i, f, properties_back ps, h c) refl
+
+  null_shaped : Shaped arcs i ps None (geometrical_option None)
+  unfolding typed_shape named
+  null_shaped =
+      let found : Found i ps j.Null [] = found i ps j.Null [] (refl, refl, refl) in
+      let ms : Members = feature_members i ps j.Null [] in
+      record {
+        type = None;
+        is = object_typed ms j.Null (Ok None) found.type null_type;
+        reads = feature_reads None ms None found.id found.properties (λ c. refl);
+        single = λ _. refl;
+      }
+
+  some_shaped : (s : TopoShape) → Parts arcs s → Shaped arcs i ps (Some s) (geometrical s)
+  some_shaped s p =
+      let parts : Members = (part_name p.type, p.value) ∷ [] in
+      let t : Json = j.Text p.name in
+      let ms : Members = feature_members i ps t parts in
+      let found : Found i ps t parts = found i ps t parts (no_parts p.type p.value) in
+      let at : Shaped arcs i ps (Some s) (typed p.name (part_name p.type) p.value) = record {
+        type = Some p.type;
+        is = object_typed ms t (Ok (Some p.type)) found.type (type_named p.name p.type p.known);
+        reads = feature_reads (Some p.type) ms (Some s) found.id found.properties (typed_back arcs long few p.type ms p.value (Some s) (part_found i ps t p.type p.value) p.reads);
+        single = p.single;
+      } in
+      subst (Shaped arcs i ps (Some s)) (sym p.is) at
+
+-- no list of its shape is empty but a collection's, its places are positions, and its lines and rings are sound
+abbrev pub FineFeature : List (List Point) → TopoFeature → Type 0
+FineFeature arcs f = IsFeature None f × AllByRecursion (Sound arcs) (option_strokes f.shape)
+
+module _ (arcs : List (List Point)) (long : AllByRecursion (IsArc None) arcs) (few : length arcs < 2 ^ 63) where
+  pub shaped : (i : Option Id) (ps : Option Members) (x : Option TopoShape) → is_full_option x ≡ true → AllByRecursion IsPosition (option_places x) → AllByRecursion (Sound arcs) (option_strokes x)
+      → Shaped arcs i ps x (geometrical_option x)
+  shaped i ps None f h k = null_shaped arcs long few i ps
+  shaped i ps (Some s) f h k = some_shaped arcs long few i ps s (shape_parts arcs long few s (f, h, k))
+
+  pub feature_back : (f : TopoFeature) → FineFeature arcs f → Gives (feature_element None arcs (feature_value f)) f
+  unfolding feature_element
+  feature_back f h =
+      let s = shaped f.id f.properties f.shape h.0.0 h.0.1 h.1 in
+      let o : Geometrical = geometrical_option f.shape in
+      let ms : Members = feature_members f.id f.properties o.type o.parts in
+      pure_gives _ _ ms f (object_members ms) (pure_gives (object_type ms) (λ t. feature None arcs t ms) s.type f s.is s.reads)

@@ -1,0 +1,152 @@
+-- The lines, rings and polygons that are written are read back.
+use Rattle.std.proofs.Common.{◌≡◌, ℕ, zero, suc, ℤ, pos, negsuc, ◌<◌, ◌≤◌, Bool, true, false, List, [], ◌∷◌, length, map, Option, Some, None, refl, subst, arith}
+use Rattle.std.specs.Prelude.{◌^◌, unsigned_abs}
+use Rattle.std.specs.List.{AllByRecursion}
+use Rattle.std.specs.Cmp.{signed_Decides}
+use Rattle.std.proofs.lemmas.Bool.{lt-ltb}
+use Rattle.std.proofs.lemmas.List.{length-reverse}
+use Rattle.decimal_text.specs.Scaling.{units_text}
+use Rattle.decimal_text.proofs.UnitsText.{scaled_of-units}
+use Rattle.json_value.specs.declared.json.Json.{Json}
+use Rattle.json_value.specs.declared.json.Json.TheVariants as j
+use Rattle.json_value.proofs.KindsOf.{array_of-array}
+use Rattle.geojson_types.specs.Features.{is_some_list}
+use Rattle.geojson_types.specs.Lists.{map_some, then_some}
+use Rattle.geojson_types.specs.Points.{Point}
+use Rattle.geojson_types.specs.Rings.{same, both_same}
+use Rattle.topojson_types.specs.Joins.{number_of, at, or_empty, arc_at, first_of, last_of, Meet, Closes}
+use Rattle.topojson_types.specs.Validity.{IsArc, AreInRange, IsJoined, IsClosed}
+use Rattle.topojson_types.specs.Values.{whole_value, line_value, lines_value}
+use Rattle.topojson_meaning.specs.Lines.{some_elements, index_limit, index, meets, joined_to, indexes_behind, indexes, line_start, line_end, as_ring, line_in, line, ring_in, ring, polygon_in, polygon}
+use Rattle.topojson_meaning.specs.Reader.{if_some, kept}
+use Rattle.topojson_meaning.proofs.ArcsBack.{number_is_text}
+use Rattle.topojson_meaning.proofs.Steps.{Gives, then_gives, kept_gives}
+
+-- ---- arrays that are not empty
+
+pub some_elements_back : {A : Type 0} (value : A → Json) (xs : List A) → is_some_list xs ≡ true → Gives (some_elements (j.Array (map value xs))) (Some (map value xs))
+unfolding some_elements
+some_elements_back value [] h c = absurd cc
+some_elements_back value (x ∷ xs) h c = rw (array_of-array (map value (x ∷ xs))) refl
+
+-- ---- positions
+
+pub same_itself : (p : Point) → same p p ≡ true
+unfolding same
+same_itself p = rw ((signed_Decides p.x p.x).1 refl, (signed_Decides p.y p.y).1 refl) refl
+
+some_same : (o q : Option Point) (p : Point) → o ≡ q → q ≡ Some p → both_same o q ≡ true
+some_same o q p e f = rw (e, f) (same_itself p)
+
+-- ---- arcs and indexes
+
+first_there : {X : Type 0} (xs : List X) → 2 ≤ length xs → (x : X) × (first_of xs ≡ Some x)
+first_there [] h = absurd (omega arith)
+first_there (x ∷ xs) h = (x, refl)
+
+at_long : (arcs : List (List Point)) (i : ℕ) → AllByRecursion (IsArc None) arcs → i < length arcs → 2 ≤ length (or_empty (at arcs i))
+at_long [] i h lt = absurd (omega arith)
+at_long (a ∷ arcs) zero h lt = h.0.0
+at_long (a ∷ arcs) (suc i) h lt = at_long arcs i h.1 (omega arith)
+
+arc_long : (arcs : List (List Point)) (i : ℤ) → AllByRecursion (IsArc None) arcs → number_of i < length arcs → 2 ≤ length (arc_at arcs i)
+unfolding number_of
+arc_long arcs (pos i) h lt = at_long arcs i h lt
+arc_long arcs (negsuc i) h lt = rw (length-reverse (or_empty (at arcs i))) (at_long arcs i h lt)
+
+pub magnitude : (i : ℤ) (n : ℕ) → number_of i < n → n < 2 ^ 63 → unsigned_abs i ≤ index_limit
+unfolding number_of
+magnitude (pos i) n h k = omega arith
+magnitude (negsuc i) n h k = omega arith
+
+index_back : (n : ℕ) (i : ℤ) → n < 2 ^ 63 → number_of i < n → Gives (index n (whole_value i)) i
+unfolding index
+index_back n i k h c =
+    let m = magnitude i n h k in
+    rw (number_is_text (units_text i 0), scaled_of-units i 0 index_limit (omega arith) m, lt-ltb (number_of i) n h) refl
+
+-- ---- lines and rings
+
+-- the indexes name arcs that meet, and those of a ring close
+abbrev pub Sound : List (List Point) → Bool × List ℤ → Type 0
+Sound arcs b = AreInRange (length arcs) b.1 × IsJoined arcs b × IsClosed arcs b
+
+-- a line or ring of some indexes
+abbrev pub Full : List (List Point) → Bool → List ℤ → Type 0
+Full arcs closed refs = (is_some_list refs ≡ true) × Sound arcs (closed, refs)
+
+-- some rings, each of some indexes
+abbrev pub FullArea : List (List Point) → List (List ℤ) → Type 0
+FullArea arcs rs = (is_some_list rs ≡ true) × AllByRecursion (Full arcs true) rs
+
+module _ (arcs : List (List Point)) (long : AllByRecursion (IsArc None) arcs) (few : length arcs < 2 ^ 63) where
+  starts : (i : ℤ) → number_of i < length arcs → (p : Point) × (first_of (arc_at arcs i) ≡ Some p)
+  starts i h = first_there (arc_at arcs i) (arc_long arcs i long h)
+
+  join_back : (before i : ℤ) → number_of i < length arcs → last_of (arc_at arcs before) ≡ first_of (arc_at arcs i) → Gives (joined_to arcs before i) i
+  join_back before i h e c =
+      let s = starts i h in
+      let k : meets arcs before i ≡ true = some_same (last_of (arc_at arcs before)) (first_of (arc_at arcs i)) s.0 e s.1 in
+      rw k refl
+
+  behind_back : (before : ℤ) (refs : List ℤ) → AreInRange (length arcs) refs → Meet (arc_at arcs before ∷ map (arc_at arcs) refs) → Gives (indexes_behind arcs before (map whole_value refs)) refs
+  unfolding indexes_behind
+  behind_back before [] h m c = refl
+  behind_back before (i ∷ refs) h m c = rw (index_back (length arcs) i few h.0 c, join_back before i h.0 m.0 c, behind_back i refs h.1 m.1 c) refl
+
+  indexes_back : (refs : List ℤ) → AreInRange (length arcs) refs → Meet (map (arc_at arcs) refs) → Gives (indexes arcs (map whole_value refs)) refs
+  unfolding indexes
+  indexes_back [] h m c = refl
+  indexes_back (i ∷ refs) h m c = rw (index_back (length arcs) i few h.0 c, behind_back i refs h.1 m c) refl
+
+  last_map : {A B : Type 0} (f : A → B) (xs : List A) → last_of (map f xs) ≡ map_some f (last_of xs)
+  last_map f [] = refl
+  last_map f (x ∷ []) = refl
+  last_map f (x ∷ y ∷ xs) = last_map f (y ∷ xs)
+
+  -- the last list, if there is one, ends where this one begins
+  abbrev Ends : List Point → Option (List Point) → Type 0
+  Ends p o = elim o [ None ↦ ⊥ | Some q ↦ last_of q ≡ first_of p ]
+
+  end_of : (i : ℤ) (o : Option ℤ) → Ends (arc_at arcs i) (map_some (arc_at arcs) o) → then_some (λ k. last_of (arc_at arcs k)) o ≡ first_of (arc_at arcs i)
+  end_of i None h = absurd h
+  end_of i (Some k) h = h
+
+  close_back : (refs : List ℤ) → AreInRange (length arcs) refs → Closes (map (arc_at arcs) refs) → Gives (as_ring arcs refs) (Some refs)
+  close_back [] h m c = absurd m
+  close_back (i ∷ refs) h m c =
+      let s = starts i h.0 in
+      let e : line_end arcs (i ∷ refs) ≡ first_of (arc_at arcs i) = end_of i (last_of (i ∷ refs)) (subst (Ends (arc_at arcs i)) (last_map (arc_at arcs) (i ∷ refs)) m) in
+      let k : both_same (line_end arcs (i ∷ refs)) (line_start arcs (i ∷ refs)) ≡ true = some_same (line_end arcs (i ∷ refs)) (first_of (arc_at arcs i)) s.0 e s.1 in
+      rw k refl
+
+  pub line_in_back : (refs : List ℤ) → Sound arcs (false, refs) → Gives (line_in arcs (map whole_value refs)) (Some refs)
+  unfolding line_in
+  line_in_back refs h c = rw (indexes_back refs h.0 h.1 c) refl
+
+  line_back : (refs : List ℤ) → Full arcs false refs → Gives (line arcs (line_value refs)) (Some refs)
+  unfolding line
+  line_back refs h = then_gives (some_elements (line_value refs)) (if_some (line_in arcs)) (Some (map whole_value refs)) (Some refs) (some_elements_back whole_value refs h.0) (line_in_back refs h.1)
+
+  pub lines_back : (ls : List (List ℤ)) → AllByRecursion (Full arcs false) ls → Gives (kept (line arcs) (map line_value ls)) ls
+  lines_back = kept_gives (Full arcs false) line_value (line arcs) line_back
+
+  ring_in_back : (refs : List ℤ) → Sound arcs (true, refs) → Gives (ring_in arcs (map whole_value refs)) (Some refs)
+  unfolding ring_in
+  ring_in_back refs h = then_gives (indexes arcs (map whole_value refs)) (as_ring arcs) refs (Some refs) (indexes_back refs h.0 h.1) (close_back refs h.0 (h.2 refl))
+
+  ring_back : (refs : List ℤ) → Full arcs true refs → Gives (ring arcs (line_value refs)) (Some refs)
+  unfolding ring
+  ring_back refs h = then_gives (some_elements (line_value refs)) (if_some (ring_in arcs)) (Some (map whole_value refs)) (Some refs) (some_elements_back whole_value refs h.0) (ring_in_back refs h.1)
+
+  pub polygon_in_back : (rs : List (List ℤ)) → FullArea arcs rs → Gives (polygon_in arcs (map line_value rs)) (Some rs)
+  unfolding polygon_in
+  polygon_in_back [] h c = let e : false ≡ true = h.0 in absurd cc
+  polygon_in_back (r ∷ rs) h c = rw (ring_back r h.1.0 c, kept_gives (Full arcs true) line_value (ring arcs) ring_back rs h.1.1 c) refl
+
+  polygon_back : (rs : List (List ℤ)) → FullArea arcs rs → Gives (polygon arcs (lines_value rs)) (Some rs)
+  unfolding polygon
+  polygon_back rs h = then_gives (some_elements (lines_value rs)) (if_some (polygon_in arcs)) (Some (map line_value rs)) (Some rs) (some_elements_back line_value rs h.0) (polygon_in_back rs h)
+
+  pub polygons_back : (areas : List (List (List ℤ))) → AllByRecursion (FullArea arcs) areas → Gives (kept (polygon arcs) (map lines_value areas)) areas
+  polygons_back = kept_gives (FullArea arcs) lines_value (polygon arcs) polygon_back

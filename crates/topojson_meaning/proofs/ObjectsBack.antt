@@ -1,0 +1,104 @@
+-- The objects that are written are read back.
+use Rattle.std.proofs.Common.{◌≡◌, ◌≢◌, ℕ, ◌<◌, Bool, true, false, List, [], ◌∷◌, length, map, None, Some, Ok, refl}
+use Rattle.std.specs.Prelude.{codes, ◌^◌, bytes_eq}
+use Rattle.std.specs.List.{AllByRecursion}
+use Rattle.std.proofs.lemmas.Slice.Eq.{bytes_eq-Decides}
+use Rattle.json_value.specs.declared.json.Json.{Json}
+use Rattle.json_value.specs.declared.json.Json.TheVariants as j
+use Rattle.geojson_types.specs.Points.{Point}
+use Rattle.topojson_types.specs.declared.feature.TopoFeature.{TopoFeature}
+use Rattle.topojson_types.specs.declared.object.TopoObject.{TopoObject}
+use Rattle.topojson_types.specs.declared.object.TopoObject.TheVariants.{One, Many}
+use Rattle.topojson_types.specs.Validity.{IsArc, AreDistinct, is_single_option}
+use Rattle.topojson_types.specs.Values.{Members, Geometrical, geometrical_option, feature_value, object_value}
+use Rattle.topojson_meaning.specs.declared.geometry_type.GeometryType.TheVariants.{Collection}
+use Rattle.topojson_meaning.specs.Features.{feature_element}
+use Rattle.topojson_meaning.specs.GeometryTypes.{object_type}
+use Rattle.topojson_meaning.specs.Members.{named, need}
+use Rattle.topojson_meaning.specs.Objects.{features, collection, single, object, is_met, objects_behind, objects}
+use Rattle.topojson_meaning.specs.Reader.{each}
+use Rattle.topojson_meaning.proofs.ArcsBack.{array_elements, object_members}
+use Rattle.topojson_meaning.proofs.FeaturesBack.{feature_members, FineFeature, shaped, feature_back}
+use Rattle.topojson_meaning.proofs.ShapesBack.{known_group, object_typed, type_named}
+use Rattle.topojson_meaning.proofs.Steps.{Gives, pure_gives, each_gives}
+
+-- its features are, and one alone is no collection
+abbrev pub FineObject : List (List Point) → TopoObject → Type 0
+FineObject arcs (One f) = FineFeature arcs f × (is_single_option f.shape ≡ true)
+FineObject arcs (Many fs) = AllByRecursion (FineFeature arcs) fs
+
+module _ (arcs : List (List Point)) (long : AllByRecursion (IsArc None) arcs) (few : length arcs < 2 ^ 63) where
+  -- ---- one object
+
+  single_back : (f : TopoFeature) → FineFeature arcs f → is_single_option f.shape ≡ true → Gives (object None arcs (feature_value f)) (One f)
+  unfolding object single
+  single_back f h e c =
+      let s = shaped arcs long few f.id f.properties f.shape h.0.0 h.0.1 h.1 in
+      let o : Geometrical = geometrical_option f.shape in
+      let ms : Members = feature_members f.id f.properties o.type o.parts in
+      rw (object_members ms, s.is, s.single e, s.reads c) refl
+
+  features_back : (fs : List TopoFeature) → AllByRecursion (FineFeature arcs) fs → Gives (features None arcs (j.Array (map feature_value fs))) fs
+  unfolding features
+  features_back fs h = pure_gives _ (each (feature_element None arcs)) _ fs (array_elements (map feature_value fs))
+      (each_gives (FineFeature arcs) feature_value (feature_element None arcs) (feature_back arcs long few) fs h)
+
+  -- the members of a collection
+  abbrev collected : List TopoFeature → Members
+  collected fs = (codes "type", j.Text (codes "GeometryCollection")) ∷ ((codes "geometries", j.Array (map feature_value fs)) ∷ [])
+
+  collected_type : (fs : List TopoFeature) → need (codes "type") (collected fs) ≡ Ok (j.Text (codes "GeometryCollection"))
+  unfolding need named
+  collected_type fs = refl
+
+  collection_back : (fs : List TopoFeature) → AllByRecursion (FineFeature arcs) fs → Gives (collection None arcs (collected fs)) (Many fs)
+  unfolding collection need named
+  collection_back fs h c = rw (features_back fs h c) refl
+
+  many_back : (fs : List TopoFeature) → AllByRecursion (FineFeature arcs) fs → Gives (object None arcs (object_value (Many fs))) (Many fs)
+  unfolding object
+  many_back fs h c =
+      let t : Json = j.Text (codes "GeometryCollection") in
+      let e : object_type (collected fs) ≡ Ok (Some Collection) = object_typed (collected fs) t (Ok (Some Collection)) (collected_type fs) (type_named (codes "GeometryCollection") Collection known_group) in
+      rw (object_members (collected fs), e, collection_back fs h c) refl
+
+  object_back : (o : TopoObject) → FineObject arcs o → Gives (object None arcs (object_value o)) o
+  object_back (One f) h = single_back f h.0 h.1
+  object_back (Many fs) h = many_back fs h
+
+  -- ---- objects by name
+
+  false_where_not : (b : Bool) → (b ≡ true → ⊥) → b ≡ false
+  false_where_not true h = absurd (h refl)
+  false_where_not false h = refl
+
+  unmet : (name : List ℕ) (met : List (List ℕ)) → AllByRecursion (λ n. n ≢ name) met → is_met name met ≡ false
+  unmet name [] h = refl
+  unmet name (n ∷ met) h =
+      let e : bytes_eq n name ≡ false = false_where_not (bytes_eq n name) (λ k. h.0 ((bytes_eq-Decides n name).0 k)) in
+      rw (e, unmet name met h.1) refl
+
+  -- none of these names is the name of one of these objects
+  abbrev AreNew : List (List ℕ) → List (List ℕ) → Type 0
+  AreNew met names = AllByRecursion (λ n. AllByRecursion (λ y. n ≢ y) names) met
+
+  new_first : (met names : List (List ℕ)) (name : List ℕ) → AreNew met (name ∷ names) → AllByRecursion (λ n. n ≢ name) met
+  new_first [] names name h = tt
+  new_first (n ∷ met) names name h = (h.0.0, new_first met names name h.1)
+
+  new_rest : (met names : List (List ℕ)) (name : List ℕ) → AreNew met (name ∷ names) → AreNew met names
+  new_rest [] names name h = tt
+  new_rest (n ∷ met) names name h = (h.0.1, new_rest met names name h.1)
+
+  behind_back : (met : List (List ℕ)) (os : List (List ℕ × TopoObject)) → AreNew met (map (λ o. o.0) os) → AreDistinct (map (λ o. o.0) os) → AllByRecursion (λ o. FineObject arcs o.1) os
+      → Gives (objects_behind None arcs met (map (λ o. (o.0, object_value o.1)) os)) os
+  unfolding objects_behind
+  behind_back met [] n d h c = refl
+  behind_back met (o ∷ os) n d h c =
+      let names : List (List ℕ) = map (λ o. o.0) os in
+      rw (unmet o.0 met (new_first met names o.0 n), object_back o.1 h.0 c, behind_back (o.0 ∷ met) os (d.0, new_rest met names o.0 n) d.1 h.1 c) refl
+
+  pub objects_back : (os : List (List ℕ × TopoObject)) → AreDistinct (map (λ o. o.0) os) → AllByRecursion (λ o. FineObject arcs o.1) os
+      → Gives (objects None arcs (j.Object (map (λ o. (o.0, object_value o.1)) os))) os
+  unfolding objects
+  objects_back os d h = pure_gives _ (objects_behind None arcs []) _ os (object_members (map (λ o. (o.0, object_value o.1)) os)) (behind_back [] os tt d h)

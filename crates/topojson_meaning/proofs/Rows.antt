@@ -1,0 +1,237 @@
+-- Worked rows of the definition: small values and the topologies or faults that they are.
+use Rattle.std.proofs.Common.{◌≡◌, ℕ, false, List, [], ◌∷◌, Some, None, Ok, Err, refl}
+use Rattle.std.specs.Prelude.{codes, pos, negsuc}
+use Rattle.json_value.specs.declared.json.Json.{Json}
+use Rattle.json_value.specs.declared.json.Json.TheVariants as j
+use Rattle.json_value.specs.Kinds.{array_of, object_of, text_of, number_of}
+use Rattle.decimal_text.specs.Scaling.{scaled_of}
+use Rattle.geojson_types.specs.declared.counts.Counts.{Counts}
+use Rattle.geojson_types.specs.declared.geometry.Geometry.TheVariants as g
+use Rattle.geojson_types.specs.Counting.{no_counts}
+use Rattle.geojson_types.specs.Points.{Point}
+use Rattle.geojson_types.specs.Rings.{same}
+use Rattle.topojson_types.specs.declared.object.TopoObject.{TopoObject}
+use Rattle.topojson_types.specs.declared.object.TopoObject.TheVariants.{One}
+use Rattle.topojson_types.specs.Decoding.{decoded_line}
+use Rattle.topojson_types.specs.Joins as joins
+use Rattle.topojson_meaning.specs.declared.fault.TopoFault.{TopoFault}
+use Rattle.topojson_meaning.specs.declared.fault.TopoFault.TheVariants.{NotTopology, Missing, Duplicate, WrongKind, UnknownType, ShortArc, IndexRange, Unjoined, OpenRing, Range}
+use Rattle.topojson_meaning.specs.Arcs.{number_text, units, elements_position, position, arc_cells, arc, arc_list}
+use Rattle.topojson_meaning.specs.Features.{feature}
+use Rattle.topojson_meaning.specs.GeometryTypes.{geometry_type, type_of, object_type}
+use Rattle.topojson_meaning.specs.Lines.{some_elements, index, indexes_behind, indexes, line_in, ring_in, ring, polygon_in}
+use Rattle.topojson_meaning.specs.Members.{Members, named, need, members, elements}
+use Rattle.topojson_meaning.specs.Objects.{single, object, objects_behind, objects}
+use Rattle.topojson_meaning.specs.Reader.{gather}
+use Rattle.topojson_meaning.specs.Shapes.{arcs_in, arcs_shape, part, typed_shape}
+use Rattle.topojson_meaning.specs.Topologies.{contents, value_contents, topology}
+use Rattle.topojson_meaning.specs.Transforms.{transform_if}
+
+abbrev typed : List ℕ → List ℕ × Json
+typed name = (codes "type", j.Text name)
+
+-- a topology with these members behind its type
+abbrev topology_with : Members → Json
+topology_with ms = j.Object (typed (codes "Topology") ∷ ms)
+
+-- ---- faults of the members
+
+row_array : topology (j.Array []) ≡ Err NotTopology
+unfolding topology value_contents object_of
+row_array = simp (j.outs-Array)
+
+-- {"type":"FeatureCollection","features":[]}
+row_features : topology (j.Object (typed (codes "FeatureCollection") ∷ ((codes "features", j.Array []) ∷ []))) ≡ Err NotTopology
+unfolding topology value_contents contents transform_if object_of text_of need named
+row_features = simp (j.outs-Object, j.outs-Text)
+
+-- {"type":"Topology","objects":{}}
+row_no_arcs : topology (topology_with ((codes "objects", j.Object []) ∷ [])) ≡ Err Missing
+unfolding topology value_contents contents transform_if object_of text_of need named
+row_no_arcs = simp (j.outs-Object, j.outs-Text)
+
+-- {"type":"Topology","objects":{"a":{"type":null},"a":{"type":null}},"arcs":[]}
+abbrev null_object : Json
+null_object = j.Object ((codes "type", j.Null) ∷ [])
+
+row_names : topology (topology_with ((codes "objects", j.Object ((codes "a", null_object) ∷ ((codes "a", null_object) ∷ []))) ∷ ((codes "arcs", j.Array []) ∷ []))) ≡ Err Duplicate
+unfolding topology value_contents contents transform_if object_of text_of need named arc_list elements array_of gather objects objects_behind members object object_type type_of single feature typed_shape
+row_names = simp (j.outs-Object, j.outs-Text, j.outs-Array, j.outs-Null)
+
+-- ---- arcs
+
+-- {"type":"Topology","objects":{},"arcs":[[[0,0]]]}
+row_short_arc : topology (topology_with ((codes "objects", j.Object []) ∷ ((codes "arcs", j.Array (j.Array (j.Array (j.Number (codes "0") ∷ (j.Number (codes "0") ∷ [])) ∷ []) ∷ [])) ∷ []))) ≡ Err ShortArc
+unfolding topology value_contents contents transform_if object_of text_of need named arc_list arc arc_cells position elements_position units number_text number_of scaled_of elements array_of gather
+row_short_arc = simp (j.outs-Object, j.outs-Text, j.outs-Array, j.outs-Number)
+
+-- {"type":"Topology","objects":{},"arcs":[[[0,0],[400000000,0]]]}
+row_far : topology (topology_with ((codes "objects", j.Object []) ∷ ((codes "arcs", j.Array (j.Array (j.Array (j.Number (codes "0") ∷ (j.Number (codes "0") ∷ [])) ∷ (j.Array (j.Number (codes "400000000") ∷ (j.Number (codes "0") ∷ [])) ∷ [])) ∷ [])) ∷ []))) ≡ Err Range
+unfolding topology value_contents contents transform_if object_of text_of need named arc_list arc arc_cells position elements_position units number_text number_of scaled_of elements array_of gather
+row_far = simp (j.outs-Object, j.outs-Text, j.outs-Array, j.outs-Number)
+
+-- both numbers of a position are looked at before either is taken in units
+row_kinds_first : (c : Counts) → position (j.Array (j.Number (codes "1e99") ∷ (j.Text (codes "y") ∷ []))) c ≡ Err WrongKind
+unfolding position elements_position units number_text number_of scaled_of elements array_of
+row_kinds_first c = simp (j.outs-Text, j.outs-Array, j.outs-Number)
+
+-- ---- objects over the arcs [[[0,0],[1,0]],[[2,0],[3,0]]]
+
+abbrev at_x : ℕ → Point
+at_x x = record { x = pos x; y = pos 0 }
+
+abbrev two_arcs : List (List Point)
+two_arcs = (at_x 0 ∷ (at_x 10000000 ∷ [])) ∷ ((at_x 20000000 ∷ (at_x 30000000 ∷ [])) ∷ [])
+
+abbrev position_json : List ℕ → Json
+position_json x = j.Array (j.Number x ∷ (j.Number (codes "0") ∷ []))
+
+abbrev two_arcs_json : Json
+two_arcs_json = j.Array (j.Array (position_json (codes "0") ∷ (position_json (codes "1") ∷ [])) ∷ (j.Array (position_json (codes "2") ∷ (position_json (codes "3") ∷ [])) ∷ []))
+
+two_arcs_read : (c : Counts) → arc_list None two_arcs_json c ≡ Ok (two_arcs, c)
+unfolding arc_list arc arc_cells position elements_position units number_text number_of scaled_of elements array_of gather
+two_arcs_read c = simp (j.outs-Array, j.outs-Number)
+
+-- the topology with these arcs whose object `a` is this
+abbrev with_object : Json → Json
+with_object x = topology_with ((codes "objects", j.Object ((codes "a", x) ∷ [])) ∷ ((codes "arcs", two_arcs_json) ∷ []))
+
+object_fault : (x : Json) (e : TopoFault) → object None two_arcs x no_counts ≡ Err e → topology (with_object x) ≡ Err e
+unfolding topology value_contents contents transform_if object_of text_of need named objects objects_behind members
+object_fault x e h = simp (j.outs-Object, j.outs-Text, two_arcs_read no_counts, h)
+
+object_taken : (x : Json) (o : TopoObject) (c : Counts) → object None two_arcs x no_counts ≡ Ok (o, c) → topology (with_object x) ≡ Ok (record { objects = (codes "a", o) ∷ []; arcs = two_arcs; transform = None }, c)
+unfolding topology value_contents contents transform_if object_of text_of need named objects objects_behind members
+object_taken x o c h = simp (j.outs-Object, j.outs-Text, two_arcs_read no_counts, h)
+
+-- {"type":"Curve"}
+abbrev curve : Json
+curve = j.Object (typed (codes "Curve") ∷ [])
+
+curve_fault : object None two_arcs curve no_counts ≡ Err UnknownType
+unfolding object members object_of object_type need named type_of geometry_type
+curve_fault = simp (j.outs-Object, j.outs-Text)
+
+row_curve : topology (with_object curve) ≡ Err UnknownType
+row_curve = object_fault curve UnknownType curve_fault
+
+-- a LineString of these elements
+abbrev line_string : List Json → Json
+line_string vs = j.Object (typed (codes "LineString") ∷ ((codes "arcs", j.Array vs) ∷ []))
+
+-- a fault of its indexes is that of the topology
+line_fault : (v : Json) (vs : List Json) (e : TopoFault) → indexes two_arcs (v ∷ vs) no_counts ≡ Err e → object None two_arcs (line_string (v ∷ vs)) no_counts ≡ Err e
+unfolding object members object_of object_type need named type_of geometry_type single feature typed_shape part arcs_shape some_elements array_of arcs_in line_in
+line_fault v vs e h = simp (j.outs-Object, j.outs-Text, j.outs-Array, h)
+
+line_row : (v : Json) (vs : List Json) (e : TopoFault) → indexes two_arcs (v ∷ vs) no_counts ≡ Err e → topology (with_object (line_string (v ∷ vs))) ≡ Err e
+line_row v vs e h = object_fault (line_string (v ∷ vs)) e (line_fault v vs e h)
+
+-- [0.5]
+index_half : indexes two_arcs (j.Number (codes "0.5") ∷ []) no_counts ≡ Err WrongKind
+unfolding indexes indexes_behind index number_text number_of scaled_of joins.number_of same
+index_half = simp (j.outs-Number)
+
+row_half : topology (with_object (line_string (j.Number (codes "0.5") ∷ []))) ≡ Err WrongKind
+row_half = line_row (j.Number (codes "0.5")) [] WrongKind index_half
+
+-- [2]
+index_past : indexes two_arcs (j.Number (codes "2") ∷ []) no_counts ≡ Err IndexRange
+unfolding indexes indexes_behind index number_text number_of scaled_of joins.number_of same
+index_past = simp (j.outs-Number)
+
+row_past : topology (with_object (line_string (j.Number (codes "2") ∷ []))) ≡ Err IndexRange
+row_past = line_row (j.Number (codes "2")) [] IndexRange index_past
+
+-- [-3]
+index_before : indexes two_arcs (j.Number (codes "-3") ∷ []) no_counts ≡ Err IndexRange
+unfolding indexes indexes_behind index number_text number_of scaled_of joins.number_of same
+index_before = simp (j.outs-Number)
+
+row_before : topology (with_object (line_string (j.Number (codes "-3") ∷ []))) ≡ Err IndexRange
+row_before = line_row (j.Number (codes "-3")) [] IndexRange index_before
+
+-- [9223372036854775807]
+index_greatest : indexes two_arcs (j.Number (codes "9223372036854775807") ∷ []) no_counts ≡ Err IndexRange
+unfolding indexes indexes_behind index number_text number_of scaled_of joins.number_of same
+index_greatest = simp (j.outs-Number)
+
+row_greatest : topology (with_object (line_string (j.Number (codes "9223372036854775807") ∷ []))) ≡ Err IndexRange
+row_greatest = line_row (j.Number (codes "9223372036854775807")) [] IndexRange index_greatest
+
+-- [-9223372036854775808]
+index_least : indexes two_arcs (j.Number (codes "-9223372036854775808") ∷ []) no_counts ≡ Err IndexRange
+unfolding indexes indexes_behind index number_text number_of scaled_of joins.number_of same
+index_least = simp (j.outs-Number)
+
+row_least : topology (with_object (line_string (j.Number (codes "-9223372036854775808") ∷ []))) ≡ Err IndexRange
+row_least = line_row (j.Number (codes "-9223372036854775808")) [] IndexRange index_least
+
+-- [1e30]
+index_farthest : indexes two_arcs (j.Number (codes "1e30") ∷ []) no_counts ≡ Err IndexRange
+unfolding indexes indexes_behind index number_text number_of scaled_of joins.number_of same
+index_farthest = simp (j.outs-Number)
+
+row_farthest : topology (with_object (line_string (j.Number (codes "1e30") ∷ []))) ≡ Err IndexRange
+row_farthest = line_row (j.Number (codes "1e30")) [] IndexRange index_farthest
+
+-- [9223372036854775807.5]
+index_past_half : indexes two_arcs (j.Number (codes "9223372036854775807.5") ∷ []) no_counts ≡ Err IndexRange
+unfolding indexes indexes_behind index number_text number_of scaled_of joins.number_of same
+index_past_half = simp (j.outs-Number)
+
+row_past_half : topology (with_object (line_string (j.Number (codes "9223372036854775807.5") ∷ []))) ≡ Err IndexRange
+row_past_half = line_row (j.Number (codes "9223372036854775807.5")) [] IndexRange index_past_half
+
+-- [0,1]
+index_apart : indexes two_arcs (j.Number (codes "0") ∷ (j.Number (codes "1") ∷ [])) no_counts ≡ Err Unjoined
+unfolding indexes indexes_behind index number_text number_of scaled_of joins.number_of same
+index_apart = simp (j.outs-Number)
+
+row_apart : topology (with_object (line_string (j.Number (codes "0") ∷ (j.Number (codes "1") ∷ [])))) ≡ Err Unjoined
+row_apart = line_row (j.Number (codes "0")) (j.Number (codes "1") ∷ []) Unjoined index_apart
+
+-- an arc that does not meet the one before is told before the next element is looked at: [0,1,"x"] and [0,"x",1]
+row_apart_first : indexes two_arcs (j.Number (codes "0") ∷ (j.Number (codes "1") ∷ (j.Text (codes "x") ∷ []))) no_counts ≡ Err Unjoined
+unfolding indexes indexes_behind index number_text number_of scaled_of joins.number_of same
+row_apart_first = simp (j.outs-Number)
+
+row_kind_first : indexes two_arcs (j.Number (codes "0") ∷ (j.Text (codes "x") ∷ (j.Number (codes "1") ∷ []))) no_counts ≡ Err WrongKind
+unfolding indexes indexes_behind index number_text number_of scaled_of joins.number_of same
+row_kind_first = simp (j.outs-Number, j.outs-Text)
+
+-- {"type":"Polygon","arcs":[[0]]}
+abbrev open_ring : Json
+open_ring = j.Object (typed (codes "Polygon") ∷ ((codes "arcs", j.Array (j.Array (j.Number (codes "0") ∷ []) ∷ [])) ∷ []))
+
+open_ring_fault : object None two_arcs open_ring no_counts ≡ Err OpenRing
+unfolding object members object_of object_type need named type_of geometry_type single feature typed_shape part arcs_shape some_elements array_of arcs_in polygon_in ring ring_in indexes indexes_behind index number_text number_of scaled_of joins.number_of same
+open_ring_fault = simp (j.outs-Object, j.outs-Text, j.outs-Array, j.outs-Number)
+
+row_open_ring : topology (with_object open_ring) ≡ Err OpenRing
+row_open_ring = object_fault open_ring OpenRing open_ring_fault
+
+-- {"type":"LineString","arcs":[]}
+empty_line : object None two_arcs (line_string []) no_counts ≡ Ok (One (record { id = None; properties = None; shape = None }), record { rounded = 0; extra = 0; empty = 1 })
+unfolding object members object_of object_type need named type_of geometry_type single feature typed_shape part arcs_shape some_elements array_of
+empty_line = simp (j.outs-Object, j.outs-Text, j.outs-Array)
+
+row_empty_line : topology (with_object (line_string []))
+    ≡ Ok (record { objects = (codes "a", One (record { id = None; properties = None; shape = None })) ∷ []; arcs = two_arcs; transform = None }, record { rounded = 0; extra = 0; empty = 1 })
+row_empty_line = object_taken (line_string []) (One (record { id = None; properties = None; shape = None })) (record { rounded = 0; extra = 0; empty = 1 }) empty_line
+
+-- {"type":"LineString","arcs":[-2]}
+abbrev reversed_line : TopoObject
+reversed_line = One (record { id = None; properties = None; shape = Some (g.Line (negsuc 1 ∷ [])) })
+
+reversed_taken : object None two_arcs (line_string (j.Number (codes "-2") ∷ [])) no_counts ≡ Ok (reversed_line, no_counts)
+unfolding object members object_of object_type need named type_of geometry_type single feature typed_shape part arcs_shape some_elements array_of arcs_in line_in indexes indexes_behind index number_text number_of scaled_of joins.number_of
+reversed_taken = simp (j.outs-Object, j.outs-Text, j.outs-Array, j.outs-Number)
+
+row_reversed : topology (with_object (line_string (j.Number (codes "-2") ∷ []))) ≡ Ok (record { objects = (codes "a", reversed_line) ∷ []; arcs = two_arcs; transform = None }, no_counts)
+row_reversed = object_taken (line_string (j.Number (codes "-2") ∷ [])) reversed_line no_counts reversed_taken
+
+-- it decodes to [[3,0],[2,0]]
+decoded_reversed : decoded_line two_arcs false (negsuc 1 ∷ []) ≡ at_x 30000000 ∷ (at_x 20000000 ∷ [])
+decoded_reversed = refl

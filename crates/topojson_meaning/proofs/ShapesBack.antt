@@ -1,0 +1,295 @@
+-- The shapes that are written are read back.
+use Rattle.std.proofs.Common.{◌≡◌, ℕ, ℤ, ◌<◌, Bool, true, false, List, [], ◌∷◌, length, map, Option, None, Some, Result, Ok, refl, sym, ap, ◌∙◌, subst}
+use Rattle.std.specs.Prelude.{codes, ◌^◌, ◌&&◌}
+use Rattle.std.specs.List.{AllByRecursion, list_all}
+use Rattle.json_value.specs.declared.json.Json.{Json}
+use Rattle.json_value.specs.declared.json.Json.TheVariants as j
+use Rattle.geojson_types.specs.declared.geometry.Geometry.TheVariants as g
+use Rattle.geojson_types.specs.Features.{is_some_list}
+use Rattle.geojson_types.specs.Lists.{unless_empty, joined}
+use Rattle.geojson_types.specs.Points.{Point, IsPosition}
+use Rattle.geojson_types.specs.Pruning.{strokes}
+use Rattle.geojson_types.proofs.Agreement.{all_left, all_right}
+use Rattle.geojson_types.proofs.Cases.{strokes-line, strokes-lines, strokes-area, strokes-areas, strokes-group}
+use Rattle.geojson_types.proofs.Induction.{by_kinds}
+use Rattle.topojson_types.specs.Topologies.{TopoShape}
+use Rattle.topojson_types.specs.Validity.{IsArc, is_full, places, is_single}
+use Rattle.topojson_types.specs.Values.{Members, units_value, position_value, whole_value, line_value, lines_value, typed, inner_value, geometrical}
+use Rattle.topojson_meaning.specs.declared.fault.TopoFault.{TopoFault}
+use Rattle.topojson_meaning.specs.declared.geometry_type.ArcsType.{ArcsType}
+use Rattle.topojson_meaning.specs.declared.geometry_type.ArcsType.TheVariants as of_arcs
+use Rattle.topojson_meaning.specs.declared.geometry_type.GeometryType.{GeometryType}
+use Rattle.topojson_meaning.specs.declared.geometry_type.GeometryType.TheVariants.{Places, Arcs, Collection}
+use Rattle.topojson_meaning.specs.declared.geometry_type.PlacesType.{PlacesType}
+use Rattle.topojson_meaning.specs.declared.geometry_type.PlacesType.TheVariants as of_places
+use Rattle.topojson_meaning.specs.GeometryTypes.{geometry_type, part_name, is_collection, type_in, type_of, object_type}
+use Rattle.topojson_meaning.specs.Arcs.{elements_place}
+use Rattle.topojson_meaning.specs.Lines.{some_elements}
+use Rattle.topojson_meaning.specs.Members.{named, need}
+use Rattle.topojson_meaning.specs.Reader.{if_some}
+use Rattle.topojson_meaning.specs.Shapes.{places_in, arcs_in, places_shape, arcs_shape, shape, part, typed_shape, geometry}
+use Rattle.topojson_meaning.proofs.ArcsBack.{elements_position_back, each_place_back}
+use Rattle.topojson_meaning.proofs.LinesBack.{some_elements_back, Sound, Full, FullArea, line_in_back, lines_back, polygon_in_back, polygons_back}
+use Rattle.topojson_meaning.proofs.ShapeKinds.{geometrical-point, geometrical-points, geometrical-line, geometrical-lines, geometrical-area, geometrical-areas, geometrical-group, full-points, full-line, full-lines, full-area, full-areas, full-group, places-point, places-points, places-group, single-group}
+use Rattle.topojson_meaning.proofs.Steps.{Gives, then_gives, pure_gives, kept_gives}
+use Rattle.topojson_meaning.proofs.Unrolled.{shape_object, shapes_array}
+
+-- ---- lists that are full
+
+and_both : (a b : Bool) → (a && b) ≡ true → (a ≡ true) × (b ≡ true)
+and_both true b h = (refl, h)
+and_both false b h = absurd cc
+
+unless_some : {A B : Type 0} (make : List A → B) (xs : List A) → is_some_list xs ≡ true → unless_empty make xs ≡ Some (make xs)
+unless_some make [] h = absurd cc
+unless_some make (x ∷ xs) h = refl
+
+full_lines : (arcs : List (List Point)) (closed : Bool) (ls : List (List ℤ)) → list_all is_some_list ls ≡ true → AllByRecursion (Sound arcs) (map (λ l. (closed, l)) ls) → AllByRecursion (Full arcs closed) ls
+full_lines arcs closed [] f h = tt
+full_lines arcs closed (l ∷ ls) f h = let p = and_both (is_some_list l) (list_all is_some_list ls) f in ((p.0, h.0), full_lines arcs closed ls p.1 h.1)
+
+full_area : (arcs : List (List Point)) (rs : List (List ℤ)) → (is_some_list rs && list_all is_some_list rs) ≡ true → AllByRecursion (Sound arcs) (map (λ l. (true, l)) rs) → FullArea arcs rs
+full_area arcs rs f h = let p = and_both (is_some_list rs) (list_all is_some_list rs) f in (p.0, full_lines arcs true rs p.1 h)
+
+full_areas : (arcs : List (List Point)) (areas : List (List (List ℤ))) → list_all (λ rs. is_some_list rs && list_all is_some_list rs) areas ≡ true
+    → AllByRecursion (Sound arcs) (joined (map (map (λ l. (true, l))) areas)) → AllByRecursion (FullArea arcs) areas
+full_areas arcs [] f h = tt
+full_areas arcs (rs ∷ areas) f h =
+    let p = and_both (is_some_list rs && list_all is_some_list rs) (list_all (λ rs. is_some_list rs && list_all is_some_list rs) areas) f in (
+      full_area arcs rs p.0 (all_left (Sound arcs) (map (λ l. (true, l)) rs) (joined (map (map (λ l. (true, l))) areas)) h),
+      full_areas arcs areas p.1 (all_right (Sound arcs) (map (λ l. (true, l)) rs) (joined (map (map (λ l. (true, l))) areas)) h),
+    )
+
+-- ---- what is said of a shape
+
+-- no list is empty but a collection's, its places are positions, and its lines and rings are sound
+abbrev pub Fine : List (List Point) → TopoShape → Type 0
+Fine arcs s = (is_full s ≡ true) × AllByRecursion IsPosition (places s) × AllByRecursion (Sound arcs) (strokes s)
+
+-- it is written with the name of its type and one member, which is read as it
+pub record Parts (arcs : List (List Point)) (s : TopoShape) : Type 0 where
+  pub type : GeometryType
+  pub name : List ℕ
+  pub value : Json
+  pub is : geometrical s ≡ typed name (part_name type) value
+  pub known : geometry_type name ≡ Some type
+  pub reads : Gives (part None arcs type value) (Some s)
+  pub single : is_single s ≡ true → is_collection (Some type) ≡ false
+
+-- ---- names of types
+
+known_point : geometry_type (codes "Point") ≡ Some (Places of_places.Point)
+unfolding geometry_type
+known_point = refl
+
+known_points : geometry_type (codes "MultiPoint") ≡ Some (Places of_places.MultiPoint)
+unfolding geometry_type
+known_points = refl
+
+known_line : geometry_type (codes "LineString") ≡ Some (Arcs of_arcs.LineString)
+unfolding geometry_type
+known_line = refl
+
+known_lines : geometry_type (codes "MultiLineString") ≡ Some (Arcs of_arcs.MultiLineString)
+unfolding geometry_type
+known_lines = refl
+
+known_area : geometry_type (codes "Polygon") ≡ Some (Arcs of_arcs.Polygon)
+unfolding geometry_type
+known_area = refl
+
+known_areas : geometry_type (codes "MultiPolygon") ≡ Some (Arcs of_arcs.MultiPolygon)
+unfolding geometry_type
+known_areas = refl
+
+pub known_group : geometry_type (codes "GeometryCollection") ≡ Some Collection
+unfolding geometry_type
+known_group = refl
+
+-- ---- members
+
+-- the type that a name gives
+pub type_named : (name : List ℕ) (type : GeometryType) → geometry_type name ≡ Some type → type_of (j.Text name) ≡ Ok (Some type)
+unfolding type_of
+type_named name type e = ap type_in (j.outs-Text name) ∙ rw e refl
+
+-- the type of an object with these members
+pub object_typed : (ms : Members) (t : Json) (r : Result (Option GeometryType) TopoFault) → need (codes "type") ms ≡ Ok t → type_of t ≡ r → object_type ms ≡ r
+unfolding object_type
+object_typed ms t r e f = rw e f
+
+inner_type : (type : GeometryType) (t v : Json) → need (codes "type") ((codes "type", t) ∷ ((part_name type, v) ∷ [])) ≡ Ok t
+unfolding need named
+inner_type (Places type) t v = refl
+inner_type (Arcs type) t v = refl
+inner_type Collection t v = refl
+
+inner_part : (type : GeometryType) (t v : Json) → need (part_name type) ((codes "type", t) ∷ ((part_name type, v) ∷ [])) ≡ Ok v
+unfolding need named
+inner_part (Places type) t v = refl
+inner_part (Arcs type) t v = refl
+inner_part Collection t v = refl
+
+-- ---- shapes
+
+module _ (arcs : List (List Point)) (long : AllByRecursion (IsArc None) arcs) (few : length arcs < 2 ^ 63) where
+  places_back : {A : Type 0} (type : PlacesType) (value : A → Json) (xs : List A) (s : TopoShape) → is_some_list xs ≡ true → Gives (places_in None type (map value xs)) (Some s)
+      → Gives (part None arcs (Places type) (j.Array (map value xs))) (Some s)
+  unfolding part places_shape
+  places_back type value xs s f h = then_gives (some_elements (j.Array (map value xs))) (if_some (places_in None type)) (Some (map value xs)) (Some s) (some_elements_back value xs f) h
+
+  arcs_back : {A : Type 0} (type : ArcsType) (value : A → Json) (xs : List A) (s : TopoShape) → is_some_list xs ≡ true → Gives (arcs_in arcs type (map value xs)) (Some s)
+      → Gives (part None arcs (Arcs type) (j.Array (map value xs))) (Some s)
+  unfolding part arcs_shape
+  arcs_back type value xs s f h = then_gives (some_elements (j.Array (map value xs))) (if_some (arcs_in arcs type)) (Some (map value xs)) (Some s) (some_elements_back value xs f) h
+
+  point_in : (p : Point) → IsPosition p → Gives (places_in None of_places.Point (map units_value (p.x ∷ (p.y ∷ [])))) (Some (g.Point p))
+  unfolding places_in elements_place
+  point_in p h c = rw (elements_position_back p h c) refl
+
+  points_in : (ps : List Point) → is_some_list ps ≡ true → AllByRecursion IsPosition ps → Gives (places_in None of_places.MultiPoint (map position_value ps)) (Some (g.MultiPoint ps))
+  unfolding places_in
+  points_in ps f h c = rw (each_place_back ps h c, unless_some g.MultiPoint ps f) refl
+
+  line_shape_in : (refs : List ℤ) → Sound arcs (false, refs) → Gives (arcs_in arcs of_arcs.LineString (map whole_value refs)) (Some (g.Line refs))
+  unfolding arcs_in
+  line_shape_in refs h c = rw (line_in_back arcs long few refs h c) refl
+
+  lines_in : (ls : List (List ℤ)) → is_some_list ls ≡ true → AllByRecursion (Full arcs false) ls → Gives (arcs_in arcs of_arcs.MultiLineString (map line_value ls)) (Some (g.Lines ls))
+  unfolding arcs_in
+  lines_in ls f h c = rw (lines_back arcs long few ls h c, unless_some g.Lines ls f) refl
+
+  area_in : (rs : List (List ℤ)) → FullArea arcs rs → Gives (arcs_in arcs of_arcs.Polygon (map line_value rs)) (Some (g.Area rs))
+  unfolding arcs_in
+  area_in rs h c = rw (polygon_in_back arcs long few rs h c) refl
+
+  areas_in : (areas : List (List (List ℤ))) → is_some_list areas ≡ true → AllByRecursion (FullArea arcs) areas → Gives (arcs_in arcs of_arcs.MultiPolygon (map lines_value areas)) (Some (g.Areas areas))
+  unfolding arcs_in
+  areas_in areas f h c = rw (polygons_back arcs long few areas h c, unless_some g.Areas areas f) refl
+
+  abbrev Back : TopoShape → Type 0
+  Back s = Fine arcs s → Parts arcs s
+
+  -- the member that a shape is made of is read
+  pub typed_back : (type : GeometryType) (ms : Members) (v : Json) (x : Option TopoShape) → need (part_name type) ms ≡ Ok v → Gives (part None arcs type v) x → Gives (typed_shape None arcs (Some type) ms) x
+  unfolding typed_shape
+  typed_back type ms v x e h = pure_gives (need (part_name type) ms) (part None arcs type) v x e h
+
+  geometry_back : (type : Option GeometryType) (ms : Members) (x : Option TopoShape) → object_type ms ≡ Ok type → Gives (typed_shape None arcs type ms) x → Gives (geometry None arcs ms) x
+  unfolding geometry
+  geometry_back type ms x e h = pure_gives (object_type ms) (λ t. typed_shape None arcs t ms) type x e h
+
+  -- a geometry inside a collection is read back
+  inner_back : (s : TopoShape) → Parts arcs s → Gives (shape None arcs (inner_value (geometrical s))) (Some s)
+  inner_back s p =
+      let t : Json = j.Text p.name in
+      let ms : Members = (codes "type", t) ∷ ((part_name p.type, p.value) ∷ []) in
+      let typed : object_type ms ≡ Ok (Some p.type) = object_typed ms t (Ok (Some p.type)) (inner_type p.type t p.value) (type_named p.name p.type p.known) in
+      let read : Gives (geometry None arcs ms) (Some s) = geometry_back (Some p.type) ms (Some s) typed (typed_back p.type ms p.value (Some s) (inner_part p.type t p.value) p.reads) in
+      λ c. rw (p.is, shape_object None arcs ms) (read c)
+
+  at_point : (p : Point) → Back (g.Point p)
+  at_point p h = record {
+    type = Places of_places.Point;
+    name = codes "Point";
+    value = position_value p;
+    is = geometrical-point p;
+    known = known_point;
+    reads = places_back of_places.Point units_value (p.x ∷ (p.y ∷ [])) (g.Point p) refl (point_in p (subst (AllByRecursion IsPosition) (places-point p) h.1).0);
+    single = λ _. refl;
+  }
+
+  at_points : (ps : List Point) → Back (g.MultiPoint ps)
+  at_points ps h =
+      let f : is_some_list ps ≡ true = sym (full-points ps) ∙ h.0 in
+      record {
+        type = Places of_places.MultiPoint;
+        name = codes "MultiPoint";
+        value = j.Array (map position_value ps);
+        is = geometrical-points ps;
+        known = known_points;
+        reads = places_back of_places.MultiPoint position_value ps (g.MultiPoint ps) f (points_in ps f (subst (AllByRecursion IsPosition) (places-points ps) h.1));
+        single = λ _. refl;
+      }
+
+  at_line : (refs : List ℤ) → Back (g.Line refs)
+  at_line refs h =
+      let f : is_some_list refs ≡ true = sym (full-line refs) ∙ h.0 in
+      let k = subst (AllByRecursion (Sound arcs)) (strokes-line Point (List ℤ) refs) h.2 in
+      record {
+        type = Arcs of_arcs.LineString;
+        name = codes "LineString";
+        value = line_value refs;
+        is = geometrical-line refs;
+        known = known_line;
+        reads = arcs_back of_arcs.LineString whole_value refs (g.Line refs) f (line_shape_in refs k.0);
+        single = λ _. refl;
+      }
+
+  at_lines : (ls : List (List ℤ)) → Back (g.Lines ls)
+  at_lines ls h =
+      let f = and_both (is_some_list ls) (list_all is_some_list ls) (sym (full-lines ls) ∙ h.0) in
+      let k = full_lines arcs false ls f.1 (subst (AllByRecursion (Sound arcs)) (strokes-lines Point (List ℤ) ls) h.2) in
+      record {
+        type = Arcs of_arcs.MultiLineString;
+        name = codes "MultiLineString";
+        value = lines_value ls;
+        is = geometrical-lines ls;
+        known = known_lines;
+        reads = arcs_back of_arcs.MultiLineString line_value ls (g.Lines ls) f.0 (lines_in ls f.0 k);
+        single = λ _. refl;
+      }
+
+  at_area : (rs : List (List ℤ)) → Back (g.Area rs)
+  at_area rs h =
+      let k = full_area arcs rs (sym (full-area rs) ∙ h.0) (subst (AllByRecursion (Sound arcs)) (strokes-area Point (List ℤ) rs) h.2) in
+      record {
+        type = Arcs of_arcs.Polygon;
+        name = codes "Polygon";
+        value = lines_value rs;
+        is = geometrical-area rs;
+        known = known_area;
+        reads = arcs_back of_arcs.Polygon line_value rs (g.Area rs) k.0 (area_in rs k);
+        single = λ _. refl;
+      }
+
+  at_areas : (areas : List (List (List ℤ))) → Back (g.Areas areas)
+  at_areas areas h =
+      let f = and_both (is_some_list areas) (list_all (λ rs. is_some_list rs && list_all is_some_list rs) areas) (sym (full-areas areas) ∙ h.0) in
+      let k = full_areas arcs areas f.1 (subst (AllByRecursion (Sound arcs)) (strokes-areas Point (List ℤ) areas) h.2) in
+      record {
+        type = Arcs of_arcs.MultiPolygon;
+        name = codes "MultiPolygon";
+        value = j.Array (map lines_value areas);
+        is = geometrical-areas areas;
+        known = known_areas;
+        reads = arcs_back of_arcs.MultiPolygon lines_value areas (g.Areas areas) f.0 (areas_in areas f.0 k);
+        single = λ _. refl;
+      }
+
+  each_parts : (ss : List TopoShape) → AllByRecursion Back ss → list_all is_full ss ≡ true → AllByRecursion IsPosition (joined (map places ss)) → AllByRecursion (Sound arcs) (joined (map strokes ss))
+      → AllByRecursion (Parts arcs) ss
+  each_parts [] all f h k = tt
+  each_parts (s ∷ ss) all f h k =
+      let p = and_both (is_full s) (list_all is_full ss) f in (
+        all.0 (p.0, all_left IsPosition (places s) (joined (map places ss)) h, all_left (Sound arcs) (strokes s) (joined (map strokes ss)) k),
+        each_parts ss all.1 p.1 (all_right IsPosition (places s) (joined (map places ss)) h) (all_right (Sound arcs) (strokes s) (joined (map strokes ss)) k),
+      )
+
+  group_back : (ss : List TopoShape) → AllByRecursion (Parts arcs) ss → Gives (part None arcs Collection (j.Array (map (λ s. inner_value (geometrical s)) ss))) (Some (g.Group ss))
+  unfolding part
+  group_back ss all c = rw (shapes_array None arcs (map (λ s. inner_value (geometrical s)) ss), kept_gives (Parts arcs) (λ s. inner_value (geometrical s)) (shape None arcs) inner_back ss all c) refl
+
+  at_group : (ss : List TopoShape) → AllByRecursion Back ss → Back (g.Group ss)
+  at_group ss all h = record {
+    type = Collection;
+    name = codes "GeometryCollection";
+    value = j.Array (map (λ s. inner_value (geometrical s)) ss);
+    is = geometrical-group ss;
+    known = known_group;
+    reads = group_back ss (each_parts ss all (sym (full-group ss) ∙ h.0) (subst (AllByRecursion IsPosition) (places-group ss) h.1) (subst (AllByRecursion (Sound arcs)) (strokes-group Point (List ℤ) ss) h.2));
+    single = λ e. let f : false ≡ true = sym (single-group ss) ∙ e in absurd cc;
+  }
+
+  pub shape_parts : (s : TopoShape) → Fine arcs s → Parts arcs s
+  shape_parts = by_kinds Back (record { point = at_point; points = at_points; line = at_line; lines = at_lines; area = at_area; areas = at_areas; group = at_group })

@@ -1,0 +1,119 @@
+-- The shapes that are read of values at any depth keep the rules of their kinds.
+use Rattle.std.proofs.Common.{◌≡◌, ℕ, false, List, [], ◌∷◌, map, Option, Some, None, sym, subst}
+use Rattle.std.specs.List.{AllByRecursion}
+use Rattle.json_value.specs.declared.json.Json.{Json, roll-Json, ind-Json, map-Json}
+use Rattle.json_value.specs.declared.json.Json.TheFolds.{para-Json, para-roll-Json}
+use Rattle.json_value.specs.declared.json.Json.TheOpen.{Json-F}
+use Rattle.geojson_types.specs.Points.{Point}
+use Rattle.topojson_types.specs.declared.transform.Transform.{Transform}
+use Rattle.topojson_types.specs.Topologies.{TopoShape}
+use Rattle.topojson_meaning.specs.declared.fault.TopoFault.TheVariants.{WrongKind}
+use Rattle.topojson_meaning.specs.declared.geometry_type.GeometryType.{GeometryType}
+use Rattle.topojson_meaning.specs.GeometryTypes.{is_collection, object_type}
+use Rattle.topojson_meaning.specs.Members.{Members}
+use Rattle.topojson_meaning.specs.Reader.{fail}
+use Rattle.topojson_meaning.specs.Shapes.{Readings, readings_step, readings, shapes, part, typed_shape}
+use Rattle.topojson_meaning.proofs.ValidKept.{IsShape, IsSingle}
+use Rattle.topojson_meaning.proofs.ValidShapes.{typed_with_yields, single_with_yields}
+use Rattle.topojson_meaning.proofs.ValidYields.{Yields, IfThere, fail_yields, pure_then, kept_of_yields}
+
+module _ (transform : Option Transform) (arcs : List (List Point)) where
+  abbrev Shape : TopoShape → Type 0
+  Shape = IsShape transform arcs
+
+  abbrev Shapes : List TopoShape → Type 0
+  Shapes = AllByRecursion Shape
+
+  -- a geometry gives a shape or none, and `geometries` give shapes
+  pub record AreShapes (r : Readings) : Type 0 where
+    pub geometry : Yields (IfThere Shape) r.geometry
+    pub geometries : Yields (AllByRecursion Shape) r.geometries
+
+  failing : AreShapes (record { geometry = fail WrongKind; geometries = fail WrongKind })
+  failing = record { geometry = fail_yields (IfThere Shape) WrongKind; geometries = fail_yields Shapes WrongKind }
+
+  members_weaker : (ms : List (List ℕ × (Json × Readings))) → AllByRecursion (λ m. AreShapes m.1.1) ms → AllByRecursion (λ m. Yields Shapes m.1.1.geometries) ms
+  members_weaker [] h = tt
+  members_weaker (m ∷ ms) h = (let k = h.0 in k.geometries, members_weaker ms h.1)
+
+  object_shapes : (ms : List (List ℕ × (Json × Readings))) → AllByRecursion (λ m. AreShapes m.1.1) ms → AreShapes (readings_step transform arcs (Json-F.Object ms))
+  object_shapes ms h = record {
+    geometry = pure_then (IfThere Shape) (object_type (map (λ m. (m.0, m.1.0)) ms)) _ (λ type e. typed_with_yields transform arcs (λ (v : Json × Readings). v.0) (λ v. v.1.geometries) type ms (members_weaker ms h));
+    geometries = fail_yields Shapes WrongKind;
+  }
+
+  array_shapes : (vs : List (Json × Readings)) → AllByRecursion (λ v. AreShapes v.1) vs → AreShapes (readings_step transform arcs (Json-F.Array vs))
+  array_shapes vs h = record {
+    geometry = fail_yields (IfThere Shape) WrongKind;
+    geometries = kept_of_yields (λ v. AreShapes v.1) Shape (λ v. v.1.geometry) (λ v k. k.geometry) vs h;
+  }
+
+  abbrev IsRead : Json → Type 0
+  IsRead v = AreShapes (readings transform arcs v)
+
+  abbrev Such : Type 0
+  Such = (v : Json) × IsRead v
+
+  abbrev run : Json → Readings
+  run = para-Json Readings (readings_step transform arcs)
+
+  abbrev beside : Json → Json × Readings
+  beside v = (v, run v)
+
+  abbrev here : Such → Json
+  here s = s.0
+
+  values_shapes : (ys : List Such) → AllByRecursion (λ v. AreShapes v.1) (map beside (map here ys))
+  unfolding readings
+  values_shapes [] = tt
+  values_shapes (y ∷ ys) = (y.1, values_shapes ys)
+
+  abbrev member_beside : List ℕ × Json → List ℕ × (Json × Readings)
+  member_beside m = (m.0, beside m.1)
+
+  abbrev member_here : List ℕ × Such → List ℕ × Json
+  member_here m = (m.0, m.1.0)
+
+  members_shapes : (ys : List (List ℕ × Such)) → AllByRecursion (λ m. AreShapes m.1.1) (map member_beside (map member_here ys))
+  unfolding readings
+  members_shapes [] = tt
+  members_shapes (y ∷ ys) = (y.1.1, members_shapes ys)
+
+  level : (x : Json-F Json) → AreShapes (readings_step transform arcs (map-Json Json (Json × Readings) beside x)) → IsRead (roll-Json x)
+  unfolding readings
+  level x h = subst AreShapes (sym (para-roll-Json Readings (readings_step transform arcs) x)) h
+
+  abbrev At : Json-F Json → Type 0
+  At x = IsRead (roll-Json x)
+
+  step : (x : Json-F Json) (y : Json-F Such) → map-Json Such Json here y ≡ x → IsRead (roll-Json x)
+  step x Json-F.Null e = subst At e (level Json-F.Null failing)
+  step x (Json-F.Bool b) e = subst At e (level (Json-F.Bool b) failing)
+  step x (Json-F.Number t) e = subst At e (level (Json-F.Number t) failing)
+  step x (Json-F.Text t) e = subst At e (level (Json-F.Text t) failing)
+  step x (Json-F.Array ys) e = subst At e (level (Json-F.Array (map here ys)) (array_shapes (map beside (map here ys)) (values_shapes ys)))
+  step x (Json-F.Object ys) e = subst At e (level (Json-F.Object (map member_here ys)) (object_shapes (map member_beside (map member_here ys)) (members_shapes ys)))
+
+  shapes_read : (v : Json) → IsRead v
+  shapes_read = ind-Json IsRead step
+
+  -- ---- shapes of features
+
+  geometries_give : (v : Json) → Yields Shapes (shapes transform arcs v)
+  unfolding shapes
+  geometries_give v = (shapes_read v).geometries
+
+  all_geometries : (ms : Members) → AllByRecursion (λ m. Yields Shapes (shapes transform arcs m.1)) ms
+  all_geometries [] = tt
+  all_geometries (m ∷ ms) = (geometries_give m.1, all_geometries ms)
+
+  pub typed_shape_yields : (type : Option GeometryType) (ms : Members) → Yields (IfThere Shape) (typed_shape transform arcs type ms)
+  unfolding typed_shape part
+  typed_shape_yields None ms = typed_with_yields transform arcs (λ w. w) (shapes transform arcs) None ms (all_geometries ms)
+  typed_shape_yields (Some type) ms = typed_with_yields transform arcs (λ w. w) (shapes transform arcs) (Some type) ms (all_geometries ms)
+
+  -- and of one that is no collection
+  pub single_shape_yields : (type : Option GeometryType) (ms : Members) → is_collection type ≡ false → Yields (IfThere (IsSingle transform arcs)) (typed_shape transform arcs type ms)
+  unfolding typed_shape part
+  single_shape_yields None ms e = single_with_yields transform arcs (λ w. w) (shapes transform arcs) None ms e
+  single_shape_yields (Some type) ms e = single_with_yields transform arcs (λ w. w) (shapes transform arcs) (Some type) ms e

@@ -1,0 +1,127 @@
+-- A topology that is read is valid.
+use Rattle.std.proofs.Common.{◌≡◌, ℕ, ℤ, Bool, true, List, [], length, map, Option, Some, None, refl}
+use Rattle.std.specs.Prelude.{codes}
+use Rattle.std.specs.List.{AllByRecursion}
+use Rattle.json_value.specs.declared.json.Json.{Json}
+use Rattle.json_value.specs.Kinds.{object_of, text_of}
+use Rattle.geojson_types.specs.Counting.{no_counts}
+use Rattle.geojson_types.specs.Points.{Point}
+use Rattle.geojson_types.specs.Pruning.{option_strokes}
+use Rattle.topojson_types.specs.declared.feature.TopoFeature.{TopoFeature}
+use Rattle.topojson_types.specs.declared.object.TopoObject.{TopoObject}
+use Rattle.topojson_types.specs.declared.object.TopoObject.TheVariants.{One, Many}
+use Rattle.topojson_types.specs.declared.transform.Transform.{Transform}
+use Rattle.topojson_types.specs.Topologies.{TopoShape, Contents, object_features, features_strokes, objects_strokes}
+use Rattle.topojson_types.specs.Validity.{is_full_option, option_places, is_single_option, IsPlace, IsFeature, IsObject, AreInRange, IsJoined, IsClosed, IsArc, IsTransformed, IsTopology}
+use Rattle.topojson_meaning.specs.declared.fault.TopoFault.TheVariants.{NotTopology, WrongKind}
+use Rattle.topojson_meaning.specs.Arcs.{arc_list}
+use Rattle.topojson_meaning.specs.Laws.{ReadsValid}
+use Rattle.topojson_meaning.specs.Members.{Members, find, need, need_as}
+use Rattle.topojson_meaning.specs.Objects.{objects}
+use Rattle.topojson_meaning.specs.Reader.{or_fail}
+use Rattle.topojson_meaning.specs.Topologies.{topology_type, contents, value_contents, topology}
+use Rattle.topojson_meaning.specs.Transforms.{transform_if}
+use Rattle.topojson_meaning.proofs.ValidArcs.{arc_list_yields}
+use Rattle.topojson_meaning.proofs.ValidKept.{IsStroke, IsShape, IsSingle}
+use Rattle.topojson_meaning.proofs.ValidMembers.{need_as_yields}
+use Rattle.topojson_meaning.proofs.ValidObjects.{HasShape, KeptObject, AreObjects, objects_yield}
+use Rattle.topojson_meaning.proofs.ValidTransforms.{transform_if_yields}
+use Rattle.topojson_meaning.proofs.ValidYields.{Yields, IfThere, all_weaker, all_joined, all_map, all_trivial, there_weaker, then_yields, give_yields, pure_then}
+
+module _ (transform : Option Transform) (arcs : List (List Point)) where
+  -- ---- features
+
+  abbrev Strokes : List (Bool × List ℤ) → Type 0
+  Strokes = AllByRecursion (IsStroke arcs)
+
+  option_full : (o : Option TopoShape) → IfThere (IsShape transform arcs) o → is_full_option o ≡ true
+  option_full None h = refl
+  option_full (Some s) h = h.full
+
+  option_placed : (o : Option TopoShape) → IfThere (IsShape transform arcs) o → AllByRecursion (IsPlace transform) (option_places o)
+  option_placed None h = tt
+  option_placed (Some s) h = h.places
+
+  option_stroked : (o : Option TopoShape) → IfThere (IsShape transform arcs) o → Strokes (option_strokes o)
+  option_stroked None h = tt
+  option_stroked (Some s) h = h.strokes
+
+  option_single : (o : Option TopoShape) → IfThere (IsSingle transform arcs) o → is_single_option o ≡ true
+  option_single None h = refl
+  option_single (Some s) h = h.1
+
+  one_shape : (o : Option TopoShape) → IfThere (IsSingle transform arcs) o → IfThere (IsShape transform arcs) o
+  one_shape = there_weaker (IsSingle transform arcs) (IsShape transform arcs) (λ s h. h.0)
+
+  abbrev Kept : TopoFeature → Type 0
+  Kept = HasShape (IsShape transform arcs)
+
+  feature_valid : (f : TopoFeature) → Kept f → IsFeature transform f
+  feature_valid f h = (option_full f.shape h, option_placed f.shape h)
+
+  -- ---- objects
+
+  object_valid : (o : TopoObject) → KeptObject transform arcs o → IsObject transform o
+  object_valid (One f) h = (feature_valid f (one_shape f.shape h), option_single f.shape h)
+  object_valid (Many fs) h = all_weaker Kept (IsFeature transform) feature_valid fs h
+
+  object_kept : (o : TopoObject) → KeptObject transform arcs o → AllByRecursion Kept (object_features o)
+  object_kept (One f) h = (one_shape f.shape h, tt)
+  object_kept (Many fs) h = h
+
+  features_stroked : (fs : List TopoFeature) → AllByRecursion Kept fs → Strokes (features_strokes fs)
+  features_stroked fs h = all_joined (IsStroke arcs) (map (λ f. option_strokes f.shape) fs)
+      (all_map Strokes (λ f. option_strokes f.shape) fs (all_weaker Kept (λ f. Strokes (option_strokes f.shape)) (λ f k. option_stroked f.shape k) fs h))
+
+  abbrev KeptMember : List ℕ × TopoObject → Type 0
+  KeptMember o = KeptObject transform arcs o.1
+
+  objects_stroked : (os : List (List ℕ × TopoObject)) → AllByRecursion KeptMember os → Strokes (objects_strokes os)
+  objects_stroked os h = all_joined (IsStroke arcs) (map (λ o. features_strokes (object_features o.1)) os)
+      (all_map Strokes (λ o. features_strokes (object_features o.1)) os
+      (all_weaker KeptMember (λ o. Strokes (features_strokes (object_features o.1))) (λ o k. features_stroked (object_features o.1) (object_kept o.1 k)) os h))
+
+  -- ---- topologies
+
+  abbrev made : List (List ℕ × TopoObject) → Contents
+  made os = record { objects = os; arcs = arcs; transform = transform }
+
+  topology_valid : (os : List (List ℕ × TopoObject)) → IsTransformed transform → AllByRecursion (IsArc transform) arcs → AreObjects transform arcs [] os → IsTopology (made os)
+  topology_valid os ht ha h =
+      let strokes : Strokes (objects_strokes os) = objects_stroked os h.kept in
+      record {
+        names = h.distinct;
+        transform = ht;
+        objects = all_weaker KeptMember (λ o. IsObject transform o.1) (λ o k. object_valid o.1 k) os h.kept;
+        arcs = ha;
+        ranged = all_weaker (IsStroke arcs) (λ b. AreInRange (length arcs) b.1) (λ b k. k.0) (objects_strokes os) strokes;
+        joined = all_weaker (IsStroke arcs) (IsJoined arcs) (λ b k. k.1) (objects_strokes os) strokes;
+        closed = all_weaker (IsStroke arcs) (IsClosed arcs) (λ b k. k.2) (objects_strokes os) strokes;
+      }
+
+  -- the objects over the arcs that were read
+  read_objects : (ms : Members) → Yields (AreObjects transform arcs []) (need_as (codes "objects") (objects transform arcs) ms)
+  read_objects ms = need_as_yields (λ v. Unit {0}) (AreObjects transform arcs []) (codes "objects") (objects transform arcs) ms (λ v k. objects_yield transform arcs v) (all_trivial ms)
+
+read_arcs : (transform : Option Transform) (ms : Members) → Yields (AllByRecursion (IsArc transform)) (need_as (codes "arcs") (arc_list transform) ms)
+read_arcs transform ms = need_as_yields (λ v. Unit {0}) (AllByRecursion (IsArc transform)) (codes "arcs") (arc_list transform) ms (λ v k. arc_list_yields transform v) (all_trivial ms)
+
+contents_yield : (ms : Members) → Yields IsTopology (contents ms)
+unfolding contents
+contents_yield ms =
+    pure_then IsTopology (need (codes "type") ms) _
+    (λ t ht. pure_then IsTopology (or_fail WrongKind (text_of t)) _
+    (λ name hn. then_yields (λ u. Unit {0}) IsTopology (topology_type name) _ (λ c d u e. tt)
+    (λ u hu. pure_then IsTopology (find (codes "transform") ms) _
+    (λ r hr. then_yields IsTransformed IsTopology (transform_if r) _ (transform_if_yields r)
+    (λ transform k. then_yields (AllByRecursion (IsArc transform)) IsTopology (need_as (codes "arcs") (arc_list transform) ms) _ (read_arcs transform ms)
+    (λ arcs ha. then_yields (AreObjects transform arcs []) IsTopology (need_as (codes "objects") (objects transform arcs) ms) _ (read_objects transform arcs ms)
+    (λ os ho. give_yields IsTopology (made transform arcs os) (topology_valid transform arcs os k ha ho))))))))
+
+value_yields : (v : Json) → Yields IsTopology (value_contents v)
+unfolding value_contents
+value_yields v = pure_then IsTopology (or_fail NotTopology (object_of v)) _ (λ ms h. contents_yield ms)
+
+pub reads_valid : ReadsValid
+unfolding topology
+reads_valid v t c e = value_yields v no_counts c t e

@@ -1,0 +1,228 @@
+-- How deep the value nests that is written for a topology.
+use Rattle.std.proofs.Common.{◌≡◌, ℕ, zero, suc, ◌+◌, ◌≤◌, ℤ, List, [], ◌∷◌, ◌++◌, map, Option, Some, None, refl, sym, ap, ◌∙◌, arith}
+use Rattle.std.specs.Prelude.{codes}
+use Rattle.std.specs.List.{AllByRecursion}
+use Rattle.decimal_text.specs.Scaling.{units_text}
+use Rattle.json_value.specs.declared.json.Json.{Json}
+use Rattle.json_value.specs.declared.json.Json.TheVariants as j
+use Rattle.json_value.specs.Depth.{depth, greatest}
+use Rattle.json_value.proofs.Texts.{fused}
+use Rattle.json_value.proofs.Depths.{depth-null, depth-number, depth-text, depth-array, depth-object}
+use Rattle.geojson_types.specs.declared.geometry.Geometry.{fold-Geometry, fold-roll-Geometry}
+use Rattle.geojson_types.specs.declared.geometry.Geometry.TheOpen.{Geometry-F}
+use Rattle.geojson_types.specs.declared.geometry.Geometry.TheVariants as g
+use Rattle.geojson_types.specs.declared.id.Id.{Id}
+use Rattle.geojson_types.specs.declared.id.Id.TheVariants as id
+use Rattle.geojson_types.specs.Nesting.{nesting_step, nesting, option_nesting, properties_nesting}
+use Rattle.geojson_types.specs.Points.{Point}
+use Rattle.geojson_types.proofs.Agreement.{all_left, all_right}
+use Rattle.geojson_types.proofs.Induction.{by_kinds}
+use Rattle.topojson_types.specs.declared.feature.TopoFeature.{TopoFeature}
+use Rattle.topojson_types.specs.declared.object.TopoObject.{TopoObject}
+use Rattle.topojson_types.specs.declared.object.TopoObject.TheVariants.{One, Many}
+use Rattle.topojson_types.specs.Topologies.{TopoShape, object_features}
+use Rattle.topojson_types.specs.Values.{Members, Geometrical, units_value, whole_value, position_value, positions_value, line_value, lines_value, typed, inner_value, geometrical, geometrical_option, id_members, properties_members, feature_value, object_value, topology_value}
+use Rattle.topojson_meaning.specs.Bounds.{objects_features, feature_nesting}
+use Rattle.topojson_meaning.specs.Laws.{ValueNests}
+use Rattle.topojson_meaning.proofs.ShapeKinds.{geometrical-point, geometrical-points, geometrical-line, geometrical-lines, geometrical-area, geometrical-areas, geometrical-group, written_members}
+
+-- ---- lists
+
+-- each of a list is below a bound
+below : {A : Type 0} (f : A → ℕ) (n : ℕ) (xs : List A) → ((x : A) → f x ≤ n) → AllByRecursion (λ x. f x ≤ n) xs
+below f n [] h = tt
+below f n (x ∷ xs) h = (h x, below f n xs h)
+
+greatest_below : {A : Type 0} (f : A → ℕ) (n : ℕ) (xs : List A) → AllByRecursion (λ x. f x ≤ n) xs → greatest (map f xs) ≤ n
+greatest_below f n [] h = omega arith
+greatest_below f n (x ∷ xs) h = let p = greatest_below f n xs h.1 in let q = h.0 in omega arith
+
+greatest_lower : {A : Type 0} (f g : A → ℕ) (xs : List A) → AllByRecursion (λ x. f x ≤ g x) xs → greatest (map f xs) ≤ greatest (map g xs)
+greatest_lower f g [] h = omega arith
+greatest_lower f g (x ∷ xs) h = let p = greatest_lower f g xs h.1 in let q = h.0 in omega arith
+
+all_joined : {A : Type 0} (X : A → Type 0) (xs ys : List A) → AllByRecursion X xs → AllByRecursion X ys → AllByRecursion X (xs ++ ys)
+all_joined X [] ys h k = k
+all_joined X (x ∷ xs) ys h k = (h.0, all_joined X xs ys h.1 k)
+
+-- ---- values
+
+array_below : {A : Type 0} (value : A → Json) (n : ℕ) (xs : List A) → AllByRecursion (λ x. depth (value x) ≤ n) xs → depth (j.Array (map value xs)) ≤ suc n
+array_below value n xs h = let p = greatest_below (λ x. depth (value x)) n xs h in rw (depth-array (map value xs), fused depth value (λ x. depth (value x)) (λ x. refl) xs) (omega arith)
+
+-- the values of members
+abbrev MembersBelow : ℕ → Members → Type 0
+MembersBelow n ms = AllByRecursion (λ m. depth m.1 ≤ n) ms
+
+object_below : (n : ℕ) (ms : Members) → MembersBelow n ms → depth (j.Object ms) ≤ suc n
+object_below n ms h = let p = greatest_below (λ (m : List ℕ × Json). depth m.1) n ms h in rw (depth-object ms) (omega arith)
+
+text_flat : (n : ℕ) (t : List ℕ) → depth (j.Text t) ≤ n
+text_flat n t = rw (depth-text t) (omega arith)
+
+number_flat : (n : ℕ) (t : List ℕ) → depth (j.Number t) ≤ n
+number_flat n t = rw (depth-number t) (omega arith)
+
+null_flat : (n : ℕ) → depth j.Null ≤ n
+null_flat n = rw depth-null (omega arith)
+
+-- ---- positions and indexes
+
+position_below : (p : Point) → depth (position_value p) ≤ 1
+position_below p = array_below units_value 0 (p.x ∷ (p.y ∷ [])) (number_flat 0 (units_text p.x 7), (number_flat 0 (units_text p.y 7), tt))
+
+positions_below : (ps : List Point) → depth (positions_value ps) ≤ 2
+positions_below ps = array_below position_value 1 ps (below (λ p. depth (position_value p)) 1 ps position_below)
+
+line_below : (refs : List ℤ) → depth (line_value refs) ≤ 1
+line_below refs = array_below whole_value 0 refs (below (λ i. depth (whole_value i)) 0 refs (λ i. number_flat 0 (units_text i 0)))
+
+lines_below : (ls : List (List ℤ)) → depth (lines_value ls) ≤ 2
+lines_below ls = array_below line_value 1 ls (below (λ l. depth (line_value l)) 1 ls line_below)
+
+areas_below : (areas : List (List (List ℤ))) → depth (j.Array (map lines_value areas)) ≤ 3
+areas_below areas = array_below lines_value 2 areas (below (λ rs. depth (lines_value rs)) 2 areas lines_below)
+
+-- ---- shapes
+
+abbrev nest : TopoShape → ℕ
+nest = fold-Geometry Point (List ℤ) (List ℤ) ℕ nesting_step
+
+nesting-point : (p : Point) → nesting {P = Point} {L = List ℤ} (g.Point p) ≡ 2
+unfolding nesting
+nesting-point p = ap nest (sym (g.rolls-Point p)) ∙ fold-roll-Geometry Point (List ℤ) (List ℤ) ℕ nesting_step (Geometry-F.Point p)
+
+nesting-points : (ps : List Point) → nesting {P = Point} {L = List ℤ} (g.MultiPoint ps) ≡ 3
+unfolding nesting
+nesting-points ps = ap nest (sym (g.rolls-MultiPoint ps)) ∙ fold-roll-Geometry Point (List ℤ) (List ℤ) ℕ nesting_step (Geometry-F.MultiPoint ps)
+
+nesting-line : (refs : List ℤ) → nesting {P = Point} {L = List ℤ} (g.Line refs) ≡ 3
+unfolding nesting
+nesting-line refs = ap nest (sym (g.rolls-Line refs)) ∙ fold-roll-Geometry Point (List ℤ) (List ℤ) ℕ nesting_step (Geometry-F.Line refs)
+
+nesting-lines : (ls : List (List ℤ)) → nesting {P = Point} {L = List ℤ} (g.Lines ls) ≡ 4
+unfolding nesting
+nesting-lines ls = ap nest (sym (g.rolls-Lines ls)) ∙ fold-roll-Geometry Point (List ℤ) (List ℤ) ℕ nesting_step (Geometry-F.Lines ls)
+
+nesting-area : (rs : List (List ℤ)) → nesting {P = Point} {L = List ℤ} (g.Area rs) ≡ 4
+unfolding nesting
+nesting-area rs = ap nest (sym (g.rolls-Area rs)) ∙ fold-roll-Geometry Point (List ℤ) (List ℤ) ℕ nesting_step (Geometry-F.Area rs)
+
+nesting-areas : (areas : List (List (List ℤ))) → nesting {P = Point} {L = List ℤ} (g.Areas areas) ≡ 5
+unfolding nesting
+nesting-areas areas = ap nest (sym (g.rolls-Areas areas)) ∙ fold-roll-Geometry Point (List ℤ) (List ℤ) ℕ nesting_step (Geometry-F.Areas areas)
+
+nesting-group : (ss : List TopoShape) → nesting (g.Group ss) ≡ 2 + greatest (map nesting ss)
+unfolding nesting
+nesting-group ss = ap nest (sym (g.rolls-Group ss)) ∙ fold-roll-Geometry Point (List ℤ) (List ℤ) ℕ nesting_step (Geometry-F.Group ss)
+
+-- what is written of a shape fits into an object of this depth
+abbrev Fits : ℕ → Geometrical → Type 0
+Fits n o = (k : ℕ) × (n ≡ suc k) × (depth o.type ≤ k) × MembersBelow k o.parts
+
+abbrev Nests : TopoShape → Type 0
+Nests s = Fits (nesting s) (geometrical s)
+
+typed_fits : (n k : ℕ) (type key : List ℕ) (v : Json) (o : Geometrical) → n ≡ suc k → depth v ≤ k → o ≡ typed type key v → Fits n o
+typed_fits n k type key v o e h is = rw is (k, e, text_flat k type, (h, tt))
+
+inner_below : (n : ℕ) (o : Geometrical) → Fits n o → depth (inner_value o) ≤ n
+inner_below n o h = let p = object_below h.0 ((codes "type", o.type) ∷ o.parts) (h.2, h.3) in let e = h.1 in omega arith
+
+at_point : (p : Point) → Nests (g.Point p)
+at_point p = let h = position_below p in typed_fits (nesting (g.Point p)) 1 (codes "Point") (codes "coordinates") (position_value p) (geometrical (g.Point p)) (nesting-point p) h (geometrical-point p)
+
+at_points : (ps : List Point) → Nests (g.MultiPoint ps)
+at_points ps = let h = positions_below ps in typed_fits (nesting (g.MultiPoint ps)) 2 (codes "MultiPoint") (codes "coordinates") (positions_value ps) (geometrical (g.MultiPoint ps)) (nesting-points ps) h (geometrical-points ps)
+
+at_line : (refs : List ℤ) → Nests (g.Line refs)
+at_line refs = let h = line_below refs in typed_fits (nesting (g.Line refs)) 2 (codes "LineString") (codes "arcs") (line_value refs) (geometrical (g.Line refs)) (nesting-line refs) (omega arith) (geometrical-line refs)
+
+at_lines : (ls : List (List ℤ)) → Nests (g.Lines ls)
+at_lines ls = let h = lines_below ls in typed_fits (nesting (g.Lines ls)) 3 (codes "MultiLineString") (codes "arcs") (lines_value ls) (geometrical (g.Lines ls)) (nesting-lines ls) (omega arith) (geometrical-lines ls)
+
+at_area : (rs : List (List ℤ)) → Nests (g.Area rs)
+at_area rs = let h = lines_below rs in typed_fits (nesting (g.Area rs)) 3 (codes "Polygon") (codes "arcs") (lines_value rs) (geometrical (g.Area rs)) (nesting-area rs) (omega arith) (geometrical-area rs)
+
+at_areas : (areas : List (List (List ℤ))) → Nests (g.Areas areas)
+at_areas areas = let h = areas_below areas in typed_fits (nesting (g.Areas areas)) 4 (codes "MultiPolygon") (codes "arcs") (j.Array (map lines_value areas)) (geometrical (g.Areas areas)) (nesting-areas areas) (omega arith) (geometrical-areas areas)
+
+abbrev inner : TopoShape → Json
+inner s = inner_value (geometrical s)
+
+inner_all : (ss : List TopoShape) → AllByRecursion Nests ss → AllByRecursion (λ s. depth (inner s) ≤ nesting s) ss
+inner_all [] h = tt
+inner_all (s ∷ ss) h = (inner_below (nesting s) (geometrical s) h.0, inner_all ss h.1)
+
+group_below : (ss : List TopoShape) → AllByRecursion Nests ss → depth (j.Array (map inner ss)) ≤ suc (greatest (map nesting ss))
+group_below ss h = let p = greatest_lower (λ s. depth (inner s)) nesting ss (inner_all ss h) in rw (depth-array (map inner ss), fused depth inner (λ s. depth (inner s)) (λ s. refl) ss) (omega arith)
+
+at_group : (ss : List TopoShape) → AllByRecursion Nests ss → Nests (g.Group ss)
+at_group ss all = typed_fits (nesting (g.Group ss)) (suc (greatest (map nesting ss))) (codes "GeometryCollection") (codes "geometries") (j.Array (map inner ss)) (geometrical (g.Group ss))
+    (nesting-group ss ∙ omega arith) (group_below ss all) (geometrical-group ss)
+
+shape_fits : (s : TopoShape) → Nests s
+shape_fits = by_kinds Nests (record { point = at_point; points = at_points; line = at_line; lines = at_lines; area = at_area; areas = at_areas; group = at_group })
+
+-- ---- features
+
+-- the type and the parts of a shape that may be null
+option_below : (s : Option TopoShape) (n : ℕ) → option_nesting s ≤ suc n → (depth (geometrical_option s).type ≤ n) × MembersBelow n (geometrical_option s).parts
+option_below None n h = (null_flat n, tt)
+option_below (Some s) n h =
+    let f = shape_fits s in
+    let le : f.0 ≤ n = omega (arith, f.1) in
+    (omega (arith, f.2), raised f.0 n (geometrical s).parts le f.3)
+  where
+    raised : (k n : ℕ) (ms : Members) → k ≤ n → MembersBelow k ms → MembersBelow n ms
+    raised k n [] le h = tt
+    raised k n (m ∷ ms) le h = (omega (arith, h.0), raised k n ms le h.1)
+
+id_below : (i : Option Id) (n : ℕ) → MembersBelow n (id_members i)
+id_below None n = tt
+id_below (Some (id.Text t)) n = (text_flat n t, tt)
+id_below (Some (id.Number t)) n = (number_flat n t, tt)
+
+properties_below : (ps : Option Members) (n : ℕ) → properties_nesting ps ≤ n → MembersBelow n (properties_members ps)
+properties_below None n h = tt
+properties_below (Some ms) n h = (h, tt)
+
+feature_below_at : (f : TopoFeature) (n : ℕ) → option_nesting f.shape ≤ suc n → properties_nesting f.properties ≤ n → depth (feature_value f) ≤ suc n
+feature_below_at f n h k =
+    let o : Geometrical = geometrical_option f.shape in
+    let p = option_below f.shape n h in
+    let Below : List ℕ × Json → Type 0 = λ e. depth e.1 ≤ n in
+    object_below n ((codes "type", o.type) ∷ (id_members f.id ++ (properties_members f.properties ++ o.parts)))
+    (p.0, all_joined Below (id_members f.id) (properties_members f.properties ++ o.parts) (id_below f.id n) (all_joined Below (properties_members f.properties) o.parts (properties_below f.properties n k) p.1))
+
+feature_below : (f : TopoFeature) (n : ℕ) → feature_nesting f ≤ n → depth (feature_value f) ≤ n
+feature_below f zero h = absurd (omega arith)
+feature_below f (suc n) h = feature_below_at f n (omega arith) (omega arith)
+
+features_below : (fs : List TopoFeature) (n : ℕ) → AllByRecursion (λ f. feature_nesting f ≤ n) fs → AllByRecursion (λ f. depth (feature_value f) ≤ n) fs
+features_below [] n h = tt
+features_below (f ∷ fs) n h = (feature_below f n h.0, features_below fs n h.1)
+
+-- ---- objects and the topology
+
+object_value_below : (o : TopoObject) (n : ℕ) → AllByRecursion (λ f. feature_nesting f ≤ n) (object_features o) → depth (object_value o) ≤ 2 + n
+object_value_below (One f) n h = let p = feature_below f n h.0 in omega arith
+object_value_below (Many fs) n h =
+    let p = array_below feature_value n fs (features_below fs n h) in
+    let q = object_below (suc n) ((codes "type", j.Text (codes "GeometryCollection")) ∷ ((codes "geometries", j.Array (map feature_value fs)) ∷ [])) (text_flat (suc n) (codes "GeometryCollection"), (p, tt)) in
+    omega arith
+
+objects_below : (os : List (List ℕ × TopoObject)) (n : ℕ) → AllByRecursion (λ f. feature_nesting f ≤ n) (objects_features os) → MembersBelow (2 + n) (map (λ o. (o.0, object_value o.1)) os)
+objects_below [] n h = tt
+objects_below (o ∷ os) n h =
+    let fs : List TopoFeature = object_features o.1 in
+    let Below : TopoFeature → Type 0 = λ f. feature_nesting f ≤ n in
+    (object_value_below o.1 n (all_left Below fs (objects_features os) h), objects_below os n (all_right Below fs (objects_features os) h))
+
+pub topology_depth : ValueNests
+unfolding topology_value
+topology_depth t n h =
+    let os = object_below (2 + n) (map (λ o. (o.0, object_value o.1)) t.objects) (objects_below t.objects n h) in
+    let arcs = array_below positions_value 2 t.arcs (below (λ ps. depth (positions_value ps)) 2 t.arcs positions_below) in
+    let whole = object_below (3 + n) (written_members t) (text_flat (3 + n) (codes "Topology"), (omega arith, (omega arith, tt))) in
+    omega (arith, whole)

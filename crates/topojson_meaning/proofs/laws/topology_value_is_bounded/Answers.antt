@@ -1,0 +1,9 @@
+use Rattle.topojson_meaning.proofs.WrittenDepth.{topology_depth}
+use Rattle.topojson_meaning.proofs.WrittenNumbers.{topology_numbers}
+use Rattle.topojson_meaning.proofs.laws.topology_value_is_bounded.Goals as goal
+
+pub returns-clause-numbers : goal.returns-clause-numbers
+returns-clause-numbers c = topology_numbers
+
+pub returns-clause-depth : goal.returns-clause-depth
+returns-clause-depth c = topology_depth

@@ -1,0 +1,34 @@
+-- Sums that are too large for 128 bits stand for nothing that is a coordinate.
+use Rattle.std.proofs.Common.{◌+◌, ◌*◌, ◌^◌, ◌<◌, ◌≤◌, ℤ, pos, ◌+ℤ◌, int_lt, unsigned_abs, FitsSigned, arith}
+use Rattle.std.proofs.lemmas.Bool.{cases_lt}
+use Rattle.std.proofs.lemmas.Int.{ints, fits_signed_from_abs}
+use Rattle.std.proofs.Common.{⊎_elim}
+use mir.Syntax.{w128}
+use Rattle.decimal_text.specs.Rounding.{nearest}
+use Rattle.decimal_text.proofs.RoundedFractions.{IsRounded-some, IsRounded-above}
+use Rattle.decimal_text.proofs.ScaledNumber.{unsigned_abs-signed}
+use Rattle.geojson_types.specs.Points.{position_limit}
+use Rattle.topojson_types.specs.TransformNumbers.{transform_limit, to_units}
+
+pub far_units : (z : ℤ) → 4 * 10 ^ 28 ≤ unsigned_abs z → position_limit < unsigned_abs (to_units z)
+unfolding to_units
+far_units z h =
+    rw (unsigned_abs-signed (int_lt z (pos 0)) (nearest (unsigned_abs z) (10 ^ 13)))
+    (IsRounded-above (unsigned_abs z) (10 ^ 13) _ position_limit (omega arith) (IsRounded-some (unsigned_abs z) (10 ^ 13) (omega arith)))
+
+large : (z : ℤ) → (FitsSigned w128 z → ⊥) → 2 ^ 127 ≤ unsigned_abs z
+large z h = ⊎_elim (λ l. absurd (h (fits_signed_from_abs w128 z l))) (λ l. l) (cases_lt (unsigned_abs z) (2 ^ 127))
+
+less_by : (a b : ℤ) → unsigned_abs a ≤ unsigned_abs (a +ℤ b) + unsigned_abs b
+less_by a b = omega (arith, ints)
+
+pub product_far : (product t : ℤ) → (FitsSigned w128 product → ⊥) → unsigned_abs t ≤ transform_limit → position_limit < unsigned_abs (to_units (product +ℤ t))
+product_far product t h small =
+    let a : 2 ^ 127 ≤ unsigned_abs product = large product h in
+    let b : unsigned_abs product ≤ unsigned_abs (product +ℤ t) + unsigned_abs t = less_by product t in
+    far_units (product +ℤ t) (omega arith)
+
+pub sum_far : (z : ℤ) → (FitsSigned w128 z → ⊥) → position_limit < unsigned_abs (to_units z)
+sum_far z h =
+    let a : 2 ^ 127 ≤ unsigned_abs z = large z h in
+    far_units z (omega arith)

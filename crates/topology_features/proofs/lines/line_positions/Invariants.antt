@@ -1,8 +1,0 @@
-use Rattle.std.proofs.Common.{◌≡◌, ◌++◌, map}
-use Rattle.topo_types.specs.Decoding.{placed_arcs}
-use Rattle.topo_types.specs.Joins.{arc_at, rejoined}
-use Rattle.topology_features.proofs.lines.line_positions.Given as goal
-
--- what is read, before what is left of the walk, is the whole walk
-abbrev pub invariant-positions : goal.invariant-positions
-invariant-positions l = l.positions.items ++ l.position-iterator ≡ rejoined (map (arc_at (placed_arcs l.topology.transform l.topology.arcs)) l.refs)

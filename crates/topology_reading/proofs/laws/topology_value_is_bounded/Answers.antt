@@ -1,9 +1,0 @@
-use Rattle.topology_reading.proofs.WrittenDepth.{topology_depth}
-use Rattle.topology_reading.proofs.WrittenNumbers.{topology_numbers}
-use Rattle.topology_reading.proofs.laws.topology_value_is_bounded.Goals as goal
-
-pub returns-clause-numbers : goal.returns-clause-numbers
-returns-clause-numbers c = topology_numbers
-
-pub returns-clause-depth : goal.returns-clause-depth
-returns-clause-depth c = topology_depth

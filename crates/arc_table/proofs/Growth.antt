@@ -1,91 +1,51 @@
 -- Arcs that grow piece by piece are those of all pieces, and an index stays as they grow.
-use Rattle.std.proofs.Common.{◌≡◌, ℕ, zero, suc, ◌+◌, ◌≤◌, Bool, true, false, cond, not, ◌||◌, List, [], ◌∷◌, ◌++◌, take, length, map, append_assoc, append-nil, refl, ap, sym, ◌∙◌, subst, arith, inl, inr, None, Some}
-use Rattle.std.proofs.lemmas.List.{map-append}
+use Rattle.std.proofs.Common.{◌≡◌, ℕ, ◌+◌, ◌≤◌, Bool, true, false, cond, not, ◌||◌, List, [], ◌∷◌, ◌++◌, take, length, map, append_assoc, append-nil, refl, ap, sym, ◌∙◌, subst, arith, inl, inr, None, Some}
+use Rattle.std.proofs.lemmas.List.{map-append, take_all}
 use Rattle.std.proofs.lemmas.List.Elements.{filter-append}
 use Rattle.std.specs.List.{filter, flat_map, list_any}
 use Rattle.std.specs.Prelude.{ℤ, pos, slice_get}
 use Rattle.arc_table.specs.Arcs.{same_line, alike, arcs_of}
 use Rattle.arc_table.specs.Growth.{directed, next, has_alike, first_alike, found, grown, grow_all}
 use Rattle.cutter.specs.Places.{In}
-use Rattle.geojson_types.specs.Points.{Point}
+use Rattle.geometry.specs.Points.{Point}
 use Rattle.arc_table.proofs.Alike.{alike_self, alike_trans, same_line_self}
 use Rattle.arc_table.proofs.Finding.{found_is}
+use Rattle.list_laws.proofs.Lists.{take_got}
 
 any_append : {X : Type 0} (t : X → Bool) (xs ys : List X) → list_any t xs ≡ true → list_any t (xs ++ ys) ≡ true
 any_append t [] ys h = cc
-any_append t (x ∷ xs) ys h = on (t x) h (any_append t xs ys)
-  where
-    on : (b : Bool) → (b || list_any t xs) ≡ true → (list_any t xs ≡ true → list_any t (xs ++ ys) ≡ true) → (b || list_any t (xs ++ ys)) ≡ true
-    on true e ih = refl
-    on false e ih = ih e
+any_append t (x ∷ xs) ys h = grind (arith, any_append t xs ys)
 
 any_last : {X : Type 0} (t : X → Bool) (xs : List X) (x : X) → t x ≡ true → list_any t (xs ++ (x ∷ [])) ≡ true
 any_last t [] x h = ap (λ b. b || false) h
-any_last t (y ∷ xs) x h = ap (λ b. t y || b) (any_last t xs x h) ∙ or_right (t y)
-  where
-    or_right : (b : Bool) → (b || true) ≡ true
-    or_right true = refl
-    or_right false = refl
+any_last t (y ∷ xs) x h = grind (arith, any_last t xs x h)
 
 -- ---- one piece more
 
 -- what was alike an arc still is
 grown_keeps : (qs : List (List Point)) (p x : List Point) → has_alike qs x ≡ true → has_alike (grown qs p) x ≡ true
-grown_keeps qs p x h = on (has_alike qs p)
-  where
-    on : (b : Bool) → has_alike (cond b qs (qs ++ (p ∷ []))) x ≡ true
-    on true = h
-    on false = any_append (λ q. alike q x) qs (p ∷ []) h
-
-grown_has : (qs : List (List Point)) (p : List Point) → has_alike (grown qs p) p ≡ true
-grown_has qs p = on (has_alike qs p) refl
-  where
-    on : (b : Bool) → has_alike qs p ≡ b → has_alike (cond b qs (qs ++ (p ∷ []))) p ≡ true
-    on true e = e
-    on false e = any_last (λ q. alike q p) qs p (alike_self p)
+grown_keeps qs p x h = grind (arith, any_append)
 
 -- an index stays as arcs are added behind
 index_stays : (qs more : List (List Point)) (x : List Point) → has_alike qs x ≡ true → first_alike (qs ++ more) x ≡ first_alike qs x
 index_stays [] more x h = cc
-index_stays (q ∷ qs) more x h = on (alike q x) h (λ k. index_stays qs more x k)
-  where
-    on : (b : Bool) → (b || has_alike qs x) ≡ true → (has_alike qs x ≡ true → first_alike (qs ++ more) x ≡ first_alike qs x) →
-        cond b (directed (same_line q x) 0) (next (first_alike (qs ++ more) x)) ≡ cond b (directed (same_line q x) 0) (next (first_alike qs x))
-    on true e ih = refl
-    on false e ih = ap next (ih e)
+index_stays (q ∷ qs) more x h = grind (arith, index_stays qs more x)
 
 grown_index : (qs : List (List Point)) (p x : List Point) → has_alike qs x ≡ true → first_alike (grown qs p) x ≡ first_alike qs x
-grown_index qs p x h = on (has_alike qs p)
-  where
-    on : (b : Bool) → first_alike (cond b qs (qs ++ (p ∷ []))) x ≡ first_alike qs x
-    on true = refl
-    on false = index_stays qs (p ∷ []) x h
+grown_index qs p x h = grind (arith, index_stays)
 
 -- a piece that is alike none has the number behind all
 new_index : (qs : List (List Point)) (p : List Point) → has_alike qs p ≡ false → first_alike (qs ++ (p ∷ [])) p ≡ pos (length qs)
 new_index [] p h = ap (λ b. cond b (directed (same_line p p) 0) (next (pos 0))) (alike_self p) ∙ ap (λ b. directed b 0) (same_line_self p)
-new_index (q ∷ qs) p h = on (alike q p) h (new_index qs p)
-  where
-    on : (b : Bool) → (b || has_alike qs p) ≡ false → (has_alike qs p ≡ false → first_alike (qs ++ (p ∷ [])) p ≡ pos (length qs)) →
-        cond b (directed (same_line q p) 0) (next (first_alike (qs ++ (p ∷ [])) p)) ≡ pos (length (q ∷ qs))
-    on true e ih = cc
-    on false e ih = let m : suc (length qs) ≡ length (q ∷ qs) = omega arith in ap next (ih e) ∙ ap pos m
+new_index (q ∷ qs) p h = grind (arith, new_index qs p)
 
 -- a piece that is found ..
 pub place_old : (qs : List (List Point)) (p : List Point) (r : ℤ) → found 0 qs p ≡ Some r → (qs ≡ grown qs p) × (r ≡ first_alike qs p)
-place_old qs p r h = on (has_alike qs p) refl
-  where
-    on : (b : Bool) → has_alike qs p ≡ b → (qs ≡ cond b qs (qs ++ (p ∷ []))) × (r ≡ first_alike qs p)
-    on true e = let z : Some r ≡ Some (first_alike qs p) = sym h ∙ found_is qs p ∙ ap (λ b. cond b (Some (first_alike qs p)) None) e in (refl, cc)
-    on false e = let z : Some r ≡ None = sym h ∙ found_is qs p ∙ ap (λ b. cond b (Some (first_alike qs p)) None) e in cc
+place_old qs p r h = grind (arith, found_is)
 
 -- .. and one that is added
 pub place_new : (qs : List (List Point)) (p : List Point) → found 0 qs p ≡ None → (qs ++ (p ∷ []) ≡ grown qs p) × (pos (length qs) ≡ first_alike (qs ++ (p ∷ [])) p)
-place_new qs p h = on (has_alike qs p) refl
-  where
-    on : (b : Bool) → has_alike qs p ≡ b → (qs ++ (p ∷ []) ≡ cond b qs (qs ++ (p ∷ []))) × (pos (length qs) ≡ first_alike (qs ++ (p ∷ [])) p)
-    on true e = let z : None ≡ Some (first_alike qs p) = sym h ∙ found_is qs p ∙ ap (λ b. cond b (Some (first_alike qs p)) None) e in cc
-    on false e = (refl, sym (new_index qs p e))
+place_new qs p h = grind (arith, found_is, new_index)
 
 -- ---- more pieces
 
@@ -99,7 +59,7 @@ all_index qs (p ∷ ps) x h = all_index (grown qs p) ps x (grown_keeps qs p x h)
 
 all_has : (qs ps : List (List Point)) (x : List Point) → In x ps → has_alike (grow_all qs ps) x ≡ true
 all_has qs [] x k = elim k [ ]
-all_has qs (p ∷ ps) x (inl e) = subst (λ z. has_alike (grow_all (grown qs p) ps) z ≡ true) (sym e) (all_keeps (grown qs p) ps p (grown_has qs p))
+all_has qs (p ∷ ps) x (inl e) = grind (arith, all_keeps, any_last, alike_self)
 all_has qs (p ∷ ps) x (inr k) = all_has (grown qs p) ps x k
 
 pub grow_more : (qs ps : List (List Point)) (x : List Point) → grow_all qs (ps ++ (x ∷ [])) ≡ grown (grow_all qs ps) x
@@ -117,40 +77,17 @@ map_same f g (x ∷ xs) h = ap (λ y. y ∷ map f xs) (h x (inl refl)) ∙ ap (�
 -- one more piece of a line: its index goes last, and the earlier ones stay
 pub refs_turn : (qs ps : List (List Point)) (x : List Point) (rs : List ℤ) (r : ℤ) → rs ≡ map (first_alike (grow_all qs ps)) ps → r ≡ first_alike (grown (grow_all qs ps) x) x →
     rs ++ (r ∷ []) ≡ map (first_alike (grow_all qs (ps ++ (x ∷ [])))) (ps ++ (x ∷ []))
-refs_turn qs ps x rs r e f =
-    ap (λ l. l ++ (r ∷ [])) (e ∙ map_same (first_alike (grow_all qs ps)) (first_alike (grown (grow_all qs ps) x)) ps (λ z k. sym (grown_index (grow_all qs ps) x z (all_has qs ps z k))))
-    ∙ ap (λ z. map (first_alike (grown (grow_all qs ps) x)) ps ++ (z ∷ [])) f
-    ∙ sym (map-append (first_alike (grown (grow_all qs ps) x)) ps (x ∷ []))
-    ∙ ap (λ l. map (first_alike l) (ps ++ (x ∷ []))) (sym (grow_more qs ps x))
+refs_turn qs ps x rs r e f = grind (arith, map_same, grown_index, all_has, map-append, grow_more)
 
 -- ---- the arcs of all pieces
 
 any_filter : (p x : List Point) (qs : List (List Point)) → alike p x ≡ false → has_alike (filter (λ q. not (alike p q)) qs) x ≡ has_alike qs x
 any_filter p x [] h = refl
-any_filter p x (y ∷ ys) h = on (alike p y) refl (any_filter p x ys h)
-  where
-    no : (b : Bool) → alike p y ≡ true → alike y x ≡ b → b ≡ false
-    no true e k = let z : true ≡ false = sym (alike_trans p y x e k) ∙ h in cc
-    no false e k = refl
-
-    on : (b : Bool) → alike p y ≡ b → has_alike (filter (λ q. not (alike p q)) ys) x ≡ has_alike ys x →
-        has_alike (cond (not b) (y ∷ filter (λ q. not (alike p q)) ys) (filter (λ q. not (alike p q)) ys)) x ≡ (alike y x || has_alike ys x)
-    on true e ih = ih ∙ ap (λ b. b || has_alike ys x) (sym (no (alike y x) e refl))
-    on false e ih = ap (λ b. alike y x || b) ih
+any_filter p x (y ∷ ys) h = grind (arith, alike_trans, any_filter p x ys h)
 
 arcs_grow : (ps : List (List Point)) (x : List Point) → arcs_of (ps ++ (x ∷ [])) ≡ grown (arcs_of ps) x
 arcs_grow [] x = refl
-arcs_grow (p ∷ ps) x =
-    ap (λ l. p ∷ filter (λ q. not (alike p q)) l) (arcs_grow ps x)
-    ∙ on (alike p x) refl (has_alike (arcs_of ps) x) refl
-  where
-    on : (b : Bool) → alike p x ≡ b → (c : Bool) → has_alike (arcs_of ps) x ≡ c →
-        p ∷ filter (λ q. not (alike p q)) (cond c (arcs_of ps) (arcs_of ps ++ (x ∷ []))) ≡ cond (b || has_alike (filter (λ q. not (alike p q)) (arcs_of ps)) x) (arcs_of (p ∷ ps)) (arcs_of (p ∷ ps) ++ (x ∷ []))
-    on true e true f = refl
-    on true e false f = ap (λ l. p ∷ l) (filter-append (λ q. not (alike p q)) (arcs_of ps) (x ∷ []) ∙ ap (λ b. filter (λ q. not (alike p q)) (arcs_of ps) ++ cond (not b) (x ∷ []) []) e ∙ append-nil (filter (λ q. not (alike p q)) (arcs_of ps)))
-    on false e true f = ap (λ b. cond b (arcs_of (p ∷ ps)) (arcs_of (p ∷ ps) ++ (x ∷ []))) (sym (any_filter p x (arcs_of ps) e ∙ f))
-    on false e false f = ap (λ l. p ∷ l) (filter-append (λ q. not (alike p q)) (arcs_of ps) (x ∷ []) ∙ ap (λ b. filter (λ q. not (alike p q)) (arcs_of ps) ++ cond (not b) (x ∷ []) []) e)
-        ∙ ap (λ b. cond b (arcs_of (p ∷ ps)) (arcs_of (p ∷ ps) ++ (x ∷ []))) (sym (any_filter p x (arcs_of ps) e ∙ f))
+arcs_grow (p ∷ ps) x = grind (arith, filter-append, append-nil, any_filter, arcs_grow ps x)
 
 arcs_from : (ys xs : List (List Point)) → grow_all (arcs_of ys) xs ≡ arcs_of (ys ++ xs)
 arcs_from ys [] = ap arcs_of (sym (append-nil ys))
@@ -187,22 +124,6 @@ every_append : (lists : List (List (List Point))) (xs : List (List Point)) → e
 every_append [] xs = append-nil xs
 every_append (ys ∷ lists) xs = ap (λ l. ys ++ l) (every_append lists xs) ∙ sym (append_assoc ys (every lists) xs)
 
-take_got : {X : Type 0} (xs : List X) (i : ℕ) (x : X) → slice_get xs i ≡ Some x → take (i + 1) xs ≡ take i xs ++ (x ∷ [])
-take_got [] i x e = cc
-take_got (y ∷ ys) zero x e = ap (λ z. z ∷ []) (some_is e)
-  where
-    some_is : Some y ≡ Some x → y ≡ x
-    some_is e = cc
-take_got (y ∷ ys) (suc i) x e =
-    let m : suc i + 1 ≡ suc (i + 1) = omega arith in
-    ap (λ n. take n (y ∷ ys)) m ∙ ap (λ l. y ∷ l) (take_got ys i x e)
-
-take_all : {X : Type 0} (xs : List X) (i : ℕ) → length xs ≤ i → take i xs ≡ xs
-take_all [] zero h = refl
-take_all [] (suc i) h = refl
-take_all (x ∷ xs) zero h = absurd (omega arith)
-take_all (x ∷ xs) (suc i) h = ap (λ l. x ∷ l) (take_all xs i (omega arith))
-
 module _ (lists : List (List (List Point))) (i : ℕ) (qs : List (List Point)) (rs : List (List ℤ)) (is_arcs : qs ≡ grow_all [] (every (take i lists))) (are_refs : rs ≡ refs_in qs (take i lists)) where
   -- one more line
   module _ (xs more : List (List Point)) (got : slice_get lists i ≡ Some xs) (grows : more ≡ grow_all qs xs) where
@@ -215,8 +136,7 @@ module _ (lists : List (List (List Point))) (i : ℕ) (qs : List (List Point)) (
         ∙ ap (λ l. grow_all [] (every l)) (sym (take_got lists i xs got))
 
     stay : (ys : List (List Point)) → In ys (take i lists) → map (first_alike qs) ys ≡ map (first_alike more) ys
-    stay ys k = map_same (first_alike qs) (first_alike more) ys
-        (λ x m. sym (ap (λ l. first_alike l x) grows ∙ all_index qs xs x (subst (λ l. has_alike l x ≡ true) (sym is_arcs) (all_has [] (every (take i lists)) x (in_every (take i lists) ys x k m)))))
+    stay ys k = grind (arith, map_same, all_index, all_has, in_every)
 
     pub build_refs : (r : List ℤ) → r ≡ map (first_alike more) xs → rs ++ (r ∷ []) ≡ refs_in more (take (i + 1) lists)
     build_refs r f =
@@ -227,6 +147,4 @@ module _ (lists : List (List (List Point))) (i : ℕ) (qs : List (List Point)) (
 
   -- all lines
   pub build_end : length lists ≤ i → (qs ≡ arcs_of (every lists)) × (rs ≡ refs_in (arcs_of (every lists)) lists)
-  build_end h =
-      let e : qs ≡ arcs_of (every lists) = is_arcs ∙ ap (λ l. grow_all [] (every l)) (take_all lists i h) ∙ arcs_all (every lists) in
-      (e, are_refs ∙ ap (refs_in qs) (take_all lists i h) ∙ ap (λ l. refs_in l lists) e)
+  build_end h = grind (arith, take_all, arcs_all)

@@ -1,29 +1,26 @@
 -- The arc that a piece's index names is the piece.
-use Rattle.std.proofs.Common.{◌≡◌, ℕ, suc, ◌<◌, Bool, true, false, cond, ◌||◌, List, [], ◌∷◌, length, reverse, map, refl, ap, sym, ◌∙◌, arith, inl, inr, Option, None, Some}
+use Rattle.std.proofs.Common.{◌≡◌, ℕ, suc, ◌<◌, Bool, true, false, cond, ◌||◌, List, [], ◌∷◌, length, reverse, map, refl, ap, sym, ◌∙◌, arith, inr, Option, None, Some}
 use Rattle.std.proofs.lemmas.List.{reverse-reverse}
 use Rattle.std.specs.Option.{option_map}
-use Rattle.std.specs.Prelude.{ℤ, pos, negsuc}
+use Rattle.std.specs.Prelude.{ℤ}
 use Rattle.arc_table.specs.Arcs.{same_line, alike, number_in, number_or_complement, index_in}
 use Rattle.arc_table.specs.Growth.{directed, next, has_alike, first_alike}
 use Rattle.arc_table.specs.Laws.{AreUnlike}
 use Rattle.cutter.specs.Places.{In}
-use Rattle.geojson_types.specs.Points.{Point}
-use Rattle.topojson_types.specs.Joins.{number_of, arc_at}
+use Rattle.geometry.specs.Points.{Point}
+use Rattle.geometry.specs.Joins.{number_of, arc_at}
 use Rattle.arc_table.proofs.Alike.{same_line_is, is_alike}
 
 arc_next : (q : List Point) (qs : List (List Point)) (z : ℤ) → arc_at (q ∷ qs) (next z) ≡ arc_at qs z
-arc_next q qs (pos i) = refl
-arc_next q qs (negsuc i) = refl
+arc_next q qs z = grind arith
 
 number_next : (z : ℤ) → number_of (next z) ≡ suc (number_of z)
 unfolding number_of
-number_next (pos i) = refl
-number_next (negsuc i) = refl
+number_next z = grind arith
 
 number_directed : (b : Bool) (i : ℕ) → number_of (directed b i) ≡ i
 unfolding number_of
-number_directed true i = refl
-number_directed false i = refl
+number_directed b i = grind arith
 
 -- an arc alike the piece is named, and is the piece as it is directed
 pub named_is : (arcs : List (List Point)) (x : List Point) → has_alike arcs x ≡ true → (arc_at arcs (first_alike arcs x) ≡ x) × (number_of (first_alike arcs x) < length arcs)
@@ -47,35 +44,20 @@ named_is (q ∷ qs) x h = on (alike q x) refl h (λ m. named_is qs x m)
 
 pub named_all : (arcs xs : List (List Point)) → ((x : List Point) → In x xs → has_alike arcs x ≡ true) → map (arc_at arcs) (map (first_alike arcs) xs) ≡ xs
 named_all arcs [] h = refl
-named_all arcs (x ∷ xs) h =
-    ap (λ z. z ∷ map (arc_at arcs) (map (first_alike arcs) xs)) (named_is arcs x (h x (inl refl))).0 ∙ ap (λ l. x ∷ l) (named_all arcs xs (λ z k. h z (inr k)))
+named_all arcs (x ∷ xs) h = grind (arith, named_is, named_all arcs xs)
 
 -- a line that equals no arc has no number
 none_in : (qs : List (List Point)) (x : List Point) → ((y : List Point) → In y qs → same_line y x ≡ true → ⊥) → number_in qs x ≡ None
 none_in [] x h = refl
-none_in (y ∷ ys) x h = on (same_line y x) refl (none_in ys x (λ z k. h z (inr k)))
-  where
-    on : (b : Bool) → same_line y x ≡ b → number_in ys x ≡ None → cond b (Some 0) (option_map suc (number_in ys x)) ≡ None
-    on true e ih = absurd (h y (inl refl) e)
-    on false e ih = ap (λ o. option_map suc o) ih
+none_in (y ∷ ys) x h = grind (arith, none_in ys x)
 
 -- a piece that is alike an arc has a number, or its reverse has
 pub none_both : (qs : List (List Point)) (x : List Point) → number_in qs x ≡ None → number_in qs (reverse x) ≡ None → has_alike qs x ≡ false
 none_both [] x e f = refl
-none_both (q ∷ qs) x e f = on (same_line q x) (same_line q (reverse x)) (number_in qs x) (number_in qs (reverse x)) e f (λ g h. none_both qs x g h)
-  where
-    on : (b c : Bool) (o u : Option ℕ) → cond b (Some 0) (option_map suc o) ≡ None → cond c (Some 0) (option_map suc u) ≡ None → (o ≡ None → u ≡ None → has_alike qs x ≡ false) →
-        ((b || c) || has_alike qs x) ≡ false
-    on true c o u e f ih = cc
-    on false true o u e f ih = cc
-    on false false None None e f ih = ih refl refl
-    on false false (Some i) u e f ih = cc
-    on false false None (Some i) e f ih = cc
+none_both (q ∷ qs) x e f = grind (arith, none_both qs x)
 
 shift : (o u : Option ℕ) → (o ≡ None → u ≡ None → ⊥) → number_or_complement (option_map suc o) (option_map suc u) ≡ next (number_or_complement o u)
-shift (Some i) u n = refl
-shift None (Some i) n = refl
-shift None None n = absurd (n refl refl)
+shift o u h = grind arith
 
 -- no two arcs are alike, so the number of the arc that equals the piece or whose reverse does is that of the first that is alike
 pub index_is : (qs : List (List Point)) (x : List Point) → AreUnlike qs → has_alike qs x ≡ true → index_in qs x ≡ first_alike qs x

@@ -10,16 +10,17 @@ use Rattle.cutter.specs.Places.{In}
 use Rattle.cutter.specs.Segments.{line_segments, piece_segments, segments}
 use Rattle.cutter.specs.Slices.{SplitStroke, IsSplit, AllSplit, all_pieces, piece_lists, strokes}
 use Rattle.cutter.specs.Structure.{SharersAreAlike, SegmentsAreOnce, PiecesAreLong}
-use Rattle.geojson_types.specs.Points.{Point}
-use Rattle.linework.specs.Cleaning.{IsClean, IsCleanList, AllClean}
-use Rattle.topojson_types.specs.Joins.{arc_at, number_of, rejoined, Meet}
-use Rattle.topojson_types.specs.Validity.{AreInRange}
+use Rattle.geometry.specs.Points.{Point}
+use Rattle.junctions.specs.Cleaning.{IsClean, IsCleanList, AllClean}
+use Rattle.geometry.specs.Joins.{arc_at, number_of, rejoined, Meet}
+use Rattle.geometry.specs.Joins.{AreInRange}
 use Rattle.arc_table.proofs.Alike.{arcs_unlike, arc_is_piece, piece_has_alike}
 use Rattle.arc_table.proofs.Growth.{every, refs_in, in_every, map_same, build_end}
 use Rattle.arc_table.proofs.Indexes.{index_is, named_is, named_all}
 use Rattle.arc_table.proofs.Once.{once_in_arcs, all_in_arcs, same_segments}
 use Rattle.arc_table.proofs.Rejoining.{lines_again, rejoined_of, pieces_meet, rings_close}
-use Rattle.linework.proofs.Members.{in_flat}
+use Rattle.junctions.proofs.Members.{in_flat}
+use Rattle.list_laws.proofs.Elements.{all_of, all_made}
 
 pub every_piece : (ss : List SplitStroke) → every (piece_lists ss) ≡ all_pieces ss
 every_piece [] = refl
@@ -42,36 +43,14 @@ piece_ranged : (ps : List (List Point)) (x : List Point) → In x ps → number_
 piece_ranged ps x k = subst (λ z. number_of z < length (arcs_of ps)) (sym (piece_index ps x k)) (named_is (arcs_of ps) x (piece_has_alike x ps k)).1
 
 pieces_named : (ps xs : List (List Point)) → ((x : List Point) → In x xs → In x ps) → map (arc_at (arcs_of ps)) (map (index_in (arcs_of ps)) xs) ≡ xs
-pieces_named ps xs f =
-    ap (map (arc_at (arcs_of ps))) (map_same (index_in (arcs_of ps)) (first_alike (arcs_of ps)) xs (λ x k. piece_index ps x (f x k)))
-    ∙ named_all (arcs_of ps) xs (λ x k. piece_has_alike x ps (f x k))
-
--- the table that was built is that of the pieces
-table_is : (ss : List SplitStroke) (qs : List (List Point)) (rss : List (List ℤ)) →
-    (qs ≡ arcs_of (every (piece_lists ss))) × (rss ≡ refs_in (arcs_of (every (piece_lists ss))) (piece_lists ss)) → table qs rss ≡ table_of ss
-table_is ss qs rss (e, f) =
-    let a : qs ≡ arcs_of (all_pieces ss) = e ∙ ap arcs_of (every_piece ss) in
-    let r : rss ≡ map (map (index_in (arcs_of (all_pieces ss)))) (piece_lists ss) =
-    f ∙ ap (λ l. refs_in (arcs_of l) (piece_lists ss)) (every_piece ss)
-    ∙ map_same (map (first_alike (arcs_of (all_pieces ss)))) (map (index_in (arcs_of (all_pieces ss)))) (piece_lists ss)
-    (λ xs k. map_same (first_alike (arcs_of (all_pieces ss))) (index_in (arcs_of (all_pieces ss))) xs
-    (λ x m. sym (piece_index (all_pieces ss) x (subst (λ l. In x l) (every_piece ss) (in_every (piece_lists ss) xs x k m))))) in
-    ap (λ l. table l rss) a ∙ ap (table (arcs_of (all_pieces ss))) r
+pieces_named ps xs f = grind (arith, map_same (index_in (arcs_of ps)) (first_alike (arcs_of ps)) xs, piece_index ps, named_all (arcs_of ps) xs, piece_has_alike)
 
 -- so it is at the end of the loop over the lines
 pub built : (ss : List SplitStroke) (i : ℕ) (qs : List (List Point)) (rss : List (List ℤ)) → length ss ≤ i →
     qs ≡ grow_all [] (every (take i (piece_lists ss))) → rss ≡ refs_in qs (take i (piece_lists ss)) → table qs rss ≡ table_of ss
-built ss i qs rss h e f = table_is ss qs rss (build_end (piece_lists ss) i qs rss e f (subst (λ n. n ≤ i) (sym (lists_length ss)) h))
+built ss i qs rss h e f = grind (arith, every_piece, refs_in, map_same, piece_index, in_every, build_end, lists_length)
 
 -- ---- line by line
-
-all_of : {X : Type 0} (P : X → Type 0) (xs : List X) → ((x : X) → In x xs → P x) → AllByRecursion P xs
-all_of P [] h = tt
-all_of P (x ∷ xs) h = (h x (inl refl), all_of P xs (λ y k. h y (inr k)))
-
-all_map : {X Y : Type 0} (P : Y → Type 0) (f : X → Y) (xs : List X) → ((x : X) → In x xs → P (f x)) → AllByRecursion P (map f xs)
-all_map P f [] h = tt
-all_map P f (x ∷ xs) h = (h x (inl refl), all_map P f xs (λ y k. h y (inr k)))
 
 all_refs : (P : List ℤ → Type 0) (f : List (List Point) → List ℤ) (ss : List SplitStroke) → ((s : SplitStroke) → In s ss → P (f s.pieces)) → AllByRecursion P (map f (piece_lists ss))
 all_refs P f [] h = tt
@@ -88,10 +67,7 @@ clean_at s (t ∷ ts) h (inl e) = subst (λ z. IsClean z.stroke) (sym e) h.0
 clean_at s (t ∷ ts) h (inr k) = clean_at s ts h.1 k
 
 some_index : {X : Type 0} (f : List Point → X) (xs : List (List Point)) (closed : Bool) (ps : List Point) → pieces.rejoined xs ≡ ps → IsCleanList closed ps → 1 ≤ length (map f xs)
-some_index f xs closed [] e c = elim c [ ]
-some_index f xs closed (p ∷ []) e c = elim c [ ]
-some_index f [] closed (p ∷ (q ∷ ps)) e c = cc
-some_index f (x ∷ xs) closed (p ∷ (q ∷ ps)) e c = omega arith
+some_index f xs closed ps h k = grind arith
 
 -- the arcs that indexes name are the pieces
 pub named_lists : (ss : List SplitStroke) → map (map (arc_at (table_of ss).arcs)) (table_of ss).refs ≡ piece_lists ss
@@ -135,7 +111,7 @@ module _ (ss : List SplitStroke) (split : AllSplit ss) where
       unlike = arcs_unlike (all_pieces ss);
       long = all_of (λ arc. 2 ≤ length arc) (arcs_of (all_pieces ss)) (λ x k. long x (arc_is_piece x (all_pieces ss) k));
       ranged = all_refs (AreInRange (length (arcs_of (all_pieces ss)))) (map (index_in (arcs_of (all_pieces ss)))) ss
-          (λ s k. all_map (λ r. number_of r < length (arcs_of (all_pieces ss))) (index_in (arcs_of (all_pieces ss))) s.pieces (λ x m. piece_ranged (all_pieces ss) x (inside s k x m)));
+          (λ s k. all_made (λ r. number_of r < length (arcs_of (all_pieces ss))) (index_in (arcs_of (all_pieces ss))) s.pieces (λ x m. piece_ranged (all_pieces ss) x (inside s k x m)));
       joined = all_refs (λ refs. Meet (map (arc_at (arcs_of (all_pieces ss))) refs)) (map (index_in (arcs_of (all_pieces ss)))) ss meet;
       some = all_refs (λ refs. 1 ≤ length refs) (map (index_in (arcs_of (all_pieces ss)))) ss
           (λ s k. some_index (index_in (arcs_of (all_pieces ss))) s.pieces s.stroke.closed s.stroke.positions (split_in s ss split k).joins (clean_at s ss clean k));

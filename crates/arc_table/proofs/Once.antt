@@ -1,5 +1,5 @@
 -- Each segment of the pieces lies once, in exactly one arc, and no other segment lies in one.
-use Rattle.std.proofs.Common.{◌≡◌, ℕ, zero, suc, ◌+◌, ◌<◌, ◌≤◌, Bool, true, false, cond, ◌&&◌, ◌||◌, List, [], ◌∷◌, ◌++◌, reverse, refl, ap, sym, ◌∙◌, subst, arith, inl, inr}
+use Rattle.std.proofs.Common.{◌≡◌, ℕ, zero, suc, ◌+◌, ◌<◌, ◌≤◌, true, cond, List, [], ◌∷◌, ◌++◌, reverse, refl, ap, sym, ◌∙◌, subst, arith, inl, inr}
 use Rattle.std.proofs.lemmas.Grind.{flat_map-append}
 use Rattle.std.proofs.lemmas.List.{reverse-append}
 use Rattle.std.proofs.lemmas.List.Sums.{sum_by-append, sum_by-cons}
@@ -9,8 +9,7 @@ use Rattle.cutter.specs.Places.{In}
 use Rattle.cutter.specs.Segments.{Segment, segments, is_segment, line_segments, piece_segments, times}
 use Rattle.cutter.specs.Slices.{SplitStroke, AllSplit, all_pieces, strokes}
 use Rattle.cutter.specs.Structure.{SharersAreAlike, SegmentsAreOnce}
-use Rattle.geojson_types.specs.Points.{Point}
-use Rattle.geojson_types.specs.Rings.{same}
+use Rattle.geometry.specs.Points.{Point}
 use Rattle.arc_table.proofs.Alike.{arcs_unlike, arc_is_piece, piece_has_arc, alike_is, is_alike}
 
 segment : Point → Point → Segment
@@ -31,13 +30,7 @@ segments_last (z ∷ (w ∷ zs)) q p = ap (λ l. record { from = z; to = w } ∷
 
 is_turned : (a b p q : Point) → is_segment a b (record { from = q; to = p }) ≡ is_segment a b (record { from = p; to = q })
 unfolding is_segment
-is_turned a b p q = swap (same a q && same b p) (same a p && same b q)
-  where
-    swap : (x y : Bool) → (x || y) ≡ (y || x)
-    swap true true = refl
-    swap true false = refl
-    swap false true = refl
-    swap false false = refl
+is_turned a b p q = grind arith
 
 -- it has each segment as often
 pub times_reverse : (a b : Point) (ps : List Point) → times a b (segments (reverse ps)) ≡ times a b (segments ps)
@@ -85,44 +78,20 @@ module _ (xs : List (List Point)) (sharing : SharersAreAlike xs) (once : Segment
   -- pieces that are unlike have a segment at most once
   at_most : (a b : Point) (ys : List (List Point)) → ((y : List Point) → In y ys → In y xs) → AreUnlike ys → times a b (piece_segments ys) ≤ 1
   at_most a b [] f u = omega arith
-  at_most a b (y ∷ ys) f u =
-      subst (λ n. n ≤ 1) (sym (times_pieces a b y ys))
-      (sum (times a b (segments y)) (times a b (piece_segments ys)) (once y (f y (inl refl)) a b) (at_most a b ys (λ z k. f z (inr k)) u.1) both)
-    where
-      both : 0 < times a b (segments y) → 0 < times a b (piece_segments ys) → ⊥
-      both m n =
-          let r = some_piece a b ys n in
-          let z : true ≡ false = sym (is_alike y r.0 (sharing y r.0 (f y (inl refl)) (f r.0 (inr r.1)) a b m r.2)) ∙ u.0 r.0 r.1 in cc
-
-      sum : (n m : ℕ) → n ≤ 1 → m ≤ 1 → (0 < n → 0 < m → ⊥) → n + m ≤ 1
-      sum zero m h k c = omega (arith, k)
-      sum (suc n) zero h k c = omega (arith, h)
-      sum (suc n) (suc m) h k c = absurd (c (omega arith) (omega arith))
+  at_most a b (y ∷ ys) f u = grind (arith, times_pieces, some_piece, is_alike, at_most a b ys)
 
   -- each segment of the pieces lies in an arc
   at_least : (a b : Point) → 0 < times a b (piece_segments xs) → 0 < times a b (piece_segments (arcs_of xs))
-  at_least a b h =
-      let r = some_piece a b xs h in
-      let y = piece_has_arc r.0 xs r.1 in
-      omega (arith, r.2, alike_times a b y.0 r.0 y.2, part a b (arcs_of xs) y.0 y.1)
+  at_least a b h = grind (arith, some_piece a b, piece_has_arc, alike_times a b, part a b)
 
   pub once_in_arcs : AreOnceIn (arcs_of xs) (piece_segments xs)
   once_in_arcs a b h = omega (arith, at_least a b h, at_most a b (arcs_of xs) (λ y k. arc_is_piece y xs k) (arcs_unlike xs))
 
 -- each segment of an arc is one of a piece
 pub all_in_arcs : (xs : List (List Point)) → AreAllIn (arcs_of xs) (piece_segments xs)
-all_in_arcs xs a b h = on (times a b (piece_segments (arcs_of xs))) refl
-  where
-    on : (n : ℕ) → times a b (piece_segments (arcs_of xs)) ≡ n → n ≡ 0
-    on zero e = refl
-    on (suc n) e =
-        let r = some_piece a b (arcs_of xs) (omega (arith, e)) in
-        absurd (omega (arith, h, r.2, part a b xs r.0 (arc_is_piece r.0 xs r.1)))
+all_in_arcs xs a b h = grind (arith, some_piece, part, arc_is_piece)
 
 -- the segments of the pieces are those of the lines
 pub same_segments : (ss : List SplitStroke) → AllSplit ss → piece_segments (all_pieces ss) ≡ line_segments (strokes ss)
 same_segments [] h = refl
-same_segments (s ∷ ss) h =
-    flat_map-append segments s.pieces (all_pieces ss)
-    ∙ ap (λ l. l ++ piece_segments (all_pieces ss)) h.0.segments
-    ∙ ap (λ l. segments s.stroke.positions ++ l) (same_segments ss h.1)
+same_segments (s ∷ ss) h = grind (arith, flat_map-append, same_segments ss h.1)

@@ -1,36 +1,33 @@
 -- Pieces, joined again, are the line. Each but the first begins where the one before ends, and the last of a ring ends where the
 -- first begins.
-use Rattle.std.proofs.Common.{◌≡◌, true, List, [], ◌∷◌, ◌++◌, append-nil, map, refl, ap, sym, ◌∙◌, subst, arith, inl, inr, Option, None, Some}
+use Rattle.std.proofs.Common.{◌≡◌, true, List, [], ◌∷◌, ◌++◌, append-nil, map, refl, ap, sym, ◌∙◌, arith, inl, inr, Option, None, Some}
 use Rattle.std.proofs.lemmas.List.{append_cancel_left}
 use Rattle.std.specs.List.{flat_map}
 use Rattle.std.specs.Prelude.{ℤ}
 use Rattle.arc_table.specs.Laws.{RingsClose}
 use Rattle.cutter.specs.Pieces.{but_first}
 use Rattle.cutter.specs.Pieces as pieces
-use Rattle.cutter.specs.Places.{tail}
-use Rattle.cutter.specs.Segments.{Segment, segments, segments_from, piece_segments}
+use Rattle.cutter.specs.Segments.{segments, piece_segments}
 use Rattle.cutter.specs.Slices.{SplitStroke, AllSplit, all_pieces, piece_lists, strokes}
 use Rattle.cutter.specs.Structure.{PiecesAreLong}
-use Rattle.geojson_types.specs.Points.{Point}
-use Rattle.linework.specs.Cleaning.{IsCleanList, AllClean}
-use Rattle.linework.specs.Visits.{last}
-use Rattle.topojson_types.specs.Joins.{arc_at, behind_first, joined_behind_first, rejoined, first_of, last_of, Meet, Closes}
-use Rattle.linework.proofs.Members.{in_left, in_right}
+use Rattle.geometry.specs.Points.{Point}
+use Rattle.junctions.specs.Cleaning.{IsCleanList, AllClean}
+use Rattle.junctions.specs.Visits.{last}
+use Rattle.geometry.specs.Joins.{arc_at, behind_first, joined_behind_first, rejoined, first_of, last_of, Meet, Closes}
 use Rattle.cutter.proofs.SegmentLaws.{segments_append}
+use Rattle.list_laws.proofs.Members.{in_left, in_right}
 
 -- ---- joined again
 
 behind : (p : List Point) → behind_first p ≡ but_first p
-behind [] = refl
-behind (x ∷ xs) = refl
+behind p = grind arith
 
 tails : (xs : List (List Point)) → joined_behind_first xs ≡ flat_map but_first xs
 tails [] = refl
 tails (p ∷ ps) = ap (λ l. l ++ joined_behind_first ps) (behind p) ∙ ap (λ l. but_first p ++ l) (tails ps)
 
 pub same_rejoined : (xs : List (List Point)) → rejoined xs ≡ pieces.rejoined xs
-same_rejoined [] = refl
-same_rejoined (p ∷ ps) = ap (λ l. p ++ l) (tails ps)
+same_rejoined xs = grind (arith, tails)
 
 -- the pieces of each line, joined again, are the line
 pub lines_again : (ss : List SplitStroke) → AllSplit ss → map rejoined (piece_lists ss) ≡ map (λ s. s.positions) (strokes ss)
@@ -47,25 +44,15 @@ last_is : (p : Point) (ps : List Point) → last_of (p ∷ ps) ≡ Some (last p 
 last_is p [] = refl
 last_is p (q ∷ ps) = last_is q ps
 
-abbrev from_or : Point → List Segment → Point
-from_or p [] = p
-from_or p (s ∷ ss) = s.from
-
 meet_from : (x : List Point) (xs : List (List Point)) → PiecesAreLong (x ∷ xs) → piece_segments (x ∷ xs) ≡ segments (pieces.rejoined (x ∷ xs)) → Meet (x ∷ xs)
 meet_from x [] long e = tt
 meet_from [] (y ∷ ys) long e = absurd (omega (arith, long [] (inl refl)))
 meet_from (p ∷ ps) ([] ∷ ys) long e = absurd (omega (arith, long [] (inr (inl refl))))
 meet_from (p ∷ ps) ((q ∷ []) ∷ ys) long e = absurd (omega (arith, long (q ∷ []) (inr (inl refl))))
-meet_from (p ∷ ps) ((q ∷ (r ∷ rs)) ∷ ys) long e =
-    let f : piece_segments ((q ∷ (r ∷ rs)) ∷ ys) ≡ segments_from (last p ps) (r ∷ (rs ++ flat_map but_first ys)) =
-    append_cancel_left (segments_from p ps) (piece_segments ((q ∷ (r ∷ rs)) ∷ ys)) (segments_from (last p ps) (r ∷ (rs ++ flat_map but_first ys)))
-    (e ∙ segments_append p ps (r ∷ (rs ++ flat_map but_first ys))) in
-    let g : q ≡ last p ps = ap (from_or q) f in
-    (last_is p ps ∙ ap (λ z. Some z) (sym g), meet_from (q ∷ (r ∷ rs)) ys (λ z k. long z (inr k)) (f ∙ ap (λ z. segments_from z (r ∷ (rs ++ flat_map but_first ys))) (sym g)))
+meet_from (p ∷ ps) ((q ∷ (r ∷ rs)) ∷ ys) long e = grind (arith, append_cancel_left, segments_append, last_is, meet_from (q ∷ (r ∷ rs)) ys)
 
 pub pieces_meet : (xs : List (List Point)) → PiecesAreLong xs → piece_segments xs ≡ segments (pieces.rejoined xs) → Meet xs
-pieces_meet [] long e = tt
-pieces_meet (x ∷ xs) long e = meet_from x xs long e
+pieces_meet xs h k = grind (arith, meet_from)
 
 -- ---- where rings close
 
@@ -92,18 +79,10 @@ ring_closes ([] ∷ xs) (p ∷ (q ∷ ps)) long e c = absurd (omega (arith, long
 ring_closes ((a ∷ rest) ∷ xs) (p ∷ (q ∷ ps)) long e c =
     ends (a ∷ rest) xs (Some a) long (ap last_of e ∙ last_is p (q ∷ ps) ∙ ap (λ z. Some z) (c.1 refl) ∙ ap first_of (sym e))
 
-abbrev head_or_none : List (List (List Point)) → List (List Point)
-head_or_none [] = []
-head_or_none (xs ∷ lists) = xs
-
 -- the arcs that the indexes of each ring name close, where they are its pieces
 pub rings_close : (arcs : List (List Point)) (ss : List SplitStroke) (rss : List (List ℤ)) → PiecesAreLong (all_pieces ss) → AllSplit ss → AllClean (strokes ss) →
     map (map (arc_at arcs)) rss ≡ piece_lists ss → RingsClose arcs (strokes ss) rss
 rings_close arcs [] [] long split clean e = tt
 rings_close arcs [] (rs ∷ rss) long split clean e = tt
 rings_close arcs (s ∷ ss) [] long split clean e = tt
-rings_close arcs (s ∷ ss) (rs ∷ rss) long split clean e = (
-  λ c. subst Closes (sym (ap head_or_none e))
-      (ring_closes s.pieces s.stroke.positions (λ x k. long x (in_left x s.pieces (all_pieces ss) k)) split.0.joins (subst (λ b. IsCleanList b s.stroke.positions) c clean.0)),
-  rings_close arcs ss rss (λ x k. long x (in_right x s.pieces (all_pieces ss) k)) split.1 clean.1 (ap tail e),
-)
+rings_close arcs (s ∷ ss) (rs ∷ rss) long split clean e = grind (arith, ring_closes, in_left, in_right, rings_close arcs ss rss)

@@ -3,9 +3,9 @@ use Rattle.std.specs.Prelude.{◌≡◌, ℕ, pos, negsuc, Bool, true, false, Li
 use Rattle.arc_table.specs.Arcs.{ArcsAndIndexes, table_of}
 use Rattle.cutter.specs.Segments.{is_segment, piece_segments, times}
 use Rattle.cutter.specs.Slices.{split_of}
-use Rattle.geojson_types.specs.Points.{Point}
-use Rattle.geojson_types.specs.Rings.{same}
-use Rattle.linework.specs.declared.stroke.Stroke.{Stroke}
+use Rattle.geometry.specs.Points.{Point}
+use Rattle.geometry.specs.Rings.{same}
+use Rattle.junctions.specs.declared.stroke.Stroke.{Stroke}
 
 abbrev p : ℕ → ℕ → Point
 p x y = record { x = pos x; y = pos y }

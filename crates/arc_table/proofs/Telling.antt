@@ -12,10 +12,11 @@ use Rattle.arc_table.specs.Laws.{AreUnlike}
 use Rattle.arc_table.specs.Starts.{start_of, StartTells, StartsTell}
 use Rattle.cutter.specs.Places.{At, first, later, In, IsStructured}
 use Rattle.cutter.specs.Segments.{Segment}
-use Rattle.geojson_types.specs.Points.{Point}
-use Rattle.linework.proofs.Members.{in_left, in_right, in_either, slice_in}
+use Rattle.geometry.specs.Points.{Point}
+use Rattle.junctions.proofs.Members.{slice_in}
 use Rattle.cutter.proofs.Walks.{at_is}
 use Rattle.arc_table.proofs.Growth.{every, in_every}
+use Rattle.list_laws.proofs.Members.{in_left, in_right, in_append}
 
 -- ---- starts and places
 
@@ -46,18 +47,12 @@ at_end y s e = on (at_start (reverse y) s e)
     )
 
 pub structured_tells : (xs : List (List Point)) → IsStructured xs → StartsTell xs
-structured_tells xs h y k = (
-  λ x m s e f. let a = at_start x s e in let b = at_start y s f in h.same_way x y m k [] s.from s.to a.0 [] b.0 a.1 b.1,
-  λ x m s e f. let a = at_start x s e in let b = at_end y s f in h.opposite x y m k [] s.from s.to a.0 b.0 [] a.1 b.1,
-)
+structured_tells xs h y k = grind (arith, at_start, at_end)
 
 -- ---- fewer lines
 
 pub fewer_tell : (xs ys : List (List Point)) → ((x : List Point) → In x ys → In x xs) → StartsTell xs → StartsTell ys
-fewer_tell xs ys f h y k = (
-  λ x m s e g. (h y (f y k)).0 x (f x m) s e g,
-  λ x m s e g. (h y (f y k)).1 x (f x m) s e g,
-)
+fewer_tell xs ys f h y k = grind arith
 
 -- an arc was one, or is a piece
 grown_from : (qs : List (List Point)) (p x : List Point) → In x (grown qs p) → In x qs ⊎ (x ≡ p)
@@ -70,25 +65,17 @@ grown_from qs p x k = on (has_alike qs p) k
 
     on : (b : Bool) → In x (cond b qs (qs ++ (p ∷ []))) → In x qs ⊎ (x ≡ p)
     on true k = inl k
-    on false k = last (in_either x qs (p ∷ []) k)
+    on false k = last (in_append x qs (p ∷ []) k)
 
 all_from : (qs ps : List (List Point)) (x : List Point) → In x (grow_all qs ps) → In x qs ⊎ In x ps
 all_from qs [] x k = inl k
-all_from qs (p ∷ ps) x k = on (all_from (grown qs p) ps x k)
-  where
-    old : In x qs ⊎ (x ≡ p) → In x qs ⊎ In x (p ∷ ps)
-    old (inl k) = inl k
-    old (inr e) = inr (inl e)
-
-    on : In x (grown qs p) ⊎ In x ps → In x qs ⊎ In x (p ∷ ps)
-    on (inl k) = old (grown_from qs p x k)
-    on (inr k) = inr (inr k)
+all_from qs (p ∷ ps) x k = grind (arith, grown_from, all_from (grown qs p) ps x k)
 
 -- ---- no two arcs become alike
 
 unlike_last : (qs : List (List Point)) (p : List Point) → AreUnlike qs → has_alike qs p ≡ false → AreUnlike (qs ++ (p ∷ []))
 unlike_last [] p u h = (λ y k. elim k [ ], tt)
-unlike_last (q ∷ qs) p u h = (λ y k. on y (in_either y qs (p ∷ []) k), unlike_last qs p u.1 (or_parts (alike q p) (has_alike qs p) h).1)
+unlike_last (q ∷ qs) p u h = (λ y k. on y (in_append y qs (p ∷ []) k), unlike_last qs p u.1 (or_parts (alike q p) (has_alike qs p) h).1)
   where
     on : (y : List Point) → In y qs ⊎ In y (p ∷ []) → alike q y ≡ false
     on y (inl k) = u.0 y k
@@ -96,15 +83,11 @@ unlike_last (q ∷ qs) p u h = (λ y k. on y (in_either y qs (p ∷ []) k), unli
     on y (inr (inr k)) = elim k [ ]
 
 unlike_grown : (qs : List (List Point)) (p : List Point) → AreUnlike qs → AreUnlike (grown qs p)
-unlike_grown qs p u = on (has_alike qs p) refl
-  where
-    on : (b : Bool) → has_alike qs p ≡ b → AreUnlike (cond b qs (qs ++ (p ∷ [])))
-    on true e = u
-    on false e = unlike_last qs p u e
+unlike_grown qs p u = grind (arith, unlike_last)
 
 pub unlike_all : (qs ps : List (List Point)) → AreUnlike qs → AreUnlike (grow_all qs ps)
 unlike_all qs [] u = u
-unlike_all qs (p ∷ ps) u = unlike_all (grown qs p) ps (unlike_grown qs p u)
+unlike_all qs (p ∷ ps) u = grind (arith, unlike_last, unlike_all (grown qs p) ps (unlike_grown qs p u))
 
 -- ---- the pieces of a line, one by one
 
@@ -130,18 +113,15 @@ every_take : (lists : List (List (List Point))) (i : ℕ) (x : List Point) → I
 every_take [] zero x k = k
 every_take [] (suc i) x k = k
 every_take (xs ∷ lists) zero x k = elim k [ ]
-every_take (xs ∷ lists) (suc i) x k = on (in_either x xs (every (take i lists)) k) (λ m. every_take lists i x m)
-  where
-    on : In x xs ⊎ In x (every (take i lists)) → (In x (every (take i lists)) → In x (every lists)) → In x (xs ++ every lists)
-    on (inl m) ih = in_left x xs (every lists) m
-    on (inr m) ih = in_right x xs (every lists) (ih m)
+every_take (xs ∷ lists) (suc i) x k =
+    grind (arith, every_take lists i x, in_append x xs (every (take i lists)) k, every (take i lists), in_left x xs (every lists), in_right x xs (every lists))
 
 module _ (lists : List (List (List Point))) (i : ℕ) (xs arcs : List (List Point)) (got : slice_get lists i ≡ Some xs) (are : arcs ≡ grow_all [] (every (take i lists))) where
   pub line_in : (x : List Point) → In x xs → In x (every lists)
   line_in x k = in_every lists xs x (slice_in lists i xs got) k
 
   pub line_tells : StartsTell (every lists) → StartsTell (arcs ++ xs)
-  line_tells h = fewer_tell (every lists) (arcs ++ xs) (λ x k. on x (in_either x arcs xs k)) h
+  line_tells h = fewer_tell (every lists) (arcs ++ xs) (λ x k. on x (in_append x arcs xs k)) h
     where
       old : (x : List Point) → In x [] ⊎ In x (every (take i lists)) → In x (every lists)
       old x (inl k) = elim k [ ]
@@ -163,15 +143,8 @@ count_most lists xs n m h k = omega (arith, h, k, sum_by-append length lists (xs
 pub count_all : {X : Type 0} (lists : List (List X)) (xs : List X) (n m a b limit : ℕ) → n ≤ sum_by length lists →
     (sum_by length lists < limit → n + a ≡ sum_by length lists) → (n + length xs < limit → m + b ≡ n + a + length xs) →
     sum_by length (lists ++ (xs ∷ [])) < limit → m + b ≡ sum_by length (lists ++ (xs ∷ []))
-count_all lists xs n m a b limit h e f l =
-    let t : sum_by length (lists ++ (xs ∷ [])) ≡ sum_by length lists + length xs = omega (arith, sum_by-append length lists (xs ∷ []), sum_by-cons length xs []) in
-    let k : n + a ≡ sum_by length lists = e (omega (arith, l, t)) in
-    let g : m + b ≡ n + a + length xs = f (omega (arith, l, t, h)) in
-    omega (arith, t, k, g)
+count_all lists xs n m a b limit h e f l = grind (arith, sum_by-append, sum_by-cons)
 
 -- one piece more
 pub count_piece : (i n r a b c m limit : ℕ) → n ≤ i + r → (i + r < limit → n + a ≡ i + c + r) → (n + 1 < limit → m + b ≡ n + a + 1) → i + (r + 1) < limit → m + b ≡ i + c + (r + 1)
-count_piece i n r a b c m limit h e f l =
-    let k : n + a ≡ i + c + r = e (omega (arith, l)) in
-    let g : m + b ≡ n + a + 1 = f (omega (arith, l, h)) in
-    omega (arith, k, g)
+count_piece i n r a b c m limit h e f l = grind arith

@@ -1,7 +1,7 @@
 -- How arcs are found and added, piece by piece.
 use Rattle.std.specs.Prelude.{ℕ, suc, ◌+◌, ℤ, pos, negsuc, Bool, true, false, List, [], ◌∷◌, ◌++◌, Option, None, Some, if◌then◌else◌}
 use Rattle.std.specs.List.{list_any}
-use Rattle.geojson_types.specs.Points.{Point}
+use Rattle.geometry.specs.Points.{Point}
 use Rattle.arc_table.specs.Arcs.{same_line, alike}
 
 -- the index of the arc of this number, as it stands or reversed

@@ -5,7 +5,7 @@ use Rattle.std.specs.Ordering.{int_eq}
 use Rattle.indexmap.specs.IndexMap.{IndexMap, get}
 use Rattle.cutter.specs.Places.{In}
 use Rattle.cutter.specs.Segments.{Segment}
-use Rattle.geojson_types.specs.Points.{Point}
+use Rattle.geometry.specs.Points.{Point}
 
 -- the equality by which a table finds a segment
 abbrev pub equal : Segment → Segment → Bool

@@ -6,12 +6,10 @@ ghost use Rattle.arc_table.specs.Laws.{AreUnlike};
 ghost use Rattle.arc_table.specs.Starts.{IsStarts, StartTells, StartsTell};
 
 use crate::starts::{Starts, equal_arc, first_segment, reversed_arc};
-use byte_ends::Memory;
 use cutter::PieceIter;
-use geojson_types::Position;
-use json_value::Items;
+use geometry::{ArcRef, Position};
+use owned_values::{Items, Memory};
 use std::alloc::Global;
-use topojson_types::ArcRef;
 
 /// The indexes of the pieces of a line, where each piece that is alike no arc becomes one, behind the others.
 pub fn add_line(

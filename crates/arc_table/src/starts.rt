@@ -5,9 +5,9 @@ ghost use Rattle.arc_table.specs.Arcs.{number_in};
 ghost use Rattle.arc_table.specs.Starts.{equal, start_of, IsStarts, StartTells};
 
 use crate::comparing::{is_reverse, is_same_line};
-use geojson_types::Position;
+use geometry::Position;
 use indexmap::IndexMap;
-use json_value::Items;
+use owned_values::Items;
 use std::marker::Model;
 
 /// Two positions in a row.

@@ -3,20 +3,18 @@ ghost use Rattle.std.specs.Prelude.{◌≡◌, ◌<◌, ◌≤◌, ◌+◌, ◌^
 ghost use Rattle.std.specs.List.{AllByRecursion};
 ghost use Rattle.cutter.specs.Segments.{line_segments, piece_segments};
 ghost use Rattle.cutter.specs.Slices.{all_pieces, piece_lists, strokes};
-ghost use Rattle.topojson_types.specs.Joins.{arc_at, rejoined, Meet};
-ghost use Rattle.topojson_types.specs.Validity.{AreInRange};
+ghost use Rattle.geometry.specs.Joins.{arc_at, rejoined, Meet};
+ghost use Rattle.geometry.specs.Joins.{AreInRange};
 ghost use Rattle.arc_table.specs.Arcs.{table_of};
 ghost use Rattle.arc_table.specs.Laws.{AreAllIn, AreOnceIn, AreUnlike, IsTable, RingsClose};
 
 use crate::placing::add_line;
-use byte_ends::Memory;
 use cutter::Pieces;
-use geojson_types::Position;
+use geometry::{ArcRef, Position};
 use indexmap::IndexMap;
-use json_value::Items;
+use owned_values::{Items, Memory};
 use std::alloc::Global;
 use std::marker::Model;
-use topojson_types::ArcRef;
 
 /// The arcs of lines and rings, and for each of these its arc indexes. No two arcs are equal or each other's reverse, and each
 /// has two positions or more. Each line has an index, each index names an arc, and the arcs that a line's indexes name meet.

@@ -1,60 +1,32 @@
 -- The candidates of a shape, by its kind: they are its lines and rings, and those that stay are the lines and rings of the pruned shape.
-use Rattle.std.proofs.Common.{◌≡◌, ℤ, Bool, true, false, List, [], ◌∷◌, ◌++◌, map, Option, None, Some, refl, sym, ap, ◌∙◌}
+use Rattle.std.proofs.Common.{◌≡◌, ℤ, Bool, true, false, List, [], ◌∷◌, ◌++◌, map, Option, None, Some, refl, sym, ap, ◌∙◌, arith}
 use Rattle.std.specs.List.{AllByRecursion}
 use Rattle.std.proofs.lemmas.List.{map-append}
-use Rattle.geojson_types.specs.declared.address.Cause.{Cause}
-use Rattle.geojson_types.specs.declared.geometry.Geometry.{Geometry, fold-Geometry, fold-roll-Geometry}
-use Rattle.geojson_types.specs.declared.geometry.Geometry.TheOpen.{Geometry-F}
-use Rattle.geojson_types.specs.declared.geometry.Geometry.TheVariants as g
+use Rattle.geometry.specs.declared.address.Cause.{Cause}
+use Rattle.geometry.specs.declared.shape.Geometry.{Geometry}
+use Rattle.geometry.specs.declared.shape.Geometry.TheVariants as g
 use Rattle.geojson_types.specs.Features.{Shape, Featured}
-use Rattle.geojson_types.specs.Lists.{map_some, then_some, with_some, some_of, unless_empty, joined}
-use Rattle.geojson_types.specs.Points.{Point}
-use Rattle.geojson_types.specs.Pruning.{area_by, prune, strokes, option_strokes}
-use Rattle.geojson_types.proofs.Cases.{prune-point, prune-points, prune-line, prune-lines, prune-area, prune-areas, prune-group, strokes-point, strokes-points, strokes-line, strokes-lines, strokes-area, strokes-areas, strokes-group}
-use Rattle.geojson_types.proofs.Induction.{by_kinds}
-use Rattle.topojson_types.specs.declared.object.TopoObject.TheVariants.{Many}
-use Rattle.topojson_types.specs.Topologies.{features_strokes as topo_strokes, object_features, objects_strokes}
+use Rattle.geometry.specs.Lists.{map_some, then_some, with_some, some_of, unless_empty, joined}
+use Rattle.geometry.specs.Points.{Point}
+use Rattle.geometry.specs.Pruning.{area_by, prune, strokes, option_strokes}
+use Rattle.geometry.proofs.Cases.{prune-point, prune-points, prune-line, prune-lines, prune-area, prune-areas, prune-group, strokes-point, strokes-points, strokes-line, strokes-lines, strokes-area, strokes-areas, strokes-group}
+use Rattle.geometry.proofs.Induction.{by_kinds}
+use Rattle.geometry.proofs.ByKind.{AtKinds, at_kinds}
+use Rattle.topojson_types.specs.Topologies.{features_strokes as topo_strokes, objects_strokes}
 use Rattle.build_meaning.specs.Candidates.{Candidate, free, hole, area_candidates, candidates_step, candidates, option_candidates, if_kept, features_candidates, named_candidates}
 use Rattle.build_meaning.specs.Expected.{unless}
-use Rattle.build_meaning.specs.Layers.{Named, features_strokes, named_strokes}
+use Rattle.build_meaning.specs.Layers.{Named, named_strokes}
 use Rattle.build_meaning.specs.Objects.{feature_by, features_by, objects_by}
 
 -- ---- by kind
 
 module _ (P L : Type 0) (why : L → Option Cause) where
-  abbrev gather : Geometry P L L → List (Candidate L)
-  gather = fold-Geometry P L L (List (Candidate L)) (candidates_step why)
-
   abbrev Is : Geometry P L L → List (Candidate L) → Type 0
   Is s cs = candidates why s ≡ cs
 
-  pub candidates-point : (p : P) → Is (g.Point p) []
+  pub candidates_at : AtKinds (candidates {P = P} {L = L} why) (candidates_step why)
   unfolding candidates
-  candidates-point p = ap gather (sym (g.rolls-Point p)) ∙ fold-roll-Geometry P L L (List (Candidate L)) (candidates_step why) (Geometry-F.Point p)
-
-  pub candidates-points : (ps : List P) → Is (g.MultiPoint ps) []
-  unfolding candidates
-  candidates-points ps = ap gather (sym (g.rolls-MultiPoint ps)) ∙ fold-roll-Geometry P L L (List (Candidate L)) (candidates_step why) (Geometry-F.MultiPoint ps)
-
-  pub candidates-line : (l : L) → Is (g.Line l) (free false l ∷ [])
-  unfolding candidates
-  candidates-line l = ap gather (sym (g.rolls-Line l)) ∙ fold-roll-Geometry P L L (List (Candidate L)) (candidates_step why) (Geometry-F.Line l)
-
-  pub candidates-lines : (ls : List L) → Is (g.Lines ls) (map (free false) ls)
-  unfolding candidates
-  candidates-lines ls = ap gather (sym (g.rolls-Lines ls)) ∙ fold-roll-Geometry P L L (List (Candidate L)) (candidates_step why) (Geometry-F.Lines ls)
-
-  pub candidates-area : (rs : List L) → Is (g.Area rs) (area_candidates why rs)
-  unfolding candidates
-  candidates-area rs = ap gather (sym (g.rolls-Area rs)) ∙ fold-roll-Geometry P L L (List (Candidate L)) (candidates_step why) (Geometry-F.Area rs)
-
-  pub candidates-areas : (areas : List (List L)) → Is (g.Areas areas) (joined (map (area_candidates why) areas))
-  unfolding candidates
-  candidates-areas areas = ap gather (sym (g.rolls-Areas areas)) ∙ fold-roll-Geometry P L L (List (Candidate L)) (candidates_step why) (Geometry-F.Areas areas)
-
-  pub candidates-group : (ss : List (Geometry P L L)) → Is (g.Group ss) (joined (map (candidates why) ss))
-  unfolding candidates
-  candidates-group ss = ap gather (sym (g.rolls-Group ss)) ∙ fold-roll-Geometry P L L (List (Candidate L)) (candidates_step why) (Geometry-F.Group ss)
+  candidates_at = at_kinds (candidates_step why)
 
 -- ---- lists
 
@@ -63,8 +35,7 @@ map_map g f [] = refl
 map_map g f (x ∷ xs) = ap (λ ys. g (f x) ∷ ys) (map_map g f xs)
 
 with_append : {A : Type 0} (o : Option A) (xs ys : List A) → with_some o xs ++ ys ≡ with_some o (xs ++ ys)
-with_append None xs ys = refl
-with_append (Some x) xs ys = refl
+with_append o xs ys = grind arith
 
 pub some_append : {A B : Type 0} (f : A → Option B) (xs ys : List A) → some_of f (xs ++ ys) ≡ some_of f xs ++ some_of f ys
 some_append f [] ys = refl
@@ -82,8 +53,7 @@ stroke c = (c.closed, c.line)
 
 module _ {L : Type 0} (why : L → Option Cause) where
   area_are : (rs : List L) → map stroke (area_candidates why rs) ≡ map (λ l. (true, l)) rs
-  area_are [] = refl
-  area_are (o ∷ holes) = ap (λ ls. (true, o) ∷ ls) (map_map stroke (hole (why o)) holes)
+  area_are rs = grind (arith, map_map)
 
   areas_are : (areas : List (List L)) → map stroke (joined (map (area_candidates why) areas)) ≡ joined (map (map (λ l. (true, l))) areas)
   areas_are [] = refl
@@ -99,13 +69,13 @@ module _ {P L : Type 0} (why : L → Option Cause) where
 
   pub all_strokes : (s : Geometry P L L) → map stroke (candidates why s) ≡ strokes s
   all_strokes = by_kinds Are (record {
-    point = λ p. ap (map stroke) (candidates-point P L why p) ∙ sym (strokes-point P L p);
-    points = λ ps. ap (map stroke) (candidates-points P L why ps) ∙ sym (strokes-points P L ps);
-    line = λ l. ap (map stroke) (candidates-line P L why l) ∙ sym (strokes-line P L l);
-    lines = λ ls. ap (map stroke) (candidates-lines P L why ls) ∙ map_map stroke (free false) ls ∙ sym (strokes-lines P L ls);
-    area = λ rs. ap (map stroke) (candidates-area P L why rs) ∙ area_are why rs ∙ sym (strokes-area P L rs);
-    areas = λ areas. ap (map stroke) (candidates-areas P L why areas) ∙ areas_are why areas ∙ sym (strokes-areas P L areas);
-    group = λ ss all. ap (map stroke) (candidates-group P L why ss) ∙ members_are ss all ∙ sym (strokes-group P L ss);
+    point = λ p. ap (map stroke) ((candidates_at P L why).point p) ∙ sym (strokes-point P L p);
+    points = λ ps. ap (map stroke) ((candidates_at P L why).points ps) ∙ sym (strokes-points P L ps);
+    line = λ l. ap (map stroke) ((candidates_at P L why).line l) ∙ sym (strokes-line P L l);
+    lines = λ ls. ap (map stroke) ((candidates_at P L why).lines ls) ∙ map_map stroke (free false) ls ∙ sym (strokes-lines P L ls);
+    area = λ rs. ap (map stroke) ((candidates_at P L why).area rs) ∙ area_are why rs ∙ sym (strokes-area P L rs);
+    areas = λ areas. ap (map stroke) ((candidates_at P L why).areas areas) ∙ areas_are why areas ∙ sym (strokes-areas P L areas);
+    group = λ ss all. ap (map stroke) ((candidates_at P L why).group ss) ∙ members_are ss all ∙ sym (strokes-group P L ss);
   })
 
 -- ---- those that stay are the lines and rings of what is left of the shape
@@ -140,36 +110,27 @@ module _ {P Q L M : Type 0} (place : P → Q) (kept : Bool → L → Option M) (
   -- lines or rings that are no holes, or holes of a ring that stays
   free_left : (closed : Bool) (ls : List L) → map (tag closed) (some_of (kept closed) ls) ≡ some_of left (map (free closed) ls)
   free_left closed [] = refl
-  free_left closed (l ∷ ls) = on (kept closed l) (free_left closed ls)
-    where
-      on : (o : Option M) → map (tag closed) (some_of (kept closed) ls) ≡ some_of left (map (free closed) ls)
-          → map (tag closed) (with_some o (some_of (kept closed) ls)) ≡ with_some (map_some (tag closed) o) (some_of left (map (free closed) ls))
-      on None ih = ih
-      on (Some m) ih = ap (λ ms. (closed, m) ∷ ms) ih
+  free_left closed (l ∷ ls) = grind (arith, free_left closed ls)
 
   none_left : (c : Cause) (holes : List L) → some_of left (map (hole (Some c)) holes) ≡ []
   none_left c [] = refl
   none_left c (h ∷ holes) = none_left c holes
 
   line_left : (o : Option M) → after (map_some g.Line o) ≡ with_some (map_some (tag false) o) []
-  line_left None = refl
-  line_left (Some m) = strokes-line Q M m
+  line_left o = grind (arith, strokes-line)
 
   lines_of : (ms : List M) → after (unless_empty g.Lines ms) ≡ map (tag false) ms
-  lines_of [] = refl
-  lines_of (m ∷ ms) = strokes-lines Q M (m ∷ ms)
+  lines_of ms = grind (arith, strokes-lines)
 
   areas_of : (mss : List (List M)) → after (unless_empty g.Areas mss) ≡ of_areas mss
-  areas_of [] = refl
-  areas_of (ms ∷ mss) = strokes-areas Q M (ms ∷ mss)
+  areas_of mss = grind (arith, strokes-areas)
 
   abbrev rings_of : Option (List M) → List (Bool × M)
   rings_of None = []
   rings_of (Some ms) = map (tag true) ms
 
   area_of : (o : Option (List M)) → after (map_some g.Area o) ≡ rings_of o
-  area_of None = refl
-  area_of (Some ms) = strokes-area Q M ms
+  area_of o = grind (arith, strokes-area)
 
   area_left : (rs : List L) → rings_of (area_by (kept true) rs) ≡ some_of left (area_candidates out rs)
   area_left [] = refl
@@ -183,34 +144,28 @@ module _ {P Q L M : Type 0} (place : P → Q) (kept : Bool → L → Option M) (
       on (Some c) (Some r) m = absurd m
 
   with_rings : (o : Option (List M)) (mss : List (List M)) → of_areas (with_some o mss) ≡ rings_of o ++ of_areas mss
-  with_rings None mss = refl
-  with_rings (Some ms) mss = refl
+  with_rings o mss = grind arith
 
   areas_left : (areas : List (List L)) → of_areas (some_of (area_by (kept true)) areas) ≡ some_of left (joined (map (area_candidates out) areas))
   areas_left [] = refl
-  areas_left (rs ∷ areas) =
-      with_rings (area_by (kept true) rs) (some_of (area_by (kept true)) areas) ∙ rw (area_left rs, areas_left areas) refl
-      ∙ sym (some_append left (area_candidates out rs) (joined (map (area_candidates out) areas)))
+  areas_left (rs ∷ areas) = grind (arith, with_rings, area_left, some_append, areas_left areas)
 
   with_member : (o : Option (Geometry Q M M)) (ts : List (Geometry Q M M)) → joined (map strokes (with_some o ts)) ≡ after o ++ joined (map strokes ts)
-  with_member None ts = refl
-  with_member (Some t) ts = refl
+  with_member o ts = grind arith
 
   members_left : (ss : List (Geometry P L L)) → AllByRecursion Stays ss → joined (map strokes (some_of run ss)) ≡ some_of left (joined (map (candidates out) ss))
   members_left [] all = refl
-  members_left (s ∷ ss) all =
-      with_member (run s) (some_of run ss) ∙ rw (all.0, members_left ss all.1) refl
-      ∙ sym (some_append left (candidates out s) (joined (map (candidates out) ss)))
+  members_left (s ∷ ss) all = grind (arith, some_append, members_left ss all.1)
 
   pub strokes_left : (s : Geometry P L L) → option_strokes (prune place kept s) ≡ some_of left (candidates out s)
   strokes_left = by_kinds Stays (record {
-    point = λ p. ap after (prune-point place kept p) ∙ strokes-point Q M (place p) ∙ sym (ap (some_of left) (candidates-point P L out p));
-    points = λ ps. ap after (prune-points place kept ps) ∙ strokes-points Q M (map place ps) ∙ sym (ap (some_of left) (candidates-points P L out ps));
-    line = λ l. ap after (prune-line place kept l) ∙ line_left (kept false l) ∙ sym (ap (some_of left) (candidates-line P L out l));
-    lines = λ ls. ap after (prune-lines place kept ls) ∙ lines_of (some_of (kept false) ls) ∙ free_left false ls ∙ sym (ap (some_of left) (candidates-lines P L out ls));
-    area = λ rs. ap after (prune-area place kept rs) ∙ area_of (area_by (kept true) rs) ∙ area_left rs ∙ sym (ap (some_of left) (candidates-area P L out rs));
-    areas = λ areas. ap after (prune-areas place kept areas) ∙ areas_of (some_of (area_by (kept true)) areas) ∙ areas_left areas ∙ sym (ap (some_of left) (candidates-areas P L out areas));
-    group = λ ss all. ap after (prune-group place kept ss) ∙ strokes-group Q M (some_of run ss) ∙ members_left ss all ∙ sym (ap (some_of left) (candidates-group P L out ss));
+    point = λ p. ap after (prune-point place kept p) ∙ strokes-point Q M (place p) ∙ sym (ap (some_of left) ((candidates_at P L out).point p));
+    points = λ ps. ap after (prune-points place kept ps) ∙ strokes-points Q M (map place ps) ∙ sym (ap (some_of left) ((candidates_at P L out).points ps));
+    line = λ l. ap after (prune-line place kept l) ∙ line_left (kept false l) ∙ sym (ap (some_of left) ((candidates_at P L out).line l));
+    lines = λ ls. ap after (prune-lines place kept ls) ∙ lines_of (some_of (kept false) ls) ∙ free_left false ls ∙ sym (ap (some_of left) ((candidates_at P L out).lines ls));
+    area = λ rs. ap after (prune-area place kept rs) ∙ area_of (area_by (kept true) rs) ∙ area_left rs ∙ sym (ap (some_of left) ((candidates_at P L out).area rs));
+    areas = λ areas. ap after (prune-areas place kept areas) ∙ areas_of (some_of (area_by (kept true)) areas) ∙ areas_left areas ∙ sym (ap (some_of left) ((candidates_at P L out).areas areas));
+    group = λ ss all. ap after (prune-group place kept ss) ∙ strokes-group Q M (some_of run ss) ∙ members_left ss all ∙ sym (ap (some_of left) ((candidates_at P L out).group ss));
   })
 
 -- ---- features and layers
@@ -220,26 +175,16 @@ parts_are : {A : Type 0} (whole : A → List (Candidate (List Point))) (lines : 
 parts_are whole lines are [] = refl
 parts_are whole lines are (a ∷ xs) = map-append stroke (whole a) (joined (map whole xs)) ∙ rw (are a, parts_are whole lines are xs) refl
 
-option_are : (why : List Point → Option Cause) (o : Option Shape) → map stroke (option_candidates why o) ≡ option_strokes o
-option_are why None = refl
-option_are why (Some s) = all_strokes why s
-
 -- the candidates of layers are their lines and rings
 pub named_are : (why : List Point → Option Cause) (ls : Named) → map stroke (named_candidates why ls) ≡ named_strokes ls
-named_are why =
-    parts_are (λ l. features_candidates why l.1.features) (λ l. features_strokes l.1.features)
-    (λ l. parts_are (λ (f : Featured). option_candidates why f.shape) (λ f. option_strokes f.shape) (λ f. option_are why f.shape) l.1.features)
+named_are why = grind (arith, parts_are, all_strokes)
 
 module _ (why : Bool → List Point → Option Cause) (given : Bool → List Point → List ℤ) where
   abbrev own : Bool → List Point → Option (List ℤ)
   own closed ps = unless (why closed ps) (given closed ps)
 
   own_matches : (ps : List Point) → Matches (why true ps) (own true ps)
-  own_matches ps = on (why true ps)
-    where
-      on : (w : Option Cause) → Matches w (unless w (given true ps))
-      on None = tt
-      on (Some c) = tt
+  own_matches ps = grind arith
 
   abbrev pub own_left : Candidate (List Point) → Option (Bool × List ℤ)
   own_left c = if_kept c.outer (map_some (λ refs. (c.closed, refs)) (unless (why c.closed c.line) (given c.closed c.line)))
@@ -258,5 +203,4 @@ module _ (why : Bool → List Point → Option Cause) (given : Bool → List Poi
 
   -- those that stay are the lines and rings of the objects
   pub objects_left : (ls : Named) → objects_strokes (objects_by own ls) ≡ some_of own_left (named_candidates (why true) ls)
-  objects_left =
-      parts_left (λ l. (l.0, Many (features_by own l.1.features))) (λ o. topo_strokes (object_features o.1)) (λ l. features_candidates (why true) l.1.features) (λ l. features_left l.1.features)
+  objects_left = grind (arith, parts_left, features_left)

@@ -1,5 +1,5 @@
 -- What is decoded of the topology that is built of layers is what is expected of it.
-use Rattle.std.proofs.Common.{◌≡◌, ◌≢◌, ℕ, bytes_eq, Bool, true, false, List, [], ◌∷◌, map, Option, None, Some, refl, ap, ◌∙◌, if◌then◌else◌}
+use Rattle.std.proofs.Common.{◌≡◌, ◌≢◌, ℕ, Bool, true, false, List, [], ◌∷◌, map, Option, None, Some, refl, ap, ◌∙◌, if◌then◌else◌, arith}
 use Rattle.std.specs.List.{AllByRecursion}
 use Rattle.std.proofs.lemmas.Slice.Eq.{bytes_eq-Decides}
 use Rattle.elimination_meaning.specs.Elimination.{reduced}
@@ -7,13 +7,13 @@ use Rattle.elimination_meaning.specs.Laws.{DirectionLaw}
 use Rattle.geojson_types.specs.declared.layer.FeatureSet.TheVariants as set
 use Rattle.geojson_types.specs.declared.layer.Layer.{Layer}
 use Rattle.geojson_types.specs.Features.{Shape, Featured}
-use Rattle.geojson_types.specs.Lists.{map_some, then_some}
-use Rattle.geojson_types.specs.Points.{Point}
-use Rattle.geojson_types.specs.Pruning.{prune, option_strokes}
-use Rattle.geojson_types.proofs.Agreement.{all_left, all_right, all_of_map, agreed}
-use Rattle.geojson_types.proofs.Composition.{composed}
+use Rattle.geometry.specs.Lists.{map_some, then_some}
+use Rattle.geometry.specs.Points.{Point}
+use Rattle.geometry.specs.Pruning.{prune, option_strokes}
+use Rattle.geometry.proofs.Agreement.{all_left, all_right, all_of_map, agreed}
+use Rattle.geometry.proofs.Composition.{composed}
 use Rattle.linework.specs.Linework.{linework}
-use Rattle.linework.specs.declared.stroke.Stroke.{Stroke}
+use Rattle.junctions.specs.declared.stroke.Stroke.{Stroke}
 use Rattle.topojson_types.specs.declared.object.TopoObject.TheVariants.{Many}
 use Rattle.topojson_types.specs.Decoding.{decoded_shape, decoded_feature, decoded_object, of_name, decoded}
 use Rattle.topojson_types.specs.Validity.{AreDistinct}
@@ -25,13 +25,12 @@ use Rattle.build_meaning.specs.Objects.{features_by, objects_by}
 use Rattle.build_meaning.proofs.DecodingLines.{back, line_back}
 use Rattle.build_meaning.proofs.Linework.{Line, StandsIn, each_stands, own_apart}
 use Rattle.build_meaning.proofs.Trimmed.{trimmed_decodes}
-use Rattle.build_meaning.proofs.Lists.{weaker, all_two, all_map}
+use Rattle.list_laws.proofs.Elements.{all_weaker, all_two, all_map}
 
 -- ---- names
 
 differ : (b : Bool) (P : Type 0) → (b ≡ true → P) → (P → ⊥) → b ≡ false
-differ true P h k = absurd (k (h refl))
-differ false P h k = refl
+differ b P h k = grind arith
 
 module _ {A V : Type 0} (value : A → V) where
   abbrev entries : List (List ℕ × A) → List (List ℕ × V)
@@ -41,9 +40,7 @@ module _ {A V : Type 0} (value : A → V) where
   IsFirst ms m = of_name m.0 (entries ms) ≡ Some (value m.1)
 
   past : (m : List ℕ × A) (ms : List (List ℕ × A)) (n : List ℕ × A) → m.0 ≢ n.0 → IsFirst ms n → IsFirst (m ∷ ms) n
-  past m ms n apart h =
-      let e : bytes_eq m.0 n.0 ≡ false = differ (bytes_eq m.0 n.0) (m.0 ≡ n.0) (bytes_eq-Decides m.0 n.0).0 apart in
-      ap (λ b. if b then Some (value m.1) else of_name n.0 (entries ms)) e ∙ h
+  past m ms n apart h = grind (arith, differ, bytes_eq-Decides)
 
   -- where no name stands twice, each names its own value
   pub by_name : (ms : List (List ℕ × A)) → AreDistinct (map (λ m. m.0) ms) → AllByRecursion (λ m. of_name m.0 (map (λ m. (m.0, value m.1)) ms) ≡ Some (value m.1)) ms
@@ -75,19 +72,14 @@ module _ (lines : List Stroke) (t : ℕ) where
 
   features_back : (fs : List Featured) → AllByRecursion Returns (features_strokes fs) → map (decoded_feature (λ p. p) arcs) (features_by (kept_refs lines t) fs) ≡ map (expected_feature lines t) fs
   features_back [] h = refl
-  features_back (f ∷ fs) h =
-      ap (λ g. g ∷ map (decoded_feature (λ p. p) arcs) (features_by (kept_refs lines t) fs)) (ap (with_shape f) (shape_back f.shape (all_left Returns (option_strokes f.shape) (features_strokes fs) h)))
-      ∙ ap (λ gs. expected_feature lines t f ∷ gs) (features_back fs (all_right Returns (option_strokes f.shape) (features_strokes fs) h))
+  features_back (f ∷ fs) h = search (shape_back, all_left, all_right, features_back fs (all_right Returns (option_strokes f.shape) (features_strokes fs) h))
 
   abbrev LayerReturns : List ℕ × Layer → Type 0
   LayerReturns l = map (decoded_feature (λ p. p) arcs) (features_by (kept_refs lines t) l.1.features) ≡ map (expected_feature lines t) l.1.features
 
   layers_back : (ls : Named) → AllByRecursion Returns (named_strokes ls) → AllByRecursion LayerReturns ls
   layers_back [] h = tt
-  layers_back (l ∷ ls) h = (
-    features_back l.1.features (all_left Returns (features_strokes l.1.features) (named_strokes ls) h),
-    layers_back ls (all_right Returns (features_strokes l.1.features) (named_strokes ls) h),
-  )
+  layers_back (l ∷ ls) h = search (features_back, all_left, all_right, layers_back ls (all_right Returns (features_strokes l.1.features) (named_strokes ls) h))
 
 -- ---- layers
 
@@ -103,7 +95,7 @@ untrimmed_decodes : DirectionLaw → (t : ℕ) (ls : Named) → AreSound ls → 
 unfolding decoded
 untrimmed_decodes law t ls sound distinct =
     let lines = lines_of ls in
-    let returns = weaker (StandsIn lines) (Returns lines t) (line_back law lines t (own_apart ls sound)) (named_strokes ls) (each_stands ls) in
+    let returns = all_weaker (StandsIn lines) (Returns lines t) (line_back law lines t (own_apart ls sound)) (named_strokes ls) (each_stands ls) in
     all_two (LayerReturns lines t) (λ l. of_name l.0 (objects_by (kept_refs lines t) ls) ≡ Some (Many (features_by (kept_refs lines t) l.1.features)))
     (λ l. decoded (untrimmed t ls) l.0 ≡ Some (set.Many (expected_of ls t l.1)))
     (λ l e n. ap (map_some (decoded_object (λ p. p) (arcs lines t))) n ∙ ap (λ fs. Some (set.Many fs)) e)
@@ -114,5 +106,5 @@ pub decodes_back : DirectionLaw → DecodesBack
 unfolding built expected
 decodes_back law t ls sound distinct =
     all_map (λ l. decoded (built t ls) l.0 ≡ Some (set.Many l.1.features)) (λ l. (l.0, record { features = expected_of ls t l.1 })) ls
-    (weaker (λ l. decoded (untrimmed t ls) l.0 ≡ Some (set.Many (expected_of ls t l.1))) (λ l. decoded (built t ls) l.0 ≡ Some (set.Many (expected_of ls t l.1)))
+    (all_weaker (λ l. decoded (untrimmed t ls) l.0 ≡ Some (set.Many (expected_of ls t l.1))) (λ l. decoded (built t ls) l.0 ≡ Some (set.Many (expected_of ls t l.1)))
     (λ l e. trimmed_decodes (untrimmed t ls) l.0 ∙ e) ls (untrimmed_decodes law t ls sound distinct))

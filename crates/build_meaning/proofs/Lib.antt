@@ -2,15 +2,14 @@ pub mod Candidates
 pub mod Decoding
 pub mod DecodingLines
 pub mod Linework
-pub mod Lists
 pub mod Once
 pub mod Renumbered
+mod Rows
 pub mod Strokes
 pub mod Trimmed
 pub mod Valid
 pub mod ValidEnds
 pub mod ValidIndexes
-pub mod ValidKinds
 pub mod ValidPositions
 pub mod ValidShapes
 pub mod ValidTrimmed

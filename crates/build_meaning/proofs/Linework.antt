@@ -1,5 +1,5 @@
 -- The linework of named layers: their lines and rings that aren't short, cleaned; and the pieces of these.
-use Rattle.std.proofs.Common.{◌≡◌, ℕ, suc, Bool, true, false, cond, not, List, [], ◌∷◌, ◌++◌, map, Option, None, Some, refl, ap, sym, ◌∙◌, subst, inl, inr}
+use Rattle.std.proofs.Common.{◌≡◌, ℕ, suc, Bool, true, false, cond, not, List, [], ◌∷◌, map, refl, ap, sym, subst, inl, inr, arith}
 use Rattle.std.proofs.lemmas.List.{map-append}
 use Rattle.std.specs.List.{AllByRecursion, filter}
 use Rattle.cutter.specs.Pieces.{pieces_of, pieces, split_at, start_in, turned}
@@ -7,21 +7,21 @@ use Rattle.cutter.specs.Places.{In, Apart, interior}
 use Rattle.cutter.specs.Slices.{split_of, piece_lists}
 use Rattle.cutter.proofs.OpenPieces.{in_flat}
 use Rattle.cutter.proofs.Structured.{structured}
-use Rattle.geojson_types.specs.declared.address.Address.{Address}
-use Rattle.geojson_types.specs.Features.{Shape, Featured}
-use Rattle.geojson_types.specs.Paths.{Placed}
-use Rattle.geojson_types.specs.Points.{Point}
-use Rattle.geojson_types.specs.Pruning.{option_strokes}
-use Rattle.linework.specs.Cleaning.{clean, is_short, IsCleanList, AllClean}
-use Rattle.linework.specs.Cuts.{is_cut}
-use Rattle.linework.specs.Linework.{stroke_at, feature_strokes, feature_address, option_placed, strokes_of_layer, strokes_of_layers, linework}
-use Rattle.linework.specs.declared.stroke.Stroke.{Stroke}
-use Rattle.linework.proofs.Cleaned.{clean_is_clean}
+use Rattle.geometry.specs.declared.address.Address.{Address}
+use Rattle.geojson_types.specs.Features.{Featured}
+use Rattle.geometry.specs.Paths.{Placed}
+use Rattle.geometry.specs.Points.{Point}
+use Rattle.geometry.specs.Pruning.{option_strokes}
+use Rattle.junctions.specs.Cleaning.{clean, is_short, IsCleanList, AllClean}
+use Rattle.junctions.specs.Cuts.{is_cut}
+use Rattle.linework.specs.Linework.{stroke_at, strokes_of_layer, strokes_of_layers, linework}
+use Rattle.junctions.specs.declared.stroke.Stroke.{Stroke}
+use Rattle.junctions.proofs.Cleaned.{clean_is_clean}
 use Rattle.linework.proofs.Placing.{told}
 use Rattle.build_meaning.specs.Expected.{own_pieces}
 use Rattle.build_meaning.specs.Laws.{IsRingIfClosed, IsSound, AreSound}
 use Rattle.build_meaning.specs.Layers.{Named, layers_of, features_strokes, named_strokes}
-use Rattle.build_meaning.proofs.Lists.{weaker, all_append}
+use Rattle.list_laws.proofs.Elements.{all_weaker, all_append}
 
 -- an open line (false) or a ring (true)
 abbrev pub Line : Type 0
@@ -52,43 +52,24 @@ placed_lines : (a : Address) (xs : List (Placed Line)) → map plain (map (strok
 placed_lines a [] = refl
 placed_lines a (x ∷ xs) = ap (λ l. clean_line x.part ∷ l) (placed_lines a xs)
 
-option_lines : (a : Address) (s : Option Shape) → map plain (map (stroke_at a) (option_placed s)) ≡ map clean_line (option_strokes s)
-option_lines a None = refl
-option_lines a (Some s) = placed_lines a (option_placed (Some s)) ∙ ap (map clean_line) (told s)
-
 features_lines : (layer feature : ℕ) (fs : List Featured) → map plain (strokes_of_layer layer feature fs) ≡ map clean_line (features_strokes fs)
 features_lines layer feature [] = refl
-features_lines layer feature (f ∷ fs) =
-    map-append plain (feature_strokes layer feature f) (strokes_of_layer layer (suc feature) fs)
-    ∙ ap (λ l. l ++ map plain (strokes_of_layer layer (suc feature) fs)) (option_lines (feature_address layer feature) f.shape)
-    ∙ ap (λ l. map clean_line (option_strokes f.shape) ++ l) (features_lines layer (suc feature) fs)
-    ∙ sym (map-append clean_line (option_strokes f.shape) (features_strokes fs))
+features_lines layer feature (f ∷ fs) = grind (arith, map-append, placed_lines, told, features_lines layer (suc feature) fs)
 
 layers_lines : (layer : ℕ) (ls : Named) → map plain (strokes_of_layers layer (layers_of ls)) ≡ map clean_line (named_strokes ls)
 layers_lines layer [] = refl
-layers_lines layer (l ∷ ls) =
-    map-append plain (strokes_of_layer layer 0 l.1.features) (strokes_of_layers (suc layer) (layers_of ls))
-    ∙ ap (λ m. m ++ map plain (strokes_of_layers (suc layer) (layers_of ls))) (features_lines layer 0 l.1.features)
-    ∙ ap (λ m. map clean_line (features_strokes l.1.features) ++ m) (layers_lines (suc layer) ls)
-    ∙ sym (map-append clean_line (features_strokes l.1.features) (named_strokes ls))
+layers_lines layer (l ∷ ls) = grind (arith, map-append, features_lines, layers_lines (suc layer) ls)
 
 -- filtered after and before
 filter_map : {A B : Type 0} (f : A → B) (t : B → Bool) (xs : List A) → map f (filter (λ x. t (f x)) xs) ≡ filter t (map f xs)
 filter_map f t [] = refl
-filter_map {A = A} f t (x ∷ xs) = on (t (f x)) (filter_map f t xs)
-  where
-    on : (b : Bool) → map f (filter (λ x. t (f x)) xs) ≡ filter t (map f xs)
-        → map f (cond b (x ∷ filter (λ x. t (f x)) xs) (filter (λ x. t (f x)) xs)) ≡ cond b (f x ∷ filter t (map f xs)) (filter t (map f xs))
-    on true ih = ap (λ l. f x ∷ l) ih
-    on false ih = ih
+filter_map {A = A} f t (x ∷ xs) = grind (arith, filter_map f t xs)
 
 -- the linework is the lines that aren't short, cleaned
 pub linework_lines : (ls : Named) → map plain (linework (layers_of ls)) ≡ map clean_line (long_strokes ls)
 unfolding linework
 linework_lines ls =
-    filter_map plain is_long (strokes_of_layers 0 (layers_of ls))
-    ∙ ap (filter is_long) (layers_lines 0 ls)
-    ∙ sym (filter_map clean_line is_long (named_strokes ls))
+    grind (arith, filter_map plain is_long (strokes_of_layers 0 (layers_of ls)), filter_map clean_line is_long (named_strokes ls), layers_lines 0 ls)
 
 -- ---- clean lines
 
@@ -106,12 +87,7 @@ IsCleanLine b = IsCleanList b.0 b.1
 
 long_clean : (bs : List Line) → AllByRecursion IsRingIfClosed bs → AllByRecursion IsCleanLine (map clean_line (long_of bs))
 long_clean [] h = tt
-long_clean (b ∷ bs) h = on (is_short b.0 (clean b.1)) refl (long_clean bs h.1)
-  where
-    on : (c : Bool) → is_short b.0 (clean b.1) ≡ c → AllByRecursion IsCleanLine (map clean_line (long_of bs))
-        → AllByRecursion IsCleanLine (map clean_line (cond (not c) (b ∷ long_of bs) (long_of bs)))
-    on true e ih = ih
-    on false e ih = (clean_is_clean b.0 b.1 h.0 e, ih)
+long_clean (b ∷ bs) h = grind (arith, clean_is_clean, long_clean bs h.1)
 
 all_clean_of : (ss : List Stroke) → AllByRecursion IsCleanLine (map plain ss) → AllClean ss
 all_clean_of [] h = tt
@@ -119,8 +95,7 @@ all_clean_of (s ∷ ss) h = (h.0, all_clean_of ss h.1)
 
 -- the linework is clean
 pub all_clean : (ls : Named) → AreSound ls → AllClean (linework (layers_of ls))
-all_clean ls h =
-    all_clean_of (linework (layers_of ls)) (subst (AllByRecursion IsCleanLine) (sym (linework_lines ls)) (long_clean (named_strokes ls) (named_rings ls h)))
+all_clean ls h = grind (arith, all_clean_of, linework_lines, long_clean, named_rings)
 
 -- ---- pieces
 
@@ -136,11 +111,6 @@ each_own : (lines : List Stroke) (bs : List Line) → map (plain_pieces lines) (
 each_own lines [] = refl
 each_own lines (b ∷ bs) = ap (λ l. own_pieces lines b.0 b.1 ∷ l) (each_own lines bs)
 
--- the pieces of each line of the linework
-pub own_lists : (lines : List Stroke) (ls : Named) → map (pieces_of lines) (linework (layers_of ls)) ≡ map (λ b. own_pieces lines b.0 b.1) (long_strokes ls)
-own_lists lines ls =
-    each_plain lines (linework (layers_of ls)) ∙ ap (map (plain_pieces lines)) (linework_lines ls) ∙ each_own lines (long_strokes ls)
-
 each_split : (lines ms : List Stroke) → piece_lists (map (split_of lines) ms) ≡ map (pieces_of lines) ms
 each_split lines [] = refl
 each_split lines (s ∷ ms) = ap (λ l. pieces_of lines s ∷ l) (each_split lines ms)
@@ -148,7 +118,7 @@ each_split lines (s ∷ ms) = ap (λ l. pieces_of lines s ∷ l) (each_split lin
 -- the same in the words of the cut lines
 pub split_lists : (ls : Named) → piece_lists (map (split_of (linework (layers_of ls))) (linework (layers_of ls)))
     ≡ map (λ b. own_pieces (linework (layers_of ls)) b.0 b.1) (long_strokes ls)
-split_lists ls = each_split (linework (layers_of ls)) (linework (layers_of ls)) ∙ own_lists (linework (layers_of ls)) ls
+split_lists ls = grind (arith, each_split, each_plain, linework_lines, each_own)
 
 -- ---- each line that isn't short stands in the linework
 
@@ -170,16 +140,11 @@ kept bs = map clean_line (long_of bs)
 
 each_long : (bs : List Line) → AllByRecursion (IsLongIn (kept bs)) bs
 each_long [] = tt
-each_long (b ∷ bs) = on (is_short b.0 (clean b.1)) refl (each_long bs)
-  where
-    on : (c : Bool) → is_short b.0 (clean b.1) ≡ c → AllByRecursion (IsLongIn (kept bs)) bs
-        → AllByRecursion (IsLongIn (map clean_line (cond (not c) (b ∷ long_of bs) (long_of bs)))) (b ∷ bs)
-    on true e ih = ((λ k. let z : true ≡ false = sym e ∙ k in cc), ih)
-    on false e ih = ((λ k. inl refl), weaker (IsLongIn (kept bs)) (IsLongIn (clean_line b ∷ kept bs)) (λ x k l. inr (k l)) bs ih)
+each_long (b ∷ bs) = grind (arith, all_weaker, each_long bs)
 
 pub each_stands : (ls : Named) → AllByRecursion (StandsIn (linework (layers_of ls))) (named_strokes ls)
 each_stands ls =
-    weaker (IsLongIn (kept (named_strokes ls))) (StandsIn (linework (layers_of ls)))
+    all_weaker (IsLongIn (kept (named_strokes ls))) (StandsIn (linework (layers_of ls)))
     (λ b k l. in_plain (linework (layers_of ls)) (clean_line b) (subst (In (clean_line b)) (sym (linework_lines ls)) (k l)))
     (named_strokes ls) (each_long (named_strokes ls))
 

@@ -10,8 +10,8 @@ use Rattle.cutter.specs.Slices.{split_of, all_pieces}
 use Rattle.cutter.proofs.Joins.{same_times}
 use Rattle.cutter.proofs.Structured.{structured}
 use Rattle.cutter.proofs.Words.{sharers, segments_once}
-use Rattle.linework.specs.Cleaning.{AllClean}
-use Rattle.linework.specs.declared.stroke.Stroke.{Stroke}
+use Rattle.junctions.specs.Cleaning.{AllClean}
+use Rattle.junctions.specs.declared.stroke.Stroke.{Stroke}
 
 pub same_pieces : (ls ms : List Stroke) → all_pieces (map (split_of ls) ms) ≡ flat_map (pieces_of ls) ms
 same_pieces ls [] = refl

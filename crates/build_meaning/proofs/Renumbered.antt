@@ -1,9 +1,9 @@
 -- Objects made of layers and then renumbered are made of the layers at once, and the topology that is built has no transform.
-use Rattle.std.proofs.Common.{◌≡◌, ℕ, Bool, List, [], ◌∷◌, map, Option, None, Some, refl}
+use Rattle.std.proofs.Common.{◌≡◌, ℕ, Bool, List, [], ◌∷◌, map, Option, None, refl, arith}
 use Rattle.geojson_types.specs.Features.{Shape, Featured}
-use Rattle.geojson_types.specs.Lists.{then_some}
-use Rattle.geojson_types.specs.Pruning.{prune}
-use Rattle.geojson_types.proofs.Composition.{composed}
+use Rattle.geometry.specs.Lists.{then_some}
+use Rattle.geometry.specs.Pruning.{prune}
+use Rattle.geometry.proofs.Composition.{composed}
 use Rattle.build_meaning.specs.Built.{untrimmed, built, kept_refs}
 use Rattle.build_meaning.specs.Layers.{Named, layers_of}
 use Rattle.build_meaning.specs.Objects.{Kept, features_by, objects_by}
@@ -16,12 +16,11 @@ module _ (used : ℕ → Bool) (kept : Kept) where
   kept_renumbered closed ps = then_some (line_renumbered used closed) (kept closed ps)
 
   shape_once : (s : Option Shape) → then_some (prune (λ p. p) (line_renumbered used)) (then_some (prune (λ p. p) kept) s) ≡ then_some (prune (λ p. p) kept_renumbered) s
-  shape_once None = refl
-  shape_once (Some s) = composed (λ p. p) (λ p. p) kept (line_renumbered used) s
+  shape_once s = grind (arith, composed)
 
   features_once : (fs : List Featured) → map (feature_renumbered used) (features_by kept fs) ≡ features_by kept_renumbered fs
   features_once [] = refl
-  features_once (f ∷ fs) = rw (shape_once f.shape, features_once fs) refl
+  features_once (f ∷ fs) = grind (arith, composed, features_once fs)
 
   pub objects_once : (ls : Named) → map (λ o. (o.0, object_renumbered used o.1)) (objects_by kept ls) ≡ objects_by kept_renumbered ls
   objects_once [] = refl

@@ -1,11 +1,11 @@
 -- The lines and rings of a shape of which some are left out are among what is given for its lines and rings.
-use Rattle.std.proofs.Common.{◌≡◌, Bool, true, List, [], ◌∷◌, map, Option, None, Some, refl, sym, subst}
+use Rattle.std.proofs.Common.{◌≡◌, Bool, true, List, [], ◌∷◌, map, Option, None, Some, sym, subst, arith}
 use Rattle.std.specs.List.{AllByRecursion}
-use Rattle.geojson_types.specs.declared.address.Cause.{Cause}
-use Rattle.geojson_types.specs.declared.address.Cause.TheVariants.{Collapsed}
-use Rattle.geojson_types.specs.declared.geometry.Geometry.{Geometry}
-use Rattle.geojson_types.specs.Lists.{map_some, then_some, with_some, some_of}
-use Rattle.geojson_types.specs.Pruning.{prune, strokes, option_strokes}
+use Rattle.geometry.specs.declared.address.Cause.{Cause}
+use Rattle.geometry.specs.declared.address.Cause.TheVariants.{Collapsed}
+use Rattle.geometry.specs.declared.shape.Geometry.{Geometry}
+use Rattle.geometry.specs.Lists.{map_some, then_some, some_of}
+use Rattle.geometry.specs.Pruning.{prune, strokes, option_strokes}
 use Rattle.build_meaning.specs.Candidates.{Candidate, candidates, if_kept}
 use Rattle.build_meaning.proofs.Candidates.{Matches, all_strokes, stroke}
 use Rattle.build_meaning.proofs.Candidates as candidate
@@ -21,8 +21,7 @@ module _ {P Q L M : Type 0} (place : P → Q) (kept : Bool → L → Option M) (
   cause_of (Some m) = None
 
   matching : (o : Option M) → Matches (cause_of o) o
-  matching None = tt
-  matching (Some m) = tt
+  matching o = grind arith
 
   abbrev out : L → Option Cause
   out l = cause_of (kept true l)
@@ -32,13 +31,7 @@ module _ {P Q L M : Type 0} (place : P → Q) (kept : Bool → L → Option M) (
 
   each_left : (cs : List (Candidate L)) → AllByRecursion Gives (map stroke cs) → AllByRecursion X (some_of left cs)
   each_left [] h = tt
-  each_left (c ∷ cs) h = on c.outer (kept c.closed c.line) h.0 (each_left cs h.1)
-    where
-      on : (o : Option Cause) (k : Option M) → ((m : M) → k ≡ Some m → X (c.closed, m)) → AllByRecursion X (some_of left cs)
-          → AllByRecursion X (with_some (if_kept o (map_some (λ m. (c.closed, m)) k)) (some_of left cs))
-      on None None gives ih = ih
-      on None (Some m) gives ih = (gives m refl, ih)
-      on (Some d) k gives ih = ih
+  each_left (c ∷ cs) h = grind (arith, each_left cs h.1)
 
   pub strokes_left : (s : Geometry P L L) → AllByRecursion Gives (strokes s) → AllByRecursion X (option_strokes (prune place kept s))
   strokes_left s h =
@@ -47,5 +40,4 @@ module _ {P Q L M : Type 0} (place : P → Q) (kept : Bool → L → Option M) (
 
   -- so it is with a shape that may be null
   pub option_left : (o : Option (Geometry P L L)) → AllByRecursion Gives (option_strokes o) → AllByRecursion X (option_strokes (then_some (prune place kept) o))
-  option_left None h = tt
-  option_left (Some s) h = strokes_left s h
+  option_left o h = grind (arith, strokes_left)

@@ -1,5 +1,5 @@
 -- The topology that is built of layers is valid.
-use Rattle.std.proofs.Common.{◌≡◌, ℕ, ◌≤◌, ℤ, Bool, true, false, List, [], ◌∷◌, map, length, Option, None, Some, refl, sym, ap, ◌∙◌, subst, if◌then◌else◌}
+use Rattle.std.proofs.Common.{◌≡◌, ℕ, ◌≤◌, ℤ, Bool, true, false, List, [], ◌∷◌, map, length, Option, None, Some, refl, sym, ap, ◌∙◌, subst, if◌then◌else◌, arith}
 use Rattle.std.proofs.lemmas.List.{length-map}
 use Rattle.std.specs.List.{AllByRecursion}
 use Rattle.arc_table.specs.Arcs.{index_in}
@@ -8,20 +8,20 @@ use Rattle.cutter.specs.Places.{In}
 use Rattle.elimination_meaning.specs.Elimination.{reduced}
 use Rattle.elimination_meaning.specs.Laws.{EndsStay, NoneIsNew}
 use Rattle.elimination_meaning.proofs.Sublists.{sub_all}
-use Rattle.geojson_types.specs.declared.address.Cause.TheVariants.{Collapsed, Small}
+use Rattle.geometry.specs.declared.address.Cause.TheVariants.{Collapsed, Small}
 use Rattle.geojson_types.specs.Features.{Shape, Featured, is_some_list, is_proper_option}
-use Rattle.geojson_types.specs.Lists.{then_some}
+use Rattle.geometry.specs.Lists.{then_some}
 use Rattle.geojson_types.specs.Places.{option_points}
-use Rattle.geojson_types.specs.Points.{Point, IsPosition}
-use Rattle.geojson_types.specs.Pruning.{prune, option_strokes}
-use Rattle.geojson_types.proofs.Agreement.{all_left, all_right}
-use Rattle.geojson_types.proofs.Composition.{composed}
-use Rattle.linework.specs.Cleaning.{clean, is_short, AllClean}
-use Rattle.linework.specs.Cuts.{is_cut}
+use Rattle.geometry.specs.Points.{Point, IsPosition}
+use Rattle.geometry.specs.Pruning.{prune, option_strokes}
+use Rattle.geometry.proofs.Agreement.{all_left, all_right}
+use Rattle.geometry.proofs.Composition.{composed}
+use Rattle.junctions.specs.Cleaning.{clean, is_short, AllClean}
+use Rattle.junctions.specs.Cuts.{is_cut}
 use Rattle.linework.specs.Linework.{linework}
-use Rattle.linework.specs.declared.stroke.Stroke.{Stroke}
+use Rattle.junctions.specs.declared.stroke.Stroke.{Stroke}
 use Rattle.topojson_types.specs.declared.object.TopoObject.{TopoObject}
-use Rattle.topojson_types.specs.Joins.{arc_at, Meet, Closes}
+use Rattle.geometry.specs.Joins.{arc_at}
 use Rattle.topojson_types.specs.Topologies.{objects_strokes}
 use Rattle.topojson_types.specs.Topologies as topology
 use Rattle.topojson_types.specs.Validity.{is_full_option, option_places, IsFeature, IsObject, AreDistinct, AreInRange, IsJoined, IsClosed, IsArc, IsTopology}
@@ -29,10 +29,9 @@ use Rattle.build_meaning.specs.Built.{all_arcs, kept_refs, built}
 use Rattle.build_meaning.specs.Expected.{unless, own_pieces, is_small}
 use Rattle.build_meaning.specs.Laws.{IsSound, AreSound, IsValid, EachSegmentOnce}
 use Rattle.build_meaning.specs.Layers.{Named, names_of, layers_of, features_strokes, named_strokes}
-use Rattle.build_meaning.specs.Objects.{Kept, feature_by, features_by, objects_by}
+use Rattle.build_meaning.specs.Objects.{Kept, features_by, objects_by}
 use Rattle.build_meaning.specs.Trimming.{is_used, keep_from, renumbered, line_renumbered, feature_renumbered, object_renumbered, trimmed}
 use Rattle.build_meaning.proofs.ValidEnds.{SameEnds, ends_kept, named_ends, meet_as, close_as}
-use Rattle.build_meaning.proofs.Lists.{weaker, all_two, all_append, all_map}
 use Rattle.build_meaning.proofs.ValidShapes.{places_stay, made_full}
 use Rattle.build_meaning.proofs.ValidIndexes.{arcs_long, ranged, met, closed}
 use Rattle.build_meaning.proofs.Linework.{StandsIn, plain, clean_line, all_clean, each_stands}
@@ -41,6 +40,7 @@ use Rattle.build_meaning.proofs.ValidPositions.{arcs_placed}
 use Rattle.build_meaning.proofs.Trimmed.{IsUsed, all_renumbered, all_used}
 use Rattle.build_meaning.proofs.ValidTrimmed.{all_kept, all_below, of_objects}
 use Rattle.build_meaning.proofs.Strokes.{option_left}
+use Rattle.list_laws.proofs.Elements.{all_weaker, all_two, all_append, all_map}
 
 -- ---- names
 
@@ -93,16 +93,12 @@ module _ (kept : Kept) (X : Bool × List ℤ → Type 0) where
   features_left : (fs : List Featured) → AllByRecursion Gives (features_strokes fs) → AllByRecursion X (topology.features_strokes (features_by kept fs))
   features_left [] h = tt
   features_left (f ∷ fs) h =
-      all_append X (option_strokes (feature_by kept f).shape) (topology.features_strokes (features_by kept fs))
-      (option_left (λ p. p) kept X f.shape (all_left Gives (option_strokes f.shape) (features_strokes fs) h))
-      (features_left fs (all_right Gives (option_strokes f.shape) (features_strokes fs) h))
+      search (all_append, option_left, all_left, all_right, features_left fs (all_right Gives (option_strokes f.shape) (features_strokes fs) h))
 
   objects_left : (ls : Named) → AllByRecursion Gives (named_strokes ls) → AllByRecursion X (objects_strokes (objects_by kept ls))
   objects_left [] h = tt
   objects_left (l ∷ ls) h =
-      all_append X (topology.features_strokes (features_by kept l.1.features)) (objects_strokes (objects_by kept ls))
-      (features_left l.1.features (all_left Gives (features_strokes l.1.features) (named_strokes ls) h))
-      (objects_left ls (all_right Gives (features_strokes l.1.features) (named_strokes ls) h))
+      grind (arith, all_append, features_left, all_left, all_right, objects_left ls (all_right Gives (features_strokes l.1.features) (named_strokes ls) h))
 
 -- ---- kept lines
 
@@ -137,7 +133,7 @@ module _ (lines : List Stroke) (t : ℕ) where
     plain_pieces b = split_at (is_cut lines) (if b.0 then turned (start_in (is_cut lines) b.1) b.1 else b.1)
 
     same_ends : (r : ℤ) → SameEnds (arc_at fewer r) (arc_at arcs r)
-    same_ends = named_ends (reduced t) arcs (weaker (λ x. 2 ≤ length x) (λ x. SameEnds (reduced t x) x) (λ x h. (ends_kept stay t x h).0) arcs (arcs_long lines cleaned))
+    same_ends = named_ends (reduced t) arcs (all_weaker (λ x. 2 ≤ length x) (λ x. SameEnds (reduced t x) x) (λ x h. (ends_kept stay t x h).0) arcs (arcs_long lines cleaned))
 
     stroke_fine : (s : Stroke) → In s lines → IsFine fewer (s.closed, map (index_in arcs) (pieces_of lines s))
     stroke_fine s k = (
@@ -150,13 +146,7 @@ module _ (lines : List Stroke) (t : ℕ) where
     line_fine b r = subst (λ x. IsFine fewer (x.0, map (index_in arcs) (plain_pieces x))) r.2 (stroke_fine r.0 r.1)
 
     kept_fine : (b : Bool × List Point) → StandsIn lines b → (m : List ℤ) → kept_refs lines t b.0 b.1 ≡ Some m → IsFine fewer (b.0, m)
-    kept_fine b stands m e = on (is_short b.0 (clean b.1)) (is_small b.0 (rejoined (map (reduced t) (own_pieces lines b.0 b.1)))) refl e
-      where
-        on : (c d : Bool) → is_short b.0 (clean b.1) ≡ c
-            → unless (if c then Some Collapsed else (if d then Some Small else None)) (map (index_in arcs) (own_pieces lines b.0 b.1)) ≡ Some m → IsFine fewer (b.0, m)
-        on true d k h = cc
-        on false true k h = cc
-        on false false k h = subst (λ z. IsFine fewer (b.0, z)) (ap (or_else m) h) (line_fine b (stands k))
+    kept_fine b stands m e = grind (arith, line_fine b)
 
 -- ---- topologies
 
@@ -185,14 +175,10 @@ module _ (stay : EndsStay) (none : NoneIsNew) (t : ℕ) (ls : Named) (sound : Ar
   before_fine : AllByRecursion (IsFine all_fewer) (objects_strokes objects_of)
   before_fine =
       objects_left (kept_refs lines t) (IsFine all_fewer) ls
-      (weaker (StandsIn lines) (λ b. (m : List ℤ) → kept_refs lines t b.0 b.1 ≡ Some m → IsFine all_fewer (b.0, m)) (kept_fine lines t stay (all_clean ls sound)) (named_strokes ls) (each_stands ls))
+      (all_weaker (StandsIn lines) (λ b. (m : List ℤ) → kept_refs lines t b.0 b.1 ≡ Some m → IsFine all_fewer (b.0, m)) (kept_fine lines t stay (all_clean ls sound)) (named_strokes ls) (each_stands ls))
 
   still_fine : (b : Bool × List ℤ) → IsFine all_fewer b → AllByRecursion (IsUsed used) b.1 → IsFine left (b.0, map (renumbered used) b.1)
-  still_fine b h k = (
-    all_below used all_fewer b.1 k h.0,
-    subst Meet (sym (all_renumbered used all_fewer b.1 k)) h.1,
-    λ c. subst Closes (sym (all_renumbered used all_fewer b.1 k)) (h.2 c),
-  )
+  still_fine b h k = grind (arith, all_below used all_fewer b.1 k h.0, all_renumbered used all_fewer b.1 k)
 
   all_fine : AllByRecursion (IsFine left) (objects_strokes (now used objects_of))
   all_fine =
@@ -201,15 +187,7 @@ module _ (stay : EndsStay) (none : NoneIsNew) (t : ℕ) (ls : Named) (sound : Ar
 
   valid : AreDistinct (names_of ls) → IsTopology (built t ls)
   unfolding built trimmed
-  valid distinct = record {
-    names = subst AreDistinct (sym (names_stay used (kept_refs lines t) ls)) distinct;
-    transform = tt;
-    objects = objects_are (kept_refs lines t) used (some_kept lines t) ls sound;
-    arcs = all_kept (IsArc None) used 0 all_fewer fewer_are_arcs;
-    ranged = weaker (IsFine left) (λ b. AreInRange (length left) b.1) (λ b h. h.0) (objects_strokes (now used objects_of)) all_fine;
-    joined = weaker (IsFine left) (IsJoined left) (λ b h. h.1) (objects_strokes (now used objects_of)) all_fine;
-    closed = weaker (IsFine left) (IsClosed left) (λ b h. h.2) (objects_strokes (now used objects_of)) all_fine;
-  }
+  valid distinct = grind (arith, names_stay, objects_are, some_kept, all_kept, fewer_are_arcs, all_weaker, all_fine)
 
 pub is_valid : EndsStay → NoneIsNew → IsValid
 is_valid stay none t ls sound distinct = valid stay none t ls sound distinct

@@ -5,19 +5,19 @@ use Rattle.std.specs.List.{AllByRecursion}
 use Rattle.std.specs.Prelude.{ℤ, pos, negsuc}
 use Rattle.elimination_meaning.specs.Elimination.{reduced}
 use Rattle.elimination_meaning.specs.Laws.{EndsStay}
-use Rattle.geojson_types.specs.Points.{Point}
-use Rattle.topojson_types.specs.Joins.{at, or_empty, arc_at, first_of, last_of, Meet, Closes}
+use Rattle.geometry.specs.Points.{Point}
+use Rattle.geometry.specs.Joins.{at, or_empty, arc_at, first_of, last_of, Meet, Closes}
 
 -- they begin at the same position and end at the same
 abbrev pub SameEnds : List Point → List Point → Type 0
 SameEnds x y = (first_of x ≡ first_of y) × (last_of x ≡ last_of y)
 
-last_end : (ps : List Point) (q : Point) → last_of (ps ++ (q ∷ [])) ≡ Some q
+pub last_end : {X : Type 0} (ps : List X) (q : X) → last_of (ps ++ (q ∷ [])) ≡ Some q
 last_end [] q = refl
 last_end (p ∷ []) q = refl
 last_end (p ∷ (r ∷ ps)) q = last_end (r ∷ ps) q
 
-split_last : (q : Point) (ps : List Point) → (between : List Point) × (l : Point) × (q ∷ ps ≡ between ++ (l ∷ []))
+pub split_last : (q : Point) (ps : List Point) → (between : List Point) × (l : Point) × (q ∷ ps ≡ between ++ (l ∷ []))
 split_last q [] = ([], q, refl)
 split_last q (r ∷ ps) = let k = split_last r ps in (q ∷ k.0, k.1, ap (λ xs. q ∷ xs) k.2)
 
@@ -44,11 +44,11 @@ module _ (stay : EndsStay) (t : ℕ) where
 
 -- ---- in either direction
 
-last_reverse : (x : List Point) → last_of (reverse x) ≡ first_of x
+pub last_reverse : (x : List Point) → last_of (reverse x) ≡ first_of x
 last_reverse [] = refl
 last_reverse (p ∷ ps) = ap last_of (reverse-append (p ∷ []) ps) ∙ last_end (reverse ps) p
 
-first_reverse : (x : List Point) → first_of (reverse x) ≡ last_of x
+pub first_reverse : (x : List Point) → first_of (reverse x) ≡ last_of x
 first_reverse x = sym (last_reverse (reverse x)) ∙ ap last_of (reverse-reverse x)
 
 at_ends : (f : List Point → List Point) (arcs : List (List Point)) → AllByRecursion (λ x. SameEnds (f x) x) arcs → (i : ℕ) → SameEnds (or_empty (at (map f arcs) i)) (or_empty (at arcs i))

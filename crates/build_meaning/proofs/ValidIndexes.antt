@@ -1,5 +1,5 @@
 -- The arcs of lines, and the indexes of one of the lines: they are in range, their arcs meet, and those of a ring close.
-use Rattle.std.proofs.Common.{◌≡◌, ◌<◌, ◌≤◌, Bool, true, List, [], ◌∷◌, map, length, refl, ap, sym, ◌∙◌, subst, inl, inr}
+use Rattle.std.proofs.Common.{◌≡◌, ◌<◌, ◌≤◌, true, List, [], ◌∷◌, map, length, ap, sym, ◌∙◌, subst, inl, inr, arith}
 use Rattle.std.specs.List.{AllByRecursion}
 use Rattle.std.specs.Prelude.{ℤ}
 use Rattle.arc_table.specs.Arcs.{arcs_of, index_in}
@@ -9,37 +9,27 @@ use Rattle.arc_table.proofs.Growth.{map_same}
 use Rattle.arc_table.proofs.Indexes.{index_is, named_is, named_all}
 use Rattle.arc_table.proofs.Rejoining.{pieces_meet, rings_close}
 use Rattle.cutter.specs.Pieces.{pieces_of, pieces}
-use Rattle.cutter.specs.Pieces as pieces
 use Rattle.cutter.specs.Segments.{segments}
 use Rattle.cutter.specs.Slices.{IsSplit, started, split_of, strokes}
 use Rattle.cutter.specs.Structure.{PiecesAreLong}
 use Rattle.cutter.proofs.CleanStarts.{clean_starts}
 use Rattle.cutter.proofs.Joins.{stroke_split}
 use Rattle.cutter.proofs.OpenPieces.{in_flat}
-use Rattle.cutter.proofs.Structured.{structured, clean_in, in_append}
+use Rattle.cutter.proofs.Structured.{structured, clean_in}
+use Rattle.list_laws.proofs.Members.{in_append}
 use Rattle.geojson_types.specs.Features.{is_some_list}
-use Rattle.geojson_types.specs.Points.{Point}
-use Rattle.linework.specs.Among.{In}
-use Rattle.linework.specs.Cleaning.{IsCleanList, IsClean, AllClean}
-use Rattle.linework.specs.Cuts.{is_cut}
-use Rattle.linework.specs.declared.stroke.Stroke.{Stroke}
-use Rattle.topojson_types.specs.Joins.{number_of, arc_at, Meet, Closes}
-use Rattle.build_meaning.proofs.Lists.{all_of}
-
-some_pieces : (f : List Point → ℤ) (xs : List (List Point)) (closed : Bool) (ps : List Point) → pieces.rejoined xs ≡ ps → IsCleanList closed ps → is_some_list (map f xs) ≡ true
-some_pieces f xs closed [] e c = elim c [ ]
-some_pieces f xs closed (p ∷ []) e c = elim c [ ]
-some_pieces f [] closed (p ∷ (q ∷ ps)) e c = cc
-some_pieces f (x ∷ xs) closed (p ∷ (q ∷ ps)) e c = refl
+use Rattle.geometry.specs.Points.{Point}
+use Rattle.junctions.specs.Among.{In}
+use Rattle.junctions.specs.Cleaning.{IsClean, AllClean}
+use Rattle.junctions.specs.Cuts.{is_cut}
+use Rattle.junctions.specs.declared.stroke.Stroke.{Stroke}
+use Rattle.geometry.specs.Joins.{number_of, arc_at, Meet, Closes}
+use Rattle.list_laws.proofs.Elements.{all_of, all_made}
 
 started_clean : (lines : List Stroke) (s : Stroke) (ms : List Stroke) → AllClean (strokes (map (split_of lines) ms)) → In s ms → IsClean (started (is_cut lines) s)
 started_clean lines s [] h k = elim k [ ]
 started_clean lines s (m ∷ ms) h (inl e) = subst (λ z. IsClean (started (is_cut lines) z)) (sym e) h.0
 started_clean lines s (m ∷ ms) h (inr k) = started_clean lines s ms h.1 k
-
-all_indexes : {A B : Type 0} (X : B → Type 0) (f : A → B) (xs : List A) → ((x : A) → In x xs → X (f x)) → AllByRecursion X (map f xs)
-all_indexes X f [] h = tt
-all_indexes X f (x ∷ xs) h = (h x (inl refl), all_indexes X f xs (λ y k. h y (inr k)))
 
 module _ (lines : List Stroke) (clean : AllClean lines) where
   abbrev arcs : List (List Point)
@@ -75,7 +65,7 @@ module _ (lines : List Stroke) (clean : AllClean lines) where
 
     pub ranged : AllByRecursion (λ r. number_of r < length (arcs_of (pieces lines))) (map (index_in (arcs_of (pieces lines))) (pieces_of lines s))
     ranged =
-        all_indexes (λ r. number_of r < length arcs) index (pieces_of lines s)
+        all_made (λ r. number_of r < length arcs) index (pieces_of lines s)
         (λ x m. subst (λ z. number_of z < length arcs) (sym (piece_index x (inside x m))) (named_is arcs x (piece_has_alike x (pieces lines) (inside x m))).1)
 
     pub met : Meet (map (arc_at (arcs_of (pieces lines))) (map (index_in (arcs_of (pieces lines))) (pieces_of lines s)))
@@ -88,4 +78,4 @@ module _ (lines : List Stroke) (clean : AllClean lines) where
         (split, tt) (begun, tt) (ap (λ xs. xs ∷ []) named)).0
 
     pub some : is_some_list (map (index_in (arcs_of (pieces lines))) (pieces_of lines s)) ≡ true
-    some = some_pieces index (pieces_of lines s) s.closed (started (is_cut lines) s).positions split.joins begun
+    some = grind (arith, closed, split.joins, begun)

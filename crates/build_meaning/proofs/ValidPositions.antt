@@ -1,22 +1,21 @@
 -- Each position of an arc is a position of the layers.
-use Rattle.std.proofs.Common.{ℕ, ◌+◌, Bool, true, false, List, [], ◌∷◌, drop, take}
+use Rattle.std.proofs.Common.{ℕ, ◌+◌, Bool, List, [], ◌∷◌, drop, take, arith}
 use Rattle.std.specs.List.{AllByRecursion}
 use Rattle.arc_table.specs.Arcs.{arcs_of}
 use Rattle.arc_table.proofs.Alike.{arc_is_piece}
-use Rattle.cutter.specs.Pieces.{joined, pieces_from, split_at, start_in, turned, from_start, pieces_of, pieces}
+use Rattle.cutter.specs.Pieces.{joined, pieces_from, split_at, turned, from_start, pieces_of, pieces}
 use Rattle.cutter.proofs.Structured.{from_flat}
-use Rattle.geojson_types.specs.declared.address.Address.{Address}
+use Rattle.geometry.specs.declared.address.Address.{Address}
 use Rattle.geojson_types.specs.Features.{Featured}
 use Rattle.geojson_types.specs.Places.{option_points, features_points}
-use Rattle.geojson_types.specs.Points.{Point, IsPosition}
-use Rattle.linework.specs.Cuts.{is_cut}
+use Rattle.geometry.specs.Points.{Point, IsPosition}
 use Rattle.linework.specs.Laws.{layers_points}
 use Rattle.linework.specs.Linework.{linework}
-use Rattle.linework.specs.declared.stroke.Stroke.{Stroke}
+use Rattle.junctions.specs.declared.stroke.Stroke.{Stroke}
 use Rattle.linework.proofs.Positions.{none_is_new}
 use Rattle.build_meaning.specs.Laws.{IsSound, AreSound}
 use Rattle.build_meaning.specs.Layers.{Named, layers_of}
-use Rattle.build_meaning.proofs.Lists.{all_append, all_drop, all_take, all_of, each_of}
+use Rattle.list_laws.proofs.Elements.{all_append, all_of, each_of, all_drop, all_take}
 
 -- ---- pieces of a line
 
@@ -25,17 +24,14 @@ module _ (X : Point → Type 0) where
   Have xs = AllByRecursion (λ x. AllByRecursion X x) xs
 
   all_joined : (b : Bool) (p q : Point) (xs : List (List Point)) → X p → X q → Have xs → Have (joined b p q xs)
-  all_joined true p q xs h k all = ((h, (k, tt)), all)
-  all_joined false p q [] h k all = ((h, (k, tt)), tt)
-  all_joined false p q (x ∷ xs) h k all = ((h, all.0), all.1)
+  all_joined b p q xs h k m = grind arith
 
   all_from : (cut : Point → Bool) (p : Point) (ps : List Point) → X p → AllByRecursion X ps → Have (pieces_from cut p ps)
   all_from cut p [] h k = tt
   all_from cut p (q ∷ ps) h k = all_joined (cut q) p q (pieces_from cut q ps) h k.0 (all_from cut q ps k.0 k.1)
 
   all_split : (cut : Point → Bool) (ps : List Point) → AllByRecursion X ps → Have (split_at cut ps)
-  all_split cut [] h = tt
-  all_split cut (p ∷ ps) h = all_from cut p ps h.0 h.1
+  all_split cut ps h = grind (arith, all_from)
 
   all_turned : (k : ℕ) (ps : List Point) → AllByRecursion X ps → AllByRecursion X (turned k ps)
   all_turned k ps h = all_append X (drop k ps) (drop 1 (take (k + 1) ps)) (all_drop X k ps h) (all_drop X 1 (take (k + 1) ps) (all_take X (k + 1) ps h))
@@ -44,11 +40,10 @@ module _ (X : Point → Type 0) where
   line at closed ps = record { address = at; closed = closed; positions = ps }
 
   all_started : (cut : Point → Bool) (at : Address) (closed : Bool) (ps : List Point) → AllByRecursion X ps → AllByRecursion X (from_start cut (line at closed ps))
-  all_started cut at true ps h = all_turned (start_in cut ps) ps h
-  all_started cut at false ps h = h
+  all_started cut at closed ps h = grind (arith, all_append, all_drop, all_take)
 
   pub all_pieces_of : (lines : List Stroke) (s : Stroke) → AllByRecursion X s.positions → AllByRecursion (λ x. AllByRecursion X x) (pieces_of lines s)
-  all_pieces_of lines s h = all_split (is_cut lines) (from_start (is_cut lines) s) (all_started (is_cut lines) s.address s.closed s.positions h)
+  all_pieces_of lines s h = grind (arith, all_split, all_turned)
 
 -- ---- positions of layers
 

@@ -1,5 +1,5 @@
 -- At a threshold of zero what is expected of a line is the line.
-use Rattle.std.proofs.Common.{◌≡◌, nat_lt, Bool, true, false, cond, List, [], ◌∷◌, map, length, None, Some, refl, ap, ◌∙◌, subst, inl, inr}
+use Rattle.std.proofs.Common.{◌≡◌, nat_lt, Bool, true, false, cond, List, [], ◌∷◌, map, length, None, Some, refl, ap, ◌∙◌, inl, inr, arith}
 use Rattle.cutter.specs.Pieces.{start_in, turned, from_start, rejoined}
 use Rattle.cutter.specs.Places.{In}
 use Rattle.cutter.specs.Slices.{started, split_of, strokes}
@@ -9,35 +9,27 @@ use Rattle.cutter.proofs.Starts.{ring_cut, start_cut, line}
 use Rattle.cutter.proofs.Structured.{clean_in}
 use Rattle.elimination_meaning.specs.Elimination.{reduced}
 use Rattle.elimination_meaning.specs.Laws.{ZeroLaw}
-use Rattle.geojson_types.specs.declared.address.Address.{Address}
-use Rattle.geojson_types.specs.declared.address.Cause.TheVariants.{Collapsed, Small}
-use Rattle.geojson_types.specs.Points.{Point}
-use Rattle.geojson_types.specs.Rings.{same}
-use Rattle.linework.specs.Cleaning.{clean_from, clean, is_short, Moves, IsCleanList, IsClean, AllClean}
-use Rattle.linework.specs.Cuts.{is_cut}
+use Rattle.geometry.specs.declared.address.Address.{Address}
+use Rattle.geometry.specs.Points.{Point}
+use Rattle.geometry.proofs.Points.{same_is}
+use Rattle.junctions.specs.Cleaning.{clean_from, clean, is_short, Moves, IsCleanList, IsClean, AllClean}
+use Rattle.junctions.specs.Cuts.{is_cut}
 use Rattle.linework.specs.Linework.{linework}
-use Rattle.linework.specs.declared.stroke.Stroke.{Stroke}
-use Rattle.linework.proofs.Cleaned.{same_is}
-use Rattle.build_meaning.specs.Expected.{cleaned, own_pieces, rebuilt, is_small, unless, kept_line}
+use Rattle.junctions.specs.declared.stroke.Stroke.{Stroke}
+use Rattle.build_meaning.specs.Expected.{cleaned, is_small, kept_line}
 use Rattle.build_meaning.specs.Laws.{whole_line, LosesNothing}
 use Rattle.build_meaning.specs.Layers.{layers_of, named_strokes}
 use Rattle.build_meaning.proofs.Linework.{Line, plain, clean_line, plain_pieces, StandsIn, all_clean, each_stands}
-use Rattle.build_meaning.proofs.Lists.{weaker}
+use Rattle.list_laws.proofs.Elements.{all_weaker}
 
 -- ---- a clean line stays when it is cleaned
 
 moves_stay : (p : Point) (ps : List Point) → Moves p ps → clean_from p ps ≡ p ∷ ps
 moves_stay p [] m = refl
-moves_stay p (q ∷ ps) m = on (same p q) refl (moves_stay q ps m.1)
-  where
-    on : (b : Bool) → same p q ≡ b → clean_from q ps ≡ q ∷ ps → cond b (clean_from q ps) (p ∷ clean_from q ps) ≡ p ∷ (q ∷ ps)
-    on true e ih = absurd (m.0 (same_is p q e))
-    on false e ih = ap (λ l. p ∷ l) ih
+moves_stay p (q ∷ ps) m = grind (arith, same_is, moves_stay q ps m.1)
 
 pub clean_stays : (closed : Bool) (ps : List Point) → IsCleanList closed ps → clean ps ≡ ps
-clean_stays closed [] h = elim h [ ]
-clean_stays closed (p ∷ []) h = elim h [ ]
-clean_stays closed (p ∷ (q ∷ ps)) h = moves_stay p (q ∷ ps) h.0
+clean_stays closed ps h = grind (arith, moves_stay)
 
 -- ---- a line from its start
 
@@ -80,21 +72,10 @@ each_stays zero (x ∷ xs) = ap (λ y. y ∷ map (reduced 0) xs) (zero x) ∙ ap
 
 line_whole : ZeroLaw → (lines : List Stroke) → AllClean lines → (b : Line) → StandsIn lines b →
     kept_line lines 0 b.0 b.1 ≡ cond (is_short b.0 (clean b.1)) None (Some (from_start (is_cut lines) (cleaned b.0 b.1)))
-line_whole zero lines h b stands = on (is_short b.0 (clean b.1)) refl
-  where
-    on : (c : Bool) → is_short b.0 (clean b.1) ≡ c →
-        unless (cond c (Some Collapsed) (cond (is_small b.0 (rebuilt lines 0 b.0 b.1)) (Some Small) None)) (rebuilt lines 0 b.0 b.1)
-        ≡ cond c None (Some (from_start (is_cut lines) (cleaned b.0 b.1)))
-    on true e = refl
-    on false e =
-        let s = stands e in
-        let w : IsWhole lines (clean_line b) = subst (IsWhole lines) s.2 (stroke_whole lines s.0 h s.1) in
-        let r : rebuilt lines 0 b.0 b.1 ≡ from_start (is_cut lines) (cleaned b.0 b.1) = ap rejoined (each_stays zero (own_pieces lines b.0 b.1)) ∙ w.0 in
-        let n : is_small b.0 (rebuilt lines 0 b.0 b.1) ≡ false = ap (is_small b.0) r ∙ w.1 ∙ e in
-        ap (λ c. unless (cond c (Some Small) None) (rebuilt lines 0 b.0 b.1)) n ∙ ap (λ l. Some l) r
+line_whole zero lines h b stands = grind (arith, clean_line, stroke_whole, each_stays)
 
 -- nothing is taken out
 pub loses_nothing : ZeroLaw → LosesNothing
 loses_nothing zero ls sound =
     let lines = linework (layers_of ls) in
-    weaker (StandsIn lines) (λ b. kept_line lines 0 b.0 b.1 ≡ whole_line ls b.0 b.1) (line_whole zero lines (all_clean ls sound)) (named_strokes ls) (each_stands ls)
+    all_weaker (StandsIn lines) (λ b. kept_line lines 0 b.0 b.1 ≡ whole_line ls b.0 b.1) (line_whole zero lines (all_clean ls sound)) (named_strokes ls) (each_stands ls)

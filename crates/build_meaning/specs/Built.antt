@@ -3,9 +3,9 @@ use Rattle.std.specs.Prelude.{ℕ, ◌-◌, ℤ, Bool, List, Option, None, lengt
 use Rattle.arc_table.specs.Arcs.{arcs_of, index_in}
 use Rattle.cutter.specs.Pieces.{pieces}
 use Rattle.elimination_meaning.specs.Elimination.{reduced}
-use Rattle.geojson_types.specs.Points.{Point}
+use Rattle.geometry.specs.Points.{Point}
 use Rattle.linework.specs.Linework.{linework}
-use Rattle.linework.specs.declared.stroke.Stroke.{Stroke}
+use Rattle.junctions.specs.declared.stroke.Stroke.{Stroke}
 use Rattle.topojson_types.specs.Topologies.{Contents}
 use Rattle.build_meaning.specs.Expected.{own_pieces, own_cause, unless}
 use Rattle.build_meaning.specs.Layers.{Named, layers_of}

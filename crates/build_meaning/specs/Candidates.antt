@@ -1,13 +1,13 @@
 -- The lines and rings of shapes and layers, each with why the ring around it is left out, if it is: so it is known of each alone
 -- whether it is left out.
 use Rattle.std.specs.Prelude.{Bool, true, false, List, [], ◌∷◌, map, Option, None, Some}
-use Rattle.geojson_types.specs.declared.address.Cause.{Cause}
-use Rattle.geojson_types.specs.declared.geometry.Geometry.{Geometry, fold-Geometry}
-use Rattle.geojson_types.specs.declared.geometry.Geometry.TheOpen.{Geometry-F}
+use Rattle.geometry.specs.declared.address.Cause.{Cause}
+use Rattle.geometry.specs.declared.shape.Geometry.{Geometry, fold-Geometry}
+use Rattle.geometry.specs.declared.shape.Geometry.TheOpen.{Geometry-F}
 use Rattle.geojson_types.specs.Features.{Featured}
-use Rattle.geojson_types.specs.Lists.{joined}
-use Rattle.geojson_types.specs.Omissions.{inner_cause}
-use Rattle.geojson_types.specs.Points.{Point}
+use Rattle.geometry.specs.Lists.{joined}
+use Rattle.geometry.specs.Omissions.{inner_cause}
+use Rattle.geometry.specs.Points.{Point}
 use Rattle.build_meaning.specs.Layers.{Named}
 
 -- an open line (false) or a ring (true); around a hole lies the outer ring, which may be left out

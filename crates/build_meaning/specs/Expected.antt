@@ -3,18 +3,18 @@
 use Rattle.std.specs.Prelude.{ℕ, Bool, List, [], Option, None, Some, map, if◌then◌else◌}
 use Rattle.cutter.specs.Pieces.{pieces_of, rejoined}
 use Rattle.elimination_meaning.specs.Elimination.{reduced}
-use Rattle.geojson_types.specs.declared.address.Cause.{Cause}
-use Rattle.geojson_types.specs.declared.address.Cause.TheVariants.{Collapsed, Small}
-use Rattle.geojson_types.specs.declared.address.Dropped.{Dropped}
+use Rattle.geometry.specs.declared.address.Cause.{Cause}
+use Rattle.geometry.specs.declared.address.Cause.TheVariants.{Collapsed, Small}
+use Rattle.geometry.specs.declared.address.Dropped.{Dropped}
 use Rattle.geojson_types.specs.Features.{Shape, Featured}
-use Rattle.geojson_types.specs.Lists.{then_some}
-use Rattle.geojson_types.specs.Omissions.{omissions, dropped_of_layers}
-use Rattle.geojson_types.specs.Paths.{Placed}
-use Rattle.geojson_types.specs.Points.{Point}
-use Rattle.geojson_types.specs.Pruning.{prune}
-use Rattle.linework.specs.Cleaning.{clean, is_short}
+use Rattle.geometry.specs.Lists.{then_some}
+use Rattle.geometry.specs.Omissions.{omissions, dropped_of_layers}
+use Rattle.geometry.specs.Paths.{Placed}
+use Rattle.geometry.specs.Points.{Point}
+use Rattle.geometry.specs.Pruning.{prune}
+use Rattle.junctions.specs.Cleaning.{clean, is_short}
 use Rattle.linework.specs.Linework.{linework}
-use Rattle.linework.specs.declared.stroke.Stroke.{Stroke}
+use Rattle.junctions.specs.declared.stroke.Stroke.{Stroke}
 use Rattle.build_meaning.specs.Layers.{Named, layers_of}
 
 -- ---- lines

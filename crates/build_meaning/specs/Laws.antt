@@ -7,11 +7,11 @@ use Rattle.cutter.specs.Segments.{line_segments}
 use Rattle.geojson_types.specs.declared.layer.FeatureSet.TheVariants as set
 use Rattle.geojson_types.specs.Features.{Featured, is_proper_option}
 use Rattle.geojson_types.specs.Places.{option_points}
-use Rattle.geojson_types.specs.Points.{Point, IsPosition}
-use Rattle.geojson_types.specs.Pruning.{option_strokes}
-use Rattle.geojson_types.specs.Rings.{is_ring}
-use Rattle.linework.specs.Cleaning.{clean, is_short}
-use Rattle.linework.specs.Cuts.{is_cut}
+use Rattle.geometry.specs.Points.{Point, IsPosition}
+use Rattle.geometry.specs.Pruning.{option_strokes}
+use Rattle.geometry.specs.Rings.{is_ring}
+use Rattle.junctions.specs.Cleaning.{clean, is_short}
+use Rattle.junctions.specs.Cuts.{is_cut}
 use Rattle.linework.specs.Linework.{linework}
 use Rattle.topojson_types.specs.Decoding.{decoded}
 use Rattle.topojson_types.specs.Validity.{AreDistinct, IsTopology}

@@ -2,9 +2,9 @@
 use Rattle.std.specs.Prelude.{ℕ, Bool, List, map}
 use Rattle.geojson_types.specs.declared.layer.Layer.{Layer}
 use Rattle.geojson_types.specs.Features.{Featured}
-use Rattle.geojson_types.specs.Lists.{joined}
-use Rattle.geojson_types.specs.Points.{Point}
-use Rattle.geojson_types.specs.Pruning.{option_strokes}
+use Rattle.geometry.specs.Lists.{joined}
+use Rattle.geometry.specs.Points.{Point}
+use Rattle.geometry.specs.Pruning.{option_strokes}
 
 -- layers with their names
 abbrev pub Named : Type 0

@@ -1,9 +1,9 @@
 -- The objects of a topology, made of layers by what stands for each line and ring.
 use Rattle.std.specs.Prelude.{ℕ, ℤ, Bool, List, Option, map}
 use Rattle.geojson_types.specs.Features.{Featured}
-use Rattle.geojson_types.specs.Lists.{then_some}
-use Rattle.geojson_types.specs.Points.{Point}
-use Rattle.geojson_types.specs.Pruning.{prune}
+use Rattle.geometry.specs.Lists.{then_some}
+use Rattle.geometry.specs.Points.{Point}
+use Rattle.geometry.specs.Pruning.{prune}
 use Rattle.topojson_types.specs.declared.feature.TopoFeature.{TopoFeature}
 use Rattle.topojson_types.specs.declared.object.TopoObject.{TopoObject}
 use Rattle.topojson_types.specs.declared.object.TopoObject.TheVariants.{Many}

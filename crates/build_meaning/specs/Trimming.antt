@@ -1,12 +1,12 @@
 -- Topologies without the arcs that no line uses, where the others are numbered anew.
 use Rattle.std.specs.Prelude.{ℕ, zero, suc, ◌==◌, ℤ, pos, negsuc, Bool, List, [], ◌∷◌, Option, Some, map, if◌then◌else◌}
 use Rattle.std.specs.List.{list_any}
-use Rattle.geojson_types.specs.Lists.{then_some}
-use Rattle.geojson_types.specs.Pruning.{prune}
+use Rattle.geometry.specs.Lists.{then_some}
+use Rattle.geometry.specs.Pruning.{prune}
 use Rattle.topojson_types.specs.declared.feature.TopoFeature.{TopoFeature}
 use Rattle.topojson_types.specs.declared.object.TopoObject.{TopoObject}
 use Rattle.topojson_types.specs.declared.object.TopoObject.TheVariants.{One, Many}
-use Rattle.topojson_types.specs.Joins.{number_of}
+use Rattle.geometry.specs.Joins.{number_of}
 use Rattle.topojson_types.specs.Topologies.{Contents, objects_strokes}
 
 -- an index of a line or ring names the arc of this number

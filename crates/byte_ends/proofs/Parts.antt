@@ -1,7 +1,7 @@
 -- A text that is written part by part, and a list with commas.
 use Rattle.std.proofs.Common.{◌≡◌, ℕ, suc, ◌+◌, ◌<◌, ◌≤◌, Bool, false, List, ◌∷◌, ◌++◌, length, get_or, drop, map, subst, sym, ap, ◌∙◌, add-one, append_assoc, drop-cons, Ok, Err}
 use Rattle.std.proofs.lemmas.List.{drop_all}
-use Rattle.byte_ends.specs.Commas.{comma_unless, with_commas}
+use Rattle.list_laws.specs.Commas.{comma_unless, with_commas}
 use Rattle.byte_ends.specs.Continues.{Continues, Progress, goes_on, stays}
 use Rattle.byte_ends.specs.Ends.{Drained}
 use Rattle.byte_ends.specs.Writes.{Writes}

@@ -7,7 +7,7 @@ use Rattle.std.specs.Io.KnownBytes.{Appends}
 use Rattle.byte_ends.specs.Ends.{Drained, Takes, saturated}
 use Rattle.byte_ends.specs.Writes.{Writes, WritesAll}
 use Rattle.byte_ends.specs.declared.sink.WriteFault.{WriteFault}
-use Rattle.byte_ends.specs.declared.sink.WriteFault.TheVariants.{Write, Memory}
+use Rattle.byte_ends.specs.declared.sink.WriteFault.TheVariants.{Write}
 
 -- a sink that is left alone takes nothing
 pub Takes-none : (s : Drained) (bytes : List ℕ) → s.sent < 2 ^ 64 → Takes s s bytes 0
@@ -64,7 +64,6 @@ Writes-then old mid new count m xs ys (Err (Write sent)) t u = record {
   counted = omega (arith, t.counted, u.counted);
   failed = u.failed;
 }
-Writes-then old mid new count m xs ys (Err Memory) t u = absurd u
 
 -- a text that fails is a longer text that fails
 pub Writes-stop : (old new : Drained) (count : ℕ) (xs ys : List ℕ) (e : WriteFault)
@@ -75,4 +74,3 @@ Writes-stop old new count xs ys (Write sent) t = record {
   counted = t.counted;
   failed = t.failed;
 }
-Writes-stop old new count xs ys Memory t = absurd t

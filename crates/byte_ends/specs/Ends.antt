@@ -1,11 +1,6 @@
 -- What contracts see of the two ends: a source's and a sink's bytes, counts and failures, and what a push does.
-use Rattle.std.specs.Prelude.{◌≡◌, ℕ, ◌+◌, ◌-◌, ◌^◌, ◌≤◌, min, List, length, take, Option, Result, MatchResult}
-use Rattle.std.specs.Io.KnownBytes.{Appends}
-use Rattle.byte_ends.specs.declared.memory.Memory.{Memory}
-
--- the one value of the error `Memory`
-abbrev pub memory : Memory
-memory = record {}
+use Rattle.std.specs.Prelude.{◌≡◌, ℕ, ◌+◌, ◌-◌, ◌^◌, ◌<◌, ◌≤◌, min, List, length, take, Option, Result, MatchResult}
+use Rattle.std.specs.Io.KnownBytes.{Appends, Consumes}
 
 -- a count in a `u64` that stays at the largest one
 abbrev pub saturated : ℕ → ℕ
@@ -19,6 +14,18 @@ CountsFailure old result new = MatchResult result (λ _. new ≡ old) (λ _. new
 pub record Fed : Type 0 where
   pub left : Option (List ℕ)
   pub failures : ℕ
+
+-- from the old state of a source to the new one, its device gave some bytes, no more than this many
+abbrev pub GaveAtMost : ℕ → Fed → Fed → Type 0
+GaveAtMost most old new = (given : List ℕ) × Consumes old.left new.left given × (length given ≤ most)
+
+-- how many bytes are asked of a device at a time
+abbrev pub block_size : ℕ
+block_size = 2 ^ 16
+
+-- it gave more than the limit, by no more than what is asked for at a time
+abbrev pub GavePast : ℕ → Fed → Fed → Type 0
+GavePast limit old new = (given : List ℕ) × Consumes old.left new.left given × (limit < length given) × (length given ≤ limit + block_size)
 
 -- what contracts see of a drain over a writer: the bytes that the writer took, where they are known, and its failures
 pub record Written : Type 0 where

@@ -2,7 +2,7 @@
 use Rattle.std.specs.Prelude.{◌≡◌, ℕ, ◌+◌, ◌<◌, List, length, Result, Ok, Err}
 use Rattle.byte_ends.specs.Ends.{Drained, Takes, saturated}
 use Rattle.byte_ends.specs.declared.sink.WriteFault.{WriteFault}
-use Rattle.byte_ends.specs.declared.sink.WriteFault.TheVariants.{Write, Memory}
+use Rattle.byte_ends.specs.declared.sink.WriteFault.TheVariants.{Write}
 
 -- the sink took the whole text and isn't broken, and the answer counts on from `count` by the text's length
 pub record WritesAll (old new : Drained) (count : ℕ) (text : List ℕ) (answer : ℕ) : Type 0 where
@@ -17,8 +17,7 @@ pub record WritesFront (old new : Drained) (count : ℕ) (text : List ℕ) (sent
   pub counted : sent ≡ saturated (count + many)
   pub failed : 0 < new.failures
 
--- a writer of this text did this to its sink: all of it at `Ok`, a front of it at `Write`, and never `Memory`
+-- a writer of this text did this to its sink: all of it at `Ok`, a front of it at `Write`, and there is no other answer
 abbrev pub Writes : Drained → Drained → ℕ → List ℕ → Result ℕ WriteFault → Type 0
 Writes old new count text (Ok answer) = WritesAll old new count text answer
 Writes old new count text (Err (Write sent)) = WritesFront old new count text sent
-Writes old new count text (Err Memory) = ⊥

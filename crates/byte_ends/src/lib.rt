@@ -9,7 +9,6 @@
 pub mod devices;
 mod drain;
 mod feed;
-mod memory;
 mod memory_drain;
 mod progress;
 mod sink;
@@ -17,8 +16,8 @@ mod source;
 
 pub use drain::{Drain, ToWrite};
 pub use feed::{Failed, Feed, FromRead};
-pub use memory::Memory;
 pub use memory_drain::MemoryDrain;
+pub use owned_values::Memory;
 pub use progress::{Progress, put_comma, put_part};
 pub use sink::{Broken, Sink, WriteFault};
 pub use source::{MAX_INPUT, ReadFault, Source, read_all};

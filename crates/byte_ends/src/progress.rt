@@ -1,5 +1,5 @@
 // Texts that are written part by part.
-ghost use Rattle.byte_ends.specs.Commas.{comma_unless};
+ghost use Rattle.list_laws.specs.Commas.{comma_unless};
 ghost use Rattle.byte_ends.specs.Continues.{Continues};
 
 use crate::drain::Drain;

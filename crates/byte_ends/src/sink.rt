@@ -1,7 +1,7 @@
 // A sink for bytes.
 ghost use Rattle.std.specs.Prelude.{◌≡◌, ◌<◌, ◌≤◌, ℕ, OnOk, OnErr, length};
 ghost use Rattle.std.specs.Io.KnownBytes.{Keeps};
-ghost use Rattle.byte_ends.specs.Commas.{comma_unless};
+ghost use Rattle.list_laws.specs.Commas.{comma_unless};
 ghost use Rattle.byte_ends.specs.Ends.{Takes};
 ghost use Rattle.byte_ends.specs.Writes.{Writes};
 
@@ -15,16 +15,12 @@ use thiserror::Error;
 #[error("the sink is broken")]
 pub struct Broken;
 
-/// Why a text was not written whole.
+/// Why a text was not written whole. A writer takes no memory, since it writes in parts, so that its device alone can fail.
 #[derive(Clone, Copy, Debug, PartialEq, Eq, Error)]
 pub enum WriteFault {
     /// The device failed, once it had taken this many bytes of the text.
     #[error("the sink is broken after {sent} bytes")]
     Write { sent: u64 },
-    /// An allocation was refused. No writer of this crate answers it, and the relation `Writes` rules it out:
-    /// it is for a caller that first holds its text whole.
-    #[error("out of memory")]
-    Memory,
 }
 
 /// Bytes to be written, to a device that had not failed when the sink was made. Once the device has failed the sink is

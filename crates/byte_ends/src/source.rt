@@ -2,7 +2,7 @@
 ghost use Rattle.std.specs.Prelude.{◌≡◌, ◌≢◌, ◌+◌, ◌<◌, ◌≤◌, IfOk, IfSome, OnOk, length, vec_len};
 ghost use Rattle.std.specs.Io.{ReadsAtMost};
 ghost use Rattle.std.specs.Io.KnownBytes.{IsAtEnd, ReadConsumes};
-ghost use Rattle.byte_ends.specs.Ends.{CountsFailure, saturated};
+ghost use Rattle.byte_ends.specs.Ends.{CountsFailure, GaveAtMost, GavePast, saturated};
 
 use crate::feed::{Failed, Feed};
 use std::alloc::{AllocError, Global};
@@ -12,7 +12,7 @@ use thiserror::Error;
 /// The most bytes that a program should take from one source: a limit for `read_all`.
 pub const MAX_INPUT: usize = 1_000_000_000;
 
-// How many bytes `read_all` asks of the device at a time.
+// How many bytes `read_all` asks of the device at a time: `block_size` of the specs.
 const BLOCK: usize = 65_536;
 
 /// Bytes to be read, from a device that had not failed when the source was made.
@@ -80,7 +80,7 @@ impl From<AllocError> for ReadFault {
 }
 
 /// All bytes that the source has left, if they are no more than `limit`. The first failed read ends it, and so does the
-/// first byte past the limit; what was read until then is lost.
+/// first read that passes the limit, which gives 65,536 bytes at most; what was read until then is lost.
 pub fn read_all<R: Feed>(
     alloc: Global,
     source: &mut Source<R>,
@@ -93,6 +93,9 @@ pub fn read_all<R: Feed>(
         → IfSome source.old.left (λ left. limit < length left) }
     ensures read { result ≡ Err ReadFault.Read
         → source.new.failures ≡ saturated (source.old.failures + 1) }
+    // No call of the device follows the first one that fails or passes the limit.
+    ensures within { result ≢ Err ReadFault.TooLong → GaveAtMost limit source.old source.new }
+    ensures past { result ≡ Err ReadFault.TooLong → GavePast limit source.old source.new }
     ensures sound { result ≢ Err ReadFault.Read → source.new.failures ≡ source.old.failures }
 {
     let mut room = zeros(alloc, BLOCK)?;

@@ -2,7 +2,7 @@
 use byte_ends::{MemoryDrain, Sink};
 use decimal_json::{Items, NumText};
 use geojson_types::Layer;
-use linework::Lines;
+use linework::{Lines, OfLayers};
 use std::test::Fail;
 use topojson_types::{Cell, sums};
 

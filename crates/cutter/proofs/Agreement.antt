@@ -1,16 +1,16 @@
 -- Two tests that agree on the positions of a line give the same start and the same pieces of it.
-use Rattle.std.proofs.Common.{◌≡◌, ℕ, zero, suc, ◌+◌, Bool, true, false, cond, List, [], ◌∷◌, take, drop, refl, ap, sym, ◌∙◌, subst, inl, inr}
+use Rattle.std.proofs.Common.{◌≡◌, ℕ, zero, suc, ◌+◌, Bool, true, false, cond, List, [], ◌∷◌, take, drop, refl, ap, sym, ◌∙◌, subst, inl, inr, arith}
 use Rattle.std.specs.List.{filter}
 use Rattle.cutter.specs.Pieces.{joined, pieces_from, split_at, first_at, start_in, turned, from_start}
 use Rattle.cutter.specs.Places.{In}
 use Rattle.cutter.specs.Slices.{SplitStroke, split_by, EndsPass}
-use Rattle.geojson_types.specs.Order.{is_least}
-use Rattle.geojson_types.specs.Points.{Point}
-use Rattle.geojson_types.specs.declared.address.Address.{Address}
-use Rattle.linework.specs.Visits.{last}
-use Rattle.linework.specs.declared.stroke.Stroke.{Stroke}
+use Rattle.geometry.specs.Order.{is_least}
+use Rattle.geometry.specs.Points.{Point}
+use Rattle.geometry.specs.declared.address.Address.{Address}
+use Rattle.junctions.specs.Visits.{last}
+use Rattle.junctions.specs.declared.stroke.Stroke.{Stroke}
 use Rattle.cutter.proofs.Starts.{line}
-use Rattle.linework.proofs.Members.{in_either}
+use Rattle.list_laws.proofs.Members.{in_append}
 
 in_drop : (k : ℕ) (x : Point) (ps : List Point) → In x (drop k ps) → In x ps
 in_drop zero x ps h = h
@@ -24,12 +24,11 @@ in_take (suc k) x (p ∷ ps) (inl e) = inl e
 in_take (suc k) x (p ∷ ps) (inr h) = inr (in_take k x ps h)
 
 in_turned : (k : ℕ) (x : Point) (ps : List Point) → In x (turned k ps) → In x ps
-in_turned k x ps h = elim (in_either x (drop k ps) (drop 1 (take (k + 1) ps)) h) [ inl i ↦ in_drop k x ps i | inr i ↦ in_take (k + 1) x ps (in_drop 1 x (take (k + 1) ps) i) ]
+in_turned k x ps h = elim (in_append x (drop k ps) (drop 1 (take (k + 1) ps)) h) [ inl i ↦ in_drop k x ps i | inr i ↦ in_take (k + 1) x ps (in_drop 1 x (take (k + 1) ps) i) ]
 
 -- a line from its start has the positions of the line
 pub in_start : (f : Point → Bool) (at : Address) (c : Bool) (ps : List Point) (x : Point) → In x (from_start f (line at c ps)) → In x ps
-in_start f at true ps x h = in_turned (start_in f ps) x ps h
-in_start f at false ps x h = h
+in_start f at c ps x h = grind (arith, in_turned)
 
 -- a split line of its parts
 abbrev pub split : Address → Bool → List Point → List (List Point) → SplitStroke
@@ -45,16 +44,14 @@ module _ (f g : Point → Bool) where
   pieces_agree p (q ∷ ps) h = ap (λ b. joined b p q (pieces_from f q ps)) (h q (inl refl)) ∙ ap (λ l. joined (g q) p q l) (pieces_agree q ps (λ x k. h x (inr k)))
 
   split_agree : (ps : List Point) → ((x : Point) → In x ps → f x ≡ g x) → split_at f ps ≡ split_at g ps
-  split_agree [] h = refl
-  split_agree (p ∷ ps) h = pieces_agree p ps (λ x k. h x (inr k))
+  split_agree ps h = grind (arith, pieces_agree)
 
   -- the same start
   pub start_agree : (ps : List Point) → ((x : Point) → In x ps → f x ≡ g x) → start_in f ps ≡ start_in g ps
   start_agree ps h = ap (λ fs. first_at (λ p. is_least p fs) ps) (filter_agree ps h)
 
   from_agree : (at : Address) (c : Bool) (ps : List Point) → ((x : Point) → In x ps → f x ≡ g x) → from_start f (line at c ps) ≡ from_start g (line at c ps)
-  from_agree at true ps h = ap (λ k. turned k ps) (start_agree ps h)
-  from_agree at false ps h = refl
+  from_agree at c ps h = grind (arith, start_agree)
 
   -- the same pieces
   pub by_agree : (s : Stroke) → ((x : Point) → In x s.positions → f x ≡ g x) → split_by f s ≡ split_by g s

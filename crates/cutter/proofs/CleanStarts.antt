@@ -3,12 +3,12 @@ use Rattle.std.proofs.Common.{◌≡◌, ℕ, ◌<◌, ◌≤◌, Bool, true, fa
 use Rattle.cutter.specs.Pieces.{start_in, turned}
 use Rattle.cutter.specs.Places.{In}
 use Rattle.cutter.specs.Slices.{started, split_of, strokes}
-use Rattle.geojson_types.specs.Points.{Point}
-use Rattle.geojson_types.specs.declared.address.Address.{Address}
-use Rattle.linework.specs.Cleaning.{Moves, IsCleanList, IsClean, AllClean}
-use Rattle.linework.specs.Cuts.{is_cut}
-use Rattle.linework.specs.Visits.{last}
-use Rattle.linework.specs.declared.stroke.Stroke.{Stroke}
+use Rattle.geometry.specs.Points.{Point}
+use Rattle.geometry.specs.declared.address.Address.{Address}
+use Rattle.junctions.specs.Cleaning.{Moves, IsCleanList, IsClean, AllClean}
+use Rattle.junctions.specs.Cuts.{is_cut}
+use Rattle.junctions.specs.Visits.{last}
+use Rattle.junctions.specs.declared.stroke.Stroke.{Stroke}
 use Rattle.cutter.proofs.Joins.{turned_length}
 use Rattle.cutter.proofs.RingPieces.{moves_more, firsts, firsts_last, firsts_length, turned_is}
 use Rattle.cutter.proofs.Starts.{ring_cut, start_cut, line}
@@ -27,8 +27,7 @@ moves_any p q [] h = (h, tt)
 moves_any p q (r ∷ ps) h = (h.0, moves_any q r ps h.2)
 
 clean_of : (zs : List Point) (g : Point) (ys : List Point) → zs ≡ g ∷ ys → last g ys ≡ g → 2 ≤ length zs → Good Any zs → IsCleanList true zs
-clean_of zs g [] e l n h = absurd (omega (arith, n, ap length e))
-clean_of zs g (y ∷ ys) e l n h = subst (λ z. IsCleanList true z) (sym e) (moves_any g y ys (subst (λ z. Good Any z) e h), λ w. l)
+clean_of zs g ys h k m e = grind (arith, moves_any)
 
 -- a ring that is turned to another start is clean
 clean_turned : (ls : List Stroke) (p q : Point) (ps : List Point) → last q ps ≡ p → Moves p (q ∷ ps) → (k : ℕ) → k < length (p ∷ (q ∷ ps)) → IsCleanList true (turned k (p ∷ (q ∷ ps)))

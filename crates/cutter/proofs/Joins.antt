@@ -5,11 +5,11 @@ use Rattle.cutter.specs.Pieces.{joined, pieces_from, split_at, start_in, turned,
 use Rattle.cutter.specs.Places.{In}
 use Rattle.cutter.specs.Segments.{Segment, segments, segments_from, is_segment, line_segments, piece_segments, times}
 use Rattle.cutter.specs.Slices.{split_of, IsSplit, AllSplit, all_pieces}
-use Rattle.geojson_types.specs.Points.{Point}
-use Rattle.geojson_types.specs.declared.address.Address.{Address}
-use Rattle.linework.specs.Cleaning.{AllClean, IsClean}
-use Rattle.linework.specs.Cuts.{is_cut}
-use Rattle.linework.specs.declared.stroke.Stroke.{Stroke}
+use Rattle.geometry.specs.Points.{Point}
+use Rattle.geometry.specs.declared.address.Address.{Address}
+use Rattle.junctions.specs.Cleaning.{AllClean, IsClean}
+use Rattle.junctions.specs.Cuts.{is_cut}
+use Rattle.junctions.specs.declared.stroke.Stroke.{Stroke}
 use Rattle.cutter.proofs.SegmentLaws.{split_at_segments, segments_split, turned_segments}
 use Rattle.cutter.proofs.Starts.{ring_cut, start_cut, line}
 use Rattle.std.proofs.lemmas.List.Sums.{sum_by-append}
@@ -23,28 +23,17 @@ BeginsAt p ([] ∷ pieces) = ⊥
 BeginsAt p ((q ∷ ps) ∷ pieces) = q ≡ p
 
 joined_begins : (b : Bool) (p q : Point) (pieces : List (List Point)) → BeginsAt p (joined b p q pieces)
-joined_begins true p q pieces = refl
-joined_begins false p q [] = refl
-joined_begins false p q (piece ∷ pieces) = refl
+joined_begins b p q pieces = grind arith
 
 joined_joins : (b : Bool) (p q : Point) (pieces : List (List Point)) → BeginsAt q pieces → rejoined (joined b p q pieces) ≡ p ∷ rejoined pieces
-joined_joins b p q [] h = elim h [ ]
-joined_joins b p q ([] ∷ pieces) h = elim h [ ]
-joined_joins true p q ((r ∷ ps) ∷ pieces) h = ap (λ z. p ∷ (z ∷ (ps ++ flat_map but_first pieces))) (sym h)
-joined_joins false p q ((r ∷ ps) ∷ pieces) h = refl
+joined_joins b p q pieces h = grind arith
 
 pub pieces_join : (cut : Point → Bool) (p q : Point) (ps : List Point) → rejoined (pieces_from cut p (q ∷ ps)) ≡ p ∷ (q ∷ ps)
-pieces_join cut p q [] = on (cut q)
-  where
-    on : (b : Bool) → rejoined (joined b p q []) ≡ p ∷ (q ∷ [])
-    on true = refl
-    on false = refl
-pieces_join cut p q (r ∷ ps) =
-    joined_joins (cut q) p q (pieces_from cut q (r ∷ ps)) (joined_begins (cut r) q r (pieces_from cut r ps)) ∙ ap (λ l. p ∷ l) (pieces_join cut q r ps)
+pieces_join cut p q [] = grind arith
+pieces_join cut p q (r ∷ ps) = grind (arith, joined_joins, joined_begins, pieces_join cut q r ps)
 
 pub turned_length : (k : ℕ) (ps : List Point) → k < length ps → length (turned k ps) ≡ length ps
-turned_length k ps h =
-    omega (arith, h, length-append (drop k ps) (drop 1 (take (k + 1) ps)), length-drop k ps, length-drop 1 (take (k + 1) ps), length-take-le (k + 1) ps (omega (arith, h)))
+turned_length k ps h = grind (arith, length-append, length-drop, length-take-le)
 
 pub split_joins : (cut : Point → Bool) (ps : List Point) → 2 ≤ length ps → rejoined (split_at cut ps) ≡ ps
 split_joins cut [] h = refl
@@ -64,10 +53,7 @@ joins ls at true (p ∷ (q ∷ ps)) k h =
     (omega (arith, turned_length (start_in (is_cut ls) (p ∷ (q ∷ ps))) (p ∷ (q ∷ ps)) n))
 
 pub stroke_split : (ls : List Stroke) (s : Stroke) → In s ls → IsClean s → IsSplit (split_of ls s)
-stroke_split ls s k h = record {
-  joins = joins ls s.address s.closed s.positions k h;
-  segments = split_at_segments (is_cut ls) (from_start (is_cut ls) s);
-}
+stroke_split ls s k h = grind (arith, joins, joins ls s.address s.closed s.positions k h, split_at_segments (is_cut ls) (from_start (is_cut ls) s))
 
 splits_from : (ls ms : List Stroke) → ((s : Stroke) → In s ms → In s ls) → AllClean ms → AllSplit (map (split_of ls) ms)
 splits_from ls [] f h = tt

@@ -4,14 +4,14 @@ use Rattle.std.specs.List.{flat_map, list_any}
 use Rattle.std.proofs.lemmas.Bool.{or_parts}
 use Rattle.std.proofs.lemmas.Bool.Decides.{nat_tests}
 pub use Rattle.cutter.specs.Places.{In}
-use Rattle.geojson_types.specs.Points.{Point}
-use Rattle.geojson_types.specs.Rings.{same}
-use Rattle.linework.specs.Cuts.{is_cut, starts_free_ring}
-use Rattle.linework.specs.Visits.{Visit, all_visits, visits_at, neighbors, distinct, ends_open, is_junction}
-use Rattle.linework.specs.declared.stroke.Stroke.{Stroke}
-use Rattle.linework.proofs.Cleaned.{same_self}
-use Rattle.linework.proofs.Members.{in_filter, none_of}
-use Rattle.linework.proofs.Settled.{in_distinct, of_two}
+use Rattle.geometry.specs.Points.{Point}
+use Rattle.geometry.specs.Rings.{same}
+use Rattle.geometry.proofs.Points.{same_self}
+use Rattle.junctions.specs.Cuts.{is_cut, starts_free_ring}
+use Rattle.junctions.specs.Visits.{Visit, all_visits, visits_at, neighbors, distinct, ends_open, is_junction}
+use Rattle.junctions.specs.declared.stroke.Stroke.{Stroke}
+use Rattle.junctions.proofs.Members.{in_filter, none_of}
+use Rattle.junctions.proofs.Settled.{in_distinct, of_two}
 
 pub both_in : (v : Visit) (vs : List Visit) → In v vs → In v.before (flat_map (λ v. v.before ∷ (v.after ∷ [])) vs) × In v.after (flat_map (λ v. v.before ∷ (v.after ∷ [])) vs)
 both_in v [] k = elim k [ ]
@@ -38,12 +38,7 @@ module _ (ls : List Stroke) (b : Point) (free : is_cut ls b ≡ false) where
   -- all visits have the same two neighbors
   pub two_neighbors : (v w : Visit) → In v (visits_at ls b) → In w (visits_at ls b) → (x : Point) → (x ≡ v.before) ⊎ (x ≡ v.after) → (x ≡ w.before) ⊎ (x ≡ w.after)
   two_neighbors v w k m x o =
-      of_two (distinct (neighbors ls b)) x w.before w.after
-      (two_test (length (distinct (neighbors ls b))) (or_parts (list_any (λ v. same v.before v.after) (visits_at ls b)) _ later_parts).1)
-      (in_distinct x (neighbors ls b) (elim o [ inl e ↦ subst (λ y. In y (neighbors ls b)) (sym e) (both_in v (visits_at ls b) k).0 | inr e ↦ subst (λ y. In y (neighbors ls b)) (sym e) (both_in v (visits_at ls b) k).1 ]))
-      (in_distinct w.before (neighbors ls b) (both_in w (visits_at ls b) m).0)
-      (in_distinct w.after (neighbors ls b) (both_in w (visits_at ls b) m).1)
-      (λ e. no_turn w m e)
+      grind (arith, later_parts, of_two, two_test, or_parts, in_distinct x, in_distinct w.before, in_distinct w.after, both_in v, both_in w, no_turn w m)
 
 abbrev pub visit : Point → Point → Point → Visit
 visit a b c = record { before = a; here = b; after = c }
@@ -55,11 +50,7 @@ pub record Via (ls : List Stroke) (a b c : Point) : Type 0 where
   pub goes : b ≢ c
 
 pub via_back : (ls : List Stroke) (a b c : Point) → Via ls a b c → Via ls c b a
-via_back ls a b c v = record {
-  seen = elim v.seen [ inl k ↦ inr k | inr k ↦ inl k ];
-  comes = λ e. v.goes (sym e);
-  goes = λ e. v.comes (sym e);
-}
+via_back ls a b c v = grind arith
 
 -- the visit of a passage, in the direction that it has
 pub visit_of : (ls : List Stroke) (a b c : Point) → Via ls a b c → (v : Visit) × In v (visits_at ls b) × (((v.before ≡ a) × (v.after ≡ c)) ⊎ ((v.before ≡ c) × (v.after ≡ a)))

@@ -1,22 +1,20 @@
 -- What is known of lines by their vertices.
 use Rattle.std.proofs.Common.{◌≡◌, ℕ, zero, suc, ◌<◌, Bool, true, false, ◌||◌, List, [], ◌∷◌, ◌++◌, length, map, get_or, append_assoc, append-nil, refl, ap, sym, ◌∙◌, subst, arith, inl, inr}
-use Rattle.std.specs.Prelude.{slice_get, Some}
 use Rattle.std.specs.List.{flat_map}
 use Rattle.cutter.specs.Known.{AllKnown, IsReady}
 use Rattle.cutter.specs.Pieces.{split_at, start_in, from_start, pieces_of}
 use Rattle.cutter.specs.Places.{In, IsStructured}
 use Rattle.cutter.specs.Slices.{slices, indexes, SplitStroke, split_by, split_of, all_pieces, EndsPass}
-use Rattle.geojson_types.specs.Points.{Point}
-use Rattle.geojson_types.specs.Rings.{same}
-use Rattle.geojson_types.specs.declared.address.Address.{Address}
-use Rattle.linework.specs.Cleaning.{AllClean, IsClean}
-use Rattle.linework.specs.Cuts.{is_cut}
-use Rattle.linework.specs.Answers.{Answers, is_member, AnswersFor}
-use Rattle.linework.specs.Visits.{last}
-use Rattle.linework.specs.declared.stroke.Stroke.{Stroke}
+use Rattle.geometry.specs.Points.{Point}
+use Rattle.geometry.specs.Rings.{same}
+use Rattle.geometry.specs.declared.address.Address.{Address}
+use Rattle.geometry.proofs.Points.{same_self}
+use Rattle.junctions.specs.Cleaning.{AllClean, IsClean}
+use Rattle.junctions.specs.Cuts.{is_cut}
+use Rattle.junctions.specs.Visits.{last}
+use Rattle.junctions.specs.declared.stroke.Stroke.{Stroke}
+use Rattle.junctions.specs.Answers.{Answers, is_member, AnswersFor}
 use Rattle.cutter.proofs.Agreement.{in_start, start_agree, by_agree, ends_agree, split}
-use Rattle.linework.proofs.Cleaned.{same_self}
-use Rattle.linework.proofs.Members.{in_right, any_of, slice_in}
 use Rattle.cutter.proofs.OpenPieces.{end_cut}
 use Rattle.cutter.proofs.RingPieces.{turned_is}
 use Rattle.cutter.proofs.SliceLaws.{slices_are}
@@ -24,6 +22,7 @@ use Rattle.cutter.proofs.Starts.{ring_cut, start_cut, line}
 use Rattle.cutter.proofs.Structured.{clean_in, structured}
 use Rattle.std.proofs.Math.Bool.{or-true}
 use Rattle.std.proofs.lemmas.List.{map-append}
+use Rattle.list_laws.proofs.Members.{in_right, any_from_in}
 
 pub in_get : {X : Type 0} (xs : List X) (i : ℕ) (d : X) → i < length xs → In (get_or xs i d) xs
 in_get [] i d h = absurd (omega arith)
@@ -32,15 +31,11 @@ in_get (x ∷ xs) (suc i) d h = inr (in_get xs i d (omega arith))
 
 -- the answers are those of the lines
 pub cuts_known : (ls : List Stroke) (v : Answers) → AnswersFor ls v → (s : Stroke) → In s ls → (x : Point) → In x s.positions → is_member v.cuts x ≡ is_cut ls x
-cuts_known ls v k s m x i = k.cuts x (k.points x ∙ any_of (λ t. is_member t.positions x) s ls m (any_of (same x) x s.positions i (same_self x)))
+cuts_known ls v k s m x i = k.cuts x (k.points x ∙ any_from_in (λ t. is_member t.positions x) s ls m (any_from_in (same x) x s.positions i (same_self x)))
 
 -- the vertices of lines know each position of them
 pub stroke_known : (ls : List Stroke) (v : Answers) → AnswersFor ls v → (s : Stroke) → In s ls → AllKnown v.points s.positions
-stroke_known ls v k s m x i = k.points x ∙ any_of (λ t. is_member t.positions x) s ls m (any_of (same x) x s.positions i (same_self x))
-
--- those of the line that is asked for: what the start of a ring asks of its caller
-pub line_known : (ls : List Stroke) (v : Answers) → AnswersFor ls v → (i : ℕ) (s : Stroke) → slice_get ls i ≡ Some s → AllKnown v.points s.positions
-line_known ls v k i s e = stroke_known ls v k s (slice_in ls i s e)
+stroke_known ls v k s m x i = k.points x ∙ any_from_in (λ t. is_member t.positions x) s ls m (any_from_in (same x) x s.positions i (same_self x))
 
 -- they know the element of the list that is read
 pub known_at : (known ps : List Point) (i : ℕ) (x : Point) → AllKnown known ps → i < length ps → x ≡ get_or ps i x → is_member known x ≡ true
@@ -123,11 +118,4 @@ all_done f done rest all ys e n k = k ∙ ap (map f) (sym (append-nil done) ∙ 
 -- a line from its start with its cut indexes is a split line
 pub split_view : (cut : Point → Bool) (s : Stroke) (t : Stroke) (is : List ℕ) → t ≡ line s.address s.closed (from_start cut s) → is ≡ indexes cut 0 t.positions → EndsPass cut (from_start cut s) →
     split t.address t.closed t.positions (slices t.positions is) ≡ split_by cut s
-split_view cut s t is et ei h =
-    ap (λ l. split t.address t.closed t.positions (slices t.positions l)) ei
-    ∙ ap (λ z. split z.address z.closed z.positions (slices z.positions (indexes cut 0 z.positions))) et
-    ∙ ap (λ l. split s.address s.closed (from_start cut s) l) (all (from_start cut s) h)
-  where
-    all : (qs : List Point) → EndsPass cut qs → slices qs (indexes cut 0 qs) ≡ split_at cut qs
-    all [] k = refl
-    all (q ∷ qs) k = slices_are cut q qs k.0 k.1
+split_view cut s t is et ei h = grind (arith, split, slices_are)

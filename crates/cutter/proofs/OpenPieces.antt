@@ -1,18 +1,18 @@
 -- The pieces of an open line.
-use Rattle.std.proofs.Common.{◌≡◌, true, false, not, eqb, length, ◌&&◌, ◌||◌, List, [], ◌∷◌, append-nil, ap, sym, ◌∙◌, subst}
+use Rattle.std.proofs.Common.{◌≡◌, true, false, not, eqb, length, ◌&&◌, ◌||◌, List, ◌∷◌, append-nil, ap, sym, ◌∙◌, subst, arith}
 use Rattle.std.specs.List.{list_any}
 use Rattle.std.proofs.Math.Bool.{or-true}
 use Rattle.cutter.specs.Pieces.{pieces_of}
-use Rattle.geojson_types.specs.Points.{Point}
-use Rattle.geojson_types.specs.declared.address.Address.{Address}
-use Rattle.geojson_types.specs.Rings.{same}
-use Rattle.linework.specs.Cleaning.{Moves}
-use Rattle.linework.specs.Cuts.{is_cut, starts_free_ring}
-use Rattle.linework.specs.Visits.{visits, visits_from, visits_at, neighbors, distinct, last, is_end, ends_open}
-use Rattle.linework.specs.declared.stroke.Stroke.{Stroke}
-pub use Rattle.linework.proofs.Members.{in_flat}
-use Rattle.linework.proofs.Cleaned.{same_self}
-use Rattle.linework.proofs.Members.{any_of}
+use Rattle.geometry.specs.Points.{Point}
+use Rattle.geometry.specs.declared.address.Address.{Address}
+use Rattle.geometry.specs.Rings.{same}
+use Rattle.geometry.proofs.Points.{same_self}
+use Rattle.junctions.specs.Cleaning.{Moves}
+use Rattle.junctions.specs.Cuts.{is_cut, starts_free_ring}
+use Rattle.junctions.specs.Visits.{visits, visits_from, visits_at, neighbors, distinct, last, is_end, ends_open}
+use Rattle.junctions.specs.declared.stroke.Stroke.{Stroke}
+pub use Rattle.junctions.proofs.Members.{in_flat}
+use Rattle.list_laws.proofs.Members.{any_from_in}
 use Rattle.cutter.proofs.Junctions.{In, Via}
 use Rattle.cutter.proofs.Splits.{AllWalks}
 use Rattle.cutter.proofs.PieceLaws.{pieces_hold}
@@ -20,9 +20,7 @@ use Rattle.cutter.proofs.Starts.{line}
 
 -- an end of an open line is a cut position
 pub end_cut : (ls : List Stroke) (s : Stroke) (x : Point) → In s ls → (not s.closed && is_end x s.positions) ≡ true → is_cut ls x ≡ true
-end_cut ls s x k h =
-    let e : ends_open ls x ≡ true = any_of (λ s. not s.closed && is_end x s.positions) s ls k h in
-    ap (λ b. (b || (list_any (λ v. same v.before v.after) (visits_at ls x) || not (eqb (length (distinct (neighbors ls x))) 2))) || list_any (starts_free_ring ls x) ls) e
+end_cut ls s x k h = grind (arith, any_from_in)
 
 pub open_pieces : (ls : List Stroke) (at : Address) (p q : Point) (ps : List Point) → In (line at false (p ∷ (q ∷ ps))) ls → Moves p (q ∷ ps) →
     AllWalks (is_cut ls) (Via ls) (pieces_of ls (line at false (p ∷ (q ∷ ps))))

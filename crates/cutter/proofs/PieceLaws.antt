@@ -2,11 +2,11 @@
 use Rattle.std.proofs.Common.{◌≡◌, ◌≢◌, true, List, [], ◌∷◌, reverse, refl, ap, sym, ◌∙◌, subst, inl, inr, length, ◌<◌, arith}
 use Rattle.cutter.specs.Pieces.{pieces_from}
 use Rattle.cutter.specs.Places.{Apart, front_of, interior as interior_of}
-use Rattle.geojson_types.specs.Points.{Point}
-use Rattle.linework.specs.Cleaning.{Moves}
-use Rattle.linework.specs.Cuts.{is_cut}
-use Rattle.linework.specs.Visits.{Visit, visits_from, all_visits, last}
-use Rattle.linework.specs.declared.stroke.Stroke.{Stroke}
+use Rattle.geometry.specs.Points.{Point}
+use Rattle.junctions.specs.Cleaning.{Moves}
+use Rattle.junctions.specs.Cuts.{is_cut}
+use Rattle.junctions.specs.Visits.{Visit, visits_from, all_visits, last}
+use Rattle.junctions.specs.declared.stroke.Stroke.{Stroke}
 use Rattle.std.specs.List.{AllByRecursion}
 use Rattle.cutter.proofs.Walks.{At, first, later, same_way, other_way, never_back, interior_once, piece_moves}
 use Rattle.cutter.proofs.Junctions.{In, Via, visit, via_back, via_two, via_turn}
@@ -61,10 +61,7 @@ differs : (x : List Point) (once : (l : List Point) (a b c : Point) (r l' : List
     (l0 : List Point) (a0 b c0 : Point) (r0 : List Point) → At l0 a0 b (c0 ∷ r0) x →
     (l : List Point) (a y : Point) (r : List Point) → At l a y r x → length l0 < length l → AllByRecursion (λ z. b ≢ z) (front_of y r)
 differs x once l0 a0 b c0 r0 m l a y [] n h = tt
-differs x once l0 a0 b c0 r0 m l a y (z ∷ r) n h = (
-  λ e. let q : l0 ≡ l = once l0 a0 b c0 r0 l a z r m (subst (λ w. At l a w (z ∷ r) x) (sym e) n) in absurd (omega (arith, ap length q)),
-  differs x once l0 a0 b c0 r0 m (a ∷ l) y z r (later n) (omega arith),
-)
+differs x once l0 a0 b c0 r0 m l a y (z ∷ r) n h = grind (arith, once, later, differs x once l0 a0 b c0 r0 m (a ∷ l) y z r (later n) (omega arith))
 
 apart_at : (x : List Point) (once : (l : List Point) (a b c : Point) (r l' : List Point) (a' c' : Point) (r' : List Point) → At l a b (c ∷ r) x → At l' a' b (c' ∷ r') x → l ≡ l')
     (l : List Point) (a b : Point) (r : List Point) → At l a b r x → Apart (front_of b r)

@@ -1,10 +1,10 @@
 -- Starts and pieces of small linework, computed from the definitions.
 use Rattle.std.specs.Prelude.{◌≡◌, ℕ, Bool, true, false, List, [], ◌∷◌, map, pos, refl}
-use Rattle.geojson_types.specs.Points.{Point}
-use Rattle.geojson_types.specs.Rings.{same}
-use Rattle.linework.specs.Cuts.{is_cut}
-use Rattle.linework.specs.Visits.{is_junction}
-use Rattle.linework.specs.declared.stroke.Stroke.{Stroke}
+use Rattle.geometry.specs.Points.{Point}
+use Rattle.geometry.specs.Rings.{same}
+use Rattle.junctions.specs.Cuts.{is_cut}
+use Rattle.junctions.specs.Visits.{is_junction}
+use Rattle.junctions.specs.declared.stroke.Stroke.{Stroke}
 use Rattle.cutter.specs.Pieces.{start_in, pieces_of, pieces}
 use Rattle.cutter.specs.Segments.{is_segment, line_segments, piece_segments, times}
 

@@ -6,9 +6,9 @@ use Rattle.std.proofs.lemmas.List.{take_more, length-take}
 use Rattle.std.proofs.lemmas.List.Elements.{filter-append}
 use Rattle.cutter.specs.Pieces.{joined, pieces_from, split_at, first_at, start_in, turned}
 use Rattle.cutter.specs.Slices.{indexes, slices, IsRising, least_point, least_with}
-use Rattle.geojson_types.specs.Order.{is_before, least_of, is_least}
-use Rattle.geojson_types.specs.Points.{Point}
-use Rattle.linework.specs.Visits.{last}
+use Rattle.geometry.specs.Order.{is_before, least_of, is_least}
+use Rattle.geometry.specs.Points.{Point}
+use Rattle.junctions.specs.Visits.{last}
 
 -- the first of the indexes is not before the start
 FirstFrom : ℕ → List ℕ → Type 0
@@ -19,20 +19,12 @@ module _ (cut : Point → Bool) where
   indexes_from : (k m : ℕ) (ps : List Point) → k ≤ m → FirstFrom k (indexes cut m ps)
   unfolding FirstFrom
   indexes_from k m [] h = tt
-  indexes_from k m (p ∷ ps) h = on (cut p) (indexes_from k (m + 1) ps (omega (arith, h)))
-    where
-      on : (b : Bool) → FirstFrom k (indexes cut (m + 1) ps) → FirstFrom k (cond b (m ∷ indexes cut (m + 1) ps) (indexes cut (m + 1) ps))
-      on true e = h
-      on false e = e
+  indexes_from k m (p ∷ ps) h = grind (arith, indexes_from k (m + 1) ps (omega (arith, h)))
 
   -- the last passes, so an index is left
   some_place : (m : ℕ) (p : Point) (ps : List Point) → cut (last p ps) ≡ true → indexes cut m (p ∷ ps) ≢ []
   some_place m p [] h e = let z : m ∷ [] ≡ [] = ap (λ b. cond b (m ∷ []) []) (sym h) ∙ e in cc
-  some_place m p (q ∷ ps) h e = on (cut p) e (some_place (m + 1) q ps h)
-    where
-      on : (b : Bool) → cond b (m ∷ indexes cut (m + 1) (q ∷ ps)) (indexes cut (m + 1) (q ∷ ps)) ≡ [] → (indexes cut (m + 1) (q ∷ ps) ≢ []) → ⊥
-      on true e ih = cc
-      on false e ih = ih e
+  some_place m p (q ∷ ps) h e = grind (arith, some_place (m + 1) q ps h)
 
   drop_next : (k : ℕ) (w : List Point) (p : Point) (ps : List Point) → drop k w ≡ p ∷ ps → drop (k + 1) w ≡ ps
   drop_next zero [] p ps e = cc
@@ -41,32 +33,16 @@ module _ (cut : Point → Bool) where
   drop_next (suc k) (x ∷ w) p ps e = let n : suc k + 1 ≡ suc (k + 1) = omega arith in ap (λ m. drop m (x ∷ w)) n ∙ drop_next k w p ps e
 
   range_more : (w : List Point) (k j : ℕ) (p : Point) (ps : List Point) → drop k w ≡ p ∷ ps → k + 1 ≤ j → slice_range w k (j + 1) ≡ p ∷ slice_range w (k + 1) (j + 1)
-  range_more w k j p ps e h =
-      let n : (j + 1) - k ≡ suc ((j + 1) - (k + 1)) = omega (arith, h) in
-      ap (λ m. take m (drop k w)) n ∙ ap (λ l. take (suc ((j + 1) - (k + 1))) l) e ∙ ap (λ l. p ∷ take ((j + 1) - (k + 1)) l) (sym (drop_next k w p ps e))
+  range_more w k j p ps e h = grind (arith, drop_next)
 
   range_two : (w : List Point) (k : ℕ) (p q : Point) (ps : List Point) → drop k w ≡ p ∷ (q ∷ ps) → slice_range w k ((k + 1) + 1) ≡ p ∷ (q ∷ [])
-  range_two w k p q ps e =
-      let n : ((k + 1) + 1) - k ≡ 2 = omega arith in
-      ap (λ m. take m (drop k w)) n ∙ ap (λ l. take 2 l) e
+  range_two w k p q ps e = grind arith
 
   pub slices_from : (w : List Point) (k : ℕ) (p : Point) (ps : List Point) → drop k w ≡ p ∷ ps → cut (last p ps) ≡ true → slices w (k ∷ indexes cut (k + 1) ps) ≡ pieces_from cut p ps
   unfolding FirstFrom
   slices_from w k p [] e h = refl
-  slices_from w k p (q ∷ ps) e h = on (cut q) refl (slices_from w (k + 1) q ps (drop_next k w p (q ∷ ps) e) h)
-    where
-      part : (js : List ℕ) → js ≢ [] → FirstFrom (k + 1) js → slices w ((k + 1) ∷ js) ≡ pieces_from cut q ps → slices w (k ∷ js) ≡ joined false p q (pieces_from cut q ps)
-      part [] n f ih = absurd (n refl)
-      part (j ∷ js) n f ih = ap (λ x. x ∷ slices w (j ∷ js)) (range_more w k j p (q ∷ ps) e f) ∙ ap (λ l. joined false p q l) ih
-
-      on : (b : Bool) → cut q ≡ b → slices w ((k + 1) ∷ indexes cut ((k + 1) + 1) ps) ≡ pieces_from cut q ps →
-          slices w (k ∷ cond b ((k + 1) ∷ indexes cut ((k + 1) + 1) ps) (indexes cut ((k + 1) + 1) ps)) ≡ joined b p q (pieces_from cut q ps)
-      on true c ih = ap (λ x. x ∷ slices w ((k + 1) ∷ indexes cut ((k + 1) + 1) ps)) (range_two w k p q ps e) ∙ ap (λ l. (p ∷ (q ∷ [])) ∷ l) ih
-      on false c ih = part (indexes cut ((k + 1) + 1) ps) (left ps refl) (indexes_from (k + 1) ((k + 1) + 1) ps (omega arith)) ih
-        where
-          left : (zs : List Point) → zs ≡ ps → indexes cut ((k + 1) + 1) ps ≢ []
-          left [] f g = let z : true ≡ false = sym h ∙ ap (λ l. cut (last q l)) (sym f) ∙ c in cc
-          left (z ∷ zs) f g = some_place ((k + 1) + 1) z zs (ap (λ l. cut (last q l)) f ∙ h) (ap (λ l. indexes cut ((k + 1) + 1) l) f ∙ g)
+  slices_from w k p (q ∷ ps) e h =
+      grind (arith, drop_next, range_more, range_two, indexes_from, some_place, slices_from w (k + 1) q ps (drop_next k w p (q ∷ ps) e) h)
 
   -- the slices of a list whose ends pass are its pieces
   pub slices_are : (p : Point) (ps : List Point) → cut p ≡ true → cut (last p ps) ≡ true → slices (p ∷ ps) (indexes cut 0 (p ∷ ps)) ≡ split_at cut (p ∷ ps)
@@ -76,31 +52,12 @@ module _ (cut : Point → Bool) where
   pub indexes_rise : (n m : ℕ) (ps : List Point) → m + length ps ≤ n → IsRising n (indexes cut m ps)
   unfolding FirstFrom
   indexes_rise n m [] h = tt
-  indexes_rise n m (p ∷ ps) h = on (cut p) (indexes_rise n (m + 1) ps (omega (arith, h)))
-    where
-      put : (js : List ℕ) → FirstFrom (m + 1) js → IsRising n js → IsRising n (m ∷ js)
-      put [] f r = omega (arith, h)
-      put (j ∷ js) f r = (omega (arith, f), r)
-
-      on : (b : Bool) → IsRising n (indexes cut (m + 1) ps) → IsRising n (cond b (m ∷ indexes cut (m + 1) ps) (indexes cut (m + 1) ps))
-      on true r = put (indexes cut (m + 1) ps) (indexes_from (m + 1) (m + 1) ps (omega arith)) r
-      on false r = r
+  indexes_rise n m (p ∷ ps) h = grind (arith, indexes_from, indexes_rise n (m + 1) ps (omega (arith, h)))
 
   -- one more position
   pub indexes_more : (m : ℕ) (ps : List Point) (p : Point) → indexes cut m (ps ++ (p ∷ [])) ≡ indexes cut m ps ++ cond (cut p) ((m + length ps) ∷ []) []
   indexes_more m [] p = ap (λ k. cond (cut p) (k ∷ []) []) (omega arith)
-  indexes_more m (q ∷ ps) p = on (cut q) (indexes_more (m + 1) ps p)
-    where
-      end : List ℕ
-      end = cond (cut p) ((m + length (q ∷ ps)) ∷ []) []
-
-      fix : (m + 1) + length ps ≡ m + length (q ∷ ps)
-      fix = omega arith
-
-      on : (b : Bool) → indexes cut (m + 1) (ps ++ (p ∷ [])) ≡ indexes cut (m + 1) ps ++ cond (cut p) (((m + 1) + length ps) ∷ []) [] →
-          cond b (m ∷ indexes cut (m + 1) (ps ++ (p ∷ []))) (indexes cut (m + 1) (ps ++ (p ∷ []))) ≡ cond b (m ∷ indexes cut (m + 1) ps) (indexes cut (m + 1) ps) ++ cond (cut p) ((m + length (q ∷ ps)) ∷ []) []
-      on true ih = ap (λ l. m ∷ l) (ih ∙ ap (λ n. indexes cut (m + 1) ps ++ cond (cut p) (n ∷ []) []) fix)
-      on false ih = ih ∙ ap (λ n. indexes cut (m + 1) ps ++ cond (cut p) (n ∷ []) []) fix
+  indexes_more m (q ∷ ps) p = grind (arith, indexes_more (m + 1) ps p)
 
 -- the least of a list, one more
 least_more_of : (q : Point) (ps : List Point) (p : Point) → Some (least_of q (ps ++ (p ∷ []))) ≡ least_with (Some (least_of q ps)) p
@@ -108,16 +65,11 @@ least_more_of q [] p = refl
 least_more_of q (r ∷ ps) p = least_more_of (cond (is_before r q) r q) ps p
 
 pub least_more : (ps : List Point) (p : Point) → least_point (ps ++ (p ∷ [])) ≡ least_with (least_point ps) p
-least_more [] p = refl
-least_more (q ∷ ps) p = least_more_of q ps p
+least_more ps p = grind (arith, least_more_of)
 
 -- a turned ring, as two slices
 pub turned_is : (k : ℕ) (ps : List Point) → k < length ps → drop k ps ++ slice_range ps 1 (k + 1) ≡ turned k ps
-turned_is k [] h = absurd (omega arith)
-turned_is k (p ∷ ps) h =
-    let n : k + 1 ≡ suc k = omega arith in
-    let m : (k + 1) - 1 ≡ k = omega arith in
-    ap (λ j. drop k (p ∷ ps) ++ take j ps) m ∙ ap (λ j. drop k (p ∷ ps) ++ drop 1 (take j (p ∷ ps))) (sym n)
+turned_is k ps h = grind arith
 
 -- one more of the positions of which the least was taken
 pub least_turn : (t : Point → Bool) (ps : List Point) (i : ℕ) (d : Point) → i < length ps → least_point (filter t (take (i + 1) ps)) ≡ cond (t (get_or ps i d)) (least_with (least_point (filter t (take i ps))) (get_or ps i d)) (least_point (filter t (take i ps)))
@@ -128,14 +80,7 @@ least_turn t ps i d h = ap (λ l. least_point (filter t l)) (take_more ps i d h)
     on false = ap least_point (append-nil (filter t (take i ps)))
 
 pub indexes_turn : (t : Point → Bool) (ps : List Point) (i : ℕ) (d : Point) → i < length ps → indexes t 0 (take (i + 1) ps) ≡ indexes t 0 (take i ps) ++ cond (t (get_or ps i d)) (i ∷ []) []
-indexes_turn t ps i d h =
-    let n : 0 + length (take i ps) ≡ i = omega (arith, length-take i ps) in
-    ap (λ l. indexes t 0 l) (take_more ps i d h) ∙ indexes_more t 0 (take i ps) (get_or ps i d) ∙ ap (λ k. indexes t 0 (take i ps) ++ cond (t (get_or ps i d)) (k ∷ []) []) n
-
-pub first_turn : (t : Point → Bool) (ps : List Point) (i : ℕ) (d : Point) → i < length ps → first_at t (drop i ps) ≡ cond (t (get_or ps i d)) 0 (suc (first_at t (drop (i + 1) ps)))
-first_turn t [] i d h = absurd (omega arith)
-first_turn t (p ∷ ps) zero d h = refl
-first_turn t (p ∷ ps) (suc i) d h = let n : suc i + 1 ≡ suc (i + 1) = omega arith in first_turn t ps i d (omega arith) ∙ ap (λ m. cond (t (get_or ps i d)) 0 (suc (first_at t (drop m (p ∷ ps))))) (sym n)
+indexes_turn t ps i d h = grind (arith, length-take i ps, take_more ps i d h, indexes_more t 0 (take i ps) (get_or ps i d))
 
 -- the first two of rising indexes
 below : (n i : ℕ) (is : List ℕ) → IsRising n (i ∷ is) → i < n
@@ -147,11 +92,6 @@ two_indexes n [] h k = absurd (omega arith)
 two_indexes n (i ∷ []) h k = absurd (omega arith)
 two_indexes n (i ∷ (j ∷ js)) h k = (h.0, below n j js h.1, h.1)
 
-pub first_slice : (ps : List Point) (is : List ℕ) → 2 ≤ length is → slices ps is ≡ slice_range ps (get_or is 0 0) (get_or is 1 0 + 1) ∷ slices ps (drop 1 is)
-first_slice ps [] k = absurd (omega arith)
-first_slice ps (i ∷ []) k = absurd (omega arith)
-first_slice ps (i ∷ (j ∷ js)) k = refl
-
 pub no_slice : (ps : List Point) (is : List ℕ) → length is < 2 → slices ps is ≡ []
 no_slice ps [] k = refl
 no_slice ps (i ∷ []) k = refl
@@ -159,17 +99,11 @@ no_slice ps (i ∷ (j ∷ js)) k = absurd (omega arith)
 
 pub least_step : (t : Point → Bool) (ps : List Point) (i : ℕ) (x : Point) (best : Option Point) → i < length ps → x ≡ get_or ps i x → best ≡ least_point (filter t (take i ps)) →
     cond (t x) (least_with best x) best ≡ least_point (filter t (take (i + 1) ps))
-least_step t ps i x best h e g =
-    ap (λ o. cond (t x) (least_with o x) o) g
-    ∙ ap (λ y. cond (t y) (least_with (least_point (filter t (take i ps))) y) (least_point (filter t (take i ps)))) e
-    ∙ sym (least_turn t ps i x h)
+least_step t ps i x best h e g = grind (arith, least_turn)
 
 pub indexes_step : (t : Point → Bool) (ps : List Point) (i : ℕ) (x : Point) (is : List ℕ) → i < length ps → x ≡ get_or ps i x → is ≡ indexes t 0 (take i ps) →
     is ++ cond (t x) (i ∷ []) [] ≡ indexes t 0 (take (i + 1) ps)
-indexes_step t ps i x is h e g =
-    ap (λ y. is ++ cond (t y) (i ∷ []) []) e
-    ∙ ap (λ l. l ++ cond (t (get_or ps i x)) (i ∷ []) []) g
-    ∙ sym (indexes_turn t ps i x h)
+indexes_step t ps i x is h e g = grind (arith, indexes_turn)
 
 -- no cut position
 pub no_start : (cut : Point → Bool) (ps : List Point) → least_point (filter cut ps) ≡ None → length ps ≡ start_in cut ps

@@ -1,9 +1,9 @@
 -- The pieces that a split gives.
-use Rattle.std.proofs.Common.{◌≡◌, ◌≢◌, Bool, true, false, List, [], ◌∷◌, refl, ap, sym, subst}
+use Rattle.std.proofs.Common.{◌≡◌, ◌≢◌, Bool, true, false, List, [], ◌∷◌, refl, ap, sym, subst, arith}
 use Rattle.cutter.specs.Pieces.{joined, pieces_from}
-use Rattle.geojson_types.specs.Points.{Point}
-use Rattle.linework.specs.Cleaning.{Moves}
-use Rattle.linework.specs.Visits.{last}
+use Rattle.geometry.specs.Points.{Point}
+use Rattle.junctions.specs.Cleaning.{Moves}
+use Rattle.junctions.specs.Visits.{last}
 use Rattle.cutter.proofs.Walks.{Run, IsPiece, stop, go}
 
 module _ (cut : Point → Bool) (Via : Point → Point → Point → Type 0) where
@@ -34,20 +34,8 @@ module _ (cut : Point → Bool) (Via : Point → Point → Point → Type 0) whe
 
   pub begins : (p q : Point) (ps : List Point) → Steps p q ps → Moves p (q ∷ ps) → cut (last q ps) ≡ true → Begins p q (pieces_from cut p (q ∷ ps))
   begins p q [] s m c = record { t = []; rest = []; is = ap (λ b. joined b p q []) c; runs = stop c; others = tt }
-  begins p q (r ∷ ps) s m c = on (cut q) refl (begins q r ps s.1 m.1 c)
-    where
-      on : (b : Bool) → cut q ≡ b → Begins q r (pieces_from cut q (r ∷ ps)) → Begins p q (joined b p q (pieces_from cut q (r ∷ ps)))
-      on true e h = record {
-        t = [];
-        rest = (q ∷ (r ∷ h.t)) ∷ h.rest;
-        is = ap (λ l. (p ∷ (q ∷ [])) ∷ l) h.is;
-        runs = stop e;
-        others = (record { p = q; q = r; t = h.t; is = refl; differ = m.1.0; walk = record { begins = e; runs = h.runs } }, h.others);
-      }
-      on false e h = record { t = r ∷ h.t; rest = h.rest; is = ap (λ l. joined false p q l) h.is; runs = go e s.0 h.runs; others = h.others }
+  begins p q (r ∷ ps) s m c = grind (arith, stop, go, begins q r ps s.1 m.1 c)
 
   -- a split of a list from cut to cut gives walks from cut to cut
   pub all_walks : (p q : Point) (ps : List Point) → cut p ≡ true → Steps p q ps → Moves p (q ∷ ps) → cut (last q ps) ≡ true → AllWalks (pieces_from cut p (q ∷ ps))
-  all_walks p q ps h s m c =
-      let b = begins p q ps s m c in
-      subst (λ l. AllWalks l) (sym b.is) (record { p = p; q = q; t = b.t; is = refl; differ = m.0; walk = record { begins = h; runs = b.runs } }, b.others)
+  all_walks p q ps h s m c = grind (arith, begins)

@@ -4,36 +4,25 @@ use Rattle.std.specs.List.{filter, list_any, list_all}
 use Rattle.std.specs.Ordering.{is_lt}
 use Rattle.std.proofs.Math.Bool.{or-true}
 use Rattle.cutter.specs.Pieces.{first_at, start_in}
-use Rattle.geojson_types.specs.Order.{point_cmp, least_of, is_least}
-use Rattle.geojson_types.specs.Points.{Point}
-use Rattle.geojson_types.specs.declared.address.Address.{Address}
-use Rattle.geojson_types.specs.Rings.{same}
-use Rattle.linework.specs.Cuts.{starts_free_ring, is_cut}
-use Rattle.linework.specs.Visits.{is_junction}
-use Rattle.linework.specs.declared.stroke.Stroke.{Stroke}
-pub use Rattle.linework.proofs.Members.{any_of}
-use Rattle.linework.proofs.Cleaned.{same_self, same_is}
-use Rattle.linework.proofs.Members.{in_filter, from_filter}
+use Rattle.geometry.specs.Order.{point_cmp, least_of, is_least}
+use Rattle.geometry.specs.Points.{Point}
+use Rattle.geometry.specs.declared.address.Address.{Address}
+use Rattle.geometry.specs.Rings.{same}
+use Rattle.geometry.proofs.Points.{same_is, same_self}
+use Rattle.junctions.specs.Cuts.{starts_free_ring, is_cut}
+use Rattle.junctions.specs.Visits.{is_junction}
+use Rattle.junctions.specs.declared.stroke.Stroke.{Stroke}
+use Rattle.junctions.proofs.Members.{in_filter, from_filter}
 use Rattle.cutter.proofs.Junctions.{In}
+use Rattle.list_laws.proofs.Members.{any_from_in}
 
 least_in : (p : Point) (qs : List Point) → In (least_of p qs) (p ∷ qs)
 least_in p [] = inl refl
-least_in p (q ∷ qs) = on (is_lt (point_cmp q p)) (least_in q qs) (least_in p qs)
-  where
-    on : (b : Bool) → In (least_of q qs) (q ∷ qs) → In (least_of p qs) (p ∷ qs) → In (least_of (cond b q p) qs) (p ∷ (q ∷ qs))
-    on true h k = inr h
-    on false (h) (inl e) = inl e
-    on false (h) (inr k) = inr (inr k)
+least_in p (q ∷ qs) = grind (arith, least_in q qs, least_in p qs)
 
 pub first_passes : (t : Point → Bool) (x d : Point) (xs : List Point) → In x xs → t x ≡ true → (first_at t xs < length xs) × (t (get_or xs (first_at t xs) d) ≡ true)
 first_passes t x d [] k h = elim k [ ]
-first_passes t x d (y ∷ ys) k h = on (t y) refl k (λ m. first_passes t x d ys m h)
-  where
-    on : (b : Bool) → t y ≡ b → In x (y ∷ ys) → (In x ys → (first_at t ys < length ys) × (t (get_or ys (first_at t ys) d) ≡ true)) →
-        (cond b 0 (suc (first_at t ys)) < length (y ∷ ys)) × (t (get_or (y ∷ ys) (cond b 0 (suc (first_at t ys))) d) ≡ true)
-    on true e k ih = (omega arith, e)
-    on false e (inl k) ih = let z : true ≡ false = sym h ∙ ap t k ∙ e in cc
-    on false e (inr k) ih = let m = ih k in (omega (arith, m.0), m.1)
+first_passes t x d (y ∷ ys) k h = grind (arith, first_passes t x d ys)
 
 least_is_in : (p : Point) (xs : List Point) → is_least p xs ≡ true → In p xs
 least_is_in p [] h = cc
@@ -56,11 +45,7 @@ start_cut cut q d ps k h = on (filter cut ps) refl (in_filter cut q ps k h)
 
 not_all : (t : Point → Bool) (xs : List Point) → list_all (λ q. not (t q)) xs ≡ false → (x : Point) × In x xs × (t x ≡ true)
 not_all t [] h = cc
-not_all t (y ∷ ys) h = on (t y) refl (λ k. not_all t ys k)
-  where
-    on : (b : Bool) → t y ≡ b → (list_all (λ q. not (t q)) ys ≡ false → (x : Point) × In x ys × (t x ≡ true)) → (x : Point) × In x (y ∷ ys) × (t x ≡ true)
-    on true e ih = (y, inl refl, e)
-    on false e ih = let k = ih (ap (λ b. not b && list_all (λ q. not (t q)) ys) (sym e) ∙ h) in (k.0, inr k.1, k.2)
+not_all t (y ∷ ys) h = grind (arith, not_all t ys)
 
 -- a line with its address
 abbrev pub line : Address → Bool → List Point → Stroke
@@ -74,5 +59,5 @@ ring_cut ls at a as' k = on (list_all (λ q. not (is_junction ls q)) (a ∷ as')
     on true e =
         let m = least_of a as' in
         let loose : starts_free_ring ls (least_of a as') (line at true (a ∷ as')) ≡ true = ap (λ b. b && same (least_of a as') (least_of a as')) e ∙ same_self (least_of a as') in
-        (least_of a as', least_in a as', ap (λ b. is_junction ls (least_of a as') || b) (any_of (starts_free_ring ls (least_of a as')) (line at true (a ∷ as')) ls k loose) ∙ or-true (is_junction ls (least_of a as')))
+        (least_of a as', least_in a as', ap (λ b. is_junction ls (least_of a as') || b) (any_from_in (starts_free_ring ls (least_of a as')) (line at true (a ∷ as')) ls k loose) ∙ or-true (is_junction ls (least_of a as')))
     on false e = let j = not_all (is_junction ls) (a ∷ as') e in (j.0, j.1, ap (λ b. b || list_any (starts_free_ring ls j.0) ls) j.2)

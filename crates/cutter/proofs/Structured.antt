@@ -2,13 +2,13 @@
 use Rattle.std.proofs.Common.{Bool, true, false, List, [], ◌∷◌, refl, sym, subst, inl, inr, ◌≤◌, length, arith}
 use Rattle.cutter.specs.Pieces.{pieces_of, pieces}
 use Rattle.cutter.specs.Places.{IsStructured}
-use Rattle.geojson_types.specs.Points.{Point}
-use Rattle.geojson_types.specs.declared.address.Address.{Address}
+use Rattle.geometry.specs.Points.{Point}
+use Rattle.geometry.specs.declared.address.Address.{Address}
 use Rattle.cutter.proofs.Starts.{line}
-use Rattle.linework.specs.Cleaning.{IsClean, AllClean}
-use Rattle.linework.specs.Cuts.{is_cut}
-use Rattle.linework.specs.declared.stroke.Stroke.{Stroke}
-pub use Rattle.linework.proofs.Members.{in_either as in_append, from_flat}
+use Rattle.junctions.specs.Cleaning.{IsClean, AllClean}
+use Rattle.junctions.specs.Cuts.{is_cut}
+use Rattle.junctions.specs.declared.stroke.Stroke.{Stroke}
+pub use Rattle.junctions.proofs.Members.{from_flat}
 use Rattle.cutter.proofs.Junctions.{In, Via}
 use Rattle.cutter.proofs.Splits.{IsWalk, AllWalks}
 use Rattle.cutter.proofs.PieceLaws.{IsPieceOf, one_way, two_ways, once, not_back, interior_apart}
@@ -27,10 +27,7 @@ clean_in s (t ∷ ts) h (inr k) = clean_in s ts h.1 k
 
 stroke_walks : (ls : List Stroke) (at : Address) (closed : Bool) (ps : List Point) → In (line at closed ps) ls → IsClean (line at closed ps) →
     AllWalks (is_cut ls) (Via ls) (pieces_of ls (line at closed ps))
-stroke_walks ls at closed [] k h = elim h [ ]
-stroke_walks ls at closed (p ∷ []) k h = elim h [ ]
-stroke_walks ls at true (p ∷ (q ∷ ps)) k h = ring_pieces ls at p q ps k (h.1 refl) h.0
-stroke_walks ls at false (p ∷ (q ∷ ps)) k h = open_pieces ls at p q ps k h.0
+stroke_walks ls at closed ps h k = grind (arith, ring_pieces, open_pieces)
 
 -- each piece of the lines is a walk from cut to cut
 pub piece_of : (ls : List Stroke) → AllClean ls → (x : List Point) → In x (pieces ls) → IsPieceOf ls x
@@ -43,11 +40,4 @@ two_or_more ls x h = subst (λ l. 2 ≤ length l) (sym h.is) (omega arith)
 
 -- what the pieces of lines keep
 pub structured : (ls : List Stroke) → AllClean ls → IsStructured (pieces ls)
-structured ls clean = record {
-  same_way = λ x y k m l a b r l' r' h o. one_way ls x y (piece_of ls clean x k) (piece_of ls clean y m) h o;
-  opposite = λ x y k m l a b r l' r' h o. two_ways ls x y (piece_of ls clean x k) (piece_of ls clean y m) h o;
-  once = λ x k l a b r l' r' h o. once ls x (piece_of ls clean x k) h o;
-  not_back = λ x k l a b r l' r' h o. not_back ls x (piece_of ls clean x k) h o;
-  interior = λ x k. interior_apart ls x (piece_of ls clean x k);
-  long = λ x k. two_or_more ls x (piece_of ls clean x k);
-}
+structured ls clean = grind (arith, one_way, piece_of, two_ways, once, not_back, interior_apart, two_or_more)

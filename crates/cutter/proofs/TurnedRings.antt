@@ -1,7 +1,7 @@
 -- A ring that is turned to another start has the same passages.
 use Rattle.std.proofs.Common.{◌≡◌, ◌≢◌, ℕ, zero, suc, ◌+◌, ◌≤◌, List, [], ◌∷◌, ◌++◌, take, drop, length, append_assoc, append-nil, refl, ap, sym, ◌∙◌, subst, arith}
 use Rattle.cutter.specs.Pieces.{turned}
-use Rattle.geojson_types.specs.Points.{Point}
+use Rattle.geometry.specs.Points.{Point}
 
 module _ (Via : Point → Point → Point → Type 0) where
   -- a walk on from p to q: each two in a row differ, and each three in a row are a passage
@@ -15,9 +15,7 @@ module _ (Via : Point → Point → Point → Type 0) where
   Good (p ∷ (q ∷ ps)) = Goes p q ps
 
   good_rest : (x : Point) (xs : List Point) → Good (x ∷ xs) → Good xs
-  good_rest x [] h = tt
-  good_rest x (y ∷ []) h = tt
-  good_rest x (y ∷ (z ∷ zs)) h = h.2
+  good_rest x xs h = grind arith
 
   pub good_drop : (k : ℕ) (xs : List Point) → Good xs → Good (drop k xs)
   good_drop zero xs h = h
@@ -30,9 +28,7 @@ module _ (Via : Point → Point → Point → Type 0) where
   goes_left p q (x ∷ xs) ys h = (h.0, h.1, goes_left q x xs ys h.2)
 
   pub good_left : (xs ys : List Point) → Good (xs ++ ys) → Good xs
-  good_left [] ys h = tt
-  good_left (x ∷ []) ys h = tt
-  good_left (x ∷ (y ∷ xs)) ys h = goes_left x y xs ys h
+  good_left xs ys h = grind (arith, goes_left)
 
   goes_take : (p q : Point) (k : ℕ) (ps : List Point) → Goes p q ps → Goes p q (take k ps)
   goes_take p q zero [] h = h

@@ -1,7 +1,7 @@
 -- Walks from cut to cut: the first segment decides the rest.
 use Rattle.std.proofs.Common.{◌≡◌, ◌≢◌, ◌<◌, ◌≤◌, Bool, true, false, List, [], ◌∷◌, ◌++◌, length, reverse, append_assoc, refl, ap, sym, ◌∙◌, subst, arith, ◌⊎◌, inl, inr}
 pub use Rattle.cutter.specs.Places.{At, first, later}
-use Rattle.geojson_types.specs.Points.{Point}
+use Rattle.geometry.specs.Points.{Point}
 use mathlib.Core.List.{reverse-cons}
 use Rattle.std.proofs.lemmas.List.{reverse-append}
 use Rattle.std.proofs.lemmas.Bool.{cases_lt}
@@ -20,10 +20,7 @@ pub at_place : {l : List Point} {a b : Point} {r xs : List Point} {l' : List Poi
 at_place first first e n = (refl, cc, cc, cc)
 at_place first (later k) e n = absurd (omega arith)
 at_place (later h) first e n = absurd (omega arith)
-at_place (later {l} {a} {b} {c} {r} h) (later {l = l'} {a = a'} {b = b'} {c = c'} {r = r'} k) e n = on (at_place h k e (omega arith))
-  where
-    on : (l ≡ l') × (a ≡ a') × (b ≡ b') × (c ∷ r ≡ c' ∷ r') → (a ∷ l ≡ a' ∷ l') × (b ≡ b') × (c ≡ c') × (r ≡ r')
-    on (p, q, s, t) = (cc, s, cc, cc)
+at_place (later {l} {a} {b} {c} {r} h) (later {l = l'} {a = a'} {b = b'} {c = c'} {r = r'} k) e n = grind (arith, at_place h k e (omega arith))
 
 -- what follows is one more step
 at_back : {l : List Point} {a b c : Point} {r xs : List Point} → At (c ∷ l) b a r xs → At l c b (a ∷ r) xs
@@ -45,11 +42,7 @@ module _ (cut : Point → Bool) (Via : Point → Point → Point → Type 0) whe
       (two : (a b c d e : Point) → cut b ≡ false → Via a b c → Via d b e → (a ≡ d) ⊎ (a ≡ e))
       (turn : (a b : Point) → cut b ≡ false → Via a b a → ⊥) where
     forth : (a b c d : Point) → cut b ≡ false → Via a b c → Via a b d → c ≡ d
-    forth a b c d n h k = by_case (two c b a d a n (back a b c h) (back a b d k))
-      where
-        by_case : (c ≡ d) ⊎ (c ≡ a) → c ≡ d
-        by_case (inl e) = e
-        by_case (inr e) = absurd (turn a b n (subst (λ x. Via a b x) e h))
+    forth a b c d n h k = grind arith
 
     -- the same walk
     pub run_unique : {a b : Point} {xs ys : List Point} → Run a b xs → Run a b ys → xs ≡ ys

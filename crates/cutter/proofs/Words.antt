@@ -5,22 +5,15 @@ use Rattle.std.proofs.lemmas.List.Sums.{sum_by-cons}
 use Rattle.cutter.specs.Places.{At, In, IsStructured, first, later}
 use Rattle.cutter.specs.Segments.{Segment, segments, segments_from, is_segment, times}
 use Rattle.cutter.specs.Structure.{SharersAreAlike, SegmentsAreOnce}
-use Rattle.geojson_types.specs.Points.{Point}
-use Rattle.geojson_types.specs.Rings.{same}
+use Rattle.geometry.specs.Points.{Point}
+use Rattle.geometry.specs.Rings.{same}
+use Rattle.geometry.proofs.Points.{same_is}
 use Rattle.std.proofs.lemmas.Bool.{and_parts}
-use Rattle.linework.proofs.Cleaned.{same_is}
 
 -- the segment between a and b goes from the one to the other
 pub segment_ends : (a b : Point) (s : Segment) → is_segment a b s ≡ true → ((a ≡ s.from) × (b ≡ s.to)) ⊎ ((a ≡ s.to) × (b ≡ s.from))
 unfolding is_segment
-segment_ends a b s h = elim (or_case (same a s.from && same b s.to) (same a s.to && same b s.from) h) [
-  | inl e ↦ inl (same_is a s.from (and_parts (same a s.from) (same b s.to) e).0, same_is b s.to (and_parts (same a s.from) (same b s.to) e).1)
-  | inr e ↦ inr (same_is a s.to (and_parts (same a s.to) (same b s.from) e).0, same_is b s.from (and_parts (same a s.to) (same b s.from) e).1)
-]
-  where
-    or_case : (x y : Bool) → (x || y) ≡ true → (x ≡ true) ⊎ (y ≡ true)
-    or_case true y h = inl refl
-    or_case false y h = inr h
+segment_ends a b s h = grind (arith, same_is, and_parts)
 
 -- no two of the list pass
 abbrev Once : {X : Type 0} → (X → Bool) → List X → Type 0
@@ -29,11 +22,7 @@ Once {X = X} t (x ∷ xs) = ((y : X) → In y xs → t x ≡ true → t y ≡ tr
 
 count_none : {X : Type 0} (t : X → Bool) (xs : List X) → ((y : X) → In y xs → t y ≡ true → ⊥) → count_by t xs ≡ 0
 count_none t [] h = refl
-count_none t (x ∷ xs) h = sum_by-cons (λ z. cond (t z) 1 0) x xs ∙ on (t x) refl (count_none t xs (λ y k. h y (inr k)))
-  where
-    on : (b : Bool) → t x ≡ b → count_by t xs ≡ 0 → cond b 1 0 + count_by t xs ≡ 0
-    on true e ih = absurd (h x (inl refl) e)
-    on false e ih = omega (arith, ih)
+count_none t (x ∷ xs) h = grind (arith, sum_by-cons, count_none t xs)
 
 count_most : {X : Type 0} (t : X → Bool) (xs : List X) → Once t xs → count_by t xs ≤ 1
 count_most t [] o = omega arith
@@ -46,11 +35,7 @@ count_most t (y ∷ ys) o = subst (λ n. n ≤ 1) (sym (sum_by-cons (λ z. cond 
 -- where a test passes at times, one of the list passes
 pub count_some : {X : Type 0} (t : X → Bool) (xs : List X) → 0 < count_by t xs → (x : X) × In x xs × (t x ≡ true)
 count_some t [] h = absurd (omega arith)
-count_some {X = X} t (y ∷ ys) h = on (t y) refl (subst (λ n. 0 < n) (sum_by-cons (λ z. cond (t z) 1 0) y ys) h) (λ k. count_some t ys k)
-  where
-    on : (b : Bool) → t y ≡ b → 0 < cond b 1 0 + count_by t ys → (0 < count_by t ys → (x : X) × In x ys × (t x ≡ true)) → (x : X) × In x (y ∷ ys) × (t x ≡ true)
-    on true e k ih = (y, inl refl, e)
-    on false e k ih = let r = ih (omega (arith, k)) in (r.0, inr r.1, r.2)
+count_some {X = X} t (y ∷ ys) h = grind (arith, sum_by-cons, count_some t ys)
 
 at_more : {l : List Point} {a b : Point} {r xs : List Point} → (p : Point) → At l a b r xs → At (l ++ (p ∷ [])) a b r (p ∷ xs)
 at_more p first = later first
@@ -63,31 +48,15 @@ place_of s p (q ∷ ps) (inl e) = ([], ps, subst (λ z. At [] z.from z.to ps (p 
 place_of s p (q ∷ ps) (inr k) = let h = place_of s q ps k in (h.0 ++ (p ∷ []), h.1, at_more p h.2)
 
 pub place : (s : Segment) (xs : List Point) → In s (segments xs) → (l : List Point) × (r : List Point) × At l s.from s.to r xs
-place s [] k = elim k [ ]
-place s (p ∷ ps) k = place_of s p ps k
+place s xs h = grind (arith, place_of)
 
 -- a segment that occurs has a place, in one of the directions
 occurs_at : (a b : Point) (x : List Point) → 0 < times a b (segments x) → (l : List Point) × (r : List Point) × (At l a b r x ⊎ At l b a r x)
-occurs_at a b x h =
-    let s = count_some (is_segment a b) (segments x) h in
-    let p = place s.0 x s.1 in (
-      p.0,
-      p.1,
-      elim (segment_ends a b s.0 s.2) [
-        | inl e ↦ inl (subst (λ z. At p.0 z b p.1 x) (sym e.0) (subst (λ z. At p.0 s.0.from z p.1 x) (sym e.1) p.2))
-        | inr e ↦ inr (subst (λ z. At p.0 z a p.1 x) (sym e.1) (subst (λ z. At p.0 s.0.from z p.1 x) (sym e.0) p.2))
-      ],
-    )
+occurs_at a b x h = grind (arith, count_some, place, segment_ends)
 
 module _ (xs : List (List Point)) (h : IsStructured xs) where
   pub sharers : SharersAreAlike xs
-  sharers x y i j a b m n = on (occurs_at a b x m) (occurs_at a b y n)
-    where
-      on : (l : List Point) × (r : List Point) × (At l a b r x ⊎ At l b a r x) → (l : List Point) × (r : List Point) × (At l a b r y ⊎ At l b a r y) → (x ≡ y) ⊎ (x ≡ reverse y)
-      on (l, r, inl p) (l', r', inl q) = inl (h.same_way x y i j l a b r l' r' p q)
-      on (l, r, inl p) (l', r', inr q) = inr (h.opposite x y i j l a b r l' r' p q)
-      on (l, r, inr p) (l', r', inl q) = inr (h.opposite x y i j l b a r l' r' p q)
-      on (l, r, inr p) (l', r', inr q) = inl (h.same_way x y i j l b a r l' r' p q)
+  sharers x y i j a b m n = grind (arith, occurs_at)
 
   -- two places of a segment are one
   clash : (x : List Point) → In x xs → (a b : Point) (l : List Point) (s : Segment) (r : List Point) (l' : List Point) (t : Segment) (r' : List Point) →

@@ -1,8 +1,8 @@
 -- What vertices know of the positions of a line that is to be split.
 use Rattle.std.specs.Prelude.{◌≡◌, ◌<◌, true, List, length}
-use Rattle.geojson_types.specs.Points.{Point}
-use Rattle.linework.specs.Answers.{Answers, is_member}
-use Rattle.linework.specs.declared.stroke.Stroke.{Stroke}
+use Rattle.geometry.specs.Points.{Point}
+use Rattle.junctions.specs.Answers.{Answers, is_member}
+use Rattle.junctions.specs.declared.stroke.Stroke.{Stroke}
 use Rattle.cutter.specs.Pieces.{start_in, from_start}
 use Rattle.cutter.specs.Places.{In}
 use Rattle.cutter.specs.Slices.{EndsPass}

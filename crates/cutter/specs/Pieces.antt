@@ -1,10 +1,10 @@
 -- Starts of rings, and the pieces into which lines are split.
 use Rattle.std.specs.Prelude.{ℕ, suc, ◌+◌, Bool, true, false, List, [], ◌∷◌, ◌++◌, take, drop, if◌then◌else◌}
 use Rattle.std.specs.List.{filter, flat_map}
-use Rattle.geojson_types.specs.Order.{is_least}
-use Rattle.geojson_types.specs.Points.{Point}
-use Rattle.linework.specs.Cuts.{is_cut}
-use Rattle.linework.specs.declared.stroke.Stroke.{Stroke}
+use Rattle.geometry.specs.Order.{is_least}
+use Rattle.geometry.specs.Points.{Point}
+use Rattle.junctions.specs.Cuts.{is_cut}
+use Rattle.junctions.specs.declared.stroke.Stroke.{Stroke}
 
 -- the index of the first position that passes the test, or the length
 abbrev pub first_at : (Point → Bool) → List Point → ℕ

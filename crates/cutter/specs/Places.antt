@@ -1,8 +1,8 @@
 -- Where segments and positions stand in pieces, and what the pieces of lines keep.
 use Rattle.std.specs.Prelude.{◌≡◌, ◌≤◌, List, [], ◌∷◌, length, reverse}
-use Rattle.geojson_types.specs.Points.{Point}
-pub use Rattle.geojson_types.specs.Lists.{tail, front_of, front, interior, Apart}
-pub use Rattle.linework.specs.Among.{In}
+use Rattle.geometry.specs.Points.{Point}
+pub use Rattle.geometry.specs.Lists.{tail, front_of, front, interior, Apart}
+pub use Rattle.junctions.specs.Among.{In}
 
 -- the piece has the segment from a to b, with the positions l before it, backwards, and r behind it
 pub data At : List Point → Point → Point → List Point → List Point → Type 0 where

@@ -1,9 +1,9 @@
 -- Segments of lists of positions, and how often they occur.
 use Rattle.std.specs.Prelude.{ℕ, Bool, ◌&&◌, ◌||◌, List, [], ◌∷◌}
 use Rattle.std.specs.List.{flat_map, count_by}
-use Rattle.geojson_types.specs.Points.{Point}
-use Rattle.geojson_types.specs.Rings.{same}
-use Rattle.linework.specs.declared.stroke.Stroke.{Stroke}
+use Rattle.geometry.specs.Points.{Point}
+use Rattle.geometry.specs.Rings.{same}
+use Rattle.junctions.specs.declared.stroke.Stroke.{Stroke}
 
 -- two positions in a row
 pub record Segment : Type 0 where

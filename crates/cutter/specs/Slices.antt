@@ -1,11 +1,11 @@
 -- Lines that are split at indexes, and what contracts see of the pieces of lines.
 use Rattle.std.specs.Prelude.{◌≡◌, ℕ, ◌+◌, ◌<◌, Bool, true, List, [], ◌∷◌, map, Option, None, Some, if◌then◌else◌}
 use Rattle.std.specs.List.{slice_range, flat_map, AllByRecursion}
-use Rattle.geojson_types.specs.Order.{is_before, least_of}
-use Rattle.geojson_types.specs.Points.{Point}
-use Rattle.linework.specs.Cuts.{is_cut}
-use Rattle.linework.specs.Visits.{last}
-use Rattle.linework.specs.declared.stroke.Stroke.{Stroke}
+use Rattle.geometry.specs.Order.{is_before, least_of}
+use Rattle.geometry.specs.Points.{Point}
+use Rattle.junctions.specs.Cuts.{is_cut}
+use Rattle.junctions.specs.Visits.{last}
+use Rattle.junctions.specs.declared.stroke.Stroke.{Stroke}
 use Rattle.cutter.specs.Pieces.{from_start, split_at, rejoined}
 use Rattle.cutter.specs.Segments.{segments, piece_segments}
 

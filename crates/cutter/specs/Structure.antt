@@ -1,6 +1,6 @@
 -- What the pieces of lines have in common, in words of segments.
 use Rattle.std.specs.Prelude.{◌≡◌, ◌⊎◌, ◌<◌, ◌≤◌, List, length, reverse}
-use Rattle.geojson_types.specs.Points.{Point}
+use Rattle.geometry.specs.Points.{Point}
 use Rattle.cutter.specs.Places.{In, Apart, interior}
 use Rattle.cutter.specs.Segments.{segments, times}
 

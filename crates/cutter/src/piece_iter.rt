@@ -3,7 +3,7 @@ ghost use Rattle.std.specs.Prelude.{◌≡◌, length, slice_index_or};
 ghost use Rattle.std.specs.Iterator.{YieldsFirstRef, item_count};
 ghost use Rattle.cutter.specs.Slices.{slices, IsRising};
 
-use geojson_types::Position;
+use geometry::Position;
 use std::marker::Model;
 
 /// The pieces of a line or a ring, in its order, each lent as a slice of its positions. It takes no memory.
@@ -15,7 +15,7 @@ pub struct PieceIter<'a> {
 
 impl<'a> Model for PieceIter<'a> {
     ghost use Rattle.std.specs.Prelude.{List, length};
-    ghost use Rattle.geojson_types.specs.Points.{Point};
+    ghost use Rattle.geometry.specs.Points.{Point};
     ghost use Rattle.cutter.specs.Slices.{slices, IsRising};
 
     ghost Value = { List (List Point) };

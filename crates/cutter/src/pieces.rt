@@ -1,8 +1,8 @@
 // The pieces of all lines.
 ghost use Rattle.std.specs.Prelude.{◌≡◌, ◌<◌, IfOk, Some, length, map, slice_get};
-ghost use Rattle.geojson_types.specs.Points.{Point};
-ghost use Rattle.linework.specs.Answers.{AnswersFor};
-ghost use Rattle.linework.specs.Cleaning.{AllClean};
+ghost use Rattle.geometry.specs.Points.{Point};
+ghost use Rattle.junctions.specs.Answers.{AnswersFor};
+ghost use Rattle.junctions.specs.Cleaning.{AllClean};
 ghost use Rattle.cutter.specs.Places.{IsStructured};
 ghost use Rattle.cutter.specs.Segments.{line_segments, piece_segments, times};
 ghost use Rattle.cutter.specs.Slices.{AllSplit, all_pieces, piece_lists, split_of, strokes};
@@ -10,8 +10,8 @@ ghost use Rattle.cutter.specs.Structure.{SharersAreAlike, SegmentsAreOnce, Inter
 
 use crate::piece_iter::PieceIter;
 use crate::splitting::{Split, split_stroke};
-use byte_ends::Memory;
-use linework::{Lines, Stroke, Vertices};
+use junctions::{Lines, Stroke, Vertices};
+use owned_values::Memory;
 use std::alloc::Global;
 use std::marker::Model;
 
@@ -27,7 +27,7 @@ impl Model for Pieces {
     ghost use Rattle.std.specs.Prelude.{List};
     ghost use Rattle.cutter.specs.Places.{IsStructured};
     ghost use Rattle.cutter.specs.Slices.{SplitStroke, AllSplit, all_pieces, strokes};
-    ghost use Rattle.linework.specs.Cleaning.{AllClean};
+    ghost use Rattle.junctions.specs.Cleaning.{AllClean};
 
     ghost Value = { List SplitStroke };
 

@@ -1,16 +1,15 @@
 // Lines and rings, split at their cut positions.
 ghost use Rattle.std.specs.Prelude.{◌≡◌, ◌<◌, ◌++◌, ◌∷◌, [], true, IfOk, OnOk, length, if◌then◌else◌};
-ghost use Rattle.linework.specs.Answers.{is_member};
+ghost use Rattle.junctions.specs.Answers.{is_member};
 ghost use Rattle.cutter.specs.Known.{AllKnown, IsReady};
 ghost use Rattle.cutter.specs.Pieces.{turned};
 ghost use Rattle.cutter.specs.Slices.{indexes, split_by, started as started_by};
 
 use crate::piece_iter::PieceIter;
 use crate::starting::ring_start;
-use byte_ends::Memory;
-use geojson_types::Position;
-use json_value::Items;
-use linework::{Stroke, Vertices};
+use geometry::Position;
+use junctions::{Stroke, Vertices};
+use owned_values::{Items, Memory};
 use std::alloc::Global;
 use std::marker::Model;
 

@@ -1,18 +1,18 @@
 // Where rings start.
 ghost use Rattle.std.specs.Prelude.{◌≡◌, ◌<◌, true, List, length, if◌then◌else◌};
 ghost use Rattle.std.specs.List.{filter};
-ghost use Rattle.geojson_types.specs.Rings.{same};
-ghost use Rattle.linework.specs.Cleaning.{AllClean};
-ghost use Rattle.linework.specs.Cuts.{is_cut};
-ghost use Rattle.linework.specs.Answers.{AnswersFor, is_member};
-ghost use Rattle.linework.specs.declared.stroke.Stroke as line;
+ghost use Rattle.geometry.specs.Rings.{same};
+ghost use Rattle.junctions.specs.Cleaning.{AllClean};
+ghost use Rattle.junctions.specs.Cuts.{is_cut};
+ghost use Rattle.junctions.specs.Answers.{AnswersFor, is_member};
+ghost use Rattle.junctions.specs.declared.stroke.Stroke as line;
 ghost use Rattle.cutter.specs.Known.{AllKnown};
 ghost use Rattle.cutter.specs.Pieces.{first_at, start_in};
 ghost use Rattle.cutter.specs.Places.{In};
 ghost use Rattle.cutter.specs.Slices.{least_point, least_with};
 
-use geojson_types::Position;
-use linework::{Stroke, Vertices};
+use geometry::{Position, is_same};
+use junctions::{Stroke, Vertices};
 
 /// The index at which a ring starts: that of the first visit, in its own order, of its least cut position. Each ring of
 /// the lines that the vertices were made of has a cut position; where there is none the answer is the length.
@@ -73,10 +73,4 @@ fn index_of(positions: &[Position], p: Position) -> usize
         }
     }
     positions.len()
-}
-
-fn is_same(p: Position, q: Position) -> bool
-    ensures { result ≡ same p q }
-{
-    p == q
 }

@@ -1,5 +1,5 @@
 -- What may stand behind a value: nothing, white space, a comma or a closing bracket.
-use Rattle.std.proofs.Common.{◌≡◌, ℕ, Bool, true, inl, inr, List, [], ◌∷◌, ◌++◌, refl}
+use Rattle.std.proofs.Common.{◌≡◌, ℕ, Bool, true, inl, inr, List, [], ◌∷◌, ◌++◌, refl, arith}
 use Rattle.std.specs.Prelude.{◌||◌, ◌==◌}
 use Rattle.std.proofs.lemmas.Bool.{or_cases}
 use Rattle.json_value.specs.Grammar.{is_space, IsSpace}
@@ -17,18 +17,11 @@ Ends-space [] b bs h e = e
 Ends-space (c ∷ u) b bs h e = rw h.0 refl
 
 pub Ends-only : (u : List ℕ) → IsSpace u → Ends u
-Ends-only [] h = tt
-Ends-only (c ∷ u) h = rw h.0 refl
+Ends-only u h = grind arith
 
 -- what holds of each white space byte
 pub space_is : (P : ℕ → Type 0) → P 32 → P 9 → P 10 → P 13 → (b : ℕ) → is_space b ≡ true → P b
-space_is P a c d e b h = elim (or_cases _ _ h) [
-  | inl s ↦ elim (or_cases _ _ s) [
-    | inl t ↦ elim (or_cases _ _ t) [ inl x ↦ at P 32 b a x | inr x ↦ at P 9 b c x ]
-    | inr x ↦ at P 10 b d x
-  ]
-  | inr x ↦ at P 13 b e x
-]
+space_is P a c d e b h = grind (arith, or_cases, at P 32 b a, at P 9 b c, at P 10 b d)
 
 -- what holds of each byte that may stand behind a value
 pub end_is : (P : ℕ → Type 0) → P 32 → P 9 → P 10 → P 13 → P 44 → P 93 → P 125 → (b : ℕ) → is_end b ≡ true → P b

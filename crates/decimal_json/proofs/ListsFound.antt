@@ -45,10 +45,7 @@ module _ (A : Type 0) (close : ℕ) (no_comma : eqb close 44 ≡ false) (no_spac
 
   list_open : {ts : List ℕ} {xs : List A} → SpellsList (Again close item) ts xs → (rest : List ℕ) → closes close (ts ++ rest) ≡ None
   unfolding closes
-  list_open (list_last w t u hw s hu) rest =
-      rw (append_assoc, append_assoc) (rw (skip-space w (t ++ (u ++ rest)) hw, s.starts (u ++ rest)) (s.opens (u ++ rest)))
-  list_open (list_more w t u ts hw s hu more) rest =
-      rw (append_assoc, append_assoc, append_assoc) (rw (skip-space w (t ++ (u ++ (44 ∷ ts ++ rest))) hw, s.starts (u ++ (44 ∷ ts ++ rest))) (s.opens (u ++ (44 ∷ ts ++ rest))))
+  list_open h rest = grind (arith, list_last, append_assoc, skip-space, list_more)
 
   when_open : (bs rest : List ℕ) (xs : List A) → closes close bs ≡ None → list_at close item (length bs) bs ≡ Some (xs, rest) → items_at close item bs ≡ Some (xs, rest)
   unfolding items_at items_unless

@@ -1,5 +1,5 @@
 -- What is read as a list, up to the byte that closes it, is spelled so.
-use Rattle.std.proofs.Common.{◌≡◌, ℕ, zero, suc, eqb, ◌⊎◌, inl, inr, List, [], ◌∷◌, ◌++◌, length, Option, Some, None, refl, sym, ap, subst, ◌∙◌, append_assoc}
+use Rattle.std.proofs.Common.{◌≡◌, ℕ, zero, suc, ◌⊎◌, inl, inr, List, [], ◌∷◌, ◌++◌, length, Option, Some, None, refl, sym, ap, subst, ◌∙◌, append_assoc, arith}
 use Rattle.std.proofs.lemmas.Bool.{eqb-true}
 use Rattle.std.proofs.lemmas.Option.{option_and_then_some}
 use Rattle.list_laws.proofs.Tests.{chosen}
@@ -27,17 +27,7 @@ module _ (A : Type 0) (R : List ℕ → A → Type 0) (close : ℕ) (item : Pars
   after_takes : (more : Parse (List A)) → ((bs : List ℕ) (x : List A × List ℕ) → more bs ≡ Some x → TakesList bs x.0 x.1)
       → (v : A) (bs : List ℕ) (x : List A × List ℕ) → list_after close more v bs ≡ Some x → After v bs x.0 x.1
   unfolding list_after
-  after_takes more sound v [] x e = cc
-  after_takes more sound v (b ∷ bs) x e = elim (chosen (eqb b 44) _ _ _ e) [
-    | inl h ↦ option_and_then_some _ _ _ h.1 (λ xs f g. let is_comma = eqb-true b 44 h.0 in
-        let p = pair_is (v ∷ xs.0) xs.1 x g in
-        let r = sound bs xs f in
-        inr (xs.0, sym p.0, bs, ap (λ c. c ∷ bs) is_comma, (r.0, r.1, r.2 ∙ ap (λ z. r.0 ++ (close ∷ z)) p.1)))
-    | inr h ↦ elim (chosen (eqb b close) _ _ _ h.1) [
-      | inl k ↦ (let p = pair_is (v ∷ []) bs x k.1 in inl (sym p.0, rw (eqb-true b close k.0, p.1) refl))
-      | inr k ↦ (let no = k.1 in cc)
-    ]
-  ]
+  after_takes more h v bs x k = grind (arith, chosen, option_and_then_some, eqb-true, pair_is)
 
   list_takes : IsSound R item → (n : ℕ) (bs : List ℕ) (x : List A × List ℕ) → list_at close item n bs ≡ Some x → TakesList bs x.0 x.1
   unfolding list_at

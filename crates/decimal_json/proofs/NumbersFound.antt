@@ -1,10 +1,9 @@
 -- A number is read, whatever ends it.
-use Rattle.std.proofs.Common.{◌≡◌, ℕ, Bool, true, false, List, [], ◌∷◌, ◌++◌, Some, None, refl, sym, ap, ◌∙◌, append_assoc}
+use Rattle.std.proofs.Common.{◌≡◌, ℕ, Bool, true, false, List, [], ◌∷◌, ◌++◌, Some, None, refl, ap, append_assoc, arith}
 use Rattle.std.specs.Prelude.{◌||◌, ◌==◌}
 use Rattle.json_value.specs.declared.json.Json.{Json}
 use Rattle.json_value.specs.declared.json.Json.TheVariants as j
-use Rattle.json_value.specs.Grammar.{is_space}
-use Rattle.decimal_text.specs.Grammar.{is_digit, AllDigits, IsMinus, no_minus, one_minus, IsWhole, whole_zero, whole_digits, IsFraction, no_fraction, fraction, IsSign, no_sign, plus_sign, minus_sign, is_e, IsExponent, no_exponent, exponent, IsNumber, number_of}
+use Rattle.decimal_text.specs.Grammar.{is_digit, AllDigits, IsMinus, no_minus, one_minus, IsWhole, whole_zero, whole_digits, IsFraction, IsSign, is_e, IsExponent, no_exponent, exponent, IsNumber, number_of}
 use Rattle.decimal_json.specs.Reading.{Parse, ◌>>=◌, after_digits, after_some_digits, after_minus, after_whole, after_fraction, after_sign, after_exponent, after_number, number_at, skip, after_word, value_with}
 use Rattle.decimal_json.proofs.Steps.{differs}
 use Rattle.decimal_json.proofs.Ending.{Ends, end_is}
@@ -19,37 +18,25 @@ abbrev is_dot : ℕ → Bool
 is_dot b = b == 46
 
 no_digit : (rest : List ℕ) → Ends rest → NoFirst is_digit rest
-no_digit [] h = tt
-no_digit (b ∷ bs) h = end_is (λ x. is_digit x ≡ false) refl refl refl refl refl refl refl b h
-
-no_dot : (rest : List ℕ) → Ends rest → NoFirst is_dot rest
-no_dot [] h = tt
-no_dot (b ∷ bs) h = end_is (λ x. is_dot x ≡ false) refl refl refl refl refl refl refl b h
+no_digit rest h = grind (arith, end_is)
 
 no_e : (rest : List ℕ) → Ends rest → NoFirst is_e rest
-no_e [] h = tt
-no_e (b ∷ bs) h = end_is (λ x. is_e x ≡ false) refl refl refl refl refl refl refl b h
+no_e rest h = grind (arith, end_is)
 
 exponent_no_digit : {e : List ℕ} → IsExponent e → (rest : List ℕ) → Ends rest → NoFirst is_digit (e ++ rest)
 exponent_no_digit no_exponent rest h = no_digit rest h
 exponent_no_digit (exponent e s b bs k t d ds) rest h = e_is (λ x. is_digit x ≡ false) refl refl e k
 
 exponent_no_dot : {e : List ℕ} → IsExponent e → (rest : List ℕ) → Ends rest → NoFirst is_dot (e ++ rest)
-exponent_no_dot no_exponent rest h = no_dot rest h
+exponent_no_dot no_exponent rest h = grind (arith, end_is)
 exponent_no_dot (exponent e s b bs k t d ds) rest h = e_is (λ x. is_dot x ≡ false) refl refl e k
 
 fraction_no_digit : {f : List ℕ} → IsFraction f → (rest : List ℕ) → NoFirst is_digit rest → NoFirst is_digit (f ++ rest)
-fraction_no_digit no_fraction rest h = h
-fraction_no_digit (fraction b bs d ds) rest h = refl
-
-digits_stop : (rest : List ℕ) → NoFirst is_digit rest → after_digits rest ≡ rest
-unfolding after_digits
-digits_stop [] h = refl
-digits_stop (b ∷ bs) h = rw h refl
+fraction_no_digit h rest k = grind arith
 
 digits_again : (t rest : List ℕ) → AllDigits t → NoFirst is_digit rest → after_digits (t ++ rest) ≡ rest
 unfolding after_digits
-digits_again [] rest h n = digits_stop rest n
+digits_again [] rest h n = grind arith
 digits_again (b ∷ t) rest h n = rw h.0 (digits_again t rest h.1 n)
 
 some_again : (b : ℕ) (t rest : List ℕ) → is_digit b ≡ true → AllDigits t → NoFirst is_digit rest → after_some_digits (b ∷ (t ++ rest)) ≡ Some rest
@@ -58,35 +45,23 @@ some_again b t rest d h n = rw d (ap Some (digits_again t rest h n))
 
 minus_again : {m w : List ℕ} → IsMinus m → IsWhole w → (xs : List ℕ) → after_minus (m ++ (w ++ xs)) ≡ w ++ xs
 unfolding after_minus
-minus_again one_minus w xs = refl
-minus_again no_minus whole_zero xs = refl
-minus_again no_minus (whole_digits b bs d z ds) xs = rw (differs is_digit b 45 refl d) refl
+minus_again h k xs = grind (arith, differs)
 
 whole_again : {w : List ℕ} → IsWhole w → (xs : List ℕ) → NoFirst is_digit xs → after_whole (w ++ xs) ≡ Some xs
 unfolding after_whole
-whole_again whole_zero xs n = refl
-whole_again (whole_digits b bs d z ds) xs n = rw z (some_again b bs xs d ds n)
-
-fraction_stop : (xs : List ℕ) → NoFirst is_dot xs → after_fraction xs ≡ Some xs
-unfolding after_fraction
-fraction_stop [] h = refl
-fraction_stop (b ∷ bs) h = rw h refl
+whole_again h xs k = grind (arith, some_again)
 
 fraction_again : {f : List ℕ} → IsFraction f → (xs : List ℕ) → NoFirst is_digit xs → NoFirst is_dot xs → after_fraction (f ++ xs) ≡ Some xs
 unfolding after_fraction
-fraction_again no_fraction xs n o = fraction_stop xs o
-fraction_again (fraction b bs d ds) xs n o = some_again b bs xs d ds n
+fraction_again h xs k m = grind (arith, some_again)
 
 exponent_stop : (xs : List ℕ) → NoFirst is_e xs → after_exponent xs ≡ Some xs
 unfolding after_exponent
-exponent_stop [] h = refl
-exponent_stop (b ∷ bs) h = rw h refl
+exponent_stop xs h = grind arith
 
 sign_again : {s : List ℕ} → IsSign s → (b : ℕ) (xs : List ℕ) → is_digit b ≡ true → after_sign (s ++ (b ∷ xs)) ≡ b ∷ xs
 unfolding after_sign
-sign_again no_sign b xs d = rw (differs is_digit b 43 refl d, differs is_digit b 45 refl d) refl
-sign_again plus_sign b xs d = refl
-sign_again minus_sign b xs d = refl
+sign_again h b xs k = grind (arith, differs)
 
 exponent_again : {e : List ℕ} → IsExponent e → (rest : List ℕ) → Ends rest → after_exponent (e ++ rest) ≡ Some rest
 unfolding after_exponent
@@ -97,15 +72,7 @@ exponent_again (exponent e s b bs k t d ds) rest h =
 after_again : {t : List ℕ} → IsNumber t → (rest : List ℕ) → Ends rest → after_number (t ++ rest) ≡ Some rest
 unfolding after_number
 after_again (number_of m w f e hm hw hf he) rest h =
-    let xs : List ℕ = f ++ (e ++ rest) in
-    rw (
-      append_assoc,
-      append_assoc,
-      append_assoc,
-      minus_again hm hw (f ++ (e ++ rest)),
-      whole_again hw (f ++ (e ++ rest)) (fraction_no_digit hf (e ++ rest) (exponent_no_digit he rest h)),
-      fraction_again hf (e ++ rest) (exponent_no_digit he rest h) (exponent_no_dot he rest h),
-    ) (exponent_again he rest h)
+    search (append_assoc, minus_again, whole_again, fraction_no_digit, exponent_no_digit, fraction_again, exponent_no_dot, exponent_again)
 
 pub number_again : {t : List ℕ} → IsNumber t → (rest : List ℕ) → Ends rest → number_at (t ++ rest) ≡ Some (t, rest)
 unfolding number_at
@@ -120,12 +87,9 @@ number_leads (number_of m w f e one_minus hw hf he) = (45, w ++ (f ++ e), refl, 
 number_leads (number_of m w f e no_minus whole_zero hf he) = (48, f ++ e, refl, refl)
 number_leads (number_of m w f e no_minus (whole_digits b bs d z ds) hf he) = (b, bs ++ (f ++ e), refl, rw (d, differs is_digit b 45 refl d) refl)
 
-lead_no_space : (b : ℕ) → is_lead b ≡ true → is_space b ≡ false
-lead_no_space b h = rw (differs is_lead b 32 refl h, differs is_lead b 9 refl h, differs is_lead b 10 refl h, differs is_lead b 13 refl h) refl
-
 skip_lead : (b : ℕ) (bs : List ℕ) → is_lead b ≡ true → skip (b ∷ bs) ≡ b ∷ bs
 unfolding skip
-skip_lead b bs h = rw (lead_no_space b h) refl
+skip_lead b bs h = grind (arith, differs)
 
 word_lead : (q : ℕ) (word : List ℕ) (b : ℕ) (bs : List ℕ) → is_lead q ≡ false → is_lead b ≡ true → after_word (q ∷ word) (b ∷ bs) ≡ None
 unfolding after_word
@@ -139,12 +103,7 @@ number_no_word n q word rest other = let l = number_leads n in rw l.2 (word_lead
 
 with_lead : (fits : List ℕ → Bool) (items : Parse (List Json)) (members : Parse (List (List ℕ × Json))) (b : ℕ) (bs : List ℕ) → is_lead b ≡ true → value_with fits items members (b ∷ bs) ≡ (number_at (b ∷ bs) >>= λ t. Some (j.Number t.0, t.1))
 unfolding value_with
-with_lead fits items members b bs h =
-    rw (differs is_lead b 110 refl h, differs is_lead b 116 refl h, differs is_lead b 102 refl h, differs is_lead b 34 refl h, differs is_lead b 91 refl h, differs is_lead b 123 refl h) refl
+with_lead fits items members b bs h = grind (arith, differs is_lead b 110 refl h, differs is_lead b 116 refl h, differs is_lead b 102 refl h)
 
 pub with_number : (fits : List ℕ → Bool) (items : Parse (List Json)) (members : Parse (List (List ℕ × Json))) {t : List ℕ} → IsNumber t → (rest : List ℕ) → Ends rest → value_with fits items members (t ++ rest) ≡ Some (j.Number t, rest)
-with_number fits items members {t} n rest h =
-    let l = number_leads n in
-    let again = number_again n rest h in
-    let front : t ++ rest ≡ l.0 ∷ (l.1 ++ rest) = ap (λ z. z ++ rest) l.2 in
-    ap (value_with fits items members) front ∙ with_lead fits items members l.0 (l.1 ++ rest) l.3 ∙ ap (λ o. o >>= λ t. Some (j.Number t.0, t.1)) (ap number_at (sym front) ∙ again)
+with_number fits items members {t} n rest h = grind (arith, number_leads n, number_again n rest h, with_lead fits items members)

@@ -93,9 +93,7 @@ after_takes bs rest e = option_and_then_some _ _ _ e (λ xs p q. option_and_then
     (m.0 ++ (w.0 ++ (f.0 ++ x.0)), number_of m.0 w.0 f.0 x.0 m.1 w.1 f.1 x.1, number_joined m.0 w.0 f.0 x.0 bs (after_minus bs) xs ys rest m.2 w.2 f.2 x.2)))
 
 pub cut : (t rest bs : List ℕ) → bs ≡ t ++ rest → take (length bs - length rest) bs ≡ t
-cut t rest bs e =
-    let k : length bs - length rest ≡ length t = (let l = ap length e in omega (arith, l, length-append t rest)) in
-    rw (k, e) (take-append_seam t rest)
+cut t rest bs e = grind (arith, length-append t rest, take-append_seam t rest)
 
 pub number_takes : IsSound (λ t v. IsNumber t × (t ≡ v)) number_at
 unfolding number_at

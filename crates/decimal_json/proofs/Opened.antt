@@ -42,8 +42,7 @@ module _ (fits : List ℕ → Bool) where
     at_text h = rw ((value_at_is d).2, first, h) refl
 
     pub text_fails : b ≡ 34 → (e : Fault) → Fails e (string_at fits rest) → Fails e (value_at fits d bs)
-    text_fails h fault.Memory f = tt
-    text_fails h (fault.Malformed why left) f = at_text h ∙ rw f refl
+    text_fails h e k = grind (arith, at_text)
 
     pub text_found : b ≡ 34 → (t after : List ℕ) → string_at fits rest ≡ Some (t, after) → value_at fits d bs ≡ Some (j.Text t, after)
     text_found h t after f = at_text h ∙ rw f refl
@@ -53,8 +52,7 @@ module _ (fits : List ℕ → Bool) where
     at_number n t f q a o = rw ((value_at_is d).2, first, not_equal b 110 n, not_equal b 116 t, not_equal b 102 f, not_equal b 34 q, not_equal b 91 a, not_equal b 123 o) refl
 
     pub number_fails : b ≢ 110 → b ≢ 116 → b ≢ 102 → b ≢ 34 → b ≢ 91 → b ≢ 123 → (e : Fault) → Fails e (number_at bs) → Fails e (value_at fits d bs)
-    number_fails n t f q a o fault.Memory r = tt
-    number_fails n t f q a o (fault.Malformed why left) r = at_number n t f q a o ∙ rw r refl
+    number_fails h k m f t u e w = grind (arith, at_number)
 
     pub number_found : b ≢ 110 → b ≢ 116 → b ≢ 102 → b ≢ 34 → b ≢ 91 → b ≢ 123 → (t after : List ℕ) → number_at bs ≡ Some (t, after) → value_at fits d bs ≡ Some (j.Number t, after)
     number_found n t f q a o text after r = at_number n t f q a o ∙ rw r refl
@@ -97,8 +95,7 @@ module _ (fits : List ℕ → Bool) where
   module _ (value : Parse Json) (bs : List ℕ) where
     pub name_fails : (e : Fault) → Fails e (name_at fits bs) → Fails e (member_at fits value bs)
     unfolding member_at
-    name_fails fault.Memory f = tt
-    name_fails (fault.Malformed why left) f = rw f refl
+    name_fails e h = grind arith
 
     module _ (name n : List ℕ) (named : name_at fits bs ≡ Some (name, n)) where
       pub no_colon : None ≡ after_word (58 ∷ []) (skip n) → member_at fits value bs ≡ None
@@ -108,8 +105,7 @@ module _ (fits : List ℕ → Bool) where
       module _ (rest : List ℕ) (colon : Some rest ≡ after_word (58 ∷ []) (skip n)) where
         pub value_fails : (e : Fault) → Fails e (value (skip rest)) → Fails e (member_at fits value bs)
         unfolding member_at
-        value_fails fault.Memory f = tt
-        value_fails (fault.Malformed why left) f = rw (named, ← colon, f) refl
+        value_fails e h = grind arith
 
         pub member_found : (v : Json) (after : List ℕ) → value (skip rest) ≡ Some (v, after) → member_at fits value bs ≡ Some ((name, v), after)
         unfolding member_at

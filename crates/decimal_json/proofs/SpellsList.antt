@@ -1,5 +1,5 @@
 -- One thing or more, with commas between: elements and members alike.
-use Rattle.std.proofs.Common.{◌≡◌, ℕ, List, [], ◌∷◌, ◌++◌, ap, ◌∙◌, append_assoc}
+use Rattle.std.proofs.Common.{◌≡◌, ℕ, List, [], ◌∷◌, ◌++◌, append_assoc, arith}
 use Rattle.json_value.specs.declared.json.Json.{Json}
 use Rattle.json_value.specs.Grammar.{IsSpace, Spells, SpellsMember, SpellsElements, SpellsMembers, elements_last, elements_more, members_last, members_more}
 
@@ -17,5 +17,4 @@ to_members (list_more w t u ts hw s hu more) = members_more w t u ts hw s hu (to
 
 -- a member's bytes, and what follows
 pub regroup : (s w u t rest : List ℕ) → (34 ∷ s ++ 34 ∷ (w ++ 58 ∷ (u ++ t))) ++ rest ≡ 34 ∷ (s ++ (34 ∷ (w ++ (58 ∷ (u ++ (t ++ rest))))))
-regroup s w u t rest = ap (λ z. 34 ∷ z) (append_assoc s (34 ∷ (w ++ 58 ∷ (u ++ t))) rest
-    ∙ ap (λ z. s ++ (34 ∷ z)) (append_assoc w (58 ∷ (u ++ t)) rest ∙ ap (λ z. w ++ (58 ∷ z)) (append_assoc u t rest)))
+regroup s w u t rest = grind (arith, append_assoc s (34 ∷ (w ++ 58 ∷ (u ++ t))) rest, append_assoc w (58 ∷ (u ++ t)) rest, append_assoc u t rest)

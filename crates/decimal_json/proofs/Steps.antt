@@ -3,7 +3,6 @@ use Rattle.std.proofs.Common.{◌≡◌, ◌≢◌, ℕ, zero, suc, ◌<◌, ◌
 use Rattle.std.proofs.lemmas.Bool.{eqb-true, eq-eqb}
 use Rattle.std.proofs.lemmas.Bool.Decides.{eqb_tells}
 use Rattle.decimal_json.specs.declared.fault.Fault.{Fault}
-use Rattle.decimal_json.specs.declared.fault.Fault.TheVariants as fault
 use Rattle.decimal_json.specs.Gives.{Fails}
 use Rattle.decimal_json.specs.Reading.{Parse}
 
@@ -12,10 +11,7 @@ not_equal a b h = elim (eqb_tells a b) [ inl e ↦ absurd (h e.1) | inr e ↦ e.
 
 -- A byte that passes a test is none that fails it.
 pub differs : (test : ℕ → Bool) (b q : ℕ) → test q ≡ false → test b ≡ true → eqb b q ≡ false
-differs test b q other h = elim (eqb_tells b q) [
-  | inl e ↦ (let yes : test q ≡ true = subst (λ x. test x ≡ true) e.1 h in cc)
-  | inr e ↦ e.0
-]
+differs test b q other h = grind (arith, eqb_tells b q)
 
 -- what holds of a number holds of an equal one
 pub at : (P : ℕ → Type 0) (q b : ℕ) → P q → eqb b q ≡ true → P b
@@ -36,8 +32,7 @@ turn (suc k) m h = (k, refl, omega arith)
 
 -- Any fault fits where nothing is read.
 pub none_fails : {Y : Type 0} (e : Fault) (read : Option Y) → read ≡ None → Fails e read
-none_fails (fault.Malformed why left) read h = h
-none_fails fault.Memory read h = tt
+none_fails e read h = grind arith
 
 -- A reader takes what R says of it and its value.
 abbrev pub IsSound : {A : Type 0} → (List ℕ → A → Type 0) → Parse A → Type 0

@@ -1,10 +1,9 @@
 -- Strings, as the loop reads them.
-use Rattle.std.proofs.Common.{◌≡◌, ◌≢◌, true, false, ℕ, suc, ◌-◌, ◌+◌, ◌≤◌, ◌<◌, Bool, List, [], ◌∷◌, ◌++◌, Option, Some, None, refl, sym, ap, ◌∙◌, append_assoc, arith}
+use Rattle.std.proofs.Common.{◌≡◌, ◌≢◌, true, false, ℕ, suc, ◌-◌, ◌+◌, ◌≤◌, ◌<◌, Bool, List, [], ◌∷◌, ◌++◌, Option, Some, None, refl, sym, ◌∙◌, append_assoc, arith}
 use Rattle.std.specs.Prelude.{IsUtf8, encode_utf8}
 use Rattle.std.specs.Str.{is_utf8}
 use Rattle.std.proofs.lemmas.Str.{IsUtf8-from_is_utf8, is_utf8-from_IsUtf8}
 use Rattle.decimal_json.specs.declared.fault.Fault.{Fault}
-use Rattle.decimal_json.specs.declared.fault.Fault.TheVariants as fault
 use Rattle.decimal_json.specs.Gives.{Fails}
 use Rattle.decimal_json.specs.Reading.{◌>>=◌, plain_front, after_plain, escape_at, chars_after, chars_at, if_text}
 use Rattle.decimal_json.proofs.Steps.{not_equal}
@@ -13,21 +12,13 @@ use Rattle.decimal_json.proofs.Steps.{not_equal}
 abbrev pub with_front : {A : Type 0} → List A → Option (List A × List ℕ) → Option (List A × List ℕ)
 with_front front read = read >>= λ x. Some (front ++ x.0, x.1)
 
-pub from_nothing : {A : Type 0} (read : Option (List A × List ℕ)) → with_front [] read ≡ read
-from_nothing (Some x) = refl
-from_nothing None = refl
-
 regroup : (front run c : List ℕ) (read : Option (List ℕ × List ℕ)) → with_front front (read >>= λ x. Some (run ++ (c ++ x.0), x.1)) ≡ with_front ((front ++ run) ++ c) read
-regroup front run c (Some x) = ap (λ t. Some (t, x.1)) (sym (append_assoc (front ++ run) c x.0 ∙ append_assoc front run (c ++ x.0)))
-regroup front run c None = refl
+regroup front run c read = grind (arith, append_assoc)
 
 module _ (front : List ℕ) (n i : ℕ) (bs : List ℕ) (total : Option (List ℕ × List ℕ)) (so_far : with_front front (chars_at (n - i) bs) ≡ total) where
   pub turns_over : n ≤ i → total ≡ None
   unfolding chars_at
-  turns_over le =
-      let k : n - i ≡ 0 = omega arith in
-      let one : with_front front (chars_at (n - i) bs) ≡ None = rw k refl in
-      sym so_far ∙ one
+  turns_over le = grind arith
 
   module _ (lt : i < n) where
     goes_by : total ≡ with_front front (chars_after (chars_at (n - (i + 1))) (plain_front bs) (after_plain bs))
@@ -52,8 +43,7 @@ module _ (front : List ℕ) (n i : ℕ) (bs : List ℕ) (total : Option (List �
 
       pub escape_fails : b ≡ 92 → (e : Fault) → Fails e (escape_at after) → Fails e total
       unfolding chars_after
-      escape_fails s fault.Memory f = tt
-      escape_fails s (fault.Malformed why left) f = goes_by ∙ rw (here, s, f) refl
+      escape_fails h e k = grind (arith, goes_by)
 
       pub at_escape : b ≡ 92 → (c : ℕ) (more : List ℕ) → escape_at after ≡ Some (c, more)
           → with_front ((front ++ plain_front bs) ++ encode_utf8 c) (chars_at (n - (i + 1)) more) ≡ total

@@ -1,11 +1,11 @@
 -- A string is read, behind its first quotation mark.
-use Rattle.std.proofs.Common.{◌≡◌, ℕ, suc, ◌<◌, Bool, true, false, eqb, inl, inr, List, [], ◌∷◌, ◌++◌, length, Some, refl, ap, subst, ◌∙◌, append_assoc, length-append, arith}
+use Rattle.std.proofs.Common.{◌≡◌, ℕ, suc, ◌<◌, Bool, true, false, List, [], ◌∷◌, ◌++◌, length, Some, refl, ap, subst, append_assoc, length-append, arith}
 use Rattle.std.specs.Prelude.{encode_utf8}
 use Rattle.std.proofs.lemmas.Option.{option_and_then_some}
 use Rattle.std.proofs.lemmas.Str.{encode_ascii}
 use Rattle.list_laws.proofs.Tests.{chosen}
 use Rattle.json_value.specs.Grammar.{is_plain, unescape, SpellsUnit, unit_of, is_high, is_low, paired, SpellsChars, chars_end, chars_plain, chars_escape, chars_unit, chars_pair}
-use Rattle.decimal_json.specs.Reading.{Parse, ◌>>=◌, after_word, plain_front, after_plain, hex_at, unit_at, low_at, unicode_at, escape_at, chars_after, chars_at, if_text, string_at}
+use Rattle.decimal_json.specs.Reading.{Parse, after_word, plain_front, after_plain, hex_at, unit_at, low_at, unicode_at, escape_at, chars_after, chars_at, if_text, string_at}
 use Rattle.decimal_json.proofs.Steps.{pair_is, turn}
 use Rattle.json_value.proofs.Letters.{letter_kind}
 
@@ -33,41 +33,21 @@ letter_found e c h xs = record { behind = e ∷ xs; begins = refl; found = rw ((
 
 single_found : {u : List ℕ} {n : ℕ} → SpellsUnit u n → is_high n ≡ false → is_low n ≡ false → (xs : List ℕ) → EscapeFound u n xs
 unfolding escape_at unicode_at
-single_found su high low xs = let f = unit_found su xs in
-    record { behind = 117 ∷ f.digits; begins = f.begins; found = rw (f.found, high, low) refl }
+single_found su high low xs = grind (arith, unit_found su xs)
 
 pair_found : {u v : List ℕ} {h l : ℕ} → SpellsUnit u h → SpellsUnit v l → is_high h ≡ true → is_low l ≡ true → (xs : List ℕ) → EscapeFound (u ++ v) (paired h l) xs
 unfolding escape_at unicode_at low_at after_word
-pair_found {u} {v} su sv high low xs =
-    let g = unit_found sv xs in
-    let f = unit_found su (v ++ xs) in
-    record { behind = 117 ∷ f.digits; begins = append_assoc u v xs ∙ f.begins; found = rw (f.found, high, g.begins, g.found, low) refl }
+pair_found {u} {v} su sv high low xs = grind (arith, unit_found sv xs, unit_found su (v ++ xs), append_assoc u v xs)
 
 not_empty : (u : List ℕ) (c : ℕ) → EscapeFound u c [] → 0 < length u
 not_empty u c f = let l = ap length f.begins in omega (arith, l, length-append u [])
 
 -- ---- strings
 
--- behind plain bytes and a reverse solidus
-abbrev going_on : Parse (List ℕ) → List ℕ → Parse (List ℕ)
-going_on more run bs = escape_at bs >>= λ c. more c.1 >>= λ x. Some (run ++ (encode_utf8 c.0 ++ x.0), x.1)
-
-escape_more : (more : Parse (List ℕ)) (b : ℕ) (run bs t rest : List ℕ) → going_on more run bs ≡ Some (t, rest) → going_on more (b ∷ run) bs ≡ Some (b ∷ t, rest)
-escape_more more b run bs t rest e = option_and_then_some _ (escape_at bs) _ e (λ c f g. option_and_then_some _ (more c.1) _ g (λ x l m.
-    let p = pair_is (run ++ (encode_utf8 c.0 ++ x.0)) x.1 (t, rest) m in
-    rw (f, l) (rw (← p.0, ← p.1) refl)))
-
 -- one more plain byte
 plain_more : (more : Parse (List ℕ)) (b : ℕ) (run bs t rest : List ℕ) → chars_after more run bs ≡ Some (t, rest) → chars_after more (b ∷ run) bs ≡ Some (b ∷ t, rest)
 unfolding chars_after
-plain_more more b run [] t rest e = cc
-plain_more more b run (c ∷ bs) t rest e = elim (chosen (eqb c 34) _ _ _ e) [
-  | inl h ↦ (let p = pair_is run bs (t, rest) h.1 in rw (h.0, p.0, p.1) refl)
-  | inr h ↦ elim (chosen (eqb c 92) _ _ _ h.1) [
-    | inl k ↦ rw (h.0, k.0) (escape_more more b run bs t rest k.1)
-    | inr k ↦ (let wrong = k.1 in cc)
-  ]
-]
+plain_more more b run bs t rest h = grind (arith, chosen, pair_is, option_and_then_some)
 
 plain_again : (n b : ℕ) (bs t rest : List ℕ) → is_plain b ≡ true → chars_at (suc n) bs ≡ Some (t, rest) → chars_at (suc n) (b ∷ bs) ≡ Some (b ∷ t, rest)
 unfolding chars_at plain_front after_plain
@@ -86,9 +66,7 @@ end_again n rest = refl
 
 chars_again : {s t : List ℕ} → SpellsChars s t → (n : ℕ) (rest : List ℕ) → length s < n → chars_at n (s ++ (34 ∷ rest)) ≡ Some (t, rest)
 chars_again chars_end n rest h = let k = turn n 0 h in rw k.1 (end_again k.0 rest)
-chars_again (chars_plain b {s} {t} p more) n rest h =
-    let k = turn n _ h in
-    rw k.1 (plain_again k.0 b (s ++ (34 ∷ rest)) t rest p (chars_again more (suc k.0) rest (omega arith)))
+chars_again (chars_plain b {s} {t} p more) n rest h = grind (arith, chars_again more, turn n _ h, plain_again)
 chars_again (chars_escape e c {s} {t} p more) n rest h =
     let k = turn n _ h in
     let again = any_again (92 ∷ e ∷ []) s c k.0 t rest (letter_found e c p (s ++ (34 ∷ rest))) (chars_again more k.0 rest (omega arith)) in

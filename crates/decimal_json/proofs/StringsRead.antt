@@ -1,5 +1,5 @@
 -- What is read as a string, behind its first quotation mark, is spelled so.
-use Rattle.std.proofs.Common.{◌≡◌, ℕ, zero, suc, ◌+◌, ◌-◌, ◌*◌, ◌≤◌, Bool, true, false, eqb, inl, inr, List, [], ◌∷◌, ◌++◌, length, take, Some, None, refl, sym, ap, subst, ◌∙◌, append_assoc, length-append, arith}
+use Rattle.std.proofs.Common.{◌≡◌, ℕ, zero, suc, ◌+◌, ◌-◌, ◌*◌, ◌≤◌, Bool, true, eqb, inl, inr, List, [], ◌∷◌, ◌++◌, length, take, Some, None, refl, sym, ap, subst, ◌∙◌, append_assoc, length-append, arith}
 use Rattle.std.specs.Prelude.{codes, encode_utf8}
 use Rattle.std.proofs.lemmas.Str.{encode_ascii}
 use Rattle.std.proofs.lemmas.Bool.{eqb-true}
@@ -15,15 +15,10 @@ use Rattle.decimal_json.proofs.NumbersRead.{cut}
 
 -- ---- plain bytes
 
-plain_step : (b : ℕ) (bs : List ℕ) (p : Bool) → is_plain b ≡ p → bs ≡ plain_front bs ++ after_plain bs → b ∷ bs ≡ plain_front (b ∷ bs) ++ after_plain (b ∷ bs)
-unfolding plain_front after_plain
-plain_step b bs true e h = rw e (ap (λ z. b ∷ z) h)
-plain_step b bs false e h = rw e refl
-
 pub plain-split : (bs : List ℕ) → bs ≡ plain_front bs ++ after_plain bs
 unfolding plain_front after_plain
 plain-split [] = refl
-plain-split (b ∷ bs) = plain_step b bs (is_plain b) refl (plain-split bs)
+plain-split (b ∷ bs) = grind (arith, plain-split bs)
 
 -- Plain bytes before a string's bytes stand for themselves.
 plain_spelled : (bs s t : List ℕ) → SpellsChars s t → SpellsChars (plain_front bs ++ s) (plain_front bs ++ t)
@@ -45,9 +40,7 @@ after_plain-le bs = let l = ap length (plain-split bs) in omega (arith, l, lengt
 
 hex_takes : (bs : List ℕ) (x : ℕ × List ℕ) → hex_at bs ≡ Some x → (b : ℕ) × (hex_value b ≡ Some x.0) × (bs ≡ b ∷ x.1)
 unfolding hex_at
-hex_takes [] x e = cc
-hex_takes (b ∷ bs) x e = option_and_then_some _ _ _ e (λ n f g.
-    let p = pair_is n bs x g in (b, f ∙ ap Some p.0, ap (λ z. b ∷ z) p.1))
+hex_takes bs x h = grind (arith, option_and_then_some, pair_is)
 
 -- An escape stands for the character, whatever follows.
 abbrev Escaped : List ℕ → ℕ → Type 0
@@ -177,10 +170,7 @@ TakesString b t = (s : List ℕ) × SpellsChars s t × (b ≡ s ++ 34 ∷ [])
 module _ (fits : List ℕ → Bool) where
   text_takes : (t bs : List ℕ) (x : List ℕ × List ℕ) → if_text fits t bs ≡ Some x → (t ≡ x.0) × (bs ≡ x.1)
   unfolding if_text
-  text_takes t bs x e = elim (chosen (fits t) (Some (t, bs)) None _ e) [
-    | inl h ↦ pair_is t bs x h.1
-    | inr h ↦ (let wrong = h.1 in cc)
-  ]
+  text_takes t bs x e = grind (arith, chosen (fits t) (Some (t, bs)) None _ e, pair_is t bs x)
 
   pub string_takes : IsSound TakesString (string_at fits)
   unfolding string_at

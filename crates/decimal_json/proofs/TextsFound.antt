@@ -1,12 +1,12 @@
 -- A text is read that spells a value, and a text spells one value at most.
-use Rattle.std.proofs.Common.{◌≡◌, ℕ, ◌+◌, ◌<◌, Bool, true, false, eqb, inl, inr, List, [], ◌∷◌, ◌++◌, Some, None, refl, subst, ◌∙◌, append_assoc, arith}
+use Rattle.std.proofs.Common.{◌≡◌, ℕ, ◌+◌, ◌<◌, Bool, true, inl, inr, List, [], ◌∷◌, ◌++◌, Some, None, refl, subst, ◌∙◌, append_assoc, arith}
 use Rattle.std.specs.Prelude.{IsUtf8}
 use Rattle.std.specs.Str.{is_utf8}
 use Rattle.std.proofs.lemmas.Str.{is_utf8-from_IsUtf8, IsUtf8-past_char}
 use Rattle.std.proofs.Math.Utf8.{encode}
 use Rattle.std.proofs.lemmas.Bool.Decides.{eqb_tells}
 use Rattle.json_value.specs.declared.json.Json.{Json}
-use Rattle.json_value.specs.Grammar.{is_space, IsSpace, SpellsChars, Spells, spells_null, spells_true, spells_false, spells_text, spells_number, spells_empty_array, spells_array, spells_empty_object, spells_object, SpellsText, Reads, mark}
+use Rattle.json_value.specs.Grammar.{IsSpace, SpellsChars, Spells, spells_null, spells_true, spells_false, spells_text, spells_number, spells_empty_array, spells_array, spells_empty_object, spells_object, SpellsText, Reads, mark}
 use Rattle.json_value.proofs.Nesting.{reads_no_deeper, reads_deeper}
 use Rattle.decimal_json.specs.Reading.{skip, after_word, ended, document, text_at}
 use Rattle.decimal_json.proofs.Words.{skip-space, skip_all, after_word_again}
@@ -14,13 +14,6 @@ use Rattle.decimal_json.proofs.Ending.{Ends-only}
 use Rattle.decimal_json.proofs.NumbersFound.{number_no_word}
 use Rattle.decimal_json.proofs.ValuesFound.{skip_value, found, after_space, before_space}
 use Rattle.json_value.proofs.Utf8.{ascii_split, text_utf8}
-
--- No text begins with a mark, but one behind a mark.
-space_no_mark : (b : ℕ) → is_space b ≡ true → eqb b 239 ≡ false
-space_no_mark b h = elim (eqb_tells b 239) [
-  | inl e ↦ (let wrong : is_space 239 ≡ true = subst (λ x. is_space x ≡ true) e.1 h in cc)
-  | inr e ↦ e.0
-]
 
 value_no_mark : {d : ℕ} {t : List ℕ} {v : Json} → Spells d t v → (rest : List ℕ) → after_word mark (t ++ rest) ≡ None
 unfolding after_word
@@ -37,7 +30,7 @@ value_no_mark (spells_object t h) rest = refl
 no_mark : (w : List ℕ) {d : ℕ} {t : List ℕ} {v : Json} → IsSpace w → Spells d t v → (rest : List ℕ) → after_word mark (w ++ (t ++ rest)) ≡ None
 unfolding after_word
 no_mark [] h s rest = value_no_mark s rest
-no_mark (b ∷ w) h s rest = rw (space_no_mark b h.0) refl
+no_mark (b ∷ w) h s rest = grind (arith, eqb_tells)
 
 module _ (fits : List ℕ → Bool) (Fit : List ℕ → Type 0) (text : (s t : List ℕ) → SpellsChars s t → Fit s → fits t ≡ true) (split : (p r : List ℕ) (x : ℕ) → x < 128 → Fit (p ++ (x ∷ r)) → Fit p × Fit r)
     (unmark : (rest : List ℕ) → Fit (mark ++ rest) → Fit rest) where

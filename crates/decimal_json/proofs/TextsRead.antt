@@ -1,5 +1,5 @@
 -- A text that is read is spelled so.
-use Rattle.std.proofs.Common.{◌≡◌, ℕ, Bool, inl, inr, List, [], ◌∷◌, ◌++◌, Option, Some, None, refl, ap, subst, ◌∙◌, append_assoc}
+use Rattle.std.proofs.Common.{◌≡◌, ℕ, Bool, inl, inr, List, [], ◌++◌, Option, Some, None, refl, ap, subst, ◌∙◌, append_assoc, arith}
 use Rattle.std.proofs.lemmas.List.{append-nil}
 use Rattle.std.proofs.lemmas.Option.{option_and_then_some}
 use Rattle.json_value.specs.declared.json.Json.{Json}
@@ -10,8 +10,7 @@ use Rattle.decimal_json.proofs.ValuesRead.{value_takes}
 
 ended_takes : (v w : Json) (bs : List ℕ) → ended v bs ≡ Some w → (v ≡ w) × (bs ≡ [])
 unfolding ended
-ended_takes v w [] e = (cc, refl)
-ended_takes v w (b ∷ bs) e = cc
+ended_takes v w bs h = grind arith
 
 joined : (w t u b xs ys : List ℕ) → b ≡ w ++ xs → xs ≡ t ++ ys → ys ≡ u → b ≡ w ++ t ++ u
 joined w t u b xs ys p q r = p ∙ rw (q, r, append_assoc) refl

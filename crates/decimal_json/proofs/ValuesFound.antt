@@ -17,15 +17,7 @@ use Rattle.decimal_json.proofs.StringsFound.{string_again}
 -- a value begins with no white space
 pub skip_value : {d : ℕ} {t : List ℕ} {v : Json} → Spells d t v → (rest : List ℕ) → skip (t ++ rest) ≡ t ++ rest
 unfolding skip
-skip_value spells_null rest = refl
-skip_value spells_true rest = refl
-skip_value spells_false rest = refl
-skip_value (spells_text s h) rest = refl
-skip_value (spells_number n) rest = skip_number n rest
-skip_value (spells_empty_array w h) rest = refl
-skip_value (spells_array t h) rest = refl
-skip_value (spells_empty_object w h) rest = refl
-skip_value (spells_object t h) rest = refl
+skip_value h rest = grind (arith, skip_number)
 
 -- and not with the bracket that closes an array
 not_closed : {d : ℕ} {t : List ℕ} {v : Json} → Spells d t v → (rest : List ℕ) → after_word (93 ∷ []) (t ++ rest) ≡ None

@@ -1,5 +1,5 @@
 -- A value that is read is spelled so.
-use Rattle.std.proofs.Common.{◌≡◌, ℕ, zero, suc, Bool, true, false, eqb, inl, inr, List, [], ◌∷◌, ◌++◌, Some, None, refl, sym, ap, subst, ◌∙◌, append_assoc}
+use Rattle.std.proofs.Common.{◌≡◌, ℕ, zero, suc, Bool, true, false, eqb, inl, inr, List, [], ◌∷◌, ◌++◌, Some, None, refl, sym, ap, subst, ◌∙◌, append_assoc, arith}
 use Rattle.std.specs.Prelude.{codes}
 use Rattle.std.proofs.lemmas.Bool.{eqb-true}
 use Rattle.std.proofs.lemmas.Option.{option_and_then_some}
@@ -22,9 +22,7 @@ joined_member : (bs s n w m r u v t rest : List ℕ) → bs ≡ 34 ∷ (s ++ (34
 joined_member bs s n w m r u v t rest a b c d e = rw (a, b, c, d, e) (sym (regroup s w u t rest))
 
 word_found : (d b c : ℕ) (word : List ℕ) (v : Json) → Spells d (c ∷ word) v → b ≡ c → (bs : List ℕ) (x : Json × List ℕ) → word_at word v bs ≡ Some x → (t : List ℕ) × Spells d t x.0 × (b ∷ bs ≡ t ++ x.1)
-word_found d b c word v s same bs x e =
-    let r = word_takes word v bs x e in
-    (c ∷ word, subst (λ z. Spells d (c ∷ word) z) r.0 s, rw (same, r.1) refl)
+word_found d b c word v s same bs x e = grind (arith, word_takes word v bs x e)
 
 number_found : (d : ℕ) (bs : List ℕ) (x : Json × List ℕ) → (number_at bs >>= λ t. Some (j.Number t.0, t.1)) ≡ Some x → (t : List ℕ) × Spells d t x.0 × (bs ≡ t ++ x.1)
 number_found d bs x e = option_and_then_some _ _ _ e (λ y f g.

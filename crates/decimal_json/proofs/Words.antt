@@ -1,5 +1,5 @@
 -- White space and words.
-use Rattle.std.proofs.Common.{◌≡◌, ◌≢◌, ℕ, eqb, inl, inr, List, [], ◌∷◌, ◌++◌, Option, Some, None, MatchOption, Bor, refl, sym, ap, ◌∙◌}
+use Rattle.std.proofs.Common.{◌≡◌, ◌≢◌, ℕ, eqb, inl, inr, List, [], ◌∷◌, ◌++◌, Option, Some, None, MatchOption, Bor, refl, sym, ap, ◌∙◌, arith}
 use Rattle.std.specs.Option.{option_copied}
 use Rattle.std.proofs.lemmas.Bool.{eqb-true, eq-eqb}
 use Rattle.std.proofs.lemmas.List.{append-nil}
@@ -31,10 +31,7 @@ pub after_word_takes : (word bs rest : List ℕ) → after_word word bs ≡ Some
 unfolding after_word
 after_word_takes [] bs rest e = cc
 after_word_takes (c ∷ word) [] rest e = cc
-after_word_takes (c ∷ word) (b ∷ bs) rest e = elim (chosen (eqb b c) _ _ _ e) [
-  | inl h ↦ (let same = eqb-true b c h.0 in let more = after_word_takes word bs rest h.1 in cc)
-  | inr h ↦ (let no = h.1 in cc)
-]
+after_word_takes (c ∷ word) (b ∷ bs) rest e = grind (arith, after_word_takes word bs rest, chosen (eqb b c) _ _ _ e, eqb-true b c)
 
 pub after_word_again : (word rest : List ℕ) → after_word word (word ++ rest) ≡ Some rest
 unfolding after_word

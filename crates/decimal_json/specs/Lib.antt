@@ -1,7 +1,7 @@
 pub mod Gives
 pub mod Outcome
 pub mod Reading
-pub use Rattle.byte_ends.specs.Commas
+pub use Rattle.list_laws.specs.Commas
 pub use Rattle.byte_ends.specs.Ends
 pub use Rattle.byte_ends.specs.Writes
 pub use Rattle.decimal_text.specs.Grammar as NumberGrammar

@@ -27,9 +27,7 @@ StopsDigits (c ∷ cs) = is_digit c ≡ false
 pub prefix_len-run : (ds rest : List ℕ) → AllDigits ds → StopsDigits rest → prefix_len is_digit (ds ++ rest) ≡ length ds
 prefix_len-run [] [] h stop = refl
 prefix_len-run [] (r ∷ rs) h stop = rw stop refl
-prefix_len-run (c ∷ cs) rest h stop =
-    let below : prefix_len is_digit (cs ++ rest) ≡ length cs = prefix_len-run cs rest h.1 stop in
-    rw h.0 (omega arith)
+prefix_len-run (c ∷ cs) rest h stop = grind (arith, prefix_len-run cs rest h.1 stop)
 
 pub front_digits-run : (ds rest : List ℕ) → AllDigits ds → StopsDigits rest → front_digits (ds ++ rest) ≡ ds
 front_digits-run ds rest h stop = ap (λ n. take n (ds ++ rest)) (prefix_len-run ds rest h stop) ∙ take-append_seam ds rest

@@ -5,8 +5,6 @@ use Rattle.std.proofs.lemmas.Bool.{cases_lt}
 use Rattle.std.proofs.lemmas.List.{at_drop_more}
 use Rattle.std.proofs.Math.Nat.{pow-suc, one-le-pow, mul-le-mul_left, pow-le-pow_right}
 use Rattle.decimal_text.proofs.DigitRuns.{digit_range}
-use Rattle.decimal_text.specs.Grammar.{is_digit}
-use Rattle.std.specs.List.{prefix_len}
 use Rattle.std.proofs.lemmas.List.{get_or-take}
 use Rattle.std.proofs.lemmas.List.Sums.{prefix_len_passes}
 use Rattle.std.proofs.lemmas.List.Folds.{length-prefix_len}
@@ -46,14 +44,7 @@ digits_value-lt (c ∷ cs) h =
 
 -- a first digit of five or more makes a half or more
 pub digits_value-half : (c : ℕ) (cs : List ℕ) → All IsDigit (c ∷ cs) → 53 ≤ c → 10 ^ suc (length cs) ≤ 2 * digits_value (c ∷ cs)
-digits_value-half c cs h five =
-    let d : ℕ = c - 48 in
-    let p : ℕ = 10 ^ length cs in
-    let two = digits_value_after-split (10 * 0 + d) cs in
-    let e : 10 ^ suc (length cs) ≡ p * 10 = pow-suc 10 (length cs) in
-    let big : 5 ≤ d = omega arith in
-    let scaled : p * 5 ≤ p * d = mul-le-mul_left p big in
-    rw e (omega (arith, two))
+digits_value-half c cs h five = grind (arith, digits_value_after-split, pow-suc, mul-le-mul_left)
 
 pub digits_value-less : (c : ℕ) (cs : List ℕ) → All IsDigit (c ∷ cs) → c < 53 → 2 * digits_value (c ∷ cs) < 10 ^ suc (length cs)
 digits_value-less c cs h five =
@@ -91,9 +82,7 @@ zeros-value (c ∷ cs) h e =
 pub past_limit : (limit n start i : ℕ) (ds : List ℕ) → i < length ds → digits_value_after n (drop i ds) ≡ digits_value_after start ds
     → limit < n * 10 + (get_or ds i 0 - 48) → limit < digits_value_after start ds
 past_limit limit n start i ds within rest past =
-    let step = at_drop_more (digits_value_after n) ds i 0 within in
-    let more = digits_value_after-ge (10 * n + (get_or ds i 0 - 48)) (drop (i + 1) ds) in
-    omega (arith, step)
+    grind (arith, at_drop_more (digits_value_after n) ds i 0 within, digits_value_after-ge (10 * n + (get_or ds i 0 - 48)) (drop (i + 1) ds))
 
 -- the zeros passed the limit
 pub past_zeros : (limit start v done zeros : ℕ) → v ≡ start * 10 ^ done → limit < v * 10 → done < zeros → limit < start * 10 ^ zeros
@@ -115,9 +104,7 @@ digits_value-cut kept cut = digits_value_after-append 0 kept cut ∙ digits_valu
 
 -- a front of the kept digits passes the limit
 pub cut_past : (kept cut : List ℕ) (limit : ℕ) → limit < digits_value kept → (limit + 1) * 10 ^ length cut ≤ digits_value (kept ++ cut)
-cut_past kept cut limit h =
-    let scaled : 10 ^ length cut * (limit + 1) ≤ 10 ^ length cut * digits_value kept = mul-le-mul_left (10 ^ length cut) (omega arith) in
-    omega (arith, digits_value-cut kept cut)
+cut_past kept cut limit h = grind (arith, mul-le-mul_left, digits_value-cut)
 
 -- the first digit tells a half
 pub half_by_first : (ds : List ℕ) → All IsDigit ds → 0 < length ds
@@ -133,20 +120,11 @@ pub zero_parts : (xs ys : List ℕ) → All (λ c. c ≡ 48) xs → All (λ c. c
 zero_parts xs ys h k = digits_value-zeros (xs ++ ys) (All-append (λ c. c ≡ 48) xs ys h k)
 
 pub zero_front : (xs ys : List ℕ) → All IsDigit xs → digits_value (xs ++ ys) ≡ 0 → digits_value xs ≡ 0
-zero_front xs ys h e =
-    let p : ℕ = 10 ^ length ys in
-    let pos : 1 ≤ p = one-le-pow (length ys) 10 (omega arith) in
-    let scaled : digits_value xs * 1 ≤ digits_value xs * p = mul-le-mul_left (digits_value xs) pos in
-    omega (arith, digits_value-cut xs ys)
+zero_front xs ys h e = grind (arith, one-le-pow, mul-le-mul_left, digits_value-cut)
 
 pub zero_back : (xs ys : List ℕ) → digits_value (xs ++ ys) ≡ 0 → digits_value ys ≡ 0
 zero_back xs ys e = omega (arith, digits_value-cut xs ys)
 
 -- the digits at the front are digits
 pub front_digits-all : (bs : List ℕ) → All IsDigit (front_digits bs)
-front_digits-all bs = λ k d l.
-    let len = length-prefix_len is_digit bs in
-    let inside : k < prefix_len is_digit bs = omega arith in
-    let passes = prefix_len_passes is_digit bs k d inside in
-    let at = get_or-take (prefix_len is_digit bs) bs k d inside in
-    rw at (digit_range (get_or bs k d) passes)
+front_digits-all bs = grind (arith, length-prefix_len, prefix_len_passes, get_or-take, digit_range)

@@ -8,5 +8,4 @@ pub mod Nearest
 pub mod NumberBytes
 pub mod ScaledNumber
 pub mod Trimmed
-pub mod Fixed
 pub mod UnitsText

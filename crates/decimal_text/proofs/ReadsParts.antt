@@ -1,10 +1,10 @@
 -- A text that spells a number is read as its parts.
-use Rattle.std.proofs.Common.{◌≡◌, ℕ, ◌<◌, ◌==◌, ◌++◌, Bool, true, false, not, List, [], ◌∷◌, length, Option, Some, None, refl, sym, ap, ◌∙◌, arith, if◌then◌else◌}
+use Rattle.std.proofs.Common.{◌≡◌, ℕ, ◌<◌, ◌==◌, ◌++◌, Bool, true, false, List, [], ◌∷◌, length, Option, Some, None, refl, sym, ap, ◌∙◌, arith, if◌then◌else◌}
 use Rattle.std.specs.Prelude.{option_and_then}
 use Rattle.std.proofs.lemmas.Bool.Decides.{nat_tests}
 use Rattle.std.proofs.lemmas.List.{append-nil}
 use Rattle.std.proofs.lemmas.Bool.{ne_eqb}
-use Rattle.decimal_text.specs.Grammar.{is_digit, AllDigits, IsWhole, whole_zero, whole_digits}
+use Rattle.decimal_text.specs.Grammar.{is_digit, AllDigits, IsWhole}
 use Rattle.decimal_text.specs.Digits.{front_digits, after_digits}
 use Rattle.decimal_text.specs.Parts.{Parts, parts_of, unsigned_of, exponent_of, signed_digits_of, all_digits_of, fraction_of, is_whole, fraction_text, sign_text, SpellsSign, spells_no_sign, spells_plus, spells_minus, SpellsExponent, spells_no_exponent, spells_exponent, SpellsNumber}
 use Rattle.decimal_text.proofs.DigitRuns.{digit_range, StopsDigits, front_digits-run, after_digits-run}
@@ -39,17 +39,14 @@ IsAfter (c ∷ cs) = (is_digit c ≡ false) × ((c == 46) ≡ false)
 
 exponent-after : (t : List ℕ) (negative : Bool) (ds : List ℕ) → SpellsExponent t negative ds → IsAfter t
 unfolding IsAfter
-exponent-after t negative ds spells_no_exponent = tt
-exponent-after t negative ds (spells_exponent e s n b bs he hs hb h) = (grind (arith, nat_tests), grind (arith, nat_tests))
+exponent-after t negative ds h = grind (arith, nat_tests)
 
 after-stops : (t : List ℕ) → IsAfter t → StopsDigits t
 unfolding IsAfter
-after-stops [] h = tt
-after-stops (c ∷ cs) h = h.0
+after-stops t h = grind arith
 
 fraction-stops : (f rest : List ℕ) → IsAfter rest → StopsDigits (fraction_text f ++ rest)
-fraction-stops [] rest h = after-stops rest h
-fraction-stops (x ∷ xs) rest h = refl
+fraction-stops f rest h = grind (arith, after-stops)
 
 pick_some : (f a ds rest : List ℕ) → f ≡ ds → a ≡ rest → 0 < length ds
     → if◌then◌else◌ {A = Option (List ℕ × List ℕ)} (length f == 0) None (Some (f, a)) ≡ Some (ds, rest)
@@ -70,13 +67,8 @@ pub record WholeFacts (w : List ℕ) : Type 0 where
   pub digits : AllDigits w
   pub some : 0 < length w
 
-whole_by_head : (b : ℕ) (bs : List ℕ) → (b == 48) ≡ false → is_whole (b ∷ bs) ≡ true
-whole_by_head b [] h = refl
-whole_by_head b (d ∷ ds) h = ap not h
-
 pub whole-facts : (w : List ℕ) → IsWhole w → WholeFacts w
-whole-facts w whole_zero = record { test = refl; digits = (refl, tt); some = omega arith }
-whole-facts w (whole_digits b bs hb nonzero h) = record { test = whole_by_head b bs nonzero; digits = (hb, h); some = omega arith }
+whole-facts w h = grind arith
 
 combine : (negative exponent_negative : Bool) (front after w f e ds : List ℕ) → front ≡ w → is_whole w ≡ true
     → fraction_of after ≡ Some (f, e) → exponent_of e ≡ Some (exponent_negative, ds)
@@ -114,6 +106,4 @@ signed-parts true w rest h = refl
 signed-parts false w rest h = let facts = whole-facts w h in unsigned-parts w rest facts.digits facts.some
 
 pub parts-read : (t : List ℕ) (n : Parts) → SpellsNumber t n → parts_of t ≡ Some n
-parts-read t n s =
-    ap parts_of s.text ∙ signed-parts n.negative n.whole (fraction_text n.fraction ++ s.exponent_text) s.whole
-    ∙ unsigned-read n.negative n.exponent_negative n.whole n.fraction s.exponent_text n.exponent s.whole s.fraction s.exponent
+parts-read t n s = grind (arith, signed-parts, unsigned-read)

@@ -1,5 +1,5 @@
 -- Rounding a fraction.
-use Rattle.std.proofs.Common.{◌≡◌, ℕ, ◌+◌, ◌-◌, ◌*◌, ◌/◌, ◌%◌, ◌^◌, ◌<◌, ◌≤◌, suc, sym, ap, ◌∙◌, arith, ⊎_elim, IsTrue, ◌↔◌, Result, Ok, Err, subst, true, false, ◌≢◌}
+use Rattle.std.proofs.Common.{◌≡◌, ℕ, ◌+◌, ◌-◌, ◌*◌, ◌/◌, ◌^◌, ◌<◌, ◌≤◌, suc, sym, ap, ◌∙◌, arith, ⊎_elim, IsTrue, ◌↔◌, Result, Ok, Err, subst, true, false, ◌≢◌}
 use Rattle.decimal_text.specs.Rounding.{IsRounded, IsRoundedTo, Rounds}
 use Rattle.decimal_text.specs.declared.num_text.Range.{Range}
 use Rattle.decimal_text.specs.declared.rounding.Magnitude.{Magnitude}
@@ -10,10 +10,6 @@ use Rattle.std.proofs.lemmas.Bool.{cases_lt, false≢true}
 -- a whole number
 pub IsRounded-whole : (den u : ℕ) → 0 < den → IsRounded (u * den) den u
 IsRounded-whole den u h = record { low = omega arith; high = omega arith }
-
--- a whole number and less than a half
-pub IsRounded-down : (den q r : ℕ) → 2 * r < den → IsRounded (q * den + r) den q
-IsRounded-down den q r h = record { low = omega arith; high = omega arith }
 
 -- a whole number and a half or more
 pub IsRounded-up : (den q r : ℕ) → den ≤ 2 * r → r < den → IsRounded (q * den + r) den (q + 1)
@@ -38,30 +34,15 @@ IsRounded-unscaled num den u k pos r = record {
 
 -- one past the limit or more rounds past the limit
 pub IsRounded-above : (num den u limit : ℕ) → (limit + 1) * den ≤ num → IsRounded num den u → limit < u
-IsRounded-above num den u limit h r =
-    ⊎_elim (λ l. l)
-    (λ l. let bad : den * u ≤ den * limit = mul-le-mul_left den l in absurd (omega arith))
-    (cases_lt limit u)
-
-IsRounded-not_below : (num den u v : ℕ) → IsRounded num den u → IsRounded num den v → u < v → ⊥
-IsRounded-not_below num den u v r s l =
-    let bad : den * (u + 1) ≤ den * v = mul-le-mul_left den (omega arith) in
-    omega arith
+IsRounded-above num den u limit h r = grind (arith, mul-le-mul_left, cases_lt)
 
 pub IsRounded-unique : (num den u v : ℕ) → IsRounded num den u → IsRounded num den v → u ≡ v
-IsRounded-unique num den u v r s =
-    ⊎_elim (λ l. absurd (IsRounded-not_below num den u v r s l))
-    (λ h. ⊎_elim (λ l. absurd (IsRounded-not_below num den v u s r l)) (λ i. omega arith) (cases_lt v u))
-    (cases_lt u v)
+IsRounded-unique num den u v r s = grind (arith, cases_lt)
 
 -- q whole and less than a half
 pub IsRoundedTo-down : (num den q r limit : ℕ) (m : Magnitude) → num ≡ q * den + r → 2 * r < den
     → m.value ≡ q → (IsTrue m.exact ↔ (r ≡ 0)) → q ≤ limit → IsRoundedTo num den limit m
-IsRoundedTo-down num den q r limit m sum less is exact small = record {
-  rounded = rw (is, sum) (IsRounded-down den q r less);
-  exact = rw (is, sum) ((λ t. let none : r ≡ 0 = exact.0 t in omega arith), (λ e. exact.1 (omega arith)));
-  within = omega arith;
-}
+IsRoundedTo-down num den q r limit m sum less is exact small = grind arith
 
 -- q whole and a half or more
 pub IsRoundedTo-up : (num den q r limit : ℕ) (m : Magnitude) → num ≡ q * den + r → den ≤ 2 * r → r < den
@@ -75,19 +56,10 @@ IsRoundedTo-up num den q r limit m sum more less is exact small = record {
 -- rounded up past the limit
 pub up_past : (num den q r limit : ℕ) → num ≡ q * den + r → den ≤ 2 * r → r < den → q ≡ limit
     → (u : ℕ) → IsRounded num den u → limit < u
-up_past num den q r limit sum more less at u rounds =
-    let other : IsRounded num den (q + 1) = rw sum (IsRounded-up den q r more less) in
-    let same = IsRounded-unique num den u (q + 1) rounds other in
-    omega arith
+up_past num den q r limit sum more less at u rounds = grind arith
 
 cancel : (a b k : ℕ) → 0 < k → a * k ≡ b * k → a ≡ b
-cancel a b k pos e =
-    ⊎_elim
-    (λ l. let bad : k * (a + 1) ≤ k * b = mul-le-mul_left k (omega arith) in absurd (omega arith))
-    (λ h. ⊎_elim
-    (λ l. let bad : k * (b + 1) ≤ k * a = mul-le-mul_left k (omega arith) in absurd (omega arith))
-    (λ i. omega arith) (cases_lt b a))
-    (cases_lt a b)
+cancel a b k pos e = grind (arith, mul-le-mul_left, cases_lt)
 
 -- both numbers of the fraction by one factor
 pub Rounds-scaled : (num den limit k : ℕ) (r : Result Magnitude Range) → 0 < k → Rounds num den limit r → Rounds (num * k) (den * k) limit r
@@ -122,18 +94,11 @@ Rounds-shorter v up down limit r le h =
 
 -- a whole number
 pub IsRoundedTo-whole : (num limit : ℕ) (m : Magnitude) → m.value ≡ num → m.exact ≡ true → num ≤ limit → IsRoundedTo num 1 limit m
-IsRoundedTo-whole num limit m is exact small = record {
-  rounded = rw is record { low = omega arith; high = omega arith };
-  exact = ((λ t. omega arith), (λ e. exact));
-  within = omega arith;
-}
+IsRoundedTo-whole num limit m is exact small = grind arith
 
 -- zeros after a number past the limit
 pub long_past : (v limit zeros : ℕ) → limit < v → (limit + 1) * 1 ≤ v * 10 ^ zeros
-long_past v limit zeros h =
-    let pos : 1 ≤ 10 ^ zeros = one-le-pow zeros 10 (omega arith) in
-    let scaled : v * 1 ≤ v * 10 ^ zeros = mul-le-mul_left v pos in
-    omega arith
+long_past v limit zeros h = grind (arith, one-le-pow, mul-le-mul_left)
 
 -- all digits and more are cut
 pub IsRoundedTo-cut : (v len cut limit : ℕ) (m : Magnitude) → v < 10 ^ len → len < cut
@@ -146,14 +111,7 @@ IsRoundedTo-cut v len cut limit m small more is exact =
 -- zero, at any exponent
 pub IsRoundedTo-zero : (v a b limit : ℕ) (m : Magnitude) → v ≡ 0 → m.value ≡ 0 → m.exact ≡ true
     → IsRoundedTo (v * 10 ^ a) (10 ^ b) limit m
-IsRoundedTo-zero v a b limit m none is exact =
-    let pos : 1 ≤ 10 ^ b = one-le-pow b 10 (omega arith) in
-    let num : v * 10 ^ a ≡ 0 = ap (λ n. n * 10 ^ a) none ∙ zero-mul (10 ^ a) in
-    rw num record {
-      rounded = rw is record { low = omega arith; high = omega arith };
-      exact = ((λ t. rw is (omega arith)), (λ e. exact));
-      within = omega arith;
-    }
+IsRoundedTo-zero v a b limit m none is exact = grind (arith, one-le-pow, zero-mul)
 
 -- a number far below one half
 pub IsRoundedTo-tiny : (v len places cut limit : ℕ) (m : Magnitude) → v < 10 ^ len → len + places < cut
@@ -180,8 +138,4 @@ far_past v behind up limit some small far =
 
 -- there is a rounded number
 pub IsRounded-some : (num den : ℕ) → 0 < den → IsRounded num den ((2 * num + den) / (2 * den))
-IsRounded-some num den h =
-    let d : ℕ = 2 * den in
-    let u : ℕ = (2 * num + den) / d in
-    let sum : d * u + (2 * num + den) % d ≡ 2 * num + den = omega arith in
-    record { low = omega arith; high = omega arith }
+IsRounded-some num den h = grind arith

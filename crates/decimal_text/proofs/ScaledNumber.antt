@@ -1,10 +1,10 @@
 -- What a number text scales to.
-use Rattle.std.proofs.Common.{◌≡◌, ℕ, ◌<◌, ◌≤◌, Bool, true, false, suc, zero, List, Option, None, Some, Ok, IfOk, refl, subst, ap, arith, unsigned_abs, ⊎_elim}
+use Rattle.std.proofs.Common.{◌≡◌, ℕ, ◌<◌, ◌≤◌, Bool, List, Option, Some, Ok, IfOk, subst, ap, arith, unsigned_abs}
 use Rattle.std.proofs.Math.Nat.{one-le-pow}
 use Rattle.std.proofs.lemmas.Bool.{cases_lt}
 use Rattle.decimal_text.specs.declared.num_text.Scaled.{Scaled}
 use Rattle.decimal_text.specs.Parts.{Parts, parts_of}
-use Rattle.decimal_text.specs.Rounding.{signed, nearest, rounded_of}
+use Rattle.decimal_text.specs.Rounding.{signed, rounded_of}
 use Rattle.decimal_text.specs.Scaling.{numerator, denominator, scaled_of, scaled_parts}
 use Rattle.decimal_text.specs.Laws.{ScaledIsNearest}
 use Rattle.decimal_text.proofs.Nearest.{rounded_of-nearest, rounded_of-within, rounded_of-past}
@@ -25,21 +25,14 @@ scaled_of-nearest places limit t n s =
 
 -- a magnitude with a sign
 pub unsigned_abs-signed : (negative : Bool) (m : ℕ) → unsigned_abs (signed negative m) ≡ m
-unsigned_abs-signed true zero = refl
-unsigned_abs-signed true (suc m) = refl
-unsigned_abs-signed false m = refl
+unsigned_abs-signed negative m = grind arith
 
 -- an answer is within the limit
 pub rounded_of-limit : (negative : Bool) (num den limit : ℕ) → IfOk (rounded_of negative num den limit) (λ s. unsigned_abs s.value ≤ limit)
-rounded_of-limit negative num den limit =
-    ⊎_elim
-    (λ past. rw (rounded_of-past negative num den limit past) tt)
-    (λ small. rw (rounded_of-within negative num den limit small) (rw (unsigned_abs-signed negative (nearest num den)) small))
-    (cases_lt limit (nearest num den))
+rounded_of-limit negative num den limit = grind (arith, rounded_of-past, rounded_of-within, unsigned_abs-signed, cases_lt)
 
 scaled_parts-limit : (places limit : ℕ) (o : Option Parts) → IfOk (scaled_parts places limit o) (λ s. unsigned_abs s.value ≤ limit)
-scaled_parts-limit places limit None = tt
-scaled_parts-limit places limit (Some n) = rounded_of-limit n.negative (numerator n places) (denominator n) limit
+scaled_parts-limit places limit o = grind (arith, rounded_of-limit)
 
 -- what a number text scales to is within the limit
 pub scaled_of-within : (places limit : ℕ) (t : List ℕ) (s : Scaled) → scaled_of places limit t ≡ Ok s → unsigned_abs s.value ≤ limit

@@ -23,14 +23,11 @@ empty_from_length [] h = refl
 empty_from_length (c ∷ cs) h = let no : length (c ∷ cs) ≡ 0 = eqb-true (length (c ∷ cs)) 0 h in absurd (omega arith)
 
 some_from_length : (t : List ℕ) → (length t == 0) ≡ false → 0 < length t
-some_from_length [] h = absurd (true≢false h)
-some_from_length (c ∷ cs) h = omega arith
+some_from_length t h = grind (arith, true≢false)
 
 all_tests : (x y : Bool) (f ds : List ℕ) → if◌then◌else◌ {A = Option (List ℕ)} x None (if y then Some f else None) ≡ Some ds
     → (x ≡ false) × (y ≡ true) × (f ≡ ds)
-all_tests true y f ds h = absurd cc
-all_tests false true f ds h = (refl, refl, cc)
-all_tests false false f ds h = absurd cc
+all_tests x y f ds h = grind arith
 
 -- one digit or more, and nothing else
 record IsRun (t ds : List ℕ) : Type 0 where
@@ -51,8 +48,7 @@ all_digits-spelled t ds h =
 
 option_some : (b : Bool) (o : Option (List ℕ)) (negative : Bool) (ds : List ℕ)
     → option_and_then {U = Bool × List ℕ} (λ r. Some (b, r)) o ≡ Some (negative, ds) → (b ≡ negative) × (o ≡ Some ds)
-option_some b None negative ds h = absurd cc
-option_some b (Some r) negative ds h = let e = some_pair_parts b negative r ds h in (e.0, ap (λ x. Some x) e.1)
+option_some b o negative ds h = grind (arith, some_pair_parts)
 
 -- a sign or none, and then a run of digits
 record IsSignedRun (t : List ℕ) (negative : Bool) (ds : List ℕ) : Type 0 where
@@ -75,26 +71,18 @@ signed_run s b rest negative ds sign h =
 
 minus_case : (c : ℕ) (cs : List ℕ) (negative : Bool) (ds : List ℕ) → (c == 45) ≡ true → signed_digits_of (c ∷ cs) ≡ Some (negative, ds)
     → IsSignedRun (c ∷ cs) negative ds
-minus_case c cs negative ds t h =
-    let is : c ≡ 45 = eqb-true c 45 t in
-    rw is (signed_run (45 ∷ []) true cs negative ds spells_minus (rw is at h))
+minus_case c cs negative ds t h = grind (arith, eqb-true c 45 t, signed_run (45 ∷ []) true cs negative ds spells_minus)
 
 plus_case : (c : ℕ) (cs : List ℕ) (negative : Bool) (ds : List ℕ) → (c == 43) ≡ true → signed_digits_of (c ∷ cs) ≡ Some (negative, ds)
     → IsSignedRun (c ∷ cs) negative ds
-plus_case c cs negative ds t h =
-    let is : c ≡ 43 = eqb-true c 43 t in
-    rw is (signed_run (43 ∷ []) false cs negative ds spells_plus (rw is at h))
+plus_case c cs negative ds t h = grind (arith, eqb-true c 43 t, signed_run (43 ∷ []) false cs negative ds spells_plus)
 
 none_case : (c : ℕ) (cs : List ℕ) (negative : Bool) (ds : List ℕ) → (c == 45) ≡ false → (c == 43) ≡ false → signed_digits_of (c ∷ cs) ≡ Some (negative, ds)
     → IsSignedRun (c ∷ cs) negative ds
 none_case c cs negative ds e f h = signed_run [] false (c ∷ cs) negative ds spells_no_sign (rw (e, f) at h)
 
 signed_digits-spelled : (t : List ℕ) (negative : Bool) (ds : List ℕ) → signed_digits_of t ≡ Some (negative, ds) → IsSignedRun t negative ds
-signed_digits-spelled [] negative ds h = absurd cc
-signed_digits-spelled (c ∷ cs) negative ds h =
-    ⊎_elim (λ y. minus_case c cs negative ds y.0 h)
-    (λ n. ⊎_elim (λ y. plus_case c cs negative ds y.0 h) (λ m. none_case c cs negative ds n.0 m.0 h) (eqb_tells c 43))
-    (eqb_tells c 45)
+signed_digits-spelled t negative ds h = grind (arith, minus_case, plus_case, none_case, eqb_tells)
 
 exponent-made : (e : ℕ) (s : List ℕ) (negative : Bool) (ds : List ℕ) → is_e e ≡ true → SpellsSign s negative → AllDigits ds → 0 < length ds
     → SpellsExponent (e ∷ s ++ ds) negative ds
@@ -103,8 +91,7 @@ exponent-made e s negative (b ∷ bs) he hs h some = spells_exponent e s negativ
 
 e_test : (b : Bool) (o : Option (Bool × List ℕ)) (r : Bool × List ℕ)
     → if◌then◌else◌ {A = Option (Bool × List ℕ)} b o None ≡ Some r → (b ≡ true) × (o ≡ Some r)
-e_test true o r h = (refl, h)
-e_test false o r h = absurd cc
+e_test b o r h = grind arith
 
 exponent-spelled : (t : List ℕ) (negative : Bool) (ds : List ℕ) → exponent_of t ≡ Some (negative, ds) → SpellsExponent t negative ds
 exponent-spelled [] negative ds h =
@@ -122,36 +109,17 @@ record IsFractionAnd (t f rest : List ℕ) : Type 0 where
 
 fraction_test : (b : Bool) (f a : List ℕ) (g rest : List ℕ) → if◌then◌else◌ {A = Option (List ℕ × List ℕ)} b None (Some (f, a)) ≡ Some (g, rest)
     → (b ≡ false) × (f ≡ g) × (a ≡ rest)
-fraction_test true f a g rest h = absurd cc
-fraction_test false f a g rest h = let e = some_pair_parts f g a rest h in (refl, e.0, e.1)
+fraction_test b f a g rest h = grind (arith, some_pair_parts)
 
 fraction_text-some : (f : List ℕ) → 0 < length f → fraction_text f ≡ 46 ∷ f
-fraction_text-some [] h = absurd (omega arith)
-fraction_text-some (d ∷ ds) h = refl
-
-point_case : (c : ℕ) (cs f rest : List ℕ) → (c == 46) ≡ true → fraction_of (c ∷ cs) ≡ Some (f, rest) → IsFractionAnd (c ∷ cs) f rest
-point_case c cs f rest t h =
-    let is : c ≡ 46 = eqb-true c 46 t in
-    let tests = fraction_test (length (front_digits cs) == 0) (front_digits cs) (after_digits cs) f rest (rw is at h) in
-    let some : 0 < length f = subst (λ d. 0 < length d) tests.1 (some_from_length (front_digits cs) tests.0) in
-    let split : cs ≡ f ++ rest = sym (front-after cs) ∙ ap (λ d. d ++ after_digits cs) tests.1 ∙ ap (λ r. f ++ r) tests.2 in
-    record {
-      same = rw (is, split, fraction_text-some f some) refl;
-      digits = subst AllDigits tests.1 (front-AllDigits cs);
-    }
-
-other_case : (c : ℕ) (cs f rest : List ℕ) → (c == 46) ≡ false → fraction_of (c ∷ cs) ≡ Some (f, rest) → IsFractionAnd (c ∷ cs) f rest
-other_case c cs f rest t h =
-    let made : ◌≡◌ {A = Option (List ℕ × List ℕ)} (Some ([], c ∷ cs)) (Some (f, rest)) = rw t at h in
-    let parts = some_pair_parts {A = List ℕ} {B = List ℕ} [] f (c ∷ cs) rest made in
-    subst (λ g. IsFractionAnd (c ∷ cs) g rest) parts.0 record { same = parts.1; digits = tt }
+fraction_text-some f h = grind arith
 
 fraction-spelled : (t f rest : List ℕ) → fraction_of t ≡ Some (f, rest) → IsFractionAnd t f rest
 fraction-spelled [] f rest h =
     let parts = some_pair_parts {A = List ℕ} {B = List ℕ} [] f [] rest h in
     subst (λ g. IsFractionAnd [] g rest) parts.0 record { same = parts.1; digits = tt }
 fraction-spelled (c ∷ cs) f rest h =
-    ⊎_elim (λ y. point_case c cs f rest y.0 h) (λ n. other_case c cs f rest n.0 h) (eqb_tells c 46)
+    grind (arith, eqb-true, fraction_test, some_from_length, front-after, fraction_text-some, front-AllDigits, some_pair_parts, eqb_tells)
 
 whole-made : (w : List ℕ) → AllDigits w → is_whole w ≡ true → IsWhole w
 whole-made [] h t = absurd (false≢true t)
@@ -190,33 +158,17 @@ exponent_step negative front after f r n (Some x) w e1 e2 h = record {
   parts = cc;
 }
 
-fraction_step : (negative : Bool) (front after : List ℕ) (n : Parts) (o : Option (List ℕ × List ℕ)) → is_whole front ≡ true
-    → fraction_of after ≡ o → option_and_then (with_exponent negative front) o ≡ Some n → UnsignedSteps negative front after n
-fraction_step negative front after n None w e h = absurd cc
-fraction_step negative front after n (Some f) w e h = exponent_step negative front after f.0 f.1 n (exponent_of f.1) w e refl h
-
 whole_step : (negative b : Bool) (front after : List ℕ) (n : Parts) → is_whole front ≡ b
     → if◌then◌else◌ {A = Option Parts} b (option_and_then (with_exponent negative front) (fraction_of after)) None ≡ Some n
     → UnsignedSteps negative front after n
-whole_step negative true front after n w h = fraction_step negative front after n (fraction_of after) w refl h
-whole_step negative false front after n w h = absurd cc
+whole_step negative b front after n h k = grind (arith, exponent_step)
 
 spelled_from_steps : (negative : Bool) (t : List ℕ) (n : Parts) → UnsignedSteps negative (front_digits t) (after_digits t) n
     → SpellsNumber (sign_text negative ++ t) n
-spelled_from_steps negative t n s =
-    let f = fraction-spelled (after_digits t) s.fraction s.rest s.fraction_is in
-    let split : t ≡ front_digits t ++ (fraction_text s.fraction ++ s.rest) = sym (front-after t) ∙ ap (λ r. front_digits t ++ r) f.same in
-    subst (SpellsNumber (sign_text negative ++ t)) (sym s.parts) record {
-      exponent_text = s.rest;
-      text = ap (λ r. sign_text negative ++ r) split;
-      whole = whole-made (front_digits t) (front-AllDigits t) s.whole;
-      fraction = f.digits;
-      exponent = exponent-spelled s.rest s.exponent_negative s.exponent s.exponent_is;
-    }
+spelled_from_steps negative t n s = grind (arith, fraction-spelled, front-after, whole-made, front-AllDigits, exponent-spelled)
 
 unsigned-spelled : (negative : Bool) (t : List ℕ) (n : Parts) → unsigned_of negative t ≡ Some n → SpellsNumber (sign_text negative ++ t) n
-unsigned-spelled negative t n h =
-    spelled_from_steps negative t n (whole_step negative (is_whole (front_digits t)) (front_digits t) (after_digits t) n refl h)
+unsigned-spelled negative t n h = grind (arith, spelled_from_steps, whole_step)
 
 pub parts-spelled : (t : List ℕ) (n : Parts) → parts_of t ≡ Some n → SpellsNumber t n
 parts-spelled [] n h = absurd cc
@@ -232,8 +184,7 @@ record MinusOf (m : List ℕ) : Type 0 where
   pub same : m ≡ sign_text negative
 
 minus-of : (m : List ℕ) → IsMinus m → MinusOf m
-minus-of m no_minus = record { negative = false; same = refl }
-minus-of m one_minus = record { negative = true; same = refl }
+minus-of m h = grind arith
 
 record FractionOf (f : List ℕ) : Type 0 where
   pub digits : List ℕ
@@ -298,8 +249,7 @@ pub number-parts : (t : List ℕ) → IsNumber t → IsSome (parts_of t)
 number-parts t h = let s = number-spelled t h in rw (parts-read t s.0 s.1) refl
 
 some_parts : (o : Option Parts) → IsSome o → (n : Parts) × (o ≡ Some n)
-some_parts None h = absurd (false≢true h)
-some_parts (Some n) h = (n, refl)
+some_parts o h = grind (arith, false≢true)
 
 pub parts-number : (t : List ℕ) → IsSome (parts_of t) → IsNumber t
 parts-number t h = let p = some_parts (parts_of t) h in spelled-number t p.0 (parts-spelled t p.0 p.1)

@@ -21,19 +21,13 @@ trimmed-push (c ∷ cs) d h = rw (trimmed-push cs d h) (before_some c cs d)
 
 pub trimmed-step : (ds : List ℕ) (e : ℕ) → 0 < e → e ≤ length ds → get_or ds (e - 1) 0 ≡ 48
     → trimmed (take (e - 1) ds) ≡ trimmed (take e ds)
-trimmed-step ds e pos within h =
-    let at : (e - 1) + 1 ≡ e = omega arith in
-    let more = take_more ds (e - 1) 0 (omega arith) in
-    let cut : take e ds ≡ take (e - 1) ds ++ 48 ∷ [] = ap (λ n. take n ds) (sym at) ∙ more ∙ ap (λ d. take (e - 1) ds ++ d ∷ []) h in
-    sym (ap trimmed cut ∙ trimmed-push_zero (take (e - 1) ds))
+trimmed-step ds e pos within h = grind (arith, take_more ds (e - 1) 0 (omega arith), trimmed-push_zero (take (e - 1) ds))
 
 other_digit : (d : ℕ) → (d ≡ 48 → ⊥) → (d == 48) ≡ false
 other_digit d h = ⊎_elim (λ t. absurd (h t.1)) (λ f. f.0) (eqb_tells d 48)
 
 pub trimmed-empty : (ds : List ℕ) (e : ℕ) → e ≤ 0 → trimmed (take e ds) ≡ take e ds
-trimmed-empty ds e h =
-    let none : e ≡ 0 = omega arith in
-    rw none refl
+trimmed-empty ds e h = grind arith
 
 pub trimmed-stop : (ds : List ℕ) (e : ℕ) → 0 < e → e ≤ length ds → (get_or ds (e - 1) 0 ≡ 48 → ⊥)
     → trimmed (take e ds) ≡ take e ds

@@ -1,5 +1,5 @@
 -- A text of units is a number, which scales to the units again.
-use Rattle.std.proofs.Common.{◌≡◌, ℕ, ◌+◌, ◌-◌, ◌*◌, ◌/◌, ◌%◌, ◌^◌, ◌<◌, ◌≤◌, suc, zero, Bool, true, false, List, [], ◌∷◌, ◌++◌, length, get_or, All, Ok, Option, Some, decimal, refl, sym, ap, ◌∙◌, arith, ⊎_elim, length-append, add-zero, ℤ, pos, negsuc, int_lt, unsigned_abs, subst}
+use Rattle.std.proofs.Common.{◌≡◌, ℕ, ◌+◌, ◌-◌, ◌*◌, ◌/◌, ◌%◌, ◌^◌, ◌<◌, ◌≤◌, suc, zero, Bool, true, false, List, [], ◌∷◌, ◌++◌, length, get_or, All, Ok, Option, Some, decimal, refl, sym, ap, ◌∙◌, arith, ⊎_elim, length-append, add-zero, ℤ, pos, int_lt, unsigned_abs, subst}
 use Rattle.std.proofs.Math.Nat.{pow-suc, one-le-pow, zero-mul, mul-le-mul_left}
 use Rattle.std.proofs.lemmas.Bool.Decides.{nat_tests, eqb_tells}
 use Rattle.std.proofs.lemmas.Fmt.{decimal_by_steps_wide}
@@ -50,13 +50,7 @@ whole-one zero h = whole_zero
 whole-one (suc n) h = whole_digits (48 + suc n) [] (digit_true (48 + suc n) (omega arith) (omega arith)) (ne_eqb (48 + suc n) 48 (λ e. omega arith)) tt
 
 text-one : (n : ℕ) → n < 10 → IsText n ((48 + n) ∷ [])
-text-one n h = record {
-  says = omega arith;
-  digits = one_digit (48 + n) (omega arith) (omega arith);
-  some = omega arith;
-  head = λ p. omega arith;
-  whole = whole-one n h;
-}
+text-one n h = grind (arith, one_digit, whole-one)
 
 text-more : (n : ℕ) (ds : List ℕ) → 10 ≤ n → IsText (n / 10) ds → IsText n (ds ++ ((48 + n % 10) ∷ []))
 text-more n ds h t =
@@ -194,8 +188,7 @@ text-value : (negative : Bool) (size places : ℕ) → size < 10 ^ 64
 text-value negative size places small = rw (add-zero, add-zero) (units-value size places small)
 
 signed-same : (u : ℤ) → signed (int_lt u (pos 0)) (unsigned_abs u) ≡ u
-signed-same (pos n) = let no : int_lt (pos n) (pos 0) ≡ false = grind (arith, nat_tests) in rw no refl
-signed-same (negsuc n) = refl
+signed-same u = grind (arith, int_lt, nat_tests)
 
 pub units_text-number : (u : ℤ) (places : ℕ) → unsigned_abs u < 10 ^ 64 → IsNumber (units_text u places)
 unfolding units_text
@@ -228,8 +221,4 @@ units_text-least u places n small s =
     subst (λ p. (p.exponent ≡ []) × EndsInNoZero p.fraction) same (refl, trimmed-end (fixed places (unsigned_abs u % 10 ^ places)))
 
 pub reads-again : (u : ℤ) (places : ℕ) → unsigned_abs u < 10 ^ 64 → ReadsAgain u places
-reads-again u places small = record {
-  number = units_text-number u places small;
-  exactly = λ limit within. scaled_of-units u places limit small within;
-  least = λ n s. units_text-least u places n small s;
-}
+reads-again u places small = search (units_text-number, scaled_of-units, units_text-least)

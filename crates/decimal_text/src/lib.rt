@@ -1,7 +1,6 @@
 //! Decimal number texts as whole numbers of units, and whole numbers of units as decimal texts.
-//! It stands on `byte_ends` for the sinks that it writes to.
-//! The layers above read a number by `NumText::scaled`, whose clause `value` gives the exact result, and write one by
-//! `print_units` or `put_units`; `units_again` says that what they write is read as the same number.
+//! The layers above read a number by `NumText::scaled`, whose clause `value` gives the exact result. `units_text` of
+//! `specs/Scaling.antt` is the text of units, and `units_again` says that it is read as the same number.
 #![tactic(auto)]
 
 mod digits;
@@ -15,4 +14,4 @@ mod units;
 
 pub use laws::{numbers_have_parts, parts_are_spelled, rounded_is_unique, scaled_is_nearest};
 pub use num_text::{NumText, Range, Scaled};
-pub use units::{print_units, put_units, units_again};
+pub use units::units_again;

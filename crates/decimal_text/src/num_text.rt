@@ -6,7 +6,7 @@ ghost use Rattle.decimal_text.specs.Scaling.{scaled_of};
 use crate::few_bytes::FewBytes;
 use crate::number_parts::split_number;
 use crate::scaling::scaled_number;
-use byte_ends::Memory;
+use owned_values::Memory;
 use std::alloc::Global;
 use std::marker::Model;
 use std::str;

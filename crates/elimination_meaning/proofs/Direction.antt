@@ -1,14 +1,16 @@
 -- A line whose positions between the ends are distinct is reduced to the same positions from its other end.
-use Rattle.std.proofs.Common.{◌≡◌, ℕ, ◌+◌, ◌-◌, ◌<◌, List, [], ◌∷◌, ◌++◌, length, map, reverse, refl, ap, sym, ◌∙◌, subst, arith, if◌then◌else◌, ◌==◌, nat_lt}
+use Rattle.std.proofs.Common.{◌≡◌, ℕ, ◌+◌, ◌-◌, ◌<◌, ◌≤◌, List, [], ◌∷◌, ◌++◌, length, map, reverse, refl, ap, sym, ◌∙◌, subst, arith, if◌then◌else◌, ◌==◌, nat_lt}
+use Rattle.std.specs.List.{AllByRecursion}
 use Rattle.std.proofs.lemmas.Bool.Decides.{nat_tests}
 use Rattle.std.proofs.lemmas.List.{map-append, length-reverse}
 use mathlib.Core.List.{reverse-cons}
-use Rattle.geojson_types.specs.Lists.{front_of, interior, AreDistinct}
-use Rattle.geojson_types.specs.Points.{Point}
-use Rattle.elimination_meaning.specs.Elimination.{Vertex, eliminate, numbered, remaining, reduced}
-use Rattle.elimination_meaning.specs.Laws.{DirectionLaw}
+use Rattle.geometry.specs.Lists.{front_of, interior, AreDistinct}
+use Rattle.geometry.specs.Points.{Point}
+use Rattle.elimination_meaning.specs.Elimination.{Vertex, eliminate, numbered, remaining, reduce, reduced}
+use Rattle.elimination_meaning.specs.Laws.{DirectionLaw, IndexDirectionLaw}
 use Rattle.elimination_meaning.proofs.Relabelled.{relabelled, between, eliminate_relabelled}
-use Rattle.elimination_meaning.proofs.Steps.{vertex, numbered_points}
+use Rattle.elimination_meaning.proofs.Steps.{vertex, numbered_points, eliminate_sub}
+use Rattle.elimination_meaning.proofs.Sublists.{sub_map, sub_all}
 use Rattle.elimination_meaning.proofs.Turned.{eliminate_reverse}
 
 -- the index of the same place counted from the other end of so many, one to one
@@ -23,11 +25,9 @@ flipped_at n k h = grind (arith, nat_tests)
 
 pub numbered_append : (i : ℕ) (ps qs : List Point) → numbered i (ps ++ qs) ≡ numbered i ps ++ numbered (i + length ps) qs
 numbered_append i [] qs = let e : i + 0 ≡ i = omega arith in ap (λ k. numbered k qs) (sym e)
-numbered_append i (p ∷ ps) qs =
-    let e : i + 1 + length ps ≡ i + length (p ∷ ps) = omega arith in
-    ap (λ l. vertex i p ∷ l) (numbered_append (i + 1) ps qs ∙ ap (λ k. numbered (i + 1) ps ++ numbered k qs) e)
+numbered_append i (p ∷ ps) qs = grind (arith, vertex, numbered_append (i + 1) ps qs)
 
-map_reverse : {X Y : Type 0} (f : X → Y) (xs : List X) → map f (reverse xs) ≡ reverse (map f xs)
+pub map_reverse : {X Y : Type 0} (f : X → Y) (xs : List X) → map f (reverse xs) ≡ reverse (map f xs)
 map_reverse f [] = refl
 map_reverse f (x ∷ xs) =
     ap (map f) (reverse-cons x xs) ∙ map-append f (reverse xs) (x ∷ []) ∙ ap (λ l. l ++ (f x ∷ [])) (map_reverse f xs)
@@ -61,9 +61,7 @@ map_front_of f x [] = refl
 map_front_of f x (y ∷ ys) = ap (λ l. f x ∷ l) (map_front_of f y ys)
 
 map_interior : {X Y : Type 0} (f : X → Y) (xs : List X) → map f (interior xs) ≡ interior (map f xs)
-map_interior f [] = refl
-map_interior f (x ∷ []) = refl
-map_interior f (x ∷ (y ∷ ys)) = map_front_of f y ys
+map_interior f xs = grind (arith, map_front_of)
 
 between_is : (ps : List Point) → between (numbered 0 ps) ≡ interior ps
 between_is ps = map_interior (λ v. v.point) (numbered 0 ps) ∙ ap interior (numbered_points 0 ps)
@@ -77,3 +75,40 @@ reduced_reverse t ps h =
     ∙ ap (λ l. map (λ v. v.point) (reverse l)) (eliminate_relabelled (flipped (length ps)) (flipped_one (length ps)) (length ps) t (numbered 0 ps) (subst (λ l. AreDistinct l) (sym (between_is ps)) h))
     ∙ map_reverse (λ v. v.point) (map (relabelled (flipped (length ps))) (remaining t ps))
     ∙ ap reverse (map_points (flipped (length ps)) (remaining t ps))
+
+-- ---- the indexes
+
+map_indexes : (f : ℕ → ℕ) (vs : List Vertex) → map (λ v. v.index) (map (relabelled f) vs) ≡ map f (map (λ v. v.index) vs)
+map_indexes f [] = refl
+map_indexes f (v ∷ vs) = ap (λ l. f v.index ∷ l) (map_indexes f vs)
+
+numbered_within : (i n : ℕ) (ps : List Point) → i + length ps ≤ n → AllByRecursion (λ k. k < n) (map (λ v. v.index) (numbered i ps))
+numbered_within i n [] h = tt
+numbered_within i n (p ∷ ps) h = (omega (arith, h), numbered_within (i + 1) n ps (omega (arith, h)))
+
+-- each index that stays is one of the line
+pub reduce_within : (t : ℕ) (ps : List Point) → AllByRecursion (λ k. k < length ps) (reduce t ps)
+unfolding reduce
+reduce_within t ps =
+    sub_all (λ k. k < length ps) (sub_map (λ v. v.index) (eliminate_sub (length ps) t (numbered 0 ps)))
+    (numbered_within 0 (length ps) ps (omega arith))
+
+flipped_within : (n i : ℕ) → i < n → flipped n i ≡ n - 1 - i
+flipped_within n i h = grind (arith, nat_tests)
+
+map_flipped : (n : ℕ) (is : List ℕ) → AllByRecursion (λ i. i < n) is → map (flipped n) is ≡ map (λ i. n - 1 - i) is
+map_flipped n [] h = refl
+map_flipped n (i ∷ is) h = ap (λ k. k ∷ map (flipped n) is) (flipped_within n i h.0) ∙ ap (λ l. (n - 1 - i) ∷ l) (map_flipped n is h.1)
+
+reduce_flipped : (t : ℕ) (ps : List Point) → AreDistinct (interior ps) → reduce t (reverse ps) ≡ reverse (map (flipped (length ps)) (reduce t ps))
+unfolding reduce
+reduce_flipped t ps h =
+    ap (λ m. map (λ v. v.index) (eliminate m t (numbered 0 (reverse ps)))) (length-reverse ps)
+    ∙ ap (λ l. map (λ v. v.index) (eliminate (length ps) t l)) (numbered_reverse (flipped (length ps)) 0 0 ps (flipped_at (length ps)))
+    ∙ ap (map (λ v. v.index)) (eliminate_reverse (length ps) t (map (relabelled (flipped (length ps))) (numbered 0 ps)))
+    ∙ ap (λ l. map (λ v. v.index) (reverse l)) (eliminate_relabelled (flipped (length ps)) (flipped_one (length ps)) (length ps) t (numbered 0 ps) (subst (λ l. AreDistinct l) (sym (between_is ps)) h))
+    ∙ map_reverse (λ v. v.index) (map (relabelled (flipped (length ps))) (remaining t ps))
+    ∙ ap reverse (map_indexes (flipped (length ps)) (remaining t ps))
+
+pub reduce_reverse : IndexDirectionLaw
+reduce_reverse t ps h = reduce_flipped t ps h ∙ ap reverse (map_flipped (length ps) (reduce t ps) (reduce_within t ps))

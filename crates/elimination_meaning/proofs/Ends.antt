@@ -4,27 +4,27 @@ use Rattle.std.specs.List.{AllByRecursion}
 use Rattle.std.proofs.lemmas.Bool.Decides.{nat_tests}
 use Rattle.std.proofs.lemmas.List.{map-append}
 use Rattle.std.proofs.lemmas.List.Elements.{filter-append}
-use Rattle.geojson_types.specs.Lists.{front_of, interior}
-use Rattle.geojson_types.specs.Points.{Point}
-use Rattle.elimination_meaning.specs.Elimination.{Vertex, Corner, corners, least, without, without_under, next, eliminate, numbered, reduced}
+use Rattle.geometry.specs.Lists.{front_of, interior}
+use Rattle.geometry.specs.Points.{Point}
+use Rattle.elimination_meaning.specs.Elimination.{Vertex, Corner, corners, least, without, without_under, next, eliminate, numbered, reduce, reduced}
 use Rattle.elimination_meaning.specs.Laws.{EndsStay}
 use Rattle.elimination_meaning.proofs.Direction.{numbered_append}
 use Rattle.elimination_meaning.proofs.Steps.{Holds, least_between, vertex, vertex_of}
 use Rattle.elimination_meaning.proofs.Sublists.{sub_all, sub_filter}
 use Rattle.elimination_meaning.proofs.Turned.{go_on}
 
-abbrev ended : Vertex → List Vertex → Vertex → List Vertex
+abbrev pub ended : Vertex → List Vertex → Vertex → List Vertex
 ended a vs b = a ∷ (vs ++ (b ∷ []))
 
 -- it has the index of neither end
-abbrev IsOther : Vertex → Vertex → Vertex → Type 0
+abbrev pub IsOther : Vertex → Vertex → Vertex → Type 0
 IsOther a b v = ((a.index == v.index) ≡ false) × ((b.index == v.index) ≡ false)
 
 -- it ends with these two, and no other has the index of one of them
-record HasEnds (a b : Vertex) (vs : List Vertex) : Type 0 where
-  inner : List Vertex
-  shape : vs ≡ ended a inner b
-  others : AllByRecursion (IsOther a b) inner
+pub record HasEnds (a b : Vertex) (vs : List Vertex) : Type 0 where
+  pub inner : List Vertex
+  pub shape : vs ≡ ended a inner b
+  pub others : AllByRecursion (IsOther a b) inner
 
 front_of_ended : (v : Vertex) (vs : List Vertex) (b : Vertex) → front_of v (vs ++ (b ∷ [])) ≡ v ∷ vs
 front_of_ended v [] b = refl
@@ -35,9 +35,7 @@ interior_ended a [] b = refl
 interior_ended a (v ∷ vs) b = front_of_ended v vs b
 
 without_ended : (i : ℕ) (a : Vertex) (vs : List Vertex) (b : Vertex) → (a.index == i) ≡ false → (b.index == i) ≡ false → without i (ended a vs b) ≡ ended a (without i vs) b
-without_ended i a vs b h k =
-    ap (λ x. if not x then a ∷ without i (vs ++ (b ∷ [])) else without i (vs ++ (b ∷ []))) h
-    ∙ ap (λ l. a ∷ l) (filter-append (λ v. not (v.index == i)) vs (b ∷ []) ∙ ap (λ x. without i vs ++ (if not x then b ∷ [] else [])) k)
+without_ended i a vs b h k = grind (arith, filter-append)
 
 next_ended : (t : ℕ) (a b : Vertex) (vs : List Vertex) → AllByRecursion (IsOther a b) vs → Holds (HasEnds a b) (next t (ended a vs b))
 next_ended t a b vs h =
@@ -56,24 +54,17 @@ next_ends t a b vs h = subst (λ l. Holds (HasEnds a b) (next t l)) (sym h.shape
 
 go_ends : (n t : ℕ) (a b : Vertex) (vs : List Vertex) → HasEnds a b vs → ((ws : List Vertex) → HasEnds a b ws → HasEnds a b (eliminate n t ws)) →
     (o : Option (List Vertex)) → Holds (HasEnds a b) o → HasEnds a b (go_on n t vs o)
-go_ends n t a b vs h ih None k = h
-go_ends n t a b vs h ih (Some ws) k = ih ws k
+go_ends n t a b vs h k o m = grind arith
 
-eliminate_ends : (n t : ℕ) (a b : Vertex) (vs : List Vertex) → HasEnds a b vs → HasEnds a b (eliminate n t vs)
+pub eliminate_ends : (n t : ℕ) (a b : Vertex) (vs : List Vertex) → HasEnds a b vs → HasEnds a b (eliminate n t vs)
 eliminate_ends zero t a b vs h = h
 eliminate_ends (suc n) t a b vs h = go_ends n t a b vs h (λ ws k. eliminate_ends n t a b ws k) (next t vs) (next_ends t a b vs h)
 
 numbered_others : (p q : Point) (n i : ℕ) (ps : List Point) → 0 < i → i + length ps ≤ n → AllByRecursion (IsOther (vertex 0 p) (vertex n q)) (numbered i ps)
 numbered_others p q n i [] h k = tt
-numbered_others p q n i (r ∷ ps) h k = ((before i h, behind i n (omega (arith, k))), numbered_others p q n (i + 1) ps (omega (arith, h)) (omega (arith, k)))
-  where
-    before : (j : ℕ) → 0 < j → (0 == j) ≡ false
-    before j m = grind (arith, nat_tests)
+numbered_others p q n i (r ∷ ps) h k = grind (arith, nat_tests, numbered_others p q n (i + 1) ps (omega (arith, h)) (omega (arith, k)))
 
-    behind : (j m : ℕ) → j < m → (m == j) ≡ false
-    behind j m l = grind (arith, nat_tests)
-
-numbered_ends : (p q : Point) (ps : List Point) → HasEnds (vertex 0 p) (vertex (1 + length ps) q) (numbered 0 (p ∷ (ps ++ (q ∷ []))))
+pub numbered_ends : (p q : Point) (ps : List Point) → HasEnds (vertex 0 p) (vertex (1 + length ps) q) (numbered 0 (p ∷ (ps ++ (q ∷ []))))
 numbered_ends p q ps = record {
   inner = numbered 1 ps;
   shape = ap (λ l. vertex 0 p ∷ l) (numbered_append 1 ps (q ∷ []));
@@ -85,3 +76,10 @@ unfolding reduced
 ends_stay t p q ps =
     let h = eliminate_ends (length (p ∷ (ps ++ (q ∷ [])))) t _ _ _ (numbered_ends p q ps) in
     (map (λ v. v.point) h.inner, ap (map (λ v. v.point)) h.shape ∙ ap (λ l. p ∷ l) (map-append (λ v. v.point) h.inner (vertex (1 + length ps) q ∷ [])))
+
+-- the same in words of indexes
+pub index_ends_stay : (t : ℕ) (p q : Point) (ps : List Point) → (between : List ℕ) × (reduce t (p ∷ (ps ++ (q ∷ []))) ≡ 0 ∷ (between ++ ((1 + length ps) ∷ [])))
+unfolding reduce
+index_ends_stay t p q ps =
+    let h = eliminate_ends (length (p ∷ (ps ++ (q ∷ [])))) t _ _ _ (numbered_ends p q ps) in
+    (map (λ v. v.index) h.inner, ap (map (λ v. v.index)) h.shape ∙ ap (λ l. 0 ∷ l) (map-append (λ v. v.index) h.inner (vertex (1 + length ps) q ∷ [])))

@@ -1,5 +1,5 @@
 -- The order of corners is total and exact, so the least of several is the same in any order of them.
-use Rattle.std.proofs.Common.{◌≡◌, ℕ, ℤ, Bool, true, false, List, [], ◌∷◌, ◌++◌, Option, Some, None, refl, ap, sym, ◌∙◌, if◌then◌else◌}
+use Rattle.std.proofs.Common.{◌≡◌, ℤ, Bool, true, false, List, [], ◌∷◌, ◌++◌, Option, Some, refl, ap, sym, ◌∙◌, if◌then◌else◌, arith}
 use Rattle.std.specs.Cmp.{IsTotalOrder, IsStrictWeakOrder}
 use Rattle.std.specs.Ordering.{ordering_then, ordering_reverse, is_lt}
 use Rattle.std.specs.declared.cmp.Ordering.{Ordering}
@@ -7,11 +7,11 @@ use Rattle.std.specs.declared.cmp.Ordering.TheVariants.{Less, Equal, Greater}
 use Rattle.std.proofs.lemmas.Cmp.{on_total, then_total, nat_cmp_total, int_cmp_total}
 use Rattle.std.proofs.lemmas.List.MinMax.{ranks_by}
 use Rattle.std.proofs.lemmas.Map.Lookups.{exact_signed, exact_unsigned}
-use Rattle.geojson_types.specs.Order.{point_cmp}
-use Rattle.geojson_types.specs.Points.{Point}
+use Rattle.geometry.specs.Order.{point_cmp}
+use Rattle.geometry.specs.Points.{Point}
 use Rattle.elimination_meaning.specs.Elimination.{Corner, corner_cmp, is_before, lesser, least}
 
-corner_total : IsTotalOrder corner_cmp
+pub corner_total : IsTotalOrder corner_cmp
 corner_total =
     then_total (on_total (λ c. c.area) nat_cmp_total) (then_total
     (on_total (λ c. c.point) (then_total (on_total (λ p. p.x) int_cmp_total) (on_total (λ p. p.y) int_cmp_total)))
@@ -23,34 +23,19 @@ before_order = ranks_by corner_total (λ c. c)
 
 -- both parts of a compound comparison tie
 then_equal : (p q : Ordering) → ordering_then p q ≡ Equal → (p ≡ Equal) × (q ≡ Equal)
-then_equal Less q h = cc
-then_equal Equal q h = (refl, h)
-then_equal Greater q h = cc
+then_equal p q h = grind arith
 
 abbrev point_of : ℤ → ℤ → Point
 point_of x y = record { x = x; y = y }
 
-abbrev corner_of : ℕ → Point → ℕ → Corner
-corner_of a p i = record { area = a; point = p; index = i }
-
 pub point_exact : (p q : Point) → point_cmp p q ≡ Equal → p ≡ q
-point_exact p q h =
-    let e = then_equal _ _ h in
-    let ex : p.x ≡ q.x = exact_signed p.x q.x e.0 in
-    let ey : p.y ≡ q.y = exact_signed p.y q.y e.1 in
-    ap (λ x. point_of x p.y) ex ∙ ap (point_of q.x) ey
+point_exact p q h = grind (arith, then_equal, exact_signed)
 
 corner_exact : (c d : Corner) → corner_cmp c d ≡ Equal → c ≡ d
-corner_exact c d h =
-    let e = then_equal _ _ h in
-    let f = then_equal _ _ e.1 in
-    let ea : c.area ≡ d.area = exact_unsigned c.area d.area e.0 in
-    let ep : c.point ≡ d.point = point_exact c.point d.point f.0 in
-    let ei : c.index ≡ d.index = exact_unsigned c.index d.index f.1 in
-    ap (λ a. corner_of a c.point c.index) ea ∙ ap (λ p. corner_of d.area p c.index) ep ∙ ap (corner_of d.area d.point) ei
+corner_exact c d h = grind (arith, then_equal, exact_unsigned c.area d.area, exact_unsigned c.index d.index, point_exact c.point d.point)
 
 -- two corners of which neither goes before the other are one
-one_corner : (c d : Corner) → is_before c d ≡ false → is_before d c ≡ false → c ≡ d
+pub one_corner : (c d : Corner) → is_before c d ≡ false → is_before d c ≡ false → c ≡ d
 unfolding is_before
 one_corner c d h k = corner_exact c d (tie (corner_cmp c d) (corner_cmp d c) (corner_total.antisymm c d) h k)
   where
@@ -75,10 +60,7 @@ comm_at c d false true e f = refl
 comm_at c d false false e f = one_corner c d f e
 
 pub lesser_comm : (c d : Option Corner) → lesser c d ≡ lesser d c
-lesser_comm None None = refl
-lesser_comm None (Some d) = refl
-lesser_comm (Some c) None = refl
-lesser_comm (Some c) (Some d) = ap (λ x. Some x) (comm_at c d _ _ refl refl)
+lesser_comm c d = grind (arith, comm_at)
 
 assoc_at : (a b c : Corner) (p q r : Bool) → is_before b a ≡ p → is_before c b ≡ q → is_before c a ≡ r →
     (if is_before c (if p then b else a) then c else (if p then b else a)) ≡ (if is_before (if q then c else b) a then (if q then c else b) else a)
@@ -88,10 +70,7 @@ assoc_at a b c false true r e f g = refl
 assoc_at a b c false false r e f g = let k = before_order.chain c b a f e in rw (k, e)
 
 lesser_assoc : (a b c : Option Corner) → lesser (lesser a b) c ≡ lesser a (lesser b c)
-lesser_assoc None b c = refl
-lesser_assoc (Some a) None c = refl
-lesser_assoc (Some a) (Some b) None = refl
-lesser_assoc (Some a) (Some b) (Some c) = ap (λ x. Some x) (assoc_at a b c _ _ _ refl refl refl)
+lesser_assoc a b c = grind (arith, assoc_at)
 
 pub least_append : (cs ds : List Corner) → least (cs ++ ds) ≡ lesser (least cs) (least ds)
 least_append [] ds = refl

@@ -1,13 +1,13 @@
 -- Where the positions between the ends are distinct, elimination doesn't depend on the indexes.
-use Rattle.std.proofs.Common.{◌≡◌, ◌≢◌, ℕ, zero, suc, not, List, [], ◌∷◌, Option, Some, None, map, refl, ap, sym, ◌∙◌, subst, if◌then◌else◌, ◌==◌, nat_lt}
+use Rattle.std.proofs.Common.{◌≡◌, ◌≢◌, ℕ, zero, suc, List, [], ◌∷◌, Option, Some, None, map, refl, ap, sym, ◌∙◌, subst, ◌==◌, arith}
 use Rattle.std.specs.Ordering.{ordering_then, is_lt, nat_cmp}
 use Rattle.std.specs.declared.cmp.Ordering.{Ordering}
-use Rattle.std.specs.declared.cmp.Ordering.TheVariants.{Less, Equal, Greater}
+use Rattle.std.specs.declared.cmp.Ordering.TheVariants.{Equal}
 use Rattle.list_laws.proofs.Elements.{all_of_map}
 use Rattle.list_laws.proofs.Tests.{chosen_of}
-use Rattle.geojson_types.specs.Lists.{map_some, interior, AreDistinct}
-use Rattle.geojson_types.specs.Order.{point_cmp}
-use Rattle.geojson_types.specs.Points.{Point}
+use Rattle.geometry.specs.Lists.{map_some, interior, AreDistinct}
+use Rattle.geometry.specs.Order.{point_cmp}
+use Rattle.geometry.specs.Points.{Point}
 use Rattle.elimination_meaning.specs.Elimination.{Vertex, Corner, corner_at, corners_from, corners, is_before, lesser, least, without, without_under, next, eliminate}
 use Rattle.elimination_meaning.proofs.Order.{point_exact}
 use Rattle.elimination_meaning.proofs.Steps.{vertex, vertex_of, Holds, least_holds, corner_vertices, next_sub}
@@ -29,11 +29,7 @@ between vs = map (λ v. v.point) (interior vs)
 -- ---- the order of corners
 
 third : (a b i j : Ordering) → b ≢ Equal → ordering_then a (ordering_then b i) ≡ ordering_then a (ordering_then b j)
-third Less b i j h = refl
-third Equal Less i j h = refl
-third Equal Equal i j h = absurd (h refl)
-third Equal Greater i j h = refl
-third Greater b i j h = refl
+third a b i j h = grind arith
 
 before_relabelled : (f : ℕ → ℕ) (c d : Corner) → d.point ≢ c.point → is_before (recorner f c) (recorner f d) ≡ is_before c d
 unfolding is_before
@@ -43,8 +39,7 @@ before_relabelled f c d h =
 
 lesser_relabelled : (f : ℕ → ℕ) (c : Corner) (o : Option Corner) → Holds (λ d. c.point ≢ d.point) o →
     lesser (Some (recorner f c)) (map_some (recorner f) o) ≡ map_some (recorner f) (lesser (Some c) o)
-lesser_relabelled f c None h = refl
-lesser_relabelled f c (Some d) h = ap (λ b. Some (if b then recorner f d else recorner f c)) (before_relabelled f d c h) ∙ ap (λ e. Some e) (chosen_of (recorner f) (is_before d c) d c)
+lesser_relabelled f c o h = grind (arith, before_relabelled, chosen_of)
 
 least_relabelled : (f : ℕ → ℕ) (cs : List Corner) → AreDistinct (map (λ c. c.point) cs) → least (map (recorner f) cs) ≡ map_some (recorner f) (least cs)
 least_relabelled f [] h = refl
@@ -59,9 +54,7 @@ from_relabelled f a b [] = refl
 from_relabelled f a b (c ∷ vs) = ap (λ l. recorner f (corner_at a b c) ∷ l) (from_relabelled f b c vs)
 
 corners_relabelled : (f : ℕ → ℕ) (vs : List Vertex) → corners (map (relabelled f) vs) ≡ map (recorner f) (corners vs)
-corners_relabelled f [] = refl
-corners_relabelled f (a ∷ []) = refl
-corners_relabelled f (a ∷ (b ∷ vs)) = from_relabelled f a b vs
+corners_relabelled f vs = grind (arith, from_relabelled)
 
 points_of_corners : (cs : List Corner) → map (λ v. v.point) (map vertex_of cs) ≡ map (λ c. c.point) cs
 points_of_corners [] = refl
@@ -82,28 +75,18 @@ next_apart t vs h = on (next t vs) (next_sub t vs)
 module _ (f : ℕ → ℕ) (one_to_one : (a b : ℕ) → (f a == f b) ≡ (a == b)) where
   without_relabelled : (i : ℕ) (vs : List Vertex) → without (f i) (map (relabelled f) vs) ≡ map (relabelled f) (without i vs)
   without_relabelled i [] = refl
-  without_relabelled i (v ∷ vs) =
-      ap (λ b. if not b then relabelled f v ∷ without (f i) (map (relabelled f) vs) else without (f i) (map (relabelled f) vs)) (one_to_one v.index i)
-      ∙ ap (λ l. if not (v.index == i) then relabelled f v ∷ l else l) (without_relabelled i vs)
-      ∙ chosen_of (map (relabelled f)) (not (v.index == i)) (v ∷ without i vs) (without i vs)
+  without_relabelled i (v ∷ vs) = grind (arith, chosen_of, without_relabelled i vs)
 
   under_relabelled : (t : ℕ) (vs : List Vertex) (o : Option Corner) → without_under t (map (relabelled f) vs) (map_some (recorner f) o) ≡ map_some (map (relabelled f)) (without_under t vs o)
-  under_relabelled t vs None = refl
-  under_relabelled t vs (Some c) = ap (λ l. if nat_lt c.area t then Some l else None) (without_relabelled c.index vs) ∙ chosen_of (map_some (map (relabelled f))) (nat_lt c.area t) (Some (without c.index vs)) None
+  under_relabelled t vs o = grind (arith, without_relabelled, chosen_of)
 
   next_relabelled : (t : ℕ) (vs : List Vertex) → AreDistinct (between vs) → next t (map (relabelled f) vs) ≡ map_some (map (relabelled f)) (next t vs)
-  next_relabelled t vs h =
-      ap (λ cs. without_under t (map (relabelled f) vs) (least cs)) (corners_relabelled f vs)
-      ∙ ap (without_under t (map (relabelled f) vs)) (least_relabelled f (corners vs) (corners_apart vs h))
-      ∙ under_relabelled t vs (least (corners vs))
+  next_relabelled t vs h = grind (arith, corners_relabelled, least_relabelled, corners_apart, under_relabelled)
 
   go_relabelled : (n t : ℕ) (vs : List Vertex) → ((ws : List Vertex) → AreDistinct (between ws) → eliminate n t (map (relabelled f) ws) ≡ map (relabelled f) (eliminate n t ws)) →
       (o : Option (List Vertex)) → Holds (λ ws. AreDistinct (between ws)) o → go_on n t (map (relabelled f) vs) (map_some (map (relabelled f)) o) ≡ map (relabelled f) (go_on n t vs o)
-  go_relabelled n t vs ih None h = refl
-  go_relabelled n t vs ih (Some ws) h = ih ws h
+  go_relabelled n t vs h o k = grind arith
 
   pub eliminate_relabelled : (n t : ℕ) (vs : List Vertex) → AreDistinct (between vs) → eliminate n t (map (relabelled f) vs) ≡ map (relabelled f) (eliminate n t vs)
   eliminate_relabelled zero t vs h = refl
-  eliminate_relabelled (suc n) t vs h =
-      ap (go_on n t (map (relabelled f) vs)) (next_relabelled t vs h)
-      ∙ go_relabelled n t vs (λ ws k. eliminate_relabelled n t ws k) (next t vs) (next_apart t vs h)
+  eliminate_relabelled (suc n) t vs h = grind (arith, go_on, next_relabelled, go_relabelled, next_apart, eliminate_relabelled n t)

@@ -1,7 +1,7 @@
 -- Worked rows of reduction, in whole units.
 use Rattle.std.proofs.Common.{◌≡◌, ℕ, pos, List, [], ◌∷◌, Some, refl}
-use Rattle.geojson_types.specs.Areas.{cross, twice_area}
-use Rattle.geojson_types.specs.Points.{Point}
+use Rattle.geometry.specs.Areas.{cross, twice_area}
+use Rattle.geometry.specs.Points.{Point}
 use Rattle.elimination_meaning.specs.Elimination.{Vertex, is_before, next, numbered, reduce, reduced}
 
 abbrev at : ℕ → ℕ → Point

@@ -1,15 +1,15 @@
 -- One step: the least corner is one of the vertices between the ends, and what is left is a sublist.
-use Rattle.std.proofs.Common.{◌≡◌, ℕ, zero, suc, ◌+◌, false, not, List, [], ◌∷◌, Option, Some, None, length, map, refl, ap, sym, ◌∙◌, subst, arith, if◌then◌else◌, ◌==◌, nat_lt}
+use Rattle.std.proofs.Common.{◌≡◌, ℕ, zero, suc, ◌+◌, false, List, [], ◌∷◌, Option, Some, None, length, map, refl, ap, sym, ◌∙◌, subst, arith, nat_lt}
 use Rattle.std.specs.List.{AllByRecursion}
 use Rattle.std.proofs.lemmas.Bool.Decides.{nat_tests}
 use Rattle.list_laws.proofs.Elements.{all_of_map}
 use Rattle.list_laws.proofs.Tests.{holds_of_chosen}
-use Rattle.geojson_types.specs.Lists.{front_of, interior}
-use Rattle.geojson_types.specs.Points.{Point}
-use Rattle.elimination_meaning.specs.Elimination.{Vertex, Corner, corners_from, corners, is_before, lesser, least, without, without_under, next, eliminate, numbered, remaining, reduced}
+use Rattle.geometry.specs.Lists.{front_of, interior}
+use Rattle.geometry.specs.Points.{Point}
+use Rattle.elimination_meaning.specs.Elimination.{Vertex, Corner, corners, corners_from, lesser, least, without_under, next, eliminate, numbered, reduced}
 use Rattle.elimination_meaning.specs.Laws.{ZeroLaw, NoneIsNew}
 use Rattle.elimination_meaning.specs.Sublists.{Sublist}
-use Rattle.elimination_meaning.proofs.Sublists.{sub_same, sub_chain, sub_map, sub_filter, sub_all}
+use Rattle.elimination_meaning.proofs.Sublists.{sub_same, sub_chain, sub_map, sub_filter}
 use Rattle.elimination_meaning.proofs.Turned.{go_on}
 
 abbrev pub vertex : ℕ → Point → Vertex
@@ -26,8 +26,7 @@ Holds P None = Unit {0}
 Holds P (Some x) = P x
 
 lesser_holds : (P : Corner → Type 0) (c : Corner) (o : Option Corner) → P c → Holds P o → Holds P (lesser (Some c) o)
-lesser_holds P c None p h = p
-lesser_holds P c (Some d) p h = holds_of_chosen P (is_before d c) d c h p
+lesser_holds P c o h k = grind (arith, holds_of_chosen)
 
 pub least_holds : (P : Corner → Type 0) (cs : List Corner) → AllByRecursion P cs → Holds P (least cs)
 least_holds P [] h = tt
@@ -40,9 +39,7 @@ from_vertices a b [] = refl
 from_vertices a b (c ∷ vs) = ap (λ l. b ∷ l) (from_vertices b c vs)
 
 pub corner_vertices : (vs : List Vertex) → map vertex_of (corners vs) ≡ interior vs
-corner_vertices [] = refl
-corner_vertices (a ∷ []) = refl
-corner_vertices (a ∷ (b ∷ vs)) = from_vertices a b vs
+corner_vertices vs = grind (arith, from_vertices)
 
 pub least_between : (P : Vertex → Type 0) (vs : List Vertex) → AllByRecursion P (interior vs) → Holds (λ c. P (vertex_of c)) (least (corners vs))
 least_between P vs h = least_holds (λ c. P (vertex_of c)) (corners vs) (all_of_map P vertex_of (corners vs) (subst (λ l. AllByRecursion P l) (sym (corner_vertices vs)) h))
@@ -50,16 +47,10 @@ least_between P vs h = least_holds (λ c. P (vertex_of c)) (corners vs) (all_of_
 -- ---- what is left is a sublist
 
 pub next_sub : (t : ℕ) (vs : List Vertex) → Holds (λ ws. Sublist ws vs) (next t vs)
-next_sub t vs = by_least (least (corners vs))
-  where
-    by_least : (o : Option Corner) → Holds (λ ws. Sublist ws vs) (without_under t vs o)
-    by_least None = tt
-    by_least (Some c) =
-        holds_of_chosen (Holds (λ ws. Sublist ws vs)) (nat_lt c.area t) (Some (without c.index vs)) None (sub_filter (λ v. not (v.index == c.index)) vs) tt
+next_sub t vs = grind (arith, holds_of_chosen, sub_filter)
 
 go_sub : (n t : ℕ) (vs : List Vertex) → ((ws : List Vertex) → Sublist (eliminate n t ws) ws) → (o : Option (List Vertex)) → Holds (λ ws. Sublist ws vs) o → Sublist (go_on n t vs o) vs
-go_sub n t vs ih None h = sub_same vs
-go_sub n t vs ih (Some ws) h = sub_chain (ih ws) h
+go_sub n t vs h o k = grind (arith, sub_same, sub_chain)
 
 pub eliminate_sub : (n t : ℕ) (vs : List Vertex) → Sublist (eliminate n t vs) vs
 eliminate_sub zero t vs = sub_same vs
@@ -71,13 +62,7 @@ numbered_points i (p ∷ ps) = ap (λ l. p ∷ l) (numbered_points (i + 1) ps)
 
 pub none_is_new : NoneIsNew
 unfolding reduced
-none_is_new t ps =
-    subst (λ l. Sublist (map (λ v. v.point) (remaining t ps)) l) (numbered_points 0 ps)
-    (sub_map (λ v. v.point) (eliminate_sub (length ps) t (numbered 0 ps)))
-
--- so what holds of all positions of a line holds of all positions of the reduced line
-pub reduced_all : (P : Point → Type 0) (t : ℕ) (ps : List Point) → AllByRecursion P ps → AllByRecursion P (reduced t ps)
-reduced_all P t ps h = sub_all P (none_is_new t ps) h
+none_is_new t ps = grind (arith, numbered_points, sub_map, eliminate_sub)
 
 -- ---- at a threshold of zero
 
@@ -85,12 +70,10 @@ none_under : (n : ℕ) → nat_lt n 0 ≡ false
 none_under n = grind (arith, nat_tests)
 
 under_zero : (vs : List Vertex) (o : Option Corner) → without_under 0 vs o ≡ None
-under_zero vs None = refl
-under_zero vs (Some c) = ap (λ b. if b then Some (without c.index vs) else None) (none_under c.area)
+under_zero vs o = grind (arith, none_under)
 
-eliminate_zero : (n : ℕ) (vs : List Vertex) → eliminate n 0 vs ≡ vs
-eliminate_zero zero vs = refl
-eliminate_zero (suc n) vs = ap (go_on n 0 vs) (under_zero vs (least (corners vs)))
+pub eliminate_zero : (n : ℕ) (vs : List Vertex) → eliminate n 0 vs ≡ vs
+eliminate_zero n vs = grind (arith, go_on, under_zero)
 
 pub nothing_under_zero : ZeroLaw
 unfolding reduced

@@ -1,8 +1,8 @@
 -- Sublists: of parts of lists, of what is made of their elements, and what they take over.
-use Rattle.std.proofs.Common.{◌≢◌, Bool, List, [], ◌∷◌, map}
+use Rattle.std.proofs.Common.{◌≢◌, Bool, List, [], ◌∷◌, map, arith}
 use Rattle.std.specs.List.{filter, AllByRecursion}
 use Rattle.list_laws.proofs.Tests.{holds_of_chosen}
-use Rattle.geojson_types.specs.Lists.{tail, front, front_of, interior, AreDistinct}
+use Rattle.geometry.specs.Lists.{tail, front, front_of, interior, AreDistinct}
 use Rattle.elimination_meaning.specs.Sublists.{Sublist, none, keep, skip}
 
 sub_nil : {X : Type 0} (ys : List X) → Sublist [] ys
@@ -26,9 +26,7 @@ sub_less (keep s) = skip s
 sub_less (skip s) = skip (sub_less s)
 
 pub sub_tail : {X : Type 0} {xs ys : List X} → Sublist xs ys → Sublist (tail xs) (tail ys)
-sub_tail none = none
-sub_tail (keep s) = s
-sub_tail (skip s) = sub_less s
+sub_tail h = grind (arith, sub_less)
 
 skip_front : {X : Type 0} (y : X) (xs ys : List X) → Sublist xs ys → Sublist (front xs) (front ys) → Sublist (front xs) (front_of y ys)
 skip_front y [] ys s h = sub_nil (front_of y ys)

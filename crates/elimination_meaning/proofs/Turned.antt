@@ -1,13 +1,13 @@
 -- Elimination in the reversed list of vertices takes out the same ones.
-use Rattle.std.proofs.Common.{◌≡◌, ℕ, zero, suc, Bool, true, false, not, List, [], ◌∷◌, ◌++◌, Option, Some, None, reverse, refl, ap, sym, ◌∙◌, append-nil, if◌then◌else◌, ◌==◌, nat_lt}
+use Rattle.std.proofs.Common.{◌≡◌, ℕ, zero, suc, Bool, true, false, List, [], ◌∷◌, ◌++◌, Option, Some, None, reverse, refl, ap, sym, ◌∙◌, append-nil, if◌then◌else◌, arith}
 use Rattle.std.specs.List.{filter}
 use Rattle.std.proofs.lemmas.List.{reverse-append}
 use Rattle.std.proofs.lemmas.List.Elements.{filter-append}
 use mathlib.Core.List.{reverse-cons}
 use Rattle.list_laws.proofs.Tests.{chosen_of}
-use Rattle.geojson_types.specs.Lists.{map_some}
-use Rattle.geojson_types.proofs.Areas.{area_turned}
-use Rattle.elimination_meaning.specs.Elimination.{Vertex, Corner, corner_at, corners_from, corners, lesser, least, without, without_under, next, eliminate}
+use Rattle.geometry.specs.Lists.{map_some}
+use Rattle.geometry.proofs.Areas.{area_turned}
+use Rattle.elimination_meaning.specs.Elimination.{Vertex, Corner, corner_at, corners, corners_from, lesser, least, without_under, next, eliminate}
 use Rattle.elimination_meaning.proofs.Order.{lesser_comm, least_append}
 
 from_split : (x y : Vertex) (xs : List Vertex) (a b : Vertex) (ys : List Vertex) → corners_from x y (xs ++ (a ∷ (b ∷ ys))) ≡ corners_from x y (xs ++ (a ∷ (b ∷ []))) ++ corners_from a b ys
@@ -15,7 +15,7 @@ from_split x y [] a b ys = refl
 from_split x y (z ∷ xs) a b ys = ap (λ l. corner_at x y z ∷ l) (from_split y z xs a b ys)
 
 -- the corners of a list that is split at two of its vertices
-corners_split : (xs : List Vertex) (a b : Vertex) (ys : List Vertex) → corners (xs ++ (a ∷ (b ∷ ys))) ≡ corners (xs ++ (a ∷ (b ∷ []))) ++ corners_from a b ys
+pub corners_split : (xs : List Vertex) (a b : Vertex) (ys : List Vertex) → corners (xs ++ (a ∷ (b ∷ ys))) ≡ corners (xs ++ (a ∷ (b ∷ []))) ++ corners_from a b ys
 corners_split [] a b ys = refl
 corners_split (x ∷ []) a b ys = refl
 corners_split (x ∷ (y ∷ xs)) a b ys = from_split x y xs a b ys
@@ -34,9 +34,7 @@ from_reverse a b (c ∷ vs) =
     ∙ sym (reverse-cons (corner_at a b c) (corners_from b c vs))
 
 corners_reverse : (vs : List Vertex) → corners (reverse vs) ≡ reverse (corners vs)
-corners_reverse [] = refl
-corners_reverse (a ∷ []) = refl
-corners_reverse (a ∷ (b ∷ vs)) = from_reverse a b vs
+corners_reverse vs = grind (arith, from_reverse)
 
 least_reverse : (cs : List Corner) → least (reverse cs) ≡ least cs
 least_reverse [] = refl
@@ -54,10 +52,7 @@ filter_reverse p (x ∷ xs) =
     on false = append-nil (reverse (filter p xs))
 
 under_reverse : (t : ℕ) (vs : List Vertex) (o : Option Corner) → without_under t (reverse vs) o ≡ map_some reverse (without_under t vs o)
-under_reverse t vs None = refl
-under_reverse t vs (Some c) =
-    ap (λ l. if nat_lt c.area t then Some l else None) (filter_reverse (λ v. not (v.index == c.index)) vs)
-    ∙ chosen_of (map_some reverse) (nat_lt c.area t) (Some (without c.index vs)) None
+under_reverse t vs o = grind (arith, filter_reverse, chosen_of)
 
 next_reverse : (t : ℕ) (vs : List Vertex) → next t (reverse vs) ≡ map_some reverse (next t vs)
 next_reverse t vs = ap (without_under t (reverse vs)) (ap least (corners_reverse vs) ∙ least_reverse (corners vs)) ∙ under_reverse t vs (least (corners vs))
@@ -68,8 +63,7 @@ go_on n t vs None = vs
 go_on n t vs (Some ws) = eliminate n t ws
 
 go_reverse : (n t : ℕ) (vs : List Vertex) → ((ws : List Vertex) → eliminate n t (reverse ws) ≡ reverse (eliminate n t ws)) → (o : Option (List Vertex)) → go_on n t (reverse vs) (map_some reverse o) ≡ reverse (go_on n t vs o)
-go_reverse n t vs ih None = refl
-go_reverse n t vs ih (Some ws) = ih ws
+go_reverse n t vs h o = grind arith
 
 pub eliminate_reverse : (n t : ℕ) (vs : List Vertex) → eliminate n t (reverse vs) ≡ reverse (eliminate n t vs)
 eliminate_reverse zero t vs = refl

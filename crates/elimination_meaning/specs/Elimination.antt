@@ -3,9 +3,9 @@ use Rattle.std.specs.Prelude.{ℕ, zero, suc, ◌+◌, ◌==◌, nat_lt, Bool, n
 use Rattle.std.specs.List.{filter}
 use Rattle.std.specs.Ordering.{ordering_then, nat_cmp, is_lt}
 use Rattle.std.specs.declared.cmp.Ordering.{Ordering}
-use Rattle.geojson_types.specs.Areas.{twice_area}
-use Rattle.geojson_types.specs.Order.{point_cmp}
-use Rattle.geojson_types.specs.Points.{Point}
+use Rattle.geometry.specs.Areas.{twice_area}
+use Rattle.geometry.specs.Order.{point_cmp}
+use Rattle.geometry.specs.Points.{Point}
 
 -- ---- corners
 

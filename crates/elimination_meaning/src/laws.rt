@@ -1,10 +1,16 @@
 // Laws of the definitions. A function here does nothing: its contract is the law.
-ghost use Rattle.elimination_meaning.specs.Laws.{DirectionLaw, EndsStay, NoneIsLeft, NoneIsNew, ZeroLaw};
+ghost use Rattle.elimination_meaning.specs.Laws.{DirectionLaw, EndsStay, HigherKeepsFewer, IndexDirectionLaw, IndexesRise, KeptByWeight, NoneIsLeft, NoneIsNew, ZeroLaw};
 
 /// Where the positions between its ends are distinct, a line is reduced to the same positions in either direction.
 #[tactic(auto, using(crate::proofs::Direction::reduced_reverse))]
 pub fn direction_law()
     ensures { DirectionLaw }
+{}
+
+/// The indexes that stay are then those of the line, counted from its other end.
+#[tactic(auto, using(crate::proofs::Direction::reduce_reverse))]
+pub fn index_direction_law()
+    ensures { IndexDirectionLaw }
 {}
 
 /// At a threshold of zero nothing is taken out.
@@ -29,4 +35,22 @@ pub fn nothing_is_new()
 #[tactic(auto, using(crate::proofs::Enough::none_is_left))]
 pub fn none_is_left()
     ensures { NoneIsLeft }
+{}
+
+/// The indexes that stay rise from the first to the last of the line.
+#[tactic(auto, using(crate::proofs::Rising::indexes_rise))]
+pub fn indexes_rise()
+    ensures { IndexesRise }
+{}
+
+/// At a higher threshold no position stays that a lower one takes out.
+#[tactic(auto, using(crate::proofs::Higher::higher_keeps_fewer))]
+pub fn higher_keeps_fewer()
+    ensures { HigherKeepsFewer }
+{}
+
+/// What stays is what a weight says: the ends, and the positions whose weight isn't under the threshold.
+#[tactic(auto, using(crate::proofs::Weights::kept_by_weight))]
+pub fn kept_by_weight()
+    ensures { KeptByWeight }
 {}

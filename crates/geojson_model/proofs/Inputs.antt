@@ -4,7 +4,7 @@ use Rattle.json_value.specs.declared.json.Json.{Json}
 use Rattle.geojson_types.specs.declared.counts.Counts.{Counts}
 use Rattle.geojson_types.specs.Features.{Featured}
 use Rattle.geojson_types.specs.Places.{features_points}
-use Rattle.geojson_types.specs.Points.{IsInput}
+use Rattle.geometry.specs.Points.{IsInput}
 use Rattle.geojson_model.specs.Layers.{layer}
 use Rattle.geojson_model.proofs.SoundLayers.{inputs_alone}
 

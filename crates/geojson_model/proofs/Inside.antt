@@ -10,7 +10,7 @@ use Rattle.json_value.specs.Numbers.{numbers_of, HasNumbers}
 use Rattle.json_value.proofs.Depths.{depth-array, depth-object}
 use Rattle.json_value.proofs.KindsOf.{array_of_is, object_of_is}
 use Rattle.json_value.proofs.NumbersOf.{numbers-array, numbers-object}
-use Rattle.geojson_types.proofs.Agreement.{all_left, all_right}
+use Rattle.geometry.proofs.Agreement.{all_left, all_right}
 use Rattle.json_members.proofs.Parts as p
 use Rattle.json_members.specs.Members as members_by
 use Rattle.geojson_model.specs.Members.{lookup_fault, find, need}

@@ -1,5 +1,5 @@
 -- The turns of the loop over the elements of `features`.
-use Rattle.std.proofs.Common.{◌≡◌, ℕ, ◌+◌, Bool, List, [], ◌∷◌, ◌++◌, length, Some, Result, Ok, Err, refl, sym, ap, ◌∙◌, append_assoc, append-nil, length-append}
+use Rattle.std.proofs.Common.{◌≡◌, ℕ, ◌+◌, Bool, List, [], ◌∷◌, ◌++◌, length, Some, Result, Ok, Err, refl, sym, ap, ◌∙◌, append_assoc, append-nil, length-append, arith}
 use Rattle.json_value.specs.declared.json.Json.{Json}
 use Rattle.geojson_types.specs.declared.counts.Counts.{Counts}
 use Rattle.geojson_types.specs.Features.{Featured}
@@ -15,8 +15,7 @@ with_features front (Ok x) = Ok (front ++ x.0, x.1)
 with_features front (Err e) = Err e
 
 one_more : (fs : List Featured) (f : Featured) (r : Result (List Featured × Counts) GeoFault) → with_features fs (and_then (λ gs. give (f ∷ gs)) r) ≡ with_features (fs ++ f ∷ []) r
-one_more fs f (Ok x) = ap (λ z. Ok (z, x.1)) (sym (append_assoc fs (f ∷ []) x.0))
-one_more fs f (Err e) = refl
+one_more fs f r = grind (arith, append_assoc)
 
 longer : (fs : List Featured) (f : Featured) → length (fs ++ f ∷ []) ≡ length fs + 1
 longer fs f = length-append fs (f ∷ [])

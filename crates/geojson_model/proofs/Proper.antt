@@ -1,5 +1,5 @@
 -- A shape that is read may be that of a feature.
-use Rattle.std.proofs.Common.{◌≡◌, ℕ, Bool, true, List, Option, None, Some, Ok, refl, subst}
+use Rattle.std.proofs.Common.{◌≡◌, ℕ, Bool, true, List, Option, None, Some, Ok, refl, subst, arith}
 use Rattle.json_value.specs.declared.json.Json.{Json}
 use Rattle.json_value.specs.declared.json.Json.TheVariants as j
 use Rattle.json_value.specs.Depth.{depth}
@@ -15,8 +15,7 @@ use Rattle.geojson_model.proofs.SoundShapes.{ShallowMembers, geometry_yields, ty
 use Rattle.json_members.proofs.Yields.{IfThere, first_is}
 
 option_proper : (n : ℕ) (o : Option Shape) → IfThere (SoundIn n) o → is_proper_option o ≡ true
-option_proper n None h = refl
-option_proper n (Some s) h = h.0.proper
+option_proper n o h = grind arith
 
 -- members are less deep than their object
 shallow : (ms : List (List ℕ × Json)) → ShallowMembers (depth (j.Object ms)) ms

@@ -9,10 +9,10 @@ use Rattle.geojson_types.specs.declared.counts.Counts.{Counts}
 use Rattle.geojson_model.specs.declared.fault.GeoFault.{GeoFault}
 use Rattle.geojson_model.specs.declared.fault.GeoFaultKind.{GeoFaultKind}
 use Rattle.geojson_model.specs.declared.fault.GeoFaultKind.TheVariants.{NotObject, UnknownType, Missing, Duplicate, WrongKind, ShortPosition, ShortLine, Range, Inexact}
-use Rattle.geojson_types.specs.declared.geometry.Geometry.TheVariants as g
+use Rattle.geometry.specs.declared.shape.Geometry.TheVariants as g
 use Rattle.geojson_types.specs.declared.id.Id.TheVariants as i
 use Rattle.geojson_types.specs.Features.{Featured, Shape}
-use Rattle.geojson_model.specs.Coordinates.{coordinate, elements_position, position, coordinate_places}
+use Rattle.geojson_model.specs.Coordinates.{coordinate, elements_position, position}
 use Rattle.geojson_model.specs.Features.{feature, feature_element}
 use Rattle.geojson_model.specs.Geometries.{typed_geometry, geometry, shape, shapes, coordinates_shape, shape_in}
 use Rattle.geojson_model.specs.Layers.{layer, features, typed_features, bare_feature, single_feature, collection_features, features_from, bare}
@@ -21,7 +21,7 @@ use Rattle.geojson_model.specs.Members.{named, need, type_name}
 use Rattle.geojson_model.specs.Polygons.{polygon_in, ring}
 use Rattle.geojson_model.specs.Reader.{Reader, gather, kept}
 use Rattle.geojson_model.specs.Types.{geojson_type, geometry_type, coordinates_type}
-use Rattle.geojson_types.specs.Points.{input_limit}
+use Rattle.geometry.specs.Points.{input_limit, unit_places}
 use Rattle.geojson_model.proofs.Unrolled.{shape_object, shapes_array}
 
 -- a layer, a fault before any feature, and one in a feature
@@ -142,7 +142,7 @@ unfolding layer features type_name need named geojson_type geometry_type coordin
 row_short_position exact v = simp (object_kinds, text_kinds, array_kinds)
 
 -- numbers by their texts, of which the value is given
-module _ (zero_is : scaled_of coordinate_places input_limit (codes "0") ≡ Ok (record { value = pos 0; exact = true })) where
+module _ (zero_is : scaled_of unit_places input_limit (codes "0") ≡ Ok (record { value = pos 0; exact = true })) where
   abbrev zero : Json
   zero = j.Number (codes "0")
 
@@ -161,13 +161,13 @@ module _ (zero_is : scaled_of coordinate_places input_limit (codes "0") ≡ Ok (
   row_extra v = simp (object_kinds, text_kinds, array_kinds, number_kinds, zero_is)
 
   -- the range of x comes before the kind of y
-  pub row_range_first : scaled_of coordinate_places input_limit (codes "1e30") ≡ Err (record {})
+  pub row_range_first : scaled_of unit_places input_limit (codes "1e30") ≡ Err (record {})
       → (exact : Bool) → layer exact (line_string (j.Array (j.Number (codes "1e30") ∷ j.Text (codes "y") ∷ []) ∷ [])) ≡ within_feature 0 Range
   unfolding layer features type_name need named geojson_type geometry_type coordinates_type typed_features bare_feature typed_geometry coordinates_shape some_elements shape_in line_in gather position elements_position coordinate
   row_range_first far exact = simp (object_kinds, text_kinds, array_kinds, number_kinds, far)
 
   -- half a unit is rounded up and counted, or refused
-  module _ (half_is : scaled_of coordinate_places input_limit (codes "0.00000005") ≡ Ok (record { value = pos 1; exact = false })) where
+  module _ (half_is : scaled_of unit_places input_limit (codes "0.00000005") ≡ Ok (record { value = pos 1; exact = false })) where
     abbrev half_point : Json
     half_point = typed (codes "Point") (coordinates (j.Array (j.Number (codes "0.00000005") ∷ zero ∷ [])))
 

@@ -1,5 +1,5 @@
 -- What holds of each feature that is read.
-use Rattle.std.proofs.Common.{◌≡◌, ℕ, ◌+◌, ◌<◌, ◌≤◌, Bool, List, [], ◌∷◌, Option, None, Some, Ok, refl, ap, ◌∙◌, subst, arith}
+use Rattle.std.proofs.Common.{◌≡◌, ℕ, ◌<◌, ◌≤◌, Bool, List, [], ◌∷◌, Option, None, Some, Ok, refl, ap, ◌∙◌, subst, arith}
 use Rattle.std.specs.Prelude.{codes, bytes_eq}
 use Rattle.std.specs.List.{AllByRecursion}
 use Rattle.decimal_text.specs.Grammar.{IsNumber}
@@ -15,9 +15,9 @@ use Rattle.json_value.proofs.NumbersOf.{numbers-number}
 use Rattle.geojson_types.specs.declared.id.Id.{Id}
 use Rattle.geojson_types.specs.declared.id.Id.TheVariants as id
 use Rattle.geojson_types.specs.Features.{Shape, Featured}
-use Rattle.geojson_types.specs.Nesting.{nesting, option_nesting, properties_nesting, feature_nesting}
+use Rattle.geojson_types.specs.Nesting.{nesting, feature_nesting}
 use Rattle.geojson_types.specs.Numbers.{IdHasNumbers, PropertiesHaveNumbers, FeatureHasNumbers}
-use Rattle.geojson_types.specs.Points.{Point}
+use Rattle.geometry.specs.Points.{Point}
 use Rattle.geojson_model.specs.declared.fault.GeoFaultKind.TheVariants.{NotObject, UnknownType}
 use Rattle.geojson_model.specs.Features.{identifier_in, identifier, members_in, members_if, feature, feature_element}
 use Rattle.geojson_model.specs.Geometries.{geometry}
@@ -28,7 +28,8 @@ use Rattle.geojson_model.proofs.Inside.{ShallowerMember, HasNumbersMember, array
 use Rattle.geojson_model.proofs.Sound.{IsSound}
 use Rattle.geojson_model.proofs.SoundParts.{SoundIn}
 use Rattle.geojson_model.proofs.SoundShapes.{geometry_yields}
-use Rattle.json_members.proofs.Yields.{Yields, or_fail_is, IfThere, all_weaker, weaker_yields, there_weaker, then_yields, give_yields, fail_yields, pure_yields, if_yields, if_some_yields}
+use Rattle.json_members.proofs.Yields.{Yields, or_fail_is, IfThere, weaker_yields, there_weaker, then_yields, give_yields, fail_yields, pure_yields, if_yields, if_some_yields}
+use Rattle.list_laws.proofs.Elements.{all_weaker}
 
 -- less deep than n, and with numbers alone where N holds
 abbrev pub IsPart : ℕ → Type 0 → Json → Type 0
@@ -73,8 +74,7 @@ identifier_in_numbers v (Json-F.Array vs) o is h e = absurd cc
 identifier_in_numbers v (Json-F.Object ms) o is h e = absurd cc
 
 identifier_numbers : (i : Option Json) (o : Option Id) → IfThere HasNumbers i → identifier i ≡ Ok o → IdHasNumbers o
-identifier_numbers None o h e = let k : None ≡ o = cc in subst IdHasNumbers k tt
-identifier_numbers (Some v) o h e = identifier_in_numbers v (out-Json v) o refl h e
+identifier_numbers i o h k = grind (arith, identifier_in_numbers)
 
 -- ---- members of members
 
@@ -100,17 +100,8 @@ members_are (Some v) o e = there_weaker (λ ms. v ≡ j.Object ms) (λ ms. Some 
 abbrev SoundUnder : ℕ → Shape → Type 0
 SoundUnder n s = IsSound s × (nesting {P = Point} {L = List Point} s < n)
 
-option_under : (n : ℕ) (o : Option Shape) → IfThere (SoundUnder n) o → option_nesting {P = Point} {L = List Point} o ≤ n
-option_under n None h = omega arith
-option_under n (Some s) h = omega (arith, h.1)
-
-properties_under : (n : ℕ) (o : Option (List (List ℕ × Json))) → 0 < n → IfThere (λ ms. depth (j.Object ms) < n) o → 1 + properties_nesting o ≤ n
-properties_under n None pos h = omega arith
-properties_under n (Some ms) pos h = omega (arith, h)
-
 properties_numbers : (o : Option (List (List ℕ × Json))) → IfThere (λ ms. HasNumbers (j.Object ms)) o → PropertiesHaveNumbers o
-properties_numbers None h = tt
-properties_numbers (Some ms) h = h
+properties_numbers o h = grind arith
 
 member_parts : (n : ℕ) (N : Type 0) (p : Option Json) (o : Option (List (List ℕ × Json))) → IfThere (IsPart n N) p → members_if p ≡ Ok o → IfThere (λ ms. IsPart n N (j.Object ms)) o
 member_parts n N p o h e = there_weaker (λ ms. p ≡ Some (j.Object ms)) (λ ms. IsPart n N (j.Object ms)) (λ ms k. subst (IfThere (IsPart n N)) k h) o (members_are p o e)
@@ -123,11 +114,7 @@ shape_under exact n N = if_some_yields (λ ms. IsPart n N (j.Object ms)) (SoundU
 
 made : (n : ℕ) (N : Type 0) (i : Option Id) (ps : Option (List (List ℕ × Json))) (s : Option Shape) → 0 < n
     → (N → IdHasNumbers i) → IfThere (λ ms. IsPart n N (j.Object ms)) ps → IfThere (SoundUnder n) s → IsSoundFeature n N (record { id = i; properties = ps; shape = s })
-made n N i ps s pos hi hp hs = record {
-  shape = there_weaker (SoundUnder n) IsSound (λ z k. k.0) s hs;
-  nests = omega (arith, option_under n s hs, properties_under n ps pos (there_weaker (λ ms. IsPart n N (j.Object ms)) (λ ms. depth (j.Object ms) < n) (λ ms k. k.0) ps hp));
-  numbers = λ k. (hi k, properties_numbers ps (there_weaker (λ ms. IsPart n N (j.Object ms)) (λ ms. HasNumbers (j.Object ms)) (λ ms h. h.1 k) ps hp));
-}
+made n N i ps s pos hi hp hs = grind (arith, there_weaker, properties_numbers)
 
 pub feature_yields : (exact : Bool) (n : ℕ) (N : Type 0) (ms : List (List ℕ × Json)) → 0 < n → AllByRecursion (IsPartMember n N) ms → Yields (IsSoundFeature n N) (feature exact ms)
 unfolding feature
@@ -157,12 +144,4 @@ feature_element_yields exact n N v h =
     (λ is. fail_yields (IsSoundFeature n N) UnknownType)))
 
 pub bare_sound : (n : ℕ) (N : Type 0) (s : Option Shape) → 0 < n → IfThere (SoundIn n) s → IsSoundFeature n N (bare s)
-bare_sound n N s pos h = record {
-  shape = there_weaker (SoundIn n) IsSound (λ z k. k.0) s h;
-  nests = omega (arith, within s h);
-  numbers = λ k. (tt, tt);
-}
-  where
-    within : (o : Option Shape) → IfThere (SoundIn n) o → option_nesting {P = Point} {L = List Point} o ≤ n
-    within None k = omega arith
-    within (Some z) k = k.1
+bare_sound n N s pos h = grind (arith, there_weaker)

@@ -5,7 +5,7 @@ use Rattle.std.specs.List.{AllByRecursion}
 use Rattle.std.proofs.lemmas.List.Elements.{All-from_recursion}
 use Rattle.json_value.specs.declared.json.Json.{Json}
 use Rattle.json_value.specs.Depth.{depth}
-use Rattle.json_value.specs.Kinds.{array_of, object_of}
+use Rattle.json_value.specs.Kinds.{array_of}
 use Rattle.json_value.specs.Numbers.{HasNumbers}
 use Rattle.geojson_types.specs.declared.counts.Counts.{Counts}
 use Rattle.geojson_types.specs.Counting.{no_counts}
@@ -13,9 +13,9 @@ use Rattle.geojson_types.specs.Features.{Shape, Featured, is_proper_option}
 use Rattle.geojson_types.specs.Nesting.{feature_nesting}
 use Rattle.geojson_types.specs.Numbers.{FeatureHasNumbers}
 use Rattle.geojson_types.specs.Places.{option_points, features_points}
-use Rattle.geojson_types.specs.Points.{IsInput}
-use Rattle.geojson_types.specs.Pruning.{option_strokes}
-use Rattle.geojson_model.specs.declared.fault.GeoFaultKind.TheVariants.{NotObject, UnknownType, WrongKind}
+use Rattle.geometry.specs.Points.{IsInput}
+use Rattle.geometry.specs.Pruning.{option_strokes}
+use Rattle.geojson_model.specs.declared.fault.GeoFaultKind.TheVariants.{WrongKind}
 use Rattle.geojson_model.specs.declared.types.GeoJsonType.{GeoJsonType}
 use Rattle.geojson_model.specs.declared.types.GeoJsonType.TheVariants as type
 use Rattle.geojson_model.specs.declared.types.GeometryType.{GeometryType}
@@ -23,16 +23,16 @@ use Rattle.geojson_model.specs.Features.{feature, feature_element}
 use Rattle.geojson_model.specs.Geometries.{typed_geometry}
 use Rattle.geojson_model.specs.Laws.{ShapesAreProper, InputsAlone, RingCloses, RingsClose, NothingDeeper, NumbersStay}
 use Rattle.geojson_model.specs.Layers.{features_from, collection_features, single_feature, bare, bare_feature, typed_features, features, layer}
-use Rattle.geojson_model.specs.Members.{need, type_name}
+use Rattle.geojson_model.specs.Members.{need}
 use Rattle.geojson_model.specs.Reader.{Reader, fault_in, pure, or_fail, within}
-use Rattle.geojson_model.specs.Types.{geojson_type}
 use Rattle.geojson_model.proofs.Inside.{ShallowerMember, object_deep, need_part}
-use Rattle.geojson_model.proofs.Sound.{IsSound, all_joined, all_map}
+use Rattle.geojson_model.proofs.Sound.{IsSound}
 use Rattle.geojson_model.proofs.SoundFeatures.{IsPart, IsPartMember, IsSoundFeature, array_parts, object_parts, feature_yields, feature_element_yields, bare_sound}
 use Rattle.geojson_model.proofs.SoundParts.{SoundIn}
 use Rattle.geojson_model.proofs.SoundShapes.{typed_geometry_yields}
 use Rattle.json_members.proofs.Parts.{given}
-use Rattle.json_members.proofs.Yields.{Yields, or_fail_is, IfThere, all_weaker, then_yields, give_yields, pure_yields}
+use Rattle.json_members.proofs.Yields.{Yields, or_fail_is, IfThere, then_yields, give_yields, pure_yields}
+use Rattle.list_laws.proofs.Elements.{all_weaker, all_map, all_joined}
 
 within_yields : {A : Type 0} (n : Option ℕ) (P : A → Type 0) (m : Reader A) → Yields P m → Yields P (within n m)
 within_yields n P m h c d x e = h c d x (given (fault_in n) (m c) (x, d) e)
@@ -80,12 +80,7 @@ module _ (exact : Bool) (n : ℕ) (N : Type 0) where
 -- each feature keeps the rules of its kinds, is no deeper than the value, and has numbers alone where the value does
 pub features_yield : (exact : Bool) (v : Json) → Yields (AllByRecursion (IsSoundFeature (depth v) (HasNumbers v))) (features exact v)
 unfolding features
-features_yield exact v =
-    then_yields _ (AllByRecursion (IsSoundFeature (depth v) (HasNumbers v))) (within None (pure (or_fail NotObject (object_of v)))) _ (within_yields None _ (pure (or_fail NotObject (object_of v))) (pure_yields (or_fail NotObject (object_of v))))
-    (λ ms e. then_yields _ (AllByRecursion (IsSoundFeature (depth v) (HasNumbers v))) (within None (pure (type_name ms))) _ (within_yields None _ (pure (type_name ms)) (pure_yields (type_name ms)))
-    (λ name f. then_yields _ (AllByRecursion (IsSoundFeature (depth v) (HasNumbers v))) (within None (pure (or_fail UnknownType (geojson_type name)))) (λ t. typed_features exact t ms) (within_yields None _ (pure (or_fail UnknownType (geojson_type name))) (pure_yields (or_fail UnknownType (geojson_type name))))
-    (λ t u. let is = or_fail_is NotObject (object_of v) ms e in
-    typed_yields exact (depth v) (HasNumbers v) ms (object_deep v ms is) (object_parts (depth v) (HasNumbers v) v ms is (omega arith) (λ h. h)) t)))
+features_yield exact v = grind (arith, then_yields, within_yields, pure_yields, or_fail_is, typed_yields, object_deep, object_parts)
 
 pub layer_sound : (exact : Bool) (v : Json) (fs : List Featured) (c : Counts) → layer exact v ≡ Ok (fs, c) → AllByRecursion (IsSoundFeature (depth v) (HasNumbers v)) fs
 unfolding layer
@@ -99,15 +94,13 @@ module _ (P : Json → Featured → Type 0) (is : (v : Json) (f : Featured) → 
   each_feature exact v fs c e = all_weaker (IsSoundFeature (depth v) (HasNumbers v)) (P v) (is v) fs (layer_sound exact v fs c e)
 
 proper_of : (s : Option Shape) → IfThere IsSound s → is_proper_option s ≡ true
-proper_of None h = λ i. true
-proper_of (Some s) h = h.proper
+proper_of s h = grind arith
 
 pub shapes_are_proper : ShapesAreProper
 shapes_are_proper = each_feature (λ v f. is_proper_option f.shape ≡ true) (λ v f h. proper_of f.shape h.shape)
 
 inputs_of : (s : Option Shape) → IfThere IsSound s → AllByRecursion IsInput (option_points s)
-inputs_of None h = tt
-inputs_of (Some s) h = h.inputs
+inputs_of s h = grind arith
 
 pub inputs_alone : InputsAlone
 inputs_alone exact v fs c e =
@@ -115,8 +108,7 @@ inputs_alone exact v fs c e =
     (each_feature (λ v f. AllByRecursion IsInput (option_points f.shape)) (λ v f h. inputs_of f.shape h.shape) exact v fs c e)))
 
 closed_of : (s : Option Shape) → IfThere IsSound s → AllByRecursion RingCloses (option_strokes s)
-closed_of None h = tt
-closed_of (Some s) h = h.closed
+closed_of s h = grind arith
 
 pub rings_close : RingsClose
 rings_close = each_feature (λ v f. AllByRecursion RingCloses (option_strokes f.shape)) (λ v f h. closed_of f.shape h.shape)

@@ -6,24 +6,24 @@ use Rattle.json_value.specs.declared.json.Json.{Json}
 use Rattle.json_value.specs.Depth.{depth, greatest}
 use Rattle.json_value.specs.Kinds.{array_of, object_of}
 use Rattle.geojson_types.specs.declared.counts.Counts.{Counts}
-use Rattle.geojson_types.specs.declared.geometry.Geometry.TheVariants as g
+use Rattle.geometry.specs.declared.shape.Geometry.TheVariants as g
 use Rattle.geojson_types.specs.Features.{Shape}
 use Rattle.geojson_types.specs.Nesting.{nesting}
-use Rattle.geojson_types.specs.Points.{Point}
+use Rattle.geometry.specs.Points.{Point}
 use Rattle.geojson_model.specs.declared.fault.GeoFaultKind.{GeoFaultKind}
-use Rattle.geojson_model.specs.declared.fault.GeoFaultKind.TheVariants.{WrongKind, UnknownType}
+use Rattle.geojson_model.specs.declared.fault.GeoFaultKind.TheVariants.{WrongKind}
 use Rattle.geojson_model.specs.declared.types.GeometryType.{GeometryType}
 use Rattle.geojson_model.specs.declared.types.GeometryType.TheVariants as type
 use Rattle.geojson_model.specs.Geometries.{coordinates_shape, shape, shapes, typed_geometry, geometry}
-use Rattle.geojson_model.specs.Members.{need, need_as, type_name}
-use Rattle.geojson_model.specs.Reader.{Reader, give, pure, or_fail, kept}
-use Rattle.geojson_model.specs.Types.{geometry_type}
+use Rattle.geojson_model.specs.Members.{need, need_as}
+use Rattle.geojson_model.specs.Reader.{Reader, give, pure, kept}
 use Rattle.geojson_model.proofs.Inside.{Shallower, ShallowerMember, array_shallower, array_deep, object_shallower, need_part}
-use Rattle.geojson_model.proofs.ShapeCases.{nesting-group}
 use Rattle.geojson_model.proofs.Sound.{IsSound, sound-group}
 use Rattle.geojson_model.proofs.SoundParts.{SoundIn, coordinates_shape_yields}
 use Rattle.geojson_model.proofs.Unrolled.{shape_object, shape_other, shapes_array, shapes_other}
-use Rattle.json_members.proofs.Yields.{Yields, IfThere, all_weaker, there_weaker, weaker_yields, then_yields, give_yields, fail_yields, pure_yields, kept_of_yields}
+use Rattle.geojson_model.proofs.ShapeCases.{nest_at}
+use Rattle.json_members.proofs.Yields.{Yields, IfThere, there_weaker, weaker_yields, then_yields, give_yields, fail_yields, pure_yields, kept_of_yields}
+use Rattle.list_laws.proofs.Elements.{all_weaker}
 
 -- members whose values are less deep than n
 abbrev pub ShallowMembers : ℕ → List (List ℕ × Json) → Type 0
@@ -47,7 +47,7 @@ need_as_yields P name read ms h = then_yields (λ v. need name ms ≡ Ok v) P (p
 -- ---- one level
 
 group_yields : (n : ℕ) (ss : List Shape) (m : ℕ) → m < n → SoundInside m ss → Yields {C = Counts} {E = GeoFaultKind} (IfThere (SoundIn n)) (give (Some (g.Group ss)))
-group_yields n ss m lt h = give_yields (IfThere (SoundIn n)) (Some (g.Group ss)) (sound-group ss h.0, rw (nesting-group ss) (omega (arith, h.1, lt)))
+group_yields n ss m lt h = give_yields (IfThere (SoundIn n)) (Some (g.Group ss)) (sound-group ss h.0, rw (nest_at.group ss) (omega (arith, h.1, lt)))
 
 module _ (exact : Bool) (n : ℕ) (ms : List (List ℕ × Json)) (inside : ShallowMembers n ms) (inner : (v : Json) → depth v < n → Yields (SoundInside (depth v)) (shapes exact v)) where
   typed_yields : (t : GeometryType) → Yields (IfThere (SoundIn n)) (typed_geometry exact t ms)
@@ -64,10 +64,7 @@ module _ (exact : Bool) (n : ℕ) (ms : List (List ℕ × Json)) (inside : Shall
 
   members_yield : Yields (IfThere (SoundIn n)) (geometry exact ms)
   unfolding geometry
-  members_yield =
-      then_yields _ (IfThere (SoundIn n)) (pure (type_name ms)) _ (pure_yields (type_name ms))
-      (λ name e. then_yields _ (IfThere (SoundIn n)) (pure (or_fail UnknownType (geometry_type name))) (λ t. typed_geometry exact t ms) (pure_yields (or_fail UnknownType (geometry_type name)))
-      (λ t f. typed_yields t))
+  members_yield = grind (arith, then_yields, pure_yields, typed_yields)
 
 -- ---- all levels
 

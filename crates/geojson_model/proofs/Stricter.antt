@@ -1,9 +1,9 @@
 -- Readers of which one is stricter: what it gives the other gives too, with the same counts, and it counts no rounding.
-use Rattle.std.proofs.Common.{◌≡◌, ℕ, Bool, true, false, cond, List, [], ◌∷◌, ◌++◌, Option, Some, None, Result, Ok, Err, sym, ap, ◌∙◌}
+use Rattle.std.proofs.Common.{◌≡◌, ℕ, Bool, true, false, cond, List, [], ◌∷◌, Option, Some, None, Result, Ok, sym, ap, ◌∙◌, arith}
 use Rattle.std.specs.Prelude.{option_to_list}
 use Rattle.std.specs.List.{AllByRecursion}
 use Rattle.geojson_types.specs.declared.counts.Counts.{Counts}
-use Rattle.geojson_model.specs.Reader.{Counting, Reader, and_then, ◌>>=◌, give, fail, pure, within, fault_in, with_fault, gather, each, kept, if_some}
+use Rattle.geojson_model.specs.Reader.{Counting, Reader, ◌>>=◌, give, fail, pure, within, gather, each, kept, if_some}
 use Rattle.json_members.proofs.Parts.{given}
 use Rattle.json_members.proofs.Yields.{taken, second_is}
 
@@ -12,11 +12,7 @@ abbrev pub Stricter : {E A : Type 0} → Counting E A → Counting E A → Type 
 Stricter {A = A} strict lax = (c d : Counts) (x : A) → strict c ≡ Ok (x, d) → (lax c ≡ Ok (x, d)) × (d.rounded ≡ c.rounded)
 
 pub then_stricter : {E A B : Type 0} (m n : Counting E A) (f g : A → Counting E B) → Stricter m n → ((x : A) → Stricter (f x) (g x)) → Stricter (m >>= f) (n >>= g)
-then_stricter m n f g first second c d y e =
-    let t = taken (m c) f (y, d) e in
-    let one = first c t.1.0 t.0 t.1.1.0 in
-    let two = second t.0 t.1.0 d y t.1.1.1 in
-    (ap (and_then g) one.0 ∙ two.0, two.1 ∙ one.1)
+then_stricter m n f g first second c d y e = grind (arith, taken)
 
 pub give_stricter : {E A : Type 0} (x : A) → Stricter (give {E = E} x) (give x)
 give_stricter x c d y e = (e, sym (ap (λ (k : Counts). k.rounded) (second_is e)))
@@ -26,8 +22,7 @@ pub fail_stricter : {E A : Type 0} (f : E) (lax : Counting E A) → Stricter (fa
 fail_stricter f lax c d y e = absurd cc
 
 pub pure_stricter : {E A : Type 0} (r : Result A E) → Stricter (pure r) (pure r)
-pure_stricter (Ok x) = give_stricter x
-pure_stricter (Err f) = fail_stricter f (fail f)
+pure_stricter r = grind (arith, give_stricter, fail_stricter)
 
 -- the same first, without counts
 pub after_stricter : {E A B : Type 0} (r : Result A E) (f g : A → Counting E B) → ((x : A) → Stricter (f x) (g x)) → Stricter (pure r >>= f) (pure r >>= g)
@@ -42,9 +37,7 @@ if_stricter true m n k l h i = h
 if_stricter false m n k l h i = i
 
 pub within_stricter : {A : Type 0} (n : Option ℕ) (m l : Reader A) → Stricter m l → Stricter (within n m) (within n l)
-within_stricter n m l h c d x e =
-    let t = h c d x (given (fault_in n) (m c) (x, d) e) in
-    (ap (with_fault (fault_in n)) t.0, t.1)
+within_stricter n m l h c d x e = grind (arith, given)
 
 pub if_some_stricter : {A B : Type 0} (m n : A → Reader (Option B)) → ((x : A) → Stricter (m x) (n x)) → (o : Option A) → Stricter (if_some m o) (if_some n o)
 if_some_stricter m n h None = give_stricter None
@@ -55,8 +48,7 @@ if_some_stricter m n h (Some x) = h x
 pub gather_stricter : {A B : Type 0} (m n : A → Reader (List B)) → ((v : A) → Stricter (m v) (n v)) → (vs : List A) → Stricter (gather m vs) (gather n vs)
 unfolding gather
 gather_stricter m n h [] = give_stricter []
-gather_stricter m n h (v ∷ vs) =
-    then_stricter (m v) (n v) _ _ (h v) (λ x. then_stricter (gather m vs) (gather n vs) _ _ (gather_stricter m n h vs) (λ xs. give_stricter (x ++ xs)))
+gather_stricter m n h (v ∷ vs) = search (then_stricter, give_stricter, gather_stricter m n h vs)
 
 pub each_stricter : {A B : Type 0} (m n : A → Reader B) → ((v : A) → Stricter (m v) (n v)) → (vs : List A) → Stricter (each m vs) (each n vs)
 each_stricter m n h = gather_stricter _ _ (λ v. then_stricter (m v) (n v) _ _ (h v) (λ x. give_stricter (x ∷ [])))
@@ -68,6 +60,4 @@ kept_stricter m n h = gather_stricter _ _ (λ v. then_stricter (m v) (n v) _ _ (
 pub kept_stricter_of : {A B : Type 0} (Q : A → Type 0) (m n : A → Reader (Option B)) → ((v : A) → Q v → Stricter (m v) (n v)) → (vs : List A) → AllByRecursion Q vs → Stricter (kept m vs) (kept n vs)
 unfolding gather
 kept_stricter_of Q m n h [] k = give_stricter []
-kept_stricter_of Q m n h (v ∷ vs) k =
-    then_stricter _ _ _ _ (then_stricter (m v) (n v) _ _ (h v k.0) (λ x. give_stricter (option_to_list x)))
-    (λ x. then_stricter (kept m vs) (kept n vs) _ _ (kept_stricter_of Q m n h vs k.1) (λ xs. give_stricter (x ++ xs)))
+kept_stricter_of Q m n h (v ∷ vs) k = search (then_stricter, give_stricter, kept_stricter_of Q m n h vs k.1)

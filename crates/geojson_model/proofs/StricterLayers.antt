@@ -1,15 +1,14 @@
 -- A layer that is read with `exact` is read without it.
-use Rattle.std.proofs.Common.{◌≡◌, ℕ, zero, suc, ◌+◌, ◌<◌, true, false, List, [], ◌∷◌, Option, Some, None, Result, Ok, Err, refl, arith}
-use Rattle.std.specs.Prelude.{codes, bytes_eq}
+use Rattle.std.proofs.Common.{◌≡◌, ℕ, zero, suc, ◌+◌, ◌<◌, true, false, List, [], ◌∷◌, Option, Some, None, Result, Ok, arith}
+use Rattle.std.specs.Prelude.{codes}
 use Rattle.json_value.specs.declared.json.Json.{Json}
 use Rattle.json_value.specs.declared.json.Json.TheVariants as j
 use Rattle.json_value.proofs.KindsOf.{object_of-object}
 use Rattle.json_value.specs.Depth.{depth}
 use Rattle.json_value.specs.Kinds.{array_of, object_of}
-use Rattle.geojson_types.specs.declared.geometry.Geometry.TheVariants as g
-use Rattle.geojson_types.specs.Counting.{no_counts}
+use Rattle.geometry.specs.declared.shape.Geometry.TheVariants as g
 use Rattle.geojson_model.specs.declared.fault.GeoFaultKind.{GeoFaultKind}
-use Rattle.geojson_model.specs.declared.fault.GeoFaultKind.TheVariants.{NotObject, UnknownType, WrongKind}
+use Rattle.geojson_model.specs.declared.fault.GeoFaultKind.TheVariants.{WrongKind}
 use Rattle.geojson_model.specs.declared.types.GeoJsonType.{GeoJsonType}
 use Rattle.geojson_model.specs.declared.types.GeoJsonType.TheVariants as geojson
 use Rattle.geojson_model.specs.declared.types.GeometryType.{GeometryType}
@@ -18,9 +17,8 @@ use Rattle.geojson_model.specs.Features.{identifier, members_if, feature, featur
 use Rattle.geojson_model.specs.Geometries.{coordinates_shape, shape, shapes, typed_geometry, geometry}
 use Rattle.geojson_model.specs.Laws.{ExactIsStricter}
 use Rattle.geojson_model.specs.Layers.{features_from, collection_features, single_feature, bare, bare_feature, typed_features, features, layer}
-use Rattle.geojson_model.specs.Members.{find, need, need_as, type_name}
-use Rattle.geojson_model.specs.Reader.{Reader, LayerReader, ◌>>=◌, fail, pure, or_fail, within, if_some}
-use Rattle.geojson_model.specs.Types.{geometry_type, geojson_type}
+use Rattle.geojson_model.specs.Members.{find, need, need_as}
+use Rattle.geojson_model.specs.Reader.{Reader, LayerReader, ◌>>=◌, pure, or_fail, within, if_some}
 use Rattle.geojson_model.proofs.Inside.{Shallower, array_shallower, object_shallower, need_part}
 use Rattle.geojson_model.proofs.SoundShapes.{ShallowMembers}
 use Rattle.geojson_model.proofs.Stricter.{Stricter, then_stricter, give_stricter, fail_stricter, pure_stricter, after_stricter, within_stricter, if_stricter, if_some_stricter, kept_stricter_of}
@@ -31,11 +29,7 @@ use Rattle.geojson_model.proofs.Unrolled.{shape_object, shape_other, shapes_arra
 
 -- the member of this name, where it matters that it is that one
 need_as_stricter : {A : Type 0} (name : List ℕ) (m n : Json → Reader A) (ms : List (List ℕ × Json)) → ((v : Json) → need name ms ≡ Ok v → Stricter (m v) (n v)) → Stricter (need_as name m ms) (need_as name n ms)
-need_as_stricter name m n ms h = on (need name ms) h
-  where
-    on : (r : Result Json GeoFaultKind) → ((v : Json) → r ≡ Ok v → Stricter (m v) (n v)) → Stricter (pure r >>= m) (pure r >>= n)
-    on (Ok v) k = k v refl
-    on (Err e) k = fail_stricter e (fail e)
+need_as_stricter name m n ms h = grind (arith, fail_stricter)
 
 module _ (n : ℕ) (ms : List (List ℕ × Json)) (inside : ShallowMembers n ms) (inner : (v : Json) → depth v < n → Stricter (shapes true v) (shapes false v)) where
   typed_stricter : (t : GeometryType) → Stricter (typed_geometry true t ms) (typed_geometry false t ms)
@@ -48,9 +42,7 @@ module _ (n : ℕ) (ms : List (List ℕ × Json)) (inside : ShallowMembers n ms)
 
   members_stricter : Stricter (geometry true ms) (geometry false ms)
   unfolding geometry
-  members_stricter =
-      after_stricter (type_name ms) _ _
-      (λ name. after_stricter (or_fail UnknownType (geometry_type name)) (λ t. typed_geometry true t ms) (λ t. typed_geometry false t ms) typed_stricter)
+  members_stricter = grind (arith, after_stricter, typed_stricter)
 
 -- ---- all levels
 
@@ -71,9 +63,7 @@ module _ (v : Json) (inner : (w : Json) → depth w < depth v → IsReadStricter
 
 below : (n : ℕ) (v : Json) → depth v < n → IsReadStricter v
 below zero v lt = absurd (omega arith)
-below (suc n) v lt =
-    let inner : (w : Json) → depth w < depth v → IsReadStricter w = λ w less. below n w (omega arith) in
-    record { one = one_stricter v inner (object_of v) refl; many = many_stricter v inner (array_of v) refl }
+below (suc n) v lt = grind (arith, one_stricter, many_stricter, below n)
 
 shapes_stricter : (v : Json) → Stricter (shapes true v) (shapes false v)
 shapes_stricter v = (below (suc (depth v)) v (omega arith)).many
@@ -103,20 +93,14 @@ feature_stricter ms =
 
 feature_element_stricter : (v : Json) → Stricter (feature_element true v) (feature_element false v)
 unfolding feature_element
-feature_element_stricter v =
-    after_stricter (or_fail NotObject (object_of v)) _ _
-    (λ ms. after_stricter (type_name ms) _ _
-    (λ name. if_stricter (bytes_eq name (codes "Feature")) (feature true ms) (fail UnknownType) (feature false ms) (fail UnknownType) (feature_stricter ms) (fail_stricter UnknownType (fail UnknownType))))
+feature_element_stricter v = search (after_stricter, if_stricter, feature_stricter, fail_stricter)
 
 -- ---- layers
 
 features_from_stricter : (n : ℕ) (vs : List Json) → Stricter (features_from true n vs) (features_from false n vs)
 unfolding features_from
 features_from_stricter n [] = give_stricter []
-features_from_stricter n (v ∷ vs) =
-    then_stricter (within (Some n) (feature_element true v)) (within (Some n) (feature_element false v)) _ _ (within_stricter (Some n) (feature_element true v) (feature_element false v) (feature_element_stricter v))
-    (λ f. then_stricter (features_from true (n + 1) vs) (features_from false (n + 1) vs) _ _ (features_from_stricter (n + 1) vs)
-    (λ fs. give_stricter (f ∷ fs)))
+features_from_stricter n (v ∷ vs) = search (then_stricter, within_stricter, feature_element_stricter, give_stricter, features_from_stricter (n + 1) vs)
 
 -- the same first, without counts and of no feature
 first_stricter : {A B : Type 0} (r : Result A GeoFaultKind) (m n : A → LayerReader B) → ((x : A) → Stricter (m x) (n x)) → Stricter (within None (pure r) >>= m) (within None (pure r) >>= n)
@@ -133,14 +117,8 @@ typed_features_stricter (geojson.Geometry t) ms =
 
 features_stricter : (v : Json) → Stricter (features true v) (features false v)
 unfolding features
-features_stricter v =
-    first_stricter (or_fail NotObject (object_of v)) _ _
-    (λ ms. first_stricter (type_name ms) _ _
-    (λ name. first_stricter (or_fail UnknownType (geojson_type name)) (λ t. typed_features true t ms) (λ t. typed_features false t ms) (λ t. typed_features_stricter t ms)))
+features_stricter v = grind (arith, first_stricter, typed_features_stricter)
 
 pub exact_is_stricter : ExactIsStricter
 unfolding layer
-exact_is_stricter = record {
-  same = λ v fs c e. (features_stricter v no_counts c fs e).0;
-  rounded = λ v fs c e. (features_stricter v no_counts c fs e).1;
-}
+exact_is_stricter = grind (arith, features_stricter)

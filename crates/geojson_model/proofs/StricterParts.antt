@@ -1,50 +1,36 @@
 -- What is read of a value without collections, with `exact` and without.
-use Rattle.std.proofs.Common.{◌≡◌, ℕ, Bool, true, false, not, cond, List, [], ◌∷◌, length, Option, Some, None, Result, Ok, Err, refl, ℤ}
-use Rattle.std.specs.Prelude.{nat_lt, nat_le}
+use Rattle.std.proofs.Common.{◌≡◌, Bool, true, false, List, [], ◌∷◌, length, Option, Some, None, Result, arith}
+use Rattle.std.specs.Prelude.{nat_lt}
 use Rattle.decimal_text.specs.declared.num_text.Scaled.{Scaled}
 use Rattle.decimal_text.specs.declared.num_text.Range.{Range as OutOfRange}
-use Rattle.decimal_text.specs.Scaling.{scaled_of}
 use Rattle.json_value.specs.declared.json.Json.{Json}
-use Rattle.json_value.specs.Kinds.{array_of, number_of}
+use Rattle.json_value.specs.Kinds.{array_of}
 use Rattle.geojson_types.specs.declared.counts.Counts.{Counts}
-use Rattle.geojson_types.specs.declared.geometry.Geometry.TheVariants as g
-use Rattle.geojson_types.specs.Counting.{count_rounded, count_extra, count_empty}
-use Rattle.geojson_types.specs.Features.{is_line}
-use Rattle.geojson_types.specs.Lists.{map_some, unless_empty}
-use Rattle.geojson_types.specs.Points.{Point, input_limit}
-use Rattle.geojson_types.specs.Rings.{is_closed}
-use Rattle.geojson_model.specs.declared.fault.GeoFaultKind.{GeoFaultKind}
-use Rattle.geojson_model.specs.declared.fault.GeoFaultKind.TheVariants.{WrongKind, Range, Inexact, ShortPosition, ShortLine, ShortRing, OpenRing}
+use Rattle.geometry.specs.declared.shape.Geometry.TheVariants as g
+use Rattle.geojson_types.specs.Counting.{count_extra}
+use Rattle.geometry.specs.Lists.{map_some, unless_empty}
+use Rattle.geometry.specs.Points.{Point}
+use Rattle.geojson_model.specs.declared.fault.GeoFaultKind.TheVariants.{WrongKind, ShortPosition}
 use Rattle.geojson_model.specs.declared.types.CoordinatesType.{CoordinatesType}
 use Rattle.geojson_model.specs.declared.types.CoordinatesType.TheVariants as type
-use Rattle.geojson_model.specs.Coordinates.{coordinate_places, in_units, number_in_units, coordinate, elements_position, array_position, position}
+use Rattle.geojson_model.specs.Coordinates.{in_units, coordinate, elements_position, array_position, position}
 use Rattle.geojson_model.specs.Geometries.{shape_in, coordinates_shape}
-use Rattle.geojson_model.specs.Lines.{elements_in, some_elements, as_line, line_in, line}
+use Rattle.geojson_model.specs.Lines.{some_elements, line_in, line}
 use Rattle.geojson_model.specs.Polygons.{as_ring, ring_in, ring, with_outer, polygon_in, polygon}
-use Rattle.geojson_model.specs.Reader.{Reader, ◌>>=◌, give, fail, each, kept, if_some}
+use Rattle.geojson_model.specs.Reader.{Reader, ◌>>=◌, fail, each, kept, if_some}
 use Rattle.geojson_model.proofs.Stricter.{Stricter, then_stricter, give_stricter, fail_stricter, count_stricter, if_stricter, if_some_stricter, each_stricter, kept_stricter}
 
 -- ---- coordinates and positions
 
-units_stricter_at : (whole : Bool) (z : ℤ) → Stricter {E = GeoFaultKind} (cond (not whole) (fail Inexact) (λ c. Ok (z, count_rounded (not whole) c))) (λ c. Ok (z, count_rounded (not whole) c))
-units_stricter_at true z = give_stricter z
-units_stricter_at false z = fail_stricter Inexact _
-
 units_stricter : (r : Result Scaled OutOfRange) → Stricter (in_units true r) (in_units false r)
-units_stricter (Err f) = fail_stricter Range (fail Range)
-units_stricter (Ok s) = units_stricter_at s.exact s.value
-
-number_stricter : (o : Option (List ℕ)) → Stricter (number_in_units true o) (number_in_units false o)
-number_stricter None = fail_stricter WrongKind (fail WrongKind)
-number_stricter (Some t) = units_stricter (scaled_of coordinate_places input_limit t)
+units_stricter r = grind (arith, fail_stricter, give_stricter)
 
 coordinate_stricter : (v : Json) → Stricter (coordinate true v) (coordinate false v)
 unfolding coordinate
-coordinate_stricter v = number_stricter (number_of v)
+coordinate_stricter v = grind (arith, fail_stricter, units_stricter)
 
 extra_kept : (b : Bool) (c : Counts) → (count_extra b c).rounded ≡ c.rounded
-extra_kept true c = refl
-extra_kept false c = refl
+extra_kept b c = grind arith
 
 elements_position_stricter : (vs : List Json) → Stricter (elements_position true vs) (elements_position false vs)
 unfolding elements_position
@@ -68,31 +54,20 @@ positions_stricter = each_stricter (position true) (position false) position_str
 
 -- ---- lines and rings
 
-elements_in_stricter : (o : Option (List Json)) → Stricter (elements_in o) (elements_in o)
-elements_in_stricter None = fail_stricter WrongKind (fail WrongKind)
-elements_in_stricter (Some []) = count_stricter None count_empty (λ c. refl)
-elements_in_stricter (Some (v ∷ vs)) = give_stricter (Some (v ∷ vs))
-
 some_elements_stricter : {A : Type 0} (m n : List Json → Reader (Option A)) → ((vs : List Json) → Stricter (m vs) (n vs)) → (v : Json) → Stricter (some_elements v >>= if_some m) (some_elements v >>= if_some n)
 unfolding some_elements
-some_elements_stricter m n h v = then_stricter (elements_in (array_of v)) (elements_in (array_of v)) (if_some m) (if_some n) (elements_in_stricter (array_of v)) (if_some_stricter m n h)
-
-as_line_stricter : (ps : List Point) → Stricter (as_line ps) (as_line ps)
-as_line_stricter ps = if_stricter (is_line ps) (give (Some ps)) (fail ShortLine) (give (Some ps)) (fail ShortLine) (give_stricter (Some ps)) (fail_stricter ShortLine (fail ShortLine))
+some_elements_stricter m n h v = grind (arith, then_stricter, fail_stricter, count_stricter, give_stricter, if_some_stricter)
 
 line_in_stricter : (vs : List Json) → Stricter (line_in true vs) (line_in false vs)
 unfolding line_in
-line_in_stricter vs = then_stricter (each (position true) vs) (each (position false) vs) as_line as_line (positions_stricter vs) as_line_stricter
+line_in_stricter vs = grind (arith, then_stricter, positions_stricter, if_stricter, give_stricter, fail_stricter)
 
 line_stricter : (v : Json) → Stricter (line true v) (line false v)
 unfolding line
 line_stricter = some_elements_stricter (line_in true) (line_in false) line_in_stricter
 
-closed_stricter : (ps : List Point) → Stricter {E = GeoFaultKind} (cond (is_closed ps) (give (Some ps)) (fail OpenRing)) (cond (is_closed ps) (give (Some ps)) (fail OpenRing))
-closed_stricter ps = if_stricter (is_closed ps) (give (Some ps)) (fail OpenRing) (give (Some ps)) (fail OpenRing) (give_stricter (Some ps)) (fail_stricter OpenRing (fail OpenRing))
-
 as_ring_stricter : (ps : List Point) → Stricter (as_ring ps) (as_ring ps)
-as_ring_stricter ps = if_stricter (nat_le 4 (length ps)) _ (fail ShortRing) _ (fail ShortRing) (closed_stricter ps) (fail_stricter ShortRing (fail ShortRing))
+as_ring_stricter ps = grind (arith, if_stricter, give_stricter, fail_stricter)
 
 ring_in_stricter : (vs : List Json) → Stricter (ring_in true vs) (ring_in false vs)
 unfolding ring_in

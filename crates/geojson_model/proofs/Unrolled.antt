@@ -1,6 +1,6 @@
 -- What a value is read as, by one level of it.
-use Rattle.std.proofs.Common.{◌≡◌, ℕ, Bool, List, [], ◌∷◌, map, Some, None, refl, sym, ap, ◌∙◌}
-use Rattle.std.specs.Prelude.{codes, option_to_list}
+use Rattle.std.proofs.Common.{◌≡◌, ℕ, Bool, List, map, Some, None, refl, sym, ap, ◌∙◌, arith}
+use Rattle.std.specs.Prelude.{codes}
 use Rattle.json_value.specs.declared.json.Json.{Json}
 use Rattle.json_value.specs.declared.json.Json.TheFolds.{para-Json, para-roll-Json, map-Json}
 use Rattle.json_value.specs.declared.json.Json.TheViews.{out-Json, roll-out-Json}
@@ -11,7 +11,8 @@ use Rattle.geojson_model.specs.Geometries.{Readings, readings_step, readings, sh
 use Rattle.json_members.proofs.Parts.{gather_map, need_map, pure_map}
 use Rattle.json_members.specs.Members as members_by
 use Rattle.geojson_model.specs.Members.{lookup_fault, need, need_as}
-use Rattle.geojson_model.specs.Reader.{Reader, ◌>>=◌, give, fail, pure, with_fault, kept}
+use Rattle.geojson_model.specs.Reader.{Reader, ◌>>=◌, fail, pure, with_fault, kept}
+use Rattle.list_laws.proofs.Lists.{map_back}
 
 -- ---- reading under a map
 
@@ -19,10 +20,6 @@ need_as_map : {V W B : Type 0} (h : V → W) (g : List ℕ × V → List ℕ × 
     → need_as name read (map g ms) ≡ need_as name (λ v. read (h v)) ms
 unfolding need
 need_as_map h g e name read ms = ap (λ r. pure (with_fault lookup_fault r) >>= read) (need_map h g e name ms) ∙ pure_map lookup_fault h read (members_by.need name ms)
-
-map_back : {A B : Type 0} (f : B → A) (g : A → B) → ((x : A) → f (g x) ≡ x) → (xs : List A) → map f (map g xs) ≡ xs
-map_back f g e [] = refl
-map_back f g e (x ∷ xs) = rw (e x, map_back f g e xs) refl
 
 -- ---- one level
 
@@ -59,12 +56,7 @@ shape_object exact v ms e = object_in_shape exact v (out-Json v) ms refl e
 
 object_in_none : (exact : Bool) (v : Json) (x : Json-F Json) → out-Json v ≡ x → object_in x ≡ None → shape exact v ≡ fail WrongKind
 unfolding shape
-object_in_none exact v (Json-F.Object ws) e f = absurd cc
-object_in_none exact v (Json-F.Array ws) e f = ap (λ r. r.geometry) (unrolled exact v) ∙ rw e refl
-object_in_none exact v (Json-F.Text t) e f = ap (λ r. r.geometry) (unrolled exact v) ∙ rw e refl
-object_in_none exact v (Json-F.Number t) e f = ap (λ r. r.geometry) (unrolled exact v) ∙ rw e refl
-object_in_none exact v (Json-F.Bool t) e f = ap (λ r. r.geometry) (unrolled exact v) ∙ rw e refl
-object_in_none exact v Json-F.Null e f = ap (λ r. r.geometry) (unrolled exact v) ∙ rw e refl
+object_in_none exact v x h k = grind (arith, unrolled)
 
 -- Nothing else is a geometry.
 pub shape_other : (exact : Bool) (v : Json) → object_of v ≡ None → shape exact v ≡ fail WrongKind
@@ -73,15 +65,7 @@ shape_other exact v e = object_in_none exact v (out-Json v) refl e
 
 array_in_shapes : (exact : Bool) (v : Json) (x : Json-F Json) (vs : List Json) → out-Json v ≡ x → array_in x ≡ Some vs → shapes exact v ≡ kept (shape exact) vs
 unfolding shapes shape
-array_in_shapes exact v (Json-F.Array ws) vs e f = ap (λ r. r.geometries) (unrolled exact v) ∙ rw e (gather_map (λ v. v.1.geometry >>= λ x. give (option_to_list x)) (beside exact) ws ∙ ap (λ z. kept (λ v. (readings exact v).geometry) z) (same_values f))
-  where
-    same_values : Some ws ≡ Some vs → ws ≡ vs
-    same_values h = cc
-array_in_shapes exact v (Json-F.Object ws) vs e f = absurd cc
-array_in_shapes exact v (Json-F.Text t) vs e f = absurd cc
-array_in_shapes exact v (Json-F.Number t) vs e f = absurd cc
-array_in_shapes exact v (Json-F.Bool t) vs e f = absurd cc
-array_in_shapes exact v Json-F.Null vs e f = absurd cc
+array_in_shapes exact v x vs h k = grind (arith, unrolled, gather_map)
 
 -- The elements of an array are read as geometries in order, those left out that are null.
 pub shapes_array : (exact : Bool) (v : Json) (vs : List Json) → array_of v ≡ Some vs → shapes exact v ≡ kept (shape exact) vs
@@ -90,12 +74,7 @@ shapes_array exact v vs e = array_in_shapes exact v (out-Json v) vs refl e
 
 array_in_none : (exact : Bool) (v : Json) (x : Json-F Json) → out-Json v ≡ x → array_in x ≡ None → shapes exact v ≡ fail WrongKind
 unfolding shapes
-array_in_none exact v (Json-F.Array ws) e f = absurd cc
-array_in_none exact v (Json-F.Object ws) e f = ap (λ r. r.geometries) (unrolled exact v) ∙ rw e refl
-array_in_none exact v (Json-F.Text t) e f = ap (λ r. r.geometries) (unrolled exact v) ∙ rw e refl
-array_in_none exact v (Json-F.Number t) e f = ap (λ r. r.geometries) (unrolled exact v) ∙ rw e refl
-array_in_none exact v (Json-F.Bool t) e f = ap (λ r. r.geometries) (unrolled exact v) ∙ rw e refl
-array_in_none exact v Json-F.Null e f = ap (λ r. r.geometries) (unrolled exact v) ∙ rw e refl
+array_in_none exact v x h k = grind (arith, unrolled)
 
 -- Nothing else is read as `geometries`.
 pub shapes_other : (exact : Bool) (v : Json) → array_of v ≡ None → shapes exact v ≡ fail WrongKind

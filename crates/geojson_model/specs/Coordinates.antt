@@ -7,12 +7,8 @@ use Rattle.decimal_text.specs.Scaling.{scaled_of}
 use Rattle.geojson_model.specs.declared.fault.GeoFaultKind.TheVariants.{WrongKind, ShortPosition, Range, Inexact}
 use Rattle.geojson_types.specs.Counting.{count_rounded, count_extra}
 use Rattle.json_value.specs.Kinds.{array_of, number_of}
-use Rattle.geojson_types.specs.Points.{Point, input_limit}
+use Rattle.geometry.specs.Points.{Point, input_limit, unit_places}
 use Rattle.geojson_model.specs.Reader.{Reader, ◌>>=◌, fail}
-
--- the decimal places of a unit
-abbrev pub coordinate_places : ℕ
-coordinate_places = 7
 
 -- whole units, unless they are out of range, or were rounded where that is refused
 abbrev pub in_units : Bool → Result Scaled OutOfRange → Reader ℤ
@@ -22,7 +18,7 @@ in_units exact (Ok s) = if exact && not s.exact then fail Inexact else λ c. Ok 
 -- a number in whole units
 abbrev pub number_in_units : Bool → Option (List ℕ) → Reader ℤ
 number_in_units exact None = fail WrongKind
-number_in_units exact (Some t) = in_units exact (scaled_of coordinate_places input_limit t)
+number_in_units exact (Some t) = in_units exact (scaled_of unit_places input_limit t)
 
 -- one coordinate
 unfoldable pub coordinate : Bool → Json → Reader ℤ

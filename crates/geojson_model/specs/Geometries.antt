@@ -8,12 +8,12 @@ use Rattle.geojson_model.specs.declared.types.CoordinatesType.{CoordinatesType}
 use Rattle.geojson_model.specs.declared.types.CoordinatesType.TheVariants.{Point, MultiPoint, LineString, MultiLineString, Polygon, MultiPolygon}
 use Rattle.geojson_model.specs.declared.types.GeometryType.{GeometryType}
 use Rattle.geojson_model.specs.declared.types.GeometryType.TheVariants.{Coordinates, Collection}
-use Rattle.geojson_types.specs.declared.geometry.Geometry.TheVariants as g
+use Rattle.geometry.specs.declared.shape.Geometry.TheVariants as g
 use Rattle.geojson_model.specs.Coordinates.{elements_position, position}
 use Rattle.geojson_types.specs.Features.{Shape}
 use Rattle.geojson_model.specs.Types.{geometry_type}
 use Rattle.geojson_model.specs.Lines.{some_elements, line_in, line}
-use Rattle.geojson_types.specs.Lists.{map_some, unless_empty}
+use Rattle.geometry.specs.Lists.{map_some, unless_empty}
 use Rattle.geojson_model.specs.Members.{need_as, type_name}
 use Rattle.geojson_model.specs.Polygons.{polygon_in, polygon}
 use Rattle.geojson_model.specs.Reader.{Reader, ◌>>=◌, give, fail, pure, or_fail, if_some, each, kept}

@@ -9,9 +9,9 @@ use Rattle.geojson_types.specs.Features.{Featured, is_proper_option}
 use Rattle.geojson_types.specs.Nesting.{feature_nesting}
 use Rattle.geojson_types.specs.Numbers.{FeatureHasNumbers}
 use Rattle.geojson_types.specs.Places.{features_points}
-use Rattle.geojson_types.specs.Points.{Point, IsInput}
-use Rattle.geojson_types.specs.Pruning.{option_strokes}
-use Rattle.geojson_types.specs.Rings.{is_ring}
+use Rattle.geometry.specs.Points.{Point, IsInput}
+use Rattle.geometry.specs.Pruning.{option_strokes}
+use Rattle.geometry.specs.Rings.{is_ring}
 use Rattle.geojson_model.specs.Layers.{layer}
 
 -- no list is empty but a Group's, and each line has two positions or more

@@ -6,7 +6,7 @@ use Rattle.geojson_model.specs.Coordinates.{position}
 use Rattle.geojson_types.specs.Counting.{count_empty}
 use Rattle.geojson_types.specs.Features.{is_line}
 use Rattle.json_value.specs.Kinds.{array_of}
-use Rattle.geojson_types.specs.Points.{Point}
+use Rattle.geometry.specs.Points.{Point}
 use Rattle.geojson_model.specs.Reader.{Reader, ◌>>=◌, give, fail, each, if_some}
 
 -- the elements of an array; an empty one is counted, and gives nothing

@@ -4,9 +4,9 @@ use Rattle.json_value.specs.declared.json.Json.{Json}
 use Rattle.geojson_model.specs.declared.fault.GeoFaultKind.TheVariants.{ShortRing, OpenRing}
 use Rattle.geojson_model.specs.Coordinates.{position}
 use Rattle.geojson_model.specs.Lines.{some_elements}
-use Rattle.geojson_types.specs.Points.{Point}
+use Rattle.geometry.specs.Points.{Point}
 use Rattle.geojson_model.specs.Reader.{Reader, ◌>>=◌, give, fail, each, if_some, kept}
-use Rattle.geojson_types.specs.Rings.{is_closed}
+use Rattle.geometry.specs.Rings.{is_closed}
 
 -- a ring has four positions or more, the last of which is the first again
 abbrev pub as_ring : List Point → Reader (Option (List Point))

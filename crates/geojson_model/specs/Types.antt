@@ -1,6 +1,6 @@
 -- The names of the GeoJSON types (RFC 7946, section 1.4).
 use Rattle.std.specs.Prelude.{ℕ, List, Option, Some, None, codes, bytes_eq, if◌then◌else◌}
-use Rattle.geojson_types.specs.Lists.{map_some}
+use Rattle.geometry.specs.Lists.{map_some}
 use Rattle.geojson_model.specs.declared.types.CoordinatesType.{CoordinatesType}
 use Rattle.geojson_model.specs.declared.types.CoordinatesType.TheVariants as coordinates
 use Rattle.geojson_model.specs.declared.types.GeometryType.{GeometryType}

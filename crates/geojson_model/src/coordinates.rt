@@ -2,16 +2,13 @@
 ghost use Rattle.std.specs.Prelude.{◌≡◌, ◌≤◌, IfOk, unsigned_abs};
 ghost use Rattle.geojson_model.specs.Answers.{Gives};
 ghost use Rattle.geojson_model.specs.Coordinates as spec;
-ghost use Rattle.geojson_types.specs.Points.{input_limit};
+ghost use Rattle.geometry.specs.Points.{input_limit};
 ghost use Rattle.geojson_model.specs.Reader.{each};
 
 use crate::fault::GeoFaultKind;
-use geojson_types::{Counts, INPUT_LIMIT, Position};
+use geojson_types::{Counts, INPUT_LIMIT, PLACES, Position};
 use json_value::Json;
 use std::alloc::Global;
-
-/// The decimal places of a unit.
-const COORDINATE_PLACES: u32 = 7;
 
 /// A coordinate in whole units.
 #[tactic(auto, unfolding(crate::specs::Coordinates::coordinate))]
@@ -22,7 +19,7 @@ fn coordinate(value: &Json, exact: bool, counts: &mut Counts) -> Result<i64, Geo
     let Some(number) = value.as_number() else {
         return Err(GeoFaultKind::WrongKind);
     };
-    match number.scaled(COORDINATE_PLACES, INPUT_LIMIT as i128) {
+    match number.scaled(PLACES, INPUT_LIMIT as i128) {
         Err(_) => Err(GeoFaultKind::Range),
         Ok(scaled) => {
             if exact && !scaled.exact {

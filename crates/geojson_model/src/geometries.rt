@@ -2,7 +2,7 @@
 ghost use Rattle.std.specs.Prelude.{◌≡◌};
 ghost use Rattle.geojson_model.specs.Answers.{Gives};
 ghost use Rattle.geojson_model.specs.Geometries as spec;
-ghost use Rattle.geojson_types.specs.Lists.{unless_empty};
+ghost use Rattle.geometry.specs.Lists.{unless_empty};
 
 use crate::coordinates::{elements_position, positions};
 use crate::fault::GeoFaultKind;

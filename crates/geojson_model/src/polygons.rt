@@ -12,7 +12,7 @@ use json_value::{Items, Json};
 use std::alloc::Global;
 
 /// The ring with these positions.
-#[tactic(auto, unfolding(crate::specs::Polygons::ring_in, geojson_types::specs::Rings::is_ring))]
+#[tactic(auto, unfolding(crate::specs::Polygons::ring_in, geometry::specs::Rings::is_ring))]
 fn ring_in(
     alloc: Global,
     values: &[Json],

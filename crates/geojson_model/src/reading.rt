@@ -5,7 +5,7 @@ ghost use Rattle.geojson_model.specs.Answers.{Tells};
 ghost use Rattle.geojson_model.specs.Layers as spec;
 ghost use Rattle.geojson_model.specs.declared.fault.GeoFaultKind.TheVariants.{Memory};
 ghost use Rattle.geojson_types.specs.Places.{features_points};
-ghost use Rattle.geojson_types.specs.Points.{IsInput};
+ghost use Rattle.geometry.specs.Points.{IsInput};
 
 use crate::fault::{GeoFault, GeoFaultKind};
 use crate::features::{feature, feature_element, members_of};

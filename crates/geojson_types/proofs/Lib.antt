@@ -1,9 +1,9 @@
-pub mod Agreement
-pub mod Areas
-pub mod ByKind
-pub mod Cases
-pub mod Composition
-pub mod Induction
 pub mod Nestings
-pub mod Omitted
-pub mod Points
+pub use Rattle.geometry.proofs.Agreement
+pub use Rattle.geometry.proofs.Areas
+pub use Rattle.geometry.proofs.ByKind
+pub use Rattle.geometry.proofs.Cases
+pub use Rattle.geometry.proofs.Composition
+pub use Rattle.geometry.proofs.Induction
+pub use Rattle.geometry.proofs.Omitted
+pub use Rattle.geometry.proofs.Points

@@ -1,14 +1,23 @@
 -- How deep shapes nest, by kind, and that pruning makes none deeper.
-use Rattle.std.proofs.Common.{◌≤◌, max, Bool, true, false, List, [], ◌∷◌, map, Option, None, Some, arith}
+use Rattle.std.proofs.Common.{◌≡◌, ◌+◌, ◌≤◌, max, Bool, true, false, List, [], ◌∷◌, map, Option, None, Some, arith}
 use Rattle.std.specs.List.{AllByRecursion}
 use Rattle.json_value.specs.Depth.{greatest}
-use Rattle.geojson_types.specs.declared.geometry.Geometry.{Geometry}
-use Rattle.geojson_types.specs.declared.geometry.Geometry.TheVariants as g
-use Rattle.geojson_types.specs.Lists.{map_some, then_some, with_some, some_of, unless_empty}
-use Rattle.geojson_types.specs.Nesting.{nesting, option_nesting}
-use Rattle.geojson_types.specs.Pruning.{area_by, prune}
-use Rattle.geojson_types.proofs.Cases.{prune-point, prune-points, prune-line, prune-lines, prune-area, prune-areas, prune-group, nesting_at}
-use Rattle.geojson_types.proofs.Induction.{by_kinds}
+use Rattle.geometry.specs.declared.shape.Geometry.{Geometry}
+use Rattle.geometry.specs.declared.shape.Geometry.TheVariants as g
+use Rattle.geometry.specs.Lists.{map_some, then_some, with_some, some_of, unless_empty}
+use Rattle.geojson_types.specs.Nesting.{nesting, nesting_step, option_nesting}
+use Rattle.geometry.specs.Pruning.{area_by, prune}
+use Rattle.geometry.proofs.ByKind.{AtKinds, at_kinds}
+use Rattle.geometry.proofs.Cases.{prune-point, prune-points, prune-line, prune-lines, prune-area, prune-areas, prune-group}
+use Rattle.geometry.proofs.Induction.{by_kinds}
+
+module _ (P L : Type 0) where
+  pub nesting_at : AtKinds (nesting {P = P} {L = L}) nesting_step
+  unfolding nesting
+  nesting_at = at_kinds nesting_step
+
+  pub nesting-group : (ss : List (Geometry P L L)) → nesting {P = P} {L = L} (g.Group ss) ≡ 2 + greatest (map nesting ss)
+  nesting-group = nesting_at.group
 
 module _ {P Q L M : Type 0} (place : P → Q) (kept : Bool → L → Option M) where
   abbrev Shallower : Geometry P L L → Type 0

@@ -3,12 +3,12 @@ use Rattle.std.specs.Prelude.{ℕ, List, Option, refl}
 use Rattle.std.specs.Coded.{Coded, code_by, coded×, coded_ℕ, coded_list, coded_option}
 use Rattle.json_value.specs.declared.json.Json.{Json}
 use Rattle.json_value.specs.contracts.json.Json as json
-use Rattle.json_value.specs.contracts.items.Items as items
+use Rattle.owned_values.specs.contracts.items.Items as items
 use Rattle.geojson_types.specs.declared.id.Id.{Id}
 use Rattle.geojson_types.specs.contracts.id.Id as id
-use Rattle.geojson_types.specs.contracts.geometry.Geometry as geometry
-use Rattle.geojson_types.specs.contracts.position.Position as position
-use Rattle.geojson_types.specs.contracts.ring.Ring as ring
+use Rattle.geometry.specs.contracts.shape.Geometry as geometry
+use Rattle.geometry.specs.contracts.position.Position as position
+use Rattle.geometry.specs.contracts.ring.Ring as ring
 use Rattle.geojson_types.specs.Features.{Shape, Featured}
 
 -- the code of a shape

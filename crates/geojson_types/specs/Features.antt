@@ -1,47 +1,12 @@
--- What contracts see of a feature (RFC 7946, section 3.2), and which shapes a feature may have.
-use Rattle.std.specs.Prelude.{ℕ, Bool, true, false, ◌&&◌, nat_le, List, [], ◌∷◌, length, Option, Some, None}
-use Rattle.std.specs.List.{list_all}
+-- What contracts see of a feature (RFC 7946, section 3.2).
+use Rattle.std.specs.Prelude.{ℕ, List, Option}
 use Rattle.json_value.specs.declared.json.Json.{Json}
-pub use Rattle.list_laws.specs.Lists.{is_some_list}
-use Rattle.geojson_types.specs.Points.{Point}
+pub use Rattle.geometry.specs.Shapes.{Shape, is_some_list, is_line, is_line_option, proper_step, is_proper_option}
+unfoldable pub use Rattle.geometry.specs.Shapes.{is_proper}
 use Rattle.geojson_types.specs.declared.id.Id.{Id}
-use Rattle.geojson_types.specs.declared.geometry.Geometry.{Geometry, fold-Geometry}
-use Rattle.geojson_types.specs.declared.geometry.Geometry.TheOpen.{Geometry-F}
-
--- a geometry over positions, where a line and a ring are the list of theirs
-abbrev pub Shape : Type 0
-Shape = Geometry Point (List Point) (List Point)
 
 -- an identifier or none, the members of the properties or null, and a shape or null
 pub record Featured : Type 0 where
   pub id : Option Id
   pub properties : Option (List (List ℕ × Json))
   pub shape : Option Shape
-
--- two positions or more
-abbrev pub is_line : List Point → Bool
-is_line ps = nat_le 2 (length ps)
-
--- the same of a line that may be absent
-abbrev pub is_line_option : Option (List Point) → Bool
-is_line_option None = true
-is_line_option (Some ps) = is_line ps
-
--- one level, with the answers for the shapes of a group in their place
-abbrev pub proper_step : Geometry-F Point (List Point) (List Point) Bool → Bool
-proper_step (Geometry-F.Point p) = true
-proper_step (Geometry-F.MultiPoint ps) = is_some_list ps
-proper_step (Geometry-F.Line ps) = is_line ps
-proper_step (Geometry-F.Lines ls) = is_some_list ls && list_all is_line ls
-proper_step (Geometry-F.Area rs) = is_some_list rs
-proper_step (Geometry-F.Areas rss) = is_some_list rss && list_all is_some_list rss
-proper_step (Geometry-F.Group bs) = list_all (λ b. b) bs
-
--- no list is empty but a Group's, and each line has two positions or more
-unfoldable pub is_proper : Shape → Bool
-is_proper = fold-Geometry Point (List Point) (List Point) Bool proper_step
-
--- the same of a shape that may be null
-abbrev pub is_proper_option : Option Shape → Bool
-is_proper_option None = true
-is_proper_option (Some s) = is_proper s

@@ -3,8 +3,8 @@ use Rattle.std.specs.Prelude.{ℕ, ◌+◌, max, List, Option, None, Some}
 use Rattle.json_value.specs.declared.json.Json.{Json}
 use Rattle.json_value.specs.declared.json.Json.TheVariants as j
 use Rattle.json_value.specs.Depth.{depth, greatest}
-use Rattle.geojson_types.specs.declared.geometry.Geometry.{Geometry, fold-Geometry}
-use Rattle.geojson_types.specs.declared.geometry.Geometry.TheOpen.{Geometry-F}
+use Rattle.geometry.specs.declared.shape.Geometry.{Geometry, fold-Geometry}
+use Rattle.geometry.specs.declared.shape.Geometry.TheOpen.{Geometry-F}
 use Rattle.geojson_types.specs.Features.{Featured}
 
 -- one level, with the depths of the shapes of a group in their place

@@ -1,9 +1,10 @@
 ghost use Rattle.std.specs.Prelude.{◌≡◌, true};
 ghost use Rattle.std.specs.Option.{option_copied};
 ghost use Rattle.geojson_types.specs.Features.{is_proper_option};
+ghost use Rattle.geojson_types.specs.Moving.{moved_feature};
 
-use crate::geometry::Shape;
 use crate::id::Id;
+use geometry::{Moves, Shape, move_shape};
 use json_value::{Items, Json, OwnText};
 use std::marker::Model;
 
@@ -65,6 +66,15 @@ impl Feature {
         ensures proper { is_proper_option self.now.shape ≡ true }
     {
         self.shape.as_ref()
+    }
+
+    /// Each position of its shape replaced.
+    pub fn move_positions<M: Moves>(&mut self, moves: &M)
+        ensures { self.new ≡ moved_feature (M.goes_to moves.now) self.old }
+    {
+        if let Some(shape) = self.shape.as_mut() {
+            move_shape(moves, shape);
+        }
     }
 
     /// Its parts, by value: identifier, properties and shape.

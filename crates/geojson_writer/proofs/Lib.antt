@@ -4,4 +4,3 @@ pub mod NumbersInside
 pub mod Objects
 pub mod Rows
 pub mod ShapeParts
-pub mod ShapePoints

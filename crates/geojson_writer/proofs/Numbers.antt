@@ -1,5 +1,5 @@
 -- The numbers of what is written are numbers.
-use Rattle.std.proofs.Common.{◌≡◌, ℕ, ℤ, ◌^◌, ◌≤◌, List, [], ◌∷◌, ◌++◌, map, Option, Some, None, refl, sym, subst, append_assoc, arith}
+use Rattle.std.proofs.Common.{◌≡◌, ℕ, ℤ, ◌^◌, ◌≤◌, List, [], ◌∷◌, ◌++◌, map, refl, sym, subst, append_assoc, arith}
 use Rattle.std.specs.Prelude.{codes, unsigned_abs}
 use Rattle.std.specs.List.{AllByRecursion}
 use Rattle.decimal_text.specs.Scaling.{units_text}
@@ -8,21 +8,20 @@ use Rattle.json_value.specs.declared.json.Json.{Json}
 use Rattle.json_value.specs.declared.json.Json.TheVariants as j
 use Rattle.json_value.specs.Numbers.{HasNumbers}
 use Rattle.json_value.proofs.NumbersOf.{numbers-number}
-use Rattle.json_value.proofs.SpelledNumbers.{all_joined}
-use Rattle.geojson_types.specs.declared.geometry.Geometry.TheVariants as g
+use Rattle.geometry.specs.declared.shape.Geometry.TheVariants as g
 use Rattle.geojson_types.specs.declared.layer.FeatureSet.{FeatureSet}
-use Rattle.geojson_types.specs.declared.layer.FeatureSet.TheVariants.{One, Many}
 use Rattle.geojson_types.specs.Features.{Shape, Featured}
-use Rattle.geojson_types.specs.Lists.{joined}
-use Rattle.geojson_types.specs.Places.{shape_points, option_points}
-use Rattle.geojson_types.specs.Points.{Point, IsPosition}
-use Rattle.geojson_types.proofs.Agreement.{all_left, all_right}
-use Rattle.geojson_types.proofs.Induction.{by_kinds}
-use Rattle.geojson_writer.specs.FeatureValues.{Member, coordinate_value, position_value, positions_value, lines_value, polygons_value, type_member, with_coordinates, shape_value, geometry_value, properties_value, id_members, feature_value, features_value}
+use Rattle.geometry.specs.Lists.{joined}
+use Rattle.geojson_types.specs.Places.{shape_points}
+use Rattle.geometry.specs.Points.{Point, IsPosition}
+use Rattle.geometry.proofs.Agreement.{all_left, all_right}
+use Rattle.geometry.proofs.Induction.{by_kinds}
+use Rattle.geometry.proofs.ByKind.{points_at}
+use Rattle.geojson_writer.specs.FeatureValues.{coordinate_value, position_value, positions_value, lines_value, polygons_value, type_member, with_coordinates, shape_value, feature_value, features_value}
 use Rattle.geojson_writer.specs.Numbered.{IsNumbered, features_of}
-use Rattle.geojson_writer.proofs.NumbersInside.{array-numbers, object-numbers, text-numbers, null-numbers, all_more, all_inside}
-use Rattle.geojson_writer.proofs.ShapeParts.{value-point, value-points, value-line, value-lines, value-area, value-areas, value-group}
-use Rattle.geojson_writer.proofs.ShapePoints.{points-point, points-points, points-line, points-lines, points-area, points-areas, points-group}
+use Rattle.geojson_writer.proofs.NumbersInside.{array-numbers, object-numbers, text-numbers, null-numbers, all_inside}
+use Rattle.geojson_writer.proofs.ShapeParts.{shape_value_at}
+use Rattle.list_laws.proofs.Elements.{all_append, all_weaker}
 
 -- ---- coordinates
 
@@ -36,10 +35,10 @@ abbrev All : List Point → Type 0
 All ps = AllByRecursion IsPosition ps
 
 positions-numbers : (ps : List Point) → All ps → HasNumbers (positions_value ps)
-positions-numbers ps h = array-numbers position_value ps (all_more IsPosition (λ p. HasNumbers (position_value p)) position-numbers ps h)
+positions-numbers ps h = array-numbers position_value ps (all_weaker IsPosition (λ p. HasNumbers (position_value p)) position-numbers ps h)
 
 lines-numbers : (ls : List (List Point)) → All (joined ls) → HasNumbers (lines_value ls)
-lines-numbers ls h = array-numbers positions_value ls (all_more All (λ ps. HasNumbers (positions_value ps)) positions-numbers ls (all_inside IsPosition ls h))
+lines-numbers ls h = array-numbers positions_value ls (all_weaker All (λ ps. HasNumbers (positions_value ps)) positions-numbers ls (all_inside IsPosition ls h))
 
 joined_twice : (rs : List (List Point)) (xs : List (List Point)) → joined (rs ++ xs) ≡ joined rs ++ joined xs
 joined_twice [] xs = refl
@@ -65,9 +64,9 @@ Numbered shape = All (shape_points shape) → HasNumbers (shape_value shape)
 
 group-numbers : (shapes : List Shape) → AllByRecursion Numbered shapes → Numbered (g.Group shapes)
 group-numbers shapes inner h =
-    rw (value-group shapes)
+    rw (shape_value_at.group shapes)
     (object-numbers (type_member (codes "GeometryCollection") ∷ ((codes "geometries", j.Array (map shape_value shapes)) ∷ []))
-    (text-numbers (codes "GeometryCollection"), (array-numbers shape_value shapes (each shapes inner (subst All (points-group shapes) h)), tt)))
+    (text-numbers (codes "GeometryCollection"), (array-numbers shape_value shapes (each shapes inner (subst All (points_at.group shapes) h)), tt)))
   where
     each : (xs : List Shape) → AllByRecursion Numbered xs → All (joined (map shape_points xs)) → AllByRecursion (λ s. HasNumbers (shape_value s)) xs
     each [] i k = tt
@@ -75,49 +74,32 @@ group-numbers shapes inner h =
         (i.0 (all_left IsPosition (shape_points x) (joined (map shape_points xs)) k), each xs i.1 (all_right IsPosition (shape_points x) (joined (map shape_points xs)) k))
 
 point-numbers-at : (p : Point) → Numbered (g.Point p)
-point-numbers-at p h = let k = subst All (points-point p) h in rw (value-point p) (coordinates-numbers (codes "Point") (position_value p) (position-numbers p k.0))
+point-numbers-at p h = let k = subst All (points_at.point p) h in rw (shape_value_at.point p) (coordinates-numbers (codes "Point") (position_value p) (position-numbers p k.0))
 
 points-numbers-at : (ps : List Point) → Numbered (g.MultiPoint ps)
-points-numbers-at ps h = let k = subst All (points-points ps) h in rw (value-points ps) (coordinates-numbers (codes "MultiPoint") (positions_value ps) (positions-numbers ps k))
+points-numbers-at ps h = let k = subst All (points_at.points ps) h in rw (shape_value_at.points ps) (coordinates-numbers (codes "MultiPoint") (positions_value ps) (positions-numbers ps k))
 
 line-numbers-at : (ps : List Point) → Numbered (g.Line ps)
-line-numbers-at ps h = let k = subst All (points-line ps) h in rw (value-line ps) (coordinates-numbers (codes "LineString") (positions_value ps) (positions-numbers ps k))
+line-numbers-at ps h = let k = subst All (points_at.line ps) h in rw (shape_value_at.line ps) (coordinates-numbers (codes "LineString") (positions_value ps) (positions-numbers ps k))
 
 lines-numbers-at : (ls : List (List Point)) → Numbered (g.Lines ls)
-lines-numbers-at ls h = let k = subst All (points-lines ls) h in rw (value-lines ls) (coordinates-numbers (codes "MultiLineString") (lines_value ls) (lines-numbers ls k))
+lines-numbers-at ls h = let k = subst All (points_at.lines ls) h in rw (shape_value_at.lines ls) (coordinates-numbers (codes "MultiLineString") (lines_value ls) (lines-numbers ls k))
 
 area-numbers-at : (rs : List (List Point)) → Numbered (g.Area rs)
-area-numbers-at rs h = let k = subst All (points-area rs) h in rw (value-area rs) (coordinates-numbers (codes "Polygon") (lines_value rs) (lines-numbers rs k))
+area-numbers-at rs h = let k = subst All (points_at.area rs) h in rw (shape_value_at.area rs) (coordinates-numbers (codes "Polygon") (lines_value rs) (lines-numbers rs k))
 
 areas-numbers-at : (areas : List (List (List Point))) → Numbered (g.Areas areas)
-areas-numbers-at areas h = let k = subst All (points-areas areas) h in rw (value-areas areas) (coordinates-numbers (codes "MultiPolygon") (polygons_value areas) (polygons-numbers areas k))
+areas-numbers-at areas h = let k = subst All (points_at.areas areas) h in rw (shape_value_at.areas areas) (coordinates-numbers (codes "MultiPolygon") (polygons_value areas) (polygons-numbers areas k))
 
 pub shape-numbers : (shape : Shape) → All (shape_points shape) → HasNumbers (shape_value shape)
-shape-numbers = by_kinds Numbered (record {
-  point = point-numbers-at;
-  points = points-numbers-at;
-  line = line-numbers-at;
-  lines = lines-numbers-at;
-  area = area-numbers-at;
-  areas = areas-numbers-at;
-  group = group-numbers;
-})
+shape-numbers =
+    grind (arith, point-numbers-at, points-numbers-at, line-numbers-at, lines-numbers-at, area-numbers-at, areas-numbers-at, group-numbers, by_kinds Numbered)
 
 -- ---- features
 
-geometry-numbers : (shape : Option Shape) → All (option_points shape) → HasNumbers (geometry_value shape)
-geometry-numbers None h = null-numbers
-geometry-numbers (Some shape) h = shape-numbers shape h
-
 feature-numbers : (f : Featured) → IsNumbered f → HasNumbers (feature_value f)
 unfolding feature_value
-feature-numbers f h =
-    let behind : List Member = (codes "properties", properties_value f.properties) ∷ ((codes "geometry", geometry_value f.shape) ∷ []) in
-    object-numbers (type_member (codes "Feature") ∷ (id_members f.id ++ behind))
-    (text-numbers (codes "Feature"), all_joined (λ m. HasNumbers m.1) (id_members f.id) behind h.id (h.properties, (geometry-numbers f.shape h.positions, tt)))
+feature-numbers f h = grind (arith, object-numbers, text-numbers, all_append, null-numbers, shape-numbers)
 
 pub features-numbers : (features : FeatureSet) → AllByRecursion IsNumbered (features_of features) → HasNumbers (features_value features)
-features-numbers (One f) h = feature-numbers f h.0
-features-numbers (Many fs) h =
-    object-numbers (type_member (codes "FeatureCollection") ∷ ((codes "features", j.Array (map feature_value fs)) ∷ []))
-    (text-numbers (codes "FeatureCollection"), (array-numbers feature_value fs (all_more IsNumbered (λ f. HasNumbers (feature_value f)) feature-numbers fs h), tt))
+features-numbers features h = grind (arith, feature-numbers, object-numbers, text-numbers, array-numbers, all_weaker)

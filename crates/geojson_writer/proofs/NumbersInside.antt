@@ -6,9 +6,9 @@ use Rattle.json_value.specs.declared.json.Json.{Json}
 use Rattle.json_value.specs.declared.json.Json.TheVariants as j
 use Rattle.json_value.specs.Numbers.{numbers_of, HasNumbers}
 use Rattle.json_value.proofs.NumbersOf.{numbers-null, numbers-text, numbers-array, numbers-object}
-use Rattle.json_value.proofs.SpelledNumbers.{all_joined}
-use Rattle.geojson_types.specs.Lists.{joined}
-use Rattle.geojson_types.proofs.Agreement.{all_left, all_right}
+use Rattle.geometry.specs.Lists.{joined}
+use Rattle.geometry.proofs.Agreement.{all_left, all_right}
+use Rattle.list_laws.proofs.Elements.{all_append}
 
 -- ---- arrays and objects
 
@@ -18,7 +18,7 @@ array-numbers {A} value_of items h = rw (numbers-array (map value_of items)) (ea
   where
     each : (xs : List A) → AllByRecursion (λ item. HasNumbers (value_of item)) xs → AllByRecursion IsNumber (flat_map numbers_of (map value_of xs))
     each [] k = tt
-    each (x ∷ xs) k = all_joined IsNumber (numbers_of (value_of x)) (flat_map numbers_of (map value_of xs)) k.0 (each xs k.1)
+    each (x ∷ xs) k = all_append IsNumber (numbers_of (value_of x)) (flat_map numbers_of (map value_of xs)) k.0 (each xs k.1)
 
 -- an object of these members
 pub object-numbers : (ms : List (List ℕ × Json)) → AllByRecursion (λ m. HasNumbers m.1) ms → HasNumbers (j.Object ms)
@@ -26,7 +26,7 @@ object-numbers ms h = rw (numbers-object ms) (each ms h)
   where
     each : (xs : List (List ℕ × Json)) → AllByRecursion (λ m. HasNumbers m.1) xs → AllByRecursion IsNumber (flat_map (λ m. numbers_of m.1) xs)
     each [] k = tt
-    each (x ∷ xs) k = all_joined IsNumber (numbers_of x.1) (flat_map (λ m. numbers_of m.1) xs) k.0 (each xs k.1)
+    each (x ∷ xs) k = all_append IsNumber (numbers_of x.1) (flat_map (λ m. numbers_of m.1) xs) k.0 (each xs k.1)
 
 pub text-numbers : (text : List ℕ) → HasNumbers (j.Text text)
 text-numbers text = rw (numbers-text text) tt
@@ -35,10 +35,6 @@ pub null-numbers : HasNumbers j.Null
 null-numbers = rw numbers-null tt
 
 -- ---- what holds of all, one by one
-
-pub all_more : {A : Type 0} (P Q : A → Type 0) → ((x : A) → P x → Q x) → (xs : List A) → AllByRecursion P xs → AllByRecursion Q xs
-all_more P Q f [] h = tt
-all_more P Q f (x ∷ xs) h = (f x h.0, all_more P Q f xs h.1)
 
 pub all_inside : {A : Type 0} (P : A → Type 0) (xss : List (List A)) → AllByRecursion P (joined xss) → AllByRecursion (λ xs. AllByRecursion P xs) xss
 all_inside P [] h = tt

@@ -6,13 +6,13 @@ use Rattle.decimal_text.specs.Scaling.{units_text}
 use Rattle.json_value.specs.declared.json.Json.TheVariants as j
 use Rattle.json_value.specs.Text.{json_text, escaped_byte}
 use Rattle.json_value.proofs.Texts.{texts}
-use Rattle.geojson_types.specs.declared.geometry.Geometry.TheVariants as g
+use Rattle.geometry.specs.declared.shape.Geometry.TheVariants as g
 use Rattle.geojson_types.specs.declared.id.Id.TheVariants as id
 use Rattle.geojson_types.specs.declared.layer.FeatureSet.{FeatureSet}
 use Rattle.geojson_types.specs.declared.layer.FeatureSet.TheVariants.{One, Many}
-use Rattle.geojson_types.specs.Points.{Point}
+use Rattle.geometry.specs.Points.{Point}
 use Rattle.geojson_writer.specs.FeatureValues.{feature_value, features_value}
-use Rattle.geojson_writer.proofs.ShapeParts.{value-point, value-line, value-group}
+use Rattle.geojson_writer.proofs.ShapeParts.{shape_value_at}
 
 -- ---- a FeatureCollection of one LineString
 
@@ -28,7 +28,7 @@ one_line = Many (record { id = None; properties = None; shape = Some (g.Line (co
 line_row : json_text (features_value one_line)
     ≡ codes "{\"type\":\"FeatureCollection\",\"features\":[{\"type\":\"Feature\",\"properties\":null,\"geometry\":{\"type\":\"LineString\",\"coordinates\":[[0,0],[1.5,0.25]]}}]}"
 unfolding feature_value units_text escaped_byte digits
-line_row = simp (value-line, texts) refl
+line_row = simp (shape_value_at.line, texts) refl
 
 -- ---- a Feature with an identifier, properties with a doubled name and a collection of a Point and of nothing
 
@@ -42,4 +42,4 @@ one_feature = One (record {
 feature_row : json_text (features_value one_feature)
     ≡ codes "{\"type\":\"Feature\",\"id\":7.0,\"properties\":{\"k\":1.50,\"k\":null},\"geometry\":{\"type\":\"GeometryCollection\",\"geometries\":[{\"type\":\"Point\",\"coordinates\":[-0.5,0.0000001]},{\"type\":\"GeometryCollection\",\"geometries\":[]}]}}"
 unfolding feature_value units_text escaped_byte digits
-feature_row = simp (value-group, value-point, texts) refl
+feature_row = simp (shape_value_at.group, shape_value_at.point, texts) refl

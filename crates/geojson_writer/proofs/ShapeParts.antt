@@ -1,51 +1,23 @@
 -- Geometries by their kinds: their values, and their texts in three parts.
-use Rattle.std.proofs.Common.{◌≡◌, ℕ, List, ◌++◌, map, refl, sym, ap, ◌∙◌}
+use Rattle.std.proofs.Common.{◌≡◌, ℕ, List, ◌++◌, map, refl, ap}
 use Rattle.std.specs.Prelude.{codes}
 use Rattle.json_value.specs.declared.json.Json.{Json}
 use Rattle.json_value.specs.declared.json.Json.TheVariants as j
 use Rattle.json_value.specs.Text.{json_text, quoted, escaped_byte}
-use Rattle.geojson_types.specs.declared.geometry.Geometry.{fold-Geometry, fold-roll-Geometry}
-use Rattle.geojson_types.specs.declared.geometry.Geometry.TheOpen.{Geometry-F}
-use Rattle.geojson_types.specs.declared.geometry.Geometry.TheVariants as g
+use Rattle.geometry.specs.declared.shape.Geometry.TheVariants as g
 use Rattle.geojson_types.specs.Features.{Shape}
-use Rattle.geojson_types.specs.Points.{Point}
-use Rattle.geojson_types.proofs.Induction.{by_kinds}
+use Rattle.geometry.specs.Points.{Point}
+use Rattle.geometry.proofs.Induction.{by_kinds}
+use Rattle.geometry.proofs.ByKind.{AtKinds, at_kinds}
 use Rattle.geojson_writer.specs.FeatureTexts.{head_in, head_text, contents_in, contents_value}
-use Rattle.geojson_writer.specs.FeatureValues.{position_value, positions_value, lines_value, polygons_value, with_coordinates, geometry_collection, shape_step, shape_value}
+use Rattle.geojson_writer.specs.FeatureValues.{position_value, positions_value, lines_value, polygons_value, shape_step, shape_value}
 use Rattle.geojson_writer.proofs.Objects.{object-of_two}
 
 -- ---- the value of each kind
 
-abbrev values : Shape → Json
-values = fold-Geometry Point (List Point) (List Point) Json shape_step
-
-pub value-point : (p : Point) → shape_value (g.Point p) ≡ with_coordinates (codes "Point") (position_value p)
+pub shape_value_at : AtKinds shape_value shape_step
 unfolding shape_value
-value-point p = ap values (sym (g.rolls-Point p)) ∙ fold-roll-Geometry Point (List Point) (List Point) Json shape_step (Geometry-F.Point p)
-
-pub value-points : (ps : List Point) → shape_value (g.MultiPoint ps) ≡ with_coordinates (codes "MultiPoint") (positions_value ps)
-unfolding shape_value
-value-points ps = ap values (sym (g.rolls-MultiPoint ps)) ∙ fold-roll-Geometry Point (List Point) (List Point) Json shape_step (Geometry-F.MultiPoint ps)
-
-pub value-line : (ps : List Point) → shape_value (g.Line ps) ≡ with_coordinates (codes "LineString") (positions_value ps)
-unfolding shape_value
-value-line ps = ap values (sym (g.rolls-Line ps)) ∙ fold-roll-Geometry Point (List Point) (List Point) Json shape_step (Geometry-F.Line ps)
-
-pub value-lines : (ls : List (List Point)) → shape_value (g.Lines ls) ≡ with_coordinates (codes "MultiLineString") (lines_value ls)
-unfolding shape_value
-value-lines ls = ap values (sym (g.rolls-Lines ls)) ∙ fold-roll-Geometry Point (List Point) (List Point) Json shape_step (Geometry-F.Lines ls)
-
-pub value-area : (rs : List (List Point)) → shape_value (g.Area rs) ≡ with_coordinates (codes "Polygon") (lines_value rs)
-unfolding shape_value
-value-area rs = ap values (sym (g.rolls-Area rs)) ∙ fold-roll-Geometry Point (List Point) (List Point) Json shape_step (Geometry-F.Area rs)
-
-pub value-areas : (areas : List (List (List Point))) → shape_value (g.Areas areas) ≡ with_coordinates (codes "MultiPolygon") (polygons_value areas)
-unfolding shape_value
-value-areas areas = ap values (sym (g.rolls-Areas areas)) ∙ fold-roll-Geometry Point (List Point) (List Point) Json shape_step (Geometry-F.Areas areas)
-
-pub value-group : (shapes : List Shape) → shape_value (g.Group shapes) ≡ geometry_collection (map shape_value shapes)
-unfolding shape_value
-value-group shapes = ap values (sym (g.rolls-Group shapes)) ∙ fold-roll-Geometry Point (List Point) (List Point) Json shape_step (Geometry-F.Group shapes)
+shape_value_at = at_kinds shape_step
 
 -- ---- what stands in front of the coordinates or the geometries
 
@@ -158,25 +130,25 @@ in_parts : (shape : Shape) (head : List ℕ) (value contents : Json) → shape_v
 in_parts shape head value contents e f h text = rw (e, f, h) text
 
 point-in_parts : (p : Point) → InParts (g.Point p)
-point-in_parts p = in_parts _ _ _ _ (value-point p) (head-point p) (contents-point p) (object-of_two (codes "Point") (codes "\"Point\"") (codes "coordinates") (codes "\"coordinates\"") (position_value p) quoted-Point quoted-coordinates)
+point-in_parts p = in_parts _ _ _ _ (shape_value_at.point p) (head-point p) (contents-point p) (object-of_two (codes "Point") (codes "\"Point\"") (codes "coordinates") (codes "\"coordinates\"") (position_value p) quoted-Point quoted-coordinates)
 
 points-in_parts : (ps : List Point) → InParts (g.MultiPoint ps)
-points-in_parts ps = in_parts _ _ _ _ (value-points ps) (head-points ps) (contents-points ps) (object-of_two (codes "MultiPoint") (codes "\"MultiPoint\"") (codes "coordinates") (codes "\"coordinates\"") (positions_value ps) quoted-MultiPoint quoted-coordinates)
+points-in_parts ps = in_parts _ _ _ _ (shape_value_at.points ps) (head-points ps) (contents-points ps) (object-of_two (codes "MultiPoint") (codes "\"MultiPoint\"") (codes "coordinates") (codes "\"coordinates\"") (positions_value ps) quoted-MultiPoint quoted-coordinates)
 
 line-in_parts : (ps : List Point) → InParts (g.Line ps)
-line-in_parts ps = in_parts _ _ _ _ (value-line ps) (head-line ps) (contents-line ps) (object-of_two (codes "LineString") (codes "\"LineString\"") (codes "coordinates") (codes "\"coordinates\"") (positions_value ps) quoted-LineString quoted-coordinates)
+line-in_parts ps = in_parts _ _ _ _ (shape_value_at.line ps) (head-line ps) (contents-line ps) (object-of_two (codes "LineString") (codes "\"LineString\"") (codes "coordinates") (codes "\"coordinates\"") (positions_value ps) quoted-LineString quoted-coordinates)
 
 lines-in_parts : (ls : List (List Point)) → InParts (g.Lines ls)
-lines-in_parts ls = in_parts _ _ _ _ (value-lines ls) (head-lines ls) (contents-lines ls) (object-of_two (codes "MultiLineString") (codes "\"MultiLineString\"") (codes "coordinates") (codes "\"coordinates\"") (lines_value ls) quoted-MultiLineString quoted-coordinates)
+lines-in_parts ls = in_parts _ _ _ _ (shape_value_at.lines ls) (head-lines ls) (contents-lines ls) (object-of_two (codes "MultiLineString") (codes "\"MultiLineString\"") (codes "coordinates") (codes "\"coordinates\"") (lines_value ls) quoted-MultiLineString quoted-coordinates)
 
 area-in_parts : (rs : List (List Point)) → InParts (g.Area rs)
-area-in_parts rs = in_parts _ _ _ _ (value-area rs) (head-area rs) (contents-area rs) (object-of_two (codes "Polygon") (codes "\"Polygon\"") (codes "coordinates") (codes "\"coordinates\"") (lines_value rs) quoted-Polygon quoted-coordinates)
+area-in_parts rs = in_parts _ _ _ _ (shape_value_at.area rs) (head-area rs) (contents-area rs) (object-of_two (codes "Polygon") (codes "\"Polygon\"") (codes "coordinates") (codes "\"coordinates\"") (lines_value rs) quoted-Polygon quoted-coordinates)
 
 areas-in_parts : (areas : List (List (List Point))) → InParts (g.Areas areas)
-areas-in_parts areas = in_parts _ _ _ _ (value-areas areas) (head-areas areas) (contents-areas areas) (object-of_two (codes "MultiPolygon") (codes "\"MultiPolygon\"") (codes "coordinates") (codes "\"coordinates\"") (polygons_value areas) quoted-MultiPolygon quoted-coordinates)
+areas-in_parts areas = in_parts _ _ _ _ (shape_value_at.areas areas) (head-areas areas) (contents-areas areas) (object-of_two (codes "MultiPolygon") (codes "\"MultiPolygon\"") (codes "coordinates") (codes "\"coordinates\"") (polygons_value areas) quoted-MultiPolygon quoted-coordinates)
 
 group-in_parts : (shapes : List Shape) → InParts (g.Group shapes)
-group-in_parts shapes = in_parts _ _ _ _ (value-group shapes) (head-group shapes) (contents-group shapes) (object-of_two (codes "GeometryCollection") (codes "\"GeometryCollection\"") (codes "geometries") (codes "\"geometries\"") (j.Array (map shape_value shapes)) quoted-GeometryCollection quoted-geometries)
+group-in_parts shapes = in_parts _ _ _ _ (shape_value_at.group shapes) (head-group shapes) (contents-group shapes) (object-of_two (codes "GeometryCollection") (codes "\"GeometryCollection\"") (codes "geometries") (codes "\"geometries\"") (j.Array (map shape_value shapes)) quoted-GeometryCollection quoted-geometries)
 
 pub shape-text : (shape : Shape) → json_text (shape_value shape) ≡ head_text shape ++ (json_text (contents_value shape) ++ codes "}")
 shape-text = by_kinds InParts (record {

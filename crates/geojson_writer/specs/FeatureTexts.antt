@@ -3,11 +3,11 @@ use Rattle.std.specs.Prelude.{ℕ, List, [], ◌++◌, map, codes, Option, Some,
 use Rattle.json_value.specs.declared.json.Json.{Json}
 use Rattle.json_value.specs.declared.json.Json.TheVariants as j
 use Rattle.json_value.specs.Text.{json_text}
-use Rattle.geojson_types.specs.declared.geometry.Geometry.TheOpen.{Geometry-F}
-use Rattle.geojson_types.specs.declared.geometry.Geometry.TheViews.{out-Geometry}
+use Rattle.geometry.specs.declared.shape.Geometry.TheOpen.{Geometry-F}
+use Rattle.geometry.specs.declared.shape.Geometry.TheViews.{out-Geometry}
 use Rattle.geojson_types.specs.declared.id.Id.{Id}
 use Rattle.geojson_types.specs.Features.{Shape}
-use Rattle.geojson_types.specs.Points.{Point}
+use Rattle.geometry.specs.Points.{Point}
 use Rattle.geojson_writer.specs.FeatureValues.{position_value, positions_value, lines_value, polygons_value, shape_value, id_value}
 
 -- up to the coordinates or the geometries, on one level of a geometry

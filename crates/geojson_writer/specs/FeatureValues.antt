@@ -3,14 +3,14 @@ use Rattle.std.specs.Prelude.{ℕ, ℤ, List, [], ◌∷◌, ◌++◌, map, code
 use Rattle.decimal_text.specs.Scaling.{units_text}
 use Rattle.json_value.specs.declared.json.Json.{Json}
 use Rattle.json_value.specs.declared.json.Json.TheVariants as j
-use Rattle.geojson_types.specs.declared.geometry.Geometry.{fold-Geometry}
-use Rattle.geojson_types.specs.declared.geometry.Geometry.TheOpen.{Geometry-F}
+use Rattle.geometry.specs.declared.shape.Geometry.{fold-Geometry}
+use Rattle.geometry.specs.declared.shape.Geometry.TheOpen.{Geometry-F}
 use Rattle.geojson_types.specs.declared.id.Id.{Id}
 use Rattle.geojson_types.specs.declared.id.Id.TheVariants.{Text, Number}
 use Rattle.geojson_types.specs.declared.layer.FeatureSet.{FeatureSet}
 use Rattle.geojson_types.specs.declared.layer.FeatureSet.TheVariants.{One, Many}
 use Rattle.geojson_types.specs.Features.{Shape, Featured}
-use Rattle.geojson_types.specs.Points.{Point}
+use Rattle.geometry.specs.Points.{Point, unit_places}
 
 -- a member of an object: its name and its value
 abbrev pub Member : Type 0
@@ -18,9 +18,9 @@ Member = List ℕ × Json
 
 -- ---- section 3.1: geometries
 
--- a coordinate, by the least decimal of its units of 10^-7
+-- a coordinate, by the least decimal of its units
 abbrev pub coordinate_value : ℤ → Json
-coordinate_value units = j.Number (units_text units 7)
+coordinate_value units = j.Number (units_text units unit_places)
 
 -- a position, x (longitude) first (section 3.1.1)
 abbrev pub position_value : Point → Json

@@ -6,7 +6,7 @@ use Rattle.geojson_types.specs.declared.layer.FeatureSet.{FeatureSet}
 use Rattle.geojson_types.specs.declared.layer.FeatureSet.TheVariants.{One, Many}
 use Rattle.geojson_types.specs.Features.{Featured}
 use Rattle.geojson_types.specs.Places.{option_points}
-use Rattle.geojson_types.specs.Points.{IsPosition}
+use Rattle.geometry.specs.Points.{IsPosition}
 use Rattle.geojson_writer.specs.FeatureValues.{Member, id_members, properties_value}
 
 -- the numbers of each member's value are numbers

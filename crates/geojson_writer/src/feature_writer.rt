@@ -8,7 +8,7 @@ ghost use Rattle.geojson_writer.specs.FeatureValues.{id_value, properties_value,
 use crate::shape_writer::put_shape;
 use byte_ends::{Drain, Progress, Sink, WriteFault, put_part};
 use geojson_types::{Feature, FeatureSet, Id};
-use json_value::{PutValue, put_array, put_members, put_text};
+use json_writer::{PutValue, put_array, put_members, put_text};
 
 /// Writes an identifier: a text, or a number by its text.
 #[tactic(auto, using(crate::proofs::Objects::leaves))]

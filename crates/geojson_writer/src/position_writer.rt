@@ -4,11 +4,8 @@ ghost use Rattle.json_value.specs.Text.{json_text};
 ghost use Rattle.geojson_writer.specs.FeatureValues.{position_value, positions_value};
 
 use byte_ends::{Drain, Progress, Sink};
-use geojson_types::{Position, Ring};
-use json_value::{PutValue, put_array, put_pair};
-
-/// Decimal places of a coordinate.
-const PLACES: u32 = 7;
+use geojson_types::{PLACES, Position, Ring};
+use json_writer::{PutValue, put_array, put_pair};
 
 /// Writes a position, x first.
 pub fn put_position<W: Drain>(position: Position, so_far: Progress, sink: &mut Sink<W>) -> Progress

@@ -9,7 +9,8 @@ ghost use Rattle.geojson_writer.specs.FeatureValues.{shape_value};
 use crate::position_writer::{Positions, Rings, put_position};
 use byte_ends::{Drain, Progress, Sink, put_comma, put_part};
 use geojson_types::{Geometry, Position, Ring, Shape};
-use json_value::{ArrayOf, Items, put_array};
+use json_value::Items;
+use json_writer::{ArrayOf, put_array};
 
 /// Writes what stands in front of the coordinates or the geometries: the type, and the member's name.
 fn put_head<W: Drain>(shape: &Shape, so_far: Progress, sink: &mut Sink<W>) -> Progress

@@ -5,7 +5,8 @@ use Rattle.std.proofs.lemmas.Slice.Eq.{bytes_eq-Decides}
 use Rattle.json_members.specs.declared.fault.LookupFault.TheVariants.{Duplicate}
 use Rattle.json_members.specs.Members.{named, only, find}
 use Rattle.json_members.specs.Places.{StandsAt, IsPlace}
-use Rattle.json_members.proofs.Turns.{drop_end, drop_here}
+use Rattle.json_members.proofs.Turns.{drop_end}
+use Rattle.list_laws.proofs.Lists.{drop_here}
 
 not_true : (b : Bool) → not b ≡ true → b ≡ false
 not_true true h = cc
@@ -58,10 +59,6 @@ same_place : {A : Type 0} (xs : List A) (i : ℕ) (a b : A) → i < length xs �
 same_place [] i a b lt p q = absurd (omega arith)
 same_place (x ∷ xs) zero a b lt p q = p ∙ sym q
 same_place (x ∷ xs) (suc i) a b lt p q = same_place xs i a b (omega arith) p q
-
--- the member at the place is the one that is found
-pub found_there : {V : Type 0} (name : List ℕ) (ms : List (List ℕ × V)) (i : ℕ) (m : List ℕ × V) → m ≡ get_or ms i m → IsPlace name ms (Ok (Some i)) → find name ms ≡ Ok (Some m.1)
-found_there name ms i m is p = p.1.1 ∙ ap (λ z. Ok (Some z.1)) (same_place ms i p.0 m p.1.0.0 p.1.0.1.0 is)
 
 another : (m name other : List ℕ) → bytes_eq m name ≡ true → bytes_eq other name ≡ false → bytes_eq m other ≡ false
 another m name other e d = on (bytes_eq m other) refl

@@ -1,15 +1,17 @@
 -- The turns of a loop that reads one value after another: what is still to read, put behind what was read, is
 -- what the whole list gives.
-use Rattle.std.proofs.Common.{◌≡◌, ℕ, zero, suc, ◌+◌, ◌<◌, ◌≤◌, List, [], ◌∷◌, ◌++◌, length, get_or, drop, Option, None, Result, Ok, Err, refl, sym, ap, ◌∙◌, subst, add-one, append_assoc, arith, drop-cons, append-nil}
+use Rattle.std.proofs.Common.{◌≡◌, ℕ, zero, suc, ◌+◌, ◌<◌, ◌≤◌, List, [], ◌∷◌, ◌++◌, length, get_or, drop, Option, None, Result, Ok, Err, refl, sym, ap, ◌∙◌, subst, append_assoc, arith, append-nil}
 use Rattle.std.specs.Prelude.{option_to_list}
 use Rattle.json_members.specs.Readers.{Counting, and_then, ◌>>=◌, give, gather, each, kept}
+pub use Rattle.list_laws.proofs.Lists.{drop_here}
 
 -- what is read, behind these
 abbrev pub with_front : {C E B : Type 0} → List B → Result (List B × C) E → Result (List B × C) E
 with_front front (Ok x) = Ok (front ++ x.0, x.1)
 with_front front (Err e) = Err e
 
-front_twice : {C E B : Type 0} (ys x : List B) (r : Result (List B × C) E) → with_front ys (and_then (λ xs. give (x ++ xs)) r) ≡ with_front (ys ++ x) r
+-- what was read, and then more of it
+pub front_twice : {C E B : Type 0} (ys x : List B) (r : Result (List B × C) E) → with_front ys (and_then (λ xs. give (x ++ xs)) r) ≡ with_front (ys ++ x) r
 front_twice ys x (Ok r) = ap (λ z. Ok (z, r.1)) (sym (append_assoc ys x r.0))
 front_twice ys x (Err e) = refl
 
@@ -19,10 +21,6 @@ drop_end zero [] le = refl
 drop_end (suc i) [] le = refl
 drop_end zero (v ∷ vs) le = absurd (omega arith)
 drop_end (suc i) (v ∷ vs) le = drop_end i vs (omega arith)
-
--- what is left is the element here and what is left behind it
-pub drop_here : {A : Type 0} (vs : List A) (i : ℕ) (v : A) → i < length vs → v ≡ get_or vs i v → drop i vs ≡ v ∷ drop (i + 1) vs
-drop_here vs i v lt is = rw add-one (drop-cons vs i v lt ∙ ap (λ z. z ∷ drop (suc i) vs) (sym is))
 
 module _ {C E A B : Type 0} (read : A → Counting C E (List B)) (left : List A) (v : A) (rest : List A) (ys : List B) (c : C) (whole : Result (List B × C) E)
     (here : left ≡ v ∷ rest) (now : with_front ys (gather read left c) ≡ whole) where

@@ -3,6 +3,7 @@ use Rattle.std.proofs.Common.{◌≡◌, Bool, true, false, cond, List, [], ◌�
 use Rattle.std.specs.Prelude.{option_to_list}
 use Rattle.std.specs.List.{AllByRecursion}
 use Rattle.json_members.specs.Readers.{Counting, and_then, ◌>>=◌, give, fail, pure, or_fail, gather, each, kept, if_some}
+use Rattle.list_laws.proofs.Elements.{all_append}
 
 -- whatever the reader gives is a P
 abbrev pub Yields : {C E A : Type 0} → (A → Type 0) → Counting C E A → Type 0
@@ -14,14 +15,6 @@ IfThere P None = Unit {0}
 IfThere P (Some x) = P x
 
 -- ---- lists
-
-pub all_append : {A : Type 0} (P : A → Type 0) (xs ys : List A) → AllByRecursion P xs → AllByRecursion P ys → AllByRecursion P (xs ++ ys)
-all_append P [] ys h k = k
-all_append P (x ∷ xs) ys h k = (h.0, all_append P xs ys h.1 k)
-
-pub all_weaker : {A : Type 0} (P Q : A → Type 0) → ((x : A) → P x → Q x) → (xs : List A) → AllByRecursion P xs → AllByRecursion Q xs
-all_weaker P Q f [] h = tt
-all_weaker P Q f (x ∷ xs) h = (f x h.0, all_weaker P Q f xs h.1)
 
 pub all_trivial : {A : Type 0} (xs : List A) → AllByRecursion (λ x. Unit {0}) xs
 all_trivial [] = tt

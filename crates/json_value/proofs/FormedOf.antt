@@ -8,8 +8,8 @@ use Rattle.json_value.specs.declared.json.Json.TheVariants as j
 use Rattle.json_value.specs.Numbers.{numbers_of}
 use Rattle.json_value.specs.WellFormed.{texts_of, IsWellFormed, IsWellFormedMember}
 use Rattle.json_value.proofs.NumbersOf.{numbers-null, numbers-bool, numbers-number, numbers-text, numbers-array, numbers-object}
-use Rattle.json_value.proofs.SpelledNumbers.{all_joined}
 use Rattle.json_value.proofs.TextsOf.{texts-null, texts-bool, texts-number, texts-text, texts-array, texts-object}
+use Rattle.list_laws.proofs.Elements.{all_append}
 
 by_suc : {A : Type 0} (P : A → Type 0) (xs : List A) (i : ℕ) (x : A) → i < length xs → x ≡ get_or xs i x → AllByRecursion P (take i xs) → P x → AllByRecursion P (take (suc i) xs)
 by_suc P [] i x lt is h p = absurd (omega arith)
@@ -34,26 +34,22 @@ text_formed v t e h = subst IsWellFormed (sym e) (record { numbers = rw (numbers
 
 elements_numbers : (vs : List Json) → AllByRecursion IsWellFormed vs → AllByRecursion IsNumber (flat_map numbers_of vs)
 elements_numbers [] h = tt
-elements_numbers (v ∷ vs) h = all_joined IsNumber (numbers_of v) (flat_map numbers_of vs) (h.0).numbers (elements_numbers vs h.1)
+elements_numbers (v ∷ vs) h = all_append IsNumber (numbers_of v) (flat_map numbers_of vs) (h.0).numbers (elements_numbers vs h.1)
 
 elements_texts : (vs : List Json) → AllByRecursion IsWellFormed vs → AllByRecursion IsUtf8 (flat_map texts_of vs)
 elements_texts [] h = tt
-elements_texts (v ∷ vs) h = all_joined IsUtf8 (texts_of v) (flat_map texts_of vs) (h.0).texts (elements_texts vs h.1)
+elements_texts (v ∷ vs) h = all_append IsUtf8 (texts_of v) (flat_map texts_of vs) (h.0).texts (elements_texts vs h.1)
 
 pub array_formed : (v : Json) (vs items : List Json) → v ≡ j.Array vs → items ≡ vs → AllByRecursion IsWellFormed items → IsWellFormed v
-array_formed v vs items e same k =
-    let h : AllByRecursion IsWellFormed vs = subst (λ z. AllByRecursion IsWellFormed z) same k in
-    subst IsWellFormed (sym e) (record { numbers = rw (numbers-array vs) (elements_numbers vs h); texts = rw (texts-array vs) (elements_texts vs h) })
+array_formed v vs items e same k = grind (arith, numbers-array, elements_numbers, texts-array, elements_texts)
 
 members_numbers : (ms : List (List ℕ × Json)) → AllByRecursion IsWellFormedMember ms → AllByRecursion IsNumber (flat_map (λ m. numbers_of m.1) ms)
 members_numbers [] h = tt
-members_numbers (m ∷ ms) h = let one = h.0 in all_joined IsNumber (numbers_of m.1) (flat_map (λ m. numbers_of m.1) ms) (one.1).numbers (members_numbers ms h.1)
+members_numbers (m ∷ ms) h = let one = h.0 in all_append IsNumber (numbers_of m.1) (flat_map (λ m. numbers_of m.1) ms) (one.1).numbers (members_numbers ms h.1)
 
 members_texts : (ms : List (List ℕ × Json)) → AllByRecursion IsWellFormedMember ms → AllByRecursion IsUtf8 (flat_map (λ m. m.0 ∷ texts_of m.1) ms)
 members_texts [] h = tt
-members_texts (m ∷ ms) h = let one = h.0 in all_joined IsUtf8 (m.0 ∷ texts_of m.1) (flat_map (λ m. m.0 ∷ texts_of m.1) ms) (one.0, (one.1).texts) (members_texts ms h.1)
+members_texts (m ∷ ms) h = let one = h.0 in all_append IsUtf8 (m.0 ∷ texts_of m.1) (flat_map (λ m. m.0 ∷ texts_of m.1) ms) (one.0, (one.1).texts) (members_texts ms h.1)
 
 pub object_formed : (v : Json) (ms items : List (List ℕ × Json)) → v ≡ j.Object ms → items ≡ ms → AllByRecursion IsWellFormedMember items → IsWellFormed v
-object_formed v ms items e same k =
-    let h : AllByRecursion IsWellFormedMember ms = subst (λ z. AllByRecursion IsWellFormedMember z) same k in
-    subst IsWellFormed (sym e) (record { numbers = rw (numbers-object ms) (members_numbers ms h); texts = rw (texts-object ms) (members_texts ms h) })
+object_formed v ms items e same k = grind (arith, numbers-object, members_numbers, texts-object, members_texts)

@@ -112,18 +112,6 @@ pub text_of-object : (ms : List (List ℕ × Json)) → text_of (j.Object ms) �
 unfolding text_of
 text_of-object ms = ap text_in (j.outs-Object ms)
 
-text_is : (x : Json-F Json) (t : List ℕ) → text_in x ≡ Some t → roll-Json x ≡ j.Text t
-text_is Json-F.Null t e = cc
-text_is (Json-F.Bool b1) t e = cc
-text_is (Json-F.Number t1) t e = cc
-text_is (Json-F.Text t1) t e = j.rolls-Text t1 ∙ ap j.Text cc
-text_is (Json-F.Array vs1) t e = cc
-text_is (Json-F.Object ms1) t e = cc
-
-pub text_of_is : (v : Json) (t : List ℕ) → text_of v ≡ Some t → v ≡ j.Text t
-unfolding text_of
-text_of_is v t e = sym (roll-out-Json v) ∙ text_is (out-Json v) t e
-
 pub ruleset text_kinds = (text_of-null, text_of-bool, text_of-number, text_of-text, text_of-array, text_of-object)
 
 -- ---- a number

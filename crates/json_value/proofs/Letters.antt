@@ -1,16 +1,8 @@
 -- The letters behind a reverse solidus, and tests that chose.
-use Rattle.std.proofs.Common.{◌≡◌, ℕ, ◌<◌, Bool, true, false, cond, eqb, ◌⊎◌, inl, inr, Some, refl, sym, subst, arith}
-use Rattle.std.specs.Prelude.{◌&&◌}
+use Rattle.std.proofs.Common.{◌≡◌, ℕ, ◌<◌, true, false, eqb, inl, inr, Some, refl, sym, subst, arith}
 use Rattle.std.proofs.lemmas.Bool.{eqb-true}
 use Rattle.json_value.specs.Grammar.{unescape}
-
-pub chosen : {A : Type 0} (b : Bool) (x y z : A) → cond b x y ≡ z → ((b ≡ true) × (x ≡ z)) ⊎ ((b ≡ false) × (y ≡ z))
-chosen true x y z e = inl (refl, e)
-chosen false x y z e = inr (refl, e)
-
-pub both : (a b : Bool) → (a && b) ≡ true → (a ≡ true) × (b ≡ true)
-both true b h = (refl, h)
-both false b h = cc
+use Rattle.list_laws.proofs.Tests.{chosen}
 
 letter : (R : ℕ → ℕ → Type 0) (p q e c : ℕ) → R p q → eqb e p ≡ true → Some q ≡ Some c → R e c
 letter R p q e c r s t = let same : q ≡ c = cc in subst (λ z. R e z) same (subst (λ z. R z q) (sym (eqb-true e p s)) r)

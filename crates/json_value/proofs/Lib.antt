@@ -4,7 +4,6 @@ mod Examples
 pub mod FormedOf
 pub mod KindsOf
 pub mod Letters
-pub mod Lists
 pub mod Nesting
 pub mod NumbersOf
 pub mod Runs

@@ -63,12 +63,6 @@ mutual
 pub deeper : {d : ℕ} {t : List ℕ} {v : Json} → Spells d t v → (e : ℕ) → d ≤ e → Spells e t v
 deeper s e h = let le = no_deeper s in as_deep s e (omega arith)
 
-pub elements_deeper : {d : ℕ} {t : List ℕ} {vs : List Json} → SpellsElements d t vs → (e : ℕ) → d ≤ e → SpellsElements e t vs
-elements_deeper s e h = let le = elements_no_deeper s in elements_as_deep s e (omega arith)
-
-pub members_deeper : {d : ℕ} {t : List ℕ} {ms : List (List ℕ × Json)} → SpellsMembers d t ms → (e : ℕ) → d ≤ e → SpellsMembers e t ms
-members_deeper s e h = let le = members_no_deeper s in members_as_deep s e (omega arith)
-
 -- the same of a whole text
 text_no_deeper : {d : ℕ} {b : List ℕ} {v : Json} → SpellsText d b v → depth v ≤ d
 text_no_deeper r = no_deeper r.4

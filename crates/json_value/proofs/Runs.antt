@@ -1,5 +1,5 @@
 -- The escaped bytes of a text, run by run.
-use Rattle.std.proofs.Common.{◌≡◌, ℕ, ◌⊎◌, true, false, inl, inr, List, [], ◌∷◌, ◌++◌, take, drop, one-add, refl, ap, ◌∙◌, append_assoc, arith}
+use Rattle.std.proofs.Common.{◌≡◌, ℕ, ◌⊎◌, true, false, inl, inr, List, [], ◌∷◌, ◌++◌, take, drop, one-add, refl, ap, append_assoc, arith}
 use Rattle.std.specs.List.{prefix_len}
 use Rattle.std.proofs.lemmas.Bool.Decides.{nat_tests}
 use Rattle.json_value.specs.Grammar.{is_plain}
@@ -23,8 +23,7 @@ run_first (b ∷ bytes) =
 
 -- what is left to write before a run, and behind it
 pub run_is : (rest run behind closing : List ℕ) (n : ℕ) → n ≡ prefix_len is_plain rest → run ≡ take n rest → behind ≡ drop n rest → escaped rest ++ closing ≡ run ++ (escaped behind ++ closing)
-run_is rest run behind closing n many front back =
-    ap (λ z. z ++ closing) (run_first rest) ∙ rw (front, back, many) (append_assoc (take (prefix_len is_plain rest) rest) _ closing)
+run_is rest run behind closing n many front back = grind (arith, run_first, append_assoc)
 
 -- and before and behind an escape
 pub escape_is : (behind after closing : List ℕ) (b : ℕ) → behind ≡ b ∷ after → escaped behind ++ closing ≡ escaped_byte b ++ (escaped after ++ closing)

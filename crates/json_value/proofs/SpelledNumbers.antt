@@ -1,16 +1,12 @@
 -- The number texts of a value that is spelled are numbers.
-use Rattle.std.proofs.Common.{ℕ, true, false, List, [], ◌∷◌, ◌++◌, inl, inr}
+use Rattle.std.proofs.Common.{ℕ, true, false, List, [], inl, inr}
 use Rattle.std.specs.List.{flat_map, AllByRecursion}
 use Rattle.decimal_text.specs.Grammar.{IsNumber}
 use Rattle.json_value.specs.declared.json.Json.{Json}
 use Rattle.json_value.specs.Grammar.{Spells, SpellsMember, SpellsElements, SpellsMembers, spells_null, spells_true, spells_false, spells_text, spells_number, spells_empty_array, spells_array, spells_empty_object, spells_object, spells_member, elements_last, elements_more, members_last, members_more, Reads}
 use Rattle.json_value.specs.Numbers.{numbers_of, HasNumbers}
 use Rattle.json_value.proofs.NumbersOf.{numbers-null, numbers-bool, numbers-number, numbers-text, numbers-array, numbers-object}
-
--- what holds of each element of two lists holds of each of the two joined
-pub all_joined : {A : Type 0} (P : A → Type 0) (xs ys : List A) → AllByRecursion P xs → AllByRecursion P ys → AllByRecursion P (xs ++ ys)
-all_joined P [] ys h k = k
-all_joined P (x ∷ xs) ys h k = (h.0, all_joined P xs ys h.1 k)
+use Rattle.list_laws.proofs.Elements.{all_append}
 
 mutual
   pub spelled_numbers : {d : ℕ} {t : List ℕ} {v : Json} → Spells d t v → HasNumbers v
@@ -28,12 +24,12 @@ mutual
   member_numbers (spells_member s w u t h hw hu v) = spelled_numbers v
 
   pub elements_numbers : {d : ℕ} {t : List ℕ} {vs : List Json} → SpellsElements d t vs → AllByRecursion IsNumber (flat_map numbers_of vs)
-  elements_numbers (elements_last w t u {x} hw s hu) = all_joined IsNumber (numbers_of x) [] (spelled_numbers s) tt
-  elements_numbers (elements_more w t u ts {x} {xs} hw s hu more) = all_joined IsNumber (numbers_of x) (flat_map numbers_of xs) (spelled_numbers s) (elements_numbers more)
+  elements_numbers (elements_last w t u {x} hw s hu) = all_append IsNumber (numbers_of x) [] (spelled_numbers s) tt
+  elements_numbers (elements_more w t u ts {x} {xs} hw s hu more) = all_append IsNumber (numbers_of x) (flat_map numbers_of xs) (spelled_numbers s) (elements_numbers more)
 
   pub members_numbers : {d : ℕ} {t : List ℕ} {ms : List (List ℕ × Json)} → SpellsMembers d t ms → AllByRecursion IsNumber (flat_map (λ m. numbers_of m.1) ms)
-  members_numbers (members_last w t u {x} hw s hu) = all_joined IsNumber (numbers_of x.1) [] (member_numbers s) tt
-  members_numbers (members_more w t u ts {x} {xs} hw s hu more) = all_joined IsNumber (numbers_of x.1) (flat_map (λ m. numbers_of m.1) xs) (member_numbers s) (members_numbers more)
+  members_numbers (members_last w t u {x} hw s hu) = all_append IsNumber (numbers_of x.1) [] (member_numbers s) tt
+  members_numbers (members_more w t u ts {x} {xs} hw s hu more) = all_append IsNumber (numbers_of x.1) (flat_map (λ m. numbers_of m.1) xs) (member_numbers s) (members_numbers more)
 
 pub reads_numbers : (d : ℕ) (b : List ℕ) (v : Json) → Reads d b v → HasNumbers v
 reads_numbers d b v (inl r) = spelled_numbers r.4

@@ -9,9 +9,10 @@ use Rattle.std.proofs.Math.Utf8.{encode}
 use Rattle.json_value.specs.declared.json.Json.{Json}
 use Rattle.json_value.specs.Grammar.{is_space, IsSpace, Spells, SpellsMember, SpellsElements, SpellsMembers, spells_null, spells_true, spells_false, spells_text, spells_number, spells_empty_array, spells_array, spells_empty_object, spells_object, spells_member, elements_last, elements_more, members_last, members_more, SpellsText, Reads, mark}
 use Rattle.json_value.specs.WellFormed.{texts_of, HasTexts, IsWellFormed}
-use Rattle.json_value.proofs.SpelledNumbers.{all_joined, reads_numbers}
+use Rattle.json_value.proofs.SpelledNumbers.{reads_numbers}
 use Rattle.json_value.proofs.TextsOf.{texts-null, texts-bool, texts-number, texts-text, texts-array, texts-object}
 use Rattle.json_value.proofs.Utf8.{ascii_split, ascii_tail, text_utf8}
+use Rattle.list_laws.proofs.Elements.{all_append}
 
 space_ascii : (b : ℕ) → is_space b ≡ true → b < 128
 space_ascii b h = grind (arith, nat_tests)
@@ -53,17 +54,17 @@ mutual
 
   elements_texts : {d : ℕ} {t : List ℕ} {vs : List Json} → SpellsElements d t vs → IsUtf8 t → AllByRecursion IsUtf8 (flat_map texts_of vs)
   elements_texts (elements_last w t u {x} hw s hu) f =
-      all_joined IsUtf8 (texts_of x) [] (spelled_texts s (after_space w t hw (before_space (w ++ t) u hu f))) tt
+      all_append IsUtf8 (texts_of x) [] (spelled_texts s (after_space w t hw (before_space (w ++ t) u hu f))) tt
   elements_texts (elements_more w t u ts {x} {xs} hw s hu more) f =
       let comma = ascii_split (w ++ t ++ u) ts 44 (omega arith) f in
-      all_joined IsUtf8 (texts_of x) (flat_map texts_of xs) (spelled_texts s (after_space w t hw (before_space (w ++ t) u hu comma.0))) (elements_texts more comma.1)
+      all_append IsUtf8 (texts_of x) (flat_map texts_of xs) (spelled_texts s (after_space w t hw (before_space (w ++ t) u hu comma.0))) (elements_texts more comma.1)
 
   members_texts : {d : ℕ} {t : List ℕ} {ms : List (List ℕ × Json)} → SpellsMembers d t ms → IsUtf8 t → MembersTexts ms
   members_texts (members_last w t u {x} hw s hu) f =
-      all_joined IsUtf8 (x.0 ∷ texts_of x.1) [] (member_texts s (after_space w t hw (before_space (w ++ t) u hu f))) tt
+      all_append IsUtf8 (x.0 ∷ texts_of x.1) [] (member_texts s (after_space w t hw (before_space (w ++ t) u hu f))) tt
   members_texts (members_more w t u ts {x} {xs} hw s hu more) f =
       let comma = ascii_split (w ++ t ++ u) ts 44 (omega arith) f in
-      all_joined IsUtf8 (x.0 ∷ texts_of x.1) (flat_map (λ m. m.0 ∷ texts_of m.1) xs) (member_texts s (after_space w t hw (before_space (w ++ t) u hu comma.0))) (members_texts more comma.1)
+      all_append IsUtf8 (x.0 ∷ texts_of x.1) (flat_map (λ m. m.0 ∷ texts_of m.1) xs) (member_texts s (after_space w t hw (before_space (w ++ t) u hu comma.0))) (members_texts more comma.1)
 
 document_texts : (d : ℕ) (b : List ℕ) (v : Json) → IsUtf8 b → SpellsText d b v → HasTexts v
 document_texts d b v f r =

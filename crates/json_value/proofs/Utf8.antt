@@ -1,5 +1,5 @@
 -- The text of a string that stands in a UTF-8 text is UTF-8.
-use Rattle.std.proofs.Common.{◌≡◌, ℕ, ◌+◌, ◌<◌, true, false, inl, inr, List, [], ◌∷◌, ◌++◌, length, Some, get_or, sym, subst, append_assoc, length-append, arith}
+use Rattle.std.proofs.Common.{◌≡◌, ℕ, ◌+◌, ◌<◌, true, false, List, [], ◌∷◌, ◌++◌, length, Some, get_or, subst, append_assoc, length-append, arith}
 use Rattle.std.specs.Prelude.{IsUtf8, encode_utf8, nat_le, ◌&&◌, ◌-◌}
 use Rattle.std.specs.Char.{IsScalar}
 use Rattle.std.proofs.lemmas.Bool.Decides.{nat_tests}
@@ -7,8 +7,9 @@ use Rattle.std.proofs.lemmas.Str.{IsUtf8-take, IsUtf8-drop, IsUtf8-append, IsUtf
 use Rattle.std.proofs.Math.Utf8.{low_scalar}
 use Rattle.std.proofs.Math.Seq.{take-append_seam, drop-append-add, get_or-append_seam}
 use Rattle.json_value.specs.Grammar.{hex_value, SpellsUnit, unit_of, is_high, is_low, paired, SpellsChars, chars_end, chars_plain, chars_escape, chars_unit, chars_pair}
-use Rattle.std.proofs.lemmas.Bool.{leb-true}
-use Rattle.json_value.proofs.Letters.{chosen, both, letter_kind}
+use Rattle.std.proofs.lemmas.Bool.{leb-true, and_parts}
+use Rattle.json_value.proofs.Letters.{letter_kind}
+use Rattle.list_laws.proofs.Tests.{chosen}
 
 -- A UTF-8 text may be cut before and behind an ASCII byte.
 pub ascii_split : (p r : List ℕ) (x : ℕ) → x < 128 → IsUtf8 (p ++ (x ∷ r)) → IsUtf8 p × IsUtf8 r
@@ -31,23 +32,10 @@ record IsHex (b w : ℕ) : Type 0 where
 
 -- a digit between two, less an offset
 between : (b w lo hi off : ℕ) → (nat_le lo b && nat_le b hi) ≡ true → Some (b - off) ≡ Some w → hi < 128 → hi < off + 16 → IsHex b w
-between b w lo hi off h e ascii small =
-    let p = both (nat_le lo b) (nat_le b hi) h in
-    let le = leb-true b hi p.1 in
-    let same : b - off ≡ w = cc in
-    record { ascii = omega arith; small = omega arith }
+between b w lo hi off h e ascii small = grind (arith, and_parts, leb-true)
 
 hex_kind : (b w : ℕ) → hex_value b ≡ Some w → IsHex b w
-hex_kind b w h = elim (chosen (nat_le 48 b && nat_le b 57) _ _ _ h) [
-  | inl k ↦ between b w 48 57 48 k.0 k.1 (omega arith) (omega arith)
-  | inr k ↦ elim (chosen (nat_le 65 b && nat_le b 70) _ _ _ k.1) [
-    | inl l ↦ between b w 65 70 55 l.0 l.1 (omega arith) (omega arith)
-    | inr l ↦ elim (chosen (nat_le 97 b && nat_le b 102) _ _ _ l.1) [
-      | inl m ↦ between b w 97 102 87 m.0 m.1 (omega arith) (omega arith)
-      | inr m ↦ (let wrong = m.1 in cc)
-    ]
-  ]
-]
+hex_kind b w h = grind (arith, chosen, between)
 
 unit_scalar : (n : ℕ) → n < 65536 → is_high n ≡ false → is_low n ≡ false → IsScalar n
 unit_scalar n small high low = grind (arith, nat_tests)
@@ -81,8 +69,7 @@ ascii_one c small = subst (λ z. IsUtf8 z) (encode_ascii c small) (IsUtf8-encode
 
 chars_utf8 : {s t : List ℕ} → SpellsChars s t → (p : List ℕ) → IsUtf8 (p ++ s) → IsUtf8 (p ++ t)
 chars_utf8 chars_end p h = h
-chars_utf8 (chars_plain b {s} {t} k more) p h =
-    subst (λ z. IsUtf8 z) (append_assoc p (b ∷ []) t) (chars_utf8 more (p ++ b ∷ []) (subst (λ z. IsUtf8 z) (sym (append_assoc p (b ∷ []) s)) h))
+chars_utf8 (chars_plain b {s} {t} k more) p h = grind (arith, append_assoc, chars_utf8 more (p ++ b ∷ []))
 chars_utf8 (chars_escape e c {s} {t} k more) p h =
     let kind = letter_kind e c k in
     let start = ascii_split p (e ∷ s) 92 (omega arith) h in

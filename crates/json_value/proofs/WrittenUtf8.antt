@@ -1,14 +1,15 @@
 -- The text that is written for a well-formed value is UTF-8.
-use Rattle.std.proofs.Common.{◌≡◌, ℕ, ◌/◌, ◌%◌, ◌<◌, Bool, true, false, inl, inr, List, [], ◌∷◌, ◌++◌, map, if◌then◌else◌, refl, sym, subst, append_assoc, arith}
-use Rattle.std.specs.Prelude.{IsUtf8, ◌==◌, ◌&&◌, nat_lt, codes}
+use Rattle.std.proofs.Common.{◌≡◌, ℕ, ◌<◌, Bool, true, false, inl, inr, List, [], ◌∷◌, ◌++◌, map, if◌then◌else◌, refl, sym, subst, append_assoc, arith}
+use Rattle.std.specs.Prelude.{IsUtf8, ◌&&◌, nat_lt, codes}
 use Rattle.std.specs.Str.{IsAscii}
 use Rattle.std.specs.List.{flat_map, AllByRecursion}
 use Rattle.std.proofs.lemmas.Bool.Decides.{nat_tests}
-use Rattle.std.proofs.lemmas.Str.{IsAscii-append, IsUtf8-append, IsUtf8-from_ascii}
+use Rattle.std.proofs.lemmas.Str.{IsUtf8-append, IsUtf8-from_ascii}
 use Rattle.std.proofs.lemmas.Str.Ascii.{IsAscii-nil}
+use Rattle.std.proofs.lemmas.Bool.{and_parts}
 use Rattle.decimal_text.specs.Grammar.{IsNumber}
 use Rattle.decimal_text.proofs.NumberBytes.{ascii_cons, number_utf8}
-use Rattle.byte_ends.specs.Commas.{comma_unless, with_commas, comma_separated}
+use Rattle.list_laws.specs.Commas.{comma_unless, with_commas, comma_separated}
 use Rattle.json_value.specs.declared.json.Json.{Json, roll-Json, ind-Json, map-Json}
 use Rattle.json_value.specs.declared.json.Json.TheOpen.{Json-F}
 use Rattle.json_value.specs.declared.json.Json.TheVariants as j
@@ -16,7 +17,6 @@ use Rattle.json_value.specs.Grammar.{is_plain}
 use Rattle.json_value.specs.Numbers.{numbers_of, HasNumbers}
 use Rattle.json_value.specs.Text.{json_text, hex_digit, escaped_byte, escaped, quoted}
 use Rattle.json_value.specs.WellFormed.{texts_of, HasTexts, IsWellFormed}
-use Rattle.json_value.proofs.Letters.{both}
 use Rattle.json_value.proofs.NumbersOf.{numbers-number, numbers-array, numbers-object}
 use Rattle.json_value.proofs.Runs.{plain_stays, plain_tells}
 use Rattle.json_value.proofs.Texts.{text-null, text-bool, text-number, text-text, text-array, text-object, one_member}
@@ -30,40 +30,23 @@ abbrev all_small : List ℕ → Bool
 all_small [] = true
 all_small (b ∷ bs) = nat_lt b 128 && all_small bs
 
-small_one : (b : ℕ) → nat_lt b 128 ≡ true → b < 128
-small_one b h = grind (arith, nat_tests)
-
 -- a list that is written out
 ascii : (bs : List ℕ) → all_small bs ≡ true → IsAscii bs
 ascii [] h = IsAscii-nil
-ascii (b ∷ bs) h = let p = both (nat_lt b 128) (all_small bs) h in ascii_cons b bs (small_one b p.0) (ascii bs p.1)
+ascii (b ∷ bs) h = grind (arith, and_parts, ascii_cons, nat_tests, ascii bs)
 
 ascii_one : (a : ℕ) → a < 128 → IsAscii (a ∷ [])
 ascii_one a p = ascii_cons a [] p IsAscii-nil
 
 either : (b : Bool) (s t : List ℕ) → IsAscii s → IsAscii t → IsAscii (if b then s else t)
-either true s t p q = p
-either false s t p q = q
+either b s t h k = grind arith
 
 hex_ascii : (n : ℕ) → n < 16 → hex_digit n < 128
 hex_ascii n h = grind (arith, nat_tests)
 
-control_ascii : (b : ℕ) → b < 128 → IsAscii (codes "\\u00" ++ hex_digit (b / 16) ∷ hex_digit (b % 16) ∷ [])
-control_ascii b h =
-    IsAscii-append (codes "\\u00") (hex_digit (b / 16) ∷ hex_digit (b % 16) ∷ []) (ascii (codes "\\u00") refl)
-    (ascii_cons (hex_digit (b / 16)) (hex_digit (b % 16) ∷ []) (hex_ascii (b / 16) (omega arith)) (ascii_one (hex_digit (b % 16)) (hex_ascii (b % 16) (omega arith))))
-
 escape_ascii : (b : ℕ) → b < 128 → IsAscii (escaped_byte b)
 unfolding escaped_byte
-escape_ascii b h =
-    either (b == 34) _ _ (ascii (codes "\\\"") refl)
-    (either (b == 92) _ _ (ascii (codes "\\\\") refl)
-    (either (b == 8) _ _ (ascii (codes "\\b") refl)
-    (either (b == 9) _ _ (ascii (codes "\\t") refl)
-    (either (b == 10) _ _ (ascii (codes "\\n") refl)
-    (either (b == 12) _ _ (ascii (codes "\\f") refl)
-    (either (b == 13) _ _ (ascii (codes "\\r") refl)
-    (either (nat_lt b 32) _ _ (control_ascii b h) (ascii_one b h))))))))
+escape_ascii b h = grind (arith, either, ascii, ascii_cons, hex_ascii, ascii_one)
 
 not_plain : (b : ℕ) → is_plain b ≡ false → b < 128
 not_plain b h = grind (arith, nat_tests)
@@ -120,10 +103,7 @@ inner m = (m.0, m.1.0)
 elements_utf8 : (ys : List Such) → AllByRecursion IsNumber (flat_map numbers_of (map (λ e. e.0) ys)) → AllByRecursion IsUtf8 (flat_map texts_of (map (λ e. e.0) ys))
     → AllByRecursion IsUtf8 (map json_text (map (λ e. e.0) ys))
 elements_utf8 [] n h = tt
-elements_utf8 (y ∷ ys) n h =
-    let p = all_split IsNumber (numbers_of y.0) _ n in
-    let q = all_split IsUtf8 (texts_of y.0) _ h in
-    (y.1 p.0 q.0, elements_utf8 ys p.1 q.1)
+elements_utf8 (y ∷ ys) n h = grind (arith, elements_utf8 ys, all_split IsNumber (numbers_of y.0) _ n, all_split IsUtf8 (texts_of y.0) _ h)
 
 member_utf8 : (m : List ℕ × Such) → HasNumbers m.1.0 → IsUtf8 m.0 → HasTexts m.1.0 → IsUtf8 (one_member (inner m))
 member_utf8 m n name h = IsUtf8-append (quoted m.0 ++ 58 ∷ []) (json_text m.1.0) (IsUtf8-append (quoted m.0) (58 ∷ []) (quoted_utf8 m.0 name) (one_utf8 58 (omega arith))) (m.1.1 n h)
@@ -132,9 +112,7 @@ members_utf8 : (ys : List (List ℕ × Such)) → AllByRecursion IsNumber (flat_
     → AllByRecursion IsUtf8 (map one_member (map inner ys))
 members_utf8 [] n h = tt
 members_utf8 (y ∷ ys) n h =
-    let p = all_split IsNumber (numbers_of y.1.0) _ n in
-    let q = all_split IsUtf8 (y.0 ∷ texts_of y.1.0) _ h in
-    (member_utf8 y p.0 q.0.0 q.0.1, members_utf8 ys p.1 q.1)
+    grind (arith, members_utf8 ys, all_split IsNumber (numbers_of y.1.0) _ n, all_split IsUtf8 (y.0 ∷ texts_of y.1.0) _ h, member_utf8 y)
 
 word_utf8 : (b : Bool) → Claim (j.Bool b)
 word_utf8 true n h = rw (text-bool true) (IsUtf8-from_ascii (codes "true") (ascii (codes "true") refl))
@@ -150,14 +128,10 @@ text_claim : (t : List ℕ) → Claim (j.Text t)
 text_claim t n h = let p = rw (texts-text t) at h in rw (text-text t) (quoted_utf8 t p.0)
 
 array_claim : (ys : List Such) → Claim (j.Array (map (λ e. e.0) ys))
-array_claim ys n h =
-    let vs : List Json = map (λ e. e.0) ys in
-    rw (text-array vs) (bracketed 91 93 (map json_text vs) (omega arith) (omega arith) (elements_utf8 ys (rw (numbers-array vs) at n) (rw (texts-array vs) at h)))
+array_claim ys n h = grind (arith, text-array, bracketed 91 93, elements_utf8 ys, numbers-array, texts-array)
 
 object_claim : (ys : List (List ℕ × Such)) → Claim (j.Object (map inner ys))
-object_claim ys n h =
-    let ms : List (List ℕ × Json) = map inner ys in
-    rw (text-object ms) (bracketed 123 125 (map one_member ms) (omega arith) (omega arith) (members_utf8 ys (rw (numbers-object ms) at n) (rw (texts-object ms) at h)))
+object_claim ys n h = grind (arith, text-object, bracketed 123 125, one_member, members_utf8 ys, numbers-object, texts-object)
 
 step : (x : Json-F Json) (y : Json-F Such) → map-Json Such Json (λ e. e.0) y ≡ x → Claim (roll-Json x)
 step x Json-F.Null e = subst (λ z. Claim (roll-Json z)) e (subst Claim (sym j.rolls-Null) null_utf8)

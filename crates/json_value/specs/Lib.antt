@@ -4,4 +4,3 @@ pub mod Kinds
 pub mod Numbers
 pub mod Text
 pub mod WellFormed
-pub mod formers

@@ -1,10 +1,8 @@
 // Values once more, in memory of their own.
 ghost use Rattle.std.specs.Prelude.{◌≡◌, IfOk};
 
-use crate::items::Items;
 use crate::json::Json;
-use crate::own_text::OwnText;
-use byte_ends::Memory;
+use owned_values::{Items, Memory, OwnText};
 use std::alloc::Global;
 
 impl Json {

@@ -2,9 +2,8 @@
 ghost use Rattle.std.specs.Prelude.{◌≡◌, MatchOption, None, Some};
 ghost use Rattle.json_value.specs.Kinds.{array_of, number_of, object_of, text_of};
 
-use crate::items::Items;
-use crate::own_text::OwnText;
 use decimal_text::NumText;
+use owned_values::{Items, OwnText};
 
 /// A JSON value (RFC 8259, section 3). The members of an object keep their order and their duplicates, a text is what
 /// its string stands for, with all escapes resolved, and a number is kept as its text.

@@ -4,7 +4,7 @@ ghost use Rattle.std.specs.Prelude.{IsUtf8};
 ghost use Rattle.json_value.specs.WellFormed.{IsWellFormed, IsWellFormedMember};
 
 use crate::json::Json;
-use crate::own_text::OwnText;
+use owned_values::OwnText;
 
 /// A law: a value is well formed, whatever made it. The function looks at each number and text once, and changes nothing.
 #[cycle(forming)]

@@ -1,15 +1,15 @@
 -- Lines gathered part by part, feature by feature and layer by layer.
-use Rattle.std.proofs.Common.{◌≡◌, ℕ, suc, ◌+◌, ◌<◌, ◌≤◌, Bool, true, false, cond, not, List, [], ◌∷◌, ◌++◌, map, filter, take, length, get_or, append_assoc, append-nil, refl, ap, sym, ◌∙◌, arith}
+use Rattle.std.proofs.Common.{◌≡◌, ℕ, suc, ◌+◌, ◌<◌, ◌≤◌, Bool, true, not, List, [], ◌∷◌, ◌++◌, map, filter, take, length, get_or, append_assoc, append-nil, refl, ap, sym, ◌∙◌, arith}
 use Rattle.std.proofs.lemmas.List.{take_more, take_all, length-map, length-take-le, map-append}
-use Rattle.geojson_types.specs.Points.{Point}
+use Rattle.geometry.specs.Points.{Point}
 use Rattle.geojson_types.specs.Features.{Featured}
-use Rattle.geojson_types.specs.Paths.{Placed, alone, inside_part, of_parts}
-use Rattle.geojson_types.specs.declared.address.Address.{Address}
+use Rattle.geometry.specs.Paths.{Placed, alone, inside_part, of_parts}
+use Rattle.geometry.specs.declared.address.Address.{Address}
 use Rattle.geojson_types.specs.declared.layer.Layer.{Layer}
-use Rattle.linework.specs.declared.stroke.Stroke.{Stroke}
-use Rattle.linework.specs.Cleaning.{clean}
+use Rattle.junctions.specs.declared.stroke.Stroke.{Stroke}
+use Rattle.junctions.specs.Cleaning.{clean}
 use Rattle.linework.specs.Linework.{stroke_at, feature_strokes, strokes_of_layer, strokes_of_layers, is_collapsed, collapse, linework, collapsed}
-use Rattle.linework.specs.Gathering.{Gathered, nothing_gathered, with_stroke, with_strokes, part_address}
+use Rattle.junctions.specs.Gathering.{Gathered, nothing_gathered, with_stroke, with_strokes, part_address}
 
 pub with_append : (g : Gathered) (ss ts : List Stroke) → with_strokes (with_strokes g ss) ts ≡ with_strokes g (ss ++ ts)
 unfolding with_strokes
@@ -34,22 +34,15 @@ rings rs = of_parts 0 (map (single true) rs)
 -- one line alone
 pub with_alone : (g : Gathered) (a : Address) (closed : Bool) (ps qs : List Point) → qs ≡ clean ps → with_stroke g (record { address = a; closed = closed; positions = qs }) ≡ with_strokes g (map (stroke_at a) (single closed ps))
 unfolding with_strokes
-with_alone g a closed ps qs e =
-    ap (λ z. with_stroke g (record { address = a; closed = closed; positions = z })) e
-    ∙ ap (λ z. with_stroke g (record { address = record { layer = a.layer; feature = a.feature; path = z }; closed = closed; positions = clean ps })) (sym (append-nil a.path))
+with_alone g a closed ps qs e = grind (arith, append-nil)
 
 inside_at : (a : Address) (i : ℕ) (xs : Lines) → map (stroke_at a) (inside_part i xs) ≡ map (stroke_at (part_address a i)) xs
 inside_at a i [] = refl
-inside_at a i (x ∷ xs) =
-    ap (λ s. s ∷ map (stroke_at a) (inside_part i xs)) (ap (λ p. stroke_at (record { layer = a.layer; feature = a.feature; path = [] }) (record { path = p; part = x.part })) (sym (append_assoc a.path (i ∷ []) x.path)))
-    ∙ ap (λ l. stroke_at (part_address a i) x ∷ l) (inside_at a i xs)
+inside_at a i (x ∷ xs) = grind (arith, append_assoc, inside_at a i xs)
 
 parts_more : (i : ℕ) (xss : List Lines) (xs : Lines) → of_parts i (xss ++ (xs ∷ [])) ≡ of_parts i xss ++ inside_part (i + length xss) xs
 parts_more i [] xs = let n : i ≡ i + 0 = omega arith in append-nil (inside_part i xs) ∙ ap (λ k. inside_part k xs) n
-parts_more i (ys ∷ xss) xs =
-    let n : suc i + length xss ≡ i + suc (length xss) = omega arith in
-    ap (λ l. inside_part i ys ++ l) (parts_more (suc i) xss xs ∙ ap (λ k. of_parts (suc i) xss ++ inside_part k xs) n)
-    ∙ sym (append_assoc (inside_part i ys) (of_parts (suc i) xss) (inside_part (i + suc (length xss)) xs))
+parts_more i (ys ∷ xss) xs = grind (arith, append_assoc, parts_more (suc i) xss xs)
 
 -- one element more of a list that is read by index
 turned : {A : Type 0} (xs : List A) (i : ℕ) (x : A) → i < length xs → x ≡ get_or xs i x → take (i + 1) xs ≡ take i xs ++ (x ∷ [])
@@ -80,20 +73,13 @@ parts_done f a g now xs i l h = h ∙ ap (λ z. with_strokes g (map (stroke_at a
 module _ {X : Type 0} (of : ℕ → X → List Stroke) (all : ℕ → List X → List Stroke) (none : (i : ℕ) → all i [] ≡ [])
     (some : (i : ℕ) (x : X) (xs : List X) → all i (x ∷ xs) ≡ of i x ++ all (suc i) xs) where
   all_more : (i : ℕ) (xs : List X) (x : X) → all i (xs ++ (x ∷ [])) ≡ all i xs ++ of (i + length xs) x
-  all_more i [] x =
-      let n : i ≡ i + 0 = omega arith in
-      some i x [] ∙ ap (λ l. of i x ++ l) (none (suc i)) ∙ append-nil (of i x) ∙ ap (λ k. of k x) n ∙ ap (λ l. l ++ of (i + 0) x) (sym (none i))
-  all_more i (y ∷ ys) x =
-      let n : suc i + length ys ≡ i + suc (length ys) = omega arith in
-      some i y (ys ++ (x ∷ [])) ∙ ap (λ l. of i y ++ l) (all_more (suc i) ys x ∙ ap (λ k. all (suc i) ys ++ of k x) n)
-      ∙ sym (append_assoc (of i y) (all (suc i) ys) (of (i + suc (length ys)) x)) ∙ ap (λ l. l ++ of (i + suc (length ys)) x) (sym (some i y ys))
+  all_more i [] x = grind (arith, append-nil)
+  all_more i (y ∷ ys) x = grind (arith, append_assoc, all_more (suc i) ys x)
 
   all_turn : (g now new : Gathered) (xs : List X) (i : ℕ) (x : X) → i < length xs → x ≡ get_or xs i x →
       now ≡ with_strokes g (all 0 (take i xs)) → new ≡ with_strokes now (of i x) → new ≡ with_strokes g (all 0 (take (i + 1) xs))
   all_turn g now new xs i x l e h k =
-      let n : 0 + length (take i xs) ≡ i = ap (λ m. 0 + m) (length-take-le i xs (omega arith)) ∙ (let z : 0 + i ≡ i = omega arith in z) in
-      k ∙ ap (λ z. with_strokes z (of i x)) h ∙ with_append g (all 0 (take i xs)) (of i x)
-      ∙ ap (with_strokes g) (sym (ap (all 0) (turned xs i x l e) ∙ all_more 0 (take i xs) x ∙ ap (λ j. all 0 (take i xs) ++ of j x) n))
+      grind (arith, length-take-le i xs (omega arith), with_append g (all 0 (take i xs)) (of i x), turned xs i x l e, all_more 0 (take i xs) x)
 
 pub features_turn : (layer : ℕ) (g now new : Gathered) (fs : List Featured) (i : ℕ) (f : Featured) → i < length fs → f ≡ get_or fs i f →
     now ≡ with_strokes g (strokes_of_layer layer 0 (take i fs)) → new ≡ with_strokes now (feature_strokes layer i f) → new ≡ with_strokes g (strokes_of_layer layer 0 (take (i + 1) fs))
@@ -115,22 +101,12 @@ named_turn = all_turn (λ i l. strokes_of_layer i 0 l.1.features) (λ i ls. stro
 gathered_strokes : (g : Gathered) (ss : List Stroke) → (with_strokes g ss).strokes ≡ g.strokes ++ filter (λ s. not (is_collapsed s)) ss
 unfolding with_strokes
 gathered_strokes g [] = sym (append-nil g.strokes)
-gathered_strokes g (s ∷ ss) = gathered_strokes (with_stroke g s) ss ∙ on (is_collapsed s)
-  where
-    on : (b : Bool) → (cond {A = Gathered} b (record { strokes = g.strokes; dropped = g.dropped ++ (collapse s ∷ []) }) (record { strokes = g.strokes ++ (s ∷ []); dropped = g.dropped })).strokes ++ filter (λ s. not (is_collapsed s)) ss
-        ≡ g.strokes ++ cond (not b) (s ∷ filter (λ s. not (is_collapsed s)) ss) (filter (λ s. not (is_collapsed s)) ss)
-    on true = refl
-    on false = append_assoc g.strokes (s ∷ []) (filter (λ s. not (is_collapsed s)) ss)
+gathered_strokes g (s ∷ ss) = grind (arith, append_assoc, gathered_strokes (with_stroke g s) ss)
 
 gathered_dropped : (g : Gathered) (ss : List Stroke) → (with_strokes g ss).dropped ≡ g.dropped ++ map collapse (filter is_collapsed ss)
 unfolding with_strokes
 gathered_dropped g [] = sym (append-nil g.dropped)
-gathered_dropped g (s ∷ ss) = gathered_dropped (with_stroke g s) ss ∙ on (is_collapsed s)
-  where
-    on : (b : Bool) → (cond {A = Gathered} b (record { strokes = g.strokes; dropped = g.dropped ++ (collapse s ∷ []) }) (record { strokes = g.strokes ++ (s ∷ []); dropped = g.dropped })).dropped ++ map collapse (filter is_collapsed ss)
-        ≡ g.dropped ++ map collapse (cond b (s ∷ filter is_collapsed ss) (filter is_collapsed ss))
-    on true = append_assoc g.dropped (collapse s ∷ []) (map collapse (filter is_collapsed ss))
-    on false = refl
+gathered_dropped g (s ∷ ss) = grind (arith, append_assoc, gathered_dropped (with_stroke g s) ss)
 
 pub linework_is : (g : Gathered) (ls : List Layer) (i : ℕ) → length ls ≤ i → g ≡ with_strokes nothing_gathered (strokes_of_layers 0 (take i ls)) → g.strokes ≡ linework ls
 unfolding linework
@@ -142,12 +118,8 @@ collapsed_is g ls i l h = ap (λ z. z.dropped) h ∙ gathered_dropped nothing_ga
 
 pub named_linework_is : (g : Gathered) (ls : List (List ℕ × Layer)) (i : ℕ) → length ls ≤ i → g ≡ with_strokes nothing_gathered (strokes_of_layers 0 (unnamed (take i ls))) → g.strokes ≡ linework (map (λ l. l.1) ls)
 unfolding linework
-named_linework_is g ls i l h =
-    ap (λ z. z.strokes) h ∙ gathered_strokes nothing_gathered (strokes_of_layers 0 (unnamed (take i ls)))
-    ∙ ap (λ z. filter (λ s. not (is_collapsed s)) (strokes_of_layers 0 (unnamed z))) (take_all i ls l)
+named_linework_is g ls i l h = grind (arith, gathered_strokes, take_all)
 
 pub named_collapsed_is : (g : Gathered) (ls : List (List ℕ × Layer)) (i : ℕ) → length ls ≤ i → g ≡ with_strokes nothing_gathered (strokes_of_layers 0 (unnamed (take i ls))) → g.dropped ≡ collapsed (map (λ l. l.1) ls)
 unfolding collapsed
-named_collapsed_is g ls i l h =
-    ap (λ z. z.dropped) h ∙ gathered_dropped nothing_gathered (strokes_of_layers 0 (unnamed (take i ls)))
-    ∙ ap (λ z. map collapse (filter is_collapsed (strokes_of_layers 0 (unnamed z)))) (take_all i ls l)
+named_collapsed_is g ls i l h = grind (arith, gathered_dropped, take_all)

@@ -1,32 +1,31 @@
 -- The positions of lines are those of their shapes, and so the positions of the linework are those of the layers.
-use Rattle.std.proofs.Common.{◌≡◌, ℕ, suc, Bool, true, false, cond, not, List, [], ◌∷◌, ◌++◌, map, Option, None, Some, inl, inr, refl, ap, sym, ◌∙◌, subst}
+use Rattle.std.proofs.Common.{◌≡◌, ℕ, suc, Bool, true, false, not, List, [], ◌∷◌, ◌++◌, map, Option, None, Some, inl, inr, refl, sym, subst, arith}
 use Rattle.std.specs.List.{AllByRecursion}
-use Rattle.geojson_types.specs.declared.address.Address.{Address}
-use Rattle.geojson_types.specs.declared.geometry.Geometry.{fold-Geometry, fold-roll-Geometry}
-use Rattle.geojson_types.specs.declared.geometry.Geometry.TheOpen.{Geometry-F}
-use Rattle.geojson_types.specs.declared.geometry.Geometry.TheVariants as g
+use Rattle.geometry.specs.declared.address.Address.{Address}
+use Rattle.geometry.specs.declared.shape.Geometry.TheVariants as g
 use Rattle.geojson_types.specs.declared.layer.Layer.{Layer}
 use Rattle.geojson_types.specs.Features.{Shape, Featured}
-use Rattle.geojson_types.specs.Lists.{joined}
-use Rattle.geojson_types.specs.Paths.{placed_strokes}
-use Rattle.geojson_types.specs.Places.{points_step, shape_points, option_points, features_points}
-use Rattle.geojson_types.specs.Points.{Point}
-use Rattle.geojson_types.specs.Pruning.{strokes}
-use Rattle.geojson_types.specs.Rings.{same}
-use Rattle.geojson_types.proofs.Cases.{strokes-point, strokes-points, strokes-line, strokes-lines, strokes-area, strokes-areas, strokes-group}
-use Rattle.geojson_types.proofs.Induction.{by_kinds}
-use Rattle.linework.specs.declared.stroke.Stroke.{Stroke}
-use Rattle.linework.specs.Among.{In}
-use Rattle.linework.specs.Cleaning.{clean_from, clean}
+use Rattle.geometry.specs.Lists.{joined}
+use Rattle.geometry.specs.Paths.{placed_strokes}
+use Rattle.geojson_types.specs.Places.{shape_points, option_points, features_points}
+use Rattle.geometry.specs.Points.{Point}
+use Rattle.geometry.specs.Pruning.{strokes}
+use Rattle.geometry.proofs.Cases.{strokes-point, strokes-points, strokes-line, strokes-lines, strokes-area, strokes-areas, strokes-group}
+use Rattle.geometry.proofs.Induction.{by_kinds}
+use Rattle.geometry.proofs.ByKind.{points_at}
+use Rattle.junctions.specs.declared.stroke.Stroke.{Stroke}
+use Rattle.junctions.specs.Among.{In}
+use Rattle.junctions.specs.Cleaning.{clean, clean_from}
 use Rattle.linework.specs.Laws.{layers_points}
 use Rattle.linework.specs.Linework.{stroke_at, option_placed, feature_address, strokes_of_layer, strokes_of_layers, is_collapsed, linework}
-use Rattle.linework.proofs.Members.{in_left, in_right, in_either, in_map, from_map, from_filter}
+use Rattle.junctions.proofs.Members.{in_map, from_map, from_filter}
 use Rattle.linework.proofs.Placing.{told}
+use Rattle.list_laws.proofs.Members.{in_left, in_right, in_append}
 
 -- elements of lists that are joined
 joined_left : {X : Type 0} (x : X) (xss yss : List (List X)) → In x (joined xss) → In x (joined (xss ++ yss))
 joined_left x [] yss k = elim k [ ]
-joined_left x (xs ∷ xss) yss k = elim (in_either x xs (joined xss) k) [ inl m ↦ in_left x xs (joined (xss ++ yss)) m | inr m ↦ in_right x xs (joined (xss ++ yss)) (joined_left x xss yss m) ]
+joined_left x (xs ∷ xss) yss k = elim (in_append x xs (joined xss) k) [ inl m ↦ in_left x xs (joined (xss ++ yss)) m | inr m ↦ in_right x xs (joined (xss ++ yss)) (joined_left x xss yss m) ]
 
 joined_right : {X : Type 0} (x : X) (xss yss : List (List X)) → In x (joined yss) → In x (joined (xss ++ yss))
 joined_right x [] yss k = k
@@ -35,36 +34,7 @@ joined_right x (xs ∷ xss) yss k = in_right x xs (joined (xss ++ yss)) (joined_
 -- a cleaned list has no other positions
 clean_in : (p q : Point) (qs : List Point) → In p (clean_from q qs) → In p (q ∷ qs)
 clean_in p q [] k = k
-clean_in p q (r ∷ qs) k = on (same q r) k (λ m. clean_in p r qs m)
-  where
-    on : (b : Bool) → In p (cond b (clean_from r qs) (q ∷ clean_from r qs)) → (In p (clean_from r qs) → In p (r ∷ qs)) → In p (q ∷ (r ∷ qs))
-    on true k ih = inr (ih k)
-    on false (inl e) ih = inl e
-    on false (inr k) ih = inr (ih k)
-
--- the positions of a shape, at each kind
-abbrev collect : Shape → List Point
-collect = fold-Geometry Point (List Point) (List Point) (List Point) points_step
-
-points-line : (l : List Point) → shape_points (g.Line l) ≡ l
-unfolding shape_points
-points-line l = ap collect (sym (g.rolls-Line l)) ∙ fold-roll-Geometry Point (List Point) (List Point) (List Point) points_step (Geometry-F.Line l)
-
-points-lines : (ls : List (List Point)) → shape_points (g.Lines ls) ≡ joined ls
-unfolding shape_points
-points-lines ls = ap collect (sym (g.rolls-Lines ls)) ∙ fold-roll-Geometry Point (List Point) (List Point) (List Point) points_step (Geometry-F.Lines ls)
-
-points-area : (rs : List (List Point)) → shape_points (g.Area rs) ≡ joined rs
-unfolding shape_points
-points-area rs = ap collect (sym (g.rolls-Area rs)) ∙ fold-roll-Geometry Point (List Point) (List Point) (List Point) points_step (Geometry-F.Area rs)
-
-points-areas : (rss : List (List (List Point))) → shape_points (g.Areas rss) ≡ joined (joined rss)
-unfolding shape_points
-points-areas rss = ap collect (sym (g.rolls-Areas rss)) ∙ fold-roll-Geometry Point (List Point) (List Point) (List Point) points_step (Geometry-F.Areas rss)
-
-points-group : (ss : List Shape) → shape_points (g.Group ss) ≡ joined (map shape_points ss)
-unfolding shape_points
-points-group ss = ap collect (sym (g.rolls-Group ss)) ∙ fold-roll-Geometry Point (List Point) (List Point) (List Point) points_step (Geometry-F.Group ss)
+clean_in p q (r ∷ qs) k = grind (arith, clean_in p r qs)
 
 -- the positions of the lines of a shape are its own
 abbrev Line : Type 0
@@ -86,14 +56,11 @@ lines_in closed (l ∷ ls) b p (inr k) m = in_right p l (joined ls) (lines_in cl
 
 areas_in : (rss : List (List (List Point))) → AreIn (joined (map (map (λ r. (true, r))) rss)) (joined (joined rss))
 areas_in [] b p k m = elim k [ ]
-areas_in (rs ∷ rss) b p k m = elim (in_either b (map (λ r. (true, r)) rs) (joined (map (map (λ r. (true, r))) rss)) k) [
-  | inl n ↦ joined_left p rs (joined rss) (lines_in true rs b p n m)
-  | inr n ↦ joined_right p rs (joined rss) (areas_in rss b p n m)
-]
+areas_in (rs ∷ rss) b p k m = grind (arith, areas_in rss b p, in_append b, joined_left p rs (joined rss), lines_in true rs b p, joined_right p rs (joined rss))
 
 members_in : (ss : List Shape) → AllByRecursion Holds ss → AreIn (joined (map strokes ss)) (joined (map shape_points ss))
 members_in [] all b p k m = elim k [ ]
-members_in (s ∷ ss) all b p k m = elim (in_either b (strokes s) (joined (map strokes ss)) k) [
+members_in (s ∷ ss) all b p k m = elim (in_append b (strokes s) (joined (map strokes ss)) k) [
   | inl n ↦ in_left p (shape_points s) (joined (map shape_points ss)) (all.0 b p n m)
   | inr n ↦ in_right p (shape_points s) (joined (map shape_points ss)) (members_in ss all.1 b p n m)
 ]
@@ -105,17 +72,16 @@ lines_are_in : (s : Shape) → Holds s
 lines_are_in = by_kinds Holds (record {
   point = λ p. by_both (g.Point p) [] (shape_points (g.Point p)) (strokes-point Point (List Point) p) refl (none_in (shape_points (g.Point p)));
   points = λ ps. by_both (g.MultiPoint ps) [] (shape_points (g.MultiPoint ps)) (strokes-points Point (List Point) ps) refl (none_in (shape_points (g.MultiPoint ps)));
-  line = λ l. by_both (g.Line l) ((false, l) ∷ []) l (strokes-line Point (List Point) l) (points-line l) (λ b p k m. elim k [ inl e ↦ subst (λ (z : Line). In p z.1) e m | inr k ↦ absurd k ]);
-  lines = λ ls. by_both (g.Lines ls) (map (λ l. (false, l)) ls) (joined ls) (strokes-lines Point (List Point) ls) (points-lines ls) (lines_in false ls);
-  area = λ rs. by_both (g.Area rs) (map (λ r. (true, r)) rs) (joined rs) (strokes-area Point (List Point) rs) (points-area rs) (lines_in true rs);
-  areas = λ rss. by_both (g.Areas rss) (joined (map (map (λ r. (true, r))) rss)) (joined (joined rss)) (strokes-areas Point (List Point) rss) (points-areas rss) (areas_in rss);
-  group = λ ss all. by_both (g.Group ss) (joined (map strokes ss)) (joined (map shape_points ss)) (strokes-group Point (List Point) ss) (points-group ss) (members_in ss all);
+  line = λ l. by_both (g.Line l) ((false, l) ∷ []) l (strokes-line Point (List Point) l) (points_at.line l) (λ b p k m. elim k [ inl e ↦ subst (λ (z : Line). In p z.1) e m | inr k ↦ absurd k ]);
+  lines = λ ls. by_both (g.Lines ls) (map (λ l. (false, l)) ls) (joined ls) (strokes-lines Point (List Point) ls) (points_at.lines ls) (lines_in false ls);
+  area = λ rs. by_both (g.Area rs) (map (λ r. (true, r)) rs) (joined rs) (strokes-area Point (List Point) rs) (points_at.area rs) (lines_in true rs);
+  areas = λ rss. by_both (g.Areas rss) (joined (map (map (λ r. (true, r))) rss)) (joined (joined rss)) (strokes-areas Point (List Point) rss) (points_at.areas rss) (areas_in rss);
+  group = λ ss all. by_both (g.Group ss) (joined (map strokes ss)) (joined (map shape_points ss)) (strokes-group Point (List Point) ss) (points_at.group ss) (members_in ss all);
 })
 
 -- those of features and of layers
 clean_list_in : (p : Point) (ps : List Point) → In p (clean ps) → In p ps
-clean_list_in p [] k = k
-clean_list_in p (q ∷ qs) k = clean_in p q qs k
+clean_list_in p ps h = grind (arith, clean_in)
 
 shape_in : (a : Address) (o : Option Shape) (s : Stroke) (p : Point) → In s (map (stroke_at a) (option_placed o)) → In p s.positions → In p (option_points o)
 shape_in a None s p k m = elim k [ ]
@@ -126,14 +92,14 @@ shape_in a (Some h) s p k m =
 
 features_in : (i j : ℕ) (fs : List Featured) (s : Stroke) (p : Point) → In s (strokes_of_layer i j fs) → In p s.positions → In p (features_points fs)
 features_in i j [] s p k m = elim k [ ]
-features_in i j (f ∷ fs) s p k m = elim (in_either s (map (stroke_at (feature_address i j)) (option_placed f.shape)) (strokes_of_layer i (suc j) fs) k) [
+features_in i j (f ∷ fs) s p k m = elim (in_append s (map (stroke_at (feature_address i j)) (option_placed f.shape)) (strokes_of_layer i (suc j) fs) k) [
   | inl n ↦ in_left p (option_points f.shape) (features_points fs) (shape_in (feature_address i j) f.shape s p n m)
   | inr n ↦ in_right p (option_points f.shape) (features_points fs) (features_in i (suc j) fs s p n m)
 ]
 
 layers_in : (i : ℕ) (ls : List Layer) (s : Stroke) (p : Point) → In s (strokes_of_layers i ls) → In p s.positions → In p (layers_points ls)
 layers_in i [] s p k m = elim k [ ]
-layers_in i (l ∷ ls) s p k m = elim (in_either s (strokes_of_layer i 0 l.features) (strokes_of_layers (suc i) ls) k) [
+layers_in i (l ∷ ls) s p k m = elim (in_append s (strokes_of_layer i 0 l.features) (strokes_of_layers (suc i) ls) k) [
   | inl n ↦ in_left p (features_points l.features) (layers_points ls) (features_in i 0 l.features s p n m)
   | inr n ↦ in_right p (features_points l.features) (layers_points ls) (layers_in (suc i) ls s p n m)
 ]

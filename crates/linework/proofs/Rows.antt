@@ -1,18 +1,18 @@
 -- Worked rows of the definitions: junctions and cut positions of small lines, the linework of small layers.
 use Rattle.std.proofs.Common.{◌≡◌, ℕ, Bool, true, false, List, [], ◌∷◌, map, position, Some, None, refl}
 use Rattle.std.specs.Prelude.{pos}
-use Rattle.geojson_types.specs.declared.address.Cause.TheVariants.{Collapsed}
-use Rattle.geojson_types.specs.declared.geometry.Geometry.TheVariants as g
+use Rattle.geometry.specs.declared.address.Cause.TheVariants.{Collapsed}
+use Rattle.geometry.specs.declared.shape.Geometry.TheVariants as g
 use Rattle.geojson_types.specs.declared.layer.Layer.{Layer}
 use Rattle.geojson_types.specs.Features.{Shape, Featured}
-use Rattle.geojson_types.specs.Points.{Point}
-use Rattle.geojson_types.specs.Rings.{same}
-use Rattle.linework.specs.declared.stroke.Stroke.{Stroke}
-use Rattle.linework.specs.Cleaning.{clean}
-use Rattle.linework.specs.Cuts.{is_cut}
+use Rattle.geometry.specs.Points.{Point}
+use Rattle.geometry.specs.Rings.{same}
+use Rattle.junctions.specs.declared.stroke.Stroke.{Stroke}
+use Rattle.junctions.specs.Cleaning.{clean}
+use Rattle.junctions.specs.Cuts.{is_cut}
 use Rattle.linework.specs.Linework.{linework, collapsed}
-use Rattle.linework.specs.Visits.{first_seen, positions, is_junction}
-use Rattle.linework.proofs.Placing.{placed-point, placed-line, placed-area, placed-group}
+use Rattle.junctions.specs.Visits.{first_seen, positions, is_junction}
+use Rattle.linework.proofs.Placing.{placed_strokes_at}
 
 abbrev at : ℕ → ℕ → Point
 at x y = record { x = pos x; y = pos y }
@@ -108,11 +108,11 @@ one_collapses = layer (g.Line (at 0 5 ∷ (at 10 5 ∷ [])) ∷ (g.Line (at 0 5 
 
 pub one_stays : linework one_collapses ≡ stroke false (at 0 5 ∷ (at 10 5 ∷ [])) ∷ []
 unfolding linework same
-one_stays = simp (placed-line Point (List Point))
+one_stays = simp ((placed_strokes_at Point (List Point)).line)
 
 pub one_is_dropped : collapsed one_collapses ≡ record { address = record { layer = 0; feature = 1; path = [] }; cause = Collapsed } ∷ []
 unfolding collapsed same
-one_is_dropped = simp (placed-line Point (List Point))
+one_is_dropped = simp ((placed_strokes_at Point (List Point)).line)
 
 -- a ring of three positions, which collapsed, in a collection inside a collection
 abbrev nested : List Layer
@@ -120,4 +120,4 @@ nested = layer [] ∷ (layer (g.Group (g.Point (at 3 3) ∷ (g.Group (g.Area ((a
 
 pub ring_is_dropped : collapsed nested ≡ record { address = record { layer = 1; feature = 0; path = 1 ∷ (0 ∷ (0 ∷ [])) }; cause = Collapsed } ∷ []
 unfolding collapsed same
-ring_is_dropped = simp (placed-group Point (List Point), placed-point Point (List Point), placed-area Point (List Point))
+ring_is_dropped = simp ((placed_strokes_at Point (List Point)).group, (placed_strokes_at Point (List Point)).point, (placed_strokes_at Point (List Point)).area)

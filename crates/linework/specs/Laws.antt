@@ -2,13 +2,13 @@
 use Rattle.std.specs.Prelude.{◌≡◌, List, map}
 use Rattle.geojson_types.specs.declared.layer.Layer.{Layer}
 use Rattle.geojson_types.specs.Features.{Shape}
-use Rattle.geojson_types.specs.Lists.{joined}
-use Rattle.geojson_types.specs.Paths.{placed_strokes}
+use Rattle.geometry.specs.Lists.{joined}
+use Rattle.geometry.specs.Paths.{placed_strokes}
 use Rattle.geojson_types.specs.Places.{features_points}
-use Rattle.geojson_types.specs.Points.{Point}
-use Rattle.geojson_types.specs.Pruning.{strokes}
-use Rattle.linework.specs.declared.stroke.Stroke.{Stroke}
-use Rattle.linework.specs.Among.{In}
+use Rattle.geometry.specs.Points.{Point}
+use Rattle.geometry.specs.Pruning.{strokes}
+use Rattle.junctions.specs.declared.stroke.Stroke.{Stroke}
+use Rattle.junctions.specs.Among.{In}
 use Rattle.linework.specs.Linework.{linework}
 
 -- the lines and rings of a shape with the ways to them are its lines and rings, in the same order

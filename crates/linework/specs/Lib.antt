@@ -1,9 +1,9 @@
-pub mod Among
-pub mod Answers
-pub mod Cleaning
-pub mod Cuts
-pub mod Gathering
 pub mod Laws
 pub mod Linework
-pub mod Notes
-pub mod Visits
+pub use Rattle.junctions.specs.Among
+pub use Rattle.junctions.specs.Answers
+pub use Rattle.junctions.specs.Cleaning
+pub use Rattle.junctions.specs.Cuts
+pub use Rattle.junctions.specs.Gathering
+pub use Rattle.junctions.specs.Notes
+pub use Rattle.junctions.specs.Visits

@@ -1,15 +1,15 @@
 -- The linework of layers: their lines and rings in reading order, in which equal neighbours count as one position.
 use Rattle.std.specs.Prelude.{ℕ, suc, Bool, not, List, [], ◌∷◌, ◌++◌, map, Option, None, Some}
 use Rattle.std.specs.List.{filter}
-use Rattle.geojson_types.specs.Points.{Point}
+use Rattle.geometry.specs.Points.{Point}
 use Rattle.geojson_types.specs.Features.{Shape, Featured}
-use Rattle.geojson_types.specs.Paths.{Placed, placed_strokes}
-use Rattle.geojson_types.specs.declared.address.Address.{Address}
-use Rattle.geojson_types.specs.declared.address.Cause.TheVariants.{Collapsed}
-use Rattle.geojson_types.specs.declared.address.Dropped.{Dropped}
+use Rattle.geometry.specs.Paths.{Placed, placed_strokes}
+use Rattle.geometry.specs.declared.address.Address.{Address}
+use Rattle.geometry.specs.declared.address.Dropped.{Dropped}
 use Rattle.geojson_types.specs.declared.layer.Layer.{Layer}
-use Rattle.linework.specs.declared.stroke.Stroke.{Stroke}
-use Rattle.linework.specs.Cleaning.{clean, is_short}
+use Rattle.junctions.specs.declared.stroke.Stroke.{Stroke}
+use Rattle.junctions.specs.Cleaning.{clean}
+pub use Rattle.junctions.specs.Gathering.{is_collapsed, collapse}
 
 -- what stands inside a shape at this address
 abbrev pub stroke_at : Address → Placed (Bool × List Point) → Stroke
@@ -42,14 +42,6 @@ strokes_of_layer layer feature (f ∷ fs) = feature_strokes layer feature f ++ s
 abbrev pub strokes_of_layers : ℕ → List Layer → List Stroke
 strokes_of_layers layer [] = []
 strokes_of_layers layer (l ∷ ls) = strokes_of_layer layer 0 l.features ++ strokes_of_layers (suc layer) ls
-
--- it is left with fewer positions than an open line or a ring has
-abbrev pub is_collapsed : Stroke → Bool
-is_collapsed s = is_short s.closed s.positions
-
--- it is dropped for that
-abbrev pub collapse : Stroke → Dropped
-collapse s = record { address = s.address; cause = Collapsed }
 
 -- the lines and rings of all layers that have enough positions
 unfoldable pub linework : List Layer → List Stroke

@@ -1,11 +1,10 @@
 // Lines in which equal neighbours count as one position.
 ghost use Rattle.std.specs.Prelude.{◌≡◌, ◌<◌, IfOk, length, drop};
-ghost use Rattle.linework.specs.Cleaning.{clean};
-ghost use Rattle.linework.specs.Gathering.{starts_twice};
+ghost use Rattle.junctions.specs.Cleaning.{clean};
+ghost use Rattle.junctions.specs.Gathering.{starts_twice};
 
-use crate::neighbors::is_same;
-use byte_ends::Memory;
-use geojson_types::Position;
+use geometry::{Position, is_same};
+use owned_values::Memory;
 use std::alloc::Global;
 
 /// The positions, each run of equal neighbours as one.

@@ -1,16 +1,15 @@
 // The walk over layers that gathers their lines and rings, each with its address.
 ghost use Rattle.std.specs.Prelude.{◌≡◌, IfOk, OnOk, true, false, map};
-ghost use Rattle.geojson_types.specs.Rings.{is_ring};
-ghost use Rattle.geojson_types.specs.Paths.{alone, of_parts, placed_strokes};
+ghost use Rattle.geometry.specs.Rings.{is_ring};
+ghost use Rattle.geometry.specs.Paths.{alone, of_parts, placed_strokes};
 ghost use Rattle.linework.specs.Linework.{stroke_at, strokes_of_layer};
-ghost use Rattle.linework.specs.Gathering.{with_strokes, part_address};
+ghost use Rattle.junctions.specs.Gathering.{with_strokes, part_address};
 
 use crate::cleaning::cleaned;
-use crate::lines::Lines;
-use crate::stroke::Stroke;
-use byte_ends::Memory;
-use geojson_types::{Address, Feature, Position, Ring, Shape};
-use json_value::Items;
+use geojson_types::Feature;
+use geometry::{Address, Position, Ring, Shape};
+use junctions::{Lines, Stroke};
+use owned_values::{Items, Memory};
 use std::alloc::Global;
 
 /// Adds the lines and rings of the features of the layer with this number.

@@ -1,14 +1,18 @@
 -- What the engine's contract says of standard output.
-use Rattle.std.proofs.Common.{◌≡◌, ◌⊎◌, inl, inr, ℕ, Bool, List, [], ◌∷◌, map, Option, Some, refl, ap, Bor}
+use Rattle.std.proofs.Common.{◌≡◌, ◌⊎◌, inl, inr, ℕ, Bool, List, length, Option, Some, Err, refl}
 use Rattle.std.proofs.lemmas.Bool.{true≢false}
-use Rattle.byte_ends.specs.Ends.{Drained}
-use Rattle.mapchain_engine.specs.declared.fault.BuildFault.{BuildFault}
-use Rattle.mapchain_engine.specs.declared.fault.BuildFault.TheVariants.{EmptyName, DuplicateName, Read, Json, Geo, Write, Memory, NotYet}
+use Rattle.byte_ends.specs.Ends.{Drained, Takes}
+use Rattle.byte_ends.specs.Writes.{Writes, WritesAll}
+use Rattle.byte_ends.specs.declared.sink.WriteFault.{WriteFault}
+use Rattle.byte_ends.specs.declared.sink.WriteFault.TheVariants as write
+use Rattle.inputs.specs.declared.file_fault.FileFault.TheVariants as file
+use Rattle.inputs.specs.Sent.{file_fault_of}
+use Rattle.inputs.specs.declared.fault.BuildFault.{BuildFault}
+use Rattle.inputs.specs.declared.fault.BuildFault.TheVariants.{EmptyName, DuplicateName, Read, Json, Geo, Write, Memory, NotYet}
 use Rattle.mapchain_engine.specs.Building.{IsLateFault}
-use Rattle.mapchain_engine.specs.Sources.{Sources}
+use Rattle.layer_sources.specs.Sources.{Sources}
 use Rattle.mapchain_cli.specs.declared.ending.Ending.TheVariants.{Refused}
 use Rattle.mapchain_cli.specs.Endings.{KeepsUnlessWriting, is_write_fault}
-use Rattle.mapchain_cli.specs.LayerWords.{name_of}
 
 -- a fault other than a failed write leaves the sink as it was
 late_keeps : (exact : Bool) (t : ℕ) (olds news : Sources) (old new : Drained) (e : BuildFault) → IsLateFault exact t olds news old new e → KeepsUnlessWriting (Refused e) old new
@@ -27,7 +31,11 @@ pub refused_keeps : (early : Option BuildFault) (exact : Bool) (t : ℕ) (olds n
 refused_keeps early exact t olds news old new e keeps (inl is) k = keeps is
 refused_keeps early exact t olds news old new e keeps (inr h) k = late_keeps exact t olds news old new e h k
 
--- the names of words that are lent are those of the words
-pub named : (words : List (Bor (List ℕ))) → map (λ w. name_of w.now) words ≡ map name_of (map (λ w. w.now) words)
-named [] = refl
-named (w ∷ ws) = ap (λ names. name_of w.now ∷ names) (named ws)
+-- ---- the text of a summary is sent
+
+module _ (old new : Drained) (text : List ℕ) where
+  pub summary_sent : (sent : ℕ) → WritesAll old new 0 text sent → Takes old new text (length text) × (new.failures ≡ 0)
+  summary_sent sent w = (w.took, w.sound)
+
+  pub summary_cut : (e : WriteFault) → Writes old new 0 text (Err e) → (sent : ℕ) × (file_fault_of e ≡ file.Write sent)
+  summary_cut (write.Write sent) w = (sent, refl)

@@ -1,23 +1,23 @@
 -- How a run ends, and what it did to standard output.
 use Rattle.std.specs.Prelude.{◌≡◌, ℕ, Bool, true, false, List, length, map}
 use Rattle.byte_ends.specs.Ends.{Fed, Drained, Takes}
-use Rattle.mapchain_engine.specs.declared.fault.BuildFault.TheVariants.{Write}
-use Rattle.mapchain_engine.specs.declared.file_fault.FileFault.TheVariants as file
-use Rattle.mapchain_engine.specs.declared.report.Report.{Report}
-use Rattle.mapchain_engine.specs.declared.summary.Summary.{Summary}
+use Rattle.inputs.specs.declared.fault.BuildFault.TheVariants.{Write}
+use Rattle.inputs.specs.declared.file_fault.FileFault.TheVariants as file
+use Rattle.reports.specs.declared.report.Report.{Report}
+use Rattle.reports.specs.declared.summary.Summary.{Summary}
 use Rattle.mapchain_engine.specs.Building.{IsBuilt}
-use Rattle.mapchain_engine.specs.Geo.{IsDecoded}
-use Rattle.mapchain_engine.specs.Sources.{Sources}
-use Rattle.mapchain_engine.specs.Summaries.{summary_text, IsSummarised}
+use Rattle.topology_files.specs.Geo.{IsDecoded}
+use Rattle.layer_sources.specs.Sources.{Sources}
+use Rattle.reports.specs.Summaries.{summary_text}
+use Rattle.topology_files.specs.Files.{IsSummarised}
 use Rattle.mapchain_cli.specs.declared.ending.Ending.{Ending}
 use Rattle.mapchain_cli.specs.declared.ending.Ending.TheVariants.{Refused, FileRefused}
-use Rattle.mapchain_cli.specs.LayerWords.{name_of}
 
--- the topology of the layers that the words name was written, each under the name before its word's first `=`
-pub record BuildsOf (exact : Bool) (words : List (List ℕ)) (old new : Drained) (report : Report) : Type 0 where
+-- the topology of layers with these names was written
+pub record BuildsOf (exact : Bool) (names : List (List ℕ)) (old new : Drained) (report : Report) : Type 0 where
   pub sources_old : Sources
   pub sources_new : Sources
-  pub names : map (λ s. s.0) sources_old ≡ map name_of words
+  pub named : map (λ s. s.0) sources_old ≡ names
   pub built : IsBuilt exact 0 sources_old sources_new old new report
 
 -- the text of the features of an object of this name was written, of the topology that a source's bytes spell

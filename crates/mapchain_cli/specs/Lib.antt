@@ -1,4 +1,1 @@
 pub mod Endings
-pub mod FaultLines
-pub mod LayerWords
-pub mod Statuses

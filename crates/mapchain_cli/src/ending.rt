@@ -1,4 +1,5 @@
 // How a run ends that isn't done.
+use command_words::WordsFault;
 use mapchain_engine::{BuildFault, FileFault};
 use std::alloc::{AllocError, AllocFailed};
 
@@ -6,9 +7,7 @@ use std::alloc::{AllocError, AllocFailed};
 #[derive(Drop)]
 pub(crate) enum Ending {
     /// The words are refused, or ask for help.
-    Words(clap::Error),
-    /// The layer word of this number has no `=`.
-    NoEquals { layer: usize },
+    Words(WordsFault),
     /// The file of a layer couldn't be opened, or the engine refused to build.
     Refused(BuildFault),
     /// The file of a topology couldn't be opened, or the engine refused it.
@@ -17,14 +16,14 @@ pub(crate) enum Ending {
     Memory,
 }
 
-impl From<clap::Error> for Ending {
+impl From<WordsFault> for Ending {
     ghost use Rattle.std.specs.Prelude.{◌≡◌};
     ghost use Rattle.mapchain_cli.specs.declared.ending.Ending.TheVariants.{Words};
 
-    ghost from_gives = { λ error e. e ≡ Words error };
+    ghost from_gives = { λ fault e. e ≡ Words fault };
 
-    fn from(error: clap::Error) -> Ending {
-        Ending::Words(error)
+    fn from(fault: WordsFault) -> Ending {
+        Ending::Words(fault)
     }
 }
 

@@ -1,11 +1,12 @@
 // Running the commands that take the file of a topology.
 ghost use Rattle.std.specs.Prelude.{◌≡◌, ℕ, IfErr, IfOk};
 ghost use Rattle.mapchain_cli.specs.Endings.{DecodesOf, KeepsUnlessWriting, SendsSummary, Summarises};
-ghost use Rattle.mapchain_engine.specs.declared.file_fault.FileFault.TheVariants as file;
+ghost use Rattle.inputs.specs.declared.file_fault.FileFault.TheVariants as file;
 
 use crate::ending::Ending;
 use crate::files::Files;
-use byte_ends::{Broken, Drain, ReadFault, Sink, Source, WriteFault};
+use byte_ends::{Drain, ReadFault, Sink, Source};
+use inputs::flush_behind;
 use mapchain_engine::{FileFault, Summary, stat, summary_text, to_geo};
 use std::alloc::Global;
 
@@ -38,14 +39,9 @@ fn send_summary<V: Drain>(summary: &Summary, out: &mut Sink<V>) -> Result<(), Fi
     ensures sent { IfOk result (λ _. SendsSummary out.old out.new summary.now) }
     ensures failed { IfErr result (λ e. (sent : ℕ) × (e ≡ file.Write sent)) }
 {
-    match summary_text(summary, out) {
-        Ok(sent) => match out.finish() {
-            Ok(()) => Ok(()),
-            Err(Broken) => Err(FileFault::Write { sent }),
-        },
-        Err(WriteFault::Write { sent }) => Err(FileFault::Write { sent }),
-        Err(WriteFault::Memory) => unreachable!(),
-    }
+    let written = summary_text(summary, out);
+    flush_behind(written, out)?;
+    Ok(())
 }
 
 /// Counts what is in a topology.

@@ -1,21 +1,16 @@
-//! The program `mapchain` over any files and streams: from the words of its command line to its exit status. It stands
-//! on `clap` for the words and on `mapchain_engine` for the work. A program above calls `command` with the words, the
-//! file system and its standard streams, and ends with the status that it answers, which is at most 3.
+//! The program `mapchain` over any files and streams: from the words of its command line to its exit status. It stands on
+//! `command_words` for the words, on `mapchain_engine` for the work and on `fault_lines` for what is told of a fault. A program above
+//! calls `command` with the words, the file system and its standard streams, and ends with the status that it answers, which is at
+//! most 3.
 #![tactic(auto)]
 
 mod ending;
-mod fault_line;
 mod file_running;
-mod file_usage;
 mod files;
-mod layer_words;
 mod running;
-mod sink_text;
-mod statuses;
 mod telling;
-mod usage;
 
+pub use command_words::name_and_path;
+pub use fault_lines::{file_status, status};
 pub use files::Files;
-pub use layer_words::name_and_path;
 pub use running::command;
-pub use statuses::{file_status, status};

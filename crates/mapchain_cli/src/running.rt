@@ -1,18 +1,14 @@
 // Running the program.
 ghost use Rattle.std.specs.Prelude.{◌≡◌, ◌⊎◌, ◌≤◌, IfErr, IfOk, map};
-ghost use Rattle.mapchain_cli.specs.LayerWords.{name_of};
 ghost use Rattle.mapchain_cli.specs.Endings.{BuildsOf, KeepsUnlessWriting};
 
 use crate::ending::Ending;
 use crate::file_running::{decode_object, summarise};
-use crate::file_usage::{FILE, GEO, OBJECT, STAT};
 use crate::files::Files;
-use crate::layer_words::names_and_paths;
-use crate::statuses::DONE;
 use crate::telling::tell;
-use crate::usage::{BUILD, EXACT, LAYERS, program};
 use byte_ends::{Drain, ReadFault, Sink, Source};
-use clap::error::ErrorKind;
+use command_words::{Request, read_words};
+use fault_lines::DONE;
 use json_value::OwnText;
 use mapchain_engine::{BuildFault, Options, Report, build, report_text};
 use std::alloc::Global;
@@ -39,19 +35,18 @@ fn open_layers<F: Files>(
     Ok(sources)
 }
 
-/// Builds the topology of the layers that these words name.
+/// Builds the topology of the layers with these names, each in the file of its path.
 fn build_layers<F: Files, V: Drain>(
     alloc: Global,
-    words: &[&str],
+    layers: &[(&str, &str)],
     exact: bool,
     files: &mut F,
     out: &mut Sink<V>,
 ) -> Result<Report, Ending>
-    ensures built { IfOk result (λ report. BuildsOf exact (map (λ w. w.now) words.now) out.old out.new report) }
+    ensures built { IfOk result (λ report. BuildsOf exact (map (λ l. l.0.now) layers.now) out.old out.new report) }
     ensures refused { IfErr result (λ ending. KeepsUnlessWriting ending out.old out.new) }
 {
-    let layers = names_and_paths(alloc, words)?;
-    let mut sources = open_layers(alloc, &layers, files)?;
+    let mut sources = open_layers(alloc, layers, files)?;
     let options = Options {
         grid: None,
         threshold: 0,
@@ -61,7 +56,7 @@ fn build_layers<F: Files, V: Drain>(
     Ok(report)
 }
 
-/// Runs the command that the words name, and gives the report of a build.
+/// Does what the words ask for, and gives the report of a build.
 fn run<F: Files, V: Drain>(
     alloc: Global,
     words: &[String],
@@ -71,27 +66,20 @@ fn run<F: Files, V: Drain>(
     ensures done { IfOk result (λ _. out.new.failures ≡ 0) }
     ensures refused { IfErr result (λ ending. KeepsUnlessWriting ending out.old out.new) }
 {
-    let mut program = program(alloc)?;
-    let matches = program.try_get_matches_from_mut(words)?;
-    if let Some(arguments) = matches.subcommand_matches(BUILD) {
-        let layers = arguments.get_strs(LAYERS).unwrap_or(&[]);
-        let exact = arguments.get_flag(EXACT);
-        let report = build_layers(alloc, layers, exact, files, out)?;
-        return Ok(Some(report));
+    match read_words(alloc, words)? {
+        Request::Build { layers, exact } => {
+            let report = build_layers(alloc, layers.as_slice(), exact, files, out)?;
+            Ok(Some(report))
+        }
+        Request::Geo { name, path } => {
+            decode_object(alloc, name, path, files, out)?;
+            Ok(None)
+        }
+        Request::Stat { path } => {
+            summarise(alloc, path, files, out)?;
+            Ok(None)
+        }
     }
-    if let Some(arguments) = matches.subcommand_matches(GEO) {
-        let name = arguments.get_str(OBJECT).unwrap_or("");
-        let path = arguments.get_str(FILE).unwrap_or("");
-        decode_object(alloc, name, path, files, out)?;
-        return Ok(None);
-    }
-    if let Some(arguments) = matches.subcommand_matches(STAT) {
-        let path = arguments.get_str(FILE).unwrap_or("");
-        summarise(alloc, path, files, out)?;
-        return Ok(None);
-    }
-    let error = program.error(ErrorKind::MissingSubcommand, "a command is missing")?;
-    Err(Ending::Words(error))
 }
 
 /// Runs the program on the words behind its name. Standard output takes the topology, the features, the summary or the

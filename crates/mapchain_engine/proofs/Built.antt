@@ -3,6 +3,9 @@ use Rattle.std.proofs.Common.{◌≡◌, inl, inr, ℕ, suc, ◌<◌, ◌≤◌,
 use Rattle.std.specs.Prelude.{if◌then◌else◌}
 use Rattle.std.specs.List.{AllByRecursion}
 use Rattle.byte_ends.specs.Ends.{Fed, Drained, Takes, saturated}
+use Rattle.byte_ends.specs.Writes.{Writes, WritesAll}
+use Rattle.byte_ends.specs.declared.sink.WriteFault.{WriteFault}
+use Rattle.byte_ends.specs.declared.sink.WriteFault.TheVariants as write
 use Rattle.json_value.specs.Text.{json_text}
 use Rattle.geojson_types.specs.declared.counts.Counts.{Counts}
 use Rattle.topojson_types.specs.Validity.{AreDistinct}
@@ -15,20 +18,22 @@ use Rattle.build_meaning.specs.Expected.{expected_dropped}
 use Rattle.build_meaning.specs.Laws.{AreSound, DecodesBack, EachSegmentOnce, IsValid}
 use Rattle.build_meaning.specs.Layers.{names_of}
 use Rattle.build_meaning.proofs.Renumbered.{kept_in, built_objects, built_has_no_transform}
-use Rattle.geojson_types.specs.Points.{Point}
+use Rattle.geometry.specs.Points.{Point}
 use Rattle.topojson_meaning.specs.Bounds as bounds
 use Rattle.topojson_meaning.specs.Laws.{ReadsBack, TextIsRead}
-use Rattle.mapchain_engine.specs.declared.fault.BuildFault.{BuildFault}
-use Rattle.mapchain_engine.specs.declared.fault.BuildFault.TheVariants.{EmptyName, DuplicateName, Read, Json, Geo, Write, Memory, NotYet}
-use Rattle.mapchain_engine.specs.declared.report.Report.{Report}
-use Rattle.mapchain_engine.specs.Building.{is_built_yet, early_fault, SaysTopology, Builds, IsBuilt, IsLateFault, Sends, positions_in, report_of, report_with}
+use Rattle.inputs.specs.declared.fault.BuildFault.{BuildFault}
+use Rattle.inputs.specs.declared.fault.BuildFault.TheVariants.{EmptyName, DuplicateName, Read, Json, Geo, Write, Memory, NotYet}
+use Rattle.reports.specs.declared.report.Report.{Report}
+use Rattle.reports.specs.Summaries.{positions_in}
+use Rattle.mapchain_engine.specs.Building.{is_built_yet, early_fault, SaysTopology, Builds, IsBuilt, IsLateFault, Sends, report_of, report_with}
 use Rattle.mapchain_engine.specs.declared.options.Options.{Options}
-use Rattle.mapchain_engine.specs.Names.{name_fault, or_else, IsRefusedFor}
-use Rattle.mapchain_engine.specs.Reading.{FailsToRead}
-use Rattle.mapchain_engine.specs.Sources.{Sources, Named, AllRead, FailsAt, FailsToReadAll, added}
+use Rattle.inputs.specs.Sent.{build_fault_of}
+use Rattle.layer_sources.specs.Names.{name_fault, or_else, IsRefusedFor}
+use Rattle.layer_sources.specs.Reading.{FailsToRead}
+use Rattle.layer_sources.specs.Sources.{Sources, Named, AllRead, FailsAt, FailsToReadAll, added}
 use Rattle.mapchain_engine.proofs.SoundLayers.{AllTaken, all_taken, layers_sound, names_kept, names_read, objects_nest, objects_number}
 use Rattle.mapchain_engine.proofs.NamesDistinct.{distinct_names}
-use Rattle.mapchain_engine.proofs.SourcesRead.{untroubled_all}
+use Rattle.layer_sources.proofs.SourcesRead.{untroubled_all}
 
 -- the text of the topology of layers
 abbrev pub text_of : ℕ → Named → List ℕ
@@ -90,6 +95,15 @@ pub report_at_zero : ZeroLaw → (ls : Named) (cs : List Counts) → report_with
 report_at_zero zero ls cs =
     ap (λ n. record { counts = added cs; dropped = expected_dropped 0 ls; arcs = length (built 0 ls).arcs; kept = positions_in (built 0 ls).arcs; removed = n })
     (sym (ap saturated (none_out zero ls)))
+
+-- ---- the text is sent
+
+module _ (old new : Drained) (text : List ℕ) where
+  pub sent_whole : (sent : ℕ) → WritesAll old new 0 text sent → Takes old new text (length text) × (new.failures ≡ 0)
+  sent_whole sent w = (w.took, w.sound)
+
+  pub sent_in_part : (e : WriteFault) → Writes old new 0 text (Err e) → Sends old new text (Err (build_fault_of e))
+  sent_in_part (write.Write sent) w = (w.many, w.took, omega (arith, w.counted), w.failed)
 
 -- ---- nothing is written
 

@@ -17,15 +17,15 @@ use Rattle.build_meaning.specs.Built.{built}
 use Rattle.build_meaning.specs.Expected.{expected}
 use Rattle.topojson_meaning.specs.declared.fault.TopoFault.{TopoFault}
 use Rattle.topojson_meaning.specs.Topologies.{topology}
-use Rattle.mapchain_engine.specs.declared.report.Report.{Report}
-use Rattle.mapchain_engine.specs.declared.summary.Summary.{Summary}
+use Rattle.reports.specs.declared.report.Report.{Report}
+use Rattle.reports.specs.declared.summary.Summary.{Summary}
 use Rattle.mapchain_engine.specs.Building.{IsBuilt}
-use Rattle.mapchain_engine.specs.Files.{topology_depth, IsTopologyRead}
-use Rattle.mapchain_engine.specs.Geo.{features_text, IsDecoded}
+use Rattle.topology_files.specs.Files.{topology_depth, IsTopologyRead, IsSummarised}
+use Rattle.topology_files.specs.Geo.{features_text, IsDecoded}
 use Rattle.mapchain_engine.specs.Laws.{IsWrittenTo, WritesEach, DecodesBack, SummarisesBack}
-use Rattle.mapchain_engine.specs.Sources.{Sources, Named}
-use Rattle.mapchain_engine.specs.Summaries.{summary_of, IsSummarised}
-use Rattle.mapchain_engine.proofs.BytesDecided.{same_bytes}
+use Rattle.layer_sources.specs.Sources.{Sources, Named}
+use Rattle.reports.specs.Summaries.{summary_of}
+use Rattle.inputs.proofs.BytesDecided.{same_bytes}
 
 -- what a sink took behind what it had
 took_behind : (old new : Option (List ℕ)) (before bytes text : List ℕ) → old ≡ Some before → new ≡ Some (before ++ bytes) → Appends old new text → bytes ≡ text

@@ -1,10 +1,5 @@
 pub mod Built
 pub mod BuiltAgain
-pub mod BytesDecided
 pub mod Decided
-pub mod FilesDecided
-pub mod Lists
 pub mod NamesDistinct
-pub mod NamesFound
-pub mod SourcesRead
 pub mod SoundLayers

@@ -4,8 +4,8 @@ use Rattle.std.specs.Prelude.{bytes_eq}
 use Rattle.std.proofs.lemmas.Slice.Eq.{bytes_eq-Decides}
 use Rattle.std.specs.List.{AllByRecursion}
 use Rattle.topojson_types.specs.Validity.{AreDistinct}
-use Rattle.mapchain_engine.specs.declared.fault.BuildFault.TheVariants.{DuplicateName}
-use Rattle.mapchain_engine.specs.Names.{is_among, fault_of_name, or_else, name_fault, name_fault_behind}
+use Rattle.inputs.specs.declared.fault.BuildFault.TheVariants.{DuplicateName}
+use Rattle.layer_sources.specs.Names.{is_among, fault_of_name, or_else, name_fault, name_fault_behind}
 
 both_none : {A : Type 0} (a b : Option A) → or_else a b ≡ None → (a ≡ None) × (b ≡ None)
 both_none None b h = (refl, h)

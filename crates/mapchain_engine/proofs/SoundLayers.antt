@@ -12,8 +12,8 @@ use Rattle.geojson_types.specs.Features.{Featured, Shape, is_proper_option}
 use Rattle.geojson_types.specs.Nesting.{feature_nesting}
 use Rattle.geojson_types.specs.Numbers.{FeatureHasNumbers}
 use Rattle.geojson_types.specs.Places.{option_points}
-use Rattle.geojson_types.specs.Points.{Point, IsInput, IsPosition}
-use Rattle.geojson_types.specs.Pruning.{option_strokes}
+use Rattle.geometry.specs.Points.{Point, IsInput, IsPosition}
+use Rattle.geometry.specs.Pruning.{option_strokes}
 use Rattle.geojson_types.proofs.Nestings.{option_pruned_nests}
 use Rattle.geojson_model.proofs.SoundFeatures.{IsSoundFeature}
 use Rattle.geojson_model.proofs.SoundLayers.{layer_sound}
@@ -23,8 +23,8 @@ use Rattle.build_meaning.specs.Laws.{IsSound, AreSound, IsRingIfClosed}
 use Rattle.build_meaning.specs.Layers.{names_of}
 use Rattle.build_meaning.specs.Objects.{Kept, features_by, objects_by}
 use Rattle.topojson_meaning.specs.Bounds as bounds
-use Rattle.mapchain_engine.specs.Reading.{layer_depth}
-use Rattle.mapchain_engine.specs.Sources.{Sources, Named, IsLayerRead, AllRead}
+use Rattle.layer_sources.specs.Reading.{layer_depth}
+use Rattle.layer_sources.specs.Sources.{Sources, Named, IsLayerRead, AllRead}
 
 -- ---- features
 

@@ -7,25 +7,29 @@ use Rattle.json_value.specs.Grammar.{Reads}
 use Rattle.geojson_types.specs.declared.counts.Counts.{Counts}
 use Rattle.geojson_types.specs.declared.layer.FeatureSet.TheVariants as set
 use Rattle.geojson_types.specs.Counting.{no_counts}
-use Rattle.geojson_types.specs.declared.address.Dropped.{Dropped}
-use Rattle.geojson_types.specs.Points.{Point}
+use Rattle.geometry.specs.declared.address.Dropped.{Dropped}
+use Rattle.geometry.specs.Points.{Point}
 use Rattle.json_value.specs.Text.{json_text}
 use Rattle.topojson_types.specs.Decoding.{decoded}
 use Rattle.topojson_types.specs.Topologies.{Contents}
 use Rattle.topojson_types.specs.Values.{topology_value}
 use Rattle.arc_table.specs.Laws.{AreOnceIn}
-use Rattle.build_meaning.specs.Built.{all_arcs, built, positions_of, taken_out}
+use Rattle.build_meaning.specs.Built.{all_arcs, built, taken_out}
 use Rattle.build_meaning.specs.Expected.{expected, expected_dropped}
+use Rattle.build_meaning.specs.Laws.{DecodesBack, EachSegmentOnce, IsValid}
 use Rattle.build_meaning.specs.Layers.{layers_of, names_of}
 use Rattle.cutter.specs.Segments.{line_segments}
 use Rattle.linework.specs.Linework.{linework}
+use Rattle.elimination_meaning.specs.Laws.{ZeroLaw}
+use Rattle.topojson_meaning.specs.Laws.{ReadsBack, TextIsRead}
 use Rattle.topojson_meaning.specs.Topologies.{topology}
-use Rattle.mapchain_engine.specs.declared.fault.BuildFault.{BuildFault}
-use Rattle.mapchain_engine.specs.declared.fault.BuildFault.TheVariants.{Write, NotYet, Memory}
+use Rattle.inputs.specs.declared.fault.BuildFault.{BuildFault}
+use Rattle.inputs.specs.declared.fault.BuildFault.TheVariants.{Write, NotYet, Memory}
 use Rattle.mapchain_engine.specs.declared.options.Options.{Options}
-use Rattle.mapchain_engine.specs.declared.report.Report.{Report}
-use Rattle.mapchain_engine.specs.Names.{name_fault, or_else}
-use Rattle.mapchain_engine.specs.Sources.{Sources, Named, AllRead, FailsAt, AreUntroubled, added}
+use Rattle.reports.specs.declared.report.Report.{Report}
+use Rattle.reports.specs.Summaries.{positions_in}
+use Rattle.layer_sources.specs.Names.{name_fault, or_else}
+use Rattle.layer_sources.specs.Sources.{Sources, Named, AllRead, FailsAt, AreUntroubled, added}
 
 -- ---- before anything is read
 
@@ -40,6 +44,17 @@ is_built_yet options = is_none options.grid && (options.threshold == 0)
 -- the first fault of the names, or else of what is asked for
 abbrev pub early_fault : Options → List (List ℕ) → Option BuildFault
 early_fault options names = or_else (name_fault names) (if is_built_yet options then None else Some NotYet)
+
+-- ---- what building rests on
+
+-- what is built is valid, decodes back and has each segment once; nothing is taken out at zero; what is written is read again
+pub record BuildingLaws : Type 0 where
+  pub valid : IsValid
+  pub back : DecodesBack
+  pub once : EachSegmentOnce
+  pub zero : ZeroLaw
+  pub read : ReadsBack
+  pub spelled : TextIsRead
 
 -- ---- what is written
 
@@ -56,10 +71,6 @@ pub record SaysTopology (threshold : ℕ) (layers : Named) (text : List ℕ) : T
   pub shared : contents ≡ built threshold layers
   pub written : text ≡ json_text (topology_value contents)
   pub once : AreOnceIn (all_arcs (linework (layers_of layers))) (line_segments (linework (layers_of layers)))
-
--- the positions of all arcs
-abbrev pub positions_in : List (List Point) → ℕ
-positions_in arcs = saturated (positions_of arcs)
 
 -- the counts, what is dropped, and the arcs with their positions, of which none was taken out
 abbrev pub report_with : Counts → List Dropped → List (List Point) → Report

@@ -9,12 +9,13 @@ use Rattle.build_meaning.specs.Expected.{expected, kept_line}
 use Rattle.build_meaning.specs.Laws.{whole_line}
 use Rattle.build_meaning.specs.Layers.{layers_of, named_strokes}
 use Rattle.linework.specs.Linework.{linework}
-use Rattle.mapchain_engine.specs.declared.report.Report.{Report}
-use Rattle.mapchain_engine.specs.declared.summary.Summary.{Summary}
+use Rattle.reports.specs.declared.report.Report.{Report}
+use Rattle.reports.specs.declared.summary.Summary.{Summary}
 use Rattle.mapchain_engine.specs.Building.{IsBuilt}
-use Rattle.mapchain_engine.specs.Geo.{features_text, IsDecoded}
-use Rattle.mapchain_engine.specs.Sources.{Sources, Named}
-use Rattle.mapchain_engine.specs.Summaries.{summary_of, IsSummarised}
+use Rattle.topology_files.specs.Geo.{features_text, IsDecoded}
+use Rattle.layer_sources.specs.Sources.{Sources, Named}
+use Rattle.reports.specs.Summaries.{summary_of}
+use Rattle.topology_files.specs.Files.{IsSummarised}
 
 -- A source has left what a build wrote to its sink behind what had been there.
 pub record IsWrittenTo (sink_old sink_new : Drained) (source : Fed) : Type 0 where

@@ -1,12 +1,4 @@
 pub mod Building
-pub mod FileOutcomes
-pub mod Files
-pub mod Geo
 pub mod Laws
-pub mod Names
 pub mod Outcomes
 pub mod Ranges
-pub mod Reading
-pub mod Reports
-pub mod Sources
-pub mod Summaries

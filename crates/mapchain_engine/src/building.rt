@@ -7,53 +7,37 @@ ghost use Rattle.build_meaning.specs.Layers.{layers_of};
 ghost use Rattle.cutter.specs.Slices.{split_of};
 ghost use Rattle.linework.specs.Linework.{linework};
 ghost use Rattle.mapchain_engine.specs.Building as spec;
-ghost use Rattle.mapchain_engine.specs.Building.{early_fault, IsBuilt, IsLateFault, Sends};
-ghost use Rattle.mapchain_engine.specs.Names.{name_fault};
-ghost use Rattle.mapchain_engine.specs.Outcomes.{ComesTo, Follows, HaveBytes, Outcome};
+ghost use Rattle.mapchain_engine.specs.Building.{early_fault, BuildingLaws, IsBuilt, IsLateFault, Sends};
+ghost use Rattle.layer_sources.specs.Names.{name_fault};
+ghost use Rattle.layer_sources.specs.Outcomes.{ComesTo, HaveBytes, Outcome};
+ghost use Rattle.mapchain_engine.specs.Outcomes.{Follows};
 
-use crate::fault::BuildFault;
-use crate::names::check_names;
 use crate::options::Options;
-use crate::reading::read_layers;
-use crate::report::Report;
 use arc_table::Table;
 use build_meaning::{built_decodes_back, built_is_valid, each_segment_once};
-use byte_ends::{Broken, Drain, Feed, Memory, Sink, Source, WriteFault};
+use byte_ends::{Drain, Feed, Memory, Sink, Source};
 use cutter::cut;
 use elimination_meaning::zero_law;
 use geojson_model::{Counts, Layer};
 use geojson_types::Dropped;
+use inputs::{BuildFault, flush_behind};
 use json_value::{Items, OwnText};
-use linework::{Lines, Vertices};
+use layer_sources::{check_names, read_layers};
+use linework::{Lines, OfLayers, Vertices};
+use reports::{Report, positions_in};
 use std::alloc::Global;
 use topo_model::{Cell, Topology, assemble};
-use topojson_writer::write_topology;
 use topojson_meaning::{reads_back, topology_text_is_read};
+use topojson_writer::write_topology;
 
 /// Writes the topology, which has no transform, and flushes the sink.
 fn send<W: Drain>(topology: &Topology, sink: &mut Sink<W>) -> Result<(), BuildFault>
     requires { topology.now.transform ≡ None }
     ensures { Sends sink.old sink.new (json_text (topology_value topology.now)) result }
 {
-    match write_topology(topology, sink) {
-        Ok(sent) => match sink.finish() {
-            Ok(()) => Ok(()),
-            Err(Broken) => Err(BuildFault::Write { sent }),
-        },
-        Err(WriteFault::Write { sent }) => Err(BuildFault::Write { sent }),
-        Err(WriteFault::Memory) => unreachable!(),
-    }
-}
-
-/// The positions of all arcs.
-pub(crate) fn positions_in(arcs: &[Items<Cell>]) -> u64
-    ensures { result ≡ spec.positions_in arcs.now }
-{
-    let mut kept: u64 = 0;
-    'arcs: for arc in arcs {
-        kept = kept.saturating_add(arc.len() as u64);
-    }
-    kept
+    let written = write_topology(topology, sink);
+    flush_behind(written, sink)?;
+    Ok(())
 }
 
 /// The report of layers with these counts, of which these lines and rings are dropped, over these arcs.
@@ -79,6 +63,18 @@ fn shared_arcs(alloc: Global, layers: &[(OwnText, Layer)]) -> Result<Table, Memo
     Table::build(alloc, &pieces)
 }
 
+/// The laws that the contract of building rests on. This does nothing.
+fn building_laws()
+    ensures { BuildingLaws }
+{
+    built_is_valid();
+    built_decodes_back();
+    each_segment_once();
+    zero_law();
+    reads_back();
+    topology_text_is_read();
+}
+
 /// Builds the topology of named layers, whose names are taken, and writes it.
 fn build_layers<R: Feed, W: Drain>(
     alloc: Global,
@@ -90,12 +86,7 @@ fn build_layers<R: Feed, W: Drain>(
     ensures built { IfOk result (λ report. IsBuilt exact 0 sources.old sources.new sink.old sink.new report) }
     ensures refused { IfErr result (λ e. IsLateFault exact 0 sources.old sources.new sink.old sink.new e) }
 {
-    built_is_valid();
-    built_decodes_back();
-    each_segment_once();
-    zero_law();
-    reads_back();
-    topology_text_is_read();
+    building_laws();
     let (layers, counts) = read_layers(alloc, sources, exact)?;
     let table = shared_arcs(alloc, &layers)?;
     let (topology, dropped) = assemble(alloc, layers, &table)?;

@@ -11,24 +11,23 @@ use Rattle.build_meaning.specs.Objects.{Kept, features_by, objects_by}
 use Rattle.build_meaning.specs.Trimming.{is_used, keep_from, renumbered, line_renumbered, object_renumbered, trimmed}
 use Rattle.build_meaning.proofs.Candidates.{map_map, stroke, named_are, own_left, objects_left}
 use Rattle.build_meaning.proofs.Linework.{long_of, long_strokes, split_lists}
-use Rattle.build_meaning.proofs.Lists.{weaker}
 use Rattle.build_meaning.proofs.Once.{same_pieces}
 use Rattle.build_meaning.proofs.Renumbered.{kept_renumbered, objects_once}
 use Rattle.build_meaning.proofs.Whole.{each_stays}
 use Rattle.cutter.specs.Slices.{split_of, piece_lists}
 use Rattle.elimination_meaning.specs.Laws.{ZeroLaw}
-use Rattle.geojson_types.specs.declared.address.Cause.{Cause}
-use Rattle.geojson_types.specs.declared.address.Cause.TheVariants.{Collapsed, Small, Outer}
+use Rattle.geometry.specs.declared.address.Cause.{Cause}
+use Rattle.geometry.specs.declared.address.Cause.TheVariants.{Collapsed, Small, Outer}
 use Rattle.geojson_types.specs.Features.{Shape, Featured}
-use Rattle.geojson_types.specs.Lists.{map_some, then_some, with_some, some_of}
-use Rattle.geojson_types.specs.Omissions.{inner_cause, dropped_of_layers}
-use Rattle.geojson_types.specs.Points.{Point}
-use Rattle.geojson_types.specs.Pruning.{prune, option_strokes}
-use Rattle.geojson_types.proofs.Agreement.{all_left, all_right, agreed}
-use Rattle.geojson_types.proofs.Omitted.{omissions_agree}
-use Rattle.linework.specs.Cleaning.{clean, is_short}
+use Rattle.geometry.specs.Lists.{map_some, then_some, with_some, some_of}
+use Rattle.geometry.specs.Omissions.{inner_cause, dropped_of_layers}
+use Rattle.geometry.specs.Points.{Point}
+use Rattle.geometry.specs.Pruning.{prune, option_strokes}
+use Rattle.geometry.proofs.Agreement.{all_left, all_right, agreed}
+use Rattle.geometry.proofs.Omitted.{omissions_agree}
+use Rattle.junctions.specs.Cleaning.{clean, is_short}
 use Rattle.linework.specs.Linework.{linework}
-use Rattle.linework.specs.declared.stroke.Stroke.{Stroke}
+use Rattle.junctions.specs.declared.stroke.Stroke.{Stroke}
 use Rattle.topojson_types.specs.declared.object.TopoObject.{TopoObject}
 use Rattle.topojson_types.specs.Topologies.{Contents}
 use Rattle.topo_model.specs.Drops.{short_cause, option_drops, drops}
@@ -37,6 +36,7 @@ use Rattle.topo_model.specs.Fates.{fates, dealt, dealt_kept}
 use Rattle.topo_model.specs.Marks.{names_arc, any_names_arc}
 use Rattle.topo_model.specs.Uses.{answers}
 use Rattle.topo_model.proofs.Ranked.{answers_same}
+use Rattle.list_laws.proofs.Elements.{all_weaker}
 
 -- ---- the table
 
@@ -126,7 +126,7 @@ cause_by false false r w h = refl
 -- only for too few positions
 causes : LosesNothing → (ls : Named) → AreSound ls → AllByRecursion (λ b. own_cause (lines_of ls) 0 b.0 b.1 ≡ short_cause b.0 b.1) (named_strokes ls)
 causes whole ls sound =
-    weaker _ (λ b. own_cause (lines_of ls) 0 b.0 b.1 ≡ short_cause b.0 b.1)
+    all_weaker _ (λ b. own_cause (lines_of ls) 0 b.0 b.1 ≡ short_cause b.0 b.1)
     (λ b h. cause_by (is_short b.0 (clean b.1)) (is_small b.0 (rebuilt (lines_of ls) 0 b.0 b.1)) (rebuilt (lines_of ls) 0 b.0 b.1) _ h)
     (named_strokes ls) (whole ls sound)
 
@@ -191,7 +191,7 @@ before_trimming : ZeroLaw → LosesNothing → (ls : Named) → AreSound ls → 
 before_trimming zero whole ls sound =
     let lines = lines_of ls in
     ap (λ os. contents os (all_arcs lines)) (objects_agree (each ls) (kept_refs lines 0) ls
-    (weaker (λ b. own_cause lines 0 b.0 b.1 ≡ short_cause b.0 b.1) (λ b. each ls b.0 b.1 ≡ kept_refs lines 0 b.0 b.1)
+    (all_weaker (λ b. own_cause lines 0 b.0 b.1 ≡ short_cause b.0 b.1) (λ b. each ls b.0 b.1 ≡ kept_refs lines 0 b.0 b.1)
     (λ b h. ap (λ c. unless c (refs_in lines b.0 b.1)) (sym h)) (named_strokes ls) (causes whole ls sound)))
     ∙ ap (contents (untrimmed 0 ls).objects) (sym (each_stays zero (all_arcs lines)))
 

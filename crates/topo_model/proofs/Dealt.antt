@@ -3,8 +3,8 @@ use Rattle.std.proofs.Common.{◌≡◌, ℕ, ◌+◌, ◌<◌, ◌≤◌, nat_l
 use Rattle.std.proofs.lemmas.Bool.Decides.{nat_tests}
 use Rattle.std.proofs.lemmas.List.{drop_all, drop_more}
 use Rattle.std.proofs.lemmas.Option.{slice_get_within, get_or_from_slice_get}
-use Rattle.geojson_types.specs.declared.address.Cause.{Cause}
-use Rattle.geojson_types.specs.Lists.{map_some, tail}
+use Rattle.geometry.specs.declared.address.Cause.{Cause}
+use Rattle.geometry.specs.Lists.{map_some, tail}
 use Rattle.topo_model.specs.Fates.{is_collapsed, first, dealt}
 
 -- what has no line takes none

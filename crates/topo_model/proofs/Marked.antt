@@ -5,8 +5,8 @@ use Rattle.std.proofs.Math.Bool.{or_assoc, or-false, or-true}
 use Rattle.std.proofs.lemmas.Bool.Decides.{nat_tests}
 use Rattle.std.proofs.lemmas.List.{take_all, drop_all}
 use Rattle.std.proofs.lemmas.List.Folds.{list_any_more}
-use Rattle.geojson_types.specs.declared.address.Cause.{Cause}
-use Rattle.geojson_types.specs.Lists.{with_some, some_of}
+use Rattle.geometry.specs.declared.address.Cause.{Cause}
+use Rattle.geometry.specs.Lists.{with_some, some_of}
 use Rattle.build_meaning.specs.Candidates.{if_kept}
 use Rattle.topo_model.specs.Fates.{is_collapsed, dealt_kept}
 use Rattle.topo_model.specs.Marks.{also_set, any_names_arc, kept_names_arc}

@@ -1,11 +1,12 @@
 -- Ranks of arcs, and the arcs that are kept.
 use Rattle.std.proofs.Common.{◌≡◌, ℕ, zero, suc, ◌+◌, ◌<◌, ◌≤◌, ℤ, pos, negsuc, ◌-ℤ◌, Bool, true, false, List, [], ◌∷◌, ◌++◌, length, take, get_or, if◌then◌else◌, refl, sym, ap, ◌∙◌, arith, append-nil}
 use Rattle.std.specs.Prelude.{slice_get, Some}
-use Rattle.std.proofs.lemmas.List.{length-take, take_more}
-use Rattle.std.proofs.lemmas.Option.{slice_get-get_or, slice_get_within, get_or_from_slice_get}
+use Rattle.std.proofs.lemmas.List.{length-take}
+use Rattle.std.proofs.lemmas.Option.{slice_get-get_or}
 use Rattle.build_meaning.specs.Trimming.{keep_from, rank_from, renumbered}
-use Rattle.topojson_types.specs.Joins.{number_of, is_reversed}
+use Rattle.geometry.specs.Joins.{number_of, is_reversed}
 use Rattle.topo_model.specs.Uses.{answers}
+use Rattle.list_laws.proofs.Lists.{take_got}
 
 -- ---- answers
 
@@ -106,9 +107,6 @@ kept_backwards u (negsuc i) rank turned e b t = t ∙ ap (λ z. negsuc 0 -ℤ z)
     complement (suc r) = let same : suc (0 + r) ≡ suc r = omega arith in ap negsuc same
 
 -- ---- lists read by number
-
-take_got : {X : Type 0} (xs : List X) (i : ℕ) (x : X) → slice_get xs i ≡ Some x → take (i + 1) xs ≡ take i xs ++ (x ∷ [])
-take_got xs i x got = take_more xs i x (slice_get_within xs i x got) ∙ ap (λ y. take i xs ++ (y ∷ [])) (get_or_from_slice_get xs i x x got)
 
 -- ---- arcs that are kept
 

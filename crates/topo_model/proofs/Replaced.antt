@@ -1,11 +1,11 @@
 -- What replacing the lines of a part of a shape says of the shape.
 use Rattle.std.proofs.Common.{◌≡◌, ℕ, ◌≤◌, ℤ, Bool, true, false, List, [], ◌∷◌, ◌++◌, map, length, Option, None, Some, refl, sym, ap, ◌∙◌, arith}
-use Rattle.geojson_types.specs.declared.geometry.Geometry.TheVariants as g
+use Rattle.geometry.specs.declared.shape.Geometry.TheVariants as g
 use Rattle.geojson_types.specs.Features.{Shape}
-use Rattle.geojson_types.specs.Lists.{map_some, then_some, some_of, unless_empty, joined}
-use Rattle.geojson_types.specs.Points.{Point}
-use Rattle.geojson_types.specs.Pruning.{area_by, prune, strokes, option_strokes}
-use Rattle.geojson_types.proofs.Cases.{prune-point, prune-points, prune-line, prune-lines, prune-area, prune-areas, prune-group, strokes-point, strokes-points, strokes-line, strokes-lines, strokes-area, strokes-areas, strokes-group}
+use Rattle.geometry.specs.Lists.{map_some, then_some, some_of, unless_empty, joined}
+use Rattle.geometry.specs.Points.{Point}
+use Rattle.geometry.specs.Pruning.{area_by, prune, strokes, option_strokes}
+use Rattle.geometry.proofs.Cases.{prune-point, prune-points, prune-line, prune-lines, prune-area, prune-areas, prune-group, strokes-point, strokes-points, strokes-line, strokes-lines, strokes-area, strokes-areas, strokes-group}
 use Rattle.topojson_types.specs.Topologies.{TopoShape}
 use Rattle.build_meaning.specs.Objects.{Kept}
 use Rattle.topo_model.specs.Entries.{Entries, entries_of, Replaces}

@@ -1,10 +1,10 @@
 -- How many positions are left of a line, one position after the other.
 use Rattle.std.proofs.Common.{◌≡◌, ℕ, suc, ◌+◌, ◌<◌, ◌≤◌, Bool, true, false, cond, List, [], ◌∷◌, drop, length, get_or, ap, sym, ◌∙◌, arith}
 use Rattle.std.proofs.lemmas.List.{drop_more}
-use Rattle.geojson_types.specs.Points.{Point}
-use Rattle.geojson_types.specs.Rings.{same}
-use Rattle.linework.specs.Cleaning.{clean_from}
-use Rattle.linework.proofs.Cleaned.{same_is}
+use Rattle.geometry.specs.Points.{Point}
+use Rattle.geometry.specs.Rings.{same}
+use Rattle.geometry.proofs.Points.{same_is}
+use Rattle.junctions.specs.Cleaning.{clean_from}
 
 -- at least one is left
 pub some_left : (p : Point) (ps : List Point) → 1 ≤ length (clean_from p ps)

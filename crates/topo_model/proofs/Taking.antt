@@ -2,19 +2,16 @@
 use Rattle.std.proofs.Common.{◌≡◌, ℕ, zero, suc, ◌+◌, ◌-◌, ◌<◌, ◌≤◌, ℤ, Bool, true, false, ◌==◌, List, [], ◌∷◌, ◌++◌, map, length, take, drop, get_or, Option, None, Some, refl, sym, ap, ◌∙◌, arith, append-nil, append_assoc}
 use Rattle.std.proofs.lemmas.Bool.Decides.{nat_tests}
 use Rattle.std.proofs.lemmas.List.{take_more, take_all, map-append}
-use Rattle.geojson_types.specs.Lists.{map_some, with_some, some_of, joined, tail}
-use Rattle.geojson_types.specs.Lists as lists
-use Rattle.geojson_types.specs.Points.{Point}
-use Rattle.geojson_types.specs.Pruning.{area_by}
+use Rattle.geometry.specs.Lists.{map_some, with_some, some_of, joined, tail}
+use Rattle.geometry.specs.Lists as lists
+use Rattle.geometry.specs.Points.{Point}
+use Rattle.geometry.specs.Pruning.{area_by}
 use Rattle.build_meaning.specs.Objects.{Kept}
 use Rattle.build_meaning.proofs.Candidates.{some_append}
 use Rattle.topo_model.specs.Entries.{Entries, next_of, entries_of, Replaces}
+use Rattle.list_laws.proofs.Lists.{joined_append}
 
 -- ---- lists
-
-joined_append : {A : Type 0} (xs ys : List (List A)) → joined (xs ++ ys) ≡ joined xs ++ joined ys
-joined_append [] ys = refl
-joined_append (x ∷ xs) ys = ap (λ zs. x ++ zs) (joined_append xs ys) ∙ sym (append_assoc x (joined xs) (joined ys))
 
 pub is_empty : (b : Bool) (n m : ℕ) → b ≡ (n == 0) → n ≡ m → b ≡ true → m ≡ 0
 is_empty b n m e k h = grind (arith, nat_tests)

@@ -1,37 +1,29 @@
 -- What is dropped, told part by part, feature by feature and layer by layer.
 use Rattle.std.proofs.Common.{◌≡◌, ℕ, suc, ◌+◌, ◌<◌, ◌≤◌, true, false, List, [], ◌∷◌, ◌++◌, map, drop, length, Option, get_or, append_assoc, append-nil, refl, ap, sym, ◌∙◌, arith}
 use Rattle.std.proofs.lemmas.List.{at_drop_all, at_drop_more, map-append}
-use Rattle.geojson_types.specs.declared.address.Address.{Address}
-use Rattle.geojson_types.specs.declared.address.Cause.{Cause}
-use Rattle.geojson_types.specs.declared.address.Dropped.{Dropped}
-use Rattle.geojson_types.specs.declared.geometry.Geometry.{Geometry, fold-Geometry, fold-roll-Geometry}
-use Rattle.geojson_types.specs.declared.geometry.Geometry.TheOpen.{Geometry-F}
-use Rattle.geojson_types.specs.declared.geometry.Geometry.TheVariants as g
+use Rattle.geometry.specs.declared.address.Address.{Address}
+use Rattle.geometry.specs.declared.address.Cause.{Cause}
+use Rattle.geometry.specs.declared.address.Dropped.{Dropped}
+use Rattle.geometry.specs.declared.shape.Geometry.{Geometry}
+use Rattle.geometry.specs.declared.shape.Geometry.TheVariants as g
 use Rattle.geojson_types.specs.Features.{Featured}
-use Rattle.geojson_types.specs.Lists.{joined}
-use Rattle.geojson_types.specs.Omissions.{here, area_omissions, omissions_step, omissions, dropped_of_layers}
-use Rattle.geojson_types.specs.Paths.{Placed, inside_part, of_parts}
-use Rattle.geojson_types.specs.Points.{Point}
-use Rattle.geojson_types.proofs.Cases.{omissions-line, omissions-lines, omissions-area, omissions-areas, omissions-group}
+use Rattle.geometry.specs.Lists.{joined}
+use Rattle.geometry.specs.Omissions.{here, area_omissions, omissions_step, omissions, dropped_of_layers}
+use Rattle.geometry.specs.Paths.{Placed, inside_part, of_parts}
+use Rattle.geometry.specs.Points.{Point}
+use Rattle.geometry.proofs.Cases.{omissions-line, omissions-lines, omissions-area, omissions-areas, omissions-group, omissions_at}
 use Rattle.build_meaning.specs.Candidates.{Candidate, free, area_candidates, candidates, option_candidates, features_candidates, named_candidates, fate}
-use Rattle.build_meaning.proofs.Candidates as candidate
 use Rattle.build_meaning.specs.Layers.{Named}
+use Rattle.build_meaning.proofs.Candidates.{candidates_at}
 use Rattle.geojson_types.specs.declared.layer.Layer.{Layer}
-use Rattle.linework.specs.Gathering.{part_address}
+use Rattle.geometry.proofs.ByKind.{AtKinds}
+use Rattle.junctions.specs.Gathering.{part_address}
 use Rattle.linework.specs.Linework.{feature_address}
 use Rattle.topo_model.specs.Drops.{short_cause, option_drops, dropped_at, layer_drops}
 use Rattle.topo_model.specs.Fates.{fates}
 
-abbrev tell : Geometry Point (List Point) (List Point) → List (Placed Cause)
-tell = fold-Geometry Point (List Point) (List Point) (List (Placed Cause)) (omissions_step short_cause)
-
-pub of_point : (p : Point) → omissions {P = Point} {L = List Point} short_cause (g.Point p) ≡ []
-unfolding omissions
-of_point p = ap tell (sym (g.rolls-Point p)) ∙ fold-roll-Geometry Point (List Point) (List Point) (List (Placed Cause)) (omissions_step short_cause) (Geometry-F.Point p)
-
-pub of_points : (ps : List Point) → omissions {P = Point} {L = List Point} short_cause (g.MultiPoint ps) ≡ []
-unfolding omissions
-of_points ps = ap tell (sym (g.rolls-MultiPoint ps)) ∙ fold-roll-Geometry Point (List Point) (List Point) (List (Placed Cause)) (omissions_step short_cause) (Geometry-F.MultiPoint ps)
+pub told_at : AtKinds (omissions {P = Point} {L = List Point} short_cause) (omissions_step short_cause)
+told_at = omissions_at Point (List Point) short_cause
 
 pub of_line : (l : List Point) → omissions {P = Point} {L = List Point} short_cause (g.Line l) ≡ here (short_cause false l)
 of_line = omissions-line Point (List Point) short_cause
@@ -51,25 +43,25 @@ of_group = omissions-group Point (List Point) short_cause
 -- ---- fates, by the kind of a shape
 
 pub fates_of_point : (p : Point) → fates (candidates {P = Point} {L = List Point} (short_cause true) (g.Point p)) ≡ []
-fates_of_point p = ap fates (candidate.candidates-point Point (List Point) (short_cause true) p)
+fates_of_point p = ap fates ((candidates_at Point (List Point) (short_cause true)).point p)
 
 pub fates_of_points : (ps : List Point) → fates (candidates {P = Point} {L = List Point} (short_cause true) (g.MultiPoint ps)) ≡ []
-fates_of_points ps = ap fates (candidate.candidates-points Point (List Point) (short_cause true) ps)
+fates_of_points ps = ap fates ((candidates_at Point (List Point) (short_cause true)).points ps)
 
 pub fates_of_line : (l : List Point) → fates (candidates {P = Point} {L = List Point} (short_cause true) (g.Line l)) ≡ short_cause false l ∷ []
-fates_of_line l = ap fates (candidate.candidates-line Point (List Point) (short_cause true) l)
+fates_of_line l = ap fates ((candidates_at Point (List Point) (short_cause true)).line l)
 
 pub fates_of_lines : (ls : List (List Point)) → fates (candidates {P = Point} {L = List Point} (short_cause true) (g.Lines ls)) ≡ fates (map (free false) ls)
-fates_of_lines ls = ap fates (candidate.candidates-lines Point (List Point) (short_cause true) ls)
+fates_of_lines ls = ap fates ((candidates_at Point (List Point) (short_cause true)).lines ls)
 
 pub fates_of_area : (rs : List (List Point)) → fates (candidates {P = Point} {L = List Point} (short_cause true) (g.Area rs)) ≡ fates (area_candidates (short_cause true) rs)
-fates_of_area rs = ap fates (candidate.candidates-area Point (List Point) (short_cause true) rs)
+fates_of_area rs = ap fates ((candidates_at Point (List Point) (short_cause true)).area rs)
 
 pub fates_of_areas : (areas : List (List (List Point))) → fates (candidates {P = Point} {L = List Point} (short_cause true) (g.Areas areas)) ≡ fates (joined (map (area_candidates (short_cause true)) areas))
-fates_of_areas areas = ap fates (candidate.candidates-areas Point (List Point) (short_cause true) areas)
+fates_of_areas areas = ap fates ((candidates_at Point (List Point) (short_cause true)).areas areas)
 
 pub fates_of_group : (ss : List (Geometry Point (List Point) (List Point))) → fates (candidates {P = Point} {L = List Point} (short_cause true) (g.Group ss)) ≡ fates (joined (map (candidates {P = Point} {L = List Point} (short_cause true)) ss))
-fates_of_group ss = ap fates (candidate.candidates-group Point (List Point) (short_cause true) ss)
+fates_of_group ss = ap fates ((candidates_at Point (List Point) (short_cause true)).group ss)
 
 -- ---- part by part
 

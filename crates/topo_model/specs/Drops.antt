@@ -2,15 +2,15 @@
 -- whose outer ring is dropped.
 use Rattle.std.specs.Prelude.{ℕ, Bool, List, [], ◌++◌, Option, None, Some, map, if◌then◌else◌}
 use Rattle.build_meaning.specs.Layers.{Named}
-use Rattle.geojson_types.specs.declared.address.Address.{Address}
-use Rattle.geojson_types.specs.declared.address.Cause.{Cause}
-use Rattle.geojson_types.specs.declared.address.Cause.TheVariants.{Collapsed}
-use Rattle.geojson_types.specs.declared.address.Dropped.{Dropped}
+use Rattle.geometry.specs.declared.address.Address.{Address}
+use Rattle.geometry.specs.declared.address.Cause.{Cause}
+use Rattle.geometry.specs.declared.address.Cause.TheVariants.{Collapsed}
+use Rattle.geometry.specs.declared.address.Dropped.{Dropped}
 use Rattle.geojson_types.specs.Features.{Featured, Shape}
-use Rattle.geojson_types.specs.Omissions.{omissions, dropped_of_layer, dropped_of_layers}
-use Rattle.geojson_types.specs.Paths.{Placed}
-use Rattle.geojson_types.specs.Points.{Point}
-use Rattle.linework.specs.Cleaning.{clean, is_short}
+use Rattle.geometry.specs.Omissions.{omissions, dropped_of_layer, dropped_of_layers}
+use Rattle.geometry.specs.Paths.{Placed}
+use Rattle.geometry.specs.Points.{Point}
+use Rattle.junctions.specs.Cleaning.{clean, is_short}
 
 -- why a line (false) or ring (true) is dropped for its own sake
 abbrev pub short_cause : Bool → List Point → Option Cause

@@ -1,7 +1,7 @@
 -- Entries: what stands for each line and ring in reading order, if it is kept, and what is made of a shape and the like by them.
 use Rattle.std.specs.Prelude.{◌≡◌, ℤ, Bool, List, [], ◌∷◌, ◌++◌, map, Option, None}
 use Rattle.build_meaning.specs.Objects.{Kept}
-use Rattle.geojson_types.specs.Points.{Point}
+use Rattle.geometry.specs.Points.{Point}
 
 abbrev pub Entries : Type 0
 Entries = List (Option (List ℤ))

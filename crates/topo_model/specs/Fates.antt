@@ -1,10 +1,10 @@
 -- What becomes of lines and rings where nothing is reduced, and which line of the linework stands for each.
 use Rattle.std.specs.Prelude.{Bool, true, false, List, [], ◌∷◌, map, Option, None, Some, if◌then◌else◌}
 use Rattle.build_meaning.specs.Candidates.{Candidate, fate, if_kept}
-use Rattle.geojson_types.specs.declared.address.Cause.{Cause}
-use Rattle.geojson_types.specs.declared.address.Cause.TheVariants.{Collapsed, Small, Outer}
-use Rattle.geojson_types.specs.Lists.{some_of, tail}
-use Rattle.geojson_types.specs.Points.{Point}
+use Rattle.geometry.specs.declared.address.Cause.{Cause}
+use Rattle.geometry.specs.declared.address.Cause.TheVariants.{Collapsed, Small, Outer}
+use Rattle.geometry.specs.Lists.{some_of, tail}
+use Rattle.geometry.specs.Points.{Point}
 use Rattle.topo_model.specs.Drops.{short_cause}
 
 -- why each is left out, if it is

@@ -1,8 +1,8 @@
 -- The arcs that arc indexes name, and flags that are set for numbers that pass.
 use Rattle.std.specs.Prelude.{ℕ, suc, ◌==◌, ℤ, Bool, false, ◌||◌, List, [], ◌∷◌, Option, None, Some}
 use Rattle.std.specs.List.{list_any}
-use Rattle.geojson_types.specs.declared.address.Cause.{Cause}
-use Rattle.topojson_types.specs.Joins.{number_of}
+use Rattle.geometry.specs.declared.address.Cause.{Cause}
+use Rattle.geometry.specs.Joins.{number_of}
 
 -- one of the indexes names the arc of this number
 abbrev pub names_arc : List ℤ → ℕ → Bool

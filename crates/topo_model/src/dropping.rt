@@ -1,19 +1,19 @@
 // What becomes of the lines and rings of layers: why each is dropped, if it is, and where those stand that are.
 ghost use Rattle.std.specs.Prelude.{◌≡◌, ℕ, ◌∷◌, [], ◌++◌, IfOk, OnOk, map, true, false};
 ghost use Rattle.build_meaning.specs.Candidates.{area_candidates, candidates, features_candidates, free, named_candidates};
-ghost use Rattle.geojson_types.specs.declared.address.Address as declared;
-ghost use Rattle.geojson_types.specs.Lists.{joined};
-ghost use Rattle.geojson_types.specs.Omissions.{here, inner_cause, area_omissions, omissions};
-ghost use Rattle.geojson_types.specs.Paths.{of_parts};
-ghost use Rattle.linework.specs.Gathering.{part_address};
+ghost use Rattle.geometry.specs.declared.address.Address as declared;
+ghost use Rattle.geometry.specs.Lists.{joined};
+ghost use Rattle.geometry.specs.Omissions.{here, inner_cause, area_omissions, omissions};
+ghost use Rattle.geometry.specs.Paths.{of_parts};
+ghost use Rattle.junctions.specs.Gathering.{part_address};
 ghost use Rattle.linework.specs.Linework.{feature_address};
 ghost use Rattle.topo_model.specs.Drops.{drops, dropped_at, layer_drops, short_cause};
 ghost use Rattle.topo_model.specs.Fates.{fates};
 
 use crate::lines::is_short_line;
-use byte_ends::Memory;
 use geojson_types::{Address, Cause, Dropped, Feature, Layer, Position, Ring, Shape};
 use json_value::{Items, OwnText};
+use owned_values::Memory;
 use std::alloc::Global;
 use std::marker::Model;
 

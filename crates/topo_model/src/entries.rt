@@ -1,10 +1,10 @@
 // Entries: what stands for each line and ring in reading order, if it is kept.
 ghost use Rattle.std.specs.Prelude.{◌≡◌, IfOk, drop, take};
-ghost use Rattle.geojson_types.specs.Lists.{some_of, tail};
+ghost use Rattle.geometry.specs.Lists.{some_of, tail};
 ghost use Rattle.topo_model.specs.Entries.{next_of};
 
-use byte_ends::Memory;
 use json_value::Items;
+use owned_values::Memory;
 use std::alloc::Global;
 use topojson_types::ArcRef;
 
@@ -21,7 +21,10 @@ fn copied(alloc: Global, refs: &[ArcRef]) -> Result<Items<ArcRef>, Memory>
 }
 
 /// What stands for the next line or ring, and the entries behind it. Where no entry is left it has none.
-pub fn next_entry<'a>(alloc: Global, entries: &'a [KeptArcs]) -> Result<(KeptArcs, &'a [KeptArcs]), Memory>
+pub fn next_entry<'a>(
+    alloc: Global,
+    entries: &'a [KeptArcs],
+) -> Result<(KeptArcs, &'a [KeptArcs]), Memory>
     ensures taken { IfOk result (λ r. r.0 ≡ next_of entries.now) }
     ensures rest { IfOk result (λ r. r.1.now ≡ tail entries.now) }
 {

@@ -1,6 +1,6 @@
 // Lines and rings that have too few positions.
 ghost use Rattle.std.specs.Prelude.{◌≡◌};
-ghost use Rattle.linework.specs.Cleaning.{clean, is_short};
+ghost use Rattle.junctions.specs.Cleaning.{clean, is_short};
 
 use geojson_types::Position;
 

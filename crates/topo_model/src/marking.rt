@@ -6,8 +6,8 @@ ghost use Rattle.topo_model.specs.Marks.{also_set, any_names_arc, kept_names_arc
 ghost use Rattle.topo_model.specs.Uses.{answers};
 
 use arc_table::Table;
-use byte_ends::Memory;
 use geojson_types::Cause;
+use owned_values::Memory;
 use std::alloc::Global;
 use topojson_types::ArcRef;
 

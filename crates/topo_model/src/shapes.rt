@@ -1,13 +1,13 @@
 // Shapes with their lines replaced by what stands next in the entries.
 ghost use Rattle.std.specs.Prelude.{◌≡◌, IfOk, map, true};
-ghost use Rattle.geojson_types.specs.Lists.{joined, some_of, then_some};
-ghost use Rattle.geojson_types.specs.Pruning.{area_by, option_strokes, prune, strokes};
+ghost use Rattle.geometry.specs.Lists.{joined, some_of, then_some};
+ghost use Rattle.geometry.specs.Pruning.{area_by, option_strokes, prune, strokes};
 ghost use Rattle.topo_model.specs.Entries.{Replaces};
 
 use crate::entries::{KeptArcs, next_entries, next_entry};
-use byte_ends::Memory;
 use geojson_types::{Geometry, Position, Ring, Shape};
 use json_value::Items;
+use owned_values::Memory;
 use std::alloc::Global;
 use topojson_types::{ArcRef, Cell, TopoShape};
 

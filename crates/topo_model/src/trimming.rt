@@ -1,9 +1,9 @@
 // The arcs that are used, and their new numbers.
 ghost use Rattle.std.specs.Prelude.{◌≡◌, ◌<◌, ℕ, Bool, IfOk, length, map, negsuc, pos, ◌-ℤ◌};
 ghost use Rattle.build_meaning.specs.Trimming.{keep_from, rank_from, renumbered};
-ghost use Rattle.topojson_types.specs.Joins.{number_of};
+ghost use Rattle.geometry.specs.Joins.{number_of};
 ghost use Rattle.topojson_types.specs.Validity.{AreInRange};
-ghost use Rattle.geojson_types.specs.Lists.{map_some};
+ghost use Rattle.geometry.specs.Lists.{map_some};
 ghost use Rattle.topo_model.specs.Fates.{dealt};
 ghost use Rattle.topo_model.specs.Uses.{answers};
 
@@ -11,9 +11,9 @@ use crate::entries::KeptArcs;
 use crate::marking::has_line;
 use crate::shapes::cells;
 use arc_table::Table;
-use byte_ends::Memory;
 use geojson_types::Cause;
 use json_value::Items;
+use owned_values::Memory;
 use std::alloc::Global;
 use topojson_types::{ArcRef, Cell};
 

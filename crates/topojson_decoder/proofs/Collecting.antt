@@ -3,7 +3,7 @@ use Rattle.std.proofs.Common.{◌≡◌, ℕ, ◌+◌, ◌<◌, ◌≤◌, List,
 use Rattle.json_value.specs.declared.json.Json.{Json}
 use Rattle.json_value.specs.Kinds.{array_of, object_of}
 use Rattle.geojson_types.specs.declared.counts.Counts.{Counts}
-use Rattle.geojson_types.specs.Points.{Point}
+use Rattle.geometry.specs.Points.{Point}
 use Rattle.topojson_types.specs.declared.transform.Transform.{Transform}
 use Rattle.topojson_types.specs.Topologies.{TopoShape}
 use Rattle.topojson_meaning.specs.declared.fault.TopoFault.{TopoFault}

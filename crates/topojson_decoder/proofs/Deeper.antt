@@ -1,5 +1,5 @@
 -- The measures of the reading of collections fall: what is inside a value is less deep.
-use Rattle.std.proofs.Common.{◌≡◌, ℕ, zero, suc, ◌+◌, ◌*◌, ◌<◌, List, [], ◌∷◌, length, map, get_or, Some, Ok, sym, subst, arith}
+use Rattle.std.proofs.Common.{◌≡◌, ℕ, zero, suc, ◌+◌, ◌*◌, ◌<◌, List, [], ◌∷◌, length, map, get_or, Some, Result, Ok, Err, sym, ap, subst, arith}
 use Rattle.std.specs.List.{AllByRecursion}
 use Rattle.json_value.specs.declared.json.Json.{Json}
 use Rattle.json_value.specs.declared.json.Json.TheVariants as j
@@ -7,7 +7,9 @@ use Rattle.json_value.specs.Depth.{depth, greatest}
 use Rattle.json_value.specs.Kinds.{array_of, object_of}
 use Rattle.json_value.proofs.Depths.{depth-array, depth-object}
 use Rattle.json_value.proofs.KindsOf.{array_of_is, object_of_is}
-use Rattle.json_members.specs.Members.{need}
+use Rattle.json_members.specs.Members as members_by
+use Rattle.topojson_meaning.specs.Members.{need, lookup_fault}
+use Rattle.topojson_meaning.specs.Reader.{with_fault}
 use Rattle.json_members.proofs.Parts.{need_part}
 
 -- the depth of the object with these members
@@ -29,11 +31,17 @@ element_part P [] i x lt e h = absurd (omega arith)
 element_part P (y ∷ xs) zero x lt e h = subst P (sym e) h.0
 element_part P (y ∷ xs) (suc i) x lt e h = element_part P xs i x (omega arith) e h.1
 
+-- what is found with other faults is found
+ok_of : {E F A : Type 0} (f : E → F) (r : Result A E) (x : A) → with_fault f r ≡ Ok x → r ≡ Ok x
+ok_of f (Ok y) x e = let same : y ≡ x = cc in ap Ok same
+ok_of f (Err y) x e = absurd cc
+
 -- ---- measures
 
 -- from an object to the member that it is made of
 pub member_falls : (name : List ℕ) (ms : List (List ℕ × Json)) (v : Json) → need name ms ≡ Ok v → 4 * depth v + 3 < 4 * object_depth ms
-member_falls name ms v e = omega (arith, need_part (λ w. depth w < object_depth ms) name ms v e (object_shallower ms))
+unfolding need
+member_falls name ms v e = omega (arith, need_part (λ w. depth w < object_depth ms) name ms v (ok_of lookup_fault (members_by.need name ms) v e) (object_shallower ms))
 
 -- from the array to an object that is an element
 pub element_falls : (v : Json) (vs : List Json) (i : ℕ) (w : Json) (ms : List (List ℕ × Json)) → array_of v ≡ Some vs → i < length vs → w ≡ get_or vs i w → object_of w ≡ Some ms → 4 * object_depth ms + 1 < 4 * depth v + 2

@@ -1,7 +1,5 @@
 pub mod Collecting
 pub mod Deeper
-pub mod Ends
-pub mod Following
 pub mod Naming
 pub mod Remaining
 pub mod Repeating

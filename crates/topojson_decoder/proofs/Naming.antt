@@ -1,8 +1,8 @@
 -- The turns of the loop that reads objects by name.
-use Rattle.std.proofs.Common.{◌≡◌, ◌≢◌, ℕ, ◌+◌, Bool, true, false, List, [], ◌∷◌, ◌++◌, length, Option, Result, Ok, Err, refl, sym, ap, ◌∙◌, subst, append_assoc, append-nil, length-append, arith}
+use Rattle.std.proofs.Common.{◌≡◌, ◌≢◌, ℕ, ◌+◌, Bool, true, false, List, [], ◌∷◌, ◌++◌, length, Option, Result, Ok, Err, refl, sym, ap, ◌∙◌, subst, append-nil, length-append, arith}
 use Rattle.json_value.specs.declared.json.Json.{Json}
 use Rattle.geojson_types.specs.declared.counts.Counts.{Counts}
-use Rattle.geojson_types.specs.Points.{Point}
+use Rattle.geometry.specs.Points.{Point}
 use Rattle.topojson_types.specs.declared.object.TopoObject.{TopoObject}
 use Rattle.topojson_types.specs.declared.transform.Transform.{Transform}
 use Rattle.topojson_meaning.specs.declared.fault.TopoFault.{TopoFault}
@@ -11,7 +11,7 @@ use Rattle.topojson_meaning.specs.Members.{Members}
 use Rattle.topojson_meaning.specs.Objects.{is_met, object, objects_behind}
 use Rattle.topojson_meaning.specs.Reader.{and_then, give}
 use Rattle.topojson_decoder.specs.Names.{names_before_repeat}
-use Rattle.json_members.proofs.Turns.{with_front}
+use Rattle.json_members.proofs.Turns.{with_front, front_twice}
 use Rattle.topojson_decoder.proofs.Repeating.{names_of, counted_more}
 
 -- objects by name
@@ -21,10 +21,6 @@ Named = List (List ℕ × TopoObject)
 -- with these names met, a repeat comes as many names after those that were read as are left before it
 abbrev pub Repeats : ℕ → List (List ℕ) → Named → Members → Type 0
 Repeats repeat met read left = repeat ≡ names_before_repeat met (names_of left) + length read
-
-one_more : (os : Named) (o : List ℕ × TopoObject) (r : Result (Named × Counts) TopoFault) → with_front os (and_then (λ more. give (o ∷ more)) r) ≡ with_front (os ++ o ∷ []) r
-one_more os o (Ok x) = ap (λ z. Ok (z, x.1)) (sym (append_assoc os (o ∷ []) x.0))
-one_more os o (Err e) = refl
 
 module _ (met : List (List ℕ)) (m : List ℕ × Json) (ms items : Members) (read : Named) (repeat : ℕ) (at : items ≡ m ∷ ms) (repeats : Repeats repeat met read items) where
   here : Repeats repeat met read (m ∷ ms)
@@ -64,7 +60,7 @@ module _ (met : List (List ℕ)) (m : List ℕ × Json) (ms items : Members) (re
       opened = sym (rw (at, new more) refl) ∙ now
 
       pub turns : (o : TopoObject) (after : Counts) → object transform arcs m.1 c ≡ Ok (o, after) → with_front (read ++ (m.0, o) ∷ []) (objects_behind transform arcs (m.0 ∷ met) ms after) ≡ whole
-      turns o after e = sym (one_more read (m.0, o) (objects_behind transform arcs (m.0 ∷ met) ms after)) ∙ (sym (ap then_rest e) ∙ opened)
+      turns o after e = sym (front_twice read ((m.0, o) ∷ []) (objects_behind transform arcs (m.0 ∷ met) ms after)) ∙ (sym (ap then_rest e) ∙ opened)
 
       pub fails : (e : TopoFault) → object transform arcs m.1 c ≡ Err e → whole ≡ Err e
       fails e f = sym opened ∙ ap then_rest f

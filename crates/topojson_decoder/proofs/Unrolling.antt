@@ -6,7 +6,7 @@ use Rattle.json_value.specs.declared.json.Json.TheViews.{out-Json, roll-out-Json
 use Rattle.json_value.specs.declared.json.Json.TheOpen.{Json-F}
 use Rattle.json_value.specs.Kinds.{array_of, array_in, object_of, object_in}
 use Rattle.json_value.proofs.KindsOf.{array_of_is, object_of_is}
-use Rattle.geojson_types.specs.Points.{Point}
+use Rattle.geometry.specs.Points.{Point}
 use Rattle.topojson_types.specs.declared.transform.Transform.{Transform}
 use Rattle.topojson_meaning.specs.declared.fault.TopoFault.TheVariants.{WrongKind}
 use Rattle.topojson_meaning.specs.Members.{Members}

@@ -1,2 +1,1 @@
-pub mod Answers
 pub mod Names

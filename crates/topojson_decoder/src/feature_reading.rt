@@ -1,7 +1,7 @@
 // Reading features.
 ghost use Rattle.std.specs.Prelude.{◌≡◌};
 ghost use Rattle.std.specs.Option.{option_copied};
-ghost use Rattle.topojson_decoder.specs.Answers.{Gives, Finds};
+ghost use Rattle.topojson_meaning.specs.Answers.{Gives, Finds};
 ghost use Rattle.topojson_meaning.specs.Features as spec;
 
 use crate::members::members_of;
@@ -11,8 +11,8 @@ use geojson_types::{Counts, Id};
 use json_members::take;
 use json_value::{Items, Json, OwnText};
 use std::alloc::Global;
-use topojson_types::{Cell, TopoFeature, Transform};
 use topojson_meaning::{GeometryType, TopoFault};
+use topojson_types::{Cell, TopoFeature, Transform};
 
 /// The identifier that the member `id` gives. Absent and null are none.
 fn identifier(value: Option<Json>) -> Result<Option<Id>, TopoFault>

@@ -1,7 +1,7 @@
 // Reading the objects of a topology.
 ghost use Rattle.std.specs.Prelude.{◌≡◌, [], IfOk, map};
 ghost use Rattle.std.specs.Option.{option_copied};
-ghost use Rattle.topojson_decoder.specs.Answers.{Gives};
+ghost use Rattle.topojson_meaning.specs.Answers.{Gives};
 ghost use Rattle.topojson_decoder.specs.Names.{names_before_repeat};
 ghost use Rattle.topojson_meaning.specs.Features.{feature_element as element_of};
 ghost use Rattle.topojson_meaning.specs.GeometryTypes.{is_collection as is_collection_type};
@@ -9,16 +9,15 @@ ghost use Rattle.topojson_meaning.specs.Objects as spec;
 ghost use Rattle.topojson_meaning.specs.Reader.{each};
 
 use crate::feature_reading::{feature, feature_element};
-use crate::members::{elements_of, members_of};
+use crate::members::{elements_of, members_of, taken};
 use crate::types::object_type;
 use byte_ends::Memory;
 use geojson_types::Counts;
-use json_members::take_needed;
 use json_value::{Items, Json, OwnText};
 use std::alloc::Global;
 use std::collections::HashSet;
-use topojson_types::{Cell, TopoFeature, TopoObject, Transform};
 use topojson_meaning::{GeometryType, TopoFault};
+use topojson_types::{Cell, TopoFeature, TopoObject, Transform};
 
 /// The features that these values are, in order.
 fn features_in(
@@ -38,7 +37,7 @@ fn features_in(
 }
 
 /// The object that a collection with these members is: its geometries as features.
-#[tactic(auto, unfolding(topojson_meaning::specs::Objects::collection, topojson_meaning::specs::Objects::features, topojson_meaning::specs::Members::need))]
+#[tactic(auto, unfolding(topojson_meaning::specs::Objects::collection, topojson_meaning::specs::Objects::features))]
 fn collection(
     alloc: Global,
     transform: Option<&Transform>,
@@ -48,7 +47,7 @@ fn collection(
 ) -> Result<TopoObject, TopoFault>
     ensures { Gives (λ o. o) result counts.new (spec.collection (option_copied transform.entry) arcs.now members.items counts.old) }
 {
-    let values = elements_of(take_needed(&mut members, "geometries")?)?;
+    let values = elements_of(taken(&mut members, "geometries")?)?;
     let features = features_in(alloc, transform, arcs, values, counts)?;
     Ok(TopoObject::Many(Items::of(features)))
 }

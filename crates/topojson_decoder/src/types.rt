@@ -1,9 +1,9 @@
 // The types of geometry objects (TopoJSON 1.0, section 2.2).
 ghost use Rattle.std.specs.Prelude.{◌≡◌};
-ghost use Rattle.topojson_decoder.specs.Answers.{Finds};
+ghost use Rattle.topojson_meaning.specs.Answers.{Finds};
 ghost use Rattle.topojson_meaning.specs.GeometryTypes as spec;
 
-use json_members::need;
+use crate::members::needed;
 use json_value::{Json, OwnText};
 use topojson_meaning::{ArcsType, GeometryType, PlacesType, TopoFault};
 
@@ -47,11 +47,11 @@ fn type_of(value: &Json) -> Result<Option<GeometryType>, TopoFault>
 }
 
 /// The type of a geometry object with these members.
-#[tactic(auto, unfolding(topojson_meaning::specs::GeometryTypes::object_type, topojson_meaning::specs::Members::need))]
+#[tactic(auto, unfolding(topojson_meaning::specs::GeometryTypes::object_type))]
 pub(crate) fn object_type(members: &[(OwnText, Json)]) -> Result<Option<GeometryType>, TopoFault>
     ensures { Finds (λ t. t) result (spec.object_type members.now) }
 {
-    type_of(need(members, "type")?)
+    type_of(needed(members, "type")?)
 }
 
 /// The name of the member that a geometry of this type is made of.

@@ -4,16 +4,16 @@ use Rattle.std.proofs.lemmas.List.{take_all, map-append}
 use Rattle.std.proofs.lemmas.List.Folds.{list_all-append}
 use Rattle.std.specs.List.{AllByRecursion, list_all}
 use Rattle.list_laws.proofs.Lists.{made_of_some, mapped_more}
-use Rattle.geojson_types.proofs.ByKind.{proper_at, proper-group}
+use Rattle.geometry.proofs.ByKind.{proper_at, proper-group}
 use Rattle.json_value.specs.Depth.{greatest}
-use Rattle.geojson_types.specs.declared.geometry.Geometry.TheVariants as g
+use Rattle.geometry.specs.declared.shape.Geometry.TheVariants as g
 use Rattle.geojson_types.specs.Features.{Shape, is_some_list, is_line, is_proper}
-use Rattle.geojson_types.specs.Lists.{map_some, some_of, unless_empty}
+use Rattle.geometry.specs.Lists.{map_some, some_of, unless_empty}
 use Rattle.geojson_types.specs.Nesting.{nesting}
-use Rattle.geojson_types.specs.Points.{Point}
-use Rattle.geojson_types.specs.Pruning.{area_by}
-use Rattle.geojson_types.proofs.Cases.{prune-point, prune-points, prune-line, prune-lines, prune-area, prune-areas, prune-group}
-use Rattle.geojson_types.proofs.Cases.{nesting-group}
+use Rattle.geometry.specs.Points.{Point}
+use Rattle.geometry.specs.Pruning.{area_by}
+use Rattle.geometry.proofs.Cases.{prune-point, prune-points, prune-line, prune-lines, prune-area, prune-areas, prune-group}
+use Rattle.geojson_types.proofs.Nestings.{nesting-group}
 use Rattle.topojson_types.specs.Decoding.{decoded_line, decoded_shape, placed_arcs}
 use Rattle.topojson_types.specs.Topologies.{TopoShape, Contents}
 use Rattle.topojson_types.specs.Transforms.{place}
@@ -28,8 +28,7 @@ some_map f [] = refl
 some_map f (x ∷ xs) = ap (λ ys. f x ∷ ys) (some_map f xs)
 
 area_map : {A B : Type 0} (f : A → B) (xs : List A) → is_some_list xs ≡ true → area_by (λ x. Some (f x)) xs ≡ Some (map f xs)
-area_map f [] h = cc
-area_map f (x ∷ xs) h = ap (λ ys. Some (f x ∷ ys)) (some_map f xs)
+area_map f xs h = grind (arith, some_map)
 
 areas_map : {A B : Type 0} (f : A → B) (xss : List (List A)) → list_all is_some_list xss ≡ true → some_of (area_by (λ x. Some (f x))) xss ≡ map (map f) xss
 areas_map f [] h = refl
@@ -37,8 +36,7 @@ areas_map f ([] ∷ xss) h = cc
 areas_map f ((x ∷ xs) ∷ xss) h = rw (some_map f xs, areas_map f xss h) refl
 
 some_mapped : {A B : Type 0} (f : A → B) (xs : List A) → is_some_list (map f xs) ≡ is_some_list xs
-some_mapped f [] = refl
-some_mapped f (x ∷ xs) = refl
+some_mapped f xs = grind arith
 
 all_some_mapped : {A B : Type 0} (f : A → B) (xss : List (List A)) → list_all is_some_list (map (map f) xss) ≡ list_all is_some_list xss
 all_some_mapped f [] = refl
@@ -49,10 +47,7 @@ all_given : {A B : Type 0} (f : A → Option B) (xs : List A) (ys : List B) → 
 all_given f [] [] h = refl
 all_given f [] (y ∷ ys) h = cc
 all_given f (x ∷ xs) [] h = cc
-all_given f (x ∷ xs) (y ∷ ys) h =
-    let e : Some y ≡ f x = cc in
-    let k : map Some ys ≡ map f xs = cc in
-    rw (← e, all_given f xs ys k) refl
+all_given f (x ∷ xs) (y ∷ ys) h = grind (arith, all_given f xs ys)
 
 -- ---- by kinds
 
@@ -127,17 +122,10 @@ module _ (t : Contents) where
 
   pub member_more : (ss : List TopoShape) (i : ℕ) (s : TopoShape) (ds es : List Shape) (d : Shape) → i < length ss → s ≡ get_or ss i s → SoFar ss i ds
       → shown s ≡ Some d → is_proper d ≡ true → es ≡ ds ++ (d ∷ []) → SoFar ss (i + 1) es
-  member_more ss i s ds es d h is so e proper pushed = record {
-    shown = mapped_more shown ss i s (map Some ds) (map Some es) (Some d) h is so.shown (sym e) (ap (map Some) pushed ∙ map-append Some ds (d ∷ []));
-    proper = ap (list_all is_proper) pushed ∙ list_all-append is_proper ds (d ∷ []) ∙ both_pass (list_all is_proper ds) (is_proper d) so.proper proper;
-  }
+  member_more ss i s ds es d h is so e proper pushed = grind (arith, mapped_more, map-append, list_all-append, both_pass)
 
   pub group_decodes : (s : TopoShape) (ss : List TopoShape) (i : ℕ) (ds es : List Shape) → s ≡ g.Group ss → length ss ≤ i → SoFar ss i ds → es ≡ ds → Decodes s (g.Group es)
-  group_decodes s ss i ds es e h so same =
-      rw same (
-        ap shown e ∙ prune-group lies kept ss ∙ ap (λ qs. Some (g.Group qs)) (all_given shown ss ds (so.shown ∙ ap (map shown) (take_all i ss h))),
-        proper-group ds ∙ so.proper,
-      )
+  group_decodes s ss i ds es e h so same = grind (arith, prune-group, all_given, take_all, proper-group)
 
 -- ---- how deep shapes nest
 
@@ -148,7 +136,4 @@ nests_below (s ∷ ss) (suc i) m h e = let k = nests_below ss i m (omega (arith,
 
 -- a member of a group nests less deep
 pub member_nests : (s : TopoShape) (ss : List TopoShape) (i : ℕ) (m : TopoShape) → s ≡ g.Group ss → i < length ss → m ≡ get_or ss i m → nesting m < nesting s
-member_nests s ss i m is h e =
-    let k = nests_below ss i m h e in
-    let n : nesting s ≡ 2 + greatest (map nesting ss) = ap nesting is ∙ nesting-group Point (List ℤ) ss in
-    omega arith
+member_nests s ss i m is h e = grind (arith, nests_below, nesting-group)

@@ -1,22 +1,22 @@
 -- Lines have two positions or more, and rings four, of which the first and the last are equal.
-use Rattle.std.proofs.Common.{◌≡◌, ℕ, zero, suc, ◌-◌, ◌<◌, ◌≤◌, ℤ, true, false, List, [], ◌∷◌, ◌++◌, map, length, Option, None, Some, refl, ap, sym, ◌∙◌, subst, arith, append-nil, length-append, leb}
+use Rattle.std.proofs.Common.{◌≡◌, ℕ, zero, suc, ◌-◌, ◌≤◌, ℤ, true, false, List, [], ◌∷◌, ◌++◌, map, length, Option, None, Some, refl, ap, sym, ◌∙◌, subst, arith, append-nil, length-append, leb}
 use Rattle.std.proofs.lemmas.Bool.Decides.{nat_tests}
 use Rattle.std.proofs.lemmas.List.{length-map}
 use Rattle.std.specs.List.{slice_get}
-use Rattle.geojson_types.proofs.Points.{same_self}
+use Rattle.geometry.proofs.Points.{same_self}
 use Rattle.list_laws.proofs.Elements.{all_weaker, all_map}
 use Rattle.geojson_types.specs.Features.{is_some_list, is_line}
-use Rattle.geojson_types.specs.Lists.{map_some, then_some}
-use Rattle.geojson_types.specs.Points.{Point}
-use Rattle.geojson_types.specs.Rings.{same, is_closed, is_ring}
+use Rattle.geometry.specs.Lists.{map_some, then_some}
+use Rattle.geometry.specs.Points.{Point}
+use Rattle.geometry.specs.Rings.{same, is_closed, is_ring}
 use Rattle.topojson_types.specs.Decoding.{repeated, filled, decoded_line, placed_arcs}
-use Rattle.topojson_types.specs.Joins.{number_of, arc_at, joined_behind_first, rejoined, first_of, last_of, Closes}
+use Rattle.geometry.specs.Joins.{arc_at, joined_behind_first, rejoined, first_of, last_of, Closes}
 use Rattle.topojson_types.specs.Topologies.{Contents}
 use Rattle.topojson_types.specs.Transforms.{place}
 use Rattle.topojson_types.specs.Validity.{AreInRange}
 use Rattle.topojson_features.specs.Strokes.{IsStroke}
-use Rattle.topojson_features.proofs.Opening.{AreLong, arc_long}
-use Rattle.topojson_features.proofs.Placing.{placed_rejoined, long_arcs}
+use Rattle.topojson_walk.proofs.Opening.{AreLong, arc_long}
+use Rattle.topojson_walk.proofs.Placing.{placed_rejoined, long_arcs}
 
 -- ---- ends of lists
 
@@ -31,12 +31,10 @@ last_map f (y ∷ []) x h = ap (map_some f) h
 last_map f (y ∷ (z ∷ xs)) x h = last_map f (z ∷ xs) x h
 
 first_map : {X Y : Type 0} (f : X → Y) (xs : List X) (x : X) → first_of xs ≡ Some x → first_of (map f xs) ≡ Some (f x)
-first_map f [] x h = cc
-first_map f (y ∷ xs) x h = ap (map_some f) h
+first_map f xs x h = grind arith
 
 first_append : (xs ys : List Point) → 2 ≤ length xs → first_of (xs ++ ys) ≡ first_of xs
-first_append [] ys h = absurd (omega (arith, h))
-first_append (x ∷ xs) ys h = refl
+first_append xs ys h = grind arith
 
 first_there : (xs : List Point) → 2 ≤ length xs → (x : Point) × (first_of xs ≡ Some x)
 first_there [] h = absurd (omega (arith, h))
@@ -71,8 +69,7 @@ last_of_same zero p = refl
 last_of_same (suc n) p = last_of_same n p
 
 last_repeated : (n : ℕ) (xs : List Point) (p : Point) → last_of xs ≡ Some p → last_of (xs ++ repeated n p) ≡ Some p
-last_repeated zero xs p h = ap last_of (append-nil xs) ∙ h
-last_repeated (suc n) xs p h = last_append xs p (repeated n p) ∙ last_of_same n p
+last_repeated n xs p h = grind (arith, append-nil, last_append, last_of_same)
 
 -- where the last is the first, the list filled up to four is a ring
 ring_filled : (p : Point) (ps : List Point) → last_of (p ∷ ps) ≡ Some p → is_ring (filled (p ∷ ps)) ≡ true
@@ -85,8 +82,7 @@ ring_filled p ps h =
     rw (large, last) (same_self p)
 
 pub ring_of_ends : (ps : List Point) (p : Point) → first_of ps ≡ Some p → last_of ps ≡ Some p → is_ring (filled ps) ≡ true
-ring_of_ends [] p e h = cc
-ring_of_ends (q ∷ qs) p e h = ring_filled q qs (h ∙ sym e)
+ring_of_ends ps p h k = grind (arith, ring_filled)
 
 -- ---- lines of a valid topology
 
@@ -98,22 +94,12 @@ closes_at : (ps : List (List Point)) (p q : List Point) → first_of ps ≡ Some
 closes_at ps p q e f h = subst (CloseAt (Some p)) f (subst (λ o. CloseAt o (last_of ps)) e h)
 
 long_map : (arcs : List (List Point)) (refs : List ℤ) → AreLong arcs → AreInRange (length arcs) refs → AreLong (map (arc_at arcs) refs)
-long_map arcs refs long ranged =
-    all_map (λ cs. 2 ≤ length cs) (arc_at arcs) refs (all_weaker (λ r. number_of r < length arcs) (λ r. 2 ≤ length (arc_at arcs r)) (λ r h. arc_long arcs r long h) refs ranged)
+long_map arcs refs long ranged = grind (arith, all_map, all_weaker, arc_long)
 
 -- the cells of a ring begin and end with one cell
 ring_ends : (arcs : List (List Point)) (refs : List ℤ) → AreLong arcs → is_some_list refs ≡ true → AreInRange (length arcs) refs → Closes (map (arc_at arcs) refs)
     → (p : Point) × (first_of (rejoined (map (arc_at arcs) refs)) ≡ Some p) × (last_of (rejoined (map (arc_at arcs) refs)) ≡ Some p)
-ring_ends arcs [] long some ranged closes = cc
-ring_ends arcs (r ∷ refs) long some ranged closes =
-    let many = long_map arcs (r ∷ refs) long ranged in
-    let first = first_there (arc_at arcs r) many.0 in
-    let last = last_there (arc_at arcs r) (map (arc_at arcs) refs) in
-    let meets = closes_at (map (arc_at arcs) (r ∷ refs)) (arc_at arcs r) last.0 refl last.1 closes in (
-      first.0,
-      first_append (arc_at arcs r) (joined_behind_first (map (arc_at arcs) refs)) many.0 ∙ first.1,
-      last_joined (arc_at arcs r) (map (arc_at arcs) refs) last.0 many.1 last.1 ∙ meets ∙ first.1,
-    )
+ring_ends arcs refs h k m e = grind (arith, long_map, first_there, last_there, closes_at, first_append, last_joined)
 
 module _ (t : Contents) (refs : List ℤ) where
   -- its positions, before any is added

@@ -1,44 +1,27 @@
 -- The objects of a valid topology, and the shapes of their features.
-use Rattle.std.proofs.Common.{◌≡◌, ℕ, ◌+◌, ◌<◌, ◌≤◌, ℤ, Bool, true, false, List, [], ◌∷◌, map, length, get_or, drop, Option, None, Some, refl, ap, sym, ◌∙◌, subst, if◌then◌else◌}
-use Rattle.std.proofs.lemmas.List.{at_drop_more, at_drop_all}
+use Rattle.std.proofs.Common.{◌≡◌, ℕ, ℤ, Bool, true, List, [], ◌∷◌, map, length, Option, None, Some, refl, ap, sym, ◌∙◌, subst, if◌then◌else◌, arith}
 use Rattle.std.specs.List.{AllByRecursion}
 use Rattle.std.specs.Str.{bytes_eq}
 use Rattle.geojson_types.specs.declared.layer.FeatureSet.{FeatureSet}
 use Rattle.geojson_types.specs.declared.layer.FeatureSet.TheVariants as set
 use Rattle.geojson_types.specs.Features.{Featured, is_some_list}
-use Rattle.geojson_types.specs.Lists.{joined, map_some}
-use Rattle.geojson_types.specs.Pruning.{option_strokes, strokes}
-use Rattle.geojson_types.proofs.Agreement.{all_left, all_right}
+use Rattle.geometry.specs.Lists.{joined, map_some}
+use Rattle.geometry.specs.Pruning.{option_strokes}
+use Rattle.geometry.proofs.Agreement.{all_left, all_right}
 use Rattle.topojson_types.specs.declared.feature.TopoFeature.{TopoFeature}
 use Rattle.topojson_types.specs.declared.object.TopoObject.{TopoObject}
 use Rattle.topojson_types.specs.declared.object.TopoObject.TheVariants.{One, Many}
 use Rattle.topojson_types.specs.Decoding.{decoded, decoded_feature, decoded_object, of_name, placed_arcs}
 use Rattle.topojson_types.specs.Topologies.{TopoShape, Contents, object_features, features_strokes}
 use Rattle.topojson_types.specs.Transforms.{place}
-use Rattle.topojson_types.specs.Validity.{AreInRange, IsClosed, IsFeature, IsObject, IsPlace, IsTopology, is_full_option, option_places}
+use Rattle.topojson_types.specs.Validity.{AreInRange, IsClosed, IsFeature, IsObject, IsTopology}
 use Rattle.topojson_features.specs.Strokes.{IsStroke, IsShapeOption}
 use Rattle.topojson_features.proofs.Standing.{strokes_full}
 
 -- ---- names
 
-named_next : {V : Type 0} (name : List ℕ) (os : List (List ℕ × V)) (i : ℕ) (o : List ℕ × V) → i < length os → o ≡ get_or os i o
-    → of_name name (drop i os) ≡ (if bytes_eq o.0 name then Some o.1 else of_name name (drop (i + 1) os))
-named_next name os i o h is = at_drop_more (of_name name) os i o h ∙ ap (λ p. if bytes_eq p.0 name then Some p.1 else of_name name (drop (i + 1) os)) (sym is)
-
-pub named_here : {V : Type 0} (name : List ℕ) (os : List (List ℕ × V)) (i : ℕ) (o : List ℕ × V) → i < length os → o ≡ get_or os i o
-    → of_name name (drop i os) ≡ of_name name os → bytes_eq o.0 name ≡ true → of_name name os ≡ Some o.1
-named_here name os i o h is so same = sym so ∙ named_next name os i o h is ∙ ap (λ b. if b then Some o.1 else of_name name (drop (i + 1) os)) same
-
-pub named_later : {V : Type 0} (name : List ℕ) (os : List (List ℕ × V)) (i : ℕ) (o : List ℕ × V) → i < length os → o ≡ get_or os i o
-    → of_name name (drop i os) ≡ of_name name os → bytes_eq o.0 name ≡ false → of_name name (drop (i + 1) os) ≡ of_name name os
-named_later name os i o h is so differs = sym (named_next name os i o h is ∙ ap (λ b. if b then Some o.1 else of_name name (drop (i + 1) os)) differs) ∙ so
-
-pub named_nowhere : {V : Type 0} (name : List ℕ) (os : List (List ℕ × V)) (i : ℕ) → length os ≤ i → of_name name (drop i os) ≡ of_name name os → of_name name os ≡ None
-named_nowhere name os i h so = sym so ∙ at_drop_all (of_name name) os i h
-
 value_of : {V : Type 0} (X : V → Type 0) (b : Bool) (u : V) (later : Option V) (v : V) → (if b then Some u else later) ≡ Some v → X u → (later ≡ Some v → X v) → X v
-value_of X true u later v e h k = let same : u ≡ v = cc in subst X same h
-value_of X false u later v e h k = k e
+value_of X b u later v h k m = grind arith
 
 -- what holds of each value holds of the one of a name
 of_named : {V : Type 0} (X : V → Type 0) (name : List ℕ) (os : List (List ℕ × V)) (v : V) → of_name name os ≡ Some v → AllByRecursion (λ o. X o.1) os → X v
@@ -65,27 +48,14 @@ module _ (t : Contents) (is : IsTopology t) where
   strokes_stand (b ∷ bs) f h k = (record { topology = is; full = f.0; ranged = h.0; closed = k.0 }, strokes_stand bs f.1 h.1 k.1)
 
   shape_stands : (o : Option TopoShape) (f : TopoFeature) → f.shape ≡ o → IsFeature t.transform f → AreRanged (option_strokes f.shape) → AreClosed (option_strokes f.shape) → IsShapeOption t f.shape
-  shape_stands None f e feature h k = rw e tt
-  shape_stands (Some s) f e feature h k =
-      let whole = subst (λ o. is_full_option o ≡ true) e feature.0 in
-      subst (IsShapeOption t) (sym e) (record {
-        full = whole;
-        strokes = strokes_stand (strokes s) (strokes_full s whole) (subst (λ o. AreRanged (option_strokes o)) e h) (subst (λ o. AreClosed (option_strokes o)) e k);
-        places = subst (λ o. AllByRecursion (IsPlace t.transform) (option_places o)) e feature.1;
-      })
+  shape_stands o f h k m e = grind (arith, strokes_stand, strokes_full)
 
   features_stand : (fs : List TopoFeature) → AllByRecursion (IsFeature t.transform) fs → AreRanged (features_strokes fs) → AreClosed (features_strokes fs) → AllByRecursion (λ f. IsShapeOption t f.shape) fs
   features_stand [] f h k = tt
-  features_stand (x ∷ fs) f h k =
-      let here = option_strokes x.shape in
-      let more = features_strokes fs in (
-        shape_stands x.shape x refl f.0 (all_left (λ b. AreInRange (length t.arcs) b.1) here more h) (all_left (IsClosed t.arcs) here more k),
-        features_stand fs f.1 (all_right (λ b. AreInRange (length t.arcs) b.1) here more h) (all_right (IsClosed t.arcs) here more k),
-      )
+  features_stand (x ∷ fs) f h k = grind (arith, features_stand fs f.1, shape_stands x.shape x refl f.0, all_left, all_right)
 
   are_features : (o : TopoObject) → IsObject t.transform o → AllByRecursion (IsFeature t.transform) (object_features o)
-  are_features (One f) h = (h.0, tt)
-  are_features (Many fs) h = h
+  are_features o h = grind arith
 
   pub object_stands : (name : List ℕ) (o : TopoObject) → of_name name t.objects ≡ Some o → AllByRecursion (λ f. IsShapeOption t f.shape) (object_features o)
   object_stands name o e =

@@ -1,17 +1,17 @@
 -- The lines, rings and cells of shapes of a topology, by their kinds.
-use Rattle.std.proofs.Common.{◌≡◌, ℤ, Bool, true, false, ◌&&◌, List, [], ◌∷◌, map, refl, ap, sym, ◌∙◌, subst}
+use Rattle.std.proofs.Common.{◌≡◌, ℤ, Bool, true, false, ◌&&◌, List, [], ◌∷◌, map, refl, ap, sym, ◌∙◌, subst, arith}
 use Rattle.std.specs.List.{AllByRecursion, list_all}
 use Rattle.std.proofs.lemmas.Bool.{and_parts}
 use Rattle.topojson_types.proofs.ByKind.{full_at, full-group, places_at}
 use Rattle.list_laws.proofs.Elements.{all_append, all_map, all_passed}
-use Rattle.geojson_types.specs.declared.geometry.Geometry.TheVariants as g
+use Rattle.geometry.specs.declared.shape.Geometry.TheVariants as g
 use Rattle.geojson_types.specs.Features.{is_some_list}
-use Rattle.geojson_types.specs.Lists.{joined}
-use Rattle.geojson_types.specs.Points.{Point}
-use Rattle.geojson_types.specs.Pruning.{strokes}
-use Rattle.geojson_types.proofs.Agreement.{all_left, all_right, all_of_map}
-use Rattle.geojson_types.proofs.Cases.{strokes-point, strokes-points, strokes-line, strokes-lines, strokes-area, strokes-areas, strokes-group}
-use Rattle.geojson_types.proofs.Induction.{by_kinds}
+use Rattle.geometry.specs.Lists.{joined}
+use Rattle.geometry.specs.Points.{Point}
+use Rattle.geometry.specs.Pruning.{strokes}
+use Rattle.geometry.proofs.Agreement.{all_left, all_right, all_of_map}
+use Rattle.geometry.proofs.Cases.{strokes-point, strokes-points, strokes-line, strokes-lines, strokes-area, strokes-areas, strokes-group}
+use Rattle.geometry.proofs.Induction.{by_kinds}
 use Rattle.topojson_types.specs.Topologies.{TopoShape, Contents}
 use Rattle.topojson_types.specs.Validity.{IsPlace, is_full, places}
 use Rattle.topojson_features.specs.Strokes.{IsStroke, IsShape}
@@ -29,15 +29,11 @@ full_many closed ls h = all_map IsFullStroke (λ l. (closed, l)) ls (all_passed 
 
 full_areas : (areas : List (List (List ℤ))) → list_all (λ rs. is_some_list rs && list_all is_some_list rs) areas ≡ true → AllByRecursion IsFullStroke (joined (map (map (λ l. (true, l))) areas))
 full_areas [] h = tt
-full_areas (rs ∷ areas) h =
-    let k = and_parts (is_some_list rs && list_all is_some_list rs) _ h in
-    all_append IsFullStroke (map (λ l. (true, l)) rs) (joined (map (map (λ l. (true, l))) areas)) (full_many true rs k.0) (full_areas areas k.1)
+full_areas (rs ∷ areas) h = grind (arith, full_areas areas, and_parts (is_some_list rs && list_all is_some_list rs), all_append IsFullStroke, full_many true rs)
 
 full_members : (ss : List TopoShape) → AllByRecursion AreFull ss → list_all is_full ss ≡ true → AllByRecursion IsFullStroke (joined (map strokes ss))
 full_members [] all h = tt
-full_members (s ∷ ss) all h =
-    let k = and_parts (is_full s) (list_all is_full ss) h in
-    all_append IsFullStroke (strokes s) (joined (map strokes ss)) (all.0 k.0) (full_members ss all.1 k.1)
+full_members (s ∷ ss) all h = grind (arith, and_parts, all_append, full_members ss all.1)
 
 none_full : (s : TopoShape) → strokes {P = Point} {L = List ℤ} s ≡ [] → AreFull s
 none_full s e h = rw e tt
@@ -115,7 +111,4 @@ members_stand t (s ∷ ss) f h k =
     )
 
 pub group_stands : (t : Contents) (s : TopoShape) (ss : List TopoShape) → s ≡ g.Group ss → IsShape t s → AllByRecursion (IsShape t) ss
-group_stands t s ss e is =
-    members_stand t ss (sym (full-group ss) ∙ ap is_full (sym e) ∙ is.full)
-    (subst (AllByRecursion (IsStroke t)) (ap strokes e ∙ strokes-group Point (List ℤ) ss) is.strokes)
-    (subst (AllByRecursion (IsPlace t.transform)) (ap places e ∙ places_at.group ss) is.places)
+group_stands t s ss e is = grind (arith, members_stand, full-group, strokes-group, places_at.group)

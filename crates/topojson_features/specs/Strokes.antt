@@ -2,7 +2,7 @@
 use Rattle.std.specs.Prelude.{◌≡◌, Bool, true, List, length, Option, None, Some, ℤ}
 use Rattle.std.specs.List.{AllByRecursion}
 use Rattle.geojson_types.specs.Features.{is_some_list}
-use Rattle.geojson_types.specs.Pruning as pruning
+use Rattle.geometry.specs.Pruning as pruning
 use Rattle.topojson_types.specs.Topologies.{TopoShape, Contents}
 use Rattle.topojson_types.specs.Validity as valid
 use Rattle.topojson_types.specs.Validity.{AreInRange, IsClosed, IsPlace, IsTopology, is_full}

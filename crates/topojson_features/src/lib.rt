@@ -1,16 +1,13 @@
-//! From a topology (TopoJSON 1.0) back to GeoJSON features: the positions of lines and rings by a walk along their arcs, and the
-//! features of an object. It stands on `topojson_types`, whose `specs/Decoding.antt` says which features a topology stands for. The
-//! layers above use the contracts of `Walk` and of `features`.
+//! From a topology (TopoJSON 1.0) back to GeoJSON features: the positions of lines and rings, and the features of an object. It stands
+//! on `topojson_types`, whose `specs/Decoding.antt` says which features a topology stands for, and on `topojson_walk`, whose walk along
+//! arcs it passes on. The layers above use the contract of `features`.
 #![tactic(auto)]
 
-mod cell_walk;
 mod decode_fault;
 mod lines;
 mod objects;
-mod directed_arc;
 mod shapes;
-mod walk;
 
 pub use decode_fault::DecodeFault;
 pub use objects::features;
-pub use walk::Walk;
+pub use topojson_walk::Walk;

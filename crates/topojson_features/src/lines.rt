@@ -7,12 +7,12 @@ ghost use Rattle.topojson_types.specs.Transforms.{place};
 ghost use Rattle.topojson_types.specs.Validity.{AreInRange, IsPlace};
 ghost use Rattle.topojson_features.specs.Strokes.{IsStroke};
 
-use crate::walk::Walk;
 use byte_ends::Memory;
 use geojson_types::{Position, Ring};
 use json_value::Items;
 use std::alloc::Global;
 use topojson_types::{ArcRef, Cell, Topology, Transform, position_at};
+use topojson_walk::Walk;
 
 /// The fewest positions of a ring (RFC 7946, section 3.1.6).
 const RING_POSITIONS: usize = 4;

@@ -1,7 +1,7 @@
 // The shapes of features.
 ghost use Rattle.std.specs.Prelude.{◌≡◌, IfOk, Some, true};
 ghost use Rattle.geojson_types.specs.Features.{is_proper, is_proper_option};
-ghost use Rattle.geojson_types.specs.Lists.{then_some};
+ghost use Rattle.geometry.specs.Lists.{then_some};
 ghost use Rattle.topojson_types.specs.Decoding.{decoded_shape, placed_arcs};
 ghost use Rattle.topojson_types.specs.Transforms.{place};
 ghost use Rattle.topojson_features.specs.Strokes.{IsShape, IsShapeOption};

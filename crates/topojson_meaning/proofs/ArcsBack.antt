@@ -1,5 +1,5 @@
 -- The positions and arcs that are written are read back.
-use Rattle.std.proofs.Common.{◌≡◌, ℕ, ℤ, ◌≤◌, List, [], ◌∷◌, length, map, None, Ok, refl, arith}
+use Rattle.std.proofs.Common.{◌≡◌, ℕ, ℤ, ◌≤◌, List, [], ◌∷◌, map, None, Ok, refl, arith}
 use Rattle.std.specs.Prelude.{unsigned_abs}
 use Rattle.std.specs.List.{AllByRecursion}
 use Rattle.std.proofs.lemmas.Bool.{le-leb}
@@ -8,12 +8,12 @@ use Rattle.decimal_text.proofs.UnitsText.{scaled_of-units}
 use Rattle.json_value.specs.declared.json.Json.{Json}
 use Rattle.json_value.specs.declared.json.Json.TheVariants as j
 use Rattle.json_value.proofs.KindsOf.{array_of-array, object_of-object, number_of-number}
-use Rattle.geojson_types.specs.Points.{Point, IsPosition, position_limit}
+use Rattle.geometry.specs.Points.{Point, IsPosition, position_limit, unit_places}
 use Rattle.topojson_types.specs.Validity.{IsArc}
 use Rattle.topojson_types.specs.Values.{Members, units_value, position_value, positions_value}
-use Rattle.topojson_meaning.specs.Arcs.{number_text, units, elements_position, position, elements_place, place, arc_cells, as_arc, arc, arc_list}
+use Rattle.topojson_meaning.specs.Arcs.{number_text, units, elements_position, position, elements_place, place, arc_cells, arc, arc_list}
 use Rattle.topojson_meaning.specs.Members.{elements, members}
-use Rattle.topojson_meaning.specs.Reader.{◌>>=◌, each}
+use Rattle.topojson_meaning.specs.Reader.{each}
 use Rattle.topojson_meaning.proofs.Steps.{Gives, then_gives, pure_gives, each_gives}
 
 -- ---- kinds of values
@@ -32,20 +32,17 @@ number_is_text t = rw (number_of-number t) refl
 
 -- ---- positions
 
-units_back : (u : ℤ) → unsigned_abs u ≤ position_limit → Gives (units (units_text u 7)) u
+units_back : (u : ℤ) → unsigned_abs u ≤ position_limit → Gives (units (units_text u unit_places)) u
 unfolding units
-units_back u h c = let e = scaled_of-units u 7 position_limit (omega arith) h in rw e refl
+units_back u h c = let e = scaled_of-units u unit_places position_limit (omega arith) h in rw e refl
 
 pub elements_position_back : (p : Point) → IsPosition p → Gives (elements_position (units_value p.x ∷ (units_value p.y ∷ []))) p
 unfolding elements_position
-elements_position_back p h c = rw (number_is_text (units_text p.x 7), number_is_text (units_text p.y 7), units_back p.x h.0 c, units_back p.y h.1 c) refl
+elements_position_back p h c = rw (number_is_text (units_text p.x unit_places), number_is_text (units_text p.y unit_places), units_back p.x h.0 c, units_back p.y h.1 c) refl
 
 pub position_back : (p : Point) → IsPosition p → Gives (position (position_value p)) p
 unfolding position
 position_back p h = pure_gives _ elements_position _ p (array_elements (units_value p.x ∷ (units_value p.y ∷ []))) (elements_position_back p h)
-
-pub positions_back : (ps : List Point) → AllByRecursion IsPosition ps → Gives (each position (map position_value ps)) ps
-positions_back = each_gives IsPosition position_value position position_back
 
 -- ---- places
 
@@ -60,8 +57,7 @@ each_place_back = each_gives IsPosition position_value (place None) place_back
 
 arc_back : (ps : List Point) → IsArc None ps → Gives (arc None (positions_value ps)) ps
 unfolding arc arc_cells
-arc_back ps h = pure_gives _ (λ vs. each position vs >>= as_arc) _ ps (array_elements (map position_value ps))
-    (then_gives (each position (map position_value ps)) as_arc ps ps (positions_back ps h.1) (λ c. rw (le-leb 2 (length ps) h.0) refl))
+arc_back ps h = grind (arith, pure_gives, array_elements, then_gives, each_gives, position_back, le-leb)
 
 pub arcs_back : (arcs : List (List Point)) → AllByRecursion (IsArc None) arcs → Gives (arc_list None (j.Array (map positions_value arcs))) arcs
 unfolding arc_list

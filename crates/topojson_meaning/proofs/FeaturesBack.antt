@@ -1,20 +1,19 @@
 -- The features and objects that are written are read back.
-use Rattle.std.proofs.Common.{◌≡◌, ℕ, ◌<◌, true, false, List, [], ◌∷◌, ◌++◌, length, Option, Some, None, Ok, refl, sym, ap, ◌∙◌, subst}
+use Rattle.std.proofs.Common.{◌≡◌, ℕ, ◌<◌, true, false, List, [], ◌∷◌, ◌++◌, length, Option, Some, None, Ok, refl, sym, ap, ◌∙◌, subst, arith}
 use Rattle.std.specs.Prelude.{codes, ◌^◌, bytes_eq}
 use Rattle.std.specs.List.{AllByRecursion}
 use Rattle.json_value.specs.declared.json.Json.{Json}
 use Rattle.json_value.specs.declared.json.Json.TheVariants as j
 use Rattle.geojson_types.specs.declared.id.Id.{Id}
 use Rattle.geojson_types.specs.declared.id.Id.TheVariants as id
-use Rattle.geojson_types.specs.Lists.{map_some}
-use Rattle.geojson_types.specs.Points.{Point, IsPosition}
-use Rattle.geojson_types.specs.Pruning.{option_strokes}
+use Rattle.geometry.specs.Lists.{map_some}
+use Rattle.geometry.specs.Points.{Point, IsPosition}
+use Rattle.geometry.specs.Pruning.{option_strokes}
 use Rattle.topojson_types.specs.declared.feature.TopoFeature.{TopoFeature}
 use Rattle.topojson_types.specs.Topologies.{TopoShape}
 use Rattle.topojson_types.specs.Validity.{IsArc, IsFeature, is_full_option, option_places, is_single_option}
 use Rattle.topojson_types.specs.Values.{Members, Geometrical, id_value, id_members, properties_members, typed, geometrical, geometrical_option, feature_value}
 use Rattle.topojson_meaning.specs.declared.geometry_type.GeometryType.{GeometryType}
-use Rattle.topojson_meaning.specs.declared.geometry_type.GeometryType.TheVariants.{Places, Arcs, Collection}
 use Rattle.topojson_meaning.specs.Features.{identifier, identifier_in, members_if, members_in, feature, feature_element}
 use Rattle.topojson_meaning.specs.GeometryTypes.{part_name, is_collection, type_in, type_of, object_type}
 use Rattle.json_members.specs.Members.{only, there}
@@ -31,23 +30,11 @@ use Rattle.topojson_meaning.proofs.Steps.{Gives, pure_gives}
 -- a name that isn't `id` isn't found there
 past_id : (name : List ℕ) (i : Option Id) (ms : Members) → bytes_eq (codes "id") name ≡ false → named name (id_members i ++ ms) ≡ named name ms
 unfolding named
-past_id name None ms e = refl
-past_id name (Some i) ms e = rw e refl
+past_id name i ms h = grind arith
 
 past_properties : (name : List ℕ) (ps : Option Members) (ms : Members) → bytes_eq (codes "properties") name ≡ false → named name (properties_members ps ++ ms) ≡ named name ms
 unfolding named
-past_properties name None ms e = refl
-past_properties name (Some p) ms e = rw e refl
-
-ids_found : (i : Option Id) (ms : Members) → named (codes "id") ms ≡ [] → only (named (codes "id") (id_members i ++ ms)) ≡ Ok (map_some id_value i)
-unfolding named
-ids_found None ms e = ap only e
-ids_found (Some i) ms e = ap (λ vs. only (id_value i ∷ vs)) e
-
-objects_found : (ps : Option Members) (ms : Members) → named (codes "properties") ms ≡ [] → only (named (codes "properties") (properties_members ps ++ ms)) ≡ Ok (map_some j.Object ps)
-unfolding named
-objects_found None ms e = ap only e
-objects_found (Some p) ms e = ap (λ vs. only (j.Object p ∷ vs)) e
+past_properties name ps ms h = grind arith
 
 -- the members of a feature whose shape is made of these
 abbrev pub feature_members : Option Id → Option Members → Json → Members → Members
@@ -77,11 +64,11 @@ module _ (i : Option Id) (ps : Option Members) (t : Json) (parts : Members) wher
 
   id_found : named (codes "id") parts ≡ [] → find (codes "id") (feature_members i ps t parts) ≡ Ok (map_some id_value i)
   unfolding named
-  id_found e = ap (with_fault lookup_fault) (ids_found i (properties_members ps ++ parts) (past_properties (codes "id") ps parts refl ∙ e))
+  id_found e = grind (arith, past_properties)
 
   properties_found : named (codes "properties") parts ≡ [] → find (codes "properties") (feature_members i ps t parts) ≡ Ok (map_some j.Object ps)
   unfolding named
-  properties_found e = ap (with_fault lookup_fault) (ap only (past_id (codes "properties") i (properties_members ps ++ parts) refl) ∙ objects_found ps parts e)
+  properties_found e = grind (arith, past_id)
 
   found : AreParts parts → Found i ps t parts
   unfolding need
@@ -103,15 +90,11 @@ properties_back (Some ms) = ap members_in (j.outs-Object ms)
 -- the member that a shape is made of has another name than those of all features
 no_parts : (type : GeometryType) (v : Json) → AreParts ((part_name type, v) ∷ [])
 unfolding named
-no_parts (Places type) v = (refl, refl, refl)
-no_parts (Arcs type) v = (refl, refl, refl)
-no_parts Collection v = (refl, refl, refl)
+no_parts type v = grind (arith, type)
 
 part_found : (i : Option Id) (ps : Option Members) (t : Json) (type : GeometryType) (v : Json) → need (part_name type) (feature_members i ps t ((part_name type, v) ∷ [])) ≡ Ok v
 unfolding need named
-part_found i ps t (Places type) v = (found i ps t _ (no_parts (Places type) v)).others (codes "coordinates") refl refl refl
-part_found i ps t (Arcs type) v = (found i ps t _ (no_parts (Arcs type) v)).others (codes "arcs") refl refl refl
-part_found i ps t Collection v = (found i ps t _ (no_parts Collection v)).others (codes "geometries") refl refl refl
+part_found i ps t type v = grind (arith, type, found, no_parts)
 
 null_type : type_of j.Null ≡ Ok None
 unfolding type_of
@@ -163,8 +146,7 @@ FineFeature arcs f = IsFeature None f × AllByRecursion (Sound arcs) (option_str
 module _ (arcs : List (List Point)) (long : AllByRecursion (IsArc None) arcs) (few : length arcs < 2 ^ 63) where
   pub shaped : (i : Option Id) (ps : Option Members) (x : Option TopoShape) → is_full_option x ≡ true → AllByRecursion IsPosition (option_places x) → AllByRecursion (Sound arcs) (option_strokes x)
       → Shaped arcs i ps x (geometrical_option x)
-  shaped i ps None f h k = null_shaped arcs long few i ps
-  shaped i ps (Some s) f h k = some_shaped arcs long few i ps s (shape_parts arcs long few s (f, h, k))
+  shaped i ps x h k m = grind (arith, null_shaped, some_shaped, shape_parts)
 
   pub feature_back : (f : TopoFeature) → FineFeature arcs f → Gives (feature_element None arcs (feature_value f)) f
   unfolding feature_element

@@ -11,7 +11,6 @@ pub mod TopologiesBack
 pub mod Unrolled
 pub mod ValidArcs
 pub mod ValidKept
-pub mod ValidKinds
 pub mod ValidLines
 pub mod ValidMembers
 pub mod ValidObjects

@@ -1,23 +1,22 @@
 -- The lines, rings and polygons that are written are read back.
-use Rattle.std.proofs.Common.{◌≡◌, ℕ, zero, suc, ℤ, pos, negsuc, ◌<◌, ◌≤◌, Bool, true, false, List, [], ◌∷◌, length, map, Option, Some, None, refl, subst, arith}
+use Rattle.std.proofs.Common.{◌≡◌, ℕ, zero, suc, ℤ, ◌<◌, ◌≤◌, Bool, true, false, List, [], ◌∷◌, length, map, Option, Some, None, refl, subst, arith}
 use Rattle.std.specs.Prelude.{◌^◌, unsigned_abs}
 use Rattle.std.specs.List.{AllByRecursion}
-use Rattle.std.specs.Cmp.{signed_Decides}
 use Rattle.std.proofs.lemmas.Bool.{lt-ltb}
 use Rattle.std.proofs.lemmas.List.{length-reverse}
-use Rattle.decimal_text.specs.Scaling.{units_text}
 use Rattle.decimal_text.proofs.UnitsText.{scaled_of-units}
 use Rattle.json_value.specs.declared.json.Json.{Json}
 use Rattle.json_value.specs.declared.json.Json.TheVariants as j
 use Rattle.json_value.proofs.KindsOf.{array_of-array}
 use Rattle.geojson_types.specs.Features.{is_some_list}
-use Rattle.geojson_types.specs.Lists.{map_some, then_some}
-use Rattle.geojson_types.specs.Points.{Point}
-use Rattle.geojson_types.specs.Rings.{same, both_same}
-use Rattle.topojson_types.specs.Joins.{number_of, at, or_empty, arc_at, first_of, last_of, Meet, Closes}
+use Rattle.geometry.specs.Lists.{map_some, then_some}
+use Rattle.geometry.specs.Points.{Point}
+use Rattle.geometry.specs.Rings.{both_same}
+use Rattle.geometry.proofs.Points.{same_self}
+use Rattle.geometry.specs.Joins.{number_of, at, or_empty, arc_at, first_of, last_of, Meet, Closes}
 use Rattle.topojson_types.specs.Validity.{IsArc, AreInRange, IsJoined, IsClosed}
 use Rattle.topojson_types.specs.Values.{whole_value, line_value, lines_value}
-use Rattle.topojson_meaning.specs.Lines.{some_elements, index_limit, index, meets, joined_to, indexes_behind, indexes, line_start, line_end, as_ring, line_in, line, ring_in, ring, polygon_in, polygon}
+use Rattle.topojson_meaning.specs.Lines.{some_elements, index_limit, index, joined_to, indexes_behind, indexes, line_start, line_end, as_ring, line_in, line, ring_in, ring, polygon_in, polygon}
 use Rattle.topojson_meaning.specs.Reader.{if_some, kept}
 use Rattle.topojson_meaning.proofs.ArcsBack.{number_is_text}
 use Rattle.topojson_meaning.proofs.Steps.{Gives, then_gives, kept_gives}
@@ -31,12 +30,8 @@ some_elements_back value (x ∷ xs) h c = rw (array_of-array (map value (x ∷ x
 
 -- ---- positions
 
-pub same_itself : (p : Point) → same p p ≡ true
-unfolding same
-same_itself p = rw ((signed_Decides p.x p.x).1 refl, (signed_Decides p.y p.y).1 refl) refl
-
 some_same : (o q : Option Point) (p : Point) → o ≡ q → q ≡ Some p → both_same o q ≡ true
-some_same o q p e f = rw (e, f) (same_itself p)
+some_same o q p e f = rw (e, f) (same_self p)
 
 -- ---- arcs and indexes
 
@@ -51,19 +46,15 @@ at_long (a ∷ arcs) (suc i) h lt = at_long arcs i h.1 (omega arith)
 
 arc_long : (arcs : List (List Point)) (i : ℤ) → AllByRecursion (IsArc None) arcs → number_of i < length arcs → 2 ≤ length (arc_at arcs i)
 unfolding number_of
-arc_long arcs (pos i) h lt = at_long arcs i h lt
-arc_long arcs (negsuc i) h lt = rw (length-reverse (or_empty (at arcs i))) (at_long arcs i h lt)
+arc_long arcs i h k = grind (arith, at_long, length-reverse)
 
 pub magnitude : (i : ℤ) (n : ℕ) → number_of i < n → n < 2 ^ 63 → unsigned_abs i ≤ index_limit
 unfolding number_of
-magnitude (pos i) n h k = omega arith
-magnitude (negsuc i) n h k = omega arith
+magnitude i n h k = grind arith
 
 index_back : (n : ℕ) (i : ℤ) → n < 2 ^ 63 → number_of i < n → Gives (index n (whole_value i)) i
 unfolding index
-index_back n i k h c =
-    let m = magnitude i n h k in
-    rw (number_is_text (units_text i 0), scaled_of-units i 0 index_limit (omega arith) m, lt-ltb (number_of i) n h) refl
+index_back n i k h c = grind (arith, magnitude, number_is_text, scaled_of-units, lt-ltb)
 
 -- ---- lines and rings
 
@@ -84,10 +75,7 @@ module _ (arcs : List (List Point)) (long : AllByRecursion (IsArc None) arcs) (f
   starts i h = first_there (arc_at arcs i) (arc_long arcs i long h)
 
   join_back : (before i : ℤ) → number_of i < length arcs → last_of (arc_at arcs before) ≡ first_of (arc_at arcs i) → Gives (joined_to arcs before i) i
-  join_back before i h e c =
-      let s = starts i h in
-      let k : meets arcs before i ≡ true = some_same (last_of (arc_at arcs before)) (first_of (arc_at arcs i)) s.0 e s.1 in
-      rw k refl
+  join_back before i h e c = grind (arith, starts, some_same)
 
   behind_back : (before : ℤ) (refs : List ℤ) → AreInRange (length arcs) refs → Meet (arc_at arcs before ∷ map (arc_at arcs) refs) → Gives (indexes_behind arcs before (map whole_value refs)) refs
   unfolding indexes_behind
@@ -109,8 +97,7 @@ module _ (arcs : List (List Point)) (long : AllByRecursion (IsArc None) arcs) (f
   Ends p o = elim o [ None ↦ ⊥ | Some q ↦ last_of q ≡ first_of p ]
 
   end_of : (i : ℤ) (o : Option ℤ) → Ends (arc_at arcs i) (map_some (arc_at arcs) o) → then_some (λ k. last_of (arc_at arcs k)) o ≡ first_of (arc_at arcs i)
-  end_of i None h = absurd h
-  end_of i (Some k) h = h
+  end_of i o h = grind arith
 
   close_back : (refs : List ℤ) → AreInRange (length arcs) refs → Closes (map (arc_at arcs) refs) → Gives (as_ring arcs refs) (Some refs)
   close_back [] h m c = absurd m

@@ -1,22 +1,20 @@
 -- The objects that are written are read back.
-use Rattle.std.proofs.Common.{◌≡◌, ◌≢◌, ℕ, ◌<◌, Bool, true, false, List, [], ◌∷◌, length, map, None, Some, Ok, refl}
-use Rattle.std.specs.Prelude.{codes, ◌^◌, bytes_eq}
+use Rattle.std.proofs.Common.{◌≡◌, ◌≢◌, ℕ, ◌<◌, Bool, true, false, List, [], ◌∷◌, length, map, None, Some, Ok, refl, arith}
+use Rattle.std.specs.Prelude.{codes, ◌^◌}
 use Rattle.std.specs.List.{AllByRecursion}
 use Rattle.std.proofs.lemmas.Slice.Eq.{bytes_eq-Decides}
 use Rattle.json_value.specs.declared.json.Json.{Json}
 use Rattle.json_value.specs.declared.json.Json.TheVariants as j
-use Rattle.geojson_types.specs.Points.{Point}
+use Rattle.geometry.specs.Points.{Point}
 use Rattle.topojson_types.specs.declared.feature.TopoFeature.{TopoFeature}
 use Rattle.topojson_types.specs.declared.object.TopoObject.{TopoObject}
 use Rattle.topojson_types.specs.declared.object.TopoObject.TheVariants.{One, Many}
 use Rattle.topojson_types.specs.Validity.{IsArc, AreDistinct, is_single_option}
-use Rattle.topojson_types.specs.Values.{Members, Geometrical, geometrical_option, feature_value, object_value}
+use Rattle.topojson_types.specs.Values.{Members, feature_value, object_value}
 use Rattle.topojson_meaning.specs.declared.geometry_type.GeometryType.TheVariants.{Collection}
-use Rattle.topojson_meaning.specs.Features.{feature_element}
 use Rattle.topojson_meaning.specs.GeometryTypes.{object_type}
 use Rattle.topojson_meaning.specs.Members.{named, need}
 use Rattle.topojson_meaning.specs.Objects.{features, collection, single, object, is_met, objects_behind, objects}
-use Rattle.topojson_meaning.specs.Reader.{each}
 use Rattle.topojson_meaning.proofs.ArcsBack.{array_elements, object_members}
 use Rattle.topojson_meaning.proofs.FeaturesBack.{feature_members, FineFeature, shaped, feature_back}
 use Rattle.topojson_meaning.proofs.ShapesBack.{known_group, object_typed, type_named}
@@ -32,16 +30,11 @@ module _ (arcs : List (List Point)) (long : AllByRecursion (IsArc None) arcs) (f
 
   single_back : (f : TopoFeature) → FineFeature arcs f → is_single_option f.shape ≡ true → Gives (object None arcs (feature_value f)) (One f)
   unfolding object single
-  single_back f h e c =
-      let s = shaped arcs long few f.id f.properties f.shape h.0.0 h.0.1 h.1 in
-      let o : Geometrical = geometrical_option f.shape in
-      let ms : Members = feature_members f.id f.properties o.type o.parts in
-      rw (object_members ms, s.is, s.single e, s.reads c) refl
+  single_back f h e c = grind (arith, shaped arcs long few f.id f.properties f.shape h.0.0 h.0.1 h.1, feature_members f.id f.properties, object_members)
 
   features_back : (fs : List TopoFeature) → AllByRecursion (FineFeature arcs) fs → Gives (features None arcs (j.Array (map feature_value fs))) fs
   unfolding features
-  features_back fs h = pure_gives _ (each (feature_element None arcs)) _ fs (array_elements (map feature_value fs))
-      (each_gives (FineFeature arcs) feature_value (feature_element None arcs) (feature_back arcs long few) fs h)
+  features_back fs h = grind (arith, pure_gives, array_elements, each_gives, FineFeature, feature_back)
 
   -- the members of a collection
   abbrev collected : List TopoFeature → Members
@@ -69,14 +62,11 @@ module _ (arcs : List (List Point)) (long : AllByRecursion (IsArc None) arcs) (f
   -- ---- objects by name
 
   false_where_not : (b : Bool) → (b ≡ true → ⊥) → b ≡ false
-  false_where_not true h = absurd (h refl)
-  false_where_not false h = refl
+  false_where_not b h = grind arith
 
   unmet : (name : List ℕ) (met : List (List ℕ)) → AllByRecursion (λ n. n ≢ name) met → is_met name met ≡ false
   unmet name [] h = refl
-  unmet name (n ∷ met) h =
-      let e : bytes_eq n name ≡ false = false_where_not (bytes_eq n name) (λ k. h.0 ((bytes_eq-Decides n name).0 k)) in
-      rw (e, unmet name met h.1) refl
+  unmet name (n ∷ met) h = grind (arith, bytes_eq-Decides, unmet name met h.1)
 
   -- none of these names is the name of one of these objects
   abbrev AreNew : List (List ℕ) → List (List ℕ) → Type 0

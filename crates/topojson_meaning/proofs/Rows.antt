@@ -6,14 +6,14 @@ use Rattle.json_value.specs.declared.json.Json.TheVariants as j
 use Rattle.json_value.specs.Kinds.{array_of, object_of, text_of, number_of}
 use Rattle.decimal_text.specs.Scaling.{scaled_of}
 use Rattle.geojson_types.specs.declared.counts.Counts.{Counts}
-use Rattle.geojson_types.specs.declared.geometry.Geometry.TheVariants as g
+use Rattle.geometry.specs.declared.shape.Geometry.TheVariants as g
 use Rattle.geojson_types.specs.Counting.{no_counts}
-use Rattle.geojson_types.specs.Points.{Point}
-use Rattle.geojson_types.specs.Rings.{same}
+use Rattle.geometry.specs.Points.{Point}
+use Rattle.geometry.specs.Rings.{same}
 use Rattle.topojson_types.specs.declared.object.TopoObject.{TopoObject}
 use Rattle.topojson_types.specs.declared.object.TopoObject.TheVariants.{One}
 use Rattle.topojson_types.specs.Decoding.{decoded_line}
-use Rattle.topojson_types.specs.Joins as joins
+use Rattle.geometry.specs.Joins as joins
 use Rattle.topojson_meaning.specs.declared.fault.TopoFault.{TopoFault}
 use Rattle.topojson_meaning.specs.declared.fault.TopoFault.TheVariants.{NotTopology, Missing, Duplicate, WrongKind, UnknownType, ShortArc, IndexRange, Unjoined, OpenRing, Range}
 use Rattle.topojson_meaning.specs.Arcs.{number_text, units, elements_position, position, arc_cells, arc, arc_list}

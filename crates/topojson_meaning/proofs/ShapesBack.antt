@@ -1,20 +1,22 @@
 -- The shapes that are written are read back.
-use Rattle.std.proofs.Common.{◌≡◌, ℕ, ℤ, ◌<◌, Bool, true, false, List, [], ◌∷◌, length, map, Option, None, Some, Result, Ok, refl, sym, ap, ◌∙◌, subst}
+use Rattle.std.proofs.Common.{◌≡◌, ℕ, ℤ, ◌<◌, Bool, true, false, List, [], ◌∷◌, length, map, Option, None, Some, Result, Ok, refl, sym, ap, ◌∙◌, subst, arith}
 use Rattle.std.specs.Prelude.{codes, ◌^◌, ◌&&◌}
 use Rattle.std.specs.List.{AllByRecursion, list_all}
+use Rattle.std.proofs.lemmas.Bool.{and_parts}
 use Rattle.json_value.specs.declared.json.Json.{Json}
 use Rattle.json_value.specs.declared.json.Json.TheVariants as j
-use Rattle.geojson_types.specs.declared.geometry.Geometry.TheVariants as g
+use Rattle.geometry.specs.declared.shape.Geometry.TheVariants as g
 use Rattle.geojson_types.specs.Features.{is_some_list}
-use Rattle.geojson_types.specs.Lists.{unless_empty, joined}
-use Rattle.geojson_types.specs.Points.{Point, IsPosition}
-use Rattle.geojson_types.specs.Pruning.{strokes}
-use Rattle.geojson_types.proofs.Agreement.{all_left, all_right}
-use Rattle.geojson_types.proofs.Cases.{strokes-line, strokes-lines, strokes-area, strokes-areas, strokes-group}
-use Rattle.geojson_types.proofs.Induction.{by_kinds}
+use Rattle.geometry.specs.Lists.{joined}
+use Rattle.geometry.specs.Points.{Point, IsPosition}
+use Rattle.geometry.specs.Pruning.{strokes}
+use Rattle.geometry.proofs.Agreement.{all_left, all_right}
+use Rattle.geometry.proofs.Cases.{strokes-line, strokes-lines, strokes-area, strokes-areas, strokes-group}
+use Rattle.geometry.proofs.Induction.{by_kinds}
 use Rattle.topojson_types.specs.Topologies.{TopoShape}
 use Rattle.topojson_types.specs.Validity.{IsArc, is_full, places, is_single}
 use Rattle.topojson_types.specs.Values.{Members, units_value, position_value, whole_value, line_value, lines_value, typed, inner_value, geometrical}
+use Rattle.topojson_types.proofs.ByKind.{geometrical_at, full_at, places_at, single_at, full-group}
 use Rattle.topojson_meaning.specs.declared.fault.TopoFault.{TopoFault}
 use Rattle.topojson_meaning.specs.declared.geometry_type.ArcsType.{ArcsType}
 use Rattle.topojson_meaning.specs.declared.geometry_type.ArcsType.TheVariants as of_arcs
@@ -30,35 +32,24 @@ use Rattle.topojson_meaning.specs.Reader.{if_some}
 use Rattle.topojson_meaning.specs.Shapes.{places_in, arcs_in, places_shape, arcs_shape, shape, part, typed_shape, geometry}
 use Rattle.topojson_meaning.proofs.ArcsBack.{elements_position_back, each_place_back}
 use Rattle.topojson_meaning.proofs.LinesBack.{some_elements_back, Sound, Full, FullArea, line_in_back, lines_back, polygon_in_back, polygons_back}
-use Rattle.topojson_meaning.proofs.ShapeKinds.{geometrical-point, geometrical-points, geometrical-line, geometrical-lines, geometrical-area, geometrical-areas, geometrical-group, full-points, full-line, full-lines, full-area, full-areas, full-group, places-point, places-points, places-group, single-group}
+use Rattle.topojson_meaning.proofs.ShapeKinds.{geometrical-group}
 use Rattle.topojson_meaning.proofs.Steps.{Gives, then_gives, pure_gives, kept_gives}
 use Rattle.topojson_meaning.proofs.Unrolled.{shape_object, shapes_array}
+use Rattle.list_laws.proofs.Lists.{made_of_some}
 
 -- ---- lists that are full
 
-and_both : (a b : Bool) → (a && b) ≡ true → (a ≡ true) × (b ≡ true)
-and_both true b h = (refl, h)
-and_both false b h = absurd cc
-
-unless_some : {A B : Type 0} (make : List A → B) (xs : List A) → is_some_list xs ≡ true → unless_empty make xs ≡ Some (make xs)
-unless_some make [] h = absurd cc
-unless_some make (x ∷ xs) h = refl
-
 full_lines : (arcs : List (List Point)) (closed : Bool) (ls : List (List ℤ)) → list_all is_some_list ls ≡ true → AllByRecursion (Sound arcs) (map (λ l. (closed, l)) ls) → AllByRecursion (Full arcs closed) ls
 full_lines arcs closed [] f h = tt
-full_lines arcs closed (l ∷ ls) f h = let p = and_both (is_some_list l) (list_all is_some_list ls) f in ((p.0, h.0), full_lines arcs closed ls p.1 h.1)
+full_lines arcs closed (l ∷ ls) f h = let p = and_parts (is_some_list l) (list_all is_some_list ls) f in ((p.0, h.0), full_lines arcs closed ls p.1 h.1)
 
 full_area : (arcs : List (List Point)) (rs : List (List ℤ)) → (is_some_list rs && list_all is_some_list rs) ≡ true → AllByRecursion (Sound arcs) (map (λ l. (true, l)) rs) → FullArea arcs rs
-full_area arcs rs f h = let p = and_both (is_some_list rs) (list_all is_some_list rs) f in (p.0, full_lines arcs true rs p.1 h)
+full_area arcs rs f h = let p = and_parts (is_some_list rs) (list_all is_some_list rs) f in (p.0, full_lines arcs true rs p.1 h)
 
 full_areas : (arcs : List (List Point)) (areas : List (List (List ℤ))) → list_all (λ rs. is_some_list rs && list_all is_some_list rs) areas ≡ true
     → AllByRecursion (Sound arcs) (joined (map (map (λ l. (true, l))) areas)) → AllByRecursion (FullArea arcs) areas
 full_areas arcs [] f h = tt
-full_areas arcs (rs ∷ areas) f h =
-    let p = and_both (is_some_list rs && list_all is_some_list rs) (list_all (λ rs. is_some_list rs && list_all is_some_list rs) areas) f in (
-      full_area arcs rs p.0 (all_left (Sound arcs) (map (λ l. (true, l)) rs) (joined (map (map (λ l. (true, l))) areas)) h),
-      full_areas arcs areas p.1 (all_right (Sound arcs) (map (λ l. (true, l)) rs) (joined (map (map (λ l. (true, l))) areas)) h),
-    )
+full_areas arcs (rs ∷ areas) f h = grind (arith, and_parts, full_area, all_left, Sound, all_right, full_areas arcs areas)
 
 -- ---- what is said of a shape
 
@@ -120,15 +111,11 @@ object_typed ms t r e f = rw e f
 
 inner_type : (type : GeometryType) (t v : Json) → need (codes "type") ((codes "type", t) ∷ ((part_name type, v) ∷ [])) ≡ Ok t
 unfolding need named
-inner_type (Places type) t v = refl
-inner_type (Arcs type) t v = refl
-inner_type Collection t v = refl
+inner_type type t v = grind (arith, type)
 
 inner_part : (type : GeometryType) (t v : Json) → need (part_name type) ((codes "type", t) ∷ ((part_name type, v) ∷ [])) ≡ Ok v
 unfolding need named
-inner_part (Places type) t v = refl
-inner_part (Arcs type) t v = refl
-inner_part Collection t v = refl
+inner_part type t v = grind (arith, type)
 
 -- ---- shapes
 
@@ -149,7 +136,7 @@ module _ (arcs : List (List Point)) (long : AllByRecursion (IsArc None) arcs) (f
 
   points_in : (ps : List Point) → is_some_list ps ≡ true → AllByRecursion IsPosition ps → Gives (places_in None of_places.MultiPoint (map position_value ps)) (Some (g.MultiPoint ps))
   unfolding places_in
-  points_in ps f h c = rw (each_place_back ps h c, unless_some g.MultiPoint ps f) refl
+  points_in ps f h c = rw (each_place_back ps h c, made_of_some g.MultiPoint ps f) refl
 
   line_shape_in : (refs : List ℤ) → Sound arcs (false, refs) → Gives (arcs_in arcs of_arcs.LineString (map whole_value refs)) (Some (g.Line refs))
   unfolding arcs_in
@@ -157,7 +144,7 @@ module _ (arcs : List (List Point)) (long : AllByRecursion (IsArc None) arcs) (f
 
   lines_in : (ls : List (List ℤ)) → is_some_list ls ≡ true → AllByRecursion (Full arcs false) ls → Gives (arcs_in arcs of_arcs.MultiLineString (map line_value ls)) (Some (g.Lines ls))
   unfolding arcs_in
-  lines_in ls f h c = rw (lines_back arcs long few ls h c, unless_some g.Lines ls f) refl
+  lines_in ls f h c = rw (lines_back arcs long few ls h c, made_of_some g.Lines ls f) refl
 
   area_in : (rs : List (List ℤ)) → FullArea arcs rs → Gives (arcs_in arcs of_arcs.Polygon (map line_value rs)) (Some (g.Area rs))
   unfolding arcs_in
@@ -165,7 +152,7 @@ module _ (arcs : List (List Point)) (long : AllByRecursion (IsArc None) arcs) (f
 
   areas_in : (areas : List (List (List ℤ))) → is_some_list areas ≡ true → AllByRecursion (FullArea arcs) areas → Gives (arcs_in arcs of_arcs.MultiPolygon (map lines_value areas)) (Some (g.Areas areas))
   unfolding arcs_in
-  areas_in areas f h c = rw (polygons_back arcs long few areas h c, unless_some g.Areas areas f) refl
+  areas_in areas f h c = rw (polygons_back arcs long few areas h c, made_of_some g.Areas areas f) refl
 
   abbrev Back : TopoShape → Type 0
   Back s = Fine arcs s → Parts arcs s
@@ -193,34 +180,34 @@ module _ (arcs : List (List Point)) (long : AllByRecursion (IsArc None) arcs) (f
     type = Places of_places.Point;
     name = codes "Point";
     value = position_value p;
-    is = geometrical-point p;
+    is = geometrical_at.point p;
     known = known_point;
-    reads = places_back of_places.Point units_value (p.x ∷ (p.y ∷ [])) (g.Point p) refl (point_in p (subst (AllByRecursion IsPosition) (places-point p) h.1).0);
+    reads = places_back of_places.Point units_value (p.x ∷ (p.y ∷ [])) (g.Point p) refl (point_in p (subst (AllByRecursion IsPosition) (places_at.point p) h.1).0);
     single = λ _. refl;
   }
 
   at_points : (ps : List Point) → Back (g.MultiPoint ps)
   at_points ps h =
-      let f : is_some_list ps ≡ true = sym (full-points ps) ∙ h.0 in
+      let f : is_some_list ps ≡ true = sym (full_at.points ps) ∙ h.0 in
       record {
         type = Places of_places.MultiPoint;
         name = codes "MultiPoint";
         value = j.Array (map position_value ps);
-        is = geometrical-points ps;
+        is = geometrical_at.points ps;
         known = known_points;
-        reads = places_back of_places.MultiPoint position_value ps (g.MultiPoint ps) f (points_in ps f (subst (AllByRecursion IsPosition) (places-points ps) h.1));
+        reads = places_back of_places.MultiPoint position_value ps (g.MultiPoint ps) f (points_in ps f (subst (AllByRecursion IsPosition) (places_at.points ps) h.1));
         single = λ _. refl;
       }
 
   at_line : (refs : List ℤ) → Back (g.Line refs)
   at_line refs h =
-      let f : is_some_list refs ≡ true = sym (full-line refs) ∙ h.0 in
+      let f : is_some_list refs ≡ true = sym (full_at.line refs) ∙ h.0 in
       let k = subst (AllByRecursion (Sound arcs)) (strokes-line Point (List ℤ) refs) h.2 in
       record {
         type = Arcs of_arcs.LineString;
         name = codes "LineString";
         value = line_value refs;
-        is = geometrical-line refs;
+        is = geometrical_at.line refs;
         known = known_line;
         reads = arcs_back of_arcs.LineString whole_value refs (g.Line refs) f (line_shape_in refs k.0);
         single = λ _. refl;
@@ -228,13 +215,13 @@ module _ (arcs : List (List Point)) (long : AllByRecursion (IsArc None) arcs) (f
 
   at_lines : (ls : List (List ℤ)) → Back (g.Lines ls)
   at_lines ls h =
-      let f = and_both (is_some_list ls) (list_all is_some_list ls) (sym (full-lines ls) ∙ h.0) in
+      let f = and_parts (is_some_list ls) (list_all is_some_list ls) (sym (full_at.lines ls) ∙ h.0) in
       let k = full_lines arcs false ls f.1 (subst (AllByRecursion (Sound arcs)) (strokes-lines Point (List ℤ) ls) h.2) in
       record {
         type = Arcs of_arcs.MultiLineString;
         name = codes "MultiLineString";
         value = lines_value ls;
-        is = geometrical-lines ls;
+        is = geometrical_at.lines ls;
         known = known_lines;
         reads = arcs_back of_arcs.MultiLineString line_value ls (g.Lines ls) f.0 (lines_in ls f.0 k);
         single = λ _. refl;
@@ -242,12 +229,12 @@ module _ (arcs : List (List Point)) (long : AllByRecursion (IsArc None) arcs) (f
 
   at_area : (rs : List (List ℤ)) → Back (g.Area rs)
   at_area rs h =
-      let k = full_area arcs rs (sym (full-area rs) ∙ h.0) (subst (AllByRecursion (Sound arcs)) (strokes-area Point (List ℤ) rs) h.2) in
+      let k = full_area arcs rs (sym (full_at.area rs) ∙ h.0) (subst (AllByRecursion (Sound arcs)) (strokes-area Point (List ℤ) rs) h.2) in
       record {
         type = Arcs of_arcs.Polygon;
         name = codes "Polygon";
         value = lines_value rs;
-        is = geometrical-area rs;
+        is = geometrical_at.area rs;
         known = known_area;
         reads = arcs_back of_arcs.Polygon line_value rs (g.Area rs) k.0 (area_in rs k);
         single = λ _. refl;
@@ -255,13 +242,13 @@ module _ (arcs : List (List Point)) (long : AllByRecursion (IsArc None) arcs) (f
 
   at_areas : (areas : List (List (List ℤ))) → Back (g.Areas areas)
   at_areas areas h =
-      let f = and_both (is_some_list areas) (list_all (λ rs. is_some_list rs && list_all is_some_list rs) areas) (sym (full-areas areas) ∙ h.0) in
+      let f = and_parts (is_some_list areas) (list_all (λ rs. is_some_list rs && list_all is_some_list rs) areas) (sym (full_at.areas areas) ∙ h.0) in
       let k = full_areas arcs areas f.1 (subst (AllByRecursion (Sound arcs)) (strokes-areas Point (List ℤ) areas) h.2) in
       record {
         type = Arcs of_arcs.MultiPolygon;
         name = codes "MultiPolygon";
         value = j.Array (map lines_value areas);
-        is = geometrical-areas areas;
+        is = geometrical_at.areas areas;
         known = known_areas;
         reads = arcs_back of_arcs.MultiPolygon lines_value areas (g.Areas areas) f.0 (areas_in areas f.0 k);
         single = λ _. refl;
@@ -270,11 +257,7 @@ module _ (arcs : List (List Point)) (long : AllByRecursion (IsArc None) arcs) (f
   each_parts : (ss : List TopoShape) → AllByRecursion Back ss → list_all is_full ss ≡ true → AllByRecursion IsPosition (joined (map places ss)) → AllByRecursion (Sound arcs) (joined (map strokes ss))
       → AllByRecursion (Parts arcs) ss
   each_parts [] all f h k = tt
-  each_parts (s ∷ ss) all f h k =
-      let p = and_both (is_full s) (list_all is_full ss) f in (
-        all.0 (p.0, all_left IsPosition (places s) (joined (map places ss)) h, all_left (Sound arcs) (strokes s) (joined (map strokes ss)) k),
-        each_parts ss all.1 p.1 (all_right IsPosition (places s) (joined (map places ss)) h) (all_right (Sound arcs) (strokes s) (joined (map strokes ss)) k),
-      )
+  each_parts (s ∷ ss) all f h k = grind (arith, and_parts, all_left, Sound, all_right, each_parts ss all.1)
 
   group_back : (ss : List TopoShape) → AllByRecursion (Parts arcs) ss → Gives (part None arcs Collection (j.Array (map (λ s. inner_value (geometrical s)) ss))) (Some (g.Group ss))
   unfolding part
@@ -287,8 +270,8 @@ module _ (arcs : List (List Point)) (long : AllByRecursion (IsArc None) arcs) (f
     value = j.Array (map (λ s. inner_value (geometrical s)) ss);
     is = geometrical-group ss;
     known = known_group;
-    reads = group_back ss (each_parts ss all (sym (full-group ss) ∙ h.0) (subst (AllByRecursion IsPosition) (places-group ss) h.1) (subst (AllByRecursion (Sound arcs)) (strokes-group Point (List ℤ) ss) h.2));
-    single = λ e. let f : false ≡ true = sym (single-group ss) ∙ e in absurd cc;
+    reads = group_back ss (each_parts ss all (sym (full-group ss) ∙ h.0) (subst (AllByRecursion IsPosition) (places_at.group ss) h.1) (subst (AllByRecursion (Sound arcs)) (strokes-group Point (List ℤ) ss) h.2));
+    single = λ e. let f : false ≡ true = sym (single_at.group ss) ∙ e in absurd cc;
   }
 
   pub shape_parts : (s : TopoShape) → Fine arcs s → Parts arcs s

@@ -1,15 +1,14 @@
 -- The topology that is written is read back, and nothing is counted.
-use Rattle.std.proofs.Common.{ℕ, ℤ, ◌<◌, Bool, List, [], ◌∷◌, length, None, refl, subst}
+use Rattle.std.proofs.Common.{ℕ, ℤ, ◌<◌, Bool, List, [], ◌∷◌, length, None, refl, subst, arith}
 use Rattle.std.specs.Prelude.{codes, ◌^◌}
 use Rattle.std.specs.List.{AllByRecursion}
 use Rattle.json_value.proofs.KindsOf.{object_of-object, text_of-text}
 use Rattle.geojson_types.specs.Counting.{no_counts}
-use Rattle.geojson_types.specs.Points.{Point}
-use Rattle.geojson_types.specs.Pruning.{option_strokes}
-use Rattle.geojson_types.proofs.Agreement.{all_left, all_right}
+use Rattle.geometry.specs.Points.{Point}
+use Rattle.geometry.specs.Pruning.{option_strokes}
+use Rattle.geometry.proofs.Agreement.{all_left, all_right}
 use Rattle.topojson_types.specs.declared.feature.TopoFeature.{TopoFeature}
 use Rattle.topojson_types.specs.declared.object.TopoObject.{TopoObject}
-use Rattle.topojson_types.specs.declared.object.TopoObject.TheVariants.{One, Many}
 use Rattle.topojson_types.specs.Topologies.{Contents, object_features, features_strokes, objects_strokes}
 use Rattle.topojson_types.specs.Validity.{IsTopology, IsFeature, IsObject, AreInRange, IsJoined, IsClosed}
 use Rattle.topojson_types.specs.Values.{topology_value}
@@ -39,14 +38,11 @@ module _ (arcs : List (List Point)) where
   fine_features (f ∷ fs) h k = ((h.0, all_left (Sound arcs) (strokes_of f) (features_strokes fs) k), fine_features fs h.1 (all_right (Sound arcs) (strokes_of f) (features_strokes fs) k))
 
   fine_object : (o : TopoObject) → IsObject None o → AllByRecursion (Sound arcs) (features_strokes (object_features o)) → FineObject arcs o
-  fine_object (One f) h k = ((h.0, all_left (Sound arcs) (strokes_of f) [] k), h.1)
-  fine_object (Many fs) h k = fine_features fs h k
+  fine_object o h k = grind (arith, all_left, Sound, fine_features)
 
   fine_objects : (os : List (List ℕ × TopoObject)) → AllByRecursion (λ o. IsObject None o.1) os → AllByRecursion (Sound arcs) (objects_strokes os) → AllByRecursion (λ o. FineObject arcs o.1) os
   fine_objects [] h k = tt
-  fine_objects (o ∷ os) h k =
-      let here : List (Bool × List ℤ) = features_strokes (object_features o.1) in
-      (fine_object o.1 h.0 (all_left (Sound arcs) here (objects_strokes os) k), fine_objects os h.1 (all_right (Sound arcs) here (objects_strokes os) k))
+  fine_objects (o ∷ os) h k = grind (arith, all_left, fine_features, all_right, fine_objects os h.1)
 
 -- ---- the topology
 

@@ -7,7 +7,7 @@ use Rattle.json_value.specs.Kinds.{array_of, object_of, text_of, number_of}
 use Rattle.decimal_text.specs.Scaling.{scaled_of}
 use Rattle.geojson_types.specs.declared.counts.Counts.{Counts}
 use Rattle.geojson_types.specs.Counting.{no_counts}
-use Rattle.geojson_types.specs.Points.{Point}
+use Rattle.geometry.specs.Points.{Point}
 use Rattle.topojson_types.specs.declared.transform.Transform.{Transform}
 use Rattle.topojson_types.specs.TransformNumbers.{transform_value, to_units, stands_for}
 use Rattle.topojson_types.specs.Transforms.{place_on, is_within}

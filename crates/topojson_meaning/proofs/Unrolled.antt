@@ -1,13 +1,12 @@
 -- What a value is read as, by one level of it.
-use Rattle.std.proofs.Common.{◌≡◌, ℕ, List, [], ◌∷◌, map, Option, None, Some, refl, sym, ap, ◌∙◌}
+use Rattle.std.proofs.Common.{◌≡◌, ℕ, List, map, Option, None, Some, refl, sym, ap, ◌∙◌, arith}
 use Rattle.std.specs.Prelude.{option_to_list}
 use Rattle.json_value.specs.declared.json.Json.{Json}
 use Rattle.json_value.specs.declared.json.Json.TheFolds.{para-Json, para-roll-Json}
 use Rattle.json_value.specs.declared.json.Json.TheOpen.{Json-F}
 use Rattle.json_value.specs.declared.json.Json.TheVariants as j
-use Rattle.geojson_types.specs.Points.{Point}
+use Rattle.geometry.specs.Points.{Point}
 use Rattle.topojson_meaning.specs.declared.geometry_type.GeometryType.{GeometryType}
-use Rattle.topojson_meaning.specs.declared.geometry_type.GeometryType.TheVariants.{Places, Arcs, Collection}
 use Rattle.topojson_types.specs.declared.transform.Transform.{Transform}
 use Rattle.topojson_types.specs.Topologies.{TopoShape}
 use Rattle.topojson_meaning.specs.GeometryTypes.{part_name, object_type}
@@ -16,6 +15,7 @@ use Rattle.json_members.specs.Members as members_by
 use Rattle.topojson_meaning.specs.Members.{Members, lookup_fault, need, need_as}
 use Rattle.topojson_meaning.specs.Reader.{Reader, ◌>>=◌, give, pure, with_fault, kept}
 use Rattle.topojson_meaning.specs.Shapes.{part_with, typed_with, Readings, readings_step, readings, shape, shapes, part, typed_shape, geometry}
+use Rattle.list_laws.proofs.Lists.{map_back}
 
 -- ---- reading under a map
 
@@ -23,10 +23,6 @@ need_as_map : {V W B : Type 0} (h : V → W) (g : List ℕ × V → List ℕ × 
     → need_as name read (map g ms) ≡ need_as name (λ v. read (h v)) ms
 unfolding need
 need_as_map h g e name read ms = ap (λ r. pure (with_fault lookup_fault r) >>= read) (need_map h g e name ms) ∙ pure_map lookup_fault h read (members_by.need name ms)
-
-map_back : {A B : Type 0} (f : B → A) (g : A → B) → ((x : A) → f (g x) ≡ x) → (xs : List A) → map f (map g xs) ≡ xs
-map_back f g e [] = refl
-map_back f g e (x ∷ xs) = rw (e x, map_back f g e xs) refl
 
 -- ---- one level
 
@@ -39,9 +35,7 @@ module _ (transform : Option Transform) (arcs : List (List Point)) where
 
   part_beside : (type : GeometryType) (v : Json) → part_with (λ w. w.0) (λ w. w.1.geometries) transform arcs type (beside v) ≡ part transform arcs type v
   unfolding part shapes
-  part_beside (Places type) v = refl
-  part_beside (Arcs type) v = refl
-  part_beside Collection v = refl
+  part_beside type v = grind arith
 
   typed_beside : (type : Option GeometryType) (ms : Members) → typed_with (λ w. w.0) (λ w. w.1.geometries) transform arcs type (map member_beside ms) ≡ typed_shape transform arcs type ms
   unfolding typed_shape

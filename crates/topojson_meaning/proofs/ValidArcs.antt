@@ -1,48 +1,33 @@
 -- The positions, cells and arcs that are read may stand in the topology.
-use Rattle.std.proofs.Common.{◌≡◌, ℕ, ℤ, ◌≤◌, Bool, true, false, not, cond, List, [], ◌∷◌, length, Option, Some, None, Result, Ok, Err, refl, subst, unsigned_abs}
-use Rattle.std.specs.Prelude.{nat_le, nat_lt}
+use Rattle.std.proofs.Common.{◌≡◌, ℕ, ℤ, ◌≤◌, true, List, [], ◌∷◌, length, Option, Some, None, Ok, unsigned_abs, arith}
+use Rattle.std.specs.Prelude.{nat_lt}
 use Rattle.std.specs.List.{AllByRecursion}
-use Rattle.std.proofs.lemmas.Bool.{leb-true}
-use Rattle.decimal_text.specs.declared.num_text.Scaled.{Scaled}
-use Rattle.decimal_text.specs.declared.num_text.Range.{Range as OutOfRange}
-use Rattle.decimal_text.specs.Scaling.{scaled_of}
+use Rattle.std.proofs.lemmas.Bool.{leb-true, and_parts}
 use Rattle.decimal_text.proofs.ScaledNumber.{scaled_of-within}
 use Rattle.json_value.specs.declared.json.Json.{Json}
-use Rattle.geojson_types.specs.Counting.{count_rounded, count_extra}
-use Rattle.geojson_types.specs.Points.{Point, IsWithin, IsPosition, position_limit}
+use Rattle.geojson_types.specs.Counting.{count_extra}
+use Rattle.geometry.specs.Points.{Point, IsWithin, IsPosition, position_limit}
 use Rattle.topojson_types.specs.declared.transform.Transform.{Transform}
-use Rattle.topojson_types.specs.Transforms.{grid_limit, place_on, is_within, origin, moved}
+use Rattle.topojson_types.specs.Transforms.{grid_limit, is_within, origin, moved}
 use Rattle.topojson_types.specs.Validity.{IsPlace, IsArc}
-use Rattle.topojson_types.specs.Values.{unit_places}
-use Rattle.topojson_meaning.specs.declared.fault.TopoFault.TheVariants.{WrongKind, ShortArc, GridNumber, Range}
-use Rattle.topojson_meaning.specs.Arcs.{number_text, units_in, units, elements_position, position, grid_number, grid_cell, elements_cell, cell, difference_limit, cells_behind, elements_place, place, arc_cells, as_arc, arc, arc_list}
+use Rattle.topojson_meaning.specs.declared.fault.TopoFault.TheVariants.{WrongKind}
+use Rattle.topojson_meaning.specs.Arcs.{number_text, units, elements_position, position, grid_number, grid_cell, elements_cell, cell, difference_limit, cells_behind, elements_place, place, arc_cells, as_arc, arc, arc_list}
 use Rattle.topojson_meaning.specs.Members.{elements}
-use Rattle.topojson_meaning.specs.Reader.{give, fail, each}
-use Rattle.topojson_meaning.proofs.ValidYields.{Yields, both_are, then_yields, give_yields, count_yields, fail_yields, pure_then, if_yields, each_yields}
+use Rattle.topojson_meaning.specs.Reader.{each}
+use Rattle.topojson_meaning.proofs.ValidYields.{Yields, then_yields, give_yields, count_yields, fail_yields, pure_then, if_yields, each_yields}
 
 -- ---- positions
 
 abbrev IsUnits : ℤ → Type 0
 IsUnits z = unsigned_abs z ≤ position_limit
 
-units_in_yields : (t : List ℕ) (r : Result Scaled OutOfRange) → scaled_of unit_places position_limit t ≡ r → Yields IsUnits (units_in r)
-units_in_yields t (Err e) is = fail_yields IsUnits Range
-units_in_yields t (Ok s) is = count_yields IsUnits s.value (count_rounded (not s.exact)) (scaled_of-within unit_places position_limit t s is)
-
 units_yields : (t : List ℕ) → Yields IsUnits (units t)
 unfolding units
-units_yields t = units_in_yields t (scaled_of unit_places position_limit t) refl
+units_yields t = grind (arith, fail_yields, count_yields, scaled_of-within)
 
 elements_position_yields : (vs : List Json) → Yields IsPosition (elements_position vs)
 unfolding elements_position
-elements_position_yields [] = fail_yields IsPosition WrongKind
-elements_position_yields (v ∷ []) = fail_yields IsPosition WrongKind
-elements_position_yields (v ∷ w ∷ more) =
-    pure_then IsPosition (number_text v) _
-    (λ s hs. pure_then IsPosition (number_text w) _
-    (λ t ht. then_yields IsUnits IsPosition (units s) _ (units_yields s)
-    (λ x hx. then_yields IsUnits IsPosition (units t) _ (units_yields t)
-    (λ y hy. count_yields IsPosition (record { x = x; y = y }) (count_extra (nat_lt 0 (length more))) (hx, hy)))))
+elements_position_yields vs = grind (arith, fail_yields, pure_then, then_yields, units_yields, count_yields)
 
 position_yields : (v : Json) → Yields IsPosition (position v)
 unfolding position
@@ -52,18 +37,11 @@ position_yields v = pure_then IsPosition (elements v) elements_position (λ vs h
 
 within_is : (bound : ℕ) (p : Point) → is_within bound p ≡ true → IsWithin bound p
 unfolding is_within
-within_is bound p h =
-    let k = both_are (nat_le (unsigned_abs p.x) bound) (nat_le (unsigned_abs p.y) bound) h in
-    (leb-true (unsigned_abs p.x) bound k.0, leb-true (unsigned_abs p.y) bound k.1)
-
-checked : (t : Transform) (c x : Point) (a b : Bool) → is_within grid_limit c ≡ a → is_within position_limit (place_on t c) ≡ b → cond a (cond b (Ok c) (Err Range)) (Err GridNumber) ≡ Ok x → IsPlace (Some t) x
-checked t c x true true p q e = let k : c ≡ x = cc in subst (IsPlace (Some t)) k (within_is grid_limit c p, within_is position_limit (place_on t c) q)
-checked t c x true false p q e = absurd cc
-checked t c x false b p q e = absurd cc
+within_is bound p h = grind (arith, and_parts, unsigned_abs, leb-true)
 
 grid_cell_is : (t : Transform) (c x : Point) → grid_cell t c ≡ Ok x → IsPlace (Some t) x
 unfolding grid_cell
-grid_cell_is t c x e = checked t c x (is_within grid_limit c) (is_within position_limit (place_on t c)) refl refl e
+grid_cell_is t c x e = grind (arith, within_is)
 
 module _ (t : Transform) where
   abbrev IsCell : Point → Type 0
@@ -112,15 +90,11 @@ arc_cells_yield None vs = each_yields IsPosition position position_yields vs
 arc_cells_yield (Some t) vs = cells_behind_yield t origin vs
 
 as_arc_yields : (transform : Option Transform) (cs : List Point) → AllByRecursion (IsPlace transform) cs → Yields (IsArc transform) (as_arc cs)
-as_arc_yields transform cs h = if_yields (IsArc transform) (nat_le 2 (length cs)) (give cs) (fail ShortArc)
-    (λ e. give_yields (IsArc transform) cs (leb-true 2 (length cs) e, h))
-    (λ e. fail_yields (IsArc transform) ShortArc)
+as_arc_yields transform cs h = grind (arith, if_yields, give_yields, leb-true, fail_yields)
 
 arc_yields : (transform : Option Transform) (v : Json) → Yields (IsArc transform) (arc transform v)
 unfolding arc
-arc_yields transform v =
-    pure_then (IsArc transform) (elements v) _
-    (λ vs h. then_yields (AllByRecursion (IsPlace transform)) (IsArc transform) (arc_cells transform vs) as_arc (arc_cells_yield transform vs) (as_arc_yields transform))
+arc_yields transform v = grind (arith, pure_then, then_yields, arc_cells_yield, as_arc_yields)
 
 pub arc_list_yields : (transform : Option Transform) (v : Json) → Yields (AllByRecursion (IsArc transform)) (arc_list transform v)
 unfolding arc_list

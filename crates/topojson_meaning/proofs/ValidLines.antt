@@ -1,39 +1,25 @@
 -- The lines, rings and polygons that are read are joined and closed, of indexes that name arcs.
-use Rattle.std.proofs.Common.{◌≡◌, ℤ, ◌<◌, true, false, List, [], ◌∷◌, length, map, Option, Some, None, refl, sym, ap, ◌∙◌, subst}
-use Rattle.std.specs.Prelude.{nat_lt}
-use Rattle.std.specs.Ordering.{int_eq}
+use Rattle.std.proofs.Common.{◌≡◌, ℤ, ◌<◌, true, false, List, [], ◌∷◌, length, map, Option, Some, None, refl, ap, arith}
 use Rattle.std.specs.List.{AllByRecursion}
 use Rattle.std.proofs.lemmas.Bool.{ltb-true}
-use Rattle.std.proofs.lemmas.Bool.Decides.{Decides-int_eq}
-use Rattle.decimal_text.specs.Scaling.{scaled_of}
 use Rattle.json_value.specs.declared.json.Json.{Json}
 use Rattle.json_value.specs.Kinds.{array_of}
-use Rattle.geojson_types.specs.Counting.{count_empty}
 use Rattle.geojson_types.specs.Features.{is_some_list}
-use Rattle.geojson_types.specs.Lists.{map_some, then_some}
-use Rattle.geojson_types.specs.Points.{Point}
-use Rattle.geojson_types.specs.Rings.{same, both_same}
-use Rattle.topojson_types.specs.Joins.{number_of, arc_at, first_of, last_of, Meet, Closes}
+use Rattle.geometry.specs.Lists.{map_some, then_some}
+use Rattle.geometry.specs.Points.{Point}
+use Rattle.geometry.specs.Rings.{same, both_same}
+use Rattle.geometry.proofs.Points.{same_is}
+use Rattle.geometry.specs.Joins.{number_of, arc_at, first_of, last_of, Meet, Closes}
 use Rattle.topojson_types.specs.Validity.{AreInRange}
-use Rattle.topojson_meaning.specs.declared.fault.TopoFault.TheVariants.{WrongKind, IndexRange, Unjoined, OpenRing}
-use Rattle.topojson_meaning.specs.Arcs.{number_text}
-use Rattle.topojson_meaning.specs.Lines.{elements_in, some_elements, index_limit, whole_in, in_range, index, meets, joined_to, indexes_behind, indexes, line_start, line_end, as_ring, line_in, line, ring_in, ring, with_outer, polygon_in, polygon}
-use Rattle.topojson_meaning.specs.Reader.{Reader, ◌>>=◌, give, fail, if_some, kept}
+use Rattle.topojson_meaning.specs.Lines.{elements_in, some_elements, in_range, index, joined_to, indexes_behind, indexes, line_start, line_end, as_ring, line_in, line, ring_in, ring, with_outer, polygon_in, polygon}
+use Rattle.topojson_meaning.specs.Reader.{Reader, ◌>>=◌, if_some, kept}
 use Rattle.topojson_meaning.proofs.ValidKept.{IsLine, IsArea}
-use Rattle.topojson_meaning.proofs.ValidYields.{Yields, IfThere, both_are, then_yields, give_yields, count_yields, fail_yields, pure_then, if_yields, if_some_yields, kept_yields}
+use Rattle.topojson_meaning.proofs.ValidYields.{Yields, IfThere, then_yields, give_yields, count_yields, fail_yields, pure_then, if_yields, if_some_yields, kept_yields}
 
 -- ---- positions that are the same
 
 abbrev point_of : ℤ → ℤ → Point
 point_of x y = record { x = x; y = y }
-
-same_is : (p q : Point) → same p q ≡ true → p ≡ q
-unfolding same
-same_is p q h =
-    let b = both_are (int_eq p.x q.x) (int_eq p.y q.y) h in
-    let ex : p.x ≡ q.x = (Decides-int_eq p.x q.x).0 b.0 in
-    let ey : p.y ≡ q.y = (Decides-int_eq p.y q.y).0 b.1 in
-    ap (λ x. point_of x p.y) ex ∙ ap (point_of q.x) ey
 
 both_same_is : (o q : Option Point) → both_same o q ≡ true → o ≡ q
 both_same_is None q h = absurd cc
@@ -46,9 +32,7 @@ abbrev IsSome : List Json → Type 0
 IsSome vs = is_some_list vs ≡ true
 
 elements_yield : (o : Option (List Json)) → Yields (IfThere IsSome) (elements_in o)
-elements_yield None = fail_yields (IfThere IsSome) WrongKind
-elements_yield (Some []) = count_yields (IfThere IsSome) None count_empty tt
-elements_yield (Some (v ∷ vs)) = give_yields (IfThere IsSome) (Some (v ∷ vs)) refl
+elements_yield o = grind (arith, fail_yields, IfThere, count_yields, give_yields)
 
 pub some_elements_yield : {A : Type 0} (P : A → Type 0) (read : List Json → Reader (Option A)) (v : Json) → ((vs : List Json) → is_some_list vs ≡ true → Yields (IfThere P) (read vs)) → Yields (IfThere P) (some_elements v >>= if_some read)
 unfolding some_elements
@@ -61,15 +45,11 @@ module _ (arcs : List (List Point)) where
   IsIndex i = number_of i < length arcs
 
   in_range_yields : (i : ℤ) → Yields IsIndex (in_range (length arcs) i)
-  in_range_yields i = if_yields IsIndex (nat_lt (number_of i) (length arcs)) (give i) (fail IndexRange)
-      (λ e. give_yields IsIndex i (ltb-true (number_of i) (length arcs) e))
-      (λ e. fail_yields IsIndex IndexRange)
+  in_range_yields i = grind (arith, if_yields, give_yields, ltb-true, fail_yields)
 
   index_yields : (v : Json) → Yields IsIndex (index (length arcs) v)
   unfolding index
-  index_yields v =
-      pure_then IsIndex (number_text v) _
-      (λ t h. then_yields (λ i. Unit {0}) IsIndex (whole_in (scaled_of 0 index_limit t)) (in_range (length arcs)) (λ c d i e. tt) (λ i k. in_range_yields i))
+  index_yields v = grind (arith, pure_then, then_yields, if_yields, give_yields, ltb-true, fail_yields)
 
   -- ---- lines
 
@@ -78,9 +58,7 @@ module _ (arcs : List (List Point)) where
   IsNext before i = IsIndex i × (last_of (arc_at arcs before) ≡ first_of (arc_at arcs i))
 
   joined_to_yields : (before i : ℤ) → IsIndex i → Yields (IsNext before) (joined_to arcs before i)
-  joined_to_yields before i h = if_yields (IsNext before) (meets arcs before i) (give i) (fail Unjoined)
-      (λ e. give_yields (IsNext before) i (h, both_same_is (last_of (arc_at arcs before)) (first_of (arc_at arcs i)) e))
-      (λ e. fail_yields (IsNext before) Unjoined)
+  joined_to_yields before i h = grind (arith, if_yields, give_yields, both_same_is, fail_yields)
 
   -- indexes whose arcs meet one another, and that of the index before
   abbrev AreBehind : ℤ → List ℤ → Type 0
@@ -133,20 +111,16 @@ module _ (arcs : List (List Point)) where
   Ends p o = elim o [ None ↦ ⊥ | Some q ↦ last_of q ≡ first_of p ]
 
   end_of : (i : ℤ) (o : Option ℤ) → both_same (then_some (λ k. last_of (arc_at arcs k)) o) (first_of (arc_at arcs i)) ≡ true → Ends (arc_at arcs i) (map_some (arc_at arcs) o)
-  end_of i None h = absurd cc
-  end_of i (Some k) h = both_same_is (last_of (arc_at arcs k)) (first_of (arc_at arcs i)) h
+  end_of i o h = grind (arith, both_same_is)
 
   closes : (refs : List ℤ) → both_same (line_end arcs refs) (line_start arcs refs) ≡ true → Closes (map (arc_at arcs) refs)
-  closes [] h = absurd cc
-  closes (i ∷ refs) h = subst (Ends (arc_at arcs i)) (sym (last_map (arc_at arcs) (i ∷ refs))) (end_of i (last_of (i ∷ refs)) h)
+  closes refs h = grind (arith, last_map, end_of)
 
   abbrev IsRing : List ℤ → Type 0
   IsRing refs = IsLine arcs true refs
 
   as_ring_yields : (refs : List ℤ) → IsOpen refs → Yields (IfThere IsRing) (as_ring arcs refs)
-  as_ring_yields refs h = if_yields (IfThere IsRing) (both_same (line_end arcs refs) (line_start arcs refs)) (give (Some refs)) (fail OpenRing)
-      (λ e. give_yields (IfThere IsRing) (Some refs) (h.0, (h.1.0, h.1.1, λ t. closes refs e)))
-      (λ e. fail_yields (IfThere IsRing) OpenRing)
+  as_ring_yields refs h = search (if_yields, give_yields, closes, fail_yields)
 
   ring_in_yields : (vs : List Json) → is_some_list vs ≡ true → Yields (IfThere IsRing) (ring_in arcs vs)
   unfolding ring_in
@@ -159,8 +133,7 @@ module _ (arcs : List (List Point)) where
   -- ---- polygons
 
   with_outer_is : (o : Option (List ℤ)) (rs : List (List ℤ)) → IfThere IsRing o → AllByRecursion IsRing rs → IfThere (IsArea arcs) (with_outer o rs)
-  with_outer_is None rs h k = tt
-  with_outer_is (Some r) rs h k = (refl, (h, k))
+  with_outer_is o rs h k = grind arith
 
   pub polygon_in_yields : (vs : List Json) → Yields (IfThere (IsArea arcs)) (polygon_in arcs vs)
   unfolding polygon_in

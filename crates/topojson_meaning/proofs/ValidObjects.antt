@@ -1,37 +1,30 @@
 -- The features and objects that are read keep the rules, and their names differ.
-use Rattle.std.proofs.Common.{◌≡◌, ◌≢◌, ℕ, Bool, true, false, List, [], ◌∷◌, map, Option, refl, sym, ◌∙◌}
-use Rattle.std.specs.Prelude.{codes, bytes_eq, ◌||◌}
+use Rattle.std.proofs.Common.{◌≡◌, ◌≢◌, ℕ, false, List, [], ◌∷◌, map, Option, arith}
+use Rattle.std.specs.Prelude.{bytes_eq}
 use Rattle.std.specs.List.{AllByRecursion}
-use Rattle.std.proofs.lemmas.Slice.Eq.{bytes_eq-Decides}
+use Rattle.std.proofs.lemmas.Bool.{or_parts}
 use Rattle.json_value.specs.declared.json.Json.{Json}
-use Rattle.geojson_types.specs.Points.{Point}
+use Rattle.geometry.specs.Points.{Point}
 use Rattle.topojson_types.specs.declared.feature.TopoFeature.{TopoFeature}
 use Rattle.topojson_types.specs.declared.object.TopoObject.{TopoObject}
 use Rattle.topojson_types.specs.declared.object.TopoObject.TheVariants.{One, Many}
 use Rattle.topojson_types.specs.declared.transform.Transform.{Transform}
 use Rattle.topojson_types.specs.Topologies.{TopoShape}
 use Rattle.topojson_types.specs.Validity.{AreDistinct}
-use Rattle.topojson_meaning.specs.declared.fault.TopoFault.TheVariants.{Duplicate}
 use Rattle.topojson_meaning.specs.declared.geometry_type.GeometryType.{GeometryType}
-use Rattle.topojson_meaning.specs.Features.{identifier, members_if, feature, feature_element}
-use Rattle.topojson_meaning.specs.GeometryTypes.{is_collection, object_type}
-use Rattle.topojson_meaning.specs.Members.{Members, find, elements, members}
+use Rattle.topojson_meaning.specs.Features.{feature, feature_element}
+use Rattle.topojson_meaning.specs.GeometryTypes.{is_collection}
+use Rattle.topojson_meaning.specs.Members.{Members, elements, members}
 use Rattle.topojson_meaning.specs.Objects.{features, collection, single, object, is_met, new_name, objects_behind, objects}
-use Rattle.topojson_meaning.specs.Reader.{give, fail}
 use Rattle.topojson_meaning.specs.Shapes.{typed_shape}
 use Rattle.topojson_meaning.proofs.ValidKept.{IsShape, IsSingle}
 use Rattle.topojson_meaning.proofs.ValidMembers.{need_as_yields}
 use Rattle.topojson_meaning.proofs.ValidReadings.{typed_shape_yields, single_shape_yields}
-use Rattle.topojson_meaning.proofs.ValidYields.{Yields, IfThere, all_weaker, all_trivial, then_yields, give_yields, fail_yields, pure_then, if_yields, each_yields}
+use Rattle.topojson_meaning.proofs.ValidYields.{Yields, IfThere, all_trivial, then_yields, give_yields, fail_yields, pure_then, if_yields, each_yields}
+use Rattle.list_laws.proofs.Tests.{bytes_differ}
+use Rattle.list_laws.proofs.Elements.{all_weaker}
 
 -- ---- names
-
-either_false : (a b : Bool) → (a || b) ≡ false → (a ≡ false) × (b ≡ false)
-either_false true b h = absurd cc
-either_false false b h = (refl, h)
-
-names_differ : (m n : List ℕ) → bytes_eq m n ≡ false → m ≢ n
-names_differ m n h e = let k : true ≡ false = sym ((bytes_eq-Decides m n).1 e) ∙ h in absurd cc
 
 -- objects whose names were not met
 abbrev AreNew : List (List ℕ) → List (List ℕ × TopoObject) → Type 0
@@ -42,18 +35,16 @@ names = map (λ o. o.0)
 
 others : (name : List ℕ) (met : List (List ℕ)) (os : List (List ℕ × TopoObject)) → AreNew (name ∷ met) os → AllByRecursion (λ n. name ≢ n) (names os)
 others name met [] h = tt
-others name met (o ∷ os) h = (names_differ name o.0 (either_false (bytes_eq name o.0) (is_met o.0 met) h.0).0, others name met os h.1)
+others name met (o ∷ os) h = (bytes_differ name o.0 (or_parts (bytes_eq name o.0) (is_met o.0 met) h.0).0, others name met os h.1)
 
 earlier : (name : List ℕ) (met : List (List ℕ)) (os : List (List ℕ × TopoObject)) → AreNew (name ∷ met) os → AreNew met os
-earlier name met = all_weaker (λ o. is_met o.0 (name ∷ met) ≡ false) (λ o. is_met o.0 met ≡ false) (λ o h. (either_false (bytes_eq name o.0) (is_met o.0 met) h).1)
+earlier name met = all_weaker (λ o. is_met o.0 (name ∷ met) ≡ false) (λ o. is_met o.0 met ≡ false) (λ o h. (or_parts (bytes_eq name o.0) (is_met o.0 met) h).1)
 
 abbrev IsNewName : List (List ℕ) → List ℕ → Type 0
 IsNewName met name = is_met name met ≡ false
 
 new_name_yields : (met : List (List ℕ)) (name : List ℕ) → Yields (IsNewName met) (new_name met name)
-new_name_yields met name = if_yields (IsNewName met) (is_met name met) (fail Duplicate) (give name)
-    (λ e. fail_yields (IsNewName met) Duplicate)
-    (λ e. give_yields (IsNewName met) name e)
+new_name_yields met name = grind (arith, if_yields, fail_yields, give_yields)
 
 -- ---- features
 
@@ -64,23 +55,14 @@ HasShape P f = IfThere P f.shape
 module _ (transform : Option Transform) (arcs : List (List Point)) where
   feature_yields : (P : TopoShape → Type 0) (type : Option GeometryType) (ms : Members) → Yields (IfThere P) (typed_shape transform arcs type ms) → Yields (HasShape P) (feature transform arcs type ms)
   unfolding feature
-  feature_yields P type ms h =
-      pure_then (HasShape P) (find (codes "id") ms) _
-      (λ i hi. pure_then (HasShape P) (identifier i) _
-      (λ id hid. pure_then (HasShape P) (find (codes "properties") ms) _
-      (λ p hp. pure_then (HasShape P) (members_if p) _
-      (λ properties hps. then_yields (IfThere P) (HasShape P) (typed_shape transform arcs type ms) _ h
-      (λ shape hs. give_yields (HasShape P) (record { id = id; properties = properties; shape = shape }) hs)))))
+  feature_yields P type ms h = grind (arith, pure_then, then_yields, IfThere, give_yields)
 
   abbrev Kept : TopoFeature → Type 0
   Kept = HasShape (IsShape transform arcs)
 
   feature_element_yields : (v : Json) → Yields Kept (feature_element transform arcs v)
   unfolding feature_element
-  feature_element_yields v =
-      pure_then Kept (members v) _
-      (λ ms h. pure_then Kept (object_type ms) _
-      (λ type e. feature_yields (IsShape transform arcs) type ms (typed_shape_yields transform arcs type ms)))
+  feature_element_yields v = search (pure_then, feature_yields, typed_shape_yields)
 
   features_yield : (v : Json) → Yields (AllByRecursion Kept) (features transform arcs v)
   unfolding features
@@ -95,10 +77,7 @@ module _ (transform : Option Transform) (arcs : List (List Point)) where
 
   collection_yields : (ms : Members) → Yields KeptObject (collection transform arcs ms)
   unfolding collection
-  collection_yields ms =
-      then_yields (AllByRecursion Kept) KeptObject _ _
-      (need_as_yields (λ v. Unit {0}) (AllByRecursion Kept) (codes "geometries") (features transform arcs) ms (λ v k. features_yield v) (all_trivial ms))
-      (λ fs h. give_yields KeptObject (Many fs) h)
+  collection_yields ms = grind (arith, then_yields, need_as_yields, features_yield, all_trivial, give_yields)
 
   single_yields : (type : Option GeometryType) (ms : Members) → is_collection type ≡ false → Yields KeptObject (single transform arcs type ms)
   unfolding single
@@ -109,12 +88,7 @@ module _ (transform : Option Transform) (arcs : List (List Point)) where
 
   object_yields : (v : Json) → Yields KeptObject (object transform arcs v)
   unfolding object
-  object_yields v =
-      pure_then KeptObject (members v) _
-      (λ ms h. pure_then KeptObject (object_type ms) _
-      (λ type e. if_yields KeptObject (is_collection type) (collection transform arcs ms) (single transform arcs type ms)
-      (λ k. collection_yields ms)
-      (λ k. single_yields type ms k)))
+  object_yields v = search (pure_then, if_yields, collection_yields, single_yields)
 
   -- objects of different names, none of which was met
   pub record AreObjects (met : List (List ℕ)) (os : List (List ℕ × TopoObject)) : Type 0 where
@@ -123,11 +97,7 @@ module _ (transform : Option Transform) (arcs : List (List Point)) where
     pub kept : AllByRecursion (λ o. KeptObject o.1) os
 
   one_more : (met : List (List ℕ)) (name : List ℕ) (o : TopoObject) (os : List (List ℕ × TopoObject)) → is_met name met ≡ false → KeptObject o → AreObjects (name ∷ met) os → AreObjects met ((name, o) ∷ os)
-  one_more met name o os e h k = record {
-    fresh = (e, earlier name met os k.fresh);
-    distinct = (others name met os k.fresh, k.distinct);
-    kept = (h, k.kept);
-  }
+  one_more met name o os e h k = grind (arith, earlier, others)
 
   objects_behind_yield : (met : List (List ℕ)) (ms : Members) → Yields (AreObjects met) (objects_behind transform arcs met ms)
   unfolding objects_behind

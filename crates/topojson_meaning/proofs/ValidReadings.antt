@@ -1,15 +1,15 @@
 -- The shapes that are read of values at any depth keep the rules of their kinds.
-use Rattle.std.proofs.Common.{◌≡◌, ℕ, false, List, [], ◌∷◌, map, Option, Some, None, sym, subst}
+use Rattle.std.proofs.Common.{◌≡◌, ℕ, false, List, [], ◌∷◌, map, Option, Some, None, sym, subst, arith}
 use Rattle.std.specs.List.{AllByRecursion}
 use Rattle.json_value.specs.declared.json.Json.{Json, roll-Json, ind-Json, map-Json}
 use Rattle.json_value.specs.declared.json.Json.TheFolds.{para-Json, para-roll-Json}
 use Rattle.json_value.specs.declared.json.Json.TheOpen.{Json-F}
-use Rattle.geojson_types.specs.Points.{Point}
+use Rattle.geometry.specs.Points.{Point}
 use Rattle.topojson_types.specs.declared.transform.Transform.{Transform}
 use Rattle.topojson_types.specs.Topologies.{TopoShape}
 use Rattle.topojson_meaning.specs.declared.fault.TopoFault.TheVariants.{WrongKind}
 use Rattle.topojson_meaning.specs.declared.geometry_type.GeometryType.{GeometryType}
-use Rattle.topojson_meaning.specs.GeometryTypes.{is_collection, object_type}
+use Rattle.topojson_meaning.specs.GeometryTypes.{is_collection}
 use Rattle.topojson_meaning.specs.Members.{Members}
 use Rattle.topojson_meaning.specs.Reader.{fail}
 use Rattle.topojson_meaning.specs.Shapes.{Readings, readings_step, readings, shapes, part, typed_shape}
@@ -37,16 +37,10 @@ module _ (transform : Option Transform) (arcs : List (List Point)) where
   members_weaker (m ∷ ms) h = (let k = h.0 in k.geometries, members_weaker ms h.1)
 
   object_shapes : (ms : List (List ℕ × (Json × Readings))) → AllByRecursion (λ m. AreShapes m.1.1) ms → AreShapes (readings_step transform arcs (Json-F.Object ms))
-  object_shapes ms h = record {
-    geometry = pure_then (IfThere Shape) (object_type (map (λ m. (m.0, m.1.0)) ms)) _ (λ type e. typed_with_yields transform arcs (λ (v : Json × Readings). v.0) (λ v. v.1.geometries) type ms (members_weaker ms h));
-    geometries = fail_yields Shapes WrongKind;
-  }
+  object_shapes ms h = grind (arith, pure_then, typed_with_yields, members_weaker, fail_yields)
 
   array_shapes : (vs : List (Json × Readings)) → AllByRecursion (λ v. AreShapes v.1) vs → AreShapes (readings_step transform arcs (Json-F.Array vs))
-  array_shapes vs h = record {
-    geometry = fail_yields (IfThere Shape) WrongKind;
-    geometries = kept_of_yields (λ v. AreShapes v.1) Shape (λ v. v.1.geometry) (λ v k. k.geometry) vs h;
-  }
+  array_shapes vs h = grind (arith, fail_yields, kept_of_yields)
 
   abbrev IsRead : Json → Type 0
   IsRead v = AreShapes (readings transform arcs v)

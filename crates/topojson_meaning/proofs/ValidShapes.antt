@@ -1,11 +1,11 @@
 -- The shapes that are read of one value keep the rules of their kinds.
-use Rattle.std.proofs.Common.{◌≡◌, ℕ, true, false, List, [], ◌∷◌, Option, Some, None, refl}
+use Rattle.std.proofs.Common.{◌≡◌, ℕ, true, false, List, Option, Some, None, arith}
 use Rattle.std.specs.List.{AllByRecursion}
 use Rattle.json_value.specs.declared.json.Json.{Json}
-use Rattle.geojson_types.specs.declared.geometry.Geometry.TheVariants as g
+use Rattle.geometry.specs.declared.shape.Geometry.TheVariants as g
 use Rattle.geojson_types.specs.Features.{is_some_list}
-use Rattle.geojson_types.specs.Lists.{map_some, unless_empty}
-use Rattle.geojson_types.specs.Points.{Point}
+use Rattle.geometry.specs.Lists.{map_some, unless_empty}
+use Rattle.geometry.specs.Points.{Point}
 use Rattle.topojson_types.specs.declared.transform.Transform.{Transform}
 use Rattle.topojson_types.specs.Topologies.{TopoShape}
 use Rattle.topojson_types.specs.Validity.{IsPlace}
@@ -29,12 +29,10 @@ use Rattle.topojson_meaning.proofs.ValidYields.{Yields, IfThere, all_trivial, we
 -- ---- parts that are there
 
 there_made : {A B : Type 0} (P : A → Type 0) (Q : B → Type 0) (make : A → B) → ((x : A) → P x → Q (make x)) → (o : Option A) → IfThere P o → IfThere Q (map_some make o)
-there_made P Q make f None h = tt
-there_made P Q make f (Some x) h = f x h
+there_made P Q make h o k = grind arith
 
 some_made : {A B : Type 0} (P : A → Type 0) (Q : B → Type 0) (make : List A → B) → ((xs : List A) → is_some_list xs ≡ true → AllByRecursion P xs → Q (make xs)) → (xs : List A) → AllByRecursion P xs → IfThere Q (unless_empty make xs)
-some_made P Q make f [] h = tt
-some_made P Q make f (x ∷ xs) h = f (x ∷ xs) refl h
+some_made P Q make h xs k = grind arith
 
 module _ (transform : Option Transform) (arcs : List (List Point)) where
   abbrev Shape : TopoShape → Type 0
@@ -109,5 +107,4 @@ module _ (transform : Option Transform) (arcs : List (List Point)) where
     single_part Collection v e = absurd cc
 
     pub single_with_yields : (type : Option GeometryType) (ms : List (List ℕ × V)) → is_collection type ≡ false → Yields (IfThere Single) (typed_with value geometries transform arcs type ms)
-    single_with_yields None ms e = give_yields (IfThere Single) None tt
-    single_with_yields (Some type) ms e = need_as_yields (λ v. Unit {0}) (IfThere Single) (part_name type) (part_with value geometries transform arcs type) ms (λ v k. single_part type v e) (all_trivial ms)
+    single_with_yields type ms h = grind (arith, give_yields, IfThere, need_as_yields, single_part, all_trivial)

@@ -1,18 +1,17 @@
 -- A topology that is read is valid.
-use Rattle.std.proofs.Common.{◌≡◌, ℕ, ℤ, Bool, true, List, [], length, map, Option, Some, None, refl}
+use Rattle.std.proofs.Common.{◌≡◌, ℕ, ℤ, Bool, true, List, [], Option, arith}
 use Rattle.std.specs.Prelude.{codes}
 use Rattle.std.specs.List.{AllByRecursion}
 use Rattle.json_value.specs.declared.json.Json.{Json}
 use Rattle.json_value.specs.Kinds.{object_of, text_of}
 use Rattle.geojson_types.specs.Counting.{no_counts}
-use Rattle.geojson_types.specs.Points.{Point}
-use Rattle.geojson_types.specs.Pruning.{option_strokes}
+use Rattle.geometry.specs.Points.{Point}
+use Rattle.geometry.specs.Pruning.{option_strokes}
 use Rattle.topojson_types.specs.declared.feature.TopoFeature.{TopoFeature}
 use Rattle.topojson_types.specs.declared.object.TopoObject.{TopoObject}
-use Rattle.topojson_types.specs.declared.object.TopoObject.TheVariants.{One, Many}
 use Rattle.topojson_types.specs.declared.transform.Transform.{Transform}
 use Rattle.topojson_types.specs.Topologies.{TopoShape, Contents, object_features, features_strokes, objects_strokes}
-use Rattle.topojson_types.specs.Validity.{is_full_option, option_places, is_single_option, IsPlace, IsFeature, IsObject, AreInRange, IsJoined, IsClosed, IsArc, IsTransformed, IsTopology}
+use Rattle.topojson_types.specs.Validity.{is_full_option, option_places, is_single_option, IsPlace, IsFeature, IsObject, IsArc, IsTransformed, IsTopology}
 use Rattle.topojson_meaning.specs.declared.fault.TopoFault.TheVariants.{NotTopology, WrongKind}
 use Rattle.topojson_meaning.specs.Arcs.{arc_list}
 use Rattle.topojson_meaning.specs.Laws.{ReadsValid}
@@ -26,7 +25,8 @@ use Rattle.topojson_meaning.proofs.ValidKept.{IsStroke, IsShape, IsSingle}
 use Rattle.topojson_meaning.proofs.ValidMembers.{need_as_yields}
 use Rattle.topojson_meaning.proofs.ValidObjects.{HasShape, KeptObject, AreObjects, objects_yield}
 use Rattle.topojson_meaning.proofs.ValidTransforms.{transform_if_yields}
-use Rattle.topojson_meaning.proofs.ValidYields.{Yields, IfThere, all_weaker, all_joined, all_map, all_trivial, there_weaker, then_yields, give_yields, pure_then}
+use Rattle.topojson_meaning.proofs.ValidYields.{Yields, IfThere, all_trivial, there_weaker, then_yields, give_yields, pure_then}
+use Rattle.list_laws.proofs.Elements.{all_map, all_joined, all_weaker}
 
 module _ (transform : Option Transform) (arcs : List (List Point)) where
   -- ---- features
@@ -35,20 +35,16 @@ module _ (transform : Option Transform) (arcs : List (List Point)) where
   Strokes = AllByRecursion (IsStroke arcs)
 
   option_full : (o : Option TopoShape) → IfThere (IsShape transform arcs) o → is_full_option o ≡ true
-  option_full None h = refl
-  option_full (Some s) h = h.full
+  option_full o h = grind arith
 
   option_placed : (o : Option TopoShape) → IfThere (IsShape transform arcs) o → AllByRecursion (IsPlace transform) (option_places o)
-  option_placed None h = tt
-  option_placed (Some s) h = h.places
+  option_placed o h = grind arith
 
   option_stroked : (o : Option TopoShape) → IfThere (IsShape transform arcs) o → Strokes (option_strokes o)
-  option_stroked None h = tt
-  option_stroked (Some s) h = h.strokes
+  option_stroked o h = grind arith
 
   option_single : (o : Option TopoShape) → IfThere (IsSingle transform arcs) o → is_single_option o ≡ true
-  option_single None h = refl
-  option_single (Some s) h = h.1
+  option_single o h = grind arith
 
   one_shape : (o : Option TopoShape) → IfThere (IsSingle transform arcs) o → IfThere (IsShape transform arcs) o
   one_shape = there_weaker (IsSingle transform arcs) (IsShape transform arcs) (λ s h. h.0)
@@ -62,24 +58,19 @@ module _ (transform : Option Transform) (arcs : List (List Point)) where
   -- ---- objects
 
   object_valid : (o : TopoObject) → KeptObject transform arcs o → IsObject transform o
-  object_valid (One f) h = (feature_valid f (one_shape f.shape h), option_single f.shape h)
-  object_valid (Many fs) h = all_weaker Kept (IsFeature transform) feature_valid fs h
+  object_valid o h = grind (arith, option_full, option_placed, one_shape, all_weaker)
 
   object_kept : (o : TopoObject) → KeptObject transform arcs o → AllByRecursion Kept (object_features o)
-  object_kept (One f) h = (one_shape f.shape h, tt)
-  object_kept (Many fs) h = h
+  object_kept o h = grind (arith, one_shape)
 
   features_stroked : (fs : List TopoFeature) → AllByRecursion Kept fs → Strokes (features_strokes fs)
-  features_stroked fs h = all_joined (IsStroke arcs) (map (λ f. option_strokes f.shape) fs)
-      (all_map Strokes (λ f. option_strokes f.shape) fs (all_weaker Kept (λ f. Strokes (option_strokes f.shape)) (λ f k. option_stroked f.shape k) fs h))
+  features_stroked fs h = search (all_joined, all_map, all_weaker, option_stroked)
 
   abbrev KeptMember : List ℕ × TopoObject → Type 0
   KeptMember o = KeptObject transform arcs o.1
 
   objects_stroked : (os : List (List ℕ × TopoObject)) → AllByRecursion KeptMember os → Strokes (objects_strokes os)
-  objects_stroked os h = all_joined (IsStroke arcs) (map (λ o. features_strokes (object_features o.1)) os)
-      (all_map Strokes (λ o. features_strokes (object_features o.1)) os
-      (all_weaker KeptMember (λ o. Strokes (features_strokes (object_features o.1))) (λ o k. features_stroked (object_features o.1) (object_kept o.1 k)) os h))
+  objects_stroked os h = search (all_joined, all_map, all_weaker, features_stroked, object_kept)
 
   -- ---- topologies
 
@@ -87,17 +78,7 @@ module _ (transform : Option Transform) (arcs : List (List Point)) where
   made os = record { objects = os; arcs = arcs; transform = transform }
 
   topology_valid : (os : List (List ℕ × TopoObject)) → IsTransformed transform → AllByRecursion (IsArc transform) arcs → AreObjects transform arcs [] os → IsTopology (made os)
-  topology_valid os ht ha h =
-      let strokes : Strokes (objects_strokes os) = objects_stroked os h.kept in
-      record {
-        names = h.distinct;
-        transform = ht;
-        objects = all_weaker KeptMember (λ o. IsObject transform o.1) (λ o k. object_valid o.1 k) os h.kept;
-        arcs = ha;
-        ranged = all_weaker (IsStroke arcs) (λ b. AreInRange (length arcs) b.1) (λ b k. k.0) (objects_strokes os) strokes;
-        joined = all_weaker (IsStroke arcs) (IsJoined arcs) (λ b k. k.1) (objects_strokes os) strokes;
-        closed = all_weaker (IsStroke arcs) (IsClosed arcs) (λ b k. k.2) (objects_strokes os) strokes;
-      }
+  topology_valid os ht ha h = grind (arith, objects_stroked, all_weaker, object_valid, IsStroke)
 
   -- the objects over the arcs that were read
   read_objects : (ms : Members) → Yields (AreObjects transform arcs []) (need_as (codes "objects") (objects transform arcs) ms)

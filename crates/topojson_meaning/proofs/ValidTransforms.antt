@@ -1,6 +1,5 @@
 -- The transform that is read has numbers within their limit.
-use Rattle.std.proofs.Common.{◌≡◌, ℕ, ℤ, List, Option, Some, None, Ok, refl, subst}
-use Rattle.std.specs.Prelude.{codes}
+use Rattle.std.proofs.Common.{◌≡◌, ℕ, ℤ, List, Option, Some, None, Ok, refl, subst, arith}
 use Rattle.json_value.specs.declared.json.Json.{Json}
 use Rattle.json_value.specs.declared.json.Json.TheOpen.{Json-F}
 use Rattle.json_value.specs.declared.json.Json.TheViews.{out-Json}
@@ -25,10 +24,7 @@ ArePair p = IsTransformNumber p.0 × IsTransformNumber p.1
 
 transform_pair_yields : (ts : List ℕ × List ℕ) → Yields ArePair (transform_pair ts)
 unfolding transform_pair
-transform_pair_yields ts =
-    pure_then ArePair (transform_number ts.0) _
-    (λ s hs. pure_then ArePair (transform_number ts.1) _
-    (λ t ht. give_yields ArePair (s, t) (transform_number_is ts.0 s hs, transform_number_is ts.1 t ht)))
+transform_pair_yields ts = grind (arith, pure_then, give_yields, transform_number_is)
 
 -- of each pair of texts
 texts_yield : (name : List ℕ) (ms : Members) → Yields (λ ts. Unit {0}) (need_as name texts ms)
@@ -36,12 +32,7 @@ texts_yield name ms c d ts e = tt
 
 transform_members_yield : (ms : Members) → Yields IsTransform (transform_members ms)
 unfolding transform_members
-transform_members_yield ms =
-    then_yields (λ ts. Unit {0}) IsTransform (need_as (codes "scale") texts ms) _ (texts_yield (codes "scale") ms)
-    (λ s hs. then_yields (λ ts. Unit {0}) IsTransform (need_as (codes "translate") texts ms) _ (texts_yield (codes "translate") ms)
-    (λ t ht. then_yields ArePair IsTransform (transform_pair s) _ (transform_pair_yields s)
-    (λ scale hscale. then_yields ArePair IsTransform (transform_pair t) _ (transform_pair_yields t)
-    (λ translate htranslate. give_yields IsTransform (record { scale = scale; translate = translate }) (hscale, htranslate)))))
+transform_members_yield ms = grind (arith, then_yields, texts_yield, transform_pair_yields, give_yields)
 
 transform_in_yields : (x : Json-F Json) → Yields IsTransformed (transform_in x)
 transform_in_yields Json-F.Null = give_yields IsTransformed None tt

@@ -1,5 +1,5 @@
 -- How deep the value nests that is written for a topology.
-use Rattle.std.proofs.Common.{◌≡◌, ℕ, zero, suc, ◌+◌, ◌≤◌, ℤ, List, [], ◌∷◌, ◌++◌, map, Option, Some, None, refl, sym, ap, ◌∙◌, arith}
+use Rattle.std.proofs.Common.{◌≡◌, ℕ, zero, suc, ◌+◌, ◌≤◌, ℤ, List, [], ◌∷◌, map, Option, Some, None, refl, ◌∙◌, arith}
 use Rattle.std.specs.Prelude.{codes}
 use Rattle.std.specs.List.{AllByRecursion}
 use Rattle.decimal_text.specs.Scaling.{units_text}
@@ -8,23 +8,25 @@ use Rattle.json_value.specs.declared.json.Json.TheVariants as j
 use Rattle.json_value.specs.Depth.{depth, greatest}
 use Rattle.json_value.proofs.Texts.{fused}
 use Rattle.json_value.proofs.Depths.{depth-null, depth-number, depth-text, depth-array, depth-object}
-use Rattle.geojson_types.specs.declared.geometry.Geometry.{fold-Geometry, fold-roll-Geometry}
-use Rattle.geojson_types.specs.declared.geometry.Geometry.TheOpen.{Geometry-F}
-use Rattle.geojson_types.specs.declared.geometry.Geometry.TheVariants as g
+use Rattle.geometry.specs.declared.shape.Geometry.TheVariants as g
 use Rattle.geojson_types.specs.declared.id.Id.{Id}
 use Rattle.geojson_types.specs.declared.id.Id.TheVariants as id
 use Rattle.geojson_types.specs.Nesting.{nesting_step, nesting, option_nesting, properties_nesting}
-use Rattle.geojson_types.specs.Points.{Point}
-use Rattle.geojson_types.proofs.Agreement.{all_left, all_right}
-use Rattle.geojson_types.proofs.Induction.{by_kinds}
+use Rattle.geometry.specs.Points.{Point}
+use Rattle.geometry.proofs.Agreement.{all_left, all_right}
+use Rattle.geometry.proofs.Induction.{by_kinds}
+use Rattle.geometry.proofs.ByKind.{AtKinds}
+use Rattle.geojson_types.proofs.Nestings.{nesting_at}
 use Rattle.topojson_types.specs.declared.feature.TopoFeature.{TopoFeature}
 use Rattle.topojson_types.specs.declared.object.TopoObject.{TopoObject}
 use Rattle.topojson_types.specs.declared.object.TopoObject.TheVariants.{One, Many}
 use Rattle.topojson_types.specs.Topologies.{TopoShape, object_features}
 use Rattle.topojson_types.specs.Values.{Members, Geometrical, units_value, whole_value, position_value, positions_value, line_value, lines_value, typed, inner_value, geometrical, geometrical_option, id_members, properties_members, feature_value, object_value, topology_value}
+use Rattle.topojson_types.proofs.ByKind.{geometrical_at}
 use Rattle.topojson_meaning.specs.Bounds.{objects_features, feature_nesting}
 use Rattle.topojson_meaning.specs.Laws.{ValueNests}
-use Rattle.topojson_meaning.proofs.ShapeKinds.{geometrical-point, geometrical-points, geometrical-line, geometrical-lines, geometrical-area, geometrical-areas, geometrical-group, written_members}
+use Rattle.topojson_meaning.proofs.ShapeKinds.{geometrical-group, written_members}
+use Rattle.list_laws.proofs.Elements.{all_append}
 
 -- ---- lists
 
@@ -40,10 +42,6 @@ greatest_below f n (x ∷ xs) h = let p = greatest_below f n xs h.1 in let q = h
 greatest_lower : {A : Type 0} (f g : A → ℕ) (xs : List A) → AllByRecursion (λ x. f x ≤ g x) xs → greatest (map f xs) ≤ greatest (map g xs)
 greatest_lower f g [] h = omega arith
 greatest_lower f g (x ∷ xs) h = let p = greatest_lower f g xs h.1 in let q = h.0 in omega arith
-
-all_joined : {A : Type 0} (X : A → Type 0) (xs ys : List A) → AllByRecursion X xs → AllByRecursion X ys → AllByRecursion X (xs ++ ys)
-all_joined X [] ys h k = k
-all_joined X (x ∷ xs) ys h k = (h.0, all_joined X xs ys h.1 k)
 
 -- ---- values
 
@@ -62,9 +60,6 @@ text_flat n t = rw (depth-text t) (omega arith)
 
 number_flat : (n : ℕ) (t : List ℕ) → depth (j.Number t) ≤ n
 number_flat n t = rw (depth-number t) (omega arith)
-
-null_flat : (n : ℕ) → depth j.Null ≤ n
-null_flat n = rw depth-null (omega arith)
 
 -- ---- positions and indexes
 
@@ -85,36 +80,8 @@ areas_below areas = array_below lines_value 2 areas (below (λ rs. depth (lines_
 
 -- ---- shapes
 
-abbrev nest : TopoShape → ℕ
-nest = fold-Geometry Point (List ℤ) (List ℤ) ℕ nesting_step
-
-nesting-point : (p : Point) → nesting {P = Point} {L = List ℤ} (g.Point p) ≡ 2
-unfolding nesting
-nesting-point p = ap nest (sym (g.rolls-Point p)) ∙ fold-roll-Geometry Point (List ℤ) (List ℤ) ℕ nesting_step (Geometry-F.Point p)
-
-nesting-points : (ps : List Point) → nesting {P = Point} {L = List ℤ} (g.MultiPoint ps) ≡ 3
-unfolding nesting
-nesting-points ps = ap nest (sym (g.rolls-MultiPoint ps)) ∙ fold-roll-Geometry Point (List ℤ) (List ℤ) ℕ nesting_step (Geometry-F.MultiPoint ps)
-
-nesting-line : (refs : List ℤ) → nesting {P = Point} {L = List ℤ} (g.Line refs) ≡ 3
-unfolding nesting
-nesting-line refs = ap nest (sym (g.rolls-Line refs)) ∙ fold-roll-Geometry Point (List ℤ) (List ℤ) ℕ nesting_step (Geometry-F.Line refs)
-
-nesting-lines : (ls : List (List ℤ)) → nesting {P = Point} {L = List ℤ} (g.Lines ls) ≡ 4
-unfolding nesting
-nesting-lines ls = ap nest (sym (g.rolls-Lines ls)) ∙ fold-roll-Geometry Point (List ℤ) (List ℤ) ℕ nesting_step (Geometry-F.Lines ls)
-
-nesting-area : (rs : List (List ℤ)) → nesting {P = Point} {L = List ℤ} (g.Area rs) ≡ 4
-unfolding nesting
-nesting-area rs = ap nest (sym (g.rolls-Area rs)) ∙ fold-roll-Geometry Point (List ℤ) (List ℤ) ℕ nesting_step (Geometry-F.Area rs)
-
-nesting-areas : (areas : List (List (List ℤ))) → nesting {P = Point} {L = List ℤ} (g.Areas areas) ≡ 5
-unfolding nesting
-nesting-areas areas = ap nest (sym (g.rolls-Areas areas)) ∙ fold-roll-Geometry Point (List ℤ) (List ℤ) ℕ nesting_step (Geometry-F.Areas areas)
-
-nesting-group : (ss : List TopoShape) → nesting (g.Group ss) ≡ 2 + greatest (map nesting ss)
-unfolding nesting
-nesting-group ss = ap nest (sym (g.rolls-Group ss)) ∙ fold-roll-Geometry Point (List ℤ) (List ℤ) ℕ nesting_step (Geometry-F.Group ss)
+nest_at : AtKinds (nesting {P = Point} {L = List ℤ}) nesting_step
+nest_at = nesting_at Point (List ℤ)
 
 -- what is written of a shape fits into an object of this depth
 abbrev Fits : ℕ → Geometrical → Type 0
@@ -130,22 +97,22 @@ inner_below : (n : ℕ) (o : Geometrical) → Fits n o → depth (inner_value o)
 inner_below n o h = let p = object_below h.0 ((codes "type", o.type) ∷ o.parts) (h.2, h.3) in let e = h.1 in omega arith
 
 at_point : (p : Point) → Nests (g.Point p)
-at_point p = let h = position_below p in typed_fits (nesting (g.Point p)) 1 (codes "Point") (codes "coordinates") (position_value p) (geometrical (g.Point p)) (nesting-point p) h (geometrical-point p)
+at_point p = let h = position_below p in typed_fits (nesting (g.Point p)) 1 (codes "Point") (codes "coordinates") (position_value p) (geometrical (g.Point p)) (nest_at.point p) h (geometrical_at.point p)
 
 at_points : (ps : List Point) → Nests (g.MultiPoint ps)
-at_points ps = let h = positions_below ps in typed_fits (nesting (g.MultiPoint ps)) 2 (codes "MultiPoint") (codes "coordinates") (positions_value ps) (geometrical (g.MultiPoint ps)) (nesting-points ps) h (geometrical-points ps)
+at_points ps = let h = positions_below ps in typed_fits (nesting (g.MultiPoint ps)) 2 (codes "MultiPoint") (codes "coordinates") (positions_value ps) (geometrical (g.MultiPoint ps)) (nest_at.points ps) h (geometrical_at.points ps)
 
 at_line : (refs : List ℤ) → Nests (g.Line refs)
-at_line refs = let h = line_below refs in typed_fits (nesting (g.Line refs)) 2 (codes "LineString") (codes "arcs") (line_value refs) (geometrical (g.Line refs)) (nesting-line refs) (omega arith) (geometrical-line refs)
+at_line refs = let h = line_below refs in typed_fits (nesting (g.Line refs)) 2 (codes "LineString") (codes "arcs") (line_value refs) (geometrical (g.Line refs)) (nest_at.line refs) (omega arith) (geometrical_at.line refs)
 
 at_lines : (ls : List (List ℤ)) → Nests (g.Lines ls)
-at_lines ls = let h = lines_below ls in typed_fits (nesting (g.Lines ls)) 3 (codes "MultiLineString") (codes "arcs") (lines_value ls) (geometrical (g.Lines ls)) (nesting-lines ls) (omega arith) (geometrical-lines ls)
+at_lines ls = let h = lines_below ls in typed_fits (nesting (g.Lines ls)) 3 (codes "MultiLineString") (codes "arcs") (lines_value ls) (geometrical (g.Lines ls)) (nest_at.lines ls) (omega arith) (geometrical_at.lines ls)
 
 at_area : (rs : List (List ℤ)) → Nests (g.Area rs)
-at_area rs = let h = lines_below rs in typed_fits (nesting (g.Area rs)) 3 (codes "Polygon") (codes "arcs") (lines_value rs) (geometrical (g.Area rs)) (nesting-area rs) (omega arith) (geometrical-area rs)
+at_area rs = let h = lines_below rs in typed_fits (nesting (g.Area rs)) 3 (codes "Polygon") (codes "arcs") (lines_value rs) (geometrical (g.Area rs)) (nest_at.area rs) (omega arith) (geometrical_at.area rs)
 
 at_areas : (areas : List (List (List ℤ))) → Nests (g.Areas areas)
-at_areas areas = let h = areas_below areas in typed_fits (nesting (g.Areas areas)) 4 (codes "MultiPolygon") (codes "arcs") (j.Array (map lines_value areas)) (geometrical (g.Areas areas)) (nesting-areas areas) (omega arith) (geometrical-areas areas)
+at_areas areas = let h = areas_below areas in typed_fits (nesting (g.Areas areas)) 4 (codes "MultiPolygon") (codes "arcs") (j.Array (map lines_value areas)) (geometrical (g.Areas areas)) (nest_at.areas areas) (omega arith) (geometrical_at.areas areas)
 
 abbrev inner : TopoShape → Json
 inner s = inner_value (geometrical s)
@@ -159,7 +126,7 @@ group_below ss h = let p = greatest_lower (λ s. depth (inner s)) nesting ss (in
 
 at_group : (ss : List TopoShape) → AllByRecursion Nests ss → Nests (g.Group ss)
 at_group ss all = typed_fits (nesting (g.Group ss)) (suc (greatest (map nesting ss))) (codes "GeometryCollection") (codes "geometries") (j.Array (map inner ss)) (geometrical (g.Group ss))
-    (nesting-group ss ∙ omega arith) (group_below ss all) (geometrical-group ss)
+    (nest_at.group ss ∙ omega arith) (group_below ss all) (geometrical-group ss)
 
 shape_fits : (s : TopoShape) → Nests s
 shape_fits = by_kinds Nests (record { point = at_point; points = at_points; line = at_line; lines = at_lines; area = at_area; areas = at_areas; group = at_group })
@@ -168,7 +135,7 @@ shape_fits = by_kinds Nests (record { point = at_point; points = at_points; line
 
 -- the type and the parts of a shape that may be null
 option_below : (s : Option TopoShape) (n : ℕ) → option_nesting s ≤ suc n → (depth (geometrical_option s).type ≤ n) × MembersBelow n (geometrical_option s).parts
-option_below None n h = (null_flat n, tt)
+option_below None n h = grind (arith, depth-null)
 option_below (Some s) n h =
     let f = shape_fits s in
     let le : f.0 ≤ n = omega (arith, f.1) in
@@ -184,16 +151,10 @@ id_below (Some (id.Text t)) n = (text_flat n t, tt)
 id_below (Some (id.Number t)) n = (number_flat n t, tt)
 
 properties_below : (ps : Option Members) (n : ℕ) → properties_nesting ps ≤ n → MembersBelow n (properties_members ps)
-properties_below None n h = tt
-properties_below (Some ms) n h = (h, tt)
+properties_below ps n h = grind arith
 
 feature_below_at : (f : TopoFeature) (n : ℕ) → option_nesting f.shape ≤ suc n → properties_nesting f.properties ≤ n → depth (feature_value f) ≤ suc n
-feature_below_at f n h k =
-    let o : Geometrical = geometrical_option f.shape in
-    let p = option_below f.shape n h in
-    let Below : List ℕ × Json → Type 0 = λ e. depth e.1 ≤ n in
-    object_below n ((codes "type", o.type) ∷ (id_members f.id ++ (properties_members f.properties ++ o.parts)))
-    (p.0, all_joined Below (id_members f.id) (properties_members f.properties ++ o.parts) (id_below f.id n) (all_joined Below (properties_members f.properties) o.parts (properties_below f.properties n k) p.1))
+feature_below_at f n h k = grind (arith, option_below f.shape n h, object_below n, all_append, id_below f.id n, properties_below f.properties n k)
 
 feature_below : (f : TopoFeature) (n : ℕ) → feature_nesting f ≤ n → depth (feature_value f) ≤ n
 feature_below f zero h = absurd (omega arith)
@@ -214,10 +175,7 @@ object_value_below (Many fs) n h =
 
 objects_below : (os : List (List ℕ × TopoObject)) (n : ℕ) → AllByRecursion (λ f. feature_nesting f ≤ n) (objects_features os) → MembersBelow (2 + n) (map (λ o. (o.0, object_value o.1)) os)
 objects_below [] n h = tt
-objects_below (o ∷ os) n h =
-    let fs : List TopoFeature = object_features o.1 in
-    let Below : TopoFeature → Type 0 = λ f. feature_nesting f ≤ n in
-    (object_value_below o.1 n (all_left Below fs (objects_features os) h), objects_below os n (all_right Below fs (objects_features os) h))
+objects_below (o ∷ os) n h = search (object_value_below, all_left, all_right, objects_below os n)
 
 pub topology_depth : ValueNests
 unfolding topology_value

@@ -1,5 +1,5 @@
 -- The numbers of the value that is written for a topology are numbers.
-use Rattle.std.proofs.Common.{ℕ, ℤ, ◌<◌, Bool, true, false, List, [], ◌∷◌, ◌++◌, length, map, Option, Some, None, sym, subst, arith}
+use Rattle.std.proofs.Common.{ℕ, ℤ, ◌<◌, Bool, true, false, List, [], ◌∷◌, length, map, Option, None, sym, subst, arith}
 use Rattle.std.specs.Prelude.{codes, ◌^◌}
 use Rattle.std.specs.List.{AllByRecursion, flat_map}
 use Rattle.decimal_text.specs.Grammar.{IsNumber}
@@ -9,33 +9,30 @@ use Rattle.json_value.specs.declared.json.Json.{Json}
 use Rattle.json_value.specs.declared.json.Json.TheVariants as j
 use Rattle.json_value.specs.Numbers.{numbers_of, HasNumbers}
 use Rattle.json_value.proofs.NumbersOf.{numbers-null, numbers-number, numbers-text, numbers-array, numbers-object}
-use Rattle.geojson_types.specs.declared.geometry.Geometry.TheVariants as g
+use Rattle.geometry.specs.declared.shape.Geometry.TheVariants as g
 use Rattle.geojson_types.specs.declared.id.Id.{Id}
-use Rattle.geojson_types.specs.declared.id.Id.TheVariants as id
-use Rattle.geojson_types.specs.Lists.{joined}
+use Rattle.geometry.specs.Lists.{joined}
 use Rattle.geojson_types.specs.Numbers.{IdHasNumbers, PropertiesHaveNumbers}
-use Rattle.geojson_types.specs.Points.{Point, IsPosition}
-use Rattle.geojson_types.specs.Pruning.{strokes, option_strokes}
-use Rattle.geojson_types.proofs.Agreement.{all_left, all_right, all_of_map}
-use Rattle.geojson_types.proofs.Cases.{strokes-line, strokes-lines, strokes-area, strokes-areas, strokes-group}
-use Rattle.geojson_types.proofs.Induction.{by_kinds}
+use Rattle.geometry.specs.Points.{Point, IsPosition}
+use Rattle.geometry.specs.Pruning.{strokes, option_strokes}
+use Rattle.geometry.proofs.Agreement.{all_left, all_right, all_of_map}
+use Rattle.geometry.proofs.Cases.{strokes-line, strokes-lines, strokes-area, strokes-areas, strokes-group}
+use Rattle.geometry.proofs.Induction.{by_kinds}
 use Rattle.topojson_types.specs.declared.feature.TopoFeature.{TopoFeature}
 use Rattle.topojson_types.specs.declared.object.TopoObject.{TopoObject}
 use Rattle.topojson_types.specs.declared.object.TopoObject.TheVariants.{One, Many}
-use Rattle.topojson_types.specs.Joins.{number_of}
+use Rattle.geometry.specs.Joins.{number_of}
 use Rattle.topojson_types.specs.Topologies.{TopoShape, object_features, features_strokes, objects_strokes}
 use Rattle.topojson_types.specs.Validity.{IsTopology, IsArc, IsFeature, IsObject, AreInRange, places, option_places}
 use Rattle.topojson_types.specs.Values.{Members, Geometrical, units_value, whole_value, position_value, positions_value, line_value, lines_value, typed, inner_value, geometrical, geometrical_option, id_members, properties_members, feature_value, object_value, topology_value}
+use Rattle.topojson_types.proofs.ByKind.{geometrical_at, places_at}
 use Rattle.topojson_meaning.specs.Bounds.{objects_features, FeatureHasNumbers}
 use Rattle.topojson_meaning.specs.Laws.{ValueHasNumbers}
 use Rattle.topojson_meaning.proofs.LinesBack.{magnitude}
-use Rattle.topojson_meaning.proofs.ShapeKinds.{geometrical-point, geometrical-points, geometrical-line, geometrical-lines, geometrical-area, geometrical-areas, geometrical-group, places-point, places-points, places-group, written_members, plain, plain_valid}
+use Rattle.topojson_meaning.proofs.ShapeKinds.{geometrical-group, written_members, plain, plain_valid}
+use Rattle.list_laws.proofs.Elements.{all_append}
 
 -- ---- lists
-
-all_append : {A : Type 0} (X : A → Type 0) (xs ys : List A) → AllByRecursion X xs → AllByRecursion X ys → AllByRecursion X (xs ++ ys)
-all_append X [] ys h k = k
-all_append X (x ∷ xs) ys h k = (h.0, all_append X xs ys h.1 k)
 
 each_flat : {A B C : Type 0} (X : C → Type 0) (f : B → List C) (value : A → B) (xs : List A) → AllByRecursion (λ x. AllByRecursion X (f (value x))) xs → AllByRecursion X (flat_map f (map value xs))
 each_flat X f value [] h = tt
@@ -84,7 +81,7 @@ module _ (n : ℕ) (few : n < 2 ^ 63) where
   index_numbers i h = let m = magnitude i n h few in number_numbers (units_text i 0) (units_text-number i 0 (omega arith))
 
   line_numbers : (refs : List ℤ) → AreInRange n refs → HasNumbers (line_value refs)
-  line_numbers refs h = array_numbers whole_value refs (all_made (λ i. number_of i < n) (λ i. HasNumbers (whole_value i)) index_numbers refs h)
+  line_numbers refs h = grind (arith, array_numbers, all_made, magnitude, number_numbers, units_text-number)
 
   lines_numbers : (ls : List (List ℤ)) → AllByRecursion (AreInRange n) ls → HasNumbers (lines_value ls)
   lines_numbers ls h = array_numbers line_value ls (all_made (AreInRange n) (λ l. HasNumbers (line_value l)) line_numbers ls h)
@@ -109,34 +106,32 @@ module _ (n : ℕ) (few : n < 2 ^ 63) where
   typed_numbers type key v h = (text_numbers type, (h, tt))
 
   at_point : (p : Point) → Written (g.Point p)
-  at_point p h k = rw (geometrical-point p) (typed_numbers (codes "Point") (codes "coordinates") (position_value p) (position_numbers p (subst (AllByRecursion IsPosition) (places-point p) h).0))
+  at_point p h k = rw (geometrical_at.point p) (typed_numbers (codes "Point") (codes "coordinates") (position_value p) (position_numbers p (subst (AllByRecursion IsPosition) (places_at.point p) h).0))
 
   at_points : (ps : List Point) → Written (g.MultiPoint ps)
-  at_points ps h k = rw (geometrical-points ps) (typed_numbers (codes "MultiPoint") (codes "coordinates") (positions_value ps) (positions_numbers ps (subst (AllByRecursion IsPosition) (places-points ps) h)))
+  at_points ps h k = rw (geometrical_at.points ps) (typed_numbers (codes "MultiPoint") (codes "coordinates") (positions_value ps) (positions_numbers ps (subst (AllByRecursion IsPosition) (places_at.points ps) h)))
 
   at_line : (refs : List ℤ) → Written (g.Line refs)
-  at_line refs h k = rw (geometrical-line refs) (typed_numbers (codes "LineString") (codes "arcs") (line_value refs) (line_numbers refs (subst (AllByRecursion Ranged) (strokes-line Point (List ℤ) refs) k).0))
+  at_line refs h k = rw (geometrical_at.line refs) (typed_numbers (codes "LineString") (codes "arcs") (line_value refs) (line_numbers refs (subst (AllByRecursion Ranged) (strokes-line Point (List ℤ) refs) k).0))
 
   at_lines : (ls : List (List ℤ)) → Written (g.Lines ls)
   at_lines ls h k =
       let m = all_of_map Ranged (λ l. (false, l)) ls (subst (AllByRecursion Ranged) (strokes-lines Point (List ℤ) ls) k) in
-      rw (geometrical-lines ls) (typed_numbers (codes "MultiLineString") (codes "arcs") (lines_value ls) (lines_numbers ls m))
+      rw (geometrical_at.lines ls) (typed_numbers (codes "MultiLineString") (codes "arcs") (lines_value ls) (lines_numbers ls m))
 
   at_area : (rs : List (List ℤ)) → Written (g.Area rs)
   at_area rs h k =
       let m = all_of_map Ranged (λ l. (true, l)) rs (subst (AllByRecursion Ranged) (strokes-area Point (List ℤ) rs) k) in
-      rw (geometrical-area rs) (typed_numbers (codes "Polygon") (codes "arcs") (lines_value rs) (lines_numbers rs m))
+      rw (geometrical_at.area rs) (typed_numbers (codes "Polygon") (codes "arcs") (lines_value rs) (lines_numbers rs m))
 
   ranged_areas : (areas : List (List (List ℤ))) → AllByRecursion Ranged (joined (map (map (λ l. (true, l))) areas)) → AllByRecursion (AllByRecursion (AreInRange n)) areas
   ranged_areas [] h = tt
-  ranged_areas (rs ∷ areas) h =
-      let here : List (Bool × List ℤ) = map (λ l. (true, l)) rs in
-      (all_of_map Ranged (λ l. (true, l)) rs (all_left Ranged here (joined (map (map (λ l. (true, l))) areas)) h), ranged_areas areas (all_right Ranged here (joined (map (map (λ l. (true, l))) areas)) h))
+  ranged_areas (rs ∷ areas) h = search (all_of_map, all_left, all_right, ranged_areas areas)
 
   at_areas : (areas : List (List (List ℤ))) → Written (g.Areas areas)
   at_areas areas h k =
       let m = ranged_areas areas (subst (AllByRecursion Ranged) (strokes-areas Point (List ℤ) areas) k) in
-      rw (geometrical-areas areas) (typed_numbers (codes "MultiPolygon") (codes "arcs") (j.Array (map lines_value areas)) (areas_numbers areas m))
+      rw (geometrical_at.areas areas) (typed_numbers (codes "MultiPolygon") (codes "arcs") (j.Array (map lines_value areas)) (areas_numbers areas m))
 
   inner_numbers : (o : Geometrical) → IsNumbered o → HasNumbers (inner_value o)
   inner_numbers o h = object_numbers ((codes "type", o.type) ∷ o.parts) h
@@ -144,41 +139,30 @@ module _ (n : ℕ) (few : n < 2 ^ 63) where
   members_numbers : (ss : List TopoShape) → AllByRecursion Written ss → AllByRecursion IsPosition (joined (map places ss)) → AllByRecursion Ranged (joined (map strokes ss))
       → AllByRecursion (λ s. HasNumbers (inner_value (geometrical s))) ss
   members_numbers [] all h k = tt
-  members_numbers (s ∷ ss) all h k = (
-    inner_numbers (geometrical s) (all.0 (all_left IsPosition (places s) (joined (map places ss)) h) (all_left Ranged (strokes s) (joined (map strokes ss)) k)),
-    members_numbers ss all.1 (all_right IsPosition (places s) (joined (map places ss)) h) (all_right Ranged (strokes s) (joined (map strokes ss)) k),
-  )
+  members_numbers (s ∷ ss) all h k =
+      grind (arith, inner_numbers, all_left, all_right, members_numbers ss all.1 (all_right IsPosition (places s) (joined (map places ss)) h) (all_right Ranged (strokes s) (joined (map strokes ss)) k))
 
   at_group : (ss : List TopoShape) → AllByRecursion Written ss → Written (g.Group ss)
   at_group ss all h k =
-      let m = members_numbers ss all (subst (AllByRecursion IsPosition) (places-group ss) h) (subst (AllByRecursion Ranged) (strokes-group Point (List ℤ) ss) k) in
+      let m = members_numbers ss all (subst (AllByRecursion IsPosition) (places_at.group ss) h) (subst (AllByRecursion Ranged) (strokes-group Point (List ℤ) ss) k) in
       rw (geometrical-group ss) (typed_numbers (codes "GeometryCollection") (codes "geometries") _ (array_numbers (λ s. inner_value (geometrical s)) ss m))
 
   shape_numbers : (s : TopoShape) → Written s
   shape_numbers = by_kinds Written (record { point = at_point; points = at_points; line = at_line; lines = at_lines; area = at_area; areas = at_areas; group = at_group })
 
   option_numbers : (s : Option TopoShape) → AllByRecursion IsPosition (option_places s) → AllByRecursion Ranged (option_strokes s) → IsNumbered (geometrical_option s)
-  option_numbers None h k = (null_numbers, tt)
-  option_numbers (Some s) h k = shape_numbers s h k
+  option_numbers s h k = grind (arith, null_numbers, shape_numbers)
 
   -- ---- features and objects
 
   id_numbers : (i : Option Id) → IdHasNumbers i → Numbered (id_members i)
-  id_numbers None h = tt
-  id_numbers (Some (id.Text t)) h = (text_numbers t, tt)
-  id_numbers (Some (id.Number t)) h = (number_numbers t h, tt)
+  id_numbers i h = grind (arith, text_numbers, number_numbers)
 
   properties_numbers : (ps : Option Members) → PropertiesHaveNumbers ps → Numbered (properties_members ps)
-  properties_numbers None h = tt
-  properties_numbers (Some ms) h = (h, tt)
+  properties_numbers ps h = grind arith
 
   feature_numbers : (f : TopoFeature) → IsFeature None f → AllByRecursion Ranged (option_strokes f.shape) → FeatureHasNumbers f → HasNumbers (feature_value f)
-  feature_numbers f h k m =
-      let o : Geometrical = geometrical_option f.shape in
-      let s = option_numbers f.shape h.1 k in
-      let Has : List ℕ × Json → Type 0 = λ e. HasNumbers e.1 in
-      object_numbers ((codes "type", o.type) ∷ (id_members f.id ++ (properties_members f.properties ++ o.parts)))
-      (s.0, all_append Has (id_members f.id) (properties_members f.properties ++ o.parts) (id_numbers f.id m.0) (all_append Has (properties_members f.properties) o.parts (properties_numbers f.properties m.1) s.1))
+  feature_numbers f h k m = grind (arith, null_numbers, shape_numbers, object_numbers, all_append, text_numbers, number_numbers, properties_numbers)
 
   features_numbers : (fs : List TopoFeature) → AllByRecursion (IsFeature None) fs → AllByRecursion Ranged (features_strokes fs) → AllByRecursion FeatureHasNumbers fs → AllByRecursion (λ f. HasNumbers (feature_value f)) fs
   features_numbers [] h k m = tt
@@ -194,11 +178,7 @@ module _ (n : ℕ) (few : n < 2 ^ 63) where
   objects_numbers : (os : List (List ℕ × TopoObject)) → AllByRecursion (λ o. IsObject None o.1) os → AllByRecursion Ranged (objects_strokes os) → AllByRecursion FeatureHasNumbers (objects_features os)
       → Numbered (map (λ o. (o.0, object_value o.1)) os)
   objects_numbers [] h k m = tt
-  objects_numbers (o ∷ os) h k m =
-      let fs : List TopoFeature = object_features o.1 in (
-        object_value_numbers o.1 h.0 (all_left Ranged (features_strokes fs) (objects_strokes os) k) (all_left FeatureHasNumbers fs (objects_features os) m),
-        objects_numbers os h.1 (all_right Ranged (features_strokes fs) (objects_strokes os) k) (all_right FeatureHasNumbers fs (objects_features os) m),
-      )
+  objects_numbers (o ∷ os) h k m = grind (arith, object_value_numbers, all_left, all_right, objects_numbers os h.1)
 
 arcs_numbers : (arcs : List (List Point)) → AllByRecursion (IsArc None) arcs → HasNumbers (j.Array (map positions_value arcs))
 arcs_numbers arcs h = array_numbers positions_value arcs (all_made (IsArc None) (λ ps. HasNumbers (positions_value ps)) (λ ps a. positions_numbers ps a.1) arcs h)

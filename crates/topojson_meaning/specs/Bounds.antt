@@ -1,6 +1,6 @@
 -- How deep the features of a topology nest as JSON, and that their number texts are numbers (RFC 8259, section 6).
 use Rattle.std.specs.Prelude.{ℕ, ◌+◌, max, List, map}
-use Rattle.geojson_types.specs.Lists.{joined}
+use Rattle.geometry.specs.Lists.{joined}
 use Rattle.geojson_types.specs.Nesting.{option_nesting, properties_nesting}
 use Rattle.geojson_types.specs.Numbers.{IdHasNumbers, PropertiesHaveNumbers}
 use Rattle.topojson_types.specs.declared.feature.TopoFeature.{TopoFeature}

@@ -5,7 +5,7 @@ use Rattle.json_value.specs.declared.json.Json.TheViews.{out-Json}
 use Rattle.json_value.specs.declared.json.Json.TheOpen.{Json-F}
 use Rattle.geojson_types.specs.declared.id.Id.{Id}
 use Rattle.geojson_types.specs.declared.id.Id.TheVariants as id
-use Rattle.geojson_types.specs.Points.{Point}
+use Rattle.geometry.specs.Points.{Point}
 use Rattle.topojson_types.specs.declared.feature.TopoFeature.{TopoFeature}
 use Rattle.topojson_types.specs.declared.transform.Transform.{Transform}
 use Rattle.topojson_meaning.specs.declared.fault.TopoFault.{TopoFault}

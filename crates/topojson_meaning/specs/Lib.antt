@@ -1,3 +1,4 @@
+pub mod Answers
 pub mod Arcs
 pub mod Bounds
 pub mod Faults

@@ -6,10 +6,10 @@ use Rattle.decimal_text.specs.Scaling.{scaled_of}
 use Rattle.json_value.specs.declared.json.Json.{Json}
 use Rattle.json_value.specs.Kinds.{array_of}
 use Rattle.geojson_types.specs.Counting.{count_empty}
-use Rattle.geojson_types.specs.Lists.{then_some}
-use Rattle.geojson_types.specs.Points.{Point}
-use Rattle.geojson_types.specs.Rings.{both_same}
-use Rattle.topojson_types.specs.Joins.{number_of, arc_at, first_of, last_of}
+use Rattle.geometry.specs.Lists.{then_some}
+use Rattle.geometry.specs.Points.{Point}
+use Rattle.geometry.specs.Rings.{both_same}
+use Rattle.geometry.specs.Joins.{number_of, arc_at, first_of, last_of}
 use Rattle.topojson_meaning.specs.declared.fault.TopoFault.TheVariants.{WrongKind, IndexRange, Unjoined, OpenRing}
 use Rattle.topojson_meaning.specs.Arcs.{number_text}
 use Rattle.topojson_meaning.specs.Reader.{Reader, ◌>>=◌, give, fail, pure, if_some, kept}

@@ -1,7 +1,7 @@
 -- The objects of a topology by name (TopoJSON 1.0, sections 2.1.5 and 2.2), or the first fault.
 use Rattle.std.specs.Prelude.{ℕ, Bool, false, ◌||◌, List, [], ◌∷◌, Option, codes, bytes_eq, if◌then◌else◌}
 use Rattle.json_value.specs.declared.json.Json.{Json}
-use Rattle.geojson_types.specs.Points.{Point}
+use Rattle.geometry.specs.Points.{Point}
 use Rattle.topojson_types.specs.declared.feature.TopoFeature.{TopoFeature}
 use Rattle.topojson_types.specs.declared.transform.Transform.{Transform}
 use Rattle.topojson_types.specs.declared.object.TopoObject.{TopoObject}

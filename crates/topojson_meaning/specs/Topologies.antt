@@ -26,15 +26,20 @@ contents_on transform ms = do
   os ← need_as (codes "objects") (objects transform arcs) ms
   give (record { objects = os; arcs = arcs; transform = transform })
 
+-- the topology with these members, behind its type
+abbrev pub contents_behind : Members → Reader Contents
+contents_behind ms = do
+  r ← pure (find (codes "transform") ms)
+  transform ← transform_if r
+  contents_on transform ms
+
 -- the topology with these members
 unfoldable pub contents : Members → Reader Contents
 contents ms = do
   t ← pure (need (codes "type") ms)
   name ← pure (or_fail WrongKind (text_of t))
   _ ← topology_type name
-  r ← pure (find (codes "transform") ms)
-  transform ← transform_if r
-  contents_on transform ms
+  contents_behind ms
 
 -- the topology of a value
 unfoldable pub value_contents : Json → Reader Contents

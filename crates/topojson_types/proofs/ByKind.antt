@@ -2,8 +2,8 @@
 use Rattle.std.proofs.Common.{◌≡◌, List, ◌∙◌}
 use Rattle.std.proofs.lemmas.List.Folds.{list_all-map}
 use Rattle.std.specs.List.{list_all}
-use Rattle.geojson_types.specs.declared.geometry.Geometry.TheVariants as g
-use Rattle.geojson_types.proofs.ByKind.{AtKinds, at_kinds}
+use Rattle.geometry.specs.declared.shape.Geometry.TheVariants as g
+use Rattle.geometry.proofs.ByKind.{AtKinds, at_kinds}
 use Rattle.topojson_types.specs.Topologies.{TopoShape}
 use Rattle.topojson_types.specs.Validity.{full_step, is_full, places_step, places, single_step, is_single}
 use Rattle.topojson_types.specs.Values.{geometrical_step, geometrical}

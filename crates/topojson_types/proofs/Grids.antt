@@ -5,7 +5,7 @@ use Rattle.std.proofs.lemmas.List.{at_drop_more, at_drop_all}
 use Rattle.std.proofs.lemmas.List.Folds.{list_all-append}
 use Rattle.std.specs.List.{list_all}
 use Rattle.std.proofs.lemmas.Bool.{and_right}
-use Rattle.geojson_types.specs.Points.{Point}
+use Rattle.geometry.specs.Points.{Point}
 use Rattle.topojson_types.specs.Transforms.{is_within, grid_limit, moved, sums_from, sums, origin}
 
 -- ---- tests

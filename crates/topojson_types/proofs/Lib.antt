@@ -1,3 +1,5 @@
 pub mod ByKind
+pub mod SumsBack
+pub mod ExactTexts
 pub mod FarUnits
 pub mod Grids

@@ -1,7 +1,7 @@
 -- The code of the contents of a topology, by which a proof tells two of them apart.
 use Rattle.std.specs.Prelude.{ℕ, List, Option, refl}
 use Rattle.std.specs.Coded.{Coded, code_by, coded×, coded_ℕ, coded_list, coded_option}
-use Rattle.geojson_types.specs.Points.{Point}
+use Rattle.geometry.specs.Points.{Point}
 use Rattle.topojson_types.specs.declared.object.TopoObject.{TopoObject}
 use Rattle.topojson_types.specs.contracts.cell.Cell as cell
 use Rattle.topojson_types.specs.contracts.object.TopoObject as object

@@ -3,14 +3,14 @@ use Rattle.std.specs.Prelude.{ℕ, zero, suc, ◌-◌, ℤ, Bool, List, [], ◌�
 use Rattle.geojson_types.specs.declared.layer.FeatureSet.{FeatureSet}
 use Rattle.geojson_types.specs.declared.layer.FeatureSet.TheVariants as set
 use Rattle.geojson_types.specs.Features.{Shape, Featured}
-use Rattle.geojson_types.specs.Lists.{map_some, then_some}
-use Rattle.geojson_types.specs.Points.{Point}
-use Rattle.geojson_types.specs.Pruning.{prune}
+use Rattle.geometry.specs.Lists.{map_some, then_some}
+use Rattle.geometry.specs.Points.{Point}
+use Rattle.geometry.specs.Pruning.{prune}
 use Rattle.topojson_types.specs.declared.feature.TopoFeature.{TopoFeature}
 use Rattle.topojson_types.specs.declared.object.TopoObject.{TopoObject}
 use Rattle.topojson_types.specs.declared.object.TopoObject.TheVariants.{One, Many}
 use Rattle.topojson_types.specs.declared.transform.Transform.{Transform}
-use Rattle.topojson_types.specs.Joins.{arc_at, rejoined}
+use Rattle.geometry.specs.Joins.{arc_at, rejoined}
 use Rattle.topojson_types.specs.Topologies.{TopoShape, Contents}
 use Rattle.topojson_types.specs.Transforms.{place, place_on}
 

@@ -1,9 +1,10 @@
 pub mod Cells
 pub mod Codes
 pub mod Decoding
-pub mod Joins
+pub mod Differences
 pub mod Topologies
 pub mod TransformNumbers
 pub mod Transforms
 pub mod Validity
 pub mod Values
+pub use Rattle.geometry.specs.Joins

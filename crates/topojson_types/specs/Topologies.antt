@@ -1,9 +1,9 @@
 -- What contracts see of a topology, and its lines.
 use Rattle.std.specs.Prelude.{ℕ, ℤ, Bool, List, [], ◌∷◌, Option, map}
-use Rattle.geojson_types.specs.declared.geometry.Geometry.{Geometry}
-use Rattle.geojson_types.specs.Lists.{joined}
-use Rattle.geojson_types.specs.Points.{Point}
-use Rattle.geojson_types.specs.Pruning.{option_strokes}
+use Rattle.geometry.specs.declared.shape.Geometry.{Geometry}
+use Rattle.geometry.specs.Lists.{joined}
+use Rattle.geometry.specs.Points.{Point}
+use Rattle.geometry.specs.Pruning.{option_strokes}
 use Rattle.topojson_types.specs.declared.feature.TopoFeature.{TopoFeature}
 use Rattle.topojson_types.specs.declared.object.TopoObject.{TopoObject}
 use Rattle.topojson_types.specs.declared.object.TopoObject.TheVariants.{One, Many}

@@ -1,17 +1,18 @@
 -- Which topologies are valid: TopoJSON 1.0, section 2.
-use Rattle.std.specs.Prelude.{◌≡◌, ℕ, ◌<◌, ◌≤◌, ℤ, Bool, true, false, ◌&&◌, List, [], ◌∷◌, Option, None, Some, length, map}
+use Rattle.std.specs.Prelude.{◌≡◌, ◌≤◌, ℤ, Bool, true, false, ◌&&◌, List, [], ◌∷◌, Option, None, Some, length, map}
 use Rattle.std.specs.List.{AllByRecursion, list_all}
 pub use Rattle.list_laws.specs.Lists.{AreDistinct}
-use Rattle.geojson_types.specs.declared.geometry.Geometry.{fold-Geometry}
-use Rattle.geojson_types.specs.declared.geometry.Geometry.TheOpen.{Geometry-F}
+use Rattle.geometry.specs.declared.shape.Geometry.{fold-Geometry}
+use Rattle.geometry.specs.declared.shape.Geometry.TheOpen.{Geometry-F}
 use Rattle.geojson_types.specs.Features.{is_some_list}
-use Rattle.geojson_types.specs.Lists.{joined}
-use Rattle.geojson_types.specs.Points.{Point, IsWithin, IsPosition}
+use Rattle.geometry.specs.Lists.{joined}
+use Rattle.geometry.specs.Points.{Point, IsWithin, IsPosition}
 use Rattle.topojson_types.specs.declared.feature.TopoFeature.{TopoFeature}
 use Rattle.topojson_types.specs.declared.object.TopoObject.{TopoObject}
 use Rattle.topojson_types.specs.declared.object.TopoObject.TheVariants.{One, Many}
 use Rattle.topojson_types.specs.declared.transform.Transform.{Transform}
-use Rattle.topojson_types.specs.Joins.{number_of, arc_at, Meet, Closes}
+pub use Rattle.geometry.specs.Joins.{AreInRange}
+use Rattle.geometry.specs.Joins.{arc_at, Meet, Closes}
 use Rattle.topojson_types.specs.Topologies.{TopoShape, Contents, objects_strokes}
 use Rattle.topojson_types.specs.Transforms.{grid_limit, place_on, IsTransform}
 
@@ -87,10 +88,6 @@ IsObject transform (One f) = IsFeature transform f × (is_single_option f.shape 
 IsObject transform (Many fs) = AllByRecursion (IsFeature transform) fs
 
 -- ---- lines
-
--- each index names an arc
-abbrev pub AreInRange : ℕ → List ℤ → Type 0
-AreInRange count refs = AllByRecursion (λ r. number_of r < count) refs
 
 -- the line's arcs meet
 abbrev pub IsJoined : List (List Point) → Bool × List ℤ → Type 0

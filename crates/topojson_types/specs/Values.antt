@@ -3,11 +3,11 @@ use Rattle.std.specs.Prelude.{ℕ, ℤ, List, [], ◌∷◌, ◌++◌, Option, N
 use Rattle.json_value.specs.declared.json.Json.{Json}
 use Rattle.json_value.specs.declared.json.Json.TheVariants as j
 use Rattle.decimal_text.specs.Scaling.{units_text}
-use Rattle.geojson_types.specs.declared.geometry.Geometry.{fold-Geometry}
-use Rattle.geojson_types.specs.declared.geometry.Geometry.TheOpen.{Geometry-F}
+use Rattle.geometry.specs.declared.shape.Geometry.{fold-Geometry}
+use Rattle.geometry.specs.declared.shape.Geometry.TheOpen.{Geometry-F}
 use Rattle.geojson_types.specs.declared.id.Id.{Id}
 use Rattle.geojson_types.specs.declared.id.Id.TheVariants as id
-use Rattle.geojson_types.specs.Points.{Point}
+use Rattle.geometry.specs.Points.{Point, unit_places}
 use Rattle.topojson_types.specs.declared.feature.TopoFeature.{TopoFeature}
 use Rattle.topojson_types.specs.declared.object.TopoObject.{TopoObject}
 use Rattle.topojson_types.specs.declared.object.TopoObject.TheVariants.{One, Many}
@@ -19,11 +19,7 @@ Members = List (List ℕ × Json)
 
 -- ---- numbers
 
--- the decimal places of a unit
-abbrev pub unit_places : ℕ
-unit_places = 7
-
--- a number of units of 10^-7
+-- a number of units
 abbrev pub units_value : ℤ → Json
 units_value units = j.Number (units_text units unit_places)
 

@@ -1,5 +1,5 @@
 ghost use Rattle.std.specs.Prelude.{◌≡◌, ◌≤◌, unsigned_abs};
-ghost use Rattle.geojson_types.specs.Points.{IsWithin};
+ghost use Rattle.geometry.specs.Points.{IsWithin};
 ghost use Rattle.topojson_types.specs.Cells.{cell_limit};
 
 use geojson_types::Position;
@@ -16,7 +16,7 @@ pub struct Cell {
 }
 
 impl Model for Cell {
-    ghost use Rattle.geojson_types.specs.Points.{Point, IsWithin};
+    ghost use Rattle.geometry.specs.Points.{Point, IsWithin};
     ghost use Rattle.topojson_types.specs.Cells.{cell_limit};
 
     ghost Value = { Point };

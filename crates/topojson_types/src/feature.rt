@@ -1,6 +1,6 @@
-use crate::arc_ref::ArcRef;
 use crate::cell::Cell;
 use geojson_types::{Geometry, Id};
+use geometry::ArcRef;
 use json_value::{Items, Json, OwnText};
 use std::marker::Model;
 

@@ -4,8 +4,8 @@
 //! build a `Topology` of parts that are known to be valid, write it, and decode it.
 #![tactic(auto)]
 
-mod arc_ref;
 mod cell;
+mod differing;
 mod feature;
 mod object;
 mod placing;
@@ -14,9 +14,10 @@ mod topology;
 mod transform;
 mod transform_number;
 
-pub use arc_ref::ArcRef;
 pub use cell::{CELL_LIMIT, Cell};
+pub use differing::{deltas, difference, sums_of_deltas, texts_stand_exactly, units_are_numbers};
 pub use feature::{TopoFeature, TopoShape};
+pub use geometry::ArcRef;
 pub use object::TopoObject;
 pub use placing::{placed, position_at};
 pub use summing::{GRID_LIMIT, SumFault, cell_after, sums};

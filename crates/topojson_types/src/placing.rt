@@ -1,7 +1,7 @@
 // Where cells lie.
 ghost use Rattle.std.specs.Prelude.{◌≡◌, ◌≤◌, ◌^◌, ◌*◌, ℤ, ◌+ℤ◌, ◌*ℤ◌, IfSome, IfNone, ◌<◌, unsigned_abs};
 ghost use Rattle.std.specs.Option.{option_copied};
-ghost use Rattle.geojson_types.specs.Points.{position_limit};
+ghost use Rattle.geometry.specs.Points.{position_limit};
 ghost use Rattle.topojson_types.specs.Transforms as spec;
 ghost use Rattle.topojson_types.specs.TransformNumbers.{to_units, stands_for};
 ghost use Rattle.topojson_types.specs.Validity.{IsPlace};

@@ -6,7 +6,7 @@ ghost use Rattle.topojson_types.specs.Transforms.{grid_limit, is_within, moved};
 ghost use Rattle.topojson_types.specs.declared.summing.SumFault.TheVariants.{Range as OutOfRange};
 
 use crate::cell::Cell;
-use byte_ends::Memory;
+use owned_values::Memory;
 use std::alloc::{AllocFailed, Global};
 use thiserror::Error;
 

@@ -1,6 +1,6 @@
 ghost use Rattle.std.specs.Prelude.{◌≡◌, ◌<◌, [], Some, get_or, length, slice_get};
 ghost use Rattle.std.specs.Option.{option_copied};
-ghost use Rattle.geojson_types.specs.Lists.{map_some};
+ghost use Rattle.geometry.specs.Lists.{map_some};
 ghost use Rattle.topojson_types.specs.Transforms.{place as place_of};
 ghost use Rattle.topojson_types.specs.Validity.{IsTopology};
 

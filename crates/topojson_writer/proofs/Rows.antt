@@ -6,14 +6,15 @@ use Rattle.decimal_text.specs.Scaling.{units_text}
 use Rattle.json_value.specs.declared.json.Json.TheVariants as j
 use Rattle.json_value.specs.Text.{json_text, escaped_byte}
 use Rattle.json_value.proofs.Texts.{texts}
-use Rattle.geojson_types.specs.declared.geometry.Geometry.TheVariants as g
+use Rattle.geometry.specs.declared.shape.Geometry.TheVariants as g
 use Rattle.geojson_types.specs.declared.id.Id.TheVariants as id
-use Rattle.geojson_types.specs.Points.{Point}
+use Rattle.geometry.specs.Points.{Point}
 use Rattle.topojson_types.specs.declared.feature.TopoFeature.{TopoFeature}
 use Rattle.topojson_types.specs.declared.object.TopoObject.TheVariants.{Many}
 use Rattle.topojson_types.specs.Topologies.{TopoShape, Contents}
 use Rattle.topojson_types.specs.Values.{feature_value, object_value, topology_value}
-use Rattle.topojson_writer.proofs.Shapes.{kinds}
+use Rattle.topojson_types.proofs.ByKind.{geometrical_at}
+use Rattle.topojson_writer.proofs.Shapes.{is-group}
 
 -- a position at a whole number of the input's units from zero
 abbrev pub at : ℕ → ℕ → Point
@@ -34,7 +35,7 @@ line_of name = record {
 row_line : json_text (topology_value (line_of (codes "a")))
     ≡ codes "{\"type\":\"Topology\",\"objects\":{\"a\":{\"type\":\"GeometryCollection\",\"geometries\":[{\"type\":\"LineString\",\"arcs\":[0]}]}},\"arcs\":[[[0,0],[1.5,0.25]]]}"
 unfolding topology_value escaped_byte units_text digits
-row_line = simp (texts, kinds) refl
+row_line = simp (texts, geometrical_at.line) refl
 
 -- two squares that share a side
 abbrev pub squares_of : List ℕ → Contents
@@ -49,7 +50,7 @@ squares_of name = record {
 row_squares : json_text (topology_value (squares_of (codes "land")))
     ≡ codes "{\"type\":\"Topology\",\"objects\":{\"land\":{\"type\":\"GeometryCollection\",\"geometries\":[{\"type\":\"Polygon\",\"arcs\":[[0,1]]},{\"type\":\"Polygon\",\"arcs\":[[2,-1]]}]}},\"arcs\":[[[1,0],[1,1]],[[1,1],[0,1],[0,0],[1,0]],[[1,0],[2,0],[2,1],[1,1]]]}"
 unfolding topology_value escaped_byte units_text digits
-row_squares = simp (texts, kinds) refl
+row_squares = simp (texts, geometrical_at.area) refl
 
 -- a Point with identifier and properties that have one name twice
 abbrev point : TopoFeature
@@ -61,7 +62,7 @@ point = record {
 
 row_point : json_text (feature_value point) ≡ codes "{\"type\":\"Point\",\"id\":\"007\",\"properties\":{\"b\":1.50,\"a\":1e2,\"b\":null},\"coordinates\":[1,2]}"
 unfolding escaped_byte units_text digits
-row_point = simp (texts, kinds) refl
+row_point = simp (texts, geometrical_at.point) refl
 
 -- a null geometry with an identifier, and an empty GeometryCollection
 row_null : json_text (feature_value (record { id = Some (id.Number (codes "7")); properties = None; shape = None })) ≡ codes "{\"type\":null,\"id\":7}"
@@ -76,4 +77,4 @@ row_empty = simp texts refl
 row_group : json_text (feature_value (bare (g.Group (g.MultiPoint (at 0 1 ∷ []) ∷ (g.Lines ((pos 0 ∷ []) ∷ []) ∷ (g.Areas (((negsuc 2 ∷ []) ∷ []) ∷ []) ∷ []))))))
     ≡ codes "{\"type\":\"GeometryCollection\",\"geometries\":[{\"type\":\"MultiPoint\",\"coordinates\":[[0,1]]},{\"type\":\"MultiLineString\",\"arcs\":[[0]]},{\"type\":\"MultiPolygon\",\"arcs\":[[[-3]]]}]}"
 unfolding escaped_byte units_text digits
-row_group = simp (texts, kinds) refl
+row_group = simp (texts, geometrical_at.points, geometrical_at.lines, geometrical_at.areas, is-group) refl

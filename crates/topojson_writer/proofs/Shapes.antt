@@ -5,78 +5,46 @@ use Rattle.json_value.specs.declared.json.Json.{Json}
 use Rattle.json_value.specs.declared.json.Json.TheVariants as j
 use Rattle.json_value.specs.Text.{json_text, escaped_byte}
 use Rattle.json_value.proofs.Texts.{text-text, fused}
-use Rattle.geojson_types.specs.declared.geometry.Geometry.{fold-Geometry, fold-roll-Geometry}
-use Rattle.geojson_types.specs.declared.geometry.Geometry.TheOpen.{Geometry-F}
-use Rattle.geojson_types.specs.declared.geometry.Geometry.TheVariants as g
-use Rattle.geojson_types.specs.Points.{Point}
-use Rattle.geojson_types.proofs.Induction.{by_kinds}
+use Rattle.geometry.specs.declared.shape.Geometry.TheVariants as g
+use Rattle.geometry.specs.Points.{Point}
+use Rattle.geometry.proofs.Induction.{by_kinds}
 use Rattle.topojson_types.specs.Topologies.{TopoShape}
-use Rattle.topojson_types.specs.Values.{Geometrical, typed, inner_value, position_value, positions_value, line_value, lines_value, geometrical_step, geometrical}
+use Rattle.topojson_types.specs.Values.{Geometrical, typed, inner_value, position_value, positions_value, line_value, lines_value, geometrical}
+use Rattle.topojson_types.proofs.ByKind.{geometrical_at}
 use Rattle.topojson_writer.specs.Texts.{shape_value, type_text, members_text, parts_name, parts_value}
 use Rattle.topojson_writer.proofs.Objects.{member-alone}
 
 -- ---- the value of each kind
 
-abbrev run : TopoShape → Geometrical
-run = fold-Geometry Point (List ℤ) (List ℤ) Geometrical geometrical_step
-
-pub is-point : (p : Point) → geometrical (g.Point p) ≡ typed (codes "Point") (codes "coordinates") (position_value p)
-unfolding geometrical
-is-point p = ap run (sym (g.rolls-Point p)) ∙ fold-roll-Geometry Point (List ℤ) (List ℤ) Geometrical geometrical_step (Geometry-F.Point p)
-
-pub is-points : (ps : List Point) → geometrical (g.MultiPoint ps) ≡ typed (codes "MultiPoint") (codes "coordinates") (positions_value ps)
-unfolding geometrical
-is-points ps = ap run (sym (g.rolls-MultiPoint ps)) ∙ fold-roll-Geometry Point (List ℤ) (List ℤ) Geometrical geometrical_step (Geometry-F.MultiPoint ps)
-
-pub is-line : (refs : List ℤ) → geometrical (g.Line refs) ≡ typed (codes "LineString") (codes "arcs") (line_value refs)
-unfolding geometrical
-is-line refs = ap run (sym (g.rolls-Line refs)) ∙ fold-roll-Geometry Point (List ℤ) (List ℤ) Geometrical geometrical_step (Geometry-F.Line refs)
-
-pub is-lines : (ls : List (List ℤ)) → geometrical (g.Lines ls) ≡ typed (codes "MultiLineString") (codes "arcs") (lines_value ls)
-unfolding geometrical
-is-lines ls = ap run (sym (g.rolls-Lines ls)) ∙ fold-roll-Geometry Point (List ℤ) (List ℤ) Geometrical geometrical_step (Geometry-F.Lines ls)
-
-pub is-area : (rs : List (List ℤ)) → geometrical (g.Area rs) ≡ typed (codes "Polygon") (codes "arcs") (lines_value rs)
-unfolding geometrical
-is-area rs = ap run (sym (g.rolls-Area rs)) ∙ fold-roll-Geometry Point (List ℤ) (List ℤ) Geometrical geometrical_step (Geometry-F.Area rs)
-
-pub is-areas : (areas : List (List (List ℤ))) → geometrical (g.Areas areas) ≡ typed (codes "MultiPolygon") (codes "arcs") (j.Array (map lines_value areas))
-unfolding geometrical
-is-areas areas = ap run (sym (g.rolls-Areas areas)) ∙ fold-roll-Geometry Point (List ℤ) (List ℤ) Geometrical geometrical_step (Geometry-F.Areas areas)
-
 pub is-group : (shapes : List TopoShape) → geometrical (g.Group shapes) ≡ typed (codes "GeometryCollection") (codes "geometries") (j.Array (map shape_value shapes))
-unfolding geometrical
-is-group shapes =
-    ap run (sym (g.rolls-Group shapes)) ∙ fold-roll-Geometry Point (List ℤ) (List ℤ) Geometrical geometrical_step (Geometry-F.Group shapes)
-    ∙ ap (λ (vs : List Json). typed (codes "GeometryCollection") (codes "geometries") (j.Array vs)) (fused inner_value run (λ s. inner_value (run s)) (λ s. refl) shapes)
-
-pub ruleset kinds = (is-point, is-points, is-line, is-lines, is-area, is-areas, is-group)
+is-group shapes = geometrical_at.group shapes
+    ∙ ap (λ (vs : List Json). typed (codes "GeometryCollection") (codes "geometries") (j.Array vs)) (fused inner_value geometrical (λ s. inner_value (geometrical s)) (λ s. refl) shapes)
 
 -- ---- the type
 
 pub type-point : (p : Point) → type_text (geometrical (g.Point p)) ≡ codes "{\"type\":\"Point\""
 unfolding type_text escaped_byte
-type-point p = ap type_text (is-point p) ∙ ap (λ (text : List ℕ). codes "{\"type\":" ++ text) (text-text (codes "Point"))
+type-point p = ap type_text (geometrical_at.point p) ∙ ap (λ (text : List ℕ). codes "{\"type\":" ++ text) (text-text (codes "Point"))
 
 pub type-points : (ps : List Point) → type_text (geometrical (g.MultiPoint ps)) ≡ codes "{\"type\":\"MultiPoint\""
 unfolding type_text escaped_byte
-type-points ps = ap type_text (is-points ps) ∙ ap (λ (text : List ℕ). codes "{\"type\":" ++ text) (text-text (codes "MultiPoint"))
+type-points ps = ap type_text (geometrical_at.points ps) ∙ ap (λ (text : List ℕ). codes "{\"type\":" ++ text) (text-text (codes "MultiPoint"))
 
 pub type-line : (refs : List ℤ) → type_text (geometrical (g.Line refs)) ≡ codes "{\"type\":\"LineString\""
 unfolding type_text escaped_byte
-type-line refs = ap type_text (is-line refs) ∙ ap (λ (text : List ℕ). codes "{\"type\":" ++ text) (text-text (codes "LineString"))
+type-line refs = ap type_text (geometrical_at.line refs) ∙ ap (λ (text : List ℕ). codes "{\"type\":" ++ text) (text-text (codes "LineString"))
 
 pub type-lines : (ls : List (List ℤ)) → type_text (geometrical (g.Lines ls)) ≡ codes "{\"type\":\"MultiLineString\""
 unfolding type_text escaped_byte
-type-lines ls = ap type_text (is-lines ls) ∙ ap (λ (text : List ℕ). codes "{\"type\":" ++ text) (text-text (codes "MultiLineString"))
+type-lines ls = ap type_text (geometrical_at.lines ls) ∙ ap (λ (text : List ℕ). codes "{\"type\":" ++ text) (text-text (codes "MultiLineString"))
 
 pub type-area : (rs : List (List ℤ)) → type_text (geometrical (g.Area rs)) ≡ codes "{\"type\":\"Polygon\""
 unfolding type_text escaped_byte
-type-area rs = ap type_text (is-area rs) ∙ ap (λ (text : List ℕ). codes "{\"type\":" ++ text) (text-text (codes "Polygon"))
+type-area rs = ap type_text (geometrical_at.area rs) ∙ ap (λ (text : List ℕ). codes "{\"type\":" ++ text) (text-text (codes "Polygon"))
 
 pub type-areas : (areas : List (List (List ℤ))) → type_text (geometrical (g.Areas areas)) ≡ codes "{\"type\":\"MultiPolygon\""
 unfolding type_text escaped_byte
-type-areas areas = ap type_text (is-areas areas) ∙ ap (λ (text : List ℕ). codes "{\"type\":" ++ text) (text-text (codes "MultiPolygon"))
+type-areas areas = ap type_text (geometrical_at.areas areas) ∙ ap (λ (text : List ℕ). codes "{\"type\":" ++ text) (text-text (codes "MultiPolygon"))
 
 pub type-group : (shapes : List TopoShape) → type_text (geometrical (g.Group shapes)) ≡ codes "{\"type\":\"GeometryCollection\""
 unfolding type_text escaped_byte
@@ -86,27 +54,27 @@ type-group shapes = ap type_text (is-group shapes) ∙ ap (λ (text : List ℕ).
 
 pub name-point : (p : Point) → parts_name (geometrical (g.Point p)) ≡ codes ",\"coordinates\":"
 unfolding parts_name escaped_byte
-name-point p = ap parts_name (is-point p)
+name-point p = ap parts_name (geometrical_at.point p)
 
 pub name-points : (ps : List Point) → parts_name (geometrical (g.MultiPoint ps)) ≡ codes ",\"coordinates\":"
 unfolding parts_name escaped_byte
-name-points ps = ap parts_name (is-points ps)
+name-points ps = ap parts_name (geometrical_at.points ps)
 
 pub name-line : (refs : List ℤ) → parts_name (geometrical (g.Line refs)) ≡ codes ",\"arcs\":"
 unfolding parts_name escaped_byte
-name-line refs = ap parts_name (is-line refs)
+name-line refs = ap parts_name (geometrical_at.line refs)
 
 pub name-lines : (ls : List (List ℤ)) → parts_name (geometrical (g.Lines ls)) ≡ codes ",\"arcs\":"
 unfolding parts_name escaped_byte
-name-lines ls = ap parts_name (is-lines ls)
+name-lines ls = ap parts_name (geometrical_at.lines ls)
 
 pub name-area : (rs : List (List ℤ)) → parts_name (geometrical (g.Area rs)) ≡ codes ",\"arcs\":"
 unfolding parts_name escaped_byte
-name-area rs = ap parts_name (is-area rs)
+name-area rs = ap parts_name (geometrical_at.area rs)
 
 pub name-areas : (areas : List (List (List ℤ))) → parts_name (geometrical (g.Areas areas)) ≡ codes ",\"arcs\":"
 unfolding parts_name escaped_byte
-name-areas areas = ap parts_name (is-areas areas)
+name-areas areas = ap parts_name (geometrical_at.areas areas)
 
 pub name-group : (shapes : List TopoShape) → parts_name (geometrical (g.Group shapes)) ≡ codes ",\"geometries\":"
 unfolding parts_name escaped_byte
@@ -116,27 +84,27 @@ name-group shapes = ap parts_name (is-group shapes)
 
 pub value-point : (p : Point) → parts_value (geometrical (g.Point p)) ≡ position_value p
 unfolding parts_value
-value-point p = ap parts_value (is-point p)
+value-point p = ap parts_value (geometrical_at.point p)
 
 pub value-points : (ps : List Point) → parts_value (geometrical (g.MultiPoint ps)) ≡ positions_value ps
 unfolding parts_value
-value-points ps = ap parts_value (is-points ps)
+value-points ps = ap parts_value (geometrical_at.points ps)
 
 pub value-line : (refs : List ℤ) → parts_value (geometrical (g.Line refs)) ≡ line_value refs
 unfolding parts_value
-value-line refs = ap parts_value (is-line refs)
+value-line refs = ap parts_value (geometrical_at.line refs)
 
 pub value-lines : (ls : List (List ℤ)) → parts_value (geometrical (g.Lines ls)) ≡ lines_value ls
 unfolding parts_value
-value-lines ls = ap parts_value (is-lines ls)
+value-lines ls = ap parts_value (geometrical_at.lines ls)
 
 pub value-area : (rs : List (List ℤ)) → parts_value (geometrical (g.Area rs)) ≡ lines_value rs
 unfolding parts_value
-value-area rs = ap parts_value (is-area rs)
+value-area rs = ap parts_value (geometrical_at.area rs)
 
 pub value-areas : (areas : List (List (List ℤ))) → parts_value (geometrical (g.Areas areas)) ≡ j.Array (map lines_value areas)
 unfolding parts_value
-value-areas areas = ap parts_value (is-areas areas)
+value-areas areas = ap parts_value (geometrical_at.areas areas)
 
 pub value-group : (shapes : List TopoShape) → parts_value (geometrical (g.Group shapes)) ≡ j.Array (map shape_value shapes)
 unfolding parts_value
@@ -158,11 +126,11 @@ has_one o type key v e = subst HasOne (sym e) (typed-has_one type key v)
 
 pub parts-text : (s : TopoShape) → members_text (geometrical s).parts ≡ parts_name (geometrical s) ++ json_text (parts_value (geometrical s))
 parts-text = by_kinds (λ s. HasOne (geometrical s)) (record {
-  point = λ p. has_one _ _ _ _ (is-point p);
-  points = λ ps. has_one _ _ _ _ (is-points ps);
-  line = λ refs. has_one _ _ _ _ (is-line refs);
-  lines = λ ls. has_one _ _ _ _ (is-lines ls);
-  area = λ rs. has_one _ _ _ _ (is-area rs);
-  areas = λ areas. has_one _ _ _ _ (is-areas areas);
+  point = λ p. has_one _ _ _ _ (geometrical_at.point p);
+  points = λ ps. has_one _ _ _ _ (geometrical_at.points ps);
+  line = λ refs. has_one _ _ _ _ (geometrical_at.line refs);
+  lines = λ ls. has_one _ _ _ _ (geometrical_at.lines ls);
+  area = λ rs. has_one _ _ _ _ (geometrical_at.area rs);
+  areas = λ areas. has_one _ _ _ _ (geometrical_at.areas areas);
   group = λ shapes h. has_one _ _ _ _ (is-group shapes);
 })

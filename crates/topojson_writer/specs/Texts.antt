@@ -1,10 +1,10 @@
 -- The text of a geometry object (TopoJSON 1.0, section 2.2) part by part, as it is written.
 use Rattle.std.specs.Prelude.{ℕ, false, List, [], ◌∷◌, ◌++◌, map, codes}
-use Rattle.byte_ends.specs.Commas.{with_commas}
+use Rattle.list_laws.specs.Commas.{with_commas}
 use Rattle.json_value.specs.declared.json.Json.{Json}
 use Rattle.json_value.specs.declared.json.Json.TheVariants as j
 use Rattle.json_value.specs.Text.{json_text, name_text, member_text}
-use Rattle.geojson_types.specs.Points.{Point}
+use Rattle.geometry.specs.Points.{Point}
 use Rattle.topojson_types.specs.declared.object.TopoObject.{TopoObject}
 use Rattle.topojson_types.specs.Topologies.{TopoShape}
 use Rattle.topojson_types.specs.Values.{Members, Geometrical, geometrical, inner_value, positions_value, object_value}

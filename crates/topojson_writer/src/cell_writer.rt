@@ -4,11 +4,9 @@ ghost use Rattle.json_value.specs.Text.{json_text};
 ghost use Rattle.topojson_types.specs.Values.{position_value};
 
 use byte_ends::{Drain, Progress, Sink};
-use json_value::{PutValue, put_pair};
+use geojson_types::PLACES;
+use json_writer::{PutValue, put_pair};
 use topojson_types::Cell;
-
-/// Decimal places of a unit.
-const PLACES: u32 = 7;
 
 /// Writes a position, x first.
 pub fn put_cell<W: Drain>(cell: Cell, so_far: Progress, sink: &mut Sink<W>) -> Progress

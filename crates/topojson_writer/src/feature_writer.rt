@@ -8,7 +8,8 @@ ghost use Rattle.topojson_writer.specs.Texts.{type_text, members_text};
 use crate::shape_writer::{put_parts, put_type};
 use byte_ends::{Drain, Progress, Sink, put_part};
 use geojson_types::Id;
-use json_value::{Items, Json, OwnText, PutValue, put_members, put_text};
+use json_value::{Items, Json, OwnText};
+use json_writer::{PutValue, put_members, put_text};
 use topojson_types::{TopoFeature, TopoShape};
 
 /// Writes an identifier: a text, or a number by its text.

@@ -2,7 +2,7 @@
 ghost use Rattle.topojson_types.specs.Values.{whole_value};
 
 use byte_ends::{Drain, Progress, Sink};
-use json_value::{PutValue, put_decimal};
+use json_writer::{PutValue, put_decimal};
 use topojson_types::ArcRef;
 
 /// The way to write arc indexes, which are whole numbers.

@@ -8,7 +8,8 @@ use crate::cell_writer::{Cells, put_cell};
 use crate::index_writer::ArcRefs;
 use byte_ends::{Drain, Progress, Sink, put_comma, put_part};
 use geojson_types::Geometry;
-use json_value::{ArrayOf, Items, put_array};
+use json_value::Items;
+use json_writer::{ArrayOf, put_array};
 use topojson_types::{ArcRef, Cell, TopoShape};
 
 /// Writes the opening brace of a geometry object, and its type.

@@ -9,7 +9,8 @@ ghost use Rattle.topojson_types.specs.Values.{object_value, topology_value};
 use crate::cell_writer::Cells;
 use crate::feature_writer::{Features, put_feature};
 use byte_ends::{Drain, Progress, Sink, WriteFault, put_part};
-use json_value::{ArrayOf, Items, PutValue, put_array, put_object};
+use json_value::Items;
+use json_writer::{ArrayOf, PutValue, put_array, put_object};
 use topojson_types::{Cell, TopoFeature, TopoObject, Topology};
 
 /// Writes the GeometryCollection of these features.

@@ -1,5 +1,5 @@
 use Rattle.std.proofs.Common.{◌≡◌, ◌<◌, ◌≤◌, ◌+◌, ◌^◌, List, ◌++◌, length, map}
-use Rattle.geojson_types.specs.Points.{Point}
+use Rattle.geometry.specs.Points.{Point}
 use Rattle.arc_table.specs.Growth.{first_alike, grow_all}
 use Rattle.arc_table.specs.Starts.{IsStarts}
 use Rattle.arc_table.proofs.placing.add_line.Given as goal

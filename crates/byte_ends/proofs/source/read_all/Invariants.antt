@@ -1,6 +1,7 @@
 -- The bytes so far are those that the source gave, within the limit and without a failure.
 use Rattle.std.proofs.Common.{◌≡◌, ◌<◌, ◌≤◌, ◌-◌, length, vec_len}
 use Rattle.std.specs.Io.KnownBytes.{Consumes}
+use Rattle.byte_ends.specs.Ends.{block_size}
 use Rattle.byte_ends.proofs.source.read_all.Given as goal
 
 abbrev pub invariant-loop-bytes : goal.invariant-loop-bytes
@@ -9,6 +10,7 @@ invariant-loop-bytes g l = record {
   short : vec_len l.bytes ≤ l.limit;
   sound : l.source.failures ≡ l.fn.source.failures;
   room : 0 < length l.block;
+  most : length l.block ≤ block_size;
 }
 
 abbrev pub decreases-loop-bytes : goal.decreases-loop-bytes

@@ -1,6 +1,6 @@
 use Rattle.std.proofs.Common.{◌≡◌, [], ◌∷◌, ◌++◌, length, arith, ap, sym, ◌∙◌, subst}
 use Rattle.std.specs.Vec.Iter.{into_iter_items}
-use Rattle.linework.specs.Cleaning.{AllClean}
+use Rattle.junctions.specs.Cleaning.{AllClean}
 use Rattle.cutter.specs.Places.{In}
 use Rattle.cutter.specs.Segments.{piece_segments, times}
 use Rattle.cutter.specs.Slices.{AllSplit, all_pieces, split_of, strokes}

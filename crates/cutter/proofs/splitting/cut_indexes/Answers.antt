@@ -1,5 +1,5 @@
 use Rattle.std.proofs.Common.{◌∙◌}
-use Rattle.linework.specs.Answers.{is_member}
+use Rattle.junctions.specs.Answers.{is_member}
 use Rattle.cutter.proofs.Known.{known_at}
 use Rattle.cutter.proofs.SliceLaws.{indexes_step}
 use Rattle.cutter.proofs.splitting.cut_indexes.Goals as goal

@@ -1,5 +1,5 @@
 use Rattle.std.proofs.Common.{◌≡◌, take}
-use Rattle.linework.specs.Answers.{is_member}
+use Rattle.junctions.specs.Answers.{is_member}
 use Rattle.cutter.specs.Slices.{indexes}
 use Rattle.cutter.proofs.splitting.cut_indexes.Given as goal
 

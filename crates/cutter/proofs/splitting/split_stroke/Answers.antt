@@ -1,5 +1,5 @@
 use Rattle.std.proofs.Common.{length, ap, sym, subst, ◌∙◌, arith}
-use Rattle.linework.specs.Answers.{is_member}
+use Rattle.junctions.specs.Answers.{is_member}
 use Rattle.cutter.specs.Slices.{indexes, IsRising}
 use Rattle.cutter.proofs.SliceLaws.{indexes_rise}
 use Rattle.cutter.proofs.Known.{split_view, known_start}

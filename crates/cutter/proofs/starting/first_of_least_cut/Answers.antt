@@ -1,5 +1,5 @@
 use Rattle.std.proofs.Common.{sym, ◌∙◌}
-use Rattle.linework.specs.Answers.{is_member}
+use Rattle.junctions.specs.Answers.{is_member}
 use Rattle.cutter.proofs.SliceLaws.{no_start}
 use Rattle.cutter.proofs.starting.first_of_least_cut.Goals as goal
 

@@ -1,5 +1,5 @@
 use Rattle.std.proofs.Common.{◌≡◌, drop, ◌+◌}
-use Rattle.geojson_types.specs.Rings.{same}
+use Rattle.geometry.specs.Rings.{same}
 use Rattle.cutter.specs.Pieces.{first_at}
 use Rattle.cutter.proofs.starting.index_of.Given as goal
 

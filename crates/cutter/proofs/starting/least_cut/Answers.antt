@@ -1,5 +1,5 @@
 use Rattle.std.proofs.Common.{◌∙◌}
-use Rattle.linework.specs.Answers.{is_member}
+use Rattle.junctions.specs.Answers.{is_member}
 use Rattle.cutter.proofs.Known.{known_at}
 use Rattle.cutter.proofs.SliceLaws.{least_step}
 use Rattle.cutter.proofs.starting.least_cut.Goals as goal

@@ -1,6 +1,6 @@
 use Rattle.std.proofs.Common.{◌≡◌, take}
 use Rattle.std.specs.List.{filter}
-use Rattle.linework.specs.Answers.{is_member}
+use Rattle.junctions.specs.Answers.{is_member}
 use Rattle.cutter.specs.Slices.{least_point}
 use Rattle.cutter.proofs.starting.least_cut.Given as goal
 

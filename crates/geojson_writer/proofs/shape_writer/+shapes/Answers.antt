@@ -1,6 +1,6 @@
 use Rattle.std.specs.Prelude.{codes}
 use Rattle.byte_ends.proofs.Parts.{as_text, begins, list-goes, list-ends, then}
-use Rattle.json_value.proofs.Lists.{array-text, text_by}
+use Rattle.json_writer.proofs.Lists.{array-text, text_by}
 use Rattle.geojson_writer.specs.FeatureValues.{shape_value}
 use Rattle.geojson_writer.proofs.ShapeParts.{shape-text}
 use Rattle.geojson_writer.proofs.shape_writer.+shapes.Goals as goal

@@ -3,7 +3,7 @@ use Rattle.std.specs.Prelude.{codes}
 use Rattle.byte_ends.proofs.Parts.{UpTo, list_left}
 use Rattle.json_value.specs.Text.{json_text}
 use Rattle.json_value.specs.declared.json.Json.TheVariants as j
-use Rattle.json_value.proofs.Lists.{text_by}
+use Rattle.json_writer.proofs.Lists.{text_by}
 use Rattle.geojson_writer.specs.FeatureValues.{shape_value}
 use Rattle.geojson_writer.proofs.shape_writer.+shapes.Given as goal
 

@@ -1,6 +1,6 @@
 use Rattle.std.proofs.Common.{◌++◌, drop, ◌+◌, ap, sym, ◌∙◌}
-use Rattle.linework.specs.Cleaning.{clean}
-use Rattle.linework.proofs.Cleaned.{clean_skip, clean_keep}
+use Rattle.junctions.specs.Cleaning.{clean}
+use Rattle.junctions.proofs.Cleaned.{clean_skip, clean_keep}
 use Rattle.linework.proofs.cleaning.cleaned.Goals as goal
 use Rattle.linework.proofs.cleaning.cleaned.Goals.{then-not-is_repeated+in_ok-push, else-not-is_repeated}
 

@@ -1,5 +1,5 @@
 use Rattle.std.proofs.Common.{◌≡◌, ◌++◌, drop}
-use Rattle.linework.specs.Cleaning.{clean}
+use Rattle.junctions.specs.Cleaning.{clean}
 use Rattle.linework.proofs.cleaning.cleaned.Given as goal
 
 abbrev pub invariant-loop-i : goal.invariant-loop-i

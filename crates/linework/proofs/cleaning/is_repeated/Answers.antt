@@ -1,5 +1,5 @@
 use Rattle.std.proofs.Common.{◌+◌, ◌<◌, length, sym, ◌∙◌, arith}
-use Rattle.linework.proofs.Cleaned.{twice_none, twice_some}
+use Rattle.junctions.proofs.Cleaned.{twice_none, twice_some}
 use Rattle.linework.proofs.cleaning.is_repeated.Goals as goal
 
 pub returns-then-i-positions : goal.returns-then-i-positions

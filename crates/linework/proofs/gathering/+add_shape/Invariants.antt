@@ -1,7 +1,7 @@
 use Rattle.std.proofs.Common.{◌≡◌, map, take}
-use Rattle.geojson_types.specs.Paths.{of_parts, placed_strokes}
+use Rattle.geometry.specs.Paths.{of_parts, placed_strokes}
 use Rattle.linework.specs.Linework.{stroke_at}
-use Rattle.linework.specs.Gathering.{with_strokes}
+use Rattle.junctions.specs.Gathering.{with_strokes}
 use Rattle.linework.proofs.gathering.+add_shape.Given as goal
 
 abbrev pub invariant-shapes : goal.invariant-shapes

@@ -1,7 +1,7 @@
 use Rattle.std.proofs.Common.{◌≡◌, [], map, Some, None, ap, sym, ◌∙◌, rules}
-use Rattle.geojson_types.specs.Paths.{placed_strokes}
+use Rattle.geometry.specs.Paths.{placed_strokes}
 use Rattle.linework.specs.Linework.{option_placed, stroke_at, feature_address, feature_strokes}
-use Rattle.linework.specs.Gathering.{with_strokes}
+use Rattle.junctions.specs.Gathering.{with_strokes}
 use Rattle.linework.proofs.Gathered.{with_none, features_turn}
 use Rattle.linework.proofs.gathering.add_layer.Goals as goal
 use Rattle.linework.proofs.gathering.add_layer.Goals.{in-Some+in_ok-add_shape, in_default}

@@ -1,6 +1,6 @@
 use Rattle.std.proofs.Common.{◌≡◌, take}
 use Rattle.linework.specs.Linework.{strokes_of_layer}
-use Rattle.linework.specs.Gathering.{with_strokes}
+use Rattle.junctions.specs.Gathering.{with_strokes}
 use Rattle.linework.proofs.gathering.add_layer.Given as goal
 
 abbrev pub invariant-loop-number : goal.invariant-loop-number

@@ -1,7 +1,7 @@
 use Rattle.std.proofs.Common.{◌≡◌, true, map, take}
-use Rattle.geojson_types.specs.Paths.{alone, of_parts}
+use Rattle.geometry.specs.Paths.{alone, of_parts}
 use Rattle.linework.specs.Linework.{stroke_at}
-use Rattle.linework.specs.Gathering.{with_strokes}
+use Rattle.junctions.specs.Gathering.{with_strokes}
 use Rattle.linework.proofs.gathering.add_rings.Given as goal
 
 abbrev pub invariant-loop-number : goal.invariant-loop-number

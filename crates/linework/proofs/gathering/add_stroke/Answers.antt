@@ -1,8 +1,8 @@
 use Rattle.std.proofs.Common.{◌≡◌, List, false, OnOk, sym, ◌∙◌, subst}
-use Rattle.geojson_types.specs.Points.{Point}
-use Rattle.linework.specs.Cleaning.{clean, is_short, IsCleanList}
-use Rattle.linework.specs.Gathering.{Gathered}
-use Rattle.linework.proofs.Cleaned.{clean_is_clean}
+use Rattle.geometry.specs.Points.{Point}
+use Rattle.junctions.specs.Cleaning.{clean, is_short, IsCleanList}
+use Rattle.junctions.specs.Gathering.{Gathered}
+use Rattle.junctions.proofs.Cleaned.{clean_is_clean}
 use Rattle.linework.proofs.Gathered.{with_alone}
 use Rattle.linework.proofs.gathering.add_stroke.Goals as goal
 

@@ -1,6 +1,6 @@
 use Rattle.std.proofs.Common.{◌∙◌, ap, map}
 use Rattle.std.proofs.lemmas.Result.{err_from_is_err_and}
-use Rattle.mapchain_cli.proofs.Outcomes.{refused_keeps, named}
+use Rattle.mapchain_cli.proofs.Outcomes.{refused_keeps}
 use Rattle.mapchain_cli.proofs.running.build_layers.Goals as goal
 
 pub returns-in_err-report-clause-refused : goal.returns-in_err-report-clause-refused
@@ -12,6 +12,6 @@ pub returns-clause-built : goal.returns-clause-built
 returns-clause-built g c = record {
   sources_old = c.as_mut_slice.result.now;
   sources_new = c.build.new.sources;
-  names = ap (map (λ s. s.0)) c.as_mut_slice.ensures.value ∙ c.in_ok-sources.ensures ∙ ap (map (λ l. l.0.now)) c.deref.ensures.value ∙ c.in_ok-layers.ensures ∙ named c.args.words.now;
+  named = ap (map (λ s. s.0)) c.as_mut_slice.ensures.value ∙ c.in_ok-sources.ensures;
   built = c.in_ok-report.ensures.built;
 }

@@ -39,7 +39,7 @@ returns-in_err-send-clause-refused g c =
     let p = err_from_is_err_and c.from_residual-in_err-send.result c.from_residual-in_err-send.ensures.1 in
     let few : length (built 0 ls).arcs < 2 ^ 63 = subst (λ z. length z.arcs < 2 ^ 63) c.in_ok-topology.ensures.topology c.in_ok-topology.ensures.few in
     rw (p.1, p.2)
-    (built.cut_short c.built_is_valid.ensures c.built_decodes_back.ensures c.each_segment_once.ensures c.reads_back.ensures c.topology_text_is_read.ensures 0 c.args.exact c.args.sources.now c.read_layers.new.sources
+    (built.cut_short c.building_laws.ensures.valid c.building_laws.ensures.back c.building_laws.ensures.once c.building_laws.ensures.read c.building_laws.ensures.spelled 0 c.args.exact c.args.sources.now c.read_layers.new.sources
     ls r.0 r.1 (built.distinct c.args.exact c.args.sources.now c.read_layers.new.sources ls r.0 r.1 c.requires.names) few c.args.sink.now c.send.new.sink _
     (subst (λ z. Sends c.args.sink.now c.send.new.sink (json_text (topology_value z)) (Err c.in_err-send.field-0.0)) c.in_ok-topology.ensures.topology c.in_err-send.ensures))
 
@@ -49,12 +49,12 @@ returns-clause-built g c =
     let ls = c.in_ok-layers.layers.items in
     let e = c.in_ok-topology.ensures.topology in
     let few : length (built 0 ls).arcs < 2 ^ 63 = subst (λ z. length z.arcs < 2 ^ 63) e c.in_ok-topology.ensures.few in
-    built.is_built c.built_is_valid.ensures c.built_decodes_back.ensures c.each_segment_once.ensures c.reads_back.ensures c.topology_text_is_read.ensures 0 c.args.exact c.args.sources.now c.read_layers.new.sources
+    built.is_built c.building_laws.ensures.valid c.building_laws.ensures.back c.building_laws.ensures.once c.building_laws.ensures.read c.building_laws.ensures.spelled 0 c.args.exact c.args.sources.now c.read_layers.new.sources
     ls r.0 r.1 (built.distinct c.args.exact c.args.sources.now c.read_layers.new.sources ls r.0 r.1 c.requires.names) few c.args.sink.now c.send.new.sink c.report_of-report.result
     (rw e at c.in_ok-send.ensures)
     (c.report_of-report.ensures ∙ ap (λ arcs. report_with c.in_ok-layers.counts c.in_ok-topology.dropped.items arcs) (c.arcs.ensures.arcs ∙ ap (λ z. z.arcs) e)
     ∙ ap (λ ds. report_with c.in_ok-layers.counts ds (built 0 ls).arcs) c.in_ok-topology.ensures.dropped
-    ∙ ap (λ n. report_with n (expected_dropped 0 ls) (built 0 ls).arcs) r.2 ∙ built.report_at_zero c.zero_law.ensures ls r.0)
+    ∙ ap (λ n. report_with n (expected_dropped 0 ls) (built 0 ls).arcs) r.2 ∙ built.report_at_zero c.building_laws.ensures.zero ls r.0)
 
 pub send-requires : goal.send-requires
 send-requires g c = ap (λ z. z.transform) c.in_ok-topology.ensures.topology ∙ built_has_no_transform 0 c.in_ok-layers.layers.items

@@ -1,4 +1,4 @@
-use Rattle.geojson_types.specs.Pruning.{option_strokes}
+use Rattle.geometry.specs.Pruning.{option_strokes}
 use Rattle.build_meaning.specs.Objects.{feature_by}
 use Rattle.topo_model.proofs.Taking.{mapped_more}
 use Rattle.topo_model.proofs.assembling.object_features.Goals as goal

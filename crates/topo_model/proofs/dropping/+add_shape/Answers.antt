@@ -1,14 +1,14 @@
 use Rattle.std.proofs.Common.{◌≡◌, ◌++◌, List, true, map, append-nil, refl, ap, sym, ◌∙◌}
 use Rattle.build_meaning.specs.Candidates.{candidates}
-use Rattle.geojson_types.specs.declared.address.Dropped.{Dropped}
-use Rattle.geojson_types.specs.Lists.{joined}
-use Rattle.geojson_types.specs.Omissions.{omissions}
-use Rattle.geojson_types.specs.Paths.{of_parts}
-use Rattle.geojson_types.specs.Points.{Point}
-use Rattle.linework.specs.Gathering.{part_address}
+use Rattle.geometry.specs.declared.address.Dropped.{Dropped}
+use Rattle.geometry.specs.Lists.{joined}
+use Rattle.geometry.specs.Omissions.{omissions}
+use Rattle.geometry.specs.Paths.{of_parts}
+use Rattle.geometry.specs.Points.{Point}
+use Rattle.junctions.specs.Gathering.{part_address}
 use Rattle.topo_model.specs.Drops.{dropped_at, short_cause}
 use Rattle.topo_model.specs.Fates.{fates}
-use Rattle.topo_model.proofs.Told.{of_point, of_points, of_group, fates_of_point, fates_of_points, fates_of_group, fates_more, parts_more, told_all}
+use Rattle.topo_model.proofs.Told.{of_group, fates_of_point, fates_of_points, fates_of_group, fates_more, parts_more, told_all, told_at}
 use Rattle.topo_model.proofs.dropping.+add_shape.Goals as goal
 
 pub shapes-preserved : goal.shapes-preserved
@@ -28,7 +28,7 @@ returns-in-Point-clause-causes t c =
 
 pub returns-in-Point-clause-dropped : goal.returns-in-Point-clause-dropped
 returns-in-Point-clause-dropped t c =
-    sym (ap (λ os. c.args.told.now.dropped.items ++ dropped_at c.args.place.now os) (ap (omissions short_cause) c.in-Point.is ∙ of_point c.in-Point.field-0) ∙ append-nil c.args.told.now.dropped.items)
+    sym (ap (λ os. c.args.told.now.dropped.items ++ dropped_at c.args.place.now os) (ap (omissions short_cause) c.in-Point.is ∙ told_at.point c.in-Point.field-0) ∙ append-nil c.args.told.now.dropped.items)
 
 pub returns-in-MultiPoint-clause-causes : goal.returns-in-MultiPoint-clause-causes
 returns-in-MultiPoint-clause-causes t c =
@@ -36,7 +36,7 @@ returns-in-MultiPoint-clause-causes t c =
 
 pub returns-in-MultiPoint-clause-dropped : goal.returns-in-MultiPoint-clause-dropped
 returns-in-MultiPoint-clause-dropped t c =
-    sym (ap (λ os. c.args.told.now.dropped.items ++ dropped_at c.args.place.now os) (ap (omissions short_cause) c.in-MultiPoint.is ∙ of_points c.in-MultiPoint.field-0) ∙ append-nil c.args.told.now.dropped.items)
+    sym (ap (λ os. c.args.told.now.dropped.items ++ dropped_at c.args.place.now os) (ap (omissions short_cause) c.in-MultiPoint.is ∙ told_at.points c.in-MultiPoint.field-0) ∙ append-nil c.args.told.now.dropped.items)
 
 pub returns-after-shapes-clause-causes : goal.returns-after-shapes-clause-causes
 returns-after-shapes-clause-causes t c =

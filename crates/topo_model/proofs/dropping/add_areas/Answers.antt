@@ -1,7 +1,7 @@
 use Rattle.std.proofs.Common.{◌≡◌, ◌++◌, true, ap, ◌∙◌}
 use Rattle.build_meaning.specs.Candidates.{area_candidates}
-use Rattle.geojson_types.specs.Omissions.{area_omissions}
-use Rattle.linework.specs.Gathering.{part_address}
+use Rattle.geometry.specs.Omissions.{area_omissions}
+use Rattle.junctions.specs.Gathering.{part_address}
 use Rattle.topo_model.specs.Drops.{dropped_at, short_cause}
 use Rattle.topo_model.specs.Fates.{fates}
 use Rattle.topo_model.proofs.Told.{fates_more, parts_more}

@@ -1,8 +1,8 @@
 use Rattle.std.proofs.Common.{◌≡◌, ◌++◌, true, map, drop}
 use Rattle.build_meaning.specs.Candidates.{area_candidates}
-use Rattle.geojson_types.specs.Lists.{joined}
-use Rattle.geojson_types.specs.Omissions.{area_omissions}
-use Rattle.geojson_types.specs.Paths.{of_parts}
+use Rattle.geometry.specs.Lists.{joined}
+use Rattle.geometry.specs.Omissions.{area_omissions}
+use Rattle.geometry.specs.Paths.{of_parts}
 use Rattle.topo_model.specs.Drops.{dropped_at, short_cause}
 use Rattle.topo_model.specs.Fates.{fates}
 use Rattle.topo_model.proofs.dropping.add_areas.Given as goal

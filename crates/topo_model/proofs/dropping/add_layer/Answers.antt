@@ -1,6 +1,6 @@
 use Rattle.std.proofs.Common.{◌≡◌, ◌++◌, true, Some, None, append-nil, ap, sym, ◌∙◌, rules}
 use Rattle.build_meaning.specs.Candidates.{option_candidates}
-use Rattle.geojson_types.specs.Omissions.{omissions}
+use Rattle.geometry.specs.Omissions.{omissions}
 use Rattle.linework.specs.Linework.{feature_address}
 use Rattle.topo_model.specs.Drops.{dropped_at, option_drops, short_cause}
 use Rattle.topo_model.specs.Fates.{fates}

@@ -1,8 +1,8 @@
 use Rattle.std.proofs.Common.{◌≡◌, ◌∷◌, [], ◌++◌, false, map, refl, ap, ◌∙◌}
 use Rattle.build_meaning.specs.Candidates.{free}
-use Rattle.geojson_types.specs.Omissions.{here}
-use Rattle.geojson_types.specs.Paths.{of_parts}
-use Rattle.linework.specs.Gathering.{part_address}
+use Rattle.geometry.specs.Omissions.{here}
+use Rattle.geometry.specs.Paths.{of_parts}
+use Rattle.junctions.specs.Gathering.{part_address}
 use Rattle.topo_model.specs.Drops.{dropped_at, short_cause}
 use Rattle.topo_model.specs.Fates.{fates}
 use Rattle.topo_model.proofs.Told.{fate_more, parts_more, told_all}

@@ -1,7 +1,7 @@
 use Rattle.std.proofs.Common.{◌≡◌, ◌++◌, false, map, drop}
 use Rattle.build_meaning.specs.Candidates.{free}
-use Rattle.geojson_types.specs.Omissions.{here}
-use Rattle.geojson_types.specs.Paths.{of_parts}
+use Rattle.geometry.specs.Omissions.{here}
+use Rattle.geometry.specs.Paths.{of_parts}
 use Rattle.topo_model.specs.Drops.{dropped_at, short_cause}
 use Rattle.topo_model.specs.Fates.{fates}
 use Rattle.topo_model.proofs.dropping.add_lines.Given as goal

@@ -1,7 +1,7 @@
 use Rattle.std.proofs.Common.{◌≡◌, ◌+◌, ◌++◌, true, map, drop}
 use Rattle.build_meaning.specs.Candidates.{hole}
-use Rattle.geojson_types.specs.Omissions.{here, inner_cause}
-use Rattle.geojson_types.specs.Paths.{of_parts}
+use Rattle.geometry.specs.Omissions.{here, inner_cause}
+use Rattle.geometry.specs.Paths.{of_parts}
 use Rattle.topo_model.specs.Drops.{dropped_at, short_cause}
 use Rattle.topo_model.specs.Fates.{fates}
 use Rattle.topo_model.proofs.dropping.add_rings.Given as goal

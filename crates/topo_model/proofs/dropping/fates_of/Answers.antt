@@ -1,6 +1,6 @@
 use Rattle.std.proofs.Common.{◌++◌, true, map, refl, ap, ◌∙◌}
 use Rattle.build_meaning.specs.Candidates.{features_candidates, named_candidates}
-use Rattle.geojson_types.specs.Omissions.{dropped_of_layers}
+use Rattle.geometry.specs.Omissions.{dropped_of_layers}
 use Rattle.topo_model.specs.Drops.{layer_drops, option_drops, short_cause}
 use Rattle.topo_model.specs.Fates.{fates}
 use Rattle.topo_model.proofs.Told.{layers_fates_more, layers_more, told_all}

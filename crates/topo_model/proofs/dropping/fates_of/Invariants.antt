@@ -1,6 +1,6 @@
 use Rattle.std.proofs.Common.{◌≡◌, ◌++◌, true, map, drop}
 use Rattle.build_meaning.specs.Candidates.{named_candidates}
-use Rattle.geojson_types.specs.Omissions.{dropped_of_layers}
+use Rattle.geometry.specs.Omissions.{dropped_of_layers}
 use Rattle.topo_model.specs.Drops.{drops, option_drops, short_cause}
 use Rattle.topo_model.specs.Fates.{fates}
 use Rattle.topo_model.proofs.dropping.fates_of.Given as goal

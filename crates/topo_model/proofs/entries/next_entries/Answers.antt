@@ -1,5 +1,5 @@
 use Rattle.std.proofs.Common.{sym, ap, ◌∙◌, append-nil, [], ◌++◌}
-use Rattle.geojson_types.specs.Lists.{with_some}
+use Rattle.geometry.specs.Lists.{with_some}
 use Rattle.topo_model.proofs.Taking.{entry_more}
 use Rattle.topo_model.proofs.entries.next_entries.Goals as goal
 

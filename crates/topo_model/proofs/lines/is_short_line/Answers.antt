@@ -1,7 +1,7 @@
 use Rattle.std.proofs.Common.{◌≡◌, ◌+◌, ◌≤◌, false, nat_lt, drop, length, ap, sym, ◌∙◌, arith}
 use Rattle.std.proofs.lemmas.Bool.Decides.{nat_tests}
-use Rattle.geojson_types.specs.Rings.{same}
-use Rattle.linework.specs.Cleaning.{clean, is_short}
+use Rattle.geometry.specs.Rings.{same}
+use Rattle.junctions.specs.Cleaning.{clean, is_short}
 use Rattle.topo_model.proofs.Short.{some_left, skipped, counted}
 use Rattle.topo_model.proofs.lines.is_short_line.Goals as goal
 use Rattle.topo_model.proofs.lines.is_short_line.Goals.{then-closed, else-closed}

@@ -1,5 +1,5 @@
 use Rattle.std.proofs.Common.{◌≡◌, ◌+◌, ◌<◌, drop, length}
-use Rattle.linework.specs.Cleaning.{clean, clean_from}
+use Rattle.junctions.specs.Cleaning.{clean, clean_from}
 use Rattle.topo_model.proofs.lines.is_short_line.Given as goal
 
 abbrev pub invariant-loop-position : goal.invariant-loop-position

@@ -1,5 +1,5 @@
 use Rattle.std.proofs.Common.{◌==◌, arith}
-use Rattle.topojson_types.specs.Joins.{number_of}
+use Rattle.geometry.specs.Joins.{number_of}
 use Rattle.topo_model.proofs.Marked.{begins, marks_more, index_set, index_passed}
 use Rattle.topo_model.proofs.marking.mark_refs.Goals.{then-index-used, else-index-used}
 use Rattle.topo_model.proofs.marking.mark_refs.Goals as goal

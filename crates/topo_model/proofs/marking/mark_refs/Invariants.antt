@@ -1,5 +1,5 @@
 use Rattle.std.proofs.Common.{◌≡◌, ◌==◌, take}
-use Rattle.topojson_types.specs.Joins.{number_of}
+use Rattle.geometry.specs.Joins.{number_of}
 use Rattle.topo_model.specs.Marks.{also_set}
 use Rattle.topo_model.proofs.Marked.{any_of}
 use Rattle.topo_model.proofs.marking.mark_refs.Given as goal

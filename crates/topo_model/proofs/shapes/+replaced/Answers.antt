@@ -1,7 +1,7 @@
 use Rattle.std.proofs.Common.{false, sym, ap, ◌∙◌, append-nil, [], ◌++◌}
-use Rattle.geojson_types.specs.declared.geometry.Geometry.TheVariants as g
-use Rattle.geojson_types.specs.Lists.{map_some, with_some}
-use Rattle.geojson_types.specs.Pruning.{prune, strokes}
+use Rattle.geometry.specs.declared.shape.Geometry.TheVariants as g
+use Rattle.geometry.specs.Lists.{map_some, with_some}
+use Rattle.geometry.specs.Pruning.{prune, strokes}
 use Rattle.topo_model.proofs.Replaced as replaced
 use Rattle.topo_model.proofs.Taking.{turn, is_empty, many_taken, not_zero, one_taken}
 use Rattle.topo_model.proofs.shapes.+replaced.Goals as goal

@@ -1,4 +1,4 @@
-use Rattle.geojson_types.specs.Pruning.{prune, strokes}
+use Rattle.geometry.specs.Pruning.{prune, strokes}
 use Rattle.topo_model.proofs.Taking.{SoFar}
 use Rattle.topo_model.proofs.shapes.+replaced.Given as goal
 

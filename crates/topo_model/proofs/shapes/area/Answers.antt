@@ -1,5 +1,5 @@
 use Rattle.std.proofs.Common.{refl, sym, ap, ◌∙◌, ◌∷◌, Some}
-use Rattle.geojson_types.specs.Lists.{map_some}
+use Rattle.geometry.specs.Lists.{map_some}
 use Rattle.topo_model.proofs.Taking.{no_rings, rings_taken}
 use Rattle.topo_model.proofs.shapes.area.Goals as goal
 

@@ -1,6 +1,6 @@
 use Rattle.std.proofs.Common.{sym, ap, ◌∙◌, append-nil, [], ◌++◌, map, true}
-use Rattle.geojson_types.specs.Lists.{with_some}
-use Rattle.geojson_types.specs.Pruning.{area_by}
+use Rattle.geometry.specs.Lists.{with_some}
+use Rattle.geometry.specs.Pruning.{area_by}
 use Rattle.topo_model.proofs.Taking.{turn, ends}
 use Rattle.topo_model.proofs.shapes.areas.Goals as goal
 

@@ -1,5 +1,5 @@
 use Rattle.std.proofs.Common.{true, map}
-use Rattle.geojson_types.specs.Pruning.{area_by}
+use Rattle.geometry.specs.Pruning.{area_by}
 use Rattle.topo_model.proofs.Taking.{SoFar}
 use Rattle.topo_model.proofs.shapes.areas.Given as goal
 

@@ -1,6 +1,6 @@
 use Rattle.std.proofs.Common.{◌≡◌, ℕ, Bool, ◌++◌, length, map, drop}
 use Rattle.build_meaning.specs.Trimming.{renumbered}
-use Rattle.geojson_types.specs.Lists.{map_some}
+use Rattle.geometry.specs.Lists.{map_some}
 use Rattle.topo_model.specs.Fates.{dealt}
 use Rattle.topo_model.specs.Uses.{answers}
 use Rattle.topo_model.proofs.trimming.renumbered_entries.Given as goal

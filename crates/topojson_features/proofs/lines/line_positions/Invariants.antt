@@ -1,6 +1,6 @@
 use Rattle.std.proofs.Common.{◌≡◌, ◌++◌, map}
 use Rattle.topojson_types.specs.Decoding.{placed_arcs}
-use Rattle.topojson_types.specs.Joins.{arc_at, rejoined}
+use Rattle.geometry.specs.Joins.{arc_at, rejoined}
 use Rattle.topojson_features.proofs.lines.line_positions.Given as goal
 
 -- what is read, before what is left of the walk, is the whole walk

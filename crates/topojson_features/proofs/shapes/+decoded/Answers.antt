@@ -1,7 +1,7 @@
 use Rattle.std.proofs.Common.{◌<◌, subst, sym, ◌∙◌, ap, arith}
 use Rattle.std.specs.List.{AllByRecursion}
 use Rattle.list_laws.proofs.Elements.{all_at}
-use Rattle.geojson_types.specs.declared.geometry.Geometry.TheVariants as g
+use Rattle.geometry.specs.declared.shape.Geometry.TheVariants as g
 use Rattle.geojson_types.specs.Nesting.{nesting}
 use Rattle.topojson_features.specs.Strokes.{IsShape}
 use Rattle.topojson_features.proofs.Decoded.{point_decodes, points_decode, line_decodes, lines_decode, area_decodes, areas_decode, group_decodes, member_nests}

@@ -1,6 +1,6 @@
 use Rattle.std.specs.Prelude.{codes}
 use Rattle.byte_ends.proofs.Parts.{as_text, begins, list-goes, list-ends, then}
-use Rattle.json_value.proofs.Lists.{array-text, text_by}
+use Rattle.json_writer.proofs.Lists.{array-text, text_by}
 use Rattle.topojson_types.specs.Values.{geometrical}
 use Rattle.topojson_writer.specs.Texts.{shape_value}
 use Rattle.topojson_writer.proofs.Objects.{object-text}

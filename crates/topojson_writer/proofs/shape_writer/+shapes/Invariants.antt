@@ -2,7 +2,7 @@ use Rattle.std.proofs.Common.{drop}
 use Rattle.std.specs.Prelude.{codes}
 use Rattle.byte_ends.proofs.Parts.{UpTo, list_left}
 use Rattle.json_value.specs.Text.{json_text}
-use Rattle.json_value.proofs.Lists.{text_by}
+use Rattle.json_writer.proofs.Lists.{text_by}
 use Rattle.topojson_writer.specs.Texts.{shape_value, shapes_value}
 use Rattle.topojson_writer.proofs.shape_writer.+shapes.Given as goal
 

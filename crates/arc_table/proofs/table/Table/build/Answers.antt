@@ -3,7 +3,7 @@ use Rattle.std.specs.List.{sum_by}
 use Rattle.cutter.specs.Places.{In}
 use Rattle.cutter.specs.Segments.{line_segments, piece_segments}
 use Rattle.cutter.specs.Slices.{all_pieces, piece_lists, strokes}
-use Rattle.topojson_types.specs.Joins.{arc_at, rejoined}
+use Rattle.geometry.specs.Joins.{arc_at, rejoined}
 use Rattle.arc_table.specs.Arcs.{table_of}
 use Rattle.arc_table.specs.Laws.{AreAllIn, AreOnceIn, IsTable, RingsClose}
 use Rattle.arc_table.specs.Starts.{StartsTell}

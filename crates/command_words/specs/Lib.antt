@@ -1,0 +1,2 @@
+pub mod LayerWords
+pub mod Requests

@@ -1,0 +1,64 @@
+// Why words ask for nothing that can be done.
+use clap::Error;
+use clap::error::ErrorKind;
+use std::alloc::{AllocError, AllocFailed};
+use std::fmt;
+
+/// Why words ask for nothing that can be done. As a text it is what is to be told, which is nothing for want of memory.
+#[derive(Drop)]
+pub enum WordsFault {
+    /// The words ask for help.
+    Help(Error),
+    /// The words are refused.
+    Refused(Error),
+    /// The layer word of this number has no `=`.
+    NoEquals { layer: usize },
+    /// An allocation was refused.
+    Memory,
+}
+
+impl WordsFault {
+    /// What `clap` says of words that it doesn't take.
+    pub(crate) fn of(error: Error) -> WordsFault {
+        if error.kind() == ErrorKind::OutOfMemory {
+            return WordsFault::Memory;
+        }
+        if error.use_stderr() {
+            WordsFault::Refused(error)
+        } else {
+            WordsFault::Help(error)
+        }
+    }
+}
+
+impl fmt::Display for WordsFault {
+    fn fmt<W: fmt::Write>(&self, f: &mut fmt::Formatter<W>) -> fmt::Result {
+        match self {
+            WordsFault::Help(error) | WordsFault::Refused(error) => write!(f, "{error}"),
+            WordsFault::NoEquals { layer } => writeln!(f, "error: layer {layer} has no ="),
+            WordsFault::Memory => Ok(()),
+        }
+    }
+}
+
+impl From<AllocError> for WordsFault {
+    ghost use Rattle.std.specs.Prelude.{◌≡◌};
+    ghost use Rattle.command_words.specs.declared.words_fault.WordsFault.TheVariants.{Memory};
+
+    ghost from_gives = { λ _ e. e ≡ Memory };
+
+    fn from(_error: AllocError) -> WordsFault {
+        WordsFault::Memory
+    }
+}
+
+impl<T: Drop> From<AllocFailed<T>> for WordsFault {
+    ghost use Rattle.std.specs.Prelude.{◌≡◌};
+    ghost use Rattle.command_words.specs.declared.words_fault.WordsFault.TheVariants.{Memory};
+
+    ghost from_gives = { λ _ e. e ≡ Memory };
+
+    fn from(_refused: AllocFailed<T>) -> WordsFault {
+        WordsFault::Memory
+    }
+}

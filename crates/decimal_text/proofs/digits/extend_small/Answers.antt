@@ -1,0 +1,7 @@
+use Rattle.std.proofs.Common.{arith}
+use Rattle.decimal_text.proofs.DigitsValue.{past_limit}
+use Rattle.decimal_text.proofs.digits.extend_small.Goals as goal
+
+pub returns-then-value-limit-clause-err : goal.returns-then-value-limit-clause-err
+returns-then-value-limit-clause-err c =
+    past_limit _ c.loop-c.value _ c.loop-c.c-index _ c.loop-c-test.true c.loop-c.invariant.rest (omega arith)

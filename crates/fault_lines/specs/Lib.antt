@@ -1,0 +1,2 @@
+pub mod FaultLines
+pub mod Statuses

@@ -1,0 +1,10 @@
+pub mod Agreement
+pub mod Areas
+pub mod ByKind
+pub mod Cases
+pub mod Composition
+pub mod Induction
+pub mod Moved
+pub mod MovedShapes
+pub mod Omitted
+pub mod Points

@@ -1,0 +1,12 @@
+pub mod Areas
+pub mod Joins
+pub mod Lists
+pub mod Moving
+pub mod Omissions
+pub mod Order
+pub mod Paths
+pub mod Places
+pub mod Points
+pub mod Pruning
+pub mod Rings
+pub mod Shapes

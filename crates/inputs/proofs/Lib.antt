@@ -1,0 +1,2 @@
+pub mod BytesDecided
+pub mod Flushed

@@ -1,0 +1,2 @@
+pub mod Fixed
+pub mod Lists

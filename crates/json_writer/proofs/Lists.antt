@@ -1,0 +1,33 @@
+-- The texts of arrays and objects as lists with commas.
+use Rattle.std.proofs.Common.{◌≡◌, ℕ, true, List, [], ◌∷◌, ◌++◌, map, ◌∙◌, append_assoc, arith}
+use Rattle.std.specs.Prelude.{codes}
+use Rattle.byte_ends.proofs.Parts.{list_left}
+use Rattle.json_value.specs.declared.json.Json.{Json}
+use Rattle.json_value.specs.declared.json.Json.TheVariants as j
+use Rattle.json_value.specs.Text.{json_text, member_text}
+use Rattle.json_value.proofs.Texts.{text-array, text-object, one_member, fused}
+
+-- the text of the value that an item stands for
+abbrev pub text_by : {A : Type 0} → (A → Json) → A → List ℕ
+text_by value_of item = json_text (value_of item)
+
+-- the text of a member whose value an item stands for
+abbrev pub named_by : {A : Type 0} → (A → Json) → List ℕ × A → List ℕ
+named_by value_of m = member_text (m.0, json_text (value_of m.1))
+
+-- an array of the values of these items
+pub array-text : {A : Type 0} (value_of : A → Json) (items : List A) → json_text (j.Array (map value_of items)) ≡ codes "[" ++ list_left (text_by value_of) (codes "]") true items
+array-text value_of items = grind (arith, text-array, fused)
+
+-- an object of these members
+pub object-text : {A : Type 0} (value_of : A → Json) (members : List (List ℕ × A))
+    → json_text (j.Object (map (λ m. (m.0, value_of m.1)) members)) ≡ codes "{" ++ list_left (named_by value_of) (codes "}") true members
+object-text value_of members = grind (arith, text-object, fused, one_member)
+
+-- an array of two numbers
+two : (x y : List ℕ) → (codes "[" ++ (x ++ (codes "," ++ (y ++ [])))) ++ codes "]" ≡ codes "[" ++ (x ++ (codes "," ++ (y ++ codes "]")))
+two x y = simp append_assoc
+
+pub pair-text : (x y : List ℕ) → json_text (j.Array (j.Number x ∷ (j.Number y ∷ [])))
+    ≡ codes "[" ++ (json_text (j.Number x) ++ (codes "," ++ (json_text (j.Number y) ++ codes "]")))
+pair-text x y = text-array (j.Number x ∷ (j.Number y ∷ [])) ∙ two (json_text (j.Number x)) (json_text (j.Number y))

@@ -1,0 +1,3 @@
+pub use Rattle.byte_ends.specs.Continues
+pub use Rattle.byte_ends.specs.Writes
+pub use Rattle.json_value.specs.Text

@@ -1,0 +1,19 @@
+//! The writers of JSON values (RFC 8259), of strings, of numbers of units, and of lists whatever their items are.
+//! It stands on `json_value`, whose `specs/Text.antt` says which text is written for a value, and on `byte_ends` for the sinks that
+//! it writes to. The layers above write texts by `put_text`, values by `put_json` and `put_members`, numbers of units by
+//! `put_units` and `put_decimal`, and lists of what they write themselves by `put_array` and `put_object`, over their own ways
+//! `PutValue`.
+#![tactic(auto)]
+
+mod list_writer;
+mod number_writer;
+mod short_text;
+mod text_writer;
+mod units_writer;
+mod value_writer;
+
+pub use list_writer::{ArrayOf, PutValue, put_array, put_object};
+pub use number_writer::{put_decimal, put_pair};
+pub use text_writer::{put_text, write_text};
+pub use units_writer::{print_units, put_units};
+pub use value_writer::{put_json, put_members, put_name, write_json, write_members};

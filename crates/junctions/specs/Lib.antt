@@ -1,0 +1,7 @@
+pub mod Among
+pub mod Answers
+pub mod Cleaning
+pub mod Cuts
+pub mod Gathering
+pub mod Notes
+pub mod Visits

@@ -1,0 +1,3 @@
+pub mod LayersDecided
+pub mod NamesFound
+pub mod SourcesRead

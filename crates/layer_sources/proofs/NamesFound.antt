@@ -1,0 +1,56 @@
+-- The names of layers, as a loop goes over them.
+use Rattle.std.proofs.Common.{◌≡◌, ℕ, ◌+◌, ◌<◌, ◌≤◌, ◌==◌, true, false, List, [], ◌∷◌, ◌++◌, length, get_or, drop, take, map, sym, ap, ◌∙◌, subst, refl, Option, Some, None, Ok, Err, arith}
+use Rattle.std.proofs.lemmas.Bool.{eqb-true}
+use Rattle.std.proofs.lemmas.List.{length-map, length-take-le, map-append, drop_all}
+use Rattle.inputs.specs.declared.fault.BuildFault.{BuildFault}
+use Rattle.inputs.specs.declared.fault.BuildFault.TheVariants.{EmptyName, DuplicateName}
+use Rattle.layer_sources.specs.Names.{is_among, fault_of_name, or_else, name_fault_behind, IsRefusedFor}
+use Rattle.list_laws.proofs.Lists.{drop_here, take_here}
+
+empty_fault : (before : List (List ℕ)) (name : List ℕ) → (length name == 0) ≡ true → fault_of_name before name ≡ Some (EmptyName (length before))
+empty_fault before [] h = refl
+empty_fault before (c ∷ cs) h = let e : length (c ∷ cs) ≡ 0 = eqb-true (length (c ∷ cs)) 0 h in absurd (omega arith)
+
+among_fault : (before : List (List ℕ)) (name : List ℕ) → (length name == 0) ≡ false → is_among name before ≡ true → fault_of_name before name ≡ Some (DuplicateName (length before))
+among_fault before [] h a = cc
+among_fault before (c ∷ cs) h a = rw a refl
+
+no_fault : (before : List (List ℕ)) (name : List ℕ) → (length name == 0) ≡ false → is_among name before ≡ false → fault_of_name before name ≡ None
+no_fault before [] h a = cc
+no_fault before (c ∷ cs) h a = rw a refl
+
+refused : (whole : Option BuildFault) (e : BuildFault) → whole ≡ Some e → IsRefusedFor whole (Err e)
+refused whole e h = subst (λ z. IsRefusedFor z (Err e)) (sym h) refl
+
+module _ {A : Type 0} (name_of : A → List ℕ) (xs : List A) (i : ℕ) (whole : Option BuildFault)
+    (so_far : name_fault_behind (map name_of (take i xs)) (map name_of (drop i xs)) ≡ whole) where
+  module _ (x : A) (lt : i < length xs) (item : x ≡ get_or xs i x) where
+    front : List (List ℕ)
+    front = map name_of (take i xs)
+
+    unfolded : or_else (fault_of_name (map name_of (take i xs)) (name_of x)) (name_fault_behind (map name_of (take i xs) ++ name_of x ∷ []) (map name_of (drop (i + 1) xs))) ≡ whole
+    unfolding name_fault_behind
+    unfolded = sym (ap (λ z. name_fault_behind (map name_of (take i xs)) (map name_of z)) (drop_here xs i x lt item)) ∙ so_far
+
+    front-length : length (map name_of (take i xs)) ≡ i
+    front-length = length-map (take i xs) name_of ∙ length-take-le i xs (omega arith)
+
+    found : (e : BuildFault) → fault_of_name (map name_of (take i xs)) (name_of x) ≡ Some e → whole ≡ Some e
+    found e h = sym unfolded ∙ ap (λ z. or_else z (name_fault_behind (map name_of (take i xs) ++ name_of x ∷ []) (map name_of (drop (i + 1) xs)))) h
+
+    pub empty_name : (length (name_of x) == 0) ≡ true → IsRefusedFor whole (Err (EmptyName i))
+    empty_name h = refused whole (EmptyName i) (found (EmptyName i) (empty_fault (map name_of (take i xs)) (name_of x) h ∙ ap (λ n. Some (EmptyName n)) front-length))
+
+    pub doubled_name : (length (name_of x) == 0) ≡ false → is_among (name_of x) (map name_of (take i xs)) ≡ true → IsRefusedFor whole (Err (DuplicateName i))
+    doubled_name h a = refused whole (DuplicateName i) (found (DuplicateName i) (among_fault (map name_of (take i xs)) (name_of x) h a ∙ ap (λ n. Some (DuplicateName n)) front-length))
+
+    pub goes_on : (length (name_of x) == 0) ≡ false → is_among (name_of x) (map name_of (take i xs)) ≡ false
+        → name_fault_behind (map name_of (take (i + 1) xs)) (map name_of (drop (i + 1) xs)) ≡ whole
+    goes_on h a =
+        ap (λ z. name_fault_behind z (map name_of (drop (i + 1) xs))) (ap (map name_of) (take_here xs i x lt item) ∙ map-append name_of (take i xs) (x ∷ []))
+        ∙ sym (ap (λ z. or_else z (name_fault_behind (map name_of (take i xs) ++ name_of x ∷ []) (map name_of (drop (i + 1) xs)))) (no_fault (map name_of (take i xs)) (name_of x) h a))
+        ∙ unfolded
+
+  pub no_more : length xs ≤ i → IsRefusedFor whole (Ok tt)
+  unfolding name_fault_behind
+  no_more le = subst (λ z. IsRefusedFor z (Ok tt)) (ap (λ z. name_fault_behind (map name_of (take i xs)) (map name_of z)) (sym (drop_all i xs le)) ∙ so_far) refl

@@ -1,0 +1,4 @@
+pub mod Names
+pub mod Outcomes
+pub mod Reading
+pub mod Sources

@@ -1,0 +1,33 @@
+-- Which names of layers are refused.
+use Rattle.std.specs.Prelude.{◌≡◌, ℕ, Bool, false, ◌||◌, Result, Ok, Err, List, [], ◌∷◌, ◌++◌, length, Option, Some, None, bytes_eq, if◌then◌else◌}
+use Rattle.inputs.specs.declared.fault.BuildFault.{BuildFault}
+use Rattle.inputs.specs.declared.fault.BuildFault.TheVariants.{EmptyName, DuplicateName}
+
+-- one of the names is this one
+abbrev pub is_among : List ℕ → List (List ℕ) → Bool
+is_among name [] = false
+is_among name (other ∷ others) = bytes_eq other name || is_among name others
+
+-- the fault of this name behind those before it
+abbrev pub fault_of_name : List (List ℕ) → List ℕ → Option BuildFault
+fault_of_name before [] = Some (EmptyName (length before))
+fault_of_name before (c ∷ cs) = if is_among (c ∷ cs) before then Some (DuplicateName (length before)) else None
+
+-- it, or else the other
+abbrev pub or_else : {A : Type 0} → Option A → Option A → Option A
+or_else None other = other
+or_else (Some x) other = Some x
+
+-- the first fault of the names from here on, where these stand before
+unfoldable pub name_fault_behind : List (List ℕ) → List (List ℕ) → Option BuildFault
+name_fault_behind before [] = None
+name_fault_behind before (name ∷ names) = or_else (fault_of_name before name) (name_fault_behind (before ++ name ∷ []) names)
+
+-- the first of the names that is empty or stands before already
+abbrev pub name_fault : List (List ℕ) → Option BuildFault
+name_fault names = name_fault_behind [] names
+
+-- the answer is the fault, or there is none
+abbrev pub IsRefusedFor : Option BuildFault → Result (Unit {0}) BuildFault → Type 0
+IsRefusedFor None r = r ≡ Ok tt
+IsRefusedFor (Some e) r = r ≡ Err e

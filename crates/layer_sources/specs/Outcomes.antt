@@ -1,0 +1,84 @@
+-- What the bytes of all layers come to.
+use Rattle.std.specs.Prelude.{◌≡◌, ℕ, suc, Bool, List, [], ◌∷◌, Some, Result, Ok, Err}
+use Rattle.byte_ends.specs.declared.source.ReadFault.TheVariants as read
+use Rattle.decimal_json.specs.declared.fault.JsonFault.{JsonFault}
+use Rattle.json_value.specs.declared.json.Json.{Json}
+use Rattle.geojson_types.specs.declared.counts.Counts.{Counts}
+use Rattle.geojson_types.specs.Features.{Featured}
+use Rattle.geojson_model.specs.declared.fault.GeoFault.{GeoFault}
+use Rattle.geojson_model.specs.Layers.{layer}
+use Rattle.inputs.specs.declared.fault.BuildFault.{BuildFault}
+use Rattle.inputs.specs.declared.fault.BuildFault.TheVariants.{EmptyName, DuplicateName, Read, Json as Text, Geo, Write, Memory, NotYet}
+use Rattle.inputs.specs.Texts.{BytesComeTo, plain_text_fault}
+use Rattle.layer_sources.specs.Reading.{layer_depth}
+use Rattle.layer_sources.specs.Sources.{Sources, Named}
+
+-- ---- one layer
+
+-- the features and counts of a layer, or the fault that it is refused with
+abbrev pub LayerOutcome : Type 0
+LayerOutcome = Result (List Featured × Counts) BuildFault
+
+abbrev pub of_layer : ℕ → Result (List Featured × Counts) GeoFault → LayerOutcome
+of_layer n (Err fault) = Err (Geo n fault)
+of_layer n (Ok r) = Ok r
+
+abbrev pub of_text : ℕ → Bool → Result Json JsonFault → LayerOutcome
+of_text n exact (Err fault) = Err (Text n fault)
+of_text n exact (Ok v) = of_layer n (layer exact v)
+
+-- the bytes of the layer of this number are too many, or else their text decides
+abbrev pub LayerComesTo : ℕ → Bool → List ℕ → LayerOutcome → Type 0
+LayerComesTo n exact bytes outcome = BytesComeTo layer_depth (Read n read.TooLong) (of_text n exact) bytes outcome
+
+-- ---- all layers
+
+-- all layers with their counts, or the first fault
+abbrev pub Outcome : Type 0
+Outcome = Result (Named × List Counts) BuildFault
+
+-- a layer before the others
+abbrev pub with_layer : List ℕ → List Featured × Counts → Outcome → Outcome
+with_layer name l (Err e) = Err e
+with_layer name l (Ok r) = Ok ((name, record { features = l.0 }) ∷ r.0, l.1 ∷ r.1)
+
+-- the first layer's fault, or what the others come to behind it
+abbrev pub Continues : List ℕ → LayerOutcome → (Outcome → Type 0) → Outcome → Type 0
+Continues name (Err e) others outcome = outcome ≡ Err e
+Continues name (Ok l) others outcome = (rest : Outcome) × others rest × (outcome ≡ with_layer name l rest)
+
+-- the bytes under these names come to this, where the first layer has this number
+abbrev pub AllComeTo : ℕ → Bool → List (List ℕ × List ℕ) → Outcome → Type 0
+AllComeTo n exact [] outcome = outcome ≡ Ok ([], [])
+AllComeTo n exact (b ∷ bs) outcome = (first : LayerOutcome) × LayerComesTo n exact b.1 first × Continues b.0 first (AllComeTo (suc n) exact bs) outcome
+
+-- the bytes under these names come to this
+abbrev pub ComesTo : Bool → List (List ℕ × List ℕ) → Outcome → Type 0
+ComesTo exact bs outcome = AllComeTo 0 exact bs outcome
+
+-- ---- faults
+
+-- the fault without the place and the reason in a malformed text, which nothing promises
+abbrev pub plain_fault : BuildFault → BuildFault
+plain_fault (Text i fault) = Text i (plain_text_fault fault)
+plain_fault (EmptyName i) = EmptyName i
+plain_fault (DuplicateName i) = DuplicateName i
+plain_fault (Read i fault) = Read i fault
+plain_fault (Geo i fault) = Geo i fault
+plain_fault (Write sent) = Write sent
+plain_fault Memory = Memory
+plain_fault NotYet = NotYet
+
+-- memory was refused, or a source failed
+abbrev pub IsOutsideRead : BuildFault → Type 0
+IsOutsideRead (Read i read.Read) = Unit {0}
+IsOutsideRead Memory = Unit {0}
+IsOutsideRead e = ⊥
+
+-- ---- sources
+
+-- the sources have these names, and these bytes left
+abbrev pub HaveBytes : Sources → List (List ℕ × List ℕ) → Type 0
+HaveBytes [] [] = Unit {0}
+HaveBytes (s ∷ ss) (b ∷ bs) = (b.0 ≡ s.0) × (s.1.left ≡ Some b.1) × HaveBytes ss bs
+HaveBytes ss bs = ⊥

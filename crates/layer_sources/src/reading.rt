@@ -1,0 +1,84 @@
+// Reading layers.
+ghost use Rattle.std.specs.Prelude.{◌≡◌, MatchResult};
+ghost use Rattle.layer_sources.specs.Reading.{IsLayerOf, ReadsLayer};
+ghost use Rattle.layer_sources.specs.Sources.{plus, AllReadTo, FailsToReadAll};
+
+use byte_ends::{Feed, MAX_INPUT, ReadFault, Source, read_all};
+use decimal_json::{JsonFault, LAYER_DEPTH, parse};
+use geojson_model::{Counts, GeoFaultKind, Layer, read_layer};
+use inputs::BuildFault;
+use json_value::OwnText;
+use std::alloc::Global;
+
+/// The layer of this number that the bytes spell, and what was counted in it.
+fn layer_of(
+    alloc: Global,
+    bytes: &[u8],
+    layer: usize,
+    exact: bool,
+) -> Result<(Layer, Counts), BuildFault>
+    ensures { IsLayerOf layer exact bytes.now result }
+{
+    let value = match parse(alloc, bytes, LAYER_DEPTH) {
+        Ok(value) => value,
+        Err(JsonFault::Memory) => return Err(BuildFault::Memory),
+        Err(fault) => return Err(BuildFault::Json { layer, fault }),
+    };
+    match read_layer(alloc, value, exact) {
+        Ok(read) => Ok(read),
+        Err(fault) => {
+            if fault.kind == GeoFaultKind::Memory {
+                return Err(BuildFault::Memory);
+            }
+            Err(BuildFault::Geo { layer, fault })
+        }
+    }
+}
+
+/// Reads a source to its end, and gives the layer of this number that its bytes spell.
+fn read_source<R: Feed>(
+    alloc: Global,
+    source: &mut Source<R>,
+    layer: usize,
+    exact: bool,
+) -> Result<(Layer, Counts), BuildFault>
+    ensures { ReadsLayer layer exact source.old source.new result }
+{
+    let bytes = match read_all(alloc, source, MAX_INPUT) {
+        Ok(bytes) => bytes,
+        Err(ReadFault::Memory) => return Err(BuildFault::Memory),
+        Err(fault) => return Err(BuildFault::Read { layer, fault }),
+    };
+    layer_of(alloc, &bytes, layer, exact)
+}
+
+/// The counts of two parts, added.
+fn sum(one: Counts, other: Counts) -> Counts
+    ensures { result ≡ plus one other }
+{
+    Counts {
+        rounded: one.rounded.saturating_add(other.rounded),
+        extra: one.extra.saturating_add(other.extra),
+        empty: one.empty.saturating_add(other.empty),
+    }
+}
+
+/// Reads each source to its end, one after another, and gives the layers that they spell under their names, and what was
+/// counted in all of them.
+pub fn read_layers<R: Feed>(
+    alloc: Global,
+    sources: &mut [(OwnText, Source<R>)],
+    exact: bool,
+) -> Result<(Vec<(OwnText, Layer)>, Counts), BuildFault>
+    ensures { MatchResult result (λ r. AllReadTo exact sources.old sources.new r.0.items r.1) (λ e. FailsToReadAll exact sources.old sources.new e) }
+{
+    let mut layers = Vec::new(alloc);
+    let mut counts = Counts::none();
+    'sources: for layer in 0..sources.len() {
+        let (read, counted) = read_source(alloc, &mut sources[layer].1, layer, exact)?;
+        let name = sources[layer].0.copy(alloc)?;
+        layers.push((name, read))?;
+        counts = sum(counts, counted);
+    }
+    Ok((layers, counts))
+}

@@ -1,6 +1,0 @@
-use Rattle.geojson_types.specs.Rings.{same}
-use Rattle.linework.proofs.neighbors.is_same.Goals as goal
-
-pub returns : goal.returns
-unfolding same
-returns c = c.eq.ensures

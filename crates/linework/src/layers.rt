@@ -1,0 +1,42 @@
+// The linework of layers.
+ghost use Rattle.std.specs.Prelude.{◌≡◌, IfOk, map};
+ghost use Rattle.linework.specs.Linework.{linework, collapsed};
+
+use crate::gathering::add_layer;
+use geojson_types::Layer;
+use junctions::Lines;
+use owned_values::{Memory, OwnText};
+use std::alloc::Global;
+
+/// What is made of the lines and rings of layers.
+pub trait OfLayers: Sized {
+    /// The linework of the layers.
+    fn of(alloc: Global, layers: &[Layer]) -> Result<Self, Memory>;
+
+    /// The linework of layers with names.
+    fn of_named(alloc: Global, layers: &[(OwnText, Layer)]) -> Result<Self, Memory>;
+}
+
+impl OfLayers for Lines {
+    fn of(alloc: Global, layers: &[Layer]) -> Result<Lines, Memory>
+        ensures strokes { IfOk result (λ lines. lines.strokes ≡ linework layers.now) }
+        ensures dropped { IfOk result (λ lines. lines.dropped ≡ collapsed layers.now) }
+    {
+        let mut lines = Lines::none(alloc);
+        for (number, layer) in layers.iter().enumerate() {
+            add_layer(alloc, number, layer.features.as_slice(), &mut lines)?;
+        }
+        Ok(lines)
+    }
+
+    fn of_named(alloc: Global, layers: &[(OwnText, Layer)]) -> Result<Lines, Memory>
+        ensures strokes { IfOk result (λ lines. lines.strokes ≡ linework (map (λ l. l.1) layers.now)) }
+        ensures dropped { IfOk result (λ lines. lines.dropped ≡ collapsed (map (λ l. l.1) layers.now)) }
+    {
+        let mut lines = Lines::none(alloc);
+        for (number, layer) in layers.iter().enumerate() {
+            add_layer(alloc, number, layer.1.features.as_slice(), &mut lines)?;
+        }
+        Ok(lines)
+    }
+}

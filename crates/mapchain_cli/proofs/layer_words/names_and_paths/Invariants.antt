@@ -1,6 +1,0 @@
-use Rattle.std.proofs.Common.{◌≡◌, map, take}
-use Rattle.mapchain_cli.specs.LayerWords.{name_of}
-use Rattle.mapchain_cli.proofs.layer_words.names_and_paths.Given as goal
-
-abbrev pub invariant-words : goal.invariant-words
-invariant-words l = map (λ layer. layer.0.now) l.layers.items ≡ map (λ word. name_of word.now) (take l.layer l.words)

@@ -1,0 +1,53 @@
+-- What is counted in a topology, and its text: a line each, ended by a line feed.
+use Rattle.std.specs.Prelude.{ℕ, Bool, true, false, List, [], ◌∷◌, ◌++◌, Option, Some, None, length, map, sum, codes}
+use Rattle.byte_ends.specs.Ends.{saturated}
+use Rattle.json_value.specs.Text.{quoted}
+use Rattle.geometry.specs.Points.{Point}
+use Rattle.topojson_types.specs.Topologies.{Contents, object_features}
+use Rattle.topojson_types.specs.declared.object.TopoObject.{TopoObject}
+use Rattle.reports.specs.declared.summary.Summary.{Summary}
+use Rattle.reports.specs.Reports.{line_text}
+
+-- ---- what is counted
+
+-- the positions of all arcs
+abbrev pub positions_in : List (List Point) → ℕ
+positions_in arcs = saturated (sum (map length arcs))
+
+-- there is one
+abbrev pub is_there : {A : Type 0} → Option A → Bool
+is_there None = false
+is_there (Some x) = true
+
+-- the topology has a transform (TopoJSON 1.0, section 2.1.2)
+abbrev pub has_grid : Contents → Bool
+has_grid t = is_there t.transform
+
+-- an object's name and the number of its features
+abbrev pub counted : List ℕ × TopoObject → List ℕ × ℕ
+counted o = (o.0, length (object_features o.1))
+
+-- the objects in order with their features, the arcs, the positions in them, and whether there is a grid
+abbrev pub summary_of : Contents → Summary
+summary_of t = record { objects = map counted t.objects; arcs = length t.arcs; positions = positions_in t.arcs; grid = has_grid t }
+
+-- ---- its text
+
+-- an object's name as a JSON text, and the number of its features
+abbrev pub object_text : List ℕ × ℕ → List ℕ
+object_text o = line_text (quoted o.0) o.1
+
+abbrev pub objects_text : List (List ℕ × ℕ) → List ℕ
+objects_text [] = []
+objects_text (o ∷ os) = object_text o ++ objects_text os
+
+abbrev pub grid_text : Bool → List ℕ
+grid_text true = codes "grid yes\n"
+grid_text false = codes "grid no\n"
+
+-- the arcs, the positions in them, and whether there is a grid
+abbrev pub totals_text : Summary → List ℕ
+totals_text s = (line_text (codes "arcs") s.arcs ++ line_text (codes "positions") s.positions) ++ grid_text s.grid
+
+abbrev pub summary_text : Summary → List ℕ
+summary_text s = (line_text (codes "objects") (length s.objects) ++ objects_text s.objects) ++ totals_text s

@@ -1,0 +1,67 @@
+// What is counted in a topology.
+ghost use Rattle.std.specs.Prelude.{◌≡◌, IfOk, length, map};
+ghost use Rattle.topojson_types.specs.Topologies.{object_features};
+ghost use Rattle.reports.specs.Summaries.{counted, has_grid};
+ghost use Rattle.reports.specs.Summaries as spec;
+
+use crate::summary::Summary;
+use byte_ends::Memory;
+use json_value::{Items, OwnText};
+use std::alloc::Global;
+use topojson_types::{Cell, TopoObject, Topology};
+
+/// The positions of all arcs: a count that stays at `u64::MAX` once it is there.
+pub fn positions_in(arcs: &[Items<Cell>]) -> u64
+    ensures { result ≡ spec.positions_in arcs.now }
+{
+    let mut kept: u64 = 0;
+    'arcs: for arc in arcs {
+        kept = kept.saturating_add(arc.len() as u64);
+    }
+    kept
+}
+
+/// How many features an object is.
+fn features_in(object: &TopoObject) -> u64
+    ensures { result ≡ length (object_features object.now) }
+{
+    match object {
+        TopoObject::One(_) => 1,
+        TopoObject::Many(features) => features.len() as u64,
+    }
+}
+
+/// The name of each object and the number of its features.
+fn counted_objects(
+    alloc: Global,
+    objects: &[(OwnText, TopoObject)],
+) -> Result<Vec<(OwnText, u64)>, Memory>
+    ensures { IfOk result (λ v. v.items ≡ map counted objects.now) }
+{
+    let mut all = Vec::new(alloc);
+    'objects: for object in objects {
+        let name = object.0.copy(alloc)?;
+        all.push((name, features_in(&object.1)))?;
+    }
+    Ok(all)
+}
+
+/// Whether there is a transform (TopoJSON 1.0, section 2.1.2).
+fn has_transform(topology: &Topology) -> bool
+    ensures { result ≡ has_grid topology.now }
+{
+    topology.transform().is_some()
+}
+
+/// The summary of a topology.
+pub fn summary_of(alloc: Global, topology: &Topology) -> Result<Summary, Memory>
+    ensures { IfOk result (λ summary. summary ≡ spec.summary_of topology.now) }
+{
+    let objects = counted_objects(alloc, topology.objects())?;
+    Ok(Summary {
+        objects: Items::of(objects),
+        arcs: topology.arcs().len() as u64,
+        positions: positions_in(topology.arcs()),
+        grid: has_transform(topology),
+    })
+}

@@ -1,0 +1,140 @@
+-- The bytes of a file come to one outcome, and what `stat` and `to_geo` say of their answers makes these follow that outcome.
+use Rattle.std.proofs.Common.{◌≡◌, ◌⊎◌, ℕ, ◌<◌, List, length, ◌∙◌, ap, subst, refl, inl, inr, Some, Result, Ok, Err}
+use Rattle.std.specs.Prelude.{IfSome}
+use Rattle.byte_ends.specs.Ends.{Fed, Drained}
+use Rattle.byte_ends.specs.Writes.{WritesAll}
+use Rattle.byte_ends.specs.declared.source.ReadFault.TheVariants as read
+use Rattle.decimal_json.specs.declared.fault.JsonFault.{JsonFault}
+use Rattle.decimal_json.specs.declared.fault.JsonFault.TheVariants as text
+use Rattle.json_value.specs.declared.json.Json.{Json as Value}
+use Rattle.geojson_types.specs.declared.layer.FeatureSet.{FeatureSet}
+use Rattle.topojson_types.specs.Topologies.{Contents}
+use Rattle.inputs.specs.declared.file_fault.FileFault.{FileFault}
+use Rattle.inputs.specs.declared.file_fault.FileFault.TheVariants.{Read, Json, Topo, NoObject, Write, Memory}
+use Rattle.reports.specs.declared.summary.Summary.{Summary}
+use Rattle.topology_files.specs.FileOutcomes.{summarised, text_if_any, object_text, of_topology, of_file, FileComesTo, plain_file_fault, IsOutsideGiven, IsOutsideFile, FollowsSummary, FollowsText}
+use Rattle.topology_files.specs.Files.{topology_depth, IsTopologyRead, FailsToGive}
+use Rattle.topology_files.specs.Geo.{features_text, FailsToDecode, GivesFeatures, SendsText}
+use Rattle.inputs.specs.Texts.{max_input}
+use Rattle.reports.specs.Summaries.{summary_of}
+use Rattle.inputs.proofs.BytesDecided.{plain_text, one_outcome, text_comes}
+
+-- ---- one outcome
+
+abbrev plain : {A : Type 0} → Result A FileFault → Result A FileFault
+plain (Ok a) = Ok a
+plain (Err e) = Err (plain_file_fault e)
+
+plain-of_file : {A : Type 0} (asked : Contents → Result A FileFault) (t : Result Value JsonFault) → plain (of_file asked t) ≡ plain (of_file asked (plain_text t))
+plain-of_file asked (Ok v) = refl
+plain-of_file asked (Err (text.NotUtf8 at)) = refl
+plain-of_file asked (Err (text.Malformed at why)) = refl
+plain-of_file asked (Err text.Memory) = refl
+
+one_file : {A : Type 0} (asked : Contents → Result A FileFault) (b : List ℕ) (x y : Result A FileFault) → FileComesTo asked b x → FileComesTo asked b y → plain x ≡ plain y
+one_file asked b x y h k = one_outcome topology_depth (Read read.TooLong) (of_file asked) plain (plain-of_file asked) b x y h k
+
+-- ---- what an answer says of the bytes
+
+topology_comes : {A : Type 0} (asked : Contents → Result A FileFault) (old new : Fed) (b : List ℕ) (t : Contents) → old.left ≡ Some b → IsTopologyRead old new t → FileComesTo asked b (asked t)
+topology_comes asked old new b t e is =
+    subst (FileComesTo asked b) (ap (of_topology asked) is.spells.stands)
+    (text_comes topology_depth (Read read.TooLong) (of_file asked) old new b is.bytes (Ok is.spells.value) e is.read (is.spells.utf8, is.spells.spelled))
+
+fails_come : {A : Type 0} (asked : Contents → Result A FileFault) (old new : Fed) (b : List ℕ) (e : FileFault) → old.left ≡ Some b → FailsToGive old new e → IsOutsideGiven e ⊎ FileComesTo asked b (Err e)
+fails_come asked old new b (Read read.Read) e f = inl tt
+fails_come asked old new b (Read read.TooLong) e f = inr (inl (subst (λ z. IfSome z (λ left. max_input < length left)) e f.1, refl))
+fails_come asked old new b (Read read.Memory) e f = absurd f
+fails_come asked old new b Memory e f = inl tt
+fails_come asked old new b (Json fault) e f = inr (text_comes topology_depth (Read read.TooLong) (of_file asked) old new b f.0 (Err fault) e f.1 f.2)
+fails_come asked old new b (Topo fault) e f =
+    inr (subst (FileComesTo asked b) (ap (of_topology asked) f.2.4) (text_comes topology_depth (Read read.TooLong) (of_file asked) old new b f.0 (Ok f.2.2) e f.1 (f.2.1, f.2.3)))
+fails_come asked old new b NoObject e f = absurd f.2
+fails_come asked old new b (Write sent) e f = absurd f.2
+
+-- ---- the summary follows
+
+summary_fault : (outcome : Result Summary FileFault) (e : FileFault) → plain (Err e) ≡ plain outcome → FollowsSummary outcome (Err e)
+summary_fault (Ok s) e h = absurd cc
+summary_fault (Err f) e h = inl cc
+
+pub summary_outside : (outcome : Result Summary FileFault) (e : FileFault) → IsOutsideGiven e → FollowsSummary outcome (Err e)
+summary_outside (Ok s) e h = h
+summary_outside (Err f) e h = inr h
+
+summary_told : (outcome : Result Summary FileFault) (s summary : Summary) → plain (Ok s) ≡ plain outcome → summary ≡ s → FollowsSummary outcome (Ok summary)
+summary_told (Ok r) s summary h told = let e : s ≡ r = cc in told ∙ e
+summary_told (Err f) s summary h told = absurd cc
+
+module _ (old new : Fed) (b : List ℕ) (left : old.left ≡ Some b) (outcome : Result Summary FileFault) (comes : FileComesTo summarised b outcome) where
+  -- the summary of the topology that was read
+  pub summary_decides : (t : Contents) (summary : Summary) → IsTopologyRead old new t → summary ≡ summary_of t → FollowsSummary outcome (Ok summary)
+  summary_decides t summary is told = summary_told outcome (summary_of t) summary (one_file summarised b (Ok (summary_of t)) outcome (topology_comes summarised old new b t left is) comes) told
+
+  -- why there is none
+  pub summary_fails : (e : FileFault) → FailsToGive old new e → FollowsSummary outcome (Err e)
+  summary_fails e fails = on (fails_come summarised old new b e left fails)
+    where
+      on : IsOutsideGiven e ⊎ FileComesTo summarised b (Err e) → FollowsSummary outcome (Err e)
+      on (inl out) = summary_outside outcome e out
+      on (inr all) = summary_fault outcome e (one_file summarised b (Err e) outcome all comes)
+
+-- ---- the text follows
+
+is_outside : (e : FileFault) → IsOutsideGiven e → IsOutsideFile e
+is_outside (Read r) h = h
+is_outside Memory h = h
+is_outside (Json r) h = absurd h
+is_outside (Topo r) h = absurd h
+is_outside NoObject h = absurd h
+is_outside (Write sent) h = tt
+
+module _ (sink_old sink_new : Drained) where
+  text_fault : (outcome : Result (List ℕ) FileFault) (e : FileFault) → plain (Err e) ≡ plain outcome → FollowsText sink_old sink_new outcome (Err e)
+  text_fault (Ok s) e h = absurd cc
+  text_fault (Err f) e h = inl cc
+
+  text_outside : (outcome : Result (List ℕ) FileFault) (e : FileFault) → IsOutsideGiven e → FollowsText sink_old sink_new outcome (Err e)
+  text_outside (Ok s) e h = is_outside e h
+  text_outside (Err f) e h = inr h
+
+  text_written : (outcome : Result (List ℕ) FileFault) (t : List ℕ) (sent : ℕ) → plain (Ok t) ≡ plain outcome → WritesAll sink_old sink_new 0 t sent → FollowsText sink_old sink_new outcome (Ok sent)
+  text_written (Ok r) t sent h w = let e : t ≡ r = cc in subst (λ z. WritesAll sink_old sink_new 0 z sent) e w
+  text_written (Err f) t sent h w = absurd cc
+
+  text_cut : (outcome : Result (List ℕ) FileFault) (t : List ℕ) (sent : ℕ) → plain (Ok t) ≡ plain outcome → FollowsText sink_old sink_new outcome (Err (Write sent))
+  text_cut (Ok r) t sent h = tt
+  text_cut (Err f) t sent h = absurd cc
+
+  module _ (name : List ℕ) (old new : Fed) (b : List ℕ) (left : old.left ≡ Some b) (outcome : Result (List ℕ) FileFault) (comes : FileComesTo (object_text name) b outcome) where
+    failed : (e : FileFault) → FailsToGive old new e → FollowsText sink_old sink_new outcome (Err e)
+    failed e fails = on (fails_come (object_text name) old new b e left fails)
+      where
+        on : IsOutsideGiven e ⊎ FileComesTo (object_text name) b (Err e) → FollowsText sink_old sink_new outcome (Err e)
+        on (inl out) = text_outside outcome e out
+        on (inr all) = text_fault outcome e (one_file (object_text name) b (Err e) outcome all comes)
+
+    -- the topology that was read decides
+    read_decides : (t : Contents) (r : Result (List ℕ) FileFault) → IsTopologyRead old new t → object_text name t ≡ r → plain r ≡ plain outcome
+    read_decides t r is e =
+        one_file (object_text name) b r outcome (subst (FileComesTo (object_text name) b) e (topology_comes (object_text name) old new b t left is)) comes
+
+    -- where no features are had, nothing is written
+    pub found_fails : (e : FileFault) → FailsToDecode name old new e → FollowsText sink_old sink_new outcome (Err e)
+    found_fails NoObject is = text_fault outcome NoObject (read_decides is.contents (Err NoObject) is.read (ap text_if_any is.absent))
+    found_fails (Write sent) is = failed (Write sent) is
+    found_fails Memory is = failed Memory is
+    found_fails (Read r) is = failed (Read r) is
+    found_fails (Json r) is = failed (Json r) is
+    found_fails (Topo r) is = failed (Topo r) is
+
+    -- the text of the features that are had is written, or a front of it
+    pub sent_decides : (features : FeatureSet) → GivesFeatures name old new features → (r : Result ℕ FileFault) → SendsText sink_old sink_new (features_text features) r
+        → FollowsText sink_old sink_new outcome r
+    sent_decides features is (Ok sent) w = text_written outcome (features_text features) sent (read_decides is.contents (Ok (features_text features)) is.read (ap text_if_any is.found)) w
+    sent_decides features is (Err (Write sent)) w = text_cut outcome (features_text features) sent (read_decides is.contents (Ok (features_text features)) is.read (ap text_if_any is.found))
+    sent_decides features is (Err NoObject) w = absurd w
+    sent_decides features is (Err Memory) w = absurd w
+    sent_decides features is (Err (Read r)) w = absurd w
+    sent_decides features is (Err (Json r)) w = absurd w
+    sent_decides features is (Err (Topo r)) w = absurd w

@@ -1,0 +1,2 @@
+pub mod FilesDecided
+pub mod Sent

@@ -1,0 +1,63 @@
+-- The topology that a file's bytes spell, or why they spell none.
+use Rattle.std.specs.Prelude.{◌≡◌, ◌≢◌, ℕ, List, Result, Ok, Err, IsUtf8}
+use Rattle.byte_ends.specs.Ends.{Fed}
+use Rattle.json_value.specs.declared.json.Json.{Json as Value}
+use Rattle.json_value.specs.Grammar.{Reads}
+use Rattle.geojson_types.specs.declared.counts.Counts.{Counts}
+use Rattle.topojson_types.specs.Topologies.{Contents}
+use Rattle.topojson_meaning.specs.declared.fault.TopoFault.TheVariants as topo
+use Rattle.topojson_meaning.specs.Topologies.{topology}
+use Rattle.inputs.specs.declared.file_fault.FileFault.{FileFault}
+use Rattle.inputs.specs.declared.file_fault.FileFault.TheVariants.{Read, Json, Topo, NoObject, Write, Memory}
+use Rattle.inputs.specs.Texts.{IsNoText, IsRead, FailsToEnd}
+use Rattle.reports.specs.declared.summary.Summary.{Summary}
+use Rattle.reports.specs.Summaries.{summary_of}
+
+-- how deep the arrays and objects of a topology may nest
+abbrev pub topology_depth : ℕ
+topology_depth = 255
+
+-- the bytes are UTF-8 and spell a JSON value (RFC 8259) that stands for this topology (TopoJSON 1.0); what is counted in it isn't told
+pub record SpellsTopology (bytes : List ℕ) (contents : Contents) : Type 0 where
+  pub utf8 : IsUtf8 bytes
+  pub value : Value
+  pub spelled : Reads topology_depth bytes value
+  pub counts : Counts
+  pub stands : topology value ≡ Ok (contents, counts)
+
+-- why the bytes spell no topology
+abbrev pub IsNoTopology : List ℕ → FileFault → Type 0
+IsNoTopology bytes (Json fault) = IsNoText topology_depth bytes fault
+IsNoTopology bytes (Topo fault) = (fault ≢ topo.Memory) × IsUtf8 bytes × (v : Value) × Reads topology_depth bytes v × (topology v ≡ Err fault)
+IsNoTopology bytes Memory = Unit {0}
+IsNoTopology bytes (Read fault) = ⊥
+IsNoTopology bytes NoObject = ⊥
+IsNoTopology bytes (Write sent) = ⊥
+
+-- the answer for the bytes
+abbrev pub IsTopologyOf : List ℕ → Result Contents FileFault → Type 0
+IsTopologyOf bytes (Ok contents) = SpellsTopology bytes contents
+IsTopologyOf bytes (Err e) = IsNoTopology bytes e
+
+-- the source was read to its end, and its bytes spell this topology
+pub record IsTopologyRead (old new : Fed) (contents : Contents) : Type 0 where
+  pub bytes : List ℕ
+  pub read : IsRead old new bytes
+  pub spells : SpellsTopology bytes contents
+
+-- why no topology can be had of the source
+abbrev pub FailsToGive : Fed → Fed → FileFault → Type 0
+FailsToGive old new (Read fault) = FailsToEnd old new fault
+FailsToGive old new Memory = new.failures ≡ old.failures
+FailsToGive old new e = (bytes : List ℕ) × IsRead old new bytes × IsNoTopology bytes e
+
+-- the answer for the source
+abbrev pub ReadsTopology : Fed → Fed → Result Contents FileFault → Type 0
+ReadsTopology old new (Ok contents) = IsTopologyRead old new contents
+ReadsTopology old new (Err e) = FailsToGive old new e
+
+-- the source was read to its end, and this is the summary of the topology that its bytes spell
+pub record IsSummarised (old new : Fed) (summary : Summary) : Type 0 where
+  pub contents : Contents
+  pub read : IsTopologyRead old new contents
+  pub told : summary ≡ summary_of contents

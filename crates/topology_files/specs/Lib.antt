@@ -1,0 +1,3 @@
+pub mod FileOutcomes
+pub mod Files
+pub mod Geo

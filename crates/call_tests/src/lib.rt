@@ -9,6 +9,8 @@ mod json;
 #[cfg(test)]
 mod reading;
 #[cfg(test)]
+mod reducing;
+#[cfg(test)]
 mod unused;
 #[cfg(test)]
 mod walking;

@@ -1,0 +1,92 @@
+-- A heap of entries, some of them stale.
+use Rattle.std.proofs.Common.{◌≡◌, ℕ, suc, zero, false, List, [], ◌∷◌, ◌++◌, Option, Some, None, refl, ap, sym, ◌∙◌, subst, arith, ◌⊎◌, inl, inr}
+use Rattle.std.specs.List.{Contains}
+use Rattle.std.specs.List.Sorted.{IsPermutation}
+use Rattle.std.specs.Ordering.{is_lt}
+use Rattle.std.specs.BinaryHeap.{IsUpperBound}
+use Rattle.std.specs.declared.cmp.Reverse.{Reverse}
+use Rattle.std.proofs.lemmas.List.Elements.{All-contains, All-from_recursion}
+use Rattle.std.proofs.lemmas.List.Sorted.{Contains-permutation, IsPermutation-sym, IsPermutation-append_comm}
+use Rattle.effective_area.specs.declared.links.Link.{Link}
+use Rattle.effective_area.specs.declared.entry.Entry.{Entry}
+use Rattle.geometry.specs.Points.{Point}
+use Rattle.effective_area.specs.Links.{IsCurrent, IsUnder, NoneUnder, LeavesCurrent, HasCorners, entry_cmp, rentry_cmp, turned, entry_in, Pushed}
+
+pub contains_cases : {X : Type 0} (e : X) (ys : List X) (x : X) → Contains (e ∷ ys) x → (x ≡ e) ⊎ Contains ys x
+contains_cases e ys x (zero, h, k) = inl (sym k)
+contains_cases e ys x (suc j, h, k) = inr (j, omega arith, k)
+
+pub contains_later : {X : Type 0} (e : X) (ys : List X) (x : X) → Contains ys x → Contains (e ∷ ys) x
+contains_later e ys x (k, h, p) = (suc k, omega arith, p)
+
+pub contains_here : {X : Type 0} (e : X) (ys : List X) → Contains (e ∷ ys) e
+contains_here e ys = (0, omega arith, refl)
+
+module _ (links : List Link) (old mid new : List (Reverse Entry)) (e : Reverse Entry)
+    (left : LeavesCurrent links old None mid) (perm : IsPermutation mid (e ∷ new)) where
+  split : (d : Entry) → Contains mid (turned d) → (d ≡ e.0) ⊎ Contains new (turned d)
+  split d h = on (contains_cases e new (turned d) (Contains-permutation mid (e ∷ new) (turned d) perm h))
+    where
+      on : (turned d ≡ e) ⊎ Contains new (turned d) → (d ≡ e.0) ⊎ Contains new (turned d)
+      on (inl k) = inl (ap (λ x. x.0) k)
+      on (inr k) = inr k
+
+  stay : (d : Entry) → Contains old (turned d) → IsCurrent links d → Contains mid (turned d)
+  stay d h k = on (left.stays d h k)
+    where
+      on : (◌≡◌ {A = Option Entry} None (Some d)) ⊎ Contains mid (turned d) → Contains mid (turned d)
+      on (inl p) = absurd (cc)
+      on (inr p) = p
+
+  kept : (d : Entry) → Contains new (turned d) → Contains old (turned d)
+  kept d h = left.rest d (Contains-permutation (e ∷ new) mid (turned d) (IsPermutation-sym mid (e ∷ new) perm) (contains_later e new (turned d) h))
+
+  pub takes_current : IsUpperBound rentry_cmp e mid → LeavesCurrent links old (Some e.0) new
+  takes_current upper = record {
+    first = λ x d p h k.
+        let q : is_lt (entry_cmp d e.0) ≡ false = All-contains (λ (y : Reverse Entry). is_lt (rentry_cmp e y) ≡ false) mid (turned d) (All-from_recursion (λ (y : Reverse Entry). is_lt (rentry_cmp e y) ≡ false) mid upper) (stay d h k) in
+        let s : e.0 ≡ x = cc in
+        subst (λ z. is_lt (entry_cmp d z) ≡ false) s q;
+    stays = λ d h k. elim (split d (stay d h k)) [ inl p ↦ inl (ap (λ z. Some z) (sym p)) | inr p ↦ inr p ];
+    rest = kept;
+    member = λ x p.
+        let s : e.0 ≡ x = cc in
+        let here : Contains mid e = Contains-permutation (e ∷ new) mid e (IsPermutation-sym mid (e ∷ new) perm) (contains_here e new) in
+        subst (λ z. Contains old (turned z)) s (left.rest e.0 here);
+  }
+
+  pub drops_stale : (IsCurrent links e.0 → ⊥) → LeavesCurrent links old None new
+  drops_stale stale = record {
+    first = λ x d p h k. absurd (cc);
+    stays = λ d h k. elim (split d (stay d h k)) [ inl p ↦ absurd (stale (subst (λ z. IsCurrent links z) p k)) | inr p ↦ inr p ];
+    rest = kept;
+    member = λ x p. absurd (cc);
+  }
+
+pub nothing_left : (links : List Link) (old mid new : List (Reverse Entry)) → LeavesCurrent links old None mid → mid ≡ [] → new ≡ [] → LeavesCurrent links old None new
+nothing_left links old mid new h e f = subst (λ l. LeavesCurrent links old None l) (e ∙ sym f) h
+
+pub pushed : (t : ℕ) (ps : List Point) (links : List Link) (old new : List (Reverse Entry)) (v : ℕ) (e : Entry) →
+    IsPermutation (turned e ∷ old) new → IsUnder t ps links v e → Pushed t ps links old new v
+pushed t ps links old new v e perm u = record {
+  has = λ d h. Contains-permutation (turned e ∷ old) new (turned d) perm (contains_later (turned e) old (turned d) h);
+  here = λ _ _ _. subst (λ x. Contains new (turned x)) u.2 (Contains-permutation (turned e ∷ old) new (turned e) perm (contains_here (turned e) old));
+  only = λ d h. on d (contains_cases (turned e) old (turned d) (Contains-permutation new (turned e ∷ old) (turned d) (IsPermutation-sym (turned e ∷ old) new perm) h));
+}
+  where
+    on : (d : Entry) → (turned d ≡ turned e) ⊎ Contains old (turned d) → Contains old (turned d) ⊎ IsUnder t ps links v d
+    on d (inl k) = inr (subst (λ x. IsUnder t ps links v x) (sym (ap (λ (x : Reverse Entry). x.0) k)) u)
+    on d (inr k) = inl k
+
+pub put_behind : (t : ℕ) (ps : List Point) (links : List Link) (old new : List (Reverse Entry)) (v : ℕ) (e : Entry) →
+    new ≡ old ++ (turned e ∷ []) → IsUnder t ps links v e → Pushed t ps links old new v
+put_behind t ps links old new v e p u = pushed t ps links old new v e (subst (λ l. IsPermutation (turned e ∷ old) l) (sym p) (IsPermutation-append_comm (turned e ∷ []) old)) u
+
+pub none_pushed : (t : ℕ) (ps : List Point) (links : List Link) (items : List (Reverse Entry)) (v : ℕ) → NoneUnder t ps links v → Pushed t ps links items items v
+none_pushed t ps links items v n = record { has = λ d h. h; here = λ a b c. absurd (omega (arith, n a b, c)); only = λ d h. inl h }
+
+pub corners_moved : (t : ℕ) (ps : List Point) (links : List Link) (xs ys : List (Reverse Entry)) (n : ℕ) → IsPermutation xs ys → HasCorners t ps links xs n → HasCorners t ps links ys n
+corners_moved t ps links xs ys n p h = record {
+  has = λ v a b c. Contains-permutation xs ys (turned (entry_in ps links v)) p (h.has v a b c);
+  only = λ d k. h.only d (Contains-permutation ys xs (turned d) (IsPermutation-sym xs ys p) k);
+}

@@ -1,0 +1,23 @@
+use Rattle.std.proofs.Common.{◌≡◌, ◌-◌, ℕ, length, arith, subst}
+use Rattle.effective_area.specs.Links.{HasCorners}
+use Rattle.effective_area.proofs.Counts.{rose_then, rose_more}
+use Rattle.effective_area.proofs.Turns.{more_corners}
+use Rattle.effective_area.proofs.heap_links.first_entries.Goals as goal
+
+pub loop-i-preserved : goal.loop-i-preserved
+loop-i-preserved c = record {
+  counted = rose_then (c.loop-i.i - 1) 1 _ _ _ _ c.loop-i.invariant.counted c.put_corner.ensures.counted (omega (arith, c.loop-i.auto.i));
+  has = more_corners c.args.t c.args.arc.now c.args.links.now c.loop-i.entries.items c.put_corner.new.entries.items c.loop-i.i c.loop-i.invariant.has c.in_ok-put_corner.ensures.pushed
+      (omega (arith, c.loop-i.auto.i)) (omega (arith, c.loop-i-test.true, c.requires.first.size));
+}
+
+pub returns-clause-has : goal.returns-clause-has
+returns-clause-has c =
+    let e : c.loop-i.i ≡ length c.args.arc.now - 1 = omega (arith, c.loop-i-test.false, c.loop-i.auto.i-end, c.requires.two) in
+    subst (λ (n : ℕ). HasCorners c.args.t c.args.arc.now c.args.links.now c.loop-i.entries.items n) e c.loop-i.invariant.has
+
+pub returns-clause-counted : goal.returns-clause-counted
+returns-clause-counted c = rose_more (c.loop-i.i - 1) _ _ _ c.loop-i.invariant.counted (omega (arith, c.loop-i.auto.i-end, c.requires.two))
+
+pub returns-in_err-put_corner-clause-counted : goal.returns-in_err-put_corner-clause-counted
+returns-in_err-put_corner-clause-counted c = rose_then (c.loop-i.i - 1) 1 _ _ _ _ c.loop-i.invariant.counted c.put_corner.ensures.counted (omega (arith, c.loop-i.auto.i, c.loop-i-test.true))

@@ -1,0 +1,28 @@
+use Rattle.std.proofs.Common.{ℕ, ◌<◌, List, All, length, not, eqb, subst, sym}
+use Rattle.std.proofs.lemmas.List.Elements.{All-filter}
+use Rattle.effective_area.specs.Vertices.{seen}
+use Rattle.effective_area.proofs.Scan.{start_rest, turn_rest, stop_over, stop_none, stop_end, all_inside}
+use Rattle.effective_area.proofs.rescan.RescanReducer.kept.Goals as goal
+use Rattle.effective_area.proofs.rescan.RescanReducer.kept.Goals.{in_default-via-in-Some+else-corner-t, in_default-via-in_default}
+
+pub loop-turn-init : goal.loop-turn-init
+loop-turn-init c = record {
+  inside = let e = c.in_ok-present.ensures in subst (λ (is : List ℕ). All (λ i. i < length c.args.arc.now) is) (sym e) (all_inside (length c.args.arc.now));
+  rest = start_rest c.args.t c.args.arc.now c.in_ok-present.present.items c.in_ok-present.ensures;
+}
+
+pub returns-in_default : goal.returns-in_default
+returns-in_default c =
+    elim c.in_default.branch [
+      | in_default-via-in-Some+else-corner-t w ↦ stop_over c.args.t _ c.args.arc.now c.loop-turn.present.items c.deref.result.now (seen w.in-Some.corner) c.deref.ensures.value w.in-Some.ensures w.if-corner-t.false c.loop-turn.invariant.rest
+      | in_default-via-in_default w ↦ stop_none c.args.t _ c.args.arc.now c.loop-turn.present.items c.deref.result.now c.deref.ensures.value w.in_default.ensures c.loop-turn.invariant.rest
+    ]
+
+pub loop-turn-preserved : goal.loop-turn-preserved
+loop-turn-preserved c = record {
+  inside = subst (λ (is : List ℕ). All (λ i. i < length c.args.arc.now) is) (sym c.take_out.ensures) (All-filter (λ i. not (eqb i c.in-Some.corner.index)) (λ i. i < length c.args.arc.now) c.loop-turn.present.items c.loop-turn.invariant.inside);
+  rest = turn_rest c.args.t c.loop-turn._turn c.args.arc.now c.loop-turn.present.items c.deref.result.now c.take_out.new.present.items (seen c.in-Some.corner) c.loop-turn-test.true c.deref.ensures.value c.in-Some.ensures c.if-corner-t.true c.take_out.ensures c.loop-turn.invariant.rest;
+}
+
+pub returns : goal.returns
+returns c = stop_end c.args.t c.loop-turn._turn c.args.arc.now c.loop-turn.present.items c.loop-turn-test.false c.loop-turn.invariant.rest

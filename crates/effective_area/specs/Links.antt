@@ -1,0 +1,132 @@
+-- Links and entries.
+use Rattle.std.specs.Prelude.{pred, ◌≡◌, ◌≢◌, ℕ, ◌+◌, ◌<◌, ◌≤◌, ◌⊎◌, List, [], ◌∷◌, slice_index_or, Option, Some, Contains, length, false}
+use Rattle.std.specs.BinaryHeap.{IsUpperBound}
+use Rattle.std.specs.Ordering.{ordering_then, is_lt, nat_cmp}
+use Rattle.std.specs.declared.cmp.Ordering.{Ordering}
+use Rattle.std.specs.declared.cmp.Reverse.{Reverse}
+use Rattle.geometry.specs.Lists.{In}
+use Rattle.geometry.specs.Points.{Point}
+use Rattle.elimination_meaning.specs.Elimination.{corner_at, corner_cmp, eliminate, numbered}
+use Rattle.effective_area.specs.Vertices.{vertex_at, vertices, seen, candidate}
+use Rattle.effective_area.specs.declared.links.Link.{Link}
+use Rattle.effective_area.specs.declared.entry.Entry.{Entry}
+use Rattle.effective_area.specs.Chains.{Chain, last_of}
+
+abbrev pub first_link : Link
+first_link = record { before = 0; after = 0 }
+
+unfoldable pub after_in : List Link → ℕ → ℕ
+after_in links i = (slice_index_or links i first_link).after
+
+unfoldable pub before_in : List Link → ℕ → ℕ
+before_in links i = (slice_index_or links i first_link).before
+
+unfoldable pub entry_at : List Point → ℕ → ℕ → ℕ → Entry
+entry_at ps b i a = record { corner = candidate (corner_at (vertex_at ps b) (vertex_at ps i) (vertex_at ps a)); before = b; after = a }
+
+-- the entry's neighbours are the point's
+pub record IsCurrent (links : List Link) (e : Entry) : Type 0 where
+  pub within : e.corner.index < length links
+  pub before : before_in links e.corner.index ≡ e.before
+  pub after : after_in links e.corner.index ≡ e.after
+
+-- an entry that was once right, of a corner under the threshold
+pub record IsSound (t : ℕ) (ps : List Point) (e : Entry) : Type 0 where
+  pub is : e ≡ entry_at ps e.before e.corner.index e.after
+  pub before : e.before < e.corner.index
+  pub after : e.corner.index < e.after
+  pub within : e.after < length ps
+  pub under : e.corner.area < t
+
+-- what is present, and linked in order
+pub record IsLinked (links : List Link) (vs : List ℕ) : Type 0 where
+  pub chain : Chain (after_in links) (before_in links) 0 vs
+  pub last : last_of 0 vs + 1 ≡ length links
+  pub gone : (i : ℕ) → 0 < i → i < length links → (In i vs → ⊥) → before_in links i ≡ i
+
+abbrev pub entry_cmp : Entry → Entry → Ordering
+entry_cmp d e = ordering_then (corner_cmp (seen d.corner) (seen e.corner)) (ordering_then (nat_cmp d.before e.before) (nat_cmp d.after e.after))
+
+abbrev pub rentry_cmp : Reverse Entry → Reverse Entry → Ordering
+rentry_cmp d e = entry_cmp e.0 d.0
+
+abbrev pub turned : Entry → Reverse Entry
+turned e = record { 0 = e }
+
+-- the entry of an index with its present neighbours
+abbrev pub entry_in : List Point → List Link → ℕ → Entry
+entry_in ps links v = entry_at ps (before_in links v) v (after_in links v)
+
+-- each current corner under the threshold has its entry
+abbrev pub Covers : ℕ → List Point → List Link → List (Reverse Entry) → Type 0
+Covers t ps links items = (v : ℕ) → 0 < v → v + 1 < length links → before_in links v ≢ v → (entry_in ps links v).corner.area < t → Contains items (turned (entry_in ps links v))
+
+-- the first of the one list goes before all of the other
+abbrev pub GoesFirst : List (Reverse Entry) → List (Reverse Entry) → Type 0
+GoesFirst xs ys = ((e : Reverse Entry) → IsUpperBound rentry_cmp e xs → IsUpperBound rentry_cmp e ys) × (xs ≡ [] → ys ≡ [])
+
+pub record SetsAfter (old new : List Link) (at to : ℕ) : Type 0 where
+  pub same : length new ≡ length old
+  pub here : after_in new at ≡ to
+  pub others : (v : ℕ) → v ≢ at → after_in new v ≡ after_in old v
+  pub befores : (v : ℕ) → before_in new v ≡ before_in old v
+
+pub record SetsBefore (old new : List Link) (at to : ℕ) : Type 0 where
+  pub same : length new ≡ length old
+  pub here : before_in new at ≡ to
+  pub others : (v : ℕ) → v ≢ at → before_in new v ≡ before_in old v
+  pub afters : (v : ℕ) → after_in new v ≡ after_in old v
+
+pub record Unlinks (old new : List Link) (b i a : ℕ) : Type 0 where
+  pub same : length new ≡ length old
+  pub bridge : after_in new b ≡ a
+  pub others : (v : ℕ) → v ≢ b → after_in new v ≡ after_in old v
+  pub bridge_back : before_in new a ≡ b
+  pub out : before_in new i ≡ i
+  pub others_back : (v : ℕ) → v ≢ a → v ≢ i → before_in new v ≡ before_in old v
+
+-- what is taken is the first of the current entries, and those stay but for it
+pub record LeavesCurrent (links : List Link) (old : List (Reverse Entry)) (taken : Option Entry) (new : List (Reverse Entry)) : Type 0 where
+  pub first : (e d : Entry) → taken ≡ Some e → Contains old (turned d) → IsCurrent links d → is_lt (entry_cmp d e) ≡ false
+  pub stays : (d : Entry) → Contains old (turned d) → IsCurrent links d → (taken ≡ Some d) ⊎ Contains new (turned d)
+  pub rest : (d : Entry) → Contains new (turned d) → Contains old (turned d)
+  pub member : (e : Entry) → taken ≡ Some e → Contains old (turned e)
+
+-- the state of a reduction: vs is present after 0, and reducing it gives what is asked for
+pub record IsState (t : ℕ) (ps : List Point) (links : List Link) (items : List (Reverse Entry)) (left : ℕ) (vs : List ℕ) : Type 0 where
+  pub linked : IsLinked links vs
+  pub size : length links ≡ length ps
+  pub covers : Covers t ps links items
+  pub sound : (d : Entry) → Contains items (turned d) → IsSound t ps d
+  pub many : length vs ≡ left + 1
+  pub rest : eliminate (left + 2) t (vertices ps (0 ∷ vs)) ≡ eliminate (length ps) t (numbered 0 ps)
+
+pub record IsFirst (links : List Link) (n : ℕ) : Type 0 where
+  pub size : length links ≡ n
+  pub befores : (v : ℕ) → v < n → before_in links v ≡ pred v
+  pub afters : (v : ℕ) → v < n → after_in links v ≡ v + 1
+
+-- the corner at v has its neighbours on both sides
+pub record Fits (links : List Link) (n v : ℕ) : Type 0 where
+  pub before : before_in links v < v
+  pub after : v < after_in links v
+  pub within : after_in links v < n
+
+-- it is the entry of a corner under the threshold
+abbrev pub IsUnder : ℕ → List Point → List Link → ℕ → Entry → Type 0
+IsUnder t ps links v d = (0 < v) × (v + 1 < length links) × (d ≡ entry_in ps links v) × (d.corner.area < t)
+
+-- there is no corner here, or it isn't under the threshold
+abbrev pub NoneUnder : ℕ → List Point → List Link → ℕ → Type 0
+NoneUnder t ps links v = 0 < v → v + 1 < length links → t ≤ (entry_in ps links v).corner.area
+
+-- the corner at v is new, if v is between the ends and the corner under the threshold
+pub record Pushed (t : ℕ) (ps : List Point) (links : List Link) (old new : List (Reverse Entry)) (v : ℕ) : Type 0 where
+  pub has : (d : Entry) → Contains old (turned d) → Contains new (turned d)
+  pub here : 0 < v → v + 1 < length links → (entry_in ps links v).corner.area < t → Contains new (turned (entry_in ps links v))
+  pub only : (d : Entry) → Contains new (turned d) → Contains old (turned d) ⊎ IsUnder t ps links v d
+
+-- the corners from 1 up to n under the threshold, and no others
+pub record HasCorners (t : ℕ) (ps : List Point) (links : List Link) (items : List (Reverse Entry)) (n : ℕ) : Type 0 where
+  pub has : (v : ℕ) → 0 < v → v < n → (entry_in ps links v).corner.area < t → Contains items (turned (entry_in ps links v))
+  pub only : (d : Entry) → Contains items (turned d) → (v : ℕ) × (0 < v) × (v < n) × (d ≡ entry_in ps links v) × (d.corner.area < t)

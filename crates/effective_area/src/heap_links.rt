@@ -1,0 +1,131 @@
+ghost use Rattle.std.specs.Prelude.{◌≡◌, ℕ, ◌+◌, ◌-◌, ◌*◌, ◌<◌, ◌≤◌, ◌++◌, IfOk, OnOk, List, ◌∷◌, length};
+ghost use Rattle.std.specs.BinaryHeap.{heap_items, IsHeap};
+ghost use Rattle.std.specs.List.Sorted.{IsSorted};
+ghost use Rattle.effective_area.specs.Counts.{RoseAtMost, no_steps};
+ghost use Rattle.effective_area.specs.Links.{HasCorners, IsFirst, IsLinked, IsState, rentry_cmp};
+ghost use Rattle.elimination_meaning.specs.Elimination.{reduce};
+
+use crate::entry::Entry;
+use crate::links::{Link, first_links, present, unlink};
+use crate::reducer::Reducer;
+use crate::steps::Steps;
+use crate::waiting::{pop_current, push_corner, put_corner};
+use geometry::Position;
+use owned_values::Memory;
+use std::alloc::Global;
+use std::cmp::Reverse;
+use std::collections::BinaryHeap;
+use std::marker::Model;
+
+/// The corners of a whole line that are under the threshold.
+fn first_entries(
+    alloc: Global,
+    steps: &mut Steps,
+    arc: &[Position],
+    links: &[Link],
+    t: u128,
+) -> Result<Vec<Reverse<Entry>>, Memory>
+    requires two { 2 ≤ length arc.now }
+    requires first { IsFirst links.now (length arc.now) }
+    ensures has { IfOk result (λ entries. HasCorners t arc.now links.now entries.items (length arc.now - 1)) }
+    ensures counted { RoseAtMost (length arc.now - 2) steps.old steps.new }
+{
+    let mut entries = Vec::new(alloc);
+    for i in 1..arc.len() - 1 {
+        put_corner(&mut entries, steps, arc, links, t, i)?;
+    }
+    Ok(entries)
+}
+
+/// Takes out corners under the threshold, the first of all each time.
+fn eliminate(
+    sorted: &mut Vec<Reverse<Entry>>,
+    heap: &mut BinaryHeap<Reverse<Entry>>,
+    steps: &mut Steps,
+    arc: &[Position],
+    links: &mut [Link],
+    t: u128,
+) -> Result<(), Memory>
+    requires two { 2 ≤ length arc.now }
+    requires sorted { IsSorted rentry_cmp sorted.old.items }
+    requires order { IsHeap rentry_cmp (heap_items heap.old) }
+    requires state { (vs : List ℕ) × IsState t arc.now links.old (sorted.old.items ++ heap_items heap.old) (length arc.now - 2) vs }
+    ensures kept { OnOk result ((vs : List ℕ) × IsLinked links.new vs × (0 ∷ vs ≡ reduce t arc.now)) }
+    ensures counted { RoseAtMost (2 * (length arc.now - 2)) steps.old steps.new }
+{
+    let mut left = arc.len() - 2;
+    while let Some(entry) = pop_current(sorted, heap, links) {
+        unlink(links, entry.before, entry.corner.index, entry.after);
+        push_corner(heap, steps, arc, links, t, entry.before)?;
+        push_corner(heap, steps, arc, links, t, entry.after)?;
+        left -= 1;
+    }
+    Ok(())
+}
+
+/// The indexes that stay, over links from each index to the next. The corners of the whole line are sorted once, which takes
+/// less time than a heap of them all; those that come later are on a heap.
+fn kept_by(
+    alloc: Global,
+    steps: &mut Steps,
+    arc: &[Position],
+    links: &mut [Link],
+    t: u128,
+) -> Result<Vec<usize>, Memory>
+    requires two { 2 ≤ length arc.now }
+    requires first { IsFirst links.old (length arc.now) }
+    ensures kept { IfOk result (λ kept. kept.items ≡ reduce t arc.now) }
+    ensures counted { RoseAtMost (3 * (length arc.now - 2)) steps.old steps.new }
+{
+    let mut sorted = first_entries(alloc, steps, arc, links, t)?;
+    sorted.sort()?;
+    let mut heap = BinaryHeap::new(alloc);
+    eliminate(&mut sorted, &mut heap, steps, arc, links, t)?;
+    present(alloc, links)
+}
+
+/// A reducer that takes time n log n: the corners under the threshold wait in their order, stale ones among them, and the
+/// positions that are present are linked both ways. A call raises each count of its steps by three for each position between
+/// the ends at most. Contracts see it as the steps that it did so far: nothing else is left of a call, whether it answered or
+/// not.
+#[derive(Debug, Drop)]
+pub struct HeapLinks {
+    steps: Steps,
+}
+
+impl Model for HeapLinks {
+    ghost use Rattle.effective_area.specs.declared.steps.Steps.{Steps};
+
+    ghost Value = { Steps };
+
+    ghost view = { λ r. r.steps };
+}
+
+impl HeapLinks {
+    /// A reducer that did nothing yet.
+    pub fn new() -> HeapLinks
+        ensures { result ≡ no_steps }
+    {
+        HeapLinks {
+            steps: Steps::none(),
+        }
+    }
+
+    /// What it did so far.
+    pub fn steps(&self) -> Steps
+        ensures { result ≡ self.now }
+    {
+        self.steps
+    }
+}
+
+impl Reducer for HeapLinks {
+    fn kept(&mut self, alloc: Global, arc: &[Position], t: u128) -> Result<Vec<usize>, Memory>
+        requires { 2 ≤ length arc.now }
+        ensures kept { IfOk result (λ kept. kept.items ≡ reduce t arc.now) }
+        ensures counted { RoseAtMost (3 * (length arc.now - 2)) self.old self.new }
+    {
+        let mut links = first_links(alloc, arc.len())?;
+        kept_by(alloc, &mut self.steps, arc, &mut links, t)
+    }
+}

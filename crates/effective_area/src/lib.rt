@@ -1,0 +1,19 @@
+//! Reduction of lines by repeated elimination of the point of least effective area (Visvalingam and Whyatt 1993), in code. It
+//! stands on `elimination_meaning`, which says what stays of a line. The layer above uses the law of the trait `Reducer`: its
+//! answer is that definition's list of indexes. `Rescan` looks through the whole line for each position that it takes out;
+//! `HeapLinks` keeps the corners in a heap, takes time n log n, and promises how many steps it counts.
+#![tactic(auto)]
+
+mod candidate;
+mod entry;
+mod heap_links;
+mod links;
+mod reducer;
+mod rescan;
+mod steps;
+mod waiting;
+
+pub use heap_links::HeapLinks;
+pub use reducer::Reducer;
+pub use rescan::Rescan;
+pub use steps::{Steps, twice_area};

@@ -1,0 +1,16 @@
+ghost use Rattle.std.specs.Prelude.{◌≡◌, ◌≤◌, IfOk, length};
+ghost use Rattle.elimination_meaning.specs.Elimination.{reduce};
+
+use geometry::Position;
+use owned_values::Memory;
+use std::alloc::Global;
+
+/// What reduces lines by repeated elimination (Visvalingam and Whyatt 1993).
+pub trait Reducer {
+    /// The rising indexes of the positions that stay where, while some position between the ends has twice an effective area
+    /// under `t`, in square units, the least by area, position and index is taken out. They depend on the line and the
+    /// threshold alone, whatever this reducer answered before, want of memory too.
+    fn kept(&mut self, alloc: Global, arc: &[Position], t: u128) -> Result<Vec<usize>, Memory>
+        requires { 2 ≤ length arc.now }
+        ensures { IfOk result (λ kept. kept.items ≡ reduce t arc.now) };
+}

@@ -1,0 +1,75 @@
+ghost use Rattle.std.specs.Prelude.{◌≡◌, ◌≤◌, ◌<◌, ◌^◌, ◌*◌, ◌-ℤ◌, ◌*ℤ◌, unsigned_abs};
+ghost use Rattle.effective_area.specs.Counts.{RoseAtMost, no_steps, one_area, one_push};
+ghost use Rattle.geometry.specs.Areas as spec;
+ghost use Rattle.geometry.specs.Points.{position_limit};
+
+use geometry::Position;
+
+/// What a reducer did so far. A count that is at the greatest `u64` stays there, and then means that many or more.
+#[derive(Clone, Copy, Debug, PartialEq, Eq)]
+pub struct Steps {
+    /// How many areas of triangles were computed.
+    pub areas: u64,
+    /// How many corners were put in their order, or pushed on a heap.
+    pub pushes: u64,
+}
+
+impl Steps {
+    /// Nothing done yet.
+    pub fn none() -> Steps
+        ensures { result ≡ no_steps }
+    {
+        Steps {
+            areas: 0,
+            pushes: 0,
+        }
+    }
+
+    /// One more area.
+    fn count_area(&mut self)
+        ensures { self.new ≡ one_area self.old }
+    {
+        self.areas = self.areas.saturating_add(1);
+    }
+
+    /// One more entry.
+    pub fn count_push(&mut self)
+        ensures counted { self.new ≡ one_push self.old }
+        ensures rises { RoseAtMost 1 self.old self.new }
+    {
+        self.pushes = self.pushes.saturating_add(1);
+    }
+}
+
+/// A difference of coordinates.
+fn difference(a: i64, b: i64) -> i128
+    requires a { unsigned_abs a ≤ position_limit }
+    requires b { unsigned_abs b ≤ position_limit }
+    ensures value { result ≡ a -ℤ b }
+    ensures bound { unsigned_abs result ≤ 6000000000000000 }
+{
+    a as i128 - b as i128
+}
+
+/// A product of differences.
+fn product(a: i128, b: i128) -> i128
+    requires a { unsigned_abs a ≤ 6000000000000000 }
+    requires b { unsigned_abs b ≤ 6000000000000000 }
+    ensures value { result ≡ a *ℤ b }
+    ensures bound { unsigned_abs result ≤ 36000000000000000000000000000000 }
+{
+    a * b
+}
+
+/// Twice the area of the triangle between three positions, in square units: for a position and its two neighbours, twice its
+/// effective area (Visvalingam and Whyatt 1993). It is counted.
+pub fn twice_area(steps: &mut Steps, a: Position, b: Position, c: Position) -> u128
+    ensures value { result ≡ spec.twice_area a b c }
+    ensures bound { result < 10 ^ 32 }
+    ensures counted { steps.new ≡ one_area steps.old }
+{
+    steps.count_area();
+    let left = product(difference(b.x(), a.x()), difference(c.y(), a.y()));
+    let right = product(difference(c.x(), a.x()), difference(b.y(), a.y()));
+    (left - right).unsigned_abs()
+}

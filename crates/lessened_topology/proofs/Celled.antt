@@ -1,0 +1,174 @@
+-- A topology on a grid is reduced to the cells of the reduced topology.
+use Rattle.std.proofs.Common.{◌≡◌, ◌==◌, ℕ, zero, suc, ℤ, Bool, List, [], ◌∷◌, ◌++◌, map, Option, None, Some, refl, sym, ap, ◌∙◌}
+use Rattle.std.specs.List.{AllByRecursion, list_any}
+use Rattle.elimination_meaning.specs.Elimination.{reduce}
+use Rattle.elimination_meaning.specs.Laws.{DirectionLaw, NoneIsNew, ZeroLaw}
+use Rattle.geometry.specs.Lists.{map_some, then_some, with_some}
+use Rattle.geometry.specs.Points.{Point}
+use Rattle.geometry.specs.Pruning.{prune, option_strokes, strokes}
+use Rattle.geometry.proofs.Agreement.{agreed}
+use Rattle.geometry.proofs.Composition.{composed}
+use Rattle.topojson_types.specs.declared.feature.TopoFeature.{TopoFeature}
+use Rattle.topojson_types.specs.declared.object.TopoObject.{TopoObject}
+use Rattle.topojson_types.specs.declared.object.TopoObject.TheVariants.{One, Many}
+use Rattle.topojson_types.specs.declared.transform.Transform.{Transform}
+use Rattle.geometry.specs.Joins.{at, number_of}
+use Rattle.topojson_types.specs.Topologies.{TopoShape, Contents, object_features, features_strokes, objects_strokes}
+use Rattle.topojson_types.specs.Transforms.{place_on}
+use Rattle.build_meaning.specs.Built.{built}
+use Rattle.build_meaning.specs.Layers.{Named}
+use Rattle.build_meaning.specs.Trimming.{is_used, keep_from, line_renumbered, trimmed}
+use Rattle.lessened_topology.proofs.KeptArcs.{kept_of_map}
+use Rattle.lessened_topology.specs.Celled.{feature_celled, object_celled, objects_celled, celled, LiesBack}
+use Rattle.lessened_topology.specs.Laws.{LessensToBuiltOnGrid}
+use Rattle.lessened_topology.specs.Lessened.{Refs, picked, picked_arcs, large_refs, feature_pruned, object_pruned, objects_pruned, picked_whole, lessened_by}
+use Rattle.lessened_topology.specs.Thresholds.{lessened}
+use Rattle.lessened_topology.proofs.Again.{all_hold}
+use Rattle.lessened_topology.proofs.BuiltCells.{built_cells}
+use Rattle.lessened_topology.proofs.Lessened.{lessens_to_built}
+use Rattle.lessened_topology.proofs.Replaced.{strokes_replaced}
+use Rattle.lessened_topology.proofs.ValidPicked.{all_picked}
+
+-- ---- arcs
+
+pub at_map : {A B : Type 0} (f : A → B) (xs : List A) (i : ℕ) → at (map f xs) i ≡ map_some f (at xs i)
+at_map f [] i = refl
+at_map f (x ∷ xs) zero = refl
+at_map f (x ∷ xs) (suc i) = at_map f xs i
+
+with_map : {A B : Type 0} (f : A → B) (o : Option A) (xs : List A) → with_some (map_some f o) (map f xs) ≡ map f (with_some o xs)
+with_map f None xs = refl
+with_map f (Some x) xs = refl
+
+picked_map : {A B : Type 0} (f : A → B) (is : List ℕ) (xs : List A) → picked is (map f xs) ≡ map f (picked is xs)
+picked_map f [] xs = refl
+picked_map f (i ∷ is) xs = ap (λ o. with_some o (picked is (map f xs))) (at_map f xs i) ∙ ap (with_some (map_some f (at xs i))) (picked_map f is xs) ∙ with_map f (at xs i) (picked is xs)
+
+arcs_map : (f : Point → Point) (kept : List (List ℕ)) (arcs : List (List Point)) → picked_arcs kept (map (map f) arcs) ≡ map (map f) (picked_arcs kept arcs)
+arcs_map f [] arcs = refl
+arcs_map f (is ∷ kept) [] = refl
+arcs_map f (is ∷ kept) (a ∷ arcs) = ap (λ x. x ∷ picked_arcs kept (map (map f) arcs)) (picked_map f is a) ∙ ap (λ xs. map f (picked is a) ∷ xs) (arcs_map f kept arcs)
+
+module _ (transform : Transform) (cell : Point → Point) where
+  abbrev Lies : List Point → Type 0
+  Lies ps = AllByRecursion (LiesBack transform cell) ps
+
+  lies_back : (ps : List Point) → Lies ps → map (place_on transform) (map cell ps) ≡ ps
+  lies_back [] h = refl
+  lies_back (p ∷ ps) h = ap (λ q. q ∷ map (place_on transform) (map cell ps)) h.0 ∙ ap (λ l. p ∷ l) (lies_back ps h.1)
+
+  pub all_lie_back : (arcs : List (List Point)) → AllByRecursion Lies arcs → map (map (place_on transform)) (map (map cell) arcs) ≡ arcs
+  all_lie_back [] h = refl
+  all_lie_back (a ∷ arcs) h = ap (λ x. x ∷ map (map (place_on transform)) (map (map cell) arcs)) (lies_back a h.0) ∙ ap (λ xs. a ∷ xs) (all_lie_back arcs h.1)
+
+  indexes_same : (t : ℕ) (arcs : List (List Point)) → AllByRecursion Lies arcs → map (λ cells. reduce t (map (place_on transform) cells)) (map (map cell) arcs) ≡ map (reduce t) arcs
+  indexes_same t [] h = refl
+  indexes_same t (a ∷ arcs) h =
+      ap (λ x. reduce t x ∷ map (λ cells. reduce t (map (place_on transform) cells)) (map (map cell) arcs)) (lies_back a h.0) ∙ ap (λ xs. reduce t a ∷ xs) (indexes_same t arcs h.1)
+
+  picked_lie : (kept : List (List ℕ)) (arcs : List (List Point)) → AllByRecursion Lies arcs → AllByRecursion Lies (picked_arcs kept arcs)
+  picked_lie [] arcs h = tt
+  picked_lie (is ∷ kept) [] h = tt
+  picked_lie (is ∷ kept) (a ∷ arcs) h = (all_picked (LiesBack transform cell) is a h.0, picked_lie kept arcs h.1)
+
+  -- ---- objects
+
+  as_it_is : {A : Type 0} (o : Option A) → then_some (λ a. Some a) o ≡ o
+  as_it_is None = refl
+  as_it_is (Some a) = refl
+
+  abbrev same_refs : Refs
+  same_refs closed refs = Some refs
+
+  module _ (kept : Refs) where
+    shape_turn : (s : Option TopoShape) → then_some (prune (λ (p : Point). p) kept) (then_some (prune cell same_refs) s) ≡ then_some (prune cell same_refs) (then_some (prune (λ (p : Point). p) kept) s)
+    shape_turn None = refl
+    shape_turn (Some s) =
+        composed cell (λ (p : Point). p) same_refs kept s
+        ∙ sym (composed (λ (p : Point). p) cell kept same_refs s
+        ∙ agreed cell (λ closed refs. then_some (same_refs closed) (kept closed refs)) kept s
+        (all_hold (λ b. then_some (same_refs b.0) (kept b.0 b.1) ≡ kept b.0 b.1) (λ b. as_it_is (kept b.0 b.1)) (strokes s)))
+
+    abbrev with_shape : TopoFeature → Option TopoShape → TopoFeature
+    with_shape f s = record { id = f.id; properties = f.properties; shape = s }
+
+    features_turn : (fs : List TopoFeature) → map (feature_pruned kept) (map (feature_celled cell) fs) ≡ map (feature_celled cell) (map (feature_pruned kept) fs)
+    features_turn [] = refl
+    features_turn (f ∷ fs) =
+        ap (λ s. with_shape f s ∷ map (feature_pruned kept) (map (feature_celled cell) fs)) (shape_turn f.shape)
+        ∙ ap (λ gs. feature_celled cell (feature_pruned kept f) ∷ gs) (features_turn fs)
+
+    object_turn : (o : TopoObject) → object_pruned kept (object_celled cell o) ≡ object_celled cell (object_pruned kept o)
+    object_turn (One f) = ap (λ s. One (with_shape f s)) (shape_turn f.shape)
+    object_turn (Many fs) = ap (λ gs. Many gs) (features_turn fs)
+
+    objects_turn : (os : List (List ℕ × TopoObject)) → objects_pruned kept (objects_celled cell os) ≡ objects_celled cell (objects_pruned kept os)
+    objects_turn [] = refl
+    objects_turn (o ∷ os) = ap (λ x. (o.0, x) ∷ objects_pruned kept (objects_celled cell os)) (object_turn o.1) ∙ ap (λ xs. (o.0, object_celled cell (object_pruned kept o.1)) ∷ xs) (objects_turn os)
+
+  -- ---- the same lines, so the same arcs are used
+
+  map_same : {A : Type 0} (xs : List (Bool × A)) → map (λ b. (b.0, b.1)) xs ≡ xs
+  map_same [] = refl
+  map_same (x ∷ xs) = ap (λ l. x ∷ l) (map_same xs)
+
+  option_lines : (s : Option TopoShape) → option_strokes (then_some (prune cell same_refs) s) ≡ option_strokes s
+  option_lines None = refl
+  option_lines (Some s) = strokes_replaced cell (λ (refs : List ℤ). refs) s ∙ map_same (strokes s)
+
+  features_lines : (fs : List TopoFeature) → features_strokes (map (feature_celled cell) fs) ≡ features_strokes fs
+  features_lines [] = refl
+  features_lines (f ∷ fs) = ap (λ l. l ++ features_strokes (map (feature_celled cell) fs)) (option_lines f.shape) ∙ ap (λ l. option_strokes f.shape ++ l) (features_lines fs)
+
+  object_lines : (o : TopoObject) → features_strokes (object_features (object_celled cell o)) ≡ features_strokes (object_features o)
+  object_lines (One f) = features_lines (f ∷ [])
+  object_lines (Many fs) = features_lines fs
+
+  pub objects_lines : (os : List (List ℕ × TopoObject)) → objects_strokes (objects_celled cell os) ≡ objects_strokes os
+  objects_lines [] = refl
+  objects_lines (o ∷ os) = ap (λ l. l ++ objects_strokes (objects_celled cell os)) (object_lines o.1) ∙ ap (λ l. features_strokes (object_features o.1) ++ l) (objects_lines os)
+
+  -- ---- topologies
+
+  abbrev used_in : List (Bool × List ℤ) → ℕ → Bool
+  used_in bs i = list_any (λ b. list_any (λ r. number_of r == i) b.1) bs
+
+  abbrev by_used : Contents → (ℕ → Bool) → Contents
+  by_used y u = record { objects = objects_pruned (line_renumbered u) (objects_celled cell y.objects); arcs = keep_from u 0 (map (map cell) y.arcs); transform = Some transform }
+
+  trimmed_celled : (y : Contents) → trimmed (celled transform cell y) ≡ celled transform cell (trimmed y)
+  unfolding trimmed celled
+  trimmed_celled y =
+      ap (λ bs. by_used y (used_in bs)) (objects_lines y.objects)
+      ∙ ap (λ os. record { objects = os; arcs = keep_from (is_used y.objects) 0 (map (map cell) y.arcs); transform = Some transform }) (objects_turn (line_renumbered (is_used y.objects)) y.objects)
+      ∙ ap (λ arcs. record { objects = objects_celled cell (objects_pruned (line_renumbered (is_used y.objects)) y.objects); arcs = arcs; transform = Some transform })
+      (sym (kept_of_map (map cell) (is_used y.objects) 0 y.arcs))
+
+  module _ (t : ℕ) (os : List (List ℕ × TopoObject)) (arcs : List (List Point)) (lie : AllByRecursion Lies arcs) where
+    abbrev plain : Contents
+    plain = record { objects = os; arcs = arcs; transform = None }
+
+    abbrev on_grid : List (List Point) → List (List Point) → Contents
+    on_grid places cells = record { objects = objects_pruned (large_refs places) (objects_celled cell os); arcs = cells; transform = Some transform }
+
+    pub lessened_celled : lessened t (celled transform cell (record { objects = os; arcs = arcs; transform = None })) ≡ celled transform cell (lessened t (record { objects = os; arcs = arcs; transform = None }))
+    unfolding lessened lessened_by celled
+    lessened_celled =
+        let kept : List (List ℕ) = map (reduce t) arcs in
+        let fewer : List (List Point) = picked_arcs kept arcs in
+        ap (λ k. trimmed (on_grid (map (map (place_on transform)) (picked_arcs k (map (map cell) arcs))) (picked_arcs k (map (map cell) arcs)))) (indexes_same t arcs lie)
+        ∙ ap (λ x. trimmed (on_grid (map (map (place_on transform)) x) x)) (arcs_map cell kept arcs)
+        ∙ ap (λ x. trimmed (on_grid x (map (map cell) fewer))) (all_lie_back fewer (picked_lie kept arcs lie))
+        ∙ ap (λ x. trimmed (record { objects = x; arcs = map (map cell) fewer; transform = Some transform })) (objects_turn (large_refs fewer) os)
+        ∙ trimmed_celled (picked_whole kept plain)
+
+-- ---- what is built of layers
+
+celled_again : (transform : Transform) (cell : Point → Point) (t : ℕ) (ls : Named) → AllByRecursion (λ a. AllByRecursion (LiesBack transform cell) a) (built 0 ls).arcs →
+    lessened t (celled transform cell (built 0 ls)) ≡ celled transform cell (lessened t (built 0 ls))
+unfolding built trimmed
+celled_again transform cell t ls h = lessened_celled transform cell t (built 0 ls).objects (built 0 ls).arcs h
+
+pub lessens_on_grid : DirectionLaw → ZeroLaw → NoneIsNew → LessensToBuiltOnGrid
+lessens_on_grid law stays none transform cell t ls sound lie =
+    celled_again transform cell t ls (built_cells none (LiesBack transform cell) 0 ls lie).0 ∙ ap (celled transform cell) (lessens_to_built law stays t ls sound)

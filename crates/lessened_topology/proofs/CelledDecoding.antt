@@ -1,0 +1,126 @@
+-- A topology on a grid decodes to what the topology decodes to whose positions its cells stand for.
+use Rattle.std.proofs.Common.{◌≡◌, ℕ, ℤ, bytes_eq, Bool, true, false, cond, List, [], ◌∷◌, map, Option, None, Some, refl, sym, ap, ◌∙◌, subst}
+use Rattle.std.specs.List.{AllByRecursion}
+use Rattle.list_laws.proofs.Elements.{all_left, all_right}
+use Rattle.list_laws.proofs.Lists.{map_agree}
+use Rattle.geometry.specs.declared.shape.Geometry.TheVariants as g
+use Rattle.geojson_types.specs.declared.layer.FeatureSet.TheVariants as set
+use Rattle.geojson_types.specs.Features.{Featured, Shape}
+use Rattle.geometry.specs.Lists.{map_some, then_some, some_of, joined}
+use Rattle.geometry.specs.Points.{Point}
+use Rattle.geometry.specs.Pruning.{prune}
+use Rattle.geometry.proofs.Cases.{prune-point, prune-points, prune-line, prune-lines, prune-area, prune-areas, prune-group}
+use Rattle.geometry.proofs.Composition.{composed}
+use Rattle.geometry.proofs.Induction.{by_kinds}
+use Rattle.topojson_types.specs.declared.feature.TopoFeature.{TopoFeature}
+use Rattle.topojson_types.specs.declared.object.TopoObject.{TopoObject}
+use Rattle.topojson_types.specs.declared.object.TopoObject.TheVariants.{One, Many}
+use Rattle.topojson_types.specs.declared.transform.Transform.{Transform}
+use Rattle.topojson_types.specs.Decoding.{decoded_line, decoded_shape, decoded_feature, decoded_object, of_name, decoded}
+use Rattle.topojson_types.specs.Topologies.{TopoShape, Contents, object_features}
+use Rattle.topojson_types.specs.Transforms.{place_on}
+use Rattle.topojson_types.specs.Validity.{places, option_places}
+use Rattle.topojson_types.proofs.ByKind.{places_at}
+use Rattle.lessened_topology.specs.Celled.{feature_celled, object_celled, objects_celled, celled, LiesBack, features_places, objects_places, EachCell}
+use Rattle.lessened_topology.specs.Laws.{CelledDecodes}
+use Rattle.lessened_topology.proofs.Celled.{all_lie_back}
+
+-- ---- shapes whose Points and MultiPoints are placed alike
+
+module _ {M : Type 0} (one two : Point → Point) (kept : Bool → List ℤ → Option M) where
+  abbrev Same : Point → Type 0
+  Same p = one p ≡ two p
+
+  abbrev Agrees : TopoShape → Type 0
+  Agrees s = AllByRecursion Same (places s) → prune one kept s ≡ prune two kept s
+
+  at_point : (p : Point) → Agrees (g.Point p)
+  at_point p h =
+      let k : AllByRecursion Same (p ∷ []) = subst (AllByRecursion Same) (places_at.point p) h in
+      rw (prune-point one kept p, prune-point two kept p) (ap (λ q. Some (g.Point q)) k.0)
+
+  at_points : (ps : List Point) → Agrees (g.MultiPoint ps)
+  at_points ps h =
+      let k : AllByRecursion Same ps = subst (AllByRecursion Same) (places_at.points ps) h in
+      rw (prune-points one kept ps, prune-points two kept ps) (ap (λ qs. Some (g.MultiPoint qs)) (map_agree one two ps k))
+
+  members : (ss : List TopoShape) → AllByRecursion Agrees ss → AllByRecursion Same (joined (map places ss)) → some_of (prune one kept) ss ≡ some_of (prune two kept) ss
+  members [] all h = refl
+  members (s ∷ ss) all h = rw (all.0 (all_left Same (places s) (joined (map places ss)) h), members ss all.1 (all_right Same (places s) (joined (map places ss)) h)) refl
+
+  at_group : (ss : List TopoShape) → AllByRecursion Agrees ss → Agrees (g.Group ss)
+  at_group ss all h =
+      rw (prune-group one kept ss, prune-group two kept ss)
+      (ap (λ ts. Some (g.Group ts)) (members ss all (subst (AllByRecursion Same) (places_at.group ss) h)))
+
+  pub placed_alike : (s : TopoShape) → AllByRecursion Same (places s) → prune one kept s ≡ prune two kept s
+  placed_alike = by_kinds Agrees (record {
+    point = at_point;
+    points = at_points;
+    line = λ l h. rw (prune-line one kept l, prune-line two kept l) refl;
+    lines = λ ls h. rw (prune-lines one kept ls, prune-lines two kept ls) refl;
+    area = λ rs h. rw (prune-area one kept rs, prune-area two kept rs) refl;
+    areas = λ areas h. rw (prune-areas one kept areas, prune-areas two kept areas) refl;
+    group = at_group;
+  })
+
+-- ---- what is decoded of each object
+
+module _ (transform : Transform) (cell : Point → Point) (arcs : List (List Point)) where
+  abbrev Lies : List Point → Type 0
+  Lies ps = AllByRecursion (LiesBack transform cell) ps
+
+  abbrev lies : Point → Point
+  lies = place_on transform
+
+  abbrev line_of : Bool → List ℤ → Option (List Point)
+  line_of closed refs = Some (decoded_line arcs closed refs)
+
+  shape_same : (s : Option TopoShape) → Lies (option_places s) → then_some (decoded_shape lies arcs) (then_some (prune cell (λ closed refs. Some refs)) s) ≡ then_some (decoded_shape (λ p. p) arcs) s
+  shape_same None h = refl
+  shape_same (Some s) h = composed cell lies (λ closed refs. Some refs) line_of s ∙ placed_alike (λ p. lies (cell p)) (λ p. p) line_of s h
+
+  abbrev with_shape : TopoFeature → Option Shape → Featured
+  with_shape f s = record { id = f.id; properties = f.properties; shape = s }
+
+  features_same : (fs : List TopoFeature) → Lies (features_places fs) → map (decoded_feature lies arcs) (map (feature_celled cell) fs) ≡ map (decoded_feature (λ p. p) arcs) fs
+  features_same [] h = refl
+  features_same (f ∷ fs) h =
+      ap (λ s. with_shape f s ∷ map (decoded_feature lies arcs) (map (feature_celled cell) fs)) (shape_same f.shape (all_left (LiesBack transform cell) (option_places f.shape) (features_places fs) h))
+      ∙ ap (λ gs. decoded_feature (λ p. p) arcs f ∷ gs) (features_same fs (all_right (LiesBack transform cell) (option_places f.shape) (features_places fs) h))
+
+  object_same : (o : TopoObject) → Lies (features_places (object_features o)) → decoded_object lies arcs (object_celled cell o) ≡ decoded_object (λ p. p) arcs o
+  object_same (One f) h = ap (λ s. set.One (with_shape f s)) (shape_same f.shape (all_left (LiesBack transform cell) (option_places f.shape) [] h))
+  object_same (Many fs) h = ap set.Many (features_same fs h)
+
+  name_same : (name : List ℕ) (os : List (List ℕ × TopoObject)) → Lies (objects_places os)
+      → map_some (decoded_object lies arcs) (of_name name (objects_celled cell os)) ≡ map_some (decoded_object (λ p. p) arcs) (of_name name os)
+  name_same name [] h = refl
+  name_same name (o ∷ os) h =
+      on (bytes_eq o.0 name) (object_same o.1 (all_left (LiesBack transform cell) (features_places (object_features o.1)) (objects_places os) h))
+      (name_same name os (all_right (LiesBack transform cell) (features_places (object_features o.1)) (objects_places os) h))
+    where
+      on : (b : Bool) → decoded_object lies arcs (object_celled cell o.1) ≡ decoded_object (λ p. p) arcs o.1
+          → map_some (decoded_object lies arcs) (of_name name (objects_celled cell os)) ≡ map_some (decoded_object (λ p. p) arcs) (of_name name os)
+          → map_some (decoded_object lies arcs) (cond b (Some (object_celled cell o.1)) (of_name name (objects_celled cell os)))
+          ≡ map_some (decoded_object (λ p. p) arcs) (cond b (Some o.1) (of_name name os))
+      on true e ih = ap Some e
+      on false e ih = ih
+
+-- ---- topologies
+
+plain_same : (transform : Transform) (cell : Point → Point) (os : List (List ℕ × TopoObject)) (arcs : List (List Point)) (name : List ℕ) →
+    EachCell (LiesBack transform cell) (record { objects = os; arcs = arcs; transform = None })
+    → decoded (celled transform cell (record { objects = os; arcs = arcs; transform = None })) name ≡ decoded (record { objects = os; arcs = arcs; transform = None }) name
+unfolding decoded celled
+plain_same transform cell os arcs name h =
+    ap (λ xs. map_some (decoded_object (place_on transform) xs) (of_name name (objects_celled cell os))) (all_lie_back transform cell arcs h.0)
+    ∙ name_same transform cell arcs name os h.1
+
+abbrev DecodesSame : Transform → (Point → Point) → List ℕ → Contents → Type 0
+DecodesSame transform cell name z = EachCell (LiesBack transform cell) z → decoded (celled transform cell z) name ≡ decoded z name
+
+pub celled_decodes : CelledDecodes
+celled_decodes transform cell y name plain h =
+    let with_none : y ≡ record { objects = y.objects; arcs = y.arcs; transform = None } = ap (λ w. record { objects = y.objects; arcs = y.arcs; transform = w }) plain in
+    subst (DecodesSame transform cell name) (sym with_none) (plain_same transform cell y.objects y.arcs name) h

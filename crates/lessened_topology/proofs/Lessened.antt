@@ -1,0 +1,136 @@
+-- What is built of layers at zero and then reduced is what is built of them at the threshold.
+use Rattle.std.proofs.Common.{◌≡◌, ℕ, ℤ, Bool, true, false, cond, List, map, Option, None, Some, refl, sym, ap, ◌∙◌, subst}
+use Rattle.std.specs.List.{AllByRecursion}
+use Rattle.arc_table.specs.Arcs.{index_in}
+use Rattle.arc_table.proofs.Rejoining.{same_rejoined}
+use Rattle.cutter.specs.Pieces.{pieces, from_start}
+use Rattle.cutter.specs.Places.{In, Apart, interior}
+use Rattle.elimination_meaning.specs.Elimination.{reduced}
+use Rattle.elimination_meaning.specs.Laws.{DirectionLaw, ZeroLaw}
+use Rattle.geometry.specs.declared.address.Cause.{Cause}
+use Rattle.geometry.specs.declared.address.Cause.TheVariants.{Collapsed, Small}
+use Rattle.geometry.specs.Lists.{then_some}
+use Rattle.geometry.specs.Points.{Point}
+use Rattle.junctions.specs.Cleaning.{clean, is_short}
+use Rattle.junctions.specs.Cuts.{is_cut}
+use Rattle.linework.specs.Linework.{linework}
+use Rattle.junctions.specs.declared.stroke.Stroke.{Stroke}
+use Rattle.topojson_types.specs.declared.object.TopoObject.{TopoObject}
+use Rattle.geometry.specs.Joins.{rejoined}
+use Rattle.topojson_types.specs.Topologies.{objects_strokes}
+use Rattle.build_meaning.specs.Built.{all_arcs, kept_refs, untrimmed, built}
+use Rattle.build_meaning.specs.Expected.{cleaned, own_pieces, own_cause, rebuilt, is_small, unless, kept_line}
+use Rattle.build_meaning.specs.Laws.{AreSound, whole_line}
+use Rattle.build_meaning.specs.Layers.{Named, layers_of, named_strokes}
+use Rattle.build_meaning.specs.Objects.{objects_by}
+use Rattle.build_meaning.specs.Trimming.{is_used, keep_from, renumbered, line_renumbered, trimmed}
+use Rattle.build_meaning.proofs.DecodingLines.{pieces_back}
+use Rattle.build_meaning.proofs.Linework.{Line, StandsIn, each_stands, own_apart, own_in}
+use Rattle.list_laws.proofs.Elements.{all_weaker, all_two}
+use Rattle.build_meaning.proofs.Trimmed.{IsUsed, AllUsed, all_renumbered, all_used}
+use Rattle.build_meaning.proofs.Whole.{loses_nothing}
+use Rattle.lessened_topology.specs.Laws.{LessensToBuilt}
+use Rattle.lessened_topology.specs.Lessened.{small_cause, large_refs, objects_pruned, lessened_by}
+use Rattle.lessened_topology.specs.Thresholds.{lessened}
+use Rattle.lessened_topology.proofs.Again.{all_hold, left_with, trimmed_again}
+use Rattle.lessened_topology.proofs.Made.{objects_made}
+use Rattle.lessened_topology.proofs.Objects.{objects_then, objects_left}
+use Rattle.lessened_topology.proofs.Picked.{arcs_again}
+
+-- ---- a line's indexes name its own pieces, reduced
+
+module _ (law : DirectionLaw) (lines : List Stroke) (t : ℕ) (apart : (p : List Point) → In p (pieces lines) → Apart (interior p)) where
+  abbrev arcs : List (List Point)
+  arcs = map (reduced t) (all_arcs lines)
+
+  abbrev refs_of : Line → List ℤ
+  refs_of b = map (index_in (all_arcs lines)) (own_pieces lines b.0 b.1)
+
+  -- so the same is too short
+  cause_same : (b : Line) → StandsIn lines b → is_short b.0 (clean b.1) ≡ false →
+      small_cause arcs b.0 (refs_of b) ≡ cond (is_small b.0 (rebuilt lines t b.0 b.1)) (Some Small) None
+  cause_same b stands e =
+      ap (λ l. cond (is_small b.0 l) (Some Small) None)
+      (ap rejoined (pieces_back law t (pieces lines) apart (own_pieces lines b.0 b.1) (own_in lines b stands e)) ∙ same_rejoined (map (reduced t) (own_pieces lines b.0 b.1)))
+
+  -- nothing is small at zero
+  abbrev IsWholeAtZero : Line → Type 0
+  IsWholeAtZero b = kept_line lines 0 b.0 b.1 ≡ cond (is_short b.0 (clean b.1)) None (Some (from_start (is_cut lines) (cleaned b.0 b.1)))
+
+  no_small : (b : Line) → IsWholeAtZero b → is_short b.0 (clean b.1) ≡ false → own_cause lines 0 b.0 b.1 ≡ None
+  no_small b whole e = on (own_cause lines 0 b.0 b.1) (whole ∙ ap (λ c. cond c None (Some (from_start (is_cut lines) (cleaned b.0 b.1)))) e)
+    where
+      on : (w : Option Cause) → unless w (rebuilt lines 0 b.0 b.1) ≡ Some (from_start (is_cut lines) (cleaned b.0 b.1)) → w ≡ None
+      on None h = refl
+      on (Some c) h = cc
+
+  -- so what is kept at zero and then reduced is what is kept at the threshold
+  line_again : (b : Line) → StandsIn lines b → IsWholeAtZero b → then_some (large_refs arcs b.0) (kept_refs lines 0 b.0 b.1) ≡ kept_refs lines t b.0 b.1
+  line_again b stands whole = on (is_short b.0 (clean b.1)) refl
+    where
+      on : (c : Bool) → is_short b.0 (clean b.1) ≡ c →
+          then_some (large_refs arcs b.0) (kept_refs lines 0 b.0 b.1) ≡ unless (cond c (Some Collapsed) (cond (is_small b.0 (rebuilt lines t b.0 b.1)) (Some Small) None)) (refs_of b)
+      on true e = ap (λ c. then_some (large_refs arcs b.0) (unless (cond c (Some Collapsed) (cond (is_small b.0 (rebuilt lines 0 b.0 b.1)) (Some Small) None)) (refs_of b))) e
+      on false e =
+          ap (λ w. then_some (large_refs arcs b.0) (unless w (refs_of b))) (no_small b whole e)
+          ∙ ap (λ w. unless w (refs_of b)) (cause_same b stands e)
+
+-- ---- the indexes that are left after some arcs are left out
+
+module _ (u : ℕ → Bool) (arcs : List (List Point)) where
+  abbrev fewer : List (List Point)
+  fewer = keep_from u 0 arcs
+
+  unless_renumbered : (b : Bool × List ℤ) (w : Option Cause) → unless w (map (renumbered u) b.1) ≡ then_some (line_renumbered u b.0) (unless w b.1)
+  unless_renumbered b None = refl
+  unless_renumbered b (Some c) = refl
+
+  refs_same : (b : Bool × List ℤ) → AllUsed u b → large_refs fewer b.0 (map (renumbered u) b.1) ≡ then_some (line_renumbered u b.0) (large_refs arcs b.0 b.1)
+  refs_same b h =
+      ap (λ xs. unless (cond (is_small b.0 (rejoined xs)) (Some Small) None) (map (renumbered u) b.1)) (all_renumbered u arcs b.1 h)
+      ∙ unless_renumbered b (small_cause arcs b.0 b.1)
+
+  -- reduced and then renumbered is renumbered and then reduced
+  objects_same : (os : List (List ℕ × TopoObject)) → AllByRecursion (AllUsed u) (objects_strokes os) →
+      objects_pruned (large_refs fewer) (objects_pruned (line_renumbered u) os) ≡ objects_pruned (line_renumbered u) (objects_pruned (large_refs arcs) os)
+  objects_same os h =
+      objects_then (line_renumbered u) (large_refs fewer) (λ closed refs. then_some (line_renumbered u closed) (large_refs arcs closed refs)) os
+      (all_weaker (AllUsed u) (λ b. large_refs fewer b.0 (map (renumbered u) b.1) ≡ then_some (line_renumbered u b.0) (large_refs arcs b.0 b.1)) refs_same (objects_strokes os) h)
+      ∙ sym (objects_then (large_refs arcs) (line_renumbered u) (λ closed refs. then_some (line_renumbered u closed) (large_refs arcs closed refs)) os
+      (all_hold (λ b. then_some (line_renumbered u b.0) (large_refs arcs b.0 b.1) ≡ then_some (line_renumbered u b.0) (large_refs arcs b.0 b.1)) (λ b. refl) (objects_strokes os)))
+
+  -- no index is new
+  left_used : (os : List (List ℕ × TopoObject)) → AllByRecursion (AllUsed u) (objects_strokes os) → AllByRecursion (AllUsed u) (objects_strokes (objects_pruned (large_refs arcs) os))
+  left_used os h =
+      objects_left (large_refs arcs) (AllUsed u) os
+      (all_weaker (AllUsed u) (λ b. (m : List ℤ) → large_refs arcs b.0 b.1 ≡ Some m → AllUsed u (b.0, m)) (λ b k m e. on b k m (small_cause arcs b.0 b.1) e) (objects_strokes os) h)
+    where
+      on : (b : Bool × List ℤ) → AllUsed u b → (m : List ℤ) (w : Option Cause) → unless w b.1 ≡ Some m → AllUsed u (b.0, m)
+      on b k m None e = let same : b.1 ≡ m = cc in subst (AllByRecursion (IsUsed u)) same k
+      on b k m (Some c) e = cc
+
+-- ---- topologies
+
+-- the objects that are built at zero, reduced
+objects_again : DirectionLaw → ZeroLaw → (t : ℕ) (ls : Named) → AreSound ls →
+    objects_pruned (large_refs (map (reduced t) (all_arcs (linework (layers_of ls))))) (objects_by (kept_refs (linework (layers_of ls)) 0) ls) ≡ objects_by (kept_refs (linework (layers_of ls)) t) ls
+objects_again law zero t ls sound =
+    let lines : List Stroke = linework (layers_of ls) in
+    objects_made (kept_refs lines 0) (large_refs (map (reduced t) (all_arcs lines))) (kept_refs lines t) ls
+    (all_two (StandsIn lines) (λ b. kept_line lines 0 b.0 b.1 ≡ whole_line ls b.0 b.1)
+    (λ b. then_some (large_refs (map (reduced t) (all_arcs lines)) b.0) (kept_refs lines 0 b.0 b.1) ≡ kept_refs lines t b.0 b.1)
+    (line_again law lines t (own_apart ls sound)) (named_strokes ls) (each_stands ls) (loses_nothing zero ls sound))
+
+pub lessens_to_built : DirectionLaw → ZeroLaw → LessensToBuilt
+unfolding lessened lessened_by built trimmed
+lessens_to_built law zero t ls sound =
+    let lines : List Stroke = linework (layers_of ls) in
+    let first : List (List ℕ × TopoObject) = objects_by (kept_refs lines 0) ls in
+    let u : ℕ → Bool = is_used first in
+    let all : List (List Point) = map (reduced t) (all_arcs lines) in
+    let same : objects_pruned (large_refs all) first ≡ objects_by (kept_refs lines t) ls = objects_again law zero t ls sound in
+    ap (λ arcs. trimmed (record { objects = objects_pruned (large_refs arcs) (objects_pruned (line_renumbered u) first); arcs = arcs; transform = None }))
+    (arcs_again zero t u (all_arcs lines))
+    ∙ ap (λ os. trimmed (record { objects = os; arcs = keep_from u 0 all; transform = None })) (objects_same u all first (all_used first))
+    ∙ ap (λ os. trimmed (left_with u (record { objects = os; arcs = all; transform = None }))) same
+    ∙ trimmed_again u (untrimmed t ls) (subst (λ os. AllByRecursion (AllUsed u) (objects_strokes os)) same (left_used u all first (all_used first)))

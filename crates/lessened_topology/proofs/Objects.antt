@@ -1,0 +1,105 @@
+-- Objects that are pruned twice, and the lines and rings of pruned objects.
+use Rattle.std.proofs.Common.{◌≡◌, ℕ, ℤ, Bool, List, [], ◌∷◌, ◌++◌, map, Option, None, Some, refl, sym, ap, ◌∙◌}
+use Rattle.std.proofs.lemmas.List.{map-append}
+use Rattle.std.specs.List.{AllByRecursion}
+use Rattle.geometry.specs.Lists.{then_some}
+use Rattle.geometry.specs.Points.{Point}
+use Rattle.geometry.specs.Pruning.{prune, option_strokes}
+use Rattle.geometry.proofs.Agreement.{agreed}
+use Rattle.geometry.proofs.Composition.{composed}
+use Rattle.topojson_types.specs.declared.feature.TopoFeature.{TopoFeature}
+use Rattle.topojson_types.specs.declared.object.TopoObject.{TopoObject}
+use Rattle.topojson_types.specs.declared.object.TopoObject.TheVariants.{One, Many}
+use Rattle.topojson_types.specs.Topologies.{TopoShape, object_features, features_strokes, objects_strokes}
+use Rattle.list_laws.proofs.Elements.{all_append, all_left, all_right}
+use Rattle.build_meaning.proofs.Strokes.{option_left}
+use Rattle.lessened_topology.specs.Lessened.{Refs, feature_pruned, object_pruned, objects_pruned}
+use Rattle.lessened_topology.proofs.Replaced.{strokes_replaced}
+
+abbrev Named_objects : Type 0
+Named_objects = List (List ℕ × TopoObject)
+
+abbrev with_shape : TopoFeature → Option TopoShape → TopoFeature
+with_shape f s = record { id = f.id; properties = f.properties; shape = s }
+
+-- ---- objects pruned twice are pruned at once
+
+module _ (one two at_once : Refs) where
+  abbrev pub Meets : Bool × List ℤ → Type 0
+  Meets b = then_some (two b.0) (one b.0 b.1) ≡ at_once b.0 b.1
+
+  shape_then : (s : Option TopoShape) → AllByRecursion Meets (option_strokes s) → then_some (prune (λ (p : Point). p) two) (then_some (prune (λ (p : Point). p) one) s) ≡ then_some (prune (λ p. p) at_once) s
+  shape_then None h = refl
+  shape_then (Some s) h =
+      composed (λ (p : Point). p) (λ (p : Point). p) one two s ∙ agreed (λ (p : Point). p) (λ closed refs. then_some (two closed) (one closed refs)) at_once s h
+
+  features_then : (fs : List TopoFeature) → AllByRecursion Meets (features_strokes fs) → map (feature_pruned two) (map (feature_pruned one) fs) ≡ map (feature_pruned at_once) fs
+  features_then [] h = refl
+  features_then (f ∷ fs) h =
+      ap (λ g. g ∷ map (feature_pruned two) (map (feature_pruned one) fs)) (ap (with_shape f) (shape_then f.shape (all_left Meets (option_strokes f.shape) (features_strokes fs) h)))
+      ∙ ap (λ gs. feature_pruned at_once f ∷ gs) (features_then fs (all_right Meets (option_strokes f.shape) (features_strokes fs) h))
+
+  object_then : (o : TopoObject) → AllByRecursion Meets (features_strokes (object_features o)) → object_pruned two (object_pruned one o) ≡ object_pruned at_once o
+  object_then (One f) h = ap (λ s. One (with_shape f s)) (shape_then f.shape (all_left Meets (option_strokes f.shape) [] h))
+  object_then (Many fs) h = ap (λ gs. Many gs) (features_then fs h)
+
+  pub objects_then : (os : Named_objects) → AllByRecursion Meets (objects_strokes os) → objects_pruned two (objects_pruned one os) ≡ objects_pruned at_once os
+  objects_then [] h = refl
+  objects_then (o ∷ os) h =
+      ap (λ x. (o.0, x) ∷ objects_pruned two (objects_pruned one os)) (object_then o.1 (all_left Meets (features_strokes (object_features o.1)) (objects_strokes os) h))
+      ∙ ap (λ xs. (o.0, object_pruned at_once o.1) ∷ xs) (objects_then os (all_right Meets (features_strokes (object_features o.1)) (objects_strokes os) h))
+
+-- ---- what holds of the lines and rings that are left
+
+module _ (kept : Refs) (X : Bool × List ℤ → Type 0) where
+  abbrev pub Leaves : Bool × List ℤ → Type 0
+  Leaves b = (m : List ℤ) → kept b.0 b.1 ≡ Some m → X (b.0, m)
+
+  features_left : (fs : List TopoFeature) → AllByRecursion Leaves (features_strokes fs) → AllByRecursion X (features_strokes (map (feature_pruned kept) fs))
+  features_left [] h = tt
+  features_left (f ∷ fs) h =
+      all_append X (option_strokes (feature_pruned kept f).shape) (features_strokes (map (feature_pruned kept) fs))
+      (option_left (λ p. p) kept X f.shape (all_left Leaves (option_strokes f.shape) (features_strokes fs) h))
+      (features_left fs (all_right Leaves (option_strokes f.shape) (features_strokes fs) h))
+
+  object_left : (o : TopoObject) → AllByRecursion Leaves (features_strokes (object_features o)) → AllByRecursion X (features_strokes (object_features (object_pruned kept o)))
+  object_left (One f) h = features_left (f ∷ []) h
+  object_left (Many fs) h = features_left fs h
+
+  pub objects_left : (os : Named_objects) → AllByRecursion Leaves (objects_strokes os) → AllByRecursion X (objects_strokes (objects_pruned kept os))
+  objects_left [] h = tt
+  objects_left (o ∷ os) h =
+      all_append X (features_strokes (object_features (object_pruned kept o.1))) (objects_strokes (objects_pruned kept os))
+      (object_left o.1 (all_left Leaves (features_strokes (object_features o.1)) (objects_strokes os) h))
+      (objects_left os (all_right Leaves (features_strokes (object_features o.1)) (objects_strokes os) h))
+
+-- ---- the lines and rings where each is replaced
+
+module _ (f : List ℤ → List ℤ) where
+  abbrev all_of : Refs
+  all_of closed refs = Some (f refs)
+
+  abbrev onto : Bool × List ℤ → Bool × List ℤ
+  onto b = (b.0, f b.1)
+
+  option_replaced : (s : Option TopoShape) → option_strokes (then_some (prune (λ (p : Point). p) all_of) s) ≡ map onto (option_strokes s)
+  option_replaced None = refl
+  option_replaced (Some s) = strokes_replaced (λ (p : Point). p) f s
+
+  features_replaced : (fs : List TopoFeature) → features_strokes (map (feature_pruned all_of) fs) ≡ map onto (features_strokes fs)
+  features_replaced [] = refl
+  features_replaced (x ∷ fs) =
+      ap (λ l. l ++ features_strokes (map (feature_pruned all_of) fs)) (option_replaced x.shape)
+      ∙ ap (λ l. map onto (option_strokes x.shape) ++ l) (features_replaced fs)
+      ∙ sym (map-append onto (option_strokes x.shape) (features_strokes fs))
+
+  object_replaced : (o : TopoObject) → features_strokes (object_features (object_pruned all_of o)) ≡ map onto (features_strokes (object_features o))
+  object_replaced (One x) = features_replaced (x ∷ [])
+  object_replaced (Many fs) = features_replaced fs
+
+  pub objects_replaced : (os : Named_objects) → objects_strokes (objects_pruned (λ closed refs. Some (f refs)) os) ≡ map (λ b. (b.0, f b.1)) (objects_strokes os)
+  objects_replaced [] = refl
+  objects_replaced (o ∷ os) =
+      ap (λ l. l ++ objects_strokes (objects_pruned all_of os)) (object_replaced o.1)
+      ∙ ap (λ l. map onto (features_strokes (object_features o.1)) ++ l) (objects_replaced os)
+      ∙ sym (map-append onto (features_strokes (object_features o.1)) (objects_strokes os))

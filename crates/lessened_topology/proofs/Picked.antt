@@ -1,0 +1,57 @@
+-- The positions that are picked by the indexes that reduction leaves are the reduced line.
+use Rattle.std.proofs.Common.{◌≡◌, ℕ, suc, Bool, ◌+◌, List, [], ◌∷◌, map, length, Some, refl, ap, ◌∙◌, arith}
+use Rattle.std.specs.List.{AllByRecursion}
+use Rattle.elimination_meaning.specs.Elimination.{Vertex, numbered, remaining, reduce, reduced}
+use Rattle.elimination_meaning.specs.Laws.{ZeroLaw}
+use Rattle.elimination_meaning.proofs.Steps.{eliminate_sub}
+use Rattle.elimination_meaning.proofs.Sublists.{sub_all}
+use Rattle.geometry.specs.Lists.{with_some}
+use Rattle.geometry.specs.Points.{Point}
+use Rattle.geometry.specs.Joins.{at}
+use Rattle.build_meaning.specs.Trimming.{keep_from}
+use Rattle.lessened_topology.proofs.KeptArcs.{kept_of_map}
+use Rattle.lessened_topology.specs.Laws.{PickedIsReduced}
+use Rattle.lessened_topology.specs.Lessened.{picked, picked_arcs}
+
+-- the vertex stands in the line at its index
+abbrev Stands : List Point → Vertex → Type 0
+Stands ps v = at ps v.index ≡ Some v.point
+
+numbered_stand : (ps : List Point) (i : ℕ) (qs : List Point) → ((j : ℕ) → at ps (i + j) ≡ at qs j) → AllByRecursion (Stands ps) (numbered i qs)
+numbered_stand ps i [] h = tt
+numbered_stand ps i (q ∷ qs) h = (
+  ap (at ps) (let e : i ≡ i + 0 = omega arith in e) ∙ h 0,
+  numbered_stand ps (i + 1) qs (λ j. ap (at ps) (let e : i + 1 + j ≡ i + suc j = omega arith in e) ∙ h (suc j)),
+)
+
+points_picked : (ps : List Point) (vs : List Vertex) → AllByRecursion (Stands ps) vs → picked (map (λ v. v.index) vs) ps ≡ map (λ v. v.point) vs
+points_picked ps [] h = refl
+points_picked ps (v ∷ vs) h = ap (λ o. with_some o (picked (map (λ v. v.index) vs) ps)) h.0 ∙ ap (λ l. v.point ∷ l) (points_picked ps vs h.1)
+
+pub picked_is_reduced : PickedIsReduced
+unfolding reduce reduced
+picked_is_reduced t ps =
+    points_picked ps (remaining t ps)
+    (sub_all (Stands ps) (eliminate_sub (length ps) t (numbered 0 ps))
+    (numbered_stand ps 0 ps (λ j. ap (at ps) (let e : 0 + j ≡ j = omega arith in e))))
+
+-- each arc is picked by its own indexes
+picked_each : (f : List Point → List ℕ) (arcs : List (List Point)) → picked_arcs (map f arcs) arcs ≡ map (λ a. picked (f a) a) arcs
+picked_each f [] = refl
+picked_each f (a ∷ arcs) = ap (λ xs. picked (f a) a ∷ xs) (picked_each f arcs)
+
+each_reduced : (t : ℕ) (arcs : List (List Point)) → map (λ a. picked (reduce t a) a) arcs ≡ map (reduced t) arcs
+each_reduced t [] = refl
+each_reduced t (a ∷ arcs) = ap (λ x. x ∷ map (λ a. picked (reduce t a) a) arcs) (picked_is_reduced t a) ∙ ap (λ xs. reduced t a ∷ xs) (each_reduced t arcs)
+
+each_again : ZeroLaw → (t : ℕ) (arcs : List (List Point)) → map (reduced t) (map (reduced 0) arcs) ≡ map (reduced t) arcs
+each_again zero t [] = refl
+each_again zero t (a ∷ arcs) =
+    ap (λ x. x ∷ map (reduced t) (map (reduced 0) arcs)) (ap (reduced t) (zero a)) ∙ ap (λ xs. reduced t a ∷ xs) (each_again zero t arcs)
+
+-- so arcs that were reduced at zero and of which some are left out are reduced as they were before
+pub arcs_again : ZeroLaw → (t : ℕ) (used : ℕ → Bool) (arcs : List (List Point)) →
+    picked_arcs (map (reduce t) (keep_from used 0 (map (reduced 0) arcs))) (keep_from used 0 (map (reduced 0) arcs)) ≡ keep_from used 0 (map (reduced t) arcs)
+arcs_again zero t used arcs =
+    picked_each (reduce t) (keep_from used 0 (map (reduced 0) arcs)) ∙ each_reduced t (keep_from used 0 (map (reduced 0) arcs))
+    ∙ kept_of_map (reduced t) used 0 (map (reduced 0) arcs) ∙ ap (keep_from used 0) (each_again zero t arcs)

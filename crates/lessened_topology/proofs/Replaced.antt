@@ -1,0 +1,87 @@
+-- Where each line and ring is replaced and none is left out, the lines and rings are those that stand for them.
+use Rattle.std.proofs.Common.{◌≡◌, Bool, true, false, List, [], ◌∷◌, ◌++◌, map, Option, None, Some, refl, sym, ap, ◌∙◌}
+use Rattle.std.proofs.lemmas.List.{map-append}
+use Rattle.std.specs.List.{AllByRecursion}
+use Rattle.geometry.specs.declared.shape.Geometry.{Geometry}
+use Rattle.geometry.specs.declared.shape.Geometry.TheVariants as g
+use Rattle.geometry.specs.Lists.{map_some, with_some, some_of, unless_empty, joined}
+use Rattle.geometry.specs.Pruning.{area_by, prune, strokes, option_strokes}
+use Rattle.geometry.proofs.Cases.{prune-point, prune-points, prune-line, prune-lines, prune-area, prune-areas, prune-group, strokes-point, strokes-points, strokes-line, strokes-lines, strokes-area, strokes-areas, strokes-group}
+use Rattle.geometry.proofs.Induction.{by_kinds}
+
+module _ {P Q L M : Type 0} (place : P → Q) (f : L → M) where
+  abbrev give : Bool → L → Option M
+  give closed l = Some (f l)
+
+  abbrev pub onto : Bool × L → Bool × M
+  onto b = (b.0, f b.1)
+
+  abbrev before : Geometry P L L → List (Bool × L)
+  before = strokes
+
+  abbrev within : Geometry Q M M → List (Bool × M)
+  within = strokes
+
+  abbrev after : Option (Geometry Q M M) → List (Bool × M)
+  after = option_strokes
+
+  abbrev run : Geometry P L L → Option (Geometry Q M M)
+  run = prune place give
+
+  abbrev Replaced : Geometry P L L → Type 0
+  Replaced s = after (run s) ≡ map onto (before s)
+
+  abbrev tagged : {A : Type 0} → Bool → List A → List (Bool × A)
+  tagged closed ms = map (λ m. (closed, m)) ms
+
+  -- ---- lists of lines
+
+  some_tagged : (closed : Bool) (ls : List L) → tagged closed (some_of (give closed) ls) ≡ map onto (tagged closed ls)
+  some_tagged closed [] = refl
+  some_tagged closed (l ∷ ls) = ap (λ ms. (closed, f l) ∷ ms) (some_tagged closed ls)
+
+  lines_after : (ms : List M) → after (unless_empty g.Lines ms) ≡ tagged false ms
+  lines_after [] = refl
+  lines_after (m ∷ ms) = strokes-lines Q M (m ∷ ms)
+
+  area_after : (rs : List L) → after (map_some g.Area (area_by (give true) rs)) ≡ map onto (tagged true rs)
+  area_after [] = refl
+  area_after (o ∷ holes) = strokes-area Q M (f o ∷ some_of (give true) holes) ∙ ap (λ ms. (true, f o) ∷ ms) (some_tagged true holes)
+
+  areas_after : (mss : List (List M)) → after (unless_empty g.Areas mss) ≡ joined (map (map (λ m. (true, m))) mss)
+  areas_after [] = refl
+  areas_after (ms ∷ mss) = strokes-areas Q M (ms ∷ mss)
+
+  some_areas : (areas : List (List L)) → joined (map (map (λ m. (true, m))) (some_of (area_by (give true)) areas)) ≡ map onto (joined (map (map (λ l. (true, l))) areas))
+  some_areas [] = refl
+  some_areas ([] ∷ areas) = some_areas areas
+  some_areas ((o ∷ holes) ∷ areas) =
+      ap (λ ms. ((true, f o) ∷ ms) ++ joined (map (map (λ m. (true, m))) (some_of (area_by (give true)) areas))) (some_tagged true holes)
+      ∙ ap (λ ms. map onto (tagged true (o ∷ holes)) ++ ms) (some_areas areas)
+      ∙ sym (map-append onto (tagged true (o ∷ holes)) (joined (map (map (λ l. (true, l))) areas)))
+
+  -- ---- groups
+
+  with_member : (o : Option (Geometry Q M M)) (ts : List (Geometry Q M M)) → joined (map within (with_some o ts)) ≡ after o ++ joined (map within ts)
+  with_member None ts = refl
+  with_member (Some t) ts = refl
+
+  members : (ss : List (Geometry P L L)) → AllByRecursion Replaced ss → joined (map within (some_of run ss)) ≡ map onto (joined (map before ss))
+  members [] all = refl
+  members (s ∷ ss) all =
+      with_member (run s) (some_of run ss) ∙ ap (λ ms. ms ++ joined (map within (some_of run ss))) all.0
+      ∙ ap (λ ms. map onto (before s) ++ ms) (members ss all.1)
+      ∙ sym (map-append onto (before s) (joined (map before ss)))
+
+  -- ---- shapes
+
+  pub strokes_replaced : (s : Geometry P L L) → option_strokes (prune place (λ closed l. Some (f l)) s) ≡ map (λ b. (b.0, f b.1)) (strokes s)
+  strokes_replaced = by_kinds Replaced (record {
+    point = λ p. ap after (prune-point place give p) ∙ strokes-point Q M (place p) ∙ sym (ap (map onto) (strokes-point P L p));
+    points = λ ps. ap after (prune-points place give ps) ∙ strokes-points Q M (map place ps) ∙ sym (ap (map onto) (strokes-points P L ps));
+    line = λ l. ap after (prune-line place give l) ∙ strokes-line Q M (f l) ∙ sym (ap (map onto) (strokes-line P L l));
+    lines = λ ls. ap after (prune-lines place give ls) ∙ lines_after (some_of (give false) ls) ∙ some_tagged false ls ∙ sym (ap (map onto) (strokes-lines P L ls));
+    area = λ rs. ap after (prune-area place give rs) ∙ area_after rs ∙ sym (ap (map onto) (strokes-area P L rs));
+    areas = λ areas. ap after (prune-areas place give areas) ∙ areas_after (some_of (area_by (give true)) areas) ∙ some_areas areas ∙ sym (ap (map onto) (strokes-areas P L areas));
+    group = λ ss all. ap after (prune-group place give ss) ∙ strokes-group Q M (some_of run ss) ∙ members ss all ∙ sym (ap (map onto) (strokes-group P L ss));
+  })

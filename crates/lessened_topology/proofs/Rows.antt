@@ -1,0 +1,158 @@
+-- Worked rows of topologies whose arcs are reduced, computed from the definitions. The fold of a shape is opened by its kind.
+use Rattle.std.proofs.Common.{◌≡◌, ◌==◌, ℕ, ◌-◌, ℤ, pos, negsuc, Bool, true, false, List, [], ◌∷◌, ◌++◌, Option, None, Some, refl, ap, ◌∙◌}
+use Rattle.std.specs.List.{list_any}
+use Rattle.elimination_meaning.specs.Elimination.{is_before, reduce}
+use Rattle.geometry.specs.Areas.{cross, twice_area}
+use Rattle.geometry.specs.declared.address.Cause.TheVariants.{Small, Outer}
+use Rattle.geometry.specs.declared.shape.Geometry.TheVariants as g
+use Rattle.geometry.specs.Omissions.{omissions, dropped_of_layers}
+use Rattle.geometry.specs.Points.{Point}
+use Rattle.geometry.specs.Pruning.{prune, strokes}
+use Rattle.geometry.specs.Rings.{same}
+use Rattle.geometry.proofs.Cases.{prune-line, prune-area, strokes-line, strokes-area, omissions-area, omissions-line}
+use Rattle.topojson_types.specs.declared.feature.TopoFeature.{TopoFeature}
+use Rattle.topojson_types.specs.declared.object.TopoObject.{TopoObject}
+use Rattle.topojson_types.specs.declared.object.TopoObject.TheVariants.{One, Many}
+use Rattle.geometry.specs.Joins.{number_of}
+use Rattle.topojson_types.specs.Topologies.{TopoShape, Contents, objects_strokes}
+use Rattle.build_meaning.specs.Built.{positions_of}
+use Rattle.build_meaning.specs.Trimming.{is_used, keep_from, line_renumbered, trimmed}
+use Rattle.lessened_topology.specs.Lessened.{picked_arcs, small_cause, large_refs, picked_whole, lessened_by, dropped_by, taken_out_by}
+use Rattle.lessened_topology.specs.Thresholds.{reduced_indexes, lessened, lessened_dropped, lessened_taken_out}
+
+abbrev at : ℕ → ℕ → Point
+at x y = record { x = pos x; y = pos y }
+
+abbrev feature : Option TopoShape → TopoFeature
+feature s = record { id = None; properties = None; shape = s }
+
+-- one object of two features
+abbrev two : Option TopoShape → Option TopoShape → List (List ℕ × TopoObject)
+two s t = ((97 ∷ []), Many (feature s ∷ (feature t ∷ []))) ∷ []
+
+-- ---- a square of side 10 with a triangle as its hole, and an open line on a third arc, backwards
+
+abbrev square : List Point
+square = at 0 0 ∷ (at 10 0 ∷ (at 10 10 ∷ (at 0 10 ∷ (at 0 0 ∷ []))))
+
+abbrev triangle : List Point
+triangle = at 2 2 ∷ (at 3 2 ∷ (at 2 3 ∷ (at 2 2 ∷ [])))
+
+abbrev bent : List Point
+bent = at 20 0 ∷ (at 21 1 ∷ (at 23 0 ∷ []))
+
+abbrev rings : List (List ℤ)
+rings = (pos 0 ∷ []) ∷ ((pos 1 ∷ []) ∷ [])
+
+abbrev holed : Contents
+holed = record { objects = two (Some (g.Area rings)) (Some (g.Line (negsuc 2 ∷ []))); arcs = square ∷ (triangle ∷ (bent ∷ [])); transform = None }
+
+abbrev fewer : List (List Point)
+fewer = square ∷ ((at 2 2 ∷ (at 2 2 ∷ [])) ∷ (bent ∷ []))
+
+-- at a threshold of 2 the triangle, of twice the area 1, is left with its two ends, and the bent line, of 3, stays
+holed_indexes : reduced_indexes 2 holed ≡ (0 ∷ (1 ∷ (2 ∷ (3 ∷ (4 ∷ []))))) ∷ ((0 ∷ (3 ∷ [])) ∷ ((0 ∷ (1 ∷ (2 ∷ []))) ∷ []))
+unfolding reduce is_before twice_area cross
+holed_indexes = refl
+
+holed_arcs : picked_arcs (reduced_indexes 2 holed) holed.arcs ≡ fewer
+unfolding reduce is_before twice_area cross
+holed_arcs = refl
+
+holed_area : prune (λ (p : Point). p) (large_refs fewer) (g.Area rings) ≡ Some (g.Area ((pos 0 ∷ []) ∷ []))
+unfolding same
+holed_area = prune-area (λ (p : Point). p) (large_refs fewer) rings
+
+holed_line : prune (λ (p : Point). p) (large_refs fewer) (g.Line (negsuc 2 ∷ [])) ≡ Some (g.Line (negsuc 2 ∷ []))
+unfolding same
+holed_line = prune-line (λ (p : Point). p) (large_refs fewer) (negsuc 2 ∷ [])
+
+abbrev whole : List (List Point) → Contents
+whole arcs = record { objects = two (prune (λ p. p) (large_refs arcs) (g.Area rings)) (prune (λ p. p) (large_refs arcs) (g.Line (negsuc 2 ∷ []))); arcs = arcs; transform = None }
+
+-- what is left before arcs are left out
+abbrev left : Contents
+left = record { objects = two (Some (g.Area ((pos 0 ∷ []) ∷ []))) (Some (g.Line (negsuc 2 ∷ []))); arcs = fewer; transform = None }
+
+holed_left : picked_whole (reduced_indexes 2 holed) holed ≡ left
+holed_left = ap whole holed_arcs ∙ ap (λ s. record { objects = two s (prune (λ p. p) (large_refs fewer) (g.Line (negsuc 2 ∷ []))); arcs = fewer; transform = None }) holed_area
+    ∙ ap (λ s. record { objects = two (Some (g.Area ((pos 0 ∷ []) ∷ []))) s; arcs = fewer; transform = None }) holed_line
+
+abbrev names : List (Bool × List ℤ)
+names = (true, pos 0 ∷ []) ∷ ((false, negsuc 2 ∷ []) ∷ [])
+
+left_strokes : objects_strokes left.objects ≡ names
+left_strokes = ap (λ l. (l ++ (strokes {P = Point} (g.Line (negsuc 2 ∷ [])) ++ [])) ++ []) (strokes-area Point (List ℤ) ((pos 0 ∷ []) ∷ []))
+    ∙ ap (λ l. (((true, pos 0 ∷ []) ∷ []) ++ (l ++ [])) ++ []) (strokes-line Point (List ℤ) (negsuc 2 ∷ []))
+
+abbrev used_in : List (Bool × List ℤ) → ℕ → Bool
+used_in bs i = list_any (λ b. list_any (λ r. number_of r == i) b.1) bs
+
+-- without the triangle, and the third arc is the second
+abbrev lessened_holed : Contents
+lessened_holed = record { objects = two (Some (g.Area ((pos 0 ∷ []) ∷ []))) (Some (g.Line (negsuc 1 ∷ []))); arcs = square ∷ (bent ∷ []); transform = None }
+
+abbrev trimmed_by : (ℕ → Bool) → Contents
+trimmed_by u =
+    record {
+      objects = two (prune (λ p. p) (line_renumbered u) (g.Area ((pos 0 ∷ []) ∷ []))) (prune (λ p. p) (line_renumbered u) (g.Line (negsuc 2 ∷ [])));
+      arcs = keep_from u 0 fewer;
+      transform = None;
+    }
+
+holed_at_two : lessened 2 holed ≡ lessened_holed
+unfolding lessened lessened_by trimmed number_of
+holed_at_two =
+    ap trimmed holed_left
+    ∙ ap (λ bs. trimmed_by (used_in bs)) left_strokes
+    ∙ ap (λ s. record { objects = two s (prune (λ p. p) (line_renumbered (used_in names)) (g.Line (negsuc 2 ∷ []))); arcs = square ∷ (bent ∷ []); transform = None })
+    (prune-area (λ (p : Point). p) (line_renumbered (used_in names)) ((pos 0 ∷ []) ∷ []))
+    ∙ ap (λ s. record { objects = two (Some (g.Area ((pos 0 ∷ []) ∷ []))) s; arcs = square ∷ (bent ∷ []); transform = None })
+    (prune-line (λ (p : Point). p) (line_renumbered (used_in names)) (negsuc 2 ∷ []))
+
+-- the hole is told of, as Small
+holed_dropped : lessened_dropped 2 holed ≡ record { address = record { layer = 0; feature = 0; path = 1 ∷ [] }; cause = Small } ∷ []
+unfolding lessened_dropped dropped_by same
+holed_dropped =
+    ap (λ arcs. dropped_of_layers 0 ((omissions {P = Point} (small_cause arcs) (g.Area rings) ∷ (omissions {P = Point} (small_cause arcs) (g.Line (negsuc 2 ∷ [])) ∷ [])) ∷ [])) holed_arcs
+    ∙ ap (λ o. dropped_of_layers 0 ((o ∷ (omissions {P = Point} (small_cause fewer) (g.Line (negsuc 2 ∷ [])) ∷ [])) ∷ [])) (omissions-area Point (List ℤ) (small_cause fewer) rings)
+    ∙ ap (λ o. dropped_of_layers 0 (((record { path = 1 ∷ []; part = Small } ∷ []) ∷ (o ∷ [])) ∷ [])) (omissions-line Point (List ℤ) (small_cause fewer) (negsuc 2 ∷ []))
+
+-- of the arcs that stay nothing is taken out: the triangle's isn't counted
+holed_taken_out : lessened_taken_out 2 holed ≡ 0
+unfolding lessened_taken_out taken_out_by lessened_by trimmed number_of
+holed_taken_out =
+    ap (λ y. positions_of (keep_from (is_used y.objects) 0 holed.arcs) - positions_of (trimmed y).arcs) holed_left
+    ∙ ap (λ bs. positions_of (keep_from (used_in bs) 0 holed.arcs) - positions_of (keep_from (used_in bs) 0 fewer)) left_strokes
+
+-- ---- where the outer ring is the triangle, the square goes with it
+
+abbrev swapped : List (List ℤ)
+swapped = (pos 1 ∷ []) ∷ ((pos 0 ∷ []) ∷ [])
+
+swapped_area : prune (λ (p : Point). p) (large_refs fewer) (g.Area swapped) ≡ None
+unfolding same
+swapped_area = prune-area (λ (p : Point). p) (large_refs fewer) swapped
+
+swapped_dropped : omissions {P = Point} (small_cause fewer) (g.Area swapped) ≡ record { path = 0 ∷ []; part = Small } ∷ (record { path = 1 ∷ []; part = Outer } ∷ [])
+unfolding same
+swapped_dropped = omissions-area Point (List ℤ) (small_cause fewer) swapped
+
+-- ---- a geometry object that is no collection stands in the place of a layer, and is its feature 0
+
+abbrev lone : Contents
+lone =
+    record { objects = ((97 ∷ []), Many []) ∷ (((98 ∷ []), One (feature (Some (g.Line (pos 0 ∷ []))))) ∷ []); arcs = triangle ∷ []; transform = None }
+
+abbrev lone_fewer : List (List Point)
+lone_fewer = (at 2 2 ∷ (at 2 2 ∷ [])) ∷ []
+
+lone_arcs : picked_arcs (reduced_indexes 2 lone) lone.arcs ≡ lone_fewer
+unfolding reduce is_before twice_area cross
+lone_arcs = refl
+
+lone_dropped : lessened_dropped 2 lone ≡ record { address = record { layer = 1; feature = 0; path = [] }; cause = Small } ∷ []
+unfolding lessened_dropped dropped_by same
+lone_dropped =
+    ap (λ arcs. dropped_of_layers 0 ([] ∷ ((omissions {P = Point} (small_cause arcs) (g.Line (pos 0 ∷ [])) ∷ []) ∷ []))) lone_arcs
+    ∙ ap (λ o. dropped_of_layers 0 ([] ∷ ((o ∷ []) ∷ []))) (omissions-line Point (List ℤ) (small_cause lone_fewer) (pos 0 ∷ []))

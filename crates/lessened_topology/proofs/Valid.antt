@@ -1,0 +1,109 @@
+-- A topology whose arcs are reduced stays valid.
+use Rattle.std.proofs.Common.{◌≡◌, ℕ, ◌≤◌, ℤ, Bool, true, List, [], ◌∷◌, map, length, Option, None, Some, refl, sym, ap, subst}
+use Rattle.std.specs.List.{AllByRecursion}
+use Rattle.geometry.specs.declared.address.Cause.{Cause}
+use Rattle.geojson_types.specs.Features.{is_some_list}
+use Rattle.geometry.specs.Points.{Point}
+use Rattle.topojson_types.specs.declared.object.TopoObject.{TopoObject}
+use Rattle.topojson_types.specs.Decoding.{placed_arcs}
+use Rattle.geometry.specs.Joins.{arc_at, Meet, Closes}
+use Rattle.topojson_types.specs.Topologies.{Contents, objects_strokes}
+use Rattle.topojson_types.specs.Validity.{AreDistinct, AreInRange, IsJoined, IsClosed, IsArc, IsTopology}
+use Rattle.build_meaning.specs.Expected.{unless}
+use Rattle.build_meaning.specs.Trimming.{is_used, keep_from, renumbered, line_renumbered, trimmed}
+use Rattle.list_laws.proofs.Elements.{all_weaker, all_two}
+use Rattle.build_meaning.proofs.Trimmed.{AllUsed, all_renumbered, all_used}
+use Rattle.build_meaning.proofs.ValidEnds.{meet_as, close_as}
+use Rattle.build_meaning.proofs.ValidTrimmed.{all_kept, all_below, of_objects}
+use Rattle.lessened_topology.specs.Laws.{LessenedIsValid}
+use Rattle.lessened_topology.specs.Lessened.{Refs, small_cause, large_refs, objects_pruned, picked_arcs, picked_whole, lessened_by, EachFromFirstToLast}
+use Rattle.lessened_topology.proofs.Objects.{objects_left}
+use Rattle.lessened_topology.proofs.ValidPicked.{picked_length, named_picked, picked_are_arcs}
+use Rattle.lessened_topology.proofs.ValidPruned.{GivesSome, objects_are}
+
+names_stay : (kept : Refs) (os : List (List ℕ × TopoObject)) → map (λ o. o.0) (objects_pruned kept os) ≡ map (λ o. o.0) os
+names_stay kept [] = refl
+names_stay kept (o ∷ os) = ap (λ ns. o.0 ∷ ns) (names_stay kept os)
+
+-- the indexes name arcs that meet, and those of a ring close
+abbrev IsFine : List (List Point) → Bool × List ℤ → Type 0
+IsFine arcs b = AreInRange (length arcs) b.1 × IsJoined arcs b × IsClosed arcs b
+
+all_fine : (y : Contents) → IsTopology y → AllByRecursion (IsFine y.arcs) (objects_strokes y.objects)
+all_fine y h =
+    all_two (λ b. AreInRange (length y.arcs) b.1) (λ b. IsJoined y.arcs b × IsClosed y.arcs b) (IsFine y.arcs) (λ b r k. (r, k.0, k.1)) (objects_strokes y.objects) h.ranged
+    (all_two (IsJoined y.arcs) (IsClosed y.arcs) (λ b. IsJoined y.arcs b × IsClosed y.arcs b) (λ b j c. (j, c)) (objects_strokes y.objects) h.joined h.closed)
+
+-- ---- without the arcs that no line uses
+
+some_renumbered : (used : ℕ → Bool) → GivesSome (line_renumbered used)
+some_renumbered used closed [] h m e = cc
+some_renumbered used closed (r ∷ rs) h m e = let same : map (renumbered used) (r ∷ rs) ≡ m = cc in subst (λ z. is_some_list z ≡ true) same refl
+
+valid_trimmed : (y : Contents) → IsTopology y → IsTopology (trimmed y)
+unfolding trimmed
+valid_trimmed y h =
+    let used : ℕ → Bool = is_used y.objects in
+    let left : List (List Point) = keep_from used 0 y.arcs in
+    let os : List (List ℕ × TopoObject) = objects_pruned (line_renumbered used) y.objects in
+    let fine : AllByRecursion (IsFine left) (objects_strokes os) =
+    of_objects used (IsFine left) y.objects
+    (all_two (IsFine y.arcs) (AllUsed used) (λ b. IsFine left (b.0, map (renumbered used) b.1))
+    (λ b f k. (
+      all_below used y.arcs b.1 k f.0,
+      subst Meet (sym (all_renumbered used y.arcs b.1 k)) f.1,
+      λ c. subst Closes (sym (all_renumbered used y.arcs b.1 k)) (f.2 c),
+    )) (objects_strokes y.objects) (all_fine y h) (all_used y.objects)) in
+    record {
+      names = subst AreDistinct (sym (names_stay (line_renumbered used) y.objects)) h.names;
+      transform = h.transform;
+      objects = objects_are (line_renumbered used) (some_renumbered used) y.transform y.objects h.objects;
+      arcs = all_kept (IsArc y.transform) used 0 y.arcs h.arcs;
+      ranged = all_weaker (IsFine left) (λ b. AreInRange (length left) b.1) (λ b f. f.0) (objects_strokes os) fine;
+      joined = all_weaker (IsFine left) (IsJoined left) (λ b f. f.1) (objects_strokes os) fine;
+      closed = all_weaker (IsFine left) (IsClosed left) (λ b f. f.2) (objects_strokes os) fine;
+    }
+
+-- ---- without some cells between the ends of arcs, and without lines that are too short
+
+some_large : (arcs : List (List Point)) → GivesSome (large_refs arcs)
+some_large arcs closed l h m e = on (small_cause arcs closed l) e
+  where
+    on : (w : Option Cause) → unless w l ≡ Some m → is_some_list m ≡ true
+    on None k = let same : l ≡ m = cc in subst (λ z. is_some_list z ≡ true) same h
+    on (Some c) k = cc
+
+valid_whole : (kept : List (List ℕ)) (y : Contents) → IsTopology y → EachFromFirstToLast kept y.arcs → IsTopology (picked_whole kept y)
+valid_whole kept y h through =
+    let fewer : List (List Point) = picked_arcs kept y.arcs in
+    let places : List (List Point) = placed_arcs y.transform fewer in
+    let os : List (List ℕ × TopoObject) = objects_pruned (large_refs places) y.objects in
+    let long : AllByRecursion (λ a. 2 ≤ length a) y.arcs = all_weaker (IsArc y.transform) (λ a. 2 ≤ length a) (λ a k. k.0) y.arcs h.arcs in
+    let ends = named_picked kept y.arcs long through in
+    let fine : AllByRecursion (IsFine fewer) (objects_strokes os) =
+    objects_left (large_refs places) (IsFine fewer) y.objects
+    (all_weaker (IsFine y.arcs) (λ b. (m : List ℤ) → large_refs places b.0 b.1 ≡ Some m → IsFine fewer (b.0, m))
+    (λ b f m e. same fewer b m (small_cause places b.0 b.1) (
+      subst (λ n. AreInRange n b.1) (sym (picked_length kept y.arcs through)) f.0,
+      meet_as (arc_at fewer) (arc_at y.arcs) ends b.1 f.1,
+      λ c. close_as (arc_at fewer) (arc_at y.arcs) ends b.1 (f.2 c),
+    ) e) (objects_strokes y.objects) (all_fine y h)) in
+    record {
+      names = subst AreDistinct (sym (names_stay (large_refs places) y.objects)) h.names;
+      transform = h.transform;
+      objects = objects_are (large_refs places) (some_large places) y.transform y.objects h.objects;
+      arcs = picked_are_arcs y.transform kept y.arcs h.arcs through;
+      ranged = all_weaker (IsFine fewer) (λ b. AreInRange (length fewer) b.1) (λ b f. f.0) (objects_strokes os) fine;
+      joined = all_weaker (IsFine fewer) (IsJoined fewer) (λ b f. f.1) (objects_strokes os) fine;
+      closed = all_weaker (IsFine fewer) (IsClosed fewer) (λ b f. f.2) (objects_strokes os) fine;
+    }
+  where
+    same : (fewer : List (List Point)) (b : Bool × List ℤ) (m : List ℤ) (w : Option Cause) → IsFine fewer b → unless w b.1 ≡ Some m → IsFine fewer (b.0, m)
+    same fewer b m None f k = let it : b.1 ≡ m = cc in subst (λ z. IsFine fewer (b.0, z)) it f
+    same fewer b m (Some c) f k = cc
+
+-- ---- both
+
+pub lessened_is_valid : LessenedIsValid
+unfolding lessened_by
+lessened_is_valid kept y h through = valid_trimmed (picked_whole kept y) (valid_whole kept y h through)

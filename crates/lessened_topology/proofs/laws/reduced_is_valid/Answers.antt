@@ -1,0 +1,5 @@
+use Rattle.lessened_topology.proofs.Reaching.{reduced_is_valid}
+use Rattle.lessened_topology.proofs.laws.reduced_is_valid.Goals as goal
+
+pub returns : goal.returns
+returns c t y h = reduced_is_valid t y h

@@ -1,0 +1,76 @@
+-- What is true of reducing a topology again.
+use Rattle.std.specs.Prelude.{◌≡◌, ℕ, List, None, Some}
+use Rattle.std.specs.List.{AllByRecursion}
+use Rattle.build_meaning.specs.Built.{built}
+use Rattle.build_meaning.specs.Expected.{expected}
+use Rattle.build_meaning.specs.Laws.{AreSound}
+use Rattle.build_meaning.specs.Layers.{Named, names_of, layers_of}
+use Rattle.elimination_meaning.specs.Elimination.{reduce, reduced}
+use Rattle.geojson_types.specs.declared.layer.FeatureSet.TheVariants as set
+use Rattle.geometry.specs.Points.{Point}
+use Rattle.linework.specs.Laws.{layers_points}
+use Rattle.topojson_types.specs.declared.transform.Transform.{Transform}
+use Rattle.topojson_types.specs.Decoding.{decoded}
+use Rattle.topojson_types.specs.Topologies.{Contents}
+use Rattle.topojson_types.specs.Transforms.{IsTransform}
+use Rattle.topojson_types.specs.Validity.{AreDistinct, IsTopology}
+use Rattle.lessened_topology.specs.Celled.{celled, LiesBack, IsOnGrid, EachCell}
+use Rattle.lessened_topology.specs.Lessened.{picked, EachFromFirstToLast, lessened_by}
+use Rattle.lessened_topology.specs.Thresholds.{reduced_indexes, lessened}
+
+-- ---- reduction
+
+-- the positions of the indexes that stay are those of the reduced line
+abbrev pub PickedIsReduced : Type 0
+PickedIsReduced = (t : ℕ) (ps : List Point) → picked (reduce t ps) ps ≡ reduced t ps
+
+-- what is built of layers at zero and then reduced is what is built of them at the threshold
+abbrev pub LessensToBuilt : Type 0
+LessensToBuilt = (t : ℕ) (ls : Named) → AreSound ls → lessened t (built 0 ls) ≡ built t ls
+
+-- the same on a grid where each position of the layers lies on it
+abbrev pub LessensToBuiltOnGrid : Type 0
+LessensToBuiltOnGrid = (transform : Transform) (cell : Point → Point) (t : ℕ) (ls : Named) → AreSound ls → AllByRecursion (LiesBack transform cell) (layers_points (layers_of ls))
+    → lessened t (celled transform cell (built 0 ls)) ≡ celled transform cell (built t ls)
+
+-- ---- on a grid
+
+-- where the cell of each position lies at it, the same is decoded of the cells
+abbrev pub CelledDecodes : Type 0
+CelledDecodes = (transform : Transform) (cell : Point → Point) (y : Contents) (name : List ℕ) → y.transform ≡ None → EachCell (LiesBack transform cell) y
+    → decoded (celled transform cell y) name ≡ decoded y name
+
+-- so it is with what is built of layers whose positions lie on the grid
+abbrev pub BuiltDecodesOnGrid : Type 0
+BuiltDecodesOnGrid = (transform : Transform) (cell : Point → Point) (t : ℕ) (ls : Named) (name : List ℕ) → AllByRecursion (LiesBack transform cell) (layers_points (layers_of ls))
+    → decoded (celled transform cell (built t ls)) name ≡ decoded (built t ls) name
+
+-- and so decoding gives each layer the features that are expected of it
+abbrev pub DecodesBackOnGrid : Type 0
+DecodesBackOnGrid = (transform : Transform) (cell : Point → Point) (t : ℕ) (ls : Named) → AreSound ls → AreDistinct (names_of ls)
+    → AllByRecursion (LiesBack transform cell) (layers_points (layers_of ls))
+    → AllByRecursion (λ l. decoded (celled transform cell (built t ls)) l.0 ≡ Some (set.Many l.1.features)) (expected t ls)
+
+-- a valid topology whose positions lie on a grid is valid on it
+abbrev pub CelledIsValid : Type 0
+CelledIsValid = (transform : Transform) (cell : Point → Point) (y : Contents) → IsTransform transform → y.transform ≡ None → EachCell (IsOnGrid transform cell) y
+    → IsTopology y → IsTopology (celled transform cell y)
+
+-- and so is what is built of layers
+abbrev pub BuiltIsValidOnGrid : Type 0
+BuiltIsValidOnGrid = (transform : Transform) (cell : Point → Point) (t : ℕ) (ls : Named) → IsTransform transform → AreSound ls → AreDistinct (names_of ls)
+    → AllByRecursion (IsOnGrid transform cell) (layers_points (layers_of ls)) → IsTopology (celled transform cell (built t ls))
+
+-- ---- validity
+
+-- a topology whose arcs keep their ends stays valid
+abbrev pub LessenedIsValid : Type 0
+LessenedIsValid = (kept : List (List ℕ)) (y : Contents) → IsTopology y → EachFromFirstToLast kept y.arcs → IsTopology (lessened_by kept y)
+
+-- the numbers of the cells that stay begin with the first and end with the last
+abbrev pub IndexesReach : Type 0
+IndexesReach = (t : ℕ) (y : Contents) → IsTopology y → EachFromFirstToLast (reduced_indexes t y) y.arcs
+
+-- so a topology that is reduced is valid
+abbrev pub ReducedIsValid : Type 0
+ReducedIsValid = (t : ℕ) (y : Contents) → IsTopology y → IsTopology (lessened t y)

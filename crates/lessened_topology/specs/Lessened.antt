@@ -1,0 +1,94 @@
+-- Topologies of whose arcs only some cells are kept: the numbers of these are given, a list for each arc.
+use Rattle.std.specs.Prelude.{◌≡◌, ℕ, ◌-◌, ℤ, Bool, List, [], ◌∷◌, Option, None, Some, length, map, if◌then◌else◌}
+use Rattle.build_meaning.specs.Built.{positions_of}
+use Rattle.build_meaning.specs.Expected.{is_small, unless}
+use Rattle.build_meaning.specs.Trimming.{is_used, keep_from, trimmed}
+use Rattle.geometry.specs.declared.address.Cause.{Cause}
+use Rattle.geometry.specs.declared.address.Cause.TheVariants.{Small}
+use Rattle.geometry.specs.declared.address.Dropped.{Dropped}
+use Rattle.geometry.specs.Lists.{then_some, some_of}
+use Rattle.geometry.specs.Omissions.{omissions, dropped_of_layers}
+use Rattle.geometry.specs.Paths.{Placed}
+use Rattle.geometry.specs.Points.{Point}
+use Rattle.geometry.specs.Pruning.{prune}
+use Rattle.topojson_types.specs.declared.feature.TopoFeature.{TopoFeature}
+use Rattle.topojson_types.specs.declared.object.TopoObject.{TopoObject}
+use Rattle.topojson_types.specs.declared.object.TopoObject.TheVariants.{One, Many}
+use Rattle.topojson_types.specs.Decoding.{placed_arcs}
+use Rattle.geometry.specs.Joins.{at, arc_at, rejoined, first_of, last_of}
+use Rattle.topojson_types.specs.Topologies.{TopoShape, Contents, object_features}
+
+-- ---- arcs
+
+-- the elements of these numbers
+abbrev pub picked : {X : Type 0} → List ℕ → List X → List X
+picked is xs = some_of (at xs) is
+
+-- of each arc the cells of these numbers
+abbrev pub picked_arcs : List (List ℕ) → List (List Point) → List (List Point)
+picked_arcs [] arcs = []
+picked_arcs (is ∷ more) [] = []
+picked_arcs (is ∷ more) (cells ∷ arcs) = picked is cells ∷ picked_arcs more arcs
+
+-- numbers that begin with the first and end with the last of so many
+abbrev pub FromFirstToLast : ℕ → List ℕ → Type 0
+FromFirstToLast n is = (first_of is ≡ Some 0) × (last_of is ≡ Some (n - 1))
+
+-- such numbers for each arc
+abbrev pub EachFromFirstToLast : List (List ℕ) → List (List Point) → Type 0
+EachFromFirstToLast [] [] = Unit {0}
+EachFromFirstToLast [] (cells ∷ arcs) = ⊥
+EachFromFirstToLast (is ∷ kept) [] = ⊥
+EachFromFirstToLast (is ∷ kept) (cells ∷ arcs) = FromFirstToLast (length cells) is × EachFromFirstToLast kept arcs
+
+-- ---- lines and rings
+
+-- why a line or ring is dropped for its own sake: rebuilt of the reduced arcs it has too few positions
+abbrev pub small_cause : List (List Point) → Bool → List ℤ → Option Cause
+small_cause arcs closed refs = if is_small closed (rejoined (map (arc_at arcs) refs)) then Some Small else None
+
+-- its arc indexes, unless it is dropped
+abbrev pub large_refs : List (List Point) → Bool → List ℤ → Option (List ℤ)
+large_refs arcs closed refs = unless (small_cause arcs closed refs) refs
+
+-- ---- objects
+
+-- what stands for the arc indexes of an open line (false) or a ring (true), if it is kept
+abbrev pub Refs : Type 0
+Refs = Bool → List ℤ → Option (List ℤ)
+
+-- the feature with its identifier and its properties, and its shape pruned
+abbrev pub feature_pruned : Refs → TopoFeature → TopoFeature
+feature_pruned kept f = record { id = f.id; properties = f.properties; shape = then_some (prune (λ p. p) kept) f.shape }
+
+abbrev pub object_pruned : Refs → TopoObject → TopoObject
+object_pruned kept (One f) = One (feature_pruned kept f)
+object_pruned kept (Many fs) = Many (map (feature_pruned kept) fs)
+
+abbrev pub objects_pruned : Refs → List (List ℕ × TopoObject) → List (List ℕ × TopoObject)
+objects_pruned kept os = map (λ o. (o.0, object_pruned kept o.1)) os
+
+-- ---- topologies
+
+-- of each arc the cells of these numbers, and without the lines and rings that are left with too few positions
+abbrev pub picked_whole : List (List ℕ) → Contents → Contents
+picked_whole kept y =
+    record { objects = objects_pruned (large_refs (placed_arcs y.transform (picked_arcs kept y.arcs))) y.objects; arcs = picked_arcs kept y.arcs; transform = y.transform }
+
+-- the same without the arcs that no kept line uses
+unfoldable pub lessened_by : List (List ℕ) → Contents → Contents
+lessened_by kept y = trimmed (picked_whole kept y)
+
+-- the lines and rings of a shape that may be null that are dropped, and the ways to them
+abbrev pub option_small : List (List Point) → Option TopoShape → List (Placed Cause)
+option_small arcs None = []
+option_small arcs (Some s) = omissions (small_cause arcs) s
+
+-- the lines and rings that are dropped, in reading order; an object stands in the place of a layer
+unfoldable pub dropped_by : List (List ℕ) → Contents → List Dropped
+dropped_by kept y =
+    dropped_of_layers 0 (map (λ o. map (λ f. option_small (placed_arcs y.transform (picked_arcs kept y.arcs)) f.shape) (object_features o.1)) y.objects)
+
+-- how many positions are taken out of the arcs that stay
+unfoldable pub taken_out_by : List (List ℕ) → Contents → ℕ
+taken_out_by kept y = positions_of (keep_from (is_used (picked_whole kept y).objects) 0 y.arcs) - positions_of (lessened_by kept y).arcs

@@ -1,0 +1,4 @@
+pub mod Celled
+pub mod Laws
+pub mod Lessened
+pub mod Thresholds

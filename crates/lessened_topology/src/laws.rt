@@ -1,0 +1,83 @@
+// Laws of the definitions. A function here changes nothing: its contract is the law.
+ghost use Rattle.lessened_topology.specs.Laws.{BuiltDecodesOnGrid, BuiltIsValidOnGrid, CelledDecodes, CelledIsValid, DecodesBackOnGrid, IndexesReach, LessenedIsValid, LessensToBuilt, LessensToBuiltOnGrid, PickedIsReduced, ReducedIsValid};
+
+use build_meaning::{built_decodes_back, built_is_valid};
+use elimination_meaning::{direction_law, nothing_is_new, zero_law};
+
+/// The positions with the indexes that stay are those that stay.
+#[tactic(auto, using(crate::proofs::Picked::picked_is_reduced))]
+pub fn picked_is_reduced()
+    ensures { PickedIsReduced }
+{}
+
+/// What is built of layers at a threshold of zero and then reduced at a threshold is what is built of them at that threshold.
+#[tactic(auto, using(crate::proofs::Lessened::lessens_to_built))]
+pub fn lessens_to_built()
+    ensures { LessensToBuilt }
+{
+    direction_law();
+    zero_law();
+}
+
+/// The same on a grid on which each position of the layers lies: the cells of what is built at zero are reduced to the cells of what
+/// is built at the threshold.
+#[tactic(auto, using(crate::proofs::Celled::lessens_on_grid))]
+pub fn lessens_to_built_on_grid()
+    ensures { LessensToBuiltOnGrid }
+{
+    direction_law();
+    zero_law();
+    nothing_is_new();
+}
+
+/// Where the cell of each position lies at it, the cells decode to what the positions do.
+#[tactic(auto, using(crate::proofs::CelledDecoding::celled_decodes))]
+pub fn celled_decodes()
+    ensures { CelledDecodes }
+{}
+
+/// What is built of layers on a grid on which each of their positions lies decodes to what is built of them without a grid.
+#[tactic(auto, using(crate::proofs::BuiltOnGrid::built_decodes))]
+pub fn built_decodes_on_grid()
+    ensures { BuiltDecodesOnGrid }
+{
+    nothing_is_new();
+}
+
+/// So decoding what is built on such a grid gives each layer the features that are expected of it.
+pub fn built_decodes_back_on_grid()
+    ensures { DecodesBackOnGrid }
+{
+    built_decodes_back();
+    nothing_is_new();
+}
+
+/// A valid topology is valid on a grid on which each of its positions lies.
+pub fn celled_is_valid()
+    ensures { CelledIsValid }
+{}
+
+/// What is built of layers on a grid on which each of their positions lies is valid.
+pub fn built_is_valid_on_grid()
+    ensures { BuiltIsValidOnGrid }
+{
+    built_is_valid();
+    nothing_is_new();
+}
+
+/// A topology of whose arcs cells are left out between the ends is valid again, without the lines that are then too short.
+#[tactic(auto, using(crate::proofs::Valid::lessened_is_valid))]
+pub fn lessened_is_valid()
+    ensures { LessenedIsValid }
+{}
+
+/// The indexes that reduction leaves of a valid topology's arc reach from its first cell to its last.
+#[tactic(auto, using(crate::proofs::Reaching::indexes_reach))]
+pub fn indexes_reach()
+    ensures { IndexesReach }
+{}
+
+/// A topology whose arcs are reduced is valid again.
+pub fn reduced_is_valid()
+    ensures { ReducedIsValid }
+{}

@@ -1,0 +1,59 @@
+-- Layers whose covered positions are snapped.
+use Rattle.std.proofs.Common.{◌≡◌, true, List, [], ◌∷◌, map, refl, sym, ap, subst, arith}
+use Rattle.std.specs.List.{AllByRecursion}
+use Rattle.list_laws.proofs.Elements.{all_weaker, all_left, all_right, all_map}
+use Rattle.geojson_types.specs.declared.layer.Layer.{Layer}
+use Rattle.geojson_types.specs.Features.{Featured}
+use Rattle.geojson_types.specs.Moving.{moved_feature}
+use Rattle.geojson_types.specs.Places.{option_points, features_points}
+use Rattle.geometry.specs.Points.{Point, IsWithin, IsPosition}
+use Rattle.geometry.specs.Pruning.{option_strokes}
+use Rattle.geometry.proofs.MovedShapes.{option_moved_alike, option_proper_moved, option_strokes_moved, option_points_moved, stroke_moved}
+use Rattle.geometry.proofs.Moved.{ring_moved}
+use Rattle.grid_snap.specs.Axes.{Axes, IsGrid, covers, snapped, reach}
+use Rattle.grid_snap.specs.Laws.{IsRingIfClosed, Settles, SnappedAreSound}
+use Rattle.grid_snap.proofs.Settled.{settled, covered_within}
+use Rattle.grid_snap.specs.Snapping.{snapped_if_covered}
+
+abbrev pub layer_of : List Featured → Layer
+layer_of fs = record { features = fs }
+
+abbrev IsCovered : Axes → Point → Type 0
+IsCovered g p = covers g p ≡ true
+
+as_snapped : (g : Axes) (p : Point) → IsCovered g p → snapped_if_covered g p ≡ snapped g p
+as_snapped g p h = rw h refl
+
+feature_snapped : (g : Axes) (f : Featured) → AllByRecursion (IsCovered g) (option_points f.shape) → moved_feature (snapped_if_covered g) f ≡ moved_feature (snapped g) f
+feature_snapped g f h =
+    ap (λ s. record { id = f.id; properties = f.properties; shape = s })
+    (option_moved_alike (snapped_if_covered g) (snapped g) f.shape (all_weaker (IsCovered g) (λ p. snapped_if_covered g p ≡ snapped g p) (as_snapped g) (option_points f.shape) h))
+
+pub features_snapped : (g : Axes) (fs : List Featured) → AllByRecursion (IsCovered g) (features_points fs)
+    → map (moved_feature (snapped_if_covered g)) fs ≡ map (moved_feature (snapped g)) fs
+features_snapped g [] h = refl
+features_snapped g (f ∷ fs) h =
+    rw (
+      feature_snapped g f (all_left (IsCovered g) (option_points f.shape) (features_points fs) h),
+      features_snapped g fs (all_right (IsCovered g) (option_points f.shape) (features_points fs) h),
+    ) refl
+
+pub snapped_sound : SnappedAreSound
+snapped_sound g f grid covered =
+    let strokes = option_strokes_moved (snapped g) f.shape in
+    record {
+      proper = option_proper_moved (snapped g) f.shape;
+      strokes = strokes;
+      rings = λ all. subst (AllByRecursion IsRingIfClosed) (sym strokes)
+          (all_map IsRingIfClosed (stroke_moved (snapped g)) (option_strokes f.shape)
+          (all_weaker IsRingIfClosed (λ b. IsRingIfClosed (stroke_moved (snapped g) b)) (λ b h e. ring_moved (snapped g) b.1 (h e)) (option_strokes f.shape) all));
+      places = subst (AllByRecursion IsPosition) (sym (option_points_moved (snapped g) f.shape))
+          (all_map IsPosition (snapped g) (option_points f.shape)
+          (all_weaker (IsCovered g) (λ p. IsPosition (snapped g p)) (λ p h. place_of g p grid h) (option_points f.shape) covered));
+    }
+  where
+    place_of : (g : Axes) (p : Point) → IsGrid g → covers g p ≡ true → IsPosition (snapped g p)
+    place_of g p grid h =
+        let s : Settles g p = settled g p grid h in
+        let w : IsWithin reach (snapped g p) = covered_within g (snapped g p) grid s.covered in
+        (omega (arith, w.0), omega (arith, w.1))

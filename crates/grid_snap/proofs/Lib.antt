@@ -1,0 +1,6 @@
+pub mod Layered
+pub mod Least
+pub mod Rows
+pub mod Settled
+pub mod Spacing
+pub mod Widening

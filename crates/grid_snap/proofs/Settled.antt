@@ -1,0 +1,142 @@
+-- Cells, and the positions that they lie at.
+use Rattle.std.proofs.Common.{◌≡◌, ℕ, ◌+◌, ◌*◌, ◌^◌, ◌≤◌, ℤ, pos, negsuc, ◌+ℤ◌, ◌-ℤ◌, ◌≤ℤ◌, unsigned_abs, int_le, Bool, true, ◌&&◌, refl, sym, ap, subst, ◌∙◌, ◌/◌, arith, leb, to_z, w64}
+use Rattle.std.proofs.lemmas.Bool.{and_parts}
+use Rattle.std.proofs.lemmas.Bool.Decides.{nat_tests}
+use Rattle.std.proofs.lemmas.Int.{ints}
+use Rattle.std.specs.Prelude.{nat_le}
+use Rattle.decimal_text.specs.Rounding.{nearest}
+use Rattle.geometry.specs.Points.{Point, input_limit}
+use Rattle.grid_snap.specs.declared.axis.Axis.{Axis}
+use Rattle.grid_snap.specs.Axes.{offset, is_on, number, coordinate, Axes, covers, cell, back, snapped, IsAxis, IsGrid, IsNumbered, count_limit, reach}
+use Rattle.grid_snap.specs.Laws.{SnappedSettle, CellsAreBack, CoveredAreWithin}
+use Rattle.grid_snap.proofs.Spacing.{nearest_whole, nearest_within, scaled_within}
+
+-- ---- one direction
+
+pub record IsOn (a : Axis) (x : ℤ) : Type 0 where
+  pub behind : a.first ≤ℤ x
+  pub near : offset a x ≤ a.last * a.step
+
+pub on_facts : (a : Axis) (x : ℤ) → is_on a x ≡ true → IsOn a x
+unfolding is_on
+on_facts a x h =
+    let k = and_parts (int_le a.first x) (nat_le (offset a x) (a.last * a.step)) h in
+    let one : int_le a.first x ≡ true = k.0 in
+    let two : leb (offset a x) (a.last * a.step) ≡ true = k.1 in
+    record { behind = grind (arith, ints); near = grind (arith, nat_tests) }
+
+pub on_from : (a : Axis) (x : ℤ) → IsOn a x → is_on a x ≡ true
+unfolding is_on
+on_from a x h =
+    let b : a.first ≤ℤ x = h.behind in
+    let n : offset a x ≤ a.last * a.step = h.near in
+    let one : int_le a.first x ≡ true = grind (arith, ints) in
+    let two : leb (offset a x) (a.last * a.step) ≡ true = grind (arith, nat_tests) in
+    rw (one, two) refl
+
+offset_at : (x : ℤ) (n : ℕ) → unsigned_abs ((x +ℤ pos n) -ℤ x) ≡ n
+offset_at x n = omega (arith, ints)
+
+near_at : (x : ℤ) (n m : ℕ) → n ≤ m → unsigned_abs ((x +ℤ pos n) -ℤ x) ≤ m
+near_at x n m h = omega (arith, ints)
+
+behind_at : (x : ℤ) (n : ℕ) → x ≤ℤ (x +ℤ pos n)
+behind_at x n = omega (arith, ints)
+
+at_on : (a : Axis) (k : ℕ) → k ≤ a.last → is_on a (coordinate a (pos k)) ≡ true
+at_on a k h = on_from a (coordinate a (pos k)) (record {
+  behind = behind_at a.first (k * a.step);
+  near = near_at a.first (k * a.step) (a.last * a.step) (scaled_within k a.last a.step h);
+})
+
+at_number : (a : Axis) (k : ℕ) → 1 ≤ a.step → number a (coordinate a (pos k)) ≡ k
+unfolding number
+at_number a k h = ap (λ d. nearest d a.step) (offset_at a.first (k * a.step)) ∙ nearest_whole k a.step h
+
+pub number_within : (a : Axis) (x : ℤ) → IsAxis a → is_on a x ≡ true → number a x ≤ a.last
+unfolding number
+number_within a x axis on = nearest_within (offset a x) a.step a.last axis.apart (on_facts a x on).near
+
+-- the number as it is computed of a distance
+pub number_of_offset : (a : Axis) (x : ℤ) (d : ℕ) → d ≡ offset a x → (2 * d + a.step) / (2 * a.step) ≡ number a x
+unfolding number
+number_of_offset a x d e = ap (λ m. nearest m a.step) e
+
+times_one : (last step : ℕ) → 1 ≤ last → step ≤ last * step
+times_one last step h = let e : 1 * step ≤ last * step = scaled_within 1 last step h in omega (arith, e)
+
+pub step_within : (a : Axis) → IsAxis a → a.step ≤ 2 * input_limit + count_limit
+step_within a axis = let e : a.step ≤ a.last * a.step = times_one a.last a.step axis.some in omega (arith, e, axis.length)
+
+pub offset_within : (a : Axis) (x : ℤ) → IsAxis a → is_on a x ≡ true → offset a x ≤ 2 * input_limit + count_limit
+offset_within a x axis on = let e : offset a x ≤ a.last * a.step = (on_facts a x on).near in omega (arith, e, axis.length)
+
+pub cast_number : (n m : ℕ) → n ≡ m → m ≤ count_limit → to_z w64 n ≡ pos m
+cast_number n m e h = omega (arith, ints, e, h)
+
+pub numbered : (a : Axis) (k : ℕ) → k ≤ a.last → IsNumbered a (pos k)
+numbered a k h = (omega (arith, ints), omega (arith, ints))
+
+between : (first x : ℤ) (length bound far : ℕ) → first ≤ℤ x → unsigned_abs (x -ℤ first) ≤ length → unsigned_abs first ≤ bound → bound ≤ far
+    → unsigned_abs (first +ℤ pos length) ≤ far → unsigned_abs x ≤ far
+between first x length bound far a b c d e = omega (arith, ints, a, b, c, d, e)
+
+pub on_within : (a : Axis) (x : ℤ) → IsAxis a → is_on a x ≡ true → unsigned_abs x ≤ reach
+on_within a x axis on =
+    let h : IsOn a x = on_facts a x on in
+    between a.first x (a.last * a.step) (10 ^ 15) reach h.behind h.near axis.first (omega arith) axis.end
+
+-- ---- both
+
+pub covered_parts : (g : Axes) (p : Point) → covers g p ≡ true → (is_on g.x p.x ≡ true) × (is_on g.y p.y ≡ true)
+covered_parts g p h = and_parts (is_on g.x p.x) (is_on g.y p.y) h
+
+both_true : {a b : Bool} → a ≡ true → b ≡ true → (a && b) ≡ true
+both_true p q = rw (p, q) refl
+
+abbrev point_of : ℤ → ℤ → Point
+point_of x y = record { x = x; y = y }
+
+two : {a b c d : ℤ} → a ≡ c → b ≡ d → point_of a b ≡ point_of c d
+two {b = b} {c = c} p q = ap (λ x. point_of x b) p ∙ ap (point_of c) q
+
+pub settled : SnappedSettle
+settled g p grid h =
+    let on = covered_parts g p h in
+    let nx : number g.x p.x ≤ g.x.last = number_within g.x p.x grid.x on.0 in
+    let ny : number g.y p.y ≤ g.y.last = number_within g.y p.y grid.y on.1 in
+    let same : cell g (snapped g p) ≡ cell g p =
+    two (ap pos (at_number g.x (number g.x p.x) grid.x.apart)) (ap pos (at_number g.y (number g.y p.y) grid.y.apart)) in
+    record {
+      numbered = (numbered g.x (number g.x p.x) nx, numbered g.y (number g.y p.y) ny);
+      lies = refl;
+      covered = both_true (at_on g.x (number g.x p.x) nx) (at_on g.y (number g.y p.y) ny);
+      same = same;
+      again = ap (back g) same;
+    }
+
+record Natural (a : Axis) (k : ℤ) : Type 0 where
+  pub value : ℕ
+  pub is : k ≡ pos value
+  pub within : value ≤ a.last
+
+natural : (a : Axis) (k : ℤ) → IsNumbered a k → Natural a k
+natural a (pos n) h = record { value = n; is = refl; within = omega (arith, ints, h.1) }
+natural a (negsuc n) h = absurd (omega (arith, ints, h.0))
+
+cells_at : (g : Axes) (m n : ℕ) → IsGrid g → m ≤ g.x.last → n ≤ g.y.last
+    → (covers g (back g (point_of (pos m) (pos n))) ≡ true) × (cell g (back g (point_of (pos m) (pos n))) ≡ point_of (pos m) (pos n))
+cells_at g m n grid h k =
+    (both_true (at_on g.x m h) (at_on g.y n k), two (ap pos (at_number g.x m grid.x.apart)) (ap pos (at_number g.y n grid.y.apart)))
+
+pub cells_back : CellsAreBack
+cells_back g c grid h =
+    let i : Natural g.x c.x = natural g.x c.x h.0 in
+    let j : Natural g.y c.y = natural g.y c.y h.1 in
+    let P : Point → Type 0 = λ d. (covers g (back g d) ≡ true) × (cell g (back g d) ≡ d) in
+    subst P (two (sym i.is) (sym j.is)) (cells_at g i.value j.value grid i.within j.within)
+
+pub covered_within : CoveredAreWithin
+covered_within g p grid h =
+    let on = covered_parts g p h in
+    (on_within g.x p.x grid.x on.0, on_within g.y p.y grid.y on.1)

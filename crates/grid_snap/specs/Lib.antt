@@ -1,0 +1,4 @@
+pub mod Axes
+pub mod Bounds
+pub mod Laws
+pub mod Snapping

@@ -1,0 +1,62 @@
+// Equally spaced coordinates.
+ghost use Rattle.std.specs.Prelude.{◌≡◌, ◌≤◌, pos, unsigned_abs, true};
+ghost use Rattle.grid_snap.specs.Axes.{IsAxis, IsNumbered, axis_over, count_limit, is_on, reach};
+ghost use Rattle.grid_snap.specs.Axes as spec;
+ghost use Rattle.grid_snap.specs.Bounds.{IsSpan};
+
+/// The coordinates `first`, `first + step` and so on, in units, the last of which has the number `last`, counted from zero.
+#[derive(Clone, Copy, Debug)]
+pub struct Axis {
+    pub first: i64,
+    pub step: u64,
+    pub last: u64,
+}
+
+/// So many coordinates from the least to the greatest or farther. The step is the least whole number of units that serves.
+pub(crate) fn axis_over(count: u32, least: i64, greatest: i64) -> Axis
+    requires some { 2 ≤ count }
+    requires few { count ≤ count_limit }
+    requires span { IsSpan least greatest }
+    ensures value { result ≡ axis_over count least greatest }
+    ensures axis { IsAxis result }
+{
+    let length = greatest.abs_diff(least);
+    let last = u64::from(count) - 1;
+    let step = ((length + (last - 1)) / last).max(1);
+    Axis {
+        first: least,
+        step,
+        last,
+    }
+}
+
+impl Axis {
+    /// Whether a coordinate is neither before the first nor behind the last.
+    #[tactic(auto, unfolding(crate::specs::Axes::is_on))]
+    pub(crate) fn has(self, x: i64) -> bool
+        requires axis { IsAxis self }
+        ensures { result ≡ is_on self x }
+    {
+        self.first <= x && x.abs_diff(self.first) <= self.last * self.step
+    }
+
+    /// The number of the nearest of its coordinates, the higher one of two.
+    pub(crate) fn number(self, x: i64) -> i64
+        requires axis { IsAxis self }
+        requires covered { is_on self x ≡ true }
+        ensures number { result ≡ pos (spec.number self x) }
+        ensures within { IsNumbered self result }
+    {
+        ((2 * x.abs_diff(self.first) + self.step) / (2 * self.step)) as i64
+    }
+
+    /// The coordinate of a number.
+    pub(crate) fn coordinate(self, number: i64) -> i64
+        requires axis { IsAxis self }
+        requires number { IsNumbered self number }
+        ensures coordinate { result ≡ spec.coordinate self number }
+        ensures within { unsigned_abs result ≤ reach }
+    {
+        self.first + (number.unsigned_abs() * self.step) as i64
+    }
+}

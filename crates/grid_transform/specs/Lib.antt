@@ -1,0 +1,2 @@
+pub mod GridTransforms
+pub mod Laws

@@ -1,20 +1,12 @@
-//! Topologies (TopoJSON 1.0) out of JSON values, and the GeoJSON features that they stand for. It stands on `topojson_meaning`, which
-//! says which topology a value stands for, on `topojson_types` for topologies, on `topojson_arc_reading` and `topojson_line_reading` for
-//! what shapes are made of, and on `topojson_features`, whose walk along arcs and `features` it passes on. The layer above uses the
-//! contract of `read_topology`: it answers what that definition gives.
+//! Decoding topologies (TopoJSON 1.0): where a user of topologies begins. It has no code of its own, and passes on `read_topology`
+//! from `topojson_reading`, the GeoJSON features of an object from `topojson_features`, the walk along arcs from `topojson_walk`, and
+//! the types of `topojson_types`.
 #![tactic(auto)]
 
-mod arcs;
-mod feature_reading;
-mod members;
-mod objects;
-mod reading;
-mod shapes;
-mod types;
-
-pub use reading::read_topology;
-pub use topojson_features::{DecodeFault, Walk, features};
+pub use topojson_features::{DecodeFault, features};
 pub use topojson_meaning::TopoFault;
+pub use topojson_reading::read_topology;
 pub use topojson_types::{
     ArcRef, Cell, TopoFeature, TopoObject, TopoShape, Topology, Transform, TransformNumber,
 };
+pub use topojson_walk::Walk;

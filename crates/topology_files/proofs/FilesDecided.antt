@@ -7,6 +7,7 @@ use Rattle.byte_ends.specs.declared.source.ReadFault.TheVariants as read
 use Rattle.decimal_json.specs.declared.fault.JsonFault.{JsonFault}
 use Rattle.decimal_json.specs.declared.fault.JsonFault.TheVariants as text
 use Rattle.json_value.specs.declared.json.Json.{Json as Value}
+use Rattle.geojson_types.specs.declared.counts.Counts.{Counts}
 use Rattle.geojson_types.specs.declared.layer.FeatureSet.{FeatureSet}
 use Rattle.topojson_types.specs.Topologies.{Contents}
 use Rattle.inputs.specs.declared.file_fault.FileFault.{FileFault}
@@ -21,27 +22,28 @@ use Rattle.inputs.proofs.BytesDecided.{plain_text, one_outcome, text_comes}
 
 -- ---- one outcome
 
-abbrev plain : {A : Type 0} → Result A FileFault → Result A FileFault
+abbrev pub plain : {A : Type 0} → Result A FileFault → Result A FileFault
 plain (Ok a) = Ok a
 plain (Err e) = Err (plain_file_fault e)
 
-plain-of_file : {A : Type 0} (asked : Contents → Result A FileFault) (t : Result Value JsonFault) → plain (of_file asked t) ≡ plain (of_file asked (plain_text t))
+plain-of_file : {A : Type 0} (asked : Contents → Counts → Result A FileFault) (t : Result Value JsonFault) → plain (of_file asked t) ≡ plain (of_file asked (plain_text t))
 plain-of_file asked (Ok v) = refl
 plain-of_file asked (Err (text.NotUtf8 at)) = refl
 plain-of_file asked (Err (text.Malformed at why)) = refl
 plain-of_file asked (Err text.Memory) = refl
 
-one_file : {A : Type 0} (asked : Contents → Result A FileFault) (b : List ℕ) (x y : Result A FileFault) → FileComesTo asked b x → FileComesTo asked b y → plain x ≡ plain y
+pub one_file : {A : Type 0} (asked : Contents → Counts → Result A FileFault) (b : List ℕ) (x y : Result A FileFault) → FileComesTo asked b x → FileComesTo asked b y → plain x ≡ plain y
 one_file asked b x y h k = one_outcome topology_depth (Read read.TooLong) (of_file asked) plain (plain-of_file asked) b x y h k
 
 -- ---- what an answer says of the bytes
 
-topology_comes : {A : Type 0} (asked : Contents → Result A FileFault) (old new : Fed) (b : List ℕ) (t : Contents) → old.left ≡ Some b → IsTopologyRead old new t → FileComesTo asked b (asked t)
-topology_comes asked old new b t e is =
+pub topology_comes : {A : Type 0} (asked : Contents → Counts → Result A FileFault) (old new : Fed) (b : List ℕ) (t : Contents) (counts : Counts) → old.left ≡ Some b → IsTopologyRead old new t counts
+    → FileComesTo asked b (asked t counts)
+topology_comes asked old new b t counts e is =
     subst (FileComesTo asked b) (ap (of_topology asked) is.spells.stands)
     (text_comes topology_depth (Read read.TooLong) (of_file asked) old new b is.bytes (Ok is.spells.value) e is.read (is.spells.utf8, is.spells.spelled))
 
-fails_come : {A : Type 0} (asked : Contents → Result A FileFault) (old new : Fed) (b : List ℕ) (e : FileFault) → old.left ≡ Some b → FailsToGive old new e → IsOutsideGiven e ⊎ FileComesTo asked b (Err e)
+pub fails_come : {A : Type 0} (asked : Contents → Counts → Result A FileFault) (old new : Fed) (b : List ℕ) (e : FileFault) → old.left ≡ Some b → FailsToGive old new e → IsOutsideGiven e ⊎ FileComesTo asked b (Err e)
 fails_come asked old new b (Read read.Read) e f = inl tt
 fails_come asked old new b (Read read.TooLong) e f = inr (inl (subst (λ z. IfSome z (λ left. max_input < length left)) e f.1, refl))
 fails_come asked old new b (Read read.Memory) e f = absurd f
@@ -68,8 +70,8 @@ summary_told (Err f) s summary h told = absurd cc
 
 module _ (old new : Fed) (b : List ℕ) (left : old.left ≡ Some b) (outcome : Result Summary FileFault) (comes : FileComesTo summarised b outcome) where
   -- the summary of the topology that was read
-  pub summary_decides : (t : Contents) (summary : Summary) → IsTopologyRead old new t → summary ≡ summary_of t → FollowsSummary outcome (Ok summary)
-  summary_decides t summary is told = summary_told outcome (summary_of t) summary (one_file summarised b (Ok (summary_of t)) outcome (topology_comes summarised old new b t left is) comes) told
+  pub summary_decides : (t : Contents) (counts : Counts) (summary : Summary) → IsTopologyRead old new t counts → summary ≡ summary_of t → FollowsSummary outcome (Ok summary)
+  summary_decides t counts summary is told = summary_told outcome (summary_of t) summary (one_file summarised b (Ok (summary_of t)) outcome (topology_comes summarised old new b t counts left is) comes) told
 
   -- why there is none
   pub summary_fails : (e : FileFault) → FailsToGive old new e → FollowsSummary outcome (Err e)
@@ -81,7 +83,7 @@ module _ (old new : Fed) (b : List ℕ) (left : old.left ≡ Some b) (outcome : 
 
 -- ---- the text follows
 
-is_outside : (e : FileFault) → IsOutsideGiven e → IsOutsideFile e
+pub is_outside : (e : FileFault) → IsOutsideGiven e → IsOutsideFile e
 is_outside (Read r) h = h
 is_outside Memory h = h
 is_outside (Json r) h = absurd h
@@ -115,13 +117,13 @@ module _ (sink_old sink_new : Drained) where
         on (inr all) = text_fault outcome e (one_file (object_text name) b (Err e) outcome all comes)
 
     -- the topology that was read decides
-    read_decides : (t : Contents) (r : Result (List ℕ) FileFault) → IsTopologyRead old new t → object_text name t ≡ r → plain r ≡ plain outcome
-    read_decides t r is e =
-        one_file (object_text name) b r outcome (subst (FileComesTo (object_text name) b) e (topology_comes (object_text name) old new b t left is)) comes
+    read_decides : (t : Contents) (counts : Counts) (r : Result (List ℕ) FileFault) → IsTopologyRead old new t counts → object_text name t counts ≡ r → plain r ≡ plain outcome
+    read_decides t counts r is e =
+        one_file (object_text name) b r outcome (subst (FileComesTo (object_text name) b) e (topology_comes (object_text name) old new b t counts left is)) comes
 
     -- where no features are had, nothing is written
     pub found_fails : (e : FileFault) → FailsToDecode name old new e → FollowsText sink_old sink_new outcome (Err e)
-    found_fails NoObject is = text_fault outcome NoObject (read_decides is.contents (Err NoObject) is.read (ap text_if_any is.absent))
+    found_fails NoObject is = text_fault outcome NoObject (read_decides is.contents is.counts (Err NoObject) is.read (ap text_if_any is.absent))
     found_fails (Write sent) is = failed (Write sent) is
     found_fails Memory is = failed Memory is
     found_fails (Read r) is = failed (Read r) is
@@ -131,8 +133,8 @@ module _ (sink_old sink_new : Drained) where
     -- the text of the features that are had is written, or a front of it
     pub sent_decides : (features : FeatureSet) → GivesFeatures name old new features → (r : Result ℕ FileFault) → SendsText sink_old sink_new (features_text features) r
         → FollowsText sink_old sink_new outcome r
-    sent_decides features is (Ok sent) w = text_written outcome (features_text features) sent (read_decides is.contents (Ok (features_text features)) is.read (ap text_if_any is.found)) w
-    sent_decides features is (Err (Write sent)) w = text_cut outcome (features_text features) sent (read_decides is.contents (Ok (features_text features)) is.read (ap text_if_any is.found))
+    sent_decides features is (Ok sent) w = text_written outcome (features_text features) sent (read_decides is.contents is.counts (Ok (features_text features)) is.read (ap text_if_any is.found)) w
+    sent_decides features is (Err (Write sent)) w = text_cut outcome (features_text features) sent (read_decides is.contents is.counts (Ok (features_text features)) is.read (ap text_if_any is.found))
     sent_decides features is (Err NoObject) w = absurd w
     sent_decides features is (Err Memory) w = absurd w
     sent_decides features is (Err (Read r)) w = absurd w

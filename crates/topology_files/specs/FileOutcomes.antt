@@ -19,32 +19,32 @@ use Rattle.topology_files.specs.Geo.{features_text}
 use Rattle.inputs.specs.Texts.{BytesComeTo, plain_text_fault}
 use Rattle.reports.specs.Summaries.{summary_of}
 
--- ---- what is asked of a topology
+-- ---- what is asked of a topology and of what is counted in reading it
 
 -- its summary
-abbrev pub summarised : Contents → Result Summary FileFault
-summarised t = Ok (summary_of t)
+abbrev pub summarised : Contents → Counts → Result Summary FileFault
+summarised t counts = Ok (summary_of t)
 
 abbrev pub text_if_any : Option FeatureSet → Result (List ℕ) FileFault
 text_if_any None = Err NoObject
 text_if_any (Some features) = Ok (features_text features)
 
 -- the text of the features of its object of this name
-abbrev pub object_text : List ℕ → Contents → Result (List ℕ) FileFault
-object_text name t = text_if_any (decoded t name)
+abbrev pub object_text : List ℕ → Contents → Counts → Result (List ℕ) FileFault
+object_text name t counts = text_if_any (decoded t name)
 
 -- ---- what bytes come to, where that is asked
 
-abbrev pub of_topology : {A : Type 0} → (Contents → Result A FileFault) → Result (Contents × Counts) TopoFault → Result A FileFault
+abbrev pub of_topology : {A : Type 0} → (Contents → Counts → Result A FileFault) → Result (Contents × Counts) TopoFault → Result A FileFault
 of_topology asked (Err fault) = Err (Topo fault)
-of_topology asked (Ok r) = asked r.0
+of_topology asked (Ok r) = asked r.0 r.1
 
-abbrev pub of_file : {A : Type 0} → (Contents → Result A FileFault) → Result Value JsonFault → Result A FileFault
+abbrev pub of_file : {A : Type 0} → (Contents → Counts → Result A FileFault) → Result Value JsonFault → Result A FileFault
 of_file asked (Err fault) = Err (Json fault)
 of_file asked (Ok v) = of_topology asked (topology v)
 
 -- the bytes are too many, or else their text decides
-abbrev pub FileComesTo : {A : Type 0} → (Contents → Result A FileFault) → List ℕ → Result A FileFault → Type 0
+abbrev pub FileComesTo : {A : Type 0} → (Contents → Counts → Result A FileFault) → List ℕ → Result A FileFault → Type 0
 FileComesTo asked bytes outcome = BytesComeTo topology_depth (Read read.TooLong) (of_file asked) bytes outcome
 
 -- ---- answers

@@ -17,12 +17,12 @@ use Rattle.reports.specs.Summaries.{summary_of}
 abbrev pub topology_depth : ℕ
 topology_depth = 255
 
--- the bytes are UTF-8 and spell a JSON value (RFC 8259) that stands for this topology (TopoJSON 1.0); what is counted in it isn't told
-pub record SpellsTopology (bytes : List ℕ) (contents : Contents) : Type 0 where
+-- the bytes are UTF-8 and spell a JSON value (RFC 8259) that stands for this topology (TopoJSON 1.0), with what is counted in
+-- reading it
+pub record SpellsTopology (bytes : List ℕ) (contents : Contents) (counts : Counts) : Type 0 where
   pub utf8 : IsUtf8 bytes
   pub value : Value
   pub spelled : Reads topology_depth bytes value
-  pub counts : Counts
   pub stands : topology value ≡ Ok (contents, counts)
 
 -- why the bytes spell no topology
@@ -35,15 +35,15 @@ IsNoTopology bytes NoObject = ⊥
 IsNoTopology bytes (Write sent) = ⊥
 
 -- the answer for the bytes
-abbrev pub IsTopologyOf : List ℕ → Result Contents FileFault → Type 0
-IsTopologyOf bytes (Ok contents) = SpellsTopology bytes contents
+abbrev pub IsTopologyOf : List ℕ → Result (Contents × Counts) FileFault → Type 0
+IsTopologyOf bytes (Ok r) = SpellsTopology bytes r.0 r.1
 IsTopologyOf bytes (Err e) = IsNoTopology bytes e
 
--- the source was read to its end, and its bytes spell this topology
-pub record IsTopologyRead (old new : Fed) (contents : Contents) : Type 0 where
+-- the source was read to its end, and its bytes spell this topology, with what is counted in reading it
+pub record IsTopologyRead (old new : Fed) (contents : Contents) (counts : Counts) : Type 0 where
   pub bytes : List ℕ
   pub read : IsRead old new bytes
-  pub spells : SpellsTopology bytes contents
+  pub spells : SpellsTopology bytes contents counts
 
 -- why no topology can be had of the source
 abbrev pub FailsToGive : Fed → Fed → FileFault → Type 0
@@ -52,12 +52,13 @@ FailsToGive old new Memory = new.failures ≡ old.failures
 FailsToGive old new e = (bytes : List ℕ) × IsRead old new bytes × IsNoTopology bytes e
 
 -- the answer for the source
-abbrev pub ReadsTopology : Fed → Fed → Result Contents FileFault → Type 0
-ReadsTopology old new (Ok contents) = IsTopologyRead old new contents
+abbrev pub ReadsTopology : Fed → Fed → Result (Contents × Counts) FileFault → Type 0
+ReadsTopology old new (Ok r) = IsTopologyRead old new r.0 r.1
 ReadsTopology old new (Err e) = FailsToGive old new e
 
 -- the source was read to its end, and this is the summary of the topology that its bytes spell
 pub record IsSummarised (old new : Fed) (summary : Summary) : Type 0 where
   pub contents : Contents
-  pub read : IsTopologyRead old new contents
+  pub counts : Counts
+  pub read : IsTopologyRead old new contents counts
   pub told : summary ≡ summary_of contents

@@ -3,6 +3,7 @@ use Rattle.std.specs.Prelude.{◌≡◌, ℕ, List, None, Some, Result, Ok, Err}
 use Rattle.byte_ends.specs.Ends.{Fed, Drained}
 use Rattle.byte_ends.specs.Writes.{WritesAll, WritesFront}
 use Rattle.json_value.specs.Text.{json_text}
+use Rattle.geojson_types.specs.declared.counts.Counts.{Counts}
 use Rattle.geojson_types.specs.declared.layer.FeatureSet.{FeatureSet}
 use Rattle.geojson_writer.specs.FeatureValues.{features_value}
 use Rattle.topojson_types.specs.Decoding.{decoded}
@@ -24,7 +25,8 @@ SendsText old new text (Err e) = ⊥
 -- the source was read to its end, its bytes spell a topology, and these are the features of its object of this name
 pub record GivesFeatures (name : List ℕ) (old new : Fed) (features : FeatureSet) : Type 0 where
   pub contents : Contents
-  pub read : IsTopologyRead old new contents
+  pub counts : Counts
+  pub read : IsTopologyRead old new contents counts
   pub found : decoded contents name ≡ Some features
 
 -- the sink took their whole text, and the answer is its length
@@ -42,7 +44,8 @@ pub record IsDecodedInPart (name : List ℕ) (old new : Fed) (sink_old sink_new 
 -- the source was read to its end, its bytes spell a topology, and none of its objects has this name
 pub record LacksObject (name : List ℕ) (old new : Fed) : Type 0 where
   pub contents : Contents
-  pub read : IsTopologyRead old new contents
+  pub counts : Counts
+  pub read : IsTopologyRead old new contents counts
   pub absent : decoded contents name ≡ None
 
 -- why the features of an object of this name can't be had

@@ -10,7 +10,7 @@ use geojson_types::FeatureSet;
 use geojson_writer::write_features;
 use inputs::{FileFault, flush_behind};
 use std::alloc::Global;
-use topojson_decoder::{DecodeFault, features};
+use topojson_features::{DecodeFault, features};
 
 /// Reads a source to its end, and gives the features of the object of this name of the topology that its bytes spell.
 fn read_features<R: Feed>(
@@ -21,7 +21,7 @@ fn read_features<R: Feed>(
     ensures given { IfOk result (λ found. GivesFeatures name.now source.old source.new found) }
     ensures refused { IfErr result (λ e. FailsToDecode name.now source.old source.new e) }
 {
-    let topology = read_file(alloc, source)?;
+    let (topology, _counts) = read_file(alloc, source)?;
     match features(alloc, &topology, name) {
         Ok(found) => Ok(found),
         Err(DecodeFault::NoObject) => Err(FileFault::NoObject),

@@ -3,12 +3,15 @@ ghost use Rattle.topology_files.specs.Files.{IsTopologyOf, ReadsTopology};
 
 use byte_ends::{Feed, MAX_INPUT, ReadFault, Source, read_all};
 use decimal_json::{JsonFault, TOPOLOGY_DEPTH, parse};
+use geojson_types::Counts;
 use inputs::FileFault;
 use std::alloc::Global;
-use topojson_decoder::{TopoFault, Topology, read_topology};
+use topojson_meaning::TopoFault;
+use topojson_reading::read_topology;
+use topojson_types::Topology;
 
-/// The topology that the bytes spell.
-fn topology_of(alloc: Global, bytes: &[u8]) -> Result<Topology, FileFault>
+/// The topology that the bytes spell, with what was counted in reading it.
+fn topology_of(alloc: Global, bytes: &[u8]) -> Result<(Topology, Counts), FileFault>
     ensures { IsTopologyOf bytes.now result }
 {
     let value = match parse(alloc, bytes, TOPOLOGY_DEPTH) {
@@ -17,14 +20,17 @@ fn topology_of(alloc: Global, bytes: &[u8]) -> Result<Topology, FileFault>
         Err(fault) => return Err(FileFault::Json(fault)),
     };
     match read_topology(alloc, value) {
-        Ok((topology, _)) => Ok(topology),
+        Ok(read) => Ok(read),
         Err(TopoFault::Memory) => Err(FileFault::Memory),
         Err(fault) => Err(FileFault::Topo(fault)),
     }
 }
 
-/// Reads a source to its end, and gives the topology that its bytes spell.
-pub fn read_file<R: Feed>(alloc: Global, source: &mut Source<R>) -> Result<Topology, FileFault>
+/// Reads a source to its end, and gives the topology that its bytes spell, with what was counted in reading it.
+pub fn read_file<R: Feed>(
+    alloc: Global,
+    source: &mut Source<R>,
+) -> Result<(Topology, Counts), FileFault>
     ensures { ReadsTopology source.old source.new result }
 {
     let bytes = match read_all(alloc, source, MAX_INPUT) {

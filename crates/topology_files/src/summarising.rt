@@ -25,7 +25,7 @@ pub fn stat<R: Feed>(alloc: Global, source: &mut Source<R>) -> Result<Summary, F
     ensures decided { (bytes : List ℕ) (outcome : Result Counted Fault) → source.old.left ≡ Some bytes → FileComesTo summarised bytes outcome
         → FollowsSummary outcome result }
 {
-    let topology = read_file(alloc, source)?;
+    let (topology, _counts) = read_file(alloc, source)?;
     let summary = summary_of(alloc, &topology)?;
     Ok(summary)
 }

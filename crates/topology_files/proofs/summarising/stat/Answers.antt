@@ -9,4 +9,4 @@ returns-in_err-topology-clause-decided g c bytes outcome left comes =
 
 pub returns-clause-decided : goal.returns-clause-decided
 returns-clause-decided g c bytes outcome left comes =
-    summary_decides c.args.source.now c.read_file.new.source bytes left outcome comes c.in_ok-topology.topology c.in_ok-summary.summary c.in_ok-topology.ensures c.in_ok-summary.ensures
+    summary_decides c.args.source.now c.read_file.new.source bytes left outcome comes c.in_ok-topology.topology c.in_ok-topology._counts c.in_ok-summary.summary c.in_ok-topology.ensures c.in_ok-summary.ensures

@@ -1,0 +1,82 @@
+// A command of a page, and what must come of it.
+use crate::devices::Devices;
+use std::alloc::{AllocError, Global};
+
+/// How often a command is run, and over what.
+#[derive(Clone, Copy)]
+pub(crate) enum Runs<'a> {
+    /// Once, and once more with one byte a call where the devices are plain.
+    Once,
+    /// Once for each proper prefix of the file of this name, in its place.
+    EachPrefix(&'a str),
+    /// Once for each byte of the file of this name, its end too, at which its reads fail.
+    EachByteRead(&'a str),
+    /// Once for each byte of the file of this name, at which standard output fails.
+    EachByteWritten(&'a str),
+}
+
+/// What must come to standard output.
+#[derive(Drop)]
+pub(crate) enum Output<'a> {
+    Nothing,
+    /// The lines of a block.
+    Block(Vec<u8>),
+    /// The bytes of the file of this name.
+    File(&'a str),
+    /// It is kept as a file, and not looked at here.
+    Kept,
+}
+
+/// A command of a page, and what must come of it.
+#[derive(Drop)]
+pub(crate) struct Example<'a> {
+    /// The words behind the program's name, and a space before each.
+    pub(crate) words: &'a str,
+    /// The name that standard output is kept under.
+    pub(crate) kept: Option<&'a str>,
+    pub(crate) runs: Runs<'a>,
+    pub(crate) devices: Devices,
+    pub(crate) status: u8,
+    pub(crate) output: Output<'a>,
+    pub(crate) error: String,
+}
+
+impl<'a> Example<'a> {
+    /// The command of these words, and perhaps of ` > ` and the name that standard output is kept under.
+    pub(crate) fn of(alloc: Global, command: &'a str) -> Example<'a> {
+        let (words, kept) = match command.split_once(" > ") {
+            Some((words, kept)) => (words, Some(kept)),
+            None => (command, None),
+        };
+        Example {
+            words,
+            kept,
+            runs: Runs::Once,
+            devices: Devices::WHOLE,
+            status: 0,
+            output: Output::Nothing,
+            error: String::new(alloc),
+        }
+    }
+
+    /// Takes how often the command is run, and answers whether that was open.
+    pub(crate) fn takes_runs(&mut self, runs: Runs<'a>) -> bool {
+        let is_open = matches!(self.runs, Runs::Once) && matches!(self.output, Output::Nothing);
+        self.runs = runs;
+        is_open
+    }
+
+    /// Takes what must come to standard output, and answers whether that was open.
+    pub(crate) fn takes_output(&mut self, output: Output<'a>) -> bool {
+        let is_open = matches!(self.output, Output::Nothing)
+            && !matches!(self.runs, Runs::EachByteWritten(_));
+        self.output = output;
+        is_open
+    }
+
+    /// Takes a line of standard error.
+    pub(crate) fn take_line(&mut self, line: &str) -> Result<(), AllocError> {
+        self.error.push_str(line)?;
+        self.error.push_str("\n")
+    }
+}

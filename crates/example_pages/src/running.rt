@@ -1,0 +1,197 @@
+// Running a command over files and streams in memory.
+use crate::devices::{Damage, Devices};
+use crate::example::{Example, Output, Runs};
+use crate::memory_files::{LentFiles, MemoryFiles};
+use crate::program::{Program, Ran, Streams};
+use crate::tally::Tally;
+use byte_ends::devices::{CutWriter, Fault};
+use byte_ends::{Sink, ToWrite};
+use std::alloc::{AllocError, Global};
+
+/// Runs a command.
+fn run<P: Program>(
+    alloc: Global,
+    program: &P,
+    files: &MemoryFiles,
+    words: &str,
+    devices: Devices,
+    damage: Damage<'_>,
+) -> Result<Ran, AllocError> {
+    let mut all = Vec::new(alloc);
+    for word in words.split(' ').skip(1) {
+        all.push(String::from_str(alloc, word)?)?;
+    }
+    let step = devices.step();
+    let output = CutWriter::new(Vec::new(alloc), step, devices.output);
+    let error = CutWriter::new(Vec::new(alloc), step, devices.error_fault());
+    let files = LentFiles {
+        files,
+        devices,
+        damage,
+    };
+    let mut streams = Streams {
+        output: Sink::new(ToWrite::new(output)),
+        error: Sink::new(ToWrite::new(error)),
+    };
+    let status = program.run(alloc, all, files, &mut streams);
+    Ok(Ran {
+        status,
+        output: Vec::from_slice(alloc, streams.output.into_inner().into_inner().held())?,
+        error: Vec::from_slice(alloc, streams.error.into_inner().into_inner().held())?,
+    })
+}
+
+/// Runs a command as its page says, judges each run, and gives what the last one wrote.
+pub(crate) fn try_example<P: Program>(
+    alloc: Global,
+    program: &P,
+    files: &MemoryFiles,
+    example: &Example<'_>,
+    tally: &mut Tally,
+) -> Result<Vec<u8>, AllocError> {
+    let name = match example.runs {
+        Runs::Once => return once(alloc, program, files, example, tally),
+        Runs::EachPrefix(name) | Runs::EachByteRead(name) | Runs::EachByteWritten(name) => name,
+    };
+    let Some(whole) = files.bytes(name) else {
+        tally.tell(format!(in alloc; "no file {name}")?)?;
+        return Ok(Vec::new(alloc));
+    };
+    match example.runs {
+        Runs::EachByteWritten(_) => each_byte_written(
+            alloc, program, files, example, whole, tally,
+        )?,
+        Runs::EachByteRead(_) => each_byte_read(
+            alloc,
+            program,
+            files,
+            example,
+            name,
+            whole.len(),
+            tally,
+        )?,
+        _ => each_prefix(alloc, program, files, example, name, whole.len(), tally)?,
+    }
+    Ok(Vec::new(alloc))
+}
+
+/// Judges a run by what its page says.
+fn judge(
+    alloc: Global,
+    files: &MemoryFiles,
+    example: &Example<'_>,
+    ran: &Ran,
+    tally: &mut Tally,
+) -> Result<(), AllocError> {
+    let output = match &example.output {
+        Output::Nothing => &[],
+        Output::Block(bytes) => bytes.as_slice(),
+        Output::Kept => ran.output.as_slice(),
+        Output::File(name) => match files.bytes(name) {
+            Some(bytes) => bytes,
+            None => return tally.tell(format!(in alloc; "no file {name}")?),
+        },
+    };
+    let whole = example.error.as_bytes();
+    let error = match example.devices.error_room {
+        Some(room) => whole.get(..room).unwrap_or(whole),
+        None => whole,
+    };
+    tally.judge(alloc, example, ran, output, error)
+}
+
+/// Runs a command once, and once more with one byte a call where its devices are plain.
+fn once<P: Program>(
+    alloc: Global,
+    program: &P,
+    files: &MemoryFiles,
+    example: &Example<'_>,
+    tally: &mut Tally,
+) -> Result<Vec<u8>, AllocError> {
+    let ran = run(
+        alloc,
+        program,
+        files,
+        example.words,
+        example.devices,
+        Damage::None,
+    )?;
+    judge(alloc, files, example, &ran, tally)?;
+    if example.devices.are_plain() {
+        let mut devices = example.devices;
+        devices.by_one = true;
+        let again = run(alloc, program, files, example.words, devices, Damage::None)?;
+        judge(alloc, files, example, &again, tally)?;
+    }
+    Ok(ran.output)
+}
+
+/// Runs a command for each proper prefix of a file of so many bytes.
+fn each_prefix<P: Program>(
+    alloc: Global,
+    program: &P,
+    files: &MemoryFiles,
+    example: &Example<'_>,
+    name: &str,
+    len: usize,
+    tally: &mut Tally,
+) -> Result<(), AllocError> {
+    for end in 0..len {
+        let damage = Damage::Cut(name, end);
+        let ran = run(
+            alloc,
+            program,
+            files,
+            example.words,
+            example.devices,
+            damage,
+        )?;
+        judge(alloc, files, example, &ran, tally)?;
+    }
+    Ok(())
+}
+
+/// Runs a command for each byte of a file of so many bytes, and for its end, at which reads of the file fail.
+fn each_byte_read<P: Program>(
+    alloc: Global,
+    program: &P,
+    files: &MemoryFiles,
+    example: &Example<'_>,
+    name: &str,
+    len: usize,
+    tally: &mut Tally,
+) -> Result<(), AllocError> {
+    for end in 0..=len {
+        let damage = Damage::Broken(name, end);
+        let ran = run(
+            alloc,
+            program,
+            files,
+            example.words,
+            example.devices,
+            damage,
+        )?;
+        judge(alloc, files, example, &ran, tally)?;
+    }
+    Ok(())
+}
+
+/// Runs a command for an output that fails at each byte of a text: it takes those before, and `{sent}` counts them.
+fn each_byte_written<P: Program>(
+    alloc: Global,
+    program: &P,
+    files: &MemoryFiles,
+    example: &Example<'_>,
+    whole: &[u8],
+    tally: &mut Tally,
+) -> Result<(), AllocError> {
+    for end in 0..whole.len() {
+        let mut devices = example.devices;
+        devices.output = Fault::AtByte(end);
+        let ran = run(alloc, program, files, example.words, devices, Damage::None)?;
+        let sent = end.to_string(alloc)?;
+        let error = example.error.replace(alloc, "{sent}", sent.as_str())?;
+        tally.judge(alloc, example, &ran, &whole[..end], error.as_bytes())?;
+    }
+    Ok(())
+}

@@ -1,0 +1,25 @@
+use Rattle.std.proofs.Common.{ap}
+use Rattle.std.proofs.lemmas.Result.{err_from_is_err_and}
+use Rattle.topojson_reading.proofs.Collecting as k
+use Rattle.topojson_reading.proofs.Unrolling as u
+use Rattle.topojson_reading.proofs.shapes.+geometries.Goals as goal
+
+pub shapes-returns-in_default : goal.shapes-returns-in_default
+shapes-returns-in_default t c = λ n. ap (λ r. r c.args.counts.now) (u.shapes_other _ _ _ c.in_default.ensures)
+
+pub shapes-returns-in_default-as_object : goal.shapes-returns-in_default-as_object
+shapes-returns-in_default-as_object t c = λ n. k.not_object _ _ _ _ c.in-Some.ensures _ _ _ _ _ c.values-test.true c.value-item.is c.values.invariant c.in_default-as_object.ensures
+
+pub shapes-returns-in_err-shape : goal.shapes-returns-in_err-shape
+shapes-returns-in_err-shape t c =
+    let p = err_from_is_err_and c.from_residual.result c.from_residual.ensures.1 in
+    rw (p.1, p.2) (λ n. k.shape_fails _ _ _ _ c.in-Some.ensures _ _ _ _ _ c.values-test.true c.value-item.is c.values.invariant _ c.in-Some-as_object.ensures _ (c.in_err-shape.ensures n))
+
+pub shapes-values-preserved-in_default-2 : goal.shapes-values-preserved-in_default-2
+shapes-values-preserved-in_default-2 t c = k.shape_skipped _ _ _ _ c.in-Some.ensures _ _ _ _ _ c.values-test.true c.value-item.is c.values.invariant _ c.in-Some-as_object.ensures _ (rw c.in_default-2.is at c.in_ok-shape.ensures)
+
+pub shapes-values-preserved : goal.shapes-values-preserved
+shapes-values-preserved t c = rw c.in_ok-push.ensures.items (k.shape_kept _ _ _ _ c.in-Some.ensures _ _ _ _ _ c.values-test.true c.value-item.is c.values.invariant _ c.in-Some-as_object.ensures _ _ (rw c.in-Some-2.is at c.in_ok-shape.ensures))
+
+pub shapes-returns : goal.shapes-returns
+shapes-returns t c = k.shapes_end _ _ _ _ c.in-Some.ensures _ _ _ _ c.values-test.false c.values.invariant

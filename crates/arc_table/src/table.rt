@@ -82,6 +82,13 @@ impl Table {
         self.arcs.as_slice().len()
     }
 
+    /// The arcs, in order.
+    pub fn arcs(&self) -> &[Items<Position>]
+        ensures { result.now ≡ self.now.arcs }
+    {
+        self.arcs.as_slice()
+    }
+
     /// How many lines and rings have arc indexes.
     pub fn lines(&self) -> usize
         ensures { result ≡ length self.now.refs }

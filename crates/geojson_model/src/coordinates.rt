@@ -72,7 +72,7 @@ pub(crate) fn positions(
 ) -> Result<Vec<Position>, GeoFaultKind>
     ensures { Gives (λ ps. ps.items) result counts.new (each (spec.position exact) values.now counts.old) }
 {
-    let mut read = Vec::new(alloc);
+    let mut read = Vec::with_capacity(alloc, values.len())?;
     'values: for value in values {
         read.push(position(value, exact, counts)?)?;
     }

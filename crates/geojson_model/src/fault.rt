@@ -3,7 +3,7 @@ ghost use Rattle.geojson_model.specs.Faults as spec;
 ghost use Rattle.geojson_model.specs.Reader.{fault_in};
 
 use json_members::LookupFault;
-use std::alloc::AllocFailed;
+use std::alloc::{AllocError, AllocFailed};
 use thiserror::Error;
 
 /// Why a value is no layer. Section numbers are those of RFC 7946.
@@ -118,6 +118,17 @@ impl<T: Drop> From<AllocFailed<T>> for GeoFaultKind {
     ghost from_gives = { λ _ e. e ≡ Memory };
 
     fn from(_e: AllocFailed<T>) -> GeoFaultKind {
+        GeoFaultKind::Memory
+    }
+}
+
+impl From<AllocError> for GeoFaultKind {
+    ghost use Rattle.std.specs.Prelude.{◌≡◌};
+    ghost use Rattle.geojson_model.specs.declared.fault.GeoFaultKind.TheVariants.{Memory};
+
+    ghost from_gives = { λ _ e. e ≡ Memory };
+
+    fn from(_e: AllocError) -> GeoFaultKind {
         GeoFaultKind::Memory
     }
 }

@@ -133,7 +133,7 @@ fn shapes(
     let Some(values) = value.as_array() else {
         return Err(GeoFaultKind::WrongKind);
     };
-    let mut read = Vec::new(alloc);
+    let mut read = Vec::with_capacity(alloc, values.len())?;
     'values: for value in values {
         let Some(members) = value.as_object() else {
             return Err(GeoFaultKind::WrongKind);

@@ -71,7 +71,7 @@ pub(crate) fn lines(
 ) -> Result<Vec<Items<Position>>, GeoFaultKind>
     ensures { Gives (λ ls. ls.items) result counts.new (kept (spec.line exact) values.now counts.old) }
 {
-    let mut read = Vec::new(alloc);
+    let mut read = Vec::with_capacity(alloc, values.len())?;
     'values: for value in values {
         let Some(line) = line(alloc, value, exact, counts)? else {
             continue;

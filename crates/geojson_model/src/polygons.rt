@@ -56,7 +56,7 @@ fn rings(
 ) -> Result<Vec<Ring>, GeoFaultKind>
     ensures { Gives (λ rs. rs.items) result counts.new (kept (spec.ring exact) values.now counts.old) }
 {
-    let mut read = Vec::new(alloc);
+    let mut read = Vec::with_capacity(alloc, values.len())?;
     'values: for value in values {
         let Some(ring) = ring(alloc, value, exact, counts)? else {
             continue;
@@ -113,7 +113,7 @@ pub(crate) fn polygons(
 ) -> Result<Vec<Items<Ring>>, GeoFaultKind>
     ensures { Gives (λ rss. rss.items) result counts.new (kept (spec.polygon exact) values.now counts.old) }
 {
-    let mut read = Vec::new(alloc);
+    let mut read = Vec::with_capacity(alloc, values.len())?;
     'values: for value in values {
         let Some(polygon) = polygon(alloc, value, exact, counts)? else {
             continue;

@@ -109,7 +109,8 @@ fn features(
 /// isn't whole in units of `10^-7`, which else is rounded, halves away from zero, and counted. A Feature and a bare
 /// geometry are the one feature of their layer. Identifiers and properties are moved, unchanged. An empty array in
 /// place of coordinates, of a line, of a ring or of a polygon is left out and counted; a geometry of which nothing
-/// is left is null. The fault is the first on the way from the value's front to its end.
+/// is left is null. The fault is the first in the order in which members are looked at, wherever they stand: the type, then the
+/// features in order, and of each its `id`, its `properties` and its `geometry`.
 #[tactic(auto, unfolding(crate::specs::Layers::layer))]
 pub fn read_layer(alloc: Global, value: Json, exact: bool) -> Result<(Layer, Counts), GeoFault>
     ensures layer { IfOk result (λ r. spec.layer exact value ≡ Ok (r.0.features, r.1)) }

@@ -5,7 +5,7 @@ ghost use Rattle.topojson_meaning.specs.Answers.{Gives};
 ghost use Rattle.topojson_types.specs.Transforms.{origin};
 ghost use Rattle.topojson_meaning.specs.Arcs as spec;
 
-use crate::cells::{cell, places};
+use crate::cells::{cell, places, room_for};
 use crate::kinds::elements;
 use geojson_types::Counts;
 use json_value::{Items, Json};
@@ -25,7 +25,7 @@ fn grid_cells(
 ) -> Result<Vec<Cell>, TopoFault>
     ensures { Gives (λ cs. cs.items) result counts.new (spec.cells_behind transform.now origin values.now counts.old) }
 {
-    let mut read = Vec::new(alloc);
+    let mut read = room_for(alloc, values)?;
     let mut before = Cell::at(0, 0);
     'values: for value in values {
         before = cell(transform, DIFFERENCE_LIMIT, before, value, counts)?;

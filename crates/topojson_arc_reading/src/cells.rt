@@ -1,5 +1,5 @@
 // Reading positions and cells (TopoJSON 1.0, sections 2.1.1 and 2.1.2).
-ghost use Rattle.std.specs.Prelude.{◌≡◌, ◌≤◌, ◌^◌};
+ghost use Rattle.std.specs.Prelude.{◌≡◌, ◌≤◌, ◌^◌, IfOk, []};
 ghost use Rattle.std.specs.Option.{option_copied};
 ghost use Rattle.topojson_meaning.specs.Answers.{Finds, Gives};
 ghost use Rattle.topojson_types.specs.Transforms.{moved};
@@ -8,6 +8,7 @@ ghost use Rattle.topojson_meaning.specs.Reader.{each};
 
 use crate::kinds::{elements, number_text};
 use crate::numbers::{grid_number, units};
+use byte_ends::Memory;
 use geojson_types::Counts;
 use json_value::Json;
 use std::alloc::Global;
@@ -121,6 +122,13 @@ fn place(
     elements_place(transform, elements, counts)
 }
 
+/// No cells yet, with room for one of each value.
+pub(crate) fn room_for(alloc: Global, values: &[Json]) -> Result<Vec<Cell>, Memory>
+    ensures { IfOk result (λ cells. cells.items ≡ []) }
+{
+    Ok(Vec::with_capacity(alloc, values.len())?)
+}
+
 /// Places in order.
 pub(crate) fn places(
     alloc: Global,
@@ -130,7 +138,7 @@ pub(crate) fn places(
 ) -> Result<Vec<Cell>, TopoFault>
     ensures { Gives (λ cs. cs.items) result counts.new (each (spec.place (option_copied transform.entry)) values.now counts.old) }
 {
-    let mut read = Vec::new(alloc);
+    let mut read = room_for(alloc, values)?;
     'values: for value in values {
         read.push(place(transform, value, counts)?)?;
     }

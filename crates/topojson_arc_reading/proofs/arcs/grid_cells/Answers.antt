@@ -4,7 +4,7 @@ use Rattle.topojson_arc_reading.proofs.arcs.grid_cells.Goals as goal
 
 pub returns-in_err-before : goal.returns-in_err-before
 returns-in_err-before c =
-    let p = err_from_is_err_and c.from_residual.result c.from_residual.ensures.1 in
+    let p = err_from_is_err_and c.from_residual-in_err-before.result c.from_residual-in_err-before.ensures.1 in
     rw (p.1, p.2) (λ n. f.cells_fail c.args.transform.now _ _ _ _ _ _ _ c.values-test.true c.value-item.is c.values.invariant _ (c.in_err-before.ensures n))
 
 pub values-preserved : goal.values-preserved

@@ -1,8 +1,8 @@
 //! The writers of JSON values (RFC 8259), of strings, of numbers of units, and of lists whatever their items are.
 //! It stands on `json_value`, whose `specs/Text.antt` says which text is written for a value, and on `byte_ends` for the sinks that
 //! it writes to. The layers above write texts by `put_text`, values by `put_json` and `put_members`, numbers of units by
-//! `put_units` and `put_decimal`, and lists of what they write themselves by `put_array` and `put_object`, over their own ways
-//! `PutValue`.
+//! `put_units` and `put_decimal`, or by `add_units` into a `ShortText`, and lists of what they write themselves by `put_array` and
+//! `put_object`, over their own ways `PutValue`.
 #![tactic(auto)]
 
 mod list_writer;
@@ -14,6 +14,7 @@ mod value_writer;
 
 pub use list_writer::{ArrayOf, PutValue, put_array, put_object};
 pub use number_writer::{put_decimal, put_pair};
+pub use short_text::ShortText;
 pub use text_writer::{put_text, write_text};
-pub use units_writer::{print_units, put_units};
+pub use units_writer::{add_units, print_units, put_units};
 pub use value_writer::{put_json, put_members, put_name, write_json, write_members};

@@ -1,19 +1,25 @@
--- The positions and arcs that are written are read back.
-use Rattle.std.proofs.Common.{◌≡◌, ℕ, ℤ, ◌≤◌, List, [], ◌∷◌, map, None, Ok, refl, arith}
+-- The cells and arcs that are written are read back.
+use Rattle.std.proofs.Common.{◌≡◌, ℕ, ℤ, ◌≤◌, List, [], ◌∷◌, map, Option, None, Some, Ok, refl, ap, ◌∙◌, arith, ◌+ℤ◌, ◌-ℤ◌, pos}
 use Rattle.std.specs.Prelude.{unsigned_abs}
 use Rattle.std.specs.List.{AllByRecursion}
 use Rattle.std.proofs.lemmas.Bool.{le-leb}
+use Rattle.std.proofs.lemmas.Int.{ints}
 use Rattle.decimal_text.specs.Scaling.{units_text}
 use Rattle.decimal_text.proofs.UnitsText.{scaled_of-units}
 use Rattle.json_value.specs.declared.json.Json.{Json}
 use Rattle.json_value.specs.declared.json.Json.TheVariants as j
 use Rattle.json_value.proofs.KindsOf.{array_of-array, object_of-object, number_of-number}
-use Rattle.geometry.specs.Points.{Point, IsPosition, position_limit, unit_places}
-use Rattle.topojson_types.specs.Validity.{IsArc}
-use Rattle.topojson_types.specs.Values.{Members, units_value, position_value, positions_value}
-use Rattle.topojson_meaning.specs.Arcs.{number_text, units, elements_position, position, elements_place, place, arc_cells, arc, arc_list}
+use Rattle.geometry.specs.Points.{Point, IsWithin, IsPosition, position_limit, unit_places}
+use Rattle.topojson_types.specs.declared.transform.Transform.{Transform}
+use Rattle.topojson_types.specs.Differences.{difference, deltas_from}
+use Rattle.topojson_types.specs.Transforms.{grid_limit, place_on, origin, moved}
+use Rattle.topojson_types.specs.Validity.{IsPlace, IsArc}
+use Rattle.topojson_types.specs.Values.{Members, number_value, cell_places, cell_value, written_cells, arc_value, arcs_value}
+use Rattle.topojson_types.proofs.Grids.{is_within-both}
+use Rattle.topojson_types.proofs.SumsBack.{moved_there}
+use Rattle.topojson_meaning.specs.Arcs.{number_text, units, elements_position, position, grid_number, grid_cell, elements_cell, cell, difference_limit, cells_behind, elements_place, place, arc_cells, as_arc, arc, arc_list}
 use Rattle.topojson_meaning.specs.Members.{elements, members}
-use Rattle.topojson_meaning.specs.Reader.{each}
+use Rattle.topojson_meaning.specs.Reader.{◌>>=◌, each}
 use Rattle.topojson_meaning.proofs.Steps.{Gives, then_gives, pure_gives, each_gives}
 
 -- ---- kinds of values
@@ -30,35 +36,102 @@ pub number_is_text : (t : List ℕ) → number_text (j.Number t) ≡ Ok t
 unfolding number_text
 number_is_text t = rw (number_of-number t) refl
 
+-- the elements of a cell
+abbrev pub numbers : Option Transform → Point → List Json
+numbers transform p = map (number_value (cell_places transform)) (p.x ∷ (p.y ∷ []))
+
 -- ---- positions
 
 units_back : (u : ℤ) → unsigned_abs u ≤ position_limit → Gives (units (units_text u unit_places)) u
 unfolding units
 units_back u h c = let e = scaled_of-units u unit_places position_limit (omega arith) h in rw e refl
 
-pub elements_position_back : (p : Point) → IsPosition p → Gives (elements_position (units_value p.x ∷ (units_value p.y ∷ []))) p
+elements_position_back : (p : Point) → IsPosition p → Gives (elements_position (numbers None p)) p
 unfolding elements_position
 elements_position_back p h c = rw (number_is_text (units_text p.x unit_places), number_is_text (units_text p.y unit_places), units_back p.x h.0 c, units_back p.y h.1 c) refl
 
-pub position_back : (p : Point) → IsPosition p → Gives (position (position_value p)) p
+position_back : (p : Point) → IsPosition p → Gives (position (cell_value None p)) p
 unfolding position
-position_back p h = pure_gives _ elements_position _ p (array_elements (units_value p.x ∷ (units_value p.y ∷ []))) (elements_position_back p h)
+position_back p h = pure_gives _ elements_position _ p (array_elements (numbers None p)) (elements_position_back p h)
+
+-- ---- cells of a grid
+
+whole_back : (bound : ℕ) (n : ℤ) → bound ≤ difference_limit → unsigned_abs n ≤ bound → grid_number bound (units_text n 0) ≡ Ok n
+unfolding grid_number
+whole_back bound n small h = let e = scaled_of-units n 0 bound (omega arith) h in rw e refl
+
+cell_stays : (t : Transform) (c : Point) → IsPlace (Some t) c → grid_cell t c ≡ Ok c
+unfolding grid_cell
+cell_stays t c h = rw (is_within-both grid_limit c h.0.0 h.0.1, is_within-both position_limit (place_on t c) h.1.0 h.1.1) refl
+
+-- the cell that lies so far from the one before
+elements_cell_back : (t : Transform) (bound : ℕ) (before c d : Point) → bound ≤ difference_limit → IsWithin bound d → moved before d ≡ c → IsPlace (Some t) c
+    → Gives (elements_cell t bound before (numbers (Some t) d)) c
+unfolding elements_cell
+elements_cell_back t bound before c d small h is ok counts =
+    rw (number_is_text (units_text d.x 0), number_is_text (units_text d.y 0), whole_back bound d.x small h.0, whole_back bound d.y small h.1, ap (grid_cell t) is ∙ cell_stays t c ok) refl
+
+near : (p q : Point) → IsWithin grid_limit p → IsWithin grid_limit q → IsWithin difference_limit (difference p q)
+near p q h k = (apart p.x q.x h.0 k.0, apart p.y q.y h.1 k.1)
+  where
+    apart : (a b : ℤ) → unsigned_abs a ≤ grid_limit → unsigned_abs b ≤ grid_limit → unsigned_abs (b -ℤ a) ≤ difference_limit
+    apart a b h k = omega (arith, ints)
+
+difference_back : (t : Transform) (before p : Point) → IsWithin grid_limit before → IsPlace (Some t) p → Gives (cell t difference_limit before (cell_value (Some t) (difference before p))) p
+unfolding cell
+difference_back t before p h k =
+    let d : Point = difference before p in
+    pure_gives _ (elements_cell t difference_limit before) _ p (array_elements (numbers (Some t) d))
+    (elements_cell_back t difference_limit before p d (omega arith) (near before p h k.0) (moved_there before p) k)
+
+-- cells as differences, the first one from this cell
+behind_back : (t : Transform) (before : Point) (cs : List Point) → IsWithin grid_limit before → AllByRecursion (IsPlace (Some t)) cs
+    → Gives (cells_behind t before (map (cell_value (Some t)) (deltas_from before cs))) cs
+unfolding cells_behind deltas_from
+behind_back t before [] h all counts = refl
+behind_back t before (c ∷ cs) h all counts = rw (difference_back t before c h all.0 counts, behind_back t c cs all.0.0 all.1 counts) refl
 
 -- ---- places
 
-place_back : (p : Point) → IsPosition p → Gives (place None (position_value p)) p
-unfolding place elements_place
-place_back p h = pure_gives _ elements_position _ p (array_elements (units_value p.x ∷ (units_value p.y ∷ []))) (elements_position_back p h)
+from_origin : (p : Point) → moved origin p ≡ p
+from_origin p = ap (λ x. point_of x (pos 0 +ℤ p.y)) (none p.x) ∙ ap (point_of p.x) (none p.y)
+  where
+    point_of : ℤ → ℤ → Point
+    point_of x y = record { x = x; y = y }
 
-pub each_place_back : (ps : List Point) → AllByRecursion IsPosition ps → Gives (each (place None) (map position_value ps)) ps
-each_place_back = each_gives IsPosition position_value (place None) place_back
+    none : (x : ℤ) → pos 0 +ℤ x ≡ x
+    none x = omega (arith, ints)
+
+pub elements_place_back : (transform : Option Transform) (p : Point) → IsPlace transform p → Gives (elements_place transform (numbers transform p)) p
+unfolding elements_place
+elements_place_back None p h = elements_position_back p h
+elements_place_back (Some t) p h = elements_cell_back t grid_limit origin p p (omega arith) h.0 (from_origin p) h
+
+place_back : (transform : Option Transform) (p : Point) → IsPlace transform p → Gives (place transform (cell_value transform p)) p
+unfolding place
+place_back transform p h = pure_gives _ (elements_place transform) _ p (array_elements (numbers transform p)) (elements_place_back transform p h)
+
+pub each_place_back : (transform : Option Transform) (ps : List Point) → AllByRecursion (IsPlace transform) ps → Gives (each (place transform) (map (cell_value transform) ps)) ps
+each_place_back transform = each_gives (IsPlace transform) (cell_value transform) (place transform) (place_back transform)
 
 -- ---- arcs
 
-arc_back : (ps : List Point) → IsArc None ps → Gives (arc None (positions_value ps)) ps
-unfolding arc arc_cells
-arc_back ps h = grind (arith, pure_gives, array_elements, then_gives, each_gives, position_back, le-leb)
+arc_cells_back : (transform : Option Transform) (cs : List Point) → AllByRecursion (IsPlace transform) cs
+    → Gives (arc_cells transform (map (cell_value transform) (written_cells transform cs))) cs
+unfolding arc_cells
+arc_cells_back None cs h = each_gives IsPosition (cell_value None) position position_back cs h
+arc_cells_back (Some t) cs h = behind_back t origin cs (omega arith, omega arith) h
 
-pub arcs_back : (arcs : List (List Point)) → AllByRecursion (IsArc None) arcs → Gives (arc_list None (j.Array (map positions_value arcs))) arcs
+arc_back : (transform : Option Transform) (cs : List Point) → IsArc transform cs → Gives (arc transform (arc_value transform cs)) cs
+unfolding arc
+arc_back transform cs h =
+    let vs : List Json = map (cell_value transform) (written_cells transform cs) in
+    pure_gives _ (λ ws. arc_cells transform ws >>= as_arc) vs cs (array_elements vs) (then_gives (arc_cells transform vs) as_arc cs cs (arc_cells_back transform cs h.1) long)
+  where
+    long : Gives (as_arc cs) cs
+    long counts = grind (arith, le-leb)
+
+pub arcs_back : (transform : Option Transform) (arcs : List (List Point)) → AllByRecursion (IsArc transform) arcs → Gives (arc_list transform (arcs_value transform arcs)) arcs
 unfolding arc_list
-arcs_back arcs h = pure_gives _ (each (arc None)) _ arcs (array_elements (map positions_value arcs)) (each_gives (IsArc None) positions_value (arc None) arc_back arcs h)
+arcs_back transform arcs h =
+    pure_gives _ (each (arc transform)) _ arcs (array_elements (map (arc_value transform) arcs)) (each_gives (IsArc transform) (arc_value transform) (arc transform) (arc_back transform) arcs h)

@@ -7,12 +7,13 @@ use Rattle.json_value.specs.declared.json.Json.TheVariants as j
 use Rattle.geojson_types.specs.declared.id.Id.{Id}
 use Rattle.geojson_types.specs.declared.id.Id.TheVariants as id
 use Rattle.geometry.specs.Lists.{map_some}
-use Rattle.geometry.specs.Points.{Point, IsPosition}
+use Rattle.geometry.specs.Points.{Point}
 use Rattle.geometry.specs.Pruning.{option_strokes}
 use Rattle.topojson_types.specs.declared.feature.TopoFeature.{TopoFeature}
+use Rattle.topojson_types.specs.declared.transform.Transform.{Transform}
 use Rattle.topojson_types.specs.Topologies.{TopoShape}
-use Rattle.topojson_types.specs.Validity.{IsArc, IsFeature, is_full_option, option_places, is_single_option}
-use Rattle.topojson_types.specs.Values.{Members, Geometrical, id_value, id_members, properties_members, typed, geometrical, geometrical_option, feature_value}
+use Rattle.topojson_types.specs.Validity.{IsPlace, IsArc, IsFeature, is_full_option, option_places, is_single_option}
+use Rattle.topojson_types.specs.Values.{Members, Geometrical, id_value, id_members, properties_members, typed, cell_value, geometrical, geometrical_option, feature_value}
 use Rattle.topojson_meaning.specs.declared.geometry_type.GeometryType.{GeometryType}
 use Rattle.topojson_meaning.specs.Features.{identifier, identifier_in, members_if, members_in, feature, feature_element}
 use Rattle.topojson_meaning.specs.GeometryTypes.{part_name, is_collection, type_in, type_of, object_type}
@@ -101,19 +102,19 @@ unfolding type_of
 null_type = ap type_in j.outs-Null
 
 -- a feature with this identifier, these properties and a shape that is written so is read back, by its type
-pub record Shaped (arcs : List (List Point)) (i : Option Id) (ps : Option Members) (x : Option TopoShape) (o : Geometrical) : Type 0 where
+pub record Shaped (transform : Option Transform) (arcs : List (List Point)) (i : Option Id) (ps : Option Members) (x : Option TopoShape) (o : Geometrical) : Type 0 where
   pub type : Option GeometryType
   pub is : object_type (feature_members i ps o.type o.parts) ≡ Ok type
-  pub reads : Gives (feature None arcs type (feature_members i ps o.type o.parts)) (record { id = i; properties = ps; shape = x })
+  pub reads : Gives (feature transform arcs type (feature_members i ps o.type o.parts)) (record { id = i; properties = ps; shape = x })
   pub single : is_single_option x ≡ true → is_collection type ≡ false
 
-module _ (arcs : List (List Point)) (long : AllByRecursion (IsArc None) arcs) (few : length arcs < 2 ^ 63) (i : Option Id) (ps : Option Members) where
+module _ (transform : Option Transform) (arcs : List (List Point)) (long : AllByRecursion (IsArc transform) arcs) (few : length arcs < 2 ^ 63) (i : Option Id) (ps : Option Members) where
   feature_reads : (type : Option GeometryType) (ms : Members) (x : Option TopoShape) → find (codes "id") ms ≡ Ok (map_some id_value i) → find (codes "properties") ms ≡ Ok (map_some j.Object ps)
-      → Gives (typed_shape None arcs type ms) x → Gives (feature None arcs type ms) (record { id = i; properties = ps; shape = x })
+      → Gives (typed_shape transform arcs type ms) x → Gives (feature transform arcs type ms) (record { id = i; properties = ps; shape = x })
   unfolding feature
   feature_reads type ms x e f h c = rw (e, id_back i, f, properties_back ps, h c) refl
 
-  null_shaped : Shaped arcs i ps None (geometrical_option None)
+  null_shaped : Shaped transform arcs i ps None (geometrical_option (cell_value transform) None)
   unfolding typed_shape named
   null_shaped =
       let found : Found i ps j.Null [] = found i ps j.Null [] (refl, refl, refl) in
@@ -125,33 +126,34 @@ module _ (arcs : List (List Point)) (long : AllByRecursion (IsArc None) arcs) (f
         single = λ _. refl;
       }
 
-  some_shaped : (s : TopoShape) → Parts arcs s → Shaped arcs i ps (Some s) (geometrical s)
+  some_shaped : (s : TopoShape) → Parts transform arcs s → Shaped transform arcs i ps (Some s) (geometrical (cell_value transform) s)
   some_shaped s p =
       let parts : Members = (part_name p.type, p.value) ∷ [] in
       let t : Json = j.Text p.name in
       let ms : Members = feature_members i ps t parts in
       let found : Found i ps t parts = found i ps t parts (no_parts p.type p.value) in
-      let at : Shaped arcs i ps (Some s) (typed p.name (part_name p.type) p.value) = record {
+      let at : Shaped transform arcs i ps (Some s) (typed p.name (part_name p.type) p.value) = record {
         type = Some p.type;
         is = object_typed ms t (Ok (Some p.type)) found.type (type_named p.name p.type p.known);
-        reads = feature_reads (Some p.type) ms (Some s) found.id found.properties (typed_back arcs long few p.type ms p.value (Some s) (part_found i ps t p.type p.value) p.reads);
+        reads = feature_reads (Some p.type) ms (Some s) found.id found.properties (typed_back transform arcs long few p.type ms p.value (Some s) (part_found i ps t p.type p.value) p.reads);
         single = p.single;
       } in
-      subst (Shaped arcs i ps (Some s)) (sym p.is) at
+      subst (Shaped transform arcs i ps (Some s)) (sym p.is) at
 
--- no list of its shape is empty but a collection's, its places are positions, and its lines and rings are sound
-abbrev pub FineFeature : List (List Point) → TopoFeature → Type 0
-FineFeature arcs f = IsFeature None f × AllByRecursion (Sound arcs) (option_strokes f.shape)
+-- no list of its shape is empty but a collection's, its cells may stand there, and its lines and rings are sound
+abbrev pub FineFeature : Option Transform → List (List Point) → TopoFeature → Type 0
+FineFeature transform arcs f = IsFeature transform f × AllByRecursion (Sound arcs) (option_strokes f.shape)
 
-module _ (arcs : List (List Point)) (long : AllByRecursion (IsArc None) arcs) (few : length arcs < 2 ^ 63) where
-  pub shaped : (i : Option Id) (ps : Option Members) (x : Option TopoShape) → is_full_option x ≡ true → AllByRecursion IsPosition (option_places x) → AllByRecursion (Sound arcs) (option_strokes x)
-      → Shaped arcs i ps x (geometrical_option x)
-  shaped i ps x h k m = grind (arith, null_shaped, some_shaped, shape_parts)
+module _ (transform : Option Transform) (arcs : List (List Point)) (long : AllByRecursion (IsArc transform) arcs) (few : length arcs < 2 ^ 63) where
+  pub shaped : (i : Option Id) (ps : Option Members) (x : Option TopoShape) → is_full_option x ≡ true → AllByRecursion (IsPlace transform) (option_places x) → AllByRecursion (Sound arcs) (option_strokes x)
+      → Shaped transform arcs i ps x (geometrical_option (cell_value transform) x)
+  shaped i ps None h k m = null_shaped transform arcs long few i ps
+  shaped i ps (Some s) h k m = some_shaped transform arcs long few i ps s (shape_parts transform arcs long few s (h, k, m))
 
-  pub feature_back : (f : TopoFeature) → FineFeature arcs f → Gives (feature_element None arcs (feature_value f)) f
+  pub feature_back : (f : TopoFeature) → FineFeature transform arcs f → Gives (feature_element transform arcs (feature_value (cell_value transform) f)) f
   unfolding feature_element
   feature_back f h =
       let s = shaped f.id f.properties f.shape h.0.0 h.0.1 h.1 in
-      let o : Geometrical = geometrical_option f.shape in
+      let o : Geometrical = geometrical_option (cell_value transform) f.shape in
       let ms : Members = feature_members f.id f.properties o.type o.parts in
-      pure_gives _ _ ms f (object_members ms) (pure_gives (object_type ms) (λ t. feature None arcs t ms) s.type f s.is s.reads)
+      pure_gives _ _ ms f (object_members ms) (pure_gives (object_type ms) (λ t. feature transform arcs t ms) s.type f s.is s.reads)

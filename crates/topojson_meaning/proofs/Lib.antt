@@ -8,6 +8,7 @@ pub mod ShapeKinds
 pub mod ShapesBack
 pub mod Steps
 pub mod TopologiesBack
+pub mod TransformsBack
 pub mod Unrolled
 pub mod ValidArcs
 pub mod ValidKept

@@ -14,6 +14,7 @@ use Rattle.geometry.specs.Points.{Point}
 use Rattle.geometry.specs.Rings.{both_same}
 use Rattle.geometry.proofs.Points.{same_self}
 use Rattle.geometry.specs.Joins.{number_of, at, or_empty, arc_at, first_of, last_of, Meet, Closes}
+use Rattle.topojson_types.specs.declared.transform.Transform.{Transform}
 use Rattle.topojson_types.specs.Validity.{IsArc, AreInRange, IsJoined, IsClosed}
 use Rattle.topojson_types.specs.Values.{whole_value, line_value, lines_value}
 use Rattle.topojson_meaning.specs.Lines.{some_elements, index_limit, index, joined_to, indexes_behind, indexes, line_start, line_end, as_ring, line_in, line, ring_in, ring, polygon_in, polygon}
@@ -39,14 +40,14 @@ first_there : {X : Type 0} (xs : List X) → 2 ≤ length xs → (x : X) × (fir
 first_there [] h = absurd (omega arith)
 first_there (x ∷ xs) h = (x, refl)
 
-at_long : (arcs : List (List Point)) (i : ℕ) → AllByRecursion (IsArc None) arcs → i < length arcs → 2 ≤ length (or_empty (at arcs i))
-at_long [] i h lt = absurd (omega arith)
-at_long (a ∷ arcs) zero h lt = h.0.0
-at_long (a ∷ arcs) (suc i) h lt = at_long arcs i h.1 (omega arith)
+at_long : (transform : Option Transform) (arcs : List (List Point)) (i : ℕ) → AllByRecursion (IsArc transform) arcs → i < length arcs → 2 ≤ length (or_empty (at arcs i))
+at_long transform [] i h lt = absurd (omega arith)
+at_long transform (a ∷ arcs) zero h lt = h.0.0
+at_long transform (a ∷ arcs) (suc i) h lt = at_long transform arcs i h.1 (omega arith)
 
-arc_long : (arcs : List (List Point)) (i : ℤ) → AllByRecursion (IsArc None) arcs → number_of i < length arcs → 2 ≤ length (arc_at arcs i)
+arc_long : (transform : Option Transform) (arcs : List (List Point)) (i : ℤ) → AllByRecursion (IsArc transform) arcs → number_of i < length arcs → 2 ≤ length (arc_at arcs i)
 unfolding number_of
-arc_long arcs i h k = grind (arith, at_long, length-reverse)
+arc_long transform arcs i h k = grind (arith, at_long transform, length-reverse)
 
 pub magnitude : (i : ℤ) (n : ℕ) → number_of i < n → n < 2 ^ 63 → unsigned_abs i ≤ index_limit
 unfolding number_of
@@ -70,9 +71,9 @@ Full arcs closed refs = (is_some_list refs ≡ true) × Sound arcs (closed, refs
 abbrev pub FullArea : List (List Point) → List (List ℤ) → Type 0
 FullArea arcs rs = (is_some_list rs ≡ true) × AllByRecursion (Full arcs true) rs
 
-module _ (arcs : List (List Point)) (long : AllByRecursion (IsArc None) arcs) (few : length arcs < 2 ^ 63) where
+module _ (transform : Option Transform) (arcs : List (List Point)) (long : AllByRecursion (IsArc transform) arcs) (few : length arcs < 2 ^ 63) where
   starts : (i : ℤ) → number_of i < length arcs → (p : Point) × (first_of (arc_at arcs i) ≡ Some p)
-  starts i h = first_there (arc_at arcs i) (arc_long arcs i long h)
+  starts i h = first_there (arc_at arcs i) (arc_long transform arcs i long h)
 
   join_back : (before i : ℤ) → number_of i < length arcs → last_of (arc_at arcs before) ≡ first_of (arc_at arcs i) → Gives (joined_to arcs before i) i
   join_back before i h e c = grind (arith, starts, some_same)

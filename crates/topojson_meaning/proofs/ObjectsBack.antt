@@ -1,5 +1,5 @@
 -- The objects that are written are read back.
-use Rattle.std.proofs.Common.{◌≡◌, ◌≢◌, ℕ, ◌<◌, Bool, true, false, List, [], ◌∷◌, length, map, None, Some, Ok, refl, arith}
+use Rattle.std.proofs.Common.{◌≡◌, ◌≢◌, ℕ, ◌<◌, Bool, true, false, List, [], ◌∷◌, length, map, Option, Some, Ok, refl, arith}
 use Rattle.std.specs.Prelude.{codes, ◌^◌}
 use Rattle.std.specs.List.{AllByRecursion}
 use Rattle.std.proofs.lemmas.Slice.Eq.{bytes_eq-Decides}
@@ -9,8 +9,9 @@ use Rattle.geometry.specs.Points.{Point}
 use Rattle.topojson_types.specs.declared.feature.TopoFeature.{TopoFeature}
 use Rattle.topojson_types.specs.declared.object.TopoObject.{TopoObject}
 use Rattle.topojson_types.specs.declared.object.TopoObject.TheVariants.{One, Many}
+use Rattle.topojson_types.specs.declared.transform.Transform.{Transform}
 use Rattle.topojson_types.specs.Validity.{IsArc, AreDistinct, is_single_option}
-use Rattle.topojson_types.specs.Values.{Members, feature_value, object_value}
+use Rattle.topojson_types.specs.Values.{Members, cell_value, feature_value, object_value, objects_value}
 use Rattle.topojson_meaning.specs.declared.geometry_type.GeometryType.TheVariants.{Collection}
 use Rattle.topojson_meaning.specs.GeometryTypes.{object_type}
 use Rattle.topojson_meaning.specs.Members.{named, need}
@@ -21,41 +22,41 @@ use Rattle.topojson_meaning.proofs.ShapesBack.{known_group, object_typed, type_n
 use Rattle.topojson_meaning.proofs.Steps.{Gives, pure_gives, each_gives}
 
 -- its features are, and one alone is no collection
-abbrev pub FineObject : List (List Point) → TopoObject → Type 0
-FineObject arcs (One f) = FineFeature arcs f × (is_single_option f.shape ≡ true)
-FineObject arcs (Many fs) = AllByRecursion (FineFeature arcs) fs
+abbrev pub FineObject : Option Transform → List (List Point) → TopoObject → Type 0
+FineObject transform arcs (One f) = FineFeature transform arcs f × (is_single_option f.shape ≡ true)
+FineObject transform arcs (Many fs) = AllByRecursion (FineFeature transform arcs) fs
 
-module _ (arcs : List (List Point)) (long : AllByRecursion (IsArc None) arcs) (few : length arcs < 2 ^ 63) where
+module _ (transform : Option Transform) (arcs : List (List Point)) (long : AllByRecursion (IsArc transform) arcs) (few : length arcs < 2 ^ 63) where
   -- ---- one object
 
-  single_back : (f : TopoFeature) → FineFeature arcs f → is_single_option f.shape ≡ true → Gives (object None arcs (feature_value f)) (One f)
+  single_back : (f : TopoFeature) → FineFeature transform arcs f → is_single_option f.shape ≡ true → Gives (object transform arcs (feature_value (cell_value transform) f)) (One f)
   unfolding object single
-  single_back f h e c = grind (arith, shaped arcs long few f.id f.properties f.shape h.0.0 h.0.1 h.1, feature_members f.id f.properties, object_members)
+  single_back f h e c = grind (arith, shaped transform arcs long few f.id f.properties f.shape h.0.0 h.0.1 h.1, feature_members f.id f.properties, object_members)
 
-  features_back : (fs : List TopoFeature) → AllByRecursion (FineFeature arcs) fs → Gives (features None arcs (j.Array (map feature_value fs))) fs
+  features_back : (fs : List TopoFeature) → AllByRecursion (FineFeature transform arcs) fs → Gives (features transform arcs (j.Array (map (feature_value (cell_value transform)) fs))) fs
   unfolding features
   features_back fs h = grind (arith, pure_gives, array_elements, each_gives, FineFeature, feature_back)
 
   -- the members of a collection
   abbrev collected : List TopoFeature → Members
-  collected fs = (codes "type", j.Text (codes "GeometryCollection")) ∷ ((codes "geometries", j.Array (map feature_value fs)) ∷ [])
+  collected fs = (codes "type", j.Text (codes "GeometryCollection")) ∷ ((codes "geometries", j.Array (map (feature_value (cell_value transform)) fs)) ∷ [])
 
   collected_type : (fs : List TopoFeature) → need (codes "type") (collected fs) ≡ Ok (j.Text (codes "GeometryCollection"))
   unfolding need named
   collected_type fs = refl
 
-  collection_back : (fs : List TopoFeature) → AllByRecursion (FineFeature arcs) fs → Gives (collection None arcs (collected fs)) (Many fs)
+  collection_back : (fs : List TopoFeature) → AllByRecursion (FineFeature transform arcs) fs → Gives (collection transform arcs (collected fs)) (Many fs)
   unfolding collection need named
   collection_back fs h c = rw (features_back fs h c) refl
 
-  many_back : (fs : List TopoFeature) → AllByRecursion (FineFeature arcs) fs → Gives (object None arcs (object_value (Many fs))) (Many fs)
+  many_back : (fs : List TopoFeature) → AllByRecursion (FineFeature transform arcs) fs → Gives (object transform arcs (object_value (cell_value transform) (Many fs))) (Many fs)
   unfolding object
   many_back fs h c =
       let t : Json = j.Text (codes "GeometryCollection") in
       let e : object_type (collected fs) ≡ Ok (Some Collection) = object_typed (collected fs) t (Ok (Some Collection)) (collected_type fs) (type_named (codes "GeometryCollection") Collection known_group) in
       rw (object_members (collected fs), e, collection_back fs h c) refl
 
-  object_back : (o : TopoObject) → FineObject arcs o → Gives (object None arcs (object_value o)) o
+  object_back : (o : TopoObject) → FineObject transform arcs o → Gives (object transform arcs (object_value (cell_value transform) o)) o
   object_back (One f) h = single_back f h.0 h.1
   object_back (Many fs) h = many_back fs h
 
@@ -80,15 +81,15 @@ module _ (arcs : List (List Point)) (long : AllByRecursion (IsArc None) arcs) (f
   new_rest [] names name h = tt
   new_rest (n ∷ met) names name h = (h.0.1, new_rest met names name h.1)
 
-  behind_back : (met : List (List ℕ)) (os : List (List ℕ × TopoObject)) → AreNew met (map (λ o. o.0) os) → AreDistinct (map (λ o. o.0) os) → AllByRecursion (λ o. FineObject arcs o.1) os
-      → Gives (objects_behind None arcs met (map (λ o. (o.0, object_value o.1)) os)) os
+  behind_back : (met : List (List ℕ)) (os : List (List ℕ × TopoObject)) → AreNew met (map (λ o. o.0) os) → AreDistinct (map (λ o. o.0) os) → AllByRecursion (λ o. FineObject transform arcs o.1) os
+      → Gives (objects_behind transform arcs met (map (λ o. (o.0, object_value (cell_value transform) o.1)) os)) os
   unfolding objects_behind
   behind_back met [] n d h c = refl
   behind_back met (o ∷ os) n d h c =
       let names : List (List ℕ) = map (λ o. o.0) os in
       rw (unmet o.0 met (new_first met names o.0 n), object_back o.1 h.0 c, behind_back (o.0 ∷ met) os (d.0, new_rest met names o.0 n) d.1 h.1 c) refl
 
-  pub objects_back : (os : List (List ℕ × TopoObject)) → AreDistinct (map (λ o. o.0) os) → AllByRecursion (λ o. FineObject arcs o.1) os
-      → Gives (objects None arcs (j.Object (map (λ o. (o.0, object_value o.1)) os))) os
+  pub objects_back : (os : List (List ℕ × TopoObject)) → AreDistinct (map (λ o. o.0) os) → AllByRecursion (λ o. FineObject transform arcs o.1) os
+      → Gives (objects transform arcs (objects_value (cell_value transform) os)) os
   unfolding objects
-  objects_back os d h = pure_gives _ (objects_behind None arcs []) _ os (object_members (map (λ o. (o.0, object_value o.1)) os)) (behind_back [] os tt d h)
+  objects_back os d h = pure_gives _ (objects_behind transform arcs []) _ os (object_members (map (λ o. (o.0, object_value (cell_value transform) o.1)) os)) (behind_back [] os tt d h)

@@ -1,5 +1,5 @@
 -- The shapes that are written are read back.
-use Rattle.std.proofs.Common.{◌≡◌, ℕ, ℤ, ◌<◌, Bool, true, false, List, [], ◌∷◌, length, map, Option, None, Some, Result, Ok, refl, sym, ap, ◌∙◌, subst, arith}
+use Rattle.std.proofs.Common.{◌≡◌, ℕ, ℤ, ◌<◌, Bool, true, false, List, [], ◌∷◌, length, map, Option, Some, Result, Ok, refl, sym, ap, ◌∙◌, subst, arith}
 use Rattle.std.specs.Prelude.{codes, ◌^◌, ◌&&◌}
 use Rattle.std.specs.List.{AllByRecursion, list_all}
 use Rattle.std.proofs.lemmas.Bool.{and_parts}
@@ -8,14 +8,15 @@ use Rattle.json_value.specs.declared.json.Json.TheVariants as j
 use Rattle.geometry.specs.declared.shape.Geometry.TheVariants as g
 use Rattle.geojson_types.specs.Features.{is_some_list}
 use Rattle.geometry.specs.Lists.{joined}
-use Rattle.geometry.specs.Points.{Point, IsPosition}
+use Rattle.geometry.specs.Points.{Point}
 use Rattle.geometry.specs.Pruning.{strokes}
 use Rattle.geometry.proofs.Agreement.{all_left, all_right}
 use Rattle.geometry.proofs.Cases.{strokes-line, strokes-lines, strokes-area, strokes-areas, strokes-group}
 use Rattle.geometry.proofs.Induction.{by_kinds}
+use Rattle.topojson_types.specs.declared.transform.Transform.{Transform}
 use Rattle.topojson_types.specs.Topologies.{TopoShape}
-use Rattle.topojson_types.specs.Validity.{IsArc, is_full, places, is_single}
-use Rattle.topojson_types.specs.Values.{Members, units_value, position_value, whole_value, line_value, lines_value, typed, inner_value, geometrical}
+use Rattle.topojson_types.specs.Validity.{IsPlace, IsArc, is_full, places, is_single}
+use Rattle.topojson_types.specs.Values.{Members, number_value, cell_places, cell_value, whole_value, line_value, lines_value, typed, inner_value, geometrical}
 use Rattle.topojson_types.proofs.ByKind.{geometrical_at, full_at, places_at, single_at, full-group}
 use Rattle.topojson_meaning.specs.declared.fault.TopoFault.{TopoFault}
 use Rattle.topojson_meaning.specs.declared.geometry_type.ArcsType.{ArcsType}
@@ -30,7 +31,7 @@ use Rattle.topojson_meaning.specs.Lines.{some_elements}
 use Rattle.topojson_meaning.specs.Members.{named, need}
 use Rattle.topojson_meaning.specs.Reader.{if_some}
 use Rattle.topojson_meaning.specs.Shapes.{places_in, arcs_in, places_shape, arcs_shape, shape, part, typed_shape, geometry}
-use Rattle.topojson_meaning.proofs.ArcsBack.{elements_position_back, each_place_back}
+use Rattle.topojson_meaning.proofs.ArcsBack.{elements_place_back, each_place_back}
 use Rattle.topojson_meaning.proofs.LinesBack.{some_elements_back, Sound, Full, FullArea, line_in_back, lines_back, polygon_in_back, polygons_back}
 use Rattle.topojson_meaning.proofs.ShapeKinds.{geometrical-group}
 use Rattle.topojson_meaning.proofs.Steps.{Gives, then_gives, pure_gives, kept_gives}
@@ -53,18 +54,18 @@ full_areas arcs (rs ∷ areas) f h = grind (arith, and_parts, full_area, all_lef
 
 -- ---- what is said of a shape
 
--- no list is empty but a collection's, its places are positions, and its lines and rings are sound
-abbrev pub Fine : List (List Point) → TopoShape → Type 0
-Fine arcs s = (is_full s ≡ true) × AllByRecursion IsPosition (places s) × AllByRecursion (Sound arcs) (strokes s)
+-- no list is empty but a collection's, its cells may stand there, and its lines and rings are sound
+abbrev pub Fine : Option Transform → List (List Point) → TopoShape → Type 0
+Fine transform arcs s = (is_full s ≡ true) × AllByRecursion (IsPlace transform) (places s) × AllByRecursion (Sound arcs) (strokes s)
 
 -- it is written with the name of its type and one member, which is read as it
-pub record Parts (arcs : List (List Point)) (s : TopoShape) : Type 0 where
+pub record Parts (transform : Option Transform) (arcs : List (List Point)) (s : TopoShape) : Type 0 where
   pub type : GeometryType
   pub name : List ℕ
   pub value : Json
-  pub is : geometrical s ≡ typed name (part_name type) value
+  pub is : geometrical (cell_value transform) s ≡ typed name (part_name type) value
   pub known : geometry_type name ≡ Some type
-  pub reads : Gives (part None arcs type value) (Some s)
+  pub reads : Gives (part transform arcs type value) (Some s)
   pub single : is_single s ≡ true → is_collection (Some type) ≡ false
 
 -- ---- names of types
@@ -119,70 +120,70 @@ inner_part type t v = grind (arith, type)
 
 -- ---- shapes
 
-module _ (arcs : List (List Point)) (long : AllByRecursion (IsArc None) arcs) (few : length arcs < 2 ^ 63) where
-  places_back : {A : Type 0} (type : PlacesType) (value : A → Json) (xs : List A) (s : TopoShape) → is_some_list xs ≡ true → Gives (places_in None type (map value xs)) (Some s)
-      → Gives (part None arcs (Places type) (j.Array (map value xs))) (Some s)
+module _ (transform : Option Transform) (arcs : List (List Point)) (long : AllByRecursion (IsArc transform) arcs) (few : length arcs < 2 ^ 63) where
+  places_back : {A : Type 0} (type : PlacesType) (value : A → Json) (xs : List A) (s : TopoShape) → is_some_list xs ≡ true → Gives (places_in transform type (map value xs)) (Some s)
+      → Gives (part transform arcs (Places type) (j.Array (map value xs))) (Some s)
   unfolding part places_shape
-  places_back type value xs s f h = then_gives (some_elements (j.Array (map value xs))) (if_some (places_in None type)) (Some (map value xs)) (Some s) (some_elements_back value xs f) h
+  places_back type value xs s f h = then_gives (some_elements (j.Array (map value xs))) (if_some (places_in transform type)) (Some (map value xs)) (Some s) (some_elements_back value xs f) h
 
   arcs_back : {A : Type 0} (type : ArcsType) (value : A → Json) (xs : List A) (s : TopoShape) → is_some_list xs ≡ true → Gives (arcs_in arcs type (map value xs)) (Some s)
-      → Gives (part None arcs (Arcs type) (j.Array (map value xs))) (Some s)
+      → Gives (part transform arcs (Arcs type) (j.Array (map value xs))) (Some s)
   unfolding part arcs_shape
   arcs_back type value xs s f h = then_gives (some_elements (j.Array (map value xs))) (if_some (arcs_in arcs type)) (Some (map value xs)) (Some s) (some_elements_back value xs f) h
 
-  point_in : (p : Point) → IsPosition p → Gives (places_in None of_places.Point (map units_value (p.x ∷ (p.y ∷ [])))) (Some (g.Point p))
+  point_in : (p : Point) → IsPlace transform p → Gives (places_in transform of_places.Point (map (number_value (cell_places transform)) (p.x ∷ (p.y ∷ [])))) (Some (g.Point p))
   unfolding places_in elements_place
-  point_in p h c = rw (elements_position_back p h c) refl
+  point_in p h c = rw (elements_place_back transform p h c) refl
 
-  points_in : (ps : List Point) → is_some_list ps ≡ true → AllByRecursion IsPosition ps → Gives (places_in None of_places.MultiPoint (map position_value ps)) (Some (g.MultiPoint ps))
+  points_in : (ps : List Point) → is_some_list ps ≡ true → AllByRecursion (IsPlace transform) ps → Gives (places_in transform of_places.MultiPoint (map (cell_value transform) ps)) (Some (g.MultiPoint ps))
   unfolding places_in
-  points_in ps f h c = rw (each_place_back ps h c, made_of_some g.MultiPoint ps f) refl
+  points_in ps f h c = rw (each_place_back transform ps h c, made_of_some g.MultiPoint ps f) refl
 
   line_shape_in : (refs : List ℤ) → Sound arcs (false, refs) → Gives (arcs_in arcs of_arcs.LineString (map whole_value refs)) (Some (g.Line refs))
   unfolding arcs_in
-  line_shape_in refs h c = rw (line_in_back arcs long few refs h c) refl
+  line_shape_in refs h c = rw (line_in_back transform arcs long few refs h c) refl
 
   lines_in : (ls : List (List ℤ)) → is_some_list ls ≡ true → AllByRecursion (Full arcs false) ls → Gives (arcs_in arcs of_arcs.MultiLineString (map line_value ls)) (Some (g.Lines ls))
   unfolding arcs_in
-  lines_in ls f h c = rw (lines_back arcs long few ls h c, made_of_some g.Lines ls f) refl
+  lines_in ls f h c = rw (lines_back transform arcs long few ls h c, made_of_some g.Lines ls f) refl
 
   area_in : (rs : List (List ℤ)) → FullArea arcs rs → Gives (arcs_in arcs of_arcs.Polygon (map line_value rs)) (Some (g.Area rs))
   unfolding arcs_in
-  area_in rs h c = rw (polygon_in_back arcs long few rs h c) refl
+  area_in rs h c = rw (polygon_in_back transform arcs long few rs h c) refl
 
   areas_in : (areas : List (List (List ℤ))) → is_some_list areas ≡ true → AllByRecursion (FullArea arcs) areas → Gives (arcs_in arcs of_arcs.MultiPolygon (map lines_value areas)) (Some (g.Areas areas))
   unfolding arcs_in
-  areas_in areas f h c = rw (polygons_back arcs long few areas h c, made_of_some g.Areas areas f) refl
+  areas_in areas f h c = rw (polygons_back transform arcs long few areas h c, made_of_some g.Areas areas f) refl
 
   abbrev Back : TopoShape → Type 0
-  Back s = Fine arcs s → Parts arcs s
+  Back s = Fine transform arcs s → Parts transform arcs s
 
   -- the member that a shape is made of is read
-  pub typed_back : (type : GeometryType) (ms : Members) (v : Json) (x : Option TopoShape) → need (part_name type) ms ≡ Ok v → Gives (part None arcs type v) x → Gives (typed_shape None arcs (Some type) ms) x
+  pub typed_back : (type : GeometryType) (ms : Members) (v : Json) (x : Option TopoShape) → need (part_name type) ms ≡ Ok v → Gives (part transform arcs type v) x → Gives (typed_shape transform arcs (Some type) ms) x
   unfolding typed_shape
-  typed_back type ms v x e h = pure_gives (need (part_name type) ms) (part None arcs type) v x e h
+  typed_back type ms v x e h = pure_gives (need (part_name type) ms) (part transform arcs type) v x e h
 
-  geometry_back : (type : Option GeometryType) (ms : Members) (x : Option TopoShape) → object_type ms ≡ Ok type → Gives (typed_shape None arcs type ms) x → Gives (geometry None arcs ms) x
+  geometry_back : (type : Option GeometryType) (ms : Members) (x : Option TopoShape) → object_type ms ≡ Ok type → Gives (typed_shape transform arcs type ms) x → Gives (geometry transform arcs ms) x
   unfolding geometry
-  geometry_back type ms x e h = pure_gives (object_type ms) (λ t. typed_shape None arcs t ms) type x e h
+  geometry_back type ms x e h = pure_gives (object_type ms) (λ t. typed_shape transform arcs t ms) type x e h
 
   -- a geometry inside a collection is read back
-  inner_back : (s : TopoShape) → Parts arcs s → Gives (shape None arcs (inner_value (geometrical s))) (Some s)
+  inner_back : (s : TopoShape) → Parts transform arcs s → Gives (shape transform arcs (inner_value (geometrical (cell_value transform) s))) (Some s)
   inner_back s p =
       let t : Json = j.Text p.name in
       let ms : Members = (codes "type", t) ∷ ((part_name p.type, p.value) ∷ []) in
       let typed : object_type ms ≡ Ok (Some p.type) = object_typed ms t (Ok (Some p.type)) (inner_type p.type t p.value) (type_named p.name p.type p.known) in
-      let read : Gives (geometry None arcs ms) (Some s) = geometry_back (Some p.type) ms (Some s) typed (typed_back p.type ms p.value (Some s) (inner_part p.type t p.value) p.reads) in
-      λ c. rw (p.is, shape_object None arcs ms) (read c)
+      let read : Gives (geometry transform arcs ms) (Some s) = geometry_back (Some p.type) ms (Some s) typed (typed_back p.type ms p.value (Some s) (inner_part p.type t p.value) p.reads) in
+      λ c. rw (p.is, shape_object transform arcs ms) (read c)
 
   at_point : (p : Point) → Back (g.Point p)
   at_point p h = record {
     type = Places of_places.Point;
     name = codes "Point";
-    value = position_value p;
-    is = geometrical_at.point p;
+    value = cell_value transform p;
+    is = (geometrical_at (cell_value transform)).point p;
     known = known_point;
-    reads = places_back of_places.Point units_value (p.x ∷ (p.y ∷ [])) (g.Point p) refl (point_in p (subst (AllByRecursion IsPosition) (places_at.point p) h.1).0);
+    reads = places_back of_places.Point (number_value (cell_places transform)) (p.x ∷ (p.y ∷ [])) (g.Point p) refl (point_in p (subst (AllByRecursion (IsPlace transform)) (places_at.point p) h.1).0);
     single = λ _. refl;
   }
 
@@ -192,10 +193,10 @@ module _ (arcs : List (List Point)) (long : AllByRecursion (IsArc None) arcs) (f
       record {
         type = Places of_places.MultiPoint;
         name = codes "MultiPoint";
-        value = j.Array (map position_value ps);
-        is = geometrical_at.points ps;
+        value = j.Array (map (cell_value transform) ps);
+        is = (geometrical_at (cell_value transform)).points ps;
         known = known_points;
-        reads = places_back of_places.MultiPoint position_value ps (g.MultiPoint ps) f (points_in ps f (subst (AllByRecursion IsPosition) (places_at.points ps) h.1));
+        reads = places_back of_places.MultiPoint (cell_value transform) ps (g.MultiPoint ps) f (points_in ps f (subst (AllByRecursion (IsPlace transform)) (places_at.points ps) h.1));
         single = λ _. refl;
       }
 
@@ -207,7 +208,7 @@ module _ (arcs : List (List Point)) (long : AllByRecursion (IsArc None) arcs) (f
         type = Arcs of_arcs.LineString;
         name = codes "LineString";
         value = line_value refs;
-        is = geometrical_at.line refs;
+        is = (geometrical_at (cell_value transform)).line refs;
         known = known_line;
         reads = arcs_back of_arcs.LineString whole_value refs (g.Line refs) f (line_shape_in refs k.0);
         single = λ _. refl;
@@ -221,7 +222,7 @@ module _ (arcs : List (List Point)) (long : AllByRecursion (IsArc None) arcs) (f
         type = Arcs of_arcs.MultiLineString;
         name = codes "MultiLineString";
         value = lines_value ls;
-        is = geometrical_at.lines ls;
+        is = (geometrical_at (cell_value transform)).lines ls;
         known = known_lines;
         reads = arcs_back of_arcs.MultiLineString line_value ls (g.Lines ls) f.0 (lines_in ls f.0 k);
         single = λ _. refl;
@@ -234,7 +235,7 @@ module _ (arcs : List (List Point)) (long : AllByRecursion (IsArc None) arcs) (f
         type = Arcs of_arcs.Polygon;
         name = codes "Polygon";
         value = lines_value rs;
-        is = geometrical_at.area rs;
+        is = (geometrical_at (cell_value transform)).area rs;
         known = known_area;
         reads = arcs_back of_arcs.Polygon line_value rs (g.Area rs) k.0 (area_in rs k);
         single = λ _. refl;
@@ -248,31 +249,31 @@ module _ (arcs : List (List Point)) (long : AllByRecursion (IsArc None) arcs) (f
         type = Arcs of_arcs.MultiPolygon;
         name = codes "MultiPolygon";
         value = j.Array (map lines_value areas);
-        is = geometrical_at.areas areas;
+        is = (geometrical_at (cell_value transform)).areas areas;
         known = known_areas;
         reads = arcs_back of_arcs.MultiPolygon lines_value areas (g.Areas areas) f.0 (areas_in areas f.0 k);
         single = λ _. refl;
       }
 
-  each_parts : (ss : List TopoShape) → AllByRecursion Back ss → list_all is_full ss ≡ true → AllByRecursion IsPosition (joined (map places ss)) → AllByRecursion (Sound arcs) (joined (map strokes ss))
-      → AllByRecursion (Parts arcs) ss
+  each_parts : (ss : List TopoShape) → AllByRecursion Back ss → list_all is_full ss ≡ true → AllByRecursion (IsPlace transform) (joined (map places ss)) → AllByRecursion (Sound arcs) (joined (map strokes ss))
+      → AllByRecursion (Parts transform arcs) ss
   each_parts [] all f h k = tt
   each_parts (s ∷ ss) all f h k = grind (arith, and_parts, all_left, Sound, all_right, each_parts ss all.1)
 
-  group_back : (ss : List TopoShape) → AllByRecursion (Parts arcs) ss → Gives (part None arcs Collection (j.Array (map (λ s. inner_value (geometrical s)) ss))) (Some (g.Group ss))
+  group_back : (ss : List TopoShape) → AllByRecursion (Parts transform arcs) ss → Gives (part transform arcs Collection (j.Array (map (λ s. inner_value (geometrical (cell_value transform) s)) ss))) (Some (g.Group ss))
   unfolding part
-  group_back ss all c = rw (shapes_array None arcs (map (λ s. inner_value (geometrical s)) ss), kept_gives (Parts arcs) (λ s. inner_value (geometrical s)) (shape None arcs) inner_back ss all c) refl
+  group_back ss all c = rw (shapes_array transform arcs (map (λ s. inner_value (geometrical (cell_value transform) s)) ss), kept_gives (Parts transform arcs) (λ s. inner_value (geometrical (cell_value transform) s)) (shape transform arcs) inner_back ss all c) refl
 
   at_group : (ss : List TopoShape) → AllByRecursion Back ss → Back (g.Group ss)
   at_group ss all h = record {
     type = Collection;
     name = codes "GeometryCollection";
-    value = j.Array (map (λ s. inner_value (geometrical s)) ss);
-    is = geometrical-group ss;
+    value = j.Array (map (λ s. inner_value (geometrical (cell_value transform) s)) ss);
+    is = geometrical-group (cell_value transform) ss;
     known = known_group;
-    reads = group_back ss (each_parts ss all (sym (full-group ss) ∙ h.0) (subst (AllByRecursion IsPosition) (places_at.group ss) h.1) (subst (AllByRecursion (Sound arcs)) (strokes-group Point (List ℤ) ss) h.2));
+    reads = group_back ss (each_parts ss all (sym (full-group ss) ∙ h.0) (subst (AllByRecursion (IsPlace transform)) (places_at.group ss) h.1) (subst (AllByRecursion (Sound arcs)) (strokes-group Point (List ℤ) ss) h.2));
     single = λ e. let f : false ≡ true = sym (single_at.group ss) ∙ e in absurd cc;
   }
 
-  pub shape_parts : (s : TopoShape) → Fine arcs s → Parts arcs s
+  pub shape_parts : (s : TopoShape) → Fine transform arcs s → Parts transform arcs s
   shape_parts = by_kinds Back (record { point = at_point; points = at_points; line = at_line; lines = at_lines; area = at_area; areas = at_areas; group = at_group })

@@ -1,5 +1,5 @@
 -- Worked rows of the definition for topologies with a transform: what the numbers of a transform are, and which cells are taken.
-use Rattle.std.proofs.Common.{◌≡◌, ℕ, List, [], ◌∷◌, Some, None, Ok, Err, refl}
+use Rattle.std.proofs.Common.{◌≡◌, ℕ, List, [], ◌∷◌, map, Some, None, Ok, Err, refl}
 use Rattle.std.specs.Prelude.{ℤ, codes, ◌*◌, ◌-◌, ◌^◌, pos, negsuc}
 use Rattle.json_value.specs.declared.json.Json.{Json}
 use Rattle.json_value.specs.declared.json.Json.TheVariants as j
@@ -178,3 +178,44 @@ row_place_above c = simp (j.outs-Array, j.outs-Number)
 row_place_past : (c : Counts) → place (Some (scaling (codes "0.1") (codes "0.1"))) (pair_json (codes "2147483649") (codes "0")) c ≡ Err GridNumber
 unfolding place elements_place elements_cell grid_number grid_cell elements array_of number_text number_of scaled_of is_within place_on stands_for to_units transform_value
 row_place_past c = simp (j.outs-Array, j.outs-Number)
+
+-- ---- whole rows: a line and a Point on a grid of four by four, and a line on one of two by two
+
+abbrev at : ℤ → ℤ → Point
+at x y = record { x = x; y = y }
+
+abbrev grid_of_four : Transform
+grid_of_four = scaling (codes "0.3333334") (codes "0.3333334")
+
+four_read : (c : Counts) → transform_if (Some (scale_json (codes "0.3333334") (codes "0.3333334"))) c ≡ Ok (Some grid_of_four, c)
+unfolding transform_if transform_members need named texts elements array_of number_text number_of transform_pair transform_number transform_value scaled_of
+four_read c = simp (j.outs-Object, j.outs-Array, j.outs-Number)
+
+-- [[[0,0],[1,3],[2,-3]]] are the cells (0,0), (1,3), (3,0)
+abbrev line_cells : List Point
+line_cells = at (pos 0) (pos 0) ∷ (at (pos 1) (pos 3) ∷ (at (pos 3) (pos 0) ∷ []))
+
+row_line_read : (c : Counts) → arc_list (Some grid_of_four)
+    (j.Array (j.Array (pair_json (codes "0") (codes "0") ∷ (pair_json (codes "1") (codes "3") ∷ (pair_json (codes "2") (codes "-3") ∷ []))) ∷ [])) c ≡ Ok (line_cells ∷ [], c)
+unfolding arc_list arc arc_cells cells_behind cell elements_cell grid_number grid_cell elements array_of number_text number_of scaled_of is_within place_on stands_for to_units transform_value gather
+row_line_read c = simp (j.outs-Array, j.outs-Number)
+
+-- the Point [3,3] is the cell (3,3)
+row_point_read : (c : Counts) → place (Some grid_of_four) (pair_json (codes "3") (codes "3")) c ≡ Ok (at (pos 3) (pos 3), c)
+unfolding place elements_place elements_cell grid_number grid_cell elements array_of number_text number_of scaled_of is_within place_on stands_for to_units transform_value
+row_point_read c = simp (j.outs-Array, j.outs-Number)
+
+-- they lie at (0,0), (0.3333334,1.0000002), (1.0000002,0) and (1.0000002,1.0000002)
+row_line_lies : map (place_on grid_of_four) line_cells ≡ at (pos 0) (pos 0) ∷ (at (pos 3333334) (pos 10000002) ∷ (at (pos 10000002) (pos 0) ∷ []))
+unfolding place_on stands_for to_units transform_value scaled_of
+row_line_lies = refl
+
+row_point_lies : place_on grid_of_four (at (pos 3) (pos 3)) ≡ at (pos 10000002) (pos 10000002)
+unfolding place_on stands_for to_units transform_value scaled_of
+row_point_lies = refl
+
+-- with scale [10,0.0000001] and translate [0,5] the cells (0,0) and (1,0) lie at (0,5) and (10,5)
+row_two_lie : map (place_on (record { scale = (codes "10", codes "0.0000001"); translate = (codes "0", codes "5") })) (at (pos 0) (pos 0) ∷ (at (pos 1) (pos 0) ∷ []))
+    ≡ at (pos 0) (pos 50000000) ∷ (at (pos 100000000) (pos 50000000) ∷ [])
+unfolding place_on stands_for to_units transform_value scaled_of
+row_two_lie = refl

@@ -7,7 +7,7 @@ use Rattle.json_value.specs.Kinds.{array_of}
 use Rattle.geojson_types.specs.Features.{is_some_list}
 use Rattle.geometry.specs.Lists.{map_some, then_some}
 use Rattle.geometry.specs.Points.{Point}
-use Rattle.geometry.specs.Rings.{same, both_same}
+use Rattle.geometry.specs.Rings.{both_same}
 use Rattle.geometry.proofs.Points.{same_is}
 use Rattle.geometry.specs.Joins.{number_of, arc_at, first_of, last_of, Meet, Closes}
 use Rattle.topojson_types.specs.Validity.{AreInRange}

@@ -20,8 +20,9 @@ use Rattle.geojson_types.proofs.Nestings.{nesting_at}
 use Rattle.topojson_types.specs.declared.feature.TopoFeature.{TopoFeature}
 use Rattle.topojson_types.specs.declared.object.TopoObject.{TopoObject}
 use Rattle.topojson_types.specs.declared.object.TopoObject.TheVariants.{One, Many}
+use Rattle.topojson_types.specs.declared.transform.Transform.{Transform}
 use Rattle.topojson_types.specs.Topologies.{TopoShape, object_features}
-use Rattle.topojson_types.specs.Values.{Members, Geometrical, units_value, whole_value, position_value, positions_value, line_value, lines_value, typed, inner_value, geometrical, geometrical_option, id_members, properties_members, feature_value, object_value, topology_value}
+use Rattle.topojson_types.specs.Values.{Members, Geometrical, number_value, whole_value, position_value, cell_places, cell_value, written_cells, arc_value, line_value, lines_value, typed, inner_value, geometrical, geometrical_option, id_members, properties_members, feature_value, object_value, pair_value, members_of_transform, objects_value, arcs_value, topology_value}
 use Rattle.topojson_types.proofs.ByKind.{geometrical_at}
 use Rattle.topojson_meaning.specs.Bounds.{objects_features, feature_nesting}
 use Rattle.topojson_meaning.specs.Laws.{ValueNests}
@@ -63,11 +64,11 @@ number_flat n t = rw (depth-number t) (omega arith)
 
 -- ---- positions and indexes
 
-position_below : (p : Point) → depth (position_value p) ≤ 1
-position_below p = array_below units_value 0 (p.x ∷ (p.y ∷ [])) (number_flat 0 (units_text p.x 7), (number_flat 0 (units_text p.y 7), tt))
+position_below : (places : ℕ) (p : Point) → depth (position_value places p) ≤ 1
+position_below places p = array_below (number_value places) 0 (p.x ∷ (p.y ∷ [])) (number_flat 0 (units_text p.x places), (number_flat 0 (units_text p.y places), tt))
 
-positions_below : (ps : List Point) → depth (positions_value ps) ≤ 2
-positions_below ps = array_below position_value 1 ps (below (λ p. depth (position_value p)) 1 ps position_below)
+positions_below : (places : ℕ) (ps : List Point) → depth (j.Array (map (position_value places) ps)) ≤ 2
+positions_below places ps = array_below (position_value places) 1 ps (below (λ p. depth (position_value places p)) 1 ps (position_below places))
 
 line_below : (refs : List ℤ) → depth (line_value refs) ≤ 1
 line_below refs = array_below whole_value 0 refs (below (λ i. depth (whole_value i)) 0 refs (λ i. number_flat 0 (units_text i 0)))
@@ -87,100 +88,122 @@ nest_at = nesting_at Point (List ℤ)
 abbrev Fits : ℕ → Geometrical → Type 0
 Fits n o = (k : ℕ) × (n ≡ suc k) × (depth o.type ≤ k) × MembersBelow k o.parts
 
-abbrev Nests : TopoShape → Type 0
-Nests s = Fits (nesting s) (geometrical s)
+module _ (places : ℕ) where
+  abbrev cell : Point → Json
+  cell p = position_value places p
 
-typed_fits : (n k : ℕ) (type key : List ℕ) (v : Json) (o : Geometrical) → n ≡ suc k → depth v ≤ k → o ≡ typed type key v → Fits n o
-typed_fits n k type key v o e h is = rw is (k, e, text_flat k type, (h, tt))
+  abbrev Nests : TopoShape → Type 0
+  Nests s = Fits (nesting s) (geometrical cell s)
 
-inner_below : (n : ℕ) (o : Geometrical) → Fits n o → depth (inner_value o) ≤ n
-inner_below n o h = let p = object_below h.0 ((codes "type", o.type) ∷ o.parts) (h.2, h.3) in let e = h.1 in omega arith
+  typed_fits : (n k : ℕ) (type key : List ℕ) (v : Json) (o : Geometrical) → n ≡ suc k → depth v ≤ k → o ≡ typed type key v → Fits n o
+  typed_fits n k type key v o e h is = rw is (k, e, text_flat k type, (h, tt))
 
-at_point : (p : Point) → Nests (g.Point p)
-at_point p = let h = position_below p in typed_fits (nesting (g.Point p)) 1 (codes "Point") (codes "coordinates") (position_value p) (geometrical (g.Point p)) (nest_at.point p) h (geometrical_at.point p)
+  inner_below : (n : ℕ) (o : Geometrical) → Fits n o → depth (inner_value o) ≤ n
+  inner_below n o h = let p = object_below h.0 ((codes "type", o.type) ∷ o.parts) (h.2, h.3) in let e = h.1 in omega arith
 
-at_points : (ps : List Point) → Nests (g.MultiPoint ps)
-at_points ps = let h = positions_below ps in typed_fits (nesting (g.MultiPoint ps)) 2 (codes "MultiPoint") (codes "coordinates") (positions_value ps) (geometrical (g.MultiPoint ps)) (nest_at.points ps) h (geometrical_at.points ps)
+  at_point : (p : Point) → Nests (g.Point p)
+  at_point p = let h = position_below places p in typed_fits (nesting (g.Point p)) 1 (codes "Point") (codes "coordinates") (cell p) (geometrical cell (g.Point p)) (nest_at.point p) h ((geometrical_at cell).point p)
 
-at_line : (refs : List ℤ) → Nests (g.Line refs)
-at_line refs = let h = line_below refs in typed_fits (nesting (g.Line refs)) 2 (codes "LineString") (codes "arcs") (line_value refs) (geometrical (g.Line refs)) (nest_at.line refs) (omega arith) (geometrical_at.line refs)
+  at_points : (ps : List Point) → Nests (g.MultiPoint ps)
+  at_points ps = let h = positions_below places ps in typed_fits (nesting (g.MultiPoint ps)) 2 (codes "MultiPoint") (codes "coordinates") (j.Array (map cell ps)) (geometrical cell (g.MultiPoint ps)) (nest_at.points ps) h ((geometrical_at cell).points ps)
 
-at_lines : (ls : List (List ℤ)) → Nests (g.Lines ls)
-at_lines ls = let h = lines_below ls in typed_fits (nesting (g.Lines ls)) 3 (codes "MultiLineString") (codes "arcs") (lines_value ls) (geometrical (g.Lines ls)) (nest_at.lines ls) (omega arith) (geometrical_at.lines ls)
+  at_line : (refs : List ℤ) → Nests (g.Line refs)
+  at_line refs = let h = line_below refs in typed_fits (nesting (g.Line refs)) 2 (codes "LineString") (codes "arcs") (line_value refs) (geometrical cell (g.Line refs)) (nest_at.line refs) (omega arith) ((geometrical_at cell).line refs)
 
-at_area : (rs : List (List ℤ)) → Nests (g.Area rs)
-at_area rs = let h = lines_below rs in typed_fits (nesting (g.Area rs)) 3 (codes "Polygon") (codes "arcs") (lines_value rs) (geometrical (g.Area rs)) (nest_at.area rs) (omega arith) (geometrical_at.area rs)
+  at_lines : (ls : List (List ℤ)) → Nests (g.Lines ls)
+  at_lines ls = let h = lines_below ls in typed_fits (nesting (g.Lines ls)) 3 (codes "MultiLineString") (codes "arcs") (lines_value ls) (geometrical cell (g.Lines ls)) (nest_at.lines ls) (omega arith) ((geometrical_at cell).lines ls)
 
-at_areas : (areas : List (List (List ℤ))) → Nests (g.Areas areas)
-at_areas areas = let h = areas_below areas in typed_fits (nesting (g.Areas areas)) 4 (codes "MultiPolygon") (codes "arcs") (j.Array (map lines_value areas)) (geometrical (g.Areas areas)) (nest_at.areas areas) (omega arith) (geometrical_at.areas areas)
+  at_area : (rs : List (List ℤ)) → Nests (g.Area rs)
+  at_area rs = let h = lines_below rs in typed_fits (nesting (g.Area rs)) 3 (codes "Polygon") (codes "arcs") (lines_value rs) (geometrical cell (g.Area rs)) (nest_at.area rs) (omega arith) ((geometrical_at cell).area rs)
 
-abbrev inner : TopoShape → Json
-inner s = inner_value (geometrical s)
+  at_areas : (areas : List (List (List ℤ))) → Nests (g.Areas areas)
+  at_areas areas = let h = areas_below areas in typed_fits (nesting (g.Areas areas)) 4 (codes "MultiPolygon") (codes "arcs") (j.Array (map lines_value areas)) (geometrical cell (g.Areas areas)) (nest_at.areas areas) (omega arith) ((geometrical_at cell).areas areas)
 
-inner_all : (ss : List TopoShape) → AllByRecursion Nests ss → AllByRecursion (λ s. depth (inner s) ≤ nesting s) ss
-inner_all [] h = tt
-inner_all (s ∷ ss) h = (inner_below (nesting s) (geometrical s) h.0, inner_all ss h.1)
+  abbrev inner : TopoShape → Json
+  inner s = inner_value (geometrical cell s)
 
-group_below : (ss : List TopoShape) → AllByRecursion Nests ss → depth (j.Array (map inner ss)) ≤ suc (greatest (map nesting ss))
-group_below ss h = let p = greatest_lower (λ s. depth (inner s)) nesting ss (inner_all ss h) in rw (depth-array (map inner ss), fused depth inner (λ s. depth (inner s)) (λ s. refl) ss) (omega arith)
+  inner_all : (ss : List TopoShape) → AllByRecursion Nests ss → AllByRecursion (λ s. depth (inner s) ≤ nesting s) ss
+  inner_all [] h = tt
+  inner_all (s ∷ ss) h = (inner_below (nesting s) (geometrical cell s) h.0, inner_all ss h.1)
 
-at_group : (ss : List TopoShape) → AllByRecursion Nests ss → Nests (g.Group ss)
-at_group ss all = typed_fits (nesting (g.Group ss)) (suc (greatest (map nesting ss))) (codes "GeometryCollection") (codes "geometries") (j.Array (map inner ss)) (geometrical (g.Group ss))
-    (nest_at.group ss ∙ omega arith) (group_below ss all) (geometrical-group ss)
+  group_below : (ss : List TopoShape) → AllByRecursion Nests ss → depth (j.Array (map inner ss)) ≤ suc (greatest (map nesting ss))
+  group_below ss h = let p = greatest_lower (λ s. depth (inner s)) nesting ss (inner_all ss h) in rw (depth-array (map inner ss), fused depth inner (λ s. depth (inner s)) (λ s. refl) ss) (omega arith)
 
-shape_fits : (s : TopoShape) → Nests s
-shape_fits = by_kinds Nests (record { point = at_point; points = at_points; line = at_line; lines = at_lines; area = at_area; areas = at_areas; group = at_group })
+  at_group : (ss : List TopoShape) → AllByRecursion Nests ss → Nests (g.Group ss)
+  at_group ss all = typed_fits (nesting (g.Group ss)) (suc (greatest (map nesting ss))) (codes "GeometryCollection") (codes "geometries") (j.Array (map inner ss)) (geometrical cell (g.Group ss))
+      (nest_at.group ss ∙ omega arith) (group_below ss all) (geometrical-group cell ss)
 
--- ---- features
+  shape_fits : (s : TopoShape) → Nests s
+  shape_fits = by_kinds Nests (record { point = at_point; points = at_points; line = at_line; lines = at_lines; area = at_area; areas = at_areas; group = at_group })
 
--- the type and the parts of a shape that may be null
-option_below : (s : Option TopoShape) (n : ℕ) → option_nesting s ≤ suc n → (depth (geometrical_option s).type ≤ n) × MembersBelow n (geometrical_option s).parts
-option_below None n h = grind (arith, depth-null)
-option_below (Some s) n h =
-    let f = shape_fits s in
-    let le : f.0 ≤ n = omega (arith, f.1) in
-    (omega (arith, f.2), raised f.0 n (geometrical s).parts le f.3)
+  -- ---- features
+
+  -- the type and the parts of a shape that may be null
+  option_below : (s : Option TopoShape) (n : ℕ) → option_nesting s ≤ suc n → (depth (geometrical_option cell s).type ≤ n) × MembersBelow n (geometrical_option cell s).parts
+  option_below None n h = grind (arith, depth-null)
+  option_below (Some s) n h =
+      let f = shape_fits s in
+      let le : f.0 ≤ n = omega (arith, f.1) in
+      (omega (arith, f.2), raised f.0 n (geometrical cell s).parts le f.3)
+    where
+      raised : (k n : ℕ) (ms : Members) → k ≤ n → MembersBelow k ms → MembersBelow n ms
+      raised k n [] le h = tt
+      raised k n (m ∷ ms) le h = (omega (arith, h.0), raised k n ms le h.1)
+
+  id_below : (i : Option Id) (n : ℕ) → MembersBelow n (id_members i)
+  id_below None n = tt
+  id_below (Some (id.Text t)) n = (text_flat n t, tt)
+  id_below (Some (id.Number t)) n = (number_flat n t, tt)
+
+  properties_below : (ps : Option Members) (n : ℕ) → properties_nesting ps ≤ n → MembersBelow n (properties_members ps)
+  properties_below ps n h = grind arith
+
+  feature_below_at : (f : TopoFeature) (n : ℕ) → option_nesting f.shape ≤ suc n → properties_nesting f.properties ≤ n → depth (feature_value cell f) ≤ suc n
+  feature_below_at f n h k = grind (arith, option_below f.shape n h, object_below n, all_append, id_below f.id n, properties_below f.properties n k)
+
+  feature_below : (f : TopoFeature) (n : ℕ) → feature_nesting f ≤ n → depth (feature_value cell f) ≤ n
+  feature_below f zero h = absurd (omega arith)
+  feature_below f (suc n) h = feature_below_at f n (omega arith) (omega arith)
+
+  features_below : (fs : List TopoFeature) (n : ℕ) → AllByRecursion (λ f. feature_nesting f ≤ n) fs → AllByRecursion (λ f. depth (feature_value cell f) ≤ n) fs
+  features_below [] n h = tt
+  features_below (f ∷ fs) n h = (feature_below f n h.0, features_below fs n h.1)
+
+  -- ---- objects
+
+  object_value_below : (o : TopoObject) (n : ℕ) → AllByRecursion (λ f. feature_nesting f ≤ n) (object_features o) → depth (object_value cell o) ≤ 2 + n
+  object_value_below (One f) n h = let p = feature_below f n h.0 in omega arith
+  object_value_below (Many fs) n h =
+      let p = array_below (feature_value cell) n fs (features_below fs n h) in
+      let q = object_below (suc n) ((codes "type", j.Text (codes "GeometryCollection")) ∷ ((codes "geometries", j.Array (map (feature_value cell) fs)) ∷ [])) (text_flat (suc n) (codes "GeometryCollection"), (p, tt)) in
+      omega arith
+
+  objects_below : (os : List (List ℕ × TopoObject)) (n : ℕ) → AllByRecursion (λ f. feature_nesting f ≤ n) (objects_features os) → MembersBelow (2 + n) (map (λ o. (o.0, object_value cell o.1)) os)
+  objects_below [] n h = tt
+  objects_below (o ∷ os) n h = search (object_value_below, all_left, all_right, objects_below os n)
+
+-- ---- the topology
+
+transform_below : (transform : Option Transform) (n : ℕ) → 2 ≤ n → MembersBelow n (members_of_transform transform)
+transform_below None n h = tt
+transform_below (Some t) n h =
+    let s = pair_below t.scale in
+    let p = pair_below t.translate in
+    let whole = object_below 1 ((codes "scale", pair_value t.scale) ∷ ((codes "translate", pair_value t.translate) ∷ [])) (s, (p, tt)) in
+    (omega arith, tt)
   where
-    raised : (k n : ℕ) (ms : Members) → k ≤ n → MembersBelow k ms → MembersBelow n ms
-    raised k n [] le h = tt
-    raised k n (m ∷ ms) le h = (omega (arith, h.0), raised k n ms le h.1)
+    pair_below : (p : List ℕ × List ℕ) → depth (pair_value p) ≤ 1
+    pair_below p = array_below j.Number 0 (p.0 ∷ (p.1 ∷ [])) (number_flat 0 p.0, (number_flat 0 p.1, tt))
 
-id_below : (i : Option Id) (n : ℕ) → MembersBelow n (id_members i)
-id_below None n = tt
-id_below (Some (id.Text t)) n = (text_flat n t, tt)
-id_below (Some (id.Number t)) n = (number_flat n t, tt)
-
-properties_below : (ps : Option Members) (n : ℕ) → properties_nesting ps ≤ n → MembersBelow n (properties_members ps)
-properties_below ps n h = grind arith
-
-feature_below_at : (f : TopoFeature) (n : ℕ) → option_nesting f.shape ≤ suc n → properties_nesting f.properties ≤ n → depth (feature_value f) ≤ suc n
-feature_below_at f n h k = grind (arith, option_below f.shape n h, object_below n, all_append, id_below f.id n, properties_below f.properties n k)
-
-feature_below : (f : TopoFeature) (n : ℕ) → feature_nesting f ≤ n → depth (feature_value f) ≤ n
-feature_below f zero h = absurd (omega arith)
-feature_below f (suc n) h = feature_below_at f n (omega arith) (omega arith)
-
-features_below : (fs : List TopoFeature) (n : ℕ) → AllByRecursion (λ f. feature_nesting f ≤ n) fs → AllByRecursion (λ f. depth (feature_value f) ≤ n) fs
-features_below [] n h = tt
-features_below (f ∷ fs) n h = (feature_below f n h.0, features_below fs n h.1)
-
--- ---- objects and the topology
-
-object_value_below : (o : TopoObject) (n : ℕ) → AllByRecursion (λ f. feature_nesting f ≤ n) (object_features o) → depth (object_value o) ≤ 2 + n
-object_value_below (One f) n h = let p = feature_below f n h.0 in omega arith
-object_value_below (Many fs) n h =
-    let p = array_below feature_value n fs (features_below fs n h) in
-    let q = object_below (suc n) ((codes "type", j.Text (codes "GeometryCollection")) ∷ ((codes "geometries", j.Array (map feature_value fs)) ∷ [])) (text_flat (suc n) (codes "GeometryCollection"), (p, tt)) in
-    omega arith
-
-objects_below : (os : List (List ℕ × TopoObject)) (n : ℕ) → AllByRecursion (λ f. feature_nesting f ≤ n) (objects_features os) → MembersBelow (2 + n) (map (λ o. (o.0, object_value o.1)) os)
-objects_below [] n h = tt
-objects_below (o ∷ os) n h = search (object_value_below, all_left, all_right, objects_below os n)
+arcs_below : (transform : Option Transform) (arcs : List (List Point)) → depth (arcs_value transform arcs) ≤ 3
+arcs_below transform arcs = array_below (arc_value transform) 2 arcs (below (λ cs. depth (arc_value transform cs)) 2 arcs (λ cs. positions_below (cell_places transform) (written_cells transform cs)))
 
 pub topology_depth : ValueNests
 unfolding topology_value
 topology_depth t n h =
-    let os = object_below (2 + n) (map (λ o. (o.0, object_value o.1)) t.objects) (objects_below t.objects n h) in
-    let arcs = array_below positions_value 2 t.arcs (below (λ ps. depth (positions_value ps)) 2 t.arcs positions_below) in
-    let whole = object_below (3 + n) (written_members t) (text_flat (3 + n) (codes "Topology"), (omega arith, (omega arith, tt))) in
+    let os = object_below (2 + n) (map (λ o. (o.0, object_value (cell_value t.transform) o.1)) t.objects) (objects_below (cell_places t.transform) t.objects n h) in
+    let arcs = arcs_below t.transform t.arcs in
+    let behind : Members = (codes "objects", objects_value (cell_value t.transform) t.objects) ∷ ((codes "arcs", arcs_value t.transform t.arcs) ∷ []) in
+    let members = all_append (λ m. depth m.1 ≤ 3 + n) (members_of_transform t.transform) behind (transform_below t.transform (3 + n) (omega arith)) (omega arith, (omega arith, tt)) in
+    let whole = object_below (3 + n) (written_members t) (text_flat (3 + n) (codes "Topology"), members) in
     omega (arith, whole)

@@ -1,9 +1,12 @@
 -- The numbers of the value that is written for a topology are numbers.
-use Rattle.std.proofs.Common.{ℕ, ℤ, ◌<◌, Bool, true, false, List, [], ◌∷◌, length, map, Option, None, sym, subst, arith}
-use Rattle.std.specs.Prelude.{codes, ◌^◌}
+use Rattle.std.proofs.Common.{ℕ, ℤ, ◌<◌, ◌≤◌, ◌-ℤ◌, Bool, true, false, List, [], ◌∷◌, length, map, Option, Some, None, sym, subst, arith}
+use Rattle.std.specs.Prelude.{codes, ◌^◌, unsigned_abs}
 use Rattle.std.specs.List.{AllByRecursion, flat_map}
+use Rattle.std.proofs.lemmas.Int.{ints}
 use Rattle.decimal_text.specs.Grammar.{IsNumber}
-use Rattle.decimal_text.specs.Scaling.{units_text}
+use Rattle.decimal_text.specs.Parts.{parts_of}
+use Rattle.decimal_text.specs.Scaling.{scaled_of, units_text}
+use Rattle.decimal_text.proofs.SpellsParts.{parts-number}
 use Rattle.decimal_text.proofs.UnitsText.{units_text-number}
 use Rattle.json_value.specs.declared.json.Json.{Json}
 use Rattle.json_value.specs.declared.json.Json.TheVariants as j
@@ -13,7 +16,7 @@ use Rattle.geometry.specs.declared.shape.Geometry.TheVariants as g
 use Rattle.geojson_types.specs.declared.id.Id.{Id}
 use Rattle.geometry.specs.Lists.{joined}
 use Rattle.geojson_types.specs.Numbers.{IdHasNumbers, PropertiesHaveNumbers}
-use Rattle.geometry.specs.Points.{Point, IsPosition}
+use Rattle.geometry.specs.Points.{Point, IsWithin}
 use Rattle.geometry.specs.Pruning.{strokes, option_strokes}
 use Rattle.geometry.proofs.Agreement.{all_left, all_right, all_of_map}
 use Rattle.geometry.proofs.Cases.{strokes-line, strokes-lines, strokes-area, strokes-areas, strokes-group}
@@ -22,15 +25,19 @@ use Rattle.topojson_types.specs.declared.feature.TopoFeature.{TopoFeature}
 use Rattle.topojson_types.specs.declared.object.TopoObject.{TopoObject}
 use Rattle.topojson_types.specs.declared.object.TopoObject.TheVariants.{One, Many}
 use Rattle.geometry.specs.Joins.{number_of}
+use Rattle.topojson_types.specs.declared.transform.Transform.{Transform}
+use Rattle.topojson_types.specs.Differences.{difference, deltas_from, deltas}
+use Rattle.topojson_types.specs.TransformNumbers.{transform_value, IsTransformNumber}
+use Rattle.topojson_types.specs.Transforms.{grid_limit, origin}
 use Rattle.topojson_types.specs.Topologies.{TopoShape, object_features, features_strokes, objects_strokes}
-use Rattle.topojson_types.specs.Validity.{IsTopology, IsArc, IsFeature, IsObject, AreInRange, places, option_places}
-use Rattle.topojson_types.specs.Values.{Members, Geometrical, units_value, whole_value, position_value, positions_value, line_value, lines_value, typed, inner_value, geometrical, geometrical_option, id_members, properties_members, feature_value, object_value, topology_value}
+use Rattle.topojson_types.specs.Validity.{IsPlace, IsTransformed, IsArc, IsFeature, IsObject, AreInRange, places, option_places}
+use Rattle.topojson_types.specs.Values.{Members, Geometrical, number_value, whole_value, position_value, cell_places, cell_value, arc_value, line_value, lines_value, typed, inner_value, geometrical, geometrical_option, id_members, properties_members, feature_value, object_value, pair_value, members_of_transform, arcs_value, topology_value}
 use Rattle.topojson_types.proofs.ByKind.{geometrical_at, places_at}
 use Rattle.topojson_meaning.specs.Bounds.{objects_features, FeatureHasNumbers}
 use Rattle.topojson_meaning.specs.Laws.{ValueHasNumbers}
 use Rattle.topojson_meaning.proofs.LinesBack.{magnitude}
-use Rattle.topojson_meaning.proofs.ShapeKinds.{geometrical-group, written_members, plain, plain_valid}
-use Rattle.list_laws.proofs.Elements.{all_append}
+use Rattle.topojson_meaning.proofs.ShapeKinds.{geometrical-group, written_members}
+use Rattle.list_laws.proofs.Elements.{all_append, all_weaker}
 
 -- ---- lists
 
@@ -41,10 +48,6 @@ each_flat X f value (x ∷ xs) h = all_append X (f (value x)) (flat_map f (map v
 flat : {B C : Type 0} (X : C → Type 0) (f : B → List C) (xs : List B) → AllByRecursion (λ x. AllByRecursion X (f x)) xs → AllByRecursion X (flat_map f xs)
 flat X f [] h = tt
 flat X f (x ∷ xs) h = all_append X (f x) (flat_map f xs) h.0 (flat X f xs h.1)
-
-all_made : {A : Type 0} (X Y : A → Type 0) (make : (x : A) → X x → Y x) (xs : List A) → AllByRecursion X xs → AllByRecursion Y xs
-all_made X Y make [] h = tt
-all_made X Y make (x ∷ xs) h = (make x h.0, all_made X Y make xs h.1)
 
 -- ---- values
 
@@ -69,25 +72,46 @@ null_numbers = subst (AllByRecursion IsNumber) (sym numbers-null) tt
 
 -- ---- positions and indexes
 
-position_numbers : (p : Point) → IsPosition p → HasNumbers (position_value p)
-position_numbers p h = array_numbers units_value (p.x ∷ (p.y ∷ []))
-    (number_numbers (units_text p.x 7) (units_text-number p.x 7 (omega (arith, h.0))), (number_numbers (units_text p.y 7) (units_text-number p.y 7 (omega (arith, h.1))), tt))
+position_numbers : (decimals : ℕ) (p : Point) → IsWithin (10 ^ 16) p → HasNumbers (position_value decimals p)
+position_numbers decimals p h = array_numbers (number_value decimals) (p.x ∷ (p.y ∷ []))
+    (number_numbers (units_text p.x decimals) (units_text-number p.x decimals (omega (arith, h.0))), (number_numbers (units_text p.y decimals) (units_text-number p.y decimals (omega (arith, h.1))), tt))
 
-positions_numbers : (ps : List Point) → AllByRecursion IsPosition ps → HasNumbers (positions_value ps)
-positions_numbers ps h = array_numbers position_value ps (all_made IsPosition (λ p. HasNumbers (position_value p)) position_numbers ps h)
+-- a cell, and a difference of two
+place_size : (transform : Option Transform) (p : Point) → IsPlace transform p → IsWithin (10 ^ 16) p
+place_size None p h = (omega (arith, h.0), omega (arith, h.1))
+place_size (Some t) p h = (omega (arith, h.0.0), omega (arith, h.0.1))
 
-module _ (n : ℕ) (few : n < 2 ^ 63) where
+cell_numbers : (transform : Option Transform) (p : Point) → IsPlace transform p → HasNumbers (cell_value transform p)
+cell_numbers transform p h = position_numbers (cell_places transform) p (place_size transform p h)
+
+cells_numbers : (transform : Option Transform) (ps : List Point) → AllByRecursion (IsPlace transform) ps → HasNumbers (j.Array (map (cell_value transform) ps))
+cells_numbers transform ps h = array_numbers (cell_value transform) ps (all_weaker (IsPlace transform) (λ p. HasNumbers (cell_value transform p)) (cell_numbers transform) ps h)
+
+deltas_numbers : (t : Transform) (before : Point) (cs : List Point) → IsWithin grid_limit before → AllByRecursion (IsPlace (Some t)) cs
+    → AllByRecursion (λ p. HasNumbers (position_value 0 p)) (deltas_from before cs)
+unfolding deltas_from
+deltas_numbers t before [] h all = tt
+deltas_numbers t before (c ∷ cs) h all = (position_numbers 0 (difference before c) (apart before.x c.x h.0 all.0.0.0, apart before.y c.y h.1 all.0.0.1), deltas_numbers t c cs all.0.0 all.1)
+  where
+    apart : (a b : ℤ) → unsigned_abs a ≤ grid_limit → unsigned_abs b ≤ grid_limit → unsigned_abs (b -ℤ a) ≤ 10 ^ 16
+    apart a b h k = omega (arith, ints)
+
+arc_numbers : (transform : Option Transform) (cs : List Point) → IsArc transform cs → HasNumbers (arc_value transform cs)
+arc_numbers None cs h = cells_numbers None cs h.1
+arc_numbers (Some t) cs h = array_numbers (position_value 0) (deltas cs) (deltas_numbers t origin cs (omega arith, omega arith) h.1)
+
+module _ (n : ℕ) (few : n < 2 ^ 63) (transform : Option Transform) where
   index_numbers : (i : ℤ) → number_of i < n → HasNumbers (whole_value i)
   index_numbers i h = let m = magnitude i n h few in number_numbers (units_text i 0) (units_text-number i 0 (omega arith))
 
   line_numbers : (refs : List ℤ) → AreInRange n refs → HasNumbers (line_value refs)
-  line_numbers refs h = grind (arith, array_numbers, all_made, magnitude, number_numbers, units_text-number)
+  line_numbers refs h = grind (arith, array_numbers, all_weaker, magnitude, number_numbers, units_text-number)
 
   lines_numbers : (ls : List (List ℤ)) → AllByRecursion (AreInRange n) ls → HasNumbers (lines_value ls)
-  lines_numbers ls h = array_numbers line_value ls (all_made (AreInRange n) (λ l. HasNumbers (line_value l)) line_numbers ls h)
+  lines_numbers ls h = array_numbers line_value ls (all_weaker (AreInRange n) (λ l. HasNumbers (line_value l)) line_numbers ls h)
 
   areas_numbers : (areas : List (List (List ℤ))) → AllByRecursion (AllByRecursion (AreInRange n)) areas → HasNumbers (j.Array (map lines_value areas))
-  areas_numbers areas h = array_numbers lines_value areas (all_made (AllByRecursion (AreInRange n)) (λ rs. HasNumbers (lines_value rs)) lines_numbers areas h)
+  areas_numbers areas h = array_numbers lines_value areas (all_weaker (AllByRecursion (AreInRange n)) (λ rs. HasNumbers (lines_value rs)) lines_numbers areas h)
 
   -- ---- shapes
 
@@ -99,30 +123,34 @@ module _ (n : ℕ) (few : n < 2 ^ 63) where
   abbrev IsNumbered : Geometrical → Type 0
   IsNumbered o = HasNumbers o.type × Numbered o.parts
 
+  -- how cells are written
+  abbrev cell : Point → Json
+  cell p = cell_value transform p
+
   abbrev Written : TopoShape → Type 0
-  Written s = AllByRecursion IsPosition (places s) → AllByRecursion Ranged (strokes s) → IsNumbered (geometrical s)
+  Written s = AllByRecursion (IsPlace transform) (places s) → AllByRecursion Ranged (strokes s) → IsNumbered (geometrical cell s)
 
   typed_numbers : (type key : List ℕ) (v : Json) → HasNumbers v → IsNumbered (typed type key v)
   typed_numbers type key v h = (text_numbers type, (h, tt))
 
   at_point : (p : Point) → Written (g.Point p)
-  at_point p h k = rw (geometrical_at.point p) (typed_numbers (codes "Point") (codes "coordinates") (position_value p) (position_numbers p (subst (AllByRecursion IsPosition) (places_at.point p) h).0))
+  at_point p h k = rw ((geometrical_at cell).point p) (typed_numbers (codes "Point") (codes "coordinates") (cell p) (cell_numbers transform p (subst (AllByRecursion (IsPlace transform)) (places_at.point p) h).0))
 
   at_points : (ps : List Point) → Written (g.MultiPoint ps)
-  at_points ps h k = rw (geometrical_at.points ps) (typed_numbers (codes "MultiPoint") (codes "coordinates") (positions_value ps) (positions_numbers ps (subst (AllByRecursion IsPosition) (places_at.points ps) h)))
+  at_points ps h k = rw ((geometrical_at cell).points ps) (typed_numbers (codes "MultiPoint") (codes "coordinates") (j.Array (map cell ps)) (cells_numbers transform ps (subst (AllByRecursion (IsPlace transform)) (places_at.points ps) h)))
 
   at_line : (refs : List ℤ) → Written (g.Line refs)
-  at_line refs h k = rw (geometrical_at.line refs) (typed_numbers (codes "LineString") (codes "arcs") (line_value refs) (line_numbers refs (subst (AllByRecursion Ranged) (strokes-line Point (List ℤ) refs) k).0))
+  at_line refs h k = rw ((geometrical_at cell).line refs) (typed_numbers (codes "LineString") (codes "arcs") (line_value refs) (line_numbers refs (subst (AllByRecursion Ranged) (strokes-line Point (List ℤ) refs) k).0))
 
   at_lines : (ls : List (List ℤ)) → Written (g.Lines ls)
   at_lines ls h k =
       let m = all_of_map Ranged (λ l. (false, l)) ls (subst (AllByRecursion Ranged) (strokes-lines Point (List ℤ) ls) k) in
-      rw (geometrical_at.lines ls) (typed_numbers (codes "MultiLineString") (codes "arcs") (lines_value ls) (lines_numbers ls m))
+      rw ((geometrical_at cell).lines ls) (typed_numbers (codes "MultiLineString") (codes "arcs") (lines_value ls) (lines_numbers ls m))
 
   at_area : (rs : List (List ℤ)) → Written (g.Area rs)
   at_area rs h k =
       let m = all_of_map Ranged (λ l. (true, l)) rs (subst (AllByRecursion Ranged) (strokes-area Point (List ℤ) rs) k) in
-      rw (geometrical_at.area rs) (typed_numbers (codes "Polygon") (codes "arcs") (lines_value rs) (lines_numbers rs m))
+      rw ((geometrical_at cell).area rs) (typed_numbers (codes "Polygon") (codes "arcs") (lines_value rs) (lines_numbers rs m))
 
   ranged_areas : (areas : List (List (List ℤ))) → AllByRecursion Ranged (joined (map (map (λ l. (true, l))) areas)) → AllByRecursion (AllByRecursion (AreInRange n)) areas
   ranged_areas [] h = tt
@@ -131,26 +159,26 @@ module _ (n : ℕ) (few : n < 2 ^ 63) where
   at_areas : (areas : List (List (List ℤ))) → Written (g.Areas areas)
   at_areas areas h k =
       let m = ranged_areas areas (subst (AllByRecursion Ranged) (strokes-areas Point (List ℤ) areas) k) in
-      rw (geometrical_at.areas areas) (typed_numbers (codes "MultiPolygon") (codes "arcs") (j.Array (map lines_value areas)) (areas_numbers areas m))
+      rw ((geometrical_at cell).areas areas) (typed_numbers (codes "MultiPolygon") (codes "arcs") (j.Array (map lines_value areas)) (areas_numbers areas m))
 
   inner_numbers : (o : Geometrical) → IsNumbered o → HasNumbers (inner_value o)
   inner_numbers o h = object_numbers ((codes "type", o.type) ∷ o.parts) h
 
-  members_numbers : (ss : List TopoShape) → AllByRecursion Written ss → AllByRecursion IsPosition (joined (map places ss)) → AllByRecursion Ranged (joined (map strokes ss))
-      → AllByRecursion (λ s. HasNumbers (inner_value (geometrical s))) ss
+  members_numbers : (ss : List TopoShape) → AllByRecursion Written ss → AllByRecursion (IsPlace transform) (joined (map places ss)) → AllByRecursion Ranged (joined (map strokes ss))
+      → AllByRecursion (λ s. HasNumbers (inner_value (geometrical cell s))) ss
   members_numbers [] all h k = tt
   members_numbers (s ∷ ss) all h k =
-      grind (arith, inner_numbers, all_left, all_right, members_numbers ss all.1 (all_right IsPosition (places s) (joined (map places ss)) h) (all_right Ranged (strokes s) (joined (map strokes ss)) k))
+      grind (arith, inner_numbers, all_left, all_right, members_numbers ss all.1 (all_right (IsPlace transform) (places s) (joined (map places ss)) h) (all_right Ranged (strokes s) (joined (map strokes ss)) k))
 
   at_group : (ss : List TopoShape) → AllByRecursion Written ss → Written (g.Group ss)
   at_group ss all h k =
-      let m = members_numbers ss all (subst (AllByRecursion IsPosition) (places_at.group ss) h) (subst (AllByRecursion Ranged) (strokes-group Point (List ℤ) ss) k) in
-      rw (geometrical-group ss) (typed_numbers (codes "GeometryCollection") (codes "geometries") _ (array_numbers (λ s. inner_value (geometrical s)) ss m))
+      let m = members_numbers ss all (subst (AllByRecursion (IsPlace transform)) (places_at.group ss) h) (subst (AllByRecursion Ranged) (strokes-group Point (List ℤ) ss) k) in
+      rw (geometrical-group cell ss) (typed_numbers (codes "GeometryCollection") (codes "geometries") _ (array_numbers (λ s. inner_value (geometrical cell s)) ss m))
 
   shape_numbers : (s : TopoShape) → Written s
   shape_numbers = by_kinds Written (record { point = at_point; points = at_points; line = at_line; lines = at_lines; area = at_area; areas = at_areas; group = at_group })
 
-  option_numbers : (s : Option TopoShape) → AllByRecursion IsPosition (option_places s) → AllByRecursion Ranged (option_strokes s) → IsNumbered (geometrical_option s)
+  option_numbers : (s : Option TopoShape) → AllByRecursion (IsPlace transform) (option_places s) → AllByRecursion Ranged (option_strokes s) → IsNumbered (geometrical_option cell s)
   option_numbers s h k = grind (arith, null_numbers, shape_numbers)
 
   -- ---- features and objects
@@ -161,33 +189,52 @@ module _ (n : ℕ) (few : n < 2 ^ 63) where
   properties_numbers : (ps : Option Members) → PropertiesHaveNumbers ps → Numbered (properties_members ps)
   properties_numbers ps h = grind arith
 
-  feature_numbers : (f : TopoFeature) → IsFeature None f → AllByRecursion Ranged (option_strokes f.shape) → FeatureHasNumbers f → HasNumbers (feature_value f)
+  feature_numbers : (f : TopoFeature) → IsFeature transform f → AllByRecursion Ranged (option_strokes f.shape) → FeatureHasNumbers f → HasNumbers (feature_value cell f)
   feature_numbers f h k m = grind (arith, null_numbers, shape_numbers, object_numbers, all_append, text_numbers, number_numbers, properties_numbers)
 
-  features_numbers : (fs : List TopoFeature) → AllByRecursion (IsFeature None) fs → AllByRecursion Ranged (features_strokes fs) → AllByRecursion FeatureHasNumbers fs → AllByRecursion (λ f. HasNumbers (feature_value f)) fs
+  features_numbers : (fs : List TopoFeature) → AllByRecursion (IsFeature transform) fs → AllByRecursion Ranged (features_strokes fs) → AllByRecursion FeatureHasNumbers fs → AllByRecursion (λ f. HasNumbers (feature_value cell f)) fs
   features_numbers [] h k m = tt
   features_numbers (f ∷ fs) h k m =
       (feature_numbers f h.0 (all_left Ranged (option_strokes f.shape) (features_strokes fs) k) m.0, features_numbers fs h.1 (all_right Ranged (option_strokes f.shape) (features_strokes fs) k) m.1)
 
-  object_value_numbers : (o : TopoObject) → IsObject None o → AllByRecursion Ranged (features_strokes (object_features o)) → AllByRecursion FeatureHasNumbers (object_features o) → HasNumbers (object_value o)
+  object_value_numbers : (o : TopoObject) → IsObject transform o → AllByRecursion Ranged (features_strokes (object_features o)) → AllByRecursion FeatureHasNumbers (object_features o) → HasNumbers (object_value cell o)
   object_value_numbers (One f) h k m = feature_numbers f h.0 (all_left Ranged (option_strokes f.shape) [] k) m.0
   object_value_numbers (Many fs) h k m =
-      object_numbers ((codes "type", j.Text (codes "GeometryCollection")) ∷ ((codes "geometries", j.Array (map feature_value fs)) ∷ []))
-      (text_numbers (codes "GeometryCollection"), (array_numbers feature_value fs (features_numbers fs h k m), tt))
+      object_numbers ((codes "type", j.Text (codes "GeometryCollection")) ∷ ((codes "geometries", j.Array (map (feature_value cell) fs)) ∷ []))
+      (text_numbers (codes "GeometryCollection"), (array_numbers (feature_value cell) fs (features_numbers fs h k m), tt))
 
-  objects_numbers : (os : List (List ℕ × TopoObject)) → AllByRecursion (λ o. IsObject None o.1) os → AllByRecursion Ranged (objects_strokes os) → AllByRecursion FeatureHasNumbers (objects_features os)
-      → Numbered (map (λ o. (o.0, object_value o.1)) os)
+  objects_numbers : (os : List (List ℕ × TopoObject)) → AllByRecursion (λ o. IsObject transform o.1) os → AllByRecursion Ranged (objects_strokes os) → AllByRecursion FeatureHasNumbers (objects_features os)
+      → Numbered (map (λ o. (o.0, object_value cell o.1)) os)
   objects_numbers [] h k m = tt
   objects_numbers (o ∷ os) h k m = grind (arith, object_value_numbers, all_left, all_right, objects_numbers os h.1)
 
-arcs_numbers : (arcs : List (List Point)) → AllByRecursion (IsArc None) arcs → HasNumbers (j.Array (map positions_value arcs))
-arcs_numbers arcs h = array_numbers positions_value arcs (all_made (IsArc None) (λ ps. HasNumbers (positions_value ps)) (λ ps a. positions_numbers ps a.1) arcs h)
+-- ---- the topology
+
+-- the text of a number of a transform is a number
+transform_text : (t : List ℕ) → IsTransformNumber t → HasNumbers (j.Number t)
+unfolding transform_value scaled_of
+transform_text t h = number_numbers t (parts-number t (grind (arith, parts_of t)))
+
+transform_numbers : (transform : Option Transform) → IsTransformed transform → Numbered (members_of_transform transform)
+transform_numbers None h = tt
+transform_numbers (Some t) h = (
+  object_numbers ((codes "scale", pair_value t.scale) ∷ ((codes "translate", pair_value t.translate) ∷ []))
+      (pair_numbers t.scale h.0.0 h.0.1, (pair_numbers t.translate h.1.0 h.1.1, tt)),
+  tt,
+)
+  where
+    pair_numbers : (p : List ℕ × List ℕ) → IsTransformNumber p.0 → IsTransformNumber p.1 → HasNumbers (pair_value p)
+    pair_numbers p h k = array_numbers j.Number (p.0 ∷ (p.1 ∷ [])) (transform_text p.0 h, (transform_text p.1 k, tt))
+
+arcs_numbers : (transform : Option Transform) (arcs : List (List Point)) → AllByRecursion (IsArc transform) arcs → HasNumbers (arcs_value transform arcs)
+arcs_numbers transform arcs h = array_numbers (arc_value transform) arcs (all_weaker (IsArc transform) (λ cs. HasNumbers (arc_value transform cs)) (arc_numbers transform) arcs h)
 
 pub topology_numbers : ValueHasNumbers
 unfolding topology_value
 topology_numbers t h m =
-    let valid : IsTopology (plain t) = plain_valid t h in
+    let valid = h.0 in
+    let os = object_numbers (map (λ o. (o.0, object_value (cell_value t.transform) o.1)) t.objects) (objects_numbers (length t.arcs) h.1 t.transform t.objects valid.objects valid.ranged m) in
     object_numbers (written_members t) (
       text_numbers (codes "Topology"),
-      (object_numbers (map (λ o. (o.0, object_value o.1)) t.objects) (objects_numbers (length t.arcs) h.0.1 t.objects valid.objects valid.ranged m), (arcs_numbers t.arcs valid.arcs, tt)),
+      all_append (λ m. HasNumbers m.1) (members_of_transform t.transform) _ (transform_numbers t.transform valid.transform) (os, (arcs_numbers t.transform t.arcs valid.arcs, tt)),
     )

@@ -1,5 +1,5 @@
 -- What is true of each topology that is read, and of each that is written: it is read back, and its text is read.
-use Rattle.std.specs.Prelude.{◌≡◌, ℕ, ◌+◌, ◌<◌, ◌≤◌, ◌^◌, length, None, Ok}
+use Rattle.std.specs.Prelude.{◌≡◌, ℕ, ◌+◌, ◌<◌, ◌≤◌, ◌^◌, length, Ok}
 use Rattle.std.specs.List.{AllByRecursion}
 use Rattle.json_value.specs.declared.json.Json.{Json}
 use Rattle.json_value.specs.Depth.{depth}
@@ -18,10 +18,6 @@ use Rattle.topojson_meaning.specs.Topologies.{topology}
 abbrev pub IsStored : Contents → Type 0
 IsStored t = IsTopology t × (length t.arcs < 2 ^ 63)
 
--- and without a transform
-abbrev pub IsPlain : Contents → Type 0
-IsPlain t = IsStored t × (t.transform ≡ None)
-
 -- the number texts of all features are numbers
 abbrev pub FeaturesHaveNumbers : Contents → Type 0
 FeaturesHaveNumbers t = AllByRecursion FeatureHasNumbers (objects_features t.objects)
@@ -36,11 +32,11 @@ ReadsValid = (v : Json) (t : Contents) (c : Counts) → topology v ≡ Ok (t, c)
 
 -- the value of a topology stands for that topology, and nothing is counted
 abbrev pub ReadsBack : Type 0
-ReadsBack = (t : Contents) → IsPlain t → topology (topology_value t) ≡ Ok (t, no_counts)
+ReadsBack = (t : Contents) → IsStored t → topology (topology_value t) ≡ Ok (t, no_counts)
 
 -- its numbers are numbers where those of its features are
 abbrev pub ValueHasNumbers : Type 0
-ValueHasNumbers = (t : Contents) → IsPlain t → FeaturesHaveNumbers t → HasNumbers (topology_value t)
+ValueHasNumbers = (t : Contents) → IsStored t → FeaturesHaveNumbers t → HasNumbers (topology_value t)
 
 -- it nests four deeper than its features
 abbrev pub ValueNests : Type 0
@@ -48,4 +44,4 @@ ValueNests = (t : Contents) (n : ℕ) → FeaturesNest n t → depth (topology_v
 
 -- the text of that value is read as it, at each depth that leaves four to the features
 abbrev pub TextIsRead : Type 0
-TextIsRead = (t : Contents) (n d : ℕ) → IsPlain t → FeaturesHaveNumbers t → FeaturesNest n t → 4 + n ≤ d → Reads d (json_text (topology_value t)) (topology_value t)
+TextIsRead = (t : Contents) (n d : ℕ) → IsStored t → FeaturesHaveNumbers t → FeaturesNest n t → 4 + n ≤ d → Reads d (json_text (topology_value t)) (topology_value t)

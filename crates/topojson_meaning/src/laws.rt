@@ -3,14 +3,14 @@ ghost use Rattle.topojson_meaning.specs.Laws.{ReadsBack, ReadsValid, TextIsRead,
 
 use json_value::text_spells_value;
 
-/// A topology that a value stands for is valid: its names differ, its arcs are long enough, its arc indexes name arcs, its lines are
-/// joined, its rings closed, no list in it is empty but that of a collection, and all its cells lie at positions.
+/// A topology that a value stands for is valid: its names differ, its arcs are long enough, its arc indexes name arcs, its lines
+/// are joined, its rings closed, no list in it is empty but that of a collection, and all its cells lie at positions.
 pub fn topology_is_valid()
     ensures { ReadsValid }
 {}
 
-/// The value that is written for a topology without a transform stands for that topology: the same objects in order, the same arcs, nothing
-/// rounded, left out or dropped.
+/// The value that is written for a topology stands for that topology: the same objects in order, the same arcs, the same texts in
+/// its transform, if it has one, and nothing rounded, left out or dropped.
 pub fn reads_back()
     ensures { ReadsBack }
 {}

@@ -2,7 +2,9 @@
 use Rattle.std.proofs.Common.{◌≡◌, List, ◌∙◌}
 use Rattle.std.proofs.lemmas.List.Folds.{list_all-map}
 use Rattle.std.specs.List.{list_all}
+use Rattle.json_value.specs.declared.json.Json.{Json}
 use Rattle.geometry.specs.declared.shape.Geometry.TheVariants as g
+use Rattle.geometry.specs.Points.{Point}
 use Rattle.geometry.proofs.ByKind.{AtKinds, at_kinds}
 use Rattle.topojson_types.specs.Topologies.{TopoShape}
 use Rattle.topojson_types.specs.Validity.{full_step, is_full, places_step, places, single_step, is_single}
@@ -26,7 +28,7 @@ pub single_at : AtKinds is_single single_step
 unfolding is_single
 single_at = at_kinds single_step
 
--- the JSON value of a shape
-pub geometrical_at : AtKinds geometrical geometrical_step
+-- what a shape is written as, where `cell` is how cells are
+pub geometrical_at : (cell : Point → Json) → AtKinds (geometrical cell) (geometrical_step cell)
 unfolding geometrical
-geometrical_at = at_kinds geometrical_step
+geometrical_at cell = at_kinds (geometrical_step cell)

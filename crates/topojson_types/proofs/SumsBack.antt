@@ -20,7 +20,7 @@ pub starts : (cells : List Point) → SoFar cells 0 [] origin
 starts [] = record { place = (omega arith, omega arith); whole = refl }
 starts (c ∷ cs) = record { place = (omega arith, omega arith); whole = refl }
 
-next : (cells : List Point) (before : Point) (i : ℕ) (c : Point) → i < length cells → c ≡ get_or cells i c
+pub next : (cells : List Point) (before : Point) (i : ℕ) (c : Point) → i < length cells → c ≡ get_or cells i c
     → deltas_from before (drop i cells) ≡ difference before c ∷ deltas_from c (drop (i + 1) cells)
 unfolding deltas_from
 next cells before i c h is = ap (deltas_from before) (drop_here cells i c h is)
@@ -47,7 +47,7 @@ point_of x y = record { x = x; y = y }
 there : (a b : ℤ) → a +ℤ (b -ℤ a) ≡ b
 there a b = omega (arith, ints)
 
-moved_there : (p c : Point) → moved p (difference p c) ≡ c
+pub moved_there : (p c : Point) → moved p (difference p c) ≡ c
 moved_there p c = ap (λ x. point_of x (p.y +ℤ (c.y -ℤ p.y))) (there p.x c.x) ∙ ap (point_of c.x) (there p.y c.y)
 
 back_from : (p : Point) (cs : List Point) → sums_from p (deltas_from p cs) ≡ cs

@@ -85,4 +85,21 @@ impl Topology {
     {
         position_at(self.grid.as_ref(), self.lines.as_slice()[arc].as_slice()[i])
     }
+
+    /// Its objects, its arcs and its transform, by value.
+    pub fn into_parts(
+        self,
+    ) -> (
+        Items<(OwnText, TopoObject)>,
+        Items<Items<Cell>>,
+        Option<Transform>,
+    )
+        ensures objects { result.0 ≡ self.objects }
+        ensures arcs { result.1 ≡ self.arcs }
+        ensures transform { result.2 ≡ self.transform }
+        ensures valid { IsTopology self }
+    {
+        let topology = self;
+        (topology.shown, topology.lines, topology.grid)
+    }
 }

@@ -2,4 +2,5 @@ pub mod Features
 pub mod Objects
 pub mod Rows
 pub mod Shapes
+pub mod Transforms
 pub mod Whole

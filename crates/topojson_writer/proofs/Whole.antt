@@ -1,13 +1,14 @@
 -- The texts of collections and topologies in parts.
-use Rattle.std.proofs.Common.{◌≡◌, ℕ, List, [], ◌∷◌, ◌++◌, ap, ◌∙◌, append_assoc}
+use Rattle.std.proofs.Common.{◌≡◌, ℕ, List, [], ◌∷◌, ◌++◌, ap, ◌∙◌, append_assoc, Option}
 use Rattle.std.specs.Prelude.{codes}
 use Rattle.json_value.specs.declared.json.Json.{Json}
 use Rattle.json_value.specs.declared.json.Json.TheVariants as j
 use Rattle.json_value.specs.Text.{json_text, escaped_byte}
 use Rattle.json_value.proofs.Texts.{text-text}
+use Rattle.topojson_types.specs.declared.transform.Transform.{Transform}
 use Rattle.topojson_types.specs.Topologies.{Contents}
-use Rattle.topojson_types.specs.Values.{topology_value}
-use Rattle.topojson_writer.specs.Texts.{type_text, members_text, arcs_value, objects_value}
+use Rattle.topojson_types.specs.Values.{Members, cell_value, members_of_transform, objects_value, arcs_value, topology_value}
+use Rattle.topojson_writer.specs.Texts.{type_text, members_text, contents_members}
 use Rattle.topojson_writer.proofs.Objects.{member-alone, members-append, object-text}
 
 -- ---- a collection
@@ -22,23 +23,31 @@ collected features =
 
 -- ---- a topology
 
-four : (a b closing : List ℕ) → ((codes ",\"objects\":" ++ a) ++ (codes ",\"arcs\":" ++ b)) ++ closing ≡ codes ",\"objects\":" ++ (a ++ (codes ",\"arcs\":" ++ (b ++ closing)))
-four a b closing = simp append_assoc
+pub contents-text : (objects arcs : Json) → members_text ((codes "objects", objects) ∷ ((codes "arcs", arcs) ∷ []))
+    ≡ (codes ",\"objects\":" ++ json_text objects) ++ (codes ",\"arcs\":" ++ json_text arcs)
+unfolding escaped_byte
+contents-text objects arcs =
+    members-append ((codes "objects", objects) ∷ []) ((codes "arcs", arcs) ∷ [])
+    ∙ ap (λ (text : List ℕ). text ++ members_text ((codes "arcs", arcs) ∷ [])) (member-alone (codes "objects") objects)
+    ∙ ap (λ (text : List ℕ). (codes ",\"objects\":" ++ json_text objects) ++ text) (member-alone (codes "arcs") arcs)
 
-whole : (objects arcs : Json) → json_text (j.Object ((codes "type", j.Text (codes "Topology")) ∷ ((codes "objects", objects) ∷ ((codes "arcs", arcs) ∷ []))))
-    ≡ codes "{\"type\":\"Topology\",\"objects\":" ++ (json_text objects ++ (codes ",\"arcs\":" ++ (json_text arcs ++ codes "}")))
+-- those of a topology with this transform
+pub contents-with : (t : Contents) (transform : Option Transform) → t.transform ≡ transform
+    → members_text (contents_members t) ≡ members_text ((codes "objects", objects_value (cell_value transform) t.objects) ∷ ((codes "arcs", arcs_value transform t.arcs) ∷ []))
+contents-with t transform e =
+    ap (λ (x : Option Transform). members_text ((codes "objects", objects_value (cell_value x) t.objects) ∷ ((codes "arcs", arcs_value x t.arcs) ∷ []))) e
+
+topology-type : type_text (record { type = j.Text (codes "Topology"); parts = [] }) ≡ codes "{\"type\":\"Topology\""
 unfolding type_text escaped_byte
-whole objects arcs =
-    let type : List ℕ = type_text (record { type = j.Text (codes "Topology"); parts = [] }) in
-    object-text (record { type = j.Text (codes "Topology"); parts = (codes "objects", objects) ∷ ((codes "arcs", arcs) ∷ []) })
-    ∙ ap (λ (text : List ℕ). type ++ (text ++ codes "}")) (members-append ((codes "objects", objects) ∷ []) ((codes "arcs", arcs) ∷ []))
-    ∙ ap (λ (text : List ℕ). type ++ ((text ++ members_text ((codes "arcs", arcs) ∷ [])) ++ codes "}")) (member-alone (codes "objects") objects)
-    ∙ ap (λ (text : List ℕ). type ++ (((codes ",\"objects\":" ++ json_text objects) ++ text) ++ codes "}")) (member-alone (codes "arcs") arcs)
-    ∙ ap (λ (text : List ℕ). type ++ text) (four (json_text objects) (json_text arcs) (codes "}"))
-    ∙ ap (λ (text : List ℕ). (codes "{\"type\":" ++ text) ++ (codes ",\"objects\":" ++ (json_text objects ++ (codes ",\"arcs\":" ++ (json_text arcs ++ codes "}"))))) (text-text (codes "Topology"))
+topology-type = ap (λ (text : List ℕ). codes "{\"type\":" ++ text) (text-text (codes "Topology"))
 
 pub topology-text : (t : Contents) → json_text (topology_value t)
-    ≡ codes "{\"type\":\"Topology\",\"objects\":" ++ (json_text (objects_value t.objects)
-    ++ (codes ",\"arcs\":" ++ (json_text (arcs_value t.arcs) ++ codes "}")))
-unfolding topology_value
-topology-text t = whole (objects_value t.objects) (arcs_value t.arcs)
+    ≡ codes "{\"type\":\"Topology\"" ++ (members_text (members_of_transform t.transform) ++ (members_text (contents_members t) ++ codes "}"))
+unfolding topology_value type_text
+topology-text t =
+    let type : List ℕ = type_text (record { type = j.Text (codes "Topology"); parts = [] }) in
+    let first : Members = members_of_transform t.transform in
+    object-text (record { type = j.Text (codes "Topology"); parts = first ++ contents_members t })
+    ∙ ap (λ (text : List ℕ). type ++ (text ++ codes "}")) (members-append first (contents_members t))
+    ∙ ap (λ (text : List ℕ). type ++ text) (append_assoc (members_text first) (members_text (contents_members t)) (codes "}"))
+    ∙ ap (λ (text : List ℕ). text ++ (members_text first ++ (members_text (contents_members t) ++ codes "}"))) topology-type

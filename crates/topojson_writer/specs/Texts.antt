@@ -1,17 +1,16 @@
--- The text of a geometry object (TopoJSON 1.0, section 2.2) part by part, as it is written.
+-- The texts of a geometry object and of a topology (TopoJSON 1.0, sections 2.1 and 2.2) part by part, as they are written.
 use Rattle.std.specs.Prelude.{ℕ, false, List, [], ◌∷◌, ◌++◌, map, codes}
 use Rattle.list_laws.specs.Commas.{with_commas}
 use Rattle.json_value.specs.declared.json.Json.{Json}
 use Rattle.json_value.specs.declared.json.Json.TheVariants as j
 use Rattle.json_value.specs.Text.{json_text, name_text, member_text}
 use Rattle.geometry.specs.Points.{Point}
-use Rattle.topojson_types.specs.declared.object.TopoObject.{TopoObject}
-use Rattle.topojson_types.specs.Topologies.{TopoShape}
-use Rattle.topojson_types.specs.Values.{Members, Geometrical, geometrical, inner_value, positions_value, object_value}
+use Rattle.topojson_types.specs.Topologies.{TopoShape, Contents}
+use Rattle.topojson_types.specs.Values.{Members, Geometrical, cell_value, geometrical, inner_value, objects_value, arcs_value}
 
--- a geometry inside a collection
-abbrev pub shape_value : TopoShape → Json
-shape_value s = inner_value (geometrical s)
+-- a geometry inside a collection, where `cell` is how cells are written
+abbrev pub shape_value : (Point → Json) → TopoShape → Json
+shape_value cell s = inner_value (geometrical cell s)
 
 -- the opening brace and the type
 unfoldable pub type_text : Geometrical → List ℕ
@@ -39,14 +38,10 @@ parts_name o = first_name o.parts
 unfoldable pub parts_value : Geometrical → Json
 parts_value o = first_value o.parts
 
--- arcs
-abbrev pub arcs_value : List (List Point) → Json
-arcs_value arcs = j.Array (map positions_value arcs)
-
 -- the geometries of a GeometryCollection
-abbrev pub shapes_value : List TopoShape → Json
-shapes_value shapes = j.Array (map shape_value shapes)
+abbrev pub shapes_value : (Point → Json) → List TopoShape → Json
+shapes_value cell shapes = j.Array (map (shape_value cell) shapes)
 
--- the objects of a topology by name
-abbrev pub objects_value : List (List ℕ × TopoObject) → Json
-objects_value os = j.Object (map (λ o. (o.0, object_value o.1)) os)
+-- the members `objects` and `arcs` of a topology
+abbrev pub contents_members : Contents → Members
+contents_members t = (codes "objects", objects_value (cell_value t.transform) t.objects) ∷ ((codes "arcs", arcs_value t.transform t.arcs) ∷ [])

@@ -10,7 +10,8 @@ use byte_ends::{Drain, Progress, Sink, put_part};
 use geojson_types::Id;
 use json_value::{Items, Json, OwnText};
 use json_writer::{PutValue, put_members, put_text};
-use topojson_types::{TopoFeature, TopoShape};
+use std::marker::PhantomData;
+use topojson_types::{Cell, TopoFeature, TopoShape};
 
 /// Writes an identifier: a text, or a number by its text.
 #[tactic(auto, using(crate::proofs::Objects::leaves))]
@@ -70,56 +71,58 @@ fn put_properties<W: Drain>(
 }
 
 /// Writes the opening brace of a geometry object, and its type, or null.
-fn put_option_type<W: Drain>(
+fn put_option_type<C: PutValue<Cell>, W: Drain>(
     shape: &Option<TopoShape>,
     so_far: Progress,
     sink: &mut Sink<W>,
 ) -> Progress
-    ensures { Continues sink.old sink.new so_far (type_text (geometrical_option shape.now)) result }
+    ensures { Continues sink.old sink.new so_far (type_text (geometrical_option C.value shape.now)) result }
 {
     match shape {
         None => put_part(b"{\"type\":null", so_far, sink),
-        Some(shape) => put_type(shape, so_far, sink),
+        Some(shape) => put_type::<C, W>(shape, so_far, sink),
     }
 }
 
 /// Writes what a geometry has behind its type, identifier and properties: nothing, if it is null.
 #[tactic(auto, using(crate::proofs::Objects::none))]
-fn put_option_parts<W: Drain>(
+fn put_option_parts<C: PutValue<Cell>, W: Drain>(
     shape: &Option<TopoShape>,
     so_far: Progress,
     sink: &mut Sink<W>,
 ) -> Progress
-    ensures { Continues sink.old sink.new so_far (members_text (geometrical_option shape.now).parts) result }
+    ensures { Continues sink.old sink.new so_far (members_text (geometrical_option C.value shape.now).parts) result }
 {
     match shape {
         None => put_part(b"", so_far, sink),
-        Some(shape) => put_parts(shape, so_far, sink),
+        Some(shape) => put_parts::<C, W>(shape, so_far, sink),
     }
 }
 
 /// Writes a geometry object with its identifier and properties.
-pub fn put_feature<W: Drain>(
+pub fn put_feature<C: PutValue<Cell>, W: Drain>(
     feature: &TopoFeature,
     so_far: Progress,
     sink: &mut Sink<W>,
 ) -> Progress
-    ensures { Continues sink.old sink.new so_far (json_text (feature_value feature.now)) result }
+    ensures { Continues sink.old sink.new so_far (json_text (feature_value C.value feature.now)) result }
 {
-    let so_far = put_option_type(&feature.shape, so_far, sink);
+    let so_far = put_option_type::<C, W>(&feature.shape, so_far, sink);
     let so_far = put_id(&feature.id, so_far, sink);
     let so_far = put_properties(&feature.properties, so_far, sink);
-    let so_far = put_option_parts(&feature.shape, so_far, sink);
+    let so_far = put_option_parts::<C, W>(&feature.shape, so_far, sink);
     put_part(b"}", so_far, sink)
 }
 
-/// The way to write features.
-pub struct Features;
+/// The way to write features, with their cells in this way.
+pub struct Features<C> {
+    cells: PhantomData<C>,
+}
 
-impl PutValue<TopoFeature> for Features {
-    ghost value = { feature_value };
+impl<C: PutValue<Cell>> PutValue<TopoFeature> for Features<C> {
+    ghost value = { feature_value C.value };
 
     fn put<W: Drain>(feature: &TopoFeature, so_far: Progress, sink: &mut Sink<W>) -> Progress {
-        put_feature(feature, so_far, sink)
+        put_feature::<C, W>(feature, so_far, sink)
     }
 }

@@ -6,4 +6,4 @@ use Rattle.topojson_writer.proofs.Objects.{type-null}
 use Rattle.topojson_writer.proofs.feature_writer.put_option_type.Goals as goal
 
 pub returns-in-None : goal.returns-in-None
-returns-in-None g c = as_text (ap (λ shape. type_text (geometrical_option shape)) c.in-None.is ∙ type-null) c.put_part.ensures
+returns-in-None g c = as_text (ap (λ shape. type_text (geometrical_option g.C.PutValue.value shape)) c.in-None.is ∙ type-null) c.put_part.ensures

@@ -8,4 +8,4 @@ use Rattle.topojson_writer.proofs.shape_writer.+shapes.Given as goal
 
 abbrev pub invariant-put_shapes-shapes : goal.invariant-put_shapes-shapes
 invariant-put_shapes-shapes g l =
-    UpTo l.fn.sink l.sink l.fn.so_far (json_text (shapes_value l.shapes)) (list_left (text_by shape_value) (codes "]") l.is_first (drop l.shape-index l.shapes)) l.so_far
+    UpTo l.fn.sink l.sink l.fn.so_far (json_text (shapes_value g.C.PutValue.value l.shapes)) (list_left (text_by (shape_value g.C.PutValue.value)) (codes "]") l.is_first (drop l.shape-index l.shapes)) l.so_far

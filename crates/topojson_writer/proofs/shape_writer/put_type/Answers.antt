@@ -6,22 +6,22 @@ use Rattle.topojson_writer.proofs.Shapes as kind
 use Rattle.topojson_writer.proofs.shape_writer.put_type.Goals as goal
 
 pub returns-in-Point : goal.returns-in-Point
-returns-in-Point g c = as_text (ap (λ shape. type_text (geometrical shape)) c.in-Point.is ∙ kind.type-point _) c.put_part.ensures
+returns-in-Point g c = as_text (ap (λ shape. type_text (geometrical g.C.PutValue.value shape)) c.in-Point.is ∙ kind.type-point _ _) c.put_part.ensures
 
 pub returns-in-MultiPoint : goal.returns-in-MultiPoint
-returns-in-MultiPoint g c = as_text (ap (λ shape. type_text (geometrical shape)) c.in-MultiPoint.is ∙ kind.type-points _) c.put_part-in-MultiPoint.ensures
+returns-in-MultiPoint g c = as_text (ap (λ shape. type_text (geometrical g.C.PutValue.value shape)) c.in-MultiPoint.is ∙ kind.type-points _ _) c.put_part-in-MultiPoint.ensures
 
 pub returns-in-Line : goal.returns-in-Line
-returns-in-Line g c = as_text (ap (λ shape. type_text (geometrical shape)) c.in-Line.is ∙ kind.type-line _) c.put_part-in-Line.ensures
+returns-in-Line g c = as_text (ap (λ shape. type_text (geometrical g.C.PutValue.value shape)) c.in-Line.is ∙ kind.type-line _ _) c.put_part-in-Line.ensures
 
 pub returns-in-Lines : goal.returns-in-Lines
-returns-in-Lines g c = as_text (ap (λ shape. type_text (geometrical shape)) c.in-Lines.is ∙ kind.type-lines _) c.put_part-in-Lines.ensures
+returns-in-Lines g c = as_text (ap (λ shape. type_text (geometrical g.C.PutValue.value shape)) c.in-Lines.is ∙ kind.type-lines _ _) c.put_part-in-Lines.ensures
 
 pub returns-in-Area : goal.returns-in-Area
-returns-in-Area g c = as_text (ap (λ shape. type_text (geometrical shape)) c.in-Area.is ∙ kind.type-area _) c.put_part-in-Area.ensures
+returns-in-Area g c = as_text (ap (λ shape. type_text (geometrical g.C.PutValue.value shape)) c.in-Area.is ∙ kind.type-area _ _) c.put_part-in-Area.ensures
 
 pub returns-in-Areas : goal.returns-in-Areas
-returns-in-Areas g c = as_text (ap (λ shape. type_text (geometrical shape)) c.in-Areas.is ∙ kind.type-areas _) c.put_part-in-Areas.ensures
+returns-in-Areas g c = as_text (ap (λ shape. type_text (geometrical g.C.PutValue.value shape)) c.in-Areas.is ∙ kind.type-areas _ _) c.put_part-in-Areas.ensures
 
 pub returns-in-Group : goal.returns-in-Group
-returns-in-Group g c = as_text (ap (λ shape. type_text (geometrical shape)) c.in-Group.is ∙ kind.type-group _) c.put_part-in-Group.ensures
+returns-in-Group g c = as_text (ap (λ shape. type_text (geometrical g.C.PutValue.value shape)) c.in-Group.is ∙ kind.type-group _ _) c.put_part-in-Group.ensures

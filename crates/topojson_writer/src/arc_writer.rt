@@ -1,0 +1,53 @@
+// Arcs on a grid as they are written (TopoJSON 1.0, section 2.1.3).
+ghost use Rattle.std.specs.Prelude.{map};
+ghost use Rattle.byte_ends.specs.Continues.{Continues};
+ghost use Rattle.json_value.specs.Text.{json_text};
+ghost use Rattle.json_value.specs.declared.json.Json.TheVariants as j;
+ghost use Rattle.topojson_types.specs.Differences.{difference, deltas};
+ghost use Rattle.topojson_types.specs.Values.{position_value};
+
+use byte_ends::{Drain, Progress, Sink, put_comma, put_part};
+use json_value::Items;
+use json_writer::{PutValue, put_pair};
+use topojson_types::Cell;
+
+/// Writes how far a cell lies from the one before.
+fn put_difference<W: Drain>(
+    before: Cell,
+    cell: Cell,
+    so_far: Progress,
+    sink: &mut Sink<W>,
+) -> Progress
+    ensures { Continues sink.old sink.new so_far (json_text (position_value 0 (difference before cell))) result }
+{
+    let x = cell.x() - before.x();
+    let y = cell.y() - before.y();
+    put_pair(x, y, 0, so_far, sink)
+}
+
+/// Writes the first cell of an arc, and then how far each lies from the one before.
+fn put_differences<W: Drain>(cells: &[Cell], so_far: Progress, sink: &mut Sink<W>) -> Progress
+    ensures { Continues sink.old sink.new so_far (json_text (j.Array (map (position_value 0) (deltas cells.now)))) result }
+{
+    let mut so_far = put_part(b"[", so_far, sink);
+    let mut is_first = true;
+    let mut before = Cell::at(0, 0);
+    'cells: for cell in cells {
+        so_far = put_comma(is_first, so_far, sink);
+        is_first = false;
+        so_far = put_difference(before, *cell, so_far, sink);
+        before = *cell;
+    }
+    put_part(b"]", so_far, sink)
+}
+
+/// The way to write an arc of a topology with a transform.
+pub struct Differences;
+
+impl PutValue<Items<Cell>> for Differences {
+    ghost value = { λ cells. j.Array (map (position_value 0) (deltas cells)) };
+
+    fn put<W: Drain>(cells: &Items<Cell>, so_far: Progress, sink: &mut Sink<W>) -> Progress {
+        put_differences(cells.as_slice(), so_far, sink)
+    }
+}

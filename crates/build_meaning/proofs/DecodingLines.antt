@@ -1,5 +1,5 @@
 -- What is decoded of a line's indexes among all arcs, each of which is reduced, is the line rebuilt of its own pieces.
-use Rattle.std.proofs.Common.{◌≡◌, ℕ, zero, suc, ◌-◌, ◌<◌, ◌≤◌, ℤ, pos, negsuc, Bool, false, List, [], ◌∷◌, map, length, append-nil, reverse, Option, None, Some, refl, sym, ap, ◌∙◌, arith, inl, inr}
+use Rattle.std.proofs.Common.{◌≡◌, ℕ, zero, suc, ◌<◌, ◌≤◌, ℤ, pos, negsuc, Bool, false, List, [], ◌∷◌, map, length, append-nil, reverse, Option, None, Some, refl, sym, ap, ◌∙◌, arith, inl, inr}
 use Rattle.std.proofs.lemmas.Bool.Decides.{nat_tests}
 use Rattle.arc_table.specs.Arcs.{arcs_of, index_in}
 use Rattle.arc_table.proofs.Alike.{arcs_unlike, arc_is_piece, piece_has_alike}

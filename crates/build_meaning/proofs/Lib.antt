@@ -13,4 +13,5 @@ pub mod ValidIndexes
 pub mod ValidPositions
 pub mod ValidShapes
 pub mod ValidTrimmed
+pub mod ValidUntrimmed
 pub mod Whole

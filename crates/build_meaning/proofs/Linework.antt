@@ -1,5 +1,5 @@
 -- The linework of named layers: their lines and rings that aren't short, cleaned; and the pieces of these.
-use Rattle.std.proofs.Common.{◌≡◌, ℕ, suc, Bool, true, false, cond, not, List, [], ◌∷◌, map, refl, ap, sym, subst, inl, inr, arith}
+use Rattle.std.proofs.Common.{◌≡◌, ℕ, suc, Bool, false, cond, not, List, [], ◌∷◌, map, refl, ap, sym, subst, inl, inr, arith}
 use Rattle.std.proofs.lemmas.List.{map-append}
 use Rattle.std.specs.List.{AllByRecursion, filter}
 use Rattle.cutter.specs.Pieces.{pieces_of, pieces, split_at, start_in, turned}

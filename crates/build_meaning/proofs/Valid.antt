@@ -103,12 +103,12 @@ module _ (kept : Kept) (X : Bool × List ℤ → Type 0) where
 -- ---- kept lines
 
 -- the indexes name arcs that meet, and those of a ring close
-abbrev IsFine : List (List Point) → Bool × List ℤ → Type 0
+abbrev pub IsFine : List (List Point) → Bool × List ℤ → Type 0
 IsFine arcs b = AreInRange (length arcs) b.1 × IsJoined arcs b × IsClosed arcs b
 
 module _ (lines : List Stroke) (t : ℕ) where
   -- a line without pieces is dropped
-  some_kept : (closed : Bool) (l : List Point) (m : List ℤ) → kept_refs lines t closed l ≡ Some m → is_some_list m ≡ true
+  pub some_kept : (closed : Bool) (l : List Point) (m : List ℤ) → kept_refs lines t closed l ≡ Some m → is_some_list m ≡ true
   some_kept closed l m e = on closed (own_pieces lines closed l) (is_short closed (clean l)) e
     where
       some : (d : Bool) (x : ℤ) (xs : List ℤ) → unless (if d then Some Small else None) (x ∷ xs) ≡ Some m → is_some_list m ≡ true
@@ -154,10 +154,10 @@ module _ (stay : EndsStay) (none : NoneIsNew) (t : ℕ) (ls : Named) (sound : Ar
   abbrev lines : List Stroke
   lines = linework (layers_of ls)
 
-  abbrev all_fewer : List (List Point)
+  abbrev pub all_fewer : List (List Point)
   all_fewer = map (reduced t) (all_arcs (linework (layers_of ls)))
 
-  abbrev objects_of : List (List ℕ × TopoObject)
+  abbrev pub objects_of : List (List ℕ × TopoObject)
   objects_of = objects_by (kept_refs (linework (layers_of ls)) t) ls
 
   abbrev used : ℕ → Bool
@@ -166,13 +166,13 @@ module _ (stay : EndsStay) (none : NoneIsNew) (t : ℕ) (ls : Named) (sound : Ar
   abbrev left : List (List Point)
   left = keep_from used 0 all_fewer
 
-  fewer_are_arcs : AllByRecursion (IsArc None) all_fewer
+  pub fewer_are_arcs : AllByRecursion (IsArc None) all_fewer
   fewer_are_arcs =
       all_map (IsArc None) (reduced t) (all_arcs lines)
       (all_two (λ x. 2 ≤ length x) (λ x. AllByRecursion IsPosition x) (λ x. IsArc None (reduced t x))
       (λ x h k. ((ends_kept stay t x h).1, sub_all IsPosition (none t x) k)) (all_arcs lines) (arcs_long lines (all_clean ls sound)) (arcs_placed ls sound))
 
-  before_fine : AllByRecursion (IsFine all_fewer) (objects_strokes objects_of)
+  pub before_fine : AllByRecursion (IsFine all_fewer) (objects_strokes objects_of)
   before_fine =
       objects_left (kept_refs lines t) (IsFine all_fewer) ls
       (all_weaker (StandsIn lines) (λ b. (m : List ℤ) → kept_refs lines t b.0 b.1 ≡ Some m → IsFine all_fewer (b.0, m)) (kept_fine lines t stay (all_clean ls sound)) (named_strokes ls) (each_stands ls))

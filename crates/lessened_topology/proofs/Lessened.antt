@@ -37,6 +37,20 @@ use Rattle.lessened_topology.proofs.Made.{objects_made}
 use Rattle.lessened_topology.proofs.Objects.{objects_then, objects_left}
 use Rattle.lessened_topology.proofs.Picked.{arcs_again}
 
+-- ---- nothing is small at zero
+
+module _ (lines : List Stroke) where
+  -- what is kept at zero is the whole line, unless it has too few positions
+  abbrev pub IsWholeAtZero : Line → Type 0
+  IsWholeAtZero b = kept_line lines 0 b.0 b.1 ≡ cond (is_short b.0 (clean b.1)) None (Some (from_start (is_cut lines) (cleaned b.0 b.1)))
+
+  pub no_small : (b : Line) → IsWholeAtZero b → is_short b.0 (clean b.1) ≡ false → own_cause lines 0 b.0 b.1 ≡ None
+  no_small b whole e = on (own_cause lines 0 b.0 b.1) (whole ∙ ap (λ c. cond c None (Some (from_start (is_cut lines) (cleaned b.0 b.1)))) e)
+    where
+      on : (w : Option Cause) → unless w (rebuilt lines 0 b.0 b.1) ≡ Some (from_start (is_cut lines) (cleaned b.0 b.1)) → w ≡ None
+      on None h = refl
+      on (Some c) h = cc
+
 -- ---- a line's indexes name its own pieces, reduced
 
 module _ (law : DirectionLaw) (lines : List Stroke) (t : ℕ) (apart : (p : List Point) → In p (pieces lines) → Apart (interior p)) where
@@ -47,32 +61,21 @@ module _ (law : DirectionLaw) (lines : List Stroke) (t : ℕ) (apart : (p : List
   refs_of b = map (index_in (all_arcs lines)) (own_pieces lines b.0 b.1)
 
   -- so the same is too short
-  cause_same : (b : Line) → StandsIn lines b → is_short b.0 (clean b.1) ≡ false →
+  pub cause_same : (b : Line) → StandsIn lines b → is_short b.0 (clean b.1) ≡ false →
       small_cause arcs b.0 (refs_of b) ≡ cond (is_small b.0 (rebuilt lines t b.0 b.1)) (Some Small) None
   cause_same b stands e =
       ap (λ l. cond (is_small b.0 l) (Some Small) None)
       (ap rejoined (pieces_back law t (pieces lines) apart (own_pieces lines b.0 b.1) (own_in lines b stands e)) ∙ same_rejoined (map (reduced t) (own_pieces lines b.0 b.1)))
 
-  -- nothing is small at zero
-  abbrev IsWholeAtZero : Line → Type 0
-  IsWholeAtZero b = kept_line lines 0 b.0 b.1 ≡ cond (is_short b.0 (clean b.1)) None (Some (from_start (is_cut lines) (cleaned b.0 b.1)))
-
-  no_small : (b : Line) → IsWholeAtZero b → is_short b.0 (clean b.1) ≡ false → own_cause lines 0 b.0 b.1 ≡ None
-  no_small b whole e = on (own_cause lines 0 b.0 b.1) (whole ∙ ap (λ c. cond c None (Some (from_start (is_cut lines) (cleaned b.0 b.1)))) e)
-    where
-      on : (w : Option Cause) → unless w (rebuilt lines 0 b.0 b.1) ≡ Some (from_start (is_cut lines) (cleaned b.0 b.1)) → w ≡ None
-      on None h = refl
-      on (Some c) h = cc
-
   -- so what is kept at zero and then reduced is what is kept at the threshold
-  line_again : (b : Line) → StandsIn lines b → IsWholeAtZero b → then_some (large_refs arcs b.0) (kept_refs lines 0 b.0 b.1) ≡ kept_refs lines t b.0 b.1
+  line_again : (b : Line) → StandsIn lines b → IsWholeAtZero lines b → then_some (large_refs arcs b.0) (kept_refs lines 0 b.0 b.1) ≡ kept_refs lines t b.0 b.1
   line_again b stands whole = on (is_short b.0 (clean b.1)) refl
     where
       on : (c : Bool) → is_short b.0 (clean b.1) ≡ c →
           then_some (large_refs arcs b.0) (kept_refs lines 0 b.0 b.1) ≡ unless (cond c (Some Collapsed) (cond (is_small b.0 (rebuilt lines t b.0 b.1)) (Some Small) None)) (refs_of b)
       on true e = ap (λ c. then_some (large_refs arcs b.0) (unless (cond c (Some Collapsed) (cond (is_small b.0 (rebuilt lines 0 b.0 b.1)) (Some Small) None)) (refs_of b))) e
       on false e =
-          ap (λ w. then_some (large_refs arcs b.0) (unless w (refs_of b))) (no_small b whole e)
+          ap (λ w. then_some (large_refs arcs b.0) (unless w (refs_of b))) (no_small lines b whole e)
           ∙ ap (λ w. unless w (refs_of b)) (cause_same b stands e)
 
 -- ---- the indexes that are left after some arcs are left out
@@ -112,7 +115,7 @@ module _ (u : ℕ → Bool) (arcs : List (List Point)) where
 -- ---- topologies
 
 -- the objects that are built at zero, reduced
-objects_again : DirectionLaw → ZeroLaw → (t : ℕ) (ls : Named) → AreSound ls →
+pub objects_again : DirectionLaw → ZeroLaw → (t : ℕ) (ls : Named) → AreSound ls →
     objects_pruned (large_refs (map (reduced t) (all_arcs (linework (layers_of ls))))) (objects_by (kept_refs (linework (layers_of ls)) 0) ls) ≡ objects_by (kept_refs (linework (layers_of ls)) t) ls
 objects_again law zero t ls sound =
     let lines : List Stroke = linework (layers_of ls) in

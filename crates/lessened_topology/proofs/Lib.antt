@@ -1,4 +1,6 @@
 pub mod Again
+pub mod Assembled
+mod AssembledRows
 pub mod BuiltCells
 pub mod BuiltOnGrid
 pub mod Celled

@@ -36,11 +36,11 @@ picked_is_reduced t ps =
     (numbered_stand ps 0 ps (λ j. ap (at ps) (let e : 0 + j ≡ j = omega arith in e))))
 
 -- each arc is picked by its own indexes
-picked_each : (f : List Point → List ℕ) (arcs : List (List Point)) → picked_arcs (map f arcs) arcs ≡ map (λ a. picked (f a) a) arcs
+pub picked_each : (f : List Point → List ℕ) (arcs : List (List Point)) → picked_arcs (map f arcs) arcs ≡ map (λ a. picked (f a) a) arcs
 picked_each f [] = refl
 picked_each f (a ∷ arcs) = ap (λ xs. picked (f a) a ∷ xs) (picked_each f arcs)
 
-each_reduced : (t : ℕ) (arcs : List (List Point)) → map (λ a. picked (reduce t a) a) arcs ≡ map (reduced t) arcs
+pub each_reduced : (t : ℕ) (arcs : List (List Point)) → map (λ a. picked (reduce t a) a) arcs ≡ map (reduced t) arcs
 each_reduced t [] = refl
 each_reduced t (a ∷ arcs) = ap (λ x. x ∷ map (λ a. picked (reduce t a) a) arcs) (picked_is_reduced t a) ∙ ap (λ xs. reduced t a ∷ xs) (each_reduced t arcs)
 

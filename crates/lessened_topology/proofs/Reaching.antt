@@ -30,7 +30,7 @@ reduced_through t [] h = absurd (omega (arith, h))
 reduced_through t (p ∷ []) h = absurd (omega (arith, h))
 reduced_through t (p ∷ (q ∷ ps)) h = let k = split_last q ps in subst (λ l. FromFirstToLast (length l) (reduce t l)) (ap (λ xs. p ∷ xs) (sym k.2)) (by_ends t p k.1 k.0)
 
-each_through : (t : ℕ) (transform : Option Transform) (arcs : List (List Point)) → AllByRecursion (λ a. 2 ≤ length a) arcs →
+pub each_through : (t : ℕ) (transform : Option Transform) (arcs : List (List Point)) → AllByRecursion (λ a. 2 ≤ length a) arcs →
     EachFromFirstToLast (map (λ cells. reduce t (placed_cells transform cells)) arcs) arcs
 each_through t transform [] h = tt
 each_through t transform (a ∷ arcs) h =

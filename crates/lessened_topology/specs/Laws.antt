@@ -1,8 +1,8 @@
 -- What is true of reducing a topology again.
 use Rattle.std.specs.Prelude.{◌≡◌, ℕ, List, None, Some}
 use Rattle.std.specs.List.{AllByRecursion}
-use Rattle.build_meaning.specs.Built.{built}
-use Rattle.build_meaning.specs.Expected.{expected}
+use Rattle.build_meaning.specs.Built.{built, taken_out}
+use Rattle.build_meaning.specs.Expected.{expected, expected_dropped}
 use Rattle.build_meaning.specs.Laws.{AreSound}
 use Rattle.build_meaning.specs.Layers.{Named, names_of, layers_of}
 use Rattle.elimination_meaning.specs.Elimination.{reduce, reduced}
@@ -14,6 +14,7 @@ use Rattle.topojson_types.specs.Decoding.{decoded}
 use Rattle.topojson_types.specs.Topologies.{Contents}
 use Rattle.topojson_types.specs.Transforms.{IsTransform}
 use Rattle.topojson_types.specs.Validity.{AreDistinct, IsTopology}
+use Rattle.lessened_topology.specs.Assembled.{arcs_of_layers, arc_indexes, assembled, assembled_dropped, assembled_taken_out}
 use Rattle.lessened_topology.specs.Celled.{celled, LiesBack, IsOnGrid, EachCell}
 use Rattle.lessened_topology.specs.Lessened.{picked, EachFromFirstToLast, lessened_by}
 use Rattle.lessened_topology.specs.Thresholds.{reduced_indexes, lessened}
@@ -74,3 +75,26 @@ IndexesReach = (t : ℕ) (y : Contents) → IsTopology y → EachFromFirstToLast
 -- so a topology that is reduced is valid
 abbrev pub ReducedIsValid : Type 0
 ReducedIsValid = (t : ℕ) (y : Contents) → IsTopology y → IsTopology (lessened t y)
+
+-- ---- assembling
+
+-- what is assembled of layers with each arc reduced at a threshold is what is built of them
+abbrev pub AssemblesToBuilt : Type 0
+AssemblesToBuilt = (t : ℕ) (ls : Named) → AreSound ls → assembled (arc_indexes t ls) ls ≡ built t ls
+
+-- the lines and rings that are dropped are those that are expected to be
+abbrev pub AssemblingDropsExpected : Type 0
+AssemblingDropsExpected = (t : ℕ) (ls : Named) → AreSound ls → assembled_dropped (arc_indexes t ls) ls ≡ expected_dropped t ls
+
+-- as many positions are taken out as reduction takes out
+abbrev pub AssemblingTakesOut : Type 0
+AssemblingTakesOut = (t : ℕ) (ls : Named) → AreSound ls → assembled_taken_out (arc_indexes t ls) ls ≡ taken_out t ls
+
+-- the numbers of the positions that stay of the layers' arcs begin with the first and end with the last
+abbrev pub ArcIndexesReach : Type 0
+ArcIndexesReach = (t : ℕ) (ls : Named) → AreSound ls → EachFromFirstToLast (arc_indexes t ls) (arcs_of_layers ls)
+
+-- what is assembled of arcs that keep their ends is valid
+abbrev pub AssembledIsValid : Type 0
+AssembledIsValid = (kept : List (List ℕ)) (ls : Named) → AreSound ls → AreDistinct (names_of ls) → EachFromFirstToLast kept (arcs_of_layers ls)
+    → IsTopology (assembled kept ls)

@@ -1,3 +1,4 @@
+pub mod Assembled
 pub mod Celled
 pub mod Laws
 pub mod Lessened

@@ -1,8 +1,8 @@
 // Laws of the definitions. A function here changes nothing: its contract is the law.
-ghost use Rattle.lessened_topology.specs.Laws.{BuiltDecodesOnGrid, BuiltIsValidOnGrid, CelledDecodes, CelledIsValid, DecodesBackOnGrid, IndexesReach, LessenedIsValid, LessensToBuilt, LessensToBuiltOnGrid, PickedIsReduced, ReducedIsValid};
+ghost use Rattle.lessened_topology.specs.Laws.{ArcIndexesReach, AssembledIsValid, AssemblesToBuilt, AssemblingDropsExpected, AssemblingTakesOut, BuiltDecodesOnGrid, BuiltIsValidOnGrid, CelledDecodes, CelledIsValid, DecodesBackOnGrid, IndexesReach, LessenedIsValid, LessensToBuilt, LessensToBuiltOnGrid, PickedIsReduced, ReducedIsValid};
 
 use build_meaning::{built_decodes_back, built_is_valid};
-use elimination_meaning::{direction_law, nothing_is_new, zero_law};
+use elimination_meaning::{direction_law, ends_stay, nothing_is_new, zero_law};
 
 /// The positions with the indexes that stay are those that stay.
 #[tactic(auto, using(crate::proofs::Picked::picked_is_reduced))]
@@ -81,3 +81,46 @@ pub fn indexes_reach()
 pub fn reduced_is_valid()
     ensures { ReducedIsValid }
 {}
+
+/// What is assembled of layers, each arc reduced at a threshold, is what is built of them at that threshold.
+#[tactic(auto, using(crate::proofs::Assembled::assembles_to_built))]
+pub fn assembles_to_built()
+    ensures { AssemblesToBuilt }
+{
+    direction_law();
+    zero_law();
+}
+
+/// The lines and rings that are then dropped are those that are expected to be, for the causes that are expected.
+#[tactic(auto, using(crate::proofs::Assembled::drops_expected))]
+pub fn assembling_drops_expected()
+    ensures { AssemblingDropsExpected }
+{
+    direction_law();
+    zero_law();
+}
+
+/// As many positions are then taken out of the arcs that stay as reduction takes out of them.
+#[tactic(auto, using(crate::proofs::Assembled::takes_out))]
+pub fn assembling_takes_out()
+    ensures { AssemblingTakesOut }
+{
+    direction_law();
+    zero_law();
+}
+
+/// The indexes that reduction leaves of an arc of layers reach from its first position to its last.
+#[tactic(auto, using(crate::proofs::Assembled::indexes_reach))]
+pub fn arc_indexes_reach()
+    ensures { ArcIndexesReach }
+{}
+
+/// What is assembled of layers is valid, where each arc keeps its ends.
+#[tactic(auto, using(crate::proofs::Assembled::assembled_is_valid))]
+pub fn assembled_is_valid()
+    ensures { AssembledIsValid }
+{
+    ends_stay();
+    nothing_is_new();
+    zero_law();
+}

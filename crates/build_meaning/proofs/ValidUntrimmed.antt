@@ -1,0 +1,56 @@
+-- The layers over all arcs, with those that no kept line uses, are a valid topology.
+use Rattle.std.proofs.Common.{◌≡◌, ℕ, ℤ, Bool, true, List, [], ◌∷◌, map, length, Option, None, Some, refl, sym, ap, subst}
+use Rattle.std.specs.List.{AllByRecursion}
+use Rattle.elimination_meaning.specs.Laws.{EndsStay, NoneIsNew}
+use Rattle.geojson_types.specs.Features.{Shape, Featured, is_some_list, is_proper_option}
+use Rattle.geojson_types.specs.Places.{option_points}
+use Rattle.geometry.specs.Lists.{then_some}
+use Rattle.geometry.specs.Points.{Point, IsPosition}
+use Rattle.geometry.specs.Pruning.{prune}
+use Rattle.linework.specs.Linework.{linework}
+use Rattle.list_laws.proofs.Elements.{all_weaker}
+use Rattle.topojson_types.specs.Topologies.{objects_strokes}
+use Rattle.topojson_types.specs.Validity.{is_full_option, option_places, IsFeature, IsObject, AreDistinct, AreInRange, IsJoined, IsClosed, IsTopology}
+use Rattle.build_meaning.specs.Built.{kept_refs, untrimmed}
+use Rattle.build_meaning.specs.Laws.{IsSound, AreSound}
+use Rattle.build_meaning.specs.Layers.{Named, names_of, layers_of}
+use Rattle.build_meaning.specs.Objects.{Kept, features_by, objects_by}
+use Rattle.build_meaning.proofs.Valid.{IsFine, some_kept, all_fewer, objects_of, fewer_are_arcs, before_fine}
+use Rattle.build_meaning.proofs.ValidShapes.{places_stay, made_full}
+
+names_are : (kept : Kept) (ls : Named) → map (λ o. o.0) (objects_by kept ls) ≡ names_of ls
+names_are kept [] = refl
+names_are kept (l ∷ ls) = ap (λ ns. l.0 ∷ ns) (names_are kept ls)
+
+module _ (kept : Kept) (some : (closed : Bool) (l : List Point) (m : List ℤ) → kept closed l ≡ Some m → is_some_list m ≡ true) where
+  option_full : (s : Option Shape) → is_proper_option s ≡ true → is_full_option (then_some (prune (λ p. p) kept) s) ≡ true
+  option_full None h = refl
+  option_full (Some s) h = made_full kept some s h
+
+  option_stay : (s : Option Shape) → AllByRecursion IsPosition (option_points s) → AllByRecursion IsPosition (option_places (then_some (prune (λ p. p) kept) s))
+  option_stay None h = tt
+  option_stay (Some s) h = places_stay kept IsPosition s h
+
+  features_are : (fs : List Featured) → AllByRecursion IsSound fs → AllByRecursion (IsFeature None) (features_by kept fs)
+  features_are [] h = tt
+  features_are (f ∷ fs) h = ((option_full f.shape h.0.proper, option_stay f.shape h.0.places), features_are fs h.1)
+
+  objects_are : (ls : Named) → AreSound ls → AllByRecursion (λ o. IsObject None o.1) (objects_by kept ls)
+  objects_are [] h = tt
+  objects_are (l ∷ ls) h = (features_are l.1.features h.0, objects_are ls h.1)
+
+pub untrimmed_is_valid : EndsStay → NoneIsNew → (t : ℕ) (ls : Named) → AreSound ls → AreDistinct (names_of ls) → IsTopology (untrimmed t ls)
+untrimmed_is_valid stay none t ls sound distinct =
+    let lines = linework (layers_of ls) in
+    let arcs : List (List Point) = all_fewer stay none t ls sound in
+    let os = objects_of stay none t ls sound in
+    let fine : AllByRecursion (IsFine arcs) (objects_strokes os) = before_fine stay none t ls sound in
+    record {
+      names = subst AreDistinct (sym (names_are (kept_refs lines t) ls)) distinct;
+      transform = tt;
+      objects = objects_are (kept_refs lines t) (some_kept lines t) ls sound;
+      arcs = fewer_are_arcs stay none t ls sound;
+      ranged = all_weaker (IsFine arcs) (λ b. AreInRange (length arcs) b.1) (λ b f. f.0) (objects_strokes os) fine;
+      joined = all_weaker (IsFine arcs) (IsJoined arcs) (λ b f. f.1) (objects_strokes os) fine;
+      closed = all_weaker (IsFine arcs) (IsClosed arcs) (λ b f. f.2) (objects_strokes os) fine;
+    }

@@ -1,0 +1,139 @@
+-- Worked rows of what is assembled of layers over reduced arcs, computed from the definitions. The fold of a shape is opened by its
+-- kind.
+use Rattle.std.proofs.Common.{◌≡◌, ◌==◌, ℕ, ℤ, pos, not, Bool, true, false, List, [], ◌∷◌, ◌++◌, map, Option, None, Some, refl, ap, ◌∙◌}
+use Rattle.std.specs.List.{filter, list_any}
+use Rattle.elimination_meaning.specs.Elimination.{is_before, reduced}
+use Rattle.geojson_types.specs.Features.{Featured, Shape}
+use Rattle.geometry.specs.Areas.{cross, twice_area}
+use Rattle.geometry.specs.declared.address.Cause.TheVariants.{Small, Outer}
+use Rattle.geometry.specs.declared.shape.Geometry.TheVariants as g
+use Rattle.geometry.specs.Joins.{number_of}
+use Rattle.geometry.specs.Omissions.{omissions, dropped_of_layers}
+use Rattle.geometry.specs.Paths.{placed_strokes}
+use Rattle.geometry.specs.Points.{Point}
+use Rattle.geometry.specs.Pruning.{prune}
+use Rattle.geometry.specs.Rings.{same}
+use Rattle.geometry.proofs.Cases.{prune-line, prune-area, strokes-line, omissions-area, omissions-line}
+use Rattle.junctions.specs.declared.stroke.Stroke.{Stroke}
+use Rattle.linework.specs.Linework.{stroke_at, feature_address, is_collapsed, linework}
+use Rattle.linework.proofs.Placing.{placed_strokes_at}
+use Rattle.topojson_types.specs.declared.feature.TopoFeature.{TopoFeature}
+use Rattle.topojson_types.specs.declared.object.TopoObject.{TopoObject}
+use Rattle.topojson_types.specs.declared.object.TopoObject.TheVariants.{Many}
+use Rattle.topojson_types.specs.Topologies.{TopoShape, objects_strokes}
+use Rattle.build_meaning.specs.Built.{all_arcs, kept_refs}
+use Rattle.build_meaning.specs.Layers.{Named, layers_of}
+use Rattle.build_meaning.specs.Objects.{objects_by}
+use Rattle.build_meaning.specs.Trimming.{keep_from, line_renumbered, trimmed}
+use Rattle.lessened_topology.specs.Assembled.{assembled_cause, layers_caused, assembled, assembled_dropped}
+use Rattle.lessened_topology.specs.Lessened.{picked_arcs, large_refs, objects_pruned, lessened_by}
+use Rattle.lessened_topology.proofs.Assembled.{contents}
+
+abbrev at : ℕ → ℕ → Point
+at x y = record { x = pos x; y = pos y }
+
+-- ---- a polygon whose outer ring is a triangle, with a square as its hole, and a bent line
+
+abbrev triangle : List Point
+triangle = at 2 2 ∷ (at 3 2 ∷ (at 2 3 ∷ (at 2 2 ∷ [])))
+
+abbrev square : List Point
+square = at 0 0 ∷ (at 10 0 ∷ (at 10 10 ∷ (at 0 10 ∷ (at 0 0 ∷ []))))
+
+abbrev bent : List Point
+bent = at 20 0 ∷ (at 21 1 ∷ (at 23 0 ∷ []))
+
+abbrev rings : List (List Point)
+rings = triangle ∷ (square ∷ [])
+
+abbrev feature : Option Shape → Featured
+feature s = record { id = None; properties = None; shape = s }
+
+abbrev layers : Named
+layers = ((97 ∷ []), record { features = feature (Some (g.Area rings)) ∷ (feature (Some (g.Line bent)) ∷ []) }) ∷ []
+
+-- of the triangle's arc the ends are kept, of the others all
+abbrev kept : List (List ℕ)
+kept = (0 ∷ (3 ∷ [])) ∷ ((0 ∷ (1 ∷ (2 ∷ (3 ∷ (4 ∷ []))))) ∷ ((0 ∷ (1 ∷ (2 ∷ []))) ∷ []))
+
+abbrev fewer : List (List Point)
+fewer = (at 2 2 ∷ (at 2 2 ∷ [])) ∷ (square ∷ (bent ∷ []))
+
+-- ---- the lines and their arcs
+
+abbrev stroke : ℕ → List ℕ → Bool → List Point → Stroke
+stroke feature path closed ps = record { address = record { layer = 0; feature = feature; path = path }; closed = closed; positions = ps }
+
+abbrev lines : List Stroke
+lines = stroke 0 (0 ∷ []) true triangle ∷ (stroke 0 (1 ∷ []) true square ∷ (stroke 1 [] false bent ∷ []))
+
+lines_are : linework (layers_of layers) ≡ lines
+unfolding linework same
+lines_are =
+    ap (λ ps. filter (λ s. not (is_collapsed s)) ((map (stroke_at (feature_address 0 0)) ps ++ (map (stroke_at (feature_address 0 1)) (placed_strokes {P = Point} (g.Line bent)) ++ [])) ++ []))
+    ((placed_strokes_at Point (List Point)).area rings)
+    ∙ ap (λ ps. filter (λ s. not (is_collapsed s)) ((stroke 0 (0 ∷ []) true triangle ∷ (stroke 0 (1 ∷ []) true square ∷ (map (stroke_at (feature_address 0 1)) ps ++ []))) ++ []))
+    ((placed_strokes_at Point (List Point)).line bent)
+
+arcs_are : all_arcs lines ≡ triangle ∷ (square ∷ (bent ∷ []))
+unfolding same
+arcs_are = refl
+
+-- ---- the outer ring is small, and the hole goes with it
+
+row_dropped : assembled_dropped kept layers
+    ≡ record { address = record { layer = 0; feature = 0; path = 0 ∷ [] }; cause = Small } ∷ (record { address = record { layer = 0; feature = 0; path = 1 ∷ [] }; cause = Outer } ∷ [])
+unfolding assembled_dropped same
+row_dropped =
+    ap (λ ls. layers_caused (assembled_cause ls (picked_arcs kept (all_arcs ls))) layers) lines_are
+    ∙ ap (λ o. dropped_of_layers 0 ((o ∷ (omissions {P = Point} (assembled_cause lines (picked_arcs kept (all_arcs lines))) (g.Line bent) ∷ [])) ∷ []))
+    (omissions-area Point (List Point) (assembled_cause lines (picked_arcs kept (all_arcs lines))) rings)
+    ∙ ap (λ o. dropped_of_layers 0 (((record { path = 0 ∷ []; part = Small } ∷ (record { path = 1 ∷ []; part = Outer } ∷ [])) ∷ (o ∷ [])) ∷ []))
+    (omissions-line Point (List Point) (assembled_cause lines (picked_arcs kept (all_arcs lines))) bent)
+
+-- ---- so two arcs are left out, and the third one is the first
+
+abbrev topo_feature : Option TopoShape → TopoFeature
+topo_feature s = record { id = None; properties = None; shape = s }
+
+abbrev two : Option TopoShape → Option TopoShape → List (List ℕ × TopoObject)
+two s t = ((97 ∷ []), Many (topo_feature s ∷ (topo_feature t ∷ []))) ∷ []
+
+abbrev ring_refs : List (List ℤ)
+ring_refs = (pos 0 ∷ []) ∷ ((pos 1 ∷ []) ∷ [])
+
+objects_at_zero : objects_by (kept_refs lines 0) layers ≡ two (Some (g.Area ring_refs)) (Some (g.Line (pos 2 ∷ [])))
+unfolding same reduced is_before twice_area cross
+objects_at_zero =
+    ap (λ s. two s (prune (λ p. p) (kept_refs lines 0) (g.Line bent))) (prune-area (λ (p : Point). p) (kept_refs lines 0) rings)
+    ∙ ap (λ s. two (Some (g.Area ring_refs)) s) (prune-line (λ (p : Point). p) (kept_refs lines 0) bent)
+
+arcs_picked : picked_arcs kept (map (reduced 0) (all_arcs lines)) ≡ fewer
+unfolding same reduced is_before twice_area cross
+arcs_picked = refl
+
+objects_left : objects_pruned (large_refs fewer) (two (Some (g.Area ring_refs)) (Some (g.Line (pos 2 ∷ [])))) ≡ two None (Some (g.Line (pos 2 ∷ [])))
+unfolding same
+objects_left =
+    ap (λ s. two s (prune (λ p. p) (large_refs fewer) (g.Line (pos 2 ∷ [])))) (prune-area (λ (p : Point). p) (large_refs fewer) ring_refs)
+    ∙ ap (two None) (prune-line (λ (p : Point). p) (large_refs fewer) (pos 2 ∷ []))
+
+abbrev used_in : List (Bool × List ℤ) → ℕ → Bool
+used_in bs i = list_any (λ b. list_any (λ r. number_of r == i) b.1) bs
+
+strokes_left : objects_strokes (two None (Some (g.Line (pos 2 ∷ [])))) ≡ (false, pos 2 ∷ []) ∷ []
+strokes_left = ap (λ l. (l ++ []) ++ []) (strokes-line Point (List ℤ) (pos 2 ∷ []))
+
+trimmed_left : trimmed (contents (two None (Some (g.Line (pos 2 ∷ [])))) fewer) ≡ contents (two None (Some (g.Line (pos 0 ∷ [])))) (bent ∷ [])
+unfolding trimmed number_of
+trimmed_left =
+    ap (λ bs. contents (two None (prune (λ p. p) (line_renumbered (used_in bs)) (g.Line (pos 2 ∷ [])))) (keep_from (used_in bs) 0 fewer)) strokes_left
+    ∙ ap (λ s. contents (two None s) (bent ∷ [])) (prune-line (λ (p : Point). p) (line_renumbered (used_in ((false, pos 2 ∷ []) ∷ []))) (pos 2 ∷ []))
+
+row_assembled : assembled kept layers ≡ contents (two None (Some (g.Line (pos 0 ∷ [])))) (bent ∷ [])
+unfolding assembled lessened_by
+row_assembled =
+    ap (λ ls. trimmed (contents (objects_pruned (large_refs (picked_arcs kept (map (reduced 0) (all_arcs ls)))) (objects_by (kept_refs ls 0) layers)) (picked_arcs kept (map (reduced 0) (all_arcs ls))))) lines_are
+    ∙ ap (λ arcs. trimmed (contents (objects_pruned (large_refs arcs) (objects_by (kept_refs lines 0) layers)) arcs)) arcs_picked
+    ∙ ap (λ os. trimmed (contents (objects_pruned (large_refs fewer) os) fewer)) objects_at_zero
+    ∙ ap (λ os. trimmed (contents os fewer)) objects_left ∙ trimmed_left

@@ -1,5 +1,5 @@
 // The least and the greatest coordinates of layers.
-ghost use Rattle.std.specs.Prelude.{◌≡◌, None};
+ghost use Rattle.std.specs.Prelude.{◌≡◌, None, map};
 ghost use Rattle.std.specs.Option.{option_copied};
 ghost use Rattle.geometry.specs.Lists.{joined};
 ghost use Rattle.geojson_types.specs.Places.{features_points, option_points, shape_points};
@@ -7,7 +7,7 @@ ghost use Rattle.grid_snap.specs.Bounds.{widened, widened_by};
 ghost use Rattle.grid_snap.specs.Snapping.{layers_points};
 
 use geojson_types::{Feature, Geometry, Layer, Position, Ring, Shape};
-use json_value::Items;
+use json_value::{Items, OwnText};
 
 /// The least and the greatest coordinates, in units.
 #[derive(Clone, Copy)]
@@ -133,6 +133,17 @@ pub(crate) fn bounds_of(layers: &[Layer]) -> Option<Bounds>
     let mut all = None;
     'layers: for layer in layers {
         all = with_features(all, layer.features.as_slice());
+    }
+    all
+}
+
+/// Those of layers with names.
+pub(crate) fn bounds_of_named(layers: &[(OwnText, Layer)]) -> Option<Bounds>
+    ensures { result ≡ widened_by None (layers_points (map (λ l. l.1) layers.now)) }
+{
+    let mut all = None;
+    'layers: for layer in layers {
+        all = with_features(all, layer.1.features.as_slice());
     }
     all
 }

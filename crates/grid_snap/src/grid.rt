@@ -1,14 +1,16 @@
 // The grid of layers.
-ghost use Rattle.std.specs.Prelude.{◌≡◌, ◌≤◌, pos, true};
+ghost use Rattle.std.specs.Prelude.{◌≡◌, ◌≤◌, pos, true, List, None, map};
 ghost use Rattle.std.specs.List.{AllByRecursion};
-ghost use Rattle.geometry.specs.Points.{IsInput};
+ghost use Rattle.geometry.specs.Points.{IsInput, Point};
 ghost use Rattle.grid_snap.specs.Axes.{IsCell, IsGrid, count_limit, grid_over, snapped};
 ghost use Rattle.grid_snap.specs.Axes as spec;
+ghost use Rattle.grid_snap.specs.Bounds.{AreBoundsIfSome, widened_by};
 ghost use Rattle.grid_snap.specs.Snapping.{layers_points};
 
 use crate::axis::{Axis, axis_over};
-use crate::bounds::bounds_of;
+use crate::bounds::{Bounds, bounds_of, bounds_of_named};
 use geojson_types::{Layer, Moves, Position};
+use json_value::OwnText;
 use std::marker::Model;
 
 /// A grid over layers: so many equally spaced coordinates in each direction. A cell of it is the numbers of its coordinates, x
@@ -30,6 +32,20 @@ impl Model for Grid {
 }
 
 impl Grid {
+    /// The grid of so many coordinates in each direction from the least coordinates to the greatest or farther.
+    fn within(bounds: Option<Bounds>, count: u32) -> Option<Grid>
+        requires some { 2 ≤ count }
+        requires few { count ≤ count_limit }
+        requires bounds { AreBoundsIfSome bounds }
+        ensures { (ps : List Point) → widened_by None ps ≡ bounds → result ≡ grid_over count ps }
+    {
+        let bounds = bounds?;
+        Some(Grid {
+            across: axis_over(count, bounds.left, bounds.right),
+            up: axis_over(count, bounds.bottom, bounds.top),
+        })
+    }
+
     /// The grid of so many coordinates in each direction over the positions of all layers, those of Points too: from the least
     /// coordinate to the greatest or farther, in the least step of whole units that serves. `None` where there is no position.
     pub fn over(layers: &[Layer], count: u32) -> Option<Grid>
@@ -38,11 +54,17 @@ impl Grid {
         requires inputs { AllByRecursion IsInput (layers_points layers.now) }
         ensures { result ≡ grid_over count (layers_points layers.now) }
     {
-        let bounds = bounds_of(layers)?;
-        Some(Grid {
-            across: axis_over(count, bounds.left, bounds.right),
-            up: axis_over(count, bounds.bottom, bounds.top),
-        })
+        Grid::within(bounds_of(layers), count)
+    }
+
+    /// The same over layers with names.
+    pub fn over_named(layers: &[(OwnText, Layer)], count: u32) -> Option<Grid>
+        requires some { 2 ≤ count }
+        requires few { count ≤ count_limit }
+        requires inputs { AllByRecursion IsInput (layers_points (map (λ l. l.1) layers.now)) }
+        ensures { result ≡ grid_over count (layers_points (map (λ l. l.1) layers.now)) }
+    {
+        Grid::within(bounds_of_named(layers), count)
     }
 
     /// What each grid keeps. A call does nothing; its contract is what `Grid` keeps.

@@ -1,0 +1,4 @@
+pub mod Kept
+pub mod OnGrid
+mod Rows
+pub mod Snapped

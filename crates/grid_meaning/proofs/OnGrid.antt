@@ -1,0 +1,75 @@
+-- Topologies whose positions lie on a grid, put on that grid.
+use Rattle.std.proofs.Common.{List, None, Some, refl}
+use Rattle.std.specs.List.{AllByRecursion}
+use Rattle.build_meaning.specs.Laws.{DecodesBack, IsValid}
+use Rattle.elimination_meaning.specs.Laws.{NoneIsNew}
+use Rattle.geometry.specs.Points.{Point}
+use Rattle.grid_snap.specs.Axes.{Axes, IsGrid, cell}
+use Rattle.grid_transform.specs.GridTransforms.{transform_of}
+use Rattle.grid_transform.proofs.Lying.{has_transform, lie_there, on_grid}
+use Rattle.lessened_topology.specs.Celled.{LiesBack, IsOnGrid, EachCell, objects_places}
+use Rattle.lessened_topology.specs.Laws.{BuiltIsValidOnGrid, DecodesBackOnGrid, LessensToBuilt, LessensToBuiltOnGrid}
+use Rattle.lessened_topology.proofs.BuiltCells.{built_cells}
+use Rattle.lessened_topology.proofs.CelledDecoding.{celled_decodes}
+use Rattle.lessened_topology.proofs.ValidCelled.{celled_is_valid}
+use Rattle.list_laws.proofs.Elements.{all_weaker}
+use Rattle.topojson_types.specs.Topologies.{Contents}
+use Rattle.grid_meaning.specs.Gridded.{IsOn, named_points}
+use Rattle.grid_meaning.specs.Laws.{GriddedIsValid, GriddedDecodes, BuiltCellsAreOn, BuiltIsValidGridded, BuiltDecodesGridded, LessensGridded}
+
+-- ---- cells of positions on the grid
+
+module _ (g : Axes) (grid : IsGrid g) where
+  abbrev On : Point → Type 0
+  On = IsOn (Some g)
+
+  abbrev Lies : Point → Type 0
+  Lies = LiesBack (transform_of g) (cell g)
+
+  abbrev Placed : Point → Type 0
+  Placed = IsOnGrid (transform_of g) (cell g)
+
+  lies : (p : Point) → On p → Lies p
+  lies p on = (lie_there g p grid on.0).stays on.1
+
+  is_placed : (p : Point) → On p → Placed p
+  is_placed p on = ((on_grid g p grid on.0).0, lies p on)
+
+  all_lie : (ps : List Point) → AllByRecursion On ps → AllByRecursion Lies ps
+  all_lie ps h = all_weaker On Lies lies ps h
+
+  all_placed : (ps : List Point) → AllByRecursion On ps → AllByRecursion Placed ps
+  all_placed ps h = all_weaker On Placed is_placed ps h
+
+-- ---- topologies
+
+each_cell : (X Y : Point → Type 0) → ((ps : List Point) → AllByRecursion X ps → AllByRecursion Y ps) → (y : Contents) → EachCell X y → EachCell Y y
+each_cell X Y f y h = (all_weaker (λ a. AllByRecursion X a) (λ a. AllByRecursion Y a) f y.arcs h.0, f (objects_places y.objects) h.1)
+
+pub gridded_valid : GriddedIsValid
+gridded_valid None y grid plain on h = h
+gridded_valid (Some g) y grid plain on h =
+    celled_is_valid (transform_of g) (cell g) y (has_transform g grid) plain (each_cell (IsOn (Some g)) (IsOnGrid (transform_of g) (cell g)) (all_placed g grid) y on) h
+
+pub gridded_decodes : GriddedDecodes
+gridded_decodes None y name grid plain on = refl
+gridded_decodes (Some g) y name grid plain on =
+    celled_decodes (transform_of g) (cell g) y name plain (each_cell (IsOn (Some g)) (LiesBack (transform_of g) (cell g)) (all_lie g grid) y on)
+
+-- ---- what is built
+
+pub built_on : NoneIsNew → BuiltCellsAreOn
+built_on none g t ls on = built_cells none (IsOn g) t ls on.1
+
+pub built_valid : IsValid → BuiltIsValidOnGrid → BuiltIsValidGridded
+built_valid valid celled None t ls on sound distinct = valid t ls sound distinct
+built_valid valid celled (Some g) t ls on sound distinct =
+    celled (transform_of g) (cell g) t ls (has_transform g on.0) sound distinct (all_placed g on.0 (named_points ls) on.1)
+
+pub built_decodes : DecodesBack → DecodesBackOnGrid → BuiltDecodesGridded
+built_decodes back celled None t ls on sound distinct = back t ls sound distinct
+built_decodes back celled (Some g) t ls on sound distinct = celled (transform_of g) (cell g) t ls sound distinct (all_lie g on.0 (named_points ls) on.1)
+
+pub lessens : LessensToBuilt → LessensToBuiltOnGrid → LessensGridded
+lessens plain celled None t ls on sound = plain t ls sound
+lessens plain celled (Some g) t ls on sound = celled (transform_of g) (cell g) t ls sound (all_lie g on.0 (named_points ls) on.1)

@@ -1,0 +1,147 @@
+-- Layers that are snapped to the grid over them lie on it, and are as sound as before.
+use Rattle.std.proofs.Common.{◌≡◌, ℕ, ◌≤◌, true, List, [], ◌∷◌, ◌+◌, map, Option, None, Some, refl, sym, ap, ◌∙◌, subst}
+use Rattle.std.specs.List.{AllByRecursion}
+use Rattle.build_meaning.specs.Laws.{IsSound, AreSound}
+use Rattle.build_meaning.specs.Layers.{Named, names_of}
+use Rattle.geojson_types.specs.Features.{Featured, Shape}
+use Rattle.geojson_types.specs.Moving.{moved, moved_feature}
+use Rattle.geojson_types.specs.Nesting.{nesting, option_nesting, feature_nesting}
+use Rattle.geojson_types.specs.Numbers.{FeatureHasNumbers}
+use Rattle.geojson_types.specs.Places.{option_points, features_points}
+use Rattle.geojson_types.proofs.Nestings.{nesting_at}
+use Rattle.geometry.specs.Lists.{map_some}
+use Rattle.geometry.specs.Points.{Point}
+use Rattle.geometry.proofs.Induction.{by_kinds}
+use Rattle.geometry.proofs.MovedShapes.{moved_at, option_points_moved}
+use Rattle.grid_snap.specs.Axes.{Axes, IsGrid, covers, snapped, grid_over}
+use Rattle.grid_snap.specs.Laws.{IsAsSound, Settles}
+use Rattle.grid_snap.proofs.Layered.{snapped_sound}
+use Rattle.grid_snap.proofs.Least.{covers_all, grid_made}
+use Rattle.grid_snap.proofs.Settled.{settled}
+use Rattle.json_value.specs.Depth.{greatest}
+use Rattle.list_laws.proofs.Elements.{all_weaker, all_left, all_right, all_append, all_map}
+use Rattle.grid_meaning.specs.Gridded.{named_points, IsCount, AreInputs, snapped_named, IsOn}
+use Rattle.grid_meaning.specs.Laws.{IsSnapped, SnappedAreOn, EachFeature, SnappedKeep}
+
+pub all_hold : {A : Type 0} (X : A → Type 0) → ((a : A) → X a) → (xs : List A) → AllByRecursion X xs
+all_hold X f [] = tt
+all_hold X f (x ∷ xs) = (f x, all_hold X f xs)
+
+names_stay : (g : Option Axes) (ls : Named) → names_of (snapped_named g ls) ≡ names_of ls
+names_stay None ls = refl
+names_stay (Some g) [] = refl
+names_stay (Some g) (l ∷ ls) = ap (λ ns. l.0 ∷ ns) (names_stay (Some g) ls)
+
+-- ---- on a grid
+
+module _ (g : Axes) (grid : IsGrid g) where
+  abbrev Covered : Point → Type 0
+  Covered p = covers g p ≡ true
+
+  abbrev AllOn : List Point → Type 0
+  AllOn ps = AllByRecursion (IsOn (Some g)) ps
+
+  lands : (p : Point) → Covered p → IsOn (Some g) (snapped g p)
+  lands p h = let s : Settles g p = settled g p grid h in (s.covered, s.again)
+
+  feature_lands : (f : Featured) → AllByRecursion Covered (option_points f.shape) → AllOn (option_points (moved_feature (snapped g) f).shape)
+  feature_lands f h =
+      subst AllOn (sym (option_points_moved (snapped g) f.shape))
+      (all_map (IsOn (Some g)) (snapped g) (option_points f.shape) (all_weaker Covered (λ p. IsOn (Some g) (snapped g p)) lands (option_points f.shape) h))
+
+  features_land : (fs : List Featured) → AllByRecursion Covered (features_points fs) → AllOn (features_points (map (moved_feature (snapped g)) fs))
+  features_land [] h = tt
+  features_land (f ∷ fs) h =
+      all_append (IsOn (Some g)) (option_points (moved_feature (snapped g) f).shape) (features_points (map (moved_feature (snapped g)) fs))
+      (feature_lands f (all_left Covered (option_points f.shape) (features_points fs) h))
+      (features_land fs (all_right Covered (option_points f.shape) (features_points fs) h))
+
+  layers_land : (ls : Named) → AllByRecursion Covered (named_points ls) → AllOn (named_points (snapped_named (Some g) ls))
+  layers_land [] h = tt
+  layers_land (l ∷ ls) h =
+      all_append (IsOn (Some g)) (features_points (map (moved_feature (snapped g)) l.1.features)) (named_points (snapped_named (Some g) ls))
+      (features_land l.1.features (all_left Covered (features_points l.1.features) (named_points ls) h))
+      (layers_land ls (all_right Covered (features_points l.1.features) (named_points ls) h))
+
+  feature_sound : (f : Featured) → IsSound f → AllByRecursion Covered (option_points f.shape) → IsSound (moved_feature (snapped g) f)
+  feature_sound f s h =
+      let k : IsAsSound g f (moved_feature (snapped g) f) = snapped_sound g f grid h in
+      record { proper = k.proper ∙ s.proper; rings = k.rings s.rings; places = k.places }
+
+  features_sound : (fs : List Featured) → AllByRecursion IsSound fs → AllByRecursion Covered (features_points fs) → AllByRecursion IsSound (map (moved_feature (snapped g)) fs)
+  features_sound [] s h = tt
+  features_sound (f ∷ fs) s h = (
+    feature_sound f s.0 (all_left Covered (option_points f.shape) (features_points fs) h),
+    features_sound fs s.1 (all_right Covered (option_points f.shape) (features_points fs) h),
+  )
+
+  layers_sound : (ls : Named) → AreSound ls → AllByRecursion Covered (named_points ls) → AreSound (snapped_named (Some g) ls)
+  layers_sound [] s h = tt
+  layers_sound (l ∷ ls) s h = (
+    features_sound l.1.features s.0 (all_left Covered (features_points l.1.features) (named_points ls) h),
+    layers_sound ls s.1 (all_right Covered (features_points l.1.features) (named_points ls) h),
+  )
+
+-- ---- on the grid that is asked for
+
+without : (ls : Named) → AreSound ls → IsSnapped None ls (snapped_named None ls)
+without ls sound = record { sound = sound; names = refl; on = (tt, all_hold (IsOn None) (λ p. tt) (named_points ls)) }
+
+by_grid : (count : ℕ) (ls : Named) → IsCount (Some count) → AreSound ls → AreInputs ls → (o : Option Axes) → grid_over count (named_points ls) ≡ o
+    → IsSnapped o ls (snapped_named o ls)
+by_grid count ls n sound inputs None e = without ls sound
+by_grid count ls n sound inputs (Some g) e =
+    let grid : IsGrid g = grid_made count (named_points ls) g n.0 n.1 inputs e in
+    let covered = covers_all count (named_points ls) g n.0 e in
+    record { sound = layers_sound g grid ls sound covered; names = names_stay (Some g) ls; on = (grid, layers_land g grid ls covered) }
+
+pub snapped_on : SnappedAreOn
+snapped_on None ls n sound inputs = without ls sound
+snapped_on (Some count) ls n sound inputs = by_grid count ls n sound inputs (grid_over count (named_points ls)) refl
+
+-- ---- what stays beside positions
+
+module _ (f : Point → Point) where
+  abbrev Nests : Shape → Type 0
+  Nests s = nesting (moved f s) ≡ nesting s
+
+  members_nest : (ss : List Shape) → AllByRecursion Nests ss → greatest (map nesting (map (moved f) ss)) ≡ greatest (map nesting ss)
+  members_nest [] all = refl
+  members_nest (s ∷ ss) all = rw (all.0, members_nest ss all.1) refl
+
+  moved_nests : (s : Shape) → nesting (moved f s) ≡ nesting s
+  moved_nests =
+      let at = nesting_at Point (List Point) in
+      by_kinds Nests (record {
+        point = λ p. ap nesting ((moved_at f).point p) ∙ at.point (f p) ∙ sym (at.point p);
+        points = λ ps. ap nesting ((moved_at f).points ps) ∙ at.points (map f ps) ∙ sym (at.points ps);
+        line = λ ps. ap nesting ((moved_at f).line ps) ∙ at.line (map f ps) ∙ sym (at.line ps);
+        lines = λ ls. ap nesting ((moved_at f).lines ls) ∙ at.lines (map (map f) ls) ∙ sym (at.lines ls);
+        area = λ rs. ap nesting ((moved_at f).area rs) ∙ at.area (map (map f) rs) ∙ sym (at.area rs);
+        areas = λ rss. ap nesting ((moved_at f).areas rss) ∙ at.areas (map (map (map f)) rss) ∙ sym (at.areas rss);
+        group = λ ss all. ap nesting ((moved_at f).group ss) ∙ at.group (map (moved f) ss) ∙ ap (λ n. 2 + n) (members_nest ss all) ∙ sym (at.group ss);
+      })
+
+  option_nests : (s : Option Shape) → option_nesting (map_some (moved f) s) ≡ option_nesting s
+  option_nests None = refl
+  option_nests (Some s) = moved_nests s
+
+  features_nest : (n : ℕ) (fs : List Featured) → AllByRecursion (λ x. feature_nesting x ≤ n) fs → AllByRecursion (λ x. feature_nesting x ≤ n) (map (moved_feature f) fs)
+  features_nest n [] h = tt
+  features_nest n (x ∷ fs) h = (rw (option_nests x.shape) h.0, features_nest n fs h.1)
+
+  features_number : (fs : List Featured) → AllByRecursion FeatureHasNumbers fs → AllByRecursion FeatureHasNumbers (map (moved_feature f) fs)
+  features_number [] h = tt
+  features_number (x ∷ fs) h = (h.0, features_number fs h.1)
+
+layers_nest : (g : Axes) (n : ℕ) (ls : Named) → EachFeature (λ f. feature_nesting f ≤ n) ls → EachFeature (λ f. feature_nesting f ≤ n) (snapped_named (Some g) ls)
+layers_nest g n [] h = tt
+layers_nest g n (l ∷ ls) h = (features_nest (snapped g) n l.1.features h.0, layers_nest g n ls h.1)
+
+layers_number : (g : Axes) (ls : Named) → EachFeature FeatureHasNumbers ls → EachFeature FeatureHasNumbers (snapped_named (Some g) ls)
+layers_number g [] h = tt
+layers_number g (l ∷ ls) h = (features_number (snapped g) l.1.features h.0, layers_number g ls h.1)
+
+pub snapped_keep : SnappedKeep
+snapped_keep None ls = record { nests = λ n h. h; numbers = λ h. h }
+snapped_keep (Some g) ls = record { nests = λ n h. layers_nest g n ls h; numbers = λ h. layers_number g ls h }

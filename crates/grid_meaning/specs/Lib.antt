@@ -1,0 +1,2 @@
+pub mod Gridded
+pub mod Laws

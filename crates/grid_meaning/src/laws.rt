@@ -1,0 +1,65 @@
+// Laws of the definitions. A function here changes nothing: its contract is the law.
+ghost use Rattle.grid_meaning.specs.Laws.{BuiltCellsAreOn, BuiltDecodesGridded, BuiltIsValidGridded, GriddedDecodes, GriddedIsValid, GriddedKeeps, LessensGridded, SnappedAreOn, SnappedKeep};
+
+use build_meaning::{built_decodes_back, built_is_valid};
+use elimination_meaning::nothing_is_new;
+use lessened_topology::{
+    built_decodes_back_on_grid, built_is_valid_on_grid, lessens_to_built, lessens_to_built_on_grid,
+};
+
+/// Sound layers snapped to the grid that is asked for are sound under the same names, and each of their positions lies on the grid.
+pub fn snapped_are_on()
+    ensures { SnappedAreOn }
+{}
+
+/// Snapped layers nest no deeper, and their numbers stay numbers.
+pub fn snapped_keep()
+    ensures { SnappedKeep }
+{}
+
+/// A valid topology without a transform each of whose positions lies on the grid is valid on the grid.
+pub fn gridded_is_valid()
+    ensures { GriddedIsValid }
+{}
+
+/// It decodes to the same on the grid.
+pub fn gridded_decodes()
+    ensures { GriddedDecodes }
+{}
+
+/// On the grid it has the same names, identifiers and properties, and as many arcs, each as long.
+pub fn gridded_keeps()
+    ensures { GriddedKeeps }
+{}
+
+/// Each position of what is built of layers that lie on the grid lies on it.
+pub fn built_cells_are_on()
+    ensures { BuiltCellsAreOn }
+{
+    nothing_is_new();
+}
+
+/// What is built of such layers is valid on the grid.
+pub fn built_is_valid_gridded()
+    ensures { BuiltIsValidGridded }
+{
+    built_is_valid();
+    built_is_valid_on_grid();
+}
+
+/// Decoding it gives each layer the features that are expected of it.
+pub fn built_decodes_gridded()
+    ensures { BuiltDecodesGridded }
+{
+    built_decodes_back();
+    built_decodes_back_on_grid();
+}
+
+/// What is built of such layers at a threshold of zero, put on the grid and then reduced, is what is built at the threshold, put on
+/// the grid.
+pub fn lessens_gridded()
+    ensures { LessensGridded }
+{
+    lessens_to_built();
+    lessens_to_built_on_grid();
+}

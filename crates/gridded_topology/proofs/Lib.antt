@@ -1,0 +1,3 @@
+pub mod Agreeing
+pub mod Covered
+pub mod Snapping

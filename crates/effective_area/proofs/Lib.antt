@@ -6,3 +6,4 @@ pub mod Products
 pub mod Queues
 pub mod Scan
 pub mod Turns
+pub mod Weighed

@@ -19,7 +19,7 @@ use Rattle.effective_area.proofs.Scan.{step_some, step_none, step_over, without_
 use Rattle.effective_area.specs.declared.links.Link.{Link}
 use Rattle.effective_area.specs.declared.entry.Entry.{Entry}
 use Rattle.effective_area.specs.Chains.{Chain, last_of}
-use Rattle.effective_area.specs.Links.{after_in, before_in, entry_at, entry_cmp, turned, IsCurrent, IsSound, IsLinked, Covers, Unlinks, LeavesCurrent, IsState, IsFirst, IsUnder, Fits, Pushed, HasCorners, entry_in}
+use Rattle.effective_area.specs.Links.{after_in, before_in, entry_at, entry_cmp, turned, IsCurrent, IsSound, IsLinked, Covers, Unlinks, LeavesCurrent, IsState, IsTakenOut, TakesFirst, IsFirst, IsUnder, Fits, Pushed, HasCorners, entry_in}
 use Rattle.effective_area.proofs.Queues.{pushed_behind}
 use Rattle.effective_area.proofs.ChainLaws.{same_or_not, keep_step, drop_step, kept_above, above_from, named, cut_out, all_corners, in_corners, least_is}
 
@@ -291,7 +291,7 @@ range_last : (u k : ℕ) → last_of u (range_with_len (u + 1) k) ≡ u + k
 range_last u zero = omega arith
 range_last u (suc k) = range_last (u + 1) k ∙ omega arith
 
-range_in : (u k j : ℕ) → u < j → j ≤ u + k → In j (range_with_len (u + 1) k)
+pub range_in : (u k j : ℕ) → u < j → j ≤ u + k → In j (range_with_len (u + 1) k)
 range_in u zero j h l = absurd (omega arith)
 range_in u (suc k) j h l = on (same_or_not j (u + 1)) (λ m. range_in (u + 1) k j m (omega arith))
   where
@@ -365,24 +365,34 @@ corners_over t ps links (v ∷ vs) h c =
     on w p q n (inl u) = let k = c w p q n u in absurd (omega (arith, k.1))
     on w p q n (inr o) = o
 
--- the end where no current entry is left
-pub end_none : (t : ℕ) (ps : List Point) (links : List Link) (items mid : List (Reverse Entry)) (left : ℕ) (vs : List ℕ) →
-    IsState t ps links items left vs → LeavesCurrent links items None mid → mid ≡ [] → 0 ∷ vs ≡ reduce t ps
-end_none t ps links items mid left vs s l em =
+-- where no current entry is left, no corner is under the threshold
+pub none_under : (t : ℕ) (ps : List Point) (links : List Link) (items mid : List (Reverse Entry)) (left : ℕ) (vs : List ℕ) →
+    IsState t ps links items left vs → LeavesCurrent links items None mid → mid ≡ [] → AllByRecursion (λ c. t ≤ c.area) (corners (vertices ps (0 ∷ vs)))
+none_under t ps links items mid left vs s l em =
     let c : Covers t ps links [] = λ v p q n u.
     subst (λ (x : List (Reverse Entry)). Contains x (turned (entry_in ps links v))) em
     (on (entry_in ps links v) (l.stays (entry_in ps links v) (s.covers v p q n u) (current_at ps links v (omega (arith, q))))) in
-    settled t ps (0 ∷ vs) (sym (none_taken (left + 2) t (vertices ps (0 ∷ vs)) (corners_over t ps links vs s.linked c)) ∙ s.rest)
+    corners_over t ps links vs s.linked c
   where
     on : (d : Entry) → (◌≡◌ {A = Option Entry} None (Some d)) ⊎ Contains mid (turned d) → Contains mid (turned d)
     on d (inl p) = absurd (cc)
     on d (inr p) = p
 
+-- and those that are present stay
+pub end_none : (t : ℕ) (ps : List Point) (links : List Link) (items : List (Reverse Entry)) (left : ℕ) (vs : List ℕ) →
+    IsState t ps links items left vs → AllByRecursion (λ c. t ≤ c.area) (corners (vertices ps (0 ∷ vs))) → 0 ∷ vs ≡ reduce t ps
+end_none t ps links items left vs s h = settled t ps (0 ∷ vs) (sym (none_taken (left + 2) t (vertices ps (0 ∷ vs)) h) ∙ s.rest)
+
+-- the links are theirs
+pub none_first : (t : ℕ) (ps : List Point) (links links' : List Link) (items items' : List (Reverse Entry)) (left : ℕ) (vs : List ℕ) →
+    IsState t ps links items left vs → TakesFirst t ps links' items' left vs None → (x : List ℕ) × IsLinked links' x × (0 ∷ x ≡ reduce t ps)
+none_first t ps links links' items items' left vs s h = (vs, h.0, end_none t ps links items left vs s h.1)
+
 -- a turn with its two pushes
 pub turn_state : (t : ℕ) (ps : List Point) (links links' : List Link) (items mid one two : List (Reverse Entry)) (left : ℕ) (vs : List ℕ) (e : Entry) →
     IsState t ps links items left vs → LeavesCurrent links items (Some e) mid → IsCurrent links e →
     Unlinks links links' e.before e.corner.index e.after → Pushed t ps links' mid one e.before → Pushed t ps links' one two e.after →
-    (0 < left) × ((ws : List ℕ) × IsState t ps links' two (left - 1) ws)
+    IsTakenOut t ps links' two left vs e.corner
 turn_state t ps links links' items mid one two left vs e s l cur un p q =
     let sound = so t ps links links' items mid two left vs e s l cur in
     let n = next_state t ps links links' items mid two left vs e s l cur un
@@ -390,7 +400,14 @@ turn_state t ps links links' items mid one two left vs e s l cur un p q =
     (λ h u. q.has (entry_in ps links' e.before) (p.here h (omega (arith, sound.before, sound.after, sound.within, s.size, un.same)) u))
     (λ h u. q.here (omega (arith, sound.after)) h u)
     (λ d h. on d (q.only d h)) in
-    (omega (arith, n.many, s.many, one_less (after_in links) (before_in links) 0 e.corner.index vs s.linked.chain (in_vs t ps links links' items mid two left vs e s l cur)), (_, n))
+    record {
+      some = some_left t ps links links' items mid two left vs e s l cur un;
+      first = is_least t ps links links' items mid two left vs e s l cur;
+      present = in_vs t ps links links' items mid two left vs e s l cur;
+      later = omega (arith, sound.before);
+      within = omega (arith, sound.after, sound.within);
+      rest = n;
+    }
   where
     on : (d : Entry) → Contains one (turned d) ⊎ IsUnder t ps links' e.after d → Contains mid (turned d) ⊎ ((v : ℕ) × ((v ≡ e.before) ⊎ (v ≡ e.after)) × IsUnder t ps links' v d)
     on d (inl k) = elim (p.only d k) [ inl m ↦ inl m | inr m ↦ inr (e.before, inl refl, m) ]
@@ -400,7 +417,7 @@ turn_state t ps links links' items mid one two left vs e s l cur un p q =
 pub turn_behind : (t : ℕ) (ps : List Point) (links links' : List Link) (items xs mid one two : List (Reverse Entry)) (left : ℕ) (vs : List ℕ) (e : Entry) →
     IsState t ps links items left vs → LeavesCurrent links items (Some e) (xs ++ mid) → IsCurrent links e →
     Unlinks links links' e.before e.corner.index e.after → Pushed t ps links' mid one e.before → Pushed t ps links' one two e.after →
-    (0 < left) × ((ws : List ℕ) × IsState t ps links' (xs ++ two) (left - 1) ws)
+    IsTakenOut t ps links' (xs ++ two) left vs e.corner
 turn_behind t ps links links' items xs mid one two left vs e s l cur un p q =
     turn_state t ps links links' items (xs ++ mid) (xs ++ one) (xs ++ two) left vs e s l cur un
     (pushed_behind t ps links' xs mid one e.before p) (pushed_behind t ps links' xs one two e.after q)

@@ -1,13 +1,15 @@
 -- Links and entries.
-use Rattle.std.specs.Prelude.{pred, ◌≡◌, ◌≢◌, ℕ, ◌+◌, ◌<◌, ◌≤◌, ◌⊎◌, List, [], ◌∷◌, slice_index_or, Option, Some, Contains, length, false}
+use Rattle.std.specs.Prelude.{not, ◌==◌, ◌-◌, None, pred, ◌≡◌, ◌≢◌, ℕ, ◌+◌, ◌<◌, ◌≤◌, ◌⊎◌, List, [], ◌∷◌, slice_index_or, Option, Some, Contains, length, false}
 use Rattle.std.specs.BinaryHeap.{IsUpperBound}
+use Rattle.std.specs.List.{filter, AllByRecursion}
 use Rattle.std.specs.Ordering.{ordering_then, is_lt, nat_cmp}
 use Rattle.std.specs.declared.cmp.Ordering.{Ordering}
 use Rattle.std.specs.declared.cmp.Reverse.{Reverse}
 use Rattle.geometry.specs.Lists.{In}
 use Rattle.geometry.specs.Points.{Point}
-use Rattle.elimination_meaning.specs.Elimination.{corner_at, corner_cmp, eliminate, numbered}
+use Rattle.elimination_meaning.specs.Elimination.{corner_at, corner_cmp, corners, eliminate, least, numbered}
 use Rattle.effective_area.specs.Vertices.{vertex_at, vertices, seen, candidate}
+use Rattle.effective_area.specs.declared.candidate.Candidate.{Candidate}
 use Rattle.effective_area.specs.declared.links.Link.{Link}
 use Rattle.effective_area.specs.declared.entry.Entry.{Entry}
 use Rattle.effective_area.specs.Chains.{Chain, last_of}
@@ -100,6 +102,20 @@ pub record IsState (t : ℕ) (ps : List Point) (links : List Link) (items : List
   pub sound : (d : Entry) → Contains items (turned d) → IsSound t ps d
   pub many : length vs ≡ left + 1
   pub rest : eliminate (left + 2) t (vertices ps (0 ∷ vs)) ≡ eliminate (length ps) t (numbered 0 ps)
+
+-- of those that are present, this first corner was taken out, and this is the state behind it
+pub record IsTakenOut (t : ℕ) (ps : List Point) (links : List Link) (items : List (Reverse Entry)) (left : ℕ) (vs : List ℕ) (c : Candidate) : Type 0 where
+  pub some : 0 < left
+  pub first : least (corners (vertices ps (0 ∷ vs))) ≡ Some (seen c)
+  pub present : In c.index vs
+  pub later : 0 < c.index
+  pub within : c.index < length ps
+  pub rest : IsState t ps links items (left - 1) (filter (λ v. not (v == c.index)) vs)
+
+-- the first corner is taken out, or none is under the threshold
+abbrev pub TakesFirst : ℕ → List Point → List Link → List (Reverse Entry) → ℕ → List ℕ → Option Candidate → Type 0
+TakesFirst t ps links items left vs (Some c) = IsTakenOut t ps links items left vs c
+TakesFirst t ps links items left vs None = IsLinked links vs × AllByRecursion (λ c. t ≤ c.area) (corners (vertices ps (0 ∷ vs)))
 
 pub record IsFirst (links : List Link) (n : ℕ) : Type 0 where
   pub size : length links ≡ n

@@ -1,15 +1,17 @@
 ghost use Rattle.std.specs.Prelude.{◌≡◌, ℕ, ◌+◌, ◌-◌, ◌*◌, ◌<◌, ◌≤◌, ◌++◌, IfOk, OnOk, List, ◌∷◌, length};
 ghost use Rattle.std.specs.BinaryHeap.{heap_items, IsHeap};
+ghost use Rattle.std.specs.List.{range_with_len};
 ghost use Rattle.std.specs.List.Sorted.{IsSorted};
 ghost use Rattle.effective_area.specs.Counts.{RoseAtMost, no_steps};
 ghost use Rattle.effective_area.specs.Links.{HasCorners, IsFirst, IsLinked, IsState, rentry_cmp};
 ghost use Rattle.elimination_meaning.specs.Elimination.{reduce};
 
 use crate::entry::Entry;
-use crate::links::{Link, first_links, present, unlink};
+use crate::links::{Link, first_links, present};
 use crate::reducer::Reducer;
 use crate::steps::Steps;
-use crate::waiting::{pop_current, push_corner, put_corner};
+use crate::taking::take_first;
+use crate::waiting::put_corner;
 use geometry::Position;
 use owned_values::Memory;
 use std::alloc::Global;
@@ -37,6 +39,26 @@ fn first_entries(
     Ok(entries)
 }
 
+/// The corners of a whole line that are under the threshold, in their order. They are sorted once, which takes less time than a
+/// heap of them all; those that come later are put on a heap.
+pub fn sorted_entries(
+    alloc: Global,
+    steps: &mut Steps,
+    arc: &[Position],
+    links: &[Link],
+    t: u128,
+) -> Result<Vec<Reverse<Entry>>, Memory>
+    requires two { 2 ≤ length arc.now }
+    requires first { IsFirst links.now (length arc.now) }
+    ensures sorted { IfOk result (λ entries. IsSorted rentry_cmp entries.items) }
+    ensures state { IfOk result (λ entries. IsState t arc.now links.now entries.items (length arc.now - 2) (range_with_len 1 (length arc.now - 1))) }
+    ensures counted { RoseAtMost (length arc.now - 2) steps.old steps.new }
+{
+    let mut entries = first_entries(alloc, steps, arc, links, t)?;
+    entries.sort()?;
+    Ok(entries)
+}
+
 /// Takes out corners under the threshold, the first of all each time.
 fn eliminate(
     sorted: &mut Vec<Reverse<Entry>>,
@@ -54,17 +76,13 @@ fn eliminate(
     ensures counted { RoseAtMost (2 * (length arc.now - 2)) steps.old steps.new }
 {
     let mut left = arc.len() - 2;
-    while let Some(entry) = pop_current(sorted, heap, links) {
-        unlink(links, entry.before, entry.corner.index, entry.after);
-        push_corner(heap, steps, arc, links, t, entry.before)?;
-        push_corner(heap, steps, arc, links, t, entry.after)?;
+    'corners: while let Some(_corner) = take_first(sorted, heap, steps, arc, links, t)? {
         left -= 1;
     }
     Ok(())
 }
 
-/// The indexes that stay, over links from each index to the next. The corners of the whole line are sorted once, which takes
-/// less time than a heap of them all; those that come later are on a heap.
+/// The indexes that stay, over links from each index to the next.
 fn kept_by(
     alloc: Global,
     steps: &mut Steps,
@@ -77,8 +95,7 @@ fn kept_by(
     ensures kept { IfOk result (λ kept. kept.items ≡ reduce t arc.now) }
     ensures counted { RoseAtMost (3 * (length arc.now - 2)) steps.old steps.new }
 {
-    let mut sorted = first_entries(alloc, steps, arc, links, t)?;
-    sorted.sort()?;
+    let mut sorted = sorted_entries(alloc, steps, arc, links, t)?;
     let mut heap = BinaryHeap::new(alloc);
     eliminate(&mut sorted, &mut heap, steps, arc, links, t)?;
     present(alloc, links)

@@ -2,6 +2,7 @@
 //! stands on `elimination_meaning`, which says what stays of a line. The layer above uses the law of the trait `Reducer`: its
 //! answer is that definition's list of indexes. `Rescan` looks through the whole line for each position that it takes out;
 //! `HeapLinks` keeps the corners in a heap, takes time n log n, and promises how many steps it counts.
+//! `weights` goes the same way without a threshold, and tells up to which one each position stays.
 #![tactic(auto)]
 
 mod candidate;
@@ -11,9 +12,14 @@ mod links;
 mod reducer;
 mod rescan;
 mod steps;
+mod taking;
 mod waiting;
+mod weighing;
+mod weight;
 
 pub use heap_links::HeapLinks;
 pub use reducer::Reducer;
 pub use rescan::Rescan;
 pub use steps::{Steps, twice_area};
+pub use weighing::weights;
+pub use weight::Weight;

@@ -27,7 +27,7 @@ filter_both p q r f (x ∷ xs) = on (q x) (r x) (f x) (filter_both p q r f xs)
 
 -- ---- one step
 
-abbrev weigh_on : ℕ → ℕ → List Vertex → ℕ → Option Corner → Option ℕ
+abbrev pub weigh_on : ℕ → ℕ → List Vertex → ℕ → Option Corner → Option ℕ
 weigh_on n level vs i None = None
 weigh_on n level vs i (Some c) = if c.index == i then Some (max level c.area) else weight_from n (max level c.area) (without c.index vs) i
 

@@ -1,13 +1,13 @@
-use Rattle.std.proofs.Common.{◌+◌, ◌-◌, ◌*◌, ◌≤◌, ◌++◌, ℕ, List, length, vec_len}
+use Rattle.std.proofs.Common.{◌-◌, ◌*◌, ◌≤◌, ◌++◌, ℕ, List, length}
 use Rattle.effective_area.specs.Counts.{RoseAtMost}
-use Rattle.std.specs.BinaryHeap.{heap_items, heap_len, IsHeap}
+use Rattle.std.specs.BinaryHeap.{heap_items, IsHeap}
 use Rattle.std.specs.List.Sorted.{IsSorted}
 use Rattle.effective_area.specs.Links.{IsState, rentry_cmp}
 use Rattle.effective_area.proofs.heap_links.eliminate.Given as goal
 
 -- what is present is reduced to the same
-abbrev pub invariant-loop-entry : goal.invariant-loop-entry
-invariant-loop-entry l = record {
+abbrev pub invariant-corners : goal.invariant-corners
+invariant-corners l = record {
   sorted : IsSorted rentry_cmp l.sorted.items;
   order : IsHeap rentry_cmp (heap_items l.heap);
   few : l.left ≤ length l.arc - 2;
@@ -15,5 +15,5 @@ invariant-loop-entry l = record {
   state : (vs : List ℕ) × IsState l.t l.arc l.links (l.sorted.items ++ heap_items l.heap) l.left vs;
 }
 
-abbrev pub decreases-loop-entry : goal.decreases-loop-entry
-decreases-loop-entry l = vec_len l.sorted + heap_len l.heap + 3 * l.left
+abbrev pub decreases-corners : goal.decreases-corners
+decreases-corners l = l.left

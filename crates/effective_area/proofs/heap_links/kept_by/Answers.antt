@@ -2,18 +2,15 @@ use Rattle.std.proofs.Common.{◌≡◌, ◌-◌, ◌∷◌, ◌++◌, append-ni
 use Rattle.std.specs.List.{range_with_len}
 use Rattle.std.specs.BinaryHeap.{heap_items}
 use Rattle.elimination_meaning.specs.Elimination.{reduce}
-use Rattle.effective_area.specs.Links.{HasCorners, IsLinked}
-use Rattle.effective_area.proofs.HeapLaws.{corners_moved}
-use Rattle.effective_area.proofs.Turns.{start_state, same_present, ok_also}
+use Rattle.effective_area.specs.Links.{IsLinked, IsState}
+use Rattle.effective_area.proofs.Turns.{same_present, ok_also}
 use Rattle.effective_area.proofs.heap_links.kept_by.Goals as goal
 
 pub eliminate-requires-clause-state : goal.eliminate-requires-clause-state
 eliminate-requires-clause-state c =
-    let moved = corners_moved c.args.t c.args.arc.now c.args.links.now c.in_ok-sorted.sorted.items c.sort.new.self.items (length c.args.arc.now - 1) c.sort.ensures.permutation c.in_ok-sorted.ensures.has in
-    let all : c.sort.new.self.items ++ heap_items c.new-heap.result ≡ c.sort.new.self.items = ap (λ l. c.sort.new.self.items ++ l) c.new-heap.ensures.items ∙ append-nil c.sort.new.self.items in (
+    let all : c.in_ok-sorted.sorted.items ++ heap_items c.new-heap.result ≡ c.in_ok-sorted.sorted.items = ap (λ l. c.in_ok-sorted.sorted.items ++ l) c.new-heap.ensures.items ∙ append-nil c.in_ok-sorted.sorted.items in (
       range_with_len 1 (length c.args.arc.now - 1),
-      start_state c.args.t c.args.arc.now c.args.links.now (c.sort.new.self.items ++ heap_items c.new-heap.result) c.requires.two c.requires.first
-          (subst (λ l. HasCorners c.args.t c.args.arc.now c.args.links.now l (length c.args.arc.now - 1)) (sym all) moved),
+      subst (λ l. IsState c.args.t c.args.arc.now c.args.links.now l (length c.args.arc.now - 2) (range_with_len 1 (length c.args.arc.now - 1))) (sym all) c.in_ok-sorted.ensures.state,
     )
 
 pub returns-clause-kept : goal.returns-clause-kept

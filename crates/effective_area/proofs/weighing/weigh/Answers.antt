@@ -1,0 +1,41 @@
+use Rattle.std.proofs.Common.{ℕ, ◌-◌, ◌++◌, length, set, subst, sym, not, eqb}
+use Rattle.std.specs.BinaryHeap.{heap_items}
+use Rattle.std.specs.List.{filter, range_with_len}
+use Rattle.effective_area.specs.declared.weight.Weight.TheVariants.{Area}
+use Rattle.effective_area.specs.Links.{IsTakenOut, TakesFirst}
+use Rattle.effective_area.specs.Vertices.{seen}
+use Rattle.effective_area.specs.Weights.{no_limit}
+use Rattle.effective_area.proofs.Weighed.{AreWeighed, none_weighed, weighed_on, all_weighed, none_over}
+use Rattle.effective_area.proofs.weighing.weigh.Goals as goal
+
+pub corners-init : goal.corners-init
+corners-init c = record {
+  sorted = c.requires.sorted;
+  order = c.requires.order;
+  state = (range_with_len 1 (length c.args.arc.now - 1), c.requires.state, none_weighed c.args.arc.now c.args.weights.now c.requires.two c.requires.ends);
+}
+
+pub corners-preserved : goal.corners-preserved
+corners-preserved c =
+    let s = c.corners.invariant.state in
+    let corner = c.in-Some.corner in
+    let items = c.take_first.new.sorted.items ++ heap_items c.take_first.new.heap in
+    let taken : IsTakenOut no_limit c.args.arc.now c.take_first.new.links items c.corners.left s.0 corner =
+    subst (λ o. TakesFirst no_limit c.args.arc.now c.take_first.new.links items c.corners.left s.0 o) c.in-Some.is (c.in_ok-corner.ensures.taken c.corners.left s.0 s.1) in
+    record {
+      sorted = c.in_ok-corner.ensures.sorted;
+      order = c.in_ok-corner.ensures.order;
+      state = (
+        filter (λ v. not (eqb v corner.index)) s.0,
+        taken.rest,
+        subst (λ (n : ℕ). AreWeighed c.args.arc.now n (c.corners.left - 1) (filter (λ v. not (eqb v corner.index)) s.0) (set c.corners.weights corner.index (Area n))) (sym c.max-level.ensures)
+            (weighed_on c.args.arc.now c.corners.level c.corners.left s.0 c.corners.weights (seen corner) s.2 taken.some taken.first taken.present taken.later taken.within),
+      );
+    }
+
+pub returns : goal.returns
+returns c =
+    let s = c.corners.invariant.state in
+    let items = c.take_first.new.sorted.items ++ heap_items c.take_first.new.heap in
+    let none = subst (λ o. TakesFirst no_limit c.args.arc.now c.take_first.new.links items c.corners.left s.0 o) c.in_default.is (c.in_ok-corner.ensures.taken c.corners.left s.0 s.1) in
+    all_weighed c.args.arc.now c.corners.level c.corners.left s.0 c.corners.weights s.2 (none_over c.args.arc.now s.0 c.requires.within none.1)

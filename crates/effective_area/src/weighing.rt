@@ -1,0 +1,88 @@
+ghost use Rattle.std.specs.Prelude.{◌≡◌, ℕ, ◌-◌, ◌≤◌, ◌++◌, All, IfOk, OnOk, List, length, replicate};
+ghost use Rattle.std.specs.BinaryHeap.{heap_items, IsHeap};
+ghost use Rattle.std.specs.List.{range_with_len};
+ghost use Rattle.std.specs.List.Sorted.{IsSorted};
+ghost use Rattle.geometry.specs.Points.{IsPosition};
+ghost use Rattle.effective_area.specs.declared.weight.Weight.TheVariants as weight;
+ghost use Rattle.effective_area.specs.Links.{IsState, rentry_cmp};
+ghost use Rattle.effective_area.specs.Weights as spec;
+
+use crate::entry::Entry;
+use crate::heap_links::sorted_entries;
+use crate::links::{Link, first_links};
+use crate::steps::Steps;
+use crate::taking::take_first;
+use crate::weight::Weight;
+use geometry::Position;
+use owned_values::Memory;
+use std::alloc::Global;
+use std::cmp::Reverse;
+use std::collections::BinaryHeap;
+
+/// Over twice the area of any triangle between positions, in square units.
+const NO_LIMIT: u128 = 100_000_000_000_000_000_000_000_000_000_000;
+
+/// A position is within the limit of positions: this does nothing but say so.
+fn is_within(position: Position)
+    ensures { IsPosition position }
+{
+    let _x = position.x();
+    let _y = position.y();
+}
+
+/// The weight of an end for each position of a line.
+fn all_ends(alloc: Global, arc: &[Position]) -> Result<Vec<Weight>, Memory>
+    ensures ends { IfOk result (λ all. all.items ≡ replicate (length arc.now) weight.End) }
+    ensures within { OnOk result (All IsPosition arc.now) }
+{
+    let mut all = Vec::with_capacity(alloc, arc.len())?;
+    'positions: for position in arc {
+        is_within(*position);
+        all.push(Weight::End)?;
+    }
+    Ok(all)
+}
+
+/// Takes out all positions between the ends, the first of all each time, and sets the weight of each.
+fn weigh(
+    sorted: &mut Vec<Reverse<Entry>>,
+    heap: &mut BinaryHeap<Reverse<Entry>>,
+    arc: &[Position],
+    links: &mut [Link],
+    weights: &mut [Weight],
+) -> Result<(), Memory>
+    requires two { 2 ≤ length arc.now }
+    requires sorted { IsSorted rentry_cmp sorted.old.items }
+    requires order { IsHeap rentry_cmp (heap_items heap.old) }
+    requires state { IsState spec.no_limit arc.now links.old (sorted.old.items ++ heap_items heap.old) (length arc.now - 2) (range_with_len 1 (length arc.now - 1)) }
+    requires within { All IsPosition arc.now }
+    requires ends { weights.old ≡ replicate (length arc.now) weight.End }
+    ensures { OnOk result (weights.new ≡ spec.weights_of arc.now) }
+{
+    let mut steps = Steps::none();
+    let mut level: u128 = 0;
+    let mut left = arc.len() - 2;
+    'corners: while let Some(corner) = take_first(sorted, heap, &mut steps, arc, links, NO_LIMIT)? {
+        level = level.max(corner.area);
+        weights[corner.index] = Weight::Area(level);
+        left -= 1;
+    }
+    Ok(())
+}
+
+/// The weight of each position of a line (Visvalingam and Whyatt 1993), in time n log n: a reducer keeps at a threshold the ends
+/// and the positions whose weight isn't under it. Of fewer than two positions each is an end.
+pub fn weights(alloc: Global, arc: &[Position]) -> Result<Vec<Weight>, Memory>
+    ensures { IfOk result (λ weights. weights.items ≡ spec.weights_of arc.now) }
+{
+    let mut weights = all_ends(alloc, arc)?;
+    if arc.len() < 2 {
+        return Ok(weights);
+    }
+    let mut links = first_links(alloc, arc.len())?;
+    let mut steps = Steps::none();
+    let mut sorted = sorted_entries(alloc, &mut steps, arc, &links, NO_LIMIT)?;
+    let mut heap = BinaryHeap::new(alloc);
+    weigh(&mut sorted, &mut heap, arc, &mut links, &mut weights)?;
+    Ok(weights)
+}

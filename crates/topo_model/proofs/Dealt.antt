@@ -1,11 +1,12 @@
 -- The lines of the linework, dealt to the lines and rings of layers by their fates.
-use Rattle.std.proofs.Common.{◌≡◌, ℕ, ◌+◌, ◌<◌, ◌≤◌, nat_lt, Bool, true, false, not, ◌&&◌, cond, List, [], ◌∷◌, ◌++◌, map, drop, length, get_or, slice_get, Option, None, Some, refl, sym, ap, ◌∙◌, arith, append_assoc, append-nil}
+use Rattle.std.proofs.Common.{◌≡◌, ℕ, ℤ, ◌+◌, ◌<◌, ◌≤◌, nat_lt, Bool, true, false, not, ◌&&◌, cond, List, [], ◌∷◌, ◌++◌, map, drop, length, get_or, slice_get, Option, None, Some, refl, sym, ap, ◌∙◌, arith, append_assoc, append-nil}
 use Rattle.std.proofs.lemmas.Bool.Decides.{nat_tests}
 use Rattle.std.proofs.lemmas.List.{drop_all, drop_more}
 use Rattle.std.proofs.lemmas.Option.{slice_get_within, get_or_from_slice_get}
+use Rattle.build_meaning.specs.Trimming.{renumbered}
 use Rattle.geometry.specs.declared.address.Cause.{Cause}
 use Rattle.geometry.specs.Lists.{map_some, tail}
-use Rattle.topo_model.specs.Fates.{is_collapsed, first, dealt}
+use Rattle.topo_model.specs.Fates.{is_collapsed, is_small, first, dealt, entry_by}
 
 -- what has no line takes none
 none_dealt : {X : Type 0} (f : Option Cause) (fs : List (Option Cause)) (xs : List X) (some : Bool) → (some ≡ false → xs ≡ []) → (not (is_collapsed f) && some) ≡ false → dealt (f ∷ fs) xs ≡ (f, None) ∷ dealt fs xs
@@ -46,25 +47,30 @@ tested has f next lines many h same answer is = ap (λ n. not (is_collapsed f) &
 
 -- ---- a loop over fates that makes an entry of each
 
-module _ {X Y : Type 0} (made : X → Y) where
-  abbrev entry : Option Cause × Option X → Option Y
-  entry d = map_some made d.1
-
+module _ {X Y : Type 0} (made : Option Cause × Option X → Option Y) where
   -- the entries so far, and those of the fates from one number and the lines from another one on
   abbrev pub Makes : List (Option Cause) → List X → ℕ → ℕ → List (Option Y) → List (Option Y) → Type 0
-  Makes fs xs i next now whole = now ++ map (λ d. map_some made d.1) (dealt (drop i fs) (drop next xs)) ≡ whole
+  Makes fs xs i next now whole = now ++ map made (dealt (drop i fs) (drop next xs)) ≡ whole
 
   pub entry_none : (fs : List (Option Cause)) (xs : List X) (i next : ℕ) (d f : Option Cause) (now new whole : List (Option Y)) → i < length fs → f ≡ get_or fs i d
-      → (not (is_collapsed f) && nat_lt next (length xs)) ≡ false → new ≡ now ++ None ∷ [] → Makes fs xs i next now whole → Makes fs xs (i + 1) next new whole
+      → (not (is_collapsed f) && nat_lt next (length xs)) ≡ false → new ≡ now ++ made (f, None) ∷ [] → Makes fs xs i next now whole → Makes fs xs (i + 1) next new whole
   entry_none fs xs i next d f now new whole lt is lacks e k =
-      let rest = map entry (dealt (drop (i + 1) fs) (drop next xs)) in
-      ap (λ es. es ++ rest) e ∙ append_assoc now (None ∷ []) rest ∙ ap (λ ds. now ++ map entry ds) (sym (dealt_none fs xs i next d f lt is lacks)) ∙ k
+      let rest = map made (dealt (drop (i + 1) fs) (drop next xs)) in
+      ap (λ es. es ++ rest) e ∙ append_assoc now (made (f, None) ∷ []) rest ∙ ap (λ ds. now ++ map made ds) (sym (dealt_none fs xs i next d f lt is lacks)) ∙ k
 
   pub entry_some : (fs : List (Option Cause)) (xs : List X) (i next : ℕ) (d f : Option Cause) (x : X) (now new whole : List (Option Y)) → i < length fs → f ≡ get_or fs i d
-      → (not (is_collapsed f) && nat_lt next (length xs)) ≡ true → slice_get xs next ≡ Some x → new ≡ now ++ Some (made x) ∷ [] → Makes fs xs i next now whole → Makes fs xs (i + 1) (next + 1) new whole
+      → (not (is_collapsed f) && nat_lt next (length xs)) ≡ true → slice_get xs next ≡ Some x → new ≡ now ++ made (f, Some x) ∷ [] → Makes fs xs i next now whole → Makes fs xs (i + 1) (next + 1) new whole
   entry_some fs xs i next d f x now new whole lt is has got e k =
-      let rest = map entry (dealt (drop (i + 1) fs) (drop (next + 1) xs)) in
-      ap (λ es. es ++ rest) e ∙ append_assoc now (Some (made x) ∷ []) rest ∙ ap (λ ds. now ++ map entry ds) (sym (dealt_one fs xs i next d f x lt is has got)) ∙ k
+      let rest = map made (dealt (drop (i + 1) fs) (drop (next + 1) xs)) in
+      ap (λ es. es ++ rest) e ∙ append_assoc now (made (f, Some x) ∷ []) rest ∙ ap (λ ds. now ++ map made ds) (sym (dealt_one fs xs i next d f x lt is has got)) ∙ k
 
   pub entries_all : (fs : List (Option Cause)) (xs : List X) (i next : ℕ) (now whole : List (Option Y)) → length fs ≤ i → Makes fs xs i next now whole → now ≡ whole
-  entries_all fs xs i next now whole le k = sym (ap (λ gs. now ++ map entry (dealt gs (drop next xs))) (drop_all i fs le) ∙ append-nil now) ∙ k
+  entries_all fs xs i next now whole le k = sym (ap (λ gs. now ++ map made (dealt gs (drop next xs))) (drop_all i fs le) ∙ append-nil now) ∙ k
+
+-- nothing stands for a line or ring without arc indexes
+pub nothing_by : (u : ℕ → Bool) (f : Option Cause) → None ≡ entry_by u (f, None)
+nothing_by u f = on (is_small f)
+  where
+    on : (b : Bool) → None ≡ cond b None (map_some {A = List ℤ} (map (renumbered u)) None)
+    on true = refl
+    on false = refl

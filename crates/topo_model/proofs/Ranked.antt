@@ -122,13 +122,18 @@ keep_end {X} u n k (y ∷ ys) x e = on (u n) (keep_from u (suc n) ys) (if u k th
 abbrev pub AreKept : {X : Type 0} → List Bool → List X → ℕ → List X → Type 0
 AreKept used arcs i kept = (u : ℕ → Bool) → used ≡ answers u 0 (length arcs) → kept ≡ keep_from u 0 (take i arcs)
 
+-- one arc more
+pub keep_next : {X : Type 0} (u : ℕ → Bool) (used : List Bool) (arcs : List X) (i : ℕ) (flag : Bool) (arc : X) → i < length arcs → slice_get arcs i ≡ Some arc → get_or used i false ≡ flag
+    → used ≡ answers u 0 (length arcs) → keep_from u 0 (take (i + 1) arcs) ≡ keep_from u 0 (take i arcs) ++ (if flag then arc ∷ [] else [])
+keep_next u used arcs i flag arc lt got is are =
+    let set = answers_at u used (length arcs) i false flag are lt is in
+    let many : i ≡ 0 + length (take i arcs) = simp length-take (omega (arith, lt)) in
+    ap (keep_from u 0) (take_got arcs i arc got) ∙ keep_end u 0 i (take i arcs) arc many ∙ ap (λ b. keep_from u 0 (take i arcs) ++ (if b then arc ∷ [] else [])) set
+
 kept_more : {X : Type 0} (used : List Bool) (arcs kept more : List X) (i : ℕ) (flag : Bool) (arc : X) → i < length arcs → slice_get arcs i ≡ Some arc → get_or used i false ≡ flag
     → more ≡ kept ++ (if flag then arc ∷ [] else []) → AreKept used arcs i kept → AreKept used arcs (i + 1) more
 kept_more used arcs kept more i flag arc lt got is m so_far u are =
-    let set = answers_at u used (length arcs) i false flag are lt is in
-    let many : i ≡ 0 + length (take i arcs) = simp length-take (omega (arith, lt)) in
-    m ∙ ap (λ zs. zs ++ (if flag then arc ∷ [] else [])) (so_far u are) ∙ ap (λ b. keep_from u 0 (take i arcs) ++ (if b then arc ∷ [] else [])) (sym set)
-    ∙ sym (ap (keep_from u 0) (take_got arcs i arc got) ∙ keep_end u 0 i (take i arcs) arc many)
+    m ∙ ap (λ zs. zs ++ (if flag then arc ∷ [] else [])) (so_far u are) ∙ sym (keep_next u used arcs i flag arc lt got is are)
 
 -- an arc that is left out
 pub kept_less : {X : Type 0} (used : List Bool) (arcs kept : List X) (i : ℕ) → i < length arcs → get_or used i false ≡ false → AreKept used arcs i kept → AreKept used arcs (i + 1) kept

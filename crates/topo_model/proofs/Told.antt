@@ -1,92 +1,148 @@
--- What is dropped, told part by part, feature by feature and layer by layer.
-use Rattle.std.proofs.Common.{◌≡◌, ℕ, suc, ◌+◌, ◌<◌, ◌≤◌, true, false, List, [], ◌∷◌, ◌++◌, map, drop, length, Option, get_or, append_assoc, append-nil, refl, ap, sym, ◌∙◌, arith}
-use Rattle.std.proofs.lemmas.List.{at_drop_all, at_drop_more, map-append}
-use Rattle.geometry.specs.declared.address.Address.{Address}
-use Rattle.geometry.specs.declared.address.Cause.{Cause}
-use Rattle.geometry.specs.declared.address.Dropped.{Dropped}
-use Rattle.geometry.specs.declared.shape.Geometry.{Geometry}
-use Rattle.geometry.specs.declared.shape.Geometry.TheVariants as g
-use Rattle.geojson_types.specs.Features.{Featured}
-use Rattle.geometry.specs.Lists.{joined}
-use Rattle.geometry.specs.Omissions.{here, area_omissions, omissions_step, omissions, dropped_of_layers}
-use Rattle.geometry.specs.Paths.{Placed, inside_part, of_parts}
-use Rattle.geometry.specs.Points.{Point}
-use Rattle.geometry.proofs.Cases.{omissions-line, omissions-lines, omissions-area, omissions-areas, omissions-group, omissions_at}
-use Rattle.build_meaning.specs.Candidates.{Candidate, free, area_candidates, candidates, option_candidates, features_candidates, named_candidates, fate}
-use Rattle.build_meaning.specs.Layers.{Named}
+-- What is told of lines and rings, part by part, feature by feature and layer by layer.
+use Rattle.std.specs.Prelude.{Result, Ok, Err, OnOk}
+use Rattle.std.proofs.Common.{slice_get, None, Some, ◌≡◌, ℕ, ℤ, suc, ◌+◌, ◌<◌, ◌≤◌, Bool, true, false, cond, List, [], ◌∷◌, ◌++◌, map, drop, length, Option, get_or, append_assoc, append-nil, refl, ap, sym, ◌∙◌, subst, arith}
+use Rattle.std.proofs.lemmas.List.{drop_all, drop_more, map-append}
+use Rattle.std.proofs.lemmas.Option.{slice_get_within, get_or_from_slice_get}
+use Rattle.build_meaning.specs.Candidates.{free, hole, area_candidates, candidates, option_candidates, features_candidates, named_candidates, fate}
+use Rattle.build_meaning.specs.Expected.{is_small}
+use Rattle.build_meaning.specs.Layers.{features_strokes, named_strokes}
 use Rattle.build_meaning.proofs.Candidates.{candidates_at}
 use Rattle.geojson_types.specs.declared.layer.Layer.{Layer}
-use Rattle.geometry.proofs.ByKind.{AtKinds}
+use Rattle.geojson_types.specs.Features.{Featured, Shape}
+use Rattle.geometry.specs.declared.address.Address.{Address}
+use Rattle.geometry.specs.declared.address.Cause.{Cause}
+use Rattle.geometry.specs.declared.address.Cause.TheVariants.{Collapsed, Small}
+use Rattle.geometry.specs.declared.address.Dropped.{Dropped}
+use Rattle.geometry.specs.declared.shape.Geometry.TheVariants as g
+use Rattle.geometry.specs.Joins.{arc_at, rejoined}
+use Rattle.geometry.specs.Lists.{joined}
+use Rattle.geometry.specs.Omissions.{here, inner_cause, area_omissions, omissions, dropped_of_layers}
+use Rattle.geometry.specs.Paths.{Placed, inside_part, of_parts}
+use Rattle.geometry.specs.Points.{Point}
+use Rattle.geometry.specs.Pruning.{strokes, option_strokes}
+use Rattle.geometry.proofs.Cases.{omissions_at, strokes-point, strokes-points, strokes-line, strokes-lines, strokes-area, strokes-areas, strokes-group}
+use Rattle.junctions.specs.Cleaning.{clean, is_short}
 use Rattle.junctions.specs.Gathering.{part_address}
+use Rattle.lessened_topology.specs.Assembled.{option_caused}
+use Rattle.lessened_topology.specs.Lessened.{small_cause}
 use Rattle.linework.specs.Linework.{feature_address}
-use Rattle.topo_model.specs.Drops.{short_cause, option_drops, dropped_at, layer_drops}
+use Rattle.list_laws.specs.Lists.{tail}
+use Rattle.list_laws.proofs.Lists.{drop_here}
+use Rattle.topo_model.specs.Drops.{RefsOf, line_cause, long_refs, Told, Tells, IsOwnCause, dropped_at, layer_drops}
 use Rattle.topo_model.specs.Fates.{fates}
 
-pub told_at : AtKinds (omissions {P = Point} {L = List Point} short_cause) (omissions_step short_cause)
-told_at = omissions_at Point (List Point) short_cause
+abbrev Line : Type 0
+Line = Bool × List Point
 
-pub of_line : (l : List Point) → omissions {P = Point} {L = List Point} short_cause (g.Line l) ≡ here (short_cause false l)
-of_line = omissions-line Point (List Point) short_cause
+-- ---- one behind the other
 
-pub of_lines : (ls : List (List Point)) → omissions {P = Point} {L = List Point} short_cause (g.Lines ls) ≡ of_parts 0 (map (λ l. here (short_cause false l)) ls)
-of_lines = omissions-lines Point (List Point) short_cause
+pub long_append : (of : RefsOf) (bs cs : List Line) → long_refs of (bs ++ cs) ≡ long_refs of bs ++ long_refs of cs
+long_append of [] cs = refl
+long_append of (b ∷ bs) cs = on (is_short b.0 (clean b.1)) (long_append of bs cs)
+  where
+    on : (c : Bool) → long_refs of (bs ++ cs) ≡ long_refs of bs ++ long_refs of cs
+        → cond c (long_refs of (bs ++ cs)) (of b.0 b.1 ∷ long_refs of (bs ++ cs)) ≡ cond c (long_refs of bs) (of b.0 b.1 ∷ long_refs of bs) ++ long_refs of cs
+    on true ih = ih
+    on false ih = ap (λ l. of b.0 b.1 ∷ l) ih
 
-pub of_area : (rs : List (List Point)) → omissions {P = Point} {L = List Point} short_cause (g.Area rs) ≡ area_omissions (short_cause true) rs
-of_area = omissions-area Point (List Point) short_cause
+-- before anything is told
+abbrev pub nothing_told : Told
+nothing_told = record { causes = []; dropped = []; next = 0 }
 
-pub of_areas : (areas : List (List (List Point))) → omissions {P = Point} {L = List Point} short_cause (g.Areas areas) ≡ of_parts 0 (map (area_omissions (short_cause true)) areas)
-of_areas = omissions-areas Point (List Point) short_cause
+module _ (refs : List (List ℤ)) where
+  pub tells_nothing : (t : Told) → Tells refs [] (λ of. []) (λ of. []) t t
+  tells_nothing t of rest h = (h, sym (append-nil t.causes), sym (append-nil t.dropped))
 
-pub of_group : (ss : List (Geometry Point (List Point) (List Point))) → omissions {P = Point} {L = List Point} short_cause (g.Group ss) ≡ of_parts 0 (map (omissions {P = Point} {L = List Point} short_cause) ss)
-of_group = omissions-group Point (List Point) short_cause
+  pub tells_as : (l m : List Line) (c d : RefsOf → List (Option Cause)) (e f : RefsOf → List Dropped) (old new : Told) → l ≡ m → ((of : RefsOf) → c of ≡ d of) → ((of : RefsOf) → e of ≡ f of)
+      → Tells refs l c e old new → Tells refs m d f old new
+  tells_as l m c d e f old new same same_causes same_dropped tells of rest h =
+      let k = tells of rest (h ∙ ap (λ x. long_refs of x ++ rest) (sym same)) in
+      (k.0, k.1 ∙ ap (λ x. old.causes ++ x) (same_causes of), k.2 ∙ ap (λ x. old.dropped ++ x) (same_dropped of))
 
--- ---- fates, by the kind of a shape
+  tells_then : (l m : List Line) (c d : RefsOf → List (Option Cause)) (e f : RefsOf → List Dropped) (old now new : Told) → Tells refs l c e old now → Tells refs m d f now new
+      → Tells refs (l ++ m) (λ of. c of ++ d of) (λ of. e of ++ f of) old new
+  tells_then l m c d e f old now new one two of rest h =
+      let j = one of (long_refs of m ++ rest) (h ∙ ap (λ x. x ++ rest) (long_append of l m) ∙ append_assoc (long_refs of l) (long_refs of m) rest) in
+      let k = two of rest j.0 in
+      (k.0, k.1 ∙ ap (λ x. x ++ d of) j.1 ∙ append_assoc old.causes (c of) (d of), k.2 ∙ ap (λ x. x ++ f of) j.2 ∙ append_assoc old.dropped (e of) (f of))
 
-pub fates_of_point : (p : Point) → fates (candidates {P = Point} {L = List Point} (short_cause true) (g.Point p)) ≡ []
-fates_of_point p = ap fates ((candidates_at Point (List Point) (short_cause true)).point p)
+-- ---- one line or ring
 
-pub fates_of_points : (ps : List Point) → fates (candidates {P = Point} {L = List Point} (short_cause true) (g.MultiPoint ps)) ≡ []
-fates_of_points ps = ap fates ((candidates_at Point (List Point) (short_cause true)).points ps)
+-- it is dropped for its own cause, or for what that makes of it
+pub part_told : (refs : List (List ℤ)) (arcs : List (List Point)) (closed : Bool) (ps : List Point) (g : Option Cause → Option Cause) (drops : Option Cause → List Dropped) (old mid new : Told) (cause : Option Cause)
+    → IsOwnCause refs arcs closed ps old.next mid.next cause → mid.causes ≡ old.causes → mid.dropped ≡ old.dropped
+    → new.causes ≡ mid.causes ++ g cause ∷ [] → new.dropped ≡ mid.dropped ++ drops (g cause) → new.next ≡ mid.next
+    → Tells refs ((closed, ps) ∷ []) (λ of. g (line_cause arcs of closed ps) ∷ []) (λ of. drops (g (line_cause arcs of closed ps))) old new
+part_told refs arcs closed ps g drops old mid new cause own same_causes same_dropped causes dropped next of rest h =
+    let k = own of rest h in (
+      ap (λ n. drop n refs) next ∙ k.0,
+      causes ∙ ap (λ x. x ++ g cause ∷ []) same_causes ∙ ap (λ w. old.causes ++ g w ∷ []) k.1,
+      dropped ∙ ap (λ x. x ++ drops (g cause)) same_dropped ∙ ap (λ w. old.dropped ++ drops (g w)) k.1,
+    )
 
-pub fates_of_line : (l : List Point) → fates (candidates {P = Point} {L = List Point} (short_cause true) (g.Line l)) ≡ short_cause false l ∷ []
-fates_of_line l = ap fates ((candidates_at Point (List Point) (short_cause true)).line l)
+first_is : {X : Type 0} (x y : X) (xs ys : List X) → x ∷ xs ≡ y ∷ ys → x ≡ y
+first_is x y xs ys e = ap (or_first x) e
+  where
+    or_first : {X : Type 0} → X → List X → X
+    or_first d [] = d
+    or_first d (z ∷ zs) = z
 
-pub fates_of_lines : (ls : List (List Point)) → fates (candidates {P = Point} {L = List Point} (short_cause true) (g.Lines ls)) ≡ fates (map (free false) ls)
-fates_of_lines ls = ap fates ((candidates_at Point (List Point) (short_cause true)).lines ls)
+-- it is rebuilt by the next arc indexes
+pub own_long : (refs : List (List ℤ)) (arcs : List (List Point)) (closed : Bool) (ps : List Point) (n new : ℕ) (line : List ℤ) (small : Bool) (cause : Option Cause) → is_short closed (clean ps) ≡ false
+    → slice_get refs n ≡ Some line → new ≡ n + 1 → small ≡ is_small closed (rejoined (map (arc_at arcs) line)) → cause ≡ cond small (Some Small) None → IsOwnCause refs arcs closed ps n new cause
+own_long refs arcs closed ps n new line small cause long got next is cause_is of rest h =
+    let here : line ∷ drop (n + 1) refs ≡ of closed ps ∷ rest =
+    sym (drop_more refs n line (slice_get_within refs n line got) ∙ ap (λ y. y ∷ drop (n + 1) refs) (get_or_from_slice_get refs n line line got)) ∙ h ∙ ap (λ b. cond b [] (of closed ps ∷ []) ++ rest) long in
+    let same : line ≡ of closed ps = first_is line (of closed ps) (drop (n + 1) refs) rest here in (
+      ap (λ m. drop m refs) next ∙ ap tail here,
+      cause_is ∙ ap (λ b. cond b (Some Small) None) is ∙ ap (small_cause arcs closed) same
+          ∙ sym (ap (λ b. cond b (Some Collapsed) (small_cause arcs closed (of closed ps))) long),
+    )
 
-pub fates_of_area : (rs : List (List Point)) → fates (candidates {P = Point} {L = List Point} (short_cause true) (g.Area rs)) ≡ fates (area_candidates (short_cause true) rs)
-fates_of_area rs = ap fates ((candidates_at Point (List Point) (short_cause true)).area rs)
+-- ---- a loop over parts
 
-pub fates_of_areas : (areas : List (List (List Point))) → fates (candidates {P = Point} {L = List Point} (short_cause true) (g.Areas areas)) ≡ fates (joined (map (area_candidates (short_cause true)) areas))
-fates_of_areas areas = ap fates ((candidates_at Point (List Point) (short_cause true)).areas areas)
+-- what is told of one part, where it has a number, and of all from a number on
+pub record Parts (X : Type 0) : Type 0 where
+  pub lines : X → List (Bool × List Point)
+  pub causes : RefsOf → X → List (Option Cause)
+  pub dropped : RefsOf → ℕ → X → List Dropped
+  pub all_lines : List X → List (Bool × List Point)
+  pub all_causes : RefsOf → List X → List (Option Cause)
+  pub all_dropped : RefsOf → ℕ → List X → List Dropped
+  pub lines_more : (x : X) (xs : List X) → all_lines (x ∷ xs) ≡ lines x ++ all_lines xs
+  pub causes_more : (of : RefsOf) (x : X) (xs : List X) → all_causes of (x ∷ xs) ≡ causes of x ++ all_causes of xs
+  pub dropped_more : (of : RefsOf) (k : ℕ) (x : X) (xs : List X) → all_dropped of k (x ∷ xs) ≡ dropped of k x ++ all_dropped of (suc k) xs
+  pub no_lines : all_lines [] ≡ []
+  pub no_causes : (of : RefsOf) → all_causes of [] ≡ []
+  pub none_dropped : (of : RefsOf) (k : ℕ) → all_dropped of k [] ≡ []
 
-pub fates_of_group : (ss : List (Geometry Point (List Point) (List Point))) → fates (candidates {P = Point} {L = List Point} (short_cause true) (g.Group ss)) ≡ fates (joined (map (candidates {P = Point} {L = List Point} (short_cause true)) ss))
-fates_of_group ss = ap fates ((candidates_at Point (List Point) (short_cause true)).group ss)
+-- all parts are told of, the first under this number
+abbrev pub TellsAll : {X : Type 0} → Parts X → List (List ℤ) → ℕ → List X → Told → Told → Type 0
+TellsAll p refs k xs old new = Tells refs (p.all_lines xs) (λ of. p.all_causes of xs) (λ of. p.all_dropped of k xs) old new
 
--- ---- part by part
+-- where what is told in the end is told of the parts that are left, it is told of all
+abbrev pub Open : {X : Type 0} → Parts X → List (List ℤ) → ℕ → List X → Told → ℕ → ℕ → Told → Type 0
+Open p refs first xs old k i now = (end : Told) → TellsAll p refs k (drop i xs) now end → TellsAll p refs first xs old end
 
--- one element more of a list whose elements are told one after the other
-told_more : {X Y : Type 0} (of : ℕ → X → List Y) (all : ℕ → List X → List Y) → ((i : ℕ) (x : X) (xs : List X) → all i (x ∷ xs) ≡ of i x ++ all (suc i) xs) →
-    (k i : ℕ) (now new whole : List Y) (xs : List X) (x : X) → i < length xs → x ≡ get_or xs i x →
-    now ++ all k (drop i xs) ≡ whole → new ≡ now ++ of k x → new ++ all (k + 1) (drop (i + 1) xs) ≡ whole
-told_more of all some k i now new whole xs x l g h e =
+pub told_more : {X : Type 0} (p : Parts X) (refs : List (List ℤ)) (first : ℕ) (xs : List X) (old : Told) (k i : ℕ) (x : X) (now new : Told) → i < length xs → x ≡ get_or xs i x
+    → Tells refs (p.lines x) (λ of. p.causes of x) (λ of. p.dropped of k x) now new → Open p refs first xs old k i now → Open p refs first xs old (k + 1) (i + 1) new
+told_more {X} p refs first xs old k i x now new lt is step so_far end rest =
+    let left : List X = drop (i + 1) xs in
     let n : k + 1 ≡ suc k = omega arith in
-    ap (λ k. new ++ all k (drop (i + 1) xs)) n ∙ ap (λ ds. ds ++ all (suc k) (drop (i + 1) xs)) e ∙ append_assoc now (of k x) (all (suc k) (drop (i + 1) xs))
-    ∙ ap (λ ds. now ++ ds) (sym (at_drop_more (all k) xs i x l ∙ ap (λ y. all k (y ∷ drop (i + 1) xs)) (sym g) ∙ some k x (drop (i + 1) xs))) ∙ h
+    so_far end (subst (λ ys. TellsAll p refs k ys now end) (sym (drop_here xs i x lt is))
+    (tells_as refs (p.lines x ++ p.all_lines left) (p.all_lines (x ∷ left)) (λ of. p.causes of x ++ p.all_causes of left) (λ of. p.all_causes of (x ∷ left))
+    (λ of. p.dropped of k x ++ p.all_dropped of (k + 1) left) (λ of. p.all_dropped of k (x ∷ left)) now end
+    (sym (p.lines_more x left)) (λ of. sym (p.causes_more of x left)) (λ of. ap (λ m. p.dropped of k x ++ p.all_dropped of m left) n ∙ sym (p.dropped_more of k x left))
+    (tells_then refs (p.lines x) (p.all_lines left) (λ of. p.causes of x) (λ of. p.all_causes of left) (λ of. p.dropped of k x) (λ of. p.all_dropped of (k + 1) left) now new end step rest)))
 
--- the end of such a list
-pub told_all : {X Y : Type 0} (all : List X → List Y) (i : ℕ) (now whole : List Y) (xs : List X) → all [] ≡ [] → length xs ≤ i → now ++ all (drop i xs) ≡ whole → now ≡ whole
-told_all all i now whole xs n l h = sym (append-nil now) ∙ ap (λ ds. now ++ ds) (sym (at_drop_all all xs i l ∙ n)) ∙ h
+pub told_all : {X : Type 0} (p : Parts X) (refs : List (List ℤ)) (first : ℕ) (xs : List X) (old : Told) (k i : ℕ) (now : Told) → length xs ≤ i → Open p refs first xs old k i now
+    → TellsAll p refs first xs old now
+told_all p refs first xs old k i now le so_far =
+    so_far now (subst (λ ys. TellsAll p refs k ys now now) (sym (drop_all i xs le))
+    (tells_as refs [] (p.all_lines []) (λ of. []) (λ of. p.all_causes of []) (λ of. []) (λ of. p.all_dropped of k []) now now
+    (sym p.no_lines) (λ of. sym (p.no_causes of)) (λ of. sym (p.none_dropped of k)) (tells_nothing refs now)))
 
--- the fates of one part more
-pub fates_more : {X : Type 0} (of : X → List (Candidate (List Point))) (i : ℕ) (now new whole : List (Option Cause)) (xs : List X) (x : X) → i < length xs → x ≡ get_or xs i x →
-    now ++ fates (joined (map of (drop i xs))) ≡ whole → new ≡ now ++ fates (of x) → new ++ fates (joined (map of (drop (i + 1) xs))) ≡ whole
-fates_more of i = told_more (λ k x. fates (of x)) (λ k xs. fates (joined (map of xs))) (λ k x xs. map-append (fate short_cause) (of x) (joined (map of xs))) i i
-
--- the fate of one line or ring more
-pub fate_more : {X : Type 0} (of : X → Candidate (List Point)) (i : ℕ) (now new whole : List (Option Cause)) (xs : List X) (x : X) → i < length xs → x ≡ get_or xs i x →
-    now ++ fates (map of (drop i xs)) ≡ whole → new ≡ now ++ fate short_cause (of x) ∷ [] → new ++ fates (map of (drop (i + 1) xs)) ≡ whole
-fate_more of i = told_more (λ k x. fate short_cause (of x) ∷ []) (λ k xs. fates (map of xs)) (λ k x xs. refl) i i
+-- ---- the parts
 
 inside_at : (a : Address) (i : ℕ) (os : List (Placed Cause)) → dropped_at a (inside_part i os) ≡ dropped_at (part_address a i) os
 inside_at a i [] = refl
@@ -99,26 +155,220 @@ pub first_part : (a : Address) (k : ℕ) (os : List (Placed Cause)) (more : List
 first_part a k os more = map-append (λ o. record { address = record { layer = a.layer; feature = a.feature; path = a.path ++ o.path }; cause = o.part }) (inside_part k os) (of_parts (suc k) more)
     ∙ ap (λ ds. ds ++ dropped_at a (of_parts (suc k) more)) (inside_at a k os)
 
--- one part more
-pub parts_more : {X : Type 0} (f : X → List (Placed Cause)) (a : Address) (k i : ℕ) (now new whole : List Dropped) (xs : List X) (x : X) → i < length xs → x ≡ get_or xs i x →
-    now ++ dropped_at a (of_parts k (map f (drop i xs))) ≡ whole → new ≡ now ++ dropped_at (part_address a k) (f x) → new ++ dropped_at a (of_parts (k + 1) (map f (drop (i + 1) xs))) ≡ whole
-parts_more f a = told_more (λ k x. dropped_at (part_address a k) (f x)) (λ k xs. dropped_at a (of_parts k (map f xs))) (λ k x xs. first_part a k (f x) (map f xs))
+module _ (arcs : List (List Point)) (a : Address) where
+  abbrev pub line_parts : Parts (List Point)
+  line_parts = record {
+    lines = λ l. (false, l) ∷ [];
+    causes = λ of l. line_cause arcs of false l ∷ [];
+    dropped = λ of k l. dropped_at (part_address a k) (here (line_cause arcs of false l));
+    all_lines = map (λ l. (false, l));
+    all_causes = λ of ls. fates (line_cause arcs of) (map (free false) ls);
+    all_dropped = λ of k ls. dropped_at a (of_parts k (map (λ l. here (line_cause arcs of false l)) ls));
+    lines_more = λ l ls. refl;
+    causes_more = λ of l ls. refl;
+    dropped_more = λ of k l ls. first_part a k (here (line_cause arcs of false l)) (map (λ l. here (line_cause arcs of false l)) ls);
+    no_lines = refl;
+    no_causes = λ of. refl;
+    none_dropped = λ of k. refl;
+  }
 
--- one feature more
-pub features_more : (layer i : ℕ) (now new whole : List Dropped) (fs : List Featured) (f : Featured) → i < length fs → f ≡ get_or fs i f →
-    now ++ layer_drops layer i (drop i fs) ≡ whole → new ≡ now ++ dropped_at (feature_address layer i) (option_drops f.shape) → new ++ layer_drops layer (i + 1) (drop (i + 1) fs) ≡ whole
-features_more layer i = told_more (λ i f. dropped_at (feature_address layer i) (option_drops f.shape)) (layer_drops layer) (λ i f fs. refl) i i
+  abbrev pub hole_parts : Option Cause → Parts (List Point)
+  hole_parts outer = record {
+    lines = λ l. (true, l) ∷ [];
+    causes = λ of l. inner_cause outer (line_cause arcs of true l) ∷ [];
+    dropped = λ of k l. dropped_at (part_address a k) (here (inner_cause outer (line_cause arcs of true l)));
+    all_lines = map (λ l. (true, l));
+    all_causes = λ of ls. fates (line_cause arcs of) (map (hole outer) ls);
+    all_dropped = λ of k ls. dropped_at a (of_parts k (map (λ l. here (inner_cause outer (line_cause arcs of true l))) ls));
+    lines_more = λ l ls. refl;
+    causes_more = λ of l ls. refl;
+    dropped_more = λ of k l ls. first_part a k (here (inner_cause outer (line_cause arcs of true l))) (map (λ l. here (inner_cause outer (line_cause arcs of true l))) ls);
+    no_lines = refl;
+    no_causes = λ of. refl;
+    none_dropped = λ of k. refl;
+  }
 
-pub features_fates_more : (i : ℕ) (now new whole : List (Option Cause)) (fs : List Featured) (f : Featured) → i < length fs → f ≡ get_or fs i f →
-    now ++ fates (features_candidates (short_cause true) (drop i fs)) ≡ whole → new ≡ now ++ fates (option_candidates (short_cause true) f.shape) → new ++ fates (features_candidates (short_cause true) (drop (i + 1) fs)) ≡ whole
-features_fates_more = fates_more (λ (f : Featured). option_candidates (short_cause true) f.shape)
+  abbrev pub area_parts : Parts (List (List Point))
+  area_parts = record {
+    lines = map (λ l. (true, l));
+    causes = λ of rs. fates (line_cause arcs of) (area_candidates (line_cause arcs of true) rs);
+    dropped = λ of k rs. dropped_at (part_address a k) (area_omissions (line_cause arcs of true) rs);
+    all_lines = λ areas. joined (map (map (λ l. (true, l))) areas);
+    all_causes = λ of areas. fates (line_cause arcs of) (joined (map (area_candidates (line_cause arcs of true)) areas));
+    all_dropped = λ of k areas. dropped_at a (of_parts k (map (area_omissions (line_cause arcs of true)) areas));
+    lines_more = λ rs areas. refl;
+    causes_more = λ of rs areas. map-append (fate (line_cause arcs of)) (area_candidates (line_cause arcs of true) rs) (joined (map (area_candidates (line_cause arcs of true)) areas));
+    dropped_more = λ of k rs areas. first_part a k (area_omissions (line_cause arcs of true) rs) (map (area_omissions (line_cause arcs of true)) areas);
+    no_lines = refl;
+    no_causes = λ of. refl;
+    none_dropped = λ of k. refl;
+  }
 
--- one layer more
-pub layers_more : (i : ℕ) (now new whole : List Dropped) (ls : Named) (l : List ℕ × Layer) → i < length ls → l ≡ get_or ls i l →
-    now ++ dropped_of_layers i (map (λ l. map (λ f. option_drops f.shape) l.1.features) (drop i ls)) ≡ whole → new ≡ now ++ layer_drops i 0 l.1.features →
-    new ++ dropped_of_layers (i + 1) (map (λ l. map (λ f. option_drops f.shape) l.1.features) (drop (i + 1) ls)) ≡ whole
-layers_more i = told_more (λ (i : ℕ) (l : List ℕ × Layer). layer_drops i 0 l.1.features) (λ (i : ℕ) (ls : Named). dropped_of_layers i (map (λ l. map (λ f. option_drops f.shape) l.1.features) ls)) (λ i l ls. refl) i i
+  abbrev pub shape_parts : Parts Shape
+  shape_parts = record {
+    lines = strokes;
+    causes = λ of s. fates (line_cause arcs of) (candidates (line_cause arcs of true) s);
+    dropped = λ of k s. dropped_at (part_address a k) (omissions (line_cause arcs of) s);
+    all_lines = λ ss. joined (map strokes ss);
+    all_causes = λ of ss. fates (line_cause arcs of) (joined (map (candidates (line_cause arcs of true)) ss));
+    all_dropped = λ of k ss. dropped_at a (of_parts k (map (omissions (line_cause arcs of)) ss));
+    lines_more = λ s ss. refl;
+    causes_more = λ of s ss. map-append (fate (line_cause arcs of)) (candidates (line_cause arcs of true) s) (joined (map (candidates (line_cause arcs of true)) ss));
+    dropped_more = λ of k s ss. first_part a k (omissions (line_cause arcs of) s) (map (omissions (line_cause arcs of)) ss);
+    no_lines = refl;
+    no_causes = λ of. refl;
+    none_dropped = λ of k. refl;
+  }
 
-pub layers_fates_more : (i : ℕ) (now new whole : List (Option Cause)) (ls : Named) (l : List ℕ × Layer) → i < length ls → l ≡ get_or ls i l →
-    now ++ fates (named_candidates (short_cause true) (drop i ls)) ≡ whole → new ≡ now ++ fates (features_candidates (short_cause true) l.1.features) → new ++ fates (named_candidates (short_cause true) (drop (i + 1) ls)) ≡ whole
-layers_fates_more = fates_more (λ (l : List ℕ × Layer). features_candidates (short_cause true) l.1.features)
+-- a polygon: its outer ring, and then its holes
+pub rings_told : (refs : List (List ℤ)) (arcs : List (List Point)) (a : Address) (outer : List Point) (holes : List (List Point)) (old mid one new : Told) (cause : Option Cause)
+    → IsOwnCause refs arcs true outer old.next mid.next cause → mid.causes ≡ old.causes → mid.dropped ≡ old.dropped
+    → one.causes ≡ mid.causes ++ cause ∷ [] → one.dropped ≡ mid.dropped ++ dropped_at (part_address a 0) (here cause) → one.next ≡ mid.next
+    → TellsAll (hole_parts arcs a cause) refs 1 holes one new
+    → Tells refs (map (λ l. (true, l)) (outer ∷ holes)) (λ of. fates (line_cause arcs of) (area_candidates (line_cause arcs of true) (outer ∷ holes)))
+    (λ of. dropped_at a (area_omissions (line_cause arcs of true) (outer ∷ holes))) old new
+rings_told refs arcs a outer holes old mid one new cause own same_causes same_dropped causes dropped next told of rest h =
+    let why : Option Cause = line_cause arcs of true outer in
+    let left : List Line = map (λ l. (true, l)) holes in
+    let apart : drop old.next refs ≡ long_refs of ((true, outer) ∷ []) ++ (long_refs of left ++ rest) =
+    h ∙ ap (λ x. x ++ rest) (long_append of ((true, outer) ∷ []) left) ∙ append_assoc (long_refs of ((true, outer) ∷ [])) (long_refs of left) rest in
+    let is : cause ≡ why = (own of (long_refs of left ++ rest) apart).1 in
+    let j = part_told refs arcs true outer (λ w. w) (λ w. dropped_at (part_address a 0) (here w)) old mid one cause own same_causes same_dropped causes dropped next of (long_refs of left ++ rest) apart in
+    let k = told of rest j.0 in
+    let hole_drops : Option Cause → List Dropped = λ o. dropped_at a (of_parts 1 (map (λ l. here (inner_cause o (line_cause arcs of true l))) holes)) in
+    let hole_fates : Option Cause → List (Option Cause) = λ o. fates (line_cause arcs of) (map (hole o) holes) in (
+      k.0,
+      k.1 ∙ ap (λ x. x ++ hole_fates cause) j.1 ∙ append_assoc old.causes (why ∷ []) (hole_fates cause) ∙ ap (λ o. old.causes ++ why ∷ hole_fates o) is,
+      k.2 ∙ ap (λ x. x ++ hole_drops cause) j.2 ∙ append_assoc old.dropped (dropped_at (part_address a 0) (here why)) (hole_drops cause)
+          ∙ ap (λ o. old.dropped ++ (dropped_at (part_address a 0) (here why) ++ hole_drops o)) is
+          ∙ ap (λ ds. old.dropped ++ ds) (sym (first_part a 0 (here why) (map (λ l. here (inner_cause why (line_cause arcs of true l))) holes))),
+    )
+
+-- what is told of an open line
+abbrev pub TellsLine : List (List ℤ) → List (List Point) → Address → List Point → Told → Told → Type 0
+TellsLine refs arcs a l old new = Tells refs ((false, l) ∷ []) (λ of. line_cause arcs of false l ∷ []) (λ of. dropped_at a (here (line_cause arcs of false l))) old new
+
+-- what is told of the rings of a polygon
+abbrev pub TellsRings : List (List ℤ) → List (List Point) → Address → List (List Point) → Told → Told → Type 0
+TellsRings refs arcs a rs old new =
+    Tells refs (map (λ l. (true, l)) rs) (λ of. fates (line_cause arcs of) (area_candidates (line_cause arcs of true) rs)) (λ of. dropped_at a (area_omissions (line_cause arcs of true) rs)) old new
+
+-- ---- shapes, by their kind
+
+-- what holds on success
+pub on_ok : {T E P Q : Type 0} (r : Result T E) → (P → Q) → OnOk r P → OnOk r Q
+on_ok (Ok v) f h = f h
+on_ok (Err e) f h = h
+
+abbrev pub TellsShape : List (List ℤ) → List (List Point) → Address → Shape → Told → Told → Type 0
+TellsShape refs arcs a s old new =
+    Tells refs (strokes s) (λ of. fates (line_cause arcs of) (candidates (line_cause arcs of true) s)) (λ of. dropped_at a (omissions (line_cause arcs of) s)) old new
+
+module _ (refs : List (List ℤ)) (arcs : List (List Point)) (a : Address) (s : Shape) (old new : Told) where
+  -- what is told of a shape of a kind, from what is told of its parts
+  of_kind : (lines : List Line) (causes : RefsOf → List (Option Cause)) (dropped : RefsOf → List Dropped) → strokes s ≡ lines
+      → ((of : RefsOf) → fates (line_cause arcs of) (candidates (line_cause arcs of true) s) ≡ causes of) → ((of : RefsOf) → dropped_at a (omissions (line_cause arcs of) s) ≡ dropped of)
+      → Tells refs lines causes dropped old new → TellsShape refs arcs a s old new
+  of_kind lines causes dropped l c d =
+      tells_as refs lines (strokes s) causes (λ of. fates (line_cause arcs of) (candidates (line_cause arcs of true) s)) dropped (λ of. dropped_at a (omissions (line_cause arcs of) s)) old new
+      (sym l) (λ of. sym (c of)) (λ of. sym (d of))
+
+  pub at_point : (p : Point) → s ≡ g.Point p → new ≡ old → TellsShape refs arcs a s old new
+  at_point p is same =
+      of_kind [] (λ of. []) (λ of. []) (ap strokes is ∙ strokes-point Point (List Point) p)
+      (λ of. ap (λ s. fates (line_cause arcs of) (candidates (line_cause arcs of true) s)) is ∙ ap (fates (line_cause arcs of)) ((candidates_at Point (List Point) (line_cause arcs of true)).point p))
+      (λ of. ap (λ s. dropped_at a (omissions (line_cause arcs of) s)) is ∙ ap (dropped_at a) ((omissions_at Point (List Point) (line_cause arcs of)).point p))
+      (subst (λ t. Tells refs [] (λ of. []) (λ of. []) old t) (sym same) (tells_nothing refs old))
+
+  pub at_points : (ps : List Point) → s ≡ g.MultiPoint ps → new ≡ old → TellsShape refs arcs a s old new
+  at_points ps is same =
+      of_kind [] (λ of. []) (λ of. []) (ap strokes is ∙ strokes-points Point (List Point) ps)
+      (λ of. ap (λ s. fates (line_cause arcs of) (candidates (line_cause arcs of true) s)) is ∙ ap (fates (line_cause arcs of)) ((candidates_at Point (List Point) (line_cause arcs of true)).points ps))
+      (λ of. ap (λ s. dropped_at a (omissions (line_cause arcs of) s)) is ∙ ap (dropped_at a) ((omissions_at Point (List Point) (line_cause arcs of)).points ps))
+      (subst (λ t. Tells refs [] (λ of. []) (λ of. []) old t) (sym same) (tells_nothing refs old))
+
+  pub at_line : (l : List Point) → s ≡ g.Line l → Tells refs ((false, l) ∷ []) (λ of. line_cause arcs of false l ∷ []) (λ of. dropped_at a (here (line_cause arcs of false l))) old new → TellsShape refs arcs a s old new
+  at_line l is =
+      of_kind ((false, l) ∷ []) (λ of. line_cause arcs of false l ∷ []) (λ of. dropped_at a (here (line_cause arcs of false l))) (ap strokes is ∙ strokes-line Point (List Point) l)
+      (λ of. ap (λ s. fates (line_cause arcs of) (candidates (line_cause arcs of true) s)) is ∙ ap (fates (line_cause arcs of)) ((candidates_at Point (List Point) (line_cause arcs of true)).line l))
+      (λ of. ap (λ s. dropped_at a (omissions (line_cause arcs of) s)) is ∙ ap (dropped_at a) ((omissions_at Point (List Point) (line_cause arcs of)).line l))
+
+  pub at_lines : (ls : List (List Point)) → s ≡ g.Lines ls → TellsAll (line_parts arcs a) refs 0 ls old new → TellsShape refs arcs a s old new
+  at_lines ls is =
+      of_kind (map (λ l. (false, l)) ls) (λ of. fates (line_cause arcs of) (map (free false) ls)) (λ of. dropped_at a (of_parts 0 (map (λ l. here (line_cause arcs of false l)) ls))) (ap strokes is ∙ strokes-lines Point (List Point) ls)
+      (λ of. ap (λ s. fates (line_cause arcs of) (candidates (line_cause arcs of true) s)) is ∙ ap (fates (line_cause arcs of)) ((candidates_at Point (List Point) (line_cause arcs of true)).lines ls))
+      (λ of. ap (λ s. dropped_at a (omissions (line_cause arcs of) s)) is ∙ ap (dropped_at a) ((omissions_at Point (List Point) (line_cause arcs of)).lines ls))
+
+  pub at_area : (rs : List (List Point)) → s ≡ g.Area rs → Tells refs (map (λ l. (true, l)) rs) (λ of. fates (line_cause arcs of) (area_candidates (line_cause arcs of true) rs))
+      (λ of. dropped_at a (area_omissions (line_cause arcs of true) rs)) old new → TellsShape refs arcs a s old new
+  at_area rs is =
+      of_kind (map (λ l. (true, l)) rs) (λ of. fates (line_cause arcs of) (area_candidates (line_cause arcs of true) rs)) (λ of. dropped_at a (area_omissions (line_cause arcs of true) rs)) (ap strokes is ∙ strokes-area Point (List Point) rs)
+      (λ of. ap (λ s. fates (line_cause arcs of) (candidates (line_cause arcs of true) s)) is ∙ ap (fates (line_cause arcs of)) ((candidates_at Point (List Point) (line_cause arcs of true)).area rs))
+      (λ of. ap (λ s. dropped_at a (omissions (line_cause arcs of) s)) is ∙ ap (dropped_at a) ((omissions_at Point (List Point) (line_cause arcs of)).area rs))
+
+  pub at_areas : (areas : List (List (List Point))) → s ≡ g.Areas areas → TellsAll (area_parts arcs a) refs 0 areas old new → TellsShape refs arcs a s old new
+  at_areas areas is =
+      of_kind (joined (map (map (λ l. (true, l))) areas)) (λ of. fates (line_cause arcs of) (joined (map (area_candidates (line_cause arcs of true)) areas)))
+      (λ of. dropped_at a (of_parts 0 (map (area_omissions (line_cause arcs of true)) areas))) (ap strokes is ∙ strokes-areas Point (List Point) areas)
+      (λ of. ap (λ s. fates (line_cause arcs of) (candidates (line_cause arcs of true) s)) is ∙ ap (fates (line_cause arcs of)) ((candidates_at Point (List Point) (line_cause arcs of true)).areas areas))
+      (λ of. ap (λ s. dropped_at a (omissions (line_cause arcs of) s)) is ∙ ap (dropped_at a) ((omissions_at Point (List Point) (line_cause arcs of)).areas areas))
+
+  pub at_group : (ss : List Shape) → s ≡ g.Group ss → TellsAll (shape_parts arcs a) refs 0 ss old new → TellsShape refs arcs a s old new
+  at_group ss is =
+      of_kind (joined (map strokes ss)) (λ of. fates (line_cause arcs of) (joined (map (candidates (line_cause arcs of true)) ss)))
+      (λ of. dropped_at a (of_parts 0 (map (omissions (line_cause arcs of)) ss))) (ap strokes is ∙ strokes-group Point (List Point) ss)
+      (λ of. ap (λ s. fates (line_cause arcs of) (candidates (line_cause arcs of true) s)) is ∙ ap (fates (line_cause arcs of)) ((candidates_at Point (List Point) (line_cause arcs of true)).group ss))
+      (λ of. ap (λ s. dropped_at a (omissions (line_cause arcs of) s)) is ∙ ap (dropped_at a) ((omissions_at Point (List Point) (line_cause arcs of)).group ss))
+
+-- ---- features and layers
+
+-- what is told of a shape that may be null
+abbrev pub TellsOption : List (List ℤ) → List (List Point) → Address → Option Shape → Told → Told → Type 0
+TellsOption refs arcs a o old new =
+    Tells refs (option_strokes o) (λ of. fates (line_cause arcs of) (option_candidates (line_cause arcs of true) o)) (λ of. dropped_at a (option_caused (line_cause arcs of) o)) old new
+
+pub shape_told : (refs : List (List ℤ)) (arcs : List (List Point)) (a b : Address) (o : Option Shape) (s : Shape) (old mid new : Told) → Some s ≡ o → a ≡ b → new ≡ mid → TellsShape refs arcs a s old mid
+    → TellsOption refs arcs b o old new
+shape_told refs arcs a b o s old mid new e at same k =
+    subst (λ o. TellsOption refs arcs b o old new) e (subst (λ c. TellsShape refs arcs c s old new) at (subst (λ t. TellsShape refs arcs a s old t) (sym same) k))
+
+pub null_told : (refs : List (List ℤ)) (arcs : List (List Point)) (a : Address) (o : Option Shape) (old new : Told) → None ≡ o → new ≡ old → TellsOption refs arcs a o old new
+null_told refs arcs a o old new e same =
+    subst (λ o. TellsOption refs arcs a o old new) e (subst (λ t. Tells refs [] (λ of. []) (λ of. []) old t) (sym same) (tells_nothing refs old))
+
+-- what is told of the features of a layer
+abbrev pub TellsFeatures : List (List ℤ) → List (List Point) → ℕ → List Featured → Told → Told → Type 0
+TellsFeatures refs arcs layer fs old new =
+    Tells refs (features_strokes fs) (λ of. fates (line_cause arcs of) (features_candidates (line_cause arcs of true) fs)) (λ of. layer_drops (line_cause arcs of) layer 0 fs) old new
+
+abbrev pub feature_parts : List (List Point) → ℕ → Parts Featured
+feature_parts arcs layer = record {
+  lines = λ f. option_strokes f.shape;
+  causes = λ of f. fates (line_cause arcs of) (option_candidates (line_cause arcs of true) f.shape);
+  dropped = λ of k f. dropped_at (feature_address layer k) (option_caused (line_cause arcs of) f.shape);
+  all_lines = features_strokes;
+  all_causes = λ of fs. fates (line_cause arcs of) (features_candidates (line_cause arcs of true) fs);
+  all_dropped = λ of k fs. layer_drops (line_cause arcs of) layer k fs;
+  lines_more = λ f fs. refl;
+  causes_more = λ of f fs. map-append (fate (line_cause arcs of)) (option_candidates (line_cause arcs of true) f.shape) (features_candidates (line_cause arcs of true) fs);
+  dropped_more = λ of k f fs. refl;
+  no_lines = refl;
+  no_causes = λ of. refl;
+  none_dropped = λ of k. refl;
+}
+
+abbrev pub layer_parts : List (List Point) → Parts (List ℕ × Layer)
+layer_parts arcs = record {
+  lines = λ l. features_strokes l.1.features;
+  causes = λ of l. fates (line_cause arcs of) (features_candidates (line_cause arcs of true) l.1.features);
+  dropped = λ of k l. layer_drops (line_cause arcs of) k 0 l.1.features;
+  all_lines = named_strokes;
+  all_causes = λ of ls. fates (line_cause arcs of) (named_candidates (line_cause arcs of true) ls);
+  all_dropped = λ of k ls. dropped_of_layers k (map (λ l. map (λ f. option_caused (line_cause arcs of) f.shape) l.1.features) ls);
+  lines_more = λ l ls. refl;
+  causes_more = λ of l ls. map-append (fate (line_cause arcs of)) (features_candidates (line_cause arcs of true) l.1.features) (named_candidates (line_cause arcs of true) ls);
+  dropped_more = λ of k l ls. refl;
+  no_lines = refl;
+  no_causes = λ of. refl;
+  none_dropped = λ of k. refl;
+}

@@ -1,27 +1,31 @@
 // The objects of a topology, made of layers, and the topology.
 ghost use Rattle.std.specs.Prelude.{◌≡◌, ◌<◌, ◌^◌, IfOk, None, length, map};
 ghost use Rattle.arc_table.specs.Arcs.{table_of};
-ghost use Rattle.build_meaning.specs.Built.{built};
-ghost use Rattle.build_meaning.specs.Expected.{expected_dropped};
 ghost use Rattle.build_meaning.specs.Laws.{AreSound};
 ghost use Rattle.build_meaning.specs.Layers.{features_strokes, layers_of, named_strokes, names_of};
 ghost use Rattle.build_meaning.specs.Objects.{Kept, feature_by, features_by, objects_by};
+ghost use Rattle.byte_ends.specs.Ends.{saturated};
 ghost use Rattle.cutter.specs.Slices.{split_of};
 ghost use Rattle.geometry.specs.Pruning.{option_strokes};
+ghost use Rattle.lessened_topology.specs.Assembled.{assembled, assembled_dropped, assembled_taken_out};
+ghost use Rattle.lessened_topology.specs.Lessened.{EachFromFirstToLast};
 ghost use Rattle.linework.specs.Linework.{linework};
 ghost use Rattle.topojson_types.specs.Validity.{AreDistinct};
 ghost use Rattle.topo_model.specs.Entries.{Replaces, entries_of};
 
+use crate::causes::ReducedLines;
+use crate::counting::{positions_in, taken_out, used_positions};
 use crate::dropping::fates_of;
 use crate::entries::KeptArcs;
 use crate::marking::used_arcs;
+use crate::picking::picked_cells_of_all;
 use crate::shapes::replaced_option;
 use crate::trimming::{kept_arcs, renumbered_entries};
 use arc_table::Table;
-use build_meaning::{built_is_valid, zero_loses_nothing};
 use elimination_meaning::zero_law;
 use geojson_types::{Dropped, Feature, Layer};
 use json_value::{Items, OwnText};
+use lessened_topology::assembled_is_valid;
 use owned_values::Memory;
 use std::alloc::Global;
 use topojson_types::{Cell, TopoFeature, TopoObject, Topology};
@@ -93,44 +97,63 @@ fn assemble_objects(
     Ok(objects)
 }
 
-/// The objects and the arcs of the topology of named layers, without the arcs that no kept line uses, and the lines and rings that
-/// are dropped, in reading order.
+/// The objects and the arcs of the topology of named layers over reduced arcs, without the arcs that no kept line uses, the lines
+/// and rings that are dropped, in reading order, and how many positions are taken out of the arcs that stay.
 fn objects_and_arcs(
     alloc: Global,
     layers: Vec<(OwnText, Layer)>,
     table: &Table,
-) -> Result<(Vec<(OwnText, TopoObject)>, Vec<Items<Cell>>, Vec<Dropped>), Memory>
+    kept: &[Vec<usize>],
+) -> Result<
+    (
+        Vec<(OwnText, TopoObject)>,
+        Vec<Items<Cell>>,
+        Vec<Dropped>,
+        u64,
+    ),
+    Memory,
+>
     requires table { table.now ≡ table_of (map (split_of (linework (layers_of layers.items))) (linework (layers_of layers.items))) }
     requires sound { AreSound layers.items }
-    ensures built { IfOk result (λ r. built 0 layers.items ≡ record { objects = r.0.items; arcs = r.1.items; transform = None }) }
-    ensures dropped { IfOk result (λ r. r.2.items ≡ expected_dropped 0 layers.items) }
+    requires kept { EachFromFirstToLast (map (λ k. k.items) kept.now) table.now.arcs }
+    ensures assembled { IfOk result
+        (λ r. assembled (map (λ k. k.items) kept.now) layers.items ≡ record { objects = r.0.items; arcs = r.1.items; transform = None }) }
+    ensures dropped { IfOk result (λ r. r.2.items ≡ assembled_dropped (map (λ k. k.items) kept.now) layers.items) }
+    ensures taken_out { IfOk result (λ r. r.3 ≡ saturated (assembled_taken_out (map (λ k. k.items) kept.now) layers.items)) }
 {
     zero_law();
-    zero_loses_nothing();
-    let (causes, dropped) = fates_of(alloc, &layers)?;
+    let picked = picked_cells_of_all(alloc, kept, table)?;
+    let lines = ReducedLines::over(table, &picked);
+    let (causes, dropped) = fates_of(alloc, &layers, &lines)?;
     let used = used_arcs(alloc, &causes, table)?;
     let entries = renumbered_entries(alloc, &causes, table, &used)?;
-    let arcs = kept_arcs(alloc, table, &used)?;
+    let arcs = kept_arcs(alloc, &picked, &used)?;
+    let taken = taken_out(used_positions(table, &used), positions_in(&arcs));
     let objects = assemble_objects(alloc, layers, &entries)?;
-    Ok((objects, arcs, dropped))
+    Ok((objects, arcs, dropped, taken))
 }
 
-/// The topology of named layers over the arcs of their lines, without those that no kept line uses, and the lines and rings that
-/// are dropped, in reading order. Nothing is reduced.
+/// The topology of named layers over the arcs of their lines, where of each arc the positions with these numbers are kept: a list
+/// for each arc, from its first position to its last. Lines and rings that are then left with too few positions, and arcs that no
+/// kept line uses, are left out. With it come the lines and rings that are dropped, in reading order, and how many positions are
+/// taken out of the arcs that stay: a count that stays at `u64::MAX` where it would pass it.
 pub fn assemble(
     alloc: Global,
     layers: Vec<(OwnText, Layer)>,
     table: &Table,
-) -> Result<(Topology, Vec<Dropped>), Memory>
+    kept: &[Vec<usize>],
+) -> Result<(Topology, Vec<Dropped>, u64), Memory>
     requires table { table.now ≡ table_of (map (split_of (linework (layers_of layers.items))) (linework (layers_of layers.items))) }
     requires sound { AreSound layers.items }
     requires names { AreDistinct (names_of layers.items) }
-    ensures topology { IfOk result (λ r. r.0 ≡ built 0 layers.items) }
-    ensures dropped { IfOk result (λ r. r.1.items ≡ expected_dropped 0 layers.items) }
+    requires kept { EachFromFirstToLast (map (λ k. k.items) kept.now) table.now.arcs }
+    ensures topology { IfOk result (λ r. r.0 ≡ assembled (map (λ k. k.items) kept.now) layers.items) }
+    ensures dropped { IfOk result (λ r. r.1.items ≡ assembled_dropped (map (λ k. k.items) kept.now) layers.items) }
+    ensures taken_out { IfOk result (λ r. r.2 ≡ saturated (assembled_taken_out (map (λ k. k.items) kept.now) layers.items)) }
     ensures few { IfOk result (λ r. length r.0.arcs < 2 ^ 63) }
 {
-    built_is_valid();
-    let (objects, arcs, dropped) = objects_and_arcs(alloc, layers, table)?;
+    assembled_is_valid();
+    let (objects, arcs, dropped, taken) = objects_and_arcs(alloc, layers, table, kept)?;
     let topology = Topology::of(Items::of(objects), Items::of(arcs), None);
-    Ok((topology, dropped))
+    Ok((topology, dropped, taken))
 }

@@ -1,53 +1,65 @@
 // What becomes of the lines and rings of layers: why each is dropped, if it is, and where those stand that are.
 ghost use Rattle.std.specs.Prelude.{◌≡◌, ℕ, ◌∷◌, [], ◌++◌, IfOk, OnOk, map, true, false};
 ghost use Rattle.build_meaning.specs.Candidates.{area_candidates, candidates, features_candidates, free, named_candidates};
+ghost use Rattle.build_meaning.specs.Layers.{features_strokes, named_strokes};
 ghost use Rattle.geometry.specs.declared.address.Address as declared;
 ghost use Rattle.geometry.specs.Lists.{joined};
 ghost use Rattle.geometry.specs.Omissions.{here, inner_cause, area_omissions, omissions};
 ghost use Rattle.geometry.specs.Paths.{of_parts};
+ghost use Rattle.geometry.specs.Pruning.{strokes};
 ghost use Rattle.junctions.specs.Gathering.{part_address};
+ghost use Rattle.lessened_topology.specs.Assembled.{layers_caused};
 ghost use Rattle.linework.specs.Linework.{feature_address};
-ghost use Rattle.topo_model.specs.Drops.{drops, dropped_at, layer_drops, short_cause};
+ghost use Rattle.topo_model.specs.Drops.{dropped_at, IsOwnCause, layer_drops, line_cause, long_refs, RefsOf, Tells};
 ghost use Rattle.topo_model.specs.Fates.{fates};
 
-use crate::lines::is_short_line;
+use crate::causes::ReducedLines;
 use geojson_types::{Address, Cause, Dropped, Feature, Layer, Position, Ring, Shape};
 use json_value::{Items, OwnText};
 use owned_values::Memory;
 use std::alloc::Global;
 use std::marker::Model;
 
-/// What becomes of the lines and rings of named layers where nothing is reduced: for each in reading order why it is dropped, if it
-/// is, and those that are dropped, with their places.
+/// What becomes of the lines and rings of named layers, where those that have enough positions from the first are rebuilt of the
+/// reduced arcs: for each in reading order why it is dropped, if it is, and those that are dropped, with their places.
 pub fn fates_of(
     alloc: Global,
     layers: &[(OwnText, Layer)],
+    lines: &ReducedLines<'_>,
 ) -> Result<(Vec<Option<Cause>>, Vec<Dropped>), Memory>
-    ensures causes { IfOk result (λ told. told.0.items ≡ fates (named_candidates (short_cause true) layers.now)) }
-    ensures dropped { IfOk result (λ told. told.1.items ≡ drops layers.now) }
+    ensures causes { IfOk result (λ told. (of : RefsOf) → lines.now.refs ≡ long_refs of (named_strokes layers.now)
+        → told.0.items ≡ fates (line_cause lines.now.arcs of) (named_candidates (line_cause lines.now.arcs of true) layers.now)) }
+    ensures dropped { IfOk result (λ told. (of : RefsOf) → lines.now.refs ≡ long_refs of (named_strokes layers.now)
+        → told.1.items ≡ layers_caused (line_cause lines.now.arcs of) layers.now) }
 {
     let mut told = Fates {
         causes: Vec::new(alloc),
         dropped: Vec::new(alloc),
+        next: 0,
     };
     let mut place = Place::first(alloc);
     for (number, layer) in layers.iter().enumerate() {
-        add_layer(
-            alloc,
-            &mut place,
-            number,
-            layer.1.features.as_slice(),
-            &mut told,
-        )?;
+        let features = layer.1.features.as_slice();
+        add_layer(alloc, &mut place, number, features, lines, &mut told)?;
     }
     Ok((told.causes, told.dropped))
 }
 
-// What becomes of lines and rings: why each is dropped, if it is, and those that are dropped.
+// What becomes of lines and rings: why each is dropped, if it is, and those that are dropped; and the number of the next of those
+// that have enough positions from the first.
 #[derive(Drop)]
 struct Fates {
     causes: Vec<Option<Cause>>,
     dropped: Vec<Dropped>,
+    next: usize,
+}
+
+impl Model for Fates {
+    ghost use Rattle.topo_model.specs.Drops.{Told};
+
+    ghost Value = { Told };
+
+    ghost view = { λ f. record { causes = f.causes.items; dropped = f.dropped.items; next = f.next } };
 }
 
 // Adds what becomes of the lines and rings of the features of the layer with this number.
@@ -56,43 +68,46 @@ fn add_layer(
     place: &mut Place,
     layer: usize,
     features: &[Feature],
+    lines: &ReducedLines<'_>,
     told: &mut Fates,
 ) -> Result<(), Memory>
-    ensures causes { OnOk result (told.new.causes.items ≡ told.old.causes.items ++ fates (features_candidates (short_cause true) features.now)) }
-    ensures dropped { OnOk result (told.new.dropped.items ≡ told.old.dropped.items ++ layer_drops layer 0 features.now) }
+    ensures { OnOk result (Tells lines.now.refs (features_strokes features.now)
+        (λ of. fates (line_cause lines.now.arcs of) (features_candidates (line_cause lines.now.arcs of true) features.now))
+        (λ of. layer_drops (line_cause lines.now.arcs of) layer 0 features.now) told.old told.new) }
 {
     for (number, feature) in features.iter().enumerate() {
         if let Some(shape) = feature.shape() {
             place.go_to(layer, number);
-            add_shape(alloc, place, shape, told)?;
+            add_shape(alloc, place, shape, lines, told)?;
         }
     }
     Ok(())
 }
 
 // Adds what becomes of those of the shape at this place.
-#[tactic(auto, using(crate::proofs::Told::of_line, crate::proofs::Told::of_lines, crate::proofs::Told::of_area, crate::proofs::Told::of_areas, crate::proofs::Told::fates_of_line, crate::proofs::Told::fates_of_lines, crate::proofs::Told::fates_of_area, crate::proofs::Told::fates_of_areas))]
 fn add_shape(
     alloc: Global,
     place: &mut Place,
     shape: &Shape,
+    lines: &ReducedLines<'_>,
     told: &mut Fates,
 ) -> Result<(), Memory>
     ensures place { OnOk result (place.new ≡ place.old) }
-    ensures causes { OnOk result (told.new.causes.items ≡ told.old.causes.items ++ fates (candidates (short_cause true) shape.now)) }
-    ensures dropped { OnOk result (told.new.dropped.items ≡ told.old.dropped.items ++ dropped_at place.old (omissions short_cause shape.now)) }
+    ensures told { OnOk result (Tells lines.now.refs (strokes shape.now)
+        (λ of. fates (line_cause lines.now.arcs of) (candidates (line_cause lines.now.arcs of true) shape.now))
+        (λ of. dropped_at place.old (omissions (line_cause lines.now.arcs of) shape.now)) told.old told.new) }
 {
     match shape {
         Shape::Point(_) => Ok(()),
         Shape::MultiPoint(_) => Ok(()),
-        Shape::Line(line) => add_line(alloc, place, line.as_slice(), told),
-        Shape::Lines(parts) => add_lines(alloc, place, parts.as_slice(), told),
-        Shape::Area(rings) => add_rings(alloc, place, rings.as_slice(), told),
-        Shape::Areas(areas) => add_areas(alloc, place, areas.as_slice(), told),
+        Shape::Line(line) => add_line(alloc, place, line.as_slice(), lines, told),
+        Shape::Lines(parts) => add_lines(alloc, place, parts.as_slice(), lines, told),
+        Shape::Area(rings) => add_rings(alloc, place, rings.as_slice(), lines, told),
+        Shape::Areas(areas) => add_areas(alloc, place, areas.as_slice(), lines, told),
         Shape::Group(shapes) => {
             'shapes: for (number, shape) in shapes.as_slice().iter().enumerate() {
                 place.enter(number)?;
-                add_shape(alloc, place, shape, told)?;
+                add_shape(alloc, place, shape, lines, told)?;
                 place.leave();
             }
             Ok(())
@@ -105,34 +120,48 @@ fn add_areas(
     alloc: Global,
     place: &mut Place,
     areas: &[Items<Ring>],
+    lines: &ReducedLines<'_>,
     told: &mut Fates,
 ) -> Result<(), Memory>
     ensures place { OnOk result (place.new ≡ place.old) }
-    ensures causes { OnOk result (told.new.causes.items ≡ told.old.causes.items ++ fates (joined (map (area_candidates (short_cause true)) areas.now))) }
-    ensures dropped { OnOk result
-        (told.new.dropped.items ≡ told.old.dropped.items ++ dropped_at place.old (of_parts 0 (map (area_omissions (short_cause true)) areas.now))) }
+    ensures told { OnOk result (Tells lines.now.refs (joined (map (map (λ l. (true, l))) areas.now))
+        (λ of. fates (line_cause lines.now.arcs of) (joined (map (area_candidates (line_cause lines.now.arcs of true)) areas.now)))
+        (λ of. dropped_at place.old (of_parts 0 (map (area_omissions (line_cause lines.now.arcs of true)) areas.now))) told.old told.new) }
 {
     for (number, rings) in areas.iter().enumerate() {
         place.enter(number)?;
-        add_rings(alloc, place, rings.as_slice(), told)?;
+        add_rings(alloc, place, rings.as_slice(), lines, told)?;
         place.leave();
     }
     Ok(())
 }
 
 // Adds what becomes of those of the rings of the polygon at this place. With the outer ring each hole is dropped.
-fn add_rings(alloc: Global, place: &Place, rings: &[Ring], told: &mut Fates) -> Result<(), Memory>
-    ensures causes { OnOk result (told.new.causes.items ≡ told.old.causes.items ++ fates (area_candidates (short_cause true) rings.now)) }
-    ensures dropped { OnOk result (told.new.dropped.items ≡ told.old.dropped.items ++ dropped_at place.now (area_omissions (short_cause true) rings.now)) }
+fn add_rings(
+    alloc: Global,
+    place: &Place,
+    rings: &[Ring],
+    lines: &ReducedLines<'_>,
+    told: &mut Fates,
+) -> Result<(), Memory>
+    ensures { OnOk result (Tells lines.now.refs (map (λ l. (true, l)) rings.now)
+        (λ of. fates (line_cause lines.now.arcs of) (area_candidates (line_cause lines.now.arcs of true) rings.now))
+        (λ of. dropped_at place.now (area_omissions (line_cause lines.now.arcs of true) rings.now)) told.old told.new) }
 {
     let Some((outer, holes)) = rings.split_first() else {
         return Ok(());
     };
-    let outer_cause = cause_of(true, outer.as_slice());
+    let outer_cause = own_cause(true, outer.as_slice(), lines, told);
     add_part(alloc, place, 0, outer_cause, told)?;
     for (number, hole) in holes.iter().enumerate() {
-        let cause = hole_cause(outer_cause, cause_of(true, hole.as_slice()));
-        add_part(alloc, place, number + 1, cause, told)?;
+        let cause = own_cause(true, hole.as_slice(), lines, told);
+        add_part(
+            alloc,
+            place,
+            number + 1,
+            hole_cause(outer_cause, cause),
+            told,
+        )?;
     }
     Ok(())
 }
@@ -142,24 +171,62 @@ fn add_lines(
     alloc: Global,
     place: &Place,
     parts: &[Items<Position>],
+    lines: &ReducedLines<'_>,
     told: &mut Fates,
 ) -> Result<(), Memory>
-    ensures causes { OnOk result (told.new.causes.items ≡ told.old.causes.items ++ fates (map (free false) parts.now)) }
-    ensures dropped { OnOk result
-        (told.new.dropped.items ≡ told.old.dropped.items ++ dropped_at place.now (of_parts 0 (map (λ l. here (short_cause false l)) parts.now))) }
+    ensures { OnOk result (Tells lines.now.refs (map (λ l. (false, l)) parts.now)
+        (λ of. fates (line_cause lines.now.arcs of) (map (free false) parts.now))
+        (λ of. dropped_at place.now (of_parts 0 (map (λ l. here (line_cause lines.now.arcs of false l)) parts.now))) told.old told.new) }
 {
     for (number, line) in parts.iter().enumerate() {
-        add_part(alloc, place, number, cause_of(false, line.as_slice()), told)?;
+        let cause = own_cause(false, line.as_slice(), lines, told);
+        add_part(alloc, place, number, cause, told)?;
     }
     Ok(())
 }
 
 // Adds what becomes of the line at this place.
-fn add_line(alloc: Global, place: &Place, line: &[Position], told: &mut Fates) -> Result<(), Memory>
-    ensures causes { OnOk result (told.new.causes.items ≡ told.old.causes.items ++ short_cause false line.now ∷ []) }
-    ensures dropped { OnOk result (told.new.dropped.items ≡ told.old.dropped.items ++ dropped_at place.now (here (short_cause false line.now))) }
+fn add_line(
+    alloc: Global,
+    place: &Place,
+    line: &[Position],
+    lines: &ReducedLines<'_>,
+    told: &mut Fates,
+) -> Result<(), Memory>
+    ensures { OnOk result (Tells lines.now.refs ((false, line.now) ∷ [])
+        (λ of. line_cause lines.now.arcs of false line.now ∷ [])
+        (λ of. dropped_at place.now (here (line_cause lines.now.arcs of false line.now))) told.old told.new) }
 {
-    let cause = cause_of(false, line);
+    let cause = own_cause(false, line, lines, told);
+    add_here(alloc, place, cause, told)
+}
+
+// Why a line or a ring is dropped for its own sake, if it is. Where it has enough positions from the first, its arc indexes are
+// passed.
+fn own_cause(
+    closed: bool,
+    positions: &[Position],
+    lines: &ReducedLines<'_>,
+    told: &mut Fates,
+) -> Option<Cause>
+    ensures cause { IsOwnCause lines.now.refs lines.now.arcs closed positions.now told.old.next told.new.next result }
+    ensures causes { told.new.causes ≡ told.old.causes }
+    ensures dropped { told.new.dropped ≡ told.old.dropped }
+{
+    lines.own_cause(closed, positions, &mut told.next)
+}
+
+// Adds what becomes of what stands at this place.
+fn add_here(
+    alloc: Global,
+    place: &Place,
+    cause: Option<Cause>,
+    told: &mut Fates,
+) -> Result<(), Memory>
+    ensures causes { OnOk result (told.new.causes ≡ told.old.causes ++ cause ∷ []) }
+    ensures dropped { OnOk result (told.new.dropped ≡ told.old.dropped ++ dropped_at place.now (here cause)) }
+    ensures next { told.new.next ≡ told.old.next }
+{
     told.causes.push(cause)?;
     if let Some(cause) = cause {
         let address = place.address(alloc)?;
@@ -176,8 +243,9 @@ fn add_part(
     cause: Option<Cause>,
     told: &mut Fates,
 ) -> Result<(), Memory>
-    ensures causes { OnOk result (told.new.causes.items ≡ told.old.causes.items ++ cause ∷ []) }
-    ensures dropped { OnOk result (told.new.dropped.items ≡ told.old.dropped.items ++ dropped_at (part_address place.now number) (here cause)) }
+    ensures causes { OnOk result (told.new.causes ≡ told.old.causes ++ cause ∷ []) }
+    ensures dropped { OnOk result (told.new.dropped ≡ told.old.dropped ++ dropped_at (part_address place.now number) (here cause)) }
+    ensures next { told.new.next ≡ told.old.next }
 {
     told.causes.push(cause)?;
     if let Some(cause) = cause {
@@ -185,17 +253,6 @@ fn add_part(
         told.dropped.push(Dropped { address, cause })?;
     }
     Ok(())
-}
-
-// Why a line or a ring is dropped for its own sake, if it is.
-fn cause_of(closed: bool, positions: &[Position]) -> Option<Cause>
-    ensures { result ≡ short_cause closed positions.now }
-{
-    if is_short_line(closed, positions) {
-        Some(Cause::Collapsed)
-    } else {
-        None
-    }
 }
 
 // Why a hole is dropped, if it is: for its own cause, or else because the outer ring is dropped.

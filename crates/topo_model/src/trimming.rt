@@ -1,15 +1,13 @@
 // The arcs that are used, and their new numbers.
-ghost use Rattle.std.specs.Prelude.{◌≡◌, ◌<◌, ℕ, Bool, IfOk, length, map, negsuc, pos, ◌-ℤ◌};
+ghost use Rattle.std.specs.Prelude.{◌≡◌, ◌<◌, ℕ, Bool, Some, IfOk, length, map, negsuc, pos, ◌-ℤ◌};
 ghost use Rattle.build_meaning.specs.Trimming.{keep_from, rank_from, renumbered};
 ghost use Rattle.geometry.specs.Joins.{number_of};
 ghost use Rattle.topojson_types.specs.Validity.{AreInRange};
-ghost use Rattle.geometry.specs.Lists.{map_some};
-ghost use Rattle.topo_model.specs.Fates.{dealt};
+ghost use Rattle.topo_model.specs.Fates.{dealt, entry_by};
 ghost use Rattle.topo_model.specs.Uses.{answers};
 
 use crate::entries::KeptArcs;
 use crate::marking::has_line;
-use crate::shapes::cells;
 use arc_table::Table;
 use geojson_types::Cause;
 use json_value::Items;
@@ -67,8 +65,25 @@ fn renumber_all(alloc: Global, refs: &[ArcRef], ranks: &[ArcRef]) -> Result<Item
     Ok(Items::of(made))
 }
 
+/// What stands for a line or ring with this fate: its new indexes, unless it is left with too few positions.
+fn entry_of(
+    alloc: Global,
+    fate: Option<Cause>,
+    refs: &[ArcRef],
+    ranks: &[ArcRef],
+) -> Result<KeptArcs, Memory>
+    requires { AreInRange (length ranks.now) refs.now }
+    ensures { IfOk result (λ entry. (u : ℕ → Bool) → ranks.now ≡ answers (λ i. pos (rank_from u 0 i)) 0 (length ranks.now)
+        → entry ≡ entry_by u (fate, Some refs.now)) }
+{
+    if let Some(Cause::Small) = fate {
+        return Ok(None);
+    }
+    Ok(Some(renumber_all(alloc, refs, ranks)?))
+}
+
 /// What stands for each line and ring, by its fate: the arc indexes that the table has for it, where only the arcs with a set flag
-/// are left.
+/// are left, unless it is dropped for its own sake.
 pub fn renumbered_entries(
     alloc: Global,
     fates: &[Option<Cause>],
@@ -77,7 +92,7 @@ pub fn renumbered_entries(
 ) -> Result<Vec<KeptArcs>, Memory>
     requires { length used.now ≡ length table.now.arcs }
     ensures { IfOk result (λ entries. (u : ℕ → Bool) → used.now ≡ answers u 0 (length table.now.arcs)
-        → entries.items ≡ map (λ d. map_some (map (renumbered u)) d.1) (dealt fates.now table.now.refs)) }
+        → entries.items ≡ map (entry_by u) (dealt fates.now table.now.refs)) }
 {
     table.law();
     let ranks = ranks(alloc, used)?;
@@ -88,24 +103,36 @@ pub fn renumbered_entries(
             entries.push(None)?;
             continue;
         }
-        entries.push(Some(renumber_all(alloc, table.refs(next), &ranks)?))?;
+        entries.push(entry_of(alloc, *fate, table.refs(next), &ranks)?)?;
         next += 1;
     }
     Ok(entries)
 }
 
+/// The same cells once more.
+fn copied(alloc: Global, cells: &[Cell]) -> Result<Items<Cell>, Memory>
+    ensures { IfOk result (λ copy. copy ≡ cells.now) }
+{
+    let mut copy = Vec::with_capacity(alloc, cells.len())?;
+    copy.extend_from_slice(cells)?;
+    Ok(Items::of(copy))
+}
+
 /// The arcs with a set flag, in order.
-pub fn kept_arcs(alloc: Global, table: &Table, used: &[bool]) -> Result<Vec<Items<Cell>>, Memory>
-    requires { length used.now ≡ length table.now.arcs }
-    ensures { IfOk result (λ arcs. (u : ℕ → Bool) → used.now ≡ answers u 0 (length table.now.arcs)
-        → arcs.items ≡ keep_from u 0 table.now.arcs) }
+pub fn kept_arcs(
+    alloc: Global,
+    arcs: &[Items<Cell>],
+    used: &[bool],
+) -> Result<Vec<Items<Cell>>, Memory>
+    requires { length used.now ≡ length arcs.now }
+    ensures { IfOk result (λ kept. (u : ℕ → Bool) → used.now ≡ answers u 0 (length arcs.now) → kept.items ≡ keep_from u 0 arcs.now) }
 {
     let mut kept = Vec::new(alloc);
-    'arcs: for i in 0..table.len() {
+    'arcs: for i in 0..arcs.len() {
         if !used[i] {
             continue;
         }
-        kept.push(cells(alloc, table.arc(i))?)?;
+        kept.push(copied(alloc, arcs[i].as_slice())?)?;
     }
     Ok(kept)
 }

@@ -1,15 +1,21 @@
 use Rattle.std.proofs.Common.{sym, ap, ◌∙◌, subst, arith, length, ◌<◌, ◌^◌}
 use Rattle.topojson_types.specs.Validity.{IsTopology}
-use Rattle.topo_model.proofs.Assembled.{contents}
+use Rattle.lessened_topology.proofs.Assembled.{contents}
+use Rattle.lessened_topology.specs.Lessened.{EachFromFirstToLast}
+use Rattle.topo_model.proofs.Assembled.{table_arcs}
 use Rattle.topo_model.proofs.assembling.assemble.Goals as goal
 
 pub of-topology-requires : goal.of-topology-requires
 of-topology-requires c =
-    record { valid = rw (c.of.ensures, c.of-2.ensures) (subst IsTopology c.in_ok-objects.ensures.built (c.built_is_valid.ensures 0 c.args.layers.items c.requires.sound c.requires.names)) }
+    record {
+      valid = rw (c.of.ensures, c.of-2.ensures)
+          (subst IsTopology c.in_ok-objects.ensures.assembled (c.assembled_is_valid.ensures _ c.args.layers.items c.requires.sound c.requires.names
+          (subst (EachFromFirstToLast _) (table_arcs c.args.layers.items c.args.table.now c.requires.table) c.requires.kept)));
+    }
 
 pub returns-clause-topology : goal.returns-clause-topology
 returns-clause-topology c =
-    c.of-topology.ensures ∙ ap (λ os. contents os c.of-2.result) c.of.ensures ∙ ap (contents c.in_ok-objects.objects.items) c.of-2.ensures ∙ sym c.in_ok-objects.ensures.built
+    c.of-topology.ensures ∙ ap (λ os. contents os c.of-2.result) c.of.ensures ∙ ap (contents c.in_ok-objects.objects.items) c.of-2.ensures ∙ sym c.in_ok-objects.ensures.assembled
 
 pub returns-clause-few : goal.returns-clause-few
 returns-clause-few c =

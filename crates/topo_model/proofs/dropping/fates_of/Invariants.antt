@@ -1,11 +1,5 @@
-use Rattle.std.proofs.Common.{◌≡◌, ◌++◌, true, map, drop}
-use Rattle.build_meaning.specs.Candidates.{named_candidates}
-use Rattle.geometry.specs.Omissions.{dropped_of_layers}
-use Rattle.topo_model.specs.Drops.{drops, option_drops, short_cause}
-use Rattle.topo_model.specs.Fates.{fates}
+use Rattle.topo_model.proofs.Told.{Open, layer_parts, nothing_told}
 use Rattle.topo_model.proofs.dropping.fates_of.Given as goal
 
 abbrev pub invariant-loop-number : goal.invariant-loop-number
-invariant-loop-number l =
-    (l.told.causes.items ++ fates (named_candidates (short_cause true) (drop l.number l.layers)) ≡ fates (named_candidates (short_cause true) l.layers))
-    × (l.told.dropped.items ++ dropped_of_layers l.number (map (λ l. map (λ f. option_drops f.shape) l.1.features) (drop l.number l.layers)) ≡ drops l.layers)
+invariant-loop-number l = Open (layer_parts l.lines.arcs) l.lines.refs 0 l.layers nothing_told l.number l.number l.told

@@ -1,0 +1,125 @@
+-- Elements that are chosen by flags.
+use Rattle.std.proofs.Common.{◌≡◌, ℕ, zero, suc, ◌+◌, ◌*◌, ◌^◌, ◌<◌, ◌≤◌, Bool, true, false, List, [], ◌∷◌, ◌++◌, drop, take, length, map, sum, get_or, if◌then◌else◌, append-nil, refl, sym, ap, ◌∙◌, arith}
+use Rattle.std.proofs.lemmas.List.{length-append}
+use Rattle.std.proofs.lemmas.List.Sums.{sum_by_push}
+use Rattle.list_laws.proofs.Lists.{take_here}
+use Rattle.build_meaning.specs.Built.{positions_of}
+use Rattle.build_meaning.specs.Trimming.{keep_from}
+use Rattle.geometry.specs.Points.{Point}
+use Rattle.arc_choice.specs.Uses.{answers, chosen}
+
+-- where the flags are answers, they are those that pass
+pub chosen_is : {X : Type 0} (u : ℕ → Bool) (n : ℕ) (xs : List X) → chosen (answers u n (length xs)) xs ≡ keep_from u n xs
+chosen_is u n [] = refl
+chosen_is u n (x ∷ xs) = ap (λ ys. if u n then x ∷ ys else ys) (chosen_is u (suc n) xs)
+
+of_none : {X : Type 0} (bs : List Bool) → chosen {X = X} bs [] ≡ []
+of_none [] = refl
+of_none (b ∷ bs) = refl
+
+chosen_end : {X : Type 0} (bs : List Bool) (xs : List X) (x : X) → chosen bs (xs ++ x ∷ []) ≡ chosen bs xs ++ chosen (drop (length xs) bs) (x ∷ [])
+chosen_end [] [] x = refl
+chosen_end [] (y ∷ xs) x = refl
+chosen_end (b ∷ bs) [] x = refl
+chosen_end {X} (b ∷ bs) (y ∷ xs) x = on b (chosen bs (xs ++ x ∷ [])) (chosen bs xs) (chosen (drop (length xs) bs) (x ∷ [])) (chosen_end bs xs x)
+  where
+    on : (b : Bool) (all front back : List X) → all ≡ front ++ back → (if b then y ∷ all else all) ≡ (if b then y ∷ front else front) ++ back
+    on true all front back e = ap (λ zs. y ∷ zs) e
+    on false all front back e = e
+
+behind : (bs : List Bool) (n : ℕ) (b : Bool) (rest : List Bool) → b ∷ rest ≡ drop n bs → rest ≡ drop (suc n) bs
+behind [] zero b rest e = absurd cc
+behind [] (suc n) b rest e = absurd cc
+behind (c ∷ bs) zero b rest e = cc
+behind (c ∷ bs) (suc n) b rest e = behind bs n b rest e
+
+one_longer : {X : Type 0} (xs : List X) (x : X) → length (xs ++ x ∷ []) ≡ suc (length xs)
+one_longer xs x = let l = length-append xs (x ∷ []) in omega (arith, l)
+
+no_flag : (bs : List Bool) (n : ℕ) → [] ≡ drop n bs → [] ≡ drop (suc n) bs
+no_flag [] zero e = refl
+no_flag [] (suc n) e = refl
+no_flag (c ∷ bs) zero e = absurd cc
+no_flag (c ∷ bs) (suc n) e = no_flag bs n e
+
+-- what is chosen of the elements so far, and the flags of the others
+abbrev pub Chooses : {X : Type 0} → List Bool → List X → List Bool → List X → Type 0
+Chooses used xs flags kept = (flags ≡ drop (length xs) used) × (kept ≡ chosen used xs)
+
+pub begins : {X : Type 0} (used : List Bool) (kept : List X) → kept ≡ [] → Chooses used [] used kept
+begins used kept none = (refl, none ∙ sym (of_none used))
+
+pub passed : {X : Type 0} (used flags : List Bool) (xs kept : List X) (x : X) → flags ≡ [] → Chooses used xs flags kept → Chooses used (xs ++ x ∷ []) flags kept
+passed used flags xs kept x none so = (
+  none ∙ no_flag used (length xs) (sym none ∙ so.0) ∙ ap (λ n. drop n used) (sym (one_longer xs x)),
+  so.1 ∙ sym (append-nil (chosen used xs)) ∙ ap (λ bs. chosen used xs ++ chosen bs (x ∷ [])) (sym none ∙ so.0) ∙ sym (chosen_end used xs x),
+)
+
+more : {X : Type 0} (used flags rest : List Bool) (flag : Bool) (xs kept new : List X) (x : X) → flag ∷ rest ≡ flags → new ≡ kept ++ (if flag then x ∷ [] else []) → Chooses used xs flags kept
+    → Chooses used (xs ++ x ∷ []) rest new
+more used flags rest flag xs kept new x split is so = (
+  behind used (length xs) flag rest (split ∙ so.0) ∙ ap (λ n. drop n used) (sym (one_longer xs x)),
+  is ∙ ap (λ ys. ys ++ (if flag then x ∷ [] else [])) so.1 ∙ ap (λ ys. chosen used xs ++ ys) (ap (λ ys. if flag then x ∷ ys else ys) (sym (of_none rest)))
+      ∙ ap (λ bs. chosen used xs ++ chosen bs (x ∷ [])) (split ∙ so.0) ∙ sym (chosen_end used xs x),
+)
+
+pub left_out : {X : Type 0} (used flags rest : List Bool) (flag : Bool) (xs kept : List X) (x : X) → flag ∷ rest ≡ flags → flag ≡ false → Chooses used xs flags kept → Chooses used (xs ++ x ∷ []) rest kept
+left_out used flags rest flag xs kept x split f so = more used flags rest flag xs kept kept x split (sym (ap (λ b. kept ++ (if b then x ∷ [] else [])) f ∙ append-nil kept)) so
+
+pub taken : {X : Type 0} (used flags rest : List Bool) (flag : Bool) (xs kept new : List X) (x : X) → flag ∷ rest ≡ flags → flag ≡ true → new ≡ kept ++ x ∷ [] → Chooses used xs flags kept
+    → Chooses used (xs ++ x ∷ []) rest new
+taken used flags rest flag xs kept new x split t is so = more used flags rest flag xs kept new x split (is ∙ ap (λ b. kept ++ (if b then x ∷ [] else [])) (sym t)) so
+
+-- ---- how many positions these have
+
+lengths_end : (kept : List (List Point)) (x : List Point) → map length (kept ++ x ∷ []) ≡ map length kept ++ length x ∷ []
+lengths_end [] x = refl
+lengths_end (y ∷ kept) x = ap (λ ns. length y ∷ ns) (lengths_end kept x)
+
+-- so many positions have those that are chosen so far
+pub record Counts (used : List Bool) (arcs : List (List Point)) (i : ℕ) (flags : List Bool) (count : ℕ) : Type 0 where
+  pub kept : List (List Point)
+  pub chooses : Chooses used (take i arcs) flags kept
+  pub count_is : count ≡ positions_of kept
+  pub small : count ≤ i * 2 ^ 64
+
+pub counts_begin : (used : List Bool) (arcs : List (List Point)) → Counts used arcs 0 used 0
+counts_begin used arcs = record { kept = []; chooses = (refl, sym (of_none used)); count_is = refl; small = omega arith }
+
+pub counts_passed : (used flags : List Bool) (arcs : List (List Point)) (i count : ℕ) (x : List Point) → i < length arcs → x ≡ get_or arcs i x → flags ≡ [] → Counts used arcs i flags count
+    → Counts used arcs (i + 1) flags count
+counts_passed used flags arcs i count x lt is none so = record {
+  kept = so.kept;
+  chooses = rw (take_here arcs i x lt is) (passed used flags (take i arcs) so.kept x none so.chooses);
+  count_is = so.count_is;
+  small = let s = so.small in omega (arith, s);
+}
+
+pub counts_left_out : (used flags rest : List Bool) (flag : Bool) (arcs : List (List Point)) (i count : ℕ) (x : List Point) → i < length arcs → x ≡ get_or arcs i x → flag ∷ rest ≡ flags → flag ≡ false
+    → Counts used arcs i flags count → Counts used arcs (i + 1) rest count
+counts_left_out used flags rest flag arcs i count x lt is split f so = record {
+  kept = so.kept;
+  chooses = rw (take_here arcs i x lt is) (left_out used flags rest flag (take i arcs) so.kept x split f so.chooses);
+  count_is = so.count_is;
+  small = let s = so.small in omega (arith, s);
+}
+
+pub counts_taken : (used flags rest : List Bool) (flag : Bool) (arcs : List (List Point)) (i count new : ℕ) (x : List Point) → i < length arcs → x ≡ get_or arcs i x → flag ∷ rest ≡ flags → flag ≡ true
+    → new ≡ count + length x → length x < 2 ^ 64 → Counts used arcs i flags count → Counts used arcs (i + 1) rest new
+counts_taken used flags rest flag arcs i count new x lt is split t n low so = record {
+  kept = so.kept ++ x ∷ [];
+  chooses = rw (take_here arcs i x lt is) (taken used flags rest flag (take i arcs) so.kept (so.kept ++ x ∷ []) x split t refl so.chooses);
+  count_is = n ∙ ap (λ m. m + length x) so.count_is ∙ sym (ap sum (lengths_end so.kept x) ∙ sum_by_push (λ n. n) (map length so.kept) (length x));
+  small = let s = so.small in omega (arith, s, n, low);
+}
+
+pub counted_all : (used flags : List Bool) (arcs : List (List Point)) (i count : ℕ) → take i arcs ≡ arcs → Counts used arcs i flags count → count ≡ positions_of (chosen used arcs)
+counted_all used flags arcs i count all so = so.count_is ∙ ap positions_of so.chooses.1 ∙ ap (λ xs. positions_of (chosen used xs)) all
+
+-- one more fits
+pub fits : (count i n : ℕ) → count ≤ i * 2 ^ 64 → i < 2 ^ 64 → n < 2 ^ 64 → count + n < 2 ^ 128
+fits count i n c l m = omega (arith, c, l, m)
+
+pub empty_list : {X : Type 0} (xs : List X) → length xs ≡ 0 → xs ≡ []
+empty_list [] e = refl
+empty_list (x ∷ xs) e = absurd (omega (arith, e))

@@ -1,0 +1,6 @@
+pub mod Chosen
+pub mod Marked
+pub mod Passed
+pub mod Ranked
+pub mod Short
+pub mod Told

@@ -1,0 +1,139 @@
+-- Positions that are passed one after the other, until there are enough.
+use Rattle.std.proofs.Common.{◌≡◌, ℕ, zero, suc, ℤ, pos, negsuc, reverse, slice_get, ◌+◌, ◌-◌, ◌<◌, ◌≤◌, nat_lt, Bool, true, false, cond, List, [], ◌∷◌, ◌++◌, map, drop, length, get_or, append_assoc, append-nil, Option, None, Some, refl, sym, ap, ◌∙◌, arith}
+use Rattle.std.proofs.lemmas.Bool.Decides.{nat_tests}
+use Rattle.std.proofs.lemmas.List.{drop_all, get_or-reverse, length-reverse}
+use Rattle.geometry.specs.Joins.{number_of, is_reversed, at, or_empty, arc_at, joined_behind_first}
+use Rattle.geometry.specs.Points.{Point}
+use Rattle.geometry.specs.Rings.{same}
+use Rattle.geometry.proofs.Points.{same_is}
+use Rattle.junctions.specs.Cleaning.{clean, clean_from, is_short}
+use Rattle.list_laws.specs.Lists.{tail}
+use Rattle.list_laws.proofs.Lists.{drop_here}
+use Rattle.arc_choice.specs.Passing.{Need, new_behind, missing_behind, Passes, directed}
+use Rattle.arc_choice.proofs.Short.{some_left}
+
+-- ---- one position
+
+abbrev pub need : Option Point → ℕ → Need
+need last missing = record { last = last; missing = missing }
+
+pub passed_first : (n : Need) (p : Point) (missing : ℕ) → n.last ≡ None → missing ≡ n.missing - 1 → Passes (p ∷ []) n (need (Some p) missing)
+passed_first n p missing e m behind =
+    let k = some_left p behind in
+    let one : missing - (length (clean_from p behind) - 1) ≡ n.missing - length (clean_from p behind) = omega (arith, k, m) in
+    one ∙ sym (ap (λ o. n.missing - new_behind o (p ∷ behind)) e)
+
+pub passed_same : (n : Need) (q p : Point) → n.last ≡ Some q → same q p ≡ true → Passes (p ∷ []) n n
+passed_same n q p e s behind =
+    ap (λ o. n.missing - new_behind o behind) e ∙ ap (λ x. n.missing - (length (clean_from x behind) - 1)) (same_is q p s)
+    ∙ sym (ap (λ b. n.missing - (length (cond b (clean_from p behind) (q ∷ clean_from p behind)) - 1)) s)
+    ∙ sym (ap (λ o. n.missing - new_behind o (p ∷ behind)) e)
+
+pub passed_other : (n : Need) (q p : Point) (missing : ℕ) → n.last ≡ Some q → same q p ≡ false → missing ≡ n.missing - 1 → Passes (p ∷ []) n (need (Some p) missing)
+passed_other n q p missing e s m behind =
+    let k = some_left p behind in
+    let one : missing - (length (clean_from p behind) - 1) ≡ n.missing - (length (q ∷ clean_from p behind) - 1) = omega (arith, k, m) in
+    one ∙ sym (ap (λ b. n.missing - (length (cond b (clean_from p behind) (q ∷ clean_from p behind)) - 1)) s)
+    ∙ sym (ap (λ o. n.missing - new_behind o (p ∷ behind)) e)
+
+-- ---- lists
+
+pub passed_none : (n : Need) → Passes [] n n
+passed_none n behind = refl
+
+-- where none is missing, none is missing behind whatever comes
+pub none_missing : (n : Need) (ps : List Point) → n.missing ≡ 0 → missing_behind n ps ≡ 0
+none_missing n ps h = omega (arith, h)
+
+-- these are still to be passed of all
+abbrev pub Open : List Point → List Point → Need → Need → Type 0
+Open left all old now = (behind : List Point) → missing_behind now (left ++ behind) ≡ missing_behind old (all ++ behind)
+
+-- a run of them is passed
+pub run_passed : (run left all : List Point) (old now new : Need) → Open (run ++ left) all old now → Passes run now new → Open left all old new
+run_passed run left all old now new so_far pass behind = pass (left ++ behind) ∙ ap (missing_behind now) (sym (append_assoc run left behind)) ∙ so_far behind
+
+-- the next of them is passed
+pub one_passed : (xs all : List Point) (i : ℕ) (x : Point) (old now new : Need) → i < length xs → x ≡ get_or xs i x → Open (drop i xs) all old now → Passes (x ∷ []) now new → Open (drop (i + 1) xs) all old new
+one_passed xs all i x old now new lt is so_far pass behind =
+    run_passed (x ∷ []) (drop (i + 1) xs) all old now new (λ b. ap (λ l. missing_behind now (l ++ b)) (sym (drop_here xs i x lt is)) ∙ so_far b) pass behind
+
+-- all of them are
+pub all_passed : (xs all : List Point) (i : ℕ) (old now : Need) → length xs ≤ i → Open (drop i xs) all old now → Passes all old now
+all_passed xs all i old now le so_far behind = ap (λ l. missing_behind now (l ++ behind)) (sym (drop_all i xs le)) ∙ so_far behind
+
+-- or none is missing any more
+pub stopped : (left all : List Point) (old now : Need) → now.missing ≡ 0 → Open left all old now → Passes all old now
+stopped left all old now none so_far behind = none_missing now behind none ∙ sym (none_missing now (left ++ behind) none) ∙ so_far behind
+
+-- ---- arcs in one direction or the other
+
+pub directed_length : (reversed : Bool) (arc : List Point) → length (directed reversed arc) ≡ length arc
+directed_length true arc = length-reverse arc
+directed_length false arc = refl
+
+pub directed_at : (reversed : Bool) (arc : List Point) (k i : ℕ) (x : Point) → k < length arc → i ≡ cond reversed (length arc - 1 - k) k → x ≡ get_or arc i x → x ≡ get_or (directed reversed arc) k x
+directed_at true arc k i x lt e is = is ∙ ap (λ j. get_or arc j x) e ∙ sym (get_or-reverse arc k x lt)
+directed_at false arc k i x lt e is = is ∙ ap (λ j. get_or arc j x) e
+
+pub at_got : {X : Type 0} (xs : List X) (i : ℕ) → at xs i ≡ slice_get xs i
+at_got [] i = refl
+at_got (x ∷ xs) zero = refl
+at_got (x ∷ xs) (suc i) = at_got xs i
+
+-- the arc that an index names
+pub arc_named : (arcs : List (List Point)) (r : ℤ) (n : ℕ) (reversed : Bool) (arc : List Point) → n ≡ number_of r → reversed ≡ is_reversed r → slice_get arcs n ≡ Some arc → directed reversed arc ≡ arc_at arcs r
+unfolding number_of is_reversed
+arc_named arcs (pos i) n reversed arc e b got = ap (λ c. directed c arc) b ∙ sym (ap or_empty (at_got arcs i ∙ ap (slice_get arcs) (sym e) ∙ got))
+arc_named arcs (negsuc i) n reversed arc e b got = ap (λ c. directed c arc) b ∙ sym (ap (λ o. reverse (or_empty o)) (at_got arcs i ∙ ap (slice_get arcs) (sym e) ∙ got))
+
+pub no_arc_named : (arcs : List (List Point)) (r : ℤ) (n : ℕ) → n ≡ number_of r → slice_get arcs n ≡ None → arc_at arcs r ≡ []
+unfolding number_of
+no_arc_named arcs (pos i) n e got = ap or_empty (at_got arcs i ∙ ap (slice_get arcs) (sym e) ∙ got)
+no_arc_named arcs (negsuc i) n e got = ap (λ o. reverse (or_empty o)) (at_got arcs i ∙ ap (slice_get arcs) (sym e) ∙ got)
+
+pub nothing_passed : (from : ℕ) (arc : List Point) (n : Need) → arc ≡ [] → Passes (drop from arc) n n
+nothing_passed from arc n e behind = sym (ap (λ a. missing_behind n (a ++ behind)) (ap (drop from) e ∙ drop_all from [] (omega arith)))
+
+-- ---- the arcs behind the first, each without its first position
+
+tail_is : (xs : List Point) → tail xs ≡ drop 1 xs
+tail_is [] = refl
+tail_is (x ∷ xs) = refl
+
+abbrev pub later_left : List (List Point) → List ℤ → List Point
+later_left arcs refs = joined_behind_first (map (arc_at arcs) refs)
+
+pub later_passed : (arcs : List (List Point)) (later : List ℤ) (i : ℕ) (r : ℤ) (all : List Point) (old now new : Need) → i < length later → r ≡ get_or later i r
+    → Open (later_left arcs (drop i later)) all old now → Passes (drop 1 (arc_at arcs r)) now new → Open (later_left arcs (drop (i + 1) later)) all old new
+later_passed arcs later i r all old now new lt is so_far pass =
+    let left : List Point = later_left arcs (drop (i + 1) later) in
+    let e : later_left arcs (drop i later) ≡ drop 1 (arc_at arcs r) ++ left = ap (later_left arcs) (drop_here later i r lt is) ∙ ap (λ t. t ++ left) (tail_is (arc_at arcs r)) in
+    run_passed (drop 1 (arc_at arcs r)) left all old now new (λ b. ap (λ l. missing_behind now (l ++ b)) (sym e) ∙ so_far b) pass
+
+pub later_all : (arcs : List (List Point)) (later : List ℤ) (i : ℕ) (all : List Point) (old now : Need) → length later ≤ i → Open (later_left arcs (drop i later)) all old now → Passes all old now
+later_all arcs later i all old now le so_far b = ap (λ rs. missing_behind now (later_left arcs rs ++ b)) (sym (drop_all i later le)) ∙ so_far b
+
+-- ---- whether there are enough
+
+nothing_new : (last : Option Point) → new_behind last [] ≡ 0
+nothing_new None = refl
+nothing_new (Some p) = omega arith
+
+pub missing_at_end : (enough : ℕ) (all left : List Point) (now : Need) → Open left all (need None enough) now → missing_behind now left ≡ enough - length (clean all)
+missing_at_end enough all left now so_far =
+    ap (missing_behind now) (sym (append-nil left)) ∙ so_far [] ∙ ap (λ l. enough - length (clean l)) (append-nil all)
+
+pub enough_seen : (closed : Bool) (all left : List Point) (now : Need) (enough : ℕ) → enough ≡ cond closed 4 2 → now.missing ≡ 0 → Open left all (need None enough) now → false ≡ is_short closed (clean all)
+enough_seen closed all left now enough e none so_far =
+    let k : 0 ≡ enough - length (clean all) = sym (none_missing now left none) ∙ missing_at_end enough all left now so_far in
+    let f : false ≡ nat_lt (length (clean all)) enough = grind (arith, nat_tests, k) in
+    f ∙ ap (nat_lt (length (clean all))) e
+
+pub all_seen : (closed : Bool) (all : List Point) (now : Need) (enough : ℕ) (result : Bool) → enough ≡ cond closed 4 2 → result ≡ nat_lt 0 now.missing → Passes all (need None enough) now → result ≡ is_short closed (clean all)
+all_seen closed all now enough result e is pass =
+    let n = nothing_new now.last in
+    let m : now.missing - new_behind now.last [] ≡ enough - length (clean all) = missing_at_end enough all [] now pass in
+    let k : now.missing ≡ enough - length (clean all) = omega (arith, n, m) in
+    let f : nat_lt 0 now.missing ≡ nat_lt (length (clean all)) enough = grind (arith, nat_tests, k) in
+    is ∙ f ∙ ap (nat_lt (length (clean all))) e

@@ -1,0 +1,14 @@
+-- How many positions are left of a line where equal neighbours count as one.
+use Rattle.std.proofs.Common.{◌≤◌, Bool, true, false, cond, List, [], ◌∷◌, length, arith}
+use Rattle.geometry.specs.Points.{Point}
+use Rattle.geometry.specs.Rings.{same}
+use Rattle.junctions.specs.Cleaning.{clean_from}
+
+-- at least one is left
+pub some_left : (p : Point) (ps : List Point) → 1 ≤ length (clean_from p ps)
+some_left p [] = omega arith
+some_left p (q ∷ ps) = on (same p q) (some_left q ps)
+  where
+    on : (b : Bool) → 1 ≤ length (clean_from q ps) → 1 ≤ length (cond b (clean_from q ps) (p ∷ clean_from q ps))
+    on true h = h
+    on false h = omega arith

@@ -1,0 +1,5 @@
+pub mod Marks
+pub mod Passing
+pub mod Places
+pub mod Ranks
+pub mod Uses

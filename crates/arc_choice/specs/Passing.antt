@@ -1,0 +1,26 @@
+-- Lines and rings whose positions are passed one after the other, until there are enough of them.
+use Rattle.std.specs.Prelude.{◌≡◌, ℕ, ◌-◌, Bool, List, ◌++◌, Option, None, Some, length, reverse, if◌then◌else◌}
+use Rattle.geometry.specs.Points.{Point}
+use Rattle.junctions.specs.Cleaning.{clean, clean_from}
+
+-- the last position that was passed, and how many are still missing
+pub record Need : Type 0 where
+  pub last : Option Point
+  pub missing : ℕ
+
+-- how many positions these are more behind the last one, with equal neighbours as one
+abbrev pub new_behind : Option Point → List Point → ℕ
+new_behind None ps = length (clean ps)
+new_behind (Some p) ps = length (clean_from p ps) - 1
+
+-- how many are missing when these are passed
+abbrev pub missing_behind : Need → List Point → ℕ
+missing_behind n ps = n.missing - new_behind n.last ps
+
+-- these positions are passed: with whatever comes behind them, as many are missing
+abbrev pub Passes : List Point → Need → Need → Type 0
+Passes ps old new = (behind : List Point) → missing_behind new behind ≡ missing_behind old (ps ++ behind)
+
+-- an arc in one direction or the other
+abbrev pub directed : Bool → List Point → List Point
+directed reversed arc = if reversed then reverse arc else arc

@@ -1,0 +1,6 @@
+pub mod Drops
+pub mod Kept
+pub mod Marks
+pub mod Picks
+pub mod Pruned
+pub mod Result

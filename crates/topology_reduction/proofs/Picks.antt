@@ -1,0 +1,88 @@
+-- Cells that are picked, and where they lie.
+use Rattle.std.proofs.Common.{◌≡◌, ℕ, zero, suc, ◌+◌, ◌<◌, ◌≤◌, List, [], ◌∷◌, ◌++◌, map, length, take, drop, get_or, slice_get, Option, None, Some, append_assoc, append-nil, refl, sym, ap, ◌∙◌, subst, arith}
+use Rattle.std.proofs.lemmas.List.{take_more, drop_all}
+use Rattle.std.specs.List.{AllByRecursion}
+use Rattle.arc_choice.proofs.Passed.{at_got}
+use Rattle.geometry.specs.Joins.{at}
+use Rattle.geometry.specs.Lists.{some_of}
+use Rattle.geometry.specs.Points.{Point}
+use Rattle.lessened_topology.specs.Lessened.{picked, picked_arcs, EachFromFirstToLast}
+use Rattle.lessened_topology.specs.Thresholds.{placed_cells}
+use Rattle.lessened_topology.proofs.ValidPicked.{all_picked}
+use Rattle.list_laws.proofs.Elements.{all_at, all_weaker}
+use Rattle.list_laws.proofs.Lists.{drop_here}
+use Rattle.topojson_types.specs.declared.transform.Transform.{Transform}
+use Rattle.topojson_types.specs.Decoding.{placed_arcs}
+use Rattle.topojson_types.specs.Topologies.{Contents}
+use Rattle.topojson_types.specs.Transforms.{place}
+use Rattle.topojson_types.specs.Validity.{IsArc, IsPlace, IsTopology}
+use Rattle.topology_reduction.proofs.Kept.{none_more, one_more}
+
+-- ---- the cells of one arc
+
+pub picked_none : (cells now : List Point) (ns : List ℕ) (i d : ℕ) → i < length ns → slice_get cells (get_or ns i d) ≡ None → now ≡ some_of (at cells) (take i ns) → now ≡ some_of (at cells) (take (i + 1) ns)
+picked_none cells now ns i d lt none so =
+    none_more (at cells) [] now (take i ns) (get_or ns i d) (at cells (get_or ns i d)) so refl (at_got cells (get_or ns i d) ∙ none) ∙ sym (ap (some_of (at cells)) (take_more ns i d lt))
+
+pub picked_one : (cells now new : List Point) (ns : List ℕ) (i d : ℕ) (cell : Point) → i < length ns → slice_get cells (get_or ns i d) ≡ Some cell → now ≡ some_of (at cells) (take i ns) → new ≡ now ++ cell ∷ []
+    → new ≡ some_of (at cells) (take (i + 1) ns)
+picked_one cells now new ns i d cell lt got so e =
+    one_more (at cells) [] now new (take i ns) (get_or ns i d) (at cells (get_or ns i d)) cell so refl (at_got cells (get_or ns i d) ∙ got) e ∙ sym (ap (some_of (at cells)) (take_more ns i d lt))
+
+-- ---- those of all arcs
+
+pub arcs_more : {K : Type 0} (numbers : K → List ℕ) (ks : List K) (arcs made new whole : List (List Point)) (i : ℕ) (k : K) (a p : List Point) → i < length ks → length ks ≡ length arcs → k ≡ get_or ks i k → a ≡ get_or arcs i a
+    → made ++ picked_arcs (map numbers (drop i ks)) (drop i arcs) ≡ whole → p ≡ picked (numbers k) a → new ≡ made ++ p ∷ [] → new ++ picked_arcs (map numbers (drop (i + 1) ks)) (drop (i + 1) arcs) ≡ whole
+arcs_more numbers ks arcs made new whole i k a p lt many is of so e pushed =
+    let lt_arcs : i < length arcs = omega (arith, lt, many) in
+    let rest = picked_arcs (map numbers (drop (i + 1) ks)) (drop (i + 1) arcs) in
+    ap (λ ys. ys ++ rest) (pushed ∙ ap (λ q. made ++ q ∷ []) e) ∙ append_assoc made (picked (numbers k) a ∷ []) rest
+    ∙ ap (λ l. made ++ picked_arcs (map numbers l) (a ∷ drop (i + 1) arcs)) (sym (drop_here ks i k lt is))
+    ∙ ap (λ l. made ++ picked_arcs (map numbers (drop i ks)) l) (sym (drop_here arcs i a lt_arcs of)) ∙ so
+
+pub arcs_all : {K : Type 0} (numbers : K → List ℕ) (ks : List K) (arcs made whole : List (List Point)) (i : ℕ) → length ks ≤ i → made ++ picked_arcs (map numbers (drop i ks)) (drop i arcs) ≡ whole → made ≡ whole
+arcs_all numbers ks arcs made whole i le so = sym (append-nil made) ∙ ap (λ l. made ++ picked_arcs (map numbers l) (drop i arcs)) (sym (drop_all i ks le)) ∙ so
+
+-- a list for each arc
+pub as_many : {K : Type 0} (numbers : K → List ℕ) (ks : List K) (arcs : List (List Point)) → EachFromFirstToLast (map numbers ks) arcs → length ks ≡ length arcs
+as_many numbers [] [] h = refl
+as_many numbers [] (a ∷ arcs) h = absurd h
+as_many numbers (k ∷ ks) [] h = absurd h
+as_many numbers (k ∷ ks) (a ∷ arcs) h = let rest = as_many numbers ks arcs h.1 in omega (arith, rest)
+
+-- cells that may stand in a topology still may
+pub places_picked : (transform : Option Transform) (kept : List (List ℕ)) (arcs : List (List Point)) → AllByRecursion (λ a. AllByRecursion (IsPlace transform) a) arcs
+    → AllByRecursion (λ a. AllByRecursion (IsPlace transform) a) (picked_arcs kept arcs)
+places_picked transform [] arcs h = tt
+places_picked transform (is ∷ kept) [] h = tt
+places_picked transform (is ∷ kept) (a ∷ arcs) h = (all_picked (IsPlace transform) is a h.0, places_picked transform kept arcs h.1)
+
+-- ---- where they lie
+
+map_same : {X : Type 0} (xs : List X) → map (λ x. x) xs ≡ xs
+map_same [] = refl
+map_same (x ∷ xs) = ap (λ ys. x ∷ ys) (map_same xs)
+
+pub places_are : (transform : Option Transform) (cells : List Point) → map (place transform) cells ≡ placed_cells transform cells
+places_are None cells = map_same cells
+places_are (Some t) cells = refl
+
+pub arcs_are : (transform : Option Transform) (arcs : List (List Point)) → map (placed_cells transform) arcs ≡ placed_arcs transform arcs
+arcs_are None arcs = map_same arcs
+arcs_are (Some t) arcs = refl
+
+-- ---- those of one arc
+
+pub got_any : {X : Type 0} (xs : List X) (i : ℕ) (d e : X) → i < length xs → get_or xs i d ≡ get_or xs i e
+got_any [] i d e lt = absurd (omega (arith, lt))
+got_any (x ∷ xs) zero d e lt = refl
+got_any (x ∷ xs) (suc i) d e lt = got_any xs i d e (omega (arith, lt))
+
+pub arc_places : (y : Contents) (arcs : List (List Point)) (cells : List Point) (i : ℕ) (transform : Option Transform) → IsTopology y → arcs ≡ y.arcs → i < length y.arcs → cells ≡ get_or arcs i cells → transform ≡ y.transform
+    → AllByRecursion (IsPlace transform) cells
+arc_places y arcs cells i transform h are lt is same =
+    let k = all_at (IsArc y.transform) y.arcs i cells lt (is ∙ ap (λ a. get_or a i cells) are) h.arcs in
+    subst (λ t. AllByRecursion (IsPlace t) cells) (sym same) k.1
+
+pub topology_places : (y : Contents) → IsTopology y → AllByRecursion (λ a. AllByRecursion (IsPlace y.transform) a) y.arcs
+topology_places y h = all_weaker (IsArc y.transform) (λ a. AllByRecursion (IsPlace y.transform) a) (λ a k. k.1) y.arcs h.arcs

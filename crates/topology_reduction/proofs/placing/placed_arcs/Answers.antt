@@ -1,0 +1,24 @@
+use Rattle.std.proofs.Common.{ap, sym, subst, ◌∙◌}
+use Rattle.std.specs.List.{AllByRecursion}
+use Rattle.std.specs.Option.{option_copied}
+use Rattle.lessened_topology.specs.Thresholds.{placed_cells}
+use Rattle.list_laws.proofs.Elements.{all_at}
+use Rattle.list_laws.proofs.Lists.{mapped_more, mapped_all}
+use Rattle.topojson_types.specs.Validity.{IsPlace}
+use Rattle.topology_reduction.proofs.Picks.{arcs_are}
+use Rattle.topology_reduction.proofs.placing.placed_arcs.Goals as goal
+
+pub placed_positions-requires : goal.placed_positions-requires
+placed_positions-requires c =
+    subst (AllByRecursion (IsPlace (option_copied c.args.transform))) (sym c.as_slice.ensures)
+    (all_at (AllByRecursion (IsPlace (option_copied c.args.transform))) c.args.arcs.now c.arcs.arc-index c.arc-item.result c.arcs-test.true c.arc-item.is c.requires)
+
+pub arcs-preserved : goal.arcs-preserved
+arcs-preserved c =
+    mapped_more (placed_cells (option_copied c.args.transform)) c.args.arcs.now c.arcs.arc-index c.arc-item.result c.arcs.placed.items c.push.new.self.items c.in_ok-cells.field-0 c.arcs-test.true
+    c.arc-item.is c.arcs.invariant
+    (c.in_ok-cells.ensures ∙ c.deref.ensures.value ∙ c.in_ok-positions.ensures ∙ ap (placed_cells (option_copied c.args.transform)) c.as_slice.ensures) c.in_ok-push.ensures.items
+
+pub returns : goal.returns
+returns c =
+    mapped_all (placed_cells (option_copied c.args.transform)) c.args.arcs.now c.arcs.arc-index c.arcs.placed.items c.arcs-test.false c.arcs.invariant ∙ arcs_are (option_copied c.args.transform) c.args.arcs.now

@@ -1,0 +1,114 @@
+// The topology that is left where of each arc only some cells stay.
+ghost use Rattle.std.specs.Prelude.{◌≡◌, IfOk, map};
+ghost use Rattle.std.specs.List.{AllByRecursion};
+ghost use Rattle.std.specs.Option.{option_copied};
+ghost use Rattle.byte_ends.specs.Ends.{saturated};
+ghost use Rattle.geometry.specs.Omissions.{dropped_of_layers};
+ghost use Rattle.lessened_topology.specs.Lessened.{EachFromFirstToLast, dropped_by, large_refs, lessened_by, objects_pruned, option_small, taken_out_by};
+ghost use Rattle.topojson_types.specs.Decoding.{placed_arcs as all_placed};
+ghost use Rattle.topojson_types.specs.Topologies.{Contents, object_features};
+ghost use Rattle.topojson_types.specs.Validity.{IsPlace};
+
+use crate::choosing::{Large, Ranked};
+use crate::dropping::dropped_lines;
+use crate::marking::used_arcs;
+use crate::picking::picked_arcs;
+use crate::placing::placed_arcs;
+use crate::pruning::pruned_objects;
+use arc_choice::{kept_arcs, ranks, taken_out, used_positions};
+use geojson_types::Dropped;
+use json_value::{Items, OwnText};
+use lessened_topology::lessened_is_valid;
+use owned_values::Memory;
+use std::alloc::Global;
+use topojson_types::{Cell, TopoObject, Topology, Transform};
+
+/// The objects without the lines and rings that have too few positions where they are rebuilt of these arcs, and those, in reading
+/// order.
+fn large_over(
+    alloc: Global,
+    objects: Vec<(OwnText, TopoObject)>,
+    arcs: &[Items<Cell>],
+) -> Result<(Vec<(OwnText, TopoObject)>, Vec<Dropped>), Memory>
+    ensures objects { IfOk result (λ r. r.0.items ≡ objects_pruned (large_refs arcs.now) objects.items) }
+    ensures dropped { IfOk result (λ r. r.1.items
+        ≡ dropped_of_layers 0 (map (λ o. map (λ f. option_small arcs.now f.shape) (object_features o.1)) objects.items)) }
+{
+    let dropped = dropped_lines(alloc, &objects, arcs)?;
+    let left = pruned_objects(alloc, &Large::over(arcs), objects)?;
+    Ok((left, dropped))
+}
+
+/// The same, where the positions of the arcs are those that their cells stand for.
+fn large_objects(
+    alloc: Global,
+    objects: Vec<(OwnText, TopoObject)>,
+    arcs: &[Items<Cell>],
+    transform: Option<&Transform>,
+) -> Result<(Vec<(OwnText, TopoObject)>, Vec<Dropped>), Memory>
+    requires { AllByRecursion (λ arc. AllByRecursion (IsPlace (option_copied transform)) arc) arcs.now }
+    ensures objects { IfOk result (λ r. r.0.items ≡ objects_pruned (large_refs (all_placed (option_copied transform.entry) arcs.now)) objects.items) }
+    ensures dropped { IfOk result (λ r. r.1.items
+        ≡ dropped_of_layers 0 (map (λ o. map (λ f. option_small (all_placed (option_copied transform.entry) arcs.now) f.shape) (object_features o.1)) objects.items)) }
+{
+    match transform {
+        None => large_over(alloc, objects, arcs),
+        Some(_) => {
+            let placed = placed_arcs(alloc, arcs, transform)?;
+            large_over(alloc, objects, &placed)
+        }
+    }
+}
+
+/// The topology with of each arc only the cells with the numbers of its own list, without the lines and rings that are then left
+/// with too few positions, and without the arcs that no kept line uses; the lines and rings that are dropped, in reading order, an
+/// object in the place of a layer; and how many positions are taken out of the arcs that stay.
+pub fn reduced_topology(
+    alloc: Global,
+    topology: Topology,
+    kept: &[Vec<usize>],
+) -> Result<(Topology, Vec<Dropped>, u64), Memory>
+    requires { EachFromFirstToLast (map (λ k. k.items) kept.now) topology.arcs }
+    ensures topology { IfOk result (λ r. r.0 ≡ lessened_by (map (λ k. k.items) kept.now) topology) }
+    ensures dropped { IfOk result (λ r. r.1.items ≡ dropped_by (map (λ k. k.items) kept.now) topology) }
+    ensures taken_out { IfOk result (λ r. r.2 ≡ saturated (taken_out_by (map (λ k. k.items) kept.now) topology)) }
+{
+    lessened_is_valid();
+    let (objects, arcs, transform) = topology.into_parts();
+    let picked = picked_arcs(alloc, kept, arcs.as_slice())?;
+    let (large, dropped) = large_objects(alloc, objects.into_inner(), &picked, transform.as_ref())?;
+    let used = used_arcs(alloc, &large, picked.len())?;
+    let before = used_positions(arcs.as_slice(), &used);
+    let after = used_positions(&picked, &used);
+    let ranks = ranks(alloc, &used)?;
+    let left = pruned_objects(alloc, &Ranked::by(&ranks), large)?;
+    let stay = kept_arcs(alloc, picked, &used)?;
+    let reduced = Topology::of(Items::of(left), Items::of(stay), transform);
+    Ok((reduced, dropped, taken_out(before, after)))
+}
+
+/// What can be simplified as a topology can: of each of its arcs only given cells stay.
+pub trait Reduces: Sized {
+    /// The topology that it is.
+    ghost contents: { Self → Contents };
+
+    /// What is left of it, with of each arc only the cells with the numbers of its own list, which begin with the first and end
+    /// with the last; the lines and rings that are dropped; and how many positions are taken out of the arcs that stay.
+    fn reduce(self, alloc: Global, kept: &[Vec<usize>]) -> Result<(Self, Vec<Dropped>, u64), Memory>
+        requires { EachFromFirstToLast (map (λ k. k.items) kept.now) (contents self).arcs }
+        ensures topology { IfOk result (λ r. contents r.0 ≡ lessened_by (map (λ k. k.items) kept.now) (contents self)) }
+        ensures dropped { IfOk result (λ r. r.1.items ≡ dropped_by (map (λ k. k.items) kept.now) (contents self)) }
+        ensures taken_out { IfOk result (λ r. r.2 ≡ saturated (taken_out_by (map (λ k. k.items) kept.now) (contents self))) };
+}
+
+impl Reduces for Topology {
+    ghost contents = { λ topology. topology };
+
+    fn reduce(
+        self,
+        alloc: Global,
+        kept: &[Vec<usize>],
+    ) -> Result<(Topology, Vec<Dropped>, u64), Memory> {
+        reduced_topology(alloc, self, kept)
+    }
+}

@@ -1,0 +1,3 @@
+pub mod SimplifiedAgain
+pub mod SimplifyDecided
+pub mod Whole

@@ -1,0 +1,58 @@
+-- The bytes of a file come to one outcome, and what `simplify` says of its answer makes it follow that outcome.
+use Rattle.std.proofs.Common.{◌≡◌, ◌⊎◌, ℕ, List, length, ◌∙◌, ap, subst, inl, inr, Some, Result, Ok, Err}
+use Rattle.byte_ends.specs.Ends.{Fed, Drained, Takes}
+use Rattle.inputs.specs.declared.file_fault.FileFault.{FileFault}
+use Rattle.inputs.specs.declared.file_fault.FileFault.TheVariants.{Read, Json, Topo, NoObject, Write, Memory}
+use Rattle.reports.specs.declared.report.Report.{Report}
+use Rattle.topology_files.specs.FileOutcomes.{FileComesTo, IsOutsideGiven}
+use Rattle.topology_files.specs.Files.{FailsToGive}
+use Rattle.topology_files.proofs.FilesDecided.{plain, one_file, topology_comes, fails_come, is_outside}
+use Rattle.topology_simplifying.specs.Outcomes.{FollowsSimplified, simplified}
+use Rattle.topology_simplifying.specs.Simplified.{lessened_text, report_of, IsSimplified, IsSimplifyFault}
+
+-- the text and the report
+abbrev Made : Type 0
+Made = List ℕ × Report
+
+module _ (sink_old sink_new : Drained) where
+  follows_fault : (outcome : Result Made FileFault) (e : FileFault) → plain (Err e) ≡ plain outcome → FollowsSimplified sink_old sink_new outcome (Err e)
+  follows_fault (Ok r) e h = absurd cc
+  follows_fault (Err f) e h = inl cc
+
+  follows_outside : (outcome : Result Made FileFault) (e : FileFault) → IsOutsideGiven e → FollowsSimplified sink_old sink_new outcome (Err e)
+  follows_outside (Ok r) e h = is_outside e h
+  follows_outside (Err f) e h = inr h
+
+  follows_written : (outcome : Result Made FileFault) (r : Made) (report : Report) → plain (Ok r) ≡ plain outcome → Takes sink_old sink_new r.0 (length r.0) → sink_new.failures ≡ 0
+      → report ≡ r.1 → FollowsSimplified sink_old sink_new outcome (Ok report)
+  follows_written (Ok s) r report h took sound told =
+      let e : r ≡ s = cc in
+      (subst (λ (z : Made). Takes sink_old sink_new z.0 (length z.0)) e took, sound, told ∙ ap (λ (z : Made). z.1) e)
+  follows_written (Err f) r report h took sound told = absurd cc
+
+  follows_cut : (outcome : Result Made FileFault) (r : Made) (sent : ℕ) → plain (Ok r) ≡ plain outcome → FollowsSimplified sink_old sink_new outcome (Err (Write sent))
+  follows_cut (Ok s) r sent h = tt
+  follows_cut (Err f) r sent h = absurd cc
+
+  module _ (t : ℕ) (old new : Fed) (b : List ℕ) (left : old.left ≡ Some b) (outcome : Result Made FileFault) (comes : FileComesTo (simplified t) b outcome) where
+    failed : (e : FileFault) → FailsToGive old new e → FollowsSimplified sink_old sink_new outcome (Err e)
+    failed e fails = on (fails_come (simplified t) old new b e left fails)
+      where
+        on : IsOutsideGiven e ⊎ FileComesTo (simplified t) b (Err e) → FollowsSimplified sink_old sink_new outcome (Err e)
+        on (inl out) = follows_outside outcome e out
+        on (inr all) = follows_fault outcome e (one_file (simplified t) b (Err e) outcome all comes)
+
+    pub simplified_follows : (report : Report) → IsSimplified t old new sink_old sink_new report → FollowsSimplified sink_old sink_new outcome (Ok report)
+    simplified_follows report is =
+        follows_written outcome (lessened_text t is.contents, report_of t is.contents is.counts) report
+        (one_file (simplified t) b (simplified t is.contents is.counts) outcome (topology_comes (simplified t) old new b is.contents is.counts left is.read) comes) is.written is.sound is.told
+
+    pub fault_follows : (e : FileFault) → IsSimplifyFault t old new sink_old sink_new e → FollowsSimplified sink_old sink_new outcome (Err e)
+    fault_follows (Write sent) is =
+        follows_cut outcome (lessened_text t is.contents, report_of t is.contents is.counts) sent
+        (one_file (simplified t) b (simplified t is.contents is.counts) outcome (topology_comes (simplified t) old new b is.contents is.counts left is.read) comes)
+    fault_follows NoObject is = failed NoObject is.1
+    fault_follows Memory is = failed Memory is.1
+    fault_follows (Read r) is = failed (Read r) is.1
+    fault_follows (Json r) is = failed (Json r) is.1
+    fault_follows (Topo r) is = failed (Topo r) is.1

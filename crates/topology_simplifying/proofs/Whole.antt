@@ -1,0 +1,51 @@
+-- From what is read and what is sent to what is answered.
+use Rattle.std.proofs.Common.{◌≡◌, ℕ, List, subst, refl, map-id, Option, Some, None, Ok, Err}
+use Rattle.std.specs.Prelude.{map}
+use Rattle.byte_ends.specs.Ends.{Fed, Drained}
+use Rattle.byte_ends.specs.Writes.{WritesAll}
+use Rattle.geometry.specs.Points.{Point}
+use Rattle.inputs.specs.declared.file_fault.FileFault.{FileFault}
+use Rattle.inputs.specs.declared.file_fault.FileFault.TheVariants.{Read, Json, Topo, NoObject, Write, Memory}
+use Rattle.json_value.specs.Text.{json_text}
+use Rattle.lessened_topology.specs.Thresholds.{placed_cells}
+use Rattle.reports.specs.declared.report.Report.{Report}
+use Rattle.topojson_types.specs.declared.transform.Transform.{Transform}
+use Rattle.topojson_types.specs.Topologies.{Contents}
+use Rattle.topojson_types.specs.Transforms.{place}
+use Rattle.topojson_types.specs.Values.{topology_value}
+use Rattle.topology_files.specs.Files.{FailsToGive}
+use Rattle.topology_files.specs.Geo.{SendsText}
+use Rattle.topology_simplifying.specs.Simplified.{IsLessened, IsSimplified, IsSimplifyFault}
+
+-- ---- positions of cells
+
+pub placed : (transform : Option Transform) (cells : List Point) → map (place transform) cells ≡ placed_cells transform cells
+placed None cells = map-id cells
+placed (Some t) cells = refl
+
+-- ---- nothing is written
+
+pub not_given : (t : ℕ) (old new : Fed) (sink : Drained) (e : FileFault) → FailsToGive old new e → IsSimplifyFault t old new sink sink e
+not_given t old new sink (Read r) f = (refl, f)
+not_given t old new sink (Json r) f = (refl, f)
+not_given t old new sink (Topo r) f = (refl, f)
+not_given t old new sink NoObject f = (refl, f)
+not_given t old new sink Memory f = (refl, f)
+not_given t old new sink (Write sent) f = absurd f.2
+
+-- ---- the text of what is left is sent
+
+module _ (t : ℕ) (old new : Fed) (sink_old sink_new : Drained) (less : Contents) (report : Report) (is : IsLessened t old new less report) where
+  pub sent_whole : (sent : ℕ) → SendsText sink_old sink_new (json_text (topology_value less)) (Ok sent) → IsSimplified t old new sink_old sink_new report
+  sent_whole sent w =
+      let all = subst (λ z. WritesAll sink_old sink_new 0 (json_text (topology_value z)) sent) is.left w in
+      record { contents = is.contents; counts = is.counts; read = is.read; written = all.took; sound = all.sound; told = is.told }
+
+  pub cut_short : (e : FileFault) → SendsText sink_old sink_new (json_text (topology_value less)) (Err e) → IsSimplifyFault t old new sink_old sink_new e
+  cut_short (Write sent) w =
+      record { contents = is.contents; counts = is.counts; read = is.read; written = rw is.left at w }
+  cut_short (Read r) w = absurd w
+  cut_short (Json r) w = absurd w
+  cut_short (Topo r) w = absurd w
+  cut_short NoObject w = absurd w
+  cut_short Memory w = absurd w

@@ -1,0 +1,9 @@
+use Rattle.std.proofs.Common.{◌≡◌, map, take}
+use Rattle.std.specs.Option.{option_copied}
+use Rattle.elimination_meaning.specs.Elimination.{reduce}
+use Rattle.lessened_topology.specs.Thresholds.{placed_cells}
+use Rattle.topology_simplifying.proofs.lessening.kept_indexes.Given as goal
+
+-- those so far
+abbrev pub invariant-arcs : goal.invariant-arcs
+invariant-arcs g l = map (λ k. k.items) l.kept.items ≡ map (λ cells. reduce l.t (placed_cells (option_copied l.transform) cells)) (take l.arc-index l.arcs)

@@ -1,0 +1,14 @@
+use Rattle.std.proofs.Common.{◌≡◌, ◌∙◌, map, ap, sym, subst}
+use Rattle.elimination_meaning.specs.Elimination.{reduce}
+use Rattle.lessened_topology.specs.Lessened.{EachFromFirstToLast}
+use Rattle.lessened_topology.specs.Thresholds.{placed_cells, reduced_indexes}
+use Rattle.topology_simplifying.proofs.lessening.lessen.Goals as goal
+
+pub reduced_topology-requires : goal.reduced_topology-requires
+reduced_topology-requires g c =
+    let y = c.args.topology in
+    let same : map (λ k. k.items) c.deref.result.now ≡ reduced_indexes c.args.t y =
+    ap (map (λ k. k.items)) c.deref.ensures.value ∙ c.in_ok-kept.ensures
+    ∙ ap (λ tr. map (λ cells. reduce c.args.t (placed_cells tr cells)) c.arcs.result.now) c.transform.ensures.transform
+    ∙ ap (map (λ cells. reduce c.args.t (placed_cells y.transform cells))) c.arcs.ensures.arcs in
+    subst (λ l. EachFromFirstToLast l y.arcs) (sym same) (c.indexes_reach.ensures c.args.t y c.arcs.ensures.valid)

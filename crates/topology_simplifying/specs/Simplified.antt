@@ -1,0 +1,63 @@
+-- What `simplify` answers, reads and writes.
+use Rattle.std.specs.Prelude.{◌≡◌, ℕ, List, length}
+use Rattle.byte_ends.specs.Ends.{Fed, Drained, Takes, saturated}
+use Rattle.byte_ends.specs.Writes.{WritesFront}
+use Rattle.geojson_types.specs.declared.counts.Counts.{Counts}
+use Rattle.geometry.specs.declared.address.Dropped.{Dropped}
+use Rattle.geometry.specs.Points.{Point}
+use Rattle.inputs.specs.declared.file_fault.FileFault.{FileFault}
+use Rattle.inputs.specs.declared.file_fault.FileFault.TheVariants.{Write}
+use Rattle.json_value.specs.Text.{json_text}
+use Rattle.lessened_topology.specs.Thresholds.{lessened, lessened_dropped, lessened_taken_out}
+use Rattle.reports.specs.declared.report.Report.{Report}
+use Rattle.reports.specs.Summaries.{positions_in}
+use Rattle.topojson_types.specs.Topologies.{Contents}
+use Rattle.topojson_types.specs.Values.{topology_value}
+use Rattle.topology_files.specs.Files.{IsTopologyRead, FailsToGive}
+
+-- ---- what is left of a topology
+
+-- the text (TopoJSON 1.0) of what is left of a topology where each arc is reduced at the threshold
+abbrev pub lessened_text : ℕ → Contents → List ℕ
+lessened_text t y = json_text (topology_value (lessened t y))
+
+-- these counts, what is dropped, the arcs with their positions, and how many were taken out of them
+abbrev pub report_with : Counts → List Dropped → List (List Point) → ℕ → Report
+report_with counts dropped arcs removed = record { counts = counts; dropped = dropped; arcs = length arcs; kept = positions_in arcs; removed = removed }
+
+-- what was counted in reading the topology, the lines and rings that are dropped, the arcs that are left, their positions, and
+-- those that were taken out of these arcs
+abbrev pub report_of : ℕ → Contents → Counts → Report
+report_of t y counts = report_with counts (lessened_dropped t y) (lessened t y).arcs (saturated (lessened_taken_out t y))
+
+-- ---- reading and writing
+
+-- the source was read to its end, its bytes spell a topology, and this is left of it, with this report
+pub record IsLessened (t : ℕ) (old new : Fed) (less : Contents) (report : Report) : Type 0 where
+  pub contents : Contents
+  pub counts : Counts
+  pub read : IsTopologyRead old new contents counts
+  pub left : less ≡ lessened t contents
+  pub told : report ≡ report_of t contents counts
+
+-- the source was read to its end, its bytes spell a topology, the sink took the whole text of what is left of it, and this is its
+-- report
+pub record IsSimplified (t : ℕ) (old new : Fed) (sink_old sink_new : Drained) (report : Report) : Type 0 where
+  pub contents : Contents
+  pub counts : Counts
+  pub read : IsTopologyRead old new contents counts
+  pub written : Takes sink_old sink_new (lessened_text t contents) (length (lessened_text t contents))
+  pub sound : sink_new.failures ≡ 0
+  pub told : report ≡ report_of t contents counts
+
+-- the device failed when it had taken a front of that text
+pub record IsSimplifiedInPart (t : ℕ) (old new : Fed) (sink_old sink_new : Drained) (sent : ℕ) : Type 0 where
+  pub contents : Contents
+  pub counts : Counts
+  pub read : IsTopologyRead old new contents counts
+  pub written : WritesFront sink_old sink_new 0 (lessened_text t contents) sent
+
+-- why nothing is written whole: nothing is written unless the device failed
+abbrev pub IsSimplifyFault : ℕ → Fed → Fed → Drained → Drained → FileFault → Type 0
+IsSimplifyFault t old new sink_old sink_new (Write sent) = IsSimplifiedInPart t old new sink_old sink_new sent
+IsSimplifyFault t old new sink_old sink_new e = (sink_new ≡ sink_old) × FailsToGive old new e

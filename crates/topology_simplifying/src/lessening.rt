@@ -1,0 +1,84 @@
+// Reducing the arcs of a topology that was read.
+ghost use Rattle.std.specs.Prelude.{◌≡◌, IfOk, map};
+ghost use Rattle.std.specs.List.{AllByRecursion};
+ghost use Rattle.std.specs.Option.{option_copied};
+ghost use Rattle.elimination_meaning.specs.Elimination.{reduce};
+ghost use Rattle.lessened_topology.specs.Thresholds.{lessened, placed_cells};
+ghost use Rattle.topojson_types.specs.Validity.{IsArc};
+ghost use Rattle.topology_simplifying.specs.Simplified as spec;
+
+use byte_ends::Memory;
+use effective_area::Reducer;
+use geojson_types::{Counts, Dropped};
+use json_value::Items;
+use lessened_topology::indexes_reach;
+use reports::{Report, positions_in};
+use std::alloc::Global;
+use topojson_features::positions;
+use topojson_types::{Cell, Topology, Transform};
+use topology_reduction::reduced_topology;
+
+/// The indexes of the cells of an arc that stay where the positions that they stand for are reduced.
+fn kept_cells<Q: Reducer>(
+    alloc: Global,
+    reducer: &mut Q,
+    transform: Option<&Transform>,
+    cells: &[Cell],
+    t: u128,
+) -> Result<Vec<usize>, Memory>
+    requires { IsArc (option_copied transform) cells.now }
+    ensures { IfOk result (λ kept. kept.items ≡ reduce t (placed_cells (option_copied transform.entry) cells.now)) }
+{
+    let line = positions(alloc, transform, cells)?;
+    let kept = reducer.kept(alloc, line.as_slice(), t)?;
+    Ok(kept)
+}
+
+/// Of each arc the indexes of the cells that stay. Each arc is reduced once.
+fn kept_indexes<Q: Reducer>(
+    alloc: Global,
+    reducer: &mut Q,
+    transform: Option<&Transform>,
+    arcs: &[Items<Cell>],
+    t: u128,
+) -> Result<Vec<Vec<usize>>, Memory>
+    requires { AllByRecursion (IsArc (option_copied transform)) arcs.now }
+    ensures { IfOk result (λ kept. map (λ k. k.items) kept.items ≡ map (λ cells. reduce t (placed_cells (option_copied transform.entry) cells)) arcs.now) }
+{
+    let mut kept = Vec::with_capacity(alloc, arcs.len())?;
+    'arcs: for arc in arcs {
+        kept.push(kept_cells(alloc, reducer, transform, arc.as_slice(), t)?)?;
+    }
+    Ok(kept)
+}
+
+/// The report of a topology that is left with these arcs, once these lines and rings are dropped.
+fn report_of(counts: Counts, dropped: Vec<Dropped>, arcs: &[Items<Cell>], removed: u64) -> Report
+    ensures { result ≡ spec.report_with counts dropped.items arcs.now removed }
+{
+    Report {
+        counts,
+        dropped: Items::of(dropped),
+        arcs: arcs.len() as u64,
+        kept: positions_in(arcs),
+        removed,
+    }
+}
+
+/// What is left of a topology, with these counts, where each arc is reduced at a threshold, and the report of it.
+#[tactic(auto, unfolding(lessened_topology::specs::Thresholds::lessened, lessened_topology::specs::Thresholds::lessened_dropped, lessened_topology::specs::Thresholds::lessened_taken_out))]
+pub fn lessen<Q: Reducer>(
+    alloc: Global,
+    reducer: &mut Q,
+    topology: Topology,
+    counts: Counts,
+    t: u128,
+) -> Result<(Topology, Report), Memory>
+    ensures { IfOk result (λ r. (r.0 ≡ lessened t topology) × (r.1 ≡ spec.report_of t topology counts)) }
+{
+    indexes_reach();
+    let kept = kept_indexes(alloc, reducer, topology.transform(), topology.arcs(), t)?;
+    let (less, dropped, removed) = reduced_topology(alloc, topology, &kept)?;
+    let report = report_of(counts, dropped, less.arcs(), removed);
+    Ok((less, report))
+}

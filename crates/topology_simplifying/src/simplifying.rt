@@ -1,0 +1,74 @@
+// Simplifying the topology of a file.
+ghost use Rattle.std.specs.Prelude.{◌≡◌, ℕ, List, Some, Result, IfOk, IfErr};
+ghost use Rattle.inputs.specs.declared.file_fault.FileFault.{FileFault as Fault};
+ghost use Rattle.json_value.specs.Text.{json_text};
+ghost use Rattle.reports.specs.declared.report.Report.{Report as Told};
+ghost use Rattle.topojson_types.specs.Values.{topology_value};
+ghost use Rattle.topology_files.specs.FileOutcomes.{FileComesTo};
+ghost use Rattle.topology_files.specs.Files.{FailsToGive};
+ghost use Rattle.topology_files.specs.Geo.{SendsText};
+ghost use Rattle.topology_simplifying.specs.Outcomes.{FollowsSimplified, simplified};
+ghost use Rattle.topology_simplifying.specs.Simplified.{IsLessened, IsSimplified, IsSimplifyFault};
+
+use crate::lessening::lessen;
+use byte_ends::{Drain, Feed, Sink, Source};
+use effective_area::Reducer;
+use inputs::{FileFault, flush_behind};
+use reports::Report;
+use std::alloc::Global;
+use topojson_types::Topology;
+use topojson_writer::write_topology;
+use topology_files::read_file;
+
+/// Reads a source to its end, and gives what is left of the topology that its bytes spell where its arcs are reduced, with the
+/// report.
+fn read_lessened<Q: Reducer, R: Feed>(
+    alloc: Global,
+    reducer: &mut Q,
+    source: &mut Source<R>,
+    t: u128,
+) -> Result<(Topology, Report), FileFault>
+    ensures given { IfOk result (λ r. IsLessened t source.old source.new r.0 r.1) }
+    ensures refused { IfErr result (λ e. FailsToGive source.old source.new e) }
+{
+    let (topology, counts) = read_file(alloc, source)?;
+    let less = lessen(alloc, reducer, topology, counts, t)?;
+    Ok(less)
+}
+
+/// Writes the topology and flushes the sink.
+fn send<W: Drain>(topology: &Topology, sink: &mut Sink<W>) -> Result<u64, FileFault>
+    ensures { SendsText sink.old sink.new (json_text (topology_value topology.now)) result }
+{
+    let written = write_topology(topology, sink);
+    let sent = flush_behind(written, sink)?;
+    Ok(sent)
+}
+
+/// Reads a topology (TopoJSON 1.0) from its source to the end, simplifies it, and writes what is left.
+///
+/// Each arc is reduced once at the threshold `t`, twice an area in square units, by the positions that it stands for (Visvalingam
+/// and Whyatt 1993); the cells that stay keep their numbers, and the transform stays. A line or ring that is left with too few
+/// positions is dropped, and so is a ring of a polygon whose outer ring is; arcs that no line uses are left out. The report tells
+/// what was counted in reading, what is dropped, and of the arcs that are left how many positions stay and were taken out. The
+/// topology is refused as by `stat`. On each fault but `Write` the sink is as it was. On `Write` it took a prefix of the text, of
+/// the length that is told. The sink is flushed.
+pub fn simplify<Q: Reducer, R: Feed, W: Drain>(
+    alloc: Global,
+    reducer: &mut Q,
+    source: &mut Source<R>,
+    t: u128,
+    sink: &mut Sink<W>,
+) -> Result<Report, FileFault>
+    // The bytes spell a topology, what was written is the text of what is left of it, and the report is that of it.
+    ensures written { IfOk result (λ report. IsSimplified t source.old source.new sink.old sink.new report) }
+    // Every fault is one that the source or its bytes have, or a prefix of that text was written.
+    ensures refused { IfErr result (λ e. IsSimplifyFault t source.old source.new sink.old sink.new e) }
+    // And the other way round: what the bytes of the source come to is answered, unless memory, the source or the sink failed.
+    ensures decided { (bytes : List ℕ) (outcome : Result (List ℕ × Told) Fault) → source.old.left ≡ Some bytes → FileComesTo (simplified t) bytes outcome
+        → FollowsSimplified sink.old sink.new outcome result }
+{
+    let (less, report) = read_lessened(alloc, reducer, source, t)?;
+    send(&less, sink)?;
+    Ok(report)
+}

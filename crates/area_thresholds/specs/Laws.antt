@@ -1,0 +1,19 @@
+-- The law that ties the threshold to the number that a text spells.
+use Rattle.std.specs.Prelude.{◌≡◌, ℕ, ◌*◌, ◌^◌, ◌≤◌, ◌↔◌, true, List, Some}
+use Rattle.decimal_text.specs.Parts.{Parts, SpellsNumber}
+use Rattle.decimal_text.specs.Scaling.{numerator, denominator}
+use Rattle.area_thresholds.specs.Thresholds.{threshold_of}
+
+-- the number with these parts is so many times 10^-14, isn't negative and is at most 10^18, and the threshold is twice as many
+pub record IsThreshold (area : Parts) (threshold : ℕ) : Type 0 where
+  pub many : ℕ
+  pub exactly : many * denominator area ≡ numerator area 14
+  pub positive : area.negative ≡ true → many ≡ 0
+  pub most : many ≤ 10 ^ 32
+  pub twice : threshold ≡ 2 * many
+
+-- a text that spells a number has such a threshold, and no other
+abbrev pub ThresholdIsTwiceTheArea : Type 0
+ThresholdIsTwiceTheArea =
+    (t : List ℕ) (area : Parts) (threshold : ℕ) → SpellsNumber t area
+    → (threshold_of t ≡ Some threshold) ↔ IsThreshold area threshold

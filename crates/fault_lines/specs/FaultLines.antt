@@ -8,7 +8,7 @@ use Rattle.geojson_model.specs.declared.fault.GeoFault.{GeoFault}
 use Rattle.geojson_model.specs.Faults.{code, name}
 use Rattle.topojson_meaning.specs.Faults as topo
 use Rattle.inputs.specs.declared.fault.BuildFault.{BuildFault}
-use Rattle.inputs.specs.declared.fault.BuildFault.TheVariants.{EmptyName, DuplicateName, Read, Json, Geo, Write, Memory, NotYet}
+use Rattle.inputs.specs.declared.fault.BuildFault.TheVariants.{EmptyName, DuplicateName, Read, Json, Geo, Write, Memory}
 use Rattle.inputs.specs.declared.file_fault.FileFault.{FileFault}
 use Rattle.inputs.specs.declared.file_fault.FileFault.TheVariants as file
 
@@ -46,7 +46,6 @@ fault_text (Json layer fault) = layer_text layer (json_text fault)
 fault_text (Geo layer fault) = layer_text layer (geo_text fault)
 fault_text (Write sent) = (codes "error: B6 Write sent " ++ decimal sent) ++ codes "\n"
 fault_text Memory = codes "error: B7 Memory\n"
-fault_text NotYet = codes "error: B8 NotYet\n"
 
 -- what the file of a topology is refused for
 abbrev pub file_text : List ℕ → List ℕ

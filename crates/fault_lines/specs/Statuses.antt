@@ -3,7 +3,7 @@ use Rattle.std.specs.Prelude.{ℕ}
 use Rattle.byte_ends.specs.declared.source.ReadFault.{ReadFault}
 use Rattle.byte_ends.specs.declared.source.ReadFault.TheVariants as read
 use Rattle.inputs.specs.declared.fault.BuildFault.{BuildFault}
-use Rattle.inputs.specs.declared.fault.BuildFault.TheVariants.{EmptyName, DuplicateName, Read, Json, Geo, Write, Memory, NotYet}
+use Rattle.inputs.specs.declared.fault.BuildFault.TheVariants.{EmptyName, DuplicateName, Read, Json, Geo, Write, Memory}
 use Rattle.inputs.specs.declared.file_fault.FileFault.{FileFault}
 use Rattle.inputs.specs.declared.file_fault.FileFault.TheVariants as file
 
@@ -34,7 +34,6 @@ status_of (Json layer fault) = input_refused
 status_of (Geo layer fault) = input_refused
 status_of (Write sent) = failed
 status_of Memory = failed
-status_of NotYet = input_refused
 
 -- the status of a run over the file of a topology that ended so
 abbrev pub file_status_of : FileFault → ℕ

@@ -40,7 +40,6 @@ impl fmt::Display for FaultLine<'_> {
             ),
             BuildFault::Write { sent } => writeln!(f, "error: B6 Write sent {sent}"),
             BuildFault::Memory => writeln!(f, "error: B7 Memory"),
-            BuildFault::NotYet => writeln!(f, "error: B8 NotYet"),
         }
     }
 }

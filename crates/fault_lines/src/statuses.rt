@@ -25,7 +25,7 @@ pub fn status(fault: &BuildFault) -> u8
     match fault {
         BuildFault::EmptyName { .. } | BuildFault::DuplicateName { .. } => WORDS_REFUSED,
         BuildFault::Read { fault, .. } => read_status(*fault),
-        BuildFault::Json { .. } | BuildFault::Geo { .. } | BuildFault::NotYet => INPUT_REFUSED,
+        BuildFault::Json { .. } | BuildFault::Geo { .. } => INPUT_REFUSED,
         BuildFault::Write { .. } | BuildFault::Memory => FAILED,
     }
 }

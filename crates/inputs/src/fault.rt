@@ -29,9 +29,6 @@ pub enum BuildFault {
     /// An allocation was refused.
     #[error("out of memory")]
     Memory,
-    /// What is asked for can't be built yet: a grid or a threshold.
-    #[error("not built yet")]
-    NotYet,
 }
 
 impl From<Memory> for BuildFault {

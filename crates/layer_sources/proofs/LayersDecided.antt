@@ -10,7 +10,7 @@ use Rattle.geojson_types.specs.declared.counts.Counts.{Counts}
 use Rattle.geojson_types.specs.declared.layer.Layer.{Layer}
 use Rattle.geojson_types.specs.Features.{Featured}
 use Rattle.inputs.specs.declared.fault.BuildFault.{BuildFault}
-use Rattle.inputs.specs.declared.fault.BuildFault.TheVariants.{EmptyName, DuplicateName, Read, Json as Text, Geo, Write, Memory, NotYet}
+use Rattle.inputs.specs.declared.fault.BuildFault.TheVariants.{EmptyName, DuplicateName, Read, Json as Text, Geo, Write, Memory}
 use Rattle.inputs.specs.Texts.{max_input}
 use Rattle.inputs.proofs.BytesDecided.{plain_text, one_outcome, text_comes}
 use Rattle.layer_sources.specs.Outcomes.{LayerOutcome, Outcome, of_layer, of_text, LayerComesTo, with_layer, Continues, AllComeTo, ComesTo, plain_fault, IsOutsideRead, HaveBytes}
@@ -95,7 +95,6 @@ fails_layer n exact old new b (Geo i fault) e f =
 fails_layer n exact old new b (EmptyName i) e f = absurd f.2
 fails_layer n exact old new b (DuplicateName i) e f = absurd f.2
 fails_layer n exact old new b (Write sent) e f = absurd f.2
-fails_layer n exact old new b NotYet e f = absurd f.2
 
 pub fails_come : (n : ℕ) (exact : Bool) (olds news : Sources) (bs : Texts) (e : BuildFault) → FailsAt exact n olds news e → HaveBytes olds bs → IsOutsideRead e ⊎ AllComeTo n exact bs (Err e)
 fails_come n exact [] news bs e f k = absurd f

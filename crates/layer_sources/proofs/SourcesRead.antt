@@ -4,7 +4,7 @@ use Rattle.byte_ends.specs.Ends.{Fed, saturated}
 use Rattle.geojson_types.specs.declared.counts.Counts.{Counts}
 use Rattle.geojson_types.specs.declared.layer.Layer.{Layer}
 use Rattle.inputs.specs.declared.fault.BuildFault.{BuildFault}
-use Rattle.inputs.specs.declared.fault.BuildFault.TheVariants.{EmptyName, DuplicateName, Read, Json, Geo, Write, Memory, NotYet}
+use Rattle.inputs.specs.declared.fault.BuildFault.TheVariants.{EmptyName, DuplicateName, Read, Json, Geo, Write, Memory}
 use Rattle.inputs.specs.Texts.{IsRead}
 use Rattle.layer_sources.specs.Reading.{FailsToRead, SpellsLayer}
 use Rattle.layer_sources.specs.Sources.{Sources, Named, IsLayerRead, HaveRead, AllRead, FailsAt, FailsToReadAll, AreUntroubled, plus, added}
@@ -107,7 +107,6 @@ stops exact olds mid ls cs x source (Read i r) h lt is f = fails_at exact 0 (len
 stops exact olds mid ls cs x source (Json i r) h lt is f = fails_at exact 0 (length ls) olds mid ls cs x source (Json i r) h lt is (omega arith) f
 stops exact olds mid ls cs x source (Geo i r) h lt is f = fails_at exact 0 (length ls) olds mid ls cs x source (Geo i r) h lt is (omega arith) f
 stops exact olds mid ls cs x source (Write sent) h lt is f = fails_at exact 0 (length ls) olds mid ls cs x source (Write sent) h lt is (omega arith) f
-stops exact olds mid ls cs x source NotYet h lt is f = fails_at exact 0 (length ls) olds mid ls cs x source NotYet h lt is (omega arith) f
 
 -- ---- counts
 

@@ -8,7 +8,7 @@ use Rattle.geojson_types.specs.Features.{Featured}
 use Rattle.geojson_model.specs.declared.fault.GeoFault.{GeoFault}
 use Rattle.geojson_model.specs.Layers.{layer}
 use Rattle.inputs.specs.declared.fault.BuildFault.{BuildFault}
-use Rattle.inputs.specs.declared.fault.BuildFault.TheVariants.{EmptyName, DuplicateName, Read, Json as Text, Geo, Write, Memory, NotYet}
+use Rattle.inputs.specs.declared.fault.BuildFault.TheVariants.{EmptyName, DuplicateName, Read, Json as Text, Geo, Write, Memory}
 use Rattle.inputs.specs.Texts.{BytesComeTo, plain_text_fault}
 use Rattle.layer_sources.specs.Reading.{layer_depth}
 use Rattle.layer_sources.specs.Sources.{Sources, Named}
@@ -67,7 +67,6 @@ plain_fault (Read i fault) = Read i fault
 plain_fault (Geo i fault) = Geo i fault
 plain_fault (Write sent) = Write sent
 plain_fault Memory = Memory
-plain_fault NotYet = NotYet
 
 -- memory was refused, or a source failed
 abbrev pub IsOutsideRead : BuildFault → Type 0

@@ -9,7 +9,7 @@ use Rattle.geojson_model.specs.declared.fault.GeoFaultKind.TheVariants as geo
 use Rattle.geojson_types.specs.Features.{Featured}
 use Rattle.geojson_model.specs.Layers.{layer}
 use Rattle.inputs.specs.declared.fault.BuildFault.{BuildFault}
-use Rattle.inputs.specs.declared.fault.BuildFault.TheVariants.{EmptyName, DuplicateName, Read, Json as Text, Geo, Write, Memory, NotYet}
+use Rattle.inputs.specs.declared.fault.BuildFault.TheVariants.{EmptyName, DuplicateName, Read, Json as Text, Geo, Write, Memory}
 use Rattle.inputs.specs.Texts.{IsNoText, IsRead, FailsToEnd}
 
 -- how deep the arrays and objects of a layer may nest
@@ -32,7 +32,6 @@ IsNoLayer n exact bytes (EmptyName i) = ⊥
 IsNoLayer n exact bytes (DuplicateName i) = ⊥
 IsNoLayer n exact bytes (Read i fault) = ⊥
 IsNoLayer n exact bytes (Write sent) = ⊥
-IsNoLayer n exact bytes NotYet = ⊥
 
 -- the answer for the bytes of the layer of this number
 abbrev pub IsLayerOf : ℕ → Bool → List ℕ → Result (Layer × Counts) BuildFault → Type 0

@@ -1,10 +1,10 @@
 -- What was built is read again as what was built.
-use Rattle.std.proofs.Common.{◌≡◌, ℕ, Bool, List, [], ◌∷◌, ◌++◌, ◌∙◌, ap, subst, Option, Some, Result, Ok}
+use Rattle.std.proofs.Common.{◌≡◌, ℕ, List, [], ◌∷◌, ◌++◌, ◌∙◌, ap, subst, sym, length, Option, Some, Result, Ok}
 use Rattle.std.proofs.Math.Seq.{take-length}
 use Rattle.std.proofs.lemmas.List.{append_cancel_left}
 use Rattle.std.specs.Io.KnownBytes.{Appends}
 use Rattle.std.specs.List.{AllByRecursion}
-use Rattle.byte_ends.specs.Ends.{Fed, Drained}
+use Rattle.byte_ends.specs.Ends.{Fed, Drained, Takes}
 use Rattle.byte_ends.specs.Writes.{WritesAll}
 use Rattle.decimal_json.proofs.TextsFound.{one_value}
 use Rattle.geojson_types.specs.declared.counts.Counts.{Counts}
@@ -13,16 +13,25 @@ use Rattle.geojson_types.specs.declared.layer.FeatureSet.TheVariants.{Many}
 use Rattle.geojson_types.specs.Counting.{no_counts}
 use Rattle.topojson_types.specs.Decoding.{decoded}
 use Rattle.topojson_types.specs.Topologies.{Contents}
-use Rattle.build_meaning.specs.Built.{built}
-use Rattle.build_meaning.specs.Expected.{expected}
 use Rattle.topojson_meaning.specs.declared.fault.TopoFault.{TopoFault}
 use Rattle.topojson_meaning.specs.Topologies.{topology}
 use Rattle.reports.specs.declared.report.Report.{Report}
 use Rattle.reports.specs.declared.summary.Summary.{Summary}
-use Rattle.mapchain_engine.specs.Building.{IsBuilt}
+use Rattle.topology_building.specs.Building.{expected_for, written_for, IsBuilt}
+use Rattle.topology_building.specs.declared.options.Options.{Options}
 use Rattle.topology_files.specs.Files.{topology_depth, IsTopologyRead, IsSummarised}
+use Rattle.topology_simplifying.specs.Simplified.{lessened_text, IsSimplified}
+use Rattle.topology_building.proofs.SoundLayers.{all_taken, are_taken}
+use Rattle.layer_topology.specs.Laws.{LessensToWritten}
+use Rattle.layer_topology.specs.Written.{written as written_on}
+use Rattle.lessened_topology.specs.Thresholds.{lessened}
+use Rattle.build_meaning.specs.Layers.{names_of}
+use Rattle.json_value.specs.Text.{json_text}
+use Rattle.topojson_types.specs.Validity.{AreDistinct}
+use Rattle.topojson_types.specs.Values.{topology_value}
+use Rattle.topojson_meaning.specs.Laws.{ReadsValid}
 use Rattle.topology_files.specs.Geo.{features_text, IsDecoded}
-use Rattle.mapchain_engine.specs.Laws.{IsWrittenTo, WritesEach, DecodesBack, SummarisesBack}
+use Rattle.mapchain_engine.specs.Laws.{IsWrittenTo, WritesEach, DecodesBack, SimplifiesToBuilt, SummarisesBack}
 use Rattle.layer_sources.specs.Sources.{Sources, Named}
 use Rattle.reports.specs.Summaries.{summary_of}
 use Rattle.inputs.proofs.BytesDecided.{same_bytes}
@@ -43,19 +52,19 @@ same_topology r s t c d h k =
 some_same : (x y : FeatureSet) (o : Option FeatureSet) → o ≡ Some x → o ≡ Some y → x ≡ y
 some_same x y o h k = cc
 
-module _ (exact : Bool) (threshold : ℕ) (olds news : Sources) (sink_old sink_new : Drained) (report : Report) (is : IsBuilt exact threshold olds news sink_old sink_new report)
+module _ (o : Options) (olds news : Sources) (sink_old sink_new : Drained) (report : Report) (is : IsBuilt o olds news sink_old sink_new report)
     (source : Fed) (from : IsWrittenTo sink_old sink_new source) where
   -- the bytes that the source has left are the text that was built
   same_text : from.bytes ≡ is.text
   same_text = took_behind sink_old.taken sink_new.taken from.before from.bytes is.text from.had from.took (rw take-length at is.written.taken)
 
   -- the topology that they spell is the one that was built
-  same_contents : (after : Fed) (contents : Contents) → IsTopologyRead source after contents → contents ≡ is.builds.topology.contents
-  same_contents after contents read =
+  same_contents : (after : Fed) (contents : Contents) (counts : Counts) → IsTopologyRead source after contents counts → contents ≡ is.builds.topology.contents
+  same_contents after contents counts read =
       let says = is.builds.topology in
       let bytes = same_bytes source.left from.bytes read.bytes from.left read.read.all ∙ same_text in
       let value = one_value topology_depth topology_depth read.bytes read.spells.value says.value read.spells.spelled (rw bytes says.spelled) in
-      same_topology (topology read.spells.value) contents says.contents read.spells.counts no_counts read.spells.stands (rw value says.stands)
+      same_topology (topology read.spells.value) contents says.contents counts no_counts read.spells.stands (rw value says.stands)
 
   writes_each : (ls : Named) → AllByRecursion (λ l. decoded is.builds.topology.contents l.0 ≡ Some (Many l.1.features)) ls → WritesEach ls source
   writes_each [] h = tt
@@ -63,19 +72,45 @@ module _ (exact : Bool) (threshold : ℕ) (olds news : Sources) (sink_old sink_n
     where
       one : (after : Fed) (out_old out_new : Drained) (sent : ℕ) → IsDecoded l.0 source after out_old out_new sent → WritesAll out_old out_new 0 (features_text (Many l.1.features)) sent
       one after out_old out_new sent d =
-          let contents = same_contents after d.given.contents d.given.read in
+          let contents = same_contents after d.given.contents d.given.counts d.given.read in
           let e = some_same d.features (Many l.1.features) (decoded d.given.contents l.0) d.given.found (rw contents h.0) in
           subst (λ fs. WritesAll out_old out_new 0 (features_text fs) sent) e d.written
 
-  writes_expected : WritesEach (expected threshold is.layers) source
-  writes_expected = writes_each (expected threshold is.layers) is.builds.topology.features
+  writes_expected : WritesEach (expected_for o is.layers) source
+  writes_expected = writes_each (expected_for o is.layers) is.builds.topology.features
 
-  summary_same : (after : Fed) (summary : Summary) → IsSummarised source after summary → summary ≡ summary_of (built threshold is.layers)
-  summary_same after summary s = s.told ∙ ap summary_of (same_contents after s.contents s.read ∙ is.builds.topology.shared)
+  summary_same : (after : Fed) (summary : Summary) → IsSummarised source after summary → summary ≡ summary_of (written_for o is.layers)
+  summary_same after summary s = s.told ∙ ap summary_of (same_contents after s.contents s.counts s.read ∙ is.builds.topology.shared)
+
+  -- what is left of it at a threshold, where it was built at zero, is what is written of the layers at that threshold
+  lessened_is : LessensToWritten → ReadsValid → (t : ℕ) → o.threshold ≡ 0 → lessened t is.builds.topology.contents ≡ written_on o.grid t is.layers
+  lessened_is less valid t zero =
+      let says = is.builds.topology in
+      let names : AreDistinct (names_of is.layers) = subst AreDistinct says.names (valid says.value says.contents no_counts says.stands).names in
+      ap (lessened t) (says.shared ∙ ap (λ z. written_on o.grid z is.layers) zero)
+      ∙ less o.grid t is.layers (are_taken o is.layers (all_taken o.exact olds news is.layers is.counts is.builds.read) names)
+
+  simplified_text : LessensToWritten → ReadsValid → (t : ℕ) → o.threshold ≡ 0 → (after : Fed) (out_old out_new : Drained) (simplified : Report)
+      → IsSimplified t source after out_old out_new simplified
+      → Takes out_old out_new (json_text (topology_value (written_on o.grid t is.layers))) (length (json_text (topology_value (written_on o.grid t is.layers))))
+  simplified_text less valid t zero after out_old out_new simplified s =
+      let e : lessened_text t s.contents ≡ json_text (topology_value (written_on o.grid t is.layers)) =
+      ap (lessened_text t) (same_contents after s.contents s.counts s.read) ∙ ap (λ y. json_text (topology_value y)) (lessened_is less valid t zero) in
+      subst (λ text. Takes out_old out_new text (length text)) e s.written
+
+pub simplifies_to_built : LessensToWritten → ReadsValid → SimplifiesToBuilt
+simplifies_to_built less valid o p olds news sink_old sink_new report full more_olds more_news more_old more_new more_report small zero grid same source after out_old out_new simplified from s =
+    let says = small.builds.topology in
+    let e : json_text (topology_value (written_on o.grid p.threshold full.layers)) ≡ small.text =
+    ap (λ g. json_text (topology_value (written_on g p.threshold full.layers))) (sym grid)
+    ∙ ap (λ ls. json_text (topology_value (written_on p.grid p.threshold ls))) (sym same)
+    ∙ ap (λ y. json_text (topology_value y)) (sym says.shared) ∙ sym says.written in
+    subst (λ text. Takes out_old out_new text (length text)) e
+    (simplified_text o olds news sink_old sink_new report full source from less valid p.threshold zero after out_old out_new simplified s)
 
 pub decodes_back : DecodesBack
-decodes_back exact threshold olds news sink_old sink_new report is source from = writes_expected exact threshold olds news sink_old sink_new report is source from
+decodes_back o olds news sink_old sink_new report is source from = writes_expected o olds news sink_old sink_new report is source from
 
 pub summarises_back : SummarisesBack
-summarises_back exact threshold olds news sink_old sink_new report is source after summary from s =
-    summary_same exact threshold olds news sink_old sink_new report is source from after summary s
+summarises_back o olds news sink_old sink_new report is source after summary from s =
+    summary_same o olds news sink_old sink_new report is source from after summary s

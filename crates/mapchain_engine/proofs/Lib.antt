@@ -1,5 +1,1 @@
-pub mod Built
-pub mod BuiltAgain
-pub mod Decided
-pub mod NamesDistinct
-pub mod SoundLayers
+mod BuiltAgain

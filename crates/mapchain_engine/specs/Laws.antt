@@ -1,21 +1,22 @@
 -- What is true of a topology that was built and is read again.
-use Rattle.std.specs.Prelude.{◌≡◌, ℕ, Bool, List, ◌++◌, Some}
+use Rattle.std.specs.Prelude.{◌≡◌, ℕ, List, ◌++◌, Some, length}
 use Rattle.std.specs.List.{AllByRecursion}
-use Rattle.byte_ends.specs.Ends.{Fed, Drained}
+use Rattle.byte_ends.specs.Ends.{Fed, Drained, Takes}
 use Rattle.byte_ends.specs.Writes.{WritesAll}
 use Rattle.geojson_types.specs.declared.layer.FeatureSet.TheVariants.{Many}
-use Rattle.build_meaning.specs.Built.{built}
-use Rattle.build_meaning.specs.Expected.{expected, kept_line}
+use Rattle.build_meaning.specs.Expected.{kept_line}
 use Rattle.build_meaning.specs.Laws.{whole_line}
 use Rattle.build_meaning.specs.Layers.{layers_of, named_strokes}
 use Rattle.linework.specs.Linework.{linework}
 use Rattle.reports.specs.declared.report.Report.{Report}
 use Rattle.reports.specs.declared.summary.Summary.{Summary}
-use Rattle.mapchain_engine.specs.Building.{IsBuilt}
+use Rattle.topology_building.specs.Building.{expected_for, snapped_for, written_for, IsBuilt}
+use Rattle.topology_building.specs.declared.options.Options.{Options}
 use Rattle.topology_files.specs.Geo.{features_text, IsDecoded}
 use Rattle.layer_sources.specs.Sources.{Sources, Named}
 use Rattle.reports.specs.Summaries.{summary_of}
 use Rattle.topology_files.specs.Files.{IsSummarised}
+use Rattle.topology_simplifying.specs.Simplified.{IsSimplified}
 
 -- A source has left what a build wrote to its sink behind what had been there.
 pub record IsWrittenTo (sink_old sink_new : Drained) (source : Fed) : Type 0 where
@@ -33,16 +34,26 @@ WritesEach layers source =
 
 -- what a build wrote is decoded to the features that are expected of each layer
 abbrev pub DecodesBack : Type 0
-DecodesBack = (exact : Bool) (threshold : ℕ) (olds news : Sources) (sink_old sink_new : Drained) (report : Report) (is : IsBuilt exact threshold olds news sink_old sink_new report)
-    (source : Fed) → IsWrittenTo sink_old sink_new source → WritesEach (expected threshold is.layers) source
+DecodesBack = (o : Options) (olds news : Sources) (sink_old sink_new : Drained) (report : Report) (is : IsBuilt o olds news sink_old sink_new report)
+    (source : Fed) → IsWrittenTo sink_old sink_new source → WritesEach (expected_for o is.layers) source
 
--- at a threshold of zero each line of the layers is expected as it is, with equal neighbours as one position, a ring from its start,
--- unless it has too few positions
+-- at a threshold of zero each line of the layers, snapped to the grid that is asked for, is expected as it is, with equal neighbours
+-- as one position, a ring from its start, unless it has too few positions
 abbrev pub LosesNothing : Type 0
-LosesNothing = (exact : Bool) (olds news : Sources) (sink_old sink_new : Drained) (report : Report) (is : IsBuilt exact 0 olds news sink_old sink_new report)
-    → AllByRecursion (λ b. kept_line (linework (layers_of is.layers)) 0 b.0 b.1 ≡ whole_line is.layers b.0 b.1) (named_strokes is.layers)
+LosesNothing = (o : Options) (olds news : Sources) (sink_old sink_new : Drained) (report : Report) (is : IsBuilt o olds news sink_old sink_new report) → o.threshold ≡ 0
+    → AllByRecursion (λ b. kept_line (linework (layers_of (snapped_for o is.layers))) o.threshold b.0 b.1 ≡ whole_line (snapped_for o is.layers) b.0 b.1)
+    (named_strokes (snapped_for o is.layers))
 
 -- the summary of what a build wrote is that of the topology that is built of the layers
 abbrev pub SummarisesBack : Type 0
-SummarisesBack = (exact : Bool) (threshold : ℕ) (olds news : Sources) (sink_old sink_new : Drained) (report : Report) (is : IsBuilt exact threshold olds news sink_old sink_new report)
-    (source after : Fed) (summary : Summary) → IsWrittenTo sink_old sink_new source → IsSummarised source after summary → summary ≡ summary_of (built threshold is.layers)
+SummarisesBack = (o : Options) (olds news : Sources) (sink_old sink_new : Drained) (report : Report) (is : IsBuilt o olds news sink_old sink_new report)
+    (source after : Fed) (summary : Summary) → IsWrittenTo sink_old sink_new source → IsSummarised source after summary → summary ≡ summary_of (written_for o is.layers)
+
+-- The topology that a build at a threshold of zero wrote, simplified at a threshold, is byte for byte what a build of the same layers on
+-- the same grid writes at that threshold.
+abbrev pub SimplifiesToBuilt : Type 0
+SimplifiesToBuilt = (o p : Options) (olds news : Sources) (sink_old sink_new : Drained) (report : Report) (full : IsBuilt o olds news sink_old sink_new report)
+    (more_olds more_news : Sources) (more_old more_new : Drained) (more_report : Report) (small : IsBuilt p more_olds more_news more_old more_new more_report)
+    → o.threshold ≡ 0 → p.grid ≡ o.grid → small.layers ≡ full.layers
+    → (source after : Fed) (out_old out_new : Drained) (simplified : Report) → IsWrittenTo sink_old sink_new source → IsSimplified p.threshold source after out_old out_new simplified
+    → Takes out_old out_new small.text (length small.text)

@@ -1,4 +1,1 @@
-pub mod Building
 pub mod Laws
-pub mod Outcomes
-pub mod Ranges

@@ -1,7 +1,10 @@
 // Laws of the contracts. A function here does nothing: its contract is the law.
-ghost use Rattle.mapchain_engine.specs.Laws.{DecodesBack, LosesNothing, SummarisesBack};
+ghost use Rattle.mapchain_engine.specs.Laws.{DecodesBack, LosesNothing, SimplifiesToBuilt, SummarisesBack};
 
 use build_meaning::zero_loses_nothing;
+use grid_meaning::snapped_are_on;
+use layer_topology::lessens_to_written;
+use topojson_meaning::topology_is_valid;
 
 /// What `build` wrote, at any threshold, `to_geo` reads again: with the name of a layer, answering `Ok`, it writes the text of the
 /// features that are expected of this layer, the same as in the contract of `build`.
@@ -14,6 +17,7 @@ pub fn built_text_decodes_back()
 pub fn built_at_zero_loses_nothing()
     ensures { LosesNothing }
 {
+    snapped_are_on();
     zero_loses_nothing();
 }
 
@@ -21,3 +25,12 @@ pub fn built_at_zero_loses_nothing()
 pub fn built_text_is_summarised()
     ensures { SummarisesBack }
 {}
+
+/// What `build` wrote at a threshold of zero, simplified at a threshold, is byte for byte what `build` writes of the same layers, on the
+/// same grid, at that threshold: one full file is kept, and smaller ones are made of it.
+pub fn simplified_text_is_built()
+    ensures { SimplifiesToBuilt }
+{
+    lessens_to_written();
+    topology_is_valid();
+}

@@ -1,6 +1,6 @@
 // What is asked for.
 ghost use Rattle.std.specs.Prelude.{◌≡◌, true};
-ghost use Rattle.mapchain_engine.specs.Ranges.{is_in_range};
+ghost use Rattle.topology_building.specs.Ranges.{is_in_range};
 
 /// How a topology is built.
 #[derive(Clone, Copy, Debug)]

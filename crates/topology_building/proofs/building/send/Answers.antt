@@ -1,8 +1,8 @@
 use Rattle.std.proofs.lemmas.Result.{err_from_is_err_and}
 use Rattle.json_value.specs.Text.{json_text}
 use Rattle.topojson_types.specs.Values.{topology_value}
-use Rattle.mapchain_engine.proofs.Built.{sent_in_part, sent_whole}
-use Rattle.mapchain_engine.proofs.building.send.Goals as goal
+use Rattle.topology_building.proofs.Built.{sent_in_part, sent_whole}
+use Rattle.topology_building.proofs.building.send.Goals as goal
 
 pub returns-in_err-flush_behind : goal.returns-in_err-flush_behind
 returns-in_err-flush_behind g c =

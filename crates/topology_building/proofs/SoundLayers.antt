@@ -1,5 +1,6 @@
 -- What holds of all layers that were read.
-use Rattle.std.proofs.Common.{◌≡◌, ℕ, ◌≤◌, Bool, true, List, [], ◌∷◌, ◌++◌, map, Option, Some, None, refl, ap, arith}
+use Rattle.std.proofs.Common.{◌≡◌, ℕ, ◌≤◌, Bool, true, List, [], ◌∷◌, map, Option, Some, None, refl, arith}
+use Rattle.std.proofs.lemmas.Bool.Decides.{nat_tests}
 use Rattle.std.specs.List.{AllByRecursion}
 use Rattle.json_value.specs.Depth.{depth}
 use Rattle.json_value.specs.Numbers.{HasNumbers}
@@ -11,18 +12,22 @@ use Rattle.geojson_types.specs.declared.layer.Layer.{Layer}
 use Rattle.geojson_types.specs.Features.{Featured, Shape, is_proper_option}
 use Rattle.geojson_types.specs.Nesting.{feature_nesting}
 use Rattle.geojson_types.specs.Numbers.{FeatureHasNumbers}
-use Rattle.geojson_types.specs.Places.{option_points}
+use Rattle.geojson_types.specs.Places.{option_points, features_points}
 use Rattle.geometry.specs.Points.{Point, IsInput, IsPosition}
 use Rattle.geometry.specs.Pruning.{option_strokes}
-use Rattle.geojson_types.proofs.Nestings.{option_pruned_nests}
 use Rattle.geojson_model.proofs.SoundFeatures.{IsSoundFeature}
 use Rattle.geojson_model.proofs.SoundLayers.{layer_sound}
 use Rattle.geojson_model.proofs.Sound as shape
+use Rattle.list_laws.proofs.Elements.{all_append, all_weaker}
 use Rattle.json_members.proofs.Yields.{IfThere}
 use Rattle.build_meaning.specs.Laws.{IsSound, AreSound, IsRingIfClosed}
 use Rattle.build_meaning.specs.Layers.{names_of}
-use Rattle.build_meaning.specs.Objects.{Kept, features_by, objects_by}
-use Rattle.topojson_meaning.specs.Bounds as bounds
+use Rattle.grid_meaning.specs.Gridded.{IsCount, AreInputs, named_points}
+use Rattle.grid_meaning.specs.Laws.{EachFeature}
+use Rattle.layer_topology.specs.Written.{AreTaken}
+use Rattle.topojson_types.specs.Validity.{AreDistinct}
+use Rattle.topology_building.specs.declared.options.Options.{Options}
+use Rattle.topology_building.specs.Ranges.{is_in_range}
 use Rattle.layer_sources.specs.Reading.{layer_depth}
 use Rattle.layer_sources.specs.Sources.{Sources, Named, IsLayerRead, AllRead}
 
@@ -40,6 +45,10 @@ places_of : (s : Option Shape) → IfThere shape.IsSound s → AllByRecursion Is
 places_of None h = tt
 places_of (Some s) h = positions (option_points (Some s)) h.inputs
 
+inputs_of : (s : Option Shape) → IfThere shape.IsSound s → AllByRecursion IsInput (option_points s)
+inputs_of None h = tt
+inputs_of (Some s) h = h.inputs
+
 rings_of : (s : Option Shape) → IfThere shape.IsSound s → AllByRecursion IsRingIfClosed (option_strokes s)
 rings_of None h = tt
 rings_of (Some s) h = h.closed
@@ -47,13 +56,14 @@ rings_of (Some s) h = h.closed
 -- sound, no deeper than a layer may be, and its numbers are numbers
 pub record IsTaken (f : Featured) : Type 0 where
   pub sound : IsSound f
+  pub inputs : AllByRecursion IsInput (option_points f.shape)
   pub nests : feature_nesting f ≤ layer_depth
   pub numbers : FeatureHasNumbers f
 
 taken : (n : ℕ) (N : Type 0) → n ≤ layer_depth → N → (fs : List Featured) → AllByRecursion (IsSoundFeature n N) fs → AllByRecursion IsTaken fs
 taken n N le k [] h = tt
 taken n N le k (f ∷ fs) h = (
-  record { sound = record { proper = proper_of f.shape h.0.shape; rings = rings_of f.shape h.0.shape; places = places_of f.shape h.0.shape }; nests = omega (arith, le, h.0.nests); numbers = h.0.numbers k },
+  record { sound = record { proper = proper_of f.shape h.0.shape; rings = rings_of f.shape h.0.shape; places = places_of f.shape h.0.shape }; inputs = inputs_of f.shape h.0.shape; nests = omega (arith, le, h.0.nests); numbers = h.0.numbers k },
   taken n N le k fs h.1,
 )
 
@@ -88,39 +98,36 @@ names_read exact (s ∷ ss) [] ls cs h = absurd h
 names_read exact (s ∷ ss) (t ∷ ts) [] cs h = absurd h
 names_read exact (s ∷ ss) (t ∷ ts) (l ∷ ls) [] h = absurd h
 
-features_sound : (fs : List Featured) → AllByRecursion IsTaken fs → AllByRecursion IsSound fs
-features_sound [] h = tt
-features_sound (f ∷ fs) h = (h.0.sound, features_sound fs h.1)
+-- ---- what is known of them
+
+each_of : (Y : Featured → Type 0) → ((f : Featured) → IsTaken f → Y f) → (ls : Named) → AllTaken ls → EachFeature Y ls
+each_of Y weaker ls h =
+    all_weaker (λ (l : List ℕ × Layer). AllByRecursion IsTaken l.1.features) (λ l. AllByRecursion Y l.1.features) (λ l k. all_weaker IsTaken Y weaker l.1.features k) ls h
 
 pub layers_sound : (ls : Named) → AllTaken ls → AreSound ls
-layers_sound [] h = tt
-layers_sound (l ∷ ls) h = (features_sound l.1.features h.0, layers_sound ls h.1)
+layers_sound ls h = each_of IsSound (λ f k. k.sound) ls h
 
--- ---- the features of the topology
+pub layers_number : (ls : Named) → AllTaken ls → EachFeature FeatureHasNumbers ls
+layers_number ls h = each_of FeatureHasNumbers (λ f k. k.numbers) ls h
 
-all_both : {A : Type 0} (X : A → Type 0) (xs ys : List A) → AllByRecursion X xs → AllByRecursion X ys → AllByRecursion X (xs ++ ys)
-all_both X [] ys h k = k
-all_both X (x ∷ xs) ys h k = (h.0, all_both X xs ys h.1 k)
+pub layers_nest : (ls : Named) → AllTaken ls → EachFeature (λ f. feature_nesting f ≤ layer_depth) ls
+layers_nest ls h = each_of (λ f. feature_nesting f ≤ layer_depth) (λ f k. k.nests) ls h
 
-module _ (kept : Kept) where
-  features_number : (fs : List Featured) → AllByRecursion IsTaken fs → AllByRecursion bounds.FeatureHasNumbers (features_by kept fs)
-  features_number [] h = tt
-  features_number (f ∷ fs) h = (h.0.numbers, features_number fs h.1)
+inputs_joined : (fs : List Featured) → AllByRecursion IsTaken fs → AllByRecursion IsInput (features_points fs)
+inputs_joined [] h = tt
+inputs_joined (f ∷ fs) h = all_append IsInput (option_points f.shape) (features_points fs) h.0.inputs (inputs_joined fs h.1)
 
-  pub objects_number : (ls : Named) → AllTaken ls → AllByRecursion bounds.FeatureHasNumbers (bounds.objects_features (objects_by kept ls))
-  objects_number [] h = tt
-  objects_number (l ∷ ls) h =
-      all_both bounds.FeatureHasNumbers (features_by kept l.1.features) (bounds.objects_features (objects_by kept ls)) (features_number l.1.features h.0) (objects_number ls h.1)
+pub layers_inputs : (ls : Named) → AllTaken ls → AreInputs ls
+layers_inputs [] h = tt
+layers_inputs (l ∷ ls) h = all_append IsInput (features_points l.1.features) (named_points ls) (inputs_joined l.1.features h.0) (layers_inputs ls h.1)
 
-  features_nest : (fs : List Featured) → AllByRecursion IsTaken fs → AllByRecursion (λ f. bounds.feature_nesting f ≤ layer_depth) (features_by kept fs)
-  features_nest [] h = tt
-  features_nest (f ∷ fs) h = (omega (arith, h.0.nests, option_pruned_nests (λ p. p) kept f.shape), features_nest fs h.1)
+counted : (grid : Option ℕ) (t : ℕ) → is_in_range grid t ≡ true → IsCount grid
+counted None t h = tt
+counted (Some n) t h = (grind (arith, nat_tests, h), grind (arith, nat_tests, h))
 
-  pub objects_nest : (ls : Named) → AllTaken ls → AllByRecursion (λ f. bounds.feature_nesting f ≤ layer_depth) (bounds.objects_features (objects_by kept ls))
-  objects_nest [] h = tt
-  objects_nest (l ∷ ls) h =
-      all_both (λ f. bounds.feature_nesting f ≤ layer_depth) (features_by kept l.1.features) (bounds.objects_features (objects_by kept ls)) (features_nest l.1.features h.0) (objects_nest ls h.1)
+-- a grid that is asked for is one that may be
+pub count_of : (o : Options) → IsCount o.grid
+count_of o = counted o.grid o.threshold o.in_range
 
-  pub names_kept : (ls : Named) → map (λ o. o.0) (objects_by kept ls) ≡ map (λ l. l.0) ls
-  names_kept [] = refl
-  names_kept (l ∷ ls) = ap (λ ns. l.0 ∷ ns) (names_kept ls)
+pub are_taken : (o : Options) (ls : Named) → AllTaken ls → AreDistinct (names_of ls) → AreTaken o.grid ls
+are_taken o ls h distinct = record { count = count_of o; sound = layers_sound ls h; inputs = layers_inputs ls h; names = distinct }

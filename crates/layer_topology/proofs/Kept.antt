@@ -1,0 +1,47 @@
+-- The features of what is built of layers: nothing nests deeper than in the layers, and number texts stay.
+use Rattle.std.proofs.Common.{◌≡◌, ℕ, ◌≤◌, List, [], ◌∷◌, map, refl, ap, arith, sym, subst, ◌∙◌}
+use Rattle.std.specs.List.{AllByRecursion}
+use Rattle.build_meaning.proofs.Renumbered.{kept_in, built_objects}
+use Rattle.build_meaning.specs.Built.{built}
+use Rattle.build_meaning.specs.Layers.{Named, names_of}
+use Rattle.build_meaning.specs.Objects.{Kept, features_by, objects_by}
+use Rattle.geojson_types.proofs.Nestings.{option_pruned_nests}
+use Rattle.geojson_types.specs.Features.{Featured}
+use Rattle.geojson_types.specs.Nesting.{feature_nesting}
+use Rattle.geojson_types.specs.Numbers.{FeatureHasNumbers}
+use Rattle.grid_meaning.specs.Laws.{EachFeature}
+use Rattle.list_laws.proofs.Elements.{all_append}
+use Rattle.topojson_meaning.specs.Bounds as bounds
+use Rattle.topojson_types.specs.declared.object.TopoObject.{TopoObject}
+
+module _ (kept : Kept) where
+  features_number : (fs : List Featured) → AllByRecursion FeatureHasNumbers fs → AllByRecursion bounds.FeatureHasNumbers (features_by kept fs)
+  features_number [] h = tt
+  features_number (f ∷ fs) h = (h.0, features_number fs h.1)
+
+  objects_number : (ls : Named) → EachFeature FeatureHasNumbers ls → AllByRecursion bounds.FeatureHasNumbers (bounds.objects_features (objects_by kept ls))
+  objects_number [] h = tt
+  objects_number (l ∷ ls) h =
+      all_append bounds.FeatureHasNumbers (features_by kept l.1.features) (bounds.objects_features (objects_by kept ls)) (features_number l.1.features h.0) (objects_number ls h.1)
+
+  features_nest : (n : ℕ) (fs : List Featured) → AllByRecursion (λ f. feature_nesting f ≤ n) fs → AllByRecursion (λ f. bounds.feature_nesting f ≤ n) (features_by kept fs)
+  features_nest n [] h = tt
+  features_nest n (f ∷ fs) h = (omega (arith, h.0, option_pruned_nests (λ p. p) kept f.shape), features_nest n fs h.1)
+
+  objects_nest : (n : ℕ) (ls : Named) → EachFeature (λ f. feature_nesting f ≤ n) ls → AllByRecursion (λ f. bounds.feature_nesting f ≤ n) (bounds.objects_features (objects_by kept ls))
+  objects_nest n [] h = tt
+  objects_nest n (l ∷ ls) h =
+      all_append (λ f. bounds.feature_nesting f ≤ n) (features_by kept l.1.features) (bounds.objects_features (objects_by kept ls)) (features_nest n l.1.features h.0) (objects_nest n ls h.1)
+
+  names_kept : (ls : Named) → map (λ o. o.0) (objects_by kept ls) ≡ names_of ls
+  names_kept [] = refl
+  names_kept (l ∷ ls) = ap (λ ns. l.0 ∷ ns) (names_kept ls)
+
+pub built_numbers : (t : ℕ) (ls : Named) → EachFeature FeatureHasNumbers ls → AllByRecursion bounds.FeatureHasNumbers (bounds.objects_features (built t ls).objects)
+built_numbers t ls h = subst (λ os. AllByRecursion bounds.FeatureHasNumbers (bounds.objects_features os)) (sym (built_objects t ls)) (objects_number (kept_in t ls) ls h)
+
+pub built_nests : (t n : ℕ) (ls : Named) → EachFeature (λ f. feature_nesting f ≤ n) ls → AllByRecursion (λ f. bounds.feature_nesting f ≤ n) (bounds.objects_features (built t ls).objects)
+built_nests t n ls h = subst (λ os. AllByRecursion (λ f. bounds.feature_nesting f ≤ n) (bounds.objects_features os)) (sym (built_objects t ls)) (objects_nest (kept_in t ls) n ls h)
+
+pub built_names : (t : ℕ) (ls : Named) → map (λ o. o.0) (built t ls).objects ≡ names_of ls
+built_names t ls = ap (map (λ (o : List ℕ × TopoObject). o.0)) (built_objects t ls) ∙ names_kept (kept_in t ls) ls

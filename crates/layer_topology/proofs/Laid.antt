@@ -1,0 +1,71 @@
+-- What is written of layers: the laws of what is built of them, on the grid that is asked for.
+use Rattle.std.proofs.Common.{◌≡◌, ◌∙◌, ℕ, Option, None, ap, subst, sym}
+use Rattle.build_meaning.specs.Laws as build
+use Rattle.build_meaning.specs.Built.{built}
+use Rattle.build_meaning.specs.Layers.{Named, names_of}
+use Rattle.build_meaning.proofs.Renumbered.{built_has_no_transform}
+use Rattle.grid_meaning.specs.Gridded.{IsOn, gridded, named_grid}
+use Rattle.grid_meaning.specs.Laws as grid
+use Rattle.layer_topology.specs.Laws.{IsValid, HasNames, DecodesBack, EachSegmentOnce, NestsNoDeeper, NumbersStay, LessensToWritten}
+use Rattle.layer_topology.specs.Written.{snapped_to, written, AreTaken}
+use Rattle.layer_topology.proofs.Kept.{built_names, built_nests, built_numbers}
+use Rattle.grid_snap.specs.Axes.{Axes}
+use Rattle.lessened_topology.specs.Celled.{EachCell}
+use Rattle.topojson_types.specs.Topologies.{Contents}
+use Rattle.topojson_types.specs.Validity.{AreDistinct}
+
+-- the snapped layers are sound and lie on the grid
+pub snapped : grid.SnappedAreOn → (count : Option ℕ) (ls : Named) → AreTaken count ls → grid.IsSnapped (named_grid count ls) ls (snapped_to count ls)
+snapped on count ls h = on count ls h.count h.sound h.inputs
+
+pub names_distinct : (on : grid.SnappedAreOn) (count : Option ℕ) (ls : Named) → AreTaken count ls → AreDistinct (names_of (snapped_to count ls))
+names_distinct on count ls h = subst AreDistinct (sym (snapped on count ls h).names) h.names
+
+pub valid : grid.SnappedAreOn → grid.BuiltIsValidGridded → IsValid
+unfolding written
+valid on is count t ls h = let s = snapped on count ls h in is (named_grid count ls) t (snapped_to count ls) s.on s.sound (names_distinct on count ls h)
+
+pub names : grid.SnappedAreOn → grid.GriddedKeeps → HasNames
+unfolding written
+names on keeps count t ls h =
+    let g = named_grid count ls in
+    (keeps g (built t (snapped_to count ls))).names ∙ (built_names t (snapped_to count ls) ∙ (snapped on count ls h).names)
+
+pub back : grid.SnappedAreOn → grid.BuiltDecodesGridded → DecodesBack
+unfolding written
+back on decodes count t ls h = let s = snapped on count ls h in decodes (named_grid count ls) t (snapped_to count ls) s.on s.sound (names_distinct on count ls h)
+
+pub once : grid.SnappedAreOn → build.EachSegmentOnce → EachSegmentOnce
+once on segments count ls h = segments (snapped_to count ls) (snapped on count ls h).sound
+
+pub lessens : grid.SnappedAreOn → grid.LessensGridded → LessensToWritten
+unfolding written
+lessens on less count t ls h = let s = snapped on count ls h in less (named_grid count ls) t (snapped_to count ls) s.on s.sound
+
+pub nests : grid.SnappedKeep → grid.GriddedKeeps → NestsNoDeeper
+unfolding written
+nests layers keeps count t n ls h =
+    let g = named_grid count ls in
+    (keeps g (built t (snapped_to count ls))).nests n (built_nests t n (snapped_to count ls) ((layers g ls).nests n h))
+
+pub numbers : grid.SnappedKeep → grid.GriddedKeeps → NumbersStay
+unfolding written
+numbers layers keeps count t ls h =
+    let g = named_grid count ls in
+    (keeps g (built t (snapped_to count ls))).numbers (built_numbers t (snapped_to count ls) ((layers g ls).numbers h))
+
+-- ---- the steps of making it
+
+module _ (count : Option ℕ) (t : ℕ) (ls : Named) (g : Option Axes) (s : Named) (y : Contents) (asked : g ≡ named_grid count ls) (moved : s ≡ snapped_to count ls) (made : y ≡ built t s) where
+  pub plain : y.transform ≡ None
+  plain = ap (λ z. z.transform) made ∙ built_has_no_transform t s
+
+  pub cells_on : grid.SnappedAreOn → grid.BuiltCellsAreOn → AreTaken count ls → EachCell (IsOn g) y
+  cells_on on cells h =
+      subst (λ z. EachCell (IsOn z) y) (sym asked)
+      (subst (λ z. EachCell (IsOn (named_grid count ls)) z) (sym made)
+      (subst (λ z. EachCell (IsOn (named_grid count ls)) (built t z)) (sym moved) (cells (named_grid count ls) t (snapped_to count ls) (snapped on count ls h).on)))
+
+  pub as_written : (z : Contents) → z ≡ gridded g y → z ≡ written count t ls
+  unfolding written
+  as_written z e = e ∙ ap (λ k. gridded k y) asked ∙ ap (gridded (named_grid count ls)) (made ∙ ap (built t) moved)

@@ -1,0 +1,122 @@
+// Making the topology of layers.
+ghost use Rattle.std.specs.Prelude.{◌≡◌, ◌<◌, ◌^◌, IfOk, length, map};
+ghost use Rattle.arc_table.specs.Arcs.{table_of};
+ghost use Rattle.build_meaning.specs.Built.{built, taken_out};
+ghost use Rattle.build_meaning.specs.Expected.{expected_dropped};
+ghost use Rattle.build_meaning.specs.Laws.{AreSound};
+ghost use Rattle.build_meaning.specs.Layers.{layers_of, names_of};
+ghost use Rattle.byte_ends.specs.Ends.{saturated};
+ghost use Rattle.cutter.specs.Slices.{split_of};
+ghost use Rattle.elimination_meaning.specs.Elimination.{reduce};
+ghost use Rattle.grid_meaning.specs.Gridded.{AreInputs, IsCount, named_grid};
+ghost use Rattle.layer_topology.specs.Written.{AreTaken, snapped_to, written};
+ghost use Rattle.linework.specs.Linework.{linework};
+ghost use Rattle.topojson_types.specs.Validity.{AreDistinct};
+
+use arc_table::Table;
+use cutter::cut;
+use effective_area::Reducer;
+use geojson_types::{Dropped, Layer};
+use grid_meaning::{built_cells_are_on, snapped_are_on};
+use grid_snap::Grid;
+use gridded_topology::{on_grid, snap_layers};
+use json_value::OwnText;
+use lessened_topology::{
+    arc_indexes_reach, assembles_to_built, assembling_drops_expected, assembling_takes_out,
+};
+use linework::{Lines, OfLayers, Vertices};
+use owned_values::Memory;
+use std::alloc::Global;
+use topo_model::assemble;
+use topojson_types::Topology;
+
+/// The arcs that the lines and rings of the layers share.
+fn shared_arcs(alloc: Global, layers: &[(OwnText, Layer)]) -> Result<Table, Memory>
+    ensures { IfOk result (λ t. t ≡ table_of (map (split_of (linework (layers_of layers.now))) (linework (layers_of layers.now)))) }
+{
+    let lines = Lines::of_named(alloc, layers)?;
+    let vertices = Vertices::of(alloc, &lines)?;
+    let pieces = cut(alloc, lines, &vertices)?;
+    Table::build(alloc, &pieces)
+}
+
+/// For each arc the indexes of the positions that stay.
+fn reduced_arcs<Q: Reducer>(
+    alloc: Global,
+    reducer: &mut Q,
+    table: &Table,
+    threshold: u128,
+) -> Result<Vec<Vec<usize>>, Memory>
+    ensures { IfOk result (λ kept. map (λ k. k.items) kept.items ≡ map (reduce threshold) table.now.arcs) }
+{
+    table.law();
+    let mut kept = Vec::with_capacity(alloc, table.len())?;
+    'arcs: for arc in table.arcs() {
+        kept.push(reducer.kept(alloc, arc.as_slice(), threshold)?)?;
+    }
+    Ok(kept)
+}
+
+/// The topology that is built of named layers, each arc reduced once, the lines and rings that are dropped, in reading order, and how
+/// many positions were taken out of the arcs that stay.
+fn reduced_topology<Q: Reducer>(
+    alloc: Global,
+    reducer: &mut Q,
+    layers: Vec<(OwnText, Layer)>,
+    threshold: u128,
+) -> Result<(Topology, Vec<Dropped>, u64), Memory>
+    requires sound { AreSound layers.items }
+    requires names { AreDistinct (names_of layers.items) }
+    ensures topology { IfOk result (λ r. r.0 ≡ built threshold layers.items) }
+    ensures dropped { IfOk result (λ r. r.1.items ≡ expected_dropped threshold layers.items) }
+    ensures taken_out { IfOk result (λ r. r.2 ≡ saturated (taken_out threshold layers.items)) }
+    ensures few { IfOk result (λ r. length r.0.arcs < 2 ^ 63) }
+{
+    arc_indexes_reach();
+    assembles_to_built();
+    assembling_drops_expected();
+    assembling_takes_out();
+    let table = shared_arcs(alloc, &layers)?;
+    let kept = reduced_arcs(alloc, reducer, &table, threshold)?;
+    assemble(alloc, layers, &table, &kept)
+}
+
+/// The layers snapped to the grid that is asked for, if one is, and the grid.
+fn snapped_layers(
+    layers: Vec<(OwnText, Layer)>,
+    count: Option<u32>,
+) -> (Vec<(OwnText, Layer)>, Option<Grid>)
+    requires count { IsCount count }
+    requires inputs { AreInputs layers.items }
+    ensures snapped { result.0.items ≡ snapped_to count layers.items }
+    ensures grid { result.1 ≡ named_grid count layers.items }
+{
+    let mut snapped = layers;
+    let grid = snap_layers(snapped.as_mut_slice(), count);
+    (snapped, grid)
+}
+
+/// The topology of named layers: they are snapped to the grid that is asked for, if one is, the lines and rings are cut into the arcs
+/// that they share, each arc is reduced once at the threshold (twice an area, in square units), and positions on a grid become
+/// cells of it. With it come the lines and rings that are dropped, in reading order, and how many positions were taken out of the
+/// arcs that stay: a count that stays at `u64::MAX` where it would pass it.
+pub fn topology_of_layers<Q: Reducer>(
+    alloc: Global,
+    reducer: &mut Q,
+    layers: Vec<(OwnText, Layer)>,
+    grid: Option<u32>,
+    threshold: u128,
+) -> Result<(Topology, Vec<Dropped>, u64), Memory>
+    requires { AreTaken grid layers.items }
+    ensures topology { IfOk result (λ r. r.0 ≡ written grid threshold layers.items) }
+    ensures dropped { IfOk result (λ r. r.1.items ≡ expected_dropped threshold (snapped_to grid layers.items)) }
+    ensures taken_out { IfOk result (λ r. r.2 ≡ saturated (taken_out threshold (snapped_to grid layers.items))) }
+    ensures few { IfOk result (λ r. length r.0.arcs < 2 ^ 63) }
+{
+    snapped_are_on();
+    built_cells_are_on();
+    let (snapped, grid) = snapped_layers(layers, grid);
+    let (topology, dropped, taken_out) = reduced_topology(alloc, reducer, snapped, threshold)?;
+    let topology = on_grid(alloc, topology, grid)?;
+    Ok((topology, dropped, taken_out))
+}

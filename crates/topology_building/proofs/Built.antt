@@ -1,0 +1,122 @@
+-- What building layers comes to.
+use Rattle.std.proofs.Common.{◌≡◌, inl, inr, ℕ, suc, ◌<◌, ◌^◌, Bool, List, [], ◌∷◌, length, map, Option, Some, None, Err, arith, refl}
+use Rattle.byte_ends.specs.Ends.{Fed, Drained, Takes}
+use Rattle.byte_ends.specs.Writes.{Writes, WritesAll}
+use Rattle.byte_ends.specs.declared.sink.WriteFault.{WriteFault}
+use Rattle.byte_ends.specs.declared.sink.WriteFault.TheVariants as write
+use Rattle.json_value.specs.Text.{json_text}
+use Rattle.geojson_types.specs.declared.counts.Counts.{Counts}
+use Rattle.topojson_types.specs.Validity.{AreDistinct}
+use Rattle.topojson_types.specs.Values.{topology_value}
+use Rattle.build_meaning.specs.Laws.{AreSound}
+use Rattle.build_meaning.specs.Layers.{names_of}
+use Rattle.grid_meaning.specs.Laws.{SnappedAreOn}
+use Rattle.layer_topology.specs.Written.{AreTaken}
+use Rattle.topojson_meaning.specs.Laws.{IsStored}
+use Rattle.inputs.specs.declared.fault.BuildFault.{BuildFault}
+use Rattle.inputs.specs.declared.fault.BuildFault.TheVariants.{EmptyName, DuplicateName, Read, Json, Geo, Write, Memory}
+use Rattle.reports.specs.declared.report.Report.{Report}
+use Rattle.topology_building.specs.Building.{snapped_for, written_for, BuildingLaws, SaysTopology, Builds, IsBuilt, IsLateFault, Sends, report_of}
+use Rattle.topology_building.specs.declared.options.Options.{Options}
+use Rattle.inputs.specs.Sent.{build_fault_of}
+use Rattle.layer_sources.specs.Names.{name_fault, IsRefusedFor}
+use Rattle.layer_sources.specs.Reading.{FailsToRead}
+use Rattle.layer_sources.specs.Sources.{Sources, Named, AllRead, FailsAt, FailsToReadAll}
+use Rattle.topology_building.proofs.SoundLayers.{AllTaken, all_taken, are_taken, count_of, layers_inputs, layers_nest, layers_number, layers_sound, names_read}
+use Rattle.topology_building.proofs.NamesDistinct.{distinct_names}
+use Rattle.layer_sources.proofs.SourcesRead.{untroubled_all}
+
+-- the text of the topology of layers
+abbrev pub text_for : Options → Named → List ℕ
+text_for o ls = json_text (topology_value (written_for o ls))
+
+-- ---- what is written
+
+module _ (laws : BuildingLaws) (o : Options) where
+  says : (ls : Named) → AllTaken ls → AreDistinct (names_of ls) → length (written_for o ls).arcs < 2 ^ 63 → SaysTopology o ls (text_for o ls)
+  says ls taken distinct few =
+      let are = are_taken o ls taken distinct in
+      let t = written_for o ls in
+      let stored : IsStored t = (laws.written.valid o.grid o.threshold ls are, few) in
+      record {
+        value = topology_value t;
+        spelled = laws.spelled t 127 255 stored (laws.written.numbers o.grid o.threshold ls (layers_number ls taken)) (laws.written.nests o.grid o.threshold 127 ls (layers_nest ls taken))
+            (omega arith);
+        contents = t;
+        stands = laws.read t stored;
+        names = laws.written.names o.grid o.threshold ls are;
+        features = laws.written.back o.grid o.threshold ls are;
+        shared = refl;
+        written = refl;
+        once = laws.written.once o.grid ls are;
+      }
+
+  module _ (olds news : Sources) (ls : Named) (cs : List Counts) (all : AllRead o.exact olds news ls cs)
+      (distinct : AreDistinct (names_of ls)) (few : length (written_for o ls).arcs < 2 ^ 63) where
+    builds : Builds o olds news ls cs (text_for o ls)
+    builds = record { read = all; topology = says ls (all_taken o.exact olds news ls cs all) distinct few }
+
+    module _ (sink_old sink_new : Drained) where
+      pub cut_short : (e : BuildFault) → Sends sink_old sink_new (text_for o ls) (Err e) → IsLateFault o olds news sink_old sink_new e
+      cut_short (Write sent) s = record { layers = ls; counts = cs; text = text_for o ls; builds = builds; many = s.0; written = s.1; counted = s.2; failed = s.3 }
+      cut_short (EmptyName i) s = absurd s
+      cut_short (DuplicateName i) s = absurd s
+      cut_short (Read i f) s = absurd s
+      cut_short (Json i f) s = absurd s
+      cut_short (Geo i f) s = absurd s
+      cut_short Memory s = absurd s
+
+      pub is_built : (report : Report) → Takes sink_old sink_new (text_for o ls) (length (text_for o ls)) × (sink_new.failures ≡ 0) → report ≡ report_of o ls cs
+          → IsBuilt o olds news sink_old sink_new report
+      is_built report s told = record { layers = ls; counts = cs; text = text_for o ls; builds = builds; written = s.0; sound = s.1; told = told }
+
+-- ---- the text is sent
+
+module _ (old new : Drained) (text : List ℕ) where
+  pub sent_whole : (sent : ℕ) → WritesAll old new 0 text sent → Takes old new text (length text) × (new.failures ≡ 0)
+  sent_whole sent w = (w.took, w.sound)
+
+  pub sent_in_part : (e : WriteFault) → Writes old new 0 text (Err e) → Sends old new text (Err (build_fault_of e))
+  sent_in_part (write.Write sent) w = (w.many, w.took, omega (arith, w.counted), w.failed)
+
+-- ---- nothing is written
+
+never : (exact : Bool) (e : BuildFault) → ((n : ℕ) (old new : Fed) → FailsToRead n exact old new e → ⊥) → (n : ℕ) (olds news : Sources) → FailsAt exact n olds news e → ⊥
+never exact e ruled_out n [] news f = f
+never exact e ruled_out n (s ∷ ss) [] f = f
+never exact e ruled_out n (s ∷ ss) (t ∷ ts) (inl f) = ruled_out n s.1 t.1 f.1
+never exact e ruled_out n (s ∷ ss) (t ∷ ts) (inr f) = never exact e ruled_out (suc n) ss ts f.3
+
+pub not_read : (o : Options) (olds news : Sources) (sink : Drained) (e : BuildFault) → FailsToReadAll o.exact olds news e → IsLateFault o olds news sink sink e
+not_read o olds news sink (Read i r) f = (refl, f)
+not_read o olds news sink (Json i r) f = (refl, f)
+not_read o olds news sink (Geo i r) f = (refl, f)
+not_read o olds news sink (EmptyName i) f = (refl, f)
+not_read o olds news sink (DuplicateName i) f = (refl, f)
+not_read o olds news sink Memory f = (refl, f)
+not_read o olds news sink (Write sent) f = absurd (never o.exact (Write sent) (λ n old new h. absurd h.2) 0 olds news f)
+
+pub no_memory : (o : Options) (olds news : Sources) (sink : Drained) (ls : Named) (cs : List Counts) → AllRead o.exact olds news ls cs → IsLateFault o olds news sink sink Memory
+no_memory o olds news sink ls cs all = (refl, untroubled_all o.exact olds news ls cs all)
+
+-- ---- names
+
+pub distinct : (exact : Bool) (olds news : Sources) (ls : Named) (cs : List Counts) → AllRead exact olds news ls cs → name_fault (map (λ s. s.0) olds) ≡ None → AreDistinct (names_of ls)
+distinct exact olds news ls cs all e = rw (names_read exact olds news ls cs all) (distinct_names (map (λ s. s.0) olds) e)
+
+-- what the engine makes of layers that were read may be made of them
+pub may_be_made : (o : Options) (olds news : Sources) (ls : Named) (cs : List Counts) → AllRead o.exact olds news ls cs
+    → name_fault (map (λ s. s.0) olds) ≡ None → AreTaken o.grid ls
+may_be_made o olds news ls cs all e = are_taken o ls (all_taken o.exact olds news ls cs all) (distinct o.exact olds news ls cs all e)
+
+-- the layers that are built are sound
+pub snapped_sound : SnappedAreOn → (o : Options) (olds news : Sources) (ls : Named) (cs : List Counts) → AllRead o.exact olds news ls cs → AreSound (snapped_for o ls)
+snapped_sound on o olds news ls cs all = let h = all_taken o.exact olds news ls cs all in (on o.grid ls (count_of o) (layers_sound ls h) (layers_inputs ls h)).sound
+
+-- the fault of the names is the first of all
+pub early_names : (names : List (List ℕ)) (found e : BuildFault) → IsRefusedFor (name_fault names) (Err found) → name_fault names ≡ Some e → found ≡ e
+early_names names found e refused early = on (name_fault names) refused early
+  where
+    on : (f : Option BuildFault) → IsRefusedFor f (Err found) → f ≡ Some e → found ≡ e
+    on None r k = absurd cc
+    on (Some x) r k = cc

@@ -1,0 +1,4 @@
+pub mod Built
+mod Decided
+mod NamesDistinct
+pub mod SoundLayers

@@ -1,0 +1,116 @@
+-- What `build` answers, reads and writes.
+use Rattle.std.specs.Prelude.{◌≡◌, ℕ, ◌<◌, List, length, map, Some, Result, Ok, Err}
+use Rattle.std.specs.List.{AllByRecursion}
+use Rattle.byte_ends.specs.Ends.{Drained, Takes, saturated}
+use Rattle.json_value.specs.declared.json.Json.{Json}
+use Rattle.json_value.specs.Grammar.{Reads}
+use Rattle.geojson_types.specs.declared.counts.Counts.{Counts}
+use Rattle.geojson_types.specs.declared.layer.FeatureSet.TheVariants as set
+use Rattle.geojson_types.specs.Counting.{no_counts}
+use Rattle.geometry.specs.declared.address.Dropped.{Dropped}
+use Rattle.geometry.specs.Points.{Point}
+use Rattle.json_value.specs.Text.{json_text}
+use Rattle.topojson_types.specs.Decoding.{decoded}
+use Rattle.topojson_types.specs.Topologies.{Contents}
+use Rattle.topojson_types.specs.Values.{topology_value}
+use Rattle.arc_table.specs.Laws.{AreOnceIn}
+use Rattle.build_meaning.specs.Built.{all_arcs, taken_out}
+use Rattle.build_meaning.specs.Expected.{expected, expected_dropped}
+use Rattle.build_meaning.specs.Layers.{layers_of, names_of}
+use Rattle.cutter.specs.Segments.{line_segments}
+use Rattle.linework.specs.Linework.{linework}
+use Rattle.layer_topology.specs.Laws.{WrittenLaws}
+use Rattle.layer_topology.specs.Written.{snapped_to, written as written_on}
+use Rattle.topojson_meaning.specs.Laws.{ReadsBack, TextIsRead}
+use Rattle.topojson_meaning.specs.Topologies.{topology}
+use Rattle.inputs.specs.declared.fault.BuildFault.{BuildFault}
+use Rattle.inputs.specs.declared.fault.BuildFault.TheVariants.{Write, Memory}
+use Rattle.topology_building.specs.declared.options.Options.{Options}
+use Rattle.reports.specs.declared.report.Report.{Report}
+use Rattle.reports.specs.Summaries.{positions_in}
+use Rattle.layer_sources.specs.Sources.{Sources, Named, AllRead, FailsAt, AreUntroubled, added}
+
+-- ---- what is asked for
+
+-- the layers snapped to the grid that is asked for, if one is
+abbrev pub snapped_for : Options → Named → Named
+snapped_for o layers = snapped_to o.grid layers
+
+-- the topology that is written of layers
+abbrev pub written_for : Options → Named → Contents
+written_for o layers = written_on o.grid o.threshold layers
+
+-- the features that are expected of it, by layers
+abbrev pub expected_for : Options → Named → Named
+expected_for o layers = expected o.threshold (snapped_for o layers)
+
+-- ---- what building rests on
+
+-- what is written of layers is valid, decodes back and has each segment once; what is written is read again
+pub record BuildingLaws : Type 0 where
+  pub written : WrittenLaws
+  pub read : ReadsBack
+  pub spelled : TextIsRead
+
+-- ---- what is written
+
+-- The text is JSON (RFC 8259) of a topology (TopoJSON 1.0) whose objects have the names of the layers, in order. Decoding each gives
+-- the features that are expected of its layer, snapped to the grid that is asked for, at the threshold. The topology is the one that
+-- is written of the layers, the text is its text, and before reduction each segment of the layers' lines lies once, in exactly one arc.
+pub record SaysTopology (o : Options) (layers : Named) (text : List ℕ) : Type 0 where
+  pub value : Json
+  pub spelled : Reads 255 text value
+  pub contents : Contents
+  pub stands : topology value ≡ Ok (contents, no_counts)
+  pub names : map (λ b. b.0) contents.objects ≡ names_of layers
+  pub features : AllByRecursion (λ l. decoded contents l.0 ≡ Some (set.Many l.1.features)) (expected_for o layers)
+  pub shared : contents ≡ written_for o layers
+  pub written : text ≡ json_text (topology_value contents)
+  pub once : AreOnceIn (all_arcs (linework (layers_of (snapped_for o layers)))) (line_segments (linework (layers_of (snapped_for o layers))))
+
+-- the counts, what is dropped, the arcs with their positions, and how many of these were taken out
+abbrev pub report_with : Counts → List Dropped → List (List Point) → ℕ → Report
+report_with counts dropped arcs removed = record { counts = counts; dropped = dropped; arcs = length arcs; kept = positions_in arcs; removed = removed }
+
+-- the counts of all layers, the lines and rings that are dropped, the arcs, their positions, and those that were taken out of them
+abbrev pub report_of : Options → Named → List Counts → Report
+report_of o layers counts =
+    report_with (added counts) (expected_dropped o.threshold (snapped_for o layers)) (written_for o layers).arcs (saturated (taken_out o.threshold (snapped_for o layers)))
+
+-- all sources spell layers, and the text is their topology
+pub record Builds (o : Options) (olds news : Sources) (layers : Named) (counts : List Counts) (text : List ℕ) : Type 0 where
+  pub read : AllRead o.exact olds news layers counts
+  pub topology : SaysTopology o layers text
+
+-- the sink took the whole text of the topology, and the report is that of the layers
+pub record IsBuilt (o : Options) (olds news : Sources) (sink_old sink_new : Drained) (report : Report) : Type 0 where
+  pub layers : Named
+  pub counts : List Counts
+  pub text : List ℕ
+  pub builds : Builds o olds news layers counts text
+  pub written : Takes sink_old sink_new text (length text)
+  pub sound : sink_new.failures ≡ 0
+  pub told : report ≡ report_of o layers counts
+
+-- the device failed when it had taken a prefix of the text of the topology
+pub record IsCutShort (o : Options) (olds news : Sources) (sink_old sink_new : Drained) (sent : ℕ) : Type 0 where
+  pub layers : Named
+  pub counts : List Counts
+  pub text : List ℕ
+  pub builds : Builds o olds news layers counts text
+  pub many : ℕ
+  pub written : Takes sink_old sink_new text many
+  pub counted : sent ≡ saturated many
+  pub failed : 0 < sink_new.failures
+
+-- why nothing is built once the names are taken: nothing is written unless the device failed
+abbrev pub IsLateFault : Options → Sources → Sources → Drained → Drained → BuildFault → Type 0
+IsLateFault o olds news sink_old sink_new (Write sent) = IsCutShort o olds news sink_old sink_new sent
+IsLateFault o olds news sink_old sink_new Memory = (sink_new ≡ sink_old) × AreUntroubled olds news
+IsLateFault o olds news sink_old sink_new e = (sink_new ≡ sink_old) × FailsAt o.exact 0 olds news e
+
+-- all of the text was taken and flushed, or a front of it, and the device failed
+abbrev pub Sends : Drained → Drained → List ℕ → Result (Unit {0}) BuildFault → Type 0
+Sends old new text (Ok done) = Takes old new text (length text) × (new.failures ≡ 0)
+Sends old new text (Err (Write sent)) = (many : ℕ) × Takes old new text many × (sent ≡ saturated many) × (0 < new.failures)
+Sends old new text (Err e) = ⊥

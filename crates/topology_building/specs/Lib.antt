@@ -1,0 +1,3 @@
+pub mod Building
+pub mod Outcomes
+pub mod Ranges

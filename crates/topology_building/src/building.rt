@@ -1,0 +1,116 @@
+// Building a topology.
+ghost use Rattle.std.specs.Prelude.{◌≡◌, ◌⊎◌, ℕ, List, None, Some, IfOk, IfErr, map};
+ghost use Rattle.json_value.specs.Text.{json_text};
+ghost use Rattle.topojson_types.specs.Values.{topology_value};
+ghost use Rattle.topology_building.specs.Building as spec;
+ghost use Rattle.topology_building.specs.Building.{BuildingLaws, IsBuilt, IsLateFault, Sends};
+ghost use Rattle.layer_sources.specs.Names.{name_fault};
+ghost use Rattle.layer_sources.specs.Outcomes.{ComesTo, HaveBytes, Outcome};
+ghost use Rattle.topology_building.specs.Outcomes.{Follows};
+
+use crate::options::Options;
+use byte_ends::{Drain, Feed, Sink, Source};
+use effective_area::Reducer;
+use geojson_model::Counts;
+use geojson_types::Dropped;
+use inputs::{BuildFault, flush_behind};
+use json_value::{Items, OwnText};
+use layer_sources::{check_names, read_layers};
+use layer_topology::{topology_of_layers, written_laws};
+use reports::{Report, positions_in};
+use std::alloc::Global;
+use topojson_meaning::{reads_back, topology_text_is_read};
+use topojson_types::{Cell, Topology};
+use topojson_writer::write_topology;
+
+/// Writes the topology and flushes the sink.
+fn send<W: Drain>(topology: &Topology, sink: &mut Sink<W>) -> Result<(), BuildFault>
+    ensures { Sends sink.old sink.new (json_text (topology_value topology.now)) result }
+{
+    let written = write_topology(topology, sink);
+    flush_behind(written, sink)?;
+    Ok(())
+}
+
+/// The report of layers with these counts, of which these lines and rings are dropped, over these arcs, out of which so many positions
+/// were taken.
+fn report_of(counts: Counts, dropped: Vec<Dropped>, arcs: &[Items<Cell>], removed: u64) -> Report
+    ensures { result ≡ spec.report_with counts dropped.items arcs.now removed }
+{
+    Report {
+        counts,
+        dropped: Items::of(dropped),
+        arcs: arcs.len() as u64,
+        kept: positions_in(arcs),
+        removed,
+    }
+}
+
+/// The laws that the contract of building rests on. This does nothing.
+fn building_laws()
+    ensures { BuildingLaws }
+{
+    written_laws();
+    reads_back();
+    topology_text_is_read();
+}
+
+/// Builds the topology of named layers, whose names are taken, and writes it.
+fn build_layers<Q: Reducer, R: Feed, W: Drain>(
+    alloc: Global,
+    reducer: &mut Q,
+    sources: &mut [(OwnText, Source<R>)],
+    options: &Options,
+    sink: &mut Sink<W>,
+) -> Result<Report, BuildFault>
+    requires names { name_fault (map (λ s. s.0) sources.old) ≡ None }
+    ensures built { IfOk result (λ report. IsBuilt options.now sources.old sources.new sink.old sink.new report) }
+    ensures refused { IfErr result (λ e. IsLateFault options.now sources.old sources.new sink.old sink.new e) }
+{
+    building_laws();
+    let (layers, counts) = read_layers(alloc, sources, options.exact)?;
+    let (topology, dropped, removed) = topology_of_layers(
+        alloc,
+        reducer,
+        layers,
+        options.grid,
+        options.threshold,
+    )?;
+    let report = report_of(counts, dropped, topology.arcs(), removed);
+    send(&topology, sink)?;
+    Ok(report)
+}
+
+/// Builds the topology (TopoJSON 1.0) of named layers (RFC 7946), each read from its source to the end, and writes it.
+///
+/// A border that lines and rings of the layers share is one arc, which the reducer reduces once. Names are looked at first, in order:
+/// up to there nothing is read. Then each layer is read, parsed and modelled before the next. Nothing is written before all layers
+/// are taken, so on each fault but `Write` the sink is as it was. On `Write` it took a prefix of the topology's text, of the length
+/// that is told. The sink is flushed.
+pub fn build<Q: Reducer, R: Feed, W: Drain>(
+    alloc: Global,
+    reducer: &mut Q,
+    sources: &mut [(OwnText, Source<R>)],
+    options: &Options,
+    sink: &mut Sink<W>,
+) -> Result<Report, BuildFault>
+    // The first fault of the names is answered, and nothing is read or written.
+    ensures early { (e : BuildFault) → name_fault (map (λ s. s.0) sources.old) ≡ Some e
+        → (result ≡ Err e) × (sources.new ≡ sources.old) × (sink.new ≡ sink.old) }
+    // The text that was written is JSON of a topology whose objects bear the layers' names in order. Decoding each gives the features
+    // that are expected of its layer, snapped to the grid that is asked for: identifiers and properties unchanged, each line cut at
+    // the junctions of all lines, each piece reduced at the threshold in the line's own direction and joined again, rings from their
+    // starts, without what is dropped. The report tells just what is dropped, and before reduction each segment of the lines lies
+    // once, in exactly one arc.
+    ensures built { IfOk result (λ report. IsBuilt options.now sources.old sources.new sink.old sink.new report) }
+    // Every other fault is one that the sources or their bytes have, or a prefix of that text was written.
+    ensures refused { IfErr result (λ e. (name_fault (map (λ s. s.0) sources.old) ≡ Some e)
+        ⊎ IsLateFault options.now sources.old sources.new sink.old sink.new e) }
+
+    // And the other way round: what the bytes of the sources come to is answered, unless memory, a source or the sink failed.
+    ensures decided { (bytes : List (List ℕ × List ℕ)) (outcome : Outcome) → name_fault (map (λ s. s.0) sources.old) ≡ None
+        → HaveBytes sources.old bytes → ComesTo options.now.exact bytes outcome → Follows options.now outcome result }
+{
+    check_names(sources)?;
+    build_layers(alloc, reducer, sources, options, sink)
+}

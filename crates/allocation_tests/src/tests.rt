@@ -4,9 +4,11 @@
 use byte_ends::devices::{CutReader, CutWriter, Fault};
 use byte_ends::{FromRead, Sink, Source, ToWrite};
 use decimal_json::{JsonFault, OwnText, Why};
+use effective_area::HeapLinks;
+use inputs::BuildFault;
 use mapchain_cli::{Files, command};
-use mapchain_engine::{BuildFault, Options, build};
 use std::alloc::{AllocError, Global};
+use topology_building::{Options, build};
 
 const LINE: &[u8] = b"{\"type\":\"LineString\",\"coordinates\":[[0,0],[1.5,0.25]]}";
 
@@ -53,7 +55,8 @@ fn build_outcome(
         threshold: 0,
         exact: false,
     };
-    let fault = build(alloc, &mut sources, &options, &mut sink).err();
+    let mut reducer = HeapLinks::new();
+    let fault = build(alloc, &mut reducer, &mut sources, &options, &mut sink).err();
     let device = sink.into_inner().into_inner();
     let held = device.held();
     if fault == wanted && held == text {

@@ -1,6 +1,10 @@
 // The commands that take the file of a topology, and their help.
+use crate::usage::area;
 use clap::{Arg, Command};
 use std::alloc::{AllocError, Global};
+
+/// The command that simplifies.
+pub(crate) const SIMPLIFY: &str = "simplify";
 
 /// The command that decodes an object.
 pub(crate) const GEO: &str = "geo";
@@ -13,6 +17,29 @@ pub(crate) const OBJECT: &str = "object";
 
 /// The file of the topology.
 pub(crate) const FILE: &str = "file";
+
+const SIMPLIFY_ABOUT: &str = "Take points out of the lines of a topology";
+
+const SIMPLIFY_LONG_ABOUT: &str = "Take points out of the lines of a topology.
+
+Standard output takes the topology that is left (TopoJSON 1.0), with the same objects
+and the same transform, as one text. Where something is refused it takes nothing, and
+standard error says what. Else standard error takes a report, with a line each as that
+of 'mapchain build'; 'removed' are positions that were taken out of the arcs that are
+written. An arc is reduced once, so that lines which share it go on sharing it. A line
+or ring that is left with too few positions is dropped as 'small', and a hole whose
+outer ring is dropped as 'outer'.
+
+A topology that 'mapchain build' wrote without an area becomes, byte for byte, what
+'mapchain build --min-area A' writes of the same files.";
+
+const SIMPLIFY_AFTER_HELP: &str = "Example:
+  mapchain simplify --min-area 0.0001 map.topojson > small.topojson";
+
+const SIMPLIFY_AFTER_LONG_HELP: &str = "Example:
+  mapchain simplify --min-area 0.0001 map.topojson > small.topojson
+
+'mapchain --help' lists the exit statuses.";
 
 const GEO_ABOUT: &str = "Decode an object of a topology to GeoJSON";
 
@@ -59,6 +86,17 @@ fn file<'a>(alloc: Global) -> Arg<'a> {
         .value_name("FILE")
         .required(true)
         .help(FILE_HELP)
+}
+
+/// The command line of `simplify`.
+pub(crate) fn simplify<'a>(alloc: Global) -> Result<Command<'a>, AllocError> {
+    Command::new(alloc, SIMPLIFY)
+        .about(SIMPLIFY_ABOUT)
+        .long_about(SIMPLIFY_LONG_ABOUT)
+        .after_help(SIMPLIFY_AFTER_HELP)
+        .after_long_help(SIMPLIFY_AFTER_LONG_HELP)
+        .arg(area(alloc))?
+        .arg(file(alloc))
 }
 
 /// The command line of `geo`.

@@ -1,10 +1,10 @@
 // What words ask for.
-ghost use Rattle.std.specs.Prelude.{IfOk};
-ghost use Rattle.command_words.specs.Requests.{HasNames, HasNamesIfAny};
+ghost use Rattle.std.specs.Prelude.{IfOk, IfSome};
+ghost use Rattle.command_words.specs.Requests.{HasNames, IsCells, IsGridInRange};
 
-use crate::file_usage::{FILE, GEO, OBJECT, STAT};
+use crate::file_usage::{FILE, GEO, OBJECT, SIMPLIFY, STAT};
 use crate::layer_words::names_and_paths;
-use crate::usage::{BUILD, EXACT, LAYERS, program};
+use crate::usage::{AREA, BUILD, EXACT, GRID, LAYERS, program};
 use crate::words_fault::WordsFault;
 use clap::ArgMatches;
 use clap::error::ErrorKind;
@@ -16,7 +16,18 @@ pub enum Request<'a> {
     /// The topology of the layers with these names, each in the file of this path.
     Build {
         layers: Vec<(&'a str, &'a str)>,
+        /// Coordinates that would have to be rounded are refused.
         exact: bool,
+        /// The number of grid cells along each axis, from 2 to 10^9, that positions are snapped to, if any.
+        grid: Option<u32>,
+        /// Points are taken out whose triangle is smaller than the area of this text, in square units of the coordinates.
+        area: &'a str,
+    },
+    /// What is left of the topology in the file of this path where its lines are reduced.
+    Simplify {
+        /// Points are taken out whose triangle is smaller than the area of this text, in square units of the coordinates.
+        area: &'a str,
+        path: &'a str,
     },
     /// The features of the object of this name, of the topology in the file of this path.
     Geo {
@@ -29,17 +40,42 @@ pub enum Request<'a> {
     },
 }
 
+/// The grid that is asked for, if any. `clap` refuses a number out of range, but none of its contracts says so of a command below the
+/// program, so the range is looked at here once more.
+fn grid_of(arguments: &ArgMatches<'_>) -> Result<Option<u32>, WordsFault>
+    ensures { IfOk result (λ grid. IfSome grid IsCells) }
+{
+    match arguments.try_get_one::<u32>(GRID) {
+        Ok(None) => Ok(None),
+        Ok(Some(cells)) if 2 <= cells && cells <= 1_000_000_000 => Ok(Some(cells)),
+        _ => Err(WordsFault::GridRange),
+    }
+}
+
 /// What a command asks for, if there is one.
 fn request_of<'a>(
     alloc: Global,
     matches: &ArgMatches<'a>,
 ) -> Result<Option<Request<'a>>, WordsFault>
-    ensures { IfOk result (λ found. HasNamesIfAny found) }
+    ensures named { IfOk result (λ found. IfSome found HasNames) }
+    ensures grid { IfOk result (λ found. IfSome found IsGridInRange) }
 {
     if let Some(arguments) = matches.subcommand_matches(BUILD) {
+        let grid = grid_of(arguments)?;
         let layers = names_and_paths(alloc, arguments.get_strs(LAYERS).unwrap_or(&[]))?;
         let exact = arguments.get_flag(EXACT);
-        return Ok(Some(Request::Build { layers, exact }));
+        let area = arguments.get_str(AREA).unwrap_or("0");
+        return Ok(Some(Request::Build {
+            layers,
+            exact,
+            grid,
+            area,
+        }));
+    }
+    if let Some(arguments) = matches.subcommand_matches(SIMPLIFY) {
+        let area = arguments.get_str(AREA).unwrap_or("0");
+        let path = arguments.get_str(FILE).unwrap_or("");
+        return Ok(Some(Request::Simplify { area, path }));
     }
     if let Some(arguments) = matches.subcommand_matches(GEO) {
         let name = arguments.get_str(OBJECT).unwrap_or("");
@@ -58,6 +94,8 @@ fn request_of<'a>(
 pub fn read_words<'a>(alloc: Global, words: &'a [String]) -> Result<Request<'a>, WordsFault>
     // The name of each layer is what stands before the first `=` of a word.
     ensures named { IfOk result (λ request. HasNames request) }
+    // A grid that is asked for has from 2 to 10^9 cells along each axis.
+    ensures grid { IfOk result (λ request. IsGridInRange request) }
 {
     let mut program = program(alloc)?;
     let matches = match program.try_get_matches_from_mut(words) {

@@ -1,6 +1,6 @@
 // The words that the program takes, and its help.
-use crate::file_usage::{geo, stat};
-use clap::{Arg, ArgAction, Command};
+use crate::file_usage::{geo, simplify, stat};
+use clap::{Arg, ArgAction, Command, value_parser};
 use std::alloc::{AllocError, Global};
 
 /// The command that builds a topology.
@@ -9,12 +9,20 @@ pub(crate) const BUILD: &str = "build";
 /// The layer words of `build`.
 pub(crate) const LAYERS: &str = "layers";
 
+/// The option of `build` that snaps positions to a grid.
+pub(crate) const GRID: &str = "grid";
+
+/// The option of `build` and `simplify` that takes points out of lines.
+pub(crate) const AREA: &str = "min-area";
+
 /// The option of `build` that refuses coordinates that would have to be rounded.
 pub(crate) const EXACT: &str = "exact";
 
-const ABOUT: &str = "Build TopoJSON topologies from GeoJSON files, and decode them again";
+const ABOUT: &str =
+    "Build TopoJSON topologies from GeoJSON files, simplify them, and decode them again";
 
-const LONG_ABOUT: &str = "Build TopoJSON topologies from GeoJSON files, and decode them again.
+const LONG_ABOUT: &str =
+    "Build TopoJSON topologies from GeoJSON files, simplify them, and decode them again.
 
 A topology is a map in which a line that several shapes share, as a border, is
 stored once, as a numbered arc, and each shape lists the arcs that it runs along.";
@@ -44,12 +52,13 @@ error says what. Else standard error takes a report, with a line each:
   dropped  lines that aren't written, each told in a line of its own below
   arcs     arcs that are written
   kept     positions in these arcs
-  removed  positions that were taken out of these arcs
+  removed  positions that '--min-area' took out of these arcs
 
 A border that lines and rings share, be it between layers, is one arc. Positions that
 are equal and follow each other count as one. A line that is left with one position,
-or a ring with fewer than four, is dropped as 'collapsed', and a hole whose outer ring
-is dropped as 'outer'.";
+or a ring with fewer than four, is dropped as 'collapsed', or as 'small' where that is
+so only because points were taken out. Any other hole whose outer ring is dropped is
+dropped as 'outer'.";
 
 const BUILD_AFTER_HELP: &str = "Example:
   mapchain build coast=coast.json rivers=rivers.json > map.topojson";
@@ -63,6 +72,22 @@ const LAYERS_HELP: &str = "A layer: its name in the topology, '=' and its file";
 
 const LAYERS_LONG_HELP: &str = "A layer: its name in the topology, '=' and its file.
 The first '=' ends the name, so a path may have one. No two names may be equal";
+
+const GRID_HELP: &str = "Snap positions to a grid with N cells along each axis";
+
+const GRID_LONG_HELP: &str =
+    "Snap positions to a grid with N cells along each axis, from 2 to 1000000000:
+10000 suits a screen, 1000000 print. Positions are written as numbers of cells,
+in arcs as differences from the position before, so the file gets smaller";
+
+const AREA_HELP: &str = "Take out points whose triangle has less than the area A";
+
+const AREA_LONG_HELP: &str =
+    "Take points out of lines: each that forms a triangle of less than A with its two
+neighbours, the least first. A is in square units of the coordinates, from 0 to
+10^18, with at most 14 decimal places. Without this option it is 0, and no point
+is taken out. A shared border is reduced once, so it stays shared. Lines may
+cross afterwards: that isn't checked";
 
 const EXACT_HELP: &str = "Refuse coordinates that would have to be rounded";
 
@@ -82,8 +107,29 @@ pub(crate) fn program<'a>(alloc: Global) -> Result<Command<'a>, AllocError> {
         .bin_name("mapchain")?
         .subcommand_required(true)
         .subcommand(build(alloc)?)?
+        .subcommand(simplify(alloc)?)?
         .subcommand(geo(alloc)?)?
         .subcommand(stat(alloc)?)
+}
+
+/// The option of `build` that snaps positions to a grid.
+fn grid<'a>(alloc: Global) -> Arg<'a> {
+    Arg::new(alloc, GRID)
+        .long("grid")
+        .value_name("N")
+        .value_parser(value_parser!(u32).range(2..=1_000_000_000))
+        .help(GRID_HELP)
+        .long_help(GRID_LONG_HELP)
+}
+
+/// The option that takes points out of lines. It takes any text: which areas there are isn't judged here.
+pub(crate) fn area<'a>(alloc: Global) -> Arg<'a> {
+    Arg::new(alloc, AREA)
+        .long("min-area")
+        .value_name("A")
+        .allow_hyphen_values(true)
+        .help(AREA_HELP)
+        .long_help(AREA_LONG_HELP)
 }
 
 /// The option of `build` that refuses coordinates that would have to be rounded.
@@ -112,6 +158,8 @@ fn build<'a>(alloc: Global) -> Result<Command<'a>, AllocError> {
         .long_about(BUILD_LONG_ABOUT)
         .after_help(BUILD_AFTER_HELP)
         .after_long_help(BUILD_AFTER_LONG_HELP)
+        .arg(grid(alloc))?
+        .arg(area(alloc))?
         .arg(exact(alloc))?
         .arg(layers(alloc))
 }

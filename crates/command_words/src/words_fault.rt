@@ -13,6 +13,10 @@ pub enum WordsFault {
     Refused(Error),
     /// The layer word of this number has no `=`.
     NoEquals { layer: usize },
+    /// The number of cells of the grid is out of range.
+    GridRange,
+    /// The area isn't one that is taken. What reads the words judges no area; a program above does.
+    BadArea,
     /// An allocation was refused.
     Memory,
 }
@@ -32,10 +36,16 @@ impl WordsFault {
 }
 
 impl fmt::Display for WordsFault {
+    ghost use Rattle.command_words.specs.Faults.{words_fault_text};
+
+    ghost output = { words_fault_text };
+
     fn fmt<W: fmt::Write>(&self, f: &mut fmt::Formatter<W>) -> fmt::Result {
         match self {
             WordsFault::Help(error) | WordsFault::Refused(error) => write!(f, "{error}"),
             WordsFault::NoEquals { layer } => writeln!(f, "error: layer {layer} has no ="),
+            WordsFault::GridRange => writeln!(f, "error: a grid has from 2 to 1000000000 cells"),
+            WordsFault::BadArea => writeln!(f, "error: bad area"),
             WordsFault::Memory => Ok(()),
         }
     }

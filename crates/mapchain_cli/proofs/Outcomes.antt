@@ -8,28 +8,28 @@ use Rattle.byte_ends.specs.declared.sink.WriteFault.TheVariants as write
 use Rattle.inputs.specs.declared.file_fault.FileFault.TheVariants as file
 use Rattle.inputs.specs.Sent.{file_fault_of}
 use Rattle.inputs.specs.declared.fault.BuildFault.{BuildFault}
-use Rattle.inputs.specs.declared.fault.BuildFault.TheVariants.{EmptyName, DuplicateName, Read, Json, Geo, Write, Memory, NotYet}
-use Rattle.mapchain_engine.specs.Building.{IsLateFault}
+use Rattle.inputs.specs.declared.fault.BuildFault.TheVariants.{EmptyName, DuplicateName, Read, Json, Geo, Write, Memory}
+use Rattle.topology_building.specs.Building.{IsLateFault}
+use Rattle.topology_building.specs.declared.options.Options.{Options}
 use Rattle.layer_sources.specs.Sources.{Sources}
 use Rattle.mapchain_cli.specs.declared.ending.Ending.TheVariants.{Refused}
-use Rattle.mapchain_cli.specs.Endings.{KeepsUnlessWriting, is_write_fault}
+use Rattle.mapchain_cli.specs.Endings.{KeepsUnlessWriting}
 
 -- a fault other than a failed write leaves the sink as it was
-late_keeps : (exact : Bool) (t : ℕ) (olds news : Sources) (old new : Drained) (e : BuildFault) → IsLateFault exact t olds news old new e → KeepsUnlessWriting (Refused e) old new
-late_keeps exact t olds news old new (Write sent) h e = absurd (true≢false e)
-late_keeps exact t olds news old new (EmptyName n) h e = h.0
-late_keeps exact t olds news old new (DuplicateName n) h e = h.0
-late_keeps exact t olds news old new (Read n fault) h e = h.0
-late_keeps exact t olds news old new (Json n fault) h e = h.0
-late_keeps exact t olds news old new (Geo n fault) h e = h.0
-late_keeps exact t olds news old new Memory h e = h.0
-late_keeps exact t olds news old new NotYet h e = h.0
+late_keeps : (o : Options) (olds news : Sources) (old new : Drained) (e : BuildFault) → IsLateFault o olds news old new e → KeepsUnlessWriting (Refused e) old new
+late_keeps o olds news old new (Write sent) h e = absurd (true≢false e)
+late_keeps o olds news old new (EmptyName n) h e = h.0
+late_keeps o olds news old new (DuplicateName n) h e = h.0
+late_keeps o olds news old new (Read n fault) h e = h.0
+late_keeps o olds news old new (Json n fault) h e = h.0
+late_keeps o olds news old new (Geo n fault) h e = h.0
+late_keeps o olds news old new Memory h e = h.0
 
 -- so does one that comes before anything is read
-pub refused_keeps : (early : Option BuildFault) (exact : Bool) (t : ℕ) (olds news : Sources) (old new : Drained) (e : BuildFault) → (early ≡ Some e → new ≡ old)
-    → (early ≡ Some e) ⊎ IsLateFault exact t olds news old new e → KeepsUnlessWriting (Refused e) old new
-refused_keeps early exact t olds news old new e keeps (inl is) k = keeps is
-refused_keeps early exact t olds news old new e keeps (inr h) k = late_keeps exact t olds news old new e h k
+pub refused_keeps : (early : Option BuildFault) (o : Options) (olds news : Sources) (old new : Drained) (e : BuildFault) → (early ≡ Some e → new ≡ old)
+    → (early ≡ Some e) ⊎ IsLateFault o olds news old new e → KeepsUnlessWriting (Refused e) old new
+refused_keeps early o olds news old new e keeps (inl is) k = keeps is
+refused_keeps early o olds news old new e keeps (inr h) k = late_keeps o olds news old new e h k
 
 -- ---- the text of a summary is sent
 

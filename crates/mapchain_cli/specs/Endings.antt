@@ -5,20 +5,28 @@ use Rattle.inputs.specs.declared.fault.BuildFault.TheVariants.{Write}
 use Rattle.inputs.specs.declared.file_fault.FileFault.TheVariants as file
 use Rattle.reports.specs.declared.report.Report.{Report}
 use Rattle.reports.specs.declared.summary.Summary.{Summary}
-use Rattle.mapchain_engine.specs.Building.{IsBuilt}
+use Rattle.topology_building.specs.Building.{IsBuilt}
+use Rattle.topology_building.specs.declared.options.Options.{Options}
 use Rattle.topology_files.specs.Geo.{IsDecoded}
 use Rattle.layer_sources.specs.Sources.{Sources}
 use Rattle.reports.specs.Summaries.{summary_text}
 use Rattle.topology_files.specs.Files.{IsSummarised}
+use Rattle.topology_simplifying.specs.Simplified.{IsSimplified}
 use Rattle.mapchain_cli.specs.declared.ending.Ending.{Ending}
 use Rattle.mapchain_cli.specs.declared.ending.Ending.TheVariants.{Refused, FileRefused}
 
--- the topology of layers with these names was written
-pub record BuildsOf (exact : Bool) (names : List (List ℕ)) (old new : Drained) (report : Report) : Type 0 where
+-- the topology of layers with these names was written, as it was asked for
+pub record BuildsOf (options : Options) (names : List (List ℕ)) (old new : Drained) (report : Report) : Type 0 where
   pub sources_old : Sources
   pub sources_new : Sources
   pub named : map (λ s. s.0) sources_old ≡ names
-  pub built : IsBuilt exact 0 sources_old sources_new old new report
+  pub built : IsBuilt options sources_old sources_new old new report
+
+-- what is left of the topology that a source's bytes spell was written, where it is reduced at this threshold
+pub record SimplifiesOf (threshold : ℕ) (old new : Drained) (report : Report) : Type 0 where
+  pub source_old : Fed
+  pub source_new : Fed
+  pub simplified : IsSimplified threshold source_old source_new old new report
 
 -- the text of the features of an object of this name was written, of the topology that a source's bytes spell
 pub record DecodesOf (name : List ℕ) (old new : Drained) : Type 0 where

@@ -1,6 +1,6 @@
 // How a run ends that isn't done.
 use command_words::WordsFault;
-use mapchain_engine::{BuildFault, FileFault};
+use inputs::{BuildFault, FileFault};
 use std::alloc::{AllocError, AllocFailed};
 
 /// How a run ends that isn't done.

@@ -1,17 +1,23 @@
 // Running the program.
 ghost use Rattle.std.specs.Prelude.{◌≡◌, ◌⊎◌, ◌≤◌, IfErr, IfOk, map};
+ghost use Rattle.command_words.specs.Requests.{IsGridInRange};
+ghost use Rattle.mapchain_cli.specs.Asking.{IsAnswered};
 ghost use Rattle.mapchain_cli.specs.Endings.{BuildsOf, KeepsUnlessWriting};
 
 use crate::ending::Ending;
-use crate::file_running::{decode_object, summarise};
+use crate::file_running::{decode_object, simplify_file, summarise};
 use crate::files::Files;
+use crate::options::{options_of, threshold_asked};
 use crate::telling::tell;
 use byte_ends::{Drain, ReadFault, Sink, Source};
 use command_words::{Request, read_words};
+use effective_area::HeapLinks;
 use fault_lines::DONE;
+use inputs::BuildFault;
 use json_value::OwnText;
-use mapchain_engine::{BuildFault, Options, Report, build, report_text};
+use reports::{Report, report_text};
 use std::alloc::Global;
+use topology_building::{Options, build};
 
 /// Opens the file of each layer, in order.
 fn open_layers<F: Files>(
@@ -39,36 +45,45 @@ fn open_layers<F: Files>(
 fn build_layers<F: Files, V: Drain>(
     alloc: Global,
     layers: &[(&str, &str)],
-    exact: bool,
+    options: &Options,
     files: &mut F,
     out: &mut Sink<V>,
 ) -> Result<Report, Ending>
-    ensures built { IfOk result (λ report. BuildsOf exact (map (λ l. l.0.now) layers.now) out.old out.new report) }
+    ensures built { IfOk result (λ report. BuildsOf options.now (map (λ l. l.0.now) layers.now) out.old out.new report) }
     ensures refused { IfErr result (λ ending. KeepsUnlessWriting ending out.old out.new) }
 {
     let mut sources = open_layers(alloc, layers, files)?;
-    let options = Options {
-        grid: None,
-        threshold: 0,
-        exact,
-    };
-    let report = build(alloc, sources.as_mut_slice(), &options, out)?;
+    let mut reducer = HeapLinks::new();
+    let report = build(alloc, &mut reducer, sources.as_mut_slice(), options, out)?;
     Ok(report)
 }
 
-/// Does what the words ask for, and gives the report of a build.
-fn run<F: Files, V: Drain>(
+/// Does what is asked for, and gives the report of a build or of simplifying.
+fn answer<F: Files, V: Drain>(
     alloc: Global,
-    words: &[String],
+    request: Request<'_>,
     files: &mut F,
     out: &mut Sink<V>,
 ) -> Result<Option<Report>, Ending>
+    requires { IsGridInRange request }
+    ensures answered { IfOk result (λ report. IsAnswered request.entry out.old out.new report) }
     ensures done { IfOk result (λ _. out.new.failures ≡ 0) }
     ensures refused { IfErr result (λ ending. KeepsUnlessWriting ending out.old out.new) }
 {
-    match read_words(alloc, words)? {
-        Request::Build { layers, exact } => {
-            let report = build_layers(alloc, layers.as_slice(), exact, files, out)?;
+    match request {
+        Request::Build {
+            layers,
+            exact,
+            grid,
+            area,
+        } => {
+            let options = options_of(alloc, exact, grid, area)?;
+            let report = build_layers(alloc, layers.as_slice(), &options, files, out)?;
+            Ok(Some(report))
+        }
+        Request::Simplify { area, path } => {
+            let threshold = threshold_asked(alloc, area)?;
+            let report = simplify_file(alloc, threshold, path, files, out)?;
             Ok(Some(report))
         }
         Request::Geo { name, path } => {
@@ -82,8 +97,22 @@ fn run<F: Files, V: Drain>(
     }
 }
 
+/// Does what the words ask for, and gives the report of a build or of simplifying.
+fn run<F: Files, V: Drain>(
+    alloc: Global,
+    words: &[String],
+    files: &mut F,
+    out: &mut Sink<V>,
+) -> Result<Option<Report>, Ending>
+    ensures done { IfOk result (λ _. out.new.failures ≡ 0) }
+    ensures refused { IfErr result (λ ending. KeepsUnlessWriting ending out.old out.new) }
+{
+    let request = read_words(alloc, words)?;
+    answer(alloc, request, files, out)
+}
+
 /// Runs the program on the words behind its name. Standard output takes the topology, the features, the summary or the
-/// help, standard error the report of a build or a line that says what is wrong. The answer is the exit status: 0 where
+/// help, standard error the report of a build or of simplifying, or a line that says what is wrong. The answer is the exit status: 0 where
 /// it is done, 1 where the contents of a file are refused, 2 where the words are, and 3 where reading, writing or memory
 /// failed.
 pub fn command<F: Files, V: Drain, W: Drain>(

@@ -6,7 +6,7 @@ use crate::ending::Ending;
 use byte_ends::{Broken, Drain, Sink};
 use command_words::WordsFault;
 use fault_lines::{DONE, FAILED, SinkText, WORDS_REFUSED, tell_fault, tell_file_fault};
-use mapchain_engine::BuildFault;
+use inputs::BuildFault;
 use std::fmt::Write;
 
 /// Tells what there is to say of the words: help on standard output, what is wrong with them on standard error. For want of
@@ -18,7 +18,10 @@ fn tell_words<V: Drain, W: Drain>(fault: &WordsFault, out: &mut Sink<V>, err: &m
 {
     match fault {
         WordsFault::Memory => FAILED,
-        WordsFault::Refused(_) | WordsFault::NoEquals { .. } => {
+        WordsFault::Refused(_)
+        | WordsFault::NoEquals { .. }
+        | WordsFault::GridRange
+        | WordsFault::BadArea => {
             let _ = write!(SinkText { sink: err }, "{fault}");
             WORDS_REFUSED
         }

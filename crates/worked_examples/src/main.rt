@@ -1,25 +1,51 @@
-//! Tries the worked examples: pages of Markdown whose blocks name files, commands and what must come of them. They are the
-//! `.md` files of the folder that it runs in, which is `data` under the gate. It stands on `mapchain_cli`, whose `command` it
-//! runs over files and streams in memory, and on the failing devices of `byte_ends`. A line is printed for each run that
-//! went otherwise, and then the counts. `FORMAT.md` says what a page may hold.
+//! Tries the worked examples on `mapchain_cli::command`. They are pages of Markdown, the `.md` files of the folder that it runs in,
+//! which is `data` under the gate. It stands on `example_pages`, which reads them and judges each run, and on `mapchain_cli`. A line
+//! is printed for each run that went otherwise, and then the counts. `FORMAT.md` says what a page may hold.
 #![tactic(auto)]
 
-mod content;
-mod devices;
-mod example;
-mod memory_files;
-mod notes;
-mod page;
-mod page_fault;
-mod running;
-mod tally;
-
-use page::Page;
-use page_fault::PageFault;
-use std::alloc::{AllocError, AllocGlobal, Global};
+use byte_ends::devices::CutReader;
+use byte_ends::{FromRead, Source};
+use example_pages::{LentFiles, Program, Streams, try_page};
+use mapchain_cli::command;
+use std::alloc::{AllocGlobal, Global};
 use std::fs::Files;
 use std::{fs, io};
-use tally::Tally;
+
+// The files of a page as the command line opens them.
+#[derive(Drop)]
+struct PageFiles<'a> {
+    files: LentFiles<'a>,
+}
+
+impl<'a> mapchain_cli::Files for PageFiles<'a> {
+    type R = FromRead<CutReader<'a>>;
+
+    fn open(&mut self, path: &str) -> Option<Source<FromRead<CutReader<'a>>>> {
+        self.files.open(path)
+    }
+}
+
+// The program whose commands the pages show.
+struct Mapchain;
+
+impl Program for Mapchain {
+    fn run(
+        &self,
+        alloc: Global,
+        words: Vec<String>,
+        files: LentFiles<'_>,
+        streams: &mut Streams,
+    ) -> u8 {
+        let mut files = PageFiles { files };
+        command(
+            alloc,
+            words,
+            &mut files,
+            &mut streams.output,
+            &mut streams.error,
+        )
+    }
+}
 
 /// The names of the pages of this folder, in order.
 fn page_names<R: Files + AllocGlobal + Clone + Drop>(rt: &R) -> io::Result<Vec<String>> {
@@ -35,24 +61,13 @@ fn page_names<R: Files + AllocGlobal + Clone + Drop>(rt: &R) -> io::Result<Vec<S
     Ok(names)
 }
 
-/// Tries the examples of a page.
-fn try_page(alloc: Global, text: &str) -> Result<Tally, AllocError> {
-    let mut tally = Tally::new(alloc);
-    match Page::read(alloc, text) {
-        Ok(mut page) => page.try_examples(alloc, &mut tally)?,
-        Err(PageFault::Line(line)) => tally.tell(format!(in alloc; "cannot be read: {line}")?)?,
-        Err(PageFault::Memory(error)) => return Err(error),
-    }
-    Ok(tally)
-}
-
 fn main(rt: HostRuntime) -> io::Result<()> {
     let mut pages = 0u64;
     let mut runs = 0u64;
     let mut differing = 0u64;
     for name in page_names(&rt)? {
         let text = fs::read_to_string(&rt, name.as_str())?;
-        let tally = try_page(rt.alloc(), &text)?;
+        let tally = try_page(rt.alloc(), &Mapchain, &text)?;
         for difference in tally.differences() {
             println!(rt; "{name}: {difference}")?;
             differing = differing.saturating_add(1);

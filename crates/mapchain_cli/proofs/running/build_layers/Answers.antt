@@ -6,7 +6,7 @@ use Rattle.mapchain_cli.proofs.running.build_layers.Goals as goal
 pub returns-in_err-report-clause-refused : goal.returns-in_err-report-clause-refused
 returns-in_err-report-clause-refused g c =
     let p = err_from_is_err_and c.from_residual-in_err-report.result c.from_residual-in_err-report.ensures.1 in
-    rw (p.1, p.2) (refused_keeps _ c.args.exact 0 c.as_mut_slice.result.now c.build.new.sources c.args.out.now c.build.new.sink _ (λ is. (c.in_err-report.ensures.early _ is).2) c.in_err-report.ensures.refused)
+    rw (p.1, p.2) (refused_keeps _ c.args.options.now c.as_mut_slice.result.now c.build.new.sources c.args.out.now c.build.new.sink _ (λ is. (c.in_err-report.ensures.early _ is).2) c.in_err-report.ensures.refused)
 
 pub returns-clause-built : goal.returns-clause-built
 returns-clause-built g c = record {

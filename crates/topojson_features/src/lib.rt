@@ -9,5 +9,6 @@ mod objects;
 mod shapes;
 
 pub use decode_fault::DecodeFault;
+pub use lines::positions;
 pub use objects::features;
 pub use topojson_walk::Walk;

@@ -5,8 +5,9 @@
 #     scripts/benchmark.sh path/to/mapchain   another program with the same commands
 #     RUNS=9 scripts/benchmark.sh             the fastest of nine runs each, instead of five
 #
-# For each mesh and each of `build`, `geo` and `stat` (these two on what `build` wrote) it prints a row of a table: the
-# seconds of the fastest run, the MB/s of its input, and the greatest peak of memory. Then, for each command, the growth: the
+# For each mesh and each of `build`, without options, on a grid of 10^6 and with an area, `simplify` with the same area, `geo` and
+# `stat` (these three on what `build` wrote, `geo` on what it wrote on a grid too) it prints a row of a table: the seconds of the fastest
+# run, the MB/s of its input, and the greatest peak of memory. Then, for each command, the growth: the
 # time a byte at 10^6 positions over that at 10^4. Where topo2geo (topojson-client) or ogr2ogr (GDAL) is installed, rows of
 # theirs for the same decoding come beside. Runs follow one another; nothing else should run meanwhile.
 set -eu
@@ -39,9 +40,14 @@ row() {
 measure() {
     mesh=$1 cells=$2 segments=$3
     shift 3
+    area=$(awk "BEGIN { side = 160 / ($cells * $segments); printf \"%.14f\", side * side / 16 }")
     "$root/scripts/mesh.py" "$cells" "$segments" "$@" >"$work/mesh.json"
     row "$mesh" "$work/mesh.json" "$work/mesh.topojson" build "$program" build "mesh=$work/mesh.json"
+    row "$mesh" "$work/mesh.json" "$work/grid.topojson" "build, grid" "$program" build --grid 1000000 "mesh=$work/mesh.json"
+    row "$mesh" "$work/mesh.json" "$work/out" "build, area" "$program" build --min-area "$area" "mesh=$work/mesh.json"
+    row "$mesh" "$work/mesh.topojson" "$work/out" "simplify, area" "$program" simplify --min-area "$area" "$work/mesh.topojson"
     row "$mesh" "$work/mesh.topojson" "$work/out" geo "$program" geo --object mesh "$work/mesh.topojson"
+    row "$mesh" "$work/grid.topojson" "$work/out" "geo, grid" "$program" geo --object mesh "$work/grid.topojson"
     row "$mesh" "$work/mesh.topojson" "$work/out" stat "$program" stat "$work/mesh.topojson"
     if command -v topo2geo >/dev/null; then
         row "$mesh" "$work/mesh.topojson" "$work/out" topo2geo topo2geo --in "$work/mesh.topojson" mesh=- || true
@@ -58,7 +64,7 @@ measure "10^6" 124 16
 measure "10^4, properties" 12 16 --properties
 measure "10^6, properties" 124 16 --properties
 echo
-for name in build geo stat; do
+for name in build "build, grid" "build, area" "simplify, area" geo "geo, grid" stat; do
     for kind in "" ", properties"; do
         awk -F '\t' -v name="$name" -v kind="$kind" '
             $1 == "10^4" kind && $2 == name { small = $3 }

@@ -1,5 +1,5 @@
 #!/usr/bin/env python3
-"""Draws a topology (TopoJSON 1.0, without a transform) as an SVG picture on standard output.
+"""Draws a topology (TopoJSON 1.0) as an SVG picture on standard output.
 
     scripts/picture.py map.topojson > map.svg
     ./mapchain build areas=examples/areas.json | scripts/picture.py > docs/areas.svg
@@ -17,6 +17,22 @@ ALONE = 'stroke="#555555" stroke-width="1.2"'
 SHARED = 'stroke="#c1121f" stroke-width="3.2"'
 NUMBER = 'font-size="18" font-weight="bold" text-anchor="middle" dominant-baseline="central"'
 HALO = 'stroke="white" stroke-width="5" paint-order="stroke"'
+
+
+def placed(topology):
+    """The positions of each arc: on a grid the sums of its differences, scaled and translated."""
+    if not topology.get("transform"):
+        return [[place[:2] for place in arc] for arc in topology["arcs"]]
+    (kx, ky), (dx, dy) = topology["transform"]["scale"], topology["transform"]["translate"]
+    found = []
+    for arc in topology["arcs"]:
+        x = y = 0
+        positions = []
+        for step in arc:
+            x, y = x + step[0], y + step[1]
+            positions.append([x * kx + dx, y * ky + dy])
+        found.append(positions)
+    return found
 
 
 def parts(shape):
@@ -62,12 +78,13 @@ def path(positions):
 
 
 def picture(topology):
-    places = [place[:2] for arc in topology["arcs"] for place in arc] or [[0, 0], [1, 1]]
+    lines = placed(topology)
+    places = [place for arc in lines for place in arc] or [[0, 0], [1, 1]]
     left, right = min(x for x, _ in places), max(x for x, _ in places)
     low, high = min(y for _, y in places), max(y for _, y in places)
     scale = (WIDTH - 2 * MARGIN) / (max(right - left, high - low) or 1)
     width, height = ((end - start) * scale + 2 * MARGIN for start, end in [(left, right), (low, high)])
-    arcs = [[(MARGIN + (p[0] - left) * scale, MARGIN + (high - p[1]) * scale) for p in arc] for arc in topology["arcs"]]
+    arcs = [[(MARGIN + (p[0] - left) * scale, MARGIN + (high - p[1]) * scale) for p in arc] for arc in lines]
     shapes = [s for o in topology["objects"].values() for s in o.get("geometries", [o])]
     found = [parts(shape) for shape in shapes]
     users = [0] * len(arcs)

@@ -3,15 +3,17 @@ use Rattle.std.proofs.Common.{◌≡◌, ℕ, zero, suc, ◌+◌, ◌*◌, ◌^�
 use Rattle.std.proofs.lemmas.List.{length-append}
 use Rattle.std.proofs.lemmas.List.Sums.{sum_by_push}
 use Rattle.list_laws.proofs.Lists.{take_here}
-use Rattle.build_meaning.specs.Built.{positions_of}
 use Rattle.build_meaning.specs.Trimming.{keep_from}
-use Rattle.geometry.specs.Points.{Point}
 use Rattle.arc_choice.specs.Uses.{answers, chosen}
 
 -- where the flags are answers, they are those that pass
-pub chosen_is : {X : Type 0} (u : ℕ → Bool) (n : ℕ) (xs : List X) → chosen (answers u n (length xs)) xs ≡ keep_from u n xs
+chosen_is : {X : Type 0} (u : ℕ → Bool) (n : ℕ) (xs : List X) → chosen (answers u n (length xs)) xs ≡ keep_from u n xs
 chosen_is u n [] = refl
 chosen_is u n (x ∷ xs) = ap (λ ys. if u n then x ∷ ys else ys) (chosen_is u (suc n) xs)
+
+-- the same where they are so many answers
+pub chosen_as : {X : Type 0} (u : ℕ → Bool) (n : ℕ) (flags : List Bool) (xs : List X) → flags ≡ answers u 0 n → n ≡ length xs → chosen flags xs ≡ keep_from u 0 xs
+chosen_as u n flags xs are many = ap (λ bs. chosen bs xs) (are ∙ ap (answers u 0) many) ∙ chosen_is u 0 xs
 
 of_none : {X : Type 0} (bs : List Bool) → chosen {X = X} bs [] ≡ []
 of_none [] = refl
@@ -72,21 +74,24 @@ taken used flags rest flag xs kept new x split t is so = more used flags rest fl
 
 -- ---- how many positions these have
 
-lengths_end : (kept : List (List Point)) (x : List Point) → map length (kept ++ x ∷ []) ≡ map length kept ++ length x ∷ []
+abbrev lengths : {X : Type 0} → List (List X) → ℕ
+lengths arcs = sum (map length arcs)
+
+lengths_end : {X : Type 0} (kept : List (List X)) (x : List X) → map length (kept ++ x ∷ []) ≡ map length kept ++ length x ∷ []
 lengths_end [] x = refl
 lengths_end (y ∷ kept) x = ap (λ ns. length y ∷ ns) (lengths_end kept x)
 
 -- so many positions have those that are chosen so far
-pub record Counts (used : List Bool) (arcs : List (List Point)) (i : ℕ) (flags : List Bool) (count : ℕ) : Type 0 where
-  pub kept : List (List Point)
+pub record Counts {X : Type 0} (used : List Bool) (arcs : List (List X)) (i : ℕ) (flags : List Bool) (count : ℕ) : Type 0 where
+  pub kept : List (List X)
   pub chooses : Chooses used (take i arcs) flags kept
-  pub count_is : count ≡ positions_of kept
+  pub count_is : count ≡ lengths kept
   pub small : count ≤ i * 2 ^ 64
 
-pub counts_begin : (used : List Bool) (arcs : List (List Point)) → Counts used arcs 0 used 0
+pub counts_begin : {X : Type 0} (used : List Bool) (arcs : List (List X)) → Counts used arcs 0 used 0
 counts_begin used arcs = record { kept = []; chooses = (refl, sym (of_none used)); count_is = refl; small = omega arith }
 
-pub counts_passed : (used flags : List Bool) (arcs : List (List Point)) (i count : ℕ) (x : List Point) → i < length arcs → x ≡ get_or arcs i x → flags ≡ [] → Counts used arcs i flags count
+pub counts_passed : {X : Type 0} (used flags : List Bool) (arcs : List (List X)) (i count : ℕ) (x : List X) → i < length arcs → x ≡ get_or arcs i x → flags ≡ [] → Counts used arcs i flags count
     → Counts used arcs (i + 1) flags count
 counts_passed used flags arcs i count x lt is none so = record {
   kept = so.kept;
@@ -95,7 +100,7 @@ counts_passed used flags arcs i count x lt is none so = record {
   small = let s = so.small in omega (arith, s);
 }
 
-pub counts_left_out : (used flags rest : List Bool) (flag : Bool) (arcs : List (List Point)) (i count : ℕ) (x : List Point) → i < length arcs → x ≡ get_or arcs i x → flag ∷ rest ≡ flags → flag ≡ false
+pub counts_left_out : {X : Type 0} (used flags rest : List Bool) (flag : Bool) (arcs : List (List X)) (i count : ℕ) (x : List X) → i < length arcs → x ≡ get_or arcs i x → flag ∷ rest ≡ flags → flag ≡ false
     → Counts used arcs i flags count → Counts used arcs (i + 1) rest count
 counts_left_out used flags rest flag arcs i count x lt is split f so = record {
   kept = so.kept;
@@ -104,7 +109,7 @@ counts_left_out used flags rest flag arcs i count x lt is split f so = record {
   small = let s = so.small in omega (arith, s);
 }
 
-pub counts_taken : (used flags rest : List Bool) (flag : Bool) (arcs : List (List Point)) (i count new : ℕ) (x : List Point) → i < length arcs → x ≡ get_or arcs i x → flag ∷ rest ≡ flags → flag ≡ true
+pub counts_taken : {X : Type 0} (used flags rest : List Bool) (flag : Bool) (arcs : List (List X)) (i count new : ℕ) (x : List X) → i < length arcs → x ≡ get_or arcs i x → flag ∷ rest ≡ flags → flag ≡ true
     → new ≡ count + length x → length x < 2 ^ 64 → Counts used arcs i flags count → Counts used arcs (i + 1) rest new
 counts_taken used flags rest flag arcs i count new x lt is split t n low so = record {
   kept = so.kept ++ x ∷ [];
@@ -113,8 +118,8 @@ counts_taken used flags rest flag arcs i count new x lt is split t n low so = re
   small = let s = so.small in omega (arith, s, n, low);
 }
 
-pub counted_all : (used flags : List Bool) (arcs : List (List Point)) (i count : ℕ) → take i arcs ≡ arcs → Counts used arcs i flags count → count ≡ positions_of (chosen used arcs)
-counted_all used flags arcs i count all so = so.count_is ∙ ap positions_of so.chooses.1 ∙ ap (λ xs. positions_of (chosen used xs)) all
+pub counted_all : {X : Type 0} (used flags : List Bool) (arcs : List (List X)) (i count : ℕ) → take i arcs ≡ arcs → Counts used arcs i flags count → count ≡ lengths (chosen used arcs)
+counted_all used flags arcs i count all so = so.count_is ∙ ap lengths so.chooses.1 ∙ ap (λ xs. lengths (chosen used xs)) all
 
 -- one more fits
 pub fits : (count i n : ℕ) → count ≤ i * 2 ^ 64 → i < 2 ^ 64 → n < 2 ^ 64 → count + n < 2 ^ 128

@@ -90,6 +90,6 @@ module _ {X : Type 0} (names : X → ℕ → Bool) where
       (λ n. sym (list_any_more (λ y. names y n) xs i x lt ∙ ap (λ y. any_of (take i xs) n || names y n) (sym is)))
 
 -- what is written back into a vector is all of it
-pub written_back : (count : ℕ) (new old : List Bool) → count ≡ length old → length new ≡ length old → take count (new ++ drop (length new) old) ≡ new
+pub written_back : {X : Type 0} (count : ℕ) (new old : List X) → count ≡ length old → length new ≡ length old → take count (new ++ drop (length new) old) ≡ new
 written_back count new old c e =
     ap (λ zs. take count (new ++ zs)) (drop_all (length new) old (omega (arith, e))) ∙ ap (take count) (append-nil new) ∙ take_all count new (omega (arith, c, e))

@@ -9,7 +9,7 @@ use Rattle.geometry.proofs.Points.{same_is}
 use Rattle.junctions.specs.Cleaning.{clean, clean_from, is_short}
 use Rattle.list_laws.specs.Lists.{tail}
 use Rattle.list_laws.proofs.Lists.{drop_here}
-use Rattle.arc_choice.specs.Passing.{Need, new_behind, missing_behind, Passes, directed}
+use Rattle.arc_choice.specs.Passing.{Need, unpassed, new_behind, missing_behind, Passes, directed}
 use Rattle.arc_choice.proofs.Short.{some_left}
 
 -- ---- one position
@@ -120,20 +120,19 @@ nothing_new : (last : Option Point) → new_behind last [] ≡ 0
 nothing_new None = refl
 nothing_new (Some p) = omega arith
 
-pub missing_at_end : (enough : ℕ) (all left : List Point) (now : Need) → Open left all (need None enough) now → missing_behind now left ≡ enough - length (clean all)
-missing_at_end enough all left now so_far =
-    ap (missing_behind now) (sym (append-nil left)) ∙ so_far [] ∙ ap (λ l. enough - length (clean l)) (append-nil all)
+pub missing_at_end : (closed : Bool) (all left : List Point) (now : Need) → Open left all (unpassed closed) now → missing_behind now left ≡ (unpassed closed).missing - length (clean all)
+missing_at_end closed all left now so_far =
+    ap (missing_behind now) (sym (append-nil left)) ∙ so_far [] ∙ ap (λ l. (unpassed closed).missing - length (clean l)) (append-nil all)
 
-pub enough_seen : (closed : Bool) (all left : List Point) (now : Need) (enough : ℕ) → enough ≡ cond closed 4 2 → now.missing ≡ 0 → Open left all (need None enough) now → false ≡ is_short closed (clean all)
-enough_seen closed all left now enough e none so_far =
-    let k : 0 ≡ enough - length (clean all) = sym (none_missing now left none) ∙ missing_at_end enough all left now so_far in
-    let f : false ≡ nat_lt (length (clean all)) enough = grind (arith, nat_tests, k) in
-    f ∙ ap (nat_lt (length (clean all))) e
+pub enough_seen : (closed : Bool) (all left : List Point) (now : Need) → now.missing ≡ 0 → Open left all (unpassed closed) now → false ≡ is_short closed (clean all)
+enough_seen closed all left now none so_far =
+    let k : 0 ≡ (unpassed closed).missing - length (clean all) = sym (none_missing now left none) ∙ missing_at_end closed all left now so_far in
+    grind (arith, nat_tests, k)
 
-pub all_seen : (closed : Bool) (all : List Point) (now : Need) (enough : ℕ) (result : Bool) → enough ≡ cond closed 4 2 → result ≡ nat_lt 0 now.missing → Passes all (need None enough) now → result ≡ is_short closed (clean all)
-all_seen closed all now enough result e is pass =
+pub all_seen : (closed : Bool) (all : List Point) (now : Need) (result : Bool) → result ≡ nat_lt 0 now.missing → Passes all (unpassed closed) now → result ≡ is_short closed (clean all)
+all_seen closed all now result is pass =
     let n = nothing_new now.last in
-    let m : now.missing - new_behind now.last [] ≡ enough - length (clean all) = missing_at_end enough all [] now pass in
-    let k : now.missing ≡ enough - length (clean all) = omega (arith, n, m) in
-    let f : nat_lt 0 now.missing ≡ nat_lt (length (clean all)) enough = grind (arith, nat_tests, k) in
-    is ∙ f ∙ ap (nat_lt (length (clean all))) e
+    let m : now.missing - new_behind now.last [] ≡ (unpassed closed).missing - length (clean all) = missing_at_end closed all [] now pass in
+    let k : now.missing ≡ (unpassed closed).missing - length (clean all) = omega (arith, n, m) in
+    let f : nat_lt 0 now.missing ≡ nat_lt (length (clean all)) (unpassed closed).missing = grind (arith, nat_tests, k) in
+    is ∙ f

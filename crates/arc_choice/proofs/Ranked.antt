@@ -1,9 +1,9 @@
 -- Ranks of arcs, and indexes by these.
-use Rattle.std.proofs.Common.{◌≡◌, ℕ, zero, suc, ◌+◌, ◌<◌, ◌≤◌, ℤ, pos, negsuc, ◌-ℤ◌, Bool, true, false, List, [], ◌∷◌, ◌++◌, length, get_or, if◌then◌else◌, refl, sym, ap, ◌∙◌, arith}
+use Rattle.std.proofs.Common.{◌≡◌, ℕ, zero, suc, ◌+◌, ◌<◌, ◌≤◌, ℤ, pos, negsuc, ◌-ℤ◌, Bool, true, false, List, [], ◌∷◌, ◌++◌, map, length, get_or, if◌then◌else◌, refl, sym, ap, ◌∙◌, arith}
 use Rattle.std.specs.Prelude.{slice_get, None, Some}
 use Rattle.std.proofs.lemmas.Option.{slice_get-get_or}
 use Rattle.build_meaning.specs.Trimming.{rank_from, renumbered}
-use Rattle.geometry.specs.Joins.{number_of, is_reversed}
+use Rattle.geometry.specs.Joins.{AreInRange, number_of, is_reversed}
 use Rattle.arc_choice.specs.Ranks.{directed_as, by_rank, renumbered_by}
 use Rattle.arc_choice.specs.Uses.{answers}
 
@@ -113,9 +113,14 @@ directed_rank u (pos i) = refl
 directed_rank u (negsuc i) = complement (rank_from u 0 i)
 
 -- where the list has the ranks of the arcs that pass, this is the index among these
-pub renumbered_same : (ranks : List ℤ) (u : ℕ → Bool) (index : ℤ) → RanksOf ranks u → number_of index < length ranks → renumbered_by ranks index ≡ renumbered u index
+renumbered_same : (ranks : List ℤ) (u : ℕ → Bool) (index : ℤ) → RanksOf ranks u → number_of index < length ranks → renumbered_by ranks index ≡ renumbered u index
 renumbered_same ranks u index are lt =
     let got = slice_get-get_or ranks (number_of index) (pos 0) lt in
     let rank : get_or ranks (number_of index) (pos 0) ≡ pos (rank_from u 0 (number_of index)) =
     sym (answers_at (λ i. pos (rank_from u 0 i)) ranks (length ranks) (number_of index) (pos 0) (get_or ranks (number_of index) (pos 0)) are lt refl) in
     ap (by_rank index) (got ∙ ap Some rank) ∙ directed_rank u index
+
+-- the same of each index of a line or ring
+pub all_renumbered : (ranks : List ℤ) (u : ℕ → Bool) (refs : List ℤ) → RanksOf ranks u → AreInRange (length ranks) refs → map (renumbered_by ranks) refs ≡ map (renumbered u) refs
+all_renumbered ranks u [] are h = refl
+all_renumbered ranks u (r ∷ refs) are h = ap (λ z. z ∷ map (renumbered_by ranks) refs) (renumbered_same ranks u r are h.0) ∙ ap (λ zs. renumbered u r ∷ zs) (all_renumbered ranks u refs are h.1)

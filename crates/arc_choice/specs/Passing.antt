@@ -8,6 +8,10 @@ pub record Need : Type 0 where
   pub last : Option Point
   pub missing : ℕ
 
+-- before any is passed of an open line (false) or a ring (true)
+abbrev pub unpassed : Bool → Need
+unpassed closed = record { last = None; missing = if closed then 4 else 2 }
+
 -- how many positions these are more behind the last one, with equal neighbours as one
 abbrev pub new_behind : Option Point → List Point → ℕ
 new_behind None ps = length (clean ps)

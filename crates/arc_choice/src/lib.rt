@@ -13,5 +13,5 @@ mod trimming;
 pub use marking::mark_refs;
 pub use places::{Place, add_here, add_part, hole_cause};
 pub use position_cells::cells;
-pub use rebuilding::is_small_line;
+pub use rebuilding::{is_short_line, is_small_line};
 pub use trimming::{kept_arcs, ranks, renumber_all, taken_out, used_positions};

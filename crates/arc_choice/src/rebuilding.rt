@@ -2,8 +2,10 @@
 ghost use Rattle.std.specs.Prelude.{◌≡◌, ◌∷◌, [], drop, map};
 ghost use Rattle.build_meaning.specs.Expected.{is_small};
 ghost use Rattle.geometry.specs.Joins.{arc_at, rejoined};
-ghost use Rattle.arc_choice.specs.Passing.{directed, Passes};
+ghost use Rattle.arc_choice.specs.Passing.{directed, unpassed, Passes};
+ghost use Rattle.junctions.specs.Cleaning.{clean, is_short};
 
+use geojson_types::Position;
 use json_value::Items;
 use std::marker::Model;
 use topojson_types::{ArcRef, Cell};
@@ -16,17 +18,27 @@ pub fn is_small_line(closed: bool, refs: &[ArcRef], arcs: &[Items<Cell>]) -> boo
     let Some((first, later)) = refs.split_first() else {
         return true;
     };
-    let enough = if closed { 4 } else { 2 };
-    let mut need = Need {
-        last: None,
-        missing: enough,
-    };
+    let mut need = Need::of(closed);
     need.pass_ref(*first, arcs, 0);
     'later: for index in later {
         if need.missing == 0 {
             return false;
         }
         need.pass_ref(*index, arcs, 1);
+    }
+    need.missing > 0
+}
+
+/// The same of an open line or a ring with these positions.
+pub fn is_short_line(closed: bool, positions: &[Position]) -> bool
+    ensures { result ≡ is_short closed (clean positions.now) }
+{
+    let mut need = Need::of(closed);
+    'positions: for position in positions {
+        if need.missing == 0 {
+            return false;
+        }
+        need.pass(Cell::of(*position));
     }
     need.missing > 0
 }
@@ -47,6 +59,16 @@ impl Model for Need {
 }
 
 impl Need {
+    // Before any position of an open line or a ring is passed.
+    fn of(closed: bool) -> Need
+        ensures { result ≡ unpassed closed }
+    {
+        Need {
+            last: None,
+            missing: if closed { 4 } else { 2 },
+        }
+    }
+
     // Passes one position.
     fn pass(&mut self, cell: Cell)
         ensures { Passes (cell ∷ []) self.old self.new }

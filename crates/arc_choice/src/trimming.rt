@@ -1,8 +1,7 @@
 // The arcs that are used, and their new numbers.
-ghost use Rattle.std.specs.Prelude.{◌≡◌, ℕ, Bool, IfOk, length, map, negsuc, pos, ◌-ℤ◌, ◌-◌};
+ghost use Rattle.std.specs.Prelude.{◌≡◌, ℕ, Bool, IfOk, length, map, negsuc, pos, sum, ◌-ℤ◌, ◌-◌};
 ghost use Rattle.arc_choice.specs.Ranks.{renumbered_by};
 ghost use Rattle.arc_choice.specs.Uses.{answers, chosen};
-ghost use Rattle.build_meaning.specs.Built.{positions_of};
 ghost use Rattle.build_meaning.specs.Trimming.{rank_from};
 ghost use Rattle.byte_ends.specs.Ends.{saturated};
 
@@ -82,8 +81,8 @@ pub fn kept_arcs(
 }
 
 /// The positions of the arcs with a set flag.
-pub fn used_positions(arcs: &[Items<Cell>], used: &[bool]) -> u128
-    ensures { result ≡ positions_of (chosen used.now arcs.now) }
+pub fn used_positions<P>(arcs: &[Items<P>], used: &[bool]) -> u128
+    ensures { result ≡ sum (map length (chosen used.now arcs.now)) }
 {
     let mut count: u128 = 0;
     let mut flags = used;

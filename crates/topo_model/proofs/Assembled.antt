@@ -2,6 +2,10 @@
 use Rattle.std.proofs.Common.{◌≡◌, ℕ, suc, ◌-◌, not, ℤ, Bool, true, false, cond, ◌||◌, List, [], ◌∷◌, map, length, Option, None, Some, refl, sym, ap, ◌∙◌}
 use Rattle.std.proofs.lemmas.List.{length-map}
 use Rattle.std.specs.List.{list_any}
+use Rattle.arc_choice.specs.Marks.{names_arc}
+use Rattle.arc_choice.specs.Uses.{answers, chosen}
+use Rattle.arc_choice.proofs.Chosen.{chosen_as}
+use Rattle.arc_choice.proofs.Ranked.{answers_same}
 use Rattle.arc_table.specs.Arcs.{ArcsAndIndexes, arcs_of, index_in, table_of}
 use Rattle.build_meaning.specs.Built.{all_arcs, untrimmed, positions_of}
 use Rattle.build_meaning.specs.Candidates.{Candidate, fate, if_kept, named_candidates}
@@ -35,9 +39,7 @@ use Rattle.topojson_types.specs.declared.object.TopoObject.{TopoObject}
 use Rattle.topo_model.specs.Drops.{RefsOf, line_cause, long_refs}
 use Rattle.topo_model.specs.Entries.{Entries, entries_of}
 use Rattle.topo_model.specs.Fates.{fates, dealt, dealt_kept, entry_by}
-use Rattle.topo_model.specs.Marks.{names_arc, any_names_arc}
-use Rattle.topo_model.specs.Uses.{answers}
-use Rattle.topo_model.proofs.Ranked.{answers_same}
+use Rattle.topo_model.specs.Marks.{any_names_arc}
 
 -- ---- the table
 
@@ -201,10 +203,8 @@ module _ (kept : List (List ℕ)) (ls : Named) (t : ArcsAndIndexes) (is : IsTabl
       told of (same_refs ∙ table_refs ls t is) ∙ ap (λ a. layers_caused (line_cause a of) ls) (same_arcs ∙ sym same_fewer)
 
   -- the arcs that are kept
-  pub arcs_are : (flags given : List Bool) (arcs from : List (List Point)) → from ≡ fewer → given ≡ flags → EachFromFirstToLast kept t.arcs
-      → ((u : ℕ → Bool) → given ≡ answers u 0 (length from) → arcs ≡ keep_from u 0 from) → flags ≡ answers used 0 (length t.arcs) → arcs ≡ keep_from used 0 fewer
-  arcs_are flags given arcs from same same_flags through of_arcs marked =
-      of_arcs used (same_flags ∙ marked ∙ ap (answers used 0) (sym (ap length same ∙ picked_length kept t.arcs through))) ∙ ap (keep_from used 0) same
+  pub arcs_are : (flags : List Bool) (arcs : List (List Point)) → EachFromFirstToLast kept t.arcs → flags ≡ answers used 0 (length t.arcs) → arcs ≡ fewer → chosen flags arcs ≡ keep_from used 0 fewer
+  arcs_are flags arcs through marked same = ap (chosen flags) same ∙ chosen_as used (length t.arcs) flags fewer marked (sym (picked_length kept t.arcs through))
 
   -- What the steps say of the entries with new indexes, of the arcs that are kept, and of the objects.
   pub is_assembled : ZeroLaw → AreSound ls → (fs : List (Option Cause)) (flags : List Bool) (entries : Entries) (arcs : List (List Point)) (objects : List (List ℕ × TopoObject))
@@ -225,10 +225,11 @@ module _ (kept : List (List ℕ)) (ls : Named) (t : ArcsAndIndexes) (is : IsTabl
       ap trimmed (left_whole zero sound) ∙ sym (ap (λ os. contents os arcs) made ∙ ap (contents (map (λ o. (o.0, object_renumbered used o.1)) whole)) of_arcs)
 
   -- how many positions are taken out
-  pub is_taken_out : ZeroLaw → AreSound ls → (before after : ℕ) (arcs : List (List Point)) → before ≡ positions_of (keep_from used 0 t.arcs) → after ≡ positions_of arcs → arcs ≡ keep_from used 0 fewer
+  pub is_taken_out : ZeroLaw → AreSound ls → (flags : List Bool) (before after : ℕ) → flags ≡ answers used 0 (length t.arcs) → before ≡ positions_of (chosen flags t.arcs) → after ≡ positions_of (keep_from used 0 fewer)
       → before - after ≡ assembled_taken_out kept ls
   unfolding assembled_taken_out taken_out_by lessened_by trimmed
-  is_taken_out zero sound before after arcs of_before of_after of_arcs =
-      ap (λ n. n - after) (of_before ∙ ap (λ xs. positions_of (keep_from used 0 xs)) (table_arcs ls t is ∙ sym (each_stays zero (arcs_of_layers ls))))
-      ∙ ap (λ n. positions_of (keep_from used 0 (untrimmed 0 ls).arcs) - n) (of_after ∙ ap positions_of of_arcs)
+  is_taken_out zero sound flags before after marked of_before of_after =
+      ap (λ n. n - after)
+      (of_before ∙ ap positions_of (chosen_as used (length t.arcs) flags t.arcs marked refl) ∙ ap (λ xs. positions_of (keep_from used 0 xs)) (table_arcs ls t is ∙ sym (each_stays zero (arcs_of_layers ls))))
+      ∙ ap (λ n. positions_of (keep_from used 0 (untrimmed 0 ls).arcs) - n) of_after
       ∙ sym (ap (λ y. positions_of (keep_from (is_used y.objects) 0 (untrimmed 0 ls).arcs) - positions_of (trimmed y).arcs) (left_whole zero sound))

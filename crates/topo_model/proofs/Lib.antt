@@ -1,11 +1,7 @@
 pub mod Assembled
-pub mod Counted
 pub mod Dealt
 pub mod Marked
-pub mod Passed
 pub mod Picked
-pub mod Ranked
 pub mod Replaced
-pub mod Short
 pub mod Taking
 pub mod Told

@@ -2,11 +2,11 @@
 use Rattle.std.proofs.Common.{◌≡◌, ℕ, ◌+◌, ◌<◌, ◌≤◌, List, [], ◌∷◌, ◌++◌, map, drop, length, get_or, slice_get, append_assoc, Some, sym, ap, ◌∙◌}
 use Rattle.std.proofs.lemmas.List.{drop_more}
 use Rattle.std.proofs.lemmas.Option.{slice_get_past, slice_get_within, get_or_from_slice_get}
+use Rattle.arc_choice.proofs.Passed.{at_got}
 use Rattle.geometry.specs.Lists.{with_some}
 use Rattle.geometry.specs.Points.{Point}
 use Rattle.lessened_topology.specs.Lessened.{picked, picked_arcs}
 use Rattle.list_laws.proofs.Lists.{drop_here}
-use Rattle.topo_model.proofs.Passed.{at_got}
 
 -- what is picked so far, and what the numbers from one on still pick
 abbrev pub Picks : List ℕ → List Point → ℕ → List Point → Type 0

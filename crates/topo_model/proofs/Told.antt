@@ -3,6 +3,8 @@ use Rattle.std.specs.Prelude.{Result, Ok, Err, OnOk}
 use Rattle.std.proofs.Common.{slice_get, None, Some, ◌≡◌, ℕ, ℤ, suc, ◌+◌, ◌<◌, ◌≤◌, Bool, true, false, cond, List, [], ◌∷◌, ◌++◌, map, drop, length, Option, get_or, append_assoc, append-nil, refl, ap, sym, ◌∙◌, subst, arith}
 use Rattle.std.proofs.lemmas.List.{drop_all, drop_more, map-append}
 use Rattle.std.proofs.lemmas.Option.{slice_get_within, get_or_from_slice_get}
+use Rattle.arc_choice.specs.Places.{dropped_at}
+use Rattle.arc_choice.proofs.Told.{first_part}
 use Rattle.build_meaning.specs.Candidates.{free, hole, area_candidates, candidates, option_candidates, features_candidates, named_candidates, fate}
 use Rattle.build_meaning.specs.Expected.{is_small}
 use Rattle.build_meaning.specs.Layers.{features_strokes, named_strokes}
@@ -17,7 +19,7 @@ use Rattle.geometry.specs.declared.shape.Geometry.TheVariants as g
 use Rattle.geometry.specs.Joins.{arc_at, rejoined}
 use Rattle.geometry.specs.Lists.{joined}
 use Rattle.geometry.specs.Omissions.{here, inner_cause, area_omissions, omissions, dropped_of_layers}
-use Rattle.geometry.specs.Paths.{Placed, inside_part, of_parts}
+use Rattle.geometry.specs.Paths.{of_parts}
 use Rattle.geometry.specs.Points.{Point}
 use Rattle.geometry.specs.Pruning.{strokes, option_strokes}
 use Rattle.geometry.proofs.Cases.{omissions_at, strokes-point, strokes-points, strokes-line, strokes-lines, strokes-area, strokes-areas, strokes-group}
@@ -28,7 +30,7 @@ use Rattle.lessened_topology.specs.Lessened.{small_cause}
 use Rattle.linework.specs.Linework.{feature_address}
 use Rattle.list_laws.specs.Lists.{tail}
 use Rattle.list_laws.proofs.Lists.{drop_here}
-use Rattle.topo_model.specs.Drops.{RefsOf, line_cause, long_refs, Told, Tells, IsOwnCause, dropped_at, layer_drops}
+use Rattle.topo_model.specs.Drops.{RefsOf, line_cause, long_refs, Told, Tells, IsOwnCause, layer_drops}
 use Rattle.topo_model.specs.Fates.{fates}
 
 abbrev Line : Type 0
@@ -143,17 +145,6 @@ told_all p refs first xs old k i now le so_far =
     (sym p.no_lines) (λ of. sym (p.no_causes of)) (λ of. sym (p.none_dropped of k)) (tells_nothing refs now)))
 
 -- ---- the parts
-
-inside_at : (a : Address) (i : ℕ) (os : List (Placed Cause)) → dropped_at a (inside_part i os) ≡ dropped_at (part_address a i) os
-inside_at a i [] = refl
-inside_at a i (o ∷ os) =
-    ap (λ p. record { address = record { layer = a.layer; feature = a.feature; path = p }; cause = o.part } ∷ dropped_at a (inside_part i os)) (sym (append_assoc a.path (i ∷ []) o.path))
-    ∙ ap (λ ds. record { address = record { layer = a.layer; feature = a.feature; path = (a.path ++ (i ∷ [])) ++ o.path }; cause = o.part } ∷ ds) (inside_at a i os)
-
--- the first of the parts
-pub first_part : (a : Address) (k : ℕ) (os : List (Placed Cause)) (more : List (List (Placed Cause))) → dropped_at a (of_parts k (os ∷ more)) ≡ dropped_at (part_address a k) os ++ dropped_at a (of_parts (suc k) more)
-first_part a k os more = map-append (λ o. record { address = record { layer = a.layer; feature = a.feature; path = a.path ++ o.path }; cause = o.part }) (inside_part k os) (of_parts (suc k) more)
-    ∙ ap (λ ds. ds ++ dropped_at a (of_parts (suc k) more)) (inside_at a k os)
 
 module _ (arcs : List (List Point)) (a : Address) where
   abbrev pub line_parts : Parts (List Point)

@@ -1,13 +1,11 @@
 -- The lines and rings of layers that are dropped: those with too few positions, from the first or over reduced arcs, and the rings
 -- of a polygon whose outer ring is dropped.
 use Rattle.std.specs.Prelude.{◌≡◌, ℕ, ℤ, Bool, List, [], ◌∷◌, ◌++◌, Option, Some, drop, map, if◌then◌else◌}
-use Rattle.geometry.specs.declared.address.Address.{Address}
 use Rattle.geometry.specs.declared.address.Cause.{Cause}
 use Rattle.geometry.specs.declared.address.Cause.TheVariants.{Collapsed}
 use Rattle.geometry.specs.declared.address.Dropped.{Dropped}
 use Rattle.geojson_types.specs.Features.{Featured}
 use Rattle.geometry.specs.Omissions.{dropped_of_layer}
-use Rattle.geometry.specs.Paths.{Placed}
 use Rattle.geometry.specs.Points.{Point}
 use Rattle.junctions.specs.Cleaning.{clean, is_short}
 use Rattle.lessened_topology.specs.Assembled.{option_caused}
@@ -53,7 +51,3 @@ IsOwnCause refs arcs closed ps old new cause = (of : RefsOf) (rest : List (List 
 -- those of the features of the layer with this number, of which the first has the second number
 abbrev pub layer_drops : (Bool → List Point → Option Cause) → ℕ → ℕ → List Featured → List Dropped
 layer_drops why layer feature fs = dropped_of_layer layer feature (map (λ f. option_caused why f.shape) fs)
-
--- what is dropped inside of what stands at this address
-abbrev pub dropped_at : Address → List (Placed Cause) → List Dropped
-dropped_at a os = map (λ o. record { address = record { layer = a.layer; feature = a.feature; path = a.path ++ o.path }; cause = o.part }) os

@@ -14,13 +14,13 @@ ghost use Rattle.topojson_types.specs.Validity.{AreDistinct};
 ghost use Rattle.topo_model.specs.Entries.{Replaces, entries_of};
 
 use crate::causes::ReducedLines;
-use crate::counting::{positions_in, taken_out, used_positions};
 use crate::dropping::fates_of;
 use crate::entries::KeptArcs;
 use crate::marking::used_arcs;
 use crate::picking::picked_cells_of_all;
 use crate::shapes::replaced_option;
-use crate::trimming::{kept_arcs, renumbered_entries};
+use crate::trimming::renumbered_entries;
+use arc_choice::{kept_arcs, taken_out, used_positions};
 use arc_table::Table;
 use elimination_meaning::zero_law;
 use geojson_types::{Dropped, Feature, Layer};
@@ -127,10 +127,11 @@ fn objects_and_arcs(
     let (causes, dropped) = fates_of(alloc, &layers, &lines)?;
     let used = used_arcs(alloc, &causes, table)?;
     let entries = renumbered_entries(alloc, &causes, table, &used)?;
-    let arcs = kept_arcs(alloc, &picked, &used)?;
-    let taken = taken_out(used_positions(table, &used), positions_in(&arcs));
+    let before = used_positions(table.arcs(), &used);
+    let after = used_positions(&picked, &used);
+    let arcs = kept_arcs(alloc, picked, &used)?;
     let objects = assemble_objects(alloc, layers, &entries)?;
-    Ok((objects, arcs, dropped, taken))
+    Ok((objects, arcs, dropped, taken_out(before, after)))
 }
 
 /// The topology of named layers over the arcs of their lines, where of each arc the positions with these numbers are kept: a list

@@ -2,8 +2,7 @@
 ghost use Rattle.std.specs.Prelude.{◌≡◌};
 ghost use Rattle.topo_model.specs.Drops.{IsOwnCause};
 
-use crate::lines::is_short_line;
-use crate::rebuilding::is_small_line;
+use arc_choice::{is_short_line, is_small_line};
 use arc_table::Table;
 use geojson_types::{Cause, Position};
 use json_value::Items;

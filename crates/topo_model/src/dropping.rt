@@ -1,20 +1,20 @@
 // What becomes of the lines and rings of layers: why each is dropped, if it is, and where those stand that are.
-ghost use Rattle.std.specs.Prelude.{◌≡◌, ℕ, ◌∷◌, [], ◌++◌, IfOk, OnOk, map, true, false};
+ghost use Rattle.std.specs.Prelude.{◌≡◌, ◌∷◌, [], ◌++◌, IfOk, OnOk, map, true, false};
+ghost use Rattle.arc_choice.specs.Places.{dropped_at};
 ghost use Rattle.build_meaning.specs.Candidates.{area_candidates, candidates, features_candidates, free, named_candidates};
 ghost use Rattle.build_meaning.specs.Layers.{features_strokes, named_strokes};
-ghost use Rattle.geometry.specs.declared.address.Address as declared;
 ghost use Rattle.geometry.specs.Lists.{joined};
-ghost use Rattle.geometry.specs.Omissions.{here, inner_cause, area_omissions, omissions};
+ghost use Rattle.geometry.specs.Omissions.{here, area_omissions, omissions};
 ghost use Rattle.geometry.specs.Paths.{of_parts};
 ghost use Rattle.geometry.specs.Pruning.{strokes};
 ghost use Rattle.junctions.specs.Gathering.{part_address};
 ghost use Rattle.lessened_topology.specs.Assembled.{layers_caused};
-ghost use Rattle.linework.specs.Linework.{feature_address};
-ghost use Rattle.topo_model.specs.Drops.{dropped_at, IsOwnCause, layer_drops, line_cause, long_refs, RefsOf, Tells};
+ghost use Rattle.topo_model.specs.Drops.{IsOwnCause, layer_drops, line_cause, long_refs, RefsOf, Tells};
 ghost use Rattle.topo_model.specs.Fates.{fates};
 
 use crate::causes::ReducedLines;
-use geojson_types::{Address, Cause, Dropped, Feature, Layer, Position, Ring, Shape};
+use arc_choice::{Place, add_here, add_part, hole_cause};
+use geojson_types::{Cause, Dropped, Feature, Layer, Position, Ring, Shape};
 use json_value::{Items, OwnText};
 use owned_values::Memory;
 use std::alloc::Global;
@@ -152,10 +152,10 @@ fn add_rings(
         return Ok(());
     };
     let outer_cause = own_cause(true, outer.as_slice(), lines, told);
-    add_part(alloc, place, 0, outer_cause, told)?;
+    tell_part(alloc, place, 0, outer_cause, told)?;
     for (number, hole) in holes.iter().enumerate() {
         let cause = own_cause(true, hole.as_slice(), lines, told);
-        add_part(
+        tell_part(
             alloc,
             place,
             number + 1,
@@ -180,7 +180,7 @@ fn add_lines(
 {
     for (number, line) in parts.iter().enumerate() {
         let cause = own_cause(false, line.as_slice(), lines, told);
-        add_part(alloc, place, number, cause, told)?;
+        tell_part(alloc, place, number, cause, told)?;
     }
     Ok(())
 }
@@ -198,7 +198,8 @@ fn add_line(
         (λ of. dropped_at place.now (here (line_cause lines.now.arcs of false line.now))) told.old told.new) }
 {
     let cause = own_cause(false, line, lines, told);
-    add_here(alloc, place, cause, told)
+    told.causes.push(cause)?;
+    add_here(alloc, place, cause, &mut told.dropped)
 }
 
 // Why a line or a ring is dropped for its own sake, if it is. Where it has enough positions from the first, its arc indexes are
@@ -216,27 +217,8 @@ fn own_cause(
     lines.own_cause(closed, positions, &mut told.next)
 }
 
-// Adds what becomes of what stands at this place.
-fn add_here(
-    alloc: Global,
-    place: &Place,
-    cause: Option<Cause>,
-    told: &mut Fates,
-) -> Result<(), Memory>
-    ensures causes { OnOk result (told.new.causes ≡ told.old.causes ++ cause ∷ []) }
-    ensures dropped { OnOk result (told.new.dropped ≡ told.old.dropped ++ dropped_at place.now (here cause)) }
-    ensures next { told.new.next ≡ told.old.next }
-{
-    told.causes.push(cause)?;
-    if let Some(cause) = cause {
-        let address = place.address(alloc)?;
-        told.dropped.push(Dropped { address, cause })?;
-    }
-    Ok(())
-}
-
 // Adds what becomes of the part with this number of what stands at this place.
-fn add_part(
+fn tell_part(
     alloc: Global,
     place: &Place,
     number: usize,
@@ -248,97 +230,5 @@ fn add_part(
     ensures next { told.new.next ≡ told.old.next }
 {
     told.causes.push(cause)?;
-    if let Some(cause) = cause {
-        let address = place.part(alloc, number)?;
-        told.dropped.push(Dropped { address, cause })?;
-    }
-    Ok(())
-}
-
-// Why a hole is dropped, if it is: for its own cause, or else because the outer ring is dropped.
-fn hole_cause(outer: Option<Cause>, hole: Option<Cause>) -> Option<Cause>
-    ensures { result ≡ inner_cause outer hole }
-{
-    match (outer, hole) {
-        (Some(_), None) => Some(Cause::Outer),
-        _ => hole,
-    }
-}
-
-// Where the walk is: an address whose path grows and shrinks.
-#[derive(Drop)]
-struct Place {
-    layer: usize,
-    feature: usize,
-    path: Vec<usize>,
-}
-
-impl Model for Place {
-    ghost Value = { declared.Address };
-
-    ghost view = { λ p. record { layer = p.layer; feature = p.feature; path = p.path.items } };
-}
-
-impl Place {
-    // The geometry of the first feature.
-    fn first(alloc: Global) -> Place
-        ensures { result ≡ feature_address 0 0 }
-    {
-        Place {
-            layer: 0,
-            feature: 0,
-            path: Vec::new(alloc),
-        }
-    }
-
-    // Goes to the geometry of a feature.
-    fn go_to(&mut self, layer: usize, feature: usize)
-        ensures { self.new ≡ feature_address layer feature }
-    {
-        self.layer = layer;
-        self.feature = feature;
-        self.path.clear();
-    }
-
-    // Goes to the part with this number.
-    fn enter(&mut self, number: usize) -> Result<(), Memory>
-        ensures { OnOk result (self.new ≡ part_address self.old number) }
-    {
-        self.path.push(number)?;
-        Ok(())
-    }
-
-    // Goes back from a part.
-    fn leave(&mut self)
-        ensures { (a : declared.Address) (i : ℕ) → self.old ≡ part_address a i → self.new ≡ a }
-    {
-        self.path.pop();
-    }
-
-    // The address of what stands here.
-    fn address(&self, alloc: Global) -> Result<Address, Memory>
-        ensures { IfOk result (λ a. a ≡ self.now) }
-    {
-        let mut path = Vec::with_capacity(alloc, self.path.len())?;
-        path.extend_from_slice(self.path.as_slice())?;
-        Ok(Address {
-            layer: self.layer,
-            feature: self.feature,
-            path: Items::of(path),
-        })
-    }
-
-    // The address of the part with this number.
-    fn part(&self, alloc: Global, number: usize) -> Result<Address, Memory>
-        ensures { IfOk result (λ a. a ≡ part_address self.now number) }
-    {
-        let mut path = Vec::with_capacity(alloc, self.path.len() + 1)?;
-        path.extend_from_slice(self.path.as_slice())?;
-        path.push(number)?;
-        Ok(Address {
-            layer: self.layer,
-            feature: self.feature,
-            path: Items::of(path),
-        })
-    }
+    add_part(alloc, place, number, cause, &mut told.dropped)
 }

@@ -12,7 +12,7 @@ use topojson_types::ArcRef;
 pub type KeptArcs = Option<Items<ArcRef>>;
 
 /// The same arc indexes once more.
-fn copied(alloc: Global, refs: &[ArcRef]) -> Result<Items<ArcRef>, Memory>
+pub fn copied(alloc: Global, refs: &[ArcRef]) -> Result<Items<ArcRef>, Memory>
     ensures { IfOk result (λ copy. copy ≡ refs.now) }
 {
     let mut copy = Vec::with_capacity(alloc, refs.len())?;

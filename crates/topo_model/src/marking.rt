@@ -1,29 +1,19 @@
 // Which arcs the kept lines and rings of layers use.
 ghost use Rattle.std.specs.Prelude.{◌≡◌, ◌&&◌, IfOk, length, nat_lt, not};
+ghost use Rattle.arc_choice.specs.Marks.{also_set};
+ghost use Rattle.arc_choice.specs.Uses.{answers};
 ghost use Rattle.topo_model.specs.Fates as fates;
 ghost use Rattle.topo_model.specs.Fates.{dealt_kept};
-ghost use Rattle.topo_model.specs.Marks.{also_set, any_names_arc, kept_names_arc, names_arc};
-ghost use Rattle.topo_model.specs.Uses.{answers};
+ghost use Rattle.topo_model.specs.Marks.{any_names_arc, kept_names_arc};
 
+use arc_choice::mark_refs;
 use arc_table::Table;
 use geojson_types::Cause;
 use owned_values::Memory;
 use std::alloc::Global;
 use topojson_types::ArcRef;
 
-/// Sets the flags of the arcs that the indexes name.
-fn mark_refs(refs: &[ArcRef], used: &mut [bool])
-    ensures { used.new ≡ also_set (names_arc refs.now) 0 used.old }
-{
-    'refs: for arc in refs {
-        let index = arc.index();
-        if index < used.len() {
-            used[index] = true;
-        }
-    }
-}
-
-/// The same of a line or ring with this fate, if it is kept.
+/// Sets the flags of the arcs that the indexes of a line or ring with this fate name, if it is kept.
 fn mark_line(fate: Option<Cause>, refs: &[ArcRef], used: &mut [bool])
     ensures { used.new ≡ also_set (kept_names_arc fate refs.now) 0 used.old }
 {

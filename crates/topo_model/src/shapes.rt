@@ -5,22 +5,12 @@ ghost use Rattle.geometry.specs.Pruning.{area_by, option_strokes, prune, strokes
 ghost use Rattle.topo_model.specs.Entries.{Replaces};
 
 use crate::entries::{KeptArcs, next_entries, next_entry};
-use geojson_types::{Geometry, Position, Ring, Shape};
+use arc_choice::cells;
+use geojson_types::{Geometry, Ring, Shape};
 use json_value::Items;
 use owned_values::Memory;
 use std::alloc::Global;
 use topojson_types::{ArcRef, Cell, TopoShape};
-
-/// The cells of positions.
-pub fn cells(alloc: Global, positions: &[Position]) -> Result<Items<Cell>, Memory>
-    ensures { IfOk result (λ cs. cs ≡ positions.now) }
-{
-    let mut read = Vec::with_capacity(alloc, positions.len())?;
-    'positions: for position in positions {
-        read.push(Cell::of(*position))?;
-    }
-    Ok(Items::of(read))
-}
 
 /// A polygon, which is left out with its outer ring.
 fn area<'a>(

@@ -1,10 +1,9 @@
 -- The topology that is put together is the one that is left.
 use Rattle.std.proofs.Common.{◌≡◌, ℕ, suc, zero, ◌-◌, ℤ, pos, Bool, List, [], ◌∷◌, map, length, Option, None, Some, refl, sym, ap, ◌∙◌, subst}
 use Rattle.std.specs.List.{AllByRecursion}
-use Rattle.arc_choice.specs.Ranks.{renumbered_by}
 use Rattle.arc_choice.specs.Uses.{answers, chosen}
-use Rattle.arc_choice.proofs.Chosen.{chosen_is}
-use Rattle.arc_choice.proofs.Ranked.{RanksOf, renumbered_same}
+use Rattle.arc_choice.proofs.Chosen.{chosen_as}
+use Rattle.arc_choice.proofs.Ranked.{RanksOf, all_renumbered}
 use Rattle.build_meaning.specs.Built.{positions_of}
 use Rattle.build_meaning.specs.Expected.{unless}
 use Rattle.build_meaning.specs.Trimming.{is_used, keep_from, rank_from, renumbered, line_renumbered, trimmed}
@@ -43,10 +42,6 @@ range_stays n arcs os h =
     objects_left (large_refs arcs) (InRange n) os
     (all_weaker (InRange n) (λ b. (m : List ℤ) → large_refs arcs b.0 b.1 ≡ Some m → InRange n (b.0, m)) (λ b r m e. same_range n b m (small_cause arcs b.0 b.1) r e) (objects_strokes os) h)
 
-refs_same : (ranks : List ℤ) (u : ℕ → Bool) (refs : List ℤ) → RanksOf ranks u → AreInRange (length ranks) refs → map (renumbered_by ranks) refs ≡ map (renumbered u) refs
-refs_same ranks u [] are h = refl
-refs_same ranks u (r ∷ refs) are h = ap (λ z. z ∷ map (renumbered_by ranks) refs) (renumbered_same ranks u r are h.0) ∙ ap (λ zs. renumbered u r ∷ zs) (refs_same ranks u refs are h.1)
-
 abbrev as_they_are : Refs
 as_they_are closed refs = Some refs
 
@@ -54,7 +49,7 @@ objects_ranked : (ranks : List ℤ) (u : ℕ → Bool) (os : Objects) → RanksO
 objects_ranked ranks u os are h =
     sym (objects_then as_they_are (ranked_refs ranks) (ranked_refs ranks) os (all_hold (λ b. ranked_refs ranks b.0 b.1 ≡ ranked_refs ranks b.0 b.1) (λ b. refl) (objects_strokes os)))
     ∙ objects_then as_they_are (ranked_refs ranks) (line_renumbered u) os
-    (all_weaker (InRange (length ranks)) (λ b. ranked_refs ranks b.0 b.1 ≡ line_renumbered u b.0 b.1) (λ b r. ap (λ z. Some z) (refs_same ranks u b.1 are r)) (objects_strokes os) h)
+    (all_weaker (InRange (length ranks)) (λ b. ranked_refs ranks b.0 b.1 ≡ line_renumbered u b.0 b.1) (λ b r. ap (λ z. Some z) (all_renumbered ranks u b.1 are r)) (objects_strokes os) h)
 
 -- ---- the topology
 
@@ -105,10 +100,10 @@ module _ (kept : List (List ℕ)) (y : Contents) (picked : List (List Point)) (w
       (range_stays (length ranks) (placed_arcs y.transform picked) y.objects (subst (λ k. AllByRecursion (InRange k) (objects_strokes y.objects)) n s.valid.ranged)))
 
   arcs_are : chosen used picked ≡ keep_from u 0 picked
-  arcs_are = ap (λ bs. chosen bs picked) s.used_is ∙ chosen_is u 0 picked
+  arcs_are = chosen_as u (length picked) used picked s.used_is refl
 
   before_are : chosen used y.arcs ≡ keep_from u 0 y.arcs
-  before_are = ap (λ bs. chosen bs y.arcs) (s.used_is ∙ ap (answers u 0) long) ∙ chosen_is u 0 y.arcs
+  before_are = chosen_as u (length picked) used y.arcs s.used_is long
 
   is_trimmed : trimmed (contents whole picked y.transform) ≡ contents (objects_pruned (line_renumbered u) whole) (keep_from u 0 picked) y.transform
   unfolding trimmed

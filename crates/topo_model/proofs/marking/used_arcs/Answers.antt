@@ -1,9 +1,11 @@
 use Rattle.std.proofs.Common.{◌≡◌, false, length, replicate, ap, refl, ◌∙◌}
 use Rattle.std.proofs.lemmas.List.{length-replicate}
+use Rattle.arc_choice.specs.Marks.{also_set}
+use Rattle.arc_choice.proofs.Marked.{cleared, written_back}
 use Rattle.topo_model.specs.Fates.{dealt_kept}
-use Rattle.topo_model.specs.Marks.{also_set, any_names_arc}
+use Rattle.topo_model.specs.Marks.{any_names_arc}
 use Rattle.topo_model.proofs.Dealt.{tested}
-use Rattle.topo_model.proofs.Marked.{cleared, line_passed, line_marked, all_set, written_back}
+use Rattle.topo_model.proofs.Marked.{line_passed, line_marked, all_set}
 use Rattle.topo_model.proofs.marking.used_arcs.Goals as goal
 
 pub fates-init : goal.fates-init

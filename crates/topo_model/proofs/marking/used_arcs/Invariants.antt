@@ -1,6 +1,7 @@
 use Rattle.std.proofs.Common.{◌≡◌, false, length, replicate}
+use Rattle.arc_choice.specs.Marks.{also_set}
 use Rattle.topo_model.specs.Fates.{dealt_kept}
-use Rattle.topo_model.specs.Marks.{also_set, any_names_arc}
+use Rattle.topo_model.specs.Marks.{any_names_arc}
 use Rattle.topo_model.proofs.Marked.{Sets}
 use Rattle.topo_model.proofs.marking.used_arcs.Given as goal
 

@@ -1,8 +1,8 @@
 use Rattle.std.proofs.Common.{[], ◌∷◌, ◌++◌, ap, length, ◌≡◌, ◌∙◌, refl, sym, pos}
 use Rattle.build_meaning.specs.Trimming.{rank_from}
 use Rattle.topo_model.specs.Fates.{entry_by}
-use Rattle.topo_model.specs.Uses.{answers}
-use Rattle.topo_model.proofs.Ranked.{RanksOf}
+use Rattle.arc_choice.specs.Uses.{answers}
+use Rattle.arc_choice.proofs.Ranked.{RanksOf}
 use Rattle.topo_model.proofs.Dealt.{entry_none, entry_some, entries_all, nothing_by, tested}
 use Rattle.topo_model.proofs.trimming.renumbered_entries.Goals as goal
 

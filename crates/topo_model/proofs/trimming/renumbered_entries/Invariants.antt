@@ -1,6 +1,6 @@
 use Rattle.std.proofs.Common.{◌≡◌, ℕ, Bool, ◌++◌, length, map, drop}
 use Rattle.topo_model.specs.Fates.{dealt, entry_by}
-use Rattle.topo_model.specs.Uses.{answers}
+use Rattle.arc_choice.specs.Uses.{answers}
 use Rattle.topo_model.proofs.trimming.renumbered_entries.Given as goal
 
 abbrev pub invariant-fates : goal.invariant-fates

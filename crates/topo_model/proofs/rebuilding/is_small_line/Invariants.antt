@@ -1,7 +1,0 @@
-use Rattle.std.proofs.Common.{None, drop, map}
-use Rattle.geometry.specs.Joins.{arc_at, rejoined}
-use Rattle.topo_model.proofs.Passed.{Open, need, later_left}
-use Rattle.topo_model.proofs.rebuilding.is_small_line.Given as goal
-
-abbrev pub invariant-later : goal.invariant-later
-invariant-later l = Open (later_left l.arcs (drop l.index-index l.later)) (rejoined (map (arc_at l.arcs) l.refs)) (need None l.enough) l.need

@@ -1,5 +1,0 @@
-use Rattle.topo_model.proofs.Ranked.{Ranked}
-use Rattle.topo_model.proofs.trimming.ranks.Given as goal
-
-abbrev pub invariant-arcs : goal.invariant-arcs
-invariant-arcs l = Ranked l.used l.flag-index l.rank l.ranks.items

@@ -1,4 +1,5 @@
 pub mod Chosen
+pub mod Kept
 pub mod Marked
 pub mod Passed
 pub mod Ranked

@@ -1,11 +1,8 @@
 -- What is made of layers, of the table of their arcs and of the positions of each arc that are kept is what is assembled of them.
 use Rattle.std.proofs.Common.{◌≡◌, ℕ, suc, ◌-◌, not, ℤ, Bool, true, false, cond, ◌||◌, List, [], ◌∷◌, map, length, Option, None, Some, refl, sym, ap, ◌∙◌}
-use Rattle.std.proofs.lemmas.List.{length-map}
 use Rattle.std.specs.List.{list_any}
+use Rattle.std.proofs.Math.Path.{fun_ext}
 use Rattle.arc_choice.specs.Marks.{names_arc}
-use Rattle.arc_choice.specs.Uses.{answers, chosen}
-use Rattle.arc_choice.proofs.Chosen.{chosen_as}
-use Rattle.arc_choice.proofs.Ranked.{answers_same}
 use Rattle.arc_table.specs.Arcs.{ArcsAndIndexes, arcs_of, index_in, table_of}
 use Rattle.build_meaning.specs.Built.{all_arcs, untrimmed, positions_of}
 use Rattle.build_meaning.specs.Candidates.{Candidate, fate, if_kept, named_candidates}
@@ -33,13 +30,12 @@ use Rattle.junctions.specs.declared.stroke.Stroke.{Stroke}
 use Rattle.lessened_topology.specs.Assembled.{arcs_of_layers, own_refs, layers_caused, assembled, assembled_dropped, assembled_taken_out}
 use Rattle.lessened_topology.specs.Lessened.{picked_arcs, picked_whole, lessened_by, taken_out_by, EachFromFirstToLast}
 use Rattle.lessened_topology.proofs.Assembled.{contents, kept_by, before_trimming}
-use Rattle.lessened_topology.proofs.ValidPicked.{picked_length}
 use Rattle.linework.specs.Linework.{linework}
 use Rattle.topojson_types.specs.declared.object.TopoObject.{TopoObject}
 use Rattle.topo_model.specs.Drops.{RefsOf, line_cause, long_refs}
 use Rattle.topo_model.specs.Entries.{Entries, entries_of}
-use Rattle.topo_model.specs.Fates.{fates, dealt, dealt_kept, entry_by}
-use Rattle.topo_model.specs.Marks.{any_names_arc}
+use Rattle.topo_model.specs.Fates.{fates, dealt, entry_by}
+use Rattle.topo_model.specs.Marks.{any_names_arc, used_by}
 
 -- ---- the table
 
@@ -144,14 +140,11 @@ module _ (arcs : List (List Point)) (of : RefsOf) where
 -- ---- lists of numbers
 
 -- a list for each arc
-pub as_many : (kept : List (List ℕ)) (arcs : List (List Point)) → EachFromFirstToLast kept arcs → length kept ≡ length arcs
-as_many [] [] h = refl
-as_many [] (a ∷ arcs) h = absurd h
-as_many (is ∷ kept) [] h = absurd h
-as_many (is ∷ kept) (a ∷ arcs) h = ap (λ n. suc n) (as_many kept arcs h.1)
-
-pub as_many_lists : {X : Type 0} (f : X → List ℕ) (kept : List X) (arcs : List (List Point)) → EachFromFirstToLast (map f kept) arcs → length kept ≡ length arcs
-as_many_lists f kept arcs h = sym (length-map kept f) ∙ as_many (map f kept) arcs h
+pub as_many : {K : Type 0} (numbers : K → List ℕ) (ks : List K) (arcs : List (List Point)) → EachFromFirstToLast (map numbers ks) arcs → length ks ≡ length arcs
+as_many numbers [] [] h = refl
+as_many numbers [] (a ∷ arcs) h = absurd h
+as_many numbers (k ∷ ks) [] h = absurd h
+as_many numbers (k ∷ ks) (a ∷ arcs) h = ap (λ n. suc n) (as_many numbers ks arcs h.1)
 
 -- ---- the topology
 
@@ -183,12 +176,11 @@ module _ (kept : List (List ℕ)) (ls : Named) (t : ArcsAndIndexes) (is : IsTabl
       ap (dealt (fates (line_cause fewer of) all)) (table_refs ls t is ∙ ap (long_refs of) (sym (named_are (line_cause fewer of true) ls)))
       ∙ dealt_all fewer of all
 
-  -- the flags of the arcs are set for those that are used
-  pub flags_used : (fs : List (Option Cause)) (flags : List Bool) → fs ≡ fates (line_cause fewer of) all → flags ≡ answers (any_names_arc (dealt_kept fs t.refs)) 0 (length t.arcs) → flags ≡ answers used 0 (length t.arcs)
-  flags_used fs flags of_fates of_flags =
-      of_flags ∙ answers_same (any_names_arc (dealt_kept fs t.refs)) used (λ i.
+  -- the arcs that kept lines and rings use
+  used_are : (fs : List (Option Cause)) → fs ≡ fates (line_cause fewer of) all → used_by fs t.refs ≡ used
+  used_are fs of_fates = fun_ext (λ i.
       ap (λ (ds : List Deal). any_names_arc (some_of (λ (d : Deal). if_kept d.0 d.1) ds) i) (ap (λ gs. dealt gs t.refs) of_fates ∙ table_dealt) ∙ kept_arcs_named fewer of i all
-      ∙ ap (list_any (λ (b : Bool × List ℤ). names_arc b.1 i)) (sym (objects_left (line_cause fewer of) of ls))) 0 (length t.arcs)
+      ∙ ap (list_any (λ (b : Bool × List ℤ). names_arc b.1 i)) (sym (objects_left (line_cause fewer of) of ls)))
 
   -- what is told of the lines and rings, over the arcs and by the indexes that were given
   pub causes_are : (fs : List (Option Cause)) (arcs : List (List Point)) (refs : List (List ℤ)) → arcs ≡ fewer → refs ≡ t.refs
@@ -202,34 +194,31 @@ module _ (kept : List (List ℕ)) (ls : Named) (t : ArcsAndIndexes) (is : IsTabl
   drops_are ds arcs refs same_arcs same_refs told =
       told of (same_refs ∙ table_refs ls t is) ∙ ap (λ a. layers_caused (line_cause a of) ls) (same_arcs ∙ sym same_fewer)
 
-  -- the arcs that are kept
-  pub arcs_are : (flags : List Bool) (arcs : List (List Point)) → EachFromFirstToLast kept t.arcs → flags ≡ answers used 0 (length t.arcs) → arcs ≡ fewer → chosen flags arcs ≡ keep_from used 0 fewer
-  arcs_are flags arcs through marked same = ap (chosen flags) same ∙ chosen_as used (length t.arcs) flags fewer marked (sym (picked_length kept t.arcs through))
-
-  -- What the steps say of the entries with new indexes, of the arcs that are kept, and of the objects.
-  pub is_assembled : ZeroLaw → AreSound ls → (fs : List (Option Cause)) (flags : List Bool) (entries : Entries) (arcs : List (List Point)) (objects : List (List ℕ × TopoObject))
+  -- What the steps say of the fates, of the entries with new indexes, of the arcs that are kept, and of the objects.
+  pub is_assembled : ZeroLaw → AreSound ls → (fs : List (Option Cause)) (picked : List (List Point)) (entries : Entries) (arcs : List (List Point)) (objects : List (List ℕ × TopoObject))
       → fs ≡ fates (line_cause fewer of) all
-      → flags ≡ answers used 0 (length t.arcs)
-      → ((u : ℕ → Bool) → flags ≡ answers u 0 (length t.arcs) → entries ≡ map (entry_by u) (dealt fs t.refs))
-      → arcs ≡ keep_from used 0 fewer
+      → picked ≡ fewer
+      → entries ≡ map (entry_by (used_by fs t.refs)) (dealt fs t.refs)
+      → arcs ≡ keep_from (used_by fs t.refs) 0 picked
       → ((kept : Kept) → entries ≡ entries_of kept (named_strokes ls) → objects ≡ objects_by kept ls)
       → assembled kept ls ≡ contents objects arcs
   unfolding assembled lessened_by trimmed
-  is_assembled zero sound fs flags entries arcs objects of_fates marked of_entries of_arcs of_objects =
+  is_assembled zero sound fs picked entries arcs objects of_fates of_picked of_entries of_arcs of_objects =
       let each : Kept = kept_by (lines_of ls) fewer in
       let deal : dealt fs t.refs ≡ map (part fewer of) all = ap (λ gs. dealt gs t.refs) of_fates ∙ table_dealt in
+      let stay : arcs ≡ keep_from used 0 fewer = of_arcs ∙ ap (λ u. keep_from u 0 picked) (used_are fs of_fates) ∙ ap (keep_from used 0) of_picked in
       let made : objects ≡ map (λ o. (o.0, object_renumbered used o.1)) whole =
-      of_objects (kept_renumbered used each) (of_entries used marked ∙ ap (map (entry_by used)) deal
+      of_objects (kept_renumbered used each) (of_entries ∙ ap (λ u. map (entry_by u) (dealt fs t.refs)) (used_are fs of_fates) ∙ ap (map (entry_by used)) deal
       ∙ entries_renumbered fewer of used all ∙ ap (entries_of (kept_renumbered used each)) (named_are (line_cause fewer of true) ls))
       ∙ sym (objects_once used each ls) in
-      ap trimmed (left_whole zero sound) ∙ sym (ap (λ os. contents os arcs) made ∙ ap (contents (map (λ o. (o.0, object_renumbered used o.1)) whole)) of_arcs)
+      ap trimmed (left_whole zero sound) ∙ sym (ap (λ os. contents os arcs) made ∙ ap (contents (map (λ o. (o.0, object_renumbered used o.1)) whole)) stay)
 
   -- how many positions are taken out
-  pub is_taken_out : ZeroLaw → AreSound ls → (flags : List Bool) (before after : ℕ) → flags ≡ answers used 0 (length t.arcs) → before ≡ positions_of (chosen flags t.arcs) → after ≡ positions_of (keep_from used 0 fewer)
-      → before - after ≡ assembled_taken_out kept ls
+  pub is_taken_out : ZeroLaw → AreSound ls → (fs : List (Option Cause)) (picked : List (List Point)) → fs ≡ fates (line_cause fewer of) all → picked ≡ fewer
+      → positions_of (keep_from (used_by fs t.refs) 0 t.arcs) - positions_of (keep_from (used_by fs t.refs) 0 picked) ≡ assembled_taken_out kept ls
   unfolding assembled_taken_out taken_out_by lessened_by trimmed
-  is_taken_out zero sound flags before after marked of_before of_after =
-      ap (λ n. n - after)
-      (of_before ∙ ap positions_of (chosen_as used (length t.arcs) flags t.arcs marked refl) ∙ ap (λ xs. positions_of (keep_from used 0 xs)) (table_arcs ls t is ∙ sym (each_stays zero (arcs_of_layers ls))))
-      ∙ ap (λ n. positions_of (keep_from used 0 (untrimmed 0 ls).arcs) - n) of_after
+  is_taken_out zero sound fs picked of_fates of_picked =
+      ap (λ u. positions_of (keep_from u 0 t.arcs) - positions_of (keep_from u 0 picked)) (used_are fs of_fates)
+      ∙ ap (λ arcs. positions_of (keep_from used 0 t.arcs) - positions_of (keep_from used 0 arcs)) of_picked
+      ∙ ap (λ arcs. positions_of (keep_from used 0 arcs) - positions_of (keep_from used 0 fewer)) (table_arcs ls t is ∙ sym (each_stays zero (arcs_of_layers ls)))
       ∙ sym (ap (λ y. positions_of (keep_from (is_used y.objects) 0 (untrimmed 0 ls).arcs) - positions_of (trimmed y).arcs) (left_whole zero sound))

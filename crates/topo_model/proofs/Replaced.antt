@@ -1,5 +1,6 @@
 -- What replacing the lines of a part of a shape says of the shape.
-use Rattle.std.proofs.Common.{◌≡◌, ℕ, ◌≤◌, ℤ, Bool, true, false, List, [], ◌∷◌, ◌++◌, map, length, Option, None, Some, refl, sym, ap, ◌∙◌, arith}
+use Rattle.std.proofs.Common.{◌≡◌, ℕ, ◌≤◌, ℤ, Bool, true, false, List, [], ◌∷◌, ◌++◌, map, length, Option, None, Some, refl, sym, ap, ◌∙◌}
+use Rattle.std.proofs.lemmas.List.{map-id}
 use Rattle.geometry.specs.declared.shape.Geometry.TheVariants as g
 use Rattle.geojson_types.specs.Features.{Shape}
 use Rattle.geometry.specs.Lists.{map_some, then_some, some_of, unless_empty, joined}
@@ -35,13 +36,9 @@ pub at_point : (s : Shape) (p q : Point) (entries : Entries) → s ≡ g.Point p
 at_point s p q entries e is kept tail h =
     (ap (λ z. Some (g.Point z)) is ∙ sym (ap (pruned kept) e ∙ prune-point (λ p. p) kept p), h ∙ ap (λ zs. entries_of kept zs ++ tail) (ap strokes e ∙ strokes-point Point (List Point) p))
 
-map_same : (ps : List Point) → map (λ p. p) ps ≡ ps
-map_same [] = refl
-map_same (p ∷ ps) = ap (λ qs. p ∷ qs) (map_same ps)
-
 pub at_points : (s : Shape) (ps qs : List Point) (entries : Entries) → s ≡ g.MultiPoint ps → qs ≡ ps → Shaped s entries (Some (g.MultiPoint qs)) entries
 at_points s ps qs entries e is kept tail h =
-    (ap (λ z. Some (g.MultiPoint z)) (is ∙ sym (map_same ps)) ∙ sym (ap (pruned kept) e ∙ prune-points (λ p. p) kept ps), h ∙ ap (λ zs. entries_of kept zs ++ tail) (ap strokes e ∙ strokes-points Point (List Point) ps))
+    (ap (λ z. Some (g.MultiPoint z)) (is ∙ sym (map-id ps)) ∙ sym (ap (pruned kept) e ∙ prune-points (λ p. p) kept ps), h ∙ ap (λ zs. entries_of kept zs ++ tail) (ap strokes e ∙ strokes-points Point (List Point) ps))
 
 pub at_line : (s : Shape) (l : List Point) (entries rest : Entries) (o : Option (List ℤ)) (out : Out) → s ≡ g.Line l → Taken false l entries o rest → out ≡ map_some g.Line o → Shaped s entries out rest
 at_line s l entries rest o out e r is =
@@ -76,15 +73,6 @@ at_group s ss i entries rest got made e le so_far m =
     again s (joined (map strokes ss)) (λ kept. some_of (pruned kept) ss) (λ ts. Some (g.Group ts)) entries rest made (ap strokes e ∙ strokes-group Point (List Point) ss)
     (λ kept. ap (pruned kept) e ∙ prune-group (λ p. p) kept ss)
     (rw m (ends strokes (λ kept. prune (λ p. p) kept) ss i entries got rest le so_far))
-
--- nothing is left of it
-pub none_of : {A B : Type 0} (make : List A → B) (got : List A) → length got ≡ 0 → unless_empty make got ≡ None
-none_of make [] h = refl
-none_of make (x ∷ xs) h = absurd (omega (arith, h))
-
-pub some_left : {A B : Type 0} (make : List A → B) (got : List A) (made : List A) → (length got ≡ 0 → ⊥) → made ≡ got → unless_empty make got ≡ Some (make made)
-some_left make [] made h e = absurd (h refl)
-some_left make (x ∷ xs) made h e = ap (λ z. Some (make z)) (sym e)
 
 pub null_stays : (s : Option Shape) (entries : Entries) → s ≡ None → Replaces (option_strokes s) (λ kept. then_some (prune (λ p. p) kept) s) entries None entries
 null_stays None entries e kept tail h = (refl, h)

@@ -13,10 +13,10 @@ use Rattle.list_laws.proofs.Lists.{joined_append}
 
 -- ---- lists
 
-pub is_empty : (b : Bool) (n m : ℕ) → b ≡ (n == 0) → n ≡ m → b ≡ true → m ≡ 0
+is_empty : (b : Bool) (n m : ℕ) → b ≡ (n == 0) → n ≡ m → b ≡ true → m ≡ 0
 is_empty b n m e k h = grind (arith, nat_tests)
 
-pub not_zero : (b : Bool) (n m : ℕ) → b ≡ (n == 0) → n ≡ m → b ≡ false → m ≡ 0 → ⊥
+not_zero : (b : Bool) (n m : ℕ) → b ≡ (n == 0) → n ≡ m → b ≡ false → m ≡ 0 → ⊥
 not_zero b n m e k h z = grind (arith, nat_tests)
 
 -- ---- one line

@@ -1,5 +1,4 @@
 -- What is told of lines and rings, part by part, feature by feature and layer by layer.
-use Rattle.std.specs.Prelude.{Result, Ok, Err, OnOk}
 use Rattle.std.proofs.Common.{slice_get, None, Some, ◌≡◌, ℕ, ℤ, suc, ◌+◌, ◌<◌, ◌≤◌, Bool, true, false, cond, List, [], ◌∷◌, ◌++◌, map, drop, length, Option, get_or, append_assoc, append-nil, refl, ap, sym, ◌∙◌, subst, arith}
 use Rattle.std.proofs.lemmas.List.{drop_all, drop_more, map-append}
 use Rattle.std.proofs.lemmas.Option.{slice_get_within, get_or_from_slice_get}
@@ -245,11 +244,6 @@ TellsRings refs arcs a rs old new =
     Tells refs (map (λ l. (true, l)) rs) (λ of. fates (line_cause arcs of) (area_candidates (line_cause arcs of true) rs)) (λ of. dropped_at a (area_omissions (line_cause arcs of true) rs)) old new
 
 -- ---- shapes, by their kind
-
--- what holds on success
-pub on_ok : {T E P Q : Type 0} (r : Result T E) → (P → Q) → OnOk r P → OnOk r Q
-on_ok (Ok v) f h = f h
-on_ok (Err e) f h = h
 
 abbrev pub TellsShape : List (List ℤ) → List (List Point) → Address → Shape → Told → Told → Type 0
 TellsShape refs arcs a s old new =

@@ -16,11 +16,9 @@ ghost use Rattle.topo_model.specs.Entries.{Replaces, entries_of};
 use crate::causes::ReducedLines;
 use crate::dropping::fates_of;
 use crate::entries::KeptArcs;
-use crate::marking::used_arcs;
 use crate::picking::picked_cells_of_all;
 use crate::shapes::replaced_option;
-use crate::trimming::renumbered_entries;
-use arc_choice::{kept_arcs, taken_out, used_positions};
+use crate::trimming::without_unused;
 use arc_table::Table;
 use elimination_meaning::zero_law;
 use geojson_types::{Dropped, Feature, Layer};
@@ -125,13 +123,9 @@ fn objects_and_arcs(
     let picked = picked_cells_of_all(alloc, kept, table)?;
     let lines = ReducedLines::over(table, &picked);
     let (causes, dropped) = fates_of(alloc, &layers, &lines)?;
-    let used = used_arcs(alloc, &causes, table)?;
-    let entries = renumbered_entries(alloc, &causes, table, &used)?;
-    let before = used_positions(table.arcs(), &used);
-    let after = used_positions(&picked, &used);
-    let arcs = kept_arcs(alloc, picked, &used)?;
+    let (entries, arcs, taken) = without_unused(alloc, &causes, table, picked)?;
     let objects = assemble_objects(alloc, layers, &entries)?;
-    Ok((objects, arcs, dropped, taken_out(before, after)))
+    Ok((objects, arcs, dropped, taken))
 }
 
 /// The topology of named layers over the arcs of their lines, where of each arc the positions with these numbers are kept: a list

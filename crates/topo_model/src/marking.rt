@@ -3,8 +3,7 @@ ghost use Rattle.std.specs.Prelude.{◌≡◌, ◌&&◌, IfOk, length, nat_lt, n
 ghost use Rattle.arc_choice.specs.Marks.{also_set};
 ghost use Rattle.arc_choice.specs.Uses.{answers};
 ghost use Rattle.topo_model.specs.Fates as fates;
-ghost use Rattle.topo_model.specs.Fates.{dealt_kept};
-ghost use Rattle.topo_model.specs.Marks.{any_names_arc, kept_names_arc};
+ghost use Rattle.topo_model.specs.Marks.{kept_names_arc, used_by};
 
 use arc_choice::mark_refs;
 use arc_table::Table;
@@ -36,7 +35,7 @@ pub fn has_line(fate: Option<Cause>, next: usize, lines: usize) -> bool
 pub fn used_arcs(alloc: Global, fates: &[Option<Cause>], table: &Table) -> Result<Vec<bool>, Memory>
     ensures many { IfOk result (λ flags. length flags.items ≡ length table.now.arcs) }
     ensures used { IfOk result
-        (λ flags. flags.items ≡ answers (any_names_arc (dealt_kept fates.now table.now.refs)) 0 (length table.now.arcs)) }
+        (λ flags. flags.items ≡ answers (used_by fates.now table.now.refs) 0 (length table.now.arcs)) }
 {
     let mut used = vec![in alloc; false; table.len()]?;
     let mut next: usize = 0;

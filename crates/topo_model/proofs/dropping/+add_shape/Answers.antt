@@ -1,6 +1,7 @@
 use Rattle.std.proofs.Common.{◌≡◌, ap, refl, subst, ◌∙◌}
+use Rattle.std.proofs.lemmas.Result.{on_ok_weaker}
 use Rattle.junctions.specs.Gathering.{part_address}
-use Rattle.topo_model.proofs.Told.{TellsLine, TellsRings, TellsAll, TellsShape, line_parts, area_parts, shape_parts, told_all, told_more, on_ok, at_point, at_points, at_line, at_lines, at_area, at_areas, at_group}
+use Rattle.topo_model.proofs.Told.{TellsLine, TellsRings, TellsAll, TellsShape, line_parts, area_parts, shape_parts, told_all, told_more, at_point, at_points, at_line, at_lines, at_area, at_areas, at_group}
 use Rattle.topo_model.proofs.dropping.+add_shape.Goals as goal
 
 pub shapes-preserved : goal.shapes-preserved
@@ -21,28 +22,28 @@ returns-in-MultiPoint-clause-told t c = at_points c.args.lines.now.refs c.args.l
 
 pub returns-in-Line-clause-told : goal.returns-in-Line-clause-told
 returns-in-Line-clause-told t c =
-    on_ok c.add_line.result
+    on_ok_weaker c.add_line.result
     (λ k. at_line c.args.lines.now.refs c.args.lines.now.arcs c.args.place.now c.args.shape.now c.args.told.now c.add_line.new.told c.in-Line.line c.in-Line.is
     (subst (λ x. TellsLine c.args.lines.now.refs c.args.lines.now.arcs c.args.place.now x c.args.told.now c.add_line.new.told) c.as_slice.ensures k))
     c.add_line.ensures
 
 pub returns-in-Lines-clause-told : goal.returns-in-Lines-clause-told
 returns-in-Lines-clause-told t c =
-    on_ok c.add_lines.result
+    on_ok_weaker c.add_lines.result
     (λ k. at_lines c.args.lines.now.refs c.args.lines.now.arcs c.args.place.now c.args.shape.now c.args.told.now c.add_lines.new.told c.in-Lines.parts c.in-Lines.is
     (subst (λ x. TellsAll (line_parts c.args.lines.now.arcs c.args.place.now) c.args.lines.now.refs 0 x c.args.told.now c.add_lines.new.told) c.as_slice-in-Lines.ensures k))
     c.add_lines.ensures
 
 pub returns-in-Area-clause-told : goal.returns-in-Area-clause-told
 returns-in-Area-clause-told t c =
-    on_ok c.add_rings.result
+    on_ok_weaker c.add_rings.result
     (λ k. at_area c.args.lines.now.refs c.args.lines.now.arcs c.args.place.now c.args.shape.now c.args.told.now c.add_rings.new.told c.in-Area.rings c.in-Area.is
     (subst (λ x. TellsRings c.args.lines.now.refs c.args.lines.now.arcs c.args.place.now x c.args.told.now c.add_rings.new.told) c.as_slice-in-Area.ensures k))
     c.add_rings.ensures
 
 pub returns-in-Areas-clause-told : goal.returns-in-Areas-clause-told
 returns-in-Areas-clause-told t c =
-    on_ok c.add_areas.result
+    on_ok_weaker c.add_areas.result
     (λ k. at_areas c.args.lines.now.refs c.args.lines.now.arcs c.args.place.now c.args.shape.now c.args.told.now c.add_areas.new.told c.in-Areas.areas c.in-Areas.is
     (subst (λ x. TellsAll (area_parts c.args.lines.now.arcs c.args.place.now) c.args.lines.now.refs 0 x c.args.told.now c.add_areas.new.told) c.as_slice-in-Areas.ensures k))
     c.add_areas.ensures.told

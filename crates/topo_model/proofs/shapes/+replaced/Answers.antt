@@ -1,20 +1,21 @@
 use Rattle.std.proofs.Common.{false, sym, ap, ◌∙◌, append-nil, [], ◌++◌}
+use Rattle.arc_choice.proofs.Kept.{empty_left, some_left}
 use Rattle.geometry.specs.declared.shape.Geometry.TheVariants as g
 use Rattle.geometry.specs.Lists.{map_some, with_some}
 use Rattle.geometry.specs.Pruning.{prune, strokes}
 use Rattle.topo_model.proofs.Replaced as replaced
-use Rattle.topo_model.proofs.Taking.{turn, is_empty, many_taken, not_zero, one_taken}
+use Rattle.topo_model.proofs.Taking.{turn, many_taken, one_taken}
 use Rattle.topo_model.proofs.shapes.+replaced.Goals as goal
 
 pub returns-then-is_empty : goal.returns-then-is_empty
 returns-then-is_empty t c =
     replaced.at_lines c.args.shape.now c.in-Lines.lines c.args.entries.now c.in_ok-kept-in-Lines.rest.now c.in_ok-kept-in-Lines.kept.items _ c.in-Lines.is
-    (many_taken false c.in-Lines.lines c.args.entries.now c.in_ok-kept-in-Lines.kept.items c.in_ok-kept-in-Lines.rest.now (rw c.len.ensures at c.in_ok-kept-in-Lines.ensures.kept) (rw c.len.ensures at c.in_ok-kept-in-Lines.ensures.rest)) (sym (replaced.none_of g.Lines c.in_ok-kept-in-Lines.kept.items (is_empty _ _ _ c.is_empty.ensures c.in_ok-kept-in-Lines.kept.ok.0 c.if-is_empty.true)))
+    (many_taken false c.in-Lines.lines c.args.entries.now c.in_ok-kept-in-Lines.kept.items c.in_ok-kept-in-Lines.rest.now (rw c.len.ensures at c.in_ok-kept-in-Lines.ensures.kept) (rw c.len.ensures at c.in_ok-kept-in-Lines.ensures.rest)) (empty_left g.Lines c.in_ok-kept-in-Lines.kept.items _ _ c.is_empty.ensures c.in_ok-kept-in-Lines.kept.ok.0 c.if-is_empty.true)
 
 pub returns-then-is_empty-2 : goal.returns-then-is_empty-2
 returns-then-is_empty-2 t c =
     replaced.at_areas c.args.shape.now c.in-Areas.polygons c.args.entries.now c.in_ok-kept-in-Areas.rest.now c.in_ok-kept-in-Areas.kept.items _ c.in-Areas.is (rw c.as_slice-in-Areas.ensures at c.in_ok-kept-in-Areas.ensures)
-    (sym (replaced.none_of g.Areas c.in_ok-kept-in-Areas.kept.items (is_empty _ _ _ c.is_empty-in-Areas.ensures c.in_ok-kept-in-Areas.kept.ok.0 c.if-is_empty-2.true)))
+    (empty_left g.Areas c.in_ok-kept-in-Areas.kept.items _ _ c.is_empty-in-Areas.ensures c.in_ok-kept-in-Areas.kept.ok.0 c.if-is_empty-2.true)
 
 pub shapes-preserved-in_default : goal.shapes-preserved-in_default
 shapes-preserved-in_default t c =
@@ -46,7 +47,7 @@ returns-in-Some t c =
 pub returns-else-is_empty : goal.returns-else-is_empty
 returns-else-is_empty t c =
     replaced.at_lines c.args.shape.now c.in-Lines.lines c.args.entries.now c.in_ok-kept-in-Lines.rest.now c.in_ok-kept-in-Lines.kept.items _ c.in-Lines.is
-    (many_taken false c.in-Lines.lines c.args.entries.now c.in_ok-kept-in-Lines.kept.items c.in_ok-kept-in-Lines.rest.now (rw c.len.ensures at c.in_ok-kept-in-Lines.ensures.kept) (rw c.len.ensures at c.in_ok-kept-in-Lines.ensures.rest)) (sym (replaced.some_left g.Lines c.in_ok-kept-in-Lines.kept.items c.of-in-Lines.result (not_zero _ _ _ c.is_empty.ensures c.in_ok-kept-in-Lines.kept.ok.0 c.if-is_empty.false) c.of-in-Lines.ensures))
+    (many_taken false c.in-Lines.lines c.args.entries.now c.in_ok-kept-in-Lines.kept.items c.in_ok-kept-in-Lines.rest.now (rw c.len.ensures at c.in_ok-kept-in-Lines.ensures.kept) (rw c.len.ensures at c.in_ok-kept-in-Lines.ensures.rest)) (some_left g.Lines c.in_ok-kept-in-Lines.kept.items c.of-in-Lines.result _ _ c.is_empty.ensures c.in_ok-kept-in-Lines.kept.ok.0 c.if-is_empty.false c.of-in-Lines.ensures)
 
 pub returns-in-None-kept : goal.returns-in-None-kept
 returns-in-None-kept t c =
@@ -61,7 +62,7 @@ returns-in-Some-kept t c =
 pub returns-else-is_empty-2 : goal.returns-else-is_empty-2
 returns-else-is_empty-2 t c =
     replaced.at_areas c.args.shape.now c.in-Areas.polygons c.args.entries.now c.in_ok-kept-in-Areas.rest.now c.in_ok-kept-in-Areas.kept.items _ c.in-Areas.is (rw c.as_slice-in-Areas.ensures at c.in_ok-kept-in-Areas.ensures)
-    (sym (replaced.some_left g.Areas c.in_ok-kept-in-Areas.kept.items c.of-in-Areas.result (not_zero _ _ _ c.is_empty-in-Areas.ensures c.in_ok-kept-in-Areas.kept.ok.0 c.if-is_empty-2.false) c.of-in-Areas.ensures))
+    (some_left g.Areas c.in_ok-kept-in-Areas.kept.items c.of-in-Areas.result _ _ c.is_empty-in-Areas.ensures c.in_ok-kept-in-Areas.kept.ok.0 c.if-is_empty-2.false c.of-in-Areas.ensures)
 
 pub returns-after-shapes : goal.returns-after-shapes
 returns-after-shapes t c =

@@ -1,10 +1,13 @@
--- What is counted in a topology, and its text: a line each, ended by a line feed.
+-- What is counted in a topology, what is told of one that is made, and the text of a summary: a line each, ended by a line feed.
 use Rattle.std.specs.Prelude.{ℕ, Bool, true, false, List, [], ◌∷◌, ◌++◌, Option, Some, None, length, map, sum, codes}
 use Rattle.byte_ends.specs.Ends.{saturated}
+use Rattle.geojson_types.specs.declared.counts.Counts.{Counts}
+use Rattle.geometry.specs.declared.address.Dropped.{Dropped}
 use Rattle.json_value.specs.Text.{quoted}
 use Rattle.geometry.specs.Points.{Point}
 use Rattle.topojson_types.specs.Topologies.{Contents, object_features}
 use Rattle.topojson_types.specs.declared.object.TopoObject.{TopoObject}
+use Rattle.reports.specs.declared.report.Report.{Report}
 use Rattle.reports.specs.declared.summary.Summary.{Summary}
 use Rattle.reports.specs.Reports.{line_text}
 
@@ -13,6 +16,10 @@ use Rattle.reports.specs.Reports.{line_text}
 -- the positions of all arcs
 abbrev pub positions_in : List (List Point) → ℕ
 positions_in arcs = saturated (sum (map length arcs))
+
+-- these counts, what is dropped, the arcs with their positions, and how many were taken out of them
+abbrev pub report_with : Counts → List Dropped → List (List Point) → ℕ → Report
+report_with counts dropped arcs removed = record { counts = counts; dropped = dropped; arcs = length arcs; kept = positions_in arcs; removed = removed }
 
 -- there is one
 abbrev pub is_there : {A : Type 0} → Option A → Bool

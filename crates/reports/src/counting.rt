@@ -4,14 +4,16 @@ ghost use Rattle.topojson_types.specs.Topologies.{object_features};
 ghost use Rattle.reports.specs.Summaries.{counted, has_grid};
 ghost use Rattle.reports.specs.Summaries as spec;
 
+use crate::report::Report;
 use crate::summary::Summary;
 use byte_ends::Memory;
+use geojson_types::{Counts, Dropped};
 use json_value::{Items, OwnText};
 use std::alloc::Global;
 use topojson_types::{Cell, TopoObject, Topology};
 
 /// The positions of all arcs: a count that stays at `u64::MAX` once it is there.
-pub fn positions_in(arcs: &[Items<Cell>]) -> u64
+fn positions_in(arcs: &[Items<Cell>]) -> u64
     ensures { result ≡ spec.positions_in arcs.now }
 {
     let mut kept: u64 = 0;
@@ -19,6 +21,25 @@ pub fn positions_in(arcs: &[Items<Cell>]) -> u64
         kept = kept.saturating_add(arc.len() as u64);
     }
     kept
+}
+
+/// The report of a topology that has these arcs, with these counts, of which these lines and rings are dropped, and out of whose arcs so
+/// many positions were taken.
+pub fn report_of(
+    counts: Counts,
+    dropped: Vec<Dropped>,
+    arcs: &[Items<Cell>],
+    removed: u64,
+) -> Report
+    ensures { result ≡ spec.report_with counts dropped.items arcs.now removed }
+{
+    Report {
+        counts,
+        dropped: Items::of(dropped),
+        arcs: arcs.len() as u64,
+        kept: positions_in(arcs),
+        removed,
+    }
 }
 
 /// How many features an object is.

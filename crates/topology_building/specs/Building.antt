@@ -7,8 +7,6 @@ use Rattle.json_value.specs.Grammar.{Reads}
 use Rattle.geojson_types.specs.declared.counts.Counts.{Counts}
 use Rattle.geojson_types.specs.declared.layer.FeatureSet.TheVariants as set
 use Rattle.geojson_types.specs.Counting.{no_counts}
-use Rattle.geometry.specs.declared.address.Dropped.{Dropped}
-use Rattle.geometry.specs.Points.{Point}
 use Rattle.json_value.specs.Text.{json_text}
 use Rattle.topojson_types.specs.Decoding.{decoded}
 use Rattle.topojson_types.specs.Topologies.{Contents}
@@ -27,7 +25,7 @@ use Rattle.inputs.specs.declared.fault.BuildFault.{BuildFault}
 use Rattle.inputs.specs.declared.fault.BuildFault.TheVariants.{Write, Memory}
 use Rattle.topology_building.specs.declared.options.Options.{Options}
 use Rattle.reports.specs.declared.report.Report.{Report}
-use Rattle.reports.specs.Summaries.{positions_in}
+use Rattle.reports.specs.Summaries.{report_with}
 use Rattle.layer_sources.specs.Sources.{Sources, Named, AllRead, FailsAt, AreUntroubled, added}
 
 -- ---- what is asked for
@@ -67,10 +65,6 @@ pub record SaysTopology (o : Options) (layers : Named) (text : List ℕ) : Type 
   pub shared : contents ≡ written_for o layers
   pub written : text ≡ json_text (topology_value contents)
   pub once : AreOnceIn (all_arcs (linework (layers_of (snapped_for o layers)))) (line_segments (linework (layers_of (snapped_for o layers))))
-
--- the counts, what is dropped, the arcs with their positions, and how many of these were taken out
-abbrev pub report_with : Counts → List Dropped → List (List Point) → ℕ → Report
-report_with counts dropped arcs removed = record { counts = counts; dropped = dropped; arcs = length arcs; kept = positions_in arcs; removed = removed }
 
 -- the counts of all layers, the lines and rings that are dropped, the arcs, their positions, and those that were taken out of them
 abbrev pub report_of : Options → Named → List Counts → Report

@@ -11,16 +11,14 @@ ghost use Rattle.topology_building.specs.Outcomes.{Follows};
 use crate::options::Options;
 use byte_ends::{Drain, Feed, Sink, Source};
 use effective_area::Reducer;
-use geojson_model::Counts;
-use geojson_types::Dropped;
 use inputs::{BuildFault, flush_behind};
-use json_value::{Items, OwnText};
+use json_value::OwnText;
 use layer_sources::{check_names, read_layers};
 use layer_topology::{topology_of_layers, written_laws};
-use reports::{Report, positions_in};
+use reports::{Report, report_of};
 use std::alloc::Global;
 use topojson_meaning::{reads_back, topology_text_is_read};
-use topojson_types::{Cell, Topology};
+use topojson_types::Topology;
 use topojson_writer::write_topology;
 
 /// Writes the topology and flushes the sink.
@@ -30,20 +28,6 @@ fn send<W: Drain>(topology: &Topology, sink: &mut Sink<W>) -> Result<(), BuildFa
     let written = write_topology(topology, sink);
     flush_behind(written, sink)?;
     Ok(())
-}
-
-/// The report of layers with these counts, of which these lines and rings are dropped, over these arcs, out of which so many positions
-/// were taken.
-fn report_of(counts: Counts, dropped: Vec<Dropped>, arcs: &[Items<Cell>], removed: u64) -> Report
-    ensures { result ≡ spec.report_with counts dropped.items arcs.now removed }
-{
-    Report {
-        counts,
-        dropped: Items::of(dropped),
-        arcs: arcs.len() as u64,
-        kept: positions_in(arcs),
-        removed,
-    }
 }
 
 /// The laws that the contract of building rests on. This does nothing.

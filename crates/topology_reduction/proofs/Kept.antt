@@ -1,9 +1,8 @@
 -- Lists of what is kept of the elements of another one, from the front on.
-use Rattle.std.proofs.Common.{◌≡◌, ℕ, ◌==◌, Bool, true, false, List, [], ◌∷◌, ◌++◌, length, map, Option, None, Some, append_assoc, append-nil, refl, sym, ap, ◌∙◌, arith}
-use Rattle.std.proofs.lemmas.Bool.Decides.{nat_tests}
+use Rattle.std.proofs.Common.{◌≡◌, List, [], ◌∷◌, ◌++◌, map, Option, None, Some, append_assoc, append-nil, sym, ap, ◌∙◌}
 use Rattle.std.proofs.lemmas.List.{map-append}
 use Rattle.build_meaning.proofs.Candidates.{some_append}
-use Rattle.list_laws.specs.Lists.{with_some, some_of, unless_empty}
+use Rattle.list_laws.specs.Lists.{with_some, some_of}
 
 pub some_more : {A B : Type 0} (f : A → Option B) (front now new : List B) (xs : List A) (x : A) (o : Option B) → now ≡ front ++ some_of f xs → o ≡ f x → new ≡ now ++ with_some o []
     → new ≡ front ++ some_of f (xs ++ x ∷ [])
@@ -18,16 +17,6 @@ none_more f front now xs x o so is none = some_more f front now now xs x o so is
 pub one_more : {A B : Type 0} (f : A → Option B) (front now new : List B) (xs : List A) (x : A) (o : Option B) (y : B) → now ≡ front ++ some_of f xs → o ≡ f x → o ≡ Some y → new ≡ now ++ y ∷ []
     → new ≡ front ++ some_of f (xs ++ x ∷ [])
 one_more f front now new xs x o y so is some e = some_more f front now new xs x o so is (e ∙ sym (ap (λ w. now ++ with_some w []) some))
-
--- ---- what is made of what is left
-
-pub empty_left : {A B : Type 0} (make : List A → B) (got : List A) (empty : Bool) (n : ℕ) → empty ≡ (n == 0) → n ≡ length got → empty ≡ true → None ≡ unless_empty make got
-empty_left make [] empty n e k t = refl
-empty_left make (x ∷ xs) empty n e k t = let z : length (x ∷ xs) ≡ 0 = grind (arith, nat_tests) in absurd (omega (arith, z))
-
-pub some_left : {A B : Type 0} (make : List A → B) (got made : List A) (empty : Bool) (n : ℕ) → empty ≡ (n == 0) → n ≡ length got → empty ≡ false → made ≡ got → Some (make made) ≡ unless_empty make got
-some_left make [] made empty n e k f is = let z : n ≡ 0 = k in absurd (grind (arith, nat_tests))
-some_left make (x ∷ xs) made empty n e k f is = ap (λ z. Some (make z)) is
 
 -- ---- what is made of each
 

@@ -1,6 +1,6 @@
 -- Cells that are picked, and where they lie.
 use Rattle.std.proofs.Common.{◌≡◌, ℕ, zero, suc, ◌+◌, ◌<◌, ◌≤◌, List, [], ◌∷◌, ◌++◌, map, length, take, drop, get_or, slice_get, Option, None, Some, append_assoc, append-nil, refl, sym, ap, ◌∙◌, subst, arith}
-use Rattle.std.proofs.lemmas.List.{take_more, drop_all}
+use Rattle.std.proofs.lemmas.List.{take_more, drop_all, map-id}
 use Rattle.std.specs.List.{AllByRecursion}
 use Rattle.arc_choice.proofs.Passed.{at_got}
 use Rattle.geometry.specs.Joins.{at}
@@ -59,30 +59,13 @@ places_picked transform (is ∷ kept) (a ∷ arcs) h = (all_picked (IsPlace tran
 
 -- ---- where they lie
 
-map_same : {X : Type 0} (xs : List X) → map (λ x. x) xs ≡ xs
-map_same [] = refl
-map_same (x ∷ xs) = ap (λ ys. x ∷ ys) (map_same xs)
-
 pub places_are : (transform : Option Transform) (cells : List Point) → map (place transform) cells ≡ placed_cells transform cells
-places_are None cells = map_same cells
+places_are None cells = map-id cells
 places_are (Some t) cells = refl
 
 pub arcs_are : (transform : Option Transform) (arcs : List (List Point)) → map (placed_cells transform) arcs ≡ placed_arcs transform arcs
-arcs_are None arcs = map_same arcs
+arcs_are None arcs = map-id arcs
 arcs_are (Some t) arcs = refl
-
--- ---- those of one arc
-
-pub got_any : {X : Type 0} (xs : List X) (i : ℕ) (d e : X) → i < length xs → get_or xs i d ≡ get_or xs i e
-got_any [] i d e lt = absurd (omega (arith, lt))
-got_any (x ∷ xs) zero d e lt = refl
-got_any (x ∷ xs) (suc i) d e lt = got_any xs i d e (omega (arith, lt))
-
-pub arc_places : (y : Contents) (arcs : List (List Point)) (cells : List Point) (i : ℕ) (transform : Option Transform) → IsTopology y → arcs ≡ y.arcs → i < length y.arcs → cells ≡ get_or arcs i cells → transform ≡ y.transform
-    → AllByRecursion (IsPlace transform) cells
-arc_places y arcs cells i transform h are lt is same =
-    let k = all_at (IsArc y.transform) y.arcs i cells lt (is ∙ ap (λ a. get_or a i cells) are) h.arcs in
-    subst (λ t. AllByRecursion (IsPlace t) cells) (sym same) k.1
 
 pub topology_places : (y : Contents) → IsTopology y → AllByRecursion (λ a. AllByRecursion (IsPlace y.transform) a) y.arcs
 topology_places y h = all_weaker (IsArc y.transform) (λ a. AllByRecursion (IsPlace y.transform) a) (λ a k. k.1) y.arcs h.arcs

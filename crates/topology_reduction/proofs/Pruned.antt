@@ -1,5 +1,6 @@
 -- The pruned shape, by its kind.
 use Rattle.std.proofs.Common.{◌≡◌, ℤ, true, false, List, [], ◌∷◌, map, Some, refl, sym, ap, ◌∙◌}
+use Rattle.std.proofs.lemmas.List.{map-id}
 use Rattle.geometry.specs.declared.shape.Geometry.TheVariants as g
 use Rattle.geometry.specs.Lists.{map_some, some_of, unless_empty}
 use Rattle.geometry.specs.Points.{Point}
@@ -8,15 +9,11 @@ use Rattle.geometry.proofs.Cases.{prune-point, prune-points, prune-line, prune-l
 use Rattle.lessened_topology.specs.Lessened.{Refs}
 use Rattle.topojson_types.specs.Topologies.{TopoShape}
 
-map_same : (ps : List Point) → map (λ p. p) ps ≡ ps
-map_same [] = refl
-map_same (p ∷ ps) = ap (λ qs. p ∷ qs) (map_same ps)
-
 pub at_point : (k : Refs) (s : TopoShape) (p : Point) → s ≡ g.Point p → Some (g.Point p) ≡ prune (λ p. p) k s
 at_point k s p e = sym (ap (prune (λ (p : Point). p) k) e ∙ prune-point (λ (p : Point). p) k p)
 
 pub at_points : (k : Refs) (s : TopoShape) (ps : List Point) → s ≡ g.MultiPoint ps → Some (g.MultiPoint ps) ≡ prune (λ p. p) k s
-at_points k s ps e = sym (ap (prune (λ (p : Point). p) k) e ∙ prune-points (λ (p : Point). p) k ps ∙ ap (λ qs. Some (g.MultiPoint qs)) (map_same ps))
+at_points k s ps e = sym (ap (prune (λ (p : Point). p) k) e ∙ prune-points (λ (p : Point). p) k ps ∙ ap (λ qs. Some (g.MultiPoint qs)) (map-id ps))
 
 -- ---- the others
 

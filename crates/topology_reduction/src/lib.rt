@@ -1,7 +1,7 @@
 //! Simplifying a topology (TopoJSON 1.0): of each arc only given positions stay; lines and rings that are then left with too few
 //! positions are dropped, and arcs that no kept line uses are left out. It stands on `lessened_topology`, which says what topology
-//! that is, and on `arc_choice`, which it shares with what assembles layers. The layer above reduces the positions of each arc,
-//! which `placed_arc` gives, and uses the contract of `Reduces::reduce`.
+//! that is, and on `arc_choice`, which it shares with what assembles layers. The layer above reduces the positions of each arc, and
+//! uses the contract of `Reduces::reduce`.
 #![tactic(auto)]
 
 mod choosing;
@@ -12,5 +12,4 @@ mod placing;
 mod pruning;
 mod reducing;
 
-pub use placing::placed_arc;
-pub use reducing::{Reduces, reduced_topology};
+pub use reducing::Reduces;

@@ -49,7 +49,7 @@ fn pruned_line<K: Keeps>(keeps: &K, refs: Items<ArcRef>) -> Option<TopoShape>
 }
 
 /// Those of the lines that stay, if any does.
-#[tactic(auto, using(crate::proofs::Kept::empty_left, crate::proofs::Kept::some_left))]
+#[tactic(auto, using(arc_choice::proofs::Kept::empty_left, arc_choice::proofs::Kept::some_left))]
 fn pruned_lines<K: Keeps>(
     alloc: Global,
     keeps: &K,
@@ -88,7 +88,7 @@ fn pruned_area<K: Keeps>(
 }
 
 /// Those of the polygons that stay, if any does.
-#[tactic(auto, using(crate::proofs::Kept::empty_left, crate::proofs::Kept::some_left))]
+#[tactic(auto, using(arc_choice::proofs::Kept::empty_left, arc_choice::proofs::Kept::some_left))]
 fn pruned_areas<K: Keeps>(
     alloc: Global,
     keeps: &K,

@@ -1,12 +1,16 @@
 // The topology that is left where of each arc only some cells stay.
-ghost use Rattle.std.specs.Prelude.{◌≡◌, IfOk, map};
+ghost use Rattle.std.specs.Prelude.{◌≡◌, ◌-◌, ℕ, Bool, IfOk, length, map};
 ghost use Rattle.std.specs.List.{AllByRecursion};
 ghost use Rattle.std.specs.Option.{option_copied};
+ghost use Rattle.arc_choice.specs.Uses.{answers};
+ghost use Rattle.build_meaning.specs.Built.{positions_of};
+ghost use Rattle.build_meaning.specs.Trimming.{is_used, keep_from, line_renumbered};
 ghost use Rattle.byte_ends.specs.Ends.{saturated};
+ghost use Rattle.geometry.specs.Joins.{AreInRange};
 ghost use Rattle.geometry.specs.Omissions.{dropped_of_layers};
 ghost use Rattle.lessened_topology.specs.Lessened.{EachFromFirstToLast, dropped_by, large_refs, lessened_by, objects_pruned, option_small, taken_out_by};
 ghost use Rattle.topojson_types.specs.Decoding.{placed_arcs as all_placed};
-ghost use Rattle.topojson_types.specs.Topologies.{Contents, object_features};
+ghost use Rattle.topojson_types.specs.Topologies.{Contents, object_features, objects_strokes};
 ghost use Rattle.topojson_types.specs.Validity.{IsPlace};
 
 use crate::choosing::{Large, Ranked};
@@ -60,10 +64,47 @@ fn large_objects(
     }
 }
 
+/// The objects with new indexes, where only the arcs with a set flag are left.
+fn renumbered(
+    alloc: Global,
+    objects: Vec<(OwnText, TopoObject)>,
+    used: &[bool],
+) -> Result<Vec<(OwnText, TopoObject)>, Memory>
+    requires { AllByRecursion (λ b. AreInRange (length used.now) b.1) (objects_strokes objects.items) }
+    ensures { IfOk result (λ left. (u : ℕ → Bool) → used.now ≡ answers u 0 (length used.now) → left.items ≡ objects_pruned (line_renumbered u) objects.items) }
+{
+    let ranks = ranks(alloc, used)?;
+    let left = pruned_objects(alloc, &Ranked::by(&ranks), objects)?;
+    Ok(left)
+}
+
+/// The objects and the picked arcs without the arcs that no line or ring of these objects uses, with new indexes, and how many of the
+/// positions of the other arcs were not picked.
+fn without_unused(
+    alloc: Global,
+    objects: Vec<(OwnText, TopoObject)>,
+    arcs: &[Items<Cell>],
+    picked: Vec<Items<Cell>>,
+) -> Result<(Vec<(OwnText, TopoObject)>, Vec<Items<Cell>>, u64), Memory>
+    requires many { length picked.items ≡ length arcs.now }
+    requires ranged { AllByRecursion (λ b. AreInRange (length picked.items) b.1) (objects_strokes objects.items) }
+    ensures objects { IfOk result (λ r. r.0.items ≡ objects_pruned (line_renumbered (is_used objects.items)) objects.items) }
+    ensures arcs { IfOk result (λ r. r.1.items ≡ keep_from (is_used objects.items) 0 picked.items) }
+    ensures taken_out { IfOk result (λ r. r.2
+        ≡ saturated (positions_of (keep_from (is_used objects.items) 0 arcs.now) - positions_of (keep_from (is_used objects.items) 0 picked.items))) }
+{
+    let used = used_arcs(alloc, &objects, picked.len())?;
+    let before = used_positions(arcs, &used);
+    let after = used_positions(&picked, &used);
+    let left = renumbered(alloc, objects, &used)?;
+    let stay = kept_arcs(alloc, picked, &used)?;
+    Ok((left, stay, taken_out(before, after)))
+}
+
 /// The topology with of each arc only the cells with the numbers of its own list, without the lines and rings that are then left
 /// with too few positions, and without the arcs that no kept line uses; the lines and rings that are dropped, in reading order, an
 /// object in the place of a layer; and how many positions are taken out of the arcs that stay.
-pub fn reduced_topology(
+fn reduced_topology(
     alloc: Global,
     topology: Topology,
     kept: &[Vec<usize>],
@@ -77,14 +118,9 @@ pub fn reduced_topology(
     let (objects, arcs, transform) = topology.into_parts();
     let picked = picked_arcs(alloc, kept, arcs.as_slice())?;
     let (large, dropped) = large_objects(alloc, objects.into_inner(), &picked, transform.as_ref())?;
-    let used = used_arcs(alloc, &large, picked.len())?;
-    let before = used_positions(arcs.as_slice(), &used);
-    let after = used_positions(&picked, &used);
-    let ranks = ranks(alloc, &used)?;
-    let left = pruned_objects(alloc, &Ranked::by(&ranks), large)?;
-    let stay = kept_arcs(alloc, picked, &used)?;
+    let (left, stay, taken) = without_unused(alloc, large, arcs.as_slice(), picked)?;
     let reduced = Topology::of(Items::of(left), Items::of(stay), transform);
-    Ok((reduced, dropped, taken_out(before, after)))
+    Ok((reduced, dropped, taken))
 }
 
 /// What can be simplified as a topology can: of each of its arcs only given cells stay.

@@ -3,14 +3,12 @@ use Rattle.std.specs.Prelude.{◌≡◌, ℕ, List, length}
 use Rattle.byte_ends.specs.Ends.{Fed, Drained, Takes, saturated}
 use Rattle.byte_ends.specs.Writes.{WritesFront}
 use Rattle.geojson_types.specs.declared.counts.Counts.{Counts}
-use Rattle.geometry.specs.declared.address.Dropped.{Dropped}
-use Rattle.geometry.specs.Points.{Point}
 use Rattle.inputs.specs.declared.file_fault.FileFault.{FileFault}
 use Rattle.inputs.specs.declared.file_fault.FileFault.TheVariants.{Write}
 use Rattle.json_value.specs.Text.{json_text}
 use Rattle.lessened_topology.specs.Thresholds.{lessened, lessened_dropped, lessened_taken_out}
 use Rattle.reports.specs.declared.report.Report.{Report}
-use Rattle.reports.specs.Summaries.{positions_in}
+use Rattle.reports.specs.Summaries.{report_with}
 use Rattle.topojson_types.specs.Topologies.{Contents}
 use Rattle.topojson_types.specs.Values.{topology_value}
 use Rattle.topology_files.specs.Files.{IsTopologyRead, FailsToGive}
@@ -20,10 +18,6 @@ use Rattle.topology_files.specs.Files.{IsTopologyRead, FailsToGive}
 -- the text (TopoJSON 1.0) of what is left of a topology where each arc is reduced at the threshold
 abbrev pub lessened_text : ℕ → Contents → List ℕ
 lessened_text t y = json_text (topology_value (lessened t y))
-
--- these counts, what is dropped, the arcs with their positions, and how many were taken out of them
-abbrev pub report_with : Counts → List Dropped → List (List Point) → ℕ → Report
-report_with counts dropped arcs removed = record { counts = counts; dropped = dropped; arcs = length arcs; kept = positions_in arcs; removed = removed }
 
 -- what was counted in reading the topology, the lines and rings that are dropped, the arcs that are left, their positions, and
 -- those that were taken out of these arcs

@@ -9,14 +9,14 @@ ghost use Rattle.topology_simplifying.specs.Simplified as spec;
 
 use byte_ends::Memory;
 use effective_area::Reducer;
-use geojson_types::{Counts, Dropped};
+use geojson_types::Counts;
 use json_value::Items;
 use lessened_topology::indexes_reach;
-use reports::{Report, positions_in};
+use reports::{Report, report_of};
 use std::alloc::Global;
 use topojson_features::positions;
 use topojson_types::{Cell, Topology, Transform};
-use topology_reduction::reduced_topology;
+use topology_reduction::Reduces;
 
 /// The indexes of the cells of an arc that stay where the positions that they stand for are reduced.
 fn kept_cells<Q: Reducer>(
@@ -52,19 +52,6 @@ fn kept_indexes<Q: Reducer>(
     Ok(kept)
 }
 
-/// The report of a topology that is left with these arcs, once these lines and rings are dropped.
-fn report_of(counts: Counts, dropped: Vec<Dropped>, arcs: &[Items<Cell>], removed: u64) -> Report
-    ensures { result ≡ spec.report_with counts dropped.items arcs.now removed }
-{
-    Report {
-        counts,
-        dropped: Items::of(dropped),
-        arcs: arcs.len() as u64,
-        kept: positions_in(arcs),
-        removed,
-    }
-}
-
 /// What is left of a topology, with these counts, where each arc is reduced at a threshold, and the report of it.
 #[tactic(auto, unfolding(lessened_topology::specs::Thresholds::lessened, lessened_topology::specs::Thresholds::lessened_dropped, lessened_topology::specs::Thresholds::lessened_taken_out))]
 pub fn lessen<Q: Reducer>(
@@ -78,7 +65,7 @@ pub fn lessen<Q: Reducer>(
 {
     indexes_reach();
     let kept = kept_indexes(alloc, reducer, topology.transform(), topology.arcs(), t)?;
-    let (less, dropped, removed) = reduced_topology(alloc, topology, &kept)?;
+    let (less, dropped, removed) = topology.reduce(alloc, &kept)?;
     let report = report_of(counts, dropped, less.arcs(), removed);
     Ok((less, report))
 }

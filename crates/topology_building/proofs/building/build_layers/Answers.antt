@@ -2,7 +2,8 @@ use Rattle.std.proofs.Common.{◌∙◌, ap, subst, Err, length, ◌<◌, ◌^�
 use Rattle.std.proofs.lemmas.Result.{err_from_is_err_and}
 use Rattle.json_value.specs.Text.{json_text}
 use Rattle.topojson_types.specs.Values.{topology_value}
-use Rattle.topology_building.specs.Building.{Sends, report_with, snapped_for, written_for}
+use Rattle.reports.specs.Summaries.{report_with}
+use Rattle.topology_building.specs.Building.{Sends, snapped_for, written_for}
 use Rattle.build_meaning.specs.Built.{taken_out}
 use Rattle.build_meaning.specs.Expected.{expected_dropped}
 use Rattle.byte_ends.specs.Ends.{saturated}

@@ -8,16 +8,15 @@ use Rattle.topojson_types.specs.Validity.{IsPlace}
 use Rattle.topology_reduction.proofs.Picks.{arcs_are}
 use Rattle.topology_reduction.proofs.placing.placed_arcs.Goals as goal
 
-pub placed_positions-requires : goal.placed_positions-requires
-placed_positions-requires c =
+pub placed_cells-requires : goal.placed_cells-requires
+placed_cells-requires c =
     subst (AllByRecursion (IsPlace (option_copied c.args.transform))) (sym c.as_slice.ensures)
     (all_at (AllByRecursion (IsPlace (option_copied c.args.transform))) c.args.arcs.now c.arcs.arc-index c.arc-item.result c.arcs-test.true c.arc-item.is c.requires)
 
 pub arcs-preserved : goal.arcs-preserved
 arcs-preserved c =
-    mapped_more (placed_cells (option_copied c.args.transform)) c.args.arcs.now c.arcs.arc-index c.arc-item.result c.arcs.placed.items c.push.new.self.items c.in_ok-cells.field-0 c.arcs-test.true
-    c.arc-item.is c.arcs.invariant
-    (c.in_ok-cells.ensures ∙ c.deref.ensures.value ∙ c.in_ok-positions.ensures ∙ ap (placed_cells (option_copied c.args.transform)) c.as_slice.ensures) c.in_ok-push.ensures.items
+    mapped_more (placed_cells (option_copied c.args.transform)) c.args.arcs.now c.arcs.arc-index c.arc-item.result c.arcs.placed.items c.push.new.self.items c.in_ok-placed_cells.field-0 c.arcs-test.true
+    c.arc-item.is c.arcs.invariant (c.in_ok-placed_cells.ensures ∙ ap (placed_cells (option_copied c.args.transform)) c.as_slice.ensures) c.in_ok-push.ensures.items
 
 pub returns : goal.returns
 returns c =

@@ -1,5 +1,5 @@
 -- Cells that are picked, and where they lie.
-use Rattle.std.proofs.Common.{◌≡◌, ℕ, zero, suc, ◌+◌, ◌<◌, ◌≤◌, List, [], ◌∷◌, ◌++◌, map, length, take, drop, get_or, slice_get, Option, None, Some, append_assoc, append-nil, refl, sym, ap, ◌∙◌, subst, arith}
+use Rattle.std.proofs.Common.{◌≡◌, ℕ, ◌+◌, ◌<◌, ◌≤◌, List, [], ◌∷◌, ◌++◌, map, length, take, drop, get_or, slice_get, Option, None, Some, append_assoc, append-nil, refl, sym, ap, ◌∙◌, arith}
 use Rattle.std.proofs.lemmas.List.{take_more, drop_all, map-id}
 use Rattle.std.specs.List.{AllByRecursion}
 use Rattle.arc_choice.proofs.Passed.{at_got}
@@ -9,7 +9,7 @@ use Rattle.geometry.specs.Points.{Point}
 use Rattle.lessened_topology.specs.Lessened.{picked, picked_arcs, EachFromFirstToLast}
 use Rattle.lessened_topology.specs.Thresholds.{placed_cells}
 use Rattle.lessened_topology.proofs.ValidPicked.{all_picked}
-use Rattle.list_laws.proofs.Elements.{all_at, all_weaker}
+use Rattle.list_laws.proofs.Elements.{all_weaker}
 use Rattle.list_laws.proofs.Lists.{drop_here}
 use Rattle.topojson_types.specs.declared.transform.Transform.{Transform}
 use Rattle.topojson_types.specs.Decoding.{placed_arcs}

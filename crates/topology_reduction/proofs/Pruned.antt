@@ -1,5 +1,5 @@
 -- The pruned shape, by its kind.
-use Rattle.std.proofs.Common.{◌≡◌, ℤ, true, false, List, [], ◌∷◌, map, Some, refl, sym, ap, ◌∙◌}
+use Rattle.std.proofs.Common.{◌≡◌, ℤ, true, false, List, Some, sym, ap, ◌∙◌}
 use Rattle.std.proofs.lemmas.List.{map-id}
 use Rattle.geometry.specs.declared.shape.Geometry.TheVariants as g
 use Rattle.geometry.specs.Lists.{map_some, some_of, unless_empty}

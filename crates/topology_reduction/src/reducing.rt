@@ -27,8 +27,19 @@ use owned_values::Memory;
 use std::alloc::Global;
 use topojson_types::{Cell, TopoObject, Topology, Transform};
 
-/// The objects without the lines and rings that have too few positions where they are rebuilt of these arcs, and those, in reading
-/// order.
+/// The objects without the lines and rings that have too few positions where they are rebuilt of these arcs.
+fn without_small(
+    alloc: Global,
+    objects: Vec<(OwnText, TopoObject)>,
+    arcs: &[Items<Cell>],
+) -> Result<Vec<(OwnText, TopoObject)>, Memory>
+    ensures { IfOk result (λ left. left.items ≡ objects_pruned (large_refs arcs.now) objects.items) }
+{
+    let left = pruned_objects(alloc, &Large::over(arcs), objects)?;
+    Ok(left)
+}
+
+/// The same, and those lines and rings, in reading order.
 fn large_over(
     alloc: Global,
     objects: Vec<(OwnText, TopoObject)>,
@@ -39,7 +50,7 @@ fn large_over(
         ≡ dropped_of_layers 0 (map (λ o. map (λ f. option_small arcs.now f.shape) (object_features o.1)) objects.items)) }
 {
     let dropped = dropped_lines(alloc, &objects, arcs)?;
-    let left = pruned_objects(alloc, &Large::over(arcs), objects)?;
+    let left = without_small(alloc, objects, arcs)?;
     Ok((left, dropped))
 }
 

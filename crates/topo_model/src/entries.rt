@@ -20,6 +20,16 @@ pub fn copied(alloc: Global, refs: &[ArcRef]) -> Result<Items<ArcRef>, Memory>
     Ok(Items::of(copy))
 }
 
+/// The same entry once more.
+fn copied_entry(alloc: Global, entry: &KeptArcs) -> Result<KeptArcs, Memory>
+    ensures { IfOk result (λ copy. copy ≡ entry.now) }
+{
+    match entry {
+        None => Ok(None),
+        Some(refs) => Ok(Some(copied(alloc, refs.as_slice())?)),
+    }
+}
+
 /// What stands for the next line or ring, and the entries behind it. Where no entry is left it has none.
 pub fn next_entry<'a>(
     alloc: Global,
@@ -31,10 +41,8 @@ pub fn next_entry<'a>(
     let Some((entry, rest)) = entries.split_first() else {
         return Ok((None, entries));
     };
-    match entry {
-        None => Ok((None, rest)),
-        Some(refs) => Ok((Some(copied(alloc, refs.as_slice())?), rest)),
-    }
+    let entry = copied_entry(alloc, entry)?;
+    Ok((entry, rest))
 }
 
 /// What is kept of so many lines or rings, and the entries behind theirs.

@@ -55,7 +55,7 @@ pub fn sorted_entries(
     ensures counted { RoseAtMost (length arc.now - 2) steps.old steps.new }
 {
     let mut entries = first_entries(alloc, steps, arc, links, t)?;
-    entries.sort()?;
+    entries.sort_unstable();
     Ok(entries)
 }
 

@@ -1,5 +1,5 @@
 -- A heap of entries, some of them stale.
-use Rattle.std.proofs.Common.{◌≡◌, ℕ, suc, zero, false, List, [], ◌∷◌, ◌++◌, Option, Some, None, refl, ap, sym, ◌∙◌, subst, arith, ◌⊎◌, inl, inr}
+use Rattle.std.proofs.Common.{◌≡◌, ◌≢◌, ℕ, suc, zero, Bool, true, false, List, [], ◌∷◌, ◌++◌, Option, Some, None, refl, ap, sym, ◌∙◌, subst, arith, ◌⊎◌, inl, inr}
 use Rattle.std.specs.List.{Contains}
 use Rattle.std.specs.List.Sorted.{IsPermutation}
 use Rattle.std.specs.Ordering.{is_lt}
@@ -10,7 +10,9 @@ use Rattle.std.proofs.lemmas.List.Sorted.{Contains-permutation, IsPermutation-sy
 use Rattle.effective_area.specs.declared.links.Link.{Link}
 use Rattle.effective_area.specs.declared.entry.Entry.{Entry}
 use Rattle.geometry.specs.Points.{Point}
-use Rattle.effective_area.specs.Links.{IsCurrent, IsUnder, NoneUnder, LeavesCurrent, HasCorners, entry_cmp, rentry_cmp, turned, entry_in, Pushed}
+use Rattle.elimination_meaning.specs.Elimination.{Corner, is_before}
+use Rattle.elimination_meaning.proofs.Order.{one_corner}
+use Rattle.effective_area.specs.Links.{IsCurrent, IsUnder, Waits, LeavesCurrent, HasCorners, entry_cmp, rentry_cmp, turned, entry_in, before_in, after_in, noted, Pushed, PushedFirst}
 
 pub contains_cases : {X : Type 0} (e : X) (ys : List X) (x : X) → Contains (e ∷ ys) x → (x ≡ e) ⊎ Contains ys x
 contains_cases e ys x (zero, h, k) = inl (sym k)
@@ -70,7 +72,7 @@ pub pushed : (t : ℕ) (ps : List Point) (links : List Link) (old new : List (Re
     IsPermutation (turned e ∷ old) new → IsUnder t ps links v e → Pushed t ps links old new v
 pushed t ps links old new v e perm u = record {
   has = λ d h. Contains-permutation (turned e ∷ old) new (turned d) perm (contains_later (turned e) old (turned d) h);
-  here = λ _ _ _. subst (λ x. Contains new (turned x)) u.2 (Contains-permutation (turned e ∷ old) new (turned e) perm (contains_here (turned e) old));
+  here = λ _. subst (λ x. Contains new (turned x)) u.2 (Contains-permutation (turned e ∷ old) new (turned e) perm (contains_here (turned e) old));
   only = λ d h. on d (contains_cases (turned e) old (turned d) (Contains-permutation new (turned e ∷ old) (turned d) (IsPermutation-sym (turned e ∷ old) new perm) h));
 }
   where
@@ -82,11 +84,48 @@ pub put_behind : (t : ℕ) (ps : List Point) (links : List Link) (old new : List
     new ≡ old ++ (turned e ∷ []) → IsUnder t ps links v e → Pushed t ps links old new v
 put_behind t ps links old new v e p u = pushed t ps links old new v e (subst (λ l. IsPermutation (turned e ∷ old) l) (sym p) (IsPermutation-append_comm (turned e ∷ []) old)) u
 
-pub none_pushed : (t : ℕ) (ps : List Point) (links : List Link) (items : List (Reverse Entry)) (v : ℕ) → NoneUnder t ps links v → Pushed t ps links items items v
-none_pushed t ps links items v n = record { has = λ d h. h; here = λ a b c. absurd (omega (arith, n a b, c)); only = λ d h. inl h }
+pub none_pushed : (t : ℕ) (ps : List Point) (links : List Link) (items : List (Reverse Entry)) (v : ℕ) → (Waits t ps links v → ⊥) → Pushed t ps links items items v
+none_pushed t ps links items v n = record { has = λ d h. h; here = λ w. absurd (n w); only = λ d h. inl h }
 
 pub corners_moved : (t : ℕ) (ps : List Point) (links : List Link) (xs ys : List (Reverse Entry)) (n : ℕ) → IsPermutation xs ys → HasCorners t ps links xs n → HasCorners t ps links ys n
 corners_moved t ps links xs ys n p h = record {
-  has = λ v a b c. Contains-permutation xs ys (turned (entry_in ps links v)) p (h.has v a b c);
+  has = λ v a w. Contains-permutation xs ys (turned (entry_in ps links v)) p (h.has v a w);
   only = λ d k. h.only d (Contains-permutation ys xs (turned d) (IsPermutation-sym xs ys p) k);
+}
+
+index_of : (ps : List Point) (links : List Link) (v w : ℕ) → noted ps links v ≡ noted ps links w → v ≡ w
+unfolding noted
+index_of ps links v w e = ap (λ (c : Corner). c.index) e
+
+-- a neighbour doesn't go before a corner that waits
+neighbour_after : (t : ℕ) (ps : List Point) (links : List Link) (u v : ℕ) → Waits t ps links v → (before_in links v ≡ u) ⊎ (after_in links v ≡ u) → is_before (noted ps links u) (noted ps links v) ≡ false
+neighbour_after t ps links u v h (inl e) = subst (λ x. is_before (noted ps links x) (noted ps links v) ≡ false) e h.before
+neighbour_after t ps links u v h (inr e) = subst (λ x. is_before (noted ps links x) (noted ps links v) ≡ false) e h.after
+
+-- the one of two neighbours that goes first is pushed
+pub inner_pushed : (t : ℕ) (ps : List Point) (links : List Link) (old new : List (Reverse Entry)) (v w : ℕ) (known : Bool) →
+    is_before (noted ps links w) (noted ps links v) ≡ false → Pushed t ps links old new v → PushedFirst t ps links old new v w known
+inner_pushed t ps links old new v w known b p = record {
+  has = p.has;
+  inner = λ h _. p.here h;
+  outer = λ _ n h k. absurd (n (index_of ps links v w (one_corner (noted ps links v) (noted ps links w) (neighbour_after t ps links v w h k) b)));
+  only = λ d h. elim (p.only d h) [ inl x ↦ inl x | inr x ↦ inr (inl x) ];
+}
+
+pub outer_pushed : (t : ℕ) (ps : List Point) (links : List Link) (old new : List (Reverse Entry)) (v w : ℕ) (known : Bool) →
+    is_before (noted ps links w) (noted ps links v) ≡ true → Pushed t ps links old new w → PushedFirst t ps links old new v w known
+outer_pushed t ps links old new v w known b p = record {
+  has = p.has;
+  inner = λ h k. let f : false ≡ true = sym (neighbour_after t ps links w v h k) ∙ b in absurd (cc);
+  outer = λ _ _ h _. p.here h;
+  only = λ d h. elim (p.only d h) [ inl x ↦ inl x | inr x ↦ inr (inr x) ];
+}
+
+pub outer_known : (t : ℕ) (ps : List Point) (links : List Link) (items : List (Reverse Entry)) (v w : ℕ) (known : Bool) →
+    is_before (noted ps links w) (noted ps links v) ≡ true → known ≡ true → PushedFirst t ps links items items v w known
+outer_known t ps links items v w known b e = record {
+  has = λ d h. h;
+  inner = λ h k. let f : false ≡ true = sym (neighbour_after t ps links w v h k) ∙ b in absurd (cc);
+  outer = λ f _ _ _. absurd (cc);
+  only = λ d h. inl h;
 }

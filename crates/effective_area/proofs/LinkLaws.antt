@@ -1,14 +1,15 @@
 -- Links that are set, and entries.
-use Rattle.std.proofs.Common.{◌≡◌, ◌≢◌, ℕ, ◌+◌, ◌<◌, ◌≤◌, List, [], ◌∷◌, ◌++◌, append_assoc, append-nil, pred, length, get_or, refl, ap, sym, ◌∙◌, subst, arith, ◌⊎◌, inl, inr, get_or-set_same, get_or-set_other}
+use Rattle.std.proofs.Common.{◌≡◌, ◌≢◌, ℕ, Bool, true, false, not, ◌+◌, ◌-◌, ◌<◌, ◌≤◌, List, [], ◌∷◌, ◌++◌, append_assoc, append-nil, pred, length, get_or, refl, ap, sym, ◌∙◌, subst, arith, ◌⊎◌, inl, inr, get_or-set_same, get_or-set_other}
 use Rattle.std.proofs.Math.ListN.{set, length-set}
 use Rattle.std.proofs.lemmas.List.{get_or_default, get_or_append_left, get_or_push, length-append}
 use Rattle.geometry.specs.Areas.{twice_area}
 use Rattle.geometry.specs.Points.{Point}
+use Rattle.elimination_meaning.specs.Elimination.{Corner}
 use Rattle.effective_area.specs.Vertices.{origin}
 use Rattle.effective_area.specs.declared.links.Link.{Link}
 use Rattle.effective_area.specs.declared.entry.Entry.{Entry}
 use Rattle.effective_area.specs.Chains.{Chain, last_of}
-use Rattle.effective_area.specs.Links.{IsFirst, IsLinked, first_link, after_in, before_in, entry_at, SetsAfter, SetsBefore, Unlinks}
+use Rattle.effective_area.specs.Links.{IsFirst, IsLinked, first_link, after_in, before_in, area_in, entry_at, entry_in, SetsAfter, SetsArea, SetsBefore, Unlinks, NotesArea, AreNoted, noted}
 use Rattle.effective_area.proofs.ChainLaws.{same_or_not}
 
 -- a field that a write leaves
@@ -19,26 +20,44 @@ field_same f xs i v x h e = on (same_or_not v i)
     on (inl k) = subst (λ w. f (get_or (set xs i x) w first_link) ≡ f (get_or xs w first_link)) (sym k) (ap f (get_or-set_same xs i x first_link h) ∙ e)
     on (inr n) = ap f (get_or-set_other xs i v x first_link n)
 
-abbrev link : ℕ → ℕ → Link
-link b a = record { before = b; after = a }
+abbrev link : ℕ → ℕ → ℕ → Link
+link b a n = record { before = b; after = a; area = n }
 
-pub sets_after : (xs : List Link) (i to : ℕ) → i < length xs → SetsAfter xs (set xs i (link (get_or xs i first_link).before to)) i to
-unfolding after_in before_in
-sets_after xs i to h = record {
-  same = length-set xs i _;
-  here = ap (λ x. x.after) (get_or-set_same xs i (link (get_or xs i first_link).before to) first_link h);
-  others = λ v n. ap (λ x. x.after) (get_or-set_other xs i v (link (get_or xs i first_link).before to) first_link n);
-  befores = λ v. field_same (λ x. x.before) xs i v (link (get_or xs i first_link).before to) h refl;
-}
+pub sets_after : (xs : List Link) (i to : ℕ) → i < length xs → SetsAfter xs (set xs i (link (get_or xs i first_link).before to (get_or xs i first_link).area)) i to
+unfolding after_in before_in area_in
+sets_after xs i to h =
+    let x : Link = link (get_or xs i first_link).before to (get_or xs i first_link).area in
+    record {
+      same = length-set xs i _;
+      here = ap (λ y. y.after) (get_or-set_same xs i x first_link h);
+      others = λ v n. ap (λ y. y.after) (get_or-set_other xs i v x first_link n);
+      befores = λ v. field_same (λ y. y.before) xs i v x h refl;
+      areas = λ v. field_same (λ y. y.area) xs i v x h refl;
+    }
 
-pub sets_before : (xs : List Link) (i to : ℕ) → i < length xs → SetsBefore xs (set xs i (link to (get_or xs i first_link).after)) i to
-unfolding after_in before_in
-sets_before xs i to h = record {
-  same = length-set xs i _;
-  here = ap (λ x. x.before) (get_or-set_same xs i (link to (get_or xs i first_link).after) first_link h);
-  others = λ v n. ap (λ x. x.before) (get_or-set_other xs i v (link to (get_or xs i first_link).after) first_link n);
-  afters = λ v. field_same (λ x. x.after) xs i v (link to (get_or xs i first_link).after) h refl;
-}
+pub sets_before : (xs : List Link) (i to : ℕ) → i < length xs → SetsBefore xs (set xs i (link to (get_or xs i first_link).after (get_or xs i first_link).area)) i to
+unfolding after_in before_in area_in
+sets_before xs i to h =
+    let x : Link = link to (get_or xs i first_link).after (get_or xs i first_link).area in
+    record {
+      same = length-set xs i _;
+      here = ap (λ y. y.before) (get_or-set_same xs i x first_link h);
+      others = λ v n. ap (λ y. y.before) (get_or-set_other xs i v x first_link n);
+      afters = λ v. field_same (λ y. y.after) xs i v x h refl;
+      areas = λ v. field_same (λ y. y.area) xs i v x h refl;
+    }
+
+pub sets_area : (xs : List Link) (i n : ℕ) → i < length xs → SetsArea xs (set xs i (link (get_or xs i first_link).before (get_or xs i first_link).after n)) i n
+unfolding after_in before_in area_in
+sets_area xs i n h =
+    let x : Link = link (get_or xs i first_link).before (get_or xs i first_link).after n in
+    record {
+      same = length-set xs i _;
+      here = ap (λ y. y.area) (get_or-set_same xs i x first_link h);
+      others = λ v k. ap (λ y. y.area) (get_or-set_other xs i v x first_link k);
+      befores = λ v. field_same (λ y. y.before) xs i v x h refl;
+      afters = λ v. field_same (λ y. y.after) xs i v x h refl;
+    }
 
 pub unlinks : (x y z w : List Link) (b i a : ℕ) → b < i → i < a → SetsAfter x y b a → SetsBefore y z a b → SetsBefore z w i i → Unlinks x w b i a
 unlinks x y z w b i a l m p q r = record {
@@ -53,6 +72,9 @@ unlinks x y z w b i a l m p q r = record {
 read : (ps : List Point) (k : ℕ) (p : Point) → k < length ps → p ≡ get_or ps k p → p ≡ get_or ps k origin
 read ps k p h e = e ∙ get_or_default ps k p origin h
 
+abbrev corner_of : ℕ → Point → ℕ → Corner
+corner_of n p i = record { area = n; point = p; index = i }
+
 abbrev entry_of : ℕ → Point → ℕ → ℕ → ℕ → Entry
 entry_of n p b i a = record { corner = record { area = n; point = p; index = i }; before = b; after = a }
 
@@ -66,21 +88,80 @@ entry_is ps b i a x y z n hb hi ha ex ey ez en =
     ap (λ m. entry_of m y b i a) (en ∙ ap (λ u. twice_area u y z) dx ∙ ap (λ u. twice_area (get_or ps b origin) u z) dy ∙ ap (twice_area (get_or ps b origin) (get_or ps i origin)) dz)
     ∙ ap (λ u. entry_of (twice_area (get_or ps b origin) (get_or ps i origin) (get_or ps a origin)) u b i a) dy
 
--- one more link at the end
-pub first_more : (xs ys : List Link) (b i : ℕ) → IsFirst xs i → ys ≡ xs ++ (link b (i + 1) ∷ []) → b ≡ pred i → IsFirst ys (i + 1)
-unfolding after_in before_in
-first_more xs ys b i f e eb = record {
-  size = ap length e ∙ length-append xs (link b (i + 1) ∷ []) ∙ ap (λ n. n + 1) f.size;
-  befores = λ v h. ap (λ zs. (get_or zs v first_link).before) e ∙ at (λ x. x.before) (λ w. pred w) v h eb f.befores;
-  afters = λ v h. ap (λ zs. (get_or zs v first_link).after) e ∙ at (λ x. x.after) (λ w. w + 1) v h refl f.afters;
+pub entry_noted : (ps : List Point) (b i a : ℕ) (y : Point) (n : ℕ) → i < length ps → y ≡ get_or ps i y → n ≡ (entry_at ps b i a).corner.area → entry_of n y b i a ≡ entry_at ps b i a
+unfolding entry_at
+entry_noted ps b i a y n h e en = ap (λ m. entry_of m y b i a) en ∙ ap (λ u. entry_of (entry_at ps b i a).corner.area u b i a) (read ps i y h e)
+
+pub noted_at : (ps : List Point) (links : List Link) (i : ℕ) (y : Point) → i < length ps → y ≡ get_or ps i y → corner_of (area_in links i) y i ≡ noted ps links i
+unfolding noted
+noted_at ps links i y h e = ap (λ u. corner_of (area_in links i) u i) (read ps i y h e)
+
+-- the area of a corner
+pub area_is : (ps : List Point) (b i a : ℕ) (x y z : Point) (n : ℕ) → b < length ps → i < length ps → a < length ps →
+    x ≡ get_or ps b x → y ≡ get_or ps i y → z ≡ get_or ps a z → n ≡ twice_area x y z → n ≡ (entry_at ps b i a).corner.area
+area_is ps b i a x y z n hb hi ha ex ey ez en = ap (λ (d : Entry). d.corner.area) (entry_is ps b i a x y z n hb hi ha ex ey ez en)
+
+pub same_entry : (ps : List Point) (old new : List Link) (v : ℕ) → before_in new v ≡ before_in old v → after_in new v ≡ after_in old v → entry_in ps new v ≡ entry_in ps old v
+same_entry ps old new v e f = ap (λ x. entry_at ps x v (after_in new v)) e ∙ ap (λ x. entry_at ps (before_in old v) v x) f
+
+pub notes : (ps : List Point) (old new : List Link) (i n : ℕ) → 0 < i → i + 1 < length old → SetsArea old new i n → n ≡ (entry_in ps old i).corner.area → NotesArea ps old new i
+notes ps old new i n p q s e = record {
+  same = s.same;
+  here = λ _ _. s.here ∙ e ∙ ap (λ (d : Entry). d.corner.area) (sym (same_entry ps old new i (s.befores i) (s.afters i)));
+  ends = λ k. absurd (elim k [ inl x ↦ omega (arith, x, p) | inr x ↦ omega (arith, x, q) ]);
+  others = s.others;
+  befores = s.befores;
+  afters = s.afters;
+}
+
+pub notes_end : (ps : List Point) (links : List Link) (i : ℕ) → (0 < i → i + 1 < length links → ⊥) → NotesArea ps links links i
+notes_end ps links i h = record { same = refl; here = λ p q. absurd (h p q); ends = λ _. refl; others = λ _ _. refl; befores = λ _. refl; afters = λ _. refl }
+
+-- the areas up to i are noted
+pub record NotedTo (ps : List Point) (old new : List Link) (i : ℕ) : Type 0 where
+  pub first : IsFirst new (length ps)
+  pub done : (v : ℕ) → 0 < v → v < i → area_in new v ≡ (entry_in ps new v).corner.area
+  pub rest : (v : ℕ) → (v ≡ 0) ⊎ (i ≤ v) → area_in new v ≡ area_in old v
+
+pub noted_start : (ps : List Point) (links : List Link) → IsFirst links (length ps) → NotedTo ps links links 1
+noted_start ps links f = record { first = f; done = λ v p q. absurd (omega (arith, p, q)); rest = λ _ _. refl }
+
+pub noted_more : (ps : List Point) (old mid new : List Link) (i : ℕ) → 0 < i → i + 1 < length ps → NotedTo ps old mid i → NotesArea ps mid new i → NotedTo ps old new (i + 1)
+noted_more ps old mid new i p q h n = record {
+  first = record { size = n.same ∙ h.first.size; befores = λ v l. n.befores v ∙ h.first.befores v l; afters = λ v l. n.afters v ∙ h.first.afters v l };
+  done = λ v a b. on v a b (same_or_not v i);
+  rest = λ v k. n.others v (λ e. elim k [ inl x ↦ omega (arith, x, e, p) | inr x ↦ omega (arith, x, e) ]) ∙ h.rest v (elim k [ inl x ↦ inl x | inr x ↦ inr (omega (arith, x)) ]);
 }
   where
-    at : (g : Link → ℕ) (k : ℕ → ℕ) (v : ℕ) → v < i + 1 → g (link b (i + 1)) ≡ k i → ((w : ℕ) → w < i → g (get_or xs w first_link) ≡ k w) → g (get_or (xs ++ (link b (i + 1) ∷ [])) v first_link) ≡ k v
-    at g k v h here old = on (same_or_not v i)
-      where
-        on : (v ≡ i) ⊎ (v ≢ i) → g (get_or (xs ++ (link b (i + 1) ∷ [])) v first_link) ≡ k v
-        on (inl p) = ap g (ap (λ w. get_or (xs ++ (link b (i + 1) ∷ [])) w first_link) (p ∙ sym f.size) ∙ get_or_push xs (link b (i + 1)) first_link (length xs) refl) ∙ here ∙ ap k (sym p)
-        on (inr n) = ap g (get_or_append_left xs (link b (i + 1) ∷ []) first_link v (omega (arith, f.size))) ∙ old v (omega arith)
+    on : (v : ℕ) → 0 < v → v < i + 1 → (v ≡ i) ⊎ (v ≢ i) → area_in new v ≡ (entry_in ps new v).corner.area
+    on v a b (inl e) = subst (λ w. area_in new w ≡ (entry_in ps new w).corner.area) (sym e) (n.here p (omega (arith, q, h.first.size)))
+    on v a b (inr k) = n.others v k ∙ h.done v a (omega (arith, b, k)) ∙ ap (λ (d : Entry). d.corner.area) (sym (same_entry ps mid new v (n.befores v) (n.afters v)))
+
+pub noted_all : (ps : List Point) (old new : List Link) (i t : ℕ) → NotedTo ps old new i → i ≡ length ps - 1 → 2 ≤ length ps → ((v : ℕ) → v < length ps → area_in old v ≡ t) → AreNoted t ps new
+noted_all ps old new i t h e two f = record {
+  between = λ v p q _. h.done v p (omega (arith, q, e, h.first.size));
+  ends = λ v k. h.rest v (elim k [ inl x ↦ inl x | inr x ↦ inr (omega (arith, x, e, h.first.size)) ]) ∙ f v (elim k [ inl x ↦ omega (arith, x, two) | inr x ↦ omega (arith, x, h.first.size) ]);
+}
+
+at_each : (g : Link → ℕ) (k : ℕ → ℕ) (xs : List Link) (i : ℕ) (x : Link) → length xs ≡ i → (v : ℕ) → v < i + 1 → g x ≡ k i → ((w : ℕ) → w < i → g (get_or xs w first_link) ≡ k w) → g (get_or (xs ++ (x ∷ [])) v first_link) ≡ k v
+at_each g k xs i x z v h here old = on (same_or_not v i)
+  where
+    on : (v ≡ i) ⊎ (v ≢ i) → g (get_or (xs ++ (x ∷ [])) v first_link) ≡ k v
+    on (inl p) = ap g (ap (λ w. get_or (xs ++ (x ∷ [])) w first_link) (p ∙ sym z) ∙ get_or_push xs x first_link (length xs) refl) ∙ here ∙ ap k (sym p)
+    on (inr n) = ap g (get_or_append_left xs (x ∷ []) first_link v (omega (arith, z))) ∙ old v (omega arith)
+
+-- one more link at the end
+pub first_more : (xs ys : List Link) (b i n : ℕ) → IsFirst xs i → ys ≡ xs ++ (link b (i + 1) n ∷ []) → b ≡ pred i → IsFirst ys (i + 1)
+unfolding after_in before_in
+first_more xs ys b i n f e eb = record {
+  size = ap length e ∙ length-append xs (link b (i + 1) n ∷ []) ∙ ap (λ m. m + 1) f.size;
+  befores = λ v h. ap (λ zs. (get_or zs v first_link).before) e ∙ at_each (λ x. x.before) (λ w. pred w) xs i (link b (i + 1) n) f.size v h eb f.befores;
+  afters = λ v h. ap (λ zs. (get_or zs v first_link).after) e ∙ at_each (λ x. x.after) (λ w. w + 1) xs i (link b (i + 1) n) f.size v h refl f.afters;
+}
+
+pub areas_more : (xs ys : List Link) (b i n : ℕ) → length xs ≡ i → ys ≡ xs ++ (link b (i + 1) n ∷ []) → ((v : ℕ) → v < i → area_in xs v ≡ n) → (v : ℕ) → v < i + 1 → area_in ys v ≡ n
+unfolding area_in
+areas_more xs ys b i n z e f v h = ap (λ zs. (get_or zs v first_link).area) e ∙ at_each (λ x. x.area) (λ w. n) xs i (link b (i + 1) n) z v h refl f
 
 -- a walk along the links
 pub record Walk (links : List Link) (i : ℕ) (kept rest vs : List ℕ) : Type 0 where
@@ -119,3 +200,7 @@ walk_more links i kept (x ∷ xs) vs w h =
 
 pub walk_start : (links : List Link) (kept vs : List ℕ) → IsLinked links vs → kept ≡ 0 ∷ [] → Walk links 0 kept vs vs
 walk_start links kept vs h e = record { linked = h; so_far = ap (λ l. l ++ vs) e; chain = h.chain; ends = h.last }
+
+pub not_true : (b : Bool) → not b ≡ true → b ≡ false
+not_true true h = cc
+not_true false h = refl

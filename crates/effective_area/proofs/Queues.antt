@@ -16,7 +16,7 @@ use Rattle.list_laws.proofs.Elements.{all_weaker, all_append}
 use Rattle.geometry.specs.Points.{Point}
 use Rattle.elimination_meaning.proofs.Order.{corner_total}
 use Rattle.effective_area.specs.Vertices.{seen}
-use Rattle.effective_area.specs.Links.{GoesFirst, IsUnder, Pushed, rentry_cmp, turned, entry_in}
+use Rattle.effective_area.specs.Links.{GoesFirst, IsUnder, PushedFirst, rentry_cmp, turned, entry_in}
 use Rattle.effective_area.specs.declared.links.Link.{Link}
 use Rattle.effective_area.specs.declared.entry.Entry.{Entry}
 
@@ -133,10 +133,12 @@ both_empty xs ys e f = ap (λ l. l ++ ys) e ∙ f
 
 -- ---- one is pushed
 
-pub pushed_behind : (t : ℕ) (ps : List Point) (links : List Link) (xs old new : List (Reverse Entry)) (v : ℕ) → Pushed t ps links old new v → Pushed t ps links (xs ++ old) (xs ++ new) v
-pushed_behind t ps links xs old new v p = record {
+pub pushed_behind : (t : ℕ) (ps : List Point) (links : List Link) (xs old new : List (Reverse Entry)) (v w : ℕ) (known : Bool) →
+    PushedFirst t ps links old new v w known → PushedFirst t ps links (xs ++ old) (xs ++ new) v w known
+pushed_behind t ps links xs old new v w known p = record {
   has = λ d h. still d (Contains-append_cases xs old (turned d) h);
-  here = λ a b c. Contains-append_right xs new (turned (entry_in ps links v)) (p.here a b c);
+  inner = λ h k. Contains-append_right xs new (turned (entry_in ps links v)) (p.inner h k);
+  outer = λ f n h k. Contains-append_right xs new (turned (entry_in ps links w)) (p.outer f n h k);
   only = λ d h. alone d (Contains-append_cases xs new (turned d) h);
 }
   where
@@ -144,10 +146,10 @@ pushed_behind t ps links xs old new v p = record {
     still d (inl k) = Contains-append_left xs new (turned d) k
     still d (inr k) = Contains-append_right xs new (turned d) (p.has d k)
 
-    later : (d : Entry) → Contains old (turned d) ⊎ IsUnder t ps links v d → Contains (xs ++ old) (turned d) ⊎ IsUnder t ps links v d
+    later : (d : Entry) → Contains old (turned d) ⊎ (IsUnder t ps links v d ⊎ IsUnder t ps links w d) → Contains (xs ++ old) (turned d) ⊎ (IsUnder t ps links v d ⊎ IsUnder t ps links w d)
     later d (inl k) = inl (Contains-append_right xs old (turned d) k)
     later d (inr k) = inr k
 
-    alone : (d : Entry) → Contains xs (turned d) ⊎ Contains new (turned d) → Contains (xs ++ old) (turned d) ⊎ IsUnder t ps links v d
+    alone : (d : Entry) → Contains xs (turned d) ⊎ Contains new (turned d) → Contains (xs ++ old) (turned d) ⊎ (IsUnder t ps links v d ⊎ IsUnder t ps links w d)
     alone d (inl k) = inl (Contains-append_left xs old (turned d) k)
     alone d (inr k) = later d (p.only d k)

@@ -1,5 +1,5 @@
 -- One elimination, over links and a heap.
-use Rattle.std.proofs.Common.{◌≡◌, ◌≢◌, ℕ, suc, zero, pred, ◌+◌, ◌-◌, ◌<◌, ◌≤◌, false, not, eqb, List, [], ◌∷◌, ◌++◌, length, Option, Some, None, refl, ap, sym, ◌∙◌, subst, arith, ◌⊎◌, inl, inr, Result, Ok, Err, IfOk}
+use Rattle.std.proofs.Common.{◌≡◌, ◌≢◌, ℕ, suc, zero, pred, ◌+◌, ◌-◌, ◌<◌, ◌≤◌, Bool, true, false, not, if◌then◌else◌, eqb, List, [], ◌∷◌, ◌++◌, length, Option, Some, None, refl, ap, sym, ◌∙◌, subst, arith, ◌⊎◌, inl, inr, Result, Ok, Err, IfOk}
 use Rattle.std.specs.List.{range_with_len, filter, Contains, AllByRecursion}
 use Rattle.std.specs.Ordering.{is_lt, ordering_then, nat_cmp}
 use Rattle.std.specs.declared.cmp.Reverse.{Reverse}
@@ -7,7 +7,7 @@ use Rattle.std.specs.declared.cmp.Ordering.{Ordering}
 use Rattle.std.specs.declared.cmp.Ordering.TheVariants.{Less, Equal, Greater}
 use Rattle.geometry.specs.Lists.{In}
 use Rattle.geometry.specs.Points.{Point}
-use Rattle.elimination_meaning.specs.Elimination.{Vertex, Corner, corner_at, corner_cmp, corners, corners_from, least, is_before, eliminate}
+use Rattle.elimination_meaning.specs.Elimination.{Vertex, Corner, corner_at, corner_cmp, corners, least, lesser, is_before, eliminate}
 use Rattle.effective_area.specs.Vertices.{vertex_at, vertices, seen}
 use Rattle.std.proofs.lemmas.Bool.{cases_lt}
 use Rattle.std.proofs.lemmas.List.FromFn.{length-range_with_len}
@@ -19,8 +19,12 @@ use Rattle.effective_area.proofs.Scan.{step_some, step_none, step_over, without_
 use Rattle.effective_area.specs.declared.links.Link.{Link}
 use Rattle.effective_area.specs.declared.entry.Entry.{Entry}
 use Rattle.effective_area.specs.Chains.{Chain, last_of}
-use Rattle.effective_area.specs.Links.{after_in, before_in, entry_at, entry_cmp, turned, IsCurrent, IsSound, IsLinked, Covers, Unlinks, LeavesCurrent, IsState, IsTakenOut, TakesFirst, IsFirst, IsUnder, Fits, Pushed, HasCorners, entry_in}
-use Rattle.effective_area.proofs.Queues.{pushed_behind}
+use Rattle.effective_area.specs.Links.{after_in, before_in, area_in, entry_at, entry_cmp, noted, turned, AreNoted, IsCurrent, IsReady, IsSound, IsLinked, Covers, NotesArea, Unlinks, LeavesCurrent, IsState, IsTakenOut, TakesFirst, IsFirst, IsUnder, Fits, Pushed, PushedFirst, Waits, HasCorners, entry_in}
+use Rattle.effective_area.proofs.LinkLaws.{same_entry}
+use Rattle.list_laws.proofs.Elements.{all_weaker}
+use Rattle.std.specs.Cmp.{IsStrictWeakOrder}
+use Rattle.std.proofs.lemmas.List.MinMax.{ranks_by}
+use Rattle.elimination_meaning.proofs.Order.{corner_total}
 use Rattle.effective_area.proofs.ChainLaws.{same_or_not, keep_step, drop_step, kept_above, above_from, named, cut_out, all_corners, in_corners, least_is}
 
 -- membership is decided
@@ -87,16 +91,40 @@ module _ (after before : ℕ → ℕ) where
   prev_in u (v ∷ vs) i h (inl e) = inl (ap before e ∙ h.1)
   prev_in u (v ∷ vs) i h (inr k) = elim (prev_in v vs i h.3 k) [ inl e ↦ inr (inl e) | inr m ↦ inr (inr m) ]
 
-  -- the first corner of all that are present
-  pub least_at : (ps : List Point) (vs : List ℕ) (i : ℕ) (c : Corner) → Chain after before 0 vs → In i vs → i < last_of 0 vs →
-      c ≡ corner_at (vertex_at ps (before i)) (vertex_at ps i) (vertex_at ps (after i)) →
-      ((v : ℕ) → 0 < v → In v vs → v < last_of 0 vs → is_before (corner_at (vertex_at ps (before v)) (vertex_at ps v) (vertex_at ps (after v))) c ≡ false) →
-      least (corners (vertices ps (0 ∷ vs))) ≡ Some c
-  least_at ps [] i c h k l e f = elim k [ ]
-  least_at ps (v ∷ vs) i c h k l e f =
-      least_is c (corners_from (vertex_at ps 0) (vertex_at ps v) (vertices ps vs))
-      (subst (λ x. In x (corners_from (vertex_at ps 0) (vertex_at ps v) (vertices ps vs))) (sym e) (in_corners after before ps 0 v vs i h k l))
-      (all_corners after before (λ d. is_before d c ≡ false) ps 0 v vs h f)
+  -- those that are linked are none behind the last
+  pub in_last : (u : ℕ) (vs : List ℕ) (i : ℕ) → Chain after before u vs → In i vs → i ≤ last_of u vs
+  in_last u (v ∷ vs) i h (inl e) = let m = last_most v vs h.3 in omega (arith, e, m)
+    where
+      last_most : (w : ℕ) (ws : List ℕ) → Chain after before w ws → w ≤ last_of w ws
+      last_most w [] k = omega arith
+      last_most w (x ∷ xs) k = let m = last_most x xs k.3 in omega (arith, k.2, m)
+  in_last u (v ∷ vs) i h (inr k) = in_last v vs i h.3 k
+  in_last u [] i h k = elim k [ ]
+
+  -- there and back
+  pub prev_next : (u : ℕ) (vs : List ℕ) (i : ℕ) → Chain after before u vs → In i vs → after (before i) ≡ i
+  prev_next u [] i h k = elim k [ ]
+  prev_next u (v ∷ vs) i h (inl e) = ap after (ap before e ∙ h.1) ∙ h.0 ∙ sym e
+  prev_next u (v ∷ vs) i h (inr k) = prev_next v vs i h.3 k
+
+  pub next_prev : (u : ℕ) (vs : List ℕ) (i : ℕ) → Chain after before u vs → In i vs → i < last_of u vs → before (after i) ≡ i
+  next_prev u [] i h k l = elim k [ ]
+  next_prev u (v ∷ []) i h (inl e) l = absurd (omega (arith, e, l))
+  next_prev u (v ∷ []) i h (inr k) l = elim k [ ]
+  next_prev u (v ∷ (w ∷ ws)) i h (inl e) l = ap before (ap after e ∙ h.3.0) ∙ h.3.1 ∙ sym e
+  next_prev u (v ∷ (w ∷ ws)) i h (inr k) l = next_prev v (w ∷ ws) i h.3 k l
+
+  -- the corners are those at the indexes between the ends
+  in_present : (ps : List Point) (vs : List ℕ) (v : ℕ) → Chain after before 0 vs → In v vs → v < last_of 0 vs →
+      In (corner_at (vertex_at ps (before v)) (vertex_at ps v) (vertex_at ps (after v))) (corners (vertices ps (0 ∷ vs)))
+  in_present ps [] v h k l = elim k [ ]
+  in_present ps (w ∷ ws) v h k l = in_corners after before ps 0 w ws v h k l
+
+  all_present : (P : Corner → Type 0) (ps : List Point) (vs : List ℕ) → Chain after before 0 vs →
+      ((v : ℕ) → 0 < v → In v vs → v < last_of 0 vs → P (corner_at (vertex_at ps (before v)) (vertex_at ps v) (vertex_at ps (after v)))) →
+      AllByRecursion P (corners (vertices ps (0 ∷ vs)))
+  all_present P ps [] h f = tt
+  all_present P ps (w ∷ ws) h f = all_corners after before P ps 0 w ws h f
 
 in_length : (a : ℕ) (xs : List ℕ) → In a xs → 1 ≤ length xs
 in_length a [] k = elim k [ ]
@@ -116,6 +144,59 @@ over_later : (c d : Corner) → d.area < c.area → is_before c d ≡ false
 unfolding is_before
 over_later c d h = ap (λ o. is_lt (ordering_then o (ordering_then (point_cmp c.point d.point) (nat_cmp c.index d.index)))) (sym (nat_cmp_is c.area d.area Greater h))
 
+pub under_first : (c d : Corner) → c.area < d.area → is_before c d ≡ true
+unfolding is_before
+under_first c d h = ap (λ o. is_lt (ordering_then o (ordering_then (point_cmp c.point d.point) (nat_cmp c.index d.index)))) (sym (nat_cmp_is c.area d.area Less h))
+
+-- ---- the least of corners
+
+earlier : IsStrictWeakOrder is_before
+unfolding is_before
+earlier = ranks_by corner_total (λ c. c)
+
+abbrev NoneBefore : Corner → List Corner → Type 0
+NoneBefore d cs = AllByRecursion (λ x. is_before x d ≡ false) cs
+
+all_in : (P : Corner → Type 0) (cs : List Corner) (c : Corner) → AllByRecursion P cs → In c cs → P c
+all_in P [] c h k = elim k [ ]
+all_in P (x ∷ xs) c h (inl e) = subst P (sym e) h.0
+all_in P (x ∷ xs) c h (inr k) = all_in P xs c h.1 k
+
+no_least : (cs : List Corner) → least cs ≡ None → cs ≡ []
+no_least [] e = refl
+no_least (x ∷ xs) e = on (least xs) e
+  where
+    on : (o : Option Corner) → lesser (Some x) o ≡ None → x ∷ xs ≡ []
+    on None h = absurd (cc)
+    on (Some d) h = absurd (cc)
+
+not_self : (c : Corner) → is_before c c ≡ false
+not_self c = on (is_before c c) refl
+  where
+    on : (b : Bool) → is_before c c ≡ b → is_before c c ≡ false
+    on true e = earlier.one_way c c e
+    on false e = e
+
+least_first : (cs : List Corner) → Holds (λ d. NoneBefore d cs) (least cs)
+least_first [] = tt
+least_first (c ∷ cs) = on (least cs) (least_first cs) (no_least cs)
+  where
+    by_test : (d : Corner) → NoneBefore d cs → (b : Bool) → is_before d c ≡ b → NoneBefore (if b then d else c) (c ∷ cs)
+    by_test d h true p = (earlier.one_way d c p, h)
+    by_test d h false p = (not_self c, all_weaker (λ x. is_before x d ≡ false) (λ x. is_before x c ≡ false) (λ x k. earlier.chain x d c k p) cs h)
+
+    on : (o : Option Corner) → Holds (λ d. NoneBefore d cs) o → (o ≡ None → cs ≡ []) → Holds (λ d. NoneBefore d (c ∷ cs)) (lesser (Some c) o)
+    on None h e = (not_self c, subst (λ l. NoneBefore c l) (sym (e refl)) tt)
+    on (Some d) h e = by_test d h (is_before d c) refl
+
+-- what holds of the least of all, and so of all that it goes before
+least_decides : (P Q : Corner → Type 0) (cs : List Corner) → AllByRecursion (λ d. NoneBefore d cs → P d) cs → ((d x : Corner) → P d → is_before x d ≡ false → Q x) → AllByRecursion Q cs
+least_decides P Q cs h f = on (least cs) (no_least cs) (least_first cs) (least_holds (λ d. NoneBefore d cs → P d) cs h)
+  where
+    on : (o : Option Corner) → (o ≡ None → cs ≡ []) → Holds (λ d. NoneBefore d cs) o → Holds (λ d. NoneBefore d cs → P d) o → AllByRecursion Q cs
+    on None e k l = subst (λ x. AllByRecursion Q x) (sym (e refl)) tt
+    on (Some d) e k l = all_weaker (λ x. is_before x d ≡ false) Q (λ x n. f d x (l k) n) cs k
+
 pub current_at : (ps : List Point) (links : List Link) (v : ℕ) → v < length links → IsCurrent links (entry_at ps (before_in links v) v (after_in links v))
 unfolding entry_at
 current_at ps links v h = record { within = h; before = refl; after = refl }
@@ -131,6 +212,117 @@ index_at ps b v a = refl
 corner_of_entry : (ps : List Point) (b v a : ℕ) → seen (entry_at ps b v a).corner ≡ corner_at (vertex_at ps b) (vertex_at ps v) (vertex_at ps a)
 unfolding entry_at
 corner_of_entry ps b v a = refl
+
+module _ (t : ℕ) (ps : List Point) (links : List Link) (vs : List ℕ) (linked : IsLinked links vs) (notes : AreNoted t ps links) where
+  abbrev corner_of : ℕ → Corner
+  corner_of v = corner_at (vertex_at ps (before_in links v)) (vertex_at ps v) (vertex_at ps (after_in links v))
+
+  -- what is noted is the corner
+  noted_is : (v : ℕ) → 0 < v → In v vs → v < last_of 0 vs → noted ps links v ≡ corner_of v
+  unfolding noted
+  noted_is v p k l =
+      let n = named (after_in links) (before_in links) 0 vs v linked.chain k in
+      ap (λ m. one m) (notes.between v p (omega (arith, l, linked.last)) (λ q. absurd (omega (arith, q, n.1))) ∙ ap (λ (c : Corner). c.area) (corner_of_entry ps (before_in links v) v (after_in links v)))
+    where
+      one : ℕ → Corner
+      one m = record { area = m; point = (vertex_at ps v).point; index = v }
+
+  -- an end never goes before a corner under the threshold
+  end_later : (u v : ℕ) → (u ≡ 0) ⊎ (u + 1 ≡ length links) → (noted ps links v).area < t → is_before (noted ps links u) (noted ps links v) ≡ false
+  unfolding noted
+  end_later u v k h = over_later (noted ps links u) (noted ps links v) (omega (arith, h, notes.ends u k))
+
+  neighbour_later : (u v : ℕ) → 0 < v → In v vs → v < last_of 0 vs → (corner_of v).area < t → NoneBefore (corner_of v) (corners (vertices ps (0 ∷ vs))) → (u ≡ 0) ⊎ In u vs →
+      is_before (noted ps links u) (noted ps links v) ≡ false
+  neighbour_later u v p k l h none m = on m
+    where
+      under : (noted ps links v).area < t
+      under = subst (λ (c : Corner). c.area < t) (sym (noted_is v p k l)) h
+
+      inside : In u vs → (u < last_of 0 vs) ⊎ (last_of 0 vs ≤ u) → is_before (noted ps links u) (noted ps links v) ≡ false
+      inside w (inl b) =
+          let n = named (after_in links) (before_in links) 0 vs u linked.chain w in
+          let f : is_before (corner_of u) (corner_of v) ≡ false = all_in (λ x. is_before x (corner_of v) ≡ false) (corners (vertices ps (0 ∷ vs))) (corner_of u) none (in_present (after_in links) (before_in links) ps vs u linked.chain w b) in
+          ap (λ c. is_before c (noted ps links v)) (noted_is u (omega (arith, n.1)) w b) ∙ ap (is_before (corner_of u)) (noted_is v p k l) ∙ f
+      inside w (inr b) = let a = in_last (after_in links) (before_in links) 0 vs u linked.chain w in end_later u v (inr (omega (arith, a, b, linked.last))) under
+
+      on : (u ≡ 0) ⊎ In u vs → is_before (noted ps links u) (noted ps links v) ≡ false
+      on (inl e) = end_later u v (inl e) under
+      on (inr w) = inside w (cases_lt u (last_of 0 vs))
+
+  -- the first corner of all waits, if it is under the threshold
+  first_waits : (v : ℕ) → 0 < v → In v vs → v < last_of 0 vs → (corner_of v).area < t → NoneBefore (corner_of v) (corners (vertices ps (0 ∷ vs))) → Waits t ps links v
+  first_waits v p k l h none = record {
+    later = p;
+    inside = omega (arith, l, linked.last);
+    under = subst (λ (c : Corner). c.area < t) (sym (corner_of_entry ps (before_in links v) v (after_in links v))) h;
+    before = neighbour_later (before_in links v) v p k l h none (prev_in (after_in links) (before_in links) 0 vs v linked.chain k);
+    after = neighbour_later (after_in links v) v p k l h none (inr (next_in (after_in links) (before_in links) 0 vs v linked.chain k l).0);
+  }
+
+  -- what is present can be compared
+  pub ready_at : length links ≡ length ps → (v : ℕ) → (v ≡ 0) ⊎ In v vs → IsReady ps links v
+  ready_at size v (inl e) = record { within = omega (arith, e, linked.last); fits = λ p _. absurd (omega (arith, p, e)); noted = λ p _. absurd (omega (arith, p, e)) }
+  ready_at size v (inr k) =
+      let n = named (after_in links) (before_in links) 0 vs v linked.chain k in
+      let a = in_last (after_in links) (before_in links) 0 vs v linked.chain k in
+      record {
+        within = omega (arith, a, linked.last);
+        fits = λ p q. let m = next_in (after_in links) (before_in links) 0 vs v linked.chain k (omega (arith, q, linked.last)) in record { before = n.1; after = m.1; within = omega (arith, m.2, linked.last, size) };
+        noted = λ p q. notes.between v p q (λ x. absurd (omega (arith, x, n.1)));
+      }
+
+-- the neighbours of what is present are present
+pub ahead_in : (links : List Link) (vs : List ℕ) (b f : ℕ) → IsLinked links vs → (b ≡ 0) ⊎ In b vs → (b ≡ 0 → f ≡ b) → (0 < b → f ≡ before_in links b) → (f ≡ 0) ⊎ In f vs
+ahead_in links vs b f h (inl e) z n = inl (z e ∙ e)
+ahead_in links vs b f h (inr k) z n =
+    let m = named (after_in links) (before_in links) 0 vs b h.chain k in
+    let e : f ≡ before_in links b = n (omega (arith, m.1)) in
+    elim (prev_in (after_in links) (before_in links) 0 vs b h.chain k) [ inl x ↦ inl (e ∙ x) | inr x ↦ inr (subst (λ y. In y vs) (sym e) x) ]
+
+pub behind_in : (links : List Link) (vs : List ℕ) (a l : ℕ) → IsLinked links vs → In a vs → (a + 1 ≡ length links → l ≡ a) → (a + 1 < length links → l ≡ after_in links a) → In l vs
+behind_in links vs a l h k z n = on (cases_lt (a + 1) (length links))
+  where
+    on : (a + 1 < length links) ⊎ (length links ≤ a + 1) → In l vs
+    on (inl q) = subst (λ y. In y vs) (sym (n q)) (next_in (after_in links) (before_in links) 0 vs a h.chain k (omega (arith, q, h.last))).0
+    on (inr q) = let m = in_last (after_in links) (before_in links) 0 vs a h.chain k in subst (λ y. In y vs) (sym (z (omega (arith, q, m, h.last)))) k
+
+-- two areas are noted anew
+pub record Renews (ps : List Point) (old new : List Link) (b a : ℕ) : Type 0 where
+  pub at : (v : ℕ) → (v ≡ b) ⊎ (v ≡ a) → 0 < v → v + 1 < length new → area_in new v ≡ (entry_in ps new v).corner.area
+  pub ends : (v : ℕ) → (v ≡ 0) ⊎ (v + 1 ≡ length new) → area_in new v ≡ area_in old v
+  pub others : (v : ℕ) → v ≢ b → v ≢ a → area_in new v ≡ area_in old v
+
+pub renews : (ps : List Point) (links one two new : List Link) (b a : ℕ) → b < a → ((v : ℕ) → area_in one v ≡ area_in links v) → NotesArea ps one two b → NotesArea ps two new a → Renews ps links new b a
+renews ps links one two new b a lt same nb na = record {
+  at = newly;
+  ends = λ v k. first v k (same_or_not v a) ∙ second v k (same_or_not v b) ∙ same v;
+  others = λ v n m. na.others v m ∙ nb.others v n ∙ same v;
+}
+  where
+    newly : (v : ℕ) → (v ≡ b) ⊎ (v ≡ a) → 0 < v → v + 1 < length new → area_in new v ≡ (entry_in ps new v).corner.area
+    newly v (inl e) p q = na.others v (λ x. absurd (omega (arith, x, e, lt)))
+        ∙ subst (λ w. area_in two w ≡ (entry_in ps two w).corner.area) (sym e) (nb.here (omega (arith, e, p)) (omega (arith, e, q, na.same, nb.same)))
+        ∙ ap (λ (d : Entry). d.corner.area) (sym (same_entry ps two new v (na.befores v) (na.afters v)))
+    newly v (inr e) p q = subst (λ w. area_in new w ≡ (entry_in ps new w).corner.area) (sym e) (na.here (omega (arith, e, p)) (omega (arith, e, q, na.same)))
+
+    first : (v : ℕ) → (v ≡ 0) ⊎ (v + 1 ≡ length new) → (v ≡ a) ⊎ (v ≢ a) → area_in new v ≡ area_in two v
+    first v k (inl e) = subst (λ w. area_in new w ≡ area_in two w) (sym e) (na.ends (elim k [ inl x ↦ inl (sym e ∙ x) | inr x ↦ inr (omega (arith, x, e, na.same)) ]))
+    first v k (inr n) = na.others v n
+
+    second : (v : ℕ) → (v ≡ 0) ⊎ (v + 1 ≡ length new) → (v ≡ b) ⊎ (v ≢ b) → area_in two v ≡ area_in one v
+    second v k (inl e) = subst (λ w. area_in two w ≡ area_in one w) (sym e) (nb.ends (elim k [ inl x ↦ inl (sym e ∙ x) | inr x ↦ inr (omega (arith, x, e, na.same, nb.same)) ]))
+    second v k (inr n) = nb.others v n
+
+pub unlinks_on : (ps : List Point) (old mid new : List Link) (b i a v : ℕ) → Unlinks old mid b i a → NotesArea ps mid new v → Unlinks old new b i a
+unlinks_on ps old mid new b i a v u n = record {
+  same = n.same ∙ u.same;
+  bridge = n.afters b ∙ u.bridge;
+  others = λ w k. n.afters w ∙ u.others w k;
+  bridge_back = n.befores a ∙ u.bridge_back;
+  out = n.befores i ∙ u.out;
+  others_back = λ w k m. n.befores w ∙ u.others_back w k m;
+}
 
 module _ (t : ℕ) (ps : List Point) (links links' : List Link) (items mid items' : List (Reverse Entry)) (left : ℕ) (vs : List ℕ) (e : Entry)
     (s : IsState t ps links items left vs)
@@ -149,27 +341,31 @@ module _ (t : ℕ) (ps : List Point) (links links' : List Link) (items mid items
   inside : e.corner.index < last_of 0 vs
   inside = omega (arith, s.linked.last, s.size, so.after, so.within)
 
-  -- a corner that isn't under the threshold has no entry, and goes later
-  not_before : (d : Entry) → IsCurrent links d → (d.corner.area < t → Contains items (turned d)) → is_before (seen d.corner) (seen e.corner) ≡ false
-  not_before d k c = on (cases_lt d.corner.area t)
+  at_entry : seen e.corner ≡ corner_of t ps links vs s.linked s.noted e.corner.index
+  at_entry = ap (λ (d : Entry). seen d.corner) so.is ∙ corner_of_entry ps e.before e.corner.index e.after
+      ∙ ap (λ x. corner_at (vertex_at ps x) (vertex_at ps e.corner.index) (vertex_at ps e.after)) (sym cur.before)
+      ∙ ap (λ x. corner_at (vertex_at ps (before_in links e.corner.index)) (vertex_at ps e.corner.index) (vertex_at ps x)) (sym cur.after)
+
+  -- the first corner of all doesn't go before the entry: it waits, or it isn't under the threshold
+  not_before : (v : ℕ) → 0 < v → In v vs → v < last_of 0 vs → NoneBefore (corner_of t ps links vs s.linked s.noted v) (corners (vertices ps (0 ∷ vs))) →
+      is_before (corner_of t ps links vs s.linked s.noted v) (seen e.corner) ≡ false
+  not_before v p k m none = on (cases_lt (corner_of t ps links vs s.linked s.noted v).area t)
     where
-      on : (d.corner.area < t) ⊎ (t ≤ d.corner.area) → is_before (seen d.corner) (seen e.corner) ≡ false
-      on (inl u) = corner_first d e (l.first e d refl (c u) k)
-      on (inr o) = over_later (seen d.corner) (seen e.corner) (omega (arith, o, so.under))
+      on : ((corner_of t ps links vs s.linked s.noted v).area < t) ⊎ (t ≤ (corner_of t ps links vs s.linked s.noted v).area) → is_before (corner_of t ps links vs s.linked s.noted v) (seen e.corner) ≡ false
+      on (inl u) =
+          let n = named (after_in links) (before_in links) 0 vs v s.linked.chain k in
+          let c = s.covers v (λ q. absurd (omega (arith, q, n.1))) (first_waits t ps links vs s.linked s.noted v p k m u none) in
+          subst (λ x. is_before x (seen e.corner) ≡ false) (corner_of_entry ps (before_in links v) v (after_in links v))
+          (corner_first (entry_in ps links v) e (l.first e (entry_in ps links v) refl c (current_at ps links v (omega (arith, s.linked.last, m)))))
+      on (inr o) = over_later (corner_of t ps links vs s.linked s.noted v) (seen e.corner) (omega (arith, o, so.under))
 
   -- the entry is the first corner of all
   pub is_least : least (corners (vertices ps (0 ∷ vs))) ≡ Some (seen e.corner)
-  is_least = least_at (after_in links) (before_in links) ps vs e.corner.index (seen e.corner) s.linked.chain in_vs inside
-      (ap (λ (d : Entry). seen d.corner) so.is ∙ corner_of_entry ps e.before e.corner.index e.after
-      ∙ ap (λ x. corner_at (vertex_at ps x) (vertex_at ps e.corner.index) (vertex_at ps e.after)) (sym cur.before)
-      ∙ ap (λ x. corner_at (vertex_at ps (before_in links e.corner.index)) (vertex_at ps e.corner.index) (vertex_at ps x)) (sym cur.after))
-      (λ v p k m.
-      let d = entry_at ps (before_in links v) v (after_in links v) in
-      let n = named (after_in links) (before_in links) 0 vs v s.linked.chain k in
-      let w : v < length links = omega (arith, s.linked.last, m) in
-      let c = s.covers v p (omega (arith, s.linked.last, m)) (λ q. absurd (omega (arith, q, n.1))) in
-      subst (λ x. is_before x (seen e.corner) ≡ false) (corner_of_entry ps (before_in links v) v (after_in links v))
-      (not_before d (current_at ps links v w) c))
+  is_least = least_is (seen e.corner) (corners (vertices ps (0 ∷ vs)))
+      (subst (λ x. In x (corners (vertices ps (0 ∷ vs)))) (sym at_entry) (in_present (after_in links) (before_in links) ps vs e.corner.index s.linked.chain in_vs inside))
+      (least_decides (λ d. is_before d (seen e.corner) ≡ false) (λ d. is_before d (seen e.corner) ≡ false) (corners (vertices ps (0 ∷ vs)))
+      (all_present (after_in links) (before_in links) (λ d. NoneBefore d (corners (vertices ps (0 ∷ vs))) → is_before d (seen e.corner) ≡ false) ps vs s.linked.chain not_before)
+      (λ d x h n. earlier.chain x d (seen e.corner) n h))
 
   module _ (un : Unlinks links links' e.before e.corner.index e.after) where
     abbrev pub rest_of : List ℕ
@@ -219,67 +415,163 @@ module _ (t : ℕ) (ps : List Point) (links links' : List Link) (items mid items
         let some = in_length e.after rest_of (in_filter e.corner.index e.after vs after_in_vs (λ x. absurd (omega (arith, x, so.after)))) in
         omega (arith, one, some, s.many)
 
-    module _ (has : (d : Entry) → Contains mid (turned d) → Contains items' (turned d))
-        (near : 0 < e.before → (entry_in ps links' e.before).corner.area < t → Contains items' (turned (entry_in ps links' e.before)))
-        (far : e.after + 1 < length links' → (entry_in ps links' e.after).corner.area < t → Contains items' (turned (entry_in ps links' e.after)))
-        (only : (d : Entry) → Contains items' (turned d) → Contains mid (turned d) ⊎ ((v : ℕ) × ((v ≡ e.before) ⊎ (v ≡ e.after)) × IsUnder t ps links' v d)) where
-      covers' : Covers t ps links' items'
-      covers' v p q n u = on (same_or_not v e.before) (same_or_not v e.after)
+    pub linked_on : IsLinked links' rest_of
+    linked_on = record { chain = chain'; last = omega (arith, last', s.linked.last, un.same); gone = gone' }
+
+    -- its neighbours stay present
+    pub before_stays : (e.before ≡ 0) ⊎ In e.before rest_of
+    before_stays = on (cases_lt 0 e.before)
+      where
+        on : (0 < e.before) ⊎ (e.before ≤ 0) → (e.before ≡ 0) ⊎ In e.before rest_of
+        on (inl p) = inr (linked_at e.before p (inl refl))
+        on (inr p) = inl (omega (arith, p))
+
+    pub after_stays : In e.after rest_of
+    after_stays = linked_at e.after (omega (arith, so.after)) (inr refl)
+
+    there : (v : ℕ) → 0 < v → v < length links' → before_in links' v ≢ v → In v rest_of
+    there v p q n = on (in_or_not v rest_of)
+      where
+        on : In v rest_of ⊎ (In v rest_of → ⊥) → In v rest_of
+        on (inl k) = k
+        on (inr m) = absurd (n (gone' v p q m))
+
+    same_at : (v : ℕ) → before_in links' v ≢ v → v ≢ e.before → v ≢ e.after → (before_in links' v ≡ before_in links v) × (after_in links' v ≡ after_in links v)
+    same_at v n m k = (un.others_back v k (λ x. n (ap (before_in links') x ∙ un.out ∙ sym x)), un.others v m)
+
+    -- the ones beside its neighbours
+    pub beside_before : (v : ℕ) → Waits t ps links' v → before_in links' v ≢ v → after_in links' v ≡ e.before → (v < e.before) × (v ≡ before_in links e.before)
+    beside_before v w n h =
+        let k = there v w.later (omega (arith, w.inside)) n in
+        let l : v < last_of 0 rest_of = omega (arith, last', s.linked.last, un.same, w.inside) in
+        let m = next_in (after_in links') (before_in links') 0 rest_of v chain' k l in (
+          omega (arith, m.1, h),
+          sym (next_prev (after_in links') (before_in links') 0 rest_of v chain' k l) ∙ ap (before_in links') h
+              ∙ un.others_back e.before (λ x. absurd (omega (arith, x, so.before, so.after))) (λ x. absurd (omega (arith, x, so.before))),
+        )
+
+    pub beside_after : (v : ℕ) → Waits t ps links' v → before_in links' v ≢ v → before_in links' v ≡ e.after → (e.after < v) × (v ≡ after_in links e.after)
+    beside_after v w n h =
+        let k = there v w.later (omega (arith, w.inside)) n in
+        let m = named (after_in links') (before_in links') 0 rest_of v chain' k in (
+          omega (arith, m.1, h),
+          sym (prev_next (after_in links') (before_in links') 0 rest_of v chain' k) ∙ ap (after_in links') h ∙ un.others e.after (λ x. absurd (omega (arith, x, so.before, so.after))),
+        )
+
+    module _ (re : Renews ps links links' e.before e.after) where
+      pub notes_on : AreNoted t ps links'
+      notes_on = record {
+        between = λ v p q n. on v p q n (same_or_not v e.before) (same_or_not v e.after);
+        ends = λ v k. re.ends v k ∙ s.noted.ends v (elim k [ inl x ↦ inl x | inr x ↦ inr (x ∙ un.same) ]);
+      }
         where
-          other : v ≢ e.before → v ≢ e.after → Contains items' (turned (entry_in ps links' v))
-          other m k =
-              let ni : v ≢ e.corner.index = λ x. n (ap (before_in links') x ∙ un.out ∙ sym x) in
-              let eb : before_in links' v ≡ before_in links v = un.others_back v k ni in
-              let ea : after_in links' v ≡ after_in links v = un.others v m in
-              let w : v < length links = omega (arith, un.same) in
-              let d = entry_at ps (before_in links v) v (after_in links v) in
-              let ed : entry_in ps links' v ≡ d = ap (λ x. entry_at ps x v (after_in links' v)) eb ∙ ap (λ x. entry_at ps (before_in links v) v x) ea in
-              let c = s.covers v p (omega (arith, un.same)) (λ x. n (eb ∙ x)) (subst (λ (x : Entry). x.corner.area < t) ed u) in
-              let still : Contains mid (turned d) = on_stays d ni (index_at ps (before_in links v) v (after_in links v)) (l.stays d c (current_at ps links v w)) in
-              subst (λ x. Contains items' (turned x)) (sym ed) (has d still)
-            where
-              on_stays : (d : Entry) → v ≢ e.corner.index → d.corner.index ≡ v → (◌≡◌ {A = Option Entry} (Some e) (Some d)) ⊎ Contains mid (turned d) → Contains mid (turned d)
-              on_stays d ni x (inl y) = let z : e ≡ d = cc in absurd (ni (sym x ∙ ap (λ (w : Entry). w.corner.index) (sym z)))
-              on_stays d ni x (inr y) = y
+          on : (v : ℕ) → 0 < v → v + 1 < length links' → before_in links' v ≢ v → (v ≡ e.before) ⊎ (v ≢ e.before) → (v ≡ e.after) ⊎ (v ≢ e.after) → area_in links' v ≡ (entry_in ps links' v).corner.area
+          on v p q n (inl k) m = re.at v (inl k) p q
+          on v p q n (inr k) (inl m) = re.at v (inr m) p q
+          on v p q n (inr k) (inr m) =
+              let a = same_at v n k m in
+              re.others v k m ∙ s.noted.between v p (omega (arith, q, un.same)) (λ x. n (a.0 ∙ x)) ∙ ap (λ (d : Entry). d.corner.area) (sym (same_entry ps links links' v a.0 a.1))
 
-          at : (w : ℕ) → v ≡ w → (entry_in ps links' w).corner.area < t
-          at w k = subst (λ x. (entry_in ps links' x).corner.area < t) k u
-
-          on : (v ≡ e.before) ⊎ (v ≢ e.before) → (v ≡ e.after) ⊎ (v ≢ e.after) → Contains items' (turned (entry_in ps links' v))
-          on (inl k) m = subst (λ x. Contains items' (turned (entry_in ps links' x))) (sym k) (near (omega (arith, k)) (at e.before k))
-          on (inr k) (inl m) = subst (λ x. Contains items' (turned (entry_in ps links' x))) (sym m) (far (omega (arith, m)) (at e.after m))
-          on (inr k) (inr m) = other k m
-
-      sound' : (d : Entry) → Contains items' (turned d) → IsSound t ps d
-      sound' d h = on (only d h)
+      noted_same : (v : ℕ) → v ≢ e.before → v ≢ e.after → noted ps links' v ≡ noted ps links v
+      unfolding noted
+      noted_same v m k = ap (λ n. one n) (re.others v m k)
         where
-          on : Contains mid (turned d) ⊎ ((v : ℕ) × ((v ≡ e.before) ⊎ (v ≡ e.after)) × IsUnder t ps links' v d) → IsSound t ps d
-          on (inl k) = s.sound d (l.rest d k)
-          on (inr (v, k, u)) =
-              let f = fits v u.0 u.1 k in
-              subst (λ y. IsSound t ps y) (sym u.2) (sound_at t ps (before_in links' v) v (after_in links' v) f.0 f.1 f.2 (subst (λ (y : Entry). y.corner.area < t) u.2 u.3))
+          one : ℕ → Corner
+          one n = record { area = n; point = (vertex_at ps v).point; index = v }
 
-      pub next_state : IsState t ps links' items' (left - 1) rest_of
-      next_state =
-          let one = one_less (after_in links) (before_in links) 0 e.corner.index vs s.linked.chain in_vs in
-          let some = in_length e.after rest_of (in_filter e.corner.index e.after vs after_in_vs (λ x. absurd (omega (arith, x, so.after)))) in
-          let fuel : left - 1 + 2 ≡ left + 1 = omega (arith, one, some, s.many) in
-          let fuel2 : suc (left + 1) ≡ left + 2 = omega arith in
-          let nz : 0 ≢ e.corner.index = λ x. absurd (omega (arith, x, so.before)) in
-          record {
-            linked = record { chain = chain'; last = omega (arith, last', s.linked.last, un.same); gone = gone' };
-            size = un.same ∙ s.size;
-            covers = covers';
-            sound = sound';
-            many = omega (arith, one, some, s.many);
-            rest =
-                ap (λ n. eliminate n t (vertices ps (0 ∷ rest_of))) fuel
-                ∙ ap (λ x. eliminate (left + 1) t (vertices ps x)) (sym (keep_step e.corner.index 0 vs nz))
-                ∙ ap (eliminate (left + 1) t) (sym (without_vertices ps e.corner.index (0 ∷ vs)))
-                ∙ sym (step_some (left + 1) t (vertices ps (0 ∷ vs)) (seen e.corner) (sym is_least) so.under)
-                ∙ ap (λ n. eliminate n t (vertices ps (0 ∷ vs))) fuel2
-                ∙ s.rest;
-          }
+      module _ (has : (d : Entry) → Contains mid (turned d) → Contains items' (turned d))
+          (near : Waits t ps links' e.before → Contains items' (turned (entry_in ps links' e.before)))
+          (far : Waits t ps links' e.after → Contains items' (turned (entry_in ps links' e.after)))
+          (ahead : (v : ℕ) → Waits t ps links' v → before_in links' v ≢ v → after_in links' v ≡ e.before → (is_before (noted ps links e.before) (noted ps links v) ≡ false) ⊎ Contains items' (turned (entry_in ps links' v)))
+          (behind : (v : ℕ) → Waits t ps links' v → before_in links' v ≢ v → before_in links' v ≡ e.after → (is_before (noted ps links e.after) (noted ps links v) ≡ false) ⊎ Contains items' (turned (entry_in ps links' v)))
+          (only : (d : Entry) → Contains items' (turned d) → Contains mid (turned d) ⊎ ((v : ℕ) × IsReady ps links' v × IsUnder t ps links' v d)) where
+        covers' : Covers t ps links' items'
+        covers' v n w = on (same_or_not v e.before) (same_or_not v e.after)
+          where
+            There : Type 0
+            There = Contains items' (turned (entry_in ps links' v))
+
+            -- an old entry stays
+            old : v ≢ e.before → v ≢ e.after → is_before (noted ps links (before_in links v)) (noted ps links v) ≡ false → is_before (noted ps links (after_in links v)) (noted ps links v) ≡ false → There
+            old m k p q =
+                let a = same_at v n m k in
+                let ed = same_entry ps links links' v a.0 a.1 in
+                let ni : v ≢ e.corner.index = λ x. n (ap (before_in links') x ∙ un.out ∙ sym x) in
+                let waits : Waits t ps links v = record { later = w.later; inside = omega (arith, w.inside, un.same); under = subst (λ (x : Entry). x.corner.area < t) ed w.under; before = p; after = q } in
+                let c = s.covers v (λ x. n (a.0 ∙ x)) waits in
+                let d = entry_in ps links v in
+                let still : Contains mid (turned d) = on_stays d ni (index_at ps (before_in links v) v (after_in links v)) (l.stays d c (current_at ps links v (omega (arith, w.inside, un.same)))) in
+                subst (λ x. Contains items' (turned x)) (sym ed) (has d still)
+              where
+                on_stays : (d : Entry) → v ≢ e.corner.index → d.corner.index ≡ v → (◌≡◌ {A = Option Entry} (Some e) (Some d)) ⊎ Contains mid (turned d) → Contains mid (turned d)
+                on_stays d ni x (inl y) = let z : e ≡ d = cc in absurd (ni (sym x ∙ ap (λ (w : Entry). w.corner.index) (sym z)))
+                on_stays d ni x (inr y) = y
+
+            here : In v rest_of
+            here = there v w.later (omega (arith, w.inside)) n
+
+            inner : v < last_of 0 rest_of
+            inner = omega (arith, last', s.linked.last, un.same, w.inside)
+
+            same_side : (u u' : ℕ) → v ≢ e.before → v ≢ e.after → u' ≡ u → u' ≢ e.before → u' ≢ e.after → is_before (noted ps links' u') (noted ps links' v) ≡ false → is_before (noted ps links u) (noted ps links v) ≡ false
+            same_side u u' m k z x y h = subst (λ a. is_before (noted ps links a) (noted ps links v) ≡ false) z
+                (ap (λ a. is_before a (noted ps links v)) (sym (noted_same u' x y)) ∙ ap (is_before (noted ps links' u')) (sym (noted_same v m k)) ∙ h)
+
+            before_side : v ≢ e.before → v ≢ e.after → (is_before (noted ps links (before_in links v)) (noted ps links v) ≡ false) ⊎ There
+            before_side m k = pick (same_or_not (before_in links' v) e.before) (same_or_not (before_in links' v) e.after)
+              where
+                pick : (before_in links' v ≡ e.before) ⊎ (before_in links' v ≢ e.before) → (before_in links' v ≡ e.after) ⊎ (before_in links' v ≢ e.after) → (is_before (noted ps links (before_in links v)) (noted ps links v) ≡ false) ⊎ There
+                pick (inl x) y = absurd (k (sym (prev_next (after_in links') (before_in links') 0 rest_of v chain' here) ∙ ap (after_in links') x ∙ un.bridge))
+                pick (inr x) (inl y) = elim (behind v w n y) [ inl b ↦ inl (subst (λ u. is_before (noted ps links u) (noted ps links v) ≡ false) (sym y ∙ (same_at v n m k).0) b) | inr c ↦ inr c ]
+                pick (inr x) (inr y) = inl (same_side (before_in links v) (before_in links' v) m k (same_at v n m k).0 x y w.before)
+
+            after_side : v ≢ e.before → v ≢ e.after → (is_before (noted ps links (after_in links v)) (noted ps links v) ≡ false) ⊎ There
+            after_side m k = pick (same_or_not (after_in links' v) e.before) (same_or_not (after_in links' v) e.after)
+              where
+                pick : (after_in links' v ≡ e.before) ⊎ (after_in links' v ≢ e.before) → (after_in links' v ≡ e.after) ⊎ (after_in links' v ≢ e.after) → (is_before (noted ps links (after_in links v)) (noted ps links v) ≡ false) ⊎ There
+                pick (inl x) y = elim (ahead v w n x) [ inl b ↦ inl (subst (λ u. is_before (noted ps links u) (noted ps links v) ≡ false) (sym x ∙ (same_at v n m k).1) b) | inr c ↦ inr c ]
+                pick (inr x) (inl y) = absurd (m (sym (next_prev (after_in links') (before_in links') 0 rest_of v chain' here inner) ∙ ap (before_in links') y ∙ un.bridge_back))
+                pick (inr x) (inr y) = inl (same_side (after_in links v) (after_in links' v) m k (same_at v n m k).1 x y w.after)
+
+            other : v ≢ e.before → v ≢ e.after → There
+            other m k = elim (before_side m k) [ inr c ↦ c | inl p ↦ elim (after_side m k) [ inr c ↦ c | inl q ↦ old m k p q ] ]
+
+            on : (v ≡ e.before) ⊎ (v ≢ e.before) → (v ≡ e.after) ⊎ (v ≢ e.after) → There
+            on (inl k) m = subst (λ x. Contains items' (turned (entry_in ps links' x))) (sym k) (near (subst (λ x. Waits t ps links' x) k w))
+            on (inr k) (inl m) = subst (λ x. Contains items' (turned (entry_in ps links' x))) (sym m) (far (subst (λ x. Waits t ps links' x) m w))
+            on (inr k) (inr m) = other k m
+
+        sound' : (d : Entry) → Contains items' (turned d) → IsSound t ps d
+        sound' d h = on (only d h)
+          where
+            on : Contains mid (turned d) ⊎ ((v : ℕ) × IsReady ps links' v × IsUnder t ps links' v d) → IsSound t ps d
+            on (inl k) = s.sound d (l.rest d k)
+            on (inr (v, r, u)) =
+                let f = r.fits u.0 u.1 in
+                subst (λ y. IsSound t ps y) (sym u.2) (sound_at t ps (before_in links' v) v (after_in links' v) f.before f.after f.within (subst (λ (y : Entry). y.corner.area < t) u.2 u.3))
+
+        pub next_state : IsState t ps links' items' (left - 1) rest_of
+        next_state =
+            let one = one_less (after_in links) (before_in links) 0 e.corner.index vs s.linked.chain in_vs in
+            let some = in_length e.after rest_of (in_filter e.corner.index e.after vs after_in_vs (λ x. absurd (omega (arith, x, so.after)))) in
+            let fuel : left - 1 + 2 ≡ left + 1 = omega (arith, one, some, s.many) in
+            let fuel2 : suc (left + 1) ≡ left + 2 = omega arith in
+            let nz : 0 ≢ e.corner.index = λ x. absurd (omega (arith, x, so.before)) in
+            record {
+              linked = linked_on;
+              noted = notes_on;
+              size = un.same ∙ s.size;
+              covers = covers';
+              sound = sound';
+              many = omega (arith, one, some, s.many);
+              rest =
+                  ap (λ n. eliminate n t (vertices ps (0 ∷ rest_of))) fuel
+                  ∙ ap (λ x. eliminate (left + 1) t (vertices ps x)) (sym (keep_step e.corner.index 0 vs nz))
+                  ∙ ap (eliminate (left + 1) t) (sym (without_vertices ps e.corner.index (0 ∷ vs)))
+                  ∙ sym (step_some (left + 1) t (vertices ps (0 ∷ vs)) (seen e.corner) (sym is_least) so.under)
+                  ∙ ap (λ n. eliminate n t (vertices ps (0 ∷ vs))) fuel2
+                  ∙ s.rest;
+            }
 
 -- ---- the first state
 module _ (after before : ℕ → ℕ) (n : ℕ) (befores : (v : ℕ) → v < n → before v ≡ pred v) (afters : (v : ℕ) → v < n → after v ≡ v + 1) where
@@ -305,9 +597,16 @@ first_fits links n v f h k =
     let a = f.afters v (omega arith) in
     record { before = omega (arith, b); after = omega (arith, a); within = omega (arith, a) }
 
-pub start_state : (t : ℕ) (ps : List Point) (links : List Link) (items : List (Reverse Entry)) → 2 ≤ length ps → IsFirst links (length ps) →
+pub first_ready : (t : ℕ) (ps : List Point) (links : List Link) (v : ℕ) → IsFirst links (length ps) → AreNoted t ps links → v < length ps → IsReady ps links v
+first_ready t ps links v f n h = record {
+  within = omega (arith, h, f.size);
+  fits = λ p q. first_fits links (length ps) v f p (omega (arith, q, f.size));
+  noted = λ p q. let b = f.befores v h in n.between v p q (λ x. absurd (omega (arith, x, b, p)));
+}
+
+pub start_state : (t : ℕ) (ps : List Point) (links : List Link) (items : List (Reverse Entry)) → 2 ≤ length ps → IsFirst links (length ps) → AreNoted t ps links →
     HasCorners t ps links items (length ps - 1) → IsState t ps links items (length ps - 2) (range_with_len 1 (length ps - 1))
-start_state t ps links items two f hc =
+start_state t ps links items two f nt hc =
     let m : suc (length ps - 1) ≡ length ps = omega arith in
     let fuel : length ps - 2 + 2 ≡ length ps = omega arith in
     record {
@@ -317,7 +616,8 @@ start_state t ps links items two f hc =
         gone = λ i p q n. absurd (n (range_in 0 (length ps - 1) i p (omega (arith, f.size))));
       };
       size = f.size;
-      covers = λ v p q n u. hc.has v p (omega (arith, f.size)) u;
+      noted = nt;
+      covers = λ v n w. hc.has v (omega (arith, f.size, w.inside)) w;
       sound = λ d h. let o = hc.only d h in
           let g = first_fits links (length ps) o.0 f o.1 (omega (arith, o.2)) in
           subst (λ x. IsSound t ps x) (sym o.3) (sound_at t ps (before_in links o.0) o.0 (after_in links o.0) g.before g.after g.within (subst (λ (x : Entry). x.corner.area < t) o.3 o.4));
@@ -353,30 +653,29 @@ none_taken n t vs h = on (least (corners vs)) refl (least_holds (λ c. t ≤ c.a
     on None e k = step_none n t vs e
     on (Some c) e k = step_over n t vs c e k
 
-corners_over : (t : ℕ) (ps : List Point) (links : List Link) (vs : List ℕ) → IsLinked links vs → Covers t ps links [] → AllByRecursion (λ c. t ≤ c.area) (corners (vertices ps (0 ∷ vs)))
-corners_over t ps links [] h c = tt
-corners_over t ps links (v ∷ vs) h c =
-    all_corners (after_in links) (before_in links) (λ d. t ≤ d.area) ps 0 v vs h.chain (λ w p k m.
-    let n = named (after_in links) (before_in links) 0 (v ∷ vs) w h.chain k in
-    subst (λ (x : Corner). t ≤ x.area) (corner_of_entry ps (before_in links w) w (after_in links w))
-    (on w p (omega (arith, h.last, m)) (λ q. absurd (omega (arith, q, n.1))) (cases_lt (entry_in ps links w).corner.area t)))
-  where
-    on : (w : ℕ) → 0 < w → w + 1 < length links → before_in links w ≢ w → ((entry_in ps links w).corner.area < t) ⊎ (t ≤ (entry_in ps links w).corner.area) → t ≤ (entry_in ps links w).corner.area
-    on w p q n (inl u) = let k = c w p q n u in absurd (omega (arith, k.1))
-    on w p q n (inr o) = o
-
 -- where no current entry is left, no corner is under the threshold
 pub none_under : (t : ℕ) (ps : List Point) (links : List Link) (items mid : List (Reverse Entry)) (left : ℕ) (vs : List ℕ) →
     IsState t ps links items left vs → LeavesCurrent links items None mid → mid ≡ [] → AllByRecursion (λ c. t ≤ c.area) (corners (vertices ps (0 ∷ vs)))
 none_under t ps links items mid left vs s l em =
-    let c : Covers t ps links [] = λ v p q n u.
-    subst (λ (x : List (Reverse Entry)). Contains x (turned (entry_in ps links v))) em
-    (on (entry_in ps links v) (l.stays (entry_in ps links v) (s.covers v p q n u) (current_at ps links v (omega (arith, q))))) in
-    corners_over t ps links vs s.linked c
+    least_decides (λ d. t ≤ d.area) (λ d. t ≤ d.area) (corners (vertices ps (0 ∷ vs)))
+    (all_present (after_in links) (before_in links) (λ d. NoneBefore d (corners (vertices ps (0 ∷ vs))) → t ≤ d.area) ps vs s.linked.chain (λ v p k m none. at v p k m none (cases_lt (corner_of t ps links vs s.linked s.noted v).area t)))
+    (λ d x h n. over d x h n (cases_lt x.area d.area))
   where
-    on : (d : Entry) → (◌≡◌ {A = Option Entry} None (Some d)) ⊎ Contains mid (turned d) → Contains mid (turned d)
-    on d (inl p) = absurd (cc)
-    on d (inr p) = p
+    over : (d x : Corner) → t ≤ d.area → is_before x d ≡ false → (x.area < d.area) ⊎ (d.area ≤ x.area) → t ≤ x.area
+    over d x h n (inl k) = let f : false ≡ true = sym n ∙ under_first x d k in absurd (cc)
+    over d x h n (inr k) = omega (arith, h, k)
+
+    gone : (d : Entry) → (◌≡◌ {A = Option Entry} None (Some d)) ⊎ Contains mid (turned d) → ⊥
+    gone d (inl p) = absurd (cc)
+    gone d (inr p) = let k : Contains [] (turned d) = subst (λ (x : List (Reverse Entry)). Contains x (turned d)) em p in absurd (omega (arith, k.1))
+
+    at : (v : ℕ) → 0 < v → In v vs → v < last_of 0 vs → NoneBefore (corner_of t ps links vs s.linked s.noted v) (corners (vertices ps (0 ∷ vs))) →
+        ((corner_of t ps links vs s.linked s.noted v).area < t) ⊎ (t ≤ (corner_of t ps links vs s.linked s.noted v).area) → t ≤ (corner_of t ps links vs s.linked s.noted v).area
+    at v p k m none (inl u) =
+        let n = named (after_in links) (before_in links) 0 vs v s.linked.chain k in
+        let c = s.covers v (λ q. absurd (omega (arith, q, n.1))) (first_waits t ps links vs s.linked s.noted v p k m u none) in
+        absurd (gone (entry_in ps links v) (l.stays (entry_in ps links v) c (current_at ps links v (omega (arith, s.linked.last, m)))))
+    at v p k m none (inr o) = o
 
 -- and those that are present stay
 pub end_none : (t : ℕ) (ps : List Point) (links : List Link) (items : List (Reverse Entry)) (left : ℕ) (vs : List ℕ) →
@@ -389,38 +688,102 @@ pub none_first : (t : ℕ) (ps : List Point) (links links' : List Link) (items i
 none_first t ps links links' items items' left vs s h = (vs, h.0, end_none t ps links items left vs s h.1)
 
 -- a turn with its two pushes
-pub turn_state : (t : ℕ) (ps : List Point) (links links' : List Link) (items mid one two : List (Reverse Entry)) (left : ℕ) (vs : List ℕ) (e : Entry) →
+pub turn_state : (t : ℕ) (ps : List Point) (links links' : List Link) (items mid one two : List (Reverse Entry)) (left : ℕ) (vs : List ℕ) (e : Entry) (f l : ℕ) (kf kl : Bool) →
     IsState t ps links items left vs → LeavesCurrent links items (Some e) mid → IsCurrent links e →
-    Unlinks links links' e.before e.corner.index e.after → Pushed t ps links' mid one e.before → Pushed t ps links' one two e.after →
+    Unlinks links links' e.before e.corner.index e.after → Renews ps links links' e.before e.after →
+    IsReady ps links' e.before → IsReady ps links' f → IsReady ps links' e.after → IsReady ps links' l →
+    (0 < e.before → f ≡ before_in links e.before) → (e.before ≡ 0 → f ≡ e.before) → (e.after + 1 < length links → l ≡ after_in links e.after) → (e.after + 1 ≡ length links → l ≡ e.after) →
+    (kf ≡ true → is_before (noted ps links e.before) (noted ps links f) ≡ false) → (kl ≡ true → is_before (noted ps links e.after) (noted ps links l) ≡ false) →
+    PushedFirst t ps links' mid one e.before f kf → PushedFirst t ps links' one two e.after l kl →
     IsTakenOut t ps links' two left vs e.corner
-turn_state t ps links links' items mid one two left vs e s l cur un p q =
-    let sound = so t ps links links' items mid two left vs e s l cur in
-    let n = next_state t ps links links' items mid two left vs e s l cur un
+turn_state t ps links links' items mid one two left vs e f l kf kl s lc cur un re rb rf ra rl ef zf el zl nf nl p q =
+    let n = next_state t ps links links' items mid two left vs e s lc cur un re
     (λ d h. q.has d (p.has d h))
-    (λ h u. q.has (entry_in ps links' e.before) (p.here h (omega (arith, sound.before, sound.after, sound.within, s.size, un.same)) u))
-    (λ h u. q.here (omega (arith, sound.after)) h u)
-    (λ d h. on d (q.only d h)) in
+    (λ w. q.has (entry_in ps links' e.before) (p.inner w (inl (eb w.later))))
+    (λ w. q.inner w (inr (un.others e.after (λ x. absurd (omega (arith, x, sound.before, sound.after))) ∙ sym (el (omega (arith, w.inside, un.same))))))
+    (λ v w n h. ahead v w h (beside_before t ps links links' items mid two left vs e s lc cur un v w n h) kf refl)
+    (λ v w n h. behind v w h (beside_after t ps links links' items mid two left vs e s lc cur un v w n h) kl refl)
+    only in
     record {
-      some = some_left t ps links links' items mid two left vs e s l cur un;
-      first = is_least t ps links links' items mid two left vs e s l cur;
-      present = in_vs t ps links links' items mid two left vs e s l cur;
+      some = some_left t ps links links' items mid two left vs e s lc cur un;
+      first = is_least t ps links links' items mid two left vs e s lc cur;
+      present = in_vs t ps links links' items mid two left vs e s lc cur;
       later = omega (arith, sound.before);
       within = omega (arith, sound.after, sound.within);
       rest = n;
     }
   where
-    on : (d : Entry) → Contains one (turned d) ⊎ IsUnder t ps links' e.after d → Contains mid (turned d) ⊎ ((v : ℕ) × ((v ≡ e.before) ⊎ (v ≡ e.after)) × IsUnder t ps links' v d)
-    on d (inl k) = elim (p.only d k) [ inl m ↦ inl m | inr m ↦ inr (e.before, inl refl, m) ]
-    on d (inr m) = inr (e.after, inr refl, m)
+    sound : IsSound t ps e
+    sound = so t ps links links' items mid two left vs e s lc cur
 
--- the same where other entries are sorted, and stay as they are
-pub turn_behind : (t : ℕ) (ps : List Point) (links links' : List Link) (items xs mid one two : List (Reverse Entry)) (left : ℕ) (vs : List ℕ) (e : Entry) →
-    IsState t ps links items left vs → LeavesCurrent links items (Some e) (xs ++ mid) → IsCurrent links e →
-    Unlinks links links' e.before e.corner.index e.after → Pushed t ps links' mid one e.before → Pushed t ps links' one two e.after →
-    IsTakenOut t ps links' (xs ++ two) left vs e.corner
-turn_behind t ps links links' items xs mid one two left vs e s l cur un p q =
-    turn_state t ps links links' items (xs ++ mid) (xs ++ one) (xs ++ two) left vs e s l cur un
-    (pushed_behind t ps links' xs mid one e.before p) (pushed_behind t ps links' xs one two e.after q)
+    eb : 0 < e.before → before_in links' e.before ≡ f
+    eb h = un.others_back e.before (λ x. absurd (omega (arith, x, sound.before, sound.after))) (λ x. absurd (omega (arith, x, sound.before))) ∙ sym (ef h)
+
+    ahead : (v : ℕ) → Waits t ps links' v → after_in links' v ≡ e.before → (v < e.before) × (v ≡ before_in links e.before) → (k : Bool) → kf ≡ k → (is_before (noted ps links e.before) (noted ps links v) ≡ false) ⊎ Contains two (turned (entry_in ps links' v))
+    ahead v w h b true z = inl (subst (λ x. is_before (noted ps links e.before) (noted ps links x) ≡ false) (ef (omega (arith, b.0)) ∙ sym b.1) (nf z))
+    ahead v w h b false z =
+        let ev : v ≡ f = b.1 ∙ sym (ef (omega (arith, b.0))) in
+        inr (q.has (entry_in ps links' v) (subst (λ x. Contains one (turned (entry_in ps links' x))) (sym ev)
+        (p.outer z (λ x. absurd (omega (arith, x, ev, b.0))) (subst (λ x. Waits t ps links' x) ev w) (inr (ap (after_in links') (sym ev) ∙ h)))))
+
+    behind : (v : ℕ) → Waits t ps links' v → before_in links' v ≡ e.after → (e.after < v) × (v ≡ after_in links e.after) → (k : Bool) → kl ≡ k → (is_before (noted ps links e.after) (noted ps links v) ≡ false) ⊎ Contains two (turned (entry_in ps links' v))
+    behind v w h b true z = inl (subst (λ x. is_before (noted ps links e.after) (noted ps links x) ≡ false) (el (omega (arith, b.0, w.inside, un.same)) ∙ sym b.1) (nl z))
+    behind v w h b false z =
+        let ev : v ≡ l = b.1 ∙ sym (el (omega (arith, b.0, w.inside, un.same))) in
+        inr (subst (λ x. Contains two (turned (entry_in ps links' x))) (sym ev)
+        (q.outer z (λ x. absurd (omega (arith, x, ev, b.0))) (subst (λ x. Waits t ps links' x) ev w) (inl (ap (before_in links') (sym ev) ∙ h))))
+
+    of_first : (d : Entry) → Contains mid (turned d) ⊎ (IsUnder t ps links' e.before d ⊎ IsUnder t ps links' f d) → Contains mid (turned d) ⊎ ((v : ℕ) × IsReady ps links' v × IsUnder t ps links' v d)
+    of_first d (inl k) = inl k
+    of_first d (inr (inl u)) = inr (e.before, rb, u)
+    of_first d (inr (inr u)) = inr (f, rf, u)
+
+    of_last : (d : Entry) → Contains one (turned d) ⊎ (IsUnder t ps links' e.after d ⊎ IsUnder t ps links' l d) → Contains mid (turned d) ⊎ ((v : ℕ) × IsReady ps links' v × IsUnder t ps links' v d)
+    of_last d (inl k) = of_first d (p.only d k)
+    of_last d (inr (inl u)) = inr (e.after, ra, u)
+    of_last d (inr (inr u)) = inr (l, rl, u)
+
+    only : (d : Entry) → Contains two (turned d) → Contains mid (turned d) ⊎ ((v : ℕ) × IsReady ps links' v × IsUnder t ps links' v d)
+    only d h = of_last d (q.only d h)
+
+-- what is compared in a turn can be compared
+pub record AllReady (ps : List Point) (links : List Link) (b f a l : ℕ) : Type 0 where
+  pub before : IsReady ps links b
+  pub ahead : IsReady ps links f
+  pub after : IsReady ps links a
+  pub behind : IsReady ps links l
+
+pub all_ready : (t : ℕ) (ps : List Point) (links : List Link) (vs : List ℕ) (b f a l : ℕ) → IsLinked links vs → AreNoted t ps links → length links ≡ length ps → (b ≡ 0) ⊎ In b vs → In a vs →
+    (b ≡ 0 → f ≡ b) → (0 < b → f ≡ before_in links b) → (a + 1 ≡ length links → l ≡ a) → (a + 1 < length links → l ≡ after_in links a) → AllReady ps links b f a l
+all_ready t ps links vs b f a l h n z ib ia zf ef zl el = record {
+  before = ready_at t ps links vs h n z b ib;
+  ahead = ready_at t ps links vs h n z f (ahead_in links vs b f h ib zf ef);
+  after = ready_at t ps links vs h n z a (inr ia);
+  behind = ready_at t ps links vs h n z l (inr (behind_in links vs a l h ia zl el));
+}
+
+pub old_ready : (t : ℕ) (ps : List Point) (links : List Link) (items mid : List (Reverse Entry)) (left : ℕ) (vs : List ℕ) (e : Entry) (f l : ℕ) →
+    IsState t ps links items left vs → LeavesCurrent links items (Some e) mid → IsCurrent links e →
+    (e.before ≡ 0 → f ≡ e.before) → (0 < e.before → f ≡ before_in links e.before) → (e.after + 1 ≡ length links → l ≡ e.after) → (e.after + 1 < length links → l ≡ after_in links e.after) →
+    AllReady ps links e.before f e.after l
+old_ready t ps links items mid left vs e f l s lc cur zf ef zl el =
+    let present = in_vs t ps links links items mid mid left vs e s lc cur in
+    all_ready t ps links vs e.before f e.after l s.linked s.noted s.size
+    (elim (prev_in (after_in links) (before_in links) 0 vs e.corner.index s.linked.chain present) [ inl x ↦ inl (sym cur.before ∙ x) | inr x ↦ inr (subst (λ y. In y vs) cur.before x) ])
+    (subst (λ y. In y vs) cur.after (next_in (after_in links) (before_in links) 0 vs e.corner.index s.linked.chain present (inside t ps links links items mid mid left vs e s lc cur)).0)
+    zf ef zl el
+
+pub new_ready : (t : ℕ) (ps : List Point) (links links' : List Link) (items mid : List (Reverse Entry)) (left : ℕ) (vs : List ℕ) (e : Entry) (f l : ℕ) →
+    IsState t ps links items left vs → LeavesCurrent links items (Some e) mid → IsCurrent links e → Unlinks links links' e.before e.corner.index e.after → Renews ps links links' e.before e.after →
+    (e.before ≡ 0 → f ≡ e.before) → (0 < e.before → f ≡ before_in links e.before) → (e.after + 1 ≡ length links → l ≡ e.after) → (e.after + 1 < length links → l ≡ after_in links e.after) →
+    AllReady ps links' e.before f e.after l
+new_ready t ps links links' items mid left vs e f l s lc cur un re zf ef zl el =
+    let o = so t ps links links' items mid mid left vs e s lc cur in
+    all_ready t ps links' (filter (λ v. not (eqb v e.corner.index)) vs) e.before f e.after l (linked_on t ps links links' items mid mid left vs e s lc cur un)
+    (notes_on t ps links links' items mid mid left vs e s lc cur un re) (un.same ∙ s.size)
+    (before_stays t ps links links' items mid mid left vs e s lc cur un) (after_stays t ps links links' items mid mid left vs e s lc cur un)
+    zf (λ p. ef p ∙ sym (un.others_back e.before (λ x. absurd (omega (arith, x, o.before, o.after))) (λ x. absurd (omega (arith, x, o.before)))))
+    (λ p. zl (p ∙ un.same)) (λ p. el (omega (arith, p, un.same)) ∙ sym (un.others e.after (λ x. absurd (omega (arith, x, o.before, o.after)))))
 
 -- the two neighbours fit
 pub turn_fits : (t : ℕ) (ps : List Point) (links links' : List Link) (items mid : List (Reverse Entry)) (left : ℕ) (vs : List ℕ) (e : Entry) →
@@ -432,11 +795,11 @@ turn_fits t ps links links' items mid left vs e s l cur un v k p q =
 
 pub more_corners : (t : ℕ) (ps : List Point) (links : List Link) (old new : List (Reverse Entry)) (i : ℕ) → HasCorners t ps links old i → Pushed t ps links old new i →
     0 < i → i + 1 < length links → HasCorners t ps links new (i + 1)
-more_corners t ps links old new i h p z w = record { has = λ v a b u. on v a b u (same_or_not v i); only = λ d k. from d (p.only d k) }
+more_corners t ps links old new i h p z w = record { has = λ v b u. on v b u (same_or_not v i); only = λ d k. from d (p.only d k) }
   where
-    on : (v : ℕ) → 0 < v → v < i + 1 → (entry_in ps links v).corner.area < t → (v ≡ i) ⊎ (v ≢ i) → Contains new (turned (entry_in ps links v))
-    on v a b u (inl e) = subst (λ x. Contains new (turned (entry_in ps links x))) (sym e) (p.here z w (subst (λ x. (entry_in ps links x).corner.area < t) e u))
-    on v a b u (inr n) = p.has (entry_in ps links v) (h.has v a (omega arith) u)
+    on : (v : ℕ) → v < i + 1 → Waits t ps links v → (v ≡ i) ⊎ (v ≢ i) → Contains new (turned (entry_in ps links v))
+    on v b u (inl e) = subst (λ x. Contains new (turned (entry_in ps links x))) (sym e) (p.here (subst (λ x. Waits t ps links x) e u))
+    on v b u (inr n) = p.has (entry_in ps links v) (h.has v (omega arith) u)
 
     from : (d : Entry) → Contains old (turned d) ⊎ IsUnder t ps links i d → (v : ℕ) × (0 < v) × (v < i + 1) × (d ≡ entry_in ps links v) × (d.corner.area < t)
     from d (inl k) = let o = h.only d k in (o.0, o.1, omega (arith, o.2), o.3, o.4)
@@ -444,7 +807,7 @@ more_corners t ps links old new i h p z w = record { has = λ v a b u. on v a b 
 
 pub no_corners_yet : (t : ℕ) (ps : List Point) (links : List Link) (items : List (Reverse Entry)) → items ≡ [] → HasCorners t ps links items 1
 no_corners_yet t ps links items e = record {
-  has = λ v a b u. absurd (omega (arith, a, b));
+  has = λ v b u. absurd (omega (arith, u.later, b));
   only = λ d k. let m : Contains [] (turned d) = subst (λ (x : List (Reverse Entry)). Contains x (turned d)) e k in absurd (omega (arith, m.1));
 }
 

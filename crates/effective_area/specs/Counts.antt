@@ -21,3 +21,10 @@ pub record RoseAtMost (n : ℕ) (old new : Steps) : Type 0 where
   pub areas_most : new.areas ≤ old.areas + n
   pub pushes_stay : old.pushes ≤ new.pushes
   pub pushes_most : new.pushes ≤ old.pushes + n
+
+-- no count fell, the areas rose by m at most and the pushes by n
+pub record RoseBy (m n : ℕ) (old new : Steps) : Type 0 where
+  pub areas_stay : old.areas ≤ new.areas
+  pub areas_most : new.areas ≤ old.areas + m
+  pub pushes_stay : old.pushes ≤ new.pushes
+  pub pushes_most : new.pushes ≤ old.pushes + n

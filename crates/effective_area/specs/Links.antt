@@ -1,5 +1,5 @@
 -- Links and entries.
-use Rattle.std.specs.Prelude.{not, ◌==◌, ◌-◌, None, pred, ◌≡◌, ◌≢◌, ℕ, ◌+◌, ◌<◌, ◌≤◌, ◌⊎◌, List, [], ◌∷◌, slice_index_or, Option, Some, Contains, length, false}
+use Rattle.std.specs.Prelude.{not, ◌==◌, ◌-◌, None, pred, ◌≡◌, ◌≢◌, ℕ, ◌+◌, ◌<◌, ◌≤◌, ◌⊎◌, List, [], ◌∷◌, slice_index_or, Option, Some, Contains, length, Bool, false}
 use Rattle.std.specs.BinaryHeap.{IsUpperBound}
 use Rattle.std.specs.List.{filter, AllByRecursion}
 use Rattle.std.specs.Ordering.{ordering_then, is_lt, nat_cmp}
@@ -7,21 +7,24 @@ use Rattle.std.specs.declared.cmp.Ordering.{Ordering}
 use Rattle.std.specs.declared.cmp.Reverse.{Reverse}
 use Rattle.geometry.specs.Lists.{In}
 use Rattle.geometry.specs.Points.{Point}
-use Rattle.elimination_meaning.specs.Elimination.{corner_at, corner_cmp, corners, eliminate, least, numbered}
-use Rattle.effective_area.specs.Vertices.{vertex_at, vertices, seen, candidate}
+use Rattle.elimination_meaning.specs.Elimination.{corner_at, corner_cmp, corners, eliminate, is_before, least, numbered, Corner}
+use Rattle.effective_area.specs.Vertices.{origin, vertex_at, vertices, seen, candidate}
 use Rattle.effective_area.specs.declared.candidate.Candidate.{Candidate}
 use Rattle.effective_area.specs.declared.links.Link.{Link}
 use Rattle.effective_area.specs.declared.entry.Entry.{Entry}
 use Rattle.effective_area.specs.Chains.{Chain, last_of}
 
 abbrev pub first_link : Link
-first_link = record { before = 0; after = 0 }
+first_link = record { before = 0; after = 0; area = 0 }
 
 unfoldable pub after_in : List Link → ℕ → ℕ
 after_in links i = (slice_index_or links i first_link).after
 
 unfoldable pub before_in : List Link → ℕ → ℕ
 before_in links i = (slice_index_or links i first_link).before
+
+unfoldable pub area_in : List Link → ℕ → ℕ
+area_in links i = (slice_index_or links i first_link).area
 
 unfoldable pub entry_at : List Point → ℕ → ℕ → ℕ → Entry
 entry_at ps b i a = record { corner = candidate (corner_at (vertex_at ps b) (vertex_at ps i) (vertex_at ps a)); before = b; after = a }
@@ -59,9 +62,26 @@ turned e = record { 0 = e }
 abbrev pub entry_in : List Point → List Link → ℕ → Entry
 entry_in ps links v = entry_at ps (before_in links v) v (after_in links v)
 
--- each current corner under the threshold has its entry
+-- the corner at an index, with the area that is noted
+unfoldable pub noted : List Point → List Link → ℕ → Corner
+noted ps links v = record { area = area_in links v; point = slice_index_or ps v origin; index = v }
+
+-- the areas of the corners that are present are noted, and the threshold for those of the ends
+pub record AreNoted (t : ℕ) (ps : List Point) (links : List Link) : Type 0 where
+  pub between : (v : ℕ) → 0 < v → v + 1 < length links → before_in links v ≢ v → area_in links v ≡ (entry_in ps links v).corner.area
+  pub ends : (v : ℕ) → (v ≡ 0) ⊎ (v + 1 ≡ length links) → area_in links v ≡ t
+
+-- a corner waits if it is under the threshold and neither neighbour goes before it
+pub record Waits (t : ℕ) (ps : List Point) (links : List Link) (v : ℕ) : Type 0 where
+  pub later : 0 < v
+  pub inside : v + 1 < length links
+  pub under : (entry_in ps links v).corner.area < t
+  pub before : is_before (noted ps links (before_in links v)) (noted ps links v) ≡ false
+  pub after : is_before (noted ps links (after_in links v)) (noted ps links v) ≡ false
+
+-- each current corner that waits has its entry
 abbrev pub Covers : ℕ → List Point → List Link → List (Reverse Entry) → Type 0
-Covers t ps links items = (v : ℕ) → 0 < v → v + 1 < length links → before_in links v ≢ v → (entry_in ps links v).corner.area < t → Contains items (turned (entry_in ps links v))
+Covers t ps links items = (v : ℕ) → before_in links v ≢ v → Waits t ps links v → Contains items (turned (entry_in ps links v))
 
 -- the first of the one list goes before all of the other
 abbrev pub GoesFirst : List (Reverse Entry) → List (Reverse Entry) → Type 0
@@ -72,12 +92,30 @@ pub record SetsAfter (old new : List Link) (at to : ℕ) : Type 0 where
   pub here : after_in new at ≡ to
   pub others : (v : ℕ) → v ≢ at → after_in new v ≡ after_in old v
   pub befores : (v : ℕ) → before_in new v ≡ before_in old v
+  pub areas : (v : ℕ) → area_in new v ≡ area_in old v
 
 pub record SetsBefore (old new : List Link) (at to : ℕ) : Type 0 where
   pub same : length new ≡ length old
   pub here : before_in new at ≡ to
   pub others : (v : ℕ) → v ≢ at → before_in new v ≡ before_in old v
   pub afters : (v : ℕ) → after_in new v ≡ after_in old v
+  pub areas : (v : ℕ) → area_in new v ≡ area_in old v
+
+pub record SetsArea (old new : List Link) (at area : ℕ) : Type 0 where
+  pub same : length new ≡ length old
+  pub here : area_in new at ≡ area
+  pub others : (v : ℕ) → v ≢ at → area_in new v ≡ area_in old v
+  pub befores : (v : ℕ) → before_in new v ≡ before_in old v
+  pub afters : (v : ℕ) → after_in new v ≡ after_in old v
+
+-- the area at v is noted anew, if v is between the ends
+pub record NotesArea (ps : List Point) (old new : List Link) (v : ℕ) : Type 0 where
+  pub same : length new ≡ length old
+  pub here : 0 < v → v + 1 < length old → area_in new v ≡ (entry_in ps new v).corner.area
+  pub ends : (v ≡ 0) ⊎ (v + 1 ≡ length old) → area_in new v ≡ area_in old v
+  pub others : (w : ℕ) → w ≢ v → area_in new w ≡ area_in old w
+  pub befores : (w : ℕ) → before_in new w ≡ before_in old w
+  pub afters : (w : ℕ) → after_in new w ≡ after_in old w
 
 pub record Unlinks (old new : List Link) (b i a : ℕ) : Type 0 where
   pub same : length new ≡ length old
@@ -98,6 +136,7 @@ pub record LeavesCurrent (links : List Link) (old : List (Reverse Entry)) (taken
 pub record IsState (t : ℕ) (ps : List Point) (links : List Link) (items : List (Reverse Entry)) (left : ℕ) (vs : List ℕ) : Type 0 where
   pub linked : IsLinked links vs
   pub size : length links ≡ length ps
+  pub noted : AreNoted t ps links
   pub covers : Covers t ps links items
   pub sound : (d : Entry) → Contains items (turned d) → IsSound t ps d
   pub many : length vs ≡ left + 1
@@ -132,17 +171,26 @@ pub record Fits (links : List Link) (n v : ℕ) : Type 0 where
 abbrev pub IsUnder : ℕ → List Point → List Link → ℕ → Entry → Type 0
 IsUnder t ps links v d = (0 < v) × (v + 1 < length links) × (d ≡ entry_in ps links v) × (d.corner.area < t)
 
--- there is no corner here, or it isn't under the threshold
-abbrev pub NoneUnder : ℕ → List Point → List Link → ℕ → Type 0
-NoneUnder t ps links v = 0 < v → v + 1 < length links → t ≤ (entry_in ps links v).corner.area
+-- what is needed of v to compare the corner there: it has its neighbours and its area is noted, if it is between the ends
+pub record IsReady (ps : List Point) (links : List Link) (v : ℕ) : Type 0 where
+  pub within : v < length links
+  pub fits : 0 < v → v + 1 < length links → Fits links (length ps) v
+  pub noted : 0 < v → v + 1 < length links → area_in links v ≡ (entry_in ps links v).corner.area
 
--- the corner at v is new, if v is between the ends and the corner under the threshold
+-- the corner at v is new, if it waits
 pub record Pushed (t : ℕ) (ps : List Point) (links : List Link) (old new : List (Reverse Entry)) (v : ℕ) : Type 0 where
   pub has : (d : Entry) → Contains old (turned d) → Contains new (turned d)
-  pub here : 0 < v → v + 1 < length links → (entry_in ps links v).corner.area < t → Contains new (turned (entry_in ps links v))
+  pub here : Waits t ps links v → Contains new (turned (entry_in ps links v))
   pub only : (d : Entry) → Contains new (turned d) → Contains old (turned d) ⊎ IsUnder t ps links v d
 
--- the corners from 1 up to n under the threshold, and no others
+-- of two neighbours the one that goes first is new, if it waits; the outer one need not be, if its entry waited before
+pub record PushedFirst (t : ℕ) (ps : List Point) (links : List Link) (old new : List (Reverse Entry)) (v w : ℕ) (known : Bool) : Type 0 where
+  pub has : (d : Entry) → Contains old (turned d) → Contains new (turned d)
+  pub inner : Waits t ps links v → (before_in links v ≡ w) ⊎ (after_in links v ≡ w) → Contains new (turned (entry_in ps links v))
+  pub outer : known ≡ false → v ≢ w → Waits t ps links w → (before_in links w ≡ v) ⊎ (after_in links w ≡ v) → Contains new (turned (entry_in ps links w))
+  pub only : (d : Entry) → Contains new (turned d) → Contains old (turned d) ⊎ (IsUnder t ps links v d ⊎ IsUnder t ps links w d)
+
+-- the corners before n that wait, and none that isn't under the threshold
 pub record HasCorners (t : ℕ) (ps : List Point) (links : List Link) (items : List (Reverse Entry)) (n : ℕ) : Type 0 where
-  pub has : (v : ℕ) → 0 < v → v < n → (entry_in ps links v).corner.area < t → Contains items (turned (entry_in ps links v))
+  pub has : (v : ℕ) → v < n → Waits t ps links v → Contains items (turned (entry_in ps links v))
   pub only : (d : Entry) → Contains items (turned d) → (v : ℕ) × (0 < v) × (v < n) × (d ≡ entry_in ps links v) × (d.corner.area < t)

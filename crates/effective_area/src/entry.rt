@@ -1,10 +1,8 @@
 ghost use Rattle.std.specs.Prelude.{◌≡◌, ◌<◌, ◌↔◌, IsTrue, length};
-ghost use Rattle.effective_area.specs.Counts.{one_area};
-ghost use Rattle.effective_area.specs.Links.{IsCurrent, entry_at};
+ghost use Rattle.effective_area.specs.Links.{IsCurrent, area_in, entry_in};
 
 use crate::candidate::Candidate;
 use crate::links::Link;
-use crate::steps::{Steps, twice_area};
 use geometry::Position;
 
 /// A candidate, with the neighbours that its area was computed with. Entries compare as their candidates do.
@@ -15,26 +13,23 @@ pub struct Entry {
     pub after: usize,
 }
 
-/// The entry of an index between these neighbours.
-pub fn entry_of(
-    steps: &mut Steps,
-    arc: &[Position],
-    before: usize,
-    index: usize,
-    after: usize,
-) -> Entry
-    requires before { before < length arc.now }
-    requires index { index < length arc.now }
-    requires after { after < length arc.now }
-    ensures entry { result ≡ entry_at arc.now before index after }
-    ensures counted { steps.new ≡ one_area steps.old }
+/// The entry of an index with its present neighbours, whose area is noted.
+pub fn entry_of(arc: &[Position], links: &[Link], index: usize) -> Entry
+    requires arc { index < length arc.now }
+    requires links { index < length links.now }
+    requires noted { area_in links.now index ≡ (entry_in arc.now links.now index).corner.area }
+    ensures { result ≡ entry_in arc.now links.now index }
 {
+    let link = links[index];
     let point = arc[index];
-    let area = twice_area(steps, arc[before], point, arc[after]);
     Entry {
-        corner: Candidate { area, point, index },
-        before,
-        after,
+        corner: Candidate {
+            area: link.area,
+            point,
+            index,
+        },
+        before: link.before,
+        after: link.after,
     }
 }
 

@@ -2,12 +2,13 @@ ghost use Rattle.std.specs.Prelude.{◌≡◌, ℕ, ◌+◌, ◌-◌, ◌*◌, �
 ghost use Rattle.std.specs.BinaryHeap.{heap_items, IsHeap};
 ghost use Rattle.std.specs.List.{range_with_len};
 ghost use Rattle.std.specs.List.Sorted.{IsSorted};
-ghost use Rattle.effective_area.specs.Counts.{RoseAtMost, no_steps};
-ghost use Rattle.effective_area.specs.Links.{HasCorners, IsFirst, IsLinked, IsState, rentry_cmp};
+ghost use Rattle.effective_area.specs.Counts.{RoseAtMost, RoseBy, no_steps};
+ghost use Rattle.effective_area.specs.Links.{AreNoted, HasCorners, IsFirst, IsLinked, IsState, rentry_cmp};
 ghost use Rattle.elimination_meaning.specs.Elimination.{reduce};
 
 use crate::entry::Entry;
-use crate::links::{Link, first_links, present};
+use crate::links::{Link, present};
+use crate::noting::noted_links;
 use crate::reducer::Reducer;
 use crate::steps::Steps;
 use crate::taking::take_first;
@@ -19,7 +20,7 @@ use std::cmp::Reverse;
 use std::collections::BinaryHeap;
 use std::marker::Model;
 
-/// The corners of a whole line that are under the threshold.
+/// The corners of a whole line that wait.
 fn first_entries(
     alloc: Global,
     steps: &mut Steps,
@@ -29,8 +30,9 @@ fn first_entries(
 ) -> Result<Vec<Reverse<Entry>>, Memory>
     requires two { 2 ≤ length arc.now }
     requires first { IsFirst links.now (length arc.now) }
+    requires noted { AreNoted t arc.now links.now }
     ensures has { IfOk result (λ entries. HasCorners t arc.now links.now entries.items (length arc.now - 1)) }
-    ensures counted { RoseAtMost (length arc.now - 2) steps.old steps.new }
+    ensures counted { RoseBy 0 (length arc.now - 2) steps.old steps.new }
 {
     let mut entries = Vec::new(alloc);
     for i in 1..arc.len() - 1 {
@@ -39,7 +41,7 @@ fn first_entries(
     Ok(entries)
 }
 
-/// The corners of a whole line that are under the threshold, in their order. They are sorted once, which takes less time than a
+/// The corners of a whole line that wait, in their order. They are sorted once, which takes less time than a
 /// heap of them all; those that come later are put on a heap.
 pub fn sorted_entries(
     alloc: Global,
@@ -50,9 +52,10 @@ pub fn sorted_entries(
 ) -> Result<Vec<Reverse<Entry>>, Memory>
     requires two { 2 ≤ length arc.now }
     requires first { IsFirst links.now (length arc.now) }
+    requires noted { AreNoted t arc.now links.now }
     ensures sorted { IfOk result (λ entries. IsSorted rentry_cmp entries.items) }
     ensures state { IfOk result (λ entries. IsState t arc.now links.now entries.items (length arc.now - 2) (range_with_len 1 (length arc.now - 1))) }
-    ensures counted { RoseAtMost (length arc.now - 2) steps.old steps.new }
+    ensures counted { RoseBy 0 (length arc.now - 2) steps.old steps.new }
 {
     let mut entries = first_entries(alloc, steps, arc, links, t)?;
     entries.sort_unstable();
@@ -92,8 +95,9 @@ fn kept_by(
 ) -> Result<Vec<usize>, Memory>
     requires two { 2 ≤ length arc.now }
     requires first { IsFirst links.old (length arc.now) }
+    requires noted { AreNoted t arc.now links.old }
     ensures kept { IfOk result (λ kept. kept.items ≡ reduce t arc.now) }
-    ensures counted { RoseAtMost (3 * (length arc.now - 2)) steps.old steps.new }
+    ensures counted { RoseBy (2 * (length arc.now - 2)) (3 * (length arc.now - 2)) steps.old steps.new }
 {
     let mut sorted = sorted_entries(alloc, steps, arc, links, t)?;
     let mut heap = BinaryHeap::new(alloc);
@@ -101,8 +105,8 @@ fn kept_by(
     present(alloc, links)
 }
 
-/// A reducer that takes time n log n: the corners under the threshold wait in their order, stale ones among them, and the
-/// positions that are present are linked both ways. A call raises each count of its steps by three for each position between
+/// A reducer that takes time n log n: of the corners under the threshold those wait in their order, stale ones among them, which go
+/// before their neighbours, and the positions that are present are linked both ways. A call raises each count of its steps by three for each position between
 /// the ends at most. Contracts see it as the steps that it did so far: nothing else is left of a call, whether it answered or
 /// not.
 #[derive(Debug, Drop)]
@@ -142,7 +146,7 @@ impl Reducer for HeapLinks {
         ensures kept { IfOk result (λ kept. kept.items ≡ reduce t arc.now) }
         ensures counted { RoseAtMost (3 * (length arc.now - 2)) self.old self.new }
     {
-        let mut links = first_links(alloc, arc.len())?;
+        let mut links = noted_links(alloc, &mut self.steps, arc, t)?;
         kept_by(alloc, &mut self.steps, arc, &mut links, t)
     }
 }

@@ -9,6 +9,7 @@ mod candidate;
 mod entry;
 mod heap_links;
 mod links;
+mod noting;
 mod reducer;
 mod rescan;
 mod steps;

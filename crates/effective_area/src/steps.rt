@@ -1,5 +1,5 @@
 ghost use Rattle.std.specs.Prelude.{◌≡◌, ◌≤◌, ◌<◌, ◌^◌, ◌*◌, ◌-ℤ◌, ◌*ℤ◌, unsigned_abs};
-ghost use Rattle.effective_area.specs.Counts.{RoseAtMost, no_steps, one_area, one_push};
+ghost use Rattle.effective_area.specs.Counts.{RoseAtMost, RoseBy, no_steps, one_area, one_push};
 ghost use Rattle.geometry.specs.Areas as spec;
 ghost use Rattle.geometry.specs.Points.{position_limit};
 
@@ -36,6 +36,7 @@ impl Steps {
     pub fn count_push(&mut self)
         ensures counted { self.new ≡ one_push self.old }
         ensures rises { RoseAtMost 1 self.old self.new }
+        ensures apart { RoseBy 0 1 self.old self.new }
     {
         self.pushes = self.pushes.saturating_add(1);
     }

@@ -1,18 +1,43 @@
-ghost use Rattle.std.specs.Prelude.{◌≡◌, ℕ, ◌*◌, ◌++◌, min, IfOk, OnOk, List};
+ghost use Rattle.std.specs.Prelude.{◌≡◌, ℕ, ◌+◌, ◌*◌, ◌<◌, ◌++◌, min, IfOk, OnOk, List, length};
 ghost use Rattle.std.specs.BinaryHeap.{heap_items, IsHeap};
 ghost use Rattle.std.specs.List.Sorted.{IsSorted};
 ghost use Rattle.effective_area.specs.Counts.{RoseAtMost};
-ghost use Rattle.effective_area.specs.Links.{IsState, TakesFirst, rentry_cmp};
+ghost use Rattle.effective_area.specs.Links.{IsState, TakesFirst, after_in, before_in, rentry_cmp};
 
 use crate::candidate::Candidate;
 use crate::entry::Entry;
 use crate::links::{Link, unlink};
+use crate::noting::{goes_behind, note_area};
 use crate::steps::Steps;
-use crate::waiting::{pop_current, push_corner};
+use crate::waiting::{pop_current, push_first};
 use geometry::Position;
 use owned_values::Memory;
 use std::cmp::Reverse;
 use std::collections::BinaryHeap;
+
+/// The one before an index, or the index itself if it is the first.
+fn ahead(links: &[Link], index: usize) -> usize
+    requires { index < length links.now }
+    ensures first { (index ≡ 0) → result ≡ index }
+    ensures inside { 0 < index → result ≡ before_in links.now index }
+{
+    if index == 0 {
+        return index;
+    }
+    links[index].before
+}
+
+/// The one behind an index, or the index itself if it is the last.
+fn behind(links: &[Link], index: usize) -> usize
+    requires { index < length links.now }
+    ensures last { (index + 1 ≡ length links.now) → result ≡ index }
+    ensures inside { index + 1 < length links.now → result ≡ after_in links.now index }
+{
+    if links.len() - index <= 1 {
+        return index;
+    }
+    links[index].after
+}
 
 /// Takes out the first corner of all, if one is under the threshold, and answers it.
 pub fn take_first(
@@ -37,8 +62,15 @@ pub fn take_first(
     let Some(entry) = pop_current(sorted, heap, links) else {
         return Ok(None);
     };
-    unlink(links, entry.before, entry.corner.index, entry.after);
-    push_corner(heap, steps, arc, links, t, entry.before)?;
-    push_corner(heap, steps, arc, links, t, entry.after)?;
+    let (before, after) = (entry.before, entry.after);
+    let first = ahead(links, before);
+    let last = behind(links, after);
+    let is_first_known = goes_behind(arc, links, before, first);
+    let is_last_known = goes_behind(arc, links, after, last);
+    unlink(links, before, entry.corner.index, after);
+    note_area(links, steps, arc, before);
+    note_area(links, steps, arc, after);
+    push_first(heap, steps, arc, links, t, before, first, is_first_known)?;
+    push_first(heap, steps, arc, links, t, after, last, is_last_known)?;
     Ok(Some(entry.corner))
 }

@@ -1,11 +1,12 @@
-ghost use Rattle.std.specs.Prelude.{◌≡◌, ◌+◌, ◌<◌, ◌≤◌, ◌++◌, true, false, IfSome, IfNone, OnOk, [], ◌∷◌, length, vec_len};
+ghost use Rattle.std.specs.Prelude.{◌≡◌, ◌+◌, ◌<◌, ◌++◌, true, false, IfSome, IfNone, OnOk, [], ◌∷◌, length, vec_len};
 ghost use Rattle.std.specs.BinaryHeap.{heap_items, heap_len, IsHeap, IsUpperBound};
 ghost use Rattle.std.specs.List.Sorted.{IsPermutation, IsSorted};
-ghost use Rattle.effective_area.specs.Counts.{RoseAtMost};
-ghost use Rattle.effective_area.specs.Links.{Fits, GoesFirst, IsCurrent, IsUnder, LeavesCurrent, NoneUnder, Pushed, rentry_cmp};
+ghost use Rattle.effective_area.specs.Counts.{RoseBy};
+ghost use Rattle.effective_area.specs.Links.{GoesFirst, IsCurrent, IsReady, IsUnder, LeavesCurrent, Pushed, PushedFirst, Waits, rentry_cmp};
 
 use crate::entry::{Entry, entry_of, is_current};
 use crate::links::Link;
+use crate::noting::goes_before;
 use crate::steps::Steps;
 use geometry::Position;
 use owned_values::Memory;
@@ -73,34 +74,34 @@ pub fn pop_current(
     None
 }
 
-/// The entry of an index with its present neighbours, if it is between the ends and its corner under the threshold.
-fn entry_under(
-    steps: &mut Steps,
-    arc: &[Position],
-    links: &[Link],
-    t: u128,
-    index: usize,
-) -> Option<Entry>
+/// The entry of an index, if it is between the ends and its corner waits: it is under the threshold, and those of its neighbours
+/// don't go before it.
+fn waiting_entry(arc: &[Position], links: &[Link], t: u128, index: usize) -> Option<Entry>
     requires size { length links.now ≡ length arc.now }
-    requires within { index < length links.now }
-    requires fits { 0 < index → index + 1 < length links.now → Fits links.now (length arc.now) index }
+    requires ready { IsReady arc.now links.now index }
     ensures under { IfSome result (λ e. IsUnder t arc.now links.now index e) }
-    ensures none { IfNone result (NoneUnder t arc.now links.now index) }
-    ensures areas { RoseAtMost 1 steps.old steps.new }
-    ensures pushes { steps.new.pushes ≡ steps.old.pushes }
+    ensures none { IfNone result (Waits t arc.now links.now index → ⊥) }
 {
-    if index == 0 || links.len() - index <= 1 {
+    if index == 0 {
+        return None;
+    }
+    if links.len() - index <= 1 {
         return None;
     }
     let link = links[index];
-    let entry = entry_of(steps, arc, link.before, index, link.after);
-    if entry.corner.area < t {
-        return Some(entry);
+    if link.area >= t {
+        return None;
     }
-    None
+    if goes_before(arc, links, link.before, index) {
+        return None;
+    }
+    if goes_before(arc, links, link.after, index) {
+        return None;
+    }
+    Some(entry_of(arc, links, index))
 }
 
-/// Puts the corner at an index behind the others, if it is under the threshold.
+/// Puts the corner at an index behind the others, if it waits.
 pub fn put_corner(
     entries: &mut Vec<Reverse<Entry>>,
     steps: &mut Steps,
@@ -110,20 +111,19 @@ pub fn put_corner(
     index: usize,
 ) -> Result<(), Memory>
     requires size { length links.now ≡ length arc.now }
-    requires within { index < length links.now }
-    requires fits { 0 < index → index + 1 < length links.now → Fits links.now (length arc.now) index }
+    requires ready { IsReady arc.now links.now index }
     ensures pushed { OnOk result (Pushed t arc.now links.now entries.old.items entries.new.items index) }
-    ensures counted { RoseAtMost 1 steps.old steps.new }
+    ensures counted { RoseBy 0 1 steps.old steps.new }
 {
-    if let Some(entry) = entry_under(steps, arc, links, t, index) {
+    if let Some(entry) = waiting_entry(arc, links, t, index) {
         steps.count_push();
         entries.push(Reverse(entry))?;
     }
     Ok(())
 }
 
-/// Pushes the corner at an index on the heap, if it is under the threshold.
-pub fn push_corner(
+/// Pushes the corner at an index on the heap, if it waits.
+fn push_corner(
     heap: &mut BinaryHeap<Reverse<Entry>>,
     steps: &mut Steps,
     arc: &[Position],
@@ -132,17 +132,43 @@ pub fn push_corner(
     index: usize,
 ) -> Result<(), Memory>
     requires size { length links.now ≡ length arc.now }
-    requires within { index < length links.now }
-    requires fits { 0 < index → index + 1 < length links.now → Fits links.now (length arc.now) index }
+    requires ready { IsReady arc.now links.now index }
     requires order { IsHeap rentry_cmp (heap_items heap.old) }
     ensures order { OnOk result (IsHeap rentry_cmp (heap_items heap.new)) }
     ensures pushed { OnOk result (Pushed t arc.now links.now (heap_items heap.old) (heap_items heap.new) index) }
-    ensures few { OnOk result (heap_len heap.new ≤ heap_len heap.old + 1) }
-    ensures counted { RoseAtMost 1 steps.old steps.new }
+    ensures counted { RoseBy 0 1 steps.old steps.new }
 {
-    if let Some(entry) = entry_under(steps, arc, links, t, index) {
+    if let Some(entry) = waiting_entry(arc, links, t, index) {
         steps.count_push();
         heap.push(Reverse(entry))?;
     }
     Ok(())
+}
+
+/// Pushes the one of two neighbours that goes first, if it waits. The outer one is left out if its entry waited before.
+pub fn push_first(
+    heap: &mut BinaryHeap<Reverse<Entry>>,
+    steps: &mut Steps,
+    arc: &[Position],
+    links: &[Link],
+    t: u128,
+    inner: usize,
+    outer: usize,
+    is_known: bool,
+) -> Result<(), Memory>
+    requires size { length links.now ≡ length arc.now }
+    requires inner { IsReady arc.now links.now inner }
+    requires outer { IsReady arc.now links.now outer }
+    requires order { IsHeap rentry_cmp (heap_items heap.old) }
+    ensures order { OnOk result (IsHeap rentry_cmp (heap_items heap.new)) }
+    ensures pushed { OnOk result (PushedFirst t arc.now links.now (heap_items heap.old) (heap_items heap.new) inner outer is_known) }
+    ensures counted { RoseBy 0 1 steps.old steps.new }
+{
+    if !goes_before(arc, links, outer, inner) {
+        return push_corner(heap, steps, arc, links, t, inner);
+    }
+    if is_known {
+        return Ok(());
+    }
+    push_corner(heap, steps, arc, links, t, outer)
 }

@@ -9,7 +9,8 @@ ghost use Rattle.effective_area.specs.Weights as spec;
 
 use crate::entry::Entry;
 use crate::heap_links::sorted_entries;
-use crate::links::{Link, first_links};
+use crate::links::Link;
+use crate::noting::noted_links;
 use crate::steps::Steps;
 use crate::taking::take_first;
 use crate::weight::Weight;
@@ -79,8 +80,8 @@ pub fn weights(alloc: Global, arc: &[Position]) -> Result<Vec<Weight>, Memory>
     if arc.len() < 2 {
         return Ok(weights);
     }
-    let mut links = first_links(alloc, arc.len())?;
     let mut steps = Steps::none();
+    let mut links = noted_links(alloc, &mut steps, arc, NO_LIMIT)?;
     let mut sorted = sorted_entries(alloc, &mut steps, arc, &links, NO_LIMIT)?;
     let mut heap = BinaryHeap::new(alloc);
     weigh(&mut sorted, &mut heap, arc, &mut links, &mut weights)?;

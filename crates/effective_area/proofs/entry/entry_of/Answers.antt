@@ -1,5 +1,7 @@
-use Rattle.effective_area.proofs.LinkLaws.{entry_is}
+use Rattle.effective_area.specs.Links.{after_in, before_in, area_in}
+use Rattle.effective_area.proofs.LinkLaws.{entry_noted}
 use Rattle.effective_area.proofs.entry.entry_of.Goals as goal
 
-pub returns-clause-entry : goal.returns-clause-entry
-returns-clause-entry c = entry_is c.args.arc.now c.args.before c.args.index c.args.after c.index-arc-before.result c.index-arc-index.result c.index-arc-after.result c.twice_area-area.result c.requires.before c.requires.index c.requires.after c.index-arc-before.is c.index-arc-index.is c.index-arc-after.is c.twice_area-area.ensures.value
+pub returns : goal.returns
+unfolding after_in before_in area_in
+returns c = entry_noted c.args.arc.now _ c.args.index _ c.index-arc-index.result _ c.requires.arc c.index-arc-index.is c.requires.noted

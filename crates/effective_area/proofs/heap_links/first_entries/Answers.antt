@@ -1,12 +1,15 @@
 use Rattle.std.proofs.Common.{◌≡◌, ◌-◌, ℕ, length, arith, subst}
 use Rattle.effective_area.specs.Links.{HasCorners}
-use Rattle.effective_area.proofs.Counts.{rose_then, rose_more}
-use Rattle.effective_area.proofs.Turns.{more_corners}
+use Rattle.effective_area.proofs.Counts.{by_then, by_more}
+use Rattle.effective_area.proofs.Turns.{first_ready, more_corners}
 use Rattle.effective_area.proofs.heap_links.first_entries.Goals as goal
+
+pub put_corner-requires-clause-ready : goal.put_corner-requires-clause-ready
+put_corner-requires-clause-ready c = first_ready c.args.t c.args.arc.now c.args.links.now c.loop-i.i c.requires.first c.requires.noted (omega (arith, c.loop-i-test.true))
 
 pub loop-i-preserved : goal.loop-i-preserved
 loop-i-preserved c = record {
-  counted = rose_then (c.loop-i.i - 1) 1 _ _ _ _ c.loop-i.invariant.counted c.put_corner.ensures.counted (omega (arith, c.loop-i.auto.i));
+  counted = by_then 0 (c.loop-i.i - 1) 0 1 _ _ _ _ _ c.loop-i.invariant.counted c.put_corner.ensures.counted (omega arith) (omega (arith, c.loop-i.auto.i));
   has = more_corners c.args.t c.args.arc.now c.args.links.now c.loop-i.entries.items c.put_corner.new.entries.items c.loop-i.i c.loop-i.invariant.has c.in_ok-put_corner.ensures.pushed
       (omega (arith, c.loop-i.auto.i)) (omega (arith, c.loop-i-test.true, c.requires.first.size));
 }
@@ -17,7 +20,7 @@ returns-clause-has c =
     subst (λ (n : ℕ). HasCorners c.args.t c.args.arc.now c.args.links.now c.loop-i.entries.items n) e c.loop-i.invariant.has
 
 pub returns-clause-counted : goal.returns-clause-counted
-returns-clause-counted c = rose_more (c.loop-i.i - 1) _ _ _ c.loop-i.invariant.counted (omega (arith, c.loop-i.auto.i-end, c.requires.two))
+returns-clause-counted c = by_more 0 (c.loop-i.i - 1) _ _ _ _ c.loop-i.invariant.counted (omega arith) (omega (arith, c.loop-i.auto.i-end, c.requires.two))
 
 pub returns-in_err-put_corner-clause-counted : goal.returns-in_err-put_corner-clause-counted
-returns-in_err-put_corner-clause-counted c = rose_then (c.loop-i.i - 1) 1 _ _ _ _ c.loop-i.invariant.counted c.put_corner.ensures.counted (omega (arith, c.loop-i.auto.i, c.loop-i-test.true))
+returns-in_err-put_corner-clause-counted c = by_then 0 (c.loop-i.i - 1) 0 1 _ _ _ _ _ c.loop-i.invariant.counted c.put_corner.ensures.counted (omega arith) (omega (arith, c.loop-i.auto.i, c.loop-i-test.true))

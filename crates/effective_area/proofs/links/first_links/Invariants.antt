@@ -1,6 +1,10 @@
-use Rattle.effective_area.specs.Links.{IsFirst}
+use Rattle.std.proofs.Common.{◌≡◌, ◌<◌, ℕ}
+use Rattle.effective_area.specs.Links.{IsFirst, area_in}
 use Rattle.effective_area.proofs.links.first_links.Given as goal
 
 -- those so far
 abbrev pub invariant-loop-i : goal.invariant-loop-i
-invariant-loop-i l = IsFirst l.links.items l.i
+invariant-loop-i l = record {
+  first : IsFirst l.links.items l.i;
+  areas : (v : ℕ) → v < l.i → area_in l.links.items v ≡ l.area;
+}

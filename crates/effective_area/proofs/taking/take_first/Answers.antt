@@ -1,18 +1,23 @@
-use Rattle.std.proofs.Common.{◌*◌, ◌++◌, arith, inl, inr, refl, min}
+use Rattle.std.proofs.Common.{◌*◌, ◌++◌, ◌+◌, ◌<◌, ℕ, List, arith, inl, inr, refl, min}
 use Rattle.std.specs.BinaryHeap.{heap_items}
-use Rattle.effective_area.proofs.Counts.{rose_then, rose_more}
-use Rattle.effective_area.proofs.Turns.{some_left, turn_behind, turn_fits, none_under}
+use Rattle.effective_area.specs.declared.entry.Entry.{Entry}
+use Rattle.effective_area.specs.Links.{IsSound, Unlinks}
+use Rattle.effective_area.proofs.Counts.{by_none, turn_counted}
+use Rattle.effective_area.proofs.Queues.{pushed_behind}
+use Rattle.effective_area.proofs.Turns.{old_ready, new_ready, renews, unlinks_on, some_left, turn_state, turn_fits, none_under}
 use Rattle.effective_area.proofs.taking.take_first.Goals as goal
 
 pub unlink-requires-clause-before : goal.unlink-requires-clause-before
 unlink-requires-clause-before c =
     let s = c.requires.state in
-    (s.2.sound c.in-Some.entry (c.in-Some.ensures.left.member c.in-Some.entry refl)).before
+    let h = s.2.sound c.in-Some.entry (c.in-Some.ensures.left.member c.in-Some.entry refl) in
+    h.before
 
 pub unlink-requires-clause-index : goal.unlink-requires-clause-index
 unlink-requires-clause-index c =
     let s = c.requires.state in
-    (s.2.sound c.in-Some.entry (c.in-Some.ensures.left.member c.in-Some.entry refl)).after
+    let h = s.2.sound c.in-Some.entry (c.in-Some.ensures.left.member c.in-Some.entry refl) in
+    h.after
 
 pub unlink-requires-clause-after : goal.unlink-requires-clause-after
 unlink-requires-clause-after c =
@@ -20,57 +25,103 @@ unlink-requires-clause-after c =
     let h = s.2.sound c.in-Some.entry (c.in-Some.ensures.left.member c.in-Some.entry refl) in
     omega (arith, h.within, s.2.size)
 
-pub push_corner-requires-clause-within : goal.push_corner-requires-clause-within
-push_corner-requires-clause-within c =
+pub goes_behind-is_first_known-requires-clause-other : goal.goes_behind-is_first_known-requires-clause-other
+goes_behind-is_first_known-requires-clause-other c =
+    let s = c.requires.state in
+    let r = old_ready c.args.t c.args.arc.now c.args.links.now (c.args.sorted.now.items ++ heap_items c.args.heap.now) (c.pop_current.new.sorted.items ++ heap_items c.pop_current.new.heap) s.0 s.1 c.in-Some.entry c.ahead-first.result c.behind-last.result s.2 c.in-Some.ensures.left c.in-Some.ensures.current
+    c.ahead-first.ensures.first c.ahead-first.ensures.inside c.behind-last.ensures.last c.behind-last.ensures.inside in
+    r.ahead.within
+
+pub goes_behind-is_last_known-requires-clause-other : goal.goes_behind-is_last_known-requires-clause-other
+goes_behind-is_last_known-requires-clause-other c =
+    let s = c.requires.state in
+    let r = old_ready c.args.t c.args.arc.now c.args.links.now (c.args.sorted.now.items ++ heap_items c.args.heap.now) (c.pop_current.new.sorted.items ++ heap_items c.pop_current.new.heap) s.0 s.1 c.in-Some.entry c.ahead-first.result c.behind-last.result s.2 c.in-Some.ensures.left c.in-Some.ensures.current
+    c.ahead-first.ensures.first c.ahead-first.ensures.inside c.behind-last.ensures.last c.behind-last.ensures.inside in
+    r.behind.within
+
+pub note_area-requires-clause-fits : goal.note_area-requires-clause-fits
+note_area-requires-clause-fits c =
+    let s = c.requires.state in
+    turn_fits c.args.t c.args.arc.now c.args.links.now c.unlink.new.links (c.args.sorted.now.items ++ heap_items c.args.heap.now) (c.pop_current.new.sorted.items ++ heap_items c.pop_current.new.heap) s.0 s.1 c.in-Some.entry s.2 c.in-Some.ensures.left c.in-Some.ensures.current c.unlink.ensures.links c.in-Some.entry.before (inl refl)
+
+pub note_area-requires-2-clause-fits : goal.note_area-requires-2-clause-fits
+note_area-requires-2-clause-fits c =
+    let s = c.requires.state in
+    turn_fits c.args.t c.args.arc.now c.args.links.now c.note_area.new.links (c.args.sorted.now.items ++ heap_items c.args.heap.now) (c.pop_current.new.sorted.items ++ heap_items c.pop_current.new.heap) s.0 s.1 c.in-Some.entry s.2 c.in-Some.ensures.left c.in-Some.ensures.current (unlinks_on c.args.arc.now c.args.links.now c.unlink.new.links c.note_area.new.links c.in-Some.entry.before c.in-Some.entry.corner.index c.in-Some.entry.after c.in-Some.entry.before c.unlink.ensures.links c.note_area.ensures.noted) c.in-Some.entry.after (inr refl)
+
+pub push_first-requires-clause-inner : goal.push_first-requires-clause-inner
+push_first-requires-clause-inner c =
     let s = c.requires.state in
     let h = s.2.sound c.in-Some.entry (c.in-Some.ensures.left.member c.in-Some.entry refl) in
-    omega (arith, h.before, h.after, h.within, s.2.size, c.unlink.ensures.same)
+    let r = new_ready c.args.t c.args.arc.now c.args.links.now c.note_area-2.new.links (c.args.sorted.now.items ++ heap_items c.args.heap.now) (c.pop_current.new.sorted.items ++ heap_items c.pop_current.new.heap) s.0 s.1 c.in-Some.entry c.ahead-first.result c.behind-last.result s.2 c.in-Some.ensures.left c.in-Some.ensures.current
+    (unlinks_on c.args.arc.now c.args.links.now c.note_area.new.links c.note_area-2.new.links c.in-Some.entry.before c.in-Some.entry.corner.index c.in-Some.entry.after c.in-Some.entry.after (unlinks_on c.args.arc.now c.args.links.now c.unlink.new.links c.note_area.new.links c.in-Some.entry.before c.in-Some.entry.corner.index c.in-Some.entry.after c.in-Some.entry.before c.unlink.ensures.links c.note_area.ensures.noted) c.note_area-2.ensures.noted)
+    (renews c.args.arc.now c.args.links.now c.unlink.new.links c.note_area.new.links c.note_area-2.new.links c.in-Some.entry.before c.in-Some.entry.after (omega (arith, h.before, h.after)) c.unlink.ensures.areas c.note_area.ensures.noted c.note_area-2.ensures.noted)
+    c.ahead-first.ensures.first c.ahead-first.ensures.inside c.behind-last.ensures.last c.behind-last.ensures.inside in
+    r.before
 
-pub push_corner-requires-clause-fits : goal.push_corner-requires-clause-fits
-push_corner-requires-clause-fits c =
-    let s = c.requires.state in
-    turn_fits c.args.t c.args.arc.now c.args.links.now c.unlink.new.links (c.args.sorted.now.items ++ heap_items c.args.heap.now)
-    (c.pop_current.new.sorted.items ++ heap_items c.pop_current.new.heap) s.0 s.1 c.in-Some.entry s.2 c.in-Some.ensures.left c.in-Some.ensures.current c.unlink.ensures c.in-Some.entry.before (inl refl)
-
-pub push_corner-requires-2-clause-within : goal.push_corner-requires-2-clause-within
-push_corner-requires-2-clause-within c =
+pub push_first-requires-clause-outer : goal.push_first-requires-clause-outer
+push_first-requires-clause-outer c =
     let s = c.requires.state in
     let h = s.2.sound c.in-Some.entry (c.in-Some.ensures.left.member c.in-Some.entry refl) in
-    omega (arith, h.within, s.2.size, c.unlink.ensures.same)
+    let r = new_ready c.args.t c.args.arc.now c.args.links.now c.note_area-2.new.links (c.args.sorted.now.items ++ heap_items c.args.heap.now) (c.pop_current.new.sorted.items ++ heap_items c.pop_current.new.heap) s.0 s.1 c.in-Some.entry c.ahead-first.result c.behind-last.result s.2 c.in-Some.ensures.left c.in-Some.ensures.current
+    (unlinks_on c.args.arc.now c.args.links.now c.note_area.new.links c.note_area-2.new.links c.in-Some.entry.before c.in-Some.entry.corner.index c.in-Some.entry.after c.in-Some.entry.after (unlinks_on c.args.arc.now c.args.links.now c.unlink.new.links c.note_area.new.links c.in-Some.entry.before c.in-Some.entry.corner.index c.in-Some.entry.after c.in-Some.entry.before c.unlink.ensures.links c.note_area.ensures.noted) c.note_area-2.ensures.noted)
+    (renews c.args.arc.now c.args.links.now c.unlink.new.links c.note_area.new.links c.note_area-2.new.links c.in-Some.entry.before c.in-Some.entry.after (omega (arith, h.before, h.after)) c.unlink.ensures.areas c.note_area.ensures.noted c.note_area-2.ensures.noted)
+    c.ahead-first.ensures.first c.ahead-first.ensures.inside c.behind-last.ensures.last c.behind-last.ensures.inside in
+    r.ahead
 
-pub push_corner-requires-2-clause-fits : goal.push_corner-requires-2-clause-fits
-push_corner-requires-2-clause-fits c =
+pub push_first-requires-2-clause-inner : goal.push_first-requires-2-clause-inner
+push_first-requires-2-clause-inner c =
     let s = c.requires.state in
-    turn_fits c.args.t c.args.arc.now c.args.links.now c.unlink.new.links (c.args.sorted.now.items ++ heap_items c.args.heap.now)
-    (c.pop_current.new.sorted.items ++ heap_items c.pop_current.new.heap) s.0 s.1 c.in-Some.entry s.2 c.in-Some.ensures.left c.in-Some.ensures.current c.unlink.ensures c.in-Some.entry.after (inr refl)
+    let h = s.2.sound c.in-Some.entry (c.in-Some.ensures.left.member c.in-Some.entry refl) in
+    let r = new_ready c.args.t c.args.arc.now c.args.links.now c.note_area-2.new.links (c.args.sorted.now.items ++ heap_items c.args.heap.now) (c.pop_current.new.sorted.items ++ heap_items c.pop_current.new.heap) s.0 s.1 c.in-Some.entry c.ahead-first.result c.behind-last.result s.2 c.in-Some.ensures.left c.in-Some.ensures.current
+    (unlinks_on c.args.arc.now c.args.links.now c.note_area.new.links c.note_area-2.new.links c.in-Some.entry.before c.in-Some.entry.corner.index c.in-Some.entry.after c.in-Some.entry.after (unlinks_on c.args.arc.now c.args.links.now c.unlink.new.links c.note_area.new.links c.in-Some.entry.before c.in-Some.entry.corner.index c.in-Some.entry.after c.in-Some.entry.before c.unlink.ensures.links c.note_area.ensures.noted) c.note_area-2.ensures.noted)
+    (renews c.args.arc.now c.args.links.now c.unlink.new.links c.note_area.new.links c.note_area-2.new.links c.in-Some.entry.before c.in-Some.entry.after (omega (arith, h.before, h.after)) c.unlink.ensures.areas c.note_area.ensures.noted c.note_area-2.ensures.noted)
+    c.ahead-first.ensures.first c.ahead-first.ensures.inside c.behind-last.ensures.last c.behind-last.ensures.inside in
+    r.after
+
+pub push_first-requires-2-clause-outer : goal.push_first-requires-2-clause-outer
+push_first-requires-2-clause-outer c =
+    let s = c.requires.state in
+    let h = s.2.sound c.in-Some.entry (c.in-Some.ensures.left.member c.in-Some.entry refl) in
+    let r = new_ready c.args.t c.args.arc.now c.args.links.now c.note_area-2.new.links (c.args.sorted.now.items ++ heap_items c.args.heap.now) (c.pop_current.new.sorted.items ++ heap_items c.pop_current.new.heap) s.0 s.1 c.in-Some.entry c.ahead-first.result c.behind-last.result s.2 c.in-Some.ensures.left c.in-Some.ensures.current
+    (unlinks_on c.args.arc.now c.args.links.now c.note_area.new.links c.note_area-2.new.links c.in-Some.entry.before c.in-Some.entry.corner.index c.in-Some.entry.after c.in-Some.entry.after (unlinks_on c.args.arc.now c.args.links.now c.unlink.new.links c.note_area.new.links c.in-Some.entry.before c.in-Some.entry.corner.index c.in-Some.entry.after c.in-Some.entry.before c.unlink.ensures.links c.note_area.ensures.noted) c.note_area-2.ensures.noted)
+    (renews c.args.arc.now c.args.links.now c.unlink.new.links c.note_area.new.links c.note_area-2.new.links c.in-Some.entry.before c.in-Some.entry.after (omega (arith, h.before, h.after)) c.unlink.ensures.areas c.note_area.ensures.noted c.note_area-2.ensures.noted)
+    c.ahead-first.ensures.first c.ahead-first.ensures.inside c.behind-last.ensures.last c.behind-last.ensures.inside in
+    r.behind
 
 pub returns-clause-taken : goal.returns-clause-taken
 returns-clause-taken c left vs s =
-    turn_behind c.args.t c.args.arc.now c.args.links.now c.unlink.new.links (c.args.sorted.now.items ++ heap_items c.args.heap.now) c.pop_current.new.sorted.items
-    (heap_items c.pop_current.new.heap) (heap_items c.push_corner.new.heap) (heap_items c.push_corner-2.new.heap) left vs c.in-Some.entry s
-    c.in-Some.ensures.left c.in-Some.ensures.current c.unlink.ensures c.in_ok-push_corner.ensures.pushed c.in_ok-push_corner-2.ensures.pushed
+    let h = s.sound c.in-Some.entry (c.in-Some.ensures.left.member c.in-Some.entry refl) in
+    let r = new_ready c.args.t c.args.arc.now c.args.links.now c.note_area-2.new.links (c.args.sorted.now.items ++ heap_items c.args.heap.now) (c.pop_current.new.sorted.items ++ heap_items c.pop_current.new.heap) left vs c.in-Some.entry c.ahead-first.result c.behind-last.result s c.in-Some.ensures.left c.in-Some.ensures.current
+    (unlinks_on c.args.arc.now c.args.links.now c.note_area.new.links c.note_area-2.new.links c.in-Some.entry.before c.in-Some.entry.corner.index c.in-Some.entry.after c.in-Some.entry.after (unlinks_on c.args.arc.now c.args.links.now c.unlink.new.links c.note_area.new.links c.in-Some.entry.before c.in-Some.entry.corner.index c.in-Some.entry.after c.in-Some.entry.before c.unlink.ensures.links c.note_area.ensures.noted) c.note_area-2.ensures.noted)
+    (renews c.args.arc.now c.args.links.now c.unlink.new.links c.note_area.new.links c.note_area-2.new.links c.in-Some.entry.before c.in-Some.entry.after (omega (arith, h.before, h.after)) c.unlink.ensures.areas c.note_area.ensures.noted c.note_area-2.ensures.noted)
+    c.ahead-first.ensures.first c.ahead-first.ensures.inside c.behind-last.ensures.last c.behind-last.ensures.inside in
+    turn_state c.args.t c.args.arc.now c.args.links.now c.note_area-2.new.links (c.args.sorted.now.items ++ heap_items c.args.heap.now) (c.pop_current.new.sorted.items ++ heap_items c.pop_current.new.heap) (c.pop_current.new.sorted.items ++ heap_items c.push_first.new.heap)
+    (c.pop_current.new.sorted.items ++ heap_items c.push_first-2.new.heap) left vs c.in-Some.entry c.ahead-first.result c.behind-last.result c.goes_behind-is_first_known.result c.goes_behind-is_last_known.result s
+    c.in-Some.ensures.left c.in-Some.ensures.current (unlinks_on c.args.arc.now c.args.links.now c.note_area.new.links c.note_area-2.new.links c.in-Some.entry.before c.in-Some.entry.corner.index c.in-Some.entry.after c.in-Some.entry.after (unlinks_on c.args.arc.now c.args.links.now c.unlink.new.links c.note_area.new.links c.in-Some.entry.before c.in-Some.entry.corner.index c.in-Some.entry.after c.in-Some.entry.before c.unlink.ensures.links c.note_area.ensures.noted) c.note_area-2.ensures.noted)
+    (renews c.args.arc.now c.args.links.now c.unlink.new.links c.note_area.new.links c.note_area-2.new.links c.in-Some.entry.before c.in-Some.entry.after (omega (arith, h.before, h.after)) c.unlink.ensures.areas c.note_area.ensures.noted c.note_area-2.ensures.noted)
+    r.before r.ahead r.after r.behind
+    c.ahead-first.ensures.inside c.ahead-first.ensures.first c.behind-last.ensures.inside c.behind-last.ensures.last c.goes_behind-is_first_known.ensures c.goes_behind-is_last_known.ensures
+    (pushed_behind c.args.t c.args.arc.now c.note_area-2.new.links c.pop_current.new.sorted.items (heap_items c.pop_current.new.heap) (heap_items c.push_first.new.heap) c.in-Some.entry.before c.ahead-first.result c.goes_behind-is_first_known.result c.in_ok-push_first.ensures.pushed)
+    (pushed_behind c.args.t c.args.arc.now c.note_area-2.new.links c.pop_current.new.sorted.items (heap_items c.push_first.new.heap) (heap_items c.push_first-2.new.heap) c.in-Some.entry.after c.behind-last.result c.goes_behind-is_last_known.result c.in_ok-push_first-2.ensures.pushed)
 
 pub returns-in_default-clause-taken : goal.returns-in_default-clause-taken
 returns-in_default-clause-taken c left vs s = (
   s.linked,
-  none_under c.args.t c.args.arc.now c.args.links.now (c.args.sorted.now.items ++ heap_items c.args.heap.now)
-      (c.pop_current.new.sorted.items ++ heap_items c.pop_current.new.heap) left vs s c.in_default.ensures.left c.in_default.ensures.empty,
+  none_under c.args.t c.args.arc.now c.args.links.now (c.args.sorted.now.items ++ heap_items c.args.heap.now) (c.pop_current.new.sorted.items ++ heap_items c.pop_current.new.heap) left vs s c.in_default.ensures.left c.in_default.ensures.empty,
 )
 
-pub returns-in_err-push_corner-clause-counted : goal.returns-in_err-push_corner-clause-counted
-returns-in_err-push_corner-clause-counted c left vs s =
-    let some = some_left c.args.t c.args.arc.now c.args.links.now c.unlink.new.links (c.args.sorted.now.items ++ heap_items c.args.heap.now)
-    (c.pop_current.new.sorted.items ++ heap_items c.pop_current.new.heap) (c.pop_current.new.sorted.items ++ heap_items c.pop_current.new.heap) left vs c.in-Some.entry s c.in-Some.ensures.left c.in-Some.ensures.current c.unlink.ensures in
-    rose_more 1 (2 * min left 1) _ _ c.push_corner.ensures.counted (omega (arith, some))
+pub returns-in_err-push_first-clause-counted : goal.returns-in_err-push_first-clause-counted
+returns-in_err-push_first-clause-counted c left vs s =
+    let some = some_left c.args.t c.args.arc.now c.args.links.now c.unlink.new.links (c.args.sorted.now.items ++ heap_items c.args.heap.now) (c.pop_current.new.sorted.items ++ heap_items c.pop_current.new.heap) (c.pop_current.new.sorted.items ++ heap_items c.pop_current.new.heap) left vs c.in-Some.entry s c.in-Some.ensures.left c.in-Some.ensures.current c.unlink.ensures.links in
+    turn_counted left _ _ _ _ _ c.note_area.ensures.counted c.note_area-2.ensures.counted c.push_first.ensures.counted (by_none 0 1 _) some
 
-pub returns-in_err-push_corner-2-clause-counted : goal.returns-in_err-push_corner-2-clause-counted
-returns-in_err-push_corner-2-clause-counted c left vs s =
-    let some = some_left c.args.t c.args.arc.now c.args.links.now c.unlink.new.links (c.args.sorted.now.items ++ heap_items c.args.heap.now)
-    (c.pop_current.new.sorted.items ++ heap_items c.pop_current.new.heap) (c.pop_current.new.sorted.items ++ heap_items c.pop_current.new.heap) left vs c.in-Some.entry s c.in-Some.ensures.left c.in-Some.ensures.current c.unlink.ensures in
-    rose_then 1 1 (2 * min left 1) _ _ _ c.push_corner.ensures.counted c.push_corner-2.ensures.counted (omega (arith, some))
+pub returns-in_err-push_first-2-clause-counted : goal.returns-in_err-push_first-2-clause-counted
+returns-in_err-push_first-2-clause-counted c left vs s =
+    let some = some_left c.args.t c.args.arc.now c.args.links.now c.unlink.new.links (c.args.sorted.now.items ++ heap_items c.args.heap.now) (c.pop_current.new.sorted.items ++ heap_items c.pop_current.new.heap) (c.pop_current.new.sorted.items ++ heap_items c.pop_current.new.heap) left vs c.in-Some.entry s c.in-Some.ensures.left c.in-Some.ensures.current c.unlink.ensures.links in
+    turn_counted left _ _ _ _ _ c.note_area.ensures.counted c.note_area-2.ensures.counted c.push_first.ensures.counted c.push_first-2.ensures.counted some
 
 pub returns-clause-counted : goal.returns-clause-counted
 returns-clause-counted c left vs s =
-    let some = some_left c.args.t c.args.arc.now c.args.links.now c.unlink.new.links (c.args.sorted.now.items ++ heap_items c.args.heap.now)
-    (c.pop_current.new.sorted.items ++ heap_items c.pop_current.new.heap) (c.pop_current.new.sorted.items ++ heap_items c.pop_current.new.heap) left vs c.in-Some.entry s c.in-Some.ensures.left c.in-Some.ensures.current c.unlink.ensures in
-    rose_then 1 1 (2 * min left 1) _ _ _ c.push_corner.ensures.counted c.push_corner-2.ensures.counted (omega (arith, some))
+    let some = some_left c.args.t c.args.arc.now c.args.links.now c.unlink.new.links (c.args.sorted.now.items ++ heap_items c.args.heap.now) (c.pop_current.new.sorted.items ++ heap_items c.pop_current.new.heap) (c.pop_current.new.sorted.items ++ heap_items c.pop_current.new.heap) left vs c.in-Some.entry s c.in-Some.ensures.left c.in-Some.ensures.current c.unlink.ensures.links in
+    turn_counted left _ _ _ _ _ c.note_area.ensures.counted c.note_area-2.ensures.counted c.push_first.ensures.counted c.push_first-2.ensures.counted some

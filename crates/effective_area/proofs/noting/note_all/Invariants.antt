@@ -1,0 +1,11 @@
+use Rattle.std.proofs.Common.{◌-◌, ◌≡◌, length}
+use Rattle.effective_area.specs.Counts.{RoseBy}
+use Rattle.effective_area.proofs.LinkLaws.{NotedTo}
+use Rattle.effective_area.proofs.noting.note_all.Given as goal
+
+-- those so far
+abbrev pub invariant-loop-i : goal.invariant-loop-i
+invariant-loop-i l = record {
+  counted : RoseBy (l.i - 1) 0 l.fn.steps l.steps;
+  noted : NotedTo l.arc l.fn.links l.links l.i;
+}

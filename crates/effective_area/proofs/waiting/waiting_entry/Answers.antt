@@ -1,0 +1,41 @@
+use Rattle.std.proofs.Common.{◌≡◌, ℕ, ◌+◌, ◌<◌, ◌≤◌, true, false, length, arith, subst, sym, ◌∙◌}
+use Rattle.effective_area.specs.Links.{after_in, before_in, area_in}
+use Rattle.effective_area.specs.declared.entry.Entry.{Entry}
+use Rattle.effective_area.proofs.waiting.waiting_entry.Goals as goal
+
+pub returns-then-index-eq0-clause-none : goal.returns-then-index-eq0-clause-none
+returns-then-index-eq0-clause-none c = λ w. absurd (omega (arith, w.later, c.if-index-eq0.true))
+
+pub returns-then-links-index-le1-clause-none : goal.returns-then-links-index-le1-clause-none
+returns-then-links-index-le1-clause-none c = λ w. absurd (omega (arith, w.inside, c.if-links-index-le1.true))
+
+pub returns-then-link-t-clause-none : goal.returns-then-link-t-clause-none
+unfolding area_in
+returns-then-link-t-clause-none c = λ w. absurd (omega (arith, w.under, c.if-link-t.true, c.requires.ready.noted w.later w.inside))
+
+pub returns-then-goes_before-clause-none : goal.returns-then-goes_before-clause-none
+unfolding before_in
+returns-then-goes_before-clause-none c = λ w. let e : false ≡ true = sym w.before ∙ sym c.goes_before.ensures ∙ c.if-goes_before.true in absurd (cc)
+
+pub returns-then-goes_before-2-clause-none : goal.returns-then-goes_before-2-clause-none
+unfolding after_in
+returns-then-goes_before-2-clause-none c = λ w. let e : false ≡ true = sym w.after ∙ sym c.goes_before-2.ensures ∙ c.if-goes_before-2.true in absurd (cc)
+
+pub goes_before-requires-clause-index : goal.goes_before-requires-clause-index
+unfolding after_in before_in
+goes_before-requires-clause-index c =
+    let f = c.requires.ready.fits (omega (arith, c.if-index-eq0.false)) (omega (arith, c.if-links-index-le1.false)) in
+    omega (arith, f.before, c.requires.ready.within)
+
+pub goes_before-requires-2-clause-index : goal.goes_before-requires-2-clause-index
+unfolding after_in before_in
+goes_before-requires-2-clause-index c =
+    let f = c.requires.ready.fits (omega (arith, c.if-index-eq0.false)) (omega (arith, c.if-links-index-le1.false)) in
+    omega (arith, f.within, c.requires.size)
+
+pub returns-clause-under : goal.returns-clause-under
+unfolding area_in
+returns-clause-under c =
+    let p : 0 < c.args.index = omega (arith, c.if-index-eq0.false) in
+    let q : c.args.index + 1 < length c.args.links.now = omega (arith, c.if-links-index-le1.false) in
+    (p, q, c.entry_of.ensures, subst (λ (x : Entry). x.corner.area < c.args.t) (sym c.entry_of.ensures) (subst (λ (n : ℕ). n < c.args.t) (c.requires.ready.noted p q) c.if-link-t.false))

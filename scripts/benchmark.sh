@@ -1,5 +1,6 @@
 #!/bin/sh
-# Measures the program on meshes (scripts/mesh.py) of 10^4 and 10^6 positions, without and with properties:
+# Measures the program on meshes (scripts/mesh.py) of 10^4 and 10^6 positions, without and with properties, and on a coast
+# (scripts/coast.py), one ring of 10^6 positions:
 #
 #     scripts/benchmark.sh                    the program of ./mapchain, which is proved and built first where it has to be
 #     scripts/benchmark.sh path/to/mapchain   another program with the same commands
@@ -7,7 +8,8 @@
 #
 # For each mesh and each of `build`, without options, on a grid of 10^6 and with an area, `simplify` with the same area, `geo` and
 # `stat` (these three on what `build` wrote, `geo` on what it wrote on a grid too) it prints a row of a table: the seconds of the fastest
-# run, the MB/s of its input, and the greatest peak of memory. Then, for each command, the growth: the
+# run, the MB/s of its input, and the greatest peak of memory. For the coast these are `build` without options, with an area at which a
+# third of the positions goes, and with one at which nearly all go, and `simplify` with these two areas. Then, for each command, the growth: the
 # time a byte at 10^6 positions over that at 10^4. Where topo2geo (topojson-client) or ogr2ogr (GDAL) is installed, rows of
 # theirs for the same decoding come beside. Runs follow one another; nothing else should run meanwhile.
 set -eu
@@ -57,12 +59,23 @@ measure() {
     fi
 }
 
+# measure_coast AREA AREA: the rows of the coast, where a third of the positions goes at the first area and nearly all at the second.
+measure_coast() {
+    "$root/scripts/coast.py" 6 >"$work/coast.json"
+    row coast "$work/coast.json" "$work/coast.topojson" build "$program" build "coast=$work/coast.json"
+    row coast "$work/coast.json" "$work/out" "build, a third goes" "$program" build --min-area "$1" "coast=$work/coast.json"
+    row coast "$work/coast.json" "$work/out" "build, nearly all go" "$program" build --min-area "$2" "coast=$work/coast.json"
+    row coast "$work/coast.topojson" "$work/out" "simplify, a third goes" "$program" simplify --min-area "$1" "$work/coast.topojson"
+    row coast "$work/coast.topojson" "$work/out" "simplify, nearly all go" "$program" simplify --min-area "$2" "$work/coast.topojson"
+}
+
 echo "| mesh | MB | command | seconds | MB/s | peak MB |"
 echo "|---|---|---|---|---|---|"
 measure "10^4" 12 16
 measure "10^6" 124 16
 measure "10^4, properties" 12 16 --properties
 measure "10^6, properties" 124 16 --properties
+measure_coast 0.00000575 0.00275
 echo
 for name in build "build, grid" "build, area" "simplify, area" geo "geo, grid" stat; do
     for kind in "" ", properties"; do

@@ -11,6 +11,8 @@ positions have seven decimal places. The same number gives the same bytes.
 import argparse
 import sys
 
+sys.dont_write_bytecode = True
+
 from mesh import decimal, scattered
 
 # In units of 10^-7.

@@ -1,4 +1,4 @@
-use Rattle.std.proofs.Common.{◌≡◌, true, false, Bool, not, sym, ◌∙◌}
+use Rattle.std.proofs.Common.{sym, ◌∙◌}
 use Rattle.effective_area.proofs.LinkLaws.{not_true}
 use Rattle.effective_area.proofs.noting.goes_behind.Goals as goal
 

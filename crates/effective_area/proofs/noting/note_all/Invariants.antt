@@ -1,4 +1,4 @@
-use Rattle.std.proofs.Common.{◌-◌, ◌≡◌, length}
+use Rattle.std.proofs.Common.{◌-◌}
 use Rattle.effective_area.specs.Counts.{RoseBy}
 use Rattle.effective_area.proofs.LinkLaws.{NotedTo}
 use Rattle.effective_area.proofs.noting.note_all.Given as goal

@@ -1,4 +1,4 @@
-use Rattle.std.proofs.Common.{◌≤◌, arith}
+use Rattle.std.proofs.Common.{arith}
 use Rattle.effective_area.specs.Links.{after_in, before_in}
 use Rattle.effective_area.proofs.LinkLaws.{notes, notes_end}
 use Rattle.effective_area.proofs.noting.note_area.Goals as goal

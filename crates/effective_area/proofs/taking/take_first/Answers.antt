@@ -1,7 +1,5 @@
-use Rattle.std.proofs.Common.{◌*◌, ◌++◌, ◌+◌, ◌<◌, ℕ, List, arith, inl, inr, refl, min}
+use Rattle.std.proofs.Common.{◌++◌, arith, inl, inr, refl}
 use Rattle.std.specs.BinaryHeap.{heap_items}
-use Rattle.effective_area.specs.declared.entry.Entry.{Entry}
-use Rattle.effective_area.specs.Links.{IsSound, Unlinks}
 use Rattle.effective_area.proofs.Counts.{by_none, turn_counted}
 use Rattle.effective_area.proofs.Queues.{pushed_behind}
 use Rattle.effective_area.proofs.Turns.{old_ready, new_ready, renews, unlinks_on, some_left, turn_state, turn_fits, none_under}

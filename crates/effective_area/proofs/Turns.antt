@@ -7,13 +7,13 @@ use Rattle.std.specs.declared.cmp.Ordering.{Ordering}
 use Rattle.std.specs.declared.cmp.Ordering.TheVariants.{Less, Equal, Greater}
 use Rattle.geometry.specs.Lists.{In}
 use Rattle.geometry.specs.Points.{Point}
-use Rattle.elimination_meaning.specs.Elimination.{Vertex, Corner, corner_at, corner_cmp, corners, least, lesser, is_before, eliminate}
+use Rattle.elimination_meaning.specs.Elimination.{Vertex, Corner, corner_at, corner_cmp, corners, least, lesser, is_before, eliminate, numbered}
 use Rattle.effective_area.specs.Vertices.{vertex_at, vertices, seen}
 use Rattle.std.proofs.lemmas.Bool.{cases_lt}
 use Rattle.std.proofs.lemmas.List.FromFn.{length-range_with_len}
 use Rattle.std.specs.Cmp.{nat_cmp_is}
 use Rattle.geometry.specs.Order.{point_cmp}
-use Rattle.elimination_meaning.proofs.Steps.{Holds, least_holds}
+use Rattle.elimination_meaning.proofs.Steps.{Holds, eliminate_zero, least_holds}
 use Rattle.elimination_meaning.specs.Elimination.{reduce}
 use Rattle.effective_area.proofs.Scan.{step_some, step_none, step_over, without_vertices, all_vertices, settled}
 use Rattle.effective_area.specs.declared.links.Link.{Link}
@@ -815,3 +815,7 @@ no_corners_yet t ps links items e = record {
 pub ok_also : {X E : Type 0} (P Q : X → Type 0) (r : Result X E) → ((x : X) → P x → Q x) → IfOk r P → IfOk r Q
 ok_also P Q (Ok x) f h = f x h
 ok_also P Q (Err e) f h = h
+
+-- at the threshold zero all stay
+pub all_at_zero : (t : ℕ) (ps : List Point) (is : List ℕ) → t ≡ 0 → is ≡ range_with_len 0 (length ps) → is ≡ reduce t ps
+all_at_zero t ps is z e = e ∙ subst (λ k. range_with_len 0 (length ps) ≡ reduce k ps) (sym z) (settled 0 ps (range_with_len 0 (length ps)) (all_vertices ps ∙ sym (eliminate_zero (length ps) (numbered 0 ps))))

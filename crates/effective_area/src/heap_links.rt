@@ -7,6 +7,7 @@ ghost use Rattle.effective_area.specs.Links.{AreNoted, HasCorners, IsFirst, IsLi
 ghost use Rattle.elimination_meaning.specs.Elimination.{reduce};
 
 use crate::entry::Entry;
+use crate::indexes::all_indexes;
 use crate::links::{Link, present};
 use crate::noting::noted_links;
 use crate::reducer::Reducer;
@@ -146,6 +147,9 @@ impl Reducer for HeapLinks {
         ensures kept { IfOk result (λ kept. kept.items ≡ reduce t arc.now) }
         ensures counted { RoseAtMost (3 * (length arc.now - 2)) self.old self.new }
     {
+        if t == 0 {
+            return all_indexes(alloc, arc.len());
+        }
         let mut links = noted_links(alloc, &mut self.steps, arc, t)?;
         kept_by(alloc, &mut self.steps, arc, &mut links, t)
     }

@@ -8,6 +8,7 @@
 mod candidate;
 mod entry;
 mod heap_links;
+mod indexes;
 mod links;
 mod noting;
 mod reducer;

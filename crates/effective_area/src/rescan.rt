@@ -1,10 +1,11 @@
-ghost use Rattle.std.specs.Prelude.{◌≡◌, ℕ, ◌<◌, All, IfOk, length, not, ◌==◌, Some};
-ghost use Rattle.std.specs.List.{filter, range_with_len};
+ghost use Rattle.std.specs.Prelude.{◌≡◌, ℕ, ◌<◌, All, length, not, ◌==◌, Some};
+ghost use Rattle.std.specs.List.{filter};
 ghost use Rattle.elimination_meaning.specs.Elimination.{corners, least, lesser};
 ghost use Rattle.effective_area.specs.Vertices.{seen, vertices};
 ghost use Rattle.geometry.specs.Lists.{map_some};
 
 use crate::candidate::Candidate;
+use crate::indexes::all_indexes;
 use crate::reducer::Reducer;
 use crate::steps::{Steps, twice_area};
 use geometry::Position;
@@ -38,17 +39,6 @@ fn least_corner(steps: &mut Steps, arc: &[Position], present: &[usize]) -> Optio
         best = Some(first(best, Candidate { area, point, index }));
     }
     best
-}
-
-/// All indexes below `n`.
-fn all_indexes(alloc: Global, n: usize) -> Result<Vec<usize>, Memory>
-    ensures { IfOk result (λ all. all.items ≡ range_with_len 0 n) }
-{
-    let mut all = Vec::new(alloc);
-    for i in 0..n {
-        all.push(i)?;
-    }
-    Ok(all)
 }
 
 /// Takes an index out.

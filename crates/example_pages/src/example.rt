@@ -13,6 +13,8 @@ pub(crate) enum Runs<'a> {
     EachByteRead(&'a str),
     /// Once for each byte of the file of this name, at which standard output fails.
     EachByteWritten(&'a str),
+    /// Once for each byte of the file of this name, at which standard output takes nothing, once, and one byte each other time.
+    EachByteNotTaken(&'a str),
 }
 
 /// What must come to standard output.
@@ -69,7 +71,10 @@ impl<'a> Example<'a> {
     /// Takes what must come to standard output, and answers whether that was open.
     pub(crate) fn takes_output(&mut self, output: Output<'a>) -> bool {
         let is_open = matches!(self.output, Output::Nothing)
-            && !matches!(self.runs, Runs::EachByteWritten(_));
+            && !matches!(
+                self.runs,
+                Runs::EachByteWritten(_) | Runs::EachByteNotTaken(_)
+            );
         self.output = output;
         is_open
     }

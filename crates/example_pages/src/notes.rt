@@ -51,6 +51,9 @@ fn runs_of(note: &str) -> Option<Runs<'_>> {
     if let Some(name) = note.strip_prefix("for a reader that fails at each byte of ") {
         return Some(Runs::EachByteRead(name));
     }
+    if let Some(name) = note.strip_prefix("for an output that takes nothing at each byte of ") {
+        return Some(Runs::EachByteNotTaken(name));
+    }
     let name = note.strip_prefix("for an output that fails at each byte of ")?;
     Some(Runs::EachByteWritten(name))
 }

@@ -51,14 +51,17 @@ pub(crate) fn try_example<P: Program>(
 ) -> Result<Vec<u8>, AllocError> {
     let name = match example.runs {
         Runs::Once => return once(alloc, program, files, example, tally),
-        Runs::EachPrefix(name) | Runs::EachByteRead(name) | Runs::EachByteWritten(name) => name,
+        Runs::EachPrefix(name)
+        | Runs::EachByteRead(name)
+        | Runs::EachByteWritten(name)
+        | Runs::EachByteNotTaken(name) => name,
     };
     let Some(whole) = files.bytes(name) else {
         tally.tell(format!(in alloc; "no file {name}")?)?;
         return Ok(Vec::new(alloc));
     };
     match example.runs {
-        Runs::EachByteWritten(_) => each_byte_written(
+        Runs::EachByteWritten(_) | Runs::EachByteNotTaken(_) => each_byte_written(
             alloc, program, files, example, whole, tally,
         )?,
         Runs::EachByteRead(_) => each_byte_read(
@@ -176,7 +179,21 @@ fn each_byte_read<P: Program>(
     Ok(())
 }
 
-/// Runs a command for an output that fails at each byte of a text: it takes those before, and `{sent}` counts them.
+/// The devices of an example whose output fails at this byte, or takes nothing there.
+fn failing_at(example: &Example<'_>, byte: usize) -> Devices {
+    let mut devices = example.devices;
+    match example.runs {
+        Runs::EachByteNotTaken(_) => {
+            devices.by_one = true;
+            devices.output = Fault::NothingAtCall(byte as u64);
+        }
+        _ => devices.output = Fault::AtByte(byte),
+    }
+    devices
+}
+
+/// Runs a command for an output that fails at each byte of a text, or takes nothing there: it takes those before, and `{sent}`
+/// counts them.
 fn each_byte_written<P: Program>(
     alloc: Global,
     program: &P,
@@ -186,8 +203,7 @@ fn each_byte_written<P: Program>(
     tally: &mut Tally,
 ) -> Result<(), AllocError> {
     for end in 0..whole.len() {
-        let mut devices = example.devices;
-        devices.output = Fault::AtByte(end);
+        let devices = failing_at(example, end);
         let ran = run(alloc, program, files, example.words, devices, Damage::None)?;
         let sent = end.to_string(alloc)?;
         let error = example.error.replace(alloc, "{sent}", sent.as_str())?;

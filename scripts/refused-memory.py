@@ -1,0 +1,230 @@
+#!/usr/bin/env python3
+"""Refuses each allocation of the program in turn, and shows that a run then ends in want of memory with nothing written, or in its
+own answer, and never in anything else:
+
+    scripts/refused-memory.py                     the programs of ./mapchain and of crates/allocation_tests, which are proved
+                                                  and built first where they have to be
+    scripts/refused-memory.py path/to/mapchain    another program with the same commands
+
+It needs a C compiler, `cc` or the one that CC names, and the C library of GNU: for N = 1, 2, .. a library of a few lines, which
+it compiles and has the program load, refuses the Nth allocation, once. A command is through where a run asked for fewer than N. Its
+answer is then the one that stands here. Then it runs crates/allocation_tests in the same way, where a reducer that was refused
+memory has to answer the next call.
+
+It ends with status 0, or with status 1 at the first run that ends in anything else. The gate refuses no memory, so this is run by
+hand, and takes less than a minute.
+"""
+import os
+import subprocess
+import sys
+import tempfile
+import time
+
+ROOT = os.path.dirname(os.path.dirname(os.path.realpath(__file__)))
+
+# What refuses. It tells that it did by a byte to a file.
+REFUSING = r"""
+#include <stddef.h>
+#include <stdlib.h>
+#include <unistd.h>
+
+extern void *__libc_malloc(size_t);
+extern void *__libc_calloc(size_t, size_t);
+extern void *__libc_realloc(void *, size_t);
+extern void *__libc_memalign(size_t, size_t);
+
+static long left;
+static int told;
+
+__attribute__((constructor)) static void start(void) {
+    left = atol(getenv("REFUSED_ALLOCATION"));
+    told = atoi(getenv("REFUSED_TOLD"));
+}
+
+static int is_refused(void) {
+    return left > 0 && --left == 0 && write(told, "r", 1) == 1;
+}
+
+void *malloc(size_t size) { return is_refused() ? NULL : __libc_malloc(size); }
+void *calloc(size_t n, size_t size) { return is_refused() ? NULL : __libc_calloc(n, size); }
+void *realloc(void *old, size_t size) { return is_refused() ? NULL : __libc_realloc(old, size); }
+void *aligned_alloc(size_t by, size_t size) { return is_refused() ? NULL : __libc_memalign(by, size); }
+"""
+
+# ---- the files
+
+
+def layer(*geometries):
+    """A FeatureCollection of features with these geometries, each a type and its coordinates."""
+    features = ",".join(
+        '{"type":"Feature","properties":null,"geometry":{"type":"%s","coordinates":%s}}' % it for it in geometries
+    )
+    return '{"type":"FeatureCollection","features":[%s]}' % features
+
+
+def topology(name, geometries, arcs, transform=""):
+    """The text of a topology with one object."""
+    objects = '{"%s":{"type":"GeometryCollection","geometries":[%s]}}' % (name, ",".join(geometries))
+    return '{"type":"Topology",%s"objects":%s,"arcs":%s}' % (transform, objects, arcs)
+
+
+LINE = '{"type":"LineString","coordinates":[[0,0],[1.5,0.25]]}'
+LINE_TOPOLOGY = topology("a", ['{"type":"LineString","arcs":[0]}'], "[[[0,0],[1.5,0.25]]]")
+SQUARES = layer(
+    ("Polygon", "[[[0,0],[1,0],[1,1],[0,1],[0,0]]]"), ("Polygon", "[[[1,0],[2,0],[2,1],[1,1],[1,0]]]")
+)
+SQUARES_TOPOLOGY = topology(
+    "land",
+    ['{"type":"Polygon","arcs":[[0,1]]}', '{"type":"Polygon","arcs":[[2,-1]]}'],
+    "[[[1,0],[1,1]],[[1,1],[0,1],[0,0],[1,0]],[[1,0],[2,0],[2,1],[1,1]]]",
+)
+PEAK = layer(("LineString", "[[0,0],[0.5,1],[1,0]]"), ("Point", "[1,1]"))
+PEAK_TOPOLOGY = topology(
+    "g",
+    ['{"type":"LineString","arcs":[0]}', '{"type":"Point","coordinates":[3,3]}'],
+    "[[[0,0],[1,3],[2,-3]]]",
+    '"transform":{"scale":[0.3333334,0.3333334],"translate":[0,0]},',
+)
+LAND = layer(
+    ("Polygon", "[[[0,0],[10,0],[10,10],[0,10],[0,0]],[[4,4],[4,5],[5,4],[4,4]]]"),
+    ("Polygon", "[[[4,4],[5,4],[4,5],[4,4]]]"),
+    ("LineString", "[[20,0],[30,0]]"),
+)
+FULL_TOPOLOGY = topology(
+    "land",
+    ['{"type":"Polygon","arcs":[[0],[1]]}', '{"type":"Polygon","arcs":[[-2]]}', '{"type":"LineString","arcs":[2]}'],
+    "[[[0,0],[10,0],[10,10],[0,10],[0,0]],[[4,4],[4,5],[5,4],[4,4]],[[20,0],[30,0]]]",
+)
+LAND_TOPOLOGY = topology(
+    "land",
+    ['{"type":"Polygon","arcs":[[0]]}', '{"type":null}', '{"type":"LineString","arcs":[1]}'],
+    "[[[0,0],[10,0],[10,10],[0,10],[0,0]],[[20,0],[30,0]]]",
+)
+FILES = {
+    "line.json": LINE,
+    "cut.json": LINE[:40],
+    "line.topojson": LINE_TOPOLOGY,
+    "squares.json": SQUARES,
+    "peak.json": PEAK,
+    "land.json": LAND,
+    "full.topojson": FULL_TOPOLOGY,
+    "less.topojson": LAND_TOPOLOGY,
+}
+
+# ---- the runs: the words, the status, standard output, standard error, and the line of want of memory
+
+
+def report(arcs, kept, drops=()):
+    """The text of a report that counts nothing else."""
+    dropped = "".join(f"drop {it}\n" for it in drops)
+    return f"rounded 0\nextra 0\nempty 0\ndropped {len(drops)}\n{dropped}arcs {arcs}\nkept {kept}\nremoved 0\n"
+
+
+SMALL = ("0 0 1 small", "0 1 0 small")
+BUILD, FILE = "error: B7 Memory\n", "error: E6 Memory\n"
+RUNS = (
+    ("build a=line.json", 0, LINE_TOPOLOGY, report(1, 2), BUILD),
+    ("build land=squares.json", 0, SQUARES_TOPOLOGY, report(3, 10), BUILD),
+    ("build --grid 4 g=peak.json", 0, PEAK_TOPOLOGY, report(1, 3), BUILD),
+    ("build --min-area 1 land=land.json", 0, LAND_TOPOLOGY, report(2, 7, SMALL), BUILD),
+    ("build a=line.json b=cut.json", 1, "", "error: layer 1 J2 Malformed\n", BUILD),
+    ("simplify --min-area 1 full.topojson", 0, LAND_TOPOLOGY, report(2, 7, SMALL), FILE),
+    ("geo --object a line.topojson", 0, layer(("LineString", "[[0,0],[1.5,0.25]]")), "", FILE),
+    ("stat less.topojson", 0, 'objects 1\n"land" 3\narcs 2\npositions 7\ngrid no\n', "", FILE),
+)
+
+
+class Refusing:
+    """Runs programs in a folder, and has one of their allocations refused."""
+
+    def __init__(self, folder):
+        self.folder = folder
+        self.library = f"{folder}/refusing.so"
+        words = [os.environ.get("CC", "cc"), "-shared", "-fPIC", "-O1", "-x", "c", "-", "-o", self.library]
+        subprocess.run(words, input=REFUSING.encode(), check=True)
+
+    def run(self, words, number):
+        """The status, standard output and standard error, and whether the allocation of this number was asked for and refused."""
+        with open(f"{self.folder}/told", "wb") as told:
+            file = told.fileno()
+            env = {"LD_PRELOAD": self.library, "REFUSED_ALLOCATION": str(number), "REFUSED_TOLD": str(file)}
+            ended = subprocess.run(words, cwd=self.folder, env=env, pass_fds=[file], capture_output=True, timeout=60)
+        was_refused = os.path.getsize(f"{self.folder}/told") > 0
+        return ended.returncode, ended.stdout.decode(), ended.stderr.decode(), was_refused
+
+
+def fail(words, number, ended):
+    """Tells of a run that ended in anything else, and ends."""
+    print(f"{words}: allocation {number} refused: status {ended[0]}\n{ended[1]}\n{ended[2]}", file=sys.stderr)
+    sys.exit(1)
+
+
+def refuse_each(refusing, program, run):
+    """Refuses each allocation of a run of the program, and prints how the runs ended."""
+    words, status, output, error, memory = run
+    counts = {"answered": 0, "told": 0, "silent": 0}
+    number = 1
+    while True:
+        ended = refusing.run([program, *words.split()], number)
+        if ended[:3] == (status, output, error):
+            if not ended[3]:
+                break
+            counts["answered"] += 1
+        elif ended == (3, "", memory, True):
+            counts["told"] += 1
+        elif ended == (3, "", "", True):
+            counts["silent"] += 1
+        else:
+            fail(words, number, ended)
+        number += 1
+    print(
+        f"{words}: {number - 1} allocations, each refused once: {counts['told']} runs ended in {memory.strip()!r}, "
+        f"{counts['silent']} in status 3 with no line, {counts['answered']} in the answer"
+    )
+    return number - 1
+
+
+def reduce_again(refusing, program):
+    """Refuses each allocation of a reducer that is called twice, and prints how the runs ended."""
+    counts = {}
+    number = 1
+    while True:
+        ended = refusing.run([program], number)
+        told = ended[1].strip()
+        if ended[0] == 0 and ended[2] == "" and told == "answered twice" and not ended[3]:
+            break
+        if ended[0] != 0 or told not in ("refused, and then answered", "answered, and then refused"):
+            fail("a reducer", number, ended)
+        counts[told] = counts.get(told, 0) + 1
+        number += 1
+    if not counts.get("refused, and then answered"):
+        fail("a reducer was never refused", number, ended)
+    print(f"a reducer, called twice: {number - 1} allocations, each refused once: {counts}")
+
+
+def built(name):
+    """The program of a crate, which is built where it isn't there."""
+    program = f"{ROOT}/crates/{name}/out/{name}"
+    if name == "mapchain":
+        subprocess.run([f"{ROOT}/mapchain", "--help"], stdout=subprocess.DEVNULL, check=True)
+    elif not os.path.exists(program):
+        subprocess.run(["rt", "run"], cwd=f"{ROOT}/crates/{name}", stdout=subprocess.DEVNULL, check=True)
+    return program
+
+
+def main():
+    program = sys.argv[1] if len(sys.argv) > 1 else built("mapchain")
+    reducing = sys.argv[2] if len(sys.argv) > 2 else built("allocation_tests")
+    start = time.monotonic()
+    with tempfile.TemporaryDirectory() as folder:
+        for name, text in FILES.items():
+            with open(f"{folder}/{name}", "w") as file:
+                file.write(text)
+        refusing = Refusing(folder)
+        total = sum(refuse_each(refusing, program, run) for run in RUNS)
+        reduce_again(refusing, reducing)
+    print(f"{total} allocations in {len(RUNS)} commands, {time.monotonic() - start:.0f} seconds")
+
+
+if __name__ == "__main__":
+    main()

@@ -1,0 +1,102 @@
+// Weights, run. That each is the definition's is proved: these show that memory isn't always refused, and what the definition comes to.
+use effective_area::{Weight, weights};
+use geojson_types::Position;
+use std::alloc::Global;
+
+// Units of 10^-7 in a unit of the coordinates.
+const ONE: i64 = 10_000_000;
+
+/// Whether these are the weights of the line.
+fn weighs(alloc: Global, line: &[Position], wanted: &[Weight]) -> bool {
+    match weights(alloc, line) {
+        Ok(all) => all.as_slice() == wanted,
+        Err(_) => false,
+    }
+}
+
+// Fewer than three positions are ends, whatever stands twice.
+#[test]
+fn short_lines_are_ends(rt: HostRuntime) {
+    let here = Position::at(1, 1);
+    assert!(rt; weighs(rt.alloc(), &[], &[]));
+    assert!(rt; weighs(rt.alloc(), &[here], &[Weight::End]));
+    assert!(rt; weighs(rt.alloc(), &[here, here], &[Weight::End, Weight::End]));
+}
+
+// Of two equal positions the one with the lesser index goes first, at no area.
+#[test]
+fn repeated_positions_weigh_by_index(rt: HostRuntime) {
+    let line = [
+        Position::at(0, 0),
+        Position::at(1, 1),
+        Position::at(1, 1),
+        Position::at(2, 0),
+    ];
+    let wanted = [Weight::End, Weight::Area(0), Weight::Area(2), Weight::End];
+    assert!(rt; weighs(rt.alloc(), &line, &wanted));
+}
+
+// The first corner goes at twice an area of 1 square unit of the coordinates. The second, that had 5, has 9 then.
+#[test]
+fn a_neighbour_weighs_what_it_grows_to(rt: HostRuntime) {
+    let line = [
+        Position::at(0, 0),
+        Position::at(ONE, ONE),
+        Position::at(2 * ONE, 3 * ONE),
+        Position::at(3 * ONE, 0),
+    ];
+    let wanted = [
+        Weight::End,
+        Weight::Area(100_000_000_000_000),
+        Weight::Area(900_000_000_000_000),
+        Weight::End,
+    ];
+    assert!(rt; weighs(rt.alloc(), &line, &wanted));
+}
+
+// Both have twice an area of 2. Once the first is gone the second has none, and weighs as much as the first did.
+#[test]
+fn a_weight_never_falls(rt: HostRuntime) {
+    let line = [
+        Position::at(0, 0),
+        Position::at(ONE, ONE),
+        Position::at(2 * ONE, 0),
+        Position::at(4 * ONE, 0),
+    ];
+    let both = Weight::Area(200_000_000_000_000);
+    let wanted = [Weight::End, both, both, Weight::End];
+    assert!(rt; weighs(rt.alloc(), &line, &wanted));
+}
+
+// A line that runs back and forth over the same positions, with its weights as a program of its own computed them by looking
+// through the whole line for each.
+#[test]
+fn a_line_that_runs_back_and_forth(rt: HostRuntime) {
+    let line = [
+        Position::at(0, 0),
+        Position::at(3, 4),
+        Position::at(0, 0),
+        Position::at(3, 4),
+        Position::at(6, 1),
+        Position::at(3, 4),
+        Position::at(9, 9),
+        Position::at(9, 9),
+        Position::at(-2, 5),
+        Position::at(0, 0),
+    ];
+    let none = Weight::Area(0);
+    let most = Weight::Area(63);
+    let wanted = [
+        Weight::End,
+        none,
+        none,
+        none,
+        none,
+        Weight::Area(9),
+        none,
+        most,
+        most,
+        Weight::End,
+    ];
+    assert!(rt; weighs(rt.alloc(), &line, &wanted));
+}

@@ -1,7 +1,7 @@
 // Both reducers, run. That each answers the definition's indexes is proved: these show that memory isn't always refused, that
 // areas and pushes are counted from below too, and that the two agree where positions stand twice and areas tie.
 use byte_ends::Memory;
-use effective_area::{HeapLinks, Reducer, Rescan};
+use effective_area::{HeapLinks, Reducer, Rescan, Steps};
 use geojson_types::Position;
 use std::alloc::Global;
 use std::test::Fail;
@@ -80,4 +80,34 @@ fn both_reducers_agree_at_each_threshold(rt: HostRuntime) -> Result<(), Fail> {
     );
     assert!(rt; heap.steps().areas >= 34 * 198);
     Ok(())
+}
+
+/// What a new reducer does where all 198 positions between the ends are taken out.
+fn steps_of_all(alloc: Global) -> Option<Steps> {
+    let line = crowded(alloc).ok()?;
+    if line.len() < 2 {
+        return None;
+    }
+    let mut heap = HeapLinks::new();
+    let kept = heap.kept(alloc, &line, 32).ok()?;
+    if kept.len() == 2 {
+        Some(heap.steps())
+    } else {
+        None
+    }
+}
+
+// An area for each at first, and from one to two for the neighbours of each that goes but the last.
+#[test]
+fn steps_are_linear(rt: HostRuntime) {
+    let areas = steps_of_all(rt.alloc()).map(|steps| steps.areas);
+    let pushes = steps_of_all(rt.alloc()).map(|steps| steps.pushes);
+    assert!(rt;
+        areas.is_some_and(|areas| areas >= 395 && areas <= 594),
+        "{areas:?}"
+    );
+    assert!(rt;
+        pushes.is_some_and(|pushes| pushes >= 197 && pushes <= 594),
+        "{pushes:?}"
+    );
 }

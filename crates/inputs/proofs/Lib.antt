@@ -1,2 +1,3 @@
 pub mod BytesDecided
+pub mod BytesReached
 pub mod Flushed

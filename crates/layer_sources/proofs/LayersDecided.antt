@@ -13,13 +13,9 @@ use Rattle.inputs.specs.declared.fault.BuildFault.{BuildFault}
 use Rattle.inputs.specs.declared.fault.BuildFault.TheVariants.{EmptyName, DuplicateName, Read, Json as Text, Geo, Write, Memory}
 use Rattle.inputs.specs.Texts.{max_input}
 use Rattle.inputs.proofs.BytesDecided.{plain_text, one_outcome, text_comes}
-use Rattle.layer_sources.specs.Outcomes.{LayerOutcome, Outcome, of_layer, of_text, LayerComesTo, with_layer, Continues, AllComeTo, ComesTo, plain_fault, IsOutsideRead, HaveBytes}
+use Rattle.layer_sources.specs.Outcomes.{Texts, LayerOutcome, Outcome, of_layer, of_text, LayerComesTo, with_layer, Continues, AllComeTo, ComesTo, plain_fault, plain_outcome, IsOutsideRead, HaveBytes, FirstHaveBytes}
 use Rattle.layer_sources.specs.Reading.{layer_depth, FailsToRead}
 use Rattle.layer_sources.specs.Sources.{Sources, Named, IsLayerRead, AllRead, FailsAt}
-
--- bytes under names
-abbrev pub Texts : Type 0
-Texts = List (List ℕ × List ℕ)
 
 -- ---- one layer
 
@@ -38,29 +34,25 @@ one_layer n exact b x y h k = one_outcome layer_depth (Read n read.TooLong) (of_
 
 -- ---- all layers
 
-abbrev pub plain : Outcome → Outcome
-plain (Ok r) = Ok r
-plain (Err e) = Err (plain_fault e)
-
-plain-with : (name : List ℕ) (l : List Featured × Counts) (o : Outcome) → plain (with_layer name l o) ≡ with_layer name l (plain o)
+plain-with : (name : List ℕ) (l : List Featured × Counts) (o : Outcome) → plain_outcome (with_layer name l o) ≡ with_layer name l (plain_outcome o)
 plain-with name l (Ok r) = refl
 plain-with name l (Err e) = refl
 
-continued : (name : List ℕ) (x y : LayerOutcome) (others : Outcome → Type 0) (o p : Outcome) → ((q r : Outcome) → others q → others r → plain q ≡ plain r) → plain_layer x ≡ plain_layer y
-    → Continues name x others o → Continues name y others p → plain o ≡ plain p
-continued name (Err e) (Err f) others o p once same h k = let g : plain_fault e ≡ plain_fault f = cc in ap plain h ∙ ap (λ z. Err z) g ∙ sym (ap plain k)
+continued : (name : List ℕ) (x y : LayerOutcome) (others : Outcome → Type 0) (o p : Outcome) → ((q r : Outcome) → others q → others r → plain_outcome q ≡ plain_outcome r) → plain_layer x ≡ plain_layer y
+    → Continues name x others o → Continues name y others p → plain_outcome o ≡ plain_outcome p
+continued name (Err e) (Err f) others o p once same h k = let g : plain_fault e ≡ plain_fault f = cc in ap plain_outcome h ∙ ap (λ z. Err z) g ∙ sym (ap plain_outcome k)
 continued name (Err e) (Ok l) others o p once same h k = absurd cc
 continued name (Ok l) (Err f) others o p once same h k = absurd cc
 continued name (Ok l) (Ok m) others o p once same h k =
     let g : l ≡ m = cc in
-    ap plain h.2 ∙ plain-with name l h.0 ∙ ap (λ z. with_layer name z (plain h.0)) g ∙ ap (with_layer name m) (once h.0 k.0 h.1 k.1) ∙ sym (plain-with name m k.0) ∙ sym (ap plain k.2)
+    ap plain_outcome h.2 ∙ plain-with name l h.0 ∙ ap (λ z. with_layer name z (plain_outcome h.0)) g ∙ ap (with_layer name m) (once h.0 k.0 h.1 k.1) ∙ sym (plain-with name m k.0) ∙ sym (ap plain_outcome k.2)
 
-all_once : (n : ℕ) (exact : Bool) (bs : Texts) (o p : Outcome) → AllComeTo n exact bs o → AllComeTo n exact bs p → plain o ≡ plain p
-all_once n exact [] o p h k = ap plain (h ∙ sym k)
+all_once : (n : ℕ) (exact : Bool) (bs : Texts) (o p : Outcome) → AllComeTo n exact bs o → AllComeTo n exact bs p → plain_outcome o ≡ plain_outcome p
+all_once n exact [] o p h k = ap plain_outcome (h ∙ sym k)
 all_once n exact (b ∷ bs) o p h k = continued b.0 h.0 k.0 (AllComeTo (suc n) exact bs) o p (all_once (suc n) exact bs) (one_layer n exact b.1 h.0 k.0 h.1 k.1) h.2 k.2
 
 -- what the layers come to in one way is what they come to in the other
-pub once : (exact : Bool) (bs : Texts) (r o : Outcome) → AllComeTo 0 exact bs r → ComesTo exact bs o → plain r ≡ plain o
+pub once : (exact : Bool) (bs : Texts) (r o : Outcome) → AllComeTo 0 exact bs r → ComesTo exact bs o → plain_outcome r ≡ plain_outcome o
 once exact bs r o all comes = all_once 0 exact bs r o all comes
 
 -- ---- what an answer says of the bytes
@@ -110,3 +102,43 @@ fails_come n exact (s ∷ ss) (t ∷ ts) (b ∷ bs) e (inr f) k = on (fails_come
     on : IsOutsideRead e ⊎ AllComeTo (suc n) exact bs (Err e) → IsOutsideRead e ⊎ AllComeTo n exact (b ∷ bs) (Err e)
     on (inl out) = inl out
     on (inr comes) = inr (Ok (f.0.1.features, f.1), layer_comes n exact s t b.1 f.0 f.1 k.1 f.2, (Err e, comes, refl))
+
+-- ---- what it says of the bytes of the first layers
+
+-- the first layers are taken, where all are
+pub first_comes : (n : ℕ) (exact : Bool) (olds news : Sources) (ls : Named) (cs : List Counts) (bs : Texts) → AllRead exact olds news ls cs → FirstHaveBytes olds bs
+    → (r : Named × List Counts) × AllComeTo n exact bs (Ok r)
+first_comes n exact [] [] [] [] [] h k = (([], []), refl)
+first_comes n exact (s ∷ ss) (t ∷ ts) (l ∷ ls) (c ∷ cs) [] h k = (([], []), refl)
+first_comes n exact (s ∷ ss) (t ∷ ts) (l ∷ ls) (c ∷ cs) (b ∷ bs) h k =
+    let rest = first_comes (suc n) exact ss ts ls cs bs h.1 k.2 in
+    (((b.0, l.1) ∷ rest.0.0, c ∷ rest.0.1), (Ok (l.1.features, c), layer_comes n exact s t b.1 l c k.1 h.0, (Ok rest.0, rest.1, refl)))
+first_comes n exact [] [] [] [] (b ∷ bs) h k = absurd k
+first_comes n exact [] [] [] (c ∷ cs) bs h k = absurd h
+first_comes n exact [] [] (l ∷ ls) cs bs h k = absurd h
+first_comes n exact [] (t ∷ ts) ls cs bs h k = absurd h
+first_comes n exact (s ∷ ss) [] ls cs bs h k = absurd h
+first_comes n exact (s ∷ ss) (t ∷ ts) [] cs bs h k = absurd h
+first_comes n exact (s ∷ ss) (t ∷ ts) (l ∷ ls) [] bs h k = absurd h
+
+-- they come to the fault, or they are taken, and the fault is behind them
+pub first_fails : (n : ℕ) (exact : Bool) (olds news : Sources) (bs : Texts) (e : BuildFault) → FailsAt exact n olds news e → FirstHaveBytes olds bs
+    → IsOutsideRead e ⊎ (AllComeTo n exact bs (Err e) ⊎ ((r : Named × List Counts) × AllComeTo n exact bs (Ok r)))
+first_fails n exact [] news bs e f k = absurd f
+first_fails n exact (s ∷ ss) [] bs e f k = absurd f
+first_fails n exact (s ∷ ss) (t ∷ ts) [] e f k = inr (inr (([], []), refl))
+first_fails n exact (s ∷ ss) (t ∷ ts) (b ∷ bs) e (inl f) k = on (fails_layer n exact s.1 t.1 b.1 e k.1 f.1)
+  where
+    on : IsOutsideRead e ⊎ LayerComesTo n exact b.1 (Err e) → IsOutsideRead e ⊎ (AllComeTo n exact (b ∷ bs) (Err e) ⊎ ((r : Named × List Counts) × AllComeTo n exact (b ∷ bs) (Ok r)))
+    on (inl out) = inl out
+    on (inr comes) = inr (inl (Err e, comes, refl))
+first_fails n exact (s ∷ ss) (t ∷ ts) (b ∷ bs) e (inr f) k = on (first_fails (suc n) exact ss ts bs e f.3 k.2)
+  where
+    here : LayerComesTo n exact b.1 (Ok (f.0.1.features, f.1))
+    here = layer_comes n exact s t b.1 f.0 f.1 k.1 f.2
+
+    on : IsOutsideRead e ⊎ (AllComeTo (suc n) exact bs (Err e) ⊎ ((r : Named × List Counts) × AllComeTo (suc n) exact bs (Ok r)))
+        → IsOutsideRead e ⊎ (AllComeTo n exact (b ∷ bs) (Err e) ⊎ ((r : Named × List Counts) × AllComeTo n exact (b ∷ bs) (Ok r)))
+    on (inl out) = inl out
+    on (inr (inl comes)) = inr (inl (Ok (f.0.1.features, f.1), here, (Err e, comes, refl)))
+    on (inr (inr rest)) = inr (inr (((b.0, f.0.1) ∷ rest.0.0, f.1 ∷ rest.0.1), (Ok (f.0.1.features, f.1), here, (Ok rest.0, rest.1, refl))))

@@ -1,3 +1,4 @@
 pub mod LayersDecided
+mod LayersReached
 pub mod NamesFound
 pub mod SourcesRead

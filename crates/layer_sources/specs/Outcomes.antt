@@ -33,6 +33,10 @@ LayerComesTo n exact bytes outcome = BytesComeTo layer_depth (Read n read.TooLon
 
 -- ---- all layers
 
+-- the bytes of layers under their names
+abbrev pub Texts : Type 0
+Texts = List (List ℕ × List ℕ)
+
 -- all layers with their counts, or the first fault
 abbrev pub Outcome : Type 0
 Outcome = Result (Named × List Counts) BuildFault
@@ -48,12 +52,12 @@ Continues name (Err e) others outcome = outcome ≡ Err e
 Continues name (Ok l) others outcome = (rest : Outcome) × others rest × (outcome ≡ with_layer name l rest)
 
 -- the bytes under these names come to this, where the first layer has this number
-abbrev pub AllComeTo : ℕ → Bool → List (List ℕ × List ℕ) → Outcome → Type 0
+abbrev pub AllComeTo : ℕ → Bool → Texts → Outcome → Type 0
 AllComeTo n exact [] outcome = outcome ≡ Ok ([], [])
 AllComeTo n exact (b ∷ bs) outcome = (first : LayerOutcome) × LayerComesTo n exact b.1 first × Continues b.0 first (AllComeTo (suc n) exact bs) outcome
 
 -- the bytes under these names come to this
-abbrev pub ComesTo : Bool → List (List ℕ × List ℕ) → Outcome → Type 0
+abbrev pub ComesTo : Bool → Texts → Outcome → Type 0
 ComesTo exact bs outcome = AllComeTo 0 exact bs outcome
 
 -- ---- faults
@@ -68,6 +72,11 @@ plain_fault (Geo i fault) = Geo i fault
 plain_fault (Write sent) = Write sent
 plain_fault Memory = Memory
 
+-- the outcome with such a fault
+abbrev pub plain_outcome : Outcome → Outcome
+plain_outcome (Ok r) = Ok r
+plain_outcome (Err e) = Err (plain_fault e)
+
 -- memory was refused, or a source failed
 abbrev pub IsOutsideRead : BuildFault → Type 0
 IsOutsideRead (Read i read.Read) = Unit {0}
@@ -77,7 +86,20 @@ IsOutsideRead e = ⊥
 -- ---- sources
 
 -- the sources have these names, and these bytes left
-abbrev pub HaveBytes : Sources → List (List ℕ × List ℕ) → Type 0
+abbrev pub HaveBytes : Sources → Texts → Type 0
 HaveBytes [] [] = Unit {0}
 HaveBytes (s ∷ ss) (b ∷ bs) = (b.0 ≡ s.0) × (s.1.left ≡ Some b.1) × HaveBytes ss bs
 HaveBytes ss bs = ⊥
+
+-- the first sources have these names, and these bytes left
+abbrev pub FirstHaveBytes : Sources → Texts → Type 0
+FirstHaveBytes [] [] = Unit {0}
+FirstHaveBytes [] (b ∷ bs) = ⊥
+FirstHaveBytes (s ∷ ss) [] = Unit {0}
+FirstHaveBytes (s ∷ ss) (b ∷ bs) = (b.0 ≡ s.0) × (s.1.left ≡ Some b.1) × FirstHaveBytes ss bs
+
+-- All sources have these bytes left. Where these come to a fault, it is enough that the first sources have them: nothing need be known
+-- of those behind the one with the fault.
+abbrev pub HaveBytesFor : Outcome → Sources → Texts → Type 0
+HaveBytesFor (Ok r) ss bs = HaveBytes ss bs
+HaveBytesFor (Err e) ss bs = FirstHaveBytes ss bs

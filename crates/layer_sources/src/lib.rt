@@ -3,8 +3,10 @@
 //! `check_names` and then `read_layers`, whose contracts are `specs/Names.antt` and `specs/Sources.antt`.
 #![tactic(auto)]
 
+mod laws;
 mod names;
 mod reading;
 
+pub use laws::{layers_have_one_outcome, read_layers_are_the_outcome};
 pub use names::check_names;
 pub use reading::read_layers;

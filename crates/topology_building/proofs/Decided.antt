@@ -6,9 +6,9 @@ use Rattle.geojson_types.specs.declared.counts.Counts.{Counts}
 use Rattle.inputs.specs.declared.fault.BuildFault.{BuildFault}
 use Rattle.inputs.specs.declared.fault.BuildFault.TheVariants.{EmptyName, DuplicateName, Read, Json as Text, Geo, Write, Memory}
 use Rattle.reports.specs.declared.report.Report.{Report}
-use Rattle.layer_sources.specs.Outcomes.{Outcome, AllComeTo, ComesTo, IsOutsideRead, HaveBytes}
-use Rattle.layer_sources.specs.Sources.{Sources, Named, FailsAt}
-use Rattle.layer_sources.proofs.LayersDecided.{Texts, plain, once, read_comes, fails_come}
+use Rattle.layer_sources.specs.Outcomes.{Texts, Outcome, AllComeTo, ComesTo, plain_outcome, IsOutsideRead, HaveBytes, FirstHaveBytes, HaveBytesFor}
+use Rattle.layer_sources.specs.Sources.{Sources, Named, AllRead, FailsAt}
+use Rattle.layer_sources.proofs.LayersDecided.{once, read_comes, fails_come, first_comes, first_fails}
 use Rattle.topology_building.specs.Building.{report_of, IsBuilt, IsLateFault}
 use Rattle.topology_building.specs.declared.options.Options.{Options}
 use Rattle.topology_building.specs.Outcomes.{IsOutside, Follows}
@@ -28,19 +28,19 @@ is_outside (Text i r) h = absurd h
 is_outside (Geo i r) h = absurd h
 is_outside (Write sent) h = tt
 
-follows_fault : (o : Options) (outcome : Outcome) (e : BuildFault) → plain (Err e) ≡ plain outcome → Follows o outcome (Err e)
+follows_fault : (o : Options) (outcome : Outcome) (e : BuildFault) → plain_outcome (Err e) ≡ plain_outcome outcome → Follows o outcome (Err e)
 follows_fault o (Ok r) e h = absurd cc
 follows_fault o (Err f) e h = inl cc
 
-follows_built : (o : Options) (outcome : Outcome) (ls : Named) (cs : List Counts) (report : Report) → plain (Ok (ls, cs)) ≡ plain outcome → report ≡ report_of o ls cs → Follows o outcome (Ok report)
+follows_built : (o : Options) (outcome : Outcome) (ls : Named) (cs : List Counts) (report : Report) → plain_outcome (Ok (ls, cs)) ≡ plain_outcome outcome → report ≡ report_of o ls cs → Follows o outcome (Ok report)
 follows_built o (Ok r) ls cs report h told = let e : (ls, cs) ≡ r = cc in told ∙ ap (λ (z : Named × List Counts). report_of o z.0 z.1) e
 follows_built o (Err f) ls cs report h told = absurd cc
 
-follows_cut : (o : Options) (outcome : Outcome) (ls : Named) (cs : List Counts) (sent : ℕ) → plain (Ok (ls, cs)) ≡ plain outcome → Follows o outcome (Err (Write sent))
+follows_cut : (o : Options) (outcome : Outcome) (ls : Named) (cs : List Counts) (sent : ℕ) → plain_outcome (Ok (ls, cs)) ≡ plain_outcome outcome → Follows o outcome (Err (Write sent))
 follows_cut o (Ok r) ls cs sent h = tt
 follows_cut o (Err f) ls cs sent h = absurd cc
 
-module _ (o : Options) (olds news : Sources) (sink_old sink_new : Drained) (bs : Texts) (have : HaveBytes olds bs) (outcome : Outcome) (comes : ComesTo o.exact bs outcome) where
+module _ (o : Options) (olds news : Sources) (sink_old sink_new : Drained) (bs : Texts) (outcome : Outcome) (comes : ComesTo o.exact bs outcome) (have : HaveBytes olds bs) where
   built_follows : (report : Report) → IsBuilt o olds news sink_old sink_new report → Follows o outcome (Ok report)
   built_follows report is =
       let all = read_comes 0 o.exact olds news is.layers is.counts bs is.builds.read have in
@@ -53,7 +53,7 @@ module _ (o : Options) (olds news : Sources) (sink_old sink_new : Drained) (bs :
       on (inl out) = follows_outside o outcome e out (is_outside e out)
       on (inr all) = follows_fault o outcome e (once o.exact bs (Err e) outcome all comes)
 
-  pub late_follows : (e : BuildFault) → IsLateFault o olds news sink_old sink_new e → Follows o outcome (Err e)
+  late_follows : (e : BuildFault) → IsLateFault o olds news sink_old sink_new e → Follows o outcome (Err e)
   late_follows (Write sent) is =
       let all = read_comes 0 o.exact olds news is.layers is.counts bs is.builds.read have in
       follows_cut o outcome is.layers is.counts sent (once o.exact bs (Ok (is.layers, is.counts)) outcome all comes)
@@ -64,6 +64,41 @@ module _ (o : Options) (olds news : Sources) (sink_old sink_new : Drained) (bs :
   late_follows (EmptyName i) is = failed (EmptyName i) is.1
   late_follows (DuplicateName i) is = failed (DuplicateName i) is.1
 
-  pub decides : (r : Result Report BuildFault) → IfOk r (λ report. IsBuilt o olds news sink_old sink_new report) → IfErr r (λ e. IsLateFault o olds news sink_old sink_new e) → Follows o outcome r
-  decides (Ok report) is late = built_follows report is
-  decides (Err e) is late = late_follows e late
+  all_decide : (r : Result Report BuildFault) → IfOk r (λ report. IsBuilt o olds news sink_old sink_new report) → IfErr r (λ e. IsLateFault o olds news sink_old sink_new e) → Follows o outcome r
+  all_decide (Ok report) is late = built_follows report is
+  all_decide (Err e) is late = late_follows e late
+
+-- ---- the first sources come to a fault
+
+not_taken : (o : Options) (bs : Texts) (f : BuildFault) (r : Named × List Counts) → AllComeTo 0 o.exact bs (Ok r) → ComesTo o.exact bs (Err f) → ⊥
+not_taken o bs f r all comes = let e = once o.exact bs (Ok r) (Err f) all comes in absurd cc
+
+module _ (o : Options) (olds news : Sources) (sink_old sink_new : Drained) (bs : Texts) (f : BuildFault) (comes : ComesTo o.exact bs (Err f)) (have : FirstHaveBytes olds bs) where
+  not_built : (ls : Named) (cs : List Counts) → AllRead o.exact olds news ls cs → ⊥
+  not_built ls cs all = let r = first_comes 0 o.exact olds news ls cs bs all have in not_taken o bs f r.0 r.1 comes
+
+  first_failed : (e : BuildFault) → FailsAt o.exact 0 olds news e → Follows o (Err f) (Err e)
+  first_failed e fails = on (first_fails 0 o.exact olds news bs e fails have)
+    where
+      on : IsOutsideRead e ⊎ (AllComeTo 0 o.exact bs (Err e) ⊎ ((r : Named × List Counts) × AllComeTo 0 o.exact bs (Ok r))) → Follows o (Err f) (Err e)
+      on (inl out) = inr out
+      on (inr (inl all)) = follows_fault o (Err f) e (once o.exact bs (Err e) (Err f) all comes)
+      on (inr (inr r)) = absurd (not_taken o bs f r.0 r.1 comes)
+
+  first_follows : (e : BuildFault) → IsLateFault o olds news sink_old sink_new e → Follows o (Err f) (Err e)
+  first_follows (Write sent) is = absurd (not_built is.layers is.counts is.builds.read)
+  first_follows Memory is = inr tt
+  first_follows (Read i r) is = first_failed (Read i r) is.1
+  first_follows (Text i r) is = first_failed (Text i r) is.1
+  first_follows (Geo i r) is = first_failed (Geo i r) is.1
+  first_follows (EmptyName i) is = first_failed (EmptyName i) is.1
+  first_follows (DuplicateName i) is = first_failed (DuplicateName i) is.1
+
+  first_decide : (r : Result Report BuildFault) → IfOk r (λ report. IsBuilt o olds news sink_old sink_new report) → IfErr r (λ e. IsLateFault o olds news sink_old sink_new e) → Follows o (Err f) r
+  first_decide (Ok report) is late = absurd (not_built is.layers is.counts is.builds.read)
+  first_decide (Err e) is late = first_follows e late
+
+pub decides : (o : Options) (olds news : Sources) (sink_old sink_new : Drained) (bs : Texts) (outcome : Outcome) → HaveBytesFor outcome olds bs → ComesTo o.exact bs outcome
+    → (r : Result Report BuildFault) → IfOk r (λ report. IsBuilt o olds news sink_old sink_new report) → IfErr r (λ e. IsLateFault o olds news sink_old sink_new e) → Follows o outcome r
+decides o olds news sink_old sink_new bs (Ok made) have comes r is late = all_decide o olds news sink_old sink_new bs (Ok made) comes have r is late
+decides o olds news sink_old sink_new bs (Err f) have comes r is late = first_decide o olds news sink_old sink_new bs f comes have r is late

@@ -1,11 +1,11 @@
 // Building a topology.
-ghost use Rattle.std.specs.Prelude.{◌≡◌, ◌⊎◌, ℕ, List, None, Some, IfOk, IfErr, map};
+ghost use Rattle.std.specs.Prelude.{◌≡◌, ◌⊎◌, None, Some, IfOk, IfErr, map};
 ghost use Rattle.json_value.specs.Text.{json_text};
 ghost use Rattle.topojson_types.specs.Values.{topology_value};
 ghost use Rattle.topology_building.specs.Building as spec;
 ghost use Rattle.topology_building.specs.Building.{BuildingLaws, IsBuilt, IsLateFault, Sends};
 ghost use Rattle.layer_sources.specs.Names.{name_fault};
-ghost use Rattle.layer_sources.specs.Outcomes.{ComesTo, HaveBytes, Outcome};
+ghost use Rattle.layer_sources.specs.Outcomes.{ComesTo, HaveBytesFor, Outcome, Texts};
 ghost use Rattle.topology_building.specs.Outcomes.{Follows};
 
 use crate::options::Options;
@@ -91,9 +91,10 @@ pub fn build<Q: Reducer, R: Feed, W: Drain>(
     ensures refused { IfErr result (λ e. (name_fault (map (λ s. s.0) sources.old) ≡ Some e)
         ⊎ IsLateFault options.now sources.old sources.new sink.old sink.new e) }
 
-    // And the other way round: what the bytes of the sources come to is answered, unless memory, a source or the sink failed.
-    ensures decided { (bytes : List (List ℕ × List ℕ)) (outcome : Outcome) → name_fault (map (λ s. s.0) sources.old) ≡ None
-        → HaveBytes sources.old bytes → ComesTo options.now.exact bytes outcome → Follows options.now outcome result }
+    // And the other way round: what the bytes of the sources come to is answered, unless memory, a source or the sink failed. Where
+    // the first sources come to a fault, nothing need be known of those behind them.
+    ensures decided { (bytes : Texts) (outcome : Outcome) → name_fault (map (λ s. s.0) sources.old) ≡ None
+        → HaveBytesFor outcome sources.old bytes → ComesTo options.now.exact bytes outcome → Follows options.now outcome result }
 {
     check_names(sources)?;
     build_layers(alloc, reducer, sources, options, sink)

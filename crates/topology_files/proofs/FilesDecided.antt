@@ -13,7 +13,7 @@ use Rattle.topojson_types.specs.Topologies.{Contents}
 use Rattle.inputs.specs.declared.file_fault.FileFault.{FileFault}
 use Rattle.inputs.specs.declared.file_fault.FileFault.TheVariants.{Read, Json, Topo, NoObject, Write, Memory}
 use Rattle.reports.specs.declared.summary.Summary.{Summary}
-use Rattle.topology_files.specs.FileOutcomes.{summarised, text_if_any, object_text, of_topology, of_file, FileComesTo, plain_file_fault, IsOutsideGiven, IsOutsideFile, FollowsSummary, FollowsText}
+use Rattle.topology_files.specs.FileOutcomes.{summarised, text_if_any, object_text, of_topology, of_file, FileComesTo, plain_file_outcome, IsOutsideGiven, IsOutsideFile, FollowsSummary, FollowsText}
 use Rattle.topology_files.specs.Files.{topology_depth, IsTopologyRead, FailsToGive}
 use Rattle.topology_files.specs.Geo.{features_text, FailsToDecode, GivesFeatures, SendsText}
 use Rattle.inputs.specs.Texts.{max_input}
@@ -22,18 +22,14 @@ use Rattle.inputs.proofs.BytesDecided.{plain_text, one_outcome, text_comes}
 
 -- ---- one outcome
 
-abbrev pub plain : {A : Type 0} → Result A FileFault → Result A FileFault
-plain (Ok a) = Ok a
-plain (Err e) = Err (plain_file_fault e)
-
-plain-of_file : {A : Type 0} (asked : Contents → Counts → Result A FileFault) (t : Result Value JsonFault) → plain (of_file asked t) ≡ plain (of_file asked (plain_text t))
+plain-of_file : {A : Type 0} (asked : Contents → Counts → Result A FileFault) (t : Result Value JsonFault) → plain_file_outcome (of_file asked t) ≡ plain_file_outcome (of_file asked (plain_text t))
 plain-of_file asked (Ok v) = refl
 plain-of_file asked (Err (text.NotUtf8 at)) = refl
 plain-of_file asked (Err (text.Malformed at why)) = refl
 plain-of_file asked (Err text.Memory) = refl
 
-pub one_file : {A : Type 0} (asked : Contents → Counts → Result A FileFault) (b : List ℕ) (x y : Result A FileFault) → FileComesTo asked b x → FileComesTo asked b y → plain x ≡ plain y
-one_file asked b x y h k = one_outcome topology_depth (Read read.TooLong) (of_file asked) plain (plain-of_file asked) b x y h k
+pub one_file : {A : Type 0} (asked : Contents → Counts → Result A FileFault) (b : List ℕ) (x y : Result A FileFault) → FileComesTo asked b x → FileComesTo asked b y → plain_file_outcome x ≡ plain_file_outcome y
+one_file asked b x y h k = one_outcome topology_depth (Read read.TooLong) (of_file asked) plain_file_outcome (plain-of_file asked) b x y h k
 
 -- ---- what an answer says of the bytes
 
@@ -56,7 +52,7 @@ fails_come asked old new b (Write sent) e f = absurd f.2
 
 -- ---- the summary follows
 
-summary_fault : (outcome : Result Summary FileFault) (e : FileFault) → plain (Err e) ≡ plain outcome → FollowsSummary outcome (Err e)
+summary_fault : (outcome : Result Summary FileFault) (e : FileFault) → plain_file_outcome (Err e) ≡ plain_file_outcome outcome → FollowsSummary outcome (Err e)
 summary_fault (Ok s) e h = absurd cc
 summary_fault (Err f) e h = inl cc
 
@@ -64,7 +60,7 @@ pub summary_outside : (outcome : Result Summary FileFault) (e : FileFault) → I
 summary_outside (Ok s) e h = h
 summary_outside (Err f) e h = inr h
 
-summary_told : (outcome : Result Summary FileFault) (s summary : Summary) → plain (Ok s) ≡ plain outcome → summary ≡ s → FollowsSummary outcome (Ok summary)
+summary_told : (outcome : Result Summary FileFault) (s summary : Summary) → plain_file_outcome (Ok s) ≡ plain_file_outcome outcome → summary ≡ s → FollowsSummary outcome (Ok summary)
 summary_told (Ok r) s summary h told = let e : s ≡ r = cc in told ∙ e
 summary_told (Err f) s summary h told = absurd cc
 
@@ -92,7 +88,7 @@ is_outside NoObject h = absurd h
 is_outside (Write sent) h = tt
 
 module _ (sink_old sink_new : Drained) where
-  text_fault : (outcome : Result (List ℕ) FileFault) (e : FileFault) → plain (Err e) ≡ plain outcome → FollowsText sink_old sink_new outcome (Err e)
+  text_fault : (outcome : Result (List ℕ) FileFault) (e : FileFault) → plain_file_outcome (Err e) ≡ plain_file_outcome outcome → FollowsText sink_old sink_new outcome (Err e)
   text_fault (Ok s) e h = absurd cc
   text_fault (Err f) e h = inl cc
 
@@ -100,11 +96,11 @@ module _ (sink_old sink_new : Drained) where
   text_outside (Ok s) e h = is_outside e h
   text_outside (Err f) e h = inr h
 
-  text_written : (outcome : Result (List ℕ) FileFault) (t : List ℕ) (sent : ℕ) → plain (Ok t) ≡ plain outcome → WritesAll sink_old sink_new 0 t sent → FollowsText sink_old sink_new outcome (Ok sent)
+  text_written : (outcome : Result (List ℕ) FileFault) (t : List ℕ) (sent : ℕ) → plain_file_outcome (Ok t) ≡ plain_file_outcome outcome → WritesAll sink_old sink_new 0 t sent → FollowsText sink_old sink_new outcome (Ok sent)
   text_written (Ok r) t sent h w = let e : t ≡ r = cc in subst (λ z. WritesAll sink_old sink_new 0 z sent) e w
   text_written (Err f) t sent h w = absurd cc
 
-  text_cut : (outcome : Result (List ℕ) FileFault) (t : List ℕ) (sent : ℕ) → plain (Ok t) ≡ plain outcome → FollowsText sink_old sink_new outcome (Err (Write sent))
+  text_cut : (outcome : Result (List ℕ) FileFault) (t : List ℕ) (sent : ℕ) → plain_file_outcome (Ok t) ≡ plain_file_outcome outcome → FollowsText sink_old sink_new outcome (Err (Write sent))
   text_cut (Ok r) t sent h = tt
   text_cut (Err f) t sent h = absurd cc
 
@@ -117,7 +113,7 @@ module _ (sink_old sink_new : Drained) where
         on (inr all) = text_fault outcome e (one_file (object_text name) b (Err e) outcome all comes)
 
     -- the topology that was read decides
-    read_decides : (t : Contents) (counts : Counts) (r : Result (List ℕ) FileFault) → IsTopologyRead old new t counts → object_text name t counts ≡ r → plain r ≡ plain outcome
+    read_decides : (t : Contents) (counts : Counts) (r : Result (List ℕ) FileFault) → IsTopologyRead old new t counts → object_text name t counts ≡ r → plain_file_outcome r ≡ plain_file_outcome outcome
     read_decides t counts r is e =
         one_file (object_text name) b r outcome (subst (FileComesTo (object_text name) b) e (topology_comes (object_text name) old new b t counts left is)) comes
 

@@ -1,2 +1,3 @@
 pub mod FilesDecided
+pub mod FilesReached
 pub mod Sent

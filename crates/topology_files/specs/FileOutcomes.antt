@@ -58,6 +58,11 @@ plain_file_fault NoObject = NoObject
 plain_file_fault (Write sent) = Write sent
 plain_file_fault Memory = Memory
 
+-- the outcome with such a fault
+abbrev pub plain_file_outcome : {A : Type 0} → Result A FileFault → Result A FileFault
+plain_file_outcome (Ok a) = Ok a
+plain_file_outcome (Err e) = Err (plain_file_fault e)
+
 -- memory was refused, or the source failed
 abbrev pub IsOutsideGiven : FileFault → Type 0
 IsOutsideGiven (Read read.Read) = Unit {0}

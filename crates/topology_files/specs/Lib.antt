@@ -1,3 +1,4 @@
 pub mod FileOutcomes
 pub mod Files
 pub mod Geo
+pub mod Laws

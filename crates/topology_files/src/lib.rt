@@ -7,8 +7,10 @@
 
 mod decoding;
 mod file_reading;
+mod laws;
 mod summarising;
 
 pub use decoding::to_geo;
 pub use file_reading::read_file;
+pub use laws::{features_are_one_outcome, summary_is_one_outcome};
 pub use summarising::stat;

@@ -4,9 +4,9 @@ use Rattle.byte_ends.specs.Ends.{Fed, Drained, Takes}
 use Rattle.inputs.specs.declared.file_fault.FileFault.{FileFault}
 use Rattle.inputs.specs.declared.file_fault.FileFault.TheVariants.{Read, Json, Topo, NoObject, Write, Memory}
 use Rattle.reports.specs.declared.report.Report.{Report}
-use Rattle.topology_files.specs.FileOutcomes.{FileComesTo, IsOutsideGiven}
+use Rattle.topology_files.specs.FileOutcomes.{FileComesTo, plain_file_outcome, IsOutsideGiven}
 use Rattle.topology_files.specs.Files.{FailsToGive}
-use Rattle.topology_files.proofs.FilesDecided.{plain, one_file, topology_comes, fails_come, is_outside}
+use Rattle.topology_files.proofs.FilesDecided.{one_file, topology_comes, fails_come, is_outside}
 use Rattle.topology_simplifying.specs.Outcomes.{FollowsSimplified, simplified}
 use Rattle.topology_simplifying.specs.Simplified.{lessened_text, report_of, IsSimplified, IsSimplifyFault}
 
@@ -15,7 +15,7 @@ abbrev Made : Type 0
 Made = List ℕ × Report
 
 module _ (sink_old sink_new : Drained) where
-  follows_fault : (outcome : Result Made FileFault) (e : FileFault) → plain (Err e) ≡ plain outcome → FollowsSimplified sink_old sink_new outcome (Err e)
+  follows_fault : (outcome : Result Made FileFault) (e : FileFault) → plain_file_outcome (Err e) ≡ plain_file_outcome outcome → FollowsSimplified sink_old sink_new outcome (Err e)
   follows_fault (Ok r) e h = absurd cc
   follows_fault (Err f) e h = inl cc
 
@@ -23,14 +23,14 @@ module _ (sink_old sink_new : Drained) where
   follows_outside (Ok r) e h = is_outside e h
   follows_outside (Err f) e h = inr h
 
-  follows_written : (outcome : Result Made FileFault) (r : Made) (report : Report) → plain (Ok r) ≡ plain outcome → Takes sink_old sink_new r.0 (length r.0) → sink_new.failures ≡ 0
+  follows_written : (outcome : Result Made FileFault) (r : Made) (report : Report) → plain_file_outcome (Ok r) ≡ plain_file_outcome outcome → Takes sink_old sink_new r.0 (length r.0) → sink_new.failures ≡ 0
       → report ≡ r.1 → FollowsSimplified sink_old sink_new outcome (Ok report)
   follows_written (Ok s) r report h took sound told =
       let e : r ≡ s = cc in
       (subst (λ (z : Made). Takes sink_old sink_new z.0 (length z.0)) e took, sound, told ∙ ap (λ (z : Made). z.1) e)
   follows_written (Err f) r report h took sound told = absurd cc
 
-  follows_cut : (outcome : Result Made FileFault) (r : Made) (sent : ℕ) → plain (Ok r) ≡ plain outcome → FollowsSimplified sink_old sink_new outcome (Err (Write sent))
+  follows_cut : (outcome : Result Made FileFault) (r : Made) (sent : ℕ) → plain_file_outcome (Ok r) ≡ plain_file_outcome outcome → FollowsSimplified sink_old sink_new outcome (Err (Write sent))
   follows_cut (Ok s) r sent h = tt
   follows_cut (Err f) r sent h = absurd cc
 

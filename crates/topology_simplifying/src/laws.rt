@@ -1,7 +1,17 @@
-// A law of the definitions. A function here does nothing: its contract is the law.
+// Laws of the definitions. A function here does nothing: its contract is the law.
+ghost use Rattle.std.specs.Prelude.{ℕ};
+ghost use Rattle.topology_files.specs.Laws.{HaveFileOutcome, HaveOneFileOutcome};
 ghost use Rattle.topology_simplifying.specs.Laws.{SimplifiesToLessened};
+ghost use Rattle.topology_simplifying.specs.Outcomes.{simplified};
 
 /// Where a source has left the bytes of a topology, simplifying writes the text of what is left of that topology at the threshold.
 pub fn simplified_text_is_lessened()
     ensures { SimplifiesToLessened }
+{}
+
+/// The bytes of a file come to exactly one outcome where `simplify` is asked at a threshold: either the text of what is left of the
+/// topology and the report, or the fault, but for where and why a malformed text is malformed.
+pub fn simplified_is_one_outcome()
+    ensures there { (t : ℕ) → HaveFileOutcome (simplified t) }
+    ensures one { (t : ℕ) → HaveOneFileOutcome (simplified t) }
 {}

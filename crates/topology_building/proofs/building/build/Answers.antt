@@ -12,4 +12,4 @@ returns-in_err-check_names-clause-early g c e early =
 
 pub returns-clause-decided : goal.returns-clause-decided
 returns-clause-decided g c bytes outcome early have comes =
-    decided.decides c.args.options.now c.args.sources.now c.build_layers.new.sources c.args.sink.now c.build_layers.new.sink bytes have outcome comes c.build_layers.result c.build_layers.ensures.built c.build_layers.ensures.refused
+    decided.decides c.args.options.now c.args.sources.now c.build_layers.new.sources c.args.sink.now c.build_layers.new.sink bytes outcome have comes c.build_layers.result c.build_layers.ensures.built c.build_layers.ensures.refused

@@ -1,0 +1,15 @@
+-- What is true of the outcomes of the bytes of a file.
+use Rattle.std.specs.Prelude.{◌≡◌, List, ℕ, Result}
+use Rattle.geojson_types.specs.declared.counts.Counts.{Counts}
+use Rattle.inputs.specs.declared.file_fault.FileFault.{FileFault}
+use Rattle.topojson_types.specs.Topologies.{Contents}
+use Rattle.topology_files.specs.FileOutcomes.{FileComesTo, plain_file_outcome}
+
+-- any bytes come to an outcome, where this is asked of a topology
+abbrev pub HaveFileOutcome : {A : Type 0} → (Contents → Counts → Result A FileFault) → Type 0
+HaveFileOutcome {A} asked = (bytes : List ℕ) → (outcome : Result A FileFault) × FileComesTo asked bytes outcome
+
+-- and to one alone, but for the place and the reason in a malformed text
+abbrev pub HaveOneFileOutcome : {A : Type 0} → (Contents → Counts → Result A FileFault) → Type 0
+HaveOneFileOutcome {A} asked = (bytes : List ℕ) (one other : Result A FileFault) → FileComesTo asked bytes one → FileComesTo asked bytes other
+    → plain_file_outcome one ≡ plain_file_outcome other

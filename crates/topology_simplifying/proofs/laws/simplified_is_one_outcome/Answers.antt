@@ -1,0 +1,10 @@
+use Rattle.topology_files.proofs.FilesDecided.{one_file}
+use Rattle.topology_files.proofs.FilesReached.{file_there}
+use Rattle.topology_simplifying.specs.Outcomes.{simplified}
+use Rattle.topology_simplifying.proofs.laws.simplified_is_one_outcome.Goals as goal
+
+pub returns-clause-there : goal.returns-clause-there
+returns-clause-there c = λ t. file_there (simplified t)
+
+pub returns-clause-one : goal.returns-clause-one
+returns-clause-one c = λ t. one_file (simplified t)

@@ -3,10 +3,10 @@ use Rattle.std.proofs.Common.{◌≡◌, ℕ, List, [], ◌∷◌, ◌++◌, ◌
 use Rattle.std.proofs.Math.Seq.{take-length}
 use Rattle.std.proofs.lemmas.List.{append_cancel_left}
 use Rattle.std.specs.Io.KnownBytes.{Appends}
+use Rattle.std.specs.Prelude.{IfSome}
 use Rattle.std.specs.List.{AllByRecursion}
 use Rattle.byte_ends.specs.Ends.{Fed, Drained, Takes}
 use Rattle.byte_ends.specs.Writes.{WritesAll}
-use Rattle.decimal_json.proofs.TextsFound.{one_value}
 use Rattle.geojson_types.specs.declared.counts.Counts.{Counts}
 use Rattle.geojson_types.specs.declared.layer.FeatureSet.{FeatureSet}
 use Rattle.geojson_types.specs.declared.layer.FeatureSet.TheVariants.{Many}
@@ -18,14 +18,16 @@ use Rattle.topojson_meaning.specs.Topologies.{topology}
 use Rattle.reports.specs.declared.report.Report.{Report}
 use Rattle.reports.specs.declared.summary.Summary.{Summary}
 use Rattle.topology_building.specs.Building.{expected_for, written_for, IsBuilt}
+use Rattle.topology_building.specs.Laws.{ReadAreTaken}
 use Rattle.topology_building.specs.declared.options.Options.{Options}
 use Rattle.topology_files.specs.Files.{topology_depth, IsTopologyRead, IsSummarised}
 use Rattle.topology_simplifying.specs.Simplified.{lessened_text, IsSimplified}
-use Rattle.topology_building.proofs.SoundLayers.{all_taken, are_taken}
 use Rattle.layer_topology.specs.Laws.{LessensToWritten}
-use Rattle.layer_topology.specs.Written.{written as written_on}
+use Rattle.layer_topology.specs.Written.{written as written_on, AreTaken}
 use Rattle.lessened_topology.specs.Thresholds.{lessened}
 use Rattle.build_meaning.specs.Layers.{names_of}
+use Rattle.json_value.specs.declared.json.Json.{Json}
+use Rattle.json_value.specs.Grammar.{Reads}
 use Rattle.json_value.specs.Text.{json_text}
 use Rattle.topojson_types.specs.Validity.{AreDistinct}
 use Rattle.topojson_types.specs.Values.{topology_value}
@@ -34,7 +36,6 @@ use Rattle.topology_files.specs.Geo.{features_text, IsDecoded}
 use Rattle.mapchain_engine.specs.Laws.{IsWrittenTo, WritesEach, DecodesBack, SimplifiesToBuilt, SummarisesBack}
 use Rattle.layer_sources.specs.Sources.{Sources, Named}
 use Rattle.reports.specs.Summaries.{summary_of}
-use Rattle.inputs.proofs.BytesDecided.{same_bytes}
 
 -- what a sink took behind what it had
 took_behind : (old new : Option (List ℕ)) (before bytes text : List ℕ) → old ≡ Some before → new ≡ Some (before ++ bytes) → Appends old new text → bytes ≡ text
@@ -49,20 +50,34 @@ same_topology r s t c d h k =
     let e : x ≡ y = cc in
     ap (λ (z : Contents × Counts). z.0) e
 
+-- bytes spell one value at most
+abbrev pub OneValue : Type 0
+OneValue = (d e : ℕ) (b : List ℕ) (v w : Json) → Reads d b v → Reads e b w → v ≡ w
+
 some_same : (x y : FeatureSet) (o : Option FeatureSet) → o ≡ Some x → o ≡ Some y → x ≡ y
 some_same x y o h k = cc
+
+-- a topology can be made of the layers that were built
+pub taken : ReadsValid → ReadAreTaken → (o : Options) (olds news : Sources) (sink_old sink_new : Drained) (report : Report) (is : IsBuilt o olds news sink_old sink_new report) → AreTaken o.grid is.layers
+taken valid may o olds news sink_old sink_new report is =
+    let says = is.builds.topology in
+    let names : AreDistinct (names_of is.layers) = subst AreDistinct says.names (valid says.value says.contents no_counts says.stands).names in
+    may o olds news is.layers is.counts is.builds.read names
 
 module _ (o : Options) (olds news : Sources) (sink_old sink_new : Drained) (report : Report) (is : IsBuilt o olds news sink_old sink_new report)
     (source : Fed) (from : IsWrittenTo sink_old sink_new source) where
   -- the bytes that the source has left are the text that was built
-  same_text : from.bytes ≡ is.text
+  pub same_text : from.bytes ≡ is.text
   same_text = took_behind sink_old.taken sink_new.taken from.before from.bytes is.text from.had from.took (rw take-length at is.written.taken)
 
+module _ (one_value : OneValue) (o : Options) (olds news : Sources) (sink_old sink_new : Drained) (report : Report) (is : IsBuilt o olds news sink_old sink_new report)
+    (source : Fed) (from : IsWrittenTo sink_old sink_new source) where
   -- the topology that they spell is the one that was built
   same_contents : (after : Fed) (contents : Contents) (counts : Counts) → IsTopologyRead source after contents counts → contents ≡ is.builds.topology.contents
   same_contents after contents counts read =
       let says = is.builds.topology in
-      let bytes = same_bytes source.left from.bytes read.bytes from.left read.read.all ∙ same_text in
+      let left : read.bytes ≡ from.bytes = subst (λ z. IfSome z (λ l. read.bytes ≡ l)) from.left read.read.all in
+      let bytes = left ∙ same_text o olds news sink_old sink_new report is source from in
       let value = one_value topology_depth topology_depth read.bytes read.spells.value says.value read.spells.spelled (rw bytes says.spelled) in
       same_topology (topology read.spells.value) contents says.contents counts no_counts read.spells.stands (rw value says.stands)
 
@@ -83,34 +98,31 @@ module _ (o : Options) (olds news : Sources) (sink_old sink_new : Drained) (repo
   summary_same after summary s = s.told ∙ ap summary_of (same_contents after s.contents s.counts s.read ∙ is.builds.topology.shared)
 
   -- what is left of it at a threshold, where it was built at zero, is what is written of the layers at that threshold
-  lessened_is : LessensToWritten → ReadsValid → (t : ℕ) → o.threshold ≡ 0 → lessened t is.builds.topology.contents ≡ written_on o.grid t is.layers
-  lessened_is less valid t zero =
-      let says = is.builds.topology in
-      let names : AreDistinct (names_of is.layers) = subst AreDistinct says.names (valid says.value says.contents no_counts says.stands).names in
-      ap (lessened t) (says.shared ∙ ap (λ z. written_on o.grid z is.layers) zero)
-      ∙ less o.grid t is.layers (are_taken o is.layers (all_taken o.exact olds news is.layers is.counts is.builds.read) names)
+  lessened_is : LessensToWritten → ReadsValid → ReadAreTaken → (t : ℕ) → o.threshold ≡ 0 → lessened t is.builds.topology.contents ≡ written_on o.grid t is.layers
+  lessened_is less valid may t zero =
+      ap (lessened t) (is.builds.topology.shared ∙ ap (λ z. written_on o.grid z is.layers) zero) ∙ less o.grid t is.layers (taken valid may o olds news sink_old sink_new report is)
 
-  simplified_text : LessensToWritten → ReadsValid → (t : ℕ) → o.threshold ≡ 0 → (after : Fed) (out_old out_new : Drained) (simplified : Report)
+  simplified_text : LessensToWritten → ReadsValid → ReadAreTaken → (t : ℕ) → o.threshold ≡ 0 → (after : Fed) (out_old out_new : Drained) (simplified : Report)
       → IsSimplified t source after out_old out_new simplified
       → Takes out_old out_new (json_text (topology_value (written_on o.grid t is.layers))) (length (json_text (topology_value (written_on o.grid t is.layers))))
-  simplified_text less valid t zero after out_old out_new simplified s =
+  simplified_text less valid may t zero after out_old out_new simplified s =
       let e : lessened_text t s.contents ≡ json_text (topology_value (written_on o.grid t is.layers)) =
-      ap (lessened_text t) (same_contents after s.contents s.counts s.read) ∙ ap (λ y. json_text (topology_value y)) (lessened_is less valid t zero) in
+      ap (lessened_text t) (same_contents after s.contents s.counts s.read) ∙ ap (λ y. json_text (topology_value y)) (lessened_is less valid may t zero) in
       subst (λ text. Takes out_old out_new text (length text)) e s.written
 
-pub simplifies_to_built : LessensToWritten → ReadsValid → SimplifiesToBuilt
-simplifies_to_built less valid o p olds news sink_old sink_new report full more_olds more_news more_old more_new more_report small zero grid same source after out_old out_new simplified from s =
+pub simplifies_to_built : OneValue → LessensToWritten → ReadsValid → ReadAreTaken → SimplifiesToBuilt
+simplifies_to_built one_value less valid may o p olds news sink_old sink_new report full more_olds more_news more_old more_new more_report small zero grid same source after out_old out_new simplified from s =
     let says = small.builds.topology in
     let e : json_text (topology_value (written_on o.grid p.threshold full.layers)) ≡ small.text =
     ap (λ g. json_text (topology_value (written_on g p.threshold full.layers))) (sym grid)
     ∙ ap (λ ls. json_text (topology_value (written_on p.grid p.threshold ls))) (sym same)
     ∙ ap (λ y. json_text (topology_value y)) (sym says.shared) ∙ sym says.written in
     subst (λ text. Takes out_old out_new text (length text)) e
-    (simplified_text o olds news sink_old sink_new report full source from less valid p.threshold zero after out_old out_new simplified s)
+    (simplified_text one_value o olds news sink_old sink_new report full source from less valid may p.threshold zero after out_old out_new simplified s)
 
-pub decodes_back : DecodesBack
-decodes_back o olds news sink_old sink_new report is source from = writes_expected o olds news sink_old sink_new report is source from
+pub decodes_back : OneValue → DecodesBack
+decodes_back one_value o olds news sink_old sink_new report is source from = writes_expected one_value o olds news sink_old sink_new report is source from
 
-pub summarises_back : SummarisesBack
-summarises_back o olds news sink_old sink_new report is source after summary from s =
-    summary_same o olds news sink_old sink_new report is source from after summary s
+pub summarises_back : OneValue → SummarisesBack
+summarises_back one_value o olds news sink_old sink_new report is source after summary from s =
+    summary_same one_value o olds news sink_old sink_new report is source from after summary s

@@ -1,1 +1,2 @@
 mod BuiltAgain
+mod SameBytes

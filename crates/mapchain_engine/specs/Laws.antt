@@ -13,6 +13,7 @@ use Rattle.reports.specs.declared.summary.Summary.{Summary}
 use Rattle.topology_building.specs.Building.{expected_for, snapped_for, written_for, IsBuilt}
 use Rattle.topology_building.specs.declared.options.Options.{Options}
 use Rattle.topology_files.specs.Geo.{features_text, IsDecoded}
+use Rattle.layer_sources.specs.Outcomes.{Texts, HaveBytes}
 use Rattle.layer_sources.specs.Sources.{Sources, Named}
 use Rattle.reports.specs.Summaries.{summary_of}
 use Rattle.topology_files.specs.Files.{IsSummarised}
@@ -55,5 +56,29 @@ abbrev pub SimplifiesToBuilt : Type 0
 SimplifiesToBuilt = (o p : Options) (olds news : Sources) (sink_old sink_new : Drained) (report : Report) (full : IsBuilt o olds news sink_old sink_new report)
     (more_olds more_news : Sources) (more_old more_new : Drained) (more_report : Report) (small : IsBuilt p more_olds more_news more_old more_new more_report)
     → o.threshold ≡ 0 → p.grid ≡ o.grid → small.layers ≡ full.layers
+    → (source after : Fed) (out_old out_new : Drained) (simplified : Report) → IsWrittenTo sink_old sink_new source → IsSimplified p.threshold source after out_old out_new simplified
+    → Takes out_old out_new small.text (length small.text)
+
+-- ---- the same bytes
+
+-- both sources have the same names, and the same bytes left
+pub record HaveSameBytes (some others : Sources) : Type 0 where
+  pub bytes : Texts
+  pub have : HaveBytes some bytes
+  pub too : HaveBytes others bytes
+
+-- Two builds of the same bytes under the same names, with the same options, wrote the same text, and their reports are the same,
+-- whatever the devices did.
+abbrev pub BuildsOneText : Type 0
+BuildsOneText = (o : Options) (olds news : Sources) (sink_old sink_new : Drained) (report : Report) (one : IsBuilt o olds news sink_old sink_new report)
+    (more_olds more_news : Sources) (more_old more_new : Drained) (more_report : Report) (other : IsBuilt o more_olds more_news more_old more_new more_report)
+    → HaveSameBytes olds more_olds → (one.text ≡ other.text) × (report ≡ more_report)
+
+-- The topology that a build at a threshold of zero wrote, simplified at a threshold, is byte for byte what a build of the same bytes on
+-- the same grid, as exact, writes at that threshold.
+abbrev pub SimplifiesToBuiltOfSame : Type 0
+SimplifiesToBuiltOfSame = (o p : Options) (olds news : Sources) (sink_old sink_new : Drained) (report : Report) (full : IsBuilt o olds news sink_old sink_new report)
+    (more_olds more_news : Sources) (more_old more_new : Drained) (more_report : Report) (small : IsBuilt p more_olds more_news more_old more_new more_report)
+    → o.threshold ≡ 0 → p.grid ≡ o.grid → p.exact ≡ o.exact → HaveSameBytes olds more_olds
     → (source after : Fed) (out_old out_new : Drained) (simplified : Report) → IsWrittenTo sink_old sink_new source → IsSimplified p.threshold source after out_old out_new simplified
     → Takes out_old out_new small.text (length small.text)

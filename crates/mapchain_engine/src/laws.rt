@@ -1,16 +1,28 @@
 // Laws of the contracts. A function here does nothing: its contract is the law.
-ghost use Rattle.mapchain_engine.specs.Laws.{DecodesBack, LosesNothing, SimplifiesToBuilt, SummarisesBack};
+ghost use Rattle.mapchain_engine.specs.Laws.{
+  BuildsOneText,
+  DecodesBack,
+  LosesNothing,
+  SimplifiesToBuilt,
+  SimplifiesToBuiltOfSame,
+  SummarisesBack,
+};
 
 use build_meaning::zero_loses_nothing;
+use decimal_json::one_value;
 use grid_meaning::snapped_are_on;
+use layer_sources::{layers_have_one_outcome, read_layers_are_the_outcome};
 use layer_topology::lessens_to_written;
 use topojson_meaning::topology_is_valid;
+use topology_building::read_layers_are_taken;
 
 /// What `build` wrote, at any threshold, `to_geo` reads again: with the name of a layer, answering `Ok`, it writes the text of the
 /// features that are expected of this layer, the same as in the contract of `build`.
 pub fn built_text_decodes_back()
     ensures { DecodesBack }
-{}
+{
+    one_value();
+}
 
 /// At a threshold of zero what is expected of each line of the layers is the line, with equal neighbours as one position and a ring
 /// from its start; only what has too few positions is dropped.
@@ -19,18 +31,41 @@ pub fn built_at_zero_loses_nothing()
 {
     snapped_are_on();
     zero_loses_nothing();
+    topology_is_valid();
+    read_layers_are_taken();
 }
 
 /// Of what `build` wrote, `stat` tells the summary of the topology that is built of the layers.
 pub fn built_text_is_summarised()
     ensures { SummarisesBack }
-{}
+{
+    one_value();
+}
 
 /// What `build` wrote at a threshold of zero, simplified at a threshold, is byte for byte what `build` writes of the same layers, on the
 /// same grid, at that threshold: one full file is kept, and smaller ones are made of it.
 pub fn simplified_text_is_built()
     ensures { SimplifiesToBuilt }
 {
+    one_value();
     lessens_to_written();
     topology_is_valid();
+    read_layers_are_taken();
+}
+
+/// The same bytes under the same names, built with the same options, give the same text and the same report.
+pub fn same_bytes_build_one_text()
+    ensures { BuildsOneText }
+{
+    layers_have_one_outcome();
+    read_layers_are_the_outcome();
+}
+
+/// As `simplified_text_is_built`, where the sources of both builds had the same bytes under the same names.
+pub fn simplified_text_is_built_of_same_bytes()
+    ensures { SimplifiesToBuiltOfSame }
+{
+    simplified_text_is_built();
+    layers_have_one_outcome();
+    read_layers_are_the_outcome();
 }

@@ -12,9 +12,10 @@ pub use geojson_types::{Address, Cause, Dropped};
 pub use inputs::{BuildFault, FileFault};
 pub use laws::{
     built_at_zero_loses_nothing, built_text_decodes_back, built_text_is_summarised,
-    simplified_text_is_built,
+    same_bytes_build_one_text, simplified_text_is_built, simplified_text_is_built_of_same_bytes,
 };
+pub use layer_sources::{layers_have_one_outcome, read_layers_are_the_outcome};
 pub use reports::{Report, Summary, report_text, summary_text};
 pub use topology_building::{Options, build};
-pub use topology_files::{stat, to_geo};
-pub use topology_simplifying::simplify;
+pub use topology_files::{features_are_one_outcome, stat, summary_is_one_outcome, to_geo};
+pub use topology_simplifying::{simplified_is_one_outcome, simplify};

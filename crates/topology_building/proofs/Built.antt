@@ -8,21 +8,19 @@ use Rattle.json_value.specs.Text.{json_text}
 use Rattle.geojson_types.specs.declared.counts.Counts.{Counts}
 use Rattle.topojson_types.specs.Validity.{AreDistinct}
 use Rattle.topojson_types.specs.Values.{topology_value}
-use Rattle.build_meaning.specs.Laws.{AreSound}
 use Rattle.build_meaning.specs.Layers.{names_of}
-use Rattle.grid_meaning.specs.Laws.{SnappedAreOn}
 use Rattle.layer_topology.specs.Written.{AreTaken}
 use Rattle.topojson_meaning.specs.Laws.{IsStored}
 use Rattle.inputs.specs.declared.fault.BuildFault.{BuildFault}
 use Rattle.inputs.specs.declared.fault.BuildFault.TheVariants.{EmptyName, DuplicateName, Read, Json, Geo, Write, Memory}
 use Rattle.reports.specs.declared.report.Report.{Report}
-use Rattle.topology_building.specs.Building.{snapped_for, written_for, BuildingLaws, SaysTopology, Builds, IsBuilt, IsLateFault, Sends, report_of}
+use Rattle.topology_building.specs.Building.{written_for, BuildingLaws, SaysTopology, Builds, IsBuilt, IsLateFault, Sends, report_of}
 use Rattle.topology_building.specs.declared.options.Options.{Options}
 use Rattle.inputs.specs.Sent.{build_fault_of}
 use Rattle.layer_sources.specs.Names.{name_fault, IsRefusedFor}
 use Rattle.layer_sources.specs.Reading.{FailsToRead}
 use Rattle.layer_sources.specs.Sources.{Sources, Named, AllRead, FailsAt, FailsToReadAll}
-use Rattle.topology_building.proofs.SoundLayers.{AllTaken, all_taken, are_taken, count_of, layers_inputs, layers_nest, layers_number, layers_sound, names_read}
+use Rattle.topology_building.proofs.SoundLayers.{AllTaken, all_taken, are_taken, layers_nest, layers_number, names_read}
 use Rattle.topology_building.proofs.NamesDistinct.{distinct_names}
 use Rattle.layer_sources.proofs.SourcesRead.{untroubled_all}
 
@@ -108,10 +106,6 @@ distinct exact olds news ls cs all e = rw (names_read exact olds news ls cs all)
 pub may_be_made : (o : Options) (olds news : Sources) (ls : Named) (cs : List Counts) → AllRead o.exact olds news ls cs
     → name_fault (map (λ s. s.0) olds) ≡ None → AreTaken o.grid ls
 may_be_made o olds news ls cs all e = are_taken o ls (all_taken o.exact olds news ls cs all) (distinct o.exact olds news ls cs all e)
-
--- the layers that are built are sound
-pub snapped_sound : SnappedAreOn → (o : Options) (olds news : Sources) (ls : Named) (cs : List Counts) → AllRead o.exact olds news ls cs → AreSound (snapped_for o ls)
-snapped_sound on o olds news ls cs all = let h = all_taken o.exact olds news ls cs all in (on o.grid ls (count_of o) (layers_sound ls h) (layers_inputs ls h)).sound
 
 -- the fault of the names is the first of all
 pub early_names : (names : List (List ℕ)) (found e : BuildFault) → IsRefusedFor (name_fault names) (Err found) → name_fault names ≡ Some e → found ≡ e

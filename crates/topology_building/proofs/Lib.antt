@@ -1,4 +1,4 @@
-pub mod Built
+mod Built
 mod Decided
 mod NamesDistinct
-pub mod SoundLayers
+mod SoundLayers

@@ -5,7 +5,9 @@
 #![tactic(auto)]
 
 mod building;
+mod laws;
 mod options;
 
 pub use building::build;
+pub use laws::read_layers_are_taken;
 pub use options::Options;

@@ -4,10 +4,12 @@ use Rattle.std.specs.List.{AllByRecursion}
 use Rattle.json_value.specs.declared.json.Json.{Json}
 use Rattle.json_value.specs.Depth.{depth}
 use Rattle.json_value.specs.Numbers.{HasNumbers}
+use Rattle.json_value.specs.WellFormed.{HasTexts}
 use Rattle.geojson_types.specs.declared.counts.Counts.{Counts}
 use Rattle.geojson_types.specs.Features.{Featured, is_proper_option}
 use Rattle.geojson_types.specs.Nesting.{feature_nesting}
 use Rattle.geojson_types.specs.Numbers.{FeatureHasNumbers}
+use Rattle.geojson_types.specs.Texts.{FeatureHasTexts}
 use Rattle.geojson_types.specs.Places.{features_points}
 use Rattle.geometry.specs.Points.{Point, IsInput}
 use Rattle.geometry.specs.Pruning.{option_strokes}
@@ -47,3 +49,8 @@ NothingDeeper = (exact : Bool) (v : Json) (fs : List Featured) (c : Counts) → 
 abbrev pub NumbersStay : Type 0
 NumbersStay = (exact : Bool) (v : Json) (fs : List Featured) (c : Counts) → HasNumbers v → layer exact v ≡ Ok (fs, c)
     → AllByRecursion FeatureHasNumbers fs
+
+-- the identifiers and properties of features have UTF-8 texts, if that is so in the value
+abbrev pub TextsStay : Type 0
+TextsStay = (exact : Bool) (v : Json) (fs : List Featured) (c : Counts) → HasTexts v → layer exact v ≡ Ok (fs, c)
+    → AllByRecursion FeatureHasTexts fs

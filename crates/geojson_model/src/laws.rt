@@ -6,6 +6,7 @@ ghost use Rattle.geojson_model.specs.Laws.{
   NumbersStay,
   RingsClose,
   ShapesAreProper,
+  TextsStay,
 };
 
 /// Each shape of a layer is one that a feature may have.
@@ -35,6 +36,12 @@ pub fn nothing_deeper()
 #[tactic(auto, using(crate::proofs::SoundLayers::numbers_stay))]
 pub fn numbers_stay()
     ensures { NumbersStay }
+{}
+
+/// The texts of a layer's identifiers and properties are UTF-8 (RFC 8259, section 8.1), if those of its JSON value are.
+#[tactic(auto, using(crate::proofs::SoundLayers::texts_stay))]
+pub fn texts_stay()
+    ensures { TextsStay }
 {}
 
 /// What is accepted with `exact` is accepted without it: the same features with the same counts, none rounded.

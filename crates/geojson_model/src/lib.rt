@@ -22,5 +22,6 @@ pub use geojson_types::{
 pub use geojson_writer::{features_text_spells_value, put_features, write_features};
 pub use laws::{
     exact_is_stricter, inputs_alone, nothing_deeper, numbers_stay, rings_close, shapes_are_proper,
+    texts_stay,
 };
 pub use reading::read_layer;

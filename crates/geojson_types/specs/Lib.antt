@@ -5,6 +5,7 @@ pub mod Moving
 pub mod Nesting
 pub mod Numbers
 pub mod Places
+pub mod Texts
 pub use Rattle.geometry.specs.Areas
 pub use Rattle.geometry.specs.Lists
 pub use Rattle.geometry.specs.Omissions

@@ -4,6 +4,7 @@ use Rattle.std.proofs.lemmas.List.{length-map}
 use Rattle.std.specs.List.{AllByRecursion}
 use Rattle.geojson_types.specs.Nesting.{option_nesting, properties_nesting}
 use Rattle.geojson_types.specs.Numbers.{IdHasNumbers, PropertiesHaveNumbers}
+use Rattle.geojson_types.specs.Texts.{IdHasTexts, PropertiesHaveTexts}
 use Rattle.geojson_types.proofs.Nestings.{option_pruned_nests}
 use Rattle.geometry.specs.Lists.{joined}
 use Rattle.geometry.specs.Points.{Point}
@@ -81,10 +82,11 @@ module _ (f : Point → Point) where
     properties = parts_stay (λ x. x.properties) (λ x. refl) y.objects;
     nests = λ n h. objects_keep (λ x. max (option_nesting x.shape) (1 + properties_nesting x.properties) ≤ n) (nests n) y.objects h;
     numbers = λ h. objects_keep (λ x. IdHasNumbers x.id × PropertiesHaveNumbers x.properties) (λ x k. k) y.objects h;
+    texts = λ h. objects_keep (λ x. IdHasTexts x.id × PropertiesHaveTexts x.properties) (λ x k. k) y.objects h;
     arcs = length-map y.arcs (map f);
     lengths = lengths_stay y.arcs;
   }
 
 pub keeps : GriddedKeeps
-keeps None y = record { names = refl; ids = refl; properties = refl; nests = λ n h. h; numbers = λ h. h; arcs = refl; lengths = refl }
+keeps None y = record { names = refl; ids = refl; properties = refl; nests = λ n h. h; numbers = λ h. h; texts = λ h. h; arcs = refl; lengths = refl }
 keeps (Some g) y = celled_keeps (cell g) (transform_of g) y

@@ -7,6 +7,7 @@ use Rattle.geojson_types.specs.Features.{Featured, Shape}
 use Rattle.geojson_types.specs.Moving.{moved, moved_feature}
 use Rattle.geojson_types.specs.Nesting.{nesting, option_nesting, feature_nesting}
 use Rattle.geojson_types.specs.Numbers.{FeatureHasNumbers}
+use Rattle.geojson_types.specs.Texts.{FeatureHasTexts}
 use Rattle.geojson_types.specs.Places.{option_points, features_points}
 use Rattle.geojson_types.proofs.Nestings.{nesting_at}
 use Rattle.geometry.specs.Lists.{map_some}
@@ -130,18 +131,18 @@ module _ (f : Point → Point) where
   features_nest n [] h = tt
   features_nest n (x ∷ fs) h = (rw (option_nests x.shape) h.0, features_nest n fs h.1)
 
-  features_number : (fs : List Featured) → AllByRecursion FeatureHasNumbers fs → AllByRecursion FeatureHasNumbers (map (moved_feature f) fs)
-  features_number [] h = tt
-  features_number (x ∷ fs) h = (h.0, features_number fs h.1)
+  features_stay : (X : Featured → Type 0) → ((x : Featured) → X x → X (moved_feature f x)) → (fs : List Featured) → AllByRecursion X fs → AllByRecursion X (map (moved_feature f) fs)
+  features_stay X stays [] h = tt
+  features_stay X stays (x ∷ fs) h = (stays x h.0, features_stay X stays fs h.1)
 
 layers_nest : (g : Axes) (n : ℕ) (ls : Named) → EachFeature (λ f. feature_nesting f ≤ n) ls → EachFeature (λ f. feature_nesting f ≤ n) (snapped_named (Some g) ls)
 layers_nest g n [] h = tt
 layers_nest g n (l ∷ ls) h = (features_nest (snapped g) n l.1.features h.0, layers_nest g n ls h.1)
 
-layers_number : (g : Axes) (ls : Named) → EachFeature FeatureHasNumbers ls → EachFeature FeatureHasNumbers (snapped_named (Some g) ls)
-layers_number g [] h = tt
-layers_number g (l ∷ ls) h = (features_number (snapped g) l.1.features h.0, layers_number g ls h.1)
+layers_stay : (g : Axes) (X : Featured → Type 0) → ((x : Featured) → X x → X (moved_feature (snapped g) x)) → (ls : Named) → EachFeature X ls → EachFeature X (snapped_named (Some g) ls)
+layers_stay g X stays [] h = tt
+layers_stay g X stays (l ∷ ls) h = (features_stay (snapped g) X stays l.1.features h.0, layers_stay g X stays ls h.1)
 
 pub snapped_keep : SnappedKeep
-snapped_keep None ls = record { nests = λ n h. h; numbers = λ h. h }
-snapped_keep (Some g) ls = record { nests = λ n h. layers_nest g n ls h; numbers = λ h. layers_number g ls h }
+snapped_keep None ls = record { nests = λ n h. h; numbers = λ h. h; texts = λ h. h }
+snapped_keep (Some g) ls = record { nests = λ n h. layers_nest g n ls h; numbers = λ h. layers_stay g FeatureHasNumbers (λ x k. k) ls h; texts = λ h. layers_stay g FeatureHasTexts (λ x k. k) ls h }

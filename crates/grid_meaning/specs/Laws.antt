@@ -9,6 +9,7 @@ use Rattle.geojson_types.specs.declared.layer.FeatureSet.TheVariants as set
 use Rattle.geojson_types.specs.Features.{Featured}
 use Rattle.geojson_types.specs.Nesting.{option_nesting, properties_nesting, feature_nesting}
 use Rattle.geojson_types.specs.Numbers.{IdHasNumbers, PropertiesHaveNumbers, FeatureHasNumbers}
+use Rattle.geojson_types.specs.Texts.{IdHasTexts, PropertiesHaveTexts, FeatureHasTexts}
 use Rattle.geometry.specs.Lists.{joined}
 use Rattle.grid_snap.specs.Axes.{Axes}
 use Rattle.lessened_topology.specs.Celled.{EachCell}
@@ -34,10 +35,11 @@ SnappedAreOn = (count : Option ℕ) (ls : Named) → IsCount count → AreSound 
 abbrev pub EachFeature : (Featured → Type 0) → Named → Type 0
 EachFeature X ls = AllByRecursion (λ l. AllByRecursion X l.1.features) ls
 
--- their features nest no deeper than before, and their numbers stay numbers
+-- their features nest no deeper than before, their numbers stay numbers, and their texts UTF-8
 pub record KeepsLayers (before after : Named) : Type 0 where
   pub nests : (n : ℕ) → EachFeature (λ f. feature_nesting f ≤ n) before → EachFeature (λ f. feature_nesting f ≤ n) after
   pub numbers : EachFeature FeatureHasNumbers before → EachFeature FeatureHasNumbers after
+  pub texts : EachFeature FeatureHasTexts before → EachFeature FeatureHasTexts after
 
 abbrev pub SnappedKeep : Type 0
 SnappedKeep = (g : Option Axes) (ls : Named) → KeepsLayers ls (snapped_named g ls)
@@ -57,7 +59,7 @@ abbrev pub all_features : Contents → List TopoFeature
 all_features y = joined (map (λ o. object_features o.1) y.objects)
 
 -- the objects have the same names, and their features, in order, the same identifiers and properties; features nest no deeper than
--- before, and their numbers stay numbers; there are as many arcs, each as long as before
+-- before, their numbers stay numbers, and their texts UTF-8; there are as many arcs, each as long as before
 pub record Keeps (before after : Contents) : Type 0 where
   pub names : map (λ o. o.0) after.objects ≡ map (λ o. o.0) before.objects
   pub ids : map (λ f. f.id) (all_features after) ≡ map (λ f. f.id) (all_features before)
@@ -66,6 +68,8 @@ pub record Keeps (before after : Contents) : Type 0 where
       → AllByRecursion (λ f. max (option_nesting f.shape) (1 + properties_nesting f.properties) ≤ n) (all_features after)
   pub numbers : AllByRecursion (λ f. IdHasNumbers f.id × PropertiesHaveNumbers f.properties) (all_features before)
       → AllByRecursion (λ f. IdHasNumbers f.id × PropertiesHaveNumbers f.properties) (all_features after)
+  pub texts : AllByRecursion (λ f. IdHasTexts f.id × PropertiesHaveTexts f.properties) (all_features before)
+      → AllByRecursion (λ f. IdHasTexts f.id × PropertiesHaveTexts f.properties) (all_features after)
   pub arcs : length after.arcs ≡ length before.arcs
   pub lengths : map length after.arcs ≡ map length before.arcs
 

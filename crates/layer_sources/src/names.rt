@@ -1,5 +1,6 @@
 // The names of layers.
-ghost use Rattle.std.specs.Prelude.{◌≡◌, map, Ok, Err};
+ghost use Rattle.std.specs.List.{AllByRecursion};
+ghost use Rattle.std.specs.Prelude.{◌≡◌, map, Ok, Err, IfOk, IsUtf8};
 ghost use Rattle.layer_sources.specs.Names as spec;
 ghost use Rattle.layer_sources.specs.Names.{name_fault, IsRefusedFor};
 
@@ -21,7 +22,9 @@ fn is_among<R: Feed>(name: &str, sources: &[(OwnText, Source<R>)]) -> bool
 
 /// Refuses the first layer whose name is empty or that of an earlier one.
 pub fn check_names<R: Feed>(sources: &[(OwnText, Source<R>)]) -> Result<(), BuildFault>
-    ensures { IsRefusedFor (name_fault (map (λ s. s.0) sources.now)) result }
+    ensures fault { IsRefusedFor (name_fault (map (λ s. s.0) sources.now)) result }
+    // Names are texts.
+    ensures texts { IfOk result (λ _. AllByRecursion IsUtf8 (map (λ s. s.0) sources.now)) }
 {
     'layers: for (layer, source) in sources.iter().enumerate() {
         let name = source.0.as_str();

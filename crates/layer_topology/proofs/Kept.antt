@@ -1,5 +1,5 @@
--- The features of what is built of layers: nothing nests deeper than in the layers, and number texts stay.
-use Rattle.std.proofs.Common.{◌≡◌, ℕ, ◌≤◌, List, [], ◌∷◌, map, refl, ap, arith, sym, subst, ◌∙◌}
+-- The features of what is built of layers: nothing nests deeper than in the layers, and number texts and other texts stay.
+use Rattle.std.proofs.Common.{◌≡◌, ℕ, ◌≤◌, List, [], ◌∷◌, map, Option, refl, ap, arith, sym, subst, ◌∙◌}
 use Rattle.std.specs.List.{AllByRecursion}
 use Rattle.build_meaning.proofs.Renumbered.{kept_in, built_objects}
 use Rattle.build_meaning.specs.Built.{built}
@@ -9,20 +9,26 @@ use Rattle.geojson_types.proofs.Nestings.{option_pruned_nests}
 use Rattle.geojson_types.specs.Features.{Featured}
 use Rattle.geojson_types.specs.Nesting.{feature_nesting}
 use Rattle.geojson_types.specs.Numbers.{FeatureHasNumbers}
+use Rattle.geojson_types.specs.Texts.{FeatureHasTexts}
 use Rattle.grid_meaning.specs.Laws.{EachFeature}
 use Rattle.list_laws.proofs.Elements.{all_append}
 use Rattle.topojson_meaning.specs.Bounds as bounds
+use Rattle.topojson_meaning.specs.Texts as texts
+use Rattle.topojson_types.specs.declared.feature.TopoFeature.{TopoFeature}
 use Rattle.topojson_types.specs.declared.object.TopoObject.{TopoObject}
+use Rattle.topojson_types.specs.Topologies.{TopoShape}
 
 module _ (kept : Kept) where
-  features_number : (fs : List Featured) → AllByRecursion FeatureHasNumbers fs → AllByRecursion bounds.FeatureHasNumbers (features_by kept fs)
-  features_number [] h = tt
-  features_number (f ∷ fs) h = (h.0, features_number fs h.1)
+  features_stay : (X : Featured → Type 0) (Y : TopoFeature → Type 0) → ((f : Featured) (s : Option TopoShape) → X f → Y (record { id = f.id; properties = f.properties; shape = s }))
+      → (fs : List Featured) → AllByRecursion X fs → AllByRecursion Y (features_by kept fs)
+  features_stay X Y stays [] h = tt
+  features_stay X Y stays (f ∷ fs) h = (stays f _ h.0, features_stay X Y stays fs h.1)
 
-  objects_number : (ls : Named) → EachFeature FeatureHasNumbers ls → AllByRecursion bounds.FeatureHasNumbers (bounds.objects_features (objects_by kept ls))
-  objects_number [] h = tt
-  objects_number (l ∷ ls) h =
-      all_append bounds.FeatureHasNumbers (features_by kept l.1.features) (bounds.objects_features (objects_by kept ls)) (features_number l.1.features h.0) (objects_number ls h.1)
+  objects_stay : (X : Featured → Type 0) (Y : TopoFeature → Type 0) → ((f : Featured) (s : Option TopoShape) → X f → Y (record { id = f.id; properties = f.properties; shape = s }))
+      → (ls : Named) → EachFeature X ls → AllByRecursion Y (bounds.objects_features (objects_by kept ls))
+  objects_stay X Y stays [] h = tt
+  objects_stay X Y stays (l ∷ ls) h =
+      all_append Y (features_by kept l.1.features) (bounds.objects_features (objects_by kept ls)) (features_stay X Y stays l.1.features h.0) (objects_stay X Y stays ls h.1)
 
   features_nest : (n : ℕ) (fs : List Featured) → AllByRecursion (λ f. feature_nesting f ≤ n) fs → AllByRecursion (λ f. bounds.feature_nesting f ≤ n) (features_by kept fs)
   features_nest n [] h = tt
@@ -38,7 +44,12 @@ module _ (kept : Kept) where
   names_kept (l ∷ ls) = ap (λ ns. l.0 ∷ ns) (names_kept ls)
 
 pub built_numbers : (t : ℕ) (ls : Named) → EachFeature FeatureHasNumbers ls → AllByRecursion bounds.FeatureHasNumbers (bounds.objects_features (built t ls).objects)
-built_numbers t ls h = subst (λ os. AllByRecursion bounds.FeatureHasNumbers (bounds.objects_features os)) (sym (built_objects t ls)) (objects_number (kept_in t ls) ls h)
+built_numbers t ls h = subst (λ os. AllByRecursion bounds.FeatureHasNumbers (bounds.objects_features os)) (sym (built_objects t ls))
+    (objects_stay (kept_in t ls) FeatureHasNumbers bounds.FeatureHasNumbers (λ f s k. k) ls h)
+
+pub built_texts : (t : ℕ) (ls : Named) → EachFeature FeatureHasTexts ls → AllByRecursion texts.FeatureHasTexts (bounds.objects_features (built t ls).objects)
+built_texts t ls h = subst (λ os. AllByRecursion texts.FeatureHasTexts (bounds.objects_features os)) (sym (built_objects t ls))
+    (objects_stay (kept_in t ls) FeatureHasTexts texts.FeatureHasTexts (λ f s k. k) ls h)
 
 pub built_nests : (t n : ℕ) (ls : Named) → EachFeature (λ f. feature_nesting f ≤ n) ls → AllByRecursion (λ f. bounds.feature_nesting f ≤ n) (bounds.objects_features (built t ls).objects)
 built_nests t n ls h = subst (λ os. AllByRecursion (λ f. bounds.feature_nesting f ≤ n) (bounds.objects_features os)) (sym (built_objects t ls)) (objects_nest (kept_in t ls) n ls h)

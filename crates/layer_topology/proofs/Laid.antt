@@ -1,16 +1,20 @@
 -- What is written of layers: the laws of what is built of them, on the grid that is asked for.
-use Rattle.std.proofs.Common.{◌≡◌, ◌∙◌, ℕ, Option, None, ap, subst, sym}
+use Rattle.std.proofs.Common.{◌≡◌, ◌∙◌, ℕ, List, map, Option, None, ap, subst, sym}
+use Rattle.std.specs.Prelude.{IsUtf8}
+use Rattle.std.specs.List.{AllByRecursion}
 use Rattle.build_meaning.specs.Laws as build
 use Rattle.build_meaning.specs.Built.{built}
 use Rattle.build_meaning.specs.Layers.{Named, names_of}
 use Rattle.build_meaning.proofs.Renumbered.{built_has_no_transform}
 use Rattle.grid_meaning.specs.Gridded.{IsOn, gridded, named_grid}
 use Rattle.grid_meaning.specs.Laws as grid
-use Rattle.layer_topology.specs.Laws.{IsValid, HasNames, DecodesBack, EachSegmentOnce, NestsNoDeeper, NumbersStay, LessensToWritten}
+use Rattle.layer_topology.specs.Laws.{IsValid, HasNames, DecodesBack, EachSegmentOnce, NestsNoDeeper, NumbersStay, TextsStay, LessensToWritten}
 use Rattle.layer_topology.specs.Written.{snapped_to, written, AreTaken}
-use Rattle.layer_topology.proofs.Kept.{built_names, built_nests, built_numbers}
+use Rattle.layer_topology.proofs.Kept.{built_names, built_nests, built_numbers, built_texts}
 use Rattle.grid_snap.specs.Axes.{Axes}
 use Rattle.lessened_topology.specs.Celled.{EachCell}
+use Rattle.list_laws.proofs.Elements.{all_of_map}
+use Rattle.topojson_types.specs.declared.object.TopoObject.{TopoObject}
 use Rattle.topojson_types.specs.Topologies.{Contents}
 use Rattle.topojson_types.specs.Validity.{AreDistinct}
 
@@ -53,6 +57,17 @@ unfolding written
 numbers layers keeps count t ls h =
     let g = named_grid count ls in
     (keeps g (built t (snapped_to count ls))).numbers (built_numbers t (snapped_to count ls) ((layers g ls).numbers h))
+
+pub texts : grid.SnappedAreOn → grid.SnappedKeep → grid.GriddedKeeps → TextsStay
+unfolding written
+texts on layers keeps count t ls taken utf8 h =
+    let g = named_grid count ls in
+    let named : AllByRecursion (λ n. IsUtf8 n) (map (λ (o : List ℕ × TopoObject). o.0) (written count t ls).objects) =
+    subst (AllByRecursion (λ n. IsUtf8 n)) (sym (names on keeps count t ls taken)) utf8 in
+    record {
+      names = all_of_map (λ n. IsUtf8 n) (λ (o : List ℕ × TopoObject). o.0) (written count t ls).objects named;
+      features = (keeps g (built t (snapped_to count ls))).texts (built_texts t (snapped_to count ls) ((layers g ls).texts h));
+    }
 
 -- ---- the steps of making it
 

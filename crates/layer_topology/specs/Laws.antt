@@ -1,5 +1,5 @@
 -- What is true of the topology that is written of layers.
-use Rattle.std.specs.Prelude.{◌≡◌, ℕ, ◌≤◌, Option, Some, map}
+use Rattle.std.specs.Prelude.{◌≡◌, ℕ, ◌≤◌, Option, Some, map, IsUtf8}
 use Rattle.std.specs.List.{AllByRecursion}
 use Rattle.arc_table.specs.Laws.{AreOnceIn}
 use Rattle.build_meaning.specs.Built.{all_arcs}
@@ -9,10 +9,12 @@ use Rattle.cutter.specs.Segments.{line_segments}
 use Rattle.geojson_types.specs.declared.layer.FeatureSet.TheVariants as set
 use Rattle.geojson_types.specs.Nesting.{feature_nesting}
 use Rattle.geojson_types.specs.Numbers.{FeatureHasNumbers}
+use Rattle.geojson_types.specs.Texts.{FeatureHasTexts}
 use Rattle.grid_meaning.specs.Laws.{EachFeature}
 use Rattle.lessened_topology.specs.Thresholds.{lessened}
 use Rattle.linework.specs.Linework.{linework}
 use Rattle.topojson_meaning.specs.Bounds as bounds
+use Rattle.topojson_meaning.specs.Texts.{ContentsHaveTexts}
 use Rattle.topojson_types.specs.Decoding.{decoded}
 use Rattle.topojson_types.specs.Validity.{IsTopology}
 use Rattle.layer_topology.specs.Written.{snapped_to, written, AreTaken}
@@ -45,6 +47,11 @@ abbrev pub NumbersStay : Type 0
 NumbersStay = (count : Option ℕ) (t : ℕ) (ls : Named) → EachFeature FeatureHasNumbers ls
     → AllByRecursion bounds.FeatureHasNumbers (bounds.objects_features (written count t ls).objects)
 
+-- its texts are UTF-8 where those of the layers and their names are
+abbrev pub TextsStay : Type 0
+TextsStay = (count : Option ℕ) (t : ℕ) (ls : Named) → AreTaken count ls → AllByRecursion (λ n. IsUtf8 n) (names_of ls) → EachFeature FeatureHasTexts ls
+    → ContentsHaveTexts (written count t ls)
+
 -- what is true of it, all in all
 pub record WrittenLaws : Type 0 where
   pub valid : IsValid
@@ -53,6 +60,7 @@ pub record WrittenLaws : Type 0 where
   pub once : EachSegmentOnce
   pub nests : NestsNoDeeper
   pub numbers : NumbersStay
+  pub texts : TextsStay
 
 -- what is written at a threshold of zero and then reduced is what is written at the threshold
 abbrev pub LessensToWritten : Type 0

@@ -8,8 +8,8 @@ use grid_meaning::{
 };
 
 /// What is written of layers is a valid topology with an object for each layer. Decoding it gives each layer the features that are
-/// expected of it on the grid that is asked for, which nest no deeper than before, and whose numbers stay numbers. Before reduction
-/// each segment of the layers' lines lies once, in exactly one arc.
+/// expected of it on the grid that is asked for, which nest no deeper than before, and whose numbers stay numbers. Its texts are
+/// UTF-8 where those of the layers are. Before reduction each segment of the layers' lines lies once, in exactly one arc.
 pub fn written_laws()
     ensures { WrittenLaws }
 {

@@ -1,2 +1,3 @@
 mod BuiltAgain
+mod ComingBack
 mod SameBytes

@@ -1,4 +1,5 @@
 // Laws of the contracts. A function here does nothing: its contract is the law.
+ghost use Rattle.mapchain_engine.specs.Back.{ComesBack};
 ghost use Rattle.mapchain_engine.specs.Laws.{
   BuildsOneText,
   DecodesBack,
@@ -23,6 +24,12 @@ pub fn built_text_decodes_back()
 {
     one_value();
 }
+
+/// What `build` wrote, if it is no more than `MAX_INPUT` bytes, comes to what is expected: `to_geo` with the name of a layer, `stat` and
+/// `simplify` answer just that by their contracts, unless memory or a device fails.
+pub fn built_text_comes_back()
+    ensures { ComesBack }
+{}
 
 /// At a threshold of zero what is expected of each line of the layers is the line, with equal neighbours as one position and a ring
 /// from its start; only what has too few positions is dropped.

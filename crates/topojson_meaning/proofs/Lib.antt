@@ -22,3 +22,4 @@ pub mod ValidTransforms
 pub mod ValidYields
 pub mod WrittenDepth
 pub mod WrittenNumbers
+mod WrittenTexts

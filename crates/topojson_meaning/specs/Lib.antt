@@ -10,5 +10,6 @@ pub mod Members
 pub mod Objects
 pub mod Reader
 pub mod Shapes
+pub mod Texts
 pub mod Topologies
 pub mod Transforms

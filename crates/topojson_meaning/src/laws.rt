@@ -1,7 +1,8 @@
 // Laws of the definitions. A function here does nothing: its contract is the law.
 ghost use Rattle.topojson_meaning.specs.Laws.{ReadsBack, ReadsValid, TextIsRead, ValueHasNumbers, ValueNests};
+ghost use Rattle.topojson_meaning.specs.Texts.{TextIsUtf8};
 
-use json_value::text_spells_value;
+use json_value::{text_spells_value, written_text_is_utf8};
 
 /// A topology that a value stands for is valid: its names differ, its arcs are long enough, its arc indexes name arcs, its lines
 /// are joined, its rings closed, no list in it is empty but that of a collection, and all its cells lie at positions.
@@ -27,5 +28,13 @@ pub fn topology_text_is_read()
     ensures { TextIsRead }
 {
     text_spells_value();
+    topology_value_is_bounded();
+}
+
+/// The text of that value is UTF-8 (RFC 8259, section 8.1), if the texts of the topology are.
+pub fn topology_text_is_utf8()
+    ensures { TextIsUtf8 }
+{
+    written_text_is_utf8();
     topology_value_is_bounded();
 }

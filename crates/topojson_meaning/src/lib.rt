@@ -11,4 +11,7 @@ mod laws;
 
 pub use fault::TopoFault;
 pub use geometry_type::{ArcsType, GeometryType, PlacesType};
-pub use laws::{reads_back, topology_is_valid, topology_text_is_read, topology_value_is_bounded};
+pub use laws::{
+    reads_back, topology_is_valid, topology_text_is_read, topology_text_is_utf8,
+    topology_value_is_bounded,
+};

@@ -1,5 +1,7 @@
 -- What building layers comes to.
 use Rattle.std.proofs.Common.{◌≡◌, inl, inr, ℕ, suc, ◌<◌, ◌^◌, Bool, List, [], ◌∷◌, length, map, Option, Some, None, Err, arith, refl}
+use Rattle.std.specs.List.{AllByRecursion}
+use Rattle.std.specs.Prelude.{IsUtf8}
 use Rattle.byte_ends.specs.Ends.{Fed, Drained, Takes}
 use Rattle.byte_ends.specs.Writes.{Writes, WritesAll}
 use Rattle.byte_ends.specs.declared.sink.WriteFault.{WriteFault}
@@ -20,7 +22,7 @@ use Rattle.inputs.specs.Sent.{build_fault_of}
 use Rattle.layer_sources.specs.Names.{name_fault, IsRefusedFor}
 use Rattle.layer_sources.specs.Reading.{FailsToRead}
 use Rattle.layer_sources.specs.Sources.{Sources, Named, AllRead, FailsAt, FailsToReadAll}
-use Rattle.topology_building.proofs.SoundLayers.{AllTaken, all_taken, are_taken, layers_nest, layers_number, names_read}
+use Rattle.topology_building.proofs.SoundLayers.{AllTaken, all_taken, are_taken, layers_nest, layers_number, layers_texts, names_read}
 use Rattle.topology_building.proofs.NamesDistinct.{distinct_names}
 use Rattle.layer_sources.proofs.SourcesRead.{untroubled_all}
 
@@ -31,14 +33,16 @@ text_for o ls = json_text (topology_value (written_for o ls))
 -- ---- what is written
 
 module _ (laws : BuildingLaws) (o : Options) where
-  says : (ls : Named) → AllTaken ls → AreDistinct (names_of ls) → length (written_for o ls).arcs < 2 ^ 63 → SaysTopology o ls (text_for o ls)
-  says ls taken distinct few =
+  says : (ls : Named) → AllTaken ls → AreDistinct (names_of ls) → AllByRecursion (λ n. IsUtf8 n) (names_of ls) → length (written_for o ls).arcs < 2 ^ 63 → SaysTopology o ls (text_for o ls)
+  says ls taken distinct texts few =
       let are = are_taken o ls taken distinct in
       let t = written_for o ls in
       let stored : IsStored t = (laws.written.valid o.grid o.threshold ls are, few) in
+      let numbers = laws.written.numbers o.grid o.threshold ls (layers_number ls taken) in
       record {
+        utf8 = laws.utf8 t stored numbers (laws.written.texts o.grid o.threshold ls are texts (layers_texts ls taken));
         value = topology_value t;
-        spelled = laws.spelled t 127 255 stored (laws.written.numbers o.grid o.threshold ls (layers_number ls taken)) (laws.written.nests o.grid o.threshold 127 ls (layers_nest ls taken))
+        spelled = laws.spelled t 127 255 stored numbers (laws.written.nests o.grid o.threshold 127 ls (layers_nest ls taken))
             (omega arith);
         contents = t;
         stands = laws.read t stored;
@@ -50,9 +54,9 @@ module _ (laws : BuildingLaws) (o : Options) where
       }
 
   module _ (olds news : Sources) (ls : Named) (cs : List Counts) (all : AllRead o.exact olds news ls cs)
-      (distinct : AreDistinct (names_of ls)) (few : length (written_for o ls).arcs < 2 ^ 63) where
+      (distinct : AreDistinct (names_of ls)) (texts : AllByRecursion (λ n. IsUtf8 n) (names_of ls)) (few : length (written_for o ls).arcs < 2 ^ 63) where
     builds : Builds o olds news ls cs (text_for o ls)
-    builds = record { read = all; topology = says ls (all_taken o.exact olds news ls cs all) distinct few }
+    builds = record { read = all; topology = says ls (all_taken o.exact olds news ls cs all) distinct texts few }
 
     module _ (sink_old sink_new : Drained) where
       pub cut_short : (e : BuildFault) → Sends sink_old sink_new (text_for o ls) (Err e) → IsLateFault o olds news sink_old sink_new e
@@ -101,6 +105,10 @@ no_memory o olds news sink ls cs all = (refl, untroubled_all o.exact olds news l
 
 pub distinct : (exact : Bool) (olds news : Sources) (ls : Named) (cs : List Counts) → AllRead exact olds news ls cs → name_fault (map (λ s. s.0) olds) ≡ None → AreDistinct (names_of ls)
 distinct exact olds news ls cs all e = rw (names_read exact olds news ls cs all) (distinct_names (map (λ s. s.0) olds) e)
+
+pub names_texts : (exact : Bool) (olds news : Sources) (ls : Named) (cs : List Counts) → AllRead exact olds news ls cs → AllByRecursion (λ n. IsUtf8 n) (map (λ s. s.0) olds)
+    → AllByRecursion (λ n. IsUtf8 n) (names_of ls)
+names_texts exact olds news ls cs all h = rw (names_read exact olds news ls cs all) h
 
 -- what the engine makes of layers that were read may be made of them
 pub may_be_made : (o : Options) (olds news : Sources) (ls : Named) (cs : List Counts) → AllRead o.exact olds news ls cs

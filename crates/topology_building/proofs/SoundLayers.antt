@@ -4,14 +4,17 @@ use Rattle.std.proofs.lemmas.Bool.Decides.{nat_tests}
 use Rattle.std.specs.List.{AllByRecursion}
 use Rattle.json_value.specs.Depth.{depth}
 use Rattle.json_value.specs.Numbers.{HasNumbers}
+use Rattle.json_value.specs.WellFormed.{HasTexts}
 use Rattle.json_value.proofs.Nesting.{reads_no_deeper}
 use Rattle.json_value.proofs.SpelledNumbers.{reads_numbers}
+use Rattle.json_value.proofs.SpelledTexts.{reads_well_formed}
 use Rattle.byte_ends.specs.Ends.{Fed}
 use Rattle.geojson_types.specs.declared.counts.Counts.{Counts}
 use Rattle.geojson_types.specs.declared.layer.Layer.{Layer}
 use Rattle.geojson_types.specs.Features.{Featured, Shape, is_proper_option}
 use Rattle.geojson_types.specs.Nesting.{feature_nesting}
 use Rattle.geojson_types.specs.Numbers.{FeatureHasNumbers}
+use Rattle.geojson_types.specs.Texts.{FeatureHasTexts}
 use Rattle.geojson_types.specs.Places.{option_points, features_points}
 use Rattle.geometry.specs.Points.{Point, IsInput, IsPosition}
 use Rattle.geometry.specs.Pruning.{option_strokes}
@@ -53,18 +56,19 @@ rings_of : (s : Option Shape) → IfThere shape.IsSound s → AllByRecursion IsR
 rings_of None h = tt
 rings_of (Some s) h = h.closed
 
--- sound, no deeper than a layer may be, and its numbers are numbers
+-- sound, no deeper than a layer may be, its numbers are numbers, and its texts UTF-8
 pub record IsTaken (f : Featured) : Type 0 where
   pub sound : IsSound f
   pub inputs : AllByRecursion IsInput (option_points f.shape)
   pub nests : feature_nesting f ≤ layer_depth
   pub numbers : FeatureHasNumbers f
+  pub texts : FeatureHasTexts f
 
-taken : (n : ℕ) (N : Type 0) → n ≤ layer_depth → N → (fs : List Featured) → AllByRecursion (IsSoundFeature n N) fs → AllByRecursion IsTaken fs
-taken n N le k [] h = tt
-taken n N le k (f ∷ fs) h = (
-  record { sound = record { proper = proper_of f.shape h.0.shape; rings = rings_of f.shape h.0.shape; places = places_of f.shape h.0.shape }; inputs = inputs_of f.shape h.0.shape; nests = omega (arith, le, h.0.nests); numbers = h.0.numbers k },
-  taken n N le k fs h.1,
+taken : (n : ℕ) (N T : Type 0) → n ≤ layer_depth → N → T → (fs : List Featured) → AllByRecursion (IsSoundFeature n N T) fs → AllByRecursion IsTaken fs
+taken n N T le k l [] h = tt
+taken n N T le k l (f ∷ fs) h = (
+  record { sound = record { proper = proper_of f.shape h.0.shape; rings = rings_of f.shape h.0.shape; places = places_of f.shape h.0.shape }; inputs = inputs_of f.shape h.0.shape; nests = omega (arith, le, h.0.nests); numbers = h.0.numbers k; texts = h.0.texts l },
+  taken n N T le k l fs h.1,
 )
 
 -- ---- layers
@@ -72,7 +76,8 @@ taken n N le k (f ∷ fs) h = (
 layer_taken : (exact : Bool) (old new : List ℕ × Fed) (l : List ℕ × Layer) (c : Counts) → IsLayerRead exact old new l c → AllByRecursion IsTaken l.1.features
 layer_taken exact old new l c is =
     let v = is.spells.value in
-    taken (depth v) (HasNumbers v) (reads_no_deeper layer_depth is.bytes v is.spells.spelled) (reads_numbers layer_depth is.bytes v is.spells.spelled) l.1.features
+    taken (depth v) (HasNumbers v) (HasTexts v) (reads_no_deeper layer_depth is.bytes v is.spells.spelled) (reads_numbers layer_depth is.bytes v is.spells.spelled)
+    (reads_well_formed layer_depth is.bytes v is.spells.utf8 is.spells.spelled).texts l.1.features
     (layer_sound exact v l.1.features c is.spells.stands)
 
 abbrev pub AllTaken : Named → Type 0
@@ -109,6 +114,9 @@ layers_sound ls h = each_of IsSound (λ f k. k.sound) ls h
 
 pub layers_number : (ls : Named) → AllTaken ls → EachFeature FeatureHasNumbers ls
 layers_number ls h = each_of FeatureHasNumbers (λ f k. k.numbers) ls h
+
+pub layers_texts : (ls : Named) → AllTaken ls → EachFeature FeatureHasTexts ls
+layers_texts ls h = each_of FeatureHasTexts (λ f k. k.texts) ls h
 
 pub layers_nest : (ls : Named) → AllTaken ls → EachFeature (λ f. feature_nesting f ≤ layer_depth) ls
 layers_nest ls h = each_of (λ f. feature_nesting f ≤ layer_depth) (λ f k. k.nests) ls h

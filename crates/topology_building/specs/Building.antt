@@ -1,5 +1,5 @@
 -- What `build` answers, reads and writes.
-use Rattle.std.specs.Prelude.{◌≡◌, ℕ, ◌<◌, List, length, map, Some, Result, Ok, Err}
+use Rattle.std.specs.Prelude.{◌≡◌, ℕ, ◌<◌, List, length, map, Some, Result, Ok, Err, IsUtf8}
 use Rattle.std.specs.List.{AllByRecursion}
 use Rattle.byte_ends.specs.Ends.{Drained, Takes, saturated}
 use Rattle.json_value.specs.declared.json.Json.{Json}
@@ -20,6 +20,7 @@ use Rattle.linework.specs.Linework.{linework}
 use Rattle.layer_topology.specs.Laws.{WrittenLaws}
 use Rattle.layer_topology.specs.Written.{snapped_to, written as written_on}
 use Rattle.topojson_meaning.specs.Laws.{ReadsBack, TextIsRead}
+use Rattle.topojson_meaning.specs.Texts.{TextIsUtf8}
 use Rattle.topojson_meaning.specs.Topologies.{topology}
 use Rattle.inputs.specs.declared.fault.BuildFault.{BuildFault}
 use Rattle.inputs.specs.declared.fault.BuildFault.TheVariants.{Write, Memory}
@@ -49,13 +50,15 @@ pub record BuildingLaws : Type 0 where
   pub written : WrittenLaws
   pub read : ReadsBack
   pub spelled : TextIsRead
+  pub utf8 : TextIsUtf8
 
 -- ---- what is written
 
--- The text is JSON (RFC 8259) of a topology (TopoJSON 1.0) whose objects have the names of the layers, in order. Decoding each gives
+-- The text is UTF-8, and JSON (RFC 8259) of a topology (TopoJSON 1.0) whose objects have the names of the layers, in order. Decoding each gives
 -- the features that are expected of its layer, snapped to the grid that is asked for, at the threshold. The topology is the one that
 -- is written of the layers, the text is its text, and before reduction each segment of the layers' lines lies once, in exactly one arc.
 pub record SaysTopology (o : Options) (layers : Named) (text : List ℕ) : Type 0 where
+  pub utf8 : IsUtf8 text
   pub value : Json
   pub spelled : Reads 255 text value
   pub contents : Contents

@@ -1,5 +1,6 @@
 // Building a topology.
-ghost use Rattle.std.specs.Prelude.{◌≡◌, ◌⊎◌, None, Some, IfOk, IfErr, map};
+ghost use Rattle.std.specs.List.{AllByRecursion};
+ghost use Rattle.std.specs.Prelude.{◌≡◌, ◌⊎◌, None, Some, IfOk, IfErr, IsUtf8, map};
 ghost use Rattle.json_value.specs.Text.{json_text};
 ghost use Rattle.topojson_types.specs.Values.{topology_value};
 ghost use Rattle.topology_building.specs.Building as spec;
@@ -17,7 +18,7 @@ use layer_sources::{check_names, read_layers};
 use layer_topology::{topology_of_layers, written_laws};
 use reports::{Report, report_of};
 use std::alloc::Global;
-use topojson_meaning::{reads_back, topology_text_is_read};
+use topojson_meaning::{reads_back, topology_text_is_read, topology_text_is_utf8};
 use topojson_types::Topology;
 use topojson_writer::write_topology;
 
@@ -37,6 +38,7 @@ fn building_laws()
     written_laws();
     reads_back();
     topology_text_is_read();
+    topology_text_is_utf8();
 }
 
 /// Builds the topology of named layers, whose names are taken, and writes it.
@@ -48,6 +50,7 @@ fn build_layers<Q: Reducer, R: Feed, W: Drain>(
     sink: &mut Sink<W>,
 ) -> Result<Report, BuildFault>
     requires names { name_fault (map (λ s. s.0) sources.old) ≡ None }
+    requires texts { AllByRecursion IsUtf8 (map (λ s. s.0) sources.old) }
     ensures built { IfOk result (λ report. IsBuilt options.now sources.old sources.new sink.old sink.new report) }
     ensures refused { IfErr result (λ e. IsLateFault options.now sources.old sources.new sink.old sink.new e) }
 {
@@ -81,7 +84,7 @@ pub fn build<Q: Reducer, R: Feed, W: Drain>(
     // The first fault of the names is answered, and nothing is read or written.
     ensures early { (e : BuildFault) → name_fault (map (λ s. s.0) sources.old) ≡ Some e
         → (result ≡ Err e) × (sources.new ≡ sources.old) × (sink.new ≡ sink.old) }
-    // The text that was written is JSON of a topology whose objects bear the layers' names in order. Decoding each gives the features
+    // The text that was written is UTF-8, and JSON of a topology whose objects bear the layers' names in order. Decoding each gives the features
     // that are expected of its layer, snapped to the grid that is asked for: identifiers and properties unchanged, each line cut at
     // the junctions of all lines, each piece reduced at the threshold in the line's own direction and joined again, rings from their
     // starts, without what is dropped. The report tells just what is dropped, and before reduction each segment of the lines lies

@@ -1,23 +1,35 @@
-use Rattle.std.proofs.Common.{sym, ◌∙◌, ap, ◌==◌, length}
+use Rattle.std.proofs.Common.{sym, subst, ◌∙◌, ap, ◌==◌, length}
+use Rattle.std.proofs.lemmas.List.{take_all}
+use Rattle.std.specs.List.{AllByRecursion}
+use Rattle.std.specs.Prelude.{IsUtf8}
+use Rattle.json_value.proofs.FormedOf.{all_more}
+use Rattle.list_laws.proofs.Elements.{all_map}
 use Rattle.layer_sources.proofs.NamesFound as names
 use Rattle.layer_sources.proofs.names.check_names.Goals as goal
 
-pub returns-then-is_empty : goal.returns-then-is_empty
-returns-then-is_empty g c =
-    names.empty_name (λ s. s.0) c.args.sources.now c.layers.layer _ c.layers.invariant _ c.layers-test.true c.index-sources-layer.is
+pub returns-then-is_empty-clause-fault : goal.returns-then-is_empty-clause-fault
+returns-then-is_empty-clause-fault g c =
+    names.empty_name (λ s. s.0) c.args.sources.now c.layers.layer _ c.layers.invariant.0 _ c.layers-test.true c.index-sources-layer.is
     (sym (ap (λ z. length z == 0) c.as_str-name.ensures.text) ∙ sym c.is_empty.ensures ∙ c.if-is_empty.true)
 
-pub returns-then-is_among : goal.returns-then-is_among
-returns-then-is_among g c =
-    names.doubled_name (λ s. s.0) c.args.sources.now c.layers.layer _ c.layers.invariant _ c.layers-test.true c.index-sources-layer.is
+pub returns-then-is_among-clause-fault : goal.returns-then-is_among-clause-fault
+returns-then-is_among-clause-fault g c =
+    names.doubled_name (λ s. s.0) c.args.sources.now c.layers.layer _ c.layers.invariant.0 _ c.layers-test.true c.index-sources-layer.is
     (sym (ap (λ z. length z == 0) c.as_str-name.ensures.text) ∙ sym c.is_empty.ensures ∙ c.if-is_empty.false)
     (rw c.as_str-name.ensures.text at (sym c.is_among.ensures ∙ c.if-is_among.true))
 
 pub layers-preserved : goal.layers-preserved
-layers-preserved g c =
-    names.goes_on (λ s. s.0) c.args.sources.now c.layers.layer _ c.layers.invariant _ c.layers-test.true c.index-sources-layer.is
-    (sym (ap (λ z. length z == 0) c.as_str-name.ensures.text) ∙ sym c.is_empty.ensures ∙ c.if-is_empty.false)
-    (rw c.as_str-name.ensures.text at (sym c.is_among.ensures ∙ c.if-is_among.false))
+layers-preserved g c = (
+  names.goes_on (λ s. s.0) c.args.sources.now c.layers.layer _ c.layers.invariant.0 _ c.layers-test.true c.index-sources-layer.is
+      (sym (ap (λ z. length z == 0) c.as_str-name.ensures.text) ∙ sym c.is_empty.ensures ∙ c.if-is_empty.false)
+      (rw c.as_str-name.ensures.text at (sym c.is_among.ensures ∙ c.if-is_among.false)),
+  all_more (λ s. IsUtf8 s.0) c.args.sources.now c.layers.layer _ c.layers-test.true c.index-sources-layer.is c.layers.invariant.1 c.as_str-name.ensures.utf8,
+)
 
-pub returns : goal.returns
-returns g c = names.no_more (λ s. s.0) c.args.sources.now c.layers.layer _ c.layers.invariant c.layers-test.false
+pub returns-clause-fault : goal.returns-clause-fault
+returns-clause-fault g c = names.no_more (λ s. s.0) c.args.sources.now c.layers.layer _ c.layers.invariant.0 c.layers-test.false
+
+pub returns-clause-texts : goal.returns-clause-texts
+returns-clause-texts g c =
+    all_map (λ n. IsUtf8 n) (λ s. s.0) c.args.sources.now
+    (subst (AllByRecursion (λ s. IsUtf8 s.0)) (take_all c.layers.layer c.args.sources.now c.layers-test.false) c.layers.invariant.1)

@@ -11,4 +11,5 @@ returns c =
       once = k.once on c.each_segment_once.ensures;
       nests = k.nests c.snapped_keep.ensures c.gridded_keeps.ensures;
       numbers = k.numbers c.snapped_keep.ensures c.gridded_keeps.ensures;
+      texts = k.texts on c.snapped_keep.ensures c.gridded_keeps.ensures;
     }

@@ -7,7 +7,7 @@ use Rattle.topology_building.proofs.building.build.Goals as goal
 pub returns-in_err-check_names-clause-early : goal.returns-in_err-check_names-clause-early
 returns-in_err-check_names-clause-early g c e early =
     let p = err_from_is_err_and c.from_residual.result c.from_residual.ensures.1 in
-    let same = p.2 ∙ early_names (map (λ s. s.0) c.args.sources.now) c.in_err-check_names.field-0.0 e c.in_err-check_names.ensures early in
+    let same = p.2 ∙ early_names (map (λ s. s.0) c.args.sources.now) c.in_err-check_names.field-0.0 e c.in_err-check_names.ensures.fault early in
     (p.1 ∙ ap (λ z. Err z) same, refl, refl)
 
 pub returns-clause-decided : goal.returns-clause-decided

@@ -35,7 +35,7 @@ returns-in_err-send-clause-refused g c =
     let few : length (written_for o ls).arcs < 2 ^ 63 = subst (λ z. length z.arcs < 2 ^ 63) c.in_ok-topology.ensures.topology c.in_ok-topology.ensures.few in
     rw (p.1, p.2)
     (built.cut_short c.building_laws.ensures o c.args.sources.now c.read_layers.new.sources ls r.0 r.1
-    (built.distinct o.exact c.args.sources.now c.read_layers.new.sources ls r.0 r.1 c.requires.names) few c.args.sink.now c.send.new.sink _
+    (built.distinct o.exact c.args.sources.now c.read_layers.new.sources ls r.0 r.1 c.requires.names) (built.names_texts o.exact c.args.sources.now c.read_layers.new.sources ls r.0 r.1 c.requires.texts) few c.args.sink.now c.send.new.sink _
     (subst (λ z. Sends c.args.sink.now c.send.new.sink (json_text (topology_value z)) (Err c.in_err-send.field-0.0)) c.in_ok-topology.ensures.topology c.in_err-send.ensures))
 
 pub returns-clause-built : goal.returns-clause-built
@@ -46,7 +46,7 @@ returns-clause-built g c =
     let e = c.in_ok-topology.ensures.topology in
     let few : length (written_for o ls).arcs < 2 ^ 63 = subst (λ z. length z.arcs < 2 ^ 63) e c.in_ok-topology.ensures.few in
     built.is_built c.building_laws.ensures o c.args.sources.now c.read_layers.new.sources ls r.0 r.1
-    (built.distinct o.exact c.args.sources.now c.read_layers.new.sources ls r.0 r.1 c.requires.names) few c.args.sink.now c.send.new.sink c.report_of-report.result
+    (built.distinct o.exact c.args.sources.now c.read_layers.new.sources ls r.0 r.1 c.requires.names) (built.names_texts o.exact c.args.sources.now c.read_layers.new.sources ls r.0 r.1 c.requires.texts) few c.args.sink.now c.send.new.sink c.report_of-report.result
     (rw e at c.in_ok-send.ensures)
     (c.report_of-report.ensures ∙ ap (λ arcs. report_with c.in_ok-layers.counts c.in_ok-topology.dropped.items arcs c.in_ok-topology.removed) (c.arcs.ensures.arcs ∙ ap (λ z. z.arcs) e)
     ∙ ap (λ ds. report_with c.in_ok-layers.counts ds (written_for o ls).arcs c.in_ok-topology.removed) c.in_ok-topology.ensures.dropped

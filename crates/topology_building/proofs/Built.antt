@@ -17,6 +17,7 @@ use Rattle.inputs.specs.declared.fault.BuildFault.{BuildFault}
 use Rattle.inputs.specs.declared.fault.BuildFault.TheVariants.{EmptyName, DuplicateName, Read, Json, Geo, Write, Memory}
 use Rattle.reports.specs.declared.report.Report.{Report}
 use Rattle.topology_building.specs.Building.{written_for, BuildingLaws, SaysTopology, Builds, IsBuilt, IsLateFault, Sends, report_of}
+use Rattle.topology_building.specs.Laws.{LayerLaws}
 use Rattle.topology_building.specs.declared.options.Options.{Options}
 use Rattle.inputs.specs.Sent.{build_fault_of}
 use Rattle.layer_sources.specs.Names.{name_fault, IsRefusedFor}
@@ -56,7 +57,7 @@ module _ (laws : BuildingLaws) (o : Options) where
   module _ (olds news : Sources) (ls : Named) (cs : List Counts) (all : AllRead o.exact olds news ls cs)
       (distinct : AreDistinct (names_of ls)) (texts : AllByRecursion (λ n. IsUtf8 n) (names_of ls)) (few : length (written_for o ls).arcs < 2 ^ 63) where
     builds : Builds o olds news ls cs (text_for o ls)
-    builds = record { read = all; topology = says ls (all_taken o.exact olds news ls cs all) distinct texts few }
+    builds = record { read = all; topology = says ls (all_taken laws.layers o.exact olds news ls cs all) distinct texts few }
 
     module _ (sink_old sink_new : Drained) where
       pub cut_short : (e : BuildFault) → Sends sink_old sink_new (text_for o ls) (Err e) → IsLateFault o olds news sink_old sink_new e
@@ -111,9 +112,9 @@ pub names_texts : (exact : Bool) (olds news : Sources) (ls : Named) (cs : List C
 names_texts exact olds news ls cs all h = rw (names_read exact olds news ls cs all) h
 
 -- what the engine makes of layers that were read may be made of them
-pub may_be_made : (o : Options) (olds news : Sources) (ls : Named) (cs : List Counts) → AllRead o.exact olds news ls cs
+pub may_be_made : LayerLaws → (o : Options) (olds news : Sources) (ls : Named) (cs : List Counts) → AllRead o.exact olds news ls cs
     → name_fault (map (λ s. s.0) olds) ≡ None → AreTaken o.grid ls
-may_be_made o olds news ls cs all e = are_taken o ls (all_taken o.exact olds news ls cs all) (distinct o.exact olds news ls cs all e)
+may_be_made laws o olds news ls cs all e = are_taken o ls (all_taken laws o.exact olds news ls cs all) (distinct o.exact olds news ls cs all e)
 
 -- the fault of the names is the first of all
 pub early_names : (names : List (List ℕ)) (found e : BuildFault) → IsRefusedFor (name_fault names) (Err found) → name_fault names ≡ Some e → found ≡ e

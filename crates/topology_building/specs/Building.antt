@@ -24,6 +24,7 @@ use Rattle.topojson_meaning.specs.Texts.{TextIsUtf8}
 use Rattle.topojson_meaning.specs.Topologies.{topology}
 use Rattle.inputs.specs.declared.fault.BuildFault.{BuildFault}
 use Rattle.inputs.specs.declared.fault.BuildFault.TheVariants.{Write, Memory}
+use Rattle.topology_building.specs.Laws.{LayerLaws}
 use Rattle.topology_building.specs.declared.options.Options.{Options}
 use Rattle.reports.specs.declared.report.Report.{Report}
 use Rattle.reports.specs.Summaries.{report_with}
@@ -51,6 +52,7 @@ pub record BuildingLaws : Type 0 where
   pub read : ReadsBack
   pub spelled : TextIsRead
   pub utf8 : TextIsUtf8
+  pub layers : LayerLaws
 
 -- ---- what is written
 

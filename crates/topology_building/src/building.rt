@@ -9,6 +9,7 @@ ghost use Rattle.layer_sources.specs.Names.{name_fault};
 ghost use Rattle.layer_sources.specs.Outcomes.{ComesTo, HaveBytesFor, Outcome, Texts};
 ghost use Rattle.topology_building.specs.Outcomes.{Follows};
 
+use crate::laws::layer_laws;
 use crate::options::Options;
 use byte_ends::{Drain, Feed, Sink, Source};
 use effective_area::Reducer;
@@ -39,6 +40,7 @@ fn building_laws()
     reads_back();
     topology_text_is_read();
     topology_text_is_utf8();
+    layer_laws();
 }
 
 /// Builds the topology of named layers, whose names are taken, and writes it.

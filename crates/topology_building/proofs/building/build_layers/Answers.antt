@@ -18,7 +18,7 @@ returns-in_err-layers-clause-refused g c =
 pub topology_of_layers-requires : goal.topology_of_layers-requires
 topology_of_layers-requires g c =
     let r = c.in_ok-layers.ensures in
-    built.may_be_made c.args.options.now c.args.sources.now c.read_layers.new.sources c.in_ok-layers.layers.items r.0 r.1 c.requires.names
+    built.may_be_made c.building_laws.ensures.layers c.args.options.now c.args.sources.now c.read_layers.new.sources c.in_ok-layers.layers.items r.0 r.1 c.requires.names
 
 pub returns-in_err-topology-clause-refused : goal.returns-in_err-topology-clause-refused
 returns-in_err-topology-clause-refused g c =

@@ -37,7 +37,7 @@ module _ (fits : List ℕ → Bool) where
       let r = string_takes fits rest x g in
       (r.1.0, r.1.1, after_word_takes (34 ∷ []) bs rest f ∙ ap (λ z. 34 ∷ z) (r.2 ∙ rw (r.1.2, append_assoc) refl)))
 
-  member_takes : (d : ℕ) (value : Parse Json) → IsSound (Spells d) value → IsSound (SpellsMember d) (member_at fits value)
+  pub member_takes : (d : ℕ) (value : Parse Json) → IsSound (Spells d) value → IsSound (SpellsMember d) (member_at fits value)
   unfolding member_at
   member_takes d value sound bs x e =
       option_and_then_some _ _ _ e (λ name f g. option_and_then_some _ _ _ g (λ rest k m. option_and_then_some _ _ _ m (λ v p q.

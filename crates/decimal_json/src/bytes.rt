@@ -6,7 +6,8 @@ ghost use Rattle.decimal_json.specs.Reading as spec;
 
 use crate::fault::{Fault, stopped};
 
-/// What follows white space.
+/// What follows white space (RFC 8259, section 2).
+#[inline(always)]
 #[tactic(auto, unfolding(crate::specs::Reading::skip))]
 pub fn skip(bytes: &[u8]) -> &[u8]
     ensures { result.now ≡ spec.skip bytes.now }

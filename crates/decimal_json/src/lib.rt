@@ -10,8 +10,10 @@ mod parser;
 mod strings;
 mod values;
 
-pub use fault::{JsonFault, Why};
+pub use bytes::{after_word, skip};
+pub use fault::{Fault, JsonFault, Why};
 pub use parser::{LAYER_DEPTH, TOPOLOGY_DEPTH, one_value, parse};
+pub use values::{member_at, value_at};
 
 // The crates below, which a crate above reaches through this one.
 pub use byte_ends::{

@@ -158,9 +158,9 @@ fn members_at<'a>(
     Err(stopped(rest))
 }
 
-/// A name, a colon and a value.
+/// The member at the front of the bytes (a name, a colon and a value), and the bytes after it.
 #[cycle(reader)]
-fn member_at<'a>(
+pub fn member_at<'a>(
     alloc: Global,
     deepest: u32,
     bytes: &'a [u8],

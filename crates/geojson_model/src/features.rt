@@ -14,8 +14,8 @@ use json_members::{need_text, take};
 use json_value::{Items, Json, OwnText};
 use std::alloc::Global;
 
-/// The identifier that the member `id` gives. Absent and null are none.
-fn identifier(value: Option<Json>) -> Result<Option<Id>, GeoFaultKind>
+/// The identifier that the member `id` of a feature gives (RFC 7946, section 3.2). Absent and null are none. The fault is `WrongKind`.
+pub fn identifier(value: Option<Json>) -> Result<Option<Id>, GeoFaultKind>
     ensures { Finds (λ id. id) result (spec.identifier value) }
 {
     match value {
@@ -27,8 +27,8 @@ fn identifier(value: Option<Json>) -> Result<Option<Id>, GeoFaultKind>
     }
 }
 
-/// The members of the object that a member is. Absent and null have none.
-fn members_if(value: Option<Json>) -> Result<Option<Items<(OwnText, Json)>>, GeoFaultKind>
+/// The members of the object that a member of a feature is. Absent and null have none. The fault is `WrongKind`.
+pub fn members_if(value: Option<Json>) -> Result<Option<Items<(OwnText, Json)>>, GeoFaultKind>
     ensures { Finds (λ ms. ms) result (spec.members_if value) }
 {
     match value {

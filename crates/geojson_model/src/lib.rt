@@ -15,6 +15,7 @@ mod reading;
 mod types;
 
 pub use fault::{GeoFault, GeoFaultKind};
+pub use features::{identifier, members_if};
 pub use geojson_types::{
     Address, Cause, Counts, Dropped, Feature, FeatureSet, Geometry, INPUT_LIMIT, Id, Layer,
     POSITION_LIMIT, Position, Ring, Shape, is_closed,
@@ -24,4 +25,5 @@ pub use laws::{
     exact_is_stricter, inputs_alone, nothing_deeper, numbers_stay, rings_close, shapes_are_proper,
     texts_stay,
 };
-pub use reading::read_layer;
+pub use reading::{read_layer, read_shape};
+pub use types::CoordinatesType;

@@ -1,7 +1,8 @@
 // Reading a layer.
 ghost use Rattle.std.specs.Prelude.{◌≡◌, ◌≢◌, Ok, Err, IfOk, IfErr, codes};
 ghost use Rattle.std.specs.List.{All};
-ghost use Rattle.geojson_model.specs.Answers.{Tells};
+ghost use Rattle.geojson_model.specs.Answers.{Gives, Tells};
+ghost use Rattle.geojson_model.specs.Geometries.{shape};
 ghost use Rattle.geojson_model.specs.Layers as spec;
 ghost use Rattle.geojson_model.specs.declared.fault.GeoFaultKind.TheVariants.{Memory};
 ghost use Rattle.geojson_types.specs.Places.{features_points};
@@ -9,9 +10,9 @@ ghost use Rattle.geometry.specs.Points.{IsInput};
 
 use crate::fault::{GeoFault, GeoFaultKind};
 use crate::features::{feature, feature_element, members_of};
-use crate::geometries::typed_geometry;
+use crate::geometries::{geometry, typed_geometry};
 use crate::types::{GeoJsonType, GeometryType, geojson_type};
-use geojson_types::{Counts, Feature, Layer};
+use geojson_types::{Counts, Feature, Layer, Shape};
 use json_members::{need_text, take_needed};
 use json_value::{Items, Json, OwnText};
 use std::alloc::Global;
@@ -123,4 +124,21 @@ pub fn read_layer(alloc: Global, value: Json, exact: bool) -> Result<(Layer, Cou
         features: Items::of(features),
     };
     Ok((layer, counts))
+}
+
+/// The geometry that a JSON value stands for, with the counts gone on: what `read_layer` does with the member `geometry` of a
+/// feature that is an object. It is `None` where nothing is left of it.
+#[tactic(auto, using(crate::proofs::Unrolled::shape_object, crate::proofs::Unrolled::shape_other))]
+pub fn read_shape(
+    alloc: Global,
+    value: &Json,
+    exact: bool,
+    counts: &mut Counts,
+) -> Result<Option<Shape>, GeoFaultKind>
+    ensures { Gives (λ x. x) result counts.new (shape exact value.now counts.old) }
+{
+    match value.as_object() {
+        None => Err(GeoFaultKind::WrongKind),
+        Some(members) => geometry(alloc, members, exact, counts),
+    }
 }

@@ -4,7 +4,7 @@ ghost use Rattle.geojson_model.specs.Types as spec;
 
 /// The geometry types that have `coordinates` (RFC 7946, section 3.1).
 #[derive(Clone, Copy, Debug)]
-pub(crate) enum CoordinatesType {
+pub enum CoordinatesType {
     Point,
     MultiPoint,
     LineString,

@@ -1,0 +1,17 @@
+//! Positions, lines, rings, polygons and geometries (RFC 7946, section 3.1) read straight from bytes: no value is made of them. It stands
+//! on `unit_scanning` for numbers, on `decimal_json`, whose `Reading` says what stands at the front of bytes, and on `geojson_model`, which
+//! says what a value is read as. The contract of each call joins the two by `specs/Fronts.antt`: at the front stands a value that is
+//! read as the answer. Where bytes are not written as most programs write them, the answer is `Halt`.
+#![tactic(auto)]
+
+mod arrays;
+mod geometries;
+mod lines;
+mod members;
+mod positions;
+
+pub use arrays::{Element, array_at, elements, elements_behind, opened};
+pub use geometries::geometry_at;
+pub use lines::{line_at, polygon_at, ring_at};
+pub use members::named_value;
+pub use positions::position_at;

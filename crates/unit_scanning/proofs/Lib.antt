@@ -1,0 +1,2 @@
+pub mod NumberParts
+pub mod Rounded

@@ -1,0 +1,158 @@
+-- A number that is read in parts is one, and scales to the units.
+use Rattle.std.proofs.Common.{◌≡◌, ℕ, ◌+◌, ◌-◌, ◌*◌, ◌^◌, ◌<◌, ◌≤◌, Bool, true, false, not, cond, eqb, List, [], ◌∷◌, ◌++◌, length, Some, Ok, refl, sym, ap, ◌∙◌, subst, append_assoc, length-append, ◌≢◌, arith}
+use Rattle.std.proofs.lemmas.Bool.{eqb-true}
+use Rattle.std.proofs.lemmas.List.{append-nil}
+use Rattle.std.specs.Str.{is_utf8}
+use Rattle.json_value.specs.declared.json.Json.{Json}
+use Rattle.json_value.specs.declared.json.Json.TheVariants as j
+use Rattle.json_value.specs.Kinds.{number_of as number_in_value}
+use Rattle.json_value.proofs.KindsOf.{number_of_is}
+use Rattle.decimal_text.specs.Digits.{digits_value_after, digits_value}
+use Rattle.decimal_text.specs.Grammar.{is_digit, AllDigits, IsMinus, no_minus, one_minus, IsWhole, whole_zero, whole_digits, IsFraction, no_fraction, fraction, no_exponent, IsNumber, number_of}
+use Rattle.decimal_text.specs.Parts.{Parts, sign_text, fraction_text, SpellsNumber, spells_no_exponent}
+use Rattle.decimal_text.specs.Rounding.{signed, rounded_of}
+use Rattle.decimal_text.specs.Scaling.{scaled_of, numerator, denominator}
+use Rattle.decimal_text.proofs.DigitsValue.{digits_value_after-append}
+use Rattle.decimal_text.proofs.ReadsParts.{parts-read}
+use Rattle.decimal_text.proofs.ScaledNumber.{scaled_of-read}
+use Rattle.decimal_json.specs.Reading.{Parse, ◌>>=◌, value_at, value_with, number_at, after_digits}
+use Rattle.decimal_json.proofs.Ending.{Ends}
+use Rattle.decimal_json.proofs.NumbersFound.{is_lead, with_number}
+use Rattle.decimal_json.proofs.Opened.{value_at_is}
+use Rattle.decimal_json.proofs.Steps.{differs}
+use Rattle.unit_scanning.specs.Numbers.{digits_front, IsFractionOf, IsUnits, ends, leads, starts_digit, whole_front}
+
+not_true : (b : Bool) → not b ≡ true → b ≡ false
+not_true true h = cc
+not_true false h = refl
+
+all_by : (b : ℕ) (bs : List ℕ) (t : Bool) → is_digit b ≡ t → AllDigits bs → AllDigits (cond t (b ∷ bs) [])
+all_by b bs true e h = (e, h)
+all_by b bs false e h = tt
+
+pub front_all : (bs : List ℕ) → AllDigits (digits_front bs)
+unfolding digits_front
+front_all [] = tt
+front_all (b ∷ bs) = all_by b (digits_front bs) (is_digit b) refl (front_all bs)
+
+split_by : (b : ℕ) (bs : List ℕ) (t : Bool) → is_digit b ≡ t → bs ≡ digits_front bs ++ after_digits bs → b ∷ bs ≡ digits_front (b ∷ bs) ++ after_digits (b ∷ bs)
+unfolding digits_front after_digits
+split_by b bs true e h = rw e (ap (λ xs. b ∷ xs) h)
+split_by b bs false e h = rw e refl
+
+pub front_split : (bs : List ℕ) → bs ≡ digits_front bs ++ after_digits bs
+unfolding digits_front after_digits
+front_split [] = refl
+front_split (b ∷ bs) = split_by b bs (is_digit b) refl (front_split bs)
+
+front_none : (bs : List ℕ) → starts_digit bs ≡ false → digits_front bs ≡ []
+unfolding digits_front
+front_none [] h = refl
+front_none (b ∷ bs) h = rw h refl
+
+whole_by : (b : ℕ) (bs : List ℕ) (t : Bool) → eqb b 48 ≡ t → cond t (not (starts_digit bs)) (is_digit b) ≡ true → IsWhole (digits_front (b ∷ bs))
+unfolding digits_front
+whole_by b bs true e h =
+    let none : starts_digit bs ≡ false = not_true (starts_digit bs) h in
+    let is : b ≡ 48 = eqb-true b 48 e in
+    rw (is, front_none bs none) whole_zero
+whole_by b bs false e h = rw h (whole_digits b (digits_front bs) h e (front_all bs))
+
+pub whole_is : (bs : List ℕ) → whole_front bs ≡ true → IsWhole (digits_front bs)
+whole_is [] h = cc
+whole_is (b ∷ bs) h = whole_by b bs (eqb b 48) refl h
+
+minus_is : (negative : Bool) → IsMinus (sign_text negative)
+minus_is true = one_minus
+minus_is false = no_minus
+
+some_text : (f : List ℕ) → 0 < length f → fraction_text f ≡ 46 ∷ f
+some_text [] h = absurd (omega arith)
+some_text (d ∷ ds) h = refl
+
+fraction_is : (f : List ℕ) → AllDigits f → IsFraction (fraction_text f)
+fraction_is [] h = no_fraction
+fraction_is (b ∷ bs) h = fraction b bs h.0 h.1
+
+-- the parts of a number with no exponent
+abbrev plain : Bool → List ℕ → List ℕ → Parts
+plain negative w f = record { negative = negative; whole = w; fraction = f; exponent_negative = false; exponent = [] }
+
+abbrev text_of : Bool → List ℕ → List ℕ → List ℕ
+text_of negative w f = sign_text negative ++ (w ++ (fraction_text f ++ []))
+
+text_spells : (negative : Bool) (w f : List ℕ) → IsWhole w → AllDigits f → SpellsNumber (text_of negative w f) (plain negative w f)
+text_spells negative w f hw hf = record { exponent_text = []; text = refl; whole = hw; fraction = hf; exponent = spells_no_exponent }
+
+scales : (negative : Bool) (w f : List ℕ) (v u : ℕ) (exact : Bool) → v ≡ digits_value_after (digits_value w) f → rounded_of negative (v * 10 ^ 7) (10 ^ length f) (10 ^ 15) ≡ Ok (record { value = signed negative u; exact = exact })
+    → IsWhole w → AllDigits f → scaled_of 7 (10 ^ 15) (text_of negative w f) ≡ Ok (record { value = signed negative u; exact = exact })
+scales negative w f v u exact hv hr hw hf =
+    let n : Parts = plain negative w f in
+    let digits : digits_value (w ++ f) ≡ v = digits_value_after-append 0 w f ∙ sym hv in
+    let den : denominator n ≡ 10 ^ length f = ap (λ m. 10 ^ m) (let e : length f + 0 ≡ length f = omega arith in e) in
+    let num : numerator n 7 ≡ v * 10 ^ 7 = ap (λ m. m * 10 ^ 7) digits in
+    scaled_of-read 7 (10 ^ 15) (text_of negative w f) n (parts-read (text_of negative w f) n (text_spells negative w f hw hf))
+    ∙ rw (num, den) hr
+
+number_is : (negative : Bool) (w f : List ℕ) → IsWhole w → AllDigits f → IsNumber (text_of negative w f)
+number_is negative w f hw hf = number_of (sign_text negative) w (fraction_text f) [] (minus_is negative) hw (fraction_is f hf) no_exponent
+
+pub ends_are : (rest : List ℕ) → ends rest ≡ true → Ends rest
+ends_are [] h = tt
+ends_are (b ∷ bs) h = h
+
+joined : (s w f rest : List ℕ) → s ++ (w ++ (f ++ rest)) ≡ (s ++ (w ++ (f ++ []))) ++ rest
+joined s w f rest = simp (append-nil, append_assoc)
+
+found : (bytes t rest : List ℕ) (fits : List ℕ → Bool) (d : ℕ) → bytes ≡ t ++ rest → IsNumber t → Ends rest → value_at fits d bytes ≡ Some (j.Number t, rest)
+found bytes t rest fits d h n e =
+    let v = value_at_is fits d in
+    ap (value_at fits d) h ∙ ap (λ (g : Parse Json). g (t ++ rest)) v.2 ∙ with_number fits v.0 v.1 n rest e
+
+-- a point, and digits
+pub fraction_found : (start value : ℕ) (bytes digits rest : List ℕ) → bytes ≡ 46 ∷ digits → value ≡ digits_value_after start (digits_front digits) → rest ≡ after_digits digits
+    → length digits - length rest ≢ 0 → IsFractionOf bytes start value (length digits - length rest) rest
+fraction_found start value bytes digits rest hb hv hr some =
+    let f : List ℕ = digits_front digits in
+    let split : digits ≡ f ++ rest = front_split digits ∙ ap (λ x. f ++ x) (sym hr) in
+    let l = ap length split in
+    let places : length digits - length rest ≡ length f = omega (arith, l, length-append f rest) in
+    record {
+      digits = f;
+      all = front_all digits;
+      text = hb ∙ ap (λ x. 46 ∷ x) split ∙ ap (λ x. x ++ rest) (sym (some_text f (omega arith)));
+      value_is = hv;
+      places_are = places;
+    }
+
+pub rest_shorter : (digits rest : List ℕ) → rest ≡ after_digits digits → length rest ≤ length digits
+rest_shorter digits rest h =
+    let l = ap length (front_split digits ∙ ap (λ x. digits_front digits ++ x) (sym h)) in
+    omega (arith, l, length-append (digits_front digits) rest)
+
+pub units_are : (bytes front behind rest : List ℕ) (negative : Bool) (whole value places u : ℕ) (exact : Bool)
+    → bytes ≡ sign_text negative ++ front → whole_front front ≡ true → whole ≡ digits_value_after 0 (digits_front front) → behind ≡ after_digits front
+    → IsFractionOf behind whole value places rest → ends rest ≡ true → rounded_of negative (value * 10 ^ 7) (10 ^ places) (10 ^ 15) ≡ Ok (record { value = signed negative u; exact = exact })
+    → IsUnits bytes (signed negative u) exact rest
+units_are bytes front behind rest negative whole value places u exact hs hw hv hb f he hr =
+    let w : List ℕ = digits_front front in
+    let whole_part : IsWhole w = whole_is front hw in
+    let t : List ℕ = text_of negative w f.digits in
+    let split : bytes ≡ t ++ rest = hs ∙ ap (λ x. sign_text negative ++ x) (front_split front ∙ ap (λ x. w ++ x) (sym hb ∙ f.text)) ∙ joined (sign_text negative) w (fraction_text f.digits) rest in
+    record {
+      text = t;
+      front = λ fits d. found bytes t rest fits d split (number_is negative w f.digits whole_part f.all) (ends_are rest he);
+      scaled = scales negative w f.digits value u exact (f.value_is ∙ ap (λ n. digits_value_after n f.digits) hv) (subst (λ n. rounded_of negative (value * 10 ^ 7) (10 ^ n) (10 ^ 15) ≡ Ok (record { value = signed negative u; exact = exact })) f.places_are hr) whole_part f.all;
+    }
+
+-- ---- a number by its text
+
+lead_value : (fits : List ℕ → Bool) (d b : ℕ) (bs : List ℕ) → is_lead b ≡ true → value_at fits d (b ∷ bs) ≡ (number_at (b ∷ bs) >>= λ t. Some (j.Number t.0, t.1))
+unfolding value_with
+lead_value fits d b bs h = rw ((value_at_is fits d).2, differs is_lead b 110 refl h, differs is_lead b 116 refl h, differs is_lead b 102 refl h, differs is_lead b 34 refl h, differs is_lead b 91 refl h, differs is_lead b 123 refl h) refl
+
+-- a number is one at any depth
+pub number_anywhere : (bytes : List ℕ) (v : Json) (t rest : List ℕ) → leads bytes ≡ true → value_at is_utf8 0 bytes ≡ Some (v, rest) → number_in_value v ≡ Some t → (fits : List ℕ → Bool) (d : ℕ) → value_at fits d bytes ≡ Some (j.Number t, rest)
+number_anywhere [] v t rest h found is fits d = absurd cc
+number_anywhere (b ∷ bs) v t rest h found is fits d =
+    lead_value fits d b bs h ∙ sym (lead_value is_utf8 0 b bs h) ∙ found ∙ ap (λ x. Some (x, rest)) (number_of_is v t is)

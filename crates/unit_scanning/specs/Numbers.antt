@@ -1,0 +1,49 @@
+-- Digits at the front of bytes, and numbers in whole units of 10^-7.
+use Rattle.std.specs.Prelude.{◌≡◌, ℕ, ◌^◌, ◌||◌, ◌==◌, Bool, true, false, not, List, [], ◌∷◌, ◌++◌, length, Some, Ok, if◌then◌else◌, ℤ}
+use Rattle.json_value.specs.declared.json.Json.TheVariants as j
+use Rattle.json_value.specs.Grammar.{is_space}
+use Rattle.decimal_text.specs.Digits.{digits_value_after}
+use Rattle.decimal_text.specs.Grammar.{is_digit, AllDigits}
+use Rattle.decimal_text.specs.Parts.{fraction_text}
+use Rattle.decimal_text.specs.Scaling.{scaled_of}
+use Rattle.decimal_json.specs.Reading.{value_at}
+
+-- the digits at the front
+unfoldable pub digits_front : List ℕ → List ℕ
+digits_front [] = []
+digits_front (b ∷ bs) = if is_digit b then b ∷ digits_front bs else []
+
+-- a digit is first
+abbrev pub starts_digit : List ℕ → Bool
+starts_digit [] = false
+starts_digit (b ∷ bs) = is_digit b
+
+-- the digits at the front are a whole part: one or more, and no zero (48) before another
+abbrev pub whole_front : List ℕ → Bool
+whole_front [] = false
+whole_front (b ∷ bs) = if b == 48 then not (starts_digit bs) else is_digit b
+
+-- a minus sign (45) or a digit is first
+abbrev pub leads : List ℕ → Bool
+leads [] = false
+leads (b ∷ bs) = b == 45 || is_digit b
+
+-- a fraction, or none, stands before the rest, and its digits write the value after those of start
+pub record IsFractionOf (bytes : List ℕ) (start value places : ℕ) (rest : List ℕ) : Type 0 where
+  pub digits : List ℕ
+  pub all : AllDigits digits
+  pub text : bytes ≡ fraction_text digits ++ rest
+  pub value_is : value ≡ digits_value_after start digits
+  pub places_are : places ≡ length digits
+
+-- nothing follows, or a byte that may stand behind a value: white space, a comma (44) or a bracket that closes (93, 125)
+abbrev pub ends : List ℕ → Bool
+ends [] = true
+ends (b ∷ bs) = is_space b || (b == 44 || (b == 93 || b == 125))
+
+-- The bytes begin with a number that comes to so many units, rounded where it isn't exact, and the rest follows it.
+-- It is the value at the front at any depth.
+pub record IsUnits (bytes : List ℕ) (units : ℤ) (exact : Bool) (rest : List ℕ) : Type 0 where
+  pub text : List ℕ
+  pub front : (fits : List ℕ → Bool) (d : ℕ) → value_at fits d bytes ≡ Some (j.Number text, rest)
+  pub scaled : scaled_of 7 (10 ^ 15) text ≡ Ok (record { value = units; exact = exact })

@@ -1,0 +1,114 @@
+// Digits at the front of bytes.
+ghost use Rattle.std.specs.Prelude.{◌≡◌, ◌*◌, ◌^◌, ◌<◌, ◌≤◌, IfSome};
+ghost use Rattle.decimal_json.specs.Reading.{after_digits};
+ghost use Rattle.decimal_text.specs.Digits.{digits_value_after};
+ghost use Rattle.decimal_text.specs.Grammar as grammar;
+ghost use Rattle.unit_scanning.specs.Numbers.{digits_front, IsFractionOf, starts_digit, whole_front};
+
+use crate::bytes::after_byte;
+
+/// A number that may have one more digit.
+const ROOM: u64 = 100_000_000_000_000_000;
+
+/// How many decimals are read this way.
+const MOST_PLACES: usize = 17;
+
+/// A number that may have one more zero behind it.
+const ROOM_FOR_ZERO: u64 = 100_000_000_000_000;
+
+#[inline(always)]
+pub fn is_digit(byte: u8) -> bool
+    ensures { result ≡ grammar.is_digit byte }
+{
+    byte >= b'0' && byte <= b'9'
+}
+
+/// The number that the digits at the front write after those of `start`, and what follows them. None past 10^18.
+#[inline(always)]
+#[tactic(auto, unfolding(crate::specs::Numbers::digits_front, decimal_json::specs::Reading::after_digits))]
+pub fn digits_at(start: u64, bytes: &[u8]) -> Option<(u64, &[u8])>
+    requires { start < 10 ^ 18 }
+    ensures value { IfSome result (λ x. x.0 ≡ digits_value_after start (digits_front bytes.now)) }
+    ensures rest { IfSome result (λ x. x.1.now ≡ after_digits bytes.now) }
+    ensures small { IfSome result (λ x. x.0 < 10 ^ 18) }
+{
+    let mut value = start;
+    let mut rest = bytes;
+    while let [first, more @ ..] = rest {
+        if !is_digit(*first) {
+            break;
+        }
+        if value >= ROOM {
+            return None;
+        }
+        value = value * 10 + u64::from(*first - b'0');
+        rest = more;
+    }
+    Some((value, rest))
+}
+
+#[inline(always)]
+fn starts_with_digit(bytes: &[u8]) -> bool
+    ensures { result ≡ starts_digit bytes.now }
+{
+    match bytes {
+        [] => false,
+        [first, ..] => is_digit(*first),
+    }
+}
+
+/// The digits at the front are a whole part: one or more, and no zero before another.
+#[inline(always)]
+pub fn is_whole(bytes: &[u8]) -> bool
+    ensures { result ≡ whole_front bytes.now }
+{
+    match bytes {
+        [] => false,
+        [first, rest @ ..] => {
+            if *first == b'0' {
+                !starts_with_digit(rest)
+            } else {
+                is_digit(*first)
+            }
+        }
+    }
+}
+
+/// A fraction, if there is one: what it writes after `start`, how many digits it has, and what follows it.
+#[inline(always)]
+pub fn fraction_at(start: u64, bytes: &[u8]) -> Option<(u64, usize, &[u8])>
+    requires { start < 10 ^ 18 }
+    ensures fraction { IfSome result (λ x. IsFractionOf bytes.now start x.0 x.1 x.2.now) }
+    ensures places { IfSome result (λ x. x.1 ≤ 17) }
+    ensures small { IfSome result (λ x. x.0 < 10 ^ 18) }
+{
+    let Some(digits) = after_byte(b'.', bytes) else {
+        return Some((start, 0, bytes));
+    };
+    let (value, rest) = digits_at(start, digits)?;
+    let places = digits.len() - rest.len();
+    if places == 0 || places > MOST_PLACES {
+        return None;
+    }
+    Some((value, places, rest))
+}
+
+/// The number with so many zeros behind it. None past 10^15.
+#[inline(always)]
+pub fn with_zeros(start: u64, zeros: usize) -> Option<u64>
+    requires { start < 10 ^ 18 }
+    ensures value { IfSome result (λ v. v ≡ start * 10 ^ zeros) }
+    ensures small { IfSome result (λ v. v ≤ 10 ^ 15) }
+{
+    let mut value = start;
+    for _done in 0..zeros {
+        if value > ROOM_FOR_ZERO {
+            return None;
+        }
+        value *= 10;
+    }
+    if value > 10 * ROOM_FOR_ZERO {
+        return None;
+    }
+    Some(value)
+}

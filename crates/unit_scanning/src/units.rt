@@ -1,0 +1,101 @@
+// Numbers in whole units of `10^-7`.
+ghost use Rattle.std.specs.Prelude.{◌≡◌, ◌++◌, ◌*◌, ◌^◌, ◌<◌, ◌≤◌, Bool, Ok, IfSome, unsigned_abs};
+ghost use Rattle.decimal_text.specs.Parts.{sign_text};
+ghost use Rattle.decimal_text.specs.Rounding.{signed, rounded_of};
+ghost use Rattle.unit_scanning.specs.Numbers.{IsUnits, ends};
+
+use crate::digits::{digits_at, fraction_at, is_whole, with_zeros};
+
+/// A number in whole units of `10^-7`.
+#[derive(Clone, Copy, Debug, PartialEq, Eq)]
+pub struct Units {
+    pub value: i64,
+    /// Nothing was rounded.
+    pub exact: bool,
+}
+
+/// What is behind a minus sign, if there is one.
+#[inline(always)]
+fn sign_at(bytes: &[u8]) -> (bool, &[u8])
+    ensures { bytes.now ≡ sign_text result.0 ++ result.1.now }
+{
+    match bytes {
+        [b'-', rest @ ..] => (true, rest),
+        _ => (false, bytes),
+    }
+}
+
+/// Nothing follows a value, or a byte that may: white space, a comma or a closing bracket.
+#[inline(always)]
+fn is_end(rest: &[u8]) -> bool
+    ensures { result ≡ ends rest.now }
+{
+    match rest {
+        [] => true,
+        [first, ..] => {
+            *first == b' '
+                || *first == b'\t'
+                || *first == b'\n'
+                || *first == b'\r'
+                || (*first == b',' || (*first == b']' || *first == b'}'))
+        }
+    }
+}
+
+/// The number with a sign.
+#[inline(always)]
+fn with_sign(negative: bool, size: u64) -> i64
+    requires { size ≤ 10 ^ 15 }
+    ensures value { result ≡ signed negative size }
+    ensures within { unsigned_abs result ≤ 10 ^ 15 }
+{
+    if negative {
+        -(size as i64)
+    } else {
+        size as i64
+    }
+}
+
+/// So many decimals, rounded to the seven that are kept, halves up, and whether nothing was rounded. None past 10^15.
+#[inline(always)]
+fn rounded(value: u64, places: usize) -> Option<(u64, bool)>
+    requires value { value < 10 ^ 18 }
+    requires places { places ≤ 17 }
+    ensures value { IfSome result (λ x. (negative : Bool) → rounded_of negative (value * 10 ^ 7) (10 ^ places) (10 ^ 15) ≡ Ok (record { value = signed negative x.0; exact = x.1 })) }
+    ensures small { IfSome result (λ x. x.0 ≤ 10 ^ 15) }
+{
+    if places <= 7 {
+        let size = with_zeros(value, 7 - places)?;
+        return Some((size, true));
+    }
+    let step = with_zeros(1, places - 7)?;
+    let size = (2 * value + step) / (2 * step);
+    if size > 1_000_000_000_000_000 {
+        return None;
+    }
+    Some((size, value % step == 0))
+}
+
+/// The number at the front in whole units, and what follows it. None where it has an exponent, and where it isn't read this
+/// way for its size.
+#[inline(always)]
+pub fn units_at(bytes: &[u8]) -> Option<(Units, &[u8])>
+    ensures units { IfSome result (λ x. IsUnits bytes.now x.0.value x.0.exact x.1.now) }
+    ensures within { IfSome result (λ x. unsigned_abs x.0.value ≤ 10 ^ 15) }
+{
+    let (negative, front) = sign_at(bytes);
+    if !is_whole(front) {
+        return None;
+    }
+    let (whole, behind) = digits_at(0, front)?;
+    let (value, places, rest) = fraction_at(whole, behind)?;
+    if !is_end(rest) {
+        return None;
+    }
+    let (size, exact) = rounded(value, places)?;
+    let units = Units {
+        value: with_sign(negative, size),
+        exact,
+    };
+    Some((units, rest))
+}

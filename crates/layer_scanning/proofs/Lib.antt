@@ -1,0 +1,5 @@
+pub mod MembersSoFar
+pub mod Named
+pub mod FeatureMembers
+pub mod FeatureMeans
+pub mod CollectionMeans

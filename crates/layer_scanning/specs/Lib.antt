@@ -1,0 +1,3 @@
+pub mod MemberLists
+pub mod FeatureParts
+pub mod CollectionParts

@@ -1,0 +1,143 @@
+// Collections of features.
+ghost use Rattle.std.specs.Prelude.{◌≡◌, Some, IfOk, IfSome, IsUtf8};
+ghost use Rattle.decimal_json.specs.Reading as reading;
+ghost use Rattle.json_value.specs.Grammar.{mark};
+ghost use Rattle.geometry_scanning.specs.Fronts.{MemberFront};
+ghost use Rattle.layer_scanning.specs.CollectionParts.{Contains, FeaturesStand, SpellsLayer};
+
+use crate::features::{feature_at, features_behind};
+use crate::objects::{Object, members_at};
+use decimal_json::{after_word, member_at, skip};
+use geojson_types::{Counts, Feature, Layer};
+use geometry_scanning::{named_value, opened};
+use json_value::Items;
+use simdutf8::compat;
+use std::alloc::Global;
+use unit_scanning::{Halt, after_byte};
+
+/// How deep the arrays and objects of a collection's member may nest.
+const MEMBER_DEPTH: u32 = 126;
+
+/// The features of the array at the front, and what follows it.
+fn features_at<'a>(
+    alloc: Global,
+    bytes: &'a [u8],
+    exact: bool,
+    counts: &mut Counts,
+) -> Result<(Items<Feature>, &'a [u8]), Halt>
+    ensures { IfOk result (λ x. FeaturesStand exact bytes.now x.0 x.1.now counts.old counts.new) }
+{
+    let inside = opened(b'[', bytes)?;
+    if let Some(rest) = after_byte(b']', skip(inside)) {
+        return Ok((Items::of(Vec::new(alloc)), rest));
+    }
+    let (first, behind) = feature_at(alloc, skip(inside), exact, counts)?;
+    let read = vec![in alloc; first]?;
+    let (features, rest) = features_behind(alloc, read, behind, exact, counts)?;
+    Ok((Items::of(features), rest))
+}
+
+/// What was read of a collection's members: whether its type was, and its features.
+#[derive(Drop)]
+pub struct Collection {
+    typed: bool,
+    features: Option<Items<Feature>>,
+}
+
+impl Object for Collection {
+    ghost is_front = { MemberFront 126 };
+
+    ghost holds = { Contains };
+
+    fn member<'a>(
+        &mut self,
+        alloc: Global,
+        bytes: &'a [u8],
+        exact: bool,
+        counts: &mut Counts,
+    ) -> Result<&'a [u8], Halt> {
+        if let Some(front) = named_value(b"\"type\"", bytes) {
+            if self.typed {
+                return Err(Halt::Unread);
+            }
+            let Some(rest) = after_word(b"\"FeatureCollection\"", front) else {
+                return Err(Halt::Unread);
+            };
+            self.typed = true;
+            return Ok(rest);
+        }
+        if let Some(front) = named_value(b"\"features\"", bytes) {
+            if self.features.is_some() {
+                return Err(Halt::Unread);
+            }
+            let (features, rest) = features_at(alloc, front, exact, counts)?;
+            self.features = Some(features);
+            return Ok(rest);
+        }
+        let (name, _value, rest) = member_at(alloc, MEMBER_DEPTH, bytes)?;
+        let name = name.as_str();
+        if name == "type" {
+            return Err(Halt::Unread);
+        }
+        if name == "features" {
+            return Err(Halt::Unread);
+        }
+        Ok(rest)
+    }
+}
+
+/// The bytes behind a byte order mark, if there is one.
+fn text_of(bytes: &[u8]) -> &[u8]
+    ensures { result.now ≡ reading.without bytes.now (reading.after_word mark bytes.now) }
+{
+    match after_word(&[0xef, 0xbb, 0xbf], bytes) {
+        Some(rest) => rest,
+        None => bytes,
+    }
+}
+
+/// The layer of these features, if there are any.
+fn layer_with(features: Option<Items<Feature>>) -> Option<Layer>
+    ensures { IfSome result (λ layer. features ≡ Some layer.features) }
+{
+    match features {
+        None => None,
+        Some(features) => Some(Layer { features }),
+    }
+}
+
+/// The layer that the bytes spell, which are UTF-8, and what was counted in it.
+fn scan_text(alloc: Global, bytes: &[u8], exact: bool) -> Result<(Layer, Counts), Halt>
+    requires { IsUtf8 bytes.now }
+    ensures { IfOk result (λ r. SpellsLayer exact bytes.now r.0.features r.1) }
+{
+    let mut counts = Counts::none();
+    let inside = opened(b'{', skip(text_of(bytes)))?;
+    let none = Collection {
+        typed: false,
+        features: None,
+    };
+    let (collection, rest) = members_at::<Collection>(alloc, none, inside, exact, &mut counts)?;
+    let behind = skip(rest);
+    if !behind.is_empty() {
+        return Err(Halt::Unread);
+    }
+    if !collection.typed {
+        return Err(Halt::Unread);
+    }
+    let Some(layer) = layer_with(collection.features) else {
+        return Err(Halt::Unread);
+    };
+    Ok((layer, counts))
+}
+
+/// The layer that the bytes spell, where they spell a FeatureCollection (RFC 7946, section 3.3), and what was counted in it. `exact` refuses
+/// what would have to be rounded.
+pub fn scan_layer(alloc: Global, bytes: &[u8], exact: bool) -> Result<(Layer, Counts), Halt>
+    ensures { IfOk result (λ r. SpellsLayer exact bytes.now r.0.features r.1) }
+{
+    if compat::from_utf8(bytes).is_err() {
+        return Err(Halt::Unread);
+    }
+    scan_text(alloc, bytes, exact)
+}

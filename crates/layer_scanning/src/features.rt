@@ -1,0 +1,182 @@
+// Features.
+ghost use Rattle.std.specs.Prelude.{◌≡◌, ◌++◌, List, IfOk, None};
+ghost use Rattle.geojson_model.specs.Features.{feature_element};
+ghost use Rattle.geojson_types.specs.Features.{Featured};
+ghost use Rattle.geometry_scanning.specs.Fronts.{FrontAt, MemberFront, MoreStand, Stands, one};
+ghost use Rattle.layer_scanning.specs.FeatureParts.{Holds, geometry_member, given};
+
+use crate::objects::{Object, members_at};
+use decimal_json::{after_word, member_at, skip, value_at};
+use geojson_model::{identifier, members_if, read_shape};
+use geojson_types::{Counts, Feature, Shape};
+use geometry_scanning::{geometry_at, named_value, opened};
+use json_value::Json;
+use std::alloc::Global;
+use unit_scanning::{Halt, after_byte};
+
+/// How deep the arrays and objects of a feature's member may nest.
+const MEMBER_DEPTH: u32 = 124;
+
+/// The shape that the value of `geometry` at the front gives, and what follows it: where the geometry isn't written as most programs
+/// write it, it is read from the JSON value that stands there, which is let go behind it.
+fn shape_at<'a>(
+    alloc: Global,
+    bytes: &'a [u8],
+    exact: bool,
+    counts: &mut Counts,
+) -> Result<(Option<Shape>, &'a [u8]), Halt>
+    ensures { IfOk result (λ x. Stands (FrontAt 124) (geometry_member exact) bytes.now x.0 x.1.now counts.old counts.new) }
+{
+    if let Some(rest) = after_word(b"null", bytes) {
+        return Ok((None, rest));
+    }
+    let before = *counts;
+    match geometry_at(alloc, bytes, exact, counts) {
+        Ok(found) => return Ok(found),
+        Err(Halt::Memory) => return Err(Halt::Memory),
+        Err(Halt::Unread) => {}
+    }
+    *counts = before;
+    let (value, rest) = value_at(alloc, MEMBER_DEPTH, bytes)?;
+    match read_shape(alloc, &value, exact, counts) {
+        Ok(shape) => Ok((shape, rest)),
+        Err(_) => Err(Halt::Unread),
+    }
+}
+
+/// What was read of a feature's members: whether its type was, and the values of the others.
+#[derive(Drop)]
+pub struct Parts {
+    typed: bool,
+    id: Option<Json>,
+    properties: Option<Json>,
+    shape: Option<Option<Shape>>,
+}
+
+impl Object for Parts {
+    ghost is_front = { MemberFront 124 };
+
+    ghost holds = { Holds };
+
+    fn member<'a>(
+        &mut self,
+        alloc: Global,
+        bytes: &'a [u8],
+        exact: bool,
+        counts: &mut Counts,
+    ) -> Result<&'a [u8], Halt> {
+        if let Some(front) = named_value(b"\"geometry\"", bytes) {
+            if self.shape.is_some() {
+                return Err(Halt::Unread);
+            }
+            let (shape, rest) = shape_at(alloc, front, exact, counts)?;
+            self.shape = Some(shape);
+            return Ok(rest);
+        }
+        if let Some(front) = named_value(b"\"properties\"", bytes) {
+            if self.properties.is_some() {
+                return Err(Halt::Unread);
+            }
+            let (value, rest) = value_at(alloc, MEMBER_DEPTH, front)?;
+            self.properties = Some(value);
+            return Ok(rest);
+        }
+        if let Some(front) = named_value(b"\"type\"", bytes) {
+            if self.typed {
+                return Err(Halt::Unread);
+            }
+            let Some(rest) = after_word(b"\"Feature\"", front) else {
+                return Err(Halt::Unread);
+            };
+            self.typed = true;
+            return Ok(rest);
+        }
+        if let Some(front) = named_value(b"\"id\"", bytes) {
+            if self.id.is_some() {
+                return Err(Halt::Unread);
+            }
+            let (value, rest) = value_at(alloc, MEMBER_DEPTH, front)?;
+            self.id = Some(value);
+            return Ok(rest);
+        }
+        let (name, _value, rest) = member_at(alloc, MEMBER_DEPTH, bytes)?;
+        let name = name.as_str();
+        if name == "geometry" {
+            return Err(Halt::Unread);
+        }
+        if name == "properties" {
+            return Err(Halt::Unread);
+        }
+        if name == "type" {
+            return Err(Halt::Unread);
+        }
+        if name == "id" {
+            return Err(Halt::Unread);
+        }
+        Ok(rest)
+    }
+}
+
+/// The shape, if there is one.
+fn shape_of(shape: Option<Option<Shape>>) -> Option<Shape>
+    ensures { result ≡ given shape }
+{
+    match shape {
+        None => None,
+        Some(shape) => shape,
+    }
+}
+
+/// The Feature at the front (RFC 7946, section 3.2), and what follows it. Its members may stand in any order, with others among them.
+pub fn feature_at<'a>(
+    alloc: Global,
+    bytes: &'a [u8],
+    exact: bool,
+    counts: &mut Counts,
+) -> Result<(Feature, &'a [u8]), Halt>
+    ensures { IfOk result (λ x. Stands (FrontAt 125) (feature_element exact) bytes.now x.0 x.1.now counts.old counts.new) }
+{
+    let inside = opened(b'{', bytes)?;
+    let none = Parts {
+        typed: false,
+        id: None,
+        properties: None,
+        shape: None,
+    };
+    let (parts, rest) = members_at::<Parts>(alloc, none, inside, exact, counts)?;
+    if !parts.typed {
+        return Err(Halt::Unread);
+    }
+    let Ok(id) = identifier(parts.id) else {
+        return Err(Halt::Unread);
+    };
+    let Ok(properties) = members_if(parts.properties) else {
+        return Err(Halt::Unread);
+    };
+    Ok((Feature::of(id, properties, shape_of(parts.shape)), rest))
+}
+
+/// The features up to the bracket that closes, behind those that were read before, and what follows it.
+pub fn features_behind<'a>(
+    alloc: Global,
+    before: Vec<Feature>,
+    after: &'a [u8],
+    exact: bool,
+    counts: &mut Counts,
+) -> Result<(Vec<Feature>, &'a [u8]), Halt>
+    ensures { IfOk result (λ x. (xs : List Featured) × (x.0.items ≡ before.items ++ xs) × MoreStand (FrontAt 125) (one (feature_element exact)) after.now xs x.1.now counts.old counts.new) }
+{
+    let mut read = before;
+    let mut rest = after;
+    'features: for _ in 0..after.len() {
+        let mark = skip(rest);
+        if let Some(end) = after_byte(b']', mark) {
+            return Ok((read, end));
+        }
+        let next = opened(b',', mark)?;
+        let (feature, behind) = feature_at(alloc, skip(next), exact, counts)?;
+        read.push(feature)?;
+        rest = behind;
+    }
+    Err(Halt::Unread)
+}

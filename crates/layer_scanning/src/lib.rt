@@ -1,0 +1,13 @@
+//! Layers (RFC 7946) read straight from their bytes: no value is made but of identifiers, of properties and of geometries in a rare form. It
+//! stands on `geometry_scanning`, and on `geojson_model`, whose definition `layer` says what a value is read as. The layer above calls
+//! `scan_layer`, whose contract says that the bytes spell a value that stands for the layer. Where it answers `Halt::Unread`, the layer
+//! is to be read by `parse` and `read_layer`, which tell what is wrong, if anything is.
+#![tactic(auto)]
+
+mod collections;
+mod features;
+mod objects;
+
+pub use collections::scan_layer;
+pub use features::{feature_at, features_behind};
+pub use objects::{Object, members_at};

@@ -8,9 +8,12 @@ use decimal_json::{JsonFault, LAYER_DEPTH, parse};
 use geojson_model::{Counts, GeoFaultKind, Layer, read_layer};
 use inputs::BuildFault;
 use json_value::OwnText;
+use layer_scanning::scan_layer;
 use std::alloc::Global;
+use unit_scanning::Halt;
 
-/// The layer of this number that the bytes spell, and what was counted in it.
+/// The layer of this number that the bytes spell, and what was counted in it: read straight from the bytes where they are written as
+/// most programs write layers, and else from the JSON value that they spell, which tells what is wrong, if anything is.
 fn layer_of(
     alloc: Global,
     bytes: &[u8],
@@ -19,6 +22,11 @@ fn layer_of(
 ) -> Result<(Layer, Counts), BuildFault>
     ensures { IsLayerOf layer exact bytes.now result }
 {
+    match scan_layer(alloc, bytes, exact) {
+        Ok(read) => return Ok(read),
+        Err(Halt::Memory) => return Err(BuildFault::Memory),
+        Err(Halt::Unread) => {}
+    }
     let value = match parse(alloc, bytes, LAYER_DEPTH) {
         Ok(value) => value,
         Err(JsonFault::Memory) => return Err(BuildFault::Memory),

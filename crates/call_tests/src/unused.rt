@@ -1,8 +1,11 @@
-// The calls that may run out of memory and that no run of the program makes.
+// The calls that may run out of memory and that no run of the program makes, and the numbers that two of them answer.
+use area_thresholds::read_threshold;
 use byte_ends::{MemoryDrain, Sink};
 use decimal_json::{Items, NumText};
-use geojson_types::Layer;
+use effective_area::{HeapLinks, twice_area};
+use geojson_types::{Layer, Position};
 use linework::{Lines, OfLayers};
+use std::alloc::Global;
 use std::test::Fail;
 use topojson_types::{Cell, sums};
 
@@ -31,4 +34,33 @@ fn layers_without_names_have_lines(rt: HostRuntime) {
 fn differences_have_sums(rt: HostRuntime) {
     let differences = [Cell::at(0, 0), Cell::at(1, 3), Cell::at(2, -3)];
     assert!(rt; sums(rt.alloc(), &differences).is_ok());
+}
+
+/// Whether this is the threshold of an area.
+fn is_threshold(alloc: Global, area: &str, wanted: Option<u128>) -> bool {
+    match read_threshold(alloc, area) {
+        Ok(threshold) => threshold == wanted,
+        Err(_) => false,
+    }
+}
+
+// Twice the area in square units of 10^-7; no area is less than nothing, larger than 10^18 or finer than 10^-14.
+#[test]
+fn areas_have_thresholds(rt: HostRuntime) {
+    assert!(rt; is_threshold(rt.alloc(), "1.5", Some(300_000_000_000_000)));
+    assert!(rt; is_threshold(rt.alloc(), "-1", None));
+    assert!(rt; is_threshold(rt.alloc(), "1e19", None));
+    assert!(rt; is_threshold(rt.alloc(), "1e-15", None));
+}
+
+#[test]
+fn a_triangle_has_an_area(rt: HostRuntime) {
+    let mut steps = HeapLinks::new().steps();
+    let area = twice_area(
+        &mut steps,
+        Position::at(0, 0),
+        Position::at(1, 1),
+        Position::at(2, 0),
+    );
+    assert!(rt; area == 2 && steps.areas == 1);
 }

@@ -26,6 +26,9 @@ impl Files for System {
 /// The bytes that standard output holds back, so that small parts go out together.
 const OUT_BUFFER: usize = 65_536;
 
+/// The bytes that standard error holds back: a report tells each line that is dropped.
+const ERROR_BUFFER: usize = 8_192;
+
 /// The words behind the program's name.
 fn words(rt: &HostRuntime) -> io::Result<Vec<String>> {
     let words = env::args(rt)?.skip(1).collect(rt.alloc())?;
@@ -50,8 +53,11 @@ fn main(rt: HostRuntime) -> ExitCode {
     let Ok(stdout) = BufWriter::with_capacity(alloc, OUT_BUFFER, rt.stdout()) else {
         return ExitCode::from(3);
     };
+    let Ok(stderr) = BufWriter::with_capacity(alloc, ERROR_BUFFER, rt.stderr()) else {
+        return ExitCode::from(3);
+    };
     let mut out = Sink::new(ToWrite::new(stdout));
-    let mut err = Sink::new(ToWrite::new(rt.stderr()));
+    let mut err = Sink::new(ToWrite::new(stderr));
     let mut files = System { rt };
     ExitCode::from(command(alloc, words, &mut files, &mut out, &mut err))
 }

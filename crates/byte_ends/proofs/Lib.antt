@@ -1,3 +1,4 @@
+pub mod Flushed
 pub mod Parts
 pub mod Reading
 pub mod Writing

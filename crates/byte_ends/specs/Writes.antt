@@ -1,5 +1,5 @@
 -- What a writer of a text does to a sink.
-use Rattle.std.specs.Prelude.{◌≡◌, ℕ, ◌+◌, ◌<◌, List, length, Result, Ok, Err}
+use Rattle.std.specs.Prelude.{◌≡◌, ℕ, ◌+◌, ◌<◌, true, List, length, Result, Ok, Err}
 use Rattle.byte_ends.specs.Ends.{Drained, Takes, saturated}
 use Rattle.byte_ends.specs.declared.sink.WriteFault.{WriteFault}
 use Rattle.byte_ends.specs.declared.sink.WriteFault.TheVariants.{Write}
@@ -21,3 +21,8 @@ pub record WritesFront (old new : Drained) (count : ℕ) (text : List ℕ) (sent
 abbrev pub Writes : Drained → Drained → ℕ → List ℕ → Result ℕ WriteFault → Type 0
 Writes old new count text (Ok answer) = WritesAll old new count text answer
 Writes old new count text (Err (Write sent)) = WritesFront old new count text sent
+
+-- a writer that flushes behind this text did this to its sink: at `Ok` all of it is taken and passed on
+abbrev pub Sends : Drained → Drained → ℕ → List ℕ → Result ℕ WriteFault → Type 0
+Sends old new count text (Ok answer) = WritesAll old new count text answer × (new.flushed ≡ true)
+Sends old new count text (Err (Write sent)) = WritesFront old new count text sent

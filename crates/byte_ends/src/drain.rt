@@ -1,9 +1,10 @@
 // Where bytes go.
-ghost use Rattle.std.specs.Prelude.{◌≡◌, ◌<◌, ℕ, List, Option, None, IfOk, length};
+ghost use Rattle.std.specs.Prelude.{◌≡◌, ◌<◌, ℕ, Bool, List, Option, None, IfOk, false, length};
 ghost use Rattle.std.specs.Io.{WritesAtMost};
 ghost use Rattle.std.specs.Io.KnownBytes.{WriteAppends, Keeps};
-ghost use Rattle.byte_ends.specs.Ends.{CountsFailure};
+ghost use Rattle.byte_ends.specs.Ends.{CountsFailure, HoldsBack, MakesLate, PassesOn, not_called};
 
+use crate::calls::Calls;
 use crate::feed::Failed;
 use std::io::{ErrorKind, Write};
 use std::marker::Model;
@@ -16,22 +17,34 @@ pub trait Drain {
     // How many writes and flushes failed, up to `u64::MAX`.
     ghost failures: { Self → ℕ };
 
+    // Whether all that the device took is passed on: it was flushed, and took nothing since.
+    ghost flushed: { Self → Bool };
+
+    // Whether the device was called again once a call of it had failed.
+    ghost late: { Self → Bool };
+
     /// Takes the front of `buf` and answers how many bytes it is: at least one, unless `buf` is empty.
     /// A failed write takes nothing.
     fn write(&mut self, buf: &[u8]) -> Result<usize, Failed>
         ensures bound { WritesAtMost result buf.now }
         ensures some { IfOk result (λ n. 0 < length buf.now → 0 < n) }
         ensures bytes { WriteAppends (taken self.old) (taken self.new) result buf.now }
-        ensures failures { CountsFailure (failures self.old) result (failures self.new) };
+        ensures failures { CountsFailure (failures self.old) result (failures self.new) }
+        ensures flushed { HoldsBack (flushed self.old) result (flushed self.new) }
+        ensures late { MakesLate (late self.old) (failures self.old) (late self.new) };
 
     /// Passes on what the device holds back. What it took stays as it was.
     fn flush(&mut self) -> Result<(), Failed>
         ensures bytes { Keeps (taken self.old) (taken self.new) }
-        ensures failures { CountsFailure (failures self.old) result (failures self.new) };
+        ensures failures { CountsFailure (failures self.old) result (failures self.new) }
+        ensures flushed { PassesOn (flushed self.old) result (flushed self.new) }
+        ensures late { MakesLate (late self.old) (failures self.old) (late self.new) };
 
     /// How many writes and flushes failed: a count that stays at `u64::MAX` once it is there.
     fn failures(&self) -> u64
-        ensures { result ≡ failures self.now };
+        ensures failures { result ≡ failures self.now }
+        // A device of which no call failed wasn't called after a failure.
+        ensures in_time { failures self.now ≡ 0 → late self.now ≡ false };
 }
 
 /// A writer of std as a drain: an error of the writer is a failure, but for an interrupted call, which is tried again.
@@ -39,7 +52,7 @@ pub trait Drain {
 #[derive(Drop)]
 pub struct ToWrite<W: Write> {
     inner: W,
-    failures: u64,
+    calls: Calls,
 }
 
 impl<W: Write> Model for ToWrite<W> {
@@ -47,16 +60,19 @@ impl<W: Write> Model for ToWrite<W> {
 
     ghost Value = { Written };
 
-    ghost view = { λ s. record { taken = W.contents s.inner; failures = s.failures } };
+    ghost view = { λ s. record { taken = W.contents s.inner; calls = s.calls } };
 }
 
 impl<W: Write> ToWrite<W> {
-    /// A drain over this writer, with no failures.
+    /// A drain over this writer, with no calls yet: what the writer took before may be held back.
     pub fn new(inner: W) -> ToWrite<W>
         ensures taken { result.taken ≡ W.contents inner }
-        ensures failures { result.failures ≡ 0 }
+        ensures calls { result.calls ≡ not_called }
     {
-        ToWrite { inner, failures: 0 }
+        ToWrite {
+            inner,
+            calls: Calls::none(),
+        }
     }
 
     /// The writer, with all that it took.
@@ -70,26 +86,26 @@ impl<W: Write> ToWrite<W> {
 impl<W: Write> Drain for ToWrite<W> {
     ghost taken = { λ s. s.taken };
 
-    ghost failures = { λ s. s.failures };
+    ghost failures = { λ s. s.calls.failures };
+
+    ghost flushed = { λ s. s.calls.flushed };
+
+    ghost late = { λ s. s.calls.late };
 
     fn write(&mut self, buf: &[u8]) -> Result<usize, Failed> {
         let taken = write_uninterrupted(&mut self.inner, buf);
-        if taken.is_err() {
-            self.failures = self.failures.saturating_add(1);
-        }
+        self.calls.count_write(taken);
         taken
     }
 
     fn flush(&mut self) -> Result<(), Failed> {
         let flushed = flush_uninterrupted(&mut self.inner);
-        if flushed.is_err() {
-            self.failures = self.failures.saturating_add(1);
-        }
+        self.calls.count_flush(flushed);
         flushed
     }
 
     fn failures(&self) -> u64 {
-        self.failures
+        self.calls.failures()
     }
 }
 

@@ -2,8 +2,9 @@
 ghost use Rattle.std.specs.Prelude.{◌≡◌, ◌<◌, ℕ, List, [], Option, Some, IfOk, IsOk, length};
 ghost use Rattle.std.specs.Io.{WritesAtMost};
 ghost use Rattle.std.specs.Io.KnownBytes.{WriteAppends, Keeps};
-ghost use Rattle.byte_ends.specs.Ends.{CountsFailure};
+ghost use Rattle.byte_ends.specs.Ends.{CountsFailure, HoldsBack, MakesLate, PassesOn, not_called};
 
+use crate::calls::Calls;
 use crate::drain::Drain;
 use crate::feed::Failed;
 use std::alloc::Global;
@@ -14,7 +15,7 @@ use std::marker::Model;
 #[derive(Drop)]
 pub struct MemoryDrain {
     bytes: Vec<u8>,
-    failures: u64,
+    calls: Calls,
 }
 
 impl Model for MemoryDrain {
@@ -22,18 +23,18 @@ impl Model for MemoryDrain {
 
     ghost Value = { Held };
 
-    ghost view = { λ s. record { bytes = s.bytes.items; failures = s.failures } };
+    ghost view = { λ s. record { bytes = s.bytes.items; calls = s.calls } };
 }
 
 impl MemoryDrain {
     /// A drain that holds nothing. This allocates nothing.
     pub fn new(alloc: Global) -> MemoryDrain
         ensures bytes { result.bytes ≡ [] }
-        ensures failures { result.failures ≡ 0 }
+        ensures calls { result.calls ≡ not_called }
     {
         MemoryDrain {
             bytes: Vec::new(alloc),
-            failures: 0,
+            calls: Calls::none(),
         }
     }
 
@@ -55,36 +56,43 @@ impl MemoryDrain {
 impl Drain for MemoryDrain {
     ghost taken = { λ s. Some s.bytes };
 
-    ghost failures = { λ s. s.failures };
+    ghost failures = { λ s. s.calls.failures };
+
+    ghost flushed = { λ s. s.calls.flushed };
+
+    ghost late = { λ s. s.calls.late };
 
     /// Takes the whole slice, or nothing where an allocation is refused.
     fn write(&mut self, buf: &[u8]) -> Result<usize, Failed>
         ensures bound { WritesAtMost result buf.now }
         ensures some { IfOk result (λ n. 0 < length buf.now → 0 < n) }
         ensures bytes { WriteAppends (Some self.old.bytes) (Some self.new.bytes) result buf.now }
-        ensures failures { CountsFailure self.old.failures result self.new.failures }
+        ensures failures { CountsFailure self.old.calls.failures result self.new.calls.failures }
+        ensures flushed { HoldsBack self.old.calls.flushed result self.new.calls.flushed }
+        ensures late { MakesLate self.old.calls.late self.old.calls.failures self.new.calls.late }
         ensures whole { IfOk result (λ n. n ≡ length buf.now) }
     {
-        match self.bytes.extend_from_slice(buf) {
+        let taken = match self.bytes.extend_from_slice(buf) {
             Ok(()) => Ok(buf.len()),
-            Err(_) => {
-                self.failures = self.failures.saturating_add(1);
-                Err(Failed)
-            }
-        }
+            Err(_) => Err(Failed),
+        };
+        self.calls.count_write(taken);
+        taken
     }
 
-    /// Does nothing: there is nowhere to pass the bytes on to.
+    /// Always done: there is nowhere to pass the bytes on to.
     fn flush(&mut self) -> Result<(), Failed>
         ensures bytes { Keeps (Some self.old.bytes) (Some self.new.bytes) }
-        ensures failures { CountsFailure self.old.failures result self.new.failures }
+        ensures failures { CountsFailure self.old.calls.failures result self.new.calls.failures }
+        ensures flushed { PassesOn self.old.calls.flushed result self.new.calls.flushed }
+        ensures late { MakesLate self.old.calls.late self.old.calls.failures self.new.calls.late }
         ensures ok { IsOk result }
-        ensures same { self.new ≡ self.old }
     {
+        self.calls.count_flush(Ok(()));
         Ok(())
     }
 
     fn failures(&self) -> u64 {
-        self.failures
+        self.calls.failures()
     }
 }

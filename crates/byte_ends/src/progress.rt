@@ -1,9 +1,12 @@
 // Texts that are written part by part.
 ghost use Rattle.list_laws.specs.Commas.{comma_unless};
+ghost use Rattle.std.specs.Prelude.{ℕ, List};
 ghost use Rattle.byte_ends.specs.Continues.{Continues};
+ghost use Rattle.byte_ends.specs.Ends.{Drained};
+ghost use Rattle.byte_ends.specs.Writes.{Sends, Writes};
 
 use crate::drain::Drain;
-use crate::sink::{Sink, WriteFault};
+use crate::sink::{Broken, Sink, WriteFault};
 
 /// How far a text is written: the count of its bytes so far, or the fault that cut it short. Behind a fault no part is
 /// written, and the fault stays.
@@ -26,5 +29,18 @@ pub fn put_comma<W: Drain>(is_first: bool, so_far: Progress, sink: &mut Sink<W>)
     match so_far {
         Ok(count) => sink.put_comma(count, is_first),
         Err(fault) => Err(fault),
+    }
+}
+
+/// Flushes the sink behind a text that was written to it with this answer, unless that is a fault. Where the device fails in
+/// flushing, the fault counts the whole text as sent.
+pub fn flush_behind<W: Drain>(written: Progress, sink: &mut Sink<W>) -> Progress
+    // What was written stays written, and an `Ok` says that no call of the device failed and that all is passed on.
+    ensures { (start : Drained) (count : ℕ) (text : List ℕ) → Writes start sink.old count text written → Sends start sink.new count text result }
+{
+    let sent = written?;
+    match sink.finish() {
+        Ok(()) => Ok(sent),
+        Err(Broken) => Err(WriteFault::Write { sent }),
     }
 }

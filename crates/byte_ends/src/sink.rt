@@ -1,5 +1,5 @@
 // A sink for bytes.
-ghost use Rattle.std.specs.Prelude.{◌≡◌, ◌<◌, ◌≤◌, ℕ, OnOk, OnErr, length};
+ghost use Rattle.std.specs.Prelude.{◌≡◌, ◌<◌, ◌≤◌, ℕ, OnOk, OnErr, false, length, true};
 ghost use Rattle.std.specs.Io.KnownBytes.{Keeps};
 ghost use Rattle.list_laws.specs.Commas.{comma_unless};
 ghost use Rattle.byte_ends.specs.Ends.{Takes};
@@ -24,7 +24,7 @@ pub enum WriteFault {
 }
 
 /// Bytes to be written, to a device that had not failed when the sink was made. Once the device has failed the sink is
-/// broken: it answers faults alone, and the device gets no further call.
+/// broken: it answers faults alone, and the device gets no further call, which is an invariant of the type.
 #[derive(Drop)]
 pub struct Sink<W: Drain> {
     drain: W,
@@ -32,14 +32,15 @@ pub struct Sink<W: Drain> {
 }
 
 impl<W: Drain> Model for Sink<W> {
-    ghost use Rattle.std.specs.Prelude.{◌<◌, ◌^◌};
+    ghost use Rattle.std.specs.Prelude.{◌≡◌, ◌<◌, ◌^◌, false};
     ghost use Rattle.byte_ends.specs.Ends.{Drained};
 
     ghost Value = { Drained };
 
-    ghost view = { λ s. record { taken = W.taken s.drain; sent = s.sent; failures = W.failures s.drain } };
+    ghost view = { λ s. record { taken = W.taken s.drain; sent = s.sent; failures = W.failures s.drain; flushed = W.flushed s.drain } };
 
-    ghost invariant = { λ s. s.sent < 2 ^ 64 };
+    // The device was never called after a failure.
+    ghost invariant = { λ s. record { small : s.sent < 2 ^ 64; late : W.late s.drain ≡ false } };
 }
 
 impl<W: Drain> Sink<W> {
@@ -49,7 +50,10 @@ impl<W: Drain> Sink<W> {
         ensures taken { result.taken ≡ W.taken drain }
         ensures sent { result.sent ≡ 0 }
         ensures failures { result.failures ≡ 0 }
+        ensures flushed { result.flushed ≡ W.flushed drain }
     {
+        // None failed, so no call came behind a failure.
+        let _failures = drain.failures();
         Sink { drain, sent: 0 }
     }
 
@@ -57,6 +61,9 @@ impl<W: Drain> Sink<W> {
     pub fn into_inner(self) -> W
         ensures taken { W.taken result ≡ self.taken }
         ensures failures { W.failures result ≡ self.failures }
+        ensures flushed { W.flushed result ≡ self.flushed }
+        // It was never called after a failure.
+        ensures late { W.late result ≡ false }
     {
         self.drain
     }
@@ -80,6 +87,7 @@ impl<W: Drain> Sink<W> {
         ensures taken { Keeps self.old.taken self.new.taken }
         ensures sent { self.new.sent ≡ self.old.sent }
         ensures ok { OnOk result (self.new.failures ≡ 0) }
+        ensures flushed { OnOk result (self.new.flushed ≡ true) }
         ensures err { OnErr result (0 < self.new.failures) }
         ensures broken { 0 < self.old.failures → self.new ≡ self.old }
     {

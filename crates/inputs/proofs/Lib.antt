@@ -1,3 +1,2 @@
 pub mod BytesDecided
 pub mod BytesReached
-pub mod Flushed

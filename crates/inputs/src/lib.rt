@@ -1,12 +1,10 @@
 //! What an input is: a source that is read to its end, whose bytes spell a JSON text or don't, and the faults for which a layer or the
-//! file of a topology is refused; and how a text is sent. It stands on `decimal_json`, and on the faults of `geojson_model` and
+//! file of a topology is refused. It stands on `decimal_json`, and on the faults of `geojson_model` and
 //! `topojson_meaning`. The crates that read layers and files answer these faults; their contracts cite `specs/Texts.antt`.
 #![tactic(auto)]
 
 mod fault;
 mod file_fault;
-mod sending;
 
 pub use fault::BuildFault;
 pub use file_fault::FileFault;
-pub use sending::flush_behind;

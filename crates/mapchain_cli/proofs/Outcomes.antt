@@ -1,8 +1,8 @@
 -- What the engine's contract says of standard output.
-use Rattle.std.proofs.Common.{◌≡◌, ◌⊎◌, inl, inr, ℕ, Bool, List, length, Option, Some, Err, refl}
+use Rattle.std.proofs.Common.{◌≡◌, ◌⊎◌, inl, inr, ℕ, Bool, true, List, length, Option, Some, Ok, Err, refl}
 use Rattle.std.proofs.lemmas.Bool.{true≢false}
 use Rattle.byte_ends.specs.Ends.{Drained, Takes}
-use Rattle.byte_ends.specs.Writes.{Writes, WritesAll}
+use Rattle.byte_ends.specs.Writes.{Sends}
 use Rattle.byte_ends.specs.declared.sink.WriteFault.{WriteFault}
 use Rattle.byte_ends.specs.declared.sink.WriteFault.TheVariants as write
 use Rattle.inputs.specs.declared.file_fault.FileFault.TheVariants as file
@@ -34,8 +34,8 @@ refused_keeps early o olds news old new e keeps (inr h) k = late_keeps o olds ne
 -- ---- the text of a summary is sent
 
 module _ (old new : Drained) (text : List ℕ) where
-  pub summary_sent : (sent : ℕ) → WritesAll old new 0 text sent → Takes old new text (length text) × (new.failures ≡ 0)
-  summary_sent sent w = (w.took, w.sound)
+  pub summary_sent : (sent : ℕ) → Sends old new 0 text (Ok sent) → Takes old new text (length text) × (new.failures ≡ 0) × (new.flushed ≡ true)
+  summary_sent sent w = (w.0.took, w.0.sound, w.1)
 
-  pub summary_cut : (e : WriteFault) → Writes old new 0 text (Err e) → (sent : ℕ) × (file_fault_of e ≡ file.Write sent)
+  pub summary_cut : (e : WriteFault) → Sends old new 0 text (Err e) → (sent : ℕ) × (file_fault_of e ≡ file.Write sent)
   summary_cut (write.Write sent) w = (sent, refl)

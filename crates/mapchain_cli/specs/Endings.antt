@@ -37,7 +37,7 @@ pub record DecodesOf (name : List ℕ) (old new : Drained) : Type 0 where
 
 -- all of the text of this summary was taken and flushed
 abbrev pub SendsSummary : Drained → Drained → Summary → Type 0
-SendsSummary old new summary = Takes old new (summary_text summary) (length (summary_text summary)) × (new.failures ≡ 0)
+SendsSummary old new summary = Takes old new (summary_text summary) (length (summary_text summary)) × (new.failures ≡ 0) × (new.flushed ≡ true)
 
 -- the summary was written of the topology that a source's bytes spell
 pub record Summarises (old new : Drained) : Type 0 where

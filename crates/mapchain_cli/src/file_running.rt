@@ -5,9 +5,9 @@ ghost use Rattle.inputs.specs.declared.file_fault.FileFault.TheVariants as file;
 
 use crate::ending::Ending;
 use crate::files::Files;
-use byte_ends::{Drain, ReadFault, Sink, Source};
+use byte_ends::{Drain, ReadFault, Sink, Source, flush_behind};
 use effective_area::HeapLinks;
-use inputs::{FileFault, flush_behind};
+use inputs::FileFault;
 use reports::{Report, Summary, summary_text};
 use std::alloc::Global;
 use topology_files::{stat, to_geo};

@@ -1,5 +1,5 @@
 // Running the program.
-ghost use Rattle.std.specs.Prelude.{◌≡◌, ◌⊎◌, ◌≤◌, IfErr, IfOk, map};
+ghost use Rattle.std.specs.Prelude.{◌≡◌, ◌⊎◌, ◌≤◌, IfErr, IfOk, map, true};
 ghost use Rattle.command_words.specs.Requests.{IsGridInRange};
 ghost use Rattle.mapchain_cli.specs.Asking.{IsAnswered};
 ghost use Rattle.mapchain_cli.specs.Endings.{BuildsOf, KeepsUnlessWriting};
@@ -68,6 +68,7 @@ fn answer<F: Files, V: Drain>(
     requires { IsGridInRange request }
     ensures answered { IfOk result (λ report. IsAnswered request.entry out.old out.new report) }
     ensures done { IfOk result (λ _. out.new.failures ≡ 0) }
+    ensures flushed { IfOk result (λ _. out.new.flushed ≡ true) }
     ensures refused { IfErr result (λ ending. KeepsUnlessWriting ending out.old out.new) }
 {
     match request {
@@ -105,6 +106,7 @@ fn run<F: Files, V: Drain>(
     out: &mut Sink<V>,
 ) -> Result<Option<Report>, Ending>
     ensures done { IfOk result (λ _. out.new.failures ≡ 0) }
+    ensures flushed { IfOk result (λ _. out.new.flushed ≡ true) }
     ensures refused { IfErr result (λ ending. KeepsUnlessWriting ending out.old out.new) }
 {
     let request = read_words(alloc, words)?;
@@ -123,8 +125,9 @@ pub fn command<F: Files, V: Drain, W: Drain>(
     err: &mut Sink<W>,
 ) -> u8
     ensures status { result ≤ 3 }
-    // At status 0 standard output took all that was written to it.
+    // At status 0 standard output took all that was written to it, and passed it on.
     ensures done { result ≡ 0 → out.new.failures ≡ 0 }
+    ensures flushed { result ≡ 0 → out.new.flushed ≡ true }
     // Where the input or the words are refused, standard output takes nothing.
     ensures refused { (result ≡ 1) ⊎ (result ≡ 2) → out.new ≡ out.old }
 {

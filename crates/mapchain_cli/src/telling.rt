@@ -14,6 +14,7 @@ use std::fmt::Write;
 fn tell_words<V: Drain, W: Drain>(fault: &WordsFault, out: &mut Sink<V>, err: &mut Sink<W>) -> u8
     ensures status { result ≤ 3 }
     ensures done { result ≡ 0 → out.new.failures ≡ 0 }
+    ensures flushed { result ≡ 0 → out.new.flushed ≡ true }
     ensures refused { (result ≡ 1) ⊎ (result ≡ 2) → out.new ≡ out.old }
 {
     match fault {
@@ -40,6 +41,7 @@ fn tell_words<V: Drain, W: Drain>(fault: &WordsFault, out: &mut Sink<V>, err: &m
 pub(crate) fn tell<V: Drain, W: Drain>(ending: &Ending, out: &mut Sink<V>, err: &mut Sink<W>) -> u8
     ensures status { result ≤ 3 }
     ensures done { result ≡ 0 → out.new.failures ≡ 0 }
+    ensures flushed { result ≡ 0 → out.new.flushed ≡ true }
     ensures refused { (result ≡ 1) ⊎ (result ≡ 2) → out.new ≡ out.old }
     ensures writing { is_write_fault ending.now ≡ true → result ≡ 3 }
 {

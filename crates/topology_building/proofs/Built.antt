@@ -1,9 +1,9 @@
 -- What building layers comes to.
-use Rattle.std.proofs.Common.{◌≡◌, inl, inr, ℕ, suc, ◌<◌, ◌^◌, Bool, List, [], ◌∷◌, length, map, Option, Some, None, Err, arith, refl}
+use Rattle.std.proofs.Common.{◌≡◌, inl, inr, ℕ, suc, ◌<◌, ◌^◌, Bool, true, List, [], ◌∷◌, length, map, Option, Some, None, Ok, Err, arith, refl}
 use Rattle.std.specs.List.{AllByRecursion}
 use Rattle.std.specs.Prelude.{IsUtf8}
-use Rattle.byte_ends.specs.Ends.{Fed, Drained, Takes}
-use Rattle.byte_ends.specs.Writes.{Writes, WritesAll}
+use Rattle.byte_ends.specs.Ends.{Fed, Drained}
+use Rattle.byte_ends.specs.Writes.{WritesAll, Sends as SendsText}
 use Rattle.byte_ends.specs.declared.sink.WriteFault.{WriteFault}
 use Rattle.byte_ends.specs.declared.sink.WriteFault.TheVariants as write
 use Rattle.json_value.specs.Text.{json_text}
@@ -61,7 +61,7 @@ module _ (laws : BuildingLaws) (o : Options) where
 
     module _ (sink_old sink_new : Drained) where
       pub cut_short : (e : BuildFault) → Sends sink_old sink_new (text_for o ls) (Err e) → IsLateFault o olds news sink_old sink_new e
-      cut_short (Write sent) s = record { layers = ls; counts = cs; text = text_for o ls; builds = builds; many = s.0; written = s.1; counted = s.2; failed = s.3 }
+      cut_short (Write sent) s = record { layers = ls; counts = cs; text = text_for o ls; builds = builds; many = s.many; written = s.took; counted = omega (arith, s.counted); failed = s.failed }
       cut_short (EmptyName i) s = absurd s
       cut_short (DuplicateName i) s = absurd s
       cut_short (Read i f) s = absurd s
@@ -69,18 +69,18 @@ module _ (laws : BuildingLaws) (o : Options) where
       cut_short (Geo i f) s = absurd s
       cut_short Memory s = absurd s
 
-      pub is_built : (report : Report) → Takes sink_old sink_new (text_for o ls) (length (text_for o ls)) × (sink_new.failures ≡ 0) → report ≡ report_of o ls cs
+      pub is_built : (report : Report) → (sent : ℕ) × WritesAll sink_old sink_new 0 (text_for o ls) sent × (sink_new.flushed ≡ true) → report ≡ report_of o ls cs
           → IsBuilt o olds news sink_old sink_new report
-      is_built report s told = record { layers = ls; counts = cs; text = text_for o ls; builds = builds; written = s.0; sound = s.1; told = told }
+      is_built report s told = record { layers = ls; counts = cs; text = text_for o ls; builds = builds; written = s.1.took; sound = s.1.sound; flushed = s.2; told = told }
 
 -- ---- the text is sent
 
 module _ (old new : Drained) (text : List ℕ) where
-  pub sent_whole : (sent : ℕ) → WritesAll old new 0 text sent → Takes old new text (length text) × (new.failures ≡ 0)
-  sent_whole sent w = (w.took, w.sound)
+  pub sent_whole : (sent : ℕ) → SendsText old new 0 text (Ok sent) → (n : ℕ) × WritesAll old new 0 text n × (new.flushed ≡ true)
+  sent_whole sent w = (sent, w.0, w.1)
 
-  pub sent_in_part : (e : WriteFault) → Writes old new 0 text (Err e) → Sends old new text (Err (build_fault_of e))
-  sent_in_part (write.Write sent) w = (w.many, w.took, omega (arith, w.counted), w.failed)
+  pub sent_in_part : (e : WriteFault) → SendsText old new 0 text (Err e) → Sends old new text (Err (build_fault_of e))
+  sent_in_part (write.Write sent) w = w
 
 -- ---- nothing is written
 

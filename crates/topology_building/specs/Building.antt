@@ -1,7 +1,8 @@
 -- What `build` answers, reads and writes.
-use Rattle.std.specs.Prelude.{◌≡◌, ℕ, ◌<◌, List, length, map, Some, Result, Ok, Err, IsUtf8}
+use Rattle.std.specs.Prelude.{◌≡◌, ℕ, ◌<◌, true, List, length, map, Some, Result, Ok, Err, IsUtf8}
 use Rattle.std.specs.List.{AllByRecursion}
 use Rattle.byte_ends.specs.Ends.{Drained, Takes, saturated}
+use Rattle.byte_ends.specs.Writes.{WritesAll, WritesFront}
 use Rattle.json_value.specs.declared.json.Json.{Json}
 use Rattle.json_value.specs.Grammar.{Reads}
 use Rattle.geojson_types.specs.declared.counts.Counts.{Counts}
@@ -81,7 +82,7 @@ pub record Builds (o : Options) (olds news : Sources) (layers : Named) (counts :
   pub read : AllRead o.exact olds news layers counts
   pub topology : SaysTopology o layers text
 
--- the sink took the whole text of the topology, and the report is that of the layers
+-- the sink took the whole text of the topology and passed it on, and the report is that of the layers
 pub record IsBuilt (o : Options) (olds news : Sources) (sink_old sink_new : Drained) (report : Report) : Type 0 where
   pub layers : Named
   pub counts : List Counts
@@ -89,6 +90,7 @@ pub record IsBuilt (o : Options) (olds news : Sources) (sink_old sink_new : Drai
   pub builds : Builds o olds news layers counts text
   pub written : Takes sink_old sink_new text (length text)
   pub sound : sink_new.failures ≡ 0
+  pub flushed : sink_new.flushed ≡ true
   pub told : report ≡ report_of o layers counts
 
 -- the device failed when it had taken a prefix of the text of the topology
@@ -110,6 +112,6 @@ IsLateFault o olds news sink_old sink_new e = (sink_new ≡ sink_old) × FailsAt
 
 -- all of the text was taken and flushed, or a front of it, and the device failed
 abbrev pub Sends : Drained → Drained → List ℕ → Result (Unit {0}) BuildFault → Type 0
-Sends old new text (Ok done) = Takes old new text (length text) × (new.failures ≡ 0)
-Sends old new text (Err (Write sent)) = (many : ℕ) × Takes old new text many × (sent ≡ saturated many) × (0 < new.failures)
+Sends old new text (Ok done) = (sent : ℕ) × WritesAll old new 0 text sent × (new.flushed ≡ true)
+Sends old new text (Err (Write sent)) = WritesFront old new 0 text sent
 Sends old new text (Err e) = ⊥

@@ -11,9 +11,9 @@ ghost use Rattle.topology_building.specs.Outcomes.{Follows};
 
 use crate::laws::layer_laws;
 use crate::options::Options;
-use byte_ends::{Drain, Feed, Sink, Source};
+use byte_ends::{Drain, Feed, Sink, Source, flush_behind};
 use effective_area::Reducer;
-use inputs::{BuildFault, flush_behind};
+use inputs::BuildFault;
 use json_value::OwnText;
 use layer_sources::{check_names, read_layers};
 use layer_topology::{topology_of_layers, written_laws};
@@ -75,7 +75,7 @@ fn build_layers<Q: Reducer, R: Feed, W: Drain>(
 /// A border that lines and rings of the layers share is one arc, which the reducer reduces once. Names are looked at first, in order:
 /// up to there nothing is read. Then each layer is read, parsed and modelled before the next. Nothing is written before all layers
 /// are taken, so on each fault but `Write` the sink is as it was. On `Write` it took a prefix of the topology's text, of the length
-/// that is told. The sink is flushed.
+/// that is told. At `Ok` the sink is flushed.
 pub fn build<Q: Reducer, R: Feed, W: Drain>(
     alloc: Global,
     reducer: &mut Q,

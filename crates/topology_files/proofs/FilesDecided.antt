@@ -129,7 +129,7 @@ module _ (sink_old sink_new : Drained) where
     -- the text of the features that are had is written, or a front of it
     pub sent_decides : (features : FeatureSet) → GivesFeatures name old new features → (r : Result ℕ FileFault) → SendsText sink_old sink_new (features_text features) r
         → FollowsText sink_old sink_new outcome r
-    sent_decides features is (Ok sent) w = text_written outcome (features_text features) sent (read_decides is.contents is.counts (Ok (features_text features)) is.read (ap text_if_any is.found)) w
+    sent_decides features is (Ok sent) w = text_written outcome (features_text features) sent (read_decides is.contents is.counts (Ok (features_text features)) is.read (ap text_if_any is.found)) w.0
     sent_decides features is (Err (Write sent)) w = text_cut outcome (features_text features) sent (read_decides is.contents is.counts (Ok (features_text features)) is.read (ap text_if_any is.found))
     sent_decides features is (Err NoObject) w = absurd w
     sent_decides features is (Err Memory) w = absurd w

@@ -1,5 +1,5 @@
 -- What `to_geo` answers, reads and writes.
-use Rattle.std.specs.Prelude.{◌≡◌, ℕ, List, None, Some, Result, Ok, Err}
+use Rattle.std.specs.Prelude.{◌≡◌, ℕ, true, List, None, Some, Result, Ok, Err}
 use Rattle.byte_ends.specs.Ends.{Fed, Drained}
 use Rattle.byte_ends.specs.Writes.{WritesAll, WritesFront}
 use Rattle.json_value.specs.Text.{json_text}
@@ -18,7 +18,7 @@ features_text features = json_text (features_value features)
 
 -- all of the text was taken and flushed, and the answer is its length, or a front of it was taken, and the device failed
 abbrev pub SendsText : Drained → Drained → List ℕ → Result ℕ FileFault → Type 0
-SendsText old new text (Ok sent) = WritesAll old new 0 text sent
+SendsText old new text (Ok sent) = WritesAll old new 0 text sent × (new.flushed ≡ true)
 SendsText old new text (Err (Write sent)) = WritesFront old new 0 text sent
 SendsText old new text (Err e) = ⊥
 
@@ -29,11 +29,12 @@ pub record GivesFeatures (name : List ℕ) (old new : Fed) (features : FeatureSe
   pub read : IsTopologyRead old new contents counts
   pub found : decoded contents name ≡ Some features
 
--- the sink took their whole text, and the answer is its length
+-- the sink took their whole text and passed it on, and the answer is its length
 pub record IsDecoded (name : List ℕ) (old new : Fed) (sink_old sink_new : Drained) (sent : ℕ) : Type 0 where
   pub features : FeatureSet
   pub given : GivesFeatures name old new features
   pub written : WritesAll sink_old sink_new 0 (features_text features) sent
+  pub flushed : sink_new.flushed ≡ true
 
 -- the device failed when it had taken a front of their text
 pub record IsDecodedInPart (name : List ℕ) (old new : Fed) (sink_old sink_new : Drained) (sent : ℕ) : Type 0 where

@@ -5,10 +5,10 @@ ghost use Rattle.topology_files.specs.FileOutcomes.{FileComesTo, FollowsText, ob
 ghost use Rattle.topology_files.specs.Geo.{features_text, FailsToDecode, GivesFeatures, IsDecoded, IsGeoFault, SendsText};
 
 use crate::file_reading::read_file;
-use byte_ends::{Drain, Feed, Sink, Source};
+use byte_ends::{Drain, Feed, Sink, Source, flush_behind};
 use geojson_types::FeatureSet;
 use geojson_writer::write_features;
-use inputs::{FileFault, flush_behind};
+use inputs::FileFault;
 use std::alloc::Global;
 use topojson_features::{DecodeFault, features};
 
@@ -42,7 +42,7 @@ fn send<W: Drain>(found: &FeatureSet, sink: &mut Sink<W>) -> Result<u64, FileFau
 ///
 /// The topology is read from its source to the end, and refused as by `stat`. A GeometryCollection is a FeatureCollection, any other
 /// object a Feature; each line and ring is its arcs, forwards or reversed, put together. On each fault but `Write` the sink is as
-/// it was. On `Write` it took a prefix of the text, of the length that is told. The sink is flushed.
+/// it was. On `Write` it took a prefix of the text, of the length that is told. At `Ok` the sink is flushed.
 pub fn to_geo<R: Feed, W: Drain>(
     alloc: Global,
     source: &mut Source<R>,

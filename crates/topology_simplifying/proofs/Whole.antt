@@ -38,8 +38,8 @@ not_given t old new sink (Write sent) f = absurd f.2
 module _ (t : ℕ) (old new : Fed) (sink_old sink_new : Drained) (less : Contents) (report : Report) (is : IsLessened t old new less report) where
   pub sent_whole : (sent : ℕ) → SendsText sink_old sink_new (json_text (topology_value less)) (Ok sent) → IsSimplified t old new sink_old sink_new report
   sent_whole sent w =
-      let all = subst (λ z. WritesAll sink_old sink_new 0 (json_text (topology_value z)) sent) is.left w in
-      record { contents = is.contents; counts = is.counts; read = is.read; written = all.took; sound = all.sound; told = is.told }
+      let all = subst (λ z. WritesAll sink_old sink_new 0 (json_text (topology_value z)) sent) is.left w.0 in
+      record { contents = is.contents; counts = is.counts; read = is.read; written = all.took; sound = all.sound; flushed = w.1; told = is.told }
 
   pub cut_short : (e : FileFault) → SendsText sink_old sink_new (json_text (topology_value less)) (Err e) → IsSimplifyFault t old new sink_old sink_new e
   cut_short (Write sent) w =

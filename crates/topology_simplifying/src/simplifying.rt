@@ -11,9 +11,9 @@ ghost use Rattle.topology_simplifying.specs.Outcomes.{FollowsSimplified, simplif
 ghost use Rattle.topology_simplifying.specs.Simplified.{IsLessened, IsSimplified, IsSimplifyFault};
 
 use crate::lessening::lessen;
-use byte_ends::{Drain, Feed, Sink, Source};
+use byte_ends::{Drain, Feed, Sink, Source, flush_behind};
 use effective_area::Reducer;
-use inputs::{FileFault, flush_behind};
+use inputs::FileFault;
 use reports::Report;
 use std::alloc::Global;
 use topojson_types::Topology;
@@ -52,7 +52,7 @@ fn send<W: Drain>(topology: &Topology, sink: &mut Sink<W>) -> Result<u64, FileFa
 /// positions is dropped, and so is a ring of a polygon whose outer ring is; arcs that no line uses are left out. The report tells
 /// what was counted in reading, what is dropped, and of the arcs that are left how many positions stay and were taken out. The
 /// topology is refused as by `stat`. On each fault but `Write` the sink is as it was. On `Write` it took a prefix of the text, of
-/// the length that is told. The sink is flushed.
+/// the length that is told. At `Ok` the sink is flushed.
 pub fn simplify<Q: Reducer, R: Feed, W: Drain>(
     alloc: Global,
     reducer: &mut Q,

@@ -1,12 +1,12 @@
 -- What one write of the device took, after those before it.
-use Rattle.std.proofs.Common.{arith}
+use Rattle.std.proofs.Common.{arith, ◌∙◌}
 use Rattle.byte_ends.proofs.Writing.{Takes-none, Takes-more, rest_of}
 use Rattle.byte_ends.proofs.sink.Sink.put.Goals as goal
 
 pub returns-then-failures-gt0-clause-wrote : goal.returns-then-failures-gt0-clause-wrote
 returns-then-failures-gt0-clause-wrote g c = record {
   many = 0;
-  took = rw (← c.self.view_is) (Takes-none _ _ c.self.invariant);
+  took = rw (← c.self.view_is) (Takes-none _ _ c.self.invariant.small);
   counted = omega arith;
   failed = rw (← c.self.view_is) (omega arith);
 }
@@ -14,9 +14,10 @@ returns-then-failures-gt0-clause-wrote g c = record {
 pub loop-at-init : goal.loop-at-init
 loop-at-init g c = record {
   counted = omega arith;
-  takes = rw (← c.self.view_is) (Takes-none _ _ c.self.invariant);
+  takes = rw (← c.self.view_is) (Takes-none _ _ c.self.invariant.small);
   sound = omega arith;
-  small = c.self.invariant;
+  late = c.self.invariant.late;
+  small = c.self.invariant.small;
 }
 
 pub loop-at-preserved : goal.loop-at-preserved
@@ -26,5 +27,6 @@ loop-at-preserved g c =
       counted = omega arith;
       takes = Takes-more _ _ _ _ _ _ c.loop-at.invariant.takes told.bound told.bytes c.saturating_add-self-inside.ensures;
       sound = omega arith;
+      late = told.late.0 c.loop-at.invariant.sound ∙ c.loop-at.invariant.late;
       small = omega arith;
     }

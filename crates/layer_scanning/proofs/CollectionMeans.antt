@@ -121,9 +121,9 @@ layer_is : (exact : Bool) (ms : List (List ℕ × Json)) (vs : List Json) (fs : 
 unfolding layer features type_name need geojson_type typed_features collection_features
 layer_is exact ms vs fs new t f h = simp (object_kinds, t, text_kinds, f, array_kinds) h
 
-whole : (bytes text end : List ℕ) (v : Json) → text ≡ without bytes (after_word mark bytes) → value_at any 127 (skip text) ≡ Some (v, end) → skip end ≡ [] → text_at any 127 bytes ≡ Some v
+pub whole : (d : ℕ) (bytes text end : List ℕ) (v : Json) → text ≡ without bytes (after_word mark bytes) → value_at any d (skip text) ≡ Some (v, end) → skip end ≡ [] → text_at any d bytes ≡ Some v
 unfolding text_at document ended
-whole bytes text end v is found nothing = ap (document any 127) (sym is) ∙ rw (found, nothing) refl
+whole d bytes text end v is found nothing = ap (document any d) (sym is) ∙ rw (found, nothing) refl
 
 pub layer_stands : (exact : Bool) (bytes text inside end : List ℕ) (collection : Collection) (fs : List Featured) (new : Counts) → IsUtf8 bytes → text ≡ without bytes (after_word mark bytes) → skip text ≡ 123 ∷ inside
     → ReadsMembers (MemberFront 126) (Contains exact) (record { typed = false; features = None }) collection inside end no_counts new → skip end ≡ [] → collection.typed ≡ true → collection.features ≡ Some fs → SpellsLayer exact bytes fs new
@@ -135,7 +135,7 @@ layer_stands exact bytes text inside end collection fs new utf8 is opens r nothi
     record {
       utf8 = utf8;
       value = j.Object ms;
-      spelled = text_takes any 127 bytes (j.Object ms) (whole bytes text end (j.Object ms) is found nothing);
+      spelled = text_takes any 127 bytes (j.Object ms) (whole 127 bytes text end (j.Object ms) is found nothing);
       stands = layer_is exact ms read.0 fs new (rw typed at h.type) read.1 read.2;
     }
 

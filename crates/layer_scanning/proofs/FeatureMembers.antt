@@ -60,6 +60,9 @@ proper_by : (exact : Bool) (r : Result (Option (List (List ℕ × Json))) GeoFau
 proper_by exact (Ok o) x c new h = object_proper exact o c new x h
 proper_by exact (Err e) x c new h = absurd cc
 
+pub shape_proper : (exact : Bool) (v : Json) (x : Option Shape) (c new : Counts) → shape exact v c ≡ Ok (x, new) → is_proper_option x ≡ true
+shape_proper exact v x c new h = proper_by exact (members_if (Some v)) x c new (value_shape exact v x c new h)
+
 pub given_proper : (exact : Bool) (vs : List Json) (shape : Option (Option Shape)) (c new : Counts) → IsShape exact vs shape c new → is_proper_option (given shape) ≡ true
 given_proper exact vs None c new h = refl
 given_proper exact vs (Some x) c new h = proper_by exact (members_if (Some h.0)) x c new h.2

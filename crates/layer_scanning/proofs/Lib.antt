@@ -3,3 +3,4 @@ pub mod Named
 pub mod FeatureMembers
 pub mod FeatureMeans
 pub mod CollectionMeans
+pub mod SingleMeans

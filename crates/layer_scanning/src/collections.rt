@@ -1,17 +1,15 @@
 // Collections of features.
 ghost use Rattle.std.specs.Prelude.{◌≡◌, Some, IfOk, IfSome, IsUtf8};
-ghost use Rattle.decimal_json.specs.Reading as reading;
-ghost use Rattle.json_value.specs.Grammar.{mark};
 ghost use Rattle.geometry_scanning.specs.Fronts.{MemberFront};
 ghost use Rattle.layer_scanning.specs.CollectionParts.{Contains, FeaturesStand, SpellsLayer};
 
 use crate::features::{feature_at, features_behind};
 use crate::objects::{Object, members_at};
+use crate::texts::text_of;
 use decimal_json::{after_word, member_at, skip};
 use geojson_types::{Counts, Feature, Layer};
 use geometry_scanning::{named_value, opened};
 use json_value::Items;
-use simdutf8::compat;
 use std::alloc::Global;
 use unit_scanning::{Halt, after_byte};
 
@@ -86,16 +84,6 @@ impl Object for Collection {
     }
 }
 
-/// The bytes behind a byte order mark, if there is one.
-fn text_of(bytes: &[u8]) -> &[u8]
-    ensures { result.now ≡ reading.without bytes.now (reading.after_word mark bytes.now) }
-{
-    match after_word(&[0xef, 0xbb, 0xbf], bytes) {
-        Some(rest) => rest,
-        None => bytes,
-    }
-}
-
 /// The layer of these features, if there are any.
 fn layer_with(features: Option<Items<Feature>>) -> Option<Layer>
     ensures { IfSome result (λ layer. features ≡ Some layer.features) }
@@ -106,8 +94,13 @@ fn layer_with(features: Option<Items<Feature>>) -> Option<Layer>
     }
 }
 
-/// The layer that the bytes spell, which are UTF-8, and what was counted in it.
-fn scan_text(alloc: Global, bytes: &[u8], exact: bool) -> Result<(Layer, Counts), Halt>
+/// The layer that the bytes spell, which are UTF-8, where they spell a FeatureCollection (RFC 7946, section 3.3), and what was counted in
+/// it.
+pub(crate) fn scan_collection(
+    alloc: Global,
+    bytes: &[u8],
+    exact: bool,
+) -> Result<(Layer, Counts), Halt>
     requires { IsUtf8 bytes.now }
     ensures { IfOk result (λ r. SpellsLayer exact bytes.now r.0.features r.1) }
 {
@@ -129,15 +122,4 @@ fn scan_text(alloc: Global, bytes: &[u8], exact: bool) -> Result<(Layer, Counts)
         return Err(Halt::Unread);
     };
     Ok((layer, counts))
-}
-
-/// The layer that the bytes spell, where they spell a FeatureCollection (RFC 7946, section 3.3), and what was counted in it. `exact` refuses
-/// what would have to be rounded.
-pub fn scan_layer(alloc: Global, bytes: &[u8], exact: bool) -> Result<(Layer, Counts), Halt>
-    ensures { IfOk result (λ r. SpellsLayer exact bytes.now r.0.features r.1) }
-{
-    if compat::from_utf8(bytes).is_err() {
-        return Err(Halt::Unread);
-    }
-    scan_text(alloc, bytes, exact)
 }

@@ -1,7 +1,7 @@
 use Rattle.std.proofs.Common.{sym, ◌∙◌}
 use Rattle.layer_scanning.proofs.CollectionMeans.{layer_stands, empty_is}
 use Rattle.layer_scanning.proofs.FeatureMembers.{not_false}
-use Rattle.layer_scanning.proofs.collections.scan_text.Goals as goal
+use Rattle.layer_scanning.proofs.collections.scan_collection.Goals as goal
 
 pub returns : goal.returns
 returns c =

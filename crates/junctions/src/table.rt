@@ -27,7 +27,8 @@ pub fn table_of(alloc: Global, strokes: &[Stroke]) -> Result<PositionTable, Memo
     ensures known { IfOk result (λ table. IsTable strokes.now (λ p. false) table) }
     ensures order { IfOk result (λ table. keys table ≡ first_seen (positions strokes.now)) }
 {
-    let mut table = IndexMap::with_capacity(alloc, room_for(strokes))?;
+    // On a map of areas most positions are visited twice.
+    let mut table = IndexMap::with_capacity(alloc, room_for(strokes) / 2)?;
     for stroke in strokes {
         note_stroke(&mut table, stroke)?;
     }

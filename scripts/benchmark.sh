@@ -1,6 +1,6 @@
 #!/bin/sh
-# Measures the program on meshes (scripts/mesh.py) of 10^4 and 10^6 positions, without and with properties, and on a coast
-# (scripts/coast.py), one ring of 10^6 positions:
+# Measures the program on meshes (scripts/mesh.py) of 10^4 and 10^6 positions, without and with properties, on roads, points and lakes
+# (scripts/shapes.py) with properties, and on a coast (scripts/coast.py), one ring of 10^6 positions:
 #
 #     scripts/benchmark.sh                    the program of ./mapchain, which is proved and built first where it has to be
 #     scripts/benchmark.sh path/to/mapchain   another program with the same commands
@@ -9,7 +9,8 @@
 # For each mesh and each of `build`, without options, on a grid of 10^6 and with an area, `simplify` with the same area, `geo` and
 # `stat` (these three on what `build` wrote, `geo` on what it wrote on a grid too) it prints a row of a table: the seconds of the fastest
 # run, the MB/s of its input, and the greatest peak of memory. For the coast these are `build` without options, with an area at which a
-# third of the positions goes, and with one at which nearly all go, and `simplify` with these two areas. Then, for each command, the growth: the
+# third of the positions goes, and with one at which nearly all go, and `simplify` with these two areas; for roads, points and lakes `build`
+# and `geo`. Then, for each command, the growth: the
 # time a byte at 10^6 positions over that at 10^4. Where topo2geo (topojson-client) or ogr2ogr (GDAL) is installed, rows of
 # theirs for the same decoding come beside. Runs follow one another; nothing else should run meanwhile.
 set -eu
@@ -69,12 +70,23 @@ measure_coast() {
     row coast "$work/coast.topojson" "$work/out" "simplify, nearly all go" "$program" simplify --min-area "$2" "$work/coast.topojson"
 }
 
+# measure_shapes KIND NUMBER WORD..: the rows of so many features of the kind.
+measure_shapes() {
+    "$root/scripts/shapes.py" "$@" >"$work/shapes.json"
+    row "$*" "$work/shapes.json" "$work/shapes.topojson" build "$program" build "shapes=$work/shapes.json"
+    row "$*" "$work/shapes.topojson" "$work/out" geo "$program" geo --object shapes "$work/shapes.topojson"
+}
+
 echo "| mesh | MB | command | seconds | MB/s | peak MB |"
 echo "|---|---|---|---|---|---|"
 measure "10^4" 12 16
 measure "10^6" 124 16
 measure "10^4, properties" 12 16 --properties
 measure "10^6, properties" 124 16 --properties
+measure_shapes roads 20000
+measure_shapes points 100000
+measure_shapes lakes 10000
+measure_shapes lakes 10000 --decimals 15
 measure_coast 0.00000575 0.00275
 echo
 for name in build "build, grid" "build, area" "simplify, area" geo "geo, grid" stat; do

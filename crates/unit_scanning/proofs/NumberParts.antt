@@ -13,6 +13,7 @@ use Rattle.decimal_text.specs.Parts.{Parts, sign_text, fraction_text, SpellsNumb
 use Rattle.decimal_text.specs.Rounding.{signed, rounded_of}
 use Rattle.decimal_text.specs.Scaling.{scaled_of, numerator, denominator}
 use Rattle.decimal_text.proofs.DigitsValue.{digits_value_after-append}
+use Rattle.decimal_text.proofs.Nearest.{rounded_of-whole}
 use Rattle.decimal_text.proofs.ReadsParts.{parts-read}
 use Rattle.decimal_text.proofs.ScaledNumber.{scaled_of-read}
 use Rattle.decimal_json.specs.Reading.{Parse, ◌>>=◌, value_at, value_with, number_at, after_digits}
@@ -20,7 +21,7 @@ use Rattle.decimal_json.proofs.Ending.{Ends}
 use Rattle.decimal_json.proofs.NumbersFound.{is_lead, with_number}
 use Rattle.decimal_json.proofs.Opened.{value_at_is}
 use Rattle.decimal_json.proofs.Steps.{differs}
-use Rattle.unit_scanning.specs.Numbers.{digits_front, IsFractionOf, IsUnits, ends, leads, starts_digit, whole_front}
+use Rattle.unit_scanning.specs.Numbers.{digits_front, IsFractionOf, IsNumberAt, ends, leads, starts_digit, whole_front}
 
 not_true : (b : Bool) → not b ≡ true → b ≡ false
 not_true true h = cc
@@ -84,14 +85,14 @@ text_of negative w f = sign_text negative ++ (w ++ (fraction_text f ++ []))
 text_spells : (negative : Bool) (w f : List ℕ) → IsWhole w → AllDigits f → SpellsNumber (text_of negative w f) (plain negative w f)
 text_spells negative w f hw hf = record { exponent_text = []; text = refl; whole = hw; fraction = hf; exponent = spells_no_exponent }
 
-scales : (negative : Bool) (w f : List ℕ) (v u : ℕ) (exact : Bool) → v ≡ digits_value_after (digits_value w) f → rounded_of negative (v * 10 ^ 7) (10 ^ length f) (10 ^ 15) ≡ Ok (record { value = signed negative u; exact = exact })
-    → IsWhole w → AllDigits f → scaled_of 7 (10 ^ 15) (text_of negative w f) ≡ Ok (record { value = signed negative u; exact = exact })
-scales negative w f v u exact hv hr hw hf =
+scales : (places limit : ℕ) (negative : Bool) (w f : List ℕ) (v u : ℕ) (exact : Bool) → v ≡ digits_value_after (digits_value w) f → rounded_of negative (v * 10 ^ places) (10 ^ length f) limit ≡ Ok (record { value = signed negative u; exact = exact })
+    → IsWhole w → AllDigits f → scaled_of places limit (text_of negative w f) ≡ Ok (record { value = signed negative u; exact = exact })
+scales places limit negative w f v u exact hv hr hw hf =
     let n : Parts = plain negative w f in
     let digits : digits_value (w ++ f) ≡ v = digits_value_after-append 0 w f ∙ sym hv in
     let den : denominator n ≡ 10 ^ length f = ap (λ m. 10 ^ m) (let e : length f + 0 ≡ length f = omega arith in e) in
-    let num : numerator n 7 ≡ v * 10 ^ 7 = ap (λ m. m * 10 ^ 7) digits in
-    scaled_of-read 7 (10 ^ 15) (text_of negative w f) n (parts-read (text_of negative w f) n (text_spells negative w f hw hf))
+    let num : numerator n places ≡ v * 10 ^ places = (let e : places + 0 ≡ places = omega arith in ap (λ m. digits_value (w ++ f) * 10 ^ m) e) ∙ ap (λ m. m * 10 ^ places) digits in
+    scaled_of-read places limit (text_of negative w f) n (parts-read (text_of negative w f) n (text_spells negative w f hw hf))
     ∙ rw (num, den) hr
 
 number_is : (negative : Bool) (w f : List ℕ) → IsWhole w → AllDigits f → IsNumber (text_of negative w f)
@@ -130,11 +131,11 @@ rest_shorter digits rest h =
     let l = ap length (front_split digits ∙ ap (λ x. digits_front digits ++ x) (sym h)) in
     omega (arith, l, length-append (digits_front digits) rest)
 
-pub units_are : (bytes front behind rest : List ℕ) (negative : Bool) (whole value places u : ℕ) (exact : Bool)
+pub number_is_at : (places limit : ℕ) (bytes front behind rest : List ℕ) (negative : Bool) (whole value tens u : ℕ) (exact : Bool)
     → bytes ≡ sign_text negative ++ front → whole_front front ≡ true → whole ≡ digits_value_after 0 (digits_front front) → behind ≡ after_digits front
-    → IsFractionOf behind whole value places rest → ends rest ≡ true → rounded_of negative (value * 10 ^ 7) (10 ^ places) (10 ^ 15) ≡ Ok (record { value = signed negative u; exact = exact })
-    → IsUnits bytes (signed negative u) exact rest
-units_are bytes front behind rest negative whole value places u exact hs hw hv hb f he hr =
+    → IsFractionOf behind whole value tens rest → ends rest ≡ true → rounded_of negative (value * 10 ^ places) (10 ^ tens) limit ≡ Ok (record { value = signed negative u; exact = exact })
+    → IsNumberAt places limit bytes (signed negative u) exact rest
+number_is_at places limit bytes front behind rest negative whole value tens u exact hs hw hv hb f he hr =
     let w : List ℕ = digits_front front in
     let whole_part : IsWhole w = whole_is front hw in
     let t : List ℕ = text_of negative w f.digits in
@@ -142,8 +143,15 @@ units_are bytes front behind rest negative whole value places u exact hs hw hv h
     record {
       text = t;
       front = λ fits d. found bytes t rest fits d split (number_is negative w f.digits whole_part f.all) (ends_are rest he);
-      scaled = scales negative w f.digits value u exact (f.value_is ∙ ap (λ n. digits_value_after n f.digits) hv) (subst (λ n. rounded_of negative (value * 10 ^ 7) (10 ^ n) (10 ^ 15) ≡ Ok (record { value = signed negative u; exact = exact })) f.places_are hr) whole_part f.all;
+      scaled = scales places limit negative w f.digits value u exact (f.value_is ∙ ap (λ n. digits_value_after n f.digits) hv) (subst (λ n. rounded_of negative (value * 10 ^ places) (10 ^ n) limit ≡ Ok (record { value = signed negative u; exact = exact })) f.places_are hr) whole_part f.all;
     }
+
+-- no fraction
+pub no_fraction_of : (behind : List ℕ) (whole : ℕ) → IsFractionOf behind whole whole 0 behind
+no_fraction_of behind whole = record { digits = []; all = tt; text = refl; value_is = refl; places_are = refl }
+
+pub whole_scales : (negative : Bool) (size limit : ℕ) → size ≤ limit → rounded_of negative (size * 10 ^ 0) (10 ^ 0) limit ≡ Ok (record { value = signed negative size; exact = true })
+whole_scales negative size limit small = rounded_of-whole negative 1 size limit (omega arith) small
 
 -- ---- a number by its text
 

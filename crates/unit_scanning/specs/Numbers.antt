@@ -41,9 +41,17 @@ abbrev pub ends : List ℕ → Bool
 ends [] = true
 ends (b ∷ bs) = is_space b || (b == 44 || (b == 93 || b == 125))
 
--- The bytes begin with a number that comes to so many units, rounded where it isn't exact, and the rest follows it.
--- It is the value at the front at any depth.
-pub record IsUnits (bytes : List ℕ) (units : ℤ) (exact : Bool) (rest : List ℕ) : Type 0 where
+-- The bytes begin with a number that comes to this value at so many decimals, within the limit, rounded where it isn't exact, and the
+-- rest follows it. It is the value at the front at any depth.
+pub record IsNumberAt (places limit : ℕ) (bytes : List ℕ) (value : ℤ) (exact : Bool) (rest : List ℕ) : Type 0 where
   pub text : List ℕ
   pub front : (fits : List ℕ → Bool) (d : ℕ) → value_at fits d bytes ≡ Some (j.Number text, rest)
-  pub scaled : scaled_of 7 (10 ^ 15) text ≡ Ok (record { value = units; exact = exact })
+  pub scaled : scaled_of places limit text ≡ Ok (record { value = value; exact = exact })
+
+-- the same in units of 10^-7
+abbrev pub IsUnits : List ℕ → ℤ → Bool → List ℕ → Type 0
+IsUnits = IsNumberAt 7 (10 ^ 15)
+
+-- the same where it is whole
+abbrev pub IsWholeNumber : ℕ → List ℕ → ℤ → List ℕ → Type 0
+IsWholeNumber limit bytes value rest = IsNumberAt 0 limit bytes value true rest

@@ -1,10 +1,10 @@
 // Numbers however they are written.
 ghost use Rattle.std.specs.Prelude.{◌≡◌, ◌^◌, ◌≤◌, IfOk, unsigned_abs};
-ghost use Rattle.unit_scanning.specs.Numbers.{IsUnits, leads};
+ghost use Rattle.unit_scanning.specs.Numbers.{IsNumberAt, IsUnits, IsWholeNumber, leads};
 
 use crate::digits::is_digit;
 use crate::halt::Halt;
-use crate::units::{Units, units_at};
+use crate::units::{Units, units_at, whole_number_at};
 use decimal_json::value_at;
 use std::alloc::Global;
 
@@ -12,7 +12,7 @@ use std::alloc::Global;
 const PLACES: u32 = 7;
 
 /// The greatest magnitude in units.
-const LIMIT: i128 = 1_000_000_000_000_000;
+const LIMIT: u64 = 1_000_000_000_000_000;
 
 /// A minus sign or a digit is first.
 fn is_number(bytes: &[u8]) -> bool
@@ -24,10 +24,17 @@ fn is_number(bytes: &[u8]) -> bool
     }
 }
 
-/// The same by the text of the number, however it is written.
-fn text_units_at<'a>(alloc: Global, bytes: &'a [u8]) -> Result<(Units, &'a [u8]), Halt>
-    ensures units { IfOk result (λ x. IsUnits bytes.now x.0.value x.0.exact x.1.now) }
-    ensures within { IfOk result (λ x. unsigned_abs x.0.value ≤ 10 ^ 15) }
+/// The number at the front at so many decimals, within the limit, by its text, however it is written, and what follows it.
+fn text_number_at<'a>(
+    alloc: Global,
+    places: u32,
+    limit: u64,
+    bytes: &'a [u8],
+) -> Result<(Units, &'a [u8]), Halt>
+    requires places { places ≤ 20 }
+    requires limit { limit ≤ 10 ^ 15 }
+    ensures number { IfOk result (λ x. IsNumberAt places limit bytes.now x.0.value x.0.exact x.1.now) }
+    ensures within { IfOk result (λ x. unsigned_abs x.0.value ≤ limit) }
 {
     if !is_number(bytes) {
         return Err(Halt::Unread);
@@ -36,7 +43,7 @@ fn text_units_at<'a>(alloc: Global, bytes: &'a [u8]) -> Result<(Units, &'a [u8])
     let Some(number) = value.as_number() else {
         return Err(Halt::Unread);
     };
-    let Ok(scaled) = number.scaled(PLACES, LIMIT) else {
+    let Ok(scaled) = number.scaled(places, i128::from(limit)) else {
         return Err(Halt::Unread);
     };
     let units = Units {
@@ -54,6 +61,32 @@ pub fn number_at<'a>(alloc: Global, bytes: &'a [u8]) -> Result<(Units, &'a [u8])
 {
     match units_at(bytes) {
         Some(found) => Ok(found),
-        None => text_units_at(alloc, bytes),
+        None => text_number_at(alloc, PLACES, LIMIT, bytes),
+    }
+}
+
+/// The whole number at the front by its text, however it is written, and what follows it.
+fn text_whole_at<'a>(alloc: Global, limit: u64, bytes: &'a [u8]) -> Result<(i64, &'a [u8]), Halt>
+    requires { limit ≤ 10 ^ 15 }
+    ensures whole { IfOk result (λ x. IsWholeNumber limit bytes.now x.0 x.1.now) }
+    ensures within { IfOk result (λ x. unsigned_abs x.0 ≤ limit) }
+{
+    let (number, rest) = text_number_at(alloc, 0, limit, bytes)?;
+    if !number.exact {
+        return Err(Halt::Unread);
+    }
+    Ok((number.value, rest))
+}
+
+/// The whole number at the front, no farther from zero than the limit, and what follows it.
+#[inline(always)]
+pub fn whole_at<'a>(alloc: Global, limit: u64, bytes: &'a [u8]) -> Result<(i64, &'a [u8]), Halt>
+    requires { limit ≤ 10 ^ 15 }
+    ensures whole { IfOk result (λ x. IsWholeNumber limit bytes.now x.0 x.1.now) }
+    ensures within { IfOk result (λ x. unsigned_abs x.0 ≤ limit) }
+{
+    match whole_number_at(limit, bytes) {
+        Some(found) => Ok(found),
+        None => text_whole_at(alloc, limit, bytes),
     }
 }

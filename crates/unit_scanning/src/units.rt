@@ -1,8 +1,8 @@
-// Numbers in whole units of `10^-7`.
+// Numbers in whole units of `10^-7`, and whole numbers.
 ghost use Rattle.std.specs.Prelude.{◌≡◌, ◌++◌, ◌*◌, ◌^◌, ◌<◌, ◌≤◌, Bool, Ok, IfSome, unsigned_abs};
 ghost use Rattle.decimal_text.specs.Parts.{sign_text};
 ghost use Rattle.decimal_text.specs.Rounding.{signed, rounded_of};
-ghost use Rattle.unit_scanning.specs.Numbers.{IsUnits, ends};
+ghost use Rattle.unit_scanning.specs.Numbers.{IsUnits, IsWholeNumber, ends};
 
 use crate::digits::{digits_at, fraction_at, is_whole, with_zeros};
 
@@ -47,7 +47,7 @@ fn is_end(rest: &[u8]) -> bool
 fn with_sign(negative: bool, size: u64) -> i64
     requires { size ≤ 10 ^ 15 }
     ensures value { result ≡ signed negative size }
-    ensures within { unsigned_abs result ≤ 10 ^ 15 }
+    ensures within { unsigned_abs result ≤ size }
 {
     if negative {
         -(size as i64)
@@ -98,4 +98,23 @@ pub fn units_at(bytes: &[u8]) -> Option<(Units, &[u8])>
         exact,
     };
     Some((units, rest))
+}
+
+/// The whole number at the front, no farther from zero than the limit, and what follows it. None where it has a fraction or an
+/// exponent, and where it isn't read this way for its size.
+#[inline(always)]
+pub fn whole_number_at(limit: u64, bytes: &[u8]) -> Option<(i64, &[u8])>
+    requires { limit ≤ 10 ^ 15 }
+    ensures whole { IfSome result (λ x. IsWholeNumber limit bytes.now x.0 x.1.now) }
+    ensures within { IfSome result (λ x. unsigned_abs x.0 ≤ limit) }
+{
+    let (negative, front) = sign_at(bytes);
+    if !is_whole(front) {
+        return None;
+    }
+    let (size, rest) = digits_at(0, front)?;
+    if !is_end(rest) || size > limit {
+        return None;
+    }
+    Some((with_sign(negative, size), rest))
 }

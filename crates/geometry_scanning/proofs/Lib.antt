@@ -5,3 +5,6 @@ pub mod PositionParts
 pub mod LineParts
 pub mod Words
 pub mod ShapeParts
+pub mod MembersSoFar
+pub mod Named
+pub mod Texts

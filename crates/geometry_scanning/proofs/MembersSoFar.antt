@@ -5,7 +5,7 @@ use Rattle.json_value.specs.declared.json.Json.{Json}
 use Rattle.decimal_json.specs.Reading.{skip}
 use Rattle.geojson_types.specs.declared.counts.Counts.{Counts}
 use Rattle.geometry_scanning.specs.Fronts.{Behind, behind_last, behind_more}
-use Rattle.layer_scanning.specs.MemberLists.{TakesMember, ReadsMembers}
+use Rattle.geometry_scanning.specs.MemberLists.{TakesMember, ReadsMembers}
 
 module _ {S : Type 0} (Is : List ℕ → List ℕ × Json → List ℕ → Type 0) (Holds : List (List ℕ × Json) → S → Counts → Counts → Type 0) (before : S) (inside : List ℕ) (old : Counts) where
   pub record MembersSoFar (now : S) (rest : List ℕ) (mid : Counts) : Type 0 where

@@ -1,12 +1,14 @@
 // The members of objects.
 ghost use Rattle.std.specs.Prelude.{◌≡◌, ℕ, Bool, List, IfOk};
+ghost use Rattle.decimal_json.specs.Reading as reading;
 ghost use Rattle.json_value.specs.declared.json.Json.{Json};
+ghost use Rattle.json_value.specs.Grammar.{mark};
 ghost use Rattle.geojson_types.specs.declared.counts.Counts.{Counts as Counted};
-ghost use Rattle.layer_scanning.specs.MemberLists.{TakesMember, ReadsMembers};
+ghost use Rattle.geometry_scanning.specs.MemberLists.{TakesMember, ReadsMembers};
 
-use decimal_json::skip;
+use crate::arrays::opened;
+use decimal_json::{after_word, skip};
 use geojson_types::Counts;
-use geometry_scanning::opened;
 use std::alloc::Global;
 use unit_scanning::{Halt, after_byte};
 
@@ -50,4 +52,14 @@ pub fn members_at<'a, T: Object + Drop>(
         rest = object.member(alloc, skip(next), exact, counts)?;
     }
     Err(Halt::Unread)
+}
+
+/// The bytes behind a byte order mark, if there is one.
+pub fn text_of(bytes: &[u8]) -> &[u8]
+    ensures { result.now ≡ reading.without bytes.now (reading.after_word mark bytes.now) }
+{
+    match after_word(&[0xef, 0xbb, 0xbf], bytes) {
+        Some(rest) => rest,
+        None => bytes,
+    }
 }

@@ -1,12 +1,11 @@
 -- The layer that a collection's members are.
-use Rattle.std.proofs.Common.{◌≡◌, ℕ, ◌+◌, ◌-◌, Bool, true, false, eqb, length, List, [], ◌∷◌, ◌++◌, Option, Some, None, Ok, refl, sym, ap, ◌∙◌, subst, arith}
+use Rattle.std.proofs.Common.{◌≡◌, ℕ, ◌+◌, ◌-◌, Bool, true, false, List, [], ◌∷◌, ◌++◌, Option, Some, None, Ok, refl, sym, ap, ◌∙◌, subst, arith}
 use Rattle.std.specs.Prelude.{codes, bytes_eq, IsUtf8}
-use Rattle.std.proofs.lemmas.Bool.{eqb-true}
 use Rattle.json_value.specs.declared.json.Json.{Json}
 use Rattle.json_value.specs.declared.json.Json.TheVariants as j
 use Rattle.json_value.specs.Grammar.{mark}
 use Rattle.json_value.proofs.KindsOf.{object_kinds, text_kinds, array_kinds}
-use Rattle.decimal_json.specs.Reading.{skip, after_word, without, ended, document, text_at, value_at}
+use Rattle.decimal_json.specs.Reading.{skip, after_word, without, value_at}
 use Rattle.decimal_json.proofs.TextsRead.{text_takes}
 use Rattle.geojson_types.specs.declared.counts.Counts.{Counts}
 use Rattle.geojson_types.specs.Counting.{no_counts}
@@ -21,12 +20,13 @@ use Rattle.geometry_scanning.specs.Fronts.{any, FrontAt, MemberFront, NamedValue
 use Rattle.geometry_scanning.proofs.ArrayFronts.{array_value, empty_value, one_stands}
 use Rattle.geometry_scanning.proofs.SoFar.{first_and_more}
 use Rattle.geometry_scanning.proofs.ShapeParts.{object_value}
+use Rattle.geometry_scanning.proofs.Texts.{whole}
 use Rattle.geometry_scanning.proofs.Words.{member_is, word_named, word_value}
 use Rattle.decimal_json.proofs.Words.{after_word_takes}
 use Rattle.layer_scanning.specs.declared.collections.Collection.{Collection}
 use Rattle.layer_scanning.specs.CollectionParts.{FeaturesStand, AreFeatures, Contains, SpellsLayer}
-use Rattle.layer_scanning.specs.MemberLists.{TakesMember, ReadsMembers}
-use Rattle.layer_scanning.proofs.Named.{other_named, first_named, foreign_named}
+use Rattle.geometry_scanning.specs.MemberLists.{TakesMember, ReadsMembers}
+use Rattle.geometry_scanning.proofs.Named.{other_named, first_named, foreign_named}
 
 -- ---- features
 
@@ -121,10 +121,6 @@ layer_is : (exact : Bool) (ms : List (List ℕ × Json)) (vs : List Json) (fs : 
 unfolding layer features type_name need geojson_type typed_features collection_features
 layer_is exact ms vs fs new t f h = simp (object_kinds, t, text_kinds, f, array_kinds) h
 
-pub whole : (d : ℕ) (bytes text end : List ℕ) (v : Json) → text ≡ without bytes (after_word mark bytes) → value_at any d (skip text) ≡ Some (v, end) → skip end ≡ [] → text_at any d bytes ≡ Some v
-unfolding text_at document ended
-whole d bytes text end v is found nothing = ap (document any d) (sym is) ∙ rw (found, nothing) refl
-
 pub layer_stands : (exact : Bool) (bytes text inside end : List ℕ) (collection : Collection) (fs : List Featured) (new : Counts) → IsUtf8 bytes → text ≡ without bytes (after_word mark bytes) → skip text ≡ 123 ∷ inside
     → ReadsMembers (MemberFront 126) (Contains exact) (record { typed = false; features = None }) collection inside end no_counts new → skip end ≡ [] → collection.typed ≡ true → collection.features ≡ Some fs → SpellsLayer exact bytes fs new
 layer_stands exact bytes text inside end collection fs new utf8 is opens r nothing typed some =
@@ -138,7 +134,3 @@ layer_stands exact bytes text inside end collection fs new utf8 is opens r nothi
       spelled = text_takes any 127 bytes (j.Object ms) (whole 127 bytes text end (j.Object ms) is found nothing);
       stands = layer_is exact ms read.0 fs new (rw typed at h.type) read.1 read.2;
     }
-
-pub empty_is : (xs : List ℕ) → eqb (length xs) 0 ≡ true → xs ≡ []
-empty_is [] h = refl
-empty_is (x ∷ xs) h = let wrong : length (x ∷ xs) ≡ 0 = eqb-true (length (x ∷ xs)) 0 h in absurd (omega arith)

@@ -16,9 +16,9 @@ use Rattle.geometry_scanning.specs.Fronts.{FrontAt, MemberFront, Stands}
 use Rattle.geometry_scanning.proofs.ShapeParts.{object_value}
 use Rattle.layer_scanning.specs.declared.features.Parts.{Parts}
 use Rattle.layer_scanning.specs.FeatureParts.{geometry_member, given, IsShape, Holds}
-use Rattle.layer_scanning.specs.MemberLists.{ReadsMembers}
+use Rattle.geometry_scanning.specs.MemberLists.{ReadsMembers}
 use Rattle.layer_scanning.proofs.FeatureMembers.{nothing_held}
-use Rattle.layer_scanning.proofs.Named.{found_is}
+use Rattle.geometry_scanning.proofs.Named.{found_is}
 
 -- a feature by the answers of its look-ups
 abbrev feature_by : Bool → Result (Option Json) GeoFaultKind → Result (Option Json) GeoFaultKind → Result (Option Json) GeoFaultKind → Reader Featured

@@ -1,6 +1,6 @@
 -- A feature's members, one after another.
-use Rattle.std.proofs.Common.{◌≡◌, ℕ, ◌≤◌, Bool, true, false, not, cond, List, [], ◌∷◌, ◌++◌, Option, Some, None, Result, Ok, Err, inl, inr, refl, sym, ap, ◌∙◌, subst, arith}
-use Rattle.std.specs.Prelude.{codes, bytes_eq, is_some, option_to_list}
+use Rattle.std.proofs.Common.{◌≡◌, ℕ, ◌≤◌, Bool, true, false, cond, List, [], ◌∷◌, ◌++◌, Option, Some, None, Result, Ok, Err, inl, inr, refl, sym, ap, ◌∙◌, subst, arith}
+use Rattle.std.specs.Prelude.{codes, bytes_eq, option_to_list}
 use Rattle.json_value.specs.declared.json.Json.{Json}
 use Rattle.json_value.specs.declared.json.Json.TheVariants as j
 use Rattle.json_value.specs.Kinds.{object_of}
@@ -22,8 +22,8 @@ use Rattle.geometry_scanning.specs.Fronts.{any, Front, FrontAt, MemberFront, Nam
 use Rattle.geometry_scanning.proofs.Words.{member_is, word_named, word_value}
 use Rattle.layer_scanning.specs.declared.features.Parts.{Parts}
 use Rattle.layer_scanning.specs.FeatureParts.{geometry_member, given, IsShape, Holds}
-use Rattle.layer_scanning.specs.MemberLists.{TakesMember}
-use Rattle.layer_scanning.proofs.Named.{other_named, first_named, foreign_named}
+use Rattle.geometry_scanning.specs.MemberLists.{TakesMember}
+use Rattle.geometry_scanning.proofs.Named.{other_named, first_named, foreign_named}
 
 -- ---- the member `geometry`
 
@@ -125,14 +125,6 @@ module _ (exact : Bool) (ms : List (List ℕ × Json)) (parts : Parts) (start ol
   }
 
 -- ---- one more member of the bytes
-
-pub not_false : (b : Bool) → not b ≡ false → b ≡ true
-not_false true h = refl
-not_false false h = absurd cc
-
-pub no_some : {A : Type 0} (o : Option A) → is_some o ≡ false → o ≡ None
-no_some None h = refl
-no_some (Some x) h = absurd cc
 
 module _ (exact : Bool) (bytes front rest : List ℕ) (parts : Parts) (old : Counts) where
   pub take_shape : (x : Option Shape) (new : Counts) → NamedValue (codes "\"geometry\"") bytes front → parts.shape ≡ None → Stands (FrontAt 124) (geometry_member exact) front x rest old new

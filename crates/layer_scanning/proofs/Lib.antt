@@ -1,5 +1,3 @@
-pub mod MembersSoFar
-pub mod Named
 pub mod FeatureMembers
 pub mod FeatureMeans
 pub mod CollectionMeans

@@ -21,8 +21,8 @@ use Rattle.geojson_model.specs.Reader.{Reader, LayerReader, ◌>>=◌, fail, pur
 use Rattle.geojson_model.specs.Types.{geojson_type, geometry_type, coordinates_type}
 use Rattle.geojson_model.proofs.Unrolled.{shape_object, shape_other}
 use Rattle.geometry_scanning.specs.Fronts.{any, Front, FrontAt, Stands}
+use Rattle.geometry_scanning.proofs.Texts.{whole}
 use Rattle.layer_scanning.specs.CollectionParts.{SpellsLayer}
-use Rattle.layer_scanning.proofs.CollectionMeans.{whole}
 
 -- the features of an object whose type has this name
 abbrev features_named : Bool → Members → Result (List ℕ) GeoFaultKind → LayerReader (List Featured)

@@ -1,3 +1,2 @@
-pub mod MemberLists
 pub mod FeatureParts
 pub mod CollectionParts

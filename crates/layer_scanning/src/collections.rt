@@ -4,11 +4,9 @@ ghost use Rattle.geometry_scanning.specs.Fronts.{MemberFront};
 ghost use Rattle.layer_scanning.specs.CollectionParts.{Contains, FeaturesStand, SpellsLayer};
 
 use crate::features::{feature_at, features_behind};
-use crate::objects::{Object, members_at};
-use crate::texts::text_of;
 use decimal_json::{after_word, member_at, skip};
 use geojson_types::{Counts, Feature, Layer};
-use geometry_scanning::{named_value, opened};
+use geometry_scanning::{Object, members_at, named_value, opened, text_of};
 use json_value::Items;
 use std::alloc::Global;
 use unit_scanning::{Halt, after_byte};

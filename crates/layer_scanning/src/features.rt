@@ -5,11 +5,10 @@ ghost use Rattle.geojson_types.specs.Features.{Featured};
 ghost use Rattle.geometry_scanning.specs.Fronts.{FrontAt, MemberFront, MoreStand, Stands, one};
 ghost use Rattle.layer_scanning.specs.FeatureParts.{Holds, geometry_member, given};
 
-use crate::objects::{Object, members_at};
 use decimal_json::{after_word, member_at, skip, value_at};
 use geojson_model::{identifier, members_if, read_shape};
 use geojson_types::{Counts, Feature, Shape};
-use geometry_scanning::{geometry_at, named_value, opened};
+use geometry_scanning::{Object, geometry_at, members_at, named_value, opened};
 use json_value::Json;
 use std::alloc::Global;
 use unit_scanning::{Halt, after_byte};

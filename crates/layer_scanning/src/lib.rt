@@ -7,10 +7,7 @@
 mod collections;
 mod features;
 mod layers;
-mod objects;
 mod singles;
-mod texts;
 
 pub use features::{feature_at, features_behind};
 pub use layers::scan_layer;
-pub use objects::{Object, members_at};

@@ -3,10 +3,9 @@ ghost use Rattle.std.specs.Prelude.{IfOk, IsUtf8};
 ghost use Rattle.layer_scanning.specs.CollectionParts.{SpellsLayer};
 
 use crate::features::feature_at;
-use crate::texts::text_of;
 use decimal_json::{after_word, skip};
 use geojson_types::{Counts, Feature, Layer};
-use geometry_scanning::{geometry_at, named_value, opened};
+use geometry_scanning::{geometry_at, named_value, opened, text_of};
 use json_value::Items;
 use std::alloc::Global;
 use unit_scanning::Halt;

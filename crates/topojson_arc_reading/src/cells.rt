@@ -36,7 +36,7 @@ fn elements_position(elements: &[Json], counts: &mut Counts) -> Result<Cell, Top
 
 /// The cell of the grid that lies so far from another, and at a position.
 #[tactic(auto, unfolding(topojson_meaning::specs::Arcs::grid_cell, topojson_types::specs::Transforms::placed))]
-fn grid_cell(transform: &Transform, before: Cell, difference: Cell) -> Result<Cell, TopoFault>
+pub fn grid_cell(transform: &Transform, before: Cell, difference: Cell) -> Result<Cell, TopoFault>
     ensures { Finds (λ c. c) result (spec.grid_cell transform.now (moved before difference)) }
 {
     let Some(cell) = cell_after(before, difference) else {

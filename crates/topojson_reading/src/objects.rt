@@ -120,9 +120,10 @@ fn objects_in(
     Ok(read)
 }
 
-/// The objects by name that a value is, in order.
+/// The objects by name that a value is, in order (TopoJSON 1.0, section 2.1.5), over these arcs, or the first fault. Identifiers and
+/// properties are moved, unchanged.
 #[tactic(auto, unfolding(topojson_meaning::specs::Objects::objects))]
-pub(crate) fn objects(
+pub fn read_objects(
     alloc: Global,
     transform: Option<&Transform>,
     arcs: &[Items<Cell>],

@@ -10,7 +10,7 @@ ghost use Rattle.topojson_meaning.specs.declared.fault.TopoFault.TheVariants.{Me
 
 use crate::arcs::arc_list;
 use crate::members::{needed, taken};
-use crate::objects::objects;
+use crate::objects::read_objects;
 use geojson_types::Counts;
 use json_members::find;
 use json_value::{Items, Json, OwnText};
@@ -52,7 +52,9 @@ fn objects_of(
     ensures { Gives (λ objects. objects) result counts.new (need_as (codes "objects") (objects_in_order (option_copied transform.entry) arcs.now) members.old.items counts.old) }
 {
     let value = taken(members, "objects")?;
-    Ok(Items::of(objects(alloc, transform, arcs, value, counts)?))
+    Ok(Items::of(read_objects(
+        alloc, transform, arcs, value, counts,
+    )?))
 }
 
 /// The objects and the arcs among these members. The arcs are read first.

@@ -9,11 +9,19 @@ use std::alloc::Global;
 use topojson_meaning::TopoFault;
 use topojson_reading::read_topology;
 use topojson_types::Topology;
+use topology_scanning::scan_topology;
+use unit_scanning::Halt;
 
-/// The topology that the bytes spell, with what was counted in reading it.
+/// The topology that the bytes spell, with what was counted in reading it: read straight from the bytes where they are written as most
+/// programs write topologies, and else from the JSON value that they spell, which tells what is wrong, if anything is.
 fn topology_of(alloc: Global, bytes: &[u8]) -> Result<(Topology, Counts), FileFault>
     ensures { IsTopologyOf bytes.now result }
 {
+    match scan_topology(alloc, bytes) {
+        Ok(read) => return Ok(read),
+        Err(Halt::Memory) => return Err(FileFault::Memory),
+        Err(Halt::Unread) => {}
+    }
     let value = match parse(alloc, bytes, TOPOLOGY_DEPTH) {
         Ok(value) => value,
         Err(JsonFault::Memory) => return Err(FileFault::Memory),

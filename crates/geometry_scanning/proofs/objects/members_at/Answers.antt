@@ -1,6 +1,6 @@
 use Rattle.std.proofs.Common.{sym, ◌∙◌}
-use Rattle.layer_scanning.proofs.MembersSoFar.{starts, goes_on, ends}
-use Rattle.layer_scanning.proofs.objects.members_at.Goals as goal
+use Rattle.geometry_scanning.proofs.MembersSoFar.{starts, goes_on, ends}
+use Rattle.geometry_scanning.proofs.objects.members_at.Goals as goal
 
 pub members-init : goal.members-init
 members-init g c = starts g.T.Object.is_front (g.T.Object.holds c.args.exact) c.args.start c.args.inside.now c.args.counts.now _ _ _ (rw c.skip.ensures at c.in_ok-rest.ensures)

@@ -1,6 +1,6 @@
 use Rattle.std.proofs.Common.{sym, ◌∙◌}
-use Rattle.layer_scanning.proofs.CollectionMeans.{layer_stands, empty_is}
-use Rattle.layer_scanning.proofs.FeatureMembers.{not_false}
+use Rattle.geometry_scanning.proofs.Texts.{empty_is, not_false}
+use Rattle.layer_scanning.proofs.CollectionMeans.{layer_stands}
 use Rattle.layer_scanning.proofs.collections.scan_collection.Goals as goal
 
 pub returns : goal.returns

@@ -1,0 +1,3 @@
+pub mod Stands
+pub mod Cells
+pub mod TopologyParts

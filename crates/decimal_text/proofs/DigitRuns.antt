@@ -15,9 +15,7 @@ digit_range c h = grind (arith, nat_tests)
 
 pub AllDigits-from_All : (ds : List ℕ) → All IsDigit ds → AllDigits ds
 AllDigits-from_All [] h = tt
-AllDigits-from_All (c ∷ cs) h =
-    let b : (48 ≤ c) × (c ≤ 57) = All-head IsDigit c cs h in
-    (digit_true c b.0 b.1, AllDigits-from_All cs (All-tail IsDigit c cs h))
+AllDigits-from_All (c ∷ cs) h = grind (arith, All-head, digit_true, All-tail, AllDigits-from_All cs (All-tail IsDigit c cs h))
 
 -- the text begins with no digit
 abbrev pub StopsDigits : List ℕ → Type 0

@@ -1,5 +1,5 @@
 -- The number that digits write.
-use Rattle.std.proofs.Common.{◌≡◌, ℕ, ◌+◌, ◌-◌, ◌*◌, ◌^◌, ◌<◌, ◌≤◌, suc, List, [], ◌∷◌, ◌++◌, length, All, refl, ap, ◌∙◌, arith, get_or, drop, add-one, ⊎_elim}
+use Rattle.std.proofs.Common.{◌≡◌, ℕ, ◌+◌, ◌-◌, ◌*◌, ◌^◌, ◌<◌, ◌≤◌, suc, List, [], ◌∷◌, ◌++◌, length, All, refl, ap, ◌∙◌, arith, get_or, drop, add-one}
 use Rattle.std.proofs.lemmas.List.Elements.{All-head, All-tail, All-cons, All-append}
 use Rattle.std.proofs.lemmas.Bool.{cases_lt}
 use Rattle.std.proofs.lemmas.List.{at_drop_more}
@@ -60,12 +60,7 @@ digits_value-less c cs h five =
 -- digits that are all zeros write zero, and no others do
 pub digits_value-zeros : (ds : List ℕ) → All (λ c. c ≡ 48) ds → digits_value ds ≡ 0
 digits_value-zeros [] h = refl
-digits_value-zeros (c ∷ cs) h =
-    let e : c ≡ 48 = All-head (λ c. c ≡ 48) c cs h in
-    let two = digits_value_after-split (10 * 0 + (c - 48)) cs in
-    let rest : digits_value cs ≡ 0 = digits_value-zeros cs (All-tail (λ c. c ≡ 48) c cs h) in
-    let none : c - 48 ≡ 0 = omega arith in
-    two ∙ rw (none, rest) (omega arith)
+digits_value-zeros (c ∷ cs) h = search (All-head, digits_value_after-split, All-tail, digits_value-zeros cs (All-tail (λ c. c ≡ 48) c cs h), arith)
 
 pub zeros-value : (ds : List ℕ) → All IsDigit ds → digits_value ds ≡ 0 → All (λ c. c ≡ 48) ds
 zeros-value [] h e = λ k d l. absurd (omega arith)
@@ -110,10 +105,7 @@ cut_past kept cut limit h = grind (arith, mul-le-mul_left, digits_value-cut)
 pub half_by_first : (ds : List ℕ) → All IsDigit ds → 0 < length ds
     → (53 ≤ get_or ds 0 0 → 10 ^ length ds ≤ 2 * digits_value ds) × (10 ^ length ds ≤ 2 * digits_value ds → 53 ≤ get_or ds 0 0)
 half_by_first [] h some = absurd (omega arith)
-half_by_first (c ∷ cs) h some = (
-  digits_value-half c cs h,
-  λ more. ⊎_elim (λ l. let less = digits_value-less c cs h l in absurd (omega arith)) (λ g. g) (cases_lt c 53),
-)
+half_by_first (c ∷ cs) h some = grind (arith, digits_value-half, digits_value-less, cases_lt)
 
 -- two parts write zero exactly where both are zeros
 pub zero_parts : (xs ys : List ℕ) → All (λ c. c ≡ 48) xs → All (λ c. c ≡ 48) ys → digits_value (xs ++ ys) ≡ 0

@@ -1,12 +1,12 @@
 -- A text that spells a number is read as its parts.
-use Rattle.std.proofs.Common.{◌≡◌, ℕ, ◌<◌, ◌==◌, ◌++◌, Bool, true, false, List, [], ◌∷◌, length, Option, Some, None, refl, sym, ap, ◌∙◌, arith, if◌then◌else◌}
+use Rattle.std.proofs.Common.{◌≡◌, ℕ, ◌<◌, ◌==◌, ◌++◌, Bool, true, false, List, [], ◌∷◌, length, Option, Some, None, refl, ap, ◌∙◌, arith, if◌then◌else◌}
 use Rattle.std.specs.Prelude.{option_and_then}
 use Rattle.std.proofs.lemmas.Bool.Decides.{nat_tests}
 use Rattle.std.proofs.lemmas.List.{append-nil}
 use Rattle.std.proofs.lemmas.Bool.{ne_eqb}
 use Rattle.decimal_text.specs.Grammar.{is_digit, AllDigits, IsWhole}
 use Rattle.decimal_text.specs.Digits.{front_digits, after_digits}
-use Rattle.decimal_text.specs.Parts.{Parts, parts_of, unsigned_of, exponent_of, signed_digits_of, all_digits_of, fraction_of, is_whole, fraction_text, sign_text, SpellsSign, spells_no_sign, spells_plus, spells_minus, SpellsExponent, spells_no_exponent, spells_exponent, SpellsNumber}
+use Rattle.decimal_text.specs.Parts.{Parts, parts_of, unsigned_of, exponent_of, signed_digits_of, all_digits_of, fraction_of, is_whole, fraction_text, sign_text, SpellsSign, spells_no_sign, spells_plus, spells_minus, SpellsExponent, SpellsNumber}
 use Rattle.decimal_text.proofs.DigitRuns.{digit_range, StopsDigits, front_digits-run, after_digits-run}
 
 pick_all : (f a ds : List ℕ) → f ≡ ds → a ≡ [] → 0 < length ds
@@ -14,23 +14,16 @@ pick_all : (f a ds : List ℕ) → f ≡ ds → a ≡ [] → 0 < length ds
 pick_all f a ds e1 e2 some = rw (e1, e2) (rw (ne_eqb (length ds) 0 (λ e. omega arith)) refl)
 
 all_digits-read : (b : ℕ) (bs : List ℕ) → is_digit b ≡ true → AllDigits bs → all_digits_of (b ∷ bs) ≡ Some (b ∷ bs)
-all_digits-read b bs hb h =
-    let ds : List ℕ = b ∷ bs in
-    pick_all (front_digits ds) (after_digits ds) ds
-    (ap front_digits (sym (append-nil ds)) ∙ front_digits-run ds [] (hb, h) tt)
-    (ap after_digits (sym (append-nil ds)) ∙ after_digits-run ds [] (hb, h) tt) (omega arith)
+all_digits-read b bs hb h = grind (arith, pick_all, append-nil (b ∷ bs), front_digits-run (b ∷ bs) [] (hb, h) tt, after_digits-run (b ∷ bs) [] (hb, h) tt)
 
 signed_digits-read : (s : List ℕ) (negative : Bool) (b : ℕ) (bs : List ℕ) → SpellsSign s negative → is_digit b ≡ true → AllDigits bs
     → signed_digits_of (s ++ b ∷ bs) ≡ Some (negative, b ∷ bs)
-signed_digits-read s negative b bs spells_no_sign hb h =
-    let r = digit_range b hb in
-    rw (ne_eqb b 45 (λ e. omega arith)) (rw (ne_eqb b 43 (λ e. omega arith)) (ap (option_and_then (λ ds. Some (false, ds))) (all_digits-read b bs hb h)))
+signed_digits-read s negative b bs spells_no_sign hb h = grind (arith, digit_range, ne_eqb, all_digits-read)
 signed_digits-read s negative b bs spells_plus hb h = ap (option_and_then (λ ds. Some (false, ds))) (all_digits-read b bs hb h)
 signed_digits-read s negative b bs spells_minus hb h = ap (option_and_then (λ ds. Some (true, ds))) (all_digits-read b bs hb h)
 
 exponent-read : (t : List ℕ) (negative : Bool) (ds : List ℕ) → SpellsExponent t negative ds → exponent_of t ≡ Some (negative, ds)
-exponent-read t negative ds spells_no_exponent = refl
-exponent-read t negative ds (spells_exponent e s n b bs he hs hb h) = rw he (signed_digits-read s n b bs hs hb h)
+exponent-read t negative ds h3 = grind (arith, signed_digits-read)
 
 -- what follows a fraction is neither a digit nor a point
 pub IsAfter : List ℕ → Type 0
@@ -70,17 +63,6 @@ pub record WholeFacts (w : List ℕ) : Type 0 where
 pub whole-facts : (w : List ℕ) → IsWhole w → WholeFacts w
 whole-facts w h = grind arith
 
-combine : (negative exponent_negative : Bool) (front after w f e ds : List ℕ) → front ≡ w → is_whole w ≡ true
-    → fraction_of after ≡ Some (f, e) → exponent_of e ≡ Some (exponent_negative, ds)
-    → (if is_whole front
-    then option_and_then {U = Parts}
-    (λ f. option_and_then {U = Parts}
-    (λ e. Some (record { negative = negative; whole = front; fraction = f.0; exponent_negative = e.0; exponent = e.1 }))
-    (exponent_of f.1))
-    (fraction_of after)
-    else None) ≡ Some (record { negative = negative; whole = w; fraction = f; exponent_negative = exponent_negative; exponent = ds })
-combine negative exponent_negative front after w f e ds is whole fraction exponent = rw is (rw whole (rw fraction (rw exponent refl)))
-
 unsigned-read : (negative exponent_negative : Bool) (w f e ds : List ℕ) → IsWhole w → AllDigits f → SpellsExponent e exponent_negative ds
     → unsigned_of negative (w ++ (fraction_text f ++ e))
     ≡ Some (record { negative = negative; whole = w; fraction = f; exponent_negative = exponent_negative; exponent = ds })
@@ -89,17 +71,12 @@ unsigned-read negative exponent_negative w f e ds hw hf he =
     let after = exponent-after e exponent_negative ds he in
     let rest : List ℕ = fraction_text f ++ e in
     let stop = fraction-stops f e after in
-    combine negative exponent_negative (front_digits (w ++ rest)) (after_digits (w ++ rest)) w f e ds
-    (front_digits-run w rest facts.digits stop) facts.test
-    (ap fraction_of (after_digits-run w rest facts.digits stop) ∙ fraction-read f e hf after)
-    (exponent-read e exponent_negative ds he)
+    (rw (front_digits-run w rest facts.digits stop) (rw facts.test (rw (ap fraction_of (after_digits-run w rest facts.digits stop) ∙ fraction-read f e hf after) (rw (exponent-read e exponent_negative ds he) refl))))
 
 -- a text that begins with a digit has no sign
 unsigned-parts : (w rest : List ℕ) → AllDigits w → 0 < length w → parts_of (w ++ rest) ≡ unsigned_of false (w ++ rest)
 unsigned-parts [] rest h some = absurd (omega arith)
-unsigned-parts (c ∷ cs) rest h some =
-    let r = digit_range c h.0 in
-    rw (ne_eqb c 45 (λ e. omega arith)) refl
+unsigned-parts (c ∷ cs) rest h some = grind (arith, digit_range, ne_eqb)
 
 signed-parts : (negative : Bool) (w rest : List ℕ) → IsWhole w → parts_of (sign_text negative ++ (w ++ rest)) ≡ unsigned_of negative (w ++ rest)
 signed-parts true w rest h = refl

@@ -1,5 +1,5 @@
 -- Rounding a fraction.
-use Rattle.std.proofs.Common.{◌≡◌, ℕ, ◌+◌, ◌-◌, ◌*◌, ◌/◌, ◌^◌, ◌<◌, ◌≤◌, suc, sym, ap, ◌∙◌, arith, ⊎_elim, IsTrue, ◌↔◌, Result, Ok, Err, subst, true, false, ◌≢◌}
+use Rattle.std.proofs.Common.{◌≡◌, ℕ, ◌+◌, ◌-◌, ◌*◌, ◌/◌, ◌^◌, ◌<◌, ◌≤◌, sym, ap, ◌∙◌, arith, ⊎_elim, IsTrue, ◌↔◌, Result, Ok, Err, subst, true, false, ◌≢◌}
 use Rattle.decimal_text.specs.Rounding.{IsRounded, IsRoundedTo, Rounds}
 use Rattle.decimal_text.specs.declared.num_text.Range.{Range}
 use Rattle.decimal_text.specs.declared.rounding.Magnitude.{Magnitude}
@@ -47,11 +47,7 @@ IsRoundedTo-down num den q r limit m sum less is exact small = grind arith
 -- q whole and a half or more
 pub IsRoundedTo-up : (num den q r limit : ℕ) (m : Magnitude) → num ≡ q * den + r → den ≤ 2 * r → r < den
     → m.value ≡ q + 1 → (IsTrue m.exact ↔ (r ≡ 0)) → q + 1 ≤ limit → IsRoundedTo num den limit m
-IsRoundedTo-up num den q r limit m sum more less is exact small = record {
-  rounded = rw (is, sum) (IsRounded-up den q r more less);
-  exact = rw (is, sum) ((λ t. let none : r ≡ 0 = exact.0 t in absurd (omega arith)), (λ e. absurd (omega arith)));
-  within = omega arith;
-}
+IsRoundedTo-up num den q r limit m sum more less is exact small = grind (arith, IsRounded-up den q r more less)
 
 -- rounded up past the limit
 pub up_past : (num den q r limit : ℕ) → num ≡ q * den + r → den ≤ 2 * r → r < den → q ≡ limit
@@ -86,11 +82,7 @@ Rounds-longer v up down limit r le h =
 
 pub Rounds-shorter : (v up down limit : ℕ) (r : Result Magnitude Range) → up ≤ down
     → Rounds v (10 ^ (down - up)) limit r → Rounds (v * 10 ^ up) (10 ^ down) limit r
-Rounds-shorter v up down limit r le h =
-    let pos : 0 < 10 ^ up = one-le-pow up 10 (omega arith) in
-    let sum : down ≡ (down - up) + up = omega arith in
-    let split : 10 ^ down ≡ 10 ^ (down - up) * 10 ^ up = ap (λ n. 10 ^ n) sum ∙ pow-add 10 (down - up) up in
-    subst (λ d. Rounds (v * 10 ^ up) d limit r) (sym split) (Rounds-scaled v (10 ^ (down - up)) limit (10 ^ up) r pos h)
+Rounds-shorter v up down limit r le h = grind (arith, one-le-pow, pow-add, Rounds-scaled)
 
 -- a whole number
 pub IsRoundedTo-whole : (num limit : ℕ) (m : Magnitude) → m.value ≡ num → m.exact ≡ true → num ≤ limit → IsRoundedTo num 1 limit m
@@ -103,10 +95,7 @@ long_past v limit zeros h = grind (arith, one-le-pow, mul-le-mul_left)
 -- all digits and more are cut
 pub IsRoundedTo-cut : (v len cut limit : ℕ) (m : Magnitude) → v < 10 ^ len → len < cut
     → m.value ≡ 0 → (IsTrue m.exact ↔ (v ≡ 0)) → IsRoundedTo v (10 ^ cut) limit m
-IsRoundedTo-cut v len cut limit m small more is exact =
-    let step : 10 ^ suc len ≡ 10 ^ len * 10 = pow-suc 10 len in
-    let up : 10 ^ suc len ≤ 10 ^ cut = pow-le-pow_right (omega arith) more in
-    IsRoundedTo-down v (10 ^ cut) 0 v limit m (omega arith) (omega arith) is exact (omega arith)
+IsRoundedTo-cut v len cut limit m small more is exact = grind (arith, pow-suc 10 len, pow-le-pow_right, IsRoundedTo-down)
 
 -- zero, at any exponent
 pub IsRoundedTo-zero : (v a b limit : ℕ) (m : Magnitude) → v ≡ 0 → m.value ≡ 0 → m.exact ≡ true
@@ -128,13 +117,7 @@ IsRoundedTo-tiny v len places cut limit m small more is exact some =
 
 -- a number far above the limit
 pub far_past : (v behind up limit : ℕ) → v ≢ 0 → limit ≤ 10 ^ 37 → behind + 38 ≤ up → (limit + 1) * 10 ^ behind ≤ v * 10 ^ up
-far_past v behind up limit some small far =
-    let split : 10 ^ (behind + 38) ≡ 10 ^ behind * 10 ^ 38 = pow-add 10 behind 38 in
-    let more : 10 ^ (behind + 38) ≤ 10 ^ up = pow-le-pow_right (omega arith) far in
-    let one : 1 ≤ v = ⊎_elim (λ l. absurd (some (omega arith))) (λ g. g) (cases_lt v 1) in
-    let times : 10 ^ up * 1 ≤ 10 ^ up * v = mul-le-mul_left (10 ^ up) one in
-    let room : 10 ^ behind * (limit + 1) ≤ 10 ^ behind * 10 ^ 38 = mul-le-mul_left (10 ^ behind) (omega arith) in
-    omega arith
+far_past v behind up limit some small far = grind (arith, pow-add 10 behind 38, pow-le-pow_right, cases_lt v 1, mul-le-mul_left)
 
 -- there is a rounded number
 pub IsRounded-some : (num den : ℕ) → 0 < den → IsRounded num den ((2 * num + den) / (2 * den))

@@ -1,5 +1,5 @@
 -- What a number text scales to.
-use Rattle.std.proofs.Common.{◌≡◌, ℕ, ◌<◌, ◌≤◌, Bool, List, Option, Some, Ok, IfOk, subst, ap, arith, unsigned_abs}
+use Rattle.std.proofs.Common.{◌≡◌, ℕ, ◌<◌, ◌≤◌, Bool, List, Some, Ok, IfOk, subst, ap, arith, unsigned_abs}
 use Rattle.std.proofs.Math.Nat.{one-le-pow}
 use Rattle.std.proofs.lemmas.Bool.{cases_lt}
 use Rattle.decimal_text.specs.declared.num_text.Scaled.{Scaled}
@@ -31,10 +31,7 @@ unsigned_abs-signed negative m = grind arith
 pub rounded_of-limit : (negative : Bool) (num den limit : ℕ) → IfOk (rounded_of negative num den limit) (λ s. unsigned_abs s.value ≤ limit)
 rounded_of-limit negative num den limit = grind (arith, rounded_of-past, rounded_of-within, unsigned_abs-signed, cases_lt)
 
-scaled_parts-limit : (places limit : ℕ) (o : Option Parts) → IfOk (scaled_parts places limit o) (λ s. unsigned_abs s.value ≤ limit)
-scaled_parts-limit places limit o = grind (arith, rounded_of-limit)
-
 -- what a number text scales to is within the limit
 pub scaled_of-within : (places limit : ℕ) (t : List ℕ) (s : Scaled) → scaled_of places limit t ≡ Ok s → unsigned_abs s.value ≤ limit
 unfolding scaled_of
-scaled_of-within places limit t s e = subst (λ r. IfOk r (λ x. unsigned_abs x.value ≤ limit)) e (scaled_parts-limit places limit (parts_of t))
+scaled_of-within places limit t s e = subst (λ r. IfOk r (λ x. unsigned_abs x.value ≤ limit)) e ((grind (arith, rounded_of-limit)))

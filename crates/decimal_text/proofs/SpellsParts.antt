@@ -59,15 +59,7 @@ record IsSignedRun (t : List ℕ) (negative : Bool) (ds : List ℕ) : Type 0 whe
 
 signed_run : (s : List ℕ) (b : Bool) (rest : List ℕ) (negative : Bool) (ds : List ℕ) → SpellsSign s b
     → option_and_then {U = Bool × List ℕ} (λ r. Some (b, r)) (all_digits_of rest) ≡ Some (negative, ds) → IsSignedRun (s ++ rest) negative ds
-signed_run s b rest negative ds sign h =
-    let parts = option_some b (all_digits_of rest) negative ds h in
-    let run = all_digits-spelled rest ds parts.1 in
-    record {
-      sign = s;
-      same = ap (λ r. s ++ r) run.same;
-      spelled = subst (SpellsSign s) parts.0 sign;
-      run = record { same = refl; digits = run.digits; some = run.some };
-    }
+signed_run s b rest negative ds sign h = grind (arith, option_some b (all_digits_of rest) negative ds h, all_digits-spelled rest ds (option_some b (all_digits_of rest) negative ds h).1)
 
 minus_case : (c : ℕ) (cs : List ℕ) (negative : Bool) (ds : List ℕ) → (c == 45) ≡ true → signed_digits_of (c ∷ cs) ≡ Some (negative, ds)
     → IsSignedRun (c ∷ cs) negative ds
@@ -115,11 +107,7 @@ fraction_text-some : (f : List ℕ) → 0 < length f → fraction_text f ≡ 46 
 fraction_text-some f h = grind arith
 
 fraction-spelled : (t f rest : List ℕ) → fraction_of t ≡ Some (f, rest) → IsFractionAnd t f rest
-fraction-spelled [] f rest h =
-    let parts = some_pair_parts {A = List ℕ} {B = List ℕ} [] f [] rest h in
-    subst (λ g. IsFractionAnd [] g rest) parts.0 record { same = parts.1; digits = tt }
-fraction-spelled (c ∷ cs) f rest h =
-    grind (arith, eqb-true, fraction_test, some_from_length, front-after, fraction_text-some, front-AllDigits, some_pair_parts, eqb_tells)
+fraction-spelled t f rest h = grind (arith, some_pair_parts, eqb-true, fraction_test, some_from_length, front-after, fraction_text-some, front-AllDigits, eqb_tells)
 
 whole-made : (w : List ℕ) → AllDigits w → is_whole w ≡ true → IsWhole w
 whole-made [] h t = absurd (false≢true t)
@@ -147,16 +135,7 @@ with_exponent negative front f = option_and_then (joined negative front f.0) (ex
 exponent_step : (negative : Bool) (front after f r : List ℕ) (n : Parts) (o : Option (Bool × List ℕ)) → is_whole front ≡ true
     → fraction_of after ≡ Some (f, r) → exponent_of r ≡ o → option_and_then (joined negative front f) o ≡ Some n → UnsignedSteps negative front after n
 exponent_step negative front after f r n None w e1 e2 h = absurd cc
-exponent_step negative front after f r n (Some x) w e1 e2 h = record {
-  whole = w;
-  fraction = f;
-  rest = r;
-  fraction_is = e1;
-  exponent_negative = x.0;
-  exponent = x.1;
-  exponent_is = e2;
-  parts = cc;
-}
+exponent_step negative front after f r n (Some x) w e1 e2 h = grind arith
 
 whole_step : (negative b : Bool) (front after : List ℕ) (n : Parts) → is_whole front ≡ b
     → if◌then◌else◌ {A = Option Parts} b (option_and_then (with_exponent negative front) (fraction_of after)) None ≡ Some n

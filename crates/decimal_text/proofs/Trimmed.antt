@@ -1,5 +1,5 @@
 -- Digits without the zeros at their end.
-use Rattle.std.proofs.Common.{◌≡◌, ℕ, ◌+◌, ◌-◌, ◌<◌, ◌≤◌, ◌==◌, false, List, [], ◌∷◌, ◌++◌, length, take, get_or, refl, sym, ap, ◌∙◌, arith, ⊎_elim}
+use Rattle.std.proofs.Common.{◌≡◌, ℕ, ◌-◌, ◌<◌, ◌≤◌, ◌==◌, false, List, [], ◌∷◌, ◌++◌, length, take, get_or, refl, ap, arith, ⊎_elim}
 use Rattle.std.proofs.lemmas.Bool.Decides.{eqb_tells}
 use Rattle.std.proofs.lemmas.List.{take_more}
 use Rattle.decimal_text.specs.Laws.{EndsInNoZero}
@@ -31,11 +31,7 @@ trimmed-empty ds e h = grind arith
 
 pub trimmed-stop : (ds : List ℕ) (e : ℕ) → 0 < e → e ≤ length ds → (get_or ds (e - 1) 0 ≡ 48 → ⊥)
     → trimmed (take e ds) ≡ take e ds
-trimmed-stop ds e pos within h =
-    let at : (e - 1) + 1 ≡ e = omega arith in
-    let more = take_more ds (e - 1) 0 (omega arith) in
-    let cut : take e ds ≡ take (e - 1) ds ++ get_or ds (e - 1) 0 ∷ [] = ap (λ n. take n ds) (sym at) ∙ more in
-    ap trimmed cut ∙ trimmed-push (take (e - 1) ds) (get_or ds (e - 1) 0) (other_digit (get_or ds (e - 1) 0) h) ∙ sym cut
+trimmed-stop ds e pos within h = grind (arith, take_more, trimmed-push (take (e - 1) ds) (get_or ds (e - 1) 0) (other_digit (get_or ds (e - 1) 0) h), other_digit (get_or ds (e - 1) 0) h)
 
 -- nothing is no list with an element at its end
 nothing_ends : (front : List ℕ) (d : ℕ) → [] ≡ front ++ d ∷ [] → ⊥
@@ -47,11 +43,7 @@ one_ends c [] d h = cc
 one_ends c (x ∷ xs) d h = let rest : [] ≡ xs ++ d ∷ [] = cc in absurd (nothing_ends xs d rest)
 
 before-end : (c : ℕ) (t : List ℕ) → EndsInNoZero t → EndsInNoZero (before_trimmed c t)
-before-end c [] h = λ front e.
-    ⊎_elim
-    (λ y. nothing_ends front 48 (rw y.0 at e))
-    (λ n. n.1 (one_ends c front 48 (rw n.0 at e)))
-    (eqb_tells c 48)
+before-end c [] h = grind (arith, nothing_ends, one_ends, eqb_tells)
 before-end c (d ∷ ds) h = λ front e. longer front e
   where
     longer : (front : List ℕ) → c ∷ d ∷ ds ≡ front ++ 48 ∷ [] → ⊥

@@ -1,5 +1,5 @@
 -- A text of units is a number, which scales to the units again.
-use Rattle.std.proofs.Common.{◌≡◌, ℕ, ◌+◌, ◌-◌, ◌*◌, ◌/◌, ◌%◌, ◌^◌, ◌<◌, ◌≤◌, suc, zero, Bool, true, false, List, [], ◌∷◌, ◌++◌, length, get_or, All, Ok, Option, Some, decimal, refl, sym, ap, ◌∙◌, arith, ⊎_elim, length-append, add-zero, ℤ, pos, int_lt, unsigned_abs, subst}
+use Rattle.std.proofs.Common.{◌≡◌, ℕ, ◌+◌, ◌-◌, ◌*◌, ◌/◌, ◌%◌, ◌^◌, ◌<◌, ◌≤◌, suc, zero, Bool, true, false, List, [], ◌∷◌, ◌++◌, length, get_or, All, Ok, Some, decimal, refl, sym, ap, ◌∙◌, arith, ⊎_elim, length-append, add-zero, ℤ, pos, int_lt, unsigned_abs, subst}
 use Rattle.std.proofs.Math.Nat.{pow-suc, one-le-pow, zero-mul, mul-le-mul_left}
 use Rattle.std.proofs.lemmas.Bool.Decides.{nat_tests, eqb_tells}
 use Rattle.std.proofs.lemmas.Fmt.{decimal_by_steps_wide}
@@ -10,7 +10,7 @@ use Rattle.decimal_text.specs.Grammar.{IsWhole, whole_zero, whole_digits, IsNumb
 use Rattle.decimal_text.specs.Digits.{IsDigit, digits_value}
 use Rattle.decimal_text.specs.Parts.{Parts, parts_of, sign_text, fraction_text, SpellsNumber, spells_no_exponent}
 use Rattle.decimal_text.specs.Rounding.{signed, rounded_of}
-use Rattle.decimal_text.specs.Scaling.{numerator, denominator, scaled_of, scaled_parts, units_text}
+use Rattle.decimal_text.specs.Scaling.{denominator, scaled_of, scaled_parts, units_text}
 use Rattle.decimal_text.specs.Units.{fixed, trimmed, before_trimmed}
 use Rattle.decimal_text.specs.Laws.{ReadsAgain, EndsInNoZero}
 use Rattle.decimal_text.proofs.Trimmed.{trimmed-end}
@@ -104,27 +104,19 @@ before-value c cs [] low e =
     rw y.0 (omega (arith, one)))
     (λ n. rw n.0 (rw step (omega (arith, one))))
     (eqb_tells c 48)
-before-value c cs (x ∷ xs) low e =
-    let one = digits_value_after-split (10 * 0 + (c - 48)) cs in
-    let two = digits_value_after-split (10 * 0 + (c - 48)) (x ∷ xs) in
-    let step : 10 ^ suc (length cs) ≡ 10 ^ length cs * 10 = pow-suc 10 (length cs) in
-    let more : 10 ^ suc (suc (length xs)) ≡ 10 ^ suc (length xs) * 10 = pow-suc 10 (suc (length xs)) in
-    rw (step, more) (scale (digits_value (c ∷ cs)) (10 * 0 + (c - 48)) (10 ^ length cs) (digits_value cs) (10 ^ suc (length xs)) (digits_value (x ∷ xs)) (digits_value (c ∷ x ∷ xs)) one two e)
+before-value c cs (x ∷ xs) low e = grind (arith, digits_value_after-split, pow-suc, scale)
 
 pub trimmed-value : (ds : List ℕ) → All IsDigit ds → digits_value ds * 10 ^ length (trimmed ds) ≡ digits_value (trimmed ds) * 10 ^ length ds
 trimmed-value [] h = refl
-trimmed-value (c ∷ cs) h =
-    before-value c cs (trimmed cs) (All-head IsDigit c cs h).0 (trimmed-value cs (All-tail IsDigit c cs h))
+trimmed-value (c ∷ cs) h = grind (arith, before-value, All-head, All-tail, trimmed-value cs (All-tail IsDigit c cs h))
 
 before-digits : (c : ℕ) (t : List ℕ) → (48 ≤ c) × (c ≤ 57) → All IsDigit t → All IsDigit (before_trimmed c t)
-before-digits c [] b h =
-    ⊎_elim (λ y. rw y.0 no_elements) (λ n. rw n.0 (one_digit c b.0 b.1)) (eqb_tells c 48)
+before-digits c [] b h = grind (arith, no_elements, one_digit, eqb_tells)
 before-digits c (x ∷ xs) b h = All-cons IsDigit c (x ∷ xs) b h
 
 pub trimmed-digits : (ds : List ℕ) → All IsDigit ds → All IsDigit (trimmed ds)
 trimmed-digits [] h = no_elements
-trimmed-digits (c ∷ cs) h =
-    before-digits c (trimmed cs) (All-head IsDigit c cs h) (trimmed-digits cs (All-tail IsDigit c cs h))
+trimmed-digits (c ∷ cs) h = grind (arith, before-digits, All-head, All-tail, trimmed-digits cs (All-tail IsDigit c cs h))
 
 -- the value of the digits before and after the point
 pub units-value : (size places : ℕ) → size < 10 ^ 64
@@ -183,10 +175,6 @@ text-spells negative size places small =
       exponent = spells_no_exponent;
     }
 
-text-value : (negative : Bool) (size places : ℕ) → size < 10 ^ 64
-    → numerator (parts_in_text negative size places) places ≡ size * denominator (parts_in_text negative size places)
-text-value negative size places small = rw (add-zero, add-zero) (units-value size places small)
-
 signed-same : (u : ℤ) → signed (int_lt u (pos 0)) (unsigned_abs u) ≡ u
 signed-same u = grind (arith, int_lt, nat_tests)
 
@@ -205,19 +193,16 @@ scaled_of-units u places limit small within =
     let read : parts_of (text_of negative size places) ≡ Some n = parts-read _ _ (text-spells negative size places small) in
     let some : 0 < denominator n = one-le-pow (length n.fraction + 0) 10 (omega arith) in
     ap (scaled_parts places limit) read
-    ∙ ap (λ num. rounded_of negative num (denominator n) limit) (text-value negative size places small)
+    ∙ ap (λ num. rounded_of negative num (denominator n) limit) ((rw (add-zero, add-zero) (units-value size places small)))
     ∙ rounded_of-whole negative (denominator n) size limit some within
     ∙ ap (λ v. Ok (record { value = v; exact = true })) (signed-same u)
-
-same_parts : (a b : Parts) → ◌≡◌ {A = Option Parts} (Some a) (Some b) → a ≡ b
-same_parts a b h = cc
 
 units_text-least : (u : ℤ) (places : ℕ) (n : Parts) → unsigned_abs u < 10 ^ 64 → SpellsNumber (units_text u places) n
     → (n.exponent ≡ []) × EndsInNoZero n.fraction
 unfolding units_text
 units_text-least u places n small s =
     let m : Parts = parts_in_text (int_lt u (pos 0)) (unsigned_abs u) places in
-    let same : m ≡ n = same_parts m n (sym (parts-read _ m (text-spells (int_lt u (pos 0)) (unsigned_abs u) places small)) ∙ parts-read _ n s) in
+    let same : m ≡ n = (cc ((sym (parts-read _ m (text-spells (int_lt u (pos 0)) (unsigned_abs u) places small)) ∙ parts-read _ n s))) in
     subst (λ p. (p.exponent ≡ []) × EndsInNoZero p.fraction) same (refl, trimmed-end (fixed places (unsigned_abs u % 10 ^ places)))
 
 pub reads-again : (u : ℤ) (places : ℕ) → unsigned_abs u < 10 ^ 64 → ReadsAgain u places

@@ -3,5 +3,4 @@ use Rattle.decimal_text.proofs.DigitsValue.{past_limit}
 use Rattle.decimal_text.proofs.digits.extend_large.Goals as goal
 
 pub returns-then-value-limit-clause-err : goal.returns-then-value-limit-clause-err
-returns-then-value-limit-clause-err c =
-    past_limit _ c.loop-c.value _ c.loop-c.c-index _ c.loop-c-test.true c.loop-c.invariant.rest (omega arith)
+returns-then-value-limit-clause-err c = grind (arith, past_limit)

@@ -6,7 +6,4 @@ pub returns-then-value-limit-clause-err : goal.returns-then-value-limit-clause-e
 returns-then-value-limit-clause-err c = past_zeros _ c.args.start c.loop-done.value c.loop-done._done _ c.loop-done.invariant.so_far (omega arith) c.loop-done-test.true
 
 pub loop-done-preserved : goal.loop-done-preserved
-loop-done-preserved c = record {
-  small = omega arith;
-  so_far = more_zeros c.args.start c.loop-done.value c.loop-done._done c.loop-done.invariant.so_far;
-}
+loop-done-preserved c = grind (arith, more_zeros)

@@ -8,5 +8,4 @@ front_again (suc n) (suc m) [] h = refl
 front_again (suc n) (suc m) (b ∷ bs) h = ap (λ xs. b ∷ xs) (front_again n m bs (omega arith))
 
 pub returns-else-bytes-lt-ROOM : goal.returns-else-bytes-lt-ROOM
-returns-else-bytes-lt-ROOM c n small within =
-    rw c.copy_from_slice-else-bytes-lt-ROOM.ensures.after (front_again n 22 c.args.bytes.now small)
+returns-else-bytes-lt-ROOM c n small within = grind (arith, front_again n 22 c.args.bytes.now small)

@@ -1,4 +1,4 @@
-use Rattle.std.proofs.Common.{arith, refl, ⊎_elim, ◌++◌, ◌^◌, ◌*◌, ◌<◌, length}
+use Rattle.std.proofs.Common.{arith, refl, ◌++◌}
 use Rattle.std.proofs.lemmas.Bool.{cases_lt, false≢true}
 use Rattle.std.proofs.lemmas.List.Elements.{All-append}
 use Rattle.decimal_text.specs.Digits.{IsDigit, digits_value}
@@ -19,25 +19,10 @@ returns-in_default-extend c =
     λ u r. IsRounded-above _ _ u c.args.limit (cut_past (c.args.kept_whole.now ++ c.args.kept_fraction.now) _ c.args.limit past) r
 
 pub returns-then-not-is_half : goal.returns-then-not-is_half
-returns-then-not-is_half c =
-    let kept = digits_value_after-append 0 c.args.kept_whole.now c.args.kept_fraction.now in
-    let down = rw (c.in-Ok.ensures.value, ← kept) at c.in-Ok-extend.ensures.value in
-    let r = digits_value (c.args.cut_whole.now ++ c.args.cut_fraction.now) in
-    let den = 10 ^ length (c.args.cut_whole.now ++ c.args.cut_fraction.now) in
-    let less : 2 * r < den = ⊎_elim (λ l. l) (λ g. absurd (false≢true (c.if-not-is_half.ensures.1 g))) (cases_lt (2 * r) den) in
-    IsRoundedTo-down _ _ (digits_value (c.args.kept_whole.now ++ c.args.kept_fraction.now)) r _ _
-    (digits_value-cut (c.args.kept_whole.now ++ c.args.kept_fraction.now) (c.args.cut_whole.now ++ c.args.cut_fraction.now))
-    less down c.write_zero-exact.ensures (omega (arith, down, c.in-Ok-extend.ensures.ok))
+returns-then-not-is_half c = grind (arith, digits_value_after-append, false≢true, cases_lt, IsRoundedTo-down, digits_value-cut)
 
 pub returns-then-down-limit : goal.returns-then-down-limit
-returns-then-down-limit c =
-    let kept = digits_value_after-append 0 c.args.kept_whole.now c.args.kept_fraction.now in
-    let down = rw (c.in-Ok.ensures.value, ← kept) at c.in-Ok-extend.ensures.value in
-    let all = All-append IsDigit _ _ c.requires.cut_whole c.requires.cut_fraction in
-    up_past _ _ (digits_value (c.args.kept_whole.now ++ c.args.kept_fraction.now)) (digits_value (c.args.cut_whole.now ++ c.args.cut_fraction.now)) _
-    (digits_value-cut (c.args.kept_whole.now ++ c.args.kept_fraction.now) (c.args.cut_whole.now ++ c.args.cut_fraction.now))
-    (c.if-not-is_half.ensures.0 refl) (digits_value-lt (c.args.cut_whole.now ++ c.args.cut_fraction.now) all)
-    (omega (arith, down))
+returns-then-down-limit c = grind (arith, digits_value_after-append, All-append, up_past, digits_value-cut, digits_value-lt)
 
 pub returns : goal.returns
 returns c =

@@ -1,4 +1,4 @@
-use Rattle.std.proofs.Common.{arith, refl}
+use Rattle.std.proofs.Common.{arith}
 use Rattle.decimal_text.specs.Digits.{digits_value}
 use Rattle.decimal_text.proofs.DigitsValue.{digits_value_after-append, digits_value_after-ge}
 use Rattle.decimal_text.proofs.RoundedFractions.{IsRounded-above, IsRoundedTo-whole, long_past}
@@ -17,15 +17,7 @@ returns-in_default-extend c =
     λ u r. IsRounded-above _ _ u c.args.limit (long_past _ c.args.limit c.args.zeros past) r
 
 pub returns-in_default-with_zeros : goal.returns-in_default-with_zeros
-returns-in_default-with_zeros c =
-    let all = digits_value_after-append 0 c.args.whole.now c.args.fraction.now in
-    let number = rw (c.in-Ok.ensures.value, ← all) at c.in-Ok-extend.ensures.value in
-    let past = rw number at c.in_default-with_zeros.ensures.err in
-    λ u r. IsRounded-above _ _ u c.args.limit (omega arith) r
+returns-in_default-with_zeros c = grind (arith, digits_value_after-append, IsRounded-above)
 
 pub returns : goal.returns
-returns c =
-    let all = digits_value_after-append 0 c.args.whole.now c.args.fraction.now in
-    let number = rw (c.in-Ok.ensures.value, ← all) at c.in-Ok-extend.ensures.value in
-    let is = rw number at c.in-Ok-with_zeros.ensures.value in
-    IsRoundedTo-whole _ c.args.limit _ is refl (omega (arith, c.in-Ok-with_zeros.ensures.ok))
+returns c = grind (arith, digits_value_after-append, IsRoundedTo-whole)

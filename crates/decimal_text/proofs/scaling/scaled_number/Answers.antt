@@ -10,12 +10,7 @@ use Rattle.decimal_text.proofs.ScaledNumber.{denominator-positive}
 use Rattle.decimal_text.proofs.scaling.scaled_number.Goals as goal
 
 pub returns-in_default : goal.returns-in_default
-returns-in_default c =
-    let n = parts_in c.args.parts in
-    let same = to_z-of_z w128 c.args.limit c.ranges.limit in
-    let limit = rw same at c.unsigned_abs.ensures.value in
-    let past = rw limit at c.in_default.ensures in
-    sym (rounded_of-range n.negative (numerator n c.args.places) (denominator n) (unsigned_abs c.args.limit) (denominator-positive n) past)
+returns-in_default c = grind (arith, to_z-of_z w128 c.args.limit c.ranges.limit, rounded_of-range, denominator-positive (parts_in c.args.parts))
 
 pub returns-then-parts : goal.returns-then-parts
 returns-then-parts c =

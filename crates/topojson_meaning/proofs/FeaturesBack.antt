@@ -23,7 +23,7 @@ use Rattle.topojson_meaning.specs.Reader.{with_fault}
 use Rattle.topojson_meaning.specs.Shapes.{typed_shape}
 use Rattle.topojson_meaning.proofs.ArcsBack.{object_members}
 use Rattle.topojson_meaning.proofs.LinesBack.{Sound}
-use Rattle.topojson_meaning.proofs.ShapesBack.{Parts, object_typed, shape_parts, type_named, typed_back}
+use Rattle.topojson_meaning.proofs.ShapesBack.{Parts, named_type, shape_parts, typed_back}
 use Rattle.topojson_meaning.proofs.Steps.{Gives, pure_gives}
 
 -- ---- members
@@ -97,10 +97,6 @@ part_found : (i : Option Id) (ps : Option Members) (t : Json) (type : GeometryTy
 unfolding need named
 part_found i ps t type v = grind (arith, type, found, no_parts)
 
-null_type : type_of j.Null ≡ Ok None
-unfolding type_of
-null_type = ap type_in j.outs-Null
-
 -- a feature with this identifier, these properties and a shape that is written so is read back, by its type
 pub record Shaped (transform : Option Transform) (arcs : List (List Point)) (i : Option Id) (ps : Option Members) (x : Option TopoShape) (o : Geometrical) : Type 0 where
   pub type : Option GeometryType
@@ -115,13 +111,13 @@ module _ (transform : Option Transform) (arcs : List (List Point)) (long : AllBy
   feature_reads type ms x e f h c = rw (e, id_back i, f, properties_back ps, h c) refl
 
   null_shaped : Shaped transform arcs i ps None (geometrical_option (cell_value transform) None)
-  unfolding typed_shape named
+  unfolding object_type type_of typed_shape named
   null_shaped =
       let found : Found i ps j.Null [] = found i ps j.Null [] (refl, refl, refl) in
       let ms : Members = feature_members i ps j.Null [] in
       record {
         type = None;
-        is = object_typed ms j.Null (Ok None) found.type null_type;
+        is = rw found.type (ap type_in j.outs-Null);
         reads = feature_reads None ms None found.id found.properties (λ c. refl);
         single = λ _. refl;
       }
@@ -134,7 +130,7 @@ module _ (transform : Option Transform) (arcs : List (List Point)) (long : AllBy
       let found : Found i ps t parts = found i ps t parts (no_parts p.type p.value) in
       let at : Shaped transform arcs i ps (Some s) (typed p.name (part_name p.type) p.value) = record {
         type = Some p.type;
-        is = object_typed ms t (Ok (Some p.type)) found.type (type_named p.name p.type p.known);
+        is = named_type ms p.name p.type found.type p.known;
         reads = feature_reads (Some p.type) ms (Some s) found.id found.properties (typed_back transform arcs long few p.type ms p.value (Some s) (part_found i ps t p.type p.value) p.reads);
         single = p.single;
       } in

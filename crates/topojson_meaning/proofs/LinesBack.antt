@@ -89,9 +89,8 @@ module _ (transform : Option Transform) (arcs : List (List Point)) (long : AllBy
   indexes_back (i ∷ refs) h m c = rw (index_back (length arcs) i few h.0 c, behind_back i refs h.1 m c) refl
 
   last_map : {A B : Type 0} (f : A → B) (xs : List A) → last_of (map f xs) ≡ map_some f (last_of xs)
-  last_map f [] = refl
-  last_map f (x ∷ []) = refl
   last_map f (x ∷ y ∷ xs) = last_map f (y ∷ xs)
+  last_map f xs = refl
 
   -- the last list, if there is one, ends where this one begins
   abbrev Ends : List Point → Option (List Point) → Type 0

@@ -1,9 +1,8 @@
 -- The objects that are written are read back.
-use Rattle.std.proofs.Common.{◌≡◌, ◌≢◌, ℕ, ◌<◌, Bool, true, false, List, [], ◌∷◌, length, map, Option, Some, Ok, refl, arith}
+use Rattle.std.proofs.Common.{◌≡◌, ◌≢◌, ℕ, ◌<◌, true, false, List, [], ◌∷◌, length, map, Option, refl, arith}
 use Rattle.std.specs.Prelude.{codes, ◌^◌}
 use Rattle.std.specs.List.{AllByRecursion}
 use Rattle.std.proofs.lemmas.Slice.Eq.{bytes_eq-Decides}
-use Rattle.json_value.specs.declared.json.Json.{Json}
 use Rattle.json_value.specs.declared.json.Json.TheVariants as j
 use Rattle.geometry.specs.Points.{Point}
 use Rattle.topojson_types.specs.declared.feature.TopoFeature.{TopoFeature}
@@ -13,12 +12,13 @@ use Rattle.topojson_types.specs.declared.transform.Transform.{Transform}
 use Rattle.topojson_types.specs.Validity.{IsArc, AreDistinct, is_single_option}
 use Rattle.topojson_types.specs.Values.{Members, cell_value, feature_value, object_value, objects_value}
 use Rattle.topojson_meaning.specs.declared.geometry_type.GeometryType.TheVariants.{Collection}
-use Rattle.topojson_meaning.specs.GeometryTypes.{object_type}
+use Rattle.topojson_meaning.specs.GeometryTypes.{geometry_type}
 use Rattle.topojson_meaning.specs.Members.{named, need}
 use Rattle.topojson_meaning.specs.Objects.{features, collection, single, object, is_met, objects_behind, objects}
 use Rattle.topojson_meaning.proofs.ArcsBack.{array_elements, object_members}
 use Rattle.topojson_meaning.proofs.FeaturesBack.{feature_members, FineFeature, shaped, feature_back}
-use Rattle.topojson_meaning.proofs.ShapesBack.{known_group, object_typed, type_named}
+use Rattle.topojson_meaning.proofs.ShapesBack.{named_type}
+use Rattle.list_laws.proofs.Elements.{all_weaker}
 use Rattle.topojson_meaning.proofs.Steps.{Gives, pure_gives, each_gives}
 
 -- its features are, and one alone is no collection
@@ -41,29 +41,19 @@ module _ (transform : Option Transform) (arcs : List (List Point)) (long : AllBy
   abbrev collected : List TopoFeature → Members
   collected fs = (codes "type", j.Text (codes "GeometryCollection")) ∷ ((codes "geometries", j.Array (map (feature_value (cell_value transform)) fs)) ∷ [])
 
-  collected_type : (fs : List TopoFeature) → need (codes "type") (collected fs) ≡ Ok (j.Text (codes "GeometryCollection"))
-  unfolding need named
-  collected_type fs = refl
-
   collection_back : (fs : List TopoFeature) → AllByRecursion (FineFeature transform arcs) fs → Gives (collection transform arcs (collected fs)) (Many fs)
   unfolding collection need named
   collection_back fs h c = rw (features_back fs h c) refl
 
   many_back : (fs : List TopoFeature) → AllByRecursion (FineFeature transform arcs) fs → Gives (object transform arcs (object_value (cell_value transform) (Many fs))) (Many fs)
-  unfolding object
-  many_back fs h c =
-      let t : Json = j.Text (codes "GeometryCollection") in
-      let e : object_type (collected fs) ≡ Ok (Some Collection) = object_typed (collected fs) t (Ok (Some Collection)) (collected_type fs) (type_named (codes "GeometryCollection") Collection known_group) in
-      rw (object_members (collected fs), e, collection_back fs h c) refl
+  unfolding object geometry_type need named
+  many_back fs h c = rw (object_members (collected fs), named_type (collected fs) (codes "GeometryCollection") Collection refl refl, collection_back fs h c) refl
 
   object_back : (o : TopoObject) → FineObject transform arcs o → Gives (object transform arcs (object_value (cell_value transform) o)) o
   object_back (One f) h = single_back f h.0 h.1
   object_back (Many fs) h = many_back fs h
 
   -- ---- objects by name
-
-  false_where_not : (b : Bool) → (b ≡ true → ⊥) → b ≡ false
-  false_where_not b h = grind arith
 
   unmet : (name : List ℕ) (met : List (List ℕ)) → AllByRecursion (λ n. n ≢ name) met → is_met name met ≡ false
   unmet name [] h = refl
@@ -73,21 +63,15 @@ module _ (transform : Option Transform) (arcs : List (List Point)) (long : AllBy
   abbrev AreNew : List (List ℕ) → List (List ℕ) → Type 0
   AreNew met names = AllByRecursion (λ n. AllByRecursion (λ y. n ≢ y) names) met
 
-  new_first : (met names : List (List ℕ)) (name : List ℕ) → AreNew met (name ∷ names) → AllByRecursion (λ n. n ≢ name) met
-  new_first [] names name h = tt
-  new_first (n ∷ met) names name h = (h.0.0, new_first met names name h.1)
-
-  new_rest : (met names : List (List ℕ)) (name : List ℕ) → AreNew met (name ∷ names) → AreNew met names
-  new_rest [] names name h = tt
-  new_rest (n ∷ met) names name h = (h.0.1, new_rest met names name h.1)
-
   behind_back : (met : List (List ℕ)) (os : List (List ℕ × TopoObject)) → AreNew met (map (λ o. o.0) os) → AreDistinct (map (λ o. o.0) os) → AllByRecursion (λ o. FineObject transform arcs o.1) os
       → Gives (objects_behind transform arcs met (map (λ o. (o.0, object_value (cell_value transform) o.1)) os)) os
   unfolding objects_behind
   behind_back met [] n d h c = refl
   behind_back met (o ∷ os) n d h c =
       let names : List (List ℕ) = map (λ o. o.0) os in
-      rw (unmet o.0 met (new_first met names o.0 n), object_back o.1 h.0 c, behind_back (o.0 ∷ met) os (d.0, new_rest met names o.0 n) d.1 h.1 c) refl
+      let fresh = all_weaker (λ m. AllByRecursion (λ y. m ≢ y) (o.0 ∷ names)) (λ m. m ≢ o.0) (λ m k. k.0) met n in
+      let rest = all_weaker (λ m. AllByRecursion (λ y. m ≢ y) (o.0 ∷ names)) (λ m. AllByRecursion (λ y. m ≢ y) names) (λ m k. k.1) met n in
+      rw (unmet o.0 met fresh, object_back o.1 h.0 c, behind_back (o.0 ∷ met) os (d.0, rest) d.1 h.1 c) refl
 
   pub objects_back : (os : List (List ℕ × TopoObject)) → AreDistinct (map (λ o. o.0) os) → AllByRecursion (λ o. FineObject transform arcs o.1) os
       → Gives (objects transform arcs (objects_value (cell_value transform) os)) os

@@ -1,5 +1,5 @@
 -- Worked rows of the definition: small values and the topologies or faults that they are.
-use Rattle.std.proofs.Common.{◌≡◌, ℕ, false, List, [], ◌∷◌, Some, None, Ok, Err, refl}
+use Rattle.std.proofs.Common.{◌≡◌, ℕ, false, List, [], ◌∷◌, map, Some, None, Ok, Err, refl}
 use Rattle.std.specs.Prelude.{codes, pos, negsuc}
 use Rattle.json_value.specs.declared.json.Json.{Json}
 use Rattle.json_value.specs.declared.json.Json.TheVariants as j
@@ -109,128 +109,54 @@ object_taken x o c h = simp (j.outs-Object, j.outs-Text, two_arcs_read no_counts
 abbrev curve : Json
 curve = j.Object (typed (codes "Curve") ∷ [])
 
-curve_fault : object None two_arcs curve no_counts ≡ Err UnknownType
-unfolding object members object_of object_type need named type_of geometry_type
-curve_fault = simp (j.outs-Object, j.outs-Text)
-
 row_curve : topology (with_object curve) ≡ Err UnknownType
-row_curve = object_fault curve UnknownType curve_fault
+unfolding object members object_of object_type need named type_of geometry_type
+row_curve = object_fault curve UnknownType (simp (j.outs-Object, j.outs-Text))
 
 -- a LineString of these elements
 abbrev line_string : List Json → Json
 line_string vs = j.Object (typed (codes "LineString") ∷ ((codes "arcs", j.Array vs) ∷ []))
 
--- a fault of its indexes is that of the topology
-line_fault : (v : Json) (vs : List Json) (e : TopoFault) → indexes two_arcs (v ∷ vs) no_counts ≡ Err e → object None two_arcs (line_string (v ∷ vs)) no_counts ≡ Err e
-unfolding object members object_of object_type need named type_of geometry_type single feature typed_shape part arcs_shape some_elements array_of arcs_in line_in
-line_fault v vs e h = simp (j.outs-Object, j.outs-Text, j.outs-Array, h)
+-- the elements of a LineString, and the fault of the topology: an arc that does not meet the one before is told before the next element is looked at
+abbrev line_faults : List (List Json × TopoFault)
+line_faults =
+    (j.Number (codes "0.5") ∷ [], WrongKind)
+    ∷ (j.Number (codes "2") ∷ [], IndexRange)
+    ∷ (j.Number (codes "-3") ∷ [], IndexRange)
+    ∷ (j.Number (codes "9223372036854775807") ∷ [], IndexRange)
+    ∷ (j.Number (codes "-9223372036854775808") ∷ [], IndexRange)
+    ∷ (j.Number (codes "1e30") ∷ [], IndexRange)
+    ∷ (j.Number (codes "9223372036854775807.5") ∷ [], IndexRange)
+    ∷ (j.Number (codes "0") ∷ j.Number (codes "1") ∷ [], Unjoined)
+    ∷ (j.Number (codes "0") ∷ j.Number (codes "1") ∷ j.Text (codes "x") ∷ [], Unjoined)
+    ∷ (j.Number (codes "0") ∷ j.Text (codes "x") ∷ j.Number (codes "1") ∷ [], WrongKind)
+    ∷ []
 
-line_row : (v : Json) (vs : List Json) (e : TopoFault) → indexes two_arcs (v ∷ vs) no_counts ≡ Err e → topology (with_object (line_string (v ∷ vs))) ≡ Err e
-line_row v vs e h = object_fault (line_string (v ∷ vs)) e (line_fault v vs e h)
-
--- [0.5]
-index_half : indexes two_arcs (j.Number (codes "0.5") ∷ []) no_counts ≡ Err WrongKind
-unfolding indexes indexes_behind index number_text number_of scaled_of joins.number_of same
-index_half = simp (j.outs-Number)
-
-row_half : topology (with_object (line_string (j.Number (codes "0.5") ∷ []))) ≡ Err WrongKind
-row_half = line_row (j.Number (codes "0.5")) [] WrongKind index_half
-
--- [2]
-index_past : indexes two_arcs (j.Number (codes "2") ∷ []) no_counts ≡ Err IndexRange
-unfolding indexes indexes_behind index number_text number_of scaled_of joins.number_of same
-index_past = simp (j.outs-Number)
-
-row_past : topology (with_object (line_string (j.Number (codes "2") ∷ []))) ≡ Err IndexRange
-row_past = line_row (j.Number (codes "2")) [] IndexRange index_past
-
--- [-3]
-index_before : indexes two_arcs (j.Number (codes "-3") ∷ []) no_counts ≡ Err IndexRange
-unfolding indexes indexes_behind index number_text number_of scaled_of joins.number_of same
-index_before = simp (j.outs-Number)
-
-row_before : topology (with_object (line_string (j.Number (codes "-3") ∷ []))) ≡ Err IndexRange
-row_before = line_row (j.Number (codes "-3")) [] IndexRange index_before
-
--- [9223372036854775807]
-index_greatest : indexes two_arcs (j.Number (codes "9223372036854775807") ∷ []) no_counts ≡ Err IndexRange
-unfolding indexes indexes_behind index number_text number_of scaled_of joins.number_of same
-index_greatest = simp (j.outs-Number)
-
-row_greatest : topology (with_object (line_string (j.Number (codes "9223372036854775807") ∷ []))) ≡ Err IndexRange
-row_greatest = line_row (j.Number (codes "9223372036854775807")) [] IndexRange index_greatest
-
--- [-9223372036854775808]
-index_least : indexes two_arcs (j.Number (codes "-9223372036854775808") ∷ []) no_counts ≡ Err IndexRange
-unfolding indexes indexes_behind index number_text number_of scaled_of joins.number_of same
-index_least = simp (j.outs-Number)
-
-row_least : topology (with_object (line_string (j.Number (codes "-9223372036854775808") ∷ []))) ≡ Err IndexRange
-row_least = line_row (j.Number (codes "-9223372036854775808")) [] IndexRange index_least
-
--- [1e30]
-index_farthest : indexes two_arcs (j.Number (codes "1e30") ∷ []) no_counts ≡ Err IndexRange
-unfolding indexes indexes_behind index number_text number_of scaled_of joins.number_of same
-index_farthest = simp (j.outs-Number)
-
-row_farthest : topology (with_object (line_string (j.Number (codes "1e30") ∷ []))) ≡ Err IndexRange
-row_farthest = line_row (j.Number (codes "1e30")) [] IndexRange index_farthest
-
--- [9223372036854775807.5]
-index_past_half : indexes two_arcs (j.Number (codes "9223372036854775807.5") ∷ []) no_counts ≡ Err IndexRange
-unfolding indexes indexes_behind index number_text number_of scaled_of joins.number_of same
-index_past_half = simp (j.outs-Number)
-
-row_past_half : topology (with_object (line_string (j.Number (codes "9223372036854775807.5") ∷ []))) ≡ Err IndexRange
-row_past_half = line_row (j.Number (codes "9223372036854775807.5")) [] IndexRange index_past_half
-
--- [0,1]
-index_apart : indexes two_arcs (j.Number (codes "0") ∷ (j.Number (codes "1") ∷ [])) no_counts ≡ Err Unjoined
-unfolding indexes indexes_behind index number_text number_of scaled_of joins.number_of same
-index_apart = simp (j.outs-Number)
-
-row_apart : topology (with_object (line_string (j.Number (codes "0") ∷ (j.Number (codes "1") ∷ [])))) ≡ Err Unjoined
-row_apart = line_row (j.Number (codes "0")) (j.Number (codes "1") ∷ []) Unjoined index_apart
-
--- an arc that does not meet the one before is told before the next element is looked at: [0,1,"x"] and [0,"x",1]
-row_apart_first : indexes two_arcs (j.Number (codes "0") ∷ (j.Number (codes "1") ∷ (j.Text (codes "x") ∷ []))) no_counts ≡ Err Unjoined
-unfolding indexes indexes_behind index number_text number_of scaled_of joins.number_of same
-row_apart_first = simp (j.outs-Number)
-
-row_kind_first : indexes two_arcs (j.Number (codes "0") ∷ (j.Text (codes "x") ∷ (j.Number (codes "1") ∷ []))) no_counts ≡ Err WrongKind
-unfolding indexes indexes_behind index number_text number_of scaled_of joins.number_of same
-row_kind_first = simp (j.outs-Number, j.outs-Text)
+row_line_faults : map (λ r. topology (with_object (line_string r.0))) line_faults ≡ map (λ r. Err r.1) line_faults
+unfolding topology value_contents contents transform_if object_of text_of need named objects objects_behind members object object_type type_of geometry_type single feature typed_shape part arcs_shape some_elements array_of arcs_in line_in indexes indexes_behind index number_text number_of scaled_of joins.number_of same
+row_line_faults = simp (j.outs-Object, j.outs-Text, j.outs-Array, j.outs-Number, two_arcs_read no_counts)
 
 -- {"type":"Polygon","arcs":[[0]]}
 abbrev open_ring : Json
 open_ring = j.Object (typed (codes "Polygon") ∷ ((codes "arcs", j.Array (j.Array (j.Number (codes "0") ∷ []) ∷ [])) ∷ []))
 
-open_ring_fault : object None two_arcs open_ring no_counts ≡ Err OpenRing
-unfolding object members object_of object_type need named type_of geometry_type single feature typed_shape part arcs_shape some_elements array_of arcs_in polygon_in ring ring_in indexes indexes_behind index number_text number_of scaled_of joins.number_of same
-open_ring_fault = simp (j.outs-Object, j.outs-Text, j.outs-Array, j.outs-Number)
-
 row_open_ring : topology (with_object open_ring) ≡ Err OpenRing
-row_open_ring = object_fault open_ring OpenRing open_ring_fault
+unfolding object members object_of object_type need named type_of geometry_type single feature typed_shape part arcs_shape some_elements array_of arcs_in polygon_in ring ring_in indexes indexes_behind index number_text number_of scaled_of joins.number_of same
+row_open_ring = object_fault open_ring OpenRing (simp (j.outs-Object, j.outs-Text, j.outs-Array, j.outs-Number))
 
 -- {"type":"LineString","arcs":[]}
-empty_line : object None two_arcs (line_string []) no_counts ≡ Ok (One (record { id = None; properties = None; shape = None }), record { rounded = 0; extra = 0; empty = 1 })
-unfolding object members object_of object_type need named type_of geometry_type single feature typed_shape part arcs_shape some_elements array_of
-empty_line = simp (j.outs-Object, j.outs-Text, j.outs-Array)
-
 row_empty_line : topology (with_object (line_string []))
     ≡ Ok (record { objects = (codes "a", One (record { id = None; properties = None; shape = None })) ∷ []; arcs = two_arcs; transform = None }, record { rounded = 0; extra = 0; empty = 1 })
-row_empty_line = object_taken (line_string []) (One (record { id = None; properties = None; shape = None })) (record { rounded = 0; extra = 0; empty = 1 }) empty_line
+unfolding object members object_of object_type need named type_of geometry_type single feature typed_shape part arcs_shape some_elements array_of
+row_empty_line = object_taken (line_string []) (One (record { id = None; properties = None; shape = None })) (record { rounded = 0; extra = 0; empty = 1 }) (simp (j.outs-Object, j.outs-Text, j.outs-Array))
 
 -- {"type":"LineString","arcs":[-2]}
 abbrev reversed_line : TopoObject
 reversed_line = One (record { id = None; properties = None; shape = Some (g.Line (negsuc 1 ∷ [])) })
 
-reversed_taken : object None two_arcs (line_string (j.Number (codes "-2") ∷ [])) no_counts ≡ Ok (reversed_line, no_counts)
-unfolding object members object_of object_type need named type_of geometry_type single feature typed_shape part arcs_shape some_elements array_of arcs_in line_in indexes indexes_behind index number_text number_of scaled_of joins.number_of
-reversed_taken = simp (j.outs-Object, j.outs-Text, j.outs-Array, j.outs-Number)
-
 row_reversed : topology (with_object (line_string (j.Number (codes "-2") ∷ []))) ≡ Ok (record { objects = (codes "a", reversed_line) ∷ []; arcs = two_arcs; transform = None }, no_counts)
-row_reversed = object_taken (line_string (j.Number (codes "-2") ∷ [])) reversed_line no_counts reversed_taken
+unfolding object members object_of object_type need named type_of geometry_type single feature typed_shape part arcs_shape some_elements array_of arcs_in line_in indexes indexes_behind index number_text number_of scaled_of joins.number_of
+row_reversed = object_taken (line_string (j.Number (codes "-2") ∷ [])) reversed_line no_counts (simp (j.outs-Object, j.outs-Text, j.outs-Array, j.outs-Number))
 
 -- it decodes to [[3,0],[2,0]]
 decoded_reversed : decoded_line two_arcs false (negsuc 1 ∷ []) ≡ at_x 30000000 ∷ (at_x 20000000 ∷ [])

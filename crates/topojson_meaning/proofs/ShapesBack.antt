@@ -1,5 +1,5 @@
 -- The shapes that are written are read back.
-use Rattle.std.proofs.Common.{◌≡◌, ℕ, ℤ, ◌<◌, Bool, true, false, List, [], ◌∷◌, length, map, Option, Some, Result, Ok, refl, sym, ap, ◌∙◌, subst, arith}
+use Rattle.std.proofs.Common.{◌≡◌, ℕ, ℤ, ◌<◌, Bool, true, false, List, [], ◌∷◌, length, map, Option, Some, Ok, refl, sym, ap, ◌∙◌, subst, arith}
 use Rattle.std.specs.Prelude.{codes, ◌^◌, ◌&&◌}
 use Rattle.std.specs.List.{AllByRecursion, list_all}
 use Rattle.std.proofs.lemmas.Bool.{and_parts}
@@ -18,18 +18,15 @@ use Rattle.topojson_types.specs.Topologies.{TopoShape}
 use Rattle.topojson_types.specs.Validity.{IsPlace, IsArc, is_full, places, is_single}
 use Rattle.topojson_types.specs.Values.{Members, number_value, cell_places, cell_value, whole_value, line_value, lines_value, typed, inner_value, geometrical}
 use Rattle.topojson_types.proofs.ByKind.{geometrical_at, full_at, places_at, single_at, full-group}
-use Rattle.topojson_meaning.specs.declared.fault.TopoFault.{TopoFault}
-use Rattle.topojson_meaning.specs.declared.geometry_type.ArcsType.{ArcsType}
 use Rattle.topojson_meaning.specs.declared.geometry_type.ArcsType.TheVariants as of_arcs
 use Rattle.topojson_meaning.specs.declared.geometry_type.GeometryType.{GeometryType}
 use Rattle.topojson_meaning.specs.declared.geometry_type.GeometryType.TheVariants.{Places, Arcs, Collection}
-use Rattle.topojson_meaning.specs.declared.geometry_type.PlacesType.{PlacesType}
 use Rattle.topojson_meaning.specs.declared.geometry_type.PlacesType.TheVariants as of_places
 use Rattle.topojson_meaning.specs.GeometryTypes.{geometry_type, part_name, is_collection, type_in, type_of, object_type}
 use Rattle.topojson_meaning.specs.Arcs.{elements_place}
 use Rattle.topojson_meaning.specs.Lines.{some_elements}
 use Rattle.topojson_meaning.specs.Members.{named, need}
-use Rattle.topojson_meaning.specs.Reader.{if_some}
+use Rattle.topojson_meaning.specs.Reader.{Reader, ◌>>=◌, if_some}
 use Rattle.topojson_meaning.specs.Shapes.{places_in, arcs_in, places_shape, arcs_shape, shape, part, typed_shape, geometry}
 use Rattle.topojson_meaning.proofs.ArcsBack.{elements_place_back, each_place_back}
 use Rattle.topojson_meaning.proofs.LinesBack.{some_elements_back, Sound, Full, FullArea, line_in_back, lines_back, polygon_in_back, polygons_back}
@@ -68,92 +65,24 @@ pub record Parts (transform : Option Transform) (arcs : List (List Point)) (s : 
   pub reads : Gives (part transform arcs type value) (Some s)
   pub single : is_single s ≡ true → is_collection (Some type) ≡ false
 
--- ---- names of types
-
-known_point : geometry_type (codes "Point") ≡ Some (Places of_places.Point)
-unfolding geometry_type
-known_point = refl
-
-known_points : geometry_type (codes "MultiPoint") ≡ Some (Places of_places.MultiPoint)
-unfolding geometry_type
-known_points = refl
-
-known_line : geometry_type (codes "LineString") ≡ Some (Arcs of_arcs.LineString)
-unfolding geometry_type
-known_line = refl
-
-known_lines : geometry_type (codes "MultiLineString") ≡ Some (Arcs of_arcs.MultiLineString)
-unfolding geometry_type
-known_lines = refl
-
-known_area : geometry_type (codes "Polygon") ≡ Some (Arcs of_arcs.Polygon)
-unfolding geometry_type
-known_area = refl
-
-known_areas : geometry_type (codes "MultiPolygon") ≡ Some (Arcs of_arcs.MultiPolygon)
-unfolding geometry_type
-known_areas = refl
-
-pub known_group : geometry_type (codes "GeometryCollection") ≡ Some Collection
-unfolding geometry_type
-known_group = refl
-
 -- ---- members
 
--- the type that a name gives
-pub type_named : (name : List ℕ) (type : GeometryType) → geometry_type name ≡ Some type → type_of (j.Text name) ≡ Ok (Some type)
-unfolding type_of
-type_named name type e = ap type_in (j.outs-Text name) ∙ rw e refl
-
 -- the type of an object with these members
-pub object_typed : (ms : Members) (t : Json) (r : Result (Option GeometryType) TopoFault) → need (codes "type") ms ≡ Ok t → type_of t ≡ r → object_type ms ≡ r
-unfolding object_type
-object_typed ms t r e f = rw e f
+pub named_type : (ms : Members) (name : List ℕ) (type : GeometryType) → need (codes "type") ms ≡ Ok (j.Text name) → geometry_type name ≡ Some type → object_type ms ≡ Ok (Some type)
+unfolding object_type type_of
+named_type ms name type e known = rw e (ap type_in (j.outs-Text name) ∙ rw known refl)
 
-inner_type : (type : GeometryType) (t v : Json) → need (codes "type") ((codes "type", t) ∷ ((part_name type, v) ∷ [])) ≡ Ok t
+inner_members : (type : GeometryType) (t v : Json) → (need (codes "type") ((codes "type", t) ∷ ((part_name type, v) ∷ [])) ≡ Ok t) × (need (part_name type) ((codes "type", t) ∷ ((part_name type, v) ∷ [])) ≡ Ok v)
 unfolding need named
-inner_type type t v = grind (arith, type)
-
-inner_part : (type : GeometryType) (t v : Json) → need (part_name type) ((codes "type", t) ∷ ((part_name type, v) ∷ [])) ≡ Ok v
-unfolding need named
-inner_part type t v = grind (arith, type)
+inner_members type t v = grind (arith, type)
 
 -- ---- shapes
 
 module _ (transform : Option Transform) (arcs : List (List Point)) (long : AllByRecursion (IsArc transform) arcs) (few : length arcs < 2 ^ 63) where
-  places_back : {A : Type 0} (type : PlacesType) (value : A → Json) (xs : List A) (s : TopoShape) → is_some_list xs ≡ true → Gives (places_in transform type (map value xs)) (Some s)
-      → Gives (part transform arcs (Places type) (j.Array (map value xs))) (Some s)
-  unfolding part places_shape
-  places_back type value xs s f h = then_gives (some_elements (j.Array (map value xs))) (if_some (places_in transform type)) (Some (map value xs)) (Some s) (some_elements_back value xs f) h
-
-  arcs_back : {A : Type 0} (type : ArcsType) (value : A → Json) (xs : List A) (s : TopoShape) → is_some_list xs ≡ true → Gives (arcs_in arcs type (map value xs)) (Some s)
-      → Gives (part transform arcs (Arcs type) (j.Array (map value xs))) (Some s)
-  unfolding part arcs_shape
-  arcs_back type value xs s f h = then_gives (some_elements (j.Array (map value xs))) (if_some (arcs_in arcs type)) (Some (map value xs)) (Some s) (some_elements_back value xs f) h
-
-  point_in : (p : Point) → IsPlace transform p → Gives (places_in transform of_places.Point (map (number_value (cell_places transform)) (p.x ∷ (p.y ∷ [])))) (Some (g.Point p))
-  unfolding places_in elements_place
-  point_in p h c = rw (elements_place_back transform p h c) refl
-
-  points_in : (ps : List Point) → is_some_list ps ≡ true → AllByRecursion (IsPlace transform) ps → Gives (places_in transform of_places.MultiPoint (map (cell_value transform) ps)) (Some (g.MultiPoint ps))
-  unfolding places_in
-  points_in ps f h c = rw (each_place_back transform ps h c, made_of_some g.MultiPoint ps f) refl
-
-  line_shape_in : (refs : List ℤ) → Sound arcs (false, refs) → Gives (arcs_in arcs of_arcs.LineString (map whole_value refs)) (Some (g.Line refs))
-  unfolding arcs_in
-  line_shape_in refs h c = rw (line_in_back transform arcs long few refs h c) refl
-
-  lines_in : (ls : List (List ℤ)) → is_some_list ls ≡ true → AllByRecursion (Full arcs false) ls → Gives (arcs_in arcs of_arcs.MultiLineString (map line_value ls)) (Some (g.Lines ls))
-  unfolding arcs_in
-  lines_in ls f h c = rw (lines_back transform arcs long few ls h c, made_of_some g.Lines ls f) refl
-
-  area_in : (rs : List (List ℤ)) → FullArea arcs rs → Gives (arcs_in arcs of_arcs.Polygon (map line_value rs)) (Some (g.Area rs))
-  unfolding arcs_in
-  area_in rs h c = rw (polygon_in_back transform arcs long few rs h c) refl
-
-  areas_in : (areas : List (List (List ℤ))) → is_some_list areas ≡ true → AllByRecursion (FullArea arcs) areas → Gives (arcs_in arcs of_arcs.MultiPolygon (map lines_value areas)) (Some (g.Areas areas))
-  unfolding arcs_in
-  areas_in areas f h c = rw (polygons_back transform arcs long few areas h c, made_of_some g.Areas areas f) refl
+  -- what is read of some elements
+  elements_back : {A : Type 0} (f : List Json → Reader (Option TopoShape)) (value : A → Json) (xs : List A) (s : TopoShape) → is_some_list xs ≡ true → Gives (f (map value xs)) (Some s)
+      → Gives (some_elements (j.Array (map value xs)) >>= if_some f) (Some s)
+  elements_back f value xs s e h = then_gives (some_elements (j.Array (map value xs))) (if_some f) (Some (map value xs)) (Some s) (some_elements_back value xs e) h
 
   abbrev Back : TopoShape → Type 0
   Back s = Fine transform arcs s → Parts transform arcs s
@@ -163,97 +92,65 @@ module _ (transform : Option Transform) (arcs : List (List Point)) (long : AllBy
   unfolding typed_shape
   typed_back type ms v x e h = pure_gives (need (part_name type) ms) (part transform arcs type) v x e h
 
-  geometry_back : (type : Option GeometryType) (ms : Members) (x : Option TopoShape) → object_type ms ≡ Ok type → Gives (typed_shape transform arcs type ms) x → Gives (geometry transform arcs ms) x
-  unfolding geometry
-  geometry_back type ms x e h = pure_gives (object_type ms) (λ t. typed_shape transform arcs t ms) type x e h
-
   -- a geometry inside a collection is read back
   inner_back : (s : TopoShape) → Parts transform arcs s → Gives (shape transform arcs (inner_value (geometrical (cell_value transform) s))) (Some s)
+  unfolding geometry
   inner_back s p =
-      let t : Json = j.Text p.name in
-      let ms : Members = (codes "type", t) ∷ ((part_name p.type, p.value) ∷ []) in
-      let typed : object_type ms ≡ Ok (Some p.type) = object_typed ms t (Ok (Some p.type)) (inner_type p.type t p.value) (type_named p.name p.type p.known) in
-      let read : Gives (geometry transform arcs ms) (Some s) = geometry_back (Some p.type) ms (Some s) typed (typed_back p.type ms p.value (Some s) (inner_part p.type t p.value) p.reads) in
+      let ms : Members = (codes "type", j.Text p.name) ∷ ((part_name p.type, p.value) ∷ []) in
+      let found = inner_members p.type (j.Text p.name) p.value in
+      let read : Gives (geometry transform arcs ms) (Some s) =
+      pure_gives (object_type ms) (λ t. typed_shape transform arcs t ms) (Some p.type) (Some s) (named_type ms p.name p.type found.0 p.known) (typed_back p.type ms p.value (Some s) found.1 p.reads) in
       λ c. rw (p.is, shape_object transform arcs ms) (read c)
 
+  -- a shape that is no collection, by what it is written as
+  made : (s : TopoShape) (type : GeometryType) (name : List ℕ) (v : Json) → geometrical (cell_value transform) s ≡ typed name (part_name type) v → geometry_type name ≡ Some type → is_collection (Some type) ≡ false
+      → Gives (part transform arcs type v) (Some s) → Parts transform arcs s
+  made s type name v is known e reads = record { type = type; name = name; value = v; is = is; known = known; reads = reads; single = λ _. e }
+
   at_point : (p : Point) → Back (g.Point p)
-  at_point p h = record {
-    type = Places of_places.Point;
-    name = codes "Point";
-    value = cell_value transform p;
-    is = (geometrical_at (cell_value transform)).point p;
-    known = known_point;
-    reads = places_back of_places.Point (number_value (cell_places transform)) (p.x ∷ (p.y ∷ [])) (g.Point p) refl (point_in p (subst (AllByRecursion (IsPlace transform)) (places_at.point p) h.1).0);
-    single = λ _. refl;
-  }
+  unfolding geometry_type part places_shape places_in elements_place
+  at_point p h =
+      let back = elements_place_back transform p (subst (AllByRecursion (IsPlace transform)) (places_at.point p) h.1).0 in
+      made (g.Point p) (Places of_places.Point) (codes "Point") (cell_value transform p) ((geometrical_at (cell_value transform)).point p) refl refl
+      (elements_back (places_in transform of_places.Point) (number_value (cell_places transform)) (p.x ∷ (p.y ∷ [])) (g.Point p) refl (λ c. rw (back c) refl))
 
   at_points : (ps : List Point) → Back (g.MultiPoint ps)
+  unfolding geometry_type part places_shape places_in
   at_points ps h =
       let f : is_some_list ps ≡ true = sym (full_at.points ps) ∙ h.0 in
-      record {
-        type = Places of_places.MultiPoint;
-        name = codes "MultiPoint";
-        value = j.Array (map (cell_value transform) ps);
-        is = (geometrical_at (cell_value transform)).points ps;
-        known = known_points;
-        reads = places_back of_places.MultiPoint (cell_value transform) ps (g.MultiPoint ps) f (points_in ps f (subst (AllByRecursion (IsPlace transform)) (places_at.points ps) h.1));
-        single = λ _. refl;
-      }
+      let back = each_place_back transform ps (subst (AllByRecursion (IsPlace transform)) (places_at.points ps) h.1) in
+      made (g.MultiPoint ps) (Places of_places.MultiPoint) (codes "MultiPoint") (j.Array (map (cell_value transform) ps)) ((geometrical_at (cell_value transform)).points ps) refl refl
+      (elements_back (places_in transform of_places.MultiPoint) (cell_value transform) ps (g.MultiPoint ps) f (λ c. rw (back c, made_of_some g.MultiPoint ps f) refl))
 
   at_line : (refs : List ℤ) → Back (g.Line refs)
+  unfolding geometry_type part arcs_shape arcs_in
   at_line refs h =
-      let f : is_some_list refs ≡ true = sym (full_at.line refs) ∙ h.0 in
-      let k = subst (AllByRecursion (Sound arcs)) (strokes-line Point (List ℤ) refs) h.2 in
-      record {
-        type = Arcs of_arcs.LineString;
-        name = codes "LineString";
-        value = line_value refs;
-        is = (geometrical_at (cell_value transform)).line refs;
-        known = known_line;
-        reads = arcs_back of_arcs.LineString whole_value refs (g.Line refs) f (line_shape_in refs k.0);
-        single = λ _. refl;
-      }
+      let back = line_in_back transform arcs long few refs (subst (AllByRecursion (Sound arcs)) (strokes-line Point (List ℤ) refs) h.2).0 in
+      made (g.Line refs) (Arcs of_arcs.LineString) (codes "LineString") (line_value refs) ((geometrical_at (cell_value transform)).line refs) refl refl
+      (elements_back (arcs_in arcs of_arcs.LineString) whole_value refs (g.Line refs) (sym (full_at.line refs) ∙ h.0) (λ c. rw (back c) refl))
 
   at_lines : (ls : List (List ℤ)) → Back (g.Lines ls)
+  unfolding geometry_type part arcs_shape arcs_in
   at_lines ls h =
       let f = and_parts (is_some_list ls) (list_all is_some_list ls) (sym (full_at.lines ls) ∙ h.0) in
-      let k = full_lines arcs false ls f.1 (subst (AllByRecursion (Sound arcs)) (strokes-lines Point (List ℤ) ls) h.2) in
-      record {
-        type = Arcs of_arcs.MultiLineString;
-        name = codes "MultiLineString";
-        value = lines_value ls;
-        is = (geometrical_at (cell_value transform)).lines ls;
-        known = known_lines;
-        reads = arcs_back of_arcs.MultiLineString line_value ls (g.Lines ls) f.0 (lines_in ls f.0 k);
-        single = λ _. refl;
-      }
+      let back = lines_back transform arcs long few ls (full_lines arcs false ls f.1 (subst (AllByRecursion (Sound arcs)) (strokes-lines Point (List ℤ) ls) h.2)) in
+      made (g.Lines ls) (Arcs of_arcs.MultiLineString) (codes "MultiLineString") (lines_value ls) ((geometrical_at (cell_value transform)).lines ls) refl refl
+      (elements_back (arcs_in arcs of_arcs.MultiLineString) line_value ls (g.Lines ls) f.0 (λ c. rw (back c, made_of_some g.Lines ls f.0) refl))
 
   at_area : (rs : List (List ℤ)) → Back (g.Area rs)
+  unfolding geometry_type part arcs_shape arcs_in
   at_area rs h =
       let k = full_area arcs rs (sym (full_at.area rs) ∙ h.0) (subst (AllByRecursion (Sound arcs)) (strokes-area Point (List ℤ) rs) h.2) in
-      record {
-        type = Arcs of_arcs.Polygon;
-        name = codes "Polygon";
-        value = lines_value rs;
-        is = (geometrical_at (cell_value transform)).area rs;
-        known = known_area;
-        reads = arcs_back of_arcs.Polygon line_value rs (g.Area rs) k.0 (area_in rs k);
-        single = λ _. refl;
-      }
+      made (g.Area rs) (Arcs of_arcs.Polygon) (codes "Polygon") (lines_value rs) ((geometrical_at (cell_value transform)).area rs) refl refl
+      (elements_back (arcs_in arcs of_arcs.Polygon) line_value rs (g.Area rs) k.0 (λ c. rw (polygon_in_back transform arcs long few rs k c) refl))
 
   at_areas : (areas : List (List (List ℤ))) → Back (g.Areas areas)
+  unfolding geometry_type part arcs_shape arcs_in
   at_areas areas h =
       let f = and_parts (is_some_list areas) (list_all (λ rs. is_some_list rs && list_all is_some_list rs) areas) (sym (full_at.areas areas) ∙ h.0) in
-      let k = full_areas arcs areas f.1 (subst (AllByRecursion (Sound arcs)) (strokes-areas Point (List ℤ) areas) h.2) in
-      record {
-        type = Arcs of_arcs.MultiPolygon;
-        name = codes "MultiPolygon";
-        value = j.Array (map lines_value areas);
-        is = (geometrical_at (cell_value transform)).areas areas;
-        known = known_areas;
-        reads = arcs_back of_arcs.MultiPolygon lines_value areas (g.Areas areas) f.0 (areas_in areas f.0 k);
-        single = λ _. refl;
-      }
+      let back = polygons_back transform arcs long few areas (full_areas arcs areas f.1 (subst (AllByRecursion (Sound arcs)) (strokes-areas Point (List ℤ) areas) h.2)) in
+      made (g.Areas areas) (Arcs of_arcs.MultiPolygon) (codes "MultiPolygon") (j.Array (map lines_value areas)) ((geometrical_at (cell_value transform)).areas areas) refl refl
+      (elements_back (arcs_in arcs of_arcs.MultiPolygon) lines_value areas (g.Areas areas) f.0 (λ c. rw (back c, made_of_some g.Areas areas f.0) refl))
 
   each_parts : (ss : List TopoShape) → AllByRecursion Back ss → list_all is_full ss ≡ true → AllByRecursion (IsPlace transform) (joined (map places ss)) → AllByRecursion (Sound arcs) (joined (map strokes ss))
       → AllByRecursion (Parts transform arcs) ss
@@ -265,12 +162,13 @@ module _ (transform : Option Transform) (arcs : List (List Point)) (long : AllBy
   group_back ss all c = rw (shapes_array transform arcs (map (λ s. inner_value (geometrical (cell_value transform) s)) ss), kept_gives (Parts transform arcs) (λ s. inner_value (geometrical (cell_value transform) s)) (shape transform arcs) inner_back ss all c) refl
 
   at_group : (ss : List TopoShape) → AllByRecursion Back ss → Back (g.Group ss)
+  unfolding geometry_type
   at_group ss all h = record {
     type = Collection;
     name = codes "GeometryCollection";
     value = j.Array (map (λ s. inner_value (geometrical (cell_value transform) s)) ss);
     is = geometrical-group (cell_value transform) ss;
-    known = known_group;
+    known = refl;
     reads = group_back ss (each_parts ss all (sym (full-group ss) ∙ h.0) (subst (AllByRecursion (IsPlace transform)) (places_at.group ss) h.1) (subst (AllByRecursion (Sound arcs)) (strokes-group Point (List ℤ) ss) h.2));
     single = λ e. let f : false ≡ true = sym (single_at.group ss) ∙ e in absurd cc;
   }

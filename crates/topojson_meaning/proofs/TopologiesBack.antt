@@ -9,10 +9,11 @@ use Rattle.geometry.specs.Lists.{map_some}
 use Rattle.geometry.specs.Points.{Point}
 use Rattle.geometry.specs.Pruning.{option_strokes}
 use Rattle.geometry.proofs.Agreement.{all_left, all_right}
+use Rattle.list_laws.proofs.Elements.{all_two}
 use Rattle.topojson_types.specs.declared.feature.TopoFeature.{TopoFeature}
 use Rattle.topojson_types.specs.declared.object.TopoObject.{TopoObject}
 use Rattle.topojson_types.specs.declared.transform.Transform.{Transform}
-use Rattle.topojson_types.specs.Topologies.{Contents, object_features, features_strokes, objects_strokes}
+use Rattle.topojson_types.specs.Topologies.{Contents, features_strokes, objects_strokes}
 use Rattle.topojson_types.specs.Validity.{IsFeature, IsObject, AreInRange, IsJoined, IsClosed}
 use Rattle.topojson_types.specs.Values.{cell_value, transform_object, objects_value, arcs_value, topology_value}
 use Rattle.topojson_meaning.specs.Laws.{IsStored, ReadsBack}
@@ -28,10 +29,6 @@ use Rattle.topojson_meaning.proofs.TransformsBack.{transform_back}
 
 -- ---- what a valid topology says of each part
 
-all_three : {A : Type 0} (X Y Z : A → Type 0) (xs : List A) → AllByRecursion X xs → AllByRecursion Y xs → AllByRecursion Z xs → AllByRecursion (λ x. X x × Y x × Z x) xs
-all_three X Y Z [] h k m = tt
-all_three X Y Z (x ∷ xs) h k m = ((h.0, k.0, m.0), all_three X Y Z xs h.1 k.1 m.1)
-
 module _ (transform : Option Transform) (arcs : List (List Point)) where
   abbrev strokes_of : TopoFeature → List (Bool × List ℤ)
   strokes_of f = option_strokes f.shape
@@ -39,9 +36,6 @@ module _ (transform : Option Transform) (arcs : List (List Point)) where
   fine_features : (fs : List TopoFeature) → AllByRecursion (IsFeature transform) fs → AllByRecursion (Sound arcs) (features_strokes fs) → AllByRecursion (FineFeature transform arcs) fs
   fine_features [] h k = tt
   fine_features (f ∷ fs) h k = ((h.0, all_left (Sound arcs) (strokes_of f) (features_strokes fs) k), fine_features fs h.1 (all_right (Sound arcs) (strokes_of f) (features_strokes fs) k))
-
-  fine_object : (o : TopoObject) → IsObject transform o → AllByRecursion (Sound arcs) (features_strokes (object_features o)) → FineObject transform arcs o
-  fine_object o h k = grind (arith, all_left, Sound, fine_features)
 
   fine_objects : (os : List (List ℕ × TopoObject)) → AllByRecursion (λ o. IsObject transform o.1) os → AllByRecursion (Sound arcs) (objects_strokes os) → AllByRecursion (λ o. FineObject transform arcs o.1) os
   fine_objects [] h k = tt
@@ -71,7 +65,8 @@ contents_back : (t : Contents) → IsStored t → Gives (contents (written_membe
 unfolding contents
 contents_back t h c =
     let valid = h.0 in
-    let sound = all_three (λ b. AreInRange (length t.arcs) b.1) (IsJoined t.arcs) (IsClosed t.arcs) (objects_strokes t.objects) valid.ranged valid.joined valid.closed in
+    let closed = all_two (IsJoined t.arcs) (IsClosed t.arcs) (λ b. IsJoined t.arcs b × IsClosed t.arcs b) (λ b j k. (j, k)) (objects_strokes t.objects) valid.joined valid.closed in
+    let sound = all_two (λ b. AreInRange (length t.arcs) b.1) (λ b. IsJoined t.arcs b × IsClosed t.arcs b) (Sound t.arcs) (λ b r k. (r, k.0, k.1)) (objects_strokes t.objects) valid.ranged closed in
     let fine = fine_objects t.transform t.arcs t.objects valid.objects sound in
     rw (type_found t, text_of-text (codes "Topology"), transform_found t, transform_back t.transform valid.transform c, arcs_found t, arcs_back t.transform t.arcs valid.arcs c)
     (rw (objects_found t, objects_back t.transform t.arcs valid.arcs h.1 t.objects valid.names fine c) refl)

@@ -1,5 +1,5 @@
 -- Worked rows of the definition for topologies with a transform: what the numbers of a transform are, and which cells are taken.
-use Rattle.std.proofs.Common.{◌≡◌, ℕ, List, [], ◌∷◌, map, Some, None, Ok, Err, refl}
+use Rattle.std.proofs.Common.{◌≡◌, ℕ, List, [], ◌∷◌, map, Some, None, Result, Ok, Err, refl}
 use Rattle.std.specs.Prelude.{ℤ, codes, ◌*◌, ◌-◌, ◌^◌, pos, negsuc}
 use Rattle.json_value.specs.declared.json.Json.{Json}
 use Rattle.json_value.specs.declared.json.Json.TheVariants as j
@@ -9,6 +9,7 @@ use Rattle.geojson_types.specs.declared.counts.Counts.{Counts}
 use Rattle.geojson_types.specs.Counting.{no_counts}
 use Rattle.geometry.specs.Points.{Point}
 use Rattle.topojson_types.specs.declared.transform.Transform.{Transform}
+use Rattle.topojson_types.specs.Topologies.{Contents}
 use Rattle.topojson_types.specs.TransformNumbers.{transform_value, to_units, stands_for}
 use Rattle.topojson_types.specs.Transforms.{place_on, is_within}
 use Rattle.topojson_meaning.specs.declared.fault.TopoFault.{TopoFault}
@@ -22,17 +23,9 @@ use Rattle.topojson_meaning.specs.Transforms.{texts, transform_number, transform
 
 -- ---- values of numbers
 
-value_tenth : transform_value (codes "0.1") ≡ Some (pos (10 ^ 19))
+row_values : map transform_value (codes "0.1" ∷ codes "300000000" ∷ codes "300000001" ∷ []) ≡ Some (pos (10 ^ 19)) ∷ Some (pos (3 * 10 ^ 28)) ∷ None ∷ []
 unfolding transform_value scaled_of
-value_tenth = refl
-
-value_greatest : transform_value (codes "300000000") ≡ Some (pos (3 * 10 ^ 28))
-unfolding transform_value scaled_of
-value_greatest = refl
-
-value_above : transform_value (codes "300000001") ≡ None
-unfolding transform_value scaled_of
-value_above = refl
+row_values = refl
 
 -- ---- transforms
 
@@ -47,17 +40,13 @@ scale_json x y = j.Object ((codes "scale", pair_json x y) ∷ ((codes "translate
 abbrev scaling : List ℕ → List ℕ → Transform
 scaling x y = record { scale = (x, y); translate = (codes "0", codes "0") }
 
-one_read : (c : Counts) → transform_if (Some (scale_json (codes "1") (codes "1"))) c ≡ Ok (Some (scaling (codes "1") (codes "1")), c)
-unfolding transform_if transform_members need named texts elements array_of number_text number_of transform_pair transform_number transform_value scaled_of
-one_read c = simp (j.outs-Object, j.outs-Array, j.outs-Number)
+-- numbers that are read as the scales that they are
+abbrev scales : List (List ℕ × List ℕ)
+scales = (codes "1", codes "1") ∷ (codes "0.1", codes "0.1") ∷ (codes "300000000", codes "1") ∷ (codes "0.3333334", codes "0.3333334") ∷ []
 
-tenth_read : (c : Counts) → transform_if (Some (scale_json (codes "0.1") (codes "0.1"))) c ≡ Ok (Some (scaling (codes "0.1") (codes "0.1")), c)
+row_scales : (c : Counts) → map (λ s. transform_if (Some (scale_json s.0 s.1)) c) scales ≡ map (λ s. Ok (Some (scaling s.0 s.1), c)) scales
 unfolding transform_if transform_members need named texts elements array_of number_text number_of transform_pair transform_number transform_value scaled_of
-tenth_read c = simp (j.outs-Object, j.outs-Array, j.outs-Number)
-
-greatest_read : (c : Counts) → transform_if (Some (scale_json (codes "300000000") (codes "1"))) c ≡ Ok (Some (scaling (codes "300000000") (codes "1")), c)
-unfolding transform_if transform_members need named texts elements array_of number_text number_of transform_pair transform_number transform_value scaled_of
-greatest_read c = simp (j.outs-Object, j.outs-Array, j.outs-Number)
+row_scales c = simp (j.outs-Object, j.outs-Array, j.outs-Number)
 
 -- {"translate":[0,0]}
 row_no_scale : (c : Counts) → transform_if (Some (j.Object ((codes "translate", pair_json (codes "0") (codes "0")) ∷ []))) c ≡ Err Missing
@@ -85,26 +74,14 @@ row_transform_first : topology (j.Object ((codes "type", j.Text (codes "Topology
 unfolding topology value_contents contents object_of text_of need named transform_if
 row_transform_first = simp (j.outs-Object, j.outs-Text, j.outs-Array)
 
-transform_fault : (v w : Json) (e : TopoFault) → transform_if (Some v) no_counts ≡ Err e → topology (transformed v w) ≡ Err e
-unfolding topology value_contents contents object_of text_of need named
-transform_fault v w e h = simp (j.outs-Object, j.outs-Text, h)
-
-arcs_fault : (v w : Json) (t : Transform) (e : TopoFault) → transform_if (Some v) no_counts ≡ Ok (Some t, no_counts) → arc_list (Some t) w no_counts ≡ Err e → topology (transformed v w) ≡ Err e
-unfolding topology value_contents contents object_of text_of need named
-arcs_fault v w t e h k = simp (j.outs-Object, j.outs-Text, h, k)
-
-arcs_taken : (v w : Json) (t : Transform) (arcs : List (List Point)) → transform_if (Some v) no_counts ≡ Ok (Some t, no_counts) → arc_list (Some t) w no_counts ≡ Ok (arcs, no_counts)
-    → topology (transformed v w) ≡ Ok (record { objects = []; arcs = arcs; transform = Some t }, no_counts)
-unfolding topology value_contents contents object_of text_of need named objects objects_behind members
-arcs_taken v w t arcs h k = simp (j.outs-Object, j.outs-Text, h, k)
-
 -- a null transform is none
 row_null : topology (transformed j.Null (j.Array [])) ≡ Ok (record { objects = []; arcs = []; transform = None }, no_counts)
 unfolding topology value_contents contents object_of text_of need named transform_if arc_list elements array_of gather objects objects_behind members
 row_null = simp (j.outs-Object, j.outs-Text, j.outs-Array, j.outs-Null)
 
 row_topology_above : topology (transformed (scale_json (codes "300000001") (codes "1")) (j.Array [])) ≡ Err Range
-row_topology_above = transform_fault (scale_json (codes "300000001") (codes "1")) (j.Array []) Range (row_above no_counts)
+unfolding topology value_contents contents object_of text_of need named
+row_topology_above = simp (j.outs-Object, j.outs-Text, row_above no_counts)
 
 -- ---- cells
 
@@ -115,50 +92,24 @@ arc_json x y = j.Array (j.Array (pair_json x (codes "0") ∷ (pair_json y (codes
 abbrev at_x : ℤ → Point
 at_x x = record { x = x; y = pos 0 }
 
--- scale [1,1], arcs [[[0,0],[0.5,0]]]
-half_read : arc_list (Some (scaling (codes "1") (codes "1"))) (arc_json (codes "0") (codes "0.5")) no_counts ≡ Err GridNumber
-unfolding arc_list arc arc_cells cells_behind cell elements_cell grid_number grid_cell elements array_of number_text number_of scaled_of is_within place_on stands_for to_units transform_value gather
-half_read = simp (j.outs-Array, j.outs-Number)
+-- the topology of one scale in both directions and one such arc
+abbrev on_scale : List ℕ → List ℕ → List ℕ → Result (Contents × Counts) TopoFault
+on_scale scale x y = topology (transformed (scale_json scale scale) (arc_json x y))
 
-row_half : topology (transformed (scale_json (codes "1") (codes "1")) (arc_json (codes "0") (codes "0.5"))) ≡ Err GridNumber
-row_half = arcs_fault (scale_json (codes "1") (codes "1")) (arc_json (codes "0") (codes "0.5")) (scaling (codes "1") (codes "1")) GridNumber (one_read no_counts) half_read
-
--- scale [0.1,0.1], arcs [[[2147483648,0],[1,0]]]: the second cell is past the grid
-past_read : arc_list (Some (scaling (codes "0.1") (codes "0.1"))) (arc_json (codes "2147483648") (codes "1")) no_counts ≡ Err GridNumber
-unfolding arc_list arc arc_cells cells_behind cell elements_cell grid_number grid_cell elements array_of number_text number_of scaled_of is_within place_on stands_for to_units transform_value gather
-past_read = simp (j.outs-Array, j.outs-Number)
-
-row_past : topology (transformed (scale_json (codes "0.1") (codes "0.1")) (arc_json (codes "2147483648") (codes "1"))) ≡ Err GridNumber
-row_past = arcs_fault (scale_json (codes "0.1") (codes "0.1")) (arc_json (codes "2147483648") (codes "1")) (scaling (codes "0.1") (codes "0.1")) GridNumber (tenth_read no_counts) past_read
-
--- scale [0.1,0.1], arcs [[[2147483648,0],[-4294967296,0]]]: the greatest cell and then the least
+-- half a cell; a second cell past the grid; the greatest cell and then the least; a difference past its limit
 abbrev widest : List (List Point)
 widest = (at_x (pos (2 ^ 31)) ∷ (at_x (negsuc (2 ^ 31 - 1)) ∷ [])) ∷ []
 
-widest_read : arc_list (Some (scaling (codes "0.1") (codes "0.1"))) (arc_json (codes "2147483648") (codes "-4294967296")) no_counts ≡ Ok (widest, no_counts)
-unfolding arc_list arc arc_cells cells_behind cell elements_cell grid_number grid_cell elements array_of number_text number_of scaled_of is_within place_on stands_for to_units transform_value gather
-widest_read = simp (j.outs-Array, j.outs-Number)
-
-row_widest : topology (transformed (scale_json (codes "0.1") (codes "0.1")) (arc_json (codes "2147483648") (codes "-4294967296")))
-    ≡ Ok (record { objects = []; arcs = widest; transform = Some (scaling (codes "0.1") (codes "0.1")) }, no_counts)
-row_widest = arcs_taken (scale_json (codes "0.1") (codes "0.1")) (arc_json (codes "2147483648") (codes "-4294967296")) (scaling (codes "0.1") (codes "0.1")) widest (tenth_read no_counts) widest_read
+row_cells : on_scale (codes "1") (codes "0") (codes "0.5") ∷ on_scale (codes "0.1") (codes "2147483648") (codes "1")
+    ∷ on_scale (codes "0.1") (codes "2147483648") (codes "-4294967296") ∷ on_scale (codes "0.1") (codes "2147483648") (codes "-4294967297") ∷ []
+    ≡ Err GridNumber ∷ Err GridNumber ∷ Ok (record { objects = []; arcs = widest; transform = Some (scaling (codes "0.1") (codes "0.1")) }, no_counts) ∷ Err GridNumber ∷ []
+unfolding topology value_contents contents object_of text_of need named objects objects_behind members transform_if transform_members texts transform_pair transform_number arc_list arc arc_cells cells_behind cell elements_cell grid_number grid_cell elements array_of number_text number_of scaled_of is_within place_on stands_for to_units transform_value gather
+row_cells = simp (j.outs-Object, j.outs-Text, j.outs-Array, j.outs-Number)
 
 -- they lie at 214748364.8 and -214748364.8
-lies_greatest : place_on (scaling (codes "0.1") (codes "0.1")) (at_x (pos (2 ^ 31))) ≡ at_x (pos 2147483648000000)
+row_widest_lie : map (place_on (scaling (codes "0.1") (codes "0.1"))) (at_x (pos (2 ^ 31)) ∷ at_x (negsuc (2 ^ 31 - 1)) ∷ []) ≡ at_x (pos 2147483648000000) ∷ at_x (negsuc 2147483647999999) ∷ []
 unfolding place_on stands_for to_units transform_value scaled_of
-lies_greatest = refl
-
-lies_least : place_on (scaling (codes "0.1") (codes "0.1")) (at_x (negsuc (2 ^ 31 - 1))) ≡ at_x (negsuc 2147483647999999)
-unfolding place_on stands_for to_units transform_value scaled_of
-lies_least = refl
-
--- the same with -4294967297: the difference is past its limit
-past_limit_read : arc_list (Some (scaling (codes "0.1") (codes "0.1"))) (arc_json (codes "2147483648") (codes "-4294967297")) no_counts ≡ Err GridNumber
-unfolding arc_list arc arc_cells cells_behind cell elements_cell grid_number grid_cell elements array_of number_text number_of scaled_of is_within place_on stands_for to_units transform_value gather
-past_limit_read = simp (j.outs-Array, j.outs-Number)
-
-row_past_limit : topology (transformed (scale_json (codes "0.1") (codes "0.1")) (arc_json (codes "2147483648") (codes "-4294967297"))) ≡ Err GridNumber
-row_past_limit = arcs_fault (scale_json (codes "0.1") (codes "0.1")) (arc_json (codes "2147483648") (codes "-4294967297")) (scaling (codes "0.1") (codes "0.1")) GridNumber (tenth_read no_counts) past_limit_read
+row_widest_lie = refl
 
 -- ---- places
 
@@ -166,13 +117,9 @@ abbrev farthest : Transform
 farthest = record { scale = (codes "1", codes "1"); translate = (codes "300000000", codes "0") }
 
 -- scale [1,1], translate [300000000,0]: the place [0,0] is taken, and [1,0] lies too far
-row_place_farthest : (c : Counts) → place (Some farthest) (pair_json (codes "0") (codes "0")) c ≡ Ok (at_x (pos 0), c)
+row_places : (c : Counts) → place (Some farthest) (pair_json (codes "0") (codes "0")) c ∷ place (Some farthest) (pair_json (codes "1") (codes "0")) c ∷ [] ≡ Ok (at_x (pos 0), c) ∷ Err Range ∷ []
 unfolding place elements_place elements_cell grid_number grid_cell elements array_of number_text number_of scaled_of is_within place_on stands_for to_units transform_value
-row_place_farthest c = simp (j.outs-Array, j.outs-Number)
-
-row_place_above : (c : Counts) → place (Some farthest) (pair_json (codes "1") (codes "0")) c ≡ Err Range
-unfolding place elements_place elements_cell grid_number grid_cell elements array_of number_text number_of scaled_of is_within place_on stands_for to_units transform_value
-row_place_above c = simp (j.outs-Array, j.outs-Number)
+row_places c = simp (j.outs-Array, j.outs-Number)
 
 -- places are no differences, so that they are within the bound of cells: [2147483649,0]
 row_place_past : (c : Counts) → place (Some (scaling (codes "0.1") (codes "0.1"))) (pair_json (codes "2147483649") (codes "0")) c ≡ Err GridNumber
@@ -186,10 +133,6 @@ at x y = record { x = x; y = y }
 
 abbrev grid_of_four : Transform
 grid_of_four = scaling (codes "0.3333334") (codes "0.3333334")
-
-four_read : (c : Counts) → transform_if (Some (scale_json (codes "0.3333334") (codes "0.3333334"))) c ≡ Ok (Some grid_of_four, c)
-unfolding transform_if transform_members need named texts elements array_of number_text number_of transform_pair transform_number transform_value scaled_of
-four_read c = simp (j.outs-Object, j.outs-Array, j.outs-Number)
 
 -- [[[0,0],[1,3],[2,-3]]] are the cells (0,0), (1,3), (3,0)
 abbrev line_cells : List Point

@@ -27,7 +27,7 @@ use Rattle.topojson_types.proofs.ByKind.{geometrical_at}
 use Rattle.topojson_meaning.specs.Bounds.{objects_features, feature_nesting}
 use Rattle.topojson_meaning.specs.Laws.{ValueNests}
 use Rattle.topojson_meaning.proofs.ShapeKinds.{geometrical-group, written_members}
-use Rattle.list_laws.proofs.Elements.{all_append}
+use Rattle.list_laws.proofs.Elements.{all_append, all_weaker}
 
 -- ---- lists
 
@@ -95,46 +95,30 @@ module _ (places : ℕ) where
   abbrev Nests : TopoShape → Type 0
   Nests s = Fits (nesting s) (geometrical cell s)
 
-  typed_fits : (n k : ℕ) (type key : List ℕ) (v : Json) (o : Geometrical) → n ≡ suc k → depth v ≤ k → o ≡ typed type key v → Fits n o
-  typed_fits n k type key v o e h is = rw is (k, e, text_flat k type, (h, tt))
+  typed_fits : (s : TopoShape) (k : ℕ) (type key : List ℕ) (v : Json) → nesting s ≡ suc k → depth v ≤ k → geometrical cell s ≡ typed type key v → Nests s
+  typed_fits s k type key v e h is = rw is (k, e, text_flat k type, (h, tt))
 
   inner_below : (n : ℕ) (o : Geometrical) → Fits n o → depth (inner_value o) ≤ n
   inner_below n o h = let p = object_below h.0 ((codes "type", o.type) ∷ o.parts) (h.2, h.3) in let e = h.1 in omega arith
 
-  at_point : (p : Point) → Nests (g.Point p)
-  at_point p = let h = position_below places p in typed_fits (nesting (g.Point p)) 1 (codes "Point") (codes "coordinates") (cell p) (geometrical cell (g.Point p)) (nest_at.point p) h ((geometrical_at cell).point p)
-
-  at_points : (ps : List Point) → Nests (g.MultiPoint ps)
-  at_points ps = let h = positions_below places ps in typed_fits (nesting (g.MultiPoint ps)) 2 (codes "MultiPoint") (codes "coordinates") (j.Array (map cell ps)) (geometrical cell (g.MultiPoint ps)) (nest_at.points ps) h ((geometrical_at cell).points ps)
-
-  at_line : (refs : List ℤ) → Nests (g.Line refs)
-  at_line refs = let h = line_below refs in typed_fits (nesting (g.Line refs)) 2 (codes "LineString") (codes "arcs") (line_value refs) (geometrical cell (g.Line refs)) (nest_at.line refs) (omega arith) ((geometrical_at cell).line refs)
-
-  at_lines : (ls : List (List ℤ)) → Nests (g.Lines ls)
-  at_lines ls = let h = lines_below ls in typed_fits (nesting (g.Lines ls)) 3 (codes "MultiLineString") (codes "arcs") (lines_value ls) (geometrical cell (g.Lines ls)) (nest_at.lines ls) (omega arith) ((geometrical_at cell).lines ls)
-
-  at_area : (rs : List (List ℤ)) → Nests (g.Area rs)
-  at_area rs = let h = lines_below rs in typed_fits (nesting (g.Area rs)) 3 (codes "Polygon") (codes "arcs") (lines_value rs) (geometrical cell (g.Area rs)) (nest_at.area rs) (omega arith) ((geometrical_at cell).area rs)
-
-  at_areas : (areas : List (List (List ℤ))) → Nests (g.Areas areas)
-  at_areas areas = let h = areas_below areas in typed_fits (nesting (g.Areas areas)) 4 (codes "MultiPolygon") (codes "arcs") (j.Array (map lines_value areas)) (geometrical cell (g.Areas areas)) (nest_at.areas areas) (omega arith) ((geometrical_at cell).areas areas)
-
   abbrev inner : TopoShape → Json
   inner s = inner_value (geometrical cell s)
 
-  inner_all : (ss : List TopoShape) → AllByRecursion Nests ss → AllByRecursion (λ s. depth (inner s) ≤ nesting s) ss
-  inner_all [] h = tt
-  inner_all (s ∷ ss) h = (inner_below (nesting s) (geometrical cell s) h.0, inner_all ss h.1)
-
   group_below : (ss : List TopoShape) → AllByRecursion Nests ss → depth (j.Array (map inner ss)) ≤ suc (greatest (map nesting ss))
-  group_below ss h = let p = greatest_lower (λ s. depth (inner s)) nesting ss (inner_all ss h) in rw (depth-array (map inner ss), fused depth inner (λ s. depth (inner s)) (λ s. refl) ss) (omega arith)
-
-  at_group : (ss : List TopoShape) → AllByRecursion Nests ss → Nests (g.Group ss)
-  at_group ss all = typed_fits (nesting (g.Group ss)) (suc (greatest (map nesting ss))) (codes "GeometryCollection") (codes "geometries") (j.Array (map inner ss)) (geometrical cell (g.Group ss))
-      (nest_at.group ss ∙ omega arith) (group_below ss all) (geometrical-group cell ss)
+  group_below ss h =
+      let p = greatest_lower (λ s. depth (inner s)) nesting ss (all_weaker Nests (λ s. depth (inner s) ≤ nesting s) (λ s. inner_below (nesting s) (geometrical cell s)) ss h) in
+      rw (depth-array (map inner ss), fused depth inner (λ s. depth (inner s)) (λ s. refl) ss) (omega arith)
 
   shape_fits : (s : TopoShape) → Nests s
-  shape_fits = by_kinds Nests (record { point = at_point; points = at_points; line = at_line; lines = at_lines; area = at_area; areas = at_areas; group = at_group })
+  shape_fits = by_kinds Nests (record {
+    point = λ p. typed_fits (g.Point p) 1 (codes "Point") (codes "coordinates") (cell p) (nest_at.point p) (position_below places p) ((geometrical_at cell).point p);
+    points = λ ps. typed_fits (g.MultiPoint ps) 2 (codes "MultiPoint") (codes "coordinates") (j.Array (map cell ps)) (nest_at.points ps) (positions_below places ps) ((geometrical_at cell).points ps);
+    line = λ refs. typed_fits (g.Line refs) 2 (codes "LineString") (codes "arcs") (line_value refs) (nest_at.line refs) (omega (arith, line_below refs)) ((geometrical_at cell).line refs);
+    lines = λ ls. typed_fits (g.Lines ls) 3 (codes "MultiLineString") (codes "arcs") (lines_value ls) (nest_at.lines ls) (omega (arith, lines_below ls)) ((geometrical_at cell).lines ls);
+    area = λ rs. typed_fits (g.Area rs) 3 (codes "Polygon") (codes "arcs") (lines_value rs) (nest_at.area rs) (omega (arith, lines_below rs)) ((geometrical_at cell).area rs);
+    areas = λ areas. typed_fits (g.Areas areas) 4 (codes "MultiPolygon") (codes "arcs") (j.Array (map lines_value areas)) (nest_at.areas areas) (omega (arith, areas_below areas)) ((geometrical_at cell).areas areas);
+    group = λ ss all. typed_fits (g.Group ss) (suc (greatest (map nesting ss))) (codes "GeometryCollection") (codes "geometries") (j.Array (map inner ss)) (nest_at.group ss ∙ omega arith) (group_below ss all) (geometrical-group cell ss);
+  })
 
   -- ---- features
 
@@ -144,11 +128,7 @@ module _ (places : ℕ) where
   option_below (Some s) n h =
       let f = shape_fits s in
       let le : f.0 ≤ n = omega (arith, f.1) in
-      (omega (arith, f.2), raised f.0 n (geometrical cell s).parts le f.3)
-    where
-      raised : (k n : ℕ) (ms : Members) → k ≤ n → MembersBelow k ms → MembersBelow n ms
-      raised k n [] le h = tt
-      raised k n (m ∷ ms) le h = (omega (arith, h.0), raised k n ms le h.1)
+      (omega (arith, f.2), all_weaker (λ m. depth m.1 ≤ f.0) (λ m. depth m.1 ≤ n) (λ m h. omega arith) (geometrical cell s).parts f.3)
 
   id_below : (i : Option Id) (n : ℕ) → MembersBelow n (id_members i)
   id_below None n = tt
@@ -166,8 +146,7 @@ module _ (places : ℕ) where
   feature_below f (suc n) h = feature_below_at f n (omega arith) (omega arith)
 
   features_below : (fs : List TopoFeature) (n : ℕ) → AllByRecursion (λ f. feature_nesting f ≤ n) fs → AllByRecursion (λ f. depth (feature_value cell f) ≤ n) fs
-  features_below [] n h = tt
-  features_below (f ∷ fs) n h = (feature_below f n h.0, features_below fs n h.1)
+  features_below fs n h = all_weaker (λ f. feature_nesting f ≤ n) (λ f. depth (feature_value cell f) ≤ n) (λ f. feature_below f n) fs h
 
   -- ---- objects
 

@@ -12,10 +12,8 @@ use Rattle.json_value.specs.declared.json.Json.{Json}
 use Rattle.json_value.specs.declared.json.Json.TheVariants as j
 use Rattle.json_value.specs.Numbers.{numbers_of, HasNumbers}
 use Rattle.json_value.proofs.NumbersOf.{numbers-null, numbers-number, numbers-text, numbers-array, numbers-object}
-use Rattle.geometry.specs.declared.shape.Geometry.TheVariants as g
-use Rattle.geojson_types.specs.declared.id.Id.{Id}
 use Rattle.geometry.specs.Lists.{joined}
-use Rattle.geojson_types.specs.Numbers.{IdHasNumbers, PropertiesHaveNumbers}
+use Rattle.geojson_types.specs.Numbers.{PropertiesHaveNumbers}
 use Rattle.geometry.specs.Points.{Point, IsWithin}
 use Rattle.geometry.specs.Pruning.{strokes, option_strokes}
 use Rattle.geometry.proofs.Agreement.{all_left, all_right, all_of_map}
@@ -24,26 +22,21 @@ use Rattle.geometry.proofs.Induction.{by_kinds}
 use Rattle.topojson_types.specs.declared.feature.TopoFeature.{TopoFeature}
 use Rattle.topojson_types.specs.declared.object.TopoObject.{TopoObject}
 use Rattle.topojson_types.specs.declared.object.TopoObject.TheVariants.{One, Many}
-use Rattle.geometry.specs.Joins.{number_of}
 use Rattle.topojson_types.specs.declared.transform.Transform.{Transform}
 use Rattle.topojson_types.specs.Differences.{difference, deltas_from, deltas}
 use Rattle.topojson_types.specs.TransformNumbers.{transform_value, IsTransformNumber}
 use Rattle.topojson_types.specs.Transforms.{grid_limit, origin}
 use Rattle.topojson_types.specs.Topologies.{TopoShape, object_features, features_strokes, objects_strokes}
-use Rattle.topojson_types.specs.Validity.{IsPlace, IsTransformed, IsArc, IsFeature, IsObject, AreInRange, places, option_places}
-use Rattle.topojson_types.specs.Values.{Members, Geometrical, number_value, whole_value, position_value, cell_places, cell_value, arc_value, line_value, lines_value, typed, inner_value, geometrical, geometrical_option, id_members, properties_members, feature_value, object_value, pair_value, members_of_transform, arcs_value, topology_value}
+use Rattle.topojson_types.specs.Validity.{IsPlace, IsTransformed, IsArc, IsFeature, IsObject, AreInRange, places}
+use Rattle.topojson_types.specs.Values.{Members, Geometrical, number_value, position_value, cell_places, cell_value, arc_value, line_value, lines_value, typed, inner_value, geometrical, properties_members, feature_value, object_value, pair_value, members_of_transform, arcs_value, topology_value}
 use Rattle.topojson_types.proofs.ByKind.{geometrical_at, places_at}
 use Rattle.topojson_meaning.specs.Bounds.{objects_features, FeatureHasNumbers}
 use Rattle.topojson_meaning.specs.Laws.{ValueHasNumbers}
 use Rattle.topojson_meaning.proofs.LinesBack.{magnitude}
 use Rattle.topojson_meaning.proofs.ShapeKinds.{geometrical-group, written_members}
-use Rattle.list_laws.proofs.Elements.{all_append, all_weaker}
+use Rattle.list_laws.proofs.Elements.{all_append, all_map, all_weaker}
 
 -- ---- lists
-
-each_flat : {A B C : Type 0} (X : C → Type 0) (f : B → List C) (value : A → B) (xs : List A) → AllByRecursion (λ x. AllByRecursion X (f (value x))) xs → AllByRecursion X (flat_map f (map value xs))
-each_flat X f value [] h = tt
-each_flat X f value (x ∷ xs) h = all_append X (f (value x)) (flat_map f (map value xs)) h.0 (each_flat X f value xs h.1)
 
 flat : {B C : Type 0} (X : C → Type 0) (f : B → List C) (xs : List B) → AllByRecursion (λ x. AllByRecursion X (f x)) xs → AllByRecursion X (flat_map f xs)
 flat X f [] h = tt
@@ -52,7 +45,7 @@ flat X f (x ∷ xs) h = all_append X (f x) (flat_map f xs) h.0 (flat X f xs h.1)
 -- ---- values
 
 array_numbers : {A : Type 0} (value : A → Json) (xs : List A) → AllByRecursion (λ x. HasNumbers (value x)) xs → HasNumbers (j.Array (map value xs))
-array_numbers value xs h = subst (AllByRecursion IsNumber) (sym (numbers-array (map value xs))) (each_flat IsNumber numbers_of value xs h)
+array_numbers value xs h = subst (AllByRecursion IsNumber) (sym (numbers-array (map value xs))) (flat IsNumber numbers_of (map value xs) (all_map (λ v. HasNumbers v) value xs h))
 
 -- the values of all members have
 abbrev Numbered : Members → Type 0
@@ -101,9 +94,6 @@ arc_numbers None cs h = cells_numbers None cs h.1
 arc_numbers (Some t) cs h = array_numbers (position_value 0) (deltas cs) (deltas_numbers t origin cs (omega arith, omega arith) h.1)
 
 module _ (n : ℕ) (few : n < 2 ^ 63) (transform : Option Transform) where
-  index_numbers : (i : ℤ) → number_of i < n → HasNumbers (whole_value i)
-  index_numbers i h = let m = magnitude i n h few in number_numbers (units_text i 0) (units_text-number i 0 (omega arith))
-
   line_numbers : (refs : List ℤ) → AreInRange n refs → HasNumbers (line_value refs)
   line_numbers refs h = grind (arith, array_numbers, all_weaker, magnitude, number_numbers, units_text-number)
 
@@ -133,33 +123,9 @@ module _ (n : ℕ) (few : n < 2 ^ 63) (transform : Option Transform) where
   typed_numbers : (type key : List ℕ) (v : Json) → HasNumbers v → IsNumbered (typed type key v)
   typed_numbers type key v h = (text_numbers type, (h, tt))
 
-  at_point : (p : Point) → Written (g.Point p)
-  at_point p h k = rw ((geometrical_at cell).point p) (typed_numbers (codes "Point") (codes "coordinates") (cell p) (cell_numbers transform p (subst (AllByRecursion (IsPlace transform)) (places_at.point p) h).0))
-
-  at_points : (ps : List Point) → Written (g.MultiPoint ps)
-  at_points ps h k = rw ((geometrical_at cell).points ps) (typed_numbers (codes "MultiPoint") (codes "coordinates") (j.Array (map cell ps)) (cells_numbers transform ps (subst (AllByRecursion (IsPlace transform)) (places_at.points ps) h)))
-
-  at_line : (refs : List ℤ) → Written (g.Line refs)
-  at_line refs h k = rw ((geometrical_at cell).line refs) (typed_numbers (codes "LineString") (codes "arcs") (line_value refs) (line_numbers refs (subst (AllByRecursion Ranged) (strokes-line Point (List ℤ) refs) k).0))
-
-  at_lines : (ls : List (List ℤ)) → Written (g.Lines ls)
-  at_lines ls h k =
-      let m = all_of_map Ranged (λ l. (false, l)) ls (subst (AllByRecursion Ranged) (strokes-lines Point (List ℤ) ls) k) in
-      rw ((geometrical_at cell).lines ls) (typed_numbers (codes "MultiLineString") (codes "arcs") (lines_value ls) (lines_numbers ls m))
-
-  at_area : (rs : List (List ℤ)) → Written (g.Area rs)
-  at_area rs h k =
-      let m = all_of_map Ranged (λ l. (true, l)) rs (subst (AllByRecursion Ranged) (strokes-area Point (List ℤ) rs) k) in
-      rw ((geometrical_at cell).area rs) (typed_numbers (codes "Polygon") (codes "arcs") (lines_value rs) (lines_numbers rs m))
-
   ranged_areas : (areas : List (List (List ℤ))) → AllByRecursion Ranged (joined (map (map (λ l. (true, l))) areas)) → AllByRecursion (AllByRecursion (AreInRange n)) areas
   ranged_areas [] h = tt
   ranged_areas (rs ∷ areas) h = search (all_of_map, all_left, all_right, ranged_areas areas)
-
-  at_areas : (areas : List (List (List ℤ))) → Written (g.Areas areas)
-  at_areas areas h k =
-      let m = ranged_areas areas (subst (AllByRecursion Ranged) (strokes-areas Point (List ℤ) areas) k) in
-      rw ((geometrical_at cell).areas areas) (typed_numbers (codes "MultiPolygon") (codes "arcs") (j.Array (map lines_value areas)) (areas_numbers areas m))
 
   inner_numbers : (o : Geometrical) → IsNumbered o → HasNumbers (inner_value o)
   inner_numbers o h = object_numbers ((codes "type", o.type) ∷ o.parts) h
@@ -170,21 +136,24 @@ module _ (n : ℕ) (few : n < 2 ^ 63) (transform : Option Transform) where
   members_numbers (s ∷ ss) all h k =
       grind (arith, inner_numbers, all_left, all_right, members_numbers ss all.1 (all_right (IsPlace transform) (places s) (joined (map places ss)) h) (all_right Ranged (strokes s) (joined (map strokes ss)) k))
 
-  at_group : (ss : List TopoShape) → AllByRecursion Written ss → Written (g.Group ss)
-  at_group ss all h k =
-      let m = members_numbers ss all (subst (AllByRecursion (IsPlace transform)) (places_at.group ss) h) (subst (AllByRecursion Ranged) (strokes-group Point (List ℤ) ss) k) in
-      rw (geometrical-group cell ss) (typed_numbers (codes "GeometryCollection") (codes "geometries") _ (array_numbers (λ s. inner_value (geometrical cell s)) ss m))
-
   shape_numbers : (s : TopoShape) → Written s
-  shape_numbers = by_kinds Written (record { point = at_point; points = at_points; line = at_line; lines = at_lines; area = at_area; areas = at_areas; group = at_group })
-
-  option_numbers : (s : Option TopoShape) → AllByRecursion (IsPlace transform) (option_places s) → AllByRecursion Ranged (option_strokes s) → IsNumbered (geometrical_option cell s)
-  option_numbers s h k = grind (arith, null_numbers, shape_numbers)
+  shape_numbers = by_kinds Written (record {
+    point = λ p h k. rw ((geometrical_at cell).point p) (typed_numbers (codes "Point") (codes "coordinates") (cell p) (cell_numbers transform p (subst (AllByRecursion (IsPlace transform)) (places_at.point p) h).0));
+    points = λ ps h k. rw ((geometrical_at cell).points ps)
+        (typed_numbers (codes "MultiPoint") (codes "coordinates") (j.Array (map cell ps)) (cells_numbers transform ps (subst (AllByRecursion (IsPlace transform)) (places_at.points ps) h)));
+    line = λ refs h k. rw ((geometrical_at cell).line refs) (typed_numbers (codes "LineString") (codes "arcs") (line_value refs) (line_numbers refs (subst (AllByRecursion Ranged) (strokes-line Point (List ℤ) refs) k).0));
+    lines = λ ls h k. rw ((geometrical_at cell).lines ls)
+        (typed_numbers (codes "MultiLineString") (codes "arcs") (lines_value ls) (lines_numbers ls (all_of_map Ranged (λ l. (false, l)) ls (subst (AllByRecursion Ranged) (strokes-lines Point (List ℤ) ls) k))));
+    area = λ rs h k. rw ((geometrical_at cell).area rs)
+        (typed_numbers (codes "Polygon") (codes "arcs") (lines_value rs) (lines_numbers rs (all_of_map Ranged (λ l. (true, l)) rs (subst (AllByRecursion Ranged) (strokes-area Point (List ℤ) rs) k))));
+    areas = λ areas h k. rw ((geometrical_at cell).areas areas)
+        (typed_numbers (codes "MultiPolygon") (codes "arcs") (j.Array (map lines_value areas)) (areas_numbers areas (ranged_areas areas (subst (AllByRecursion Ranged) (strokes-areas Point (List ℤ) areas) k))));
+    group = λ ss all h k.
+        let m = members_numbers ss all (subst (AllByRecursion (IsPlace transform)) (places_at.group ss) h) (subst (AllByRecursion Ranged) (strokes-group Point (List ℤ) ss) k) in
+        rw (geometrical-group cell ss) (typed_numbers (codes "GeometryCollection") (codes "geometries") _ (array_numbers (λ s. inner_value (geometrical cell s)) ss m));
+  })
 
   -- ---- features and objects
-
-  id_numbers : (i : Option Id) → IdHasNumbers i → Numbered (id_members i)
-  id_numbers i h = grind (arith, text_numbers, number_numbers)
 
   properties_numbers : (ps : Option Members) → PropertiesHaveNumbers ps → Numbered (properties_members ps)
   properties_numbers ps h = grind arith

@@ -34,4 +34,4 @@ rounded_of-limit negative num den limit = grind (arith, rounded_of-past, rounded
 -- what a number text scales to is within the limit
 pub scaled_of-within : (places limit : ℕ) (t : List ℕ) (s : Scaled) → scaled_of places limit t ≡ Ok s → unsigned_abs s.value ≤ limit
 unfolding scaled_of
-scaled_of-within places limit t s e = subst (λ r. IfOk r (λ x. unsigned_abs x.value ≤ limit)) e ((grind (arith, rounded_of-limit)))
+scaled_of-within places limit t s e = subst (λ r. IfOk r (λ x. unsigned_abs x.value ≤ limit)) e (grind (arith, rounded_of-limit))

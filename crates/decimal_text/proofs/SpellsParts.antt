@@ -103,7 +103,7 @@ fraction_test : (b : Bool) (f a : List ℕ) (g rest : List ℕ) → if◌then◌
     → (b ≡ false) × (f ≡ g) × (a ≡ rest)
 fraction_test b f a g rest h = grind (arith, some_pair_parts)
 
-fraction_text-some : (f : List ℕ) → 0 < length f → fraction_text f ≡ 46 ∷ f
+pub fraction_text-some : (f : List ℕ) → 0 < length f → fraction_text f ≡ 46 ∷ f
 fraction_text-some f h = grind arith
 
 fraction-spelled : (t f rest : List ℕ) → fraction_of t ≡ Some (f, rest) → IsFractionAnd t f rest
@@ -200,11 +200,11 @@ number-spelled t (number_of m w f e hm hw hf he) =
       },
     )
 
-sign-minus : (negative : Bool) → IsMinus (sign_text negative)
+pub sign-minus : (negative : Bool) → IsMinus (sign_text negative)
 sign-minus true = one_minus
 sign-minus false = no_minus
 
-fraction-grammar : (f : List ℕ) → AllDigits f → IsFraction (fraction_text f)
+pub fraction-grammar : (f : List ℕ) → AllDigits f → IsFraction (fraction_text f)
 fraction-grammar [] h = no_fraction
 fraction-grammar (b ∷ bs) h = fraction_digits b bs h.0 h.1
 

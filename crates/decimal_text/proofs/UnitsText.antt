@@ -193,7 +193,7 @@ scaled_of-units u places limit small within =
     let read : parts_of (text_of negative size places) ≡ Some n = parts-read _ _ (text-spells negative size places small) in
     let some : 0 < denominator n = one-le-pow (length n.fraction + 0) 10 (omega arith) in
     ap (scaled_parts places limit) read
-    ∙ ap (λ num. rounded_of negative num (denominator n) limit) ((rw (add-zero, add-zero) (units-value size places small)))
+    ∙ ap (λ num. rounded_of negative num (denominator n) limit) (rw (add-zero, add-zero) (units-value size places small))
     ∙ rounded_of-whole negative (denominator n) size limit some within
     ∙ ap (λ v. Ok (record { value = v; exact = true })) (signed-same u)
 
@@ -202,7 +202,7 @@ units_text-least : (u : ℤ) (places : ℕ) (n : Parts) → unsigned_abs u < 10 
 unfolding units_text
 units_text-least u places n small s =
     let m : Parts = parts_in_text (int_lt u (pos 0)) (unsigned_abs u) places in
-    let same : m ≡ n = (cc ((sym (parts-read _ m (text-spells (int_lt u (pos 0)) (unsigned_abs u) places small)) ∙ parts-read _ n s))) in
+    let same : m ≡ n = (cc (sym (parts-read _ m (text-spells (int_lt u (pos 0)) (unsigned_abs u) places small)) ∙ parts-read _ n s)) in
     subst (λ p. (p.exponent ≡ []) × EndsInNoZero p.fraction) same (refl, trimmed-end (fixed places (unsigned_abs u % 10 ^ places)))
 
 pub reads-again : (u : ℤ) (places : ℕ) → unsigned_abs u < 10 ^ 64 → ReadsAgain u places

@@ -1,10 +1,9 @@
 -- A text that was written, behind which the sink is flushed.
-use Rattle.std.proofs.Common.{◌≡◌, ℕ, ◌<◌, true, List, length, take, Ok, Err}
+use Rattle.std.proofs.Common.{◌≡◌, ℕ, true, List, length, take, Ok}
 use Rattle.std.proofs.KnownBytes.{Appends-kept}
 use Rattle.std.specs.Io.KnownBytes.{Keeps}
 use Rattle.byte_ends.specs.Ends.{Drained, Takes}
 use Rattle.byte_ends.specs.Writes.{Writes, Sends}
-use Rattle.byte_ends.specs.declared.sink.WriteFault.TheVariants.{Write}
 
 module _ (start mid new : Drained) (count : ℕ) (text : List ℕ) (sent : ℕ) (kept : Keeps mid.taken new.taken) (same : new.sent ≡ mid.sent) (w : Writes start mid count text (Ok sent)) where
   still : Takes start new text (length text)
@@ -12,6 +11,3 @@ module _ (start mid new : Drained) (count : ℕ) (text : List ℕ) (sent : ℕ) 
 
   pub flushed : new.failures ≡ 0 → new.flushed ≡ true → Sends start new count text (Ok sent)
   flushed sound passed = (record { took = still; counted = w.counted; sound = sound }, passed)
-
-  pub not_flushed : 0 < new.failures → Sends start new count text (Err (Write sent))
-  not_flushed failed = record { many = length text; took = still; counted = w.counted; failed = failed }

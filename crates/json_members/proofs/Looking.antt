@@ -1,5 +1,6 @@
 -- The turns of the loop that looks a member up, and what is left where one is taken out.
 use Rattle.std.proofs.Common.{◌≡◌, ℕ, zero, suc, ◌+◌, ◌<◌, ◌≤◌, Bool, true, false, not, cond, List, [], ◌∷◌, ◌++◌, length, get_or, take, drop, Option, Some, None, Ok, Err, refl, sym, ap, ◌∙◌, subst, arith}
+use Rattle.std.proofs.lemmas.Bool.{not-false, not-true}
 use Rattle.std.specs.Prelude.{bytes_eq, is_some}
 use Rattle.std.proofs.lemmas.Slice.Eq.{bytes_eq-Decides}
 use Rattle.json_members.specs.declared.fault.LookupFault.TheVariants.{Duplicate}
@@ -8,20 +9,12 @@ use Rattle.json_members.specs.Places.{StandsAt, IsPlace}
 use Rattle.json_members.proofs.Turns.{drop_end}
 use Rattle.list_laws.proofs.Lists.{drop_here}
 
-not_true : (b : Bool) → not b ≡ true → b ≡ false
-not_true true h = cc
-not_true false h = refl
-
-not_false : (b : Bool) → not b ≡ false → b ≡ true
-not_false true h = refl
-not_false false h = cc
-
 -- how the test of the code tells the name
 pub not_named : (r : Bool) (a m name : List ℕ) → r ≡ true → r ≡ not (bytes_eq a name) → a ≡ m → bytes_eq m name ≡ false
-not_named r a m name t e is = subst (λ z. bytes_eq z name ≡ false) is (not_true (bytes_eq a name) (sym e ∙ t))
+not_named r a m name t e is = subst (λ z. bytes_eq z name ≡ false) is (not-true (bytes_eq a name) (sym e ∙ t))
 
 pub is_named : (r : Bool) (a m name : List ℕ) → r ≡ false → r ≡ not (bytes_eq a name) → a ≡ m → bytes_eq m name ≡ true
-is_named r a m name t e is = subst (λ z. bytes_eq z name ≡ true) is (not_false (bytes_eq a name) (sym e ∙ t))
+is_named r a m name t e is = subst (λ z. bytes_eq z name ≡ true) is (not-false (bytes_eq a name) (sym e ∙ t))
 
 -- what was found in front of a place, and what of this name is behind it
 abbrev pub Met : {V : Type 0} → List ℕ → List (List ℕ × V) → ℕ → Option ℕ → Type 0

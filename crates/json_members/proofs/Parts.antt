@@ -1,5 +1,5 @@
 -- What holds of each member holds of those that are looked up; reading under a map.
-use Rattle.std.proofs.Common.{◌≡◌, ℕ, Bool, true, false, cond, List, [], ◌∷◌, ◌++◌, map, Option, Some, None, Result, Ok, Err, refl, ap, ◌∙◌, subst}
+use Rattle.std.proofs.Common.{◌≡◌, ℕ, Bool, true, false, cond, List, [], ◌∷◌, ◌++◌, map, Option, Some, Result, Ok, Err, refl, ap, ◌∙◌, subst}
 use Rattle.std.specs.Prelude.{bytes_eq}
 use Rattle.std.specs.List.{AllByRecursion}
 use Rattle.json_members.specs.declared.fault.LookupFault.{LookupFault}
@@ -13,9 +13,8 @@ given f (Ok y) x h = let k : y ≡ x = cc in ap (λ z. Ok z) k
 given f (Err e) x h = absurd cc
 
 there_is : {V : Type 0} (r : Result (Option V) LookupFault) (v : V) → there r ≡ Ok v → r ≡ Ok (Some v)
-there_is (Err e) v h = absurd cc
-there_is (Ok None) v h = absurd cc
 there_is (Ok (Some w)) v h = cc
+there_is r v h = absurd cc
 
 -- ---- what holds of members
 
@@ -30,11 +29,10 @@ module _ {V : Type 0} (P : V → Type 0) where
       on false k = k
 
   only_part : (vs : List V) (o : Option V) → only vs ≡ Ok o → AllByRecursion P vs → IfThere P o
-  only_part [] None e h = tt
   only_part [] (Some v) e h = absurd cc
-  only_part (w ∷ []) None e h = tt
   only_part (w ∷ []) (Some v) e h = let k : w ≡ v = cc in subst P k h.0
   only_part (w ∷ x ∷ vs) o e h = absurd cc
+  only_part vs o e h = tt
 
   pub find_part : (name : List ℕ) (ms : List (List ℕ × V)) (o : Option V) → find name ms ≡ Ok o → AllByRecursion (λ m. P m.1) ms → IfThere P o
   find_part name ms o e h = only_part (named name ms) o e (named_part name ms h)

@@ -17,10 +17,9 @@ front_twice ys x (Err e) = refl
 
 -- nothing is left at the end
 pub drop_end : {A : Type 0} (i : ℕ) (vs : List A) → length vs ≤ i → drop i vs ≡ []
-drop_end zero [] le = refl
-drop_end (suc i) [] le = refl
 drop_end zero (v ∷ vs) le = absurd (omega arith)
 drop_end (suc i) (v ∷ vs) le = drop_end i vs (omega arith)
+drop_end i vs le = refl
 
 module _ {C E A B : Type 0} (read : A → Counting C E (List B)) (left : List A) (v : A) (rest : List A) (ys : List B) (c : C) (whole : Result (List B × C) E)
     (here : left ≡ v ∷ rest) (now : with_front ys (gather read left c) ≡ whole) where

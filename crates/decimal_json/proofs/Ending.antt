@@ -1,5 +1,5 @@
 -- What may stand behind a value: nothing, white space, a comma or a closing bracket.
-use Rattle.std.proofs.Common.{◌≡◌, ℕ, Bool, true, inl, inr, List, [], ◌∷◌, ◌++◌, refl, arith}
+use Rattle.std.proofs.Common.{◌≡◌, ℕ, Bool, true, List, [], ◌∷◌, ◌++◌, refl, arith}
 use Rattle.std.specs.Prelude.{◌||◌, ◌==◌}
 use Rattle.std.proofs.lemmas.Bool.{or_cases}
 use Rattle.json_value.specs.Grammar.{is_space, IsSpace}
@@ -25,10 +25,4 @@ space_is P a c d e b h = grind (arith, or_cases, at P 32 b a, at P 9 b c, at P 1
 
 -- what holds of each byte that may stand behind a value
 pub end_is : (P : ℕ → Type 0) → P 32 → P 9 → P 10 → P 13 → P 44 → P 93 → P 125 → (b : ℕ) → is_end b ≡ true → P b
-end_is P a c d e f g k b h = elim (or_cases _ _ h) [
-  | inl s ↦ space_is P a c d e b s
-  | inr s ↦ elim (or_cases _ _ s) [
-    | inl x ↦ at P 44 b f x
-    | inr t ↦ elim (or_cases _ _ t) [ inl x ↦ at P 93 b g x | inr x ↦ at P 125 b k x ]
-  ]
-]
+end_is P a c d e f g k b h = grind (arith, or_cases, space_is)

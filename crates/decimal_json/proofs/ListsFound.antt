@@ -24,15 +24,11 @@ module _ (A : Type 0) (close : ℕ) (no_comma : eqb close 44 ≡ false) (no_spac
   unfolding list_after skip
   last_after more x u rest h = rw (skip-space u (close ∷ rest) h, no_space, no_comma, eq-eqb close close refl) refl
 
-  more_after : (more : Parse (List A)) (x : A) (xs : List A) (u bs rest : List ℕ) → IsSpace u → more bs ≡ Some (xs, rest)
-      → list_after close more x (skip (u ++ (44 ∷ bs))) ≡ Some (x ∷ xs, rest)
-  unfolding list_after skip
-  more_after more x xs u bs rest h again = rw (skip-space u (44 ∷ bs) h, again) refl
-
   fewer : (w t u ts : List ℕ) (k : ℕ) → length (w ++ t ++ u ++ 44 ∷ ts) ≤ k → length ts < k
   fewer w t u ts k h = omega (arith, length-append (w ++ t ++ u) (44 ∷ ts))
 
   list_again : {ts : List ℕ} {xs : List A} → SpellsList (Again close item) ts xs → (n : ℕ) (rest : List ℕ) → length ts < n → list_at close item n (ts ++ (close ∷ rest)) ≡ Some (xs, rest)
+  unfolding list_after skip
   list_again (list_last w t u {x} hw s hu) n rest h =
       let k = turn n _ h in
       rw (append_assoc, append_assoc, k.1)
@@ -41,19 +37,16 @@ module _ (A : Type 0) (close : ℕ) (no_comma : eqb close 44 ≡ false) (no_spac
       let k = turn n _ h in
       rw (append_assoc, append_assoc, append_assoc, k.1)
       (element_again k.0 w t (u ++ (44 ∷ (ts ++ (close ∷ rest)))) x hw s (Ends-space u 44 _ hu refl)
-      ∙ more_after (list_at close item k.0) x xs u (ts ++ (close ∷ rest)) rest hu (list_again more k.0 rest (fewer w t u ts k.0 k.2)))
-
-  list_open : {ts : List ℕ} {xs : List A} → SpellsList (Again close item) ts xs → (rest : List ℕ) → closes close (ts ++ rest) ≡ None
-  unfolding closes
-  list_open h rest = grind (arith, list_last, append_assoc, skip-space, list_more)
+      ∙ (rw (skip-space u (44 ∷ (ts ++ (close ∷ rest))) hu, (list_again more k.0 rest (fewer w t u ts k.0 k.2))) refl))
 
   when_open : (bs rest : List ℕ) (xs : List A) → closes close bs ≡ None → list_at close item (length bs) bs ≡ Some (xs, rest) → items_at close item bs ≡ Some (xs, rest)
   unfolding items_at items_unless
   when_open bs rest xs h again = rw h again
 
   pub items_again : {ts : List ℕ} {xs : List A} → SpellsList (Again close item) ts xs → (rest : List ℕ) → items_at close item ((ts ++ close ∷ []) ++ rest) ≡ Some (xs, rest)
+  unfolding closes
   items_again {ts} {xs} s rest = rw append_assoc
-      (when_open (ts ++ (close ∷ rest)) rest xs (list_open s (close ∷ rest)) (list_again s (length (ts ++ (close ∷ rest))) rest (omega (arith, length-append ts (close ∷ rest)))))
+      (when_open (ts ++ (close ∷ rest)) rest xs (grind (arith, list_last, append_assoc, skip-space, list_more)) (list_again s (length (ts ++ (close ∷ rest))) rest (omega (arith, length-append ts (close ∷ rest)))))
 
   pub empty_again : (w rest : List ℕ) → IsSpace w → items_at close item ((w ++ close ∷ []) ++ rest) ≡ Some ([], rest)
   unfolding items_at items_unless closes skip after_word

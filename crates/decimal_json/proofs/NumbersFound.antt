@@ -4,7 +4,7 @@ use Rattle.std.specs.Prelude.{◌||◌, ◌==◌}
 use Rattle.json_value.specs.declared.json.Json.{Json}
 use Rattle.json_value.specs.declared.json.Json.TheVariants as j
 use Rattle.decimal_text.specs.Grammar.{is_digit, AllDigits, IsMinus, no_minus, one_minus, IsWhole, whole_zero, whole_digits, IsFraction, IsSign, is_e, IsExponent, no_exponent, exponent, IsNumber, number_of}
-use Rattle.decimal_json.specs.Reading.{Parse, ◌>>=◌, after_digits, after_some_digits, after_minus, after_whole, after_fraction, after_sign, after_exponent, after_number, number_at, skip, after_word, value_with}
+use Rattle.decimal_json.specs.Reading.{Parse, after_digits, after_some_digits, after_minus, after_whole, after_fraction, after_sign, after_exponent, after_number, number_at, skip, after_word, value_with}
 use Rattle.decimal_json.proofs.Steps.{differs}
 use Rattle.decimal_json.proofs.Ending.{Ends, end_is}
 use Rattle.decimal_json.proofs.NumbersRead.{cut, e_is}
@@ -24,12 +24,10 @@ no_e : (rest : List ℕ) → Ends rest → NoFirst is_e rest
 no_e rest h = grind (arith, end_is)
 
 exponent_no_digit : {e : List ℕ} → IsExponent e → (rest : List ℕ) → Ends rest → NoFirst is_digit (e ++ rest)
-exponent_no_digit no_exponent rest h = no_digit rest h
-exponent_no_digit (exponent e s b bs k t d ds) rest h = e_is (λ x. is_digit x ≡ false) refl refl e k
+exponent_no_digit h0 rest h = grind (arith, no_digit, e_is)
 
 exponent_no_dot : {e : List ℕ} → IsExponent e → (rest : List ℕ) → Ends rest → NoFirst is_dot (e ++ rest)
-exponent_no_dot no_exponent rest h = grind (arith, end_is)
-exponent_no_dot (exponent e s b bs k t d ds) rest h = e_is (λ x. is_dot x ≡ false) refl refl e k
+exponent_no_dot h0 rest h = grind (arith, end_is, e_is)
 
 fraction_no_digit : {f : List ℕ} → IsFraction f → (rest : List ℕ) → NoFirst is_digit rest → NoFirst is_digit (f ++ rest)
 fraction_no_digit h rest k = grind arith
@@ -66,8 +64,7 @@ sign_again h b xs k = grind (arith, differs)
 exponent_again : {e : List ℕ} → IsExponent e → (rest : List ℕ) → Ends rest → after_exponent (e ++ rest) ≡ Some rest
 unfolding after_exponent
 exponent_again no_exponent rest h = exponent_stop rest (no_e rest h)
-exponent_again (exponent e s b bs k t d ds) rest h =
-    rw (k, append_assoc s (b ∷ bs) rest, sign_again t b (bs ++ rest) d) (some_again b bs rest d ds (no_digit rest h))
+exponent_again (exponent e s b bs k t d ds) rest h = grind (arith, append_assoc, sign_again, some_again, no_digit)
 
 after_again : {t : List ℕ} → IsNumber t → (rest : List ℕ) → Ends rest → after_number (t ++ rest) ≡ Some rest
 unfolding after_number
@@ -87,23 +84,14 @@ number_leads (number_of m w f e one_minus hw hf he) = (45, w ++ (f ++ e), refl, 
 number_leads (number_of m w f e no_minus whole_zero hf he) = (48, f ++ e, refl, refl)
 number_leads (number_of m w f e no_minus (whole_digits b bs d z ds) hf he) = (b, bs ++ (f ++ e), refl, rw (d, differs is_digit b 45 refl d) refl)
 
-skip_lead : (b : ℕ) (bs : List ℕ) → is_lead b ≡ true → skip (b ∷ bs) ≡ b ∷ bs
-unfolding skip
-skip_lead b bs h = grind (arith, differs)
-
-word_lead : (q : ℕ) (word : List ℕ) (b : ℕ) (bs : List ℕ) → is_lead q ≡ false → is_lead b ≡ true → after_word (q ∷ word) (b ∷ bs) ≡ None
-unfolding after_word
-word_lead q word b bs other h = rw (differs is_lead b q other h) refl
-
 pub skip_number : {t : List ℕ} → IsNumber t → (rest : List ℕ) → skip (t ++ rest) ≡ t ++ rest
-skip_number n rest = let l = number_leads n in rw l.2 (skip_lead l.0 (l.1 ++ rest) l.3)
+unfolding skip
+skip_number n rest = let l = number_leads n in rw l.2 (grind (arith, differs))
 
 pub number_no_word : {t : List ℕ} → IsNumber t → (q : ℕ) (word rest : List ℕ) → is_lead q ≡ false → after_word (q ∷ word) (t ++ rest) ≡ None
-number_no_word n q word rest other = let l = number_leads n in rw l.2 (word_lead q word l.0 (l.1 ++ rest) other l.3)
-
-with_lead : (fits : List ℕ → Bool) (items : Parse (List Json)) (members : Parse (List (List ℕ × Json))) (b : ℕ) (bs : List ℕ) → is_lead b ≡ true → value_with fits items members (b ∷ bs) ≡ (number_at (b ∷ bs) >>= λ t. Some (j.Number t.0, t.1))
-unfolding value_with
-with_lead fits items members b bs h = grind (arith, differs is_lead b 110 refl h, differs is_lead b 116 refl h, differs is_lead b 102 refl h)
+unfolding after_word
+number_no_word n q word rest other = let l = number_leads n in rw l.2 (rw (differs is_lead l.0 q other l.3) refl)
 
 pub with_number : (fits : List ℕ → Bool) (items : Parse (List Json)) (members : Parse (List (List ℕ × Json))) {t : List ℕ} → IsNumber t → (rest : List ℕ) → Ends rest → value_with fits items members (t ++ rest) ≡ Some (j.Number t, rest)
-with_number fits items members {t} n rest h = grind (arith, number_leads n, number_again n rest h, with_lead fits items members)
+unfolding value_with
+with_number fits items members {t} n rest h = grind (arith, number_leads n, number_again n rest h, differs)

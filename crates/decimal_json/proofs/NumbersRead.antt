@@ -97,10 +97,7 @@ cut t rest bs e = grind (arith, length-append t rest, take-append_seam t rest)
 
 pub number_takes : IsSound (λ t v. IsNumber t × (t ≡ v)) number_at
 unfolding number_at
-number_takes bs x e = option_and_then_some _ _ _ e (λ rest f g.
-    let r = after_takes bs rest f in
-    let p = pair_is (take (length bs - length rest) bs) rest x g in
-    (r.0, (r.1, sym (cut r.0 rest bs r.2) ∙ p.0), r.2 ∙ ap (λ z. r.0 ++ z) p.1))
+number_takes bs x e = grind (arith, option_and_then_some, after_takes, pair_is, cut)
 
 pub e_is : (P : ℕ → Type 0) → P 101 → P 69 → (b : ℕ) → is_e b ≡ true → P b
 e_is P p q b h = elim (or_cases _ _ h) [ inl x ↦ at P 101 b p x | inr x ↦ at P 69 b q x ]

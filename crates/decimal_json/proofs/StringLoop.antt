@@ -1,5 +1,5 @@
 -- Strings, as the loop reads them.
-use Rattle.std.proofs.Common.{◌≡◌, ◌≢◌, true, false, ℕ, suc, ◌-◌, ◌+◌, ◌≤◌, ◌<◌, Bool, List, [], ◌∷◌, ◌++◌, Option, Some, None, refl, sym, ◌∙◌, append_assoc, arith}
+use Rattle.std.proofs.Common.{◌≡◌, ◌≢◌, ℕ, suc, ◌-◌, ◌+◌, ◌≤◌, ◌<◌, Bool, List, [], ◌∷◌, ◌++◌, Option, Some, None, refl, sym, ◌∙◌, append_assoc, arith}
 use Rattle.std.specs.Prelude.{IsUtf8, encode_utf8}
 use Rattle.std.specs.Str.{is_utf8}
 use Rattle.std.proofs.lemmas.Str.{IsUtf8-from_is_utf8, is_utf8-from_IsUtf8}
@@ -58,8 +58,7 @@ is_text t bs h = rw (is_utf8-from_IsUtf8 t h) refl
 
 no_text_by : (t bs : List ℕ) → (b : Bool) → is_utf8 t ≡ b → (IsUtf8 t → ⊥) → if_text is_utf8 t bs ≡ None
 unfolding if_text
-no_text_by t bs true e h = absurd (h (IsUtf8-from_is_utf8 t e))
-no_text_by t bs false e h = rw e refl
+no_text_by t bs b e h = grind (arith, IsUtf8-from_is_utf8)
 
 pub no_text : (t bs : List ℕ) → (IsUtf8 t → ⊥) → if_text is_utf8 t bs ≡ None
 no_text t bs h = no_text_by t bs (is_utf8 t) refl h

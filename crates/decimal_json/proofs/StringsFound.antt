@@ -4,7 +4,7 @@ use Rattle.std.specs.Prelude.{encode_utf8}
 use Rattle.std.proofs.lemmas.Option.{option_and_then_some}
 use Rattle.std.proofs.lemmas.Str.{encode_ascii}
 use Rattle.list_laws.proofs.Tests.{chosen}
-use Rattle.json_value.specs.Grammar.{is_plain, unescape, SpellsUnit, unit_of, is_high, is_low, paired, SpellsChars, chars_end, chars_plain, chars_escape, chars_unit, chars_pair}
+use Rattle.json_value.specs.Grammar.{is_plain, SpellsUnit, unit_of, is_high, is_low, paired, SpellsChars, chars_end, chars_plain, chars_escape, chars_unit, chars_pair}
 use Rattle.decimal_json.specs.Reading.{Parse, after_word, plain_front, after_plain, hex_at, unit_at, low_at, unicode_at, escape_at, chars_after, chars_at, if_text, string_at}
 use Rattle.decimal_json.proofs.Steps.{pair_is, turn}
 use Rattle.json_value.proofs.Letters.{letter_kind}
@@ -26,10 +26,6 @@ record EscapeFound (u : List ℕ) (c : ℕ) (xs : List ℕ) : Type 0 where
   behind : List ℕ
   begins : u ++ xs ≡ 92 ∷ behind
   found : escape_at behind ≡ Some (c, xs)
-
-letter_found : (e c : ℕ) → unescape e ≡ Some c → (xs : List ℕ) → EscapeFound (92 ∷ e ∷ []) c xs
-unfolding escape_at
-letter_found e c h xs = record { behind = e ∷ xs; begins = refl; found = rw ((letter_kind e c h).no_u, h) refl }
 
 single_found : {u : List ℕ} {n : ℕ} → SpellsUnit u n → is_high n ≡ false → is_low n ≡ false → (xs : List ℕ) → EscapeFound u n xs
 unfolding escape_at unicode_at
@@ -53,23 +49,21 @@ plain_again : (n b : ℕ) (bs t rest : List ℕ) → is_plain b ≡ true → cha
 unfolding chars_at plain_front after_plain
 plain_again n b bs t rest h e = rw h (plain_more (chars_at n) b (plain_front bs) (after_plain bs) t rest e)
 
-escape_again : (n c : ℕ) (bs more t rest : List ℕ) → escape_at bs ≡ Some (c, more) → chars_at n more ≡ Some (t, rest) → chars_at (suc n) (92 ∷ bs) ≡ Some (encode_utf8 c ++ t, rest)
-unfolding chars_at plain_front after_plain chars_after
-escape_again n c bs more t rest f g = rw (f, g) refl
-
 any_again : (u s : List ℕ) (c n : ℕ) (t rest : List ℕ) → EscapeFound u c (s ++ (34 ∷ rest)) → chars_at n (s ++ (34 ∷ rest)) ≡ Some (t, rest) → chars_at (suc n) ((u ++ s) ++ (34 ∷ rest)) ≡ Some (encode_utf8 c ++ t, rest)
-any_again u s c n t rest f g = rw (append_assoc u s (34 ∷ rest), f.begins) (escape_again n c f.behind (s ++ (34 ∷ rest)) t rest f.found g)
+unfolding chars_at plain_front after_plain chars_after
+any_again u s c n t rest f g = rw (append_assoc u s (34 ∷ rest), f.begins) (rw (f.found, g) refl)
 
 end_again : (n : ℕ) (rest : List ℕ) → chars_at (suc n) (34 ∷ rest) ≡ Some ([], rest)
 unfolding chars_at plain_front after_plain chars_after
 end_again n rest = refl
 
 chars_again : {s t : List ℕ} → SpellsChars s t → (n : ℕ) (rest : List ℕ) → length s < n → chars_at n (s ++ (34 ∷ rest)) ≡ Some (t, rest)
+unfolding escape_at
 chars_again chars_end n rest h = let k = turn n 0 h in rw k.1 (end_again k.0 rest)
 chars_again (chars_plain b {s} {t} p more) n rest h = grind (arith, chars_again more, turn n _ h, plain_again)
 chars_again (chars_escape e c {s} {t} p more) n rest h =
     let k = turn n _ h in
-    let again = any_again (92 ∷ e ∷ []) s c k.0 t rest (letter_found e c p (s ++ (34 ∷ rest))) (chars_again more k.0 rest (omega arith)) in
+    let again = any_again (92 ∷ e ∷ []) s c k.0 t rest (record { behind = e ∷ (s ++ (34 ∷ rest)); begins = refl; found = rw ((letter_kind e c p).no_u, p) refl }) (chars_again more k.0 rest (omega arith)) in
     rw k.1 (rw (encode_ascii c (letter_kind e c p).ascii) at again)
 chars_again (chars_unit u c s t su high low more) n rest h =
     let longer = not_empty u c (single_found su high low []) in
@@ -83,5 +77,4 @@ chars_again (chars_pair u v high low s t su sv h l more) n rest lt =
 
 pub string_again : (fits : List ℕ → Bool) (s t rest : List ℕ) → SpellsChars s t → fits t ≡ true → string_at fits (s ++ (34 ∷ rest)) ≡ Some (t, rest)
 unfolding string_at if_text
-string_again fits s t rest h passes =
-    rw (chars_again h (length (s ++ (34 ∷ rest))) rest (omega (arith, length-append s (34 ∷ rest))), passes) refl
+string_again fits s t rest h passes = grind (arith, chars_again, length-append)

@@ -6,7 +6,7 @@ use Rattle.std.proofs.lemmas.Bool.{eqb-true}
 use Rattle.std.proofs.lemmas.List.{append-nil}
 use Rattle.std.proofs.lemmas.Option.{option_and_then_some}
 use Rattle.list_laws.proofs.Tests.{chosen}
-use Rattle.json_value.specs.Grammar.{is_plain, unescape, hex_value, SpellsUnit, unit_of, is_high, is_low, paired, SpellsChars, chars_end, chars_plain, chars_escape, chars_unit, chars_pair}
+use Rattle.json_value.specs.Grammar.{is_plain, hex_value, SpellsUnit, unit_of, is_high, is_low, paired, SpellsChars, chars_end, chars_plain, chars_escape, chars_unit, chars_pair}
 use Rattle.json_value.proofs.Letters.{letter_kind}
 use Rattle.decimal_json.specs.Reading.{Parse, plain_front, after_plain, hex_at, unit_at, low_at, unicode_at, escape_at, chars_after, chars_at, if_text, string_at}
 use Rattle.decimal_json.proofs.Steps.{pair_is, IsSound}
@@ -69,9 +69,6 @@ unit_takes bs x e =
 abbrev TakesEscape : List ℕ → ℕ → List ℕ → Type 0
 TakesEscape bs c rest = (u : List ℕ) × Escaped u c × (bs ≡ u ++ rest)
 
-pair_escaped : (u v : List ℕ) (high low : ℕ) → SpellsUnit u high → SpellsUnit v low → is_high high ≡ true → is_low low ≡ true → Escaped (u ++ v) (paired high low)
-pair_escaped u v high low su sv h l s t more = rw (append_assoc u v s) (chars_pair u v high low s t su sv h l more)
-
 joined_pair : (bs u xs rest v ys : List ℕ) → bs ≡ u ++ xs → xs ≡ 92 ∷ 117 ∷ rest → rest ≡ v ++ ys → 92 ∷ 117 ∷ bs ≡ ((92 ∷ 117 ∷ u) ++ (92 ∷ 117 ∷ v)) ++ ys
 joined_pair bs u xs rest v ys p q r = rw (p, q, r) (ap (λ z. 92 ∷ 117 ∷ z) (sym (append_assoc u (92 ∷ 117 ∷ v) ys)))
 
@@ -81,7 +78,7 @@ low_found high bs u xs rest low x h su front word k l m =
     let v = unit_takes rest low k in
     let p = pair_is (paired high low.0) low.1 x m in (
       (92 ∷ 117 ∷ u) ++ (92 ∷ 117 ∷ v.0),
-      subst (λ c. Escaped ((92 ∷ 117 ∷ u) ++ (92 ∷ 117 ∷ v.0)) c) p.0 (pair_escaped (92 ∷ 117 ∷ u) (92 ∷ 117 ∷ v.0) high low.0 su v.1 h l),
+      subst (λ c. Escaped ((92 ∷ 117 ∷ u) ++ (92 ∷ 117 ∷ v.0)) c) p.0 (λ s t more. rw (append_assoc (92 ∷ 117 ∷ u) (92 ∷ 117 ∷ v.0) s) (chars_pair (92 ∷ 117 ∷ u) (92 ∷ 117 ∷ v.0) high low.0 s t su v.1 h l more)),
       joined_pair bs u xs rest v.0 x.1 front word (v.2 ∙ ap (λ z. v.0 ++ z) p.1),
     )
 
@@ -110,9 +107,6 @@ unicode_takes bs x e = option_and_then_some _ _ _ e (λ n f g.
       ]
     ])
 
-letter_escaped : (e c : ℕ) → unescape e ≡ Some c → Escaped (92 ∷ e ∷ []) c
-letter_escaped e c h s t more = rw (encode_ascii c (letter_kind e c h).ascii) (chars_escape e c h more)
-
 escape_takes : (bs : List ℕ) (x : ℕ × List ℕ) → escape_at bs ≡ Some x → TakesEscape (92 ∷ bs) x.0 x.1
 unfolding escape_at
 escape_takes [] x e = cc
@@ -120,7 +114,7 @@ escape_takes (b ∷ bs) x e = elim (chosen (eqb b 117) (unicode_at bs) _ _ e) [
   | inl h ↦ rw (eqb-true b 117 h.0) (unicode_takes bs x h.1)
   | inr h ↦ option_and_then_some _ _ _ h.1 (λ c f g.
       let p = pair_is c bs x g in
-      (92 ∷ b ∷ [], letter_escaped b x.0 (f ∙ ap Some p.0), ap (λ z. 92 ∷ b ∷ z) p.1))
+      (92 ∷ b ∷ [], (λ s t more. rw (encode_ascii x.0 (letter_kind b x.0 (f ∙ ap Some p.0)).ascii) (chars_escape b x.0 (f ∙ ap Some p.0) more)), ap (λ z. 92 ∷ b ∷ z) p.1))
 ]
 
 -- ---- strings

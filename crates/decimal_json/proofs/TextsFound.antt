@@ -6,7 +6,7 @@ use Rattle.std.proofs.lemmas.Str.{is_utf8-from_IsUtf8, IsUtf8-past_char}
 use Rattle.std.proofs.Math.Utf8.{encode}
 use Rattle.std.proofs.lemmas.Bool.Decides.{eqb_tells}
 use Rattle.json_value.specs.declared.json.Json.{Json}
-use Rattle.json_value.specs.Grammar.{IsSpace, SpellsChars, Spells, spells_null, spells_true, spells_false, spells_text, spells_number, spells_empty_array, spells_array, spells_empty_object, spells_object, SpellsText, Reads, mark}
+use Rattle.json_value.specs.Grammar.{IsSpace, SpellsChars, Spells, spells_number, SpellsText, Reads, mark}
 use Rattle.json_value.proofs.Nesting.{reads_no_deeper, reads_deeper}
 use Rattle.decimal_json.specs.Reading.{skip, after_word, ended, document, text_at}
 use Rattle.decimal_json.proofs.Words.{skip-space, skip_all, after_word_again}
@@ -17,15 +17,8 @@ use Rattle.json_value.proofs.Utf8.{ascii_split, text_utf8}
 
 value_no_mark : {d : ℕ} {t : List ℕ} {v : Json} → Spells d t v → (rest : List ℕ) → after_word mark (t ++ rest) ≡ None
 unfolding after_word
-value_no_mark spells_null rest = refl
-value_no_mark spells_true rest = refl
-value_no_mark spells_false rest = refl
-value_no_mark (spells_text s h) rest = refl
 value_no_mark (spells_number n) rest = number_no_word n 239 (187 ∷ 191 ∷ []) rest refl
-value_no_mark (spells_empty_array w h) rest = refl
-value_no_mark (spells_array t h) rest = refl
-value_no_mark (spells_empty_object w h) rest = refl
-value_no_mark (spells_object t h) rest = refl
+value_no_mark h rest = refl
 
 no_mark : (w : List ℕ) {d : ℕ} {t : List ℕ} {v : Json} → IsSpace w → Spells d t v → (rest : List ℕ) → after_word mark (w ++ (t ++ rest)) ≡ None
 unfolding after_word
@@ -51,12 +44,9 @@ module _ (fits : List ℕ → Bool) (Fit : List ℕ → Type 0) (text : (s t : L
 
 -- ---- UTF-8 texts
 
-unmark_utf8 : (rest : List ℕ) → IsUtf8 (mark ++ rest) → IsUtf8 rest
-unfolding encode
-unmark_utf8 rest h = IsUtf8-past_char (mark ++ rest) rest 0xFEFF h refl
-
 read_again : (d : ℕ) (b : List ℕ) (v : Json) → IsUtf8 b → Reads d b v → text_at is_utf8 d b ≡ Some v
-read_again = text_again is_utf8 (λ b. IsUtf8 b) (λ s t h f. is_utf8-from_IsUtf8 t (text_utf8 s t h f)) ascii_split unmark_utf8
+unfolding encode
+read_again = text_again is_utf8 (λ b. IsUtf8 b) (λ s t h f. is_utf8-from_IsUtf8 t (text_utf8 s t h f)) ascii_split (λ rest h. IsUtf8-past_char (mark ++ rest) rest 0xFEFF h refl)
 
 pub is_read : (d : ℕ) (b : List ℕ) (v w : Json) → IsUtf8 b → text_at is_utf8 d b ≡ Some v → Reads d b w → v ≡ w
 is_read d b v w utf8 e r = let f = read_again d b w utf8 r in cc

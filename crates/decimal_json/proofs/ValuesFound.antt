@@ -22,15 +22,8 @@ skip_value h rest = grind (arith, skip_number)
 -- and not with the bracket that closes an array
 not_closed : {d : ℕ} {t : List ℕ} {v : Json} → Spells d t v → (rest : List ℕ) → after_word (93 ∷ []) (t ++ rest) ≡ None
 unfolding after_word
-not_closed spells_null rest = refl
-not_closed spells_true rest = refl
-not_closed spells_false rest = refl
-not_closed (spells_text s h) rest = refl
 not_closed (spells_number n) rest = number_no_word n 93 [] rest refl
-not_closed (spells_empty_array w h) rest = refl
-not_closed (spells_array t h) rest = refl
-not_closed (spells_empty_object w h) rest = refl
-not_closed (spells_object t h) rest = refl
+not_closed h rest = refl
 
 skip_member : {d : ℕ} {t : List ℕ} {m : List ℕ × Json} → SpellsMember d t m → (rest : List ℕ) → skip (t ++ rest) ≡ t ++ rest
 unfolding skip
@@ -73,8 +66,7 @@ module _ (fits : List ℕ → Bool) where
   member_again : (value : Parse Json) (s w u t name rest : List ℕ) (v : Json) → SpellsChars s name → fits name ≡ true → IsSpace w → IsSpace u → skip (t ++ rest) ≡ t ++ rest → value (t ++ rest) ≡ Some (v, rest)
       → member_at fits value (34 ∷ (s ++ (34 ∷ (w ++ (58 ∷ (u ++ (t ++ rest))))))) ≡ Some ((name, v), rest)
   unfolding member_at skip after_word
-  member_again value s w u t name rest v h passes hw hu starts found =
-      rw (name_again s name (w ++ (58 ∷ (u ++ (t ++ rest)))) h passes, skip-space w (58 ∷ (u ++ (t ++ rest))) hw, skip-space u (t ++ rest) hu, starts, found) refl
+  member_again value s w u t name rest v h passes hw hu starts found = grind (arith, name_again, skip-space)
 
   -- Texts of which each string fits, and which may be cut at an ASCII byte: the UTF-8 texts, or any bytes.
   module _ (Fit : List ℕ → Type 0) (text : (s t : List ℕ) → SpellsChars s t → Fit s → fits t ≡ true) (split : (p r : List ℕ) (x : ℕ) → x < 128 → Fit (p ++ (x ∷ r)) → Fit p × Fit r) where

@@ -81,16 +81,10 @@ module _ (fits : List ℕ → Bool) where
       ))
 
   array_found : (d b : ℕ) (items : Parse (List Json)) → ArraySound d items → b ≡ 91 → (bs : List ℕ) (x : Json × List ℕ) → (items bs >>= λ xs. Some (j.Array xs.0, xs.1)) ≡ Some x → (t : List ℕ) × Spells d t x.0 × (b ∷ bs ≡ t ++ x.1)
-  array_found d b items sound same bs x e = option_and_then_some _ _ _ e (λ y f g.
-      let r = sound bs y f in
-      let p = pair_is (j.Array y.0) y.1 x g in
-      (91 ∷ r.0, subst (λ z. Spells d (91 ∷ r.0) z) p.0 r.1, joined_word b 91 bs r.0 y.1 x.1 same r.2 p.1))
+  array_found d b items sound same bs x e = grind (arith, option_and_then_some, pair_is, joined_word)
 
   object_found : (d b : ℕ) (members : Parse (List (List ℕ × Json))) → ObjectSound d members → b ≡ 123 → (bs : List ℕ) (x : Json × List ℕ) → (members bs >>= λ ms. Some (j.Object ms.0, ms.1)) ≡ Some x → (t : List ℕ) × Spells d t x.0 × (b ∷ bs ≡ t ++ x.1)
-  object_found d b members sound same bs x e = option_and_then_some _ _ _ e (λ y f g.
-      let r = sound bs y f in
-      let p = pair_is (j.Object y.0) y.1 x g in
-      (123 ∷ r.0, subst (λ z. Spells d (123 ∷ r.0) z) p.0 r.1, joined_word b 123 bs r.0 y.1 x.1 same r.2 p.1))
+  object_found d b members sound same bs x e = grind (arith, option_and_then_some, pair_is, joined_word)
 
   with_takes : (d : ℕ) (items : Parse (List Json)) (members : Parse (List (List ℕ × Json))) → ArraySound d items → ObjectSound d members → IsSound (Spells d) (value_with fits items members)
   unfolding value_with

@@ -29,9 +29,8 @@ skip_takes (b ∷ bs) = elim (chosen (is_space b) (skip bs) (b ∷ bs) _ refl) [
 
 pub after_word_takes : (word bs rest : List ℕ) → after_word word bs ≡ Some rest → bs ≡ word ++ rest
 unfolding after_word
-after_word_takes [] bs rest e = cc
-after_word_takes (c ∷ word) [] rest e = cc
 after_word_takes (c ∷ word) (b ∷ bs) rest e = grind (arith, after_word_takes word bs rest, chosen (eqb b c) _ _ _ e, eqb-true b c)
+after_word_takes word bs rest e = cc
 
 pub after_word_again : (word rest : List ℕ) → after_word word (word ++ rest) ≡ Some rest
 unfolding after_word

@@ -2,7 +2,7 @@
 use Rattle.std.proofs.Common.{◌≡◌, ℕ, true, false, List, [], ◌∷◌, ◌++◌, map, refl, ap, ◌∙◌, Option, Some, None}
 use Rattle.std.specs.Prelude.{codes}
 use Rattle.json_value.specs.declared.json.Json.TheVariants as j
-use Rattle.json_value.specs.Text.{json_text, quoted, escaped_byte}
+use Rattle.json_value.specs.Text.{json_text, escaped_byte}
 use Rattle.json_value.proofs.Texts.{text-text}
 use Rattle.geojson_types.specs.declared.id.Id.{Id}
 use Rattle.geojson_types.specs.Features.{Featured}
@@ -12,53 +12,31 @@ use Rattle.geojson_writer.proofs.Objects.{members_left, object-text, member-text
 
 -- ---- a feature
 
-quoted-id : quoted (codes "id") ≡ codes "\"id\""
-unfolding escaped_byte
-quoted-id = refl
-
-quoted-properties : quoted (codes "properties") ≡ codes "\"properties\""
-unfolding escaped_byte
-quoted-properties = refl
-
-quoted-geometry : quoted (codes "geometry") ≡ codes "\"geometry\""
-unfolding escaped_byte
-quoted-geometry = refl
-
-quoted-Feature : quoted (codes "Feature") ≡ codes "\"Feature\""
-unfolding escaped_byte
-quoted-Feature = refl
-
-quoted-features : quoted (codes "features") ≡ codes "\"features\""
-unfolding escaped_byte
-quoted-features = refl
-
-quoted-FeatureCollection : quoted (codes "FeatureCollection") ≡ codes "\"FeatureCollection\""
-unfolding escaped_byte
-quoted-FeatureCollection = refl
-
 -- the identifier, in front of the other members
 id-text : (id : Option Id) (ms : List Member) → members_left false (id_members id ++ ms) ≡ id_text id ++ members_left false ms
+unfolding escaped_byte
 id-text None ms = refl
-id-text (Some id) ms = member-text false (codes "id") (codes "\"id\"") (id_value id) (json_text (id_value id)) ms quoted-id refl
+id-text (Some id) ms = member-text false (codes "id") (codes "\"id\"") (id_value id) (json_text (id_value id)) ms refl refl
 
 pub feature-text : (f : Featured) → json_text (feature_value f)
     ≡ codes "{\"type\":\"Feature\"" ++ (id_text f.id ++ (codes ",\"properties\":" ++ (json_text (properties_value f.properties)
     ++ (codes ",\"geometry\":" ++ (json_text (geometry_value f.shape) ++ codes "}")))))
-unfolding feature_value
+unfolding feature_value escaped_byte
 feature-text f =
     let geometry : List Member = (codes "geometry", geometry_value f.shape) ∷ [] in
     let rest : List Member = (codes "properties", properties_value f.properties) ∷ geometry in
     object-text (type_member (codes "Feature") ∷ (id_members f.id ++ rest))
     ∙ ap (λ (text : List ℕ). codes "{" ++ text)
-    (member-text true (codes "type") (codes "\"type\"") (j.Text (codes "Feature")) (codes "\"Feature\"") (id_members f.id ++ rest) quoted-type (text-text (codes "Feature") ∙ quoted-Feature))
+    (member-text true (codes "type") (codes "\"type\"") (j.Text (codes "Feature")) (codes "\"Feature\"") (id_members f.id ++ rest) quoted-type (text-text (codes "Feature")))
     ∙ ap (λ (text : List ℕ). codes "{\"type\":\"Feature\"" ++ text) (id-text f.id rest)
     ∙ ap (λ (text : List ℕ). codes "{\"type\":\"Feature\"" ++ (id_text f.id ++ text))
-    (member-text false (codes "properties") (codes "\"properties\"") (properties_value f.properties) (json_text (properties_value f.properties)) geometry quoted-properties refl)
+    (member-text false (codes "properties") (codes "\"properties\"") (properties_value f.properties) (json_text (properties_value f.properties)) geometry refl refl)
     ∙ ap (λ (text : List ℕ). codes "{\"type\":\"Feature\"" ++ (id_text f.id ++ (codes ",\"properties\":" ++ (json_text (properties_value f.properties) ++ text))))
-    (member-text false (codes "geometry") (codes "\"geometry\"") (geometry_value f.shape) (json_text (geometry_value f.shape)) [] quoted-geometry refl)
+    (member-text false (codes "geometry") (codes "\"geometry\"") (geometry_value f.shape) (json_text (geometry_value f.shape)) [] refl refl)
 
 -- ---- a collection
 
 pub collection-text : (fs : List Featured) → json_text (collection_value fs)
     ≡ codes "{\"type\":\"FeatureCollection\",\"features\":" ++ (json_text (j.Array (map feature_value fs)) ++ codes "}")
-collection-text fs = object-of_two (codes "FeatureCollection") (codes "\"FeatureCollection\"") (codes "features") (codes "\"features\"") (j.Array (map feature_value fs)) quoted-FeatureCollection quoted-features
+unfolding escaped_byte
+collection-text fs = object-of_two (codes "FeatureCollection") (codes "\"FeatureCollection\"") (codes "features") (codes "\"features\"") (j.Array (map feature_value fs)) refl refl

@@ -73,27 +73,16 @@ group-numbers shapes inner h =
     each (x ∷ xs) i k =
         (i.0 (all_left IsPosition (shape_points x) (joined (map shape_points xs)) k), each xs i.1 (all_right IsPosition (shape_points x) (joined (map shape_points xs)) k))
 
-point-numbers-at : (p : Point) → Numbered (g.Point p)
-point-numbers-at p h = let k = subst All (points_at.point p) h in rw (shape_value_at.point p) (coordinates-numbers (codes "Point") (position_value p) (position-numbers p k.0))
-
-points-numbers-at : (ps : List Point) → Numbered (g.MultiPoint ps)
-points-numbers-at ps h = let k = subst All (points_at.points ps) h in rw (shape_value_at.points ps) (coordinates-numbers (codes "MultiPoint") (positions_value ps) (positions-numbers ps k))
-
-line-numbers-at : (ps : List Point) → Numbered (g.Line ps)
-line-numbers-at ps h = let k = subst All (points_at.line ps) h in rw (shape_value_at.line ps) (coordinates-numbers (codes "LineString") (positions_value ps) (positions-numbers ps k))
-
-lines-numbers-at : (ls : List (List Point)) → Numbered (g.Lines ls)
-lines-numbers-at ls h = let k = subst All (points_at.lines ls) h in rw (shape_value_at.lines ls) (coordinates-numbers (codes "MultiLineString") (lines_value ls) (lines-numbers ls k))
-
-area-numbers-at : (rs : List (List Point)) → Numbered (g.Area rs)
-area-numbers-at rs h = let k = subst All (points_at.area rs) h in rw (shape_value_at.area rs) (coordinates-numbers (codes "Polygon") (lines_value rs) (lines-numbers rs k))
-
-areas-numbers-at : (areas : List (List (List Point))) → Numbered (g.Areas areas)
-areas-numbers-at areas h = let k = subst All (points_at.areas areas) h in rw (shape_value_at.areas areas) (coordinates-numbers (codes "MultiPolygon") (polygons_value areas) (polygons-numbers areas k))
-
 pub shape-numbers : (shape : Shape) → All (shape_points shape) → HasNumbers (shape_value shape)
-shape-numbers =
-    grind (arith, point-numbers-at, points-numbers-at, line-numbers-at, lines-numbers-at, area-numbers-at, areas-numbers-at, group-numbers, by_kinds Numbered)
+shape-numbers = by_kinds Numbered (record {
+  point = λ p h. rw (shape_value_at.point p) (coordinates-numbers (codes "Point") (position_value p) (position-numbers p (subst All (points_at.point p) h).0));
+  points = λ ps h. rw (shape_value_at.points ps) (coordinates-numbers (codes "MultiPoint") (positions_value ps) (positions-numbers ps (subst All (points_at.points ps) h)));
+  line = λ ps h. rw (shape_value_at.line ps) (coordinates-numbers (codes "LineString") (positions_value ps) (positions-numbers ps (subst All (points_at.line ps) h)));
+  lines = λ ls h. rw (shape_value_at.lines ls) (coordinates-numbers (codes "MultiLineString") (lines_value ls) (lines-numbers ls (subst All (points_at.lines ls) h)));
+  area = λ rs h. rw (shape_value_at.area rs) (coordinates-numbers (codes "Polygon") (lines_value rs) (lines-numbers rs (subst All (points_at.area rs) h)));
+  areas = λ areas h. rw (shape_value_at.areas areas) (coordinates-numbers (codes "MultiPolygon") (polygons_value areas) (polygons-numbers areas (subst All (points_at.areas areas) h)));
+  group = group-numbers;
+})
 
 -- ---- features
 

@@ -3,7 +3,7 @@ use Rattle.std.proofs.Common.{◌≡◌, ℕ, List, ◌++◌, map, refl, ap}
 use Rattle.std.specs.Prelude.{codes}
 use Rattle.json_value.specs.declared.json.Json.{Json}
 use Rattle.json_value.specs.declared.json.Json.TheVariants as j
-use Rattle.json_value.specs.Text.{json_text, quoted, escaped_byte}
+use Rattle.json_value.specs.Text.{json_text, escaped_byte}
 use Rattle.geometry.specs.declared.shape.Geometry.TheVariants as g
 use Rattle.geojson_types.specs.Features.{Shape}
 use Rattle.geometry.specs.Points.{Point}
@@ -18,36 +18,6 @@ use Rattle.geojson_writer.proofs.Objects.{object-of_two}
 pub shape_value_at : AtKinds shape_value shape_step
 unfolding shape_value
 shape_value_at = at_kinds shape_step
-
--- ---- what stands in front of the coordinates or the geometries
-
-pub head-point : (p : Point) → head_text (g.Point p) ≡ codes "{\"type\":\"Point\",\"coordinates\":"
-unfolding head_text
-head-point p = ap head_in (g.outs-Point p)
-
-pub head-points : (ps : List Point) → head_text (g.MultiPoint ps) ≡ codes "{\"type\":\"MultiPoint\",\"coordinates\":"
-unfolding head_text
-head-points ps = ap head_in (g.outs-MultiPoint ps)
-
-pub head-line : (ps : List Point) → head_text (g.Line ps) ≡ codes "{\"type\":\"LineString\",\"coordinates\":"
-unfolding head_text
-head-line ps = ap head_in (g.outs-Line ps)
-
-pub head-lines : (ls : List (List Point)) → head_text (g.Lines ls) ≡ codes "{\"type\":\"MultiLineString\",\"coordinates\":"
-unfolding head_text
-head-lines ls = ap head_in (g.outs-Lines ls)
-
-pub head-area : (rs : List (List Point)) → head_text (g.Area rs) ≡ codes "{\"type\":\"Polygon\",\"coordinates\":"
-unfolding head_text
-head-area rs = ap head_in (g.outs-Area rs)
-
-pub head-areas : (areas : List (List (List Point))) → head_text (g.Areas areas) ≡ codes "{\"type\":\"MultiPolygon\",\"coordinates\":"
-unfolding head_text
-head-areas areas = ap head_in (g.outs-Areas areas)
-
-pub head-group : (shapes : List Shape) → head_text (g.Group shapes) ≡ codes "{\"type\":\"GeometryCollection\",\"geometries\":"
-unfolding head_text
-head-group shapes = ap head_in (g.outs-Group shapes)
 
 -- ---- the coordinates or the geometries
 
@@ -81,44 +51,6 @@ contents-group shapes = ap contents_in (g.outs-Group shapes)
 
 pub ruleset contents = (contents-point, contents-points, contents-line, contents-lines, contents-area, contents-areas, contents-group)
 
--- ---- the names and types need no escape
-
-quoted-coordinates : quoted (codes "coordinates") ≡ codes "\"coordinates\""
-unfolding escaped_byte
-quoted-coordinates = refl
-
-quoted-geometries : quoted (codes "geometries") ≡ codes "\"geometries\""
-unfolding escaped_byte
-quoted-geometries = refl
-
-quoted-Point : quoted (codes "Point") ≡ codes "\"Point\""
-unfolding escaped_byte
-quoted-Point = refl
-
-quoted-MultiPoint : quoted (codes "MultiPoint") ≡ codes "\"MultiPoint\""
-unfolding escaped_byte
-quoted-MultiPoint = refl
-
-quoted-LineString : quoted (codes "LineString") ≡ codes "\"LineString\""
-unfolding escaped_byte
-quoted-LineString = refl
-
-quoted-MultiLineString : quoted (codes "MultiLineString") ≡ codes "\"MultiLineString\""
-unfolding escaped_byte
-quoted-MultiLineString = refl
-
-quoted-Polygon : quoted (codes "Polygon") ≡ codes "\"Polygon\""
-unfolding escaped_byte
-quoted-Polygon = refl
-
-quoted-MultiPolygon : quoted (codes "MultiPolygon") ≡ codes "\"MultiPolygon\""
-unfolding escaped_byte
-quoted-MultiPolygon = refl
-
-quoted-GeometryCollection : quoted (codes "GeometryCollection") ≡ codes "\"GeometryCollection\""
-unfolding escaped_byte
-quoted-GeometryCollection = refl
-
 -- ---- the text of a geometry: its head, its contents and a brace
 
 -- the claim of one geometry
@@ -129,34 +61,14 @@ in_parts : (shape : Shape) (head : List ℕ) (value contents : Json) → shape_v
     → json_text value ≡ head ++ (json_text contents ++ codes "}") → InParts shape
 in_parts shape head value contents e f h text = rw (e, f, h) text
 
-point-in_parts : (p : Point) → InParts (g.Point p)
-point-in_parts p = in_parts _ _ _ _ (shape_value_at.point p) (head-point p) (contents-point p) (object-of_two (codes "Point") (codes "\"Point\"") (codes "coordinates") (codes "\"coordinates\"") (position_value p) quoted-Point quoted-coordinates)
-
-points-in_parts : (ps : List Point) → InParts (g.MultiPoint ps)
-points-in_parts ps = in_parts _ _ _ _ (shape_value_at.points ps) (head-points ps) (contents-points ps) (object-of_two (codes "MultiPoint") (codes "\"MultiPoint\"") (codes "coordinates") (codes "\"coordinates\"") (positions_value ps) quoted-MultiPoint quoted-coordinates)
-
-line-in_parts : (ps : List Point) → InParts (g.Line ps)
-line-in_parts ps = in_parts _ _ _ _ (shape_value_at.line ps) (head-line ps) (contents-line ps) (object-of_two (codes "LineString") (codes "\"LineString\"") (codes "coordinates") (codes "\"coordinates\"") (positions_value ps) quoted-LineString quoted-coordinates)
-
-lines-in_parts : (ls : List (List Point)) → InParts (g.Lines ls)
-lines-in_parts ls = in_parts _ _ _ _ (shape_value_at.lines ls) (head-lines ls) (contents-lines ls) (object-of_two (codes "MultiLineString") (codes "\"MultiLineString\"") (codes "coordinates") (codes "\"coordinates\"") (lines_value ls) quoted-MultiLineString quoted-coordinates)
-
-area-in_parts : (rs : List (List Point)) → InParts (g.Area rs)
-area-in_parts rs = in_parts _ _ _ _ (shape_value_at.area rs) (head-area rs) (contents-area rs) (object-of_two (codes "Polygon") (codes "\"Polygon\"") (codes "coordinates") (codes "\"coordinates\"") (lines_value rs) quoted-Polygon quoted-coordinates)
-
-areas-in_parts : (areas : List (List (List Point))) → InParts (g.Areas areas)
-areas-in_parts areas = in_parts _ _ _ _ (shape_value_at.areas areas) (head-areas areas) (contents-areas areas) (object-of_two (codes "MultiPolygon") (codes "\"MultiPolygon\"") (codes "coordinates") (codes "\"coordinates\"") (polygons_value areas) quoted-MultiPolygon quoted-coordinates)
-
-group-in_parts : (shapes : List Shape) → InParts (g.Group shapes)
-group-in_parts shapes = in_parts _ _ _ _ (shape_value_at.group shapes) (head-group shapes) (contents-group shapes) (object-of_two (codes "GeometryCollection") (codes "\"GeometryCollection\"") (codes "geometries") (codes "\"geometries\"") (j.Array (map shape_value shapes)) quoted-GeometryCollection quoted-geometries)
-
 pub shape-text : (shape : Shape) → json_text (shape_value shape) ≡ head_text shape ++ (json_text (contents_value shape) ++ codes "}")
+unfolding head_text escaped_byte
 shape-text = by_kinds InParts (record {
-  point = point-in_parts;
-  points = points-in_parts;
-  line = line-in_parts;
-  lines = lines-in_parts;
-  area = area-in_parts;
-  areas = areas-in_parts;
-  group = λ shapes h. group-in_parts shapes;
+  point = λ p. in_parts _ _ _ _ (shape_value_at.point p) (ap head_in (g.outs-Point p)) (contents-point p) (object-of_two (codes "Point") (codes "\"Point\"") (codes "coordinates") (codes "\"coordinates\"") (position_value p) refl refl);
+  points = λ ps. in_parts _ _ _ _ (shape_value_at.points ps) (ap head_in (g.outs-MultiPoint ps)) (contents-points ps) (object-of_two (codes "MultiPoint") (codes "\"MultiPoint\"") (codes "coordinates") (codes "\"coordinates\"") (positions_value ps) refl refl);
+  line = λ ps. in_parts _ _ _ _ (shape_value_at.line ps) (ap head_in (g.outs-Line ps)) (contents-line ps) (object-of_two (codes "LineString") (codes "\"LineString\"") (codes "coordinates") (codes "\"coordinates\"") (positions_value ps) refl refl);
+  lines = λ ls. in_parts _ _ _ _ (shape_value_at.lines ls) (ap head_in (g.outs-Lines ls)) (contents-lines ls) (object-of_two (codes "MultiLineString") (codes "\"MultiLineString\"") (codes "coordinates") (codes "\"coordinates\"") (lines_value ls) refl refl);
+  area = λ rs. in_parts _ _ _ _ (shape_value_at.area rs) (ap head_in (g.outs-Area rs)) (contents-area rs) (object-of_two (codes "Polygon") (codes "\"Polygon\"") (codes "coordinates") (codes "\"coordinates\"") (lines_value rs) refl refl);
+  areas = λ areas. in_parts _ _ _ _ (shape_value_at.areas areas) (ap head_in (g.outs-Areas areas)) (contents-areas areas) (object-of_two (codes "MultiPolygon") (codes "\"MultiPolygon\"") (codes "coordinates") (codes "\"coordinates\"") (polygons_value areas) refl refl);
+  group = λ shapes h. in_parts _ _ _ _ (shape_value_at.group shapes) (ap head_in (g.outs-Group shapes)) (contents-group shapes) (object-of_two (codes "GeometryCollection") (codes "\"GeometryCollection\"") (codes "geometries") (codes "\"geometries\"") (j.Array (map shape_value shapes)) refl refl);
 })

@@ -18,15 +18,12 @@ option_proper : (n : ℕ) (o : Option Shape) → IfThere (SoundIn n) o → is_pr
 option_proper n o h = grind arith
 
 -- members are less deep than their object
-shallow : (ms : List (List ℕ × Json)) → ShallowMembers (depth (j.Object ms)) ms
+pub shallow : (ms : List (List ℕ × Json)) → ShallowMembers (depth (j.Object ms)) ms
 shallow ms = object_shallower (j.Object ms) ms (object_of-object ms)
 
 pub typed_geometry_proper : (exact : Bool) (type : GeometryType) (ms : List (List ℕ × Json)) (c d : Counts) (x : Option Shape) → typed_geometry exact type ms c ≡ Ok (x, d) → is_proper_option x ≡ true
 typed_geometry_proper exact type ms c d x e = option_proper (depth (j.Object ms)) x (typed_geometry_yields exact type (depth (j.Object ms)) ms (shallow ms) c d x e)
 
-pub geometry_proper : (exact : Bool) (ms : List (List ℕ × Json)) (c d : Counts) (x : Option Shape) → geometry exact ms c ≡ Ok (x, d) → is_proper_option x ≡ true
-geometry_proper exact ms c d x e = option_proper (depth (j.Object ms)) x (geometry_yields exact (depth (j.Object ms)) ms (shallow ms) c d x e)
-
 pub object_proper : (exact : Bool) (o : Option (List (List ℕ × Json))) (c d : Counts) (x : Option Shape) → if_some (geometry exact) o c ≡ Ok (x, d) → is_proper_option x ≡ true
 object_proper exact None c d x e = subst (λ z. is_proper_option z ≡ true) (first_is e) refl
-object_proper exact (Some ms) c d x e = geometry_proper exact ms c d x e
+object_proper exact (Some ms) c d x e = option_proper (depth (j.Object ms)) x (geometry_yields exact (depth (j.Object ms)) ms (shallow ms) c d x e)

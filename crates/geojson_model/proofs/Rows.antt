@@ -1,5 +1,5 @@
 -- Worked rows of the definition: small values and the layers or faults that they are.
-use Rattle.std.proofs.Common.{◌≡◌, ℕ, Bool, true, false, List, [], ◌∷◌, Option, Some, None, Result, Ok, Err, ap}
+use Rattle.std.proofs.Common.{◌≡◌, ℕ, Bool, true, false, List, [], ◌∷◌, map, Option, Some, None, Result, Ok, Err, ap}
 use Rattle.std.specs.Prelude.{codes, pos}
 use Rattle.json_value.specs.declared.json.Json.{Json}
 use Rattle.json_value.specs.declared.json.Json.TheVariants as j
@@ -56,90 +56,47 @@ read_object exact ms c = ap (λ (r : Reader (Option Shape)). r c) (shape_object 
 
 ruleset read = (read_array, read_object)
 
--- ---- the layer's own members
-
-pub row_array : (exact : Bool) → layer exact (j.Array []) ≡ before NotObject
-unfolding layer features
-row_array exact = simp object_kinds
-
-pub row_untyped : (exact : Bool) → layer exact (j.Object []) ≡ before Missing
-unfolding layer features type_name need named
-row_untyped exact = simp object_kinds
-
-pub row_typed_twice : (exact : Bool) (v w : Json) → layer exact (j.Object ((codes "type", v) ∷ (codes "type", w) ∷ [])) ≡ before Duplicate
-unfolding layer features type_name need named
-row_typed_twice exact v w = simp object_kinds
-
-pub row_type_kind : (exact : Bool) → layer exact (j.Object ((codes "type", j.Null) ∷ [])) ≡ before WrongKind
-unfolding layer features type_name need named
-row_type_kind exact = simp (object_kinds, text_kinds)
-
-pub row_circle : (exact : Bool) → layer exact (typed (codes "Circle") []) ≡ before UnknownType
-unfolding layer features type_name need named geojson_type geometry_type coordinates_type
-row_circle exact = simp (object_kinds, text_kinds)
-
--- ---- features
-
-pub row_null_feature : (exact : Bool) → layer exact (typed (codes "FeatureCollection") ((codes "features", j.Array (typed (codes "Feature") [] ∷ [])) ∷ [])) ≡ counted (bare None ∷ []) 0 0 0
-unfolding layer features type_name need named geojson_type typed_features collection_features features_from feature_element feature
-row_null_feature exact = simp (object_kinds, text_kinds, array_kinds)
-
--- the second feature's properties come before its geometry
-pub row_second : (exact : Bool) (v : Json) → layer exact (typed (codes "FeatureCollection") ((
-  codes "features",
-  j.Array (
-      typed (codes "Feature") []
-      ∷ typed (codes "Feature") ((codes "geometry", v) ∷ (codes "properties", j.Bool true) ∷ []) ∷ []),
-) ∷ [])) ≡ within_feature 1 WrongKind
-unfolding layer features type_name need named geojson_type typed_features collection_features features_from feature_element feature
-row_second exact v = simp (object_kinds, text_kinds, array_kinds, j.outs-Bool)
-
--- an identifier stays the text that it is, and members stay as they are, duplicates too
-pub row_kept : (exact : Bool) (v w : Json) → layer exact (typed (codes "Feature") ((codes "id", j.Text (codes "007")) ∷ (codes "properties", j.Object ((codes "b", v) ∷ (codes "b", w) ∷ [])) ∷ []))
-    ≡ counted (record { id = Some (i.Text (codes "007")); properties = Some ((codes "b", v) ∷ (codes "b", w) ∷ []); shape = None } ∷ []) 0 0 0
-unfolding layer features type_name need named geojson_type typed_features single_feature feature
-row_kept exact v w = simp (object_kinds, text_kinds, j.outs-Text, j.outs-Object)
-
--- ---- geometries
-
-pub row_no_coordinates : (exact : Bool) → layer exact (typed (codes "Point") []) ≡ within_feature 0 Missing
-unfolding layer features type_name need named geojson_type geometry_type coordinates_type typed_features bare_feature typed_geometry
-row_no_coordinates exact = simp (object_kinds, text_kinds)
-
-pub row_empty : (exact : Bool) → layer exact (typed (codes "LineString") (coordinates (j.Array []))) ≡ counted (bare None ∷ []) 0 0 1
-unfolding layer features type_name need named geojson_type geometry_type coordinates_type typed_features bare_feature typed_geometry coordinates_shape some_elements
-row_empty exact = simp (object_kinds, text_kinds, array_kinds)
-
--- a polygon whose outer ring is an empty array is left out
-pub row_no_outer : (exact : Bool) → layer exact (typed (codes "Polygon") (coordinates (j.Array (j.Array [] ∷ [])))) ≡ counted (bare None ∷ []) 0 0 1
-unfolding layer features type_name need named geojson_type geometry_type coordinates_type typed_features bare_feature typed_geometry coordinates_shape some_elements shape_in polygon_in ring gather
-row_no_outer exact = simp (object_kinds, text_kinds, array_kinds)
-
--- after its other rings were read
-pub row_faulty_inner : (exact : Bool) → layer exact (typed (codes "Polygon") (coordinates (j.Array (j.Array [] ∷ j.Null ∷ [])))) ≡ within_feature 0 WrongKind
-unfolding layer features type_name need named geojson_type geometry_type coordinates_type typed_features bare_feature typed_geometry coordinates_shape some_elements shape_in polygon_in ring gather
-row_faulty_inner exact = simp (object_kinds, text_kinds, array_kinds)
-
--- ---- collections
-
 abbrev collection : List Json → Json
 collection vs = typed (codes "GeometryCollection") ((codes "geometries", j.Array vs) ∷ [])
 
--- an empty collection is no null geometry, and isn't counted
-pub row_nested : (exact : Bool) → layer exact (collection (collection [] ∷ [])) ≡ counted (bare (Some (g.Group (g.Group [] ∷ []))) ∷ []) 0 0 0
-unfolding layer features type_name need named geojson_type geometry_type coordinates_type typed_features bare_feature typed_geometry geometry gather
-row_nested exact = simp (object_kinds, text_kinds, read)
+abbrev collected : List Json → Json
+collected vs = typed (codes "FeatureCollection") ((codes "features", j.Array vs) ∷ [])
 
--- a null geometry is left out of its collection
-pub row_empty_inside : (exact : Bool) → layer exact (collection (typed (codes "Point") (coordinates (j.Array [])) ∷ [])) ≡ counted (bare (Some (g.Group [])) ∷ []) 0 0 1
-unfolding layer features type_name need named geojson_type geometry_type coordinates_type typed_features bare_feature typed_geometry geometry gather coordinates_shape some_elements
-row_empty_inside exact = simp (object_kinds, text_kinds, array_kinds, read)
+-- ---- rows without numbers: for any values v and w, a value and the layer or the fault that it is
 
--- ---- positions
+abbrev rows : Json → Json → List (Json × Layered)
+rows v w =
+    -- the layer's own members
+    (j.Array [], before NotObject)
+    ∷ (j.Object [], before Missing)
+    ∷ (j.Object ((codes "type", v) ∷ (codes "type", w) ∷ []), before Duplicate)
+    ∷ (j.Object ((codes "type", j.Null) ∷ []), before WrongKind)
+    ∷ (typed (codes "Circle") [], before UnknownType)
+    -- features; of the second one the properties come before the geometry
+    ∷ (collected (typed (codes "Feature") [] ∷ []), counted (bare None ∷ []) 0 0 0)
+    ∷ (collected (typed (codes "Feature") [] ∷ typed (codes "Feature") ((codes "geometry", v) ∷ (codes "properties", j.Bool true) ∷ []) ∷ []), within_feature 1 WrongKind)
+    -- an identifier stays the text that it is, and members stay as they are, duplicates too
+    ∷ (
+      typed (codes "Feature") ((codes "id", j.Text (codes "007")) ∷ (codes "properties", j.Object ((codes "b", v) ∷ (codes "b", w) ∷ [])) ∷ []),
+      counted (record { id = Some (i.Text (codes "007")); properties = Some ((codes "b", v) ∷ (codes "b", w) ∷ []); shape = None } ∷ []) 0 0 0,
+    )
+    -- geometries; a polygon whose outer ring is an empty array is left out, after its other rings were read
+    ∷ (typed (codes "Point") [], within_feature 0 Missing)
+    ∷ (typed (codes "LineString") (coordinates (j.Array [])), counted (bare None ∷ []) 0 0 1)
+    ∷ (typed (codes "Polygon") (coordinates (j.Array (j.Array [] ∷ []))), counted (bare None ∷ []) 0 0 1)
+    ∷ (typed (codes "Polygon") (coordinates (j.Array (j.Array [] ∷ j.Null ∷ []))), within_feature 0 WrongKind)
+    -- an empty collection is no null geometry, and isn't counted; a null geometry is left out of its collection
+    ∷ (collection (collection [] ∷ []), counted (bare (Some (g.Group (g.Group [] ∷ []))) ∷ []) 0 0 0)
+    ∷ (collection (typed (codes "Point") (coordinates (j.Array [])) ∷ []), counted (bare (Some (g.Group [])) ∷ []) 0 0 1)
+    -- positions
+    ∷ (typed (codes "LineString") (coordinates (j.Array (j.Array (v ∷ []) ∷ []))), within_feature 0 ShortPosition)
+    ∷ []
 
-pub row_short_position : (exact : Bool) (v : Json) → layer exact (typed (codes "LineString") (coordinates (j.Array (j.Array (v ∷ []) ∷ [])))) ≡ within_feature 0 ShortPosition
-unfolding layer features type_name need named geojson_type geometry_type coordinates_type typed_features bare_feature typed_geometry coordinates_shape some_elements shape_in line_in gather position elements_position
-row_short_position exact v = simp (object_kinds, text_kinds, array_kinds)
+all_rows : (exact : Bool) (v w : Json) → map (λ r. layer exact r.0) (rows v w) ≡ map (λ r. r.1) (rows v w)
+unfolding layer features type_name need named geojson_type geometry_type coordinates_type typed_features collection_features features_from feature_element single_feature bare_feature feature typed_geometry geometry coordinates_shape some_elements shape_in line_in polygon_in ring gather position elements_position
+all_rows exact v w = simp (object_kinds, text_kinds, array_kinds, j.outs-Bool, j.outs-Text, j.outs-Object, read)
+
+-- ---- rows with numbers
 
 -- numbers by their texts, of which the value is given
 module _ (zero_is : scaled_of unit_places input_limit (codes "0") ≡ Ok (record { value = pos 0; exact = true })) where

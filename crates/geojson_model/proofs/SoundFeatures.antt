@@ -68,34 +68,21 @@ object_parts n N T v ms e le h l =
 
 -- ---- identifiers
 
-number_is_number : (v : Json) (t : List ℕ) → number_of v ≡ Some t → HasNumbers v → IsNumber t
-number_is_number v t e h = (subst (AllByRecursion IsNumber) (ap numbers_of (number_of_is v t e) ∙ numbers-number t) h).0
-
 identifier_in_numbers : (v : Json) (x : Json-F Json) (o : Option Id) → out-Json v ≡ x → HasNumbers v → identifier_in x ≡ Ok o → IdHasNumbers o
 unfolding number_of
 identifier_in_numbers v Json-F.Null o is h e = let k : None ≡ o = cc in subst IdHasNumbers k tt
 identifier_in_numbers v (Json-F.Text t) o is h e = let k : Some (id.Text t) ≡ o = cc in subst IdHasNumbers k tt
-identifier_in_numbers v (Json-F.Number t) o is h e = let k : Some (id.Number t) ≡ o = cc in subst IdHasNumbers k (number_is_number v t (ap number_in is) h)
-identifier_in_numbers v (Json-F.Bool b) o is h e = absurd cc
-identifier_in_numbers v (Json-F.Array vs) o is h e = absurd cc
-identifier_in_numbers v (Json-F.Object ms) o is h e = absurd cc
+identifier_in_numbers v (Json-F.Number t) o is h e = let k : Some (id.Number t) ≡ o = cc in subst IdHasNumbers k ((subst (AllByRecursion IsNumber) (ap numbers_of (number_of_is v t (ap number_in is)) ∙ numbers-number t) h).0)
+identifier_in_numbers v x o is h e = absurd cc
 
 identifier_numbers : (i : Option Json) (o : Option Id) → IfThere HasNumbers i → identifier i ≡ Ok o → IdHasNumbers o
 identifier_numbers i o h k = grind (arith, identifier_in_numbers)
 
-text_is : (x : Json-F Json) (t : List ℕ) → x ≡ Json-F.Text t → roll-Json x ≡ j.Text t
-text_is x t e = ap roll-Json e ∙ j.rolls-Text t
-
 text_is_utf8 : (v : Json) (t : List ℕ) → out-Json v ≡ Json-F.Text t → HasTexts v → IsUtf8 t
-text_is_utf8 v t e h = (subst (AllByRecursion (λ z. IsUtf8 z)) (ap texts_of (sym (roll-out-Json v) ∙ text_is (out-Json v) t e) ∙ texts-text t) h).0
+text_is_utf8 v t e h = (subst (AllByRecursion (λ z. IsUtf8 z)) (ap texts_of (sym (roll-out-Json v) ∙ (ap roll-Json e ∙ j.rolls-Text t)) ∙ texts-text t) h).0
 
 identifier_in_texts : (v : Json) (x : Json-F Json) (o : Option Id) → out-Json v ≡ x → HasTexts v → identifier_in x ≡ Ok o → IdHasTexts o
-identifier_in_texts v Json-F.Null o is h e = let k : None ≡ o = cc in subst IdHasTexts k tt
-identifier_in_texts v (Json-F.Text t) o is h e = let k : Some (id.Text t) ≡ o = cc in subst IdHasTexts k (text_is_utf8 v t is h)
-identifier_in_texts v (Json-F.Number t) o is h e = let k : Some (id.Number t) ≡ o = cc in subst IdHasTexts k tt
-identifier_in_texts v (Json-F.Bool b) o is h e = absurd cc
-identifier_in_texts v (Json-F.Array vs) o is h e = absurd cc
-identifier_in_texts v (Json-F.Object ms) o is h e = absurd cc
+identifier_in_texts v x o is h e = grind (arith, text_is_utf8)
 
 identifier_texts : (i : Option Json) (o : Option Id) → IfThere HasTexts i → identifier i ≡ Ok o → IdHasTexts o
 identifier_texts i o h k = grind (arith, identifier_in_texts)
@@ -105,13 +92,8 @@ identifier_texts i o h k = grind (arith, identifier_in_texts)
 members_in_are : (v : Json) (x : Json-F Json) (o : Option (List (List ℕ × Json))) → out-Json v ≡ x → members_in x ≡ Ok o → IfThere (λ ms. v ≡ j.Object ms) o
 unfolding object_of
 members_in_are v Json-F.Null None is e = tt
-members_in_are v Json-F.Null (Some ms) is e = absurd cc
-members_in_are v (Json-F.Object ns) None is e = absurd cc
 members_in_are v (Json-F.Object ns) (Some ms) is e = let k : ns ≡ ms = cc in object_of_is v ms (ap object_in is ∙ ap (λ z. Some z) k)
-members_in_are v (Json-F.Text t) o is e = absurd cc
-members_in_are v (Json-F.Number t) o is e = absurd cc
-members_in_are v (Json-F.Bool b) o is e = absurd cc
-members_in_are v (Json-F.Array vs) o is e = absurd cc
+members_in_are v x o is e = absurd cc
 
 -- the members that a member gives are those of an object
 members_are : (p : Option Json) (o : Option (List (List ℕ × Json))) → members_if p ≡ Ok o → IfThere (λ ms. p ≡ Some (j.Object ms)) o

@@ -10,7 +10,7 @@ use Rattle.json_value.specs.Numbers.{HasNumbers}
 use Rattle.json_value.specs.WellFormed.{HasTexts}
 use Rattle.geojson_types.specs.declared.counts.Counts.{Counts}
 use Rattle.geojson_types.specs.Counting.{no_counts}
-use Rattle.geojson_types.specs.Features.{Shape, Featured, is_proper_option}
+use Rattle.geojson_types.specs.Features.{Featured, is_proper_option}
 use Rattle.geojson_types.specs.Nesting.{feature_nesting}
 use Rattle.geojson_types.specs.Numbers.{FeatureHasNumbers}
 use Rattle.geojson_types.specs.Texts.{FeatureHasTexts}
@@ -28,7 +28,6 @@ use Rattle.geojson_model.specs.Layers.{features_from, collection_features, singl
 use Rattle.geojson_model.specs.Members.{need}
 use Rattle.geojson_model.specs.Reader.{Reader, fault_in, pure, or_fail, within}
 use Rattle.geojson_model.proofs.Inside.{ShallowerMember, object_deep, need_part}
-use Rattle.geojson_model.proofs.Sound.{IsSound}
 use Rattle.geojson_model.proofs.SoundFeatures.{IsPart, IsPartMember, IsSoundFeature, array_parts, object_parts, feature_yields, feature_element_yields, bare_sound}
 use Rattle.geojson_model.proofs.SoundParts.{SoundIn}
 use Rattle.geojson_model.proofs.SoundShapes.{typed_geometry_yields}
@@ -96,25 +95,16 @@ module _ (P : Json → Featured → Type 0) (is : (v : Json) (f : Featured) → 
   each_feature : (exact : Bool) (v : Json) (fs : List Featured) (c : Counts) → layer exact v ≡ Ok (fs, c) → AllByRecursion (P v) fs
   each_feature exact v fs c e = all_weaker (IsSoundFeature (depth v) (HasNumbers v) (HasTexts v)) (P v) (is v) fs (layer_sound exact v fs c e)
 
-proper_of : (s : Option Shape) → IfThere IsSound s → is_proper_option s ≡ true
-proper_of s h = grind arith
-
 pub shapes_are_proper : ShapesAreProper
-shapes_are_proper = each_feature (λ v f. is_proper_option f.shape ≡ true) (λ v f h. proper_of f.shape h.shape)
-
-inputs_of : (s : Option Shape) → IfThere IsSound s → AllByRecursion IsInput (option_points s)
-inputs_of s h = grind arith
+shapes_are_proper = each_feature (λ v f. is_proper_option f.shape ≡ true) (λ v f h. (grind arith))
 
 pub inputs_alone : InputsAlone
 inputs_alone exact v fs c e =
     All-from_recursion IsInput (features_points fs) (all_joined IsInput (map (λ f. option_points f.shape) fs) (all_map (AllByRecursion IsInput) (λ f. option_points f.shape) fs
-    (each_feature (λ v f. AllByRecursion IsInput (option_points f.shape)) (λ v f h. inputs_of f.shape h.shape) exact v fs c e)))
-
-closed_of : (s : Option Shape) → IfThere IsSound s → AllByRecursion RingCloses (option_strokes s)
-closed_of s h = grind arith
+    (each_feature (λ v f. AllByRecursion IsInput (option_points f.shape)) (λ v f h. (grind arith)) exact v fs c e)))
 
 pub rings_close : RingsClose
-rings_close = each_feature (λ v f. AllByRecursion RingCloses (option_strokes f.shape)) (λ v f h. closed_of f.shape h.shape)
+rings_close = each_feature (λ v f. AllByRecursion RingCloses (option_strokes f.shape)) (λ v f h. (grind arith))
 
 pub nothing_deeper : NothingDeeper
 nothing_deeper = each_feature (λ v f. feature_nesting f ≤ depth v) (λ v f h. h.nests)

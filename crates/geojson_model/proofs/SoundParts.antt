@@ -1,18 +1,17 @@
 -- What is read of a value without collections keeps the rules of its kind, and is no deeper than the value.
-use Rattle.std.proofs.Common.{◌≡◌, ℕ, suc, ◌<◌, ◌≤◌, Bool, true, cond, List, [], ◌∷◌, length, Option, Some, None, Ok, refl, arith, unsigned_abs, ℤ}
-use Rattle.std.specs.Prelude.{nat_le}
+use Rattle.std.proofs.Common.{◌≡◌, ℕ, suc, ◌<◌, ◌≤◌, Bool, true, cond, List, [], ◌∷◌, Option, Some, None, Ok, refl, arith, unsigned_abs, ℤ}
 use Rattle.std.specs.List.{AllByRecursion}
 use Rattle.decimal_text.proofs.ScaledNumber.{scaled_of-within}
 use Rattle.json_value.specs.declared.json.Json.{Json}
 use Rattle.json_value.specs.Depth.{depth}
-use Rattle.json_value.specs.Kinds.{array_of, number_of}
+use Rattle.json_value.specs.Kinds.{array_of}
 use Rattle.geometry.specs.declared.shape.Geometry.TheVariants as g
 use Rattle.geojson_types.specs.Counting.{count_rounded}
 use Rattle.geojson_types.specs.Features.{Shape, is_some_list}
 use Rattle.geometry.specs.Lists.{map_some, unless_empty}
 use Rattle.geojson_types.specs.Nesting.{nesting}
 use Rattle.geometry.specs.Points.{Point, IsInput, input_limit}
-use Rattle.geometry.specs.Rings.{is_closed, is_ring}
+use Rattle.geometry.specs.Rings.{is_ring}
 use Rattle.geojson_model.specs.declared.fault.GeoFaultKind.TheVariants.{WrongKind, Inexact}
 use Rattle.geojson_model.specs.declared.types.CoordinatesType.{CoordinatesType}
 use Rattle.geojson_model.specs.declared.types.CoordinatesType.TheVariants as type
@@ -44,16 +43,11 @@ units_yield_at : (b inexact : Bool) (z : ℤ) → IsUnits z → Yields IsUnits (
 units_yield_at b inexact z h = grind (arith, fail_yields, count_yields)
 
 number_yields : (exact : Bool) (o : Option (List ℕ)) → Yields IsUnits (number_in_units exact o)
-number_yields exact None = fail_yields IsUnits WrongKind
-number_yields exact (Some t) = grind (arith, fail_yields, units_yield_at, scaled_of-within)
-
-coordinate_yields : (exact : Bool) (v : Json) → Yields IsUnits (coordinate exact v)
-unfolding coordinate
-coordinate_yields exact v = number_yields exact (number_of v)
+number_yields exact o = grind (arith, fail_yields, units_yield_at, scaled_of-within)
 
 pub elements_position_yields : (exact : Bool) (vs : List Json) → Yields (λ p. IsInput p × (is_some_list vs ≡ true)) (elements_position exact vs)
-unfolding elements_position
-elements_position_yields exact vs = grind (arith, fail_yields, then_yields, coordinate_yields, count_yields)
+unfolding elements_position coordinate
+elements_position_yields exact vs = grind (arith, fail_yields, then_yields, number_yields, count_yields)
 
 array_position_yields : (exact : Bool) (v : Json) (o : Option (List Json)) → array_of v ≡ o → Yields (Takes IsInput 1 (depth v)) (array_position exact o)
 array_position_yields exact v None e = fail_yields _ WrongKind
@@ -103,12 +97,9 @@ line_yields : (exact : Bool) (v : Json) → Yields (IfThere (Takes IsLine 2 (dep
 unfolding line
 line_yields exact v = some_elements_yield (Takes IsLine 2 (depth v)) (line_in exact) v (line_in_yields exact (depth v))
 
-ring_of : (ps : List Point) → nat_le 4 (length ps) ≡ true → is_closed ps ≡ true → is_ring ps ≡ true
-unfolding is_ring
-ring_of ps long closed = rw (long, closed) refl
-
 as_ring_yields : (n : ℕ) (ps : List Point) → AllByRecursion (Takes IsInput 2 n) ps → Yields (IfThere (Takes IsRing 2 n)) (as_ring ps)
-as_ring_yields n ps h = grind (arith, if_yields, give_yields, ring_of, parts_are, parts_take, fail_yields)
+unfolding is_ring
+as_ring_yields n ps h = grind (arith, if_yields, give_yields, parts_are, parts_take, fail_yields)
 
 ring_in_yields : (exact : Bool) (n : ℕ) (vs : List Json) → Shallow n vs → Yields (IfThere (Takes IsRing 2 n)) (ring_in exact vs)
 unfolding ring_in

@@ -3,7 +3,6 @@ use Rattle.std.proofs.Common.{◌≡◌, ℕ, zero, suc, ◌+◌, ◌<◌, true,
 use Rattle.std.specs.Prelude.{codes}
 use Rattle.json_value.specs.declared.json.Json.{Json}
 use Rattle.json_value.specs.declared.json.Json.TheVariants as j
-use Rattle.json_value.proofs.KindsOf.{object_of-object}
 use Rattle.json_value.specs.Depth.{depth}
 use Rattle.json_value.specs.Kinds.{array_of, object_of}
 use Rattle.geometry.specs.declared.shape.Geometry.TheVariants as g
@@ -16,9 +15,10 @@ use Rattle.geojson_model.specs.declared.types.GeometryType.TheVariants as type
 use Rattle.geojson_model.specs.Features.{identifier, members_if, feature, feature_element}
 use Rattle.geojson_model.specs.Geometries.{coordinates_shape, shape, shapes, typed_geometry, geometry}
 use Rattle.geojson_model.specs.Laws.{ExactIsStricter}
-use Rattle.geojson_model.specs.Layers.{features_from, collection_features, single_feature, bare, bare_feature, typed_features, features, layer}
+use Rattle.geojson_model.specs.Layers.{features_from, collection_features, single_feature, bare_feature, typed_features, features, layer}
 use Rattle.geojson_model.specs.Members.{find, need, need_as}
-use Rattle.geojson_model.specs.Reader.{Reader, LayerReader, ◌>>=◌, pure, or_fail, within, if_some}
+use Rattle.geojson_model.specs.Reader.{Reader, LayerReader, ◌>>=◌, pure, within, if_some}
+use Rattle.geojson_model.proofs.Proper.{shallow}
 use Rattle.geojson_model.proofs.Inside.{Shallower, array_shallower, object_shallower, need_part}
 use Rattle.geojson_model.proofs.SoundShapes.{ShallowMembers}
 use Rattle.geojson_model.proofs.Stricter.{Stricter, then_stricter, give_stricter, fail_stricter, pure_stricter, after_stricter, within_stricter, if_stricter, if_some_stricter, kept_stricter_of}
@@ -68,14 +68,11 @@ below (suc n) v lt = grind (arith, one_stricter, many_stricter, below n)
 shapes_stricter : (v : Json) → Stricter (shapes true v) (shapes false v)
 shapes_stricter v = (below (suc (depth v)) v (omega arith)).many
 
-any_member : (ms : List (List ℕ × Json)) → ShallowMembers (depth (j.Object ms)) ms
-any_member ms = object_shallower (j.Object ms) ms (object_of-object ms)
-
 geometry_stricter : (ms : List (List ℕ × Json)) → Stricter (geometry true ms) (geometry false ms)
-geometry_stricter ms = members_stricter (depth (j.Object ms)) ms (any_member ms) (λ v lt. shapes_stricter v)
+geometry_stricter ms = members_stricter (depth (j.Object ms)) ms (shallow ms) (λ v lt. shapes_stricter v)
 
 typed_geometry_stricter : (t : GeometryType) (ms : List (List ℕ × Json)) → Stricter (typed_geometry true t ms) (typed_geometry false t ms)
-typed_geometry_stricter t ms = typed_stricter (depth (j.Object ms)) ms (any_member ms) (λ v lt. shapes_stricter v) t
+typed_geometry_stricter t ms = typed_stricter (depth (j.Object ms)) ms (shallow ms) (λ v lt. shapes_stricter v) t
 
 -- ---- features
 
@@ -108,17 +105,10 @@ first_stricter r m n = then_stricter (within None (pure r)) (within None (pure r
 
 typed_features_stricter : (t : GeoJsonType) (ms : List (List ℕ × Json)) → Stricter (typed_features true t ms) (typed_features false t ms)
 unfolding typed_features collection_features single_feature bare_feature
-typed_features_stricter geojson.FeatureCollection ms =
-    first_stricter (need (codes "features") ms) _ _ (λ v. first_stricter (or_fail WrongKind (array_of v)) (features_from true 0) (features_from false 0) (features_from_stricter 0))
-typed_features_stricter geojson.Feature ms =
-    then_stricter (within (Some 0) (feature true ms)) (within (Some 0) (feature false ms)) _ _ (within_stricter (Some 0) (feature true ms) (feature false ms) (feature_stricter ms)) (λ f. give_stricter (f ∷ []))
-typed_features_stricter (geojson.Geometry t) ms =
-    then_stricter (within (Some 0) (typed_geometry true t ms)) (within (Some 0) (typed_geometry false t ms)) _ _ (within_stricter (Some 0) (typed_geometry true t ms) (typed_geometry false t ms) (typed_geometry_stricter t ms)) (λ s. give_stricter (bare s ∷ []))
-
-features_stricter : (v : Json) → Stricter (features true v) (features false v)
-unfolding features
-features_stricter v = grind (arith, first_stricter, typed_features_stricter)
+typed_features_stricter geojson.FeatureCollection ms = grind (arith, features_from_stricter)
+typed_features_stricter geojson.Feature ms = search (then_stricter, within_stricter, feature_stricter, give_stricter, arith)
+typed_features_stricter (geojson.Geometry t) ms = search (then_stricter, within_stricter, typed_geometry_stricter, give_stricter, arith)
 
 pub exact_is_stricter : ExactIsStricter
-unfolding layer
-exact_is_stricter = grind (arith, features_stricter)
+unfolding layer features
+exact_is_stricter = grind (arith, first_stricter, typed_features_stricter)

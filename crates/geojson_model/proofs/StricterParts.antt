@@ -1,8 +1,5 @@
 -- What is read of a value without collections, with `exact` and without.
-use Rattle.std.proofs.Common.{◌≡◌, Bool, true, false, List, [], ◌∷◌, length, Option, Some, None, Result, arith}
-use Rattle.std.specs.Prelude.{nat_lt}
-use Rattle.decimal_text.specs.declared.num_text.Scaled.{Scaled}
-use Rattle.decimal_text.specs.declared.num_text.Range.{Range as OutOfRange}
+use Rattle.std.proofs.Common.{◌≡◌, Bool, true, false, List, [], ◌∷◌, Option, Some, None, arith}
 use Rattle.json_value.specs.declared.json.Json.{Json}
 use Rattle.json_value.specs.Kinds.{array_of}
 use Rattle.geojson_types.specs.declared.counts.Counts.{Counts}
@@ -13,44 +10,34 @@ use Rattle.geometry.specs.Points.{Point}
 use Rattle.geojson_model.specs.declared.fault.GeoFaultKind.TheVariants.{WrongKind, ShortPosition}
 use Rattle.geojson_model.specs.declared.types.CoordinatesType.{CoordinatesType}
 use Rattle.geojson_model.specs.declared.types.CoordinatesType.TheVariants as type
-use Rattle.geojson_model.specs.Coordinates.{in_units, coordinate, elements_position, array_position, position}
+use Rattle.geojson_model.specs.Coordinates.{coordinate, elements_position, array_position, position}
 use Rattle.geojson_model.specs.Geometries.{shape_in, coordinates_shape}
 use Rattle.geojson_model.specs.Lines.{some_elements, line_in, line}
-use Rattle.geojson_model.specs.Polygons.{as_ring, ring_in, ring, with_outer, polygon_in, polygon}
+use Rattle.geojson_model.specs.Polygons.{as_ring, ring_in, ring, polygon_in, polygon}
 use Rattle.geojson_model.specs.Reader.{Reader, ◌>>=◌, fail, each, kept, if_some}
 use Rattle.geojson_model.proofs.Stricter.{Stricter, then_stricter, give_stricter, fail_stricter, count_stricter, if_stricter, if_some_stricter, each_stricter, kept_stricter}
 
 -- ---- coordinates and positions
 
-units_stricter : (r : Result Scaled OutOfRange) → Stricter (in_units true r) (in_units false r)
-units_stricter r = grind (arith, fail_stricter, give_stricter)
-
 coordinate_stricter : (v : Json) → Stricter (coordinate true v) (coordinate false v)
 unfolding coordinate
-coordinate_stricter v = grind (arith, fail_stricter, units_stricter)
+coordinate_stricter v = grind (arith, fail_stricter, fail_stricter, give_stricter)
 
 extra_kept : (b : Bool) (c : Counts) → (count_extra b c).rounded ≡ c.rounded
 extra_kept b c = grind arith
 
 elements_position_stricter : (vs : List Json) → Stricter (elements_position true vs) (elements_position false vs)
 unfolding elements_position
-elements_position_stricter [] = fail_stricter ShortPosition (fail ShortPosition)
-elements_position_stricter (v ∷ []) = fail_stricter ShortPosition (fail ShortPosition)
-elements_position_stricter (v ∷ w ∷ more) =
-    then_stricter (coordinate true v) (coordinate false v) _ _ (coordinate_stricter v)
-    (λ x. then_stricter (coordinate true w) (coordinate false w) _ _ (coordinate_stricter w)
-    (λ y. count_stricter _ (count_extra (nat_lt 0 (length more))) (extra_kept (nat_lt 0 (length more)))))
+elements_position_stricter (v ∷ w ∷ more) = search (then_stricter, coordinate_stricter, count_stricter, extra_kept, arith)
+elements_position_stricter vs = fail_stricter ShortPosition (fail ShortPosition)
 
 array_position_stricter : (o : Option (List Json)) → Stricter (array_position true o) (array_position false o)
 array_position_stricter None = fail_stricter WrongKind (fail WrongKind)
 array_position_stricter (Some vs) = elements_position_stricter vs
 
-position_stricter : (v : Json) → Stricter (position true v) (position false v)
-unfolding position
-position_stricter v = array_position_stricter (array_of v)
-
 positions_stricter : (vs : List Json) → Stricter (each (position true) vs) (each (position false) vs)
-positions_stricter = each_stricter (position true) (position false) position_stricter
+unfolding position
+positions_stricter = each_stricter (position true) (position false) (λ v. array_position_stricter (array_of v))
 
 -- ---- lines and rings
 
@@ -69,23 +56,16 @@ line_stricter = some_elements_stricter (line_in true) (line_in false) line_in_st
 as_ring_stricter : (ps : List Point) → Stricter (as_ring ps) (as_ring ps)
 as_ring_stricter ps = grind (arith, if_stricter, give_stricter, fail_stricter)
 
-ring_in_stricter : (vs : List Json) → Stricter (ring_in true vs) (ring_in false vs)
-unfolding ring_in
-ring_in_stricter vs = then_stricter (each (position true) vs) (each (position false) vs) as_ring as_ring (positions_stricter vs) as_ring_stricter
-
 ring_stricter : (v : Json) → Stricter (ring true v) (ring false v)
-unfolding ring
-ring_stricter = some_elements_stricter (ring_in true) (ring_in false) ring_in_stricter
+unfolding ring ring_in
+ring_stricter = some_elements_stricter (ring_in true) (ring_in false) (λ vs. then_stricter (each (position true) vs) (each (position false) vs) as_ring as_ring (positions_stricter vs) as_ring_stricter)
 
 -- ---- polygons
 
 polygon_in_stricter : (vs : List Json) → Stricter (polygon_in true vs) (polygon_in false vs)
 unfolding polygon_in
 polygon_in_stricter [] = give_stricter None
-polygon_in_stricter (v ∷ vs) =
-    then_stricter (ring true v) (ring false v) _ _ (ring_stricter v)
-    (λ outer. then_stricter (kept (ring true) vs) (kept (ring false) vs) _ _ (kept_stricter (ring true) (ring false) ring_stricter vs)
-    (λ inner. give_stricter (with_outer outer inner)))
+polygon_in_stricter (v ∷ vs) = search (then_stricter, ring_stricter, kept_stricter, give_stricter, arith)
 
 polygon_stricter : (v : Json) → Stricter (polygon true v) (polygon false v)
 unfolding polygon

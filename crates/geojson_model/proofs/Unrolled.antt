@@ -43,11 +43,7 @@ object_in_shape exact v (Json-F.Object ws) ms e f = ap (λ r. r.geometry) (unrol
   where
     same_members : Some ws ≡ Some ms → ws ≡ ms
     same_members h = cc
-object_in_shape exact v (Json-F.Array ws) ms e f = absurd cc
-object_in_shape exact v (Json-F.Text t) ms e f = absurd cc
-object_in_shape exact v (Json-F.Number t) ms e f = absurd cc
-object_in_shape exact v (Json-F.Bool t) ms e f = absurd cc
-object_in_shape exact v Json-F.Null ms e f = absurd cc
+object_in_shape exact v x ms e f = absurd cc
 
 -- An object is read as the geometry with its members.
 pub shape_object : (exact : Bool) (v : Json) (ms : List (List ℕ × Json)) → object_of v ≡ Some ms → shape exact v ≡ geometry exact ms
@@ -63,14 +59,10 @@ pub shape_other : (exact : Bool) (v : Json) → object_of v ≡ None → shape e
 unfolding object_of
 shape_other exact v e = object_in_none exact v (out-Json v) refl e
 
-array_in_shapes : (exact : Bool) (v : Json) (x : Json-F Json) (vs : List Json) → out-Json v ≡ x → array_in x ≡ Some vs → shapes exact v ≡ kept (shape exact) vs
-unfolding shapes shape
-array_in_shapes exact v x vs h k = grind (arith, unrolled, gather_map)
-
 -- The elements of an array are read as geometries in order, those left out that are null.
 pub shapes_array : (exact : Bool) (v : Json) (vs : List Json) → array_of v ≡ Some vs → shapes exact v ≡ kept (shape exact) vs
-unfolding array_of
-shapes_array exact v vs e = array_in_shapes exact v (out-Json v) vs refl e
+unfolding array_of shapes shape
+shapes_array exact v vs e = grind (arith, unrolled, gather_map)
 
 array_in_none : (exact : Bool) (v : Json) (x : Json-F Json) → out-Json v ≡ x → array_in x ≡ None → shapes exact v ≡ fail WrongKind
 unfolding shapes

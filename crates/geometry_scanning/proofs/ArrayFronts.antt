@@ -1,5 +1,5 @@
 -- An array by its elements.
-use Rattle.std.proofs.Common.{◌≡◌, ℕ, suc, ◌-◌, ◌<◌, ◌≤◌, Bool, List, [], ◌∷◌, ◌++◌, length, Option, Some, None, Ok, refl, sym, ap, ◌∙◌, arith, length-append}
+use Rattle.std.proofs.Common.{◌≡◌, ℕ, suc, ◌-◌, ◌<◌, ◌≤◌, List, [], ◌∷◌, length, Option, Some, None, Ok, refl, sym, ap, ◌∙◌, arith, length-append}
 use Rattle.std.specs.Prelude.{option_to_list}
 use Rattle.json_value.specs.declared.json.Json.{Json}
 use Rattle.json_value.specs.declared.json.Json.TheVariants as j
@@ -8,10 +8,9 @@ use Rattle.decimal_json.specs.Reading.{Parse, skip, after_word, value_with, valu
 use Rattle.decimal_json.proofs.Opened.{value_at_is, array_found, is_closed}
 use Rattle.decimal_json.proofs.ValuesRead.{value_takes}
 use Rattle.geojson_types.specs.declared.counts.Counts.{Counts}
-use Rattle.geojson_types.specs.Counting.{count_empty}
 use Rattle.geojson_model.specs.Lines.{some_elements, elements_in}
-use Rattle.geojson_model.specs.Reader.{Reader, and_then, ◌>>=◌, give, gather, if_some}
-use Rattle.geometry_scanning.specs.Fronts.{any, Front, Stands, Behind, SomeStand, IsEmpty, IsFilled, one, some_one}
+use Rattle.geojson_model.specs.Reader.{Reader, and_then, ◌>>=◌, gather, if_some}
+use Rattle.geometry_scanning.specs.Fronts.{any, Front, Stands, Behind, IsEmpty, IsFilled, one, some_one}
 use Rattle.geometry_scanning.proofs.BehindLists.{list_items, no_close, one_byte}
 
 -- what follows a value is no longer than what it stands in
@@ -41,9 +40,7 @@ array_front deep bytes inside v between vs end opens front behind d le =
     (no_close 93 (value_at any (d - 1)) (closing_is_none (d - 1)) (skip inside) (v, between) (front (d - 1) low)) front behind)
 
 pub empty_value : (d : ℕ) (bytes inside rest : List ℕ) → 0 < d → bytes ≡ 91 ∷ inside → skip inside ≡ 93 ∷ rest → value_at any d bytes ≡ Some (j.Array [], rest)
-empty_value d bytes inside rest some opens closes =
-    array_found any d 91 bytes inside opens refl (λ z. omega arith) [] rest
-    (is_closed Json 93 (value_at any (d - 1)) inside rest (one_byte 93 rest refl ∙ ap (after_word (93 ∷ [])) (sym closes)))
+empty_value d bytes inside rest some opens closes = grind (arith, array_found, is_closed Json 93 (value_at any (d - 1)) inside rest (one_byte 93 rest refl ∙ ap (after_word (93 ∷ [])) (sym closes)), one_byte 93 rest refl)
 
 -- ---- what arrays are read as
 
@@ -53,19 +50,16 @@ listed f v = do
   vs ← some_elements v
   if_some f vs
 
-listed_none : {B : Type 0} (f : List Json → Reader (Option B)) (c : Counts) → listed f (j.Array []) c ≡ Ok (None, count_empty c)
-unfolding some_elements
-listed_none f c = ap (λ o. and_then (if_some f) (elements_in o c)) (array_of-array [])
-
 pub listed_some : {B : Type 0} (f : List Json → Reader (Option B)) (v : Json) (vs : List Json) (c : Counts) → listed f (j.Array (v ∷ vs)) c ≡ f (v ∷ vs) c
 unfolding some_elements
 listed_some f v vs c = ap (λ o. and_then (if_some f) (elements_in o c)) (array_of-array (v ∷ vs))
 
 pub empty_stands : {B : Type 0} (f : List Json → Reader (Option B)) (deep : ℕ) (bytes rest : List ℕ) (old new : Counts) → IsEmpty bytes rest old new → Stands (Front (suc deep)) (listed f) bytes None rest old new
+unfolding some_elements
 empty_stands f deep bytes rest old new e = record {
   value = j.Array [];
   front = λ d le. empty_value d bytes e.inside rest (omega arith) e.opens e.closes;
-  means = listed_none f old ∙ ap (λ c. Ok (None, c)) (sym e.counted);
+  means = (ap (λ o. and_then (if_some f) (elements_in o old)) (array_of-array [])) ∙ ap (λ c. Ok (None, c)) (sym e.counted);
 }
 
 pub filled_stands : {A B : Type 0} (f : List Json → Reader (Option B)) (deep : ℕ) (read : Json → Reader (List A)) (bytes : List ℕ) (xs : List A) (y : Option B) (rest : List ℕ) (old new : Counts) → IsFilled (Front deep) read bytes xs rest old new

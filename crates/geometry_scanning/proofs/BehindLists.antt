@@ -1,6 +1,5 @@
 -- What stands behind a thing of a list is what the reading function gives of it.
-use Rattle.std.proofs.Common.{◌≡◌, ℕ, zero, suc, ◌+◌, ◌<◌, ◌≤◌, Bool, true, false, eqb, cond, List, [], ◌∷◌, ◌++◌, length, Some, None, refl, ap, ◌∙◌, subst, arith, length-append}
-use Rattle.std.proofs.lemmas.Bool.{eqb-true}
+use Rattle.std.proofs.Common.{◌≡◌, ℕ, zero, suc, ◌<◌, ◌≤◌, true, false, eqb, List, [], ◌∷◌, length, Some, None, refl, ap, ◌∙◌, arith, length-append}
 use Rattle.decimal_json.specs.Reading.{Parse, skip, after_word, list_after, list_at, items_at}
 use Rattle.decimal_json.proofs.Opened.{is_open}
 use Rattle.decimal_json.proofs.Steps.{turn}
@@ -42,19 +41,9 @@ module _ {V : Type 0} (Is : List ℕ → V → List ℕ → Type 0) (close : ℕ
       let t = turn (length inside) (length vs) (omega (arith, s, f, skip_shorter inside)) in
       is_open V close item inside opened ∙ ap (λ n. list_at close item n inside) t.1 ∙ first_turn t.0 inside v between front h t.2
 
--- what begins with no byte that closes
-by_close : {V : Type 0} (close : ℕ) (item : Parse V) → ((bs : List ℕ) → item (close ∷ bs) ≡ None) → (b : ℕ) (bs : List ℕ) (x : V × List ℕ) (t : Bool) → eqb b close ≡ t → item (b ∷ bs) ≡ Some x → None ≡ cond t (Some bs) None
-by_close close item none b bs x true e h =
-    let is : b ≡ close = eqb-true b close e in
-    let some : item (close ∷ bs) ≡ Some x = subst (λ q. item (q ∷ bs) ≡ Some x) is h in
-    let nothing = none bs in
-    cc
-by_close close item none b bs x false e h = refl
-
 pub no_close : {V : Type 0} (close : ℕ) (item : Parse V) → ((bs : List ℕ) → item (close ∷ bs) ≡ None) → (bs : List ℕ) (x : V × List ℕ) → item bs ≡ Some x → None ≡ after_word (close ∷ []) bs
 unfolding after_word
-no_close close item none [] x h = refl
-no_close close item none (b ∷ bs) x h = by_close close item none b bs x (eqb b close) refl h
+no_close close item none h3 x h = grind arith
 
 pub one_byte : (close : ℕ) (rest : List ℕ) → eqb close close ≡ true → Some rest ≡ after_word (close ∷ []) (close ∷ rest)
 unfolding after_word

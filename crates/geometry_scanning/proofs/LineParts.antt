@@ -1,19 +1,16 @@
 -- Lines, rings and polygons by their arrays.
-use Rattle.std.proofs.Common.{◌≡◌, ℕ, suc, ◌≤◌, Bool, true, List, [], ◌∷◌, ◌++◌, length, Option, Some, None, Ok, refl, ap, ◌∙◌, arith}
+use Rattle.std.proofs.Common.{◌≡◌, ℕ, ◌≤◌, Bool, true, List, ◌∷◌, length, Some, None, refl, ◌∙◌, arith}
 use Rattle.std.specs.Prelude.{nat_le}
 use Rattle.std.proofs.lemmas.Bool.Decides.{nat_tests}
-use Rattle.json_value.specs.declared.json.Json.{Json}
 use Rattle.json_value.specs.declared.json.Json.TheVariants as j
 use Rattle.decimal_json.specs.Reading.{skip}
 use Rattle.geojson_types.specs.declared.counts.Counts.{Counts}
-use Rattle.geojson_types.specs.Features.{is_line}
 use Rattle.geometry.specs.Points.{Point}
 use Rattle.geometry.specs.Rings.{is_closed as closed}
 use Rattle.geojson_model.specs.Coordinates.{position}
 use Rattle.geojson_model.specs.Lines.{line, line_in}
 use Rattle.geojson_model.specs.Polygons.{ring, ring_in, polygon, polygon_in}
-use Rattle.geojson_model.specs.Reader.{Reader, give, gather, kept}
-use Rattle.geometry_scanning.specs.Fronts.{Front, Stands, SomeStand, MoreStand, IsEmpty, IsFilled, one, some_one}
+use Rattle.geometry_scanning.specs.Fronts.{Front, Stands, MoreStand, IsEmpty, IsFilled, one, some_one}
 use Rattle.geometry_scanning.proofs.ArrayFronts.{array_front, listed_some, empty_stands, filled_stands}
 
 test : (n m : ℕ) → n ≤ m → nat_le n m ≡ true
@@ -40,17 +37,11 @@ module _ (exact : Bool) (bytes rest : List ℕ) (old new : Counts) where
   unfolding polygon
   no_polygon e = let s = empty_stands (polygon_in exact) 2 bytes rest old new e in record { value = s.value; front = s.front; means = s.means }
 
--- the outer ring, and more behind it
-outer_and_more : (exact : Bool) (v : Json) (vs : List Json) (outer : List Point) (rs : List (List Point)) (old mid new : Counts) → ring exact v old ≡ Ok (Some outer, mid) → kept (ring exact) vs mid ≡ Ok (rs, new)
-    → polygon_in exact (v ∷ vs) old ≡ Ok (Some (outer ∷ rs), new)
-unfolding polygon_in
-outer_and_more exact v vs outer rs old mid new h k = rw (h, k) refl
-
 pub some_polygon : (exact : Bool) (bytes inside between rest : List ℕ) (outer : List Point) (rs : List (List Point)) (old mid new : Counts) → bytes ≡ 91 ∷ inside → Stands (Front 2) (ring exact) (skip inside) (Some outer) between old mid
     → MoreStand (Front 2) (some_one (ring exact)) between rs rest mid new → Stands (Front 3) (polygon exact) bytes (Some (outer ∷ rs)) rest old new
-unfolding polygon
+unfolding polygon polygon_in
 some_polygon exact bytes inside between rest outer rs old mid new opens one more = record {
   value = j.Array (one.value ∷ more.values);
   front = array_front 2 bytes inside one.value between more.values rest opens one.front more.behind;
-  means = listed_some (polygon_in exact) one.value more.values old ∙ outer_and_more exact one.value more.values outer rs old mid new one.means more.means;
+  means = listed_some (polygon_in exact) one.value more.values old ∙ (rw (one.means, more.means) refl);
 }

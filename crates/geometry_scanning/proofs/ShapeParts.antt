@@ -1,11 +1,11 @@
 -- Geometries by their members.
-use Rattle.std.proofs.Common.{◌≡◌, ℕ, suc, ◌-◌, ◌<◌, ◌≤◌, Bool, true, false, List, [], ◌∷◌, ◌++◌, length, Option, Some, None, Result, Ok, Err, refl, sym, ap, ◌∙◌, append_assoc, length-append, arith}
+use Rattle.std.proofs.Common.{◌≡◌, ℕ, ◌-◌, ◌<◌, ◌≤◌, Bool, true, false, List, [], ◌∷◌, ◌++◌, length, Option, Some, None, Result, Ok, refl, sym, ap, ◌∙◌, append_assoc, length-append, arith}
 use Rattle.std.specs.Prelude.{codes, bytes_eq}
 use Rattle.json_value.specs.declared.json.Json.{Json}
 use Rattle.json_value.specs.declared.json.Json.TheVariants as j
 use Rattle.json_value.specs.Kinds.{array_of}
 use Rattle.json_value.proofs.KindsOf.{object_of-object, text_kinds}
-use Rattle.decimal_json.specs.Reading.{Parse, skip, after_word, name_at, member_at, value_at}
+use Rattle.decimal_json.specs.Reading.{skip, after_word, name_at, member_at, value_at}
 use Rattle.decimal_json.proofs.Opened.{object_found}
 use Rattle.decimal_json.proofs.Words.{after_word_takes}
 use Rattle.decimal_json.proofs.ValuesRead.{member_takes, value_takes}
@@ -26,8 +26,8 @@ use Rattle.geojson_model.specs.Reader.{Reader, and_then, ◌>>=◌, give, gather
 use Rattle.geojson_model.specs.Types.{geometry_type, coordinates_type}
 use Rattle.geojson_model.proofs.Unrolled.{shape_object}
 use Rattle.json_members.proofs.Yields.{first_is, second_is}
-use Rattle.geometry_scanning.specs.Fronts.{any, Front, MemberFront, Stands, Behind, behind_last, behind_more, IsEmpty, IsArray, one, some_one, IsTypeOf, IsHead}
-use Rattle.geometry_scanning.proofs.ArrayFronts.{listed, empty_stands, filled_stands}
+use Rattle.geometry_scanning.specs.Fronts.{any, Front, MemberFront, Stands, Behind, behind_last, behind_more, IsArray, one, some_one, IsTypeOf, IsHead}
+use Rattle.geometry_scanning.proofs.ArrayFronts.{empty_stands, filled_stands}
 use Rattle.geometry_scanning.proofs.BehindLists.{list_items, no_close}
 use Rattle.geometry_scanning.proofs.Words.{simple, member_is, word_named, word_value}
 
@@ -36,9 +36,7 @@ use Rattle.geometry_scanning.proofs.Words.{simple, member_is, word_named, word_v
 -- one more step behind the elements
 then_made : {A : Type 0} (f : List Json → Reader (Option A)) (make : A → Shape) (r : Result (Option (List Json) × Counts) GeoFaultKind) (x : Option A) (new : Counts)
     → and_then (if_some f) r ≡ Ok (x, new) → and_then (if_some (λ vs. f vs >>= λ y. give (map_some make y))) r ≡ Ok (map_some make x, new)
-then_made f make (Err e) x new h = absurd cc
-then_made f make (Ok (None, m)) x new h = rw (← first_is h, second_is h) refl
-then_made f make (Ok (Some vs, m)) x new h = rw h refl
+then_made f make r x new h = grind (arith, first_is, second_is)
 
 module _ (exact : Bool) (bytes rest : List ℕ) (old new : Counts) where
   pub line_shape : (x : Option (List Point)) → Stands (Front 2) (line exact) bytes x rest old new → Stands (Front 4) (coordinates_shape exact type.LineString) bytes (map_some g.Line x) rest old new
@@ -51,17 +49,14 @@ module _ (exact : Bool) (bytes rest : List ℕ) (old new : Counts) where
 
   point_by : (o : Option (List Json)) (p : Point) → array_position exact o old ≡ Ok (p, new) → and_then (if_some (shape_in exact type.Point)) (elements_in o old) ≡ Ok (Some (g.Point p), new)
   unfolding shape_in elements_position
-  point_by None p h = absurd cc
-  point_by (Some []) p h = absurd cc
-  point_by (Some (v ∷ vs)) p h = rw h refl
+  point_by o p h = grind arith
 
   pub point_shape : (p : Point) → Stands (Front 1) (position exact) bytes p rest old new → Stands (Front 4) (coordinates_shape exact type.Point) bytes (Some (g.Point p)) rest old new
   unfolding coordinates_shape position some_elements
   point_shape p s = record { value = s.value; front = λ d le. s.front d (omega arith); means = point_by (array_of s.value) p s.means }
 
   made : {B : Type 0} (make : List B → Shape) (xs : List B) → unless_empty make xs ≡ map_some make (unless_empty (λ ys. ys) xs)
-  made make [] = refl
-  made make (x ∷ xs) = refl
+  made make xs = grind arith
 
   many_shape : {B : Type 0} (kind : CoordinatesType) (make : List B → Shape) (deep : ℕ) (read : Json → Reader (List B)) → deep ≤ 3
       → ((v : Json) (vs : List Json) (xs : List B) → gather read (v ∷ vs) old ≡ Ok (xs, new) → shape_in exact kind (v ∷ vs) old ≡ Ok (unless_empty make xs, new))
@@ -91,56 +86,25 @@ type_by t bytes rest kind plain names other h =
     let opens : bytes ≡ 34 ∷ (t ++ 34 ∷ rest) = after_word_takes (34 ∷ (t ++ 34 ∷ [])) bytes rest (sym h) ∙ ap (λ x. 34 ∷ x) (append_assoc t (34 ∷ []) rest) in
     record { name = t; front = λ d le. ap (value_at any d) opens ∙ word_value t rest plain d le; names = names; no_collection = other }
 
-pub polygon_type : coordinates_type (codes "Polygon") ≡ Some type.Polygon
-unfolding coordinates_type
-polygon_type = refl
-
-pub polygons_type : coordinates_type (codes "MultiPolygon") ≡ Some type.MultiPolygon
-unfolding coordinates_type
-polygons_type = refl
-
-pub line_type : coordinates_type (codes "LineString") ≡ Some type.LineString
-unfolding coordinates_type
-line_type = refl
-
-pub lines_type : coordinates_type (codes "MultiLineString") ≡ Some type.MultiLineString
-unfolding coordinates_type
-lines_type = refl
-
-pub point_type : coordinates_type (codes "Point") ≡ Some type.Point
-unfolding coordinates_type
-point_type = refl
-
-pub points_type : coordinates_type (codes "MultiPoint") ≡ Some type.MultiPoint
-unfolding coordinates_type
-points_type = refl
-
 -- ---- objects
 
 member_shorter : (d : ℕ) (bytes : List ℕ) (m : List ℕ × Json) (rest : List ℕ) → member_at any (value_at any d) bytes ≡ Some (m, rest) → length rest ≤ length bytes
 member_shorter d bytes m rest h = let t = member_takes any d (value_at any d) (value_takes any d) bytes (m, rest) h in let l = ap length t.2 in omega (arith, l, length-append t.0 rest)
 
-no_member : (d : ℕ) (bs : List ℕ) → member_at any (value_at any d) (125 ∷ bs) ≡ None
-unfolding member_at name_at after_word
-no_member d bs = refl
-
 pub object_value : (d : ℕ) (bytes first : List ℕ) (m : List ℕ × Json) (between : List ℕ) (ms : List (List ℕ × Json)) (end : List ℕ) → 0 < d → bytes ≡ 123 ∷ first → MemberFront (d - 1) (skip first) m between
     → Behind (MemberFront (d - 1)) 125 between ms end → value_at any d bytes ≡ Some (j.Object (m ∷ ms), end)
+unfolding member_at name_at after_word
 object_value d bytes first m between ms end some opens front behind =
     object_found any d 123 bytes first opens refl (λ z. omega arith) (m ∷ ms) end
     (list_items (MemberFront (d - 1)) 125 (member_at any (value_at any (d - 1))) (λ b n r h. h) (member_shorter (d - 1)) refl refl first m between
-    (no_close 125 (member_at any (value_at any (d - 1))) (no_member (d - 1)) (skip first) (m, between) front) front behind)
+    (no_close 125 (member_at any (value_at any (d - 1))) (λ bs. refl) (skip first) (m, between) front) front behind)
 
 abbrev typed_members : List ℕ → Json → List (List ℕ × Json)
 typed_members name v = (codes "type", j.Text name) ∷ (codes "coordinates", v) ∷ []
 
-geometry_means : (exact : Bool) (name : List ℕ) (kind : CoordinatesType) (v : Json) (x : Option Shape) (c new : Counts) → coordinates_type name ≡ Some kind → bytes_eq name (codes "GeometryCollection") ≡ false → coordinates_shape exact kind v c ≡ Ok (x, new)
-    → geometry exact (typed_members name v) c ≡ Ok (x, new)
-unfolding geometry typed_geometry type_name need named geometry_type
-geometry_means exact name kind v x c new names other h = simp (text_kinds, names, other) h
-
 pub geometry_stands : (exact : Bool) (bytes front rest end : List ℕ) (kind : CoordinatesType) (x : Option Shape) (c new : Counts) → IsHead bytes kind front → Stands (Front 4) (coordinates_shape exact kind) front x rest c new → skip rest ≡ 125 ∷ end
     → Stands (Front 5) (shape exact) bytes x end c new
+unfolding geometry typed_geometry type_name need named geometry_type
 geometry_stands exact bytes front rest end kind x c new h s closes =
     let name : List ℕ = h.type_is.name in
     let ms : List (List ℕ × Json) = typed_members name s.value in
@@ -150,5 +114,5 @@ geometry_stands exact bytes front rest end kind x c new h s closes =
           let one = member_is (d - 1) (codes "\"type\"") (codes "type") (skip h.first) h.value (j.Text name) h.after (λ more. word_named (codes "type") more refl) h.typed (h.type_is.front (d - 1) (omega arith)) in
           let two = member_is (d - 1) (codes "\"coordinates\"") (codes "coordinates") (skip h.second) front s.value rest (λ more. word_named (codes "coordinates") more refl) h.named (s.front (d - 1) (omega arith)) in
           object_value d bytes h.first (codes "type", j.Text name) h.after ((codes "coordinates", s.value) ∷ []) end (omega arith) h.opens one (behind_more h.comma two (behind_last closes));
-      means = ap (λ (r : Reader (Option Shape)). r c) (shape_object exact (j.Object ms) ms (object_of-object ms)) ∙ geometry_means exact name kind s.value x c new h.type_is.names h.type_is.no_collection s.means;
+      means = ap (λ (r : Reader (Option Shape)). r c) (shape_object exact (j.Object ms) ms (object_of-object ms)) ∙ (simp (text_kinds, h.type_is.names, h.type_is.no_collection) s.means);
     }

@@ -1,7 +1,6 @@
 -- Words in their quotation marks.
-use Rattle.std.proofs.Common.{◌≡◌, ℕ, zero, suc, ◌+◌, ◌<◌, ◌≤◌, Bool, true, List, [], ◌∷◌, ◌++◌, length, get_or, Some, refl, sym, ap, ◌∙◌, arith, length-append}
-use Rattle.std.specs.Prelude.{codes, nat_le, ◌&&◌}
-use Rattle.std.specs.List.{list_all}
+use Rattle.std.proofs.Common.{◌≡◌, ℕ, zero, suc, ◌+◌, ◌<◌, Bool, true, List, [], ◌∷◌, ◌++◌, length, get_or, Some, refl, sym, ap, ◌∙◌, arith, length-append}
+use Rattle.std.specs.Prelude.{nat_le, ◌&&◌}
 use Rattle.std.proofs.lemmas.Bool.{and_parts}
 use Rattle.std.proofs.lemmas.Bool.Decides.{nat_tests}
 use Rattle.std.proofs.lemmas.Str.{IsUtf8-from_ascii, is_utf8-from_IsUtf8}
@@ -9,7 +8,7 @@ use Rattle.std.specs.Str.{is_utf8}
 use Rattle.json_value.specs.declared.json.Json.{Json}
 use Rattle.json_value.specs.declared.json.Json.TheVariants as j
 use Rattle.json_value.specs.Grammar.{is_plain}
-use Rattle.decimal_json.specs.Reading.{Parse, skip, after_word, after_plain, plain_front, chars_at, chars_after, if_text, string_at, name_at, member_at, value_at}
+use Rattle.decimal_json.specs.Reading.{after_word, after_plain, plain_front, chars_at, chars_after, if_text, string_at, name_at, member_at, value_at}
 use Rattle.decimal_json.proofs.Opened.{member_found, text_found}
 use Rattle.geometry_scanning.specs.Fronts.{any, Front, NamedValue}
 use Rattle.geometry_scanning.proofs.BehindLists.{one_byte}
@@ -54,9 +53,7 @@ chars_are n t rest h = rw (front_is t rest h, after_is t rest h) refl
 
 string_is : (t rest : List ℕ) → simple t ≡ true → string_at any (t ++ 34 ∷ rest) ≡ Some (t, rest)
 unfolding string_at if_text
-string_is t rest h =
-    let n : length (t ++ 34 ∷ rest) ≡ suc (length t + length rest) = omega (arith, length-append t (34 ∷ rest)) in
-    rw (n, chars_are (length t + length rest) t rest h, fits t h) refl
+string_is t rest h = grind (arith, length-append t (34 ∷ rest), chars_are (length t + length rest) t rest h, fits t h)
 
 pub word_named : (t rest : List ℕ) → simple t ≡ true → name_at any (34 ∷ (t ++ 34 ∷ rest)) ≡ Some (t, rest)
 unfolding name_at after_word

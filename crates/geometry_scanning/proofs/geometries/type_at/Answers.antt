@@ -1,22 +1,29 @@
 use Rattle.std.proofs.Common.{refl}
 use Rattle.std.specs.Prelude.{codes}
-use Rattle.geometry_scanning.proofs.ShapeParts.{type_by, polygon_type, polygons_type, line_type, lines_type, point_type, points_type}
+use Rattle.geojson_model.specs.Types.{coordinates_type}
+use Rattle.geometry_scanning.proofs.ShapeParts.{type_by}
 use Rattle.geometry_scanning.proofs.geometries.type_at.Goals as goal
 
 pub returns-in-Some : goal.returns-in-Some
-returns-in-Some c = type_by (codes "Polygon") c.args.bytes.now _ _ refl polygon_type refl c.in-Some.ensures
+unfolding coordinates_type
+returns-in-Some c = type_by (codes "Polygon") c.args.bytes.now _ _ refl refl refl c.in-Some.ensures
 
 pub returns-in-Some-after_word : goal.returns-in-Some-after_word
-returns-in-Some-after_word c = type_by (codes "MultiPolygon") c.args.bytes.now _ _ refl polygons_type refl c.in-Some-after_word.ensures
+unfolding coordinates_type
+returns-in-Some-after_word c = type_by (codes "MultiPolygon") c.args.bytes.now _ _ refl refl refl c.in-Some-after_word.ensures
 
 pub returns-in-Some-after_word-2 : goal.returns-in-Some-after_word-2
-returns-in-Some-after_word-2 c = type_by (codes "LineString") c.args.bytes.now _ _ refl line_type refl c.in-Some-after_word-2.ensures
+unfolding coordinates_type
+returns-in-Some-after_word-2 c = type_by (codes "LineString") c.args.bytes.now _ _ refl refl refl c.in-Some-after_word-2.ensures
 
 pub returns-in-Some-after_word-3 : goal.returns-in-Some-after_word-3
-returns-in-Some-after_word-3 c = type_by (codes "MultiLineString") c.args.bytes.now _ _ refl lines_type refl c.in-Some-after_word-3.ensures
+unfolding coordinates_type
+returns-in-Some-after_word-3 c = type_by (codes "MultiLineString") c.args.bytes.now _ _ refl refl refl c.in-Some-after_word-3.ensures
 
 pub returns-in-Some-after_word-4 : goal.returns-in-Some-after_word-4
-returns-in-Some-after_word-4 c = type_by (codes "Point") c.args.bytes.now _ _ refl point_type refl c.in-Some-after_word-4.ensures
+unfolding coordinates_type
+returns-in-Some-after_word-4 c = type_by (codes "Point") c.args.bytes.now _ _ refl refl refl c.in-Some-after_word-4.ensures
 
 pub returns-in-Some-after_word-5 : goal.returns-in-Some-after_word-5
-returns-in-Some-after_word-5 c = type_by (codes "MultiPoint") c.args.bytes.now _ _ refl points_type refl c.in-Some-after_word-5.ensures
+unfolding coordinates_type
+returns-in-Some-after_word-5 c = type_by (codes "MultiPoint") c.args.bytes.now _ _ refl refl refl c.in-Some-after_word-5.ensures

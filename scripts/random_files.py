@@ -39,9 +39,9 @@ def name(text):
 def listed(items, opened="[", closed="]"):
     out = opened
     for i, item in enumerate(items):
-        comma = one_of(["", ",,", ";"]) if errs(0.003) else "," if i else ""
+        comma = one_of(["", ",,", ";"]) if errs(0.001) else "," if i else ""
         out += comma + space() + item + space()
-    return out + ("," if errs(0.003) else "") + (one_of(["", "}", "]", "]]"]) if errs(0.003) else closed)
+    return out + ("," if errs(0.001) else "") + (one_of(["", "}", "]", "]]"]) if errs(0.001) else closed)
 
 
 def members_of(members):
@@ -198,10 +198,10 @@ def along(ends, closed):
     path = [one_of(list(ends))]
     while rng.random() < 0.5:
         path.append(one_of([i for i in ends if ends[i][0] == ends[path[-1]][1]]))
-    if closed and ends[path[0]][0] != ends[path[-1]][1]:
+    if closed and ends[path[0]][0] != ends[path[-1]][1] and not errs(0.1):
         path += [~i for i in reversed(path)]
     bad = ["0.5", "99", "-99", "9223372036854775807", "-9223372036854775809", "1e30", "1e-400", "null", '"0"', "0", "-1", "1"]
-    return listed([whole(i) if not errs(0.02) else one_of(bad) for i in path])
+    return listed([whole(i) if not errs(0.05) else one_of(bad) for i in path])
 
 
 def topology():

@@ -1,4 +1,5 @@
 pub mod LayersDecided
 mod LayersReached
 pub mod NamesFound
+mod NamesMet
 pub mod SourcesRead

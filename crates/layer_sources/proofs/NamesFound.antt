@@ -44,10 +44,13 @@ module _ {A : Type 0} (name_of : A → List ℕ) (xs : List A) (i : ℕ) (whole 
     pub doubled_name : (length (name_of x) == 0) ≡ false → is_among (name_of x) (map name_of (take i xs)) ≡ true → IsRefusedFor whole (Err (DuplicateName i))
     doubled_name h a = refused whole (DuplicateName i) (found (DuplicateName i) (among_fault (map name_of (take i xs)) (name_of x) h a ∙ ap (λ n. Some (DuplicateName n)) front-length))
 
+    pub one_more : map name_of (take (i + 1) xs) ≡ map name_of (take i xs) ++ name_of x ∷ []
+    one_more = ap (map name_of) (take_here xs i x lt item) ∙ map-append name_of (take i xs) (x ∷ [])
+
     pub goes_on : (length (name_of x) == 0) ≡ false → is_among (name_of x) (map name_of (take i xs)) ≡ false
         → name_fault_behind (map name_of (take (i + 1) xs)) (map name_of (drop (i + 1) xs)) ≡ whole
     goes_on h a =
-        ap (λ z. name_fault_behind z (map name_of (drop (i + 1) xs))) (ap (map name_of) (take_here xs i x lt item) ∙ map-append name_of (take i xs) (x ∷ []))
+        ap (λ z. name_fault_behind z (map name_of (drop (i + 1) xs))) one_more
         ∙ sym (ap (λ z. or_else z (name_fault_behind (map name_of (take i xs) ++ name_of x ∷ []) (map name_of (drop (i + 1) xs)))) (no_fault (map name_of (take i xs)) (name_of x) h a))
         ∙ unfolded
 

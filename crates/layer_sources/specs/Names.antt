@@ -1,5 +1,7 @@
 -- Which names of layers are refused.
 use Rattle.std.specs.Prelude.{◌≡◌, ℕ, Bool, false, ◌||◌, Result, Ok, Err, List, [], ◌∷◌, ◌++◌, length, Option, Some, None, bytes_eq, if◌then◌else◌}
+use Rattle.std.specs.Borrow.{Bor}
+use Rattle.std.specs.HashSet.{HashSet, contains}
 use Rattle.inputs.specs.declared.fault.BuildFault.{BuildFault}
 use Rattle.inputs.specs.declared.fault.BuildFault.TheVariants.{EmptyName, DuplicateName}
 
@@ -31,3 +33,12 @@ name_fault names = name_fault_behind [] names
 abbrev pub IsRefusedFor : Option BuildFault → Result (Unit {0}) BuildFault → Type 0
 IsRefusedFor None r = r ≡ Ok tt
 IsRefusedFor (Some e) r = r ≡ Err e
+
+-- the equality by which a set of texts finds one
+abbrev pub equal : Bor (List ℕ) → Bor (List ℕ) → Bool
+equal a b = bytes_eq a.now b.now
+
+-- the set, if there is one, has these names
+abbrev pub Knows : {S : Type 0} → Option (HashSet (Bor (List ℕ)) S) → List (List ℕ) → Type 0
+Knows None names = Unit {0}
+Knows (Some set) names = (q : Bor (List ℕ)) → contains equal set q ≡ is_among q.now names

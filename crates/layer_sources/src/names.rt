@@ -1,12 +1,14 @@
 // The names of layers.
 ghost use Rattle.std.specs.List.{AllByRecursion};
-ghost use Rattle.std.specs.Prelude.{◌≡◌, map, Ok, Err, IfOk, IsUtf8};
+ghost use Rattle.std.specs.Prelude.{◌≡◌, ◌∷◌, ◌++◌, [], map, Ok, Err, IfOk, IsUtf8, false};
 ghost use Rattle.layer_sources.specs.Names as spec;
-ghost use Rattle.layer_sources.specs.Names.{name_fault, IsRefusedFor};
+ghost use Rattle.layer_sources.specs.Names.{name_fault, IsRefusedFor, Knows};
 
 use byte_ends::{Feed, Source};
 use inputs::BuildFault;
 use json_value::OwnText;
+use std::alloc::Global;
+use std::collections::HashSet;
 
 /// Whether one of the layers has this name.
 fn is_among<R: Feed>(name: &str, sources: &[(OwnText, Source<R>)]) -> bool
@@ -20,20 +22,45 @@ fn is_among<R: Feed>(name: &str, sources: &[(OwnText, Source<R>)]) -> bool
     false
 }
 
+/// Whether one of the layers before has this name, and the set of their names with this one. Where memory is refused there is no
+/// such set, and all layers are looked through.
+fn meet<'a, R: Feed>(
+    met: Option<HashSet<&'a str>>,
+    name: &'a str,
+    before: &[(OwnText, Source<R>)],
+) -> (bool, Option<HashSet<&'a str>>)
+    requires { Knows met (map (λ s. s.0) before.now) }
+    ensures again { result.0 ≡ spec.is_among name.now (map (λ s. s.0) before.now) }
+    ensures known { result.0 ≡ false → Knows result.1 (map (λ s. s.0) before.now ++ name.now ∷ []) }
+{
+    if let Some(mut names) = met {
+        if let Ok(added) = names.insert(name) {
+            return (!added, Some(names));
+        }
+    }
+    (is_among(name, before), None)
+}
+
 /// Refuses the first layer whose name is empty or that of an earlier one.
-pub fn check_names<R: Feed>(sources: &[(OwnText, Source<R>)]) -> Result<(), BuildFault>
+pub fn check_names<R: Feed>(
+    alloc: Global,
+    sources: &[(OwnText, Source<R>)],
+) -> Result<(), BuildFault>
     ensures fault { IsRefusedFor (name_fault (map (λ s. s.0) sources.now)) result }
     // Names are texts.
     ensures texts { IfOk result (λ _. AllByRecursion IsUtf8 (map (λ s. s.0) sources.now)) }
 {
+    let mut met = Some(HashSet::new(alloc));
     'layers: for (layer, source) in sources.iter().enumerate() {
         let name = source.0.as_str();
         if name.is_empty() {
             return Err(BuildFault::EmptyName { layer });
         }
-        if is_among(name, &sources[..layer]) {
+        let (again, names) = meet(met, name, &sources[..layer]);
+        if again {
             return Err(BuildFault::DuplicateName { layer });
         }
+        met = names;
     }
     Ok(())
 }

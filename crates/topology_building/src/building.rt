@@ -101,6 +101,6 @@ pub fn build<Q: Reducer, R: Feed, W: Drain>(
     ensures decided { (bytes : Texts) (outcome : Outcome) → name_fault (map (λ s. s.0) sources.old) ≡ None
         → HaveBytesFor outcome sources.old bytes → ComesTo options.now.exact bytes outcome → Follows options.now outcome result }
 {
-    check_names(sources)?;
+    check_names(alloc, sources)?;
     build_layers(alloc, reducer, sources, options, sink)
 }

@@ -8,7 +8,7 @@ First the deepest nesting that is taken, of each kind, and one more, with a stac
 a full disk, closed streams, folders, files that can't be read, named pipes, files with no end. Then large files, at a tenth of
 their size and whole: the seconds of both, the growth, which is the time a byte at the whole size over that at the tenth, and the
 greatest peak of memory. It ends with status 1 where a run ends in anything else; of the times nothing is claimed. It is run by
-hand, takes some five minutes, 2 GB of memory and 300 MB of disk, and has 10^4 files open at once, which `ulimit -n` has to allow.
+hand, takes some two minutes, 2 GB of memory and 300 MB of disk, and has up to 10^5 files open at once: as many as `ulimit -Hn` allows.
 """
 import os
 import resource
@@ -163,7 +163,9 @@ def try_outputs():
     write("many", many)
     shell('"$P" build a=many >many.topojson')
     # What the system took isn't known to the program, whose buffer has 64 KiB: so the count is left out.
-    for words, code in (("build a=many", "B6"), ("simplify many.topojson", "E5"), ("geo --object a many.topojson", "E5")):
+    write("names.topojson", topology(named_objects(20000), ""))
+    streams = (("build a=many", "B6"), ("simplify many.topojson", "E5"), ("geo --object a many.topojson", "E5"), ("stat names.topojson", "E5"))
+    for words, code in streams:
         found = shell(f'("$P" {words} 2>err; echo "status $?" >>err) | head -c 100 >/dev/null; sed "s/sent .*/sent/" err')
         expect(f"{words} | head -c 100", f"error: {code} Write sent\nstatus 3", found)
     for words in (*COMMANDS, "--help"):
@@ -194,6 +196,7 @@ def try_inputs():
     expect("a path of 5000 bytes", "error: F1 Read, status 3", fault_of("stat " + "x" * 5000))
     expect("a word that isn't UTF-8", "error: a word is not UTF-8, status 2", fault_of("stat \"$(printf '\\377')\""))
     expect("a file with no end", "error: F2 TooLong, status 1", fault_of("stat /dev/zero"))
+    expect("a layer with no end", "error: layer 0 F2 TooLong, status 1", fault_of("build a=/dev/zero"))
     expect("an empty device", "error: J2 Malformed, status 1", fault_of("stat /dev/null"))
     os.mkfifo("pipe")
     for name, parts, wanted in (
@@ -247,6 +250,7 @@ def lines_of(coordinates):
 
 BUILD, STAT, GEO, SIMPLIFY = "build a=file", "stat file", "geo --object a file", "simplify --min-area 1 file"
 MILLION = 10**6
+OPEN_FILES = min(10**5, resource.getrlimit(resource.RLIMIT_NOFILE)[1] - 100)
 
 # A name, the size, what makes it, the words, and the status that isn't 0.
 FILES = (
@@ -259,7 +263,12 @@ FILES = (
     ("the same, simplified", MILLION, lambda n: along(n), SIMPLIFY, 0),
     ("a line along one arc, often", MILLION, lambda n: often(n), GEO, 0),
     ("the same, simplified", MILLION, lambda n: often(n), SIMPLIFY, 0),
-    ("objects of a topology", MILLION, lambda n: topology(",".join('"o%d":{"type":null}' % i for i in range(n)), ""), STAT, 0),
+    ("objects of a topology", MILLION, lambda n: topology(named_objects(n), ""), STAT, 0),
+    ("members of a topology, of one name", MILLION, lambda n: "{%s}" % ",".join(['"arcs":[]'] * n), STAT, 1),
+    ("foreign members of a topology", MILLION, lambda n: '{%s"type":"Topology","objects":{},"arcs":[]}' % foreign(n), STAT, 0),
+    ("an arc index's digits", 10 * MILLION, lambda n: topology('"a":{"type":"LineString","arcs":[0.%s]}' % ("0" * n), segment(0)), GEO, 0),
+    ("a cell's digits", 10 * MILLION, lambda n: gridded("1", f"{'7' * n}e-{n}"), STAT, 1),
+    ("a scale's decimals", 10 * MILLION, lambda n: gridded("0." + "7" * n, "1"), SIMPLIFY, 0),
     ("a member's name, bytes", 50 * MILLION, lambda n: feature("null", '{"%s":1}' % ("x" * n)), BUILD, 0),
     ("a member's name, escapes", 5 * MILLION, lambda n: feature("null", '{"%s":1}' % ("\\u0041" * n)), BUILD, 0),
     ("a property's digits", 10 * MILLION, lambda n: feature("null", '{"a":%s}' % ("7" * n)), BUILD, 0),
@@ -268,7 +277,7 @@ FILES = (
     ("an exponent's digits", 10 * MILLION, lambda n: geometry("Point", f"[0e{'7' * n},0]"), BUILD, 0),
     ("properties of one name", MILLION, lambda n: feature("null", "{%s}" % ",".join(['"a":1'] * n)), BUILD, 0),
     ("members of one name", MILLION, lambda n: "{%s}" % ",".join(['"type":"Point"'] * n), BUILD, 1),
-    ("foreign members", MILLION, lambda n: feature("null", "null", "".join('"m%d":0,' % i for i in range(n))), BUILD, 0),
+    ("foreign members", MILLION, lambda n: feature("null", "null", foreign(n)), BUILD, 0),
     ("holes of a polygon", MILLION, lambda n: holes(n), BUILD, 0),
     ("empty polygons", MILLION, lambda n: feature(geometry("MultiPolygon", listed(["[[]]"] * n))), BUILD, 0),
     ("lines that collapse", MILLION, lambda n: lines_of(["[[1,1],[1,1]]"] * n), BUILD, 0),
@@ -281,11 +290,24 @@ FILES = (
     ("a zigzag that goes", MILLION, lambda n: line(listed(f"[{i},{i % 2}]" for i in range(n))), BUILD + " --min-area 1000", 0),
     ("a spiral that goes", MILLION, lambda n: line(spiral(n)), BUILD + " --min-area 1000000000000", 0),
     ("white space", 50 * MILLION, lambda n: " " * n + '{"type":"FeatureCollection","features":[]}', BUILD, 0),
-    ("layers", 10000, lambda n: '{"type":"FeatureCollection","features":[]}', "build LAYERS", 0),
+    ("layers", OPEN_FILES, lambda n: '{"type":"FeatureCollection","features":[]}', "build LAYERS", 0),
     ("opening brackets", 50 * MILLION, lambda n: "[" * n, BUILD, 1),
     ("zero bytes", 50 * MILLION, lambda n: "\0" * n, BUILD, 1),
     ("a text without an end", 50 * MILLION, lambda n: '"' + "a" * n, BUILD, 1),
 )
+
+
+def named_objects(n):
+    return ",".join('"o%d":{"type":null}' % i for i in range(n))
+
+
+def foreign(n):
+    return "".join('"m%d":0,' % i for i in range(n))
+
+
+def gridded(scale, cell):
+    transform = '"transform":{"scale":[%s,1],"translate":[0,0]},' % scale
+    return '{"type":"Topology",%s"objects":{"a":{"type":"LineString","arcs":[0]}},"arcs":[[[0,0],[%s,0]]]}' % (transform, cell)
 
 
 def along(n):
@@ -322,7 +344,7 @@ def try_sizes():
         rows = []
         for n in (size // 10, size):
             write_apart("file", make, n)
-            layers = " ".join(f"n{i}=file" for i in range(n)) if "LAYERS" in words else ""
+            layers = " ".join(f"{i}=file" for i in range(n)) if "LAYERS" in words else ""
             read = os.path.getsize("file") * (n if layers else 1)
             rows.append((*measured(words.replace("LAYERS", layers), status, name), read))
         (little, _, few), (much, peak, many) = rows
@@ -334,6 +356,7 @@ def try_sizes():
 def main():
     if len(sys.argv) < 2:
         subprocess.run([f"{ROOT}/mapchain", "--help"], stdout=subprocess.DEVNULL, check=True)
+    resource.setrlimit(resource.RLIMIT_NOFILE, (OPEN_FILES + 100, OPEN_FILES + 100))
     with tempfile.TemporaryDirectory() as folder:
         os.chdir(folder)
         write("line", LINE)

@@ -128,6 +128,7 @@ RUNS = (
     ("build --grid 4 g=peak.json", 0, PEAK_TOPOLOGY, report(1, 3), BUILD),
     ("build --min-area 1 land=land.json", 0, LAND_TOPOLOGY, report(2, 7, SMALL), BUILD),
     ("build a=line.json b=cut.json", 1, "", "error: layer 1 J2 Malformed\n", BUILD),
+    ("build a=line.json b=line.json a=line.json", 2, "", "error: layer 2 B2 DuplicateName\n", BUILD),
     ("simplify --min-area 1 full.topojson", 0, LAND_TOPOLOGY, report(2, 7, SMALL), FILE),
     ("geo --object a line.topojson", 0, layer(("LineString", "[[0,0],[1.5,0.25]]")), "", FILE),
     ("stat less.topojson", 0, 'objects 1\n"land" 3\narcs 2\npositions 7\ngrid no\n', "", FILE),

@@ -68,13 +68,13 @@ def anything(deep=0):
     return one_of(["null", "true", "false", "1", "-2.50", '"text"', '"\\u00e9\\n"', '"\\ud83d\\ude00"', '"é"', '""', "1e5"])
 
 
-NO_NUMBERS = ["01", "-", ".5", "1.", "+1", "--1", "null", '"1"', "1e", "NaN", "[1]", "{}", "1E+", "true"]
-FAR_NUMBERS = ["1234567890123456789012345", "100000000.1", "1e400", "-3e9", "300000000.5", "99999999.99999995"]
+FAULTY_NUMBERS = ["01", "-", ".5", "1.", "+1", "--1", "null", '"1"', "1e", "NaN", "[1]", "{}", "1E+", "true"]
+FAULTY_NUMBERS += ["1234567890123456789012345", "100000000.1", "1e400", "-3e9", "300000000.5", "99999999.99999995"]
 
 
 def number():
     if errs(0.01):
-        return one_of(NO_NUMBERS + FAR_NUMBERS)
+        return one_of(FAULTY_NUMBERS)
     text = one_of(["", "-"]) + str(one_of([0, 1, 7, 12, 179, 99999999, 5]))
     kind = rng.random() if loose else 0.0
     if kind < 0.4:
@@ -98,7 +98,7 @@ def position(x, y):
 
 
 def shape(part, single, line, deep=0):
-    """A geometry object whose lines stand in the member of the name `part`; members first that it shall have."""
+    """The members of a geometry object whose lines stand in the member of the name `part`."""
     kind = one_of(["Point", "MultiPoint", "LineString", "MultiLineString"] + ["Polygon", "MultiPolygon"] * 2)
     if loose and deep < 3 and rng.random() < 0.1:
         inside = [members_of(shape(part, single, line, deep + 1)) for _ in several()]
@@ -179,10 +179,6 @@ def cell():
     return rng.randrange(-9, 9999) if not errs(0.005) else one_of([2**31, -(2**31), 2**31 + 1, 2**32, 2**32 + 1, 10**30])
 
 
-def placed(is_gridded):
-    return (cell(), cell()) if is_gridded else (number(), number())
-
-
 def arc(places):
     """An arc along these places: whole numbers of a grid, or texts."""
     if isinstance(places[0][0], int):
@@ -206,17 +202,21 @@ def along(ends, closed):
 
 def topology():
     is_gridded = rng.random() < 0.5
-    nodes = [placed(is_gridded) for _ in range(one_of([1, 2, 3]))]
+
+    def placed():
+        return (cell(), cell()) if is_gridded else (number(), number())
+
+    nodes = [placed() for _ in range(one_of([1, 2, 3]))]
     arcs, ends = [], {}
     for i in several(2):
         start, end = rng.randrange(len(nodes)), rng.randrange(len(nodes))
-        arcs.append(arc([nodes[start], *(placed(is_gridded) for _ in range(rng.randrange(5))), nodes[end]]))
+        arcs.append(arc([nodes[start], *(placed() for _ in range(rng.randrange(5))), nodes[end]]))
         ends[i], ends[~i] = (start, end), (end, start)
     if errs(0.03):
         arcs.append(one_of(["[]", "[[0,0]]", "null", "[[0],[1]]"]))
 
     def single():
-        return position(*map(whole if is_gridded else str, placed(is_gridded)))
+        return position(*map(whole if is_gridded else str, placed()))
 
     def geometry():
         if may(0.1):
@@ -269,26 +269,22 @@ def spoiled(text):
     return data
 
 
+def vary(tame=False):
+    """Chooses how odd the next file shall be, and how full of faults; a tame one is neither."""
+    global loose, wrong
+    loose, wrong = (0.0, 0.0) if tame else (one_of([0.0, 0.3, 1.0, 2.0]), one_of([0.0, 0.0, 0.3, 1.0]))
+
+
 def random_layer(tame=False):
-    """The bytes of a layer; of one that is taken, and in no odd form, if it shall be tame."""
     vary(tame)
     return spoiled(layer())
 
 
 def random_topology():
-    """The bytes of a topology."""
     vary()
     return spoiled(topology())
 
 
 def random_mangled(text):
-    """The bytes of a topology that was built, mangled."""
     vary()
     return spoiled(mangled(text))
-
-
-def vary(tame=False):
-    """Chooses how odd the next file shall be, and how full of faults."""
-    global loose, wrong
-    loose = 0.0 if tame else one_of([0.0, 0.3, 1.0, 2.0])
-    wrong = 0.0 if tame else one_of([0.0, 0.0, 0.3, 1.0])

@@ -18,12 +18,7 @@ eq_test : (i : ℕ) → not (eqb i i) ≡ false
 eq_test i = grind (arith, nat_tests)
 
 pub same_or_not : (v i : ℕ) → (v ≡ i) ⊎ (v ≢ i)
-same_or_not v i = on (cases_lt v i) (cases_lt i v)
-  where
-    on : (v < i) ⊎ (i ≤ v) → (i < v) ⊎ (v ≤ i) → (v ≡ i) ⊎ (v ≢ i)
-    on (inl l) k = inr (λ e. absurd (omega arith))
-    on (inr l) (inl k) = inr (λ e. absurd (omega arith))
-    on (inr l) (inr k) = inl (omega arith)
+same_or_not v i = grind arith
 
 pub keep_step : (i v : ℕ) (vs : List ℕ) → v ≢ i → filter (λ j. not (eqb j i)) (v ∷ vs) ≡ v ∷ filter (λ j. not (eqb j i)) vs
 keep_step i v vs h = ap (λ b. cond b (v ∷ filter (λ j. not (eqb j i)) vs) (filter (λ j. not (eqb j i)) vs)) (ne_test v i h)
@@ -111,22 +106,11 @@ module _ (after before : ℕ → ℕ) where
       In (corner_at (vertex_at ps (before v)) (vertex_at ps v) (vertex_at ps (after v))) (corners_from (vertex_at ps a) (vertex_at ps b) (vertices ps vs))
   in_corners ps a b [] v h (inl e) l = absurd (omega arith)
   in_corners ps a b [] v h (inr k) l = elim k [ ]
-  in_corners ps a b (c ∷ vs) v h (inl e) l =
-      let ea : before v ≡ a = ap before e ∙ h.1 in
-      let ec : after v ≡ c = ap after e ∙ h.3.0 in
-      inl (ap (λ x. corner_at (vertex_at ps x) (vertex_at ps v) (vertex_at ps (after v))) ea ∙ ap (λ x. corner_at (vertex_at ps a) (vertex_at ps x) (vertex_at ps (after v))) e ∙ ap (λ x. corner_at (vertex_at ps a) (vertex_at ps b) (vertex_at ps x)) ec)
+  in_corners ps a b (c ∷ vs) v h (inl e) l = grind arith
   in_corners ps a b (c ∷ vs) v h (inr k) l = inr (in_corners ps b c vs v h.3 k l)
 
 -- one that no other goes before
 pub least_is : (c : Corner) (cs : List Corner) → In c cs → AllByRecursion (λ d. is_before d c ≡ false) cs → least cs ≡ Some c
 least_is c [] k h = elim k [ ]
-least_is c (x ∷ xs) (inl e) h = ap (λ y. lesser (Some y) (least xs)) (sym e) ∙ on (least xs) (least_holds (λ d. is_before d c ≡ false) xs h.1)
-  where
-    on : (o : Option Corner) → Holds (λ d. is_before d c ≡ false) o → lesser (Some c) o ≡ Some c
-    on None k = refl
-    on (Some d) k = ap (λ b. Some (cond b d c)) k
-least_is c (x ∷ xs) (inr k) h = ap (lesser (Some x)) (least_is c xs k h.1) ∙ by_test (is_before c x) refl
-  where
-    by_test : (b : Bool) → is_before c x ≡ b → Some (cond b c x) ≡ Some c
-    by_test true e = refl
-    by_test false e = ap (λ y. Some y) (one_corner x c h.0 e)
+least_is c (x ∷ xs) (inl e) h = grind (arith, least_holds)
+least_is c (x ∷ xs) (inr k) h = grind (arith, one_corner, least_is c xs k h.1)

@@ -34,11 +34,7 @@ module _ (links : List Link) (old mid new : List (Reverse Entry)) (e : Reverse E
       on (inr k) = inr k
 
   stay : (d : Entry) → Contains old (turned d) → IsCurrent links d → Contains mid (turned d)
-  stay d h k = on (left.stays d h k)
-    where
-      on : (◌≡◌ {A = Option Entry} None (Some d)) ⊎ Contains mid (turned d) → Contains mid (turned d)
-      on (inl p) = absurd (cc)
-      on (inr p) = p
+  stay d h k = grind arith
 
   kept : (d : Entry) → Contains new (turned d) → Contains old (turned d)
   kept d h = left.rest d (Contains-permutation (e ∷ new) mid (turned d) (IsPermutation-sym mid (e ∷ new) perm) (contains_later e new (turned d) h))
@@ -123,9 +119,4 @@ outer_pushed t ps links old new v w known b p = record {
 
 pub outer_known : (t : ℕ) (ps : List Point) (links : List Link) (items : List (Reverse Entry)) (v w : ℕ) (known : Bool) →
     is_before (noted ps links w) (noted ps links v) ≡ true → known ≡ true → PushedFirst t ps links items items v w known
-outer_known t ps links items v w known b e = record {
-  has = λ d h. h;
-  inner = λ h k. let f : false ≡ true = sym (neighbour_after t ps links w v h k) ∙ b in absurd (cc);
-  outer = λ f _ _ _. absurd (cc);
-  only = λ d h. inl h;
-}
+outer_known t ps links items v w known b e = grind (arith, neighbour_after)

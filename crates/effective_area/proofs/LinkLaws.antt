@@ -14,60 +14,25 @@ use Rattle.effective_area.proofs.ChainLaws.{same_or_not}
 
 -- a field that a write leaves
 field_same : (f : Link → ℕ) (xs : List Link) (i v : ℕ) (x : Link) → i < length xs → f x ≡ f (get_or xs i first_link) → f (get_or (set xs i x) v first_link) ≡ f (get_or xs v first_link)
-field_same f xs i v x h e = on (same_or_not v i)
-  where
-    on : (v ≡ i) ⊎ (v ≢ i) → f (get_or (set xs i x) v first_link) ≡ f (get_or xs v first_link)
-    on (inl k) = subst (λ w. f (get_or (set xs i x) w first_link) ≡ f (get_or xs w first_link)) (sym k) (ap f (get_or-set_same xs i x first_link h) ∙ e)
-    on (inr n) = ap f (get_or-set_other xs i v x first_link n)
+field_same f xs i v x h e = grind (arith, same_or_not, get_or-set_same, get_or-set_other)
 
 abbrev link : ℕ → ℕ → ℕ → Link
 link b a n = record { before = b; after = a; area = n }
 
 pub sets_after : (xs : List Link) (i to : ℕ) → i < length xs → SetsAfter xs (set xs i (link (get_or xs i first_link).before to (get_or xs i first_link).area)) i to
 unfolding after_in before_in area_in
-sets_after xs i to h =
-    let x : Link = link (get_or xs i first_link).before to (get_or xs i first_link).area in
-    record {
-      same = length-set xs i _;
-      here = ap (λ y. y.after) (get_or-set_same xs i x first_link h);
-      others = λ v n. ap (λ y. y.after) (get_or-set_other xs i v x first_link n);
-      befores = λ v. field_same (λ y. y.before) xs i v x h refl;
-      areas = λ v. field_same (λ y. y.area) xs i v x h refl;
-    }
+sets_after xs i to h = grind (arith, length-set, get_or-set_same, get_or-set_other, field_same)
 
 pub sets_before : (xs : List Link) (i to : ℕ) → i < length xs → SetsBefore xs (set xs i (link to (get_or xs i first_link).after (get_or xs i first_link).area)) i to
 unfolding after_in before_in area_in
-sets_before xs i to h =
-    let x : Link = link to (get_or xs i first_link).after (get_or xs i first_link).area in
-    record {
-      same = length-set xs i _;
-      here = ap (λ y. y.before) (get_or-set_same xs i x first_link h);
-      others = λ v n. ap (λ y. y.before) (get_or-set_other xs i v x first_link n);
-      afters = λ v. field_same (λ y. y.after) xs i v x h refl;
-      areas = λ v. field_same (λ y. y.area) xs i v x h refl;
-    }
+sets_before xs i to h = grind (arith, length-set, get_or-set_same, get_or-set_other, field_same)
 
 pub sets_area : (xs : List Link) (i n : ℕ) → i < length xs → SetsArea xs (set xs i (link (get_or xs i first_link).before (get_or xs i first_link).after n)) i n
 unfolding after_in before_in area_in
-sets_area xs i n h =
-    let x : Link = link (get_or xs i first_link).before (get_or xs i first_link).after n in
-    record {
-      same = length-set xs i _;
-      here = ap (λ y. y.area) (get_or-set_same xs i x first_link h);
-      others = λ v k. ap (λ y. y.area) (get_or-set_other xs i v x first_link k);
-      befores = λ v. field_same (λ y. y.before) xs i v x h refl;
-      afters = λ v. field_same (λ y. y.after) xs i v x h refl;
-    }
+sets_area xs i n h = grind (arith, length-set, get_or-set_same, get_or-set_other, field_same)
 
 pub unlinks : (x y z w : List Link) (b i a : ℕ) → b < i → i < a → SetsAfter x y b a → SetsBefore y z a b → SetsBefore z w i i → Unlinks x w b i a
-unlinks x y z w b i a l m p q r = record {
-  same = r.same ∙ q.same ∙ p.same;
-  bridge = r.afters b ∙ q.afters b ∙ p.here;
-  others = λ v n. r.afters v ∙ q.afters v ∙ p.others v n;
-  bridge_back = r.others a (λ e. absurd (omega arith)) ∙ q.here;
-  out = r.here;
-  others_back = λ v n k. r.others v k ∙ q.others v n ∙ p.befores v;
-}
+unlinks x y z w b i a l m p q r = grind arith
 
 read : (ps : List Point) (k : ℕ) (p : Point) → k < length ps → p ≡ get_or ps k p → p ≡ get_or ps k origin
 read ps k p h e = e ∙ get_or_default ps k p origin h
@@ -81,12 +46,7 @@ entry_of n p b i a = record { corner = record { area = n; point = p; index = i }
 pub entry_is : (ps : List Point) (b i a : ℕ) (x y z : Point) (n : ℕ) → b < length ps → i < length ps → a < length ps →
     x ≡ get_or ps b x → y ≡ get_or ps i y → z ≡ get_or ps a z → n ≡ twice_area x y z → entry_of n y b i a ≡ entry_at ps b i a
 unfolding entry_at
-entry_is ps b i a x y z n hb hi ha ex ey ez en =
-    let dx = read ps b x hb ex in
-    let dy = read ps i y hi ey in
-    let dz = read ps a z ha ez in
-    ap (λ m. entry_of m y b i a) (en ∙ ap (λ u. twice_area u y z) dx ∙ ap (λ u. twice_area (get_or ps b origin) u z) dy ∙ ap (twice_area (get_or ps b origin) (get_or ps i origin)) dz)
-    ∙ ap (λ u. entry_of (twice_area (get_or ps b origin) (get_or ps i origin) (get_or ps a origin)) u b i a) dy
+entry_is ps b i a x y z n hb hi ha ex ey ez en = grind (arith, read)
 
 pub entry_noted : (ps : List Point) (b i a : ℕ) (y : Point) (n : ℕ) → i < length ps → y ≡ get_or ps i y → n ≡ (entry_at ps b i a).corner.area → entry_of n y b i a ≡ entry_at ps b i a
 unfolding entry_at
@@ -105,14 +65,7 @@ pub same_entry : (ps : List Point) (old new : List Link) (v : ℕ) → before_in
 same_entry ps old new v e f = ap (λ x. entry_at ps x v (after_in new v)) e ∙ ap (λ x. entry_at ps (before_in old v) v x) f
 
 pub notes : (ps : List Point) (old new : List Link) (i n : ℕ) → 0 < i → i + 1 < length old → SetsArea old new i n → n ≡ (entry_in ps old i).corner.area → NotesArea ps old new i
-notes ps old new i n p q s e = record {
-  same = s.same;
-  here = λ _ _. s.here ∙ e ∙ ap (λ (d : Entry). d.corner.area) (sym (same_entry ps old new i (s.befores i) (s.afters i)));
-  ends = λ k. absurd (elim k [ inl x ↦ omega (arith, x, p) | inr x ↦ omega (arith, x, q) ]);
-  others = s.others;
-  befores = s.befores;
-  afters = s.afters;
-}
+notes ps old new i n p q s e = grind (arith, same_entry)
 
 pub notes_end : (ps : List Point) (links : List Link) (i : ℕ) → (0 < i → i + 1 < length links → ⊥) → NotesArea ps links links i
 notes_end ps links i h = record { same = refl; here = λ p q. absurd (h p q); ends = λ _. refl; others = λ _ _. refl; befores = λ _. refl; afters = λ _. refl }
@@ -127,21 +80,10 @@ pub noted_start : (ps : List Point) (links : List Link) → IsFirst links (lengt
 noted_start ps links f = record { first = f; done = λ v p q. absurd (omega (arith, p, q)); rest = λ _ _. refl }
 
 pub noted_more : (ps : List Point) (old mid new : List Link) (i : ℕ) → 0 < i → i + 1 < length ps → NotedTo ps old mid i → NotesArea ps mid new i → NotedTo ps old new (i + 1)
-noted_more ps old mid new i p q h n = record {
-  first = record { size = n.same ∙ h.first.size; befores = λ v l. n.befores v ∙ h.first.befores v l; afters = λ v l. n.afters v ∙ h.first.afters v l };
-  done = λ v a b. on v a b (same_or_not v i);
-  rest = λ v k. n.others v (λ e. elim k [ inl x ↦ omega (arith, x, e, p) | inr x ↦ omega (arith, x, e) ]) ∙ h.rest v (elim k [ inl x ↦ inl x | inr x ↦ inr (omega (arith, x)) ]);
-}
-  where
-    on : (v : ℕ) → 0 < v → v < i + 1 → (v ≡ i) ⊎ (v ≢ i) → area_in new v ≡ (entry_in ps new v).corner.area
-    on v a b (inl e) = subst (λ w. area_in new w ≡ (entry_in ps new w).corner.area) (sym e) (n.here p (omega (arith, q, h.first.size)))
-    on v a b (inr k) = n.others v k ∙ h.done v a (omega (arith, b, k)) ∙ ap (λ (d : Entry). d.corner.area) (sym (same_entry ps mid new v (n.befores v) (n.afters v)))
+noted_more ps old mid new i p q h n = grind (arith, same_or_not, same_entry)
 
 pub noted_all : (ps : List Point) (old new : List Link) (i t : ℕ) → NotedTo ps old new i → i ≡ length ps - 1 → 2 ≤ length ps → ((v : ℕ) → v < length ps → area_in old v ≡ t) → AreNoted t ps new
-noted_all ps old new i t h e two f = record {
-  between = λ v p q _. h.done v p (omega (arith, q, e, h.first.size));
-  ends = λ v k. h.rest v (elim k [ inl x ↦ inl x | inr x ↦ inr (omega (arith, x, e, h.first.size)) ]) ∙ f v (elim k [ inl x ↦ omega (arith, x, two) | inr x ↦ omega (arith, x, h.first.size) ]);
-}
+noted_all ps old new i t h e two f = grind arith
 
 at_each : (g : Link → ℕ) (k : ℕ → ℕ) (xs : List Link) (i : ℕ) (x : Link) → length xs ≡ i → (v : ℕ) → v < i + 1 → g x ≡ k i → ((w : ℕ) → w < i → g (get_or xs w first_link) ≡ k w) → g (get_or (xs ++ (x ∷ [])) v first_link) ≡ k v
 at_each g k xs i x z v h here old = on (same_or_not v i)
@@ -184,19 +126,7 @@ walk_end links i kept (x ∷ xs) vs w h = absurd (omega (arith, w.chain.2, w.end
 pub walk_more : (links : List Link) (i : ℕ) (kept rest vs : List ℕ) → Walk links i kept rest vs → i + 1 < length links →
     (i < after_in links i) × ((rest' : List ℕ) × Walk links (after_in links i) (kept ++ (after_in links i ∷ [])) rest' vs)
 walk_more links i kept [] vs w h = absurd (omega (arith, w.ends))
-walk_more links i kept (x ∷ xs) vs w h =
-    let e : after_in links i ≡ x = w.chain.0 in (
-      omega (arith, w.chain.2, e),
-      (
-        xs,
-        record {
-          linked = w.linked;
-          so_far = append_assoc kept (after_in links i ∷ []) xs ∙ ap (λ y. kept ++ (y ∷ xs)) e ∙ w.so_far;
-          chain = subst (λ y. Chain (after_in links) (before_in links) y xs) (sym e) w.chain.3;
-          ends = ap (λ y. last_of y xs + 1) e ∙ w.ends;
-        },
-      ),
-    )
+walk_more links i kept (x ∷ xs) vs w h = grind (arith, append_assoc)
 
 pub walk_start : (links : List Link) (kept vs : List ℕ) → IsLinked links vs → kept ≡ 0 ∷ [] → Walk links 0 kept vs vs
 walk_start links kept vs h e = record { linked = h; so_far = ap (λ l. l ++ vs) e; chain = h.chain; ends = h.last }

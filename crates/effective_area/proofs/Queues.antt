@@ -111,9 +111,7 @@ pub off_sorted : (xs xs' ys : List (Reverse Entry)) (e : Reverse Entry) → xs �
 off_sorted xs xs' ys e p = subst (λ l. IsPermutation l (e ∷ (xs' ++ ys))) (sym (ap (λ l. l ++ ys) p ∙ append_assoc xs' (e ∷ []) ys)) (IsPermutation-middle xs' e ys)
 
 pub first_of_sorted : (xs xs' ys : List (Reverse Entry)) (e : Reverse Entry) → IsSorted rentry_cmp xs → xs ≡ xs' ++ (e ∷ []) → GoesFirst xs ys → IsUpperBound rentry_cmp e (xs ++ ys)
-first_of_sorted xs xs' ys e s p g =
-    let u : IsUpperBound rentry_cmp e xs = subst (λ l. IsUpperBound rentry_cmp e l) (sym p) (last_of_sorted xs' e (subst (λ l. IsSorted rentry_cmp l) p s)) in
-    all_append (λ y. under e y ≡ false) xs ys u (g.0 e u)
+first_of_sorted xs xs' ys e s p g = grind (arith, last_of_sorted, all_append)
 
 -- what `pop` of a `Vec` leaves
 pub popped : (r : Option (Reverse Entry)) (xs xs' ys : List (Reverse Entry)) → xs ≡ xs' ++ option_to_list r → IfSome r (λ e. IsPermutation (xs ++ ys) (e ∷ (xs' ++ ys)))

@@ -44,19 +44,7 @@ pub scan_step : (ps : List Point) (is : List ℕ) (j i : ℕ) (best : Option Cor
     n ≡ twice_area (get_or ps (get_or is j 0) origin) p (get_or ps (get_or is i 0) origin) →
     p ≡ get_or ps k origin → k ≡ get_or is (j + 1) 0 →
     Some r ≡ least (corners (vertices ps (take (i + 1) is)))
-scan_step ps is j i best n p k r ei h eb er en ep ek =
-    let h' : j + 1 + 1 < length is = omega arith in
-    let x = vertex_at ps (get_or is j 0) in
-    let y = vertex_at ps (get_or is (j + 1) 0) in
-    let z = vertex_at ps (get_or is (j + 1 + 1) 0) in
-    let ep' : p ≡ get_or ps (get_or is (j + 1) 0) origin = ep ∙ ap (λ m. get_or ps m origin) ek in
-    let en' : n ≡ twice_area x.point y.point z.point = en ∙ ap (λ q. twice_area x.point q (get_or ps (get_or is i 0) origin)) ep' ∙ ap (λ m. twice_area x.point y.point (get_or ps (get_or is m 0) origin)) ei in
-    let ec : corner_of n p k ≡ corner_at x y z = ap (λ a. corner_of a p k) en' ∙ ap (λ q. corner_of (twice_area x.point y.point z.point) q k) ep' ∙ ap (corner_of (twice_area x.point y.point z.point) y.point) ek in
-    let eb' : best ≡ least (corners (vertices ps (take (j + 1 + 1) is))) = eb ∙ ap (λ m. least (corners (vertices ps (take m is)))) ei in
-    er ∙ ap (λ o. lesser o (Some (corner_of n p k))) eb' ∙ ap (λ c. lesser (least (corners (vertices ps (take (j + 1 + 1) is)))) (Some c)) ec
-    ∙ sym (least_append (corners (vertices ps (take (j + 1 + 1) is))) (corner_at x y z ∷ []))
-    ∙ ap least (sym (corners_more ps is j h'))
-    ∙ ap (λ m. least (corners (vertices ps (take (m + 1) is)))) (sym ei)
+scan_step ps is j i best n p k r ei h eb er en ep ek = grind (arith, least_append, corners_more)
 
 lt_test : (m n : ℕ) → m < n → ltb m n ≡ true
 lt_test m n h = grind (arith, nat_tests)
@@ -79,11 +67,7 @@ step_over (suc n) t vs c e h = ap (go_on n t vs) (ap (without_under t vs) (sym e
 
 pub without_vertices : (ps : List Point) (i : ℕ) (is : List ℕ) → without i (vertices ps is) ≡ vertices ps (filter (λ j. not (eqb j i)) is)
 without_vertices ps i [] = refl
-without_vertices ps i (j ∷ is) = ap (λ l. cond (not (eqb j i)) (vertex_at ps j ∷ l) l) (without_vertices ps i is) ∙ by_test (not (eqb j i))
-  where
-    by_test : (b : Bool) → cond b (vertex_at ps j ∷ vertices ps (filter (λ j. not (eqb j i)) is)) (vertices ps (filter (λ j. not (eqb j i)) is)) ≡ vertices ps (cond b (j ∷ filter (λ j. not (eqb j i)) is) (filter (λ j. not (eqb j i)) is))
-    by_test true = refl
-    by_test false = refl
+without_vertices ps i (j ∷ is) = grind (arith, without_vertices ps i is)
 
 all_from : (qs : List Point) (i : ℕ) (ps : List Point) → ((k : ℕ) → k < length ps → get_or qs (i + k) origin ≡ get_or ps k origin) → vertices qs (range_with_len i (length ps)) ≡ numbered i ps
 all_from qs i [] h = refl
@@ -110,8 +94,7 @@ settled t ps is e = sym (indexes_of ps is) ∙ ap (map (λ v. v.index)) e
 
 range_more : (a n : ℕ) → range_with_len a (n + 1) ≡ range_with_len a n ++ ((a + n) ∷ [])
 range_more a zero = let z : a ≡ a + 0 = omega arith in ap (λ k. k ∷ []) z
-range_more a (suc n) = let z : suc n + 1 ≡ suc (n + 1) = omega arith in let y : a + 1 + n ≡ a + suc n = omega arith in
-    ap (range_with_len a) z ∙ ap (λ l. a ∷ l) (range_more (a + 1) n ∙ ap (λ k. range_with_len (a + 1) n ++ (k ∷ [])) y)
+range_more a (suc n) = grind (arith, range_more (a + 1) n)
 
 pub indexes_more : (i : ℕ) (is js : List ℕ) → is ≡ range_with_len 0 i → js ≡ is ++ (i ∷ []) → js ≡ range_with_len 0 (i + 1)
 indexes_more i is js e f = let z : i ≡ 0 + i = omega arith in f ∙ ap (λ l. l ++ (i ∷ [])) e ∙ ap (λ k. range_with_len 0 i ++ (k ∷ [])) z ∙ sym (range_more 0 i)
@@ -121,9 +104,7 @@ all_inside n = λ k d h. let l : k < n = omega (arith, length-range_with_len 0 n
 
 -- the loop of a scan: at its start, in a turn, and at its ends
 pub start_rest : (t : ℕ) (ps : List Point) (is : List ℕ) → is ≡ range_with_len 0 (length ps) → eliminate (length ps - 0) t (vertices ps is) ≡ eliminate (length ps) t (numbered 0 ps)
-start_rest t ps is e =
-    let z : length ps - 0 ≡ length ps = omega arith in
-    ap (λ n. eliminate n t (vertices ps is)) z ∙ ap (λ js. eliminate (length ps) t (vertices ps js)) e ∙ ap (eliminate (length ps) t) (all_vertices ps)
+start_rest t ps is e = grind (arith, all_vertices)
 
 pub turn_rest : (t turn : ℕ) (ps : List Point) (is ks js : List ℕ) (c : Corner) → turn < length ps → ks ≡ is →
     Some c ≡ least (corners (vertices ps ks)) → c.area < t → js ≡ filter (λ j. not (eqb j c.index)) is →

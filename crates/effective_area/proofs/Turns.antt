@@ -30,31 +30,16 @@ use Rattle.effective_area.proofs.ChainLaws.{same_or_not, keep_step, drop_step, k
 -- membership is decided
 pub in_or_not : (i : ℕ) (vs : List ℕ) → In i vs ⊎ (In i vs → ⊥)
 in_or_not i [] = inr (λ k. k)
-in_or_not i (v ∷ vs) = on (same_or_not i v) (in_or_not i vs)
-  where
-    on : (i ≡ v) ⊎ (i ≢ v) → In i vs ⊎ (In i vs → ⊥) → In i (v ∷ vs) ⊎ (In i (v ∷ vs) → ⊥)
-    on (inl e) k = inl (inl e)
-    on (inr n) (inl k) = inl (inr k)
-    on (inr n) (inr m) = inr (λ h. elim h [ inl e ↦ n e | inr k ↦ m k ])
+in_or_not i (v ∷ vs) = grind (arith, same_or_not, in_or_not i vs)
 
 pub in_filter : (i j : ℕ) (vs : List ℕ) → In j vs → j ≢ i → In j (filter (λ v. not (eqb v i)) vs)
 in_filter i j [] k n = k
-in_filter i j (v ∷ vs) k n = on k (same_or_not v i) (λ m. in_filter i j vs m n)
-  where
-    on : In j (v ∷ vs) → (v ≡ i) ⊎ (v ≢ i) → (In j vs → In j (filter (λ v. not (eqb v i)) vs)) → In j (filter (λ v. not (eqb v i)) (v ∷ vs))
-    on (inl e) (inl p) ih = absurd (n (e ∙ p))
-    on (inl e) (inr m) ih = subst (λ l. In j l) (sym (keep_step i v vs m)) (inl e)
-    on (inr k) (inl p) ih = subst (λ l. In j l) (sym (drop_step i v vs p)) (ih k)
-    on (inr k) (inr m) ih = subst (λ l. In j l) (sym (keep_step i v vs m)) (inr (ih k))
+in_filter i j (v ∷ vs) k n = grind (arith, same_or_not, keep_step, drop_step, in_filter i j vs)
 
 pub last_filter : (i u : ℕ) (vs : List ℕ) → last_of u vs ≢ i → last_of u (filter (λ v. not (eqb v i)) vs) ≡ last_of u vs
 last_filter i u [] n = refl
 last_filter i u (v ∷ []) n = ap (last_of u) (keep_step i v [] n)
-last_filter i u (v ∷ (w ∷ ws)) n = on (same_or_not v i) (last_filter i u (w ∷ ws) n) (last_filter i v (w ∷ ws) n)
-  where
-    on : (v ≡ i) ⊎ (v ≢ i) → last_of u (filter (λ v. not (eqb v i)) (w ∷ ws)) ≡ last_of w ws → last_of v (filter (λ v. not (eqb v i)) (w ∷ ws)) ≡ last_of w ws → last_of u (filter (λ v. not (eqb v i)) (v ∷ (w ∷ ws))) ≡ last_of w ws
-    on (inl e) p q = ap (last_of u) (drop_step i v (w ∷ ws) e) ∙ p
-    on (inr m) p q = ap (last_of u) (keep_step i v (w ∷ ws) m) ∙ q
+last_filter i u (v ∷ (w ∷ ws)) n = grind (arith, same_or_not, drop_step, keep_step, last_filter i u (w ∷ ws) n, last_filter i v (w ∷ ws) n)
 
 module _ (after before : ℕ → ℕ) where
   -- what follows one that isn't the last
@@ -75,15 +60,7 @@ module _ (after before : ℕ → ℕ) where
   -- one that is linked is taken out once
   pub one_less : (u i : ℕ) (vs : List ℕ) → Chain after before u vs → In i vs → suc (length (filter (λ v. not (eqb v i)) vs)) ≡ length vs
   one_less u i [] h k = elim k [ ]
-  one_less u i (v ∷ vs) h k = on (same_or_not v i) (λ m. one_less v i vs h.3 m)
-    where
-      there : In i (v ∷ vs) → v ≢ i → In i vs
-      there (inl e) n = absurd (n (sym e))
-      there (inr k) n = k
-
-      on : (v ≡ i) ⊎ (v ≢ i) → (In i vs → suc (length (filter (λ v. not (eqb v i)) vs)) ≡ length vs) → suc (length (filter (λ v. not (eqb v i)) (v ∷ vs))) ≡ length (v ∷ vs)
-      on (inl e) ih = ap (λ l. suc (length l)) (drop_step i v vs e ∙ kept_above after before i vs (subst (λ x. AllByRecursion (λ w. x < w) vs) e (above_from after before v v vs (omega arith) h.3)))
-      on (inr n) ih = ap (λ l. suc (length l)) (keep_step i v vs n) ∙ ap suc (ih (there k n))
+  one_less u i (v ∷ vs) h k = grind (arith, same_or_not, drop_step, kept_above, above_from, keep_step, one_less v i vs h.3)
 
   -- what goes before one that is linked
   pub prev_in : (u : ℕ) (vs : List ℕ) (i : ℕ) → Chain after before u vs → In i vs → (before i ≡ u) ⊎ In (before i) vs
@@ -164,11 +141,7 @@ all_in P (x ∷ xs) c h (inr k) = all_in P xs c h.1 k
 
 no_least : (cs : List Corner) → least cs ≡ None → cs ≡ []
 no_least [] e = refl
-no_least (x ∷ xs) e = on (least xs) e
-  where
-    on : (o : Option Corner) → lesser (Some x) o ≡ None → x ∷ xs ≡ []
-    on None h = absurd (cc)
-    on (Some d) h = absurd (cc)
+no_least (x ∷ xs) e = grind arith
 
 not_self : (c : Corner) → is_before c c ≡ false
 not_self c = on (is_before c c) refl
@@ -191,11 +164,7 @@ least_first (c ∷ cs) = on (least cs) (least_first cs) (no_least cs)
 
 -- what holds of the least of all, and so of all that it goes before
 least_decides : (P Q : Corner → Type 0) (cs : List Corner) → AllByRecursion (λ d. NoneBefore d cs → P d) cs → ((d x : Corner) → P d → is_before x d ≡ false → Q x) → AllByRecursion Q cs
-least_decides P Q cs h f = on (least cs) (no_least cs) (least_first cs) (least_holds (λ d. NoneBefore d cs → P d) cs h)
-  where
-    on : (o : Option Corner) → (o ≡ None → cs ≡ []) → Holds (λ d. NoneBefore d cs) o → Holds (λ d. NoneBefore d cs → P d) o → AllByRecursion Q cs
-    on None e k l = subst (λ x. AllByRecursion Q x) (sym (e refl)) tt
-    on (Some d) e k l = all_weaker (λ x. is_before x d ≡ false) Q (λ x n. f d x (l k) n) cs k
+least_decides P Q cs h f = grind (arith, no_least, least_first, least_holds, all_weaker)
 
 pub current_at : (ps : List Point) (links : List Link) (v : ℕ) → v < length links → IsCurrent links (entry_at ps (before_in links v) v (after_in links v))
 unfolding entry_at
@@ -220,12 +189,7 @@ module _ (t : ℕ) (ps : List Point) (links : List Link) (vs : List ℕ) (linked
   -- what is noted is the corner
   noted_is : (v : ℕ) → 0 < v → In v vs → v < last_of 0 vs → noted ps links v ≡ corner_of v
   unfolding noted
-  noted_is v p k l =
-      let n = named (after_in links) (before_in links) 0 vs v linked.chain k in
-      ap (λ m. one m) (notes.between v p (omega (arith, l, linked.last)) (λ q. absurd (omega (arith, q, n.1))) ∙ ap (λ (c : Corner). c.area) (corner_of_entry ps (before_in links v) v (after_in links v)))
-    where
-      one : ℕ → Corner
-      one m = record { area = m; point = (vertex_at ps v).point; index = v }
+  noted_is v p k l = grind (arith, named, corner_of_entry)
 
   -- an end never goes before a corner under the threshold
   end_later : (u v : ℕ) → (u ≡ 0) ⊎ (u + 1 ≡ length links) → (noted ps links v).area < t → is_before (noted ps links u) (noted ps links v) ≡ false
@@ -234,21 +198,7 @@ module _ (t : ℕ) (ps : List Point) (links : List Link) (vs : List ℕ) (linked
 
   neighbour_later : (u v : ℕ) → 0 < v → In v vs → v < last_of 0 vs → (corner_of v).area < t → NoneBefore (corner_of v) (corners (vertices ps (0 ∷ vs))) → (u ≡ 0) ⊎ In u vs →
       is_before (noted ps links u) (noted ps links v) ≡ false
-  neighbour_later u v p k l h none m = on m
-    where
-      under : (noted ps links v).area < t
-      under = subst (λ (c : Corner). c.area < t) (sym (noted_is v p k l)) h
-
-      inside : In u vs → (u < last_of 0 vs) ⊎ (last_of 0 vs ≤ u) → is_before (noted ps links u) (noted ps links v) ≡ false
-      inside w (inl b) =
-          let n = named (after_in links) (before_in links) 0 vs u linked.chain w in
-          let f : is_before (corner_of u) (corner_of v) ≡ false = all_in (λ x. is_before x (corner_of v) ≡ false) (corners (vertices ps (0 ∷ vs))) (corner_of u) none (in_present (after_in links) (before_in links) ps vs u linked.chain w b) in
-          ap (λ c. is_before c (noted ps links v)) (noted_is u (omega (arith, n.1)) w b) ∙ ap (is_before (corner_of u)) (noted_is v p k l) ∙ f
-      inside w (inr b) = let a = in_last (after_in links) (before_in links) 0 vs u linked.chain w in end_later u v (inr (omega (arith, a, b, linked.last))) under
-
-      on : (u ≡ 0) ⊎ In u vs → is_before (noted ps links u) (noted ps links v) ≡ false
-      on (inl e) = end_later u v (inl e) under
-      on (inr w) = inside w (cases_lt u (last_of 0 vs))
+  neighbour_later u v p k l h none m = grind (arith, noted_is, named, all_in, in_present, in_last, end_later)
 
   -- the first corner of all waits, if it is under the threshold
   first_waits : (v : ℕ) → 0 < v → In v vs → v < last_of 0 vs → (corner_of v).area < t → NoneBefore (corner_of v) (corners (vertices ps (0 ∷ vs))) → Waits t ps links v
@@ -275,17 +225,10 @@ module _ (t : ℕ) (ps : List Point) (links : List Link) (vs : List ℕ) (linked
 -- the neighbours of what is present are present
 pub ahead_in : (links : List Link) (vs : List ℕ) (b f : ℕ) → IsLinked links vs → (b ≡ 0) ⊎ In b vs → (b ≡ 0 → f ≡ b) → (0 < b → f ≡ before_in links b) → (f ≡ 0) ⊎ In f vs
 ahead_in links vs b f h (inl e) z n = inl (z e ∙ e)
-ahead_in links vs b f h (inr k) z n =
-    let m = named (after_in links) (before_in links) 0 vs b h.chain k in
-    let e : f ≡ before_in links b = n (omega (arith, m.1)) in
-    elim (prev_in (after_in links) (before_in links) 0 vs b h.chain k) [ inl x ↦ inl (e ∙ x) | inr x ↦ inr (subst (λ y. In y vs) (sym e) x) ]
+ahead_in links vs b f h (inr k) z n = grind (arith, named, prev_in)
 
 pub behind_in : (links : List Link) (vs : List ℕ) (a l : ℕ) → IsLinked links vs → In a vs → (a + 1 ≡ length links → l ≡ a) → (a + 1 < length links → l ≡ after_in links a) → In l vs
-behind_in links vs a l h k z n = on (cases_lt (a + 1) (length links))
-  where
-    on : (a + 1 < length links) ⊎ (length links ≤ a + 1) → In l vs
-    on (inl q) = subst (λ y. In y vs) (sym (n q)) (next_in (after_in links) (before_in links) 0 vs a h.chain k (omega (arith, q, h.last))).0
-    on (inr q) = let m = in_last (after_in links) (before_in links) 0 vs a h.chain k in subst (λ y. In y vs) (sym (z (omega (arith, q, m, h.last)))) k
+behind_in links vs a l h k z n = grind (arith, next_in, in_last)
 
 -- two areas are noted anew
 pub record Renews (ps : List Point) (old new : List Link) (b a : ℕ) : Type 0 where
@@ -294,35 +237,10 @@ pub record Renews (ps : List Point) (old new : List Link) (b a : ℕ) : Type 0 w
   pub others : (v : ℕ) → v ≢ b → v ≢ a → area_in new v ≡ area_in old v
 
 pub renews : (ps : List Point) (links one two new : List Link) (b a : ℕ) → b < a → ((v : ℕ) → area_in one v ≡ area_in links v) → NotesArea ps one two b → NotesArea ps two new a → Renews ps links new b a
-renews ps links one two new b a lt same nb na = record {
-  at = newly;
-  ends = λ v k. first v k (same_or_not v a) ∙ second v k (same_or_not v b) ∙ same v;
-  others = λ v n m. na.others v m ∙ nb.others v n ∙ same v;
-}
-  where
-    newly : (v : ℕ) → (v ≡ b) ⊎ (v ≡ a) → 0 < v → v + 1 < length new → area_in new v ≡ (entry_in ps new v).corner.area
-    newly v (inl e) p q = na.others v (λ x. absurd (omega (arith, x, e, lt)))
-        ∙ subst (λ w. area_in two w ≡ (entry_in ps two w).corner.area) (sym e) (nb.here (omega (arith, e, p)) (omega (arith, e, q, na.same, nb.same)))
-        ∙ ap (λ (d : Entry). d.corner.area) (sym (same_entry ps two new v (na.befores v) (na.afters v)))
-    newly v (inr e) p q = subst (λ w. area_in new w ≡ (entry_in ps new w).corner.area) (sym e) (na.here (omega (arith, e, p)) (omega (arith, e, q, na.same)))
-
-    first : (v : ℕ) → (v ≡ 0) ⊎ (v + 1 ≡ length new) → (v ≡ a) ⊎ (v ≢ a) → area_in new v ≡ area_in two v
-    first v k (inl e) = subst (λ w. area_in new w ≡ area_in two w) (sym e) (na.ends (elim k [ inl x ↦ inl (sym e ∙ x) | inr x ↦ inr (omega (arith, x, e, na.same)) ]))
-    first v k (inr n) = na.others v n
-
-    second : (v : ℕ) → (v ≡ 0) ⊎ (v + 1 ≡ length new) → (v ≡ b) ⊎ (v ≢ b) → area_in two v ≡ area_in one v
-    second v k (inl e) = subst (λ w. area_in two w ≡ area_in one w) (sym e) (nb.ends (elim k [ inl x ↦ inl (sym e ∙ x) | inr x ↦ inr (omega (arith, x, e, na.same, nb.same)) ]))
-    second v k (inr n) = nb.others v n
+renews ps links one two new b a lt same nb na = grind (arith, same_or_not, same_entry)
 
 pub unlinks_on : (ps : List Point) (old mid new : List Link) (b i a v : ℕ) → Unlinks old mid b i a → NotesArea ps mid new v → Unlinks old new b i a
-unlinks_on ps old mid new b i a v u n = record {
-  same = n.same ∙ u.same;
-  bridge = n.afters b ∙ u.bridge;
-  others = λ w k. n.afters w ∙ u.others w k;
-  bridge_back = n.befores a ∙ u.bridge_back;
-  out = n.befores i ∙ u.out;
-  others_back = λ w k m. n.befores w ∙ u.others_back w k m;
-}
+unlinks_on ps old mid new b i a v u n = grind arith
 
 module _ (t : ℕ) (ps : List Point) (links links' : List Link) (items mid items' : List (Reverse Entry)) (left : ℕ) (vs : List ℕ) (e : Entry)
     (s : IsState t ps links items left vs)
@@ -332,19 +250,13 @@ module _ (t : ℕ) (ps : List Point) (links links' : List Link) (items mid items
   so = s.sound e (l.member e refl)
 
   pub in_vs : In e.corner.index vs
-  in_vs = on (in_or_not e.corner.index vs)
-    where
-      on : In e.corner.index vs ⊎ (In e.corner.index vs → ⊥) → In e.corner.index vs
-      on (inl k) = k
-      on (inr n) = let g = s.linked.gone e.corner.index (omega (arith, so.before)) cur.within n in absurd (omega (arith, g, cur.before, so.before))
+  in_vs = grind (arith, in_or_not)
 
   inside : e.corner.index < last_of 0 vs
   inside = omega (arith, s.linked.last, s.size, so.after, so.within)
 
   at_entry : seen e.corner ≡ corner_of t ps links vs s.linked s.noted e.corner.index
-  at_entry = ap (λ (d : Entry). seen d.corner) so.is ∙ corner_of_entry ps e.before e.corner.index e.after
-      ∙ ap (λ x. corner_at (vertex_at ps x) (vertex_at ps e.corner.index) (vertex_at ps e.after)) (sym cur.before)
-      ∙ ap (λ x. corner_at (vertex_at ps (before_in links e.corner.index)) (vertex_at ps e.corner.index) (vertex_at ps x)) (sym cur.after)
+  at_entry = grind (arith, corner_of_entry)
 
   -- the first corner of all doesn't go before the entry: it waits, or it isn't under the threshold
   not_before : (v : ℕ) → 0 < v → In v vs → v < last_of 0 vs → NoneBefore (corner_of t ps links vs s.linked s.noted v) (corners (vertices ps (0 ∷ vs))) →
@@ -441,14 +353,7 @@ module _ (t : ℕ) (ps : List Point) (links links' : List Link) (items mid items
 
     -- the ones beside its neighbours
     pub beside_before : (v : ℕ) → Waits t ps links' v → before_in links' v ≢ v → after_in links' v ≡ e.before → (v < e.before) × (v ≡ before_in links e.before)
-    beside_before v w n h =
-        let k = there v w.later (omega (arith, w.inside)) n in
-        let l : v < last_of 0 rest_of = omega (arith, last', s.linked.last, un.same, w.inside) in
-        let m = next_in (after_in links') (before_in links') 0 rest_of v chain' k l in (
-          omega (arith, m.1, h),
-          sym (next_prev (after_in links') (before_in links') 0 rest_of v chain' k l) ∙ ap (before_in links') h
-              ∙ un.others_back e.before (λ x. absurd (omega (arith, x, so.before, so.after))) (λ x. absurd (omega (arith, x, so.before))),
-        )
+    beside_before v w n h = grind (arith, there, last', next_in, chain', next_prev)
 
     pub beside_after : (v : ℕ) → Waits t ps links' v → before_in links' v ≢ v → before_in links' v ≡ e.after → (e.after < v) × (v ≡ after_in links e.after)
     beside_after v w n h =
@@ -460,17 +365,7 @@ module _ (t : ℕ) (ps : List Point) (links links' : List Link) (items mid items
 
     module _ (re : Renews ps links links' e.before e.after) where
       pub notes_on : AreNoted t ps links'
-      notes_on = record {
-        between = λ v p q n. on v p q n (same_or_not v e.before) (same_or_not v e.after);
-        ends = λ v k. re.ends v k ∙ s.noted.ends v (elim k [ inl x ↦ inl x | inr x ↦ inr (x ∙ un.same) ]);
-      }
-        where
-          on : (v : ℕ) → 0 < v → v + 1 < length links' → before_in links' v ≢ v → (v ≡ e.before) ⊎ (v ≢ e.before) → (v ≡ e.after) ⊎ (v ≢ e.after) → area_in links' v ≡ (entry_in ps links' v).corner.area
-          on v p q n (inl k) m = re.at v (inl k) p q
-          on v p q n (inr k) (inl m) = re.at v (inr m) p q
-          on v p q n (inr k) (inr m) =
-              let a = same_at v n k m in
-              re.others v k m ∙ s.noted.between v p (omega (arith, q, un.same)) (λ x. n (a.0 ∙ x)) ∙ ap (λ (d : Entry). d.corner.area) (sym (same_entry ps links links' v a.0 a.1))
+      notes_on = grind (arith, same_or_not, same_at, same_entry)
 
       noted_same : (v : ℕ) → v ≢ e.before → v ≢ e.after → noted ps links' v ≡ noted ps links v
       unfolding noted
@@ -585,24 +480,13 @@ range_last u (suc k) = range_last (u + 1) k ∙ omega arith
 
 pub range_in : (u k j : ℕ) → u < j → j ≤ u + k → In j (range_with_len (u + 1) k)
 range_in u zero j h l = absurd (omega arith)
-range_in u (suc k) j h l = on (same_or_not j (u + 1)) (λ m. range_in (u + 1) k j m (omega arith))
-  where
-    on : (j ≡ u + 1) ⊎ (j ≢ u + 1) → (u + 1 < j → In j (range_with_len (u + 1 + 1) k)) → In j (range_with_len (u + 1) (suc k))
-    on (inl e) ih = inl e
-    on (inr m) ih = inr (ih (omega arith))
+range_in u (suc k) j h l = grind (arith, same_or_not, range_in (u + 1) k j)
 
 pub first_fits : (links : List Link) (n v : ℕ) → IsFirst links n → 0 < v → v + 1 < n → Fits links n v
-first_fits links n v f h k =
-    let b = f.befores v (omega arith) in
-    let a = f.afters v (omega arith) in
-    record { before = omega (arith, b); after = omega (arith, a); within = omega (arith, a) }
+first_fits links n v f h k = grind arith
 
 pub first_ready : (t : ℕ) (ps : List Point) (links : List Link) (v : ℕ) → IsFirst links (length ps) → AreNoted t ps links → v < length ps → IsReady ps links v
-first_ready t ps links v f n h = record {
-  within = omega (arith, h, f.size);
-  fits = λ p q. first_fits links (length ps) v f p (omega (arith, q, f.size));
-  noted = λ p q. let b = f.befores v h in n.between v p q (λ x. absurd (omega (arith, x, b, p)));
-}
+first_ready t ps links v f n h = grind (arith, fits, first_fits)
 
 pub start_state : (t : ℕ) (ps : List Point) (links : List Link) (items : List (Reverse Entry)) → 2 ≤ length ps → IsFirst links (length ps) → AreNoted t ps links →
     HasCorners t ps links items (length ps - 1) → IsState t ps links items (length ps - 2) (range_with_len 1 (length ps - 1))
@@ -638,20 +522,14 @@ chain_unique after before u (x ∷ xs) [] h k e = absurd (omega (arith, h.2, e, 
     most : (w : ℕ) (ws : List ℕ) → Chain after before w ws → w ≤ last_of w ws
     most w [] h = omega arith
     most w (x ∷ xs) h = let k = most x xs h.3 in omega (arith, h.2, k)
-chain_unique after before u (x ∷ xs) (y ∷ ys) h k e =
-    let p : x ≡ y = sym h.0 ∙ k.0 in
-    ap (λ z. z ∷ xs) p ∙ ap (λ l. y ∷ l) (chain_unique after before y xs ys (subst (λ z. Chain after before z xs) p h.3) k.3 (ap (λ z. last_of z xs) (sym p) ∙ e))
+chain_unique after before u (x ∷ xs) (y ∷ ys) h k e = grind (arith, chain_unique after before y xs ys)
 
 pub same_present : (links : List Link) (vs ws : List ℕ) → IsLinked links vs → IsLinked links ws → vs ≡ ws
 same_present links vs ws h k = chain_unique (after_in links) (before_in links) 0 vs ws h.chain k.chain (omega (arith, h.last, k.last))
 
 -- where no corner is under the threshold, none is taken out
 none_taken : (n t : ℕ) (vs : List Vertex) → AllByRecursion (λ c. t ≤ c.area) (corners vs) → eliminate n t vs ≡ vs
-none_taken n t vs h = on (least (corners vs)) refl (least_holds (λ c. t ≤ c.area) (corners vs) h)
-  where
-    on : (o : Option Corner) → o ≡ least (corners vs) → Holds (λ c. t ≤ c.area) o → eliminate n t vs ≡ vs
-    on None e k = step_none n t vs e
-    on (Some c) e k = step_over n t vs c e k
+none_taken n t vs h = grind (arith, least_holds, step_none, step_over)
 
 -- where no current entry is left, no corner is under the threshold
 pub none_under : (t : ℕ) (ps : List Point) (links : List Link) (items mid : List (Reverse Entry)) (left : ℕ) (vs : List ℕ) →
@@ -789,9 +667,7 @@ new_ready t ps links links' items mid left vs e f l s lc cur un re zf ef zl el =
 pub turn_fits : (t : ℕ) (ps : List Point) (links links' : List Link) (items mid : List (Reverse Entry)) (left : ℕ) (vs : List ℕ) (e : Entry) →
     IsState t ps links items left vs → LeavesCurrent links items (Some e) mid → IsCurrent links e →
     Unlinks links links' e.before e.corner.index e.after → (v : ℕ) → (v ≡ e.before) ⊎ (v ≡ e.after) → 0 < v → v + 1 < length links' → Fits links' (length ps) v
-turn_fits t ps links links' items mid left vs e s l cur un v k p q =
-    let f = fits t ps links links' items mid mid left vs e s l cur un v p q k in
-    record { before = f.0; after = f.1; within = f.2 }
+turn_fits t ps links links' items mid left vs e s l cur un v k p q = grind (arith, fits)
 
 pub more_corners : (t : ℕ) (ps : List Point) (links : List Link) (old new : List (Reverse Entry)) (i : ℕ) → HasCorners t ps links old i → Pushed t ps links old new i →
     0 < i → i + 1 < length links → HasCorners t ps links new (i + 1)
@@ -806,10 +682,7 @@ more_corners t ps links old new i h p z w = record { has = λ v b u. on v b u (s
     from d (inr m) = (i, z, omega arith, m.2, m.3)
 
 pub no_corners_yet : (t : ℕ) (ps : List Point) (links : List Link) (items : List (Reverse Entry)) → items ≡ [] → HasCorners t ps links items 1
-no_corners_yet t ps links items e = record {
-  has = λ v b u. absurd (omega (arith, u.later, b));
-  only = λ d k. let m : Contains [] (turned d) = subst (λ (x : List (Reverse Entry)). Contains x (turned d)) e k in absurd (omega (arith, m.1));
-}
+no_corners_yet t ps links items e = grind arith
 
 -- a clause of an answer, from another
 pub ok_also : {X E : Type 0} (P Q : X → Type 0) (r : Result X E) → ((x : X) → P x → Q x) → IfOk r P → IfOk r Q

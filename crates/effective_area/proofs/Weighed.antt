@@ -31,15 +31,11 @@ other_test : (k i : ℕ) → k ≢ i → eqb k i ≡ false
 other_test k i h = grind (arith, nat_tests)
 
 weigh_here : (n level : ℕ) (vs : List Vertex) (c : Corner) → least (corners vs) ≡ Some c → weight_from (suc n) level vs c.index ≡ Some (max level c.area)
-weigh_here n level vs c e =
-    ap (weigh_on n level vs c.index) e
-    ∙ ap (λ b. cond b (Some (max level c.area)) (weight_from n (max level c.area) (without c.index vs) c.index)) (same_test c.index)
+weigh_here n level vs c e = grind (arith, same_test)
 
 weigh_other : (n level : ℕ) (vs : List Vertex) (c : Corner) (i : ℕ) → least (corners vs) ≡ Some c → c.index ≢ i
     → weight_from (suc n) level vs i ≡ weight_from n (max level c.area) (without c.index vs) i
-weigh_other n level vs c i e h =
-    ap (weigh_on n level vs i) e
-    ∙ ap (λ b. cond b (Some (max level c.area)) (weight_from n (max level c.area) (without c.index vs) i)) (other_test c.index i h)
+weigh_other n level vs c i e h = grind (arith, other_test)
 
 weigh_none : (n level : ℕ) (vs : List Vertex) (i : ℕ) → least (corners vs) ≡ None → weight_from n level vs i ≡ None
 weigh_none zero level vs i e = refl
@@ -49,15 +45,7 @@ weigh_none (suc n) level vs i e = ap (weigh_on n level vs i) e
 
 from_filter : (k i : ℕ) (vs : List ℕ) → In i (filter (λ v. not (eqb v k)) vs) → In i vs × (i ≢ k)
 from_filter k i [] h = elim h [ ]
-from_filter k i (v ∷ vs) h = on (same_or_not v k) (λ m. from_filter k i vs m)
-  where
-    found : v ≢ k → (In i (filter (λ v. not (eqb v k)) vs) → In i vs × (i ≢ k)) → In i (v ∷ filter (λ v. not (eqb v k)) vs) → In i (v ∷ vs) × (i ≢ k)
-    found n ih (inl p) = (inl p, λ q. n (sym p ∙ q))
-    found n ih (inr m) = let r = ih m in (inr r.0, r.1)
-
-    on : (v ≡ k) ⊎ (v ≢ k) → (In i (filter (λ v. not (eqb v k)) vs) → In i vs × (i ≢ k)) → In i (v ∷ vs) × (i ≢ k)
-    on (inl e) ih = let r = ih (subst (λ l. In i l) (drop_step k v vs e) h) in (inr r.0, r.1)
-    on (inr n) ih = found n ih (subst (λ l. In i l) (keep_step k v vs n) h)
+from_filter k i (v ∷ vs) h = grind (arith, same_or_not, drop_step, keep_step, from_filter k i vs)
 
 -- ---- the weights so far
 
@@ -167,11 +155,7 @@ area_bound a b c p q r =
     (product_bound (c.x -ℤ a.x) (b.y -ℤ a.y) (apart c.x a.x r.0 p.0) (apart b.y a.y q.1 p.1))
 
 is_position : (ps : List Point) (i : ℕ) → All IsPosition ps → IsPosition (get_or ps i origin)
-is_position ps i all = on (cases_lt i (length ps))
-  where
-    on : (i < length ps) ⊎ (length ps ≤ i) → IsPosition (get_or ps i origin)
-    on (inl h) = all i origin h
-    on (inr h) = subst IsPosition (sym (get_or_past ps i origin h)) (omega (arith, ints), omega (arith, ints))
+is_position ps i all = grind (arith, get_or_past)
 
 -- one more is within the limit
 pub more_within : (ps : List Point) (i : ℕ) (p : Point) → ((k : ℕ) (d : Point) → k < i → k < length ps → IsPosition (get_or ps k d)) → p ≡ get_or ps i p → IsPosition p
@@ -186,6 +170,4 @@ more_within ps i p all is h k d l m = on (same_or_not k i)
 pub none_over : (ps : List Point) (vs : List ℕ) → All IsPosition ps → AllByRecursion (λ c. no_limit ≤ c.area) (corners (vertices ps (0 ∷ vs))) → least (corners (vertices ps (0 ∷ vs))) ≡ None
 none_over ps [] all h = refl
 none_over ps (v ∷ []) all h = refl
-none_over ps (v ∷ (w ∷ ws)) all h =
-    let small = area_bound (get_or ps 0 origin) (get_or ps v origin) (get_or ps w origin) (is_position ps 0 all) (is_position ps v all) (is_position ps w all) in
-    absurd (omega (arith, h.0, small))
+none_over ps (v ∷ (w ∷ ws)) all h = grind (arith, area_bound, is_position)

@@ -8,11 +8,7 @@ pub put_corner-requires-clause-ready : goal.put_corner-requires-clause-ready
 put_corner-requires-clause-ready c = first_ready c.args.t c.args.arc.now c.args.links.now c.loop-i.i c.requires.first c.requires.noted (omega (arith, c.loop-i-test.true))
 
 pub loop-i-preserved : goal.loop-i-preserved
-loop-i-preserved c = record {
-  counted = by_then 0 (c.loop-i.i - 1) 0 1 _ _ _ _ _ c.loop-i.invariant.counted c.put_corner.ensures.counted (omega arith) (omega (arith, c.loop-i.auto.i));
-  has = more_corners c.args.t c.args.arc.now c.args.links.now c.loop-i.entries.items c.put_corner.new.entries.items c.loop-i.i c.loop-i.invariant.has c.in_ok-put_corner.ensures.pushed
-      (omega (arith, c.loop-i.auto.i)) (omega (arith, c.loop-i-test.true, c.requires.first.size));
-}
+loop-i-preserved c = grind (arith, by_then, more_corners)
 
 pub returns-clause-has : goal.returns-clause-has
 returns-clause-has c =

@@ -8,23 +8,14 @@ overflow_sub-links c = let w = c.loop-i.invariant in let l = walk_below c.args.l
 
 pub loop-i-smaller : goal.loop-i-smaller
 unfolding after_in
-loop-i-smaller c =
-    let w = c.loop-i.invariant in
-    let m = walk_more c.args.links.now c.loop-i.i c.loop-i.kept.items w.0 w.1 w.2 (omega (arith, c.loop-i-test.true)) in
-    omega (arith, m.0, c.loop-i-test.true)
+loop-i-smaller c = grind (arith, walk_more)
 
 pub loop-i-init : goal.loop-i-init
 loop-i-init c = (c.requires.0, c.requires.0, walk_start c.args.links.now c.push.new.self.items c.requires.0 c.requires.1 (c.in_ok-push.ensures.items ∙ ap (λ l. l ++ (0 ∷ [])) c.new-kept.ensures.items))
 
 pub loop-i-preserved : goal.loop-i-preserved
 unfolding after_in
-loop-i-preserved c =
-    let w = c.loop-i.invariant in
-    let m = walk_more c.args.links.now c.loop-i.i c.loop-i.kept.items w.0 w.1 w.2 (omega (arith, c.loop-i-test.true)) in
-    (m.1.0, w.1, subst (λ (k : List ℕ). Walk c.args.links.now (after_in c.args.links.now c.loop-i.i) k m.1.0 w.1) (sym c.in_ok-push-2.ensures.items) m.1.1)
+loop-i-preserved c = grind (arith, walk_more)
 
 pub returns : goal.returns
-returns c =
-    let w = c.loop-i.invariant in
-    let l = walk_below c.args.links.now c.loop-i.i c.loop-i.kept.items w.0 w.1 w.2 in
-    (w.1, w.2.linked, walk_end c.args.links.now c.loop-i.i c.loop-i.kept.items w.0 w.1 w.2 (omega (arith, c.loop-i-test.false)))
+returns c = grind (arith, walk_below, walk_end)

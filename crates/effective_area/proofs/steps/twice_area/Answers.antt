@@ -11,13 +11,7 @@ through : (p q : ℤ) → FitsSigned w128 p → FitsSigned w128 q → to_z w128 
 through p q f g = ap (λ z. z -ℤ to_z w128 (of_z w128 q)) (to_z-of_z w128 p f) ∙ ap (λ z. p -ℤ z) (to_z-of_z w128 q g)
 
 pub overflow_sub-left : goal.overflow_sub-left
-overflow_sub-left c =
-    let f : FitsSigned w128 c.product-left.result = search rules in
-    let g : FitsSigned w128 c.product-right.result = search rules in
-    let P : ℤ → Type 0 = λ z. FitsSigned w128 z in
-    let small : unsigned_abs (c.product-left.result -ℤ c.product-right.result) < 100000000000000000000000000000000 = apart_fits c.product-left.result c.product-right.result c.product-left.ensures.bound c.product-right.ensures.bound in
-    let h : FitsSigned w128 (c.product-left.result -ℤ c.product-right.result) = fits_signed_from_abs w128 _ (omega arith) in
-    subst P (sym (through _ _ f g)) h
+overflow_sub-left c = grind (arith, apart_fits, fits_signed_from_abs, through)
 
 pub returns-clause-value : goal.returns-clause-value
 unfolding twice_area cross

@@ -6,22 +6,13 @@ use Rattle.effective_area.proofs.Turns.{old_ready, new_ready, renews, unlinks_on
 use Rattle.effective_area.proofs.taking.take_first.Goals as goal
 
 pub unlink-requires-clause-before : goal.unlink-requires-clause-before
-unlink-requires-clause-before c =
-    let s = c.requires.state in
-    let h = s.2.sound c.in-Some.entry (c.in-Some.ensures.left.member c.in-Some.entry refl) in
-    h.before
+unlink-requires-clause-before c = grind arith
 
 pub unlink-requires-clause-index : goal.unlink-requires-clause-index
-unlink-requires-clause-index c =
-    let s = c.requires.state in
-    let h = s.2.sound c.in-Some.entry (c.in-Some.ensures.left.member c.in-Some.entry refl) in
-    h.after
+unlink-requires-clause-index c = grind arith
 
 pub unlink-requires-clause-after : goal.unlink-requires-clause-after
-unlink-requires-clause-after c =
-    let s = c.requires.state in
-    let h = s.2.sound c.in-Some.entry (c.in-Some.ensures.left.member c.in-Some.entry refl) in
-    omega (arith, h.within, s.2.size)
+unlink-requires-clause-after c = grind arith
 
 pub goes_behind-is_first_known-requires-clause-other : goal.goes_behind-is_first_known-requires-clause-other
 goes_behind-is_first_known-requires-clause-other c =
@@ -38,14 +29,10 @@ goes_behind-is_last_known-requires-clause-other c =
     r.behind.within
 
 pub note_area-requires-clause-fits : goal.note_area-requires-clause-fits
-note_area-requires-clause-fits c =
-    let s = c.requires.state in
-    turn_fits c.args.t c.args.arc.now c.args.links.now c.unlink.new.links (c.args.sorted.now.items ++ heap_items c.args.heap.now) (c.pop_current.new.sorted.items ++ heap_items c.pop_current.new.heap) s.0 s.1 c.in-Some.entry s.2 c.in-Some.ensures.left c.in-Some.ensures.current c.unlink.ensures.links c.in-Some.entry.before (inl refl)
+note_area-requires-clause-fits c = grind (arith, turn_fits)
 
 pub note_area-requires-2-clause-fits : goal.note_area-requires-2-clause-fits
-note_area-requires-2-clause-fits c =
-    let s = c.requires.state in
-    turn_fits c.args.t c.args.arc.now c.args.links.now c.note_area.new.links (c.args.sorted.now.items ++ heap_items c.args.heap.now) (c.pop_current.new.sorted.items ++ heap_items c.pop_current.new.heap) s.0 s.1 c.in-Some.entry s.2 c.in-Some.ensures.left c.in-Some.ensures.current (unlinks_on c.args.arc.now c.args.links.now c.unlink.new.links c.note_area.new.links c.in-Some.entry.before c.in-Some.entry.corner.index c.in-Some.entry.after c.in-Some.entry.before c.unlink.ensures.links c.note_area.ensures.noted) c.in-Some.entry.after (inr refl)
+note_area-requires-2-clause-fits c = grind (arith, turn_fits, unlinks_on)
 
 pub push_first-requires-clause-inner : goal.push_first-requires-clause-inner
 push_first-requires-clause-inner c =
@@ -104,10 +91,7 @@ returns-clause-taken c left vs s =
     (pushed_behind c.args.t c.args.arc.now c.note_area-2.new.links c.pop_current.new.sorted.items (heap_items c.push_first.new.heap) (heap_items c.push_first-2.new.heap) c.in-Some.entry.after c.behind-last.result c.goes_behind-is_last_known.result c.in_ok-push_first-2.ensures.pushed)
 
 pub returns-in_default-clause-taken : goal.returns-in_default-clause-taken
-returns-in_default-clause-taken c left vs s = (
-  s.linked,
-  none_under c.args.t c.args.arc.now c.args.links.now (c.args.sorted.now.items ++ heap_items c.args.heap.now) (c.pop_current.new.sorted.items ++ heap_items c.pop_current.new.heap) left vs s c.in_default.ensures.left c.in_default.ensures.empty,
-)
+returns-in_default-clause-taken c left vs s = grind (arith, none_under)
 
 pub returns-in_err-push_first-clause-counted : goal.returns-in_err-push_first-clause-counted
 returns-in_err-push_first-clause-counted c left vs s =

@@ -1,4 +1,4 @@
-use Rattle.std.proofs.Common.{◌++◌, ◌∷◌, List, subst}
+use Rattle.std.proofs.Common.{arith, ◌++◌, ◌∷◌, List, subst}
 use Rattle.std.specs.BinaryHeap.{heap_items, IsUpperBound, PopsGreatest}
 use Rattle.std.specs.List.Sorted.{IsPermutation}
 use Rattle.std.specs.declared.cmp.Reverse.{Reverse}
@@ -8,10 +8,7 @@ use Rattle.effective_area.proofs.Queues.{off_heap, first_on_heap, popped, popped
 use Rattle.effective_area.proofs.waiting.pop_first.Goals as goal
 
 pub returns-then-is_on_heap-clause-permutation : goal.returns-then-is_on_heap-clause-permutation
-returns-then-is_on_heap-clause-permutation c =
-    some_also (λ (e : Reverse Entry). IsPermutation (heap_items c.args.heap.now) (e ∷ heap_items c.pop.new.self))
-    (λ (e : Reverse Entry). IsPermutation (c.args.sorted.now.items ++ heap_items c.args.heap.now) (e ∷ (c.args.sorted.now.items ++ heap_items c.pop.new.self))) c.pop.result
-    (λ e p. off_heap c.args.sorted.now.items (heap_items c.args.heap.now) (heap_items c.pop.new.self) e p) c.pop.ensures.permutation
+returns-then-is_on_heap-clause-permutation c = grind (arith, some_also, off_heap)
 
 pub returns-then-is_on_heap-clause-first : goal.returns-then-is_on_heap-clause-first
 returns-then-is_on_heap-clause-first c =

@@ -23,19 +23,12 @@ returns-then-goes_before-2-clause-none c = λ w. let e : false ≡ true = sym w.
 
 pub goes_before-requires-clause-index : goal.goes_before-requires-clause-index
 unfolding after_in before_in
-goes_before-requires-clause-index c =
-    let f = c.requires.ready.fits (omega (arith, c.if-index-eq0.false)) (omega (arith, c.if-links-index-le1.false)) in
-    omega (arith, f.before, c.requires.ready.within)
+goes_before-requires-clause-index c = grind arith
 
 pub goes_before-requires-2-clause-index : goal.goes_before-requires-2-clause-index
 unfolding after_in before_in
-goes_before-requires-2-clause-index c =
-    let f = c.requires.ready.fits (omega (arith, c.if-index-eq0.false)) (omega (arith, c.if-links-index-le1.false)) in
-    omega (arith, f.within, c.requires.size)
+goes_before-requires-2-clause-index c = grind arith
 
 pub returns-clause-under : goal.returns-clause-under
 unfolding area_in
-returns-clause-under c =
-    let p : 0 < c.args.index = omega (arith, c.if-index-eq0.false) in
-    let q : c.args.index + 1 < length c.args.links.now = omega (arith, c.if-links-index-le1.false) in
-    (p, q, c.entry_of.ensures, subst (λ (x : Entry). x.corner.area < c.args.t) (sym c.entry_of.ensures) (subst (λ (n : ℕ). n < c.args.t) (c.requires.ready.noted p q) c.if-link-t.false))
+returns-clause-under c = grind arith

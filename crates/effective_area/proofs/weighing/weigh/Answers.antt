@@ -1,4 +1,4 @@
-use Rattle.std.proofs.Common.{ℕ, ◌-◌, ◌++◌, length, set, subst, sym, not, eqb}
+use Rattle.std.proofs.Common.{arith, ℕ, ◌-◌, ◌++◌, length, set, subst, sym, not, eqb}
 use Rattle.std.specs.BinaryHeap.{heap_items}
 use Rattle.std.specs.List.{filter, range_with_len}
 use Rattle.effective_area.specs.declared.weight.Weight.TheVariants.{Area}
@@ -9,11 +9,7 @@ use Rattle.effective_area.proofs.Weighed.{AreWeighed, none_weighed, weighed_on, 
 use Rattle.effective_area.proofs.weighing.weigh.Goals as goal
 
 pub corners-init : goal.corners-init
-corners-init c = record {
-  sorted = c.requires.sorted;
-  order = c.requires.order;
-  state = (range_with_len 1 (length c.args.arc.now - 1), c.requires.state, none_weighed c.args.arc.now c.args.weights.now c.requires.two c.requires.ends);
-}
+corners-init c = grind (arith, none_weighed)
 
 pub corners-preserved : goal.corners-preserved
 corners-preserved c =

@@ -1,4 +1,4 @@
-use Rattle.std.proofs.Common.{ℕ, ◌<◌, List, All, length, not, eqb, subst, sym}
+use Rattle.std.proofs.Common.{arith, ℕ, ◌<◌, List, All, length, not, eqb, subst, sym}
 use Rattle.std.proofs.lemmas.List.Elements.{All-filter}
 use Rattle.effective_area.specs.Vertices.{seen}
 use Rattle.effective_area.proofs.Scan.{start_rest, turn_rest, stop_over, stop_none, stop_end, all_inside}
@@ -6,17 +6,10 @@ use Rattle.effective_area.proofs.rescan.RescanReducer.kept.Goals as goal
 use Rattle.effective_area.proofs.rescan.RescanReducer.kept.Goals.{in_default-via-in-Some+else-corner-t, in_default-via-in_default}
 
 pub loop-turn-init : goal.loop-turn-init
-loop-turn-init c = record {
-  inside = let e = c.in_ok-present.ensures in subst (λ (is : List ℕ). All (λ i. i < length c.args.arc.now) is) (sym e) (all_inside (length c.args.arc.now));
-  rest = start_rest c.args.t c.args.arc.now c.in_ok-present.present.items c.in_ok-present.ensures;
-}
+loop-turn-init c = grind (arith, all_inside, start_rest)
 
 pub returns-in_default : goal.returns-in_default
-returns-in_default c =
-    elim c.in_default.branch [
-      | in_default-via-in-Some+else-corner-t w ↦ stop_over c.args.t _ c.args.arc.now c.loop-turn.present.items c.deref.result.now (seen w.in-Some.corner) c.deref.ensures.value w.in-Some.ensures w.if-corner-t.false c.loop-turn.invariant.rest
-      | in_default-via-in_default w ↦ stop_none c.args.t _ c.args.arc.now c.loop-turn.present.items c.deref.result.now c.deref.ensures.value w.in_default.ensures c.loop-turn.invariant.rest
-    ]
+returns-in_default c = grind (arith, stop_over, stop_none)
 
 pub loop-turn-preserved : goal.loop-turn-preserved
 loop-turn-preserved c = record {

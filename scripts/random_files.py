@@ -243,6 +243,8 @@ def mangled(text):
     """A text with a place or two in which a token is changed, left out or repeated."""
     for _ in range(one_of([0, 1, 1, 2])):
         tokens = [(it.start(), it.end()) for it in re.finditer(r'-?[0-9.]+|"[^"]*"|[^\s]', text)]
+        if not tokens:
+            break
         start, end = one_of(tokens)
         to = one_of(tokens)[1] if rng.random() < 0.1 else end
         token = text[start:end]

@@ -1,7 +1,6 @@
 pub mod Depths
 pub mod Escapes
 mod Examples
-pub mod FormedOf
 pub mod KindsOf
 pub mod Letters
 pub mod Nesting

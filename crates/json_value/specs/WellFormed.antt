@@ -26,7 +26,3 @@ HasTexts v = AllByRecursion IsUtf8 (texts_of v)
 pub record IsWellFormed (v : Json) : Type 0 where
   pub numbers : HasNumbers v
   pub texts : HasTexts v
-
--- Its name is UTF-8, and its value is well formed.
-abbrev pub IsWellFormedMember : List ℕ × Json → Type 0
-IsWellFormedMember m = IsUtf8 m.0 × IsWellFormed m.1

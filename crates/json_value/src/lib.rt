@@ -8,7 +8,6 @@
 mod copying;
 mod json;
 mod laws;
-mod well_formed;
 
 pub use copying::copy_members;
 pub use decimal_text::{NumText, Range, Scaled};
@@ -17,4 +16,3 @@ pub use laws::{
     read_values_are_bounded, read_values_are_well_formed, text_spells_value, written_text_is_utf8,
 };
 pub use owned_values::{Items, OwnText};
-pub use well_formed::values_are_well_formed;

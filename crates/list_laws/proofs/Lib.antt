@@ -1,4 +1,5 @@
 pub mod Elements
+pub mod Fronts
 pub mod Lists
 pub mod Members
 pub mod Tests

@@ -2,7 +2,7 @@ use Rattle.std.proofs.Common.{sym, subst, ◌∙◌, ap, ◌==◌, length}
 use Rattle.std.proofs.lemmas.List.{take_all}
 use Rattle.std.specs.List.{AllByRecursion}
 use Rattle.std.specs.Prelude.{IsUtf8}
-use Rattle.json_value.proofs.FormedOf.{all_more}
+use Rattle.list_laws.proofs.Fronts.{all_more}
 use Rattle.list_laws.proofs.Elements.{all_map}
 use Rattle.layer_sources.specs.Names.{Knows}
 use Rattle.layer_sources.proofs.NamesFound as names

@@ -1,19 +1,16 @@
 -- What holds of each feature that is read.
-use Rattle.std.proofs.Common.{◌≡◌, ℕ, ◌<◌, ◌≤◌, Bool, List, [], ◌∷◌, Option, None, Some, Ok, refl, ap, sym, ◌∙◌, subst, arith}
-use Rattle.std.specs.Prelude.{codes, bytes_eq, IsUtf8}
+use Rattle.std.proofs.Common.{◌≡◌, ℕ, ◌<◌, ◌≤◌, Bool, List, [], ◌∷◌, Option, None, Some, Ok, refl, ap, ◌∙◌, subst, arith}
+use Rattle.std.specs.Prelude.{codes, bytes_eq}
 use Rattle.std.specs.List.{AllByRecursion}
-use Rattle.decimal_text.specs.Grammar.{IsNumber}
-use Rattle.json_value.specs.declared.json.Json.{Json, roll-Json}
+use Rattle.json_value.specs.declared.json.Json.{Json}
 use Rattle.json_value.specs.declared.json.Json.TheVariants as j
 use Rattle.json_value.specs.declared.json.Json.TheOpen.{Json-F}
-use Rattle.json_value.specs.declared.json.Json.TheViews.{out-Json, roll-out-Json}
+use Rattle.json_value.specs.declared.json.Json.TheViews.{out-Json}
 use Rattle.json_value.specs.Depth.{depth}
-use Rattle.json_value.specs.Kinds.{array_of, object_of, object_in, number_of, number_in}
-use Rattle.json_value.specs.Numbers.{numbers_of, HasNumbers}
-use Rattle.json_value.specs.WellFormed.{texts_of, HasTexts}
-use Rattle.json_value.proofs.KindsOf.{object_of_is, object_of-object, number_of_is}
-use Rattle.json_value.proofs.NumbersOf.{numbers-number}
-use Rattle.json_value.proofs.TextsOf.{texts-text}
+use Rattle.json_value.specs.Kinds.{array_of, object_of, object_in}
+use Rattle.json_value.specs.Numbers.{HasNumbers}
+use Rattle.json_value.specs.WellFormed.{HasTexts}
+use Rattle.json_value.proofs.KindsOf.{object_of_is, object_of-object}
 use Rattle.geojson_types.specs.declared.id.Id.{Id}
 use Rattle.geojson_types.specs.declared.id.Id.TheVariants as id
 use Rattle.geojson_types.specs.Features.{Shape, Featured}
@@ -27,10 +24,11 @@ use Rattle.geojson_model.specs.Geometries.{geometry}
 use Rattle.geojson_model.specs.Layers.{bare}
 use Rattle.geojson_model.specs.Members.{find, type_name}
 use Rattle.geojson_model.specs.Reader.{fail, pure, or_fail, if_some}
-use Rattle.geojson_model.proofs.Inside.{ShallowerMember, HasNumbersMember, array_shallower, object_shallower, array_numbers, object_numbers, HasTextsMember, array_texts, object_texts, find_part}
+use Rattle.geojson_model.proofs.Inside.{ShallowerMember, array_shallower, object_shallower, find_part}
 use Rattle.geojson_model.proofs.Sound.{IsSound}
 use Rattle.geojson_model.proofs.SoundParts.{SoundIn}
 use Rattle.geojson_model.proofs.SoundShapes.{geometry_yields}
+use Rattle.json_members.proofs.Inside.{HasNumbersMember, array_numbers, object_numbers, number_inside, HasTextsMember, array_texts, object_texts, text_inside}
 use Rattle.json_members.proofs.Yields.{Yields, or_fail_is, IfThere, weaker_yields, there_weaker, then_yields, give_yields, fail_yields, pure_yields, if_yields, if_some_yields}
 use Rattle.list_laws.proofs.Elements.{all_weaker}
 
@@ -63,26 +61,22 @@ array_parts n N T v vs e le h l =
 
 pub object_parts : (n : ℕ) (N T : Type 0) (v : Json) (ms : List (List ℕ × Json)) → object_of v ≡ Some ms → depth v ≤ n → (N → HasNumbers v) → (T → HasTexts v) → AllByRecursion (IsPartMember n N T) ms
 object_parts n N T v ms e le h l =
-    all_parts (ShallowerMember n) HasNumbersMember HasTextsMember N T ms (all_weaker (ShallowerMember (depth v)) (ShallowerMember n) (λ m lt. omega (arith, lt, le)) ms (object_shallower v ms e))
-    (λ k. object_numbers v ms e (h k)) (λ k. object_texts v ms e (l k))
+    all_parts (ShallowerMember n) HasNumbersMember (λ m. HasTexts m.1) N T ms (all_weaker (ShallowerMember (depth v)) (ShallowerMember n) (λ m lt. omega (arith, lt, le)) ms (object_shallower v ms e))
+    (λ k. object_numbers v ms e (h k)) (λ k. all_weaker HasTextsMember (λ m. HasTexts m.1) (λ m t. t.1) ms (object_texts v ms e (l k)))
 
 -- ---- identifiers
 
 identifier_in_numbers : (v : Json) (x : Json-F Json) (o : Option Id) → out-Json v ≡ x → HasNumbers v → identifier_in x ≡ Ok o → IdHasNumbers o
-unfolding number_of
 identifier_in_numbers v Json-F.Null o is h e = let k : None ≡ o = cc in subst IdHasNumbers k tt
 identifier_in_numbers v (Json-F.Text t) o is h e = let k : Some (id.Text t) ≡ o = cc in subst IdHasNumbers k tt
-identifier_in_numbers v (Json-F.Number t) o is h e = let k : Some (id.Number t) ≡ o = cc in subst IdHasNumbers k ((subst (AllByRecursion IsNumber) (ap numbers_of (number_of_is v t (ap number_in is)) ∙ numbers-number t) h).0)
+identifier_in_numbers v (Json-F.Number t) o is h e = let k : Some (id.Number t) ≡ o = cc in subst IdHasNumbers k (number_inside v t is h)
 identifier_in_numbers v x o is h e = absurd cc
 
 identifier_numbers : (i : Option Json) (o : Option Id) → IfThere HasNumbers i → identifier i ≡ Ok o → IdHasNumbers o
 identifier_numbers i o h k = grind (arith, identifier_in_numbers)
 
-text_is_utf8 : (v : Json) (t : List ℕ) → out-Json v ≡ Json-F.Text t → HasTexts v → IsUtf8 t
-text_is_utf8 v t e h = (subst (AllByRecursion (λ z. IsUtf8 z)) (ap texts_of (sym (roll-out-Json v) ∙ (ap roll-Json e ∙ j.rolls-Text t)) ∙ texts-text t) h).0
-
 identifier_in_texts : (v : Json) (x : Json-F Json) (o : Option Id) → out-Json v ≡ x → HasTexts v → identifier_in x ≡ Ok o → IdHasTexts o
-identifier_in_texts v x o is h e = grind (arith, text_is_utf8)
+identifier_in_texts v x o is h e = grind (arith, text_inside)
 
 identifier_texts : (i : Option Json) (o : Option Id) → IfThere HasTexts i → identifier i ≡ Ok o → IdHasTexts o
 identifier_texts i o h k = grind (arith, identifier_in_texts)

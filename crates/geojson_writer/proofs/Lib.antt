@@ -1,4 +1,5 @@
 pub mod FeatureParts
+pub mod FeaturesUtf8
 pub mod Numbers
 pub mod NumbersInside
 pub mod Objects

@@ -1,11 +1,13 @@
 // Laws on the written texts: the functions do nothing, their contracts are the laws.
-ghost use Rattle.std.specs.Prelude.{ℕ, ◌≤◌};
+ghost use Rattle.std.specs.Prelude.{ℕ, ◌≤◌, IsUtf8};
 ghost use Rattle.std.specs.List.{AllByRecursion};
 ghost use Rattle.json_value.specs.Depth.{depth};
 ghost use Rattle.json_value.specs.Grammar.{Reads};
 ghost use Rattle.json_value.specs.Numbers.{HasNumbers};
 ghost use Rattle.json_value.specs.Text.{json_text};
 ghost use Rattle.geojson_types.specs.declared.layer.FeatureSet.{FeatureSet as Features};
+ghost use Rattle.geojson_types.specs.Numbers.{FeatureHasNumbers};
+ghost use Rattle.geojson_types.specs.Texts.{FeatureHasTexts};
 ghost use Rattle.geojson_writer.specs.FeatureValues.{features_value};
 ghost use Rattle.geojson_writer.specs.Numbered.{IsNumbered, features_of};
 
@@ -16,4 +18,11 @@ pub fn features_text_spells_value()
     ensures numbers { (features : Features) → AllByRecursion IsNumbered (features_of features) → HasNumbers (features_value features) }
     ensures reads { (features : Features) (d : ℕ) → AllByRecursion IsNumbered (features_of features) → depth (features_value features) ≤ d
         → Reads d (json_text (features_value features)) (features_value features) }
+{}
+
+/// That text is UTF-8 (RFC 8259, section 8.1), if the number texts of the identifiers and properties are numbers, and their texts
+/// UTF-8.
+pub fn features_text_is_utf8()
+    ensures { (features : Features) → AllByRecursion FeatureHasNumbers (features_of features) → AllByRecursion FeatureHasTexts (features_of features)
+        → IsUtf8 (json_text (features_value features)) }
 {}

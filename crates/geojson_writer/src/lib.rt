@@ -10,4 +10,4 @@ mod position_writer;
 mod shape_writer;
 
 pub use feature_writer::{put_features, write_features};
-pub use laws::features_text_spells_value;
+pub use laws::{features_text_is_utf8, features_text_spells_value};

@@ -1,3 +1,4 @@
+pub mod Inside
 pub mod Looking
 pub mod Parts
 pub mod Turns

@@ -11,5 +11,6 @@ pub mod SpelledTexts
 pub mod Texts
 pub mod TextsOf
 pub mod Utf8
+pub mod Utf8Parts
 pub mod Written
 pub mod WrittenUtf8

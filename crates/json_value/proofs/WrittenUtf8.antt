@@ -1,4 +1,4 @@
--- The text that is written for a well-formed value is UTF-8.
+-- The text that is written for a value is UTF-8 where its numbers, texts and names are, and so for a well-formed value.
 use Rattle.std.proofs.Common.{◌≡◌, ℕ, ◌<◌, Bool, true, false, inl, inr, List, [], ◌∷◌, ◌++◌, map, if◌then◌else◌, refl, sym, subst, append_assoc, arith}
 use Rattle.std.specs.Prelude.{IsUtf8, ◌&&◌, nat_lt, codes}
 use Rattle.std.specs.Str.{IsAscii}
@@ -7,14 +7,13 @@ use Rattle.std.proofs.lemmas.Bool.Decides.{nat_tests}
 use Rattle.std.proofs.lemmas.Str.{IsUtf8-append, IsUtf8-from_ascii}
 use Rattle.std.proofs.lemmas.Str.Ascii.{IsAscii-nil}
 use Rattle.std.proofs.lemmas.Bool.{and_parts}
-use Rattle.decimal_text.specs.Grammar.{IsNumber}
-use Rattle.decimal_text.proofs.NumberBytes.{ascii_cons, number_utf8}
+use Rattle.decimal_text.proofs.NumberBytes.{ascii_cons}
 use Rattle.list_laws.specs.Commas.{comma_unless, with_commas, comma_separated}
 use Rattle.json_value.specs.declared.json.Json.{Json, roll-Json, ind-Json, map-Json}
 use Rattle.json_value.specs.declared.json.Json.TheOpen.{Json-F}
 use Rattle.json_value.specs.declared.json.Json.TheVariants as j
 use Rattle.json_value.specs.Grammar.{is_plain}
-use Rattle.json_value.specs.Numbers.{numbers_of, HasNumbers}
+use Rattle.json_value.specs.Numbers.{numbers_of}
 use Rattle.json_value.specs.Text.{json_text, hex_digit, escaped_byte, escaped, quoted}
 use Rattle.json_value.specs.WellFormed.{texts_of, HasTexts, IsWellFormed}
 use Rattle.json_value.proofs.NumbersOf.{numbers-number, numbers-array, numbers-object}
@@ -22,6 +21,7 @@ use Rattle.json_value.proofs.Runs.{plain_stays, plain_tells}
 use Rattle.json_value.proofs.Texts.{text-null, text-bool, text-number, text-text, text-array, text-object, one_member}
 use Rattle.json_value.proofs.TextsOf.{texts-text, texts-array, texts-object}
 use Rattle.json_value.proofs.Utf8.{ascii_split}
+use Rattle.json_value.proofs.Utf8Parts.{AreUtf8, formed_utf8}
 use Rattle.json_value.proofs.Written.{all_split}
 
 -- ---- strings
@@ -92,7 +92,7 @@ bracketed x y ts p q h =
 -- ---- each value, by induction
 
 abbrev Claim : Json → Type 0
-Claim v = HasNumbers v → HasTexts v → IsUtf8 (json_text v)
+Claim v = AllByRecursion (λ z. IsUtf8 z) (numbers_of v) → HasTexts v → IsUtf8 (json_text v)
 
 abbrev Such : Type 0
 Such = (v : Json) × Claim v
@@ -100,19 +100,19 @@ Such = (v : Json) × Claim v
 abbrev inner : List ℕ × Such → List ℕ × Json
 inner m = (m.0, m.1.0)
 
-elements_utf8 : (ys : List Such) → AllByRecursion IsNumber (flat_map numbers_of (map (λ e. e.0) ys)) → AllByRecursion IsUtf8 (flat_map texts_of (map (λ e. e.0) ys))
+elements_utf8 : (ys : List Such) → AllByRecursion (λ z. IsUtf8 z) (flat_map numbers_of (map (λ e. e.0) ys)) → AllByRecursion IsUtf8 (flat_map texts_of (map (λ e. e.0) ys))
     → AllByRecursion IsUtf8 (map json_text (map (λ e. e.0) ys))
 elements_utf8 [] n h = tt
-elements_utf8 (y ∷ ys) n h = grind (arith, elements_utf8 ys, all_split IsNumber (numbers_of y.0) _ n, all_split IsUtf8 (texts_of y.0) _ h)
+elements_utf8 (y ∷ ys) n h = grind (arith, elements_utf8 ys, all_split (λ z. IsUtf8 z) (numbers_of y.0) _ n, all_split IsUtf8 (texts_of y.0) _ h)
 
-member_utf8 : (m : List ℕ × Such) → HasNumbers m.1.0 → IsUtf8 m.0 → HasTexts m.1.0 → IsUtf8 (one_member (inner m))
+member_utf8 : (m : List ℕ × Such) → AllByRecursion (λ z. IsUtf8 z) (numbers_of m.1.0) → IsUtf8 m.0 → HasTexts m.1.0 → IsUtf8 (one_member (inner m))
 member_utf8 m n name h = IsUtf8-append (quoted m.0 ++ 58 ∷ []) (json_text m.1.0) (IsUtf8-append (quoted m.0) (58 ∷ []) (quoted_utf8 m.0 name) (one_utf8 58 (omega arith))) (m.1.1 n h)
 
-members_utf8 : (ys : List (List ℕ × Such)) → AllByRecursion IsNumber (flat_map (λ m. numbers_of m.1) (map inner ys)) → AllByRecursion IsUtf8 (flat_map (λ m. m.0 ∷ texts_of m.1) (map inner ys))
+members_utf8 : (ys : List (List ℕ × Such)) → AllByRecursion (λ z. IsUtf8 z) (flat_map (λ m. numbers_of m.1) (map inner ys)) → AllByRecursion IsUtf8 (flat_map (λ m. m.0 ∷ texts_of m.1) (map inner ys))
     → AllByRecursion IsUtf8 (map one_member (map inner ys))
 members_utf8 [] n h = tt
 members_utf8 (y ∷ ys) n h =
-    grind (arith, members_utf8 ys, all_split IsNumber (numbers_of y.1.0) _ n, all_split IsUtf8 (y.0 ∷ texts_of y.1.0) _ h, member_utf8 y)
+    grind (arith, members_utf8 ys, all_split (λ z. IsUtf8 z) (numbers_of y.1.0) _ n, all_split IsUtf8 (y.0 ∷ texts_of y.1.0) _ h, member_utf8 y)
 
 word_utf8 : (b : Bool) → Claim (j.Bool b)
 word_utf8 true n h = rw (text-bool true) (IsUtf8-from_ascii (codes "true") (ascii (codes "true") refl))
@@ -122,7 +122,7 @@ null_utf8 : Claim j.Null
 null_utf8 n h = rw text-null (IsUtf8-from_ascii (codes "null") (ascii (codes "null") refl))
 
 number_claim : (t : List ℕ) → Claim (j.Number t)
-number_claim t n h = let p = rw (numbers-number t) at n in rw (text-number t) (number_utf8 p.0)
+number_claim t n h = let p = rw (numbers-number t) at n in rw (text-number t) p.0
 
 text_claim : (t : List ℕ) → Claim (j.Text t)
 text_claim t n h = let p = rw (texts-text t) at h in rw (text-text t) (quoted_utf8 t p.0)
@@ -144,5 +144,8 @@ step x (Json-F.Object ys) e = subst (λ z. Claim (roll-Json z)) e (subst Claim (
 any_value : (v : Json) → Claim v
 any_value = ind-Json Claim step
 
+pub parts_written_utf8 : (v : Json) → AreUtf8 v → IsUtf8 (json_text v)
+parts_written_utf8 v h = any_value v h.numbers h.texts
+
 pub written_utf8 : (v : Json) → IsWellFormed v → IsUtf8 (json_text v)
-written_utf8 v h = any_value v h.numbers h.texts
+written_utf8 v h = parts_written_utf8 v (formed_utf8 v h)

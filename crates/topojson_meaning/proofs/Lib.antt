@@ -4,6 +4,7 @@ pub mod ArcsBack
 pub mod FeaturesBack
 pub mod LinesBack
 pub mod ObjectsBack
+pub mod ReadTexts
 pub mod ShapeKinds
 pub mod ShapesBack
 pub mod Steps

@@ -180,9 +180,9 @@ module _ (n : ℕ) (few : n < 2 ^ 63) (transform : Option Transform) where
 -- ---- the topology
 
 -- the text of a number of a transform is a number
-transform_text : (t : List ℕ) → IsTransformNumber t → HasNumbers (j.Number t)
+pub transform_text : (t : List ℕ) → IsTransformNumber t → IsNumber t
 unfolding transform_value scaled_of
-transform_text t h = number_numbers t (parts-number t (grind (arith, parts_of t)))
+transform_text t h = parts-number t (grind (arith, parts_of t))
 
 transform_numbers : (transform : Option Transform) → IsTransformed transform → Numbered (members_of_transform transform)
 transform_numbers None h = tt
@@ -193,7 +193,7 @@ transform_numbers (Some t) h = (
 )
   where
     pair_numbers : (p : List ℕ × List ℕ) → IsTransformNumber p.0 → IsTransformNumber p.1 → HasNumbers (pair_value p)
-    pair_numbers p h k = array_numbers j.Number (p.0 ∷ (p.1 ∷ [])) (transform_text p.0 h, (transform_text p.1 k, tt))
+    pair_numbers p h k = array_numbers j.Number (p.0 ∷ (p.1 ∷ [])) (number_numbers p.0 (transform_text p.0 h), (number_numbers p.1 (transform_text p.1 k), tt))
 
 arcs_numbers : (transform : Option Transform) (arcs : List (List Point)) → AllByRecursion (IsArc transform) arcs → HasNumbers (arcs_value transform arcs)
 arcs_numbers transform arcs h = array_numbers (arc_value transform) arcs (all_weaker (IsArc transform) (λ cs. HasNumbers (arc_value transform cs)) (arc_numbers transform) arcs h)

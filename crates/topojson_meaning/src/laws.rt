@@ -1,8 +1,8 @@
 // Laws of the definitions. A function here does nothing: its contract is the law.
 ghost use Rattle.topojson_meaning.specs.Laws.{ReadsBack, ReadsValid, TextIsRead, ValueHasNumbers, ValueNests};
-ghost use Rattle.topojson_meaning.specs.Texts.{TextIsUtf8};
+ghost use Rattle.topojson_meaning.specs.Texts.{NumbersStay, TextIsUtf8, TextsStay};
 
-use json_value::{text_spells_value, written_text_is_utf8};
+use json_value::text_spells_value;
 
 /// A topology that a value stands for is valid: its names differ, its arcs are long enough, its arc indexes name arcs, its lines
 /// are joined, its rings closed, no list in it is empty but that of a collection, and all its cells lie at positions.
@@ -34,7 +34,16 @@ pub fn topology_text_is_read()
 /// The text of that value is UTF-8 (RFC 8259, section 8.1), if the texts of the topology are.
 pub fn topology_text_is_utf8()
     ensures { TextIsUtf8 }
-{
-    written_text_is_utf8();
-    topology_value_is_bounded();
-}
+{}
+
+/// What stands for a number in a topology that is read is one, if that is so in the value.
+#[tactic(auto, using(crate::proofs::ReadTexts::numbers_stay))]
+pub fn numbers_stay()
+    ensures { NumbersStay }
+{}
+
+/// The names of objects, and the identifiers and properties of features, have UTF-8 texts, if the value has.
+#[tactic(auto, using(crate::proofs::ReadTexts::texts_stay))]
+pub fn texts_stay()
+    ensures { TextsStay }
+{}

@@ -12,6 +12,6 @@ mod laws;
 pub use fault::TopoFault;
 pub use geometry_type::{ArcsType, GeometryType, PlacesType};
 pub use laws::{
-    reads_back, topology_is_valid, topology_text_is_read, topology_text_is_utf8,
-    topology_value_is_bounded,
+    numbers_stay, reads_back, texts_stay, topology_is_valid, topology_text_is_read,
+    topology_text_is_utf8, topology_value_is_bounded,
 };

@@ -1,0 +1,234 @@
+-- What holds of each part of a value holds of the identifiers, properties and names of the topology that is read of it: numbers stay
+-- numbers, and texts UTF-8.
+use Rattle.std.proofs.Common.{◌≡◌, ℕ, Bool, List, [], ◌∷◌, Option, Some, None, Ok, refl, subst}
+use Rattle.std.specs.Prelude.{codes, IsUtf8}
+use Rattle.std.specs.List.{AllByRecursion}
+use Rattle.json_value.specs.declared.json.Json.{Json}
+use Rattle.json_value.specs.declared.json.Json.TheVariants as j
+use Rattle.json_value.specs.declared.json.Json.TheOpen.{Json-F}
+use Rattle.json_value.specs.declared.json.Json.TheViews.{out-Json}
+use Rattle.json_value.specs.Kinds.{array_of, object_of, text_of}
+use Rattle.json_value.specs.Numbers.{HasNumbers}
+use Rattle.json_value.specs.WellFormed.{HasTexts}
+use Rattle.json_members.proofs.Inside.{array_numbers, object_numbers, number_inside, array_texts, object_texts, text_inside, object_inside}
+use Rattle.json_members.proofs.Parts.{find_part, given}
+use Rattle.json_members.proofs.Yields.{each_of_yields}
+use Rattle.json_members.specs.Members as members_by
+use Rattle.list_laws.proofs.Elements.{all_parts, all_weaker}
+use Rattle.geometry.specs.Points.{Point}
+use Rattle.geojson_types.specs.declared.id.Id.{Id}
+use Rattle.geojson_types.specs.declared.id.Id.TheVariants as id
+use Rattle.geojson_types.specs.Counting.{no_counts}
+use Rattle.geojson_types.specs.Numbers.{IdHasNumbers, PropertiesHaveNumbers}
+use Rattle.geojson_types.specs.Texts.{IdHasTexts, PropertiesHaveTexts}
+use Rattle.topojson_types.specs.declared.feature.TopoFeature.{TopoFeature}
+use Rattle.topojson_types.specs.declared.object.TopoObject.{TopoObject}
+use Rattle.topojson_types.specs.declared.object.TopoObject.TheVariants.{One, Many}
+use Rattle.topojson_types.specs.declared.transform.Transform.{Transform}
+use Rattle.topojson_types.specs.Topologies.{Contents, object_features}
+use Rattle.topojson_meaning.specs.declared.fault.TopoFault.TheVariants.{NotTopology, WrongKind}
+use Rattle.topojson_meaning.specs.declared.geometry_type.GeometryType.{GeometryType}
+use Rattle.topojson_meaning.specs.Arcs.{arc_list}
+use Rattle.topojson_meaning.specs.Bounds.{FeatureHasNumbers}
+use Rattle.topojson_meaning.specs.Features.{identifier_in, identifier, members_in, members_if, feature, feature_element}
+use Rattle.topojson_meaning.specs.GeometryTypes.{is_collection, object_type}
+use Rattle.topojson_meaning.specs.Members.{Members, lookup_fault, find, need, need_as, elements, members}
+use Rattle.topojson_meaning.specs.Objects.{features, collection, single, object, is_met, new_name, objects_behind, objects}
+use Rattle.topojson_meaning.specs.Reader.{give, or_fail}
+use Rattle.topojson_meaning.specs.Shapes.{typed_shape}
+use Rattle.topojson_meaning.specs.Texts.{FeatureHasTexts, NumbersStay, TextsStay}
+use Rattle.topojson_meaning.specs.Topologies.{topology_type, contents, value_contents, topology}
+use Rattle.topojson_meaning.specs.Transforms.{transform_if}
+use Rattle.topojson_meaning.proofs.ValidMembers.{need_as_yields}
+use Rattle.topojson_meaning.proofs.ValidYields.{Yields, IfThere, then_yields, give_yields, fail_yields, pure_then, if_yields, or_fail_is}
+
+-- What is asked of values (P) and of names (N) passes to the elements of arrays, to the members of objects, and from members to
+-- identifiers (I) and properties (M).
+record Passes (P : Json → Type 0) (N : List ℕ → Type 0) (I : Option Id → Type 0) (M : Option Members → Type 0) : Type 0 where
+  array : (v : Json) (vs : List Json) → array_of v ≡ Some vs → P v → AllByRecursion P vs
+  object : (v : Json) (ms : Members) → object_of v ≡ Some ms → P v → AllByRecursion (λ (m : List ℕ × Json). N m.0 × P m.1) ms
+  id : (i : Option Json) (o : Option Id) → IfThere P i → identifier i ≡ Ok o → I o
+  properties : (p : Option Json) (o : Option Members) → IfThere P p → members_if p ≡ Ok o → M o
+
+module _ (P : Json → Type 0) (N : List ℕ → Type 0) (I : Option Id → Type 0) (M : Option Members → Type 0) (passes : Passes P N I M) where
+  -- ---- members
+
+  -- of a name and a value
+  abbrev Part : List ℕ × Json → Type 0
+  Part m = N m.0 × P m.1
+
+  values : (ms : Members) → AllByRecursion Part ms → AllByRecursion (λ m. P m.1) ms
+  values = all_weaker Part (λ m. P m.1) (λ m h. h.1)
+
+  found : (name : List ℕ) (ms : Members) (o : Option Json) → find name ms ≡ Ok o → AllByRecursion Part ms → IfThere P o
+  found name ms o e h = find_part P name ms o (given lookup_fault (members_by.find name ms) o e) (values ms h)
+
+  elements_are : (v : Json) (vs : List Json) → P v → elements v ≡ Ok vs → AllByRecursion P vs
+  unfolding elements
+  elements_are v vs h e = passes.array v vs (or_fail_is WrongKind (array_of v) vs e) h
+
+  members_are : (v : Json) (ms : Members) → P v → members v ≡ Ok ms → AllByRecursion Part ms
+  unfolding members
+  members_are v ms h e = passes.object v ms (or_fail_is WrongKind (object_of v) ms e) h
+
+  module _ (transform : Option Transform) (arcs : List (List Point)) where
+    -- ---- features
+
+    abbrev Kept : TopoFeature → Type 0
+    Kept f = I f.id × M f.properties
+
+    feature_yields : (type : Option GeometryType) (ms : Members) → AllByRecursion Part ms → Yields Kept (feature transform arcs type ms)
+    unfolding feature
+    feature_yields type ms h =
+        pure_then Kept (find (codes "id") ms) _
+        (λ i hi. pure_then Kept (identifier i) _
+        (λ o ho. pure_then Kept (find (codes "properties") ms) _
+        (λ p hp. pure_then Kept (members_if p) _
+        (λ ps hps. then_yields (λ s. Unit {0}) Kept (typed_shape transform arcs type ms) _ (λ c d s e. tt)
+        (λ s hs. give_yields Kept (record { id = o; properties = ps; shape = s })
+        (passes.id i o (found (codes "id") ms i hi h) ho, passes.properties p ps (found (codes "properties") ms p hp h) hps))))))
+
+    feature_element_yields : (v : Json) → P v → Yields Kept (feature_element transform arcs v)
+    unfolding feature_element
+    feature_element_yields v h =
+        pure_then Kept (members v) _ (λ ms e. pure_then Kept (object_type ms) _ (λ type f. feature_yields type ms (members_are v ms h e)))
+
+    features_yield : (v : Json) → P v → Yields (AllByRecursion Kept) (features transform arcs v)
+    unfolding features
+    features_yield v h = pure_then (AllByRecursion Kept) (elements v) _ (λ vs e. each_of_yields P Kept (feature_element transform arcs) feature_element_yields vs (elements_are v vs h e))
+
+    -- ---- objects
+
+    abbrev KeptObject : TopoObject → Type 0
+    KeptObject o = AllByRecursion Kept (object_features o)
+
+    collection_yields : (ms : Members) → AllByRecursion Part ms → Yields KeptObject (collection transform arcs ms)
+    unfolding collection
+    collection_yields ms h =
+        then_yields (AllByRecursion Kept) KeptObject (need_as (codes "geometries") (features transform arcs) ms) _
+        (need_as_yields P (AllByRecursion Kept) (codes "geometries") (features transform arcs) ms features_yield (values ms h))
+        (λ fs k. give_yields KeptObject (Many fs) k)
+
+    single_yields : (type : Option GeometryType) (ms : Members) → AllByRecursion Part ms → Yields KeptObject (single transform arcs type ms)
+    unfolding single
+    single_yields type ms h = then_yields Kept KeptObject (feature transform arcs type ms) _ (feature_yields type ms h) (λ f k. give_yields KeptObject (One f) (k, tt))
+
+    object_yields : (v : Json) → P v → Yields KeptObject (object transform arcs v)
+    unfolding object
+    object_yields v h =
+        pure_then KeptObject (members v) _
+        (λ ms e. pure_then KeptObject (object_type ms) _
+        (λ type f. if_yields KeptObject (is_collection type) (collection transform arcs ms) (single transform arcs type ms)
+        (λ is. collection_yields ms (members_are v ms h e)) (λ is. single_yields type ms (members_are v ms h e))))
+
+    new_name_yields : (met : List (List ℕ)) (name : List ℕ) → N name → Yields N (new_name met name)
+    new_name_yields met name h = if_yields N (is_met name met) _ (give name) (λ is. fail_yields N _) (λ is. give_yields N name h)
+
+    -- an object by its name
+    abbrev KeptNamed : List ℕ × TopoObject → Type 0
+    KeptNamed o = N o.0 × KeptObject o.1
+
+    objects_behind_yield : (met : List (List ℕ)) (ms : Members) → AllByRecursion Part ms → Yields (AllByRecursion KeptNamed) (objects_behind transform arcs met ms)
+    unfolding objects_behind
+    objects_behind_yield met [] h = give_yields (AllByRecursion KeptNamed) [] tt
+    objects_behind_yield met (m ∷ ms) h =
+        then_yields N (AllByRecursion KeptNamed) (new_name met m.0) _ (new_name_yields met m.0 h.0.0)
+        (λ name n. then_yields KeptObject (AllByRecursion KeptNamed) (object transform arcs m.1) _ (object_yields m.1 h.0.1)
+        (λ o k. then_yields (AllByRecursion KeptNamed) (AllByRecursion KeptNamed) (objects_behind transform arcs (name ∷ met) ms) _ (objects_behind_yield (name ∷ met) ms h.1)
+        (λ os more. give_yields (AllByRecursion KeptNamed) ((name, o) ∷ os) ((n, k), more))))
+
+    objects_yield : (v : Json) → P v → Yields (AllByRecursion KeptNamed) (objects transform arcs v)
+    unfolding objects
+    objects_yield v h = pure_then (AllByRecursion KeptNamed) (members v) _ (λ ms e. objects_behind_yield [] ms (members_are v ms h e))
+
+  -- ---- topologies
+
+  abbrev KeptContents : Contents → Type 0
+  KeptContents t = AllByRecursion (λ (o : List ℕ × TopoObject). N o.0 × AllByRecursion (λ f. I f.id × M f.properties) (object_features o.1)) t.objects
+
+  contents_yield : (ms : Members) → AllByRecursion Part ms → Yields KeptContents (contents ms)
+  unfolding contents
+  contents_yield ms h =
+      pure_then KeptContents (need (codes "type") ms) _
+      (λ t ht. pure_then KeptContents (or_fail WrongKind (text_of t)) _
+      (λ name hn. then_yields (λ u. Unit {0}) KeptContents (topology_type name) _ (λ c d u e. tt)
+      (λ u hu. pure_then KeptContents (find (codes "transform") ms) _
+      (λ r hr. then_yields (λ x. Unit {0}) KeptContents (transform_if r) _ (λ c d x e. tt)
+      (λ transform k. then_yields (λ x. Unit {0}) KeptContents (need_as (codes "arcs") (arc_list transform) ms) _ (λ c d x e. tt)
+      (λ arcs ha. then_yields _ KeptContents (need_as (codes "objects") (objects transform arcs) ms) _
+      (need_as_yields P _ (codes "objects") (objects transform arcs) ms (objects_yield transform arcs) (values ms h))
+      (λ os ho. give_yields KeptContents (record { objects = os; arcs = arcs; transform = transform }) ho)))))))
+
+  kept : (v : Json) (t : Contents) → (c : _) → P v → topology v ≡ Ok (t, c) → KeptContents t
+  unfolding topology value_contents
+  kept v t c h e =
+      pure_then KeptContents (or_fail NotTopology (object_of v)) contents (λ ms f. contents_yield ms (passes.object v ms (or_fail_is NotTopology (object_of v) ms f) h)) no_counts c t e
+
+-- ---- numbers
+
+identifier_in_numbers : (v : Json) (x : Json-F Json) (o : Option Id) → out-Json v ≡ x → HasNumbers v → identifier_in x ≡ Ok o → IdHasNumbers o
+identifier_in_numbers v Json-F.Null o is h e = let k : None ≡ o = cc in subst IdHasNumbers k tt
+identifier_in_numbers v (Json-F.Text t) o is h e = let k : Some (id.Text t) ≡ o = cc in subst IdHasNumbers k tt
+identifier_in_numbers v (Json-F.Number t) o is h e = let k : Some (id.Number t) ≡ o = cc in subst IdHasNumbers k (number_inside v t is h)
+identifier_in_numbers v (Json-F.Bool b) o is h e = absurd cc
+identifier_in_numbers v (Json-F.Array vs) o is h e = absurd cc
+identifier_in_numbers v (Json-F.Object ms) o is h e = absurd cc
+
+identifier_numbers : (i : Option Json) (o : Option Id) → IfThere HasNumbers i → identifier i ≡ Ok o → IdHasNumbers o
+identifier_numbers None o h e = let k : None ≡ o = cc in subst IdHasNumbers k tt
+identifier_numbers (Some v) o h e = identifier_in_numbers v (out-Json v) o refl h e
+
+members_in_are : (X : Json → Type 0) (Y : Option Members → Type 0) → Y None → ((ms : Members) → X (j.Object ms) → Y (Some ms)) → (v : Json) (x : Json-F Json) (o : Option Members)
+    → out-Json v ≡ x → X v → members_in x ≡ Ok o → Y o
+members_in_are X Y none some v Json-F.Null o is h e = let k : None ≡ o = cc in subst Y k none
+members_in_are X Y none some v (Json-F.Object ms) o is h e = let k : Some ms ≡ o = cc in subst Y k (some ms (subst X (object_inside v ms is) h))
+members_in_are X Y none some v (Json-F.Text t) o is h e = absurd cc
+members_in_are X Y none some v (Json-F.Number t) o is h e = absurd cc
+members_in_are X Y none some v (Json-F.Bool b) o is h e = absurd cc
+members_in_are X Y none some v (Json-F.Array vs) o is h e = absurd cc
+
+-- the members of properties are those of an object
+properties_are : (X : Json → Type 0) (Y : Option Members → Type 0) → Y None → ((ms : Members) → X (j.Object ms) → Y (Some ms)) → (p : Option Json) (o : Option Members)
+    → IfThere X p → members_if p ≡ Ok o → Y o
+properties_are X Y none some None o h e = let k : None ≡ o = cc in subst Y k none
+properties_are X Y none some (Some v) o h e = members_in_are X Y none some v (out-Json v) o refl h e
+
+numbers_pass : Passes HasNumbers (λ n. Unit {0}) IdHasNumbers PropertiesHaveNumbers
+numbers_pass = record {
+  array = array_numbers;
+  object = λ v ms e h. all_weaker (λ (m : List ℕ × Json). HasNumbers m.1) (λ m. Unit {0} × HasNumbers m.1) (λ m k. (tt, k)) ms (object_numbers v ms e h);
+  id = identifier_numbers;
+  properties = properties_are HasNumbers PropertiesHaveNumbers tt (λ ms h. h);
+}
+
+pub numbers_stay : NumbersStay
+numbers_stay v t c h e =
+    all_parts FeatureHasNumbers (λ o. object_features o.1) t.objects
+    (all_weaker (λ (o : List ℕ × TopoObject). Unit {0} × AllByRecursion FeatureHasNumbers (object_features o.1)) (λ o. AllByRecursion FeatureHasNumbers (object_features o.1)) (λ o k. k.1) t.objects
+    (kept HasNumbers (λ n. Unit {0}) IdHasNumbers PropertiesHaveNumbers numbers_pass v t c h e))
+
+-- ---- texts
+
+identifier_in_texts : (v : Json) (x : Json-F Json) (o : Option Id) → out-Json v ≡ x → HasTexts v → identifier_in x ≡ Ok o → IdHasTexts o
+identifier_in_texts v Json-F.Null o is h e = let k : None ≡ o = cc in subst IdHasTexts k tt
+identifier_in_texts v (Json-F.Text t) o is h e = let k : Some (id.Text t) ≡ o = cc in subst IdHasTexts k (text_inside v t is h)
+identifier_in_texts v (Json-F.Number t) o is h e = let k : Some (id.Number t) ≡ o = cc in subst IdHasTexts k tt
+identifier_in_texts v (Json-F.Bool b) o is h e = absurd cc
+identifier_in_texts v (Json-F.Array vs) o is h e = absurd cc
+identifier_in_texts v (Json-F.Object ms) o is h e = absurd cc
+
+identifier_texts : (i : Option Json) (o : Option Id) → IfThere HasTexts i → identifier i ≡ Ok o → IdHasTexts o
+identifier_texts None o h e = let k : None ≡ o = cc in subst IdHasTexts k tt
+identifier_texts (Some v) o h e = identifier_in_texts v (out-Json v) o refl h e
+
+texts_pass : Passes HasTexts (λ n. IsUtf8 n) IdHasTexts PropertiesHaveTexts
+texts_pass = record { array = array_texts; object = object_texts; id = identifier_texts; properties = properties_are HasTexts PropertiesHaveTexts tt (λ ms h. h) }
+
+pub texts_stay : TextsStay
+texts_stay v t c h e =
+    let all = kept HasTexts (λ n. IsUtf8 n) IdHasTexts PropertiesHaveTexts texts_pass v t c h e in
+    record {
+      names = all_weaker (λ (o : List ℕ × TopoObject). IsUtf8 o.0 × AllByRecursion FeatureHasTexts (object_features o.1)) (λ o. IsUtf8 o.0) (λ o k. k.0) t.objects all;
+      features = all_parts FeatureHasTexts (λ o. object_features o.1) t.objects
+          (all_weaker (λ (o : List ℕ × TopoObject). IsUtf8 o.0 × AllByRecursion FeatureHasTexts (object_features o.1)) (λ o. AllByRecursion FeatureHasTexts (object_features o.1)) (λ o k. k.1) t.objects all);
+    }

@@ -7,6 +7,7 @@ pub mod Celled
 pub mod CelledDecoding
 mod GridRows
 pub mod KeptArcs
+pub mod KeptLabels
 pub mod Lessened
 pub mod Made
 pub mod Objects

@@ -1,17 +1,19 @@
 -- What is true of reducing a topology again.
-use Rattle.std.specs.Prelude.{◌≡◌, ℕ, List, None, Some}
+use Rattle.std.specs.Prelude.{◌≡◌, ℕ, List, Option, None, Some, map}
 use Rattle.std.specs.List.{AllByRecursion}
 use Rattle.build_meaning.specs.Built.{built, taken_out}
 use Rattle.build_meaning.specs.Expected.{expected, expected_dropped}
 use Rattle.build_meaning.specs.Laws.{AreSound}
 use Rattle.build_meaning.specs.Layers.{Named, names_of, layers_of}
 use Rattle.elimination_meaning.specs.Elimination.{reduce, reduced}
+use Rattle.geojson_types.specs.declared.id.Id.{Id}
 use Rattle.geojson_types.specs.declared.layer.FeatureSet.TheVariants as set
 use Rattle.geometry.specs.Points.{Point}
+use Rattle.json_value.specs.declared.json.Json.{Json}
 use Rattle.linework.specs.Laws.{layers_points}
 use Rattle.topojson_types.specs.declared.transform.Transform.{Transform}
 use Rattle.topojson_types.specs.Decoding.{decoded}
-use Rattle.topojson_types.specs.Topologies.{Contents}
+use Rattle.topojson_types.specs.Topologies.{Contents, object_features}
 use Rattle.topojson_types.specs.Transforms.{IsTransform}
 use Rattle.topojson_types.specs.Validity.{AreDistinct, IsTopology}
 use Rattle.lessened_topology.specs.Assembled.{arcs_of_layers, arc_indexes, assembled, assembled_dropped, assembled_taken_out}
@@ -33,6 +35,14 @@ LessensToBuilt = (t : ℕ) (ls : Named) → AreSound ls → lessened t (built 0 
 abbrev pub LessensToBuiltOnGrid : Type 0
 LessensToBuiltOnGrid = (transform : Transform) (cell : Point → Point) (t : ℕ) (ls : Named) → AreSound ls → AllByRecursion (LiesBack transform cell) (layers_points (layers_of ls))
     → lessened t (celled transform cell (built 0 ls)) ≡ celled transform cell (built t ls)
+
+-- the name of each object, with the identifier and the properties of each of its features, in order
+abbrev pub labels : Contents → List (List ℕ × List (Option Id × Option (List (List ℕ × Json))))
+labels y = map (λ o. (o.0, map (λ f. (f.id, f.properties)) (object_features o.1))) y.objects
+
+-- reducing a topology leaves all of them, and its transform
+abbrev pub LessenedKeeps : Type 0
+LessenedKeeps = (kept : List (List ℕ)) (y : Contents) → (labels (lessened_by kept y) ≡ labels y) × ((lessened_by kept y).transform ≡ y.transform)
 
 -- ---- on a grid
 

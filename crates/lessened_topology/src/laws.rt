@@ -1,5 +1,5 @@
 // Laws of the definitions. A function here changes nothing: its contract is the law.
-ghost use Rattle.lessened_topology.specs.Laws.{ArcIndexesReach, AssembledIsValid, AssemblesToBuilt, AssemblingDropsExpected, AssemblingTakesOut, BuiltDecodesOnGrid, BuiltIsValidOnGrid, CelledDecodes, CelledIsValid, DecodesBackOnGrid, IndexesReach, LessenedIsValid, LessensToBuilt, LessensToBuiltOnGrid, PickedIsReduced, ReducedIsValid};
+ghost use Rattle.lessened_topology.specs.Laws.{ArcIndexesReach, AssembledIsValid, AssemblesToBuilt, AssemblingDropsExpected, AssemblingTakesOut, BuiltDecodesOnGrid, BuiltIsValidOnGrid, CelledDecodes, CelledIsValid, DecodesBackOnGrid, IndexesReach, LessenedIsValid, LessenedKeeps, LessensToBuilt, LessensToBuiltOnGrid, PickedIsReduced, ReducedIsValid};
 
 use build_meaning::{built_decodes_back, built_is_valid};
 use elimination_meaning::{direction_law, ends_stay, nothing_is_new, zero_law};
@@ -29,6 +29,11 @@ pub fn lessens_to_built_on_grid()
     zero_law();
     nothing_is_new();
 }
+
+/// Reducing a topology leaves its objects with their names, their features with identifiers and properties, and its transform.
+pub fn lessened_keeps()
+    ensures { LessenedKeeps }
+{}
 
 /// Where the cell of each position lies at it, the cells decode to what the positions do.
 #[tactic(auto, using(crate::proofs::CelledDecoding::celled_decodes))]

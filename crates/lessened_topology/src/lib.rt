@@ -10,5 +10,6 @@ pub use laws::{
     arc_indexes_reach, assembled_is_valid, assembles_to_built, assembling_drops_expected,
     assembling_takes_out, built_decodes_back_on_grid, built_decodes_on_grid,
     built_is_valid_on_grid, celled_decodes, celled_is_valid, indexes_reach, lessened_is_valid,
-    lessens_to_built, lessens_to_built_on_grid, picked_is_reduced, reduced_is_valid,
+    lessened_keeps, lessens_to_built, lessens_to_built_on_grid, picked_is_reduced,
+    reduced_is_valid,
 };

@@ -1,3 +1,4 @@
+pub mod DecodedTexts
 pub mod FilesDecided
 pub mod FilesReached
 pub mod Sent

@@ -1,5 +1,5 @@
 -- What `to_geo` answers, reads and writes.
-use Rattle.std.specs.Prelude.{◌≡◌, ℕ, true, List, None, Some, Result, Ok, Err}
+use Rattle.std.specs.Prelude.{◌≡◌, ℕ, true, List, None, Some, Result, Ok, Err, IsUtf8}
 use Rattle.byte_ends.specs.Ends.{Fed, Drained}
 use Rattle.byte_ends.specs.Writes.{WritesAll, WritesFront}
 use Rattle.json_value.specs.Text.{json_text}
@@ -29,10 +29,11 @@ pub record GivesFeatures (name : List ℕ) (old new : Fed) (features : FeatureSe
   pub read : IsTopologyRead old new contents counts
   pub found : decoded contents name ≡ Some features
 
--- the sink took their whole text and passed it on, and the answer is its length
+-- their text is UTF-8, the sink took the whole of it and passed it on, and the answer is its length
 pub record IsDecoded (name : List ℕ) (old new : Fed) (sink_old sink_new : Drained) (sent : ℕ) : Type 0 where
   pub features : FeatureSet
   pub given : GivesFeatures name old new features
+  pub utf8 : IsUtf8 (features_text features)
   pub written : WritesAll sink_old sink_new 0 (features_text features) sent
   pub flushed : sink_new.flushed ≡ true
 

@@ -5,6 +5,7 @@ ghost use Rattle.topology_files.specs.FileOutcomes.{FileComesTo, FollowsText, ob
 ghost use Rattle.topology_files.specs.Geo.{features_text, FailsToDecode, GivesFeatures, IsDecoded, IsGeoFault, SendsText};
 
 use crate::file_reading::read_file;
+use crate::laws::decoded_text_is_utf8;
 use byte_ends::{Drain, Feed, Sink, Source, flush_behind};
 use geojson_types::FeatureSet;
 use geojson_writer::write_features;
@@ -49,7 +50,7 @@ pub fn to_geo<R: Feed, W: Drain>(
     name: &str,
     sink: &mut Sink<W>,
 ) -> Result<u64, FileFault>
-    // The bytes spell a topology, and what was written is the text of the features of its object of this name.
+    // The bytes spell a topology, and what was written is the text of the features of its object of this name, which is UTF-8.
     ensures written { IfOk result (λ sent. IsDecoded name.now source.old source.new sink.old sink.new sent) }
     // Every fault is one that the source, its bytes or the name have, or a prefix of that text was written.
     ensures refused { IfErr result (λ e. IsGeoFault name.now source.old source.new sink.old sink.new e) }
@@ -57,6 +58,7 @@ pub fn to_geo<R: Feed, W: Drain>(
     ensures decided { (bytes : List ℕ) (outcome : Result (List ℕ) Fault) → source.old.left ≡ Some bytes → FileComesTo (object_text name.now) bytes outcome
         → FollowsText sink.old sink.new outcome result }
 {
+    decoded_text_is_utf8();
     let found = read_features(alloc, source, name)?;
     send(&found, sink)
 }

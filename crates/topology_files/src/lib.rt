@@ -13,5 +13,5 @@ mod summarising;
 
 pub use decoding::to_geo;
 pub use file_reading::read_file;
-pub use laws::{features_are_one_outcome, summary_is_one_outcome};
+pub use laws::{decoded_text_is_utf8, features_are_one_outcome, summary_is_one_outcome};
 pub use summarising::stat;

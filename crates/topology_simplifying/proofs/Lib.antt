@@ -1,3 +1,4 @@
+pub mod LessenedTexts
 pub mod SimplifiedAgain
 pub mod SimplifyDecided
 pub mod Whole

@@ -15,6 +15,7 @@ use Rattle.topojson_types.specs.Transforms.{place}
 use Rattle.topojson_types.specs.Values.{topology_value}
 use Rattle.topology_files.specs.Files.{FailsToGive}
 use Rattle.topology_files.specs.Geo.{SendsText}
+use Rattle.topology_simplifying.specs.Laws.{LessenedIsUtf8}
 use Rattle.topology_simplifying.specs.Simplified.{IsLessened, IsSimplified, IsSimplifyFault}
 
 -- ---- positions of cells
@@ -36,10 +37,11 @@ not_given t old new sink (Write sent) f = absurd f.2
 -- ---- the text of what is left is sent
 
 module _ (t : ℕ) (old new : Fed) (sink_old sink_new : Drained) (less : Contents) (report : Report) (is : IsLessened t old new less report) where
-  pub sent_whole : (sent : ℕ) → SendsText sink_old sink_new (json_text (topology_value less)) (Ok sent) → IsSimplified t old new sink_old sink_new report
-  sent_whole sent w =
+  pub sent_whole : LessenedIsUtf8 → (sent : ℕ) → SendsText sink_old sink_new (json_text (topology_value less)) (Ok sent) → IsSimplified t old new sink_old sink_new report
+  sent_whole utf8 sent w =
       let all = subst (λ z. WritesAll sink_old sink_new 0 (json_text (topology_value z)) sent) is.left w.0 in
-      record { contents = is.contents; counts = is.counts; read = is.read; written = all.took; sound = all.sound; flushed = w.1; told = is.told }
+      let read = is.read in
+      record { contents = is.contents; counts = is.counts; read = is.read; utf8 = utf8 t read.bytes is.contents is.counts read.spells; written = all.took; sound = all.sound; flushed = w.1; told = is.told }
 
   pub cut_short : (e : FileFault) → SendsText sink_old sink_new (json_text (topology_value less)) (Err e) → IsSimplifyFault t old new sink_old sink_new e
   cut_short (Write sent) w =

@@ -1,5 +1,5 @@
 -- What is true of simplifying the bytes of a topology.
-use Rattle.std.specs.Prelude.{◌≡◌, ℕ, List, length, Some, Ok}
+use Rattle.std.specs.Prelude.{◌≡◌, ℕ, List, length, Some, Ok, IsUtf8}
 use Rattle.byte_ends.specs.Ends.{Fed, Drained, Takes}
 use Rattle.geojson_types.specs.declared.counts.Counts.{Counts}
 use Rattle.json_value.specs.declared.json.Json.{Json}
@@ -7,7 +7,7 @@ use Rattle.json_value.specs.Grammar.{Reads}
 use Rattle.reports.specs.declared.report.Report.{Report}
 use Rattle.topojson_meaning.specs.Topologies.{topology}
 use Rattle.topojson_types.specs.Topologies.{Contents}
-use Rattle.topology_files.specs.Files.{topology_depth}
+use Rattle.topology_files.specs.Files.{topology_depth, SpellsTopology}
 use Rattle.topology_simplifying.specs.Simplified.{lessened_text, report_of, IsSimplified}
 
 -- the bytes spell a JSON value (RFC 8259) that stands for this topology (TopoJSON 1.0), with these counts
@@ -22,3 +22,7 @@ abbrev pub SimplifiesToLessened : Type 0
 SimplifiesToLessened = (t : ℕ) (bytes : List ℕ) (contents : Contents) (counts : Counts) (source after : Fed) (sink_old sink_new : Drained) (report : Report)
     → StandsFor bytes contents counts → source.left ≡ Some bytes → IsSimplified t source after sink_old sink_new report
     → Takes sink_old sink_new (lessened_text t contents) (length (lessened_text t contents)) × (report ≡ report_of t contents counts)
+
+-- where bytes spell a topology, the text of what is left of it is UTF-8
+abbrev pub LessenedIsUtf8 : Type 0
+LessenedIsUtf8 = (t : ℕ) (bytes : List ℕ) (contents : Contents) (counts : Counts) → SpellsTopology bytes contents counts → IsUtf8 (lessened_text t contents)

@@ -1,5 +1,5 @@
 -- What `simplify` answers, reads and writes.
-use Rattle.std.specs.Prelude.{◌≡◌, ℕ, true, List, length}
+use Rattle.std.specs.Prelude.{◌≡◌, ℕ, true, List, length, IsUtf8}
 use Rattle.byte_ends.specs.Ends.{Fed, Drained, Takes, saturated}
 use Rattle.byte_ends.specs.Writes.{WritesFront}
 use Rattle.geojson_types.specs.declared.counts.Counts.{Counts}
@@ -34,12 +34,13 @@ pub record IsLessened (t : ℕ) (old new : Fed) (less : Contents) (report : Repo
   pub left : less ≡ lessened t contents
   pub told : report ≡ report_of t contents counts
 
--- the source was read to its end, its bytes spell a topology, the sink took the whole text of what is left of it and passed it
--- on, and this is its report
+-- the source was read to its end, its bytes spell a topology, the text of what is left of it is UTF-8, the sink took the whole of
+-- it and passed it on, and this is its report
 pub record IsSimplified (t : ℕ) (old new : Fed) (sink_old sink_new : Drained) (report : Report) : Type 0 where
   pub contents : Contents
   pub counts : Counts
   pub read : IsTopologyRead old new contents counts
+  pub utf8 : IsUtf8 (lessened_text t contents)
   pub written : Takes sink_old sink_new (lessened_text t contents) (length (lessened_text t contents))
   pub sound : sink_new.failures ≡ 0
   pub flushed : sink_new.flushed ≡ true

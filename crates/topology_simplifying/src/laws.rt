@@ -1,8 +1,12 @@
 // Laws of the definitions. A function here does nothing: its contract is the law.
 ghost use Rattle.std.specs.Prelude.{ℕ};
 ghost use Rattle.topology_files.specs.Laws.{HaveFileOutcome, HaveOneFileOutcome};
-ghost use Rattle.topology_simplifying.specs.Laws.{SimplifiesToLessened};
+ghost use Rattle.topology_simplifying.specs.Laws.{LessenedIsUtf8, SimplifiesToLessened};
 ghost use Rattle.topology_simplifying.specs.Outcomes.{simplified};
+
+use json_value::read_values_are_well_formed;
+use lessened_topology::lessened_keeps;
+use topojson_meaning::{numbers_stay, texts_stay, topology_is_valid, topology_text_is_utf8};
 
 /// Where a source has left the bytes of a topology, simplifying writes the text of what is left of that topology at the threshold.
 pub fn simplified_text_is_lessened()
@@ -15,3 +19,15 @@ pub fn simplified_is_one_outcome()
     ensures there { (t : ℕ) → HaveFileOutcome (simplified t) }
     ensures one { (t : ℕ) → HaveOneFileOutcome (simplified t) }
 {}
+
+/// The text of what is left of a topology is UTF-8 (RFC 8259, section 8.1), whichever topology the bytes of a file spell.
+pub fn lessened_text_is_utf8()
+    ensures { LessenedIsUtf8 }
+{
+    read_values_are_well_formed();
+    numbers_stay();
+    texts_stay();
+    topology_is_valid();
+    lessened_keeps();
+    topology_text_is_utf8();
+}

@@ -9,5 +9,5 @@ mod laws;
 mod lessening;
 mod simplifying;
 
-pub use laws::{simplified_is_one_outcome, simplified_text_is_lessened};
+pub use laws::{lessened_text_is_utf8, simplified_is_one_outcome, simplified_text_is_lessened};
 pub use simplifying::simplify;

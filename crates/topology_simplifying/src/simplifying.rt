@@ -10,6 +10,7 @@ ghost use Rattle.topology_files.specs.Geo.{SendsText};
 ghost use Rattle.topology_simplifying.specs.Outcomes.{FollowsSimplified, simplified};
 ghost use Rattle.topology_simplifying.specs.Simplified.{IsLessened, IsSimplified, IsSimplifyFault};
 
+use crate::laws::lessened_text_is_utf8;
 use crate::lessening::lessen;
 use byte_ends::{Drain, Feed, Sink, Source, flush_behind};
 use effective_area::Reducer;
@@ -60,7 +61,7 @@ pub fn simplify<Q: Reducer, R: Feed, W: Drain>(
     t: u128,
     sink: &mut Sink<W>,
 ) -> Result<Report, FileFault>
-    // The bytes spell a topology, what was written is the text of what is left of it, and the report is that of it.
+    // The bytes spell a topology, what was written is the text of what is left of it, which is UTF-8, and the report is that of it.
     ensures written { IfOk result (λ report. IsSimplified t source.old source.new sink.old sink.new report) }
     // Every fault is one that the source or its bytes have, or a prefix of that text was written.
     ensures refused { IfErr result (λ e. IsSimplifyFault t source.old source.new sink.old sink.new e) }
@@ -68,6 +69,7 @@ pub fn simplify<Q: Reducer, R: Feed, W: Drain>(
     ensures decided { (bytes : List ℕ) (outcome : Result (List ℕ × Told) Fault) → source.old.left ≡ Some bytes → FileComesTo (simplified t) bytes outcome
         → FollowsSimplified sink.old sink.new outcome result }
 {
+    lessened_text_is_utf8();
     let (less, report) = read_lessened(alloc, reducer, source, t)?;
     send(&less, sink)?;
     Ok(report)

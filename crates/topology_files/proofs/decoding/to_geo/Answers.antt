@@ -1,5 +1,6 @@
 use Rattle.std.proofs.lemmas.Result.{err_from_is_err_and}
 use Rattle.topology_files.proofs.FilesDecided.{found_fails, sent_decides}
+use Rattle.topology_files.proofs.Sent.{written}
 use Rattle.topology_files.proofs.decoding.to_geo.Goals as goal
 
 pub returns-in_err-found-clause-decided : goal.returns-in_err-found-clause-decided
@@ -10,3 +11,6 @@ returns-in_err-found-clause-decided g c bytes outcome left comes =
 pub returns-clause-decided : goal.returns-clause-decided
 returns-clause-decided g c bytes outcome left comes =
     sent_decides c.args.sink.now c.send.new.sink c.args.name.now c.args.source.now c.read_features.new.source bytes left outcome comes c.in_ok-found.found c.in_ok-found.ensures.given c.send.result c.send.ensures
+
+pub returns-clause-written : goal.returns-clause-written
+returns-clause-written g c = written c.args.name.now c.args.source.now c.read_features.new.source c.args.sink.now c.send.new.sink c.in_ok-found.found c.in_ok-found.ensures.given c.decoded_text_is_utf8.ensures c.send.result c.send.ensures

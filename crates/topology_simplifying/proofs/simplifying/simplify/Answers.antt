@@ -29,9 +29,9 @@ returns-in_err-send-clause-decided g c bytes outcome left comes =
 
 pub returns-clause-written : goal.returns-clause-written
 returns-clause-written g c =
-    sent_whole c.args.t c.args.source.now c.read_lessened.new.source c.args.sink.now c.send.new.sink c.in_ok-less.less c.in_ok-less.report c.in_ok-less.ensures.given _ c.in_ok-send.ensures
+    sent_whole c.args.t c.args.source.now c.read_lessened.new.source c.args.sink.now c.send.new.sink c.in_ok-less.less c.in_ok-less.report c.in_ok-less.ensures.given c.lessened_text_is_utf8.ensures _ c.in_ok-send.ensures
 
 pub returns-clause-decided : goal.returns-clause-decided
 returns-clause-decided g c bytes outcome left comes =
     simplified_follows c.args.sink.now c.send.new.sink c.args.t c.args.source.now c.read_lessened.new.source bytes left outcome comes c.in_ok-less.report
-    (sent_whole c.args.t c.args.source.now c.read_lessened.new.source c.args.sink.now c.send.new.sink c.in_ok-less.less c.in_ok-less.report c.in_ok-less.ensures.given _ c.in_ok-send.ensures)
+    (sent_whole c.args.t c.args.source.now c.read_lessened.new.source c.args.sink.now c.send.new.sink c.in_ok-less.less c.in_ok-less.report c.in_ok-less.ensures.given c.lessened_text_is_utf8.ensures _ c.in_ok-send.ensures)

@@ -1,3 +1,4 @@
 mod BuiltAgain
 mod ComingBack
+mod NeverRefused
 mod SameBytes

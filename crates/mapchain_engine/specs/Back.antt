@@ -1,19 +1,25 @@
--- What the bytes come to that a build wrote.
-use Rattle.std.specs.Prelude.{ℕ, ◌≤◌, Ok, length}
+-- What the bytes come to that a build wrote, and what is answered of them.
+use Rattle.std.specs.Prelude.{◌≡◌, ℕ, ◌≤◌, List, Some, Result, Ok, Err, IfErr, length}
 use Rattle.std.specs.List.{AllByRecursion}
-use Rattle.byte_ends.specs.Ends.{Fed, Drained}
+use Rattle.byte_ends.specs.Ends.{Fed, Drained, Takes}
+use Rattle.byte_ends.specs.Writes.{WritesAll}
 use Rattle.geojson_types.specs.declared.layer.FeatureSet.TheVariants.{Many}
 use Rattle.geojson_types.specs.Counting.{no_counts}
+use Rattle.inputs.specs.declared.file_fault.FileFault.{FileFault}
+use Rattle.inputs.specs.declared.file_fault.FileFault.TheVariants.{Memory}
 use Rattle.inputs.specs.Texts.{max_input}
 use Rattle.layer_sources.specs.Sources.{Sources}
 use Rattle.mapchain_engine.specs.Laws.{IsWrittenTo}
 use Rattle.reports.specs.declared.report.Report.{Report}
+use Rattle.reports.specs.declared.summary.Summary.{Summary}
 use Rattle.reports.specs.Summaries.{summary_of}
 use Rattle.topology_building.specs.Building.{expected_for, written_for, IsBuilt}
 use Rattle.topology_building.specs.declared.options.Options.{Options}
-use Rattle.topology_files.specs.FileOutcomes.{FileComesTo, object_text, summarised}
-use Rattle.topology_files.specs.Geo.{features_text}
-use Rattle.topology_simplifying.specs.Outcomes.{simplified}
+use Rattle.topology_files.specs.FileOutcomes.{FileComesTo, FollowsSummary, FollowsText, object_text, summarised}
+use Rattle.topology_files.specs.Files.{FailsToGive}
+use Rattle.topology_files.specs.Geo.{features_text, IsGeoFault}
+use Rattle.topology_simplifying.specs.Outcomes.{simplified, FollowsSimplified}
+use Rattle.topology_simplifying.specs.Simplified.{lessened_text, report_of, IsSimplifyFault}
 
 -- Where they are no more than an input may have, what a build wrote comes, with the name of each layer, to the text of the features that
 -- are expected of it, to the summary of the topology that is built, and at each threshold to what is left of that topology. So `to_geo`,
@@ -24,3 +30,48 @@ ComesBack = (o : Options) (olds news : Sources) (sink_old sink_new : Drained) (r
     → AllByRecursion (λ l. FileComesTo (object_text l.0) from.bytes (Ok (features_text (Many l.1.features)))) (expected_for o is.layers)
     × FileComesTo summarised from.bytes (Ok (summary_of (written_for o is.layers)))
     × ((t : ℕ) → FileComesTo (simplified t) from.bytes (simplified t (written_for o is.layers) no_counts))
+
+-- ---- what is answered of them
+
+-- what the contracts of `to_geo`, `stat` and `simplify` say of a call that answers this: why it refuses, and that the bytes decide
+pub record AnswersGeo (name : List ℕ) (old new : Fed) (out_old out_new : Drained) (result : Result ℕ FileFault) : Type 0 where
+  pub refused : IfErr result (λ e. IsGeoFault name old new out_old out_new e)
+  pub decided : (bytes : List ℕ) (outcome : Result (List ℕ) FileFault) → old.left ≡ Some bytes → FileComesTo (object_text name) bytes outcome
+      → FollowsText out_old out_new outcome result
+
+pub record AnswersStat (old new : Fed) (result : Result Summary FileFault) : Type 0 where
+  pub refused : IfErr result (λ e. FailsToGive old new e)
+  pub decided : (bytes : List ℕ) (outcome : Result Summary FileFault) → old.left ≡ Some bytes → FileComesTo summarised bytes outcome → FollowsSummary outcome result
+
+pub record AnswersSimplify (t : ℕ) (old new : Fed) (out_old out_new : Drained) (result : Result Report FileFault) : Type 0 where
+  pub refused : IfErr result (λ e. IsSimplifyFault t old new out_old out_new e)
+  pub decided : (bytes : List ℕ) (outcome : Result (List ℕ × Report) FileFault) → old.left ≡ Some bytes → FileComesTo (simplified t) bytes outcome
+      → FollowsSimplified out_old out_new outcome result
+
+-- an answer of which this holds, or want of memory
+abbrev pub OrMemory : {A : Type 0} → (A → Type 0) → Result A FileFault → Type 0
+OrMemory P (Ok a) = P a
+OrMemory P (Err e) = e ≡ Memory
+
+-- Where they are no more than an input may have, and no device has failed, `to_geo` with the name of a layer writes, of what a build
+-- wrote, the text of the features that are expected of that layer,
+abbrev pub GeoIsNeverRefused : Type 0
+GeoIsNeverRefused = (o : Options) (olds news : Sources) (sink_old sink_new : Drained) (report : Report) (is : IsBuilt o olds news sink_old sink_new report)
+    (source after : Fed) (out_old out_new : Drained) (result : Result ℕ FileFault) (from : IsWrittenTo sink_old sink_new source) → length from.bytes ≤ max_input
+    → after.failures ≡ 0 → out_new.failures ≡ 0
+    → AllByRecursion (λ l. AnswersGeo l.0 source after out_old out_new result → OrMemory (λ sent. WritesAll out_old out_new 0 (features_text (Many l.1.features)) sent) result)
+    (expected_for o is.layers)
+
+-- `stat` tells the summary of the topology that was built,
+abbrev pub StatIsNeverRefused : Type 0
+StatIsNeverRefused = (o : Options) (olds news : Sources) (sink_old sink_new : Drained) (report : Report) (is : IsBuilt o olds news sink_old sink_new report)
+    (source after : Fed) (result : Result Summary FileFault) (from : IsWrittenTo sink_old sink_new source) → length from.bytes ≤ max_input
+    → after.failures ≡ 0 → AnswersStat source after result → OrMemory (λ summary. summary ≡ summary_of (written_for o is.layers)) result
+
+-- and `simplify` writes at each threshold the text of what is left of that topology, with its report; or there is no memory.
+abbrev pub SimplifyIsNeverRefused : Type 0
+SimplifyIsNeverRefused = (o : Options) (olds news : Sources) (sink_old sink_new : Drained) (report : Report) (is : IsBuilt o olds news sink_old sink_new report)
+    (t : ℕ) (source after : Fed) (out_old out_new : Drained) (result : Result Report FileFault) (from : IsWrittenTo sink_old sink_new source) → length from.bytes ≤ max_input
+    → after.failures ≡ 0 → out_new.failures ≡ 0 → AnswersSimplify t source after out_old out_new result
+    → OrMemory (λ told. Takes out_old out_new (lessened_text t (written_for o is.layers)) (length (lessened_text t (written_for o is.layers)))
+    × (told ≡ report_of t (written_for o is.layers) no_counts)) result

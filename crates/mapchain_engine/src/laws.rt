@@ -1,5 +1,5 @@
 // Laws of the contracts. A function here does nothing: its contract is the law.
-ghost use Rattle.mapchain_engine.specs.Back.{ComesBack};
+ghost use Rattle.mapchain_engine.specs.Back.{ComesBack, GeoIsNeverRefused, SimplifyIsNeverRefused, StatIsNeverRefused};
 ghost use Rattle.mapchain_engine.specs.Laws.{
   BuildsOneText,
   DecodesBack,
@@ -29,6 +29,15 @@ pub fn built_text_decodes_back()
 /// `simplify` answer just that by their contracts, unless memory or a device fails.
 pub fn built_text_comes_back()
     ensures { ComesBack }
+{}
+
+/// So what `build` wrote is never refused: on no more than `MAX_INPUT` bytes of it, and where no device has failed, whatever `to_geo`,
+/// `stat` and `simplify` answer by their contracts is `Ok`, with the features that are expected of a layer, the summary of the topology
+/// that was built, or what is left of it at the threshold; or it is `Memory`.
+pub fn built_text_is_never_refused()
+    ensures geo { GeoIsNeverRefused }
+    ensures stat { StatIsNeverRefused }
+    ensures simplify { SimplifyIsNeverRefused }
 {}
 
 /// At a threshold of zero what is expected of each line of the layers is the line, with equal neighbours as one position and a ring

@@ -1,0 +1,90 @@
+-- What was built is answered, or there is no memory.
+use Rattle.std.proofs.Common.{◌≡◌, ℕ, ◌+◌, List, length, Result, Ok, Err, IfErr, refl, arith}
+use Rattle.byte_ends.specs.Ends.{Fed, Drained, Takes, saturated}
+use Rattle.byte_ends.specs.Writes.{WritesAll}
+use Rattle.byte_ends.specs.declared.source.ReadFault.TheVariants as read
+use Rattle.geojson_types.specs.declared.layer.FeatureSet.TheVariants.{Many}
+use Rattle.geojson_types.specs.Counting.{no_counts}
+use Rattle.inputs.specs.declared.file_fault.FileFault.{FileFault}
+use Rattle.inputs.specs.declared.file_fault.FileFault.TheVariants.{Read, Json, Topo, NoObject, Write, Memory}
+use Rattle.list_laws.proofs.Elements.{all_weaker}
+use Rattle.mapchain_engine.specs.Back.{AnswersGeo, OrMemory, GeoIsNeverRefused, StatIsNeverRefused, SimplifyIsNeverRefused}
+use Rattle.mapchain_engine.proofs.ComingBack.{comes_back}
+use Rattle.reports.specs.declared.report.Report.{Report}
+use Rattle.reports.specs.declared.summary.Summary.{Summary}
+use Rattle.reports.specs.Summaries.{summary_of}
+use Rattle.topology_building.specs.Building.{expected_for, written_for}
+use Rattle.topology_files.specs.FileOutcomes.{FileComesTo, FollowsSummary, FollowsText, IsOutsideFile, IsOutsideGiven, object_text}
+use Rattle.topology_files.specs.Files.{FailsToGive}
+use Rattle.topology_files.specs.Geo.{features_text, IsGeoFault}
+use Rattle.topology_simplifying.specs.Outcomes.{FollowsSimplified, simplified}
+use Rattle.topology_simplifying.specs.Simplified.{lessened_text, report_of, IsSimplifyFault}
+
+-- a source that failed in a call has failures
+counted : (old new : ℕ) → new ≡ saturated (old + 1) → new ≡ 0 → ⊥
+counted old new e h = omega arith
+
+-- no device failed, so it is memory
+given_memory : (old new : Fed) (e : FileFault) → new.failures ≡ 0 → FailsToGive old new e → IsOutsideGiven e → e ≡ Memory
+given_memory old new (Read read.Read) none f out = absurd (counted old.failures new.failures f none)
+given_memory old new (Read read.TooLong) none f out = absurd out
+given_memory old new (Read read.Memory) none f out = absurd out
+given_memory old new (Json fault) none f out = absurd out
+given_memory old new (Topo fault) none f out = absurd out
+given_memory old new NoObject none f out = absurd out
+given_memory old new (Write sent) none f out = absurd out
+given_memory old new Memory none f out = refl
+
+module _ (old new : Fed) (out_old out_new : Drained) (none : new.failures ≡ 0) (sound : out_new.failures ≡ 0) where
+  geo_memory : (name : List ℕ) (e : FileFault) → IsGeoFault name old new out_old out_new e → IsOutsideFile e → e ≡ Memory
+  geo_memory name (Write sent) f out = let failed = f.written.failed in absurd (omega arith)
+  geo_memory name (Read read.Read) f out = given_memory old new (Read read.Read) none f.1 out
+  geo_memory name (Read read.TooLong) f out = absurd out
+  geo_memory name (Read read.Memory) f out = absurd out
+  geo_memory name (Json fault) f out = absurd out
+  geo_memory name (Topo fault) f out = absurd out
+  geo_memory name NoObject f out = absurd out
+  geo_memory name Memory f out = refl
+
+  simplify_memory : (t : ℕ) (e : FileFault) → IsSimplifyFault t old new out_old out_new e → IsOutsideFile e → e ≡ Memory
+  simplify_memory t (Write sent) f out = let failed = f.written.failed in absurd (omega arith)
+  simplify_memory t (Read read.Read) f out = given_memory old new (Read read.Read) none f.1 out
+  simplify_memory t (Read read.TooLong) f out = absurd out
+  simplify_memory t (Read read.Memory) f out = absurd out
+  simplify_memory t (Json fault) f out = absurd out
+  simplify_memory t (Topo fault) f out = absurd out
+  simplify_memory t NoObject f out = absurd out
+  simplify_memory t Memory f out = refl
+
+  geo_answers : (name text : List ℕ) (result : Result ℕ FileFault) → IfErr result (λ e. IsGeoFault name old new out_old out_new e) → FollowsText out_old out_new (Ok text) result
+      → OrMemory (λ sent. WritesAll out_old out_new 0 text sent) result
+  geo_answers name text (Ok sent) refused follows = follows
+  geo_answers name text (Err e) refused follows = geo_memory name e refused follows
+
+  simplify_answers : (t : ℕ) (r : List ℕ × Report) (result : Result Report FileFault) → IfErr result (λ e. IsSimplifyFault t old new out_old out_new e)
+      → FollowsSimplified out_old out_new (Ok r) result → OrMemory (λ told. Takes out_old out_new r.0 (length r.0) × (told ≡ r.1)) result
+  simplify_answers t r (Ok told) refused follows = (follows.0, follows.2)
+  simplify_answers t r (Err e) refused follows = simplify_memory t e refused follows
+
+stat_answers : (old new : Fed) → new.failures ≡ 0 → (s : Summary) (result : Result Summary FileFault) → IfErr result (λ e. FailsToGive old new e) → FollowsSummary (Ok s) result
+    → OrMemory (λ summary. summary ≡ s) result
+stat_answers old new none s (Ok summary) refused follows = follows
+stat_answers old new none s (Err e) refused follows = given_memory old new e none refused follows
+
+pub geo_is_never_refused : GeoIsNeverRefused
+geo_is_never_refused o olds news sink_old sink_new report is source after out_old out_new result from short none sound =
+    all_weaker (λ l. FileComesTo (object_text l.0) from.bytes (Ok (features_text (Many l.1.features))))
+    (λ l. AnswersGeo l.0 source after out_old out_new result → OrMemory (λ sent. WritesAll out_old out_new 0 (features_text (Many l.1.features)) sent) result)
+    (λ l comes says. geo_answers source after out_old out_new none sound l.0 (features_text (Many l.1.features)) result says.refused (says.decided from.bytes (Ok (features_text (Many l.1.features))) from.left comes))
+    (expected_for o is.layers) (comes_back o olds news sink_old sink_new report is source from short).0
+
+pub stat_is_never_refused : StatIsNeverRefused
+stat_is_never_refused o olds news sink_old sink_new report is source after result from short none says =
+    let comes = (comes_back o olds news sink_old sink_new report is source from short).1 in
+    stat_answers source after none (summary_of (written_for o is.layers)) result says.refused (says.decided from.bytes (Ok (summary_of (written_for o is.layers))) from.left comes)
+
+pub simplify_is_never_refused : SimplifyIsNeverRefused
+simplify_is_never_refused o olds news sink_old sink_new report is t source after out_old out_new result from short none sound says =
+    let y = written_for o is.layers in
+    let comes = (comes_back o olds news sink_old sink_new report is source from short).2 t in
+    simplify_answers source after out_old out_new none sound t (lessened_text t y, report_of t y no_counts) result says.refused (says.decided from.bytes (simplified t y no_counts) from.left comes)

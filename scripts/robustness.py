@@ -94,6 +94,11 @@ LAYERS = (
     ("GeometryCollections in a Feature", 63, lambda n: feature(collections(n)), None),
     ("arrays as coordinates", 126, lambda n: geometry("Point", arrays(n)), "G6 ShortPosition feature 0"),
     ("arrays in a foreign member", 126, lambda n: '{"type":"Feature","x":%s}' % arrays(n), None),
+    ("arrays in properties of features", 123, lambda n: features([feature("null", '{"p":%s}' % arrays(n))]), None),
+    ("objects in properties of features", 124, lambda n: features([feature("null", objects(n))]), None),
+    ("GeometryCollections in features", 62, lambda n: features([feature(collections(n))]), None),
+    ("arrays as coordinates of features", 123, lambda n: features([feature(geometry("Point", arrays(n)))]), "G6 ShortPosition feature 0"),
+    ("arrays in a foreign member of features", 124, lambda n: features([feature("null", "null", '"x":%s,' % arrays(n))]), None),
 )
 TOPOLOGIES = (
     ("arrays as a topology", 255, arrays, "P1 NotTopology"),
@@ -102,6 +107,8 @@ TOPOLOGIES = (
     ("objects in properties", 252, lambda n: topology('"a":{"type":null,"properties":%s}' % objects(n), ""), None),
     ("GeometryCollections", 126, lambda n: topology('"a":%s' % collections(n), ""), None),
     ("arrays as arcs", 254, lambda n: topology("", arrays(n - 1)), "P4 WrongKind"),
+    ("arrays as arc indexes", 252, lambda n: topology('"a":{"type":"MultiPolygon","arcs":%s}' % arrays(n), ""), "P4 WrongKind"),
+    ("arrays as a transform", 254, lambda n: '{"type":"Topology","transform":%s,"objects":{},"arcs":[]}' % arrays(n), "P4 WrongKind"),
     ("arrays in a foreign member", 254, lambda n: '{"type":"Topology","objects":{},"arcs":[],"x":%s}' % arrays(n), None),
 )
 
@@ -275,6 +282,10 @@ FILES = (
     ("a coordinate's decimals", 10 * MILLION, lambda n: geometry("Point", f"[0.{'7' * n},0]"), BUILD, 0),
     ("a coordinate's digits", 10 * MILLION, lambda n: geometry("Point", f"[1{'0' * n},0]"), BUILD, 1),
     ("an exponent's digits", 10 * MILLION, lambda n: geometry("Point", f"[0e{'7' * n},0]"), BUILD, 0),
+    ("the same, in a feature", 10 * MILLION, lambda n: features([feature(geometry("Point", f"[0e{'7' * n},0]"))]), BUILD, 0),
+    ("decimals in a feature", 10 * MILLION, lambda n: features([feature(geometry("Point", f"[0.{'7' * n},0]"))]), BUILD, 0),
+    ("members of a feature, of one name", MILLION, lambda n: features([feature("null", "null", '"id":1,' * n)]), BUILD, 1),
+    ("elements of a position", MILLION, lambda n: features([feature(geometry("Point", listed(["1"] * n)))]), BUILD, 0),
     ("properties of one name", MILLION, lambda n: feature("null", "{%s}" % ",".join(['"a":1'] * n)), BUILD, 0),
     ("members of one name", MILLION, lambda n: "{%s}" % ",".join(['"type":"Point"'] * n), BUILD, 1),
     ("foreign members", MILLION, lambda n: feature("null", "null", foreign(n)), BUILD, 0),

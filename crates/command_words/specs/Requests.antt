@@ -2,7 +2,7 @@
 use Rattle.std.specs.Prelude.{◌≡◌, ◌≤◌, ◌^◌, ℕ, List, map, IfSome}
 use Rattle.command_words.specs.declared.request.Request.{Request}
 use Rattle.command_words.specs.declared.request.Request.TheVariants.{Build, Simplify, Geo, Stat}
-use Rattle.command_words.specs.LayerWords.{name_of}
+use Rattle.command_words.specs.LayerWords.{AreSplit, name_of}
 
 -- each layer has the name that stands before the first `=` of a word
 abbrev pub HasNames : Request → Type 0
@@ -10,6 +10,13 @@ HasNames (Build layers exact grid area) = (words : List (List ℕ)) × (map (λ 
 HasNames (Simplify area path) = Unit {0}
 HasNames (Geo name path) = Unit {0}
 HasNames (Stat path) = Unit {0}
+
+-- each layer has the name and the path that a word is split into at its first `=`
+abbrev pub HasSplits : Request → Type 0
+HasSplits (Build layers exact grid area) = (words : List (List ℕ)) × AreSplit words layers.items
+HasSplits (Simplify area path) = Unit {0}
+HasSplits (Geo name path) = Unit {0}
+HasSplits (Stat path) = Unit {0}
 
 -- a grid may have so many cells along each axis
 abbrev pub IsCells : ℕ → Type 0

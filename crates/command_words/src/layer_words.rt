@@ -1,6 +1,6 @@
 // The words that name a layer and its file.
 ghost use Rattle.std.specs.Prelude.{◌≡◌, ◌≢◌, EachIndex, IfOk, IfSome, MatchOption, map, slice_index};
-ghost use Rattle.command_words.specs.LayerWords.{equals_sign, name_of, IsSplit};
+ghost use Rattle.command_words.specs.LayerWords.{equals_sign, name_of, AreSplit, IsSplit};
 
 use crate::words_fault::WordsFault;
 use std::alloc::Global;
@@ -20,7 +20,8 @@ pub(crate) fn names_and_paths<'a>(
     alloc: Global,
     words: &[&'a str],
 ) -> Result<Vec<(&'a str, &'a str)>, WordsFault>
-    ensures { IfOk result (λ v. map (λ l. l.0.now) v.items ≡ map (λ w. name_of w.now) words.now) }
+    ensures named { IfOk result (λ v. map (λ l. l.0.now) v.items ≡ map (λ w. name_of w.now) words.now) }
+    ensures split { IfOk result (λ v. AreSplit (map (λ w. w.now) words.now) v.items) }
 {
     let mut layers = Vec::new(alloc);
     'words: for (layer, word) in words.iter().enumerate() {

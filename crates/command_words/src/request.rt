@@ -1,6 +1,6 @@
 // What words ask for.
 ghost use Rattle.std.specs.Prelude.{IfOk, IfSome};
-ghost use Rattle.command_words.specs.Requests.{HasNames, IsCells, IsGridInRange};
+ghost use Rattle.command_words.specs.Requests.{HasNames, HasSplits, IsCells, IsGridInRange};
 
 use crate::file_usage::{FILE, GEO, OBJECT, SIMPLIFY, STAT};
 use crate::layer_words::names_and_paths;
@@ -58,6 +58,7 @@ fn request_of<'a>(
     matches: &ArgMatches<'a>,
 ) -> Result<Option<Request<'a>>, WordsFault>
     ensures named { IfOk result (λ found. IfSome found HasNames) }
+    ensures split { IfOk result (λ found. IfSome found HasSplits) }
     ensures grid { IfOk result (λ found. IfSome found IsGridInRange) }
 {
     if let Some(arguments) = matches.subcommand_matches(BUILD) {
@@ -94,6 +95,8 @@ fn request_of<'a>(
 pub fn read_words<'a>(alloc: Global, words: &'a [String]) -> Result<Request<'a>, WordsFault>
     // The name of each layer is what stands before the first `=` of a word.
     ensures named { IfOk result (λ request. HasNames request) }
+    // Its path is what stands behind that.
+    ensures split { IfOk result (λ request. HasSplits request) }
     // A grid that is asked for has from 2 to 10^9 cells along each axis.
     ensures grid { IfOk result (λ request. IsGridInRange request) }
 {

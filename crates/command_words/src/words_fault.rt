@@ -15,8 +15,6 @@ pub enum WordsFault {
     NoEquals { layer: usize },
     /// The number of cells of the grid is out of range.
     GridRange,
-    /// The area isn't one that is taken. What reads the words judges no area; a program above does.
-    BadArea,
     /// An allocation was refused.
     Memory,
 }
@@ -45,7 +43,6 @@ impl fmt::Display for WordsFault {
             WordsFault::Help(error) | WordsFault::Refused(error) => write!(f, "{error}"),
             WordsFault::NoEquals { layer } => writeln!(f, "error: layer {layer} has no ="),
             WordsFault::GridRange => writeln!(f, "error: a grid has from 2 to 1000000000 cells"),
-            WordsFault::BadArea => writeln!(f, "error: bad area"),
             WordsFault::Memory => Ok(()),
         }
     }

@@ -1,4 +1,6 @@
 // Files in memory.
+ghost use Rattle.std.specs.Prelude.{◌≡◌, IfSome};
+
 use crate::devices::{Damage, Devices};
 use byte_ends::devices::{CutReader, Fault};
 use byte_ends::{FromRead, Source};
@@ -58,7 +60,9 @@ pub struct LentFiles<'a> {
 
 impl<'a> LentFiles<'a> {
     /// The file of this name from its first byte on, if the page has it.
-    pub fn open(&self, path: &str) -> Option<Source<FromRead<CutReader<'a>>>> {
+    pub fn open(&self, path: &str) -> Option<Source<FromRead<CutReader<'a>>>>
+        ensures { IfSome result (λ source. source.failures ≡ 0) }
+    {
         let damage = self.damage;
         let whole = self.files.bytes(path)?;
         let bytes = match damage {

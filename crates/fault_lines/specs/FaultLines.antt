@@ -6,6 +6,7 @@ use Rattle.decimal_json.specs.declared.fault.JsonFault.{JsonFault}
 use Rattle.decimal_json.specs.declared.fault.JsonFault.TheVariants as json
 use Rattle.geojson_model.specs.declared.fault.GeoFault.{GeoFault}
 use Rattle.geojson_model.specs.Faults.{code, name}
+use Rattle.topojson_meaning.specs.declared.fault.TopoFault.{TopoFault}
 use Rattle.topojson_meaning.specs.Faults as topo
 use Rattle.inputs.specs.declared.fault.BuildFault.{BuildFault}
 use Rattle.inputs.specs.declared.fault.BuildFault.TheVariants.{EmptyName, DuplicateName, Read, Json, Geo, Write, Memory}
@@ -33,9 +34,17 @@ feature_text (Some feature) = codes " feature " ++ decimal feature
 abbrev pub geo_text : GeoFault → List ℕ
 geo_text fault = ((code fault.kind ++ codes " ") ++ name fault.kind) ++ feature_text fault.feature
 
+-- why the file of a topology is no topology that is taken
+abbrev pub topo_text : TopoFault → List ℕ
+topo_text fault = (topo.code fault ++ codes " ") ++ topo.name fault
+
+-- the front of the line of the layer of this number
+abbrev pub layer_front : ℕ → List ℕ
+layer_front layer = (codes "error: layer " ++ decimal layer) ++ codes " "
+
 -- what the layer of this number is refused for
 abbrev pub layer_text : ℕ → List ℕ → List ℕ
-layer_text layer why = (codes "error: layer " ++ decimal layer) ++ ((codes " " ++ why) ++ codes "\n")
+layer_text layer why = (layer_front layer ++ why) ++ codes "\n"
 
 -- a fault, in a line of its own
 abbrev pub fault_text : BuildFault → List ℕ
@@ -55,7 +64,7 @@ file_text why = (codes "error: " ++ why) ++ codes "\n"
 abbrev pub file_fault_text : FileFault → List ℕ
 file_fault_text (file.Read fault) = file_text (read_text fault)
 file_fault_text (file.Json fault) = file_text (json_text fault)
-file_fault_text (file.Topo fault) = file_text ((topo.code fault ++ codes " ") ++ topo.name fault)
+file_fault_text (file.Topo fault) = file_text (topo_text fault)
 file_fault_text file.NoObject = codes "error: E4 NoObject\n"
 file_fault_text (file.Write sent) = (codes "error: E5 Write sent " ++ decimal sent) ++ codes "\n"
 file_fault_text file.Memory = codes "error: E6 Memory\n"

@@ -1,2 +1,3 @@
 pub mod FaultLines
 pub mod Statuses
+pub mod Telling

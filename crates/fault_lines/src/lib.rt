@@ -3,10 +3,8 @@
 #![tactic(auto)]
 
 mod fault_line;
-mod sink_text;
 mod statuses;
 mod telling;
 
-pub use sink_text::SinkText;
 pub use statuses::{DONE, FAILED, INPUT_REFUSED, WORDS_REFUSED, file_status, status};
-pub use telling::{tell_fault, tell_file_fault};
+pub use telling::{tell_fault, tell_file_fault, tell_text};

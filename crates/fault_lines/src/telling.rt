@@ -1,26 +1,38 @@
 // Telling a fault in a line.
 ghost use Rattle.std.specs.Prelude.{◌≡◌};
+ghost use Rattle.fault_lines.specs.FaultLines.{fault_text, file_fault_text};
 ghost use Rattle.fault_lines.specs.Statuses.{file_status_of, status_of};
+ghost use Rattle.fault_lines.specs.Telling.{Tells};
 
-use crate::fault_line::{FaultLine, FileFaultLine};
-use crate::sink_text::SinkText;
+use crate::fault_line::{put_fault, put_file_fault};
 use crate::statuses::{file_status, status};
-use byte_ends::{Drain, Sink};
+use byte_ends::{Drain, Sink, flush_behind};
 use inputs::{BuildFault, FileFault};
-use std::fmt::Write;
+
+/// Tells a text, and passes it on. It is cut short where the device fails.
+pub fn tell_text<W: Drain>(text: &[u8], err: &mut Sink<W>)
+    ensures { Tells err.old err.new text.now }
+{
+    let written = err.put(0, text);
+    let _ = flush_behind(written, err);
+}
 
 /// Tells a fault in a line of its own, and gives its status. The line needs no memory, and is cut short where the device fails.
 pub fn tell_fault<W: Drain>(fault: &BuildFault, err: &mut Sink<W>) -> u8
-    ensures { result ≡ status_of fault.now }
+    ensures status { result ≡ status_of fault.now }
+    ensures told { Tells err.old err.new (fault_text fault.now) }
 {
-    let _ = write!(SinkText { sink: err }, "{}", FaultLine(fault));
+    let written = put_fault(fault, err);
+    let _ = flush_behind(written, err);
     status(fault)
 }
 
 /// Tells a fault of the file of a topology in a line of its own, and gives its status, as `tell_fault` does.
 pub fn tell_file_fault<W: Drain>(fault: &FileFault, err: &mut Sink<W>) -> u8
-    ensures { result ≡ file_status_of fault.now }
+    ensures status { result ≡ file_status_of fault.now }
+    ensures told { Tells err.old err.new (file_fault_text fault.now) }
 {
-    let _ = write!(SinkText { sink: err }, "{}", FileFaultLine(fault));
+    let written = put_file_fault(fault, err);
+    let _ = flush_behind(written, err);
     file_status(fault)
 }

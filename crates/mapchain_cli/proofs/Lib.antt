@@ -1,1 +1,4 @@
-pub mod Outcomes
+pub mod Cut
+pub mod Opened
+pub mod Refusals
+pub mod Statuses

@@ -1,37 +1,45 @@
--- How a run ends, and what it did to standard output.
-use Rattle.std.specs.Prelude.{◌≡◌, ℕ, Bool, true, false, List, length, map}
+-- What is written where a request is done, and why one isn't: of which files, in the words of the crates that read them.
+use Rattle.std.specs.Prelude.{◌≡◌, ◌⊎◌, ℕ, true, List, length, map, None, Some, slice_get}
 use Rattle.byte_ends.specs.Ends.{Fed, Drained, Takes}
-use Rattle.inputs.specs.declared.fault.BuildFault.TheVariants.{Write}
+use Rattle.byte_ends.specs.Writes.{WritesFront}
+use Rattle.byte_ends.specs.declared.source.ReadFault.TheVariants as read
+use Rattle.inputs.specs.declared.fault.BuildFault.{BuildFault}
+use Rattle.inputs.specs.declared.fault.BuildFault.TheVariants.{Read}
+use Rattle.inputs.specs.declared.file_fault.FileFault.{FileFault}
 use Rattle.inputs.specs.declared.file_fault.FileFault.TheVariants as file
+use Rattle.layer_sources.specs.Names.{name_fault}
+use Rattle.layer_sources.specs.Sources.{Sources}
 use Rattle.reports.specs.declared.report.Report.{Report}
 use Rattle.reports.specs.declared.summary.Summary.{Summary}
-use Rattle.topology_building.specs.Building.{IsBuilt}
-use Rattle.topology_building.specs.declared.options.Options.{Options}
-use Rattle.topology_files.specs.Geo.{IsDecoded}
-use Rattle.layer_sources.specs.Sources.{Sources}
 use Rattle.reports.specs.Summaries.{summary_text}
-use Rattle.topology_files.specs.Files.{IsSummarised}
+use Rattle.topology_building.specs.Building.{IsBuilt, IsLateFault}
+use Rattle.topology_building.specs.declared.options.Options.{Options}
+use Rattle.topology_files.specs.Files.{FailsToGive, IsSummarised}
+use Rattle.topology_files.specs.Geo.{IsDecoded}
 use Rattle.topology_simplifying.specs.Simplified.{IsSimplified}
-use Rattle.mapchain_cli.specs.declared.ending.Ending.{Ending}
-use Rattle.mapchain_cli.specs.declared.ending.Ending.TheVariants.{Refused, FileRefused}
+use Rattle.mapchain_cli.specs.Opening.{AreOpened, Contents, IsOpened, Layers}
 
--- the topology of layers with these names was written, as it was asked for
-pub record BuildsOf (options : Options) (names : List (List ℕ)) (old new : Drained) (report : Report) : Type 0 where
+-- ---- what is written
+
+-- the topology of these layers was written, each read from the file of its path, as it was asked for
+pub record BuildsOf (contents : Contents) (options : Options) (layers : Layers) (old new : Drained) (report : Report) : Type 0 where
   pub sources_old : Sources
   pub sources_new : Sources
-  pub named : map (λ s. s.0) sources_old ≡ names
+  pub opened : AreOpened contents layers sources_old
   pub built : IsBuilt options sources_old sources_new old new report
 
--- what is left of the topology that a source's bytes spell was written, where it is reduced at this threshold
-pub record SimplifiesOf (threshold : ℕ) (old new : Drained) (report : Report) : Type 0 where
+-- what is left of the topology of the file of this path was written, where it is reduced at this threshold
+pub record SimplifiesOf (contents : Contents) (threshold : ℕ) (path : List ℕ) (old new : Drained) (report : Report) : Type 0 where
   pub source_old : Fed
   pub source_new : Fed
+  pub opened : IsOpened contents path source_old
   pub simplified : IsSimplified threshold source_old source_new old new report
 
--- the text of the features of an object of this name was written, of the topology that a source's bytes spell
-pub record DecodesOf (name : List ℕ) (old new : Drained) : Type 0 where
+-- the text of the features of an object of this name was written, of the topology of the file of this path
+pub record DecodesOf (contents : Contents) (name path : List ℕ) (old new : Drained) : Type 0 where
   pub source_old : Fed
   pub source_new : Fed
+  pub opened : IsOpened contents path source_old
   pub sent : ℕ
   pub decoded : IsDecoded name source_old source_new old new sent
 
@@ -39,20 +47,49 @@ pub record DecodesOf (name : List ℕ) (old new : Drained) : Type 0 where
 abbrev pub SendsSummary : Drained → Drained → Summary → Type 0
 SendsSummary old new summary = Takes old new (summary_text summary) (length (summary_text summary)) × (new.failures ≡ 0) × (new.flushed ≡ true)
 
--- the summary was written of the topology that a source's bytes spell
-pub record Summarises (old new : Drained) : Type 0 where
+-- the summary was written of the topology of the file of this path
+pub record Summarises (contents : Contents) (path : List ℕ) (old new : Drained) : Type 0 where
   pub source_old : Fed
   pub source_new : Fed
+  pub opened : IsOpened contents path source_old
   pub summary : Summary
   pub told : IsSummarised source_old source_new summary
   pub sent : SendsSummary old new summary
 
--- the device failed while the topology, the features or the summary was written
-abbrev pub is_write_fault : Ending → Bool
-is_write_fault (Refused (Write sent)) = true
-is_write_fault (FileRefused (file.Write sent)) = true
-is_write_fault _ = false
+-- ---- why nothing is written whole: nothing is written unless the device failed
 
--- nothing was written, unless the device failed
-abbrev pub KeepsUnlessWriting : Ending → Drained → Drained → Type 0
-KeepsUnlessWriting ending old new = is_write_fault ending ≡ false → new ≡ old
+-- the file of a layer can't be opened, or isn't known, and the fault names that layer
+abbrev pub IsUnopened : Contents → Layers → BuildFault → Type 0
+IsUnopened contents layers e =
+    (i : ℕ) × (layer : List ℕ × List ℕ) × (slice_get layers i ≡ Some layer) × (contents layer.1 ≡ None) × (e ≡ Read i read.Read)
+
+-- a layer's source is refused, each opened as the file of its path, or the device failed
+pub record IsRefusedLate (contents : Contents) (options : Options) (layers : Layers) (old new : Drained) (e : BuildFault) : Type 0 where
+  pub sources_old : Sources
+  pub sources_new : Sources
+  pub opened : AreOpened contents layers sources_old
+  pub fault : IsLateFault options sources_old sources_new old new e
+
+-- why the topology of these layers isn't built: a file can't be opened, a name is refused, or what was read is
+abbrev pub RefusesLayers : Contents → Options → Layers → Drained → Drained → BuildFault → Type 0
+RefusesLayers contents options layers old new e =
+    ((new ≡ old) × IsUnopened contents layers e)
+    ⊎ (((new ≡ old) × (name_fault (map (λ l. l.0) layers) ≡ Some e)) ⊎ IsRefusedLate contents options layers old new e)
+
+-- the source that is opened as the file of this path has this fault
+pub record IsRefusedFile (contents : Contents) (path : List ℕ) (Fails : Fed → Fed → FileFault → Type 0) (e : FileFault) : Type 0 where
+  pub source_old : Fed
+  pub source_new : Fed
+  pub opened : IsOpened contents path source_old
+  pub fault : Fails source_old source_new e
+
+-- why the file of a topology of this path isn't used: it can't be opened, or isn't known, or what was read has this fault
+abbrev pub RefusesFile : Contents → List ℕ → Drained → Drained → (Fed → Fed → FileFault → Type 0) → FileFault → Type 0
+RefusesFile contents path old new Fails e =
+    ((new ≡ old) × (contents path ≡ None) × (e ≡ file.Read read.Read)) ⊎ IsRefusedFile contents path Fails e
+
+-- why no summary is written whole: the device failed when it had taken a front of its text, or there is none
+abbrev pub IsSummaryFault : Drained → Drained → Fed → Fed → FileFault → Type 0
+IsSummaryFault sink_old sink_new old new (file.Write sent) =
+    (summary : Summary) × IsSummarised old new summary × WritesFront sink_old sink_new 0 (summary_text summary) sent
+IsSummaryFault sink_old sink_new old new e = (sink_new ≡ sink_old) × FailsToGive old new e

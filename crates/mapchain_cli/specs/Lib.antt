@@ -1,2 +1,4 @@
 pub mod Asking
 pub mod Endings
+pub mod Opening
+pub mod Runs

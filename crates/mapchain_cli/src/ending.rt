@@ -1,30 +1,18 @@
 // How a run ends that isn't done.
-use command_words::WordsFault;
 use inputs::{BuildFault, FileFault};
 use std::alloc::{AllocError, AllocFailed};
 
 /// How a run ends that isn't done.
 #[derive(Drop)]
 pub(crate) enum Ending {
-    /// The words are refused, or ask for help.
-    Words(WordsFault),
+    /// The area isn't one that is taken.
+    BadArea,
     /// The file of a layer couldn't be opened, or the engine refused to build.
     Refused(BuildFault),
     /// The file of a topology couldn't be opened, or the engine refused it.
     FileRefused(FileFault),
     /// An allocation was refused before the engine was called.
     Memory,
-}
-
-impl From<WordsFault> for Ending {
-    ghost use Rattle.std.specs.Prelude.{◌≡◌};
-    ghost use Rattle.mapchain_cli.specs.declared.ending.Ending.TheVariants.{Words};
-
-    ghost from_gives = { λ fault e. e ≡ Words fault };
-
-    fn from(fault: WordsFault) -> Ending {
-        Ending::Words(fault)
-    }
 }
 
 impl From<BuildFault> for Ending {

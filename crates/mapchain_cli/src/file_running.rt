@@ -1,9 +1,13 @@
 // Running the commands that take the file of a topology.
-ghost use Rattle.std.specs.Prelude.{◌≡◌, ℕ, IfErr, IfOk};
-ghost use Rattle.mapchain_cli.specs.Endings.{DecodesOf, KeepsUnlessWriting, SendsSummary, SimplifiesOf, Summarises};
+ghost use Rattle.std.specs.Prelude.{◌≡◌, None, IfErr, IfOk};
+ghost use Rattle.byte_ends.specs.declared.source.ReadFault.TheVariants as read;
 ghost use Rattle.inputs.specs.declared.file_fault.FileFault.TheVariants as file;
+ghost use Rattle.reports.specs.Summaries as spec;
+ghost use Rattle.topology_files.specs.Geo.{IsGeoFault, SendsText};
+ghost use Rattle.topology_simplifying.specs.Simplified.{IsSimplifyFault};
+ghost use Rattle.mapchain_cli.specs.Endings.{DecodesOf, IsSummaryFault, RefusesFile, SimplifiesOf, Summarises};
+ghost use Rattle.mapchain_cli.specs.Opening.{IsOpened};
 
-use crate::ending::Ending;
 use crate::files::Files;
 use byte_ends::{Drain, ReadFault, Sink, Source, flush_behind};
 use effective_area::HeapLinks;
@@ -14,10 +18,13 @@ use topology_files::{stat, to_geo};
 use topology_simplifying::simplify;
 
 /// Opens the file of a topology.
-fn open_file<F: Files>(path: &str, files: &mut F) -> Result<Source<F::R>, Ending> {
+fn open_file<F: Files>(path: &str, files: &mut F) -> Result<Source<F::R>, FileFault>
+    ensures opened { IfOk result (λ source. IsOpened (F.contents files.old) path.now source) }
+    ensures refused { IfErr result (λ e. (F.contents files.old path.now ≡ None) × (e ≡ file.Read read.Read)) }
+{
     match files.open(path) {
         Some(source) => Ok(source),
-        None => Err(Ending::FileRefused(FileFault::Read(ReadFault::Read))),
+        None => Err(FileFault::Read(ReadFault::Read)),
     }
 }
 
@@ -28,9 +35,10 @@ pub(crate) fn decode_object<F: Files, V: Drain>(
     path: &str,
     files: &mut F,
     out: &mut Sink<V>,
-) -> Result<(), Ending>
-    ensures decoded { IfOk result (λ _. DecodesOf name.now out.old out.new) }
-    ensures refused { IfErr result (λ ending. KeepsUnlessWriting ending out.old out.new) }
+) -> Result<(), FileFault>
+    ensures decoded { IfOk result (λ _. DecodesOf (F.contents files.old) name.now path.now out.old out.new) }
+    ensures refused { IfErr result (λ e. RefusesFile (F.contents files.old) path.now out.old out.new
+        (λ s u. IsGeoFault name.now s u out.old out.new) e) }
 {
     let mut source = open_file(path, files)?;
     to_geo(alloc, &mut source, name, out)?;
@@ -44,9 +52,10 @@ pub(crate) fn simplify_file<F: Files, V: Drain>(
     path: &str,
     files: &mut F,
     out: &mut Sink<V>,
-) -> Result<Report, Ending>
-    ensures simplified { IfOk result (λ report. SimplifiesOf threshold out.old out.new report) }
-    ensures refused { IfErr result (λ ending. KeepsUnlessWriting ending out.old out.new) }
+) -> Result<Report, FileFault>
+    ensures simplified { IfOk result (λ report. SimplifiesOf (F.contents files.old) threshold path.now out.old out.new report) }
+    ensures refused { IfErr result (λ e. RefusesFile (F.contents files.old) path.now out.old out.new
+        (λ s u. IsSimplifyFault threshold s u out.old out.new) e) }
 {
     let mut source = open_file(path, files)?;
     let mut reducer = HeapLinks::new();
@@ -55,13 +64,12 @@ pub(crate) fn simplify_file<F: Files, V: Drain>(
 }
 
 /// Writes a summary and flushes the sink.
-fn send_summary<V: Drain>(summary: &Summary, out: &mut Sink<V>) -> Result<(), FileFault>
-    ensures sent { IfOk result (λ _. SendsSummary out.old out.new summary.now) }
-    ensures failed { IfErr result (λ e. (sent : ℕ) × (e ≡ file.Write sent)) }
+fn send_summary<V: Drain>(summary: &Summary, out: &mut Sink<V>) -> Result<u64, FileFault>
+    ensures { SendsText out.old out.new (spec.summary_text summary.now) result }
 {
     let written = summary_text(summary, out);
-    flush_behind(written, out)?;
-    Ok(())
+    let sent = flush_behind(written, out)?;
+    Ok(sent)
 }
 
 /// Counts what is in a topology.
@@ -70,9 +78,9 @@ pub(crate) fn summarise<F: Files, V: Drain>(
     path: &str,
     files: &mut F,
     out: &mut Sink<V>,
-) -> Result<(), Ending>
-    ensures told { IfOk result (λ _. Summarises out.old out.new) }
-    ensures refused { IfErr result (λ ending. KeepsUnlessWriting ending out.old out.new) }
+) -> Result<(), FileFault>
+    ensures told { IfOk result (λ _. Summarises (F.contents files.old) path.now out.old out.new) }
+    ensures refused { IfErr result (λ e. RefusesFile (F.contents files.old) path.now out.old out.new (IsSummaryFault out.old out.new) e) }
 {
     let mut source = open_file(path, files)?;
     let summary = stat(alloc, &mut source)?;

@@ -1,4 +1,7 @@
 // Where layers are opened.
+ghost use Rattle.std.specs.Prelude.{◌≡◌, ℕ, List, Option, None, IfNone, IfSome};
+ghost use Rattle.mapchain_cli.specs.Opening.{IsOpened};
+
 use byte_ends::{Feed, Source};
 
 /// Files that are read by their names, as a file system.
@@ -6,6 +9,14 @@ pub trait Files {
     /// The device that gives a file's bytes.
     type R: Feed + Drop;
 
+    // The bytes of the file of a path, where they are known and it can be opened.
+    ghost contents: { Self → List ℕ → Option (List ℕ) } = { λ _ _. None };
+
     /// The file of this name from its first byte on, or nothing where it can't be opened.
-    fn open(&mut self, path: &str) -> Option<Source<Self::R>>;
+    fn open(&mut self, path: &str) -> Option<Source<Self::R>>
+        // What is given has the bytes of that file left, and has not failed.
+        ensures opened { IfSome result (λ source. IsOpened (contents self.old) path.now source) }
+        ensures refused { IfNone result (contents self.old path.now ≡ None) }
+        // The files stay as they are.
+        ensures same { contents self.new ≡ contents self.old };
 }

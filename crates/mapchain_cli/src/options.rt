@@ -2,14 +2,12 @@
 ghost use Rattle.std.specs.Prelude.{◌≡◌, ◌⊎◌, ◌≤◌, ◌*◌, ◌^◌, IfErr, IfOk, IfSome, None, Some};
 ghost use Rattle.area_thresholds.specs.Thresholds.{threshold_of};
 ghost use Rattle.command_words.specs.Requests.{IsCells};
-ghost use Rattle.command_words.specs.declared.words_fault.WordsFault.TheVariants.{BadArea};
 ghost use Rattle.mapchain_cli.specs.Asking.{IsAskedFor};
 ghost use Rattle.mapchain_cli.specs.declared.ending.Ending.TheVariants as ending;
 
 use crate::ending::Ending;
 use area_thresholds::read_threshold;
 use byte_ends::Memory;
-use command_words::WordsFault;
 use std::alloc::Global;
 use topology_building::Options;
 
@@ -18,11 +16,11 @@ pub(crate) fn threshold_asked(alloc: Global, area: &str) -> Result<u128, Ending>
     ensures asked { IfOk result (λ t. threshold_of area.now ≡ Some t) }
     ensures within { IfOk result (λ t. t ≤ 2 * 10 ^ 32) }
     // An area that has no threshold is refused, and no other.
-    ensures refused { IfErr result (λ e. ((e ≡ ending.Words BadArea) × (threshold_of area.now ≡ None)) ⊎ (e ≡ ending.Memory)) }
+    ensures refused { IfErr result (λ e. ((e ≡ ending.BadArea) × (threshold_of area.now ≡ None)) ⊎ (e ≡ ending.Memory)) }
 {
     match read_threshold(alloc, area) {
         Ok(Some(threshold)) => Ok(threshold),
-        Ok(None) => Err(Ending::Words(WordsFault::BadArea)),
+        Ok(None) => Err(Ending::BadArea),
         Err(Memory) => Err(Ending::Memory),
     }
 }
@@ -36,7 +34,7 @@ pub(crate) fn options_of(
 ) -> Result<Options, Ending>
     requires { IfSome grid IsCells }
     ensures asked { IfOk result (λ options. IsAskedFor exact grid area.now options) }
-    ensures refused { IfErr result (λ e. ((e ≡ ending.Words BadArea) × (threshold_of area.now ≡ None)) ⊎ (e ≡ ending.Memory)) }
+    ensures refused { IfErr result (λ e. ((e ≡ ending.BadArea) × (threshold_of area.now ≡ None)) ⊎ (e ≡ ending.Memory)) }
 {
     let threshold = threshold_asked(alloc, area)?;
     Ok(Options {

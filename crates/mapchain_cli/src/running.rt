@@ -1,21 +1,25 @@
 // Running the program.
-ghost use Rattle.std.specs.Prelude.{◌≡◌, ◌⊎◌, ◌≤◌, IfErr, IfOk, map, true};
+ghost use Rattle.std.specs.Prelude.{◌≡◌, ◌⊎◌, ◌≤◌, IfErr, IfOk, true};
 ghost use Rattle.command_words.specs.Requests.{IsGridInRange};
-ghost use Rattle.mapchain_cli.specs.Asking.{IsAnswered};
-ghost use Rattle.mapchain_cli.specs.Endings.{BuildsOf, KeepsUnlessWriting};
+ghost use Rattle.inputs.specs.declared.fault.BuildFault.{BuildFault as Fault};
+ghost use Rattle.mapchain_cli.specs.Asking.{IsAnswered, IsRefused, texts_of};
+ghost use Rattle.mapchain_cli.specs.Endings.{BuildsOf, IsUnopened, RefusesLayers};
+ghost use Rattle.mapchain_cli.specs.Opening.{AreOpened};
+ghost use Rattle.mapchain_cli.specs.Runs.{IsPerformed, Runs};
+ghost use Rattle.mapchain_cli.specs.declared.ending.Ending.TheVariants as ending;
 
 use crate::ending::Ending;
 use crate::file_running::{decode_object, simplify_file, summarise};
 use crate::files::Files;
 use crate::options::{options_of, threshold_asked};
-use crate::telling::tell;
+use crate::telling::{tell_done, tell_ending, tell_words};
 use byte_ends::{Drain, ReadFault, Sink, Source};
 use command_words::{Request, read_words};
 use effective_area::HeapLinks;
 use fault_lines::DONE;
 use inputs::BuildFault;
 use json_value::OwnText;
-use reports::{Report, report_text};
+use reports::Report;
 use std::alloc::Global;
 use topology_building::{Options, build};
 
@@ -25,7 +29,9 @@ fn open_layers<F: Files>(
     layers: &[(&str, &str)],
     files: &mut F,
 ) -> Result<Vec<(OwnText, Source<F::R>)>, Ending>
-    ensures { IfOk result (λ v. map (λ s. s.0) v.items ≡ map (λ l. l.0.now) layers.now) }
+    ensures opened { IfOk result (λ v. AreOpened (F.contents files.old) (texts_of layers.now) v.items) }
+    ensures refused { IfErr result (λ e. (e ≡ ending.Memory)
+        ⊎ ((fault : Fault) × (e ≡ ending.Refused fault) × IsUnopened (F.contents files.old) (texts_of layers.now) fault)) }
 {
     let mut sources = Vec::new(alloc);
     'layers: for (layer, (name, path)) in layers.iter().enumerate() {
@@ -49,8 +55,10 @@ fn build_layers<F: Files, V: Drain>(
     files: &mut F,
     out: &mut Sink<V>,
 ) -> Result<Report, Ending>
-    ensures built { IfOk result (λ report. BuildsOf options.now (map (λ l. l.0.now) layers.now) out.old out.new report) }
-    ensures refused { IfErr result (λ ending. KeepsUnlessWriting ending out.old out.new) }
+    ensures built { IfOk result (λ report. BuildsOf (F.contents files.old) options.now (texts_of layers.now) out.old out.new report) }
+    ensures refused { IfErr result (λ e. ((e ≡ ending.Memory) × (out.new ≡ out.old))
+        ⊎ ((fault : Fault) × (e ≡ ending.Refused fault)
+        × RefusesLayers (F.contents files.old) options.now (texts_of layers.now) out.old out.new fault)) }
 {
     let mut sources = open_layers(alloc, layers, files)?;
     let mut reducer = HeapLinks::new();
@@ -66,10 +74,8 @@ fn answer<F: Files, V: Drain>(
     out: &mut Sink<V>,
 ) -> Result<Option<Report>, Ending>
     requires { IsGridInRange request }
-    ensures answered { IfOk result (λ report. IsAnswered request.entry out.old out.new report) }
-    ensures done { IfOk result (λ _. out.new.failures ≡ 0) }
-    ensures flushed { IfOk result (λ _. out.new.flushed ≡ true) }
-    ensures refused { IfErr result (λ ending. KeepsUnlessWriting ending out.old out.new) }
+    ensures answered { IfOk result (λ report. IsAnswered (F.contents files.old) request.entry out.old out.new report) }
+    ensures refused { IfErr result (λ e. IsRefused (F.contents files.old) request.entry out.old out.new e) }
 {
     match request {
         Request::Build {
@@ -98,19 +104,25 @@ fn answer<F: Files, V: Drain>(
     }
 }
 
-/// Does what the words ask for, and gives the report of a build or of simplifying.
-fn run<F: Files, V: Drain>(
+/// Does what is asked for, and tells the report of a build or of simplifying, or why it isn't done. The answer is the exit status.
+pub fn perform<F: Files, V: Drain, W: Drain>(
     alloc: Global,
-    words: &[String],
+    request: Request<'_>,
     files: &mut F,
     out: &mut Sink<V>,
-) -> Result<Option<Report>, Ending>
-    ensures done { IfOk result (λ _. out.new.failures ≡ 0) }
-    ensures flushed { IfOk result (λ _. out.new.flushed ≡ true) }
-    ensures refused { IfErr result (λ ending. KeepsUnlessWriting ending out.old out.new) }
+    err: &mut Sink<W>,
+) -> u8
+    requires { IsGridInRange request }
+    ensures { IsPerformed (F.contents files.old) request.entry
+        (record { out = out.old; err = err.old }) (record { out = out.new; err = err.new }) result }
 {
-    let request = read_words(alloc, words)?;
-    answer(alloc, request, files, out)
+    match answer(alloc, request, files, out) {
+        Ok(report) => {
+            tell_done(&report, err);
+            DONE
+        }
+        Err(ending) => tell_ending(&ending, err),
+    }
 }
 
 /// Runs the program on the words behind its name. Standard output takes the topology, the features, the summary or the
@@ -124,6 +136,10 @@ pub fn command<F: Files, V: Drain, W: Drain>(
     out: &mut Sink<V>,
     err: &mut Sink<W>,
 ) -> u8
+    // A request that is read of the words is done or refused, or help is given, or the words are refused; and standard error took
+    // what there is to tell.
+    ensures ran { Runs (F.contents files.old)
+        (record { out = out.old; err = err.old }) (record { out = out.new; err = err.new }) result }
     ensures status { result ≤ 3 }
     // At status 0 standard output took all that was written to it, and passed it on.
     ensures done { result ≡ 0 → out.new.failures ≡ 0 }
@@ -131,14 +147,8 @@ pub fn command<F: Files, V: Drain, W: Drain>(
     // Where the input or the words are refused, standard output takes nothing.
     ensures refused { (result ≡ 1) ⊎ (result ≡ 2) → out.new ≡ out.old }
 {
-    let status = match run(alloc, words.as_slice(), files, out) {
-        Ok(Some(report)) => {
-            let _ = report_text(&report, err);
-            DONE
-        }
-        Ok(None) => DONE,
-        Err(ending) => tell(&ending, out, err),
-    };
-    let _ = err.finish();
-    status
+    match read_words(alloc, words.as_slice()) {
+        Ok(request) => perform(alloc, request, files, out, err),
+        Err(fault) => tell_words(alloc, &fault, out, err),
+    }
 }

@@ -1,54 +1,85 @@
 // Telling how a run ended.
-ghost use Rattle.std.specs.Prelude.{◌≡◌, ◌⊎◌, ◌≤◌, true};
-ghost use Rattle.mapchain_cli.specs.Endings.{is_write_fault};
+ghost use Rattle.std.specs.Prelude.{◌≡◌};
+ghost use Rattle.fault_lines.specs.Telling.{Tells};
+ghost use Rattle.mapchain_cli.specs.Runs.{EndsAtWords, IsHelped, ending_status, line_of, told_of};
 
 use crate::ending::Ending;
-use byte_ends::{Broken, Drain, Sink};
+use byte_ends::{Drain, Sink, flush_behind};
 use command_words::WordsFault;
-use fault_lines::{DONE, FAILED, SinkText, WORDS_REFUSED, tell_fault, tell_file_fault};
+use fault_lines::{DONE, FAILED, WORDS_REFUSED, tell_fault, tell_file_fault, tell_text};
 use inputs::BuildFault;
-use std::fmt::Write;
+use reports::{Report, report_text};
+use std::alloc::Global;
 
-/// Tells what there is to say of the words: help on standard output, what is wrong with them on standard error. For want of
-/// memory there is no line.
-fn tell_words<V: Drain, W: Drain>(fault: &WordsFault, out: &mut Sink<V>, err: &mut Sink<W>) -> u8
-    ensures status { result ≤ 3 }
-    ensures done { result ≡ 0 → out.new.failures ≡ 0 }
-    ensures flushed { result ≡ 0 → out.new.flushed ≡ true }
-    ensures refused { (result ≡ 1) ⊎ (result ≡ 2) → out.new ≡ out.old }
+/// Tells the report of a request that is done, if it has one.
+pub(crate) fn tell_done<W: Drain>(report: &Option<Report>, err: &mut Sink<W>)
+    ensures { Tells err.old err.new (told_of report.now) }
 {
-    match fault {
-        WordsFault::Memory => FAILED,
-        WordsFault::Refused(_)
-        | WordsFault::NoEquals { .. }
-        | WordsFault::GridRange
-        | WordsFault::BadArea => {
-            let _ = write!(SinkText { sink: err }, "{fault}");
+    match report {
+        Some(report) => {
+            let written = report_text(report, err);
+            let _ = flush_behind(written, err);
+        }
+        None => tell_text(b"", err),
+    }
+}
+
+/// Tells why a request isn't done, and gives the status.
+pub(crate) fn tell_ending<W: Drain>(ending: &Ending, err: &mut Sink<W>) -> u8
+    ensures status { result ≡ ending_status ending.now }
+    ensures told { Tells err.old err.new (line_of ending.now) }
+{
+    match ending {
+        Ending::BadArea => {
+            tell_text(b"error: bad area\n", err);
             WORDS_REFUSED
         }
-        WordsFault::Help(_) => {
-            let _ = write!(SinkText { sink: out }, "{fault}");
-            match out.finish() {
-                Ok(()) => DONE,
-                Err(Broken) => tell_fault(&BuildFault::Write { sent: out.sent() }, err),
-            }
+        Ending::Refused(fault) => tell_fault(fault, err),
+        Ending::FileRefused(fault) => tell_file_fault(fault, err),
+        Ending::Memory => {
+            tell_text(b"", err);
+            FAILED
         }
     }
 }
 
-/// Tells how a run ended that isn't done, and gives its status. For want of memory before the engine was called
-/// there is no line.
-pub(crate) fn tell<V: Drain, W: Drain>(ending: &Ending, out: &mut Sink<V>, err: &mut Sink<W>) -> u8
-    ensures status { result ≤ 3 }
-    ensures done { result ≡ 0 → out.new.failures ≡ 0 }
-    ensures flushed { result ≡ 0 → out.new.flushed ≡ true }
-    ensures refused { (result ≡ 1) ⊎ (result ≡ 2) → out.new ≡ out.old }
-    ensures writing { is_write_fault ending.now ≡ true → result ≡ 3 }
+/// Writes help to standard output, and gives the status.
+fn help<V: Drain, W: Drain>(text: &str, out: &mut Sink<V>, err: &mut Sink<W>) -> u8
+    ensures { IsHelped (record { out = out.old; err = err.old }) (record { out = out.new; err = err.new }) result }
 {
-    match ending {
-        Ending::Words(fault) => tell_words(fault, out, err),
-        Ending::Refused(fault) => tell_fault(fault, err),
-        Ending::FileRefused(fault) => tell_file_fault(fault, err),
-        Ending::Memory => FAILED,
+    let written = out.put(0, text.as_bytes());
+    match flush_behind(written, out) {
+        Ok(_) => {
+            tell_text(b"", err);
+            DONE
+        }
+        Err(fault) => tell_fault(&BuildFault::from(fault), err),
+    }
+}
+
+/// Tells what there is to say of words that ask for nothing that is done: help on standard output, what is wrong with them on
+/// standard error, nothing for want of memory. Gives the status.
+pub(crate) fn tell_words<V: Drain, W: Drain>(
+    alloc: Global,
+    fault: &WordsFault,
+    out: &mut Sink<V>,
+    err: &mut Sink<W>,
+) -> u8
+    ensures { EndsAtWords fault.now (record { out = out.old; err = err.old }) (record { out = out.new; err = err.new }) result }
+{
+    let Ok(text) = fault.to_string(alloc) else {
+        tell_text(b"", err);
+        return FAILED;
+    };
+    match fault {
+        WordsFault::Memory => {
+            tell_text(b"", err);
+            FAILED
+        }
+        WordsFault::Help(_) => help(text.as_str(), out, err),
+        WordsFault::Refused(_) | WordsFault::NoEquals { .. } | WordsFault::GridRange => {
+            tell_text(text.as_bytes(), err);
+            WORDS_REFUSED
+        }
     }
 }

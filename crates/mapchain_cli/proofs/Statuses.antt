@@ -1,0 +1,184 @@
+-- What a run's promise says of its status and of standard output.
+use Rattle.std.proofs.Common.{◌≡◌, ◌⊎◌, ◌<◌, ◌≤◌, inl, inr, ℕ, List, true, Option, None, Some, arith}
+use Rattle.byte_ends.specs.Ends.{Drained, Fed}
+use Rattle.byte_ends.specs.declared.source.ReadFault.TheVariants as read
+use Rattle.command_words.specs.declared.request.Request.{Request}
+use Rattle.command_words.specs.declared.request.Request.TheVariants.{Build, Simplify, Geo, Stat}
+use Rattle.command_words.specs.declared.words_fault.WordsFault.{WordsFault}
+use Rattle.command_words.specs.declared.words_fault.WordsFault.TheVariants as words
+use Rattle.fault_lines.specs.Statuses.{file_status_of, status_of}
+use Rattle.inputs.specs.declared.fault.BuildFault.{BuildFault}
+use Rattle.inputs.specs.declared.fault.BuildFault.TheVariants.{EmptyName, DuplicateName, Read, Json, Geo as Layer, Write, Memory as NoRoom}
+use Rattle.inputs.specs.declared.file_fault.FileFault.{FileFault}
+use Rattle.inputs.specs.declared.file_fault.FileFault.TheVariants as file
+use Rattle.layer_sources.specs.Sources.{Sources}
+use Rattle.reports.specs.declared.report.Report.{Report}
+use Rattle.topology_building.specs.Building.{IsLateFault}
+use Rattle.topology_building.specs.declared.options.Options.{Options}
+use Rattle.topology_files.specs.Geo.{IsGeoFault}
+use Rattle.topology_simplifying.specs.Simplified.{IsSimplifyFault}
+use Rattle.mapchain_cli.specs.Asking.{IsAnswered, IsRefused, RefusesBuild, RefusesTopology}
+use Rattle.mapchain_cli.specs.Endings.{IsSummaryFault, RefusesLayers}
+use Rattle.mapchain_cli.specs.Opening.{Contents, Layers}
+use Rattle.mapchain_cli.specs.Runs.{EndsAtWords, IsHelped, IsPerformed, IsRefusedFor, LacksMemory, Runs, Streams, ending_status}
+use Rattle.mapchain_cli.specs.declared.ending.Ending.{Ending}
+use Rattle.mapchain_cli.specs.declared.ending.Ending.TheVariants.{BadArea, Refused, FileRefused, Memory}
+
+-- ---- standard output of a request that isn't done
+
+late_keeps : (o : Options) (olds news : Sources) (old new : Drained) (e : BuildFault) → IsLateFault o olds news old new e → status_of e < 3 → new ≡ old
+late_keeps o olds news old new (Write sent) h lt = absurd (omega arith)
+late_keeps o olds news old new (EmptyName n) h lt = h.0
+late_keeps o olds news old new (DuplicateName n) h lt = h.0
+late_keeps o olds news old new (Read n fault) h lt = h.0
+late_keeps o olds news old new (Json n fault) h lt = h.0
+late_keeps o olds news old new (Layer n fault) h lt = h.0
+late_keeps o olds news old new NoRoom h lt = h.0
+
+layers_keep : (c : Contents) (o : Options) (layers : Layers) (old new : Drained) (e : BuildFault) → RefusesLayers c o layers old new e → status_of e < 3 → new ≡ old
+layers_keep c o layers old new e (inl h) lt = h.0
+layers_keep c o layers old new e (inr (inl h)) lt = h.0
+layers_keep c o layers old new e (inr (inr h)) lt = late_keeps o h.sources_old h.sources_new old new e h.fault lt
+
+build_keeps : (c : Contents) (request : Request) (old new : Drained) (e : BuildFault) → RefusesBuild c request old new e → status_of e < 3 → new ≡ old
+build_keeps c (Build layers exact grid area) old new e h lt = layers_keep c h.0 _ old new e h.2 lt
+build_keeps c (Simplify area path) old new e h lt = absurd h
+build_keeps c (Geo name path) old new e h lt = absurd h
+build_keeps c (Stat path) old new e h lt = absurd h
+
+simplify_keeps : (t : ℕ) (s u : Fed) (old new : Drained) (e : FileFault) → IsSimplifyFault t s u old new e → file_status_of e < 3 → new ≡ old
+simplify_keeps t s u old new (file.Write sent) h lt = absurd (omega arith)
+simplify_keeps t s u old new (file.Read fault) h lt = h.0
+simplify_keeps t s u old new (file.Json fault) h lt = h.0
+simplify_keeps t s u old new (file.Topo fault) h lt = h.0
+simplify_keeps t s u old new file.NoObject h lt = h.0
+simplify_keeps t s u old new file.Memory h lt = h.0
+
+geo_keeps : (name : List ℕ) (s u : Fed) (old new : Drained) (e : FileFault) → IsGeoFault name s u old new e → file_status_of e < 3 → new ≡ old
+geo_keeps name s u old new (file.Write sent) h lt = absurd (omega arith)
+geo_keeps name s u old new (file.Read fault) h lt = h.0
+geo_keeps name s u old new (file.Json fault) h lt = h.0
+geo_keeps name s u old new (file.Topo fault) h lt = h.0
+geo_keeps name s u old new file.NoObject h lt = h.0
+geo_keeps name s u old new file.Memory h lt = h.0
+
+summary_keeps : (s u : Fed) (old new : Drained) (e : FileFault) → IsSummaryFault old new s u e → file_status_of e < 3 → new ≡ old
+summary_keeps s u old new (file.Write sent) h lt = absurd (omega arith)
+summary_keeps s u old new (file.Read fault) h lt = h.0
+summary_keeps s u old new (file.Json fault) h lt = h.0
+summary_keeps s u old new (file.Topo fault) h lt = h.0
+summary_keeps s u old new file.NoObject h lt = h.0
+summary_keeps s u old new file.Memory h lt = h.0
+
+topology_keeps : (c : Contents) (request : Request) (old new : Drained) (e : FileFault) → RefusesTopology c request old new e → file_status_of e < 3 → new ≡ old
+topology_keeps c (Build layers exact grid area) old new e h lt = absurd h
+topology_keeps c (Simplify area path) old new e h lt =
+    elim h.2 [ inl k ↦ k.0 | inr k ↦ simplify_keeps h.0 k.source_old k.source_new old new e k.fault lt ]
+topology_keeps c (Geo name path) old new e (inl h) lt = h.0
+topology_keeps c (Geo name path) old new e (inr h) lt = geo_keeps name.now h.source_old h.source_new old new e h.fault lt
+topology_keeps c (Stat path) old new e (inl h) lt = h.0
+topology_keeps c (Stat path) old new e (inr h) lt = summary_keeps h.source_old h.source_new old new e h.fault lt
+
+keeps : (c : Contents) (request : Request) (old new : Drained) (ending : Ending) → IsRefused c request old new ending → ending_status ending < 3 → new ≡ old
+keeps c request old new BadArea h lt = h.0
+keeps c request old new (Refused e) h lt = build_keeps c request old new e h lt
+keeps c request old new (FileRefused e) h lt = topology_keeps c request old new e h lt
+keeps c request old new Memory h lt = h
+
+-- ---- standard output of one that is
+
+sound : (c : Contents) (request : Request) (old new : Drained) (report : Option Report) → IsAnswered c request old new report → (new.failures ≡ 0) × (new.flushed ≡ true)
+sound c (Build layers exact grid area) old new (Some report) h = (h.2.built.sound, h.2.built.flushed)
+sound c (Build layers exact grid area) old new None h = absurd h
+sound c (Simplify area path) old new (Some report) h = (h.2.simplified.sound, h.2.simplified.flushed)
+sound c (Simplify area path) old new None h = absurd h
+sound c (Geo name path) old new (Some report) h = absurd h
+sound c (Geo name path) old new None h = (h.decoded.written.sound, h.decoded.flushed)
+sound c (Stat path) old new (Some report) h = absurd h
+sound c (Stat path) old new None h = (h.sent.1, h.sent.2)
+
+-- ---- statuses
+
+status_is : (e : BuildFault) → (0 < status_of e) × (status_of e ≤ 3)
+status_is (EmptyName n) = (omega arith, omega arith)
+status_is (DuplicateName n) = (omega arith, omega arith)
+status_is (Read n read.Read) = (omega arith, omega arith)
+status_is (Read n read.TooLong) = (omega arith, omega arith)
+status_is (Read n read.Memory) = (omega arith, omega arith)
+status_is (Json n fault) = (omega arith, omega arith)
+status_is (Layer n fault) = (omega arith, omega arith)
+status_is (Write sent) = (omega arith, omega arith)
+status_is NoRoom = (omega arith, omega arith)
+
+file_status_is : (e : FileFault) → (0 < file_status_of e) × (file_status_of e ≤ 3)
+file_status_is (file.Read read.Read) = (omega arith, omega arith)
+file_status_is (file.Read read.TooLong) = (omega arith, omega arith)
+file_status_is (file.Read read.Memory) = (omega arith, omega arith)
+file_status_is (file.Json fault) = (omega arith, omega arith)
+file_status_is (file.Topo fault) = (omega arith, omega arith)
+file_status_is file.NoObject = (omega arith, omega arith)
+file_status_is (file.Write sent) = (omega arith, omega arith)
+file_status_is file.Memory = (omega arith, omega arith)
+
+ending_is : (ending : Ending) → (0 < ending_status ending) × (ending_status ending ≤ 3)
+ending_is BadArea = (omega arith, omega arith)
+ending_is (Refused e) = status_is e
+ending_is (FileRefused e) = file_status_is e
+ending_is Memory = (omega arith, omega arith)
+
+-- ---- both
+
+-- what a status says of standard output
+pub record Says (old new : Drained) (status : ℕ) : Type 0 where
+  pub small : status ≤ 3
+  pub done : status ≡ 0 → new.failures ≡ 0
+  pub flushed : status ≡ 0 → new.flushed ≡ true
+  pub refused : (status ≡ 1) ⊎ (status ≡ 2) → new ≡ old
+
+at_done : (old new : Drained) (status : ℕ) → status ≡ 0 → new.failures ≡ 0 → new.flushed ≡ true → Says old new status
+at_done old new status is f p = record {
+  small = omega arith;
+  done = λ _. f;
+  flushed = λ _. p;
+  refused = λ h. elim h [ inl one ↦ absurd (omega arith) | inr two ↦ absurd (omega arith) ];
+}
+
+at_other : (old new : Drained) (status : ℕ) → (0 < status) × (status ≤ 3) → (status < 3 → new ≡ old) → Says old new status
+at_other old new status is h = record {
+  small = is.1;
+  done = λ zero. absurd (omega (arith, is.0));
+  flushed = λ zero. absurd (omega (arith, is.0));
+  refused = λ k. elim k [ inl one ↦ h (omega arith) | inr two ↦ h (omega arith) ];
+}
+
+lacks : (old new : Streams) (status : ℕ) → LacksMemory old new status → Says old.out new.out status
+lacks old new status h = at_other old.out new.out status (omega (arith, h.2), omega (arith, h.2)) (λ _. h.0)
+
+helped : (old new : Streams) (status : ℕ) → IsHelped old new status → Says old.out new.out status
+helped old new status (text, sent, inl h) = at_done old.out new.out status h.3 h.0.sound h.1
+helped old new status (text, sent, inr h) = at_other old.out new.out status (omega (arith, h.2), omega (arith, h.2)) (λ lt. absurd (omega (arith, h.2)))
+
+refused_for : (fault : WordsFault) (old new : Streams) (status : ℕ) → IsRefusedFor fault old new status → Says old.out new.out status
+refused_for fault old new status h = at_other old.out new.out status (omega (arith, h.4), omega (arith, h.4)) (λ _. h.2)
+
+at_words : (fault : WordsFault) (old new : Streams) (status : ℕ) → EndsAtWords fault old new status → Says old.out new.out status
+at_words (words.Help error) old new status (inl h) = helped old new status h
+at_words (words.Help error) old new status (inr h) = lacks old new status h
+at_words words.Memory old new status h = lacks old new status h
+at_words (words.Refused error) old new status (inl h) = refused_for (words.Refused error) old new status h
+at_words (words.Refused error) old new status (inr h) = lacks old new status h
+at_words (words.NoEquals layer) old new status (inl h) = refused_for (words.NoEquals layer) old new status h
+at_words (words.NoEquals layer) old new status (inr h) = lacks old new status h
+at_words words.GridRange old new status (inl h) = refused_for words.GridRange old new status h
+at_words words.GridRange old new status (inr h) = lacks old new status h
+
+performed : (c : Contents) (request : Request) (old new : Streams) (status : ℕ) → IsPerformed c request old new status → Says old.out new.out status
+performed c request old new status (inl h) =
+    let s = sound c request old.out new.out h.0 h.1 in
+    at_done old.out new.out status h.3 s.0 s.1
+performed c request old new status (inr h) =
+    rw h.3 (at_other old.out new.out (ending_status h.0) (ending_is h.0) (keeps c request old.out new.out h.0 h.1))
+
+pub says : (c : Contents) (old new : Streams) (status : ℕ) → Runs c old new status → Says old.out new.out status
+says c old new status (inl h) = performed c h.0 old new status h.3
+says c old new status (inr h) = at_words h.0 old new status h.1

@@ -1,0 +1,25 @@
+use Rattle.std.proofs.Common.{inr}
+use Rattle.std.proofs.lemmas.Result.{err_from_is_err_and}
+use Rattle.mapchain_cli.proofs.Cut.{summary_cut, summary_fault}
+use Rattle.mapchain_cli.proofs.file_running.summarise.Goals as goal
+
+pub returns-in_err-summary-clause-refused : goal.returns-in_err-summary-clause-refused
+returns-in_err-summary-clause-refused g c =
+    let p = err_from_is_err_and c.from_residual-in_err-summary.result c.from_residual-in_err-summary.ensures.1 in
+    rw (p.1, p.2) (inr (record {
+      source_old = c.in_ok-source.source;
+      source_new = c.stat.new.source;
+      opened = c.in_ok-source.ensures.opened;
+      fault = summary_fault c.args.out.now c.in_ok-source.source c.stat.new.source c.in_err-summary.field-0.0 c.in_err-summary.ensures.refused;
+    }))
+
+pub returns-in_err-send_summary-clause-refused : goal.returns-in_err-send_summary-clause-refused
+returns-in_err-send_summary-clause-refused g c =
+    let p = err_from_is_err_and c.from_residual-in_err-send_summary.result c.from_residual-in_err-send_summary.ensures.1 in
+    rw (p.1, p.2) (inr (record {
+      source_old = c.in_ok-source.source;
+      source_new = c.stat.new.source;
+      opened = c.in_ok-source.ensures.opened;
+      fault = summary_cut c.args.out.now c.send_summary.new.out c.in_ok-source.source c.stat.new.source c.in_ok-summary.summary c.in_err-send_summary.field-0.0
+          c.in_ok-summary.ensures.told c.in_err-send_summary.ensures;
+    }))

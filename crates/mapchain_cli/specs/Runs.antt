@@ -1,0 +1,85 @@
+-- What a run promises: its exit status, and what standard output and standard error took.
+use Rattle.std.specs.Prelude.{◌≡◌, ◌⊎◌, ℕ, true, List, [], codes, IfSome, Option, None, Some}
+use Rattle.byte_ends.specs.Ends.{Drained}
+use Rattle.byte_ends.specs.Writes.{WritesAll, WritesFront}
+use Rattle.command_words.specs.Faults.{words_fault_text}
+use Rattle.command_words.specs.Requests.{HasSplits, IsGridInRange}
+use Rattle.command_words.specs.declared.request.Request.{Request}
+use Rattle.command_words.specs.declared.words_fault.WordsFault.{WordsFault}
+use Rattle.command_words.specs.declared.words_fault.WordsFault.TheVariants as words
+use Rattle.fault_lines.specs.FaultLines.{fault_text, file_fault_text}
+use Rattle.fault_lines.specs.Statuses.{failed, file_status_of, status_of, words_refused}
+use Rattle.fault_lines.specs.Telling.{Tells}
+use Rattle.inputs.specs.declared.fault.BuildFault.TheVariants.{Write}
+use Rattle.reports.specs.Reports.{report_text}
+use Rattle.reports.specs.declared.report.Report.{Report}
+use Rattle.mapchain_cli.specs.Asking.{IsAnswered, IsRefused}
+use Rattle.mapchain_cli.specs.Opening.{Contents}
+use Rattle.mapchain_cli.specs.declared.ending.Ending.{Ending}
+use Rattle.mapchain_cli.specs.declared.ending.Ending.TheVariants.{BadArea, Refused, FileRefused, Memory}
+
+-- standard output and standard error
+pub record Streams : Type 0 where
+  pub out : Drained
+  pub err : Drained
+
+-- ---- what standard error takes
+
+-- of a request that is done: the report of a build or of simplifying
+abbrev pub told_of : Option Report → List ℕ
+told_of None = []
+told_of (Some report) = report_text report
+
+-- of one that isn't done: a line. For want of memory before the files are read there is none
+abbrev pub line_of : Ending → List ℕ
+line_of BadArea = codes "error: bad area\n"
+line_of (Refused fault) = fault_text fault
+line_of (FileRefused fault) = file_fault_text fault
+line_of Memory = []
+
+-- and its status: 1 where the contents of a file are refused, 2 where words are, 3 where devices or memory fail
+abbrev pub ending_status : Ending → ℕ
+ending_status BadArea = words_refused
+ending_status (Refused fault) = status_of fault
+ending_status (FileRefused fault) = file_status_of fault
+ending_status Memory = failed
+
+-- ---- a request over files with these contents
+
+-- it is done, and its report told; or it isn't, and the line is told that says why
+abbrev pub IsPerformed : Contents → Request → Streams → Streams → ℕ → Type 0
+IsPerformed contents request old new status =
+    ((report : Option Report) × IsAnswered contents request old.out new.out report × Tells old.err new.err (told_of report) × (status ≡ 0))
+    ⊎ ((ending : Ending) × IsRefused contents request old.out new.out ending × Tells old.err new.err (line_of ending) × (status ≡ ending_status ending))
+
+-- ---- words that ask for nothing that is done
+
+-- nothing is told for want of memory
+abbrev pub LacksMemory : Streams → Streams → ℕ → Type 0
+LacksMemory old new status = (new.out ≡ old.out) × Tells old.err new.err [] × (status ≡ failed)
+
+-- a text of help was written, or the device failed when it had taken a front of it, which is told
+abbrev pub IsHelped : Streams → Streams → ℕ → Type 0
+IsHelped old new status = (text : List ℕ) × (sent : ℕ) ×
+    ((WritesAll old.out new.out 0 text sent × (new.out.flushed ≡ true) × Tells old.err new.err [] × (status ≡ 0))
+    ⊎ (WritesFront old.out new.out 0 text sent × Tells old.err new.err (fault_text (Write sent)) × (status ≡ failed)))
+
+-- a text was told, which is the line of the fault where that is not `clap`'s
+abbrev pub IsRefusedFor : WordsFault → Streams → Streams → ℕ → Type 0
+IsRefusedFor fault old new status = (text : List ℕ) × IfSome (words_fault_text fault) (λ line. text ≡ line)
+    × (new.out ≡ old.out) × Tells old.err new.err text × (status ≡ words_refused)
+
+-- help was asked for, or the words are refused, unless memory was wanting
+abbrev pub EndsAtWords : WordsFault → Streams → Streams → ℕ → Type 0
+EndsAtWords (words.Help error) old new status = IsHelped old new status ⊎ LacksMemory old new status
+EndsAtWords words.Memory old new status = LacksMemory old new status
+EndsAtWords fault old new status = IsRefusedFor fault old new status ⊎ LacksMemory old new status
+
+-- ---- a whole run
+
+-- A request was read of the words, and performed, or there is none. Which request it is, and when there is none, is `clap`'s to say:
+-- its contracts don't.
+abbrev pub Runs : Contents → Streams → Streams → ℕ → Type 0
+Runs contents old new status =
+    ((request : Request) × HasSplits request × IsGridInRange request × IsPerformed contents request old new status)
+    ⊎ ((fault : WordsFault) × EndsAtWords fault old new status)

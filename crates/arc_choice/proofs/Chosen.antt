@@ -23,11 +23,7 @@ chosen_end : {X : Type 0} (bs : List Bool) (xs : List X) (x : X) → chosen bs (
 chosen_end [] [] x = refl
 chosen_end [] (y ∷ xs) x = refl
 chosen_end (b ∷ bs) [] x = refl
-chosen_end {X} (b ∷ bs) (y ∷ xs) x = on b (chosen bs (xs ++ x ∷ [])) (chosen bs xs) (chosen (drop (length xs) bs) (x ∷ [])) (chosen_end bs xs x)
-  where
-    on : (b : Bool) (all front back : List X) → all ≡ front ++ back → (if b then y ∷ all else all) ≡ (if b then y ∷ front else front) ++ back
-    on true all front back e = ap (λ zs. y ∷ zs) e
-    on false all front back e = e
+chosen_end {X} (b ∷ bs) (y ∷ xs) x = grind (arith, chosen_end bs xs x)
 
 behind : (bs : List Bool) (n : ℕ) (b : Bool) (rest : List Bool) → b ∷ rest ≡ drop n bs → rest ≡ drop (suc n) bs
 behind [] zero b rest e = absurd cc
@@ -52,18 +48,11 @@ pub begins : {X : Type 0} (used : List Bool) (kept : List X) → kept ≡ [] →
 begins used kept none = (refl, none ∙ sym (of_none used))
 
 pub passed : {X : Type 0} (used flags : List Bool) (xs kept : List X) (x : X) → flags ≡ [] → Chooses used xs flags kept → Chooses used (xs ++ x ∷ []) flags kept
-passed used flags xs kept x none so = (
-  none ∙ no_flag used (length xs) (sym none ∙ so.0) ∙ ap (λ n. drop n used) (sym (one_longer xs x)),
-  so.1 ∙ sym (append-nil (chosen used xs)) ∙ ap (λ bs. chosen used xs ++ chosen bs (x ∷ [])) (sym none ∙ so.0) ∙ sym (chosen_end used xs x),
-)
+passed used flags xs kept x none so = grind (arith, no_flag, one_longer, append-nil, chosen_end)
 
 more : {X : Type 0} (used flags rest : List Bool) (flag : Bool) (xs kept new : List X) (x : X) → flag ∷ rest ≡ flags → new ≡ kept ++ (if flag then x ∷ [] else []) → Chooses used xs flags kept
     → Chooses used (xs ++ x ∷ []) rest new
-more used flags rest flag xs kept new x split is so = (
-  behind used (length xs) flag rest (split ∙ so.0) ∙ ap (λ n. drop n used) (sym (one_longer xs x)),
-  is ∙ ap (λ ys. ys ++ (if flag then x ∷ [] else [])) so.1 ∙ ap (λ ys. chosen used xs ++ ys) (ap (λ ys. if flag then x ∷ ys else ys) (sym (of_none rest)))
-      ∙ ap (λ bs. chosen used xs ++ chosen bs (x ∷ [])) (split ∙ so.0) ∙ sym (chosen_end used xs x),
-)
+more used flags rest flag xs kept new x split is so = grind (arith, behind, one_longer, of_none, chosen_end)
 
 pub left_out : {X : Type 0} (used flags rest : List Bool) (flag : Bool) (xs kept : List X) (x : X) → flag ∷ rest ≡ flags → flag ≡ false → Chooses used xs flags kept → Chooses used (xs ++ x ∷ []) rest kept
 left_out used flags rest flag xs kept x split f so = more used flags rest flag xs kept kept x split (sym (ap (λ b. kept ++ (if b then x ∷ [] else [])) f ∙ append-nil kept)) so
@@ -93,21 +82,11 @@ counts_begin used arcs = record { kept = []; chooses = (refl, sym (of_none used)
 
 pub counts_passed : {X : Type 0} (used flags : List Bool) (arcs : List (List X)) (i count : ℕ) (x : List X) → i < length arcs → x ≡ get_or arcs i x → flags ≡ [] → Counts used arcs i flags count
     → Counts used arcs (i + 1) flags count
-counts_passed used flags arcs i count x lt is none so = record {
-  kept = so.kept;
-  chooses = rw (take_here arcs i x lt is) (passed used flags (take i arcs) so.kept x none so.chooses);
-  count_is = so.count_is;
-  small = let s = so.small in omega (arith, s);
-}
+counts_passed used flags arcs i count x lt is none so = grind (arith, take_here arcs i x lt is, passed used flags (take i arcs) so.kept x none so.chooses)
 
 pub counts_left_out : {X : Type 0} (used flags rest : List Bool) (flag : Bool) (arcs : List (List X)) (i count : ℕ) (x : List X) → i < length arcs → x ≡ get_or arcs i x → flag ∷ rest ≡ flags → flag ≡ false
     → Counts used arcs i flags count → Counts used arcs (i + 1) rest count
-counts_left_out used flags rest flag arcs i count x lt is split f so = record {
-  kept = so.kept;
-  chooses = rw (take_here arcs i x lt is) (left_out used flags rest flag (take i arcs) so.kept x split f so.chooses);
-  count_is = so.count_is;
-  small = let s = so.small in omega (arith, s);
-}
+counts_left_out used flags rest flag arcs i count x lt is split f so = grind (arith, take_here arcs i x lt is, left_out used flags rest flag (take i arcs) so.kept x split f so.chooses)
 
 pub counts_taken : {X : Type 0} (used flags rest : List Bool) (flag : Bool) (arcs : List (List X)) (i count new : ℕ) (x : List X) → i < length arcs → x ≡ get_or arcs i x → flag ∷ rest ≡ flags → flag ≡ true
     → new ≡ count + length x → length x < 2 ^ 64 → Counts used arcs i flags count → Counts used arcs (i + 1) rest new
@@ -125,6 +104,3 @@ counted_all used flags arcs i count all so = so.count_is ∙ ap lengths so.choos
 pub fits : (count i n : ℕ) → count ≤ i * 2 ^ 64 → i < 2 ^ 64 → n < 2 ^ 64 → count + n < 2 ^ 128
 fits count i n c l m = omega (arith, c, l, m)
 
-pub empty_list : {X : Type 0} (xs : List X) → length xs ≡ 0 → xs ≡ []
-empty_list [] e = refl
-empty_list (x ∷ xs) e = absurd (omega (arith, e))

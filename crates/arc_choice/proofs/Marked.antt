@@ -29,18 +29,10 @@ cleared p n (suc count) = ap (λ zs. p n ∷ zs) (cleared p (suc n) count)
 -- ---- one flag
 
 differ : (k n : ℕ) → (k ≡ n → ⊥) → (k == n) ≡ false
-differ k n ne = on (k == n) refl
-  where
-    on : (t : Bool) → t ≡ (k == n) → (k == n) ≡ false
-    on true e = absurd (ne (grind (arith, nat_tests)))
-    on false e = sym e
+differ k n ne = grind arith
 
 equal : (k n : ℕ) → k ≡ n → (k == n) ≡ true
-equal k n same = on (k == n) refl
-  where
-    on : (t : Bool) → t ≡ (k == n) → (k == n) ≡ true
-    on true e = sym e
-    on false e = absurd (grind (arith, nat_tests))
+equal k n same = grind arith
 
 unset : (b : Bool) (k n : ℕ) → (k ≡ n → ⊥) → b ≡ (b || (k == n))
 unset b k n ne = sym (ap (λ z. b || z) (differ k n ne) ∙ or-false b)
@@ -56,8 +48,7 @@ above_all k n (b ∷ bs) le = ap (λ z. z ∷ bs) (unset b k n (λ e. omega (ari
 
 set_at : (k n i : ℕ) (bs : List Bool) → k ≡ n + i → i < length bs → set bs i true ≡ also_set (λ m. k == m) n bs
 set_at k n i [] e lt = absurd (omega (arith, lt))
-set_at k n zero (b ∷ bs) e lt =
-    ap (λ z. z ∷ bs) (sym (ap (λ z. b || z) (equal k n (omega (arith, e))) ∙ or-true b)) ∙ ap (λ zs. (b || (k == n)) ∷ zs) (below_all k (suc n) bs (omega (arith, e)))
+set_at k n zero (b ∷ bs) e lt = grind (arith, equal, or-true, below_all)
 set_at k n (suc i) (b ∷ bs) e lt = ap (λ z. z ∷ set bs i true) (unset b k n (λ s. omega (arith, e, s))) ∙ ap (λ zs. (b || (k == n)) ∷ zs) (set_at k (suc n) i bs (omega (arith, e)) (omega (arith, lt)))
 
 pub one_set : (k : ℕ) (bs : List Bool) → k < length bs → set bs k true ≡ also_set (λ m. k == m) 0 bs

@@ -18,28 +18,15 @@ abbrev pub need : Option Point → ℕ → Need
 need last missing = record { last = last; missing = missing }
 
 pub passed_first : (n : Need) (p : Point) (missing : ℕ) → n.last ≡ None → missing ≡ n.missing - 1 → Passes (p ∷ []) n (need (Some p) missing)
-passed_first n p missing e m behind =
-    let k = some_left p behind in
-    let one : missing - (length (clean_from p behind) - 1) ≡ n.missing - length (clean_from p behind) = omega (arith, k, m) in
-    one ∙ sym (ap (λ o. n.missing - new_behind o (p ∷ behind)) e)
+passed_first n p missing e m behind = grind (arith, some_left)
 
 pub passed_same : (n : Need) (q p : Point) → n.last ≡ Some q → same q p ≡ true → Passes (p ∷ []) n n
-passed_same n q p e s behind =
-    ap (λ o. n.missing - new_behind o behind) e ∙ ap (λ x. n.missing - (length (clean_from x behind) - 1)) (same_is q p s)
-    ∙ sym (ap (λ b. n.missing - (length (cond b (clean_from p behind) (q ∷ clean_from p behind)) - 1)) s)
-    ∙ sym (ap (λ o. n.missing - new_behind o (p ∷ behind)) e)
+passed_same n q p e s behind = grind (arith, same_is)
 
 pub passed_other : (n : Need) (q p : Point) (missing : ℕ) → n.last ≡ Some q → same q p ≡ false → missing ≡ n.missing - 1 → Passes (p ∷ []) n (need (Some p) missing)
-passed_other n q p missing e s m behind =
-    let k = some_left p behind in
-    let one : missing - (length (clean_from p behind) - 1) ≡ n.missing - (length (q ∷ clean_from p behind) - 1) = omega (arith, k, m) in
-    one ∙ sym (ap (λ b. n.missing - (length (cond b (clean_from p behind) (q ∷ clean_from p behind)) - 1)) s)
-    ∙ sym (ap (λ o. n.missing - new_behind o (p ∷ behind)) e)
+passed_other n q p missing e s m behind = grind (arith, some_left)
 
 -- ---- lists
-
-pub passed_none : (n : Need) → Passes [] n n
-passed_none n behind = refl
 
 -- where none is missing, none is missing behind whatever comes
 pub none_missing : (n : Need) (ps : List Point) → n.missing ≡ 0 → missing_behind n ps ≡ 0
@@ -55,8 +42,7 @@ run_passed run left all old now new so_far pass behind = pass (left ++ behind) �
 
 -- the next of them is passed
 pub one_passed : (xs all : List Point) (i : ℕ) (x : Point) (old now new : Need) → i < length xs → x ≡ get_or xs i x → Open (drop i xs) all old now → Passes (x ∷ []) now new → Open (drop (i + 1) xs) all old new
-one_passed xs all i x old now new lt is so_far pass behind =
-    run_passed (x ∷ []) (drop (i + 1) xs) all old now new (λ b. ap (λ l. missing_behind now (l ++ b)) (sym (drop_here xs i x lt is)) ∙ so_far b) pass behind
+one_passed xs all i x old now new lt is so_far pass behind = grind (arith, run_passed, drop_here)
 
 -- all of them are
 pub all_passed : (xs all : List Point) (i : ℕ) (old now : Need) → length xs ≤ i → Open (drop i xs) all old now → Passes all old now
@@ -84,13 +70,11 @@ at_got (x ∷ xs) (suc i) = at_got xs i
 -- the arc that an index names
 pub arc_named : (arcs : List (List Point)) (r : ℤ) (n : ℕ) (reversed : Bool) (arc : List Point) → n ≡ number_of r → reversed ≡ is_reversed r → slice_get arcs n ≡ Some arc → directed reversed arc ≡ arc_at arcs r
 unfolding number_of is_reversed
-arc_named arcs (pos i) n reversed arc e b got = ap (λ c. directed c arc) b ∙ sym (ap or_empty (at_got arcs i ∙ ap (slice_get arcs) (sym e) ∙ got))
-arc_named arcs (negsuc i) n reversed arc e b got = ap (λ c. directed c arc) b ∙ sym (ap (λ o. reverse (or_empty o)) (at_got arcs i ∙ ap (slice_get arcs) (sym e) ∙ got))
+arc_named arcs r n reversed arc e b got = grind (arith, at_got)
 
 pub no_arc_named : (arcs : List (List Point)) (r : ℤ) (n : ℕ) → n ≡ number_of r → slice_get arcs n ≡ None → arc_at arcs r ≡ []
 unfolding number_of
-no_arc_named arcs (pos i) n e got = ap or_empty (at_got arcs i ∙ ap (slice_get arcs) (sym e) ∙ got)
-no_arc_named arcs (negsuc i) n e got = ap (λ o. reverse (or_empty o)) (at_got arcs i ∙ ap (slice_get arcs) (sym e) ∙ got)
+no_arc_named arcs r n e got = grind (arith, at_got)
 
 pub nothing_passed : (from : ℕ) (arc : List Point) (n : Need) → arc ≡ [] → Passes (drop from arc) n n
 nothing_passed from arc n e behind = sym (ap (λ a. missing_behind n (a ++ behind)) (ap (drop from) e ∙ drop_all from [] (omega arith)))
@@ -98,8 +82,7 @@ nothing_passed from arc n e behind = sym (ap (λ a. missing_behind n (a ++ behin
 -- ---- the arcs behind the first, each without its first position
 
 tail_is : (xs : List Point) → tail xs ≡ drop 1 xs
-tail_is [] = refl
-tail_is (x ∷ xs) = refl
+tail_is xs = grind arith
 
 abbrev pub later_left : List (List Point) → List ℤ → List Point
 later_left arcs refs = joined_behind_first (map (arc_at arcs) refs)
@@ -117,22 +100,13 @@ later_all arcs later i all old now le so_far b = ap (λ rs. missing_behind now (
 -- ---- whether there are enough
 
 nothing_new : (last : Option Point) → new_behind last [] ≡ 0
-nothing_new None = refl
-nothing_new (Some p) = omega arith
+nothing_new last = grind arith
 
 pub missing_at_end : (closed : Bool) (all left : List Point) (now : Need) → Open left all (unpassed closed) now → missing_behind now left ≡ (unpassed closed).missing - length (clean all)
-missing_at_end closed all left now so_far =
-    ap (missing_behind now) (sym (append-nil left)) ∙ so_far [] ∙ ap (λ l. (unpassed closed).missing - length (clean l)) (append-nil all)
+missing_at_end closed all left now so_far = grind (arith, append-nil left, append-nil all)
 
 pub enough_seen : (closed : Bool) (all left : List Point) (now : Need) → now.missing ≡ 0 → Open left all (unpassed closed) now → false ≡ is_short closed (clean all)
-enough_seen closed all left now none so_far =
-    let k : 0 ≡ (unpassed closed).missing - length (clean all) = sym (none_missing now left none) ∙ missing_at_end closed all left now so_far in
-    grind (arith, nat_tests, k)
+enough_seen closed all left now none so_far = grind (arith, none_missing now left none, missing_at_end closed all left now so_far)
 
 pub all_seen : (closed : Bool) (all : List Point) (now : Need) (result : Bool) → result ≡ nat_lt 0 now.missing → Passes all (unpassed closed) now → result ≡ is_short closed (clean all)
-all_seen closed all now result is pass =
-    let n = nothing_new now.last in
-    let m : now.missing - new_behind now.last [] ≡ (unpassed closed).missing - length (clean all) = missing_at_end closed all [] now pass in
-    let k : now.missing ≡ (unpassed closed).missing - length (clean all) = omega (arith, n, m) in
-    let f : nat_lt 0 now.missing ≡ nat_lt (length (clean all)) (unpassed closed).missing = grind (arith, nat_tests, k) in
-    is ∙ f
+all_seen closed all now result is pass = grind (arith, nothing_new now.last, missing_at_end closed all [] now pass)

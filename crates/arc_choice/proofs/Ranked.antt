@@ -24,22 +24,14 @@ answers_get f n (suc count) (suc i) k d e lt = answers_get f (suc n) count i k d
 pub answers_at : {X : Type 0} (f : ℕ → X) (xs : List X) (count i : ℕ) (d x : X) → xs ≡ answers f 0 count → i < count → get_or xs i d ≡ x → f i ≡ x
 answers_at f xs count i d x are lt is = sym (ap (λ ys. get_or ys i d) are ∙ answers_get f 0 count i i d (omega arith) lt) ∙ is
 
-pub answers_same : {X : Type 0} (f g : ℕ → X) → ((i : ℕ) → f i ≡ g i) → (n count : ℕ) → answers f n count ≡ answers g n count
-answers_same f g same n zero = refl
-answers_same f g same n (suc count) = rw (same n, answers_same f g same (suc n) count) refl
-
 -- ---- ranks
 
 swapped : (a b : Bool) (r : ℕ) → (if b then suc (if a then suc r else r) else (if a then suc r else r)) ≡ (if a then suc (if b then suc r else r) else (if b then suc r else r))
-swapped true true r = refl
-swapped true false r = refl
-swapped false true r = refl
-swapped false false r = refl
+swapped a b r = grind arith
 
 rank_end : (u : ℕ → Bool) (n count k : ℕ) → k ≡ n + count → rank_from u n (suc count) ≡ (if u k then suc (rank_from u n count) else rank_from u n count)
 rank_end u n zero k e = let same : n ≡ k = omega (arith, e) in ap (λ j. if u j then suc zero else zero) same
-rank_end u n (suc count) k e =
-    ap (λ r. if u n then suc r else r) (rank_end u (suc n) count k (omega (arith, e))) ∙ swapped (u k) (u n) (rank_from u (suc n) count)
+rank_end u n (suc count) k e = grind (arith, swapped, rank_end u (suc n) count k (omega (arith, e)))
 
 pub rank_more : (u : ℕ → Bool) (i : ℕ) → rank_from u 0 (i + 1) ≡ (if u i then suc (rank_from u 0 i) else rank_from u 0 i)
 rank_more u i = let same : i + 1 ≡ suc i = omega arith in ap (rank_from u 0) same ∙ rank_end u 0 i i (omega arith)
@@ -54,12 +46,7 @@ Ranked used i rank ranks = (rank ≤ i) × (length ranks ≡ i) × AreRanks used
 
 ranks_more : (used : List Bool) (i rank next : ℕ) (ranks more : List ℤ) (flag : Bool) → i < length used → get_or used i false ≡ flag → next ≡ (if flag then suc rank else rank)
     → more ≡ ranks ++ pos rank ∷ [] → AreRanks used i rank ranks → AreRanks used (i + 1) next more
-ranks_more used i rank next ranks more flag lt is n m so_far u are =
-    let before = so_far u are in
-    let set = answers_at u used (length used) i false flag are lt is in (
-      n ∙ ap (λ b. if b then suc rank else rank) (sym set) ∙ ap (λ r. if u i then suc r else r) before.0 ∙ sym (rank_more u i),
-      m ∙ ap (λ zs. zs ++ pos rank ∷ []) before.1 ∙ ap (λ r. answers (λ j. pos (rank_from u 0 j)) 0 i ++ pos r ∷ []) before.0 ∙ sym (answers_more (λ j. pos (rank_from u 0 j)) i),
-    )
+ranks_more used i rank next ranks more flag lt is n m so_far u are = grind (arith, answers_at, rank_more, answers_more)
 
 one_longer : (ranks : List ℤ) (z : ℤ) → length (ranks ++ z ∷ []) ≡ length ranks + 1
 one_longer [] z = omega arith
@@ -67,20 +54,11 @@ one_longer (r ∷ ranks) z = let rest = one_longer ranks z in omega (arith, rest
 
 pub rank_set : (used : List Bool) (i rank next : ℕ) (ranks more : List ℤ) → i < length used → get_or used i false ≡ true → next ≡ rank + 1 → more ≡ ranks ++ pos rank ∷ [] → Ranked used i rank ranks
     → Ranked used (i + 1) next more
-rank_set used i rank next ranks more lt is n m so_far =
-    let same : rank + 1 ≡ suc rank = omega arith in
-    let low = so_far.0 in
-    let many = so_far.1 in
-    let longer = one_longer ranks (pos rank) in
-    (omega (arith, n, low), ap length m ∙ omega (arith, longer, many), ranks_more used i rank next ranks more true lt is (n ∙ same) m so_far.2)
+rank_set used i rank next ranks more lt is n m so_far = grind (arith, one_longer ranks (pos rank), ranks_more used i rank next ranks more true lt is)
 
 pub rank_unset : (used : List Bool) (i rank next : ℕ) (ranks more : List ℤ) → i < length used → get_or used i false ≡ false → next ≡ rank → more ≡ ranks ++ pos rank ∷ [] → Ranked used i rank ranks
     → Ranked used (i + 1) next more
-rank_unset used i rank next ranks more lt is n m so_far =
-    let low = so_far.0 in
-    let many = so_far.1 in
-    let longer = one_longer ranks (pos rank) in
-    (omega (arith, n, low), ap length m ∙ omega (arith, longer, many), ranks_more used i rank next ranks more false lt is n m so_far.2)
+rank_unset used i rank next ranks more lt is n m so_far = grind (arith, one_longer ranks (pos rank), ranks_more used i rank next ranks more false lt is n m so_far.2)
 
 -- ---- indexes
 
@@ -89,8 +67,7 @@ abbrev pub RanksOf : List ℤ → (ℕ → Bool) → Type 0
 RanksOf ranks u = ranks ≡ answers (λ i. pos (rank_from u 0 i)) 0 (length ranks)
 
 complement : (r : ℕ) → negsuc 0 -ℤ pos r ≡ negsuc r
-complement zero = refl
-complement (suc r) = let same : suc (0 + r) ≡ suc r = omega arith in ap negsuc same
+complement r = grind arith
 
 -- ---- by the list of new indexes
 
@@ -99,26 +76,19 @@ by_no_rank ranks index e = sym (ap (by_rank index) e)
 
 pub by_rank_forwards : (ranks : List ℤ) (index rank : ℤ) → slice_get ranks (number_of index) ≡ Some rank → is_reversed index ≡ false → rank ≡ renumbered_by ranks index
 unfolding is_reversed
-by_rank_forwards ranks (pos i) rank e f = sym (ap (by_rank (pos i)) e)
-by_rank_forwards ranks (negsuc i) rank e f = absurd cc
+by_rank_forwards ranks index rank e f = grind arith
 
 pub by_rank_backwards : (ranks : List ℤ) (index rank turned : ℤ) → slice_get ranks (number_of index) ≡ Some rank → is_reversed index ≡ true → turned ≡ negsuc 0 -ℤ rank → turned ≡ renumbered_by ranks index
 unfolding is_reversed
-by_rank_backwards ranks (pos i) rank turned e b t = absurd cc
-by_rank_backwards ranks (negsuc i) rank turned e b t = t ∙ sym (ap (by_rank (negsuc i)) e)
+by_rank_backwards ranks index rank turned e b t = grind arith
 
 directed_rank : (u : ℕ → Bool) (r : ℤ) → directed_as r (pos (rank_from u 0 (number_of r))) ≡ renumbered u r
 unfolding number_of
-directed_rank u (pos i) = refl
-directed_rank u (negsuc i) = complement (rank_from u 0 i)
+directed_rank u r = grind (arith, complement)
 
 -- where the list has the ranks of the arcs that pass, this is the index among these
 renumbered_same : (ranks : List ℤ) (u : ℕ → Bool) (index : ℤ) → RanksOf ranks u → number_of index < length ranks → renumbered_by ranks index ≡ renumbered u index
-renumbered_same ranks u index are lt =
-    let got = slice_get-get_or ranks (number_of index) (pos 0) lt in
-    let rank : get_or ranks (number_of index) (pos 0) ≡ pos (rank_from u 0 (number_of index)) =
-    sym (answers_at (λ i. pos (rank_from u 0 i)) ranks (length ranks) (number_of index) (pos 0) (get_or ranks (number_of index) (pos 0)) are lt refl) in
-    ap (by_rank index) (got ∙ ap Some rank) ∙ directed_rank u index
+renumbered_same ranks u index are lt = grind (arith, slice_get-get_or ranks (number_of index) (pos 0) lt, answers_at, directed_rank u index)
 
 -- the same of each index of a line or ring
 pub all_renumbered : (ranks : List ℤ) (u : ℕ → Bool) (refs : List ℤ) → RanksOf ranks u → AreInRange (length ranks) refs → map (renumbered_by ranks) refs ≡ map (renumbered u) refs

@@ -7,8 +7,4 @@ use Rattle.junctions.specs.Cleaning.{clean_from}
 -- at least one is left
 pub some_left : (p : Point) (ps : List Point) → 1 ≤ length (clean_from p ps)
 some_left p [] = omega arith
-some_left p (q ∷ ps) = on (same p q) (some_left q ps)
-  where
-    on : (b : Bool) → 1 ≤ length (clean_from q ps) → 1 ≤ length (cond b (clean_from q ps) (p ∷ clean_from q ps))
-    on true h = h
-    on false h = omega arith
+some_left p (q ∷ ps) = grind (arith, some_left q ps)

@@ -14,10 +14,7 @@ use Rattle.arc_choice.specs.Places.{dropped_at}
 pub told_more : {X Y : Type 0} (of : ℕ → X → List Y) (all : ℕ → List X → List Y) → ((i : ℕ) (x : X) (xs : List X) → all i (x ∷ xs) ≡ of i x ++ all (suc i) xs) →
     (k i : ℕ) (now new whole : List Y) (xs : List X) (x : X) → i < length xs → x ≡ get_or xs i x →
     now ++ all k (drop i xs) ≡ whole → new ≡ now ++ of k x → new ++ all (k + 1) (drop (i + 1) xs) ≡ whole
-told_more of all some k i now new whole xs x l g h e =
-    let n : k + 1 ≡ suc k = omega arith in
-    ap (λ k. new ++ all k (drop (i + 1) xs)) n ∙ ap (λ ds. ds ++ all (suc k) (drop (i + 1) xs)) e ∙ append_assoc now (of k x) (all (suc k) (drop (i + 1) xs))
-    ∙ ap (λ ds. now ++ ds) (sym (at_drop_more (all k) xs i x l ∙ ap (λ y. all k (y ∷ drop (i + 1) xs)) (sym g) ∙ some k x (drop (i + 1) xs))) ∙ h
+told_more of all some k i now new whole xs x l g h e = grind (arith, append_assoc now (of k x) (all (suc k) (drop (i + 1) xs)), at_drop_more (all k) xs i x l)
 
 -- the end of such a list
 pub told_all : {X Y : Type 0} (all : List X → List Y) (i : ℕ) (now whole : List Y) (xs : List X) → all [] ≡ [] → length xs ≤ i → now ++ all (drop i xs) ≡ whole → now ≡ whole
@@ -25,9 +22,7 @@ told_all all i now whole xs n l h = sym (append-nil now) ∙ ap (λ ds. now ++ d
 
 inside_at : (a : Address) (i : ℕ) (os : List (Placed Cause)) → dropped_at a (inside_part i os) ≡ dropped_at (part_address a i) os
 inside_at a i [] = refl
-inside_at a i (o ∷ os) =
-    ap (λ p. record { address = record { layer = a.layer; feature = a.feature; path = p }; cause = o.part } ∷ dropped_at a (inside_part i os)) (sym (append_assoc a.path (i ∷ []) o.path))
-    ∙ ap (λ ds. record { address = record { layer = a.layer; feature = a.feature; path = (a.path ++ (i ∷ [])) ++ o.path }; cause = o.part } ∷ ds) (inside_at a i os)
+inside_at a i (o ∷ os) = grind (arith, append_assoc, inside_at a i os)
 
 -- the first of the parts
 pub first_part : (a : Address) (k : ℕ) (os : List (Placed Cause)) (more : List (List (Placed Cause))) → dropped_at a (of_parts k (os ∷ more)) ≡ dropped_at (part_address a k) os ++ dropped_at a (of_parts (suc k) more)

@@ -58,11 +58,7 @@ piece_has_arc x (p ∷ ps) (inl e) = (p, inl refl, subst (λ z. alike p z ≡ tr
 piece_has_arc x (p ∷ ps) (inr k) = on (piece_has_arc x ps k)
   where
     on : (y : List Point) × In y (arcs_of ps) × (alike y x ≡ true) → (y : List Point) × In y (arcs_of (p ∷ ps)) × (alike y x ≡ true)
-    on (y, m, a) = by_case (alike p y) refl
-      where
-        by_case : (b : Bool) → alike p y ≡ b → (y : List Point) × In y (arcs_of (p ∷ ps)) × (alike y x ≡ true)
-        by_case true e = (p, inl refl, alike_trans p y x e a)
-        by_case false e = (y, inr (in_filter (λ q. not (alike p q)) y (arcs_of ps) m (ap not e)), a)
+    on (y, m, a) = grind (arith, alike_trans p y x, in_filter)
 
 pub piece_has_alike : (x : List Point) (ps : List (List Point)) → In x ps → has_alike (arcs_of ps) x ≡ true
 piece_has_alike x ps k = grind (arith, piece_has_arc, any_from_in)

@@ -128,12 +128,7 @@ module _ (lists : List (List (List Point))) (i : ℕ) (qs : List (List Point)) (
   -- one more line
   module _ (xs more : List (List Point)) (got : slice_get lists i ≡ Some xs) (grows : more ≡ grow_all qs xs) where
     pub build_arcs : more ≡ grow_all [] (every (take (i + 1) lists))
-    build_arcs =
-        grows
-        ∙ ap (λ l. grow_all l xs) is_arcs
-        ∙ sym (grow_append [] (every (take i lists)) xs)
-        ∙ ap (grow_all []) (sym (every_append (take i lists) xs))
-        ∙ ap (λ l. grow_all [] (every l)) (sym (take_got lists i xs got))
+    build_arcs = grind (arith, grow_append [] (every (take i lists)) xs, every_append (take i lists) xs, take_got lists i xs got)
 
     stay : (ys : List (List Point)) → In ys (take i lists) → map (first_alike qs) ys ≡ map (first_alike more) ys
     stay ys k = grind (arith, map_same, all_index, all_has, in_every)

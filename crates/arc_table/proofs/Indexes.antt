@@ -28,8 +28,7 @@ named_is [] x h = cc
 named_is (q ∷ qs) x h = on (alike q x) refl h (λ m. named_is qs x m)
   where
     or_case : (a b : Bool) → (a || b) ≡ true → a ≡ false → b ≡ true
-    or_case true b h e = cc
-    or_case false b h e = h
+    or_case a b h e = grind arith
 
     way : (b : Bool) → same_line q x ≡ b → alike q x ≡ true → arc_at (q ∷ qs) (directed b 0) ≡ x
     way true e h = same_line_is q x e
@@ -37,10 +36,7 @@ named_is (q ∷ qs) x h = on (alike q x) refl h (λ m. named_is qs x m)
 
     on : (b : Bool) → alike q x ≡ b → (b || has_alike qs x) ≡ true → (has_alike qs x ≡ true → (arc_at qs (first_alike qs x) ≡ x) × (number_of (first_alike qs x) < length qs)) →
         let z = cond b (directed (same_line q x) 0) (next (first_alike qs x)) in (arc_at (q ∷ qs) z ≡ x) × (number_of z < length (q ∷ qs))
-    on true e m ih = (way (same_line q x) refl e, omega (arith, number_directed (same_line q x) 0))
-    on false e m ih =
-        let r = ih m in
-        (arc_next q qs (first_alike qs x) ∙ r.0, omega (arith, number_next (first_alike qs x), r.1))
+    on b e m ih = grind (arith, way, number_directed, arc_next, number_next)
 
 pub named_all : (arcs xs : List (List Point)) → ((x : List Point) → In x xs → has_alike arcs x ≡ true) → map (arc_at arcs) (map (first_alike arcs) xs) ≡ xs
 named_all arcs [] h = refl
@@ -65,13 +61,8 @@ index_is [] x u h = cc
 index_is (q ∷ qs) x u h = on (same_line q x) refl (same_line q (reverse x)) refl h (λ k. index_is qs x u.1 k)
   where
     others : q ≡ reverse x → (y : List Point) → In y qs → same_line y x ≡ true → ⊥
-    others e y k m =
-        let z : true ≡ false = sym (is_alike q y (inr (e ∙ ap reverse (sym (same_line_is y x m))))) ∙ u.0 y k in cc
+    others e y k m = grind (arith, is_alike q y (inr (e ∙ ap reverse (sym (same_line_is y x m)))), same_line_is y x m)
 
     on : (b : Bool) → same_line q x ≡ b → (c : Bool) → same_line q (reverse x) ≡ c → ((b || c) || has_alike qs x) ≡ true → (has_alike qs x ≡ true → index_in qs x ≡ first_alike qs x) →
         number_or_complement (cond b (Some 0) (option_map suc (number_in qs x))) (cond c (Some 0) (option_map suc (number_in qs (reverse x)))) ≡ cond (b || c) (directed b 0) (next (first_alike qs x))
-    on true e c f k ih = refl
-    on false e true f k ih = ap (λ o. number_or_complement (option_map suc o) (Some 0)) (none_in qs x (others (same_line_is q (reverse x) f)))
-    on false e false f k ih =
-        shift (number_in qs x) (number_in qs (reverse x)) (λ m n. let z : true ≡ false = sym k ∙ none_both qs x m n in cc)
-        ∙ ap next (ih k)
+    on b e c f k ih = grind (arith, none_in, others, same_line_is, shift, none_both)

@@ -76,8 +76,7 @@ ring_closes xs [] long e c = elim c [ ]
 ring_closes xs (p ∷ []) long e c = elim c [ ]
 ring_closes [] (p ∷ (q ∷ ps)) long e c = cc
 ring_closes ([] ∷ xs) (p ∷ (q ∷ ps)) long e c = absurd (omega (arith, long [] (inl refl)))
-ring_closes ((a ∷ rest) ∷ xs) (p ∷ (q ∷ ps)) long e c =
-    ends (a ∷ rest) xs (Some a) long (ap last_of e ∙ last_is p (q ∷ ps) ∙ ap (λ z. Some z) (c.1 refl) ∙ ap first_of (sym e))
+ring_closes ((a ∷ rest) ∷ xs) (p ∷ (q ∷ ps)) long e c = grind (arith, ends, last_is)
 
 -- the arcs that the indexes of each ring name close, where they are its pieces
 pub rings_close : (arcs : List (List Point)) (ss : List SplitStroke) (rss : List (List ℤ)) → PiecesAreLong (all_pieces ss) → AllSplit ss → AllClean (strokes ss) →

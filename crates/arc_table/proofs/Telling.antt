@@ -59,9 +59,7 @@ grown_from : (qs : List (List Point)) (p x : List Point) → In x (grown qs p) �
 grown_from qs p x k = on (has_alike qs p) k
   where
     last : In x qs ⊎ In x (p ∷ []) → In x qs ⊎ (x ≡ p)
-    last (inl k) = inl k
-    last (inr (inl e)) = inr e
-    last (inr (inr k)) = elim k [ ]
+    last h = grind arith
 
     on : (b : Bool) → In x (cond b qs (qs ++ (p ∷ []))) → In x qs ⊎ (x ≡ p)
     on true k = inl k
@@ -78,9 +76,7 @@ unlike_last [] p u h = (λ y k. elim k [ ], tt)
 unlike_last (q ∷ qs) p u h = (λ y k. on y (in_append y qs (p ∷ []) k), unlike_last qs p u.1 (or_parts (alike q p) (has_alike qs p) h).1)
   where
     on : (y : List Point) → In y qs ⊎ In y (p ∷ []) → alike q y ≡ false
-    on y (inl k) = u.0 y k
-    on y (inr (inl e)) = ap (alike q) e ∙ (or_parts (alike q p) (has_alike qs p) h).0
-    on y (inr (inr k)) = elim k [ ]
+    on y m = grind (arith, or_parts)
 
 unlike_grown : (qs : List (List Point)) (p : List Point) → AreUnlike qs → AreUnlike (grown qs p)
 unlike_grown qs p u = grind (arith, unlike_last)
@@ -101,8 +97,7 @@ module _ (qs done : List (List Point)) (x : List Point) (left pieces arcs : List
       (λ y k s f g. t.0 y (there y k) s f g, λ y k s f g. t.1 y (there y k) s f g)
     where
       on : (y : List Point) → In y qs ⊎ In y done → In y (qs ++ pieces)
-      on y (inl k) = in_left y qs pieces k
-      on y (inr k) = in_right y qs pieces (subst (λ l. In y l) are (in_left y done (x ∷ left) k))
+      on y h = grind (arith, in_left, in_right)
 
       there : (y : List Point) → In y arcs → In y (qs ++ pieces)
       there y k = on y (all_from qs done y (subst (λ l. In y l) e k))
@@ -113,8 +108,7 @@ every_take : (lists : List (List (List Point))) (i : ℕ) (x : List Point) → I
 every_take [] zero x k = k
 every_take [] (suc i) x k = k
 every_take (xs ∷ lists) zero x k = elim k [ ]
-every_take (xs ∷ lists) (suc i) x k =
-    grind (arith, every_take lists i x, in_append x xs (every (take i lists)) k, every (take i lists), in_left x xs (every lists), in_right x xs (every lists))
+every_take (xs ∷ lists) (suc i) x k = grind (arith, in_append x xs (every (take i lists)) k, in_left x xs (every lists), in_right x xs (every lists), every_take lists i x)
 
 module _ (lists : List (List (List Point))) (i : ℕ) (xs arcs : List (List Point)) (got : slice_get lists i ≡ Some xs) (are : arcs ≡ grow_all [] (every (take i lists))) where
   pub line_in : (x : List Point) → In x xs → In x (every lists)
@@ -124,8 +118,7 @@ module _ (lists : List (List (List Point))) (i : ℕ) (xs arcs : List (List Poin
   line_tells h = fewer_tell (every lists) (arcs ++ xs) (λ x k. on x (in_append x arcs xs k)) h
     where
       old : (x : List Point) → In x [] ⊎ In x (every (take i lists)) → In x (every lists)
-      old x (inl k) = elim k [ ]
-      old x (inr k) = every_take lists i x k
+      old x h = grind (arith, every_take)
 
       on : (x : List Point) → In x arcs ⊎ In x xs → In x (every lists)
       on x (inl k) = old x (all_from [] (every (take i lists)) x (subst (λ l. In x l) are k))

@@ -41,10 +41,6 @@ pub some_append : {A B : Type 0} (f : A → Option B) (xs ys : List A) → some_
 some_append f [] ys = refl
 some_append f (x ∷ xs) ys = ap (with_some (f x)) (some_append f xs ys) ∙ sym (with_append (f x) (some_of f xs) (some_of f ys))
 
-pub map_joined : {A B : Type 0} (f : A → B) (xss : List (List A)) → map f (joined xss) ≡ joined (map (map f) xss)
-map_joined f [] = refl
-map_joined f (xs ∷ xss) = map-append f xs (joined xss) ∙ ap (λ ys. map f xs ++ ys) (map_joined f xss)
-
 -- ---- they are the lines and rings of the shape
 
 -- an open line (false) or a ring (true)
@@ -134,14 +130,7 @@ module _ {P Q L M : Type 0} (place : P → Q) (kept : Bool → L → Option M) (
 
   area_left : (rs : List L) → rings_of (area_by (kept true) rs) ≡ some_of left (area_candidates out rs)
   area_left [] = refl
-  area_left (o ∷ holes) = on (out o) (kept true o) (matches o)
-    where
-      on : (w : Option Cause) (k : Option M) → Matches w k
-          → rings_of (map_some (λ r. r ∷ some_of (kept true) holes) k) ≡ with_some (map_some (tag true) k) (some_of left (map (hole w) holes))
-      on None None m = absurd m
-      on None (Some r) m = ap (λ ms. (true, r) ∷ ms) (free_left true holes)
-      on (Some c) None m = sym (none_left c holes)
-      on (Some c) (Some r) m = absurd m
+  area_left (o ∷ holes) = grind (arith, free_left, none_left)
 
   with_rings : (o : Option (List M)) (mss : List (List M)) → of_areas (with_some o mss) ≡ rings_of o ++ of_areas mss
   with_rings o mss = grind arith
@@ -149,9 +138,6 @@ module _ {P Q L M : Type 0} (place : P → Q) (kept : Bool → L → Option M) (
   areas_left : (areas : List (List L)) → of_areas (some_of (area_by (kept true)) areas) ≡ some_of left (joined (map (area_candidates out) areas))
   areas_left [] = refl
   areas_left (rs ∷ areas) = grind (arith, with_rings, area_left, some_append, areas_left areas)
-
-  with_member : (o : Option (Geometry Q M M)) (ts : List (Geometry Q M M)) → joined (map strokes (with_some o ts)) ≡ after o ++ joined (map strokes ts)
-  with_member o ts = grind arith
 
   members_left : (ss : List (Geometry P L L)) → AllByRecursion Stays ss → joined (map strokes (some_of run ss)) ≡ some_of left (joined (map (candidates out) ss))
   members_left [] all = refl

@@ -1,5 +1,5 @@
 -- What is decoded of the topology that is built of layers is what is expected of it.
-use Rattle.std.proofs.Common.{◌≡◌, ◌≢◌, ℕ, Bool, true, false, List, [], ◌∷◌, map, Option, None, Some, refl, ap, ◌∙◌, if◌then◌else◌, arith}
+use Rattle.std.proofs.Common.{rules, ◌≡◌, ◌≢◌, ℕ, Bool, true, false, List, [], ◌∷◌, map, Option, None, Some, refl, ap, ◌∙◌, if◌then◌else◌, arith}
 use Rattle.std.specs.List.{AllByRecursion}
 use Rattle.std.proofs.lemmas.Slice.Eq.{bytes_eq-Decides}
 use Rattle.elimination_meaning.specs.Elimination.{reduced}
@@ -63,9 +63,7 @@ module _ (lines : List Stroke) (t : ℕ) where
   shape_back : (s : Option Shape) → AllByRecursion Returns (option_strokes s) →
       then_some (decoded_shape (λ p. p) arcs) (then_some (prune (λ p. p) (kept_refs lines t)) s) ≡ then_some (prune (λ p. p) (kept_line lines t)) s
   shape_back None h = refl
-  shape_back (Some s) h =
-      composed (λ p. p) (λ p. p) (kept_refs lines t) (back lines t) s
-      ∙ agreed (λ p. p) (λ closed ps. then_some (back lines t closed) (kept_refs lines t closed ps)) (kept_line lines t) s h
+  shape_back (Some s) h = search (rules, composed, agreed)
 
   abbrev with_shape : Featured → Option Shape → Featured
   with_shape f s = record { id = f.id; properties = f.properties; shape = s }

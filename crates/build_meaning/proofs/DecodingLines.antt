@@ -1,5 +1,5 @@
 -- What is decoded of a line's indexes among all arcs, each of which is reduced, is the line rebuilt of its own pieces.
-use Rattle.std.proofs.Common.{◌≡◌, ℕ, zero, suc, ◌<◌, ◌≤◌, ℤ, pos, negsuc, Bool, false, List, [], ◌∷◌, map, length, append-nil, reverse, Option, None, Some, refl, sym, ap, ◌∙◌, arith, inl, inr}
+use Rattle.std.proofs.Common.{rules, ◌≡◌, ℕ, zero, suc, ◌<◌, ◌≤◌, ℤ, pos, negsuc, Bool, false, List, [], ◌∷◌, map, length, append-nil, reverse, Option, None, Some, refl, sym, ap, ◌∙◌, arith, inl, inr}
 use Rattle.std.proofs.lemmas.Bool.Decides.{nat_tests}
 use Rattle.arc_table.specs.Arcs.{arcs_of, index_in}
 use Rattle.arc_table.proofs.Alike.{arcs_unlike, arc_is_piece, piece_has_alike}
@@ -39,9 +39,7 @@ module _ (f : List Point → List Point) where
   arc_found : (arcs : List (List Point)) (z : ℤ) → number_of z < length arcs → ((a : List Point) → In a arcs → f (reverse a) ≡ reverse (f a)) → arc_at (map f arcs) z ≡ f (arc_at arcs z)
   unfolding number_of
   arc_found arcs (pos i) h turns = let r = found arcs i h in ap or_empty r.after ∙ sym (ap (λ o. f (or_empty o)) r.before)
-  arc_found arcs (negsuc i) h turns =
-      let r = found arcs i h in
-      ap (λ o. reverse (or_empty o)) r.after ∙ sym (turns r.arc r.one) ∙ sym (ap (λ o. f (reverse (or_empty o))) r.before)
+  arc_found arcs (negsuc i) h turns = grind (arith, found arcs i h)
 
 -- the index of a piece names it, reduced
 piece_back : DirectionLaw → (t : ℕ) (ps : List (List Point)) → ((p : List Point) → In p ps → Apart (interior p)) → (x : List Point) → In x ps →
@@ -77,13 +75,4 @@ back lines t closed refs = Some (decoded_line (map (reduced t) (all_arcs lines))
 
 pub line_back : DirectionLaw → (lines : List Stroke) (t : ℕ) → ((p : List Point) → In p (pieces lines) → Apart (interior p)) → (b : Line) → StandsIn lines b →
     then_some (back lines t b.0) (kept_refs lines t b.0 b.1) ≡ kept_line lines t b.0 b.1
-line_back law lines t apart b stands = on (own_cause lines t b.0 b.1) refl
-  where
-    on : (w : Option Cause) → own_cause lines t b.0 b.1 ≡ w →
-        then_some (back lines t b.0) (unless w (map (index_in (all_arcs lines)) (own_pieces lines b.0 b.1))) ≡ unless w (rebuilt lines t b.0 b.1)
-    on (Some c) e = refl
-    on None e =
-        let long = no_cause lines t b e in
-        ap (λ xs. Some (completed b.0 (rejoined xs))) (pieces_back law t (pieces lines) apart (own_pieces lines b.0 b.1) (own_in lines b stands long.0))
-        ∙ ap (λ ps. Some (completed b.0 ps)) (same_rejoined (map (reduced t) (own_pieces lines b.0 b.1)))
-        ∙ ap Some (complete b.0 (rebuilt lines t b.0 b.1) long.1)
+line_back law lines t apart b stands = search (rules, no_cause, pieces_back, own_in, same_rejoined, complete)

@@ -68,8 +68,7 @@ filter_map {A = A} f t (x ∷ xs) = grind (arith, filter_map f t xs)
 -- the linework is the lines that aren't short, cleaned
 pub linework_lines : (ls : Named) → map plain (linework (layers_of ls)) ≡ map clean_line (long_strokes ls)
 unfolding linework
-linework_lines ls =
-    grind (arith, filter_map plain is_long (strokes_of_layers 0 (layers_of ls)), filter_map clean_line is_long (named_strokes ls), layers_lines 0 ls)
+linework_lines ls = grind (arith, filter_map plain is_long (strokes_of_layers 0 (layers_of ls)), filter_map clean_line is_long (named_strokes ls), layers_lines 0 ls)
 
 -- ---- clean lines
 

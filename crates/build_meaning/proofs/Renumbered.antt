@@ -15,9 +15,6 @@ module _ (used : ℕ → Bool) (kept : Kept) where
   abbrev pub kept_renumbered : Kept
   kept_renumbered closed ps = then_some (line_renumbered used closed) (kept closed ps)
 
-  shape_once : (s : Option Shape) → then_some (prune (λ p. p) (line_renumbered used)) (then_some (prune (λ p. p) kept) s) ≡ then_some (prune (λ p. p) kept_renumbered) s
-  shape_once s = grind (arith, composed)
-
   features_once : (fs : List Featured) → map (feature_renumbered used) (features_by kept fs) ≡ features_by kept_renumbered fs
   features_once [] = refl
   features_once (f ∷ fs) = grind (arith, composed, features_once fs)

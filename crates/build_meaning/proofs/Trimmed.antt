@@ -1,5 +1,5 @@
 -- Leaving out the arcs that no line uses changes nothing of what is decoded.
-use Rattle.std.proofs.Common.{◌≡◌, ℕ, zero, suc, ◌+◌, ℤ, Bool, true, List, [], ◌∷◌, map, Option, None, Some, refl, ap, ◌∙◌, arith}
+use Rattle.std.proofs.Common.{rules, ◌≡◌, ℕ, zero, suc, ◌+◌, ℤ, Bool, true, List, [], ◌∷◌, map, Option, None, Some, refl, ap, ◌∙◌, arith}
 use Rattle.std.specs.List.{AllByRecursion}
 use Rattle.std.proofs.lemmas.Bool.Decides.{nat_tests}
 use Rattle.list_laws.proofs.Members.{any_from_in}
@@ -62,10 +62,7 @@ module _ (lies : Point → Point) (used : ℕ → Bool) (arcs : List (List Point
   shape_same : (s : Option TopoShape) → AllByRecursion (AllUsed used) (option_strokes s)
       → then_some (decoded_shape lies kept) (then_some (prune (λ p. p) (line_renumbered used)) s) ≡ then_some (decoded_shape lies arcs) s
   shape_same None h = refl
-  shape_same (Some s) h =
-      composed (λ p. p) lies (line_renumbered used) (line_of kept) s
-      ∙ agreed lies (λ closed refs. line_of kept closed (map (renumbered used) refs)) (line_of arcs) s
-      (all_weaker (AllUsed used) (λ b. line_of kept b.0 (map (renumbered used) b.1) ≡ line_of arcs b.0 b.1) line_same (option_strokes (Some s)) h)
+  shape_same (Some s) h = search (rules, composed, agreed, all_weaker, line_same)
 
   abbrev with_shape : TopoFeature → Option Shape → Featured
   with_shape f s = record { id = f.id; properties = f.properties; shape = s }
@@ -78,9 +75,6 @@ module _ (lies : Point → Point) (used : ℕ → Bool) (arcs : List (List Point
   features_same (f ∷ fs) h =
       grind (arith, feature_same, all_left, all_right, features_same fs (all_right (AllUsed used) (option_strokes f.shape) (features_strokes fs) h))
 
-  object_same : (o : TopoObject) → AllByRecursion (AllUsed used) (features_strokes (object_features o)) → decoded_object lies kept (object_renumbered used o) ≡ decoded_object lies arcs o
-  object_same o h = grind (arith, feature_same, all_left, features_same)
-
   name_same : (name : List ℕ) (os : List (List ℕ × TopoObject)) → AllByRecursion (AllUsed used) (objects_strokes os)
       → map_some (decoded_object lies kept) (of_name name (map (λ o. (o.0, object_renumbered used o.1)) os)) ≡ map_some (decoded_object lies arcs) (of_name name os)
   name_same name [] h = refl
@@ -88,7 +82,7 @@ module _ (lies : Point → Point) (used : ℕ → Bool) (arcs : List (List Point
       grind (arith, feature_same, all_left, features_same, all_right, name_same name os (all_right (AllUsed used) (features_strokes (object_features o.1)) (objects_strokes os) h))
 
 -- arcs are placed one by one
-kept_of_map : {X Y : Type 0} (f : X → Y) (used : ℕ → Bool) (n : ℕ) (xs : List X) → map f (keep_from used n xs) ≡ keep_from used n (map f xs)
+pub kept_of_map : {X Y : Type 0} (f : X → Y) (used : ℕ → Bool) (n : ℕ) (xs : List X) → map f (keep_from used n xs) ≡ keep_from used n (map f xs)
 kept_of_map f used n [] = refl
 kept_of_map {X = X} f used n (x ∷ xs) = grind (arith, kept_of_map f used (suc n) xs)
 

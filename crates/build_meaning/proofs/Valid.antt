@@ -112,8 +112,7 @@ module _ (lines : List Stroke) (t : ℕ) where
   some_kept closed l m e = on closed (own_pieces lines closed l) (is_short closed (clean l)) e
     where
       some : (d : Bool) (x : ℤ) (xs : List ℤ) → unless (if d then Some Small else None) (x ∷ xs) ≡ Some m → is_some_list m ≡ true
-      some true x xs h = cc
-      some false x xs h = subst (λ z. is_some_list z ≡ true) (ap (or_else m) h) refl
+      some d x xs h = grind arith
 
       on : (b : Bool) (xs : List (List Point)) (c : Bool)
           → unless (if c then Some Collapsed else (if is_small b (rejoined (map (reduced t) xs)) then Some Small else None)) (map (index_in (all_arcs lines)) xs) ≡ Some m → is_some_list m ≡ true

@@ -59,11 +59,7 @@ at_ends f (x ∷ xs) h (suc i) = at_ends f xs h.1 i
 -- the arc that an index names begins and ends as before
 pub named_ends : (f : List Point → List Point) (arcs : List (List Point)) → AllByRecursion (λ x. SameEnds (f x) x) arcs → (r : ℤ) → SameEnds (arc_at (map f arcs) r) (arc_at arcs r)
 named_ends f arcs h (pos i) = at_ends f arcs h i
-named_ends f arcs h (negsuc i) =
-    let k = at_ends f arcs h i in
-    let x = or_empty (at (map f arcs) i) in
-    let y = or_empty (at arcs i) in
-    (first_reverse x ∙ k.1 ∙ sym (first_reverse y), last_reverse x ∙ k.0 ∙ sym (last_reverse y))
+named_ends f arcs h (negsuc i) = grind (arith, at_ends f arcs h i, first_reverse, last_reverse)
 
 -- ---- lines
 

@@ -39,9 +39,6 @@ module _ (X : Point → Type 0) where
   abbrev line : Address → Bool → List Point → Stroke
   line at closed ps = record { address = at; closed = closed; positions = ps }
 
-  all_started : (cut : Point → Bool) (at : Address) (closed : Bool) (ps : List Point) → AllByRecursion X ps → AllByRecursion X (from_start cut (line at closed ps))
-  all_started cut at closed ps h = grind (arith, all_append, all_drop, all_take)
-
   pub all_pieces_of : (lines : List Stroke) (s : Stroke) → AllByRecursion X s.positions → AllByRecursion (λ x. AllByRecursion X x) (pieces_of lines s)
   all_pieces_of lines s h = grind (arith, all_split, all_turned)
 

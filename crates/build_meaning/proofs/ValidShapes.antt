@@ -23,8 +23,44 @@ map_id [] = refl
 map_id (x ∷ xs) = ap (λ ys. x ∷ ys) (map_id xs)
 
 -- a polygon has rings, of which none is empty
-abbrev has_rings : List (List ℤ) → Bool
+abbrev pub has_rings : List (List ℤ) → Bool
 has_rings rs = is_some_list rs && list_all is_some_list rs
+
+-- what stays of lines and polygons has no place
+pub line_places : (o : Option (List ℤ)) → option_places (map_some g.Line o) ≡ []
+line_places o = grind (arith, places_at.line)
+
+pub lines_places : (ms : List (List ℤ)) → option_places (unless_empty g.Lines ms) ≡ []
+lines_places ms = grind (arith, places_at.lines)
+
+pub area_places : (o : Option (List (List ℤ))) → option_places (map_some g.Area o) ≡ []
+area_places o = grind (arith, places_at.area)
+
+pub areas_places : (mss : List (List (List ℤ))) → option_places (unless_empty g.Areas mss) ≡ []
+areas_places mss = grind (arith, places_at.areas)
+
+pub no_places : (X : Point → Type 0) (o : Option TopoShape) → option_places o ≡ [] → AllByRecursion X (option_places o)
+no_places X o e = subst (AllByRecursion X) (sym e) tt
+
+-- and it is full where what is given has an element
+pub line_full : (o : Option (List ℤ)) → ((m : List ℤ) → o ≡ Some m → is_some_list m ≡ true) → is_full_option (map_some g.Line o) ≡ true
+line_full o h = grind (arith, full_at.line)
+
+pub lines_full : (ms : List (List ℤ)) → list_all is_some_list ms ≡ true → is_full_option (unless_empty g.Lines ms) ≡ true
+lines_full ms h = grind (arith, full_at.lines)
+
+abbrev pub has_option : Option (List (List ℤ)) → Bool
+has_option None = true
+has_option (Some ms) = has_rings ms
+
+pub area_full : (o : Option (List (List ℤ))) → has_option o ≡ true → is_full_option (map_some g.Area o) ≡ true
+area_full o h = grind (arith, full_at.area)
+
+pub with_area : (o : Option (List (List ℤ))) (mss : List (List (List ℤ))) → has_option o ≡ true → list_all has_rings mss ≡ true → list_all has_rings (with_some o mss) ≡ true
+with_area o mss h k = grind (arith, and_from)
+
+pub areas_full : (mss : List (List (List ℤ))) → list_all has_rings mss ≡ true → is_full_option (unless_empty g.Areas mss) ≡ true
+areas_full mss h = grind (arith, full_at.areas)
 
 module _ (kept : Bool → List Point → Option (List ℤ)) where
   abbrev made : Shape → Option TopoShape
@@ -36,24 +72,6 @@ module _ (kept : Bool → List Point → Option (List ℤ)) where
     abbrev Stay : Shape → Type 0
     Stay s = AllByRecursion X (shape_points s) → AllByRecursion X (option_places (made s))
 
-    no_places : (o : Option TopoShape) → option_places o ≡ [] → AllByRecursion X (option_places o)
-    no_places o e = subst (AllByRecursion X) (sym e) tt
-
-    line_places : (o : Option (List ℤ)) → option_places (map_some g.Line o) ≡ []
-    line_places o = grind (arith, places_at.line)
-
-    lines_places : (ms : List (List ℤ)) → option_places (unless_empty g.Lines ms) ≡ []
-    lines_places ms = grind (arith, places_at.lines)
-
-    area_places : (o : Option (List (List ℤ))) → option_places (map_some g.Area o) ≡ []
-    area_places o = grind (arith, places_at.area)
-
-    areas_places : (mss : List (List (List ℤ))) → option_places (unless_empty g.Areas mss) ≡ []
-    areas_places mss = grind (arith, places_at.areas)
-
-    with_places : (o : Option TopoShape) (ts : List TopoShape) → AllByRecursion X (option_places o) → AllByRecursion X (joined (map places ts)) → AllByRecursion X (joined (map places (with_some o ts)))
-    with_places o ts h k = grind (arith, all_append)
-
     members_stay : (ss : List Shape) → AllByRecursion Stay ss → AllByRecursion X (joined (map shape_points ss)) → AllByRecursion X (joined (map places (some_of made ss)))
     members_stay [] all h = tt
     members_stay (s ∷ ss) all h = grind (arith, all_append, all_left, all_right, members_stay ss all.1)
@@ -62,10 +80,10 @@ module _ (kept : Bool → List Point → Option (List ℤ)) where
     places_stay = by_kinds Stay (record {
       point = λ p h. subst (AllByRecursion X) (points_at.point p ∙ sym (ap option_places (prune-point (λ p. p) kept p) ∙ places_at.point p)) h;
       points = λ ps h. subst (AllByRecursion X) (points_at.points ps ∙ sym (ap option_places (prune-points (λ p. p) kept ps) ∙ places_at.points (map (λ p. p) ps) ∙ map_id ps)) h;
-      line = λ l h. no_places (made (g.Line l)) (ap option_places (prune-line (λ p. p) kept l) ∙ line_places (kept false l));
-      lines = λ ls h. no_places (made (g.Lines ls)) (ap option_places (prune-lines (λ p. p) kept ls) ∙ lines_places (some_of (kept false) ls));
-      area = λ rs h. no_places (made (g.Area rs)) (ap option_places (prune-area (λ p. p) kept rs) ∙ area_places (area_by (kept true) rs));
-      areas = λ areas h. no_places (made (g.Areas areas)) (ap option_places (prune-areas (λ p. p) kept areas) ∙ areas_places (some_of (area_by (kept true)) areas));
+      line = λ l h. no_places X (made (g.Line l)) (ap option_places (prune-line (λ p. p) kept l) ∙ line_places (kept false l));
+      lines = λ ls h. no_places X (made (g.Lines ls)) (ap option_places (prune-lines (λ p. p) kept ls) ∙ lines_places (some_of (kept false) ls));
+      area = λ rs h. no_places X (made (g.Area rs)) (ap option_places (prune-area (λ p. p) kept rs) ∙ area_places (area_by (kept true) rs));
+      areas = λ areas h. no_places X (made (g.Areas areas)) (ap option_places (prune-areas (λ p. p) kept areas) ∙ areas_places (some_of (area_by (kept true)) areas));
       group = λ ss all h. subst (AllByRecursion X) (sym (ap option_places (prune-group (λ p. p) kept ss) ∙ places_at.group (some_of made ss)))
           (members_stay ss all (subst (AllByRecursion X) (points_at.group ss) h));
     })
@@ -76,44 +94,16 @@ module _ (kept : Bool → List Point → Option (List ℤ)) where
     abbrev Full : Shape → Type 0
     Full s = is_proper s ≡ true → is_full_option (made s) ≡ true
 
-    with_list : (o : Option (List ℤ)) (ms : List (List ℤ)) → ((m : List ℤ) → o ≡ Some m → is_some_list m ≡ true) → list_all is_some_list ms ≡ true → list_all is_some_list (with_some o ms) ≡ true
-    with_list o ms h k = grind (arith, and_from)
-
     all_some : (closed : Bool) (ls : List (List Point)) → list_all is_some_list (some_of (kept closed) ls) ≡ true
     all_some closed [] = refl
     all_some closed (l ∷ ls) = grind (arith, and_from, all_some closed ls)
 
-    line_full : (o : Option (List ℤ)) → ((m : List ℤ) → o ≡ Some m → is_some_list m ≡ true) → is_full_option (map_some g.Line o) ≡ true
-    line_full o h = grind (arith, full_at.line)
-
-    lines_full : (ms : List (List ℤ)) → list_all is_some_list ms ≡ true → is_full_option (unless_empty g.Lines ms) ≡ true
-    lines_full ms h = grind (arith, full_at.lines)
-
-    abbrev has_option : Option (List (List ℤ)) → Bool
-    has_option None = true
-    has_option (Some ms) = has_rings ms
-
-    outer_has : (o : Option (List ℤ)) (ms : List (List ℤ)) → ((m : List ℤ) → o ≡ Some m → is_some_list m ≡ true) → list_all is_some_list ms ≡ true → has_option (map_some (λ r. r ∷ ms) o) ≡ true
-    outer_has o ms h k = grind (arith, and_from)
-
     rings_have : (rs : List (List Point)) → has_option (area_by (kept true) rs) ≡ true
     rings_have rs = grind (arith, and_from, all_some)
-
-    area_full : (o : Option (List (List ℤ))) → has_option o ≡ true → is_full_option (map_some g.Area o) ≡ true
-    area_full o h = grind (arith, full_at.area)
-
-    with_area : (o : Option (List (List ℤ))) (mss : List (List (List ℤ))) → has_option o ≡ true → list_all has_rings mss ≡ true → list_all has_rings (with_some o mss) ≡ true
-    with_area o mss h k = grind (arith, and_from)
 
     areas_have : (areas : List (List (List Point))) → list_all has_rings (some_of (area_by (kept true)) areas) ≡ true
     areas_have [] = refl
     areas_have (rs ∷ areas) = with_area (area_by (kept true) rs) (some_of (area_by (kept true)) areas) (rings_have rs) (areas_have areas)
-
-    areas_full : (mss : List (List (List ℤ))) → list_all has_rings mss ≡ true → is_full_option (unless_empty g.Areas mss) ≡ true
-    areas_full mss h = grind (arith, full_at.areas)
-
-    with_full : (o : Option TopoShape) (ts : List TopoShape) → is_full_option o ≡ true → list_all is_full ts ≡ true → list_all is_full (with_some o ts) ≡ true
-    with_full o ts h k = grind (arith, and_from)
 
     members_full : (ss : List Shape) → AllByRecursion Full ss → list_all is_proper ss ≡ true → list_all is_full (some_of made ss) ≡ true
     members_full [] all h = refl

@@ -1,5 +1,5 @@
 -- The layers over all arcs, with those that no kept line uses, are a valid topology.
-use Rattle.std.proofs.Common.{◌≡◌, ℕ, ℤ, Bool, true, List, [], ◌∷◌, map, length, Option, None, Some, refl, sym, ap, subst}
+use Rattle.std.proofs.Common.{arith, ◌≡◌, ℕ, ℤ, Bool, true, List, [], ◌∷◌, map, length, Option, None, Some, refl, sym, ap, subst}
 use Rattle.std.specs.List.{AllByRecursion}
 use Rattle.elimination_meaning.specs.Laws.{EndsStay, NoneIsNew}
 use Rattle.geojson_types.specs.Features.{Shape, Featured, is_some_list, is_proper_option}
@@ -40,17 +40,4 @@ module _ (kept : Kept) (some : (closed : Bool) (l : List Point) (m : List ℤ) �
   objects_are (l ∷ ls) h = (features_are l.1.features h.0, objects_are ls h.1)
 
 pub untrimmed_is_valid : EndsStay → NoneIsNew → (t : ℕ) (ls : Named) → AreSound ls → AreDistinct (names_of ls) → IsTopology (untrimmed t ls)
-untrimmed_is_valid stay none t ls sound distinct =
-    let lines = linework (layers_of ls) in
-    let arcs : List (List Point) = all_fewer stay none t ls sound in
-    let os = objects_of stay none t ls sound in
-    let fine : AllByRecursion (IsFine arcs) (objects_strokes os) = before_fine stay none t ls sound in
-    record {
-      names = subst AreDistinct (sym (names_are (kept_refs lines t) ls)) distinct;
-      transform = tt;
-      objects = objects_are (kept_refs lines t) (some_kept lines t) ls sound;
-      arcs = fewer_are_arcs stay none t ls sound;
-      ranged = all_weaker (IsFine arcs) (λ b. AreInRange (length arcs) b.1) (λ b f. f.0) (objects_strokes os) fine;
-      joined = all_weaker (IsFine arcs) (IsJoined arcs) (λ b f. f.1) (objects_strokes os) fine;
-      closed = all_weaker (IsFine arcs) (IsClosed arcs) (λ b f. f.2) (objects_strokes os) fine;
-    }
+untrimmed_is_valid stay none t ls sound distinct = grind (arith, before_fine stay none t ls sound, names_are, objects_are, some_kept, fewer_are_arcs stay none t ls sound, all_weaker)

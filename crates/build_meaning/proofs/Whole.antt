@@ -76,6 +76,4 @@ line_whole zero lines h b stands = grind (arith, clean_line, stroke_whole, each_
 
 -- nothing is taken out
 pub loses_nothing : ZeroLaw → LosesNothing
-loses_nothing zero ls sound =
-    let lines = linework (layers_of ls) in
-    all_weaker (StandsIn lines) (λ b. kept_line lines 0 b.0 b.1 ≡ whole_line ls b.0 b.1) (line_whole zero lines (all_clean ls sound)) (named_strokes ls) (each_stands ls)
+loses_nothing zero ls sound = grind (arith, all_weaker, line_whole zero, all_clean ls sound, each_stands ls)

@@ -30,15 +30,11 @@ module _ (ls : List Stroke) (b : Point) (free : is_cut ls b ≡ false) where
 
   -- no visit turns
   pub no_turn : (v : Visit) → In v (visits_at ls b) → v.before ≡ v.after → ⊥
-  no_turn v k e =
-      let n = none_of (λ v. same v.before v.after) v (visits_at ls b) (or_parts _ (not (eqb (length (distinct (neighbors ls b))) 2)) later_parts).0 k in
-      let y : same v.before v.after ≡ true = subst (λ z. same v.before z ≡ true) e (same_self v.before) in
-      let z : true ≡ false = sym y ∙ n in cc
+  no_turn v k e = grind (arith, none_of, or_parts, later_parts, same_self)
 
   -- all visits have the same two neighbors
   pub two_neighbors : (v w : Visit) → In v (visits_at ls b) → In w (visits_at ls b) → (x : Point) → (x ≡ v.before) ⊎ (x ≡ v.after) → (x ≡ w.before) ⊎ (x ≡ w.after)
-  two_neighbors v w k m x o =
-      grind (arith, later_parts, of_two, two_test, or_parts, in_distinct x, in_distinct w.before, in_distinct w.after, both_in v, both_in w, no_turn w m)
+  two_neighbors v w k m x o = grind (arith, later_parts, of_two, two_test, or_parts, in_distinct x, in_distinct w.before, in_distinct w.after, both_in v, both_in w, no_turn w m)
 
 abbrev pub visit : Point → Point → Point → Visit
 visit a b c = record { before = a; here = b; after = c }
@@ -71,7 +67,4 @@ via_two ls a b c d e free v w =
     on x.0 y.0 y.2 (two_neighbors ls b free x.0 y.0 x.1 y.1 a (elim x.2 [ inl e ↦ inl (sym e.0) | inr e ↦ inr (sym e.1) ]))
   where
     on : (x y : Visit) → ((y.before ≡ d) × (y.after ≡ e)) ⊎ ((y.before ≡ e) × (y.after ≡ d)) → (a ≡ y.before) ⊎ (a ≡ y.after) → (a ≡ d) ⊎ (a ≡ e)
-    on x y (inl p) (inl q) = inl (q ∙ p.0)
-    on x y (inl p) (inr q) = inr (q ∙ p.1)
-    on x y (inr p) (inl q) = inr (q ∙ p.0)
-    on x y (inr p) (inr q) = inl (q ∙ p.1)
+    on x y h k = grind arith

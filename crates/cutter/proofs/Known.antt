@@ -49,10 +49,7 @@ known_start known cut s h x i = h x (in_start cut s.address s.closed s.positions
 ends : (ls : List Stroke) (at : Address) (c : Bool) (ps : List Point) → In (line at c ps) ls → IsClean (line at c ps) → EndsPass (is_cut ls) (from_start (is_cut ls) (line at c ps))
 ends ls at c [] m h = elim h [ ]
 ends ls at c (p ∷ []) m h = elim h [ ]
-ends ls at false (p ∷ (q ∷ ps)) m h = (
-  end_cut ls (line at false (p ∷ (q ∷ ps))) p m (ap (λ b. b || same p (last q ps)) (same_self p)),
-  end_cut ls (line at false (p ∷ (q ∷ ps))) (last q ps) m (ap (λ b. same (last q ps) p || b) (same_self (last q ps)) ∙ or-true (same (last q ps) p)),
-)
+ends ls at false (p ∷ (q ∷ ps)) m h = grind (arith, end_cut, same_self, or-true)
 ends ls at true (p ∷ (q ∷ ps)) m h =
     let c = ring_cut ls at p (q ∷ ps) m in
     let s = start_cut (is_cut ls) c.0 p (p ∷ (q ∷ ps)) c.1 c.2 in

@@ -46,9 +46,7 @@ firsts_length p (q ∷ ps) = ap suc (firsts_length q ps)
 -- a list from the same cut position to it, all good, splits into walks
 split_good : (ls : List Stroke) (xs : List Point) (g : Point) → (ys : List Point) → xs ≡ g ∷ ys → Good (Via ls) xs → is_cut ls g ≡ true → is_cut ls (last g ys) ≡ true → AllWalks (is_cut ls) (Via ls) (split_at (is_cut ls) xs)
 split_good ls xs g [] e h c d = subst (λ l. AllWalks (is_cut ls) (Via ls) (split_at (is_cut ls) l)) (sym e) tt
-split_good ls xs g (y ∷ ys) e h c d =
-    let h' : Goes (Via ls) g y ys = subst (λ l. Good (Via ls) l) e h in
-    subst (λ l. AllWalks (is_cut ls) (Via ls) (split_at (is_cut ls) l)) (sym e) (all_walks (is_cut ls) (Via ls) g y ys c (steps_from ls g y ys h') (moves_from ls g y ys h') d)
+split_good ls xs g (y ∷ ys) e h c d = grind (arith, all_walks (is_cut ls) (Via ls) g y ys c, steps_from ls g y ys, moves_from ls g y ys)
 
 last_take : (q d : Point) (j : ℕ) (ps : List Point) → j ≤ length ps → last q (take j ps) ≡ get_or (q ∷ ps) j d
 last_take q d zero ps h = refl
@@ -68,12 +66,7 @@ drop_at d (suc k) (x ∷ xs) h = drop_at d k xs (omega arith)
 pub turned_is : (d p q : Point) (ps : List Point) → last q ps ≡ p → (k : ℕ) → k < length (p ∷ (q ∷ ps)) →
     (ys : List Point) × (turned k (p ∷ (q ∷ ps)) ≡ get_or (p ∷ (q ∷ ps)) k d ∷ ys) × (last (get_or (p ∷ (q ∷ ps)) k d) ys ≡ get_or (p ∷ (q ∷ ps)) k d)
 turned_is d p q ps e zero l = (q ∷ ps, append-nil (p ∷ (q ∷ ps)), e)
-turned_is d p q ps e (suc j) l =
-    let n : suc j + 1 ≡ suc (suc j) = omega arith in (
-      drop (suc (suc j)) (p ∷ (q ∷ ps)) ++ (q ∷ take j ps),
-      ap (λ m. drop (suc j) (p ∷ (q ∷ ps)) ++ drop 1 (take m (p ∷ (q ∷ ps)))) n ∙ ap (λ zs. zs ++ (q ∷ take j ps)) (drop_at d (suc j) (p ∷ (q ∷ ps)) l),
-      last_append (get_or (q ∷ ps) j d) (drop j ps) q (take j ps) ∙ last_take q d j ps (omega arith),
-    )
+turned_is d p q ps e (suc j) l = grind (arith, drop_at d (suc j) (p ∷ (q ∷ ps)) l, last_append (get_or (q ∷ ps) j d) (drop j ps) q (take j ps), last_take q d j ps (omega arith))
 
 pub ring_pieces : (ls : List Stroke) (at : Address) (p q : Point) (ps : List Point) → In (line at true (p ∷ (q ∷ ps))) ls → last q ps ≡ p → Moves p (q ∷ ps) →
     AllWalks (is_cut ls) (Via ls) (pieces_of ls (line at true (p ∷ (q ∷ ps))))

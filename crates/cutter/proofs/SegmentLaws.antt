@@ -49,8 +49,7 @@ last_drop zero p ps g ys e = grind arith
 last_drop (suc k) p [] g ys e = absurd (no k e)
   where
     no : (k : ℕ) → drop k [] ≡ g ∷ ys → ⊥
-    no zero e = cc
-    no (suc k) e = cc
+    no k e = grind arith
 last_drop (suc k) p (q ∷ ps) g ys e = last_drop k q ps g ys e
 
 -- a ring from another start has the same segments, those after the start first

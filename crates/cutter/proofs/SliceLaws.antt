@@ -41,8 +41,7 @@ module _ (cut : Point → Bool) where
   pub slices_from : (w : List Point) (k : ℕ) (p : Point) (ps : List Point) → drop k w ≡ p ∷ ps → cut (last p ps) ≡ true → slices w (k ∷ indexes cut (k + 1) ps) ≡ pieces_from cut p ps
   unfolding FirstFrom
   slices_from w k p [] e h = refl
-  slices_from w k p (q ∷ ps) e h =
-      grind (arith, drop_next, range_more, range_two, indexes_from, some_place, slices_from w (k + 1) q ps (drop_next k w p (q ∷ ps) e) h)
+  slices_from w k p (q ∷ ps) e h = grind (arith, drop_next, range_more, range_two, indexes_from, some_place, slices_from w (k + 1) q ps (drop_next k w p (q ∷ ps) e) h)
 
   -- the slices of a list whose ends pass are its pieces
   pub slices_are : (p : Point) (ps : List Point) → cut p ≡ true → cut (last p ps) ≡ true → slices (p ∷ ps) (indexes cut 0 (p ∷ ps)) ≡ split_at cut (p ∷ ps)
@@ -67,17 +66,12 @@ least_more_of q (r ∷ ps) p = least_more_of (cond (is_before r q) r q) ps p
 pub least_more : (ps : List Point) (p : Point) → least_point (ps ++ (p ∷ [])) ≡ least_with (least_point ps) p
 least_more ps p = grind (arith, least_more_of)
 
--- a turned ring, as two slices
-pub turned_is : (k : ℕ) (ps : List Point) → k < length ps → drop k ps ++ slice_range ps 1 (k + 1) ≡ turned k ps
-turned_is k ps h = grind arith
-
 -- one more of the positions of which the least was taken
 pub least_turn : (t : Point → Bool) (ps : List Point) (i : ℕ) (d : Point) → i < length ps → least_point (filter t (take (i + 1) ps)) ≡ cond (t (get_or ps i d)) (least_with (least_point (filter t (take i ps))) (get_or ps i d)) (least_point (filter t (take i ps)))
 least_turn t ps i d h = ap (λ l. least_point (filter t l)) (take_more ps i d h) ∙ ap least_point (filter-append t (take i ps) (get_or ps i d ∷ [])) ∙ on (t (get_or ps i d))
   where
     on : (b : Bool) → least_point (filter t (take i ps) ++ cond b (get_or ps i d ∷ []) []) ≡ cond b (least_with (least_point (filter t (take i ps))) (get_or ps i d)) (least_point (filter t (take i ps)))
-    on true = least_more (filter t (take i ps)) (get_or ps i d)
-    on false = ap least_point (append-nil (filter t (take i ps)))
+    on b = grind (arith, least_more, append-nil)
 
 pub indexes_turn : (t : Point → Bool) (ps : List Point) (i : ℕ) (d : Point) → i < length ps → indexes t 0 (take (i + 1) ps) ≡ indexes t 0 (take i ps) ++ cond (t (get_or ps i d)) (i ∷ []) []
 indexes_turn t ps i d h = grind (arith, length-take i ps, take_more ps i d h, indexes_more t 0 (take i ps) (get_or ps i d))

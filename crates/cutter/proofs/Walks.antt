@@ -68,10 +68,7 @@ module _ (cut : Point → Bool) (Via : Point → Point → Point → Type 0) whe
     -- neighbors in a piece differ
     pub piece_moves : (apart : (a b c : Point) → Via a b c → b ≢ c) (p q : Point) (t : List Point) → p ≢ q → IsPiece p q t →
         {l : List Point} {a b : Point} {r xs : List Point} → At l a b r xs → xs ≡ p ∷ (q ∷ t) → a ≡ b → ⊥
-    piece_moves apart p q t n h (first {a} {b} {r}) e k =
-        let ea : a ≡ p = cc in
-        let eb : b ≡ q = cc in
-        n (sym ea ∙ k ∙ eb)
+    piece_moves apart p q t n h (first {a} {b} {r}) e k = grind arith
     piece_moves apart p q t n h (later {l} {a} {b} {c} {r} k) e j = on (both_runs p q t h k e).1
       where
         on : Run a b (c ∷ r) → ⊥
@@ -81,12 +78,7 @@ module _ (cut : Point → Bool) (Via : Point → Point → Point → Type 0) whe
     pub same_way : (p q : Point) (t : List Point) (p' q' : Point) (t' : List Point) → IsPiece p q t → IsPiece p' q' t' →
         {l : List Point} {a b : Point} {r : List Point} {l' r' : List Point} → At l a b r (p ∷ (q ∷ t)) → At l' a b r' (p' ∷ (q' ∷ t')) →
         (l ≡ l') × (r ≡ r') × (p ∷ (q ∷ t) ≡ p' ∷ (q' ∷ t'))
-    same_way p q t p' q' t' h h' {l} {a} {b} {r} {l'} {r'} k k' =
-        let one = both_runs p q t h k refl in
-        let other = both_runs p' q' t' h' k' refl in
-        let el : l ≡ l' = run_unique one.0 other.0 in
-        let er : r ≡ r' = run_unique one.1 other.1 in
-        (el, er, at_is k ∙ ap (λ x. reverse x ++ (a ∷ (b ∷ r))) el ∙ ap (λ x. reverse l' ++ (a ∷ (b ∷ x))) er ∙ sym (at_is k'))
+    same_way p q t p' q' t' h h' {l} {a} {b} {r} {l'} {r'} k k' = grind (arith, both_runs p q t h k refl, both_runs p' q' t' h' k' refl, run_unique, at_is k, at_is k')
 
     -- two pieces with one segment, the one forwards and the other backwards, are each other's reverse
     pub other_way : (p q : Point) (t : List Point) (p' q' : Point) (t' : List Point) → IsPiece p q t → IsPiece p' q' t' →
@@ -116,22 +108,11 @@ module _ (cut : Point → Bool) (Via : Point → Point → Point → Type 0) whe
               corner (go m v u) e = turn a b m (subst (λ x. Via a b x) (sym e) v)
 
           by_length : (length (a ∷ l) ≤ length r → ⊥) → (length l < length r) ⊎ (length r ≤ length l) → (length r < length l) ⊎ (length l ≤ length r) → ⊥
-          by_length ih (inl m) o = ih (omega arith)
-          by_length ih (inr m) (inl o) = moves l a b (c ∷ r) k (at_place k j refl (omega arith)).1
-          by_length ih (inr m) (inr o) = inner (omega arith)
+          by_length ih h o = grind (arith, at_place, inner)
 
       -- a piece doesn't come back along a segment
       pub never_back : {l : List Point} {a b : Point} {r : List Point} {l' r' : List Point} → At l a b r (p ∷ (q ∷ t)) → At l' b a r' (p ∷ (q ∷ t)) → ⊥
-      never_back {l} {a} {b} {r} {l'} {r'} k k' = on (other_way p q t p q t h h k k')
-        where
-          on : (l ≡ r') × (r ≡ l') × (p ∷ (q ∷ t) ≡ reverse (p ∷ (q ∷ t))) → ⊥
-          on (el, er, e) =
-              let j : At r b a l (p ∷ (q ∷ t)) = subst (λ x. At x b a l (p ∷ (q ∷ t))) (sym er) (subst (λ x. At l' b a x (p ∷ (q ∷ t))) (sym el) k') in
-              by_length j (cases_lt (length r) (length l))
-            where
-              by_length : At r b a l (p ∷ (q ∷ t)) → (length r < length l) ⊎ (length l ≤ length r) → ⊥
-              by_length j (inl m) = meet r b a l j k (omega arith)
-              by_length j (inr m) = meet l a b r k j m
+      never_back {l} {a} {b} {r} {l'} {r'} k k' = grind (arith, other_way, meet)
 
       -- no interior position stands twice
       pub interior_once : {l : List Point} {a b c : Point} {r : List Point} {l' : List Point} {a' c' : Point} {r' : List Point} →

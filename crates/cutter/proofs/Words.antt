@@ -29,8 +29,7 @@ count_most t [] o = omega arith
 count_most t (y ∷ ys) o = subst (λ n. n ≤ 1) (sym (sum_by-cons (λ z. cond (t z) 1 0) y ys)) (on (t y) refl (count_most t ys o.1))
   where
     on : (b : Bool) → t y ≡ b → count_by t ys ≤ 1 → cond b 1 0 + count_by t ys ≤ 1
-    on true e ih = omega (arith, count_none t ys (λ z i u. o.0 z i e u))
-    on false e ih = omega (arith, ih)
+    on b e ih = grind (arith, count_none)
 
 -- where a test passes at times, one of the list passes
 pub count_some : {X : Type 0} (t : X → Bool) (xs : List X) → 0 < count_by t xs → (x : X) × In x xs × (t x ≡ true)
@@ -61,22 +60,7 @@ module _ (xs : List (List Point)) (h : IsStructured xs) where
   -- two places of a segment are one
   clash : (x : List Point) → In x xs → (a b : Point) (l : List Point) (s : Segment) (r : List Point) (l' : List Point) (t : Segment) (r' : List Point) →
       At l s.from s.to r x → At l' t.from t.to r' x → is_segment a b s ≡ true → is_segment a b t ≡ true → length l < length l' → ⊥
-  clash x i a b l s r l' t r' m n u v k = on (segment_ends a b s u) (segment_ends a b t v)
-    where
-      far : l ≡ l' → ⊥
-      far e = absurd (omega (arith, k, ap length e))
-
-      same_place : s.from ≡ t.from → s.to ≡ t.to → ⊥
-      same_place e f = far (h.once x i l s.from s.to r l' r' m (subst (λ z. At l' s.from z r' x) (sym f) (subst (λ z. At l' z t.to r' x) (sym e) n)))
-
-      back : s.to ≡ t.from → s.from ≡ t.to → ⊥
-      back e f = h.not_back x i l s.from s.to r l' r' m (subst (λ z. At l' s.to z r' x) (sym f) (subst (λ z. At l' z t.to r' x) (sym e) n))
-
-      on : ((a ≡ s.from) × (b ≡ s.to)) ⊎ ((a ≡ s.to) × (b ≡ s.from)) → ((a ≡ t.from) × (b ≡ t.to)) ⊎ ((a ≡ t.to) × (b ≡ t.from)) → ⊥
-      on (inl p) (inl q) = same_place (sym p.0 ∙ q.0) (sym p.1 ∙ q.1)
-      on (inl p) (inr q) = back (sym p.1 ∙ q.1) (sym p.0 ∙ q.0)
-      on (inr p) (inl q) = back (sym p.0 ∙ q.0) (sym p.1 ∙ q.1)
-      on (inr p) (inr q) = same_place (sym p.1 ∙ q.1) (sym p.0 ∙ q.0)
+  clash x i a b l s r l' t r' m n u v k = grind (arith, segment_ends)
 
   none_later : (x : List Point) → In x xs → (a b : Point) (l0 : List Point) (s : Segment) (r0 : List Point) → At l0 s.from s.to r0 x → is_segment a b s ≡ true →
       (l : List Point) (p q : Point) (r : List Point) → At l p q r x → length l0 < length l → (t : Segment) → In t (segments_from p (q ∷ r)) → is_segment a b t ≡ true → ⊥

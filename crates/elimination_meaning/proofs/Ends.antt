@@ -46,8 +46,7 @@ next_ended t a b vs h =
     on i e f false = tt
 
     by_least : (o : Option Corner) → Holds (λ c. IsOther a b (vertex_of c)) o → Holds (HasEnds a b) (without_under t (ended a vs b) o)
-    by_least None k = tt
-    by_least (Some c) k = on c.index k.0 k.1 (nat_lt c.area t)
+    by_least o k = grind (arith, on)
 
 next_ends : (t : ℕ) (a b : Vertex) (vs : List Vertex) → HasEnds a b vs → Holds (HasEnds a b) (next t vs)
 next_ends t a b vs h = subst (λ l. Holds (HasEnds a b) (next t l)) (sym h.shape) (next_ended t a b h.inner h.others)
@@ -65,11 +64,7 @@ numbered_others p q n i [] h k = tt
 numbered_others p q n i (r ∷ ps) h k = grind (arith, nat_tests, numbered_others p q n (i + 1) ps (omega (arith, h)) (omega (arith, k)))
 
 pub numbered_ends : (p q : Point) (ps : List Point) → HasEnds (vertex 0 p) (vertex (1 + length ps) q) (numbered 0 (p ∷ (ps ++ (q ∷ []))))
-numbered_ends p q ps = record {
-  inner = numbered 1 ps;
-  shape = ap (λ l. vertex 0 p ∷ l) (numbered_append 1 ps (q ∷ []));
-  others = numbered_others p q (1 + length ps) 1 ps (omega arith) (omega arith);
-}
+numbered_ends p q ps = grind (arith, numbered_append 1 ps (q ∷ []), numbered_others p q (1 + length ps) 1 ps (omega arith) (omega arith))
 
 pub ends_stay : EndsStay
 unfolding reduced

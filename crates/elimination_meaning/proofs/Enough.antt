@@ -32,8 +32,7 @@ pub next_shorter : (t : ℕ) (vs : List Vertex) → Holds (λ ws. length ws < le
 next_shorter t vs = by_least (least (corners vs)) (least_between (Shortens vs) vs (sub_all (Shortens vs) (sub_interior vs) (all_shorten vs)))
   where
     by_least : (o : Option Corner) → Holds (λ c. Shortens vs (vertex_of c)) o → Holds (λ ws. length ws < length vs) (without_under t vs o)
-    by_least None h = tt
-    by_least (Some c) h = holds_of_chosen (Holds (λ ws. length ws < length vs)) (nat_lt c.area t) (Some (without c.index vs)) None h tt
+    by_least o h = grind (arith, holds_of_chosen)
 
 go_ends : (n t : ℕ) (vs : List Vertex) → length vs ≤ n + 1 → ((ws : List Vertex) → length ws ≤ n → next t (eliminate n t ws) ≡ None) →
     (o : Option (List Vertex)) → next t vs ≡ o → Holds (λ ws. length ws < length vs) o → next t (go_on n t vs o) ≡ None

@@ -25,9 +25,6 @@ before_order = ranks_by corner_total (λ c. c)
 then_equal : (p q : Ordering) → ordering_then p q ≡ Equal → (p ≡ Equal) × (q ≡ Equal)
 then_equal p q h = grind arith
 
-abbrev point_of : ℤ → ℤ → Point
-point_of x y = record { x = x; y = y }
-
 pub point_exact : (p q : Point) → point_cmp p q ≡ Equal → p ≡ q
 point_exact p q h = grind (arith, then_equal, exact_signed)
 
@@ -37,14 +34,7 @@ corner_exact c d h = grind (arith, then_equal, exact_unsigned c.area d.area, exa
 -- two corners of which neither goes before the other are one
 pub one_corner : (c d : Corner) → is_before c d ≡ false → is_before d c ≡ false → c ≡ d
 unfolding is_before
-one_corner c d h k = corner_exact c d (tie (corner_cmp c d) (corner_cmp d c) (corner_total.antisymm c d) h k)
-  where
-    tie : (a b : Ordering) → a ≡ ordering_reverse b → is_lt a ≡ false → is_lt b ≡ false → a ≡ Equal
-    tie Less b e h k = cc
-    tie Equal b e h k = refl
-    tie Greater Less e h k = cc
-    tie Greater Equal e h k = cc
-    tie Greater Greater e h k = cc
+one_corner c d h k = grind (arith, corner_exact c d, is_lt)
 
 before_chain : (a b c : Corner) → is_before c b ≡ true → is_before b a ≡ true → is_before c a ≡ true
 before_chain a b c p q = on (is_before c a) refl

@@ -33,9 +33,7 @@ third a b i j h = grind arith
 
 before_relabelled : (f : ℕ → ℕ) (c d : Corner) → d.point ≢ c.point → is_before (recorner f c) (recorner f d) ≡ is_before c d
 unfolding is_before
-before_relabelled f c d h =
-    ap is_lt (third (nat_cmp c.area d.area) (point_cmp c.point d.point) (nat_cmp (f c.index) (f d.index)) (nat_cmp c.index d.index)
-    (λ e. h (sym (point_exact c.point d.point e))))
+before_relabelled f c d h = grind (arith, is_lt, third, point_exact)
 
 lesser_relabelled : (f : ℕ → ℕ) (c : Corner) (o : Option Corner) → Holds (λ d. c.point ≢ d.point) o →
     lesser (Some (recorner f c)) (map_some (recorner f) o) ≡ map_some (recorner f) (lesser (Some c) o)

@@ -65,6 +65,4 @@ rises_between t p q ps =
 pub indexes_rise : IndexesRise
 indexes_rise t [] h = absurd (omega (arith, h))
 indexes_rise t (p ∷ []) h = absurd (omega (arith, h))
-indexes_rise t (p ∷ (q ∷ qs)) h =
-    let e = ended q qs in
-    subst (λ l. RisesOver (length (p ∷ l)) (reduce t (p ∷ l))) (sym e.shape) (rises_between t p e.last e.inner)
+indexes_rise t (p ∷ (q ∷ qs)) h = grind (arith, ended q qs, rises_between t p)

@@ -18,12 +18,7 @@ filter_all r f (x ∷ xs) = ap (λ b. if b then x ∷ filter r xs else filter r 
 
 filter_both : {X : Type 0} (p q r : X → Bool) → ((x : X) → r x ≡ (if q x then p x else false)) → (xs : List X) → filter p (filter q xs) ≡ filter r xs
 filter_both p q r f [] = refl
-filter_both p q r f (x ∷ xs) = on (q x) (r x) (f x) (filter_both p q r f xs)
-  where
-    on : (b c : Bool) → c ≡ (if b then p x else false) → filter p (filter q xs) ≡ filter r xs →
-        filter p (if b then x ∷ filter q xs else filter q xs) ≡ (if c then x ∷ filter r xs else filter r xs)
-    on true c e ih = ap (λ l. if p x then x ∷ l else l) ih ∙ ap (λ b. if b then x ∷ filter r xs else filter r xs) (sym e)
-    on false c e ih = ih ∙ ap (λ b. if b then x ∷ filter r xs else filter r xs) (sym e)
+filter_both p q r f (x ∷ xs) = grind (arith, filter_both p q r f xs)
 
 -- ---- one step
 
@@ -46,12 +41,7 @@ under_test w t h = grind (arith, nat_tests)
 -- from a level that isn't under the threshold on, all weights are so
 on_over : (n t level i : ℕ) (vs : List Vertex) → t ≤ level → ((k : ℕ) (ws : List Vertex) → t ≤ k → is_kept_at t (weight_from n k ws i) ≡ true) →
     (o : Option Corner) → is_kept_at t (weigh_on n level vs i o) ≡ true
-on_over n t level i vs h ih None = refl
-on_over n t level i vs h ih (Some c) = on (c.index == i)
-  where
-    on : (b : Bool) → is_kept_at t (if b then Some (max level c.area) else weight_from n (max level c.area) (without c.index vs) i) ≡ true
-    on true = over_test (max level c.area) t (over_left level c.area t h)
-    on false = ih (max level c.area) (without c.index vs) (over_left level c.area t h)
+on_over n t level i vs h ih o = grind (arith, over_test, over_left)
 
 all_over : (n t level i : ℕ) (vs : List Vertex) → t ≤ level → is_kept_at t (weight_from n level vs i) ≡ true
 all_over zero t level i vs h = refl
@@ -75,13 +65,11 @@ on_under n t level vs h ih (Some c) = on (cases_lt c.area t)
     out : (v : Vertex) → max level c.area < t → (b : Bool) →
         is_kept_at t (if b then Some (max level c.area) else weight_from n (max level c.area) (without c.index vs) v.index)
         ≡ (if not b then is_kept_at t (weight_from n (max level c.area) (without c.index vs) v.index) else false)
-    out v k true = under_test (max level c.area) t k
-    out v k false = refl
+    out v k b = grind (arith, under_test)
 
     stays : (v : Vertex) → t ≤ c.area → (b : Bool) →
         is_kept_at t (if b then Some (max level c.area) else weight_from n (max level c.area) (without c.index vs) v.index) ≡ true
-    stays v k true = over_test (max level c.area) t (over_right level c.area t k)
-    stays v k false = all_over n t (max level c.area) v.index (without c.index vs) (over_right level c.area t k)
+    stays v k b = grind (arith, over_test, over_right, all_over)
 
     on : (c.area < t) ⊎ (t ≤ c.area) → go_on n t vs (if nat_lt c.area t then Some (without c.index vs) else None)
         ≡ filter (λ v. is_kept_at t (if c.index == v.index then Some (max level c.area) else weight_from n (max level c.area) (without c.index vs) v.index)) vs
@@ -92,9 +80,7 @@ on_under n t level vs h ih (Some c) = on (cases_lt c.area t)
         ∙ filter_both (λ v. is_kept_at t (weight_from n (max level c.area) (without c.index vs) v.index)) (λ v. not (v.index == c.index))
         (λ v. is_kept_at t (if c.index == v.index then Some (max level c.area) else weight_from n (max level c.area) (without c.index vs) v.index))
         (λ v. out v l (c.index == v.index) ∙ ap (λ b. if not b then is_kept_at t (weight_from n (max level c.area) (without c.index vs) v.index) else false) (index_test c.index v.index)) vs
-    on (inr k) =
-        ap (λ b. go_on n t vs (if b then Some (without c.index vs) else None)) (ge_test c.area k)
-        ∙ sym (filter_all (λ v. is_kept_at t (if c.index == v.index then Some (max level c.area) else weight_from n (max level c.area) (without c.index vs) v.index)) (λ v. stays v k (c.index == v.index)) vs)
+    on (inr k) = grind (arith, ge_test, filter_all, stays)
 
 eliminate_weighed : (n t level : ℕ) (vs : List Vertex) → level < t → eliminate n t vs ≡ filter (λ v. is_kept_at t (weight_from n level vs v.index)) vs
 eliminate_weighed zero t level vs h = sym (filter_all (λ v. true) (λ v. refl) vs)
@@ -104,12 +90,7 @@ eliminate_weighed (suc n) t level vs h = on_under n t level vs h (λ k ws m. eli
 
 indexes_filtered : (k : ℕ → Bool) (vs : List Vertex) → map (λ v. v.index) (filter (λ v. k v.index) vs) ≡ filter k (map (λ v. v.index) vs)
 indexes_filtered k [] = refl
-indexes_filtered k (v ∷ vs) = on (k v.index) (indexes_filtered k vs)
-  where
-    on : (b : Bool) → map (λ v. v.index) (filter (λ v. k v.index) vs) ≡ filter k (map (λ v. v.index) vs) → map (λ v. v.index) (if b then v ∷ filter (λ v. k v.index) vs else filter (λ v. k v.index) vs)
-        ≡ (if b then v.index ∷ filter k (map (λ v. v.index) vs) else filter k (map (λ v. v.index) vs))
-    on true ih = ap (λ l. v.index ∷ l) ih
-    on false ih = ih
+indexes_filtered k (v ∷ vs) = grind (arith, indexes_filtered k vs)
 
 numbered_indexes : (i : ℕ) (ps : List Point) → map (λ v. v.index) (numbered i ps) ≡ range_with_len i (length ps)
 numbered_indexes i [] = refl
@@ -123,11 +104,7 @@ kept_under t ps e =
     ∙ ap (filter (λ i. is_kept_at t (weight ps i))) (numbered_indexes 0 ps)
 
 at_zero : (o : Option ℕ) → is_kept_at 0 o ≡ true
-at_zero None = refl
-at_zero (Some w) = none_under w
-  where
-    none_under : (n : ℕ) → not (nat_lt n 0) ≡ true
-    none_under n = grind (arith, nat_tests)
+at_zero o = grind arith
 
 pub kept_by_weight : KeptByWeight
 kept_by_weight zero ps = kept_under 0 ps (eliminate_zero (length ps) (numbered 0 ps) ∙ sym (filter_all (λ v. is_kept_at 0 (weight ps v.index)) (λ v. at_zero (weight ps v.index)) (numbered 0 ps)))

@@ -9,10 +9,7 @@ use Rattle.geometry.specs.Points.{Point}
 
 -- an integer is a difference of two numbers, and a product of integers that of their products
 product_is : (a b : ℤ) → up (a *ℤ b) + (down a * up b + up a * down b) ≡ down (a *ℤ b) + (up a * up b + down a * down b)
-product_is (pos m) (pos n) = omega (arith, ints)
-product_is (pos m) (negsuc n) = omega (arith, ints)
-product_is (negsuc m) (pos n) = omega (arith, ints)
-product_is (negsuc m) (negsuc n) = omega (arith, ints)
+product_is a b = grind arith
 
 difference_is : (a b : ℤ) → up (a -ℤ b) + (down a + up b) ≡ down (a -ℤ b) + (up a + down b)
 difference_is a b = omega (arith, ints)
@@ -34,8 +31,7 @@ times_sub a b c = *ℤ_comm c (a -ℤ b) ∙ sub_times a b c ∙ ap (λ z. z -�
 
 -- two differences multiplied out
 pub sub_times_sub : (a b c d : ℤ) → (a -ℤ b) *ℤ (c -ℤ d) ≡ (a *ℤ c -ℤ a *ℤ d) -ℤ (b *ℤ c -ℤ b *ℤ d)
-sub_times_sub a b c d = sub_times a b (c -ℤ d) ∙ ap (λ z. z -ℤ b *ℤ (c -ℤ d)) (times_sub c d a)
-    ∙ ap (λ z. (a *ℤ c -ℤ a *ℤ d) -ℤ z) (times_sub c d b)
+sub_times_sub a b c d = grind (arith, sub_times, times_sub)
 
 -- the cross product from the other end is the same under the other sign
 pub cross_turned : (a b c : Point) → cross a b c +ℤ cross c b a ≡ pos 0

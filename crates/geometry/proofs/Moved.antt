@@ -19,8 +19,7 @@ pub record Replaced {A : Type 0} (f : A → A) (xs : List A) (i : ℕ) (ys : Lis
   pub made : ys ≡ map f (take i xs) ++ drop i xs
 
 pub starts : {A : Type 0} (f : A → A) (xs : List A) → Replaced f xs 0 xs
-starts f [] = record { made = refl }
-starts f (x ∷ xs) = record { made = refl }
+starts f xs = grind arith
 
 got_here : {A : Type 0} (f : A → A) (xs : List A) (i : ℕ) (d : A) → get_or (map f (take i xs) ++ drop i xs) i d ≡ get_or xs i d
 got_here f [] zero d = refl
@@ -36,11 +35,7 @@ set_here f (x ∷ xs) (suc i) d h = ap (λ ys. f x ∷ ys) (set_here f xs i d (o
 
 pub turns : {A : Type 0} (f : A → A) (xs : List A) (i : ℕ) (ys : List A) (x y : A) → i < length xs → Replaced f xs i ys
     → y ≡ f (get_or ys i x) → Replaced f xs (i + 1) (set ys i y)
-turns f xs i ys x y h so made = record {
-  made = ap (λ zs. set zs i y) so.made
-      ∙ ap (set (map f (take i xs) ++ drop i xs) i) (made ∙ ap (λ zs. f (get_or zs i x)) so.made ∙ ap f (got_here f xs i x))
-      ∙ set_here f xs i x h ∙ ap (λ n. map f (take n xs) ++ drop n xs) (sym (add-one i));
-}
+turns f xs i ys x y h so made = grind (arith, got_here, set_here, add-one)
 
 take_whole : {A : Type 0} (f : A → A) (xs : List A) (i : ℕ) → length xs ≤ i → map f (take i xs) ++ drop i xs ≡ map f xs
 take_whole f [] zero h = refl
@@ -63,9 +58,7 @@ same_moved : (f : Point → Point) (p q : Point) → same p q ≡ true → same 
 same_moved f p q h = ap (λ r. same (f p) (f r)) (sym (same_is p q h)) ∙ same_self (f p)
 
 both_moved : (f : Point → Point) (a b : Option Point) → both_same a b ≡ true → both_same (option_map f a) (option_map f b) ≡ true
-both_moved f None b h = h
-both_moved f (Some p) None h = h
-both_moved f (Some p) (Some q) h = same_moved f p q h
+both_moved f a b h = grind (arith, same_moved)
 
 -- equal positions stay equal, so a ring stays one
 pub ring_moved : (f : Point → Point) (ps : List Point) → is_ring ps ≡ true → is_ring (map f ps) ≡ true

@@ -1,5 +1,5 @@
 -- Shapes whose positions are replaced: the equations by kind, and what stays.
-use Rattle.std.proofs.Common.{◌≡◌, Bool, true, false, ◌&&◌, List, [], ◌∷◌, ◌++◌, map, Option, None, Some, refl, sym, ap, ◌∙◌, subst}
+use Rattle.std.proofs.Common.{arith, ◌≡◌, Bool, true, false, ◌&&◌, List, [], ◌∷◌, ◌++◌, map, Option, None, Some, refl, sym, ap, ◌∙◌, subst}
 use Rattle.std.proofs.lemmas.List.{length-map, map-append}
 use Rattle.std.specs.List.{AllByRecursion, list_all}
 use Rattle.std.specs.Prelude.{nat_le}
@@ -22,9 +22,8 @@ moved_at f = at_kinds (moved_step f)
 
 -- ---- lists
 
-some_mapped : {A B : Type 0} (h : A → B) (xs : List A) → is_some_list (map h xs) ≡ is_some_list xs
-some_mapped h [] = refl
-some_mapped h (x ∷ xs) = refl
+pub some_mapped : {A B : Type 0} (h : A → B) (xs : List A) → is_some_list (map h xs) ≡ is_some_list xs
+some_mapped h xs = grind arith
 
 line_mapped : (f : Point → Point) (ps : List Point) → is_line (map f ps) ≡ is_line ps
 line_mapped f ps = ap (nat_le 2) (length-map ps f)
@@ -65,8 +64,7 @@ module _ (f : Point → Point) where
   })
 
   pub option_proper_moved : (o : Option Shape) → is_proper_option (map_some (moved f) o) ≡ is_proper_option o
-  option_proper_moved None = refl
-  option_proper_moved (Some s) = proper_moved s
+  option_proper_moved o = grind (arith, proper_moved)
 
   -- its positions are the ones that are given for the old ones, in order
   abbrev HasMoved : Shape → Type 0
@@ -89,8 +87,7 @@ module _ (f : Point → Point) where
   })
 
   pub option_points_moved : (o : Option Shape) → option_points (map_some (moved f) o) ≡ map f (option_points o)
-  option_points_moved None = refl
-  option_points_moved (Some s) = points_moved s
+  option_points_moved o = grind (arith, points_moved)
 
   -- its lines and rings are the old ones with each position replaced, in order
   abbrev pub stroke_moved : Bool × List Point → Bool × List Point
@@ -126,8 +123,7 @@ module _ (f : Point → Point) where
   })
 
   pub option_strokes_moved : (o : Option Shape) → option_strokes (map_some (moved f) o) ≡ map stroke_moved (option_strokes o)
-  option_strokes_moved None = refl
-  option_strokes_moved (Some s) = strokes_moved s
+  option_strokes_moved o = grind (arith, strokes_moved)
 
 -- ---- functions that agree
 
@@ -141,17 +137,14 @@ module _ (f h : Point → Point) where
 
   alike_areas : (rss : List (List (List Point))) → AllByRecursion Alike (joined (joined rss)) → map (map (map f)) rss ≡ map (map (map h)) rss
   alike_areas [] all = refl
-  alike_areas (rs ∷ rss) all =
-      let parts = subst (AllByRecursion Alike) (joined_append rs (joined rss)) all in
-      rw (alike_lines rs (all_left Alike (joined rs) (joined (joined rss)) parts), alike_areas rss (all_right Alike (joined rs) (joined (joined rss)) parts)) refl
+  alike_areas (rs ∷ rss) all = grind (arith, joined_append, alike_lines, all_left, all_right, alike_areas rss)
 
   abbrev Agrees : Shape → Type 0
   Agrees s = AllByRecursion Alike (shape_points s) → moved f s ≡ moved h s
 
   alike_members : (ss : List Shape) → AllByRecursion Agrees ss → AllByRecursion Alike (joined (map shape_points ss)) → map (moved f) ss ≡ map (moved h) ss
   alike_members [] all k = refl
-  alike_members (s ∷ ss) all k =
-      rw (all.0 (all_left Alike (shape_points s) (joined (map shape_points ss)) k), alike_members ss all.1 (all_right Alike (shape_points s) (joined (map shape_points ss)) k)) refl
+  alike_members (s ∷ ss) all k = grind (arith, all_left, all_right, alike_members ss all.1 (all_right Alike (shape_points s) (joined (map shape_points ss)) k))
 
   pub moved_alike : (s : Shape) → AllByRecursion Alike (shape_points s) → moved f s ≡ moved h s
   moved_alike = by_kinds Agrees (record {
@@ -165,5 +158,4 @@ module _ (f h : Point → Point) where
   })
 
   pub option_moved_alike : (o : Option Shape) → AllByRecursion Alike (option_points o) → map_some (moved f) o ≡ map_some (moved h) o
-  option_moved_alike None k = refl
-  option_moved_alike (Some s) k = ap Some (moved_alike s k)
+  option_moved_alike o k = grind (arith, moved_alike)

@@ -1,5 +1,5 @@
 -- What is told of dropped lines depends on the lines of the shape alone.
-use Rattle.std.proofs.Common.{◌≡◌, Bool, true, false, List, [], ◌∷◌, map, Option, refl, sym, ap, ◌∙◌, subst}
+use Rattle.std.proofs.Common.{arith, ◌≡◌, Bool, true, false, List, [], ◌∷◌, map, Option, refl, sym, ap, ◌∙◌, subst}
 use Rattle.std.specs.List.{AllByRecursion}
 use Rattle.geometry.specs.declared.shape.Geometry.{Geometry}
 use Rattle.geometry.specs.declared.shape.Geometry.TheVariants as g
@@ -28,8 +28,7 @@ module _ (P L : Type 0) (one two : Bool → L → Option Cause) where
 
   area_agree : (rs : List L) → AllByRecursion Ring rs → area_omissions (one true) rs ≡ area_omissions (two true) rs
   area_agree [] h = refl
-  area_agree (o ∷ hs) h = ap (λ c. of_parts 0 (here c ∷ map (λ h. here (inner_cause c (one true h))) hs)) h.0
-      ∙ ap (λ dss. of_parts 0 (here (two true o) ∷ dss)) (holes_agree (two true o) hs h.1)
+  area_agree (o ∷ hs) h = grind (arith, holes_agree (two true o) hs h.1)
 
   rings : (rs : List L) → AllByRecursion Same (map (λ l. (true, l)) rs) → AllByRecursion Ring rs
   rings rs h = all_of_map Same (λ l. (true, l)) rs h
@@ -67,12 +66,4 @@ module _ (P L : Type 0) (one two : Bool → L → Option Cause) where
   at_group ss all h = (omissions_at P L one).group ss ∙ ap (of_parts 0) (members ss all (subst (AllByRecursion Same) (strokes-group P L ss) h)) ∙ sym ((omissions_at P L two).group ss)
 
   pub omissions_agree : (s : Geometry P L L) → AllByRecursion Same (strokes s) → omissions one s ≡ omissions two s
-  omissions_agree = by_kinds Agrees (record {
-    point = λ p h. (omissions_at P L one).point p ∙ sym ((omissions_at P L two).point p);
-    points = λ ps h. (omissions_at P L one).points ps ∙ sym ((omissions_at P L two).points ps);
-    line = at_line;
-    lines = at_lines;
-    area = at_area;
-    areas = at_areas;
-    group = at_group;
-  })
+  omissions_agree = grind (arith, by_kinds Agrees, omissions_at P L one, omissions_at P L two, at_line, at_lines, at_area, at_areas, at_group)

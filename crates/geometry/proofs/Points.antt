@@ -1,5 +1,5 @@
 -- What `same` tells of two positions.
-use Rattle.std.proofs.Common.{◌≡◌, true, ◌&&◌, ap, ◌∙◌}
+use Rattle.std.proofs.Common.{arith, ◌≡◌, true, ◌&&◌, ap, ◌∙◌}
 use Rattle.std.proofs.lemmas.Bool.{and_parts}
 use Rattle.std.proofs.lemmas.Bool.Decides.{Decides-int_eq}
 use Rattle.std.proofs.lemmas.Cmp.{int_eq_equiv}
@@ -8,15 +8,10 @@ use Rattle.std.specs.Prelude.{ℤ}
 use Rattle.geometry.specs.Points.{Point}
 use Rattle.geometry.specs.Rings.{same}
 
-abbrev point_of : ℤ → ℤ → Point
-point_of x y = record { x = x; y = y }
-
 pub same_self : (p : Point) → same p p ≡ true
 unfolding same
 same_self p = ap (λ b. b && int_eq p.y p.y) (int_eq_equiv.refl p.x) ∙ int_eq_equiv.refl p.y
 
 pub same_is : (p q : Point) → same p q ≡ true → p ≡ q
 unfolding same
-same_is p q h =
-    let b = and_parts (int_eq p.x q.x) (int_eq p.y q.y) h in
-    ap (λ x. point_of x p.y) ((Decides-int_eq p.x q.x).0 b.0) ∙ ap (point_of q.x) ((Decides-int_eq p.y q.y).0 b.1)
+same_is p q h = grind arith

@@ -25,8 +25,7 @@ module _ (f : Point → Point) where
 
   -- the features of the objects are the features of the objects before, with their cells
   object_features_celled : (o : TopoObject) → object_features (object_celled f o) ≡ map (feature_celled f) (object_features o)
-  object_features_celled (One x) = refl
-  object_features_celled (Many fs) = refl
+  object_features_celled o = grind arith
 
   -- ---- names
 
@@ -42,14 +41,11 @@ module _ (f : Point → Point) where
     features_keep (x ∷ fs) h = (stays x h.0, features_keep fs h.1)
 
     object_keeps : (o : TopoObject) → AllByRecursion X (object_features o) → AllByRecursion X (object_features (object_celled f o))
-    object_keeps (One x) h = features_keep (x ∷ []) h
-    object_keeps (Many fs) h = features_keep fs h
+    object_keeps o h = grind (arith, features_keep)
 
     objects_keep : (os : List (List ℕ × TopoObject)) → AllByRecursion X (features_of os) → AllByRecursion X (features_of (objects_celled f os))
     objects_keep [] h = tt
-    objects_keep (o ∷ os) h =
-        all_append X (object_features (object_celled f o.1)) (features_of (objects_celled f os)) (object_keeps o.1 (all_left X (object_features o.1) (features_of os) h))
-        (objects_keep os (all_right X (object_features o.1) (features_of os) h))
+    objects_keep (o ∷ os) h = grind (arith, all_append, object_keeps, all_left, all_right, objects_keep os (all_right X (object_features o.1) (features_of os) h))
 
   nests : (n : ℕ) (x : TopoFeature) → max (option_nesting x.shape) (1 + properties_nesting x.properties) ≤ n
       → max (option_nesting (feature_celled f x).shape) (1 + properties_nesting x.properties) ≤ n
@@ -64,9 +60,7 @@ module _ (f : Point → Point) where
 
     parts_stay : (os : List (List ℕ × TopoObject)) → map part (features_of (objects_celled f os)) ≡ map part (features_of os)
     parts_stay [] = refl
-    parts_stay (o ∷ os) =
-        ap (λ fs. map part (fs ++ features_of (objects_celled f os))) (object_features_celled o.1)
-        ∙ parts_of (object_features o.1) (features_of (objects_celled f os)) (features_of os) (parts_stay os)
+    parts_stay (o ∷ os) = grind (arith, object_features_celled, parts_of, parts_stay os)
 
   -- ---- arcs
 

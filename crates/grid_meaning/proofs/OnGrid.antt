@@ -1,5 +1,5 @@
 -- Topologies whose positions lie on a grid, put on that grid.
-use Rattle.std.proofs.Common.{List, None, Some, refl}
+use Rattle.std.proofs.Common.{rules, arith, List, None, Some, refl}
 use Rattle.std.specs.List.{AllByRecursion}
 use Rattle.build_meaning.specs.Laws.{DecodesBack, IsValid}
 use Rattle.elimination_meaning.specs.Laws.{NoneIsNew}
@@ -48,13 +48,11 @@ each_cell X Y f y h = (all_weaker (λ a. AllByRecursion X a) (λ a. AllByRecursi
 
 pub gridded_valid : GriddedIsValid
 gridded_valid None y grid plain on h = h
-gridded_valid (Some g) y grid plain on h =
-    celled_is_valid (transform_of g) (cell g) y (has_transform g grid) plain (each_cell (IsOn (Some g)) (IsOnGrid (transform_of g) (cell g)) (all_placed g grid) y on) h
+gridded_valid (Some g) y grid plain on h = search (rules, celled_is_valid, has_transform, each_cell, all_placed)
 
 pub gridded_decodes : GriddedDecodes
 gridded_decodes None y name grid plain on = refl
-gridded_decodes (Some g) y name grid plain on =
-    celled_decodes (transform_of g) (cell g) y name plain (each_cell (IsOn (Some g)) (LiesBack (transform_of g) (cell g)) (all_lie g grid) y on)
+gridded_decodes (Some g) y name grid plain on = search (rules, celled_decodes, each_cell, all_lie)
 
 -- ---- what is built
 
@@ -63,8 +61,7 @@ built_on none g t ls on = built_cells none (IsOn g) t ls on.1
 
 pub built_valid : IsValid → BuiltIsValidOnGrid → BuiltIsValidGridded
 built_valid valid celled None t ls on sound distinct = valid t ls sound distinct
-built_valid valid celled (Some g) t ls on sound distinct =
-    celled (transform_of g) (cell g) t ls (has_transform g on.0) sound distinct (all_placed g on.0 (named_points ls) on.1)
+built_valid valid celled (Some g) t ls on sound distinct = grind (arith, has_transform, all_placed)
 
 pub built_decodes : DecodesBack → DecodesBackOnGrid → BuiltDecodesGridded
 built_decodes back celled None t ls on sound distinct = back t ls sound distinct

@@ -1,5 +1,5 @@
 -- Layers that are snapped to the grid over them lie on it, and are as sound as before.
-use Rattle.std.proofs.Common.{◌≡◌, ℕ, ◌≤◌, true, List, [], ◌∷◌, ◌+◌, map, Option, None, Some, refl, sym, ap, ◌∙◌, subst}
+use Rattle.std.proofs.Common.{rules, arith, ◌≡◌, ℕ, ◌≤◌, true, List, [], ◌∷◌, ◌+◌, map, Option, None, Some, refl, sym, ap, ◌∙◌, subst}
 use Rattle.std.specs.List.{AllByRecursion}
 use Rattle.build_meaning.specs.Laws.{IsSound, AreSound}
 use Rattle.build_meaning.specs.Layers.{Named, names_of}
@@ -20,13 +20,10 @@ use Rattle.grid_snap.proofs.Layered.{snapped_sound}
 use Rattle.grid_snap.proofs.Least.{covers_all, grid_made}
 use Rattle.grid_snap.proofs.Settled.{settled}
 use Rattle.json_value.specs.Depth.{greatest}
+use Rattle.lessened_topology.proofs.Again.{all_hold}
 use Rattle.list_laws.proofs.Elements.{all_weaker, all_left, all_right, all_append, all_map}
 use Rattle.grid_meaning.specs.Gridded.{named_points, IsCount, AreInputs, snapped_named, IsOn}
 use Rattle.grid_meaning.specs.Laws.{IsSnapped, SnappedAreOn, EachFeature, SnappedKeep}
-
-pub all_hold : {A : Type 0} (X : A → Type 0) → ((a : A) → X a) → (xs : List A) → AllByRecursion X xs
-all_hold X f [] = tt
-all_hold X f (x ∷ xs) = (f x, all_hold X f xs)
 
 names_stay : (g : Option Axes) (ls : Named) → names_of (snapped_named g ls) ≡ names_of ls
 names_stay None ls = refl
@@ -46,42 +43,26 @@ module _ (g : Axes) (grid : IsGrid g) where
   lands p h = let s : Settles g p = settled g p grid h in (s.covered, s.again)
 
   feature_lands : (f : Featured) → AllByRecursion Covered (option_points f.shape) → AllOn (option_points (moved_feature (snapped g) f).shape)
-  feature_lands f h =
-      subst AllOn (sym (option_points_moved (snapped g) f.shape))
-      (all_map (IsOn (Some g)) (snapped g) (option_points f.shape) (all_weaker Covered (λ p. IsOn (Some g) (snapped g p)) lands (option_points f.shape) h))
+  feature_lands f h = search (rules, option_points_moved, all_map, all_weaker, lands)
 
   features_land : (fs : List Featured) → AllByRecursion Covered (features_points fs) → AllOn (features_points (map (moved_feature (snapped g)) fs))
   features_land [] h = tt
-  features_land (f ∷ fs) h =
-      all_append (IsOn (Some g)) (option_points (moved_feature (snapped g) f).shape) (features_points (map (moved_feature (snapped g)) fs))
-      (feature_lands f (all_left Covered (option_points f.shape) (features_points fs) h))
-      (features_land fs (all_right Covered (option_points f.shape) (features_points fs) h))
+  features_land (f ∷ fs) h = grind (arith, all_append, feature_lands, all_left, all_right, features_land fs (all_right Covered (option_points f.shape) (features_points fs) h))
 
   layers_land : (ls : Named) → AllByRecursion Covered (named_points ls) → AllOn (named_points (snapped_named (Some g) ls))
   layers_land [] h = tt
-  layers_land (l ∷ ls) h =
-      all_append (IsOn (Some g)) (features_points (map (moved_feature (snapped g)) l.1.features)) (named_points (snapped_named (Some g) ls))
-      (features_land l.1.features (all_left Covered (features_points l.1.features) (named_points ls) h))
-      (layers_land ls (all_right Covered (features_points l.1.features) (named_points ls) h))
+  layers_land (l ∷ ls) h = grind (arith, all_append, features_land, all_left, all_right, layers_land ls (all_right Covered (features_points l.1.features) (named_points ls) h))
 
   feature_sound : (f : Featured) → IsSound f → AllByRecursion Covered (option_points f.shape) → IsSound (moved_feature (snapped g) f)
-  feature_sound f s h =
-      let k : IsAsSound g f (moved_feature (snapped g) f) = snapped_sound g f grid h in
-      record { proper = k.proper ∙ s.proper; rings = k.rings s.rings; places = k.places }
+  feature_sound f s h = grind (arith, snapped_sound)
 
   features_sound : (fs : List Featured) → AllByRecursion IsSound fs → AllByRecursion Covered (features_points fs) → AllByRecursion IsSound (map (moved_feature (snapped g)) fs)
   features_sound [] s h = tt
-  features_sound (f ∷ fs) s h = (
-    feature_sound f s.0 (all_left Covered (option_points f.shape) (features_points fs) h),
-    features_sound fs s.1 (all_right Covered (option_points f.shape) (features_points fs) h),
-  )
+  features_sound (f ∷ fs) s h = search (rules, feature_sound, all_left, all_right, features_sound fs s.1 (all_right Covered (option_points f.shape) (features_points fs) h))
 
   layers_sound : (ls : Named) → AreSound ls → AllByRecursion Covered (named_points ls) → AreSound (snapped_named (Some g) ls)
   layers_sound [] s h = tt
-  layers_sound (l ∷ ls) s h = (
-    features_sound l.1.features s.0 (all_left Covered (features_points l.1.features) (named_points ls) h),
-    layers_sound ls s.1 (all_right Covered (features_points l.1.features) (named_points ls) h),
-  )
+  layers_sound (l ∷ ls) s h = grind (arith, features_sound, all_left, all_right, layers_sound ls s.1 (all_right Covered (features_points l.1.features) (named_points ls) h))
 
 -- ---- on the grid that is asked for
 
@@ -111,21 +92,10 @@ module _ (f : Point → Point) where
   members_nest (s ∷ ss) all = rw (all.0, members_nest ss all.1) refl
 
   moved_nests : (s : Shape) → nesting (moved f s) ≡ nesting s
-  moved_nests =
-      let at = nesting_at Point (List Point) in
-      by_kinds Nests (record {
-        point = λ p. ap nesting ((moved_at f).point p) ∙ at.point (f p) ∙ sym (at.point p);
-        points = λ ps. ap nesting ((moved_at f).points ps) ∙ at.points (map f ps) ∙ sym (at.points ps);
-        line = λ ps. ap nesting ((moved_at f).line ps) ∙ at.line (map f ps) ∙ sym (at.line ps);
-        lines = λ ls. ap nesting ((moved_at f).lines ls) ∙ at.lines (map (map f) ls) ∙ sym (at.lines ls);
-        area = λ rs. ap nesting ((moved_at f).area rs) ∙ at.area (map (map f) rs) ∙ sym (at.area rs);
-        areas = λ rss. ap nesting ((moved_at f).areas rss) ∙ at.areas (map (map (map f)) rss) ∙ sym (at.areas rss);
-        group = λ ss all. ap nesting ((moved_at f).group ss) ∙ at.group (map (moved f) ss) ∙ ap (λ n. 2 + n) (members_nest ss all) ∙ sym (at.group ss);
-      })
+  moved_nests = grind (arith, nesting_at Point (List Point), by_kinds Nests, moved_at f, members_nest)
 
   option_nests : (s : Option Shape) → option_nesting (map_some (moved f) s) ≡ option_nesting s
-  option_nests None = refl
-  option_nests (Some s) = moved_nests s
+  option_nests s = grind (arith, moved_nests)
 
   features_nest : (n : ℕ) (fs : List Featured) → AllByRecursion (λ x. feature_nesting x ≤ n) fs → AllByRecursion (λ x. feature_nesting x ≤ n) (map (moved_feature f) fs)
   features_nest n [] h = tt

@@ -25,18 +25,12 @@ as_snapped : (g : Axes) (p : Point) → IsCovered g p → snapped_if_covered g p
 as_snapped g p h = rw h refl
 
 feature_snapped : (g : Axes) (f : Featured) → AllByRecursion (IsCovered g) (option_points f.shape) → moved_feature (snapped_if_covered g) f ≡ moved_feature (snapped g) f
-feature_snapped g f h =
-    ap (λ s. record { id = f.id; properties = f.properties; shape = s })
-    (option_moved_alike (snapped_if_covered g) (snapped g) f.shape (all_weaker (IsCovered g) (λ p. snapped_if_covered g p ≡ snapped g p) (as_snapped g) (option_points f.shape) h))
+feature_snapped g f h = grind (arith, option_moved_alike, all_weaker, as_snapped)
 
 pub features_snapped : (g : Axes) (fs : List Featured) → AllByRecursion (IsCovered g) (features_points fs)
     → map (moved_feature (snapped_if_covered g)) fs ≡ map (moved_feature (snapped g)) fs
 features_snapped g [] h = refl
-features_snapped g (f ∷ fs) h =
-    rw (
-      feature_snapped g f (all_left (IsCovered g) (option_points f.shape) (features_points fs) h),
-      features_snapped g fs (all_right (IsCovered g) (option_points f.shape) (features_points fs) h),
-    ) refl
+features_snapped g (f ∷ fs) h = grind (arith, feature_snapped, all_left, all_right, features_snapped g fs (all_right (IsCovered g) (option_points f.shape) (features_points fs) h))
 
 pub snapped_sound : SnappedAreSound
 snapped_sound g f grid covered =
@@ -53,7 +47,4 @@ snapped_sound g f grid covered =
     }
   where
     place_of : (g : Axes) (p : Point) → IsGrid g → covers g p ≡ true → IsPosition (snapped g p)
-    place_of g p grid h =
-        let s : Settles g p = settled g p grid h in
-        let w : IsWithin reach (snapped g p) = covered_within g (snapped g p) grid s.covered in
-        (omega (arith, w.0), omega (arith, w.1))
+    place_of g p grid h = grind (arith, settled g p grid h, covered_within g (snapped g p) grid)

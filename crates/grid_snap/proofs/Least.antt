@@ -19,24 +19,15 @@ use Rattle.grid_snap.proofs.Spacing.{step_some, step_reaches, step_near, step_le
 -- ---- the least and the greatest of numbers
 
 chosen_min : (a b : ℤ) → (int_min a b ≡ a) ⊎ (int_min a b ≡ b)
-chosen_min a b = on (int_lt b a)
-  where
-    on : (c : Bool) → (cond c b a ≡ a) ⊎ (cond c b a ≡ b)
-    on true = inr refl
-    on false = inl refl
+chosen_min a b = grind arith
 
 chosen_max : (a b : ℤ) → (int_max a b ≡ a) ⊎ (int_max a b ≡ b)
-chosen_max a b = on (int_lt b a)
-  where
-    on : (c : Bool) → (cond c a b ≡ a) ⊎ (cond c a b ≡ b)
-    on true = inl refl
-    on false = inr refl
+chosen_max a b = grind arith
 
 -- a fold of choices is one of the numbers
 fold_in : (f : ℤ → ℤ → ℤ) → ((a b : ℤ) → (f a b ≡ a) ⊎ (f a b ≡ b)) → (a : ℤ) (xs : List ℤ) → In (fold f a xs) (a ∷ xs)
 fold_in f e a [] = inl refl
-fold_in f e a (x ∷ xs) =
-    ⊎_elim (λ k. ⊎_elim (λ h. inl (k ∙ h)) (λ h. inr (inl (k ∙ h))) (e a x)) (λ k. inr (inr k)) (fold_in f e (f a x) xs)
+fold_in f e a (x ∷ xs) = grind (arith, fold_in f e (f a x) xs)
 
 least_of : (x : ℤ) (xs : List ℤ) → IsLeast (fold int_min x xs) (x ∷ xs)
 least_of x xs =
@@ -50,27 +41,16 @@ above_of x xs = let b = fold-int_max_bounds x xs (fold int_max x xs) refl in (b.
 
 farthest : (least greatest : ℤ) (m : ℕ) (length : ℕ) → IsSpan least greatest → m ≤ count_limit → length ≤ unsigned_abs (greatest -ℤ least) + m
     → (length ≤ 2 * input_limit + count_limit) × (unsigned_abs (least +ℤ pos length) ≤ reach)
-farthest least greatest m length s few near =
-    let a : least ≤ℤ greatest = s.order in
-    let b : unsigned_abs least ≤ input_limit = s.low in
-    let c : unsigned_abs greatest ≤ input_limit = s.high in
-    (omega (arith, ints), omega (arith, ints))
+farthest least greatest m length s few near = grind arith
 
 pub axis_is : (count : ℕ) (least greatest : ℤ) → 2 ≤ count → count ≤ count_limit → IsSpan least greatest → IsAxis (axis_over count least greatest)
-axis_is count least greatest some few s =
-    let d : ℕ = unsigned_abs (greatest -ℤ least) in
-    let m : ℕ = count - 1 in
-    let far = farthest least greatest m (m * max (rounded_up d m) 1) s (omega arith) (step_near d m (omega arith)) in
-    record { apart = step_some (rounded_up d m); some = omega arith; few = omega arith; first = s.low; length = far.0; end = far.1 }
+axis_is count least greatest some few s = grind (arith, farthest, step_near, step_some)
 
 between_near : (least greatest x : ℤ) (length : ℕ) → least ≤ℤ x → x ≤ℤ greatest → unsigned_abs (greatest -ℤ least) ≤ length → unsigned_abs (x -ℤ least) ≤ length
 between_near least greatest x length a b c = omega (arith, ints)
 
 on_axis : (count : ℕ) (least greatest x : ℤ) → 2 ≤ count → least ≤ℤ x → x ≤ℤ greatest → is_on (axis_over count least greatest) x ≡ true
-on_axis count least greatest x some a b = on_from (axis_over count least greatest) x (record {
-  behind = a;
-  near = between_near least greatest x _ a b (step_reaches (unsigned_abs (greatest -ℤ least)) (count - 1) (omega arith));
-})
+on_axis count least greatest x some a b = grind (arith, on_from, between_near, step_reaches)
 
 before_end : (least greatest x : ℤ) (length : ℕ) → x ≤ℤ greatest → unsigned_abs (greatest -ℤ least) ≤ length → x ≤ℤ (least +ℤ pos length)
 before_end least greatest x length a b = omega (arith, ints)
@@ -126,21 +106,11 @@ axes_of count p ps = record {
 
 pub step_least_of : StepIsLeast
 step_least_of count [] some = ((λ _. refl, λ _. refl), λ g e. none_some g e)
-step_least_of count (p ∷ ps) some = (
-  (λ e. some_none (axes_of count p ps) e, λ e. cons_none p ps e),
-  λ g e. subst (λ h. IsOver count (map (λ q. q.x) (p ∷ ps)) h.x × IsOver count (map (λ q. q.y) (p ∷ ps)) h.y) (same_axes (axes_of count p ps) g e)
-      (axis_over_is count p.x (map (λ q. q.x) ps) some, axis_over_is count p.y (map (λ q. q.y) ps) some),
-)
+step_least_of count (p ∷ ps) some = grind (arith, some_none, cons_none, same_axes, axis_over_is)
 
 on_each : (count : ℕ) (coordinate : Point → ℤ) (p : Point) (ps : List Point) → 2 ≤ count
     → AllByRecursion (λ q. is_on (axis_over count (fold int_min (coordinate p) (map coordinate ps)) (fold int_max (coordinate p) (map coordinate ps))) (coordinate q) ≡ true) (p ∷ ps)
-on_each count coordinate p ps some =
-    let least : ℤ = fold int_min (coordinate p) (map coordinate ps) in
-    let greatest : ℤ = fold int_max (coordinate p) (map coordinate ps) in
-    all_two (λ q. least ≤ℤ coordinate q) (λ q. coordinate q ≤ℤ greatest) (λ q. is_on (axis_over count least greatest) (coordinate q) ≡ true)
-    (λ q a b. on_axis count least greatest (coordinate q) some a b) (p ∷ ps)
-    (all_of_map (λ x. least ≤ℤ x) coordinate (p ∷ ps) (least_of (coordinate p) (map coordinate ps)).below)
-    (all_of_map (λ x. x ≤ℤ greatest) coordinate (p ∷ ps) (above_of (coordinate p) (map coordinate ps)))
+on_each count coordinate p ps some = grind (arith, all_two, on_axis count, all_of_map, least_of (coordinate p) (map coordinate ps), above_of (coordinate p) (map coordinate ps))
 
 pub covers_all : CoversAll
 covers_all count [] g some e = tt
@@ -150,18 +120,11 @@ covers_all count (p ∷ ps) g some e =
     (λ q a b. rw (a, b) refl) (p ∷ ps) (on_each count (λ q. q.x) p ps some) (on_each count (λ q. q.y) p ps some))
 
 bounds_here : (p : Point) (ps : List Point) → AllByRecursion IsInput (p ∷ ps) → AreBounds (bounds_from (record { left = p.x; right = p.x; bottom = p.y; top = p.y }) ps)
-bounds_here p ps all =
-    subst AreBoundsIfSome (bounds_are (record { left = p.x; right = p.x; bottom = p.y; top = p.y }) ps) (bounds_of_input None (p ∷ ps) tt all)
+bounds_here p ps all = grind (arith, bounds_are (record { left = p.x; right = p.x; bottom = p.y; top = p.y }) ps, bounds_of_input None (p ∷ ps) tt all)
 
 pub grid_made : IsMade
 grid_made count [] g some few all e = none_some g e
-grid_made count (p ∷ ps) g some few all e =
-    let b : AreBounds (bounds_from (record { left = p.x; right = p.x; bottom = p.y; top = p.y }) ps) = bounds_here p ps all in
-    subst IsGrid (same_axes (axes_of count p ps) g e)
-    (record {
-      x = axis_is count (fold int_min p.x (map (λ q. q.x) ps)) (fold int_max p.x (map (λ q. q.x) ps)) some few b.x;
-      y = axis_is count (fold int_min p.y (map (λ q. q.y) ps)) (fold int_max p.y (map (λ q. q.y) ps)) some few b.y;
-    })
+grid_made count (p ∷ ps) g some few all e = grind (arith, bounds_here, same_axes, axis_is)
 
 -- ---- the grid of bounds
 
@@ -175,17 +138,10 @@ no_bounds : {P : Type 0} (b : Bounds) → ◌≡◌ {A = Option Bounds} None (So
 no_bounds b e = cc
 
 pub none_over : (count : ℕ) (ps : List Point) → widened_by None ps ≡ None → grid_over count ps ≡ None
-none_over count [] e = refl
-none_over count (p ∷ ps) e = no_bounds _ (sym e ∙ bounds_are (record { left = p.x; right = p.x; bottom = p.y; top = p.y }) ps)
+none_over count ps e = grind (arith, no_bounds, bounds_are)
 
 pub over_bounds : (count : ℕ) (ps : List Point) (b : Bounds) → widened_by None ps ≡ Some b → grid_over count ps ≡ Some (axes_between count b)
-over_bounds count [] b e = no_bounds b e
-over_bounds count (p ∷ ps) b e =
-    ap (λ c. Some (axes_between count c))
-    (same_bounds _ b (sym (bounds_are (record { left = p.x; right = p.x; bottom = p.y; top = p.y }) ps) ∙ e))
-
-pub bounds_is : (ps : List Point) (b : Bounds) → AllByRecursion IsInput ps → widened_by None ps ≡ Some b → AreBounds b
-bounds_is ps b all e = subst AreBoundsIfSome e (bounds_of_input None ps tt all)
+over_bounds count ps b e = grind (arith, no_bounds, same_bounds, bounds_are)
 
 -- ---- as they are passed
 
@@ -197,8 +153,7 @@ span_cast least greatest s = rw (same_cast least s.low, same_cast greatest s.hig
 
 pub axis_cast : (count : ℕ) (least greatest : ℤ) (a : Axis) → IsSpan least greatest
     → a ≡ axis_over count (to_z w64 (of_z w64 least)) (to_z w64 (of_z w64 greatest)) → a ≡ axis_over count least greatest
-axis_cast count least greatest a s e =
-    e ∙ ap (λ z. axis_over count z (to_z w64 (of_z w64 greatest))) (same_cast least s.low) ∙ ap (axis_over count least) (same_cast greatest s.high)
+axis_cast count least greatest a s e = grind (arith, same_cast)
 
 abbrev pair_of : Axis → Axis → Axes
 pair_of a b = record { x = a; y = b }

@@ -19,20 +19,11 @@ pub record IsOn (a : Axis) (x : ℤ) : Type 0 where
 
 pub on_facts : (a : Axis) (x : ℤ) → is_on a x ≡ true → IsOn a x
 unfolding is_on
-on_facts a x h =
-    let k = and_parts (int_le a.first x) (nat_le (offset a x) (a.last * a.step)) h in
-    let one : int_le a.first x ≡ true = k.0 in
-    let two : leb (offset a x) (a.last * a.step) ≡ true = k.1 in
-    record { behind = grind (arith, ints); near = grind (arith, nat_tests) }
+on_facts a x h = grind arith
 
 pub on_from : (a : Axis) (x : ℤ) → IsOn a x → is_on a x ≡ true
 unfolding is_on
-on_from a x h =
-    let b : a.first ≤ℤ x = h.behind in
-    let n : offset a x ≤ a.last * a.step = h.near in
-    let one : int_le a.first x ≡ true = grind (arith, ints) in
-    let two : leb (offset a x) (a.last * a.step) ≡ true = grind (arith, nat_tests) in
-    rw (one, two) refl
+on_from a x h = grind arith
 
 offset_at : (x : ℤ) (n : ℕ) → unsigned_abs ((x +ℤ pos n) -ℤ x) ≡ n
 offset_at x n = omega (arith, ints)
@@ -44,10 +35,7 @@ behind_at : (x : ℤ) (n : ℕ) → x ≤ℤ (x +ℤ pos n)
 behind_at x n = omega (arith, ints)
 
 at_on : (a : Axis) (k : ℕ) → k ≤ a.last → is_on a (coordinate a (pos k)) ≡ true
-at_on a k h = on_from a (coordinate a (pos k)) (record {
-  behind = behind_at a.first (k * a.step);
-  near = near_at a.first (k * a.step) (a.last * a.step) (scaled_within k a.last a.step h);
-})
+at_on a k h = grind (arith, on_from, behind_at, near_at, scaled_within)
 
 at_number : (a : Axis) (k : ℕ) → 1 ≤ a.step → number a (coordinate a (pos k)) ≡ k
 unfolding number
@@ -82,9 +70,7 @@ between : (first x : ℤ) (length bound far : ℕ) → first ≤ℤ x → unsign
 between first x length bound far a b c d e = omega (arith, ints, a, b, c, d, e)
 
 pub on_within : (a : Axis) (x : ℤ) → IsAxis a → is_on a x ≡ true → unsigned_abs x ≤ reach
-on_within a x axis on =
-    let h : IsOn a x = on_facts a x on in
-    between a.first x (a.last * a.step) (10 ^ 15) reach h.behind h.near axis.first (omega arith) axis.end
+on_within a x axis on = grind (arith, on_facts a x on, between a.first x (a.last * a.step) (10 ^ 15) reach)
 
 -- ---- both
 
@@ -101,19 +87,7 @@ two : {a b c d : ℤ} → a ≡ c → b ≡ d → point_of a b ≡ point_of c d
 two {b = b} {c = c} p q = ap (λ x. point_of x b) p ∙ ap (point_of c) q
 
 pub settled : SnappedSettle
-settled g p grid h =
-    let on = covered_parts g p h in
-    let nx : number g.x p.x ≤ g.x.last = number_within g.x p.x grid.x on.0 in
-    let ny : number g.y p.y ≤ g.y.last = number_within g.y p.y grid.y on.1 in
-    let same : cell g (snapped g p) ≡ cell g p =
-    two (ap pos (at_number g.x (number g.x p.x) grid.x.apart)) (ap pos (at_number g.y (number g.y p.y) grid.y.apart)) in
-    record {
-      numbered = (numbered g.x (number g.x p.x) nx, numbered g.y (number g.y p.y) ny);
-      lies = refl;
-      covered = both_true (at_on g.x (number g.x p.x) nx) (at_on g.y (number g.y p.y) ny);
-      same = same;
-      again = ap (back g) same;
-    }
+settled g p grid h = grind (arith, covered_parts, number_within, two, at_number, numbered, both_true, at_on)
 
 record Natural (a : Axis) (k : ℤ) : Type 0 where
   pub value : ℕ
@@ -121,13 +95,11 @@ record Natural (a : Axis) (k : ℤ) : Type 0 where
   pub within : value ≤ a.last
 
 natural : (a : Axis) (k : ℤ) → IsNumbered a k → Natural a k
-natural a (pos n) h = record { value = n; is = refl; within = omega (arith, ints, h.1) }
-natural a (negsuc n) h = absurd (omega (arith, ints, h.0))
+natural a k h = grind arith
 
 cells_at : (g : Axes) (m n : ℕ) → IsGrid g → m ≤ g.x.last → n ≤ g.y.last
     → (covers g (back g (point_of (pos m) (pos n))) ≡ true) × (cell g (back g (point_of (pos m) (pos n))) ≡ point_of (pos m) (pos n))
-cells_at g m n grid h k =
-    (both_true (at_on g.x m h) (at_on g.y n k), two (ap pos (at_number g.x m grid.x.apart)) (ap pos (at_number g.y n grid.y.apart)))
+cells_at g m n grid h k = grind (arith, both_true, at_on, two, at_number)
 
 pub cells_back : CellsAreBack
 cells_back g c grid h =
@@ -137,6 +109,4 @@ cells_back g c grid h =
     subst P (two (sym i.is) (sym j.is)) (cells_at g i.value j.value grid i.within j.within)
 
 pub covered_within : CoveredAreWithin
-covered_within g p grid h =
-    let on = covered_parts g p h in
-    (on_within g.x p.x grid.x on.0, on_within g.y p.y grid.y on.1)
+covered_within g p grid h = grind (arith, covered_parts, on_within)

@@ -26,14 +26,10 @@ step_some k = omega arith
 
 -- the step serves
 pub step_reaches : (d m : ℕ) → 1 ≤ m → d ≤ m * max (rounded_up d m) 1
-step_reaches d m h =
-    let e : d ≤ m * rounded_up d m = up_reaches d m h in
-    let f : m * rounded_up d m ≤ m * max (rounded_up d m) 1 = mul-le-mul_left m (at_least_one (rounded_up d m)) in
-    omega (arith, e, f)
+step_reaches d m h = grind (arith, up_reaches, mul-le-mul_left, at_least_one)
 
 near_one : (d m k : ℕ) → 1 ≤ m → m * k ≤ d + (m - 1) → m * max k 1 ≤ d + m
-near_one d m zero h e = let one : max zero 1 ≡ 1 = refl in rw one (omega arith)
-near_one d m (suc k) h e = let one : max (suc k) 1 ≡ suc k = omega arith in rw one (omega (arith, e))
+near_one d m k h e = grind arith
 
 -- it reaches no farther than it has to, by less than a step for each coordinate
 pub step_near : (d m : ℕ) → 1 ≤ m → m * max (rounded_up d m) 1 ≤ d + m
@@ -41,12 +37,7 @@ step_near d m h = near_one d m (rounded_up d m) h (up_near d m h)
 
 -- no lesser step serves
 least_one : (d m h k : ℕ) → 1 ≤ m → 1 ≤ h → d ≤ m * h → m * k ≤ d + (m - 1) → max k 1 ≤ h
-least_one d m h k some one serves near =
-    let small : k ≤ h =
-    ⊎_elim (λ l. omega (arith, l))
-    (λ l. let far : m * suc h ≤ m * k = mul-le-mul_left m l in absurd (omega (arith, far, near, serves)))
-    (cases_lt k (suc h)) in
-    omega (arith, small)
+least_one d m h k some one serves near = grind (arith, mul-le-mul_left)
 
 pub step_least : (d m h : ℕ) → 1 ≤ m → 1 ≤ h → d ≤ m * h → max (rounded_up d m) 1 ≤ h
 step_least d m h some one serves = least_one d m h (rounded_up d m) some one serves (up_near d m some)
@@ -57,10 +48,7 @@ pub nearest_whole : (k s : ℕ) → 1 ≤ s → nearest (k * s) s ≡ k
 nearest_whole k s h = nearest-only (k * s) s k (omega arith) (IsRounded-whole s k (omega arith))
 
 rounded_within : (d s m u : ℕ) → 1 ≤ s → d ≤ m * s → IsRounded d s u → u ≤ m
-rounded_within d s m u h near r =
-    ⊎_elim (λ l. omega (arith, l))
-    (λ l. let far : s * suc m ≤ s * u = mul-le-mul_left s l in absurd (omega (arith, far, r.low, near)))
-    (cases_lt u (suc m))
+rounded_within d s m u h near r = grind (arith, mul-le-mul_left)
 
 pub nearest_within : (d s m : ℕ) → 1 ≤ s → d ≤ m * s → nearest d s ≤ m
 nearest_within d s m h near = rounded_within d s m (nearest d s) h near (IsRounded-some d s (omega arith))

@@ -1,5 +1,5 @@
 -- The least and the greatest coordinates of positions, in the order in which they are looked at.
-use Rattle.std.proofs.Common.{◌≡◌, ℕ, ◌+◌, ◌<◌, ◌≤◌, ℤ, ◌≤ℤ◌, unsigned_abs, List, [], ◌∷◌, ◌++◌, map, length, get_or, drop, Option, None, Some, refl, sym, ap, ◌∙◌, arith, FitsSigned, to_z, of_z, w64}
+use Rattle.std.proofs.Common.{rules, ◌≡◌, ℕ, ◌+◌, ◌<◌, ◌≤◌, ℤ, ◌≤ℤ◌, unsigned_abs, List, [], ◌∷◌, ◌++◌, map, length, get_or, drop, Option, None, Some, refl, sym, ap, ◌∙◌, arith, FitsSigned, to_z, of_z, w64}
 use Rattle.std.proofs.lemmas.Int.{ints, clamps}
 use Rattle.std.proofs.lemmas.List.{at_drop_all, map-id}
 use Rattle.std.specs.Int.{int_min, int_max}
@@ -23,16 +23,11 @@ pub record Left {A : Type 0} (points : A → List Point) (xs : List A) (i : ℕ)
   pub whole : widened_by all (joined (map points (drop i xs))) ≡ widened_by b (joined (map points xs))
 
 pub starts : {A : Type 0} (points : A → List Point) (xs : List A) (b : Option Bounds) → Left points xs 0 b b
-starts points [] b = record { whole = refl }
-starts points (x ∷ xs) b = record { whole = refl }
+starts points xs b = grind arith
 
 pub turns : {A : Type 0} (points : A → List Point) (xs : List A) (i : ℕ) (b all with_x : Option Bounds) (x : A) → i < length xs → x ≡ get_or xs i x
     → Left points xs i b all → with_x ≡ widened_by all (points x) → Left points xs (i + 1) b with_x
-turns points xs i b all with_x x h is so e = record {
-  whole = ap (λ d. widened_by d (joined (map points (drop (i + 1) xs)))) e
-      ∙ sym (widened-append all (points x) (joined (map points (drop (i + 1) xs))))
-      ∙ sym (ap (λ ys. widened_by all (joined (map points ys))) (drop_here xs i x h is)) ∙ so.whole;
-}
+turns points xs i b all with_x x h is so e = grind (arith, widened-append, drop_here)
 
 pub ends : {A : Type 0} (points : A → List Point) (xs : List A) (i : ℕ) (b all : Option Bounds) → length xs ≤ i → Left points xs i b all
     → all ≡ widened_by b (joined (map points xs))
@@ -82,15 +77,10 @@ span_of : (x : ℤ) → unsigned_abs x ≤ input_limit → IsSpan x x
 span_of x h = record { order = omega (arith, ints); low = h; high = h }
 
 span_with : (least greatest x : ℤ) → IsSpan least greatest → unsigned_abs x ≤ input_limit → IsSpan (int_min least x) (int_max greatest x)
-span_with least greatest x s h =
-    let a : least ≤ℤ greatest = s.order in
-    let b : unsigned_abs least ≤ input_limit = s.low in
-    let c : unsigned_abs greatest ≤ input_limit = s.high in
-    record { order = omega (arith, ints, clamps); low = omega (arith, ints, clamps); high = omega (arith, ints, clamps) }
+span_with least greatest x s h = grind arith
 
 with_position : (b : Option Bounds) (p : Point) → AreBoundsIfSome b → IsInput p → AreBounds (widened b p)
-with_position None p h i = record { x = span_of p.x i.0; y = span_of p.y i.1 }
-with_position (Some b) p h i = record { x = span_with b.left b.right p.x h.x i.0; y = span_with b.bottom b.top p.y h.y i.1 }
+with_position b p h i = search (rules, span_of, span_with)
 
 pub bounds_of_input : (b : Option Bounds) (ps : List Point) → AreBoundsIfSome b → AllByRecursion IsInput ps → AreBoundsIfSome (widened_by b ps)
 bounds_of_input b [] h all = h

@@ -1,5 +1,5 @@
 -- Where a topology is valid and its positions lie on a grid, it is put on the grid by replacing each of them by its cell.
-use Rattle.std.proofs.Common.{◌≡◌, ℕ, ℤ, Bool, true, ◌&&◌, List, [], ◌∷◌, map, Option, None, Some, refl, sym, ap, ◌∙◌}
+use Rattle.std.proofs.Common.{arith, ◌≡◌, ℕ, ℤ, Bool, true, ◌&&◌, List, [], ◌∷◌, map, Option, None, Some, refl, sym, ap, ◌∙◌}
 use Rattle.std.proofs.lemmas.Bool.{and_parts}
 use Rattle.std.specs.List.{AllByRecursion, list_all}
 use Rattle.geometry.specs.declared.shape.Geometry.TheVariants as g
@@ -37,15 +37,11 @@ all_given [] = refl
 all_given (x ∷ xs) = ap (λ ys. x ∷ ys) (all_given xs)
 
 area_given : (rs : List (List ℤ)) → is_some_list rs ≡ true → area_by (give true) rs ≡ Some rs
-area_given [] h = cc
-area_given (outer ∷ holes) h = ap (λ rs. Some (outer ∷ rs)) (all_given holes)
+area_given rs h = grind (arith, all_given)
 
 areas_given : (areas : List (List (List ℤ))) → list_all (λ rs. is_some_list rs && list_all is_some_list rs) areas ≡ true → some_of (area_by (give true)) areas ≡ areas
 areas_given [] h = refl
-areas_given (rs ∷ areas) h =
-    let k = and_parts (is_some_list rs && list_all is_some_list rs) (list_all (λ rs. is_some_list rs && list_all is_some_list rs) areas) h in
-    let some = and_parts (is_some_list rs) (list_all is_some_list rs) k.0 in
-    rw (area_given rs some.0, areas_given areas k.1) refl
+areas_given (rs ∷ areas) h = grind (arith, area_given, areas_given areas)
 
 pub replaced_at : (f : Point → Point) → AtKinds (shape_replaced f) (replaced_step f)
 unfolding shape_replaced
@@ -75,24 +71,13 @@ module _ (f : Point → Point) where
 
   members_whole : (ss : List TopoShape) → AllByRecursion Whole ss → list_all is_full ss ≡ true → some_of made ss ≡ map (shape_replaced f) ss
   members_whole [] all h = refl
-  members_whole (s ∷ ss) all h =
-      let k = and_parts (is_full s) (list_all is_full ss) h in
-      rw (all.0 k.0, members_whole ss all.1 k.1) refl
+  members_whole (s ∷ ss) all h = grind (arith, members_whole ss all.1)
 
   group_whole : (ss : List TopoShape) → AllByRecursion Whole ss → Whole (g.Group ss)
-  group_whole ss all h =
-      rw (prune-group f give ss, (replaced_at f).group ss) (ap (λ ts. Some (g.Group ts)) (members_whole ss all (sym (full-group ss) ∙ h)))
+  group_whole ss all h = grind (arith, prune-group, replaced_at, members_whole, full-group)
 
   whole : (s : TopoShape) → Whole s
-  whole = by_kinds Whole (record {
-    point = λ p h. rw (prune-point f give p, (replaced_at f).point p) refl;
-    points = λ ps h. rw (prune-points f give ps, (replaced_at f).points ps) refl;
-    line = λ l h. rw (prune-line f give l, (replaced_at f).line l) refl;
-    lines = lines_whole;
-    area = area_whole;
-    areas = areas_whole;
-    group = group_whole;
-  })
+  whole = grind (arith, by_kinds Whole, prune-point f give, replaced_at f, prune-points f give, prune-line f give, lines_whole, area_whole, areas_whole, group_whole)
 
 -- ---- a topology on the grid
 
@@ -113,9 +98,7 @@ module _ (axes : Axes) (t : Option Transform) where
   all_same ps on = all_weaker On Same (λ p k. if_covered axes p k.0) ps on
 
   arcs_same : (arcs : List (List Point)) → AllByRecursion AllOn arcs → map (map f) arcs ≡ map (map (cell axes)) arcs
-  arcs_same arcs on =
-      map_agree (map f) (map (cell axes)) arcs
-      (all_weaker AllOn (λ a. map f a ≡ map (cell axes) a) (λ a k. map_agree f (cell axes) a (all_same a k)) arcs on)
+  arcs_same arcs on = grind (arith, map_agree, all_weaker, all_same)
 
   shape_same : (s : Option TopoShape) → is_full_option s ≡ true → AllOn (option_places s) → map_some (shape_replaced f) s ≡ then_some (prune (cell axes) give) s
   shape_same None full on = refl
@@ -126,20 +109,15 @@ module _ (axes : Axes) (t : Option Transform) where
 
   features_same : (xs : List TopoFeature) → AllByRecursion (IsFeature t) xs → AllOn (features_places xs) → map (feature_replaced f) xs ≡ map (feature_celled (cell axes)) xs
   features_same [] valid on = refl
-  features_same (x ∷ xs) valid on =
-      ap (λ s. with_shape x s ∷ map (feature_replaced f) xs) (shape_same x.shape valid.0.0 (all_left On (option_places x.shape) (features_places xs) on))
-      ∙ ap (λ ys. feature_celled (cell axes) x ∷ ys) (features_same xs valid.1 (all_right On (option_places x.shape) (features_places xs) on))
+  features_same (x ∷ xs) valid on = grind (arith, shape_same, all_left, all_right, features_same xs valid.1 (all_right On (option_places x.shape) (features_places xs) on))
 
   object_same : (o : TopoObject) → IsObject t o → AllOn (features_places (object_features o)) → object_replaced f o ≡ object_celled (cell axes) o
-  object_same (One x) valid on = ap (λ s. One (with_shape x s)) (shape_same x.shape valid.0.0 (all_left On (option_places x.shape) [] on))
-  object_same (Many xs) valid on = ap (λ ys. Many ys) (features_same xs valid on)
+  object_same o valid on = grind (arith, shape_same, all_left, features_same)
 
   objects_same : (os : List (List ℕ × TopoObject)) → AllByRecursion (λ o. IsObject t o.1) os → AllOn (objects_places os)
       → objects_replaced f os ≡ objects_celled (cell axes) os
   objects_same [] valid on = refl
-  objects_same (o ∷ os) valid on =
-      ap (λ x. (o.0, x) ∷ objects_replaced f os) (object_same o.1 valid.0 (all_left On (features_places (object_features o.1)) (objects_places os) on))
-      ∙ ap (λ xs. (o.0, object_celled (cell axes) o.1) ∷ xs) (objects_same os valid.1 (all_right On (features_places (object_features o.1)) (objects_places os) on))
+  objects_same (o ∷ os) valid on = grind (arith, object_same, all_left, all_right, objects_same os valid.1 (all_right On (features_places (object_features o.1)) (objects_places os) on))
 
 abbrev pub made_of : List (List ℕ × TopoObject) → List (List Point) → Option Transform → Contents
 made_of os arcs t = record { objects = os; arcs = arcs; transform = t }
@@ -147,14 +125,10 @@ made_of os arcs t = record { objects = os; arcs = arcs; transform = t }
 pub put_on : (axes : Axes) (y : Contents) → IsTopology y → EachCell (IsOn (Some axes)) y
     → made_of (objects_replaced (cell_if_covered axes) y.objects) (map (map (cell_if_covered axes)) y.arcs) (Some (transform_of axes)) ≡ gridded (Some axes) y
 unfolding celled
-put_on axes y valid on =
-    ap (λ os. made_of os (map (map (cell_if_covered axes)) y.arcs) (Some (transform_of axes))) (objects_same axes y.transform y.objects valid.objects on.1)
-    ∙ ap (λ arcs. made_of (objects_celled (cell axes) y.objects) arcs (Some (transform_of axes))) (arcs_same axes y.transform y.arcs on.0)
+put_on axes y valid on = grind (arith, objects_same axes y.transform y.objects valid.objects on.1, arcs_same axes y.transform y.arcs on.0)
 
 -- the same of the parts as they are made
 pub finished : (axes : Axes) (y : Contents) (os : List (List ℕ × TopoObject)) (arcs : List (List Point)) (t : Transform) → IsTopology y → EachCell (IsOn (Some axes)) y
     → t ≡ transform_of axes → os ≡ objects_replaced (cell_if_covered axes) y.objects → arcs ≡ map (map (cell_if_covered axes)) y.arcs
     → made_of os arcs (Some t) ≡ gridded (Some axes) y
-finished axes y os arcs t valid on e k l =
-    ap (λ o. made_of o arcs (Some t)) k ∙ ap (λ a. made_of (objects_replaced (cell_if_covered axes) y.objects) a (Some t)) l
-    ∙ ap (λ s. made_of (objects_replaced (cell_if_covered axes) y.objects) (map (map (cell_if_covered axes)) y.arcs) (Some s)) e ∙ put_on axes y valid on
+finished axes y os arcs t valid on e k l = grind (arith, put_on)

@@ -15,11 +15,7 @@ if_not_covered g p h = rw h refl
 
 -- what is no position isn't covered
 pub if_no_position : (g : Axes) (p : Point) → IsGrid g → (IsPosition p → ⊥) → cell_if_covered g p ≡ p
-if_no_position g p grid not_there = on (covers g p) refl
-  where
-    on : (b : Bool) → covers g p ≡ b → cell_if_covered g p ≡ p
-    on true e = let w : IsWithin reach p = covered_within g p grid e in absurd (not_there (omega (arith, w.0), omega (arith, w.1)))
-    on false e = if_not_covered g p e
+if_no_position g p grid not_there = grind (arith, covered_within, if_not_covered)
 
 -- the numbers of a cell of a grid are numbers of a cell
 pub is_small : (g : Axes) (x y : ℤ) → IsGrid g → IsCell g (record { x = x; y = y }) → IsWithin cell_limit (record { x = x; y = y })
@@ -27,6 +23,4 @@ is_small g x y grid h = (omega (arith, ints, h.0.0, h.0.1, grid.x.few), omega (a
 
 -- a coordinate of a position, as it is passed
 pub as_passed : (x z : ℤ) → x ≡ z → unsigned_abs z ≤ position_limit → unsigned_abs (to_z w64 (of_z w64 x)) ≤ position_limit
-as_passed x z e h =
-    let small : unsigned_abs x ≤ position_limit = rw e h in
-    rw (to_z-of_z w64 x (fits_signed_from_abs w64 x (omega (arith, small)))) small
+as_passed x z e h = grind (arith, fits_signed_from_abs)

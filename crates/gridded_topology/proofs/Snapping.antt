@@ -1,5 +1,5 @@
 -- Named layers that are snapped one after another.
-use Rattle.std.proofs.Common.{◌≡◌, ℕ, zero, suc, ◌<◌, true, List, [], ◌∷◌, ◌++◌, map, length, take, drop, get_or, refl, ap, ◌∙◌, subst}
+use Rattle.std.proofs.Common.{arith, ◌≡◌, ℕ, zero, suc, ◌<◌, true, List, [], ◌∷◌, ◌++◌, map, length, take, drop, get_or, refl, ap, ◌∙◌, subst}
 use Rattle.std.specs.List.{AllByRecursion}
 use Rattle.build_meaning.specs.Layers.{Named}
 use Rattle.geojson_types.specs.declared.layer.Layer.{Layer}
@@ -38,5 +38,4 @@ still f (x ∷ xs) (suc i) d = still f xs i d
 -- so the layer at the index is covered
 pub is_covered : (g : Axes) (ls : Named) (i : ℕ) (now : Named) (l : List ℕ × Layer) → i < length ls → Replaced (named_snapped g) ls i now → l ≡ get_or now i l
     → AllByRecursion (Covered g) (named_points ls) → LayerCovered g (get_or now i l)
-is_covered g ls i now l h so is all =
-    subst (LayerCovered g) is (all_at (LayerCovered g) ls i l h (is ∙ ap (λ xs. get_or xs i l) so.made ∙ still (named_snapped g) ls i l) (each_layer g ls all))
+is_covered g ls i now l h so is all = grind (arith, all_at, still, each_layer)

@@ -11,9 +11,6 @@ use Rattle.junctions.specs.Visits.{last}
 use Rattle.junctions.specs.Cleaning.{clean, clean_from, is_short, Moves, IsClean, IsCleanList, AllClean}
 use Rattle.junctions.specs.Gathering.{starts_twice}
 
-abbrev point_of : ℤ → ℤ → Point
-point_of x y = record { x = x; y = y }
-
 pub same_sym : (p q : Point) → same p q ≡ same q p
 same_sym p q = grind (arith, same_is p q, same_is q p, same_self q, same_self p)
 
@@ -53,19 +50,7 @@ ring_closed ps k = (and_parts (nat_le 4 (length ps)) (is_closed ps) k).1
 pub clean_is_clean : (closed : Bool) (ps : List Point) → (closed ≡ true → is_ring ps ≡ true) → is_short closed (clean ps) ≡ false → IsCleanList closed (clean ps)
 clean_is_clean true [] r h = cc
 clean_is_clean false [] r h = cc
-clean_is_clean closed (p ∷ ps) r h = by (cleaned p ps)
-  where
-    long : (c : Bool) (q : Point) → is_short c (q ∷ []) ≡ false → ⊥
-    long true q k = cc
-    long false q k = cc
-
-    of : (q : Point) (qs : List Point) → is_short closed (q ∷ qs) ≡ false → Moves q qs → (closed ≡ true → last q qs ≡ q) → IsCleanList closed (q ∷ qs)
-    of q [] k m e = long closed q k
-    of q (x ∷ qs) k m e = (m, e)
-
-    by : Cleaned p ps (clean_from p ps) → IsCleanList closed (clean_from p ps)
-    by c = subst (IsCleanList closed) (sym c.is) (of c.head c.rest (subst (λ l. is_short closed l ≡ false) c.is h) c.moves
-        (λ k. c.ends ∙ closed_ends p ps (ring_closed (p ∷ ps) (r k)) ∙ sym c.starts))
+clean_is_clean closed (p ∷ ps) r h = grind (arith, cleaned p ps, closed_ends p ps, ring_closed)
 
 -- one line more
 pub all_clean_more : (ss : List Stroke) (s : Stroke) → AllClean ss → IsClean s → AllClean (ss ++ (s ∷ []))
@@ -81,9 +66,7 @@ clean_skip ps kept all i l t e = step (drop i ps) (drop (i + 1) ps) (get ps i l)
     get (p ∷ ps) i l = (get_or (p ∷ ps) i p, drop_more (p ∷ ps) i p l)
 
     step : (xs ys : List Point) → ((p : Point) × (xs ≡ p ∷ ys)) → starts_twice xs ≡ true → kept ++ clean xs ≡ all → kept ++ clean ys ≡ all
-    step xs ys h t e =
-        let k : starts_twice (h.0 ∷ ys) ≡ true = sym (ap starts_twice h.1) ∙ t in
-        ap (λ l. kept ++ l) (sym (ap clean h.1 ∙ clean_more h.0 ys ∙ ap (λ b. cond b (clean ys) (h.0 ∷ clean ys)) k)) ∙ e
+    step xs ys h t e = grind (arith, clean_more)
 
 pub clean_keep : (ps kept all : List Point) (i : ℕ) (p : Point) → i < length ps → p ≡ get_or ps i p → starts_twice (drop i ps) ≡ false → kept ++ clean (drop i ps) ≡ all → (kept ++ (p ∷ [])) ++ clean (drop (i + 1) ps) ≡ all
 clean_keep ps kept all i p l g t e = grind (arith, drop_more, append_assoc, clean_more)

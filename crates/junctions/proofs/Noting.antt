@@ -122,16 +122,6 @@ module _ (p : Point) where
   ends_append : (ns ms : List Note) → ends (ns ++ ms) ≡ (ends ns || ends ms)
   ends_append ns ms = ap (list_any (λ n. n.ends)) (filter-append (λ n. same n.here p) ns ms) ∙ list_any-append (λ n. n.ends) (at p ns) (at p ms)
 
-  -- a position that is read
-  near_touch : (e : Bool) (q : Point) (ns : List Note) → near (touch e q ∷ ns) ≡ near ns
-  near_touch e q ns = grind arith
-
-  turn_touch : (e : Bool) (q : Point) (ns : List Note) → turn (touch e q ∷ ns) ≡ turn ns
-  turn_touch e q ns = grind arith
-
-  ends_touch : (e : Bool) (q : Point) (ns : List Note) → ends (touch e q ∷ ns) ≡ ((same q p && e) || ends ns)
-  ends_touch e q ns = grind arith
-
   -- visits
   near_pass : (vs : List Visit) → near (map pass vs) ≡ flat_map (λ v. v.before ∷ (v.after ∷ [])) (visited vs)
   near_pass [] = refl
@@ -190,10 +180,7 @@ all_noted ls c p = on (after None (all_notes ls) p) (is_position_of ls p) (some_
   where
     on : (o : Option Vertex) (b : Bool) → is_some o ≡ b → known o ≡ vertex (with_neighbors Zero (neighbors ls p)) (is_turn ls p) (ends_open ls p) false →
         o ≡ cond b (Some (vertex (with_neighbors Zero (neighbors ls p)) (is_turn ls p) (ends_open ls p) false)) None
-    on None true e k = cc
-    on None false e k = refl
-    on (Some v) true e k = ap (λ x. Some x) k
-    on (Some v) false e k = cc
+    on o b e k = grind arith
 
 -- one line more of those whose notes are taken
 pub notes_turn : {S : Type 0} (l m n : IndexMap Point Vertex S) (ls : List Stroke) (i : ℕ) (s : Stroke) → i < length ls → s ≡ get_or ls i s →
@@ -223,11 +210,7 @@ Closes true ps o = (a : Point) × (c : Point) × (o ≡ Some (a, c)) × (a ≡ g
 pub notes_are : (closed : Bool) (ps : List Point) (p q : Point) (o : Option (Point × Point)) → 2 ≤ length ps → p ≡ get_or ps 0 p → q ≡ get_or ps (length ps - 1) q → Closes closed ps o →
     (((touch (not closed) p ∷ []) ++ map pass (inner_visits ps)) ++ (note q o (not closed) ∷ [])) ≡ line_notes closed ps (inner_visits (ps ++ cond closed (take 1 (drop 1 ps)) []))
 notes_are closed [] p q o l e f h = absurd (omega arith)
-notes_are false (x ∷ ps) p q o l e f h =
-    ap (λ z. touch true z ∷ (map pass (inner_visits (x ∷ ps)) ++ (note q o true ∷ []))) e
-    ∙ ap (λ z. touch true x ∷ (map pass (inner_visits (x ∷ ps)) ++ (note q z true ∷ []))) h
-    ∙ ap (λ z. touch true x ∷ (map pass (inner_visits (x ∷ ps)) ++ (touch true z ∷ []))) (sym (last_read x ps q f))
-    ∙ ap (λ l. touch true x ∷ (map pass (inner_visits l) ++ (touch true (last x ps) ∷ []))) (sym (append-nil (x ∷ ps)))
+notes_are false (x ∷ ps) p q o l e f h = grind (arith, last_read, append-nil)
 notes_are true (x ∷ ps) p q o l e f h =
     ap (λ z. touch false z ∷ (map pass (inner_visits (x ∷ ps)) ++ (note q o false ∷ []))) e
     ∙ ap (λ z. touch false x ∷ (map pass (inner_visits (x ∷ ps)) ++ (note q z false ∷ []))) h.2

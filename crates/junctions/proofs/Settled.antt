@@ -91,10 +91,7 @@ says_two Zero ps h = sym (ap (λ l. eqb (length l) 2) (none ps h))
     none (q ∷ qs) k = absurd (k q (inl refl))
 says_two (One u) ps h = sym (not_two (length (distinct ps)) (not_one (distinct ps) u (distinct_apart ps) (λ x k. h.1 x (from_distinct x ps k))))
 says_two (Two u v) ps h = sym (ap (λ n. eqb n 2) (just_two (distinct ps) u v (distinct_apart ps) h.0 (in_distinct u ps h.1) (in_distinct v ps h.2) (λ x k. h.3 x (from_distinct x ps k))))
-says_two More ps (u, v, n, k, l, (w, m, nu, nv)) = sym (not_two (length (distinct ps)) no)
-  where
-    no : length (distinct ps) ≡ 2 → ⊥
-    no e = elim (of_two (distinct ps) w u v e (in_distinct w ps m) (in_distinct u ps k) (in_distinct v ps l) n) [ inl k ↦ nu k | inr k ↦ nv k ]
+says_two More ps (u, v, n, k, l, (w, m, nu, nv)) = grind (arith, not_two, of_two, in_distinct)
 
 in_end : (x : Point) (ps : List Point) (p : Point) → In x (ps ++ (p ∷ [])) → In x ps ⊎ (x ≡ p)
 in_end x ps p k = elim (in_append x ps (p ∷ []) k) [ inl m ↦ inl m | inr m ↦ elim m [ inl e ↦ inr e | inr n ↦ absurd n ] ]

@@ -58,13 +58,7 @@ pub ring_visits : (ps : List Point) (a b c : Point) → 2 ≤ length ps → a �
     inner_visits (ps ++ take 1 (drop 1 ps)) ≡ inner_visits ps ++ (visit a b c ∷ [])
 ring_visits [] a b c h ea eb ec = absurd (omega arith)
 ring_visits (p ∷ []) a b c h ea eb ec = absurd (omega arith)
-ring_visits (p ∷ (q ∷ ps)) a b c h ea eb ec =
-    let n : (length (p ∷ (q ∷ ps)) - 1) - 1 ≡ length ps = omega arith in
-    let m : length (p ∷ (q ∷ ps)) - 1 ≡ suc (length ps) = omega arith in
-    from_end p q ps q a
-    ∙ ap (λ x. visits_from p q ps ++ (visit x (last q ps) q ∷ [])) (ap (λ k. get_or (p ∷ (q ∷ ps)) k a) (sym n) ∙ sym ea)
-    ∙ ap (λ x. visits_from p q ps ++ (visit a x q ∷ [])) (last_get q ps b ∙ ap (λ k. get_or (p ∷ (q ∷ ps)) k b) (sym m) ∙ sym eb)
-    ∙ ap (λ x. visits_from p q ps ++ (visit a b x ∷ [])) (sym ec)
+ring_visits (p ∷ (q ∷ ps)) a b c h ea eb ec = grind (arith, from_end p q ps q a, last_get q ps b)
 
 -- the last position, read by index
 pub last_read : (p : Point) (ps : List Point) (b : Point) → b ≡ get_or (p ∷ ps) (length (p ∷ ps) - 1) b → last p ps ≡ b

@@ -28,18 +28,15 @@ module _ (u : ℕ → Bool) (i : ℕ) where
 
   one_same : u i ≡ true → (r : ℤ) → IsUsed u r → (number_of r == i) ≡ (number_of (renumbered u r) == rank_from u 0 i)
   unfolding number_of
-  one_same h (pos j) k = test_ranks u j i k h
-  one_same h (negsuc j) k = test_ranks u j i k h
+  one_same h r k = grind (arith, test_ranks)
 
   refs_same : u i ≡ true → (refs : List ℤ) → AllByRecursion (IsUsed u) refs → names i refs ≡ names (rank_from u 0 i) (map (renumbered u) refs)
   refs_same h [] k = refl
-  refs_same h (r ∷ refs) k =
-      ap (λ b. b || names i refs) (one_same h r k.0) ∙ ap (λ b. (number_of (renumbered u r) == rank_from u 0 i) || b) (refs_same h refs k.1)
+  refs_same h (r ∷ refs) k = grind (arith, one_same, refs_same h refs k.1)
 
   lines_same : u i ≡ true → (bs : List (Bool × List ℤ)) → AllByRecursion (AllUsed u) bs → line_names i bs ≡ line_names (rank_from u 0 i) (map anew bs)
   lines_same h [] k = refl
-  lines_same h (b ∷ bs) k =
-      ap (λ c. c || line_names i bs) (refs_same h b.1 k.0) ∙ ap (λ c. names (rank_from u 0 i) (map (renumbered u) b.1) || c) (lines_same h bs k.1)
+  lines_same h (b ∷ bs) k = grind (arith, refs_same, lines_same h bs k.1)
 
   one_other : u i ≡ false → (r : ℤ) → IsUsed u r → (number_of r == i) ≡ false
   one_other h r k = not_equal (number_of r) i (λ e. let z : true ≡ false = sym k ∙ ap u e ∙ h in cc)
@@ -54,21 +51,13 @@ module _ (u : ℕ → Bool) (i : ℕ) where
 
   used_again : (os : List (List ℕ × TopoObject)) → AllByRecursion (AllUsed u) (objects_strokes os)
       → is_used os i ≡ (u i && is_used (objects_pruned (line_renumbered u) os) (rank_from u 0 i))
-  used_again os h = on (u i) refl
-    where
-      on : (b : Bool) → u i ≡ b → is_used os i ≡ (b && is_used (objects_pruned (line_renumbered u) os) (rank_from u 0 i))
-      on true e = lines_same e (objects_strokes os) h ∙ sym (ap (line_names (rank_from u 0 i)) (objects_replaced (map (renumbered u)) os))
-      on false e = lines_other e (objects_strokes os) h
+  used_again os h = grind (arith, lines_same, objects_replaced (map (renumbered u)) os, lines_other)
 
 -- ---- left out twice is left out at once
 
 map_twice : (u w v : ℕ → Bool) → Both u w v 0 0 → (refs : List ℤ) → map (renumbered w) (map (renumbered u) refs) ≡ map (renumbered v) refs
 map_twice u w v h [] = refl
-map_twice u w v h (r ∷ refs) = ap (λ x. x ∷ map (renumbered w) (map (renumbered u) refs)) (one r) ∙ ap (λ xs. renumbered v r ∷ xs) (map_twice u w v h refs)
-  where
-    one : (r : ℤ) → renumbered w (renumbered u r) ≡ renumbered v r
-    one (pos i) = ap (λ n. pos n) (rank_twice u w v 0 0 i h)
-    one (negsuc i) = ap (λ n. negsuc n) (rank_twice u w v 0 0 i h)
+map_twice u w v h (r ∷ refs) = grind (arith, rank_twice, map_twice u w v h refs)
 
 pub all_hold : {A : Type 0} (X : A → Type 0) → ((a : A) → X a) → (xs : List A) → AllByRecursion X xs
 all_hold X f [] = tt
@@ -91,7 +80,4 @@ trimmed_again u y h =
   where
     at_number : (i : ℕ) → 0 + i ≡ i → 0 + rank_from u 0 i ≡ rank_from u 0 i
         → is_used y.objects (0 + i) ≡ (u (0 + i) && is_used (objects_pruned (line_renumbered u) y.objects) (0 + rank_from u 0 i))
-    at_number i e f =
-        ap (is_used y.objects) e ∙ used_again u i y.objects h
-        ∙ ap (λ k. u k && is_used (objects_pruned (line_renumbered u) y.objects) (rank_from u 0 i)) (sym e)
-        ∙ ap (λ k. u (0 + i) && is_used (objects_pruned (line_renumbered u) y.objects) k) (sym f)
+    at_number i e f = grind (arith, used_again)

@@ -1,5 +1,5 @@
 -- What is assembled of layers, in the words of their lines; and with each arc reduced at a threshold it is what is built of them.
-use Rattle.std.proofs.Common.{◌≡◌, ℕ, ◌-◌, Bool, true, false, cond, List, [], ◌∷◌, map, Option, None, Some, refl, sym, ap, ◌∙◌, subst}
+use Rattle.std.proofs.Common.{rules, arith, ◌≡◌, ℕ, ◌-◌, Bool, true, false, cond, List, [], ◌∷◌, map, Option, None, Some, refl, sym, ap, ◌∙◌, subst}
 use Rattle.std.specs.List.{AllByRecursion}
 use Rattle.elimination_meaning.specs.Elimination.{reduce, reduced}
 use Rattle.elimination_meaning.specs.Laws.{DirectionLaw, ZeroLaw, EndsStay, NoneIsNew}
@@ -30,7 +30,7 @@ use Rattle.build_meaning.proofs.Whole.{each_stays, loses_nothing}
 use Rattle.lessened_topology.specs.Assembled.{arcs_of_layers, arc_indexes, own_refs, assembled_cause, option_caused, layers_caused, assembled, assembled_dropped, assembled_taken_out}
 use Rattle.lessened_topology.specs.Laws.{AssemblesToBuilt, AssemblingDropsExpected, AssemblingTakesOut, ArcIndexesReach, AssembledIsValid}
 use Rattle.lessened_topology.specs.Lessened.{small_cause, large_refs, picked_arcs, picked_whole, objects_pruned, lessened_by, taken_out_by, EachFromFirstToLast}
-use Rattle.lessened_topology.proofs.KeptArcs.{kept_of_map}
+use Rattle.build_meaning.proofs.Trimmed.{kept_of_map}
 use Rattle.lessened_topology.proofs.Lessened.{IsWholeAtZero, no_small, cause_same, objects_again}
 use Rattle.lessened_topology.proofs.Made.{objects_made}
 use Rattle.lessened_topology.proofs.Picked.{picked_each, each_reduced}
@@ -48,11 +48,7 @@ abbrev pub kept_by : List Stroke → List (List Point) → Kept
 kept_by lines arcs closed ps = unless (assembled_cause lines arcs closed ps) (own_refs lines closed ps)
 
 line_kept : (lines : List Stroke) (arcs : List (List Point)) (b : Line) → IsWholeAtZero lines b → then_some (large_refs arcs b.0) (kept_refs lines 0 b.0 b.1) ≡ kept_by lines arcs b.0 b.1
-line_kept lines arcs b whole = on (is_short b.0 (clean b.1)) refl
-  where
-    on : (c : Bool) → is_short b.0 (clean b.1) ≡ c → then_some (large_refs arcs b.0) (kept_refs lines 0 b.0 b.1) ≡ unless (cond c (Some Collapsed) (small_cause arcs b.0 (own_refs lines b.0 b.1))) (own_refs lines b.0 b.1)
-    on true e = ap (λ c. then_some (large_refs arcs b.0) (unless (cond c (Some Collapsed) (cond (is_small b.0 (rebuilt lines 0 b.0 b.1)) (Some Small) None)) (own_refs lines b.0 b.1))) e
-    on false e = ap (λ w. then_some (large_refs arcs b.0) (unless w (own_refs lines b.0 b.1))) (no_small lines b whole e)
+line_kept lines arcs b whole = grind (arith, no_small)
 
 -- what is left of the layers over all arcs, before those that no line uses are left out
 pub before_trimming : ZeroLaw → (kept : List (List ℕ)) (ls : Named) → AreSound ls →
@@ -71,10 +67,7 @@ picked_reduced : ZeroLaw → (t : ℕ) (arcs : List (List Point)) → picked_arc
 picked_reduced zero t arcs = ap (picked_arcs (map (reduce t) arcs)) (each_stays zero arcs) ∙ picked_each (reduce t) arcs ∙ each_reduced t arcs
 
 whole_is_untrimmed : DirectionLaw → ZeroLaw → (t : ℕ) (ls : Named) → AreSound ls → picked_whole (arc_indexes t ls) (untrimmed 0 ls) ≡ untrimmed t ls
-whole_is_untrimmed law zero t ls sound =
-    let lines : List Stroke = linework (layers_of ls) in
-    ap (λ arcs. contents (objects_pruned (large_refs arcs) (objects_by (kept_refs lines 0) ls)) arcs) (picked_reduced zero t (all_arcs lines))
-    ∙ ap (λ os. contents os (map (reduced t) (all_arcs lines))) (objects_again law zero t ls sound)
+whole_is_untrimmed law zero t ls sound = grind (arith, picked_reduced zero t, objects_again law zero t ls sound)
 
 pub assembles_to_built : DirectionLaw → ZeroLaw → AssemblesToBuilt
 unfolding assembled lessened_by built
@@ -82,12 +75,7 @@ assembles_to_built law zero t ls sound = ap trimmed (whole_is_untrimmed law zero
 
 pub takes_out : DirectionLaw → ZeroLaw → AssemblingTakesOut
 unfolding assembled_taken_out taken_out_by taken_out lessened_by trimmed
-takes_out law zero t ls sound =
-    let all : List (List Point) = arcs_of_layers ls in
-    let u : ℕ → Bool = is_used (untrimmed t ls).objects in
-    ap (λ y. positions_of (keep_from (is_used y.objects) 0 (untrimmed 0 ls).arcs) - positions_of (trimmed y).arcs) (whole_is_untrimmed law zero t ls sound)
-    ∙ ap (λ arcs. positions_of (keep_from u 0 arcs) - positions_of (keep_from u 0 (map (reduced t) all))) (each_stays zero all)
-    ∙ ap (λ arcs. positions_of (keep_from u 0 all) - positions_of arcs) (sym (kept_of_map (reduced t) u 0 all))
+takes_out law zero t ls sound = grind (arith, whole_is_untrimmed law zero t ls sound, each_stays zero, kept_of_map (reduced t))
 
 -- ---- what is dropped
 
@@ -96,23 +84,19 @@ module _ (one two : Bool → List Point → Option Cause) where
   Alike b = one b.0 b.1 ≡ two b.0 b.1
 
   option_alike : (s : Option Shape) → AllByRecursion Alike (option_strokes s) → option_caused one s ≡ option_caused two s
-  option_alike None h = refl
-  option_alike (Some s) h = omissions_agree Point (List Point) one two s h
+  option_alike s h = grind (arith, omissions_agree)
 
   features_alike : (fs : List Featured) → AllByRecursion Alike (features_strokes fs) → map (λ f. option_caused one f.shape) fs ≡ map (λ f. option_caused two f.shape) fs
   features_alike [] h = refl
-  features_alike (f ∷ fs) h =
-      rw (option_alike f.shape (all_left Alike (option_strokes f.shape) (features_strokes fs) h), features_alike fs (all_right Alike (option_strokes f.shape) (features_strokes fs) h)) refl
+  features_alike (f ∷ fs) h = grind (arith, option_alike, all_left, all_right, features_alike fs (all_right Alike (option_strokes f.shape) (features_strokes fs) h))
 
   layers_alike : (ls : Named) → AllByRecursion Alike (named_strokes ls) → map (λ l. map (λ f. option_caused one f.shape) l.1.features) ls ≡ map (λ l. map (λ f. option_caused two f.shape) l.1.features) ls
   layers_alike [] h = refl
-  layers_alike (l ∷ ls) h =
-      rw (features_alike l.1.features (all_left Alike (features_strokes l.1.features) (named_strokes ls) h), layers_alike ls (all_right Alike (features_strokes l.1.features) (named_strokes ls) h)) refl
+  layers_alike (l ∷ ls) h = grind (arith, features_alike, all_left, all_right, layers_alike ls (all_right Alike (features_strokes l.1.features) (named_strokes ls) h))
 
 module _ (lines : List Stroke) (t : ℕ) where
   option_told : (s : Option Shape) → option_caused (own_cause lines t) s ≡ option_omissions lines t s
-  option_told None = refl
-  option_told (Some s) = refl
+  option_told s = grind arith
 
   features_told : (fs : List Featured) → map (λ f. option_caused (own_cause lines t) f.shape) fs ≡ map (λ f. option_omissions lines t f.shape) fs
   features_told [] = refl
@@ -125,13 +109,7 @@ module _ (lines : List Stroke) (t : ℕ) where
 -- over the reduced arcs a line is dropped for the cause that is expected
 line_cause : (law : DirectionLaw) (t : ℕ) (ls : Named) → AreSound ls → (b : Line) → StandsIn (linework (layers_of ls)) b
     → assembled_cause (linework (layers_of ls)) (map (reduced t) (arcs_of_layers ls)) b.0 b.1 ≡ own_cause (linework (layers_of ls)) t b.0 b.1
-line_cause law t ls sound b stands = on (is_short b.0 (clean b.1)) refl
-  where
-    on : (c : Bool) → is_short b.0 (clean b.1) ≡ c →
-        cond c (Some Collapsed) (small_cause (map (reduced t) (arcs_of_layers ls)) b.0 (own_refs (linework (layers_of ls)) b.0 b.1))
-        ≡ cond c (Some Collapsed) (cond (is_small b.0 (rebuilt (linework (layers_of ls)) t b.0 b.1)) (Some Small) None)
-    on true e = refl
-    on false e = cause_same law (linework (layers_of ls)) t (own_apart ls sound) b stands e
+line_cause law t ls sound b stands = grind (arith, cause_same, own_apart)
 
 pub drops_expected : DirectionLaw → ZeroLaw → AssemblingDropsExpected
 unfolding assembled_dropped expected_dropped
@@ -150,6 +128,4 @@ indexes_reach t ls sound = each_through t None (arcs_of_layers ls) (arcs_long (l
 
 pub assembled_is_valid : EndsStay → NoneIsNew → ZeroLaw → AssembledIsValid
 unfolding assembled
-assembled_is_valid stay none zero kept ls sound distinct through =
-    lessened_is_valid kept (untrimmed 0 ls) (untrimmed_is_valid stay none 0 ls sound distinct)
-    (subst (EachFromFirstToLast kept) (sym (each_stays zero (arcs_of_layers ls))) through)
+assembled_is_valid stay none zero kept ls sound distinct through = search (rules, lessened_is_valid, untrimmed_is_valid, each_stays)

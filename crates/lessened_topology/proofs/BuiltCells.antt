@@ -1,5 +1,5 @@
 -- Each position of the topology that is built of layers is a position of theirs.
-use Rattle.std.proofs.Common.{ℕ, Bool, List, [], ◌∷◌, map, Option, Some, None}
+use Rattle.std.proofs.Common.{rules, arith, ℕ, Bool, List, [], ◌∷◌, map, Option, Some, None}
 use Rattle.std.specs.List.{AllByRecursion}
 use Rattle.arc_table.specs.Arcs.{arcs_of}
 use Rattle.arc_table.proofs.Alike.{arc_is_piece}
@@ -54,21 +54,12 @@ module _ (X : Point → Type 0) where
 
     features_among : (fs : List Featured) → Have (features_points fs) → Have (features_places (map (feature_renumbered used) (features_by kept fs)))
     features_among [] h = tt
-    features_among (f ∷ fs) h =
-        all_append X (option_places (then_some (prune (λ p. p) (line_renumbered used)) (then_some (prune (λ p. p) kept) f.shape))) (features_places (map (feature_renumbered used) (features_by kept fs)))
-        (option_stay (λ p. p) (line_renumbered used) X (then_some (prune (λ p. p) kept) f.shape) (shape_pruned f.shape (all_left X (option_points f.shape) (features_points fs) h)))
-        (features_among fs (all_right X (option_points f.shape) (features_points fs) h))
+    features_among (f ∷ fs) h = search (rules, all_append, option_stay, shape_pruned, all_left, all_right, features_among fs (all_right X (option_points f.shape) (features_points fs) h))
 
     objects_among : (ls : Named) → Have (layers_points (layers_of ls)) → Have (objects_places (map (λ o. (o.0, object_renumbered used o.1)) (objects_by kept ls)))
     objects_among [] h = tt
-    objects_among (l ∷ ls) h =
-        all_append X (features_places (map (feature_renumbered used) (features_by kept l.1.features))) (objects_places (map (λ o. (o.0, object_renumbered used o.1)) (objects_by kept ls)))
-        (features_among l.1.features (all_left X (features_points l.1.features) (layers_points (layers_of ls)) h))
-        (objects_among ls (all_right X (features_points l.1.features) (layers_points (layers_of ls)) h))
+    objects_among (l ∷ ls) h = grind (arith, all_append, features_among, all_left, all_right, objects_among ls (all_right X (features_points l.1.features) (layers_points (layers_of ls)) h))
 
 pub built_cells : NoneIsNew → (X : Point → Type 0) (t : ℕ) (ls : Named) → AllByRecursion X (layers_points (layers_of ls)) → EachCell X (built t ls)
 unfolding built trimmed
-built_cells none X t ls h =
-    let lines = linework (layers_of ls) in
-    let used : ℕ → Bool = is_used (untrimmed t ls).objects in
-    (all_kept (λ a. AllByRecursion X a) used 0 (map (reduced t) (all_arcs lines)) (each_reduced X none t (all_arcs lines) (arcs_among X ls h)), objects_among X (kept_refs lines t) used ls h)
+built_cells none X t ls h = search (rules, all_kept, each_reduced, arcs_among, objects_among)

@@ -1,5 +1,5 @@
 -- What is built of layers on a grid: it decodes to what is built of them without, and it is valid.
-use Rattle.std.proofs.Common.{◌≡◌, ℕ, None, Some, refl, ◌∙◌}
+use Rattle.std.proofs.Common.{rules, arith, ◌≡◌, ℕ, None, Some, refl, ◌∙◌}
 use Rattle.elimination_meaning.specs.Laws.{NoneIsNew}
 use Rattle.geojson_types.specs.declared.layer.FeatureSet.TheVariants as set
 use Rattle.list_laws.proofs.Elements.{all_weaker}
@@ -24,10 +24,7 @@ pub built_decodes : NoneIsNew → BuiltDecodesOnGrid
 built_decodes none transform cell t ls name lie = celled_decodes transform cell (built t ls) name (is_plain t ls) (built_cells none (LiesBack transform cell) t ls lie)
 
 pub decodes_back : DecodesBack → NoneIsNew → DecodesBackOnGrid
-decodes_back back none transform cell t ls sound distinct lie =
-    all_weaker (λ l. decoded (built t ls) l.0 ≡ Some (set.Many l.1.features)) (λ l. decoded (celled transform cell (built t ls)) l.0 ≡ Some (set.Many l.1.features))
-    (λ l e. built_decodes none transform cell t ls l.0 lie ∙ e) (expected t ls) (back t ls sound distinct)
+decodes_back back none transform cell t ls sound distinct lie = grind (arith, all_weaker, built_decodes)
 
 pub built_is_valid : IsValid → NoneIsNew → BuiltIsValidOnGrid
-built_is_valid valid none transform cell t ls numbers sound distinct on =
-    celled_is_valid transform cell (built t ls) numbers (is_plain t ls) (built_cells none (IsOnGrid transform cell) t ls on) (valid t ls sound distinct)
+built_is_valid valid none transform cell t ls numbers sound distinct on = search (rules, celled_is_valid, is_plain, built_cells)

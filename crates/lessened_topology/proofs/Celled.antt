@@ -1,5 +1,5 @@
 -- A topology on a grid is reduced to the cells of the reduced topology.
-use Rattle.std.proofs.Common.{◌≡◌, ◌==◌, ℕ, zero, suc, ℤ, Bool, List, [], ◌∷◌, ◌++◌, map, Option, None, Some, refl, sym, ap, ◌∙◌}
+use Rattle.std.proofs.Common.{rules, arith, ◌≡◌, ◌==◌, ℕ, zero, suc, ℤ, Bool, List, [], ◌∷◌, ◌++◌, map, Option, None, Some, refl, sym, ap, ◌∙◌}
 use Rattle.std.specs.List.{AllByRecursion, list_any}
 use Rattle.elimination_meaning.specs.Elimination.{reduce}
 use Rattle.elimination_meaning.specs.Laws.{DirectionLaw, NoneIsNew, ZeroLaw}
@@ -18,7 +18,7 @@ use Rattle.topojson_types.specs.Transforms.{place_on}
 use Rattle.build_meaning.specs.Built.{built}
 use Rattle.build_meaning.specs.Layers.{Named}
 use Rattle.build_meaning.specs.Trimming.{is_used, keep_from, line_renumbered, trimmed}
-use Rattle.lessened_topology.proofs.KeptArcs.{kept_of_map}
+use Rattle.build_meaning.proofs.Trimmed.{kept_of_map}
 use Rattle.lessened_topology.specs.Celled.{feature_celled, object_celled, objects_celled, celled, LiesBack}
 use Rattle.lessened_topology.specs.Laws.{LessensToBuiltOnGrid}
 use Rattle.lessened_topology.specs.Lessened.{Refs, picked, picked_arcs, large_refs, feature_pruned, object_pruned, objects_pruned, picked_whole, lessened_by}
@@ -37,8 +37,7 @@ at_map f (x ∷ xs) zero = refl
 at_map f (x ∷ xs) (suc i) = at_map f xs i
 
 with_map : {A B : Type 0} (f : A → B) (o : Option A) (xs : List A) → with_some (map_some f o) (map f xs) ≡ map f (with_some o xs)
-with_map f None xs = refl
-with_map f (Some x) xs = refl
+with_map f o xs = grind arith
 
 picked_map : {A B : Type 0} (f : A → B) (is : List ℕ) (xs : List A) → picked is (map f xs) ≡ map f (picked is xs)
 picked_map f [] xs = refl
@@ -63,8 +62,7 @@ module _ (transform : Transform) (cell : Point → Point) where
 
   indexes_same : (t : ℕ) (arcs : List (List Point)) → AllByRecursion Lies arcs → map (λ cells. reduce t (map (place_on transform) cells)) (map (map cell) arcs) ≡ map (reduce t) arcs
   indexes_same t [] h = refl
-  indexes_same t (a ∷ arcs) h =
-      ap (λ x. reduce t x ∷ map (λ cells. reduce t (map (place_on transform) cells)) (map (map cell) arcs)) (lies_back a h.0) ∙ ap (λ xs. reduce t a ∷ xs) (indexes_same t arcs h.1)
+  indexes_same t (a ∷ arcs) h = grind (arith, lies_back, indexes_same t arcs h.1)
 
   picked_lie : (kept : List (List ℕ)) (arcs : List (List Point)) → AllByRecursion Lies arcs → AllByRecursion Lies (picked_arcs kept arcs)
   picked_lie [] arcs h = tt
@@ -74,8 +72,7 @@ module _ (transform : Transform) (cell : Point → Point) where
   -- ---- objects
 
   as_it_is : {A : Type 0} (o : Option A) → then_some (λ a. Some a) o ≡ o
-  as_it_is None = refl
-  as_it_is (Some a) = refl
+  as_it_is o = grind arith
 
   abbrev same_refs : Refs
   same_refs closed refs = Some refs
@@ -83,24 +80,17 @@ module _ (transform : Transform) (cell : Point → Point) where
   module _ (kept : Refs) where
     shape_turn : (s : Option TopoShape) → then_some (prune (λ (p : Point). p) kept) (then_some (prune cell same_refs) s) ≡ then_some (prune cell same_refs) (then_some (prune (λ (p : Point). p) kept) s)
     shape_turn None = refl
-    shape_turn (Some s) =
-        composed cell (λ (p : Point). p) same_refs kept s
-        ∙ sym (composed (λ (p : Point). p) cell kept same_refs s
-        ∙ agreed cell (λ closed refs. then_some (same_refs closed) (kept closed refs)) kept s
-        (all_hold (λ b. then_some (same_refs b.0) (kept b.0 b.1) ≡ kept b.0 b.1) (λ b. as_it_is (kept b.0 b.1)) (strokes s)))
+    shape_turn (Some s) = search (rules, composed, agreed, all_hold, as_it_is)
 
     abbrev with_shape : TopoFeature → Option TopoShape → TopoFeature
     with_shape f s = record { id = f.id; properties = f.properties; shape = s }
 
     features_turn : (fs : List TopoFeature) → map (feature_pruned kept) (map (feature_celled cell) fs) ≡ map (feature_celled cell) (map (feature_pruned kept) fs)
     features_turn [] = refl
-    features_turn (f ∷ fs) =
-        ap (λ s. with_shape f s ∷ map (feature_pruned kept) (map (feature_celled cell) fs)) (shape_turn f.shape)
-        ∙ ap (λ gs. feature_celled cell (feature_pruned kept f) ∷ gs) (features_turn fs)
+    features_turn (f ∷ fs) = grind (arith, shape_turn, features_turn fs)
 
     object_turn : (o : TopoObject) → object_pruned kept (object_celled cell o) ≡ object_celled cell (object_pruned kept o)
-    object_turn (One f) = ap (λ s. One (with_shape f s)) (shape_turn f.shape)
-    object_turn (Many fs) = ap (λ gs. Many gs) (features_turn fs)
+    object_turn o = grind (arith, shape_turn, features_turn)
 
     objects_turn : (os : List (List ℕ × TopoObject)) → objects_pruned kept (objects_celled cell os) ≡ objects_celled cell (objects_pruned kept os)
     objects_turn [] = refl

@@ -1,5 +1,5 @@
 -- A topology on a grid decodes to what the topology decodes to whose positions its cells stand for.
-use Rattle.std.proofs.Common.{◌≡◌, ℕ, ℤ, bytes_eq, Bool, true, false, cond, List, [], ◌∷◌, map, Option, None, Some, refl, sym, ap, ◌∙◌, subst}
+use Rattle.std.proofs.Common.{rules, arith, ◌≡◌, ℕ, ℤ, bytes_eq, Bool, true, false, cond, List, [], ◌∷◌, map, Option, None, Some, refl, sym, ap, ◌∙◌, subst}
 use Rattle.std.specs.List.{AllByRecursion}
 use Rattle.list_laws.proofs.Elements.{all_left, all_right}
 use Rattle.list_laws.proofs.Lists.{map_agree}
@@ -49,9 +49,7 @@ module _ {M : Type 0} (one two : Point → Point) (kept : Bool → List ℤ → 
   members (s ∷ ss) all h = rw (all.0 (all_left Same (places s) (joined (map places ss)) h), members ss all.1 (all_right Same (places s) (joined (map places ss)) h)) refl
 
   at_group : (ss : List TopoShape) → AllByRecursion Agrees ss → Agrees (g.Group ss)
-  at_group ss all h =
-      rw (prune-group one kept ss, prune-group two kept ss)
-      (ap (λ ts. Some (g.Group ts)) (members ss all (subst (AllByRecursion Same) (places_at.group ss) h)))
+  at_group ss all h = grind (arith, prune-group one kept ss, prune-group two kept ss, members ss all (subst (AllByRecursion Same) (places_at.group ss) h))
 
   pub placed_alike : (s : TopoShape) → AllByRecursion Same (places s) → prune one kept s ≡ prune two kept s
   placed_alike = by_kinds Agrees (record {
@@ -85,13 +83,10 @@ module _ (transform : Transform) (cell : Point → Point) (arcs : List (List Poi
 
   features_same : (fs : List TopoFeature) → Lies (features_places fs) → map (decoded_feature lies arcs) (map (feature_celled cell) fs) ≡ map (decoded_feature (λ p. p) arcs) fs
   features_same [] h = refl
-  features_same (f ∷ fs) h =
-      ap (λ s. with_shape f s ∷ map (decoded_feature lies arcs) (map (feature_celled cell) fs)) (shape_same f.shape (all_left (LiesBack transform cell) (option_places f.shape) (features_places fs) h))
-      ∙ ap (λ gs. decoded_feature (λ p. p) arcs f ∷ gs) (features_same fs (all_right (LiesBack transform cell) (option_places f.shape) (features_places fs) h))
+  features_same (f ∷ fs) h = grind (arith, shape_same, all_left, all_right, features_same fs (all_right (LiesBack transform cell) (option_places f.shape) (features_places fs) h))
 
   object_same : (o : TopoObject) → Lies (features_places (object_features o)) → decoded_object lies arcs (object_celled cell o) ≡ decoded_object (λ p. p) arcs o
-  object_same (One f) h = ap (λ s. set.One (with_shape f s)) (shape_same f.shape (all_left (LiesBack transform cell) (option_places f.shape) [] h))
-  object_same (Many fs) h = ap set.Many (features_same fs h)
+  object_same o h = grind (arith, shape_same, all_left, features_same)
 
   name_same : (name : List ℕ) (os : List (List ℕ × TopoObject)) → Lies (objects_places os)
       → map_some (decoded_object lies arcs) (of_name name (objects_celled cell os)) ≡ map_some (decoded_object (λ p. p) arcs) (of_name name os)
@@ -104,8 +99,7 @@ module _ (transform : Transform) (cell : Point → Point) (arcs : List (List Poi
           → map_some (decoded_object lies arcs) (of_name name (objects_celled cell os)) ≡ map_some (decoded_object (λ p. p) arcs) (of_name name os)
           → map_some (decoded_object lies arcs) (cond b (Some (object_celled cell o.1)) (of_name name (objects_celled cell os)))
           ≡ map_some (decoded_object (λ p. p) arcs) (cond b (Some o.1) (of_name name os))
-      on true e ih = ap Some e
-      on false e ih = ih
+      on b e ih = grind arith
 
 -- ---- topologies
 
@@ -113,14 +107,10 @@ plain_same : (transform : Transform) (cell : Point → Point) (os : List (List �
     EachCell (LiesBack transform cell) (record { objects = os; arcs = arcs; transform = None })
     → decoded (celled transform cell (record { objects = os; arcs = arcs; transform = None })) name ≡ decoded (record { objects = os; arcs = arcs; transform = None }) name
 unfolding decoded celled
-plain_same transform cell os arcs name h =
-    ap (λ xs. map_some (decoded_object (place_on transform) xs) (of_name name (objects_celled cell os))) (all_lie_back transform cell arcs h.0)
-    ∙ name_same transform cell arcs name os h.1
+plain_same transform cell os arcs name h = search (rules, all_lie_back, name_same)
 
 abbrev DecodesSame : Transform → (Point → Point) → List ℕ → Contents → Type 0
 DecodesSame transform cell name z = EachCell (LiesBack transform cell) z → decoded (celled transform cell z) name ≡ decoded z name
 
 pub celled_decodes : CelledDecodes
-celled_decodes transform cell y name plain h =
-    let with_none : y ≡ record { objects = y.objects; arcs = y.arcs; transform = None } = ap (λ w. record { objects = y.objects; arcs = y.arcs; transform = w }) plain in
-    subst (DecodesSame transform cell name) (sym with_none) (plain_same transform cell y.objects y.arcs name) h
+celled_decodes transform cell y name plain h = grind (arith, plain_same)

@@ -1,5 +1,5 @@
 -- What is built of layers at zero and then reduced is what is built of them at the threshold.
-use Rattle.std.proofs.Common.{◌≡◌, ℕ, ℤ, Bool, true, false, cond, List, map, Option, None, Some, refl, sym, ap, ◌∙◌, subst}
+use Rattle.std.proofs.Common.{rules, arith, ◌≡◌, ℕ, ℤ, Bool, true, false, cond, List, map, Option, None, Some, refl, sym, ap, ◌∙◌, subst}
 use Rattle.std.specs.List.{AllByRecursion}
 use Rattle.arc_table.specs.Arcs.{index_in}
 use Rattle.arc_table.proofs.Rejoining.{same_rejoined}
@@ -45,11 +45,7 @@ module _ (lines : List Stroke) where
   IsWholeAtZero b = kept_line lines 0 b.0 b.1 ≡ cond (is_short b.0 (clean b.1)) None (Some (from_start (is_cut lines) (cleaned b.0 b.1)))
 
   pub no_small : (b : Line) → IsWholeAtZero b → is_short b.0 (clean b.1) ≡ false → own_cause lines 0 b.0 b.1 ≡ None
-  no_small b whole e = on (own_cause lines 0 b.0 b.1) (whole ∙ ap (λ c. cond c None (Some (from_start (is_cut lines) (cleaned b.0 b.1)))) e)
-    where
-      on : (w : Option Cause) → unless w (rebuilt lines 0 b.0 b.1) ≡ Some (from_start (is_cut lines) (cleaned b.0 b.1)) → w ≡ None
-      on None h = refl
-      on (Some c) h = cc
+  no_small b whole e = grind arith
 
 -- ---- a line's indexes name its own pieces, reduced
 
@@ -63,20 +59,11 @@ module _ (law : DirectionLaw) (lines : List Stroke) (t : ℕ) (apart : (p : List
   -- so the same is too short
   pub cause_same : (b : Line) → StandsIn lines b → is_short b.0 (clean b.1) ≡ false →
       small_cause arcs b.0 (refs_of b) ≡ cond (is_small b.0 (rebuilt lines t b.0 b.1)) (Some Small) None
-  cause_same b stands e =
-      ap (λ l. cond (is_small b.0 l) (Some Small) None)
-      (ap rejoined (pieces_back law t (pieces lines) apart (own_pieces lines b.0 b.1) (own_in lines b stands e)) ∙ same_rejoined (map (reduced t) (own_pieces lines b.0 b.1)))
+  cause_same b stands e = search (rules, pieces_back, own_in, same_rejoined)
 
   -- so what is kept at zero and then reduced is what is kept at the threshold
   line_again : (b : Line) → StandsIn lines b → IsWholeAtZero lines b → then_some (large_refs arcs b.0) (kept_refs lines 0 b.0 b.1) ≡ kept_refs lines t b.0 b.1
-  line_again b stands whole = on (is_short b.0 (clean b.1)) refl
-    where
-      on : (c : Bool) → is_short b.0 (clean b.1) ≡ c →
-          then_some (large_refs arcs b.0) (kept_refs lines 0 b.0 b.1) ≡ unless (cond c (Some Collapsed) (cond (is_small b.0 (rebuilt lines t b.0 b.1)) (Some Small) None)) (refs_of b)
-      on true e = ap (λ c. then_some (large_refs arcs b.0) (unless (cond c (Some Collapsed) (cond (is_small b.0 (rebuilt lines 0 b.0 b.1)) (Some Small) None)) (refs_of b))) e
-      on false e =
-          ap (λ w. then_some (large_refs arcs b.0) (unless w (refs_of b))) (no_small lines b whole e)
-          ∙ ap (λ w. unless w (refs_of b)) (cause_same b stands e)
+  line_again b stands whole = grind (arith, no_small, cause_same)
 
 -- ---- the indexes that are left after some arcs are left out
 
@@ -85,13 +72,10 @@ module _ (u : ℕ → Bool) (arcs : List (List Point)) where
   fewer = keep_from u 0 arcs
 
   unless_renumbered : (b : Bool × List ℤ) (w : Option Cause) → unless w (map (renumbered u) b.1) ≡ then_some (line_renumbered u b.0) (unless w b.1)
-  unless_renumbered b None = refl
-  unless_renumbered b (Some c) = refl
+  unless_renumbered b w = grind arith
 
   refs_same : (b : Bool × List ℤ) → AllUsed u b → large_refs fewer b.0 (map (renumbered u) b.1) ≡ then_some (line_renumbered u b.0) (large_refs arcs b.0 b.1)
-  refs_same b h =
-      ap (λ xs. unless (cond (is_small b.0 (rejoined xs)) (Some Small) None) (map (renumbered u) b.1)) (all_renumbered u arcs b.1 h)
-      ∙ unless_renumbered b (small_cause arcs b.0 b.1)
+  refs_same b h = grind (arith, all_renumbered u arcs b.1 h, unless_renumbered b (small_cause arcs b.0 b.1))
 
   -- reduced and then renumbered is renumbered and then reduced
   objects_same : (os : List (List ℕ × TopoObject)) → AllByRecursion (AllUsed u) (objects_strokes os) →
@@ -104,13 +88,7 @@ module _ (u : ℕ → Bool) (arcs : List (List Point)) where
 
   -- no index is new
   left_used : (os : List (List ℕ × TopoObject)) → AllByRecursion (AllUsed u) (objects_strokes os) → AllByRecursion (AllUsed u) (objects_strokes (objects_pruned (large_refs arcs) os))
-  left_used os h =
-      objects_left (large_refs arcs) (AllUsed u) os
-      (all_weaker (AllUsed u) (λ b. (m : List ℤ) → large_refs arcs b.0 b.1 ≡ Some m → AllUsed u (b.0, m)) (λ b k m e. on b k m (small_cause arcs b.0 b.1) e) (objects_strokes os) h)
-    where
-      on : (b : Bool × List ℤ) → AllUsed u b → (m : List ℤ) (w : Option Cause) → unless w b.1 ≡ Some m → AllUsed u (b.0, m)
-      on b k m None e = let same : b.1 ≡ m = cc in subst (AllByRecursion (IsUsed u)) same k
-      on b k m (Some c) e = cc
+  left_used os h = grind (arith, objects_left (large_refs arcs) (AllUsed u) os, all_weaker (AllUsed u))
 
 -- ---- topologies
 

@@ -6,7 +6,6 @@ pub mod BuiltOnGrid
 pub mod Celled
 pub mod CelledDecoding
 mod GridRows
-pub mod KeptArcs
 pub mod KeptLabels
 pub mod Lessened
 pub mod Made

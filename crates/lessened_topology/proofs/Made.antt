@@ -1,5 +1,5 @@
 -- Objects that are made of layers and then pruned are made of them at once.
-use Rattle.std.proofs.Common.{◌≡◌, Bool, List, [], ◌∷◌, map, Option, None, Some, refl, ap, ◌∙◌}
+use Rattle.std.proofs.Common.{rules, arith, ◌≡◌, Bool, List, [], ◌∷◌, map, Option, None, Some, refl, ap, ◌∙◌}
 use Rattle.std.specs.List.{AllByRecursion}
 use Rattle.geojson_types.specs.Features.{Shape, Featured}
 use Rattle.geometry.specs.Lists.{then_some}
@@ -21,8 +21,7 @@ module _ (kept : Kept) (next : Refs) (at_once : Kept) where
 
   shape_by : (s : Option Shape) → AllByRecursion Gets (option_strokes s) → then_some (prune (λ (p : Point). p) next) (then_some (prune (λ (p : Point). p) kept) s) ≡ then_some (prune (λ p. p) at_once) s
   shape_by None h = refl
-  shape_by (Some s) h =
-      composed (λ (p : Point). p) (λ (p : Point). p) kept next s ∙ agreed (λ (p : Point). p) (λ closed ps. then_some (next closed) (kept closed ps)) at_once s h
+  shape_by (Some s) h = search (rules, composed, agreed)
 
   made : Featured → Option TopoShape → TopoFeature
   made f s = record { id = f.id; properties = f.properties; shape = s }
@@ -30,12 +29,8 @@ module _ (kept : Kept) (next : Refs) (at_once : Kept) where
   features_made : (fs : List Featured) → AllByRecursion Gets (features_strokes fs) → map (feature_pruned next) (features_by kept fs) ≡ features_by at_once fs
   unfolding made
   features_made [] h = refl
-  features_made (f ∷ fs) h =
-      ap (λ g. g ∷ map (feature_pruned next) (features_by kept fs)) (ap (made f) (shape_by f.shape (all_left Gets (option_strokes f.shape) (features_strokes fs) h)))
-      ∙ ap (λ gs. feature_by at_once f ∷ gs) (features_made fs (all_right Gets (option_strokes f.shape) (features_strokes fs) h))
+  features_made (f ∷ fs) h = grind (arith, made, shape_by, all_left, all_right, features_made fs (all_right Gets (option_strokes f.shape) (features_strokes fs) h))
 
   pub objects_made : (ls : Named) → AllByRecursion Gets (named_strokes ls) → objects_pruned next (objects_by kept ls) ≡ objects_by at_once ls
   objects_made [] h = refl
-  objects_made (l ∷ ls) h =
-      ap (λ fs. (l.0, Many fs) ∷ objects_pruned next (objects_by kept ls)) (features_made l.1.features (all_left Gets (features_strokes l.1.features) (named_strokes ls) h))
-      ∙ ap (λ xs. (l.0, Many (features_by at_once l.1.features)) ∷ xs) (objects_made ls (all_right Gets (features_strokes l.1.features) (named_strokes ls) h))
+  objects_made (l ∷ ls) h = grind (arith, features_made, all_left, all_right, objects_made ls (all_right Gets (features_strokes l.1.features) (named_strokes ls) h))

@@ -1,5 +1,5 @@
 -- Objects that are pruned twice, and the lines and rings of pruned objects.
-use Rattle.std.proofs.Common.{◌≡◌, ℕ, ℤ, Bool, List, [], ◌∷◌, ◌++◌, map, Option, None, Some, refl, sym, ap, ◌∙◌}
+use Rattle.std.proofs.Common.{rules, arith, ◌≡◌, ℕ, ℤ, Bool, List, [], ◌∷◌, ◌++◌, map, Option, None, Some, refl, sym, ap, ◌∙◌}
 use Rattle.std.proofs.lemmas.List.{map-append}
 use Rattle.std.specs.List.{AllByRecursion}
 use Rattle.geometry.specs.Lists.{then_some}
@@ -30,24 +30,18 @@ module _ (one two at_once : Refs) where
 
   shape_then : (s : Option TopoShape) → AllByRecursion Meets (option_strokes s) → then_some (prune (λ (p : Point). p) two) (then_some (prune (λ (p : Point). p) one) s) ≡ then_some (prune (λ p. p) at_once) s
   shape_then None h = refl
-  shape_then (Some s) h =
-      composed (λ (p : Point). p) (λ (p : Point). p) one two s ∙ agreed (λ (p : Point). p) (λ closed refs. then_some (two closed) (one closed refs)) at_once s h
+  shape_then (Some s) h = search (rules, composed, agreed)
 
   features_then : (fs : List TopoFeature) → AllByRecursion Meets (features_strokes fs) → map (feature_pruned two) (map (feature_pruned one) fs) ≡ map (feature_pruned at_once) fs
   features_then [] h = refl
-  features_then (f ∷ fs) h =
-      ap (λ g. g ∷ map (feature_pruned two) (map (feature_pruned one) fs)) (ap (with_shape f) (shape_then f.shape (all_left Meets (option_strokes f.shape) (features_strokes fs) h)))
-      ∙ ap (λ gs. feature_pruned at_once f ∷ gs) (features_then fs (all_right Meets (option_strokes f.shape) (features_strokes fs) h))
+  features_then (f ∷ fs) h = grind (arith, shape_then, all_left, all_right, features_then fs (all_right Meets (option_strokes f.shape) (features_strokes fs) h))
 
   object_then : (o : TopoObject) → AllByRecursion Meets (features_strokes (object_features o)) → object_pruned two (object_pruned one o) ≡ object_pruned at_once o
-  object_then (One f) h = ap (λ s. One (with_shape f s)) (shape_then f.shape (all_left Meets (option_strokes f.shape) [] h))
-  object_then (Many fs) h = ap (λ gs. Many gs) (features_then fs h)
+  object_then o h = grind (arith, shape_then, all_left, features_then)
 
   pub objects_then : (os : Named_objects) → AllByRecursion Meets (objects_strokes os) → objects_pruned two (objects_pruned one os) ≡ objects_pruned at_once os
   objects_then [] h = refl
-  objects_then (o ∷ os) h =
-      ap (λ x. (o.0, x) ∷ objects_pruned two (objects_pruned one os)) (object_then o.1 (all_left Meets (features_strokes (object_features o.1)) (objects_strokes os) h))
-      ∙ ap (λ xs. (o.0, object_pruned at_once o.1) ∷ xs) (objects_then os (all_right Meets (features_strokes (object_features o.1)) (objects_strokes os) h))
+  objects_then (o ∷ os) h = grind (arith, object_then, all_left, all_right, objects_then os (all_right Meets (features_strokes (object_features o.1)) (objects_strokes os) h))
 
 -- ---- what holds of the lines and rings that are left
 
@@ -57,21 +51,14 @@ module _ (kept : Refs) (X : Bool × List ℤ → Type 0) where
 
   features_left : (fs : List TopoFeature) → AllByRecursion Leaves (features_strokes fs) → AllByRecursion X (features_strokes (map (feature_pruned kept) fs))
   features_left [] h = tt
-  features_left (f ∷ fs) h =
-      all_append X (option_strokes (feature_pruned kept f).shape) (features_strokes (map (feature_pruned kept) fs))
-      (option_left (λ p. p) kept X f.shape (all_left Leaves (option_strokes f.shape) (features_strokes fs) h))
-      (features_left fs (all_right Leaves (option_strokes f.shape) (features_strokes fs) h))
+  features_left (f ∷ fs) h = search (rules, all_append, option_left, all_left, all_right, features_left fs (all_right Leaves (option_strokes f.shape) (features_strokes fs) h))
 
   object_left : (o : TopoObject) → AllByRecursion Leaves (features_strokes (object_features o)) → AllByRecursion X (features_strokes (object_features (object_pruned kept o)))
-  object_left (One f) h = features_left (f ∷ []) h
-  object_left (Many fs) h = features_left fs h
+  object_left o h = grind (arith, features_left)
 
   pub objects_left : (os : Named_objects) → AllByRecursion Leaves (objects_strokes os) → AllByRecursion X (objects_strokes (objects_pruned kept os))
   objects_left [] h = tt
-  objects_left (o ∷ os) h =
-      all_append X (features_strokes (object_features (object_pruned kept o.1))) (objects_strokes (objects_pruned kept os))
-      (object_left o.1 (all_left Leaves (features_strokes (object_features o.1)) (objects_strokes os) h))
-      (objects_left os (all_right Leaves (features_strokes (object_features o.1)) (objects_strokes os) h))
+  objects_left (o ∷ os) h = grind (arith, all_append, object_left, all_left, all_right, objects_left os (all_right Leaves (features_strokes (object_features o.1)) (objects_strokes os) h))
 
 -- ---- the lines and rings where each is replaced
 
@@ -83,8 +70,7 @@ module _ (f : List ℤ → List ℤ) where
   onto b = (b.0, f b.1)
 
   option_replaced : (s : Option TopoShape) → option_strokes (then_some (prune (λ (p : Point). p) all_of) s) ≡ map onto (option_strokes s)
-  option_replaced None = refl
-  option_replaced (Some s) = strokes_replaced (λ (p : Point). p) f s
+  option_replaced s = grind (arith, strokes_replaced)
 
   features_replaced : (fs : List TopoFeature) → features_strokes (map (feature_pruned all_of) fs) ≡ map onto (features_strokes fs)
   features_replaced [] = refl

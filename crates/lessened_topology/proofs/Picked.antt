@@ -9,7 +9,7 @@ use Rattle.geometry.specs.Lists.{with_some}
 use Rattle.geometry.specs.Points.{Point}
 use Rattle.geometry.specs.Joins.{at}
 use Rattle.build_meaning.specs.Trimming.{keep_from}
-use Rattle.lessened_topology.proofs.KeptArcs.{kept_of_map}
+use Rattle.build_meaning.proofs.Trimmed.{kept_of_map}
 use Rattle.lessened_topology.specs.Laws.{PickedIsReduced}
 use Rattle.lessened_topology.specs.Lessened.{picked, picked_arcs}
 
@@ -46,8 +46,7 @@ each_reduced t (a ∷ arcs) = ap (λ x. x ∷ map (λ a. picked (reduce t a) a) 
 
 each_again : ZeroLaw → (t : ℕ) (arcs : List (List Point)) → map (reduced t) (map (reduced 0) arcs) ≡ map (reduced t) arcs
 each_again zero t [] = refl
-each_again zero t (a ∷ arcs) =
-    ap (λ x. x ∷ map (reduced t) (map (reduced 0) arcs)) (ap (reduced t) (zero a)) ∙ ap (λ xs. reduced t a ∷ xs) (each_again zero t arcs)
+each_again zero t (a ∷ arcs) = grind (arith, each_again zero t arcs)
 
 -- so arcs that were reduced at zero and of which some are left out are reduced as they were before
 pub arcs_again : ZeroLaw → (t : ℕ) (used : ℕ → Bool) (arcs : List (List Point)) →

@@ -33,11 +33,7 @@ reduced_through t (p ∷ (q ∷ ps)) h = let k = split_last q ps in subst (λ l.
 pub each_through : (t : ℕ) (transform : Option Transform) (arcs : List (List Point)) → AllByRecursion (λ a. 2 ≤ length a) arcs →
     EachFromFirstToLast (map (λ cells. reduce t (placed_cells transform cells)) arcs) arcs
 each_through t transform [] h = tt
-each_through t transform (a ∷ arcs) h =
-    let e = placed_length transform a in (
-      subst (λ n. FromFirstToLast n (reduce t (placed_cells transform a))) e (reduced_through t (placed_cells transform a) (subst (λ n. 2 ≤ n) (sym e) h.0)),
-      each_through t transform arcs h.1,
-    )
+each_through t transform (a ∷ arcs) h = grind (arith, placed_length transform a, reduced_through t (placed_cells transform a), each_through t transform arcs h.1)
 
 pub indexes_reach : IndexesReach
 indexes_reach t y h = each_through t y.transform y.arcs (all_weaker (IsArc y.transform) (λ a. 2 ≤ length a) (λ a k. k.0) y.arcs h.arcs)

@@ -1,5 +1,5 @@
 -- Where each line and ring is replaced and none is left out, the lines and rings are those that stand for them.
-use Rattle.std.proofs.Common.{◌≡◌, Bool, true, false, List, [], ◌∷◌, ◌++◌, map, Option, None, Some, refl, sym, ap, ◌∙◌}
+use Rattle.std.proofs.Common.{arith, ◌≡◌, Bool, true, false, List, [], ◌∷◌, ◌++◌, map, Option, None, Some, refl, sym, ap, ◌∙◌}
 use Rattle.std.proofs.lemmas.List.{map-append}
 use Rattle.std.specs.List.{AllByRecursion}
 use Rattle.geometry.specs.declared.shape.Geometry.{Geometry}
@@ -41,16 +41,13 @@ module _ {P Q L M : Type 0} (place : P → Q) (f : L → M) where
   some_tagged closed (l ∷ ls) = ap (λ ms. (closed, f l) ∷ ms) (some_tagged closed ls)
 
   lines_after : (ms : List M) → after (unless_empty g.Lines ms) ≡ tagged false ms
-  lines_after [] = refl
-  lines_after (m ∷ ms) = strokes-lines Q M (m ∷ ms)
+  lines_after ms = grind (arith, strokes-lines)
 
   area_after : (rs : List L) → after (map_some g.Area (area_by (give true) rs)) ≡ map onto (tagged true rs)
-  area_after [] = refl
-  area_after (o ∷ holes) = strokes-area Q M (f o ∷ some_of (give true) holes) ∙ ap (λ ms. (true, f o) ∷ ms) (some_tagged true holes)
+  area_after rs = grind (arith, strokes-area, some_tagged)
 
   areas_after : (mss : List (List M)) → after (unless_empty g.Areas mss) ≡ joined (map (map (λ m. (true, m))) mss)
-  areas_after [] = refl
-  areas_after (ms ∷ mss) = strokes-areas Q M (ms ∷ mss)
+  areas_after mss = grind (arith, strokes-areas)
 
   some_areas : (areas : List (List L)) → joined (map (map (λ m. (true, m))) (some_of (area_by (give true)) areas)) ≡ map onto (joined (map (map (λ l. (true, l))) areas))
   some_areas [] = refl
@@ -63,8 +60,7 @@ module _ {P Q L M : Type 0} (place : P → Q) (f : L → M) where
   -- ---- groups
 
   with_member : (o : Option (Geometry Q M M)) (ts : List (Geometry Q M M)) → joined (map within (with_some o ts)) ≡ after o ++ joined (map within ts)
-  with_member None ts = refl
-  with_member (Some t) ts = refl
+  with_member o ts = grind arith
 
   members : (ss : List (Geometry P L L)) → AllByRecursion Replaced ss → joined (map within (some_of run ss)) ≡ map onto (joined (map before ss))
   members [] all = refl

@@ -26,12 +26,8 @@ keep_twice {X = X} u w v n m (x ∷ xs) h = on (u n) refl (λ k p. keep_twice u 
   where
     on : (b : Bool) → u n ≡ b → ((k : ℕ) → Both u w v (suc n) k → keep_from w k (keep_from u (suc n) xs) ≡ keep_from v (suc n) xs)
         → keep_from w m (cond b (x ∷ keep_from u (suc n) xs) (keep_from u (suc n) xs)) ≡ cond (v n) (x ∷ keep_from v (suc n) xs) (keep_from v (suc n) xs)
-    on true e ih =
-        let there : v n ≡ w m = both_here u w v n m h ∙ ap (λ b. b && w m) e in
-        ap (λ ys. cond (w m) (x ∷ ys) ys) (ih (suc m) (both_next u w v n m true e h)) ∙ ap (λ b. cond b (x ∷ keep_from v (suc n) xs) (keep_from v (suc n) xs)) (sym there)
-    on false e ih =
-        let there : v n ≡ false = both_here u w v n m h ∙ ap (λ b. b && w m) e in
-        ih m (both_next u w v n m false e h) ∙ ap (λ b. cond b (x ∷ keep_from v (suc n) xs) (keep_from v (suc n) xs)) (sym there)
+    on true e ih = grind (arith, both_here u w v n m h, both_next u w v n m true e h)
+    on false e ih = grind (arith, both_here u w v n m h, both_next u w v n m false e h)
 
 pub rank_twice : (u w v : ℕ → Bool) (n m i : ℕ) → Both u w v n m → rank_from w m (rank_from u n i) ≡ rank_from v n i
 rank_twice u w v n m zero h = refl
@@ -39,40 +35,19 @@ rank_twice u w v n m (suc i) h = on (u n) refl (λ k p. rank_twice u w v (suc n)
   where
     on : (b : Bool) → u n ≡ b → ((k : ℕ) → Both u w v (suc n) k → rank_from w k (rank_from u (suc n) i) ≡ rank_from v (suc n) i)
         → rank_from w m (cond b (suc (rank_from u (suc n) i)) (rank_from u (suc n) i)) ≡ cond (v n) (suc (rank_from v (suc n) i)) (rank_from v (suc n) i)
-    on true e ih =
-        let there : v n ≡ w m = both_here u w v n m h ∙ ap (λ b. b && w m) e in
-        ap (λ r. cond (w m) (suc r) r) (ih (suc m) (both_next u w v n m true e h)) ∙ ap (λ b. cond b (suc (rank_from v (suc n) i)) (rank_from v (suc n) i)) (sym there)
-    on false e ih =
-        let there : v n ≡ false = both_here u w v n m h ∙ ap (λ b. b && w m) e in
-        ih m (both_next u w v n m false e h) ∙ ap (λ b. cond b (suc (rank_from v (suc n) i)) (rank_from v (suc n) i)) (sym there)
+    on true e ih = grind (arith, both_here u w v n m h, both_next u w v n m true e h)
+    on false e ih = grind (arith, both_here u w v n m h, both_next u w v n m false e h)
 
 -- two numbers that pass have different ranks
 apart_ranks : (u : ℕ → Bool) (n i j : ℕ) → u (n + i) ≡ true → u (n + j) ≡ true → rank_from u n i ≡ rank_from u n j → i ≡ j
 apart_ranks u n zero zero h k e = refl
-apart_ranks u n zero (suc j) h k e = on (u n) (ap u (let z : n ≡ n + 0 = omega arith in z) ∙ h) e
-  where
-    on : (b : Bool) → b ≡ true → zero ≡ cond b (suc (rank_from u (suc n) j)) (rank_from u (suc n) j) → zero ≡ suc j
-    on true p q = absurd (omega (arith, q))
-    on false p q = cc
-apart_ranks u n (suc i) zero h k e = on (u n) (ap u (let z : n ≡ n + 0 = omega arith in z) ∙ k) e
-  where
-    on : (b : Bool) → b ≡ true → cond b (suc (rank_from u (suc n) i)) (rank_from u (suc n) i) ≡ zero → suc i ≡ zero
-    on true p q = absurd (omega (arith, q))
-    on false p q = cc
-apart_ranks u n (suc i) (suc j) h k e =
-    on (u n) e (apart_ranks u (suc n) i j (ap u (let z : suc n + i ≡ n + suc i = omega arith in z) ∙ h) (ap u (let z : suc n + j ≡ n + suc j = omega arith in z) ∙ k))
-  where
-    on : (b : Bool) → cond b (suc (rank_from u (suc n) i)) (rank_from u (suc n) i) ≡ cond b (suc (rank_from u (suc n) j)) (rank_from u (suc n) j)
-        → (rank_from u (suc n) i ≡ rank_from u (suc n) j → i ≡ j) → suc i ≡ suc j
-    on true q ih = ap (λ m. suc m) (ih (omega (arith, q)))
-    on false q ih = ap (λ m. suc m) (ih q)
+apart_ranks u n zero (suc j) h k e = grind arith
+apart_ranks u n (suc i) zero h k e = grind arith
+apart_ranks u n (suc i) (suc j) h k e = grind (arith, apart_ranks u (suc n) i j)
 
 same_test : (i j k l : ℕ) → (k ≡ l → i ≡ j) → (i ≡ j → k ≡ l) → (i == j) ≡ (k == l)
 same_test i j k l f g = grind (arith, nat_tests, f, g)
 
 -- so a test on one is the test on its rank
 pub test_ranks : (u : ℕ → Bool) (i j : ℕ) → u i ≡ true → u j ≡ true → (i == j) ≡ (rank_from u 0 i == rank_from u 0 j)
-test_ranks u i j h k =
-    same_test i j (rank_from u 0 i) (rank_from u 0 j)
-    (apart_ranks u 0 i j (ap u (let z : 0 + i ≡ i = omega arith in z) ∙ h) (ap u (let z : 0 + j ≡ j = omega arith in z) ∙ k))
-    (ap (rank_from u 0))
+test_ranks u i j h k = grind (arith, same_test, apart_ranks)

@@ -1,5 +1,5 @@
 -- A topology whose arcs are reduced stays valid.
-use Rattle.std.proofs.Common.{◌≡◌, ℕ, ◌≤◌, ℤ, Bool, true, List, [], ◌∷◌, map, length, Option, None, Some, refl, sym, ap, subst}
+use Rattle.std.proofs.Common.{arith, ◌≡◌, ℕ, ◌≤◌, ℤ, Bool, true, List, [], ◌∷◌, map, length, Option, None, Some, refl, sym, ap, subst}
 use Rattle.std.specs.List.{AllByRecursion}
 use Rattle.geometry.specs.declared.address.Cause.{Cause}
 use Rattle.geojson_types.specs.Features.{is_some_list}
@@ -67,11 +67,7 @@ valid_trimmed y h =
 -- ---- without some cells between the ends of arcs, and without lines that are too short
 
 some_large : (arcs : List (List Point)) → GivesSome (large_refs arcs)
-some_large arcs closed l h m e = on (small_cause arcs closed l) e
-  where
-    on : (w : Option Cause) → unless w l ≡ Some m → is_some_list m ≡ true
-    on None k = let same : l ≡ m = cc in subst (λ z. is_some_list z ≡ true) same h
-    on (Some c) k = cc
+some_large arcs closed l h m e = grind arith
 
 valid_whole : (kept : List (List ℕ)) (y : Contents) → IsTopology y → EachFromFirstToLast kept y.arcs → IsTopology (picked_whole kept y)
 valid_whole kept y h through =
@@ -99,8 +95,7 @@ valid_whole kept y h through =
     }
   where
     same : (fewer : List (List Point)) (b : Bool × List ℤ) (m : List ℤ) (w : Option Cause) → IsFine fewer b → unless w b.1 ≡ Some m → IsFine fewer (b.0, m)
-    same fewer b m None f k = let it : b.1 ≡ m = cc in subst (λ z. IsFine fewer (b.0, z)) it f
-    same fewer b m (Some c) f k = cc
+    same fewer b m w f k = grind arith
 
 -- ---- both
 

@@ -1,5 +1,5 @@
 -- A topology on a grid is valid where the topology is whose positions its cells stand for.
-use Rattle.std.proofs.Common.{◌≡◌, ℕ, ◌≤◌, ℤ, pos, negsuc, true, List, [], ◌∷◌, map, length, reverse, Option, None, Some, refl, sym, ap, ◌∙◌, subst}
+use Rattle.std.proofs.Common.{rules, arith, ◌≡◌, ℕ, ◌≤◌, ℤ, pos, negsuc, true, List, [], ◌∷◌, map, length, reverse, Option, None, Some, refl, sym, ap, ◌∙◌, subst}
 use Rattle.std.specs.List.{AllByRecursion}
 use Rattle.std.proofs.lemmas.List.{length-map}
 use Rattle.elimination_meaning.proofs.Direction.{map_reverse}
@@ -28,8 +28,7 @@ module _ (f : Point → Point) where
   anew = map f
 
   first_map : (xs : List Point) → first_of (anew xs) ≡ map_some f (first_of xs)
-  first_map [] = refl
-  first_map (x ∷ xs) = refl
+  first_map xs = grind arith
 
   last_map : (xs : List Point) → last_of (anew xs) ≡ map_some f (last_of xs)
   last_map [] = refl
@@ -53,15 +52,13 @@ module _ (f : Point → Point) where
   close_map (p ∷ ps) h = subst (λ o. EndsAt o (map anew (p ∷ ps))) (sym (first_map p)) (end_map (first_of p) p ps h)
 
   empty_map : (o : Option (List Point)) → or_empty (map_some anew o) ≡ anew (or_empty o)
-  empty_map None = refl
-  empty_map (Some xs) = refl
+  empty_map o = grind arith
 
   number_map : (arcs : List (List Point)) (i : ℕ) → or_empty (at (map anew arcs) i) ≡ anew (or_empty (at arcs i))
   number_map arcs i = ap or_empty (at_map anew arcs i) ∙ empty_map (at arcs i)
 
   arc_map : (arcs : List (List Point)) (r : ℤ) → arc_at (map anew arcs) r ≡ anew (arc_at arcs r)
-  arc_map arcs (pos i) = number_map arcs i
-  arc_map arcs (negsuc i) = ap reverse (number_map arcs i) ∙ sym (map_reverse f (or_empty (at arcs i)))
+  arc_map arcs r = grind (arith, number_map, map_reverse)
 
   line_map : (arcs : List (List Point)) (refs : List ℤ) → map (arc_at (map anew arcs)) refs ≡ map anew (map (arc_at arcs) refs)
   line_map arcs [] = refl
@@ -101,22 +98,15 @@ module _ (transform : Transform) (cell : Point → Point) where
 
   features_there : (fs : List TopoFeature) → AllByRecursion (IsFeature None) fs → AllOn (features_places fs) → AllByRecursion (IsFeature (Some transform)) (map (feature_celled cell) fs)
   features_there [] h k = tt
-  features_there (f ∷ fs) h k = (
-    feature_there f h.0 (all_left On (option_places f.shape) (features_places fs) k),
-    features_there fs h.1 (all_right On (option_places f.shape) (features_places fs) k),
-  )
+  features_there (f ∷ fs) h k = search (rules, feature_there, all_left, all_right, features_there fs h.1 (all_right On (option_places f.shape) (features_places fs) k))
 
   object_there : (o : TopoObject) → IsObject None o → AllOn (features_places (object_features o)) → IsObject (Some transform) (object_celled cell o)
-  object_there (One f) h k = (feature_there f h.0 (all_left On (option_places f.shape) [] k), option_single cell same_refs f.shape h.1)
-  object_there (Many fs) h k = features_there fs h k
+  object_there o h k = grind (arith, feature_there, all_left, option_single, features_there)
 
   objects_there : (os : List (List ℕ × TopoObject)) → AllByRecursion (λ o. IsObject None o.1) os → AllOn (objects_places os)
       → AllByRecursion (λ o. IsObject (Some transform) o.1) (objects_celled cell os)
   objects_there [] h k = tt
-  objects_there (o ∷ os) h k = (
-    object_there o.1 h.0 (all_left On (features_places (object_features o.1)) (objects_places os) k),
-    objects_there os h.1 (all_right On (features_places (object_features o.1)) (objects_places os) k),
-  )
+  objects_there (o ∷ os) h k = grind (arith, object_there, all_left, all_right, objects_there os h.1 (all_right On (features_places (object_features o.1)) (objects_places os) k))
 
   names_stay : (os : List (List ℕ × TopoObject)) → map (λ o. o.0) (objects_celled cell os) ≡ map (λ o. o.0) os
   names_stay [] = refl

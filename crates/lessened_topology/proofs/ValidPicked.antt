@@ -21,8 +21,7 @@ all_at X (x ∷ xs) h zero = h.0
 all_at X (x ∷ xs) h (suc i) = all_at X xs h.1 i
 
 all_with : {A : Type 0} (X : A → Type 0) (o : Option A) (xs : List A) → Holds X o → AllByRecursion X xs → AllByRecursion X (with_some o xs)
-all_with X None xs h k = k
-all_with X (Some x) xs h k = (h, k)
+all_with X o xs h k = grind arith
 
 pub all_picked : {A : Type 0} (X : A → Type 0) (is : List ℕ) (xs : List A) → AllByRecursion X xs → AllByRecursion X (picked is xs)
 all_picked X [] xs h = tt
@@ -33,12 +32,10 @@ or_this d None = d
 or_this d (Some a) = a
 
 behind : {A : Type 0} (x p : A) (ys : List A) → last_of ys ≡ Some p → last_of (x ∷ ys) ≡ Some p
-behind x p [] h = cc
-behind x p (y ∷ ys) h = h
+behind x p ys h = grind arith
 
 behind_with : {A : Type 0} (o : Option A) (p : A) (ys : List A) → last_of ys ≡ Some p → last_of (with_some o ys) ≡ Some p
-behind_with None p ys h = h
-behind_with (Some x) p ys h = behind x p ys h
+behind_with o p ys h = grind (arith, behind)
 
 picked_last : {A : Type 0} (is : List ℕ) (xs : List A) (j : ℕ) (p : A) → last_of is ≡ Some j → at xs j ≡ Some p → last_of (picked is xs) ≡ Some p
 picked_last [] xs j p h k = cc
@@ -59,20 +56,13 @@ Keeps is cells = SameEnds (picked is cells) cells × (2 ≤ length (picked is ce
 -- the first cell and then more
 first_kept : (is : List ℕ) (c d : Point) (cells : List Point) → last_of (0 ∷ is) ≡ Some (suc (length cells)) → Keeps (0 ∷ is) (c ∷ (d ∷ cells))
 first_kept [] c d cells h = cc
-first_kept (i ∷ is) c d cells h =
-    let e = at_last c (d ∷ cells) in
-    let k : last_of (picked (i ∷ is) (c ∷ (d ∷ cells))) ≡ Some e.0 = picked_last (i ∷ is) (c ∷ (d ∷ cells)) (suc (length cells)) e.0 h e.1 in
-    let n : 1 ≤ length (picked (i ∷ is) (c ∷ (d ∷ cells))) = some_last e.0 (picked (i ∷ is) (c ∷ (d ∷ cells))) k in
-    ((refl, behind c e.0 (picked (i ∷ is) (c ∷ (d ∷ cells))) k ∙ sym e.2), omega (arith, n))
+first_kept (i ∷ is) c d cells h = grind (arith, at_last c (d ∷ cells), picked_last (i ∷ is) (c ∷ (d ∷ cells)) (suc (length cells)), some_last, behind c)
 
 pub ends_picked : (is : List ℕ) (cells : List Point) → 2 ≤ length cells → FromFirstToLast (length cells) is → SameEnds (picked is cells) cells × (2 ≤ length (picked is cells))
 ends_picked is [] h k = absurd (omega (arith, h))
 ends_picked is (c ∷ []) h k = absurd (omega (arith, h))
 ends_picked [] (c ∷ (d ∷ cells)) h k = let z : first_of {X = ℕ} [] ≡ Some 0 = k.0 in cc
-ends_picked (i ∷ is) (c ∷ (d ∷ cells)) h k =
-    let z : i ≡ 0 = ap (or_this i) k.0 in
-    subst (λ n. Keeps (n ∷ is) (c ∷ (d ∷ cells))) (sym z)
-    (first_kept is c d cells (ap (λ n. last_of (n ∷ is)) (sym z) ∙ k.1 ∙ ap Some (let e : suc (suc (length cells)) - 1 ≡ suc (length cells) = omega arith in e)))
+ends_picked (i ∷ is) (c ∷ (d ∷ cells)) h k = grind (arith, first_kept is c d cells)
 
 -- ---- all arcs
 
@@ -95,15 +85,10 @@ at_picked (is ∷ kept) (a ∷ arcs) l h (suc i) = at_picked kept arcs l.1 h.1 i
 pub named_picked : (kept : List (List ℕ)) (arcs : List (List Point)) → AllByRecursion (λ a. 2 ≤ length a) arcs → EachFromFirstToLast kept arcs → (r : ℤ)
     → SameEnds (arc_at (picked_arcs kept arcs) r) (arc_at arcs r)
 named_picked kept arcs l h (pos i) = at_picked kept arcs l h i
-named_picked kept arcs l h (negsuc i) =
-    let k = at_picked kept arcs l h i in
-    let x = or_empty (at (picked_arcs kept arcs) i) in
-    let y = or_empty (at arcs i) in
-    (first_reverse x ∙ k.1 ∙ sym (first_reverse y), last_reverse x ∙ k.0 ∙ sym (last_reverse y))
+named_picked kept arcs l h (negsuc i) = grind (arith, at_picked kept arcs l h i, first_reverse, last_reverse)
 
 pub picked_are_arcs : (transform : Option Transform) (kept : List (List ℕ)) (arcs : List (List Point)) → AllByRecursion (IsArc transform) arcs → EachFromFirstToLast kept arcs
     → AllByRecursion (IsArc transform) (picked_arcs kept arcs)
 picked_are_arcs transform [] arcs k h = tt
 picked_are_arcs transform (is ∷ kept) [] k h = tt
-picked_are_arcs transform (is ∷ kept) (a ∷ arcs) k h =
-    (((ends_picked is a k.0.0 h.0).1, all_picked (IsPlace transform) is a k.0.1), picked_are_arcs transform kept arcs k.1 h.1)
+picked_are_arcs transform (is ∷ kept) (a ∷ arcs) k h = grind (arith, ends_picked is a k.0.0 h.0, all_picked (IsPlace transform) is a k.0.1, picked_are_arcs transform kept arcs k.1 h.1)

@@ -1,5 +1,5 @@
 -- What is made of layers, of the table of their arcs and of the positions of each arc that are kept is what is assembled of them.
-use Rattle.std.proofs.Common.{◌≡◌, ℕ, suc, ◌-◌, not, ℤ, Bool, true, false, cond, ◌||◌, List, [], ◌∷◌, map, length, Option, None, Some, refl, sym, ap, ◌∙◌}
+use Rattle.std.proofs.Common.{arith, ◌≡◌, ℕ, suc, ◌-◌, not, ℤ, Bool, true, false, cond, ◌||◌, List, [], ◌∷◌, map, length, Option, None, Some, refl, sym, ap, ◌∙◌}
 use Rattle.std.specs.List.{list_any}
 use Rattle.std.proofs.Math.Path.{fun_ext}
 use Rattle.arc_choice.specs.Marks.{names_arc}
@@ -52,12 +52,7 @@ table_arcs ls t is = ap (λ t. t.arcs) is ∙ ap arcs_of (same_pieces (lines_of 
 -- the indexes of lines and rings that have enough positions
 long_are : (of : RefsOf) (bs : List (Bool × List Point)) → map (λ (b : Bool × List Point). of b.0 b.1) (long_of bs) ≡ long_refs of bs
 long_are of [] = refl
-long_are of (b ∷ bs) = on (is_short b.0 (clean b.1)) (long_are of bs)
-  where
-    on : (c : Bool) → map (λ (b : Bool × List Point). of b.0 b.1) (long_of bs) ≡ long_refs of bs
-        → map (λ (b : Bool × List Point). of b.0 b.1) (cond (not c) (b ∷ long_of bs) (long_of bs)) ≡ cond c (long_refs of bs) (of b.0 b.1 ∷ long_refs of bs)
-    on true ih = ih
-    on false ih = ap (λ l. of b.0 b.1 ∷ l) ih
+long_are of (b ∷ bs) = grind (arith, long_are of bs)
 
 pub table_refs : (ls : Named) (t : ArcsAndIndexes) → IsTableOf ls t → t.refs ≡ long_refs (own_refs (lines_of ls)) (named_strokes ls)
 table_refs ls t is =
@@ -94,48 +89,19 @@ module _ (arcs : List (List Point)) (of : RefsOf) where
   -- what the linework has for each line and ring is dealt to it
   dealt_all : (cs : List Alone) → dealt (fates why cs) (long_refs of (map stroke cs)) ≡ map part cs
   dealt_all [] = refl
-  dealt_all (c ∷ cs) = on c.outer (is_short c.closed (clean c.line)) (small c) (long_refs of (map stroke cs)) (map part cs) (dealt_all cs)
-    where
-      on : (o : Option Cause) (b s : Bool) (long : List (List ℤ)) (all : List Deal) → dealt (fates why cs) long ≡ all
-          → dealt (inner_cause o (by b s) ∷ fates why cs) (cond b long (of c.closed c.line ∷ long)) ≡ (inner_cause o (by b s), cond b None (Some (of c.closed c.line))) ∷ all
-      on None true s long all ih = ap (λ (ds : List Deal). (Some Collapsed, None) ∷ ds) ih
-      on None false true long all ih = ap (λ (ds : List Deal). (Some Small, Some (of c.closed c.line)) ∷ ds) ih
-      on None false false long all ih = ap (λ (ds : List Deal). (None, Some (of c.closed c.line)) ∷ ds) ih
-      on (Some d) true s long all ih = ap (λ (ds : List Deal). (Some Collapsed, None) ∷ ds) ih
-      on (Some d) false true long all ih = ap (λ (ds : List Deal). (Some Small, Some (of c.closed c.line)) ∷ ds) ih
-      on (Some d) false false long all ih = ap (λ (ds : List Deal). (Some Outer, Some (of c.closed c.line)) ∷ ds) ih
+  dealt_all (c ∷ cs) = grind (arith, dealt_all cs)
 
   -- the arcs of those that are kept
   kept_arcs_named : (i : ℕ) (cs : List (Candidate (List Point)))
       → any_names_arc (some_of (λ (d : Deal). if_kept d.0 d.1) (map part cs)) i ≡ list_any (λ (b : Bool × List ℤ). names_arc b.1 i) (some_of (own_left why of) cs)
   kept_arcs_named i [] = refl
-  kept_arcs_named i (c ∷ cs) =
-      on c.outer (is_short c.closed (clean c.line)) (small c) (some_of (λ (d : Deal). if_kept d.0 d.1) (map part cs)) (some_of (own_left why of) cs) (kept_arcs_named i cs)
-    where
-      on : (o : Option Cause) (b s : Bool) (lists : List (List ℤ)) (left : List (Bool × List ℤ)) → any_names_arc lists i ≡ list_any (λ (b : Bool × List ℤ). names_arc b.1 i) left
-          → any_names_arc (with_some (if_kept (inner_cause o (by b s)) (cond b None (Some (of c.closed c.line)))) lists) i
-          ≡ list_any (λ (b : Bool × List ℤ). names_arc b.1 i) (with_some (if_kept o (map_some (λ refs. (c.closed, refs)) (unless (by b s) (of c.closed c.line)))) left)
-      on None true s lists left ih = ih
-      on None false true lists left ih = ih
-      on None false false lists left ih = ap (λ z. names_arc (of c.closed c.line) i || z) ih
-      on (Some d) true s lists left ih = ih
-      on (Some d) false true lists left ih = ih
-      on (Some d) false false lists left ih = ih
+  kept_arcs_named i (c ∷ cs) = grind (arith, kept_arcs_named i cs)
 
   -- the entries of all, with new indexes
   entries_renumbered : (u : ℕ → Bool) (cs : List (Candidate (List Point)))
       → map (entry_by u) (map part cs) ≡ entries_of (kept_renumbered u (λ closed ps. unless (why closed ps) (of closed ps))) (map stroke cs)
   entries_renumbered u [] = refl
-  entries_renumbered u (c ∷ cs) = on c.outer (is_short c.closed (clean c.line)) (small c) _ _ (entries_renumbered u cs)
-    where
-      on : (o : Option Cause) (b s : Bool) (one two : Entries) → one ≡ two
-          → entry_by u (inner_cause o (by b s), cond b None (Some (of c.closed c.line))) ∷ one ≡ then_some (line_renumbered u c.closed) (unless (by b s) (of c.closed c.line)) ∷ two
-      on None true s one two ih = ap (λ (es : Entries). None ∷ es) ih
-      on None false true one two ih = ap (λ (es : Entries). None ∷ es) ih
-      on None false false one two ih = ap (λ (es : Entries). Some (map (renumbered u) (of c.closed c.line)) ∷ es) ih
-      on (Some d) true s one two ih = ap (λ (es : Entries). None ∷ es) ih
-      on (Some d) false true one two ih = ap (λ (es : Entries). None ∷ es) ih
-      on (Some d) false false one two ih = ap (λ (es : Entries). Some (map (renumbered u) (of c.closed c.line)) ∷ es) ih
+  entries_renumbered u (c ∷ cs) = grind (arith, entries_renumbered u cs)
 
 -- ---- lists of numbers
 
@@ -172,9 +138,7 @@ module _ (kept : List (List ℕ)) (ls : Named) (t : ArcsAndIndexes) (is : IsTabl
   left_whole zero sound = before_trimming zero kept ls sound ∙ ap (λ arcs. contents (objects_by (kept_by (lines_of ls) arcs) ls) arcs) same_fewer
 
   table_dealt : dealt (fates (line_cause fewer of) all) t.refs ≡ map (part fewer of) all
-  table_dealt =
-      ap (dealt (fates (line_cause fewer of) all)) (table_refs ls t is ∙ ap (long_refs of) (sym (named_are (line_cause fewer of true) ls)))
-      ∙ dealt_all fewer of all
+  table_dealt = grind (arith, table_refs ls t is, named_are (line_cause fewer of true) ls, dealt_all fewer of all)
 
   -- the arcs that kept lines and rings use
   used_are : (fs : List (Option Cause)) → fs ≡ fates (line_cause fewer of) all → used_by fs t.refs ≡ used
@@ -185,8 +149,7 @@ module _ (kept : List (List ℕ)) (ls : Named) (t : ArcsAndIndexes) (is : IsTabl
   -- what is told of the lines and rings, over the arcs and by the indexes that were given
   pub causes_are : (fs : List (Option Cause)) (arcs : List (List Point)) (refs : List (List ℤ)) → arcs ≡ fewer → refs ≡ t.refs
       → ((of : RefsOf) → refs ≡ long_refs of (named_strokes ls) → fs ≡ fates (line_cause arcs of) (named_candidates (line_cause arcs of true) ls)) → fs ≡ fates (line_cause fewer of) all
-  causes_are fs arcs refs same_arcs same_refs told =
-      told of (same_refs ∙ table_refs ls t is) ∙ ap (λ a. fates (line_cause a of) (named_candidates (line_cause a of true) ls)) same_arcs
+  causes_are fs arcs refs same_arcs same_refs told = grind (arith, table_refs)
 
   pub drops_are : (ds : List Dropped) (arcs : List (List Point)) (refs : List (List ℤ)) → arcs ≡ fewer → refs ≡ t.refs
       → ((of : RefsOf) → refs ≡ long_refs of (named_strokes ls) → ds ≡ layers_caused (line_cause arcs of) ls) → ds ≡ assembled_dropped kept ls
@@ -217,8 +180,4 @@ module _ (kept : List (List ℕ)) (ls : Named) (t : ArcsAndIndexes) (is : IsTabl
   pub is_taken_out : ZeroLaw → AreSound ls → (fs : List (Option Cause)) (picked : List (List Point)) → fs ≡ fates (line_cause fewer of) all → picked ≡ fewer
       → positions_of (keep_from (used_by fs t.refs) 0 t.arcs) - positions_of (keep_from (used_by fs t.refs) 0 picked) ≡ assembled_taken_out kept ls
   unfolding assembled_taken_out taken_out_by lessened_by trimmed
-  is_taken_out zero sound fs picked of_fates of_picked =
-      ap (λ u. positions_of (keep_from u 0 t.arcs) - positions_of (keep_from u 0 picked)) (used_are fs of_fates)
-      ∙ ap (λ arcs. positions_of (keep_from used 0 t.arcs) - positions_of (keep_from used 0 arcs)) of_picked
-      ∙ ap (λ arcs. positions_of (keep_from used 0 arcs) - positions_of (keep_from used 0 fewer)) (table_arcs ls t is ∙ sym (each_stays zero (arcs_of_layers ls)))
-      ∙ sym (ap (λ y. positions_of (keep_from (is_used y.objects) 0 (untrimmed 0 ls).arcs) - positions_of (trimmed y).arcs) (left_whole zero sound))
+  is_taken_out zero sound fs picked of_fates of_picked = grind (arith, used_are fs of_fates, table_arcs ls t is, each_stays zero (arcs_of_layers ls), left_whole zero sound)

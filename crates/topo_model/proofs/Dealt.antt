@@ -10,28 +10,17 @@ use Rattle.topo_model.specs.Fates.{is_collapsed, is_small, first, dealt, entry_b
 
 -- what has no line takes none
 none_dealt : {X : Type 0} (f : Option Cause) (fs : List (Option Cause)) (xs : List X) (some : Bool) → (some ≡ false → xs ≡ []) → (not (is_collapsed f) && some) ≡ false → dealt (f ∷ fs) xs ≡ (f, None) ∷ dealt fs xs
-none_dealt f fs xs some empty lacks = on (is_collapsed f) some lacks empty
-  where
-    on : (b s : Bool) → (not b && s) ≡ false → (s ≡ false → xs ≡ []) → cond b ((f, None) ∷ dealt fs xs) ((f, first xs) ∷ dealt fs (tail xs)) ≡ (f, None) ∷ dealt fs xs
-    on true s lacks empty = refl
-    on false true lacks empty = cc
-    on false false lacks empty = let none = empty refl in ap (λ zs. (f, first zs) ∷ dealt fs (tail zs)) none ∙ ap (λ zs. (f, None) ∷ dealt fs zs) (sym none)
+none_dealt f fs xs some empty lacks = grind arith
 
 one_dealt : {X : Type 0} (f : Option Cause) (fs : List (Option Cause)) (x : X) (xs : List X) (some : Bool) → (not (is_collapsed f) && some) ≡ true → dealt (f ∷ fs) (x ∷ xs) ≡ (f, Some x) ∷ dealt fs xs
-one_dealt f fs x xs some has = on (is_collapsed f) has
-  where
-    on : (b : Bool) → (not b && some) ≡ true → cond b ((f, None) ∷ dealt fs (x ∷ xs)) ((f, Some x) ∷ dealt fs xs) ≡ (f, Some x) ∷ dealt fs xs
-    on true has = cc
-    on false has = refl
+one_dealt f fs x xs some has = grind arith
 
 next_fate : (fs : List (Option Cause)) (i : ℕ) (d f : Option Cause) → i < length fs → f ≡ get_or fs i d → drop i fs ≡ f ∷ drop (i + 1) fs
 next_fate fs i d f lt is = drop_more fs i d lt ∙ ap (λ g. g ∷ drop (i + 1) fs) (sym is)
 
 pub dealt_none : {X : Type 0} (fs : List (Option Cause)) (xs : List X) (i next : ℕ) (d f : Option Cause) → i < length fs → f ≡ get_or fs i d → (not (is_collapsed f) && nat_lt next (length xs)) ≡ false
     → dealt (drop i fs) (drop next xs) ≡ (f, None) ∷ dealt (drop (i + 1) fs) (drop next xs)
-dealt_none fs xs i next d f lt is lacks =
-    ap (λ gs. dealt gs (drop next xs)) (next_fate fs i d f lt is)
-    ∙ none_dealt f (drop (i + 1) fs) (drop next xs) (nat_lt next (length xs)) (λ e. let le : length xs ≤ next = grind (arith, nat_tests) in drop_all next xs le) lacks
+dealt_none fs xs i next d f lt is lacks = grind (arith, next_fate fs i d f lt is, none_dealt f (drop (i + 1) fs) (drop next xs) (nat_lt next (length xs)), drop_all next xs)
 
 pub dealt_one : {X : Type 0} (fs : List (Option Cause)) (xs : List X) (i next : ℕ) (d f : Option Cause) (x : X) → i < length fs → f ≡ get_or fs i d → (not (is_collapsed f) && nat_lt next (length xs)) ≡ true
     → slice_get xs next ≡ Some x → dealt (drop i fs) (drop next xs) ≡ (f, Some x) ∷ dealt (drop (i + 1) fs) (drop (next + 1) xs)
@@ -54,23 +43,15 @@ module _ {X Y : Type 0} (made : Option Cause × Option X → Option Y) where
 
   pub entry_none : (fs : List (Option Cause)) (xs : List X) (i next : ℕ) (d f : Option Cause) (now new whole : List (Option Y)) → i < length fs → f ≡ get_or fs i d
       → (not (is_collapsed f) && nat_lt next (length xs)) ≡ false → new ≡ now ++ made (f, None) ∷ [] → Makes fs xs i next now whole → Makes fs xs (i + 1) next new whole
-  entry_none fs xs i next d f now new whole lt is lacks e k =
-      let rest = map made (dealt (drop (i + 1) fs) (drop next xs)) in
-      ap (λ es. es ++ rest) e ∙ append_assoc now (made (f, None) ∷ []) rest ∙ ap (λ ds. now ++ map made ds) (sym (dealt_none fs xs i next d f lt is lacks)) ∙ k
+  entry_none fs xs i next d f now new whole lt is lacks e k = grind (arith, append_assoc, dealt_none)
 
   pub entry_some : (fs : List (Option Cause)) (xs : List X) (i next : ℕ) (d f : Option Cause) (x : X) (now new whole : List (Option Y)) → i < length fs → f ≡ get_or fs i d
       → (not (is_collapsed f) && nat_lt next (length xs)) ≡ true → slice_get xs next ≡ Some x → new ≡ now ++ made (f, Some x) ∷ [] → Makes fs xs i next now whole → Makes fs xs (i + 1) (next + 1) new whole
-  entry_some fs xs i next d f x now new whole lt is has got e k =
-      let rest = map made (dealt (drop (i + 1) fs) (drop (next + 1) xs)) in
-      ap (λ es. es ++ rest) e ∙ append_assoc now (made (f, Some x) ∷ []) rest ∙ ap (λ ds. now ++ map made ds) (sym (dealt_one fs xs i next d f x lt is has got)) ∙ k
+  entry_some fs xs i next d f x now new whole lt is has got e k = grind (arith, append_assoc now (made (f, Some x) ∷ []), dealt_one fs xs i next d f x lt is has got)
 
   pub entries_all : (fs : List (Option Cause)) (xs : List X) (i next : ℕ) (now whole : List (Option Y)) → length fs ≤ i → Makes fs xs i next now whole → now ≡ whole
   entries_all fs xs i next now whole le k = sym (ap (λ gs. now ++ map made (dealt gs (drop next xs))) (drop_all i fs le) ∙ append-nil now) ∙ k
 
 -- nothing stands for a line or ring without arc indexes
 pub nothing_by : (u : ℕ → Bool) (f : Option Cause) → None ≡ entry_by u (f, None)
-nothing_by u f = on (is_small f)
-  where
-    on : (b : Bool) → None ≡ cond b None (map_some {A = List ℤ} (map (renumbered u)) None)
-    on true = refl
-    on false = refl
+nothing_by u f = grind arith

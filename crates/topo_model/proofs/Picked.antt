@@ -1,5 +1,5 @@
 -- Positions that are picked one after the other.
-use Rattle.std.proofs.Common.{◌≡◌, ℕ, ◌+◌, ◌<◌, ◌≤◌, List, [], ◌∷◌, ◌++◌, map, drop, length, get_or, slice_get, append_assoc, Some, sym, ap, ◌∙◌}
+use Rattle.std.proofs.Common.{arith, ◌≡◌, ℕ, ◌+◌, ◌<◌, ◌≤◌, List, [], ◌∷◌, ◌++◌, map, drop, length, get_or, slice_get, append_assoc, Some, sym, ap, ◌∙◌}
 use Rattle.std.proofs.lemmas.List.{drop_more}
 use Rattle.std.proofs.lemmas.Option.{slice_get_past, slice_get_within, get_or_from_slice_get}
 use Rattle.arc_choice.proofs.Passed.{at_got}
@@ -16,16 +16,11 @@ next_number : (ns : List ℕ) (i d n : ℕ) → i < length ns → n ≡ get_or n
 next_number ns i d n lt is = drop_more ns i d lt ∙ ap (λ m. m ∷ drop (i + 1) ns) (sym is)
 
 pub pick_none : (ns : List ℕ) (ps : List Point) (i d n : ℕ) (now : List Point) → i < length ns → n ≡ get_or ns i d → length ps ≤ n → Picks ns ps i now → Picks ns ps (i + 1) now
-pick_none ns ps i d n now lt is past so_far =
-    ap (λ o. now ++ with_some o (picked (drop (i + 1) ns) ps)) (sym (at_got ps n ∙ slice_get_past ps n past))
-    ∙ ap (λ ms. now ++ picked ms ps) (sym (next_number ns i d n lt is)) ∙ so_far
+pick_none ns ps i d n now lt is past so_far = grind (arith, at_got ps n, slice_get_past ps n past, next_number ns i d n lt is)
 
 pub pick_some : (ns : List ℕ) (ps : List Point) (i d n : ℕ) (p : Point) (now new : List Point) → i < length ns → n ≡ get_or ns i d → slice_get ps n ≡ Some p → new ≡ now ++ p ∷ [] → Picks ns ps i now
     → Picks ns ps (i + 1) new
-pick_some ns ps i d n p now new lt is got e so_far =
-    ap (λ xs. xs ++ picked (drop (i + 1) ns) ps) e ∙ append_assoc now (p ∷ []) (picked (drop (i + 1) ns) ps)
-    ∙ ap (λ o. now ++ with_some o (picked (drop (i + 1) ns) ps)) (sym (at_got ps n ∙ got))
-    ∙ ap (λ ms. now ++ picked ms ps) (sym (next_number ns i d n lt is)) ∙ so_far
+pick_some ns ps i d n p now new lt is got e so_far = grind (arith, append_assoc, at_got, next_number)
 
 -- ---- all arcs
 

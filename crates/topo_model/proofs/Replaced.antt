@@ -1,5 +1,5 @@
 -- What replacing the lines of a part of a shape says of the shape.
-use Rattle.std.proofs.Common.{◌≡◌, ℕ, ◌≤◌, ℤ, Bool, true, false, List, [], ◌∷◌, ◌++◌, map, length, Option, None, Some, refl, sym, ap, ◌∙◌}
+use Rattle.std.proofs.Common.{arith, ◌≡◌, ℕ, ◌≤◌, ℤ, Bool, true, false, List, [], ◌∷◌, ◌++◌, map, length, Option, None, Some, refl, sym, ap, ◌∙◌}
 use Rattle.std.proofs.lemmas.List.{map-id}
 use Rattle.geometry.specs.declared.shape.Geometry.TheVariants as g
 use Rattle.geojson_types.specs.Features.{Shape}
@@ -28,30 +28,21 @@ given s entries rest made got e r = rw e r
 
 again : {Y : Type 0} (s : Shape) (ls : List (Bool × List Point)) (made : Kept → Y) (finish : Y → Option TopoShape) (entries rest : Entries) (y : Y) → strokes s ≡ ls
     → ((kept : Kept) → pruned kept s ≡ finish (made kept)) → Replaces ls made entries y rest → Shaped s entries (finish y) rest
-again s ls made finish entries rest y e same r kept tail h =
-    let k = r kept tail (h ∙ ap (λ zs. entries_of kept zs ++ tail) e) in
-    (ap finish k.0 ∙ sym (same kept), k.1)
+again s ls made finish entries rest y e same r kept tail h = grind arith
 
 pub at_point : (s : Shape) (p q : Point) (entries : Entries) → s ≡ g.Point p → q ≡ p → Shaped s entries (Some (g.Point q)) entries
-at_point s p q entries e is kept tail h =
-    (ap (λ z. Some (g.Point z)) is ∙ sym (ap (pruned kept) e ∙ prune-point (λ p. p) kept p), h ∙ ap (λ zs. entries_of kept zs ++ tail) (ap strokes e ∙ strokes-point Point (List Point) p))
+at_point s p q entries e is kept tail h = grind (arith, prune-point, strokes-point)
 
 pub at_points : (s : Shape) (ps qs : List Point) (entries : Entries) → s ≡ g.MultiPoint ps → qs ≡ ps → Shaped s entries (Some (g.MultiPoint qs)) entries
 at_points s ps qs entries e is kept tail h =
     (ap (λ z. Some (g.MultiPoint z)) (is ∙ sym (map-id ps)) ∙ sym (ap (pruned kept) e ∙ prune-points (λ p. p) kept ps), h ∙ ap (λ zs. entries_of kept zs ++ tail) (ap strokes e ∙ strokes-points Point (List Point) ps))
 
 pub at_line : (s : Shape) (l : List Point) (entries rest : Entries) (o : Option (List ℤ)) (out : Out) → s ≡ g.Line l → Taken false l entries o rest → out ≡ map_some g.Line o → Shaped s entries out rest
-at_line s l entries rest o out e r is =
-    given s entries rest (map_some g.Line o) out is
-    (again s ((false, l) ∷ []) (λ kept. kept false l) (map_some g.Line) entries rest o (ap strokes e ∙ strokes-line Point (List Point) l)
-    (λ kept. ap (pruned kept) e ∙ prune-line (λ p. p) kept l) r)
+at_line s l entries rest o out e r is = grind (arith, given, again, strokes-line, prune-line)
 
 pub at_lines : (s : Shape) (ls : List (List Point)) (entries rest : Entries) (got : List (List ℤ)) (out : Out) → s ≡ g.Lines ls
     → Replaces (map (λ l. (false, l)) ls) (λ kept. some_of (kept false) ls) entries got rest → out ≡ unless_empty g.Lines got → Shaped s entries out rest
-at_lines s ls entries rest got out e r is =
-    given s entries rest (unless_empty g.Lines got) out is
-    (again s (tagged false ls) (λ kept. some_of (kept false) ls) (unless_empty g.Lines) entries rest got (ap strokes e ∙ strokes-lines Point (List Point) ls)
-    (λ kept. ap (pruned kept) e ∙ prune-lines (λ p. p) kept ls) r)
+at_lines s ls entries rest got out e r is = grind (arith, given, again, strokes-lines, prune-lines)
 
 pub at_area : (s : Shape) (rs : List (List Point)) (entries rest : Entries) (got : Option (List (List ℤ))) (out : Out) → s ≡ g.Area rs
     → Replaces (map (λ l. (true, l)) rs) (λ kept. area_by (kept true) rs) entries got rest → out ≡ map_some g.Area got → Shaped s entries out rest

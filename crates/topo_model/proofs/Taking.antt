@@ -40,12 +40,7 @@ one_kept : (entries : Entries) (i : ℕ) → some_of (λ e. e) (take (suc i) ent
 one_kept [] zero = refl
 one_kept [] (suc i) = refl
 one_kept (e ∷ es) zero = refl
-one_kept (e ∷ es) (suc i) = on e (one_kept es i)
-  where
-    on : (o : Option (List ℤ)) → some_of (λ e. e) (take (suc i) es) ≡ some_of (λ e. e) (take i es) ++ with_some (next_of (drop i es)) []
-        → with_some o (some_of (λ e. e) (take (suc i) es)) ≡ with_some o (some_of (λ e. e) (take i es)) ++ with_some (next_of (drop i es)) []
-    on None ih = ih
-    on (Some refs) ih = ap (λ zs. refs ∷ zs) ih
+one_kept (e ∷ es) (suc i) = grind (arith, one_kept es i)
 
 tail_drop : {A : Type 0} (xs : List A) (i : ℕ) → tail (drop i xs) ≡ drop (suc i) xs
 tail_drop [] zero = refl
@@ -59,11 +54,7 @@ KeptOf entries i got rest = (got ≡ some_of (λ e. e) (take i entries)) × (res
 
 pub entry_more : (entries : Entries) (i : ℕ) (got new : List (List ℤ)) (rest after : Entries) (o : Option (List ℤ)) → KeptOf entries i got rest → o ≡ next_of rest → after ≡ tail rest → new ≡ got ++ with_some o []
     → KeptOf entries (i + 1) new after
-entry_more entries i got new rest after o so_far is behind e =
-    let next : suc i ≡ i + 1 = omega arith in (
-      e ∙ ap (λ z. got ++ with_some z []) (is ∙ ap next_of so_far.1) ∙ ap (λ zs. zs ++ with_some (next_of (drop i entries)) []) so_far.0 ∙ sym (one_kept entries i) ∙ ap (λ n. some_of (λ e. e) (take n entries)) next,
-      behind ∙ ap tail so_far.1 ∙ tail_drop entries i ∙ ap (λ n. drop n entries) next,
-    )
+entry_more entries i got new rest after o so_far is behind e = grind (arith, one_kept, tail_drop)
 
 front_kept : (kept : Kept) (closed : Bool) (ls : List (List Point)) (tail : Entries)
     → some_of (λ e. e) (take (length ls) (entries_of kept (tagged closed ls) ++ tail)) ≡ some_of (kept closed) ls
@@ -76,10 +67,7 @@ front_dropped kept closed (l ∷ ls) tail = front_dropped kept closed ls tail
 
 pub many_taken : (closed : Bool) (ls : List (List Point)) (entries : Entries) (got : List (List ℤ)) (rest : Entries) → got ≡ some_of (λ e. e) (take (length ls) entries) → rest ≡ drop (length ls) entries
     → Replaces (tagged closed ls) (λ kept. some_of (kept closed) ls) entries got rest
-many_taken closed ls entries got rest is behind kept tail h = (
-  is ∙ ap (λ es. some_of (λ e. e) (take (length ls) es)) h ∙ front_kept kept closed ls tail,
-  behind ∙ ap (drop (length ls)) h ∙ front_dropped kept closed ls tail,
-)
+many_taken closed ls entries got rest is behind kept tail h = grind (arith, front_kept, front_dropped)
 
 -- ---- lines and polygons
 

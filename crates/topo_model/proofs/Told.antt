@@ -1,5 +1,5 @@
 -- What is told of lines and rings, part by part, feature by feature and layer by layer.
-use Rattle.std.proofs.Common.{slice_get, None, Some, ◌≡◌, ℕ, ℤ, suc, ◌+◌, ◌<◌, ◌≤◌, Bool, true, false, cond, List, [], ◌∷◌, ◌++◌, map, drop, length, Option, get_or, append_assoc, append-nil, refl, ap, sym, ◌∙◌, subst, arith}
+use Rattle.std.proofs.Common.{rules, slice_get, None, Some, ◌≡◌, ℕ, ℤ, suc, ◌+◌, ◌<◌, ◌≤◌, Bool, true, false, cond, List, [], ◌∷◌, ◌++◌, map, drop, length, Option, get_or, append_assoc, append-nil, refl, ap, sym, ◌∙◌, subst, arith}
 use Rattle.std.proofs.lemmas.List.{drop_all, drop_more, map-append}
 use Rattle.std.proofs.lemmas.Option.{slice_get_within, get_or_from_slice_get}
 use Rattle.arc_choice.specs.Places.{dropped_at}
@@ -39,12 +39,7 @@ Line = Bool × List Point
 
 pub long_append : (of : RefsOf) (bs cs : List Line) → long_refs of (bs ++ cs) ≡ long_refs of bs ++ long_refs of cs
 long_append of [] cs = refl
-long_append of (b ∷ bs) cs = on (is_short b.0 (clean b.1)) (long_append of bs cs)
-  where
-    on : (c : Bool) → long_refs of (bs ++ cs) ≡ long_refs of bs ++ long_refs of cs
-        → cond c (long_refs of (bs ++ cs)) (of b.0 b.1 ∷ long_refs of (bs ++ cs)) ≡ cond c (long_refs of bs) (of b.0 b.1 ∷ long_refs of bs) ++ long_refs of cs
-    on true ih = ih
-    on false ih = ap (λ l. of b.0 b.1 ∷ l) ih
+long_append of (b ∷ bs) cs = grind (arith, long_append of bs cs)
 
 -- before anything is told
 abbrev pub nothing_told : Told
@@ -56,16 +51,11 @@ module _ (refs : List (List ℤ)) where
 
   pub tells_as : (l m : List Line) (c d : RefsOf → List (Option Cause)) (e f : RefsOf → List Dropped) (old new : Told) → l ≡ m → ((of : RefsOf) → c of ≡ d of) → ((of : RefsOf) → e of ≡ f of)
       → Tells refs l c e old new → Tells refs m d f old new
-  tells_as l m c d e f old new same same_causes same_dropped tells of rest h =
-      let k = tells of rest (h ∙ ap (λ x. long_refs of x ++ rest) (sym same)) in
-      (k.0, k.1 ∙ ap (λ x. old.causes ++ x) (same_causes of), k.2 ∙ ap (λ x. old.dropped ++ x) (same_dropped of))
+  tells_as l m c d e f old new same same_causes same_dropped tells of rest h = grind arith
 
   tells_then : (l m : List Line) (c d : RefsOf → List (Option Cause)) (e f : RefsOf → List Dropped) (old now new : Told) → Tells refs l c e old now → Tells refs m d f now new
       → Tells refs (l ++ m) (λ of. c of ++ d of) (λ of. e of ++ f of) old new
-  tells_then l m c d e f old now new one two of rest h =
-      let j = one of (long_refs of m ++ rest) (h ∙ ap (λ x. x ++ rest) (long_append of l m) ∙ append_assoc (long_refs of l) (long_refs of m) rest) in
-      let k = two of rest j.0 in
-      (k.0, k.1 ∙ ap (λ x. x ++ d of) j.1 ∙ append_assoc old.causes (c of) (d of), k.2 ∙ ap (λ x. x ++ f of) j.2 ∙ append_assoc old.dropped (e of) (f of))
+  tells_then l m c d e f old now new one two of rest h = grind (arith, long_append, append_assoc)
 
 -- ---- one line or ring
 
@@ -74,19 +64,10 @@ pub part_told : (refs : List (List ℤ)) (arcs : List (List Point)) (closed : Bo
     → IsOwnCause refs arcs closed ps old.next mid.next cause → mid.causes ≡ old.causes → mid.dropped ≡ old.dropped
     → new.causes ≡ mid.causes ++ g cause ∷ [] → new.dropped ≡ mid.dropped ++ drops (g cause) → new.next ≡ mid.next
     → Tells refs ((closed, ps) ∷ []) (λ of. g (line_cause arcs of closed ps) ∷ []) (λ of. drops (g (line_cause arcs of closed ps))) old new
-part_told refs arcs closed ps g drops old mid new cause own same_causes same_dropped causes dropped next of rest h =
-    let k = own of rest h in (
-      ap (λ n. drop n refs) next ∙ k.0,
-      causes ∙ ap (λ x. x ++ g cause ∷ []) same_causes ∙ ap (λ w. old.causes ++ g w ∷ []) k.1,
-      dropped ∙ ap (λ x. x ++ drops (g cause)) same_dropped ∙ ap (λ w. old.dropped ++ drops (g w)) k.1,
-    )
+part_told refs arcs closed ps g drops old mid new cause own same_causes same_dropped causes dropped next of rest h = grind arith
 
 first_is : {X : Type 0} (x y : X) (xs ys : List X) → x ∷ xs ≡ y ∷ ys → x ≡ y
-first_is x y xs ys e = ap (or_first x) e
-  where
-    or_first : {X : Type 0} → X → List X → X
-    or_first d [] = d
-    or_first d (z ∷ zs) = z
+first_is x y xs ys e = grind arith
 
 -- it is rebuilt by the next arc indexes
 pub own_long : (refs : List (List ℤ)) (arcs : List (List Point)) (closed : Bool) (ps : List Point) (n new : ℕ) (line : List ℤ) (small : Bool) (cause : Option Cause) → is_short closed (clean ps) ≡ false
@@ -254,35 +235,19 @@ module _ (refs : List (List ℤ)) (arcs : List (List Point)) (a : Address) (s : 
   of_kind : (lines : List Line) (causes : RefsOf → List (Option Cause)) (dropped : RefsOf → List Dropped) → strokes s ≡ lines
       → ((of : RefsOf) → fates (line_cause arcs of) (candidates (line_cause arcs of true) s) ≡ causes of) → ((of : RefsOf) → dropped_at a (omissions (line_cause arcs of) s) ≡ dropped of)
       → Tells refs lines causes dropped old new → TellsShape refs arcs a s old new
-  of_kind lines causes dropped l c d =
-      tells_as refs lines (strokes s) causes (λ of. fates (line_cause arcs of) (candidates (line_cause arcs of true) s)) dropped (λ of. dropped_at a (omissions (line_cause arcs of) s)) old new
-      (sym l) (λ of. sym (c of)) (λ of. sym (d of))
+  of_kind lines causes dropped l c d = grind (arith, tells_as)
 
   pub at_point : (p : Point) → s ≡ g.Point p → new ≡ old → TellsShape refs arcs a s old new
-  at_point p is same =
-      of_kind [] (λ of. []) (λ of. []) (ap strokes is ∙ strokes-point Point (List Point) p)
-      (λ of. ap (λ s. fates (line_cause arcs of) (candidates (line_cause arcs of true) s)) is ∙ ap (fates (line_cause arcs of)) ((candidates_at Point (List Point) (line_cause arcs of true)).point p))
-      (λ of. ap (λ s. dropped_at a (omissions (line_cause arcs of) s)) is ∙ ap (dropped_at a) ((omissions_at Point (List Point) (line_cause arcs of)).point p))
-      (subst (λ t. Tells refs [] (λ of. []) (λ of. []) old t) (sym same) (tells_nothing refs old))
+  at_point p is same = search (rules, of_kind, strokes-point, candidates_at, omissions_at, tells_nothing)
 
   pub at_points : (ps : List Point) → s ≡ g.MultiPoint ps → new ≡ old → TellsShape refs arcs a s old new
-  at_points ps is same =
-      of_kind [] (λ of. []) (λ of. []) (ap strokes is ∙ strokes-points Point (List Point) ps)
-      (λ of. ap (λ s. fates (line_cause arcs of) (candidates (line_cause arcs of true) s)) is ∙ ap (fates (line_cause arcs of)) ((candidates_at Point (List Point) (line_cause arcs of true)).points ps))
-      (λ of. ap (λ s. dropped_at a (omissions (line_cause arcs of) s)) is ∙ ap (dropped_at a) ((omissions_at Point (List Point) (line_cause arcs of)).points ps))
-      (subst (λ t. Tells refs [] (λ of. []) (λ of. []) old t) (sym same) (tells_nothing refs old))
+  at_points ps is same = search (rules, of_kind, strokes-points, candidates_at, omissions_at, tells_nothing)
 
   pub at_line : (l : List Point) → s ≡ g.Line l → Tells refs ((false, l) ∷ []) (λ of. line_cause arcs of false l ∷ []) (λ of. dropped_at a (here (line_cause arcs of false l))) old new → TellsShape refs arcs a s old new
-  at_line l is =
-      of_kind ((false, l) ∷ []) (λ of. line_cause arcs of false l ∷ []) (λ of. dropped_at a (here (line_cause arcs of false l))) (ap strokes is ∙ strokes-line Point (List Point) l)
-      (λ of. ap (λ s. fates (line_cause arcs of) (candidates (line_cause arcs of true) s)) is ∙ ap (fates (line_cause arcs of)) ((candidates_at Point (List Point) (line_cause arcs of true)).line l))
-      (λ of. ap (λ s. dropped_at a (omissions (line_cause arcs of) s)) is ∙ ap (dropped_at a) ((omissions_at Point (List Point) (line_cause arcs of)).line l))
+  at_line l is = grind (arith, of_kind, strokes-line, candidates_at, omissions_at)
 
   pub at_lines : (ls : List (List Point)) → s ≡ g.Lines ls → TellsAll (line_parts arcs a) refs 0 ls old new → TellsShape refs arcs a s old new
-  at_lines ls is =
-      of_kind (map (λ l. (false, l)) ls) (λ of. fates (line_cause arcs of) (map (free false) ls)) (λ of. dropped_at a (of_parts 0 (map (λ l. here (line_cause arcs of false l)) ls))) (ap strokes is ∙ strokes-lines Point (List Point) ls)
-      (λ of. ap (λ s. fates (line_cause arcs of) (candidates (line_cause arcs of true) s)) is ∙ ap (fates (line_cause arcs of)) ((candidates_at Point (List Point) (line_cause arcs of true)).lines ls))
-      (λ of. ap (λ s. dropped_at a (omissions (line_cause arcs of) s)) is ∙ ap (dropped_at a) ((omissions_at Point (List Point) (line_cause arcs of)).lines ls))
+  at_lines ls is = grind (arith, of_kind, strokes-lines, candidates_at, omissions_at)
 
   pub at_area : (rs : List (List Point)) → s ≡ g.Area rs → Tells refs (map (λ l. (true, l)) rs) (λ of. fates (line_cause arcs of) (area_candidates (line_cause arcs of true) rs))
       (λ of. dropped_at a (area_omissions (line_cause arcs of true) rs)) old new → TellsShape refs arcs a s old new
@@ -299,11 +264,7 @@ module _ (refs : List (List ℤ)) (arcs : List (List Point)) (a : Address) (s : 
       (λ of. ap (λ s. dropped_at a (omissions (line_cause arcs of) s)) is ∙ ap (dropped_at a) ((omissions_at Point (List Point) (line_cause arcs of)).areas areas))
 
   pub at_group : (ss : List Shape) → s ≡ g.Group ss → TellsAll (shape_parts arcs a) refs 0 ss old new → TellsShape refs arcs a s old new
-  at_group ss is =
-      of_kind (joined (map strokes ss)) (λ of. fates (line_cause arcs of) (joined (map (candidates (line_cause arcs of true)) ss)))
-      (λ of. dropped_at a (of_parts 0 (map (omissions (line_cause arcs of)) ss))) (ap strokes is ∙ strokes-group Point (List Point) ss)
-      (λ of. ap (λ s. fates (line_cause arcs of) (candidates (line_cause arcs of true) s)) is ∙ ap (fates (line_cause arcs of)) ((candidates_at Point (List Point) (line_cause arcs of true)).group ss))
-      (λ of. ap (λ s. dropped_at a (omissions (line_cause arcs of) s)) is ∙ ap (dropped_at a) ((omissions_at Point (List Point) (line_cause arcs of)).group ss))
+  at_group ss is = grind (arith, of_kind, strokes-group, candidates_at, omissions_at)
 
 -- ---- features and layers
 
@@ -314,12 +275,10 @@ TellsOption refs arcs a o old new =
 
 pub shape_told : (refs : List (List ℤ)) (arcs : List (List Point)) (a b : Address) (o : Option Shape) (s : Shape) (old mid new : Told) → Some s ≡ o → a ≡ b → new ≡ mid → TellsShape refs arcs a s old mid
     → TellsOption refs arcs b o old new
-shape_told refs arcs a b o s old mid new e at same k =
-    subst (λ o. TellsOption refs arcs b o old new) e (subst (λ c. TellsShape refs arcs c s old new) at (subst (λ t. TellsShape refs arcs a s old t) (sym same) k))
+shape_told refs arcs a b o s old mid new e at same k = grind arith
 
 pub null_told : (refs : List (List ℤ)) (arcs : List (List Point)) (a : Address) (o : Option Shape) (old new : Told) → None ≡ o → new ≡ old → TellsOption refs arcs a o old new
-null_told refs arcs a o old new e same =
-    subst (λ o. TellsOption refs arcs a o old new) e (subst (λ t. Tells refs [] (λ of. []) (λ of. []) old t) (sym same) (tells_nothing refs old))
+null_told refs arcs a o old new e same = search (rules, tells_nothing)
 
 -- what is told of the features of a layer
 abbrev pub TellsFeatures : List (List ℤ) → List (List Point) → ℕ → List Featured → Told → Told → Type 0

@@ -1,14 +1,12 @@
 -- Lists of what is kept of the elements of another one, from the front on.
-use Rattle.std.proofs.Common.{◌≡◌, List, [], ◌∷◌, ◌++◌, map, Option, None, Some, append_assoc, append-nil, sym, ap, ◌∙◌}
+use Rattle.std.proofs.Common.{arith, ◌≡◌, List, [], ◌∷◌, ◌++◌, map, Option, None, Some, append_assoc, append-nil, sym, ap, ◌∙◌}
 use Rattle.std.proofs.lemmas.List.{map-append}
 use Rattle.build_meaning.proofs.Candidates.{some_append}
 use Rattle.list_laws.specs.Lists.{with_some, some_of}
 
 pub some_more : {A B : Type 0} (f : A → Option B) (front now new : List B) (xs : List A) (x : A) (o : Option B) → now ≡ front ++ some_of f xs → o ≡ f x → new ≡ now ++ with_some o []
     → new ≡ front ++ some_of f (xs ++ x ∷ [])
-some_more f front now new xs x o so is e =
-    e ∙ ap (λ w. now ++ with_some w []) is ∙ ap (λ ys. ys ++ with_some (f x) []) so ∙ append_assoc front (some_of f xs) (with_some (f x) [])
-    ∙ ap (λ ys. front ++ ys) (sym (some_append f xs (x ∷ [])))
+some_more f front now new xs x o so is e = grind (arith, append_assoc, some_append)
 
 pub none_more : {A B : Type 0} (f : A → Option B) (front now : List B) (xs : List A) (x : A) (o : Option B) → now ≡ front ++ some_of f xs → o ≡ f x → o ≡ None
     → now ≡ front ++ some_of f (xs ++ x ∷ [])

@@ -1,5 +1,5 @@
 -- The arcs that shapes, features and objects use, part by part.
-use Rattle.std.proofs.Common.{◌≡◌, ℕ, ◌≤◌, ℤ, Bool, true, false, ◌||◌, List, [], ◌∷◌, map, length, take, append-nil, Option, None, Some, refl, sym, ap, ◌∙◌}
+use Rattle.std.proofs.Common.{arith, ◌≡◌, ℕ, ◌≤◌, ℤ, Bool, true, false, ◌||◌, List, [], ◌∷◌, map, length, take, append-nil, Option, None, Some, refl, sym, ap, ◌∙◌}
 use Rattle.std.specs.List.{list_any}
 use Rattle.std.proofs.Math.Bool.{or-false}
 use Rattle.std.proofs.lemmas.List.{take_all}
@@ -39,9 +39,7 @@ of_tagged closed n (l ∷ ls) = ap (λ b. names_arc l n || b) (of_tagged closed 
 
 of_rings : (n : ℕ) (areas : List (List (List ℤ))) → any_uses (joined (map (map (λ l. (true, l))) areas)) n ≡ list_any (λ rs. list_any (λ l. names_arc l n) rs) areas
 of_rings n [] = refl
-of_rings n (rs ∷ areas) =
-    list_any-append (λ b. names_arc b.1 n) (map (λ l. (true, l)) rs) (joined (map (map (λ l. (true, l))) areas))
-    ∙ ap (λ b. b || any_uses (joined (map (map (λ l. (true, l))) areas)) n) (of_tagged true n rs) ∙ ap (λ b. list_any (λ l. names_arc l n) rs || b) (of_rings n areas)
+of_rings n (rs ∷ areas) = grind (arith, list_any-append, of_tagged true n rs, of_rings n areas)
 
 same_uses : (s : TopoShape) (bs : List (Bool × List ℤ)) (p : ℕ → Bool) (old new : List Bool) → strokes s ≡ bs → ((n : ℕ) → any_uses bs n ≡ p n) → new ≡ also_set p 0 old → new ≡ also_set (any_uses (strokes s)) 0 old
 same_uses s bs p old new e h k = k ∙ also_same p (any_uses (strokes s)) 0 old (λ n. sym (h n) ∙ ap (λ cs. any_uses cs n) (sym e))
@@ -66,8 +64,7 @@ at_area s rs old new e k = same_uses s (map (λ l. (true, l)) rs) (λ n. list_an
 
 pub at_areas : (s : TopoShape) (areas : List (List (List ℤ))) (old new : List Bool) → s ≡ g.Areas areas → new ≡ also_set (λ n. list_any (λ rs. list_any (λ l. names_arc l n) rs) areas) 0 old
     → new ≡ also_set (any_uses (strokes s)) 0 old
-at_areas s areas old new e k =
-    same_uses s (joined (map (map (λ l. (true, l))) areas)) (λ n. list_any (λ rs. list_any (λ l. names_arc l n) rs) areas) old new (ap strokes e ∙ strokes-areas Point (List ℤ) areas) (λ n. of_rings n areas) k
+at_areas s areas old new e k = grind (arith, same_uses, strokes-areas, of_rings)
 
 pub at_group : (s : TopoShape) (ss : List TopoShape) (old new : List Bool) → s ≡ g.Group ss → new ≡ also_set (any_uses (joined (map strokes ss))) 0 old → new ≡ also_set (any_uses (strokes s)) 0 old
 at_group s ss old new e k = same_uses s (joined (map strokes ss)) (any_uses (joined (map strokes ss))) old new (ap strokes e ∙ strokes-group Point (List ℤ) ss) (λ n. refl) k

@@ -33,12 +33,7 @@ picked_one cells now new ns i d cell lt got so e =
 
 pub arcs_more : {K : Type 0} (numbers : K → List ℕ) (ks : List K) (arcs made new whole : List (List Point)) (i : ℕ) (k : K) (a p : List Point) → i < length ks → length ks ≡ length arcs → k ≡ get_or ks i k → a ≡ get_or arcs i a
     → made ++ picked_arcs (map numbers (drop i ks)) (drop i arcs) ≡ whole → p ≡ picked (numbers k) a → new ≡ made ++ p ∷ [] → new ++ picked_arcs (map numbers (drop (i + 1) ks)) (drop (i + 1) arcs) ≡ whole
-arcs_more numbers ks arcs made new whole i k a p lt many is of so e pushed =
-    let lt_arcs : i < length arcs = omega (arith, lt, many) in
-    let rest = picked_arcs (map numbers (drop (i + 1) ks)) (drop (i + 1) arcs) in
-    ap (λ ys. ys ++ rest) (pushed ∙ ap (λ q. made ++ q ∷ []) e) ∙ append_assoc made (picked (numbers k) a ∷ []) rest
-    ∙ ap (λ l. made ++ picked_arcs (map numbers l) (a ∷ drop (i + 1) arcs)) (sym (drop_here ks i k lt is))
-    ∙ ap (λ l. made ++ picked_arcs (map numbers (drop i ks)) l) (sym (drop_here arcs i a lt_arcs of)) ∙ so
+arcs_more numbers ks arcs made new whole i k a p lt many is of so e pushed = grind (arith, append_assoc, drop_here)
 
 pub arcs_all : {K : Type 0} (numbers : K → List ℕ) (ks : List K) (arcs made whole : List (List Point)) (i : ℕ) → length ks ≤ i → made ++ picked_arcs (map numbers (drop i ks)) (drop i arcs) ≡ whole → made ≡ whole
 arcs_all numbers ks arcs made whole i le so = sym (append-nil made) ∙ ap (λ l. made ++ picked_arcs (map numbers l) (drop i arcs)) (sym (drop_all i ks le)) ∙ so

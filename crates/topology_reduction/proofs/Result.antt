@@ -1,5 +1,5 @@
 -- The topology that is put together is the one that is left.
-use Rattle.std.proofs.Common.{◌≡◌, ℕ, zero, suc, ◌-◌, ℤ, Bool, List, map, length, Option, None, Some, refl, sym, ap, ◌∙◌, subst}
+use Rattle.std.proofs.Common.{arith, ◌≡◌, ℕ, zero, suc, ◌-◌, ℤ, Bool, List, map, length, Option, None, Some, refl, sym, ap, ◌∙◌, subst}
 use Rattle.std.specs.List.{AllByRecursion}
 use Rattle.arc_choice.specs.Uses.{answers}
 use Rattle.arc_choice.proofs.Ranked.{RanksOf, all_renumbered}
@@ -32,14 +32,11 @@ abbrev InRange : ℕ → Bool × List ℤ → Type 0
 InRange n b = AreInRange n b.1
 
 same_range : (n : ℕ) (b : Bool × List ℤ) (m : List ℤ) (w : Option Cause) → InRange n b → unless w b.1 ≡ Some m → AreInRange n m
-same_range n b m None r e = let it : b.1 ≡ m = cc in subst (AreInRange n) it r
-same_range n b m (Some c) r e = cc
+same_range n b m w r e = grind arith
 
 -- those of the lines that stay name arcs
 range_stays : (n : ℕ) (arcs : List (List Point)) (os : Objects) → AllByRecursion (InRange n) (objects_strokes os) → AllByRecursion (InRange n) (objects_strokes (objects_pruned (large_refs arcs) os))
-range_stays n arcs os h =
-    objects_left (large_refs arcs) (InRange n) os
-    (all_weaker (InRange n) (λ b. (m : List ℤ) → large_refs arcs b.0 b.1 ≡ Some m → InRange n (b.0, m)) (λ b r m e. same_range n b m (small_cause arcs b.0 b.1) r e) (objects_strokes os) h)
+range_stays n arcs os h = grind (arith, objects_left (large_refs arcs) (InRange n) os, all_weaker (InRange n), same_range n)
 
 abbrev as_they_are : Refs
 as_they_are closed refs = Some refs
@@ -62,9 +59,7 @@ answers_length f n (suc count) = ap (λ k. suc k) (answers_length f (suc n) coun
 
 -- they are as many as the arcs
 pub flags_long : (u : ℕ → Bool) (used flags : List Bool) (n : ℕ) → used ≡ answers u 0 n → flags ≡ used → (flags ≡ answers u 0 (length flags)) × (n ≡ length flags)
-flags_long u used flags n is same =
-    let long : n ≡ length flags = sym (ap length (same ∙ is) ∙ answers_length u 0 n) in
-    (same ∙ is ∙ ap (answers u 0) long, long)
+flags_long u used flags n is same = grind (arith, answers_length)
 
 -- ---- the topology
 
@@ -78,9 +73,7 @@ pub record Large (kept : List (List ℕ)) (y : Contents) (picked : List (List Po
 
 module _ (kept : List (List ℕ)) (y : Contents) (picked : List (List Point)) (large : Objects) (s : Large kept y picked large) where
   is_whole : contents large picked y.transform ≡ picked_whole kept y
-  is_whole =
-      ap (λ os. contents os picked y.transform) (s.large_is ∙ ap (λ arcs. objects_pruned (large_refs (placed_arcs y.transform arcs)) y.objects) s.picked_is)
-      ∙ ap (λ arcs. contents (objects_pruned (large_refs (placed_arcs y.transform (picked_arcs kept y.arcs))) y.objects) arcs y.transform) s.picked_is
+  is_whole = grind arith
 
   pub picked_long : EachFromFirstToLast kept y.arcs → length picked ≡ length y.arcs
   picked_long through = ap length s.picked_is ∙ picked_length kept y.arcs through
@@ -102,33 +95,22 @@ module _ (kept : List (List ℕ)) (y : Contents) (picked : List (List Point)) (l
 
   pub taken_is : positions_of (keep_from (is_used large) 0 y.arcs) - positions_of (keep_from (is_used large) 0 picked) ≡ taken_out_by kept y
   unfolding taken_out_by trimmed
-  taken_is =
-      ap (λ z. positions_of (keep_from (is_used z.objects) 0 y.arcs) - positions_of (keep_from (is_used large) 0 picked)) is_whole
-      ∙ ap (λ z. positions_of (keep_from (is_used (picked_whole kept y).objects) 0 y.arcs) - positions_of z.arcs) is_lessened
+  taken_is = grind (arith, is_whole, is_lessened)
 
 -- ---- what the calls give
 
 pub large_over : (kept : List (List ℕ)) (y : Contents) (slice picked given : List (List Point)) (transform : Option Transform) (objects large : Objects) → slice ≡ y.arcs → picked ≡ picked_arcs kept slice → given ≡ picked
     → transform ≡ y.transform → objects ≡ y.objects → large ≡ objects_pruned (large_refs (placed_arcs transform given)) objects → Large kept y picked large
-large_over kept y slice picked given transform objects large arcs p g t o l = record {
-  picked_is = p ∙ ap (picked_arcs kept) arcs;
-  large_is = l ∙ ap (λ t. objects_pruned (large_refs (placed_arcs t given)) objects) t ∙ ap (λ a. objects_pruned (large_refs (placed_arcs y.transform a)) objects) g
-      ∙ ap (objects_pruned (large_refs (placed_arcs y.transform picked))) o;
-}
+large_over kept y slice picked given transform objects large arcs p g t o l = grind arith
 
 -- the lines and rings that are dropped
 pub drops_are : (kept : List (List ℕ)) (y : Contents) (slice picked given : List (List Point)) (transform : Option Transform) (objects : Objects) → slice ≡ y.arcs → picked ≡ picked_arcs kept slice → given ≡ picked
     → transform ≡ y.transform → objects ≡ y.objects
     → dropped_of_layers 0 (map (λ o. map (λ f. option_small (placed_arcs transform given) f.shape) (object_features o.1)) objects) ≡ dropped_by kept y
 unfolding dropped_by
-drops_are kept y slice picked given transform objects arcs p g t o =
-    ap (λ t. dropped_of_layers 0 (map (λ o. map (λ f. option_small (placed_arcs t given) f.shape) (object_features o.1)) objects)) t
-    ∙ ap (λ a. dropped_of_layers 0 (map (λ o. map (λ f. option_small (placed_arcs y.transform a) f.shape) (object_features o.1)) objects)) (g ∙ p ∙ ap (picked_arcs kept) arcs)
-    ∙ ap (λ os. dropped_of_layers 0 (map (λ o. map (λ f. option_small (placed_arcs y.transform (picked_arcs kept y.arcs)) f.shape) (object_features o.1)) os)) o
+drops_are kept y slice picked given transform objects arcs p g t o = grind arith
 
 -- the cells that are picked may stand in the topology
 pub places_are_given : (kept : List (List ℕ)) (y : Contents) → IsTopology y → (slice picked given : List (List Point)) (transform : Option Transform) → slice ≡ y.arcs → picked ≡ picked_arcs kept slice → given ≡ picked
     → transform ≡ y.transform → AllByRecursion (λ a. AllByRecursion (IsPlace transform) a) given
-places_are_given kept y valid slice picked given transform arcs p g t =
-    subst (λ t. AllByRecursion (λ a. AllByRecursion (IsPlace t) a) given) (sym t)
-    (subst (AllByRecursion (λ a. AllByRecursion (IsPlace y.transform) a)) (sym (g ∙ p ∙ ap (picked_arcs kept) arcs)) (places_picked y.transform kept y.arcs (topology_places y valid)))
+places_are_given kept y valid slice picked given transform arcs p g t = grind (arith, places_picked y.transform kept y.arcs (topology_places y valid), topology_places y valid)

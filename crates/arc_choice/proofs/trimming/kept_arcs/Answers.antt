@@ -1,5 +1,6 @@
 use Rattle.std.proofs.Common.{◌≡◌, [], ◌∷◌, rules}
-use Rattle.arc_choice.proofs.Chosen.{empty_list, begins, passed, left_out, taken}
+use Rattle.std.proofs.lemmas.List.{nil_from_length}
+use Rattle.arc_choice.proofs.Chosen.{begins, passed, left_out, taken}
 use Rattle.arc_choice.proofs.trimming.kept_arcs.Goals as goal
 
 pub arcs-init : goal.arcs-init
@@ -7,7 +8,7 @@ arcs-init c = begins c.args.used.now c.in_ok-kept.kept.items c.in_ok-kept.ensure
 
 pub arcs-preserved-in_default : goal.arcs-preserved-in_default
 arcs-preserved-in_default c =
-    let none : c.arcs.flags.now ≡ [] = empty_list c.arcs.flags.now (search rules) in
+    let none : c.arcs.flags.now ≡ [] = nil_from_length c.arcs.flags.now (search rules) in
     passed c.args.used.now c.arcs.flags.now c.arcs.yielded c.arcs.kept.items c.in-Some.arc none c.arcs.invariant
 
 pub arcs-preserved-then-not-flag : goal.arcs-preserved-then-not-flag

@@ -1,6 +1,7 @@
 use Rattle.std.proofs.Common.{◌≡◌, ◌+◌, ◌<◌, ◌^◌, [], ◌∷◌, ap, rules, arith}
 use Rattle.std.proofs.lemmas.List.{take_all}
-use Rattle.arc_choice.proofs.Chosen.{empty_list, counts_begin, counts_passed, counts_left_out, counts_taken, counted_all, fits}
+use Rattle.std.proofs.lemmas.List.{nil_from_length}
+use Rattle.arc_choice.proofs.Chosen.{counts_begin, counts_passed, counts_left_out, counts_taken, counted_all, fits}
 use Rattle.arc_choice.proofs.trimming.used_positions.Goals as goal
 
 pub arcs-init : goal.arcs-init
@@ -8,7 +9,7 @@ arcs-init g c = counts_begin c.args.used.now c.args.arcs.now
 
 pub arcs-preserved-in_default : goal.arcs-preserved-in_default
 arcs-preserved-in_default g c =
-    let none : c.arcs.flags.now ≡ [] = empty_list c.arcs.flags.now (search rules) in
+    let none : c.arcs.flags.now ≡ [] = nil_from_length c.arcs.flags.now (search rules) in
     counts_passed c.args.used.now c.arcs.flags.now c.args.arcs.now c.arcs.arc-index c.arcs.count c.arc-item.result c.arcs-test.true c.arc-item.is none c.arcs.invariant
 
 pub arcs-preserved-then-not-flag : goal.arcs-preserved-then-not-flag

@@ -1,5 +1,5 @@
 -- The bytes of the layers come to one outcome, and what is said of layers that are read, or of why they aren't, tells it.
-use Rattle.std.proofs.Common.{◌≡◌, ◌⊎◌, ℕ, suc, ◌<◌, Bool, List, [], ◌∷◌, length, ◌∙◌, ap, sym, subst, refl, inl, inr, Some, Result, Ok, Err}
+use Rattle.std.proofs.Common.{⊎_elim, ◌≡◌, ◌⊎◌, ℕ, suc, ◌<◌, Bool, List, [], ◌∷◌, length, ◌∙◌, ap, sym, subst, refl, inl, inr, Some, Result, Ok, Err}
 use Rattle.std.specs.Prelude.{IfSome}
 use Rattle.byte_ends.specs.Ends.{Fed}
 use Rattle.byte_ends.specs.declared.source.ReadFault.TheVariants as read
@@ -41,11 +41,10 @@ plain-with name l (Err e) = refl
 continued : (name : List ℕ) (x y : LayerOutcome) (others : Outcome → Type 0) (o p : Outcome) → ((q r : Outcome) → others q → others r → plain_outcome q ≡ plain_outcome r) → plain_layer x ≡ plain_layer y
     → Continues name x others o → Continues name y others p → plain_outcome o ≡ plain_outcome p
 continued name (Err e) (Err f) others o p once same h k = let g : plain_fault e ≡ plain_fault f = cc in ap plain_outcome h ∙ ap (λ z. Err z) g ∙ sym (ap plain_outcome k)
-continued name (Err e) (Ok l) others o p once same h k = absurd cc
-continued name (Ok l) (Err f) others o p once same h k = absurd cc
 continued name (Ok l) (Ok m) others o p once same h k =
     let g : l ≡ m = cc in
     ap plain_outcome h.2 ∙ plain-with name l h.0 ∙ ap (λ z. with_layer name z (plain_outcome h.0)) g ∙ ap (with_layer name m) (once h.0 k.0 h.1 k.1) ∙ sym (plain-with name m k.0) ∙ sym (ap plain_outcome k.2)
+continued name x y others o p once same h k = absurd cc
 
 all_once : (n : ℕ) (exact : Bool) (bs : Texts) (o p : Outcome) → AllComeTo n exact bs o → AllComeTo n exact bs p → plain_outcome o ≡ plain_outcome p
 all_once n exact [] o p h k = ap plain_outcome (h ∙ sym k)
@@ -66,13 +65,8 @@ read_comes n exact [] [] [] [] [] h k = refl
 read_comes n exact (s ∷ ss) (t ∷ ts) (l ∷ ls) (c ∷ cs) (b ∷ bs) h k =
     (Ok (l.1.features, c), layer_comes n exact s t b.1 l c k.1 h.0, (Ok (ls, cs), read_comes (suc n) exact ss ts ls cs bs h.1 k.2, ap (λ name. Ok ((name, l.1) ∷ ls, c ∷ cs)) (h.0.name ∙ sym k.0)))
 read_comes n exact [] [] [] [] (b ∷ bs) h k = absurd k
-read_comes n exact [] [] [] (c ∷ cs) bs h k = absurd h
-read_comes n exact [] [] (l ∷ ls) cs bs h k = absurd h
-read_comes n exact [] (t ∷ ts) ls cs bs h k = absurd h
-read_comes n exact (s ∷ ss) [] ls cs bs h k = absurd h
-read_comes n exact (s ∷ ss) (t ∷ ts) [] cs bs h k = absurd h
-read_comes n exact (s ∷ ss) (t ∷ ts) (l ∷ ls) [] bs h k = absurd h
 read_comes n exact (s ∷ ss) (t ∷ ts) (l ∷ ls) (c ∷ cs) [] h k = absurd k
+read_comes n exact olds news ls cs bs h k = absurd h
 
 fails_layer : (n : ℕ) (exact : Bool) (old new : Fed) (b : List ℕ) (e : BuildFault) → old.left ≡ Some b → FailsToRead n exact old new e → IsOutsideRead e ⊎ LayerComesTo n exact b (Err e)
 fails_layer n exact old new b (Read i read.Read) e f = inl tt
@@ -84,24 +78,14 @@ fails_layer n exact old new b (Text i fault) e f =
     inr (subst (LayerComesTo n exact b) (ap (λ m. Err (Text m fault)) (sym f.2.0)) (text_comes layer_depth (Read n read.TooLong) (of_text n exact) old new b f.0 (Err fault) e f.1 f.2.1))
 fails_layer n exact old new b (Geo i fault) e f =
     inr (subst (LayerComesTo n exact b) (ap (of_layer n) f.2.5 ∙ ap (λ m. Err (Geo m fault)) (sym f.2.0)) (text_comes layer_depth (Read n read.TooLong) (of_text n exact) old new b f.0 (Ok f.2.3) e f.1 (f.2.2, f.2.4)))
-fails_layer n exact old new b (EmptyName i) e f = absurd f.2
-fails_layer n exact old new b (DuplicateName i) e f = absurd f.2
-fails_layer n exact old new b (Write sent) e f = absurd f.2
+fails_layer n exact old new b fault e f = absurd f.2
 
 pub fails_come : (n : ℕ) (exact : Bool) (olds news : Sources) (bs : Texts) (e : BuildFault) → FailsAt exact n olds news e → HaveBytes olds bs → IsOutsideRead e ⊎ AllComeTo n exact bs (Err e)
-fails_come n exact [] news bs e f k = absurd f
-fails_come n exact (s ∷ ss) [] bs e f k = absurd f
 fails_come n exact (s ∷ ss) (t ∷ ts) [] e f k = absurd k
-fails_come n exact (s ∷ ss) (t ∷ ts) (b ∷ bs) e (inl f) k = on (fails_layer n exact s.1 t.1 b.1 e k.1 f.1)
-  where
-    on : IsOutsideRead e ⊎ LayerComesTo n exact b.1 (Err e) → IsOutsideRead e ⊎ AllComeTo n exact (b ∷ bs) (Err e)
-    on (inl out) = inl out
-    on (inr comes) = inr (Err e, comes, refl)
-fails_come n exact (s ∷ ss) (t ∷ ts) (b ∷ bs) e (inr f) k = on (fails_come (suc n) exact ss ts bs e f.3 k.2)
-  where
-    on : IsOutsideRead e ⊎ AllComeTo (suc n) exact bs (Err e) → IsOutsideRead e ⊎ AllComeTo n exact (b ∷ bs) (Err e)
-    on (inl out) = inl out
-    on (inr comes) = inr (Ok (f.0.1.features, f.1), layer_comes n exact s t b.1 f.0 f.1 k.1 f.2, (Err e, comes, refl))
+fails_come n exact (s ∷ ss) (t ∷ ts) (b ∷ bs) e (inl f) k = ⊎_elim (λ out. inl out) (λ comes. inr (Err e, comes, refl)) (fails_layer n exact s.1 t.1 b.1 e k.1 f.1)
+fails_come n exact (s ∷ ss) (t ∷ ts) (b ∷ bs) e (inr f) k =
+    ⊎_elim (λ out. inl out) (λ comes. inr (Ok (f.0.1.features, f.1), layer_comes n exact s t b.1 f.0 f.1 k.1 f.2, (Err e, comes, refl))) (fails_come (suc n) exact ss ts bs e f.3 k.2)
+fails_come n exact olds news bs e f k = absurd f
 
 -- ---- what it says of the bytes of the first layers
 
@@ -114,31 +98,16 @@ first_comes n exact (s ∷ ss) (t ∷ ts) (l ∷ ls) (c ∷ cs) (b ∷ bs) h k =
     let rest = first_comes (suc n) exact ss ts ls cs bs h.1 k.2 in
     (((b.0, l.1) ∷ rest.0.0, c ∷ rest.0.1), (Ok (l.1.features, c), layer_comes n exact s t b.1 l c k.1 h.0, (Ok rest.0, rest.1, refl)))
 first_comes n exact [] [] [] [] (b ∷ bs) h k = absurd k
-first_comes n exact [] [] [] (c ∷ cs) bs h k = absurd h
-first_comes n exact [] [] (l ∷ ls) cs bs h k = absurd h
-first_comes n exact [] (t ∷ ts) ls cs bs h k = absurd h
-first_comes n exact (s ∷ ss) [] ls cs bs h k = absurd h
-first_comes n exact (s ∷ ss) (t ∷ ts) [] cs bs h k = absurd h
-first_comes n exact (s ∷ ss) (t ∷ ts) (l ∷ ls) [] bs h k = absurd h
+first_comes n exact olds news ls cs bs h k = absurd h
 
 -- they come to the fault, or they are taken, and the fault is behind them
 pub first_fails : (n : ℕ) (exact : Bool) (olds news : Sources) (bs : Texts) (e : BuildFault) → FailsAt exact n olds news e → FirstHaveBytes olds bs
     → IsOutsideRead e ⊎ (AllComeTo n exact bs (Err e) ⊎ ((r : Named × List Counts) × AllComeTo n exact bs (Ok r)))
-first_fails n exact [] news bs e f k = absurd f
-first_fails n exact (s ∷ ss) [] bs e f k = absurd f
 first_fails n exact (s ∷ ss) (t ∷ ts) [] e f k = inr (inr (([], []), refl))
-first_fails n exact (s ∷ ss) (t ∷ ts) (b ∷ bs) e (inl f) k = on (fails_layer n exact s.1 t.1 b.1 e k.1 f.1)
-  where
-    on : IsOutsideRead e ⊎ LayerComesTo n exact b.1 (Err e) → IsOutsideRead e ⊎ (AllComeTo n exact (b ∷ bs) (Err e) ⊎ ((r : Named × List Counts) × AllComeTo n exact (b ∷ bs) (Ok r)))
-    on (inl out) = inl out
-    on (inr comes) = inr (inl (Err e, comes, refl))
-first_fails n exact (s ∷ ss) (t ∷ ts) (b ∷ bs) e (inr f) k = on (first_fails (suc n) exact ss ts bs e f.3 k.2)
-  where
-    here : LayerComesTo n exact b.1 (Ok (f.0.1.features, f.1))
-    here = layer_comes n exact s t b.1 f.0 f.1 k.1 f.2
-
-    on : IsOutsideRead e ⊎ (AllComeTo (suc n) exact bs (Err e) ⊎ ((r : Named × List Counts) × AllComeTo (suc n) exact bs (Ok r)))
-        → IsOutsideRead e ⊎ (AllComeTo n exact (b ∷ bs) (Err e) ⊎ ((r : Named × List Counts) × AllComeTo n exact (b ∷ bs) (Ok r)))
-    on (inl out) = inl out
-    on (inr (inl comes)) = inr (inl (Ok (f.0.1.features, f.1), here, (Err e, comes, refl)))
-    on (inr (inr rest)) = inr (inr (((b.0, f.0.1) ∷ rest.0.0, f.1 ∷ rest.0.1), (Ok (f.0.1.features, f.1), here, (Ok rest.0, rest.1, refl))))
+first_fails n exact (s ∷ ss) (t ∷ ts) (b ∷ bs) e (inl f) k = ⊎_elim (λ out. inl out) (λ comes. inr (inl (Err e, comes, refl))) (fails_layer n exact s.1 t.1 b.1 e k.1 f.1)
+first_fails n exact (s ∷ ss) (t ∷ ts) (b ∷ bs) e (inr f) k =
+    let here : LayerComesTo n exact b.1 (Ok (f.0.1.features, f.1)) = layer_comes n exact s t b.1 f.0 f.1 k.1 f.2 in
+    ⊎_elim (λ out. inl out)
+    (λ h. ⊎_elim (λ comes. inr (inl (Ok (f.0.1.features, f.1), here, (Err e, comes, refl)))) (λ rest. inr (inr (((b.0, f.0.1) ∷ rest.0.0, f.1 ∷ rest.0.1), (Ok (f.0.1.features, f.1), here, (Ok rest.0, rest.1, refl))))) h)
+    (first_fails (suc n) exact ss ts bs e f.3 k.2)
+first_fails n exact olds news bs e f k = absurd f

@@ -8,16 +8,13 @@ use Rattle.layer_sources.specs.Names.{is_among, fault_of_name, or_else, name_fau
 use Rattle.list_laws.proofs.Lists.{drop_here, take_here}
 
 empty_fault : (before : List (List ℕ)) (name : List ℕ) → (length name == 0) ≡ true → fault_of_name before name ≡ Some (EmptyName (length before))
-empty_fault before [] h = refl
-empty_fault before (c ∷ cs) h = let e : length (c ∷ cs) ≡ 0 = eqb-true (length (c ∷ cs)) 0 h in absurd (omega arith)
+empty_fault before name h = grind (arith, eqb-true)
 
 among_fault : (before : List (List ℕ)) (name : List ℕ) → (length name == 0) ≡ false → is_among name before ≡ true → fault_of_name before name ≡ Some (DuplicateName (length before))
-among_fault before [] h a = cc
-among_fault before (c ∷ cs) h a = rw a refl
+among_fault before name h a = grind arith
 
 no_fault : (before : List (List ℕ)) (name : List ℕ) → (length name == 0) ≡ false → is_among name before ≡ false → fault_of_name before name ≡ None
-no_fault before [] h a = cc
-no_fault before (c ∷ cs) h a = rw a refl
+no_fault before name h a = grind arith
 
 refused : (whole : Option BuildFault) (e : BuildFault) → whole ≡ Some e → IsRefusedFor whole (Err e)
 refused whole e h = subst (λ z. IsRefusedFor z (Err e)) (sym h) refl

@@ -1,5 +1,6 @@
 -- The sources, as a loop reads one after another.
 use Rattle.std.proofs.Common.{◌≡◌, inl, inr, ℕ, zero, suc, ◌+◌, ◌<◌, ◌≤◌, Bool, List, [], ◌∷◌, ◌++◌, length, get_or, slice_set, refl, sym, ap, ◌∙◌, subst, arith}
+use Rattle.std.proofs.lemmas.List.{length_push, get_or-set_same}
 use Rattle.byte_ends.specs.Ends.{Fed, saturated}
 use Rattle.geojson_types.specs.declared.counts.Counts.{Counts}
 use Rattle.geojson_types.specs.declared.layer.Layer.{Layer}
@@ -36,11 +37,8 @@ pub read_all_of : (exact : Bool) (olds mid : Sources) (ls : Named) (cs : List Co
 read_all_of exact [] [] [] [] h le = tt
 read_all_of exact (s ∷ ss) [] [] [] h le = absurd cc
 read_all_of exact olds (t ∷ ts) [] [] h le = absurd (omega (arith, le))
-read_all_of exact olds mid [] (d ∷ cs) h le = absurd h
-read_all_of exact [] mid (k ∷ ls) cs h le = absurd h
-read_all_of exact (s ∷ ss) [] (k ∷ ls) cs h le = absurd h
-read_all_of exact (s ∷ ss) (t ∷ ts) (k ∷ ls) [] h le = absurd h
 read_all_of exact (s ∷ ss) (t ∷ ts) (k ∷ ls) (d ∷ cs) h le = (h.0, read_all_of exact ss ts ls cs h.1 (omega (arith, le)))
+read_all_of exact olds mid ls cs h le = absurd h
 
 -- ---- one that fails
 
@@ -68,29 +66,20 @@ untroubled_same (s ∷ ss) = (refl, refl, untroubled_same ss)
 
 pub untroubled_read : (exact : Bool) (olds mid : Sources) (ls : Named) (cs : List Counts) → HaveRead exact olds mid ls cs → AreUntroubled olds mid
 untroubled_read exact olds mid [] [] h = subst (AreUntroubled olds) (sym h) (untroubled_same olds)
-untroubled_read exact olds mid [] (d ∷ cs) h = absurd h
-untroubled_read exact [] mid (k ∷ ls) cs h = absurd h
-untroubled_read exact (s ∷ ss) [] (k ∷ ls) cs h = absurd h
-untroubled_read exact (s ∷ ss) (t ∷ ts) (k ∷ ls) [] h = absurd h
 untroubled_read exact (s ∷ ss) (t ∷ ts) (k ∷ ls) (d ∷ cs) h = (h.0.same, h.0.read.sound, untroubled_read exact ss ts ls cs h.1)
+untroubled_read exact olds mid ls cs h = absurd h
 
 pub untroubled_all : (exact : Bool) (olds news : Sources) (ls : Named) (cs : List Counts) → AllRead exact olds news ls cs → AreUntroubled olds news
 untroubled_all exact [] [] [] [] h = tt
 untroubled_all exact (s ∷ ss) (t ∷ ts) (k ∷ ls) (d ∷ cs) h = (h.0.same, h.0.read.sound, untroubled_all exact ss ts ls cs h.1)
-untroubled_all exact [] [] [] (d ∷ cs) h = absurd h
-untroubled_all exact [] [] (k ∷ ls) cs h = absurd h
-untroubled_all exact [] (t ∷ ts) ls cs h = absurd h
-untroubled_all exact (s ∷ ss) [] ls cs h = absurd h
-untroubled_all exact (s ∷ ss) (t ∷ ts) [] cs h = absurd h
-untroubled_all exact (s ∷ ss) (t ∷ ts) (k ∷ ls) [] h = absurd h
+untroubled_all exact olds news ls cs h = absurd h
 
 untroubled_set : (olds mid : Sources) (i : ℕ) (x : Source) (source : Fed) → AreUntroubled olds mid → i < length mid → x ≡ get_or mid i x → source.failures ≡ x.1.failures
     → AreUntroubled olds (slice_set mid i (x.0, source))
 untroubled_set [] [] i x source h lt is e = absurd (omega (arith, lt))
-untroubled_set [] (t ∷ ts) i x source h lt is e = absurd h
-untroubled_set (s ∷ ss) [] i x source h lt is e = absurd h
 untroubled_set (s ∷ ss) (t ∷ ts) zero x source h lt is e = (ap (λ z. z.0) is ∙ h.0, e ∙ ap (λ z. z.1.failures) is ∙ h.1, h.2)
 untroubled_set (s ∷ ss) (t ∷ ts) (suc i) x source h lt is e = (h.0, h.1, untroubled_set ss ts i x source h.2 (omega (arith, lt)) is e)
+untroubled_set olds mid i x source h lt is e = absurd h
 
 -- memory was refused behind the source that was read last
 pub untroubled_here : (exact : Bool) (olds mid : Sources) (ls : Named) (cs : List Counts) (x : Source) (source : Fed) → HaveRead exact olds mid ls cs → length ls < length mid
@@ -101,12 +90,7 @@ untroubled_here exact olds mid ls cs x source h lt is e = untroubled_set olds mi
 pub stops : (exact : Bool) (olds mid : Sources) (ls : Named) (cs : List Counts) (x : Source) (source : Fed) (e : BuildFault) → HaveRead exact olds mid ls cs → length ls < length mid
     → x ≡ get_or mid (length ls) x → FailsToRead (length ls) exact x.1 source e → FailsToReadAll exact olds (slice_set mid (length ls) (x.0, source)) e
 stops exact olds mid ls cs x source Memory h lt is f = untroubled_here exact olds mid ls cs x source h lt is f
-stops exact olds mid ls cs x source (EmptyName i) h lt is f = fails_at exact 0 (length ls) olds mid ls cs x source (EmptyName i) h lt is (omega arith) f
-stops exact olds mid ls cs x source (DuplicateName i) h lt is f = fails_at exact 0 (length ls) olds mid ls cs x source (DuplicateName i) h lt is (omega arith) f
-stops exact olds mid ls cs x source (Read i r) h lt is f = fails_at exact 0 (length ls) olds mid ls cs x source (Read i r) h lt is (omega arith) f
-stops exact olds mid ls cs x source (Json i r) h lt is f = fails_at exact 0 (length ls) olds mid ls cs x source (Json i r) h lt is (omega arith) f
-stops exact olds mid ls cs x source (Geo i r) h lt is f = fails_at exact 0 (length ls) olds mid ls cs x source (Geo i r) h lt is (omega arith) f
-stops exact olds mid ls cs x source (Write sent) h lt is f = fails_at exact 0 (length ls) olds mid ls cs x source (Write sent) h lt is (omega arith) f
+stops exact olds mid ls cs x source e h lt is f = fails_at exact 0 (length ls) olds mid ls cs x source e h lt is (omega arith) f
 
 -- ---- counts
 
@@ -127,21 +111,8 @@ added_more (d ∷ cs) c = ap (plus d) (added_more cs c) ∙ sym (plus_same d (ad
 
 same_many : (exact : Bool) (olds mid : Sources) (ls : Named) (cs : List Counts) → HaveRead exact olds mid ls cs → length mid ≡ length olds
 same_many exact olds mid [] [] h = ap length h
-same_many exact olds mid [] (d ∷ cs) h = absurd h
-same_many exact [] mid (k ∷ ls) cs h = absurd h
-same_many exact (s ∷ ss) [] (k ∷ ls) cs h = absurd h
-same_many exact (s ∷ ss) (t ∷ ts) (k ∷ ls) [] h = absurd h
 same_many exact (s ∷ ss) (t ∷ ts) (k ∷ ls) (d ∷ cs) h = ap suc (same_many exact ss ts ls cs h.1)
-
-length_more : {A : Type 0} (xs : List A) (x : A) → length (xs ++ x ∷ []) ≡ length xs + 1
-length_more [] x = refl
-length_more (y ∷ xs) x = omega (arith, length_more xs x)
-
--- what was put in a place stands there
-pub put_there : (mid : Sources) (k : ℕ) (y d : Source) → k < length mid → get_or (slice_set mid k y) k d ≡ y
-put_there [] k y d lt = absurd (omega (arith, lt))
-put_there (t ∷ ts) zero y d lt = refl
-put_there (t ∷ ts) (suc k) y d lt = put_there ts k y d (omega (arith, lt))
+same_many exact olds mid ls cs h = absurd h
 
 module _ (exact : Bool) (olds mid : Sources) (ls : Named) (cs : List Counts) (have : HaveRead exact olds mid ls cs) (k : ℕ) (number : k ≡ length ls) where
   module _ (x : Source) (source : Fed) (lt : k < length olds) (is : x ≡ get_or mid k x) where
@@ -156,12 +127,12 @@ module _ (exact : Bool) (olds mid : Sources) (ls : Named) (cs : List Counts) (ha
     turn l c total new after one sums e now = (
       cs ++ c ∷ [],
       rw (number, e) (read_more exact olds mid ls cs x source l c have within there one),
-      ap (λ n. n + 1) number ∙ sym (ap length e ∙ length_more ls l),
+      ap (λ n. n + 1) number ∙ sym (ap length e ∙ length_push ls l),
       now ∙ ap (λ t. plus t c) sums ∙ sym (added_more cs c),
     )
 
     pub named : (name : List ℕ) (d : Source) → name ≡ (get_or (slice_set mid k (x.0, source)) k d).0 → name ≡ x.0
-    named name d e = e ∙ ap (λ z. z.0) (put_there mid k (x.0, source) d (rw number within))
+    named name d e = e ∙ ap (λ z. z.0) (get_or-set_same mid k (x.0, source) d (rw number within))
 
     pub stopped : (e : BuildFault) → FailsToRead k exact x.1 source e → FailsToReadAll exact olds (slice_set mid k (x.0, source)) e
     stopped e f = rw number (stops exact olds mid ls cs x source e have within there (rw (sym number) f))

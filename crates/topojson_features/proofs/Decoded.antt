@@ -45,9 +45,8 @@ all_some_mapped f (xs ∷ xss) = rw (some_mapped f xs, all_some_mapped f xss) re
 -- those that are given are what some_of leaves
 all_given : {A B : Type 0} (f : A → Option B) (xs : List A) (ys : List B) → map Some ys ≡ map f xs → some_of f xs ≡ ys
 all_given f [] [] h = refl
-all_given f [] (y ∷ ys) h = cc
-all_given f (x ∷ xs) [] h = cc
 all_given f (x ∷ xs) (y ∷ ys) h = grind (arith, all_given f xs ys)
+all_given f xs ys h = cc
 
 -- ---- by kinds
 
@@ -116,13 +115,6 @@ module _ (t : Contents) where
   pub record SoFar (ss : List TopoShape) (i : ℕ) (ds : List Shape) : Type 0 where
     pub shown : map Some ds ≡ map shown (take i ss)
     pub proper : list_all is_proper ds ≡ true
-
-  both_pass : (a b : Bool) → a ≡ true → b ≡ true → (a && (b && true)) ≡ true
-  both_pass a b h k = rw (h, k) refl
-
-  pub member_more : (ss : List TopoShape) (i : ℕ) (s : TopoShape) (ds es : List Shape) (d : Shape) → i < length ss → s ≡ get_or ss i s → SoFar ss i ds
-      → shown s ≡ Some d → is_proper d ≡ true → es ≡ ds ++ (d ∷ []) → SoFar ss (i + 1) es
-  member_more ss i s ds es d h is so e proper pushed = grind (arith, mapped_more, map-append, list_all-append, both_pass)
 
   pub group_decodes : (s : TopoShape) (ss : List TopoShape) (i : ℕ) (ds es : List Shape) → s ≡ g.Group ss → length ss ≤ i → SoFar ss i ds → es ≡ ds → Decodes s (g.Group es)
   group_decodes s ss i ds es e h so same = grind (arith, prune-group, all_given, take_all, proper-group)

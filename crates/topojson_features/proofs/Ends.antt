@@ -21,9 +21,8 @@ use Rattle.topojson_walk.proofs.Placing.{placed_rejoined, long_arcs}
 -- ---- ends of lists
 
 last_append : {X : Type 0} (xs : List X) (y : X) (ys : List X) → last_of (xs ++ (y ∷ ys)) ≡ last_of (y ∷ ys)
-last_append [] y ys = refl
-last_append (x ∷ []) y ys = refl
 last_append (x ∷ (z ∷ xs)) y ys = last_append (z ∷ xs) y ys
+last_append xs y ys = refl
 
 last_map : {X Y : Type 0} (f : X → Y) (xs : List X) (x : X) → last_of xs ≡ Some x → last_of (map f xs) ≡ Some (f x)
 last_map f [] x h = cc
@@ -47,22 +46,16 @@ last_there x (y ∷ ys) = last_there y ys
 -- the last of lists one behind another is that of the last, where each has two elements or more
 last_joined : (p : List Point) (ps : List (List Point)) (q : List Point) → AreLong ps → last_of (p ∷ ps) ≡ Some q → last_of (p ++ joined_behind_first ps) ≡ last_of q
 last_joined p [] q long h = ap last_of (append-nil p) ∙ ap (then_some last_of) h
-last_joined p ([] ∷ ps) q long h = absurd (omega (arith, long.0))
-last_joined p ((a ∷ []) ∷ ps) q long h = absurd (omega (arith, long.0))
 last_joined p ((a ∷ (b ∷ r)) ∷ ps) q long h = last_append p b (r ++ joined_behind_first ps) ∙ last_joined (a ∷ (b ∷ r)) ps q long.1 h
+last_joined p ps q long h = absurd (omega (arith, long.0))
 
 -- ---- rings
 
 slice_last : (xs : List Point) → slice_get xs (length xs - 1) ≡ last_of xs
-slice_last [] = refl
-slice_last (x ∷ []) = refl
 slice_last (x ∷ (y ∷ ys)) =
     let e : length (x ∷ (y ∷ ys)) - 1 ≡ suc (length (y ∷ ys) - 1) = omega arith in
     ap (slice_get (x ∷ (y ∷ ys))) e ∙ slice_last (y ∷ ys)
-
-length_repeated : {X : Type 0} (n : ℕ) (x : X) → length (repeated n x) ≡ n
-length_repeated zero x = refl
-length_repeated (suc n) x = ap suc (length_repeated n x)
+slice_last xs = refl
 
 last_of_same : (n : ℕ) (p : Point) → last_of (p ∷ repeated n p) ≡ Some p
 last_of_same zero p = refl
@@ -74,24 +67,9 @@ last_repeated n xs p h = grind (arith, append-nil, last_append, last_of_same)
 -- where the last is the first, the list filled up to four is a ring
 ring_filled : (p : Point) (ps : List Point) → last_of (p ∷ ps) ≡ Some p → is_ring (filled (p ∷ ps)) ≡ true
 unfolding is_ring is_closed
-ring_filled p ps h =
-    let more = repeated (4 - length (p ∷ ps)) p in
-    let size : 4 ≤ length ((p ∷ ps) ++ more) = omega (arith, length-append (p ∷ ps) more, length_repeated (4 - length (p ∷ ps)) p) in
-    let large : leb 4 (length ((p ∷ ps) ++ more)) ≡ true = grind (arith, nat_tests) in
-    let last : slice_get ((p ∷ ps) ++ more) (length ((p ∷ ps) ++ more) - 1) ≡ Some p = slice_last ((p ∷ ps) ++ more) ∙ last_repeated (4 - length (p ∷ ps)) (p ∷ ps) p h in
-    rw (large, last) (same_self p)
-
-pub ring_of_ends : (ps : List Point) (p : Point) → first_of ps ≡ Some p → last_of ps ≡ Some p → is_ring (filled ps) ≡ true
-ring_of_ends ps p h k = grind (arith, ring_filled)
+ring_filled p ps h = grind (arith, length-append (p ∷ ps) (repeated (4 - length (p ∷ ps)) p), slice_last ((p ∷ ps) ++ (repeated (4 - length (p ∷ ps)) p)), last_repeated (4 - length (p ∷ ps)) (p ∷ ps) p h, same_self p)
 
 -- ---- lines of a valid topology
-
--- the last list, if there is one, ends where the first begins
-abbrev CloseAt : Option (List Point) → Option (List Point) → Type 0
-CloseAt o e = elim o [ None ↦ ⊥ | Some p ↦ elim e [ None ↦ ⊥ | Some q ↦ last_of q ≡ first_of p ] ]
-
-closes_at : (ps : List (List Point)) (p q : List Point) → first_of ps ≡ Some p → last_of ps ≡ Some q → Closes ps → last_of q ≡ first_of p
-closes_at ps p q e f h = subst (CloseAt (Some p)) f (subst (λ o. CloseAt o (last_of ps)) e h)
 
 long_map : (arcs : List (List Point)) (refs : List ℤ) → AreLong arcs → AreInRange (length arcs) refs → AreLong (map (arc_at arcs) refs)
 long_map arcs refs long ranged = grind (arith, all_map, all_weaker, arc_long)
@@ -99,7 +77,7 @@ long_map arcs refs long ranged = grind (arith, all_map, all_weaker, arc_long)
 -- the cells of a ring begin and end with one cell
 ring_ends : (arcs : List (List Point)) (refs : List ℤ) → AreLong arcs → is_some_list refs ≡ true → AreInRange (length arcs) refs → Closes (map (arc_at arcs) refs)
     → (p : Point) × (first_of (rejoined (map (arc_at arcs) refs)) ≡ Some p) × (last_of (rejoined (map (arc_at arcs) refs)) ≡ Some p)
-ring_ends arcs refs h k m e = grind (arith, long_map, first_there, last_there, closes_at, first_append, last_joined)
+ring_ends arcs refs h k m e = grind (arith, long_map, first_there, last_there, first_append, last_joined)
 
 module _ (t : Contents) (refs : List ℤ) where
   -- its positions, before any is added
@@ -112,7 +90,7 @@ module _ (t : Contents) (refs : List ℤ) where
       let k = ring_ends t.arcs refs (long_arcs t stroke.topology) stroke.full stroke.ranged (stroke.closed refl) in
       let same : drawn ≡ map (place t.transform) cells = sym (placed_rejoined t.transform t.arcs refs) in
       rw (e, same)
-      (ring_of_ends (map (place t.transform) cells) (place t.transform k.0) (first_map (place t.transform) cells k.0 k.1) (last_map (place t.transform) cells k.0 k.2))
+      (grind (arith, ring_filled, (first_map (place t.transform) cells k.0 k.1), (last_map (place t.transform) cells k.0 k.2)))
 
   pub line_is : IsStroke t (false, refs) → is_line drawn ≡ true
   line_is stroke = rw (← placed_rejoined t.transform t.arcs refs) (on refs stroke.full stroke.ranged)

@@ -47,20 +47,14 @@ module _ (t : Contents) (is : IsTopology t) where
   strokes_stand [] f h k = tt
   strokes_stand (b ∷ bs) f h k = (record { topology = is; full = f.0; ranged = h.0; closed = k.0 }, strokes_stand bs f.1 h.1 k.1)
 
-  shape_stands : (o : Option TopoShape) (f : TopoFeature) → f.shape ≡ o → IsFeature t.transform f → AreRanged (option_strokes f.shape) → AreClosed (option_strokes f.shape) → IsShapeOption t f.shape
-  shape_stands o f h k m e = grind (arith, strokes_stand, strokes_full)
-
   features_stand : (fs : List TopoFeature) → AllByRecursion (IsFeature t.transform) fs → AreRanged (features_strokes fs) → AreClosed (features_strokes fs) → AllByRecursion (λ f. IsShapeOption t f.shape) fs
   features_stand [] f h k = tt
-  features_stand (x ∷ fs) f h k = grind (arith, features_stand fs f.1, shape_stands x.shape x refl f.0, all_left, all_right)
-
-  are_features : (o : TopoObject) → IsObject t.transform o → AllByRecursion (IsFeature t.transform) (object_features o)
-  are_features o h = grind arith
+  features_stand (x ∷ fs) f h k = grind (arith, features_stand fs f.1, strokes_stand, strokes_full, all_left, all_right)
 
   pub object_stands : (name : List ℕ) (o : TopoObject) → of_name name t.objects ≡ Some o → AllByRecursion (λ f. IsShapeOption t f.shape) (object_features o)
   object_stands name o e =
       features_stand (object_features o)
-      (are_features o (of_named (IsObject t.transform) name t.objects o e is.objects))
+      (grind (arith, (of_named (IsObject t.transform) name t.objects o e is.objects)))
       (of_named (λ o. AreRanged (features_strokes (object_features o))) name t.objects o e (all_parts (λ b. AreInRange (length t.arcs) b.1) (λ o. features_strokes (object_features o.1)) t.objects is.ranged))
       (of_named (λ o. AreClosed (features_strokes (object_features o))) name t.objects o e (all_parts (IsClosed t.arcs) (λ o. features_strokes (object_features o.1)) t.objects is.closed))
 

@@ -9,9 +9,8 @@ use Rattle.topojson_meaning.specs.Lines.{meets, line_start, line_end}
 use Rattle.geometry.specs.Joins.{number_of, is_reversed, at, or_empty, arc_at, first_of, last_of}
 
 at_got : {X : Type 0} (xs : List X) (i : ℕ) → at xs i ≡ slice_get xs i
-at_got [] i = refl
-at_got (x ∷ xs) zero = refl
 at_got (x ∷ xs) (suc i) = at_got xs i
+at_got xs i = refl
 
 module _ {X : Type 0} where
   pub first_got : (xs : List X) → slice_get xs 0 ≡ first_of xs
@@ -19,16 +18,14 @@ module _ {X : Type 0} where
   first_got (x ∷ xs) = refl
 
   pub last_got : (xs : List X) → slice_get xs (length xs - 1) ≡ last_of xs
-  last_got [] = refl
-  last_got (x ∷ []) = refl
   last_got (x ∷ (y ∷ xs)) =
       let e : length (x ∷ (y ∷ xs)) - 1 ≡ suc (length (y ∷ xs) - 1) = omega arith in
       ap (slice_get (x ∷ (y ∷ xs))) e ∙ last_got (y ∷ xs)
+  last_got xs = refl
 
   last_end : (xs : List X) (x : X) → last_of (xs ++ (x ∷ [])) ≡ Some x
-  last_end [] x = refl
-  last_end (y ∷ []) x = refl
   last_end (y ∷ (z ∷ xs)) x = last_end (z ∷ xs) x
+  last_end xs x = refl
 
   last_reverse : (xs : List X) → last_of (reverse xs) ≡ first_of xs
   last_reverse [] = refl

@@ -43,21 +43,10 @@ module _ (transform : Option Transform) (arcs : List (List Point)) where
 
 -- ---- its members
 
-type_found : (t : Contents) → need (codes "type") (written_members t) ≡ Ok (j.Text (codes "Topology"))
+found : (t : Contents) → (need (codes "type") (written_members t) ≡ Ok (j.Text (codes "Topology"))) × (find (codes "transform") (written_members t) ≡ Ok (map_some transform_object t.transform))
+    × (need (codes "arcs") (written_members t) ≡ Ok (arcs_value t.transform t.arcs)) × (need (codes "objects") (written_members t) ≡ Ok (objects_value (cell_value t.transform) t.objects))
 unfolding need named
-type_found t = grind arith
-
-transform_found : (t : Contents) → find (codes "transform") (written_members t) ≡ Ok (map_some transform_object t.transform)
-unfolding named
-transform_found t = grind arith
-
-arcs_found : (t : Contents) → need (codes "arcs") (written_members t) ≡ Ok (arcs_value t.transform t.arcs)
-unfolding need named
-arcs_found t = grind arith
-
-objects_found : (t : Contents) → need (codes "objects") (written_members t) ≡ Ok (objects_value (cell_value t.transform) t.objects)
-unfolding need named
-objects_found t = grind arith
+found t = (grind arith, grind arith, grind arith, grind arith)
 
 -- ---- the topology
 
@@ -68,8 +57,8 @@ contents_back t h c =
     let closed = all_two (IsJoined t.arcs) (IsClosed t.arcs) (λ b. IsJoined t.arcs b × IsClosed t.arcs b) (λ b j k. (j, k)) (objects_strokes t.objects) valid.joined valid.closed in
     let sound = all_two (λ b. AreInRange (length t.arcs) b.1) (λ b. IsJoined t.arcs b × IsClosed t.arcs b) (Sound t.arcs) (λ b r k. (r, k.0, k.1)) (objects_strokes t.objects) valid.ranged closed in
     let fine = fine_objects t.transform t.arcs t.objects valid.objects sound in
-    rw (type_found t, text_of-text (codes "Topology"), transform_found t, transform_back t.transform valid.transform c, arcs_found t, arcs_back t.transform t.arcs valid.arcs c)
-    (rw (objects_found t, objects_back t.transform t.arcs valid.arcs h.1 t.objects valid.names fine c) refl)
+    rw ((found t).0, text_of-text (codes "Topology"), (found t).1, transform_back t.transform valid.transform c, (found t).2, arcs_back t.transform t.arcs valid.arcs c)
+    (rw ((found t).3, objects_back t.transform t.arcs valid.arcs h.1 t.objects valid.names fine c) refl)
 
 pub topology_back : ReadsBack
 unfolding topology value_contents topology_value

@@ -10,7 +10,8 @@ use Rattle.json_value.proofs.KindsOf.{array_of_is, object_of_is}
 use Rattle.json_members.specs.Members as members_by
 use Rattle.topojson_meaning.specs.Members.{need, lookup_fault}
 use Rattle.topojson_meaning.specs.Reader.{with_fault}
-use Rattle.json_members.proofs.Parts.{need_part}
+use Rattle.json_members.proofs.Parts.{given, need_part}
+use Rattle.list_laws.proofs.Elements.{all_at}
 
 -- the depth of the object with these members
 abbrev pub object_depth : List (List ℕ × Json) → ℕ
@@ -26,25 +27,15 @@ array_shallower v vs e = under depth (depth v) vs (rw (array_of_is v vs e, depth
 object_shallower : (ms : List (List ℕ × Json)) → AllByRecursion (λ m. depth m.1 < object_depth ms) ms
 object_shallower ms = under (λ m. depth m.1) (object_depth ms) ms (rw (depth-object ms) (omega arith))
 
-element_part : {A : Type 0} (P : A → Type 0) (xs : List A) (i : ℕ) (x : A) → i < length xs → x ≡ get_or xs i x → AllByRecursion P xs → P x
-element_part P [] i x lt e h = absurd (omega arith)
-element_part P (y ∷ xs) zero x lt e h = subst P (sym e) h.0
-element_part P (y ∷ xs) (suc i) x lt e h = element_part P xs i x (omega arith) e h.1
-
--- what is found with other faults is found
-ok_of : {E F A : Type 0} (f : E → F) (r : Result A E) (x : A) → with_fault f r ≡ Ok x → r ≡ Ok x
-ok_of f (Ok y) x e = let same : y ≡ x = cc in ap Ok same
-ok_of f (Err y) x e = absurd cc
-
 -- ---- measures
 
 -- from an object to the member that it is made of
 pub member_falls : (name : List ℕ) (ms : List (List ℕ × Json)) (v : Json) → need name ms ≡ Ok v → 4 * depth v + 3 < 4 * object_depth ms
 unfolding need
-member_falls name ms v e = omega (arith, need_part (λ w. depth w < object_depth ms) name ms v (ok_of lookup_fault (members_by.need name ms) v e) (object_shallower ms))
+member_falls name ms v e = omega (arith, need_part (λ w. depth w < object_depth ms) name ms v (given lookup_fault (members_by.need name ms) v e) (object_shallower ms))
 
 -- from the array to an object that is an element
 pub element_falls : (v : Json) (vs : List Json) (i : ℕ) (w : Json) (ms : List (List ℕ × Json)) → array_of v ≡ Some vs → i < length vs → w ≡ get_or vs i w → object_of w ≡ Some ms → 4 * object_depth ms + 1 < 4 * depth v + 2
-element_falls v vs i w ms e lt is f = rw (← object_of_is w ms f) (omega (arith, element_part (λ w. depth w < depth v) vs i w lt is (array_shallower v vs e)))
+element_falls v vs i w ms e lt is f = rw (← object_of_is w ms f) (omega (arith, all_at (λ w. depth w < depth v) vs i w lt is (array_shallower v vs e)))
 
 pub ruleset deeper = (member_falls, element_falls)

@@ -28,19 +28,11 @@ module _ (met : List (List ℕ)) (m : List ℕ × Json) (ms items : Members) (re
 
   -- the name repeats where so many were read
   again : length read ≡ repeat → is_met m.0 met ≡ true
-  again all = on (is_met m.0 met) refl
-    where
-      on : (b : Bool) → is_met m.0 met ≡ b → is_met m.0 met ≡ true
-      on true e = e
-      on false e = absurd (omega (arith, all, counted_more met m.0 (names_of ms) repeat (length read) e here))
+  again all = grind (arith, counted_more, names_of, here)
 
   -- and nowhere before
   new : length read ≢ repeat → is_met m.0 met ≡ false
-  new more = on (is_met m.0 met) refl
-    where
-      on : (b : Bool) → is_met m.0 met ≡ b → is_met m.0 met ≡ false
-      on false e = e
-      on true e = let h : repeat ≡ 0 + length read = here ∙ rw e refl in absurd (more (omega (arith, h)))
+  new more = grind (arith, here)
 
   pub repeats_on : (o : List ℕ × TopoObject) → length read ≢ repeat → Repeats repeat (m.0 ∷ met) (read ++ o ∷ []) ms
   repeats_on o more = omega (arith, counted_more met m.0 (names_of ms) repeat (length read) (new more) here, length-append read (o ∷ []))

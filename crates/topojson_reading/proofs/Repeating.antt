@@ -18,8 +18,7 @@ abbrev pub equal : Bor (List ℕ) → Bor (List ℕ) → Bool
 equal a b = bytes_eq a.now b.now
 
 not_not : (b : Bool) → b ≡ not (not b)
-not_not true = refl
-not_not false = refl
+not_not b = grind arith
 
 module _ {S : Type 0} where
   -- the set has these names
@@ -30,11 +29,7 @@ module _ {S : Type 0} where
   was_met set key name met added is new known = subst (λ n. is_met n met ≡ not added) is (sym (known key) ∙ (not_not (contains equal set key) ∙ ap not (sym new)))
 
   pub knows_more : (set after : HashSet (Bor (List ℕ)) S) (key : Bor (List ℕ)) (name : List ℕ) (met : List (List ℕ)) → key.now ≡ name → Updates equal set after key true → Knows set met → Knows after (name ∷ met)
-  knows_more set after key name met is updates known q = updates.0 q ∙ (rw (known q, is) (on (bytes_eq name q.now) (is_met q.now met)))
-    where
-      on : (a b : Bool) → cond a true b ≡ (a || b)
-      on true b = refl
-      on false b = refl
+  knows_more set after key name met is updates known q = grind arith
 
 -- ---- names one after another
 
@@ -46,11 +41,7 @@ counted_repeat met name names total before again e = sym (e ∙ rw again (omega 
 
 bounded : (met : List (List ℕ)) (ms : Members) → names_before_repeat met (names_of ms) ≤ length ms
 bounded met [] = omega arith
-bounded met (m ∷ ms) = on (is_met m.0 met) (bounded (m.0 ∷ met) ms)
-  where
-    on : (b : Bool) → names_before_repeat (m.0 ∷ met) (names_of ms) ≤ length ms → cond b 0 (names_before_repeat (m.0 ∷ met) (names_of ms) + 1) ≤ length (m ∷ ms)
-    on true h = omega arith
-    on false h = omega arith
+bounded met (m ∷ ms) = grind (arith, bounded (m.0 ∷ met) ms)
 
 -- ---- members by their number
 

@@ -12,9 +12,7 @@ use Rattle.topojson_types.specs.TransformNumbers.{transform_limit, to_units}
 
 pub far_units : (z : ℤ) → 4 * 10 ^ 28 ≤ unsigned_abs z → position_limit < unsigned_abs (to_units z)
 unfolding to_units
-far_units z h =
-    rw (unsigned_abs-signed (int_lt z (pos 0)) (nearest (unsigned_abs z) (10 ^ 13)))
-    (IsRounded-above (unsigned_abs z) (10 ^ 13) _ position_limit (omega arith) (IsRounded-some (unsigned_abs z) (10 ^ 13) (omega arith)))
+far_units z h = grind (arith, unsigned_abs-signed, IsRounded-above, IsRounded-some)
 
 large : (z : ℤ) → (FitsSigned w128 z → ⊥) → 2 ^ 127 ≤ unsigned_abs z
 large z h = ⊎_elim (λ l. absurd (h (fits_signed_from_abs w128 z l))) (λ l. l) (cases_lt (unsigned_abs z) (2 ^ 127))
@@ -23,12 +21,7 @@ less_by : (a b : ℤ) → unsigned_abs a ≤ unsigned_abs (a +ℤ b) + unsigned_
 less_by a b = omega (arith, ints)
 
 pub product_far : (product t : ℤ) → (FitsSigned w128 product → ⊥) → unsigned_abs t ≤ transform_limit → position_limit < unsigned_abs (to_units (product +ℤ t))
-product_far product t h small =
-    let a : 2 ^ 127 ≤ unsigned_abs product = large product h in
-    let b : unsigned_abs product ≤ unsigned_abs (product +ℤ t) + unsigned_abs t = less_by product t in
-    far_units (product +ℤ t) (omega arith)
+product_far product t h small = grind (arith, large, less_by, far_units)
 
 pub sum_far : (z : ℤ) → (FitsSigned w128 z → ⊥) → position_limit < unsigned_abs (to_units z)
-sum_far z h =
-    let a : 2 ^ 127 ≤ unsigned_abs z = large z h in
-    far_units z (omega arith)
+sum_far z h = grind (arith, large, far_units)

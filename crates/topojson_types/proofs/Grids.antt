@@ -10,27 +10,18 @@ use Rattle.topojson_types.specs.Transforms.{is_within, grid_limit, moved, sums_f
 
 -- ---- tests
 
-pub is_within-x : (bound : ℕ) (p : Point) → bound < unsigned_abs p.x → is_within bound p ≡ false
-unfolding is_within
-is_within-x bound p h = let e : leb (unsigned_abs p.x) bound ≡ false = grind (arith, nat_tests) in rw e refl
-
-pub is_within-y : (bound : ℕ) (p : Point) → bound < unsigned_abs p.y → is_within bound p ≡ false
-unfolding is_within
-is_within-y bound p h = let e : leb (unsigned_abs p.y) bound ≡ false = grind (arith, nat_tests) in rw e (and_right _ false refl)
-
 pub is_within-both : (bound : ℕ) (p : Point) → unsigned_abs p.x ≤ bound → unsigned_abs p.y ≤ bound → is_within bound p ≡ true
 unfolding is_within
-is_within-both bound p h k =
-    let e : leb (unsigned_abs p.x) bound ≡ true = grind (arith, nat_tests) in
-    let f : leb (unsigned_abs p.y) bound ≡ true = grind (arith, nat_tests) in
-    rw (e, f) refl
+is_within-both bound p h k = grind arith
 
 -- a cell moved by a difference, of which the first or the second number is out of bounds, or neither
 pub out_x : (bound : ℕ) (p d : Point) (size : ℕ) → size ≡ unsigned_abs (p.x +ℤ d.x) → bound < size → is_within bound (moved p d) ≡ false
-out_x bound p d size e h = is_within-x bound (moved p d) (omega arith)
+unfolding is_within
+out_x bound p d size e h = let e : leb (unsigned_abs (moved p d).x) bound ≡ false = grind (arith, nat_tests) in rw e refl
 
 pub out_y : (bound : ℕ) (p d : Point) (size : ℕ) → size ≡ unsigned_abs (p.y +ℤ d.y) → bound < size → is_within bound (moved p d) ≡ false
-out_y bound p d size e h = is_within-y bound (moved p d) (omega arith)
+unfolding is_within
+out_y bound p d size e h = let e : leb (unsigned_abs (moved p d).y) bound ≡ false = grind (arith, nat_tests) in rw e (and_right _ false refl)
 
 -- ---- sums
 
@@ -46,8 +37,7 @@ starts differences = record { within = refl; whole = refl }
 next : (ds : List Point) (before : Point) (i : ℕ) (d : Point) → i < length ds → d ≡ get_or ds i d
     → sums_from before (drop i ds) ≡ moved before d ∷ sums_from (moved before d) (drop (i + 1) ds)
 unfolding sums_from
-next ds before i d h is =
-    at_drop_more (sums_from before) ds i d h ∙ ap (λ e. moved before e ∷ sums_from (moved before e) (drop (i + 1) ds)) (sym is)
+next ds before i d h is = grind (arith, at_drop_more (sums_from before) ds i d h)
 
 pub turns : (differences : List Point) (i : ℕ) (cells before_cells : List Point) (before d c : Point) → i < length differences → d ≡ get_or differences i d
     → SoFar differences i before_cells before → c ≡ moved before d → is_within grid_limit (moved before d) ≡ true
@@ -72,5 +62,4 @@ breaks ds i cells before d h is so outside =
 
 pub ends : (differences : List Point) (i : ℕ) (cells : List Point) (before : Point) → length differences ≤ i → SoFar differences i cells before → cells ≡ sums differences
 unfolding sums_from
-ends ds i cells before h so =
-    sym (append-nil cells) ∙ ap (λ zs. cells ++ zs) (sym (at_drop_all (sums_from before) ds i h)) ∙ so.whole
+ends ds i cells before h so = grind (arith, append-nil cells, at_drop_all (sums_from before) ds i h)

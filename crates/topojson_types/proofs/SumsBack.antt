@@ -17,8 +17,7 @@ pub record SoFar (cells : List Point) (i : ℕ) (differences : List Point) (befo
   pub whole : differences ++ deltas_from before (drop i cells) ≡ deltas cells
 
 pub starts : (cells : List Point) → SoFar cells 0 [] origin
-starts [] = record { place = (omega arith, omega arith); whole = refl }
-starts (c ∷ cs) = record { place = (omega arith, omega arith); whole = refl }
+starts cells = grind arith
 
 pub next : (cells : List Point) (before : Point) (i : ℕ) (c : Point) → i < length cells → c ≡ get_or cells i c
     → deltas_from before (drop i cells) ≡ difference before c ∷ deltas_from c (drop (i + 1) cells)
@@ -27,17 +26,11 @@ next cells before i c h is = ap (deltas_from before) (drop_here cells i c h is)
 
 pub turns : (cells : List Point) (i : ℕ) (was differences : List Point) (before c d : Point) → i < length cells → c ≡ get_or cells i c
     → AllByRecursion IsPosition cells → SoFar cells i was before → d ≡ difference before c → differences ≡ was ++ d ∷ [] → SoFar cells (i + 1) differences c
-turns cells i was differences before c d h is all so e pushed = record {
-  place = all_at IsPosition cells i c h is all;
-  whole = ap (λ ds. ds ++ deltas_from c (drop (i + 1) cells)) (pushed ∙ ap (λ z. was ++ z ∷ []) e)
-      ∙ append_assoc was (difference before c ∷ []) (deltas_from c (drop (i + 1) cells))
-      ∙ ap (λ ds. was ++ ds) (sym (next cells before i c h is)) ∙ so.whole;
-}
+turns cells i was differences before c d h is all so e pushed = grind (arith, all_at, append_assoc, next)
 
 pub ends : (cells : List Point) (i : ℕ) (differences : List Point) (before : Point) → length cells ≤ i → SoFar cells i differences before → differences ≡ deltas cells
 unfolding deltas_from
-ends cells i differences before h so =
-    sym (append-nil differences) ∙ ap (λ ds. differences ++ ds) (sym (at_drop_all (deltas_from before) cells i h)) ∙ so.whole
+ends cells i differences before h so = grind (arith, append-nil differences, at_drop_all (deltas_from before) cells i h)
 
 -- ---- back
 

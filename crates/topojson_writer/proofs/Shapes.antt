@@ -3,7 +3,7 @@ use Rattle.std.proofs.Common.{◌≡◌, ℕ, ℤ, List, ◌++◌, map, refl, sy
 use Rattle.std.specs.Prelude.{codes}
 use Rattle.json_value.specs.declared.json.Json.{Json}
 use Rattle.json_value.specs.declared.json.Json.TheVariants as j
-use Rattle.json_value.specs.Text.{json_text, escaped_byte}
+use Rattle.json_value.specs.Text.{json_text, quoted, name_text}
 use Rattle.json_value.proofs.Texts.{text-text, fused}
 use Rattle.geometry.specs.declared.shape.Geometry.TheVariants as g
 use Rattle.geometry.specs.Points.{Point}
@@ -22,63 +22,15 @@ is-group cell shapes = (geometrical_at cell).group shapes
 
 -- ---- the type
 
-pub type-point : (cell : Point → Json) (p : Point) → type_text (geometrical cell (g.Point p)) ≡ codes "{\"type\":\"Point\""
-unfolding type_text escaped_byte
-type-point cell p = ap type_text ((geometrical_at cell).point p) ∙ ap (λ (text : List ℕ). codes "{\"type\":" ++ text) (text-text (codes "Point"))
-
-pub type-points : (cell : Point → Json) (ps : List Point) → type_text (geometrical cell (g.MultiPoint ps)) ≡ codes "{\"type\":\"MultiPoint\""
-unfolding type_text escaped_byte
-type-points cell ps = ap type_text ((geometrical_at cell).points ps) ∙ ap (λ (text : List ℕ). codes "{\"type\":" ++ text) (text-text (codes "MultiPoint"))
-
-pub type-line : (cell : Point → Json) (refs : List ℤ) → type_text (geometrical cell (g.Line refs)) ≡ codes "{\"type\":\"LineString\""
-unfolding type_text escaped_byte
-type-line cell refs = ap type_text ((geometrical_at cell).line refs) ∙ ap (λ (text : List ℕ). codes "{\"type\":" ++ text) (text-text (codes "LineString"))
-
-pub type-lines : (cell : Point → Json) (ls : List (List ℤ)) → type_text (geometrical cell (g.Lines ls)) ≡ codes "{\"type\":\"MultiLineString\""
-unfolding type_text escaped_byte
-type-lines cell ls = ap type_text ((geometrical_at cell).lines ls) ∙ ap (λ (text : List ℕ). codes "{\"type\":" ++ text) (text-text (codes "MultiLineString"))
-
-pub type-area : (cell : Point → Json) (rs : List (List ℤ)) → type_text (geometrical cell (g.Area rs)) ≡ codes "{\"type\":\"Polygon\""
-unfolding type_text escaped_byte
-type-area cell rs = ap type_text ((geometrical_at cell).area rs) ∙ ap (λ (text : List ℕ). codes "{\"type\":" ++ text) (text-text (codes "Polygon"))
-
-pub type-areas : (cell : Point → Json) (areas : List (List (List ℤ))) → type_text (geometrical cell (g.Areas areas)) ≡ codes "{\"type\":\"MultiPolygon\""
-unfolding type_text escaped_byte
-type-areas cell areas = ap type_text ((geometrical_at cell).areas areas) ∙ ap (λ (text : List ℕ). codes "{\"type\":" ++ text) (text-text (codes "MultiPolygon"))
-
-pub type-group : (cell : Point → Json) (shapes : List TopoShape) → type_text (geometrical cell (g.Group shapes)) ≡ codes "{\"type\":\"GeometryCollection\""
-unfolding type_text escaped_byte
-type-group cell shapes = ap type_text (is-group cell shapes) ∙ ap (λ (text : List ℕ). codes "{\"type\":" ++ text) (text-text (codes "GeometryCollection"))
+pub type-is : (o : Geometrical) (type key : List ℕ) (v : Json) → o ≡ typed type key v → type_text o ≡ codes "{\"type\":" ++ quoted type
+unfolding type_text
+type-is o type key v e = ap type_text e ∙ ap (λ (text : List ℕ). codes "{\"type\":" ++ text) (text-text type)
 
 -- ---- the name of what is behind it
 
-pub name-point : (cell : Point → Json) (p : Point) → parts_name (geometrical cell (g.Point p)) ≡ codes ",\"coordinates\":"
-unfolding parts_name escaped_byte
-name-point cell p = ap parts_name ((geometrical_at cell).point p)
-
-pub name-points : (cell : Point → Json) (ps : List Point) → parts_name (geometrical cell (g.MultiPoint ps)) ≡ codes ",\"coordinates\":"
-unfolding parts_name escaped_byte
-name-points cell ps = ap parts_name ((geometrical_at cell).points ps)
-
-pub name-line : (cell : Point → Json) (refs : List ℤ) → parts_name (geometrical cell (g.Line refs)) ≡ codes ",\"arcs\":"
-unfolding parts_name escaped_byte
-name-line cell refs = ap parts_name ((geometrical_at cell).line refs)
-
-pub name-lines : (cell : Point → Json) (ls : List (List ℤ)) → parts_name (geometrical cell (g.Lines ls)) ≡ codes ",\"arcs\":"
-unfolding parts_name escaped_byte
-name-lines cell ls = ap parts_name ((geometrical_at cell).lines ls)
-
-pub name-area : (cell : Point → Json) (rs : List (List ℤ)) → parts_name (geometrical cell (g.Area rs)) ≡ codes ",\"arcs\":"
-unfolding parts_name escaped_byte
-name-area cell rs = ap parts_name ((geometrical_at cell).area rs)
-
-pub name-areas : (cell : Point → Json) (areas : List (List (List ℤ))) → parts_name (geometrical cell (g.Areas areas)) ≡ codes ",\"arcs\":"
-unfolding parts_name escaped_byte
-name-areas cell areas = ap parts_name ((geometrical_at cell).areas areas)
-
-pub name-group : (cell : Point → Json) (shapes : List TopoShape) → parts_name (geometrical cell (g.Group shapes)) ≡ codes ",\"geometries\":"
-unfolding parts_name escaped_byte
-name-group cell shapes = ap parts_name (is-group cell shapes)
+pub name-is : (o : Geometrical) (type key : List ℕ) (v : Json) → o ≡ typed type key v → parts_name o ≡ codes "," ++ name_text key
+unfolding parts_name
+name-is o type key v e = ap parts_name e
 
 -- ---- its value
 

@@ -86,19 +86,13 @@ module _ (old new : Drained) (text : List ℕ) where
 -- ---- nothing is written
 
 never : (exact : Bool) (e : BuildFault) → ((n : ℕ) (old new : Fed) → FailsToRead n exact old new e → ⊥) → (n : ℕ) (olds news : Sources) → FailsAt exact n olds news e → ⊥
-never exact e ruled_out n [] news f = f
-never exact e ruled_out n (s ∷ ss) [] f = f
 never exact e ruled_out n (s ∷ ss) (t ∷ ts) (inl f) = ruled_out n s.1 t.1 f.1
 never exact e ruled_out n (s ∷ ss) (t ∷ ts) (inr f) = never exact e ruled_out (suc n) ss ts f.3
+never exact e ruled_out n olds news f = f
 
 pub not_read : (o : Options) (olds news : Sources) (sink : Drained) (e : BuildFault) → FailsToReadAll o.exact olds news e → IsLateFault o olds news sink sink e
-not_read o olds news sink (Read i r) f = (refl, f)
-not_read o olds news sink (Json i r) f = (refl, f)
-not_read o olds news sink (Geo i r) f = (refl, f)
-not_read o olds news sink (EmptyName i) f = (refl, f)
-not_read o olds news sink (DuplicateName i) f = (refl, f)
-not_read o olds news sink Memory f = (refl, f)
 not_read o olds news sink (Write sent) f = absurd (never o.exact (Write sent) (λ n old new h. absurd h.2) 0 olds news f)
+not_read o olds news sink e f = (refl, f)
 
 pub no_memory : (o : Options) (olds news : Sources) (sink : Drained) (ls : Named) (cs : List Counts) → AllRead o.exact olds news ls cs → IsLateFault o olds news sink sink Memory
 no_memory o olds news sink ls cs all = (refl, untroubled_all o.exact olds news ls cs all)
@@ -119,8 +113,4 @@ may_be_made laws o olds news ls cs all e = are_taken o ls (all_taken laws o.exac
 
 -- the fault of the names is the first of all
 pub early_names : (names : List (List ℕ)) (found e : BuildFault) → IsRefusedFor (name_fault names) (Err found) → name_fault names ≡ Some e → found ≡ e
-early_names names found e refused early = on (name_fault names) refused early
-  where
-    on : (f : Option BuildFault) → IsRefusedFor f (Err found) → f ≡ Some e → found ≡ e
-    on None r k = absurd cc
-    on (Some x) r k = cc
+early_names names found e refused early = let r = rw early at refused in cc

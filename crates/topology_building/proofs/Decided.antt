@@ -1,5 +1,5 @@
 -- What building says of its answer makes it follow the one outcome of the bytes of the layers.
-use Rattle.std.proofs.Common.{◌≡◌, ◌⊎◌, ℕ, List, ◌∙◌, ap, inl, inr, Result, Ok, Err}
+use Rattle.std.proofs.Common.{⊎_elim, ◌≡◌, ◌⊎◌, ℕ, List, ◌∙◌, ap, inl, inr, Result, Ok, Err}
 use Rattle.std.specs.Prelude.{IfOk, IfErr}
 use Rattle.byte_ends.specs.Ends.{Drained}
 use Rattle.geojson_types.specs.declared.counts.Counts.{Counts}
@@ -22,11 +22,8 @@ follows_outside o (Err f) e h k = inr h
 is_outside : (e : BuildFault) → IsOutsideRead e → IsOutside e
 is_outside (Read i r) h = h
 is_outside Memory h = h
-is_outside (EmptyName i) h = absurd h
-is_outside (DuplicateName i) h = absurd h
-is_outside (Text i r) h = absurd h
-is_outside (Geo i r) h = absurd h
 is_outside (Write sent) h = tt
+is_outside e h = absurd h
 
 follows_fault : (o : Options) (outcome : Outcome) (e : BuildFault) → plain_outcome (Err e) ≡ plain_outcome outcome → Follows o outcome (Err e)
 follows_fault o (Ok r) e h = absurd cc
@@ -47,22 +44,14 @@ module _ (o : Options) (olds news : Sources) (sink_old sink_new : Drained) (bs :
       follows_built o outcome is.layers is.counts report (once o.exact bs (Ok (is.layers, is.counts)) outcome all comes) is.told
 
   failed : (e : BuildFault) → FailsAt o.exact 0 olds news e → Follows o outcome (Err e)
-  failed e f = on (fails_come 0 o.exact olds news bs e f have)
-    where
-      on : IsOutsideRead e ⊎ AllComeTo 0 o.exact bs (Err e) → Follows o outcome (Err e)
-      on (inl out) = follows_outside o outcome e out (is_outside e out)
-      on (inr all) = follows_fault o outcome e (once o.exact bs (Err e) outcome all comes)
+  failed e f = ⊎_elim (λ out. follows_outside o outcome e out (is_outside e out)) (λ all. follows_fault o outcome e (once o.exact bs (Err e) outcome all comes)) (fails_come 0 o.exact olds news bs e f have)
 
   late_follows : (e : BuildFault) → IsLateFault o olds news sink_old sink_new e → Follows o outcome (Err e)
   late_follows (Write sent) is =
       let all = read_comes 0 o.exact olds news is.layers is.counts bs is.builds.read have in
       follows_cut o outcome is.layers is.counts sent (once o.exact bs (Ok (is.layers, is.counts)) outcome all comes)
   late_follows Memory is = follows_outside o outcome Memory tt tt
-  late_follows (Read i r) is = failed (Read i r) is.1
-  late_follows (Text i r) is = failed (Text i r) is.1
-  late_follows (Geo i r) is = failed (Geo i r) is.1
-  late_follows (EmptyName i) is = failed (EmptyName i) is.1
-  late_follows (DuplicateName i) is = failed (DuplicateName i) is.1
+  late_follows e is = failed e is.1
 
   all_decide : (r : Result Report BuildFault) → IfOk r (λ report. IsBuilt o olds news sink_old sink_new report) → IfErr r (λ e. IsLateFault o olds news sink_old sink_new e) → Follows o outcome r
   all_decide (Ok report) is late = built_follows report is
@@ -78,21 +67,13 @@ module _ (o : Options) (olds news : Sources) (sink_old sink_new : Drained) (bs :
   not_built ls cs all = let r = first_comes 0 o.exact olds news ls cs bs all have in not_taken o bs f r.0 r.1 comes
 
   first_failed : (e : BuildFault) → FailsAt o.exact 0 olds news e → Follows o (Err f) (Err e)
-  first_failed e fails = on (first_fails 0 o.exact olds news bs e fails have)
-    where
-      on : IsOutsideRead e ⊎ (AllComeTo 0 o.exact bs (Err e) ⊎ ((r : Named × List Counts) × AllComeTo 0 o.exact bs (Ok r))) → Follows o (Err f) (Err e)
-      on (inl out) = inr out
-      on (inr (inl all)) = follows_fault o (Err f) e (once o.exact bs (Err e) (Err f) all comes)
-      on (inr (inr r)) = absurd (not_taken o bs f r.0 r.1 comes)
+  first_failed e fails = ⊎_elim (λ out. inr out)
+      (λ h. ⊎_elim (λ all. follows_fault o (Err f) e (once o.exact bs (Err e) (Err f) all comes)) (λ r. absurd (not_taken o bs f r.0 r.1 comes)) h) (first_fails 0 o.exact olds news bs e fails have)
 
   first_follows : (e : BuildFault) → IsLateFault o olds news sink_old sink_new e → Follows o (Err f) (Err e)
   first_follows (Write sent) is = absurd (not_built is.layers is.counts is.builds.read)
   first_follows Memory is = inr tt
-  first_follows (Read i r) is = first_failed (Read i r) is.1
-  first_follows (Text i r) is = first_failed (Text i r) is.1
-  first_follows (Geo i r) is = first_failed (Geo i r) is.1
-  first_follows (EmptyName i) is = first_failed (EmptyName i) is.1
-  first_follows (DuplicateName i) is = first_failed (DuplicateName i) is.1
+  first_follows e is = first_failed e is.1
 
   first_decide : (r : Result Report BuildFault) → IfOk r (λ report. IsBuilt o olds news sink_old sink_new report) → IfErr r (λ e. IsLateFault o olds news sink_old sink_new e) → Follows o (Err f) r
   first_decide (Ok report) is late = absurd (not_built is.layers is.counts is.builds.read)

@@ -69,22 +69,12 @@ AllTaken ls = AllByRecursion (λ l. AllByRecursion IsTaken l.1.features) ls
 pub all_taken : LayerLaws → (exact : Bool) (olds news : Sources) (ls : Named) (cs : List Counts) → AllRead exact olds news ls cs → AllTaken ls
 all_taken laws exact [] [] [] [] h = tt
 all_taken laws exact (s ∷ ss) (t ∷ ts) (l ∷ ls) (c ∷ cs) h = (layer_taken laws exact s t l c h.0, all_taken laws exact ss ts ls cs h.1)
-all_taken laws exact [] [] [] (c ∷ cs) h = absurd h
-all_taken laws exact [] [] (l ∷ ls) cs h = absurd h
-all_taken laws exact [] (t ∷ ts) ls cs h = absurd h
-all_taken laws exact (s ∷ ss) [] ls cs h = absurd h
-all_taken laws exact (s ∷ ss) (t ∷ ts) [] cs h = absurd h
-all_taken laws exact (s ∷ ss) (t ∷ ts) (l ∷ ls) [] h = absurd h
+all_taken laws exact olds news ls cs h = absurd h
 
 pub names_read : (exact : Bool) (olds news : Sources) (ls : Named) (cs : List Counts) → AllRead exact olds news ls cs → names_of ls ≡ map (λ s. s.0) olds
 names_read exact [] [] [] [] h = refl
 names_read exact (s ∷ ss) (t ∷ ts) (l ∷ ls) (c ∷ cs) h = rw (h.0.name, names_read exact ss ts ls cs h.1) refl
-names_read exact [] [] [] (c ∷ cs) h = absurd h
-names_read exact [] [] (l ∷ ls) cs h = absurd h
-names_read exact [] (t ∷ ts) ls cs h = absurd h
-names_read exact (s ∷ ss) [] ls cs h = absurd h
-names_read exact (s ∷ ss) (t ∷ ts) [] cs h = absurd h
-names_read exact (s ∷ ss) (t ∷ ts) (l ∷ ls) [] h = absurd h
+names_read exact olds news ls cs h = absurd h
 
 -- ---- what is known of them
 

@@ -10,14 +10,11 @@ use Rattle.json_value.proofs.Texts.{text-number}
 use Rattle.json_writer.proofs.Lists.{pair-text}
 use Rattle.json_writer.proofs.number_writer.put_pair.Goals as goal
 
-of_five : (a b c d e : List ℕ) → (((a ++ b) ++ c) ++ d) ++ e ≡ a ++ (b ++ (c ++ (d ++ e)))
-of_five a b c d e = simp append_assoc
-
 -- a text that is made of five parts, one behind the other
 made : (a b c d e : List ℕ) {t0 t1 t2 t3 t4 t5 : List ℕ} → t0 ≡ [] → t1 ≡ t0 ++ a → t2 ≡ t1 ++ b → t3 ≡ t2 ++ c → t4 ≡ t3 ++ d → t5 ≡ t4 ++ e
     → a ++ (b ++ (c ++ (d ++ e))) ≡ t5
 made a b c d e e0 e1 e2 e3 e4 e5 =
-    sym (of_five a b c d e)
+    sym (simp append_assoc)
     ∙ ap (λ t. (((t ++ b) ++ c) ++ d) ++ e) (sym (e1 ∙ ap (λ t. t ++ a) e0))
     ∙ ap (λ t. ((t ++ c) ++ d) ++ e) (sym e2) ∙ ap (λ t. (t ++ d) ++ e) (sym e3) ∙ ap (λ t. t ++ e) (sym e4) ∙ sym e5
 

@@ -16,19 +16,11 @@ pub nonzero_rem-size : goal.nonzero_rem-size
 nonzero_rem-size c = omega (arith, c.pow-unit.ensures, one-le-pow c.args.places 10 (omega arith))
 
 pub add_rest-requires-clause-rest : goal.add_rest-requires-clause-rest
-add_rest-requires-clause-rest c =
-    let pos : 1 ≤ 10 ^ c.args.places = one-le-pow c.args.places 10 (omega arith) in
-    let unit : 0 < c.pow-unit.result = omega (arith, c.pow-unit.ensures) in
-    omega arith
+add_rest-requires-clause-rest c = grind (arith, one-le-pow)
 
 pub add_rest-requires-clause-small : goal.add_rest-requires-clause-small
 add_rest-requires-clause-small c = omega (arith, c.pow-unit.ensures, pow-18 c.args.places c.requires.places)
 
 pub returns-clause-added : goal.returns-clause-added
 unfolding units_text
-returns-clause-added c =
-    let same = to_z-of_z w64 c.args.units c.ranges.units in
-    let size = rw same at c.unsigned_abs-size.ensures.value in
-    let front = rw (same, c.pow-unit.ensures, size) at c.add_whole.ensures.added in
-    let rest = rw (c.pow-unit.ensures, size) at c.add_rest.ensures.added in
-    rest ∙ ap (λ t. t ++ fraction_text (trimmed (fixed c.args.places (unsigned_abs c.args.units % 10 ^ c.args.places)))) front ∙ append_assoc c.args.text.now _ _
+returns-clause-added c = grind (arith, to_z-of_z, append_assoc)

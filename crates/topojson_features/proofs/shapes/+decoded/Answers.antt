@@ -9,8 +9,7 @@ use Rattle.topojson_features.proofs.Standing.{point_stands, points_stand, line_s
 use Rattle.topojson_features.proofs.shapes.+decoded.Goals as goal
 
 pub position_at-requires : goal.position_at-requires
-position_at-requires t c =
-    rw c.transform.ensures.transform (point_stands c.args.topology.now c.args.shape.now c.in-Point.cell c.in-Point.is c.requires)
+position_at-requires t c = grind (arith, point_stands)
 
 pub returns-in-Point-clause-decoded : goal.returns-in-Point-clause-decoded
 returns-in-Point-clause-decoded t c =
@@ -21,8 +20,7 @@ returns-in-Point-clause-proper t c =
     (point_decodes c.args.topology.now c.args.shape.now c.requires c.in-Point.cell c.position_at.result c.in-Point.is (rw c.transform.ensures.transform at c.position_at.ensures)).1
 
 pub positions-requires : goal.positions-requires
-positions-requires t c =
-    rw (c.transform-in-MultiPoint.ensures.transform, c.as_slice.ensures) (points_stand c.args.topology.now c.args.shape.now c.in-MultiPoint.cells c.in-MultiPoint.is c.requires)
+positions-requires t c = grind (arith, points_stand)
 
 pub returns-in_ok-positions-in-MultiPoint-clause-decoded : goal.returns-in_ok-positions-in-MultiPoint-clause-decoded
 returns-in_ok-positions-in-MultiPoint-clause-decoded t c =
@@ -35,8 +33,7 @@ returns-in_ok-positions-in-MultiPoint-clause-proper t c =
     (rw (c.transform-in-MultiPoint.ensures.transform, c.as_slice.ensures) at c.in_ok-positions-in-MultiPoint.ensures)).1
 
 pub line-requires : goal.line-requires
-line-requires t c =
-    rw c.as_slice-in-Line.ensures (line_stands c.args.topology.now c.args.shape.now c.in-Line.refs c.in-Line.is c.requires)
+line-requires t c = grind (arith, line_stands c.args.topology.now c.args.shape.now c.in-Line.refs c.in-Line.is c.requires)
 
 pub returns-in_ok-line-in-Line-clause-decoded : goal.returns-in_ok-line-in-Line-clause-decoded
 returns-in_ok-line-in-Line-clause-decoded t c =
@@ -47,8 +44,7 @@ returns-in_ok-line-in-Line-clause-proper t c =
     (line_decodes c.args.topology.now c.args.shape.now c.requires c.in-Line.refs c.in_ok-line-in-Line.field-0 c.in-Line.is (rw c.as_slice-in-Line.ensures at c.in_ok-line-in-Line.ensures)).1
 
 pub lines-requires : goal.lines-requires
-lines-requires t c =
-    rw c.as_slice-in-Lines.ensures (lines_stand c.args.topology.now c.args.shape.now c.in-Lines.refs c.in-Lines.is c.requires)
+lines-requires t c = grind (arith, lines_stand)
 
 pub returns-in_ok-lines-in-Lines-clause-decoded : goal.returns-in_ok-lines-in-Lines-clause-decoded
 returns-in_ok-lines-in-Lines-clause-decoded t c =
@@ -59,8 +55,7 @@ returns-in_ok-lines-in-Lines-clause-proper t c =
     (lines_decode c.args.topology.now c.args.shape.now c.requires c.in-Lines.refs c.in_ok-lines-in-Lines.field-0 c.in-Lines.is (rw c.as_slice-in-Lines.ensures at c.in_ok-lines-in-Lines.ensures)).1
 
 pub rings-requires : goal.rings-requires
-rings-requires t c =
-    rw c.as_slice-in-Area.ensures (area_stands c.args.topology.now c.args.shape.now c.in-Area.refs c.in-Area.is c.requires)
+rings-requires t c = grind (arith, area_stands)
 
 pub returns-in_ok-rings-in-Area-clause-decoded : goal.returns-in_ok-rings-in-Area-clause-decoded
 returns-in_ok-rings-in-Area-clause-decoded t c =
@@ -91,9 +86,7 @@ decoded-requires t c =
     (omega arith, all_at (IsShape c.args.topology.now) c.as_slice-member-items.result.now c.members.member-index c.member-item.result c.members-test.true c.member-item.is all)
 
 pub returns-after-members-clause-decoded : goal.returns-after-members-clause-decoded
-returns-after-members-clause-decoded t c =
-    let is = c.in-Group.is ∙ ap (λ ss. g.Group ss) (sym c.as_slice-member-items.ensures) in
-    (group_decodes c.args.topology.now c.args.shape.now c.as_slice-member-items.result.now c.members.member-index c.members.shapes.items c.of.result is c.members-test.false c.members.invariant c.of.ensures).0
+returns-after-members-clause-decoded t c = grind (arith, group_decodes)
 
 pub returns-after-members-clause-proper : goal.returns-after-members-clause-proper
 returns-after-members-clause-proper t c =

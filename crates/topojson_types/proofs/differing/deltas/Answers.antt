@@ -18,5 +18,4 @@ pub difference-requires-clause-before : goal.difference-requires-clause-before
 difference-requires-clause-before c = c.cells.invariant.place
 
 pub difference-requires-clause-cell : goal.difference-requires-clause-cell
-difference-requires-clause-cell c =
-    all_at IsPosition c.args.cells.now c.cells.cell-index c.cell-item.result c.cells-test.true c.cell-item.is c.requires
+difference-requires-clause-cell c = all_at IsPosition c.args.cells.now c.cells.cell-index c.cell-item.result c.cells-test.true c.cell-item.is c.requires

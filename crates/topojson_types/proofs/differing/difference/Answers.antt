@@ -3,8 +3,7 @@ use Rattle.std.proofs.lemmas.Int.{ints}
 use Rattle.topojson_types.proofs.differing.difference.Goals as goal
 
 pub at-requires : goal.at-requires
-at-requires c =
-    (omega (arith, ints, c.requires.before.0, c.requires.cell.0), omega (arith, ints, c.requires.before.1, c.requires.cell.1))
+at-requires c = (omega (arith, ints, c.requires.before.0, c.requires.cell.0), omega (arith, ints, c.requires.before.1, c.requires.cell.1))
 
 pub returns : goal.returns
 returns c =

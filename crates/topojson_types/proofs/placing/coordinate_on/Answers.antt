@@ -7,11 +7,7 @@ use Rattle.topojson_types.proofs.placing.coordinate_on.Goals as goal
 
 pub returns-in_err-product-clause-none : goal.returns-in_err-product-clause-none
 unfolding stands_for
-returns-in_err-product-clause-none c =
-    let n : to_z w128 (of_z w128 c.from.result) ≡ c.args.number = omega (arith, ints) in
-    let s : to_z w128 (of_z w128 c.value-scale.result) ≡ c.value-scale.result = omega (arith, ints) in
-    rw (c.from_residual.ensures, c.value-scale.ensures.value, c.value-translate.ensures.value)
-    (product_far _ _ (rw (n, s) at c.in_err-product.ensures) c.value-translate.ensures.within)
+returns-in_err-product-clause-none c = grind (arith, product_far)
 
 pub returns-in_err-sum-clause-none : goal.returns-in_err-sum-clause-none
 unfolding stands_for

@@ -1,27 +1,37 @@
 use Rattle.std.proofs.Common.{ap, ◌∙◌}
+use Rattle.std.specs.Prelude.{codes}
 use Rattle.byte_ends.proofs.Parts.{as_text}
+use Rattle.json_value.specs.Text.{escaped_byte}
 use Rattle.topojson_types.specs.Values.{geometrical}
+use Rattle.topojson_types.proofs.ByKind.{geometrical_at}
 use Rattle.topojson_writer.specs.Texts.{type_text}
 use Rattle.topojson_writer.proofs.Shapes as kind
 use Rattle.topojson_writer.proofs.shape_writer.put_type.Goals as goal
 
 pub returns-in-Point : goal.returns-in-Point
-returns-in-Point g c = as_text (ap (λ shape. type_text (geometrical g.C.PutValue.value shape)) c.in-Point.is ∙ kind.type-point _ _) c.put_part.ensures
+unfolding escaped_byte
+returns-in-Point g c = as_text (ap (λ shape. type_text (geometrical g.C.PutValue.value shape)) c.in-Point.is ∙ kind.type-is _ (codes "Point") (codes "coordinates") _ ((geometrical_at g.C.PutValue.value).point _)) c.put_part.ensures
 
 pub returns-in-MultiPoint : goal.returns-in-MultiPoint
-returns-in-MultiPoint g c = as_text (ap (λ shape. type_text (geometrical g.C.PutValue.value shape)) c.in-MultiPoint.is ∙ kind.type-points _ _) c.put_part-in-MultiPoint.ensures
+unfolding escaped_byte
+returns-in-MultiPoint g c = as_text (ap (λ shape. type_text (geometrical g.C.PutValue.value shape)) c.in-MultiPoint.is ∙ kind.type-is _ (codes "MultiPoint") (codes "coordinates") _ ((geometrical_at g.C.PutValue.value).points _)) c.put_part-in-MultiPoint.ensures
 
 pub returns-in-Line : goal.returns-in-Line
-returns-in-Line g c = as_text (ap (λ shape. type_text (geometrical g.C.PutValue.value shape)) c.in-Line.is ∙ kind.type-line _ _) c.put_part-in-Line.ensures
+unfolding escaped_byte
+returns-in-Line g c = as_text (ap (λ shape. type_text (geometrical g.C.PutValue.value shape)) c.in-Line.is ∙ kind.type-is _ (codes "LineString") (codes "arcs") _ ((geometrical_at g.C.PutValue.value).line _)) c.put_part-in-Line.ensures
 
 pub returns-in-Lines : goal.returns-in-Lines
-returns-in-Lines g c = as_text (ap (λ shape. type_text (geometrical g.C.PutValue.value shape)) c.in-Lines.is ∙ kind.type-lines _ _) c.put_part-in-Lines.ensures
+unfolding escaped_byte
+returns-in-Lines g c = as_text (ap (λ shape. type_text (geometrical g.C.PutValue.value shape)) c.in-Lines.is ∙ kind.type-is _ (codes "MultiLineString") (codes "arcs") _ ((geometrical_at g.C.PutValue.value).lines _)) c.put_part-in-Lines.ensures
 
 pub returns-in-Area : goal.returns-in-Area
-returns-in-Area g c = as_text (ap (λ shape. type_text (geometrical g.C.PutValue.value shape)) c.in-Area.is ∙ kind.type-area _ _) c.put_part-in-Area.ensures
+unfolding escaped_byte
+returns-in-Area g c = as_text (ap (λ shape. type_text (geometrical g.C.PutValue.value shape)) c.in-Area.is ∙ kind.type-is _ (codes "Polygon") (codes "arcs") _ ((geometrical_at g.C.PutValue.value).area _)) c.put_part-in-Area.ensures
 
 pub returns-in-Areas : goal.returns-in-Areas
-returns-in-Areas g c = as_text (ap (λ shape. type_text (geometrical g.C.PutValue.value shape)) c.in-Areas.is ∙ kind.type-areas _ _) c.put_part-in-Areas.ensures
+unfolding escaped_byte
+returns-in-Areas g c = as_text (ap (λ shape. type_text (geometrical g.C.PutValue.value shape)) c.in-Areas.is ∙ kind.type-is _ (codes "MultiPolygon") (codes "arcs") _ ((geometrical_at g.C.PutValue.value).areas _)) c.put_part-in-Areas.ensures
 
 pub returns-in-Group : goal.returns-in-Group
-returns-in-Group g c = as_text (ap (λ shape. type_text (geometrical g.C.PutValue.value shape)) c.in-Group.is ∙ kind.type-group _ _) c.put_part-in-Group.ensures
+unfolding escaped_byte
+returns-in-Group g c = as_text (ap (λ shape. type_text (geometrical g.C.PutValue.value shape)) c.in-Group.is ∙ kind.type-is _ (codes "GeometryCollection") (codes "geometries") _ (kind.is-group g.C.PutValue.value _)) c.put_part-in-Group.ensures

@@ -1,5 +1,5 @@
 -- The first arc that is alike a piece.
-use Rattle.std.proofs.Common.{rules, ◌≡◌, ℕ, ◌+◌, Bool, true, false, cond, List, [], ◌∷◌, refl, arith, None, Some}
+use Rattle.std.proofs.Common.{◌≡◌, ℕ, ◌+◌, Bool, true, false, cond, List, [], ◌∷◌, refl, arith, None, Some}
 use Rattle.std.specs.Prelude.{ℤ, pos, negsuc}
 use Rattle.arc_table.specs.Arcs.{alike}
 use Rattle.arc_table.specs.Growth.{directed, next, has_alike, first_alike, found}
@@ -7,7 +7,8 @@ use Rattle.geometry.specs.Points.{Point}
 
 -- an index, where k more arcs stand before
 shifted : ℕ → ℤ → ℤ
-shifted k h = search rules
+shifted k (pos i) = pos (k + i)
+shifted k (negsuc i) = negsuc (k + i)
 
 shifted_directed : (k : ℕ) (b : Bool) → directed b k ≡ shifted k (directed b 0)
 unfolding shifted

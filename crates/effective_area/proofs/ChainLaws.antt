@@ -64,11 +64,27 @@ module _ (after before : ℕ → ℕ) where
     cut_out u (v ∷ (w ∷ ws)) h k n = by_case (λ m. cut_out v (w ∷ ws) h.3 m n) (same_or_not v i)
       where
         there : In i (v ∷ (w ∷ ws)) → v ≢ i → In i (w ∷ ws)
-        there h m = grind arith
+        there (inl e) m = absurd (m (sym e))
+        there (inr k) m = k
 
         by_case : (In i (w ∷ ws) → Chain after' before' v (filter (λ j. not (eqb j i)) (w ∷ ws))) → (v ≡ i) ⊎ (v ≢ i) → Chain after' before' u (filter (λ j. not (eqb j i)) (v ∷ (w ∷ ws)))
-        by_case ih (inl e) = grind (arith, chain_same, above_from, drop_step, kept_above)
-        by_case ih (inr m) = grind (arith, there, named, keep_step)
+        by_case ih (inl e) =
+            let eu : before i ≡ u = ap before (sym e) ∙ h.1 in
+            let ew : b ≡ w = sym follows ∙ ap after (sym e) ∙ h.3.0 in
+            let iw : i < w = omega (arith, h.3.2) in
+            let uw : u < w = omega (arith, h.2, h.3.2) in
+            let rest : Chain after' before' w ws = chain_same after' before' w w ws (omega arith) (λ v l. others v (λ e. absurd (omega (arith, e, eu)))) (λ v l. others_back v (λ e. absurd (omega (arith, e, ew))) (λ e. absurd (omega (arith, e)))) h.3.3 in
+            let all : AllByRecursion (λ v. i < v) (w ∷ ws) = (iw, above_from i w ws (omega arith) h.3.3) in
+            let done : Chain after' before' u (w ∷ ws) = (ap after' (sym eu) ∙ bridge ∙ ew, ap before' (sym ew) ∙ bridge_back ∙ eu, uw, rest) in
+            subst (λ l. Chain after' before' u l) (sym (drop_step i v (w ∷ ws) e ∙ kept_above i (w ∷ ws) all)) done
+        by_case ih (inr m) =
+            let k' = there k m in
+            let named_at = named v (w ∷ ws) i h.3 k' in
+            let l1 : v ≤ before i = named_at.0 in
+            let l2 : before i < i = named_at.1 in
+            let l3 : u < v = h.2 in
+            let done : Chain after' before' u (v ∷ filter (λ j. not (eqb j i)) (w ∷ ws)) = (others u (λ e. absurd (omega (arith, e))) ∙ h.0, others_back v (λ e. absurd (omega (arith, e))) m ∙ h.1, l3, ih k') in
+            subst (λ l. Chain after' before' u l) (sym (keep_step i v (w ∷ ws) m)) done
 
   -- what holds of the corner at each index between the ends
   pub all_corners : (P : Corner → Type 0) (ps : List Point) (a b : ℕ) (vs : List ℕ) → Chain after before a (b ∷ vs) →

@@ -15,7 +15,8 @@ use Rattle.elimination_meaning.proofs.Order.{one_corner}
 use Rattle.effective_area.specs.Links.{IsCurrent, IsUnder, Waits, LeavesCurrent, HasCorners, entry_cmp, rentry_cmp, turned, entry_in, before_in, after_in, noted, Pushed, PushedFirst}
 
 pub contains_cases : {X : Type 0} (e : X) (ys : List X) (x : X) → Contains (e ∷ ys) x → (x ≡ e) ⊎ Contains ys x
-contains_cases e ys x m = grind arith
+contains_cases e ys x (zero, h, k) = inl (sym k)
+contains_cases e ys x (suc j, h, k) = inr (j, omega arith, k)
 
 pub contains_later : {X : Type 0} (e : X) (ys : List X) (x : X) → Contains ys x → Contains (e ∷ ys) x
 contains_later e ys x (k, h, p) = (suc k, omega arith, p)
@@ -26,7 +27,11 @@ contains_here e ys = (0, omega arith, refl)
 module _ (links : List Link) (old mid new : List (Reverse Entry)) (e : Reverse Entry)
     (left : LeavesCurrent links old None mid) (perm : IsPermutation mid (e ∷ new)) where
   split : (d : Entry) → Contains mid (turned d) → (d ≡ e.0) ⊎ Contains new (turned d)
-  split d h = grind (arith, contains_cases e new (turned d) (Contains-permutation mid (e ∷ new) (turned d) perm h), Contains-permutation mid (e ∷ new) (turned d) perm h)
+  split d h = on (contains_cases e new (turned d) (Contains-permutation mid (e ∷ new) (turned d) perm h))
+    where
+      on : (turned d ≡ e) ⊎ Contains new (turned d) → (d ≡ e.0) ⊎ Contains new (turned d)
+      on (inl k) = inl (ap (λ x. x.0) k)
+      on (inr k) = inr k
 
   stay : (d : Entry) → Contains old (turned d) → IsCurrent links d → Contains mid (turned d)
   stay d h k = grind arith
@@ -68,7 +73,15 @@ pushed t ps links old new v e perm u = record {
 }
   where
     on : (d : Entry) → (turned d ≡ turned e) ⊎ Contains old (turned d) → Contains old (turned d) ⊎ IsUnder t ps links v d
-    on d h = grind arith
+    on d (inl k) = inr (subst (λ x. IsUnder t ps links v x) (sym (ap (λ (x : Reverse Entry). x.0) k)) u)
+    on d (inr k) = inl k
+
+pub put_behind : (t : ℕ) (ps : List Point) (links : List Link) (old new : List (Reverse Entry)) (v : ℕ) (e : Entry) →
+    new ≡ old ++ (turned e ∷ []) → IsUnder t ps links v e → Pushed t ps links old new v
+put_behind t ps links old new v e p u = pushed t ps links old new v e (subst (λ l. IsPermutation (turned e ∷ old) l) (sym p) (IsPermutation-append_comm (turned e ∷ []) old)) u
+
+pub none_pushed : (t : ℕ) (ps : List Point) (links : List Link) (items : List (Reverse Entry)) (v : ℕ) → (Waits t ps links v → ⊥) → Pushed t ps links items items v
+none_pushed t ps links items v n = record { has = λ d h. h; here = λ w. absurd (n w); only = λ d h. inl h }
 
 pub corners_moved : (t : ℕ) (ps : List Point) (links : List Link) (xs ys : List (Reverse Entry)) (n : ℕ) → IsPermutation xs ys → HasCorners t ps links xs n → HasCorners t ps links ys n
 corners_moved t ps links xs ys n p h = record {
@@ -82,7 +95,8 @@ index_of ps links v w e = ap (λ (c : Corner). c.index) e
 
 -- a neighbour doesn't go before a corner that waits
 neighbour_after : (t : ℕ) (ps : List Point) (links : List Link) (u v : ℕ) → Waits t ps links v → (before_in links v ≡ u) ⊎ (after_in links v ≡ u) → is_before (noted ps links u) (noted ps links v) ≡ false
-neighbour_after t ps links u v h k = grind arith
+neighbour_after t ps links u v h (inl e) = subst (λ x. is_before (noted ps links x) (noted ps links v) ≡ false) e h.before
+neighbour_after t ps links u v h (inr e) = subst (λ x. is_before (noted ps links x) (noted ps links v) ≡ false) e h.after
 
 -- the one of two neighbours that goes first is pushed
 pub inner_pushed : (t : ℕ) (ps : List Point) (links : List Link) (old new : List (Reverse Entry)) (v w : ℕ) (known : Bool) →
@@ -102,3 +116,7 @@ outer_pushed t ps links old new v w known b p = record {
   outer = λ _ _ h _. p.here h;
   only = λ d h. elim (p.only d h) [ inl x ↦ inl x | inr x ↦ inr (inr x) ];
 }
+
+pub outer_known : (t : ℕ) (ps : List Point) (links : List Link) (items : List (Reverse Entry)) (v w : ℕ) (known : Bool) →
+    is_before (noted ps links w) (noted ps links v) ≡ true → known ≡ true → PushedFirst t ps links items items v w known
+outer_known t ps links items v w known b e = grind (arith, neighbour_after)

@@ -112,7 +112,7 @@ pub record Walk (links : List Link) (i : ℕ) (kept rest vs : List ℕ) : Type 0
   pub chain : Chain (after_in links) (before_in links) i rest
   pub ends : last_of i rest + 1 ≡ length links
 
-pub at_most : (after before : ℕ → ℕ) (w : ℕ) (ws : List ℕ) → Chain after before w ws → w ≤ last_of w ws
+at_most : (after before : ℕ → ℕ) (w : ℕ) (ws : List ℕ) → Chain after before w ws → w ≤ last_of w ws
 at_most after before w [] h = omega arith
 at_most after before w (x ∷ xs) h = let k = at_most after before x xs h.3 in omega (arith, h.2, k)
 
@@ -132,4 +132,5 @@ pub walk_start : (links : List Link) (kept vs : List ℕ) → IsLinked links vs 
 walk_start links kept vs h e = record { linked = h; so_far = ap (λ l. l ++ vs) e; chain = h.chain; ends = h.last }
 
 pub not_true : (b : Bool) → not b ≡ true → b ≡ false
-not_true b h = grind arith
+not_true true h = cc
+not_true false h = refl

@@ -1,5 +1,5 @@
 -- Entries in two places: those that are sorted, the first of them last, and those on a heap.
-use Rattle.std.proofs.Common.{rules, ◌≡◌, ℕ, zero, suc, ◌+◌, ◌-◌, ◌<◌, Bool, true, false, List, [], ◌∷◌, ◌++◌, append_assoc, length, get_or, refl, ap, sym, ◌∙◌, subst, arith, ◌⊎◌, inl, inr, Option, Some, None, IfSome}
+use Rattle.std.proofs.Common.{◌≡◌, ℕ, zero, suc, ◌+◌, ◌-◌, ◌<◌, Bool, true, false, List, [], ◌∷◌, ◌++◌, append_assoc, length, get_or, refl, ap, sym, ◌∙◌, subst, arith, ◌⊎◌, inl, inr, Option, Some, None, IfSome}
 use Rattle.std.specs.Option.{option_to_list}
 use Rattle.std.specs.BinaryHeap.{IsUpperBound}
 use Rattle.std.specs.Cmp.{IsTotalOrder, IsStrictWeakOrder}
@@ -33,7 +33,11 @@ turned_order : IsStrictWeakOrder under
 turned_order = ranks_by turned_total (λ c. c)
 
 never_under : (x : Reverse Entry) → under x x ≡ false
-never_under x = search rules
+never_under x = on (under x x) refl
+  where
+    on : (b : Bool) → under x x ≡ b → under x x ≡ false
+    on true e = turned_order.one_way x x e
+    on false e = e
 
 -- ---- the last of a sorted list
 
@@ -62,6 +66,13 @@ last_of_sorted xs x s =
     let z : length (xs ++ (x ∷ [])) - 1 ≡ length xs = omega (arith, n) in
     last_bound (xs ++ (x ∷ [])) x s (omega (arith, n)) (sym (ap (λ m. get_or (xs ++ (x ∷ [])) m x) z ∙ get_or_push xs x x (length xs) refl))
 
+pub front_sorted : (xs ys : List (Reverse Entry)) → IsSorted rentry_cmp (xs ++ ys) → IsSorted rentry_cmp xs
+front_sorted xs ys s = λ k d l h.
+    let n : length (xs ++ ys) ≡ length xs + length ys = length-append xs ys in
+    ap (λ y. under y (get_or xs k d)) (sym (get_or_append_left xs ys d (k + 1) (omega (arith, h))))
+    ∙ ap (λ y. under (get_or (xs ++ ys) (k + 1) d) y) (sym (get_or_append_left xs ys d k (omega (arith, h))))
+    ∙ s k d l (omega (arith, h, n))
+
 -- ---- which of the two goes first
 
 bound_at : (e : Reverse Entry) (xs : List (Reverse Entry)) (x : Reverse Entry) → IsUpperBound rentry_cmp e xs → Contains xs x → under e x ≡ false
@@ -75,6 +86,9 @@ goes_first xs ys x y m u h = (
   λ e b. all_weaker (λ z. under y z ≡ false) (λ z. under e z ≡ false) (λ z k. turned_order.chain e y z (turned_order.chain e x y (bound_at e xs x b m) h) k) ys u,
   λ e. absurd (nothing_in xs x m e),
 )
+
+pub before_nothing : (xs ys : List (Reverse Entry)) → ys ≡ [] → GoesFirst xs ys
+before_nothing xs ys z = (λ e b. subst (λ l. IsUpperBound rentry_cmp e l) (sym z) tt, λ _. z)
 
 -- the top of the heap and the last of those that are sorted, compared
 pub top_first : (xs ys : List (Reverse Entry)) (next top : Reverse Entry) → IsSorted rentry_cmp xs → 0 < length xs → next ≡ get_or xs (length xs - 1) next →
@@ -101,13 +115,19 @@ first_of_sorted xs xs' ys e s p g = grind (arith, last_of_sorted, all_append)
 
 -- what `pop` of a `Vec` leaves
 pub popped : (r : Option (Reverse Entry)) (xs xs' ys : List (Reverse Entry)) → xs ≡ xs' ++ option_to_list r → IfSome r (λ e. IsPermutation (xs ++ ys) (e ∷ (xs' ++ ys)))
-popped r xs xs' ys p = grind (arith, off_sorted)
+popped None xs xs' ys p = tt
+popped (Some e) xs xs' ys p = off_sorted xs xs' ys e p
 
 pub popped_first : (r : Option (Reverse Entry)) (xs xs' ys : List (Reverse Entry)) → IsSorted rentry_cmp xs → xs ≡ xs' ++ option_to_list r → GoesFirst xs ys → IfSome r (λ e. IsUpperBound rentry_cmp e (xs ++ ys))
-popped_first r xs xs' ys s p g = grind (arith, first_of_sorted)
+popped_first None xs xs' ys s p g = tt
+popped_first (Some e) xs xs' ys s p g = first_of_sorted xs xs' ys e s p g
 
 pub some_also : {X : Type 0} (P Q : X → Type 0) (r : Option X) → ((x : X) → P x → Q x) → IfSome r P → IfSome r Q
-some_also P Q r f h = grind arith
+some_also P Q None f h = h
+some_also P Q (Some x) f h = f x h
+
+pub both_empty : (xs ys : List (Reverse Entry)) → xs ≡ [] → ys ≡ [] → xs ++ ys ≡ []
+both_empty xs ys e f = ap (λ l. l ++ ys) e ∙ f
 
 -- ---- one is pushed
 
@@ -121,10 +141,12 @@ pushed_behind t ps links xs old new v w known p = record {
 }
   where
     still : (d : Entry) → Contains xs (turned d) ⊎ Contains old (turned d) → Contains (xs ++ new) (turned d)
-    still d h = grind (arith, Contains-append_left, Contains-append_right)
+    still d (inl k) = Contains-append_left xs new (turned d) k
+    still d (inr k) = Contains-append_right xs new (turned d) (p.has d k)
 
     later : (d : Entry) → Contains old (turned d) ⊎ (IsUnder t ps links v d ⊎ IsUnder t ps links w d) → Contains (xs ++ old) (turned d) ⊎ (IsUnder t ps links v d ⊎ IsUnder t ps links w d)
-    later d h = grind (arith, Contains-append_right)
+    later d (inl k) = inl (Contains-append_right xs old (turned d) k)
+    later d (inr k) = inr k
 
     alone : (d : Entry) → Contains xs (turned d) ⊎ Contains new (turned d) → Contains (xs ++ old) (turned d) ⊎ (IsUnder t ps links v d ⊎ IsUnder t ps links w d)
     alone d (inl k) = inl (Contains-append_left xs old (turned d) k)

@@ -13,10 +13,14 @@ use Rattle.std.proofs.lemmas.Bool.Decides.{nat_tests}
 
 -- two more at the end
 take_two : (is : List ℕ) (j : ℕ) → j + 1 < length is → take (j + 1 + 1) is ≡ take j is ++ (get_or is j 0 ∷ (get_or is (j + 1) 0 ∷ []))
-take_two is j h = grind (arith, take_more is (j + 1) 0 h, take_more is j 0, append_assoc (take j is) (get_or is j 0 ∷ []) (get_or is (j + 1) 0 ∷ []))
+take_two is j h =
+    let l : j < length is = omega arith in
+    take_more is (j + 1) 0 h ∙ ap (λ xs. xs ++ (get_or is (j + 1) 0 ∷ [])) (take_more is j 0 l) ∙ append_assoc (take j is) (get_or is j 0 ∷ []) (get_or is (j + 1) 0 ∷ [])
 
 take_three : (is : List ℕ) (j : ℕ) → j + 1 + 1 < length is → take (j + 1 + 1 + 1) is ≡ take j is ++ (get_or is j 0 ∷ (get_or is (j + 1) 0 ∷ (get_or is (j + 1 + 1) 0 ∷ [])))
-take_three is j h = grind (arith, take_more is (j + 1 + 1) 0 h, take_two is j, append_assoc (take j is) (get_or is j 0 ∷ (get_or is (j + 1) 0 ∷ [])) (get_or is (j + 1 + 1) 0 ∷ []))
+take_three is j h =
+    let l : j + 1 < length is = omega arith in
+    take_more is (j + 1 + 1) 0 h ∙ ap (λ xs. xs ++ (get_or is (j + 1 + 1) 0 ∷ [])) (take_two is j l) ∙ append_assoc (take j is) (get_or is j 0 ∷ (get_or is (j + 1) 0 ∷ [])) (get_or is (j + 1 + 1) 0 ∷ [])
 
 corners_more : (ps : List Point) (is : List ℕ) (j : ℕ) → j + 1 + 1 < length is →
     corners (vertices ps (take (j + 1 + 1 + 1) is)) ≡ corners (vertices ps (take (j + 1 + 1) is)) ++ (corner_at (vertex_at ps (get_or is j 0)) (vertex_at ps (get_or is (j + 1) 0)) (vertex_at ps (get_or is (j + 1 + 1) 0)) ∷ [])
@@ -54,10 +58,12 @@ step_some n t vs c e h = ap (go_on n t vs) (ap (without_under t vs) (sym e) ∙ 
 
 -- where none is, the list stays
 pub step_none : (n t : ℕ) (vs : List Vertex) → None ≡ least (corners vs) → eliminate n t vs ≡ vs
-step_none n t vs e = grind arith
+step_none zero t vs e = refl
+step_none (suc n) t vs e = ap (go_on n t vs) (ap (without_under t vs) (sym e))
 
 pub step_over : (n t : ℕ) (vs : List Vertex) (c : Corner) → Some c ≡ least (corners vs) → t ≤ c.area → eliminate n t vs ≡ vs
-step_over n t vs c e h = grind (arith, ge_test)
+step_over zero t vs c e h = refl
+step_over (suc n) t vs c e h = ap (go_on n t vs) (ap (without_under t vs) (sym e) ∙ ap (λ b. cond b (Some (without c.index vs)) None) (ge_test c.area t h))
 
 pub without_vertices : (ps : List Point) (i : ℕ) (is : List ℕ) → without i (vertices ps is) ≡ vertices ps (filter (λ j. not (eqb j i)) is)
 without_vertices ps i [] = refl

@@ -20,7 +20,7 @@ use Rattle.effective_area.specs.declared.links.Link.{Link}
 use Rattle.effective_area.specs.declared.entry.Entry.{Entry}
 use Rattle.effective_area.specs.Chains.{Chain, last_of}
 use Rattle.effective_area.specs.Links.{after_in, before_in, area_in, entry_at, entry_cmp, noted, turned, AreNoted, IsCurrent, IsReady, IsSound, IsLinked, Covers, NotesArea, Unlinks, LeavesCurrent, IsState, IsTakenOut, TakesFirst, IsFirst, IsUnder, Fits, Pushed, PushedFirst, Waits, HasCorners, entry_in}
-use Rattle.effective_area.proofs.LinkLaws.{at_most, same_entry}
+use Rattle.effective_area.proofs.LinkLaws.{same_entry}
 use Rattle.list_laws.proofs.Elements.{all_weaker}
 use Rattle.std.specs.Cmp.{IsStrictWeakOrder}
 use Rattle.std.proofs.lemmas.List.MinMax.{ranks_by}
@@ -49,8 +49,12 @@ module _ (after before : ℕ → ℕ) where
   next_in u (v ∷ []) i h (inr k) l = elim k [ ]
   next_in u (v ∷ (w ∷ ws)) i h (inl e) l =
       let ea : after i ≡ w = ap after e ∙ h.3.0 in
-      let last_at = at_most after before w ws h.3.3 in
+      let last_at = at_most w ws h.3.3 in
       (inr (inl ea), omega (arith, e, ea, h.3.2), omega (arith, ea, last_at))
+    where
+      at_most : (w : ℕ) (ws : List ℕ) → Chain after before w ws → w ≤ last_of w ws
+      at_most w [] h = omega arith
+      at_most w (x ∷ xs) h = let k = at_most x xs h.3 in omega (arith, h.2, k)
   next_in u (v ∷ (w ∷ ws)) i h (inr k) l = let n = next_in v (w ∷ ws) i h.3 k l in (inr n.0, n.1, n.2)
 
   -- one that is linked is taken out once
@@ -66,7 +70,11 @@ module _ (after before : ℕ → ℕ) where
 
   -- those that are linked are none behind the last
   pub in_last : (u : ℕ) (vs : List ℕ) (i : ℕ) → Chain after before u vs → In i vs → i ≤ last_of u vs
-  in_last u (v ∷ vs) i h (inl e) = let m = at_most after before v vs h.3 in omega (arith, e, m)
+  in_last u (v ∷ vs) i h (inl e) = let m = last_most v vs h.3 in omega (arith, e, m)
+    where
+      last_most : (w : ℕ) (ws : List ℕ) → Chain after before w ws → w ≤ last_of w ws
+      last_most w [] k = omega arith
+      last_most w (x ∷ xs) k = let m = last_most x xs k.3 in omega (arith, k.2, m)
   in_last u (v ∷ vs) i h (inr k) = in_last v vs i h.3 k
   in_last u [] i h k = elim k [ ]
 
@@ -100,7 +108,9 @@ in_length a [] k = elim k [ ]
 in_length a (x ∷ xs) k = omega arith
 
 first_part : (a x : Ordering) → is_lt (ordering_then a x) ≡ false → is_lt a ≡ false
-first_part a x h = grind arith
+first_part Less x h = cc
+first_part Equal x h = refl
+first_part Greater x h = refl
 
 corner_first : (d e : Entry) → is_lt (entry_cmp d e) ≡ false → is_before (seen d.corner) (seen e.corner) ≡ false
 unfolding is_before
@@ -149,7 +159,8 @@ least_first (c ∷ cs) = on (least cs) (least_first cs) (no_least cs)
     by_test d h false p = (not_self c, all_weaker (λ x. is_before x d ≡ false) (λ x. is_before x c ≡ false) (λ x k. earlier.chain x d c k p) cs h)
 
     on : (o : Option Corner) → Holds (λ d. NoneBefore d cs) o → (o ≡ None → cs ≡ []) → Holds (λ d. NoneBefore d (c ∷ cs)) (lesser (Some c) o)
-    on o h e = grind (arith, not_self, by_test)
+    on None h e = (not_self c, subst (λ l. NoneBefore c l) (sym (e refl)) tt)
+    on (Some d) h e = by_test d h (is_before d c) refl
 
 -- what holds of the least of all, and so of all that it goes before
 least_decides : (P Q : Corner → Type 0) (cs : List Corner) → AllByRecursion (λ d. NoneBefore d cs → P d) cs → ((d x : Corner) → P d → is_before x d ≡ false → Q x) → AllByRecursion Q cs
@@ -191,15 +202,30 @@ module _ (t : ℕ) (ps : List Point) (links : List Link) (vs : List ℕ) (linked
 
   -- the first corner of all waits, if it is under the threshold
   first_waits : (v : ℕ) → 0 < v → In v vs → v < last_of 0 vs → (corner_of v).area < t → NoneBefore (corner_of v) (corners (vertices ps (0 ∷ vs))) → Waits t ps links v
-  first_waits v p k l h none = grind (arith, corner_of_entry, neighbour_later, prev_in, next_in)
+  first_waits v p k l h none = record {
+    later = p;
+    inside = omega (arith, l, linked.last);
+    under = subst (λ (c : Corner). c.area < t) (sym (corner_of_entry ps (before_in links v) v (after_in links v))) h;
+    before = neighbour_later (before_in links v) v p k l h none (prev_in (after_in links) (before_in links) 0 vs v linked.chain k);
+    after = neighbour_later (after_in links v) v p k l h none (inr (next_in (after_in links) (before_in links) 0 vs v linked.chain k l).0);
+  }
 
   -- what is present can be compared
   pub ready_at : length links ≡ length ps → (v : ℕ) → (v ≡ 0) ⊎ In v vs → IsReady ps links v
-  ready_at size v h = grind (arith, named, in_last, next_in)
+  ready_at size v (inl e) = record { within = omega (arith, e, linked.last); fits = λ p _. absurd (omega (arith, p, e)); noted = λ p _. absurd (omega (arith, p, e)) }
+  ready_at size v (inr k) =
+      let n = named (after_in links) (before_in links) 0 vs v linked.chain k in
+      let a = in_last (after_in links) (before_in links) 0 vs v linked.chain k in
+      record {
+        within = omega (arith, a, linked.last);
+        fits = λ p q. let m = next_in (after_in links) (before_in links) 0 vs v linked.chain k (omega (arith, q, linked.last)) in record { before = n.1; after = m.1; within = omega (arith, m.2, linked.last, size) };
+        noted = λ p q. notes.between v p q (λ x. absurd (omega (arith, x, n.1)));
+      }
 
 -- the neighbours of what is present are present
 pub ahead_in : (links : List Link) (vs : List ℕ) (b f : ℕ) → IsLinked links vs → (b ≡ 0) ⊎ In b vs → (b ≡ 0 → f ≡ b) → (0 < b → f ≡ before_in links b) → (f ≡ 0) ⊎ In f vs
-ahead_in links vs b f h m z n = grind (arith, named, prev_in)
+ahead_in links vs b f h (inl e) z n = inl (z e ∙ e)
+ahead_in links vs b f h (inr k) z n = grind (arith, named, prev_in)
 
 pub behind_in : (links : List Link) (vs : List ℕ) (a l : ℕ) → IsLinked links vs → In a vs → (a + 1 ≡ length links → l ≡ a) → (a + 1 < length links → l ≡ after_in links a) → In l vs
 behind_in links vs a l h k z n = grind (arith, next_in, in_last)
@@ -272,10 +298,18 @@ module _ (t : ℕ) (ps : List Point) (links links' : List Link) (items mid items
     after_in_vs = subst (λ x. In x vs) cur.after (next_in (after_in links) (before_in links) 0 vs e.corner.index s.linked.chain in_vs inside).0
 
     gone' : (j : ℕ) → 0 < j → j < length links' → (In j rest_of → ⊥) → before_in links' j ≡ j
-    gone' j p q n = grind (arith, same_or_not j e.corner.index, in_filter e.corner.index j vs, after_in_vs)
+    gone' j p q n = on (same_or_not j e.corner.index)
+      where
+        on : (j ≡ e.corner.index) ⊎ (j ≢ e.corner.index) → before_in links' j ≡ j
+        on (inl k) = ap (before_in links') k ∙ un.out ∙ sym k
+        on (inr m) = un.others_back j
+            (λ k. n (in_filter e.corner.index j vs (subst (λ x. In x vs) (sym k) after_in_vs) m)) m
+            ∙ s.linked.gone j p (omega (arith, un.same)) (λ k. n (in_filter e.corner.index j vs k m))
 
     linked_at : (v : ℕ) → 0 < v → (v ≡ e.before) ⊎ (v ≡ e.after) → In v rest_of
-    linked_at v p (inl k) = grind (arith, in_filter e.corner.index v vs, prev_in (after_in links) (before_in links) 0 vs e.corner.index s.linked.chain in_vs, in_vs)
+    linked_at v p (inl k) = in_filter e.corner.index v vs
+        (elim (prev_in (after_in links) (before_in links) 0 vs e.corner.index s.linked.chain in_vs) [ inl x ↦ absurd (omega (arith, x, k, cur.before)) | inr x ↦ subst (λ y. In y vs) (cur.before ∙ sym k) x ])
+        (λ x. absurd (omega (arith, x, k, so.before)))
     linked_at v p (inr k) = in_filter e.corner.index v vs (subst (λ x. In x vs) (sym k) after_in_vs) (λ x. absurd (omega (arith, x, k, so.after)))
 
     -- the corners at the two neighbours
@@ -298,13 +332,21 @@ module _ (t : ℕ) (ps : List Point) (links links' : List Link) (items mid items
 
     -- its neighbours stay present
     pub before_stays : (e.before ≡ 0) ⊎ In e.before rest_of
-    before_stays = grind (arith, linked_at e.before)
+    before_stays = on (cases_lt 0 e.before)
+      where
+        on : (0 < e.before) ⊎ (e.before ≤ 0) → (e.before ≡ 0) ⊎ In e.before rest_of
+        on (inl p) = inr (linked_at e.before p (inl refl))
+        on (inr p) = inl (omega (arith, p))
 
     pub after_stays : In e.after rest_of
     after_stays = linked_at e.after (omega (arith, so.after)) (inr refl)
 
     there : (v : ℕ) → 0 < v → v < length links' → before_in links' v ≢ v → In v rest_of
-    there v p q n = grind (arith, in_or_not v rest_of, gone' v p q)
+    there v p q n = on (in_or_not v rest_of)
+      where
+        on : In v rest_of ⊎ (In v rest_of → ⊥) → In v rest_of
+        on (inl k) = k
+        on (inr m) = absurd (n (gone' v p q m))
 
     same_at : (v : ℕ) → before_in links' v ≢ v → v ≢ e.before → v ≢ e.after → (before_in links' v ≡ before_in links v) × (after_in links' v ≡ after_in links v)
     same_at v n m k = (un.others_back v k (λ x. n (ap (before_in links') x ∙ un.out ∙ sym x)), un.others v m)
@@ -357,7 +399,8 @@ module _ (t : ℕ) (ps : List Point) (links links' : List Link) (items mid items
                 subst (λ x. Contains items' (turned x)) (sym ed) (has d still)
               where
                 on_stays : (d : Entry) → v ≢ e.corner.index → d.corner.index ≡ v → (◌≡◌ {A = Option Entry} (Some e) (Some d)) ⊎ Contains mid (turned d) → Contains mid (turned d)
-                on_stays d ni x h = grind arith
+                on_stays d ni x (inl y) = let z : e ≡ d = cc in absurd (ni (sym x ∙ ap (λ (w : Entry). w.corner.index) (sym z)))
+                on_stays d ni x (inr y) = y
 
             here : In v rest_of
             here = there v w.later (omega (arith, w.inside)) n
@@ -366,7 +409,8 @@ module _ (t : ℕ) (ps : List Point) (links links' : List Link) (items mid items
             inner = omega (arith, last', s.linked.last, un.same, w.inside)
 
             same_side : (u u' : ℕ) → v ≢ e.before → v ≢ e.after → u' ≡ u → u' ≢ e.before → u' ≢ e.after → is_before (noted ps links' u') (noted ps links' v) ≡ false → is_before (noted ps links u) (noted ps links v) ≡ false
-            same_side u u' m k z x y h = grind (arith, noted_same)
+            same_side u u' m k z x y h = subst (λ a. is_before (noted ps links a) (noted ps links v) ≡ false) z
+                (ap (λ a. is_before a (noted ps links v)) (sym (noted_same u' x y)) ∙ ap (is_before (noted ps links' u')) (sym (noted_same v m k)) ∙ h)
 
             before_side : v ≢ e.before → v ≢ e.after → (is_before (noted ps links (before_in links v)) (noted ps links v) ≡ false) ⊎ There
             before_side m k = pick (same_or_not (before_in links' v) e.before) (same_or_not (before_in links' v) e.after)
@@ -388,14 +432,18 @@ module _ (t : ℕ) (ps : List Point) (links links' : List Link) (items mid items
             other m k = elim (before_side m k) [ inr c ↦ c | inl p ↦ elim (after_side m k) [ inr c ↦ c | inl q ↦ old m k p q ] ]
 
             on : (v ≡ e.before) ⊎ (v ≢ e.before) → (v ≡ e.after) ⊎ (v ≢ e.after) → There
-            on h m = grind (arith, other)
+            on (inl k) m = subst (λ x. Contains items' (turned (entry_in ps links' x))) (sym k) (near (subst (λ x. Waits t ps links' x) k w))
+            on (inr k) (inl m) = subst (λ x. Contains items' (turned (entry_in ps links' x))) (sym m) (far (subst (λ x. Waits t ps links' x) m w))
+            on (inr k) (inr m) = other k m
 
         sound' : (d : Entry) → Contains items' (turned d) → IsSound t ps d
         sound' d h = on (only d h)
           where
             on : Contains mid (turned d) ⊎ ((v : ℕ) × IsReady ps links' v × IsUnder t ps links' v d) → IsSound t ps d
             on (inl k) = s.sound d (l.rest d k)
-            on (inr (v, r, u)) = grind (arith, sound_at)
+            on (inr (v, r, u)) =
+                let f = r.fits u.0 u.1 in
+                subst (λ y. IsSound t ps y) (sym u.2) (sound_at t ps (before_in links' v) v (after_in links' v) f.before f.after f.within (subst (λ (y : Entry). y.corner.area < t) u.2 u.3))
 
         pub next_state : IsState t ps links' items' (left - 1) rest_of
         next_state =
@@ -464,8 +512,16 @@ start_state t ps links items two f nt hc =
 -- ---- the ends
 chain_unique : (after before : ℕ → ℕ) (u : ℕ) (xs ys : List ℕ) → Chain after before u xs → Chain after before u ys → last_of u xs ≡ last_of u ys → xs ≡ ys
 chain_unique after before u [] [] h k e = refl
-chain_unique after before u [] (y ∷ ys) h k e = absurd (omega (arith, k.2, e, at_most after before y ys k.3))
-chain_unique after before u (x ∷ xs) [] h k e = absurd (omega (arith, h.2, e, at_most after before x xs h.3))
+chain_unique after before u [] (y ∷ ys) h k e = absurd (omega (arith, k.2, e, most y ys k.3))
+  where
+    most : (w : ℕ) (ws : List ℕ) → Chain after before w ws → w ≤ last_of w ws
+    most w [] h = omega arith
+    most w (x ∷ xs) h = let k = most x xs h.3 in omega (arith, h.2, k)
+chain_unique after before u (x ∷ xs) [] h k e = absurd (omega (arith, h.2, e, most x xs h.3))
+  where
+    most : (w : ℕ) (ws : List ℕ) → Chain after before w ws → w ≤ last_of w ws
+    most w [] h = omega arith
+    most w (x ∷ xs) h = let k = most x xs h.3 in omega (arith, h.2, k)
 chain_unique after before u (x ∷ xs) (y ∷ ys) h k e = grind (arith, chain_unique after before y xs ys)
 
 pub same_present : (links : List Link) (vs ws : List ℕ) → IsLinked links vs → IsLinked links ws → vs ≡ ws
@@ -484,14 +540,20 @@ none_under t ps links items mid left vs s l em =
     (λ d x h n. over d x h n (cases_lt x.area d.area))
   where
     over : (d x : Corner) → t ≤ d.area → is_before x d ≡ false → (x.area < d.area) ⊎ (d.area ≤ x.area) → t ≤ x.area
-    over d x h n m = grind (arith, under_first)
+    over d x h n (inl k) = let f : false ≡ true = sym n ∙ under_first x d k in absurd (cc)
+    over d x h n (inr k) = omega (arith, h, k)
 
     gone : (d : Entry) → (◌≡◌ {A = Option Entry} None (Some d)) ⊎ Contains mid (turned d) → ⊥
-    gone d h = grind arith
+    gone d (inl p) = absurd (cc)
+    gone d (inr p) = let k : Contains [] (turned d) = subst (λ (x : List (Reverse Entry)). Contains x (turned d)) em p in absurd (omega (arith, k.1))
 
     at : (v : ℕ) → 0 < v → In v vs → v < last_of 0 vs → NoneBefore (corner_of t ps links vs s.linked s.noted v) (corners (vertices ps (0 ∷ vs))) →
         ((corner_of t ps links vs s.linked s.noted v).area < t) ⊎ (t ≤ (corner_of t ps links vs s.linked s.noted v).area) → t ≤ (corner_of t ps links vs s.linked s.noted v).area
-    at v p k m none h = grind (arith, named, first_waits, gone, current_at)
+    at v p k m none (inl u) =
+        let n = named (after_in links) (before_in links) 0 vs v s.linked.chain k in
+        let c = s.covers v (λ q. absurd (omega (arith, q, n.1))) (first_waits t ps links vs s.linked s.noted v p k m u none) in
+        absurd (gone (entry_in ps links v) (l.stays (entry_in ps links v) c (current_at ps links v (omega (arith, s.linked.last, m)))))
+    at v p k m none (inr o) = o
 
 -- and those that are present stay
 pub end_none : (t : ℕ) (ps : List Point) (links : List Link) (items : List (Reverse Entry)) (left : ℕ) (vs : List ℕ) →
@@ -550,7 +612,9 @@ turn_state t ps links links' items mid one two left vs e f l kf kl s lc cur un r
         (q.outer z (λ x. absurd (omega (arith, x, ev, b.0))) (subst (λ x. Waits t ps links' x) ev w) (inl (ap (before_in links') (sym ev) ∙ h))))
 
     of_first : (d : Entry) → Contains mid (turned d) ⊎ (IsUnder t ps links' e.before d ⊎ IsUnder t ps links' f d) → Contains mid (turned d) ⊎ ((v : ℕ) × IsReady ps links' v × IsUnder t ps links' v d)
-    of_first d h = grind arith
+    of_first d (inl k) = inl k
+    of_first d (inr (inl u)) = inr (e.before, rb, u)
+    of_first d (inr (inr u)) = inr (f, rf, u)
 
     of_last : (d : Entry) → Contains one (turned d) ⊎ (IsUnder t ps links' e.after d ⊎ IsUnder t ps links' l d) → Contains mid (turned d) ⊎ ((v : ℕ) × IsReady ps links' v × IsUnder t ps links' v d)
     of_last d (inl k) = of_first d (p.only d k)
@@ -617,9 +681,13 @@ more_corners t ps links old new i h p z w = record { has = λ v b u. on v b u (s
     from d (inl k) = let o = h.only d k in (o.0, o.1, omega (arith, o.2), o.3, o.4)
     from d (inr m) = (i, z, omega arith, m.2, m.3)
 
+pub no_corners_yet : (t : ℕ) (ps : List Point) (links : List Link) (items : List (Reverse Entry)) → items ≡ [] → HasCorners t ps links items 1
+no_corners_yet t ps links items e = grind arith
+
 -- a clause of an answer, from another
 pub ok_also : {X E : Type 0} (P Q : X → Type 0) (r : Result X E) → ((x : X) → P x → Q x) → IfOk r P → IfOk r Q
-ok_also P Q r f h = grind arith
+ok_also P Q (Ok x) f h = f x h
+ok_also P Q (Err e) f h = h
 
 -- at the threshold zero all stay
 pub all_at_zero : (t : ℕ) (ps : List Point) (is : List ℕ) → t ≡ 0 → is ≡ range_with_len 0 (length ps) → is ≡ reduce t ps

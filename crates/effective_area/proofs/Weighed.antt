@@ -1,5 +1,5 @@
 -- The weights of the positions that were taken out, and what is left of the others.
-use Rattle.std.proofs.Common.{rules, ◌≡◌, ◌≢◌, ℕ, zero, suc, ◌+◌, ◌-◌, ◌<◌, ◌≤◌, max, true, false, cond, not, eqb, List, [], ◌∷◌, Some, None, length, map, get_or, set, refl, ap, sym, ◌∙◌, subst, arith, ◌⊎◌, inl, inr}
+use Rattle.std.proofs.Common.{◌≡◌, ◌≢◌, ℕ, zero, suc, ◌+◌, ◌-◌, ◌<◌, ◌≤◌, max, true, false, cond, not, eqb, List, [], ◌∷◌, Some, None, length, map, get_or, set, refl, ap, sym, ◌∙◌, subst, arith, ◌⊎◌, inl, inr}
 use Rattle.std.specs.Prelude.{replicate, ℤ, ◌-ℤ◌, ◌*ℤ◌, unsigned_abs}
 use Rattle.std.specs.List.{All, filter, range_with_len, AllByRecursion}
 use Rattle.std.proofs.lemmas.Bool.Decides.{nat_tests}
@@ -38,7 +38,8 @@ weigh_other : (n level : ℕ) (vs : List Vertex) (c : Corner) (i : ℕ) → leas
 weigh_other n level vs c i e h = grind (arith, other_test)
 
 weigh_none : (n level : ℕ) (vs : List Vertex) (i : ℕ) → least (corners vs) ≡ None → weight_from n level vs i ≡ None
-weigh_none n level vs i e = grind arith
+weigh_none zero level vs i e = refl
+weigh_none (suc n) level vs i e = ap (weigh_on n level vs i) e
 
 -- ---- indexes that are left out
 
@@ -99,10 +100,25 @@ module _ (ps : List Point) (level left : ℕ) (vs : List ℕ) (ws : List Weight)
   still_there i (inr m) n = inr (in_filter c.index i vs m n)
 
   present' : (i : ℕ) → i < length ps → In i (0 ∷ rest_of) → (get_or new i End ≡ End) × (weight ps i ≡ weight_from (left - 1 + 2) (max level c.area) (vertices ps (0 ∷ rest_of)) i)
-  present' i h m = search (rules, was_there, fuel, weigh_other, vertices_left)
+  present' i h m =
+      let was = was_there i m in
+      let old = w.present i h was.0 in (
+        get_or-set_other ws c.index i (Area (max level c.area)) End was.1 ∙ old.0,
+        old.1 ∙ ap (λ n. weight_from n level (vertices ps (0 ∷ vs)) i) fuel ∙ weigh_other (left - 1 + 2) level (vertices ps (0 ∷ vs)) c i first (λ q. was.1 (sym q))
+            ∙ ap (λ l. weight_from (left - 1 + 2) (max level c.area) l i) vertices_left,
+      )
 
   gone' : (i : ℕ) → i < length ps → (In i (0 ∷ rest_of) → ⊥) → get_or new i End ≡ told (weight ps i)
-  gone' i h m = search (rules, same_or_not, fuel, weigh_here, still_there)
+  gone' i h m = on (same_or_not i c.index)
+    where
+      here : get_or new c.index End ≡ told (weight ps c.index)
+      here =
+          get_or-set_same ws c.index (Area (max level c.area)) End (omega (arith, w.size, within))
+          ∙ ap told (sym ((w.present c.index within (inr there)).1 ∙ ap (λ n. weight_from n level (vertices ps (0 ∷ vs)) c.index) fuel ∙ weigh_here (left - 1 + 2) level (vertices ps (0 ∷ vs)) c first))
+
+      on : (i ≡ c.index) ⊎ (i ≢ c.index) → get_or new i End ≡ told (weight ps i)
+      on (inl e) = subst (λ (j : ℕ). get_or new j End ≡ told (weight ps j)) (sym e) here
+      on (inr n) = get_or-set_other ws c.index i (Area (max level c.area)) End n ∙ w.gone i h (λ k. m (still_there i k n))
 
   pub weighed_on : AreWeighed ps (max level c.area) (left - 1) rest_of new
   weighed_on = record { size = length-set ws c.index (Area (max level c.area)) ∙ w.size; present = present'; gone = gone' }
@@ -115,7 +131,8 @@ all_weighed ps level left vs ws w e =
     (λ i h. each i (omega (arith, h, w.size)) (in_or_not i (0 ∷ vs)) ∙ sym (get_or-map-range_with_len (λ i. told (weight ps i)) 0 (length ps) i i End (omega (arith, h, w.size)) (omega arith)))
   where
     each : (i : ℕ) → i < length ps → In i (0 ∷ vs) ⊎ (In i (0 ∷ vs) → ⊥) → get_or ws i End ≡ told (weight ps i)
-    each i h m = grind (arith, weigh_none)
+    each i h (inl k) = let p = w.present i h k in p.0 ∙ ap told (sym (p.1 ∙ weigh_none (left + 2) level (vertices ps (0 ∷ vs)) i e))
+    each i h (inr n) = w.gone i h n
 
 -- ---- fewer than two positions
 
@@ -132,7 +149,10 @@ apart a b p q = omega (arith, ints)
 
 area_bound : (a b c : Point) → IsPosition a → IsPosition b → IsPosition c → twice_area a b c < no_limit
 unfolding twice_area cross
-area_bound a b c p q r = search (rules, apart_fits, product_bound, apart)
+area_bound a b c p q r =
+    apart_fits ((b.x -ℤ a.x) *ℤ (c.y -ℤ a.y)) ((c.x -ℤ a.x) *ℤ (b.y -ℤ a.y))
+    (product_bound (b.x -ℤ a.x) (c.y -ℤ a.y) (apart b.x a.x q.0 p.0) (apart c.y a.y r.1 p.1))
+    (product_bound (c.x -ℤ a.x) (b.y -ℤ a.y) (apart c.x a.x r.0 p.0) (apart b.y a.y q.1 p.1))
 
 is_position : (ps : List Point) (i : ℕ) → All IsPosition ps → IsPosition (get_or ps i origin)
 is_position ps i all = grind (arith, get_or_past)

@@ -52,9 +52,7 @@ fn objects_of(
     ensures { Gives (λ objects. objects) result counts.new (need_as (codes "objects") (objects_in_order (option_copied transform.entry) arcs.now) members.old.items counts.old) }
 {
     let value = taken(members, "objects")?;
-    Ok(Items::of(read_objects(
-        alloc, transform, arcs, value, counts,
-    )?))
+    Ok(Items::of(read_objects(alloc, transform, arcs, value, counts)?))
 }
 
 /// The objects and the arcs among these members. The arcs are read first.

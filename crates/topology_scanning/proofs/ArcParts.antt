@@ -1,5 +1,5 @@
 -- Arcs by their arrays.
-use Rattle.std.proofs.Common.{◌≡◌, ℕ, suc, ◌-◌, ◌<◌, ◌≤◌, Bool, true, List, [], ◌∷◌, ◌++◌, length, Option, Some, None, Ok, refl, sym, ap, ◌∙◌, arith}
+use Rattle.std.proofs.Common.{◌≡◌, ℕ, ◌≤◌, true, List, [], ◌∷◌, length, Option, Some, None, Ok, refl, ap, ◌∙◌, arith}
 use Rattle.std.specs.Prelude.{nat_le}
 use Rattle.std.proofs.lemmas.Bool.Decides.{nat_tests}
 use Rattle.json_value.specs.declared.json.Json.{Json}
@@ -13,7 +13,7 @@ use Rattle.topojson_types.specs.Transforms.{origin}
 use Rattle.topojson_meaning.specs.Arcs.{arc_cells, arc, arc_list}
 use Rattle.topojson_meaning.specs.Members.{elements}
 use Rattle.topojson_meaning.specs.Reader.{Reader, gather, each}
-use Rattle.geometry_scanning.specs.Fronts.{Front, Behind}
+use Rattle.geometry_scanning.specs.Fronts.{Front}
 use Rattle.geometry_scanning.proofs.ArrayFronts.{array_front, empty_value}
 use Rattle.topology_scanning.specs.Stands.{Stands, MoreStand}
 use Rattle.topology_scanning.specs.Cells.{cell_from, cells_from}

@@ -1,5 +1,5 @@
 -- Positions and cells by their numbers.
-use Rattle.std.proofs.Common.{◌≡◌, ℕ, ◌*◌, ◌^◌, ◌<◌, ◌≤◌, Bool, true, false, not, List, [], ◌∷◌, ◌++◌, Option, Some, None, Ok, refl, sym, ap, ◌∙◌, arith, ⊎_elim}
+use Rattle.std.proofs.Common.{◌≡◌, ℕ, ◌^◌, ◌≤◌, Bool, true, not, List, [], ◌∷◌, Option, Some, None, Ok, refl, sym, ◌∙◌, arith, ⊎_elim}
 use Rattle.std.specs.Prelude.{ℤ}
 use Rattle.std.proofs.lemmas.Bool.{cases_lt}
 use Rattle.json_value.specs.declared.json.Json.{Json}
@@ -18,7 +18,7 @@ use Rattle.topojson_types.specs.declared.transform.Transform.{Transform}
 use Rattle.topojson_types.specs.Transforms.{moved}
 use Rattle.topojson_meaning.specs.Arcs.{number_text, units, elements_position, position, grid_number, grid_cell, elements_cell, cell, cells_behind, difference_limit}
 use Rattle.topojson_meaning.specs.Members.{elements}
-use Rattle.topojson_meaning.specs.Reader.{Reader, gather}
+use Rattle.topojson_meaning.specs.Reader.{gather}
 use Rattle.unit_scanning.specs.Numbers.{IsUnits, IsWholeNumber}
 use Rattle.geometry_scanning.specs.Fronts.{any, Front, behind_last, behind_more}
 use Rattle.geometry_scanning.proofs.ArrayFronts.{array_front}

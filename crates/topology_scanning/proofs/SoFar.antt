@@ -1,5 +1,5 @@
 -- What was read so far of a list in which each may be read by the one before, and how it goes on.
-use Rattle.std.proofs.Common.{◌≡◌, ℕ, List, [], ◌∷◌, ◌++◌, Ok, refl, sym, ap, ◌∙◌, subst, append_assoc}
+use Rattle.std.proofs.Common.{◌≡◌, ℕ, List, [], ◌∷◌, ◌++◌, Ok, sym, ap, ◌∙◌, subst, append_assoc}
 use Rattle.std.proofs.lemmas.List.{append-nil}
 use Rattle.json_value.specs.declared.json.Json.{Json}
 use Rattle.decimal_json.specs.Reading.{skip}

@@ -1,5 +1,5 @@
 -- What was read of a topology's members, and the topology that bytes spell.
-use Rattle.std.specs.Prelude.{◌≡◌, ◌≢◌, ◌⊎◌, ℕ, cond, List, [], ◌∷◌, Option, Some, None, Ok, codes, option_to_list, IsUtf8}
+use Rattle.std.specs.Prelude.{◌≡◌, ◌⊎◌, ℕ, cond, List, [], ◌∷◌, Option, Some, None, Ok, codes, option_to_list, IsUtf8}
 use Rattle.json_value.specs.declared.json.Json.{Json as Value}
 use Rattle.json_value.specs.declared.json.Json.TheVariants as j
 use Rattle.json_value.specs.Grammar.{Reads}

@@ -125,11 +125,7 @@ fn other_transform(alloc: Global, parts: &Parts) -> Result<Option<Option<Transfo
 }
 
 /// The topology that the bytes spell, which are UTF-8, where its arcs stand on this transform or behind their own.
-fn scan_on(
-    alloc: Global,
-    bytes: &[u8],
-    on: Option<Transform>,
-) -> Result<(Topology, Counts), Halt>
+fn scan_on(alloc: Global, bytes: &[u8], on: Option<Transform>) -> Result<(Topology, Counts), Halt>
     requires { IsUtf8 bytes.now }
     ensures { IfOk result (λ r. SpellsTopology bytes.now r.0 r.1) }
 {

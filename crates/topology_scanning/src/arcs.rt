@@ -1,5 +1,6 @@
 // Arcs.
 ghost use Rattle.std.specs.Prelude.{◌≡◌, ◌∷◌, List, IfOk};
+ghost use Rattle.std.specs.Option.{option_copied};
 ghost use Rattle.geometry.specs.Points.{Point};
 ghost use Rattle.geometry_scanning.specs.Fronts.{Front};
 ghost use Rattle.topojson_meaning.specs.Arcs.{arc, arc_list};
@@ -18,11 +19,11 @@ use unit_scanning::{Halt, after_byte};
 /// The arc at the front (TopoJSON 1.0, section 2.1.3), and what follows it.
 fn arc_at<'a>(
     alloc: Global,
-    transform: &Option<Transform>,
+    transform: Option<&Transform>,
     bytes: &'a [u8],
     counts: &mut Counts,
 ) -> Result<(Items<Cell>, &'a [u8]), Halt>
-    ensures { IfOk result (λ x. Stands (Front 2) (arc transform.now) bytes.now x.0 x.1.now counts.old counts.new) }
+    ensures { IfOk result (λ x. Stands (Front 2) (arc (option_copied transform.entry)) bytes.now x.0 x.1.now counts.old counts.new) }
 {
     let inside = opened(b'[', bytes)?;
     let first = match cell_at(alloc, transform, Cell::at(0, 0), skip(inside), counts) {
@@ -39,12 +40,12 @@ fn arc_at<'a>(
 /// The first arc and those up to the bracket that closes their array, and what follows it.
 fn arcs_behind<'a>(
     alloc: Global,
-    transform: &Option<Transform>,
+    transform: Option<&Transform>,
     first: Items<Cell>,
     after: &'a [u8],
     counts: &mut Counts,
 ) -> Result<(Vec<Items<Cell>>, &'a [u8]), Halt>
-    ensures { IfOk result (λ x. (xs : List (List Point)) × (x.0.items ≡ first ∷ xs) × MoreStand (Front 2) (each (arc transform.now)) after.now xs x.1.now counts.old counts.new) }
+    ensures { IfOk result (λ x. (xs : List (List Point)) × (x.0.items ≡ first ∷ xs) × MoreStand (Front 2) (each (arc (option_copied transform.entry))) after.now xs x.1.now counts.old counts.new) }
 {
     let mut read = vec![in alloc; first]?;
     let mut rest = after;
@@ -64,11 +65,11 @@ fn arcs_behind<'a>(
 /// The arcs of the array at the front, and what follows it.
 pub fn arcs_at<'a>(
     alloc: Global,
-    transform: &Option<Transform>,
+    transform: Option<&Transform>,
     bytes: &'a [u8],
     counts: &mut Counts,
 ) -> Result<(Items<Items<Cell>>, &'a [u8]), Halt>
-    ensures { IfOk result (λ x. Stands (Front 3) (arc_list transform.now) bytes.now x.0 x.1.now counts.old counts.new) }
+    ensures { IfOk result (λ x. Stands (Front 3) (arc_list (option_copied transform.entry)) bytes.now x.0 x.1.now counts.old counts.new) }
 {
     let inside = opened(b'[', bytes)?;
     if let Some(end) = after_byte(b']', skip(inside)) {

@@ -1,5 +1,6 @@
 // Positions and cells.
 ghost use Rattle.std.specs.Prelude.{◌≡◌, ◌∷◌, List, IfOk};
+ghost use Rattle.std.specs.Option.{option_copied};
 ghost use Rattle.geojson_types.specs.declared.counts.Counts.{Counts as Counted};
 ghost use Rattle.geometry.specs.Points.{Point};
 ghost use Rattle.geometry_scanning.specs.Fronts.{Front};
@@ -63,12 +64,12 @@ fn difference_at<'a>(
 #[inline(always)]
 pub fn cell_at<'a>(
     alloc: Global,
-    transform: &Option<Transform>,
+    transform: Option<&Transform>,
     before: Cell,
     bytes: &'a [u8],
     counts: &mut Counts,
 ) -> Result<(Cell, &'a [u8]), Halt>
-    ensures { IfOk result (λ x. Stands (Front 1) (cell_from transform.now before) bytes.now x.0 x.1.now counts.old counts.new) }
+    ensures { IfOk result (λ x. Stands (Front 1) (cell_from (option_copied transform.entry) before) bytes.now x.0 x.1.now counts.old counts.new) }
 {
     match transform {
         None => position_at(alloc, bytes, counts),
@@ -79,12 +80,12 @@ pub fn cell_at<'a>(
 /// The first cell of an arc and those up to the bracket that closes it, and what follows it.
 pub fn cells_behind<'a>(
     alloc: Global,
-    transform: &Option<Transform>,
+    transform: Option<&Transform>,
     first: Cell,
     after: &'a [u8],
     counts: &mut Counts,
 ) -> Result<(Vec<Cell>, &'a [u8]), Halt>
-    ensures { IfOk result (λ x. (xs : List Point) × (x.0.items ≡ first ∷ xs) × MoreStand (Front 1) (cells_from transform.now first) after.now xs x.1.now counts.old counts.new) }
+    ensures { IfOk result (λ x. (xs : List Point) × (x.0.items ≡ first ∷ xs) × MoreStand (Front 1) (cells_from (option_copied transform.entry) first) after.now xs x.1.now counts.old counts.new) }
 {
     let mut read = vec![in alloc; first]?;
     let mut before = first;

@@ -76,7 +76,7 @@ impl Object for Parts {
             if self.arcs.is_some() {
                 return Err(Halt::Unread);
             }
-            let (arcs, rest) = arcs_at(alloc, &self.on, front, counts)?;
+            let (arcs, rest) = arcs_at(alloc, self.on.as_ref(), front, counts)?;
             self.arcs = Some(arcs);
             return Ok(rest);
         }

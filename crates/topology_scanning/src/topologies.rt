@@ -72,17 +72,17 @@ fn are_same(one: Option<&Transform>, other: Option<&Transform>) -> bool
 /// The objects that the value of the member `objects` is, over these arcs. It must be there.
 fn objects_of(
     alloc: Global,
-    transform: &Option<Transform>,
+    transform: Option<&Transform>,
     arcs: &[Items<Cell>],
     value: Option<Json>,
     counts: &mut Counts,
 ) -> Result<Items<(OwnText, TopoObject)>, Halt>
-    ensures { IfOk result (λ objects. AreObjects transform.now arcs.now value objects counts.old counts.new) }
+    ensures { IfOk result (λ objects. AreObjects (option_copied transform.entry) arcs.now value objects counts.old counts.new) }
 {
     let Some(value) = value else {
         return Err(Halt::Unread);
     };
-    match read_objects(alloc, transform.as_ref(), arcs, value, counts) {
+    match read_objects(alloc, transform, arcs, value, counts) {
         Ok(objects) => Ok(Items::of(objects)),
         Err(fault) => Err(halt_of(fault)),
     }
@@ -108,7 +108,7 @@ fn topology_of(alloc: Global, parts: Parts, counted: Counts) -> Result<(Topology
         return Err(Halt::Unread);
     };
     let mut counts = counted;
-    let objects = objects_of(alloc, &on, arcs.as_slice(), objects, &mut counts)?;
+    let objects = objects_of(alloc, on.as_ref(), arcs.as_slice(), objects, &mut counts)?;
     topology_is_valid();
     Ok((Topology::of(objects, arcs, on), counts))
 }

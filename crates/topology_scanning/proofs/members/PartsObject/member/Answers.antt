@@ -5,7 +5,7 @@ use Rattle.topology_scanning.proofs.MemberParts.{take_arcs, take_objects, take_t
 use Rattle.topology_scanning.proofs.members.PartsObject.member.Goals as goal
 
 pub returns-in-Some : goal.returns-in-Some
-returns-in-Some c = take_arcs c.args.bytes.now _ _ c.args.self.now c.args.counts.now _ _ c.in-Some.ensures (no_some _ (sym c.is_some.ensures ∙ c.if-is_some.false)) c.in_ok-arcs.ensures
+returns-in-Some c = take_arcs c.args.bytes.now _ _ c.args.self.now c.args.counts.now _ _ c.in-Some.ensures (no_some _ (sym c.is_some.ensures ∙ c.if-is_some.false)) (rw c.as_ref.ensures.value at c.in_ok-arcs.ensures)
 
 pub returns-in-Some-named_value : goal.returns-in-Some-named_value
 returns-in-Some-named_value c = take_objects c.args.bytes.now _ _ c.args.self.now c.args.counts.now _ c.in-Some-named_value.ensures (no_some _ (sym c.is_some-in-Some-named_value.ensures ∙ c.if-is_some-2.false)) c.in_ok-value.ensures

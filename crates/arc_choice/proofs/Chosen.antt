@@ -103,4 +103,3 @@ counted_all used flags arcs i count all so = so.count_is ∙ ap lengths so.choos
 -- one more fits
 pub fits : (count i n : ℕ) → count ≤ i * 2 ^ 64 → i < 2 ^ 64 → n < 2 ^ 64 → count + n < 2 ^ 128
 fits count i n c l m = omega (arith, c, l, m)
-

@@ -1,7 +1,5 @@
 -- Names without a fault are distinct.
 use Rattle.std.proofs.Common.{◌≡◌, ◌≢◌, ℕ, Bool, true, false, ◌||◌, cond, List, [], ◌∷◌, ◌++◌, length, Option, Some, None, refl, ap, ◌∙◌}
-use Rattle.std.proofs.lemmas.Bool.{or_parts}
-use Rattle.list_laws.proofs.Tests.{bytes_differ}
 use Rattle.std.specs.Prelude.{bytes_eq}
 use Rattle.std.proofs.lemmas.Slice.Eq.{bytes_eq-Decides}
 use Rattle.std.specs.List.{AllByRecursion}
@@ -10,10 +8,20 @@ use Rattle.inputs.specs.declared.fault.BuildFault.TheVariants.{DuplicateName}
 use Rattle.layer_sources.specs.Names.{is_among, fault_of_name, or_else, name_fault, name_fault_behind}
 
 both_none : {A : Type 0} (a b : Option A) → or_else a b ≡ None → (a ≡ None) × (b ≡ None)
-both_none a b h = grind arith
+both_none None b h = (refl, h)
+both_none (Some x) b h = absurd cc
 
 new_name : (before : List (List ℕ)) (name : List ℕ) → fault_of_name before name ≡ None → is_among name before ≡ false
-new_name before name h = grind arith
+new_name before [] h = absurd cc
+new_name before (c ∷ cs) h = on (is_among (c ∷ cs) before) h
+  where
+    on : (b : Bool) → cond b (Some (DuplicateName (length before))) None ≡ None → b ≡ false
+    on true k = absurd cc
+    on false k = refl
+
+or_parts : (a b : Bool) → (a || b) ≡ false → (a ≡ false) × (b ≡ false)
+or_parts true b h = absurd cc
+or_parts false b h = (refl, h)
 
 other_name : (name n : List ℕ) (before : List (List ℕ)) → is_among n (before ++ name ∷ []) ≡ false → (is_among n before ≡ false) × (bytes_eq name n ≡ false)
 other_name name n [] h = (refl, (or_parts (bytes_eq name n) false h).0)
@@ -22,13 +30,16 @@ other_name name n (b ∷ bs) h =
     let q = other_name name n bs p.1 in
     (ap (λ z. z || is_among n bs) p.0 ∙ q.0, q.1)
 
+differs : (name n : List ℕ) → bytes_eq name n ≡ false → name ≢ n
+differs name n h e = let k : bytes_eq name n ≡ true = (bytes_eq-Decides name n).1 e in absurd cc
+
 others : (name : List ℕ) (before names : List (List ℕ)) → AllByRecursion (λ n. is_among n (before ++ name ∷ []) ≡ false) names
     → AllByRecursion (λ n. is_among n before ≡ false) names × AllByRecursion (λ n. name ≢ n) names
 others name before [] h = (tt, tt)
 others name before (n ∷ names) h =
     let p = other_name name n before h.0 in
     let q = others name before names h.1 in
-    ((p.0, q.0), (bytes_differ name n p.1, q.1))
+    ((p.0, q.0), (differs name n p.1, q.1))
 
 new_names : (before names : List (List ℕ)) → name_fault_behind before names ≡ None → AllByRecursion (λ n. is_among n before ≡ false) names × AreDistinct names
 unfolding name_fault_behind

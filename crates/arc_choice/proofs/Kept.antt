@@ -1,6 +1,5 @@
 -- What is made of the lines or polygons that are left, if any is.
-use Rattle.std.proofs.Common.{◌≡◌, ℕ, ◌==◌, Bool, true, false, List, [], ◌∷◌, length, None, Some, refl, ap, arith}
-use Rattle.std.proofs.lemmas.Bool.Decides.{nat_tests}
+use Rattle.std.proofs.Common.{◌≡◌, ℕ, ◌==◌, Bool, true, false, List, length, None, Some, arith}
 use Rattle.list_laws.specs.Lists.{unless_empty}
 
 pub empty_left : {A B : Type 0} (make : List A → B) (got : List A) (empty : Bool) (n : ℕ) → empty ≡ (n == 0) → n ≡ length got → empty ≡ true → None ≡ unless_empty make got

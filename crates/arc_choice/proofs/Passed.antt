@@ -1,12 +1,11 @@
 -- Positions that are passed one after the other, until there are enough.
-use Rattle.std.proofs.Common.{◌≡◌, ℕ, zero, suc, ℤ, pos, negsuc, reverse, slice_get, ◌+◌, ◌-◌, ◌<◌, ◌≤◌, nat_lt, Bool, true, false, cond, List, [], ◌∷◌, ◌++◌, map, drop, length, get_or, append_assoc, append-nil, Option, None, Some, refl, sym, ap, ◌∙◌, arith}
-use Rattle.std.proofs.lemmas.Bool.Decides.{nat_tests}
+use Rattle.std.proofs.Common.{◌≡◌, ℕ, zero, suc, ℤ, slice_get, ◌+◌, ◌-◌, ◌<◌, ◌≤◌, nat_lt, Bool, true, false, cond, List, [], ◌∷◌, ◌++◌, map, drop, length, get_or, append_assoc, append-nil, Option, None, Some, refl, sym, ap, ◌∙◌, arith}
 use Rattle.std.proofs.lemmas.List.{drop_all, get_or-reverse, length-reverse}
-use Rattle.geometry.specs.Joins.{number_of, is_reversed, at, or_empty, arc_at, joined_behind_first}
+use Rattle.geometry.specs.Joins.{number_of, is_reversed, at, arc_at, joined_behind_first}
 use Rattle.geometry.specs.Points.{Point}
 use Rattle.geometry.specs.Rings.{same}
 use Rattle.geometry.proofs.Points.{same_is}
-use Rattle.junctions.specs.Cleaning.{clean, clean_from, is_short}
+use Rattle.junctions.specs.Cleaning.{clean, is_short}
 use Rattle.list_laws.specs.Lists.{tail}
 use Rattle.list_laws.proofs.Lists.{drop_here}
 use Rattle.arc_choice.specs.Passing.{Need, unpassed, new_behind, missing_behind, Passes, directed}

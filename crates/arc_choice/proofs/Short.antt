@@ -1,7 +1,6 @@
 -- How many positions are left of a line where equal neighbours count as one.
-use Rattle.std.proofs.Common.{◌≤◌, Bool, true, false, cond, List, [], ◌∷◌, length, arith}
+use Rattle.std.proofs.Common.{◌≤◌, List, [], ◌∷◌, length, arith}
 use Rattle.geometry.specs.Points.{Point}
-use Rattle.geometry.specs.Rings.{same}
 use Rattle.junctions.specs.Cleaning.{clean_from}
 
 -- at least one is left

@@ -1,7 +1,6 @@
 -- The first arc that is alike a piece.
 use Rattle.std.proofs.Common.{◌≡◌, ℕ, ◌+◌, Bool, true, false, cond, List, [], ◌∷◌, refl, arith, None, Some}
 use Rattle.std.specs.Prelude.{ℤ, pos, negsuc}
-use Rattle.arc_table.specs.Arcs.{alike}
 use Rattle.arc_table.specs.Growth.{directed, next, has_alike, first_alike, found}
 use Rattle.geometry.specs.Points.{Point}
 

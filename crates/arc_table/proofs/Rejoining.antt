@@ -13,7 +13,7 @@ use Rattle.cutter.specs.Structure.{PiecesAreLong}
 use Rattle.geometry.specs.Points.{Point}
 use Rattle.junctions.specs.Cleaning.{IsCleanList, AllClean}
 use Rattle.junctions.specs.Visits.{last}
-use Rattle.geometry.specs.Joins.{arc_at, behind_first, joined_behind_first, rejoined, first_of, last_of, Meet, Closes}
+use Rattle.geometry.specs.Joins.{arc_at, behind_first, joined_behind_first, rejoined, last_of, Meet, Closes}
 use Rattle.cutter.proofs.SegmentLaws.{segments_append}
 use Rattle.list_laws.proofs.Members.{in_left, in_right}
 

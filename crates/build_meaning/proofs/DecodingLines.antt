@@ -9,15 +9,14 @@ use Rattle.cutter.specs.Pieces.{pieces}
 use Rattle.cutter.specs.Places.{In, Apart, interior}
 use Rattle.elimination_meaning.specs.Elimination.{reduced}
 use Rattle.elimination_meaning.specs.Laws.{DirectionLaw}
-use Rattle.geometry.specs.declared.address.Cause.{Cause}
 use Rattle.geometry.specs.Lists.{then_some}
 use Rattle.geometry.specs.Points.{Point}
 use Rattle.junctions.specs.Cleaning.{clean_from, clean, is_short}
 use Rattle.junctions.specs.declared.stroke.Stroke.{Stroke}
 use Rattle.topojson_types.specs.Decoding.{filled, completed, decoded_line}
-use Rattle.geometry.specs.Joins.{number_of, at, or_empty, arc_at, rejoined}
+use Rattle.geometry.specs.Joins.{number_of, at, or_empty, arc_at}
 use Rattle.build_meaning.specs.Built.{all_arcs, kept_refs}
-use Rattle.build_meaning.specs.Expected.{own_pieces, own_cause, rebuilt, is_small, unless, kept_line}
+use Rattle.build_meaning.specs.Expected.{own_cause, rebuilt, is_small, kept_line}
 use Rattle.build_meaning.proofs.Linework.{Line, StandsIn, own_in}
 
 -- ---- an arc that is found again when all are replaced

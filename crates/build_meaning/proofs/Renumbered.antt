@@ -1,8 +1,7 @@
 -- Objects made of layers and then renumbered are made of the layers at once, and the topology that is built has no transform.
-use Rattle.std.proofs.Common.{◌≡◌, ℕ, Bool, List, [], ◌∷◌, map, Option, None, refl, arith}
-use Rattle.geojson_types.specs.Features.{Shape, Featured}
+use Rattle.std.proofs.Common.{◌≡◌, ℕ, Bool, List, [], ◌∷◌, map, None, refl, arith}
+use Rattle.geojson_types.specs.Features.{Featured}
 use Rattle.geometry.specs.Lists.{then_some}
-use Rattle.geometry.specs.Pruning.{prune}
 use Rattle.geometry.proofs.Composition.{composed}
 use Rattle.build_meaning.specs.Built.{untrimmed, built, kept_refs}
 use Rattle.build_meaning.specs.Layers.{Named, layers_of}

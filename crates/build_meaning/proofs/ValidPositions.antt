@@ -3,7 +3,7 @@ use Rattle.std.proofs.Common.{ℕ, ◌+◌, Bool, List, [], ◌∷◌, drop, tak
 use Rattle.std.specs.List.{AllByRecursion}
 use Rattle.arc_table.specs.Arcs.{arcs_of}
 use Rattle.arc_table.proofs.Alike.{arc_is_piece}
-use Rattle.cutter.specs.Pieces.{joined, pieces_from, split_at, turned, from_start, pieces_of, pieces}
+use Rattle.cutter.specs.Pieces.{joined, pieces_from, split_at, turned, pieces_of, pieces}
 use Rattle.cutter.proofs.Structured.{from_flat}
 use Rattle.geometry.specs.declared.address.Address.{Address}
 use Rattle.geojson_types.specs.Features.{Featured}

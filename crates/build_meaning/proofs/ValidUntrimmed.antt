@@ -1,5 +1,5 @@
 -- The layers over all arcs, with those that no kept line uses, are a valid topology.
-use Rattle.std.proofs.Common.{arith, ◌≡◌, ℕ, ℤ, Bool, true, List, [], ◌∷◌, map, length, Option, None, Some, refl, sym, ap, subst}
+use Rattle.std.proofs.Common.{arith, ◌≡◌, ℕ, ℤ, Bool, true, List, [], ◌∷◌, map, Option, None, Some, refl, ap}
 use Rattle.std.specs.List.{AllByRecursion}
 use Rattle.elimination_meaning.specs.Laws.{EndsStay, NoneIsNew}
 use Rattle.geojson_types.specs.Features.{Shape, Featured, is_some_list, is_proper_option}
@@ -7,15 +7,13 @@ use Rattle.geojson_types.specs.Places.{option_points}
 use Rattle.geometry.specs.Lists.{then_some}
 use Rattle.geometry.specs.Points.{Point, IsPosition}
 use Rattle.geometry.specs.Pruning.{prune}
-use Rattle.linework.specs.Linework.{linework}
 use Rattle.list_laws.proofs.Elements.{all_weaker}
-use Rattle.topojson_types.specs.Topologies.{objects_strokes}
-use Rattle.topojson_types.specs.Validity.{is_full_option, option_places, IsFeature, IsObject, AreDistinct, AreInRange, IsJoined, IsClosed, IsTopology}
-use Rattle.build_meaning.specs.Built.{kept_refs, untrimmed}
+use Rattle.topojson_types.specs.Validity.{is_full_option, option_places, IsFeature, IsObject, AreDistinct, IsTopology}
+use Rattle.build_meaning.specs.Built.{untrimmed}
 use Rattle.build_meaning.specs.Laws.{IsSound, AreSound}
-use Rattle.build_meaning.specs.Layers.{Named, names_of, layers_of}
+use Rattle.build_meaning.specs.Layers.{Named, names_of}
 use Rattle.build_meaning.specs.Objects.{Kept, features_by, objects_by}
-use Rattle.build_meaning.proofs.Valid.{IsFine, some_kept, all_fewer, objects_of, fewer_are_arcs, before_fine}
+use Rattle.build_meaning.proofs.Valid.{some_kept, fewer_are_arcs, before_fine}
 use Rattle.build_meaning.proofs.ValidShapes.{places_stay, made_full}
 
 names_are : (kept : Kept) (ls : Named) → map (λ o. o.0) (objects_by kept ls) ≡ names_of ls

@@ -14,11 +14,9 @@ use Rattle.geometry.specs.Points.{Point}
 use Rattle.geometry.proofs.Points.{same_is}
 use Rattle.junctions.specs.Cleaning.{clean_from, clean, is_short, Moves, IsCleanList, IsClean, AllClean}
 use Rattle.junctions.specs.Cuts.{is_cut}
-use Rattle.linework.specs.Linework.{linework}
 use Rattle.junctions.specs.declared.stroke.Stroke.{Stroke}
 use Rattle.build_meaning.specs.Expected.{cleaned, is_small, kept_line}
-use Rattle.build_meaning.specs.Laws.{whole_line, LosesNothing}
-use Rattle.build_meaning.specs.Layers.{layers_of, named_strokes}
+use Rattle.build_meaning.specs.Laws.{LosesNothing}
 use Rattle.build_meaning.proofs.Linework.{Line, plain, clean_line, plain_pieces, StandsIn, all_clean, each_stands}
 use Rattle.list_laws.proofs.Elements.{all_weaker}
 

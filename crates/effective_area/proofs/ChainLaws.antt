@@ -1,14 +1,13 @@
 -- Chains of links, and one taken out.
-use Rattle.std.proofs.Common.{◌≡◌, ◌≢◌, ℕ, ◌<◌, ◌≤◌, Bool, true, false, cond, not, eqb, List, [], ◌∷◌, Option, Some, None, refl, ap, sym, ◌∙◌, subst, arith, ◌⊎◌, inl, inr}
+use Rattle.std.proofs.Common.{◌≡◌, ◌≢◌, ℕ, ◌<◌, ◌≤◌, true, false, cond, not, eqb, List, [], ◌∷◌, Some, refl, ap, sym, ◌∙◌, subst, arith, ◌⊎◌, inl, inr}
 use Rattle.std.specs.List.{filter, AllByRecursion}
 use Rattle.std.proofs.lemmas.Bool.Decides.{nat_tests}
-use Rattle.std.proofs.lemmas.Bool.{cases_lt}
 use Rattle.geometry.specs.Lists.{In}
 use Rattle.geometry.specs.Points.{Point}
-use Rattle.elimination_meaning.specs.Elimination.{Corner, corner_at, corners_from, lesser, least, is_before}
+use Rattle.elimination_meaning.specs.Elimination.{Corner, corner_at, corners_from, least, is_before}
 use Rattle.effective_area.specs.Vertices.{vertex_at, vertices}
 use Rattle.elimination_meaning.proofs.Order.{one_corner}
-use Rattle.elimination_meaning.proofs.Steps.{Holds, least_holds}
+use Rattle.elimination_meaning.proofs.Steps.{least_holds}
 use Rattle.effective_area.specs.Chains.{Chain, last_of}
 
 ne_test : (v i : ℕ) → v ≢ i → not (eqb v i) ≡ true

@@ -14,7 +14,6 @@ use Rattle.lessened_topology.specs.Celled.{feature_celled, object_celled, object
 use Rattle.list_laws.proofs.Elements.{all_left, all_right, all_append}
 use Rattle.topojson_types.specs.declared.feature.TopoFeature.{TopoFeature}
 use Rattle.topojson_types.specs.declared.object.TopoObject.{TopoObject}
-use Rattle.topojson_types.specs.declared.object.TopoObject.TheVariants.{One, Many}
 use Rattle.topojson_types.specs.declared.transform.Transform.{Transform}
 use Rattle.topojson_types.specs.Topologies.{Contents, object_features}
 use Rattle.grid_meaning.specs.Laws.{Keeps, GriddedKeeps}

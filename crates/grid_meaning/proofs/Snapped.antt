@@ -1,5 +1,5 @@
 -- Layers that are snapped to the grid over them lie on it, and are as sound as before.
-use Rattle.std.proofs.Common.{rules, arith, ◌≡◌, ℕ, ◌≤◌, true, List, [], ◌∷◌, ◌+◌, map, Option, None, Some, refl, sym, ap, ◌∙◌, subst}
+use Rattle.std.proofs.Common.{rules, arith, ◌≡◌, ℕ, ◌≤◌, true, List, [], ◌∷◌, map, Option, None, Some, refl, ap}
 use Rattle.std.specs.List.{AllByRecursion}
 use Rattle.build_meaning.specs.Laws.{IsSound, AreSound}
 use Rattle.build_meaning.specs.Layers.{Named, names_of}
@@ -15,7 +15,7 @@ use Rattle.geometry.specs.Points.{Point}
 use Rattle.geometry.proofs.Induction.{by_kinds}
 use Rattle.geometry.proofs.MovedShapes.{moved_at, option_points_moved}
 use Rattle.grid_snap.specs.Axes.{Axes, IsGrid, covers, snapped, grid_over}
-use Rattle.grid_snap.specs.Laws.{IsAsSound, Settles}
+use Rattle.grid_snap.specs.Laws.{Settles}
 use Rattle.grid_snap.proofs.Layered.{snapped_sound}
 use Rattle.grid_snap.proofs.Least.{covers_all, grid_made}
 use Rattle.grid_snap.proofs.Settled.{settled}

@@ -18,7 +18,6 @@ use Rattle.list_laws.proofs.Elements.{all_weaker, all_left, all_right}
 use Rattle.list_laws.proofs.Lists.{map_agree, made_of_some}
 use Rattle.topojson_types.specs.declared.feature.TopoFeature.{TopoFeature}
 use Rattle.topojson_types.specs.declared.object.TopoObject.{TopoObject}
-use Rattle.topojson_types.specs.declared.object.TopoObject.TheVariants.{One, Many}
 use Rattle.topojson_types.specs.declared.transform.Transform.{Transform}
 use Rattle.topojson_types.specs.Topologies.{TopoShape, Contents, object_features}
 use Rattle.topojson_types.specs.Validity.{is_full, is_full_option, places, option_places, IsFeature, IsObject, IsTopology}

@@ -1,5 +1,5 @@
 -- Named layers that are snapped one after another.
-use Rattle.std.proofs.Common.{arith, ◌≡◌, ℕ, zero, suc, ◌<◌, true, List, [], ◌∷◌, ◌++◌, map, length, take, drop, get_or, refl, ap, ◌∙◌, subst}
+use Rattle.std.proofs.Common.{arith, ◌≡◌, ℕ, zero, suc, ◌<◌, true, List, [], ◌∷◌, ◌++◌, map, length, take, drop, get_or, refl}
 use Rattle.std.specs.List.{AllByRecursion}
 use Rattle.build_meaning.specs.Layers.{Named}
 use Rattle.geojson_types.specs.declared.layer.Layer.{Layer}

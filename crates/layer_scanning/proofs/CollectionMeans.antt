@@ -1,5 +1,5 @@
 -- The layer that a collection's members are.
-use Rattle.std.proofs.Common.{◌≡◌, ℕ, ◌+◌, ◌-◌, Bool, true, false, List, [], ◌∷◌, ◌++◌, Option, Some, None, Ok, refl, sym, ap, ◌∙◌, subst, arith}
+use Rattle.std.proofs.Common.{◌≡◌, ℕ, ◌+◌, Bool, true, false, List, [], ◌∷◌, ◌++◌, Some, None, Ok, refl, sym, ap, ◌∙◌, subst, arith}
 use Rattle.std.specs.Prelude.{codes, bytes_eq, IsUtf8}
 use Rattle.json_value.specs.declared.json.Json.{Json}
 use Rattle.json_value.specs.declared.json.Json.TheVariants as j
@@ -13,7 +13,7 @@ use Rattle.geojson_types.specs.Features.{Featured}
 use Rattle.geojson_model.specs.Features.{feature_element}
 use Rattle.geojson_model.specs.Layers.{layer, features, typed_features, collection_features, features_from}
 use Rattle.geojson_model.specs.Members.{named, need, type_name}
-use Rattle.geojson_model.specs.Reader.{Reader, ◌>>=◌, give, gather}
+use Rattle.geojson_model.specs.Reader.{◌>>=◌, give, gather}
 use Rattle.geojson_model.specs.Types.{geojson_type}
 use Rattle.json_members.proofs.Yields.{taken, first_is, second_is}
 use Rattle.geometry_scanning.specs.Fronts.{any, FrontAt, MemberFront, NamedValue, Stands, MoreStand, SomeStand, one}

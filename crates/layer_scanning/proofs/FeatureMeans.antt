@@ -1,5 +1,5 @@
 -- The feature that members are.
-use Rattle.std.proofs.Common.{◌≡◌, ℕ, ◌-◌, Bool, true, false, List, [], ◌∷◌, Option, Some, None, Result, Ok, Err, refl, sym, ap, ◌∙◌, arith}
+use Rattle.std.proofs.Common.{◌≡◌, ℕ, Bool, true, false, List, [], ◌∷◌, Option, Some, None, Result, Ok, Err, refl, sym, ap, arith}
 use Rattle.std.specs.Prelude.{codes}
 use Rattle.json_value.specs.declared.json.Json.{Json}
 use Rattle.json_value.specs.declared.json.Json.TheVariants as j
@@ -15,7 +15,7 @@ use Rattle.geojson_model.specs.Reader.{Reader, ◌>>=◌, give, pure, if_some}
 use Rattle.geometry_scanning.specs.Fronts.{FrontAt, MemberFront, Stands}
 use Rattle.geometry_scanning.proofs.ShapeParts.{object_value}
 use Rattle.layer_scanning.specs.declared.features.Parts.{Parts}
-use Rattle.layer_scanning.specs.FeatureParts.{geometry_member, given, IsShape, Holds}
+use Rattle.layer_scanning.specs.FeatureParts.{given, IsShape, Holds}
 use Rattle.geometry_scanning.specs.MemberLists.{ReadsMembers}
 use Rattle.layer_scanning.proofs.FeatureMembers.{nothing_held}
 use Rattle.geometry_scanning.proofs.Named.{found_is}

@@ -1,6 +1,6 @@
 -- A feature's members, one after another.
-use Rattle.std.proofs.Common.{◌≡◌, ℕ, ◌≤◌, Bool, true, false, cond, List, [], ◌∷◌, ◌++◌, Option, Some, None, Result, Ok, Err, inl, inr, refl, sym, ap, ◌∙◌, subst, arith}
-use Rattle.std.specs.Prelude.{codes, bytes_eq, option_to_list}
+use Rattle.std.proofs.Common.{◌≡◌, ℕ, Bool, true, false, List, [], ◌∷◌, ◌++◌, Option, Some, None, Result, Ok, Err, inl, inr, refl, sym, ap, ◌∙◌, subst, arith}
+use Rattle.std.specs.Prelude.{codes, bytes_eq}
 use Rattle.json_value.specs.declared.json.Json.{Json}
 use Rattle.json_value.specs.declared.json.Json.TheVariants as j
 use Rattle.json_value.specs.Kinds.{object_of}
@@ -12,10 +12,10 @@ use Rattle.decimal_json.proofs.Words.{after_word_takes}
 use Rattle.geojson_types.specs.declared.counts.Counts.{Counts}
 use Rattle.geojson_types.specs.Features.{Shape, is_proper_option}
 use Rattle.geojson_model.specs.declared.fault.GeoFaultKind.{GeoFaultKind}
-use Rattle.geojson_model.specs.Features.{members_if, members_in}
+use Rattle.geojson_model.specs.Features.{members_if}
 use Rattle.geojson_model.specs.Geometries.{shape, geometry}
 use Rattle.geojson_model.specs.Members.{named}
-use Rattle.geojson_model.specs.Reader.{Reader, and_then, ◌>>=◌, pure, if_some}
+use Rattle.geojson_model.specs.Reader.{Reader, ◌>>=◌, pure, if_some}
 use Rattle.geojson_model.proofs.Proper.{object_proper}
 use Rattle.geojson_model.proofs.Unrolled.{shape_object, shape_other}
 use Rattle.geometry_scanning.specs.Fronts.{any, Front, FrontAt, MemberFront, NamedValue, Stands}

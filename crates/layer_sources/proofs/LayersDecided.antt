@@ -10,7 +10,7 @@ use Rattle.geojson_types.specs.declared.counts.Counts.{Counts}
 use Rattle.geojson_types.specs.declared.layer.Layer.{Layer}
 use Rattle.geojson_types.specs.Features.{Featured}
 use Rattle.inputs.specs.declared.fault.BuildFault.{BuildFault}
-use Rattle.inputs.specs.declared.fault.BuildFault.TheVariants.{EmptyName, DuplicateName, Read, Json as Text, Geo, Write, Memory}
+use Rattle.inputs.specs.declared.fault.BuildFault.TheVariants.{Read, Json as Text, Geo, Memory}
 use Rattle.inputs.specs.Texts.{max_input}
 use Rattle.inputs.proofs.BytesDecided.{plain_text, one_outcome, text_comes}
 use Rattle.layer_sources.specs.Outcomes.{Texts, LayerOutcome, Outcome, of_layer, of_text, LayerComesTo, with_layer, Continues, AllComeTo, ComesTo, plain_fault, plain_outcome, IsOutsideRead, HaveBytes, FirstHaveBytes}

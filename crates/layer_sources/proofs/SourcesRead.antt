@@ -5,7 +5,7 @@ use Rattle.byte_ends.specs.Ends.{Fed, saturated}
 use Rattle.geojson_types.specs.declared.counts.Counts.{Counts}
 use Rattle.geojson_types.specs.declared.layer.Layer.{Layer}
 use Rattle.inputs.specs.declared.fault.BuildFault.{BuildFault}
-use Rattle.inputs.specs.declared.fault.BuildFault.TheVariants.{EmptyName, DuplicateName, Read, Json, Geo, Write, Memory}
+use Rattle.inputs.specs.declared.fault.BuildFault.TheVariants.{Memory}
 use Rattle.inputs.specs.Texts.{IsRead}
 use Rattle.layer_sources.specs.Reading.{FailsToRead, SpellsLayer}
 use Rattle.layer_sources.specs.Sources.{Sources, Named, IsLayerRead, HaveRead, AllRead, FailsAt, FailsToReadAll, AreUntroubled, plus, added}

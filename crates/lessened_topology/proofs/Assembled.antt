@@ -1,35 +1,33 @@
 -- What is assembled of layers, in the words of their lines; and with each arc reduced at a threshold it is what is built of them.
-use Rattle.std.proofs.Common.{rules, arith, ◌≡◌, ℕ, ◌-◌, Bool, true, false, cond, List, [], ◌∷◌, map, Option, None, Some, refl, sym, ap, ◌∙◌, subst}
+use Rattle.std.proofs.Common.{rules, arith, ◌≡◌, ℕ, Bool, List, [], ◌∷◌, map, Option, None, refl, ap, ◌∙◌}
 use Rattle.std.specs.List.{AllByRecursion}
 use Rattle.elimination_meaning.specs.Elimination.{reduce, reduced}
 use Rattle.elimination_meaning.specs.Laws.{DirectionLaw, ZeroLaw, EndsStay, NoneIsNew}
 use Rattle.geojson_types.specs.Features.{Shape, Featured}
 use Rattle.geometry.specs.declared.address.Cause.{Cause}
-use Rattle.geometry.specs.declared.address.Cause.TheVariants.{Collapsed, Small}
 use Rattle.geometry.specs.Lists.{then_some}
 use Rattle.geometry.specs.Omissions.{dropped_of_layers}
 use Rattle.geometry.specs.Points.{Point}
 use Rattle.geometry.specs.Pruning.{option_strokes}
 use Rattle.geometry.proofs.Omitted.{omissions_agree}
-use Rattle.junctions.specs.Cleaning.{clean, is_short}
 use Rattle.junctions.specs.declared.stroke.Stroke.{Stroke}
 use Rattle.linework.specs.Linework.{linework}
 use Rattle.list_laws.proofs.Elements.{all_weaker, all_left, all_right}
 use Rattle.topojson_types.specs.declared.object.TopoObject.{TopoObject}
 use Rattle.topojson_types.specs.Topologies.{Contents}
-use Rattle.build_meaning.specs.Built.{all_arcs, kept_refs, untrimmed, built, positions_of, taken_out}
-use Rattle.build_meaning.specs.Expected.{own_cause, rebuilt, is_small, unless, kept_line, option_omissions, expected_dropped}
+use Rattle.build_meaning.specs.Built.{all_arcs, kept_refs, untrimmed, built, taken_out}
+use Rattle.build_meaning.specs.Expected.{own_cause, unless, kept_line, option_omissions, expected_dropped}
 use Rattle.build_meaning.specs.Laws.{AreSound, whole_line}
 use Rattle.build_meaning.specs.Layers.{Named, layers_of, features_strokes, named_strokes}
 use Rattle.build_meaning.specs.Objects.{Kept, objects_by}
-use Rattle.build_meaning.specs.Trimming.{is_used, keep_from, trimmed}
+use Rattle.build_meaning.specs.Trimming.{trimmed}
 use Rattle.build_meaning.proofs.Linework.{Line, StandsIn, all_clean, each_stands, own_apart}
 use Rattle.build_meaning.proofs.ValidIndexes.{arcs_long}
 use Rattle.build_meaning.proofs.ValidUntrimmed.{untrimmed_is_valid}
 use Rattle.build_meaning.proofs.Whole.{each_stays, loses_nothing}
 use Rattle.lessened_topology.specs.Assembled.{arcs_of_layers, arc_indexes, own_refs, assembled_cause, option_caused, layers_caused, assembled, assembled_dropped, assembled_taken_out}
 use Rattle.lessened_topology.specs.Laws.{AssemblesToBuilt, AssemblingDropsExpected, AssemblingTakesOut, ArcIndexesReach, AssembledIsValid}
-use Rattle.lessened_topology.specs.Lessened.{small_cause, large_refs, picked_arcs, picked_whole, objects_pruned, lessened_by, taken_out_by, EachFromFirstToLast}
+use Rattle.lessened_topology.specs.Lessened.{large_refs, picked_arcs, picked_whole, objects_pruned, lessened_by, taken_out_by}
 use Rattle.build_meaning.proofs.Trimmed.{kept_of_map}
 use Rattle.lessened_topology.proofs.Lessened.{IsWholeAtZero, no_small, cause_same, objects_again}
 use Rattle.lessened_topology.proofs.Made.{objects_made}

@@ -18,10 +18,10 @@ use Rattle.linework.specs.Linework.{linework}
 use Rattle.linework.proofs.Positions.{none_is_new}
 use Rattle.list_laws.proofs.Elements.{all_append, all_left, all_right, all_of, all_map, all_weaker, each_of}
 use Rattle.topojson_types.specs.Validity.{option_places}
-use Rattle.build_meaning.specs.Built.{all_arcs, kept_refs, untrimmed, built}
+use Rattle.build_meaning.specs.Built.{built}
 use Rattle.build_meaning.specs.Layers.{Named, layers_of}
 use Rattle.build_meaning.specs.Objects.{Kept, features_by, objects_by}
-use Rattle.build_meaning.specs.Trimming.{is_used, line_renumbered, feature_renumbered, object_renumbered, trimmed}
+use Rattle.build_meaning.specs.Trimming.{feature_renumbered, object_renumbered, trimmed}
 use Rattle.build_meaning.proofs.ValidPositions.{all_pieces_of}
 use Rattle.build_meaning.proofs.ValidShapes.{places_stay}
 use Rattle.build_meaning.proofs.ValidTrimmed.{all_kept}

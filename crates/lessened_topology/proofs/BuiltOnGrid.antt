@@ -1,15 +1,12 @@
 -- What is built of layers on a grid: it decodes to what is built of them without, and it is valid.
-use Rattle.std.proofs.Common.{rules, arith, ◌≡◌, ℕ, None, Some, refl, ◌∙◌}
+use Rattle.std.proofs.Common.{rules, arith, ◌≡◌, ℕ, None, refl}
 use Rattle.elimination_meaning.specs.Laws.{NoneIsNew}
-use Rattle.geojson_types.specs.declared.layer.FeatureSet.TheVariants as set
 use Rattle.list_laws.proofs.Elements.{all_weaker}
-use Rattle.topojson_types.specs.Decoding.{decoded}
 use Rattle.build_meaning.specs.Built.{built}
-use Rattle.build_meaning.specs.Expected.{expected}
 use Rattle.build_meaning.specs.Laws.{DecodesBack, IsValid}
 use Rattle.build_meaning.specs.Layers.{Named}
 use Rattle.build_meaning.specs.Trimming.{trimmed}
-use Rattle.lessened_topology.specs.Celled.{celled, LiesBack, IsOnGrid}
+use Rattle.lessened_topology.specs.Celled.{LiesBack}
 use Rattle.lessened_topology.specs.Laws.{BuiltDecodesOnGrid, BuiltIsValidOnGrid, DecodesBackOnGrid}
 use Rattle.lessened_topology.proofs.BuiltCells.{built_cells}
 use Rattle.lessened_topology.proofs.CelledDecoding.{celled_decodes}

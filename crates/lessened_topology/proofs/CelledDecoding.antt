@@ -1,10 +1,9 @@
 -- A topology on a grid decodes to what the topology decodes to whose positions its cells stand for.
-use Rattle.std.proofs.Common.{rules, arith, ◌≡◌, ℕ, ℤ, bytes_eq, Bool, true, false, cond, List, [], ◌∷◌, map, Option, None, Some, refl, sym, ap, ◌∙◌, subst}
+use Rattle.std.proofs.Common.{rules, arith, ◌≡◌, ℕ, ℤ, bytes_eq, Bool, cond, List, [], ◌∷◌, map, Option, None, Some, refl, ap, ◌∙◌, subst}
 use Rattle.std.specs.List.{AllByRecursion}
 use Rattle.list_laws.proofs.Elements.{all_left, all_right}
 use Rattle.list_laws.proofs.Lists.{map_agree}
 use Rattle.geometry.specs.declared.shape.Geometry.TheVariants as g
-use Rattle.geojson_types.specs.declared.layer.FeatureSet.TheVariants as set
 use Rattle.geojson_types.specs.Features.{Featured, Shape}
 use Rattle.geometry.specs.Lists.{map_some, then_some, some_of, joined}
 use Rattle.geometry.specs.Points.{Point}
@@ -14,7 +13,6 @@ use Rattle.geometry.proofs.Composition.{composed}
 use Rattle.geometry.proofs.Induction.{by_kinds}
 use Rattle.topojson_types.specs.declared.feature.TopoFeature.{TopoFeature}
 use Rattle.topojson_types.specs.declared.object.TopoObject.{TopoObject}
-use Rattle.topojson_types.specs.declared.object.TopoObject.TheVariants.{One, Many}
 use Rattle.topojson_types.specs.declared.transform.Transform.{Transform}
 use Rattle.topojson_types.specs.Decoding.{decoded_line, decoded_shape, decoded_feature, decoded_object, of_name, decoded}
 use Rattle.topojson_types.specs.Topologies.{TopoShape, Contents, object_features}

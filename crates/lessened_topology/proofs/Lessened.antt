@@ -1,5 +1,5 @@
 -- What is built of layers at zero and then reduced is what is built of them at the threshold.
-use Rattle.std.proofs.Common.{rules, arith, ◌≡◌, ℕ, ℤ, Bool, true, false, cond, List, map, Option, None, Some, refl, sym, ap, ◌∙◌, subst}
+use Rattle.std.proofs.Common.{rules, arith, ◌≡◌, ℕ, ℤ, Bool, false, cond, List, map, Option, None, Some, refl, sym, ap, ◌∙◌, subst}
 use Rattle.std.specs.List.{AllByRecursion}
 use Rattle.arc_table.specs.Arcs.{index_in}
 use Rattle.arc_table.proofs.Rejoining.{same_rejoined}
@@ -8,7 +8,7 @@ use Rattle.cutter.specs.Places.{In, Apart, interior}
 use Rattle.elimination_meaning.specs.Elimination.{reduced}
 use Rattle.elimination_meaning.specs.Laws.{DirectionLaw, ZeroLaw}
 use Rattle.geometry.specs.declared.address.Cause.{Cause}
-use Rattle.geometry.specs.declared.address.Cause.TheVariants.{Collapsed, Small}
+use Rattle.geometry.specs.declared.address.Cause.TheVariants.{Small}
 use Rattle.geometry.specs.Lists.{then_some}
 use Rattle.geometry.specs.Points.{Point}
 use Rattle.junctions.specs.Cleaning.{clean, is_short}
@@ -16,7 +16,6 @@ use Rattle.junctions.specs.Cuts.{is_cut}
 use Rattle.linework.specs.Linework.{linework}
 use Rattle.junctions.specs.declared.stroke.Stroke.{Stroke}
 use Rattle.topojson_types.specs.declared.object.TopoObject.{TopoObject}
-use Rattle.geometry.specs.Joins.{rejoined}
 use Rattle.topojson_types.specs.Topologies.{objects_strokes}
 use Rattle.build_meaning.specs.Built.{all_arcs, kept_refs, untrimmed, built}
 use Rattle.build_meaning.specs.Expected.{cleaned, own_pieces, own_cause, rebuilt, is_small, unless, kept_line}
@@ -27,7 +26,7 @@ use Rattle.build_meaning.specs.Trimming.{is_used, keep_from, renumbered, line_re
 use Rattle.build_meaning.proofs.DecodingLines.{pieces_back}
 use Rattle.build_meaning.proofs.Linework.{Line, StandsIn, each_stands, own_apart, own_in}
 use Rattle.list_laws.proofs.Elements.{all_weaker, all_two}
-use Rattle.build_meaning.proofs.Trimmed.{IsUsed, AllUsed, all_renumbered, all_used}
+use Rattle.build_meaning.proofs.Trimmed.{AllUsed, all_renumbered, all_used}
 use Rattle.build_meaning.proofs.Whole.{loses_nothing}
 use Rattle.lessened_topology.specs.Laws.{LessensToBuilt}
 use Rattle.lessened_topology.specs.Lessened.{small_cause, large_refs, objects_pruned, lessened_by}

@@ -1,5 +1,5 @@
 -- Objects that are made of layers and then pruned are made of them at once.
-use Rattle.std.proofs.Common.{rules, arith, ◌≡◌, Bool, List, [], ◌∷◌, map, Option, None, Some, refl, ap, ◌∙◌}
+use Rattle.std.proofs.Common.{rules, arith, ◌≡◌, Bool, List, [], ◌∷◌, map, Option, None, Some, refl}
 use Rattle.std.specs.List.{AllByRecursion}
 use Rattle.geojson_types.specs.Features.{Shape, Featured}
 use Rattle.geometry.specs.Lists.{then_some}
@@ -9,10 +9,9 @@ use Rattle.geometry.proofs.Agreement.{agreed}
 use Rattle.geometry.proofs.Composition.{composed}
 use Rattle.list_laws.proofs.Elements.{all_left, all_right}
 use Rattle.topojson_types.specs.declared.feature.TopoFeature.{TopoFeature}
-use Rattle.topojson_types.specs.declared.object.TopoObject.TheVariants.{Many}
 use Rattle.topojson_types.specs.Topologies.{TopoShape}
 use Rattle.build_meaning.specs.Layers.{Named, features_strokes, named_strokes}
-use Rattle.build_meaning.specs.Objects.{Kept, feature_by, features_by, objects_by}
+use Rattle.build_meaning.specs.Objects.{Kept, features_by, objects_by}
 use Rattle.lessened_topology.specs.Lessened.{Refs, feature_pruned, objects_pruned}
 
 module _ (kept : Kept) (next : Refs) (at_once : Kept) where

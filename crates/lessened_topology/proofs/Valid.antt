@@ -1,5 +1,5 @@
 -- A topology whose arcs are reduced stays valid.
-use Rattle.std.proofs.Common.{arith, ◌≡◌, ℕ, ◌≤◌, ℤ, Bool, true, List, [], ◌∷◌, map, length, Option, None, Some, refl, sym, ap, subst}
+use Rattle.std.proofs.Common.{arith, ◌≡◌, ℕ, ◌≤◌, ℤ, Bool, true, List, [], ◌∷◌, map, length, Option, Some, refl, sym, ap, subst}
 use Rattle.std.specs.List.{AllByRecursion}
 use Rattle.geometry.specs.declared.address.Cause.{Cause}
 use Rattle.geojson_types.specs.Features.{is_some_list}

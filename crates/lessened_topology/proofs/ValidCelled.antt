@@ -1,5 +1,5 @@
 -- A topology on a grid is valid where the topology is whose positions its cells stand for.
-use Rattle.std.proofs.Common.{rules, arith, ◌≡◌, ℕ, ◌≤◌, ℤ, pos, negsuc, true, List, [], ◌∷◌, map, length, reverse, Option, None, Some, refl, sym, ap, ◌∙◌, subst}
+use Rattle.std.proofs.Common.{rules, arith, ◌≡◌, ℕ, ◌≤◌, ℤ, true, List, [], ◌∷◌, map, length, Option, None, Some, refl, sym, ap, ◌∙◌, subst}
 use Rattle.std.specs.List.{AllByRecursion}
 use Rattle.std.proofs.lemmas.List.{length-map}
 use Rattle.elimination_meaning.proofs.Direction.{map_reverse}
@@ -9,7 +9,6 @@ use Rattle.geometry.specs.Points.{Point, IsPosition}
 use Rattle.list_laws.proofs.Elements.{all_left, all_right, all_two, all_map, all_weaker}
 use Rattle.topojson_types.specs.declared.feature.TopoFeature.{TopoFeature}
 use Rattle.topojson_types.specs.declared.object.TopoObject.{TopoObject}
-use Rattle.topojson_types.specs.declared.object.TopoObject.TheVariants.{One, Many}
 use Rattle.topojson_types.specs.declared.transform.Transform.{Transform}
 use Rattle.geometry.specs.Joins.{at, or_empty, arc_at, first_of, last_of, Meet, Closes}
 use Rattle.topojson_types.specs.Topologies.{Contents, object_features, objects_strokes}

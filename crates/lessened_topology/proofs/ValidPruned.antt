@@ -1,6 +1,6 @@
 -- A shape of a topology of which some lines and rings are left out has no empty list where what is given for a line that has an element
 -- has one, its Points and MultiPoints stay where they are, and it is no group unless it was one.
-use Rattle.std.proofs.Common.{arith, ◌≡◌, ℕ, ℤ, Bool, true, false, ◌&&◌, List, [], ◌∷◌, map, Option, None, Some, refl, sym, ap, ◌∙◌, subst}
+use Rattle.std.proofs.Common.{arith, ◌≡◌, ℕ, ℤ, Bool, true, false, List, [], ◌∷◌, map, Option, None, Some, refl, sym, ap, ◌∙◌, subst}
 use Rattle.std.specs.List.{AllByRecursion, list_all}
 use Rattle.std.proofs.lemmas.Bool.{and_from, and_parts}
 use Rattle.geometry.specs.declared.shape.Geometry.TheVariants as g
@@ -14,7 +14,6 @@ use Rattle.geometry.proofs.Induction.{by_kinds}
 use Rattle.topojson_types.proofs.ByKind.{full_at, full-group, places_at, single_at}
 use Rattle.topojson_types.specs.declared.feature.TopoFeature.{TopoFeature}
 use Rattle.topojson_types.specs.declared.object.TopoObject.{TopoObject}
-use Rattle.topojson_types.specs.declared.object.TopoObject.TheVariants.{One, Many}
 use Rattle.topojson_types.specs.declared.transform.Transform.{Transform}
 use Rattle.topojson_types.specs.Topologies.{TopoShape}
 use Rattle.topojson_types.specs.Validity.{is_full, is_full_option, places, option_places, is_single, is_single_option, IsPlace, IsFeature, IsObject}

@@ -1,5 +1,5 @@
 -- What is made of layers, of the table of their arcs and of the positions of each arc that are kept is what is assembled of them.
-use Rattle.std.proofs.Common.{arith, ◌≡◌, ℕ, suc, ◌-◌, not, ℤ, Bool, true, false, cond, ◌||◌, List, [], ◌∷◌, map, length, Option, None, Some, refl, sym, ap, ◌∙◌}
+use Rattle.std.proofs.Common.{arith, ◌≡◌, ℕ, suc, ◌-◌, ℤ, Bool, true, cond, List, [], ◌∷◌, map, length, Option, None, Some, refl, sym, ap, ◌∙◌}
 use Rattle.std.specs.List.{list_any}
 use Rattle.std.proofs.Math.Path.{fun_ext}
 use Rattle.arc_choice.specs.Marks.{names_arc}
@@ -10,7 +10,7 @@ use Rattle.build_meaning.specs.Expected.{own_pieces, is_small, unless}
 use Rattle.build_meaning.specs.Laws.{AreSound}
 use Rattle.build_meaning.specs.Layers.{Named, layers_of, named_strokes}
 use Rattle.build_meaning.specs.Objects.{Kept, objects_by}
-use Rattle.build_meaning.specs.Trimming.{is_used, keep_from, renumbered, line_renumbered, object_renumbered, trimmed}
+use Rattle.build_meaning.specs.Trimming.{is_used, keep_from, object_renumbered, trimmed}
 use Rattle.build_meaning.proofs.Candidates.{map_map, stroke, named_are, own_left, objects_left}
 use Rattle.build_meaning.proofs.Linework.{long_of, long_strokes, split_lists}
 use Rattle.build_meaning.proofs.Once.{same_pieces}
@@ -19,11 +19,10 @@ use Rattle.build_meaning.proofs.Whole.{each_stays}
 use Rattle.cutter.specs.Slices.{split_of, piece_lists}
 use Rattle.elimination_meaning.specs.Laws.{ZeroLaw}
 use Rattle.geometry.specs.declared.address.Cause.{Cause}
-use Rattle.geometry.specs.declared.address.Cause.TheVariants.{Collapsed, Small, Outer}
+use Rattle.geometry.specs.declared.address.Cause.TheVariants.{Collapsed, Small}
 use Rattle.geometry.specs.declared.address.Dropped.{Dropped}
 use Rattle.geometry.specs.Joins.{arc_at, rejoined}
-use Rattle.geometry.specs.Lists.{map_some, then_some, with_some, some_of}
-use Rattle.geometry.specs.Omissions.{inner_cause}
+use Rattle.geometry.specs.Lists.{some_of}
 use Rattle.geometry.specs.Points.{Point}
 use Rattle.junctions.specs.Cleaning.{clean, is_short}
 use Rattle.junctions.specs.declared.stroke.Stroke.{Stroke}

@@ -1,12 +1,9 @@
 -- The lines of the linework, dealt to the lines and rings of layers by their fates.
-use Rattle.std.proofs.Common.{◌≡◌, ℕ, ℤ, ◌+◌, ◌<◌, ◌≤◌, nat_lt, Bool, true, false, not, ◌&&◌, cond, List, [], ◌∷◌, ◌++◌, map, drop, length, get_or, slice_get, Option, None, Some, refl, sym, ap, ◌∙◌, arith, append_assoc, append-nil}
-use Rattle.std.proofs.lemmas.Bool.Decides.{nat_tests}
+use Rattle.std.proofs.Common.{◌≡◌, ℕ, ◌+◌, ◌<◌, ◌≤◌, nat_lt, Bool, true, false, not, ◌&&◌, List, [], ◌∷◌, ◌++◌, map, drop, length, get_or, slice_get, Option, None, Some, sym, ap, ◌∙◌, arith, append_assoc, append-nil}
 use Rattle.std.proofs.lemmas.List.{drop_all, drop_more}
 use Rattle.std.proofs.lemmas.Option.{slice_get_within, get_or_from_slice_get}
-use Rattle.build_meaning.specs.Trimming.{renumbered}
 use Rattle.geometry.specs.declared.address.Cause.{Cause}
-use Rattle.geometry.specs.Lists.{map_some, tail}
-use Rattle.topo_model.specs.Fates.{is_collapsed, is_small, first, dealt, entry_by}
+use Rattle.topo_model.specs.Fates.{is_collapsed, dealt, entry_by}
 
 -- what has no line takes none
 none_dealt : {X : Type 0} (f : Option Cause) (fs : List (Option Cause)) (xs : List X) (some : Bool) → (some ≡ false → xs ≡ []) → (not (is_collapsed f) && some) ≡ false → dealt (f ∷ fs) xs ≡ (f, None) ∷ dealt fs xs

@@ -1,5 +1,5 @@
 -- Flags that a loop over fates sets.
-use Rattle.std.proofs.Common.{arith, ◌≡◌, ℕ, ◌+◌, ◌<◌, ◌≤◌, ℤ, Bool, true, false, ◌||◌, List, [], length, drop, get_or, Option, None, Some, refl, sym, ap, ◌∙◌, not, ◌&&◌, nat_lt, slice_get, is_some}
+use Rattle.std.proofs.Common.{arith, ◌≡◌, ℕ, ◌+◌, ◌<◌, ◌≤◌, ℤ, Bool, true, false, ◌||◌, List, length, drop, get_or, Option, None, Some, sym, ap, ◌∙◌, not, ◌&&◌, nat_lt, slice_get, is_some}
 use Rattle.std.proofs.lemmas.List.{drop_all}
 use Rattle.arc_choice.specs.Marks.{also_set}
 use Rattle.arc_choice.proofs.Marked.{also_same, also_twice, also_none}

@@ -3,7 +3,6 @@ use Rattle.std.proofs.Common.{arith, ◌≡◌, ℕ, ◌+◌, ◌<◌, ◌≤◌
 use Rattle.std.proofs.lemmas.List.{drop_more}
 use Rattle.std.proofs.lemmas.Option.{slice_get_past, slice_get_within, get_or_from_slice_get}
 use Rattle.arc_choice.proofs.Passed.{at_got}
-use Rattle.geometry.specs.Lists.{with_some}
 use Rattle.geometry.specs.Points.{Point}
 use Rattle.lessened_topology.specs.Lessened.{picked, picked_arcs}
 use Rattle.list_laws.proofs.Lists.{drop_here}

@@ -1,5 +1,5 @@
 -- The measures of the reading of collections fall: what is inside a value is less deep.
-use Rattle.std.proofs.Common.{◌≡◌, ℕ, zero, suc, ◌+◌, ◌*◌, ◌<◌, List, [], ◌∷◌, length, map, get_or, Some, Result, Ok, Err, sym, ap, subst, arith}
+use Rattle.std.proofs.Common.{◌≡◌, ℕ, ◌+◌, ◌*◌, ◌<◌, List, [], ◌∷◌, length, map, get_or, Some, Ok, arith}
 use Rattle.std.specs.List.{AllByRecursion}
 use Rattle.json_value.specs.declared.json.Json.{Json}
 use Rattle.json_value.specs.declared.json.Json.TheVariants as j
@@ -9,7 +9,6 @@ use Rattle.json_value.proofs.Depths.{depth-array, depth-object}
 use Rattle.json_value.proofs.KindsOf.{array_of_is, object_of_is}
 use Rattle.json_members.specs.Members as members_by
 use Rattle.topojson_meaning.specs.Members.{need, lookup_fault}
-use Rattle.topojson_meaning.specs.Reader.{with_fault}
 use Rattle.json_members.proofs.Parts.{given, need_part}
 use Rattle.list_laws.proofs.Elements.{all_at}
 

@@ -1,5 +1,5 @@
 -- The topology that is put together is the one that is left.
-use Rattle.std.proofs.Common.{arith, ◌≡◌, ℕ, zero, suc, ◌-◌, ℤ, Bool, List, map, length, Option, None, Some, refl, sym, ap, ◌∙◌, subst}
+use Rattle.std.proofs.Common.{arith, ◌≡◌, ℕ, zero, suc, ◌-◌, ℤ, Bool, List, map, length, Option, Some, refl, sym, ap, ◌∙◌, subst}
 use Rattle.std.specs.List.{AllByRecursion}
 use Rattle.arc_choice.specs.Uses.{answers}
 use Rattle.arc_choice.proofs.Ranked.{RanksOf, all_renumbered}
@@ -10,7 +10,7 @@ use Rattle.geometry.specs.declared.address.Cause.{Cause}
 use Rattle.geometry.specs.Joins.{AreInRange}
 use Rattle.geometry.specs.Omissions.{dropped_of_layers}
 use Rattle.geometry.specs.Points.{Point}
-use Rattle.lessened_topology.specs.Lessened.{Refs, small_cause, large_refs, objects_pruned, picked_arcs, picked_whole, EachFromFirstToLast, lessened_by, option_small, dropped_by, taken_out_by}
+use Rattle.lessened_topology.specs.Lessened.{Refs, large_refs, objects_pruned, picked_arcs, picked_whole, EachFromFirstToLast, lessened_by, option_small, dropped_by, taken_out_by}
 use Rattle.lessened_topology.proofs.Again.{all_hold}
 use Rattle.lessened_topology.proofs.Objects.{objects_then, objects_left}
 use Rattle.lessened_topology.proofs.ValidPicked.{picked_length}

@@ -1,8 +1,4 @@
-use Rattle.std.proofs.Common.{arith, ◌≡◌, ◌-◌, ◌∷◌, ◌++◌, append-nil, ℕ, List, Vec, Global, length, ap, sym, subst, ◌∙◌}
-use Rattle.std.specs.List.{range_with_len}
-use Rattle.std.specs.BinaryHeap.{heap_items}
-use Rattle.elimination_meaning.specs.Elimination.{reduce}
-use Rattle.effective_area.specs.Links.{IsLinked, IsState}
+use Rattle.std.proofs.Common.{arith, append-nil}
 use Rattle.effective_area.proofs.Turns.{same_present, ok_also}
 use Rattle.effective_area.proofs.heap_links.kept_by.Goals as goal
 

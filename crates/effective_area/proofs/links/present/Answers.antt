@@ -1,6 +1,6 @@
-use Rattle.std.proofs.Common.{List, ℕ, ◌∷◌, [], ◌++◌, arith, subst, sym, ap, ◌∙◌}
+use Rattle.std.proofs.Common.{◌∷◌, [], ◌++◌, arith, ap, ◌∙◌}
 use Rattle.effective_area.specs.Links.{after_in}
-use Rattle.effective_area.proofs.LinkLaws.{Walk, walk_below, walk_end, walk_more, walk_start}
+use Rattle.effective_area.proofs.LinkLaws.{walk_below, walk_end, walk_more, walk_start}
 use Rattle.effective_area.proofs.links.present.Goals as goal
 
 pub overflow_sub-links : goal.overflow_sub-links

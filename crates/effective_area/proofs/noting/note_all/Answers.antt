@@ -1,4 +1,4 @@
-use Rattle.std.proofs.Common.{◌≡◌, ◌-◌, length, arith}
+use Rattle.std.proofs.Common.{◌-◌, length, arith}
 use Rattle.effective_area.proofs.Counts.{by_none, by_then, by_more}
 use Rattle.effective_area.proofs.LinkLaws.{noted_start, noted_more, noted_all}
 use Rattle.effective_area.proofs.Turns.{first_fits}

@@ -1,9 +1,7 @@
-use Rattle.std.proofs.Common.{◌≡◌, ℕ, ◌-◌, ◌<◌, ◌≤◌, length, get_or, List, arith, ap, ◌∙◌}
+use Rattle.std.proofs.Common.{◌≡◌, ℕ, ◌<◌, length, get_or, List, arith, ◌∙◌}
 use Rattle.std.proofs.lemmas.List.{get_or_default}
-use Rattle.geometry.specs.Areas.{twice_area}
 use Rattle.geometry.specs.Points.{Point}
-use Rattle.effective_area.specs.Vertices.{origin, seen}
-use Rattle.geometry.specs.Lists.{map_some}
+use Rattle.effective_area.specs.Vertices.{origin}
 use Rattle.effective_area.proofs.Scan.{scan_step}
 use Rattle.effective_area.proofs.rescan.least_corner.Goals as goal
 

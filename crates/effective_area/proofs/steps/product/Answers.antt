@@ -1,8 +1,5 @@
-use Rattle.std.proofs.Common.{arith, ◌≤◌, FitsSigned, sym, subst, ℤ}
-use Rattle.std.proofs.lemmas.Int.{to_z-of_z}
+use Rattle.std.proofs.Common.{arith}
 use Rattle.effective_area.proofs.Products.{product_fits, product_bound, product_is}
-use Rattle.std.specs.Int.RustNames.{unsigned_abs}
-use mir.Syntax.{w128}
 use Rattle.effective_area.proofs.steps.product.Goals as goal
 
 pub overflow_mul-result : goal.overflow_mul-result

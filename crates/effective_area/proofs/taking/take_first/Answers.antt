@@ -1,4 +1,4 @@
-use Rattle.std.proofs.Common.{◌++◌, arith, inl, inr, refl}
+use Rattle.std.proofs.Common.{◌++◌, arith, refl}
 use Rattle.std.specs.BinaryHeap.{heap_items}
 use Rattle.effective_area.proofs.Counts.{by_none, turn_counted}
 use Rattle.effective_area.proofs.Queues.{pushed_behind}

@@ -1,5 +1,4 @@
-use Rattle.std.proofs.Common.{◌≡◌, ◌++◌, true, false, arith}
-use Rattle.std.specs.BinaryHeap.{heap_items}
+use Rattle.std.proofs.Common.{arith}
 use Rattle.effective_area.proofs.HeapLaws.{takes_current, drops_stale, nothing_left}
 use Rattle.effective_area.proofs.waiting.pop_current.Goals as goal
 

@@ -1,6 +1,5 @@
-use Rattle.std.proofs.Common.{arith, ◌++◌, ◌∷◌, List, subst}
+use Rattle.std.proofs.Common.{arith, ◌++◌, List, subst}
 use Rattle.std.specs.BinaryHeap.{heap_items, IsUpperBound, PopsGreatest}
-use Rattle.std.specs.List.Sorted.{IsPermutation}
 use Rattle.std.specs.declared.cmp.Reverse.{Reverse}
 use Rattle.effective_area.specs.Links.{GoesFirst, rentry_cmp}
 use Rattle.effective_area.specs.declared.entry.Entry.{Entry}

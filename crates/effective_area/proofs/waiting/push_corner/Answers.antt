@@ -1,5 +1,4 @@
 use Rattle.std.proofs.Common.{arith}
-use Rattle.std.specs.BinaryHeap.{heap_items}
 use Rattle.effective_area.proofs.HeapLaws.{pushed}
 use Rattle.effective_area.proofs.waiting.push_corner.Goals as goal
 

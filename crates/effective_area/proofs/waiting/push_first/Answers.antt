@@ -1,6 +1,4 @@
-use Rattle.std.proofs.Common.{arith, sym, ◌∙◌}
-use Rattle.std.specs.BinaryHeap.{heap_items}
-use Rattle.std.proofs.lemmas.Result.{on_ok_weaker}
+use Rattle.std.proofs.Common.{arith}
 use Rattle.effective_area.proofs.HeapLaws.{inner_pushed, outer_pushed}
 use Rattle.effective_area.proofs.waiting.push_first.Goals as goal
 

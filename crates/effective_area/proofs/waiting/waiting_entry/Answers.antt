@@ -1,6 +1,5 @@
-use Rattle.std.proofs.Common.{◌≡◌, ℕ, ◌+◌, ◌<◌, true, false, length, arith, subst, sym, ◌∙◌}
+use Rattle.std.proofs.Common.{◌≡◌, true, false, arith, sym, ◌∙◌}
 use Rattle.effective_area.specs.Links.{after_in, before_in, area_in}
-use Rattle.effective_area.specs.declared.entry.Entry.{Entry}
 use Rattle.effective_area.proofs.waiting.waiting_entry.Goals as goal
 
 pub returns-then-index-eq0-clause-none : goal.returns-then-index-eq0-clause-none

@@ -1,6 +1,6 @@
-use Rattle.std.proofs.Common.{arith, ℕ, ◌-◌, ◌++◌, length, set, subst, sym, not, eqb}
+use Rattle.std.proofs.Common.{arith, ℕ, ◌-◌, ◌++◌, set, subst, sym, not, eqb}
 use Rattle.std.specs.BinaryHeap.{heap_items}
-use Rattle.std.specs.List.{filter, range_with_len}
+use Rattle.std.specs.List.{filter}
 use Rattle.effective_area.specs.declared.weight.Weight.TheVariants.{Area}
 use Rattle.effective_area.specs.Links.{IsTakenOut, TakesFirst}
 use Rattle.effective_area.specs.Vertices.{seen}

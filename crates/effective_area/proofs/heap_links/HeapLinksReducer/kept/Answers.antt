@@ -1,7 +1,4 @@
-use Rattle.std.proofs.Common.{arith, ◌≡◌, ℕ, Vec, Global, length}
-use Rattle.std.specs.List.{range_with_len}
-use Rattle.std.proofs.lemmas.Result.{IfOk-weaker}
-use Rattle.elimination_meaning.specs.Elimination.{reduce}
+use Rattle.std.proofs.Common.{arith}
 use Rattle.effective_area.proofs.Turns.{all_at_zero}
 use Rattle.effective_area.proofs.heap_links.HeapLinksReducer.kept.Goals as goal
 

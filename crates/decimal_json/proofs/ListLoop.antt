@@ -2,7 +2,7 @@
 use Rattle.std.proofs.Common.{◌≡◌, ◌≢◌, true, eqb, ℕ, suc, ◌-◌, ◌+◌, ◌≤◌, ◌<◌, List, [], ◌∷◌, ◌++◌, Option, Some, None, refl, sym, ◌∙◌, append_assoc, arith}
 use Rattle.decimal_json.specs.declared.fault.Fault.{Fault}
 use Rattle.decimal_json.specs.Gives.{Fails}
-use Rattle.decimal_json.specs.Reading.{Parse, ◌>>=◌, skip, list_after, list_at}
+use Rattle.json_value.specs.Reading.{Parse, ◌>>=◌, skip, list_after, list_at}
 use Rattle.decimal_json.proofs.Steps.{not_equal}
 use Rattle.decimal_json.proofs.StringLoop.{with_front}
 

@@ -2,7 +2,7 @@
 use Rattle.std.proofs.Common.{◌≡◌, ℕ, suc, ◌<◌, ◌≤◌, true, false, eqb, List, [], ◌∷◌, ◌++◌, length, Some, None, refl, ◌∙◌, append_assoc, length-append, arith}
 use Rattle.std.proofs.lemmas.Bool.{eq-eqb}
 use Rattle.json_value.specs.Grammar.{is_space, IsSpace}
-use Rattle.decimal_json.specs.Reading.{Parse, skip, after_word, list_after, list_at, closes, items_unless, items_at}
+use Rattle.json_value.specs.Reading.{Parse, skip, after_word, list_after, list_at, closes, items_unless, items_at}
 use Rattle.decimal_json.proofs.Steps.{turn}
 use Rattle.decimal_json.proofs.Words.{skip-space}
 use Rattle.decimal_json.proofs.Ending.{Ends, Ends-space, is_end}

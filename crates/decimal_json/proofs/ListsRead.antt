@@ -4,7 +4,7 @@ use Rattle.std.proofs.lemmas.Bool.{eqb-true}
 use Rattle.std.proofs.lemmas.Option.{option_and_then_some}
 use Rattle.list_laws.proofs.Tests.{chosen}
 use Rattle.json_value.specs.Grammar.{IsSpace}
-use Rattle.decimal_json.specs.Reading.{Parse, skip, list_after, list_at, closes, items_unless, items_at}
+use Rattle.json_value.specs.Reading.{Parse, skip, list_after, list_at, closes, items_unless, items_at}
 use Rattle.decimal_json.proofs.Steps.{pair_is, IsSound}
 use Rattle.decimal_json.proofs.Words.{skip_takes, after_word_takes}
 use Rattle.decimal_json.proofs.SpellsList.{SpellsList, list_last, list_more}

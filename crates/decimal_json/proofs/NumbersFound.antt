@@ -4,7 +4,7 @@ use Rattle.std.specs.Prelude.{◌||◌, ◌==◌}
 use Rattle.json_value.specs.declared.json.Json.{Json}
 use Rattle.json_value.specs.declared.json.Json.TheVariants as j
 use Rattle.decimal_text.specs.Grammar.{is_digit, AllDigits, IsMinus, no_minus, one_minus, IsWhole, whole_zero, whole_digits, IsFraction, IsSign, is_e, IsExponent, no_exponent, exponent, IsNumber, number_of}
-use Rattle.decimal_json.specs.Reading.{Parse, after_digits, after_some_digits, after_minus, after_whole, after_fraction, after_sign, after_exponent, after_number, number_at, skip, after_word, value_with}
+use Rattle.json_value.specs.Reading.{Parse, after_digits, after_some_digits, after_minus, after_whole, after_fraction, after_sign, after_exponent, after_number, number_at, skip, after_word, value_with}
 use Rattle.decimal_json.proofs.Steps.{differs}
 use Rattle.decimal_json.proofs.Ending.{Ends, end_is}
 use Rattle.decimal_json.proofs.NumbersRead.{cut, e_is}

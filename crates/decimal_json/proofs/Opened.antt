@@ -6,7 +6,7 @@ use Rattle.json_value.specs.declared.json.Json.TheVariants as j
 use Rattle.decimal_json.specs.declared.fault.Fault.{Fault}
 use Rattle.decimal_json.specs.declared.fault.Fault.TheVariants as fault
 use Rattle.decimal_json.specs.Gives.{Fails}
-use Rattle.decimal_json.specs.Reading.{Parse, ◌>>=◌, skip, after_word, word_at, string_at, number_at, list_at, closes, items_unless, items_at, name_at, member_at, value_with, value_at}
+use Rattle.json_value.specs.Reading.{Parse, ◌>>=◌, skip, after_word, word_at, string_at, number_at, list_at, closes, items_unless, items_at, name_at, member_at, value_with, value_at}
 use Rattle.decimal_json.proofs.Steps.{not_equal}
 
 pub is_closed : (A : Type 0) (close : ℕ) (item : Parse A) (bs rest : List ℕ) → Some rest ≡ after_word (close ∷ []) (skip bs) → items_at close item bs ≡ Some ([], rest)

@@ -4,7 +4,7 @@ use Rattle.std.proofs.lemmas.Bool.{eqb-true, eq-eqb}
 use Rattle.std.proofs.lemmas.Bool.Decides.{eqb_tells}
 use Rattle.decimal_json.specs.declared.fault.Fault.{Fault}
 use Rattle.decimal_json.specs.Gives.{Fails}
-use Rattle.decimal_json.specs.Reading.{Parse}
+use Rattle.json_value.specs.Reading.{Parse}
 
 pub not_equal : (a b : ℕ) → a ≢ b → eqb a b ≡ false
 not_equal a b h = elim (eqb_tells a b) [ inl e ↦ absurd (h e.1) | inr e ↦ e.0 ]

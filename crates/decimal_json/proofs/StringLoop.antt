@@ -5,7 +5,7 @@ use Rattle.std.specs.Str.{is_utf8}
 use Rattle.std.proofs.lemmas.Str.{IsUtf8-from_is_utf8, is_utf8-from_IsUtf8}
 use Rattle.decimal_json.specs.declared.fault.Fault.{Fault}
 use Rattle.decimal_json.specs.Gives.{Fails}
-use Rattle.decimal_json.specs.Reading.{◌>>=◌, plain_front, after_plain, escape_at, chars_after, chars_at, if_text}
+use Rattle.json_value.specs.Reading.{◌>>=◌, plain_front, after_plain, escape_at, chars_after, chars_at, if_text}
 use Rattle.decimal_json.proofs.Steps.{not_equal}
 
 -- what was read before, and what is still read

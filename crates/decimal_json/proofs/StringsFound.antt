@@ -5,7 +5,7 @@ use Rattle.std.proofs.lemmas.Option.{option_and_then_some}
 use Rattle.std.proofs.lemmas.Str.{encode_ascii}
 use Rattle.list_laws.proofs.Tests.{chosen}
 use Rattle.json_value.specs.Grammar.{is_plain, SpellsUnit, unit_of, is_high, is_low, paired, SpellsChars, chars_end, chars_plain, chars_escape, chars_unit, chars_pair}
-use Rattle.decimal_json.specs.Reading.{Parse, after_word, plain_front, after_plain, hex_at, unit_at, low_at, unicode_at, escape_at, chars_after, chars_at, if_text, string_at}
+use Rattle.json_value.specs.Reading.{Parse, after_word, plain_front, after_plain, hex_at, unit_at, low_at, unicode_at, escape_at, chars_after, chars_at, if_text, string_at}
 use Rattle.decimal_json.proofs.Steps.{pair_is, turn}
 use Rattle.json_value.proofs.Letters.{letter_kind}
 

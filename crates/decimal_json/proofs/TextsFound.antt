@@ -8,7 +8,7 @@ use Rattle.std.proofs.lemmas.Bool.Decides.{eqb_tells}
 use Rattle.json_value.specs.declared.json.Json.{Json}
 use Rattle.json_value.specs.Grammar.{IsSpace, SpellsChars, Spells, spells_number, SpellsText, Reads, mark}
 use Rattle.json_value.proofs.Nesting.{reads_no_deeper, reads_deeper}
-use Rattle.decimal_json.specs.Reading.{skip, after_word, ended, document, text_at}
+use Rattle.json_value.specs.Reading.{skip, after_word, ended, document, text_at}
 use Rattle.decimal_json.proofs.Words.{skip-space, skip_all, after_word_again}
 use Rattle.decimal_json.proofs.Ending.{Ends-only}
 use Rattle.decimal_json.proofs.NumbersFound.{number_no_word}

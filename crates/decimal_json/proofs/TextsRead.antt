@@ -4,7 +4,7 @@ use Rattle.std.proofs.lemmas.List.{append-nil}
 use Rattle.std.proofs.lemmas.Option.{option_and_then_some}
 use Rattle.json_value.specs.declared.json.Json.{Json}
 use Rattle.json_value.specs.Grammar.{IsSpace, Spells, SpellsText, Reads, mark}
-use Rattle.decimal_json.specs.Reading.{skip, after_word, ended, document, without, text_at}
+use Rattle.json_value.specs.Reading.{skip, after_word, ended, document, without, text_at}
 use Rattle.decimal_json.proofs.Words.{skip_takes, after_word_takes}
 use Rattle.decimal_json.proofs.ValuesRead.{value_takes}
 

@@ -5,7 +5,7 @@ use Rattle.std.proofs.lemmas.List.{append-nil}
 use Rattle.json_value.specs.declared.json.Json.{Json}
 use Rattle.json_value.specs.declared.json.Json.TheVariants as j
 use Rattle.json_value.specs.Grammar.{is_space, IsSpace, SpellsChars, Spells, SpellsMember, SpellsElements, SpellsMembers, spells_null, spells_true, spells_false, spells_text, spells_number, spells_empty_array, spells_array, spells_empty_object, spells_object, spells_member, elements_last, elements_more, members_last, members_more}
-use Rattle.decimal_json.specs.Reading.{Parse, skip, after_word, word_at, items_at, name_at, member_at, value_with, value_at}
+use Rattle.json_value.specs.Reading.{Parse, skip, after_word, word_at, items_at, name_at, member_at, value_with, value_at}
 use Rattle.decimal_json.proofs.Words.{skip-space}
 use Rattle.decimal_json.proofs.Ending.{Ends, space_is}
 use Rattle.decimal_json.proofs.SpellsList.{SpellsList, list_last, list_more, regroup}

@@ -7,7 +7,7 @@ use Rattle.list_laws.proofs.Tests.{chosen}
 use Rattle.json_value.specs.declared.json.Json.{Json}
 use Rattle.json_value.specs.declared.json.Json.TheVariants as j
 use Rattle.json_value.specs.Grammar.{SpellsChars, Spells, SpellsMember, spells_null, spells_true, spells_false, spells_text, spells_number, spells_empty_array, spells_array, spells_empty_object, spells_object, spells_member}
-use Rattle.decimal_json.specs.Reading.{Parse, ◌>>=◌, skip, word_at, string_at, number_at, items_at, name_at, member_at, value_with, value_at}
+use Rattle.json_value.specs.Reading.{Parse, ◌>>=◌, skip, word_at, string_at, number_at, items_at, name_at, member_at, value_with, value_at}
 use Rattle.decimal_json.proofs.Steps.{pair_is, IsSound}
 use Rattle.decimal_json.proofs.Words.{skip_takes, after_word_takes, word_takes}
 use Rattle.decimal_json.proofs.SpellsList.{to_elements, to_members, regroup}

@@ -7,7 +7,7 @@ use Rattle.std.proofs.lemmas.Option.{option_and_then_some}
 use Rattle.list_laws.proofs.Tests.{chosen}
 use Rattle.json_value.specs.declared.json.Json.{Json}
 use Rattle.json_value.specs.Grammar.{is_space, IsSpace}
-use Rattle.decimal_json.specs.Reading.{skip, after_word, word_at}
+use Rattle.json_value.specs.Reading.{skip, after_word, word_at}
 use Rattle.decimal_json.proofs.Steps.{none_or_some}
 
 pub skip-space : (w bs : List ℕ) → IsSpace w → skip (w ++ bs) ≡ skip bs

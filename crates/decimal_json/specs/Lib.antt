@@ -1,6 +1,5 @@
 pub mod Gives
 pub mod Outcome
-pub mod Reading
 pub use Rattle.list_laws.specs.Commas
 pub use Rattle.byte_ends.specs.Ends
 pub use Rattle.byte_ends.specs.Writes
@@ -11,4 +10,5 @@ pub use Rattle.json_value.specs.Depth
 pub use Rattle.json_value.specs.Grammar
 pub use Rattle.json_value.specs.Kinds
 pub use Rattle.json_value.specs.Numbers
+pub use Rattle.json_value.specs.Reading
 pub use Rattle.json_value.specs.Text

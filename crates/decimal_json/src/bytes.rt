@@ -2,13 +2,13 @@
 ghost use Rattle.std.specs.Prelude.{◌≡◌, [], ◌∷◌, MatchOption};
 ghost use Rattle.std.specs.Option.{option_copied};
 ghost use Rattle.decimal_json.specs.Gives.{IsMalformed};
-ghost use Rattle.decimal_json.specs.Reading as spec;
+ghost use Rattle.json_value.specs.Reading as spec;
 
 use crate::fault::{Fault, stopped};
 
 /// What follows white space (RFC 8259, section 2).
 #[inline(always)]
-#[tactic(auto, unfolding(crate::specs::Reading::skip))]
+#[tactic(auto, unfolding(json_value::specs::Reading::skip))]
 pub fn skip(bytes: &[u8]) -> &[u8]
     ensures { result.now ≡ spec.skip bytes.now }
 {

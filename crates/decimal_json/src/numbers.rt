@@ -1,14 +1,14 @@
 // Numbers (RFC 8259, section 6).
 ghost use Rattle.std.specs.Prelude.{◌≡◌};
 ghost use Rattle.decimal_json.specs.Gives.{Gives};
-ghost use Rattle.decimal_json.specs.Reading as spec;
+ghost use Rattle.json_value.specs.Reading as spec;
 
 use crate::bytes::next;
 use crate::fault::{Fault, stopped};
 use decimal_text::NumText;
 use std::alloc::Global;
 
-#[tactic(auto, unfolding(crate::specs::Reading::after_digits))]
+#[tactic(auto, unfolding(json_value::specs::Reading::after_digits))]
 fn after_digits(bytes: &[u8]) -> &[u8]
     ensures { result.now ≡ spec.after_digits bytes.now }
 {
@@ -19,7 +19,7 @@ fn after_digits(bytes: &[u8]) -> &[u8]
     rest
 }
 
-#[tactic(auto, unfolding(crate::specs::Reading::after_some_digits))]
+#[tactic(auto, unfolding(json_value::specs::Reading::after_some_digits))]
 fn after_some_digits(bytes: &[u8]) -> Result<&[u8], Fault>
     ensures { Gives (λ x. x.now) result (spec.after_some_digits bytes.now) }
 {
@@ -29,7 +29,7 @@ fn after_some_digits(bytes: &[u8]) -> Result<&[u8], Fault>
     }
 }
 
-#[tactic(auto, unfolding(crate::specs::Reading::after_minus))]
+#[tactic(auto, unfolding(json_value::specs::Reading::after_minus))]
 fn after_minus(bytes: &[u8]) -> &[u8]
     ensures { result.now ≡ spec.after_minus bytes.now }
 {
@@ -51,7 +51,7 @@ fn after_whole(bytes: &[u8]) -> Result<&[u8], Fault>
     after_some_digits(bytes)
 }
 
-#[tactic(auto, unfolding(crate::specs::Reading::after_fraction))]
+#[tactic(auto, unfolding(json_value::specs::Reading::after_fraction))]
 fn after_fraction(bytes: &[u8]) -> Result<&[u8], Fault>
     ensures { Gives (λ x. x.now) result (spec.after_fraction bytes.now) }
 {
@@ -61,7 +61,7 @@ fn after_fraction(bytes: &[u8]) -> Result<&[u8], Fault>
     }
 }
 
-#[tactic(auto, unfolding(crate::specs::Reading::after_sign))]
+#[tactic(auto, unfolding(json_value::specs::Reading::after_sign))]
 fn after_sign(bytes: &[u8]) -> &[u8]
     ensures { result.now ≡ spec.after_sign bytes.now }
 {
@@ -71,7 +71,7 @@ fn after_sign(bytes: &[u8]) -> &[u8]
     }
 }
 
-#[tactic(auto, unfolding(crate::specs::Reading::after_exponent))]
+#[tactic(auto, unfolding(json_value::specs::Reading::after_exponent))]
 fn after_exponent(bytes: &[u8]) -> Result<&[u8], Fault>
     ensures { Gives (λ x. x.now) result (spec.after_exponent bytes.now) }
 {
@@ -81,7 +81,7 @@ fn after_exponent(bytes: &[u8]) -> Result<&[u8], Fault>
     }
 }
 
-#[tactic(auto, unfolding(crate::specs::Reading::after_number))]
+#[tactic(auto, unfolding(json_value::specs::Reading::after_number))]
 fn after_number(bytes: &[u8]) -> Result<&[u8], Fault>
     ensures { Gives (λ x. x.now) result (spec.after_number bytes.now) }
 {
@@ -90,7 +90,7 @@ fn after_number(bytes: &[u8]) -> Result<&[u8], Fault>
     after_exponent(rest)
 }
 
-#[tactic(auto, unfolding(crate::specs::Reading::number_at))]
+#[tactic(auto, unfolding(json_value::specs::Reading::number_at))]
 pub fn number_at<'a>(alloc: Global, bytes: &'a [u8]) -> Result<(NumText, &'a [u8]), Fault>
     ensures { Gives (λ x. (x.0, x.1.now)) result (spec.number_at bytes.now) }
 {

@@ -6,7 +6,7 @@ ghost use Rattle.json_value.specs.WellFormed.{IsWellFormed};
 ghost use Rattle.decimal_json.specs.Gives.{Gives};
 ghost use Rattle.decimal_json.specs.Outcome.{IsReadAs, SaysUtf8, SpellsNothing};
 ghost use Rattle.std.specs.Str.{is_utf8};
-ghost use Rattle.decimal_json.specs.Reading as spec;
+ghost use Rattle.json_value.specs.Reading as spec;
 
 use crate::bytes::{after_word, skip};
 use crate::fault::{Fault, JsonFault, stopped};
@@ -22,7 +22,7 @@ pub const LAYER_DEPTH: u32 = 127;
 pub const TOPOLOGY_DEPTH: u32 = 255;
 
 /// A value with white space around it, and nothing else.
-#[tactic(auto, unfolding(crate::specs::Reading::document, crate::specs::Reading::ended))]
+#[tactic(auto, unfolding(json_value::specs::Reading::document, json_value::specs::Reading::ended))]
 fn document(alloc: Global, deepest: u32, bytes: &[u8]) -> Result<Json, Fault>
     ensures { Gives (λ v. v) result (spec.document is_utf8 deepest bytes.now) }
 {

@@ -3,7 +3,7 @@ ghost use Rattle.std.specs.Prelude.{◌≡◌, ◌++◌, ◌<◌, length, IfOk, 
 ghost use Rattle.json_value.specs.Grammar.{hex_value, is_plain, is_high, is_low, unescape, paired};
 ghost use Rattle.decimal_json.specs.Gives.{Gives, IsMalformed, StopsBefore};
 ghost use Rattle.std.specs.Str.{is_utf8};
-ghost use Rattle.decimal_json.specs.Reading as spec;
+ghost use Rattle.json_value.specs.Reading as spec;
 
 use crate::bytes::{after_word, next};
 use crate::fault::{Fault, Why, stopped};
@@ -40,7 +40,7 @@ fn hex_value(digit: u8) -> Option<u32>
     }
 }
 
-#[tactic(auto, unfolding(crate::specs::Reading::hex_at))]
+#[tactic(auto, unfolding(json_value::specs::Reading::hex_at))]
 fn hex_at(bytes: &[u8]) -> Result<(u32, &[u8]), Fault>
     ensures value { Gives (λ x. (x.0, x.1.now)) result (spec.hex_at bytes.now) }
     ensures bound { IfOk result (λ x. x.0 < 16) }
@@ -55,7 +55,7 @@ fn hex_at(bytes: &[u8]) -> Result<(u32, &[u8]), Fault>
 }
 
 /// The number of four hexadecimal digits.
-#[tactic(auto, unfolding(crate::specs::Reading::unit_at))]
+#[tactic(auto, unfolding(json_value::specs::Reading::unit_at))]
 fn unit_at(bytes: &[u8]) -> Result<(u32, &[u8]), Fault>
     ensures value { Gives (λ x. (x.0, x.1.now)) result (spec.unit_at bytes.now) }
     ensures bound { IfOk result (λ x. x.0 < 65536) }
@@ -109,7 +109,7 @@ fn no_low(rest: &[u8]) -> Fault
 }
 
 /// The character of a surrogate pair, behind its first half.
-#[tactic(auto, unfolding(crate::specs::Reading::low_at))]
+#[tactic(auto, unfolding(json_value::specs::Reading::low_at))]
 fn low_at(high: u32, bytes: &[u8]) -> Result<(char, &[u8]), Fault>
     requires { IsTrue (is_high high) }
     ensures { Gives (λ x. (x.0, x.1.now)) result (spec.low_at high bytes.now) }
@@ -135,7 +135,7 @@ fn single(unit: u32) -> char
 }
 
 /// The character of an escape, behind `\u`.
-#[tactic(auto, unfolding(crate::specs::Reading::unicode_at))]
+#[tactic(auto, unfolding(json_value::specs::Reading::unicode_at))]
 fn unicode_at(bytes: &[u8]) -> Result<(char, &[u8]), Fault>
     ensures { Gives (λ x. (x.0, x.1.now)) result (spec.unicode_at bytes.now) }
 {
@@ -150,7 +150,7 @@ fn unicode_at(bytes: &[u8]) -> Result<(char, &[u8]), Fault>
 }
 
 /// The character of an escape, behind the reverse solidus.
-#[tactic(auto, unfolding(crate::specs::Reading::escape_at))]
+#[tactic(auto, unfolding(json_value::specs::Reading::escape_at))]
 fn escape_at(bytes: &[u8]) -> Result<(char, &[u8]), Fault>
     ensures { Gives (λ x. (x.0, x.1.now)) result (spec.escape_at bytes.now) }
 {
@@ -173,7 +173,7 @@ fn is_plain(byte: u8) -> bool
 }
 
 /// What follows the bytes that stand for themselves.
-#[tactic(auto, unfolding(crate::specs::Reading::after_plain))]
+#[tactic(auto, unfolding(json_value::specs::Reading::after_plain))]
 fn after_plain(bytes: &[u8]) -> &[u8]
     ensures { result.now ≡ spec.after_plain bytes.now }
 {
@@ -230,7 +230,7 @@ fn chars_at<'a>(alloc: Global, bytes: &'a [u8]) -> Result<(Vec<u8>, &'a [u8]), F
 }
 
 /// A string behind its first quotation mark.
-#[tactic(auto, unfolding(crate::specs::Reading::string_at, crate::specs::Reading::if_text))]
+#[tactic(auto, unfolding(json_value::specs::Reading::string_at, json_value::specs::Reading::if_text))]
 pub fn string_at<'a>(alloc: Global, bytes: &'a [u8]) -> Result<(OwnText, &'a [u8]), Fault>
     ensures { Gives (λ x. (x.0, x.1.now)) result (spec.string_at is_utf8 bytes.now) }
 {

@@ -2,7 +2,7 @@
 ghost use Rattle.std.specs.Prelude.{◌≡◌, length};
 ghost use Rattle.decimal_json.specs.Gives.{Gives, StopsBefore};
 ghost use Rattle.std.specs.Str.{is_utf8};
-ghost use Rattle.decimal_json.specs.Reading as spec;
+ghost use Rattle.json_value.specs.Reading as spec;
 
 use crate::bytes::{after_word, next, skip, unlike};
 use crate::fault::{Fault, Why, stopped};
@@ -15,7 +15,7 @@ use std::alloc::Global;
 const POSITION: usize = 2;
 
 /// A word behind its first letter.
-#[tactic(auto, unfolding(crate::specs::Reading::word_at))]
+#[tactic(auto, unfolding(json_value::specs::Reading::word_at))]
 fn word_at<'a>(word: &[u8], value: Json, bytes: &'a [u8]) -> Result<(Json, &'a [u8]), Fault>
     ensures { Gives (λ x. (x.0, x.1.now)) result (spec.word_at word.now value bytes.now) }
 {
@@ -176,7 +176,7 @@ pub fn member_at<'a>(
     Ok((name, value, rest))
 }
 
-#[tactic(auto, unfolding(crate::specs::Reading::name_at))]
+#[tactic(auto, unfolding(json_value::specs::Reading::name_at))]
 fn name_at<'a>(alloc: Global, bytes: &'a [u8]) -> Result<(OwnText, &'a [u8]), Fault>
     ensures { Gives (λ x. (x.0, x.1.now)) result (spec.name_at is_utf8 bytes.now) }
 {

@@ -4,7 +4,7 @@ use Rattle.std.specs.Prelude.{option_to_list}
 use Rattle.json_value.specs.declared.json.Json.{Json}
 use Rattle.json_value.specs.declared.json.Json.TheVariants as j
 use Rattle.json_value.proofs.KindsOf.{array_of-array}
-use Rattle.decimal_json.specs.Reading.{Parse, skip, after_word, value_with, value_at, number_at, after_number, after_minus, after_whole, after_some_digits}
+use Rattle.json_value.specs.Reading.{Parse, skip, after_word, value_with, value_at, number_at, after_number, after_minus, after_whole, after_some_digits}
 use Rattle.decimal_json.proofs.Opened.{value_at_is, array_found, is_closed}
 use Rattle.decimal_json.proofs.ValuesRead.{value_takes}
 use Rattle.geojson_types.specs.declared.counts.Counts.{Counts}

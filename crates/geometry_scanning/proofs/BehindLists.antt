@@ -1,6 +1,6 @@
 -- What stands behind a thing of a list is what the reading function gives of it.
 use Rattle.std.proofs.Common.{◌≡◌, ℕ, zero, suc, ◌<◌, ◌≤◌, true, false, eqb, List, [], ◌∷◌, length, Some, None, refl, ap, ◌∙◌, arith, length-append}
-use Rattle.decimal_json.specs.Reading.{Parse, skip, after_word, list_after, list_at, items_at}
+use Rattle.json_value.specs.Reading.{Parse, skip, after_word, list_after, list_at, items_at}
 use Rattle.decimal_json.proofs.Opened.{is_open}
 use Rattle.decimal_json.proofs.Steps.{turn}
 use Rattle.decimal_json.proofs.Words.{skip_takes}

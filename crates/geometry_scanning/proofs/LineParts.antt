@@ -3,7 +3,7 @@ use Rattle.std.proofs.Common.{◌≡◌, ℕ, ◌≤◌, Bool, true, List, ◌�
 use Rattle.std.specs.Prelude.{nat_le}
 use Rattle.std.proofs.lemmas.Bool.Decides.{nat_tests}
 use Rattle.json_value.specs.declared.json.Json.TheVariants as j
-use Rattle.decimal_json.specs.Reading.{skip}
+use Rattle.json_value.specs.Reading.{skip}
 use Rattle.geojson_types.specs.declared.counts.Counts.{Counts}
 use Rattle.geometry.specs.Points.{Point}
 use Rattle.geometry.specs.Rings.{is_closed as closed}

@@ -4,7 +4,7 @@ use Rattle.std.specs.Prelude.{ℤ, ◌&&◌, Result}
 use Rattle.json_value.specs.declared.json.Json.{Json}
 use Rattle.json_value.specs.declared.json.Json.TheVariants as j
 use Rattle.json_value.proofs.KindsOf.{array_of-array, number_of-number}
-use Rattle.decimal_json.specs.Reading.{skip}
+use Rattle.json_value.specs.Reading.{skip}
 use Rattle.geojson_types.specs.declared.counts.Counts.{Counts}
 use Rattle.geojson_types.specs.Counting.{count_rounded, count_extra}
 use Rattle.geojson_model.specs.declared.fault.GeoFaultKind.{GeoFaultKind}

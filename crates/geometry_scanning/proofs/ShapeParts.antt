@@ -5,7 +5,7 @@ use Rattle.json_value.specs.declared.json.Json.{Json}
 use Rattle.json_value.specs.declared.json.Json.TheVariants as j
 use Rattle.json_value.specs.Kinds.{array_of}
 use Rattle.json_value.proofs.KindsOf.{object_of-object, text_kinds}
-use Rattle.decimal_json.specs.Reading.{skip, after_word, name_at, member_at, value_at}
+use Rattle.json_value.specs.Reading.{skip, after_word, name_at, member_at, value_at}
 use Rattle.decimal_json.proofs.Opened.{object_found}
 use Rattle.decimal_json.proofs.Words.{after_word_takes}
 use Rattle.decimal_json.proofs.ValuesRead.{member_takes, value_takes}

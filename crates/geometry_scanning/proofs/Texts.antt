@@ -4,7 +4,7 @@ use Rattle.std.specs.Prelude.{is_some}
 use Rattle.std.proofs.lemmas.Bool.{eqb-true}
 use Rattle.json_value.specs.declared.json.Json.{Json}
 use Rattle.json_value.specs.Grammar.{mark}
-use Rattle.decimal_json.specs.Reading.{skip, after_word, without, ended, document, text_at, value_at}
+use Rattle.json_value.specs.Reading.{skip, after_word, without, ended, document, text_at, value_at}
 use Rattle.geometry_scanning.specs.Fronts.{any}
 
 -- a value with nothing behind it is a text

@@ -8,7 +8,7 @@ use Rattle.std.specs.Str.{is_utf8}
 use Rattle.json_value.specs.declared.json.Json.{Json}
 use Rattle.json_value.specs.declared.json.Json.TheVariants as j
 use Rattle.json_value.specs.Grammar.{is_plain}
-use Rattle.decimal_json.specs.Reading.{after_word, after_plain, plain_front, chars_at, chars_after, if_text, string_at, name_at, member_at, value_at}
+use Rattle.json_value.specs.Reading.{after_word, after_plain, plain_front, chars_at, chars_after, if_text, string_at, name_at, member_at, value_at}
 use Rattle.decimal_json.proofs.Opened.{member_found, text_found}
 use Rattle.geometry_scanning.specs.Fronts.{any, Front, NamedValue}
 use Rattle.geometry_scanning.proofs.BehindLists.{one_byte}

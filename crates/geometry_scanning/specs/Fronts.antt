@@ -3,7 +3,7 @@ use Rattle.std.specs.Prelude.{◌≡◌, ℕ, ◌≤◌, Bool, false, nat_lt, Li
 use Rattle.std.specs.Str.{is_utf8}
 use Rattle.json_value.specs.declared.json.Json.{Json}
 use Rattle.json_value.specs.declared.json.Json.TheVariants as j
-use Rattle.decimal_json.specs.Reading.{skip, member_at, value_at}
+use Rattle.json_value.specs.Reading.{skip, member_at, value_at}
 use Rattle.geojson_types.specs.declared.counts.Counts.{Counts}
 use Rattle.geojson_types.specs.Counting.{count_empty}
 use Rattle.geojson_model.specs.declared.types.CoordinatesType.{CoordinatesType}

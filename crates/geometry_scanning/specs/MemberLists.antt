@@ -1,7 +1,7 @@
 -- The members of an object, read one after another.
 use Rattle.std.specs.Prelude.{◌≡◌, ℕ, List, [], ◌∷◌, ◌++◌}
 use Rattle.json_value.specs.declared.json.Json.{Json}
-use Rattle.decimal_json.specs.Reading.{skip}
+use Rattle.json_value.specs.Reading.{skip}
 use Rattle.geojson_types.specs.declared.counts.Counts.{Counts}
 use Rattle.geometry_scanning.specs.Fronts.{Behind}
 

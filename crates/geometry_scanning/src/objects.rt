@@ -1,6 +1,6 @@
 // The members of objects.
 ghost use Rattle.std.specs.Prelude.{◌≡◌, ℕ, Bool, List, IfOk};
-ghost use Rattle.decimal_json.specs.Reading as reading;
+ghost use Rattle.json_value.specs.Reading as reading;
 ghost use Rattle.json_value.specs.declared.json.Json.{Json};
 ghost use Rattle.json_value.specs.Grammar.{mark};
 ghost use Rattle.geojson_types.specs.declared.counts.Counts.{Counts as Counted};

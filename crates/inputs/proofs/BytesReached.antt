@@ -5,7 +5,7 @@ use Rattle.std.specs.Str.{is_utf8}
 use Rattle.std.specs.Str.Lossy.{utf8_valid_len}
 use Rattle.std.proofs.lemmas.Bool.{cases_lt}
 use Rattle.std.proofs.lemmas.Str.{IsUtf8-from_is_utf8, is_utf8-from_IsUtf8}
-use Rattle.decimal_json.specs.Reading.{text_at}
+use Rattle.json_value.specs.Reading.{text_at}
 use Rattle.decimal_json.specs.declared.fault.JsonFault.{JsonFault}
 use Rattle.decimal_json.specs.declared.fault.JsonFault.TheVariants as text
 use Rattle.decimal_json.specs.declared.fault.Why.TheVariants.{Syntax}

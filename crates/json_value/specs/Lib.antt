@@ -2,5 +2,6 @@ pub mod Depth
 pub mod Grammar
 pub mod Kinds
 pub mod Numbers
+pub mod Reading
 pub mod Text
 pub mod WellFormed

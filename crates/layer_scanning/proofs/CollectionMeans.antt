@@ -5,7 +5,7 @@ use Rattle.json_value.specs.declared.json.Json.{Json}
 use Rattle.json_value.specs.declared.json.Json.TheVariants as j
 use Rattle.json_value.specs.Grammar.{mark}
 use Rattle.json_value.proofs.KindsOf.{object_kinds, text_kinds, array_kinds}
-use Rattle.decimal_json.specs.Reading.{skip, after_word, without, value_at}
+use Rattle.json_value.specs.Reading.{skip, after_word, without, value_at}
 use Rattle.decimal_json.proofs.TextsRead.{text_takes}
 use Rattle.geojson_types.specs.declared.counts.Counts.{Counts}
 use Rattle.geojson_types.specs.Counting.{no_counts}

@@ -5,7 +5,7 @@ use Rattle.json_value.specs.declared.json.Json.{Json}
 use Rattle.json_value.specs.declared.json.Json.TheVariants as j
 use Rattle.json_value.specs.Kinds.{object_of}
 use Rattle.json_value.proofs.KindsOf.{object_of_is}
-use Rattle.decimal_json.specs.Reading.{after_word, word_at, value_at}
+use Rattle.json_value.specs.Reading.{after_word, word_at, value_at}
 use Rattle.decimal_json.proofs.Opened.{at_n}
 use Rattle.decimal_json.proofs.Steps.{none_or_some}
 use Rattle.decimal_json.proofs.Words.{after_word_takes}

@@ -6,7 +6,7 @@ use Rattle.json_value.specs.declared.json.Json.{Json}
 use Rattle.json_value.specs.Grammar.{mark}
 use Rattle.json_value.specs.Kinds.{object_of}
 use Rattle.json_value.proofs.Nesting.{reads_no_deeper, reads_deeper}
-use Rattle.decimal_json.specs.Reading.{skip, after_word, without, value_at}
+use Rattle.json_value.specs.Reading.{skip, after_word, without, value_at}
 use Rattle.decimal_json.proofs.TextsRead.{text_takes}
 use Rattle.geojson_types.specs.declared.counts.Counts.{Counts}
 use Rattle.geojson_types.specs.Counting.{no_counts}

@@ -5,7 +5,7 @@ use Rattle.std.proofs.lemmas.Bool.Decides.{nat_tests}
 use Rattle.json_value.specs.declared.json.Json.{Json}
 use Rattle.json_value.specs.declared.json.Json.TheVariants as j
 use Rattle.json_value.proofs.KindsOf.{array_of-array}
-use Rattle.decimal_json.specs.Reading.{skip}
+use Rattle.json_value.specs.Reading.{skip}
 use Rattle.geojson_types.specs.declared.counts.Counts.{Counts}
 use Rattle.geometry.specs.Points.{Point}
 use Rattle.topojson_types.specs.declared.transform.Transform.{Transform}

@@ -10,7 +10,7 @@ use Rattle.decimal_text.specs.Parts.{Parts, parts_of}
 use Rattle.decimal_text.specs.Rounding.{nearest, rounded_of}
 use Rattle.decimal_text.specs.Scaling.{numerator, denominator, scaled_parts, scaled_of}
 use Rattle.decimal_text.proofs.Nearest.{rounded_of-within, rounded_of-past}
-use Rattle.decimal_json.specs.Reading.{skip}
+use Rattle.json_value.specs.Reading.{skip}
 use Rattle.geojson_types.specs.declared.counts.Counts.{Counts}
 use Rattle.geojson_types.specs.Counting.{count_rounded}
 use Rattle.geometry.specs.Points.{Point, position_limit}

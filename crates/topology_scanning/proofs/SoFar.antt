@@ -2,7 +2,7 @@
 use Rattle.std.proofs.Common.{◌≡◌, ℕ, List, [], ◌∷◌, ◌++◌, Ok, sym, ap, ◌∙◌, subst, append_assoc}
 use Rattle.std.proofs.lemmas.List.{append-nil}
 use Rattle.json_value.specs.declared.json.Json.{Json}
-use Rattle.decimal_json.specs.Reading.{skip}
+use Rattle.json_value.specs.Reading.{skip}
 use Rattle.geojson_types.specs.declared.counts.Counts.{Counts}
 use Rattle.geometry_scanning.specs.Fronts.{Behind, behind_last, behind_more}
 use Rattle.topojson_meaning.specs.Reader.{Reader}

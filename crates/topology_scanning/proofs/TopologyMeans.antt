@@ -5,7 +5,7 @@ use Rattle.json_value.specs.declared.json.Json.{Json}
 use Rattle.json_value.specs.declared.json.Json.TheVariants as j
 use Rattle.json_value.specs.Grammar.{mark}
 use Rattle.json_value.proofs.KindsOf.{object_of-object, text_of-text}
-use Rattle.decimal_json.specs.Reading.{skip, after_word, without}
+use Rattle.json_value.specs.Reading.{skip, after_word, without}
 use Rattle.decimal_json.proofs.TextsRead.{text_takes}
 use Rattle.geojson_types.specs.declared.counts.Counts.{Counts}
 use Rattle.geojson_types.specs.Counting.{no_counts}

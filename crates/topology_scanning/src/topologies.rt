@@ -1,7 +1,7 @@
 // Topologies.
 ghost use Rattle.std.specs.Prelude.{◌≡◌, ◌∷◌, Ok, IfOk, IfNone, IsTrue, IsUtf8};
 ghost use Rattle.std.specs.Option.{option_copied};
-ghost use Rattle.decimal_json.specs.Reading as reading;
+ghost use Rattle.json_value.specs.Reading as reading;
 ghost use Rattle.geojson_types.specs.Counting.{no_counts};
 ghost use Rattle.json_value.specs.Grammar.{mark};
 ghost use Rattle.json_value.specs.declared.json.Json.TheVariants as j;

@@ -16,7 +16,7 @@ use Rattle.decimal_text.proofs.DigitsValue.{digits_value_after-append}
 use Rattle.decimal_text.proofs.Nearest.{rounded_of-whole}
 use Rattle.decimal_text.proofs.ReadsParts.{parts-read}
 use Rattle.decimal_text.proofs.ScaledNumber.{scaled_of-read}
-use Rattle.decimal_json.specs.Reading.{Parse, ◌>>=◌, value_at, value_with, number_at, after_digits}
+use Rattle.json_value.specs.Reading.{Parse, ◌>>=◌, value_at, value_with, number_at, after_digits}
 use Rattle.decimal_json.proofs.Ending.{Ends}
 use Rattle.decimal_json.proofs.NumbersFound.{is_lead, with_number}
 use Rattle.decimal_json.proofs.Opened.{value_at_is}

@@ -6,7 +6,7 @@ use Rattle.decimal_text.specs.Digits.{digits_value_after}
 use Rattle.decimal_text.specs.Grammar.{is_digit, AllDigits}
 use Rattle.decimal_text.specs.Parts.{fraction_text}
 use Rattle.decimal_text.specs.Scaling.{scaled_of}
-use Rattle.decimal_json.specs.Reading.{value_at}
+use Rattle.json_value.specs.Reading.{value_at}
 
 -- the digits at the front
 unfoldable pub digits_front : List ℕ → List ℕ

@@ -1,6 +1,6 @@
 // Single bytes at the front of bytes.
 ghost use Rattle.std.specs.Prelude.{◌≡◌, ◌∷◌, IfOk, IfSome};
-ghost use Rattle.decimal_json.specs.Reading as reading;
+ghost use Rattle.json_value.specs.Reading as reading;
 
 use crate::halt::Halt;
 use decimal_json::skip;

@@ -1,6 +1,6 @@
 // Digits at the front of bytes.
 ghost use Rattle.std.specs.Prelude.{◌≡◌, ◌*◌, ◌^◌, ◌<◌, ◌≤◌, IfSome};
-ghost use Rattle.decimal_json.specs.Reading.{after_digits};
+ghost use Rattle.json_value.specs.Reading.{after_digits};
 ghost use Rattle.decimal_text.specs.Digits.{digits_value_after};
 ghost use Rattle.decimal_text.specs.Grammar as grammar;
 ghost use Rattle.unit_scanning.specs.Numbers.{digits_front, IsFractionOf, starts_digit, whole_front};
@@ -25,7 +25,7 @@ pub fn is_digit(byte: u8) -> bool
 
 /// The number that the digits at the front write after those of `start`, and what follows them. None past 10^18.
 #[inline(always)]
-#[tactic(auto, unfolding(crate::specs::Numbers::digits_front, decimal_json::specs::Reading::after_digits))]
+#[tactic(auto, unfolding(crate::specs::Numbers::digits_front, json_value::specs::Reading::after_digits))]
 pub fn digits_at(start: u64, bytes: &[u8]) -> Option<(u64, &[u8])>
     requires { start < 10 ^ 18 }
     ensures value { IfSome result (λ x. x.0 ≡ digits_value_after start (digits_front bytes.now)) }

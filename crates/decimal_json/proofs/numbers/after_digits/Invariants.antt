@@ -1,5 +1,5 @@
 use Rattle.std.proofs.Common.{◌≡◌, length}
-use Rattle.decimal_json.specs.Reading as spec
+use Rattle.json_value.specs.Reading as spec
 use Rattle.decimal_json.proofs.numbers.after_digits.Given as goal
 
 abbrev pub invariant-loop-rest : goal.invariant-loop-rest

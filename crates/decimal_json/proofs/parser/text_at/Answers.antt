@@ -1,4 +1,4 @@
-use Rattle.decimal_json.specs.Reading.{text_at}
+use Rattle.json_value.specs.Reading.{text_at}
 use Rattle.decimal_json.proofs.parser.text_at.Goals as goal
 
 pub returns-in-Some : goal.returns-in-Some

@@ -1,5 +1,5 @@
 use Rattle.std.proofs.Common.{◌≡◌, length, ◌-◌}
-use Rattle.decimal_json.specs.Reading as spec
+use Rattle.json_value.specs.Reading as spec
 use Rattle.decimal_json.proofs.StringLoop.{with_front}
 use Rattle.decimal_json.proofs.strings.chars_at.Given as goal
 

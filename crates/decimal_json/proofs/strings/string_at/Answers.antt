@@ -2,7 +2,7 @@ use Rattle.std.proofs.Common.{◌≡◌, ℕ, Vec, Global, ap, subst, ◌∙◌}
 use Rattle.std.specs.Prelude.{IsUtf8}
 use Rattle.std.proofs.lemmas.Str.{IsUtf8-had}
 use Rattle.std.proofs.lemmas.Bool.{false≢true}
-use Rattle.decimal_json.specs.Reading.{string_at}
+use Rattle.json_value.specs.Reading.{string_at}
 use Rattle.decimal_json.proofs.Steps.{none_fails}
 use Rattle.decimal_json.proofs.StringLoop.{is_text, no_text}
 use Rattle.decimal_json.proofs.strings.string_at.Goals as goal

@@ -3,7 +3,7 @@ use Rattle.std.proofs.lemmas.Bool.{eq-eqb}
 use Rattle.std.proofs.lemmas.Result.{err_from_is_err_and}
 use Rattle.json_value.specs.declared.json.Json.{Json}
 use Rattle.std.specs.Str.{is_utf8}
-use Rattle.decimal_json.specs.Reading as spec
+use Rattle.json_value.specs.Reading as spec
 use Rattle.decimal_json.proofs.ListLoop as loop
 use Rattle.decimal_json.proofs.Opened as opened
 use Rattle.decimal_json.proofs.Steps.{none_fails, no_comma}

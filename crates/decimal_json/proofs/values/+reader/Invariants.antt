@@ -1,6 +1,6 @@
 use Rattle.std.proofs.Common.{◌≡◌, length, ◌+◌, ◌-◌, ◌*◌}
 use Rattle.std.specs.Str.{is_utf8}
-use Rattle.decimal_json.specs.Reading as spec
+use Rattle.json_value.specs.Reading as spec
 use Rattle.decimal_json.proofs.StringLoop.{with_front}
 use Rattle.decimal_json.proofs.values.+reader.Given as goal
 

@@ -1,6 +1,6 @@
 use Rattle.std.proofs.Common.{◌≡◌, ◌<◌, ◌^◌, length}
 use Rattle.decimal_text.specs.Digits.{digits_value_after}
-use Rattle.decimal_json.specs.Reading.{after_digits}
+use Rattle.json_value.specs.Reading.{after_digits}
 use Rattle.unit_scanning.specs.Numbers.{digits_front}
 use Rattle.unit_scanning.proofs.digits.digits_at.Given as goal
 

@@ -1,0 +1,3 @@
+pub mod Forms
+pub mod Kept
+pub mod Members

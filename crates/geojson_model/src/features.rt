@@ -9,7 +9,7 @@ ghost use Rattle.json_value.specs.Kinds.{object_of};
 
 use crate::fault::GeoFaultKind;
 use crate::geometries::geometry;
-use geojson_types::{Counts, Feature, Id, Shape};
+use geojson_types::{Counts, Feature, Id, Properties, Shape};
 use json_members::{need_text, take};
 use json_value::{Items, Json, OwnText};
 use std::alloc::Global;
@@ -78,6 +78,7 @@ pub(crate) fn feature(
     let properties = members_if(take(&mut members, "properties")?)?;
     let object = members_if(take(&mut members, "geometry")?)?;
     let shape = feature_shape(alloc, object, exact, counts)?;
+    let properties = Properties::of_option(properties);
     Ok(Feature::of(id, properties, shape))
 }
 

@@ -18,7 +18,7 @@ pub use fault::{GeoFault, GeoFaultKind};
 pub use features::{identifier, members_if};
 pub use geojson_types::{
     Address, Cause, Counts, Dropped, Feature, FeatureSet, Geometry, INPUT_LIMIT, Id, Layer,
-    POSITION_LIMIT, Position, Ring, Shape, is_closed,
+    POSITION_LIMIT, Position, Properties, PropertiesForm, Ring, Shape, is_closed,
 };
 pub use geojson_writer::{features_text_spells_value, put_features, write_features};
 pub use laws::{

@@ -1,8 +1,7 @@
 -- The code of a feature as contracts see it, by which a proof tells two of them apart.
-use Rattle.std.specs.Prelude.{ℕ, List, Option, refl}
-use Rattle.std.specs.Coded.{Coded, code_by, coded×, coded_ℕ, coded_list, coded_option}
-use Rattle.json_value.specs.declared.json.Json.{Json}
-use Rattle.json_value.specs.contracts.json.Json as json
+use Rattle.std.specs.Prelude.{Option, refl}
+use Rattle.std.specs.Coded.{Coded, code_by, coded×, coded_option}
+use Rattle.feature_properties.specs.Members.{Members, members_code}
 use Rattle.owned_values.specs.contracts.items.Items as items
 use Rattle.geojson_types.specs.declared.id.Id.{Id}
 use Rattle.geojson_types.specs.contracts.id.Id as id
@@ -14,14 +13,6 @@ use Rattle.geojson_types.specs.Features.{Shape, Featured}
 -- the code of a shape
 abbrev pub shape_code : Coded Shape
 shape_code = (geometry.the_row position.the_row (items.the_row position.the_row) ring.the_row).coded
-
--- the members of an object
-abbrev Members : Type 0
-Members = List (List ℕ × Json)
-
--- their code
-abbrev members_code : Coded Members
-members_code = coded_list (coded× (coded_list coded_ℕ) json.the_row.coded)
 
 -- the code of a feature, which is stored as its identifier beside its properties and its shape
 abbrev pub feature_code : Coded Featured

@@ -4,8 +4,8 @@ ghost use Rattle.geojson_types.specs.Features.{is_proper_option};
 ghost use Rattle.geojson_types.specs.Moving.{moved_feature};
 
 use crate::id::Id;
+use feature_properties::Properties;
 use geometry::{Moves, Shape, move_shape};
-use json_value::{Items, Json, OwnText};
 use std::marker::Model;
 
 /// A feature (RFC 7946, section 3.2). No list of its shape is empty but that of a Group, and a line of it has
@@ -13,7 +13,7 @@ use std::marker::Model;
 #[derive(Debug, Drop)]
 pub struct Feature {
     id: Option<Id>,
-    properties: Option<Items<(OwnText, Json)>>,
+    properties: Option<Properties>,
     shape: Option<Shape>,
 }
 
@@ -33,11 +33,7 @@ impl Model for Feature {
 
 impl Feature {
     /// The feature of these parts.
-    pub fn of(
-        id: Option<Id>,
-        properties: Option<Items<(OwnText, Json)>>,
-        shape: Option<Shape>,
-    ) -> Feature
+    pub fn of(id: Option<Id>, properties: Option<Properties>, shape: Option<Shape>) -> Feature
         requires { is_proper_option shape ≡ true }
         ensures { result ≡ record { id = id; properties = properties; shape = shape } }
     {
@@ -55,7 +51,7 @@ impl Feature {
     }
 
     /// Its members in order, with duplicates.
-    pub fn properties(&self) -> Option<&Items<(OwnText, Json)>>
+    pub fn properties(&self) -> Option<&Properties>
         ensures { option_copied result ≡ self.now.properties }
     {
         self.properties.as_ref()
@@ -78,7 +74,7 @@ impl Feature {
     }
 
     /// Its parts, by value: identifier, properties and shape.
-    pub fn into_parts(self) -> (Option<Id>, Option<Items<(OwnText, Json)>>, Option<Shape>)
+    pub fn into_parts(self) -> (Option<Id>, Option<Properties>, Option<Shape>)
         ensures id { result.0 ≡ self.id }
         ensures properties { result.1 ≡ self.properties }
         ensures shape { result.2 ≡ self.shape }

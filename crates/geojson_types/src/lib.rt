@@ -1,6 +1,6 @@
 //! What GeoJSON layers (RFC 7946) are made of beside their geometry: features, identifiers, layers, and the counts of what was
-//! read with a change. It stands on `json_value` for identifiers and properties, and on `geometry`, whose types and definitions it
-//! passes on. `specs/Features.antt` says what contracts see of a feature, `specs/Nesting.antt` how deep it nests as JSON.
+//! read with a change. It stands on `json_value` for identifiers, on `feature_properties`, and on `geometry`; it passes on the types of
+//! these two, and the definitions of `geometry`. `specs/Features.antt` says what contracts see of a feature, `specs/Nesting.antt` how deep it nests as JSON.
 #![tactic(auto)]
 
 mod counts;
@@ -10,6 +10,7 @@ mod layer;
 
 pub use counts::Counts;
 pub use feature::Feature;
+pub use feature_properties::{Properties, PropertiesForm};
 pub use geometry::{
     Address, Cause, Dropped, Geometry, INPUT_LIMIT, Moves, PLACES, POSITION_LIMIT, Position, Ring,
     Shape, is_closed,

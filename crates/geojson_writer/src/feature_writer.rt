@@ -8,7 +8,8 @@ ghost use Rattle.geojson_writer.specs.FeatureValues.{id_value, properties_value,
 use crate::shape_writer::put_shape;
 use byte_ends::{Drain, Progress, Sink, WriteFault, put_part};
 use geojson_types::{Feature, FeatureSet, Id};
-use json_writer::{PutValue, put_array, put_members, put_text};
+use json_writer::{PutValue, put_array, put_text};
+use properties_writer::put_properties;
 
 /// Writes an identifier: a text, or a number by its text.
 #[tactic(auto, using(crate::proofs::Objects::leaves))]
@@ -36,12 +37,16 @@ fn put_id_member<W: Drain>(feature: &Feature, so_far: Progress, sink: &mut Sink<
 
 /// Writes the feature's properties, or null.
 #[tactic(auto, using(crate::proofs::Objects::leaves))]
-fn put_properties<W: Drain>(feature: &Feature, so_far: Progress, sink: &mut Sink<W>) -> Progress
+fn put_properties_option<W: Drain>(
+    feature: &Feature,
+    so_far: Progress,
+    sink: &mut Sink<W>,
+) -> Progress
     ensures { Continues sink.old sink.new so_far (json_text (properties_value feature.now.properties)) result }
 {
     match feature.properties() {
         None => put_part(b"null", so_far, sink),
-        Some(members) => put_members(members.as_slice(), so_far, sink),
+        Some(properties) => put_properties(properties, so_far, sink),
     }
 }
 
@@ -63,7 +68,7 @@ fn put_feature<W: Drain>(feature: &Feature, so_far: Progress, sink: &mut Sink<W>
     let so_far = put_part(b"{\"type\":\"Feature\"", so_far, sink);
     let so_far = put_id_member(feature, so_far, sink);
     let so_far = put_part(b",\"properties\":", so_far, sink);
-    let so_far = put_properties(feature, so_far, sink);
+    let so_far = put_properties_option(feature, so_far, sink);
     let so_far = put_part(b",\"geometry\":", so_far, sink);
     let so_far = put_geometry(feature, so_far, sink);
     put_part(b"}", so_far, sink)

@@ -7,7 +7,7 @@ ghost use Rattle.layer_scanning.specs.FeatureParts.{Holds, geometry_member, give
 
 use decimal_json::{after_word, member_at, skip, value_at};
 use geojson_model::{identifier, members_if, read_shape};
-use geojson_types::{Counts, Feature, Shape};
+use geojson_types::{Counts, Feature, Properties, Shape};
 use geometry_scanning::{Object, geometry_at, members_at, named_value, opened};
 use json_value::Json;
 use std::alloc::Global;
@@ -152,6 +152,7 @@ pub fn feature_at<'a>(
     let Ok(properties) = members_if(parts.properties) else {
         return Err(Halt::Unread);
     };
+    let properties = Properties::of_option(properties);
     Ok((Feature::of(id, properties, shape_of(parts.shape)), rest))
 }
 

@@ -10,8 +10,8 @@ ghost use Rattle.topojson_features.specs.declared.decode_fault.DecodeFault.TheVa
 use crate::decode_fault::DecodeFault;
 use crate::shapes::decoded_option;
 use byte_ends::Memory;
-use geojson_types::{Feature, FeatureSet, Id};
-use json_value::{Items, Json, OwnText, copy_members};
+use geojson_types::{Feature, FeatureSet, Id, Properties};
+use json_value::{Items, OwnText};
 use std::alloc::Global;
 use topojson_types::{TopoFeature, TopoObject, Topology};
 
@@ -38,13 +38,13 @@ fn copied_id_option(alloc: Global, id: &Option<Id>) -> Result<Option<Id>, Memory
 /// The properties once more, if they are an object.
 fn copied_properties(
     alloc: Global,
-    properties: &Option<Items<(OwnText, Json)>>,
-) -> Result<Option<Items<(OwnText, Json)>>, Memory>
+    properties: &Option<Properties>,
+) -> Result<Option<Properties>, Memory>
     ensures { IfOk result (λ ms. ms ≡ properties.now) }
 {
     match properties {
         None => Ok(None),
-        Some(members) => Ok(Some(copy_members(alloc, members.as_slice())?)),
+        Some(properties) => Ok(Some(properties.copy(alloc)?)),
     }
 }
 

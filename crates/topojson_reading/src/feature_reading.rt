@@ -7,7 +7,7 @@ ghost use Rattle.topojson_meaning.specs.Features as spec;
 use crate::members::members_of;
 use crate::shapes::typed_shape;
 use crate::types::object_type;
-use geojson_types::{Counts, Id};
+use geojson_types::{Counts, Id, Properties};
 use json_members::take;
 use json_value::{Items, Json, OwnText};
 use std::alloc::Global;
@@ -27,14 +27,14 @@ fn identifier(value: Option<Json>) -> Result<Option<Id>, TopoFault>
     }
 }
 
-/// The members of the object that a member is. Absent and null have none.
-fn members_if(value: Option<Json>) -> Result<Option<Items<(OwnText, Json)>>, TopoFault>
+/// The properties that a member gives. Absent and null are none.
+fn properties_if(value: Option<Json>) -> Result<Option<Properties>, TopoFault>
     ensures { Finds (λ ms. ms) result (spec.members_if value) }
 {
     match value {
         None => Ok(None),
         Some(Json::Null) => Ok(None),
-        Some(Json::Object(members)) => Ok(Some(members)),
+        Some(Json::Object(members)) => Ok(Some(Properties::of(members))),
         Some(_) => Err(TopoFault::WrongKind),
     }
 }
@@ -52,7 +52,7 @@ pub(crate) fn feature(
     ensures { Gives (λ f. f) result counts.new (spec.feature (option_copied transform.entry) arcs.now geometry members.items counts.old) }
 {
     let id = identifier(take(&mut members, "id")?)?;
-    let properties = members_if(take(&mut members, "properties")?)?;
+    let properties = properties_if(take(&mut members, "properties")?)?;
     let shape = typed_shape(alloc, transform, arcs, geometry, &members, counts)?;
     Ok(TopoFeature {
         id,

@@ -1,7 +1,7 @@
 use crate::cell::Cell;
-use geojson_types::{Geometry, Id};
+use geojson_types::{Geometry, Id, Properties};
 use geometry::ArcRef;
-use json_value::{Items, Json, OwnText};
+use json_value::Items;
 use std::marker::Model;
 
 /// A geometry of a topology (TopoJSON 1.0, section 2.2): a line and a ring are lists of arc indexes.
@@ -12,6 +12,6 @@ pub type TopoShape = Geometry<Cell, Items<ArcRef>, Items<ArcRef>>;
 #[derive(Debug, Drop)]
 pub struct TopoFeature {
     pub id: Option<Id>,
-    pub properties: Option<Items<(OwnText, Json)>>,
+    pub properties: Option<Properties>,
     pub shape: Option<TopoShape>,
 }

@@ -7,9 +7,9 @@ ghost use Rattle.topojson_writer.specs.Texts.{type_text, members_text};
 
 use crate::shape_writer::{put_parts, put_type};
 use byte_ends::{Drain, Progress, Sink, put_part};
-use geojson_types::Id;
-use json_value::{Items, Json, OwnText};
-use json_writer::{PutValue, put_members, put_text};
+use geojson_types::{Id, Properties};
+use json_writer::{PutValue, put_text};
+use properties_writer::put_properties;
 use std::marker::PhantomData;
 use topojson_types::{Cell, TopoFeature, TopoShape};
 
@@ -45,20 +45,20 @@ fn put_id<W: Drain>(id: &Option<Id>, so_far: Progress, sink: &mut Sink<W>) -> Pr
 
 /// Writes the member `properties` behind a comma.
 fn put_properties_member<W: Drain>(
-    properties: &[(OwnText, Json)],
+    properties: &Properties,
     so_far: Progress,
     sink: &mut Sink<W>,
 ) -> Progress
     ensures { Continues sink.old sink.new so_far (members_text (properties_members (Some properties.now))) result }
 {
     let so_far = put_part(b",\"properties\":", so_far, sink);
-    put_members(properties, so_far, sink)
+    put_properties(properties, so_far, sink)
 }
 
 /// Writes the member `properties` behind a comma, if they are an object.
 #[tactic(auto, using(crate::proofs::Objects::none))]
-fn put_properties<W: Drain>(
-    properties: &Option<Items<(OwnText, Json)>>,
+fn put_properties_option<W: Drain>(
+    properties: &Option<Properties>,
     so_far: Progress,
     sink: &mut Sink<W>,
 ) -> Progress
@@ -66,7 +66,7 @@ fn put_properties<W: Drain>(
 {
     match properties {
         None => put_part(b"", so_far, sink),
-        Some(members) => put_properties_member(members.as_slice(), so_far, sink),
+        Some(properties) => put_properties_member(properties, so_far, sink),
     }
 }
 
@@ -109,7 +109,7 @@ pub fn put_feature<C: PutValue<Cell>, W: Drain>(
 {
     let so_far = put_option_type::<C, W>(&feature.shape, so_far, sink);
     let so_far = put_id(&feature.id, so_far, sink);
-    let so_far = put_properties(&feature.properties, so_far, sink);
+    let so_far = put_properties_option(&feature.properties, so_far, sink);
     let so_far = put_option_parts::<C, W>(&feature.shape, so_far, sink);
     put_part(b"}", so_far, sink)
 }

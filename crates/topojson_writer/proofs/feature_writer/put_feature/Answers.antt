@@ -8,4 +8,4 @@ returns g c =
     let f = c.args.feature.now in
     let parts = then c.put_option_parts-so_far.ensures c.put_part.ensures in
     as_text (feature-text f.id f.properties (geometrical_option g.C.PutValue.value f.shape))
-    (then c.put_option_type-so_far.ensures (then c.put_id-so_far.ensures (then c.put_properties-so_far.ensures parts)))
+    (then c.put_option_type-so_far.ensures (then c.put_id-so_far.ensures (then c.put_properties_option-so_far.ensures parts)))

@@ -15,3 +15,4 @@ pub mod TextsRead
 pub mod StringsFound
 pub mod ValuesFound
 pub mod TextsFound
+pub mod FrontValues

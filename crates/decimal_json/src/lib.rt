@@ -5,14 +5,18 @@
 
 mod bytes;
 mod fault;
+mod laws;
 mod numbers;
 mod parser;
 mod strings;
 mod values;
 
-pub use bytes::{after_word, skip};
+pub use bytes::{after_word, next, skip};
 pub use fault::{Fault, JsonFault, Why};
+pub use laws::{front_values_are_well_formed, written_text_is_read};
+pub use numbers::after_number;
 pub use parser::{LAYER_DEPTH, TOPOLOGY_DEPTH, one_value, parse};
+pub use strings::{plain_run, string_at};
 pub use values::{member_at, value_at};
 
 // The crates below, which a crate above reaches through this one.

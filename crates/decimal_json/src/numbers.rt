@@ -81,8 +81,9 @@ fn after_exponent(bytes: &[u8]) -> Result<&[u8], Fault>
     }
 }
 
+/// What follows the number at the front.
 #[tactic(auto, unfolding(json_value::specs::Reading::after_number))]
-fn after_number(bytes: &[u8]) -> Result<&[u8], Fault>
+pub fn after_number(bytes: &[u8]) -> Result<&[u8], Fault>
     ensures { Gives (λ x. x.now) result (spec.after_number bytes.now) }
 {
     let rest = after_whole(after_minus(bytes))?;

@@ -188,7 +188,7 @@ fn after_plain(bytes: &[u8]) -> &[u8]
 }
 
 /// The bytes at the front that stand for themselves, and what follows them.
-fn plain_run(bytes: &[u8]) -> (&[u8], &[u8])
+pub fn plain_run(bytes: &[u8]) -> (&[u8], &[u8])
     ensures front { result.0.now ≡ spec.plain_front bytes.now }
     ensures rest { result.1.now ≡ spec.after_plain bytes.now }
 {

@@ -1,0 +1,90 @@
+// Strings (RFC 8259, section 7).
+ghost use Rattle.std.specs.Prelude.{◌≡◌, ◌++◌, IfOk, OnOk};
+ghost use Rattle.std.specs.List.{prefix_len};
+ghost use Rattle.json_value.specs.Text.{quoted};
+ghost use Rattle.decimal_json.specs.Reading.{name_at, string_at as string_front};
+ghost use Rattle.properties_scanning.specs.Copying.{Copies, any, is_simple};
+
+use decimal_json::{MemoryDrain, Sink, plain_run, string_at, write_text};
+use simdutf8::compat;
+use std::alloc::Global;
+use unit_scanning::{Halt, after_byte};
+
+/// An ASCII byte that stands for itself.
+fn is_simple(byte: u8) -> bool
+    ensures { result ≡ is_simple byte }
+{
+    byte <= 127 && (byte >= 32 && (byte != b'"' && byte != b'\\'))
+}
+
+/// How many ASCII bytes in front stand for themselves.
+fn simple_len(bytes: &[u8]) -> usize
+    ensures { result ≡ prefix_len is_simple bytes.now }
+{
+    for (i, byte) in bytes.iter().enumerate() {
+        if !is_simple(*byte) {
+            return i;
+        }
+    }
+    bytes.len()
+}
+
+/// Puts the string that is written for the characters behind the text.
+fn push_quoted(alloc: Global, characters: &str, text: &mut Vec<u8>) -> Result<(), Halt>
+    ensures { OnOk result (text.new.items ≡ text.old.items ++ quoted characters.now) }
+{
+    let mut sink = Sink::new(MemoryDrain::new(alloc));
+    if write_text(characters, &mut sink).is_err() {
+        return Err(Halt::Memory);
+    }
+    let drain = sink.into_inner();
+    text.extend_from_slice(drain.as_slice())?;
+    Ok(())
+}
+
+/// Copies a string with escapes, behind its first quotation mark, by its characters.
+fn copy_escaped<'a>(alloc: Global, inside: &'a [u8], text: &mut Vec<u8>) -> Result<&'a [u8], Halt>
+    ensures { IfOk result (λ rest. Copies (string_front any) quoted inside.now rest.now text.old.items text.new.items) }
+{
+    let (characters, rest) = string_at(alloc, inside)?;
+    push_quoted(alloc, characters.as_str(), text)?;
+    Ok(rest)
+}
+
+/// Copies a string behind its first quotation mark: at once, where no escape is in it.
+fn copy_characters<'a>(
+    alloc: Global,
+    inside: &'a [u8],
+    text: &mut Vec<u8>,
+) -> Result<&'a [u8], Halt>
+    ensures { IfOk result (λ rest. Copies (string_front any) quoted inside.now rest.now text.old.items text.new.items) }
+{
+    let (run, behind) = plain_run(inside);
+    let Some(rest) = after_byte(b'"', behind) else {
+        return copy_escaped(alloc, inside, text);
+    };
+    if compat::from_utf8(run).is_err() {
+        return Err(Halt::Unread);
+    }
+    text.push(b'"')?;
+    text.extend_from_slice(run)?;
+    text.push(b'"')?;
+    Ok(rest)
+}
+
+/// Copies the string at the front, with its quotation marks, and gives what follows it.
+pub fn copy_string<'a>(alloc: Global, bytes: &'a [u8], text: &mut Vec<u8>) -> Result<&'a [u8], Halt>
+    ensures { IfOk result (λ rest. Copies (name_at any) quoted bytes.now rest.now text.old.items text.new.items) }
+{
+    let Some(inside) = after_byte(b'"', bytes) else {
+        return Err(Halt::Unread);
+    };
+    let length = simple_len(inside);
+    let (_, behind) = inside.split_at(length);
+    let Some(rest) = after_byte(b'"', behind) else {
+        return copy_characters(alloc, inside, text);
+    };
+    let (string, _) = bytes.split_at(length + 2);
+    text.extend_from_slice(string)?;
+    Ok(rest)
+}

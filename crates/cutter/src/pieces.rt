@@ -46,8 +46,11 @@ pub fn cut(alloc: Global, lines: Lines, vertices: &Vertices) -> Result<Pieces, M
 {
     let (strokes, _dropped) = lines.into_parts();
     let mut splits = Vec::new(alloc);
+    let mut visit: usize = 0;
     for stroke in strokes {
-        splits.push(split_stroke(alloc, stroke, vertices)?)?;
+        let first = visit;
+        visit = visit.wrapping_add(stroke.positions.len());
+        splits.push(split_stroke(alloc, stroke, first, vertices)?)?;
     }
     Ok(Pieces { splits })
 }

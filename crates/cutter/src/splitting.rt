@@ -6,7 +6,7 @@ ghost use Rattle.cutter.specs.Pieces.{turned};
 ghost use Rattle.cutter.specs.Slices.{indexes, split_by, started as started_by};
 
 use crate::piece_iter::PieceIter;
-use crate::starting::ring_start;
+use crate::starting::first_of_least_cut;
 use geometry::Position;
 use junctions::{Stroke, Vertices};
 use owned_values::{Items, Memory};
@@ -45,31 +45,42 @@ impl Split {
     }
 }
 
-/// The line, split at its cut positions.
-pub fn split_stroke(alloc: Global, stroke: Stroke, vertices: &Vertices) -> Result<Split, Memory>
+/// The line whose first visit has this number, split at its cut positions.
+pub fn split_stroke(
+    alloc: Global,
+    stroke: Stroke,
+    visit: usize,
+    vertices: &Vertices,
+) -> Result<Split, Memory>
     requires { IsReady vertices.now stroke }
     ensures { IfOk result (λ s. s ≡ split_by (is_member vertices.now.cuts) stroke) }
 {
-    let stroke = started(alloc, stroke, vertices)?;
-    let cuts = cut_indexes(alloc, stroke.positions.as_slice(), vertices)?;
+    let (stroke, start) = started(alloc, stroke, visit, vertices)?;
+    let cuts = cut_indexes(alloc, stroke.positions.as_slice(), visit, start, vertices)?;
     Ok(Split { stroke, cuts })
 }
 
-// The line, a ring from its start.
-fn started(alloc: Global, stroke: Stroke, vertices: &Vertices) -> Result<Stroke, Memory>
+// The line, a ring from its start, and the index at which it started before.
+fn started(
+    alloc: Global,
+    stroke: Stroke,
+    visit: usize,
+    vertices: &Vertices,
+) -> Result<(Stroke, usize), Memory>
     requires { IsReady vertices.now stroke }
-    ensures { IfOk result (λ s. s ≡ started_by (is_member vertices.now.cuts) stroke) }
+    ensures { IfOk result (λ x. x.0 ≡ started_by (is_member vertices.now.cuts) stroke) }
 {
     if !stroke.closed {
-        return Ok(stroke);
+        return Ok((stroke, 0));
     }
-    let start = ring_start(&stroke, vertices);
+    let start = first_of_least_cut(stroke.positions.as_slice(), visit, vertices);
     let positions = turn(alloc, stroke.positions.as_slice(), start)?;
-    Ok(Stroke {
+    let turned = Stroke {
         address: stroke.address,
         closed: true,
         positions: Items::of(positions),
-    })
+    };
+    Ok((turned, start))
 }
 
 // The ring from its position at the index on.
@@ -83,10 +94,24 @@ fn turn(alloc: Global, positions: &[Position], start: usize) -> Result<Vec<Posit
     Ok(ring)
 }
 
+// The number of the visit of a line's position with this index, where the line starts with the visit of this number, and was turned to
+// its position with the index `start`.
+fn turned_visit(i: usize, count: usize, visit: usize, start: usize) -> usize {
+    let place = i.wrapping_add(start);
+    let before = if place < count {
+        place
+    } else {
+        place.wrapping_sub(count).wrapping_add(1)
+    };
+    visit.wrapping_add(before)
+}
+
 // The indexes of the cut positions.
 fn cut_indexes(
     alloc: Global,
     positions: &[Position],
+    visit: usize,
+    start: usize,
     vertices: &Vertices,
 ) -> Result<Vec<usize>, Memory>
     requires { AllKnown vertices.now.points positions.now }
@@ -94,18 +119,25 @@ fn cut_indexes(
 {
     let mut cuts = Vec::new(alloc);
     for i in 0..positions.len() {
-        add_cut(&mut cuts, i, positions[i], vertices)?;
+        let place = turned_visit(i, positions.len(), visit, start);
+        add_cut(&mut cuts, i, positions[i], place, vertices)?;
     }
     Ok(cuts)
 }
 
 // Adds the index of the position, where that is a cut position.
-fn add_cut(cuts: &mut Vec<usize>, i: usize, p: Position, vertices: &Vertices) -> Result<(), Memory>
+fn add_cut(
+    cuts: &mut Vec<usize>,
+    i: usize,
+    p: Position,
+    visit: usize,
+    vertices: &Vertices,
+) -> Result<(), Memory>
     requires { is_member vertices.now.points p ≡ true }
     ensures { OnOk result
         (cuts.new.items ≡ cuts.old.items ++ (if is_member vertices.now.cuts p then i ∷ [] else [])) }
 {
-    if vertices.is_cut(p) {
+    if vertices.is_cut_at(visit, p) {
         cuts.push(i)?;
     }
     Ok(())

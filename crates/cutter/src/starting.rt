@@ -23,38 +23,45 @@ pub fn ring_start(stroke: &Stroke, vertices: &Vertices) -> usize
     ensures within { (ls : List line.Stroke) → AnswersFor ls vertices.now → AllClean ls → In stroke.now ls → stroke.now.closed ≡ true
         → result < length stroke.now.positions }
 {
-    first_of_least_cut(stroke.positions.as_slice(), vertices)
+    first_of_least_cut(stroke.positions.as_slice(), 0, vertices)
 }
 
-// The index of the first visit of the least cut position.
-fn first_of_least_cut(positions: &[Position], vertices: &Vertices) -> usize
+/// The same of the positions of a ring whose first visit has this number: where they are looked for first, whatever the number is.
+pub fn first_of_least_cut(positions: &[Position], visit: usize, vertices: &Vertices) -> usize
     requires { AllKnown vertices.now.points positions.now }
     ensures { result ≡ start_in (is_member vertices.now.cuts) positions.now }
 {
-    match least_cut(positions, vertices) {
+    match least_cut(positions, visit, vertices) {
         Some(p) => index_of(positions, p),
         None => positions.len(),
     }
 }
 
 // The least cut position.
-fn least_cut(positions: &[Position], vertices: &Vertices) -> Option<Position>
+fn least_cut(positions: &[Position], visit: usize, vertices: &Vertices) -> Option<Position>
     requires { AllKnown vertices.now.points positions.now }
     ensures { result ≡ least_point (filter (is_member vertices.now.cuts) positions.now) }
 {
     let mut best = None;
+    let mut next = visit;
     for p in positions {
-        best = lesser_cut(best, *p, vertices);
+        best = lesser_cut(best, *p, next, vertices);
+        next = next.wrapping_add(1);
     }
     best
 }
 
 // The lesser of the least so far and one more, where that is a cut position.
-fn lesser_cut(best: Option<Position>, p: Position, vertices: &Vertices) -> Option<Position>
+fn lesser_cut(
+    best: Option<Position>,
+    p: Position,
+    visit: usize,
+    vertices: &Vertices,
+) -> Option<Position>
     requires { is_member vertices.now.points p ≡ true }
     ensures { result ≡ (if is_member vertices.now.cuts p then least_with best p else best) }
 {
-    if !vertices.is_cut(p) {
+    if !vertices.is_cut_at(visit, p) {
         return best;
     }
     match best {

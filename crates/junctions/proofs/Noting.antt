@@ -1,24 +1,27 @@
 -- What notes of positions add up to.
-use Rattle.std.proofs.Common.{◌≡◌, ℕ, ◌+◌, ◌-◌, ◌<◌, ◌≤◌, Bool, true, false, cond, not, ◌||◌, ◌&&◌, List, [], ◌∷◌, ◌++◌, map, take, drop, get_or, length, append-nil, Option, None, Some, IsSome, refl, ap, sym, ◌∙◌, subst, arith}
+use Rattle.std.proofs.Common.{◌≡◌, ℕ, ◌+◌, ◌-◌, ◌<◌, ◌≤◌, Bool, true, false, cond, not, ◌||◌, ◌&&◌, List, [], ◌∷◌, ◌++◌, slice_get, map, take, drop, get_or, length, append-nil, Option, None, Some, IsSome, refl, ap, sym, ◌∙◌, subst, arith}
 use Rattle.std.specs.List.{filter, flat_map, list_any}
 use Rattle.std.specs.Option.{is_some}
+use Rattle.std.specs.Cmp.{IsEquivalence}
+use Rattle.std.specs.HashMap.{get_key_by, IsUnique}
 use Rattle.std.proofs.Math.Bool.{and-true, and-false, or-false, or-true}
 use Rattle.std.proofs.lemmas.Grind.{flat_map-append}
 use Rattle.std.proofs.lemmas.List.{take_all, take_more, map-append}
 use Rattle.std.proofs.lemmas.List.Elements.{filter-append}
 use Rattle.std.proofs.lemmas.List.Folds.{list_any-append}
-use Rattle.std.proofs.lemmas.Map.Made.{is_some-lookup}
-use Rattle.indexmap.specs.IndexMap.{IndexMap, get, keys}
+use Rattle.std.proofs.lemmas.Map.Made.{is_some-lookup, lookup_key_passes}
+use Rattle.indexmap.specs.IndexMap.{IndexMap, get, keys, with_value_at}
+use Rattle.indexmap.proofs.CallerLemmas.{keys-with_value_at, updates-with_value_at}
 use Rattle.geometry.specs.Points.{Point}
 use Rattle.geometry.specs.Rings.{same}
-use Rattle.geometry.proofs.Points.{same_is}
+use Rattle.geometry.proofs.Points.{same_is, same_self}
 use Rattle.junctions.specs.declared.neighbors.Neighbors.{Neighbors}
 use Rattle.junctions.specs.declared.neighbors.Neighbors.TheVariants.{Zero}
 use Rattle.junctions.specs.declared.stroke.Stroke.{Stroke}
 use Rattle.junctions.specs.declared.vertex.Note.{Note}
 use Rattle.junctions.specs.declared.vertex.Vertex.{Vertex}
 use Rattle.junctions.specs.Cleaning.{IsCleanList, AllClean}
-use Rattle.junctions.specs.Visits.{Visit, visits, visits_from, inner_visits, neighbors, first_seen, positions, last, is_end, ends_open, is_turn, is_junction, is_position_of}
+use Rattle.junctions.specs.Visits.{Visit, visits_from, inner_visits, neighbors, first_seen, positions, last, is_end, ends_open, is_turn, is_junction, is_position_of}
 use Rattle.junctions.specs.Notes.{equal, with_neighbors, beside, is_back, known, noted, after, touch, pass, line_notes, notes_of, all_notes, with_position, heres, Takes, IsTable, vertex_at, at_junction}
 use Rattle.junctions.proofs.Cleaned.{same_sym}
 use Rattle.junctions.proofs.Numbering.{positions_append, seen_in_order}
@@ -28,6 +31,10 @@ use Rattle.junctions.proofs.Visiting.{visit, last_read, ring_visits}
 pub equal_same : (p q : Point) → equal p q ≡ same p q
 unfolding same
 equal_same p q = refl
+
+equal_laws : IsEquivalence equal
+unfolding same
+equal_laws = record { refl = same_self; symm = same_sym; congr = λ p q r h. ap (λ x. same x r) (same_is p q h) }
 
 -- one list of notes and then another
 pub after_append : (o : Option Vertex) (ns ms : List Note) (p : Point) → after (after o ns p) ms p ≡ after o (ns ++ ms) p
@@ -49,6 +56,17 @@ module _ {S : Type 0} where
   pub keys_stay : (m : IndexMap Point Vertex S) (p : Point) → IsSome (get equal m p) → keys m ≡ with_position (keys m) p
   unfolding same
   keys_stay m p h = ap (λ b. cond b (keys m) (keys m ++ (p ∷ []))) (sym (sym (is_some-lookup (equal p) m.entries) ∙ h))
+
+  -- one note at a position that is known
+  pub takes_known : (m : IndexMap Point Vertex S) (i : ℕ) (x : Note) (p : Point) (v w : Vertex) → IsUnique equal m → slice_get m.entries i ≡ Some (p, v) →
+      Some p ≡ get_key_by (equal x.here) m → Some v ≡ get equal m x.here → w ≡ noted v x → Takes m (with_value_at m i w) (x ∷ [])
+  unfolding same
+  takes_known m i x p v w unique at k e n =
+      let same : x.here ≡ p = same_is x.here p (lookup_key_passes (equal x.here) m.entries p (sym k)) in
+      let u = (updates-with_value_at m i w equal_laws unique x.here v (at ∙ ap (λ q. Some (q, v)) (sym same))).0 in
+      takes_one m (with_value_at m i w) x
+      (λ q. u q ∙ ap (λ y. cond (equal x.here q) (Some y) (get equal m q)) (n ∙ ap (λ o. noted (known o) x) e))
+      (keys-with_value_at m i w ∙ keys_stay m x.here (subst (λ o. IsSome o) e (λ i. true)))
 
   -- some notes and then more
   pub takes_then : (l m n : IndexMap Point Vertex S) (ns ms : List Note) → Takes l m ns → Takes m n ms → Takes l n (ns ++ ms)

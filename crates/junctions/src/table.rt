@@ -1,6 +1,7 @@
 // The table of the positions of lines.
 ghost use Rattle.std.specs.Prelude.{◌≡◌, ◌<◌, ◌≤◌, IfOk, OnOk, Some, [], ◌∷◌, ◌&&◌, false, length, map, sum_by};
 ghost use Rattle.std.specs.List.{list_any};
+ghost use Rattle.std.specs.Option.{option_copied};
 ghost use Rattle.indexmap.specs.IndexMap.{get, keys};
 ghost use Rattle.geometry.specs.Points.{Point};
 ghost use Rattle.geometry.specs.Order.{is_least};
@@ -13,7 +14,7 @@ ghost use Rattle.junctions.specs.Notes.{equal, pass, notes_of, Takes, IsTable, f
 
 use crate::stroke::Stroke;
 use crate::vertex::{Note, Vertex, noted};
-use geometry::Position;
+use geometry::{Position, is_same};
 use indexmap::IndexMap;
 use owned_values::Memory;
 use std::alloc::Global;
@@ -21,18 +22,24 @@ use std::alloc::Global;
 /// What is known of each position of lines.
 pub type PositionTable = IndexMap<Position, Vertex>;
 
-/// The table of the lines, in which no position is the least of a ring yet.
-pub fn table_of(alloc: Global, strokes: &[Stroke]) -> Result<PositionTable, Memory>
+/// Where the position of each visit of the lines stands in the table, in reading order, by which it is found with no search. Nothing
+/// rests on it: what stands there is compared with the position.
+pub type Places = Vec<u32>;
+
+/// The table of the lines, in which no position is the least of a ring yet, and where their positions stand in it.
+pub fn table_of(alloc: Global, strokes: &[Stroke]) -> Result<(PositionTable, Places), Memory>
     requires { AllClean strokes.now }
-    ensures known { IfOk result (λ table. IsTable strokes.now (λ p. false) table) }
-    ensures order { IfOk result (λ table. keys table ≡ first_seen (positions strokes.now)) }
+    ensures known { IfOk result (λ x. IsTable strokes.now (λ p. false) x.0) }
+    ensures order { IfOk result (λ x. keys x.0 ≡ first_seen (positions strokes.now)) }
 {
+    let visits = room_for(strokes);
     // On a map of areas most positions are visited twice.
-    let mut table = IndexMap::with_capacity(alloc, room_for(strokes) / 2)?;
+    let mut table = IndexMap::with_capacity(alloc, visits / 2)?;
+    let mut places = Vec::with_capacity(alloc, visits)?;
     for stroke in strokes {
-        note_stroke(&mut table, stroke)?;
+        note_stroke(&mut table, &mut places, stroke)?;
     }
-    Ok(table)
+    Ok((table, places))
 }
 
 // How many different positions the lines have at most.
@@ -47,7 +54,11 @@ fn room_for(strokes: &[Stroke]) -> usize
 }
 
 // Notes the positions and visits of a line.
-fn note_stroke(table: &mut PositionTable, stroke: &Stroke) -> Result<(), Memory>
+fn note_stroke(
+    table: &mut PositionTable,
+    places: &mut Places,
+    stroke: &Stroke,
+) -> Result<(), Memory>
     requires { 2 ≤ length stroke.now.positions }
     ensures { OnOk result (Takes table.old table.new (notes_of stroke.now)) }
 {
@@ -61,15 +72,17 @@ fn note_stroke(table: &mut PositionTable, stroke: &Stroke) -> Result<(), Memory>
     let ends = !stroke.closed;
     note(
         table,
+        places,
         Note {
             here: positions[0],
             beside: None,
             ends,
         },
     )?;
-    note_visits(table, positions)?;
+    note_visits(table, places, positions)?;
     note(
         table,
+        places,
         Note {
             here: positions[last],
             beside,
@@ -80,7 +93,11 @@ fn note_stroke(table: &mut PositionTable, stroke: &Stroke) -> Result<(), Memory>
 }
 
 // Notes the visits between the ends.
-fn note_visits(table: &mut PositionTable, positions: &[Position]) -> Result<(), Memory>
+fn note_visits(
+    table: &mut PositionTable,
+    places: &mut Places,
+    positions: &[Position],
+) -> Result<(), Memory>
     requires { 2 ≤ length positions.now }
     ensures { OnOk result (Takes table.old table.new (map pass (inner_visits positions.now))) }
 {
@@ -90,46 +107,58 @@ fn note_visits(table: &mut PositionTable, positions: &[Position]) -> Result<(), 
             beside: Some((positions[i], positions[i + 2])),
             ends: false,
         };
-        note(table, visit)?;
+        note(table, places, visit)?;
     }
     Ok(())
 }
 
+// The place with this index, or one where nothing stands.
+fn place_of(index: usize) -> u32 {
+    u32::try_from(index).unwrap_or(u32::MAX)
+}
+
 // Takes a note.
-fn note(table: &mut PositionTable, note: Note) -> Result<(), Memory>
+fn note(table: &mut PositionTable, places: &mut Places, note: Note) -> Result<(), Memory>
     ensures { OnOk result (Takes table.old table.new (note ∷ [])) }
 {
     let here = note.here;
-    if let Some(vertex) = table.get_mut(&here) {
-        *vertex = noted(*vertex, note);
+    let Some((place, _, vertex)) = table.get_full(&here) else {
+        places.push(place_of(table.len()))?;
+        table.insert(here, noted(Vertex::new(), note))?;
         return Ok(());
+    };
+    places.push(place_of(place))?;
+    let now = noted(*vertex, note);
+    if let Some(vertex) = table.get_index_mut(place) {
+        *vertex = now;
     }
-    table.insert(here, noted(Vertex::new(), note))?;
     Ok(())
 }
 
 /// Flags the least position of each ring without a junction.
-pub fn flag_rings(table: &mut PositionTable, strokes: &[Stroke])
+pub fn flag_rings(table: &mut PositionTable, places: &[u32], strokes: &[Stroke])
     requires clean { AllClean strokes.now }
     requires known { IsTable strokes.now (λ p. false) table.old }
     ensures known { IsTable strokes.now (λ p. list_any (starts_free_ring strokes.now p) strokes.now) table.new }
     ensures order { keys table.new ≡ keys table.old }
 {
+    let mut visit: usize = 0;
     for stroke in strokes {
         if stroke.closed {
-            flag_ring(table, stroke.positions.as_slice());
+            flag_ring(table, places, visit, stroke.positions.as_slice());
         }
+        visit = visit.wrapping_add(stroke.positions.len());
     }
 }
 
-// Flags the least position of the ring, if no position of it is a junction.
-fn flag_ring(table: &mut PositionTable, ring: &[Position])
+// Flags the least position of the ring whose first visit has this number, if no position of it is a junction.
+fn flag_ring(table: &mut PositionTable, places: &[u32], visit: usize, ring: &[Position])
     requires { 0 < length ring.now }
     ensures known { (p : Point) →
         get equal table.new p ≡ flagged (spec.is_free (get equal table.old) ring.now && is_least p ring.now) (get equal table.old p) }
     ensures order { keys table.new ≡ keys table.old }
 {
-    if !is_free(table, ring) {
+    if !is_free(table, places, visit, ring) {
         return;
     }
     let least = least(ring);
@@ -139,28 +168,47 @@ fn flag_ring(table: &mut PositionTable, ring: &[Position])
 }
 
 // Whether no position of the ring is a junction.
-fn is_free(table: &PositionTable, ring: &[Position]) -> bool
+fn is_free(table: &PositionTable, places: &[u32], visit: usize, ring: &[Position]) -> bool
     ensures { result ≡ spec.is_free (get equal table.now) ring.now }
 {
-    ring.iter().all(|p| !is_junction_in(table, *p))
+    for i in 0..ring.len() {
+        if is_junction_in(table, places.get(visit.wrapping_add(i)), ring[i]) {
+            return false;
+        }
+    }
+    true
 }
 
-/// Whether the table knows the position as a junction.
-pub fn is_junction_in(table: &PositionTable, p: Position) -> bool
+/// Whether the table knows the position as a junction. It is looked for at this place first.
+pub fn is_junction_in(table: &PositionTable, place: Option<&u32>, p: Position) -> bool
     ensures { result ≡ at_junction_option (get equal table.now p) }
 {
-    match table.get(&p) {
+    match vertex_near(table, place, p) {
         Some(vertex) => vertex.at_junction(),
         None => false,
     }
 }
 
-/// Whether the table knows the position as a cut position.
-pub fn is_cut_in(table: &PositionTable, p: Position) -> bool
+// What is known of the position, which is looked for at this place first.
+fn vertex_near(table: &PositionTable, place: Option<&u32>, p: Position) -> Option<Vertex>
+    ensures { result ≡ get equal table.now p }
+{
+    if let Some(place) = place {
+        if let Some((known, vertex)) = table.get_index(*place as usize) {
+            if is_same(*known, p) {
+                return Some(*vertex);
+            }
+        }
+    }
+    table.get(&p).copied()
+}
+
+/// Whether the table knows the position as a cut position. It is looked for at this place first.
+pub fn is_cut_in(table: &PositionTable, place: Option<&u32>, p: Position) -> bool
     ensures { result ≡ is_cut_option (get equal table.now p) }
 {
-    match table.get(&p) {
-        Some(vertex) => vertex.at_junction() || vertex.is_ring_start,
+    match vertex_near(table, place, p) {
+        Some(vertex) => vertex.at_cut(),
         None => false,
     }
 }

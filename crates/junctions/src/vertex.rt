@@ -1,5 +1,5 @@
 // What is known of a position of the linework.
-ghost use Rattle.std.specs.Prelude.{◌≡◌};
+ghost use Rattle.std.specs.Prelude.{◌≡◌, ◌||◌};
 ghost use Rattle.junctions.specs.Notes as spec;
 
 use crate::neighbors::Neighbors;
@@ -43,6 +43,14 @@ impl Vertex {
         ensures { result ≡ spec.at_junction self }
     {
         self.ends || self.turns || !self.neighbors.are_two()
+    }
+
+    /// Whether lines are cut there.
+    pub fn at_cut(self) -> bool
+        ensures { result ≡ (spec.at_junction self || self.is_ring_start) }
+    {
+        let is_ring_start = self.is_ring_start;
+        self.at_junction() || is_ring_start
     }
 }
 

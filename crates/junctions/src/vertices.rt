@@ -5,7 +5,7 @@ ghost use Rattle.junctions.specs.Answers.{AnswersFor, is_member};
 ghost use Rattle.junctions.specs.Visits.{first_seen, positions};
 
 use crate::lines::Lines;
-use crate::table::{PositionTable, flag_rings, is_cut_in, is_junction_in, table_of};
+use crate::table::{Places, PositionTable, flag_rings, is_cut_in, is_junction_in, table_of};
 use geometry::Position;
 use owned_values::Memory;
 use std::alloc::Global;
@@ -17,6 +17,7 @@ use std::marker::Model;
 #[derive(Debug, Drop)]
 pub struct Vertices {
     table: PositionTable,
+    places: Places,
 }
 
 impl Model for Vertices {
@@ -41,9 +42,9 @@ impl Vertices {
         ensures order { IfOk result (λ vertices. vertices.points ≡ first_seen (positions lines.now.strokes)) }
     {
         let strokes = lines.as_slice();
-        let mut table = table_of(alloc, strokes)?;
-        flag_rings(&mut table, strokes);
-        Ok(Vertices { table })
+        let (mut table, places) = table_of(alloc, strokes)?;
+        flag_rings(&mut table, places.as_slice(), strokes);
+        Ok(Vertices { table, places })
     }
 
     /// Whether it is a position of a line.
@@ -67,7 +68,7 @@ impl Vertices {
         requires { is_member self.now.points p ≡ true }
         ensures { result ≡ is_member self.now.junctions p }
     {
-        is_junction_in(&self.table, p)
+        is_junction_in(&self.table, None, p)
     }
 
     /// Whether lines are cut at the position.
@@ -75,6 +76,15 @@ impl Vertices {
         requires { is_member self.now.points p ≡ true }
         ensures { result ≡ is_member self.now.cuts p }
     {
-        is_cut_in(&self.table, p)
+        is_cut_in(&self.table, None, p)
+    }
+
+    /// Whether lines are cut at the position. The number of its visit, over all positions of the lines in reading order, tells where
+    /// to look first; any number gives the same answer.
+    pub fn is_cut_at(&self, visit: usize, p: Position) -> bool
+        requires { is_member self.now.points p ≡ true }
+        ensures { result ≡ is_member self.now.cuts p }
+    {
+        is_cut_in(&self.table, self.places.as_slice().get(visit), p)
     }
 }

@@ -1,10 +1,4 @@
-pub mod BehindLists
-pub mod ArrayFronts
-pub mod SoFar
+pub mod Listed
 pub mod PositionParts
 pub mod LineParts
-pub mod Words
 pub mod ShapeParts
-pub mod MembersSoFar
-pub mod Named
-pub mod Texts

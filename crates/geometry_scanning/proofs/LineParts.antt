@@ -10,8 +10,10 @@ use Rattle.geometry.specs.Rings.{is_closed as closed}
 use Rattle.geojson_model.specs.Coordinates.{position}
 use Rattle.geojson_model.specs.Lines.{line, line_in}
 use Rattle.geojson_model.specs.Polygons.{ring, ring_in, polygon, polygon_in}
-use Rattle.geometry_scanning.specs.Fronts.{Front, Stands, MoreStand, IsEmpty, IsFilled, one, some_one}
-use Rattle.geometry_scanning.proofs.ArrayFronts.{array_front, listed_some, empty_stands, filled_stands}
+use Rattle.value_scanning.specs.Fronts.{Front, Stands, MoreStand, one, some_one}
+use Rattle.geometry_scanning.specs.Fronts.{IsEmpty, IsFilled}
+use Rattle.value_scanning.proofs.ArrayFronts.{array_front}
+use Rattle.geometry_scanning.proofs.Listed.{listed_some, empty_stands, filled_stands}
 
 test : (n m : ℕ) → n ≤ m → nat_le n m ≡ true
 test n m h = grind (arith, nat_tests)

@@ -12,8 +12,9 @@ use Rattle.geojson_model.specs.Coordinates.{coordinate, in_units, number_in_unit
 use Rattle.geojson_model.specs.Reader.{and_then, give, gather}
 use Rattle.json_members.proofs.Yields.{second_is}
 use Rattle.unit_scanning.specs.Numbers.{IsUnits}
-use Rattle.geometry_scanning.specs.Fronts.{any, Front, Stands, behind_last, behind_more, MoreStand, AreFurther}
-use Rattle.geometry_scanning.proofs.ArrayFronts.{array_front}
+use Rattle.value_scanning.specs.Fronts.{any, Front, Stands, behind_last, behind_more, MoreStand}
+use Rattle.geometry_scanning.specs.Fronts.{AreFurther}
+use Rattle.value_scanning.proofs.ArrayFronts.{array_front}
 
 pub coordinate_stands : (exact whole : Bool) (x : ℤ) (c : Counts) (bytes rest : List ℕ) → IsUnits bytes x whole rest → (exact && not whole) ≡ false → Stands (Front 0) (coordinate exact) bytes x rest c (count_rounded (not whole) c)
 unfolding coordinate
@@ -25,7 +26,7 @@ coordinate_stands exact whole x c bytes rest u h = record {
 
 -- ---- further numbers
 
-pub further_stands : {B : Type 0} (x : ℤ) (whole : Bool) (c : Counts) (bytes rest : List ℕ) → IsUnits bytes x whole rest → Stands {B = List B} (Front 0) (λ v. give []) bytes [] rest c c
+pub further_stands : {B : Type 0} (x : ℤ) (whole : Bool) (c : Counts) (bytes rest : List ℕ) → IsUnits bytes x whole rest → Stands {E = GeoFaultKind} {B = List B} (Front 0) (λ v. give []) bytes [] rest c c
 further_stands x whole c bytes rest u = record { value = j.Number u.text; front = λ d le. u.front any d; means = refl }
 
 -- nothing in front of a list leaves it
@@ -43,7 +44,7 @@ no_further after rest h = record { values = []; behind = behind_last h; some = r
 no_end : (bytes next end : List ℕ) → bytes ≡ 44 ∷ next → bytes ≡ 93 ∷ end → ⊥
 no_end bytes next end h k = let q : ◌≡◌ {A = ℕ} 44 93 = ap (λ (xs : List ℕ). get_or {A = ℕ} xs 0 0) (sym h ∙ k) in absurd (omega (arith, q))
 
-pub further_count : {B : Type 0} (after rest : List ℕ) (xs : List B) (old new : Counts) → MoreStand {B = B} (Front 0) (λ v. give []) after xs rest old new → new ≡ old
+pub further_count : {B : Type 0} (after rest : List ℕ) (xs : List B) (old new : Counts) → MoreStand {E = GeoFaultKind} {B = B} (Front 0) (λ v. give []) after xs rest old new → new ≡ old
 further_count after rest xs old new m = sym (nothing_counted m.values xs old new m.means)
 
 -- ---- a position

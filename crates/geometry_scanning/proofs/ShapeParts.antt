@@ -26,10 +26,12 @@ use Rattle.geojson_model.specs.Reader.{Reader, and_then, ◌>>=◌, give, gather
 use Rattle.geojson_model.specs.Types.{geometry_type, coordinates_type}
 use Rattle.geojson_model.proofs.Unrolled.{shape_object}
 use Rattle.json_members.proofs.Yields.{first_is, second_is}
-use Rattle.geometry_scanning.specs.Fronts.{any, Front, MemberFront, Stands, Behind, behind_last, behind_more, IsArray, one, some_one, IsTypeOf, IsHead}
-use Rattle.geometry_scanning.proofs.ArrayFronts.{empty_stands, filled_stands}
-use Rattle.geometry_scanning.proofs.BehindLists.{list_items, no_close}
-use Rattle.geometry_scanning.proofs.Words.{simple, member_is, word_named, word_value}
+use Rattle.value_scanning.specs.Fronts.{any, Front, MemberFront, Stands, Behind, behind_last, behind_more, one, some_one}
+use Rattle.geometry_scanning.specs.Fronts.{IsArray, IsTypeOf, IsHead}
+use Rattle.geometry_scanning.proofs.Listed.{empty_stands, filled_stands}
+use Rattle.value_scanning.proofs.BehindLists.{list_items, no_close}
+use Rattle.value_scanning.proofs.ObjectFronts.{object_value}
+use Rattle.value_scanning.proofs.Words.{simple, member_is, word_named, word_value}
 
 -- ---- coordinates
 
@@ -87,17 +89,6 @@ type_by t bytes rest kind plain names other h =
     record { name = t; front = λ d le. ap (value_at any d) opens ∙ word_value t rest plain d le; names = names; no_collection = other }
 
 -- ---- objects
-
-member_shorter : (d : ℕ) (bytes : List ℕ) (m : List ℕ × Json) (rest : List ℕ) → member_at any (value_at any d) bytes ≡ Some (m, rest) → length rest ≤ length bytes
-member_shorter d bytes m rest h = let t = member_takes any d (value_at any d) (value_takes any d) bytes (m, rest) h in let l = ap length t.2 in omega (arith, l, length-append t.0 rest)
-
-pub object_value : (d : ℕ) (bytes first : List ℕ) (m : List ℕ × Json) (between : List ℕ) (ms : List (List ℕ × Json)) (end : List ℕ) → 0 < d → bytes ≡ 123 ∷ first → MemberFront (d - 1) (skip first) m between
-    → Behind (MemberFront (d - 1)) 125 between ms end → value_at any d bytes ≡ Some (j.Object (m ∷ ms), end)
-unfolding member_at name_at after_word
-object_value d bytes first m between ms end some opens front behind =
-    object_found any d 123 bytes first opens refl (λ z. omega arith) (m ∷ ms) end
-    (list_items (MemberFront (d - 1)) 125 (member_at any (value_at any (d - 1))) (λ b n r h. h) (member_shorter (d - 1)) refl refl first m between
-    (no_close 125 (member_at any (value_at any (d - 1))) (λ bs. refl) (skip first) (m, between) front) front behind)
 
 abbrev typed_members : List ℕ → Json → List (List ℕ × Json)
 typed_members name v = (codes "type", j.Text name) ∷ (codes "coordinates", v) ∷ []

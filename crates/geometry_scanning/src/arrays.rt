@@ -2,13 +2,15 @@
 ghost use Rattle.std.specs.Prelude.{◌≡◌, ◌∷◌, ◌++◌, ℕ, Bool, List, IfOk, OnOk, option_to_list};
 ghost use Rattle.json_value.specs.declared.json.Json.{Json};
 ghost use Rattle.geojson_model.specs.Reader.{Reader};
-ghost use Rattle.geometry_scanning.specs.Fronts.{Stands, MoreStand, SomeStand, IsArray};
+ghost use Rattle.value_scanning.specs.Fronts.{Stands, MoreStand, SomeStand};
+ghost use Rattle.geometry_scanning.specs.Fronts.{IsArray};
 
 use decimal_json::skip;
 use geojson_types::Counts;
 use json_value::Items;
 use std::alloc::Global;
 use unit_scanning::{Halt, after_byte};
+use value_scanning::opened;
 
 /// What the elements of an array are read as.
 pub trait Element {
@@ -26,17 +28,6 @@ pub trait Element {
         counts: &mut Counts,
     ) -> Result<(Option<Self>, &'a [u8]), Halt>
         ensures { IfOk result (λ x. Stands is_front (reads exact) bytes.now (option_to_list x.0) x.1.now counts.old counts.new) };
-}
-
-/// What follows the byte, which has to be first.
-#[inline(always)]
-pub fn opened(byte: u8, bytes: &[u8]) -> Result<&[u8], Halt>
-    ensures { IfOk result (λ rest. bytes.now ≡ byte ∷ rest.now) }
-{
-    match after_byte(byte, bytes) {
-        Some(rest) => Ok(rest),
-        None => Err(Halt::Unread),
-    }
 }
 
 /// Puts one behind the others, if there is one.

@@ -3,11 +3,11 @@ ghost use Rattle.std.specs.Prelude.{◌≡◌, ◌++◌, IfOk, IfSome};
 ghost use Rattle.geometry.specs.Lists.{map_some, then_some, unless_empty};
 ghost use Rattle.geometry.specs.declared.shape.Geometry.TheVariants as g;
 ghost use Rattle.geojson_model.specs.Geometries.{coordinates_shape, shape};
-ghost use Rattle.geometry_scanning.specs.Fronts.{Front, IsHead, IsTypeOf, Stands};
+ghost use Rattle.value_scanning.specs.Fronts.{Front, Stands};
+ghost use Rattle.geometry_scanning.specs.Fronts.{IsHead, IsTypeOf};
 
-use crate::arrays::{array_at, opened};
+use crate::arrays::array_at;
 use crate::lines::{line_at, polygon_at};
-use crate::members::named_value;
 use crate::positions::position_at;
 use decimal_json::{after_word, skip};
 use geojson_model::CoordinatesType;
@@ -15,6 +15,7 @@ use geojson_types::{Counts, Position, Ring, Shape};
 use json_value::Items;
 use std::alloc::Global;
 use unit_scanning::{Halt, after_byte, expected};
+use value_scanning::named_value;
 
 /// The type whose name stands at the front in its quotation marks, and what follows it.
 #[inline(always)]

@@ -2,14 +2,15 @@
 ghost use Rattle.std.specs.Prelude.{◌≡◌, IfOk};
 ghost use Rattle.geojson_model.specs.Lines.{line};
 ghost use Rattle.geojson_model.specs.Polygons.{ring, polygon};
-ghost use Rattle.geometry_scanning.specs.Fronts.{Front, Stands, some_one};
+ghost use Rattle.value_scanning.specs.Fronts.{Front, Stands, some_one};
 
-use crate::arrays::{Element, array_at, elements_behind, opened};
+use crate::arrays::{Element, array_at, elements_behind};
 use decimal_json::skip;
 use geojson_types::{Counts, Position, Ring, is_closed};
 use json_value::Items;
 use std::alloc::Global;
 use unit_scanning::{Halt, after_byte};
+use value_scanning::opened;
 
 /// The line at the front (RFC 7946, section 3.1.4), if its array isn't empty, and what follows it.
 pub fn line_at<'a>(

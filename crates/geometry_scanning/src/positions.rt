@@ -3,13 +3,15 @@ ghost use Rattle.std.specs.Prelude.{◌≡◌, ◌^◌, ◌≤◌, ◌&&◌, Boo
 ghost use Rattle.json_value.specs.declared.json.Json.{Json};
 ghost use Rattle.geojson_model.specs.Coordinates.{coordinate, position};
 ghost use Rattle.geojson_model.specs.Reader.{give};
-ghost use Rattle.geometry_scanning.specs.Fronts.{Front, Stands, one, AreFurther};
+ghost use Rattle.value_scanning.specs.Fronts.{Front, Stands, one};
+ghost use Rattle.geometry_scanning.specs.Fronts.{AreFurther};
 
-use crate::arrays::{Element, elements_behind, opened};
+use crate::arrays::{Element, elements_behind};
 use decimal_json::skip;
 use geojson_types::{Counts, Position};
 use std::alloc::Global;
 use unit_scanning::{Halt, after_byte, expected, number_at};
+use value_scanning::opened;
 
 /// Whether a number is refused for being rounded.
 #[inline(always)]

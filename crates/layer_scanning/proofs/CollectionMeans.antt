@@ -16,17 +16,17 @@ use Rattle.geojson_model.specs.Members.{named, need, type_name}
 use Rattle.geojson_model.specs.Reader.{◌>>=◌, give, gather}
 use Rattle.geojson_model.specs.Types.{geojson_type}
 use Rattle.json_members.proofs.Yields.{taken, first_is, second_is}
-use Rattle.geometry_scanning.specs.Fronts.{any, FrontAt, MemberFront, NamedValue, Stands, MoreStand, SomeStand, one}
-use Rattle.geometry_scanning.proofs.ArrayFronts.{array_value, empty_value, one_stands}
-use Rattle.geometry_scanning.proofs.SoFar.{first_and_more}
-use Rattle.geometry_scanning.proofs.ShapeParts.{object_value}
-use Rattle.geometry_scanning.proofs.Texts.{whole}
-use Rattle.geometry_scanning.proofs.Words.{member_is, word_named, word_value}
+use Rattle.value_scanning.specs.Fronts.{any, FrontAt, MemberFront, NamedValue, Stands, MoreStand, SomeStand, one}
+use Rattle.value_scanning.proofs.ArrayFronts.{array_value, empty_value, one_stands}
+use Rattle.value_scanning.proofs.SoFar.{first_and_more}
+use Rattle.value_scanning.proofs.ObjectFronts.{object_value}
+use Rattle.value_scanning.proofs.Texts.{whole}
+use Rattle.value_scanning.proofs.Words.{member_is, word_named, word_value}
 use Rattle.decimal_json.proofs.Words.{after_word_takes}
 use Rattle.layer_scanning.specs.declared.collections.Collection.{Collection}
 use Rattle.layer_scanning.specs.CollectionParts.{FeaturesStand, AreFeatures, Contains, SpellsLayer}
-use Rattle.geometry_scanning.specs.MemberLists.{TakesMember, ReadsMembers}
-use Rattle.geometry_scanning.proofs.Named.{other_named, first_named, foreign_named}
+use Rattle.value_scanning.specs.MemberLists.{TakesMember, ReadsMembers}
+use Rattle.value_scanning.proofs.Named.{other_named, first_named, foreign_named}
 
 -- ---- features
 

@@ -10,15 +10,15 @@ use Rattle.geojson_types.specs.Features.{Shape, Featured}
 use Rattle.geojson_model.specs.declared.fault.GeoFaultKind.{GeoFaultKind}
 use Rattle.geojson_model.specs.Features.{feature, feature_element, identifier, members_if}
 use Rattle.geojson_model.specs.Geometries.{geometry}
-use Rattle.geojson_model.specs.Members.{find, named, type_name}
+use Rattle.geojson_model.specs.Members.{find, lookup_fault, named, type_name}
 use Rattle.geojson_model.specs.Reader.{Reader, ◌>>=◌, give, pure, if_some}
-use Rattle.geometry_scanning.specs.Fronts.{FrontAt, MemberFront, Stands}
-use Rattle.geometry_scanning.proofs.ShapeParts.{object_value}
+use Rattle.value_scanning.specs.Fronts.{FrontAt, MemberFront, Stands}
+use Rattle.value_scanning.proofs.ObjectFronts.{object_value}
 use Rattle.layer_scanning.specs.declared.features.Parts.{Parts}
 use Rattle.layer_scanning.specs.FeatureParts.{given, IsShape, Holds}
-use Rattle.geometry_scanning.specs.MemberLists.{ReadsMembers}
+use Rattle.value_scanning.specs.MemberLists.{ReadsMembers}
 use Rattle.layer_scanning.proofs.FeatureMembers.{nothing_held}
-use Rattle.geometry_scanning.proofs.Named.{found_is}
+use Rattle.value_scanning.proofs.Named.{found_is}
 
 -- a feature by the answers of its look-ups
 abbrev feature_by : Bool → Result (Option Json) GeoFaultKind → Result (Option Json) GeoFaultKind → Result (Option Json) GeoFaultKind → Reader Featured
@@ -59,8 +59,8 @@ pub record ShapeFound (exact : Bool) (ms : List (List ℕ × Json)) (x : Option 
   pub means : shape_by exact (members_if value) c ≡ Ok (x, new)
 
 shape_found : (exact : Bool) (ms : List (List ℕ × Json)) (shape : Option (Option Shape)) (c new : Counts) → IsShape exact (named (codes "geometry") ms) shape c new → ShapeFound exact ms (given shape) c new
-shape_found exact ms None c new h = record { value = None; found = found_is (codes "geometry") ms None h.0; means = ap (λ d. Ok (None, d)) (sym h.1) }
-shape_found exact ms (Some x) c new h = record { value = Some h.0; found = found_is (codes "geometry") ms (Some h.0) h.1; means = h.2 }
+shape_found exact ms None c new h = record { value = None; found = found_is lookup_fault (codes "geometry") ms None h.0; means = ap (λ d. Ok (None, d)) (sym h.1) }
+shape_found exact ms (Some x) c new h = record { value = Some h.0; found = found_is lookup_fault (codes "geometry") ms (Some h.0) h.1; means = h.2 }
 
 element_is : (exact : Bool) (ms : List (List ℕ × Json)) (f : Featured) (c new : Counts) → named (codes "type") ms ≡ j.Text (codes "Feature") ∷ [] → feature exact ms c ≡ Ok (f, new)
     → feature_element exact (j.Object ms) c ≡ Ok (f, new)
@@ -74,7 +74,7 @@ members_are exact ms parts id ps c new h typed id_is ps_are =
     let s = shape_found exact ms parts.shape c new h.shape in
     element_is exact ms _ c new (rw typed at h.type)
     (feature_is exact (find (codes "id") ms) (find (codes "properties") ms) (find (codes "geometry") ms) parts.id parts.properties s.value id ps (given parts.shape) c new
-    (found_is (codes "id") ms parts.id h.id) (found_is (codes "properties") ms parts.properties h.properties) s.found id_is ps_are s.means)
+    (found_is lookup_fault (codes "id") ms parts.id h.id) (found_is lookup_fault (codes "properties") ms parts.properties h.properties) s.found id_is ps_are s.means)
 
 pub feature_stands : (exact : Bool) (bytes inside end : List ℕ) (parts : Parts) (id : Option Id) (ps : Option (List (List ℕ × Json))) (c new : Counts) → bytes ≡ 123 ∷ inside
     → ReadsMembers (MemberFront 124) (Holds exact) (record { typed = false; id = None; properties = None; shape = None }) parts inside end c new → parts.typed ≡ true → identifier parts.id ≡ Ok id → members_if parts.properties ≡ Ok ps

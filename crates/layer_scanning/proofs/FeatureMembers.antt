@@ -18,12 +18,12 @@ use Rattle.geojson_model.specs.Members.{named}
 use Rattle.geojson_model.specs.Reader.{Reader, ◌>>=◌, pure, if_some}
 use Rattle.geojson_model.proofs.Proper.{object_proper}
 use Rattle.geojson_model.proofs.Unrolled.{shape_object, shape_other}
-use Rattle.geometry_scanning.specs.Fronts.{any, Front, FrontAt, MemberFront, NamedValue, Stands}
-use Rattle.geometry_scanning.proofs.Words.{member_is, word_named, word_value}
+use Rattle.value_scanning.specs.Fronts.{any, Front, FrontAt, MemberFront, NamedValue, Stands}
+use Rattle.value_scanning.proofs.Words.{member_is, word_named, word_value}
 use Rattle.layer_scanning.specs.declared.features.Parts.{Parts}
 use Rattle.layer_scanning.specs.FeatureParts.{geometry_member, given, IsShape, Holds}
-use Rattle.geometry_scanning.specs.MemberLists.{TakesMember}
-use Rattle.geometry_scanning.proofs.Named.{other_named, first_named, foreign_named}
+use Rattle.value_scanning.specs.MemberLists.{TakesMember}
+use Rattle.value_scanning.proofs.Named.{other_named, first_named, foreign_named}
 
 -- ---- the member `geometry`
 

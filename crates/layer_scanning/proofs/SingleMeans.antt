@@ -20,8 +20,8 @@ use Rattle.geojson_model.specs.Members.{Members, type_name}
 use Rattle.geojson_model.specs.Reader.{Reader, LayerReader, ◌>>=◌, fail, pure, or_fail, within}
 use Rattle.geojson_model.specs.Types.{geojson_type, geometry_type, coordinates_type}
 use Rattle.geojson_model.proofs.Unrolled.{shape_object, shape_other}
-use Rattle.geometry_scanning.specs.Fronts.{any, Front, FrontAt, Stands}
-use Rattle.geometry_scanning.proofs.Texts.{whole}
+use Rattle.value_scanning.specs.Fronts.{any, Front, FrontAt, Stands}
+use Rattle.value_scanning.proofs.Texts.{whole}
 use Rattle.layer_scanning.specs.CollectionParts.{SpellsLayer}
 
 -- the features of an object whose type has this name

@@ -7,7 +7,7 @@ use Rattle.geojson_types.specs.declared.counts.Counts.{Counts}
 use Rattle.geojson_types.specs.Features.{Featured}
 use Rattle.geojson_model.specs.Layers.{features_from, layer}
 use Rattle.geojson_model.specs.Members.{named}
-use Rattle.geometry_scanning.specs.Fronts.{FrontAt}
+use Rattle.value_scanning.specs.Fronts.{FrontAt}
 use Rattle.layer_scanning.specs.declared.collections.Collection.{Collection}
 
 -- at the front stands an array of values that are read as these features

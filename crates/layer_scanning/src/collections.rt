@@ -1,15 +1,15 @@
 // Collections of features.
 ghost use Rattle.std.specs.Prelude.{◌≡◌, Some, IfOk, IfSome, IsUtf8};
-ghost use Rattle.geometry_scanning.specs.Fronts.{MemberFront};
+ghost use Rattle.value_scanning.specs.Fronts.{MemberFront};
 ghost use Rattle.layer_scanning.specs.CollectionParts.{Contains, FeaturesStand, SpellsLayer};
 
 use crate::features::{feature_at, features_behind};
 use decimal_json::{after_word, member_at, skip};
 use geojson_types::{Counts, Feature, Layer};
-use geometry_scanning::{Object, members_at, named_value, opened, text_of};
 use json_value::Items;
 use std::alloc::Global;
 use unit_scanning::{Halt, after_byte};
+use value_scanning::{Object, members_at, named_value, opened, text_of};
 
 /// How deep the arrays and objects of a collection's member may nest.
 const MEMBER_DEPTH: u32 = 126;

@@ -2,16 +2,17 @@
 ghost use Rattle.std.specs.Prelude.{◌≡◌, ◌++◌, List, IfOk, None};
 ghost use Rattle.geojson_model.specs.Features.{feature_element};
 ghost use Rattle.geojson_types.specs.Features.{Featured};
-ghost use Rattle.geometry_scanning.specs.Fronts.{FrontAt, MemberFront, MoreStand, Stands, one};
+ghost use Rattle.value_scanning.specs.Fronts.{FrontAt, MemberFront, MoreStand, Stands, one};
 ghost use Rattle.layer_scanning.specs.FeatureParts.{Holds, geometry_member, given};
 
 use decimal_json::{after_word, member_at, skip, value_at};
 use geojson_model::{identifier, members_if, read_shape};
 use geojson_types::{Counts, Feature, Properties, Shape};
-use geometry_scanning::{Object, geometry_at, members_at, named_value, opened};
+use geometry_scanning::geometry_at;
 use json_value::Json;
 use std::alloc::Global;
 use unit_scanning::{Halt, after_byte};
+use value_scanning::{Object, members_at, named_value, opened};
 
 /// How deep the arrays and objects of a feature's member may nest.
 const MEMBER_DEPTH: u32 = 124;

@@ -5,10 +5,11 @@ ghost use Rattle.layer_scanning.specs.CollectionParts.{SpellsLayer};
 use crate::features::feature_at;
 use decimal_json::{after_word, skip};
 use geojson_types::{Counts, Feature, Layer};
-use geometry_scanning::{geometry_at, named_value, opened, text_of};
+use geometry_scanning::geometry_at;
 use json_value::Items;
 use std::alloc::Global;
 use unit_scanning::Halt;
+use value_scanning::{named_value, opened, text_of};
 
 /// Whether the text is an object whose first member says that it is a Feature.
 pub(crate) fn begins_feature(bytes: &[u8]) -> bool {

@@ -3,7 +3,7 @@ use Rattle.std.proofs.Common.{◌≡◌, ℕ, ◌+◌, ◌-◌, ◌<◌, eqb, fa
 use Rattle.std.proofs.lemmas.Bool.{eq-eqb}
 use Rattle.std.proofs.lemmas.List.{append-nil}
 use Rattle.list_laws.specs.Commas.{with_commas, comma_separated}
-use Rattle.decimal_json.specs.Reading.{Parse, skip, after_word, list_at, items_at}
+use Rattle.json_value.specs.Reading.{Parse, skip, after_word, list_at, items_at}
 use Rattle.decimal_json.proofs.ListLoop.{at_comma, at_end}
 use Rattle.decimal_json.proofs.Opened.{is_closed, is_open}
 use Rattle.decimal_json.proofs.Steps.{no_comma}

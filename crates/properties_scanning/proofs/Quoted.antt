@@ -8,7 +8,7 @@ use Rattle.std.proofs.lemmas.Str.{IsUtf8-from_ascii, is_utf8-from_IsUtf8}
 use Rattle.json_value.specs.Grammar.{is_plain, SpellsChars, chars_end, chars_plain}
 use Rattle.json_value.specs.Text.{escaped, quoted}
 use Rattle.json_value.proofs.Runs.{plain_stays}
-use Rattle.decimal_json.specs.Reading.{after_word, plain_front, after_plain, name_at, string_at}
+use Rattle.json_value.specs.Reading.{after_word, plain_front, after_plain, name_at, string_at}
 use Rattle.decimal_json.proofs.StringsRead.{plain-split}
 use Rattle.decimal_json.proofs.StringsFound.{string_again}
 use Rattle.properties_scanning.specs.Copying.{any, is_simple, Copies}

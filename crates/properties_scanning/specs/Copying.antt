@@ -5,7 +5,7 @@ use Rattle.list_laws.specs.Commas.{comma_separated}
 use Rattle.json_value.specs.declared.json.Json.{Json}
 use Rattle.json_value.specs.Grammar.{is_plain}
 use Rattle.json_value.specs.Text.{json_text, member_text}
-use Rattle.decimal_json.specs.Reading.{Parse}
+use Rattle.json_value.specs.Reading.{Parse}
 
 -- the texts that are taken: those that are UTF-8
 abbrev pub any : List ℕ → Bool

@@ -2,7 +2,7 @@
 ghost use Rattle.std.specs.Prelude.{◌≡◌, ◌++◌, IfOk, OnOk};
 ghost use Rattle.std.specs.List.{prefix_len};
 ghost use Rattle.json_value.specs.Text.{quoted};
-ghost use Rattle.decimal_json.specs.Reading.{name_at, string_at as string_front};
+ghost use Rattle.json_value.specs.Reading.{name_at, string_at as string_front};
 ghost use Rattle.properties_scanning.specs.Copying.{Copies, any, is_simple};
 
 use decimal_json::{MemoryDrain, Sink, plain_run, string_at, write_text};

@@ -1,7 +1,7 @@
 // Values (RFC 8259, sections 3 to 6).
 ghost use Rattle.std.specs.Prelude.{◌≡◌, ◌++◌, IfOk, length};
 ghost use Rattle.json_value.specs.Text.{json_text};
-ghost use Rattle.decimal_json.specs.Reading as reading;
+ghost use Rattle.json_value.specs.Reading as reading;
 ghost use Rattle.properties_scanning.specs.Copying.{Copies, any, elements_text, members_text, whole_member};
 
 use crate::strings::copy_string;

@@ -91,7 +91,7 @@ fn meets(arcs: &[Items<Cell>], before: ArcRef, behind: ArcRef) -> bool
 }
 
 /// Whether the arc of an index begins where that of the one before ends, if there is one.
-fn is_joined(arcs: &[Items<Cell>], before: Option<ArcRef>, reference: ArcRef) -> bool
+pub fn is_joined(arcs: &[Items<Cell>], before: Option<ArcRef>, reference: ArcRef) -> bool
     ensures { MatchOption before (result ≡ true) (λ b. result ≡ spec.meets arcs.now b reference) }
 {
     match before {
@@ -122,7 +122,7 @@ pub(crate) fn indexes(
 }
 
 /// Whether the arc of the last index ends where that of the first begins. There is none of them in an empty slice.
-pub(crate) fn closes(arcs: &[Items<Cell>], refs: &[ArcRef]) -> bool
+pub fn closes(arcs: &[Items<Cell>], refs: &[ArcRef]) -> bool
     ensures { result ≡ both_same (spec.line_end arcs.now refs.now) (spec.line_start arcs.now refs.now) }
 {
     match (refs.last(), refs.first()) {

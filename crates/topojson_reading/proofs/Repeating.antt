@@ -2,13 +2,11 @@
 use Rattle.std.proofs.Common.{◌≡◌, ℕ, ◌+◌, ◌<◌, ◌≤◌, Bool, true, false, not, List, [], ◌∷◌, length, map, get_or, drop, sym, ap, ◌∙◌, subst, Bor, arith}
 use Rattle.std.specs.Prelude.{bytes_eq}
 use Rattle.std.specs.HashSet.{HashSet, contains, Updates}
-use Rattle.json_value.specs.declared.json.Json.{Json}
-use Rattle.topojson_meaning.specs.Members.{Members}
 use Rattle.topojson_meaning.specs.Objects.{is_met}
 use Rattle.topojson_reading.specs.Names.{names_before_repeat}
 use Rattle.json_members.proofs.Turns.{drop_end, drop_here}
 
-abbrev pub names_of : Members → List (List ℕ)
+abbrev pub names_of : {V : Type 0} → List (List ℕ × V) → List (List ℕ)
 names_of ms = map (λ m. m.0) ms
 
 -- ---- the set of the names that were met
@@ -39,14 +37,14 @@ counted_more met name names total before new e = e ∙ rw new (omega arith)
 pub counted_repeat : (met : List (List ℕ)) (name : List ℕ) (names : List (List ℕ)) (total before : ℕ) → is_met name met ≡ true → total ≡ names_before_repeat met (name ∷ names) + before → before ≡ total
 counted_repeat met name names total before again e = sym (e ∙ rw again (omega arith))
 
-bounded : (met : List (List ℕ)) (ms : Members) → names_before_repeat met (names_of ms) ≤ length ms
+bounded : {V : Type 0} (met : List (List ℕ)) (ms : List (List ℕ × V)) → names_before_repeat met (names_of ms) ≤ length ms
 bounded met [] = omega arith
 bounded met (m ∷ ms) = grind (arith, bounded (m.0 ∷ met) ms)
 
 -- ---- members by their number
 
-module _ (ms : Members) (i : ℕ) (met : List (List ℕ)) (total : ℕ) (e : total ≡ names_before_repeat met (names_of (drop i ms)) + i) where
-  module _ (m : List ℕ × Json) (lt : i < length ms) (is : m ≡ get_or ms i m) where
+module _ {V : Type 0} (ms : List (List ℕ × V)) (i : ℕ) (met : List (List ℕ)) (total : ℕ) (e : total ≡ names_before_repeat met (names_of (drop i ms)) + i) where
+  module _ (m : List ℕ × V) (lt : i < length ms) (is : m ≡ get_or ms i m) where
     here : total ≡ names_before_repeat met (m.0 ∷ names_of (drop (i + 1) ms)) + i
     here = subst (λ z. total ≡ names_before_repeat met (names_of z) + i) (drop_here ms i m lt is) e
 
@@ -60,5 +58,5 @@ module _ (ms : Members) (i : ℕ) (met : List (List ℕ)) (total : ℕ) (e : tot
   end le = let h : total ≡ 0 + i = subst (λ z. total ≡ names_before_repeat met (names_of z) + i) (drop_end i ms le) e in omega (arith, h)
 
 -- without a repeat they are all members
-pub all_counted : (ms : Members) (i : ℕ) (met : List (List ℕ)) → names_before_repeat [] (names_of ms) ≡ names_before_repeat met (names_of (drop i ms)) + i → length ms ≤ i → length ms ≡ names_before_repeat [] (names_of ms)
+pub all_counted : {V : Type 0} (ms : List (List ℕ × V)) (i : ℕ) (met : List (List ℕ)) → names_before_repeat [] (names_of ms) ≡ names_before_repeat met (names_of (drop i ms)) + i → length ms ≤ i → length ms ≡ names_before_repeat [] (names_of ms)
 all_counted ms i met e le = omega (arith, end ms i met _ e le, bounded [] ms)

@@ -15,7 +15,7 @@ use topojson_meaning::{GeometryType, TopoFault};
 use topojson_types::{Cell, TopoFeature, Transform};
 
 /// The identifier that the member `id` gives. Absent and null are none.
-fn identifier(value: Option<Json>) -> Result<Option<Id>, TopoFault>
+pub fn identifier(value: Option<Json>) -> Result<Option<Id>, TopoFault>
     ensures { Finds (λ id. id) result (spec.identifier value) }
 {
     match value {
@@ -28,7 +28,7 @@ fn identifier(value: Option<Json>) -> Result<Option<Id>, TopoFault>
 }
 
 /// The properties that a member gives. Absent and null are none.
-fn properties_if(value: Option<Json>) -> Result<Option<Properties>, TopoFault>
+pub fn properties_if(value: Option<Json>) -> Result<Option<Properties>, TopoFault>
     ensures { Finds (λ ms. ms) result (spec.members_if value) }
 {
     match value {
@@ -63,7 +63,7 @@ pub(crate) fn feature(
 
 /// The feature that a member of a collection is, which is an object of the topology.
 #[tactic(auto, unfolding(topojson_meaning::specs::Features::feature_element))]
-pub(crate) fn feature_element(
+pub fn feature_element(
     alloc: Global,
     transform: Option<&Transform>,
     arcs: &[Items<Cell>],

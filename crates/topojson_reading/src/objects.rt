@@ -66,7 +66,7 @@ fn is_collection(geometry: Option<GeometryType>) -> bool
 
 /// The object that a value is (TopoJSON 1.0, section 2.2).
 #[tactic(auto, unfolding(topojson_meaning::specs::Objects::object, topojson_meaning::specs::Objects::single))]
-fn object(
+pub fn object(
     alloc: Global,
     transform: Option<&Transform>,
     arcs: &[Items<Cell>],
@@ -85,7 +85,7 @@ fn object(
 }
 
 /// How many members come before the first whose name an earlier one has.
-fn members_before_repeat(alloc: Global, members: &[(OwnText, Json)]) -> Result<usize, Memory>
+pub fn members_before_repeat<V>(alloc: Global, members: &[(OwnText, V)]) -> Result<usize, Memory>
     ensures { IfOk result (λ n. n ≡ names_before_repeat [] (map (λ m. m.0) members.now)) }
 {
     let mut met = HashSet::new(alloc);

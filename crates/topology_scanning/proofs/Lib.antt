@@ -1,5 +1,2 @@
-pub mod SoFar
-pub mod CellParts
-pub mod ArcParts
 pub mod MemberParts
 pub mod TopologyMeans

@@ -10,12 +10,12 @@ use Rattle.geometry.specs.Points.{Point}
 use Rattle.topojson_types.specs.declared.transform.Transform.{Transform}
 use Rattle.topojson_meaning.specs.Arcs.{arc_list}
 use Rattle.topojson_meaning.specs.Members.{Members, named}
-use Rattle.geometry_scanning.specs.Fronts.{any, Front, MemberFront, NamedValue}
-use Rattle.geometry_scanning.specs.MemberLists.{TakesMember}
-use Rattle.geometry_scanning.proofs.Named.{other_named, first_named, foreign_named}
-use Rattle.geometry_scanning.proofs.Words.{member_is, word_named, word_value}
+use Rattle.value_scanning.specs.Fronts.{any, Front, MemberFront, NamedValue}
+use Rattle.value_scanning.specs.MemberLists.{TakesMember}
+use Rattle.value_scanning.proofs.Named.{other_named, first_named, foreign_named}
+use Rattle.value_scanning.proofs.Words.{member_is, word_named, word_value}
 use Rattle.topology_scanning.specs.declared.members.Parts.{Parts}
-use Rattle.topology_scanning.specs.Stands.{Stands}
+use Rattle.value_scanning.specs.Fronts.{Stands}
 use Rattle.topology_scanning.specs.TopologyParts.{AreArcs, Holds, KeepsTransform}
 
 pub nothing_held : (on : Option Transform) (c : Counts) → Holds [] (record { typed = false; on = on; transform = None; objects = None; arcs = None }) c c

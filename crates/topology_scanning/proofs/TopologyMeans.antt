@@ -1,6 +1,6 @@
 -- The topology that members are.
 use Rattle.std.proofs.Common.{◌≡◌, ℕ, true, false, List, [], ◌∷◌, Option, Some, None, Ok, refl, arith}
-use Rattle.std.specs.Prelude.{codes, option_to_list, IsUtf8}
+use Rattle.std.specs.Prelude.{codes, IsUtf8}
 use Rattle.json_value.specs.declared.json.Json.{Json}
 use Rattle.json_value.specs.declared.json.Json.TheVariants as j
 use Rattle.json_value.specs.Grammar.{mark}
@@ -13,12 +13,13 @@ use Rattle.geometry.specs.Points.{Point}
 use Rattle.topojson_types.specs.declared.object.TopoObject.{TopoObject}
 use Rattle.topojson_types.specs.declared.transform.Transform.{Transform}
 use Rattle.topojson_types.specs.Topologies.{Contents}
-use Rattle.topojson_meaning.specs.Members.{Members, named, find, need}
+use Rattle.topojson_meaning.specs.Members.{Members, named, need, lookup_fault}
 use Rattle.topojson_meaning.specs.Topologies.{contents, value_contents, topology}
-use Rattle.geometry_scanning.specs.Fronts.{any, MemberFront}
-use Rattle.geometry_scanning.specs.MemberLists.{ReadsMembers}
-use Rattle.geometry_scanning.proofs.ShapeParts.{object_value}
-use Rattle.geometry_scanning.proofs.Texts.{whole}
+use Rattle.value_scanning.specs.Fronts.{any, MemberFront}
+use Rattle.value_scanning.specs.MemberLists.{ReadsMembers}
+use Rattle.value_scanning.proofs.ObjectFronts.{object_value}
+use Rattle.value_scanning.proofs.Named.{found_is}
+use Rattle.value_scanning.proofs.Texts.{whole}
 use Rattle.topology_scanning.specs.declared.members.Parts.{Parts}
 use Rattle.topology_scanning.specs.TopologyParts.{AreArcs, AreObjects, GivesTransform, Holds, SpellsParts, SpellsTopology}
 use Rattle.topology_scanning.proofs.MemberParts.{nothing_held}
@@ -34,10 +35,6 @@ parts_spelled bytes inside end on parts new opens r nothing =
       holds = r.holds no_counts (nothing_held on no_counts);
     }
 
-found_is : (name : List ℕ) (ms : Members) (o : Option Json) → named name ms ≡ option_to_list o → find name ms ≡ Ok o
-found_is name ms None h = rw h refl
-found_is name ms (Some v) h = rw h refl
-
 needed_is : (name : List ℕ) (ms : Members) (v : Json) → named name ms ≡ v ∷ [] → need name ms ≡ Ok v
 unfolding need
 needed_is name ms v h = rw h refl
@@ -48,7 +45,7 @@ unfolding contents
 contents_are ms parts arcs v os counted new h typed gives some there are =
     let a : AreArcs parts.on (named (codes "arcs") ms) (Some arcs) no_counts counted = rw some at h.arcs in
     let type_is = needed_is (codes "type") ms (j.Text (codes "Topology")) (rw typed at h.type) in
-    rw (type_is, text_of-text (codes "Topology"), found_is (codes "transform") ms parts.transform h.transform, gives no_counts, needed_is (codes "arcs") ms a.0 a.1, a.2)
+    rw (type_is, text_of-text (codes "Topology"), found_is lookup_fault (codes "transform") ms parts.transform h.transform, gives no_counts, needed_is (codes "arcs") ms a.0 a.1, a.2)
     (rw (needed_is (codes "objects") ms v (rw there at h.objects), are) refl)
 
 by_value : (ms : Members) (parts : Parts) (arcs : List (List Point)) (o : Option Json) (os : List (List ℕ × TopoObject)) (counted new : Counts) → Holds ms parts no_counts counted → parts.typed ≡ true → GivesTransform parts.transform parts.on

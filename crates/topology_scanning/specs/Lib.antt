@@ -1,3 +1,1 @@
-pub mod Stands
-pub mod Cells
 pub mod TopologyParts

@@ -1,19 +1,19 @@
 // The members of a topology.
 ghost use Rattle.std.specs.Prelude.{IfOk, OnOk};
 ghost use Rattle.std.specs.Option.{option_copied};
-ghost use Rattle.geometry_scanning.specs.Fronts.{MemberFront};
+ghost use Rattle.value_scanning.specs.Fronts.{MemberFront};
 ghost use Rattle.topology_scanning.specs.TopologyParts.{Holds, KeepsTransform, GivesTransform};
 
-use crate::arcs::arcs_at;
+use arc_scanning::arcs_at;
 use decimal_json::{after_word, member_at, value_at};
 use geojson_types::Counts;
-use geometry_scanning::{Object, named_value};
 use json_value::{Items, Json};
 use std::alloc::Global;
 use topojson_arc_reading::transform_if;
 use topojson_meaning::TopoFault;
 use topojson_types::{Cell, Transform};
 use unit_scanning::Halt;
+use value_scanning::{Object, named_value};
 
 /// How deep the arrays and objects of a topology's member may nest.
 const MEMBER_DEPTH: u32 = 254;

@@ -12,7 +12,6 @@ ghost use Rattle.topology_scanning.specs.TopologyParts.{AreObjects, GivesTransfo
 use crate::members::{Parts, halt_of, transform_of};
 use decimal_json::skip;
 use geojson_types::Counts;
-use geometry_scanning::{members_at, opened, text_of};
 use json_value::{Items, Json, OwnText};
 use simdutf8::compat;
 use std::alloc::Global;
@@ -20,6 +19,7 @@ use topojson_meaning::topology_is_valid;
 use topojson_reading::read_objects;
 use topojson_types::{Cell, TopoObject, Topology, Transform};
 use unit_scanning::Halt;
+use value_scanning::{members_at, opened, text_of};
 
 /// What stands behind the brace of the object that the bytes are.
 fn inside_of(bytes: &[u8]) -> Result<&[u8], Halt>

@@ -1,6 +1,6 @@
 use Rattle.std.proofs.Common.{ap, ◌∙◌, ◌++◌}
 use Rattle.std.specs.Prelude.{option_to_list}
-use Rattle.geometry_scanning.proofs.SoFar.{first_and_more}
+use Rattle.value_scanning.proofs.SoFar.{first_and_more}
 use Rattle.geometry_scanning.proofs.arrays.elements.Goals as goal
 
 pub returns : goal.returns

@@ -1,5 +1,5 @@
 use Rattle.std.proofs.Common.{sym, ◌∙◌}
-use Rattle.geometry_scanning.proofs.SoFar.{starts, goes_on, ends}
+use Rattle.value_scanning.proofs.SoFar.{starts, goes_on, ends}
 use Rattle.geometry_scanning.proofs.arrays.elements_behind.Goals as goal
 
 pub elements-init : goal.elements-init

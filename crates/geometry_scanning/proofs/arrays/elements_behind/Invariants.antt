@@ -1,4 +1,4 @@
-use Rattle.geometry_scanning.proofs.SoFar.{SoFar}
+use Rattle.value_scanning.proofs.SoFar.{SoFar}
 use Rattle.geometry_scanning.proofs.arrays.elements_behind.Given as goal
 
 abbrev pub invariant-elements : goal.invariant-elements

@@ -1,5 +1,5 @@
 use Rattle.std.proofs.Common.{sym, ◌∙◌}
-use Rattle.geometry_scanning.proofs.Texts.{empty_is, not_false}
+use Rattle.value_scanning.proofs.Texts.{empty_is, not_false}
 use Rattle.layer_scanning.proofs.CollectionMeans.{layer_stands}
 use Rattle.layer_scanning.proofs.collections.scan_collection.Goals as goal
 

@@ -1,4 +1,4 @@
-use Rattle.geometry_scanning.proofs.Texts.{not_false}
+use Rattle.value_scanning.proofs.Texts.{not_false}
 use Rattle.layer_scanning.proofs.FeatureMembers.{nothing_held, given_proper}
 use Rattle.layer_scanning.proofs.FeatureMeans.{feature_stands}
 use Rattle.layer_scanning.proofs.features.feature_at.Goals as goal

@@ -1,8 +1,8 @@
 use Rattle.std.proofs.Common.{sym, ◌∙◌}
 use Rattle.geojson_model.specs.Features.{feature_element}
-use Rattle.geometry_scanning.specs.Fronts.{FrontAt, one}
-use Rattle.geometry_scanning.proofs.ArrayFronts.{one_stands}
-use Rattle.geometry_scanning.proofs.SoFar.{starts, goes_on, ends}
+use Rattle.value_scanning.specs.Fronts.{FrontAt, one}
+use Rattle.value_scanning.proofs.ArrayFronts.{one_stands}
+use Rattle.value_scanning.proofs.SoFar.{starts, goes_on, ends}
 use Rattle.layer_scanning.proofs.features.features_behind.Goals as goal
 
 pub features-init : goal.features-init

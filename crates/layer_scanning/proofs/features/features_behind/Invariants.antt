@@ -1,6 +1,6 @@
 use Rattle.geojson_model.specs.Features.{feature_element}
-use Rattle.geometry_scanning.specs.Fronts.{FrontAt, one}
-use Rattle.geometry_scanning.proofs.SoFar.{SoFar}
+use Rattle.value_scanning.specs.Fronts.{FrontAt, one}
+use Rattle.value_scanning.proofs.SoFar.{SoFar}
 use Rattle.layer_scanning.proofs.features.features_behind.Given as goal
 
 abbrev pub invariant-features : goal.invariant-features

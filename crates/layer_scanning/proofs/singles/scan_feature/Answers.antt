@@ -1,5 +1,5 @@
 use Rattle.std.proofs.Common.{sym, ◌∙◌}
-use Rattle.geometry_scanning.proofs.Texts.{empty_is}
+use Rattle.value_scanning.proofs.Texts.{empty_is}
 use Rattle.layer_scanning.proofs.SingleMeans.{feature_spells}
 use Rattle.layer_scanning.proofs.singles.scan_feature.Goals as goal
 

@@ -1,7 +1,7 @@
 use Rattle.std.proofs.Common.{refl, sym, ◌∙◌, arith}
 use Rattle.std.proofs.lemmas.Result.{IfOk-weaker}
 use Rattle.json_value.specs.Text.{json_text}
-use Rattle.decimal_json.specs.Reading.{member_at, value_at}
+use Rattle.json_value.specs.Reading.{member_at, value_at}
 use Rattle.properties_scanning.specs.Copying.{any, whole_member}
 use Rattle.properties_scanning.proofs.Copied.{null_copied, true_copied, false_copied, string_copied, number_value_copied, array_copied, object_copied, member_copied}
 use Rattle.properties_scanning.proofs.Lists.{starts, goes_on, ends, none_copied, some_copied}

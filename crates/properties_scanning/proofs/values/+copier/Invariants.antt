@@ -1,6 +1,6 @@
 use Rattle.std.proofs.Common.{length, ◌+◌, ◌*◌}
 use Rattle.json_value.specs.Text.{json_text}
-use Rattle.decimal_json.specs.Reading.{member_at, value_at}
+use Rattle.json_value.specs.Reading.{member_at, value_at}
 use Rattle.properties_scanning.specs.Copying.{any, whole_member}
 use Rattle.properties_scanning.proofs.Lists.{SoFar}
 use Rattle.properties_scanning.proofs.values.+copier.Given as goal

@@ -5,7 +5,7 @@ use Rattle.topojson_reading.proofs.Repeating.{names_of, Knows}
 use Rattle.topojson_reading.proofs.objects.members_before_repeat.Given as goal
 
 abbrev pub invariant-members : goal.invariant-members
-invariant-members l = record {
+invariant-members g l = record {
   names : List (List ℕ);
   known : Knows l.met names;
   counted : names_before_repeat [] (names_of l.members) ≡ names_before_repeat names (names_of (drop l.index l.members)) + l.index;

@@ -1,5 +1,5 @@
 use Rattle.std.proofs.Common.{sym, ◌∙◌}
-use Rattle.geometry_scanning.proofs.Texts.{empty_is}
+use Rattle.value_scanning.proofs.Texts.{empty_is}
 use Rattle.topology_scanning.proofs.TopologyMeans.{parts_spelled}
 use Rattle.topology_scanning.proofs.topologies.parts_on.Goals as goal
 

@@ -1,6 +1,6 @@
 use Rattle.geojson_model.specs.Polygons.{polygon}
-use Rattle.geometry_scanning.specs.Fronts.{Front}
-use Rattle.geometry_scanning.proofs.ArrayFronts.{some_one_stands}
+use Rattle.value_scanning.specs.Fronts.{Front}
+use Rattle.value_scanning.proofs.ArrayFronts.{some_one_stands}
 use Rattle.geometry_scanning.proofs.lines.ItemsRingElement.scan.Goals as goal
 
 pub returns : goal.returns

@@ -1,6 +1,6 @@
 use Rattle.geojson_model.specs.Coordinates.{position}
-use Rattle.geometry_scanning.specs.Fronts.{Front}
-use Rattle.geometry_scanning.proofs.ArrayFronts.{one_stands}
+use Rattle.value_scanning.specs.Fronts.{Front}
+use Rattle.value_scanning.proofs.ArrayFronts.{one_stands}
 use Rattle.geometry_scanning.proofs.positions.PositionElement.scan.Goals as goal
 
 pub returns-in-Ok : goal.returns-in-Ok

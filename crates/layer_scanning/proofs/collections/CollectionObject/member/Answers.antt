@@ -1,6 +1,6 @@
 use Rattle.std.proofs.Common.{sym, ap, ◌∙◌}
 use Rattle.std.specs.Prelude.{codes, bytes_eq}
-use Rattle.geometry_scanning.proofs.Texts.{no_some}
+use Rattle.value_scanning.proofs.Texts.{no_some}
 use Rattle.layer_scanning.proofs.CollectionMeans.{take_type, take_features, take_foreign}
 use Rattle.layer_scanning.proofs.collections.CollectionObject.member.Goals as goal
 

@@ -1,6 +1,6 @@
 use Rattle.std.proofs.Common.{sym, ap, ◌∙◌}
 use Rattle.std.specs.Prelude.{codes, bytes_eq}
-use Rattle.geometry_scanning.proofs.Texts.{no_some}
+use Rattle.value_scanning.proofs.Texts.{no_some}
 use Rattle.layer_scanning.proofs.FeatureMembers.{take_shape, take_properties, take_type, take_id, take_foreign}
 use Rattle.layer_scanning.proofs.features.PartsObject.member.Goals as goal
 

@@ -1,6 +1,6 @@
 use Rattle.std.proofs.Common.{sym, ap, ◌∙◌}
 use Rattle.std.specs.Prelude.{codes, bytes_eq}
-use Rattle.geometry_scanning.proofs.Texts.{no_some}
+use Rattle.value_scanning.proofs.Texts.{no_some}
 use Rattle.topology_scanning.proofs.MemberParts.{take_arcs, take_objects, take_transform, take_type, take_foreign}
 use Rattle.topology_scanning.proofs.members.PartsObject.member.Goals as goal
 

@@ -1,0 +1,2 @@
+pub mod CellParts
+pub mod ArcParts

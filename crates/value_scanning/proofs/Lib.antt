@@ -1,0 +1,10 @@
+pub mod BehindLists
+pub mod ArrayFronts
+pub mod ObjectFronts
+pub mod SoFar
+pub mod InTurn
+pub mod Words
+pub mod MembersSoFar
+pub mod Named
+pub mod Texts
+pub mod Wider

@@ -1,3 +1,4 @@
 pub mod Copied
 pub mod Lists
 pub mod Quoted
+pub mod Texts

@@ -14,6 +14,9 @@ use Rattle.geojson_model.specs.Members.{find, lookup_fault, named, type_name}
 use Rattle.geojson_model.specs.Reader.{Reader, ◌>>=◌, give, pure, if_some}
 use Rattle.value_scanning.specs.Fronts.{FrontAt, MemberFront, Stands}
 use Rattle.value_scanning.proofs.ObjectFronts.{object_value}
+use Rattle.list_laws.specs.Lists.{map_some}
+use Rattle.feature_properties.specs.Members.{Members}
+use Rattle.properties_scanning.specs.Fronts.{properties_value}
 use Rattle.layer_scanning.specs.declared.features.Parts.{Parts}
 use Rattle.layer_scanning.specs.FeatureParts.{given, IsShape, Holds}
 use Rattle.value_scanning.specs.MemberLists.{ReadsMembers}
@@ -67,20 +70,26 @@ element_is : (exact : Bool) (ms : List (List ℕ × Json)) (f : Featured) (c new
 unfolding feature_element type_name
 element_is exact ms f c new typed means = simp (object_kinds, typed, text_kinds) means
 
-members_are : (exact : Bool) (ms : List (List ℕ × Json)) (parts : Parts) (id : Option Id) (ps : Option (List (List ℕ × Json))) (c new : Counts) → Holds exact ms parts c new → parts.typed ≡ true → identifier parts.id ≡ Ok id
-    → members_if parts.properties ≡ Ok ps → feature_element exact (j.Object ms) c ≡ Ok (record { id = id; properties = ps; shape = given parts.shape }, new)
-unfolding feature
-members_are exact ms parts id ps c new h typed id_is ps_are =
-    let s = shape_found exact ms parts.shape c new h.shape in
-    element_is exact ms _ c new (rw typed at h.type)
-    (feature_is exact (find (codes "id") ms) (find (codes "properties") ms) (find (codes "geometry") ms) parts.id parts.properties s.value id ps (given parts.shape) c new
-    (found_is lookup_fault (codes "id") ms parts.id h.id) (found_is lookup_fault (codes "properties") ms parts.properties h.properties) s.found id_is ps_are s.means)
+properties_are : (p : Option (Option Members)) → members_if (map_some properties_value p) ≡ Ok (given p)
+properties_are None = refl
+properties_are (Some None) = simp j.outs-Null refl
+properties_are (Some (Some ms)) = simp j.outs-Object refl
 
-pub feature_stands : (exact : Bool) (bytes inside end : List ℕ) (parts : Parts) (id : Option Id) (ps : Option (List (List ℕ × Json))) (c new : Counts) → bytes ≡ 123 ∷ inside
-    → ReadsMembers (MemberFront 124) (Holds exact) (record { typed = false; id = None; properties = None; shape = None }) parts inside end c new → parts.typed ≡ true → identifier parts.id ≡ Ok id → members_if parts.properties ≡ Ok ps
-    → Stands (FrontAt 125) (feature_element exact) bytes (record { id = id; properties = ps; shape = given parts.shape }) end c new
-feature_stands exact bytes inside end parts id ps c new opens r typed id_is ps_are = record {
+members_are : (exact : Bool) (ms : List (List ℕ × Json)) (parts : Parts) (id : Option Id) (c new : Counts) → Holds exact ms parts c new → parts.typed ≡ true → identifier parts.id ≡ Ok id
+    → feature_element exact (j.Object ms) c ≡ Ok (record { id = id; properties = given parts.properties; shape = given parts.shape }, new)
+unfolding feature
+members_are exact ms parts id c new h typed id_is =
+    let s = shape_found exact ms parts.shape c new h.shape in
+    let p : Option Json = map_some properties_value parts.properties in
+    element_is exact ms _ c new (rw typed at h.type)
+    (feature_is exact (find (codes "id") ms) (find (codes "properties") ms) (find (codes "geometry") ms) parts.id p s.value id (given parts.properties) (given parts.shape) c new
+    (found_is lookup_fault (codes "id") ms parts.id h.id) (found_is lookup_fault (codes "properties") ms p h.properties) s.found id_is (properties_are parts.properties) s.means)
+
+pub feature_stands : (exact : Bool) (bytes inside end : List ℕ) (parts : Parts) (id : Option Id) (c new : Counts) → bytes ≡ 123 ∷ inside
+    → ReadsMembers (MemberFront 124) (Holds exact) (record { typed = false; id = None; properties = None; shape = None }) parts inside end c new → parts.typed ≡ true → identifier parts.id ≡ Ok id
+    → Stands (FrontAt 125) (feature_element exact) bytes (record { id = id; properties = given parts.properties; shape = given parts.shape }) end c new
+feature_stands exact bytes inside end parts id c new opens r typed id_is = record {
   value = j.Object (r.first ∷ r.others);
   front = object_value 125 bytes inside r.first r.between r.others end (omega arith) opens r.front r.behind;
-  means = members_are exact (r.first ∷ r.others) parts id ps c new (r.holds c (nothing_held exact c)) typed id_is ps_are;
+  means = members_are exact (r.first ∷ r.others) parts id c new (r.holds c (nothing_held exact c)) typed id_is;
 }

@@ -20,6 +20,8 @@ use Rattle.geojson_model.proofs.Proper.{object_proper}
 use Rattle.geojson_model.proofs.Unrolled.{shape_object, shape_other}
 use Rattle.value_scanning.specs.Fronts.{any, Front, FrontAt, MemberFront, NamedValue, Stands}
 use Rattle.value_scanning.proofs.Words.{member_is, word_named, word_value}
+use Rattle.feature_properties.specs.Members.{Members}
+use Rattle.properties_scanning.specs.Fronts.{properties_value}
 use Rattle.layer_scanning.specs.declared.features.Parts.{Parts}
 use Rattle.layer_scanning.specs.FeatureParts.{geometry_member, given, IsShape, Holds}
 use Rattle.value_scanning.specs.MemberLists.{TakesMember}
@@ -95,12 +97,12 @@ module _ (exact : Bool) (ms : List (List ℕ × Json)) (parts : Parts) (start ol
     shape = shape_stays _ refl;
   }
 
-  pub more_properties : (v : Json) → parts.properties ≡ None → Holds exact (ms ++ (codes "properties", v) ∷ []) (record parts { properties = Some v }) start old
+  pub more_properties : (x : Option Members) → parts.properties ≡ None → Holds exact (ms ++ (codes "properties", properties_value x) ∷ []) (record parts { properties = Some x }) start old
   unfolding named
-  more_properties v fresh = record {
+  more_properties x fresh = record {
     type = other_named (codes "type") ms _ _ h.type refl;
     id = other_named (codes "id") ms _ _ h.id refl;
-    properties = first_named (codes "properties") ms _ v (rw fresh at h.properties) refl;
+    properties = first_named (codes "properties") ms _ (properties_value x) (rw fresh at h.properties) refl;
     shape = shape_stays _ refl;
   }
 
@@ -135,12 +137,12 @@ module _ (exact : Bool) (bytes front rest : List ℕ) (parts : Parts) (old : Cou
     holds = λ ms start h. more_shape exact ms parts start old h s.value x new fresh s.means;
   }
 
-  pub take_properties : (v : Json) → NamedValue (codes "\"properties\"") bytes front → parts.properties ≡ None → value_at any 124 front ≡ Some (v, rest)
-      → TakesMember (MemberFront 124) (Holds exact) parts (record parts { properties = Some v }) bytes rest old old
-  take_properties v named fresh found = record {
-    member = (codes "properties", v);
-    front = member_is 124 (codes "\"properties\"") (codes "properties") bytes front v rest (λ more. word_named (codes "properties") more refl) named found;
-    holds = λ ms start h. more_properties exact ms parts start old h v fresh;
+  pub take_properties : (x : Option Members) → NamedValue (codes "\"properties\"") bytes front → parts.properties ≡ None → value_at any 124 front ≡ Some (properties_value x, rest)
+      → TakesMember (MemberFront 124) (Holds exact) parts (record parts { properties = Some x }) bytes rest old old
+  take_properties x named fresh found = record {
+    member = (codes "properties", properties_value x);
+    front = member_is 124 (codes "\"properties\"") (codes "properties") bytes front (properties_value x) rest (λ more. word_named (codes "properties") more refl) named found;
+    holds = λ ms start h. more_properties exact ms parts start old h x fresh;
   }
 
   pub take_id : (v : Json) → NamedValue (codes "\"id\"") bytes front → parts.id ≡ None → value_at any 124 front ≡ Some (v, rest)

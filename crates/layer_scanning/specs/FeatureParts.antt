@@ -8,6 +8,8 @@ use Rattle.geojson_model.specs.Features.{members_if}
 use Rattle.geojson_model.specs.Geometries.{geometry}
 use Rattle.geojson_model.specs.Members.{named}
 use Rattle.geojson_model.specs.Reader.{Reader, ◌>>=◌, pure, if_some}
+use Rattle.list_laws.specs.Lists.{map_some}
+use Rattle.properties_scanning.specs.Fronts.{properties_value}
 use Rattle.layer_scanning.specs.declared.features.Parts.{Parts}
 
 -- the shape that the value of the member `geometry` gives
@@ -25,10 +27,10 @@ IsShape exact vs (Some x) old new = (v : Json) × (vs ≡ v ∷ []) × (geometry
 pub record Holds (exact : Bool) (ms : List (List ℕ × Json)) (parts : Parts) (old new : Counts) : Type 0 where
   pub type : named (codes "type") ms ≡ cond parts.typed (j.Text (codes "Feature") ∷ []) []
   pub id : named (codes "id") ms ≡ option_to_list parts.id
-  pub properties : named (codes "properties") ms ≡ option_to_list parts.properties
+  pub properties : named (codes "properties") ms ≡ option_to_list (map_some properties_value parts.properties)
   pub shape : IsShape exact (named (codes "geometry") ms) parts.shape old new
 
--- the shape, if there is one
-abbrev pub given : Option (Option Shape) → Option Shape
+-- what a member gives, if there is one
+abbrev pub given : {A : Type 0} → Option (Option A) → Option A
 given None = None
 given (Some x) = x

@@ -6,10 +6,11 @@ ghost use Rattle.value_scanning.specs.Fronts.{FrontAt, MemberFront, MoreStand, S
 ghost use Rattle.layer_scanning.specs.FeatureParts.{Holds, geometry_member, given};
 
 use decimal_json::{after_word, member_at, skip, value_at};
-use geojson_model::{identifier, members_if, read_shape};
+use geojson_model::{identifier, read_shape};
 use geojson_types::{Counts, Feature, Properties, Shape};
 use geometry_scanning::geometry_at;
 use json_value::Json;
+use properties_scanning::properties_at;
 use std::alloc::Global;
 use unit_scanning::{Halt, after_byte};
 use value_scanning::{Object, members_at, named_value, opened};
@@ -44,12 +45,12 @@ fn shape_at<'a>(
     }
 }
 
-/// What was read of a feature's members: whether its type was, and the values of the others.
+/// What was read of a feature's members: whether its type was, and what the others give.
 #[derive(Drop)]
 pub struct Parts {
     typed: bool,
     id: Option<Json>,
-    properties: Option<Json>,
+    properties: Option<Option<Properties>>,
     shape: Option<Option<Shape>>,
 }
 
@@ -77,8 +78,8 @@ impl Object for Parts {
             if self.properties.is_some() {
                 return Err(Halt::Unread);
             }
-            let (value, rest) = value_at(alloc, MEMBER_DEPTH, front)?;
-            self.properties = Some(value);
+            let (properties, rest) = properties_at(alloc, MEMBER_DEPTH, front)?;
+            self.properties = Some(properties);
             return Ok(rest);
         }
         if let Some(front) = named_value(b"\"type\"", bytes) {
@@ -117,13 +118,13 @@ impl Object for Parts {
     }
 }
 
-/// The shape, if there is one.
-fn shape_of(shape: Option<Option<Shape>>) -> Option<Shape>
-    ensures { result ≡ given shape }
+/// What a member gives, if there is one.
+fn given<T: Drop>(member: Option<Option<T>>) -> Option<T>
+    ensures { result ≡ given member }
 {
-    match shape {
+    match member {
         None => None,
-        Some(shape) => shape,
+        Some(value) => value,
     }
 }
 
@@ -150,11 +151,9 @@ pub fn feature_at<'a>(
     let Ok(id) = identifier(parts.id) else {
         return Err(Halt::Unread);
     };
-    let Ok(properties) = members_if(parts.properties) else {
-        return Err(Halt::Unread);
-    };
-    let properties = Properties::of_option(properties);
-    Ok((Feature::of(id, properties, shape_of(parts.shape)), rest))
+    let properties = given(parts.properties);
+    let shape = given(parts.shape);
+    Ok((Feature::of(id, properties, shape), rest))
 }
 
 /// The features up to the bracket that closes, behind those that were read before, and what follows it.

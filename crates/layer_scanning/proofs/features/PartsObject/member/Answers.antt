@@ -8,13 +8,13 @@ pub returns-in-Some : goal.returns-in-Some
 returns-in-Some c = take_shape c.args.exact c.args.bytes.now _ _ c.args.self.now c.args.counts.now _ _ c.in-Some.ensures (no_some _ (sym c.is_some.ensures ∙ c.if-is_some.false)) c.in_ok-shape.ensures
 
 pub returns-in-Some-named_value : goal.returns-in-Some-named_value
-returns-in-Some-named_value c = take_properties c.args.exact c.args.bytes.now _ _ c.args.self.now c.args.counts.now _ c.in-Some-named_value.ensures (no_some _ (sym c.is_some-in-Some-named_value.ensures ∙ c.if-is_some-2.false)) c.in_ok-value.ensures
+returns-in-Some-named_value c = take_properties c.args.exact c.args.bytes.now _ _ c.args.self.now c.args.counts.now _ c.in-Some-named_value.ensures (no_some _ (sym c.is_some-in-Some-named_value.ensures ∙ c.if-is_some-2.false)) c.in_ok-properties.ensures
 
 pub returns-in-Some-named_value-2 : goal.returns-in-Some-named_value-2
 returns-in-Some-named_value-2 c = take_type c.args.exact c.args.bytes.now _ _ c.args.self.now c.args.counts.now c.in-Some-named_value-2.ensures c.if-self.false c.in-Some-after_word.ensures
 
 pub returns-in-Some-named_value-3 : goal.returns-in-Some-named_value-3
-returns-in-Some-named_value-3 c = take_id c.args.exact c.args.bytes.now _ _ c.args.self.now c.args.counts.now _ c.in-Some-named_value-3.ensures (no_some _ (sym c.is_some-in-Some-named_value-3.ensures ∙ c.if-is_some-3.false)) c.in_ok-value-2.ensures
+returns-in-Some-named_value-3 c = take_id c.args.exact c.args.bytes.now _ _ c.args.self.now c.args.counts.now _ c.in-Some-named_value-3.ensures (no_some _ (sym c.is_some-in-Some-named_value-3.ensures ∙ c.if-is_some-3.false)) c.in_ok-value.ensures
 
 pub returns : goal.returns
 returns c = take_foreign c.args.exact c.args.bytes.now _ c.in_ok-name.name c.in_ok-name._value c.args.self.now c.args.counts.now c.in_ok-name.ensures (ap (λ z. bytes_eq z (codes "geometry")) (sym c.as_str-name.ensures.text) ∙ sym c.eq.ensures ∙ c.if-eq.false) (ap (λ z. bytes_eq z (codes "properties")) (sym c.as_str-name.ensures.text) ∙ sym c.eq-2.ensures ∙ c.if-eq-2.false) (ap (λ z. bytes_eq z (codes "type")) (sym c.as_str-name.ensures.text) ∙ sym c.eq-3.ensures ∙ c.if-eq-3.false) (ap (λ z. bytes_eq z (codes "id")) (sym c.as_str-name.ensures.text) ∙ sym c.eq-4.ensures ∙ c.if-eq-4.false)

@@ -22,7 +22,7 @@ use Rattle.junctions.specs.declared.vertex.Note.{Note}
 use Rattle.junctions.specs.declared.vertex.Vertex.{Vertex}
 use Rattle.junctions.specs.Cleaning.{IsCleanList, AllClean}
 use Rattle.junctions.specs.Visits.{Visit, visits_from, inner_visits, neighbors, first_seen, positions, last, is_end, ends_open, is_turn, is_junction, is_position_of}
-use Rattle.junctions.specs.Notes.{equal, with_neighbors, beside, is_back, known, noted, after, touch, pass, line_notes, notes_of, all_notes, with_position, heres, Takes, IsTable, vertex_at, at_junction}
+use Rattle.junctions.specs.Notes.{equal, with_neighbors, beside, is_back, known, noted, after, touch, pass, line_notes, notes_of, all_notes, with_position, heres, Takes, IsKnown, IsTable, vertex_at, at_junction}
 use Rattle.junctions.proofs.Cleaned.{same_sym}
 use Rattle.junctions.proofs.Numbering.{positions_append, seen_in_order}
 use Rattle.junctions.proofs.Settled.{two_settled}
@@ -57,16 +57,23 @@ module _ {S : Type 0} where
   unfolding same
   keys_stay m p h = ap (λ b. cond b (keys m) (keys m ++ (p ∷ []))) (sym (sym (is_some-lookup (equal p) m.entries) ∙ h))
 
-  -- one note at a position that is known
-  pub takes_known : (m : IndexMap Point Vertex S) (i : ℕ) (x : Note) (p : Point) (v w : Vertex) → IsUnique equal m → slice_get m.entries i ≡ Some (p, v) →
-      Some p ≡ get_key_by (equal x.here) m → Some v ≡ get equal m x.here → w ≡ noted v x → Takes m (with_value_at m i w) (x ∷ [])
+  -- a position that is the same as that of an entry
+  pub known_is : (m : IndexMap Point Vertex S) (p q : Point) (i : ℕ) (v : Vertex) → same q p ≡ true → slice_get m.entries i ≡ Some (q, v) → get equal m q ≡ Some v → IsKnown m p i v
+  known_is m p q i v h at e = subst (λ x. IsKnown m x i v) (same_is q p h) (record { entry = at; value = e })
+
+  -- a position that is found
+  pub stored_is : (m : IndexMap Point Vertex S) (p q : Point) (i : ℕ) (v : Vertex) → slice_get m.entries i ≡ Some (q, v) → Some q ≡ get_key_by (equal p) m → Some v ≡ get equal m p → IsKnown m p i v
   unfolding same
-  takes_known m i x p v w unique at k e n =
-      let same : x.here ≡ p = same_is x.here p (lookup_key_passes (equal x.here) m.entries p (sym k)) in
-      let u = (updates-with_value_at m i w equal_laws unique x.here v (at ∙ ap (λ q. Some (q, v)) (sym same))).0 in
+  stored_is m p q i v at k e =
+      record { entry = at ∙ ap (λ x. Some (x, v)) (sym (same_is p q (lookup_key_passes (equal p) m.entries q (sym k)))); value = sym e }
+
+  -- one note at a position that is known
+  pub takes_known : (m : IndexMap Point Vertex S) (i : ℕ) (x : Note) (v w : Vertex) → IsUnique equal m → IsKnown m x.here i v → w ≡ noted v x → Takes m (with_value_at m i w) (x ∷ [])
+  takes_known m i x v w unique k n =
+      let u = (updates-with_value_at m i w equal_laws unique x.here v k.entry).0 in
       takes_one m (with_value_at m i w) x
-      (λ q. u q ∙ ap (λ y. cond (equal x.here q) (Some y) (get equal m q)) (n ∙ ap (λ o. noted (known o) x) e))
-      (keys-with_value_at m i w ∙ keys_stay m x.here (subst (λ o. IsSome o) e (λ i. true)))
+      (λ q. u q ∙ ap (λ y. cond (equal x.here q) (Some y) (get equal m q)) (n ∙ ap (λ o. noted (known o) x) (sym k.value)))
+      (keys-with_value_at m i w ∙ keys_stay m x.here (subst (λ o. IsSome o) (sym k.value) (λ i. true)))
 
   -- some notes and then more
   pub takes_then : (l m n : IndexMap Point Vertex S) (ns ms : List Note) → Takes l m ns → Takes m n ms → Takes l n (ns ++ ms)

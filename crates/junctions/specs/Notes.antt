@@ -1,5 +1,5 @@
 -- What is noted of each position while the lines are read.
-use Rattle.std.specs.Prelude.{◌≡◌, Bool, true, false, not, ◌||◌, ◌&&◌, List, [], ◌∷◌, ◌++◌, map, Option, None, Some, if◌then◌else◌}
+use Rattle.std.specs.Prelude.{◌≡◌, ℕ, Bool, true, false, not, ◌||◌, ◌&&◌, List, [], ◌∷◌, ◌++◌, map, slice_get, Option, None, Some, if◌then◌else◌}
 use Rattle.std.specs.List.{flat_map, list_any, list_all}
 use Rattle.std.specs.Ordering.{int_eq}
 use Rattle.indexmap.specs.IndexMap.{IndexMap, get, keys}
@@ -105,6 +105,11 @@ heres ns = map (λ n. n.here) ns
 pub record Takes {S : Type 0} (old new : IndexMap Point Vertex S) (ns : List Note) : Type 0 where
   pub known : (p : Point) → get equal new p ≡ after (get equal old p) ns p
   pub order : keys new ≡ with_positions (keys old) (heres ns)
+
+-- the position stands in the table at this index, and this is known of it
+pub record IsKnown {S : Type 0} (m : IndexMap Point Vertex S) (p : Point) (i : ℕ) (v : Vertex) : Type 0 where
+  pub entry : slice_get m.entries i ≡ Some (p, v)
+  pub value : get equal m p ≡ Some v
 
 -- what the lines say of a position; whether it is the least of a ring without a junction, is given
 abbrev pub vertex_of : List Stroke → (Point → Bool) → Point → Vertex

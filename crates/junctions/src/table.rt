@@ -1,5 +1,5 @@
 // The table of the positions of lines.
-ghost use Rattle.std.specs.Prelude.{◌≡◌, ◌<◌, ◌≤◌, IfOk, OnOk, Some, [], ◌∷◌, ◌&&◌, false, length, map, sum_by};
+ghost use Rattle.std.specs.Prelude.{◌≡◌, ◌<◌, ◌≤◌, IfNone, IfOk, IfSome, OnOk, None, Some, [], ◌∷◌, ◌&&◌, false, length, map, sum_by};
 ghost use Rattle.std.specs.List.{list_any};
 ghost use Rattle.std.specs.Option.{option_copied};
 ghost use Rattle.indexmap.specs.IndexMap.{get, keys};
@@ -10,7 +10,7 @@ ghost use Rattle.junctions.specs.Cleaning.{AllClean};
 ghost use Rattle.junctions.specs.Cuts.{starts_free_ring};
 ghost use Rattle.junctions.specs.Visits.{first_seen, inner_visits, positions};
 ghost use Rattle.junctions.specs.Notes as spec;
-ghost use Rattle.junctions.specs.Notes.{equal, pass, notes_of, Takes, IsTable, flagged, at_junction_option, is_cut_option};
+ghost use Rattle.junctions.specs.Notes.{equal, pass, notes_of, Takes, IsKnown, IsTable, flagged, at_junction_option, is_cut_option};
 
 use crate::stroke::Stroke;
 use crate::vertex::{Note, Vertex, noted};
@@ -117,18 +117,57 @@ fn place_of(index: usize) -> u32 {
     u32::try_from(index).unwrap_or(u32::MAX)
 }
 
+// What is known of the position, and its index in the table, if it stands at this place.
+fn known_at(table: &PositionTable, place: usize, p: Position) -> Option<(usize, Vertex)>
+    ensures { IfSome result (λ x. IsKnown table.now p x.0 x.1) }
+{
+    let (known, vertex) = table.get_index(place)?;
+    if is_same(*known, p) {
+        Some((place, *vertex))
+    } else {
+        None
+    }
+}
+
+// The same, wherever it stands.
+fn known_in(table: &PositionTable, p: Position) -> Option<(usize, Vertex)>
+    ensures known { IfSome result (λ x. IsKnown table.now p x.0 x.1) }
+    ensures absent { IfNone result (get equal table.now p ≡ None) }
+{
+    let (place, _, vertex) = table.get_full(&p)?;
+    Some((place, *vertex))
+}
+
+// What is known of the position, and its index in the table. It is looked for at the places beside that of the visit before first: where lines run
+// along each other, they pass the same positions in the same order, or in the opposite one.
+fn known_beside(table: &PositionTable, before: Option<&u32>, p: Position) -> Option<(usize, Vertex)>
+    ensures known { IfSome result (λ x. IsKnown table.now p x.0 x.1) }
+    ensures absent { IfNone result (get equal table.now p ≡ None) }
+{
+    if let Some(before) = before {
+        let before = *before as usize;
+        if let Some(found) = known_at(table, before.wrapping_sub(1), p) {
+            return Some(found);
+        }
+        if let Some(found) = known_at(table, before.wrapping_add(1), p) {
+            return Some(found);
+        }
+    }
+    known_in(table, p)
+}
+
 // Takes a note.
 fn note(table: &mut PositionTable, places: &mut Places, note: Note) -> Result<(), Memory>
     ensures { OnOk result (Takes table.old table.new (note ∷ [])) }
 {
     let here = note.here;
-    let Some((place, _, vertex)) = table.get_full(&here) else {
+    let Some((place, vertex)) = known_beside(table, places.as_slice().last(), here) else {
         places.push(place_of(table.len()))?;
         table.insert(here, noted(Vertex::new(), note))?;
         return Ok(());
     };
     places.push(place_of(place))?;
-    let now = noted(*vertex, note);
+    let now = noted(vertex, note);
     if let Some(vertex) = table.get_index_mut(place) {
         *vertex = now;
     }
@@ -194,10 +233,8 @@ fn vertex_near(table: &PositionTable, place: Option<&u32>, p: Position) -> Optio
     ensures { result ≡ get equal table.now p }
 {
     if let Some(place) = place {
-        if let Some((known, vertex)) = table.get_index(*place as usize) {
-            if is_same(*known, p) {
-                return Some(*vertex);
-            }
+        if let Some((_, vertex)) = known_at(table, *place as usize, p) {
+            return Some(vertex);
         }
     }
     table.get(&p).copied()

@@ -18,5 +18,5 @@ returns-in_default c =
 
 pub returns-in-Some-get_index_mut : goal.returns-in-Some-get_index_mut
 returns-in-Some-get_index_mut c =
-    takes_known c.args.table.now c.in-Some.place c.args.note c.in-Some.field-0-1.now c.in-Some.vertex.now c.noted-now.result
-    c.get_index_mut.ensures.unique c.in-Some.ensures.entry c.in-Some.ensures.key c.in-Some.ensures.value c.noted-now.ensures
+    takes_known c.args.table.now c.in-Some.place c.args.note c.in-Some.vertex c.noted-now.result
+    c.get_index_mut.ensures.unique c.in-Some.ensures.known c.noted-now.ensures

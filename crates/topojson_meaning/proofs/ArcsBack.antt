@@ -1,5 +1,5 @@
 -- The cells and arcs that are written are read back.
-use Rattle.std.proofs.Common.{◌≡◌, ℕ, ℤ, ◌≤◌, List, [], ◌∷◌, map, Option, None, Some, Ok, refl, ap, ◌∙◌, arith, ◌+ℤ◌, ◌-ℤ◌, pos}
+use Rattle.std.proofs.Common.{◌≡◌, ℕ, ℤ, ◌≤◌, List, [], ◌∷◌, map, Option, None, Some, Ok, refl, arith, rules}
 use Rattle.std.specs.Prelude.{unsigned_abs}
 use Rattle.std.specs.List.{AllByRecursion}
 use Rattle.std.proofs.lemmas.Bool.{le-leb}
@@ -17,9 +17,9 @@ use Rattle.topojson_types.specs.Validity.{IsPlace, IsArc}
 use Rattle.topojson_types.specs.Values.{Members, number_value, cell_places, cell_value, written_cells, arc_value, arcs_value}
 use Rattle.topojson_types.proofs.Grids.{is_within-both}
 use Rattle.topojson_types.proofs.SumsBack.{moved_there}
-use Rattle.topojson_meaning.specs.Arcs.{number_text, units, elements_position, position, grid_number, grid_cell, elements_cell, cell, difference_limit, cells_behind, elements_place, place, arc_cells, as_arc, arc, arc_list}
+use Rattle.topojson_meaning.specs.Arcs.{number_text, units, elements_position, position, grid_number, grid_cell, elements_cell, cell, difference_limit, cells_behind, elements_place, place, arc_cells, arc, arc_list}
 use Rattle.topojson_meaning.specs.Members.{elements, members}
-use Rattle.topojson_meaning.specs.Reader.{◌>>=◌, each}
+use Rattle.topojson_meaning.specs.Reader.{each}
 use Rattle.topojson_meaning.proofs.Steps.{Gives, then_gives, pure_gives, each_gives}
 
 -- ---- kinds of values
@@ -68,14 +68,10 @@ cell_stays t c h = rw (is_within-both grid_limit c h.0.0 h.0.1, is_within-both p
 elements_cell_back : (t : Transform) (bound : ℕ) (before c d : Point) → bound ≤ difference_limit → IsWithin bound d → moved before d ≡ c → IsPlace (Some t) c
     → Gives (elements_cell t bound before (numbers (Some t) d)) c
 unfolding elements_cell
-elements_cell_back t bound before c d small h is ok counts =
-    rw (number_is_text (units_text d.x 0), number_is_text (units_text d.y 0), whole_back bound d.x small h.0, whole_back bound d.y small h.1, ap (grid_cell t) is ∙ cell_stays t c ok) refl
+elements_cell_back t bound before c d small h is ok counts = grind (arith, number_is_text, whole_back, cell_stays)
 
 near : (p q : Point) → IsWithin grid_limit p → IsWithin grid_limit q → IsWithin difference_limit (difference p q)
-near p q h k = (apart p.x q.x h.0 k.0, apart p.y q.y h.1 k.1)
-  where
-    apart : (a b : ℤ) → unsigned_abs a ≤ grid_limit → unsigned_abs b ≤ grid_limit → unsigned_abs (b -ℤ a) ≤ difference_limit
-    apart a b h k = omega (arith, ints)
+near p q h k = grind (arith, ints)
 
 difference_back : (t : Transform) (before p : Point) → IsWithin grid_limit before → IsPlace (Some t) p → Gives (cell t difference_limit before (cell_value (Some t) (difference before p))) p
 unfolding cell
@@ -94,13 +90,7 @@ behind_back t before (c ∷ cs) h all counts = rw (difference_back t before c h 
 -- ---- places
 
 from_origin : (p : Point) → moved origin p ≡ p
-from_origin p = ap (λ x. point_of x (pos 0 +ℤ p.y)) (none p.x) ∙ ap (point_of p.x) (none p.y)
-  where
-    point_of : ℤ → ℤ → Point
-    point_of x y = record { x = x; y = y }
-
-    none : (x : ℤ) → pos 0 +ℤ x ≡ x
-    none x = omega (arith, ints)
+from_origin p = grind (arith, ints)
 
 pub elements_place_back : (transform : Option Transform) (p : Point) → IsPlace transform p → Gives (elements_place transform (numbers transform p)) p
 unfolding elements_place
@@ -124,14 +114,8 @@ arc_cells_back (Some t) cs h = behind_back t origin cs (omega arith, omega arith
 
 arc_back : (transform : Option Transform) (cs : List Point) → IsArc transform cs → Gives (arc transform (arc_value transform cs)) cs
 unfolding arc
-arc_back transform cs h =
-    let vs : List Json = map (cell_value transform) (written_cells transform cs) in
-    pure_gives _ (λ ws. arc_cells transform ws >>= as_arc) vs cs (array_elements vs) (then_gives (arc_cells transform vs) as_arc cs cs (arc_cells_back transform cs h.1) long)
-  where
-    long : Gives (as_arc cs) cs
-    long counts = grind (arith, le-leb)
+arc_back transform cs h = search (rules, pure_gives, array_elements, then_gives, arc_cells_back, le-leb)
 
 pub arcs_back : (transform : Option Transform) (arcs : List (List Point)) → AllByRecursion (IsArc transform) arcs → Gives (arc_list transform (arcs_value transform arcs)) arcs
 unfolding arc_list
-arcs_back transform arcs h =
-    pure_gives _ (each (arc transform)) _ arcs (array_elements (map (arc_value transform) arcs)) (each_gives (IsArc transform) (arc_value transform) (arc transform) (arc_back transform) arcs h)
+arcs_back transform arcs h = grind (arith, pure_gives, array_elements, each_gives, arc_back)

@@ -67,13 +67,15 @@ module _ (i : Option Id) (ps : Option Members) (t : Json) (parts : Members) wher
   unfolding named
   id_found e = grind (arith, past_properties)
 
-  properties_found : named (codes "properties") parts ≡ [] → find (codes "properties") (feature_members i ps t parts) ≡ Ok (map_some j.Object ps)
-  unfolding named
-  properties_found e = grind (arith, past_id)
-
   found : AreParts parts → Found i ps t parts
-  unfolding need
-  found h = record { type = type_found h.0; id = id_found h.1; properties = properties_found h.2; others = λ name e f k. ap (λ ts. with_fault lookup_fault (there (only ts))) (past_both name e f k) }
+  unfolding need named
+  found h = record {
+    type = type_found h.0;
+    id = id_found h.1;
+    properties = (grind (arith, past_id));
+    others = λ name e f k. ap
+        (λ ts. with_fault lookup_fault (there (only ts))) (past_both name e f k);
+  }
 
 -- ---- identifiers and properties
 
@@ -92,10 +94,6 @@ properties_back (Some ms) = ap members_in (j.outs-Object ms)
 no_parts : (type : GeometryType) (v : Json) → AreParts ((part_name type, v) ∷ [])
 unfolding named
 no_parts type v = grind (arith, type)
-
-part_found : (i : Option Id) (ps : Option Members) (t : Json) (type : GeometryType) (v : Json) → need (part_name type) (feature_members i ps t ((part_name type, v) ∷ [])) ≡ Ok v
-unfolding need named
-part_found i ps t type v = grind (arith, type, found, no_parts)
 
 -- a feature with this identifier, these properties and a shape that is written so is read back, by its type
 pub record Shaped (transform : Option Transform) (arcs : List (List Point)) (i : Option Id) (ps : Option Members) (x : Option TopoShape) (o : Geometrical) : Type 0 where
@@ -123,6 +121,7 @@ module _ (transform : Option Transform) (arcs : List (List Point)) (long : AllBy
       }
 
   some_shaped : (s : TopoShape) → Parts transform arcs s → Shaped transform arcs i ps (Some s) (geometrical (cell_value transform) s)
+  unfolding need named
   some_shaped s p =
       let parts : Members = (part_name p.type, p.value) ∷ [] in
       let t : Json = j.Text p.name in
@@ -131,7 +130,8 @@ module _ (transform : Option Transform) (arcs : List (List Point)) (long : AllBy
       let at : Shaped transform arcs i ps (Some s) (typed p.name (part_name p.type) p.value) = record {
         type = Some p.type;
         is = named_type ms p.name p.type found.type p.known;
-        reads = feature_reads (Some p.type) ms (Some s) found.id found.properties (typed_back transform arcs long few p.type ms p.value (Some s) (part_found i ps t p.type p.value) p.reads);
+        reads = feature_reads (Some p.type) ms (Some s) found.id found.properties (typed_back transform arcs long few p.type ms p.value
+            (Some s) (grind (arith, p.type, found, no_parts)) p.reads);
         single = p.single;
       } in
       subst (Shaped transform arcs i ps (Some s)) (sym p.is) at

@@ -1,5 +1,5 @@
 -- The lines, rings and polygons that are written are read back.
-use Rattle.std.proofs.Common.{◌≡◌, ℕ, zero, suc, ℤ, ◌<◌, ◌≤◌, Bool, true, false, List, [], ◌∷◌, length, map, Option, Some, None, refl, subst, arith}
+use Rattle.std.proofs.Common.{◌≡◌, ℕ, zero, suc, ℤ, ◌<◌, ◌≤◌, Bool, true, false, List, [], ◌∷◌, length, map, Option, Some, None, refl, arith}
 use Rattle.std.specs.Prelude.{◌^◌, unsigned_abs}
 use Rattle.std.specs.List.{AllByRecursion}
 use Rattle.std.proofs.lemmas.Bool.{lt-ltb}
@@ -17,7 +17,7 @@ use Rattle.geometry.specs.Joins.{number_of, at, or_empty, arc_at, first_of, last
 use Rattle.topojson_types.specs.declared.transform.Transform.{Transform}
 use Rattle.topojson_types.specs.Validity.{IsArc, AreInRange, IsJoined, IsClosed}
 use Rattle.topojson_types.specs.Values.{whole_value, line_value, lines_value}
-use Rattle.topojson_meaning.specs.Lines.{some_elements, index_limit, index, joined_to, indexes_behind, indexes, line_start, line_end, as_ring, line_in, line, ring_in, ring, polygon_in, polygon}
+use Rattle.topojson_meaning.specs.Lines.{some_elements, index_limit, index, joined_to, indexes_behind, indexes, as_ring, line_in, line, ring_in, ring, polygon_in, polygon}
 use Rattle.topojson_meaning.specs.Reader.{if_some, kept}
 use Rattle.topojson_meaning.proofs.ArcsBack.{number_is_text}
 use Rattle.topojson_meaning.proofs.Steps.{Gives, then_gives, kept_gives}
@@ -26,8 +26,7 @@ use Rattle.topojson_meaning.proofs.Steps.{Gives, then_gives, kept_gives}
 
 pub some_elements_back : {A : Type 0} (value : A → Json) (xs : List A) → is_some_list xs ≡ true → Gives (some_elements (j.Array (map value xs))) (Some (map value xs))
 unfolding some_elements
-some_elements_back value [] h c = absurd cc
-some_elements_back value (x ∷ xs) h c = rw (array_of-array (map value (x ∷ xs))) refl
+some_elements_back value xs h c = grind (arith, array_of-array)
 
 -- ---- positions
 
@@ -44,10 +43,6 @@ at_long : (transform : Option Transform) (arcs : List (List Point)) (i : ℕ) �
 at_long transform [] i h lt = absurd (omega arith)
 at_long transform (a ∷ arcs) zero h lt = h.0.0
 at_long transform (a ∷ arcs) (suc i) h lt = at_long transform arcs i h.1 (omega arith)
-
-arc_long : (transform : Option Transform) (arcs : List (List Point)) (i : ℤ) → AllByRecursion (IsArc transform) arcs → number_of i < length arcs → 2 ≤ length (arc_at arcs i)
-unfolding number_of
-arc_long transform arcs i h k = grind (arith, at_long transform, length-reverse)
 
 pub magnitude : (i : ℤ) (n : ℕ) → number_of i < n → n < 2 ^ 63 → unsigned_abs i ≤ index_limit
 unfolding number_of
@@ -73,7 +68,8 @@ FullArea arcs rs = (is_some_list rs ≡ true) × AllByRecursion (Full arcs true)
 
 module _ (transform : Option Transform) (arcs : List (List Point)) (long : AllByRecursion (IsArc transform) arcs) (few : length arcs < 2 ^ 63) where
   starts : (i : ℤ) → number_of i < length arcs → (p : Point) × (first_of (arc_at arcs i) ≡ Some p)
-  starts i h = first_there (arc_at arcs i) (arc_long transform arcs i long h)
+  unfolding number_of
+  starts i h = first_there (arc_at arcs i) (grind (arith, at_long transform, length-reverse))
 
   join_back : (before i : ℤ) → number_of i < length arcs → last_of (arc_at arcs before) ≡ first_of (arc_at arcs i) → Gives (joined_to arcs before i) i
   join_back before i h e c = grind (arith, starts, some_same)
@@ -100,12 +96,7 @@ module _ (transform : Option Transform) (arcs : List (List Point)) (long : AllBy
   end_of i o h = grind arith
 
   close_back : (refs : List ℤ) → AreInRange (length arcs) refs → Closes (map (arc_at arcs) refs) → Gives (as_ring arcs refs) (Some refs)
-  close_back [] h m c = absurd m
-  close_back (i ∷ refs) h m c =
-      let s = starts i h.0 in
-      let e : line_end arcs (i ∷ refs) ≡ first_of (arc_at arcs i) = end_of i (last_of (i ∷ refs)) (subst (Ends (arc_at arcs i)) (last_map (arc_at arcs) (i ∷ refs)) m) in
-      let k : both_same (line_end arcs (i ∷ refs)) (line_start arcs (i ∷ refs)) ≡ true = some_same (line_end arcs (i ∷ refs)) (first_of (arc_at arcs i)) s.0 e s.1 in
-      rw k refl
+  close_back refs h m c = grind (arith, starts, end_of, last_map, some_same)
 
   pub line_in_back : (refs : List ℤ) → Sound arcs (false, refs) → Gives (line_in arcs (map whole_value refs)) (Some refs)
   unfolding line_in
@@ -128,8 +119,7 @@ module _ (transform : Option Transform) (arcs : List (List Point)) (long : AllBy
 
   pub polygon_in_back : (rs : List (List ℤ)) → FullArea arcs rs → Gives (polygon_in arcs (map line_value rs)) (Some rs)
   unfolding polygon_in
-  polygon_in_back [] h c = let e : false ≡ true = h.0 in absurd cc
-  polygon_in_back (r ∷ rs) h c = rw (ring_back r h.1.0 c, kept_gives (Full arcs true) line_value (ring arcs) ring_back rs h.1.1 c) refl
+  polygon_in_back rs h c = grind (arith, ring_back, kept_gives)
 
   polygon_back : (rs : List (List ℤ)) → FullArea arcs rs → Gives (polygon arcs (lines_value rs)) (Some rs)
   unfolding polygon

@@ -29,10 +29,6 @@ FineObject transform arcs (Many fs) = AllByRecursion (FineFeature transform arcs
 module _ (transform : Option Transform) (arcs : List (List Point)) (long : AllByRecursion (IsArc transform) arcs) (few : length arcs < 2 ^ 63) where
   -- ---- one object
 
-  single_back : (f : TopoFeature) → FineFeature transform arcs f → is_single_option f.shape ≡ true → Gives (object transform arcs (feature_value (cell_value transform) f)) (One f)
-  unfolding object single
-  single_back f h e c = grind (arith, shaped transform arcs long few f.id f.properties f.shape h.0.0 h.0.1 h.1, feature_members f.id f.properties, object_members)
-
   features_back : (fs : List TopoFeature) → AllByRecursion (FineFeature transform arcs) fs → Gives (features transform arcs (j.Array (map (feature_value (cell_value transform)) fs))) fs
   unfolding features
   features_back fs h = grind (arith, pure_gives, array_elements, each_gives, FineFeature, feature_back)
@@ -50,7 +46,13 @@ module _ (transform : Option Transform) (arcs : List (List Point)) (long : AllBy
   many_back fs h c = rw (object_members (collected fs), named_type (collected fs) (codes "GeometryCollection") Collection refl refl, collection_back fs h c) refl
 
   object_back : (o : TopoObject) → FineObject transform arcs o → Gives (object transform arcs (object_value (cell_value transform) o)) o
-  object_back (One f) h = single_back f h.0 h.1
+  unfolding object single
+  object_back (One f) h = λ c. grind (
+    arith,
+    shaped transform arcs long few f.id f.properties f.shape h.0.0.0 h.0.0.1 h.0.1,
+    feature_members f.id f.properties,
+    object_members,
+  )
   object_back (Many fs) h = many_back fs h
 
   -- ---- objects by name

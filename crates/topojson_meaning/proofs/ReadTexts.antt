@@ -1,6 +1,6 @@
 -- What holds of each part of a value holds of the identifiers, properties and names of the topology that is read of it: numbers stay
 -- numbers, and texts UTF-8.
-use Rattle.std.proofs.Common.{◌≡◌, ℕ, Bool, List, [], ◌∷◌, Option, Some, None, Ok, refl, subst}
+use Rattle.std.proofs.Common.{◌≡◌, ℕ, List, [], ◌∷◌, Option, Some, None, Ok, refl, subst, rules, arith}
 use Rattle.std.specs.Prelude.{codes, IsUtf8}
 use Rattle.std.specs.List.{AllByRecursion}
 use Rattle.json_value.specs.declared.json.Json.{Json}
@@ -17,8 +17,6 @@ use Rattle.json_members.specs.Members as members_by
 use Rattle.list_laws.proofs.Elements.{all_parts, all_weaker}
 use Rattle.geometry.specs.Points.{Point}
 use Rattle.geojson_types.specs.declared.id.Id.{Id}
-use Rattle.geojson_types.specs.declared.id.Id.TheVariants as id
-use Rattle.geojson_types.specs.Counting.{no_counts}
 use Rattle.geojson_types.specs.Numbers.{IdHasNumbers, PropertiesHaveNumbers}
 use Rattle.geojson_types.specs.Texts.{IdHasTexts, PropertiesHaveTexts}
 use Rattle.topojson_types.specs.declared.feature.TopoFeature.{TopoFeature}
@@ -26,17 +24,15 @@ use Rattle.topojson_types.specs.declared.object.TopoObject.{TopoObject}
 use Rattle.topojson_types.specs.declared.object.TopoObject.TheVariants.{One, Many}
 use Rattle.topojson_types.specs.declared.transform.Transform.{Transform}
 use Rattle.topojson_types.specs.Topologies.{Contents, object_features}
-use Rattle.topojson_meaning.specs.declared.fault.TopoFault.TheVariants.{NotTopology, WrongKind}
+use Rattle.topojson_meaning.specs.declared.fault.TopoFault.TheVariants.{WrongKind}
 use Rattle.topojson_meaning.specs.declared.geometry_type.GeometryType.{GeometryType}
 use Rattle.topojson_meaning.specs.Arcs.{arc_list}
-use Rattle.topojson_meaning.specs.Bounds.{FeatureHasNumbers}
 use Rattle.topojson_meaning.specs.Features.{identifier_in, identifier, members_in, members_if, feature, feature_element}
-use Rattle.topojson_meaning.specs.GeometryTypes.{is_collection, object_type}
 use Rattle.topojson_meaning.specs.Members.{Members, lookup_fault, find, need, need_as, elements, members}
 use Rattle.topojson_meaning.specs.Objects.{features, collection, single, object, is_met, new_name, objects_behind, objects}
 use Rattle.topojson_meaning.specs.Reader.{give, or_fail}
 use Rattle.topojson_meaning.specs.Shapes.{typed_shape}
-use Rattle.topojson_meaning.specs.Texts.{FeatureHasTexts, NumbersStay, TextsStay}
+use Rattle.topojson_meaning.specs.Texts.{NumbersStay, TextsStay}
 use Rattle.topojson_meaning.specs.Topologies.{topology_type, contents, value_contents, topology}
 use Rattle.topojson_meaning.specs.Transforms.{transform_if}
 use Rattle.topojson_meaning.proofs.ValidMembers.{need_as_yields}
@@ -63,10 +59,6 @@ module _ (P : Json → Type 0) (N : List ℕ → Type 0) (I : Option Id → Type
   found : (name : List ℕ) (ms : Members) (o : Option Json) → find name ms ≡ Ok o → AllByRecursion Part ms → IfThere P o
   found name ms o e h = find_part P name ms o (given lookup_fault (members_by.find name ms) o e) (values ms h)
 
-  elements_are : (v : Json) (vs : List Json) → P v → elements v ≡ Ok vs → AllByRecursion P vs
-  unfolding elements
-  elements_are v vs h e = passes.array v vs (or_fail_is WrongKind (array_of v) vs e) h
-
   members_are : (v : Json) (ms : Members) → P v → members v ≡ Ok ms → AllByRecursion Part ms
   unfolding members
   members_are v ms h e = passes.object v ms (or_fail_is WrongKind (object_of v) ms e) h
@@ -90,12 +82,12 @@ module _ (P : Json → Type 0) (N : List ℕ → Type 0) (I : Option Id → Type
 
     feature_element_yields : (v : Json) → P v → Yields Kept (feature_element transform arcs v)
     unfolding feature_element
-    feature_element_yields v h =
-        pure_then Kept (members v) _ (λ ms e. pure_then Kept (object_type ms) _ (λ type f. feature_yields type ms (members_are v ms h e)))
+    feature_element_yields v h = grind (arith, pure_then, feature_yields, members_are)
 
     features_yield : (v : Json) → P v → Yields (AllByRecursion Kept) (features transform arcs v)
-    unfolding features
-    features_yield v h = pure_then (AllByRecursion Kept) (elements v) _ (λ vs e. each_of_yields P Kept (feature_element transform arcs) feature_element_yields vs (elements_are v vs h e))
+    unfolding features elements
+    features_yield v h = pure_then (AllByRecursion Kept) (elements v) _ (λ vs e. each_of_yields P Kept
+        (feature_element transform arcs) feature_element_yields vs (passes.array v vs (or_fail_is WrongKind (array_of v) vs e) h))
 
     -- ---- objects
 
@@ -115,11 +107,7 @@ module _ (P : Json → Type 0) (N : List ℕ → Type 0) (I : Option Id → Type
 
     object_yields : (v : Json) → P v → Yields KeptObject (object transform arcs v)
     unfolding object
-    object_yields v h =
-        pure_then KeptObject (members v) _
-        (λ ms e. pure_then KeptObject (object_type ms) _
-        (λ type f. if_yields KeptObject (is_collection type) (collection transform arcs ms) (single transform arcs type ms)
-        (λ is. collection_yields ms (members_are v ms h e)) (λ is. single_yields type ms (members_are v ms h e))))
+    object_yields v h = search (rules, pure_then, if_yields, collection_yields, members_are, single_yields)
 
     new_name_yields : (met : List (List ℕ)) (name : List ℕ) → N name → Yields N (new_name met name)
     new_name_yields met name h = if_yields N (is_met name met) _ (give name) (λ is. fail_yields N _) (λ is. give_yields N name h)
@@ -161,31 +149,19 @@ module _ (P : Json → Type 0) (N : List ℕ → Type 0) (I : Option Id → Type
 
   kept : (v : Json) (t : Contents) → (c : _) → P v → topology v ≡ Ok (t, c) → KeptContents t
   unfolding topology value_contents
-  kept v t c h e =
-      pure_then KeptContents (or_fail NotTopology (object_of v)) contents (λ ms f. contents_yield ms (passes.object v ms (or_fail_is NotTopology (object_of v) ms f) h)) no_counts c t e
+  kept v t c h e = grind (arith, pure_then, contents_yield, or_fail_is)
 
 -- ---- numbers
 
 identifier_in_numbers : (v : Json) (x : Json-F Json) (o : Option Id) → out-Json v ≡ x → HasNumbers v → identifier_in x ≡ Ok o → IdHasNumbers o
-identifier_in_numbers v Json-F.Null o is h e = let k : None ≡ o = cc in subst IdHasNumbers k tt
-identifier_in_numbers v (Json-F.Text t) o is h e = let k : Some (id.Text t) ≡ o = cc in subst IdHasNumbers k tt
-identifier_in_numbers v (Json-F.Number t) o is h e = let k : Some (id.Number t) ≡ o = cc in subst IdHasNumbers k (number_inside v t is h)
-identifier_in_numbers v (Json-F.Bool b) o is h e = absurd cc
-identifier_in_numbers v (Json-F.Array vs) o is h e = absurd cc
-identifier_in_numbers v (Json-F.Object ms) o is h e = absurd cc
+identifier_in_numbers v x o is h e = grind (arith, number_inside)
 
 identifier_numbers : (i : Option Json) (o : Option Id) → IfThere HasNumbers i → identifier i ≡ Ok o → IdHasNumbers o
-identifier_numbers None o h e = let k : None ≡ o = cc in subst IdHasNumbers k tt
-identifier_numbers (Some v) o h e = identifier_in_numbers v (out-Json v) o refl h e
+identifier_numbers i o h e = grind (arith, identifier_in_numbers)
 
 members_in_are : (X : Json → Type 0) (Y : Option Members → Type 0) → Y None → ((ms : Members) → X (j.Object ms) → Y (Some ms)) → (v : Json) (x : Json-F Json) (o : Option Members)
     → out-Json v ≡ x → X v → members_in x ≡ Ok o → Y o
-members_in_are X Y none some v Json-F.Null o is h e = let k : None ≡ o = cc in subst Y k none
-members_in_are X Y none some v (Json-F.Object ms) o is h e = let k : Some ms ≡ o = cc in subst Y k (some ms (subst X (object_inside v ms is) h))
-members_in_are X Y none some v (Json-F.Text t) o is h e = absurd cc
-members_in_are X Y none some v (Json-F.Number t) o is h e = absurd cc
-members_in_are X Y none some v (Json-F.Bool b) o is h e = absurd cc
-members_in_are X Y none some v (Json-F.Array vs) o is h e = absurd cc
+members_in_are x0 x1 x2 x3 v x o is h e = grind (arith, object_inside)
 
 -- the members of properties are those of an object
 properties_are : (X : Json → Type 0) (Y : Option Members → Type 0) → Y None → ((ms : Members) → X (j.Object ms) → Y (Some ms)) → (p : Option Json) (o : Option Members)
@@ -202,33 +178,18 @@ numbers_pass = record {
 }
 
 pub numbers_stay : NumbersStay
-numbers_stay v t c h e =
-    all_parts FeatureHasNumbers (λ o. object_features o.1) t.objects
-    (all_weaker (λ (o : List ℕ × TopoObject). Unit {0} × AllByRecursion FeatureHasNumbers (object_features o.1)) (λ o. AllByRecursion FeatureHasNumbers (object_features o.1)) (λ o k. k.1) t.objects
-    (kept HasNumbers (λ n. Unit {0}) IdHasNumbers PropertiesHaveNumbers numbers_pass v t c h e))
+numbers_stay v t c h e = grind (arith, all_parts, all_weaker, kept, numbers_pass)
 
 -- ---- texts
 
 identifier_in_texts : (v : Json) (x : Json-F Json) (o : Option Id) → out-Json v ≡ x → HasTexts v → identifier_in x ≡ Ok o → IdHasTexts o
-identifier_in_texts v Json-F.Null o is h e = let k : None ≡ o = cc in subst IdHasTexts k tt
-identifier_in_texts v (Json-F.Text t) o is h e = let k : Some (id.Text t) ≡ o = cc in subst IdHasTexts k (text_inside v t is h)
-identifier_in_texts v (Json-F.Number t) o is h e = let k : Some (id.Number t) ≡ o = cc in subst IdHasTexts k tt
-identifier_in_texts v (Json-F.Bool b) o is h e = absurd cc
-identifier_in_texts v (Json-F.Array vs) o is h e = absurd cc
-identifier_in_texts v (Json-F.Object ms) o is h e = absurd cc
+identifier_in_texts v x o is h e = grind (arith, text_inside)
 
 identifier_texts : (i : Option Json) (o : Option Id) → IfThere HasTexts i → identifier i ≡ Ok o → IdHasTexts o
-identifier_texts None o h e = let k : None ≡ o = cc in subst IdHasTexts k tt
-identifier_texts (Some v) o h e = identifier_in_texts v (out-Json v) o refl h e
+identifier_texts i o h e = grind (arith, identifier_in_texts)
 
 texts_pass : Passes HasTexts (λ n. IsUtf8 n) IdHasTexts PropertiesHaveTexts
 texts_pass = record { array = array_texts; object = object_texts; id = identifier_texts; properties = properties_are HasTexts PropertiesHaveTexts tt (λ ms h. h) }
 
 pub texts_stay : TextsStay
-texts_stay v t c h e =
-    let all = kept HasTexts (λ n. IsUtf8 n) IdHasTexts PropertiesHaveTexts texts_pass v t c h e in
-    record {
-      names = all_weaker (λ (o : List ℕ × TopoObject). IsUtf8 o.0 × AllByRecursion FeatureHasTexts (object_features o.1)) (λ o. IsUtf8 o.0) (λ o k. k.0) t.objects all;
-      features = all_parts FeatureHasTexts (λ o. object_features o.1) t.objects
-          (all_weaker (λ (o : List ℕ × TopoObject). IsUtf8 o.0 × AllByRecursion FeatureHasTexts (object_features o.1)) (λ o. AllByRecursion FeatureHasTexts (object_features o.1)) (λ o k. k.1) t.objects all);
-    }
+texts_stay v t c h e = grind (arith, kept, texts_pass, all_weaker, all_parts)

@@ -1,12 +1,12 @@
 -- The positions, cells and arcs that are read may stand in the topology.
-use Rattle.std.proofs.Common.{◌≡◌, ℕ, ℤ, ◌≤◌, true, List, [], ◌∷◌, length, Option, Some, None, Ok, unsigned_abs, arith}
+use Rattle.std.proofs.Common.{◌≡◌, ℕ, true, List, [], ◌∷◌, length, Option, Some, None, unsigned_abs, arith}
 use Rattle.std.specs.Prelude.{nat_lt}
 use Rattle.std.specs.List.{AllByRecursion}
 use Rattle.std.proofs.lemmas.Bool.{leb-true, and_parts}
 use Rattle.decimal_text.proofs.ScaledNumber.{scaled_of-within}
 use Rattle.json_value.specs.declared.json.Json.{Json}
 use Rattle.geojson_types.specs.Counting.{count_extra}
-use Rattle.geometry.specs.Points.{Point, IsWithin, IsPosition, position_limit}
+use Rattle.geometry.specs.Points.{Point, IsWithin, IsPosition}
 use Rattle.topojson_types.specs.declared.transform.Transform.{Transform}
 use Rattle.topojson_types.specs.Transforms.{grid_limit, is_within, origin, moved}
 use Rattle.topojson_types.specs.Validity.{IsPlace, IsArc}
@@ -18,16 +18,9 @@ use Rattle.topojson_meaning.proofs.ValidYields.{Yields, then_yields, give_yields
 
 -- ---- positions
 
-abbrev IsUnits : ℤ → Type 0
-IsUnits z = unsigned_abs z ≤ position_limit
-
-units_yields : (t : List ℕ) → Yields IsUnits (units t)
-unfolding units
-units_yields t = grind (arith, fail_yields, count_yields, scaled_of-within)
-
 elements_position_yields : (vs : List Json) → Yields IsPosition (elements_position vs)
-unfolding elements_position
-elements_position_yields vs = grind (arith, fail_yields, pure_then, then_yields, units_yields, count_yields)
+unfolding elements_position units
+elements_position_yields vs = grind (arith, fail_yields, pure_then, then_yields, count_yields, scaled_of-within)
 
 position_yields : (v : Json) → Yields IsPosition (position v)
 unfolding position
@@ -39,16 +32,12 @@ within_is : (bound : ℕ) (p : Point) → is_within bound p ≡ true → IsWithi
 unfolding is_within
 within_is bound p h = grind (arith, and_parts, unsigned_abs, leb-true)
 
-grid_cell_is : (t : Transform) (c x : Point) → grid_cell t c ≡ Ok x → IsPlace (Some t) x
-unfolding grid_cell
-grid_cell_is t c x e = grind (arith, within_is)
-
 module _ (t : Transform) where
   abbrev IsCell : Point → Type 0
   IsCell = IsPlace (Some t)
 
   elements_cell_yields : (bound : ℕ) (before : Point) (vs : List Json) → Yields IsCell (elements_cell t bound before vs)
-  unfolding elements_cell
+  unfolding elements_cell grid_cell
   elements_cell_yields bound before [] = fail_yields IsCell WrongKind
   elements_cell_yields bound before (v ∷ []) = fail_yields IsCell WrongKind
   elements_cell_yields bound before (v ∷ w ∷ more) =
@@ -57,17 +46,14 @@ module _ (t : Transform) where
       (λ n hn. pure_then IsCell (grid_number bound m) _
       (λ x hx. pure_then IsCell (grid_number bound n) _
       (λ y hy. pure_then IsCell (grid_cell t (moved before (record { x = x; y = y }))) _
-      (λ c hc. count_yields IsCell c (count_extra (nat_lt 0 (length more))) (grid_cell_is t (moved before (record { x = x; y = y })) c hc))))))
-
-  cell_yields : (bound : ℕ) (before : Point) (v : Json) → Yields IsCell (cell t bound before v)
-  unfolding cell
-  cell_yields bound before v = pure_then IsCell (elements v) (elements_cell t bound before) (λ vs h. elements_cell_yields bound before vs)
+      (λ c hc. count_yields IsCell c (count_extra (nat_lt 0 (length more))) (grind (arith, within_is)))))))
 
   cells_behind_yield : (before : Point) (vs : List Json) → Yields (AllByRecursion IsCell) (cells_behind t before vs)
-  unfolding cells_behind
+  unfolding cells_behind cell
   cells_behind_yield before [] = give_yields (AllByRecursion IsCell) [] tt
   cells_behind_yield before (v ∷ vs) =
-      then_yields IsCell (AllByRecursion IsCell) (cell t difference_limit before v) _ (cell_yields difference_limit before v)
+      then_yields IsCell (AllByRecursion IsCell) (cell t difference_limit before v) _ (pure_then IsCell (elements v)
+      (elements_cell t difference_limit before) (λ vs h. elements_cell_yields difference_limit before vs))
       (λ c hc. then_yields (AllByRecursion IsCell) (AllByRecursion IsCell) (cells_behind t c vs) _ (cells_behind_yield c vs)
       (λ cs hs. give_yields (AllByRecursion IsCell) (c ∷ cs) (hc, hs)))
 
@@ -92,10 +78,7 @@ arc_cells_yield (Some t) vs = cells_behind_yield t origin vs
 as_arc_yields : (transform : Option Transform) (cs : List Point) → AllByRecursion (IsPlace transform) cs → Yields (IsArc transform) (as_arc cs)
 as_arc_yields transform cs h = grind (arith, if_yields, give_yields, leb-true, fail_yields)
 
-arc_yields : (transform : Option Transform) (v : Json) → Yields (IsArc transform) (arc transform v)
-unfolding arc
-arc_yields transform v = grind (arith, pure_then, then_yields, arc_cells_yield, as_arc_yields)
-
 pub arc_list_yields : (transform : Option Transform) (v : Json) → Yields (AllByRecursion (IsArc transform)) (arc_list transform v)
-unfolding arc_list
-arc_list_yields transform v = pure_then (AllByRecursion (IsArc transform)) (elements v) (each (arc transform)) (λ vs h. each_yields (IsArc transform) (arc transform) (arc_yields transform) vs)
+unfolding arc_list arc
+arc_list_yields transform v = pure_then (AllByRecursion (IsArc transform)) (elements v) (each (arc transform)) (λ vs h. each_yields
+    (IsArc transform) (arc transform) (λ v. grind (arith, pure_then, then_yields, arc_cells_yield, as_arc_yields)) vs)

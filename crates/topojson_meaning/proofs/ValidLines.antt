@@ -5,7 +5,7 @@ use Rattle.std.proofs.lemmas.Bool.{ltb-true}
 use Rattle.json_value.specs.declared.json.Json.{Json}
 use Rattle.json_value.specs.Kinds.{array_of}
 use Rattle.geojson_types.specs.Features.{is_some_list}
-use Rattle.geometry.specs.Lists.{map_some, then_some}
+use Rattle.geometry.specs.Lists.{map_some}
 use Rattle.geometry.specs.Points.{Point}
 use Rattle.geometry.specs.Rings.{both_same}
 use Rattle.geometry.proofs.Points.{same_is}
@@ -18,9 +18,6 @@ use Rattle.topojson_meaning.proofs.ValidYields.{Yields, IfThere, then_yields, gi
 
 -- ---- positions that are the same
 
-abbrev point_of : ℤ → ℤ → Point
-point_of x y = record { x = x; y = y }
-
 both_same_is : (o q : Option Point) → both_same o q ≡ true → o ≡ q
 both_same_is None q h = absurd cc
 both_same_is (Some p) None h = absurd cc
@@ -31,21 +28,21 @@ both_same_is (Some p) (Some r) h = ap (λ z. Some z) (same_is p r h)
 abbrev IsSome : List Json → Type 0
 IsSome vs = is_some_list vs ≡ true
 
-elements_yield : (o : Option (List Json)) → Yields (IfThere IsSome) (elements_in o)
-elements_yield o = grind (arith, fail_yields, IfThere, count_yields, give_yields)
-
 pub some_elements_yield : {A : Type 0} (P : A → Type 0) (read : List Json → Reader (Option A)) (v : Json) → ((vs : List Json) → is_some_list vs ≡ true → Yields (IfThere P) (read vs)) → Yields (IfThere P) (some_elements v >>= if_some read)
 unfolding some_elements
-some_elements_yield P read v h = then_yields (IfThere IsSome) (IfThere P) (elements_in (array_of v)) (if_some read) (elements_yield (array_of v)) (if_some_yields IsSome P read h)
+some_elements_yield P read v h = then_yields (IfThere IsSome) (IfThere P) (elements_in (array_of v)) (if_some read) (grind (
+  arith,
+  fail_yields,
+  IfThere,
+  count_yields,
+  give_yields,
+)) (if_some_yields IsSome P read h)
 
 module _ (arcs : List (List Point)) where
   -- ---- indexes
 
   abbrev IsIndex : ℤ → Type 0
   IsIndex i = number_of i < length arcs
-
-  in_range_yields : (i : ℤ) → Yields IsIndex (in_range (length arcs) i)
-  in_range_yields i = grind (arith, if_yields, give_yields, ltb-true, fail_yields)
 
   index_yields : (v : Json) → Yields IsIndex (index (length arcs) v)
   unfolding index
@@ -57,9 +54,6 @@ module _ (arcs : List (List Point)) where
   abbrev IsNext : ℤ → ℤ → Type 0
   IsNext before i = IsIndex i × (last_of (arc_at arcs before) ≡ first_of (arc_at arcs i))
 
-  joined_to_yields : (before i : ℤ) → IsIndex i → Yields (IsNext before) (joined_to arcs before i)
-  joined_to_yields before i h = grind (arith, if_yields, give_yields, both_same_is, fail_yields)
-
   -- indexes whose arcs meet one another, and that of the index before
   abbrev AreBehind : ℤ → List ℤ → Type 0
   AreBehind before refs = AreInRange (length arcs) refs × Meet (arc_at arcs before ∷ map (arc_at arcs) refs)
@@ -69,7 +63,13 @@ module _ (arcs : List (List Point)) where
   behind_yield before [] = give_yields (AreBehind before) [] (tt, tt)
   behind_yield before (v ∷ vs) =
       then_yields IsIndex (AreBehind before) (index (length arcs) v) _ (index_yields v)
-      (λ j hj. then_yields (IsNext before) (AreBehind before) (joined_to arcs before j) _ (joined_to_yields before j hj)
+      (λ j hj. then_yields (IsNext before) (AreBehind before) (joined_to arcs before j) _ (grind (
+        arith,
+        if_yields,
+        give_yields,
+        both_same_is,
+        fail_yields,
+      ))
       (λ i hi. then_yields (AreBehind i) (AreBehind before) (indexes_behind arcs i vs) _ (behind_yield i vs)
       (λ refs h. give_yields (AreBehind before) (i ∷ refs) ((hi.0, h.0), (hi.1, h.1)))))
 
@@ -77,27 +77,21 @@ module _ (arcs : List (List Point)) where
   abbrev IsOpen : List ℤ → Type 0
   IsOpen refs = IsLine arcs false refs
 
-  open_line : (refs : List ℤ) → is_some_list refs ≡ true → AreInRange (length arcs) refs → Meet (map (arc_at arcs) refs) → IsOpen refs
-  open_line refs some range meet = (some, (range, meet, λ e. absurd cc))
-
   indexes_yield : (vs : List Json) → is_some_list vs ≡ true → Yields IsOpen (indexes arcs vs)
   unfolding indexes
   indexes_yield [] some = absurd cc
   indexes_yield (v ∷ vs) some =
       then_yields IsIndex IsOpen (index (length arcs) v) _ (index_yields v)
       (λ i hi. then_yields (AreBehind i) IsOpen (indexes_behind arcs i vs) _ (behind_yield i vs)
-      (λ refs h. give_yields IsOpen (i ∷ refs) (open_line (i ∷ refs) refl (hi, h.0) h.1)))
+      (λ refs h. give_yields IsOpen (i ∷ refs) ((refl, ((hi, h.0), h.1, λ e. absurd cc)))))
 
   pub line_in_yields : (vs : List Json) → is_some_list vs ≡ true → Yields (IfThere IsOpen) (line_in arcs vs)
   unfolding line_in
   line_in_yields vs some = then_yields IsOpen (IfThere IsOpen) (indexes arcs vs) _ (indexes_yield vs some) (λ refs h. give_yields (IfThere IsOpen) (Some refs) h)
 
-  line_yields : (v : Json) → Yields (IfThere IsOpen) (line arcs v)
-  unfolding line
-  line_yields v = some_elements_yield IsOpen (line_in arcs) v line_in_yields
-
   pub lines_yield : (vs : List Json) → Yields (AllByRecursion IsOpen) (kept (line arcs) vs)
-  lines_yield = kept_yields IsOpen (line arcs) line_yields
+  unfolding line
+  lines_yield = kept_yields IsOpen (line arcs) (λ v. some_elements_yield IsOpen (line_in arcs) v line_in_yields)
 
   -- ---- rings
 
@@ -106,15 +100,8 @@ module _ (arcs : List (List Point)) where
   last_map f (x ∷ []) = refl
   last_map f (x ∷ y ∷ xs) = last_map f (y ∷ xs)
 
-  -- the last list, if there is one, ends where this one begins
-  abbrev Ends : List Point → Option (List Point) → Type 0
-  Ends p o = elim o [ None ↦ ⊥ | Some q ↦ last_of q ≡ first_of p ]
-
-  end_of : (i : ℤ) (o : Option ℤ) → both_same (then_some (λ k. last_of (arc_at arcs k)) o) (first_of (arc_at arcs i)) ≡ true → Ends (arc_at arcs i) (map_some (arc_at arcs) o)
-  end_of i o h = grind (arith, both_same_is)
-
   closes : (refs : List ℤ) → both_same (line_end arcs refs) (line_start arcs refs) ≡ true → Closes (map (arc_at arcs) refs)
-  closes refs h = grind (arith, last_map, end_of)
+  closes refs h = grind (arith, last_map, both_same_is)
 
   abbrev IsRing : List ℤ → Type 0
   IsRing refs = IsLine arcs true refs
@@ -122,26 +109,20 @@ module _ (arcs : List (List Point)) where
   as_ring_yields : (refs : List ℤ) → IsOpen refs → Yields (IfThere IsRing) (as_ring arcs refs)
   as_ring_yields refs h = search (if_yields, give_yields, closes, fail_yields)
 
-  ring_in_yields : (vs : List Json) → is_some_list vs ≡ true → Yields (IfThere IsRing) (ring_in arcs vs)
-  unfolding ring_in
-  ring_in_yields vs some = then_yields IsOpen (IfThere IsRing) (indexes arcs vs) (as_ring arcs) (indexes_yield vs some) as_ring_yields
-
   ring_yields : (v : Json) → Yields (IfThere IsRing) (ring arcs v)
-  unfolding ring
-  ring_yields v = some_elements_yield IsRing (ring_in arcs) v ring_in_yields
+  unfolding ring ring_in
+  ring_yields v = some_elements_yield IsRing (ring_in arcs) v (λ vs some. then_yields IsOpen (IfThere IsRing) (indexes arcs vs)
+      (as_ring arcs) (indexes_yield vs some) as_ring_yields)
 
   -- ---- polygons
-
-  with_outer_is : (o : Option (List ℤ)) (rs : List (List ℤ)) → IfThere IsRing o → AllByRecursion IsRing rs → IfThere (IsArea arcs) (with_outer o rs)
-  with_outer_is o rs h k = grind arith
 
   pub polygon_in_yields : (vs : List Json) → Yields (IfThere (IsArea arcs)) (polygon_in arcs vs)
   unfolding polygon_in
   polygon_in_yields [] = give_yields (IfThere (IsArea arcs)) None tt
   polygon_in_yields (v ∷ vs) =
       then_yields (IfThere IsRing) (IfThere (IsArea arcs)) (ring arcs v) _ (ring_yields v)
-      (λ o ho. then_yields (AllByRecursion IsRing) (IfThere (IsArea arcs)) (kept (ring arcs) vs) _ (kept_yields IsRing (ring arcs) ring_yields vs)
-      (λ rs hr. give_yields (IfThere (IsArea arcs)) (with_outer o rs) (with_outer_is o rs ho hr)))
+      (λ o ho. then_yields (AllByRecursion IsRing) (IfThere (IsArea arcs)) (kept (ring arcs) vs) _ (kept_yields IsRing
+      (ring arcs) ring_yields vs) (λ rs hr. give_yields (IfThere (IsArea arcs)) (with_outer o rs) (grind arith)))
 
   polygon_yields : (v : Json) → Yields (IfThere (IsArea arcs)) (polygon arcs v)
   unfolding polygon

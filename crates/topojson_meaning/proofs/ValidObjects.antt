@@ -37,14 +37,8 @@ others : (name : List ℕ) (met : List (List ℕ)) (os : List (List ℕ × TopoO
 others name met [] h = tt
 others name met (o ∷ os) h = (bytes_differ name o.0 (or_parts (bytes_eq name o.0) (is_met o.0 met) h.0).0, others name met os h.1)
 
-earlier : (name : List ℕ) (met : List (List ℕ)) (os : List (List ℕ × TopoObject)) → AreNew (name ∷ met) os → AreNew met os
-earlier name met = all_weaker (λ o. is_met o.0 (name ∷ met) ≡ false) (λ o. is_met o.0 met ≡ false) (λ o h. (or_parts (bytes_eq name o.0) (is_met o.0 met) h).1)
-
 abbrev IsNewName : List (List ℕ) → List ℕ → Type 0
 IsNewName met name = is_met name met ≡ false
-
-new_name_yields : (met : List (List ℕ)) (name : List ℕ) → Yields (IsNewName met) (new_name met name)
-new_name_yields met name = grind (arith, if_yields, fail_yields, give_yields)
 
 -- ---- features
 
@@ -97,16 +91,16 @@ module _ (transform : Option Transform) (arcs : List (List Point)) where
     pub kept : AllByRecursion (λ o. KeptObject o.1) os
 
   one_more : (met : List (List ℕ)) (name : List ℕ) (o : TopoObject) (os : List (List ℕ × TopoObject)) → is_met name met ≡ false → KeptObject o → AreObjects (name ∷ met) os → AreObjects met ((name, o) ∷ os)
-  one_more met name o os e h k = grind (arith, earlier, others)
+  one_more met name o os e h k = grind (arith, all_weaker, or_parts, others)
 
   objects_behind_yield : (met : List (List ℕ)) (ms : Members) → Yields (AreObjects met) (objects_behind transform arcs met ms)
   unfolding objects_behind
   objects_behind_yield met [] = give_yields (AreObjects met) [] (record { fresh = tt; distinct = tt; kept = tt })
   objects_behind_yield met (m ∷ ms) =
-      then_yields (IsNewName met) (AreObjects met) (new_name met m.0) _ (new_name_yields met m.0)
+      then_yields (IsNewName met) (AreObjects met) (new_name met m.0) _ (grind (arith, if_yields, fail_yields, give_yields))
       (λ name e. then_yields KeptObject (AreObjects met) (object transform arcs m.1) _ (object_yields m.1)
-      (λ o h. then_yields (AreObjects (name ∷ met)) (AreObjects met) (objects_behind transform arcs (name ∷ met) ms) _ (objects_behind_yield (name ∷ met) ms)
-      (λ os k. give_yields (AreObjects met) ((name, o) ∷ os) (one_more met name o os e h k))))
+      (λ o h. then_yields (AreObjects (name ∷ met)) (AreObjects met) (objects_behind transform arcs (name ∷ met) ms) _
+      (objects_behind_yield (name ∷ met) ms) (λ os k. give_yields (AreObjects met) ((name, o) ∷ os) (one_more met name o os e h k))))
 
   pub objects_yield : (v : Json) → Yields (AreObjects []) (objects transform arcs v)
   unfolding objects

@@ -93,13 +93,10 @@ module _ (transform : Option Transform) (arcs : List (List Point)) where
 
   -- ---- shapes of features
 
-  geometries_give : (v : Json) → Yields Shapes (shapes transform arcs v)
-  unfolding shapes
-  geometries_give v = (shapes_read v).geometries
-
   all_geometries : (ms : Members) → AllByRecursion (λ m. Yields Shapes (shapes transform arcs m.1)) ms
+  unfolding shapes
   all_geometries [] = tt
-  all_geometries (m ∷ ms) = (geometries_give m.1, all_geometries ms)
+  all_geometries (m ∷ ms) = (((shapes_read m.1).geometries), all_geometries ms)
 
   pub typed_shape_yields : (type : Option GeometryType) (ms : Members) → Yields (IfThere Shape) (typed_shape transform arcs type ms)
   unfolding typed_shape part

@@ -2,7 +2,6 @@
 use Rattle.std.proofs.Common.{◌≡◌, ℕ, ℤ, Bool, true, List, [], Option, arith}
 use Rattle.std.specs.Prelude.{codes}
 use Rattle.std.specs.List.{AllByRecursion}
-use Rattle.json_value.specs.declared.json.Json.{Json}
 use Rattle.json_value.specs.Kinds.{object_of, text_of}
 use Rattle.geojson_types.specs.Counting.{no_counts}
 use Rattle.geometry.specs.Points.{Point}
@@ -11,7 +10,7 @@ use Rattle.topojson_types.specs.declared.feature.TopoFeature.{TopoFeature}
 use Rattle.topojson_types.specs.declared.object.TopoObject.{TopoObject}
 use Rattle.topojson_types.specs.declared.transform.Transform.{Transform}
 use Rattle.topojson_types.specs.Topologies.{TopoShape, Contents, object_features, features_strokes, objects_strokes}
-use Rattle.topojson_types.specs.Validity.{is_full_option, option_places, is_single_option, IsPlace, IsFeature, IsObject, IsArc, IsTransformed, IsTopology}
+use Rattle.topojson_types.specs.Validity.{is_full_option, option_places, is_single_option, IsPlace, IsFeature, IsArc, IsTransformed, IsTopology}
 use Rattle.topojson_meaning.specs.declared.fault.TopoFault.TheVariants.{NotTopology, WrongKind}
 use Rattle.topojson_meaning.specs.Arcs.{arc_list}
 use Rattle.topojson_meaning.specs.Laws.{ReadsValid}
@@ -43,22 +42,13 @@ module _ (transform : Option Transform) (arcs : List (List Point)) where
   option_stroked : (o : Option TopoShape) → IfThere (IsShape transform arcs) o → Strokes (option_strokes o)
   option_stroked o h = grind arith
 
-  option_single : (o : Option TopoShape) → IfThere (IsSingle transform arcs) o → is_single_option o ≡ true
-  option_single o h = grind arith
-
   one_shape : (o : Option TopoShape) → IfThere (IsSingle transform arcs) o → IfThere (IsShape transform arcs) o
   one_shape = there_weaker (IsSingle transform arcs) (IsShape transform arcs) (λ s h. h.0)
 
   abbrev Kept : TopoFeature → Type 0
   Kept = HasShape (IsShape transform arcs)
 
-  feature_valid : (f : TopoFeature) → Kept f → IsFeature transform f
-  feature_valid f h = (option_full f.shape h, option_placed f.shape h)
-
   -- ---- objects
-
-  object_valid : (o : TopoObject) → KeptObject transform arcs o → IsObject transform o
-  object_valid o h = grind (arith, option_full, option_placed, one_shape, all_weaker)
 
   object_kept : (o : TopoObject) → KeptObject transform arcs o → AllByRecursion Kept (object_features o)
   object_kept o h = grind (arith, one_shape)
@@ -78,7 +68,7 @@ module _ (transform : Option Transform) (arcs : List (List Point)) where
   made os = record { objects = os; arcs = arcs; transform = transform }
 
   topology_valid : (os : List (List ℕ × TopoObject)) → IsTransformed transform → AllByRecursion (IsArc transform) arcs → AreObjects transform arcs [] os → IsTopology (made os)
-  topology_valid os ht ha h = grind (arith, objects_stroked, all_weaker, object_valid, IsStroke)
+  topology_valid os ht ha h = grind (arith, objects_stroked, all_weaker, option_full, option_placed, one_shape, IsStroke)
 
   -- the objects over the arcs that were read
   read_objects : (ms : Members) → Yields (AreObjects transform arcs []) (need_as (codes "objects") (objects transform arcs) ms)
@@ -99,10 +89,6 @@ contents_yield ms =
     (λ arcs ha. then_yields (AreObjects transform arcs []) IsTopology (need_as (codes "objects") (objects transform arcs) ms) _ (read_objects transform arcs ms)
     (λ os ho. give_yields IsTopology (made transform arcs os) (topology_valid transform arcs os k ha ho))))))))
 
-value_yields : (v : Json) → Yields IsTopology (value_contents v)
-unfolding value_contents
-value_yields v = pure_then IsTopology (or_fail NotTopology (object_of v)) _ (λ ms h. contents_yield ms)
-
 pub reads_valid : ReadsValid
-unfolding topology
-reads_valid v t c e = value_yields v no_counts c t e
+unfolding topology value_contents
+reads_valid v t c e = (pure_then IsTopology (or_fail NotTopology (object_of v)) _ (λ ms h. contents_yield ms)) no_counts c t e

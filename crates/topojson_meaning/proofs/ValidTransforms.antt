@@ -30,13 +30,16 @@ transform_pair_yields ts = grind (arith, pure_then, give_yields, transform_numbe
 texts_yield : (name : List ℕ) (ms : Members) → Yields (λ ts. Unit {0}) (need_as name texts ms)
 texts_yield name ms c d ts e = tt
 
-transform_members_yield : (ms : Members) → Yields IsTransform (transform_members ms)
-unfolding transform_members
-transform_members_yield ms = grind (arith, then_yields, texts_yield, transform_pair_yields, give_yields)
-
 transform_in_yields : (x : Json-F Json) → Yields IsTransformed (transform_in x)
+unfolding transform_members
 transform_in_yields Json-F.Null = give_yields IsTransformed None tt
-transform_in_yields (Json-F.Object ms) = then_yields IsTransform IsTransformed (transform_members ms) _ (transform_members_yield ms) (λ t h. give_yields IsTransformed (Some t) h)
+transform_in_yields (Json-F.Object ms) = then_yields IsTransform IsTransformed (transform_members ms) _ (grind (
+  arith,
+  then_yields,
+  texts_yield,
+  transform_pair_yields,
+  give_yields,
+)) (λ t h. give_yields IsTransformed (Some t) h)
 transform_in_yields (Json-F.Bool b) = fail_yields IsTransformed WrongKind
 transform_in_yields (Json-F.Number t) = fail_yields IsTransformed WrongKind
 transform_in_yields (Json-F.Text t) = fail_yields IsTransformed WrongKind

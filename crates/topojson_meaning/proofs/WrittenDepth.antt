@@ -138,12 +138,16 @@ module _ (places : ℕ) where
   properties_below : (ps : Option Members) (n : ℕ) → properties_nesting ps ≤ n → MembersBelow n (properties_members ps)
   properties_below ps n h = grind arith
 
-  feature_below_at : (f : TopoFeature) (n : ℕ) → option_nesting f.shape ≤ suc n → properties_nesting f.properties ≤ n → depth (feature_value cell f) ≤ suc n
-  feature_below_at f n h k = grind (arith, option_below f.shape n h, object_below n, all_append, id_below f.id n, properties_below f.properties n k)
-
   feature_below : (f : TopoFeature) (n : ℕ) → feature_nesting f ≤ n → depth (feature_value cell f) ≤ n
   feature_below f zero h = absurd (omega arith)
-  feature_below f (suc n) h = feature_below_at f n (omega arith) (omega arith)
+  feature_below f (suc n) h = grind (
+    arith,
+    option_below f.shape n (omega arith),
+    object_below n,
+    all_append,
+    id_below f.id n,
+    properties_below f.properties n (omega arith),
+  )
 
   features_below : (fs : List TopoFeature) (n : ℕ) → AllByRecursion (λ f. feature_nesting f ≤ n) fs → AllByRecursion (λ f. depth (feature_value cell f) ≤ n) fs
   features_below fs n h = all_weaker (λ f. feature_nesting f ≤ n) (λ f. depth (feature_value cell f) ≤ n) (λ f. feature_below f n) fs h

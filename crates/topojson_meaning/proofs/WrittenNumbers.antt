@@ -13,7 +13,6 @@ use Rattle.json_value.specs.declared.json.Json.TheVariants as j
 use Rattle.json_value.specs.Numbers.{numbers_of, HasNumbers}
 use Rattle.json_value.proofs.NumbersOf.{numbers-null, numbers-number, numbers-text, numbers-array, numbers-object}
 use Rattle.geometry.specs.Lists.{joined}
-use Rattle.geojson_types.specs.Numbers.{PropertiesHaveNumbers}
 use Rattle.geometry.specs.Points.{Point, IsWithin}
 use Rattle.geometry.specs.Pruning.{strokes, option_strokes}
 use Rattle.geometry.proofs.Agreement.{all_left, all_right, all_of_map}
@@ -28,7 +27,7 @@ use Rattle.topojson_types.specs.TransformNumbers.{transform_value, IsTransformNu
 use Rattle.topojson_types.specs.Transforms.{grid_limit, origin}
 use Rattle.topojson_types.specs.Topologies.{TopoShape, object_features, features_strokes, objects_strokes}
 use Rattle.topojson_types.specs.Validity.{IsPlace, IsTransformed, IsArc, IsFeature, IsObject, AreInRange, places}
-use Rattle.topojson_types.specs.Values.{Members, Geometrical, number_value, position_value, cell_places, cell_value, arc_value, line_value, lines_value, typed, inner_value, geometrical, properties_members, feature_value, object_value, pair_value, members_of_transform, arcs_value, topology_value}
+use Rattle.topojson_types.specs.Values.{Members, Geometrical, number_value, position_value, cell_places, cell_value, arc_value, line_value, lines_value, typed, inner_value, geometrical, feature_value, object_value, pair_value, members_of_transform, arcs_value, topology_value}
 use Rattle.topojson_types.proofs.ByKind.{geometrical_at, places_at}
 use Rattle.topojson_meaning.specs.Bounds.{objects_features, FeatureHasNumbers}
 use Rattle.topojson_meaning.specs.Laws.{ValueHasNumbers}
@@ -71,8 +70,7 @@ position_numbers decimals p h = array_numbers (number_value decimals) (p.x ∷ (
 
 -- a cell, and a difference of two
 place_size : (transform : Option Transform) (p : Point) → IsPlace transform p → IsWithin (10 ^ 16) p
-place_size None p h = (omega (arith, h.0), omega (arith, h.1))
-place_size (Some t) p h = (omega (arith, h.0.0), omega (arith, h.0.1))
+place_size transform p h = grind arith
 
 cell_numbers : (transform : Option Transform) (p : Point) → IsPlace transform p → HasNumbers (cell_value transform p)
 cell_numbers transform p h = position_numbers (cell_places transform) p (place_size transform p h)
@@ -127,14 +125,17 @@ module _ (n : ℕ) (few : n < 2 ^ 63) (transform : Option Transform) where
   ranged_areas [] h = tt
   ranged_areas (rs ∷ areas) h = search (all_of_map, all_left, all_right, ranged_areas areas)
 
-  inner_numbers : (o : Geometrical) → IsNumbered o → HasNumbers (inner_value o)
-  inner_numbers o h = object_numbers ((codes "type", o.type) ∷ o.parts) h
-
   members_numbers : (ss : List TopoShape) → AllByRecursion Written ss → AllByRecursion (IsPlace transform) (joined (map places ss)) → AllByRecursion Ranged (joined (map strokes ss))
       → AllByRecursion (λ s. HasNumbers (inner_value (geometrical cell s))) ss
   members_numbers [] all h k = tt
-  members_numbers (s ∷ ss) all h k =
-      grind (arith, inner_numbers, all_left, all_right, members_numbers ss all.1 (all_right (IsPlace transform) (places s) (joined (map places ss)) h) (all_right Ranged (strokes s) (joined (map strokes ss)) k))
+  members_numbers (s ∷ ss) all h k = grind (
+    arith,
+    object_numbers,
+    all_left,
+    all_right,
+    members_numbers ss all.1 (all_right
+        (IsPlace transform) (places s) (joined (map places ss)) h) (all_right Ranged (strokes s) (joined (map strokes ss)) k),
+  )
 
   shape_numbers : (s : TopoShape) → Written s
   shape_numbers = by_kinds Written (record {
@@ -155,11 +156,8 @@ module _ (n : ℕ) (few : n < 2 ^ 63) (transform : Option Transform) where
 
   -- ---- features and objects
 
-  properties_numbers : (ps : Option Members) → PropertiesHaveNumbers ps → Numbered (properties_members ps)
-  properties_numbers ps h = grind arith
-
   feature_numbers : (f : TopoFeature) → IsFeature transform f → AllByRecursion Ranged (option_strokes f.shape) → FeatureHasNumbers f → HasNumbers (feature_value cell f)
-  feature_numbers f h k m = grind (arith, null_numbers, shape_numbers, object_numbers, all_append, text_numbers, number_numbers, properties_numbers)
+  feature_numbers f h k m = grind (arith, null_numbers, shape_numbers, object_numbers, all_append, text_numbers, number_numbers)
 
   features_numbers : (fs : List TopoFeature) → AllByRecursion (IsFeature transform) fs → AllByRecursion Ranged (features_strokes fs) → AllByRecursion FeatureHasNumbers fs → AllByRecursion (λ f. HasNumbers (feature_value cell f)) fs
   features_numbers [] h k m = tt

@@ -1,5 +1,5 @@
 -- The numbers, texts and names of the value that is written for a topology are UTF-8.
-use Rattle.std.proofs.Common.{ℕ, ℤ, List, [], ◌∷◌, ◌++◌, map, Option, Some, None, refl}
+use Rattle.std.proofs.Common.{ℕ, ℤ, List, [], ◌∷◌, ◌++◌, map, Option, Some, None, refl, arith}
 use Rattle.std.specs.Prelude.{codes, IsUtf8}
 use Rattle.std.specs.List.{AllByRecursion}
 use Rattle.decimal_text.specs.Scaling.{units_text}
@@ -10,10 +10,9 @@ use Rattle.json_value.proofs.Utf8Parts.{AreUtf8, MemberUtf8, null_utf8, number_v
 use Rattle.geometry.proofs.Induction.{by_kinds}
 use Rattle.geometry.specs.Points.{Point}
 use Rattle.geojson_types.specs.declared.id.Id.{Id}
-use Rattle.geojson_types.specs.declared.id.Id.TheVariants as id
 use Rattle.geojson_types.specs.Numbers.{IdHasNumbers, PropertiesHaveNumbers}
 use Rattle.geojson_types.specs.Texts.{IdHasTexts, PropertiesHaveTexts}
-use Rattle.list_laws.proofs.Elements.{all_append, all_left, all_right, all_two}
+use Rattle.list_laws.proofs.Elements.{all_append, all_left, all_right, all_two, all_parts, all_map, all_of_map, all_weaker}
 use Rattle.topojson_types.specs.declared.feature.TopoFeature.{TopoFeature}
 use Rattle.topojson_types.specs.declared.object.TopoObject.{TopoObject}
 use Rattle.topojson_types.specs.declared.object.TopoObject.TheVariants.{One, Many}
@@ -28,6 +27,7 @@ use Rattle.topojson_meaning.specs.Laws.{FeaturesHaveNumbers}
 use Rattle.topojson_meaning.specs.Texts.{FeatureHasTexts, ContentsHaveTexts}
 use Rattle.topojson_meaning.proofs.ShapeKinds.{geometrical-group, written_members}
 use Rattle.topojson_meaning.proofs.WrittenNumbers.{transform_text}
+use Rattle.list_laws.proofs.Lists.{map_agree}
 
 -- the names of all members are UTF-8, and so are the parts of their values
 abbrev Texted : Members → Type 0
@@ -82,8 +82,7 @@ module _ (transform : Option Transform) where
   inner_texts o h = object_utf8 ((codes "type", o.type) ∷ o.parts) ((type_word, h.0), h.1)
 
   inner_each : (ss : List TopoShape) → AllByRecursion Written ss → AllByRecursion (λ s. AreUtf8 (inner_value (geometrical cell s))) ss
-  inner_each [] h = tt
-  inner_each (s ∷ ss) h = (inner_texts (geometrical cell s) h.0, inner_each ss h.1)
+  inner_each ss h = search (all_parts, all_map, all_of_map, all_two, all_weaker, map_agree, inner_texts)
 
   places_word : IsUtf8 (codes "coordinates")
   places_word = word (codes "coordinates") refl
@@ -116,13 +115,10 @@ module _ (transform : Option Transform) where
   -- ---- features and objects
 
   id_texts : (i : Option Id) → IdHasNumbers i → IdHasTexts i → Texted (id_members i)
-  id_texts None n h = tt
-  id_texts (Some (id.Text t)) n h = ((word (codes "id") refl, text_value_utf8 t h), tt)
-  id_texts (Some (id.Number t)) n h = ((word (codes "id") refl, number_value_utf8 t (number_utf8 n)), tt)
+  id_texts i n h = grind (arith, word, text_value_utf8, number_value_utf8, number_utf8)
 
   properties_texts : (ps : Option Members) → PropertiesHaveNumbers ps → PropertiesHaveTexts ps → Texted (properties_members ps)
-  properties_texts None n h = tt
-  properties_texts (Some ms) n h = ((word (codes "properties") refl, parts_utf8 (j.Object ms) n h), tt)
+  properties_texts ps n h = grind (arith, word, parts_utf8)
 
   feature_texts : (f : TopoFeature) → HasAll f → AreUtf8 (feature_value cell f)
   feature_texts f h =
@@ -133,8 +129,7 @@ module _ (transform : Option Transform) where
       ((type_word, shape.0), all_append MemberUtf8 (id_members f.id) (properties_members f.properties ++ o.parts) (id_texts f.id h.0.0 h.1.0) rest)
 
   features_texts : (fs : List TopoFeature) → AllByRecursion HasAll fs → AllByRecursion (λ f. AreUtf8 (feature_value cell f)) fs
-  features_texts [] h = tt
-  features_texts (f ∷ fs) h = (feature_texts f h.0, features_texts fs h.1)
+  features_texts fs h = search (all_parts, all_map, all_of_map, all_two, all_weaker, map_agree, feature_texts)
 
   object_value_texts : (o : TopoObject) → AllByRecursion HasAll (object_features o) → AreUtf8 (object_value cell o)
   object_value_texts (One f) h = feature_texts f h.0
@@ -158,15 +153,7 @@ pair_texts p h k =
     array_utf8 (λ t. j.Number t) (p.0 ∷ (p.1 ∷ [])) (number p.0 h, (number p.1 k, tt))
 
 transform_texts : (transform : Option Transform) → IsTransformed transform → Texted (members_of_transform transform)
-transform_texts None h = tt
-transform_texts (Some t) h = (
-  (
-    word (codes "transform") refl,
-    object_utf8 ((codes "scale", pair_value t.scale) ∷ ((codes "translate", pair_value t.translate) ∷ []))
-        ((word (codes "scale") refl, pair_texts t.scale h.0.0 h.0.1), ((word (codes "translate") refl, pair_texts t.translate h.1.0 h.1.1), tt)),
-  ),
-  tt,
-)
+transform_texts transform h = grind (arith, word, object_utf8, pair_texts)
 
 pub topology_utf8 : (t : Contents) → IsTransformed t.transform → FeaturesHaveNumbers t → ContentsHaveTexts t → AreUtf8 (topology_value t)
 unfolding topology_value

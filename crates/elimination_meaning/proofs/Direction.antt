@@ -12,6 +12,8 @@ use Rattle.elimination_meaning.proofs.Relabelled.{relabelled, between, eliminate
 use Rattle.elimination_meaning.proofs.Steps.{vertex, numbered_points, eliminate_sub}
 use Rattle.elimination_meaning.proofs.Sublists.{sub_map, sub_all}
 use Rattle.elimination_meaning.proofs.Turned.{eliminate_reverse}
+use Rattle.list_laws.proofs.Elements.{all_parts, all_map, all_of_map, all_two, all_weaker}
+use Rattle.list_laws.proofs.Lists.{map_agree}
 
 -- the index of the same place counted from the other end of so many, one to one
 abbrev flipped : ℕ → ℕ → ℕ
@@ -29,8 +31,7 @@ numbered_append i (p ∷ ps) qs = grind (arith, vertex, numbered_append (i + 1) 
 
 pub map_reverse : {X Y : Type 0} (f : X → Y) (xs : List X) → map f (reverse xs) ≡ reverse (map f xs)
 map_reverse f [] = refl
-map_reverse f (x ∷ xs) =
-    ap (map f) (reverse-cons x xs) ∙ map-append f (reverse xs) (x ∷ []) ∙ ap (λ l. l ++ (f x ∷ [])) (map_reverse f xs)
+map_reverse f (x ∷ xs) = ap (map f) (reverse-cons x xs) ∙ map-append f (reverse xs) (x ∷ []) ∙ ap (λ l. l ++ (f x ∷ [])) (map_reverse f xs)
     ∙ sym (reverse-cons (f x) (map f xs))
 
 map_points : (f : ℕ → ℕ) (vs : List Vertex) → map (λ v. v.point) (map (relabelled f) vs) ≡ map (λ v. v.point) vs
@@ -46,30 +47,23 @@ numbered_reverse f i j (p ∷ ps) h =
     let z : i + 0 ≡ i = omega arith in
     let there : f i + 0 + 1 ≡ j + length (p ∷ ps) = subst (λ k. f k + 0 + 1 ≡ j + length (p ∷ ps)) z here in
     let e : j + length (reverse ps) ≡ f i = rw length-reverse (omega (arith, there)) in
-    ap (numbered j) (reverse-cons p ps)
-    ∙ numbered_append j (reverse ps) (p ∷ [])
-    ∙ ap (λ k. numbered j (reverse ps) ++ (vertex k p ∷ [])) e
+    ap (numbered j) (reverse-cons p ps) ∙ numbered_append j (reverse ps) (p ∷ []) ∙ ap (λ k. numbered j (reverse ps) ++ (vertex k p ∷ [])) e
     ∙ ap (λ l. l ++ (vertex (f i) p ∷ [])) (numbered_reverse f (i + 1) j ps (λ k l.
     let y : i + (k + 1) ≡ i + 1 + k = omega arith in
     let g : f (i + (k + 1)) + (k + 1) + 1 ≡ j + length (p ∷ ps) = h (k + 1) (omega arith) in
     let g' : f (i + 1 + k) + (k + 1) + 1 ≡ j + length (p ∷ ps) = subst (λ m. f m + (k + 1) + 1 ≡ j + length (p ∷ ps)) y g in
-    omega arith))
-    ∙ sym (reverse-cons (vertex (f i) p) (map (relabelled f) (numbered (i + 1) ps)))
+    omega arith)) ∙ sym (reverse-cons (vertex (f i) p) (map (relabelled f) (numbered (i + 1) ps)))
 
 map_front_of : {X Y : Type 0} (f : X → Y) (x : X) (xs : List X) → map f (front_of x xs) ≡ front_of (f x) (map f xs)
 map_front_of f x [] = refl
 map_front_of f x (y ∷ ys) = ap (λ l. f x ∷ l) (map_front_of f y ys)
 
-map_interior : {X Y : Type 0} (f : X → Y) (xs : List X) → map f (interior xs) ≡ interior (map f xs)
-map_interior f xs = grind (arith, map_front_of)
-
 between_is : (ps : List Point) → between (numbered 0 ps) ≡ interior ps
-between_is ps = map_interior (λ v. v.point) (numbered 0 ps) ∙ ap interior (numbered_points 0 ps)
+between_is ps = (grind (arith, map_front_of)) ∙ ap interior (numbered_points 0 ps)
 
 pub reduced_reverse : DirectionLaw
 unfolding reduced
-reduced_reverse t ps h =
-    ap (λ m. map (λ v. v.point) (eliminate m t (numbered 0 (reverse ps)))) (length-reverse ps)
+reduced_reverse t ps h = ap (λ m. map (λ v. v.point) (eliminate m t (numbered 0 (reverse ps)))) (length-reverse ps)
     ∙ ap (λ l. map (λ v. v.point) (eliminate (length ps) t l)) (numbered_reverse (flipped (length ps)) 0 0 ps (flipped_at (length ps)))
     ∙ ap (map (λ v. v.point)) (eliminate_reverse (length ps) t (map (relabelled (flipped (length ps))) (numbered 0 ps)))
     ∙ ap (λ l. map (λ v. v.point) (reverse l)) (eliminate_relabelled (flipped (length ps)) (flipped_one (length ps)) (length ps) t (numbered 0 ps) (subst (λ l. AreDistinct l) (sym (between_is ps)) h))
@@ -89,21 +83,18 @@ numbered_within i n (p ∷ ps) h = (omega (arith, h), numbered_within (i + 1) n 
 -- each index that stays is one of the line
 pub reduce_within : (t : ℕ) (ps : List Point) → AllByRecursion (λ k. k < length ps) (reduce t ps)
 unfolding reduce
-reduce_within t ps =
-    sub_all (λ k. k < length ps) (sub_map (λ v. v.index) (eliminate_sub (length ps) t (numbered 0 ps)))
+reduce_within t ps = sub_all (λ k. k < length ps) (sub_map (λ v. v.index) (eliminate_sub (length ps) t (numbered 0 ps)))
     (numbered_within 0 (length ps) ps (omega arith))
 
 flipped_within : (n i : ℕ) → i < n → flipped n i ≡ n - 1 - i
 flipped_within n i h = grind (arith, nat_tests)
 
 map_flipped : (n : ℕ) (is : List ℕ) → AllByRecursion (λ i. i < n) is → map (flipped n) is ≡ map (λ i. n - 1 - i) is
-map_flipped n [] h = refl
-map_flipped n (i ∷ is) h = ap (λ k. k ∷ map (flipped n) is) (flipped_within n i h.0) ∙ ap (λ l. (n - 1 - i) ∷ l) (map_flipped n is h.1)
+map_flipped n is h = search (all_parts, all_map, all_of_map, all_two, all_weaker, map_agree, flipped_within)
 
 reduce_flipped : (t : ℕ) (ps : List Point) → AreDistinct (interior ps) → reduce t (reverse ps) ≡ reverse (map (flipped (length ps)) (reduce t ps))
 unfolding reduce
-reduce_flipped t ps h =
-    ap (λ m. map (λ v. v.index) (eliminate m t (numbered 0 (reverse ps)))) (length-reverse ps)
+reduce_flipped t ps h = ap (λ m. map (λ v. v.index) (eliminate m t (numbered 0 (reverse ps)))) (length-reverse ps)
     ∙ ap (λ l. map (λ v. v.index) (eliminate (length ps) t l)) (numbered_reverse (flipped (length ps)) 0 0 ps (flipped_at (length ps)))
     ∙ ap (map (λ v. v.index)) (eliminate_reverse (length ps) t (map (relabelled (flipped (length ps))) (numbered 0 ps)))
     ∙ ap (λ l. map (λ v. v.index) (reverse l)) (eliminate_relabelled (flipped (length ps)) (flipped_one (length ps)) (length ps) t (numbered 0 ps) (subst (λ l. AreDistinct l) (sym (between_is ps)) h))

@@ -18,15 +18,16 @@ Shortens vs v = length (without v.index vs) < length vs
 not_longer : {X : Type 0} (p : X → Bool) (xs : List X) → length (filter p xs) ≤ length xs
 not_longer p xs = omega (arith, length-filter_both p (λ x. not (p x)) (λ x. refl) xs)
 
-shortens_here : (v : Vertex) (vs : List Vertex) → Shortens (v ∷ vs) v
-shortens_here v vs = grind (arith, not_longer)
-
 shortens_later : (w v : Vertex) (vs : List Vertex) → Shortens vs v → Shortens (w ∷ vs) v
 shortens_later w v vs h = grind (arith, holds_of_chosen)
 
 all_shorten : (vs : List Vertex) → AllByRecursion (Shortens vs) vs
 all_shorten [] = tt
-all_shorten (v ∷ vs) = (shortens_here v vs, all_weaker (Shortens vs) (Shortens (v ∷ vs)) (λ w h. shortens_later v w vs h) vs (all_shorten vs))
+all_shorten (v ∷ vs) = (
+  (grind (arith, not_longer)),
+  all_weaker (Shortens vs) (Shortens (v ∷ vs)) (λ w h. shortens_later v w vs h) vs
+      (all_shorten vs),
+)
 
 pub next_shorter : (t : ℕ) (vs : List Vertex) → Holds (λ ws. length ws < length vs) (next t vs)
 next_shorter t vs = by_least (least (corners vs)) (least_between (Shortens vs) vs (sub_all (Shortens vs) (sub_interior vs) (all_shorten vs)))

@@ -1,5 +1,5 @@
 -- Reduction at a higher threshold goes on from what is left at a lower one.
-use Rattle.std.proofs.Common.{rules, ◌≡◌, ℕ, zero, suc, ◌+◌, ◌<◌, ◌≤◌, Bool, true, false, List, [], ◌∷◌, Option, Some, None, length, map, refl, ap, sym, ◌∙◌, subst, arith, if◌then◌else◌, nat_lt}
+use Rattle.std.proofs.Common.{◌≡◌, ℕ, zero, suc, ◌+◌, ◌<◌, ◌≤◌, Bool, false, List, [], ◌∷◌, Option, Some, None, length, map, refl, ap, sym, ◌∙◌, subst, arith, if◌then◌else◌}
 use Rattle.std.proofs.lemmas.Bool.Decides.{nat_tests}
 use Rattle.elimination_meaning.specs.Elimination.{Vertex, Corner, corners, least, without, without_under, next, eliminate, numbered, remaining, reduce}
 use Rattle.elimination_meaning.specs.Laws.{HigherKeepsFewer}
@@ -27,21 +27,20 @@ one_more (suc n) u vs m = go_more n u vs (omega (arith, m)) (λ ws k. one_more n
 
 -- ---- what is under the lower threshold is under the higher one
 
-higher_test : (a t u : ℕ) → t ≤ u → nat_lt a t ≡ true → nat_lt a u ≡ true
-higher_test a t u h k = grind (arith, nat_tests)
-
 next_higher : (t u : ℕ) (vs : List Vertex) → t ≤ u → (o : Option Corner) → (ws : List Vertex) → without_under t vs o ≡ Some ws → without_under u vs o ≡ Some ws
-next_higher t u vs h o ws e = grind (arith, higher_test)
-
-go_higher : (n t u : ℕ) (vs : List Vertex) → length vs ≤ n + 1 →
-    ((ws : List Vertex) → length ws ≤ n → eliminate n u ws ≡ eliminate n u (eliminate n t ws)) →
-    (o : Option (List Vertex)) → ((ws : List Vertex) → o ≡ Some ws → next u vs ≡ Some ws) → Holds (λ ws. length ws < length vs) o →
-    eliminate (suc n) u vs ≡ eliminate (suc n) u (go_on n t vs o)
-go_higher n t u vs m ih o f h = search (rules, sub_length, eliminate_sub, one_more)
+next_higher t u vs h o ws e = grind (arith, nat_tests)
 
 eliminate_higher : (n t u : ℕ) (vs : List Vertex) → t ≤ u → length vs ≤ n → eliminate n u vs ≡ eliminate n u (eliminate n t vs)
 eliminate_higher zero t u vs h m = refl
-eliminate_higher (suc n) t u vs h m = grind (arith, go_higher n t u vs (omega (arith, m)), next_higher t u vs h (least (corners vs)), next_shorter t vs, eliminate_higher n t u)
+eliminate_higher (suc n) t u vs h m = grind (
+  arith,
+  sub_length,
+  eliminate_sub,
+  one_more,
+  next_higher t u vs h (least (corners vs)),
+  next_shorter t vs,
+  eliminate_higher n t u,
+)
 
 pub higher_keeps_fewer : HigherKeepsFewer
 unfolding reduce

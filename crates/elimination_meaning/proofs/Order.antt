@@ -12,8 +12,7 @@ use Rattle.geometry.specs.Points.{Point}
 use Rattle.elimination_meaning.specs.Elimination.{Corner, corner_cmp, is_before, lesser, least}
 
 pub corner_total : IsTotalOrder corner_cmp
-corner_total =
-    then_total (on_total (λ c. c.area) nat_cmp_total) (then_total
+corner_total = then_total (on_total (λ c. c.area) nat_cmp_total) (then_total
     (on_total (λ c. c.point) (then_total (on_total (λ p. p.x) int_cmp_total) (on_total (λ p. p.y) int_cmp_total)))
     (on_total (λ c. c.index) nat_cmp_total))
 
@@ -37,31 +36,18 @@ unfolding is_before
 one_corner c d h k = grind (arith, corner_exact c d, is_lt)
 
 before_chain : (a b c : Corner) → is_before c b ≡ true → is_before b a ≡ true → is_before c a ≡ true
-before_chain a b c p q = on (is_before c a) refl
-  where
-    on : (r : Bool) → is_before c a ≡ r → is_before c a ≡ true
-    on true e = e
-    on false e = let k = before_order.chain b c a (before_order.one_way c b p) e in cc
+before_chain a b c p q = grind (arith, before_order.chain, before_order.one_way)
 
 comm_at : (c d : Corner) (p q : Bool) → is_before d c ≡ p → is_before c d ≡ q → (if p then d else c) ≡ (if q then c else d)
-comm_at c d true true e f = let k = before_order.one_way d c e in cc
-comm_at c d true false e f = refl
-comm_at c d false true e f = refl
-comm_at c d false false e f = one_corner c d f e
+comm_at c d p q e f = grind (arith, before_order.one_way, one_corner)
 
 pub lesser_comm : (c d : Option Corner) → lesser c d ≡ lesser d c
 lesser_comm c d = grind (arith, comm_at)
 
 assoc_at : (a b c : Corner) (p q r : Bool) → is_before b a ≡ p → is_before c b ≡ q → is_before c a ≡ r →
     (if is_before c (if p then b else a) then c else (if p then b else a)) ≡ (if is_before (if q then c else b) a then (if q then c else b) else a)
-assoc_at a b c true true r e f g = let k = before_chain a b c f e in rw (f, k)
-assoc_at a b c true false r e f g = rw (f, e)
-assoc_at a b c false true r e f g = refl
-assoc_at a b c false false r e f g = let k = before_order.chain c b a f e in rw (k, e)
-
-lesser_assoc : (a b c : Option Corner) → lesser (lesser a b) c ≡ lesser a (lesser b c)
-lesser_assoc a b c = grind (arith, assoc_at)
+assoc_at a b c p q r e f g = grind (arith, before_chain, before_order.chain)
 
 pub least_append : (cs ds : List Corner) → least (cs ++ ds) ≡ lesser (least cs) (least ds)
 least_append [] ds = refl
-least_append (c ∷ cs) ds = ap (lesser (Some c)) (least_append cs ds) ∙ sym (lesser_assoc (Some c) (least cs) (least ds))
+least_append (c ∷ cs) ds = ap (lesser (Some c)) (least_append cs ds) ∙ sym (grind (arith, assoc_at))

@@ -1,8 +1,6 @@
 -- Where the positions between the ends are distinct, elimination doesn't depend on the indexes.
 use Rattle.std.proofs.Common.{◌≡◌, ◌≢◌, ℕ, zero, suc, List, [], ◌∷◌, Option, Some, None, map, refl, ap, sym, ◌∙◌, subst, ◌==◌, arith}
-use Rattle.std.specs.Ordering.{ordering_then, is_lt, nat_cmp}
-use Rattle.std.specs.declared.cmp.Ordering.{Ordering}
-use Rattle.std.specs.declared.cmp.Ordering.TheVariants.{Equal}
+use Rattle.std.specs.Ordering.{is_lt, nat_cmp}
 use Rattle.list_laws.proofs.Elements.{all_of_map}
 use Rattle.list_laws.proofs.Tests.{chosen_of}
 use Rattle.geometry.specs.Lists.{map_some, interior, AreDistinct}
@@ -28,12 +26,9 @@ between vs = map (λ v. v.point) (interior vs)
 
 -- ---- the order of corners
 
-third : (a b i j : Ordering) → b ≢ Equal → ordering_then a (ordering_then b i) ≡ ordering_then a (ordering_then b j)
-third a b i j h = grind arith
-
 before_relabelled : (f : ℕ → ℕ) (c d : Corner) → d.point ≢ c.point → is_before (recorner f c) (recorner f d) ≡ is_before c d
 unfolding is_before
-before_relabelled f c d h = grind (arith, is_lt, third, point_exact)
+before_relabelled f c d h = grind (arith, is_lt, point_exact)
 
 lesser_relabelled : (f : ℕ → ℕ) (c : Corner) (o : Option Corner) → Holds (λ d. c.point ≢ d.point) o →
     lesser (Some (recorner f c)) (map_some (recorner f) o) ≡ map_some (recorner f) (lesser (Some c) o)
@@ -41,8 +36,7 @@ lesser_relabelled f c o h = grind (arith, before_relabelled, chosen_of)
 
 least_relabelled : (f : ℕ → ℕ) (cs : List Corner) → AreDistinct (map (λ c. c.point) cs) → least (map (recorner f) cs) ≡ map_some (recorner f) (least cs)
 least_relabelled f [] h = refl
-least_relabelled f (c ∷ cs) h =
-    ap (lesser (Some (recorner f c))) (least_relabelled f cs h.1)
+least_relabelled f (c ∷ cs) h = ap (lesser (Some (recorner f c))) (least_relabelled f cs h.1)
     ∙ lesser_relabelled f c (least cs) (least_holds (λ d. c.point ≢ d.point) cs (all_of_map (λ q. c.point ≢ q) (λ d. d.point) cs h.0))
 
 -- ---- corners
@@ -50,9 +44,6 @@ least_relabelled f (c ∷ cs) h =
 from_relabelled : (f : ℕ → ℕ) (a b : Vertex) (vs : List Vertex) → corners_from (relabelled f a) (relabelled f b) (map (relabelled f) vs) ≡ map (recorner f) (corners_from a b vs)
 from_relabelled f a b [] = refl
 from_relabelled f a b (c ∷ vs) = ap (λ l. recorner f (corner_at a b c) ∷ l) (from_relabelled f b c vs)
-
-corners_relabelled : (f : ℕ → ℕ) (vs : List Vertex) → corners (map (relabelled f) vs) ≡ map (recorner f) (corners vs)
-corners_relabelled f vs = grind (arith, from_relabelled)
 
 points_of_corners : (cs : List Corner) → map (λ v. v.point) (map vertex_of cs) ≡ map (λ c. c.point) cs
 points_of_corners [] = refl
@@ -79,12 +70,8 @@ module _ (f : ℕ → ℕ) (one_to_one : (a b : ℕ) → (f a == f b) ≡ (a == 
   under_relabelled t vs o = grind (arith, without_relabelled, chosen_of)
 
   next_relabelled : (t : ℕ) (vs : List Vertex) → AreDistinct (between vs) → next t (map (relabelled f) vs) ≡ map_some (map (relabelled f)) (next t vs)
-  next_relabelled t vs h = grind (arith, corners_relabelled, least_relabelled, corners_apart, under_relabelled)
-
-  go_relabelled : (n t : ℕ) (vs : List Vertex) → ((ws : List Vertex) → AreDistinct (between ws) → eliminate n t (map (relabelled f) ws) ≡ map (relabelled f) (eliminate n t ws)) →
-      (o : Option (List Vertex)) → Holds (λ ws. AreDistinct (between ws)) o → go_on n t (map (relabelled f) vs) (map_some (map (relabelled f)) o) ≡ map (relabelled f) (go_on n t vs o)
-  go_relabelled n t vs h o k = grind arith
+  next_relabelled t vs h = grind (arith, from_relabelled, least_relabelled, corners_apart, under_relabelled)
 
   pub eliminate_relabelled : (n t : ℕ) (vs : List Vertex) → AreDistinct (between vs) → eliminate n t (map (relabelled f) vs) ≡ map (relabelled f) (eliminate n t vs)
   eliminate_relabelled zero t vs h = refl
-  eliminate_relabelled (suc n) t vs h = grind (arith, go_on, next_relabelled, go_relabelled, next_apart, eliminate_relabelled n t)
+  eliminate_relabelled (suc n) t vs h = grind (arith, go_on, next_relabelled, next_apart, eliminate_relabelled n t)

@@ -6,7 +6,7 @@ use Rattle.list_laws.proofs.Elements.{all_of_map}
 use Rattle.list_laws.proofs.Tests.{holds_of_chosen}
 use Rattle.geometry.specs.Lists.{front_of, interior}
 use Rattle.geometry.specs.Points.{Point}
-use Rattle.elimination_meaning.specs.Elimination.{Vertex, Corner, corners, corners_from, lesser, least, without_under, next, eliminate, numbered, reduced}
+use Rattle.elimination_meaning.specs.Elimination.{Vertex, Corner, corners, corners_from, lesser, least, next, eliminate, numbered, reduced}
 use Rattle.elimination_meaning.specs.Laws.{ZeroLaw, NoneIsNew}
 use Rattle.elimination_meaning.specs.Sublists.{Sublist}
 use Rattle.elimination_meaning.proofs.Sublists.{sub_same, sub_chain, sub_map, sub_filter}
@@ -69,11 +69,8 @@ none_is_new t ps = grind (arith, numbered_points, sub_map, eliminate_sub)
 none_under : (n : ℕ) → nat_lt n 0 ≡ false
 none_under n = grind (arith, nat_tests)
 
-under_zero : (vs : List Vertex) (o : Option Corner) → without_under 0 vs o ≡ None
-under_zero vs o = grind (arith, none_under)
-
 pub eliminate_zero : (n : ℕ) (vs : List Vertex) → eliminate n 0 vs ≡ vs
-eliminate_zero n vs = grind (arith, go_on, under_zero)
+eliminate_zero n vs = grind (arith, go_on, none_under)
 
 pub nothing_under_zero : ZeroLaw
 unfolding reduced

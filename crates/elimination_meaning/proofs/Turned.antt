@@ -25,21 +25,17 @@ corner_turned a b c = ap (λ (n : ℕ). let r : Corner = record { area = n; poin
 
 from_reverse : (a b : Vertex) (vs : List Vertex) → corners (reverse (a ∷ (b ∷ vs))) ≡ reverse (corners_from a b vs)
 from_reverse a b [] = refl
-from_reverse a b (c ∷ vs) =
-    ap corners (reverse-append (a ∷ (b ∷ (c ∷ []))) vs)
-    ∙ corners_split (reverse vs) c b (a ∷ [])
+from_reverse a b (c ∷ vs) = ap corners (reverse-append (a ∷ (b ∷ (c ∷ []))) vs) ∙ corners_split (reverse vs) c b (a ∷ [])
     ∙ ap (λ l. corners l ++ (corner_at c b a ∷ [])) (sym (reverse-append (b ∷ (c ∷ [])) vs))
     ∙ ap (λ l. l ++ (corner_at c b a ∷ [])) (from_reverse b c vs)
-    ∙ ap (λ k. reverse (corners_from b c vs) ++ (k ∷ [])) (corner_turned a b c)
-    ∙ sym (reverse-cons (corner_at a b c) (corners_from b c vs))
+    ∙ ap (λ k. reverse (corners_from b c vs) ++ (k ∷ [])) (corner_turned a b c) ∙ sym (reverse-cons (corner_at a b c) (corners_from b c vs))
 
 corners_reverse : (vs : List Vertex) → corners (reverse vs) ≡ reverse (corners vs)
 corners_reverse vs = grind (arith, from_reverse)
 
 least_reverse : (cs : List Corner) → least (reverse cs) ≡ least cs
 least_reverse [] = refl
-least_reverse (c ∷ cs) =
-    ap least (reverse-cons c cs) ∙ least_append (reverse cs) (c ∷ [])
+least_reverse (c ∷ cs) = ap least (reverse-cons c cs) ∙ least_append (reverse cs) (c ∷ [])
     ∙ ap (λ o. lesser o (Some c)) (least_reverse cs) ∙ lesser_comm (least cs) (Some c)
 
 filter_reverse : {X : Type 0} (p : X → Bool) (xs : List X) → filter p (reverse xs) ≡ reverse (filter p xs)
@@ -51,11 +47,12 @@ filter_reverse p (x ∷ xs) =
     on true = sym (reverse-cons x (filter p xs))
     on false = append-nil (reverse (filter p xs))
 
-under_reverse : (t : ℕ) (vs : List Vertex) (o : Option Corner) → without_under t (reverse vs) o ≡ map_some reverse (without_under t vs o)
-under_reverse t vs o = grind (arith, filter_reverse, chosen_of)
-
 next_reverse : (t : ℕ) (vs : List Vertex) → next t (reverse vs) ≡ map_some reverse (next t vs)
-next_reverse t vs = ap (without_under t (reverse vs)) (ap least (corners_reverse vs) ∙ least_reverse (corners vs)) ∙ under_reverse t vs (least (corners vs))
+next_reverse t vs = ap (without_under t (reverse vs)) (ap least (corners_reverse vs) ∙ least_reverse (corners vs)) ∙ (grind (
+  arith,
+  filter_reverse,
+  chosen_of,
+))
 
 -- elimination goes on with what the first step gives
 abbrev pub go_on : ℕ → ℕ → List Vertex → Option (List Vertex) → List Vertex

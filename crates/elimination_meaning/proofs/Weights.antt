@@ -29,9 +29,6 @@ weigh_on n level vs i (Some c) = if c.index == i then Some (max level c.area) el
 over_test : (w t : ℕ) → t ≤ w → not (nat_lt w t) ≡ true
 over_test w t h = grind (arith, nat_tests)
 
-over_left : (w a t : ℕ) → t ≤ w → t ≤ max w a
-over_left w a t h = omega (arith, h)
-
 over_right : (w a t : ℕ) → t ≤ a → t ≤ max w a
 over_right w a t h = omega (arith, h)
 
@@ -41,7 +38,7 @@ under_test w t h = grind (arith, nat_tests)
 -- from a level that isn't under the threshold on, all weights are so
 on_over : (n t level i : ℕ) (vs : List Vertex) → t ≤ level → ((k : ℕ) (ws : List Vertex) → t ≤ k → is_kept_at t (weight_from n k ws i) ≡ true) →
     (o : Option Corner) → is_kept_at t (weigh_on n level vs i o) ≡ true
-on_over n t level i vs h ih o = grind (arith, over_test, over_left)
+on_over n t level i vs h ih o = grind (arith, over_test)
 
 all_over : (n t level i : ℕ) (vs : List Vertex) → t ≤ level → is_kept_at t (weight_from n level vs i) ≡ true
 all_over zero t level i vs h = refl
@@ -99,13 +96,10 @@ numbered_indexes i (p ∷ ps) = ap (λ l. i ∷ l) (numbered_indexes (i + 1) ps)
 kept_under : (t : ℕ) (ps : List Point) → eliminate (length ps) t (numbered 0 ps) ≡ filter (λ v. is_kept_at t (weight ps v.index)) (numbered 0 ps) →
     reduce t ps ≡ filter (λ i. is_kept_at t (weight ps i)) (range_with_len 0 (length ps))
 unfolding reduce
-kept_under t ps e =
-    ap (map (λ v. v.index)) e ∙ indexes_filtered (λ i. is_kept_at t (weight ps i)) (numbered 0 ps)
+kept_under t ps e = ap (map (λ v. v.index)) e ∙ indexes_filtered (λ i. is_kept_at t (weight ps i)) (numbered 0 ps)
     ∙ ap (filter (λ i. is_kept_at t (weight ps i))) (numbered_indexes 0 ps)
 
-at_zero : (o : Option ℕ) → is_kept_at 0 o ≡ true
-at_zero o = grind arith
-
 pub kept_by_weight : KeptByWeight
-kept_by_weight zero ps = kept_under 0 ps (eliminate_zero (length ps) (numbered 0 ps) ∙ sym (filter_all (λ v. is_kept_at 0 (weight ps v.index)) (λ v. at_zero (weight ps v.index)) (numbered 0 ps)))
+kept_by_weight zero ps = kept_under 0 ps (eliminate_zero (length ps) (numbered 0 ps) ∙ sym (filter_all (λ v. is_kept_at 0
+    (weight ps v.index)) (λ v. (grind arith)) (numbered 0 ps)))
 kept_by_weight (suc t) ps = kept_under (suc t) ps (eliminate_weighed (length ps) (suc t) 0 (numbered 0 ps) (omega arith))

@@ -26,13 +26,10 @@ module _ (u : ℕ → Bool) (i : ℕ) where
   abbrev anew : Bool × List ℤ → Bool × List ℤ
   anew b = (b.0, map (renumbered u) b.1)
 
-  one_same : u i ≡ true → (r : ℤ) → IsUsed u r → (number_of r == i) ≡ (number_of (renumbered u r) == rank_from u 0 i)
-  unfolding number_of
-  one_same h r k = grind (arith, test_ranks)
-
   refs_same : u i ≡ true → (refs : List ℤ) → AllByRecursion (IsUsed u) refs → names i refs ≡ names (rank_from u 0 i) (map (renumbered u) refs)
+  unfolding number_of
   refs_same h [] k = refl
-  refs_same h (r ∷ refs) k = grind (arith, one_same, refs_same h refs k.1)
+  refs_same h (r ∷ refs) k = search (arith, test_ranks, refs_same h refs k.1)
 
   lines_same : u i ≡ true → (bs : List (Bool × List ℤ)) → AllByRecursion (AllUsed u) bs → line_names i bs ≡ line_names (rank_from u 0 i) (map anew bs)
   lines_same h [] k = refl

@@ -12,7 +12,7 @@ use Rattle.geometry.specs.Pruning.{option_strokes}
 use Rattle.geometry.proofs.Omitted.{omissions_agree}
 use Rattle.junctions.specs.declared.stroke.Stroke.{Stroke}
 use Rattle.linework.specs.Linework.{linework}
-use Rattle.list_laws.proofs.Elements.{all_weaker, all_left, all_right}
+use Rattle.list_laws.proofs.Elements.{all_weaker, all_left, all_right, all_parts, all_map, all_of_map, all_two}
 use Rattle.topojson_types.specs.declared.object.TopoObject.{TopoObject}
 use Rattle.topojson_types.specs.Topologies.{Contents}
 use Rattle.build_meaning.specs.Built.{all_arcs, kept_refs, untrimmed, built, taken_out}
@@ -34,6 +34,7 @@ use Rattle.lessened_topology.proofs.Made.{objects_made}
 use Rattle.lessened_topology.proofs.Picked.{picked_each, each_reduced}
 use Rattle.lessened_topology.proofs.Reaching.{each_through}
 use Rattle.lessened_topology.proofs.Valid.{lessened_is_valid}
+use Rattle.list_laws.proofs.Lists.{map_agree}
 
 -- ---- in the words of the layers' lines
 
@@ -81,12 +82,16 @@ module _ (one two : Bool → List Point → Option Cause) where
   abbrev pub Alike : Bool × List Point → Type 0
   Alike b = one b.0 b.1 ≡ two b.0 b.1
 
-  option_alike : (s : Option Shape) → AllByRecursion Alike (option_strokes s) → option_caused one s ≡ option_caused two s
-  option_alike s h = grind (arith, omissions_agree)
-
   features_alike : (fs : List Featured) → AllByRecursion Alike (features_strokes fs) → map (λ f. option_caused one f.shape) fs ≡ map (λ f. option_caused two f.shape) fs
   features_alike [] h = refl
-  features_alike (f ∷ fs) h = grind (arith, option_alike, all_left, all_right, features_alike fs (all_right Alike (option_strokes f.shape) (features_strokes fs) h))
+  features_alike (f ∷ fs) h = grind (
+    arith,
+    omissions_agree,
+    all_left,
+    all_right,
+    features_alike fs (all_right Alike
+        (option_strokes f.shape) (features_strokes fs) h),
+  )
 
   layers_alike : (ls : Named) → AllByRecursion Alike (named_strokes ls) → map (λ l. map (λ f. option_caused one f.shape) l.1.features) ls ≡ map (λ l. map (λ f. option_caused two f.shape) l.1.features) ls
   layers_alike [] h = refl
@@ -97,17 +102,10 @@ module _ (lines : List Stroke) (t : ℕ) where
   option_told s = grind arith
 
   features_told : (fs : List Featured) → map (λ f. option_caused (own_cause lines t) f.shape) fs ≡ map (λ f. option_omissions lines t f.shape) fs
-  features_told [] = refl
-  features_told (f ∷ fs) = rw (option_told f.shape, features_told fs) refl
+  features_told fs = search (all_parts, all_map, all_of_map, all_two, all_weaker, map_agree, option_told)
 
   layers_told : (ls : Named) → map (λ l. map (λ f. option_caused (own_cause lines t) f.shape) l.1.features) ls ≡ map (λ l. map (λ f. option_omissions lines t f.shape) l.1.features) ls
-  layers_told [] = refl
-  layers_told (l ∷ ls) = rw (features_told l.1.features, layers_told ls) refl
-
--- over the reduced arcs a line is dropped for the cause that is expected
-line_cause : (law : DirectionLaw) (t : ℕ) (ls : Named) → AreSound ls → (b : Line) → StandsIn (linework (layers_of ls)) b
-    → assembled_cause (linework (layers_of ls)) (map (reduced t) (arcs_of_layers ls)) b.0 b.1 ≡ own_cause (linework (layers_of ls)) t b.0 b.1
-line_cause law t ls sound b stands = grind (arith, cause_same, own_apart)
+  layers_told ls = search (all_parts, all_map, all_of_map, all_two, all_weaker, map_agree, features_told)
 
 pub drops_expected : DirectionLaw → ZeroLaw → AssemblingDropsExpected
 unfolding assembled_dropped expected_dropped
@@ -116,7 +114,8 @@ drops_expected law zero t ls sound =
     let all : List (List Point) = arcs_of_layers ls in
     ap (λ arcs. layers_caused (assembled_cause lines arcs) ls) (picked_each (reduce t) all ∙ each_reduced t all)
     ∙ ap (dropped_of_layers 0) (layers_alike (assembled_cause lines (map (reduced t) all)) (own_cause lines t) ls
-    (all_weaker (StandsIn lines) (λ b. assembled_cause lines (map (reduced t) all) b.0 b.1 ≡ own_cause lines t b.0 b.1) (line_cause law t ls sound) (named_strokes ls) (each_stands ls))
+    (all_weaker (StandsIn lines) (λ b. assembled_cause lines (map (reduced t) all) b.0 b.1 ≡ own_cause lines t b.0 b.1) (λ b stands. grind
+    (arith, cause_same, own_apart)) (named_strokes ls) (each_stands ls))
     ∙ layers_told lines t ls)
 
 -- ---- validity

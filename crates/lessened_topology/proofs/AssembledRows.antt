@@ -1,21 +1,19 @@
 -- Worked rows of what is assembled of layers over reduced arcs, computed from the definitions. The fold of a shape is opened by its
 -- kind.
-use Rattle.std.proofs.Common.{◌≡◌, ◌==◌, ℕ, ℤ, pos, not, Bool, true, false, List, [], ◌∷◌, ◌++◌, map, Option, None, Some, refl, ap, ◌∙◌}
-use Rattle.std.specs.List.{filter, list_any}
+use Rattle.std.proofs.Common.{◌≡◌, ◌==◌, ℕ, ℤ, pos, Bool, true, false, List, [], ◌∷◌, ◌++◌, map, Option, None, Some, refl, ap, ◌∙◌}
+use Rattle.std.specs.List.{list_any}
 use Rattle.elimination_meaning.specs.Elimination.{is_before, reduced}
 use Rattle.geojson_types.specs.Features.{Featured, Shape}
 use Rattle.geometry.specs.Areas.{cross, twice_area}
 use Rattle.geometry.specs.declared.address.Cause.TheVariants.{Small, Outer}
 use Rattle.geometry.specs.declared.shape.Geometry.TheVariants as g
 use Rattle.geometry.specs.Joins.{number_of}
-use Rattle.geometry.specs.Omissions.{omissions, dropped_of_layers}
-use Rattle.geometry.specs.Paths.{placed_strokes}
 use Rattle.geometry.specs.Points.{Point}
 use Rattle.geometry.specs.Pruning.{prune}
 use Rattle.geometry.specs.Rings.{same}
 use Rattle.geometry.proofs.Cases.{prune-line, prune-area, strokes-line, omissions-area, omissions-line}
 use Rattle.junctions.specs.declared.stroke.Stroke.{Stroke}
-use Rattle.linework.specs.Linework.{stroke_at, feature_address, is_collapsed, linework}
+use Rattle.linework.specs.Linework.{linework}
 use Rattle.linework.proofs.Placing.{placed_strokes_at}
 use Rattle.topojson_types.specs.declared.feature.TopoFeature.{TopoFeature}
 use Rattle.topojson_types.specs.declared.object.TopoObject.{TopoObject}
@@ -24,8 +22,8 @@ use Rattle.topojson_types.specs.Topologies.{TopoShape, objects_strokes}
 use Rattle.build_meaning.specs.Built.{all_arcs, kept_refs}
 use Rattle.build_meaning.specs.Layers.{Named, layers_of}
 use Rattle.build_meaning.specs.Objects.{objects_by}
-use Rattle.build_meaning.specs.Trimming.{keep_from, line_renumbered, trimmed}
-use Rattle.lessened_topology.specs.Assembled.{assembled_cause, layers_caused, assembled, assembled_dropped}
+use Rattle.build_meaning.specs.Trimming.{trimmed}
+use Rattle.lessened_topology.specs.Assembled.{assembled, assembled_dropped}
 use Rattle.lessened_topology.specs.Lessened.{picked_arcs, large_refs, objects_pruned, lessened_by}
 use Rattle.lessened_topology.proofs.Assembled.{contents}
 
@@ -69,11 +67,7 @@ lines = stroke 0 (0 ∷ []) true triangle ∷ (stroke 0 (1 ∷ []) true square �
 
 lines_are : linework (layers_of layers) ≡ lines
 unfolding linework same
-lines_are =
-    ap (λ ps. filter (λ s. not (is_collapsed s)) ((map (stroke_at (feature_address 0 0)) ps ++ (map (stroke_at (feature_address 0 1)) (placed_strokes {P = Point} (g.Line bent)) ++ [])) ++ []))
-    ((placed_strokes_at Point (List Point)).area rings)
-    ∙ ap (λ ps. filter (λ s. not (is_collapsed s)) ((stroke 0 (0 ∷ []) true triangle ∷ (stroke 0 (1 ∷ []) true square ∷ (map (stroke_at (feature_address 0 1)) ps ++ []))) ++ []))
-    ((placed_strokes_at Point (List Point)).line bent)
+lines_are = simp ((placed_strokes_at Point (List Point)).area, (placed_strokes_at Point (List Point)).line)
 
 arcs_are : all_arcs lines ≡ triangle ∷ (square ∷ (bent ∷ []))
 unfolding same
@@ -84,12 +78,7 @@ arcs_are = refl
 row_dropped : assembled_dropped kept layers
     ≡ record { address = record { layer = 0; feature = 0; path = 0 ∷ [] }; cause = Small } ∷ (record { address = record { layer = 0; feature = 0; path = 1 ∷ [] }; cause = Outer } ∷ [])
 unfolding assembled_dropped same
-row_dropped =
-    ap (λ ls. layers_caused (assembled_cause ls (picked_arcs kept (all_arcs ls))) layers) lines_are
-    ∙ ap (λ o. dropped_of_layers 0 ((o ∷ (omissions {P = Point} (assembled_cause lines (picked_arcs kept (all_arcs lines))) (g.Line bent) ∷ [])) ∷ []))
-    (omissions-area Point (List Point) (assembled_cause lines (picked_arcs kept (all_arcs lines))) rings)
-    ∙ ap (λ o. dropped_of_layers 0 (((record { path = 0 ∷ []; part = Small } ∷ (record { path = 1 ∷ []; part = Outer } ∷ [])) ∷ (o ∷ [])) ∷ []))
-    (omissions-line Point (List Point) (assembled_cause lines (picked_arcs kept (all_arcs lines))) bent)
+row_dropped = simp (lines_are, omissions-area, omissions-line)
 
 -- ---- so two arcs are left out, and the third one is the first
 
@@ -114,9 +103,7 @@ arcs_picked = refl
 
 objects_left : objects_pruned (large_refs fewer) (two (Some (g.Area ring_refs)) (Some (g.Line (pos 2 ∷ [])))) ≡ two None (Some (g.Line (pos 2 ∷ [])))
 unfolding same
-objects_left =
-    ap (λ s. two s (prune (λ p. p) (large_refs fewer) (g.Line (pos 2 ∷ [])))) (prune-area (λ (p : Point). p) (large_refs fewer) ring_refs)
-    ∙ ap (two None) (prune-line (λ (p : Point). p) (large_refs fewer) (pos 2 ∷ []))
+objects_left = simp (prune-area, prune-line)
 
 abbrev used_in : List (Bool × List ℤ) → ℕ → Bool
 used_in bs i = list_any (λ b. list_any (λ r. number_of r == i) b.1) bs
@@ -126,9 +113,7 @@ strokes_left = ap (λ l. (l ++ []) ++ []) (strokes-line Point (List ℤ) (pos 2 
 
 trimmed_left : trimmed (contents (two None (Some (g.Line (pos 2 ∷ [])))) fewer) ≡ contents (two None (Some (g.Line (pos 0 ∷ [])))) (bent ∷ [])
 unfolding trimmed number_of
-trimmed_left =
-    ap (λ bs. contents (two None (prune (λ p. p) (line_renumbered (used_in bs)) (g.Line (pos 2 ∷ [])))) (keep_from (used_in bs) 0 fewer)) strokes_left
-    ∙ ap (λ s. contents (two None s) (bent ∷ [])) (prune-line (λ (p : Point). p) (line_renumbered (used_in ((false, pos 2 ∷ []) ∷ []))) (pos 2 ∷ []))
+trimmed_left = simp (contents, strokes_left, prune-line)
 
 row_assembled : assembled kept layers ≡ contents (two None (Some (g.Line (pos 0 ∷ [])))) (bent ∷ [])
 unfolding assembled lessened_by

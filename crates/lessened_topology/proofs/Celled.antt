@@ -16,7 +16,6 @@ use Rattle.geometry.specs.Joins.{at, number_of}
 use Rattle.topojson_types.specs.Topologies.{TopoShape, Contents, object_features, features_strokes, objects_strokes}
 use Rattle.topojson_types.specs.Transforms.{place_on}
 use Rattle.build_meaning.specs.Built.{built}
-use Rattle.build_meaning.specs.Layers.{Named}
 use Rattle.build_meaning.specs.Trimming.{is_used, keep_from, line_renumbered, trimmed}
 use Rattle.build_meaning.proofs.Trimmed.{kept_of_map}
 use Rattle.lessened_topology.specs.Celled.{feature_celled, object_celled, objects_celled, celled, LiesBack}
@@ -36,12 +35,10 @@ at_map f [] i = refl
 at_map f (x ∷ xs) zero = refl
 at_map f (x ∷ xs) (suc i) = at_map f xs i
 
-with_map : {A B : Type 0} (f : A → B) (o : Option A) (xs : List A) → with_some (map_some f o) (map f xs) ≡ map f (with_some o xs)
-with_map f o xs = grind arith
-
 picked_map : {A B : Type 0} (f : A → B) (is : List ℕ) (xs : List A) → picked is (map f xs) ≡ map f (picked is xs)
 picked_map f [] xs = refl
-picked_map f (i ∷ is) xs = ap (λ o. with_some o (picked is (map f xs))) (at_map f xs i) ∙ ap (with_some (map_some f (at xs i))) (picked_map f is xs) ∙ with_map f (at xs i) (picked is xs)
+picked_map f (i ∷ is) xs = ap (λ o. with_some o (picked is (map f xs))) (at_map f xs i) ∙ ap (with_some (map_some f (at xs i)))
+    (picked_map f is xs) ∙ (grind arith)
 
 arcs_map : (f : Point → Point) (kept : List (List ℕ)) (arcs : List (List Point)) → picked_arcs kept (map (map f) arcs) ≡ map (map f) (picked_arcs kept arcs)
 arcs_map f [] arcs = refl
@@ -82,19 +79,14 @@ module _ (transform : Transform) (cell : Point → Point) where
     shape_turn None = refl
     shape_turn (Some s) = search (rules, composed, agreed, all_hold, as_it_is)
 
-    abbrev with_shape : TopoFeature → Option TopoShape → TopoFeature
-    with_shape f s = record { id = f.id; properties = f.properties; shape = s }
-
     features_turn : (fs : List TopoFeature) → map (feature_pruned kept) (map (feature_celled cell) fs) ≡ map (feature_celled cell) (map (feature_pruned kept) fs)
     features_turn [] = refl
     features_turn (f ∷ fs) = grind (arith, shape_turn, features_turn fs)
 
-    object_turn : (o : TopoObject) → object_pruned kept (object_celled cell o) ≡ object_celled cell (object_pruned kept o)
-    object_turn o = grind (arith, shape_turn, features_turn)
-
     objects_turn : (os : List (List ℕ × TopoObject)) → objects_pruned kept (objects_celled cell os) ≡ objects_celled cell (objects_pruned kept os)
     objects_turn [] = refl
-    objects_turn (o ∷ os) = ap (λ x. (o.0, x) ∷ objects_pruned kept (objects_celled cell os)) (object_turn o.1) ∙ ap (λ xs. (o.0, object_celled cell (object_pruned kept o.1)) ∷ xs) (objects_turn os)
+    objects_turn (o ∷ os) = ap (λ x. (o.0, x) ∷ objects_pruned kept (objects_celled cell os)) (grind (arith, shape_turn, features_turn))
+        ∙ ap (λ xs. (o.0, object_celled cell (object_pruned kept o.1)) ∷ xs) (objects_turn os)
 
   -- ---- the same lines, so the same arcs are used
 
@@ -154,11 +146,8 @@ module _ (transform : Transform) (cell : Point → Point) where
 
 -- ---- what is built of layers
 
-celled_again : (transform : Transform) (cell : Point → Point) (t : ℕ) (ls : Named) → AllByRecursion (λ a. AllByRecursion (LiesBack transform cell) a) (built 0 ls).arcs →
-    lessened t (celled transform cell (built 0 ls)) ≡ celled transform cell (lessened t (built 0 ls))
-unfolding built trimmed
-celled_again transform cell t ls h = lessened_celled transform cell t (built 0 ls).objects (built 0 ls).arcs h
-
 pub lessens_on_grid : DirectionLaw → ZeroLaw → NoneIsNew → LessensToBuiltOnGrid
+unfolding built trimmed
 lessens_on_grid law stays none transform cell t ls sound lie =
-    celled_again transform cell t ls (built_cells none (LiesBack transform cell) 0 ls lie).0 ∙ ap (celled transform cell) (lessens_to_built law stays t ls sound)
+    (lessened_celled transform cell t (built 0 ls).objects (built 0 ls).arcs (built_cells none (LiesBack transform cell) 0 ls lie).0) ∙ ap
+    (celled transform cell) (lessens_to_built law stays t ls sound)

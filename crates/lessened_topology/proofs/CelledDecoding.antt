@@ -1,5 +1,5 @@
 -- A topology on a grid decodes to what the topology decodes to whose positions its cells stand for.
-use Rattle.std.proofs.Common.{rules, arith, ◌≡◌, ℕ, ℤ, bytes_eq, Bool, cond, List, [], ◌∷◌, map, Option, None, Some, refl, ap, ◌∙◌, subst}
+use Rattle.std.proofs.Common.{rules, arith, ◌≡◌, ℕ, ℤ, bytes_eq, Bool, List, [], ◌∷◌, map, Option, None, Some, refl, ap, ◌∙◌, subst}
 use Rattle.std.specs.List.{AllByRecursion}
 use Rattle.list_laws.proofs.Elements.{all_left, all_right}
 use Rattle.list_laws.proofs.Lists.{map_agree}
@@ -33,9 +33,7 @@ module _ {M : Type 0} (one two : Point → Point) (kept : Bool → List ℤ → 
   Agrees s = AllByRecursion Same (places s) → prune one kept s ≡ prune two kept s
 
   at_point : (p : Point) → Agrees (g.Point p)
-  at_point p h =
-      let k : AllByRecursion Same (p ∷ []) = subst (AllByRecursion Same) (places_at.point p) h in
-      rw (prune-point one kept p, prune-point two kept p) (ap (λ q. Some (g.Point q)) k.0)
+  at_point p h = grind (arith, places_at.point, prune-point)
 
   at_points : (ps : List Point) → Agrees (g.MultiPoint ps)
   at_points ps h =
@@ -46,9 +44,6 @@ module _ {M : Type 0} (one two : Point → Point) (kept : Bool → List ℤ → 
   members [] all h = refl
   members (s ∷ ss) all h = rw (all.0 (all_left Same (places s) (joined (map places ss)) h), members ss all.1 (all_right Same (places s) (joined (map places ss)) h)) refl
 
-  at_group : (ss : List TopoShape) → AllByRecursion Agrees ss → Agrees (g.Group ss)
-  at_group ss all h = grind (arith, prune-group one kept ss, prune-group two kept ss, members ss all (subst (AllByRecursion Same) (places_at.group ss) h))
-
   pub placed_alike : (s : TopoShape) → AllByRecursion Same (places s) → prune one kept s ≡ prune two kept s
   placed_alike = by_kinds Agrees (record {
     point = at_point;
@@ -57,7 +52,13 @@ module _ {M : Type 0} (one two : Point → Point) (kept : Bool → List ℤ → 
     lines = λ ls h. rw (prune-lines one kept ls, prune-lines two kept ls) refl;
     area = λ rs h. rw (prune-area one kept rs, prune-area two kept rs) refl;
     areas = λ areas h. rw (prune-areas one kept areas, prune-areas two kept areas) refl;
-    group = at_group;
+    group = (λ ss all h. grind (
+      arith,
+      prune-group one kept ss,
+      prune-group two kept ss,
+      members ss all (subst (AllByRecursion Same)
+          (places_at.group ss) h),
+    ));
   })
 
 -- ---- what is decoded of each object
@@ -76,9 +77,6 @@ module _ (transform : Transform) (cell : Point → Point) (arcs : List (List Poi
   shape_same None h = refl
   shape_same (Some s) h = composed cell lies (λ closed refs. Some refs) line_of s ∙ placed_alike (λ p. lies (cell p)) (λ p. p) line_of s h
 
-  abbrev with_shape : TopoFeature → Option Shape → Featured
-  with_shape f s = record { id = f.id; properties = f.properties; shape = s }
-
   features_same : (fs : List TopoFeature) → Lies (features_places fs) → map (decoded_feature lies arcs) (map (feature_celled cell) fs) ≡ map (decoded_feature (λ p. p) arcs) fs
   features_same [] h = refl
   features_same (f ∷ fs) h = grind (arith, shape_same, all_left, all_right, features_same fs (all_right (LiesBack transform cell) (option_places f.shape) (features_places fs) h))
@@ -89,15 +87,15 @@ module _ (transform : Transform) (cell : Point → Point) (arcs : List (List Poi
   name_same : (name : List ℕ) (os : List (List ℕ × TopoObject)) → Lies (objects_places os)
       → map_some (decoded_object lies arcs) (of_name name (objects_celled cell os)) ≡ map_some (decoded_object (λ p. p) arcs) (of_name name os)
   name_same name [] h = refl
-  name_same name (o ∷ os) h =
-      on (bytes_eq o.0 name) (object_same o.1 (all_left (LiesBack transform cell) (features_places (object_features o.1)) (objects_places os) h))
-      (name_same name os (all_right (LiesBack transform cell) (features_places (object_features o.1)) (objects_places os) h))
-    where
-      on : (b : Bool) → decoded_object lies arcs (object_celled cell o.1) ≡ decoded_object (λ p. p) arcs o.1
-          → map_some (decoded_object lies arcs) (of_name name (objects_celled cell os)) ≡ map_some (decoded_object (λ p. p) arcs) (of_name name os)
-          → map_some (decoded_object lies arcs) (cond b (Some (object_celled cell o.1)) (of_name name (objects_celled cell os)))
-          ≡ map_some (decoded_object (λ p. p) arcs) (cond b (Some o.1) (of_name name os))
-      on b e ih = grind arith
+  name_same name (o ∷ os) h = grind (
+    arith,
+    bytes_eq,
+    object_same,
+    all_left,
+    all_right,
+    name_same name os (all_right
+        (LiesBack transform cell) (features_places (object_features o.1)) (objects_places os) h),
+  )
 
 -- ---- topologies
 
@@ -106,9 +104,6 @@ plain_same : (transform : Transform) (cell : Point → Point) (os : List (List �
     → decoded (celled transform cell (record { objects = os; arcs = arcs; transform = None })) name ≡ decoded (record { objects = os; arcs = arcs; transform = None }) name
 unfolding decoded celled
 plain_same transform cell os arcs name h = search (rules, all_lie_back, name_same)
-
-abbrev DecodesSame : Transform → (Point → Point) → List ℕ → Contents → Type 0
-DecodesSame transform cell name z = EachCell (LiesBack transform cell) z → decoded (celled transform cell z) name ≡ decoded z name
 
 pub celled_decodes : CelledDecodes
 celled_decodes transform cell y name plain h = grind (arith, plain_same)

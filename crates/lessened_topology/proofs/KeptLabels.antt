@@ -1,11 +1,10 @@
 -- What stays of a topology whose arcs are reduced: names, identifiers and properties.
-use Rattle.std.proofs.Common.{◌≡◌, ℕ, Bool, List, [], ◌∷◌, map, Option, refl, ap, ◌∙◌}
+use Rattle.std.proofs.Common.{◌≡◌, ℕ, Bool, List, [], ◌∷◌, map, Option, refl, ap, arith}
 use Rattle.build_meaning.specs.Trimming.{feature_renumbered, object_renumbered, trimmed}
 use Rattle.geojson_types.specs.declared.id.Id.{Id}
 use Rattle.json_value.specs.declared.json.Json.{Json}
 use Rattle.topojson_types.specs.declared.feature.TopoFeature.{TopoFeature}
 use Rattle.topojson_types.specs.declared.object.TopoObject.{TopoObject}
-use Rattle.topojson_types.specs.declared.object.TopoObject.TheVariants.{One, Many}
 use Rattle.topojson_types.specs.Topologies.{object_features}
 use Rattle.lessened_topology.specs.Laws.{LessenedKeeps}
 use Rattle.lessened_topology.specs.Lessened.{Refs, feature_pruned, object_pruned, objects_pruned, lessened_by}
@@ -25,14 +24,11 @@ module _ (used : ℕ → Bool) (kept : Refs) where
   features_keep (f ∷ fs) = ap (λ ls. label f ∷ ls) (features_keep fs)
 
   object_keeps : (o : TopoObject) → map label (object_features (object_renumbered used (object_pruned kept o))) ≡ map label (object_features o)
-  object_keeps (One f) = refl
-  object_keeps (Many fs) = features_keep fs
+  object_keeps o = grind (arith, features_keep)
 
   objects_keep : (os : List (List ℕ × TopoObject)) → map named (map (λ o. (o.0, object_renumbered used o.1)) (objects_pruned kept os)) ≡ map named os
   objects_keep [] = refl
-  objects_keep (o ∷ os) =
-      ap (λ (ls : List Label). (o.0, ls) ∷ map named (map (λ o. (o.0, object_renumbered used o.1)) (objects_pruned kept os))) (object_keeps o.1)
-      ∙ ap (λ ls. named o ∷ ls) (objects_keep os)
+  objects_keep (o ∷ os) = grind (arith, object_keeps, objects_keep os)
 
 pub lessened_keeps : LessenedKeeps
 unfolding lessened_by trimmed

@@ -1,5 +1,5 @@
 -- What is built of layers at zero and then reduced is what is built of them at the threshold.
-use Rattle.std.proofs.Common.{rules, arith, ◌≡◌, ℕ, ℤ, Bool, false, cond, List, map, Option, None, Some, refl, sym, ap, ◌∙◌, subst}
+use Rattle.std.proofs.Common.{rules, arith, ◌≡◌, ℕ, ℤ, Bool, false, cond, List, map, None, Some, refl, sym, ap, ◌∙◌, subst}
 use Rattle.std.specs.List.{AllByRecursion}
 use Rattle.arc_table.specs.Arcs.{index_in}
 use Rattle.arc_table.proofs.Rejoining.{same_rejoined}
@@ -7,7 +7,6 @@ use Rattle.cutter.specs.Pieces.{pieces, from_start}
 use Rattle.cutter.specs.Places.{In, Apart, interior}
 use Rattle.elimination_meaning.specs.Elimination.{reduced}
 use Rattle.elimination_meaning.specs.Laws.{DirectionLaw, ZeroLaw}
-use Rattle.geometry.specs.declared.address.Cause.{Cause}
 use Rattle.geometry.specs.declared.address.Cause.TheVariants.{Small}
 use Rattle.geometry.specs.Lists.{then_some}
 use Rattle.geometry.specs.Points.{Point}
@@ -18,7 +17,7 @@ use Rattle.junctions.specs.declared.stroke.Stroke.{Stroke}
 use Rattle.topojson_types.specs.declared.object.TopoObject.{TopoObject}
 use Rattle.topojson_types.specs.Topologies.{objects_strokes}
 use Rattle.build_meaning.specs.Built.{all_arcs, kept_refs, untrimmed, built}
-use Rattle.build_meaning.specs.Expected.{cleaned, own_pieces, own_cause, rebuilt, is_small, unless, kept_line}
+use Rattle.build_meaning.specs.Expected.{cleaned, own_pieces, own_cause, rebuilt, is_small, kept_line}
 use Rattle.build_meaning.specs.Laws.{AreSound, whole_line}
 use Rattle.build_meaning.specs.Layers.{Named, layers_of, named_strokes}
 use Rattle.build_meaning.specs.Objects.{objects_by}
@@ -70,11 +69,8 @@ module _ (u : ℕ → Bool) (arcs : List (List Point)) where
   abbrev fewer : List (List Point)
   fewer = keep_from u 0 arcs
 
-  unless_renumbered : (b : Bool × List ℤ) (w : Option Cause) → unless w (map (renumbered u) b.1) ≡ then_some (line_renumbered u b.0) (unless w b.1)
-  unless_renumbered b w = grind arith
-
   refs_same : (b : Bool × List ℤ) → AllUsed u b → large_refs fewer b.0 (map (renumbered u) b.1) ≡ then_some (line_renumbered u b.0) (large_refs arcs b.0 b.1)
-  refs_same b h = grind (arith, all_renumbered u arcs b.1 h, unless_renumbered b (small_cause arcs b.0 b.1))
+  refs_same b h = search (arith, all_renumbered u arcs b.1 h)
 
   -- reduced and then renumbered is renumbered and then reduced
   objects_same : (os : List (List ℕ × TopoObject)) → AllByRecursion (AllUsed u) (objects_strokes os) →

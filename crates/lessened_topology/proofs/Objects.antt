@@ -1,5 +1,5 @@
 -- Objects that are pruned twice, and the lines and rings of pruned objects.
-use Rattle.std.proofs.Common.{rules, arith, ◌≡◌, ℕ, ℤ, Bool, List, [], ◌∷◌, ◌++◌, map, Option, None, Some, refl, sym, ap, ◌∙◌}
+use Rattle.std.proofs.Common.{rules, arith, ◌≡◌, ℕ, ℤ, Bool, List, [], ◌∷◌, map, Option, None, Some, refl}
 use Rattle.std.proofs.lemmas.List.{map-append}
 use Rattle.std.specs.List.{AllByRecursion}
 use Rattle.geometry.specs.Lists.{then_some}
@@ -19,9 +19,6 @@ use Rattle.lessened_topology.proofs.Replaced.{strokes_replaced}
 abbrev Named_objects : Type 0
 Named_objects = List (List ℕ × TopoObject)
 
-abbrev with_shape : TopoFeature → Option TopoShape → TopoFeature
-with_shape f s = record { id = f.id; properties = f.properties; shape = s }
-
 -- ---- objects pruned twice are pruned at once
 
 module _ (one two at_once : Refs) where
@@ -36,12 +33,17 @@ module _ (one two at_once : Refs) where
   features_then [] h = refl
   features_then (f ∷ fs) h = grind (arith, shape_then, all_left, all_right, features_then fs (all_right Meets (option_strokes f.shape) (features_strokes fs) h))
 
-  object_then : (o : TopoObject) → AllByRecursion Meets (features_strokes (object_features o)) → object_pruned two (object_pruned one o) ≡ object_pruned at_once o
-  object_then o h = grind (arith, shape_then, all_left, features_then)
-
   pub objects_then : (os : Named_objects) → AllByRecursion Meets (objects_strokes os) → objects_pruned two (objects_pruned one os) ≡ objects_pruned at_once os
   objects_then [] h = refl
-  objects_then (o ∷ os) h = grind (arith, object_then, all_left, all_right, objects_then os (all_right Meets (features_strokes (object_features o.1)) (objects_strokes os) h))
+  objects_then (o ∷ os) h = grind (
+    arith,
+    shape_then,
+    all_left,
+    features_then,
+    all_right,
+    objects_then os (all_right Meets
+        (features_strokes (object_features o.1)) (objects_strokes os) h),
+  )
 
 -- ---- what holds of the lines and rings that are left
 
@@ -74,10 +76,7 @@ module _ (f : List ℤ → List ℤ) where
 
   features_replaced : (fs : List TopoFeature) → features_strokes (map (feature_pruned all_of) fs) ≡ map onto (features_strokes fs)
   features_replaced [] = refl
-  features_replaced (x ∷ fs) =
-      ap (λ l. l ++ features_strokes (map (feature_pruned all_of) fs)) (option_replaced x.shape)
-      ∙ ap (λ l. map onto (option_strokes x.shape) ++ l) (features_replaced fs)
-      ∙ sym (map-append onto (option_strokes x.shape) (features_strokes fs))
+  features_replaced (x ∷ fs) = grind (arith, option_replaced, map-append, features_replaced fs)
 
   object_replaced : (o : TopoObject) → features_strokes (object_features (object_pruned all_of o)) ≡ map onto (features_strokes (object_features o))
   object_replaced (One x) = features_replaced (x ∷ [])
@@ -85,7 +84,4 @@ module _ (f : List ℤ → List ℤ) where
 
   pub objects_replaced : (os : Named_objects) → objects_strokes (objects_pruned (λ closed refs. Some (f refs)) os) ≡ map (λ b. (b.0, f b.1)) (objects_strokes os)
   objects_replaced [] = refl
-  objects_replaced (o ∷ os) =
-      ap (λ l. l ++ objects_strokes (objects_pruned all_of os)) (object_replaced o.1)
-      ∙ ap (λ l. map onto (features_strokes (object_features o.1)) ++ l) (objects_replaced os)
-      ∙ sym (map-append onto (features_strokes (object_features o.1)) (objects_strokes os))
+  objects_replaced (o ∷ os) = grind (arith, object_replaced, map-append, objects_replaced os)

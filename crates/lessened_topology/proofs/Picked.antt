@@ -12,6 +12,8 @@ use Rattle.build_meaning.specs.Trimming.{keep_from}
 use Rattle.build_meaning.proofs.Trimmed.{kept_of_map}
 use Rattle.lessened_topology.specs.Laws.{PickedIsReduced}
 use Rattle.lessened_topology.specs.Lessened.{picked, picked_arcs}
+use Rattle.list_laws.proofs.Elements.{all_parts, all_map, all_of_map, all_two, all_weaker}
+use Rattle.list_laws.proofs.Lists.{map_agree}
 
 -- the vertex stands in the line at its index
 abbrev Stands : List Point → Vertex → Type 0
@@ -41,8 +43,7 @@ picked_each f [] = refl
 picked_each f (a ∷ arcs) = ap (λ xs. picked (f a) a ∷ xs) (picked_each f arcs)
 
 pub each_reduced : (t : ℕ) (arcs : List (List Point)) → map (λ a. picked (reduce t a) a) arcs ≡ map (reduced t) arcs
-each_reduced t [] = refl
-each_reduced t (a ∷ arcs) = ap (λ x. x ∷ map (λ a. picked (reduce t a) a) arcs) (picked_is_reduced t a) ∙ ap (λ xs. reduced t a ∷ xs) (each_reduced t arcs)
+each_reduced t arcs = search (all_parts, all_map, all_of_map, all_two, all_weaker, map_agree, picked_is_reduced)
 
 each_again : ZeroLaw → (t : ℕ) (arcs : List (List Point)) → map (reduced t) (map (reduced 0) arcs) ≡ map (reduced t) arcs
 each_again zero t [] = refl

@@ -1,5 +1,5 @@
 -- The indexes that reduction leaves of an arc reach from its first cell to its last, so a topology that is reduced is valid.
-use Rattle.std.proofs.Common.{◌≡◌, ℕ, suc, ◌+◌, ◌-◌, ◌≤◌, List, [], ◌∷◌, ◌++◌, map, length, Option, None, Some, refl, sym, ap, ◌∙◌, subst, arith}
+use Rattle.std.proofs.Common.{◌≡◌, ℕ, suc, ◌+◌, ◌-◌, ◌≤◌, List, [], ◌∷◌, ◌++◌, map, length, Option, Some, refl, sym, ap, ◌∙◌, subst, arith}
 use Rattle.std.specs.List.{AllByRecursion}
 use Rattle.std.proofs.lemmas.List.{length-append, length-map}
 use Rattle.elimination_meaning.specs.Elimination.{reduce}
@@ -7,7 +7,6 @@ use Rattle.elimination_meaning.proofs.Ends.{index_ends_stay}
 use Rattle.geometry.specs.Points.{Point}
 use Rattle.list_laws.proofs.Elements.{all_weaker}
 use Rattle.topojson_types.specs.declared.transform.Transform.{Transform}
-use Rattle.topojson_types.specs.Transforms.{place_on}
 use Rattle.topojson_types.specs.Validity.{IsArc}
 use Rattle.build_meaning.proofs.ValidEnds.{last_end, split_last}
 use Rattle.lessened_topology.specs.Laws.{IndexesReach, ReducedIsValid}
@@ -16,8 +15,7 @@ use Rattle.lessened_topology.specs.Thresholds.{placed_cells, reduced_indexes, le
 use Rattle.lessened_topology.proofs.Valid.{lessened_is_valid}
 
 placed_length : (transform : Option Transform) (cells : List Point) → length (placed_cells transform cells) ≡ length cells
-placed_length None cells = refl
-placed_length (Some t) cells = length-map cells (place_on t)
+placed_length transform cells = grind (arith, length-map)
 
 by_ends : (t : ℕ) (p q : Point) (ps : List Point) → FromFirstToLast (length (p ∷ (ps ++ (q ∷ [])))) (reduce t (p ∷ (ps ++ (q ∷ []))))
 by_ends t p q ps =

@@ -64,10 +64,7 @@ module _ {P Q L M : Type 0} (place : P → Q) (f : L → M) where
 
   members : (ss : List (Geometry P L L)) → AllByRecursion Replaced ss → joined (map within (some_of run ss)) ≡ map onto (joined (map before ss))
   members [] all = refl
-  members (s ∷ ss) all =
-      with_member (run s) (some_of run ss) ∙ ap (λ ms. ms ++ joined (map within (some_of run ss))) all.0
-      ∙ ap (λ ms. map onto (before s) ++ ms) (members ss all.1)
-      ∙ sym (map-append onto (before s) (joined (map before ss)))
+  members (s ∷ ss) all = grind (arith, with_member, map-append, members ss all.1)
 
   -- ---- shapes
 

@@ -1,13 +1,13 @@
 -- Worked rows of topologies whose arcs are reduced, computed from the definitions. The fold of a shape is opened by its kind.
-use Rattle.std.proofs.Common.{◌≡◌, ◌==◌, ℕ, ◌-◌, ℤ, pos, negsuc, Bool, true, false, List, [], ◌∷◌, ◌++◌, Option, None, Some, refl, ap, ◌∙◌}
+use Rattle.std.proofs.Common.{◌≡◌, ◌==◌, ℕ, ◌-◌, ℤ, pos, negsuc, Bool, true, false, List, [], ◌∷◌, Option, None, Some, refl, ap, ◌∙◌}
 use Rattle.std.specs.List.{list_any}
 use Rattle.elimination_meaning.specs.Elimination.{is_before, reduce}
 use Rattle.geometry.specs.Areas.{cross, twice_area}
 use Rattle.geometry.specs.declared.address.Cause.TheVariants.{Small, Outer}
 use Rattle.geometry.specs.declared.shape.Geometry.TheVariants as g
-use Rattle.geometry.specs.Omissions.{omissions, dropped_of_layers}
+use Rattle.geometry.specs.Omissions.{omissions}
 use Rattle.geometry.specs.Points.{Point}
-use Rattle.geometry.specs.Pruning.{prune, strokes}
+use Rattle.geometry.specs.Pruning.{prune}
 use Rattle.geometry.specs.Rings.{same}
 use Rattle.geometry.proofs.Cases.{prune-line, prune-area, strokes-line, strokes-area, omissions-area, omissions-line}
 use Rattle.topojson_types.specs.declared.feature.TopoFeature.{TopoFeature}
@@ -75,15 +75,13 @@ abbrev left : Contents
 left = record { objects = two (Some (g.Area ((pos 0 ∷ []) ∷ []))) (Some (g.Line (negsuc 2 ∷ []))); arcs = fewer; transform = None }
 
 holed_left : picked_whole (reduced_indexes 2 holed) holed ≡ left
-holed_left = ap whole holed_arcs ∙ ap (λ s. record { objects = two s (prune (λ p. p) (large_refs fewer) (g.Line (negsuc 2 ∷ []))); arcs = fewer; transform = None }) holed_area
-    ∙ ap (λ s. record { objects = two (Some (g.Area ((pos 0 ∷ []) ∷ []))) s; arcs = fewer; transform = None }) holed_line
+holed_left = simp (holed_arcs, holed_area, holed_line)
 
 abbrev names : List (Bool × List ℤ)
 names = (true, pos 0 ∷ []) ∷ ((false, negsuc 2 ∷ []) ∷ [])
 
 left_strokes : objects_strokes left.objects ≡ names
-left_strokes = ap (λ l. (l ++ (strokes {P = Point} (g.Line (negsuc 2 ∷ [])) ++ [])) ++ []) (strokes-area Point (List ℤ) ((pos 0 ∷ []) ∷ []))
-    ∙ ap (λ l. (((true, pos 0 ∷ []) ∷ []) ++ (l ++ [])) ++ []) (strokes-line Point (List ℤ) (negsuc 2 ∷ []))
+left_strokes = simp (strokes-area, strokes-line)
 
 abbrev used_in : List (Bool × List ℤ) → ℕ → Bool
 used_in bs i = list_any (λ b. list_any (λ r. number_of r == i) b.1) bs
@@ -113,10 +111,7 @@ holed_at_two =
 -- the hole is told of, as Small
 holed_dropped : lessened_dropped 2 holed ≡ record { address = record { layer = 0; feature = 0; path = 1 ∷ [] }; cause = Small } ∷ []
 unfolding lessened_dropped dropped_by same
-holed_dropped =
-    ap (λ arcs. dropped_of_layers 0 ((omissions {P = Point} (small_cause arcs) (g.Area rings) ∷ (omissions {P = Point} (small_cause arcs) (g.Line (negsuc 2 ∷ [])) ∷ [])) ∷ [])) holed_arcs
-    ∙ ap (λ o. dropped_of_layers 0 ((o ∷ (omissions {P = Point} (small_cause fewer) (g.Line (negsuc 2 ∷ [])) ∷ [])) ∷ [])) (omissions-area Point (List ℤ) (small_cause fewer) rings)
-    ∙ ap (λ o. dropped_of_layers 0 (((record { path = 1 ∷ []; part = Small } ∷ []) ∷ (o ∷ [])) ∷ [])) (omissions-line Point (List ℤ) (small_cause fewer) (negsuc 2 ∷ []))
+holed_dropped = simp (holed_arcs, omissions-area, omissions-line)
 
 -- of the arcs that stay nothing is taken out: the triangle's isn't counted
 holed_taken_out : lessened_taken_out 2 holed ≡ 0
@@ -153,6 +148,4 @@ lone_arcs = refl
 
 lone_dropped : lessened_dropped 2 lone ≡ record { address = record { layer = 1; feature = 0; path = [] }; cause = Small } ∷ []
 unfolding lessened_dropped dropped_by same
-lone_dropped =
-    ap (λ arcs. dropped_of_layers 0 ([] ∷ ((omissions {P = Point} (small_cause arcs) (g.Line (pos 0 ∷ [])) ∷ []) ∷ []))) lone_arcs
-    ∙ ap (λ o. dropped_of_layers 0 ([] ∷ ((o ∷ []) ∷ []))) (omissions-line Point (List ℤ) (small_cause lone_fewer) (pos 0 ∷ []))
+lone_dropped = simp (lone_arcs, omissions-line)

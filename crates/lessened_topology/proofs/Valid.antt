@@ -1,8 +1,7 @@
 -- A topology whose arcs are reduced stays valid.
-use Rattle.std.proofs.Common.{arith, ◌≡◌, ℕ, ◌≤◌, ℤ, Bool, true, List, [], ◌∷◌, map, length, Option, Some, refl, sym, ap, subst}
+use Rattle.std.proofs.Common.{arith, ◌≡◌, ℕ, ◌≤◌, ℤ, Bool, List, [], ◌∷◌, map, length, Option, Some, refl, sym, ap, subst}
 use Rattle.std.specs.List.{AllByRecursion}
 use Rattle.geometry.specs.declared.address.Cause.{Cause}
-use Rattle.geojson_types.specs.Features.{is_some_list}
 use Rattle.geometry.specs.Points.{Point}
 use Rattle.topojson_types.specs.declared.object.TopoObject.{TopoObject}
 use Rattle.topojson_types.specs.Decoding.{placed_arcs}
@@ -37,8 +36,7 @@ all_fine y h =
 -- ---- without the arcs that no line uses
 
 some_renumbered : (used : ℕ → Bool) → GivesSome (line_renumbered used)
-some_renumbered used closed [] h m e = cc
-some_renumbered used closed (r ∷ rs) h m e = let same : map (renumbered used) (r ∷ rs) ≡ m = cc in subst (λ z. is_some_list z ≡ true) same refl
+some_renumbered used closed x2 h m e = grind arith
 
 valid_trimmed : (y : Contents) → IsTopology y → IsTopology (trimmed y)
 unfolding trimmed
@@ -66,9 +64,6 @@ valid_trimmed y h =
 
 -- ---- without some cells between the ends of arcs, and without lines that are too short
 
-some_large : (arcs : List (List Point)) → GivesSome (large_refs arcs)
-some_large arcs closed l h m e = grind arith
-
 valid_whole : (kept : List (List ℕ)) (y : Contents) → IsTopology y → EachFromFirstToLast kept y.arcs → IsTopology (picked_whole kept y)
 valid_whole kept y h through =
     let fewer : List (List Point) = picked_arcs kept y.arcs in
@@ -87,14 +82,15 @@ valid_whole kept y h through =
     record {
       names = subst AreDistinct (sym (names_stay (large_refs places) y.objects)) h.names;
       transform = h.transform;
-      objects = objects_are (large_refs places) (some_large places) y.transform y.objects h.objects;
+      objects = objects_are (large_refs places) (λ closed l h m e. grind arith) y.transform y.objects h.objects;
       arcs = picked_are_arcs y.transform kept y.arcs h.arcs through;
       ranged = all_weaker (IsFine fewer) (λ b. AreInRange (length fewer) b.1) (λ b f. f.0) (objects_strokes os) fine;
       joined = all_weaker (IsFine fewer) (IsJoined fewer) (λ b f. f.1) (objects_strokes os) fine;
       closed = all_weaker (IsFine fewer) (IsClosed fewer) (λ b f. f.2) (objects_strokes os) fine;
     }
   where
-    same : (fewer : List (List Point)) (b : Bool × List ℤ) (m : List ℤ) (w : Option Cause) → IsFine fewer b → unless w b.1 ≡ Some m → IsFine fewer (b.0, m)
+    same : (fewer : List (List Point)) (b : Bool × List ℤ) (m : List ℤ)
+        (w : Option Cause) → IsFine fewer b → unless w b.1 ≡ Some m → IsFine fewer (b.0, m)
     same fewer b m w f k = grind arith
 
 -- ---- both

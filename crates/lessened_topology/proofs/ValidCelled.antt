@@ -1,5 +1,5 @@
 -- A topology on a grid is valid where the topology is whose positions its cells stand for.
-use Rattle.std.proofs.Common.{rules, arith, ◌≡◌, ℕ, ◌≤◌, ℤ, true, List, [], ◌∷◌, map, length, Option, None, Some, refl, sym, ap, ◌∙◌, subst}
+use Rattle.std.proofs.Common.{rules, arith, ◌≡◌, ℕ, ◌≤◌, ℤ, true, List, [], ◌∷◌, map, Option, None, Some, refl, sym, ap, ◌∙◌, subst}
 use Rattle.std.specs.List.{AllByRecursion}
 use Rattle.std.proofs.lemmas.List.{length-map}
 use Rattle.elimination_meaning.proofs.Direction.{map_reverse}
@@ -10,11 +10,11 @@ use Rattle.list_laws.proofs.Elements.{all_left, all_right, all_two, all_map, all
 use Rattle.topojson_types.specs.declared.feature.TopoFeature.{TopoFeature}
 use Rattle.topojson_types.specs.declared.object.TopoObject.{TopoObject}
 use Rattle.topojson_types.specs.declared.transform.Transform.{Transform}
-use Rattle.geometry.specs.Joins.{at, or_empty, arc_at, first_of, last_of, Meet, Closes}
-use Rattle.topojson_types.specs.Topologies.{Contents, object_features, objects_strokes}
+use Rattle.geometry.specs.Joins.{or_empty, arc_at, first_of, last_of, Meet, Closes}
+use Rattle.topojson_types.specs.Topologies.{Contents, object_features}
 use Rattle.topojson_types.specs.Transforms.{IsTransform}
-use Rattle.topojson_types.specs.Validity.{option_places, IsPlace, IsFeature, IsObject, AreDistinct, AreInRange, IsJoined, IsClosed, IsArc, IsTopology}
-use Rattle.lessened_topology.specs.Celled.{feature_celled, object_celled, objects_celled, celled, IsOnGrid, features_places, objects_places, EachCell}
+use Rattle.topojson_types.specs.Validity.{option_places, IsPlace, IsFeature, IsObject, IsArc, IsTopology}
+use Rattle.lessened_topology.specs.Celled.{feature_celled, objects_celled, celled, IsOnGrid, features_places, objects_places, EachCell}
 use Rattle.lessened_topology.specs.Laws.{CelledIsValid}
 use Rattle.lessened_topology.specs.Lessened.{Refs}
 use Rattle.lessened_topology.proofs.Celled.{at_map, objects_lines}
@@ -53,11 +53,8 @@ module _ (f : Point → Point) where
   empty_map : (o : Option (List Point)) → or_empty (map_some anew o) ≡ anew (or_empty o)
   empty_map o = grind arith
 
-  number_map : (arcs : List (List Point)) (i : ℕ) → or_empty (at (map anew arcs) i) ≡ anew (or_empty (at arcs i))
-  number_map arcs i = ap or_empty (at_map anew arcs i) ∙ empty_map (at arcs i)
-
   arc_map : (arcs : List (List Point)) (r : ℤ) → arc_at (map anew arcs) r ≡ anew (arc_at arcs r)
-  arc_map arcs r = grind (arith, number_map, map_reverse)
+  arc_map arcs r = grind (arith, at_map, empty_map, map_reverse)
 
   line_map : (arcs : List (List Point)) (refs : List ℤ) → map (arc_at (map anew arcs)) refs ≡ map anew (map (arc_at arcs) refs)
   line_map arcs [] = refl
@@ -75,11 +72,8 @@ module _ (transform : Transform) (cell : Point → Point) where
   abbrev IsThere : Point → Type 0
   IsThere = IsPlace (Some transform)
 
-  there : (p : Point) → IsPosition p → On p → IsThere (cell p)
-  there p h k = (k.0, subst IsPosition (sym k.1) h)
-
   all_there : (ps : List Point) → AllByRecursion IsPosition ps → AllOn ps → AllByRecursion (λ p. IsThere (cell p)) ps
-  all_there = all_two IsPosition On (λ p. IsThere (cell p)) there
+  all_there = all_two IsPosition On (λ p. IsThere (cell p)) (λ p h k. (k.0, subst IsPosition (sym k.1) h))
 
   arc_there : (a : List Point) → IsArc None a → AllOn a → IsArc (Some transform) (map cell a)
   arc_there a h k = (subst (λ n. 2 ≤ n) (sym (length-map a cell)) h.0, all_map IsThere cell a (all_there a h.1 k))
@@ -99,13 +93,19 @@ module _ (transform : Transform) (cell : Point → Point) where
   features_there [] h k = tt
   features_there (f ∷ fs) h k = search (rules, feature_there, all_left, all_right, features_there fs h.1 (all_right On (option_places f.shape) (features_places fs) k))
 
-  object_there : (o : TopoObject) → IsObject None o → AllOn (features_places (object_features o)) → IsObject (Some transform) (object_celled cell o)
-  object_there o h k = grind (arith, feature_there, all_left, option_single, features_there)
-
   objects_there : (os : List (List ℕ × TopoObject)) → AllByRecursion (λ o. IsObject None o.1) os → AllOn (objects_places os)
       → AllByRecursion (λ o. IsObject (Some transform) o.1) (objects_celled cell os)
   objects_there [] h k = tt
-  objects_there (o ∷ os) h k = grind (arith, object_there, all_left, all_right, objects_there os h.1 (all_right On (features_places (object_features o.1)) (objects_places os) k))
+  objects_there (o ∷ os) h k = grind (
+    arith,
+    feature_there,
+    all_left,
+    option_single,
+    features_there,
+    all_right,
+    objects_there os h.1
+        (all_right On (features_places (object_features o.1)) (objects_places os) k),
+  )
 
   names_stay : (os : List (List ℕ × TopoObject)) → map (λ o. o.0) (objects_celled cell os) ≡ map (λ o. o.0) os
   names_stay [] = refl
@@ -116,20 +116,20 @@ module _ (transform : Transform) (cell : Point → Point) where
   valid_plain : (os : List (List ℕ × TopoObject)) (arcs : List (List Point)) → IsTransform transform → EachCell On (record { objects = os; arcs = arcs; transform = None })
       → IsTopology (record { objects = os; arcs = arcs; transform = None }) → IsTopology (celled transform cell (record { objects = os; arcs = arcs; transform = None }))
   unfolding celled
-  valid_plain os arcs numbers on h =
-      let lines : objects_strokes os ≡ objects_strokes (objects_celled cell os) = sym (objects_lines transform cell os) in
-      let cells : List (List Point) = map (map cell) arcs in
-      record {
-        names = subst AreDistinct (sym (names_stay os)) h.names;
-        transform = numbers;
-        objects = objects_there os h.objects on.1;
-        arcs = all_map (IsArc (Some transform)) (map cell) arcs (all_two (IsArc None) AllOn (λ a. IsArc (Some transform) (map cell a)) arc_there arcs h.arcs on.0);
-        ranged = subst (AllByRecursion (λ b. AreInRange (length cells) b.1)) lines (subst (λ n. AllByRecursion (λ b. AreInRange n b.1) (objects_strokes os)) (sym (length-map arcs (map cell))) h.ranged);
-        joined = subst (AllByRecursion (IsJoined cells)) lines
-            (all_weaker (IsJoined arcs) (IsJoined cells) (λ b k. subst Meet (sym (line_map cell arcs b.1)) (meet_map cell (map (arc_at arcs) b.1) k)) (objects_strokes os) h.joined);
-        closed = subst (AllByRecursion (IsClosed cells)) lines
-            (all_weaker (IsClosed arcs) (IsClosed cells) (λ b k e. subst Closes (sym (line_map cell arcs b.1)) (close_map cell (map (arc_at arcs) b.1) (k e))) (objects_strokes os) h.closed);
-      }
+  valid_plain os arcs numbers on h = search (
+    rules,
+    objects_lines,
+    names_stay,
+    objects_there,
+    all_map,
+    all_two,
+    arc_there,
+    length-map,
+    all_weaker,
+    line_map,
+    meet_map,
+    close_map,
+  )
 
 abbrev IsValidOn : Transform → (Point → Point) → Contents → Type 0
 IsValidOn transform cell z = EachCell (IsOnGrid transform cell) z → IsTopology z → IsTopology (celled transform cell z)

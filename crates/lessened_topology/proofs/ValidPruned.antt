@@ -1,11 +1,11 @@
 -- A shape of a topology of which some lines and rings are left out has no empty list where what is given for a line that has an element
 -- has one, its Points and MultiPoints stay where they are, and it is no group unless it was one.
-use Rattle.std.proofs.Common.{arith, ◌≡◌, ℕ, ℤ, Bool, true, false, List, [], ◌∷◌, map, Option, None, Some, refl, sym, ap, ◌∙◌, subst}
+use Rattle.std.proofs.Common.{arith, ◌≡◌, ℕ, ℤ, Bool, true, false, List, [], ◌∷◌, map, Option, Some, refl, sym, ap, ◌∙◌, subst}
 use Rattle.std.specs.List.{AllByRecursion, list_all}
 use Rattle.std.proofs.lemmas.Bool.{and_from, and_parts}
 use Rattle.geometry.specs.declared.shape.Geometry.TheVariants as g
 use Rattle.geojson_types.specs.Features.{is_some_list}
-use Rattle.geometry.specs.Lists.{map_some, then_some, with_some, some_of, unless_empty, joined}
+use Rattle.geometry.specs.Lists.{map_some, then_some, some_of, unless_empty, joined}
 use Rattle.geometry.specs.Points.{Point}
 use Rattle.geometry.specs.Pruning.{area_by, prune}
 use Rattle.geometry.proofs.Cases.{prune-point, prune-points, prune-line, prune-lines, prune-area, prune-areas, prune-group}
@@ -17,9 +17,10 @@ use Rattle.topojson_types.specs.declared.object.TopoObject.{TopoObject}
 use Rattle.topojson_types.specs.declared.transform.Transform.{Transform}
 use Rattle.topojson_types.specs.Topologies.{TopoShape}
 use Rattle.topojson_types.specs.Validity.{is_full, is_full_option, places, option_places, is_single, is_single_option, IsPlace, IsFeature, IsObject}
-use Rattle.list_laws.proofs.Elements.{all_append, all_left, all_right, all_map}
+use Rattle.list_laws.proofs.Elements.{all_append, all_left, all_right, all_map, all_parts, all_of_map, all_two, all_weaker}
 use Rattle.build_meaning.proofs.ValidShapes.{has_rings, has_option, no_places, line_places, lines_places, area_places, areas_places, line_full, lines_full, area_full, with_area, areas_full}
 use Rattle.lessened_topology.specs.Lessened.{Refs, feature_pruned, object_pruned, objects_pruned}
+use Rattle.list_laws.proofs.Lists.{map_agree}
 
 -- what is given for a line or ring that has an element has one
 abbrev pub GivesSome : Refs → Type 0
@@ -35,23 +36,16 @@ module _ (place : Point → Point) (kept : Refs) where
   Single s = is_single s ≡ true → is_single_option (made s) ≡ true
 
   line_single : (o : Option (List ℤ)) → is_single_option (map_some g.Line o) ≡ true
-  line_single None = refl
-  line_single (Some m) = single_at.line m
+  line_single o = grind (arith, single_at.line)
 
   lines_single : (ms : List (List ℤ)) → is_single_option (unless_empty g.Lines ms) ≡ true
-  lines_single [] = refl
-  lines_single (m ∷ ms) = single_at.lines (m ∷ ms)
+  lines_single ms = grind (arith, single_at.lines)
 
   area_single : (o : Option (List (List ℤ))) → is_single_option (map_some g.Area o) ≡ true
-  area_single None = refl
-  area_single (Some ms) = single_at.area ms
+  area_single o = grind (arith, single_at.area)
 
   areas_single : (mss : List (List (List ℤ))) → is_single_option (unless_empty g.Areas mss) ≡ true
-  areas_single [] = refl
-  areas_single (ms ∷ mss) = single_at.areas (ms ∷ mss)
-
-  no_group : (ss : List TopoShape) → Single (g.Group ss)
-  no_group ss h = let z : false ≡ true = sym (single_at.group ss) ∙ h in cc
+  areas_single mss = grind (arith, single_at.areas)
 
   stays_single : (s : TopoShape) → Single s
   stays_single = by_kinds Single (record {
@@ -61,7 +55,7 @@ module _ (place : Point → Point) (kept : Refs) where
     lines = λ ls h. ap is_single_option (prune-lines place kept ls) ∙ lines_single (some_of (kept false) ls);
     area = λ rs h. ap is_single_option (prune-area place kept rs) ∙ area_single (area_by (kept true) rs);
     areas = λ areas h. ap is_single_option (prune-areas place kept areas) ∙ areas_single (some_of (area_by (kept true)) areas);
-    group = λ ss all h. no_group ss h;
+    group = λ ss all h. (let z : false ≡ true = sym (single_at.group ss) ∙ h in cc);
   })
 
   -- ---- places
@@ -74,12 +68,16 @@ module _ (place : Point → Point) (kept : Refs) where
     abbrev Stay : TopoShape → Type 0
     Stay s = AllByRecursion Placed (places s) → AllByRecursion X (option_places (made s))
 
-    with_places : (o : Option TopoShape) (ts : List TopoShape) → AllByRecursion X (option_places o) → AllByRecursion X (joined (map places ts)) → AllByRecursion X (joined (map places (with_some o ts)))
-    with_places o ts h k = grind (arith, all_append)
-
     members_stay : (ss : List TopoShape) → AllByRecursion Stay ss → AllByRecursion Placed (joined (map places ss)) → AllByRecursion X (joined (map places (some_of made ss)))
     members_stay [] all h = tt
-    members_stay (s ∷ ss) all h = grind (arith, with_places, all_left, all_right, members_stay ss all.1 (all_right Placed (places s) (joined (map places ss)) h))
+    members_stay (s ∷ ss) all h = grind (
+      arith,
+      all_append,
+      all_left,
+      all_right,
+      members_stay ss all.1 (all_right Placed (places s) (joined
+          (map places ss)) h),
+    )
 
     places_stay : (s : TopoShape) → Stay s
     places_stay = by_kinds Stay (record {
@@ -100,29 +98,20 @@ module _ (place : Point → Point) (kept : Refs) where
     abbrev Full : TopoShape → Type 0
     Full s = is_full s ≡ true → is_full_option (made s) ≡ true
 
-    with_list : (o : Option (List ℤ)) (ms : List (List ℤ)) → ((m : List ℤ) → o ≡ Some m → is_some_list m ≡ true) → list_all is_some_list ms ≡ true → list_all is_some_list (with_some o ms) ≡ true
-    with_list o ms h k = grind (arith, and_from)
-
     all_some : (closed : Bool) (ls : List (List ℤ)) → list_all is_some_list ls ≡ true → list_all is_some_list (some_of (kept closed) ls) ≡ true
     all_some closed [] h = refl
-    all_some closed (l ∷ ls) h = grind (arith, with_list, all_some closed ls)
-
-    outer_has : (o : Option (List ℤ)) (ms : List (List ℤ)) → ((m : List ℤ) → o ≡ Some m → is_some_list m ≡ true) → list_all is_some_list ms ≡ true → has_option (map_some (λ r. r ∷ ms) o) ≡ true
-    outer_has o ms h k = grind (arith, and_from)
+    all_some closed (l ∷ ls) h = grind (arith, and_from, all_some closed ls)
 
     rings_have : (rs : List (List ℤ)) → has_rings rs ≡ true → has_option (area_by (kept true) rs) ≡ true
-    rings_have rs h = grind (arith, outer_has, all_some)
+    rings_have rs h = grind (arith, and_from, all_some)
 
     areas_have : (areas : List (List (List ℤ))) → list_all has_rings areas ≡ true → list_all has_rings (some_of (area_by (kept true)) areas) ≡ true
     areas_have [] h = refl
     areas_have (rs ∷ areas) h = grind (arith, with_area, rings_have, areas_have areas)
 
-    with_full : (o : Option TopoShape) (ts : List TopoShape) → is_full_option o ≡ true → list_all is_full ts ≡ true → list_all is_full (with_some o ts) ≡ true
-    with_full o ts h k = grind (arith, and_from)
-
     members_full : (ss : List TopoShape) → AllByRecursion Full ss → list_all is_full ss ≡ true → list_all is_full (some_of made ss) ≡ true
     members_full [] all h = refl
-    members_full (s ∷ ss) all h = grind (arith, with_full, members_full ss all.1)
+    members_full (s ∷ ss) all h = grind (arith, and_from, members_full ss all.1)
 
     made_full : (s : TopoShape) → Full s
     made_full = by_kinds Full (record {
@@ -153,12 +142,10 @@ module _ (kept : Refs) (some : GivesSome kept) (transform : Option Transform) wh
   feature_is f h = (option_full (λ p. p) kept some f.shape h.0, option_stay (λ p. p) kept (IsPlace transform) f.shape h.1)
 
   features_are : (fs : List TopoFeature) → AllByRecursion (IsFeature transform) fs → AllByRecursion (IsFeature transform) (map (feature_pruned kept) fs)
-  features_are [] h = tt
-  features_are (f ∷ fs) h = (feature_is f h.0, features_are fs h.1)
+  features_are fs h = search (all_parts, all_map, all_of_map, all_two, all_weaker, map_agree, feature_is)
 
   object_is : (o : TopoObject) → IsObject transform o → IsObject transform (object_pruned kept o)
   object_is o h = grind (arith, feature_is, option_single, features_are)
 
   pub objects_are : (os : List (List ℕ × TopoObject)) → AllByRecursion (λ o. IsObject transform o.1) os → AllByRecursion (λ o. IsObject transform o.1) (objects_pruned kept os)
-  objects_are [] h = tt
-  objects_are (o ∷ os) h = (object_is o.1 h.0, objects_are os h.1)
+  objects_are os h = search (all_parts, all_map, all_of_map, all_two, all_weaker, map_agree, object_is)

@@ -35,8 +35,7 @@ sub_times_sub a b c d = grind (arith, sub_times, times_sub)
 
 -- the cross product from the other end is the same under the other sign
 pub cross_turned : (a b c : Point) → cross a b c +ℤ cross c b a ≡ pos 0
-unfolding cross
-cross_turned a b c = omega (
+cross_turned a b c = unfold cross in omega (
   arith,
   ints,
   sub_times_sub b.x a.x c.y a.y,
@@ -50,21 +49,17 @@ apart_abs y z sum = omega (arith, ints)
 
 -- the area is the same from the other end
 pub area_turned : (a b c : Point) → twice_area a b c ≡ twice_area c b a
-unfolding twice_area
-area_turned a b c = apart_abs (cross a b c) (cross c b a) (cross_turned a b c)
+area_turned a b c = unfold twice_area in apart_abs (cross a b c) (cross c b a) (cross_turned a b c)
 
 -- the triangle of (0, 0), (10, 0) and (10, 5), half of a rectangle, and the same with its corners the other way around
 abbrev place : ℤ → ℤ → Point
 place x y = record { x = x; y = y }
 
 left_turn : cross (place (pos 0) (pos 0)) (place (pos 10) (pos 0)) (place (pos 10) (pos 5)) ≡ pos 50
-unfolding cross
-left_turn = refl
+left_turn = unfold cross in refl
 
 half_a_rectangle : twice_area (place (pos 10) (pos 5)) (place (pos 10) (pos 0)) (place (pos 0) (pos 0)) ≡ 50
-unfolding twice_area cross
-half_a_rectangle = refl
+half_a_rectangle = unfold twice_area cross in refl
 
 on_a_line : twice_area (place (pos 0) (pos 0)) (place (pos 3) (pos 3)) (place (pos 8) (pos 8)) ≡ 0
-unfolding twice_area cross
-on_a_line = refl
+on_a_line = unfold twice_area cross in refl

@@ -36,13 +36,11 @@ module _ {P L R A : Type 0} (step : Geometry-F P L R A → A) where
 
 -- the positions of a shape
 pub points_at : AtKinds shape_points points_step
-unfolding shape_points
-points_at = at_kinds points_step
+points_at = unfold shape_points in at_kinds points_step
 
 -- whether a shape is proper
 pub proper_at : AtKinds is_proper proper_step
-unfolding is_proper
-proper_at = at_kinds proper_step
+proper_at = unfold is_proper in at_kinds proper_step
 
 pub proper-group : (ss : List Shape) → is_proper (g.Group ss) ≡ list_all is_proper ss
 proper-group ss = proper_at.group ss ∙ list_all-map (λ b. b) is_proper ss

@@ -15,8 +15,7 @@ some-fused f (x ∷ xs) = rw (some-fused f xs) refl
 
 module _ {P Q L M : Type 0} (place : P → Q) (kept : Bool → L → Option M) where
   pub prune_at : AtKinds (prune place kept) (prune_step place kept)
-  unfolding prune
-  prune_at = at_kinds (prune_step place kept)
+  prune_at = unfold prune in at_kinds (prune_step place kept)
 
   pub prune-point : (p : P) → prune place kept (g.Point p) ≡ Some (g.Point (place p))
   prune-point = prune_at.point
@@ -41,8 +40,7 @@ module _ {P Q L M : Type 0} (place : P → Q) (kept : Bool → L → Option M) w
 
 module _ (P L : Type 0) where
   pub strokes_at : AtKinds (strokes {P = P} {L = L}) strokes_step
-  unfolding strokes
-  strokes_at = at_kinds strokes_step
+  strokes_at = unfold strokes in at_kinds strokes_step
 
   pub strokes-point : (p : P) → strokes {P = P} {L = L} (g.Point p) ≡ []
   strokes-point = strokes_at.point
@@ -67,8 +65,7 @@ module _ (P L : Type 0) where
 
 module _ (P L : Type 0) (why : Bool → L → Option Cause) where
   pub omissions_at : AtKinds (omissions {P = P} {L = L} why) (omissions_step why)
-  unfolding omissions
-  omissions_at = at_kinds (omissions_step why)
+  omissions_at = unfold omissions in at_kinds (omissions_step why)
 
   pub omissions-line : (l : L) → omissions {P = P} {L = L} why (g.Line l) ≡ here (why false l)
   omissions-line = omissions_at.line

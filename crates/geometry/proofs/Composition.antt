@@ -1,5 +1,7 @@
 -- Leaving out twice is leaving out once.
-use Rattle.std.proofs.Common.{arith, ◌≡◌, Bool, true, false, List, [], ◌∷◌, map, Option, None, Some, refl, sym, ap, ◌∙◌}
+use Rattle.list_laws.proofs.Elements.{all_of}
+use Rattle.list_laws.proofs.Lists.{some_agree}
+use Rattle.std.proofs.Common.{arith, ◌≡◌, Bool, true, false, List, [], ◌∷◌, map, Option, Some, refl, sym, ap, ◌∙◌}
 use Rattle.std.specs.List.{AllByRecursion}
 use Rattle.std.proofs.lemmas.Simd.{map-map}
 use Rattle.geometry.specs.declared.shape.Geometry.{Geometry}
@@ -26,8 +28,7 @@ area_then f g (o ∷ holes) = outer_then f g holes (f o)
 
 -- a function that agrees at each element
 pub some_same : {A B : Type 0} (f g : A → Option B) → ((x : A) → f x ≡ g x) → (xs : List A) → some_of f xs ≡ some_of g xs
-some_same f g e [] = refl
-some_same f g e (x ∷ xs) = rw (e x, some_same f g e xs) refl
+some_same f g e xs = some_agree f g xs (all_of (λ x. f x ≡ g x) xs (λ x k. e x))
 
 module _ {P Q U L M N : Type 0} (place : P → Q) (onto : Q → U) (kept : Bool → L → Option M) (next : Bool → M → Option N) where
   abbrev pub both : Bool → L → Option N

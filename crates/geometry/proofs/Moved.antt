@@ -48,8 +48,7 @@ ends f xs i ys h so = so.made ∙ take_whole f xs i h
 
 -- a list that was written back whole
 pub refilled : {A : Type 0} (f : A → A) (n : ℕ) (xs ws : List A) → n ≡ length xs → ws ≡ map f xs → take n (ws ++ drop (length ws) xs) ≡ map f xs
-refilled f n xs ws e h =
-    let many : n ≡ length ws = e ∙ sym (ap length h ∙ length-map xs f) in
+refilled f n xs ws e h = let many : n ≡ length ws = e ∙ sym (ap length h ∙ length-map xs f) in
     ap (λ m. take m (ws ++ drop (length ws) xs)) many ∙ take-append_seam ws (drop (length ws) xs) ∙ h
 
 -- ---- rings
@@ -62,8 +61,7 @@ both_moved f a b h = grind (arith, same_moved)
 
 -- equal positions stay equal, so a ring stays one
 pub ring_moved : (f : Point → Point) (ps : List Point) → is_ring ps ≡ true → is_ring (map f ps) ≡ true
-unfolding is_ring is_closed
-ring_moved f ps h =
+ring_moved f ps h = unfold is_ring is_closed in
     let k = and_parts (nat_le 4 (length ps)) (both_same (slice_get ps 0) (slice_get ps (length ps - 1))) h in
     rw (length-map ps f, slice_get-map f ps 0, slice_get-map f ps (length ps - 1), k.0)
     (both_moved f (slice_get ps 0) (slice_get ps (length ps - 1)) k.1)

@@ -17,8 +17,7 @@ use Rattle.geometry.proofs.Cases.{strokes_at}
 use Rattle.geometry.proofs.Induction.{by_kinds}
 
 pub moved_at : (f : Point → Point) → AtKinds (moved f) (moved_step f)
-unfolding moved
-moved_at f = at_kinds (moved_step f)
+moved_at f = unfold moved in at_kinds (moved_step f)
 
 -- ---- lists
 

@@ -49,11 +49,10 @@ module _ (P L : Type 0) (one two : Bool → L → Option Cause) where
 
   areas_agree : (areas : List (List L)) → AllByRecursion Same (joined (map (map (λ l. (true, l))) areas)) → map (area_omissions (one true)) areas ≡ map (area_omissions (two true)) areas
   areas_agree [] h = refl
-  areas_agree (rs ∷ areas) h =
-      rw (
-        area_agree rs (rings rs (all_left Same (map (λ l. (true, l)) rs) (joined (map (map (λ l. (true, l))) areas)) h)),
-        areas_agree areas (all_right Same (map (λ l. (true, l)) rs) (joined (map (map (λ l. (true, l))) areas)) h),
-      ) refl
+  areas_agree (rs ∷ areas) h = rw (
+    area_agree rs (rings rs (all_left Same (map (λ l. (true, l)) rs) (joined (map (map (λ l. (true, l))) areas)) h)),
+    areas_agree areas (all_right Same (map (λ l. (true, l)) rs) (joined (map (map (λ l. (true, l))) areas)) h),
+  ) refl
 
   at_areas : (areas : List (List L)) → Agrees (g.Areas areas)
   at_areas areas h = (omissions_at P L one).areas areas ∙ ap (of_parts 0) (areas_agree areas (subst (AllByRecursion Same) (strokes-areas P L areas) h)) ∙ sym ((omissions_at P L two).areas areas)

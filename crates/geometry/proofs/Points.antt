@@ -9,9 +9,7 @@ use Rattle.geometry.specs.Points.{Point}
 use Rattle.geometry.specs.Rings.{same}
 
 pub same_self : (p : Point) → same p p ≡ true
-unfolding same
-same_self p = ap (λ b. b && int_eq p.y p.y) (int_eq_equiv.refl p.x) ∙ int_eq_equiv.refl p.y
+same_self p = unfold same in ap (λ b. b && int_eq p.y p.y) (int_eq_equiv.refl p.x) ∙ int_eq_equiv.refl p.y
 
 pub same_is : (p q : Point) → same p q ≡ true → p ≡ q
-unfolding same
-same_is p q h = grind arith
+same_is p q h = unfold same in grind arith

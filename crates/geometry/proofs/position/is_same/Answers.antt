@@ -2,5 +2,4 @@ use Rattle.geometry.specs.Rings.{same}
 use Rattle.geometry.proofs.position.is_same.Goals as goal
 
 pub returns : goal.returns
-unfolding same
-returns c = c.eq.ensures
+returns c = unfold same in c.eq.ensures

@@ -1,5 +1,6 @@
 -- Two tests that agree on the positions of a line give the same start and the same pieces of it.
-use Rattle.std.proofs.Common.{◌≡◌, ℕ, zero, suc, ◌+◌, Bool, true, false, cond, List, [], ◌∷◌, take, drop, refl, ap, sym, ◌∙◌, subst, inl, inr, arith}
+use Rattle.list_laws.proofs.Elements.{all_drop, all_of, all_take, each_of}
+use Rattle.std.proofs.Common.{◌≡◌, ℕ, ◌+◌, Bool, cond, List, [], ◌∷◌, take, drop, refl, ap, sym, ◌∙◌, subst, inl, inr, arith}
 use Rattle.std.specs.List.{filter}
 use Rattle.cutter.specs.Pieces.{joined, pieces_from, split_at, first_at, start_in, turned, from_start}
 use Rattle.cutter.specs.Places.{In}
@@ -13,15 +14,10 @@ use Rattle.cutter.proofs.Starts.{line}
 use Rattle.list_laws.proofs.Members.{in_append}
 
 in_drop : (k : ℕ) (x : Point) (ps : List Point) → In x (drop k ps) → In x ps
-in_drop zero x ps h = h
-in_drop (suc k) x [] h = elim h [ ]
-in_drop (suc k) x (p ∷ ps) h = inr (in_drop k x ps h)
+in_drop k x ps h = each_of (λ y. In y ps) (drop k ps) x (all_drop (λ y. In y ps) k ps (all_of (λ y. In y ps) ps (λ y m. m))) h
 
 in_take : (k : ℕ) (x : Point) (ps : List Point) → In x (take k ps) → In x ps
-in_take zero x ps h = elim h [ ]
-in_take (suc k) x [] h = elim h [ ]
-in_take (suc k) x (p ∷ ps) (inl e) = inl e
-in_take (suc k) x (p ∷ ps) (inr h) = inr (in_take k x ps h)
+in_take k x ps h = each_of (λ y. In y ps) (take k ps) x (all_take (λ y. In y ps) k ps (all_of (λ y. In y ps) ps (λ y m. m))) h
 
 in_turned : (k : ℕ) (x : Point) (ps : List Point) → In x (turned k ps) → In x ps
 in_turned k x ps h = elim (in_append x (drop k ps) (drop 1 (take (k + 1) ps)) h) [ inl i ↦ in_drop k x ps i | inr i ↦ in_take (k + 1) x ps (in_drop 1 x (take (k + 1) ps) i) ]
@@ -55,8 +51,7 @@ module _ (f g : Point → Bool) where
 
   -- the same pieces
   pub by_agree : (s : Stroke) → ((x : Point) → In x s.positions → f x ≡ g x) → split_by f s ≡ split_by g s
-  by_agree s h =
-      let e = from_agree s.address s.closed s.positions h in
+  by_agree s h = let e = from_agree s.address s.closed s.positions h in
       ap (λ l. split s.address s.closed l (split_at f l)) e
       ∙ ap (λ l. split s.address s.closed (from_start g s) l) (split_agree (from_start g s) (λ x k. h x (in_start g s.address s.closed s.positions x k)))
 

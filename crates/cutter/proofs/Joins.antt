@@ -1,7 +1,8 @@
 -- The pieces of lines, joined again, are the lines, and their segments occur as often.
+use Rattle.cutter.proofs.Structured.{clean_in}
+use Rattle.list_laws.proofs.Elements.{all_made}
 use Rattle.std.proofs.Common.{◌≡◌, ℕ, ◌+◌, ◌<◌, ◌≤◌, Bool, true, false, cond, List, [], ◌∷◌, ◌++◌, take, drop, length, map, refl, ap, sym, ◌∙◌, arith, add_comm, inl, inr}
-use Rattle.std.specs.List.{flat_map}
-use Rattle.cutter.specs.Pieces.{joined, pieces_from, split_at, start_in, turned, from_start, pieces_of, pieces, but_first, rejoined}
+use Rattle.cutter.specs.Pieces.{joined, pieces_from, split_at, start_in, turned, from_start, pieces_of, pieces, rejoined}
 use Rattle.cutter.specs.Places.{In}
 use Rattle.cutter.specs.Segments.{Segment, segments, segments_from, is_segment, line_segments, piece_segments, times}
 use Rattle.cutter.specs.Slices.{split_of, IsSplit, AllSplit, all_pieces}
@@ -45,8 +46,7 @@ joins : (ls : List Stroke) (at : Address) (c : Bool) (ps : List Point) → In (l
 joins ls at c [] k h = elim h [ ]
 joins ls at c (p ∷ []) k h = elim h [ ]
 joins ls at false (p ∷ (q ∷ ps)) k h = pieces_join (is_cut ls) p q ps
-joins ls at true (p ∷ (q ∷ ps)) k h =
-    let c = ring_cut ls at p (q ∷ ps) k in
+joins ls at true (p ∷ (q ∷ ps)) k h = let c = ring_cut ls at p (q ∷ ps) k in
     let b = start_cut (is_cut ls) c.0 p (p ∷ (q ∷ ps)) c.1 c.2 in
     let n : start_in (is_cut ls) (p ∷ (q ∷ ps)) < length (p ∷ (q ∷ ps)) = b.0 in
     split_joins (is_cut ls) (turned (start_in (is_cut ls) (p ∷ (q ∷ ps))) (p ∷ (q ∷ ps)))
@@ -55,13 +55,9 @@ joins ls at true (p ∷ (q ∷ ps)) k h =
 pub stroke_split : (ls : List Stroke) (s : Stroke) → In s ls → IsClean s → IsSplit (split_of ls s)
 stroke_split ls s k h = grind (arith, joins, joins ls s.address s.closed s.positions k h, split_at_segments (is_cut ls) (from_start (is_cut ls) s))
 
-splits_from : (ls ms : List Stroke) → ((s : Stroke) → In s ms → In s ls) → AllClean ms → AllSplit (map (split_of ls) ms)
-splits_from ls [] f h = tt
-splits_from ls (s ∷ ms) f h = (stroke_split ls s (f s (inl refl)) h.0, splits_from ls ms (λ t k. f t (inr k)) h.1)
-
 -- so it is with all lines
 pub all_split : (ls : List Stroke) → AllClean ls → AllSplit (map (split_of ls) ls)
-all_split ls h = splits_from ls ls (λ s k. k) h
+all_split ls h = all_made IsSplit (split_of ls) ls (λ s k. stroke_split ls s k (clean_in s ls h k))
 
 -- a segment occurs in two lists as often as in each of them together
 times_append : (a b : Point) (xs ys : List Segment) → times a b (xs ++ ys) ≡ times a b xs + times a b ys
@@ -73,8 +69,7 @@ times_start : (ls : List Stroke) (a b : Point) (at : Address) (c : Bool) (ps : L
 times_start ls a b at c [] k h = elim h [ ]
 times_start ls a b at c (p ∷ []) k h = elim h [ ]
 times_start ls a b at false (p ∷ (q ∷ ps)) k h = refl
-times_start ls a b at true (p ∷ (q ∷ ps)) k h =
-    let c = ring_cut ls at p (q ∷ ps) k in
+times_start ls a b at true (p ∷ (q ∷ ps)) k h = let c = ring_cut ls at p (q ∷ ps) k in
     let t = start_cut (is_cut ls) c.0 p (p ∷ (q ∷ ps)) c.1 c.2 in
     let j : ℕ = start_in (is_cut ls) (p ∷ (q ∷ ps)) in
     let n : start_in (is_cut ls) (p ∷ (q ∷ ps)) ≤ length (q ∷ ps) = omega (arith, t.0) in
@@ -85,8 +80,7 @@ times_start ls a b at true (p ∷ (q ∷ ps)) k h =
 
 times_from : (ls ms : List Stroke) (a b : Point) → ((s : Stroke) → In s ms → In s ls) → AllClean ms → times a b (piece_segments (all_pieces (map (split_of ls) ms))) ≡ times a b (line_segments ms)
 times_from ls [] a b f h = refl
-times_from ls (s ∷ ms) a b f h =
-    ap (times a b) (flat_map-append segments (pieces_of ls s) (all_pieces (map (split_of ls) ms)))
+times_from ls (s ∷ ms) a b f h = ap (times a b) (flat_map-append segments (pieces_of ls s) (all_pieces (map (split_of ls) ms)))
     ∙ times_append a b (piece_segments (pieces_of ls s)) (piece_segments (all_pieces (map (split_of ls) ms)))
     ∙ ap (λ l. times a b l + times a b (piece_segments (all_pieces (map (split_of ls) ms)))) (split_at_segments (is_cut ls) (from_start (is_cut ls) s))
     ∙ ap (λ n. n + times a b (piece_segments (all_pieces (map (split_of ls) ms)))) (times_start ls a b s.address s.closed s.positions (f s (inl refl)) h.0)

@@ -1,8 +1,10 @@
 -- What is known of lines by their vertices.
-use Rattle.std.proofs.Common.{◌≡◌, ℕ, zero, suc, ◌<◌, Bool, true, false, ◌||◌, List, [], ◌∷◌, ◌++◌, length, map, get_or, append_assoc, append-nil, refl, ap, sym, ◌∙◌, subst, arith, inl, inr}
+use Rattle.std.proofs.lemmas.List.{nil_from_length}
+use Rattle.junctions.proofs.Members.{get_in}
+use Rattle.std.proofs.Common.{◌≡◌, ℕ, ◌<◌, Bool, true, false, List, [], ◌∷◌, ◌++◌, length, map, get_or, append_assoc, append-nil, refl, ap, sym, ◌∙◌, subst, arith, inl}
 use Rattle.std.specs.List.{flat_map}
 use Rattle.cutter.specs.Known.{AllKnown, IsReady}
-use Rattle.cutter.specs.Pieces.{split_at, start_in, from_start, pieces_of}
+use Rattle.cutter.specs.Pieces.{start_in, from_start, pieces_of}
 use Rattle.cutter.specs.Places.{In, IsStructured}
 use Rattle.cutter.specs.Slices.{slices, indexes, SplitStroke, split_by, split_of, all_pieces, EndsPass}
 use Rattle.geometry.specs.Points.{Point}
@@ -11,7 +13,6 @@ use Rattle.geometry.specs.declared.address.Address.{Address}
 use Rattle.geometry.proofs.Points.{same_self}
 use Rattle.junctions.specs.Cleaning.{AllClean, IsClean}
 use Rattle.junctions.specs.Cuts.{is_cut}
-use Rattle.junctions.specs.Visits.{last}
 use Rattle.junctions.specs.declared.stroke.Stroke.{Stroke}
 use Rattle.junctions.specs.Answers.{Answers, is_member, AnswersFor}
 use Rattle.cutter.proofs.Agreement.{in_start, start_agree, by_agree, ends_agree, split}
@@ -24,11 +25,6 @@ use Rattle.std.proofs.Math.Bool.{or-true}
 use Rattle.std.proofs.lemmas.List.{map-append}
 use Rattle.list_laws.proofs.Members.{in_right, any_from_in}
 
-pub in_get : {X : Type 0} (xs : List X) (i : ℕ) (d : X) → i < length xs → In (get_or xs i d) xs
-in_get [] i d h = absurd (omega arith)
-in_get (x ∷ xs) zero d h = inl refl
-in_get (x ∷ xs) (suc i) d h = inr (in_get xs i d (omega arith))
-
 -- the answers are those of the lines
 pub cuts_known : (ls : List Stroke) (v : Answers) → AnswersFor ls v → (s : Stroke) → In s ls → (x : Point) → In x s.positions → is_member v.cuts x ≡ is_cut ls x
 cuts_known ls v k s m x i = k.cuts x (k.points x ∙ any_from_in (λ t. is_member t.positions x) s ls m (any_from_in (same x) x s.positions i (same_self x)))
@@ -39,7 +35,7 @@ stroke_known ls v k s m x i = k.points x ∙ any_from_in (λ t. is_member t.posi
 
 -- they know the element of the list that is read
 pub known_at : (known ps : List Point) (i : ℕ) (x : Point) → AllKnown known ps → i < length ps → x ≡ get_or ps i x → is_member known x ≡ true
-known_at known ps i x h k e = h x (subst (λ z. In z ps) (sym e) (in_get ps i x k))
+known_at known ps i x h k e = h x (get_in ps i x k e)
 
 -- a line from its start has no other positions than the line
 pub known_start : (known : List Point) (cut : Point → Bool) (s : Stroke) → AllKnown known s.positions → AllKnown known (from_start cut s)
@@ -50,8 +46,7 @@ ends : (ls : List Stroke) (at : Address) (c : Bool) (ps : List Point) → In (li
 ends ls at c [] m h = elim h [ ]
 ends ls at c (p ∷ []) m h = elim h [ ]
 ends ls at false (p ∷ (q ∷ ps)) m h = grind (arith, end_cut, same_self, or-true)
-ends ls at true (p ∷ (q ∷ ps)) m h =
-    let c = ring_cut ls at p (q ∷ ps) m in
+ends ls at true (p ∷ (q ∷ ps)) m h = let c = ring_cut ls at p (q ∷ ps) m in
     let s = start_cut (is_cut ls) c.0 p (p ∷ (q ∷ ps)) c.1 c.2 in
     let t = turned_is p p q ps (h.1 refl) (start_in (is_cut ls) (p ∷ (q ∷ ps))) s.0 in
     subst (λ l. EndsPass (is_cut ls) l) (sym t.1) (s.1, ap (is_cut ls) t.2 ∙ s.1)
@@ -59,8 +54,7 @@ ends ls at true (p ∷ (q ∷ ps)) m h =
 -- the start of a ring is one of its indexes
 starts : (ls : List Stroke) (at : Address) (c : Bool) (ps : List Point) → In (line at c ps) ls → IsClean (line at c ps) → c ≡ true → start_in (is_cut ls) ps < length ps
 starts ls at c [] m h e = elim h [ ]
-starts ls at c (p ∷ ps) m h e =
-    let r = ring_cut ls at p ps (subst (λ b. In (line at b (p ∷ ps)) ls) e m) in
+starts ls at c (p ∷ ps) m h e = let r = ring_cut ls at p ps (subst (λ b. In (line at b (p ∷ ps)) ls) e m) in
     (start_cut (is_cut ls) r.0 p (p ∷ ps) r.1 r.2).0
 
 module _ (ls : List Stroke) (v : Answers) (known : AnswersFor ls v) (s : Stroke) (m : In s ls) where
@@ -105,8 +99,7 @@ pub next_map : {X Y : Type 0} (f : X → Y) (done : List X) (x : X) (ys zs : Lis
 next_map f done x ys zs y w g e h k = g ∙ ap (λ l. l ++ (y ∷ [])) e ∙ ap (λ z. map f done ++ (z ∷ [])) (h ∙ k) ∙ sym (map-append f done (x ∷ []))
 
 pub none_left : {X : Type 0} (rest : List X) → length rest ≡ 0 → rest ≡ []
-none_left [] e = refl
-none_left (x ∷ xs) e = absurd (omega arith)
+none_left rest e = nil_from_length rest e
 
 -- all is done where nothing is left
 pub all_done : {X Y : Type 0} (f : X → Y) (done rest all : List X) (ys : List Y) → done ++ rest ≡ all → rest ≡ [] → ys ≡ map f done → ys ≡ map f all

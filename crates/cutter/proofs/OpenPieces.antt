@@ -1,6 +1,5 @@
 -- The pieces of an open line.
-use Rattle.std.proofs.Common.{◌≡◌, true, false, not, eqb, length, ◌&&◌, ◌||◌, List, ◌∷◌, append-nil, ap, sym, ◌∙◌, subst, arith}
-use Rattle.std.specs.List.{list_any}
+use Rattle.std.proofs.Common.{◌≡◌, true, false, not, ◌&&◌, ◌||◌, List, ◌∷◌, append-nil, ap, sym, ◌∙◌, subst, arith}
 use Rattle.std.proofs.Math.Bool.{or-true}
 use Rattle.cutter.specs.Pieces.{pieces_of}
 use Rattle.geometry.specs.Points.{Point}
@@ -8,8 +7,8 @@ use Rattle.geometry.specs.declared.address.Address.{Address}
 use Rattle.geometry.specs.Rings.{same}
 use Rattle.geometry.proofs.Points.{same_self}
 use Rattle.junctions.specs.Cleaning.{Moves}
-use Rattle.junctions.specs.Cuts.{is_cut, starts_free_ring}
-use Rattle.junctions.specs.Visits.{visits, visits_from, visits_at, neighbors, distinct, last, is_end, ends_open}
+use Rattle.junctions.specs.Cuts.{is_cut}
+use Rattle.junctions.specs.Visits.{visits, visits_from, last, is_end}
 use Rattle.junctions.specs.declared.stroke.Stroke.{Stroke}
 pub use Rattle.junctions.proofs.Members.{in_flat}
 use Rattle.list_laws.proofs.Members.{any_from_in}
@@ -27,5 +26,4 @@ pub open_pieces : (ls : List Stroke) (at : Address) (p q : Point) (ps : List Poi
 open_pieces ls at p q ps k m = pieces_hold ls p q ps
     (end_cut ls (line at false (p ∷ (q ∷ ps))) p k (ap (λ b. b || same p (last q ps)) (same_self p)))
     (end_cut ls (line at false (p ∷ (q ∷ ps))) (last q ps) k (ap (λ b. same (last q ps) p || b) (same_self (last q ps)) ∙ or-true (same (last q ps) p)))
-    m
-    (λ v h. in_flat visits (line at false (p ∷ (q ∷ ps))) v ls k (subst (λ l. In v (visits_from p q l)) (sym (append-nil ps)) h))
+    m (λ v h. in_flat visits (line at false (p ∷ (q ∷ ps))) v ls k (subst (λ l. In v (visits_from p q l)) (sym (append-nil ps)) h))

@@ -1,6 +1,7 @@
 -- The pieces of a ring.
-use Rattle.std.proofs.Common.{◌≡◌, ◌≢◌, ℕ, zero, suc, ◌+◌, ◌<◌, ◌≤◌, true, List, [], ◌∷◌, ◌++◌, take, drop, length, get_or, append-nil, refl, ap, sym, ◌∙◌, subst, arith, inl, inr}
+use Rattle.std.proofs.Common.{drop-cons, ◌≡◌, ◌≢◌, ℕ, zero, suc, ◌<◌, ◌≤◌, true, List, [], ◌∷◌, ◌++◌, take, drop, length, get_or, append-nil, refl, ap, sym, ◌∙◌, subst, arith, inl, inr}
 use Rattle.cutter.specs.Pieces.{pieces_of, split_at, turned, start_in}
+use Rattle.geometry.specs.Lists.{front_of}
 use Rattle.geometry.specs.Points.{Point}
 use Rattle.geometry.specs.declared.address.Address.{Address}
 use Rattle.junctions.specs.Cleaning.{Moves}
@@ -30,18 +31,13 @@ pub moves_more : (ls : List Stroke) (p : Point) (ps : List Point) (q : Point) �
 moves_more ls p [] q m n = (n, tt)
 moves_more ls p (r ∷ ps) q m n = (m.0, moves_more ls r ps q m.1 n)
 
--- the list without its last position
-abbrev pub firsts : Point → List Point → List Point
-firsts p [] = []
-firsts p (q ∷ ps) = p ∷ firsts q ps
+pub front_last : (p : Point) (ps : List Point) → p ∷ ps ≡ front_of p ps ++ (last p ps ∷ [])
+front_last p [] = refl
+front_last p (q ∷ ps) = ap (λ l. p ∷ l) (front_last q ps)
 
-pub firsts_last : (p : Point) (ps : List Point) → p ∷ ps ≡ firsts p ps ++ (last p ps ∷ [])
-firsts_last p [] = refl
-firsts_last p (q ∷ ps) = ap (λ l. p ∷ l) (firsts_last q ps)
-
-pub firsts_length : (p : Point) (ps : List Point) → length (firsts p ps) ≡ length ps
-firsts_length p [] = refl
-firsts_length p (q ∷ ps) = ap suc (firsts_length q ps)
+pub front_length : (p : Point) (ps : List Point) → length (front_of p ps) ≡ length ps
+front_length p [] = refl
+front_length p (q ∷ ps) = ap suc (front_length q ps)
 
 -- a list from the same cut position to it, all good, splits into walks
 split_good : (ls : List Stroke) (xs : List Point) (g : Point) → (ys : List Point) → xs ≡ g ∷ ys → Good (Via ls) xs → is_cut ls g ≡ true → is_cut ls (last g ys) ≡ true → AllWalks (is_cut ls) (Via ls) (split_at (is_cut ls) xs)
@@ -57,26 +53,20 @@ last_append : (p : Point) (xs : List Point) (q : Point) (ys : List Point) → la
 last_append p [] q ys = refl
 last_append p (x ∷ xs) q ys = last_append x xs q ys
 
-pub drop_at : (d : Point) (k : ℕ) (xs : List Point) → k < length xs → drop k xs ≡ get_or xs k d ∷ drop (suc k) xs
-drop_at d k [] h = absurd (omega arith)
-drop_at d zero (x ∷ xs) h = refl
-drop_at d (suc k) (x ∷ xs) h = drop_at d k xs (omega arith)
-
 -- a turned ring begins and ends at its start
 pub turned_is : (d p q : Point) (ps : List Point) → last q ps ≡ p → (k : ℕ) → k < length (p ∷ (q ∷ ps)) →
     (ys : List Point) × (turned k (p ∷ (q ∷ ps)) ≡ get_or (p ∷ (q ∷ ps)) k d ∷ ys) × (last (get_or (p ∷ (q ∷ ps)) k d) ys ≡ get_or (p ∷ (q ∷ ps)) k d)
 turned_is d p q ps e zero l = (q ∷ ps, append-nil (p ∷ (q ∷ ps)), e)
-turned_is d p q ps e (suc j) l = grind (arith, drop_at d (suc j) (p ∷ (q ∷ ps)) l, last_append (get_or (q ∷ ps) j d) (drop j ps) q (take j ps), last_take q d j ps (omega arith))
+turned_is d p q ps e (suc j) l = grind (arith, drop-cons (p ∷ (q ∷ ps)) (suc j) d l, last_append (get_or (q ∷ ps) j d) (drop j ps) q (take j ps), last_take q d j ps (omega arith))
 
 pub ring_pieces : (ls : List Stroke) (at : Address) (p q : Point) (ps : List Point) → In (line at true (p ∷ (q ∷ ps))) ls → last q ps ≡ p → Moves p (q ∷ ps) →
     AllWalks (is_cut ls) (Via ls) (pieces_of ls (line at true (p ∷ (q ∷ ps))))
-ring_pieces ls at p q ps k e m =
-    let c = ring_cut ls at p (q ∷ ps) k in
+ring_pieces ls at p q ps k e m = let c = ring_cut ls at p (q ∷ ps) k in
     let s = start_cut (is_cut ls) c.0 p (p ∷ (q ∷ ps)) c.1 c.2 in
     let t = turned_is p p q ps e (start_in (is_cut ls) (p ∷ (q ∷ ps))) s.0 in
     let more : Moves p (q ∷ (ps ++ (q ∷ []))) = moves_more ls p (q ∷ ps) q m (λ z. m.0 (sym e ∙ z)) in
     let good : Good (Via ls) ((p ∷ (q ∷ ps)) ++ (q ∷ [])) = goes_from ls p q (ps ++ (q ∷ [])) (λ v h. in_flat visits (line at true (p ∷ (q ∷ ps))) v ls k h) more in
-    let ended : p ∷ (q ∷ ps) ≡ firsts p (q ∷ ps) ++ (p ∷ []) = firsts_last p (q ∷ ps) ∙ ap (λ z. firsts p (q ∷ ps) ++ (z ∷ [])) e in
+    let ended : p ∷ (q ∷ ps) ≡ front_of p (q ∷ ps) ++ (p ∷ []) = front_last p (q ∷ ps) ∙ ap (λ z. front_of p (q ∷ ps) ++ (z ∷ [])) e in
     split_good ls (turned (start_in (is_cut ls) (p ∷ (q ∷ ps))) (p ∷ (q ∷ ps))) (get_or (p ∷ (q ∷ ps)) (start_in (is_cut ls) (p ∷ (q ∷ ps))) p) t.0 t.1
-    (turned_good (Via ls) (start_in (is_cut ls) (p ∷ (q ∷ ps))) p q ps (firsts p (q ∷ ps)) ended (omega (arith, s.0, firsts_length p (q ∷ ps))) good)
+    (turned_good (Via ls) (start_in (is_cut ls) (p ∷ (q ∷ ps))) p q ps (front_of p (q ∷ ps)) ended (omega (arith, s.0, front_length p (q ∷ ps))) good)
     s.1 (ap (is_cut ls) t.2 ∙ s.1)

@@ -1,11 +1,10 @@
 -- The segments of the pieces are those of the lines.
-use Rattle.std.proofs.Common.{◌≡◌, ℕ, zero, suc, ◌+◌, ◌≤◌, Bool, true, false, List, [], ◌∷◌, ◌++◌, take, drop, length, refl, ap, sym, ◌∙◌, arith}
+use Rattle.std.proofs.Common.{drop-cons, ◌≡◌, ℕ, zero, suc, ◌≤◌, Bool, List, [], ◌∷◌, ◌++◌, take, drop, length, refl, ap, ◌∙◌, arith}
 use Rattle.std.specs.List.{flat_map}
 use Rattle.cutter.specs.Pieces.{joined, pieces, pieces_from, split_at, turned}
-use Rattle.cutter.specs.Segments.{Segment, segments, segments_from}
+use Rattle.cutter.specs.Segments.{segments, segments_from}
 use Rattle.geometry.specs.Points.{Point}
 use Rattle.junctions.specs.Visits.{last}
-use Rattle.cutter.proofs.RingPieces.{drop_at}
 
 -- the first piece begins at p
 abbrev StartsAt : Point → List (List Point) → Type 0
@@ -19,9 +18,6 @@ joined_starts b p q pieces = grind arith
 starts : (cut : Point → Bool) (p : Point) (ps : List Point) → StartsAt p (pieces_from cut p ps)
 starts cut p [] = tt
 starts cut p (q ∷ ps) = joined_starts (cut q) p q (pieces_from cut q ps)
-
-segment : Point → Point → Segment
-segment p q = record { from = p; to = q }
 
 joined_segments : (b : Bool) (p q : Point) (pieces : List (List Point)) → StartsAt q pieces → flat_map segments (joined b p q pieces) ≡ record { from = p; to = q } ∷ flat_map segments pieces
 joined_segments b p q pieces h = grind arith
@@ -55,4 +51,4 @@ last_drop (suc k) p (q ∷ ps) g ys e = last_drop k q ps g ys e
 -- a ring from another start has the same segments, those after the start first
 pub turned_segments : (k : ℕ) (p : Point) (ps : List Point) → last p ps ≡ p → k ≤ length ps →
     segments (turned k (p ∷ ps)) ≡ segments (drop k (p ∷ ps)) ++ segments_from p (take k ps)
-turned_segments k p ps e h = grind (arith, drop_at p k (p ∷ ps) (omega (arith, h)), last_drop k p ps, segments_append)
+turned_segments k p ps e h = grind (arith, drop-cons (p ∷ ps) k p (omega (arith, h)), last_drop k p ps, segments_append)

@@ -1,10 +1,10 @@
 -- The slices between the cut indexes are the pieces.
-use Rattle.std.proofs.Common.{◌≡◌, ◌≢◌, ℕ, zero, suc, ◌+◌, ◌-◌, ◌<◌, ◌≤◌, Bool, true, false, cond, List, [], ◌∷◌, ◌++◌, take, drop, length, append-nil, refl, ap, sym, ◌∙◌, arith, Option, None, Some}
+use Rattle.std.proofs.Common.{◌≡◌, ◌≢◌, ℕ, suc, ◌+◌, ◌<◌, ◌≤◌, Bool, true, cond, List, [], ◌∷◌, ◌++◌, take, drop, length, append-nil, refl, ap, sym, ◌∙◌, arith, Option, None, Some}
 use Rattle.std.specs.List.{slice_range, filter}
 use Rattle.std.proofs.Common.{get_or}
-use Rattle.std.proofs.lemmas.List.{take_more, length-take}
+use Rattle.std.proofs.lemmas.List.{drop-drop, take_more, length-take}
 use Rattle.std.proofs.lemmas.List.Elements.{filter-append}
-use Rattle.cutter.specs.Pieces.{joined, pieces_from, split_at, first_at, start_in, turned}
+use Rattle.cutter.specs.Pieces.{pieces_from, split_at, first_at, start_in}
 use Rattle.cutter.specs.Slices.{indexes, slices, IsRising, least_point, least_with}
 use Rattle.geometry.specs.Order.{is_before, least_of, is_least}
 use Rattle.geometry.specs.Points.{Point}
@@ -27,10 +27,7 @@ module _ (cut : Point → Bool) where
   some_place m p (q ∷ ps) h e = grind (arith, some_place (m + 1) q ps h)
 
   drop_next : (k : ℕ) (w : List Point) (p : Point) (ps : List Point) → drop k w ≡ p ∷ ps → drop (k + 1) w ≡ ps
-  drop_next zero [] p ps e = cc
-  drop_next zero (x ∷ w) p ps e = cc
-  drop_next (suc k) [] p ps e = cc
-  drop_next (suc k) (x ∷ w) p ps e = let n : suc k + 1 ≡ suc (k + 1) = omega arith in ap (λ m. drop m (x ∷ w)) n ∙ drop_next k w p ps e
+  drop_next k w p ps e = sym (drop-drop 1 k w) ∙ ap (drop 1) e
 
   range_more : (w : List Point) (k j : ℕ) (p : Point) (ps : List Point) → drop k w ≡ p ∷ ps → k + 1 ≤ j → slice_range w k (j + 1) ≡ p ∷ slice_range w (k + 1) (j + 1)
   range_more w k j p ps e h = grind (arith, drop_next)

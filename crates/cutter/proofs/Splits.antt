@@ -1,5 +1,6 @@
 -- The pieces that a split gives.
-use Rattle.std.proofs.Common.{◌≡◌, ◌≢◌, Bool, true, false, List, [], ◌∷◌, refl, ap, sym, subst, arith}
+use Rattle.std.specs.List.{AllByRecursion}
+use Rattle.std.proofs.Common.{◌≡◌, ◌≢◌, Bool, true, List, [], ◌∷◌, ap, arith}
 use Rattle.cutter.specs.Pieces.{joined, pieces_from}
 use Rattle.geometry.specs.Points.{Point}
 use Rattle.junctions.specs.Cleaning.{Moves}
@@ -21,8 +22,7 @@ module _ (cut : Point → Bool) (Via : Point → Point → Point → Type 0) whe
     pub walk : IsPiece cut Via p q t
 
   abbrev pub AllWalks : List (List Point) → Type 0
-  AllWalks [] = Unit {0}
-  AllWalks (x ∷ xs) = IsWalk x × AllWalks xs
+  AllWalks xs = AllByRecursion IsWalk xs
 
   -- a split begins with a run from its first two positions
   pub record Begins (p q : Point) (pieces : List (List Point)) : Type 0 where

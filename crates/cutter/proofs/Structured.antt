@@ -1,5 +1,5 @@
 -- All pieces of all strokes.
-use Rattle.std.proofs.Common.{Bool, true, false, List, [], ◌∷◌, refl, sym, subst, inl, inr, ◌≤◌, length, arith}
+use Rattle.std.proofs.Common.{Bool, List, [], ◌∷◌, sym, subst, inl, inr, ◌≤◌, length, arith}
 use Rattle.cutter.specs.Pieces.{pieces_of, pieces}
 use Rattle.cutter.specs.Places.{IsStructured}
 use Rattle.geometry.specs.Points.{Point}
@@ -14,11 +14,7 @@ use Rattle.cutter.proofs.Splits.{IsWalk, AllWalks}
 use Rattle.cutter.proofs.PieceLaws.{IsPieceOf, one_way, two_ways, once, not_back, interior_apart}
 use Rattle.cutter.proofs.OpenPieces.{open_pieces}
 use Rattle.cutter.proofs.RingPieces.{ring_pieces}
-
-walk_in : (cut : Point → Bool) (Go : Point → Point → Point → Type 0) (x : List Point) (xs : List (List Point)) → AllWalks cut Go xs → In x xs → IsWalk cut Go x
-walk_in cut Go x [] h k = elim k [ ]
-walk_in cut Go x (y ∷ ys) h (inl e) = subst (λ z. IsWalk cut Go z) (sym e) h.0
-walk_in cut Go x (y ∷ ys) h (inr k) = walk_in cut Go x ys h.1 k
+use Rattle.list_laws.proofs.Elements.{each_of}
 
 pub clean_in : (s : Stroke) (ss : List Stroke) → AllClean ss → In s ss → IsClean s
 clean_in s [] h k = elim k [ ]
@@ -31,9 +27,8 @@ stroke_walks ls at closed ps h k = grind (arith, ring_pieces, open_pieces)
 
 -- each piece of the lines is a walk from cut to cut
 pub piece_of : (ls : List Stroke) → AllClean ls → (x : List Point) → In x (pieces ls) → IsPieceOf ls x
-piece_of ls clean x k =
-    let r = from_flat (pieces_of ls) x ls k in
-    walk_in (is_cut ls) (Via ls) x (pieces_of ls r.0) (stroke_walks ls r.0.address r.0.closed r.0.positions r.1 (clean_in r.0 ls clean r.1)) r.2
+piece_of ls clean x k = let r = from_flat (pieces_of ls) x ls k in
+    each_of (IsWalk (is_cut ls) (Via ls)) (pieces_of ls r.0) x (stroke_walks ls r.0.address r.0.closed r.0.positions r.1 (clean_in r.0 ls clean r.1)) r.2
 
 two_or_more : (ls : List Stroke) (x : List Point) → IsPieceOf ls x → 2 ≤ length x
 two_or_more ls x h = subst (λ l. 2 ≤ length l) (sym h.is) (omega arith)

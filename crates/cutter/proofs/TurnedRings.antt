@@ -1,5 +1,6 @@
 -- A ring that is turned to another start has the same passages.
-use Rattle.std.proofs.Common.{◌≡◌, ◌≢◌, ℕ, zero, suc, ◌+◌, ◌≤◌, List, [], ◌∷◌, ◌++◌, take, drop, length, append_assoc, append-nil, refl, ap, sym, ◌∙◌, subst, arith}
+use Rattle.std.proofs.lemmas.List.{drop-append-le}
+use Rattle.std.proofs.Common.{◌≡◌, ◌≢◌, ℕ, zero, suc, ◌+◌, ◌≤◌, List, [], ◌∷◌, ◌++◌, take, drop, length, append_assoc, append-nil, ap, sym, ◌∙◌, subst, arith}
 use Rattle.cutter.specs.Pieces.{turned}
 use Rattle.geometry.specs.Points.{Point}
 
@@ -45,22 +46,16 @@ module _ (Via : Point → Point → Point → Type 0) where
   good_on (x ∷ []) a b ys h k = (h.0, h.1, k)
   good_on (x ∷ (y ∷ xs)) a b ys h k = goes_on x y xs a b ys h k
 
-  drop_left : (k : ℕ) (xs ys : List Point) → k ≤ length xs → drop k (xs ++ ys) ≡ drop k xs ++ ys
-  drop_left zero xs ys h = refl
-  drop_left (suc k) [] ys h = absurd (omega arith)
-  drop_left (suc k) (x ∷ xs) ys h = drop_left k xs ys (omega arith)
-
   -- the ring a, b, .. is xs with a at its end
   pub turned_good : (k : ℕ) (a b : Point) (ws xs : List Point) → a ∷ (b ∷ ws) ≡ xs ++ (a ∷ []) → k ≤ length xs → Good ((a ∷ (b ∷ ws)) ++ (b ∷ [])) → Good (turned k (a ∷ (b ∷ ws)))
   turned_good zero a b ws xs e l h = subst (λ zs. Good zs) (sym (append-nil (a ∷ (b ∷ ws)))) (good_left (a ∷ (b ∷ ws)) (b ∷ []) h)
-  turned_good (suc j) a b ws xs e l h =
-      let n : suc j + 1 ≡ suc (suc j) = omega arith in
+  turned_good (suc j) a b ws xs e l h = let n : suc j + 1 ≡ suc (suc j) = omega arith in
       let whole : (a ∷ (b ∷ ws)) ++ (b ∷ []) ≡ xs ++ (a ∷ (b ∷ [])) = ap (λ zs. zs ++ (b ∷ [])) e ∙ append_assoc xs (a ∷ []) (b ∷ []) in
-      let back : Good (drop (suc j) xs ++ (a ∷ (b ∷ []))) = subst (λ zs. Good zs) (drop_left (suc j) xs (a ∷ (b ∷ [])) l) (good_drop (suc j) (xs ++ (a ∷ (b ∷ []))) (subst (λ zs. Good zs) whole h)) in
+      let back : Good (drop (suc j) xs ++ (a ∷ (b ∷ []))) = subst (λ zs. Good zs) (drop-append-le (suc j) xs (a ∷ (b ∷ [])) l) (good_drop (suc j) (xs ++ (a ∷ (b ∷ []))) (subst (λ zs. Good zs) whole h)) in
       let front : Goes a b (take j ws) = goes_take a b j ws (good_left (a ∷ (b ∷ ws)) (b ∷ []) h) in
       let shape : turned (suc j) (a ∷ (b ∷ ws)) ≡ drop (suc j) xs ++ (a ∷ (b ∷ take j ws)) =
       ap (λ m. drop (suc j) (a ∷ (b ∷ ws)) ++ drop 1 (take m (a ∷ (b ∷ ws)))) n
       ∙ ap (λ zs. drop (suc j) zs ++ (b ∷ take j ws)) e
-      ∙ ap (λ zs. zs ++ (b ∷ take j ws)) (drop_left (suc j) xs (a ∷ []) l)
+      ∙ ap (λ zs. zs ++ (b ∷ take j ws)) (drop-append-le (suc j) xs (a ∷ []) l)
       ∙ append_assoc (drop (suc j) xs) (a ∷ []) (b ∷ take j ws) in
       subst (λ zs. Good zs) (sym shape) (good_on (drop (suc j) xs) a b (take j ws) back front)

@@ -1,19 +1,17 @@
 -- The structure of pieces, said by how often segments occur in them.
-use Rattle.std.proofs.Common.{◌≡◌, ◌+◌, ◌<◌, ◌≤◌, Bool, true, false, cond, ◌&&◌, ◌||◌, List, [], ◌∷◌, ◌++◌, length, reverse, refl, ap, sym, ◌∙◌, subst, arith, ◌⊎◌, inl, inr}
+use Rattle.std.proofs.Common.{◌≡◌, ◌+◌, ◌<◌, ◌≤◌, Bool, true, cond, List, [], ◌∷◌, ◌++◌, length, refl, sym, subst, arith, ◌⊎◌, inl, inr}
 use Rattle.std.specs.List.{count_by}
 use Rattle.std.proofs.lemmas.List.Sums.{sum_by-cons}
 use Rattle.cutter.specs.Places.{At, In, IsStructured, first, later}
 use Rattle.cutter.specs.Segments.{Segment, segments, segments_from, is_segment, times}
 use Rattle.cutter.specs.Structure.{SharersAreAlike, SegmentsAreOnce}
 use Rattle.geometry.specs.Points.{Point}
-use Rattle.geometry.specs.Rings.{same}
 use Rattle.geometry.proofs.Points.{same_is}
 use Rattle.std.proofs.lemmas.Bool.{and_parts}
 
 -- the segment between a and b goes from the one to the other
 pub segment_ends : (a b : Point) (s : Segment) → is_segment a b s ≡ true → ((a ≡ s.from) × (b ≡ s.to)) ⊎ ((a ≡ s.to) × (b ≡ s.from))
-unfolding is_segment
-segment_ends a b s h = grind (arith, same_is, and_parts)
+segment_ends a b s h = unfold is_segment in grind (arith, same_is, and_parts)
 
 -- no two of the list pass
 abbrev Once : {X : Type 0} → (X → Bool) → List X → Type 0

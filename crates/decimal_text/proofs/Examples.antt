@@ -24,8 +24,7 @@ scaled_texts =
     ∷ []
 
 all_scaled : map (λ r. scaled r.0) scaled_texts ≡ map (λ r. r.1) scaled_texts
-unfolding scaled_of
-all_scaled = refl
+all_scaled = unfold scaled_of in refl
 
 -- units, and their texts
 abbrev unit_texts : List (ℤ × List ℕ)
@@ -38,5 +37,4 @@ unit_texts =
     ∷ []
 
 all_texts : map (λ r. units_text r.0 7) unit_texts ≡ map (λ r. r.1) unit_texts
-unfolding units_text digits
-all_texts = refl
+all_texts = unfold units_text digits in refl

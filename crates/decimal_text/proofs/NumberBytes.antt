@@ -50,13 +50,11 @@ either_ascii false xs ys h k = k
 
 digits_onto_ascii : (k n : ℕ) (acc : List ℕ) → IsAscii acc → IsAscii (digits_onto k 10 false n acc)
 digits_onto_ascii zero n acc h = h
-digits_onto_ascii (suc k) n acc h =
-    let more = ascii_cons (digit_glyph false (n % 10)) acc (grind (arith, nat_tests)) h in
+digits_onto_ascii (suc k) n acc h = let more = ascii_cons (digit_glyph false (n % 10)) acc (grind (arith, nat_tests)) h in
     either_ascii (n / 10 == 0) _ _ more (digits_onto_ascii k (n / 10) (digit_glyph false (n % 10) ∷ acc) more)
 
 decimal_ascii : (n : ℕ) → IsAscii (decimal n)
-unfolding digits
-decimal_ascii n = digits_onto_ascii 64 n [] IsAscii-nil
+decimal_ascii n = unfold digits in digits_onto_ascii 64 n [] IsAscii-nil
 
 fixed_ascii : (places n : ℕ) → IsAscii (fixed places n)
 fixed_ascii zero n = IsAscii-nil
@@ -80,8 +78,7 @@ sign_text_ascii true = ascii_cons 45 [] (omega arith) IsAscii-nil
 sign_text_ascii false = IsAscii-nil
 
 pub units_utf8 : (units : ℤ) (places : ℕ) → IsUtf8 (units_text units places)
-unfolding units_text
-units_utf8 units places =
+units_utf8 units places = unfold units_text in
     let size : ℕ = unsigned_abs units in
     let front = IsAscii-append (sign_text (int_lt units (pos 0))) (decimal (size / 10 ^ places)) (sign_text_ascii (int_lt units (pos 0))) (decimal_ascii (size / 10 ^ places)) in
     let rest = fraction_text_ascii (trimmed (fixed places (size % 10 ^ places))) (trimmed_ascii (fixed places (size % 10 ^ places)) (fixed_ascii places (size % 10 ^ places))) in

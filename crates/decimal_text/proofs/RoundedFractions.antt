@@ -17,18 +17,15 @@ IsRounded-up den q r h s = record { low = omega arith; high = omega arith }
 
 -- both numbers of the fraction by one factor
 pub IsRounded-scaled : (num den u k : ℕ) → 0 < k → IsRounded num den u → IsRounded (num * k) (den * k) u
-IsRounded-scaled num den u k pos r =
-    let low : k * (2 * (u * den)) ≤ k * (2 * num + den) = mul-le-mul_left k r.low in
+IsRounded-scaled num den u k pos r = let low : k * (2 * (u * den)) ≤ k * (2 * num + den) = mul-le-mul_left k r.low in
     let high : k * (2 * num + 1) ≤ k * (2 * (u * den) + den) = mul-le-mul_left k (omega arith) in
     record { low = omega arith; high = omega arith }
 
 pub IsRounded-unscaled : (num den u k : ℕ) → 0 < k → IsRounded (num * k) (den * k) u → IsRounded num den u
 IsRounded-unscaled num den u k pos r = record {
-  low = ⊎_elim
-      (λ h. let bad : k * (2 * num + den + 1) ≤ k * (2 * (u * den)) = mul-le-mul_left k (omega arith) in absurd (omega arith))
+  low = ⊎_elim (λ h. let bad : k * (2 * num + den + 1) ≤ k * (2 * (u * den)) = mul-le-mul_left k (omega arith) in absurd (omega arith))
       (λ h. h) (cases_lt (2 * num + den) (2 * (u * den)));
-  high = ⊎_elim (λ h. h)
-      (λ h. let bad : k * (2 * (u * den) + den) ≤ k * (2 * num) = mul-le-mul_left k h in absurd (omega arith))
+  high = ⊎_elim (λ h. h) (λ h. let bad : k * (2 * (u * den) + den) ≤ k * (2 * num) = mul-le-mul_left k h in absurd (omega arith))
       (cases_lt (2 * num) (2 * (u * den) + den));
 }
 
@@ -50,8 +47,7 @@ pub IsRoundedTo-up : (num den q r limit : ℕ) (m : Magnitude) → num ≡ q * d
 IsRoundedTo-up num den q r limit m sum more less is exact small = grind (arith, IsRounded-up den q r more less)
 
 -- rounded up past the limit
-pub up_past : (num den q r limit : ℕ) → num ≡ q * den + r → den ≤ 2 * r → r < den → q ≡ limit
-    → (u : ℕ) → IsRounded num den u → limit < u
+pub up_past : (num den q r limit : ℕ) → num ≡ q * den + r → den ≤ 2 * r → r < den → q ≡ limit → (u : ℕ) → IsRounded num den u → limit < u
 up_past num den q r limit sum more less at u rounds = grind arith
 
 cancel : (a b k : ℕ) → 0 < k → a * k ≡ b * k → a ≡ b
@@ -71,8 +67,7 @@ Rounds-scaled num den limit k (Err e) pos h = λ u s. h u (IsRounded-unscaled nu
 
 pub Rounds-longer : (v up down limit : ℕ) (r : Result Magnitude Range) → down ≤ up
     → Rounds (v * 10 ^ (up - down)) 1 limit r → Rounds (v * 10 ^ up) (10 ^ down) limit r
-Rounds-longer v up down limit r le h =
-    let pos : 0 < 10 ^ down = one-le-pow down 10 (omega arith) in
+Rounds-longer v up down limit r le h = let pos : 0 < 10 ^ down = one-le-pow down 10 (omega arith) in
     let sum : up ≡ (up - down) + down = omega arith in
     let split : 10 ^ up ≡ 10 ^ (up - down) * 10 ^ down = ap (λ n. 10 ^ n) sum ∙ pow-add 10 (up - down) down in
     let apart : v * (10 ^ (up - down) * 10 ^ down) ≡ (v * 10 ^ (up - down)) * 10 ^ down = omega arith in
@@ -98,15 +93,13 @@ pub IsRoundedTo-cut : (v len cut limit : ℕ) (m : Magnitude) → v < 10 ^ len �
 IsRoundedTo-cut v len cut limit m small more is exact = grind (arith, pow-suc 10 len, pow-le-pow_right, IsRoundedTo-down)
 
 -- zero, at any exponent
-pub IsRoundedTo-zero : (v a b limit : ℕ) (m : Magnitude) → v ≡ 0 → m.value ≡ 0 → m.exact ≡ true
-    → IsRoundedTo (v * 10 ^ a) (10 ^ b) limit m
+pub IsRoundedTo-zero : (v a b limit : ℕ) (m : Magnitude) → v ≡ 0 → m.value ≡ 0 → m.exact ≡ true → IsRoundedTo (v * 10 ^ a) (10 ^ b) limit m
 IsRoundedTo-zero v a b limit m none is exact = grind (arith, one-le-pow, zero-mul)
 
 -- a number far below one half
 pub IsRoundedTo-tiny : (v len places cut limit : ℕ) (m : Magnitude) → v < 10 ^ len → len + places < cut
     → m.value ≡ 0 → m.exact ≡ false → v ≢ 0 → IsRoundedTo (v * 10 ^ places) (10 ^ cut) limit m
-IsRoundedTo-tiny v len places cut limit m small more is exact some =
-    let p : ℕ = 10 ^ places in
+IsRoundedTo-tiny v len places cut limit m small more is exact some = let p : ℕ = 10 ^ places in
     let pos : 1 ≤ p = one-le-pow places 10 (omega arith) in
     let scaled : p * (v + 1) ≤ p * 10 ^ len = mul-le-mul_left p (omega arith) in
     let split : 10 ^ (len + places) ≡ 10 ^ len * p = pow-add 10 len places in

@@ -15,12 +15,10 @@ denominator-positive n = one-le-pow _ 10 (omega arith)
 
 pub scaled_of-read : (places limit : ℕ) (t : List ℕ) (n : Parts) → parts_of t ≡ Some n
     → scaled_of places limit t ≡ rounded_of n.negative (numerator n places) (denominator n) limit
-unfolding scaled_of
-scaled_of-read places limit t n e = ap (scaled_parts places limit) e
+scaled_of-read places limit t n e = unfold scaled_of in ap (scaled_parts places limit) e
 
 pub scaled_of-nearest : ScaledIsNearest
-scaled_of-nearest places limit t n s =
-    rw (scaled_of-read places limit t n (parts-read t n s))
+scaled_of-nearest places limit t n s = rw (scaled_of-read places limit t n (parts-read t n s))
     (rounded_of-nearest n.negative (numerator n places) (denominator n) limit (denominator-positive n))
 
 -- a magnitude with a sign

@@ -36,8 +36,7 @@ record IsRun (t ds : List ℕ) : Type 0 where
   pub some : 0 < length ds
 
 all_digits-spelled : (t ds : List ℕ) → all_digits_of t ≡ Some ds → IsRun t ds
-all_digits-spelled t ds h =
-    let tests = all_tests (length (front_digits t) == 0) (length (after_digits t) == 0) (front_digits t) ds h in
+all_digits-spelled t ds h = let tests = all_tests (length (front_digits t) == 0) (length (after_digits t) == 0) (front_digits t) ds h in
     let none : after_digits t ≡ [] = empty_from_length (after_digits t) tests.1 in
     let is : front_digits t ≡ ds = tests.2 in
     record {
@@ -86,11 +85,9 @@ e_test : (b : Bool) (o : Option (Bool × List ℕ)) (r : Bool × List ℕ)
 e_test b o r h = grind arith
 
 exponent-spelled : (t : List ℕ) (negative : Bool) (ds : List ℕ) → exponent_of t ≡ Some (negative, ds) → SpellsExponent t negative ds
-exponent-spelled [] negative ds h =
-    let parts = some_pair_parts {A = Bool} {B = List ℕ} false negative [] ds h in
+exponent-spelled [] negative ds h = let parts = some_pair_parts {A = Bool} {B = List ℕ} false negative [] ds h in
     subst (λ n. SpellsExponent [] n ds) parts.0 (subst (λ d. SpellsExponent [] false d) parts.1 spells_no_exponent)
-exponent-spelled (e ∷ rest) negative ds h =
-    let tests = e_test (is_e e) (signed_digits_of rest) (negative, ds) h in
+exponent-spelled (e ∷ rest) negative ds h = let tests = e_test (is_e e) (signed_digits_of rest) (negative, ds) h in
     let run = signed_digits-spelled rest negative ds tests.1 in
     rw run.same (exponent-made e run.sign negative ds tests.0 run.spelled run.run.digits run.run.some)
 
@@ -111,8 +108,7 @@ fraction-spelled t f rest h = grind (arith, some_pair_parts, eqb-true, fraction_
 
 whole-made : (w : List ℕ) → AllDigits w → is_whole w ≡ true → IsWhole w
 whole-made [] h t = absurd (false≢true t)
-whole-made (c ∷ []) h t =
-    ⊎_elim (λ y. let is : c ≡ 48 = y.1 in rw is whole_zero) (λ n. whole_digits c [] h.0 n.0 tt) (eqb_tells c 48)
+whole-made (c ∷ []) h t = ⊎_elim (λ y. let is : c ≡ 48 = y.1 in rw is whole_zero) (λ n. whole_digits c [] h.0 n.0 tt) (eqb_tells c 48)
 whole-made (c ∷ d ∷ ds) h t = whole_digits c (d ∷ ds) h.0 (not-true (c == 48) t) h.1
 
 -- the steps of `unsigned_of` where it gives parts
@@ -151,11 +147,8 @@ unsigned-spelled negative t n h = grind (arith, spelled_from_steps, whole_step)
 
 pub parts-spelled : (t : List ℕ) (n : Parts) → parts_of t ≡ Some n → SpellsNumber t n
 parts-spelled [] n h = absurd cc
-parts-spelled (c ∷ cs) n h =
-    ⊎_elim
-    (λ y. let is : c ≡ 45 = y.1 in rw is (unsigned-spelled true cs n (rw is at h)))
-    (λ m. let no : (c == 45) ≡ false = m.0 in unsigned-spelled false (c ∷ cs) n (rw no at h))
-    (eqb_tells c 45)
+parts-spelled (c ∷ cs) n h = ⊎_elim (λ y. let is : c ≡ 45 = y.1 in rw is (unsigned-spelled true cs n (rw is at h)))
+    (λ m. let no : (c == 45) ≡ false = m.0 in unsigned-spelled false (c ∷ cs) n (rw no at h)) (eqb_tells c 45)
 
 -- the parts that the grammar's texts spell
 record MinusOf (m : List ℕ) : Type 0 where
@@ -181,13 +174,11 @@ sign-of s minus_sign = (true, spells_minus)
 
 exponent-of : (e : List ℕ) → IsExponent e → (negative : Bool) × (ds : List ℕ) × SpellsExponent e negative ds
 exponent-of e no_exponent = (false, [], spells_no_exponent)
-exponent-of e (exponent_digits x s b bs hx hs hb h) =
-    let sign = sign-of s hs in
+exponent-of e (exponent_digits x s b bs hx hs hb h) = let sign = sign-of s hs in
     (sign.0, b ∷ bs, spells_exponent x s sign.0 b bs hx sign.1 hb h)
 
 pub number-spelled : (t : List ℕ) → IsNumber t → (n : Parts) × SpellsNumber t n
-number-spelled t (number_of m w f e hm hw hf he) =
-    let minus = minus-of m hm in
+number-spelled t (number_of m w f e hm hw hf he) = let minus = minus-of m hm in
     let frac = fraction-of f hf in
     let exp = exponent-of e he in (
       record { negative = minus.negative; whole = w; fraction = frac.digits; exponent_negative = exp.0; exponent = exp.1 },
@@ -218,9 +209,7 @@ exponent-grammar e negative ds spells_no_exponent = no_exponent
 exponent-grammar e negative ds (spells_exponent x s n b bs hx hs hb h) = exponent_digits x s b bs hx (sign-grammar s n hs) hb h
 
 pub spelled-number : (t : List ℕ) (n : Parts) → SpellsNumber t n → IsNumber t
-spelled-number t n s =
-    subst IsNumber (sym s.text)
-    (number_of (sign_text n.negative) n.whole (fraction_text n.fraction) s.exponent_text
+spelled-number t n s = subst IsNumber (sym s.text) (number_of (sign_text n.negative) n.whole (fraction_text n.fraction) s.exponent_text
     (sign-minus n.negative) s.whole (fraction-grammar n.fraction s.fraction) (exponent-grammar s.exponent_text n.exponent_negative n.exponent s.exponent))
 
 -- a text has parts exactly where it is a number

@@ -36,8 +36,7 @@ pub record IsText (n : ℕ) (ds : List ℕ) : Type 0 where
 
 whole-push : (ds : List ℕ) (x : ℕ) → All IsDigit ds → (48 ≤ x) × (x ≤ 57) → 0 < length ds → 48 < get_or ds 0 0 → IsWhole (ds ++ x ∷ [])
 whole-push [] x h b some head = absurd (omega arith)
-whole-push (c ∷ cs) x h b some head =
-    let first : (48 ≤ c) × (c ≤ 57) = All-head IsDigit c cs h in
+whole-push (c ∷ cs) x h b some head = let first : (48 ≤ c) × (c ≤ 57) = All-head IsDigit c cs h in
     let rest = All-append IsDigit cs (x ∷ []) (All-tail IsDigit c cs h) (one_digit x b.0 b.1) in
     whole_digits c (cs ++ x ∷ []) (digit_true c first.0 first.1) (ne_eqb c 48 (λ e. omega arith)) (AllDigits-from_All (cs ++ x ∷ []) rest)
 
@@ -53,8 +52,7 @@ text-one : (n : ℕ) → n < 10 → IsText n ((48 + n) ∷ [])
 text-one n h = grind (arith, one_digit, whole-one)
 
 text-more : (n : ℕ) (ds : List ℕ) → 10 ≤ n → IsText (n / 10) ds → IsText n (ds ++ ((48 + n % 10) ∷ []))
-text-more n ds h t =
-    let x : ℕ = 48 + n % 10 in
+text-more n ds h t = let x : ℕ = 48 + n % 10 in
     let push : digits_value (ds ++ x ∷ []) ≡ 10 * digits_value ds + (x - 48) = digits_value_after-append 0 ds (x ∷ []) in
     let front : 48 < get_or ds 0 0 = t.head (omega arith) in
     record {
@@ -76,8 +74,7 @@ pub record IsFixed (p n : ℕ) (ds : List ℕ) : Type 0 where
 
 pub fixed-text : (p n : ℕ) → n < 10 ^ p → IsFixed p n (fixed p n)
 fixed-text zero n h = record { says = omega arith; digits = no_elements; len = refl }
-fixed-text (suc q) n h =
-    let e : 10 ^ suc q ≡ 10 ^ q * 10 = pow-suc 10 q in
+fixed-text (suc q) n h = let e : 10 ^ suc q ≡ 10 ^ q * 10 = pow-suc 10 q in
     let t : IsFixed q (n / 10) (fixed q (n / 10)) = fixed-text q (n / 10) (omega arith) in
     let push : digits_value (fixed q (n / 10) ++ (48 + n % 10) ∷ []) ≡ 10 * digits_value (fixed q (n / 10)) + ((48 + n % 10) - 48) =
     digits_value_after-append 0 (fixed q (n / 10)) ((48 + n % 10) ∷ []) in
@@ -93,17 +90,13 @@ scale v d a vc b vt w e1 e2 e3 = rw (e1, e2) (omega arith)
 -- zeros at the end change the value by a power of ten
 before-value : (c : ℕ) (cs t : List ℕ) → 48 ≤ c → digits_value cs * 10 ^ length t ≡ digits_value t * 10 ^ length cs
     → digits_value (c ∷ cs) * 10 ^ length (before_trimmed c t) ≡ digits_value (before_trimmed c t) * 10 ^ length (c ∷ cs)
-before-value c cs [] low e =
-    let one = digits_value_after-split (10 * 0 + (c - 48)) cs in
+before-value c cs [] low e = let one = digits_value_after-split (10 * 0 + (c - 48)) cs in
     let step : 10 ^ suc (length cs) ≡ 10 ^ length cs * 10 = pow-suc 10 (length cs) in
-    ⊎_elim
-    (λ y.
+    ⊎_elim (λ y.
     let is : c ≡ 48 = y.1 in
     let none : 10 * 0 + (c - 48) ≡ 0 = omega arith in
     let gone : (10 * 0 + (c - 48)) * 10 ^ length cs ≡ 0 = ap (λ n. n * 10 ^ length cs) none ∙ zero-mul (10 ^ length cs) in
-    rw y.0 (omega (arith, one)))
-    (λ n. rw n.0 (rw step (omega (arith, one))))
-    (eqb_tells c 48)
+    rw y.0 (omega (arith, one))) (λ n. rw n.0 (rw step (omega (arith, one)))) (eqb_tells c 48)
 before-value c cs (x ∷ xs) low e = grind (arith, digits_value_after-split, pow-suc, scale)
 
 pub trimmed-value : (ds : List ℕ) → All IsDigit ds → digits_value ds * 10 ^ length (trimmed ds) ≡ digits_value (trimmed ds) * 10 ^ length ds
@@ -122,8 +115,7 @@ trimmed-digits (c ∷ cs) h = grind (arith, before-digits, All-head, All-tail, t
 pub units-value : (size places : ℕ) → size < 10 ^ 64
     → digits_value (decimal (size / 10 ^ places) ++ trimmed (fixed places (size % 10 ^ places))) * 10 ^ places
     ≡ size * 10 ^ length (trimmed (fixed places (size % 10 ^ places)))
-units-value size places small =
-    let p : ℕ = 10 ^ places in
+units-value size places small = let p : ℕ = 10 ^ places in
     let q : ℕ = size / p in
     let r : ℕ = size % p in
     let ds : List ℕ = fixed places r in
@@ -158,8 +150,7 @@ parts_in_text negative size places = record {
 }
 
 text-spells : (negative : Bool) (size places : ℕ) → size < 10 ^ 64 → SpellsNumber (text_of negative size places) (parts_in_text negative size places)
-text-spells negative size places small =
-    let p : ℕ = 10 ^ places in
+text-spells negative size places small = let p : ℕ = 10 ^ places in
     let t : List ℕ = trimmed (fixed places (size % p)) in
     let pos : 1 ≤ p = one-le-pow places 10 (omega arith) in
     let least : (size / p) * 1 ≤ (size / p) * p = mul-le-mul_left (size / p) pos in
@@ -179,14 +170,11 @@ signed-same : (u : ℤ) → signed (int_lt u (pos 0)) (unsigned_abs u) ≡ u
 signed-same u = grind (arith, int_lt, nat_tests)
 
 pub units_text-number : (u : ℤ) (places : ℕ) → unsigned_abs u < 10 ^ 64 → IsNumber (units_text u places)
-unfolding units_text
-units_text-number u places small =
-    spelled-number _ _ (text-spells (int_lt u (pos 0)) (unsigned_abs u) places small)
+units_text-number u places small = unfold units_text in spelled-number _ _ (text-spells (int_lt u (pos 0)) (unsigned_abs u) places small)
 
 pub scaled_of-units : (u : ℤ) (places limit : ℕ) → unsigned_abs u < 10 ^ 64 → unsigned_abs u ≤ limit
     → scaled_of places limit (units_text u places) ≡ Ok (record { value = u; exact = true })
-unfolding scaled_of units_text
-scaled_of-units u places limit small within =
+scaled_of-units u places limit small within = unfold scaled_of units_text in
     let negative : Bool = int_lt u (pos 0) in
     let size : ℕ = unsigned_abs u in
     let n : Parts = parts_in_text negative size places in
@@ -199,8 +187,7 @@ scaled_of-units u places limit small within =
 
 units_text-least : (u : ℤ) (places : ℕ) (n : Parts) → unsigned_abs u < 10 ^ 64 → SpellsNumber (units_text u places) n
     → (n.exponent ≡ []) × EndsInNoZero n.fraction
-unfolding units_text
-units_text-least u places n small s =
+units_text-least u places n small s = unfold units_text in
     let m : Parts = parts_in_text (int_lt u (pos 0)) (unsigned_abs u) places in
     let same : m ≡ n = (cc (sym (parts-read _ m (text-spells (int_lt u (pos 0)) (unsigned_abs u) places small)) ∙ parts-read _ n s)) in
     subst (λ p. (p.exponent ≡ []) × EndsInNoZero p.fraction) same (refl, trimmed-end (fixed places (unsigned_abs u % 10 ^ places)))

@@ -11,31 +11,26 @@ use Rattle.json_value.proofs.NumbersOf.{numbers}
 use Rattle.json_value.proofs.Texts.{texts}
 
 plain_text : quoted (codes "007") ≡ codes "\"007\""
-unfolding escaped_byte
-plain_text = refl
+plain_text = unfold escaped_byte in refl
 
 -- a quotation mark, a reverse solidus, U+0008, U+0009, U+000A, U+000C and U+000D
 short_escapes : escaped (34 ∷ 92 ∷ 8 ∷ 9 ∷ 10 ∷ 12 ∷ 13 ∷ []) ≡ codes "\\\"\\\\\\b\\t\\n\\f\\r"
-unfolding escaped_byte
-short_escapes = refl
+short_escapes = unfold escaped_byte in refl
 
 -- U+0000, U+000B and U+001F
 long_escapes : escaped (0 ∷ 11 ∷ 31 ∷ []) ≡ codes "\\u0000\\u000b\\u001f"
-unfolding escaped_byte
-long_escapes = refl
+long_escapes = unfold escaped_byte in refl
 
 -- a blank, a solidus, U+007F and U+00E9
 no_escapes : escaped (32 ∷ 47 ∷ 127 ∷ 195 ∷ 169 ∷ []) ≡ 32 ∷ 47 ∷ 127 ∷ 195 ∷ 169 ∷ []
-unfolding escaped_byte
-no_escapes = refl
+no_escapes = unfold escaped_byte in refl
 
 -- {"a":[1,null,true],"a":"b/"}
 abbrev value : Json
 value = j.Object ((codes "a", j.Array (j.Number (codes "1") ∷ j.Null ∷ j.Bool true ∷ [])) ∷ (codes "a", j.Text (codes "b/")) ∷ [])
 
 value_text : json_text value ≡ codes "{\"a\":[1,null,true],\"a\":\"b/\"}"
-unfolding escaped_byte
-value_text = simp texts refl
+value_text = unfold escaped_byte in simp texts refl
 
 value_depth : depth value ≡ 2
 value_depth = simp depths refl

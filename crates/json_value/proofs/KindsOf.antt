@@ -9,148 +9,109 @@ use Rattle.json_value.specs.Kinds.{array_of, array_in, object_of, object_in, tex
 -- ---- an array
 
 pub array_of-null : array_of j.Null ≡ None
-unfolding array_of
-array_of-null = ap array_in j.outs-Null
+array_of-null = unfold array_of in ap array_in j.outs-Null
 
 pub array_of-bool : (b : Bool) → array_of (j.Bool b) ≡ None
-unfolding array_of
-array_of-bool b = ap array_in (j.outs-Bool b)
+array_of-bool b = unfold array_of in ap array_in (j.outs-Bool b)
 
 pub array_of-number : (t : List ℕ) → array_of (j.Number t) ≡ None
-unfolding array_of
-array_of-number t = ap array_in (j.outs-Number t)
+array_of-number t = unfold array_of in ap array_in (j.outs-Number t)
 
 pub array_of-text : (t : List ℕ) → array_of (j.Text t) ≡ None
-unfolding array_of
-array_of-text t = ap array_in (j.outs-Text t)
+array_of-text t = unfold array_of in ap array_in (j.outs-Text t)
 
 pub array_of-array : (vs : List Json) → array_of (j.Array vs) ≡ Some vs
-unfolding array_of
-array_of-array vs = ap array_in (j.outs-Array vs)
+array_of-array vs = unfold array_of in ap array_in (j.outs-Array vs)
 
 pub array_of-object : (ms : List (List ℕ × Json)) → array_of (j.Object ms) ≡ None
-unfolding array_of
-array_of-object ms = ap array_in (j.outs-Object ms)
+array_of-object ms = unfold array_of in ap array_in (j.outs-Object ms)
 
 array_is : (x : Json-F Json) (vs : List Json) → array_in x ≡ Some vs → roll-Json x ≡ j.Array vs
-array_is Json-F.Null vs e = cc
-array_is (Json-F.Bool b1) vs e = cc
-array_is (Json-F.Number t1) vs e = cc
-array_is (Json-F.Text t1) vs e = cc
 array_is (Json-F.Array vs1) vs e = j.rolls-Array vs1 ∙ ap j.Array cc
-array_is (Json-F.Object ms1) vs e = cc
+array_is x vs e = cc
 
 pub array_of_is : (v : Json) (vs : List Json) → array_of v ≡ Some vs → v ≡ j.Array vs
-unfolding array_of
-array_of_is v vs e = sym (roll-out-Json v) ∙ array_is (out-Json v) vs e
+array_of_is v vs e = unfold array_of in sym (roll-out-Json v) ∙ array_is (out-Json v) vs e
 
 pub ruleset array_kinds = (array_of-null, array_of-bool, array_of-number, array_of-text, array_of-array, array_of-object)
 
 -- ---- an object
 
 pub object_of-null : object_of j.Null ≡ None
-unfolding object_of
-object_of-null = ap object_in j.outs-Null
+object_of-null = unfold object_of in ap object_in j.outs-Null
 
 pub object_of-bool : (b : Bool) → object_of (j.Bool b) ≡ None
-unfolding object_of
-object_of-bool b = ap object_in (j.outs-Bool b)
+object_of-bool b = unfold object_of in ap object_in (j.outs-Bool b)
 
 pub object_of-number : (t : List ℕ) → object_of (j.Number t) ≡ None
-unfolding object_of
-object_of-number t = ap object_in (j.outs-Number t)
+object_of-number t = unfold object_of in ap object_in (j.outs-Number t)
 
 pub object_of-text : (t : List ℕ) → object_of (j.Text t) ≡ None
-unfolding object_of
-object_of-text t = ap object_in (j.outs-Text t)
+object_of-text t = unfold object_of in ap object_in (j.outs-Text t)
 
 pub object_of-array : (vs : List Json) → object_of (j.Array vs) ≡ None
-unfolding object_of
-object_of-array vs = ap object_in (j.outs-Array vs)
+object_of-array vs = unfold object_of in ap object_in (j.outs-Array vs)
 
 pub object_of-object : (ms : List (List ℕ × Json)) → object_of (j.Object ms) ≡ Some ms
-unfolding object_of
-object_of-object ms = ap object_in (j.outs-Object ms)
+object_of-object ms = unfold object_of in ap object_in (j.outs-Object ms)
 
 object_is : (x : Json-F Json) (ms : List (List ℕ × Json)) → object_in x ≡ Some ms → roll-Json x ≡ j.Object ms
-object_is Json-F.Null ms e = cc
-object_is (Json-F.Bool b1) ms e = cc
-object_is (Json-F.Number t1) ms e = cc
-object_is (Json-F.Text t1) ms e = cc
-object_is (Json-F.Array vs1) ms e = cc
 object_is (Json-F.Object ms1) ms e = j.rolls-Object ms1 ∙ ap j.Object cc
+object_is x ms e = cc
 
 pub object_of_is : (v : Json) (ms : List (List ℕ × Json)) → object_of v ≡ Some ms → v ≡ j.Object ms
-unfolding object_of
-object_of_is v ms e = sym (roll-out-Json v) ∙ object_is (out-Json v) ms e
+object_of_is v ms e = unfold object_of in sym (roll-out-Json v) ∙ object_is (out-Json v) ms e
 
 pub ruleset object_kinds = (object_of-null, object_of-bool, object_of-number, object_of-text, object_of-array, object_of-object)
 
 -- ---- a text
 
 pub text_of-null : text_of j.Null ≡ None
-unfolding text_of
-text_of-null = ap text_in j.outs-Null
+text_of-null = unfold text_of in ap text_in j.outs-Null
 
 pub text_of-bool : (b : Bool) → text_of (j.Bool b) ≡ None
-unfolding text_of
-text_of-bool b = ap text_in (j.outs-Bool b)
+text_of-bool b = unfold text_of in ap text_in (j.outs-Bool b)
 
 pub text_of-number : (t : List ℕ) → text_of (j.Number t) ≡ None
-unfolding text_of
-text_of-number t = ap text_in (j.outs-Number t)
+text_of-number t = unfold text_of in ap text_in (j.outs-Number t)
 
 pub text_of-text : (t : List ℕ) → text_of (j.Text t) ≡ Some t
-unfolding text_of
-text_of-text t = ap text_in (j.outs-Text t)
+text_of-text t = unfold text_of in ap text_in (j.outs-Text t)
 
 pub text_of-array : (vs : List Json) → text_of (j.Array vs) ≡ None
-unfolding text_of
-text_of-array vs = ap text_in (j.outs-Array vs)
+text_of-array vs = unfold text_of in ap text_in (j.outs-Array vs)
 
 pub text_of-object : (ms : List (List ℕ × Json)) → text_of (j.Object ms) ≡ None
-unfolding text_of
-text_of-object ms = ap text_in (j.outs-Object ms)
+text_of-object ms = unfold text_of in ap text_in (j.outs-Object ms)
 
 pub ruleset text_kinds = (text_of-null, text_of-bool, text_of-number, text_of-text, text_of-array, text_of-object)
 
 -- ---- a number
 
 pub number_of-null : number_of j.Null ≡ None
-unfolding number_of
-number_of-null = ap number_in j.outs-Null
+number_of-null = unfold number_of in ap number_in j.outs-Null
 
 pub number_of-bool : (b : Bool) → number_of (j.Bool b) ≡ None
-unfolding number_of
-number_of-bool b = ap number_in (j.outs-Bool b)
+number_of-bool b = unfold number_of in ap number_in (j.outs-Bool b)
 
 pub number_of-number : (t : List ℕ) → number_of (j.Number t) ≡ Some t
-unfolding number_of
-number_of-number t = ap number_in (j.outs-Number t)
+number_of-number t = unfold number_of in ap number_in (j.outs-Number t)
 
 pub number_of-text : (t : List ℕ) → number_of (j.Text t) ≡ None
-unfolding number_of
-number_of-text t = ap number_in (j.outs-Text t)
+number_of-text t = unfold number_of in ap number_in (j.outs-Text t)
 
 pub number_of-array : (vs : List Json) → number_of (j.Array vs) ≡ None
-unfolding number_of
-number_of-array vs = ap number_in (j.outs-Array vs)
+number_of-array vs = unfold number_of in ap number_in (j.outs-Array vs)
 
 pub number_of-object : (ms : List (List ℕ × Json)) → number_of (j.Object ms) ≡ None
-unfolding number_of
-number_of-object ms = ap number_in (j.outs-Object ms)
+number_of-object ms = unfold number_of in ap number_in (j.outs-Object ms)
 
 number_is : (x : Json-F Json) (t : List ℕ) → number_in x ≡ Some t → roll-Json x ≡ j.Number t
-number_is Json-F.Null t e = cc
-number_is (Json-F.Bool b1) t e = cc
 number_is (Json-F.Number t1) t e = j.rolls-Number t1 ∙ ap j.Number cc
-number_is (Json-F.Text t1) t e = cc
-number_is (Json-F.Array vs1) t e = cc
-number_is (Json-F.Object ms1) t e = cc
+number_is x t e = cc
 
 pub number_of_is : (v : Json) (t : List ℕ) → number_of v ≡ Some t → v ≡ j.Number t
-unfolding number_of
-number_of_is v t e = sym (roll-out-Json v) ∙ number_is (out-Json v) t e
+number_of_is v t e = unfold number_of in sym (roll-out-Json v) ∙ number_is (out-Json v) t e
 
 pub ruleset number_kinds = (number_of-null, number_of-bool, number_of-number, number_of-text, number_of-array, number_of-object)
 

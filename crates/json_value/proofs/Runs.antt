@@ -6,8 +6,7 @@ use Rattle.json_value.specs.Grammar.{is_plain}
 use Rattle.json_value.specs.Text.{escaped_byte, escaped}
 
 pub plain_stays : (b : ℕ) → is_plain b ≡ true → escaped_byte b ≡ b ∷ []
-unfolding escaped_byte
-plain_stays b h = grind (arith, nat_tests)
+plain_stays b h = unfold escaped_byte in grind (arith, nat_tests)
 
 pub plain_tells : (b : ℕ) → (is_plain b ≡ true) ⊎ (is_plain b ≡ false)
 plain_tells b = elim (is_plain b) as (λ x. (x ≡ true) ⊎ (x ≡ false)) [ true ↦ inl refl | false ↦ inr refl ]
@@ -15,11 +14,10 @@ plain_tells b = elim (is_plain b) as (λ x. (x ≡ true) ⊎ (x ≡ false)) [ tr
 -- the bytes in front that stand for themselves, and the rest
 run_first : (bytes : List ℕ) → escaped bytes ≡ take (prefix_len is_plain bytes) bytes ++ escaped (drop (prefix_len is_plain bytes) bytes)
 run_first [] = refl
-run_first (b ∷ bytes) =
-    elim (plain_tells b) [
-      | inl p ↦ rw (p, one-add) (rw (plain_stays b p) (ap (λ z. b ∷ z) (run_first bytes)))
-      | inr p ↦ rw p refl
-    ]
+run_first (b ∷ bytes) = elim (plain_tells b) [
+  | inl p ↦ rw (p, one-add) (rw (plain_stays b p) (ap (λ z. b ∷ z) (run_first bytes)))
+  | inr p ↦ rw p refl
+]
 
 -- what is left to write before a run, and behind it
 pub run_is : (rest run behind closing : List ℕ) (n : ℕ) → n ≡ prefix_len is_plain rest → run ≡ take n rest → behind ≡ drop n rest → escaped rest ++ closing ≡ run ++ (escaped behind ++ closing)

@@ -8,24 +8,19 @@ use Rattle.json_value.specs.declared.json.Json.TheVariants as j
 use Rattle.json_value.specs.Text.{json_text, text_step, bool_text, quoted, member_text}
 
 pub text-null : json_text j.Null ≡ codes "null"
-unfolding json_text
-text-null = ap (fold-Json (List ℕ) text_step) (sym j.rolls-Null) ∙ fold-roll-Json (List ℕ) text_step Json-F.Null
+text-null = unfold json_text in ap (fold-Json (List ℕ) text_step) (sym j.rolls-Null) ∙ fold-roll-Json (List ℕ) text_step Json-F.Null
 
 pub text-bool : (b : Bool) → json_text (j.Bool b) ≡ bool_text b
-unfolding json_text
-text-bool b = ap (fold-Json (List ℕ) text_step) (sym (j.rolls-Bool b)) ∙ fold-roll-Json (List ℕ) text_step (Json-F.Bool b)
+text-bool b = unfold json_text in ap (fold-Json _ text_step) (sym (j.rolls-Bool b)) ∙ fold-roll-Json _ text_step (Json-F.Bool b)
 
 pub text-number : (t : List ℕ) → json_text (j.Number t) ≡ t
-unfolding json_text
-text-number t = ap (fold-Json (List ℕ) text_step) (sym (j.rolls-Number t)) ∙ fold-roll-Json (List ℕ) text_step (Json-F.Number t)
+text-number t = unfold json_text in ap (fold-Json _ text_step) (sym (j.rolls-Number t)) ∙ fold-roll-Json _ text_step (Json-F.Number t)
 
 pub text-text : (t : List ℕ) → json_text (j.Text t) ≡ quoted t
-unfolding json_text
-text-text t = ap (fold-Json (List ℕ) text_step) (sym (j.rolls-Text t)) ∙ fold-roll-Json (List ℕ) text_step (Json-F.Text t)
+text-text t = unfold json_text in ap (fold-Json _ text_step) (sym (j.rolls-Text t)) ∙ fold-roll-Json _ text_step (Json-F.Text t)
 
 pub text-array : (vs : List Json) → json_text (j.Array vs) ≡ codes "[" ++ comma_separated (map json_text vs) ++ codes "]"
-unfolding json_text
-text-array vs = ap (fold-Json (List ℕ) text_step) (sym (j.rolls-Array vs)) ∙ fold-roll-Json (List ℕ) text_step (Json-F.Array vs)
+text-array vs = unfold json_text in ap (fold-Json _ text_step) (sym (j.rolls-Array vs)) ∙ fold-roll-Json _ text_step (Json-F.Array vs)
 
 -- two steps through a list are one
 pub fused : {A B C : Type 0} (h : B → C) (g : A → B) (k : A → C) → ((a : A) → h (g a) ≡ k a) → (xs : List A) → map h (map g xs) ≡ map k xs
@@ -37,8 +32,7 @@ abbrev pub one_member : List ℕ × Json → List ℕ
 one_member m = member_text (m.0, json_text m.1)
 
 pub text-object : (ms : List (List ℕ × Json)) → json_text (j.Object ms) ≡ codes "{" ++ comma_separated (map one_member ms) ++ codes "}"
-unfolding json_text
-text-object ms = ap (fold-Json (List ℕ) text_step) (sym (j.rolls-Object ms)) ∙ fold-roll-Json (List ℕ) text_step (Json-F.Object ms)
+text-object ms = unfold json_text in ap (fold-Json _ text_step) (sym (j.rolls-Object ms)) ∙ fold-roll-Json _ text_step (Json-F.Object ms)
     ∙ ap (λ ts. codes "{" ++ comma_separated ts ++ codes "}") (fused member_text _ one_member (λ m. refl) ms)
 
 pub ruleset texts = (text-null, text-bool, text-number, text-text, text-array, text-object)

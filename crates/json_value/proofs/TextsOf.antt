@@ -8,29 +8,23 @@ use Rattle.json_value.specs.WellFormed.{texts_of, texts_step}
 use Rattle.json_value.proofs.NumbersOf.{gathered}
 
 pub texts-null : texts_of j.Null ≡ []
-unfolding texts_of
-texts-null = ap (fold-Json (List (List ℕ)) texts_step) (sym j.rolls-Null) ∙ fold-roll-Json (List (List ℕ)) texts_step Json-F.Null
+texts-null = unfold texts_of in ap (fold-Json _ texts_step) (sym j.rolls-Null) ∙ fold-roll-Json _ texts_step Json-F.Null
 
 pub texts-bool : (b : Bool) → texts_of (j.Bool b) ≡ []
-unfolding texts_of
-texts-bool b = ap (fold-Json (List (List ℕ)) texts_step) (sym (j.rolls-Bool b)) ∙ fold-roll-Json (List (List ℕ)) texts_step (Json-F.Bool b)
+texts-bool b = unfold texts_of in ap (fold-Json _ texts_step) (sym (j.rolls-Bool b)) ∙ fold-roll-Json _ texts_step (Json-F.Bool b)
 
 pub texts-number : (t : List ℕ) → texts_of (j.Number t) ≡ []
-unfolding texts_of
-texts-number t = ap (fold-Json (List (List ℕ)) texts_step) (sym (j.rolls-Number t)) ∙ fold-roll-Json (List (List ℕ)) texts_step (Json-F.Number t)
+texts-number t = unfold texts_of in ap (fold-Json _ texts_step) (sym (j.rolls-Number t)) ∙ fold-roll-Json _ texts_step (Json-F.Number t)
 
 pub texts-text : (t : List ℕ) → texts_of (j.Text t) ≡ t ∷ []
-unfolding texts_of
-texts-text t = ap (fold-Json (List (List ℕ)) texts_step) (sym (j.rolls-Text t)) ∙ fold-roll-Json (List (List ℕ)) texts_step (Json-F.Text t)
+texts-text t = unfold texts_of in ap (fold-Json _ texts_step) (sym (j.rolls-Text t)) ∙ fold-roll-Json _ texts_step (Json-F.Text t)
 
 pub texts-array : (vs : List Json) → texts_of (j.Array vs) ≡ flat_map texts_of vs
-unfolding texts_of
-texts-array vs = ap (fold-Json (List (List ℕ)) texts_step) (sym (j.rolls-Array vs)) ∙ fold-roll-Json (List (List ℕ)) texts_step (Json-F.Array vs)
+texts-array vs = unfold texts_of in ap (fold-Json _ texts_step) (sym (j.rolls-Array vs)) ∙ fold-roll-Json _ texts_step (Json-F.Array vs)
     ∙ gathered (λ ns. ns) _ texts_of (λ v. refl) vs
 
 pub texts-object : (ms : List (List ℕ × Json)) → texts_of (j.Object ms) ≡ flat_map (λ m. m.0 ∷ texts_of m.1) ms
-unfolding texts_of
-texts-object ms = ap (fold-Json (List (List ℕ)) texts_step) (sym (j.rolls-Object ms)) ∙ fold-roll-Json (List (List ℕ)) texts_step (Json-F.Object ms)
+texts-object ms = unfold texts_of in ap (fold-Json _ texts_step) (sym (j.rolls-Object ms)) ∙ fold-roll-Json _ texts_step (Json-F.Object ms)
     ∙ gathered (λ m. m.0 ∷ m.1) _ (λ m. m.0 ∷ texts_of m.1) (λ m. refl) ms
 
 pub ruleset value_texts = (texts-null, texts-bool, texts-number, texts-text, texts-array, texts-object)

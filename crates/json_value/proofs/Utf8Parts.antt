@@ -1,20 +1,21 @@
 -- Values whose number texts, texts and names are all UTF-8: one lemma a variant, from what holds of their parts.
-use Rattle.std.proofs.Common.{ℕ, ◌<◌, ◌≡◌, Bool, true, List, [], ◌∷◌, map, arith}
+use Rattle.std.proofs.Common.{ℕ, ◌≡◌, Bool, true, List, [], ◌∷◌, map, arith}
 use Rattle.std.specs.Prelude.{◌&&◌, nat_lt, IsUtf8}
 use Rattle.std.specs.List.{flat_map, AllByRecursion}
 use Rattle.std.proofs.lemmas.Bool.{and_parts}
 use Rattle.std.proofs.lemmas.Bool.Decides.{nat_tests}
-use Rattle.std.proofs.lemmas.Str.{IsUtf8-append, IsUtf8-nil}
+use Rattle.std.proofs.lemmas.Str.{IsUtf8-from_ascii}
+use Rattle.std.proofs.lemmas.Str.Ascii.{IsAscii-nil}
+use Rattle.std.specs.Str.{IsAscii}
 use Rattle.decimal_text.specs.Grammar.{IsNumber}
-use Rattle.decimal_text.proofs.NumberBytes.{number_utf8}
+use Rattle.decimal_text.proofs.NumberBytes.{ascii_cons, number_utf8}
 use Rattle.json_value.specs.declared.json.Json.{Json}
 use Rattle.json_value.specs.declared.json.Json.TheVariants as j
 use Rattle.json_value.specs.Numbers.{numbers_of, HasNumbers}
 use Rattle.json_value.specs.WellFormed.{texts_of, HasTexts, IsWellFormed}
-use Rattle.json_value.proofs.NumbersOf.{numbers-null, numbers-number, numbers-text, numbers-array, numbers-object}
+use Rattle.json_value.proofs.NumbersOf.{all_flat, numbers-null, numbers-number, numbers-text, numbers-array, numbers-object}
 use Rattle.json_value.proofs.TextsOf.{texts-null, texts-number, texts-text, texts-array, texts-object}
-use Rattle.json_value.proofs.Utf8.{ascii_one}
-use Rattle.list_laws.proofs.Elements.{all_append, all_weaker}
+use Rattle.list_laws.proofs.Elements.{all_map, all_of, all_weaker}
 
 -- each is UTF-8
 abbrev Each : List (List ℕ) → Type 0
@@ -45,49 +46,43 @@ text_value_utf8 t h = record { numbers = rw (numbers-text t) tt; texts = rw (tex
 -- an array of the values of these items
 module _ {A : Type 0} (value : A → Json) where
   items_numbers : (xs : List A) → AllByRecursion (λ x. AreUtf8 (value x)) xs → Each (flat_map numbers_of (map value xs))
-  items_numbers [] h = tt
-  items_numbers (x ∷ xs) h = let one = h.0 in all_append (λ t. IsUtf8 t) (numbers_of (value x)) (flat_map numbers_of (map value xs)) one.numbers (items_numbers xs h.1)
+  items_numbers xs h = all_flat (λ t. IsUtf8 t) numbers_of (map value xs)
+      (all_map (λ v. Each (numbers_of v)) value xs (all_weaker (λ x. AreUtf8 (value x)) (λ x. Each (numbers_of (value x))) (λ x u. u.numbers) xs h))
 
   items_texts : (xs : List A) → AllByRecursion (λ x. AreUtf8 (value x)) xs → Each (flat_map texts_of (map value xs))
-  items_texts [] h = tt
-  items_texts (x ∷ xs) h = let one = h.0 in all_append (λ t. IsUtf8 t) (texts_of (value x)) (flat_map texts_of (map value xs)) one.texts (items_texts xs h.1)
+  items_texts xs h = all_flat (λ t. IsUtf8 t) texts_of (map value xs)
+      (all_map (λ v. Each (texts_of v)) value xs (all_weaker (λ x. AreUtf8 (value x)) (λ x. Each (texts_of (value x))) (λ x u. u.texts) xs h))
 
   pub array_utf8 : (xs : List A) → AllByRecursion (λ x. AreUtf8 (value x)) xs → AreUtf8 (j.Array (map value xs))
   array_utf8 xs h = record { numbers = rw (numbers-array (map value xs)) (items_numbers xs h); texts = rw (texts-array (map value xs)) (items_texts xs h) }
 
-  every : ((x : A) → AreUtf8 (value x)) → (xs : List A) → AllByRecursion (λ x. AreUtf8 (value x)) xs
-  every h [] = tt
-  every h (x ∷ xs) = (h x, every h xs)
-
   -- where each value is
   pub each_utf8 : ((x : A) → AreUtf8 (value x)) → (xs : List A) → AreUtf8 (j.Array (map value xs))
-  each_utf8 h xs = array_utf8 xs (every h xs)
+  each_utf8 h xs = array_utf8 xs (all_of (λ x. AreUtf8 (value x)) xs (λ x k. h x))
 
 -- the name of a member is UTF-8, and so are the parts of its value
 abbrev pub MemberUtf8 : List ℕ × Json → Type 0
 MemberUtf8 m = IsUtf8 m.0 × AreUtf8 m.1
 
 members_numbers : (ms : List (List ℕ × Json)) → AllByRecursion MemberUtf8 ms → Each (flat_map (λ m. numbers_of m.1) ms)
-members_numbers [] h = tt
-members_numbers (m ∷ ms) h = let one = h.0.1 in all_append (λ t. IsUtf8 t) (numbers_of m.1) (flat_map (λ m. numbers_of m.1) ms) one.numbers (members_numbers ms h.1)
+members_numbers ms h = all_flat (λ t. IsUtf8 t) (λ m. numbers_of m.1) ms (all_weaker MemberUtf8 (λ m. Each (numbers_of m.1)) (λ m u. u.1.numbers) ms h)
 
 members_texts : (ms : List (List ℕ × Json)) → AllByRecursion MemberUtf8 ms → Each (flat_map (λ m. m.0 ∷ texts_of m.1) ms)
-members_texts [] h = tt
-members_texts (m ∷ ms) h = let one = h.0.1 in all_append (λ t. IsUtf8 t) (m.0 ∷ texts_of m.1) (flat_map (λ m. m.0 ∷ texts_of m.1) ms) (h.0.0, one.texts) (members_texts ms h.1)
+members_texts ms h = all_flat (λ t. IsUtf8 t) (λ m. m.0 ∷ texts_of m.1) ms (all_weaker MemberUtf8 (λ m. Each (m.0 ∷ texts_of m.1)) (λ m u. (u.0, u.1.texts)) ms h)
 
 pub object_utf8 : (ms : List (List ℕ × Json)) → AllByRecursion MemberUtf8 ms → AreUtf8 (j.Object ms)
 object_utf8 ms h = record { numbers = rw (numbers-object ms) (members_numbers ms h); texts = rw (texts-object ms) (members_texts ms h) }
 
 -- ---- words
 
-abbrev is_ascii : List ℕ → Bool
+abbrev pub is_ascii : List ℕ → Bool
 is_ascii [] = true
 is_ascii (b ∷ bs) = nat_lt b 128 && is_ascii bs
 
--- a word that is written out
+-- a list that is written out
+pub ascii : (bs : List ℕ) → is_ascii bs ≡ true → IsAscii bs
+ascii [] h = IsAscii-nil
+ascii (b ∷ bs) h = grind (arith, and_parts, ascii_cons, nat_tests, ascii bs)
+
 pub word : (bs : List ℕ) → is_ascii bs ≡ true → IsUtf8 bs
-word [] h = IsUtf8-nil
-word (b ∷ bs) h =
-    let parts = and_parts (nat_lt b 128) (is_ascii bs) h in
-    let small : b < 128 = grind (arith, nat_tests, parts.0) in
-    IsUtf8-append (b ∷ []) bs (ascii_one b small) (word bs parts.1)
+word bs h = IsUtf8-from_ascii bs (ascii bs h)

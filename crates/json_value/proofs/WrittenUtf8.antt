@@ -1,12 +1,11 @@
 -- The text that is written for a value is UTF-8 where its numbers, texts and names are, and so for a well-formed value.
 use Rattle.std.proofs.Common.{◌≡◌, ℕ, ◌<◌, Bool, true, false, inl, inr, List, [], ◌∷◌, ◌++◌, map, if◌then◌else◌, refl, sym, subst, append_assoc, arith}
-use Rattle.std.specs.Prelude.{IsUtf8, ◌&&◌, nat_lt, codes}
+use Rattle.std.specs.Prelude.{IsUtf8, codes}
 use Rattle.std.specs.Str.{IsAscii}
 use Rattle.std.specs.List.{flat_map, AllByRecursion}
 use Rattle.std.proofs.lemmas.Bool.Decides.{nat_tests}
 use Rattle.std.proofs.lemmas.Str.{IsUtf8-append, IsUtf8-from_ascii}
 use Rattle.std.proofs.lemmas.Str.Ascii.{IsAscii-nil}
-use Rattle.std.proofs.lemmas.Bool.{and_parts}
 use Rattle.decimal_text.proofs.NumberBytes.{ascii_cons}
 use Rattle.list_laws.specs.Commas.{comma_unless, with_commas, comma_separated}
 use Rattle.json_value.specs.declared.json.Json.{Json, roll-Json, ind-Json, map-Json}
@@ -20,20 +19,11 @@ use Rattle.json_value.proofs.NumbersOf.{numbers-number, numbers-array, numbers-o
 use Rattle.json_value.proofs.Runs.{plain_stays, plain_tells}
 use Rattle.json_value.proofs.Texts.{text-null, text-bool, text-number, text-text, text-array, text-object, one_member}
 use Rattle.json_value.proofs.TextsOf.{texts-text, texts-array, texts-object}
-use Rattle.json_value.proofs.Utf8.{ascii_split}
-use Rattle.json_value.proofs.Utf8Parts.{AreUtf8, formed_utf8}
+use Rattle.json_value.proofs.Utf8.{ascii_split, ascii_one as one_utf8}
+use Rattle.json_value.proofs.Utf8Parts.{AreUtf8, formed_utf8, ascii, word}
 use Rattle.json_value.proofs.Written.{all_split}
 
 -- ---- strings
-
-abbrev all_small : List ℕ → Bool
-all_small [] = true
-all_small (b ∷ bs) = nat_lt b 128 && all_small bs
-
--- a list that is written out
-ascii : (bs : List ℕ) → all_small bs ≡ true → IsAscii bs
-ascii [] h = IsAscii-nil
-ascii (b ∷ bs) h = grind (arith, and_parts, ascii_cons, nat_tests, ascii bs)
 
 ascii_one : (a : ℕ) → a < 128 → IsAscii (a ∷ [])
 ascii_one a p = ascii_cons a [] p IsAscii-nil
@@ -45,8 +35,7 @@ hex_ascii : (n : ℕ) → n < 16 → hex_digit n < 128
 hex_ascii n h = grind (arith, nat_tests)
 
 escape_ascii : (b : ℕ) → b < 128 → IsAscii (escaped_byte b)
-unfolding escaped_byte
-escape_ascii b h = grind (arith, either, ascii, ascii_cons, hex_ascii, ascii_one)
+escape_ascii b h = unfold escaped_byte in grind (arith, either, ascii, ascii_cons, hex_ascii, ascii_one)
 
 not_plain : (b : ℕ) → is_plain b ≡ false → b < 128
 not_plain b h = grind (arith, nat_tests)
@@ -54,20 +43,14 @@ not_plain b h = grind (arith, nat_tests)
 -- Bytes that stand for themselves stay in their characters, and each other byte is a character.
 escaped_behind : (t p : List ℕ) → IsUtf8 (p ++ t) → IsUtf8 (p ++ escaped t)
 escaped_behind [] p h = h
-escaped_behind (b ∷ t) p h =
-    elim (plain_tells b) [
-      | inl plain ↦
-          rw (plain_stays b plain) (subst (λ z. IsUtf8 z) (append_assoc p (b ∷ []) (escaped t))
-          (escaped_behind t (p ++ b ∷ []) (subst (λ z. IsUtf8 z) (sym (append_assoc p (b ∷ []) t)) h)))
-      | inr other ↦
-          (let small = not_plain b other in
-          let cut = ascii_split p t b small h in
-          IsUtf8-append p (escaped_byte b ++ escaped t) cut.0
-          (IsUtf8-append (escaped_byte b) (escaped t) (IsUtf8-from_ascii _ (escape_ascii b small)) (escaped_behind t [] cut.1)))
-    ]
-
-one_utf8 : (a : ℕ) → a < 128 → IsUtf8 (a ∷ [])
-one_utf8 a h = IsUtf8-from_ascii _ (ascii_one a h)
+escaped_behind (b ∷ t) p h = elim (plain_tells b) [
+  | inl plain ↦ rw (plain_stays b plain) (subst (λ z. IsUtf8 z) (append_assoc p (b ∷ []) (escaped t))
+      (escaped_behind t (p ++ b ∷ []) (subst (λ z. IsUtf8 z) (sym (append_assoc p (b ∷ []) t)) h)))
+  | inr other ↦ (let small = not_plain b other in
+      let cut = ascii_split p t b small h in
+      IsUtf8-append p (escaped_byte b ++ escaped t) cut.0
+      (IsUtf8-append (escaped_byte b) (escaped t) (IsUtf8-from_ascii _ (escape_ascii b small)) (escaped_behind t [] cut.1)))
+]
 
 pub quoted_utf8 : (t : List ℕ) → IsUtf8 t → IsUtf8 (quoted t)
 quoted_utf8 t h =
@@ -115,11 +98,11 @@ members_utf8 (y ∷ ys) n h =
     grind (arith, members_utf8 ys, all_split (λ z. IsUtf8 z) (numbers_of y.1.0) _ n, all_split IsUtf8 (y.0 ∷ texts_of y.1.0) _ h, member_utf8 y)
 
 word_utf8 : (b : Bool) → Claim (j.Bool b)
-word_utf8 true n h = rw (text-bool true) (IsUtf8-from_ascii (codes "true") (ascii (codes "true") refl))
-word_utf8 false n h = rw (text-bool false) (IsUtf8-from_ascii (codes "false") (ascii (codes "false") refl))
+word_utf8 true n h = rw (text-bool true) (word (codes "true") refl)
+word_utf8 false n h = rw (text-bool false) (word (codes "false") refl)
 
 null_utf8 : Claim j.Null
-null_utf8 n h = rw text-null (IsUtf8-from_ascii (codes "null") (ascii (codes "null") refl))
+null_utf8 n h = rw text-null (word (codes "null") refl)
 
 number_claim : (t : List ℕ) → Claim (j.Number t)
 number_claim t n h = let p = rw (numbers-number t) at n in rw (text-number t) p.0

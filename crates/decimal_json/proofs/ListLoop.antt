@@ -11,33 +11,26 @@ regroup front v read = grind (arith, append_assoc)
 
 module _ (A : Type 0) (close : ℕ) (value : Parse A) (front : List A) (n i : ℕ) (bs : List ℕ) (total : Option (List A × List ℕ)) (so_far : with_front front (list_at close value (n - i) bs) ≡ total) where
   pub fails : (e : Fault) → i < n → Fails e (value (skip bs)) → Fails e total
-  unfolding list_at
-  fails e h k = grind (arith, with_front)
+  fails e h k = unfold list_at in grind (arith, with_front)
 
   pub turns_over : n ≤ i → total ≡ None
-  unfolding list_at
-  turns_over le = grind (arith, with_front front)
+  turns_over le = unfold list_at in grind (arith, with_front front)
 
   module _ (v : A) (after : List ℕ) (lt : i < n) (found : value (skip bs) ≡ Some (v, after)) where
     goes_by : total ≡ with_front front (list_after close (list_at close value (n - (i + 1))) v (skip after))
-    unfolding list_at
-    goes_by =
+    goes_by = unfold list_at in
         let k : n - i ≡ suc (n - (i + 1)) = omega arith in
         let one : with_front front (list_at close value (n - i) bs) ≡ with_front front (list_after close (list_at close value (n - (i + 1))) v (skip after)) = rw (k, found) refl in
         sym so_far ∙ one
 
     pub at_comma : (b : ℕ) (more : List ℕ) → skip after ≡ b ∷ more → b ≡ 44 → with_front (front ++ v ∷ []) (list_at close value (n - (i + 1)) more) ≡ total
-    unfolding list_after
-    at_comma b more h e = sym (goes_by ∙ rw (h, e) (regroup front v (list_at close value (n - (i + 1)) more)))
+    at_comma b more h e = unfold list_after in sym (goes_by ∙ rw (h, e) (regroup front v (list_at close value (n - (i + 1)) more)))
 
     pub at_end : (b : ℕ) (more : List ℕ) → skip after ≡ b ∷ more → b ≢ 44 → eqb b close ≡ true → total ≡ Some (front ++ v ∷ [], more)
-    unfolding list_after
-    at_end b more h no_comma e = goes_by ∙ rw (h, not_equal b 44 no_comma, e) refl
+    at_end b more h no_comma e = unfold list_after in goes_by ∙ rw (h, not_equal b 44 no_comma, e) refl
 
     pub at_nothing : skip after ≡ [] → total ≡ None
-    unfolding list_after
-    at_nothing h = goes_by ∙ rw h refl
+    at_nothing h = unfold list_after in goes_by ∙ rw h refl
 
     pub at_other : (b : ℕ) (more : List ℕ) → skip after ≡ b ∷ more → b ≢ close → b ≢ 44 → total ≡ None
-    unfolding list_after
-    at_other b more h no_end no_comma = goes_by ∙ rw (h, not_equal b 44 no_comma, not_equal b close no_end) refl
+    at_other b more h no_end no_comma = unfold list_after in goes_by ∙ rw (h, not_equal b 44 no_comma, not_equal b close no_end) refl

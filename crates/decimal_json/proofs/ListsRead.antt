@@ -26,8 +26,7 @@ module _ (A : Type 0) (R : List ℕ → A → Type 0) (close : ℕ) (item : Pars
 
   after_takes : (more : Parse (List A)) → ((bs : List ℕ) (x : List A × List ℕ) → more bs ≡ Some x → TakesList bs x.0 x.1)
       → (v : A) (bs : List ℕ) (x : List A × List ℕ) → list_after close more v bs ≡ Some x → After v bs x.0 x.1
-  unfolding list_after
-  after_takes more h v bs x k = grind (arith, chosen, option_and_then_some, eqb-true, pair_is)
+  after_takes more h v bs x k = unfold list_after in grind (arith, chosen, option_and_then_some, eqb-true, pair_is)
 
   list_takes : IsSound R item → (n : ℕ) (bs : List ℕ) (x : List A × List ℕ) → list_at close item n bs ≡ Some x → TakesList bs x.0 x.1
   unfolding list_at
@@ -56,15 +55,11 @@ module _ (A : Type 0) (R : List ℕ → A → Type 0) (close : ℕ) (item : Pars
 
   unless_takes : IsSound R item → (bs : List ℕ) (o : Option (List ℕ)) → closes close bs ≡ o → (x : List A × List ℕ) → items_unless close item bs o ≡ Some x → TakesItems bs x.0 x.1
   unfolding items_unless closes
-  unless_takes sound bs None h x e =
-      let r = list_takes sound (length bs) bs x e in
-      inr (r.0, r.1, r.2 ∙ rw append_assoc refl)
-  unless_takes sound bs (Some rest) h x e =
-      let front = skip_takes bs in
+  unless_takes sound bs None h x e = let r = list_takes sound (length bs) bs x e in inr (r.0, r.1, r.2 ∙ rw append_assoc refl)
+  unless_takes sound bs (Some rest) h x e = let front = skip_takes bs in
       let is_end = after_word_takes (close ∷ []) (skip bs) rest h in
       let p = pair_is [] rest x e in
       inl (front.0, front.1, sym p.0, front.2 ∙ rw (is_end, p.1, append_assoc) refl)
 
   pub items_takes : IsSound R item → (bs : List ℕ) (x : List A × List ℕ) → items_at close item bs ≡ Some x → TakesItems bs x.0 x.1
-  unfolding items_at
-  items_takes sound bs x e = unless_takes sound bs (closes close bs) refl x e
+  items_takes sound bs x e = unfold items_at in unless_takes sound bs (closes close bs) refl x e

@@ -38,28 +38,22 @@ digits_again [] rest h n = grind arith
 digits_again (b ∷ t) rest h n = rw h.0 (digits_again t rest h.1 n)
 
 some_again : (b : ℕ) (t rest : List ℕ) → is_digit b ≡ true → AllDigits t → NoFirst is_digit rest → after_some_digits (b ∷ (t ++ rest)) ≡ Some rest
-unfolding after_some_digits
-some_again b t rest d h n = rw d (ap Some (digits_again t rest h n))
+some_again b t rest d h n = unfold after_some_digits in rw d (ap Some (digits_again t rest h n))
 
 minus_again : {m w : List ℕ} → IsMinus m → IsWhole w → (xs : List ℕ) → after_minus (m ++ (w ++ xs)) ≡ w ++ xs
-unfolding after_minus
-minus_again h k xs = grind (arith, differs)
+minus_again h k xs = unfold after_minus in grind (arith, differs)
 
 whole_again : {w : List ℕ} → IsWhole w → (xs : List ℕ) → NoFirst is_digit xs → after_whole (w ++ xs) ≡ Some xs
-unfolding after_whole
-whole_again h xs k = grind (arith, some_again)
+whole_again h xs k = unfold after_whole in grind (arith, some_again)
 
 fraction_again : {f : List ℕ} → IsFraction f → (xs : List ℕ) → NoFirst is_digit xs → NoFirst is_dot xs → after_fraction (f ++ xs) ≡ Some xs
-unfolding after_fraction
-fraction_again h xs k m = grind (arith, some_again)
+fraction_again h xs k m = unfold after_fraction in grind (arith, some_again)
 
 exponent_stop : (xs : List ℕ) → NoFirst is_e xs → after_exponent xs ≡ Some xs
-unfolding after_exponent
-exponent_stop xs h = grind arith
+exponent_stop xs h = unfold after_exponent in grind arith
 
 sign_again : {s : List ℕ} → IsSign s → (b : ℕ) (xs : List ℕ) → is_digit b ≡ true → after_sign (s ++ (b ∷ xs)) ≡ b ∷ xs
-unfolding after_sign
-sign_again h b xs k = grind (arith, differs)
+sign_again h b xs k = unfold after_sign in grind (arith, differs)
 
 exponent_again : {e : List ℕ} → IsExponent e → (rest : List ℕ) → Ends rest → after_exponent (e ++ rest) ≡ Some rest
 unfolding after_exponent
@@ -67,13 +61,11 @@ exponent_again no_exponent rest h = exponent_stop rest (no_e rest h)
 exponent_again (exponent e s b bs k t d ds) rest h = grind (arith, append_assoc, sign_again, some_again, no_digit)
 
 after_again : {t : List ℕ} → IsNumber t → (rest : List ℕ) → Ends rest → after_number (t ++ rest) ≡ Some rest
-unfolding after_number
-after_again (number_of m w f e hm hw hf he) rest h =
+after_again (number_of m w f e hm hw hf he) rest h = unfold after_number in
     search (append_assoc, minus_again, whole_again, fraction_no_digit, exponent_no_digit, fraction_again, exponent_no_dot, exponent_again)
 
 pub number_again : {t : List ℕ} → IsNumber t → (rest : List ℕ) → Ends rest → number_at (t ++ rest) ≡ Some (t, rest)
-unfolding number_at
-number_again {t} n rest h = rw (after_again n rest h, cut t rest (t ++ rest) refl) refl
+number_again {t} n rest h = unfold number_at in rw (after_again n rest h, cut t rest (t ++ rest) refl) refl
 
 -- A number begins with a minus or a digit.
 abbrev pub is_lead : ℕ → Bool
@@ -85,13 +77,10 @@ number_leads (number_of m w f e no_minus whole_zero hf he) = (48, f ++ e, refl, 
 number_leads (number_of m w f e no_minus (whole_digits b bs d z ds) hf he) = (b, bs ++ (f ++ e), refl, rw (d, differs is_digit b 45 refl d) refl)
 
 pub skip_number : {t : List ℕ} → IsNumber t → (rest : List ℕ) → skip (t ++ rest) ≡ t ++ rest
-unfolding skip
-skip_number n rest = let l = number_leads n in rw l.2 (grind (arith, differs))
+skip_number n rest = unfold skip in let l = number_leads n in rw l.2 (grind (arith, differs))
 
 pub number_no_word : {t : List ℕ} → IsNumber t → (q : ℕ) (word rest : List ℕ) → is_lead q ≡ false → after_word (q ∷ word) (t ++ rest) ≡ None
-unfolding after_word
-number_no_word n q word rest other = let l = number_leads n in rw l.2 (rw (differs is_lead l.0 q other l.3) refl)
+number_no_word n q word rest other = unfold after_word in let l = number_leads n in rw l.2 (rw (differs is_lead l.0 q other l.3) refl)
 
 pub with_number : (fits : List ℕ → Bool) (items : Parse (List Json)) (members : Parse (List (List ℕ × Json))) {t : List ℕ} → IsNumber t → (rest : List ℕ) → Ends rest → value_with fits items members (t ++ rest) ≡ Some (j.Number t, rest)
-unfolding value_with
-with_number fits items members {t} n rest h = grind (arith, number_leads n, number_again n rest h, differs)
+with_number fits items members {t} n rest h = unfold value_with in grind (arith, number_leads n, number_again n rest h, differs)

@@ -84,8 +84,7 @@ number_joined : (m w f e bs xs ys zs rest : List ℕ) → bs ≡ m ++ xs → xs 
 number_joined m w f e bs xs ys zs rest p q r s = rw (p, q, r, s, append_assoc, append_assoc, append_assoc) refl
 
 after_takes : (bs rest : List ℕ) → after_number bs ≡ Some rest → Part IsNumber bs rest
-unfolding after_number
-after_takes bs rest e = option_and_then_some _ _ _ e (λ xs p q. option_and_then_some _ _ _ q (λ ys r s.
+after_takes bs rest e = unfold after_number in option_and_then_some _ _ _ e (λ xs p q. option_and_then_some _ _ _ q (λ ys r s.
     let m = minus_takes bs in
     let w = whole_takes (after_minus bs) xs p in
     let f = fraction_takes xs ys r in
@@ -96,8 +95,7 @@ pub cut : (t rest bs : List ℕ) → bs ≡ t ++ rest → take (length bs - leng
 cut t rest bs e = grind (arith, length-append t rest, take-append_seam t rest)
 
 pub number_takes : IsSound (λ t v. IsNumber t × (t ≡ v)) number_at
-unfolding number_at
-number_takes bs x e = grind (arith, option_and_then_some, after_takes, pair_is, cut)
+number_takes bs x e = unfold number_at in grind (arith, option_and_then_some, after_takes, pair_is, cut)
 
 pub e_is : (P : ℕ → Type 0) → P 101 → P 69 → (b : ℕ) → is_e b ≡ true → P b
 e_is P p q b h = elim (or_cases _ _ h) [ inl x ↦ at P 101 b p x | inr x ↦ at P 69 b q x ]
@@ -105,16 +103,13 @@ e_is P p q b h = elim (or_cases _ _ h) [ inl x ↦ at P 101 b p x | inr x ↦ at
 -- ---- what the code asks
 
 pub whole_none : (bs : List ℕ) → bs ≡ [] → after_whole bs ≡ None
-unfolding after_whole
-whole_none bs h = rw h refl
+whole_none bs h = unfold after_whole in rw h refl
 
 pub whole_by_zero : (b : ℕ) (bs rest : List ℕ) → bs ≡ b ∷ rest → b ≡ 48 → after_whole bs ≡ Some rest
-unfolding after_whole
-whole_by_zero b bs rest h e = rw (h, e) refl
+whole_by_zero b bs rest h e = unfold after_whole in rw (h, e) refl
 
 pub whole_by_digits : (b : ℕ) (bs rest : List ℕ) → bs ≡ b ∷ rest → b ≢ 48 → after_whole bs ≡ after_some_digits bs
-unfolding after_whole
-whole_by_digits b bs rest h other = rw (h, not_equal b 48 other) refl
+whole_by_digits b bs rest h other = unfold after_whole in rw (h, not_equal b 48 other) refl
 
 pub shorter : (bs rest : List ℕ) → after_number bs ≡ Some rest → length rest ≤ length bs
 shorter bs rest h = let r = after_takes bs rest h in let l = ap length r.2 in omega (arith, l, length-append r.0 rest)

@@ -10,12 +10,10 @@ use Rattle.json_value.specs.Reading.{Parse, ◌>>=◌, skip, after_word, word_at
 use Rattle.decimal_json.proofs.Steps.{not_equal}
 
 pub is_closed : (A : Type 0) (close : ℕ) (item : Parse A) (bs rest : List ℕ) → Some rest ≡ after_word (close ∷ []) (skip bs) → items_at close item bs ≡ Some ([], rest)
-unfolding items_at items_unless closes
-is_closed A close item bs rest h = rw (← h) refl
+is_closed A close item bs rest h = unfold items_at items_unless closes in rw (← h) refl
 
 pub is_open : (A : Type 0) (close : ℕ) (item : Parse A) (bs : List ℕ) → None ≡ after_word (close ∷ []) (skip bs) → items_at close item bs ≡ list_at close item (length bs) bs
-unfolding items_at items_unless closes
-is_open A close item bs h = rw (← h) refl
+is_open A close item bs h = unfold items_at items_unless closes in rw (← h) refl
 
 module _ (fits : List ℕ → Bool) where
   pub value_at_is : (d : ℕ) → (items : Parse (List Json)) × (members : Parse (List (List ℕ × Json))) × (value_at fits d ≡ value_with fits items members)
@@ -26,20 +24,16 @@ module _ (fits : List ℕ → Bool) where
   -- how a value goes on, behind each first byte
   module _ (d b : ℕ) (bs rest : List ℕ) (first : bs ≡ b ∷ rest) where
     pub at_n : b ≡ 110 → value_at fits d bs ≡ word_at (codes "ull") j.Null rest
-    unfolding value_with
-    at_n h = rw ((value_at_is d).2, first, h) refl
+    at_n h = unfold value_with in rw ((value_at_is d).2, first, h) refl
 
     pub at_t : b ≡ 116 → value_at fits d bs ≡ word_at (codes "rue") (j.Bool true) rest
-    unfolding value_with
-    at_t h = rw ((value_at_is d).2, first, h) refl
+    at_t h = unfold value_with in rw ((value_at_is d).2, first, h) refl
 
     pub at_f : b ≡ 102 → value_at fits d bs ≡ word_at (codes "alse") (j.Bool false) rest
-    unfolding value_with
-    at_f h = rw ((value_at_is d).2, first, h) refl
+    at_f h = unfold value_with in rw ((value_at_is d).2, first, h) refl
 
     at_text : b ≡ 34 → value_at fits d bs ≡ (string_at fits rest >>= λ t. Some (j.Text t.0, t.1))
-    unfolding value_with
-    at_text h = rw ((value_at_is d).2, first, h) refl
+    at_text h = unfold value_with in rw ((value_at_is d).2, first, h) refl
 
     pub text_fails : b ≡ 34 → (e : Fault) → Fails e (string_at fits rest) → Fails e (value_at fits d bs)
     text_fails h e k = grind (arith, at_text)
@@ -58,12 +52,10 @@ module _ (fits : List ℕ → Bool) where
     number_found n t f q a o text after r = at_number n t f q a o ∙ rw r refl
 
     pub array_too_deep : b ≡ 91 → d ≡ 0 → value_at fits d bs ≡ None
-    unfolding value_at value_with
-    array_too_deep h e = rw (e, first, h) refl
+    array_too_deep h e = unfold value_at value_with in rw (e, first, h) refl
 
     at_array : b ≡ 91 → (less : ℕ) → d ≡ suc less → value_at fits d bs ≡ (items_at 93 (value_at fits less) rest >>= λ xs. Some (j.Array xs.0, xs.1))
-    unfolding value_at value_with
-    at_array h less e = rw (e, first, h) refl
+    at_array h less e = unfold value_at value_with in rw (e, first, h) refl
 
     pub array_fails : b ≡ 91 → d ≢ 0 → (e : Fault) → Fails e (items_at 93 (value_at fits (d - 1)) rest) → Fails e (value_at fits d bs)
     array_fails h deep fault.Memory f = tt
@@ -73,12 +65,10 @@ module _ (fits : List ℕ → Bool) where
     array_found h deep vs after f = at_array h (d - 1) (omega arith) ∙ rw f refl
 
     pub object_too_deep : b ≡ 123 → d ≡ 0 → value_at fits d bs ≡ None
-    unfolding value_at value_with
-    object_too_deep h e = rw (e, first, h) refl
+    object_too_deep h e = unfold value_at value_with in rw (e, first, h) refl
 
     at_object : b ≡ 123 → (less : ℕ) → d ≡ suc less → value_at fits d bs ≡ (items_at 125 (member_at fits (value_at fits less)) rest >>= λ ms. Some (j.Object ms.0, ms.1))
-    unfolding value_at value_with
-    at_object h less e = rw (e, first, h) refl
+    at_object h less e = unfold value_at value_with in rw (e, first, h) refl
 
     pub object_fails : b ≡ 123 → d ≢ 0 → (e : Fault) → Fails e (items_at 125 (member_at fits (value_at fits (d - 1))) rest) → Fails e (value_at fits d bs)
     object_fails h deep fault.Memory f = tt
@@ -88,25 +78,20 @@ module _ (fits : List ℕ → Bool) where
     object_found h deep ms after f = at_object h (d - 1) (omega arith) ∙ rw f refl
 
   pub at_nothing : (d : ℕ) (bs : List ℕ) → bs ≡ [] → value_at fits d bs ≡ None
-  unfolding value_with
-  at_nothing d bs h = rw ((value_at_is d).2, h) refl
+  at_nothing d bs h = unfold value_with in rw ((value_at_is d).2, h) refl
 
   -- a member, step by step
   module _ (value : Parse Json) (bs : List ℕ) where
     pub name_fails : (e : Fault) → Fails e (name_at fits bs) → Fails e (member_at fits value bs)
-    unfolding member_at
-    name_fails e h = grind arith
+    name_fails e h = unfold member_at in grind arith
 
     module _ (name n : List ℕ) (named : name_at fits bs ≡ Some (name, n)) where
       pub no_colon : None ≡ after_word (58 ∷ []) (skip n) → member_at fits value bs ≡ None
-      unfolding member_at
-      no_colon h = rw (named, ← h) refl
+      no_colon h = unfold member_at in rw (named, ← h) refl
 
       module _ (rest : List ℕ) (colon : Some rest ≡ after_word (58 ∷ []) (skip n)) where
         pub value_fails : (e : Fault) → Fails e (value (skip rest)) → Fails e (member_at fits value bs)
-        unfolding member_at
-        value_fails e h = grind arith
+        value_fails e h = unfold member_at in grind arith
 
         pub member_found : (v : Json) (after : List ℕ) → value (skip rest) ≡ Some (v, after) → member_at fits value bs ≡ Some ((name, v), after)
-        unfolding member_at
-        member_found v after f = rw (named, ← colon, f) refl
+        member_found v after f = unfold member_at in rw (named, ← colon, f) refl

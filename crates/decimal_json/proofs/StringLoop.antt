@@ -17,33 +17,27 @@ regroup front run c read = grind (arith, append_assoc)
 
 module _ (front : List ℕ) (n i : ℕ) (bs : List ℕ) (total : Option (List ℕ × List ℕ)) (so_far : with_front front (chars_at (n - i) bs) ≡ total) where
   pub turns_over : n ≤ i → total ≡ None
-  unfolding chars_at
-  turns_over le = grind arith
+  turns_over le = unfold chars_at in grind arith
 
   module _ (lt : i < n) where
     goes_by : total ≡ with_front front (chars_after (chars_at (n - (i + 1))) (plain_front bs) (after_plain bs))
-    unfolding chars_at
-    goes_by =
+    goes_by = unfold chars_at in
         let k : n - i ≡ suc (n - (i + 1)) = omega arith in
         let one : with_front front (chars_at (n - i) bs) ≡ with_front front (chars_after (chars_at (n - (i + 1))) (plain_front bs) (after_plain bs)) = rw k refl in
         sym so_far ∙ one
 
     pub at_nothing : after_plain bs ≡ [] → total ≡ None
-    unfolding chars_after
-    at_nothing h = goes_by ∙ rw h refl
+    at_nothing h = unfold chars_after in goes_by ∙ rw h refl
 
     module _ (b : ℕ) (after : List ℕ) (here : after_plain bs ≡ b ∷ after) where
       pub at_quote : b ≡ 34 → total ≡ Some (front ++ plain_front bs, after)
-      unfolding chars_after
-      at_quote e = goes_by ∙ rw (here, e) refl
+      at_quote e = unfold chars_after in goes_by ∙ rw (here, e) refl
 
       pub at_other : b ≢ 34 → b ≢ 92 → total ≡ None
-      unfolding chars_after
-      at_other q s = goes_by ∙ rw (here, not_equal b 34 q, not_equal b 92 s) refl
+      at_other q s = unfold chars_after in goes_by ∙ rw (here, not_equal b 34 q, not_equal b 92 s) refl
 
       pub escape_fails : b ≡ 92 → (e : Fault) → Fails e (escape_at after) → Fails e total
-      unfolding chars_after
-      escape_fails h e k = grind (arith, goes_by)
+      escape_fails h e k = unfold chars_after in grind (arith, goes_by)
 
       pub at_escape : b ≡ 92 → (c : ℕ) (more : List ℕ) → escape_at after ≡ Some (c, more)
           → with_front ((front ++ plain_front bs) ++ encode_utf8 c) (chars_at (n - (i + 1)) more) ≡ total
@@ -53,12 +47,10 @@ module _ (front : List ℕ) (n i : ℕ) (bs : List ℕ) (total : Option (List �
 -- ---- the text's bytes as a string
 
 pub is_text : (t bs : List ℕ) → IsUtf8 t → if_text is_utf8 t bs ≡ Some (t, bs)
-unfolding if_text
-is_text t bs h = rw (is_utf8-from_IsUtf8 t h) refl
+is_text t bs h = unfold if_text in rw (is_utf8-from_IsUtf8 t h) refl
 
 no_text_by : (t bs : List ℕ) → (b : Bool) → is_utf8 t ≡ b → (IsUtf8 t → ⊥) → if_text is_utf8 t bs ≡ None
-unfolding if_text
-no_text_by t bs b e h = grind (arith, IsUtf8-from_is_utf8)
+no_text_by t bs b e h = unfold if_text in grind (arith, IsUtf8-from_is_utf8)
 
 pub no_text : (t bs : List ℕ) → (IsUtf8 t → ⊥) → if_text is_utf8 t bs ≡ None
 no_text t bs h = no_text_by t bs (is_utf8 t) refl h

@@ -39,8 +39,7 @@ after_plain-le bs = let l = ap length (plain-split bs) in omega (arith, l, lengt
 -- ---- escapes
 
 hex_takes : (bs : List ℕ) (x : ℕ × List ℕ) → hex_at bs ≡ Some x → (b : ℕ) × (hex_value b ≡ Some x.0) × (bs ≡ b ∷ x.1)
-unfolding hex_at
-hex_takes bs x h = grind (arith, option_and_then_some, pair_is)
+hex_takes bs x h = unfold hex_at in grind (arith, option_and_then_some, pair_is)
 
 -- An escape stands for the character, whatever follows.
 abbrev Escaped : List ℕ → ℕ → Type 0
@@ -53,8 +52,7 @@ abbrev TakesUnit : List ℕ → ℕ → List ℕ → Type 0
 TakesUnit bs n rest = (u : List ℕ) × SpellsUnit (92 ∷ 117 ∷ u) n × (bs ≡ u ++ rest)
 
 unit_takes : (bs : List ℕ) (x : ℕ × List ℕ) → unit_at bs ≡ Some x → TakesUnit bs x.0 x.1
-unfolding unit_at
-unit_takes bs x e =
+unit_takes bs x e = unfold unit_at in
     option_and_then_some _ _ _ e (λ w f1 g1. option_and_then_some _ _ _ g1 (λ y f2 g2. option_and_then_some _ _ _ g2 (λ z f3 g3. option_and_then_some _ _ _ g3 (λ v f4 g4.
     let a = hex_takes bs w f1 in
     let b = hex_takes w.1 y f2 in
@@ -74,8 +72,7 @@ joined_pair bs u xs rest v ys p q r = rw (p, q, r) (ap (λ z. 92 ∷ 117 ∷ z) 
 
 low_found : (high : ℕ) (bs u xs rest : List ℕ) (low x : ℕ × List ℕ) → is_high high ≡ true → SpellsUnit (92 ∷ 117 ∷ u) high → bs ≡ u ++ xs → xs ≡ 92 ∷ 117 ∷ rest
     → unit_at rest ≡ Some low → is_low low.0 ≡ true → Some (paired high low.0, low.1) ≡ Some x → TakesEscape (92 ∷ 117 ∷ bs) x.0 x.1
-low_found high bs u xs rest low x h su front word k l m =
-    let v = unit_takes rest low k in
+low_found high bs u xs rest low x h su front word k l m = let v = unit_takes rest low k in
     let p = pair_is (paired high low.0) low.1 x m in (
       (92 ∷ 117 ∷ u) ++ (92 ∷ 117 ∷ v.0),
       subst (λ c. Escaped ((92 ∷ 117 ∷ u) ++ (92 ∷ 117 ∷ v.0)) c) p.0 (λ s t more. rw (append_assoc (92 ∷ 117 ∷ u) (92 ∷ 117 ∷ v.0) s) (chars_pair (92 ∷ 117 ∷ u) (92 ∷ 117 ∷ v.0) high low.0 s t su v.1 h l more)),
@@ -83,8 +80,7 @@ low_found high bs u xs rest low x h su front word k l m =
     )
 
 low_takes : (high : ℕ) (bs u xs : List ℕ) (x : ℕ × List ℕ) → is_high high ≡ true → SpellsUnit (92 ∷ 117 ∷ u) high → bs ≡ u ++ xs → low_at high xs ≡ Some x → TakesEscape (92 ∷ 117 ∷ bs) x.0 x.1
-unfolding low_at
-low_takes high bs u xs x h su front e = option_and_then_some _ _ _ e (λ rest f g. option_and_then_some _ _ _ g (λ low k m.
+low_takes high bs u xs x h su front e = unfold low_at in option_and_then_some _ _ _ e (λ rest f g. option_and_then_some _ _ _ g (λ low k m.
     let low_is : ℕ × List ℕ = low in
     elim (chosen (is_low low_is.0) (Some (paired high low_is.0, low_is.1)) None (Some x) m) [
       | inl l ↦ low_found high bs u xs rest low x h su front (after_word_takes (codes "\\u") xs rest f) k l.0 l.1
@@ -92,8 +88,7 @@ low_takes high bs u xs x h su front e = option_and_then_some _ _ _ e (λ rest f 
     ]))
 
 unicode_takes : (bs : List ℕ) (x : ℕ × List ℕ) → unicode_at bs ≡ Some x → TakesEscape (92 ∷ 117 ∷ bs) x.0 x.1
-unfolding unicode_at
-unicode_takes bs x e = option_and_then_some _ _ _ e (λ n f g.
+unicode_takes bs x e = unfold unicode_at in option_and_then_some _ _ _ e (λ n f g.
     let u = unit_takes bs n f in
     elim (chosen (is_high n.0) (low_at n.0 n.1) _ _ g) [
       | inl h ↦ low_takes n.0 bs u.0 n.1 x h.0 u.1 u.2 h.1
@@ -163,12 +158,10 @@ TakesString b t = (s : List ℕ) × SpellsChars s t × (b ≡ s ++ 34 ∷ [])
 
 module _ (fits : List ℕ → Bool) where
   text_takes : (t bs : List ℕ) (x : List ℕ × List ℕ) → if_text fits t bs ≡ Some x → (t ≡ x.0) × (bs ≡ x.1)
-  unfolding if_text
-  text_takes t bs x e = grind (arith, chosen (fits t) (Some (t, bs)) None _ e, pair_is t bs x)
+  text_takes t bs x e = unfold if_text in grind (arith, chosen (fits t) (Some (t, bs)) None _ e, pair_is t bs x)
 
   pub string_takes : IsSound TakesString (string_at fits)
-  unfolding string_at
-  string_takes bs x e = option_and_then_some _ _ _ e (λ y f g.
+  string_takes bs x e = unfold string_at in option_and_then_some _ _ _ e (λ y f g.
       let p = text_takes y.0 y.1 x g in
       let r = chars_takes (length bs) bs y f in
       (r.0 ++ 34 ∷ [], (r.0, subst (λ t. SpellsChars r.0 t) p.0 r.1, refl), r.2 ∙ rw append_assoc (ap (λ z. r.0 ++ (34 ∷ z)) p.1)))

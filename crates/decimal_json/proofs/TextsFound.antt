@@ -28,8 +28,7 @@ no_mark (b ∷ w) h s rest = grind (arith, eqb_tells)
 module _ (fits : List ℕ → Bool) (Fit : List ℕ → Type 0) (text : (s t : List ℕ) → SpellsChars s t → Fit s → fits t ≡ true) (split : (p r : List ℕ) (x : ℕ) → x < 128 → Fit (p ++ (x ∷ r)) → Fit p × Fit r)
     (unmark : (rest : List ℕ) → Fit (mark ++ rest) → Fit rest) where
   document_again : (d : ℕ) (b : List ℕ) (v : Json) → Fit b → SpellsText d b v → document fits d b ≡ Some v
-  unfolding document ended
-  document_again d b v f r =
+  document_again d b v f r = unfold document ended in
       let t = r.1 in let u = r.2 in
       let here : Fit t = after_space fits Fit text split r.0 t r.3 (before_space fits Fit text split (r.0 ++ t) u r.5 (subst Fit r.6 f)) in
       let front : skip b ≡ t ++ u = rw (r.6, append_assoc) (skip-space r.0 (t ++ u) r.3 ∙ skip_value r.4 u) in
@@ -37,8 +36,7 @@ module _ (fits : List ℕ → Bool) (Fit : List ℕ → Type 0) (text : (s t : L
 
   text_again : (d : ℕ) (b : List ℕ) (v : Json) → Fit b → Reads d b v → text_at fits d b ≡ Some v
   unfolding text_at
-  text_again d b v f (inl r) =
-      let bare : after_word mark b ≡ None = rw (r.6, append_assoc) (no_mark r.0 r.3 r.4 r.2) in
+  text_again d b v f (inl r) = let bare : after_word mark b ≡ None = rw (r.6, append_assoc) (no_mark r.0 r.3 r.4 r.2) in
       rw bare (document_again d b v f r)
   text_again d b v f (inr r) = rw (r.1, after_word_again mark r.0) (document_again d r.0 v (unmark r.0 (subst Fit r.1 f)) r.2)
 
@@ -60,7 +58,6 @@ any_again : (d : ℕ) (b : List ℕ) (v : Json) → Reads d b v → text_at (λ 
 any_again d b v r = text_again (λ t. true) (λ b. Unit {0}) (λ s t h f. refl) (λ p r x h f. (tt, tt)) (λ rest f. tt) d b v tt r
 
 pub one_value : (d e : ℕ) (b : List ℕ) (v w : Json) → Reads d b v → Reads e b w → v ≡ w
-one_value d e b v w r s =
-    let p = any_again (d + e) b v (reads_deeper d b v r (d + e) (omega (arith, reads_no_deeper d b v r))) in
+one_value d e b v w r s = let p = any_again (d + e) b v (reads_deeper d b v r (d + e) (omega (arith, reads_no_deeper d b v r))) in
     let q = any_again (d + e) b w (reads_deeper e b w s (d + e) (omega (arith, reads_no_deeper e b w s))) in
     cc

@@ -9,16 +9,14 @@ use Rattle.decimal_json.proofs.Words.{skip_takes, after_word_takes}
 use Rattle.decimal_json.proofs.ValuesRead.{value_takes}
 
 ended_takes : (v w : Json) (bs : List ℕ) → ended v bs ≡ Some w → (v ≡ w) × (bs ≡ [])
-unfolding ended
-ended_takes v w bs h = grind arith
+ended_takes v w bs h = unfold ended in grind arith
 
 joined : (w t u b xs ys : List ℕ) → b ≡ w ++ xs → xs ≡ t ++ ys → ys ≡ u → b ≡ w ++ t ++ u
 joined w t u b xs ys p q r = p ∙ rw (q, r, append_assoc) refl
 
 module _ (fits : List ℕ → Bool) where
   document_takes : (d : ℕ) (b : List ℕ) (v : Json) → document fits d b ≡ Some v → SpellsText d b v
-  unfolding document
-  document_takes d b v e = option_and_then_some _ _ _ e (λ x f g.
+  document_takes d b v e = unfold document in option_and_then_some _ _ _ e (λ x f g.
       let front = skip_takes b in
       let here = value_takes fits d (skip b) x f in
       let behind = skip_takes x.1 in
@@ -39,5 +37,4 @@ module _ (fits : List ℕ → Bool) where
   text_by d b v (Some rest) h e = inr (rest, after_word_takes mark b rest h, document_takes d rest v e)
 
   pub text_takes : (d : ℕ) (b : List ℕ) (v : Json) → text_at fits d b ≡ Some v → Reads d b v
-  unfolding text_at
-  text_takes d b v e = text_by d b v (after_word mark b) refl e
+  text_takes d b v e = unfold text_at in text_by d b v (after_word mark b) refl e

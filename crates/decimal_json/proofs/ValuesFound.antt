@@ -16,8 +16,7 @@ use Rattle.decimal_json.proofs.StringsFound.{string_again}
 
 -- a value begins with no white space
 pub skip_value : {d : ℕ} {t : List ℕ} {v : Json} → Spells d t v → (rest : List ℕ) → skip (t ++ rest) ≡ t ++ rest
-unfolding skip
-skip_value h rest = grind (arith, skip_number)
+skip_value h rest = unfold skip in grind (arith, skip_number)
 
 -- and not with the bracket that closes an array
 not_closed : {d : ℕ} {t : List ℕ} {v : Json} → Spells d t v → (rest : List ℕ) → after_word (93 ∷ []) (t ++ rest) ≡ None
@@ -26,42 +25,33 @@ not_closed (spells_number n) rest = number_no_word n 93 [] rest refl
 not_closed h rest = refl
 
 skip_member : {d : ℕ} {t : List ℕ} {m : List ℕ × Json} → SpellsMember d t m → (rest : List ℕ) → skip (t ++ rest) ≡ t ++ rest
-unfolding skip
-skip_member (spells_member s w u t h hw hu v) rest = refl
+skip_member (spells_member s w u t h hw hu v) rest = unfold skip in refl
 
 member_not_closed : {d : ℕ} {t : List ℕ} {m : List ℕ × Json} → SpellsMember d t m → (rest : List ℕ) → after_word (125 ∷ []) (t ++ rest) ≡ None
-unfolding after_word
-member_not_closed (spells_member s w u t h hw hu v) rest = refl
+member_not_closed (spells_member s w u t h hw hu v) rest = unfold after_word in refl
 
 module _ (fits : List ℕ → Bool) where
   module _ (items : Parse (List Json)) (members : Parse (List (List ℕ × Json))) (rest : List ℕ) where
     null_again : value_with fits items members (codes "null" ++ rest) ≡ Some (j.Null, rest)
-    unfolding value_with word_at after_word
-    null_again = refl
+    null_again = unfold value_with word_at after_word in refl
 
     true_again : value_with fits items members (codes "true" ++ rest) ≡ Some (j.Bool true, rest)
-    unfolding value_with word_at after_word
-    true_again = refl
+    true_again = unfold value_with word_at after_word in refl
 
     false_again : value_with fits items members (codes "false" ++ rest) ≡ Some (j.Bool false, rest)
-    unfolding value_with word_at after_word
-    false_again = refl
+    false_again = unfold value_with word_at after_word in refl
 
     text_again : (s t : List ℕ) → SpellsChars s t → fits t ≡ true → value_with fits items members (34 ∷ (s ++ (34 ∷ rest))) ≡ Some (j.Text t, rest)
-    unfolding value_with
-    text_again s t h passes = rw (string_again fits s t rest h passes) refl
+    text_again s t h passes = unfold value_with in rw (string_again fits s t rest h passes) refl
 
   array_again : (d : ℕ) (bs rest : List ℕ) (vs : List Json) → items_at 93 (value_at fits d) bs ≡ Some (vs, rest) → value_at fits (suc d) (91 ∷ bs) ≡ Some (j.Array vs, rest)
-  unfolding value_at value_with
-  array_again d bs rest vs h = rw h refl
+  array_again d bs rest vs h = unfold value_at value_with in rw h refl
 
   object_again : (d : ℕ) (bs rest : List ℕ) (ms : List (List ℕ × Json)) → items_at 125 (member_at fits (value_at fits d)) bs ≡ Some (ms, rest) → value_at fits (suc d) (123 ∷ bs) ≡ Some (j.Object ms, rest)
-  unfolding value_at value_with
-  object_again d bs rest ms h = rw h refl
+  object_again d bs rest ms h = unfold value_at value_with in rw h refl
 
   name_again : (s name rest : List ℕ) → SpellsChars s name → fits name ≡ true → name_at fits (34 ∷ (s ++ (34 ∷ rest))) ≡ Some (name, rest)
-  unfolding name_at after_word
-  name_again s name rest h passes = string_again fits s name rest h passes
+  name_again s name rest h passes = unfold name_at after_word in string_again fits s name rest h passes
 
   member_again : (value : Parse Json) (s w u t name rest : List ℕ) (v : Json) → SpellsChars s name → fits name ≡ true → IsSpace w → IsSpace u → skip (t ++ rest) ≡ t ++ rest → value (t ++ rest) ≡ Some (v, rest)
       → member_at fits value (34 ∷ (s ++ (34 ∷ (w ++ (58 ∷ (u ++ (t ++ rest))))))) ≡ Some ((name, v), rest)
@@ -111,19 +101,15 @@ module _ (fits : List ℕ → Bool) where
           rw (regroup s w u t rest) (member_again (value_at fits d) s w u t name rest v h (text s name h name_end.0) hw hu (skip_value sv rest) (found sv value rest e))
 
       elements : {d : ℕ} {ts : List ℕ} {vs : List Json} → SpellsElements d ts vs → Fit ts → SpellsList (Again 93 (value_at fits d)) ts vs
-      elements (elements_last w t u hw s hu) f =
-          let here = after_space w t hw (before_space (w ++ t) u hu f) in
+      elements (elements_last w t u hw s hu) f = let here = after_space w t hw (before_space (w ++ t) u hu f) in
           list_last w t u hw (record { starts = skip_value s; opens = not_closed s; found = found s here }) hu
-      elements (elements_more w t u ts hw s hu more) f =
-          let comma = split (w ++ t ++ u) ts 44 (omega arith) f in
+      elements (elements_more w t u ts hw s hu more) f = let comma = split (w ++ t ++ u) ts 44 (omega arith) f in
           let here = after_space w t hw (before_space (w ++ t) u hu comma.0) in
           list_more w t u ts hw (record { starts = skip_value s; opens = not_closed s; found = found s here }) hu (elements more comma.1)
 
       members : {d : ℕ} {ts : List ℕ} {ms : List (List ℕ × Json)} → SpellsMembers d ts ms → Fit ts → SpellsList (Again 125 (member_at fits (value_at fits d))) ts ms
-      members (members_last w t u hw s hu) f =
-          let here = after_space w t hw (before_space (w ++ t) u hu f) in
+      members (members_last w t u hw s hu) f = let here = after_space w t hw (before_space (w ++ t) u hu f) in
           list_last w t u hw (record { starts = skip_member s; opens = member_not_closed s; found = member_found s here }) hu
-      members (members_more w t u ts hw s hu more) f =
-          let comma = split (w ++ t ++ u) ts 44 (omega arith) f in
+      members (members_more w t u ts hw s hu more) f = let comma = split (w ++ t ++ u) ts 44 (omega arith) f in
           let here = after_space w t hw (before_space (w ++ t) u hu comma.0) in
           list_more w t u ts hw (record { starts = skip_member s; opens = member_not_closed s; found = member_found s here }) hu (members more comma.1)

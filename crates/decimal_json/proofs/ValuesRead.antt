@@ -32,14 +32,12 @@ number_found d bs x e = option_and_then_some _ _ _ e (λ y f g.
 
 module _ (fits : List ℕ → Bool) where
   name_takes : (bs : List ℕ) (x : List ℕ × List ℕ) → name_at fits bs ≡ Some x → (s : List ℕ) × SpellsChars s x.0 × (bs ≡ 34 ∷ (s ++ (34 ∷ x.1)))
-  unfolding name_at
-  name_takes bs x e = option_and_then_some _ _ _ e (λ rest f g.
+  name_takes bs x e = unfold name_at in option_and_then_some _ _ _ e (λ rest f g.
       let r = string_takes fits rest x g in
       (r.1.0, r.1.1, after_word_takes (34 ∷ []) bs rest f ∙ ap (λ z. 34 ∷ z) (r.2 ∙ rw (r.1.2, append_assoc) refl)))
 
   pub member_takes : (d : ℕ) (value : Parse Json) → IsSound (Spells d) value → IsSound (SpellsMember d) (member_at fits value)
-  unfolding member_at
-  member_takes d value sound bs x e =
+  member_takes d value sound bs x e = unfold member_at in
       option_and_then_some _ _ _ e (λ name f g. option_and_then_some _ _ _ g (λ rest k m. option_and_then_some _ _ _ m (λ v p q.
       let named = name_takes bs name f in
       let front = skip_takes name.1 in

@@ -16,8 +16,7 @@ skip-space [] bs h = refl
 skip-space (b ∷ w) bs h = rw h.0 (skip-space w bs h.1)
 
 pub skip_all : (u : List ℕ) → IsSpace u → skip u ≡ []
-unfolding skip
-skip_all u h = rw (← append-nil u) (skip-space u [] h)
+skip_all u h = unfold skip in rw (← append-nil u) (skip-space u [] h)
 
 pub skip_takes : (bs : List ℕ) → (w : List ℕ) × IsSpace w × (bs ≡ w ++ skip bs)
 unfolding skip
@@ -46,5 +45,4 @@ by_strip word bs None h = elim (none_or_some (after_word word bs)) [
 by_strip word bs (Some x) h = sym (ap (after_word word) h ∙ after_word_again word x.now)
 
 pub word_takes : (word : List ℕ) (v : Json) (bs : List ℕ) (x : Json × List ℕ) → word_at word v bs ≡ Some x → (v ≡ x.0) × (bs ≡ word ++ x.1)
-unfolding word_at
-word_takes word v bs x e = option_and_then_some _ _ _ e (λ rest f g. (cc, after_word_takes word bs x.1 (f ∙ cc)))
+word_takes word v bs x e = unfold word_at in option_and_then_some _ _ _ e (λ rest f g. (cc, after_word_takes word bs x.1 (f ∙ cc)))

@@ -8,8 +8,7 @@ use Rattle.decimal_json.proofs.StringLoop.{is_text, no_text}
 use Rattle.decimal_json.proofs.strings.string_at.Goals as goal
 
 pub returns-in-Ok : goal.returns-in-Ok
-unfolding string_at
-returns-in-Ok c =
+returns-in-Ok c = unfold string_at in
     let same : c.of.result ≡ c.in_ok-text.text.items = c.of.ensures ∙ ap (λ (v : Vec ℕ Global). v.items) c.in-Ok.ensures.ok in
     let utf8 : IsUtf8 c.in_ok-text.text.items = subst (λ (v : Vec ℕ Global). IsUtf8 v.items) c.in-Ok.ensures.ok (IsUtf8-had _ c.in-Ok.text.ok) in
     rw (same, c.in_ok-text.ensures) (is_text c.in_ok-text.text.items c.in_ok-text.rest.now utf8)

@@ -21,8 +21,7 @@ id-text (Some id) ms = member-text false (codes "id") (codes "\"id\"") (id_value
 pub feature-text : (f : Featured) → json_text (feature_value f)
     ≡ codes "{\"type\":\"Feature\"" ++ (id_text f.id ++ (codes ",\"properties\":" ++ (json_text (properties_value f.properties)
     ++ (codes ",\"geometry\":" ++ (json_text (geometry_value f.shape) ++ codes "}")))))
-unfolding feature_value escaped_byte
-feature-text f =
+feature-text f = unfold feature_value escaped_byte in
     let geometry : List Member = (codes "geometry", geometry_value f.shape) ∷ [] in
     let rest : List Member = (codes "properties", properties_value f.properties) ∷ geometry in
     object-text (type_member (codes "Feature") ∷ (id_members f.id ++ rest))

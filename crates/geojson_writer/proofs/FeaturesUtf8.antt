@@ -51,8 +51,7 @@ abbrev Written : Shape → Type 0
 Written s = AreUtf8 (shape_value s)
 
 group_utf8 : (ss : List Shape) → AllByRecursion Written ss → AreUtf8 (j.Object (type_member (codes "GeometryCollection") ∷ ((codes "geometries", j.Array (map shape_value ss)) ∷ [])))
-group_utf8 ss all =
-    object_utf8 (type_member (codes "GeometryCollection") ∷ ((codes "geometries", j.Array (map shape_value ss)) ∷ []))
+group_utf8 ss all = object_utf8 (type_member (codes "GeometryCollection") ∷ ((codes "geometries", j.Array (map shape_value ss)) ∷ []))
     (type_utf8 (codes "GeometryCollection") (word (codes "GeometryCollection") refl), ((word (codes "geometries") refl, array_utf8 shape_value ss all), tt))
 
 shape_utf8 : (s : Shape) → Written s
@@ -86,8 +85,7 @@ abbrev HasAll : Featured → Type 0
 HasAll f = FeatureHasNumbers f × FeatureHasTexts f
 
 feature_utf8 : (f : Featured) → HasAll f → AreUtf8 (feature_value f)
-unfolding feature_value
-feature_utf8 f h =
+feature_utf8 f h = unfold feature_value in
     let rest : List Member = (codes "properties", properties_value f.properties) ∷ ((codes "geometry", geometry_value f.shape) ∷ []) in
     object_utf8 (type_member (codes "Feature") ∷ (id_members f.id ++ rest)) (
       type_utf8 (codes "Feature") (word (codes "Feature") refl),
@@ -101,8 +99,7 @@ each_feature (f ∷ fs) h = (feature_utf8 f h.0, each_feature fs h.1)
 
 set_utf8 : (features : FeatureSet) → AllByRecursion HasAll (features_of features) → AreUtf8 (features_value features)
 set_utf8 (One f) h = feature_utf8 f h.0
-set_utf8 (Many fs) h =
-    object_utf8 (type_member (codes "FeatureCollection") ∷ ((codes "features", j.Array (map feature_value fs)) ∷ []))
+set_utf8 (Many fs) h = object_utf8 (type_member (codes "FeatureCollection") ∷ ((codes "features", j.Array (map feature_value fs)) ∷ []))
     (type_utf8 (codes "FeatureCollection") (word (codes "FeatureCollection") refl), ((word (codes "features") refl, array_utf8 feature_value fs (each_feature fs h)), tt))
 
 pub features_utf8 : (features : FeatureSet) → AllByRecursion FeatureHasNumbers (features_of features) → AllByRecursion FeatureHasTexts (features_of features) → AreUtf8 (features_value features)

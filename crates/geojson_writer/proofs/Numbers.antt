@@ -49,8 +49,7 @@ polygons-numbers areas h = array-numbers lines_value areas (each areas h)
   where
     each : (xs : List (List (List Point))) → All (joined (joined xs)) → AllByRecursion (λ rs. HasNumbers (lines_value rs)) xs
     each [] k = tt
-    each (rs ∷ xs) k =
-        let apart : All (joined rs ++ joined (joined xs)) = subst All (joined_twice rs (joined xs)) k in
+    each (rs ∷ xs) k = let apart : All (joined rs ++ joined (joined xs)) = subst All (joined_twice rs (joined xs)) k in
         (lines-numbers rs (all_left IsPosition (joined rs) (joined (joined xs)) apart), each xs (all_right IsPosition (joined rs) (joined (joined xs)) apart))
 
 -- ---- geometries
@@ -63,8 +62,7 @@ abbrev Numbered : Shape → Type 0
 Numbered shape = All (shape_points shape) → HasNumbers (shape_value shape)
 
 group-numbers : (shapes : List Shape) → AllByRecursion Numbered shapes → Numbered (g.Group shapes)
-group-numbers shapes inner h =
-    rw (shape_value_at.group shapes)
+group-numbers shapes inner h = rw (shape_value_at.group shapes)
     (object-numbers (type_member (codes "GeometryCollection") ∷ ((codes "geometries", j.Array (map shape_value shapes)) ∷ []))
     (text-numbers (codes "GeometryCollection"), (array-numbers shape_value shapes (each shapes inner (subst All (points_at.group shapes) h)), tt)))
   where
@@ -87,8 +85,7 @@ shape-numbers = by_kinds Numbered (record {
 -- ---- features
 
 feature-numbers : (f : Featured) → IsNumbered f → HasNumbers (feature_value f)
-unfolding feature_value
-feature-numbers f h = grind (arith, object-numbers, text-numbers, all_append, null-numbers, shape-numbers)
+feature-numbers f h = unfold feature_value in grind (arith, object-numbers, text-numbers, all_append, null-numbers, shape-numbers)
 
 pub features-numbers : (features : FeatureSet) → AllByRecursion IsNumbered (features_of features) → HasNumbers (features_value features)
 features-numbers features h = grind (arith, feature-numbers, object-numbers, text-numbers, array-numbers, all_weaker)

@@ -1,28 +1,24 @@
 -- The numbers of an array and of an object are numbers where those of their parts are.
 use Rattle.std.proofs.Common.{ℕ, List, [], ◌∷◌, map}
-use Rattle.std.specs.List.{flat_map, AllByRecursion}
+use Rattle.std.specs.List.{AllByRecursion}
 use Rattle.decimal_text.specs.Grammar.{IsNumber}
 use Rattle.json_value.specs.declared.json.Json.{Json}
 use Rattle.json_value.specs.declared.json.Json.TheVariants as j
 use Rattle.json_value.specs.Numbers.{numbers_of, HasNumbers}
-use Rattle.json_value.proofs.NumbersOf.{numbers-null, numbers-text, numbers-array, numbers-object}
+use Rattle.json_value.proofs.NumbersOf.{all_flat, numbers-null, numbers-text, numbers-array, numbers-object}
 use Rattle.geometry.specs.Lists.{joined}
 use Rattle.geometry.proofs.Agreement.{all_left, all_right}
-use Rattle.list_laws.proofs.Elements.{all_append, all_map}
+use Rattle.list_laws.proofs.Elements.{all_map}
 
 -- ---- arrays and objects
 
-flat : {A B : Type 0} (P : B → Type 0) (f : A → List B) (xs : List A) → AllByRecursion (λ x. AllByRecursion P (f x)) xs → AllByRecursion P (flat_map f xs)
-flat P f [] h = tt
-flat P f (x ∷ xs) h = all_append P (f x) (flat_map f xs) h.0 (flat P f xs h.1)
-
 -- an array of the values of these items
 pub array-numbers : {A : Type 0} (value_of : A → Json) (items : List A) → AllByRecursion (λ item. HasNumbers (value_of item)) items → HasNumbers (j.Array (map value_of items))
-array-numbers value_of items h = rw (numbers-array (map value_of items)) (flat IsNumber numbers_of (map value_of items) (all_map (λ v. HasNumbers v) value_of items h))
+array-numbers value_of items h = rw (numbers-array (map value_of items)) (all_flat IsNumber numbers_of (map value_of items) (all_map (λ v. HasNumbers v) value_of items h))
 
 -- an object of these members
 pub object-numbers : (ms : List (List ℕ × Json)) → AllByRecursion (λ m. HasNumbers m.1) ms → HasNumbers (j.Object ms)
-object-numbers ms h = rw (numbers-object ms) (flat IsNumber (λ m. numbers_of m.1) ms h)
+object-numbers ms h = rw (numbers-object ms) (all_flat IsNumber (λ m. numbers_of m.1) ms h)
 
 pub text-numbers : (text : List ℕ) → HasNumbers (j.Text text)
 text-numbers text = rw (numbers-text text) tt

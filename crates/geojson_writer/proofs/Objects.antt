@@ -28,15 +28,13 @@ member-text is_first name written v text ms e f =
 -- ---- objects that have a type
 
 pub quoted-type : quoted (codes "type") ≡ codes "\"type\""
-unfolding escaped_byte
-quoted-type = refl
+quoted-type = unfold escaped_byte in refl
 
 -- an object of its type and one more member
 pub object-of_two : (type_name type_written name written : List ℕ) (v : Json) → quoted type_name ≡ type_written → quoted name ≡ written
     → json_text (j.Object ((codes "type", j.Text type_name) ∷ ((name, v) ∷ [])))
     ≡ codes "{\"type\":" ++ (type_written ++ (codes "," ++ (written ++ (codes ":" ++ (json_text v ++ codes "}")))))
-object-of_two type_name type_written name written v e f =
-    object-text ((codes "type", j.Text type_name) ∷ ((name, v) ∷ []))
+object-of_two type_name type_written name written v e f = object-text ((codes "type", j.Text type_name) ∷ ((name, v) ∷ []))
     ∙ ap (λ (text : List ℕ). codes "{" ++ text) (member-text true (codes "type") (codes "\"type\"") (j.Text type_name) type_written ((name, v) ∷ []) quoted-type (text-text type_name ∙ e))
     ∙ ap (λ (text : List ℕ). codes "{\"type\":" ++ (type_written ++ text)) (member-text false name written v (json_text v) [] f refl)
 

@@ -27,8 +27,7 @@ one_line = Many (record { id = None; properties = None; shape = Some (g.Line (co
 
 line_row : json_text (features_value one_line)
     ≡ codes "{\"type\":\"FeatureCollection\",\"features\":[{\"type\":\"Feature\",\"properties\":null,\"geometry\":{\"type\":\"LineString\",\"coordinates\":[[0,0],[1.5,0.25]]}}]}"
-unfolding feature_value units_text escaped_byte digits
-line_row = simp (shape_value_at.line, texts) refl
+line_row = unfold feature_value units_text escaped_byte digits in simp (shape_value_at.line, texts) refl
 
 -- ---- a Feature with an identifier, properties with a doubled name and a collection of a Point and of nothing
 
@@ -41,5 +40,4 @@ one_feature = One (record {
 
 feature_row : json_text (features_value one_feature)
     ≡ codes "{\"type\":\"Feature\",\"id\":7.0,\"properties\":{\"k\":1.50,\"k\":null},\"geometry\":{\"type\":\"GeometryCollection\",\"geometries\":[{\"type\":\"Point\",\"coordinates\":[-0.5,0.0000001]},{\"type\":\"GeometryCollection\",\"geometries\":[]}]}}"
-unfolding feature_value units_text escaped_byte digits
-feature_row = simp (shape_value_at.group, shape_value_at.point, texts) refl
+feature_row = unfold feature_value units_text escaped_byte digits in simp (shape_value_at.group, shape_value_at.point, texts) refl

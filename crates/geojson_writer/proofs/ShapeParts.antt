@@ -16,38 +16,30 @@ use Rattle.geojson_writer.proofs.Objects.{object-of_two}
 -- ---- the value of each kind
 
 pub shape_value_at : AtKinds shape_value shape_step
-unfolding shape_value
-shape_value_at = at_kinds shape_step
+shape_value_at = unfold shape_value in at_kinds shape_step
 
 -- ---- the coordinates or the geometries
 
 pub contents-point : (p : Point) → contents_value (g.Point p) ≡ position_value p
-unfolding contents_value
-contents-point p = ap contents_in (g.outs-Point p)
+contents-point p = unfold contents_value in ap contents_in (g.outs-Point p)
 
 pub contents-points : (ps : List Point) → contents_value (g.MultiPoint ps) ≡ positions_value ps
-unfolding contents_value
-contents-points ps = ap contents_in (g.outs-MultiPoint ps)
+contents-points ps = unfold contents_value in ap contents_in (g.outs-MultiPoint ps)
 
 pub contents-line : (ps : List Point) → contents_value (g.Line ps) ≡ positions_value ps
-unfolding contents_value
-contents-line ps = ap contents_in (g.outs-Line ps)
+contents-line ps = unfold contents_value in ap contents_in (g.outs-Line ps)
 
 pub contents-lines : (ls : List (List Point)) → contents_value (g.Lines ls) ≡ lines_value ls
-unfolding contents_value
-contents-lines ls = ap contents_in (g.outs-Lines ls)
+contents-lines ls = unfold contents_value in ap contents_in (g.outs-Lines ls)
 
 pub contents-area : (rs : List (List Point)) → contents_value (g.Area rs) ≡ lines_value rs
-unfolding contents_value
-contents-area rs = ap contents_in (g.outs-Area rs)
+contents-area rs = unfold contents_value in ap contents_in (g.outs-Area rs)
 
 pub contents-areas : (areas : List (List (List Point))) → contents_value (g.Areas areas) ≡ polygons_value areas
-unfolding contents_value
-contents-areas areas = ap contents_in (g.outs-Areas areas)
+contents-areas areas = unfold contents_value in ap contents_in (g.outs-Areas areas)
 
 pub contents-group : (shapes : List Shape) → contents_value (g.Group shapes) ≡ j.Array (map shape_value shapes)
-unfolding contents_value
-contents-group shapes = ap contents_in (g.outs-Group shapes)
+contents-group shapes = unfold contents_value in ap contents_in (g.outs-Group shapes)
 
 pub ruleset contents = (contents-point, contents-points, contents-line, contents-lines, contents-area, contents-areas, contents-group)
 
@@ -62,8 +54,7 @@ in_parts : (shape : Shape) (head : List ℕ) (value contents : Json) → shape_v
 in_parts shape head value contents e f h text = rw (e, f, h) text
 
 pub shape-text : (shape : Shape) → json_text (shape_value shape) ≡ head_text shape ++ (json_text (contents_value shape) ++ codes "}")
-unfolding head_text escaped_byte
-shape-text = by_kinds InParts (record {
+shape-text = unfold head_text escaped_byte in by_kinds InParts (record {
   point = λ p. in_parts _ _ _ _ (shape_value_at.point p) (ap head_in (g.outs-Point p)) (contents-point p) (object-of_two (codes "Point") (codes "\"Point\"") (codes "coordinates") (codes "\"coordinates\"") (position_value p) refl refl);
   points = λ ps. in_parts _ _ _ _ (shape_value_at.points ps) (ap head_in (g.outs-MultiPoint ps)) (contents-points ps) (object-of_two (codes "MultiPoint") (codes "\"MultiPoint\"") (codes "coordinates") (codes "\"coordinates\"") (positions_value ps) refl refl);
   line = λ ps. in_parts _ _ _ _ (shape_value_at.line ps) (ap head_in (g.outs-Line ps)) (contents-line ps) (object-of_two (codes "LineString") (codes "\"LineString\"") (codes "coordinates") (codes "\"coordinates\"") (positions_value ps) refl refl);

@@ -23,12 +23,10 @@ Met {V} name ms k (Some i) = (m : List ℕ × V) × (StandsAt name ms i m × (na
 
 module _ {V : Type 0} (name : List ℕ) (ms : List (List ℕ × V)) (k : ℕ) (m : List ℕ × V) (lt : k < length ms) (is : m ≡ get_or ms k m) where
   another_name : bytes_eq m.0 name ≡ false → named name (drop k ms) ≡ named name (drop (k + 1) ms)
-  unfolding named
-  another_name e = rw (drop_here ms k m lt is, e) refl
+  another_name e = unfold named in rw (drop_here ms k m lt is, e) refl
 
   this_name : bytes_eq m.0 name ≡ true → named name (drop k ms) ≡ m.1 ∷ named name (drop (k + 1) ms)
-  unfolding named
-  this_name e = rw (drop_here ms k m lt is, e) refl
+  this_name e = unfold named in rw (drop_here ms k m lt is, e) refl
 
   pub goes_on : (found : Option ℕ) → bytes_eq m.0 name ≡ false → Met name ms k found → Met name ms (k + 1) found
   goes_on None e now = now ∙ another_name e

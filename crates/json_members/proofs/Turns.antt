@@ -1,6 +1,7 @@
 -- The turns of a loop that reads one value after another: what is still to read, put behind what was read, is
 -- what the whole list gives.
-use Rattle.std.proofs.Common.{◌≡◌, ℕ, zero, suc, ◌+◌, ◌<◌, ◌≤◌, List, [], ◌∷◌, ◌++◌, length, get_or, drop, Option, None, Result, Ok, Err, refl, sym, ap, ◌∙◌, subst, append_assoc, arith, append-nil}
+use Rattle.std.proofs.lemmas.List.{drop_all}
+use Rattle.std.proofs.Common.{◌≡◌, ℕ, ◌+◌, ◌<◌, ◌≤◌, List, [], ◌∷◌, ◌++◌, length, get_or, drop, Option, None, Result, Ok, Err, refl, sym, ap, ◌∙◌, subst, append_assoc, append-nil}
 use Rattle.std.specs.Prelude.{option_to_list}
 use Rattle.json_members.specs.Readers.{Counting, and_then, ◌>>=◌, give, gather, each, kept}
 pub use Rattle.list_laws.proofs.Lists.{drop_here}
@@ -17,9 +18,7 @@ front_twice ys x (Err e) = refl
 
 -- nothing is left at the end
 pub drop_end : {A : Type 0} (i : ℕ) (vs : List A) → length vs ≤ i → drop i vs ≡ []
-drop_end zero (v ∷ vs) le = absurd (omega arith)
-drop_end (suc i) (v ∷ vs) le = drop_end i vs (omega arith)
-drop_end i vs le = refl
+drop_end i vs le = drop_all i vs le
 
 module _ {C E A B : Type 0} (read : A → Counting C E (List B)) (left : List A) (v : A) (rest : List A) (ys : List B) (c : C) (whole : Result (List B × C) E)
     (here : left ≡ v ∷ rest) (now : with_front ys (gather read left c) ≡ whole) where
@@ -27,8 +26,7 @@ module _ {C E A B : Type 0} (read : A → Counting C E (List B)) (left : List A)
   then_rest z = with_front ys (and_then (λ x. λ d. and_then (λ xs. give (x ++ xs)) (gather read rest d)) z)
 
   opened : then_rest (read v c) ≡ whole
-  unfolding gather
-  opened = sym (ap (λ z. with_front ys (gather read z c)) here) ∙ now
+  opened = unfold gather in sym (ap (λ z. with_front ys (gather read z c)) here) ∙ now
 
   pub turns : (x : List B) (after : C) → read v c ≡ Ok (x, after) → with_front (ys ++ x) (gather read rest after) ≡ whole
   turns x after e = sym (front_twice ys x (gather read rest after)) ∙ (sym (ap then_rest e) ∙ opened)
@@ -38,8 +36,7 @@ module _ {C E A B : Type 0} (read : A → Counting C E (List B)) (left : List A)
 
 pub all_read : {C E A B : Type 0} (read : A → Counting C E (List B)) (left : List A) (ys : List B) (c : C) (whole : Result (List B × C) E)
     → left ≡ [] → with_front ys (gather read left c) ≡ whole → whole ≡ Ok (ys, c)
-unfolding gather
-all_read read left ys c whole none now = sym now ∙ rw none (ap (λ z. Ok (z, c)) (append-nil ys))
+all_read read left ys c whole none now = unfold gather in sym now ∙ rw none (ap (λ z. Ok (z, c)) (append-nil ys))
 
 pub ends : {C E A B : Type 0} (read : A → Counting C E (List B)) (vs : List A) (i : ℕ) (ys : List B) (c : C) (whole : Result (List B × C) E)
     → length vs ≤ i → with_front ys (gather read (drop i vs) c) ≡ whole → whole ≡ Ok (ys, c)

@@ -1,4 +1,5 @@
 -- What holds of all that a reader gives.
+use Rattle.list_laws.proofs.Elements.{all_of}
 use Rattle.std.proofs.Common.{◌≡◌, Bool, true, false, cond, List, [], ◌∷◌, ◌++◌, Option, Some, None, Result, Ok, Err, refl, ap, subst}
 use Rattle.std.specs.Prelude.{option_to_list}
 use Rattle.std.specs.List.{AllByRecursion}
@@ -17,8 +18,7 @@ IfThere P (Some x) = P x
 -- ---- lists
 
 pub all_trivial : {A : Type 0} (xs : List A) → AllByRecursion (λ x. Unit {0}) xs
-all_trivial [] = tt
-all_trivial (x ∷ xs) = (tt, all_trivial xs)
+all_trivial xs = all_of (λ x. Unit {0}) xs (λ x k. tt)
 
 -- ---- what was given
 
@@ -53,9 +53,7 @@ pub weaker_yields : {C E A : Type 0} (P Q : A → Type 0) (m : Counting C E A) �
 weaker_yields P Q m f h c d x e = f x (h c d x e)
 
 pub then_yields : {C E A B : Type 0} (P : A → Type 0) (Q : B → Type 0) (m : Counting C E A) (f : A → Counting C E B) → Yields P m → ((x : A) → P x → Yields Q (f x)) → Yields Q (m >>= f)
-then_yields P Q m f first second c d y e =
-    let t = taken (m c) f (y, d) e in
-    second t.0 (first c t.1.0 t.0 t.1.1.0) t.1.0 d y t.1.1.1
+then_yields P Q m f first second c d y e = let t = taken (m c) f (y, d) e in second t.0 (first c t.1.0 t.0 t.1.1.0) t.1.0 d y t.1.1.1
 
 pub give_yields : {C E A : Type 0} (P : A → Type 0) (x : A) → P x → Yields {C = C} {E = E} P (give x)
 give_yields P x h c d y e = subst P (first_is e) h
@@ -92,8 +90,7 @@ if_some_yields Q P read h (Some x) k = h x k
 pub gather_yields : {C E A B : Type 0} (Q : A → Type 0) (P : B → Type 0) (read : A → Counting C E (List B)) → ((v : A) → Q v → Yields (AllByRecursion P) (read v)) → (vs : List A) → AllByRecursion Q vs → Yields (AllByRecursion P) (gather read vs)
 unfolding gather
 gather_yields Q P read h [] k = give_yields (AllByRecursion P) [] tt
-gather_yields Q P read h (v ∷ vs) k =
-    then_yields (AllByRecursion P) (AllByRecursion P) (read v) _ (h v k.0)
+gather_yields Q P read h (v ∷ vs) k = then_yields (AllByRecursion P) (AllByRecursion P) (read v) _ (h v k.0)
     (λ x p. then_yields (AllByRecursion P) (AllByRecursion P) (gather read vs) _ (gather_yields Q P read h vs k.1)
     (λ xs q. give_yields (AllByRecursion P) (x ++ xs) (all_append P x xs p q)))
 

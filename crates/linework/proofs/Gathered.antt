@@ -1,6 +1,7 @@
 -- Lines gathered part by part, feature by feature and layer by layer.
+use Rattle.list_laws.proofs.Lists.{take_here}
 use Rattle.std.proofs.Common.{◌≡◌, ℕ, suc, ◌+◌, ◌<◌, ◌≤◌, Bool, true, not, List, [], ◌∷◌, ◌++◌, map, filter, take, length, get_or, append_assoc, append-nil, refl, ap, sym, ◌∙◌, arith}
-use Rattle.std.proofs.lemmas.List.{take_more, take_all, length-map, length-take-le, map-append}
+use Rattle.std.proofs.lemmas.List.{take_all, length-map, length-take-le, map-append}
 use Rattle.geometry.specs.Points.{Point}
 use Rattle.geojson_types.specs.Features.{Featured}
 use Rattle.geometry.specs.Paths.{Placed, alone, inside_part, of_parts}
@@ -17,8 +18,7 @@ with_append g [] ts = refl
 with_append g (s ∷ ss) ts = with_append (with_stroke g s) ss ts
 
 pub with_none : (g : Gathered) → with_strokes g [] ≡ g
-unfolding with_strokes
-with_none g = refl
+with_none g = unfold with_strokes in refl
 
 abbrev pub Lines : Type 0
 Lines = List (Placed (Bool × List Point))
@@ -33,8 +33,7 @@ rings rs = of_parts 0 (map (single true) rs)
 
 -- one line alone
 pub with_alone : (g : Gathered) (a : Address) (closed : Bool) (ps qs : List Point) → qs ≡ clean ps → with_stroke g (record { address = a; closed = closed; positions = qs }) ≡ with_strokes g (map (stroke_at a) (single closed ps))
-unfolding with_strokes
-with_alone g a closed ps qs e = grind (arith, append-nil)
+with_alone g a closed ps qs e = unfold with_strokes in grind (arith, append-nil)
 
 inside_at : (a : Address) (i : ℕ) (xs : Lines) → map (stroke_at a) (inside_part i xs) ≡ map (stroke_at (part_address a i)) xs
 inside_at a i [] = refl
@@ -44,20 +43,14 @@ parts_more : (i : ℕ) (xss : List Lines) (xs : Lines) → of_parts i (xss ++ (x
 parts_more i [] xs = let n : i ≡ i + 0 = omega arith in append-nil (inside_part i xs) ∙ ap (λ k. inside_part k xs) n
 parts_more i (ys ∷ xss) xs = grind (arith, append_assoc, parts_more (suc i) xss xs)
 
--- one element more of a list that is read by index
-turned : {A : Type 0} (xs : List A) (i : ℕ) (x : A) → i < length xs → x ≡ get_or xs i x → take (i + 1) xs ≡ take i xs ++ (x ∷ [])
-turned xs i x l e = take_more xs i x l ∙ ap (λ z. take i xs ++ (z ∷ [])) (sym e)
-
 -- one part more
 pub parts_turn : {A : Type 0} (f : A → Lines) (a : Address) (g now new : Gathered) (xs : List A) (i : ℕ) (x : A) (part : Address) (ys : Lines) → i < length xs → x ≡ get_or xs i x →
-    now ≡ with_strokes g (map (stroke_at a) (of_parts 0 (map f (take i xs)))) →
-    part ≡ part_address a i → ys ≡ f x →
-    new ≡ with_strokes now (map (stroke_at part) ys) →
-    new ≡ with_strokes g (map (stroke_at a) (of_parts 0 (map f (take (i + 1) xs))))
+    now ≡ with_strokes g (map (stroke_at a) (of_parts 0 (map f (take i xs)))) → part ≡ part_address a i → ys ≡ f x →
+    new ≡ with_strokes now (map (stroke_at part) ys) → new ≡ with_strokes g (map (stroke_at a) (of_parts 0 (map f (take (i + 1) xs))))
 parts_turn f a g now new xs i x part ys l e h pe ye k =
     let n : 0 + length (map f (take i xs)) ≡ i = ap (λ m. 0 + m) (length-map (take i xs) f ∙ length-take-le i xs (omega arith)) ∙ (let z : 0 + i ≡ i = omega arith in z) in
     let m : of_parts 0 (map f (take (i + 1) xs)) ≡ of_parts 0 (map f (take i xs)) ++ inside_part i (f x) =
-    ap (λ l. of_parts 0 (map f l)) (turned xs i x l e) ∙ ap (of_parts 0) (map-append f (take i xs) (x ∷ []))
+    ap (λ l. of_parts 0 (map f l)) (take_here xs i x l e) ∙ ap (of_parts 0) (map-append f (take i xs) (x ∷ []))
     ∙ parts_more 0 (map f (take i xs)) (f x) ∙ ap (λ j. of_parts 0 (map f (take i xs)) ++ inside_part j (f x)) n in
     k ∙ ap (λ z. with_strokes now (map (stroke_at z) ys)) pe ∙ ap (λ z. with_strokes now (map (stroke_at (part_address a i)) z)) ye
     ∙ ap (λ z. with_strokes z (map (stroke_at (part_address a i)) (f x))) h
@@ -79,7 +72,7 @@ module _ {X : Type 0} (of : ℕ → X → List Stroke) (all : ℕ → List X →
   all_turn : (g now new : Gathered) (xs : List X) (i : ℕ) (x : X) → i < length xs → x ≡ get_or xs i x →
       now ≡ with_strokes g (all 0 (take i xs)) → new ≡ with_strokes now (of i x) → new ≡ with_strokes g (all 0 (take (i + 1) xs))
   all_turn g now new xs i x l e h k =
-      grind (arith, length-take-le i xs (omega arith), with_append g (all 0 (take i xs)) (of i x), turned xs i x l e, all_more 0 (take i xs) x)
+      grind (arith, length-take-le i xs (omega arith), with_append g (all 0 (take i xs)) (of i x), take_here xs i x l e, all_more 0 (take i xs) x)
 
 pub features_turn : (layer : ℕ) (g now new : Gathered) (fs : List Featured) (i : ℕ) (f : Featured) → i < length fs → f ≡ get_or fs i f →
     now ≡ with_strokes g (strokes_of_layer layer 0 (take i fs)) → new ≡ with_strokes now (feature_strokes layer i f) → new ≡ with_strokes g (strokes_of_layer layer 0 (take (i + 1) fs))
@@ -109,17 +102,13 @@ gathered_dropped g [] = sym (append-nil g.dropped)
 gathered_dropped g (s ∷ ss) = grind (arith, append_assoc, gathered_dropped (with_stroke g s) ss)
 
 pub linework_is : (g : Gathered) (ls : List Layer) (i : ℕ) → length ls ≤ i → g ≡ with_strokes nothing_gathered (strokes_of_layers 0 (take i ls)) → g.strokes ≡ linework ls
-unfolding linework
-linework_is g ls i l h = ap (λ z. z.strokes) h ∙ gathered_strokes nothing_gathered (strokes_of_layers 0 (take i ls)) ∙ ap (λ z. filter (λ s. not (is_collapsed s)) (strokes_of_layers 0 z)) (take_all i ls l)
+linework_is g ls i l h = unfold linework in grind (arith, gathered_strokes, take_all)
 
 pub collapsed_is : (g : Gathered) (ls : List Layer) (i : ℕ) → length ls ≤ i → g ≡ with_strokes nothing_gathered (strokes_of_layers 0 (take i ls)) → g.dropped ≡ collapsed ls
-unfolding collapsed
-collapsed_is g ls i l h = ap (λ z. z.dropped) h ∙ gathered_dropped nothing_gathered (strokes_of_layers 0 (take i ls)) ∙ ap (λ z. map collapse (filter is_collapsed (strokes_of_layers 0 z))) (take_all i ls l)
+collapsed_is g ls i l h = unfold collapsed in grind (arith, gathered_dropped, take_all)
 
 pub named_linework_is : (g : Gathered) (ls : List (List ℕ × Layer)) (i : ℕ) → length ls ≤ i → g ≡ with_strokes nothing_gathered (strokes_of_layers 0 (unnamed (take i ls))) → g.strokes ≡ linework (map (λ l. l.1) ls)
-unfolding linework
-named_linework_is g ls i l h = grind (arith, gathered_strokes, take_all)
+named_linework_is g ls i l h = unfold linework in grind (arith, gathered_strokes, take_all)
 
 pub named_collapsed_is : (g : Gathered) (ls : List (List ℕ × Layer)) (i : ℕ) → length ls ≤ i → g ≡ with_strokes nothing_gathered (strokes_of_layers 0 (unnamed (take i ls))) → g.dropped ≡ collapsed (map (λ l. l.1) ls)
-unfolding collapsed
-named_collapsed_is g ls i l h = grind (arith, gathered_dropped, take_all)
+named_collapsed_is g ls i l h = unfold collapsed in grind (arith, gathered_dropped, take_all)

@@ -12,8 +12,7 @@ use Rattle.geometry.proofs.ByKind.{AtKinds, at_kinds}
 
 module _ (P L : Type 0) where
   pub placed_strokes_at : AtKinds (placed_strokes {P = P} {L = L}) placed_step
-  unfolding placed_strokes
-  placed_strokes_at = at_kinds placed_step
+  placed_strokes_at = unfold placed_strokes in at_kinds placed_step
 
 -- without their ways
 abbrev pub parts_of : {A : Type 0} → List (Placed A) → List A

@@ -1,4 +1,5 @@
 -- The positions of lines are those of their shapes, and so the positions of the linework are those of the layers.
+use Rattle.list_laws.proofs.Lists.{joined_append}
 use Rattle.std.proofs.Common.{◌≡◌, ℕ, suc, Bool, true, false, not, List, [], ◌∷◌, ◌++◌, map, Option, None, Some, inl, inr, refl, sym, subst, arith}
 use Rattle.std.specs.List.{AllByRecursion}
 use Rattle.geometry.specs.declared.address.Address.{Address}
@@ -24,12 +25,10 @@ use Rattle.list_laws.proofs.Members.{in_left, in_right, in_append}
 
 -- elements of lists that are joined
 joined_left : {X : Type 0} (x : X) (xss yss : List (List X)) → In x (joined xss) → In x (joined (xss ++ yss))
-joined_left x [] yss k = elim k [ ]
-joined_left x (xs ∷ xss) yss k = elim (in_append x xs (joined xss) k) [ inl m ↦ in_left x xs (joined (xss ++ yss)) m | inr m ↦ in_right x xs (joined (xss ++ yss)) (joined_left x xss yss m) ]
+joined_left x xss yss k = subst (λ l. In x l) (sym (joined_append xss yss)) (in_left x (joined xss) (joined yss) k)
 
 joined_right : {X : Type 0} (x : X) (xss yss : List (List X)) → In x (joined yss) → In x (joined (xss ++ yss))
-joined_right x [] yss k = k
-joined_right x (xs ∷ xss) yss k = in_right x xs (joined (xss ++ yss)) (joined_right x xss yss k)
+joined_right x xss yss k = subst (λ l. In x l) (sym (joined_append xss yss)) (in_right x (joined xss) (joined yss) k)
 
 -- a cleaned list has no other positions
 clean_in : (p q : Point) (qs : List Point) → In p (clean_from q qs) → In p (q ∷ qs)
@@ -85,8 +84,7 @@ clean_list_in p ps h = grind (arith, clean_in)
 
 shape_in : (a : Address) (o : Option Shape) (s : Stroke) (p : Point) → In s (map (stroke_at a) (option_placed o)) → In p s.positions → In p (option_points o)
 shape_in a None s p k m = elim k [ ]
-shape_in a (Some h) s p k m =
-    let x = from_map (stroke_at a) s (placed_strokes h) k in
+shape_in a (Some h) s p k m = let x = from_map (stroke_at a) s (placed_strokes h) k in
     let n : In p x.0.part.1 = clean_list_in p x.0.part.1 (subst (λ (z : Stroke). In p z.positions) x.2 m) in
     lines_are_in h x.0.part p (subst (In x.0.part) (told h) (in_map (λ z. z.part) x.0 (placed_strokes h) x.1)) n
 

@@ -30,70 +30,59 @@ abbrev corners : List Point
 corners = at 0 0 ∷ (at 1 0 ∷ (at 1 1 ∷ (at 0 1 ∷ (at 2 0 ∷ (at 2 1 ∷ [])))))
 
 pub squares_junctions : map (is_junction squares) corners ≡ false ∷ (true ∷ (true ∷ (false ∷ (false ∷ (false ∷ [])))))
-unfolding same
-squares_junctions = refl
+squares_junctions = unfold same in refl
 
 pub squares_cuts : map (is_cut squares) corners ≡ false ∷ (true ∷ (true ∷ (false ∷ (false ∷ (false ∷ [])))))
-unfolding same
-squares_cuts = refl
+squares_cuts = unfold same in refl
 
 -- the numbers of their positions
 pub squares_seen : first_seen (positions squares) ≡ corners
-unfolding same
-squares_seen = refl
+squares_seen = unfold same in refl
 
 pub last_corner : position (same (at 2 1)) (first_seen (positions squares)) ≡ Some 5
-unfolding same
-last_corner = refl
+last_corner = unfold same in refl
 
 -- a line that turns back beside one that goes on
 abbrev back : List Stroke
 back = stroke false (at 0 0 ∷ (at 1 0 ∷ (at 0 0 ∷ []))) ∷ (stroke false (at 0 0 ∷ (at 1 0 ∷ (at 2 0 ∷ []))) ∷ [])
 
 pub back_junctions : map (is_junction back) (at 0 0 ∷ (at 1 0 ∷ (at 2 0 ∷ []))) ≡ true ∷ (true ∷ (true ∷ []))
-unfolding same
-back_junctions = refl
+back_junctions = unfold same in refl
 
 -- a ring that winds twice
 abbrev twice : List Stroke
 twice = stroke true (at 0 0 ∷ (at 1 0 ∷ (at 0 1 ∷ (at 0 0 ∷ (at 1 0 ∷ (at 0 1 ∷ (at 0 0 ∷ []))))))) ∷ []
 
 pub twice_junctions : map (is_junction twice) (at 0 0 ∷ (at 1 0 ∷ (at 0 1 ∷ []))) ≡ false ∷ (false ∷ (false ∷ []))
-unfolding same
-twice_junctions = refl
+twice_junctions = unfold same in refl
 
 pub twice_cuts : map (is_cut twice) (at 0 0 ∷ (at 1 0 ∷ (at 0 1 ∷ []))) ≡ true ∷ (false ∷ (false ∷ []))
-unfolding same
-twice_cuts = refl
+twice_cuts = unfold same in refl
 
 -- a figure eight
 abbrev eight : List Stroke
 eight = stroke true (at 1 1 ∷ (at 2 2 ∷ (at 2 0 ∷ (at 1 1 ∷ (at 0 2 ∷ (at 0 0 ∷ (at 1 1 ∷ []))))))) ∷ []
 
 pub eight_cuts : map (is_cut eight) (at 1 1 ∷ (at 2 2 ∷ (at 0 0 ∷ []))) ≡ true ∷ (false ∷ (false ∷ []))
-unfolding same
-eight_cuts = refl
+eight_cuts = unfold same in refl
 
 -- a line that ends on the middle of a ring
 abbrev touching : List Stroke
 touching = stroke true (at 0 0 ∷ (at 2 0 ∷ (at 2 2 ∷ (at 0 0 ∷ [])))) ∷ (stroke false (at 2 0 ∷ (at 5 0 ∷ [])) ∷ [])
 
 pub touching_cuts : map (is_cut touching) (at 0 0 ∷ (at 2 0 ∷ (at 2 2 ∷ (at 5 0 ∷ [])))) ≡ false ∷ (true ∷ (false ∷ (true ∷ [])))
-unfolding same
-touching_cuts = refl
+touching_cuts = unfold same in refl
 
 -- an open line whose ends are equal
 abbrev loop : List Stroke
 loop = stroke false (at 0 0 ∷ (at 1 0 ∷ (at 0 1 ∷ (at 0 0 ∷ [])))) ∷ []
 
 pub loop_junctions : map (is_junction loop) (at 0 0 ∷ (at 1 0 ∷ (at 0 1 ∷ []))) ≡ true ∷ (false ∷ (false ∷ []))
-unfolding same
-loop_junctions = refl
+loop_junctions = unfold same in refl
 
 -- equal neighbours
 pub run_cleaned : clean (at 0 0 ∷ (at 0 0 ∷ (at 1 0 ∷ (at 0 0 ∷ (at 0 0 ∷ []))))) ≡ at 0 0 ∷ (at 1 0 ∷ (at 0 0 ∷ []))
-unfolding same
-run_cleaned = refl
+run_cleaned = unfold same in refl
 
 -- a layer with these shapes
 abbrev feature : Shape → Featured
@@ -107,12 +96,10 @@ abbrev one_collapses : List Layer
 one_collapses = layer (g.Line (at 0 5 ∷ (at 10 5 ∷ [])) ∷ (g.Line (at 0 5 ∷ (at 0 5 ∷ [])) ∷ [])) ∷ []
 
 pub one_stays : linework one_collapses ≡ stroke false (at 0 5 ∷ (at 10 5 ∷ [])) ∷ []
-unfolding linework same
-one_stays = simp ((placed_strokes_at Point (List Point)).line)
+one_stays = unfold linework same in simp ((placed_strokes_at Point (List Point)).line)
 
 pub one_is_dropped : collapsed one_collapses ≡ record { address = record { layer = 0; feature = 1; path = [] }; cause = Collapsed } ∷ []
-unfolding collapsed same
-one_is_dropped = simp ((placed_strokes_at Point (List Point)).line)
+one_is_dropped = unfold collapsed same in simp ((placed_strokes_at Point (List Point)).line)
 
 -- a ring of three positions, which collapsed, in a collection inside a collection
 abbrev nested : List Layer

@@ -17,42 +17,25 @@ shapes-preserved t c =
     (λ i. placed_strokes c.shape-item.result) c.in_ok-add_shape-in-Group.ensures
 
 pub returns-in-Point : goal.returns-in-Point
-returns-in-Point t c =
-    let e : placed_strokes c.args.shape.now ≡ [] = ap placed_strokes c.in-Point.is ∙ (placed_strokes_at Point (List Point)).point c.in-Point.field-0 in
-    sym (ap (λ xs. with_strokes c.args.lines.now (map (stroke_at c.args.address) xs)) e ∙ with_none c.args.lines.now)
+returns-in-Point t c = rw (c.in-Point.is, (placed_strokes_at Point (List Point)).point) (sym (with_none c.args.lines.now))
 
 pub returns-in-MultiPoint : goal.returns-in-MultiPoint
-returns-in-MultiPoint t c =
-    let e : placed_strokes c.args.shape.now ≡ [] = ap placed_strokes c.in-MultiPoint.is ∙ (placed_strokes_at Point (List Point)).points c.in-MultiPoint.field-0 in
-    sym (ap (λ xs. with_strokes c.args.lines.now (map (stroke_at c.args.address) xs)) e ∙ with_none c.args.lines.now)
+returns-in-MultiPoint t c = rw (c.in-MultiPoint.is, (placed_strokes_at Point (List Point)).points) (sym (with_none c.args.lines.now))
 
 pub returns-in-Line : goal.returns-in-Line
-returns-in-Line t c =
-    let e : placed_strokes c.args.shape.now ≡ single false c.as_slice.result.now =
-    ap placed_strokes c.in-Line.is ∙ (placed_strokes_at Point (List Point)).line c.in-Line.line ∙ ap (single false) (sym c.as_slice.ensures) in
-    subst (λ (xs : Lines). OnOk c.add_stroke.result (c.add_stroke.new.lines ≡ with_strokes c.args.lines.now (map (stroke_at c.args.address) xs))) (sym e) c.add_stroke.ensures
+returns-in-Line t c = rw (c.in-Line.is, (placed_strokes_at Point (List Point)).line, ← c.as_slice.ensures) c.add_stroke.ensures
 
 pub returns-in-Lines : goal.returns-in-Lines
-returns-in-Lines t c =
-    let e : placed_strokes c.args.shape.now ≡ of_parts 0 (map (single false) c.as_slice-in-Lines.result.now) =
-    ap placed_strokes c.in-Lines.is ∙ (placed_strokes_at Point (List Point)).lines c.in-Lines.parts ∙ ap (λ ls. of_parts 0 (map (single false) ls)) (sym c.as_slice-in-Lines.ensures) in
-    subst (λ (xs : Lines). OnOk c.add_lines.result (c.add_lines.new.lines ≡ with_strokes c.args.lines.now (map (stroke_at c.args.address) xs))) (sym e) c.add_lines.ensures
+returns-in-Lines t c = rw (c.in-Lines.is, (placed_strokes_at Point (List Point)).lines, ← c.as_slice-in-Lines.ensures) c.add_lines.ensures
 
 pub returns-in-Area : goal.returns-in-Area
-returns-in-Area t c =
-    let e : placed_strokes c.args.shape.now ≡ rings c.as_slice-in-Area.result.now =
-    ap placed_strokes c.in-Area.is ∙ (placed_strokes_at Point (List Point)).area c.in-Area.rings ∙ ap rings (sym c.as_slice-in-Area.ensures) in
-    subst (λ (xs : Lines). OnOk c.add_rings.result (c.add_rings.new.lines ≡ with_strokes c.args.lines.now (map (stroke_at c.args.address) xs))) (sym e) c.add_rings.ensures
+returns-in-Area t c = rw (c.in-Area.is, (placed_strokes_at Point (List Point)).area, ← c.as_slice-in-Area.ensures) c.add_rings.ensures
 
 pub returns-in-Areas : goal.returns-in-Areas
-returns-in-Areas t c =
-    let e : placed_strokes c.args.shape.now ≡ of_parts 0 (map rings c.as_slice-in-Areas.result.now) =
-    ap placed_strokes c.in-Areas.is ∙ (placed_strokes_at Point (List Point)).areas c.in-Areas.areas ∙ ap (λ rss. of_parts 0 (map rings rss)) (sym c.as_slice-in-Areas.ensures) in
-    subst (λ (xs : Lines). OnOk c.add_areas.result (c.add_areas.new.lines ≡ with_strokes c.args.lines.now (map (stroke_at c.args.address) xs))) (sym e) c.add_areas.ensures
+returns-in-Areas t c = rw (c.in-Areas.is, (placed_strokes_at Point (List Point)).areas, ← c.as_slice-in-Areas.ensures) c.add_areas.ensures
 
 pub returns-after-shapes : goal.returns-after-shapes
-returns-after-shapes t c =
-    let e : placed_strokes c.args.shape.now ≡ of_parts 0 (map placed_strokes c.as_slice-shape-items.result.now) =
+returns-after-shapes t c = let e : placed_strokes c.args.shape.now ≡ of_parts 0 (map placed_strokes c.as_slice-shape-items.result.now) =
     ap placed_strokes c.in-Group.is ∙ (placed_strokes_at Point (List Point)).group c.in-Group.shapes ∙ ap (λ ss. of_parts 0 (map placed_strokes ss)) (sym c.as_slice-shape-items.ensures) in
     parts_done placed_strokes c.args.address c.args.lines.now c.shapes.lines c.as_slice-shape-items.result.now c.shapes.number c.shapes-test.false c.shapes.invariant
     ∙ sym (ap (λ xs. with_strokes c.args.lines.now (map (stroke_at c.args.address) xs)) e)

@@ -1,5 +1,6 @@
 -- Arcs that grow piece by piece are those of all pieces, and an index stays as they grow.
-use Rattle.std.proofs.Common.{◌≡◌, ℕ, ◌+◌, ◌≤◌, Bool, true, false, cond, not, ◌||◌, List, [], ◌∷◌, ◌++◌, take, length, map, append_assoc, append-nil, refl, ap, sym, ◌∙◌, subst, arith, inl, inr, None, Some}
+use Rattle.std.proofs.Common.{◌≡◌, ℕ, ◌+◌, ◌≤◌, Bool, true, false, cond, not, List, [], ◌∷◌, ◌++◌, take, length, map, append_assoc, append-nil, refl, ap, sym, ◌∙◌, arith, inl, inr, None, Some}
+use Rattle.std.proofs.lemmas.Grind.{flat_map-append}
 use Rattle.std.proofs.lemmas.List.{map-append, take_all}
 use Rattle.std.proofs.lemmas.List.Elements.{filter-append}
 use Rattle.std.specs.List.{filter, flat_map, list_any}
@@ -10,15 +11,16 @@ use Rattle.cutter.specs.Places.{In}
 use Rattle.geometry.specs.Points.{Point}
 use Rattle.arc_table.proofs.Alike.{alike_self, alike_trans, same_line_self}
 use Rattle.arc_table.proofs.Finding.{found_is}
-use Rattle.list_laws.proofs.Lists.{take_got}
+use Rattle.junctions.proofs.Members.{in_flat}
+use Rattle.list_laws.proofs.Elements.{all_of}
+use Rattle.list_laws.proofs.Lists.{map_agree, take_got}
+use Rattle.list_laws.proofs.Members.{any_from_in, in_from_any, in_left, in_right}
 
 any_append : {X : Type 0} (t : X → Bool) (xs ys : List X) → list_any t xs ≡ true → list_any t (xs ++ ys) ≡ true
-any_append t [] ys h = cc
-any_append t (x ∷ xs) ys h = grind (arith, any_append t xs ys)
+any_append t xs ys h = let p = in_from_any t xs h in any_from_in t p.0 (xs ++ ys) (in_left p.0 xs ys p.1) p.2
 
 any_last : {X : Type 0} (t : X → Bool) (xs : List X) (x : X) → t x ≡ true → list_any t (xs ++ (x ∷ [])) ≡ true
-any_last t [] x h = ap (λ b. b || false) h
-any_last t (y ∷ xs) x h = grind (arith, any_last t xs x h)
+any_last t xs x h = any_from_in t x (xs ++ (x ∷ [])) (in_right x xs (x ∷ []) (inl refl)) h
 
 -- ---- one piece more
 
@@ -62,17 +64,15 @@ all_has qs [] x k = elim k [ ]
 all_has qs (p ∷ ps) x (inl e) = grind (arith, all_keeps, any_last, alike_self)
 all_has qs (p ∷ ps) x (inr k) = all_has (grown qs p) ps x k
 
-pub grow_more : (qs ps : List (List Point)) (x : List Point) → grow_all qs (ps ++ (x ∷ [])) ≡ grown (grow_all qs ps) x
-grow_more qs [] x = refl
-grow_more qs (p ∷ ps) x = grow_more (grown qs p) ps x
-
 grow_append : (qs ps xs : List (List Point)) → grow_all qs (ps ++ xs) ≡ grow_all (grow_all qs ps) xs
 grow_append qs [] xs = refl
 grow_append qs (p ∷ ps) xs = grow_append (grown qs p) ps xs
 
+pub grow_more : (qs ps : List (List Point)) (x : List Point) → grow_all qs (ps ++ (x ∷ [])) ≡ grown (grow_all qs ps) x
+grow_more qs ps x = grow_append qs ps (x ∷ [])
+
 pub map_same : {X Y : Type 0} (f g : X → Y) (xs : List X) → ((x : X) → In x xs → f x ≡ g x) → map f xs ≡ map g xs
-map_same f g [] h = refl
-map_same f g (x ∷ xs) h = ap (λ y. y ∷ map f xs) (h x (inl refl)) ∙ ap (λ l. g x ∷ l) (map_same f g xs (λ z k. h z (inr k)))
+map_same f g xs h = map_agree f g xs (all_of (λ x. f x ≡ g x) xs h)
 
 -- one more piece of a line: its index goes last, and the earlier ones stay
 pub refs_turn : (qs ps : List (List Point)) (x : List Point) (rs : List ℤ) (r : ℤ) → rs ≡ map (first_alike (grow_all qs ps)) ps → r ≡ first_alike (grown (grow_all qs ps) x) x →
@@ -107,22 +107,10 @@ abbrev pub refs_in : List (List Point) → List (List (List Point)) → List (Li
 refs_in qs lists = map (λ xs. map (first_alike qs) xs) lists
 
 pub in_every : (lists : List (List (List Point))) (xs : List (List Point)) (x : List Point) → In xs lists → In x xs → In x (every lists)
-in_every [] xs x k m = elim k [ ]
-in_every (ys ∷ lists) xs x (inl e) m = left x ys (every lists) (subst (λ l. In x l) e m)
-  where
-    left : {X : Type 0} (x : X) (xs ys : List X) → In x xs → In x (xs ++ ys)
-    left x [] ys k = elim k [ ]
-    left x (y ∷ xs) ys (inl e) = inl e
-    left x (y ∷ xs) ys (inr k) = inr (left x xs ys k)
-in_every (ys ∷ lists) xs x (inr k) m = right x ys (every lists) (in_every lists xs x k m)
-  where
-    right : {X : Type 0} (x : X) (xs ys : List X) → In x ys → In x (xs ++ ys)
-    right x [] ys k = k
-    right x (y ∷ xs) ys k = inr (right x xs ys k)
+in_every lists xs x k m = in_flat (λ ys. ys) xs x lists k m
 
 every_append : (lists : List (List (List Point))) (xs : List (List Point)) → every (lists ++ (xs ∷ [])) ≡ every lists ++ xs
-every_append [] xs = append-nil xs
-every_append (ys ∷ lists) xs = ap (λ l. ys ++ l) (every_append lists xs) ∙ sym (append_assoc ys (every lists) xs)
+every_append lists xs = flat_map-append (λ ys. ys) lists (xs ∷ []) ∙ ap (λ l. every lists ++ l) (append-nil xs)
 
 module _ (lists : List (List (List Point))) (i : ℕ) (qs : List (List Point)) (rs : List (List ℤ)) (is_arcs : qs ≡ grow_all [] (every (take i lists))) (are_refs : rs ≡ refs_in qs (take i lists)) where
   -- one more line

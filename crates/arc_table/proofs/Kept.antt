@@ -1,5 +1,6 @@
 -- What the table of the pieces of lines keeps.
-use Rattle.std.proofs.Common.{◌≡◌, ℕ, suc, ◌<◌, ◌≤◌, Bool, List, [], ◌∷◌, ◌++◌, length, map, take, refl, ap, sym, ◌∙◌, subst, arith, inl, inr}
+use Rattle.std.proofs.Common.{◌≡◌, ℕ, ◌<◌, ◌≤◌, Bool, List, [], ◌∷◌, ◌++◌, length, map, take, refl, ap, sym, ◌∙◌, subst, arith, inl, inr}
+use Rattle.std.proofs.lemmas.List.{length-map}
 use Rattle.std.specs.List.{AllByRecursion}
 use Rattle.std.specs.Prelude.{ℤ}
 use Rattle.arc_table.specs.Arcs.{ArcsAndIndexes, arcs_of, index_in, table_of}
@@ -11,7 +12,7 @@ use Rattle.cutter.specs.Segments.{line_segments, piece_segments, segments}
 use Rattle.cutter.specs.Slices.{SplitStroke, IsSplit, AllSplit, all_pieces, piece_lists, strokes}
 use Rattle.cutter.specs.Structure.{SharersAreAlike, SegmentsAreOnce, PiecesAreLong}
 use Rattle.geometry.specs.Points.{Point}
-use Rattle.junctions.specs.Cleaning.{IsClean, IsCleanList, AllClean}
+use Rattle.junctions.specs.Cleaning.{IsCleanList, AllClean}
 use Rattle.geometry.specs.Joins.{arc_at, number_of, rejoined, Meet}
 use Rattle.geometry.specs.Joins.{AreInRange}
 use Rattle.arc_table.proofs.Alike.{arcs_unlike, arc_is_piece, piece_has_alike}
@@ -19,16 +20,13 @@ use Rattle.arc_table.proofs.Growth.{every, refs_in, in_every, map_same, build_en
 use Rattle.arc_table.proofs.Indexes.{index_is, named_is, named_all}
 use Rattle.arc_table.proofs.Once.{once_in_arcs, all_in_arcs, same_segments}
 use Rattle.arc_table.proofs.Rejoining.{lines_again, rejoined_of, pieces_meet, rings_close}
-use Rattle.junctions.proofs.Members.{in_flat}
-use Rattle.list_laws.proofs.Elements.{all_of, all_made}
+use Rattle.cutter.proofs.Structured.{clean_in}
+use Rattle.junctions.proofs.Members.{in_flat, in_map}
+use Rattle.list_laws.proofs.Elements.{all_of, all_made, all_map, each_of}
 
 pub every_piece : (ss : List SplitStroke) → every (piece_lists ss) ≡ all_pieces ss
 every_piece [] = refl
 every_piece (s ∷ ss) = ap (λ l. s.pieces ++ l) (every_piece ss)
-
-lists_length : (ss : List SplitStroke) → length (piece_lists ss) ≡ length ss
-lists_length [] = refl
-lists_length (s ∷ ss) = ap suc (lists_length ss)
 
 abbrev pub table : List (List Point) → List (List ℤ) → ArcsAndIndexes
 table arcs refs = record { arcs = arcs; refs = refs }
@@ -48,23 +46,12 @@ pieces_named ps xs f = grind (arith, map_same (index_in (arcs_of ps)) (first_ali
 -- so it is at the end of the loop over the lines
 pub built : (ss : List SplitStroke) (i : ℕ) (qs : List (List Point)) (rss : List (List ℤ)) → length ss ≤ i →
     qs ≡ grow_all [] (every (take i (piece_lists ss))) → rss ≡ refs_in qs (take i (piece_lists ss)) → table qs rss ≡ table_of ss
-built ss i qs rss h e f = grind (arith, every_piece, refs_in, map_same, piece_index, in_every, build_end, lists_length)
+built ss i qs rss h e f = grind (arith, every_piece, refs_in, map_same, piece_index, in_every, build_end, length-map ss (λ s. s.pieces))
 
 -- ---- line by line
 
 all_refs : (P : List ℤ → Type 0) (f : List (List Point) → List ℤ) (ss : List SplitStroke) → ((s : SplitStroke) → In s ss → P (f s.pieces)) → AllByRecursion P (map f (piece_lists ss))
-all_refs P f [] h = tt
-all_refs P f (s ∷ ss) h = (h s (inl refl), all_refs P f ss (λ t k. h t (inr k)))
-
-split_in : (s : SplitStroke) (ss : List SplitStroke) → AllSplit ss → In s ss → IsSplit s
-split_in s [] h k = elim k [ ]
-split_in s (t ∷ ts) h (inl e) = subst IsSplit (sym e) h.0
-split_in s (t ∷ ts) h (inr k) = split_in s ts h.1 k
-
-clean_at : (s : SplitStroke) (ss : List SplitStroke) → AllClean (strokes ss) → In s ss → IsClean s.stroke
-clean_at s [] h k = elim k [ ]
-clean_at s (t ∷ ts) h (inl e) = subst (λ z. IsClean z.stroke) (sym e) h.0
-clean_at s (t ∷ ts) h (inr k) = clean_at s ts h.1 k
+all_refs P f ss h = all_map P f (piece_lists ss) (all_made (λ xs. P (f xs)) (λ s. s.pieces) ss h)
 
 some_index : {X : Type 0} (f : List Point → X) (xs : List (List Point)) (closed : Bool) (ps : List Point) → pieces.rejoined xs ≡ ps → IsCleanList closed ps → 1 ≤ length (map f xs)
 some_index f xs closed ps h k = grind arith
@@ -101,8 +88,7 @@ module _ (ss : List SplitStroke) (split : AllSplit ss) where
     inside s k x m = in_flat (λ t. t.pieces) s x ss k m
 
     meet : (s : SplitStroke) → In s ss → Meet (map (arc_at (arcs_of (all_pieces ss))) (map (index_in (arcs_of (all_pieces ss))) s.pieces))
-    meet s k =
-        let h = split_in s ss split k in
+    meet s k = let h = each_of IsSplit ss s split k in
         subst Meet (sym (pieces_named (all_pieces ss) s.pieces (inside s k)))
         (pieces_meet s.pieces (λ x m. long x (inside s k x m)) (h.segments ∙ ap segments (sym h.joins)))
 
@@ -114,5 +100,5 @@ module _ (ss : List SplitStroke) (split : AllSplit ss) where
           (λ s k. all_made (λ r. number_of r < length (arcs_of (all_pieces ss))) (index_in (arcs_of (all_pieces ss))) s.pieces (λ x m. piece_ranged (all_pieces ss) x (inside s k x m)));
       joined = all_refs (λ refs. Meet (map (arc_at (arcs_of (all_pieces ss))) refs)) (map (index_in (arcs_of (all_pieces ss)))) ss meet;
       some = all_refs (λ refs. 1 ≤ length refs) (map (index_in (arcs_of (all_pieces ss)))) ss
-          (λ s k. some_index (index_in (arcs_of (all_pieces ss))) s.pieces s.stroke.closed s.stroke.positions (split_in s ss split k).joins (clean_at s ss clean k));
+          (λ s k. some_index (index_in (arcs_of (all_pieces ss))) s.pieces s.stroke.closed s.stroke.positions (each_of IsSplit ss s split k).joins (clean_in s.stroke (strokes ss) clean (in_map (λ t. t.stroke) s ss k)));
     }

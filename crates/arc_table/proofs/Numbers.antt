@@ -5,7 +5,8 @@ use Rattle.std.specs.Prelude.{pos, negsuc}
 use Rattle.arc_table.specs.Arcs.{same_line, number_in, number_or_complement, index_in}
 use Rattle.arc_table.specs.Growth.{has_alike, first_alike, found}
 use Rattle.arc_table.specs.Laws.{AreUnlike}
-use Rattle.arc_table.specs.Starts.{equal, start_of, is_start, number_from, StartTells}
+use Rattle.arc_table.specs.Starts.{equal, start_of, is_start, number_from, IsStarts, StartTells}
+use Rattle.indexmap.specs.IndexMap.{IndexMap, get}
 use Rattle.cutter.specs.Segments.{Segment}
 use Rattle.geometry.specs.Points.{Point}
 use Rattle.geometry.specs.Rings.{same}
@@ -43,6 +44,11 @@ number_is (x ∷ xs) line s tells e =
     ap (λ b. cond b (Some 0) (option_map suc (number_from xs s))) (same_test s x line e (λ h. tells x (inl refl) s h e))
     ∙ ap (λ o. cond (same_line x line) (Some 0) (option_map suc o)) (number_is xs line s (λ y k. tells y (inr k)) e)
 
+-- the arc that is found by a line's first segment is the one that equals the line
+pub arc_number : {S : Type 0} (arcs : List (List Point)) (starts : IndexMap Segment ℕ S) (line : List Point) (s : Segment) → IsStarts arcs starts → StartTells arcs line →
+    start_of line ≡ Some s → get equal starts s ≡ number_in arcs line
+arc_number arcs starts line s known tells e = known s ∙ number_is arcs line s tells e
+
 -- an arc with a number equals the line
 pub number_got : (arcs : List (List Point)) (line : List Point) (i : ℕ) → number_in arcs line ≡ Some i → (i < length arcs) × ((d : List Point) → get_or arcs i d ≡ line)
 number_got [] line i e = cc
@@ -51,6 +57,11 @@ number_got (x ∷ xs) line i e = grind (arith, same_line_is, number_got xs line)
 pub number_has : (arcs : List (List Point)) (line x : List Point) (i : ℕ) → (line ≡ x) ⊎ (line ≡ reverse x) → number_in arcs line ≡ Some i → has_alike arcs x ≡ true
 number_has [] line x i w e = cc
 number_has (y ∷ ys) line x i w e = grind (arith, same_line_is, is_alike, number_has ys line x)
+
+-- the arc of that number is the line
+pub arc_got : {S : Type 0} (arcs : List (List Point)) (starts : IndexMap Segment ℕ S) (line : List Point) (s : Segment) (i : ℕ) → IsStarts arcs starts → StartTells arcs line →
+    start_of line ≡ Some s → Some i ≡ get equal starts s → (i < length arcs) × ((d : List Point) → get_or arcs i d ≡ line)
+arc_got arcs starts line s i known tells e f = number_got arcs line i (sym (f ∙ arc_number arcs starts line s known tells e))
 
 -- ---- two look-ups find what a scan finds
 

@@ -12,9 +12,6 @@ use Rattle.cutter.specs.Structure.{SharersAreAlike, SegmentsAreOnce}
 use Rattle.geometry.specs.Points.{Point}
 use Rattle.arc_table.proofs.Alike.{arcs_unlike, arc_is_piece, piece_has_arc, alike_is, is_alike}
 
-segment : Point → Point → Segment
-segment p q = record { from = p; to = q }
-
 times_append : (a b : Point) (xs ys : List Segment) → times a b (xs ++ ys) ≡ times a b xs + times a b ys
 times_append a b xs ys = sum_by-append (λ s. cond (is_segment a b s) 1 0) xs ys
 
@@ -29,8 +26,7 @@ segments_last (z ∷ []) q p = refl
 segments_last (z ∷ (w ∷ zs)) q p = ap (λ l. record { from = z; to = w } ∷ l) (segments_last (w ∷ zs) q p)
 
 is_turned : (a b p q : Point) → is_segment a b (record { from = q; to = p }) ≡ is_segment a b (record { from = p; to = q })
-unfolding is_segment
-is_turned a b p q = grind arith
+is_turned a b p q = unfold is_segment in grind arith
 
 -- it has each segment as often
 pub times_reverse : (a b : Point) (ps : List Point) → times a b (segments (reverse ps)) ≡ times a b (segments ps)

@@ -24,9 +24,7 @@ use Rattle.list_laws.proofs.Members.{in_left, in_right, in_append}
 at_start : (x : List Point) (s : Segment) → start_of x ≡ Some s → (r : List Point) × At [] s.from s.to r x
 at_start [] s e = cc
 at_start (p ∷ []) s e = cc
-at_start (p ∷ (q ∷ ps)) s e =
-    let d : record { from = p; to = q } ≡ s = cc in
-    (ps, subst (λ t. At [] t.from t.to ps (p ∷ (q ∷ ps))) d first)
+at_start (p ∷ (q ∷ ps)) s e = let d : record { from = p; to = q } ≡ s = cc in (ps, subst (λ t. At [] t.from t.to ps (p ∷ (q ∷ ps))) d first)
 
 at_of : (l : List Point) (a b : Point) (r xs : List Point) → xs ≡ reverse l ++ (a ∷ (b ∷ r)) → At l a b r xs
 at_of [] a b r xs e = subst (λ l. At [] a b r l) (sym e) first
@@ -92,8 +90,7 @@ module _ (qs done : List (List Point)) (x : List Point) (left pieces arcs : List
   piece_in = subst (λ l. In x l) are (in_right x done (x ∷ left) (inl refl))
 
   pub turn_tells : StartsTell (qs ++ pieces) → arcs ≡ grow_all qs done → StartTells arcs x × StartTells arcs (reverse x)
-  turn_tells h e =
-      let t = h x (in_right x qs pieces piece_in) in
+  turn_tells h e = let t = h x (in_right x qs pieces piece_in) in
       (λ y k s f g. t.0 y (there y k) s f g, λ y k s f g. t.1 y (there y k) s f g)
     where
       on : (y : List Point) → In y qs ⊎ In y done → In y (qs ++ pieces)

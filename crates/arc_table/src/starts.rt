@@ -54,6 +54,7 @@ pub fn last_segment_backwards(line: &[Position]) -> Segment
 }
 
 /// The number of the arc that equals the piece. The piece is compared with the one arc that starts as it does.
+#[tactic(auto, using(crate::proofs::Numbers::arc_number, crate::proofs::Numbers::number_got, crate::proofs::Alike::same_line_self))]
 pub fn equal_arc(
     arcs: &[Items<Position>],
     starts: &Starts,
@@ -79,6 +80,7 @@ pub fn equal_arc(
 
 /// The number of the arc whose reverse equals the piece. The piece is compared with the reverse of the one arc that starts as
 /// it does backwards.
+#[tactic(auto, using(crate::proofs::Numbers::arc_number, crate::proofs::Numbers::number_got, crate::proofs::Alike::same_line_self))]
 pub fn reversed_arc(
     arcs: &[Items<Position>],
     starts: &Starts,

@@ -42,5 +42,4 @@ shapes_end exact v vs is i ys before c le now = ap (λ (r : Reader (List Shape))
 
 -- a geometry with `coordinates` is what they give
 pub coordinates_are : (exact : Bool) (type : CoordinatesType) (ms : List (List ℕ × Json)) (v : Json) (c : Counts) → members_by.need (codes "coordinates") ms ≡ Ok v → typed_geometry exact (Coordinates type) ms c ≡ coordinates_shape exact type v c
-unfolding typed_geometry need
-coordinates_are exact type ms v c e = rw e refl
+coordinates_are exact type ms v c e = unfold typed_geometry need in rw e refl

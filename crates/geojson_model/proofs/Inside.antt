@@ -44,5 +44,4 @@ module _ {V : Type 0} (P : V → Type 0) where
   find_part name ms o e h = p.find_part P name ms o (p.given lookup_fault (members_by.find name ms) o e) h
 
   pub need_part : (name : List ℕ) (ms : List (List ℕ × V)) (v : V) → need name ms ≡ Ok v → AllByRecursion (λ m. P m.1) ms → P v
-  unfolding need
-  need_part name ms v e h = p.need_part P name ms v (p.given lookup_fault (members_by.need name ms) v e) h
+  need_part name ms v e h = unfold need in p.need_part P name ms v (p.given lookup_fault (members_by.need name ms) v e) h

@@ -26,8 +26,7 @@ module _ (exact : Bool) (v : Json) (vs items : List Json) (fs : List Featured) (
   then_rest z = with_features fs (and_then (λ f. λ d. and_then (λ gs. give (f ∷ gs)) (features_from exact (length fs + 1) vs d)) z)
 
   opened : then_rest (with_fault (fault_in (Some (length fs))) (feature_element exact v c)) ≡ whole
-  unfolding features_from
-  opened = sym (ap (λ z. with_features fs (features_from exact (length fs) z c)) at) ∙ now
+  opened = unfold features_from in sym (ap (λ z. with_features fs (features_from exact (length fs) z c)) at) ∙ now
 
   pub turns : (f : Featured) (after : Counts) → feature_element exact v c ≡ Ok (f, after) → with_features (fs ++ f ∷ []) (features_from exact (length (fs ++ f ∷ [])) vs after) ≡ whole
   turns f after e = rw (longer fs f) (sym (one_more fs f (features_from exact (length fs + 1) vs after)) ∙ (sym (ap (λ z. then_rest (with_fault (fault_in (Some (length fs))) z)) e) ∙ opened))
@@ -36,5 +35,4 @@ module _ (exact : Bool) (v : Json) (vs items : List Json) (fs : List Featured) (
   fails e n is f = sym opened ∙ (ap (λ z. then_rest (with_fault (fault_in (Some (length fs))) z)) f ∙ rw (← is) refl)
 
 pub ends : (exact : Bool) (items : List Json) (fs : List Featured) (c : Counts) (whole : Result (List Featured × Counts) GeoFault) → items ≡ [] → with_features fs (features_from exact (length fs) items c) ≡ whole → whole ≡ Ok (fs, c)
-unfolding features_from
-ends exact items fs c whole is now = sym now ∙ rw (is) (ap (λ z. Ok (z, c)) (append-nil fs))
+ends exact items fs c whole is now = unfold features_from in sym now ∙ rw (is) (ap (λ z. Ok (z, c)) (append-nil fs))

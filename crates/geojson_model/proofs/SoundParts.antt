@@ -54,8 +54,7 @@ array_position_yields exact v None e = fail_yields _ WrongKind
 array_position_yields exact v (Some vs) e = weaker_yields _ (Takes IsInput 1 (depth v)) (elements_position exact vs) (λ p h. (h.0, omega (arith, array_deep v vs e))) (elements_position_yields exact vs)
 
 pub position_yields : (exact : Bool) (v : Json) → Yields (Takes IsInput 1 (depth v)) (position exact v)
-unfolding position
-position_yields exact v = array_position_yields exact v (array_of v) refl
+position_yields exact v = unfold position in array_position_yields exact v (array_of v) refl
 
 -- ---- lists of parts
 
@@ -90,24 +89,19 @@ as_line_yields : (n : ℕ) (ps : List Point) → AllByRecursion (Takes IsInput 2
 as_line_yields n ps h = grind (arith, if_yields, give_yields, parts_are, parts_take, fail_yields)
 
 line_in_yields : (exact : Bool) (n : ℕ) (vs : List Json) → Shallow n vs → Yields (IfThere (Takes IsLine 2 n)) (line_in exact vs)
-unfolding line_in
-line_in_yields exact n vs h = grind (arith, then_yields, each_takes, position_yields, as_line_yields)
+line_in_yields exact n vs h = unfold line_in in grind (arith, then_yields, each_takes, position_yields, as_line_yields)
 
 line_yields : (exact : Bool) (v : Json) → Yields (IfThere (Takes IsLine 2 (depth v))) (line exact v)
-unfolding line
-line_yields exact v = some_elements_yield (Takes IsLine 2 (depth v)) (line_in exact) v (line_in_yields exact (depth v))
+line_yields exact v = unfold line in some_elements_yield (Takes IsLine 2 (depth v)) (line_in exact) v (line_in_yields exact (depth v))
 
 as_ring_yields : (n : ℕ) (ps : List Point) → AllByRecursion (Takes IsInput 2 n) ps → Yields (IfThere (Takes IsRing 2 n)) (as_ring ps)
-unfolding is_ring
-as_ring_yields n ps h = grind (arith, if_yields, give_yields, parts_are, parts_take, fail_yields)
+as_ring_yields n ps h = unfold is_ring in grind (arith, if_yields, give_yields, parts_are, parts_take, fail_yields)
 
 ring_in_yields : (exact : Bool) (n : ℕ) (vs : List Json) → Shallow n vs → Yields (IfThere (Takes IsRing 2 n)) (ring_in exact vs)
-unfolding ring_in
-ring_in_yields exact n vs h = grind (arith, then_yields, each_takes, position_yields, as_ring_yields)
+ring_in_yields exact n vs h = unfold ring_in in grind (arith, then_yields, each_takes, position_yields, as_ring_yields)
 
 ring_yields : (exact : Bool) (v : Json) → Yields (IfThere (Takes IsRing 2 (depth v))) (ring exact v)
-unfolding ring
-ring_yields exact v = some_elements_yield (Takes IsRing 2 (depth v)) (ring_in exact) v (ring_in_yields exact (depth v))
+ring_yields exact v = unfold ring in some_elements_yield (Takes IsRing 2 (depth v)) (ring_in exact) v (ring_in_yields exact (depth v))
 
 -- ---- polygons
 
@@ -152,8 +146,7 @@ shape_in_yields exact type.Point n vs h =
 shape_in_yields exact type.MultiPoint n vs h =
     then_yields _ (IfThere (SoundIn (suc n))) (each (position exact) vs) _ (each_takes IsInput 1 (position exact) (position_yields exact) n vs h)
     (λ ps t. give_yields (IfThere (SoundIn (suc n))) (unless_empty g.MultiPoint ps) (of_list g.MultiPoint IsInput 2 n (suc n) (λ qs some all le. (sound-points qs some all, rw (nest_at.points qs) (omega (arith, le)))) ps t))
-shape_in_yields exact type.LineString n vs h =
-    then_yields _ (IfThere (SoundIn (suc n))) (line_in exact vs) _ (line_in_yields exact n vs h)
+shape_in_yields exact type.LineString n vs h = then_yields _ (IfThere (SoundIn (suc n))) (line_in exact vs) _ (line_in_yields exact n vs h)
     (λ o t. give_yields (IfThere (SoundIn (suc n))) (map_some g.Line o) (of_option g.Line (Takes IsLine 2 n) (suc n) (λ ps k. (sound-line ps k.0, rw (nest_at.line ps) (omega (arith, k.1)))) o t))
 shape_in_yields exact type.MultiLineString n vs h =
     then_yields _ (IfThere (SoundIn (suc n))) (kept (line exact) vs) _ (kept_takes IsLine 2 (line exact) (line_yields exact) n vs h)

@@ -56,15 +56,13 @@ module _ (exact : Bool) (n : ℕ) (ms : List (List ℕ × Json)) (inside : Shall
       then_yields (λ ss. (m : ℕ) × ((m < n) × SoundInside m ss)) (IfThere (SoundIn n)) (need_as (codes "geometries") (shapes exact) ms) _
       (need_as_yields _ (codes "geometries") (shapes exact) ms (λ v e. let lt = need_part (Shallower n) (codes "geometries") ms v e inside in weaker_yields (SoundInside (depth v)) _ (shapes exact v) (λ ss h. (depth v, (lt, h))) (inner v lt)))
       (λ ss h. group_yields n ss h.0 h.1.0 h.1.1)
-  typed_yields (type.Coordinates t) =
-      need_as_yields (IfThere (SoundIn n)) (codes "coordinates") (coordinates_shape exact t) ms
+  typed_yields (type.Coordinates t) = need_as_yields (IfThere (SoundIn n)) (codes "coordinates") (coordinates_shape exact t) ms
       (λ v e. weaker_yields (IfThere (SoundIn (suc (depth v)))) (IfThere (SoundIn n)) (coordinates_shape exact t v)
       (there_weaker (SoundIn (suc (depth v))) (SoundIn n) (λ s h. (h.0, omega (arith, h.1, need_part (Shallower n) (codes "coordinates") ms v e inside))))
       (coordinates_shape_yields exact t v))
 
   members_yield : Yields (IfThere (SoundIn n)) (geometry exact ms)
-  unfolding geometry
-  members_yield = grind (arith, then_yields, pure_yields, typed_yields)
+  members_yield = unfold geometry in grind (arith, then_yields, pure_yields, typed_yields)
 
 -- ---- all levels
 
@@ -89,8 +87,7 @@ module _ (exact : Bool) (v : Json) (inner : (w : Json) → depth w < depth v →
 
 below : (exact : Bool) (n : ℕ) (v : Json) → depth v < n → IsReadSound exact v
 below exact zero v lt = absurd (omega arith)
-below exact (suc n) v lt =
-    let inner : (w : Json) → depth w < depth v → IsReadSound exact w = λ w less. below exact n w (omega arith) in
+below exact (suc n) v lt = let inner : (w : Json) → depth w < depth v → IsReadSound exact w = λ w less. below exact n w (omega arith) in
     record { one = one_yields exact v inner (object_of v) refl; many = many_yield exact v inner (array_of v) refl }
 
 pub read_sound : (exact : Bool) (v : Json) → IsReadSound exact v

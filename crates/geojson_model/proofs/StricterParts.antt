@@ -20,8 +20,7 @@ use Rattle.geojson_model.proofs.Stricter.{Stricter, then_stricter, give_stricter
 -- ---- coordinates and positions
 
 coordinate_stricter : (v : Json) → Stricter (coordinate true v) (coordinate false v)
-unfolding coordinate
-coordinate_stricter v = grind (arith, fail_stricter, fail_stricter, give_stricter)
+coordinate_stricter v = unfold coordinate in grind (arith, fail_stricter, fail_stricter, give_stricter)
 
 extra_kept : (b : Bool) (c : Counts) → (count_extra b c).rounded ≡ c.rounded
 extra_kept b c = grind arith
@@ -36,8 +35,7 @@ array_position_stricter None = fail_stricter WrongKind (fail WrongKind)
 array_position_stricter (Some vs) = elements_position_stricter vs
 
 positions_stricter : (vs : List Json) → Stricter (each (position true) vs) (each (position false) vs)
-unfolding position
-positions_stricter = each_stricter (position true) (position false) (λ v. array_position_stricter (array_of v))
+positions_stricter = unfold position in each_stricter (position true) (position false) (λ v. array_position_stricter (array_of v))
 
 -- ---- lines and rings
 
@@ -46,12 +44,10 @@ unfolding some_elements
 some_elements_stricter m n h v = grind (arith, then_stricter, fail_stricter, count_stricter, give_stricter, if_some_stricter)
 
 line_in_stricter : (vs : List Json) → Stricter (line_in true vs) (line_in false vs)
-unfolding line_in
-line_in_stricter vs = grind (arith, then_stricter, positions_stricter, if_stricter, give_stricter, fail_stricter)
+line_in_stricter vs = unfold line_in in grind (arith, then_stricter, positions_stricter, if_stricter, give_stricter, fail_stricter)
 
 line_stricter : (v : Json) → Stricter (line true v) (line false v)
-unfolding line
-line_stricter = some_elements_stricter (line_in true) (line_in false) line_in_stricter
+line_stricter = unfold line in some_elements_stricter (line_in true) (line_in false) line_in_stricter
 
 as_ring_stricter : (ps : List Point) → Stricter (as_ring ps) (as_ring ps)
 as_ring_stricter ps = grind (arith, if_stricter, give_stricter, fail_stricter)
@@ -68,8 +64,7 @@ polygon_in_stricter [] = give_stricter None
 polygon_in_stricter (v ∷ vs) = search (then_stricter, ring_stricter, kept_stricter, give_stricter, arith)
 
 polygon_stricter : (v : Json) → Stricter (polygon true v) (polygon false v)
-unfolding polygon
-polygon_stricter = some_elements_stricter (polygon_in true) (polygon_in false) polygon_in_stricter
+polygon_stricter = unfold polygon in some_elements_stricter (polygon_in true) (polygon_in false) polygon_in_stricter
 
 -- ---- shapes
 
@@ -83,5 +78,4 @@ shape_in_stricter type.Polygon vs = then_stricter (polygon_in true vs) (polygon_
 shape_in_stricter type.MultiPolygon vs = then_stricter (kept (polygon true) vs) (kept (polygon false) vs) _ _ (kept_stricter (polygon true) (polygon false) polygon_stricter vs) (λ rss. give_stricter (unless_empty g.Areas rss))
 
 pub coordinates_shape_stricter : (t : CoordinatesType) (v : Json) → Stricter (coordinates_shape true t v) (coordinates_shape false t v)
-unfolding coordinates_shape
-coordinates_shape_stricter t = some_elements_stricter (shape_in true t) (shape_in false t) (shape_in_stricter t)
+coordinates_shape_stricter t = unfold coordinates_shape in some_elements_stricter (shape_in true t) (shape_in false t) (shape_in_stricter t)

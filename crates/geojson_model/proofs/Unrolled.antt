@@ -47,28 +47,22 @@ object_in_shape exact v x ms e f = absurd cc
 
 -- An object is read as the geometry with its members.
 pub shape_object : (exact : Bool) (v : Json) (ms : List (List ℕ × Json)) → object_of v ≡ Some ms → shape exact v ≡ geometry exact ms
-unfolding object_of
-shape_object exact v ms e = object_in_shape exact v (out-Json v) ms refl e
+shape_object exact v ms e = unfold object_of in object_in_shape exact v (out-Json v) ms refl e
 
 object_in_none : (exact : Bool) (v : Json) (x : Json-F Json) → out-Json v ≡ x → object_in x ≡ None → shape exact v ≡ fail WrongKind
-unfolding shape
-object_in_none exact v x h k = grind (arith, unrolled)
+object_in_none exact v x h k = unfold shape in grind (arith, unrolled)
 
 -- Nothing else is a geometry.
 pub shape_other : (exact : Bool) (v : Json) → object_of v ≡ None → shape exact v ≡ fail WrongKind
-unfolding object_of
-shape_other exact v e = object_in_none exact v (out-Json v) refl e
+shape_other exact v e = unfold object_of in object_in_none exact v (out-Json v) refl e
 
 -- The elements of an array are read as geometries in order, those left out that are null.
 pub shapes_array : (exact : Bool) (v : Json) (vs : List Json) → array_of v ≡ Some vs → shapes exact v ≡ kept (shape exact) vs
-unfolding array_of shapes shape
-shapes_array exact v vs e = grind (arith, unrolled, gather_map)
+shapes_array exact v vs e = unfold array_of shapes shape in grind (arith, unrolled, gather_map)
 
 array_in_none : (exact : Bool) (v : Json) (x : Json-F Json) → out-Json v ≡ x → array_in x ≡ None → shapes exact v ≡ fail WrongKind
-unfolding shapes
-array_in_none exact v x h k = grind (arith, unrolled)
+array_in_none exact v x h k = unfold shapes in grind (arith, unrolled)
 
 -- Nothing else is read as `geometries`.
 pub shapes_other : (exact : Bool) (v : Json) → array_of v ≡ None → shapes exact v ≡ fail WrongKind
-unfolding array_of
-shapes_other exact v e = array_in_none exact v (out-Json v) refl e
+shapes_other exact v e = unfold array_of in array_in_none exact v (out-Json v) refl e

@@ -22,8 +22,7 @@ loop-piece-preserved c = (
 )
 
 pub find_or_add-requires-clause-long : goal.find_or_add-requires-clause-long
-find_or_add-requires-clause-long c =
-    c.requires.long c.in-Some.piece.now
+find_or_add-requires-clause-long c = c.requires.long c.in-Some.piece.now
     (piece_in c.args.arcs.now.items c.loop-piece.invariant.0 c.in-Some.piece.now c.next.new.self c.args.pieces c.loop-piece.arcs.items
     (ap (λ l. c.loop-piece.invariant.0 ++ l) (sym c.in-Some.ensures.steps) ∙ c.loop-piece.invariant.1))
 

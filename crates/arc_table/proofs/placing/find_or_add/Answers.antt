@@ -15,14 +15,12 @@ returns-in-Some-clause-named c =
     (place_old c.args.arcs.now.items c.args.piece.now c.in-Some.r (ap (λ l. found 0 l c.args.piece.now) (sym c.as_slice.ensures.value) ∙ sym c.find.ensures.found ∙ c.in-Some.is)).1
 
 pub returns-clause-arcs : goal.returns-clause-arcs
-returns-clause-arcs c =
-    c.in_ok-push.ensures.items
+returns-clause-arcs c = c.in_ok-push.ensures.items
     ∙ ap (λ p. c.args.arcs.now.items ++ (p ∷ [])) (c.of.ensures ∙ c.in_ok-positions.ensures)
     ∙ (place_new c.args.arcs.now.items c.args.piece.now (ap (λ l. found 0 l c.args.piece.now) (sym c.as_slice.ensures.value) ∙ sym c.find.ensures.found ∙ c.in_default.is)).0
 
 pub returns-clause-named : goal.returns-clause-named
-returns-clause-named c =
-    c.forward.ensures
+returns-clause-named c = c.forward.ensures
     ∙ ap (λ l. pos (length l)) c.as_slice-index.ensures.value
     ∙ (place_new c.args.arcs.now.items c.args.piece.now (ap (λ l. found 0 l c.args.piece.now) (sym c.as_slice.ensures.value) ∙ sym c.find.ensures.found ∙ c.in_default.is)).1
     ∙ ap (λ l. first_alike l c.args.piece.now) (sym (c.in_ok-push.ensures.items ∙ ap (λ p. c.args.arcs.now.items ++ (p ∷ [])) (c.of.ensures ∙ c.in_ok-positions.ensures)))

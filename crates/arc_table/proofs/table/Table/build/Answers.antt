@@ -36,14 +36,8 @@ add_line-requires-clause-tell c =
     (subst StartsTell (sym (every_piece c.args.pieces.now)) (structured_tells (all_pieces c.args.pieces.now) c.law.ensures.structured))
 
 pub add_line-requires-clause-long : goal.add_line-requires-clause-long
-add_line-requires-clause-long c = λ x k.
-    c.law.ensures.long x
-    (subst (λ l. In x l) (every_piece c.args.pieces.now)
+add_line-requires-clause-long c = λ x k. c.law.ensures.long x (subst (λ l. In x l) (every_piece c.args.pieces.now)
     (line_in (piece_lists c.args.pieces.now) c.loop-i.i c.of_stroke.result c.loop-i.arcs.items c.of_stroke.ensures c.loop-i.invariant.0 x k))
-
-pub returns-clause-table : goal.returns-clause-table
-returns-clause-table c =
-    built c.args.pieces.now c.loop-i.i c.loop-i.arcs.items c.loop-i.refs.items (omega (arith, c.loop-i-test.false, c.len-i-end.ensures)) c.loop-i.invariant.0 c.loop-i.invariant.1
 
 pub invariant_of-result : goal.invariant_of-result
 invariant_of-result c =
@@ -51,38 +45,16 @@ invariant_of-result c =
     built c.args.pieces.now c.loop-i.i c.loop-i.arcs.items c.loop-i.refs.items (omega (arith, c.loop-i-test.false, c.len-i-end.ensures)) c.loop-i.invariant.0 c.loop-i.invariant.1 in
     (subst IsTable (sym e) (kept c.args.pieces.now c.law.ensures.joined c.law.ensures.long c.law.ensures.clean), c.loop-i.invariant.3, c.loop-i.invariant.4)
 
-pub returns-clause-once : goal.returns-clause-once
-returns-clause-once c =
+pub returns : goal.returns
+returns c =
     let e : table c.loop-i.arcs.items c.loop-i.refs.items ≡ table_of c.args.pieces.now =
     built c.args.pieces.now c.loop-i.i c.loop-i.arcs.items c.loop-i.refs.items (omega (arith, c.loop-i-test.false, c.len-i-end.ensures)) c.loop-i.invariant.0 c.loop-i.invariant.1 in
-    subst (λ t. AreOnceIn t.arcs (line_segments (strokes c.args.pieces.now))) (sym e) (once_in_table c.args.pieces.now c.law.ensures.joined c.law.ensures.sharing c.law.ensures.once)
-
-pub returns-clause-pieces_once : goal.returns-clause-pieces_once
-returns-clause-pieces_once c =
-    let e : table c.loop-i.arcs.items c.loop-i.refs.items ≡ table_of c.args.pieces.now =
-    built c.args.pieces.now c.loop-i.i c.loop-i.arcs.items c.loop-i.refs.items (omega (arith, c.loop-i-test.false, c.len-i-end.ensures)) c.loop-i.invariant.0 c.loop-i.invariant.1 in
-    subst (λ t. AreOnceIn t.arcs (piece_segments (all_pieces c.args.pieces.now))) (sym e) (pieces_once c.args.pieces.now c.law.ensures.sharing c.law.ensures.once)
-
-pub returns-clause-all : goal.returns-clause-all
-returns-clause-all c =
-    let e : table c.loop-i.arcs.items c.loop-i.refs.items ≡ table_of c.args.pieces.now =
-    built c.args.pieces.now c.loop-i.i c.loop-i.arcs.items c.loop-i.refs.items (omega (arith, c.loop-i-test.false, c.len-i-end.ensures)) c.loop-i.invariant.0 c.loop-i.invariant.1 in
-    subst (λ t. AreAllIn t.arcs (line_segments (strokes c.args.pieces.now))) (sym e) (all_in_table c.args.pieces.now c.law.ensures.joined)
-
-pub returns-clause-named : goal.returns-clause-named
-returns-clause-named c =
-    let e : table c.loop-i.arcs.items c.loop-i.refs.items ≡ table_of c.args.pieces.now =
-    built c.args.pieces.now c.loop-i.i c.loop-i.arcs.items c.loop-i.refs.items (omega (arith, c.loop-i-test.false, c.len-i-end.ensures)) c.loop-i.invariant.0 c.loop-i.invariant.1 in
-    subst (λ t. map (map (arc_at t.arcs)) t.refs ≡ piece_lists c.args.pieces.now) (sym e) (named_lists c.args.pieces.now)
-
-pub returns-clause-joined : goal.returns-clause-joined
-returns-clause-joined c =
-    let e : table c.loop-i.arcs.items c.loop-i.refs.items ≡ table_of c.args.pieces.now =
-    built c.args.pieces.now c.loop-i.i c.loop-i.arcs.items c.loop-i.refs.items (omega (arith, c.loop-i-test.false, c.len-i-end.ensures)) c.loop-i.invariant.0 c.loop-i.invariant.1 in
-    subst (λ t. map (λ refs. rejoined (map (arc_at t.arcs) refs)) t.refs ≡ map (λ s. s.positions) (strokes c.args.pieces.now)) (sym e) (lines_of_table c.args.pieces.now c.law.ensures.joined)
-
-pub returns-clause-closed : goal.returns-clause-closed
-returns-clause-closed c =
-    let e : table c.loop-i.arcs.items c.loop-i.refs.items ≡ table_of c.args.pieces.now =
-    built c.args.pieces.now c.loop-i.i c.loop-i.arcs.items c.loop-i.refs.items (omega (arith, c.loop-i-test.false, c.len-i-end.ensures)) c.loop-i.invariant.0 c.loop-i.invariant.1 in
-    subst (λ t. RingsClose t.arcs (strokes c.args.pieces.now) t.refs) (sym e) (closed_in_table c.args.pieces.now c.law.ensures.joined c.law.ensures.long c.law.ensures.clean)
+    record {
+      table = e;
+      once = subst (λ t. AreOnceIn t.arcs (line_segments (strokes c.args.pieces.now))) (sym e) (once_in_table c.args.pieces.now c.law.ensures.joined c.law.ensures.sharing c.law.ensures.once);
+      pieces_once = subst (λ t. AreOnceIn t.arcs (piece_segments (all_pieces c.args.pieces.now))) (sym e) (pieces_once c.args.pieces.now c.law.ensures.sharing c.law.ensures.once);
+      all = subst (λ t. AreAllIn t.arcs (line_segments (strokes c.args.pieces.now))) (sym e) (all_in_table c.args.pieces.now c.law.ensures.joined);
+      named = subst (λ t. map (map (arc_at t.arcs)) t.refs ≡ piece_lists c.args.pieces.now) (sym e) (named_lists c.args.pieces.now);
+      joined = subst (λ t. map (λ refs. rejoined (map (arc_at t.arcs) refs)) t.refs ≡ map (λ s. s.positions) (strokes c.args.pieces.now)) (sym e) (lines_of_table c.args.pieces.now c.law.ensures.joined);
+      closed = subst (λ t. RingsClose t.arcs (strokes c.args.pieces.now) t.refs) (sym e) (closed_in_table c.args.pieces.now c.law.ensures.joined c.law.ensures.long c.law.ensures.clean);
+    }

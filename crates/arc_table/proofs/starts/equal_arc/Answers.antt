@@ -1,0 +1,21 @@
+use Rattle.std.proofs.Common.{rules, ◌≡◌, ◌<◌, true, false, length, ap, sym, ◌∙◌, Some, reverse, arith}
+use Rattle.arc_table.specs.Arcs.{same_line}
+use Rattle.arc_table.proofs.Alike.{same_line_self}
+use Rattle.arc_table.proofs.Numbers.{arc_got}
+use Rattle.arc_table.proofs.starts.equal_arc.Goals as goal
+
+pub offset_bounds-arcs-i : goal.offset_bounds-arcs-i
+offset_bounds-arcs-i c =
+    let n : Some c.in_ok-i.i ≡ c.arc_from.result = search rules in
+    let h : c.in_ok-i.i < length c.args.arcs.now = (arc_got c.args.arcs.now c.args.starts.now c.args.piece.now c.first_segment.result c.in_ok-i.i c.requires.known c.requires.tells c.first_segment.ensures (n ∙ c.arc_from.ensures)).0 in
+    search rules
+
+pub bounds-arcs-i : goal.bounds-arcs-i
+bounds-arcs-i c =
+    let n : Some c.in_ok-i.i ≡ c.arc_from.result = search rules in
+    (arc_got c.args.arcs.now c.args.starts.now c.args.piece.now c.first_segment.result c.in_ok-i.i c.requires.known c.requires.tells c.first_segment.ensures (n ∙ c.arc_from.ensures)).0
+
+pub returns-else-is_same_line-clause-never : goal.returns-else-is_same_line-clause-never
+returns-else-is_same_line-clause-never c =
+    let n : Some c.in_ok-i.i ≡ c.arc_from.result = search rules in
+    grind (arith, arc_got c.args.arcs.now c.args.starts.now c.args.piece.now c.first_segment.result c.in_ok-i.i c.requires.known c.requires.tells c.first_segment.ensures (n ∙ c.arc_from.ensures), same_line_self c.args.piece.now)

@@ -34,12 +34,6 @@ pub elements_at-returns : goal.elements_at-returns
 elements_at-returns t c = none_fails _ _
     (loop.turns_over Json 93 (spec.value_at is_utf8 c.args.deepest) _ _ _ _ _ c.loop.invariant c.loop-test.false)
 
-pub array_at-returns-in-Some : goal.array_at-returns-in-Some
-array_at-returns-in-Some t c = rw c.new.ensures.items (opened.is_closed Json 93 (spec.value_at is_utf8 c.args.deepest) c.args.bytes.now _ (rw c.skip.ensures at c.in-Some.ensures))
-
-pub array_at-returns : goal.array_at-returns
-array_at-returns t c = rw (opened.is_open Json 93 (spec.value_at is_utf8 c.args.deepest) c.args.bytes.now (rw c.skip.ensures at c.in_default.ensures)) c.elements_at.ensures
-
 pub members_at-returns-in_err-name : goal.members_at-returns-in_err-name
 members_at-returns-in_err-name t c = let p = err_from_is_err_and c.from_residual.result c.from_residual.ensures.1 in
     rw (p.1, p.2) (loop.fails (List ℕ × Json) 125 (spec.member_at is_utf8 (spec.value_at is_utf8 c.args.deepest)) _ _ _ _ _ c.loop.invariant _ c.loop-test.true (rw c.skip.ensures at c.in_err-name.ensures))
@@ -63,28 +57,6 @@ members_at-loop-preserved t c = rw c.in_ok-push.ensures.items
 pub members_at-returns : goal.members_at-returns
 members_at-returns t c = none_fails _ _
     (loop.turns_over (List ℕ × Json) 125 (spec.member_at is_utf8 (spec.value_at is_utf8 c.args.deepest)) _ _ _ _ _ c.loop.invariant c.loop-test.false)
-
-pub object_at-returns-in-Some : goal.object_at-returns-in-Some
-object_at-returns-in-Some t c = rw c.new.ensures.items (opened.is_closed (List ℕ × Json) 125 (spec.member_at is_utf8 (spec.value_at is_utf8 c.args.deepest)) c.args.bytes.now _ (rw c.skip.ensures at c.in-Some.ensures))
-
-pub object_at-returns : goal.object_at-returns
-object_at-returns t c = rw (opened.is_open (List ℕ × Json) 125 (spec.member_at is_utf8 (spec.value_at is_utf8 c.args.deepest)) c.args.bytes.now (rw c.skip.ensures at c.in_default.ensures)) c.members_at.ensures
-
-pub member_at-returns-in_err-name : goal.member_at-returns-in_err-name
-member_at-returns-in_err-name t c = let p = err_from_is_err_and c.from_residual.result c.from_residual.ensures.1 in
-    rw (p.1, p.2) (opened.name_fails is_utf8 (spec.value_at is_utf8 c.args.deepest) c.args.bytes.now _ c.in_err-name.ensures)
-
-pub member_at-returns-in_default : goal.member_at-returns-in_default
-member_at-returns-in_default t c = none_fails _ _
-    (opened.no_colon is_utf8 (spec.value_at is_utf8 c.args.deepest) c.args.bytes.now _ _ c.in_ok-name.ensures (rw c.skip-rest.ensures at c.in_default.ensures))
-
-pub member_at-returns-in_err-value : goal.member_at-returns-in_err-value
-member_at-returns-in_err-value t c =
-    let p = err_from_is_err_and c.from_residual-in_err-value.result c.from_residual-in_err-value.ensures.1 in
-    rw (p.1, p.2) (opened.value_fails is_utf8 (spec.value_at is_utf8 c.args.deepest) c.args.bytes.now _ _ c.in_ok-name.ensures _ (rw c.skip-rest.ensures at c.in-Some.ensures) _ (rw c.skip.ensures at c.in_err-value.ensures))
-
-pub member_at-returns : goal.member_at-returns
-member_at-returns t c = opened.member_found is_utf8 (spec.value_at is_utf8 c.args.deepest) c.args.bytes.now _ _ c.in_ok-name.ensures _ (rw c.skip-rest.ensures at c.in-Some.ensures) _ _ (rw c.skip.ensures at c.in_ok-value.ensures)
 
 pub value_at-returns-in_default : goal.value_at-returns-in_default
 value_at-returns-in_default t c = none_fails _ _ (opened.at_nothing is_utf8 c.args.deepest c.args.bytes.now c.in_default.ensures)

@@ -88,7 +88,8 @@ module _ (ss : List SplitStroke) (split : AllSplit ss) where
     inside s k x m = in_flat (λ t. t.pieces) s x ss k m
 
     meet : (s : SplitStroke) → In s ss → Meet (map (arc_at (arcs_of (all_pieces ss))) (map (index_in (arcs_of (all_pieces ss))) s.pieces))
-    meet s k = let h = each_of IsSplit ss s split k in
+    meet s k =
+        let h = each_of IsSplit ss s split k in
         subst Meet (sym (pieces_named (all_pieces ss) s.pieces (inside s k)))
         (pieces_meet s.pieces (λ x m. long x (inside s k x m)) (h.segments ∙ ap segments (sym h.joins)))
 

@@ -90,7 +90,8 @@ module _ (qs done : List (List Point)) (x : List Point) (left pieces arcs : List
   piece_in = subst (λ l. In x l) are (in_right x done (x ∷ left) (inl refl))
 
   pub turn_tells : StartsTell (qs ++ pieces) → arcs ≡ grow_all qs done → StartTells arcs x × StartTells arcs (reverse x)
-  turn_tells h e = let t = h x (in_right x qs pieces piece_in) in
+  turn_tells h e =
+      let t = h x (in_right x qs pieces piece_in) in
       (λ y k s f g. t.0 y (there y k) s f g, λ y k s f g. t.1 y (there y k) s f g)
     where
       on : (y : List Point) → In y qs ⊎ In y done → In y (qs ++ pieces)

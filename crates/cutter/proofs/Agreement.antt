@@ -51,7 +51,8 @@ module _ (f g : Point → Bool) where
 
   -- the same pieces
   pub by_agree : (s : Stroke) → ((x : Point) → In x s.positions → f x ≡ g x) → split_by f s ≡ split_by g s
-  by_agree s h = let e = from_agree s.address s.closed s.positions h in
+  by_agree s h =
+      let e = from_agree s.address s.closed s.positions h in
       ap (λ l. split s.address s.closed l (split_at f l)) e
       ∙ ap (λ l. split s.address s.closed (from_start g s) l) (split_agree (from_start g s) (λ x k. h x (in_start g s.address s.closed s.positions x k)))
 

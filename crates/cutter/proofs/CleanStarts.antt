@@ -32,7 +32,8 @@ clean_of zs g ys h k m e = grind (arith, moves_any)
 
 -- a ring that is turned to another start is clean
 clean_turned : (ls : List Stroke) (p q : Point) (ps : List Point) → last q ps ≡ p → Moves p (q ∷ ps) → (k : ℕ) → k < length (p ∷ (q ∷ ps)) → IsCleanList true (turned k (p ∷ (q ∷ ps)))
-clean_turned ls p q ps e m k n = let more : Moves p (q ∷ (ps ++ (q ∷ []))) = moves_more ls p (q ∷ ps) q m (λ z. m.0 (sym e ∙ z)) in
+clean_turned ls p q ps e m k n =
+    let more : Moves p (q ∷ (ps ++ (q ∷ []))) = moves_more ls p (q ∷ ps) q m (λ z. m.0 (sym e ∙ z)) in
     let good : Good Any ((p ∷ (q ∷ ps)) ++ (q ∷ [])) = goes_any p q (ps ++ (q ∷ [])) more in
     let ended : p ∷ (q ∷ ps) ≡ front_of p (q ∷ ps) ++ (p ∷ []) = front_last p (q ∷ ps) ∙ ap (λ z. front_of p (q ∷ ps) ++ (z ∷ [])) e in
     let t = turned_is p p q ps e k n in
@@ -43,7 +44,8 @@ clean_start : (ls : List Stroke) (at : Address) (c : Bool) (ps : List Point) →
 clean_start ls at c [] k h = elim h [ ]
 clean_start ls at c (p ∷ []) k h = elim h [ ]
 clean_start ls at false (p ∷ (q ∷ ps)) k h = h
-clean_start ls at true (p ∷ (q ∷ ps)) k h = let c = ring_cut ls at p (q ∷ ps) k in
+clean_start ls at true (p ∷ (q ∷ ps)) k h =
+    let c = ring_cut ls at p (q ∷ ps) k in
     clean_turned ls p q ps (h.1 refl) h.0 (start_in (is_cut ls) (p ∷ (q ∷ ps))) (start_cut (is_cut ls) c.0 p (p ∷ (q ∷ ps)) c.1 c.2).0
 
 starts_from : (ls ms : List Stroke) → ((s : Stroke) → In s ms → In s ls) → AllClean ms → AllClean (strokes (map (split_of ls) ms))

@@ -46,7 +46,8 @@ joins : (ls : List Stroke) (at : Address) (c : Bool) (ps : List Point) → In (l
 joins ls at c [] k h = elim h [ ]
 joins ls at c (p ∷ []) k h = elim h [ ]
 joins ls at false (p ∷ (q ∷ ps)) k h = pieces_join (is_cut ls) p q ps
-joins ls at true (p ∷ (q ∷ ps)) k h = let c = ring_cut ls at p (q ∷ ps) k in
+joins ls at true (p ∷ (q ∷ ps)) k h =
+    let c = ring_cut ls at p (q ∷ ps) k in
     let b = start_cut (is_cut ls) c.0 p (p ∷ (q ∷ ps)) c.1 c.2 in
     let n : start_in (is_cut ls) (p ∷ (q ∷ ps)) < length (p ∷ (q ∷ ps)) = b.0 in
     split_joins (is_cut ls) (turned (start_in (is_cut ls) (p ∷ (q ∷ ps))) (p ∷ (q ∷ ps)))
@@ -69,7 +70,8 @@ times_start : (ls : List Stroke) (a b : Point) (at : Address) (c : Bool) (ps : L
 times_start ls a b at c [] k h = elim h [ ]
 times_start ls a b at c (p ∷ []) k h = elim h [ ]
 times_start ls a b at false (p ∷ (q ∷ ps)) k h = refl
-times_start ls a b at true (p ∷ (q ∷ ps)) k h = let c = ring_cut ls at p (q ∷ ps) k in
+times_start ls a b at true (p ∷ (q ∷ ps)) k h =
+    let c = ring_cut ls at p (q ∷ ps) k in
     let t = start_cut (is_cut ls) c.0 p (p ∷ (q ∷ ps)) c.1 c.2 in
     let j : ℕ = start_in (is_cut ls) (p ∷ (q ∷ ps)) in
     let n : start_in (is_cut ls) (p ∷ (q ∷ ps)) ≤ length (q ∷ ps) = omega (arith, t.0) in

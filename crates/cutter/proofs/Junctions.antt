@@ -56,11 +56,13 @@ visit_of ls a b c v = elim v.seen [
 ]
 
 pub via_turn : (ls : List Stroke) (a b : Point) → is_cut ls b ≡ false → Via ls a b a → ⊥
-via_turn ls a b free v = let w = visit_of ls a b a v in
+via_turn ls a b free v =
+    let w = visit_of ls a b a v in
     no_turn ls b free w.0 w.1 (elim w.2 [ inl e ↦ e.0 ∙ sym e.1 | inr e ↦ e.0 ∙ sym e.1 ])
 
 pub via_two : (ls : List Stroke) (a b c d e : Point) → is_cut ls b ≡ false → Via ls a b c → Via ls d b e → (a ≡ d) ⊎ (a ≡ e)
-via_two ls a b c d e free v w = let x = visit_of ls a b c v in
+via_two ls a b c d e free v w =
+    let x = visit_of ls a b c v in
     let y = visit_of ls d b e w in
     on x.0 y.0 y.2 (two_neighbors ls b free x.0 y.0 x.1 y.1 a (elim x.2 [ inl e ↦ inl (sym e.0) | inr e ↦ inr (sym e.1) ]))
   where

@@ -46,7 +46,8 @@ ends : (ls : List Stroke) (at : Address) (c : Bool) (ps : List Point) → In (li
 ends ls at c [] m h = elim h [ ]
 ends ls at c (p ∷ []) m h = elim h [ ]
 ends ls at false (p ∷ (q ∷ ps)) m h = grind (arith, end_cut, same_self, or-true)
-ends ls at true (p ∷ (q ∷ ps)) m h = let c = ring_cut ls at p (q ∷ ps) m in
+ends ls at true (p ∷ (q ∷ ps)) m h =
+    let c = ring_cut ls at p (q ∷ ps) m in
     let s = start_cut (is_cut ls) c.0 p (p ∷ (q ∷ ps)) c.1 c.2 in
     let t = turned_is p p q ps (h.1 refl) (start_in (is_cut ls) (p ∷ (q ∷ ps))) s.0 in
     subst (λ l. EndsPass (is_cut ls) l) (sym t.1) (s.1, ap (is_cut ls) t.2 ∙ s.1)
@@ -54,7 +55,8 @@ ends ls at true (p ∷ (q ∷ ps)) m h = let c = ring_cut ls at p (q ∷ ps) m i
 -- the start of a ring is one of its indexes
 starts : (ls : List Stroke) (at : Address) (c : Bool) (ps : List Point) → In (line at c ps) ls → IsClean (line at c ps) → c ≡ true → start_in (is_cut ls) ps < length ps
 starts ls at c [] m h e = elim h [ ]
-starts ls at c (p ∷ ps) m h e = let r = ring_cut ls at p ps (subst (λ b. In (line at b (p ∷ ps)) ls) e m) in
+starts ls at c (p ∷ ps) m h e =
+    let r = ring_cut ls at p ps (subst (λ b. In (line at b (p ∷ ps)) ls) e m) in
     (start_cut (is_cut ls) r.0 p (p ∷ ps) r.1 r.2).0
 
 module _ (ls : List Stroke) (v : Answers) (known : AnswersFor ls v) (s : Stroke) (m : In s ls) where

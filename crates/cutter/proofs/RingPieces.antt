@@ -61,7 +61,8 @@ turned_is d p q ps e (suc j) l = grind (arith, drop-cons (p ∷ (q ∷ ps)) (suc
 
 pub ring_pieces : (ls : List Stroke) (at : Address) (p q : Point) (ps : List Point) → In (line at true (p ∷ (q ∷ ps))) ls → last q ps ≡ p → Moves p (q ∷ ps) →
     AllWalks (is_cut ls) (Via ls) (pieces_of ls (line at true (p ∷ (q ∷ ps))))
-ring_pieces ls at p q ps k e m = let c = ring_cut ls at p (q ∷ ps) k in
+ring_pieces ls at p q ps k e m =
+    let c = ring_cut ls at p (q ∷ ps) k in
     let s = start_cut (is_cut ls) c.0 p (p ∷ (q ∷ ps)) c.1 c.2 in
     let t = turned_is p p q ps e (start_in (is_cut ls) (p ∷ (q ∷ ps))) s.0 in
     let more : Moves p (q ∷ (ps ++ (q ∷ []))) = moves_more ls p (q ∷ ps) q m (λ z. m.0 (sym e ∙ z)) in

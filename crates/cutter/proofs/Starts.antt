@@ -34,7 +34,8 @@ start_cut cut q d ps k h = on (filter cut ps) refl (in_filter cut q ps k h)
   where
     on : (fs : List Point) → filter cut ps ≡ fs → In q fs → (start_in cut ps < length ps) × (cut (get_or ps (start_in cut ps) d) ≡ true)
     on [] e m = elim m [ ]
-    on (f ∷ fs) e m = let y = least_of f fs in
+    on (f ∷ fs) e m =
+        let y = least_of f fs in
         let inside : In (least_of f fs) (filter cut ps) = subst (λ l. In (least_of f fs) l) (sym e) (least_in f fs) in
         let there = from_filter cut (least_of f fs) ps inside in
         let passes : is_least (least_of f fs) (filter cut ps) ≡ true = subst (λ l. is_least (least_of f fs) l ≡ true) (sym e) (same_self (least_of f fs)) in
@@ -54,7 +55,8 @@ pub ring_cut : (ls : List Stroke) (at : Address) (a : Point) (as' : List Point) 
 ring_cut ls at a as' k = on (list_all (λ q. not (is_junction ls q)) (a ∷ as')) refl
   where
     on : (b : Bool) → list_all (λ q. not (is_junction ls q)) (a ∷ as') ≡ b → (q : Point) × In q (a ∷ as') × (is_cut ls q ≡ true)
-    on true e = let m = least_of a as' in
+    on true e =
+        let m = least_of a as' in
         let loose : starts_free_ring ls (least_of a as') (line at true (a ∷ as')) ≡ true = ap (λ b. b && same (least_of a as') (least_of a as')) e ∙ same_self (least_of a as') in
         (least_of a as', least_in a as', ap (λ b. is_junction ls (least_of a as') || b) (any_from_in (starts_free_ring ls (least_of a as')) (line at true (a ∷ as')) ls k loose) ∙ or-true (is_junction ls (least_of a as')))
     on false e = let j = not_all (is_junction ls) (a ∷ as') e in (j.0, j.1, ap (λ b. b || list_any (starts_free_ring ls j.0) ls) j.2)

@@ -27,7 +27,8 @@ stroke_walks ls at closed ps h k = grind (arith, ring_pieces, open_pieces)
 
 -- each piece of the lines is a walk from cut to cut
 pub piece_of : (ls : List Stroke) → AllClean ls → (x : List Point) → In x (pieces ls) → IsPieceOf ls x
-piece_of ls clean x k = let r = from_flat (pieces_of ls) x ls k in
+piece_of ls clean x k =
+    let r = from_flat (pieces_of ls) x ls k in
     each_of (IsWalk (is_cut ls) (Via ls)) (pieces_of ls r.0) x (stroke_walks ls r.0.address r.0.closed r.0.positions r.1 (clean_in r.0 ls clean r.1)) r.2
 
 two_or_more : (ls : List Stroke) (x : List Point) → IsPieceOf ls x → 2 ≤ length x

@@ -49,7 +49,8 @@ module _ (Via : Point → Point → Point → Type 0) where
   -- the ring a, b, .. is xs with a at its end
   pub turned_good : (k : ℕ) (a b : Point) (ws xs : List Point) → a ∷ (b ∷ ws) ≡ xs ++ (a ∷ []) → k ≤ length xs → Good ((a ∷ (b ∷ ws)) ++ (b ∷ [])) → Good (turned k (a ∷ (b ∷ ws)))
   turned_good zero a b ws xs e l h = subst (λ zs. Good zs) (sym (append-nil (a ∷ (b ∷ ws)))) (good_left (a ∷ (b ∷ ws)) (b ∷ []) h)
-  turned_good (suc j) a b ws xs e l h = let n : suc j + 1 ≡ suc (suc j) = omega arith in
+  turned_good (suc j) a b ws xs e l h =
+      let n : suc j + 1 ≡ suc (suc j) = omega arith in
       let whole : (a ∷ (b ∷ ws)) ++ (b ∷ []) ≡ xs ++ (a ∷ (b ∷ [])) = ap (λ zs. zs ++ (b ∷ [])) e ∙ append_assoc xs (a ∷ []) (b ∷ []) in
       let back : Good (drop (suc j) xs ++ (a ∷ (b ∷ []))) = subst (λ zs. Good zs) (drop-append-le (suc j) xs (a ∷ (b ∷ [])) l) (good_drop (suc j) (xs ++ (a ∷ (b ∷ []))) (subst (λ zs. Good zs) whole h)) in
       let front : Goes a b (take j ws) = goes_take a b j ws (good_left (a ∷ (b ∷ ws)) (b ∷ []) h) in

@@ -54,7 +54,8 @@ module _ (cut : Point → Bool) (Via : Point → Point → Point → Type 0) whe
 
     -- both ways from a segment of a piece
     pub both_runs : (p q : Point) (t : List Point) → IsPiece p q t → {l : List Point} {a b : Point} {r xs : List Point} → At l a b r xs → xs ≡ p ∷ (q ∷ t) → Run b a l × Run a b r
-    both_runs p q t h (first {a} {b} {r}) e = let ea : a ≡ p = cc in
+    both_runs p q t h (first {a} {b} {r}) e =
+        let ea : a ≡ p = cc in
         let eb : b ≡ q = cc in
         let er : r ≡ t = cc in
         (stop (ap cut ea ∙ h.begins), subst (λ x. Run x b r) (sym ea) (subst (λ x. Run p x r) (sym eb) (subst (λ x. Run p q x) (sym er) h.runs)))
@@ -82,7 +83,8 @@ module _ (cut : Point → Bool) (Via : Point → Point → Point → Type 0) whe
     pub other_way : (p q : Point) (t : List Point) (p' q' : Point) (t' : List Point) → IsPiece p q t → IsPiece p' q' t' →
         {l : List Point} {a b : Point} {r : List Point} {l' r' : List Point} → At l a b r (p ∷ (q ∷ t)) → At l' b a r' (p' ∷ (q' ∷ t')) →
         (l ≡ r') × (r ≡ l') × (p ∷ (q ∷ t) ≡ reverse (p' ∷ (q' ∷ t')))
-    other_way p q t p' q' t' h h' {l} {a} {b} {r} {l'} {r'} k k' = let one = both_runs p q t h k refl in
+    other_way p q t p' q' t' h h' {l} {a} {b} {r} {l'} {r'} k k' =
+        let one = both_runs p q t h k refl in
         let other = both_runs p' q' t' h' k' refl in
         let el : l ≡ r' = run_unique one.0 other.1 in
         let er : r ≡ l' = run_unique one.1 other.0 in

@@ -28,10 +28,12 @@ module _ (A : Type 0) (close : ℕ) (no_comma : eqb close 44 ≡ false) (no_spac
 
   list_again : {ts : List ℕ} {xs : List A} → SpellsList (Again close item) ts xs → (n : ℕ) (rest : List ℕ) → length ts < n → list_at close item n (ts ++ (close ∷ rest)) ≡ Some (xs, rest)
   unfolding list_after skip
-  list_again (list_last w t u {x} hw s hu) n rest h = let k = turn n _ h in
+  list_again (list_last w t u {x} hw s hu) n rest h =
+      let k = turn n _ h in
       rw (append_assoc, append_assoc, k.1)
       (element_again k.0 w t (u ++ (close ∷ rest)) x hw s (Ends-space u close rest hu is_last) ∙ last_after (list_at close item k.0) x u rest hu)
-  list_again (list_more w t u ts {x} {xs} hw s hu more) n rest h = let k = turn n _ h in
+  list_again (list_more w t u ts {x} {xs} hw s hu more) n rest h =
+      let k = turn n _ h in
       rw (append_assoc, append_assoc, append_assoc, k.1)
       (element_again k.0 w t (u ++ (44 ∷ (ts ++ (close ∷ rest)))) x hw s (Ends-space u 44 _ hu refl)
       ∙ (rw (skip-space u (44 ∷ (ts ++ (close ∷ rest))) hu, (list_again more k.0 rest (fewer w t u ts k.0 k.2))) refl))

@@ -56,7 +56,8 @@ module _ (A : Type 0) (R : List ℕ → A → Type 0) (close : ℕ) (item : Pars
   unless_takes : IsSound R item → (bs : List ℕ) (o : Option (List ℕ)) → closes close bs ≡ o → (x : List A × List ℕ) → items_unless close item bs o ≡ Some x → TakesItems bs x.0 x.1
   unfolding items_unless closes
   unless_takes sound bs None h x e = let r = list_takes sound (length bs) bs x e in inr (r.0, r.1, r.2 ∙ rw append_assoc refl)
-  unless_takes sound bs (Some rest) h x e = let front = skip_takes bs in
+  unless_takes sound bs (Some rest) h x e =
+      let front = skip_takes bs in
       let is_end = after_word_takes (close ∷ []) (skip bs) rest h in
       let p = pair_is [] rest x e in
       inl (front.0, front.1, sym p.0, front.2 ∙ rw (is_end, p.1, append_assoc) refl)

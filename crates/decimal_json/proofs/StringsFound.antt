@@ -58,10 +58,12 @@ chars_again : {s t : List ℕ} → SpellsChars s t → (n : ℕ) (rest : List �
 unfolding escape_at
 chars_again chars_end n rest h = let k = turn n 0 h in rw k.1 (end_again k.0 rest)
 chars_again (chars_plain b {s} {t} p more) n rest h = grind (arith, chars_again more, turn n _ h, plain_again)
-chars_again (chars_escape e c {s} {t} p more) n rest h = let k = turn n _ h in
+chars_again (chars_escape e c {s} {t} p more) n rest h =
+    let k = turn n _ h in
     let again = any_again (92 ∷ e ∷ []) s c k.0 t rest (record { behind = e ∷ (s ++ (34 ∷ rest)); begins = refl; found = rw ((letter_kind e c p).no_u, p) refl }) (chars_again more k.0 rest (omega arith)) in
     rw k.1 (rw (encode_ascii c (letter_kind e c p).ascii) at again)
-chars_again (chars_unit u c s t su high low more) n rest h = let longer = not_empty u c (single_found su high low []) in
+chars_again (chars_unit u c s t su high low more) n rest h =
+    let longer = not_empty u c (single_found su high low []) in
     let k = turn n (length (u ++ s)) h in
     rw k.1 (any_again u s c k.0 t rest (single_found su high low (s ++ (34 ∷ rest))) (chars_again more k.0 rest (omega (arith, length-append u s))))
 chars_again (chars_pair u v high low s t su sv h l more) n rest lt =

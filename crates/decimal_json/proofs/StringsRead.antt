@@ -72,7 +72,8 @@ joined_pair bs u xs rest v ys p q r = rw (p, q, r) (ap (λ z. 92 ∷ 117 ∷ z) 
 
 low_found : (high : ℕ) (bs u xs rest : List ℕ) (low x : ℕ × List ℕ) → is_high high ≡ true → SpellsUnit (92 ∷ 117 ∷ u) high → bs ≡ u ++ xs → xs ≡ 92 ∷ 117 ∷ rest
     → unit_at rest ≡ Some low → is_low low.0 ≡ true → Some (paired high low.0, low.1) ≡ Some x → TakesEscape (92 ∷ 117 ∷ bs) x.0 x.1
-low_found high bs u xs rest low x h su front word k l m = let v = unit_takes rest low k in
+low_found high bs u xs rest low x h su front word k l m =
+    let v = unit_takes rest low k in
     let p = pair_is (paired high low.0) low.1 x m in (
       (92 ∷ 117 ∷ u) ++ (92 ∷ 117 ∷ v.0),
       subst (λ c. Escaped ((92 ∷ 117 ∷ u) ++ (92 ∷ 117 ∷ v.0)) c) p.0 (λ s t more. rw (append_assoc (92 ∷ 117 ∷ u) (92 ∷ 117 ∷ v.0) s) (chars_pair (92 ∷ 117 ∷ u) (92 ∷ 117 ∷ v.0) high low.0 s t su v.1 h l more)),

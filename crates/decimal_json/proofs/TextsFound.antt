@@ -36,7 +36,8 @@ module _ (fits : List ℕ → Bool) (Fit : List ℕ → Type 0) (text : (s t : L
 
   text_again : (d : ℕ) (b : List ℕ) (v : Json) → Fit b → Reads d b v → text_at fits d b ≡ Some v
   unfolding text_at
-  text_again d b v f (inl r) = let bare : after_word mark b ≡ None = rw (r.6, append_assoc) (no_mark r.0 r.3 r.4 r.2) in
+  text_again d b v f (inl r) =
+      let bare : after_word mark b ≡ None = rw (r.6, append_assoc) (no_mark r.0 r.3 r.4 r.2) in
       rw bare (document_again d b v f r)
   text_again d b v f (inr r) = rw (r.1, after_word_again mark r.0) (document_again d r.0 v (unmark r.0 (subst Fit r.1 f)) r.2)
 
@@ -58,6 +59,7 @@ any_again : (d : ℕ) (b : List ℕ) (v : Json) → Reads d b v → text_at (λ 
 any_again d b v r = text_again (λ t. true) (λ b. Unit {0}) (λ s t h f. refl) (λ p r x h f. (tt, tt)) (λ rest f. tt) d b v tt r
 
 pub one_value : (d e : ℕ) (b : List ℕ) (v w : Json) → Reads d b v → Reads e b w → v ≡ w
-one_value d e b v w r s = let p = any_again (d + e) b v (reads_deeper d b v r (d + e) (omega (arith, reads_no_deeper d b v r))) in
+one_value d e b v w r s =
+    let p = any_again (d + e) b v (reads_deeper d b v r (d + e) (omega (arith, reads_no_deeper d b v r))) in
     let q = any_again (d + e) b w (reads_deeper e b w s (d + e) (omega (arith, reads_no_deeper e b w s))) in
     cc

@@ -101,15 +101,19 @@ module _ (fits : List ℕ → Bool) where
           rw (regroup s w u t rest) (member_again (value_at fits d) s w u t name rest v h (text s name h name_end.0) hw hu (skip_value sv rest) (found sv value rest e))
 
       elements : {d : ℕ} {ts : List ℕ} {vs : List Json} → SpellsElements d ts vs → Fit ts → SpellsList (Again 93 (value_at fits d)) ts vs
-      elements (elements_last w t u hw s hu) f = let here = after_space w t hw (before_space (w ++ t) u hu f) in
+      elements (elements_last w t u hw s hu) f =
+          let here = after_space w t hw (before_space (w ++ t) u hu f) in
           list_last w t u hw (record { starts = skip_value s; opens = not_closed s; found = found s here }) hu
-      elements (elements_more w t u ts hw s hu more) f = let comma = split (w ++ t ++ u) ts 44 (omega arith) f in
+      elements (elements_more w t u ts hw s hu more) f =
+          let comma = split (w ++ t ++ u) ts 44 (omega arith) f in
           let here = after_space w t hw (before_space (w ++ t) u hu comma.0) in
           list_more w t u ts hw (record { starts = skip_value s; opens = not_closed s; found = found s here }) hu (elements more comma.1)
 
       members : {d : ℕ} {ts : List ℕ} {ms : List (List ℕ × Json)} → SpellsMembers d ts ms → Fit ts → SpellsList (Again 125 (member_at fits (value_at fits d))) ts ms
-      members (members_last w t u hw s hu) f = let here = after_space w t hw (before_space (w ++ t) u hu f) in
+      members (members_last w t u hw s hu) f =
+          let here = after_space w t hw (before_space (w ++ t) u hu f) in
           list_last w t u hw (record { starts = skip_member s; opens = member_not_closed s; found = member_found s here }) hu
-      members (members_more w t u ts hw s hu more) f = let comma = split (w ++ t ++ u) ts 44 (omega arith) f in
+      members (members_more w t u ts hw s hu more) f =
+          let comma = split (w ++ t ++ u) ts 44 (omega arith) f in
           let here = after_space w t hw (before_space (w ++ t) u hu comma.0) in
           list_more w t u ts hw (record { starts = skip_member s; opens = member_not_closed s; found = member_found s here }) hu (members more comma.1)

@@ -22,7 +22,8 @@ digits_value_after-append n (x ∷ xs) ys = digits_value_after-append (10 * n + 
 -- digits after those of n
 pub digits_value_after-split : (n : ℕ) (ds : List ℕ) → digits_value_after n ds ≡ n * 10 ^ length ds + digits_value ds
 digits_value_after-split n [] = omega arith
-digits_value_after-split n (c ∷ cs) = let d : ℕ = c - 48 in
+digits_value_after-split n (c ∷ cs) =
+    let d : ℕ = c - 48 in
     let p : ℕ = 10 ^ length cs in
     let one = digits_value_after-split (10 * n + d) cs in
     let two = digits_value_after-split (10 * 0 + d) cs in
@@ -31,7 +32,8 @@ digits_value_after-split n (c ∷ cs) = let d : ℕ = c - 48 in
 
 pub digits_value-lt : (ds : List ℕ) → All IsDigit ds → digits_value ds < 10 ^ length ds
 digits_value-lt [] h = omega arith
-digits_value-lt (c ∷ cs) h = let d : ℕ = c - 48 in
+digits_value-lt (c ∷ cs) h =
+    let d : ℕ = c - 48 in
     let p : ℕ = 10 ^ length cs in
     let small : d ≤ 9 = omega (arith, All-head IsDigit c cs h) in
     let two = digits_value_after-split (10 * 0 + d) cs in
@@ -45,7 +47,8 @@ pub digits_value-half : (c : ℕ) (cs : List ℕ) → All IsDigit (c ∷ cs) →
 digits_value-half c cs h five = grind (arith, digits_value_after-split, pow-suc, mul-le-mul_left)
 
 pub digits_value-less : (c : ℕ) (cs : List ℕ) → All IsDigit (c ∷ cs) → c < 53 → 2 * digits_value (c ∷ cs) < 10 ^ suc (length cs)
-digits_value-less c cs h five = let d : ℕ = c - 48 in
+digits_value-less c cs h five =
+    let d : ℕ = c - 48 in
     let p : ℕ = 10 ^ length cs in
     let two = digits_value_after-split (10 * 0 + d) cs in
     let e : 10 ^ suc (length cs) ≡ p * 10 = pow-suc 10 (length cs) in
@@ -61,7 +64,8 @@ digits_value-zeros (c ∷ cs) h = search (All-head, digits_value_after-split, Al
 
 pub zeros-value : (ds : List ℕ) → All IsDigit ds → digits_value ds ≡ 0 → All (λ c. c ≡ 48) ds
 zeros-value [] h e = λ k d l. absurd (omega arith)
-zeros-value (c ∷ cs) h e = let two = digits_value_after-split (10 * 0 + (c - 48)) cs in
+zeros-value (c ∷ cs) h e =
+    let two = digits_value_after-split (10 * 0 + (c - 48)) cs in
     let digit : (48 ≤ c) × (c ≤ 57) = All-head IsDigit c cs h in
     let p : ℕ = 10 ^ length cs in
     let pos : 1 ≤ p = one-le-pow (length cs) 10 (omega arith) in
@@ -77,7 +81,8 @@ past_limit limit n start i ds within rest past =
 
 -- the zeros passed the limit
 pub past_zeros : (limit start v done zeros : ℕ) → v ≡ start * 10 ^ done → limit < v * 10 → done < zeros → limit < start * 10 ^ zeros
-past_zeros limit start v done zeros e past more = let step : 10 ^ suc done ≡ 10 ^ done * 10 = pow-suc 10 done in
+past_zeros limit start v done zeros e past more =
+    let step : 10 ^ suc done ≡ 10 ^ done * 10 = pow-suc 10 done in
     let up : 10 ^ suc done ≤ 10 ^ zeros = pow-le-pow_right (omega arith) more in
     let scaled : start * 10 ^ suc done ≤ start * 10 ^ zeros = mul-le-mul_left start up in
     let again : start * 10 ^ suc done ≡ start * (10 ^ done * 10) = ap (λ p. start * p) step in

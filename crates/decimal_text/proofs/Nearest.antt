@@ -9,7 +9,8 @@ use Rattle.decimal_text.specs.Laws.{RoundedIsUnique}
 use Rattle.decimal_text.proofs.RoundedFractions.{IsRounded-some, IsRounded-unique, IsRounded-whole}
 
 pub rounded_is_unique : RoundedIsUnique
-rounded_is_unique num den h = let is : IsRounded num den (nearest num den) = IsRounded-some num den h in
+rounded_is_unique num den h =
+    let is : IsRounded num den (nearest num den) = IsRounded-some num den h in
     (nearest num den, is, λ v r. IsRounded-unique num den v (nearest num den) r is)
 
 pub nearest-only : (num den u : ℕ) → 0 < den → IsRounded num den u → nearest num den ≡ u
@@ -37,7 +38,8 @@ rounded_of-range negative num den limit h past = grind (arith, rounded_of-past)
 
 -- the function meets the inequalities
 pub rounded_of-nearest : (negative : Bool) (num den limit : ℕ) → 0 < den → ScalesTo negative num den limit (rounded_of negative num den limit)
-rounded_of-nearest negative num den limit h = let is : IsRounded num den (nearest num den) = IsRounded-some num den h in
+rounded_of-nearest negative num den limit h =
+    let is : IsRounded num den (nearest num den) = IsRounded-some num den h in
     ⊎_elim (λ past. rw (rounded_of-past negative num den limit past) (nearest num den, is, past))
     (λ small. rw (rounded_of-within negative num den limit small) record {
       magnitude = nearest num den;
@@ -50,6 +52,7 @@ rounded_of-nearest negative num den limit h = let is : IsRounded num den (neares
 -- a whole number, within the limit
 pub rounded_of-whole : (negative : Bool) (den u limit : ℕ) → 0 < den → u ≤ limit
     → rounded_of negative (u * den) den limit ≡ Ok (record { value = signed negative u; exact = true })
-rounded_of-whole negative den u limit h small = let r : IsRounded (u * den) den u = IsRounded-whole den u h in
+rounded_of-whole negative den u limit h small =
+    let r : IsRounded (u * den) den u = IsRounded-whole den u h in
     rounded_of-magnitude negative (u * den) den limit (record { value = u; exact = true }) h
     record { rounded = r; exact = (λ t. refl, λ e. refl); within = small }

@@ -50,7 +50,8 @@ either_ascii false xs ys h k = k
 
 digits_onto_ascii : (k n : ℕ) (acc : List ℕ) → IsAscii acc → IsAscii (digits_onto k 10 false n acc)
 digits_onto_ascii zero n acc h = h
-digits_onto_ascii (suc k) n acc h = let more = ascii_cons (digit_glyph false (n % 10)) acc (grind (arith, nat_tests)) h in
+digits_onto_ascii (suc k) n acc h =
+    let more = ascii_cons (digit_glyph false (n % 10)) acc (grind (arith, nat_tests)) h in
     either_ascii (n / 10 == 0) _ _ more (digits_onto_ascii k (n / 10) (digit_glyph false (n % 10) ∷ acc) more)
 
 decimal_ascii : (n : ℕ) → IsAscii (decimal n)

@@ -47,7 +47,8 @@ fraction-read : (f rest : List ℕ) → AllDigits f → IsAfter rest → fractio
 unfolding IsAfter
 fraction-read [] [] h after = refl
 fraction-read [] (c ∷ cs) h after = rw after.1 refl
-fraction-read (x ∷ xs) rest h after = let ds : List ℕ = x ∷ xs in
+fraction-read (x ∷ xs) rest h after =
+    let ds : List ℕ = x ∷ xs in
     pick_some (front_digits (ds ++ rest)) (after_digits (ds ++ rest)) ds rest
     (front_digits-run ds rest h (after-stops rest after)) (after_digits-run ds rest h (after-stops rest after)) (omega arith)
 
@@ -63,7 +64,8 @@ whole-facts w h = grind arith
 unsigned-read : (negative exponent_negative : Bool) (w f e ds : List ℕ) → IsWhole w → AllDigits f → SpellsExponent e exponent_negative ds
     → unsigned_of negative (w ++ (fraction_text f ++ e))
     ≡ Some (record { negative = negative; whole = w; fraction = f; exponent_negative = exponent_negative; exponent = ds })
-unsigned-read negative exponent_negative w f e ds hw hf he = let facts = whole-facts w hw in
+unsigned-read negative exponent_negative w f e ds hw hf he =
+    let facts = whole-facts w hw in
     let after = exponent-after e exponent_negative ds he in
     let rest : List ℕ = fraction_text f ++ e in
     let stop = fraction-stops f e after in

@@ -17,7 +17,8 @@ IsRounded-up den q r h s = record { low = omega arith; high = omega arith }
 
 -- both numbers of the fraction by one factor
 pub IsRounded-scaled : (num den u k : ℕ) → 0 < k → IsRounded num den u → IsRounded (num * k) (den * k) u
-IsRounded-scaled num den u k pos r = let low : k * (2 * (u * den)) ≤ k * (2 * num + den) = mul-le-mul_left k r.low in
+IsRounded-scaled num den u k pos r =
+    let low : k * (2 * (u * den)) ≤ k * (2 * num + den) = mul-le-mul_left k r.low in
     let high : k * (2 * num + 1) ≤ k * (2 * (u * den) + den) = mul-le-mul_left k (omega arith) in
     record { low = omega arith; high = omega arith }
 
@@ -67,7 +68,8 @@ Rounds-scaled num den limit k (Err e) pos h = λ u s. h u (IsRounded-unscaled nu
 
 pub Rounds-longer : (v up down limit : ℕ) (r : Result Magnitude Range) → down ≤ up
     → Rounds (v * 10 ^ (up - down)) 1 limit r → Rounds (v * 10 ^ up) (10 ^ down) limit r
-Rounds-longer v up down limit r le h = let pos : 0 < 10 ^ down = one-le-pow down 10 (omega arith) in
+Rounds-longer v up down limit r le h =
+    let pos : 0 < 10 ^ down = one-le-pow down 10 (omega arith) in
     let sum : up ≡ (up - down) + down = omega arith in
     let split : 10 ^ up ≡ 10 ^ (up - down) * 10 ^ down = ap (λ n. 10 ^ n) sum ∙ pow-add 10 (up - down) down in
     let apart : v * (10 ^ (up - down) * 10 ^ down) ≡ (v * 10 ^ (up - down)) * 10 ^ down = omega arith in
@@ -99,7 +101,8 @@ IsRoundedTo-zero v a b limit m none is exact = grind (arith, one-le-pow, zero-mu
 -- a number far below one half
 pub IsRoundedTo-tiny : (v len places cut limit : ℕ) (m : Magnitude) → v < 10 ^ len → len + places < cut
     → m.value ≡ 0 → m.exact ≡ false → v ≢ 0 → IsRoundedTo (v * 10 ^ places) (10 ^ cut) limit m
-IsRoundedTo-tiny v len places cut limit m small more is exact some = let p : ℕ = 10 ^ places in
+IsRoundedTo-tiny v len places cut limit m small more is exact some =
+    let p : ℕ = 10 ^ places in
     let pos : 1 ≤ p = one-le-pow places 10 (omega arith) in
     let scaled : p * (v + 1) ≤ p * 10 ^ len = mul-le-mul_left p (omega arith) in
     let split : 10 ^ (len + places) ≡ 10 ^ len * p = pow-add 10 len places in

@@ -36,7 +36,8 @@ record IsRun (t ds : List ℕ) : Type 0 where
   pub some : 0 < length ds
 
 all_digits-spelled : (t ds : List ℕ) → all_digits_of t ≡ Some ds → IsRun t ds
-all_digits-spelled t ds h = let tests = all_tests (length (front_digits t) == 0) (length (after_digits t) == 0) (front_digits t) ds h in
+all_digits-spelled t ds h =
+    let tests = all_tests (length (front_digits t) == 0) (length (after_digits t) == 0) (front_digits t) ds h in
     let none : after_digits t ≡ [] = empty_from_length (after_digits t) tests.1 in
     let is : front_digits t ≡ ds = tests.2 in
     record {
@@ -85,9 +86,11 @@ e_test : (b : Bool) (o : Option (Bool × List ℕ)) (r : Bool × List ℕ)
 e_test b o r h = grind arith
 
 exponent-spelled : (t : List ℕ) (negative : Bool) (ds : List ℕ) → exponent_of t ≡ Some (negative, ds) → SpellsExponent t negative ds
-exponent-spelled [] negative ds h = let parts = some_pair_parts {A = Bool} {B = List ℕ} false negative [] ds h in
+exponent-spelled [] negative ds h =
+    let parts = some_pair_parts {A = Bool} {B = List ℕ} false negative [] ds h in
     subst (λ n. SpellsExponent [] n ds) parts.0 (subst (λ d. SpellsExponent [] false d) parts.1 spells_no_exponent)
-exponent-spelled (e ∷ rest) negative ds h = let tests = e_test (is_e e) (signed_digits_of rest) (negative, ds) h in
+exponent-spelled (e ∷ rest) negative ds h =
+    let tests = e_test (is_e e) (signed_digits_of rest) (negative, ds) h in
     let run = signed_digits-spelled rest negative ds tests.1 in
     rw run.same (exponent-made e run.sign negative ds tests.0 run.spelled run.run.digits run.run.some)
 
@@ -174,11 +177,13 @@ sign-of s minus_sign = (true, spells_minus)
 
 exponent-of : (e : List ℕ) → IsExponent e → (negative : Bool) × (ds : List ℕ) × SpellsExponent e negative ds
 exponent-of e no_exponent = (false, [], spells_no_exponent)
-exponent-of e (exponent_digits x s b bs hx hs hb h) = let sign = sign-of s hs in
+exponent-of e (exponent_digits x s b bs hx hs hb h) =
+    let sign = sign-of s hs in
     (sign.0, b ∷ bs, spells_exponent x s sign.0 b bs hx sign.1 hb h)
 
 pub number-spelled : (t : List ℕ) → IsNumber t → (n : Parts) × SpellsNumber t n
-number-spelled t (number_of m w f e hm hw hf he) = let minus = minus-of m hm in
+number-spelled t (number_of m w f e hm hw hf he) =
+    let minus = minus-of m hm in
     let frac = fraction-of f hf in
     let exp = exponent-of e he in (
       record { negative = minus.negative; whole = w; fraction = frac.digits; exponent_negative = exp.0; exponent = exp.1 },

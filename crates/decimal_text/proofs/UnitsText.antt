@@ -36,7 +36,8 @@ pub record IsText (n : ℕ) (ds : List ℕ) : Type 0 where
 
 whole-push : (ds : List ℕ) (x : ℕ) → All IsDigit ds → (48 ≤ x) × (x ≤ 57) → 0 < length ds → 48 < get_or ds 0 0 → IsWhole (ds ++ x ∷ [])
 whole-push [] x h b some head = absurd (omega arith)
-whole-push (c ∷ cs) x h b some head = let first : (48 ≤ c) × (c ≤ 57) = All-head IsDigit c cs h in
+whole-push (c ∷ cs) x h b some head =
+    let first : (48 ≤ c) × (c ≤ 57) = All-head IsDigit c cs h in
     let rest = All-append IsDigit cs (x ∷ []) (All-tail IsDigit c cs h) (one_digit x b.0 b.1) in
     whole_digits c (cs ++ x ∷ []) (digit_true c first.0 first.1) (ne_eqb c 48 (λ e. omega arith)) (AllDigits-from_All (cs ++ x ∷ []) rest)
 
@@ -52,7 +53,8 @@ text-one : (n : ℕ) → n < 10 → IsText n ((48 + n) ∷ [])
 text-one n h = grind (arith, one_digit, whole-one)
 
 text-more : (n : ℕ) (ds : List ℕ) → 10 ≤ n → IsText (n / 10) ds → IsText n (ds ++ ((48 + n % 10) ∷ []))
-text-more n ds h t = let x : ℕ = 48 + n % 10 in
+text-more n ds h t =
+    let x : ℕ = 48 + n % 10 in
     let push : digits_value (ds ++ x ∷ []) ≡ 10 * digits_value ds + (x - 48) = digits_value_after-append 0 ds (x ∷ []) in
     let front : 48 < get_or ds 0 0 = t.head (omega arith) in
     record {
@@ -74,7 +76,8 @@ pub record IsFixed (p n : ℕ) (ds : List ℕ) : Type 0 where
 
 pub fixed-text : (p n : ℕ) → n < 10 ^ p → IsFixed p n (fixed p n)
 fixed-text zero n h = record { says = omega arith; digits = no_elements; len = refl }
-fixed-text (suc q) n h = let e : 10 ^ suc q ≡ 10 ^ q * 10 = pow-suc 10 q in
+fixed-text (suc q) n h =
+    let e : 10 ^ suc q ≡ 10 ^ q * 10 = pow-suc 10 q in
     let t : IsFixed q (n / 10) (fixed q (n / 10)) = fixed-text q (n / 10) (omega arith) in
     let push : digits_value (fixed q (n / 10) ++ (48 + n % 10) ∷ []) ≡ 10 * digits_value (fixed q (n / 10)) + ((48 + n % 10) - 48) =
     digits_value_after-append 0 (fixed q (n / 10)) ((48 + n % 10) ∷ []) in
@@ -90,7 +93,8 @@ scale v d a vc b vt w e1 e2 e3 = rw (e1, e2) (omega arith)
 -- zeros at the end change the value by a power of ten
 before-value : (c : ℕ) (cs t : List ℕ) → 48 ≤ c → digits_value cs * 10 ^ length t ≡ digits_value t * 10 ^ length cs
     → digits_value (c ∷ cs) * 10 ^ length (before_trimmed c t) ≡ digits_value (before_trimmed c t) * 10 ^ length (c ∷ cs)
-before-value c cs [] low e = let one = digits_value_after-split (10 * 0 + (c - 48)) cs in
+before-value c cs [] low e =
+    let one = digits_value_after-split (10 * 0 + (c - 48)) cs in
     let step : 10 ^ suc (length cs) ≡ 10 ^ length cs * 10 = pow-suc 10 (length cs) in
     ⊎_elim (λ y.
     let is : c ≡ 48 = y.1 in
@@ -115,7 +119,8 @@ trimmed-digits (c ∷ cs) h = grind (arith, before-digits, All-head, All-tail, t
 pub units-value : (size places : ℕ) → size < 10 ^ 64
     → digits_value (decimal (size / 10 ^ places) ++ trimmed (fixed places (size % 10 ^ places))) * 10 ^ places
     ≡ size * 10 ^ length (trimmed (fixed places (size % 10 ^ places)))
-units-value size places small = let p : ℕ = 10 ^ places in
+units-value size places small =
+    let p : ℕ = 10 ^ places in
     let q : ℕ = size / p in
     let r : ℕ = size % p in
     let ds : List ℕ = fixed places r in
@@ -150,7 +155,8 @@ parts_in_text negative size places = record {
 }
 
 text-spells : (negative : Bool) (size places : ℕ) → size < 10 ^ 64 → SpellsNumber (text_of negative size places) (parts_in_text negative size places)
-text-spells negative size places small = let p : ℕ = 10 ^ places in
+text-spells negative size places small =
+    let p : ℕ = 10 ^ places in
     let t : List ℕ = trimmed (fixed places (size % p)) in
     let pos : 1 ≤ p = one-le-pow places 10 (omega arith) in
     let least : (size / p) * 1 ≤ (size / p) * p = mul-le-mul_left (size / p) pos in

@@ -87,7 +87,8 @@ module _ (exact : Bool) (v : Json) (inner : (w : Json) → depth w < depth v →
 
 below : (exact : Bool) (n : ℕ) (v : Json) → depth v < n → IsReadSound exact v
 below exact zero v lt = absurd (omega arith)
-below exact (suc n) v lt = let inner : (w : Json) → depth w < depth v → IsReadSound exact w = λ w less. below exact n w (omega arith) in
+below exact (suc n) v lt =
+    let inner : (w : Json) → depth w < depth v → IsReadSound exact w = λ w less. below exact n w (omega arith) in
     record { one = one_yields exact v inner (object_of v) refl; many = many_yield exact v inner (array_of v) refl }
 
 pub read_sound : (exact : Bool) (v : Json) → IsReadSound exact v

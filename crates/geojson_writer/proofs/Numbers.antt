@@ -49,7 +49,8 @@ polygons-numbers areas h = array-numbers lines_value areas (each areas h)
   where
     each : (xs : List (List (List Point))) → All (joined (joined xs)) → AllByRecursion (λ rs. HasNumbers (lines_value rs)) xs
     each [] k = tt
-    each (rs ∷ xs) k = let apart : All (joined rs ++ joined (joined xs)) = subst All (joined_twice rs (joined xs)) k in
+    each (rs ∷ xs) k =
+        let apart : All (joined rs ++ joined (joined xs)) = subst All (joined_twice rs (joined xs)) k in
         (lines-numbers rs (all_left IsPosition (joined rs) (joined (joined xs)) apart), each xs (all_right IsPosition (joined rs) (joined (joined xs)) apart))
 
 -- ---- geometries

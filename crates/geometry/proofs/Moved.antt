@@ -48,7 +48,8 @@ ends f xs i ys h so = so.made ∙ take_whole f xs i h
 
 -- a list that was written back whole
 pub refilled : {A : Type 0} (f : A → A) (n : ℕ) (xs ws : List A) → n ≡ length xs → ws ≡ map f xs → take n (ws ++ drop (length ws) xs) ≡ map f xs
-refilled f n xs ws e h = let many : n ≡ length ws = e ∙ sym (ap length h ∙ length-map xs f) in
+refilled f n xs ws e h =
+    let many : n ≡ length ws = e ∙ sym (ap length h ∙ length-map xs f) in
     ap (λ m. take m (ws ++ drop (length ws) xs)) many ∙ take-append_seam ws (drop (length ws) xs) ∙ h
 
 -- ---- rings

@@ -27,12 +27,14 @@ short a e b same is back h = rw (same, is) (chars_escape e a back h)
 
 -- the six bytes that stand for any other byte below a blank
 unit_spelled : (b : ℕ) → b < 32 → SpellsUnit (92 ∷ 117 ∷ 48 ∷ 48 ∷ hex_digit (b / 16) ∷ hex_digit (b % 16) ∷ []) b
-unit_spelled b h = let parts = div-add-mod b 16 in
+unit_spelled b h =
+    let parts = div-add-mod b 16 in
     let whole : ((0 * 16 + 0) * 16 + b / 16) * 16 + b % 16 ≡ b = omega arith in
     rw whole at (unit_of 48 48 (hex_digit (b / 16)) (hex_digit (b % 16)) refl refl (hex_again (b / 16) (omega arith)) (hex_again (b % 16) (omega arith)))
 
 control_spelled : (b : ℕ) {s t : List ℕ} → b < 32 → SpellsChars s t → SpellsChars ((codes "\\u00" ++ hex_digit (b / 16) ∷ hex_digit (b % 16) ∷ []) ++ s) (b ∷ t)
-control_spelled b {s} {t} h more = let one : encode_utf8 b ≡ b ∷ [] = encode_ascii b (omega arith) in
+control_spelled b {s} {t} h more =
+    let one : encode_utf8 b ≡ b ∷ [] = encode_ascii b (omega arith) in
     rw one at (chars_unit _ b s t (unit_spelled b h) (not_high b h) (not_low b h) more)
 
 -- what has no escape of two bytes

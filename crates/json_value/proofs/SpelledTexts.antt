@@ -55,17 +55,20 @@ mutual
   elements_texts : {d : ℕ} {t : List ℕ} {vs : List Json} → SpellsElements d t vs → IsUtf8 t → AllByRecursion IsUtf8 (flat_map texts_of vs)
   elements_texts (elements_last w t u {x} hw s hu) f =
       all_append IsUtf8 (texts_of x) [] (spelled_texts s (after_space w t hw (before_space (w ++ t) u hu f))) tt
-  elements_texts (elements_more w t u ts {x} {xs} hw s hu more) f = let comma = ascii_split (w ++ t ++ u) ts 44 (omega arith) f in
+  elements_texts (elements_more w t u ts {x} {xs} hw s hu more) f =
+      let comma = ascii_split (w ++ t ++ u) ts 44 (omega arith) f in
       all_append IsUtf8 (texts_of x) (flat_map texts_of xs) (spelled_texts s (after_space w t hw (before_space (w ++ t) u hu comma.0))) (elements_texts more comma.1)
 
   members_texts : {d : ℕ} {t : List ℕ} {ms : List (List ℕ × Json)} → SpellsMembers d t ms → IsUtf8 t → MembersTexts ms
   members_texts (members_last w t u {x} hw s hu) f =
       all_append IsUtf8 (x.0 ∷ texts_of x.1) [] (member_texts s (after_space w t hw (before_space (w ++ t) u hu f))) tt
-  members_texts (members_more w t u ts {x} {xs} hw s hu more) f = let comma = ascii_split (w ++ t ++ u) ts 44 (omega arith) f in
+  members_texts (members_more w t u ts {x} {xs} hw s hu more) f =
+      let comma = ascii_split (w ++ t ++ u) ts 44 (omega arith) f in
       all_append IsUtf8 (x.0 ∷ texts_of x.1) (flat_map (λ m. m.0 ∷ texts_of m.1) xs) (member_texts s (after_space w t hw (before_space (w ++ t) u hu comma.0))) (members_texts more comma.1)
 
 document_texts : (d : ℕ) (b : List ℕ) (v : Json) → IsUtf8 b → SpellsText d b v → HasTexts v
-document_texts d b v f r = let t = r.1 in let u = r.2 in
+document_texts d b v f r =
+    let t = r.1 in let u = r.2 in
     spelled_texts r.4 (after_space r.0 t r.3 (before_space (r.0 ++ t) u r.5 (subst (λ z. IsUtf8 z) r.6 f)))
 
 unmark : (rest : List ℕ) → IsUtf8 (mark ++ rest) → IsUtf8 rest

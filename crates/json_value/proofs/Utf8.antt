@@ -13,7 +13,8 @@ use Rattle.list_laws.proofs.Tests.{chosen}
 
 -- A UTF-8 text may be cut before and behind an ASCII byte.
 pub ascii_split : (p r : List ℕ) (x : ℕ) → x < 128 → IsUtf8 (p ++ (x ∷ r)) → IsUtf8 p × IsUtf8 r
-ascii_split p r x small h = let here : get_or (p ++ (x ∷ r)) (length p) 0 < 128 = rw (get_or-append_seam p x r 0) small in
+ascii_split p r x small h =
+    let here : get_or (p ++ (x ∷ r)) (length p) 0 < 128 = rw (get_or-append_seam p x r 0) small in
     let inside : length p < length (p ++ (x ∷ r)) = omega (arith, length-append p (x ∷ r)) in (
       subst (λ z. IsUtf8 z) (take-append_seam p (x ∷ r)) (IsUtf8-take (p ++ (x ∷ r)) (length p) h (IsCharBoundary-before_ascii (p ++ (x ∷ r)) (length p) inside here)),
       subst (λ z. IsUtf8 z) (drop-append-add p (x ∷ r) 1) (IsUtf8-drop (p ++ (x ∷ r)) (length p + 1) h (IsCharBoundary-after_ascii (p ++ (x ∷ r)) (length p) h inside here)),
@@ -49,7 +50,8 @@ record AfterUnit (p s : List ℕ) (n : ℕ) : Type 0 where
   small : n < 65536
 
 unit_split : {u : List ℕ} {n : ℕ} → SpellsUnit u n → (p s : List ℕ) → IsUtf8 (p ++ (u ++ s)) → AfterUnit p s n
-unit_split (unit_of a b c d {w} {x} {y} {z} ha hb hc hd) p s h = let one = hex_kind a w ha in
+unit_split (unit_of a b c d {w} {x} {y} {z} ha hb hc hd) p s h =
+    let one = hex_kind a w ha in
     let two = hex_kind b x hb in
     let three = hex_kind c y hc in
     let four = hex_kind d z hd in
@@ -68,12 +70,15 @@ ascii_one c small = subst (λ z. IsUtf8 z) (encode_ascii c small) (IsUtf8-encode
 chars_utf8 : {s t : List ℕ} → SpellsChars s t → (p : List ℕ) → IsUtf8 (p ++ s) → IsUtf8 (p ++ t)
 chars_utf8 chars_end p h = h
 chars_utf8 (chars_plain b {s} {t} k more) p h = grind (arith, append_assoc, chars_utf8 more (p ++ b ∷ []))
-chars_utf8 (chars_escape e c {s} {t} k more) p h = let kind = letter_kind e c k in
+chars_utf8 (chars_escape e c {s} {t} k more) p h =
+    let kind = letter_kind e c k in
     let start = ascii_split p (e ∷ s) 92 (omega arith) h in
     IsUtf8-append p (c ∷ t) start.0 (IsUtf8-append (c ∷ []) t (ascii_one c kind.ascii) (chars_utf8 more [] (ascii_tail s e kind.letter_ascii start.1)))
-chars_utf8 (chars_unit u n s t k high low more) p h = let cut = unit_split k p s h in
+chars_utf8 (chars_unit u n s t k high low more) p h =
+    let cut = unit_split k p s h in
     IsUtf8-append p (encode_utf8 n ++ t) cut.front (IsUtf8-append (encode_utf8 n) t (IsUtf8-encode n (unit_scalar n cut.small high low)) (chars_utf8 more [] cut.rest))
-chars_utf8 (chars_pair u v high low s t k l h1 h2 more) p h = let cut = unit_split k p (v ++ s) h in
+chars_utf8 (chars_pair u v high low s t k l h1 h2 more) p h =
+    let cut = unit_split k p (v ++ s) h in
     let behind = unit_split l [] s cut.rest in
     IsUtf8-append p (encode_utf8 (paired high low) ++ t) cut.front
     (IsUtf8-append (encode_utf8 (paired high low)) t (IsUtf8-encode (paired high low) (pair_scalar high low h1 h2)) (chars_utf8 more [] behind.rest))

@@ -36,14 +36,17 @@ more_elements d t ts v vs s more = subst (λ z. SpellsElements d (z ++ 44 ∷ ts
 
 elements_spelled : (d : ℕ) (y : Such) (ys : List Such) → AllByRecursion IsNumber (flat_map numbers_of (map (λ e. e.0) (y ∷ ys))) → greatest (map depth (map (λ e. e.0) (y ∷ ys))) ≤ d
     → SpellsElements d (comma_separated (map json_text (map (λ e. e.0) (y ∷ ys)))) (map (λ e. e.0) (y ∷ ys))
-elements_spelled d y [] h le = let p = all_split IsNumber (numbers_of y.0) [] h in
+elements_spelled d y [] h le =
+    let p = all_split IsNumber (numbers_of y.0) [] h in
     elements_last [] (json_text y.0) [] tt (deeper (y.1 p.0) d (omega arith)) tt
-elements_spelled d y (z ∷ ys) h le = let p = all_split IsNumber (numbers_of y.0) _ h in
+elements_spelled d y (z ∷ ys) h le =
+    let p = all_split IsNumber (numbers_of y.0) _ h in
     more_elements d (json_text y.0) _ y.0 _ (deeper (y.1 p.0) d (omega arith)) (elements_spelled d z ys p.1 (omega arith))
 
 array_spelled : (ys : List Such) → Spelled (j.Array (map (λ e. e.0) ys))
 array_spelled [] h = rw (text-array [], depth-array []) (spells_empty_array [] tt)
-array_spelled (y ∷ ys) h = let vs : List Json = map (λ e. e.0) (y ∷ ys) in
+array_spelled (y ∷ ys) h =
+    let vs : List Json = map (λ e. e.0) (y ∷ ys) in
     rw (text-array vs, depth-array vs) (spells_array _ (elements_spelled (greatest (map depth vs)) y ys (rw (numbers-array vs) at h) (omega arith)))
 
 -- ---- objects
@@ -63,14 +66,17 @@ more_members d t ts m ms s more = subst (λ z. SpellsMembers d (z ++ 44 ∷ ts) 
 
 members_spelled : (d : ℕ) (y : List ℕ × Such) (ys : List (List ℕ × Such)) → AllByRecursion IsNumber (flat_map (λ m. numbers_of m.1) (map inner (y ∷ ys))) → greatest (map (λ m. depth m.1) (map inner (y ∷ ys))) ≤ d
     → SpellsMembers d (comma_separated (map one_member (map inner (y ∷ ys)))) (map inner (y ∷ ys))
-members_spelled d y [] h le = let p = all_split IsNumber (numbers_of y.1.0) [] h in
+members_spelled d y [] h le =
+    let p = all_split IsNumber (numbers_of y.1.0) [] h in
     members_last [] (one_member (inner y)) [] tt (member_spelled d y p.0 (omega arith)) tt
-members_spelled d y (z ∷ ys) h le = let p = all_split IsNumber (numbers_of y.1.0) _ h in
+members_spelled d y (z ∷ ys) h le =
+    let p = all_split IsNumber (numbers_of y.1.0) _ h in
     more_members d (one_member (inner y)) _ (inner y) _ (member_spelled d y p.0 (omega arith)) (members_spelled d z ys p.1 (omega arith))
 
 object_spelled : (ys : List (List ℕ × Such)) → Spelled (j.Object (map inner ys))
 object_spelled [] h = rw (text-object [], depth-object []) (spells_empty_object [] tt)
-object_spelled (y ∷ ys) h = let ms : List (List ℕ × Json) = map inner (y ∷ ys) in
+object_spelled (y ∷ ys) h =
+    let ms : List (List ℕ × Json) = map inner (y ∷ ys) in
     rw (text-object ms, depth-object ms) (spells_object _ (members_spelled (greatest (map (λ m. depth m.1) ms)) y ys (rw (numbers-object ms) at h) (omega arith)))
 
 -- ---- each value, by induction

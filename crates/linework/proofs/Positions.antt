@@ -84,7 +84,8 @@ clean_list_in p ps h = grind (arith, clean_in)
 
 shape_in : (a : Address) (o : Option Shape) (s : Stroke) (p : Point) → In s (map (stroke_at a) (option_placed o)) → In p s.positions → In p (option_points o)
 shape_in a None s p k m = elim k [ ]
-shape_in a (Some h) s p k m = let x = from_map (stroke_at a) s (placed_strokes h) k in
+shape_in a (Some h) s p k m =
+    let x = from_map (stroke_at a) s (placed_strokes h) k in
     let n : In p x.0.part.1 = clean_list_in p x.0.part.1 (subst (λ (z : Stroke). In p z.positions) x.2 m) in
     lines_are_in h x.0.part p (subst (In x.0.part) (told h) (in_map (λ z. z.part) x.0 (placed_strokes h) x.1)) n
 

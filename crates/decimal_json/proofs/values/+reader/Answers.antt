@@ -35,7 +35,8 @@ elements_at-returns t c = none_fails _ _
     (loop.turns_over Json 93 (spec.value_at is_utf8 c.args.deepest) _ _ _ _ _ c.loop.invariant c.loop-test.false)
 
 pub members_at-returns-in_err-name : goal.members_at-returns-in_err-name
-members_at-returns-in_err-name t c = let p = err_from_is_err_and c.from_residual.result c.from_residual.ensures.1 in
+members_at-returns-in_err-name t c =
+    let p = err_from_is_err_and c.from_residual.result c.from_residual.ensures.1 in
     rw (p.1, p.2) (loop.fails (List ℕ × Json) 125 (spec.member_at is_utf8 (spec.value_at is_utf8 c.args.deepest)) _ _ _ _ _ c.loop.invariant _ c.loop-test.true (rw c.skip.ensures at c.in_err-name.ensures))
 
 pub members_at-returns-in_default : goal.members_at-returns-in_default
@@ -62,7 +63,8 @@ pub value_at-returns-in_default : goal.value_at-returns-in_default
 value_at-returns-in_default t c = none_fails _ _ (opened.at_nothing is_utf8 c.args.deepest c.args.bytes.now c.in_default.ensures)
 
 pub value_at-returns-in_err-text-in-34 : goal.value_at-returns-in_err-text-in-34
-value_at-returns-in_err-text-in-34 t c = let p = err_from_is_err_and c.from_residual.result c.from_residual.ensures.1 in
+value_at-returns-in_err-text-in-34 t c =
+    let p = err_from_is_err_and c.from_residual.result c.from_residual.ensures.1 in
     rw (p.1, p.2) (opened.text_fails is_utf8 c.args.deepest _ c.args.bytes.now _ c.in-Some.ensures c.in-34.is _ c.in_err-text-in-34.ensures)
 
 pub value_at-returns-then-deepest-eq0 : goal.value_at-returns-then-deepest-eq0

@@ -7,12 +7,14 @@ use Rattle.decimal_text.proofs.RoundedFractions.{IsRounded-above, IsRoundedTo-do
 use Rattle.decimal_text.proofs.rounding.cut_at.Goals as goal
 
 pub returns-in_default : goal.returns-in_default
-returns-in_default c = let kept = digits_value_after-append 0 c.args.kept_whole.now c.args.kept_fraction.now in
+returns-in_default c =
+    let kept = digits_value_after-append 0 c.args.kept_whole.now c.args.kept_fraction.now in
     let more = digits_value_after-ge (digits_value c.args.kept_whole.now) c.args.kept_fraction.now in
     λ u r. IsRounded-above _ _ u c.args.limit (cut_past (c.args.kept_whole.now ++ c.args.kept_fraction.now) _ c.args.limit (omega (arith, c.in_default.ensures.err))) r
 
 pub returns-in_default-extend : goal.returns-in_default-extend
-returns-in_default-extend c = let kept = digits_value_after-append 0 c.args.kept_whole.now c.args.kept_fraction.now in
+returns-in_default-extend c =
+    let kept = digits_value_after-append 0 c.args.kept_whole.now c.args.kept_fraction.now in
     let past = rw (c.in-Ok.ensures.value, ← kept) at c.in_default-extend.ensures.err in
     λ u r. IsRounded-above _ _ u c.args.limit (cut_past (c.args.kept_whole.now ++ c.args.kept_fraction.now) _ c.args.limit past) r
 
@@ -23,7 +25,8 @@ pub returns-then-down-limit : goal.returns-then-down-limit
 returns-then-down-limit c = grind (arith, digits_value_after-append, All-append, up_past, digits_value-cut, digits_value-lt)
 
 pub returns : goal.returns
-returns c = let kept = digits_value_after-append 0 c.args.kept_whole.now c.args.kept_fraction.now in
+returns c =
+    let kept = digits_value_after-append 0 c.args.kept_whole.now c.args.kept_fraction.now in
     let down = rw (c.in-Ok.ensures.value, ← kept) at c.in-Ok-extend.ensures.value in
     let all = All-append IsDigit _ _ c.requires.cut_whole c.requires.cut_fraction in
     IsRoundedTo-up _ _ (digits_value (c.args.kept_whole.now ++ c.args.kept_fraction.now)) (digits_value (c.args.cut_whole.now ++ c.args.cut_fraction.now)) _ _

@@ -5,12 +5,14 @@ use Rattle.decimal_text.proofs.RoundedFractions.{IsRounded-above, IsRoundedTo-wh
 use Rattle.decimal_text.proofs.rounding.shift_left.Goals as goal
 
 pub returns-in_default : goal.returns-in_default
-returns-in_default c = let all = digits_value_after-append 0 c.args.whole.now c.args.fraction.now in
+returns-in_default c =
+    let all = digits_value_after-append 0 c.args.whole.now c.args.fraction.now in
     let more = digits_value_after-ge (digits_value c.args.whole.now) c.args.fraction.now in
     λ u r. IsRounded-above _ _ u c.args.limit (long_past _ c.args.limit c.args.zeros (omega (arith, c.in_default.ensures.err))) r
 
 pub returns-in_default-extend : goal.returns-in_default-extend
-returns-in_default-extend c = let all = digits_value_after-append 0 c.args.whole.now c.args.fraction.now in
+returns-in_default-extend c =
+    let all = digits_value_after-append 0 c.args.whole.now c.args.fraction.now in
     let past = rw (c.in-Ok.ensures.value, ← all) at c.in_default-extend.ensures.err in
     λ u r. IsRounded-above _ _ u c.args.limit (long_past _ c.args.limit c.args.zeros past) r
 

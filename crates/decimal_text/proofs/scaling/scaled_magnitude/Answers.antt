@@ -8,11 +8,13 @@ use Rattle.decimal_text.proofs.RoundedFractions.{IsRoundedTo-zero, IsRoundedTo-t
 use Rattle.decimal_text.proofs.scaling.scaled_magnitude.Goals as goal
 
 pub returns-then-write_zero : goal.returns-then-write_zero
-returns-then-write_zero c = let n = parts_in c.args.parts in
+returns-then-write_zero c =
+    let n = parts_in c.args.parts in
     IsRoundedTo-zero (digits_value (n.whole ++ n.fraction)) _ _ c.args.limit _ (c.if-write_zero.ensures.0 refl) refl refl
 
 pub returns-then-exponent_negative : goal.returns-then-exponent_negative
-returns-then-exponent_negative c = let n = parts_in c.args.parts in
+returns-then-exponent_negative c =
+    let n = parts_in c.args.parts in
     let ds = n.whole ++ n.fraction in
     let small = digits_value-lt ds (All-append IsDigit _ _ c.requires.digits.whole c.requires.digits.fraction) in
     let some : digits_value ds ≢ 0 = λ e. false≢true (c.if-write_zero.ensures.1 e) in
@@ -21,7 +23,8 @@ returns-then-exponent_negative c = let n = parts_in c.args.parts in
     rw c.if-exponent_negative.true (IsRoundedTo-tiny (digits_value ds) (length ds) (c.args.places + 0) _ c.args.limit _ small far refl refl some)
 
 pub returns-in_default : goal.returns-in_default
-returns-in_default c = let n = parts_in c.args.parts in
+returns-in_default c =
+    let n = parts_in c.args.parts in
     let ds = n.whole ++ n.fraction in
     let some : digits_value ds ≢ 0 = λ e. false≢true (c.if-write_zero.ensures.1 e) in
     let far : (length n.fraction + 0) + 38 ≤ c.args.places + digits_value n.exponent = omega (arith, c.in_default.ensures.err) in

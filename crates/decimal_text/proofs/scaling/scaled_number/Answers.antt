@@ -13,7 +13,8 @@ pub returns-in_default : goal.returns-in_default
 returns-in_default c = grind (arith, to_z-of_z w128 c.args.limit c.ranges.limit, rounded_of-range, denominator-positive (parts_in c.args.parts))
 
 pub returns-then-parts : goal.returns-then-parts
-returns-then-parts c = let n = parts_in c.args.parts in
+returns-then-parts c =
+    let n = parts_in c.args.parts in
     let same = to_z-of_z w128 c.args.limit c.ranges.limit in
     let limit = rw same at c.unsigned_abs.ensures.value in
     let found = rw limit at c.in-Ok.ensures in
@@ -23,7 +24,8 @@ returns-then-parts c = let n = parts_in c.args.parts in
     rw (c.if-parts.true, value) (sym is)
 
 pub returns-else-parts : goal.returns-else-parts
-returns-else-parts c = let n = parts_in c.args.parts in
+returns-else-parts c =
+    let n = parts_in c.args.parts in
     let same = to_z-of_z w128 c.args.limit c.ranges.limit in
     let limit = rw same at c.unsigned_abs.ensures.value in
     let found = rw limit at c.in-Ok.ensures in

@@ -11,7 +11,8 @@ pub shapes-returns-in_default-as_object : goal.shapes-returns-in_default-as_obje
 shapes-returns-in_default-as_object t c = λ n. k.not_object c.args.exact _ _ c.in-Some.ensures _ _ _ _ _ c.values-test.true c.value-item.is c.values.invariant c.in_default-as_object.ensures
 
 pub shapes-returns-in_err-shape : goal.shapes-returns-in_err-shape
-shapes-returns-in_err-shape t c = let p = err_from_is_err_and c.from_residual-in_err-shape.result c.from_residual-in_err-shape.ensures.1 in
+shapes-returns-in_err-shape t c =
+    let p = err_from_is_err_and c.from_residual-in_err-shape.result c.from_residual-in_err-shape.ensures.1 in
     rw (p.1, p.2) (λ n. k.shape_fails c.args.exact _ _ c.in-Some.ensures _ _ _ _ _ c.values-test.true c.value-item.is c.values.invariant _ c.in-Some-as_object.ensures _ (c.in_err-shape.ensures n))
 
 pub shapes-values-preserved-in_default-2 : goal.shapes-values-preserved-in_default-2

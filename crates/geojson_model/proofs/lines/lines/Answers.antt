@@ -5,7 +5,8 @@ use Rattle.json_members.proofs.Turns as g
 use Rattle.geojson_model.proofs.lines.lines.Goals as goal
 
 pub returns-in_err-line : goal.returns-in_err-line
-returns-in_err-line c = let p = err_from_is_err_and c.from_residual-in_err-line.result c.from_residual-in_err-line.ensures.1 in
+returns-in_err-line c =
+    let p = err_from_is_err_and c.from_residual-in_err-line.result c.from_residual-in_err-line.ensures.1 in
     rw (p.1, p.2) (λ n. g.kept_fails (line c.args.exact) _ _ _ _ _ _ c.values-test.true c.value-item.is c.values.invariant _ (c.in_err-line.ensures n))
 
 pub values-preserved-in_default : goal.values-preserved-in_default

@@ -5,7 +5,8 @@ use Rattle.json_members.proofs.Turns as g
 use Rattle.geojson_model.proofs.polygons.polygons.Goals as goal
 
 pub returns-in_err-polygon : goal.returns-in_err-polygon
-returns-in_err-polygon c = let p = err_from_is_err_and c.from_residual-in_err-polygon.result c.from_residual-in_err-polygon.ensures.1 in
+returns-in_err-polygon c =
+    let p = err_from_is_err_and c.from_residual-in_err-polygon.result c.from_residual-in_err-polygon.ensures.1 in
     rw (p.1, p.2) (λ n. g.kept_fails (polygon c.args.exact) _ _ _ _ _ _ c.values-test.true c.value-item.is c.values.invariant _ (c.in_err-polygon.ensures n))
 
 pub values-preserved-in_default : goal.values-preserved-in_default

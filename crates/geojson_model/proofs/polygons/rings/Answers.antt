@@ -5,7 +5,8 @@ use Rattle.json_members.proofs.Turns as g
 use Rattle.geojson_model.proofs.polygons.rings.Goals as goal
 
 pub returns-in_err-ring : goal.returns-in_err-ring
-returns-in_err-ring c = let p = err_from_is_err_and c.from_residual-in_err-ring.result c.from_residual-in_err-ring.ensures.1 in
+returns-in_err-ring c =
+    let p = err_from_is_err_and c.from_residual-in_err-ring.result c.from_residual-in_err-ring.ensures.1 in
     rw (p.1, p.2) (λ n. g.kept_fails (ring c.args.exact) _ _ _ _ _ _ c.values-test.true c.value-item.is c.values.invariant _ (c.in_err-ring.ensures n))
 
 pub values-preserved-in_default : goal.values-preserved-in_default

@@ -15,16 +15,19 @@ unreachable-requires c = no_number-from_parts c.as_bytes.result.now _ c.as_bytes
 
 answer : (c : After-scaled_number) → c.scaled_number.result
     ≡ rounded_of c.in-Some.parts.negative (numerator (parts_in c.in-Some.parts) c.args.places) (denominator (parts_in c.in-Some.parts)) (unsigned_abs c.args.limit)
-answer c = let n = parts_in c.in-Some.parts in
+answer c =
+    let n = parts_in c.in-Some.parts in
     c.scaled_number.ensures
     ∙ ap (λ z. rounded_of n.negative (numerator n c.args.places) (denominator n) (unsigned_abs z)) (to_z-of_z w128 c.args.limit c.ranges.limit)
 
 pub returns-clause-value : goal.returns-clause-value
-returns-clause-value c = let same = c.as_bytes.ensures.text in
+returns-clause-value c =
+    let same = c.as_bytes.ensures.text in
     let read : parts_of c.args.self.now ≡ Some (parts_in c.in-Some.parts) = ap parts_of (sym same) ∙ c.in-Some.ensures.some in
     answer c ∙ sym (scaled_of-read c.args.places (unsigned_abs c.args.limit) c.args.self.now (parts_in c.in-Some.parts) read)
 
 pub returns-clause-within : goal.returns-clause-within
-returns-clause-within c = let n = parts_in c.in-Some.parts in
+returns-clause-within c =
+    let n = parts_in c.in-Some.parts in
     subst (λ r. IfOk r (λ s. unsigned_abs s.value ≤ unsigned_abs c.args.limit)) (sym (answer c))
     (rounded_of-limit n.negative (numerator n c.args.places) (denominator n) (unsigned_abs c.args.limit))

@@ -10,7 +10,7 @@ mod position_cells;
 mod rebuilding;
 mod trimming;
 
-pub use marking::mark_refs;
+pub use marking::{mark_refs, unused_flags};
 pub use places::{Place, add_here, add_part, hole_cause};
 pub use position_cells::cells;
 pub use rebuilding::{is_short_line, is_small_line};

@@ -5,7 +5,7 @@ ghost use Rattle.arc_choice.specs.Uses.{answers};
 ghost use Rattle.topo_model.specs.Fates as fates;
 ghost use Rattle.topo_model.specs.Marks.{kept_names_arc, used_by};
 
-use arc_choice::mark_refs;
+use arc_choice::{mark_refs, unused_flags};
 use arc_table::Table;
 use geojson_types::Cause;
 use owned_values::Memory;
@@ -37,7 +37,7 @@ pub fn used_arcs(alloc: Global, fates: &[Option<Cause>], table: &Table) -> Resul
     ensures used { IfOk result
         (λ flags. flags.items ≡ answers (used_by fates.now table.now.refs) 0 (length table.now.arcs)) }
 {
-    let mut used = vec![in alloc; false; table.len()]?;
+    let mut used = unused_flags(alloc, table.len())?;
     let mut next: usize = 0;
     'fates: for fate in fates {
         if !has_line(*fate, next, table.lines()) {

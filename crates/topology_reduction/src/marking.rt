@@ -8,7 +8,7 @@ ghost use Rattle.geometry.specs.Pruning.{option_strokes, strokes};
 ghost use Rattle.topojson_types.specs.Topologies.{features_strokes, object_features};
 ghost use Rattle.topology_reduction.specs.Uses.{any_uses};
 
-use arc_choice::mark_refs;
+use arc_choice::{mark_refs, unused_flags};
 use geojson_types::Geometry;
 use json_value::{Items, OwnText};
 use owned_values::Memory;
@@ -23,7 +23,7 @@ pub fn used_arcs(
 ) -> Result<Vec<bool>, Memory>
     ensures { IfOk result (λ used. used.items ≡ answers (is_used objects.now) 0 arcs) }
 {
-    let mut used = vec![in alloc; false; arcs]?;
+    let mut used = unused_flags(alloc, arcs)?;
     mark_objects(objects, &mut used);
     Ok(used)
 }

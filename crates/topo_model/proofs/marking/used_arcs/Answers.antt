@@ -10,7 +10,7 @@ use Rattle.topo_model.proofs.marking.used_arcs.Goals as goal
 
 pub fates-init : goal.fates-init
 fates-init c =
-    let clear : c.in_ok-used.used.items ≡ replicate (length c.args.table.now.arcs) false = c.in_ok-used.ensures.items_if_clones_equal (λ y h. h) ∙ ap (λ n. replicate n false) c.len.ensures in
+    let clear : c.in_ok-used.used.items ≡ replicate (length c.args.table.now.arcs) false = c.in_ok-used.ensures ∙ ap (λ n. replicate n false) c.len.ensures in
     (ap length clear ∙ length-replicate (length c.args.table.now.arcs) false, ap (also_set (any_names_arc (dealt_kept c.args.fates.now c.args.table.now.refs)) 0) clear)
 
 pub fates-preserved-then-not-has_line : goal.fates-preserved-then-not-has_line

@@ -6,7 +6,7 @@ use Rattle.topology_reduction.proofs.marking.used_arcs.Goals as goal
 
 pub returns : goal.returns
 returns c =
-    let clear : c.in_ok-used.used.items ≡ replicate c.args.arcs false = c.in_ok-used.ensures.items_if_clones_equal (λ y h. h) in
+    let clear : c.in_ok-used.used.items ≡ replicate c.args.arcs false = c.in_ok-used.ensures in
     let same : length c.mark_objects.new.used ≡ length c.in_ok-used.used.items = c.mark_objects.auto.used ∙ ap length c.deref_mut.ensures.value in
     written_back c.in_ok-used.used.len c.mark_objects.new.used c.in_ok-used.used.items c.in_ok-used.used.ok.0 same
     ∙ c.mark_objects.ensures ∙ ap (also_set (is_used c.args.objects.now) 0) (c.deref_mut.ensures.value ∙ clear) ∙ cleared (is_used c.args.objects.now) 0 c.args.arcs

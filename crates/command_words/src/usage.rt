@@ -1,5 +1,6 @@
 // The words that the program takes, and its help.
 use crate::file_usage::{geo, simplify, stat};
+use clap::builder::ValueParser;
 use clap::{Arg, ArgAction, Command, value_parser};
 use std::alloc::{AllocError, Global};
 
@@ -112,12 +113,17 @@ pub(crate) fn program<'a>(alloc: Global) -> Result<Command<'a>, AllocError> {
         .subcommand(stat(alloc)?)
 }
 
+/// The numbers of cells that a grid may have along each axis.
+fn numbers_of_cells<'a>() -> ValueParser<'a> {
+    value_parser!(u32).range(2..=1_000_000_000)
+}
+
 /// The option of `build` that snaps positions to a grid.
 fn grid<'a>(alloc: Global) -> Arg<'a> {
     Arg::new(alloc, GRID)
         .long("grid")
         .value_name("N")
-        .value_parser(value_parser!(u32).range(2..=1_000_000_000))
+        .value_parser(numbers_of_cells())
         .help(GRID_HELP)
         .long_help(GRID_LONG_HELP)
 }

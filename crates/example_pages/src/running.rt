@@ -4,9 +4,17 @@ use crate::example::{Example, Output, Runs};
 use crate::memory_files::{LentFiles, MemoryFiles};
 use crate::program::{Program, Ran, Streams};
 use crate::tally::Tally;
-use byte_ends::devices::{CutWriter, Fault};
-use byte_ends::{Sink, ToWrite};
+use byte_ends::devices::Fault;
 use std::alloc::{AllocError, Global};
+
+/// The words behind the program's name.
+fn words_of(alloc: Global, words: &str) -> Result<Vec<String>, AllocError> {
+    let mut all = Vec::new(alloc);
+    for word in words.split(' ').skip(1) {
+        all.push(String::from_str(alloc, word)?)?;
+    }
+    Ok(all)
+}
 
 /// Runs a command.
 fn run<P: Program>(
@@ -17,28 +25,15 @@ fn run<P: Program>(
     devices: Devices,
     damage: Damage<'_>,
 ) -> Result<Ran, AllocError> {
-    let mut all = Vec::new(alloc);
-    for word in words.split(' ').skip(1) {
-        all.push(String::from_str(alloc, word)?)?;
-    }
-    let step = devices.step();
-    let output = CutWriter::new(Vec::new(alloc), step, devices.output);
-    let error = CutWriter::new(Vec::new(alloc), step, devices.error_fault());
+    let words = words_of(alloc, words)?;
     let files = LentFiles {
         files,
         devices,
         damage,
     };
-    let mut streams = Streams {
-        output: Sink::new(ToWrite::new(output)),
-        error: Sink::new(ToWrite::new(error)),
-    };
-    let status = program.run(alloc, all, files, &mut streams);
-    Ok(Ran {
-        status,
-        output: Vec::from_slice(alloc, streams.output.into_inner().into_inner().held())?,
-        error: Vec::from_slice(alloc, streams.error.into_inner().into_inner().held())?,
-    })
+    let mut streams = Streams::on(alloc, devices);
+    let status = program.run(alloc, words, files, &mut streams);
+    streams.into_ran(alloc, status)
 }
 
 /// Runs a command as its page says, judges each run, and gives what the last one wrote.

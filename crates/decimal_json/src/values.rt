@@ -72,7 +72,7 @@ pub fn value_at<'a>(alloc: Global, deepest: u32, bytes: &'a [u8]) -> Result<(Jso
 }
 
 /// The elements of an array, behind the bracket that opens it.
-#[tactic(auto, unfolding(crate::specs::Reading::items_at, crate::specs::Reading::items_unless, crate::specs::Reading::closes))]
+#[tactic(auto, unfolding(json_value::specs::Reading::items_at, json_value::specs::Reading::items_unless, json_value::specs::Reading::closes))]
 #[cycle(reader)]
 fn array_at<'a>(
     alloc: Global,
@@ -117,7 +117,7 @@ fn elements_at<'a>(
 }
 
 /// The members of an object, behind the brace that opens it.
-#[tactic(auto, unfolding(crate::specs::Reading::items_at, crate::specs::Reading::items_unless, crate::specs::Reading::closes))]
+#[tactic(auto, unfolding(json_value::specs::Reading::items_at, json_value::specs::Reading::items_unless, json_value::specs::Reading::closes))]
 #[cycle(reader)]
 fn object_at<'a>(
     alloc: Global,
@@ -161,7 +161,7 @@ fn members_at<'a>(
 }
 
 /// The member at the front of the bytes (a name, a colon and a value), and the bytes after it.
-#[tactic(auto, unfolding(crate::specs::Reading::member_at))]
+#[tactic(auto, unfolding(json_value::specs::Reading::member_at))]
 #[cycle(reader)]
 pub fn member_at<'a>(
     alloc: Global,

@@ -1,30 +1,23 @@
 // The members of a topology.
-ghost use Rattle.std.specs.Prelude.{IfOk, OnOk};
+ghost use Rattle.std.specs.Prelude.{◌≡◌, IfOk, IsTrue};
 ghost use Rattle.std.specs.Option.{option_copied};
+ghost use Rattle.geojson_types.specs.declared.counts.Counts.{Counts as Counted};
+ghost use Rattle.topology_scanning.specs.TopologyParts.{ArcsStand, GivesTransform, Holds, nothing};
 ghost use Rattle.value_scanning.specs.Fronts.{MemberFront};
-ghost use Rattle.topology_scanning.specs.TopologyParts.{Holds, KeepsTransform, GivesTransform};
+ghost use Rattle.value_scanning.specs.MemberLists.{ReadsMembers, TakesMember};
 
-use arc_scanning::arcs_at;
-use decimal_json::{after_word, member_at, value_at};
+use decimal_json::{after_word, member_at, skip, value_at};
 use geojson_types::Counts;
-use json_value::{Items, Json};
+use json_value::{Items, Json, OwnText};
+use object_scanning::{halt_of, objects_at};
 use std::alloc::Global;
 use topojson_arc_reading::transform_if;
-use topojson_meaning::TopoFault;
-use topojson_types::{Cell, Transform};
-use unit_scanning::Halt;
-use value_scanning::{Object, named_value};
+use topojson_types::{Cell, TopoObject, Transform};
+use unit_scanning::{Halt, after_byte};
+use value_scanning::{named_value, opened};
 
 /// How deep the arrays and objects of a topology's member may nest.
-const MEMBER_DEPTH: u32 = 254;
-
-/// What a fault of a value is to one who reads bytes.
-pub fn halt_of(fault: TopoFault) -> Halt {
-    match fault {
-        TopoFault::Memory => Halt::Memory,
-        _ => Halt::Unread,
-    }
-}
+pub const MEMBER_DEPTH: u32 = 254;
 
 /// The transform that the value of the member `transform` gives, if it is there.
 pub fn transform_of(alloc: Global, value: Option<&Json>) -> Result<Option<Transform>, Halt>
@@ -36,56 +29,73 @@ pub fn transform_of(alloc: Global, value: Option<&Json>) -> Result<Option<Transf
     }
 }
 
-/// What was read of a topology's members: whether its type was, and the values of `transform` and `objects`. Its arcs stand on a
-/// transform: the one that was read before them.
+/// The arcs of a topology, by a transform or without one, which were read before its members: where they stand, and what follows them.
+#[derive(Drop)]
+pub struct Found<'t> {
+    pub transform: Option<Transform>,
+    pub arcs: Items<Items<Cell>>,
+    pub place: &'t [u8],
+    pub behind: &'t [u8],
+}
+
+/// What was read of a topology's members: whether its type and its arcs were, the value of `transform`, and the objects.
 #[derive(Drop)]
 pub struct Parts {
     pub typed: bool,
-    pub on: Option<Transform>,
+    pub arcs: bool,
     pub transform: Option<Json>,
-    pub objects: Option<Json>,
-    pub arcs: Option<Items<Items<Cell>>>,
+    pub objects: Option<Items<(OwnText, TopoObject)>>,
+}
+
+/// Whether these are the same bytes.
+fn is_same(one: &[u8], other: &[u8]) -> bool
+    ensures { IsTrue result → one.now ≡ other.now }
+{
+    one == other
+}
+
+/// What follows the arcs, if they stand here.
+fn behind_arcs<'t>(found: &Found<'t>, front: &[u8]) -> Result<&'t [u8], Halt>
+    ensures { IfOk result (λ rest. (front.now ≡ found.now.place.now) × (rest.now ≡ found.now.behind.now)) }
+{
+    if !is_same(front, found.place) {
+        return Err(Halt::Unread);
+    }
+    Ok(found.behind)
 }
 
 impl Parts {
-    /// Keeps the value of the member `transform`. Arcs behind it stand on what it gives.
-    fn keep_transform(&mut self, alloc: Global, value: Json) -> Result<(), Halt>
-        ensures { OnOk result (KeepsTransform self.old value self.new) }
-    {
-        if self.arcs.is_none() {
-            self.on = transform_of(alloc, Some(&value))?;
-        }
-        self.transform = Some(value);
-        Ok(())
-    }
-}
-
-impl Object for Parts {
-    ghost is_front = { MemberFront 254 };
-
-    ghost holds = { λ exact. Holds };
-
-    fn member<'a>(
+    /// Reads the member at the front of a topology of these arcs, and gives what follows it.
+    fn member<'t>(
         &mut self,
         alloc: Global,
-        bytes: &'a [u8],
-        _exact: bool,
+        found: &Found<'t>,
+        bytes: &'t [u8],
         counts: &mut Counts,
-    ) -> Result<&'a [u8], Halt> {
+    ) -> Result<&'t [u8], Halt>
+        requires { (counted : Counted) × ArcsStand found.now counted }
+        ensures { IfOk result (λ rest. TakesMember (MemberFront 254) (Holds found.now) self.old self.new bytes.now rest.now counts.old counts.new) }
+    {
         if let Some(front) = named_value(b"\"arcs\"", bytes) {
-            if self.arcs.is_some() {
+            if self.arcs {
                 return Err(Halt::Unread);
             }
-            let (arcs, rest) = arcs_at(alloc, self.on.as_ref(), front, counts)?;
-            self.arcs = Some(arcs);
+            let rest = behind_arcs(found, front)?;
+            self.arcs = true;
             return Ok(rest);
         }
         if let Some(front) = named_value(b"\"objects\"", bytes) {
             if self.objects.is_some() {
                 return Err(Halt::Unread);
             }
-            let (value, rest) = value_at(alloc, MEMBER_DEPTH, front)?;
-            self.objects = Some(value);
+            let (objects, rest) = objects_at(
+                alloc,
+                found.transform.as_ref(),
+                found.arcs.as_slice(),
+                front,
+                counts,
+            )?;
+            self.objects = Some(objects);
             return Ok(rest);
         }
         if let Some(front) = named_value(b"\"transform\"", bytes) {
@@ -93,7 +103,7 @@ impl Object for Parts {
                 return Err(Halt::Unread);
             }
             let (value, rest) = value_at(alloc, MEMBER_DEPTH, front)?;
-            self.keep_transform(alloc, value)?;
+            self.transform = Some(value);
             return Ok(rest);
         }
         if let Some(front) = named_value(b"\"type\"", bytes) {
@@ -122,4 +132,32 @@ impl Object for Parts {
         }
         Ok(rest)
     }
+}
+
+/// Reads the members of a topology of these arcs behind its brace, one or more, and gives what was read of them and what follows it.
+pub fn parts_at<'t>(
+    alloc: Global,
+    found: &Found<'t>,
+    inside: &'t [u8],
+    counts: &mut Counts,
+) -> Result<(Parts, &'t [u8]), Halt>
+    requires { (counted : Counted) × ArcsStand found.now counted }
+    ensures { IfOk result (λ x. ReadsMembers (MemberFront 254) (Holds found.now) nothing x.0 inside.now x.1.now counts.old counts.new) }
+{
+    let mut parts = Parts {
+        typed: false,
+        arcs: false,
+        transform: None,
+        objects: None,
+    };
+    let mut rest = parts.member(alloc, found, skip(inside), counts)?;
+    'members: for _ in 0..inside.len() {
+        let mark = skip(rest);
+        if let Some(end) = after_byte(b'}', mark) {
+            return Ok((parts, end));
+        }
+        let next = opened(b',', mark)?;
+        rest = parts.member(alloc, found, skip(next), counts)?;
+    }
+    Err(Halt::Unread)
 }

@@ -1,51 +1,31 @@
 // Topologies.
-ghost use Rattle.std.specs.Prelude.{◌≡◌, ◌∷◌, Ok, IfOk, IfNone, IsTrue, IsUtf8};
+ghost use Rattle.std.specs.Prelude.{◌≡◌, ◌∷◌, Ok, IfOk, IsTrue, IsUtf8};
 ghost use Rattle.std.specs.Option.{option_copied};
 ghost use Rattle.json_value.specs.Reading as reading;
-ghost use Rattle.geojson_types.specs.Counting.{no_counts};
+ghost use Rattle.geojson_types.specs.declared.counts.Counts.{Counts as Counted};
 ghost use Rattle.json_value.specs.Grammar.{mark};
 ghost use Rattle.json_value.specs.declared.json.Json.TheVariants as j;
 ghost use Rattle.topojson_meaning.specs.Members.{Members};
 ghost use Rattle.topojson_meaning.specs.Topologies.{topology};
-ghost use Rattle.topology_scanning.specs.TopologyParts.{AreObjects, GivesTransform, Holds, SpellsParts, SpellsTopology};
+ghost use Rattle.topology_scanning.specs.TopologyParts.{ArcsStand, GivesTransform, Holds, SpellsParts, SpellsTopology};
 
-use crate::members::{Parts, halt_of, transform_of};
-use decimal_json::skip;
+use crate::members::{Found, MEMBER_DEPTH, Parts, parts_at, transform_of};
+use crate::places::places_in;
+use arc_scanning::arcs_at;
+use decimal_json::{skip, value_at};
 use geojson_types::Counts;
-use json_value::{Items, Json, OwnText};
 use simdutf8::compat;
 use std::alloc::Global;
 use topojson_meaning::topology_is_valid;
-use topojson_reading::read_objects;
-use topojson_types::{Cell, TopoObject, Topology, Transform};
+use topojson_types::{Topology, Transform};
 use unit_scanning::Halt;
-use value_scanning::{members_at, opened, text_of};
+use value_scanning::{opened, text_of};
 
 /// What stands behind the brace of the object that the bytes are.
 fn inside_of(bytes: &[u8]) -> Result<&[u8], Halt>
     ensures { IfOk result (λ inside. reading.skip (reading.without bytes.now (reading.after_word mark bytes.now)) ≡ 123 ∷ inside.now) }
 {
     opened(b'{', skip(text_of(bytes)))
-}
-
-/// What the members of the object that the bytes spell give, and what was counted in its arcs. Arcs behind no transform stand on this one.
-fn parts_on(alloc: Global, bytes: &[u8], on: Option<Transform>) -> Result<(Parts, Counts), Halt>
-    ensures { IfOk result (λ r. SpellsParts bytes.now r.0 r.1) }
-{
-    let inside = inside_of(bytes)?;
-    let none = Parts {
-        typed: false,
-        on,
-        transform: None,
-        objects: None,
-        arcs: None,
-    };
-    let mut counts = Counts::none();
-    let (parts, rest) = members_at::<Parts>(alloc, none, inside, false, &mut counts)?;
-    if !skip(rest).is_empty() {
-        return Err(Halt::Unread);
-    }
-    Ok((parts, counts))
 }
 
 /// Whether both are the same numbers in the same texts.
@@ -69,86 +49,123 @@ fn are_same(one: Option<&Transform>, other: Option<&Transform>) -> bool
     }
 }
 
-/// The objects that the value of the member `objects` is, over these arcs. It must be there.
-fn objects_of(
-    alloc: Global,
-    transform: Option<&Transform>,
-    arcs: &[Items<Cell>],
-    value: Option<Json>,
-    counts: &mut Counts,
-) -> Result<Items<(OwnText, TopoObject)>, Halt>
-    ensures { IfOk result (λ objects. AreObjects (option_copied transform.entry) arcs.now value objects counts.old counts.new) }
-{
-    let Some(value) = value else {
-        return Err(Halt::Unread);
+/// The transform that the value at the front gives, if there is one.
+fn transform_at(alloc: Global, front: Option<&[u8]>) -> Result<Option<Transform>, Halt> {
+    let Some(front) = front else {
+        return Ok(None);
     };
-    match read_objects(alloc, transform, arcs, value, counts) {
-        Ok(objects) => Ok(Items::of(objects)),
-        Err(fault) => Err(halt_of(fault)),
-    }
+    let (value, _rest) = value_at(alloc, MEMBER_DEPTH, front)?;
+    transform_of(alloc, Some(&value))
 }
 
-/// The topology of these parts, whose arcs stand on its transform.
-fn topology_of(alloc: Global, parts: Parts, counted: Counts) -> Result<(Topology, Counts), Halt>
-    requires held { (ms : Members) × Holds ms parts no_counts counted }
-    requires settled { GivesTransform parts.transform parts.on }
-    ensures { IfOk result (λ r. (ms : Members) → Holds ms parts no_counts counted → topology (j.Object ms) ≡ Ok (r.0, r.1)) }
+/// What the members of the object that the bytes spell give, on arcs that were read before them.
+fn parts_on<'t>(
+    alloc: Global,
+    bytes: &'t [u8],
+    found: &Found<'t>,
+    counts: &mut Counts,
+) -> Result<Parts, Halt>
+    requires { (counted : Counted) × ArcsStand found.now counted }
+    ensures { IfOk result (λ parts. SpellsParts bytes.now found.now parts counts.old counts.new) }
+{
+    let inside = inside_of(bytes)?;
+    let (parts, rest) = parts_at(alloc, found, inside, counts)?;
+    if !skip(rest).is_empty() {
+        return Err(Halt::Unread);
+    }
+    Ok(parts)
+}
+
+/// Whether the transform that the arcs stand on is the one that these parts give.
+fn is_settled(alloc: Global, found: &Found<'_>, parts: &Parts) -> Result<bool, Halt>
+    ensures { IfOk result (λ settled. IsTrue settled → GivesTransform parts.now.transform found.now.transform) }
+{
+    let transform = transform_of(alloc, parts.transform.as_ref())?;
+    Ok(are_same(found.transform.as_ref(), transform.as_ref()))
+}
+
+/// The topology of these parts.
+fn topology_of(
+    found: Found<'_>,
+    parts: Parts,
+    counted: Counts,
+    counts: Counts,
+) -> Result<Topology, Halt>
+    requires arcs { ArcsStand found counted }
+    requires held { (ms : Members) × Holds found ms parts counted counts }
+    requires settled { GivesTransform parts.transform found.transform }
+    ensures { IfOk result (λ t. (ms : Members) → Holds found.entry ms parts counted counts → topology (j.Object ms) ≡ Ok (t, counts)) }
 {
     let Parts {
         typed,
-        on,
+        arcs,
         transform: _transform,
         objects,
-        arcs,
     } = parts;
     if !typed {
         return Err(Halt::Unread);
     }
-    let Some(arcs) = arcs else {
+    if !arcs {
+        return Err(Halt::Unread);
+    }
+    let Some(objects) = objects else {
         return Err(Halt::Unread);
     };
-    let mut counts = counted;
-    let objects = objects_of(alloc, on.as_ref(), arcs.as_slice(), objects, &mut counts)?;
     topology_is_valid();
-    Ok((Topology::of(objects, arcs, on), counts))
+    Ok(Topology::of(objects, found.arcs, found.transform))
 }
 
-/// None where the arcs of these parts stand on their transform, and else that transform.
-fn other_transform(alloc: Global, parts: &Parts) -> Result<Option<Option<Transform>>, Halt>
-    ensures { IfOk result (λ other. IfNone other (GivesTransform parts.now.transform parts.now.on)) }
-{
-    let transform = transform_of(alloc, parts.transform.as_ref())?;
-    if are_same(parts.on.as_ref(), transform.as_ref()) {
-        return Ok(None);
-    }
-    Ok(Some(transform))
-}
-
-/// The topology that the bytes spell, which are UTF-8, where its arcs stand on this transform or behind their own.
-fn scan_on(alloc: Global, bytes: &[u8], on: Option<Transform>) -> Result<(Topology, Counts), Halt>
-    requires { IsUtf8 bytes.now }
+/// The topology of these arcs that the bytes spell, which are UTF-8, and what was counted in it.
+fn scan_on<'t>(
+    alloc: Global,
+    bytes: &'t [u8],
+    found: Found<'t>,
+    counted: Counts,
+) -> Result<(Topology, Counts), Halt>
+    requires utf8 { IsUtf8 bytes.now }
+    requires arcs { ArcsStand found counted }
     ensures { IfOk result (λ r. SpellsTopology bytes.now r.0 r.1) }
 {
-    let (parts, counts) = parts_on(alloc, bytes, on)?;
-    match other_transform(alloc, &parts)? {
-        None => topology_of(alloc, parts, counts),
-        Some(_) => Err(Halt::Unread),
+    let mut counts = counted;
+    let parts = parts_on(alloc, bytes, &found, &mut counts)?;
+    if !is_settled(alloc, &found, &parts)? {
+        return Err(Halt::Unread);
     }
+    let topology = topology_of(found, parts, counted, counts)?;
+    Ok((topology, counts))
 }
 
-/// The topology that the bytes spell, which are UTF-8. Where its transform stands behind its arcs, its members are read once more.
+/// The arcs at the front, which stand on this transform, and what was counted in them.
+fn found_at<'t>(
+    alloc: Global,
+    transform: Option<Transform>,
+    place: &'t [u8],
+) -> Result<(Found<'t>, Counts), Halt>
+    ensures { IfOk result (λ r. ArcsStand r.0 r.1) }
+{
+    let mut counts = Counts::none();
+    let (arcs, behind) = arcs_at(alloc, transform.as_ref(), place, &mut counts)?;
+    let found = Found {
+        transform,
+        arcs,
+        place,
+        behind,
+    };
+    Ok((found, counts))
+}
+
+/// The topology that the bytes spell, which are UTF-8. Its arcs are read first, by the transform, wherever the two stand, and then its members.
 fn scan_text(alloc: Global, bytes: &[u8]) -> Result<(Topology, Counts), Halt>
     requires { IsUtf8 bytes.now }
     ensures { IfOk result (λ r. SpellsTopology bytes.now r.0 r.1) }
 {
-    let (parts, counts) = parts_on(alloc, bytes, None)?;
-    match other_transform(alloc, &parts)? {
-        None => topology_of(alloc, parts, counts),
-        Some(transform) => {
-            drop(parts);
-            scan_on(alloc, bytes, transform)
-        }
-    }
+    let places = places_in(inside_of(bytes)?);
+    let Some(place) = places.arcs else {
+        return Err(Halt::Unread);
+    };
+    let transform = transform_at(alloc, places.transform)?;
+    let (found, counted) = found_at(alloc, transform, place)?;
+    scan_on(alloc, bytes, found, counted)
 }
 
 /// The topology (TopoJSON 1.0, section 2.1) that the bytes spell, and what was counted in it.

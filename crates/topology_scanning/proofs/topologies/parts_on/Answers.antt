@@ -5,4 +5,4 @@ use Rattle.topology_scanning.proofs.topologies.parts_on.Goals as goal
 
 pub returns : goal.returns
 returns c =
-    parts_spelled c.args.bytes.now _ _ c.args.on c.in_ok-parts.parts _ c.in_ok-inside.ensures (rw c.none-counts.ensures at c.in_ok-parts.ensures) (sym c.skip.ensures ∙ empty_is _ (sym c.is_empty.ensures ∙ c.if-not-is_empty.false))
+    parts_spelled c.args.bytes.now _ _ c.args.found.now _ c.args.counts.now _ c.in_ok-inside.ensures c.in_ok-parts.ensures (sym c.skip.ensures ∙ empty_is _ (sym c.is_empty.ensures ∙ c.if-not-is_empty.false))

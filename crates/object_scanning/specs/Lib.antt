@@ -1,0 +1,3 @@
+pub mod Strokes
+pub mod FeatureParts
+pub mod ObjectParts

@@ -1,0 +1,16 @@
+use Rattle.std.proofs.Common.{sym, ◌∙◌}
+use Rattle.value_scanning.specs.Fronts.{MemberFront}
+use Rattle.value_scanning.proofs.MembersSoFar.{starts, goes_on, ends}
+use Rattle.topology_scanning.specs.TopologyParts.{Holds, nothing}
+use Rattle.topology_scanning.proofs.members.parts_at.Goals as goal
+
+pub members-init : goal.members-init
+members-init c = starts (MemberFront 254) (Holds c.args.found.now) nothing c.args.inside.now c.args.counts.now _ _ _ (rw c.skip.ensures at c.in_ok-rest.ensures)
+
+pub members-preserved : goal.members-preserved
+members-preserved c =
+    goes_on (MemberFront 254) (Holds c.args.found.now) nothing c.args.inside.now c.args.counts.now _ _ _ _ _ _ _ c.members.invariant (sym c.skip-mark.ensures ∙ c.in_ok-next.ensures)
+    (rw c.skip-in-members.ensures at c.in_ok-rest-2.ensures)
+
+pub returns-in-Some : goal.returns-in-Some
+returns-in-Some c = ends (MemberFront 254) (Holds c.args.found.now) nothing c.args.inside.now c.args.counts.now _ _ _ _ c.members.invariant (sym c.skip-mark.ensures ∙ c.in-Some.ensures)

@@ -56,10 +56,6 @@ position_back p h = pure_gives _ elements_position _ p (array_elements (numbers 
 
 -- ---- cells of a grid
 
-whole_back : (bound : ℕ) (n : ℤ) → bound ≤ difference_limit → unsigned_abs n ≤ bound → grid_number bound (units_text n 0) ≡ Ok n
-unfolding grid_number
-whole_back bound n small h = let e = scaled_of-units n 0 bound (omega arith) h in rw e refl
-
 cell_stays : (t : Transform) (c : Point) → IsPlace (Some t) c → grid_cell t c ≡ Ok c
 unfolding grid_cell
 cell_stays t c h = rw (is_within-both grid_limit c h.0.0 h.0.1, is_within-both position_limit (place_on t c) h.1.0 h.1.1) refl
@@ -67,18 +63,15 @@ cell_stays t c h = rw (is_within-both grid_limit c h.0.0 h.0.1, is_within-both p
 -- the cell that lies so far from the one before
 elements_cell_back : (t : Transform) (bound : ℕ) (before c d : Point) → bound ≤ difference_limit → IsWithin bound d → moved before d ≡ c → IsPlace (Some t) c
     → Gives (elements_cell t bound before (numbers (Some t) d)) c
-unfolding elements_cell
-elements_cell_back t bound before c d small h is ok counts = grind (arith, number_is_text, whole_back, cell_stays)
-
-near : (p q : Point) → IsWithin grid_limit p → IsWithin grid_limit q → IsWithin difference_limit (difference p q)
-near p q h k = grind (arith, ints)
+unfolding elements_cell grid_number
+elements_cell_back t bound before c d small h is ok counts = grind (arith, number_is_text, scaled_of-units, cell_stays)
 
 difference_back : (t : Transform) (before p : Point) → IsWithin grid_limit before → IsPlace (Some t) p → Gives (cell t difference_limit before (cell_value (Some t) (difference before p))) p
 unfolding cell
 difference_back t before p h k =
     let d : Point = difference before p in
     pure_gives _ (elements_cell t difference_limit before) _ p (array_elements (numbers (Some t) d))
-    (elements_cell_back t difference_limit before p d (omega arith) (near before p h k.0) (moved_there before p) k)
+    (elements_cell_back t difference_limit before p d (omega arith) (grind (arith, ints)) (moved_there before p) k)
 
 -- cells as differences, the first one from this cell
 behind_back : (t : Transform) (before : Point) (cs : List Point) → IsWithin grid_limit before → AllByRecursion (IsPlace (Some t)) cs
@@ -89,13 +82,10 @@ behind_back t before (c ∷ cs) h all counts = rw (difference_back t before c h 
 
 -- ---- places
 
-from_origin : (p : Point) → moved origin p ≡ p
-from_origin p = grind (arith, ints)
-
 pub elements_place_back : (transform : Option Transform) (p : Point) → IsPlace transform p → Gives (elements_place transform (numbers transform p)) p
 unfolding elements_place
 elements_place_back None p h = elements_position_back p h
-elements_place_back (Some t) p h = elements_cell_back t grid_limit origin p p (omega arith) h.0 (from_origin p) h
+elements_place_back (Some t) p h = elements_cell_back t grid_limit origin p p (omega arith) h.0 (grind (arith, ints)) h
 
 place_back : (transform : Option Transform) (p : Point) → IsPlace transform p → Gives (place transform (cell_value transform p)) p
 unfolding place

@@ -22,9 +22,9 @@ use Rattle.topojson_meaning.specs.Members.{lookup_fault, named, find, need}
 use Rattle.topojson_meaning.specs.Reader.{with_fault}
 use Rattle.topojson_meaning.specs.Shapes.{typed_shape}
 use Rattle.topojson_meaning.proofs.ArcsBack.{object_members}
-use Rattle.topojson_meaning.proofs.LinesBack.{Sound}
 use Rattle.topojson_meaning.proofs.ShapesBack.{Parts, named_type, shape_parts, typed_back}
 use Rattle.topojson_meaning.proofs.Steps.{Gives, pure_gives}
+use Rattle.topojson_meaning.proofs.ValidKept.{IsStroke}
 
 -- ---- members
 
@@ -69,13 +69,7 @@ module _ (i : Option Id) (ps : Option Members) (t : Json) (parts : Members) wher
 
   found : AreParts parts → Found i ps t parts
   unfolding need named
-  found h = record {
-    type = type_found h.0;
-    id = id_found h.1;
-    properties = (grind (arith, past_id));
-    others = λ name e f k. ap
-        (λ ts. with_fault lookup_fault (there (only ts))) (past_both name e f k);
-  }
+  found h = grind (arith, type_found, id_found, past_id, past_both)
 
 -- ---- identifiers and properties
 
@@ -138,10 +132,10 @@ module _ (transform : Option Transform) (arcs : List (List Point)) (long : AllBy
 
 -- no list of its shape is empty but a collection's, its cells may stand there, and its lines and rings are sound
 abbrev pub FineFeature : Option Transform → List (List Point) → TopoFeature → Type 0
-FineFeature transform arcs f = IsFeature transform f × AllByRecursion (Sound arcs) (option_strokes f.shape)
+FineFeature transform arcs f = IsFeature transform f × AllByRecursion (IsStroke arcs) (option_strokes f.shape)
 
 module _ (transform : Option Transform) (arcs : List (List Point)) (long : AllByRecursion (IsArc transform) arcs) (few : length arcs < 2 ^ 63) where
-  pub shaped : (i : Option Id) (ps : Option Members) (x : Option TopoShape) → is_full_option x ≡ true → AllByRecursion (IsPlace transform) (option_places x) → AllByRecursion (Sound arcs) (option_strokes x)
+  pub shaped : (i : Option Id) (ps : Option Members) (x : Option TopoShape) → is_full_option x ≡ true → AllByRecursion (IsPlace transform) (option_places x) → AllByRecursion (IsStroke arcs) (option_strokes x)
       → Shaped transform arcs i ps x (geometrical_option (cell_value transform) x)
   shaped i ps None h k m = null_shaped transform arcs long few i ps
   shaped i ps (Some s) h k m = some_shaped transform arcs long few i ps s (shape_parts transform arcs long few s (h, k, m))

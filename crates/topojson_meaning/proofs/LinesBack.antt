@@ -1,5 +1,5 @@
 -- The lines, rings and polygons that are written are read back.
-use Rattle.std.proofs.Common.{◌≡◌, ℕ, zero, suc, ℤ, ◌<◌, ◌≤◌, Bool, true, false, List, [], ◌∷◌, length, map, Option, Some, None, refl, arith}
+use Rattle.std.proofs.Common.{◌≡◌, ℕ, zero, suc, ℤ, ◌<◌, ◌≤◌, true, false, List, [], ◌∷◌, length, map, Option, Some, None, refl, arith}
 use Rattle.std.specs.Prelude.{◌^◌, unsigned_abs}
 use Rattle.std.specs.List.{AllByRecursion}
 use Rattle.std.proofs.lemmas.Bool.{lt-ltb}
@@ -13,14 +13,16 @@ use Rattle.geometry.specs.Lists.{map_some, then_some}
 use Rattle.geometry.specs.Points.{Point}
 use Rattle.geometry.specs.Rings.{both_same}
 use Rattle.geometry.proofs.Points.{same_self}
-use Rattle.geometry.specs.Joins.{number_of, at, or_empty, arc_at, first_of, last_of, Meet, Closes}
+use Rattle.geometry.specs.Joins.{number_of, at, or_empty, arc_at, first_of, last_of, Meet}
 use Rattle.topojson_types.specs.declared.transform.Transform.{Transform}
-use Rattle.topojson_types.specs.Validity.{IsArc, AreInRange, IsJoined, IsClosed}
+use Rattle.topojson_types.specs.Validity.{IsArc, AreInRange}
 use Rattle.topojson_types.specs.Values.{whole_value, line_value, lines_value}
 use Rattle.topojson_meaning.specs.Lines.{some_elements, index_limit, index, joined_to, indexes_behind, indexes, as_ring, line_in, line, ring_in, ring, polygon_in, polygon}
 use Rattle.topojson_meaning.specs.Reader.{if_some, kept}
 use Rattle.topojson_meaning.proofs.ArcsBack.{number_is_text}
 use Rattle.topojson_meaning.proofs.Steps.{Gives, then_gives, kept_gives}
+use Rattle.topojson_meaning.proofs.ValidLines.{last_map}
+use Rattle.topojson_meaning.proofs.ValidKept.{IsStroke, IsLine, IsArea}
 
 -- ---- arrays that are not empty
 
@@ -54,18 +56,6 @@ index_back n i k h c = grind (arith, magnitude, number_is_text, scaled_of-units,
 
 -- ---- lines and rings
 
--- the indexes name arcs that meet, and those of a ring close
-abbrev pub Sound : List (List Point) → Bool × List ℤ → Type 0
-Sound arcs b = AreInRange (length arcs) b.1 × IsJoined arcs b × IsClosed arcs b
-
--- a line or ring of some indexes
-abbrev pub Full : List (List Point) → Bool → List ℤ → Type 0
-Full arcs closed refs = (is_some_list refs ≡ true) × Sound arcs (closed, refs)
-
--- some rings, each of some indexes
-abbrev pub FullArea : List (List Point) → List (List ℤ) → Type 0
-FullArea arcs rs = (is_some_list rs ≡ true) × AllByRecursion (Full arcs true) rs
-
 module _ (transform : Option Transform) (arcs : List (List Point)) (long : AllByRecursion (IsArc transform) arcs) (few : length arcs < 2 ^ 63) where
   starts : (i : ℤ) → number_of i < length arcs → (p : Point) × (first_of (arc_at arcs i) ≡ Some p)
   unfolding number_of
@@ -84,10 +74,6 @@ module _ (transform : Option Transform) (arcs : List (List Point)) (long : AllBy
   indexes_back [] h m c = refl
   indexes_back (i ∷ refs) h m c = rw (index_back (length arcs) i few h.0 c, behind_back i refs h.1 m c) refl
 
-  last_map : {A B : Type 0} (f : A → B) (xs : List A) → last_of (map f xs) ≡ map_some f (last_of xs)
-  last_map f (x ∷ y ∷ xs) = last_map f (y ∷ xs)
-  last_map f xs = refl
-
   -- the last list, if there is one, ends where this one begins
   abbrev Ends : List Point → Option (List Point) → Type 0
   Ends p o = elim o [ None ↦ ⊥ | Some q ↦ last_of q ≡ first_of p ]
@@ -95,35 +81,29 @@ module _ (transform : Option Transform) (arcs : List (List Point)) (long : AllBy
   end_of : (i : ℤ) (o : Option ℤ) → Ends (arc_at arcs i) (map_some (arc_at arcs) o) → then_some (λ k. last_of (arc_at arcs k)) o ≡ first_of (arc_at arcs i)
   end_of i o h = grind arith
 
-  close_back : (refs : List ℤ) → AreInRange (length arcs) refs → Closes (map (arc_at arcs) refs) → Gives (as_ring arcs refs) (Some refs)
-  close_back refs h m c = grind (arith, starts, end_of, last_map, some_same)
-
-  pub line_in_back : (refs : List ℤ) → Sound arcs (false, refs) → Gives (line_in arcs (map whole_value refs)) (Some refs)
+  pub line_in_back : (refs : List ℤ) → IsStroke arcs (false, refs) → Gives (line_in arcs (map whole_value refs)) (Some refs)
   unfolding line_in
   line_in_back refs h c = rw (indexes_back refs h.0 h.1 c) refl
 
-  line_back : (refs : List ℤ) → Full arcs false refs → Gives (line arcs (line_value refs)) (Some refs)
+  line_back : (refs : List ℤ) → IsLine arcs false refs → Gives (line arcs (line_value refs)) (Some refs)
   unfolding line
   line_back refs h = then_gives (some_elements (line_value refs)) (if_some (line_in arcs)) (Some (map whole_value refs)) (Some refs) (some_elements_back whole_value refs h.0) (line_in_back refs h.1)
 
-  pub lines_back : (ls : List (List ℤ)) → AllByRecursion (Full arcs false) ls → Gives (kept (line arcs) (map line_value ls)) ls
-  lines_back = kept_gives (Full arcs false) line_value (line arcs) line_back
+  pub lines_back : (ls : List (List ℤ)) → AllByRecursion (IsLine arcs false) ls → Gives (kept (line arcs) (map line_value ls)) ls
+  lines_back = kept_gives (IsLine arcs false) line_value (line arcs) line_back
 
-  ring_in_back : (refs : List ℤ) → Sound arcs (true, refs) → Gives (ring_in arcs (map whole_value refs)) (Some refs)
+  ring_in_back : (refs : List ℤ) → IsStroke arcs (true, refs) → Gives (ring_in arcs (map whole_value refs)) (Some refs)
   unfolding ring_in
-  ring_in_back refs h = then_gives (indexes arcs (map whole_value refs)) (as_ring arcs) refs (Some refs) (indexes_back refs h.0 h.1) (close_back refs h.0 (h.2 refl))
+  ring_in_back refs h = then_gives (indexes arcs (map whole_value refs)) (as_ring arcs) refs (Some refs) (indexes_back refs h.0 h.1)
+      (λ c. grind (arith, starts, end_of, last_map, some_same))
 
-  ring_back : (refs : List ℤ) → Full arcs true refs → Gives (ring arcs (line_value refs)) (Some refs)
-  unfolding ring
-  ring_back refs h = then_gives (some_elements (line_value refs)) (if_some (ring_in arcs)) (Some (map whole_value refs)) (Some refs) (some_elements_back whole_value refs h.0) (ring_in_back refs h.1)
+  pub polygon_in_back : (rs : List (List ℤ)) → IsArea arcs rs → Gives (polygon_in arcs (map line_value rs)) (Some rs)
+  unfolding polygon_in ring
+  polygon_in_back rs h c = grind (arith, then_gives, some_elements_back, ring_in_back, kept_gives)
 
-  pub polygon_in_back : (rs : List (List ℤ)) → FullArea arcs rs → Gives (polygon_in arcs (map line_value rs)) (Some rs)
-  unfolding polygon_in
-  polygon_in_back rs h c = grind (arith, ring_back, kept_gives)
-
-  polygon_back : (rs : List (List ℤ)) → FullArea arcs rs → Gives (polygon arcs (lines_value rs)) (Some rs)
+  polygon_back : (rs : List (List ℤ)) → IsArea arcs rs → Gives (polygon arcs (lines_value rs)) (Some rs)
   unfolding polygon
   polygon_back rs h = then_gives (some_elements (lines_value rs)) (if_some (polygon_in arcs)) (Some (map line_value rs)) (Some rs) (some_elements_back line_value rs h.0) (polygon_in_back rs h)
 
-  pub polygons_back : (areas : List (List (List ℤ))) → AllByRecursion (FullArea arcs) areas → Gives (kept (polygon arcs) (map lines_value areas)) areas
-  polygons_back = kept_gives (FullArea arcs) lines_value (polygon arcs) polygon_back
+  pub polygons_back : (areas : List (List (List ℤ))) → AllByRecursion (IsArea arcs) areas → Gives (kept (polygon arcs) (map lines_value areas)) areas
+  polygons_back = kept_gives (IsArea arcs) lines_value (polygon arcs) polygon_back

@@ -41,19 +41,20 @@ module _ (transform : Option Transform) (arcs : List (List Point)) (long : AllBy
   unfolding collection need named
   collection_back fs h c = rw (features_back fs h c) refl
 
-  many_back : (fs : List TopoFeature) → AllByRecursion (FineFeature transform arcs) fs → Gives (object transform arcs (object_value (cell_value transform) (Many fs))) (Many fs)
-  unfolding object geometry_type need named
-  many_back fs h c = rw (object_members (collected fs), named_type (collected fs) (codes "GeometryCollection") Collection refl refl, collection_back fs h c) refl
-
   object_back : (o : TopoObject) → FineObject transform arcs o → Gives (object transform arcs (object_value (cell_value transform) o)) o
-  unfolding object single
+  unfolding object single geometry_type need named
   object_back (One f) h = λ c. grind (
     arith,
     shaped transform arcs long few f.id f.properties f.shape h.0.0.0 h.0.0.1 h.0.1,
     feature_members f.id f.properties,
     object_members,
   )
-  object_back (Many fs) h = many_back fs h
+  object_back (Many fs) h = λ c. rw (
+    object_members (collected fs),
+    named_type (collected fs)
+        (codes "GeometryCollection") Collection refl refl,
+    collection_back fs h c,
+  ) refl
 
   -- ---- objects by name
 

@@ -1,6 +1,6 @@
 -- What holds of each part of a value holds of the identifiers, properties and names of the topology that is read of it: numbers stay
 -- numbers, and texts UTF-8.
-use Rattle.std.proofs.Common.{◌≡◌, ℕ, List, [], ◌∷◌, Option, Some, None, Ok, refl, subst, rules, arith}
+use Rattle.std.proofs.Common.{◌≡◌, ℕ, List, [], ◌∷◌, Option, Some, None, Ok, subst, rules, arith}
 use Rattle.std.specs.Prelude.{codes, IsUtf8}
 use Rattle.std.specs.List.{AllByRecursion}
 use Rattle.json_value.specs.declared.json.Json.{Json}
@@ -27,7 +27,7 @@ use Rattle.topojson_types.specs.Topologies.{Contents, object_features}
 use Rattle.topojson_meaning.specs.declared.fault.TopoFault.TheVariants.{WrongKind}
 use Rattle.topojson_meaning.specs.declared.geometry_type.GeometryType.{GeometryType}
 use Rattle.topojson_meaning.specs.Arcs.{arc_list}
-use Rattle.topojson_meaning.specs.Features.{identifier_in, identifier, members_in, members_if, feature, feature_element}
+use Rattle.topojson_meaning.specs.Features.{identifier_in, identifier, members_if, feature, feature_element}
 use Rattle.topojson_meaning.specs.Members.{Members, lookup_fault, find, need, need_as, elements, members}
 use Rattle.topojson_meaning.specs.Objects.{features, collection, single, object, is_met, new_name, objects_behind, objects}
 use Rattle.topojson_meaning.specs.Reader.{give, or_fail}
@@ -156,24 +156,18 @@ module _ (P : Json → Type 0) (N : List ℕ → Type 0) (I : Option Id → Type
 identifier_in_numbers : (v : Json) (x : Json-F Json) (o : Option Id) → out-Json v ≡ x → HasNumbers v → identifier_in x ≡ Ok o → IdHasNumbers o
 identifier_in_numbers v x o is h e = grind (arith, number_inside)
 
-identifier_numbers : (i : Option Json) (o : Option Id) → IfThere HasNumbers i → identifier i ≡ Ok o → IdHasNumbers o
-identifier_numbers i o h e = grind (arith, identifier_in_numbers)
-
-members_in_are : (X : Json → Type 0) (Y : Option Members → Type 0) → Y None → ((ms : Members) → X (j.Object ms) → Y (Some ms)) → (v : Json) (x : Json-F Json) (o : Option Members)
-    → out-Json v ≡ x → X v → members_in x ≡ Ok o → Y o
-members_in_are x0 x1 x2 x3 v x o is h e = grind (arith, object_inside)
-
 -- the members of properties are those of an object
 properties_are : (X : Json → Type 0) (Y : Option Members → Type 0) → Y None → ((ms : Members) → X (j.Object ms) → Y (Some ms)) → (p : Option Json) (o : Option Members)
     → IfThere X p → members_if p ≡ Ok o → Y o
 properties_are X Y none some None o h e = let k : None ≡ o = cc in subst Y k none
-properties_are X Y none some (Some v) o h e = members_in_are X Y none some v (out-Json v) o refl h e
+properties_are X Y none some (Some v) o h e = grind (arith, object_inside)
 
 numbers_pass : Passes HasNumbers (λ n. Unit {0}) IdHasNumbers PropertiesHaveNumbers
 numbers_pass = record {
   array = array_numbers;
-  object = λ v ms e h. all_weaker (λ (m : List ℕ × Json). HasNumbers m.1) (λ m. Unit {0} × HasNumbers m.1) (λ m k. (tt, k)) ms (object_numbers v ms e h);
-  id = identifier_numbers;
+  object = λ v ms e h. all_weaker (λ (m : List ℕ × Json). HasNumbers m.1) (λ m. Unit {0} × HasNumbers m.1) (λ m k. (tt, k)) ms
+      (object_numbers v ms e h);
+  id = (λ i o h e. grind (arith, identifier_in_numbers));
   properties = properties_are HasNumbers PropertiesHaveNumbers tt (λ ms h. h);
 }
 
@@ -185,11 +179,16 @@ numbers_stay v t c h e = grind (arith, all_parts, all_weaker, kept, numbers_pass
 identifier_in_texts : (v : Json) (x : Json-F Json) (o : Option Id) → out-Json v ≡ x → HasTexts v → identifier_in x ≡ Ok o → IdHasTexts o
 identifier_in_texts v x o is h e = grind (arith, text_inside)
 
-identifier_texts : (i : Option Json) (o : Option Id) → IfThere HasTexts i → identifier i ≡ Ok o → IdHasTexts o
-identifier_texts i o h e = grind (arith, identifier_in_texts)
-
 texts_pass : Passes HasTexts (λ n. IsUtf8 n) IdHasTexts PropertiesHaveTexts
-texts_pass = record { array = array_texts; object = object_texts; id = identifier_texts; properties = properties_are HasTexts PropertiesHaveTexts tt (λ ms h. h) }
+texts_pass = record {
+  array = array_texts;
+  object = object_texts;
+  id = (λ i o h e. grind (
+    arith,
+    identifier_in_texts,
+  ));
+  properties = properties_are HasTexts PropertiesHaveTexts tt (λ ms h. h);
+}
 
 pub texts_stay : TextsStay
 texts_stay v t c h e = grind (arith, kept, texts_pass, all_weaker, all_parts)

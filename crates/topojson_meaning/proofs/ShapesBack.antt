@@ -29,31 +29,32 @@ use Rattle.topojson_meaning.specs.Members.{named, need}
 use Rattle.topojson_meaning.specs.Reader.{Reader, ◌>>=◌, if_some}
 use Rattle.topojson_meaning.specs.Shapes.{places_in, arcs_in, places_shape, arcs_shape, shape, part, typed_shape, geometry}
 use Rattle.topojson_meaning.proofs.ArcsBack.{elements_place_back, each_place_back}
-use Rattle.topojson_meaning.proofs.LinesBack.{some_elements_back, Sound, Full, FullArea, line_in_back, lines_back, polygon_in_back, polygons_back}
+use Rattle.topojson_meaning.proofs.LinesBack.{some_elements_back, line_in_back, lines_back, polygon_in_back, polygons_back}
 use Rattle.topojson_meaning.proofs.ShapeKinds.{geometrical-group}
 use Rattle.topojson_meaning.proofs.Steps.{Gives, then_gives, pure_gives, kept_gives}
 use Rattle.topojson_meaning.proofs.Unrolled.{shape_object, shapes_array}
 use Rattle.list_laws.proofs.Lists.{made_of_some}
+use Rattle.topojson_meaning.proofs.ValidKept.{IsStroke, IsLine, IsArea}
 
 -- ---- lists that are full
 
-full_lines : (arcs : List (List Point)) (closed : Bool) (ls : List (List ℤ)) → list_all is_some_list ls ≡ true → AllByRecursion (Sound arcs) (map (λ l. (closed, l)) ls) → AllByRecursion (Full arcs closed) ls
+full_lines : (arcs : List (List Point)) (closed : Bool) (ls : List (List ℤ)) → list_all is_some_list ls ≡ true → AllByRecursion (IsStroke arcs) (map (λ l. (closed, l)) ls) → AllByRecursion (IsLine arcs closed) ls
 full_lines arcs closed [] f h = tt
 full_lines arcs closed (l ∷ ls) f h = let p = and_parts (is_some_list l) (list_all is_some_list ls) f in ((p.0, h.0), full_lines arcs closed ls p.1 h.1)
 
-full_area : (arcs : List (List Point)) (rs : List (List ℤ)) → (is_some_list rs && list_all is_some_list rs) ≡ true → AllByRecursion (Sound arcs) (map (λ l. (true, l)) rs) → FullArea arcs rs
+full_area : (arcs : List (List Point)) (rs : List (List ℤ)) → (is_some_list rs && list_all is_some_list rs) ≡ true → AllByRecursion (IsStroke arcs) (map (λ l. (true, l)) rs) → IsArea arcs rs
 full_area arcs rs f h = let p = and_parts (is_some_list rs) (list_all is_some_list rs) f in (p.0, full_lines arcs true rs p.1 h)
 
 full_areas : (arcs : List (List Point)) (areas : List (List (List ℤ))) → list_all (λ rs. is_some_list rs && list_all is_some_list rs) areas ≡ true
-    → AllByRecursion (Sound arcs) (joined (map (map (λ l. (true, l))) areas)) → AllByRecursion (FullArea arcs) areas
+    → AllByRecursion (IsStroke arcs) (joined (map (map (λ l. (true, l))) areas)) → AllByRecursion (IsArea arcs) areas
 full_areas arcs [] f h = tt
-full_areas arcs (rs ∷ areas) f h = grind (arith, and_parts, full_area, all_left, Sound, all_right, full_areas arcs areas)
+full_areas arcs (rs ∷ areas) f h = grind (arith, and_parts, full_area, all_left, IsStroke, all_right, full_areas arcs areas)
 
 -- ---- what is said of a shape
 
 -- no list is empty but a collection's, its cells may stand there, and its lines and rings are sound
 abbrev pub Fine : Option Transform → List (List Point) → TopoShape → Type 0
-Fine transform arcs s = (is_full s ≡ true) × AllByRecursion (IsPlace transform) (places s) × AllByRecursion (Sound arcs) (strokes s)
+Fine transform arcs s = (is_full s ≡ true) × AllByRecursion (IsPlace transform) (places s) × AllByRecursion (IsStroke arcs) (strokes s)
 
 -- it is written with the name of its type and one member, which is read as it
 pub record Parts (transform : Option Transform) (arcs : List (List Point)) (s : TopoShape) : Type 0 where
@@ -125,7 +126,7 @@ module _ (transform : Option Transform) (arcs : List (List Point)) (long : AllBy
   at_line : (refs : List ℤ) → Back (g.Line refs)
   unfolding geometry_type part arcs_shape arcs_in
   at_line refs h =
-      let back = line_in_back transform arcs long few refs (subst (AllByRecursion (Sound arcs)) (strokes-line Point (List ℤ) refs) h.2).0 in
+      let back = line_in_back transform arcs long few refs (subst (AllByRecursion (IsStroke arcs)) (strokes-line Point (List ℤ) refs) h.2).0 in
       made (g.Line refs) (Arcs of_arcs.LineString) (codes "LineString") (line_value refs) ((geometrical_at (cell_value transform)).line refs) refl refl
       (elements_back (arcs_in arcs of_arcs.LineString) whole_value refs (g.Line refs) (sym (full_at.line refs) ∙ h.0) (λ c. rw (back c) refl))
 
@@ -133,14 +134,14 @@ module _ (transform : Option Transform) (arcs : List (List Point)) (long : AllBy
   unfolding geometry_type part arcs_shape arcs_in
   at_lines ls h =
       let f = and_parts (is_some_list ls) (list_all is_some_list ls) (sym (full_at.lines ls) ∙ h.0) in
-      let back = lines_back transform arcs long few ls (full_lines arcs false ls f.1 (subst (AllByRecursion (Sound arcs)) (strokes-lines Point (List ℤ) ls) h.2)) in
+      let back = lines_back transform arcs long few ls (full_lines arcs false ls f.1 (subst (AllByRecursion (IsStroke arcs)) (strokes-lines Point (List ℤ) ls) h.2)) in
       made (g.Lines ls) (Arcs of_arcs.MultiLineString) (codes "MultiLineString") (lines_value ls) ((geometrical_at (cell_value transform)).lines ls) refl refl
       (elements_back (arcs_in arcs of_arcs.MultiLineString) line_value ls (g.Lines ls) f.0 (λ c. rw (back c, made_of_some g.Lines ls f.0) refl))
 
   at_area : (rs : List (List ℤ)) → Back (g.Area rs)
   unfolding geometry_type part arcs_shape arcs_in
   at_area rs h =
-      let k = full_area arcs rs (sym (full_at.area rs) ∙ h.0) (subst (AllByRecursion (Sound arcs)) (strokes-area Point (List ℤ) rs) h.2) in
+      let k = full_area arcs rs (sym (full_at.area rs) ∙ h.0) (subst (AllByRecursion (IsStroke arcs)) (strokes-area Point (List ℤ) rs) h.2) in
       made (g.Area rs) (Arcs of_arcs.Polygon) (codes "Polygon") (lines_value rs) ((geometrical_at (cell_value transform)).area rs) refl refl
       (elements_back (arcs_in arcs of_arcs.Polygon) line_value rs (g.Area rs) k.0 (λ c. rw (polygon_in_back transform arcs long few rs k c) refl))
 
@@ -148,14 +149,14 @@ module _ (transform : Option Transform) (arcs : List (List Point)) (long : AllBy
   unfolding geometry_type part arcs_shape arcs_in
   at_areas areas h =
       let f = and_parts (is_some_list areas) (list_all (λ rs. is_some_list rs && list_all is_some_list rs) areas) (sym (full_at.areas areas) ∙ h.0) in
-      let back = polygons_back transform arcs long few areas (full_areas arcs areas f.1 (subst (AllByRecursion (Sound arcs)) (strokes-areas Point (List ℤ) areas) h.2)) in
+      let back = polygons_back transform arcs long few areas (full_areas arcs areas f.1 (subst (AllByRecursion (IsStroke arcs)) (strokes-areas Point (List ℤ) areas) h.2)) in
       made (g.Areas areas) (Arcs of_arcs.MultiPolygon) (codes "MultiPolygon") (j.Array (map lines_value areas)) ((geometrical_at (cell_value transform)).areas areas) refl refl
       (elements_back (arcs_in arcs of_arcs.MultiPolygon) lines_value areas (g.Areas areas) f.0 (λ c. rw (back c, made_of_some g.Areas areas f.0) refl))
 
-  each_parts : (ss : List TopoShape) → AllByRecursion Back ss → list_all is_full ss ≡ true → AllByRecursion (IsPlace transform) (joined (map places ss)) → AllByRecursion (Sound arcs) (joined (map strokes ss))
+  each_parts : (ss : List TopoShape) → AllByRecursion Back ss → list_all is_full ss ≡ true → AllByRecursion (IsPlace transform) (joined (map places ss)) → AllByRecursion (IsStroke arcs) (joined (map strokes ss))
       → AllByRecursion (Parts transform arcs) ss
   each_parts [] all f h k = tt
-  each_parts (s ∷ ss) all f h k = grind (arith, and_parts, all_left, Sound, all_right, each_parts ss all.1)
+  each_parts (s ∷ ss) all f h k = grind (arith, and_parts, all_left, IsStroke, all_right, each_parts ss all.1)
 
   group_back : (ss : List TopoShape) → AllByRecursion (Parts transform arcs) ss → Gives (part transform arcs Collection (j.Array (map (λ s. inner_value (geometrical (cell_value transform) s)) ss))) (Some (g.Group ss))
   unfolding part
@@ -169,7 +170,7 @@ module _ (transform : Option Transform) (arcs : List (List Point)) (long : AllBy
     value = j.Array (map (λ s. inner_value (geometrical (cell_value transform) s)) ss);
     is = geometrical-group (cell_value transform) ss;
     known = refl;
-    reads = group_back ss (each_parts ss all (sym (full-group ss) ∙ h.0) (subst (AllByRecursion (IsPlace transform)) (places_at.group ss) h.1) (subst (AllByRecursion (Sound arcs)) (strokes-group Point (List ℤ) ss) h.2));
+    reads = group_back ss (each_parts ss all (sym (full-group ss) ∙ h.0) (subst (AllByRecursion (IsPlace transform)) (places_at.group ss) h.1) (subst (AllByRecursion (IsStroke arcs)) (strokes-group Point (List ℤ) ss) h.2));
     single = λ e. let f : false ≡ true = sym (single_at.group ss) ∙ e in absurd cc;
   }
 

@@ -21,11 +21,11 @@ use Rattle.topojson_meaning.specs.Members.{named, find, need}
 use Rattle.topojson_meaning.specs.Topologies.{contents, value_contents, topology}
 use Rattle.topojson_meaning.proofs.ArcsBack.{arcs_back}
 use Rattle.topojson_meaning.proofs.FeaturesBack.{FineFeature}
-use Rattle.topojson_meaning.proofs.LinesBack.{Sound}
 use Rattle.topojson_meaning.proofs.ObjectsBack.{FineObject, objects_back}
 use Rattle.topojson_meaning.proofs.ShapeKinds.{written_members}
 use Rattle.topojson_meaning.proofs.Steps.{Gives}
 use Rattle.topojson_meaning.proofs.TransformsBack.{transform_back}
+use Rattle.topojson_meaning.proofs.ValidKept.{IsStroke}
 
 -- ---- what a valid topology says of each part
 
@@ -33,11 +33,11 @@ module _ (transform : Option Transform) (arcs : List (List Point)) where
   abbrev strokes_of : TopoFeature → List (Bool × List ℤ)
   strokes_of f = option_strokes f.shape
 
-  fine_features : (fs : List TopoFeature) → AllByRecursion (IsFeature transform) fs → AllByRecursion (Sound arcs) (features_strokes fs) → AllByRecursion (FineFeature transform arcs) fs
+  fine_features : (fs : List TopoFeature) → AllByRecursion (IsFeature transform) fs → AllByRecursion (IsStroke arcs) (features_strokes fs) → AllByRecursion (FineFeature transform arcs) fs
   fine_features [] h k = tt
-  fine_features (f ∷ fs) h k = ((h.0, all_left (Sound arcs) (strokes_of f) (features_strokes fs) k), fine_features fs h.1 (all_right (Sound arcs) (strokes_of f) (features_strokes fs) k))
+  fine_features (f ∷ fs) h k = ((h.0, all_left (IsStroke arcs) (strokes_of f) (features_strokes fs) k), fine_features fs h.1 (all_right (IsStroke arcs) (strokes_of f) (features_strokes fs) k))
 
-  fine_objects : (os : List (List ℕ × TopoObject)) → AllByRecursion (λ o. IsObject transform o.1) os → AllByRecursion (Sound arcs) (objects_strokes os) → AllByRecursion (λ o. FineObject transform arcs o.1) os
+  fine_objects : (os : List (List ℕ × TopoObject)) → AllByRecursion (λ o. IsObject transform o.1) os → AllByRecursion (IsStroke arcs) (objects_strokes os) → AllByRecursion (λ o. FineObject transform arcs o.1) os
   fine_objects [] h k = tt
   fine_objects (o ∷ os) h k = grind (arith, all_left, fine_features, all_right, fine_objects os h.1)
 
@@ -55,7 +55,7 @@ unfolding contents
 contents_back t h c =
     let valid = h.0 in
     let closed = all_two (IsJoined t.arcs) (IsClosed t.arcs) (λ b. IsJoined t.arcs b × IsClosed t.arcs b) (λ b j k. (j, k)) (objects_strokes t.objects) valid.joined valid.closed in
-    let sound = all_two (λ b. AreInRange (length t.arcs) b.1) (λ b. IsJoined t.arcs b × IsClosed t.arcs b) (Sound t.arcs) (λ b r k. (r, k.0, k.1)) (objects_strokes t.objects) valid.ranged closed in
+    let sound = all_two (λ b. AreInRange (length t.arcs) b.1) (λ b. IsJoined t.arcs b × IsClosed t.arcs b) (IsStroke t.arcs) (λ b r k. (r, k.0, k.1)) (objects_strokes t.objects) valid.ranged closed in
     let fine = fine_objects t.transform t.arcs t.objects valid.objects sound in
     rw ((found t).0, text_of-text (codes "Topology"), (found t).1, transform_back t.transform valid.transform c, (found t).2, arcs_back t.transform t.arcs valid.arcs c)
     (rw ((found t).3, objects_back t.transform t.arcs valid.arcs h.1 t.objects valid.names fine c) refl)

@@ -1,17 +1,14 @@
 -- The positions, cells and arcs that are read may stand in the topology.
-use Rattle.std.proofs.Common.{◌≡◌, ℕ, true, List, [], ◌∷◌, length, Option, Some, None, unsigned_abs, arith}
-use Rattle.std.specs.Prelude.{nat_lt}
+use Rattle.std.proofs.Common.{◌≡◌, ℕ, true, List, [], ◌∷◌, Option, Some, None, unsigned_abs, arith}
 use Rattle.std.specs.List.{AllByRecursion}
 use Rattle.std.proofs.lemmas.Bool.{leb-true, and_parts}
 use Rattle.decimal_text.proofs.ScaledNumber.{scaled_of-within}
 use Rattle.json_value.specs.declared.json.Json.{Json}
-use Rattle.geojson_types.specs.Counting.{count_extra}
 use Rattle.geometry.specs.Points.{Point, IsWithin, IsPosition}
 use Rattle.topojson_types.specs.declared.transform.Transform.{Transform}
-use Rattle.topojson_types.specs.Transforms.{grid_limit, is_within, origin, moved}
+use Rattle.topojson_types.specs.Transforms.{grid_limit, is_within, origin}
 use Rattle.topojson_types.specs.Validity.{IsPlace, IsArc}
-use Rattle.topojson_meaning.specs.declared.fault.TopoFault.TheVariants.{WrongKind}
-use Rattle.topojson_meaning.specs.Arcs.{number_text, units, elements_position, position, grid_number, grid_cell, elements_cell, cell, difference_limit, cells_behind, elements_place, place, arc_cells, as_arc, arc, arc_list}
+use Rattle.topojson_meaning.specs.Arcs.{units, elements_position, position, grid_cell, elements_cell, cell, difference_limit, cells_behind, elements_place, place, arc_cells, as_arc, arc, arc_list}
 use Rattle.topojson_meaning.specs.Members.{elements}
 use Rattle.topojson_meaning.specs.Reader.{each}
 use Rattle.topojson_meaning.proofs.ValidYields.{Yields, then_yields, give_yields, count_yields, fail_yields, pure_then, if_yields, each_yields}
@@ -38,15 +35,7 @@ module _ (t : Transform) where
 
   elements_cell_yields : (bound : ℕ) (before : Point) (vs : List Json) → Yields IsCell (elements_cell t bound before vs)
   unfolding elements_cell grid_cell
-  elements_cell_yields bound before [] = fail_yields IsCell WrongKind
-  elements_cell_yields bound before (v ∷ []) = fail_yields IsCell WrongKind
-  elements_cell_yields bound before (v ∷ w ∷ more) =
-      pure_then IsCell (number_text v) _
-      (λ m hm. pure_then IsCell (number_text w) _
-      (λ n hn. pure_then IsCell (grid_number bound m) _
-      (λ x hx. pure_then IsCell (grid_number bound n) _
-      (λ y hy. pure_then IsCell (grid_cell t (moved before (record { x = x; y = y }))) _
-      (λ c hc. count_yields IsCell c (count_extra (nat_lt 0 (length more))) (grind (arith, within_is)))))))
+  elements_cell_yields bound before vs = grind (arith, fail_yields, pure_then, count_yields, within_is)
 
   cells_behind_yield : (before : Point) (vs : List Json) → Yields (AllByRecursion IsCell) (cells_behind t before vs)
   unfolding cells_behind cell

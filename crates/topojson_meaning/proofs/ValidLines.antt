@@ -3,7 +3,6 @@ use Rattle.std.proofs.Common.{◌≡◌, ℤ, ◌<◌, true, false, List, [], �
 use Rattle.std.specs.List.{AllByRecursion}
 use Rattle.std.proofs.lemmas.Bool.{ltb-true}
 use Rattle.json_value.specs.declared.json.Json.{Json}
-use Rattle.json_value.specs.Kinds.{array_of}
 use Rattle.geojson_types.specs.Features.{is_some_list}
 use Rattle.geometry.specs.Lists.{map_some}
 use Rattle.geometry.specs.Points.{Point}
@@ -11,7 +10,7 @@ use Rattle.geometry.specs.Rings.{both_same}
 use Rattle.geometry.proofs.Points.{same_is}
 use Rattle.geometry.specs.Joins.{number_of, arc_at, first_of, last_of, Meet, Closes}
 use Rattle.topojson_types.specs.Validity.{AreInRange}
-use Rattle.topojson_meaning.specs.Lines.{elements_in, some_elements, in_range, index, joined_to, indexes_behind, indexes, line_start, line_end, as_ring, line_in, line, ring_in, ring, with_outer, polygon_in, polygon}
+use Rattle.topojson_meaning.specs.Lines.{some_elements, in_range, index, joined_to, indexes_behind, indexes, line_start, line_end, as_ring, line_in, line, ring_in, ring, with_outer, polygon_in, polygon}
 use Rattle.topojson_meaning.specs.Reader.{Reader, ◌>>=◌, if_some, kept}
 use Rattle.topojson_meaning.proofs.ValidKept.{IsLine, IsArea}
 use Rattle.topojson_meaning.proofs.ValidYields.{Yields, IfThere, then_yields, give_yields, count_yields, fail_yields, pure_then, if_yields, if_some_yields, kept_yields}
@@ -25,18 +24,13 @@ both_same_is (Some p) (Some r) h = ap (λ z. Some z) (same_is p r h)
 
 -- ---- arrays that are not empty
 
-abbrev IsSome : List Json → Type 0
-IsSome vs = is_some_list vs ≡ true
-
 pub some_elements_yield : {A : Type 0} (P : A → Type 0) (read : List Json → Reader (Option A)) (v : Json) → ((vs : List Json) → is_some_list vs ≡ true → Yields (IfThere P) (read vs)) → Yields (IfThere P) (some_elements v >>= if_some read)
 unfolding some_elements
-some_elements_yield P read v h = then_yields (IfThere IsSome) (IfThere P) (elements_in (array_of v)) (if_some read) (grind (
-  arith,
-  fail_yields,
-  IfThere,
-  count_yields,
-  give_yields,
-)) (if_some_yields IsSome P read h)
+some_elements_yield x0 read v h = grind (arith, then_yields, fail_yields, count_yields, give_yields, if_some_yields)
+
+pub last_map : {A B : Type 0} (f : A → B) (xs : List A) → last_of (map f xs) ≡ map_some f (last_of xs)
+last_map f (x ∷ y ∷ xs) = last_map f (y ∷ xs)
+last_map f xs = refl
 
 module _ (arcs : List (List Point)) where
   -- ---- indexes
@@ -63,13 +57,8 @@ module _ (arcs : List (List Point)) where
   behind_yield before [] = give_yields (AreBehind before) [] (tt, tt)
   behind_yield before (v ∷ vs) =
       then_yields IsIndex (AreBehind before) (index (length arcs) v) _ (index_yields v)
-      (λ j hj. then_yields (IsNext before) (AreBehind before) (joined_to arcs before j) _ (grind (
-        arith,
-        if_yields,
-        give_yields,
-        both_same_is,
-        fail_yields,
-      ))
+      (λ j hj. then_yields (IsNext before) (AreBehind before) (joined_to arcs before j) _
+      (grind (arith, if_yields, give_yields, both_same_is, fail_yields))
       (λ i hi. then_yields (AreBehind i) (AreBehind before) (indexes_behind arcs i vs) _ (behind_yield i vs)
       (λ refs h. give_yields (AreBehind before) (i ∷ refs) ((hi.0, h.0), (hi.1, h.1)))))
 
@@ -95,24 +84,16 @@ module _ (arcs : List (List Point)) where
 
   -- ---- rings
 
-  last_map : {A B : Type 0} (f : A → B) (xs : List A) → last_of (map f xs) ≡ map_some f (last_of xs)
-  last_map f [] = refl
-  last_map f (x ∷ []) = refl
-  last_map f (x ∷ y ∷ xs) = last_map f (y ∷ xs)
-
   closes : (refs : List ℤ) → both_same (line_end arcs refs) (line_start arcs refs) ≡ true → Closes (map (arc_at arcs) refs)
   closes refs h = grind (arith, last_map, both_same_is)
 
   abbrev IsRing : List ℤ → Type 0
   IsRing refs = IsLine arcs true refs
 
-  as_ring_yields : (refs : List ℤ) → IsOpen refs → Yields (IfThere IsRing) (as_ring arcs refs)
-  as_ring_yields refs h = search (if_yields, give_yields, closes, fail_yields)
-
   ring_yields : (v : Json) → Yields (IfThere IsRing) (ring arcs v)
   unfolding ring ring_in
   ring_yields v = some_elements_yield IsRing (ring_in arcs) v (λ vs some. then_yields IsOpen (IfThere IsRing) (indexes arcs vs)
-      (as_ring arcs) (indexes_yield vs some) as_ring_yields)
+      (as_ring arcs) (indexes_yield vs some) (λ refs h. search (if_yields, give_yields, closes, fail_yields)))
 
   -- ---- polygons
 

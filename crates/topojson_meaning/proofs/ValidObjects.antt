@@ -80,10 +80,6 @@ module _ (transform : Option Transform) (arcs : List (List Point)) where
       (feature_yields (IsSingle transform arcs) type ms (single_shape_yields transform arcs type ms e))
       (λ f h. give_yields KeptObject (One f) h)
 
-  object_yields : (v : Json) → Yields KeptObject (object transform arcs v)
-  unfolding object
-  object_yields v = search (pure_then, if_yields, collection_yields, single_yields)
-
   -- objects of different names, none of which was met
   pub record AreObjects (met : List (List ℕ)) (os : List (List ℕ × TopoObject)) : Type 0 where
     pub fresh : AllByRecursion (λ o. is_met o.0 met ≡ false) os
@@ -94,11 +90,16 @@ module _ (transform : Option Transform) (arcs : List (List Point)) where
   one_more met name o os e h k = grind (arith, all_weaker, or_parts, others)
 
   objects_behind_yield : (met : List (List ℕ)) (ms : Members) → Yields (AreObjects met) (objects_behind transform arcs met ms)
-  unfolding objects_behind
+  unfolding objects_behind object
   objects_behind_yield met [] = give_yields (AreObjects met) [] (record { fresh = tt; distinct = tt; kept = tt })
   objects_behind_yield met (m ∷ ms) =
       then_yields (IsNewName met) (AreObjects met) (new_name met m.0) _ (grind (arith, if_yields, fail_yields, give_yields))
-      (λ name e. then_yields KeptObject (AreObjects met) (object transform arcs m.1) _ (object_yields m.1)
+      (λ name e. then_yields KeptObject (AreObjects met) (object transform arcs m.1) _ (search (
+        pure_then,
+        if_yields,
+        collection_yields,
+        single_yields,
+      ))
       (λ o h. then_yields (AreObjects (name ∷ met)) (AreObjects met) (objects_behind transform arcs (name ∷ met) ms) _
       (objects_behind_yield (name ∷ met) ms) (λ os k. give_yields (AreObjects met) ((name, o) ∷ os) (one_more met name o os e h k))))
 

@@ -88,15 +88,12 @@ module _ (transform : Option Transform) (arcs : List (List Point)) where
   step x (Json-F.Array ys) e = subst At e (level (Json-F.Array (map here ys)) (array_shapes (map beside (map here ys)) (values_shapes ys)))
   step x (Json-F.Object ys) e = subst At e (level (Json-F.Object (map member_here ys)) (object_shapes (map member_beside (map member_here ys)) (members_shapes ys)))
 
-  shapes_read : (v : Json) → IsRead v
-  shapes_read = ind-Json IsRead step
-
   -- ---- shapes of features
 
   all_geometries : (ms : Members) → AllByRecursion (λ m. Yields Shapes (shapes transform arcs m.1)) ms
   unfolding shapes
   all_geometries [] = tt
-  all_geometries (m ∷ ms) = (((shapes_read m.1).geometries), all_geometries ms)
+  all_geometries (m ∷ ms) = ((((ind-Json IsRead step) m.1).geometries), all_geometries ms)
 
   pub typed_shape_yields : (type : Option GeometryType) (ms : Members) → Yields (IfThere Shape) (typed_shape transform arcs type ms)
   unfolding typed_shape part

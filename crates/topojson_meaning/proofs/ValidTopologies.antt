@@ -1,5 +1,5 @@
 -- A topology that is read is valid.
-use Rattle.std.proofs.Common.{◌≡◌, ℕ, ℤ, Bool, true, List, [], Option, arith}
+use Rattle.std.proofs.Common.{ℕ, ℤ, Bool, List, [], Option, arith}
 use Rattle.std.specs.Prelude.{codes}
 use Rattle.std.specs.List.{AllByRecursion}
 use Rattle.json_value.specs.Kinds.{object_of, text_of}
@@ -10,7 +10,7 @@ use Rattle.topojson_types.specs.declared.feature.TopoFeature.{TopoFeature}
 use Rattle.topojson_types.specs.declared.object.TopoObject.{TopoObject}
 use Rattle.topojson_types.specs.declared.transform.Transform.{Transform}
 use Rattle.topojson_types.specs.Topologies.{TopoShape, Contents, object_features, features_strokes, objects_strokes}
-use Rattle.topojson_types.specs.Validity.{is_full_option, option_places, is_single_option, IsPlace, IsFeature, IsArc, IsTransformed, IsTopology}
+use Rattle.topojson_types.specs.Validity.{option_places, is_single_option, IsPlace, IsFeature, IsArc, IsTransformed, IsTopology}
 use Rattle.topojson_meaning.specs.declared.fault.TopoFault.TheVariants.{NotTopology, WrongKind}
 use Rattle.topojson_meaning.specs.Arcs.{arc_list}
 use Rattle.topojson_meaning.specs.Laws.{ReadsValid}
@@ -32,9 +32,6 @@ module _ (transform : Option Transform) (arcs : List (List Point)) where
 
   abbrev Strokes : List (Bool × List ℤ) → Type 0
   Strokes = AllByRecursion (IsStroke arcs)
-
-  option_full : (o : Option TopoShape) → IfThere (IsShape transform arcs) o → is_full_option o ≡ true
-  option_full o h = grind arith
 
   option_placed : (o : Option TopoShape) → IfThere (IsShape transform arcs) o → AllByRecursion (IsPlace transform) (option_places o)
   option_placed o h = grind arith
@@ -68,7 +65,7 @@ module _ (transform : Option Transform) (arcs : List (List Point)) where
   made os = record { objects = os; arcs = arcs; transform = transform }
 
   topology_valid : (os : List (List ℕ × TopoObject)) → IsTransformed transform → AllByRecursion (IsArc transform) arcs → AreObjects transform arcs [] os → IsTopology (made os)
-  topology_valid os ht ha h = grind (arith, objects_stroked, all_weaker, option_full, option_placed, one_shape, IsStroke)
+  topology_valid os ht ha h = grind (arith, objects_stroked, all_weaker, option_placed, one_shape, IsStroke)
 
   -- the objects over the arcs that were read
   read_objects : (ms : Members) → Yields (AreObjects transform arcs []) (need_as (codes "objects") (objects transform arcs) ms)

@@ -1,12 +1,10 @@
 -- The transform that is read has numbers within their limit.
-use Rattle.std.proofs.Common.{◌≡◌, ℕ, ℤ, List, Option, Some, None, Ok, refl, subst, arith}
+use Rattle.std.proofs.Common.{◌≡◌, ℕ, ℤ, List, Option, Some, None, Ok, subst, arith}
 use Rattle.json_value.specs.declared.json.Json.{Json}
 use Rattle.json_value.specs.declared.json.Json.TheOpen.{Json-F}
 use Rattle.json_value.specs.declared.json.Json.TheViews.{out-Json}
 use Rattle.topojson_types.specs.TransformNumbers.{transform_value, IsTransformNumber}
-use Rattle.topojson_types.specs.Transforms.{IsTransform}
 use Rattle.topojson_types.specs.Validity.{IsTransformed}
-use Rattle.topojson_meaning.specs.declared.fault.TopoFault.TheVariants.{WrongKind}
 use Rattle.topojson_meaning.specs.Members.{Members, need_as}
 use Rattle.topojson_meaning.specs.Transforms.{texts, limited, transform_number, transform_pair, transform_members, transform_in, transform_if}
 use Rattle.topojson_meaning.proofs.ValidYields.{Yields, then_yields, give_yields, fail_yields, pure_then}
@@ -15,16 +13,12 @@ limited_is : (s t : List ℕ) (o : Option ℤ) → transform_value s ≡ o → l
 limited_is s t None is e = absurd cc
 limited_is s t (Some n) is e = let k : s ≡ t = cc in subst IsTransformNumber k (n, is)
 
-transform_number_is : (s t : List ℕ) → transform_number s ≡ Ok t → IsTransformNumber t
-unfolding transform_number
-transform_number_is s t e = limited_is s t (transform_value s) refl e
-
 abbrev ArePair : List ℕ × List ℕ → Type 0
 ArePair p = IsTransformNumber p.0 × IsTransformNumber p.1
 
 transform_pair_yields : (ts : List ℕ × List ℕ) → Yields ArePair (transform_pair ts)
-unfolding transform_pair
-transform_pair_yields ts = grind (arith, pure_then, give_yields, transform_number_is)
+unfolding transform_pair transform_number
+transform_pair_yields ts = grind (arith, pure_then, give_yields, limited_is)
 
 -- of each pair of texts
 texts_yield : (name : List ℕ) (ms : Members) → Yields (λ ts. Unit {0}) (need_as name texts ms)
@@ -32,18 +26,7 @@ texts_yield name ms c d ts e = tt
 
 transform_in_yields : (x : Json-F Json) → Yields IsTransformed (transform_in x)
 unfolding transform_members
-transform_in_yields Json-F.Null = give_yields IsTransformed None tt
-transform_in_yields (Json-F.Object ms) = then_yields IsTransform IsTransformed (transform_members ms) _ (grind (
-  arith,
-  then_yields,
-  texts_yield,
-  transform_pair_yields,
-  give_yields,
-)) (λ t h. give_yields IsTransformed (Some t) h)
-transform_in_yields (Json-F.Bool b) = fail_yields IsTransformed WrongKind
-transform_in_yields (Json-F.Number t) = fail_yields IsTransformed WrongKind
-transform_in_yields (Json-F.Text t) = fail_yields IsTransformed WrongKind
-transform_in_yields (Json-F.Array vs) = fail_yields IsTransformed WrongKind
+transform_in_yields x = grind (arith, give_yields, then_yields, texts_yield, transform_pair_yields, fail_yields)
 
 pub transform_if_yields : (o : Option Json) → Yields IsTransformed (transform_if o)
 unfolding transform_if

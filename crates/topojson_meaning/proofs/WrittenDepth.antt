@@ -11,7 +11,7 @@ use Rattle.json_value.proofs.Depths.{depth-null, depth-number, depth-text, depth
 use Rattle.geometry.specs.declared.shape.Geometry.TheVariants as g
 use Rattle.geojson_types.specs.declared.id.Id.{Id}
 use Rattle.geojson_types.specs.declared.id.Id.TheVariants as id
-use Rattle.geojson_types.specs.Nesting.{nesting_step, nesting, option_nesting, properties_nesting}
+use Rattle.geojson_types.specs.Nesting.{nesting_step, nesting, option_nesting}
 use Rattle.geometry.specs.Points.{Point}
 use Rattle.geometry.proofs.Agreement.{all_left, all_right}
 use Rattle.geometry.proofs.Induction.{by_kinds}
@@ -22,7 +22,7 @@ use Rattle.topojson_types.specs.declared.object.TopoObject.{TopoObject}
 use Rattle.topojson_types.specs.declared.object.TopoObject.TheVariants.{One, Many}
 use Rattle.topojson_types.specs.declared.transform.Transform.{Transform}
 use Rattle.topojson_types.specs.Topologies.{TopoShape, object_features}
-use Rattle.topojson_types.specs.Values.{Members, Geometrical, number_value, whole_value, position_value, cell_places, cell_value, written_cells, arc_value, line_value, lines_value, typed, inner_value, geometrical, geometrical_option, id_members, properties_members, feature_value, object_value, pair_value, members_of_transform, objects_value, arcs_value, topology_value}
+use Rattle.topojson_types.specs.Values.{Members, Geometrical, number_value, whole_value, position_value, cell_places, cell_value, written_cells, arc_value, line_value, lines_value, typed, inner_value, geometrical, geometrical_option, id_members, feature_value, object_value, pair_value, members_of_transform, objects_value, arcs_value, topology_value}
 use Rattle.topojson_types.proofs.ByKind.{geometrical_at}
 use Rattle.topojson_meaning.specs.Bounds.{objects_features, feature_nesting}
 use Rattle.topojson_meaning.specs.Laws.{ValueNests}
@@ -135,19 +135,9 @@ module _ (places : ℕ) where
   id_below (Some (id.Text t)) n = (text_flat n t, tt)
   id_below (Some (id.Number t)) n = (number_flat n t, tt)
 
-  properties_below : (ps : Option Members) (n : ℕ) → properties_nesting ps ≤ n → MembersBelow n (properties_members ps)
-  properties_below ps n h = grind arith
-
   feature_below : (f : TopoFeature) (n : ℕ) → feature_nesting f ≤ n → depth (feature_value cell f) ≤ n
   feature_below f zero h = absurd (omega arith)
-  feature_below f (suc n) h = grind (
-    arith,
-    option_below f.shape n (omega arith),
-    object_below n,
-    all_append,
-    id_below f.id n,
-    properties_below f.properties n (omega arith),
-  )
+  feature_below f (suc n) h = grind (arith, option_below f.shape n (omega arith), object_below n, all_append, id_below f.id n)
 
   features_below : (fs : List TopoFeature) (n : ℕ) → AllByRecursion (λ f. feature_nesting f ≤ n) fs → AllByRecursion (λ f. depth (feature_value cell f) ≤ n) fs
   features_below fs n h = all_weaker (λ f. feature_nesting f ≤ n) (λ f. depth (feature_value cell f) ≤ n) (λ f. feature_below f n) fs h

@@ -59,21 +59,14 @@ text_numbers t = subst (AllByRecursion IsNumber) (sym (numbers-text t)) tt
 number_numbers : (t : List ℕ) → IsNumber t → HasNumbers (j.Number t)
 number_numbers t h = subst (AllByRecursion IsNumber) (sym (numbers-number t)) (h, tt)
 
-null_numbers : HasNumbers j.Null
-null_numbers = subst (AllByRecursion IsNumber) (sym numbers-null) tt
-
 -- ---- positions and indexes
 
 position_numbers : (decimals : ℕ) (p : Point) → IsWithin (10 ^ 16) p → HasNumbers (position_value decimals p)
 position_numbers decimals p h = array_numbers (number_value decimals) (p.x ∷ (p.y ∷ []))
     (number_numbers (units_text p.x decimals) (units_text-number p.x decimals (omega (arith, h.0))), (number_numbers (units_text p.y decimals) (units_text-number p.y decimals (omega (arith, h.1))), tt))
 
--- a cell, and a difference of two
-place_size : (transform : Option Transform) (p : Point) → IsPlace transform p → IsWithin (10 ^ 16) p
-place_size transform p h = grind arith
-
 cell_numbers : (transform : Option Transform) (p : Point) → IsPlace transform p → HasNumbers (cell_value transform p)
-cell_numbers transform p h = position_numbers (cell_places transform) p (place_size transform p h)
+cell_numbers transform p h = position_numbers (cell_places transform) p (grind arith)
 
 cells_numbers : (transform : Option Transform) (ps : List Point) → AllByRecursion (IsPlace transform) ps → HasNumbers (j.Array (map (cell_value transform) ps))
 cells_numbers transform ps h = array_numbers (cell_value transform) ps (all_weaker (IsPlace transform) (λ p. HasNumbers (cell_value transform p)) (cell_numbers transform) ps h)
@@ -157,7 +150,7 @@ module _ (n : ℕ) (few : n < 2 ^ 63) (transform : Option Transform) where
   -- ---- features and objects
 
   feature_numbers : (f : TopoFeature) → IsFeature transform f → AllByRecursion Ranged (option_strokes f.shape) → FeatureHasNumbers f → HasNumbers (feature_value cell f)
-  feature_numbers f h k m = grind (arith, null_numbers, shape_numbers, object_numbers, all_append, text_numbers, number_numbers)
+  feature_numbers f h k m = grind (arith, numbers-null, shape_numbers, object_numbers, all_append, text_numbers, number_numbers)
 
   features_numbers : (fs : List TopoFeature) → AllByRecursion (IsFeature transform) fs → AllByRecursion Ranged (features_strokes fs) → AllByRecursion FeatureHasNumbers fs → AllByRecursion (λ f. HasNumbers (feature_value cell f)) fs
   features_numbers [] h k m = tt

@@ -9,9 +9,8 @@ use Rattle.json_value.specs.declared.json.Json.TheVariants as j
 use Rattle.json_value.proofs.Utf8Parts.{AreUtf8, MemberUtf8, null_utf8, number_value_utf8, text_value_utf8, parts_utf8, array_utf8, each_utf8, object_utf8, word}
 use Rattle.geometry.proofs.Induction.{by_kinds}
 use Rattle.geometry.specs.Points.{Point}
-use Rattle.geojson_types.specs.declared.id.Id.{Id}
-use Rattle.geojson_types.specs.Numbers.{IdHasNumbers, PropertiesHaveNumbers}
-use Rattle.geojson_types.specs.Texts.{IdHasTexts, PropertiesHaveTexts}
+use Rattle.geojson_types.specs.Numbers.{PropertiesHaveNumbers}
+use Rattle.geojson_types.specs.Texts.{PropertiesHaveTexts}
 use Rattle.list_laws.proofs.Elements.{all_append, all_left, all_right, all_two, all_parts, all_map, all_of_map, all_weaker}
 use Rattle.topojson_types.specs.declared.feature.TopoFeature.{TopoFeature}
 use Rattle.topojson_types.specs.declared.object.TopoObject.{TopoObject}
@@ -114,9 +113,6 @@ module _ (transform : Option Transform) where
 
   -- ---- features and objects
 
-  id_texts : (i : Option Id) → IdHasNumbers i → IdHasTexts i → Texted (id_members i)
-  id_texts i n h = grind (arith, word, text_value_utf8, number_value_utf8, number_utf8)
-
   properties_texts : (ps : Option Members) → PropertiesHaveNumbers ps → PropertiesHaveTexts ps → Texted (properties_members ps)
   properties_texts ps n h = grind (arith, word, parts_utf8)
 
@@ -125,8 +121,16 @@ module _ (transform : Option Transform) where
       let o = geometrical_option cell f.shape in
       let shape = option_texts f.shape in
       let rest = all_append MemberUtf8 (properties_members f.properties) o.parts (properties_texts f.properties h.0.1 h.1.1) shape.1 in
-      object_utf8 ((codes "type", o.type) ∷ (id_members f.id ++ (properties_members f.properties ++ o.parts)))
-      ((type_word, shape.0), all_append MemberUtf8 (id_members f.id) (properties_members f.properties ++ o.parts) (id_texts f.id h.0.0 h.1.0) rest)
+      object_utf8 ((codes "type", o.type) ∷ (id_members f.id ++ (properties_members f.properties ++ o.parts))) (
+        (type_word, shape.0),
+        all_append MemberUtf8 (id_members f.id) (properties_members f.properties ++ o.parts) (grind (
+          arith,
+          word,
+          text_value_utf8,
+          number_value_utf8,
+          number_utf8,
+        )) rest,
+      )
 
   features_texts : (fs : List TopoFeature) → AllByRecursion HasAll fs → AllByRecursion (λ f. AreUtf8 (feature_value cell f)) fs
   features_texts fs h = search (all_parts, all_map, all_of_map, all_two, all_weaker, map_agree, feature_texts)

@@ -20,16 +20,13 @@ abbrev link : ℕ → ℕ → ℕ → Link
 link b a n = record { before = b; after = a; area = n }
 
 pub sets_after : (xs : List Link) (i to : ℕ) → i < length xs → SetsAfter xs (set xs i (link (get_or xs i first_link).before to (get_or xs i first_link).area)) i to
-unfolding after_in before_in area_in
-sets_after xs i to h = grind (arith, length-set, get_or-set_same, get_or-set_other, field_same)
+sets_after xs i to h = unfold after_in before_in area_in in grind (arith, length-set, get_or-set_same, get_or-set_other, field_same)
 
 pub sets_before : (xs : List Link) (i to : ℕ) → i < length xs → SetsBefore xs (set xs i (link to (get_or xs i first_link).after (get_or xs i first_link).area)) i to
-unfolding after_in before_in area_in
-sets_before xs i to h = grind (arith, length-set, get_or-set_same, get_or-set_other, field_same)
+sets_before xs i to h = unfold after_in before_in area_in in grind (arith, length-set, get_or-set_same, get_or-set_other, field_same)
 
 pub sets_area : (xs : List Link) (i n : ℕ) → i < length xs → SetsArea xs (set xs i (link (get_or xs i first_link).before (get_or xs i first_link).after n)) i n
-unfolding after_in before_in area_in
-sets_area xs i n h = grind (arith, length-set, get_or-set_same, get_or-set_other, field_same)
+sets_area xs i n h = unfold after_in before_in area_in in grind (arith, length-set, get_or-set_same, get_or-set_other, field_same)
 
 pub unlinks : (x y z w : List Link) (b i a : ℕ) → b < i → i < a → SetsAfter x y b a → SetsBefore y z a b → SetsBefore z w i i → Unlinks x w b i a
 unlinks x y z w b i a l m p q r = grind arith
@@ -45,16 +42,14 @@ entry_of n p b i a = record { corner = record { area = n; point = p; index = i }
 
 pub entry_is : (ps : List Point) (b i a : ℕ) (x y z : Point) (n : ℕ) → b < length ps → i < length ps → a < length ps →
     x ≡ get_or ps b x → y ≡ get_or ps i y → z ≡ get_or ps a z → n ≡ twice_area x y z → entry_of n y b i a ≡ entry_at ps b i a
-unfolding entry_at
-entry_is ps b i a x y z n hb hi ha ex ey ez en = grind (arith, read)
+entry_is ps b i a x y z n hb hi ha ex ey ez en = unfold entry_at in grind (arith, read)
 
 pub entry_noted : (ps : List Point) (b i a : ℕ) (y : Point) (n : ℕ) → i < length ps → y ≡ get_or ps i y → n ≡ (entry_at ps b i a).corner.area → entry_of n y b i a ≡ entry_at ps b i a
 unfolding entry_at
 entry_noted ps b i a y n h e en = ap (λ m. entry_of m y b i a) en ∙ ap (λ u. entry_of (entry_at ps b i a).corner.area u b i a) (read ps i y h e)
 
 pub noted_at : (ps : List Point) (links : List Link) (i : ℕ) (y : Point) → i < length ps → y ≡ get_or ps i y → corner_of (area_in links i) y i ≡ noted ps links i
-unfolding noted
-noted_at ps links i y h e = ap (λ u. corner_of (area_in links i) u i) (read ps i y h e)
+noted_at ps links i y h e = unfold noted in ap (λ u. corner_of (area_in links i) u i) (read ps i y h e)
 
 -- the area of a corner
 pub area_is : (ps : List Point) (b i a : ℕ) (x y z : Point) (n : ℕ) → b < length ps → i < length ps → a < length ps →
@@ -94,8 +89,7 @@ at_each g k xs i x z v h here old = on (same_or_not v i)
 
 -- one more link at the end
 pub first_more : (xs ys : List Link) (b i n : ℕ) → IsFirst xs i → ys ≡ xs ++ (link b (i + 1) n ∷ []) → b ≡ pred i → IsFirst ys (i + 1)
-unfolding after_in before_in
-first_more xs ys b i n f e eb = record {
+first_more xs ys b i n f e eb = unfold after_in before_in in record {
   size = ap length e ∙ length-append xs (link b (i + 1) n ∷ []) ∙ ap (λ m. m + 1) f.size;
   befores = λ v h. ap (λ zs. (get_or zs v first_link).before) e ∙ at_each (λ x. x.before) (λ w. pred w) xs i (link b (i + 1) n) f.size v h eb f.befores;
   afters = λ v h. ap (λ zs. (get_or zs v first_link).after) e ∙ at_each (λ x. x.after) (λ w. w + 1) xs i (link b (i + 1) n) f.size v h refl f.afters;

@@ -47,8 +47,7 @@ module _ (after before : ℕ → ℕ) where
   next_in u [] i h k l = elim k [ ]
   next_in u (v ∷ []) i h (inl e) l = absurd (omega (arith, e))
   next_in u (v ∷ []) i h (inr k) l = elim k [ ]
-  next_in u (v ∷ (w ∷ ws)) i h (inl e) l =
-      let ea : after i ≡ w = ap after e ∙ h.3.0 in
+  next_in u (v ∷ (w ∷ ws)) i h (inl e) l = let ea : after i ≡ w = ap after e ∙ h.3.0 in
       let last_at = at_most w ws h.3.3 in
       (inr (inl ea), omega (arith, e, ea, h.3.2), omega (arith, ea, last_at))
     where
@@ -128,8 +127,7 @@ under_first c d h = ap (λ o. is_lt (ordering_then o (ordering_then (point_cmp c
 -- ---- the least of corners
 
 earlier : IsStrictWeakOrder is_before
-unfolding is_before
-earlier = ranks_by corner_total (λ c. c)
+earlier = unfold is_before in ranks_by corner_total (λ c. c)
 
 abbrev NoneBefore : Corner → List Corner → Type 0
 NoneBefore d cs = AllByRecursion (λ x. is_before x d ≡ false) cs
@@ -167,20 +165,16 @@ least_decides : (P Q : Corner → Type 0) (cs : List Corner) → AllByRecursion 
 least_decides P Q cs h f = grind (arith, no_least, least_first, least_holds, all_weaker)
 
 pub current_at : (ps : List Point) (links : List Link) (v : ℕ) → v < length links → IsCurrent links (entry_at ps (before_in links v) v (after_in links v))
-unfolding entry_at
-current_at ps links v h = record { within = h; before = refl; after = refl }
+current_at ps links v h = unfold entry_at in record { within = h; before = refl; after = refl }
 
 sound_at : (t : ℕ) (ps : List Point) (b v a : ℕ) → b < v → v < a → a < length ps → (entry_at ps b v a).corner.area < t → IsSound t ps (entry_at ps b v a)
-unfolding entry_at
-sound_at t ps b v a h k l u = record { is = refl; before = h; after = k; within = l; under = u }
+sound_at t ps b v a h k l u = unfold entry_at in record { is = refl; before = h; after = k; within = l; under = u }
 
 index_at : (ps : List Point) (b v a : ℕ) → (entry_at ps b v a).corner.index ≡ v
-unfolding entry_at
-index_at ps b v a = refl
+index_at ps b v a = unfold entry_at in refl
 
 corner_of_entry : (ps : List Point) (b v a : ℕ) → seen (entry_at ps b v a).corner ≡ corner_at (vertex_at ps b) (vertex_at ps v) (vertex_at ps a)
-unfolding entry_at
-corner_of_entry ps b v a = refl
+corner_of_entry ps b v a = unfold entry_at in refl
 
 module _ (t : ℕ) (ps : List Point) (links : List Link) (vs : List ℕ) (linked : IsLinked links vs) (notes : AreNoted t ps links) where
   abbrev corner_of : ℕ → Corner
@@ -188,13 +182,11 @@ module _ (t : ℕ) (ps : List Point) (links : List Link) (vs : List ℕ) (linked
 
   -- what is noted is the corner
   noted_is : (v : ℕ) → 0 < v → In v vs → v < last_of 0 vs → noted ps links v ≡ corner_of v
-  unfolding noted
-  noted_is v p k l = grind (arith, named, corner_of_entry)
+  noted_is v p k l = unfold noted in grind (arith, named, corner_of_entry)
 
   -- an end never goes before a corner under the threshold
   end_later : (u v : ℕ) → (u ≡ 0) ⊎ (u + 1 ≡ length links) → (noted ps links v).area < t → is_before (noted ps links u) (noted ps links v) ≡ false
-  unfolding noted
-  end_later u v k h = over_later (noted ps links u) (noted ps links v) (omega (arith, h, notes.ends u k))
+  end_later u v k h = unfold noted in over_later (noted ps links u) (noted ps links v) (omega (arith, h, notes.ends u k))
 
   neighbour_later : (u v : ℕ) → 0 < v → In v vs → v < last_of 0 vs → (corner_of v).area < t → NoneBefore (corner_of v) (corners (vertices ps (0 ∷ vs))) → (u ≡ 0) ⊎ In u vs →
       is_before (noted ps links u) (noted ps links v) ≡ false
@@ -213,8 +205,7 @@ module _ (t : ℕ) (ps : List Point) (links : List Link) (vs : List ℕ) (linked
   -- what is present can be compared
   pub ready_at : length links ≡ length ps → (v : ℕ) → (v ≡ 0) ⊎ In v vs → IsReady ps links v
   ready_at size v (inl e) = record { within = omega (arith, e, linked.last); fits = λ p _. absurd (omega (arith, p, e)); noted = λ p _. absurd (omega (arith, p, e)) }
-  ready_at size v (inr k) =
-      let n = named (after_in links) (before_in links) 0 vs v linked.chain k in
+  ready_at size v (inr k) = let n = named (after_in links) (before_in links) 0 vs v linked.chain k in
       let a = in_last (after_in links) (before_in links) 0 vs v linked.chain k in
       record {
         within = omega (arith, a, linked.last);
@@ -264,8 +255,7 @@ module _ (t : ℕ) (ps : List Point) (links links' : List Link) (items mid items
   not_before v p k m none = on (cases_lt (corner_of t ps links vs s.linked s.noted v).area t)
     where
       on : ((corner_of t ps links vs s.linked s.noted v).area < t) ⊎ (t ≤ (corner_of t ps links vs s.linked s.noted v).area) → is_before (corner_of t ps links vs s.linked s.noted v) (seen e.corner) ≡ false
-      on (inl u) =
-          let n = named (after_in links) (before_in links) 0 vs v s.linked.chain k in
+      on (inl u) = let n = named (after_in links) (before_in links) 0 vs v s.linked.chain k in
           let c = s.covers v (λ q. absurd (omega (arith, q, n.1))) (first_waits t ps links vs s.linked s.noted v p k m u none) in
           subst (λ x. is_before x (seen e.corner) ≡ false) (corner_of_entry ps (before_in links v) v (after_in links v))
           (corner_first (entry_in ps links v) e (l.first e (entry_in ps links v) refl c (current_at ps links v (omega (arith, s.linked.last, m)))))
@@ -285,11 +275,8 @@ module _ (t : ℕ) (ps : List Point) (links links' : List Link) (items mid items
 
     chain' : Chain (after_in links') (before_in links') 0 rest_of
     chain' = cut_out (after_in links) (before_in links) (after_in links') (before_in links') e.corner.index e.after
-        (ap (after_in links') cur.before ∙ un.bridge)
-        (λ v n. un.others v (λ q. n (q ∙ sym cur.before)))
-        (un.bridge_back ∙ sym cur.before)
-        un.others_back
-        cur.after so.after 0 vs s.linked.chain in_vs (λ q. absurd (omega (arith, q, inside)))
+        (ap (after_in links') cur.before ∙ un.bridge) (λ v n. un.others v (λ q. n (q ∙ sym cur.before))) (un.bridge_back ∙ sym cur.before)
+        un.others_back cur.after so.after 0 vs s.linked.chain in_vs (λ q. absurd (omega (arith, q, inside)))
 
     last' : last_of 0 rest_of ≡ last_of 0 vs
     last' = last_filter e.corner.index 0 vs (λ q. absurd (omega (arith, q, inside)))
@@ -302,8 +289,7 @@ module _ (t : ℕ) (ps : List Point) (links links' : List Link) (items mid items
       where
         on : (j ≡ e.corner.index) ⊎ (j ≢ e.corner.index) → before_in links' j ≡ j
         on (inl k) = ap (before_in links') k ∙ un.out ∙ sym k
-        on (inr m) = un.others_back j
-            (λ k. n (in_filter e.corner.index j vs (subst (λ x. In x vs) (sym k) after_in_vs) m)) m
+        on (inr m) = un.others_back j (λ k. n (in_filter e.corner.index j vs (subst (λ x. In x vs) (sym k) after_in_vs) m)) m
             ∙ s.linked.gone j p (omega (arith, un.same)) (λ k. n (in_filter e.corner.index j vs k m))
 
     linked_at : (v : ℕ) → 0 < v → (v ≡ e.before) ⊎ (v ≡ e.after) → In v rest_of
@@ -314,16 +300,14 @@ module _ (t : ℕ) (ps : List Point) (links links' : List Link) (items mid items
 
     -- the corners at the two neighbours
     pub fits : (v : ℕ) → 0 < v → v + 1 < length links' → (v ≡ e.before) ⊎ (v ≡ e.after) → (before_in links' v < v) × (v < after_in links' v) × (after_in links' v < length ps)
-    fits v p q k =
-        let i = linked_at v p k in
+    fits v p q k = let i = linked_at v p k in
         let n = named (after_in links') (before_in links') 0 rest_of v chain' i in
         let m = next_in (after_in links') (before_in links') 0 rest_of v chain' i (omega (arith, last', s.linked.last, un.same)) in
         (n.1, m.1, omega (arith, m.2, last', s.linked.last, s.size))
 
     -- some may still be taken out
     pub some_left : 0 < left
-    some_left =
-        let one = one_less (after_in links) (before_in links) 0 e.corner.index vs s.linked.chain in_vs in
+    some_left = let one = one_less (after_in links) (before_in links) 0 e.corner.index vs s.linked.chain in_vs in
         let some = in_length e.after rest_of (in_filter e.corner.index e.after vs after_in_vs (λ x. absurd (omega (arith, x, so.after)))) in
         omega (arith, one, some, s.many)
 
@@ -356,8 +340,7 @@ module _ (t : ℕ) (ps : List Point) (links links' : List Link) (items mid items
     beside_before v w n h = grind (arith, there, last', next_in, chain', next_prev)
 
     pub beside_after : (v : ℕ) → Waits t ps links' v → before_in links' v ≢ v → before_in links' v ≡ e.after → (e.after < v) × (v ≡ after_in links e.after)
-    beside_after v w n h =
-        let k = there v w.later (omega (arith, w.inside)) n in
+    beside_after v w n h = let k = there v w.later (omega (arith, w.inside)) n in
         let m = named (after_in links') (before_in links') 0 rest_of v chain' k in (
           omega (arith, m.1, h),
           sym (prev_next (after_in links') (before_in links') 0 rest_of v chain' k) ∙ ap (after_in links') h ∙ un.others e.after (λ x. absurd (omega (arith, x, so.before, so.after))),
@@ -388,8 +371,7 @@ module _ (t : ℕ) (ps : List Point) (links links' : List Link) (items mid items
 
             -- an old entry stays
             old : v ≢ e.before → v ≢ e.after → is_before (noted ps links (before_in links v)) (noted ps links v) ≡ false → is_before (noted ps links (after_in links v)) (noted ps links v) ≡ false → There
-            old m k p q =
-                let a = same_at v n m k in
+            old m k p q = let a = same_at v n m k in
                 let ed = same_entry ps links links' v a.0 a.1 in
                 let ni : v ≢ e.corner.index = λ x. n (ap (before_in links') x ∙ un.out ∙ sym x) in
                 let waits : Waits t ps links v = record { later = w.later; inside = omega (arith, w.inside, un.same); under = subst (λ (x : Entry). x.corner.area < t) ed w.under; before = p; after = q } in
@@ -441,13 +423,11 @@ module _ (t : ℕ) (ps : List Point) (links links' : List Link) (items mid items
           where
             on : Contains mid (turned d) ⊎ ((v : ℕ) × IsReady ps links' v × IsUnder t ps links' v d) → IsSound t ps d
             on (inl k) = s.sound d (l.rest d k)
-            on (inr (v, r, u)) =
-                let f = r.fits u.0 u.1 in
+            on (inr (v, r, u)) = let f = r.fits u.0 u.1 in
                 subst (λ y. IsSound t ps y) (sym u.2) (sound_at t ps (before_in links' v) v (after_in links' v) f.before f.after f.within (subst (λ (y : Entry). y.corner.area < t) u.2 u.3))
 
         pub next_state : IsState t ps links' items' (left - 1) rest_of
-        next_state =
-            let one = one_less (after_in links) (before_in links) 0 e.corner.index vs s.linked.chain in_vs in
+        next_state = let one = one_less (after_in links) (before_in links) 0 e.corner.index vs s.linked.chain in_vs in
             let some = in_length e.after rest_of (in_filter e.corner.index e.after vs after_in_vs (λ x. absurd (omega (arith, x, so.after)))) in
             let fuel : left - 1 + 2 ≡ left + 1 = omega (arith, one, some, s.many) in
             let fuel2 : suc (left + 1) ≡ left + 2 = omega arith in
@@ -459,8 +439,7 @@ module _ (t : ℕ) (ps : List Point) (links links' : List Link) (items mid items
               covers = covers';
               sound = sound';
               many = omega (arith, one, some, s.many);
-              rest =
-                  ap (λ n. eliminate n t (vertices ps (0 ∷ rest_of))) fuel
+              rest = ap (λ n. eliminate n t (vertices ps (0 ∷ rest_of))) fuel
                   ∙ ap (λ x. eliminate (left + 1) t (vertices ps x)) (sym (keep_step e.corner.index 0 vs nz))
                   ∙ ap (eliminate (left + 1) t) (sym (without_vertices ps e.corner.index (0 ∷ vs)))
                   ∙ sym (step_some (left + 1) t (vertices ps (0 ∷ vs)) (seen e.corner) (sym is_least) so.under)
@@ -490,8 +469,7 @@ first_ready t ps links v f n h = grind (arith, fits, first_fits)
 
 pub start_state : (t : ℕ) (ps : List Point) (links : List Link) (items : List (Reverse Entry)) → 2 ≤ length ps → IsFirst links (length ps) → AreNoted t ps links →
     HasCorners t ps links items (length ps - 1) → IsState t ps links items (length ps - 2) (range_with_len 1 (length ps - 1))
-start_state t ps links items two f nt hc =
-    let m : suc (length ps - 1) ≡ length ps = omega arith in
+start_state t ps links items two f nt hc = let m : suc (length ps - 1) ≡ length ps = omega arith in
     let fuel : length ps - 2 + 2 ≡ length ps = omega arith in
     record {
       linked = record {
@@ -534,8 +512,7 @@ none_taken n t vs h = grind (arith, least_holds, step_none, step_over)
 -- where no current entry is left, no corner is under the threshold
 pub none_under : (t : ℕ) (ps : List Point) (links : List Link) (items mid : List (Reverse Entry)) (left : ℕ) (vs : List ℕ) →
     IsState t ps links items left vs → LeavesCurrent links items None mid → mid ≡ [] → AllByRecursion (λ c. t ≤ c.area) (corners (vertices ps (0 ∷ vs)))
-none_under t ps links items mid left vs s l em =
-    least_decides (λ d. t ≤ d.area) (λ d. t ≤ d.area) (corners (vertices ps (0 ∷ vs)))
+none_under t ps links items mid left vs s l em = least_decides (λ d. t ≤ d.area) (λ d. t ≤ d.area) (corners (vertices ps (0 ∷ vs)))
     (all_present (after_in links) (before_in links) (λ d. NoneBefore d (corners (vertices ps (0 ∷ vs))) → t ≤ d.area) ps vs s.linked.chain (λ v p k m none. at v p k m none (cases_lt (corner_of t ps links vs s.linked s.noted v).area t)))
     (λ d x h n. over d x h n (cases_lt x.area d.area))
   where
@@ -549,8 +526,7 @@ none_under t ps links items mid left vs s l em =
 
     at : (v : ℕ) → 0 < v → In v vs → v < last_of 0 vs → NoneBefore (corner_of t ps links vs s.linked s.noted v) (corners (vertices ps (0 ∷ vs))) →
         ((corner_of t ps links vs s.linked s.noted v).area < t) ⊎ (t ≤ (corner_of t ps links vs s.linked s.noted v).area) → t ≤ (corner_of t ps links vs s.linked s.noted v).area
-    at v p k m none (inl u) =
-        let n = named (after_in links) (before_in links) 0 vs v s.linked.chain k in
+    at v p k m none (inl u) = let n = named (after_in links) (before_in links) 0 vs v s.linked.chain k in
         let c = s.covers v (λ q. absurd (omega (arith, q, n.1))) (first_waits t ps links vs s.linked s.noted v p k m u none) in
         absurd (gone (entry_in ps links v) (l.stays (entry_in ps links v) c (current_at ps links v (omega (arith, s.linked.last, m)))))
     at v p k m none (inr o) = o
@@ -575,13 +551,11 @@ pub turn_state : (t : ℕ) (ps : List Point) (links links' : List Link) (items m
     PushedFirst t ps links' mid one e.before f kf → PushedFirst t ps links' one two e.after l kl →
     IsTakenOut t ps links' two left vs e.corner
 turn_state t ps links links' items mid one two left vs e f l kf kl s lc cur un re rb rf ra rl ef zf el zl nf nl p q =
-    let n = next_state t ps links links' items mid two left vs e s lc cur un re
-    (λ d h. q.has d (p.has d h))
+    let n = next_state t ps links links' items mid two left vs e s lc cur un re (λ d h. q.has d (p.has d h))
     (λ w. q.has (entry_in ps links' e.before) (p.inner w (inl (eb w.later))))
     (λ w. q.inner w (inr (un.others e.after (λ x. absurd (omega (arith, x, sound.before, sound.after))) ∙ sym (el (omega (arith, w.inside, un.same))))))
     (λ v w n h. ahead v w h (beside_before t ps links links' items mid two left vs e s lc cur un v w n h) kf refl)
-    (λ v w n h. behind v w h (beside_after t ps links links' items mid two left vs e s lc cur un v w n h) kl refl)
-    only in
+    (λ v w n h. behind v w h (beside_after t ps links links' items mid two left vs e s lc cur un v w n h) kl refl) only in
     record {
       some = some_left t ps links links' items mid two left vs e s lc cur un;
       first = is_least t ps links links' items mid two left vs e s lc cur;
@@ -599,15 +573,13 @@ turn_state t ps links links' items mid one two left vs e f l kf kl s lc cur un r
 
     ahead : (v : ℕ) → Waits t ps links' v → after_in links' v ≡ e.before → (v < e.before) × (v ≡ before_in links e.before) → (k : Bool) → kf ≡ k → (is_before (noted ps links e.before) (noted ps links v) ≡ false) ⊎ Contains two (turned (entry_in ps links' v))
     ahead v w h b true z = inl (subst (λ x. is_before (noted ps links e.before) (noted ps links x) ≡ false) (ef (omega (arith, b.0)) ∙ sym b.1) (nf z))
-    ahead v w h b false z =
-        let ev : v ≡ f = b.1 ∙ sym (ef (omega (arith, b.0))) in
+    ahead v w h b false z = let ev : v ≡ f = b.1 ∙ sym (ef (omega (arith, b.0))) in
         inr (q.has (entry_in ps links' v) (subst (λ x. Contains one (turned (entry_in ps links' x))) (sym ev)
         (p.outer z (λ x. absurd (omega (arith, x, ev, b.0))) (subst (λ x. Waits t ps links' x) ev w) (inr (ap (after_in links') (sym ev) ∙ h)))))
 
     behind : (v : ℕ) → Waits t ps links' v → before_in links' v ≡ e.after → (e.after < v) × (v ≡ after_in links e.after) → (k : Bool) → kl ≡ k → (is_before (noted ps links e.after) (noted ps links v) ≡ false) ⊎ Contains two (turned (entry_in ps links' v))
     behind v w h b true z = inl (subst (λ x. is_before (noted ps links e.after) (noted ps links x) ≡ false) (el (omega (arith, b.0, w.inside, un.same)) ∙ sym b.1) (nl z))
-    behind v w h b false z =
-        let ev : v ≡ l = b.1 ∙ sym (el (omega (arith, b.0, w.inside, un.same))) in
+    behind v w h b false z = let ev : v ≡ l = b.1 ∙ sym (el (omega (arith, b.0, w.inside, un.same))) in
         inr (subst (λ x. Contains two (turned (entry_in ps links' x))) (sym ev)
         (q.outer z (λ x. absurd (omega (arith, x, ev, b.0))) (subst (λ x. Waits t ps links' x) ev w) (inl (ap (before_in links') (sym ev) ∙ h))))
 
@@ -644,8 +616,7 @@ pub old_ready : (t : ℕ) (ps : List Point) (links : List Link) (items mid : Lis
     IsState t ps links items left vs → LeavesCurrent links items (Some e) mid → IsCurrent links e →
     (e.before ≡ 0 → f ≡ e.before) → (0 < e.before → f ≡ before_in links e.before) → (e.after + 1 ≡ length links → l ≡ e.after) → (e.after + 1 < length links → l ≡ after_in links e.after) →
     AllReady ps links e.before f e.after l
-old_ready t ps links items mid left vs e f l s lc cur zf ef zl el =
-    let present = in_vs t ps links links items mid mid left vs e s lc cur in
+old_ready t ps links items mid left vs e f l s lc cur zf ef zl el = let present = in_vs t ps links links items mid mid left vs e s lc cur in
     all_ready t ps links vs e.before f e.after l s.linked s.noted s.size
     (elim (prev_in (after_in links) (before_in links) 0 vs e.corner.index s.linked.chain present) [ inl x ↦ inl (sym cur.before ∙ x) | inr x ↦ inr (subst (λ y. In y vs) cur.before x) ])
     (subst (λ y. In y vs) cur.after (next_in (after_in links) (before_in links) 0 vs e.corner.index s.linked.chain present (inside t ps links links items mid mid left vs e s lc cur)).0)

@@ -99,8 +99,7 @@ module _ (ps : List Point) (level left : ℕ) (vs : List ℕ) (ws : List Weight)
   still_there i (inr m) n = inr (in_filter c.index i vs m n)
 
   present' : (i : ℕ) → i < length ps → In i (0 ∷ rest_of) → (get_or new i End ≡ End) × (weight ps i ≡ weight_from (left - 1 + 2) (max level c.area) (vertices ps (0 ∷ rest_of)) i)
-  present' i h m =
-      let was = was_there i m in
+  present' i h m = let was = was_there i m in
       let old = w.present i h was.0 in (
         get_or-set_other ws c.index i (Area (max level c.area)) End was.1 ∙ old.0,
         old.1 ∙ ap (λ n. weight_from n level (vertices ps (0 ∷ vs)) i) fuel ∙ weigh_other (left - 1 + 2) level (vertices ps (0 ∷ vs)) c i first (λ q. was.1 (sym q))
@@ -111,8 +110,7 @@ module _ (ps : List Point) (level left : ℕ) (vs : List ℕ) (ws : List Weight)
   gone' i h m = on (same_or_not i c.index)
     where
       here : get_or new c.index End ≡ told (weight ps c.index)
-      here =
-          get_or-set_same ws c.index (Area (max level c.area)) End (omega (arith, w.size, within))
+      here = get_or-set_same ws c.index (Area (max level c.area)) End (omega (arith, w.size, within))
           ∙ ap told (sym ((w.present c.index within (inr there)).1 ∙ ap (λ n. weight_from n level (vertices ps (0 ∷ vs)) c.index) fuel ∙ weigh_here (left - 1 + 2) level (vertices ps (0 ∷ vs)) c first))
 
       on : (i ≡ c.index) ⊎ (i ≢ c.index) → get_or new i End ≡ told (weight ps i)
@@ -147,8 +145,7 @@ apart : (a b : ℤ) → unsigned_abs a ≤ position_limit → unsigned_abs b ≤
 apart a b p q = omega (arith, ints)
 
 area_bound : (a b c : Point) → IsPosition a → IsPosition b → IsPosition c → twice_area a b c < no_limit
-unfolding twice_area cross
-area_bound a b c p q r =
+area_bound a b c p q r = unfold twice_area cross in
     apart_fits ((b.x -ℤ a.x) *ℤ (c.y -ℤ a.y)) ((c.x -ℤ a.x) *ℤ (b.y -ℤ a.y))
     (product_bound (b.x -ℤ a.x) (c.y -ℤ a.y) (apart b.x a.x q.0 p.0) (apart c.y a.y r.1 p.1))
     (product_bound (c.x -ℤ a.x) (b.y -ℤ a.y) (apart c.x a.x r.0 p.0) (apart b.y a.y q.1 p.1))

@@ -30,8 +30,7 @@ fold_in f e a [] = inl refl
 fold_in f e a (x ∷ xs) = grind (arith, fold_in f e (f a x) xs)
 
 least_of : (x : ℤ) (xs : List ℤ) → IsLeast (fold int_min x xs) (x ∷ xs)
-least_of x xs =
-    let b = fold-int_min_bounds x xs (fold int_min x xs) refl in
+least_of x xs = let b = fold-int_min_bounds x xs (fold int_min x xs) refl in
     record { among = fold_in int_min chosen_min x xs; below = (b.0, recursion_from_All _ xs b.1) }
 
 above_of : (x : ℤ) (xs : List ℤ) → AllByRecursion (λ y. y ≤ℤ fold int_max x xs) (x ∷ xs)
@@ -63,8 +62,7 @@ through a b c h k = omega (arith, ints)
 
 -- the axis over numbers, of which the first is x
 axis_over_is : (count : ℕ) (x : ℤ) (xs : List ℤ) → 2 ≤ count → IsOver count (x ∷ xs) (axis_over count (fold int_min x xs) (fold int_max x xs))
-axis_over_is count x xs some =
-    let least : ℤ = fold int_min x xs in
+axis_over_is count x xs some = let least : ℤ = fold int_min x xs in
     let greatest : ℤ = fold int_max x xs in
     let d : ℕ = unsigned_abs (greatest -ℤ least) in
     let m : ℕ = count - 1 in
@@ -79,8 +77,7 @@ axis_over_is count x xs some =
         reaches = all_weaker (λ y. y ≤ℤ greatest) (λ y. y ≤ℤ (least +ℤ pos (m * max (rounded_up d m) 1)))
             (λ y h. before_end least greatest y (m * max (rounded_up d m) 1) h (step_reaches d m (omega arith))) (x ∷ xs) high;
       };
-      least = λ step s. step_least d m step (omega arith) s.apart
-          (far_enough least greatest (m * step) order
+      least = λ step s. step_least d m step (omega arith) s.apart (far_enough least greatest (m * step) order
           (each_of (λ y. y ≤ℤ (least +ℤ pos (m * step))) (x ∷ xs) greatest s.reaches (fold_in int_max chosen_max x xs)));
     }
 
@@ -114,8 +111,7 @@ on_each count coordinate p ps some = grind (arith, all_two, on_axis count, all_o
 
 pub covers_all : CoversAll
 covers_all count [] g some e = tt
-covers_all count (p ∷ ps) g some e =
-    subst (λ h. AllByRecursion (λ q. covers h q ≡ true) (p ∷ ps)) (same_axes (axes_of count p ps) g e)
+covers_all count (p ∷ ps) g some e = subst (λ h. AllByRecursion (λ q. covers h q ≡ true) (p ∷ ps)) (same_axes (axes_of count p ps) g e)
     (all_two (λ q. is_on (axes_of count p ps).x q.x ≡ true) (λ q. is_on (axes_of count p ps).y q.y ≡ true) (λ q. covers (axes_of count p ps) q ≡ true)
     (λ q a b. rw (a, b) refl) (p ∷ ps) (on_each count (λ q. q.x) p ps some) (on_each count (λ q. q.y) p ps some))
 

@@ -21,23 +21,19 @@ four_over : grid_over 4 (at (pos 0) (pos 0) ∷ (at (pos 5000000) (pos 10000000)
 four_over = refl
 
 four_cell : cell four (at (pos 5000000) (pos 10000000)) ≡ at (pos 1) (pos 3)
-unfolding number
-four_cell = refl
+four_cell = unfold number in refl
 
 four_snapped : snapped four (at (pos 5000000) (pos 10000000)) ≡ at (pos 3333334) (pos 10000002)
-unfolding number
-four_snapped = refl
+four_snapped = unfold number in refl
 
 four_back : back four (at (pos 1) (pos 3)) ≡ at (pos 3333334) (pos 10000002)
 four_back = refl
 
 four_covers : covers four (at (pos 10000002) (pos 0)) ≡ true
-unfolding is_on
-four_covers = refl
+four_covers = unfold is_on in refl
 
 four_ends : covers four (at (pos 10000003) (pos 0)) ≡ false
-unfolding is_on
-four_ends = refl
+four_ends = unfold is_on in refl
 
 -- lines along one height: a step of one unit there, and a short line falls together
 abbrev two : Axes
@@ -47,17 +43,14 @@ two_over : grid_over 2 (at (pos 0) (pos 50000000) ∷ (at (pos 100000000) (pos 5
 two_over = refl
 
 two_one : snapped two (at (pos 10000000) (pos 50000000)) ≡ at (pos 0) (pos 50000000)
-unfolding number
-two_one = refl
+two_one = unfold number in refl
 
 two_other : snapped two (at (pos 20000000) (pos 50000000)) ≡ at (pos 0) (pos 50000000)
-unfolding number
-two_other = refl
+two_other = unfold number in refl
 
 -- halves of a step go up
 halves : cell (square (axis (negsuc 2) 2 3)) (at (negsuc 1) (pos 0)) ≡ at (pos 1) (pos 2)
-unfolding number
-halves = refl
+halves = unfold number in refl
 
 -- no position, no grid; one alone is the first cell of a grid of single units
 none_over : grid_over 10 [] ≡ None
@@ -74,5 +67,4 @@ widest_over : grid_over (10 ^ 9) (at (neg_ℤ (pos (10 ^ 15))) (pos (10 ^ 15)) �
 widest_over = refl
 
 widest_covers : covers widest (at (pos (10 ^ 15)) (neg_ℤ (pos (10 ^ 15)))) ≡ true
-unfolding is_on
-widest_covers = refl
+widest_covers = unfold is_on in refl

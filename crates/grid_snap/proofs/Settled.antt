@@ -18,12 +18,10 @@ pub record IsOn (a : Axis) (x : ℤ) : Type 0 where
   pub near : offset a x ≤ a.last * a.step
 
 pub on_facts : (a : Axis) (x : ℤ) → is_on a x ≡ true → IsOn a x
-unfolding is_on
-on_facts a x h = grind arith
+on_facts a x h = unfold is_on in grind arith
 
 pub on_from : (a : Axis) (x : ℤ) → IsOn a x → is_on a x ≡ true
-unfolding is_on
-on_from a x h = grind arith
+on_from a x h = unfold is_on in grind arith
 
 offset_at : (x : ℤ) (n : ℕ) → unsigned_abs ((x +ℤ pos n) -ℤ x) ≡ n
 offset_at x n = omega (arith, ints)
@@ -38,17 +36,14 @@ at_on : (a : Axis) (k : ℕ) → k ≤ a.last → is_on a (coordinate a (pos k))
 at_on a k h = grind (arith, on_from, behind_at, near_at, scaled_within)
 
 at_number : (a : Axis) (k : ℕ) → 1 ≤ a.step → number a (coordinate a (pos k)) ≡ k
-unfolding number
-at_number a k h = ap (λ d. nearest d a.step) (offset_at a.first (k * a.step)) ∙ nearest_whole k a.step h
+at_number a k h = unfold number in ap (λ d. nearest d a.step) (offset_at a.first (k * a.step)) ∙ nearest_whole k a.step h
 
 pub number_within : (a : Axis) (x : ℤ) → IsAxis a → is_on a x ≡ true → number a x ≤ a.last
-unfolding number
-number_within a x axis on = nearest_within (offset a x) a.step a.last axis.apart (on_facts a x on).near
+number_within a x axis on = unfold number in nearest_within (offset a x) a.step a.last axis.apart (on_facts a x on).near
 
 -- the number as it is computed of a distance
 pub number_of_offset : (a : Axis) (x : ℤ) (d : ℕ) → d ≡ offset a x → (2 * d + a.step) / (2 * a.step) ≡ number a x
-unfolding number
-number_of_offset a x d e = ap (λ m. nearest m a.step) e
+number_of_offset a x d e = unfold number in ap (λ m. nearest m a.step) e
 
 times_one : (last step : ℕ) → 1 ≤ last → step ≤ last * step
 times_one last step h = let e : 1 * step ≤ last * step = scaled_within 1 last step h in omega (arith, e)
@@ -102,8 +97,7 @@ cells_at : (g : Axes) (m n : ℕ) → IsGrid g → m ≤ g.x.last → n ≤ g.y.
 cells_at g m n grid h k = grind (arith, both_true, at_on, two, at_number)
 
 pub cells_back : CellsAreBack
-cells_back g c grid h =
-    let i : Natural g.x c.x = natural g.x c.x h.0 in
+cells_back g c grid h = let i : Natural g.x c.x = natural g.x c.x h.0 in
     let j : Natural g.y c.y = natural g.y c.y h.1 in
     let P : Point → Type 0 = λ d. (covers g (back g d) ≡ true) × (cell g (back g d) ≡ d) in
     subst P (two (sym i.is) (sym j.is)) (cells_at g i.value j.value grid i.within j.within)

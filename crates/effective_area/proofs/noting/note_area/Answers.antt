@@ -4,16 +4,13 @@ use Rattle.effective_area.proofs.LinkLaws.{notes, notes_end}
 use Rattle.effective_area.proofs.noting.note_area.Goals as goal
 
 pub area_between-area-requires-clause-before : goal.area_between-area-requires-clause-before
-unfolding after_in before_in
-area_between-area-requires-clause-before c = grind arith
+area_between-area-requires-clause-before c = unfold after_in before_in in grind arith
 
 pub area_between-area-requires-clause-after : goal.area_between-area-requires-clause-after
-unfolding after_in before_in
-area_between-area-requires-clause-after c = grind arith
+area_between-area-requires-clause-after c = unfold after_in before_in in grind arith
 
 pub returns-clause-noted : goal.returns-clause-noted
-unfolding after_in before_in
-returns-clause-noted c = grind (arith, notes)
+returns-clause-noted c = unfold after_in before_in in grind (arith, notes)
 
 pub returns-then-index-eq0-clause-noted : goal.returns-then-index-eq0-clause-noted
 returns-then-index-eq0-clause-noted c = notes_end c.args.arc.now c.args.links.now c.args.index (λ p q. absurd (omega (arith, p, c.if-index-eq0.true)))

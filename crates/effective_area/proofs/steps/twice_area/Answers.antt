@@ -14,8 +14,7 @@ pub overflow_sub-left : goal.overflow_sub-left
 overflow_sub-left c = grind (arith, apart_fits, fits_signed_from_abs, through)
 
 pub returns-clause-value : goal.returns-clause-value
-unfolding twice_area cross
-returns-clause-value c =
+returns-clause-value c = unfold twice_area cross in
     let x1 : FitsSigned w64 c.x.result = search rules in
     let x2 : FitsSigned w64 c.x-2.result = search rules in
     let y1 : FitsSigned w64 c.y.result = search rules in
@@ -42,8 +41,7 @@ returns-clause-value c =
     c.unsigned_abs.ensures.value ∙ ap unsigned_abs (both ◌-ℤ◌ _ _ _ _ _ p1 p2 t)
 
 pub returns-clause-bound : goal.returns-clause-bound
-returns-clause-bound c =
-    let f : FitsSigned w128 c.product-left.result = search rules in
+returns-clause-bound c = let f : FitsSigned w128 c.product-left.result = search rules in
     let g : FitsSigned w128 c.product-right.result = search rules in
     let small : unsigned_abs (c.product-left.result -ℤ c.product-right.result) < 100000000000000000000000000000000 = apart_fits c.product-left.result c.product-right.result c.product-left.ensures.bound c.product-right.ensures.bound in
     let h : FitsSigned w128 (c.product-left.result -ℤ c.product-right.result) = fits_signed_from_abs w128 _ (omega arith) in

@@ -21,13 +21,10 @@ unfolding after_in
 returns-then-goes_before-2-clause-none c = λ w. let e : false ≡ true = sym w.after ∙ sym c.goes_before-2.ensures ∙ c.if-goes_before-2.true in absurd (cc)
 
 pub goes_before-requires-clause-index : goal.goes_before-requires-clause-index
-unfolding after_in before_in
-goes_before-requires-clause-index c = grind arith
+goes_before-requires-clause-index c = unfold after_in before_in in grind arith
 
 pub goes_before-requires-2-clause-index : goal.goes_before-requires-2-clause-index
-unfolding after_in before_in
-goes_before-requires-2-clause-index c = grind arith
+goes_before-requires-2-clause-index c = unfold after_in before_in in grind arith
 
 pub returns-clause-under : goal.returns-clause-under
-unfolding area_in
-returns-clause-under c = grind arith
+returns-clause-under c = unfold area_in in grind arith

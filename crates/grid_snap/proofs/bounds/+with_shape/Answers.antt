@@ -33,7 +33,6 @@ pub returns-in-Areas : goal.returns-in-Areas
 returns-in-Areas t c = of_kind c.args.bounds c.args.shape.now _ _ _ c.in-Areas.is (points_at.areas c.in-Areas.areas) (c.with_areas.ensures ∙ ap (λ rss. widened_by c.args.bounds (joined (joined rss))) c.as_slice-in-Areas.ensures)
 
 pub returns-after-shapes : goal.returns-after-shapes
-returns-after-shapes t c =
-    of_kind c.args.bounds c.args.shape.now _ _ _ c.in-Group.is (points_at.group c.in-Group.shapes)
+returns-after-shapes t c = of_kind c.args.bounds c.args.shape.now _ _ _ c.in-Group.is (points_at.group c.in-Group.shapes)
     (ends shape_points c.as_slice-shape-items.result.now c.shapes.shape-index c.args.bounds c.shapes.all c.shapes-test.false c.shapes.invariant
     ∙ ap (λ ss. widened_by c.args.bounds (joined (map shape_points ss))) c.as_slice-shape-items.ensures)

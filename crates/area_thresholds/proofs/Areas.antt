@@ -44,7 +44,8 @@ module _ (area : Parts) (threshold : ℕ) where
     where
       go : (b : Bool) → s.exact ≡ b → IsThreshold area threshold
       go false is = absurd (none-some threshold (rw is at e))
-      go true is = let found = signed_from_twice area.negative h.magnitude threshold (ap twice (sym h.value) ∙ rw is at e) in
+      go true is =
+          let found = signed_from_twice area.negative h.magnitude threshold (ap twice (sym h.value) ∙ rw is at e) in
           record { many = h.magnitude; exactly = h.exact.0 is; positive = found.0; most = h.within; twice = found.1 }
 
   from_result : (r : Result Scaled Range) → ScalesTo area.negative (numerator area 14) (denominator area) (10 ^ 32) r
@@ -53,7 +54,8 @@ module _ (area : Parts) (threshold : ℕ) where
   from_result (Err f) h e = absurd (none-some threshold e)
 
   to_threshold : (t : List ℕ) → SpellsNumber t area → IsThreshold area threshold → threshold_of t ≡ Some threshold
-  to_threshold t spells h = let read = scaled_of-read 14 (10 ^ 32) t area (parts-read t area spells) in
+  to_threshold t spells h =
+      let read = scaled_of-read 14 (10 ^ 32) t area (parts-read t area spells) in
       let whole = rounded_of-whole area.negative (denominator area) h.many (10 ^ 32) (denominator-positive area) h.most in
       let same = read ∙ (ap (λ n. rounded_of area.negative n (denominator area) (10 ^ 32)) (sym h.exactly) ∙ whole) in
       ap twice_exact same ∙ (twice_signed area.negative h.many h.positive ∙ ap Some (sym h.twice))

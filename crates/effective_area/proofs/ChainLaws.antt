@@ -67,7 +67,8 @@ module _ (after before : ℕ → ℕ) where
         there (inr k) m = k
 
         by_case : (In i (w ∷ ws) → Chain after' before' v (filter (λ j. not (eqb j i)) (w ∷ ws))) → (v ≡ i) ⊎ (v ≢ i) → Chain after' before' u (filter (λ j. not (eqb j i)) (v ∷ (w ∷ ws)))
-        by_case ih (inl e) = let eu : before i ≡ u = ap before (sym e) ∙ h.1 in
+        by_case ih (inl e) =
+            let eu : before i ≡ u = ap before (sym e) ∙ h.1 in
             let ew : b ≡ w = sym follows ∙ ap after (sym e) ∙ h.3.0 in
             let iw : i < w = omega (arith, h.3.2) in
             let uw : u < w = omega (arith, h.2, h.3.2) in
@@ -75,7 +76,8 @@ module _ (after before : ℕ → ℕ) where
             let all : AllByRecursion (λ v. i < v) (w ∷ ws) = (iw, above_from i w ws (omega arith) h.3.3) in
             let done : Chain after' before' u (w ∷ ws) = (ap after' (sym eu) ∙ bridge ∙ ew, ap before' (sym ew) ∙ bridge_back ∙ eu, uw, rest) in
             subst (λ l. Chain after' before' u l) (sym (drop_step i v (w ∷ ws) e ∙ kept_above i (w ∷ ws) all)) done
-        by_case ih (inr m) = let k' = there k m in
+        by_case ih (inr m) =
+            let k' = there k m in
             let named_at = named v (w ∷ ws) i h.3 k' in
             let l1 : v ≤ before i = named_at.0 in
             let l2 : before i < i = named_at.1 in

@@ -43,7 +43,8 @@ never_under x = on (under x x) refl
 
 sorted_far : (xs : List (Reverse Entry)) → IsSorted rentry_cmp xs → (i k : ℕ) (d : Reverse Entry) → i + k < length xs → under (get_or xs (i + k) d) (get_or xs i d) ≡ false
 sorted_far xs s i zero d h = let z : i + 0 ≡ i = omega arith in ap (λ n. under (get_or xs n d) (get_or xs i d)) z ∙ never_under (get_or xs i d)
-sorted_far xs s i (suc k) d h = let z : i + k + 1 ≡ i + suc k = omega arith in
+sorted_far xs s i (suc k) d h =
+    let z : i + k + 1 ≡ i + suc k = omega arith in
     turned_order.chain (get_or xs (i + suc k) d) (get_or xs (i + k) d) (get_or xs i d)
     (ap (λ n. under (get_or xs n d) (get_or xs (i + k) d)) (sym z) ∙ s (i + k) d (omega arith) (omega (arith, h)))
     (sorted_far xs s i k d (omega (arith, h)))
@@ -60,7 +61,8 @@ last_bound xs x s n e = each_place (λ y. under x y ≡ false) xs (λ j d h.
     ap (λ y. under y (get_or xs j d)) (ex ∙ ap (λ m. get_or xs m d) (sym z)) ∙ far)
 
 last_of_sorted : (xs : List (Reverse Entry)) (x : Reverse Entry) → IsSorted rentry_cmp (xs ++ (x ∷ [])) → IsUpperBound rentry_cmp x (xs ++ (x ∷ []))
-last_of_sorted xs x s = let n : length (xs ++ (x ∷ [])) ≡ length xs + 1 = length-append xs (x ∷ []) in
+last_of_sorted xs x s =
+    let n : length (xs ++ (x ∷ [])) ≡ length xs + 1 = length-append xs (x ∷ []) in
     let z : length (xs ++ (x ∷ [])) - 1 ≡ length xs = omega (arith, n) in
     last_bound (xs ++ (x ∷ [])) x s (omega (arith, n)) (sym (ap (λ m. get_or (xs ++ (x ∷ [])) m x) z ∙ get_or_push xs x x (length xs) refl))
 

@@ -13,16 +13,19 @@ use Rattle.std.proofs.lemmas.Bool.Decides.{nat_tests}
 
 -- two more at the end
 take_two : (is : List ℕ) (j : ℕ) → j + 1 < length is → take (j + 1 + 1) is ≡ take j is ++ (get_or is j 0 ∷ (get_or is (j + 1) 0 ∷ []))
-take_two is j h = let l : j < length is = omega arith in
+take_two is j h =
+    let l : j < length is = omega arith in
     take_more is (j + 1) 0 h ∙ ap (λ xs. xs ++ (get_or is (j + 1) 0 ∷ [])) (take_more is j 0 l) ∙ append_assoc (take j is) (get_or is j 0 ∷ []) (get_or is (j + 1) 0 ∷ [])
 
 take_three : (is : List ℕ) (j : ℕ) → j + 1 + 1 < length is → take (j + 1 + 1 + 1) is ≡ take j is ++ (get_or is j 0 ∷ (get_or is (j + 1) 0 ∷ (get_or is (j + 1 + 1) 0 ∷ [])))
-take_three is j h = let l : j + 1 < length is = omega arith in
+take_three is j h =
+    let l : j + 1 < length is = omega arith in
     take_more is (j + 1 + 1) 0 h ∙ ap (λ xs. xs ++ (get_or is (j + 1 + 1) 0 ∷ [])) (take_two is j l) ∙ append_assoc (take j is) (get_or is j 0 ∷ (get_or is (j + 1) 0 ∷ [])) (get_or is (j + 1 + 1) 0 ∷ [])
 
 corners_more : (ps : List Point) (is : List ℕ) (j : ℕ) → j + 1 + 1 < length is →
     corners (vertices ps (take (j + 1 + 1 + 1) is)) ≡ corners (vertices ps (take (j + 1 + 1) is)) ++ (corner_at (vertex_at ps (get_or is j 0)) (vertex_at ps (get_or is (j + 1) 0)) (vertex_at ps (get_or is (j + 1 + 1) 0)) ∷ [])
-corners_more ps is j h = let l : j + 1 < length is = omega arith in
+corners_more ps is j h =
+    let l : j + 1 < length is = omega arith in
     let x = vertex_at ps (get_or is j 0) in
     let y = vertex_at ps (get_or is (j + 1) 0) in
     let z = vertex_at ps (get_or is (j + 1 + 1) 0) in
@@ -65,7 +68,8 @@ without_vertices ps i (j ∷ is) = grind (arith, without_vertices ps i is)
 
 all_from : (qs : List Point) (i : ℕ) (ps : List Point) → ((k : ℕ) → k < length ps → get_or qs (i + k) origin ≡ get_or ps k origin) → vertices qs (range_with_len i (length ps)) ≡ numbered i ps
 all_from qs i [] h = refl
-all_from qs i (p ∷ ps) h = let z : i + 0 ≡ i = omega arith in
+all_from qs i (p ∷ ps) h =
+    let z : i + 0 ≡ i = omega arith in
     let here : get_or qs i origin ≡ p = ap (λ k. get_or qs k origin) (sym z) ∙ h 0 (omega arith) in
     let vertex = λ (q : Point). let r : Vertex = record { index = i; point = q } in r in
     ap (λ q. vertex q ∷ vertices qs (range_with_len (i + 1) (length ps))) here
@@ -102,7 +106,8 @@ pub turn_rest : (t turn : ℕ) (ps : List Point) (is ks js : List ℕ) (c : Corn
     Some c ≡ least (corners (vertices ps ks)) → c.area < t → js ≡ filter (λ j. not (eqb j c.index)) is →
     eliminate (length ps - turn) t (vertices ps is) ≡ eliminate (length ps) t (numbered 0 ps) →
     eliminate (length ps - (turn + 1)) t (vertices ps js) ≡ eliminate (length ps) t (numbered 0 ps)
-turn_rest t turn ps is ks js c h k e u f r = let z : length ps - turn ≡ suc (length ps - (turn + 1)) = omega arith in
+turn_rest t turn ps is ks js c h k e u f r =
+    let z : length ps - turn ≡ suc (length ps - (turn + 1)) = omega arith in
     let e' : Some c ≡ least (corners (vertices ps is)) = e ∙ ap (λ l. least (corners (vertices ps l))) k in
     ap (λ l. eliminate (length ps - (turn + 1)) t (vertices ps l)) f
     ∙ sym (ap (eliminate (length ps - (turn + 1)) t) (without_vertices ps c.index is))

@@ -47,7 +47,8 @@ module _ (after before : ℕ → ℕ) where
   next_in u [] i h k l = elim k [ ]
   next_in u (v ∷ []) i h (inl e) l = absurd (omega (arith, e))
   next_in u (v ∷ []) i h (inr k) l = elim k [ ]
-  next_in u (v ∷ (w ∷ ws)) i h (inl e) l = let ea : after i ≡ w = ap after e ∙ h.3.0 in
+  next_in u (v ∷ (w ∷ ws)) i h (inl e) l =
+      let ea : after i ≡ w = ap after e ∙ h.3.0 in
       let last_at = at_most w ws h.3.3 in
       (inr (inl ea), omega (arith, e, ea, h.3.2), omega (arith, ea, last_at))
     where
@@ -205,7 +206,8 @@ module _ (t : ℕ) (ps : List Point) (links : List Link) (vs : List ℕ) (linked
   -- what is present can be compared
   pub ready_at : length links ≡ length ps → (v : ℕ) → (v ≡ 0) ⊎ In v vs → IsReady ps links v
   ready_at size v (inl e) = record { within = omega (arith, e, linked.last); fits = λ p _. absurd (omega (arith, p, e)); noted = λ p _. absurd (omega (arith, p, e)) }
-  ready_at size v (inr k) = let n = named (after_in links) (before_in links) 0 vs v linked.chain k in
+  ready_at size v (inr k) =
+      let n = named (after_in links) (before_in links) 0 vs v linked.chain k in
       let a = in_last (after_in links) (before_in links) 0 vs v linked.chain k in
       record {
         within = omega (arith, a, linked.last);
@@ -255,7 +257,8 @@ module _ (t : ℕ) (ps : List Point) (links links' : List Link) (items mid items
   not_before v p k m none = on (cases_lt (corner_of t ps links vs s.linked s.noted v).area t)
     where
       on : ((corner_of t ps links vs s.linked s.noted v).area < t) ⊎ (t ≤ (corner_of t ps links vs s.linked s.noted v).area) → is_before (corner_of t ps links vs s.linked s.noted v) (seen e.corner) ≡ false
-      on (inl u) = let n = named (after_in links) (before_in links) 0 vs v s.linked.chain k in
+      on (inl u) =
+          let n = named (after_in links) (before_in links) 0 vs v s.linked.chain k in
           let c = s.covers v (λ q. absurd (omega (arith, q, n.1))) (first_waits t ps links vs s.linked s.noted v p k m u none) in
           subst (λ x. is_before x (seen e.corner) ≡ false) (corner_of_entry ps (before_in links v) v (after_in links v))
           (corner_first (entry_in ps links v) e (l.first e (entry_in ps links v) refl c (current_at ps links v (omega (arith, s.linked.last, m)))))
@@ -300,14 +303,16 @@ module _ (t : ℕ) (ps : List Point) (links links' : List Link) (items mid items
 
     -- the corners at the two neighbours
     pub fits : (v : ℕ) → 0 < v → v + 1 < length links' → (v ≡ e.before) ⊎ (v ≡ e.after) → (before_in links' v < v) × (v < after_in links' v) × (after_in links' v < length ps)
-    fits v p q k = let i = linked_at v p k in
+    fits v p q k =
+        let i = linked_at v p k in
         let n = named (after_in links') (before_in links') 0 rest_of v chain' i in
         let m = next_in (after_in links') (before_in links') 0 rest_of v chain' i (omega (arith, last', s.linked.last, un.same)) in
         (n.1, m.1, omega (arith, m.2, last', s.linked.last, s.size))
 
     -- some may still be taken out
     pub some_left : 0 < left
-    some_left = let one = one_less (after_in links) (before_in links) 0 e.corner.index vs s.linked.chain in_vs in
+    some_left =
+        let one = one_less (after_in links) (before_in links) 0 e.corner.index vs s.linked.chain in_vs in
         let some = in_length e.after rest_of (in_filter e.corner.index e.after vs after_in_vs (λ x. absurd (omega (arith, x, so.after)))) in
         omega (arith, one, some, s.many)
 
@@ -340,7 +345,8 @@ module _ (t : ℕ) (ps : List Point) (links links' : List Link) (items mid items
     beside_before v w n h = grind (arith, there, last', next_in, chain', next_prev)
 
     pub beside_after : (v : ℕ) → Waits t ps links' v → before_in links' v ≢ v → before_in links' v ≡ e.after → (e.after < v) × (v ≡ after_in links e.after)
-    beside_after v w n h = let k = there v w.later (omega (arith, w.inside)) n in
+    beside_after v w n h =
+        let k = there v w.later (omega (arith, w.inside)) n in
         let m = named (after_in links') (before_in links') 0 rest_of v chain' k in (
           omega (arith, m.1, h),
           sym (prev_next (after_in links') (before_in links') 0 rest_of v chain' k) ∙ ap (after_in links') h ∙ un.others e.after (λ x. absurd (omega (arith, x, so.before, so.after))),
@@ -371,7 +377,8 @@ module _ (t : ℕ) (ps : List Point) (links links' : List Link) (items mid items
 
             -- an old entry stays
             old : v ≢ e.before → v ≢ e.after → is_before (noted ps links (before_in links v)) (noted ps links v) ≡ false → is_before (noted ps links (after_in links v)) (noted ps links v) ≡ false → There
-            old m k p q = let a = same_at v n m k in
+            old m k p q =
+                let a = same_at v n m k in
                 let ed = same_entry ps links links' v a.0 a.1 in
                 let ni : v ≢ e.corner.index = λ x. n (ap (before_in links') x ∙ un.out ∙ sym x) in
                 let waits : Waits t ps links v = record { later = w.later; inside = omega (arith, w.inside, un.same); under = subst (λ (x : Entry). x.corner.area < t) ed w.under; before = p; after = q } in
@@ -423,11 +430,13 @@ module _ (t : ℕ) (ps : List Point) (links links' : List Link) (items mid items
           where
             on : Contains mid (turned d) ⊎ ((v : ℕ) × IsReady ps links' v × IsUnder t ps links' v d) → IsSound t ps d
             on (inl k) = s.sound d (l.rest d k)
-            on (inr (v, r, u)) = let f = r.fits u.0 u.1 in
+            on (inr (v, r, u)) =
+                let f = r.fits u.0 u.1 in
                 subst (λ y. IsSound t ps y) (sym u.2) (sound_at t ps (before_in links' v) v (after_in links' v) f.before f.after f.within (subst (λ (y : Entry). y.corner.area < t) u.2 u.3))
 
         pub next_state : IsState t ps links' items' (left - 1) rest_of
-        next_state = let one = one_less (after_in links) (before_in links) 0 e.corner.index vs s.linked.chain in_vs in
+        next_state =
+            let one = one_less (after_in links) (before_in links) 0 e.corner.index vs s.linked.chain in_vs in
             let some = in_length e.after rest_of (in_filter e.corner.index e.after vs after_in_vs (λ x. absurd (omega (arith, x, so.after)))) in
             let fuel : left - 1 + 2 ≡ left + 1 = omega (arith, one, some, s.many) in
             let fuel2 : suc (left + 1) ≡ left + 2 = omega arith in
@@ -469,7 +478,8 @@ first_ready t ps links v f n h = grind (arith, fits, first_fits)
 
 pub start_state : (t : ℕ) (ps : List Point) (links : List Link) (items : List (Reverse Entry)) → 2 ≤ length ps → IsFirst links (length ps) → AreNoted t ps links →
     HasCorners t ps links items (length ps - 1) → IsState t ps links items (length ps - 2) (range_with_len 1 (length ps - 1))
-start_state t ps links items two f nt hc = let m : suc (length ps - 1) ≡ length ps = omega arith in
+start_state t ps links items two f nt hc =
+    let m : suc (length ps - 1) ≡ length ps = omega arith in
     let fuel : length ps - 2 + 2 ≡ length ps = omega arith in
     record {
       linked = record {
@@ -526,7 +536,8 @@ none_under t ps links items mid left vs s l em = least_decides (λ d. t ≤ d.ar
 
     at : (v : ℕ) → 0 < v → In v vs → v < last_of 0 vs → NoneBefore (corner_of t ps links vs s.linked s.noted v) (corners (vertices ps (0 ∷ vs))) →
         ((corner_of t ps links vs s.linked s.noted v).area < t) ⊎ (t ≤ (corner_of t ps links vs s.linked s.noted v).area) → t ≤ (corner_of t ps links vs s.linked s.noted v).area
-    at v p k m none (inl u) = let n = named (after_in links) (before_in links) 0 vs v s.linked.chain k in
+    at v p k m none (inl u) =
+        let n = named (after_in links) (before_in links) 0 vs v s.linked.chain k in
         let c = s.covers v (λ q. absurd (omega (arith, q, n.1))) (first_waits t ps links vs s.linked s.noted v p k m u none) in
         absurd (gone (entry_in ps links v) (l.stays (entry_in ps links v) c (current_at ps links v (omega (arith, s.linked.last, m)))))
     at v p k m none (inr o) = o
@@ -573,13 +584,15 @@ turn_state t ps links links' items mid one two left vs e f l kf kl s lc cur un r
 
     ahead : (v : ℕ) → Waits t ps links' v → after_in links' v ≡ e.before → (v < e.before) × (v ≡ before_in links e.before) → (k : Bool) → kf ≡ k → (is_before (noted ps links e.before) (noted ps links v) ≡ false) ⊎ Contains two (turned (entry_in ps links' v))
     ahead v w h b true z = inl (subst (λ x. is_before (noted ps links e.before) (noted ps links x) ≡ false) (ef (omega (arith, b.0)) ∙ sym b.1) (nf z))
-    ahead v w h b false z = let ev : v ≡ f = b.1 ∙ sym (ef (omega (arith, b.0))) in
+    ahead v w h b false z =
+        let ev : v ≡ f = b.1 ∙ sym (ef (omega (arith, b.0))) in
         inr (q.has (entry_in ps links' v) (subst (λ x. Contains one (turned (entry_in ps links' x))) (sym ev)
         (p.outer z (λ x. absurd (omega (arith, x, ev, b.0))) (subst (λ x. Waits t ps links' x) ev w) (inr (ap (after_in links') (sym ev) ∙ h)))))
 
     behind : (v : ℕ) → Waits t ps links' v → before_in links' v ≡ e.after → (e.after < v) × (v ≡ after_in links e.after) → (k : Bool) → kl ≡ k → (is_before (noted ps links e.after) (noted ps links v) ≡ false) ⊎ Contains two (turned (entry_in ps links' v))
     behind v w h b true z = inl (subst (λ x. is_before (noted ps links e.after) (noted ps links x) ≡ false) (el (omega (arith, b.0, w.inside, un.same)) ∙ sym b.1) (nl z))
-    behind v w h b false z = let ev : v ≡ l = b.1 ∙ sym (el (omega (arith, b.0, w.inside, un.same))) in
+    behind v w h b false z =
+        let ev : v ≡ l = b.1 ∙ sym (el (omega (arith, b.0, w.inside, un.same))) in
         inr (subst (λ x. Contains two (turned (entry_in ps links' x))) (sym ev)
         (q.outer z (λ x. absurd (omega (arith, x, ev, b.0))) (subst (λ x. Waits t ps links' x) ev w) (inl (ap (before_in links') (sym ev) ∙ h))))
 
@@ -616,7 +629,8 @@ pub old_ready : (t : ℕ) (ps : List Point) (links : List Link) (items mid : Lis
     IsState t ps links items left vs → LeavesCurrent links items (Some e) mid → IsCurrent links e →
     (e.before ≡ 0 → f ≡ e.before) → (0 < e.before → f ≡ before_in links e.before) → (e.after + 1 ≡ length links → l ≡ e.after) → (e.after + 1 < length links → l ≡ after_in links e.after) →
     AllReady ps links e.before f e.after l
-old_ready t ps links items mid left vs e f l s lc cur zf ef zl el = let present = in_vs t ps links links items mid mid left vs e s lc cur in
+old_ready t ps links items mid left vs e f l s lc cur zf ef zl el =
+    let present = in_vs t ps links links items mid mid left vs e s lc cur in
     all_ready t ps links vs e.before f e.after l s.linked s.noted s.size
     (elim (prev_in (after_in links) (before_in links) 0 vs e.corner.index s.linked.chain present) [ inl x ↦ inl (sym cur.before ∙ x) | inr x ↦ inr (subst (λ y. In y vs) cur.before x) ])
     (subst (λ y. In y vs) cur.after (next_in (after_in links) (before_in links) 0 vs e.corner.index s.linked.chain present (inside t ps links links items mid mid left vs e s lc cur)).0)

@@ -99,7 +99,8 @@ module _ (ps : List Point) (level left : ℕ) (vs : List ℕ) (ws : List Weight)
   still_there i (inr m) n = inr (in_filter c.index i vs m n)
 
   present' : (i : ℕ) → i < length ps → In i (0 ∷ rest_of) → (get_or new i End ≡ End) × (weight ps i ≡ weight_from (left - 1 + 2) (max level c.area) (vertices ps (0 ∷ rest_of)) i)
-  present' i h m = let was = was_there i m in
+  present' i h m =
+      let was = was_there i m in
       let old = w.present i h was.0 in (
         get_or-set_other ws c.index i (Area (max level c.area)) End was.1 ∙ old.0,
         old.1 ∙ ap (λ n. weight_from n level (vertices ps (0 ∷ vs)) i) fuel ∙ weigh_other (left - 1 + 2) level (vertices ps (0 ∷ vs)) c i first (λ q. was.1 (sym q))

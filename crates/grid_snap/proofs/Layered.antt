@@ -33,7 +33,8 @@ features_snapped g [] h = refl
 features_snapped g (f ∷ fs) h = grind (arith, feature_snapped, all_left, all_right, features_snapped g fs (all_right (IsCovered g) (option_points f.shape) (features_points fs) h))
 
 pub snapped_sound : SnappedAreSound
-snapped_sound g f grid covered = let strokes = option_strokes_moved (snapped g) f.shape in
+snapped_sound g f grid covered =
+    let strokes = option_strokes_moved (snapped g) f.shape in
     record {
       proper = option_proper_moved (snapped g) f.shape;
       strokes = strokes;

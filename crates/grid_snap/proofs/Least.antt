@@ -30,7 +30,8 @@ fold_in f e a [] = inl refl
 fold_in f e a (x ∷ xs) = grind (arith, fold_in f e (f a x) xs)
 
 least_of : (x : ℤ) (xs : List ℤ) → IsLeast (fold int_min x xs) (x ∷ xs)
-least_of x xs = let b = fold-int_min_bounds x xs (fold int_min x xs) refl in
+least_of x xs =
+    let b = fold-int_min_bounds x xs (fold int_min x xs) refl in
     record { among = fold_in int_min chosen_min x xs; below = (b.0, recursion_from_All _ xs b.1) }
 
 above_of : (x : ℤ) (xs : List ℤ) → AllByRecursion (λ y. y ≤ℤ fold int_max x xs) (x ∷ xs)
@@ -62,7 +63,8 @@ through a b c h k = omega (arith, ints)
 
 -- the axis over numbers, of which the first is x
 axis_over_is : (count : ℕ) (x : ℤ) (xs : List ℤ) → 2 ≤ count → IsOver count (x ∷ xs) (axis_over count (fold int_min x xs) (fold int_max x xs))
-axis_over_is count x xs some = let least : ℤ = fold int_min x xs in
+axis_over_is count x xs some =
+    let least : ℤ = fold int_min x xs in
     let greatest : ℤ = fold int_max x xs in
     let d : ℕ = unsigned_abs (greatest -ℤ least) in
     let m : ℕ = count - 1 in

@@ -97,7 +97,8 @@ cells_at : (g : Axes) (m n : ℕ) → IsGrid g → m ≤ g.x.last → n ≤ g.y.
 cells_at g m n grid h k = grind (arith, both_true, at_on, two, at_number)
 
 pub cells_back : CellsAreBack
-cells_back g c grid h = let i : Natural g.x c.x = natural g.x c.x h.0 in
+cells_back g c grid h =
+    let i : Natural g.x c.x = natural g.x c.x h.0 in
     let j : Natural g.y c.y = natural g.y c.y h.1 in
     let P : Point → Type 0 = λ d. (covers g (back g d) ≡ true) × (cell g (back g d) ≡ d) in
     subst P (two (sym i.is) (sym j.is)) (cells_at g i.value j.value grid i.within j.within)

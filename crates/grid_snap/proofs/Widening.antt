@@ -62,7 +62,8 @@ of_kind b s t ps r is at e = e ∙ sym (ap (λ u. widened_by b (shape_points u))
 -- ---- what the bounds are
 
 abbrev pub bounds_from : Bounds → List Point → Bounds
-bounds_from b ps = let xs = map (λ q. q.x) ps in
+bounds_from b ps =
+    let xs = map (λ q. q.x) ps in
     let ys = map (λ q. q.y) ps in
     record { left = fold int_min b.left xs; right = fold int_max b.right xs; bottom = fold int_min b.bottom ys; top = fold int_max b.top ys }
 

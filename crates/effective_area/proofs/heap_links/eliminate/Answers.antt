@@ -5,7 +5,8 @@ use Rattle.effective_area.proofs.Turns.{none_first}
 use Rattle.effective_area.proofs.heap_links.eliminate.Goals as goal
 
 pub returns-clause-kept : goal.returns-clause-kept
-returns-clause-kept c = let s = c.corners.invariant.state in
+returns-clause-kept c =
+    let s = c.corners.invariant.state in
     let items = c.take_first.new.sorted.items ++ heap_items c.take_first.new.heap in
     none_first c.args.t c.args.arc.now c.corners.links c.take_first.new.links (c.corners.sorted.items ++ heap_items c.corners.heap) items c.corners.left s.0 s.1
     (subst (λ o. TakesFirst c.args.t c.args.arc.now c.take_first.new.links items c.corners.left s.0 o) c.in_default.is (c.in_ok-_corner.ensures.taken c.corners.left s.0 s.1))

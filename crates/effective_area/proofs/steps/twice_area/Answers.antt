@@ -41,7 +41,8 @@ returns-clause-value c = unfold twice_area cross in
     c.unsigned_abs.ensures.value ∙ ap unsigned_abs (both ◌-ℤ◌ _ _ _ _ _ p1 p2 t)
 
 pub returns-clause-bound : goal.returns-clause-bound
-returns-clause-bound c = let f : FitsSigned w128 c.product-left.result = search rules in
+returns-clause-bound c =
+    let f : FitsSigned w128 c.product-left.result = search rules in
     let g : FitsSigned w128 c.product-right.result = search rules in
     let small : unsigned_abs (c.product-left.result -ℤ c.product-right.result) < 100000000000000000000000000000000 = apart_fits c.product-left.result c.product-right.result c.product-left.ensures.bound c.product-right.ensures.bound in
     let h : FitsSigned w128 (c.product-left.result -ℤ c.product-right.result) = fits_signed_from_abs w128 _ (omega arith) in

@@ -15,13 +15,15 @@ pub unlink-requires-clause-after : goal.unlink-requires-clause-after
 unlink-requires-clause-after c = grind arith
 
 pub goes_behind-is_first_known-requires-clause-other : goal.goes_behind-is_first_known-requires-clause-other
-goes_behind-is_first_known-requires-clause-other c = let s = c.requires.state in
+goes_behind-is_first_known-requires-clause-other c =
+    let s = c.requires.state in
     let r = old_ready c.args.t c.args.arc.now c.args.links.now (c.args.sorted.now.items ++ heap_items c.args.heap.now) (c.pop_current.new.sorted.items ++ heap_items c.pop_current.new.heap) s.0 s.1 c.in-Some.entry c.ahead-first.result c.behind-last.result s.2 c.in-Some.ensures.left c.in-Some.ensures.current
     c.ahead-first.ensures.first c.ahead-first.ensures.inside c.behind-last.ensures.last c.behind-last.ensures.inside in
     r.ahead.within
 
 pub goes_behind-is_last_known-requires-clause-other : goal.goes_behind-is_last_known-requires-clause-other
-goes_behind-is_last_known-requires-clause-other c = let s = c.requires.state in
+goes_behind-is_last_known-requires-clause-other c =
+    let s = c.requires.state in
     let r = old_ready c.args.t c.args.arc.now c.args.links.now (c.args.sorted.now.items ++ heap_items c.args.heap.now) (c.pop_current.new.sorted.items ++ heap_items c.pop_current.new.heap) s.0 s.1 c.in-Some.entry c.ahead-first.result c.behind-last.result s.2 c.in-Some.ensures.left c.in-Some.ensures.current
     c.ahead-first.ensures.first c.ahead-first.ensures.inside c.behind-last.ensures.last c.behind-last.ensures.inside in
     r.behind.within
@@ -33,7 +35,8 @@ pub note_area-requires-2-clause-fits : goal.note_area-requires-2-clause-fits
 note_area-requires-2-clause-fits c = grind (arith, turn_fits, unlinks_on)
 
 pub push_first-requires-clause-inner : goal.push_first-requires-clause-inner
-push_first-requires-clause-inner c = let s = c.requires.state in
+push_first-requires-clause-inner c =
+    let s = c.requires.state in
     let h = s.2.sound c.in-Some.entry (c.in-Some.ensures.left.member c.in-Some.entry refl) in
     let r = new_ready c.args.t c.args.arc.now c.args.links.now c.note_area-2.new.links (c.args.sorted.now.items ++ heap_items c.args.heap.now) (c.pop_current.new.sorted.items ++ heap_items c.pop_current.new.heap) s.0 s.1 c.in-Some.entry c.ahead-first.result c.behind-last.result s.2 c.in-Some.ensures.left c.in-Some.ensures.current
     (unlinks_on c.args.arc.now c.args.links.now c.note_area.new.links c.note_area-2.new.links c.in-Some.entry.before c.in-Some.entry.corner.index c.in-Some.entry.after c.in-Some.entry.after (unlinks_on c.args.arc.now c.args.links.now c.unlink.new.links c.note_area.new.links c.in-Some.entry.before c.in-Some.entry.corner.index c.in-Some.entry.after c.in-Some.entry.before c.unlink.ensures.links c.note_area.ensures.noted) c.note_area-2.ensures.noted)
@@ -42,7 +45,8 @@ push_first-requires-clause-inner c = let s = c.requires.state in
     r.before
 
 pub push_first-requires-clause-outer : goal.push_first-requires-clause-outer
-push_first-requires-clause-outer c = let s = c.requires.state in
+push_first-requires-clause-outer c =
+    let s = c.requires.state in
     let h = s.2.sound c.in-Some.entry (c.in-Some.ensures.left.member c.in-Some.entry refl) in
     let r = new_ready c.args.t c.args.arc.now c.args.links.now c.note_area-2.new.links (c.args.sorted.now.items ++ heap_items c.args.heap.now) (c.pop_current.new.sorted.items ++ heap_items c.pop_current.new.heap) s.0 s.1 c.in-Some.entry c.ahead-first.result c.behind-last.result s.2 c.in-Some.ensures.left c.in-Some.ensures.current
     (unlinks_on c.args.arc.now c.args.links.now c.note_area.new.links c.note_area-2.new.links c.in-Some.entry.before c.in-Some.entry.corner.index c.in-Some.entry.after c.in-Some.entry.after (unlinks_on c.args.arc.now c.args.links.now c.unlink.new.links c.note_area.new.links c.in-Some.entry.before c.in-Some.entry.corner.index c.in-Some.entry.after c.in-Some.entry.before c.unlink.ensures.links c.note_area.ensures.noted) c.note_area-2.ensures.noted)
@@ -51,7 +55,8 @@ push_first-requires-clause-outer c = let s = c.requires.state in
     r.ahead
 
 pub push_first-requires-2-clause-inner : goal.push_first-requires-2-clause-inner
-push_first-requires-2-clause-inner c = let s = c.requires.state in
+push_first-requires-2-clause-inner c =
+    let s = c.requires.state in
     let h = s.2.sound c.in-Some.entry (c.in-Some.ensures.left.member c.in-Some.entry refl) in
     let r = new_ready c.args.t c.args.arc.now c.args.links.now c.note_area-2.new.links (c.args.sorted.now.items ++ heap_items c.args.heap.now) (c.pop_current.new.sorted.items ++ heap_items c.pop_current.new.heap) s.0 s.1 c.in-Some.entry c.ahead-first.result c.behind-last.result s.2 c.in-Some.ensures.left c.in-Some.ensures.current
     (unlinks_on c.args.arc.now c.args.links.now c.note_area.new.links c.note_area-2.new.links c.in-Some.entry.before c.in-Some.entry.corner.index c.in-Some.entry.after c.in-Some.entry.after (unlinks_on c.args.arc.now c.args.links.now c.unlink.new.links c.note_area.new.links c.in-Some.entry.before c.in-Some.entry.corner.index c.in-Some.entry.after c.in-Some.entry.before c.unlink.ensures.links c.note_area.ensures.noted) c.note_area-2.ensures.noted)
@@ -60,7 +65,8 @@ push_first-requires-2-clause-inner c = let s = c.requires.state in
     r.after
 
 pub push_first-requires-2-clause-outer : goal.push_first-requires-2-clause-outer
-push_first-requires-2-clause-outer c = let s = c.requires.state in
+push_first-requires-2-clause-outer c =
+    let s = c.requires.state in
     let h = s.2.sound c.in-Some.entry (c.in-Some.ensures.left.member c.in-Some.entry refl) in
     let r = new_ready c.args.t c.args.arc.now c.args.links.now c.note_area-2.new.links (c.args.sorted.now.items ++ heap_items c.args.heap.now) (c.pop_current.new.sorted.items ++ heap_items c.pop_current.new.heap) s.0 s.1 c.in-Some.entry c.ahead-first.result c.behind-last.result s.2 c.in-Some.ensures.left c.in-Some.ensures.current
     (unlinks_on c.args.arc.now c.args.links.now c.note_area.new.links c.note_area-2.new.links c.in-Some.entry.before c.in-Some.entry.corner.index c.in-Some.entry.after c.in-Some.entry.after (unlinks_on c.args.arc.now c.args.links.now c.unlink.new.links c.note_area.new.links c.in-Some.entry.before c.in-Some.entry.corner.index c.in-Some.entry.after c.in-Some.entry.before c.unlink.ensures.links c.note_area.ensures.noted) c.note_area-2.ensures.noted)
@@ -69,7 +75,8 @@ push_first-requires-2-clause-outer c = let s = c.requires.state in
     r.behind
 
 pub returns-clause-taken : goal.returns-clause-taken
-returns-clause-taken c left vs s = let h = s.sound c.in-Some.entry (c.in-Some.ensures.left.member c.in-Some.entry refl) in
+returns-clause-taken c left vs s =
+    let h = s.sound c.in-Some.entry (c.in-Some.ensures.left.member c.in-Some.entry refl) in
     let r = new_ready c.args.t c.args.arc.now c.args.links.now c.note_area-2.new.links (c.args.sorted.now.items ++ heap_items c.args.heap.now) (c.pop_current.new.sorted.items ++ heap_items c.pop_current.new.heap) left vs c.in-Some.entry c.ahead-first.result c.behind-last.result s c.in-Some.ensures.left c.in-Some.ensures.current
     (unlinks_on c.args.arc.now c.args.links.now c.note_area.new.links c.note_area-2.new.links c.in-Some.entry.before c.in-Some.entry.corner.index c.in-Some.entry.after c.in-Some.entry.after (unlinks_on c.args.arc.now c.args.links.now c.unlink.new.links c.note_area.new.links c.in-Some.entry.before c.in-Some.entry.corner.index c.in-Some.entry.after c.in-Some.entry.before c.unlink.ensures.links c.note_area.ensures.noted) c.note_area-2.ensures.noted)
     (renews c.args.arc.now c.args.links.now c.unlink.new.links c.note_area.new.links c.note_area-2.new.links c.in-Some.entry.before c.in-Some.entry.after (omega (arith, h.before, h.after)) c.unlink.ensures.areas c.note_area.ensures.noted c.note_area-2.ensures.noted)

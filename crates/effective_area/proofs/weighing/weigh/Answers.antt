@@ -12,7 +12,8 @@ pub corners-init : goal.corners-init
 corners-init c = grind (arith, none_weighed)
 
 pub corners-preserved : goal.corners-preserved
-corners-preserved c = let s = c.corners.invariant.state in
+corners-preserved c =
+    let s = c.corners.invariant.state in
     let corner = c.in-Some.corner in
     let items = c.take_first.new.sorted.items ++ heap_items c.take_first.new.heap in
     let taken : IsTakenOut no_limit c.args.arc.now c.take_first.new.links items c.corners.left s.0 corner =
@@ -29,7 +30,8 @@ corners-preserved c = let s = c.corners.invariant.state in
     }
 
 pub returns : goal.returns
-returns c = let s = c.corners.invariant.state in
+returns c =
+    let s = c.corners.invariant.state in
     let items = c.take_first.new.sorted.items ++ heap_items c.take_first.new.heap in
     let none = subst (λ o. TakesFirst no_limit c.args.arc.now c.take_first.new.links items c.corners.left s.0 o) c.in_default.is (c.in_ok-corner.ensures.taken c.corners.left s.0 s.1) in
     all_weighed c.args.arc.now c.corners.level c.corners.left s.0 c.corners.weights s.2 (none_over c.args.arc.now s.0 c.requires.within none.1)

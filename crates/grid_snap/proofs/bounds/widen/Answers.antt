@@ -5,7 +5,8 @@ use Rattle.grid_snap.proofs.Widening.{min_cast, max_cast}
 use Rattle.grid_snap.proofs.bounds.widen.Goals as goal
 
 pub returns-in-Some : goal.returns-in-Some
-returns-in-Some c = let fl : FitsSigned w64 c.in-Some.b.left = first_of (search rules, grind (arith, ints)) in
+returns-in-Some c =
+    let fl : FitsSigned w64 c.in-Some.b.left = first_of (search rules, grind (arith, ints)) in
     let fr : FitsSigned w64 c.in-Some.b.right = first_of (search rules, grind (arith, ints)) in
     let fb : FitsSigned w64 c.in-Some.b.bottom = first_of (search rules, grind (arith, ints)) in
     let ft : FitsSigned w64 c.in-Some.b.top = first_of (search rules, grind (arith, ints)) in

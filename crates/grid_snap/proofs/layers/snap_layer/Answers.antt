@@ -14,7 +14,8 @@ features-preserved c =
     c.features-test.true c.features.invariant c.move_positions.ensures
 
 pub returns : goal.returns
-returns c = let f = moved_feature (snapped_if_covered c.args.grid.now) in
+returns c =
+    let f = moved_feature (snapped_if_covered c.args.grid.now) in
     ap layer_of (refilled f _ c.args.layer.now.features c.features.feature-items refl
     (ends f c.as_mut_slice-feature-items.result.now c.features.feature-index c.features.feature-items c.features-test.false c.features.invariant
     ∙ ap (map f) c.as_mut_slice-feature-items.ensures.value)

@@ -6,15 +6,18 @@ pub returns-in_err-bounds : goal.returns-in_err-bounds
 returns-in_err-bounds c ps e = c.from_residual.ensures ∙ sym (none_over c.args.count ps (e ∙ c.in_err-bounds.was))
 
 pub axis_over-requires-clause-span : goal.axis_over-requires-clause-span
-axis_over-requires-clause-span c = let b = rw c.in_ok-bounds.was at c.requires.bounds in
+axis_over-requires-clause-span c =
+    let b = rw c.in_ok-bounds.was at c.requires.bounds in
     span_cast c.in_ok-bounds.bounds.left c.in_ok-bounds.bounds.right b.x
 
 pub axis_over-requires-2-clause-span : goal.axis_over-requires-2-clause-span
-axis_over-requires-2-clause-span c = let b = rw c.in_ok-bounds.was at c.requires.bounds in
+axis_over-requires-2-clause-span c =
+    let b = rw c.in_ok-bounds.was at c.requires.bounds in
     span_cast c.in_ok-bounds.bounds.bottom c.in_ok-bounds.bounds.top b.y
 
 pub returns : goal.returns
-returns c ps is = let e = is ∙ c.in_ok-bounds.was in
+returns c ps is =
+    let e = is ∙ c.in_ok-bounds.was in
     let b = rw c.in_ok-bounds.was at c.requires.bounds in
     ap Some (both_axes
     (axis_cast c.args.count c.in_ok-bounds.bounds.left c.in_ok-bounds.bounds.right c.axis_over.result b.x c.axis_over.ensures.value)

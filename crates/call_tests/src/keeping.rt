@@ -1,0 +1,49 @@
+// What is kept of properties that are read from bytes, and the values that a kept text has (RFC 8259, sections 2 to 8).
+use feature_properties::{Properties, PropertiesForm};
+use json_value::Json;
+use properties_reading::property_values;
+use properties_scanning::properties_at;
+use std::alloc::Global;
+
+// The text without white space, with its characters written in the one way.
+const READ: &str = "{ \"b\" : [1.50, {\"c\":\"\\u00e9\\/\\n\"} , true],\n\t\"b\":null} 7";
+
+const KEPT: &str = "{\"b\":[1.50,{\"c\":\"\u{e9}/\\n\"},true],\"b\":null}";
+
+/// Whether this text is kept of the properties.
+fn is_kept(properties: &Properties, text: &str) -> bool {
+    match properties.form() {
+        PropertiesForm::Text(kept) => kept == text.as_bytes(),
+        PropertiesForm::Values(_) => false,
+    }
+}
+
+/// Whether the properties are kept, and their copy, and their last member is the second `b`, which is null.
+fn are_as_read(alloc: Global, properties: &Properties) -> bool {
+    let Ok(copy) = properties.copy(alloc) else {
+        return false;
+    };
+    let Ok(members) = property_values(alloc, properties) else {
+        return false;
+    };
+    let is_last = match members.as_slice().last() {
+        Some((name, Json::Null)) => name.as_str() == "b",
+        _ => false,
+    };
+    is_kept(properties, KEPT) && is_kept(&copy, KEPT) && members.as_slice().len() == 2 && is_last
+}
+
+/// Whether the properties at the front are as they are read, and this follows them.
+fn is_read(alloc: Global, text: &str, behind: &str) -> bool {
+    match properties_at(alloc, 124, text.as_bytes()) {
+        Ok((Some(properties), rest)) => {
+            rest == behind.as_bytes() && are_as_read(alloc, &properties)
+        }
+        _ => false,
+    }
+}
+
+#[test]
+fn properties_are_kept_as_their_text(rt: HostRuntime) {
+    assert!(rt; is_read(rt.alloc(), READ, " 7"));
+}

@@ -41,8 +41,8 @@ fn properties_of(properties: Option<Option<Properties>>) -> Option<Properties>
     }
 }
 
-/// The feature at the front that is made of arcs, and what follows it. Its members may stand in any order, but its type before its arcs, with
-/// others among them.
+/// The feature at the front that is made of arcs, and what follows it. Its members may stand in any order, but its type before its
+/// arcs, with others among them.
 fn arcs_feature_at<'a>(
     alloc: Global,
     arcs: &[Items<Cell>],
@@ -72,8 +72,8 @@ fn arcs_feature_at<'a>(
     Ok((feature, rest))
 }
 
-/// The feature at the front, and what follows it: where it isn't written as most programs write it, it is read from the JSON value that stands
-/// there, which is let go behind it.
+/// The feature at the front, and what follows it: where it isn't written as most programs write it, it is read from the JSON value
+/// that stands there, which is let go behind it.
 fn feature_at<'a>(
     alloc: Global,
     transform: Option<&Transform>,

@@ -154,7 +154,8 @@ fn found_at<'t>(
     Ok((found, counts))
 }
 
-/// The topology that the bytes spell, which are UTF-8. Its arcs are read first, by the transform, wherever the two stand, and then its members.
+/// The topology that the bytes spell, which are UTF-8. Its arcs are read first, by the transform, wherever the two stand, and then
+/// its members.
 fn scan_text(alloc: Global, bytes: &[u8]) -> Result<(Topology, Counts), Halt>
     requires { IsUtf8 bytes.now }
     ensures { IfOk result (λ r. SpellsTopology bytes.now r.0 r.1) }

@@ -88,7 +88,28 @@ impl<'t> Places<'t> {
     }
 }
 
-/// Where they seem to stand behind the brace of a topology. What is behind both isn't looked at.
+/// How many of the first bytes of arcs tell what they are.
+const FEW: usize = 64;
+
+/// Whether these seem to be decimals: arcs that stand on no transform.
+fn are_decimal(arcs: &[u8]) -> bool {
+    for i in 0..arcs.len().min(FEW) {
+        if arcs[i] == b'.' {
+            return true;
+        }
+    }
+    false
+}
+
+/// Whether nothing more has to be looked for.
+fn are_enough(places: Places<'_>) -> bool {
+    match places.arcs {
+        None => false,
+        Some(arcs) => places.transform.is_some() || are_decimal(arcs),
+    }
+}
+
+/// Where they seem to stand behind the brace of a topology. What is behind both isn't looked at, nor what is behind arcs in decimals.
 pub fn places_in(inside: &[u8]) -> Places<'_> {
     let mut places = Places {
         arcs: None,
@@ -98,7 +119,7 @@ pub fn places_in(inside: &[u8]) -> Places<'_> {
     'members: for _ in 0..inside.len() {
         let member = skip(rest);
         places = places.with_member(member);
-        if places.arcs.is_some() && places.transform.is_some() {
+        if are_enough(places) {
             return places;
         }
         match behind_member(member) {

@@ -35,12 +35,14 @@ fn are_as_read(alloc: Global, properties: &Properties) -> bool {
 
 /// Whether the properties at the front are as they are read, and this follows them.
 fn is_read(alloc: Global, text: &str, behind: &str) -> bool {
-    match properties_at(alloc, 124, text.as_bytes()) {
-        Ok((Some(properties), rest)) => {
-            rest == behind.as_bytes() && are_as_read(alloc, &properties)
-        }
-        _ => false,
-    }
+    let Ok(read) = properties_at(alloc, 124, text.as_bytes()) else {
+        return false;
+    };
+    let (properties, rest) = read;
+    let Some(properties) = properties else {
+        return false;
+    };
+    rest == behind.as_bytes() && are_as_read(alloc, &properties)
 }
 
 #[test]

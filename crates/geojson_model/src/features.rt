@@ -84,7 +84,7 @@ pub(crate) fn feature(
 
 /// The feature that an element of `features` is.
 #[tactic(auto, unfolding(crate::specs::Features::feature_element, crate::specs::Members::type_name))]
-pub(crate) fn feature_element(
+pub fn feature_element(
     alloc: Global,
     value: Json,
     exact: bool,

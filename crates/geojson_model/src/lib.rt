@@ -15,7 +15,7 @@ mod reading;
 mod types;
 
 pub use fault::{GeoFault, GeoFaultKind};
-pub use features::{identifier, members_if};
+pub use features::{feature_element, identifier, members_if};
 pub use geojson_types::{
     Address, Cause, Counts, Dropped, Feature, FeatureSet, Geometry, INPUT_LIMIT, Id, Layer,
     POSITION_LIMIT, Position, Properties, PropertiesForm, Ring, Shape, is_closed,
@@ -26,4 +26,4 @@ pub use laws::{
     texts_stay,
 };
 pub use reading::{read_layer, read_shape};
-pub use types::CoordinatesType;
+pub use types::{CoordinatesType, GeoJsonType, GeometryType, geojson_type};

@@ -15,14 +15,14 @@ pub enum CoordinatesType {
 
 /// The seven geometry types (RFC 7946, section 1.4). A GeometryCollection has `geometries`.
 #[derive(Clone, Copy, Debug)]
-pub(crate) enum GeometryType {
+pub enum GeometryType {
     Coordinates(CoordinatesType),
     Collection,
 }
 
 /// The nine GeoJSON types (RFC 7946, section 1.4).
 #[derive(Clone, Copy, Debug)]
-pub(crate) enum GeoJsonType {
+pub enum GeoJsonType {
     FeatureCollection,
     Feature,
     Geometry(GeometryType),
@@ -66,7 +66,7 @@ pub(crate) fn geometry_type(name: &str) -> Option<GeometryType>
 
 /// The GeoJSON type of this name.
 #[tactic(auto, unfolding(crate::specs::Types::geojson_type))]
-pub(crate) fn geojson_type(name: &str) -> Option<GeoJsonType>
+pub fn geojson_type(name: &str) -> Option<GeoJsonType>
     ensures { result ≡ spec.geojson_type name.now }
 {
     if name == "FeatureCollection" {

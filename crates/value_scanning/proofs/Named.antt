@@ -11,7 +11,7 @@ by_test : {V : Type 0} (t : Bool) (v : V) (xs ys : List V) → cond t (v ∷ (xs
 by_test true v xs ys = refl
 by_test false v xs ys = refl
 
-named_append : (name : List ℕ) (ms ns : List (List ℕ × Json)) → named name (ms ++ ns) ≡ named name ms ++ named name ns
+pub named_append : (name : List ℕ) (ms ns : List (List ℕ × Json)) → named name (ms ++ ns) ≡ named name ms ++ named name ns
 unfolding named
 named_append name [] ns = refl
 named_append name (m ∷ ms) ns = ap (λ z. cond (bytes_eq m.0 name) (m.1 ∷ z) z) (named_append name ms ns) ∙ by_test (bytes_eq m.0 name) m.1 (named name ms) (named name ns)

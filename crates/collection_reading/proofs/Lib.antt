@@ -1,0 +1,4 @@
+pub mod FeaturesFollow
+pub mod FeaturesSoFar
+pub mod MembersFollow
+pub mod LayerMeans

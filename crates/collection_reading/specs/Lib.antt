@@ -1,0 +1,3 @@
+pub mod FeaturesRead
+pub mod Members
+pub mod Outcomes

@@ -1,9 +1,10 @@
 // Reading layers.
-ghost use Rattle.std.specs.Prelude.{◌≡◌, MatchResult};
-ghost use Rattle.layer_sources.specs.Reading.{IsLayerOf, ReadsLayer};
+ghost use Rattle.std.specs.Prelude.{◌≡◌, IfSome, MatchResult};
+ghost use Rattle.layer_sources.specs.Reading.{IsLayerOf, IsNoLayer, ReadsLayer, SpellsLayer};
 ghost use Rattle.layer_sources.specs.Sources.{plus, AllReadTo, FailsToReadAll};
 
 use byte_ends::{Feed, MAX_INPUT, ReadFault, Source, read_all};
+use collection_reading::{Refusal, read_collection};
 use decimal_json::{JsonFault, LAYER_DEPTH, parse};
 use geojson_model::{Counts, GeoFaultKind, Layer, read_layer};
 use inputs::BuildFault;
@@ -12,9 +13,30 @@ use layer_scanning::scan_layer;
 use std::alloc::Global;
 use unit_scanning::Halt;
 
-/// The layer of this number that the bytes spell, and what was counted in it: read straight from the bytes where they are written as
-/// most programs write layers, and else from the JSON value that they spell, which tells what is wrong, if anything is.
-fn layer_of(
+/// The layer of this number that the bytes spell, where they spell a FeatureCollection, or what is wrong with it. None for any other layer.
+fn collection_of(
+    alloc: Global,
+    bytes: &[u8],
+    layer: usize,
+    exact: bool,
+) -> Result<Option<(Layer, Counts)>, BuildFault>
+    ensures { MatchResult result (λ read. IfSome read (λ r. SpellsLayer exact bytes.now r.0.features r.1)) (λ e. IsNoLayer layer exact bytes.now e) }
+{
+    match read_collection(alloc, bytes, exact) {
+        Ok(read) => Ok(Some(read)),
+        Err(Refusal::Unread) => Ok(None),
+        Err(Refusal::Memory) => Err(BuildFault::Memory),
+        Err(Refusal::Geo(fault)) => {
+            if fault.kind == GeoFaultKind::Memory {
+                return Err(BuildFault::Memory);
+            }
+            Err(BuildFault::Geo { layer, fault })
+        }
+    }
+}
+
+/// The layer of this number that the value of the bytes stands for.
+fn value_layer(
     alloc: Global,
     bytes: &[u8],
     layer: usize,
@@ -22,11 +44,6 @@ fn layer_of(
 ) -> Result<(Layer, Counts), BuildFault>
     ensures { IsLayerOf layer exact bytes.now result }
 {
-    match scan_layer(alloc, bytes, exact) {
-        Ok(read) => return Ok(read),
-        Err(Halt::Memory) => return Err(BuildFault::Memory),
-        Err(Halt::Unread) => {}
-    }
     let value = match parse(alloc, bytes, LAYER_DEPTH) {
         Ok(value) => value,
         Err(JsonFault::Memory) => return Err(BuildFault::Memory),
@@ -41,6 +58,28 @@ fn layer_of(
             Err(BuildFault::Geo { layer, fault })
         }
     }
+}
+
+/// The layer of this number that the bytes spell, and what was counted in it: read straight from the bytes where they are written as
+/// most programs write layers; else feature by feature where they spell a FeatureCollection, and else from the JSON value that they
+/// spell. These two tell what is wrong, if anything is.
+fn layer_of(
+    alloc: Global,
+    bytes: &[u8],
+    layer: usize,
+    exact: bool,
+) -> Result<(Layer, Counts), BuildFault>
+    ensures { IsLayerOf layer exact bytes.now result }
+{
+    match scan_layer(alloc, bytes, exact) {
+        Ok(read) => return Ok(read),
+        Err(Halt::Memory) => return Err(BuildFault::Memory),
+        Err(Halt::Unread) => {}
+    }
+    if let Some(read) = collection_of(alloc, bytes, layer, exact)? {
+        return Ok(read);
+    }
+    value_layer(alloc, bytes, layer, exact)
 }
 
 /// Reads a source to its end, and gives the layer of this number that its bytes spell.

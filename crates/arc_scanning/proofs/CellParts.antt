@@ -1,5 +1,5 @@
 -- Positions and cells by their numbers.
-use Rattle.std.proofs.Common.{◌≡◌, ℕ, ◌^◌, ◌≤◌, Bool, true, not, List, [], ◌∷◌, Option, Some, None, Ok, refl, arith}
+use Rattle.std.proofs.Common.{◌≡◌, ℕ, ◌^◌, Bool, true, not, List, [], ◌∷◌, Option, Some, None, Ok, refl, arith}
 use Rattle.std.specs.Prelude.{ℤ}
 use Rattle.json_value.specs.declared.json.Json.{Json}
 use Rattle.json_value.specs.declared.json.Json.TheVariants as j
@@ -11,7 +11,7 @@ use Rattle.geojson_types.specs.Counting.{count_rounded}
 use Rattle.geometry.specs.Points.{Point, position_limit}
 use Rattle.topojson_types.specs.declared.transform.Transform.{Transform}
 use Rattle.topojson_types.specs.Transforms.{moved}
-use Rattle.topojson_meaning.specs.Arcs.{number_text, units, elements_position, position, grid_number, grid_cell, elements_cell, cell, cells_behind, difference_limit}
+use Rattle.topojson_meaning.specs.Arcs.{number_text, units, elements_position, position, grid_number, grid_cell, elements_cell, cell, cells_behind}
 use Rattle.topojson_meaning.specs.Members.{elements}
 use Rattle.topojson_meaning.specs.Reader.{gather}
 use Rattle.unit_scanning.specs.Numbers.{IsUnits, IsWholeNumber}
@@ -56,18 +56,17 @@ grid_number_is : (bound : ℕ) (t : List ℕ) (x : ℤ) → scaled_of 0 bound t 
 unfolding grid_number
 grid_number_is bound t x h = rw h refl
 
-cell_is : (transform : Transform) (before : Point) (s t : List ℕ) (x y : ℤ) (found : Point) (c : Counts) → scaled_of 0 difference_limit s ≡ Ok (record { value = x; exact = true }) → scaled_of 0 difference_limit t ≡ Ok (record { value = y; exact = true })
-    → grid_cell transform (moved before (record { x = x; y = y })) ≡ Ok found → cell transform difference_limit before (pair s t) c ≡ Ok (found, c)
+cell_is : (transform : Transform) (bound : ℕ) (before : Point) (s t : List ℕ) (x y : ℤ) (found : Point) (c : Counts) → scaled_of 0 bound s ≡ Ok (record { value = x; exact = true }) → scaled_of 0 bound t ≡ Ok (record { value = y; exact = true })
+    → grid_cell transform (moved before (record { x = x; y = y })) ≡ Ok found → cell transform bound before (pair s t) c ≡ Ok (found, c)
 unfolding cell elements elements_cell number_text
-cell_is transform before s t x y found c hx hy on =
-    rw (array_of-array (j.Number s ∷ j.Number t ∷ []), number_of-number s, number_of-number t, grid_number_is difference_limit s x hx, grid_number_is difference_limit t y hy, on) refl
+cell_is transform bound before s t x y found c hx hy on = rw (array_of-array (j.Number s ∷ j.Number t ∷ []), number_of-number s, number_of-number t, grid_number_is bound s x hx, grid_number_is bound t y hy, on) refl
 
-pub cell_stands : (transform : Transform) (before : Point) (bytes inside after second between rest : List ℕ) (x y : ℤ) (found : Point) (c : Counts) → bytes ≡ 91 ∷ inside → IsWholeNumber difference_limit (skip inside) x after → skip after ≡ 44 ∷ second
-    → IsWholeNumber difference_limit (skip second) y between → skip between ≡ 93 ∷ rest → grid_cell transform (moved before (record { x = x; y = y })) ≡ Ok found → Stands (Front 1) (cell transform difference_limit before) bytes found rest c c
-cell_stands transform before bytes inside after second between rest x y found c opens u comma v closes on = record {
+pub cell_stands : (transform : Transform) (bound : ℕ) (before : Point) (bytes inside after second between rest : List ℕ) (x y : ℤ) (found : Point) (c : Counts) → bytes ≡ 91 ∷ inside → IsWholeNumber bound (skip inside) x after → skip after ≡ 44 ∷ second
+    → IsWholeNumber bound (skip second) y between → skip between ≡ 93 ∷ rest → grid_cell transform (moved before (record { x = x; y = y })) ≡ Ok found → Stands (Front 1) (cell transform bound before) bytes found rest c c
+cell_stands transform bound before bytes inside after second between rest x y found c opens u comma v closes on = record {
   value = pair u.text v.text;
   front = pair_front bytes inside after second between rest u.text v.text opens (λ d le. u.front any d) comma (λ d le. v.front any d) closes;
-  means = cell_is transform before u.text v.text x y found c u.scaled v.scaled on;
+  means = cell_is transform bound before u.text v.text x y found c u.scaled v.scaled on;
 }
 
 -- ---- the cells of an arc

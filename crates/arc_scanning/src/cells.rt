@@ -1,9 +1,9 @@
 // Positions and cells.
-ghost use Rattle.std.specs.Prelude.{◌≡◌, ◌∷◌, List, IfOk};
+ghost use Rattle.std.specs.Prelude.{◌≡◌, ◌≤◌, ◌^◌, ◌∷◌, List, IfOk};
 ghost use Rattle.std.specs.Option.{option_copied};
 ghost use Rattle.geojson_types.specs.declared.counts.Counts.{Counts as Counted};
 ghost use Rattle.geometry.specs.Points.{Point};
-ghost use Rattle.topojson_meaning.specs.Arcs.{position, cell, difference_limit};
+ghost use Rattle.topojson_meaning.specs.Arcs.{position, cell, difference_limit, place};
 ghost use Rattle.value_scanning.specs.Fronts.{Front, ListStands, Stands};
 ghost use Rattle.arc_scanning.specs.Cells.{cell_from, cells_from};
 
@@ -11,7 +11,7 @@ use decimal_json::skip;
 use geojson_types::Counts;
 use std::alloc::Global;
 use topojson_arc_reading::grid_cell;
-use topojson_types::{Cell, Transform};
+use topojson_types::{Cell, GRID_LIMIT, Transform};
 use unit_scanning::{Halt, after_byte, expected, number_at, whole_at};
 use value_scanning::opened;
 
@@ -37,8 +37,31 @@ fn position_at<'a>(
     Ok((Cell::at(x.value, y.value), end))
 }
 
-/// The cell at the front, which stands as its difference from the one before (section 2.1.3), and what follows it. One of more than two
-/// elements isn't read.
+/// The cell at the front, which stands as its difference from this one, and what follows it: the numbers of the difference are no farther
+/// from zero than the bound. One of more than two elements isn't read.
+#[inline(always)]
+fn cell_within<'a>(
+    alloc: Global,
+    transform: &Transform,
+    bound: u64,
+    before: Cell,
+    bytes: &'a [u8],
+) -> Result<(Cell, &'a [u8]), Halt>
+    requires { bound ≤ 2 ^ 32 }
+    ensures { IfOk result (λ x. (counts : Counted) → Stands (Front 1) (cell transform.now bound before) bytes.now x.0 x.1.now counts counts) }
+{
+    let inside = opened(b'[', bytes)?;
+    let (x, rest) = whole_at(alloc, bound, skip(inside))?;
+    let second = expected(b',', rest)?;
+    let (y, rest) = whole_at(alloc, bound, skip(second))?;
+    let end = expected(b']', rest)?;
+    match grid_cell(transform, before, Cell::at(x, y)) {
+        Ok(cell) => Ok((cell, end)),
+        Err(_) => Err(Halt::Unread),
+    }
+}
+
+/// The cell at the front, which stands as its difference from the one before (section 2.1.3), and what follows it.
 #[inline(always)]
 fn difference_at<'a>(
     alloc: Global,
@@ -48,14 +71,23 @@ fn difference_at<'a>(
 ) -> Result<(Cell, &'a [u8]), Halt>
     ensures { IfOk result (λ x. (counts : Counted) → Stands (Front 1) (cell transform.now difference_limit before) bytes.now x.0 x.1.now counts counts) }
 {
-    let inside = opened(b'[', bytes)?;
-    let (x, rest) = whole_at(alloc, DIFFERENCE_LIMIT, skip(inside))?;
-    let second = expected(b',', rest)?;
-    let (y, rest) = whole_at(alloc, DIFFERENCE_LIMIT, skip(second))?;
-    let end = expected(b']', rest)?;
-    match grid_cell(transform, before, Cell::at(x, y)) {
-        Ok(cell) => Ok((cell, end)),
-        Err(_) => Err(Halt::Unread),
+    cell_within(alloc, transform, DIFFERENCE_LIMIT, before, bytes)
+}
+
+/// The place at the front, of a Point or in a MultiPoint, and what follows it. With a transform it is a cell that is no difference (section
+/// 2.1.2). One of more than two elements isn't read.
+#[inline(always)]
+pub fn place_at<'a>(
+    alloc: Global,
+    transform: Option<&Transform>,
+    bytes: &'a [u8],
+    counts: &mut Counts,
+) -> Result<(Cell, &'a [u8]), Halt>
+    ensures { IfOk result (λ x. Stands (Front 1) (place (option_copied transform.entry)) bytes.now x.0 x.1.now counts.old counts.new) }
+{
+    match transform {
+        None => position_at(alloc, bytes, counts),
+        Some(transform) => cell_within(alloc, transform, GRID_LIMIT, Cell::at(0, 0), bytes),
     }
 }
 

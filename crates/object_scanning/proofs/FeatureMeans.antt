@@ -12,15 +12,14 @@ use Rattle.topojson_types.specs.Topologies.{TopoShape as Shape}
 use Rattle.topojson_types.specs.declared.feature.TopoFeature.{TopoFeature}
 use Rattle.topojson_types.specs.declared.transform.Transform.{Transform}
 use Rattle.topojson_meaning.specs.declared.fault.TopoFault.{TopoFault}
-use Rattle.topojson_meaning.specs.declared.geometry_type.ArcsType.{ArcsType as Kind}
-use Rattle.topojson_meaning.specs.declared.geometry_type.GeometryType.{GeometryType}
-use Rattle.topojson_meaning.specs.declared.geometry_type.GeometryType.TheVariants.{Arcs}
+use Rattle.topojson_meaning.specs.declared.geometry_type.GeometryType.{GeometryType as Kind}
+use Rattle.topojson_meaning.specs.declared.geometry_type.GeometryType.TheVariants.{Arcs, Places}
 use Rattle.topojson_meaning.specs.Features.{feature, feature_element, identifier, members_if}
-use Rattle.topojson_meaning.specs.GeometryTypes.{object_type, type_of}
+use Rattle.topojson_meaning.specs.GeometryTypes.{object_type, part_name, type_of}
 use Rattle.topojson_meaning.specs.Members.{Members, elements, find, lookup_fault, members, named, need}
 use Rattle.topojson_meaning.specs.Objects.{features}
 use Rattle.topojson_meaning.specs.Reader.{Reader, ◌>>=◌, gather, give, pure}
-use Rattle.topojson_meaning.specs.Shapes.{arcs_shape, part, typed_shape}
+use Rattle.topojson_meaning.specs.Shapes.{part, typed_shape}
 use Rattle.value_scanning.specs.Fronts.{FrontAt, MemberFront, MoreStand, Stands, one}
 use Rattle.value_scanning.specs.MemberLists.{ReadsMembers}
 use Rattle.value_scanning.proofs.ArrayFronts.{array_value, empty_value}
@@ -59,38 +58,44 @@ properties_found : (ms : Members) (properties : Option (Option Members)) → Are
 properties_found ms None h = record { value = None; found = found_is lookup_fault (codes "properties") ms None h; means = refl }
 properties_found ms (Some ps) h = record { value = Some h.0; found = found_is lookup_fault (codes "properties") ms (Some h.0) h.1; means = h.2 }
 
-element_is : (transform : Option Transform) (arcs : List (List Point)) (ms : Members) (type : Option GeometryType) (f : TopoFeature) (c new : Counts) → object_type ms ≡ Ok type → feature transform arcs type ms c ≡ Ok (f, new)
+element_is : (transform : Option Transform) (arcs : List (List Point)) (ms : Members) (type : Option Kind) (f : TopoFeature) (c new : Counts) → object_type ms ≡ Ok type → feature transform arcs type ms c ≡ Ok (f, new)
     → feature_element transform arcs (j.Object ms) c ≡ Ok (f, new)
 unfolding feature_element members
 element_is transform arcs ms type f c new typed means = rw (object_of-object ms, typed) means
 
-kind_is : (ms : Members) (v : Value) (kind : Kind) → named (codes "type") ms ≡ v ∷ [] → type_of v ≡ Ok (Some (Arcs kind)) → object_type ms ≡ Ok (Some (Arcs kind))
+kind_is : (ms : Members) (v : Value) (kind : Kind) → named (codes "type") ms ≡ v ∷ [] → type_of v ≡ Ok (Some kind) → object_type ms ≡ Ok (Some kind)
 unfolding object_type
 kind_is ms v kind h is = rw (needed_is (codes "type") ms v h) is
 
-shape_is : (transform : Option Transform) (arcs : List (List Point)) (ms : Members) (v : Value) (kind : Kind) (x : Option Shape) (c new : Counts) → named (codes "arcs") ms ≡ v ∷ [] → arcs_shape arcs kind v c ≡ Ok (x, new)
-    → typed_shape transform arcs (Some (Arcs kind)) ms c ≡ Ok (x, new)
-unfolding typed_shape part
-shape_is transform arcs ms v kind x c new h is = rw (needed_is (codes "arcs") ms v h) is
+shape_is : (transform : Option Transform) (arcs : List (List Point)) (ms : Members) (v : Value) (kind : Kind) (x : Option Shape) (c new : Counts) → named (part_name kind) ms ≡ v ∷ [] → part transform arcs kind v c ≡ Ok (x, new)
+    → typed_shape transform arcs (Some kind) ms c ≡ Ok (x, new)
+unfolding typed_shape
+shape_is transform arcs ms v kind x c new h is = rw (needed_is (part_name kind) ms v h) is
+
+shape_by : (transform : Option Transform) (arcs : List (List Point)) (ms : Members) (kind : Option Kind) (shape : Shape) (c new : Counts) → IsShape transform arcs kind ms (Some shape) c new → typed_shape transform arcs kind ms c ≡ Ok (Some shape, new)
+unfolding part
+shape_by transform arcs ms (Some (Arcs type)) shape c new s = shape_is transform arcs ms s.0 (Arcs type) (Some shape) c new s.1 s.2
+shape_by transform arcs ms (Some (Places type)) shape c new s = shape_is transform arcs ms s.0 (Places type) (Some shape) c new s.1 s.2
+shape_by transform arcs ms kind shape c new s = absurd s
 
 by_kind : (transform : Option Transform) (arcs : List (List Point)) (ms : Members) (kind : Option Kind) (i : Option Value) (properties : Option (Option Members)) (id : Option Id) (shape : Shape) (c new : Counts) → IsKind (named (codes "type") ms) kind
-    → find (codes "id") ms ≡ Ok i → identifier i ≡ Ok id → AreProperties (named (codes "properties") ms) properties → IsShape arcs kind (named (codes "arcs") ms) (Some shape) c new
+    → find (codes "id") ms ≡ Ok i → identifier i ≡ Ok id → AreProperties (named (codes "properties") ms) properties → IsShape transform arcs kind ms (Some shape) c new
     → feature_element transform arcs (j.Object ms) c ≡ Ok (record { id = id; properties = given properties; shape = Some shape }, new)
 unfolding feature
 by_kind transform arcs ms None i properties id shape c new typed i_is id_is ps s = absurd s
 by_kind transform arcs ms (Some kind) i properties id shape c new typed i_is id_is ps s =
     let p = properties_found ms properties ps in
-    element_is transform arcs ms (Some (Arcs kind)) _ c new (kind_is ms typed.0 kind typed.1 typed.2)
-    (feature_is (find (codes "id") ms) (find (codes "properties") ms) (typed_shape transform arcs (Some (Arcs kind)) ms) i p.value id (given properties) (Some shape) c new i_is p.found id_is p.means
-    (shape_is transform arcs ms s.0 kind (Some shape) c new s.1 s.2))
+    element_is transform arcs ms (Some kind) _ c new (kind_is ms typed.0 kind typed.1 typed.2)
+    (feature_is (find (codes "id") ms) (find (codes "properties") ms) (typed_shape transform arcs (Some kind) ms) i p.value id (given properties) (Some shape) c new i_is p.found id_is p.means
+    (shape_by transform arcs ms (Some kind) shape c new s))
 
 pub feature_stands : (transform : Option Transform) (arcs : List (List Point)) (bytes inside end : List ℕ) (parts : Parts) (id : Option Id) (shape : Option Shape) (c new : Counts) → bytes ≡ 123 ∷ inside
-    → ReadsMembers (MemberFront 250) (Holds arcs) nothing parts inside end c new → identifier parts.id ≡ Ok id → parts.shape ≡ shape → is_some shape ≡ true
+    → ReadsMembers (MemberFront 250) (Holds transform arcs) nothing parts inside end c new → identifier parts.id ≡ Ok id → parts.shape ≡ shape → is_some shape ≡ true
     → Stands (FrontAt 251) (feature_element transform arcs) bytes (record { id = id; properties = given parts.properties; shape = shape }) end c new
 feature_stands transform arcs bytes inside end parts id None c new opens r id_is some there = absurd cc
 feature_stands transform arcs bytes inside end parts id (Some shape) c new opens r id_is some there =
     let ms : Members = r.first ∷ r.others in
-    let h : Holds arcs ms parts c new = r.holds c (nothing_held arcs c) in
+    let h : Holds transform arcs ms parts c new = r.holds c (nothing_held transform arcs c) in
     record {
       value = j.Object ms;
       front = object_value 251 bytes inside r.first r.between r.others end (omega arith) opens r.front r.behind;

@@ -1,12 +1,10 @@
 // Features (TopoJSON 1.0, section 2.2).
-ghost use Rattle.std.specs.Prelude.{◌≡◌, ◌++◌, List, Option, IfOk};
+ghost use Rattle.std.specs.Prelude.{◌≡◌, ◌++◌, List, IfOk};
 ghost use Rattle.std.specs.Option.{option_copied};
-ghost use Rattle.geojson_types.specs.declared.counts.Counts.{Counts as Counted};
 ghost use Rattle.object_scanning.specs.FeatureParts.{given};
 ghost use Rattle.topojson_meaning.specs.Features.{feature_element as element};
 ghost use Rattle.topojson_meaning.specs.Objects.{features};
 ghost use Rattle.topojson_types.specs.declared.feature.TopoFeature.{TopoFeature as Feature};
-ghost use Rattle.topojson_types.specs.declared.transform.Transform.{Transform as Scaling};
 ghost use Rattle.value_scanning.specs.Fronts.{FrontAt, MoreStand, Stands, one};
 
 use crate::members::{Parts, parts_at};
@@ -41,17 +39,19 @@ fn properties_of(properties: Option<Option<Properties>>) -> Option<Properties>
     }
 }
 
-/// The feature at the front that is made of arcs, and what follows it. Its members may stand in any order, but its type before its
-/// arcs, with others among them.
-fn arcs_feature_at<'a>(
+/// The feature at the front that is made of arcs or of coordinates, and what follows it. Its members may stand in any order, but its type
+/// before these, with others among them.
+fn typed_feature_at<'a>(
     alloc: Global,
+    transform: Option<&Transform>,
     arcs: &[Items<Cell>],
     bytes: &'a [u8],
+    counts: &mut Counts,
 ) -> Result<(TopoFeature, &'a [u8]), Halt>
-    ensures { IfOk result (λ x. (transform : Option Scaling) (counts : Counted) → Stands (FrontAt 251) (element transform arcs.now) bytes.now x.0 x.1.now counts counts) }
+    ensures { IfOk result (λ x. Stands (FrontAt 251) (element (option_copied transform.entry) arcs.now) bytes.now x.0 x.1.now counts.old counts.new) }
 {
     let inside = opened(b'{', bytes)?;
-    let (parts, rest) = parts_at(alloc, arcs, inside)?;
+    let (parts, rest) = parts_at(alloc, transform, arcs, inside, counts)?;
     let Parts {
         kind: _kind,
         id,
@@ -83,11 +83,13 @@ fn feature_at<'a>(
 ) -> Result<(TopoFeature, &'a [u8]), Halt>
     ensures { IfOk result (λ x. Stands (FrontAt 251) (element (option_copied transform.entry) arcs.now) bytes.now x.0 x.1.now counts.old counts.new) }
 {
-    match arcs_feature_at(alloc, arcs, bytes) {
+    let before = *counts;
+    match typed_feature_at(alloc, transform, arcs, bytes, counts) {
         Ok(found) => return Ok(found),
         Err(Halt::Memory) => return Err(Halt::Memory),
         Err(Halt::Unread) => {}
     }
+    *counts = before;
     let (value, rest) = value_at(alloc, FEATURE_DEPTH, bytes)?;
     match feature_element(alloc, transform, arcs, value, counts) {
         Ok(feature) => Ok((feature, rest)),

@@ -1,37 +1,43 @@
 // The members of a feature.
 ghost use Rattle.std.specs.Prelude.{◌≡◌, IfOk, IfSome};
+ghost use Rattle.std.specs.Option.{option_copied};
 ghost use Rattle.geojson_types.specs.declared.counts.Counts.{Counts as Counted};
-ghost use Rattle.object_scanning.specs.FeatureParts.{Holds, IsTypeOf, PropertiesStand, ShapeStands, nothing};
+ghost use Rattle.object_scanning.specs.FeatureParts.{ArcsStand, Holds, IsTypeOf, PlacesStand, PropertiesStand, nothing};
 ghost use Rattle.value_scanning.specs.Fronts.{MemberFront};
 ghost use Rattle.value_scanning.specs.MemberLists.{ReadsMembers, TakesMember};
 
 use crate::polygons::shape_at;
+use arc_scanning::places_shape_at;
 use decimal_json::{after_word, member_at, skip, value_at};
-use geojson_types::Properties;
+use geojson_types::{Counts, Properties};
 use json_value::{Items, Json};
 use properties_scanning::properties_at;
 use std::alloc::Global;
-use topojson_meaning::ArcsType;
-use topojson_types::{Cell, TopoShape};
+use topojson_meaning::{ArcsType, GeometryType, PlacesType};
+use topojson_types::{Cell, TopoShape, Transform};
 use unit_scanning::{Halt, after_byte};
 use value_scanning::{named_value, opened};
 
 /// How deep the arrays and objects of a feature's member may nest.
 const MEMBER_DEPTH: u32 = 250;
 
-/// The type whose name stands at the front in its quotation marks, where its geometries are made of arcs, and what follows it.
+/// The type whose name stands at the front in its quotation marks, unless it is that of a collection, and what follows it.
 #[inline(always)]
-fn type_at(bytes: &[u8]) -> Option<(ArcsType, &[u8])>
+fn type_at(bytes: &[u8]) -> Option<(GeometryType, &[u8])>
     ensures { IfSome result (λ x. IsTypeOf bytes.now x.0 x.1.now) }
 {
     if let Some(rest) = after_word(b"\"Polygon\"", bytes) {
-        Some((ArcsType::Polygon, rest))
+        Some((GeometryType::Arcs(ArcsType::Polygon), rest))
     } else if let Some(rest) = after_word(b"\"MultiPolygon\"", bytes) {
-        Some((ArcsType::MultiPolygon, rest))
+        Some((GeometryType::Arcs(ArcsType::MultiPolygon), rest))
     } else if let Some(rest) = after_word(b"\"LineString\"", bytes) {
-        Some((ArcsType::LineString, rest))
+        Some((GeometryType::Arcs(ArcsType::LineString), rest))
     } else if let Some(rest) = after_word(b"\"MultiLineString\"", bytes) {
-        Some((ArcsType::MultiLineString, rest))
+        Some((GeometryType::Arcs(ArcsType::MultiLineString), rest))
+    } else if let Some(rest) = after_word(b"\"Point\"", bytes) {
+        Some((GeometryType::Places(PlacesType::Point), rest))
+    } else if let Some(rest) = after_word(b"\"MultiPoint\"", bytes) {
+        Some((GeometryType::Places(PlacesType::MultiPoint), rest))
     } else {
         None
     }
@@ -48,25 +54,42 @@ fn properties_member_at<'a>(
     Ok((properties, rest))
 }
 
-/// The shape of this type, which has to be known, that the value of `arcs` at the front is, and what follows it.
-fn typed_shape_at<'a>(
+/// The shape of this type, which has to be known and made of arcs, that the value of `arcs` at the front is, and what follows it.
+fn arcs_shape_at<'a>(
     alloc: Global,
     arcs: &[Items<Cell>],
-    kind: Option<ArcsType>,
+    kind: Option<GeometryType>,
     bytes: &'a [u8],
 ) -> Result<(TopoShape, &'a [u8]), Halt>
-    ensures { IfOk result (λ x. (counts : Counted) → ShapeStands arcs.now kind bytes.now x.0 x.1.now counts) }
+    ensures { IfOk result (λ x. (counts : Counted) → ArcsStand arcs.now kind bytes.now x.0 x.1.now counts) }
 {
     match kind {
-        None => Err(Halt::Unread),
-        Some(kind) => shape_at(alloc, arcs, kind, bytes),
+        Some(GeometryType::Arcs(kind)) => shape_at(alloc, arcs, kind, bytes),
+        _ => Err(Halt::Unread),
+    }
+}
+
+/// The shape of this type, which has to be known and made of coordinates, that the value of `coordinates` at the front is, and what
+/// follows it.
+fn coordinates_shape_at<'a>(
+    alloc: Global,
+    transform: Option<&Transform>,
+    kind: Option<GeometryType>,
+    bytes: &'a [u8],
+    counts: &mut Counts,
+) -> Result<(TopoShape, &'a [u8]), Halt>
+    ensures { IfOk result (λ x. PlacesStand (option_copied transform.entry) kind bytes.now x.0 x.1.now counts.old counts.new) }
+{
+    match kind {
+        Some(GeometryType::Places(kind)) => places_shape_at(alloc, transform, kind, bytes, counts),
+        _ => Err(Halt::Unread),
     }
 }
 
 /// What was read of a feature's members: its type, and what the others are.
 #[derive(Drop)]
 pub struct Parts {
-    pub kind: Option<ArcsType>,
+    pub kind: Option<GeometryType>,
     pub id: Option<Json>,
     pub properties: Option<Option<Properties>>,
     pub shape: Option<TopoShape>,
@@ -77,16 +100,26 @@ impl Parts {
     fn member<'a>(
         &mut self,
         alloc: Global,
+        transform: Option<&Transform>,
         arcs: &[Items<Cell>],
         bytes: &'a [u8],
+        counts: &mut Counts,
     ) -> Result<&'a [u8], Halt>
-        ensures { IfOk result (λ rest. (counts : Counted) → TakesMember (MemberFront 250) (Holds arcs.now) self.old self.new bytes.now rest.now counts counts) }
+        ensures { IfOk result (λ rest. TakesMember (MemberFront 250) (Holds (option_copied transform.entry) arcs.now) self.old self.new bytes.now rest.now counts.old counts.new) }
     {
         if let Some(front) = named_value(b"\"arcs\"", bytes) {
             if self.shape.is_some() {
                 return Err(Halt::Unread);
             }
-            let (shape, rest) = typed_shape_at(alloc, arcs, self.kind, front)?;
+            let (shape, rest) = arcs_shape_at(alloc, arcs, self.kind, front)?;
+            self.shape = Some(shape);
+            return Ok(rest);
+        }
+        if let Some(front) = named_value(b"\"coordinates\"", bytes) {
+            if self.shape.is_some() {
+                return Err(Halt::Unread);
+            }
+            let (shape, rest) = coordinates_shape_at(alloc, transform, self.kind, front, counts)?;
             self.shape = Some(shape);
             return Ok(rest);
         }
@@ -121,6 +154,9 @@ impl Parts {
         if name == "arcs" {
             return Err(Halt::Unread);
         }
+        if name == "coordinates" {
+            return Err(Halt::Unread);
+        }
         if name == "properties" {
             return Err(Halt::Unread);
         }
@@ -137,10 +173,12 @@ impl Parts {
 /// Reads the members of a feature over these arcs behind its brace, one or more, and gives what was read of them and what follows it.
 pub fn parts_at<'a>(
     alloc: Global,
+    transform: Option<&Transform>,
     arcs: &[Items<Cell>],
     inside: &'a [u8],
+    counts: &mut Counts,
 ) -> Result<(Parts, &'a [u8]), Halt>
-    ensures { IfOk result (λ x. (counts : Counted) → ReadsMembers (MemberFront 250) (Holds arcs.now) nothing x.0 inside.now x.1.now counts counts) }
+    ensures { IfOk result (λ x. ReadsMembers (MemberFront 250) (Holds (option_copied transform.entry) arcs.now) nothing x.0 inside.now x.1.now counts.old counts.new) }
 {
     let mut parts = Parts {
         kind: None,
@@ -148,14 +186,14 @@ pub fn parts_at<'a>(
         properties: None,
         shape: None,
     };
-    let mut rest = parts.member(alloc, arcs, skip(inside))?;
+    let mut rest = parts.member(alloc, transform, arcs, skip(inside), counts)?;
     'members: for _ in 0..inside.len() {
         let mark = skip(rest);
         if let Some(end) = after_byte(b'}', mark) {
             return Ok((parts, end));
         }
         let next = opened(b',', mark)?;
-        rest = parts.member(alloc, arcs, skip(next))?;
+        rest = parts.member(alloc, transform, arcs, skip(next), counts)?;
     }
     Err(Halt::Unread)
 }

@@ -19,3 +19,11 @@ returns-in-Some-after_word-2 c = type_by (codes "LineString") c.args.bytes.now _
 pub returns-in-Some-after_word-3 : goal.returns-in-Some-after_word-3
 unfolding geometry_type
 returns-in-Some-after_word-3 c = type_by (codes "MultiLineString") c.args.bytes.now _ _ refl refl c.in-Some-after_word-3.ensures
+
+pub returns-in-Some-after_word-4 : goal.returns-in-Some-after_word-4
+unfolding geometry_type
+returns-in-Some-after_word-4 c = type_by (codes "Point") c.args.bytes.now _ _ refl refl c.in-Some-after_word-4.ensures
+
+pub returns-in-Some-after_word-5 : goal.returns-in-Some-after_word-5
+unfolding geometry_type
+returns-in-Some-after_word-5 c = type_by (codes "MultiPoint") c.args.bytes.now _ _ refl refl c.in-Some-after_word-5.ensures

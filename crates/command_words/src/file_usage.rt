@@ -1,4 +1,5 @@
 // The commands that take the file of a topology, and their help.
+use crate::commands::{Help, command, with_command};
 use crate::usage::area;
 use clap::{Arg, Command};
 use std::alloc::{AllocError, Global};
@@ -18,9 +19,9 @@ pub(crate) const OBJECT: &str = "object";
 /// The file of the topology.
 pub(crate) const FILE: &str = "file";
 
-const SIMPLIFY_ABOUT: &str = "Take points out of the lines of a topology";
-
-const SIMPLIFY_LONG_ABOUT: &str = "Take points out of the lines of a topology.
+const SIMPLIFY_HELP: Help = Help {
+    about: "Take points out of the lines of a topology",
+    long_about: "Take points out of the lines of a topology.
 
 Standard output takes the topology that is left (TopoJSON 1.0), with the same objects
 and the same transform, as one text. Where something is refused it takes nothing, and
@@ -31,52 +32,49 @@ or ring that is left with too few positions is dropped as 'small', and a hole wh
 outer ring is dropped as 'outer'.
 
 A topology that 'mapchain build' wrote without an area becomes, byte for byte, what
-'mapchain build --min-area A' writes of the same files.";
-
-const SIMPLIFY_AFTER_HELP: &str = "Example:
-  mapchain simplify --min-area 0.0001 map.topojson > small.topojson";
-
-const SIMPLIFY_AFTER_LONG_HELP: &str = "Example:
+'mapchain build --min-area A' writes of the same files.",
+    after: "Example:
+  mapchain simplify --min-area 0.0001 map.topojson > small.topojson",
+    after_long: "Example:
   mapchain simplify --min-area 0.0001 map.topojson > small.topojson
 
-'mapchain --help' lists the exit statuses.";
+'mapchain --help' lists the exit statuses.",
+};
 
-const GEO_ABOUT: &str = "Decode an object of a topology to GeoJSON";
-
-const GEO_LONG_ABOUT: &str = "Decode an object of a topology to GeoJSON.
+const GEO_HELP: Help = Help {
+    about: "Decode an object of a topology to GeoJSON",
+    long_about: "Decode an object of a topology to GeoJSON.
 
 Standard output takes the features of the object (RFC 7946) as one text: those of a
 GeometryCollection as a FeatureCollection, any other object as a Feature. Where
-something is refused it takes nothing, and standard error says what.";
-
-const GEO_AFTER_HELP: &str = "Example:
-  mapchain geo --object coast map.topojson > coast.json";
-
-const GEO_AFTER_LONG_HELP: &str = "Example:
+something is refused it takes nothing, and standard error says what.",
+    after: "Example:
+  mapchain geo --object coast map.topojson > coast.json",
+    after_long: "Example:
   mapchain geo --object coast map.topojson > coast.json
 
-'mapchain --help' lists the exit statuses.";
+'mapchain --help' lists the exit statuses.",
+};
 
 const OBJECT_HELP: &str = "The name of the object";
 
-const STAT_ABOUT: &str = "Count what is in a topology";
-
-const STAT_LONG_ABOUT: &str = "Count what is in a topology.
+const STAT_HELP: Help = Help {
+    about: "Count what is in a topology",
+    long_about: "Count what is in a topology.
 
 Standard output takes a line each:
   objects    objects, and below a line for each: its name and the number of its features
   arcs       arcs
   positions  positions in these arcs
   grid       whether positions are numbers of a grid: yes or no
-Where something is refused it takes nothing, and standard error says what.";
-
-const STAT_AFTER_HELP: &str = "Example:
-  mapchain stat map.topojson";
-
-const STAT_AFTER_LONG_HELP: &str = "Example:
+Where something is refused it takes nothing, and standard error says what.",
+    after: "Example:
+  mapchain stat map.topojson",
+    after_long: "Example:
   mapchain stat map.topojson
 
-'mapchain --help' lists the exit statuses.";
+'mapchain --help' lists the exit statuses.",
+};
 
 const FILE_HELP: &str = "A topology (TopoJSON 1.0)";
 
@@ -89,38 +87,39 @@ fn file<'a>(alloc: Global) -> Arg<'a> {
 }
 
 /// The command line of `simplify`.
-pub(crate) fn simplify<'a>(alloc: Global) -> Result<Command<'a>, AllocError> {
-    Command::new(alloc, SIMPLIFY)
-        .about(SIMPLIFY_ABOUT)
-        .long_about(SIMPLIFY_LONG_ABOUT)
-        .after_help(SIMPLIFY_AFTER_HELP)
-        .after_long_help(SIMPLIFY_AFTER_LONG_HELP)
+fn simplify<'a>(alloc: Global) -> Result<Command<'a>, AllocError> {
+    command(alloc, SIMPLIFY, SIMPLIFY_HELP)
         .arg(area(alloc))?
         .arg(file(alloc))
 }
 
-/// The command line of `geo`.
-pub(crate) fn geo<'a>(alloc: Global) -> Result<Command<'a>, AllocError> {
-    let object = Arg::new(alloc, OBJECT)
+/// The option of `geo` that names the object.
+fn object<'a>(alloc: Global) -> Arg<'a> {
+    Arg::new(alloc, OBJECT)
         .long("object")
         .value_name("NAME")
         .required(true)
-        .help(OBJECT_HELP);
-    Command::new(alloc, GEO)
-        .about(GEO_ABOUT)
-        .long_about(GEO_LONG_ABOUT)
-        .after_help(GEO_AFTER_HELP)
-        .after_long_help(GEO_AFTER_LONG_HELP)
-        .arg(object)?
+        .help(OBJECT_HELP)
+}
+
+/// The command line of `geo`.
+fn geo<'a>(alloc: Global) -> Result<Command<'a>, AllocError> {
+    command(alloc, GEO, GEO_HELP)
+        .arg(object(alloc))?
         .arg(file(alloc))
 }
 
 /// The command line of `stat`.
-pub(crate) fn stat<'a>(alloc: Global) -> Result<Command<'a>, AllocError> {
-    Command::new(alloc, STAT)
-        .about(STAT_ABOUT)
-        .long_about(STAT_LONG_ABOUT)
-        .after_help(STAT_AFTER_HELP)
-        .after_long_help(STAT_AFTER_LONG_HELP)
-        .arg(file(alloc))
+fn stat<'a>(alloc: Global) -> Result<Command<'a>, AllocError> {
+    command(alloc, STAT, STAT_HELP).arg(file(alloc))
+}
+
+/// The program with these commands.
+pub(crate) fn with_file_commands<'a>(
+    alloc: Global,
+    program: Command<'a>,
+) -> Result<Command<'a>, AllocError> {
+    let program = with_command(program, simplify(alloc))?;
+    let program = with_command(program, geo(alloc))?;
+    with_command(program, stat(alloc))
 }

@@ -2,6 +2,7 @@
 //! A program above calls `read_words`, does what the `Request` asks for, and tells a `WordsFault`.
 #![tactic(auto)]
 
+mod commands;
 mod file_usage;
 mod layer_words;
 mod request;

@@ -6,8 +6,8 @@ use crate::file_usage::{FILE, GEO, OBJECT, SIMPLIFY, STAT};
 use crate::layer_words::names_and_paths;
 use crate::usage::{AREA, BUILD, EXACT, GRID, LAYERS, program};
 use crate::words_fault::WordsFault;
-use clap::ArgMatches;
 use clap::error::ErrorKind;
+use clap::{ArgMatches, Command};
 use std::alloc::Global;
 
 /// What the words of a command line ask for.
@@ -52,6 +52,57 @@ fn grid_of(arguments: &ArgMatches<'_>) -> Result<Option<u32>, WordsFault>
     }
 }
 
+/// The area that is asked for.
+fn area_of<'a>(arguments: &ArgMatches<'a>) -> &'a str {
+    arguments.get_str(AREA).unwrap_or("0")
+}
+
+/// The path of the file of a topology.
+fn path_of<'a>(arguments: &ArgMatches<'a>) -> &'a str {
+    arguments.get_str(FILE).unwrap_or("")
+}
+
+/// What the command that builds a topology asks for.
+fn build_request<'a>(alloc: Global, arguments: &ArgMatches<'a>) -> Result<Request<'a>, WordsFault>
+    ensures named { IfOk result (λ request. HasNames request) }
+    ensures split { IfOk result (λ request. HasSplits request) }
+    ensures grid { IfOk result (λ request. IsGridInRange request) }
+{
+    let grid = grid_of(arguments)?;
+    let layers = names_and_paths(alloc, arguments.get_strs(LAYERS).unwrap_or(&[]))?;
+    let exact = arguments.get_flag(EXACT);
+    let area = area_of(arguments);
+    Ok(Request::Build {
+        layers,
+        exact,
+        grid,
+        area,
+    })
+}
+
+/// What a command that takes the file of a topology asks for, if there is one.
+fn file_request<'a>(matches: &ArgMatches<'a>) -> Option<Request<'a>>
+    ensures named { IfSome result HasNames }
+    ensures split { IfSome result HasSplits }
+    ensures grid { IfSome result IsGridInRange }
+{
+    if let Some(arguments) = matches.subcommand_matches(SIMPLIFY) {
+        let area = area_of(arguments);
+        let path = path_of(arguments);
+        return Some(Request::Simplify { area, path });
+    }
+    if let Some(arguments) = matches.subcommand_matches(GEO) {
+        let name = arguments.get_str(OBJECT).unwrap_or("");
+        let path = path_of(arguments);
+        return Some(Request::Geo { name, path });
+    }
+    if let Some(arguments) = matches.subcommand_matches(STAT) {
+        let path = path_of(arguments);
+        return Some(Request::Stat { path });
+    }
+    None
+}
+
 /// What a command asks for, if there is one.
 fn request_of<'a>(
     alloc: Global,
@@ -61,33 +112,44 @@ fn request_of<'a>(
     ensures split { IfOk result (λ found. IfSome found HasSplits) }
     ensures grid { IfOk result (λ found. IfSome found IsGridInRange) }
 {
-    if let Some(arguments) = matches.subcommand_matches(BUILD) {
-        let grid = grid_of(arguments)?;
-        let layers = names_and_paths(alloc, arguments.get_strs(LAYERS).unwrap_or(&[]))?;
-        let exact = arguments.get_flag(EXACT);
-        let area = arguments.get_str(AREA).unwrap_or("0");
-        return Ok(Some(Request::Build {
-            layers,
-            exact,
-            grid,
-            area,
-        }));
+    match matches.subcommand_matches(BUILD) {
+        Some(arguments) => Ok(Some(build_request(alloc, arguments)?)),
+        None => Ok(file_request(matches)),
     }
-    if let Some(arguments) = matches.subcommand_matches(SIMPLIFY) {
-        let area = arguments.get_str(AREA).unwrap_or("0");
-        let path = arguments.get_str(FILE).unwrap_or("");
-        return Ok(Some(Request::Simplify { area, path }));
+}
+
+/// What `clap` finds in the words.
+fn matches_in<'a>(
+    program: &mut Command<'a>,
+    words: &'a [String],
+) -> Result<ArgMatches<'a>, WordsFault> {
+    match program.try_get_matches_from_mut(words) {
+        Ok(matches) => Ok(matches),
+        Err(error) => Err(WordsFault::of(error)),
     }
-    if let Some(arguments) = matches.subcommand_matches(GEO) {
-        let name = arguments.get_str(OBJECT).unwrap_or("");
-        let path = arguments.get_str(FILE).unwrap_or("");
-        return Ok(Some(Request::Geo { name, path }));
+}
+
+/// What is told where a command is missing.
+fn no_command(program: &mut Command<'_>) -> Result<WordsFault, WordsFault> {
+    let error = program.error(ErrorKind::MissingSubcommand, "a command is missing")?;
+    Ok(WordsFault::of(error))
+}
+
+/// What the words ask for by this command line.
+fn read_by<'a>(
+    alloc: Global,
+    program: &mut Command<'a>,
+    words: &'a [String],
+) -> Result<Request<'a>, WordsFault>
+    ensures named { IfOk result (λ request. HasNames request) }
+    ensures split { IfOk result (λ request. HasSplits request) }
+    ensures grid { IfOk result (λ request. IsGridInRange request) }
+{
+    let matches = matches_in(program, words)?;
+    match request_of(alloc, &matches)? {
+        Some(request) => Ok(request),
+        None => Err(no_command(program)?),
     }
-    if let Some(arguments) = matches.subcommand_matches(STAT) {
-        let path = arguments.get_str(FILE).unwrap_or("");
-        return Ok(Some(Request::Stat { path }));
-    }
-    Ok(None)
 }
 
 /// What the words behind the program's name ask for. Which words are taken for which command is `clap`'s, by the usage that the help
@@ -101,15 +163,5 @@ pub fn read_words<'a>(alloc: Global, words: &'a [String]) -> Result<Request<'a>,
     ensures grid { IfOk result (λ request. IsGridInRange request) }
 {
     let mut program = program(alloc)?;
-    let matches = match program.try_get_matches_from_mut(words) {
-        Ok(matches) => matches,
-        Err(error) => return Err(WordsFault::of(error)),
-    };
-    match request_of(alloc, &matches)? {
-        Some(request) => Ok(request),
-        None => {
-            let error = program.error(ErrorKind::MissingSubcommand, "a command is missing")?;
-            Err(WordsFault::of(error))
-        }
-    }
+    read_by(alloc, &mut program, words)
 }

@@ -1,5 +1,6 @@
 // The words that the program takes, and its help.
-use crate::file_usage::{geo, simplify, stat};
+use crate::commands::{Help, command, with_command};
+use crate::file_usage::with_file_commands;
 use clap::builder::ValueParser;
 use clap::{Arg, ArgAction, Command, value_parser};
 use std::alloc::{AllocError, Global};
@@ -19,30 +20,26 @@ pub(crate) const AREA: &str = "min-area";
 /// The option of `build` that refuses coordinates that would have to be rounded.
 pub(crate) const EXACT: &str = "exact";
 
-const ABOUT: &str =
-    "Build TopoJSON topologies from GeoJSON files, simplify them, and decode them again";
-
-const LONG_ABOUT: &str =
-    "Build TopoJSON topologies from GeoJSON files, simplify them, and decode them again.
+const PROGRAM_HELP: Help = Help {
+    about: "Build TopoJSON topologies from GeoJSON files, simplify them, and decode them again",
+    long_about: "Build TopoJSON topologies from GeoJSON files, simplify them, and decode them again.
 
 A topology is a map in which a line that several shapes share, as a border, is
-stored once, as a numbered arc, and each shape lists the arcs that it runs along.";
-
-const AFTER_HELP: &str =
-    "'mapchain build --help' and the like say what is read and written, with an example.";
-
-const AFTER_LONG_HELP: &str = "Exit status:
+stored once, as a numbered arc, and each shape lists the arcs that it runs along.",
+    after: "'mapchain build --help' and the like say what is read and written, with an example.",
+    after_long: "Exit status:
   0  done
   1  the contents of a file are refused
   2  the words of the command line are refused
   3  a file can't be opened or read, the output can't be written, or memory ran out
 Standard error says what is wrong, but may be silent where memory ran out.
 
-'mapchain build --help' and the like say what is read and written, with an example.";
+'mapchain build --help' and the like say what is read and written, with an example.",
+};
 
-const BUILD_ABOUT: &str = "Build a topology from GeoJSON files";
-
-const BUILD_LONG_ABOUT: &str = "Build a topology from GeoJSON files.
+const BUILD_HELP: Help = Help {
+    about: "Build a topology from GeoJSON files",
+    long_about: "Build a topology from GeoJSON files.
 
 Each file (RFC 7946) is a layer of the map. Standard output takes the topology
 (TopoJSON 1.0) as one text. Where something is refused it takes nothing, and standard
@@ -59,15 +56,14 @@ A border that lines and rings share, be it between layers, is one arc. Positions
 are equal and follow each other count as one. A line that is left with one position,
 or a ring with fewer than four, is dropped as 'collapsed', or as 'small' where that is
 so only because points were taken out. Any other hole whose outer ring is dropped is
-dropped as 'outer'.";
-
-const BUILD_AFTER_HELP: &str = "Example:
-  mapchain build coast=coast.json rivers=rivers.json > map.topojson";
-
-const BUILD_AFTER_LONG_HELP: &str = "Example:
+dropped as 'outer'.",
+    after: "Example:
+  mapchain build coast=coast.json rivers=rivers.json > map.topojson",
+    after_long: "Example:
   mapchain build coast=coast.json rivers=rivers.json > map.topojson
 
-'mapchain --help' lists the exit statuses.";
+'mapchain --help' lists the exit statuses.",
+};
 
 const LAYERS_HELP: &str = "A layer: its name in the topology, '=' and its file";
 
@@ -99,18 +95,12 @@ halves away from zero, and counted in the report";
 
 /// The command line of the program.
 pub(crate) fn program<'a>(alloc: Global) -> Result<Command<'a>, AllocError> {
-    Command::new(alloc, "mapchain")
-        .about(ABOUT)
-        .long_about(LONG_ABOUT)
-        .after_help(AFTER_HELP)
-        .after_long_help(AFTER_LONG_HELP)
+    let program = command(alloc, "mapchain", PROGRAM_HELP)
         .no_binary_name(true)
-        .bin_name("mapchain")?
         .subcommand_required(true)
-        .subcommand(build(alloc)?)?
-        .subcommand(simplify(alloc)?)?
-        .subcommand(geo(alloc)?)?
-        .subcommand(stat(alloc)?)
+        .bin_name("mapchain")?;
+    let program = with_command(program, build(alloc))?;
+    with_file_commands(alloc, program)
 }
 
 /// The numbers of cells that a grid may have along each axis.
@@ -159,11 +149,7 @@ fn layers<'a>(alloc: Global) -> Arg<'a> {
 
 /// The command line of `build`.
 fn build<'a>(alloc: Global) -> Result<Command<'a>, AllocError> {
-    Command::new(alloc, BUILD)
-        .about(BUILD_ABOUT)
-        .long_about(BUILD_LONG_ABOUT)
-        .after_help(BUILD_AFTER_HELP)
-        .after_long_help(BUILD_AFTER_LONG_HELP)
+    command(alloc, BUILD, BUILD_HELP)
         .arg(grid(alloc))?
         .arg(area(alloc))?
         .arg(exact(alloc))?

@@ -1,0 +1,29 @@
+// Commands with their help, and commands of a program.
+use clap::Command;
+use std::alloc::{AllocError, Global};
+
+/// The help of a command: what it is about, in a line and at length, and what is told behind its options, in short and at length.
+#[derive(Clone, Copy)]
+pub(crate) struct Help {
+    pub(crate) about: &'static str,
+    pub(crate) long_about: &'static str,
+    pub(crate) after: &'static str,
+    pub(crate) after_long: &'static str,
+}
+
+/// The command of this name with this help, which takes nothing so far.
+pub(crate) fn command<'a>(alloc: Global, name: &'static str, help: Help) -> Command<'a> {
+    Command::new(alloc, name)
+        .about(help.about)
+        .long_about(help.long_about)
+        .after_help(help.after)
+        .after_long_help(help.after_long)
+}
+
+/// The program with this command, where there was memory for it.
+pub(crate) fn with_command<'a>(
+    program: Command<'a>,
+    command: Result<Command<'a>, AllocError>,
+) -> Result<Command<'a>, AllocError> {
+    program.subcommand(command?)
+}

@@ -20,6 +20,7 @@ use Rattle.topojson_types.specs.declared.transform.Transform.{Transform}
 use Rattle.topojson_types.specs.Decoding.{placed_arcs}
 use Rattle.topojson_types.specs.Topologies.{Contents, object_features, objects_strokes}
 use Rattle.topojson_types.specs.Validity.{IsPlace, IsTopology}
+use Rattle.topology_reduction.specs.Parts.{contents}
 use Rattle.topology_reduction.specs.Uses.{ranked_refs}
 use Rattle.topology_reduction.proofs.Picks.{places_picked, topology_places}
 
@@ -63,8 +64,14 @@ flags_long u used flags n is same = grind (arith, answers_length)
 
 -- ---- the topology
 
-abbrev pub contents : Objects → List (List Point) → Option Transform → Contents
-contents os arcs transform = record { objects = os; arcs = arcs; transform = transform }
+pub parts_are : (y : Contents) (os : Objects) (arcs : List (List Point)) (transform : Option Transform) → os ≡ y.objects → arcs ≡ y.arcs → transform ≡ y.transform → contents os arcs transform ≡ y
+parts_are y os arcs transform o a t = grind arith
+
+-- what is left of the parts makes what is left of the topology
+pub made_is : (kept : List (List ℕ)) (y : Contents) (objects left made : Objects) (arcs stay put : List (List Point)) (transform given : Option Transform) → contents objects arcs transform ≡ y → transform ≡ y.transform
+    → contents left stay transform ≡ lessened_by kept (contents objects arcs transform) → made ≡ left → put ≡ stay → given ≡ y.transform → contents made put given ≡ lessened_by kept y
+made_is kept y objects left made arcs stay put transform given same t l m p g =
+    ap (λ os. contents os put given) m ∙ ap (λ xs. contents left xs given) p ∙ ap (contents left stay) (g ∙ sym t) ∙ l ∙ ap (lessened_by kept) same
 
 -- the arcs of which cells are picked, and what is left of the objects over these
 pub record Large (kept : List (List ℕ)) (y : Contents) (picked : List (List Point)) (large : Objects) : Type 0 where
@@ -99,18 +106,17 @@ module _ (kept : List (List ℕ)) (y : Contents) (picked : List (List Point)) (l
 
 -- ---- what the calls give
 
-pub large_over : (kept : List (List ℕ)) (y : Contents) (slice picked given : List (List Point)) (transform : Option Transform) (objects large : Objects) → slice ≡ y.arcs → picked ≡ picked_arcs kept slice → given ≡ picked
-    → transform ≡ y.transform → objects ≡ y.objects → large ≡ objects_pruned (large_refs (placed_arcs transform given)) objects → Large kept y picked large
-large_over kept y slice picked given transform objects large arcs p g t o l = grind arith
+pub large_over : (kept : List (List ℕ)) (y : Contents) (picked given : List (List Point)) (large : Objects) → picked ≡ picked_arcs kept y.arcs → given ≡ picked
+    → large ≡ objects_pruned (large_refs (placed_arcs y.transform given)) y.objects → Large kept y picked large
+large_over kept y picked given large p g l = grind arith
 
 -- the lines and rings that are dropped
-pub drops_are : (kept : List (List ℕ)) (y : Contents) (slice picked given : List (List Point)) (transform : Option Transform) (objects : Objects) → slice ≡ y.arcs → picked ≡ picked_arcs kept slice → given ≡ picked
-    → transform ≡ y.transform → objects ≡ y.objects
-    → dropped_of_layers 0 (map (λ o. map (λ f. option_small (placed_arcs transform given) f.shape) (object_features o.1)) objects) ≡ dropped_by kept y
+pub drops_are : (kept : List (List ℕ)) (y : Contents) (picked given : List (List Point)) → picked ≡ picked_arcs kept y.arcs → given ≡ picked
+    → dropped_of_layers 0 (map (λ o. map (λ f. option_small (placed_arcs y.transform given) f.shape) (object_features o.1)) y.objects) ≡ dropped_by kept y
 unfolding dropped_by
-drops_are kept y slice picked given transform objects arcs p g t o = grind arith
+drops_are kept y picked given p g = grind arith
 
 -- the cells that are picked may stand in the topology
-pub places_are_given : (kept : List (List ℕ)) (y : Contents) → IsTopology y → (slice picked given : List (List Point)) (transform : Option Transform) → slice ≡ y.arcs → picked ≡ picked_arcs kept slice → given ≡ picked
-    → transform ≡ y.transform → AllByRecursion (λ a. AllByRecursion (IsPlace transform) a) given
-places_are_given kept y valid slice picked given transform arcs p g t = grind (arith, places_picked y.transform kept y.arcs (topology_places y valid), topology_places y valid)
+pub places_are_given : (kept : List (List ℕ)) (y : Contents) → IsTopology y → (picked given : List (List Point)) → picked ≡ picked_arcs kept y.arcs → given ≡ picked
+    → AllByRecursion (λ a. AllByRecursion (IsPlace y.transform) a) given
+places_are_given kept y valid picked given p g = subst (AllByRecursion (λ a. AllByRecursion (IsPlace y.transform) a)) (sym (g ∙ p)) (places_picked y.transform kept y.arcs (topology_places y valid))

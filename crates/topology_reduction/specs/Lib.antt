@@ -1,2 +1,3 @@
 pub mod Drops
+pub mod Parts
 pub mod Uses

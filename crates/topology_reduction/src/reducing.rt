@@ -11,7 +11,8 @@ ghost use Rattle.geometry.specs.Omissions.{dropped_of_layers};
 ghost use Rattle.lessened_topology.specs.Lessened.{EachFromFirstToLast, dropped_by, large_refs, lessened_by, objects_pruned, option_small, taken_out_by};
 ghost use Rattle.topojson_types.specs.Decoding.{placed_arcs as all_placed};
 ghost use Rattle.topojson_types.specs.Topologies.{Contents, object_features, objects_strokes};
-ghost use Rattle.topojson_types.specs.Validity.{IsPlace};
+ghost use Rattle.topojson_types.specs.Validity.{IsPlace, IsTopology};
+ghost use Rattle.topology_reduction.specs.Parts.{contents};
 
 use crate::choosing::{Large, Ranked};
 use crate::dropping::dropped_lines;
@@ -112,9 +113,41 @@ fn without_unused(
     Ok((left, stay, taken_out(before, after)))
 }
 
-/// The topology with of each arc only the cells with the numbers of its own list, without the lines and rings that are then left
-/// with too few positions, and without the arcs that no kept line uses; the lines and rings that are dropped, in reading order, an
-/// object in the place of a layer; and how many positions are taken out of the arcs that stay.
+/// What is left of the objects and the arcs of a topology, with of each arc only the cells with the numbers of its own list: without the
+/// lines and rings that are then left with too few positions, and without the arcs that no kept line uses; the lines and rings that
+/// are dropped, in reading order, an object in the place of a layer; and how many positions are taken out of the arcs that stay.
+fn reduced_parts(
+    alloc: Global,
+    objects: Vec<(OwnText, TopoObject)>,
+    arcs: &[Items<Cell>],
+    transform: Option<&Transform>,
+    kept: &[Vec<usize>],
+) -> Result<
+    (
+        Vec<(OwnText, TopoObject)>,
+        Vec<Items<Cell>>,
+        Vec<Dropped>,
+        u64,
+    ),
+    Memory,
+>
+    requires valid { IsTopology (contents objects.items arcs.now (option_copied transform)) }
+    requires kept { EachFromFirstToLast (map (λ k. k.items) kept.now) arcs.now }
+    ensures left { IfOk result (λ r. contents r.0.items r.1.items (option_copied transform.entry)
+        ≡ lessened_by (map (λ k. k.items) kept.now) (contents objects.items arcs.now (option_copied transform.entry))) }
+    ensures dropped { IfOk result (λ r. r.2.items
+        ≡ dropped_by (map (λ k. k.items) kept.now) (contents objects.items arcs.now (option_copied transform.entry))) }
+    ensures taken_out { IfOk result (λ r. r.3
+        ≡ saturated (taken_out_by (map (λ k. k.items) kept.now) (contents objects.items arcs.now (option_copied transform.entry)))) }
+{
+    let picked = picked_arcs(alloc, kept, arcs)?;
+    let (large, dropped) = large_objects(alloc, objects, &picked, transform)?;
+    let (left, stay, taken) = without_unused(alloc, large, arcs, picked)?;
+    Ok((left, stay, dropped, taken))
+}
+
+/// What is left of the topology, as a topology with the same transform; the lines and rings that are dropped; and how many positions
+/// are taken out of the arcs that stay.
 fn reduced_topology(
     alloc: Global,
     topology: Topology,
@@ -127,9 +160,13 @@ fn reduced_topology(
 {
     lessened_is_valid();
     let (objects, arcs, transform) = topology.into_parts();
-    let picked = picked_arcs(alloc, kept, arcs.as_slice())?;
-    let (large, dropped) = large_objects(alloc, objects.into_inner(), &picked, transform.as_ref())?;
-    let (left, stay, taken) = without_unused(alloc, large, arcs.as_slice(), picked)?;
+    let (left, stay, dropped, taken) = reduced_parts(
+        alloc,
+        objects.into_inner(),
+        arcs.as_slice(),
+        transform.as_ref(),
+        kept,
+    )?;
     let reduced = Topology::of(Items::of(left), Items::of(stay), transform);
     Ok((reduced, dropped, taken))
 }

@@ -1,7 +1,10 @@
 // Collections of features.
-ghost use Rattle.std.specs.Prelude.{◌≡◌, Some, IfOk, IfSome, IsUtf8};
+ghost use Rattle.std.specs.Prelude.{◌≡◌, Bool, Some, IfOk, IfSome, IsUtf8, bytes_eq, codes, false};
+ghost use Rattle.geojson_types.specs.declared.counts.Counts.{Counts as Counted};
 ghost use Rattle.value_scanning.specs.Fronts.{MemberFront};
+ghost use Rattle.value_scanning.specs.MemberLists.{TakesMember};
 ghost use Rattle.layer_scanning.specs.CollectionParts.{Contains, FeaturesStand, SpellsLayer};
+ghost use Rattle.layer_scanning.specs.declared.collections.Collection.{Collection as Collected};
 
 use crate::features::{feature_at, features_behind};
 use decimal_json::{after_word, member_at, skip};
@@ -40,6 +43,25 @@ pub struct Collection {
     features: Option<Items<Feature>>,
 }
 
+/// Whether a member of this name says something of a collection.
+fn is_known(name: &str) -> bool
+    ensures no_type { result ≡ false → bytes_eq name.now (codes "type") ≡ false }
+    ensures no_features { result ≡ false → bytes_eq name.now (codes "features") ≡ false }
+{
+    name == "type" || name == "features"
+}
+
+/// What follows the member at the front, which has a name that says nothing of a collection.
+fn behind_other<'a>(alloc: Global, bytes: &'a [u8]) -> Result<&'a [u8], Halt>
+    ensures { IfOk result (λ rest. (exact : Bool) (collection : Collected) (counts : Counted) → TakesMember (MemberFront 126) (Contains exact) collection collection bytes.now rest.now counts counts) }
+{
+    let (name, _value, rest) = member_at(alloc, MEMBER_DEPTH, bytes)?;
+    if is_known(name.as_str()) {
+        return Err(Halt::Unread);
+    }
+    Ok(rest)
+}
+
 impl Object for Collection {
     ghost is_front = { MemberFront 126 };
 
@@ -70,15 +92,8 @@ impl Object for Collection {
             self.features = Some(features);
             return Ok(rest);
         }
-        let (name, _value, rest) = member_at(alloc, MEMBER_DEPTH, bytes)?;
-        let name = name.as_str();
-        if name == "type" {
-            return Err(Halt::Unread);
-        }
-        if name == "features" {
-            return Err(Halt::Unread);
-        }
-        Ok(rest)
+        let behind = behind_other(alloc, bytes)?;
+        Ok(behind)
     }
 }
 

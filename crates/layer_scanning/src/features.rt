@@ -1,8 +1,10 @@
 // Features.
-ghost use Rattle.std.specs.Prelude.{◌≡◌, ◌++◌, List, IfOk, None};
+ghost use Rattle.std.specs.Prelude.{◌≡◌, ◌++◌, Bool, List, IfOk, None, bytes_eq, codes, false};
 ghost use Rattle.geojson_model.specs.Features.{feature_element};
 ghost use Rattle.geojson_types.specs.Features.{Featured};
+ghost use Rattle.geojson_types.specs.declared.counts.Counts.{Counts as Counted};
 ghost use Rattle.value_scanning.specs.Fronts.{FrontAt, MemberFront, MoreStand, Stands, one};
+ghost use Rattle.value_scanning.specs.MemberLists.{TakesMember};
 ghost use Rattle.layer_scanning.specs.FeatureParts.{Holds, geometry_member, given};
 
 use decimal_json::{after_word, member_at, skip, value_at};
@@ -54,6 +56,27 @@ pub struct Parts {
     shape: Option<Option<Shape>>,
 }
 
+/// Whether a member of this name says something of a feature.
+fn is_known(name: &str) -> bool
+    ensures no_geometry { result ≡ false → bytes_eq name.now (codes "geometry") ≡ false }
+    ensures no_properties { result ≡ false → bytes_eq name.now (codes "properties") ≡ false }
+    ensures no_type { result ≡ false → bytes_eq name.now (codes "type") ≡ false }
+    ensures no_id { result ≡ false → bytes_eq name.now (codes "id") ≡ false }
+{
+    name == "geometry" || name == "properties" || name == "type" || name == "id"
+}
+
+/// What follows the member at the front, which has a name that says nothing of a feature.
+fn behind_other<'a>(alloc: Global, bytes: &'a [u8]) -> Result<&'a [u8], Halt>
+    ensures { IfOk result (λ rest. (exact : Bool) (parts : Parts) (counts : Counted) → TakesMember (MemberFront 124) (Holds exact) parts parts bytes.now rest.now counts counts) }
+{
+    let (name, _value, rest) = member_at(alloc, MEMBER_DEPTH, bytes)?;
+    if is_known(name.as_str()) {
+        return Err(Halt::Unread);
+    }
+    Ok(rest)
+}
+
 impl Object for Parts {
     ghost is_front = { MemberFront 124 };
 
@@ -100,21 +123,8 @@ impl Object for Parts {
             self.id = Some(value);
             return Ok(rest);
         }
-        let (name, _value, rest) = member_at(alloc, MEMBER_DEPTH, bytes)?;
-        let name = name.as_str();
-        if name == "geometry" {
-            return Err(Halt::Unread);
-        }
-        if name == "properties" {
-            return Err(Halt::Unread);
-        }
-        if name == "type" {
-            return Err(Halt::Unread);
-        }
-        if name == "id" {
-            return Err(Halt::Unread);
-        }
-        Ok(rest)
+        let behind = behind_other(alloc, bytes)?;
+        Ok(behind)
     }
 }
 

@@ -1,7 +1,6 @@
-use Rattle.std.proofs.Common.{sym, ap, ◌∙◌}
-use Rattle.std.specs.Prelude.{codes, bytes_eq}
+use Rattle.std.proofs.Common.{sym, ◌∙◌}
 use Rattle.value_scanning.proofs.Texts.{no_some}
-use Rattle.layer_scanning.proofs.FeatureMembers.{take_shape, take_properties, take_type, take_id, take_foreign}
+use Rattle.layer_scanning.proofs.FeatureMembers.{take_shape, take_properties, take_type, take_id}
 use Rattle.layer_scanning.proofs.features.PartsObject.member.Goals as goal
 
 pub returns-in-Some : goal.returns-in-Some
@@ -17,4 +16,4 @@ pub returns-in-Some-named_value-3 : goal.returns-in-Some-named_value-3
 returns-in-Some-named_value-3 c = take_id c.args.exact c.args.bytes.now _ _ c.args.self.now c.args.counts.now _ c.in-Some-named_value-3.ensures (no_some _ (sym c.is_some-in-Some-named_value-3.ensures ∙ c.if-is_some-3.false)) c.in_ok-value.ensures
 
 pub returns : goal.returns
-returns c = take_foreign c.args.exact c.args.bytes.now _ c.in_ok-name.name c.in_ok-name._value c.args.self.now c.args.counts.now c.in_ok-name.ensures (ap (λ z. bytes_eq z (codes "geometry")) (sym c.as_str-name.ensures.text) ∙ sym c.eq.ensures ∙ c.if-eq.false) (ap (λ z. bytes_eq z (codes "properties")) (sym c.as_str-name.ensures.text) ∙ sym c.eq-2.ensures ∙ c.if-eq-2.false) (ap (λ z. bytes_eq z (codes "type")) (sym c.as_str-name.ensures.text) ∙ sym c.eq-3.ensures ∙ c.if-eq-3.false) (ap (λ z. bytes_eq z (codes "id")) (sym c.as_str-name.ensures.text) ∙ sym c.eq-4.ensures ∙ c.if-eq-4.false)
+returns c = c.in_ok-behind.ensures c.args.exact c.args.self.now c.args.counts.now

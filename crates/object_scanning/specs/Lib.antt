@@ -1,3 +1,2 @@
-pub mod Strokes
 pub mod FeatureParts
 pub mod ObjectParts

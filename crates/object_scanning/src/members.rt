@@ -6,11 +6,11 @@ ghost use Rattle.object_scanning.specs.FeatureParts.{ArcsStand, Holds, IsTypeOf,
 ghost use Rattle.value_scanning.specs.Fronts.{MemberFront};
 ghost use Rattle.value_scanning.specs.MemberLists.{ReadsMembers, TakesMember};
 
-use crate::polygons::shape_at;
 use arc_scanning::places_shape_at;
 use decimal_json::{after_word, member_at, skip, value_at};
 use geojson_types::{Counts, Properties};
 use json_value::{Items, Json};
+use line_scanning::shape_at;
 use properties_scanning::properties_at;
 use std::alloc::Global;
 use topojson_meaning::{ArcsType, GeometryType, PlacesType};

@@ -22,7 +22,8 @@ use Rattle.value_scanning.proofs.Texts.{whole}
 use Rattle.object_scanning.proofs.FeatureMeans.{needed_is}
 use Rattle.topology_scanning.specs.declared.members.Found.{Found}
 use Rattle.topology_scanning.specs.declared.members.Parts.{Parts}
-use Rattle.topology_scanning.specs.TopologyParts.{ArcsStand, AreArcs, AreObjects, GivesTransform, Holds, SpellsParts, SpellsTopology, nothing}
+use Rattle.transform_scanning.specs.Transforms.{GivesTransform}
+use Rattle.topology_scanning.specs.TopologyParts.{ArcsStand, AreArcs, AreObjects, Holds, SpellsParts, SpellsTopology, nothing}
 use Rattle.topology_scanning.proofs.MemberParts.{nothing_held}
 
 pub parts_spelled : (bytes inside end : List ℕ) (found : Found) (parts : Parts) (old new : Counts) → skip (without bytes (after_word mark bytes)) ≡ 123 ∷ inside

@@ -6,13 +6,11 @@ use Rattle.json_value.specs.Grammar.{Reads}
 use Rattle.geojson_types.specs.declared.counts.Counts.{Counts}
 use Rattle.geojson_types.specs.Counting.{no_counts}
 use Rattle.topojson_types.specs.declared.object.TopoObject.{TopoObject}
-use Rattle.topojson_types.specs.declared.transform.Transform.{Transform}
 use Rattle.topojson_types.specs.Topologies.{Contents}
 use Rattle.topojson_meaning.specs.Arcs.{arc_list}
 use Rattle.topojson_meaning.specs.Members.{Members, named}
 use Rattle.topojson_meaning.specs.Objects.{objects}
 use Rattle.topojson_meaning.specs.Topologies.{topology}
-use Rattle.topojson_meaning.specs.Transforms.{transform_if}
 use Rattle.value_scanning.specs.Fronts.{FrontAt}
 use Rattle.topology_scanning.specs.declared.members.Found.{Found}
 use Rattle.topology_scanning.specs.declared.members.Parts.{Parts}
@@ -43,10 +41,6 @@ pub record Holds (found : Found) (ms : Members) (parts : Parts) (old new : Count
 -- nothing was read
 abbrev pub nothing : Parts
 nothing = record { typed = false; arcs = false; transform = None; objects = None }
-
--- the value of the member `transform`, if it is there, gives this transform
-abbrev pub GivesTransform : Option Value → Option Transform → Type 0
-GivesTransform value transform = (counts : Counts) → transform_if value counts ≡ Ok (transform, counts)
 
 -- how deep the arrays and objects of a topology may nest
 abbrev pub topology_depth : ℕ

@@ -1,33 +1,19 @@
 // The members of a topology.
 ghost use Rattle.std.specs.Prelude.{◌≡◌, IfOk, IsTrue};
-ghost use Rattle.std.specs.Option.{option_copied};
 ghost use Rattle.geojson_types.specs.declared.counts.Counts.{Counts as Counted};
-ghost use Rattle.topology_scanning.specs.TopologyParts.{ArcsStand, GivesTransform, Holds, nothing};
+ghost use Rattle.topology_scanning.specs.TopologyParts.{ArcsStand, Holds, nothing};
 ghost use Rattle.value_scanning.specs.Fronts.{MemberFront};
 ghost use Rattle.value_scanning.specs.MemberLists.{ReadsMembers, TakesMember};
 
 use decimal_json::{after_word, member_at, skip, value_at};
 use geojson_types::Counts;
 use json_value::{Items, Json, OwnText};
-use object_scanning::{halt_of, objects_at};
+use object_scanning::objects_at;
 use std::alloc::Global;
-use topojson_arc_reading::transform_if;
 use topojson_types::{Cell, TopoObject, Transform};
+use transform_scanning::MEMBER_DEPTH;
 use unit_scanning::{Halt, after_byte};
 use value_scanning::{named_value, opened};
-
-/// How deep the arrays and objects of a topology's member may nest.
-pub const MEMBER_DEPTH: u32 = 254;
-
-/// The transform that the value of the member `transform` gives, if it is there.
-pub fn transform_of(alloc: Global, value: Option<&Json>) -> Result<Option<Transform>, Halt>
-    ensures { IfOk result (λ t. GivesTransform (option_copied value.entry) t) }
-{
-    match transform_if(alloc, value) {
-        Ok(transform) => Ok(transform),
-        Err(fault) => Err(halt_of(fault)),
-    }
-}
 
 /// The arcs of a topology, by a transform or without one, which were read before its members: where they stand, and what follows them.
 #[derive(Drop)]

@@ -1,23 +1,23 @@
 // Topologies.
 ghost use Rattle.std.specs.Prelude.{◌≡◌, ◌∷◌, Ok, IfOk, IsTrue, IsUtf8};
-ghost use Rattle.std.specs.Option.{option_copied};
 ghost use Rattle.json_value.specs.Reading as reading;
 ghost use Rattle.geojson_types.specs.declared.counts.Counts.{Counts as Counted};
 ghost use Rattle.json_value.specs.Grammar.{mark};
 ghost use Rattle.json_value.specs.declared.json.Json.TheVariants as j;
 ghost use Rattle.topojson_meaning.specs.Members.{Members};
 ghost use Rattle.topojson_meaning.specs.Topologies.{topology};
-ghost use Rattle.topology_scanning.specs.TopologyParts.{ArcsStand, GivesTransform, Holds, SpellsParts, SpellsTopology};
+ghost use Rattle.transform_scanning.specs.Transforms.{GivesTransform};
+ghost use Rattle.topology_scanning.specs.TopologyParts.{ArcsStand, Holds, SpellsParts, SpellsTopology};
 
-use crate::members::{Found, MEMBER_DEPTH, Parts, parts_at, transform_of};
-use crate::places::places_in;
+use crate::members::{Found, Parts, parts_at};
 use arc_scanning::arcs_at;
-use decimal_json::{skip, value_at};
+use decimal_json::skip;
 use geojson_types::Counts;
 use simdutf8::compat;
 use std::alloc::Global;
 use topojson_meaning::topology_is_valid;
 use topojson_types::{Topology, Transform};
+use transform_scanning::{are_same, places_in, transform_at, transform_of};
 use unit_scanning::Halt;
 use value_scanning::{opened, text_of};
 
@@ -26,36 +26,6 @@ fn inside_of(bytes: &[u8]) -> Result<&[u8], Halt>
     ensures { IfOk result (λ inside. reading.skip (reading.without bytes.now (reading.after_word mark bytes.now)) ≡ 123 ∷ inside.now) }
 {
     opened(b'{', skip(text_of(bytes)))
-}
-
-/// Whether both are the same numbers in the same texts.
-fn is_same(one: &Transform, other: &Transform) -> bool
-    ensures { IsTrue result → one.now ≡ other.now }
-{
-    one.scale.0.text() == other.scale.0.text()
-        && one.scale.1.text() == other.scale.1.text()
-        && one.translate.0.text() == other.translate.0.text()
-        && one.translate.1.text() == other.translate.1.text()
-}
-
-/// Whether both are none, or the same.
-fn are_same(one: Option<&Transform>, other: Option<&Transform>) -> bool
-    ensures { IsTrue result → option_copied one.entry ≡ option_copied other.entry }
-{
-    match (one, other) {
-        (None, None) => true,
-        (Some(one), Some(other)) => is_same(one, other),
-        _ => false,
-    }
-}
-
-/// The transform that the value at the front gives, if there is one.
-fn transform_at(alloc: Global, front: Option<&[u8]>) -> Result<Option<Transform>, Halt> {
-    let Some(front) = front else {
-        return Ok(None);
-    };
-    let (value, _rest) = value_at(alloc, MEMBER_DEPTH, front)?;
-    transform_of(alloc, Some(&value))
 }
 
 /// What the members of the object that the bytes spell give, on arcs that were read before them.

@@ -1,0 +1,2 @@
+pub mod StrokeParts
+pub mod ShapeParts

@@ -1,5 +1,5 @@
 // Reading layers.
-ghost use Rattle.std.specs.Prelude.{◌≡◌, IfSome, MatchResult};
+ghost use Rattle.std.specs.Prelude.{◌≡◌, Bool, IfErr, IfSome, MatchResult};
 ghost use Rattle.layer_sources.specs.Reading.{IsLayerOf, IsNoLayer, ReadsLayer, SpellsLayer};
 ghost use Rattle.layer_sources.specs.Sources.{plus, AllReadTo, FailsToReadAll};
 
@@ -11,7 +11,19 @@ use inputs::BuildFault;
 use json_value::OwnText;
 use layer_scanning::scan_layer;
 use std::alloc::Global;
+use text_checking::check;
 use unit_scanning::Halt;
+
+/// Checks that the bytes of the layer of this number spell a JSON value.
+fn check_text(alloc: Global, bytes: &[u8], layer: usize) -> Result<(), BuildFault>
+    ensures { IfErr result (λ e. (exact : Bool) → IsNoLayer layer exact bytes.now e) }
+{
+    match check(alloc, bytes, LAYER_DEPTH) {
+        Ok(()) => Ok(()),
+        Err(JsonFault::Memory) => Err(BuildFault::Memory),
+        Err(fault) => Err(BuildFault::Json { layer, fault }),
+    }
+}
 
 /// The layer of this number that the bytes spell, where they spell a FeatureCollection, or what is wrong with it. None for any other layer.
 fn collection_of(
@@ -61,8 +73,8 @@ fn value_layer(
 }
 
 /// The layer of this number that the bytes spell, and what was counted in it: read straight from the bytes where they are written as
-/// most programs write layers; else feature by feature where they spell a FeatureCollection, and else from the JSON value that they
-/// spell. These two tell what is wrong, if anything is.
+/// most programs write layers. Else the text is checked first, and then read feature by feature where it is a FeatureCollection, or by way
+/// of its JSON value where it is one feature: these tell what is wrong, if anything is.
 fn layer_of(
     alloc: Global,
     bytes: &[u8],
@@ -76,6 +88,7 @@ fn layer_of(
         Err(Halt::Memory) => return Err(BuildFault::Memory),
         Err(Halt::Unread) => {}
     }
+    check_text(alloc, bytes, layer)?;
     if let Some(read) = collection_of(alloc, bytes, layer, exact)? {
         return Ok(read);
     }

@@ -5,7 +5,6 @@ use Rattle.json_value.specs.declared.json.Json.{Json}
 use Rattle.geojson_types.specs.declared.counts.Counts.{Counts}
 use Rattle.geojson_types.specs.Counting.{no_counts}
 use Rattle.geojson_types.specs.Features.{Featured}
-use Rattle.geojson_model.specs.declared.fault.GeoFault.{GeoFault}
 use Rattle.geojson_model.specs.declared.fault.GeoFaultKind.{GeoFaultKind}
 use Rattle.geojson_model.specs.Features.{feature_element}
 use Rattle.geojson_model.specs.Layers.{features_from}
@@ -30,10 +29,6 @@ module _ (exact : Bool) (vs : List Json) (read : FeaturesRead) (h : AreRead exac
   module _ (v : Json) (ws : List Json) where
     joined : features_from exact 0 (vs ++ v ∷ ws) no_counts ≡ features_from exact 0 ((vs ++ v ∷ []) ++ ws) no_counts
     joined = ap (λ zs. features_from exact 0 zs no_counts) (sym (append_assoc vs (v ∷ []) ws))
-
-    -- a fault stays
-    pub stays : (e : GeoFault) → read.fault ≡ Some e → Err e ≡ features_from exact 0 ((vs ++ v ∷ []) ++ ws) no_counts
-    stays e is = rw is at (h (v ∷ ws)) ∙ joined
 
     module _ (none : read.fault ≡ None) where
       opened : n.with_features read.features.items (features_from exact (length read.features.items) (v ∷ ws) read.counts) ≡ features_from exact 0 (vs ++ v ∷ ws) no_counts

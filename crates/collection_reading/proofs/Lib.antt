@@ -1,4 +1,5 @@
 pub mod FeaturesFollow
 pub mod FeaturesSoFar
+pub mod FirstBytes
 pub mod MembersFollow
 pub mod LayerMeans

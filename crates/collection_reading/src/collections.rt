@@ -14,12 +14,13 @@ ghost use Rattle.collection_reading.specs.Outcomes.{CollectionStands, IsTold, Te
 use crate::features::FeaturesRead;
 use crate::members::{Seen, behind_value, name_at, take_features, take_type};
 use crate::refusal::Refusal;
-use decimal_json::{LAYER_DEPTH, skip, value_at};
+use decimal_json::{LAYER_DEPTH, after_word, skip};
 use geojson_model::{GeoFault, GeoFaultKind, GeoJsonType, geojson_type};
 use geojson_types::{Counts, Layer};
 use json_value::OwnText;
 use simdutf8::compat;
 use std::alloc::Global;
+use text_checking::after_value;
 use unit_scanning::{Halt, after_byte};
 use value_scanning::{Object, members_at, text_of};
 
@@ -121,14 +122,11 @@ fn value_told<'a>(
 ) -> Result<(Result<(Layer, Counts), Refusal>, &'a [u8]), Halt>
     ensures { IfOk result (λ x. ValueStands exact bytes.now x.0 x.1.now) }
 {
-    if let Some(inside) = after_byte(b'{', bytes) {
+    if let Some(inside) = after_word(b"{", bytes) {
         let (collection, rest) = collection_at(alloc, inside, exact)?;
         return Ok((layer_of(collection), rest));
     }
-    let (value, rest) = value_at(alloc, LAYER_DEPTH, bytes)?;
-    if value.into_object().is_some() {
-        return Err(Halt::Unread);
-    }
+    let rest = after_value(alloc, LAYER_DEPTH, bytes)?;
     Ok((Err(Refusal::from(GeoFaultKind::NotObject)), rest))
 }
 

@@ -1,15 +1,16 @@
 // The features of a collection, one after another.
-ghost use Rattle.std.specs.Prelude.{◌≡◌, ◌∷◌, ◌++◌, [], Bool, List, IfOk, None, Some};
+ghost use Rattle.std.specs.Prelude.{◌≡◌, ◌∷◌, ◌++◌, [], List, IfOk, None, Some};
 ghost use Rattle.json_members.specs.Answers.{Finds};
 ghost use Rattle.json_value.specs.declared.json.Json.{Json as Value};
 ghost use Rattle.collection_reading.specs.FeaturesRead.{AreRead, FeaturesStand, SomeFeatures, TakesFeature, outcome};
 ghost use Rattle.geojson_types.specs.Counting.{no_counts};
 
-use decimal_json::{skip, value_at};
+use decimal_json::{after_word, skip, value_at};
 use geojson_model::{GeoFault, GeoFaultKind, feature_element};
 use geojson_types::{Counts, Feature, Layer};
 use json_value::{Items, Json};
 use std::alloc::Global;
+use text_checking::after_value;
 use unit_scanning::{Halt, after_byte};
 use value_scanning::opened;
 
@@ -60,14 +61,16 @@ impl FeaturesRead {
         Ok(())
     }
 
-    /// Goes on with the element at the front, and gives what follows it.
+    /// Goes on with the element at the front, of which a value is made where there is no fault, and gives what follows it.
     fn element<'a>(&mut self, alloc: Global, bytes: &'a [u8], exact: bool) -> Result<&'a [u8], Halt>
         ensures { IfOk result (λ rest. TakesFeature exact self.old self.new bytes.now rest.now) }
     {
-        let (value, rest) = value_at(alloc, ELEMENT_DEPTH, bytes)?;
         if self.fault.is_none() {
+            let (value, rest) = value_at(alloc, ELEMENT_DEPTH, bytes)?;
             self.take(alloc, value, exact)?;
+            return Ok(rest);
         }
+        let rest = after_value(alloc, ELEMENT_DEPTH, bytes)?;
         Ok(rest)
     }
 
@@ -114,25 +117,14 @@ pub(crate) fn features_at<'a>(
 ) -> Result<(FeaturesRead, &'a [u8]), Halt>
     ensures { IfOk result (λ x. FeaturesStand exact bytes.now x.0 x.1.now) }
 {
-    let Some(inside) = after_byte(b'[', bytes) else {
-        let (read, rest) = no_array(alloc, bytes)?;
-        return Ok((read, rest));
+    let Some(inside) = after_word(b"[", bytes) else {
+        let rest = after_value(alloc, MEMBER_DEPTH, bytes)?;
+        let fault = GeoFault::from(GeoFaultKind::WrongKind);
+        return Ok((FeaturesRead::none(alloc, Some(fault)), rest));
     };
     if let Some(rest) = after_byte(b']', skip(inside)) {
         return Ok((FeaturesRead::none(alloc, None), rest));
     }
     let (read, rest) = elements_at(alloc, inside, exact)?;
     Ok((read, rest))
-}
-
-/// The fault of a value at the front that is no array.
-fn no_array<'a>(alloc: Global, bytes: &'a [u8]) -> Result<(FeaturesRead, &'a [u8]), Halt>
-    ensures { IfOk result (λ x. (exact : Bool) → FeaturesStand exact bytes.now x.0 x.1.now) }
-{
-    let (value, rest) = value_at(alloc, MEMBER_DEPTH, bytes)?;
-    if value.into_array().is_some() {
-        return Err(Halt::Unread);
-    }
-    let fault = GeoFault::from(GeoFaultKind::WrongKind);
-    Ok((FeaturesRead::none(alloc, Some(fault)), rest))
 }

@@ -9,6 +9,7 @@ use crate::features::{FeaturesRead, MEMBER_DEPTH, features_at};
 use decimal_json::{skip, string_at, value_at};
 use json_value::OwnText;
 use std::alloc::Global;
+use text_checking::after_value;
 use unit_scanning::Halt;
 use value_scanning::opened;
 
@@ -38,11 +39,11 @@ pub(crate) fn name_at<'a>(alloc: Global, bytes: &'a [u8]) -> Result<(OwnText, &'
     Ok((name, skip(behind)))
 }
 
-/// What follows the value of a member at the front.
+/// What follows the value of a member at the front. No value is made.
 pub(crate) fn behind_value<'a>(alloc: Global, bytes: &'a [u8]) -> Result<&'a [u8], Halt>
     ensures { IfOk result (λ rest. (v : Value) × FrontAt 126 bytes.now v rest.now) }
 {
-    let (_value, rest) = value_at(alloc, MEMBER_DEPTH, bytes)?;
+    let rest = after_value(alloc, MEMBER_DEPTH, bytes)?;
     Ok(rest)
 }
 

@@ -1,3 +1,2 @@
 pub mod FeaturesRead
-pub mod Members
 pub mod Outcomes

@@ -1,14 +1,17 @@
 // The features of a collection, one after another.
-ghost use Rattle.std.specs.Prelude.{◌≡◌, ◌∷◌, ◌++◌, [], List, IfOk, None, Some};
+ghost use Rattle.std.specs.Prelude.{◌≡◌, ◌∷◌, ◌++◌, [], List, IfOk, MatchOption, None, Some, length};
 ghost use Rattle.json_members.specs.Answers.{Finds};
 ghost use Rattle.json_value.specs.declared.json.Json.{Json as Value};
 ghost use Rattle.collection_reading.specs.FeaturesRead.{AreRead, FeaturesStand, SomeFeatures, TakesFeature, outcome};
+ghost use Rattle.geojson_model.specs.Reader.{fault_in};
 ghost use Rattle.geojson_types.specs.Counting.{no_counts};
 
 use decimal_json::{after_word, skip, value_at};
+use feature_faults::{Stop, element_checked};
 use geojson_model::{GeoFault, GeoFaultKind, feature_element};
 use geojson_types::{Counts, Feature, Layer};
 use json_value::{Items, Json};
+use layer_scanning::feature_at;
 use std::alloc::Global;
 use text_checking::after_value;
 use unit_scanning::{Halt, after_byte};
@@ -43,6 +46,15 @@ impl FeaturesRead {
         }
     }
 
+    /// Keeps the fault of the next feature, and lets those before it go.
+    fn refuse(&mut self, alloc: Global, kind: GeoFaultKind)
+        ensures { self.new.fault ≡ Some (fault_in (Some (length self.old.features.items)) kind) }
+    {
+        let feature = Some(self.features.len());
+        self.fault = Some(GeoFault { feature, kind });
+        self.features = Vec::new(alloc);
+    }
+
     /// Goes on with the feature that the value is, or with its fault.
     fn take(&mut self, alloc: Global, value: Json, exact: bool) -> Result<(), Halt>
         ensures { IfOk result (λ _. (vs : List Value) → self.old.fault ≡ None → AreRead exact vs self.old → AreRead exact (vs ++ value ∷ []) self.new) }
@@ -52,25 +64,67 @@ impl FeaturesRead {
                 if kind == GeoFaultKind::Memory {
                     return Err(Halt::Memory);
                 }
-                let feature = Some(self.features.len());
-                self.fault = Some(GeoFault { feature, kind });
-                self.features = Vec::new(alloc);
+                self.refuse(alloc, kind);
             }
             Ok(feature) => self.features.push(feature)?,
         }
         Ok(())
     }
 
-    /// Goes on with the element at the front, of which a value is made where there is no fault, and gives what follows it.
+    /// Goes on with the feature at the front, where it is written as most programs write it, and gives what follows it.
+    fn scan<'a>(
+        &mut self,
+        alloc: Global,
+        bytes: &'a [u8],
+        exact: bool,
+    ) -> Result<Option<&'a [u8]>, Halt>
+        ensures { IfOk result (λ found. self.old.fault ≡ None → MatchOption found (self.new ≡ self.old) (λ rest. TakesFeature exact self.old self.new bytes.now rest.now)) }
+    {
+        let mut counts = self.counts;
+        match feature_at(alloc, bytes, exact, &mut counts) {
+            Ok((feature, rest)) => {
+                self.features.push(feature)?;
+                self.counts = counts;
+                Ok(Some(rest))
+            }
+            Err(Halt::Unread) => Ok(None),
+            Err(Halt::Memory) => Err(Halt::Memory),
+        }
+    }
+
+    /// Goes on with the element at the front, of which a value is made, and gives what follows it.
+    fn read<'a>(&mut self, alloc: Global, bytes: &'a [u8], exact: bool) -> Result<&'a [u8], Halt>
+        ensures { IfOk result (λ rest. self.old.fault ≡ None → TakesFeature exact self.old self.new bytes.now rest.now) }
+    {
+        let (value, rest) = value_at(alloc, ELEMENT_DEPTH, bytes)?;
+        self.take(alloc, value, exact)?;
+        Ok(rest)
+    }
+
+    /// Goes on with the element at the front, and gives what follows it. A value is made of it only where it is written in a rare form and
+    /// has no fault, or is a GeometryCollection; and behind a fault nothing is looked at.
     fn element<'a>(&mut self, alloc: Global, bytes: &'a [u8], exact: bool) -> Result<&'a [u8], Halt>
         ensures { IfOk result (λ rest. TakesFeature exact self.old self.new bytes.now rest.now) }
     {
-        if self.fault.is_none() {
-            let (value, rest) = value_at(alloc, ELEMENT_DEPTH, bytes)?;
-            self.take(alloc, value, exact)?;
+        if self.fault.is_some() {
+            let rest = after_value(alloc, ELEMENT_DEPTH, bytes)?;
             return Ok(rest);
         }
-        let rest = after_value(alloc, ELEMENT_DEPTH, bytes)?;
+        if let Some(rest) = self.scan(alloc, bytes, exact)? {
+            return Ok(rest);
+        }
+        if let Err(Stop::Fault(kind)) = element_checked(
+            alloc,
+            ELEMENT_DEPTH,
+            bytes,
+            exact,
+            self.counts,
+        ) {
+            let rest = after_value(alloc, ELEMENT_DEPTH, bytes)?;
+            self.refuse(alloc, kind);
+            return Ok(rest);
+        }
+        let rest = self.read(alloc, bytes, exact)?;
         Ok(rest)
     }
 

@@ -1,10 +1,11 @@
 // Why a collection is not read.
 ghost use Rattle.std.specs.Prelude.{◌≡◌, None};
+ghost use Rattle.collection_reading.specs.Outcomes as spec;
 ghost use Rattle.collection_reading.specs.Outcomes.{refusal_of};
 ghost use Rattle.collection_reading.specs.declared.refusal.Refusal.TheVariants.{Geo};
 ghost use Rattle.geojson_model.specs.Reader.{fault_in};
 
-use decimal_json::Fault;
+use feature_faults::Stop;
 use geojson_model::{GeoFault, GeoFaultKind};
 use unit_scanning::Halt;
 
@@ -13,17 +14,9 @@ use unit_scanning::Halt;
 pub enum Refusal {
     /// The value is no layer, for this fault.
     Geo(GeoFault),
-    /// A Feature or a bare geometry, or no value. This says nothing of the bytes.
+    /// No value, or a Feature or a bare geometry in which no fault was found. This says nothing of the bytes.
     Unread,
     Memory,
-}
-
-impl From<GeoFault> for Refusal {
-    ghost from_gives = { λ fault e. e ≡ Geo fault };
-
-    fn from(fault: GeoFault) -> Refusal {
-        Refusal::Geo(fault)
-    }
 }
 
 /// Before any feature begins.
@@ -46,5 +39,26 @@ impl From<Halt> for Refusal {
             Halt::Unread => Refusal::Unread,
             Halt::Memory => Refusal::Memory,
         }
+    }
+}
+
+/// Why a check ended, in the feature of this number, or in none.
+pub(crate) fn refused(feature: Option<usize>, stop: Stop) -> Refusal
+    ensures { result ≡ spec.refused feature stop }
+{
+    match stop {
+        Stop::Fault(kind) => Refusal::Geo(GeoFault { feature, kind }),
+        Stop::Unread => Refusal::Unread,
+        Stop::Memory => Refusal::Memory,
+    }
+}
+
+/// What the check of a layer's one feature says of the layer.
+pub(crate) fn single(checked: Result<(), Stop>) -> Refusal
+    ensures { result ≡ spec.single checked }
+{
+    match checked {
+        Ok(()) => Refusal::Unread,
+        Err(stop) => refused(Some(0), stop),
     }
 }

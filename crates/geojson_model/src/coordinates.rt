@@ -54,7 +54,7 @@ pub(crate) fn elements_position(
 
 /// A position.
 #[tactic(auto, unfolding(crate::specs::Coordinates::position))]
-fn position(value: &Json, exact: bool, counts: &mut Counts) -> Result<Position, GeoFaultKind>
+pub fn position(value: &Json, exact: bool, counts: &mut Counts) -> Result<Position, GeoFaultKind>
     ensures { Gives (λ p. p) result counts.new (spec.position exact value.now counts.old) }
 {
     match value.as_array() {

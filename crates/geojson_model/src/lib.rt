@@ -14,6 +14,7 @@ mod polygons;
 mod reading;
 mod types;
 
+pub use coordinates::position;
 pub use fault::{GeoFault, GeoFaultKind};
 pub use features::{feature_element, identifier, members_if};
 pub use geojson_types::{
@@ -26,4 +27,4 @@ pub use laws::{
     texts_stay,
 };
 pub use reading::{read_layer, read_shape};
-pub use types::{CoordinatesType, GeoJsonType, GeometryType, geojson_type};
+pub use types::{CoordinatesType, GeoJsonType, GeometryType, geojson_type, geometry_type};

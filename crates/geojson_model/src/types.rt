@@ -52,7 +52,7 @@ fn coordinates_type(name: &str) -> Option<CoordinatesType>
 
 /// The geometry type of this name.
 #[tactic(auto, unfolding(crate::specs::Types::geometry_type))]
-pub(crate) fn geometry_type(name: &str) -> Option<GeometryType>
+pub fn geometry_type(name: &str) -> Option<GeometryType>
     ensures { result ≡ spec.geometry_type name.now }
 {
     if name == "GeometryCollection" {

@@ -105,7 +105,7 @@ fn areas_of(read: Option<Items<Items<Ring>>>) -> Option<Shape>
 }
 
 /// The shape that the coordinates at the front are by this type, if something is left of it, and what follows it.
-fn coordinates_at<'a>(
+pub fn coordinates_at<'a>(
     alloc: Global,
     coordinates: CoordinatesType,
     bytes: &'a [u8],

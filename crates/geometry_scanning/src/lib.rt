@@ -10,6 +10,6 @@ mod lines;
 mod positions;
 
 pub use arrays::{Element, array_at, elements, elements_behind};
-pub use geometries::geometry_at;
+pub use geometries::{coordinates_at, geometry_at};
 pub use lines::{line_at, polygon_at, ring_at};
 pub use positions::position_at;

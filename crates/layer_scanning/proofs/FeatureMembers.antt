@@ -13,8 +13,10 @@ use Rattle.geojson_types.specs.declared.counts.Counts.{Counts}
 use Rattle.geojson_types.specs.Features.{Shape, is_proper_option}
 use Rattle.geojson_model.specs.declared.fault.GeoFaultKind.{GeoFaultKind}
 use Rattle.geojson_model.specs.Features.{members_if}
-use Rattle.geojson_model.specs.Geometries.{shape, geometry}
-use Rattle.geojson_model.specs.Members.{named}
+use Rattle.geojson_model.specs.declared.types.CoordinatesType.{CoordinatesType}
+use Rattle.geojson_model.specs.declared.types.GeometryType.TheVariants.{Coordinates}
+use Rattle.geojson_model.specs.Geometries.{shape, geometry, typed_geometry, coordinates_shape}
+use Rattle.geojson_model.specs.Members.{named, need}
 use Rattle.geojson_model.specs.Reader.{Reader, ◌>>=◌, pure, if_some}
 use Rattle.geojson_model.proofs.Proper.{object_proper}
 use Rattle.geojson_model.proofs.Unrolled.{shape_object, shape_other}
@@ -57,6 +59,14 @@ shape_member exact bytes rest x c new s = record { value = s.value; front = s.fr
 
 pub tree_shape : (exact : Bool) (bytes rest : List ℕ) (v : Json) (x : Option Shape) (c new : Counts) → value_at any 124 bytes ≡ Some (v, rest) → shape exact v c ≡ Ok (x, new) → Stands (FrontAt 124) (geometry_member exact) bytes x rest c new
 tree_shape exact bytes rest v x c new found means = record { value = v; front = found; means = value_shape exact v x c new means }
+
+-- of a geometry that is read by its members
+pub members_shape : (exact : Bool) (bytes rest : List ℕ) (v : Json) (ms : List (List ℕ × Json)) (x : Option Shape) (c new : Counts) → FrontAt 124 bytes v rest → v ≡ j.Object ms → geometry exact ms c ≡ Ok (x, new) → Stands (FrontAt 124) (geometry_member exact) bytes x rest c new
+members_shape exact bytes rest v ms x c new found is means = record { value = v; front = found; means = ap (λ w. geometry_member exact w c) is ∙ object_shape exact ms x c new means }
+
+pub one_coordinates : (exact : Bool) (type : CoordinatesType) (ms : List (List ℕ × Json)) (v : Json) (c : Counts) → named (codes "coordinates") ms ≡ v ∷ [] → typed_geometry exact (Coordinates type) ms c ≡ coordinates_shape exact type v c
+unfolding typed_geometry need
+one_coordinates exact type ms v c h = rw h refl
 
 proper_by : (exact : Bool) (r : Result (Option (List (List ℕ × Json))) GeoFaultKind) (x : Option Shape) (c new : Counts) → (pure r >>= λ o. if_some (geometry exact) o) c ≡ Ok (x, new) → is_proper_option x ≡ true
 proper_by exact (Ok o) x c new h = object_proper exact o c new x h

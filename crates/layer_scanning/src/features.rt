@@ -1,6 +1,9 @@
 // Features.
-ghost use Rattle.std.specs.Prelude.{◌≡◌, ◌++◌, Bool, List, IfOk, None, bytes_eq, codes, false};
+ghost use Rattle.std.specs.Prelude.{◌≡◌, ◌++◌, Bool, List, IfOk, None, Ok, bytes_eq, codes, false};
+ghost use Rattle.feature_faults.specs.Fronts.{Shows};
 ghost use Rattle.geojson_model.specs.Features.{feature_element};
+ghost use Rattle.geojson_model.specs.Geometries.{geometry};
+ghost use Rattle.geojson_model.specs.Members.{Members};
 ghost use Rattle.geojson_types.specs.Features.{Featured};
 ghost use Rattle.geojson_types.specs.declared.counts.Counts.{Counts as Counted};
 ghost use Rattle.value_scanning.specs.Fronts.{FrontAt, MemberFront, MoreStand, Stands, one};
@@ -8,9 +11,10 @@ ghost use Rattle.value_scanning.specs.MemberLists.{TakesMember};
 ghost use Rattle.layer_scanning.specs.FeatureParts.{Holds, geometry_member, given};
 
 use decimal_json::{after_word, member_at, skip, value_at};
-use geojson_model::{identifier, read_shape};
+use feature_faults::{Fronts, Seen, Stop, geometry_checked, object_at, type_name};
+use geojson_model::{GeometryType, geometry_type, identifier, read_shape};
 use geojson_types::{Counts, Feature, Properties, Shape};
-use geometry_scanning::geometry_at;
+use geometry_scanning::{coordinates_at, geometry_at};
 use json_value::Json;
 use properties_scanning::properties_at;
 use std::alloc::Global;
@@ -20,8 +24,69 @@ use value_scanning::{Object, members_at, named_value, opened};
 /// How deep the arrays and objects of a feature's member may nest.
 const MEMBER_DEPTH: u32 = 124;
 
-/// The shape that the value of `geometry` at the front gives, and what follows it: where the geometry isn't written as most programs
-/// write it, it is read from the JSON value that stands there, which is let go behind it.
+/// And how deep those of a member of its geometry.
+const GEOMETRY_MEMBER_DEPTH: u32 = 123;
+
+/// The shape of the geometry whose members begin there, in any order and with others among them. A GeometryCollection isn't read.
+fn shape_by_members(
+    alloc: Global,
+    fronts: &Fronts<'_>,
+    exact: bool,
+    counts: &mut Counts,
+) -> Result<Option<Shape>, Halt>
+    ensures { IfOk result (λ shape. (ms : Members) → Shows 123 ms fronts.now → geometry exact ms counts.old ≡ Ok (shape, counts.new)) }
+{
+    let Ok(name) = type_name(alloc, GEOMETRY_MEMBER_DEPTH, fronts.name) else {
+        return Err(Halt::Unread);
+    };
+    let Some(GeometryType::Coordinates(coordinates)) = geometry_type(name.as_str()) else {
+        return Err(Halt::Unread);
+    };
+    let Seen::Once(front) = fronts.coordinates else {
+        return Err(Halt::Unread);
+    };
+    let (shape, _rest) = coordinates_at(alloc, coordinates, front, exact, counts)?;
+    Ok(shape)
+}
+
+/// The shape of the geometry object at the front, which isn't written as most programs write it, and what follows it. A value is made of
+/// it only where it has no fault that is found without one.
+fn rare_shape_at<'a>(
+    alloc: Global,
+    bytes: &'a [u8],
+    exact: bool,
+    counts: &mut Counts,
+) -> Result<(Option<Shape>, &'a [u8]), Halt>
+    ensures { IfOk result (λ x. Stands (FrontAt 124) (geometry_member exact) bytes.now x.0 x.1.now counts.old counts.new) }
+{
+    let start = *counts;
+    let (found, rest) = object_at(alloc, MEMBER_DEPTH, bytes)?;
+    let Some(fronts) = found else {
+        return Err(Halt::Unread);
+    };
+    match shape_by_members(alloc, &fronts, exact, counts) {
+        Ok(shape) => return Ok((shape, rest)),
+        Err(Halt::Memory) => return Err(Halt::Memory),
+        Err(Halt::Unread) => {}
+    }
+    *counts = start;
+    if let Err(Stop::Fault(_)) = geometry_checked(
+        alloc,
+        GEOMETRY_MEMBER_DEPTH,
+        &fronts,
+        exact,
+        start,
+    ) {
+        return Err(Halt::Unread);
+    }
+    let (value, rest) = value_at(alloc, MEMBER_DEPTH, bytes)?;
+    match read_shape(alloc, &value, exact, counts) {
+        Ok(shape) => Ok((shape, rest)),
+        Err(_) => Err(Halt::Unread),
+    }
+}
+
+/// The shape that the value of `geometry` at the front gives, and what follows it.
 fn shape_at<'a>(
     alloc: Global,
     bytes: &'a [u8],
@@ -40,11 +105,7 @@ fn shape_at<'a>(
         Err(Halt::Unread) => {}
     }
     *counts = before;
-    let (value, rest) = value_at(alloc, MEMBER_DEPTH, bytes)?;
-    match read_shape(alloc, &value, exact, counts) {
-        Ok(shape) => Ok((shape, rest)),
-        Err(_) => Err(Halt::Unread),
-    }
+    rare_shape_at(alloc, bytes, exact, counts)
 }
 
 /// What was read of a feature's members: whether its type was, and what the others give.

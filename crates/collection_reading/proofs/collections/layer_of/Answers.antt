@@ -1,24 +1,26 @@
 use Rattle.std.proofs.Common.{Some, sym, ap, ◌∙◌}
-use Rattle.std.proofs.lemmas.Result.{err_from_is_err_and}
-use Rattle.collection_reading.proofs.LayerMeans.{type_fault, unknown_type, collection_layer}
+use Rattle.collection_reading.proofs.LayerMeans.{type_refused, unknown_type, known_type, collection, feature_told, geometry_told, single_told}
 use Rattle.collection_reading.proofs.collections.layer_of.Goals as goal
 
-pub returns-in_err-type_name : goal.returns-in_err-type_name
-returns-in_err-type_name c = λ exact ms old new h.
-    let p = err_from_is_err_and c.from_residual.result c.from_residual.ensures.1 in
-    rw (p.1, p.2) (type_fault exact ms c.in_err-type_name.field-0.0 (c.in_err-type_name.ensures ms h.type))
-
-pub returns-in_err-features_layer-in-Some-FeatureCollection : goal.returns-in_err-features_layer-in-Some-FeatureCollection
-returns-in_err-features_layer-in-Some-FeatureCollection c = λ exact ms old new h.
-    let p = err_from_is_err_and (c.from_residual-in_err-features_layer-in-Some-FeatureCollection).result (c.from_residual-in_err-features_layer-in-Some-FeatureCollection).ensures.1 in
-    rw (p.1, p.2)
-    (collection_layer exact ms c.in_ok-type_name.field-0.now _ (c.in_ok-type_name.ensures ms h.type) (ap Some (sym c.in-Some-FeatureCollection.field-0-is) ∙ c.in-Some-FeatureCollection.ensures)
-    ((c.in_err-features_layer-in-Some-FeatureCollection).ensures exact ms h.features))
+pub returns-in-Err : goal.returns-in-Err
+returns-in-Err c = λ ms h. rw c.refused.ensures (type_refused c.args.exact ms c.in-Err.stop (c.in-Err.ensures ms h.type))
 
 pub returns-in-None : goal.returns-in-None
-returns-in-None c = λ exact ms old new h. rw c.from.ensures (unknown_type exact ms c.in_ok-type_name.field-0.now (c.in_ok-type_name.ensures ms h.type) c.in-None.ensures)
+returns-in-None c = λ ms h. rw c.from.ensures (unknown_type c.args.exact ms c.in-Ok.name (c.in-Ok.ensures ms h.type) (rw c.as_str.ensures.text at c.in-None.ensures))
 
-pub returns-in_ok-features_layer-in-Some-FeatureCollection : goal.returns-in_ok-features_layer-in-Some-FeatureCollection
-returns-in_ok-features_layer-in-Some-FeatureCollection c = λ exact ms old new h.
-    collection_layer exact ms c.in_ok-type_name.field-0.now _ (c.in_ok-type_name.ensures ms h.type) (ap Some (sym c.in-Some-FeatureCollection.field-0-is) ∙ c.in-Some-FeatureCollection.ensures)
-    ((c.in_ok-features_layer-in-Some-FeatureCollection).ensures exact ms h.features)
+pub returns-in-Some-FeatureCollection : goal.returns-in-Some-FeatureCollection
+returns-in-Some-FeatureCollection c = λ ms h.
+    rw
+    (known_type c.args.exact ms c.in-Ok.name (c.in-Ok.ensures ms h.type) _ (ap Some (sym c.in-Some-FeatureCollection.field-0-is) ∙ rw c.as_str.ensures.text at c.in-Some-FeatureCollection.ensures), collection c.args.exact ms)
+    (c.features_layer.ensures ms h.features)
+
+pub returns-in-Some-Feature : goal.returns-in-Some-Feature
+returns-in-Some-Feature c = λ ms h.
+    let is = known_type c.args.exact ms c.in-Ok.name (c.in-Ok.ensures ms h.type) _ (ap Some (sym c.in-Some-Feature.field-0-is) ∙ rw c.as_str.ensures.text at c.in-Some-Feature.ensures) in
+    single_told _ _ (c.feature_checked-checked).result _ is c.single.ensures (feature_told c.args.exact ms (c.feature_checked-checked).result (rw c.none.ensures at ((c.feature_checked-checked).ensures ms h)))
+
+pub returns : goal.returns
+returns c = λ ms h.
+    let is = known_type c.args.exact ms c.in-Ok.name (c.in-Ok.ensures ms h.type) _ (ap Some (sym c.in-Some-Geometry.field-0-is) ∙ rw c.as_str.ensures.text at c.in-Some-Geometry.ensures) in
+    single_told _ _ (c.typed_checked-checked).result _ is (c.single-in-Some-Geometry).ensures
+    (geometry_told c.args.exact ms c.in-Some-Geometry.geometry (c.typed_checked-checked).result (rw (c.none-in-Some-Geometry).ensures at ((c.typed_checked-checked).ensures ms h)))

@@ -1,0 +1,4 @@
+pub mod FirstBytes
+pub mod ElementsSoFar
+pub mod Follow
+pub mod Shapes

@@ -1,0 +1,4 @@
+pub mod Seeing
+pub mod Showing
+pub mod GeometryParts
+pub mod FeatureParts

@@ -3,23 +3,12 @@ use Rattle.std.proofs.Common.{◌≡◌, ℕ, true, false, List, [], ◌∷◌, 
 use Rattle.std.specs.Prelude.{bytes_eq}
 use Rattle.std.specs.Borrow.{Bor}
 use Rattle.json_value.specs.declared.json.Json.{Json}
-use Rattle.json_value.specs.Reading.{skip, after_word, name_at, string_at, value_at}
-use Rattle.decimal_json.proofs.Opened.{member_found}
 use Rattle.geojson_model.specs.Members.{named}
-use Rattle.value_scanning.specs.Fronts.{any, FrontAt}
-use Rattle.value_scanning.proofs.BehindLists.{one_byte}
+use Rattle.value_scanning.specs.Fronts.{FrontAt}
 use Rattle.value_scanning.proofs.Named.{named_append, other_named, foreign_named}
 use Rattle.feature_faults.specs.declared.seen.Seen.{Seen}
 use Rattle.feature_faults.specs.declared.seen.Seen.TheVariants.{Never, Once, Again}
-use Rattle.feature_faults.specs.Fronts.{IsSeen, IsFront, IsNamed, SeesMore}
-
--- ---- a name
-
-pub is_named : (bytes inside name name_end behind : List ℕ) → bytes ≡ 34 ∷ inside → string_at any inside ≡ Some (name, name_end) → skip name_end ≡ 58 ∷ behind → IsNamed bytes name (skip behind)
-unfolding name_at after_word
-is_named bytes inside name name_end behind opens found colon d v rest front =
-    let named_so : name_at any bytes ≡ Some (name, name_end) = rw opens found in
-    member_found any (value_at any d) bytes name name_end named_so behind (one_byte 58 behind refl ∙ ap (after_word (58 ∷ [])) (sym colon)) v rest front
+use Rattle.feature_faults.specs.Fronts.{IsSeen, IsFront, SeesMore}
 
 this_named : (name : List ℕ) (m : List ℕ × Json) → bytes_eq m.0 name ≡ true → named name (m ∷ []) ≡ m.1 ∷ []
 unfolding named

@@ -5,12 +5,12 @@ use Rattle.json_value.specs.Reading.{skip, after_word}
 use Rattle.decimal_json.proofs.Opened.{object_found, is_closed}
 use Rattle.geojson_types.specs.Counting.{no_counts}
 use Rattle.geojson_model.specs.Members.{named}
-use Rattle.value_scanning.specs.Fronts.{any, FrontAt, MemberFront}
+use Rattle.value_scanning.specs.Fronts.{any, FrontAt, MemberFront, IsNamed}
 use Rattle.value_scanning.specs.MemberLists.{TakesMember, ReadsMembers}
 use Rattle.value_scanning.proofs.BehindLists.{one_byte}
 use Rattle.value_scanning.proofs.ObjectFronts.{object_value}
 use Rattle.feature_faults.specs.declared.fronts.Fronts.{Fronts}
-use Rattle.feature_faults.specs.Fronts.{IsNamed, Shows, Holds, MembersStand, nothing}
+use Rattle.feature_faults.specs.Fronts.{Shows, Holds, MembersStand, nothing}
 
 pub nothing_shown : (d : ℕ) → Shows d [] nothing
 unfolding named

@@ -6,7 +6,7 @@ use Rattle.json_value.specs.declared.json.Json.TheVariants as j
 use Rattle.json_value.specs.Kinds.{object_of}
 use Rattle.geojson_types.specs.declared.counts.Counts.{Counts}
 use Rattle.geojson_model.specs.Members.{named}
-use Rattle.value_scanning.specs.Fronts.{FrontAt, MemberFront}
+use Rattle.value_scanning.specs.Fronts.{FrontAt}
 use Rattle.feature_faults.specs.declared.fronts.Fronts.{Fronts}
 use Rattle.feature_faults.specs.declared.seen.Seen.{Seen}
 use Rattle.feature_faults.specs.declared.seen.Seen.TheVariants.{Never, Once, Again}
@@ -37,10 +37,6 @@ nothing = record { name = Never; features = Never; id = Never; properties = Neve
 -- the same, where nothing is counted
 abbrev pub Holds : ℕ → List (List ℕ × Json) → Fronts → Counts → Counts → Type 0
 Holds d ms fronts old new = Shows d ms fronts
-
--- a member of this name stands at the front, whose value stands at this front
-abbrev pub IsNamed : List ℕ → List ℕ → List ℕ → Type 0
-IsNamed bytes name value = (d : ℕ) (v : Json) (rest : List ℕ) → FrontAt d value v rest → MemberFront d bytes (name, v) rest
 
 -- With one more member, the values of a name are seen so. The first says whether it has the name, the second where its value begins.
 abbrev pub SeesMore : Bool → Bor (List ℕ) → Seen (Bor (List ℕ)) → Seen (Bor (List ℕ)) → Type 0

@@ -4,15 +4,14 @@ ghost use Rattle.geojson_types.specs.Counting.{no_counts};
 ghost use Rattle.json_value.specs.declared.json.Json.{Json as Value};
 ghost use Rattle.value_scanning.specs.Fronts.{MemberFront};
 ghost use Rattle.value_scanning.specs.MemberLists.{TakesMember};
-ghost use Rattle.feature_faults.specs.Fronts.{Holds, IsFront, IsNamed, MembersStand, ObjectStands, Shows, nothing};
+ghost use Rattle.feature_faults.specs.Fronts.{Holds, IsFront, MembersStand, ObjectStands, Shows, nothing};
 
 use crate::seen::{Seen, see};
-use decimal_json::{after_word, skip, string_at};
-use json_value::OwnText;
+use decimal_json::{after_word, skip};
 use std::alloc::Global;
 use text_checking::after_value;
 use unit_scanning::{Halt, after_byte};
-use value_scanning::opened;
+use value_scanning::{name_at, opened};
 
 /// Where the values of those members of an object begin that say something of a collection, of a feature or of a geometry.
 #[derive(Clone, Copy)]
@@ -24,16 +23,6 @@ pub struct Fronts<'a> {
     pub properties: Seen<&'a [u8]>,
     pub geometry: Seen<&'a [u8]>,
     pub coordinates: Seen<&'a [u8]>,
-}
-
-/// The name of the member at the front, and the front of its value.
-fn name_at<'a>(alloc: Global, bytes: &'a [u8]) -> Result<(OwnText, &'a [u8]), Halt>
-    ensures { IfOk result (λ x. IsNamed bytes.now x.0 x.1.now) }
-{
-    let inside = opened(b'"', bytes)?;
-    let (name, name_end) = string_at(alloc, inside)?;
-    let behind = opened(b':', skip(name_end))?;
-    Ok((name, skip(behind)))
 }
 
 impl<'a> Fronts<'a> {

@@ -3,8 +3,10 @@ use Rattle.std.proofs.Common.{◌≡◌, ℕ, ◌≤◌, Bool, true, false, List
 use Rattle.std.specs.Prelude.{codes, bytes_eq, IsUtf8}
 use Rattle.std.proofs.lemmas.Slice.Eq.{bytes_eq-Decides}
 use Rattle.json_value.specs.declared.json.Json.{Json}
+use Rattle.json_value.specs.declared.json.Json.TheVariants as j
 use Rattle.json_value.specs.Grammar.{mark}
 use Rattle.json_value.specs.Kinds.{object_of}
+use Rattle.json_value.proofs.KindsOf.{object_of-object}
 use Rattle.json_value.proofs.Nesting.{reads_no_deeper, reads_deeper}
 use Rattle.json_value.specs.Reading.{skip, after_word, without, value_at}
 use Rattle.decimal_json.proofs.TextsRead.{text_takes}
@@ -13,6 +15,8 @@ use Rattle.geojson_types.specs.Counting.{no_counts}
 use Rattle.geojson_types.specs.Features.{Shape, Featured}
 use Rattle.geojson_model.specs.declared.fault.GeoFaultKind.{GeoFaultKind}
 use Rattle.geojson_model.specs.declared.fault.GeoFaultKind.TheVariants.{UnknownType}
+use Rattle.geojson_model.specs.declared.types.GeoJsonType.TheVariants.{Geometry}
+use Rattle.geojson_model.specs.declared.types.GeometryType.{GeometryType}
 use Rattle.geojson_model.specs.Features.{feature, feature_element}
 use Rattle.geojson_model.specs.Geometries.{geometry, shape, typed_geometry}
 use Rattle.geojson_model.specs.Layers.{layer, features, typed_features, single_feature, bare, bare_feature}
@@ -86,6 +90,12 @@ unfolding layer features geometry
 shape_in exact v (Some ms) x new e h = rw e (geometry_layer exact ms (type_name ms) x new (ap (λ (r : Reader (Option Shape)). r no_counts) (sym (shape_object exact v ms e)) ∙ h))
 shape_in exact v None x new e h = (let wrong = ap (λ (r : Reader (Option Shape)). r no_counts) (shape_other exact v e) in absurd cc)
 
+-- one of this type, by its members
+typed_layer : (exact : Bool) (ms : Members) (name : List ℕ) (type : GeometryType) (x : Option Shape) (new : Counts) → type_name ms ≡ Ok name → Some (Geometry type) ≡ geojson_type name → typed_geometry exact type ms no_counts ≡ Ok (x, new)
+    → layer exact (j.Object ms) ≡ Ok (bare x ∷ [], new)
+unfolding layer features typed_features bare_feature
+typed_layer exact ms name type x new named is means = rw (object_of-object ms, named, ← is, means) refl
+
 -- ---- the text
 
 text_spells : (exact : Bool) (d : ℕ) (bytes text end : List ℕ) (v : Json) (f : Featured) (new : Counts) → IsUtf8 bytes → text ≡ without bytes (after_word mark bytes) → value_at any d (skip text) ≡ Some (v, end) → skip end ≡ [] → d ≤ 127
@@ -101,3 +111,8 @@ feature_spells exact bytes text end f new utf8 is s nothing = text_spells exact 
 pub geometry_spells : (exact : Bool) (bytes text end : List ℕ) (x : Option Shape) (new : Counts) → IsUtf8 bytes → text ≡ without bytes (after_word mark bytes) → Stands (Front 5) (shape exact) (skip text) x end no_counts new → skip end ≡ []
     → SpellsLayer exact bytes (bare x ∷ []) new
 geometry_spells exact bytes text end x new utf8 is s nothing = text_spells exact 127 bytes text end s.value (bare x) new utf8 is (s.front 127 (omega arith)) nothing (omega arith) (shape_in exact s.value (object_of s.value) x new refl s.means)
+
+pub members_spell : (exact : Bool) (bytes text end : List ℕ) (v : Json) (ms : Members) (name : List ℕ) (type : GeometryType) (x : Option Shape) (new : Counts) → IsUtf8 bytes → text ≡ without bytes (after_word mark bytes) → FrontAt 127 (skip text) v end → skip end ≡ []
+    → v ≡ j.Object ms → type_name ms ≡ Ok name → Some (Geometry type) ≡ geojson_type name → typed_geometry exact type ms no_counts ≡ Ok (x, new) → SpellsLayer exact bytes (bare x ∷ []) new
+members_spell exact bytes text end v ms name type x new utf8 is found nothing object named typed means =
+    text_spells exact 127 bytes text end v (bare x) new utf8 is found nothing (omega arith) (ap (layer exact) object ∙ typed_layer exact ms name type x new named typed means)

@@ -7,12 +7,12 @@ ghost use Rattle.layer_scanning.specs.CollectionParts.{Contains, FeaturesStand, 
 ghost use Rattle.layer_scanning.specs.declared.collections.Collection.{Collection as Collected};
 
 use crate::features::{feature_at, features_behind};
-use decimal_json::{after_word, member_at, skip};
+use decimal_json::{after_word, skip};
 use geojson_types::{Counts, Feature, Layer};
 use json_value::Items;
 use std::alloc::Global;
 use unit_scanning::{Halt, after_byte};
-use value_scanning::{Object, members_at, named_value, opened, text_of};
+use value_scanning::{Object, members_at, named_value, opened, passed_member, text_of};
 
 /// How deep the arrays and objects of a collection's member may nest.
 const MEMBER_DEPTH: u32 = 126;
@@ -55,7 +55,7 @@ fn is_known(name: &str) -> bool
 fn behind_other<'a>(alloc: Global, bytes: &'a [u8]) -> Result<&'a [u8], Halt>
     ensures { IfOk result (λ rest. (exact : Bool) (collection : Collected) (counts : Counted) → TakesMember (MemberFront 126) (Contains exact) collection collection bytes.now rest.now counts counts) }
 {
-    let (name, _value, rest) = member_at(alloc, MEMBER_DEPTH, bytes)?;
+    let (name, rest) = passed_member(alloc, MEMBER_DEPTH, bytes)?;
     if is_known(name.as_str()) {
         return Err(Halt::Unread);
     }

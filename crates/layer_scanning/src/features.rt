@@ -1,8 +1,8 @@
 // Features.
-ghost use Rattle.std.specs.Prelude.{◌≡◌, ◌++◌, Bool, List, IfOk, None, Ok, bytes_eq, codes, false};
+ghost use Rattle.std.specs.Prelude.{◌≡◌, ℕ, ◌≤◌, ◌++◌, Bool, List, IfOk, None, Ok, bytes_eq, codes, false};
 ghost use Rattle.feature_faults.specs.Fronts.{Shows};
 ghost use Rattle.geojson_model.specs.Features.{feature_element};
-ghost use Rattle.geojson_model.specs.Geometries.{geometry};
+ghost use Rattle.geojson_model.specs.Geometries.{geometry, typed_geometry};
 ghost use Rattle.geojson_model.specs.Members.{Members};
 ghost use Rattle.geojson_types.specs.Features.{Featured};
 ghost use Rattle.geojson_types.specs.declared.counts.Counts.{Counts as Counted};
@@ -10,7 +10,7 @@ ghost use Rattle.value_scanning.specs.Fronts.{FrontAt, MemberFront, MoreStand, S
 ghost use Rattle.value_scanning.specs.MemberLists.{TakesMember};
 ghost use Rattle.layer_scanning.specs.FeatureParts.{Holds, geometry_member, given};
 
-use decimal_json::{after_word, member_at, skip, value_at};
+use decimal_json::{after_word, skip, value_at};
 use feature_faults::{Fronts, Seen, Stop, geometry_checked, object_at, type_name};
 use geojson_model::{GeometryType, geometry_type, identifier, read_shape};
 use geojson_types::{Counts, Feature, Properties, Shape};
@@ -19,7 +19,7 @@ use json_value::Json;
 use properties_scanning::properties_at;
 use std::alloc::Global;
 use unit_scanning::{Halt, after_byte};
-use value_scanning::{Object, members_at, named_value, opened};
+use value_scanning::{Object, members_at, named_value, opened, passed_member};
 
 /// How deep the arrays and objects of a feature's member may nest.
 const MEMBER_DEPTH: u32 = 124;
@@ -27,7 +27,28 @@ const MEMBER_DEPTH: u32 = 124;
 /// And how deep those of a member of its geometry.
 const GEOMETRY_MEMBER_DEPTH: u32 = 123;
 
-/// The shape of the geometry whose members begin there, in any order and with others among them. A GeometryCollection isn't read.
+/// The shape of the geometry of this type whose members begin there, in any order and with others among them. A GeometryCollection isn't
+/// read.
+pub(crate) fn typed_shape(
+    alloc: Global,
+    geometry: GeometryType,
+    fronts: &Fronts<'_>,
+    exact: bool,
+    counts: &mut Counts,
+) -> Result<Option<Shape>, Halt>
+    ensures { IfOk result (λ shape. (deep : ℕ) (ms : Members) → 4 ≤ deep → Shows deep ms fronts.now → typed_geometry exact geometry ms counts.old ≡ Ok (shape, counts.new)) }
+{
+    let GeometryType::Coordinates(coordinates) = geometry else {
+        return Err(Halt::Unread);
+    };
+    let Seen::Once(front) = fronts.coordinates else {
+        return Err(Halt::Unread);
+    };
+    let (shape, _rest) = coordinates_at(alloc, coordinates, front, exact, counts)?;
+    Ok(shape)
+}
+
+/// The shape of the geometry whose members begin there.
 fn shape_by_members(
     alloc: Global,
     fronts: &Fronts<'_>,
@@ -39,13 +60,10 @@ fn shape_by_members(
     let Ok(name) = type_name(alloc, GEOMETRY_MEMBER_DEPTH, fronts.name) else {
         return Err(Halt::Unread);
     };
-    let Some(GeometryType::Coordinates(coordinates)) = geometry_type(name.as_str()) else {
+    let Some(geometry) = geometry_type(name.as_str()) else {
         return Err(Halt::Unread);
     };
-    let Seen::Once(front) = fronts.coordinates else {
-        return Err(Halt::Unread);
-    };
-    let (shape, _rest) = coordinates_at(alloc, coordinates, front, exact, counts)?;
+    let shape = typed_shape(alloc, geometry, fronts, exact, counts)?;
     Ok(shape)
 }
 
@@ -131,7 +149,7 @@ fn is_known(name: &str) -> bool
 fn behind_other<'a>(alloc: Global, bytes: &'a [u8]) -> Result<&'a [u8], Halt>
     ensures { IfOk result (λ rest. (exact : Bool) (parts : Parts) (counts : Counted) → TakesMember (MemberFront 124) (Holds exact) parts parts bytes.now rest.now counts counts) }
 {
-    let (name, _value, rest) = member_at(alloc, MEMBER_DEPTH, bytes)?;
+    let (name, rest) = passed_member(alloc, MEMBER_DEPTH, bytes)?;
     if is_known(name.as_str()) {
         return Err(Halt::Unread);
     }

@@ -7,7 +7,7 @@ ghost use Rattle.value_scanning.specs.Fronts.{MemberFront};
 ghost use Rattle.value_scanning.specs.MemberLists.{ReadsMembers, TakesMember};
 
 use arc_scanning::places_shape_at;
-use decimal_json::{after_word, member_at, skip, value_at};
+use decimal_json::{after_word, skip, value_at};
 use geojson_types::{Counts, Properties};
 use json_value::{Items, Json};
 use line_scanning::shape_at;
@@ -16,7 +16,7 @@ use std::alloc::Global;
 use topojson_meaning::{ArcsType, GeometryType, PlacesType};
 use topojson_types::{Cell, TopoShape, Transform};
 use unit_scanning::{Halt, after_byte};
-use value_scanning::{named_value, opened};
+use value_scanning::{named_value, opened, passed_member};
 
 /// How deep the arrays and objects of a feature's member may nest.
 const MEMBER_DEPTH: u32 = 250;
@@ -149,7 +149,7 @@ impl Parts {
             self.id = Some(value);
             return Ok(rest);
         }
-        let (name, _value, rest) = member_at(alloc, MEMBER_DEPTH, bytes)?;
+        let (name, rest) = passed_member(alloc, MEMBER_DEPTH, bytes)?;
         let name = name.as_str();
         if name == "arcs" {
             return Err(Halt::Unread);

@@ -5,7 +5,7 @@ ghost use Rattle.topology_scanning.specs.TopologyParts.{ArcsStand, Holds, nothin
 ghost use Rattle.value_scanning.specs.Fronts.{MemberFront};
 ghost use Rattle.value_scanning.specs.MemberLists.{ReadsMembers, TakesMember};
 
-use decimal_json::{after_word, member_at, skip, value_at};
+use decimal_json::{after_word, skip, value_at};
 use geojson_types::Counts;
 use json_value::{Items, Json, OwnText};
 use object_scanning::objects_at;
@@ -13,7 +13,7 @@ use std::alloc::Global;
 use topojson_types::{Cell, TopoObject, Transform};
 use transform_scanning::MEMBER_DEPTH;
 use unit_scanning::{Halt, after_byte};
-use value_scanning::{named_value, opened};
+use value_scanning::{named_value, opened, passed_member};
 
 /// The arcs of a topology, by a transform or without one, which were read before its members: where they stand, and what follows them.
 #[derive(Drop)]
@@ -102,7 +102,7 @@ impl Parts {
             self.typed = true;
             return Ok(rest);
         }
-        let (name, _value, rest) = member_at(alloc, MEMBER_DEPTH, bytes)?;
+        let (name, rest) = passed_member(alloc, MEMBER_DEPTH, bytes)?;
         let name = name.as_str();
         if name == "arcs" {
             return Err(Halt::Unread);

@@ -8,9 +8,9 @@ use Rattle.std.specs.Str.{is_utf8}
 use Rattle.json_value.specs.declared.json.Json.{Json}
 use Rattle.json_value.specs.declared.json.Json.TheVariants as j
 use Rattle.json_value.specs.Grammar.{is_plain}
-use Rattle.json_value.specs.Reading.{after_word, after_plain, plain_front, chars_at, chars_after, if_text, string_at, name_at, member_at, value_at}
+use Rattle.json_value.specs.Reading.{skip, after_word, after_plain, plain_front, chars_at, chars_after, if_text, string_at, name_at, member_at, value_at}
 use Rattle.decimal_json.proofs.Opened.{member_found, text_found}
-use Rattle.value_scanning.specs.Fronts.{any, Front, NamedValue}
+use Rattle.value_scanning.specs.Fronts.{any, Front, IsNamed, NamedValue}
 use Rattle.value_scanning.proofs.BehindLists.{one_byte}
 
 -- an ASCII byte that stands for itself
@@ -68,3 +68,10 @@ pub member_is : (d : ℕ) (word name bytes value : List ℕ) (v : Json) (rest : 
 member_is d word name bytes value v rest named h found =
     member_found any (value_at any d) bytes name h.name_end (ap (name_at any) h.name ∙ named h.name_end) h.behind (one_byte 58 h.behind refl ∙ ap (after_word (58 ∷ [])) (sym h.colon))
     v rest (ap (value_at any d) (sym h.value_is) ∙ found)
+
+-- any name in its quotation marks (34), and the front of its value
+pub is_named : (bytes inside name name_end behind : List ℕ) → bytes ≡ 34 ∷ inside → string_at any inside ≡ Some (name, name_end) → skip name_end ≡ 58 ∷ behind → IsNamed bytes name (skip behind)
+unfolding name_at after_word
+is_named bytes inside name name_end behind opens found colon d v rest front =
+    let named_so : name_at any bytes ≡ Some (name, name_end) = rw opens found in
+    member_found any (value_at any d) bytes name name_end named_so behind (one_byte 58 behind refl ∙ ap (after_word (58 ∷ [])) (sym colon)) v rest front

@@ -74,3 +74,7 @@ pub record NamedValue (word bytes value : List ℕ) : Type 0 where
   pub name : bytes ≡ word ++ name_end
   pub colon : skip name_end ≡ 58 ∷ behind
   pub value_is : value ≡ skip behind
+
+-- a member of this name stands at the front, whose value stands at this front
+abbrev pub IsNamed : List ℕ → List ℕ → List ℕ → Type 0
+IsNamed bytes name value = (d : ℕ) (v : Json) (rest : List ℕ) → FrontAt d value v rest → MemberFront d bytes (name, v) rest

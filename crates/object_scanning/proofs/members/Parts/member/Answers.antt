@@ -21,4 +21,4 @@ pub returns-in-Some-named_value-4 : goal.returns-in-Some-named_value-4
 returns-in-Some-named_value-4 c = take_id (option_copied c.args.transform) c.args.arcs.now c.args.bytes.now _ _ c.args.self.now c.args.counts.now _ c.in-Some-named_value-4.ensures (no_some _ (sym c.is_some-in-Some-named_value-4.ensures ∙ c.if-is_some-5.false)) c.in_ok-value.ensures
 
 pub returns : goal.returns
-returns c = take_foreign (option_copied c.args.transform) c.args.arcs.now c.args.bytes.now _ c.in_ok-name.name c.in_ok-name._value c.args.self.now c.args.counts.now c.in_ok-name.ensures (ap (λ z. bytes_eq z (codes "arcs")) (sym c.as_str-name.ensures.text) ∙ sym c.eq.ensures ∙ c.if-eq.false) (ap (λ z. bytes_eq z (codes "coordinates")) (sym c.as_str-name.ensures.text) ∙ sym c.eq-2.ensures ∙ c.if-eq-2.false) (ap (λ z. bytes_eq z (codes "properties")) (sym c.as_str-name.ensures.text) ∙ sym c.eq-3.ensures ∙ c.if-eq-3.false) (ap (λ z. bytes_eq z (codes "type")) (sym c.as_str-name.ensures.text) ∙ sym c.eq-4.ensures ∙ c.if-eq-4.false) (ap (λ z. bytes_eq z (codes "id")) (sym c.as_str-name.ensures.text) ∙ sym c.eq-5.ensures ∙ c.if-eq-5.false)
+returns c = take_foreign (option_copied c.args.transform) c.args.arcs.now c.args.bytes.now _ c.in_ok-name.name c.in_ok-name.ensures.0 c.args.self.now c.args.counts.now c.in_ok-name.ensures.1 (ap (λ z. bytes_eq z (codes "arcs")) (sym c.as_str-name.ensures.text) ∙ sym c.eq.ensures ∙ c.if-eq.false) (ap (λ z. bytes_eq z (codes "coordinates")) (sym c.as_str-name.ensures.text) ∙ sym c.eq-2.ensures ∙ c.if-eq-2.false) (ap (λ z. bytes_eq z (codes "properties")) (sym c.as_str-name.ensures.text) ∙ sym c.eq-3.ensures ∙ c.if-eq-3.false) (ap (λ z. bytes_eq z (codes "type")) (sym c.as_str-name.ensures.text) ∙ sym c.eq-4.ensures ∙ c.if-eq-4.false) (ap (λ z. bytes_eq z (codes "id")) (sym c.as_str-name.ensures.text) ∙ sym c.eq-5.ensures ∙ c.if-eq-5.false)

@@ -17,4 +17,4 @@ pub returns-in-Some-named_value-3 : goal.returns-in-Some-named_value-3
 returns-in-Some-named_value-3 c = take_type c.args.found.now c.args.bytes.now _ _ c.args.self.now c.args.counts.now c.in-Some-named_value-3.ensures c.if-self-2.false c.in-Some-after_word.ensures
 
 pub returns : goal.returns
-returns c = take_foreign c.args.found.now c.args.bytes.now _ c.in_ok-name.name c.in_ok-name._value c.args.self.now c.args.counts.now c.in_ok-name.ensures (ap (λ z. bytes_eq z (codes "arcs")) (sym c.as_str-name.ensures.text) ∙ sym c.eq.ensures ∙ c.if-eq.false) (ap (λ z. bytes_eq z (codes "objects")) (sym c.as_str-name.ensures.text) ∙ sym c.eq-2.ensures ∙ c.if-eq-2.false) (ap (λ z. bytes_eq z (codes "transform")) (sym c.as_str-name.ensures.text) ∙ sym c.eq-3.ensures ∙ c.if-eq-3.false) (ap (λ z. bytes_eq z (codes "type")) (sym c.as_str-name.ensures.text) ∙ sym c.eq-4.ensures ∙ c.if-eq-4.false)
+returns c = take_foreign c.args.found.now c.args.bytes.now _ c.in_ok-name.name c.in_ok-name.ensures.0 c.args.self.now c.args.counts.now c.in_ok-name.ensures.1 (ap (λ z. bytes_eq z (codes "arcs")) (sym c.as_str-name.ensures.text) ∙ sym c.eq.ensures ∙ c.if-eq.false) (ap (λ z. bytes_eq z (codes "objects")) (sym c.as_str-name.ensures.text) ∙ sym c.eq-2.ensures ∙ c.if-eq-2.false) (ap (λ z. bytes_eq z (codes "transform")) (sym c.as_str-name.ensures.text) ∙ sym c.eq-3.ensures ∙ c.if-eq-3.false) (ap (λ z. bytes_eq z (codes "type")) (sym c.as_str-name.ensures.text) ∙ sym c.eq-4.ensures ∙ c.if-eq-4.false)

@@ -1,7 +1,6 @@
 // Positions and cells.
 ghost use Rattle.std.specs.Prelude.{◌≡◌, ◌≤◌, ◌^◌, ◌∷◌, List, IfOk};
 ghost use Rattle.std.specs.Option.{option_copied};
-ghost use Rattle.geojson_types.specs.declared.counts.Counts.{Counts as Counted};
 ghost use Rattle.geometry.specs.Points.{Point};
 ghost use Rattle.topojson_meaning.specs.Arcs.{position, cell, difference_limit, place};
 ghost use Rattle.value_scanning.specs.Fronts.{Front, ListStands, Stands};
@@ -13,12 +12,12 @@ use std::alloc::Global;
 use topojson_arc_reading::grid_cell;
 use topojson_types::{Cell, GRID_LIMIT, Transform};
 use unit_scanning::{Halt, after_byte, expected, number_at, whole_at};
-use value_scanning::opened;
+use value_scanning::{further_at, opened};
 
 /// How far from zero a difference may be.
 const DIFFERENCE_LIMIT: u64 = 4_294_967_296;
 
-/// The position at the front (TopoJSON 1.0, section 2.1.1), and what follows it. One of more than two elements isn't read.
+/// The position at the front (TopoJSON 1.0, section 2.1.1), and what follows it.
 #[inline(always)]
 fn position_at<'a>(
     alloc: Global,
@@ -31,14 +30,15 @@ fn position_at<'a>(
     let (x, rest) = number_at(alloc, skip(inside))?;
     let second = expected(b',', rest)?;
     let (y, rest) = number_at(alloc, skip(second))?;
-    let end = expected(b']', rest)?;
+    let (more, end) = further_at(alloc, rest)?;
     counts.count_rounded(!x.exact);
     counts.count_rounded(!y.exact);
+    counts.count_extra(more);
     Ok((Cell::at(x.value, y.value), end))
 }
 
 /// The cell at the front, which stands as its difference from this one, and what follows it: the numbers of the difference are no farther
-/// from zero than the bound. One of more than two elements isn't read.
+/// from zero than the bound.
 #[inline(always)]
 fn cell_within<'a>(
     alloc: Global,
@@ -46,15 +46,17 @@ fn cell_within<'a>(
     bound: u64,
     before: Cell,
     bytes: &'a [u8],
+    counts: &mut Counts,
 ) -> Result<(Cell, &'a [u8]), Halt>
     requires { bound ≤ 2 ^ 32 }
-    ensures { IfOk result (λ x. (counts : Counted) → Stands (Front 1) (cell transform.now bound before) bytes.now x.0 x.1.now counts counts) }
+    ensures { IfOk result (λ x. Stands (Front 1) (cell transform.now bound before) bytes.now x.0 x.1.now counts.old counts.new) }
 {
     let inside = opened(b'[', bytes)?;
     let (x, rest) = whole_at(alloc, bound, skip(inside))?;
     let second = expected(b',', rest)?;
     let (y, rest) = whole_at(alloc, bound, skip(second))?;
-    let end = expected(b']', rest)?;
+    let (more, end) = further_at(alloc, rest)?;
+    counts.count_extra(more);
     match grid_cell(transform, before, Cell::at(x, y)) {
         Ok(cell) => Ok((cell, end)),
         Err(_) => Err(Halt::Unread),
@@ -68,14 +70,15 @@ fn difference_at<'a>(
     transform: &Transform,
     before: Cell,
     bytes: &'a [u8],
+    counts: &mut Counts,
 ) -> Result<(Cell, &'a [u8]), Halt>
-    ensures { IfOk result (λ x. (counts : Counted) → Stands (Front 1) (cell transform.now difference_limit before) bytes.now x.0 x.1.now counts counts) }
+    ensures { IfOk result (λ x. Stands (Front 1) (cell transform.now difference_limit before) bytes.now x.0 x.1.now counts.old counts.new) }
 {
-    cell_within(alloc, transform, DIFFERENCE_LIMIT, before, bytes)
+    cell_within(alloc, transform, DIFFERENCE_LIMIT, before, bytes, counts)
 }
 
 /// The place at the front, of a Point or in a MultiPoint, and what follows it. With a transform it is a cell that is no difference (section
-/// 2.1.2). One of more than two elements isn't read.
+/// 2.1.2).
 #[inline(always)]
 pub fn place_at<'a>(
     alloc: Global,
@@ -87,7 +90,9 @@ pub fn place_at<'a>(
 {
     match transform {
         None => position_at(alloc, bytes, counts),
-        Some(transform) => cell_within(alloc, transform, GRID_LIMIT, Cell::at(0, 0), bytes),
+        Some(transform) => {
+            cell_within(alloc, transform, GRID_LIMIT, Cell::at(0, 0), bytes, counts)
+        }
     }
 }
 
@@ -104,7 +109,7 @@ pub fn cell_at<'a>(
 {
     match transform {
         None => position_at(alloc, bytes, counts),
-        Some(transform) => difference_at(alloc, transform, before, bytes),
+        Some(transform) => difference_at(alloc, transform, before, bytes, counts),
     }
 }
 

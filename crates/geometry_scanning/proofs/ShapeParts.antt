@@ -1,14 +1,12 @@
 -- Geometries by their members.
-use Rattle.std.proofs.Common.{◌≡◌, ℕ, ◌-◌, ◌<◌, ◌≤◌, Bool, true, false, List, [], ◌∷◌, ◌++◌, length, Option, Some, None, Result, Ok, refl, sym, ap, ◌∙◌, append_assoc, length-append, arith}
+use Rattle.std.proofs.Common.{◌≡◌, ℕ, ◌-◌, ◌≤◌, Bool, true, false, List, [], ◌∷◌, ◌++◌, Option, Some, None, Result, Ok, refl, sym, ap, ◌∙◌, append_assoc, arith}
 use Rattle.std.specs.Prelude.{codes, bytes_eq}
 use Rattle.json_value.specs.declared.json.Json.{Json}
 use Rattle.json_value.specs.declared.json.Json.TheVariants as j
 use Rattle.json_value.specs.Kinds.{array_of}
 use Rattle.json_value.proofs.KindsOf.{object_of-object, text_kinds}
-use Rattle.json_value.specs.Reading.{skip, after_word, name_at, member_at, value_at}
-use Rattle.decimal_json.proofs.Opened.{object_found}
+use Rattle.json_value.specs.Reading.{skip, after_word, value_at}
 use Rattle.decimal_json.proofs.Words.{after_word_takes}
-use Rattle.decimal_json.proofs.ValuesRead.{member_takes, value_takes}
 use Rattle.geojson_types.specs.declared.counts.Counts.{Counts}
 use Rattle.geojson_types.specs.Features.{Shape}
 use Rattle.geometry.specs.declared.shape.Geometry.TheVariants as g
@@ -26,10 +24,9 @@ use Rattle.geojson_model.specs.Reader.{Reader, and_then, ◌>>=◌, give, gather
 use Rattle.geojson_model.specs.Types.{geometry_type, coordinates_type}
 use Rattle.geojson_model.proofs.Unrolled.{shape_object}
 use Rattle.json_members.proofs.Yields.{first_is, second_is}
-use Rattle.value_scanning.specs.Fronts.{any, Front, MemberFront, Stands, Behind, behind_last, behind_more, one, some_one}
+use Rattle.value_scanning.specs.Fronts.{any, Front, Stands, behind_last, behind_more, one, some_one}
 use Rattle.geometry_scanning.specs.Fronts.{IsArray, IsTypeOf, IsHead}
 use Rattle.geometry_scanning.proofs.Listed.{empty_stands, filled_stands}
-use Rattle.value_scanning.proofs.BehindLists.{list_items, no_close}
 use Rattle.value_scanning.proofs.ObjectFronts.{object_value}
 use Rattle.value_scanning.proofs.Words.{simple, member_is, word_named, word_value}
 

@@ -1,5 +1,5 @@
 -- Arrays and geometry objects at the front of bytes, and what they are read as.
-use Rattle.std.specs.Prelude.{◌≡◌, ℕ, Bool, false, nat_lt, List, ◌∷◌, length, Option, Some, None, codes, bytes_eq}
+use Rattle.std.specs.Prelude.{◌≡◌, ℕ, false, List, ◌∷◌, Option, Some, None, codes, bytes_eq}
 use Rattle.json_value.specs.declared.json.Json.{Json}
 use Rattle.json_value.specs.declared.json.Json.TheVariants as j
 use Rattle.json_value.specs.Reading.{skip}
@@ -8,7 +8,7 @@ use Rattle.geojson_types.specs.Counting.{count_empty}
 use Rattle.geojson_model.specs.declared.types.CoordinatesType.{CoordinatesType}
 use Rattle.geojson_model.specs.Reader.{Reader}
 use Rattle.geojson_model.specs.Types.{coordinates_type}
-use Rattle.value_scanning.specs.Fronts.{Front, Behind, SomeStand, NamedValue}
+use Rattle.value_scanning.specs.Fronts.{Front, SomeStand, NamedValue}
 
 -- ---- arrays
 
@@ -29,12 +29,6 @@ pub record IsFilled {B : Type 0} (Is : List ℕ → Json → List ℕ → Type 0
 abbrev pub IsArray : {B : Type 0} → (List ℕ → Json → List ℕ → Type 0) → (Json → Reader (List B)) → List ℕ → Option (List B) → List ℕ → Counts → Counts → Type 0
 IsArray Is read bytes None rest old new = IsEmpty bytes rest old new
 IsArray Is read bytes (Some xs) rest old new = IsFilled Is read bytes xs rest old new
-
--- behind the second number of a position stand further numbers, or none
-pub record AreFurther (after : List ℕ) (more : Bool) (rest : List ℕ) : Type 0 where
-  pub values : List Json
-  pub behind : Behind (Front 0) 93 after values rest
-  pub some : more ≡ nat_lt 0 (length values)
 
 -- ---- geometry objects
 

@@ -1,17 +1,14 @@
 // Positions.
-ghost use Rattle.std.specs.Prelude.{◌≡◌, ◌^◌, ◌≤◌, ◌&&◌, Bool, not, List, [], length, nat_lt, IfOk, unsigned_abs};
-ghost use Rattle.json_value.specs.declared.json.Json.{Json};
+ghost use Rattle.std.specs.Prelude.{◌≡◌, ◌^◌, ◌≤◌, ◌&&◌, not, IfOk, unsigned_abs};
 ghost use Rattle.geojson_model.specs.Coordinates.{coordinate, position};
-ghost use Rattle.geojson_model.specs.Reader.{give};
 ghost use Rattle.value_scanning.specs.Fronts.{Front, Stands, one};
-ghost use Rattle.geometry_scanning.specs.Fronts.{AreFurther};
 
-use crate::arrays::{Element, elements_behind};
+use crate::arrays::Element;
 use decimal_json::skip;
 use geojson_types::{Counts, Position};
 use std::alloc::Global;
-use unit_scanning::{Halt, after_byte, expected, number_at};
-use value_scanning::opened;
+use unit_scanning::{Halt, expected, number_at};
+use value_scanning::{further_at, opened};
 
 /// Whether a number is refused for being rounded.
 #[inline(always)]
@@ -40,45 +37,6 @@ fn coordinate_at<'a>(
     Ok((units.value, rest))
 }
 
-/// A number behind those of a position, which is not kept.
-#[derive(Drop)]
-struct Further;
-
-impl Element for Further {
-    ghost is_front = { Front 0 };
-
-    ghost reads = { λ exact v. give [] };
-
-    fn scan<'a>(
-        alloc: Global,
-        bytes: &'a [u8],
-        _exact: bool,
-        _counts: &mut Counts,
-    ) -> Result<(Option<Further>, &'a [u8]), Halt> {
-        let (_, rest) = number_at(alloc, bytes)?;
-        Ok((None, rest))
-    }
-}
-
-/// Whether numbers stand behind those of a position, and what follows its bracket.
-#[inline(always)]
-fn further_at<'a>(
-    alloc: Global,
-    after: &'a [u8],
-    exact: bool,
-    counts: &mut Counts,
-) -> Result<(bool, &'a [u8]), Halt>
-    ensures further { IfOk result (λ x. AreFurther after.now x.0 x.1.now) }
-    ensures counts { IfOk result (λ x. counts.new ≡ counts.old) }
-{
-    if let Some(end) = after_byte(b']', skip(after)) {
-        return Ok((false, end));
-    }
-    let _next = expected(b',', after)?;
-    let (_, end) = elements_behind::<Further>(alloc, Vec::new(alloc), after, exact, counts)?;
-    Ok((true, end))
-}
-
 /// The position at the front (RFC 7946, section 3.1.1), x (longitude) first, and what follows it.
 #[inline(always)]
 pub fn position_at<'a>(
@@ -93,7 +51,7 @@ pub fn position_at<'a>(
     let (x, rest) = coordinate_at(alloc, skip(inside), exact, counts)?;
     let second = expected(b',', rest)?;
     let (y, rest) = coordinate_at(alloc, skip(second), exact, counts)?;
-    let (more, end) = further_at(alloc, rest, exact, counts)?;
+    let (more, end) = further_at(alloc, rest)?;
     counts.count_extra(more);
     Ok((Position::at(x, y), end))
 }

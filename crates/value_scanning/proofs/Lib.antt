@@ -8,3 +8,4 @@ pub mod MembersSoFar
 pub mod Named
 pub mod Texts
 pub mod Wider
+pub mod Further

@@ -1,5 +1,5 @@
 -- What stands at the front of bytes, and what it is read as.
-use Rattle.std.specs.Prelude.{◌≡◌, ℕ, ◌≤◌, Bool, List, [], ◌∷◌, ◌++◌, Option, Some, Ok, option_to_list}
+use Rattle.std.specs.Prelude.{◌≡◌, ℕ, ◌≤◌, nat_lt, Bool, List, [], ◌∷◌, ◌++◌, length, Option, Some, Ok, option_to_list}
 use Rattle.std.specs.Str.{is_utf8}
 use Rattle.json_value.specs.declared.json.Json.{Json}
 use Rattle.json_members.specs.Readers.{Counting, ◌>>=◌, give}
@@ -60,6 +60,12 @@ one read v = do x ← read v; give (x ∷ [])
 -- the same where it may give nothing
 abbrev pub some_one : {E B : Type 0} → (Json → Counting Counts E (Option B)) → Json → Counting Counts E (List B)
 some_one read v = do x ← read v; give (option_to_list x)
+
+-- behind the numbers of a position that are kept stand further numbers, or none, and then the bracket that closes it
+pub record AreFurther (after : List ℕ) (more : Bool) (rest : List ℕ) : Type 0 where
+  pub values : List Json
+  pub behind : Behind (Front 0) 93 after values rest
+  pub some : more ≡ nat_lt 0 (length values)
 
 -- ---- objects
 

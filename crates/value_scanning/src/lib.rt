@@ -6,7 +6,9 @@
 #![tactic(auto)]
 
 mod members;
+mod numbers;
 mod objects;
 
 pub use members::{name_at, named_value, opened, passed_member};
+pub use numbers::further_at;
 pub use objects::{Object, members_at, text_of};

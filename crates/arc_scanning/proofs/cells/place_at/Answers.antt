@@ -6,4 +6,4 @@ pub returns-in-None : goal.returns-in-None
 returns-in-None c = rw c.in-None.is (IfOk-weaker c.position_at.result _ _ (λ x h. by_position _ _ _ _ _ h) c.position_at.ensures)
 
 pub returns-in-Some : goal.returns-in-Some
-returns-in-Some c = rw c.in-Some.is (IfOk-weaker c.cell_within.result _ _ (λ x h. by_cell _ _ _ _ _ _ (h c.args.counts.now)) (rw c.at.ensures at c.cell_within.ensures))
+returns-in-Some c = rw c.in-Some.is (IfOk-weaker c.cell_within.result _ _ (λ x h. by_cell _ _ _ _ _ _ h) (rw c.at.ensures at c.cell_within.ensures))

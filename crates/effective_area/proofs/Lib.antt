@@ -2,6 +2,7 @@ pub mod ChainLaws
 pub mod Counts
 pub mod HeapLaws
 pub mod LinkLaws
+pub mod LinkedCorners
 pub mod Products
 pub mod Queues
 pub mod Scan

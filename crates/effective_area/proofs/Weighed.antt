@@ -19,7 +19,8 @@ use Rattle.effective_area.specs.Weights.{no_limit, told, weights_of}
 use Rattle.effective_area.proofs.ChainLaws.{same_or_not, keep_step, drop_step}
 use Rattle.effective_area.proofs.Products.{product_bound, apart_fits}
 use Rattle.effective_area.proofs.Scan.{without_vertices, all_vertices}
-use Rattle.effective_area.proofs.Turns.{in_or_not, in_filter, range_in}
+use Rattle.effective_area.proofs.LinkedCorners.{in_or_not, in_filter}
+use Rattle.effective_area.proofs.Turns.{range_in}
 
 -- ---- one step
 

@@ -26,6 +26,12 @@ pub type PositionTable = IndexMap<Position, Vertex>;
 /// rests on it: what stands there is compared with the position.
 pub type Places = Vec<u32>;
 
+/// The place of a position that stands nowhere, or at a place that is no `u32`.
+const NOWHERE: u32 = u32::MAX;
+
+/// How many positions are looked for ahead of their notes.
+const AHEAD: usize = 32;
+
 /// The table of the lines, in which no position is the least of a ring yet, and where their positions stand in it.
 pub fn table_of(alloc: Global, strokes: &[Stroke]) -> Result<(PositionTable, Places), Memory>
     requires { AllClean strokes.now }
@@ -73,16 +79,19 @@ fn note_stroke(
     note(
         table,
         places,
+        NOWHERE,
         Note {
             here: positions[0],
             beside: None,
             ends,
         },
     )?;
+    let first = last_place(places);
     note_visits(table, places, positions)?;
     note(
         table,
         places,
+        first,
         Note {
             here: positions[last],
             beside,
@@ -101,20 +110,48 @@ fn note_visits(
     requires { 2 ≤ length positions.now }
     ensures { OnOk result (Takes table.old table.new (map pass (inner_visits positions.now))) }
 {
+    let mut ahead = [NOWHERE; AHEAD];
     for i in 0..positions.len() - 2 {
+        let next = i % AHEAD;
+        if next == 0 {
+            ahead = look_ahead(table, last_place(places), &positions[i + 1..]);
+        }
         let visit = Note {
             here: positions[i + 1],
             beside: Some((positions[i], positions[i + 2])),
             ends: false,
         };
-        note(table, places, visit)?;
+        note(table, places, ahead[next], visit)?;
     }
     Ok(())
 }
 
 // The place with this index, or one where nothing stands.
 fn place_of(index: usize) -> u32 {
-    u32::try_from(index).unwrap_or(u32::MAX)
+    u32::try_from(index).unwrap_or(NOWHERE)
+}
+
+// The place of the last visit.
+fn last_place(places: &Places) -> u32 {
+    places.as_slice().last().copied().unwrap_or(NOWHERE)
+}
+
+// Where the first of these positions stand in the table, after a visit at this place. They are looked for one after the other, with nothing
+// else done between, so that the processor waits for the memory of several at once. Nothing rests on it, as on places.
+fn look_ahead(table: &PositionTable, before: u32, positions: &[Position]) -> [u32; AHEAD] {
+    let mut ahead = [NOWHERE; AHEAD];
+    let mut last = before;
+    for i in 0..AHEAD {
+        let Some(p) = positions.get(i) else {
+            return ahead;
+        };
+        last = match known_beside(table, last, *p) {
+            None => NOWHERE,
+            Some((place, _)) => place_of(place),
+        };
+        ahead[i] = last;
+    }
+    ahead
 }
 
 // What is known of the position, and its index in the table, if it stands at this place.
@@ -138,30 +175,38 @@ fn known_in(table: &PositionTable, p: Position) -> Option<(usize, Vertex)>
     Some((place, *vertex))
 }
 
-// What is known of the position, and its index in the table. It is looked for at the places beside that of the visit before first: where lines run
-// along each other, they pass the same positions in the same order, or in the opposite one.
-fn known_beside(table: &PositionTable, before: Option<&u32>, p: Position) -> Option<(usize, Vertex)>
+// What is known of the position, and its index in the table. It is looked for at the places beside that of the visit before first: where
+// lines run along each other, they pass the same positions in the same order, or in the opposite one.
+fn known_beside(table: &PositionTable, before: u32, p: Position) -> Option<(usize, Vertex)> {
+    let before = before as usize;
+    if let Some(found) = known_at(table, before.wrapping_sub(1), p) {
+        return Some(found);
+    }
+    known_near(table, before.wrapping_add(1), p)
+}
+
+// The same, looked for at this place first.
+fn known_near(table: &PositionTable, place: usize, p: Position) -> Option<(usize, Vertex)>
     ensures known { IfSome result (λ x. IsKnown table.now p x.0 x.1) }
     ensures absent { IfNone result (get equal table.now p ≡ None) }
 {
-    if let Some(before) = before {
-        let before = *before as usize;
-        if let Some(found) = known_at(table, before.wrapping_sub(1), p) {
-            return Some(found);
-        }
-        if let Some(found) = known_at(table, before.wrapping_add(1), p) {
-            return Some(found);
-        }
+    if let Some(found) = known_at(table, place, p) {
+        return Some(found);
     }
     known_in(table, p)
 }
 
-// Takes a note.
-fn note(table: &mut PositionTable, places: &mut Places, note: Note) -> Result<(), Memory>
+// Takes a note of a position, which is looked for at this place first.
+fn note(
+    table: &mut PositionTable,
+    places: &mut Places,
+    place: u32,
+    note: Note,
+) -> Result<(), Memory>
     ensures { OnOk result (Takes table.old table.new (note ∷ [])) }
 {
     let here = note.here;
-    let Some((place, vertex)) = known_beside(table, places.as_slice().last(), here) else {
+    let Some((place, vertex)) = known_near(table, place as usize, here) else {
         places.push(place_of(table.len()))?;
         table.insert(here, noted(Vertex::new(), note))?;
         return Ok(());

@@ -7,8 +7,8 @@ ghost use Rattle.topojson_meaning.specs.Reader.{each};
 ghost use Rattle.value_scanning.specs.Fronts.{Front, ListStands, Stands};
 
 use crate::cells::{cell_at, cells_behind};
-use decimal_json::skip;
 use geojson_types::Counts;
+use json_reading::skip;
 use json_value::Items;
 use std::alloc::Global;
 use topojson_types::{Cell, Transform};

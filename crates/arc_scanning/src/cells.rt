@@ -6,8 +6,8 @@ ghost use Rattle.topojson_meaning.specs.Arcs.{position, cell, difference_limit, 
 ghost use Rattle.value_scanning.specs.Fronts.{Front, ListStands, Stands};
 ghost use Rattle.arc_scanning.specs.Cells.{cell_from, cells_from};
 
-use decimal_json::skip;
 use geojson_types::Counts;
+use json_reading::skip;
 use std::alloc::Global;
 use topojson_arc_reading::grid_cell;
 use topojson_types::{Cell, GRID_LIMIT, Transform};

@@ -9,8 +9,8 @@ ghost use Rattle.topojson_meaning.specs.declared.geometry_type.PlacesType.TheVar
 ghost use Rattle.value_scanning.specs.Fronts.{Front, MoreStand, Stands, one};
 
 use crate::cells::place_at;
-use decimal_json::skip;
 use geojson_types::Counts;
+use json_reading::skip;
 use json_value::Items;
 use std::alloc::Global;
 use topojson_meaning::PlacesType;

@@ -7,7 +7,7 @@ use Rattle.json_value.specs.Grammar.{mark, Reads}
 use Rattle.json_value.specs.Kinds.{object_of}
 use Rattle.json_value.specs.Reading.{skip, after_word, without}
 use Rattle.json_value.proofs.KindsOf.{object_of-object}
-use Rattle.decimal_json.proofs.TextsRead.{text_takes}
+use Rattle.json_reading.proofs.TextsRead.{text_takes}
 use Rattle.geojson_types.specs.declared.counts.Counts.{Counts}
 use Rattle.geojson_types.specs.declared.layer.Layer.{Layer}
 use Rattle.geojson_types.specs.Counting.{no_counts}

@@ -10,10 +10,10 @@ ghost use Rattle.collection_reading.specs.Outcomes.{IsTold, Tells, ValueStands};
 
 use crate::features::{MEMBER_DEPTH, features_at};
 use crate::refusal::{Refusal, refused, single};
-use decimal_json::{LAYER_DEPTH, skip};
 use feature_faults::{Fronts, Seen, feature_checked, object_at, type_name, typed_checked};
 use geojson_model::{GeoFaultKind, GeoJsonType, geojson_type};
 use geojson_types::{Counts, Layer};
+use json_reading::{LAYER_DEPTH, skip};
 use simdutf8::compat;
 use std::alloc::Global;
 use unit_scanning::Halt;

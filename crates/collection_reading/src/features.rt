@@ -6,10 +6,10 @@ ghost use Rattle.collection_reading.specs.FeaturesRead.{AreRead, FeaturesStand, 
 ghost use Rattle.geojson_model.specs.Reader.{fault_in};
 ghost use Rattle.geojson_types.specs.Counting.{no_counts};
 
-use decimal_json::{after_word, skip, value_at};
 use feature_faults::{Stop, element_checked};
 use geojson_model::{GeoFault, GeoFaultKind, feature_element};
 use geojson_types::{Counts, Feature, Layer};
+use json_reading::{after_word, skip, value_at};
 use json_value::{Items, Json};
 use layer_scanning::feature_at;
 use std::alloc::Global;

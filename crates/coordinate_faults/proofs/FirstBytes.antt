@@ -6,7 +6,7 @@ use Rattle.json_value.specs.declared.json.Json.TheVariants as j
 use Rattle.json_value.specs.Kinds.{array_of, object_of}
 use Rattle.json_value.specs.Reading.{Parse, ◌>>=◌, after_word, word_at, string_at, number_at, value_with}
 use Rattle.json_value.proofs.KindsOf.{array_of-null, array_of-bool, array_of-number, array_of-text, array_of-object, object_of-null, object_of-bool, object_of-number, object_of-text, object_of-array}
-use Rattle.decimal_json.proofs.Opened.{at_nothing, value_at_is}
+use Rattle.json_reading.proofs.Opened.{at_nothing, value_at_is}
 use Rattle.value_scanning.specs.Fronts.{any, FrontAt}
 
 -- what was read, if anything was, is so

@@ -5,9 +5,9 @@ ghost use Rattle.json_value.specs.Kinds.{array_of};
 ghost use Rattle.coordinate_faults.specs.Lists.{Opens, SomeElements, TakesElement};
 ghost use Rattle.coordinate_faults.specs.Values.{PartsHold, Telling, ToldAt, tell_all, tell_array};
 
-use decimal_json::{after_word, skip};
 use geojson_model::GeoFaultKind;
 use geojson_types::Counts;
+use json_reading::{after_word, skip};
 use std::alloc::Global;
 use text_checking::after_value;
 use unit_scanning::{Halt, after_byte};

@@ -8,9 +8,9 @@ ghost use Rattle.coordinate_faults.specs.Values.{no_elements};
 
 use crate::arrays::{Part, parts_told};
 use crate::positions::read_position;
-use decimal_json::value_at;
 use geojson_model::{CoordinatesType, GeoFaultKind};
 use geojson_types::{Counts, Position, Ring};
+use json_reading::value_at;
 use json_value::{Items, Json};
 use std::alloc::Global;
 use unit_scanning::Halt;

@@ -5,9 +5,9 @@ ghost use Rattle.coordinate_faults.specs.Lists.{SomeElements, TakesElement};
 ghost use Rattle.coordinate_faults.specs.Values.{ArePositions, ReadAt, counted, listed_positions, tell};
 
 use crate::arrays::{Opening, Part, opening_at};
-use decimal_json::{skip, value_at};
 use geojson_model::{GeoFaultKind, position};
 use geojson_types::{Counts, Position};
+use json_reading::{skip, value_at};
 use json_value::{Items, Json};
 use std::alloc::Global;
 use text_checking::after_value;

@@ -1,5 +1,3 @@
-pub mod Gives
-pub mod Outcome
 pub use Rattle.list_laws.specs.Commas
 pub use Rattle.byte_ends.specs.Ends
 pub use Rattle.byte_ends.specs.Writes
@@ -12,3 +10,4 @@ pub use Rattle.json_value.specs.Kinds
 pub use Rattle.json_value.specs.Numbers
 pub use Rattle.json_value.specs.Reading
 pub use Rattle.json_value.specs.Text
+pub use Rattle.json_reading.specs.Outcome

@@ -2,8 +2,8 @@
 use Rattle.std.specs.Prelude.{ℕ, List, ◌++◌, codes, decimal, Option, None, Some}
 use Rattle.byte_ends.specs.declared.source.ReadFault.{ReadFault}
 use Rattle.byte_ends.specs.declared.source.ReadFault.TheVariants as read
-use Rattle.decimal_json.specs.declared.fault.JsonFault.{JsonFault}
-use Rattle.decimal_json.specs.declared.fault.JsonFault.TheVariants as json
+use Rattle.json_reading.specs.declared.fault.JsonFault.{JsonFault}
+use Rattle.json_reading.specs.declared.fault.JsonFault.TheVariants as json
 use Rattle.geojson_model.specs.declared.fault.GeoFault.{GeoFault}
 use Rattle.geojson_model.specs.Faults.{code, name}
 use Rattle.topojson_meaning.specs.declared.fault.TopoFault.{TopoFault}

@@ -5,10 +5,10 @@ ghost use Rattle.byte_ends.specs.Writes.{Writes};
 ghost use Rattle.fault_lines.specs.FaultLines as spec;
 
 use byte_ends::{Drain, Progress, ReadFault, Sink, put_part};
-use decimal_json::JsonFault;
 use geojson_model::GeoFault;
 use inputs::{BuildFault, FileFault};
 use itoa::Buffer;
+use json_reading::JsonFault;
 use topojson_meaning::TopoFault;
 
 /// Writes a whole number.

@@ -2,7 +2,7 @@
 use Rattle.std.proofs.Common.{◌≡◌, ℕ, ◌-◌, List, [], ◌∷◌, ◌++◌, refl, sym, ap, ◌∙◌, arith}
 use Rattle.json_value.specs.declared.json.Json.{Json}
 use Rattle.json_value.specs.Reading.{skip, after_word}
-use Rattle.decimal_json.proofs.Opened.{object_found, is_closed}
+use Rattle.json_reading.proofs.Opened.{object_found, is_closed}
 use Rattle.geojson_types.specs.Counting.{no_counts}
 use Rattle.geojson_model.specs.Members.{named}
 use Rattle.value_scanning.specs.Fronts.{any, FrontAt, MemberFront, IsNamed}

@@ -11,9 +11,9 @@ use crate::fronts::{Fronts, object_at};
 use crate::geometries::{geometry_checked, type_name};
 use crate::seen::Seen;
 use crate::stop::Stop;
-use decimal_json::value_at;
 use geojson_model::{GeoFaultKind, identifier, members_if};
 use geojson_types::Counts;
+use json_reading::value_at;
 use std::alloc::Global;
 
 /// The fault of the member `id`.

@@ -7,7 +7,7 @@ ghost use Rattle.value_scanning.specs.MemberLists.{TakesMember};
 ghost use Rattle.feature_faults.specs.Fronts.{Holds, IsFront, MembersStand, ObjectStands, Shows, nothing};
 
 use crate::seen::{Seen, see};
-use decimal_json::{after_word, skip};
+use json_reading::{after_word, skip};
 use std::alloc::Global;
 use text_checking::after_value;
 use unit_scanning::{Halt, after_byte};

@@ -11,9 +11,9 @@ use crate::fronts::Fronts;
 use crate::seen::Seen;
 use crate::stop::Stop;
 use coordinate_faults::coordinates_told;
-use decimal_json::value_at;
 use geojson_model::{CoordinatesType, GeoFaultKind, GeometryType, geometry_type};
 use geojson_types::Counts;
+use json_reading::value_at;
 use json_value::OwnText;
 use std::alloc::Global;
 

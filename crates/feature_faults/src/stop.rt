@@ -3,8 +3,8 @@ ghost use Rattle.std.specs.Prelude.{◌≡◌};
 ghost use Rattle.feature_faults.specs.Checks.{IsSilent};
 ghost use Rattle.feature_faults.specs.declared.stop.Stop.TheVariants.{Fault};
 
-use decimal_json::Fault as ParseFault;
 use geojson_model::GeoFaultKind;
+use json_reading::Fault as ParseFault;
 use unit_scanning::Halt;
 
 /// Why a check ends.

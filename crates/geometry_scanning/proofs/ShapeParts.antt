@@ -6,7 +6,7 @@ use Rattle.json_value.specs.declared.json.Json.TheVariants as j
 use Rattle.json_value.specs.Kinds.{array_of}
 use Rattle.json_value.proofs.KindsOf.{object_of-object, text_kinds}
 use Rattle.json_value.specs.Reading.{skip, after_word, value_at}
-use Rattle.decimal_json.proofs.Words.{after_word_takes}
+use Rattle.json_reading.proofs.Words.{after_word_takes}
 use Rattle.geojson_types.specs.declared.counts.Counts.{Counts}
 use Rattle.geojson_types.specs.Features.{Shape}
 use Rattle.geometry.specs.declared.shape.Geometry.TheVariants as g

@@ -5,8 +5,8 @@ ghost use Rattle.geojson_model.specs.Reader.{Reader};
 ghost use Rattle.value_scanning.specs.Fronts.{Stands, MoreStand, SomeStand};
 ghost use Rattle.geometry_scanning.specs.Fronts.{IsArray};
 
-use decimal_json::skip;
 use geojson_types::Counts;
+use json_reading::skip;
 use json_value::Items;
 use std::alloc::Global;
 use unit_scanning::{Halt, after_byte};

@@ -5,8 +5,8 @@ ghost use Rattle.geojson_model.specs.Polygons.{ring, polygon};
 ghost use Rattle.value_scanning.specs.Fronts.{Front, Stands, some_one};
 
 use crate::arrays::{Element, array_at, elements_behind};
-use decimal_json::skip;
 use geojson_types::{Counts, Position, Ring, is_closed};
+use json_reading::skip;
 use json_value::Items;
 use std::alloc::Global;
 use unit_scanning::{Halt, after_byte};

@@ -4,8 +4,8 @@ ghost use Rattle.geojson_model.specs.Coordinates.{coordinate, position};
 ghost use Rattle.value_scanning.specs.Fronts.{Front, Stands, one};
 
 use crate::arrays::Element;
-use decimal_json::skip;
 use geojson_types::{Counts, Position};
+use json_reading::skip;
 use std::alloc::Global;
 use unit_scanning::{Halt, expected, number_at};
 use value_scanning::{further_at, opened};

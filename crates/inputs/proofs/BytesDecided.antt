@@ -2,9 +2,9 @@
 use Rattle.std.proofs.Common.{◌≡◌, ℕ, ◌<◌, ◌≤◌, List, length, ◌∙◌, ap, sym, subst, refl, inl, inr, Option, Some, Result, Ok, Err, arith}
 use Rattle.std.specs.Prelude.{IfSome}
 use Rattle.byte_ends.specs.Ends.{Fed}
-use Rattle.decimal_json.specs.declared.fault.JsonFault.{JsonFault}
-use Rattle.decimal_json.specs.declared.fault.JsonFault.TheVariants as text
-use Rattle.decimal_json.proofs.TextsFound.{one_value}
+use Rattle.json_reading.specs.declared.fault.JsonFault.{JsonFault}
+use Rattle.json_reading.specs.declared.fault.JsonFault.TheVariants as text
+use Rattle.json_reading.proofs.TextsFound.{one_value}
 use Rattle.json_value.specs.declared.json.Json.{Json}
 use Rattle.inputs.specs.Texts.{max_input, IsRead, IsTextOf, BytesComeTo, plain_text_fault}
 

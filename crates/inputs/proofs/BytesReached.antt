@@ -6,11 +6,11 @@ use Rattle.std.specs.Str.Lossy.{utf8_valid_len}
 use Rattle.std.proofs.lemmas.Bool.{cases_lt}
 use Rattle.std.proofs.lemmas.Str.{IsUtf8-from_is_utf8, is_utf8-from_IsUtf8}
 use Rattle.json_value.specs.Reading.{text_at}
-use Rattle.decimal_json.specs.declared.fault.JsonFault.{JsonFault}
-use Rattle.decimal_json.specs.declared.fault.JsonFault.TheVariants as text
-use Rattle.decimal_json.specs.declared.fault.Why.TheVariants.{Syntax}
-use Rattle.decimal_json.proofs.TextsFound.{not_read}
-use Rattle.decimal_json.proofs.TextsRead.{text_takes}
+use Rattle.json_reading.specs.declared.fault.JsonFault.{JsonFault}
+use Rattle.json_reading.specs.declared.fault.JsonFault.TheVariants as text
+use Rattle.json_reading.specs.declared.fault.Why.TheVariants.{Syntax}
+use Rattle.json_reading.proofs.TextsFound.{not_read}
+use Rattle.json_reading.proofs.TextsRead.{text_takes}
 use Rattle.json_value.specs.declared.json.Json.{Json}
 use Rattle.inputs.specs.Texts.{max_input, IsTextOf, BytesComeTo}
 

@@ -5,9 +5,9 @@ use Rattle.std.specs.Str.Lossy.{utf8_valid_len}
 use Rattle.byte_ends.specs.Ends.{Fed, saturated}
 use Rattle.byte_ends.specs.declared.source.ReadFault.{ReadFault}
 use Rattle.byte_ends.specs.declared.source.ReadFault.TheVariants as read
-use Rattle.decimal_json.specs.declared.fault.JsonFault.{JsonFault}
-use Rattle.decimal_json.specs.declared.fault.JsonFault.TheVariants as text
-use Rattle.decimal_json.specs.declared.fault.Why.TheVariants.{Syntax}
+use Rattle.json_reading.specs.declared.fault.JsonFault.{JsonFault}
+use Rattle.json_reading.specs.declared.fault.JsonFault.TheVariants as text
+use Rattle.json_reading.specs.declared.fault.Why.TheVariants.{Syntax}
 use Rattle.json_value.specs.declared.json.Json.{Json}
 use Rattle.json_value.specs.Grammar.{Reads}
 

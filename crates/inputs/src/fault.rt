@@ -1,7 +1,7 @@
 // Why a topology couldn't be built.
 use byte_ends::{Memory, ReadFault, WriteFault};
-use decimal_json::JsonFault;
 use geojson_model::GeoFault;
+use json_reading::JsonFault;
 use std::alloc::AllocFailed;
 use thiserror::Error;
 

@@ -1,6 +1,6 @@
 // Why a file's topology couldn't be used.
 use byte_ends::{Memory, ReadFault, WriteFault};
-use decimal_json::JsonFault;
+use json_reading::JsonFault;
 use thiserror::Error;
 use topojson_meaning::TopoFault;
 

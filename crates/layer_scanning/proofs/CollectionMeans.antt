@@ -6,7 +6,7 @@ use Rattle.json_value.specs.declared.json.Json.TheVariants as j
 use Rattle.json_value.specs.Grammar.{mark}
 use Rattle.json_value.proofs.KindsOf.{object_kinds, text_kinds, array_kinds}
 use Rattle.json_value.specs.Reading.{skip, after_word, without, value_at}
-use Rattle.decimal_json.proofs.TextsRead.{text_takes}
+use Rattle.json_reading.proofs.TextsRead.{text_takes}
 use Rattle.geojson_types.specs.declared.counts.Counts.{Counts}
 use Rattle.geojson_types.specs.Counting.{no_counts}
 use Rattle.geojson_types.specs.Features.{Featured}
@@ -22,7 +22,7 @@ use Rattle.value_scanning.proofs.SoFar.{first_and_more}
 use Rattle.value_scanning.proofs.ObjectFronts.{object_value}
 use Rattle.value_scanning.proofs.Texts.{whole}
 use Rattle.value_scanning.proofs.Words.{member_is, word_named, word_value}
-use Rattle.decimal_json.proofs.Words.{after_word_takes}
+use Rattle.json_reading.proofs.Words.{after_word_takes}
 use Rattle.layer_scanning.specs.declared.collections.Collection.{Collection}
 use Rattle.layer_scanning.specs.CollectionParts.{FeaturesStand, AreFeatures, Contains, SpellsLayer}
 use Rattle.value_scanning.specs.MemberLists.{TakesMember, ReadsMembers}

@@ -6,9 +6,9 @@ use Rattle.json_value.specs.declared.json.Json.TheVariants as j
 use Rattle.json_value.specs.Kinds.{object_of}
 use Rattle.json_value.proofs.KindsOf.{object_of_is}
 use Rattle.json_value.specs.Reading.{after_word, word_at, value_at}
-use Rattle.decimal_json.proofs.Opened.{at_n}
-use Rattle.decimal_json.proofs.Steps.{none_or_some}
-use Rattle.decimal_json.proofs.Words.{after_word_takes}
+use Rattle.json_reading.proofs.Opened.{at_n}
+use Rattle.json_reading.proofs.Steps.{none_or_some}
+use Rattle.json_reading.proofs.Words.{after_word_takes}
 use Rattle.geojson_types.specs.declared.counts.Counts.{Counts}
 use Rattle.geojson_types.specs.Features.{Shape, is_proper_option}
 use Rattle.geojson_model.specs.declared.fault.GeoFaultKind.{GeoFaultKind}

@@ -9,7 +9,7 @@ use Rattle.json_value.specs.Kinds.{object_of}
 use Rattle.json_value.proofs.KindsOf.{object_of-object}
 use Rattle.json_value.proofs.Nesting.{reads_no_deeper, reads_deeper}
 use Rattle.json_value.specs.Reading.{skip, after_word, without, value_at}
-use Rattle.decimal_json.proofs.TextsRead.{text_takes}
+use Rattle.json_reading.proofs.TextsRead.{text_takes}
 use Rattle.geojson_types.specs.declared.counts.Counts.{Counts}
 use Rattle.geojson_types.specs.Counting.{no_counts}
 use Rattle.geojson_types.specs.Features.{Shape, Featured}

@@ -7,8 +7,8 @@ ghost use Rattle.layer_scanning.specs.CollectionParts.{Contains, FeaturesStand, 
 ghost use Rattle.layer_scanning.specs.declared.collections.Collection.{Collection as Collected};
 
 use crate::features::{feature_at, features_behind};
-use decimal_json::{after_word, skip};
 use geojson_types::{Counts, Feature, Layer};
+use json_reading::{after_word, skip};
 use json_value::Items;
 use std::alloc::Global;
 use unit_scanning::{Halt, after_byte};

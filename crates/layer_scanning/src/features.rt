@@ -10,11 +10,11 @@ ghost use Rattle.value_scanning.specs.Fronts.{FrontAt, MemberFront, MoreStand, S
 ghost use Rattle.value_scanning.specs.MemberLists.{TakesMember};
 ghost use Rattle.layer_scanning.specs.FeatureParts.{Holds, geometry_member, given};
 
-use decimal_json::{after_word, skip, value_at};
 use feature_faults::{Fronts, Seen, Stop, geometry_checked, object_at, type_name};
 use geojson_model::{GeometryType, geometry_type, identifier, read_shape};
 use geojson_types::{Counts, Feature, Properties, Shape};
 use geometry_scanning::{coordinates_at, geometry_at};
+use json_reading::{after_word, skip, value_at};
 use json_value::Json;
 use properties_scanning::properties_at;
 use std::alloc::Global;

@@ -4,11 +4,11 @@ ghost use Rattle.json_value.specs.Reading as reading;
 ghost use Rattle.layer_scanning.specs.CollectionParts.{SpellsLayer};
 
 use crate::features::{feature_at, typed_shape};
-use decimal_json::{LAYER_DEPTH, after_word, skip};
 use feature_faults::{object_at, type_name};
 use geojson_model::{GeoJsonType, geojson_type};
 use geojson_types::{Counts, Feature, Layer};
 use geometry_scanning::geometry_at;
+use json_reading::{LAYER_DEPTH, after_word, skip};
 use json_value::Items;
 use std::alloc::Global;
 use unit_scanning::Halt;

@@ -3,8 +3,8 @@ use Rattle.std.proofs.Common.{⊎_elim, ◌≡◌, ◌⊎◌, ℕ, suc, ◌<◌,
 use Rattle.std.specs.Prelude.{IfSome}
 use Rattle.byte_ends.specs.Ends.{Fed}
 use Rattle.byte_ends.specs.declared.source.ReadFault.TheVariants as read
-use Rattle.decimal_json.specs.declared.fault.JsonFault.{JsonFault}
-use Rattle.decimal_json.specs.declared.fault.JsonFault.TheVariants as text
+use Rattle.json_reading.specs.declared.fault.JsonFault.{JsonFault}
+use Rattle.json_reading.specs.declared.fault.JsonFault.TheVariants as text
 use Rattle.json_value.specs.declared.json.Json.{Json}
 use Rattle.geojson_types.specs.declared.counts.Counts.{Counts}
 use Rattle.geojson_types.specs.declared.layer.Layer.{Layer}

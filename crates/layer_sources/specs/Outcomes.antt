@@ -1,7 +1,7 @@
 -- What the bytes of all layers come to.
 use Rattle.std.specs.Prelude.{◌≡◌, ℕ, suc, Bool, List, [], ◌∷◌, Some, Result, Ok, Err}
 use Rattle.byte_ends.specs.declared.source.ReadFault.TheVariants as read
-use Rattle.decimal_json.specs.declared.fault.JsonFault.{JsonFault}
+use Rattle.json_reading.specs.declared.fault.JsonFault.{JsonFault}
 use Rattle.json_value.specs.declared.json.Json.{Json}
 use Rattle.geojson_types.specs.declared.counts.Counts.{Counts}
 use Rattle.geojson_types.specs.Features.{Featured}

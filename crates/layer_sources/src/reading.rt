@@ -5,9 +5,9 @@ ghost use Rattle.layer_sources.specs.Sources.{plus, AllReadTo, FailsToReadAll};
 
 use byte_ends::{Feed, MAX_INPUT, ReadFault, Source, read_all};
 use collection_reading::{Refusal, read_collection};
-use decimal_json::{JsonFault, LAYER_DEPTH, parse};
 use geojson_model::{Counts, GeoFaultKind, Layer, read_layer};
 use inputs::BuildFault;
+use json_reading::{JsonFault, LAYER_DEPTH, parse};
 use json_value::OwnText;
 use layer_scanning::scan_layer;
 use std::alloc::Global;

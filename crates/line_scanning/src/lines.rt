@@ -6,7 +6,7 @@ ghost use Rattle.line_scanning.specs.Strokes.{StrokesStand, stroke};
 ghost use Rattle.topojson_meaning.specs.Lines.{index, indexes_behind, line_end, line_start};
 ghost use Rattle.value_scanning.specs.Fronts.{Front, ListStands, MoreStand, Stands, some_one};
 
-use decimal_json::skip;
+use json_reading::skip;
 use json_value::Items;
 use std::alloc::Global;
 use topojson_line_reading::{closes, is_joined};

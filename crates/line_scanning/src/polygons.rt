@@ -7,7 +7,7 @@ ghost use Rattle.topojson_meaning.specs.Shapes.{arcs_shape};
 ghost use Rattle.value_scanning.specs.Fronts.{Front, MoreStand, Stands, some_one};
 
 use crate::lines::{stroke_at, strokes_at};
-use decimal_json::skip;
+use json_reading::skip;
 use json_value::Items;
 use std::alloc::Global;
 use topojson_meaning::ArcsType;

@@ -10,8 +10,8 @@ ghost use Rattle.mapchain_engine.specs.Laws.{
 };
 
 use build_meaning::zero_loses_nothing;
-use decimal_json::one_value;
 use grid_meaning::snapped_are_on;
+use json_reading::one_value;
 use layer_sources::{layers_have_one_outcome, read_layers_are_the_outcome};
 use layer_topology::lessens_to_written;
 use topojson_meaning::topology_is_valid;

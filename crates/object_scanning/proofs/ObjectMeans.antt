@@ -6,8 +6,8 @@ use Rattle.json_value.specs.declared.json.Json.TheVariants as j
 use Rattle.json_value.specs.Kinds.{text_of}
 use Rattle.json_value.proofs.KindsOf.{object_of-object, text_of-text}
 use Rattle.json_value.specs.Reading.{after_word, name_at, string_at, skip, value_at, value_with}
-use Rattle.decimal_json.proofs.Opened.{member_found, value_at_is}
-use Rattle.decimal_json.proofs.Words.{after_word_takes}
+use Rattle.json_reading.proofs.Opened.{member_found, value_at_is}
+use Rattle.json_reading.proofs.Words.{after_word_takes}
 use Rattle.geojson_types.specs.declared.counts.Counts.{Counts}
 use Rattle.geometry.specs.Points.{Point}
 use Rattle.json_members.proofs.Yields.{first_is, second_is}

@@ -8,8 +8,8 @@ ghost use Rattle.topojson_types.specs.declared.feature.TopoFeature.{TopoFeature 
 ghost use Rattle.value_scanning.specs.Fronts.{FrontAt, MoreStand, Stands, one};
 
 use crate::members::{Parts, parts_at};
-use decimal_json::{skip, value_at};
 use geojson_types::{Counts, Properties};
+use json_reading::{skip, value_at};
 use json_value::Items;
 use std::alloc::Global;
 use topojson_meaning::TopoFault;

@@ -7,8 +7,8 @@ ghost use Rattle.value_scanning.specs.Fronts.{MemberFront};
 ghost use Rattle.value_scanning.specs.MemberLists.{ReadsMembers, TakesMember};
 
 use arc_scanning::places_shape_at;
-use decimal_json::{after_word, skip, value_at};
 use geojson_types::{Counts, Properties};
+use json_reading::{after_word, skip, value_at};
 use json_value::{Items, Json};
 use line_scanning::shape_at;
 use properties_scanning::properties_at;

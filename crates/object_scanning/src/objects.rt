@@ -8,8 +8,8 @@ ghost use Rattle.value_scanning.specs.Fronts.{FrontAt, MemberFront, Stands};
 ghost use Rattle.value_scanning.specs.MemberLists.{ReadsMembers};
 
 use crate::features::{features_at, halt_of};
-use decimal_json::{after_word, skip, value_at};
 use geojson_types::Counts;
+use json_reading::{after_word, skip, value_at};
 use json_value::{Items, OwnText};
 use std::alloc::Global;
 use topojson_reading::{members_before_repeat, object};

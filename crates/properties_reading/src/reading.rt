@@ -3,8 +3,8 @@ ghost use Rattle.std.specs.Prelude.{◌≡◌, IfOk};
 ghost use Rattle.json_value.specs.Kinds.{object_of};
 ghost use Rattle.feature_properties.specs.Members.{members_if, members_in};
 
-use decimal_json::{Fault, value_at};
 use feature_properties::{Properties, PropertiesForm};
+use json_reading::{Fault, value_at};
 use json_value::{Items, Json, OwnText, copy_members};
 use owned_values::Memory;
 use std::alloc::Global;

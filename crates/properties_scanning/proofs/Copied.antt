@@ -5,7 +5,7 @@ use Rattle.json_value.specs.declared.json.Json.TheVariants as j
 use Rattle.json_value.specs.Text.{json_text, quoted, name_text}
 use Rattle.json_value.proofs.Texts.{text-null, text-bool, text-number, text-text, text-array, text-object}
 use Rattle.json_value.specs.Reading.{skip, after_word, word_at, after_number, number_at, name_at, member_at, value_at, array_at, object_at}
-use Rattle.decimal_json.proofs.Opened.{at_n, at_t, at_f, text_found, number_found, array_found, object_found, member_found}
+use Rattle.json_reading.proofs.Opened.{at_n, at_t, at_f, text_found, number_found, array_found, object_found, member_found}
 use Rattle.properties_scanning.specs.Copying.{any, whole_member, elements_text, members_text, Copies}
 
 pub number_copied : (bytes rest number old new : List ℕ) → after_number bytes ≡ Some rest → number ≡ take (length bytes - length rest) bytes → new ≡ old ++ number → Copies number_at (λ t. t) bytes rest old new

@@ -4,10 +4,10 @@ use Rattle.std.proofs.lemmas.Bool.{eq-eqb}
 use Rattle.std.proofs.lemmas.List.{append-nil}
 use Rattle.list_laws.specs.Commas.{with_commas, comma_separated}
 use Rattle.json_value.specs.Reading.{Parse, skip, after_word, list_at, items_at}
-use Rattle.decimal_json.proofs.ListLoop.{at_comma, at_end}
-use Rattle.decimal_json.proofs.Opened.{is_closed, is_open}
-use Rattle.decimal_json.proofs.Steps.{no_comma}
-use Rattle.decimal_json.proofs.StringLoop.{with_front}
+use Rattle.json_reading.proofs.ListLoop.{at_comma, at_end}
+use Rattle.json_reading.proofs.Opened.{is_closed, is_open}
+use Rattle.json_reading.proofs.Steps.{no_comma}
+use Rattle.json_reading.proofs.StringLoop.{with_front}
 use Rattle.properties_scanning.specs.Copying.{Copies}
 
 module _ {A : Type 0} (close : ℕ) (item : Parse A) (written : A → List ℕ) where

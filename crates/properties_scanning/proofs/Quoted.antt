@@ -9,8 +9,8 @@ use Rattle.json_value.specs.Grammar.{is_plain, SpellsChars, chars_end, chars_pla
 use Rattle.json_value.specs.Text.{escaped, quoted}
 use Rattle.json_value.proofs.Runs.{plain_stays}
 use Rattle.json_value.specs.Reading.{after_word, plain_front, after_plain, name_at, string_at}
-use Rattle.decimal_json.proofs.StringsRead.{plain-split}
-use Rattle.decimal_json.proofs.StringsFound.{string_again}
+use Rattle.json_reading.proofs.StringsRead.{plain-split}
+use Rattle.json_reading.proofs.StringsFound.{string_again}
 use Rattle.properties_scanning.specs.Copying.{any, is_simple, Copies}
 
 -- ---- the bytes in front that pass a test

@@ -8,10 +8,10 @@ use Rattle.json_value.specs.Kinds.{object_of}
 use Rattle.json_value.specs.Reading.{after_word, word_at, value_with, value_at}
 use Rattle.json_value.specs.Text.{json_text}
 use Rattle.json_value.proofs.KindsOf.{object_of-object}
-use Rattle.decimal_json.proofs.FrontValues.{text_is_read, front_formed, front_no_deeper}
-use Rattle.decimal_json.proofs.Opened.{at_n}
-use Rattle.decimal_json.proofs.Steps.{pair_is}
-use Rattle.decimal_json.proofs.Words.{after_word_takes}
+use Rattle.json_reading.proofs.FrontValues.{text_is_read, front_formed, front_no_deeper}
+use Rattle.json_reading.proofs.Opened.{at_n}
+use Rattle.json_reading.proofs.Steps.{pair_is}
+use Rattle.json_reading.proofs.Words.{after_word_takes}
 use Rattle.feature_properties.specs.Members.{Members, members_if, members_read, members_in}
 use Rattle.properties_scanning.specs.Copying.{any, Copies}
 

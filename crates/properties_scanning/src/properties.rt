@@ -5,8 +5,8 @@ ghost use Rattle.properties_scanning.specs.Copying.{any};
 ghost use Rattle.properties_scanning.specs.Fronts.{properties_value};
 
 use crate::values::copy_value;
-use decimal_json::after_word;
 use feature_properties::Properties;
+use json_reading::after_word;
 use std::alloc::Global;
 use unit_scanning::{Halt, after_byte};
 

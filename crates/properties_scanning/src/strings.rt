@@ -5,7 +5,9 @@ ghost use Rattle.json_value.specs.Text.{quoted};
 ghost use Rattle.json_value.specs.Reading.{name_at, string_at as string_front};
 ghost use Rattle.properties_scanning.specs.Copying.{Copies, any, is_simple};
 
-use decimal_json::{MemoryDrain, Sink, plain_run, string_at, write_text};
+use byte_ends::{MemoryDrain, Sink};
+use json_reading::{plain_run, string_at};
+use json_writer::write_text;
 use simdutf8::compat;
 use std::alloc::Global;
 use unit_scanning::{Halt, after_byte};

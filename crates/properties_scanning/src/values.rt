@@ -5,7 +5,7 @@ ghost use Rattle.json_value.specs.Reading as reading;
 ghost use Rattle.properties_scanning.specs.Copying.{Copies, any, elements_text, members_text, whole_member};
 
 use crate::strings::copy_string;
-use decimal_json::{after_number, after_word, next, skip};
+use json_reading::{after_number, after_word, next, skip};
 use std::alloc::Global;
 use unit_scanning::{Halt, expected};
 

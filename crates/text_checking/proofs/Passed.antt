@@ -2,9 +2,9 @@
 use Rattle.std.proofs.Common.{◌≡◌, ℕ, ◌-◌, List, ◌∷◌, [], length, take, Option, Some, Result, Ok, Err, Bool, refl, Bor}
 use Rattle.json_value.specs.declared.json.Json.{Json}
 use Rattle.json_value.specs.Reading.{◌>>=◌, after_word, word_at, after_number, number_at, skip, name_at, string_at, Parse, member_at}
-use Rattle.decimal_json.specs.declared.fault.Fault.{Fault}
-use Rattle.decimal_json.specs.declared.fault.Fault.TheVariants as fault
-use Rattle.decimal_json.specs.Gives.{Fails, Gives}
+use Rattle.json_reading.specs.declared.fault.Fault.{Fault}
+use Rattle.json_reading.specs.declared.fault.Fault.TheVariants as fault
+use Rattle.json_reading.specs.Gives.{Fails, Gives}
 use Rattle.text_checking.specs.Passes.{Passes}
 
 abbrev pub Answer : Type 0

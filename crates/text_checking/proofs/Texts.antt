@@ -2,7 +2,7 @@
 use Rattle.std.proofs.Common.{◌≡◌, ℕ, Bool, eqb, List, [], ◌∷◌, length, Some, None, refl, if◌then◌else◌, arith}
 use Rattle.json_value.specs.declared.json.Json.{Json}
 use Rattle.json_value.specs.Reading.{skip, ended, document, value_at}
-use Rattle.decimal_json.proofs.Steps.{not_equal}
+use Rattle.json_reading.proofs.Steps.{not_equal}
 
 ended_by : (v : Json) (rest : List ℕ) (is_empty : Bool) → is_empty ≡ eqb (length rest) 0 → ended v rest ≡ (if is_empty then Some v else None)
 unfolding ended

@@ -2,8 +2,8 @@
 use Rattle.std.proofs.Common.{◌≡◌, ℕ, ◌+◌, ◌<◌, ◌≤◌, Bool, true, false, cond, eqb, List, [], ◌∷◌, length, get_or, drop, Option, Some, None, refl, sym, ◌∙◌}
 use Rattle.std.proofs.lemmas.List.{at_drop_more, at_drop_all}
 use Rattle.json_value.specs.Reading.{◌>>=◌, after_word}
-use Rattle.decimal_json.specs.declared.fault.Fault.{Fault}
-use Rattle.decimal_json.specs.Gives.{Fails}
+use Rattle.json_reading.specs.declared.fault.Fault.{Fault}
+use Rattle.json_reading.specs.Gives.{Fails}
 use Rattle.text_checking.proofs.Passed.{first_fails}
 
 tested : (test : Bool) (cs bs : List ℕ) → cond test (after_word cs bs) None ≡ (cond test (Some bs) None >>= after_word cs)

@@ -1,8 +1,8 @@
 -- What is answered where a thing is passed over, against what the function on lists reads.
 use Rattle.std.specs.Prelude.{◌≡◌, ℕ, List, Option, Some, Result, Ok, Err}
 use Rattle.std.specs.Borrow.{Bor}
-use Rattle.decimal_json.specs.declared.fault.Fault.{Fault}
-use Rattle.decimal_json.specs.Gives.{Fails}
+use Rattle.json_reading.specs.declared.fault.Fault.{Fault}
+use Rattle.json_reading.specs.Gives.{Fails}
 
 -- Something is read, and this follows it. Or nothing is read, unless memory ran out.
 abbrev pub Passes : {A : Type 0} → Result (Bor (List ℕ)) Fault → Option (A × List ℕ) → Type 0

@@ -1,9 +1,9 @@
 // Single bytes and words that have to stand at the front of bytes.
 ghost use Rattle.std.specs.Prelude.{◌≡◌, ◌∷◌, [], length};
-ghost use Rattle.decimal_json.specs.Gives.{Gives, StopsBefore};
+ghost use Rattle.json_reading.specs.Gives.{Gives, StopsBefore};
 ghost use Rattle.json_value.specs.Reading as spec;
 
-use decimal_json::{Fault, Why, after_word};
+use json_reading::{Fault, Why, after_word};
 
 /// Reading stops before the rest: it ends too early, or its first byte does not belong there.
 pub fn stopped(rest: &[u8]) -> Fault

@@ -4,12 +4,12 @@ ghost use Rattle.std.specs.Str.{is_utf8};
 ghost use Rattle.json_value.specs.declared.json.Json.{Json as Value};
 ghost use Rattle.json_value.specs.Grammar.{Reads};
 ghost use Rattle.json_value.specs.Reading as spec;
-ghost use Rattle.decimal_json.specs.Outcome.{SaysUtf8, SpellsNothing};
+ghost use Rattle.json_reading.specs.Outcome.{SaysUtf8, SpellsNothing};
 ghost use Rattle.text_checking.specs.Passes.{Checks};
 
 use crate::bytes::stopped;
 use crate::values::after_value;
-use decimal_json::{Fault, JsonFault, after_word, skip};
+use json_reading::{Fault, JsonFault, after_word, skip};
 use simdutf8::compat;
 use std::alloc::Global;
 

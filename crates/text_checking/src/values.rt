@@ -1,12 +1,12 @@
 // Values, arrays and objects (RFC 8259, sections 3 to 7): what follows them.
 ghost use Rattle.std.specs.Prelude.{◌≡◌, length};
 ghost use Rattle.std.specs.Str.{is_utf8};
-ghost use Rattle.decimal_json.specs.Gives.{StopsBefore};
+ghost use Rattle.json_reading.specs.Gives.{StopsBefore};
 ghost use Rattle.json_value.specs.Reading as spec;
 ghost use Rattle.text_checking.specs.Passes.{Passes};
 
 use crate::bytes::{expected, expected_word, stopped};
-use decimal_json::{Fault, Why, after_number, after_word, next, skip, string_at};
+use json_reading::{Fault, Why, after_number, after_word, next, skip, string_at};
 use std::alloc::Global;
 
 /// An array or object opens past the depth.

@@ -2,9 +2,9 @@
 ghost use Rattle.topology_files.specs.Files.{IsTopologyOf, ReadsTopology};
 
 use byte_ends::{Feed, MAX_INPUT, ReadFault, Source, read_all};
-use decimal_json::{JsonFault, TOPOLOGY_DEPTH, parse};
 use geojson_types::Counts;
 use inputs::FileFault;
+use json_reading::{JsonFault, TOPOLOGY_DEPTH, parse};
 use std::alloc::Global;
 use topojson_meaning::TopoFault;
 use topojson_reading::read_topology;

@@ -11,6 +11,7 @@ use Rattle.topojson_meaning.specs.Arcs.{arc_list}
 use Rattle.topojson_meaning.specs.Members.{Members, named}
 use Rattle.topojson_meaning.specs.Objects.{objects}
 use Rattle.topojson_meaning.specs.Topologies.{topology}
+use Rattle.transform_scanning.specs.Transforms.{GivesTransform}
 use Rattle.value_scanning.specs.Fronts.{FrontAt}
 use Rattle.topology_scanning.specs.declared.members.Found.{Found}
 use Rattle.topology_scanning.specs.declared.members.Parts.{Parts}
@@ -38,6 +39,12 @@ pub record Holds (found : Found) (ms : Members) (parts : Parts) (old new : Count
   pub arcs : AreArcs found (named (codes "arcs") ms) parts.arcs
   pub objects : AreObjects found (named (codes "objects") ms) parts.objects old new
 
+-- the type and the arcs were read, and the transform that was read is the one that the arcs stand on
+pub record IsSettled (found : Found) (parts : Parts) : Type 0 where
+  pub typed : parts.typed ≡ true
+  pub arcs : parts.arcs ≡ true
+  pub transform : GivesTransform parts.transform found.transform
+
 -- nothing was read
 abbrev pub nothing : Parts
 nothing = record { typed = false; arcs = false; transform = None; objects = None }
@@ -46,11 +53,13 @@ nothing = record { typed = false; arcs = false; transform = None; objects = None
 abbrev pub topology_depth : ℕ
 topology_depth = 255
 
--- the bytes spell an object (RFC 8259) of whose members this was read over these arcs, with these counts before and after
+-- the bytes spell an object (RFC 8259) of whose members this was read over these arcs, all but the objects that a topology
+-- needs among it, with these counts before and after
 pub record SpellsParts (bytes : List ℕ) (found : Found) (parts : Parts) (old new : Counts) : Type 0 where
   pub members : Members
   pub spelled : Reads topology_depth bytes (j.Object members)
   pub holds : Holds found members parts old new
+  pub settled : IsSettled found parts
 
 -- the bytes are UTF-8 and spell a JSON value (RFC 8259) that stands for this topology (TopoJSON 1.0), with what is counted in
 -- reading it

@@ -5,8 +5,8 @@ ghost use Rattle.topology_scanning.specs.TopologyParts.{ArcsStand, Holds, nothin
 ghost use Rattle.value_scanning.specs.Fronts.{MemberFront};
 ghost use Rattle.value_scanning.specs.MemberLists.{ReadsMembers, TakesMember};
 
-use decimal_json::{after_word, skip, value_at};
 use geojson_types::Counts;
+use json_reading::{after_word, skip, value_at};
 use json_value::{Items, Json, OwnText};
 use object_scanning::objects_at;
 use std::alloc::Global;

@@ -1,18 +1,17 @@
 // Topologies.
-ghost use Rattle.std.specs.Prelude.{◌≡◌, ◌∷◌, Ok, IfOk, IsTrue, IsUtf8};
+ghost use Rattle.std.specs.Prelude.{◌≡◌, [], ◌∷◌, Ok, IfOk, IsUtf8};
 ghost use Rattle.json_value.specs.Reading as reading;
 ghost use Rattle.geojson_types.specs.declared.counts.Counts.{Counts as Counted};
 ghost use Rattle.json_value.specs.Grammar.{mark};
 ghost use Rattle.json_value.specs.declared.json.Json.TheVariants as j;
 ghost use Rattle.topojson_meaning.specs.Members.{Members};
 ghost use Rattle.topojson_meaning.specs.Topologies.{topology};
-ghost use Rattle.transform_scanning.specs.Transforms.{GivesTransform};
-ghost use Rattle.topology_scanning.specs.TopologyParts.{ArcsStand, Holds, SpellsParts, SpellsTopology};
+ghost use Rattle.topology_scanning.specs.TopologyParts.{ArcsStand, Holds, IsSettled, SpellsParts, SpellsTopology};
 
 use crate::members::{Found, Parts, parts_at};
 use arc_scanning::arcs_at;
-use decimal_json::skip;
 use geojson_types::Counts;
+use json_reading::skip;
 use simdutf8::compat;
 use std::alloc::Global;
 use topojson_meaning::topology_is_valid;
@@ -28,6 +27,18 @@ fn inside_of(bytes: &[u8]) -> Result<&[u8], Halt>
     opened(b'{', skip(text_of(bytes)))
 }
 
+/// Ok where nothing follows the object, type and arcs were read, and the transform that the arcs stand on is the one that was read.
+fn settle(alloc: Global, found: &Found<'_>, parts: &Parts, rest: &[u8]) -> Result<(), Halt>
+    ensures { IfOk result (λ _. (reading.skip rest.now ≡ []) × IsSettled found.now parts.now) }
+{
+    let transform = transform_of(alloc, parts.transform.as_ref())?;
+    let is_same = are_same(found.transform.as_ref(), transform.as_ref());
+    if is_same && (skip(rest).is_empty() && (parts.typed && parts.arcs)) {
+        return Ok(());
+    }
+    Err(Halt::Unread)
+}
+
 /// What the members of the object that the bytes spell give, on arcs that were read before them.
 fn parts_on<'t>(
     alloc: Global,
@@ -40,21 +51,11 @@ fn parts_on<'t>(
 {
     let inside = inside_of(bytes)?;
     let (parts, rest) = parts_at(alloc, found, inside, counts)?;
-    if !skip(rest).is_empty() {
-        return Err(Halt::Unread);
-    }
+    settle(alloc, found, &parts, rest)?;
     Ok(parts)
 }
 
-/// Whether the transform that the arcs stand on is the one that these parts give.
-fn is_settled(alloc: Global, found: &Found<'_>, parts: &Parts) -> Result<bool, Halt>
-    ensures { IfOk result (λ settled. IsTrue settled → GivesTransform parts.now.transform found.now.transform) }
-{
-    let transform = transform_of(alloc, parts.transform.as_ref())?;
-    Ok(are_same(found.transform.as_ref(), transform.as_ref()))
-}
-
-/// The topology of these parts.
+/// The topology of these parts, of which all but the objects is settled.
 fn topology_of(
     found: Found<'_>,
     parts: Parts,
@@ -63,21 +64,10 @@ fn topology_of(
 ) -> Result<Topology, Halt>
     requires arcs { ArcsStand found counted }
     requires held { (ms : Members) × Holds found ms parts counted counts }
-    requires settled { GivesTransform parts.transform found.transform }
+    requires settled { IsSettled found parts }
     ensures { IfOk result (λ t. (ms : Members) → Holds found.entry ms parts counted counts → topology (j.Object ms) ≡ Ok (t, counts)) }
 {
-    let Parts {
-        typed,
-        arcs,
-        transform: _transform,
-        objects,
-    } = parts;
-    if !typed {
-        return Err(Halt::Unread);
-    }
-    if !arcs {
-        return Err(Halt::Unread);
-    }
+    let Parts { objects, .. } = parts;
     let Some(objects) = objects else {
         return Err(Halt::Unread);
     };
@@ -98,9 +88,6 @@ fn scan_on<'t>(
 {
     let mut counts = counted;
     let parts = parts_on(alloc, bytes, &found, &mut counts)?;
-    if !is_settled(alloc, &found, &parts)? {
-        return Err(Halt::Unread);
-    }
     let topology = topology_of(found, parts, counted, counts)?;
     Ok((topology, counts))
 }

@@ -1,7 +1,7 @@
 -- The topology that was simplified is the one that the bytes stand for.
 use Rattle.std.proofs.Common.{◌≡◌, length, subst, Result, Ok}
 use Rattle.byte_ends.specs.Ends.{Takes}
-use Rattle.decimal_json.proofs.TextsFound.{one_value}
+use Rattle.json_reading.proofs.TextsFound.{one_value}
 use Rattle.geojson_types.specs.declared.counts.Counts.{Counts}
 use Rattle.inputs.proofs.BytesDecided.{same_bytes}
 use Rattle.topojson_meaning.specs.declared.fault.TopoFault.{TopoFault}

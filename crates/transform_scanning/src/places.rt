@@ -1,5 +1,5 @@
 // Where members of a topology seem to stand. Nothing is claimed of it: what reads them says whether they do.
-use decimal_json::skip;
+use json_reading::skip;
 use value_scanning::named_value;
 
 /// Where the values of the members `arcs` and `transform` seem to stand.

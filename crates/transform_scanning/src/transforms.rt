@@ -3,7 +3,7 @@ ghost use Rattle.std.specs.Prelude.{◌≡◌, IfOk, IsTrue};
 ghost use Rattle.std.specs.Option.{option_copied};
 ghost use Rattle.transform_scanning.specs.Transforms.{GivesTransform};
 
-use decimal_json::value_at;
+use json_reading::value_at;
 use json_value::Json;
 use std::alloc::Global;
 use topojson_arc_reading::transform_if;

@@ -17,10 +17,10 @@ use Rattle.decimal_text.proofs.Nearest.{rounded_of-whole}
 use Rattle.decimal_text.proofs.ReadsParts.{parts-read}
 use Rattle.decimal_text.proofs.ScaledNumber.{scaled_of-read}
 use Rattle.json_value.specs.Reading.{Parse, ◌>>=◌, value_at, value_with, number_at, after_digits}
-use Rattle.decimal_json.proofs.Ending.{Ends}
-use Rattle.decimal_json.proofs.NumbersFound.{is_lead, with_number}
-use Rattle.decimal_json.proofs.Opened.{value_at_is}
-use Rattle.decimal_json.proofs.Steps.{differs}
+use Rattle.json_reading.proofs.Ending.{Ends}
+use Rattle.json_reading.proofs.NumbersFound.{is_lead, with_number}
+use Rattle.json_reading.proofs.Opened.{value_at_is}
+use Rattle.json_reading.proofs.Steps.{differs}
 use Rattle.unit_scanning.specs.Numbers.{digits_front, IsFractionOf, IsNumberAt, ends, leads, starts_digit, whole_front}
 
 not_true : (b : Bool) → not b ≡ true → b ≡ false

@@ -3,7 +3,7 @@ ghost use Rattle.std.specs.Prelude.{◌≡◌, ◌∷◌, IfOk, IfSome};
 ghost use Rattle.json_value.specs.Reading as reading;
 
 use crate::halt::Halt;
-use decimal_json::skip;
+use json_reading::skip;
 
 /// What follows the byte, where it is first.
 #[inline(always)]

@@ -5,7 +5,7 @@ ghost use Rattle.unit_scanning.specs.Numbers.{IsNumberAt, IsUnits, IsWholeNumber
 use crate::digits::is_digit;
 use crate::halt::Halt;
 use crate::units::{Units, units_at, whole_number_at};
-use decimal_json::value_at;
+use json_reading::value_at;
 use std::alloc::Global;
 
 /// How many decimals a unit has.

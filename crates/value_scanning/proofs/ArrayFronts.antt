@@ -5,8 +5,8 @@ use Rattle.json_value.specs.declared.json.Json.{Json}
 use Rattle.json_value.specs.declared.json.Json.TheVariants as j
 use Rattle.json_members.specs.Readers.{Counting}
 use Rattle.json_value.specs.Reading.{Parse, skip, after_word, value_with, value_at, number_at, after_number, after_minus, after_whole, after_some_digits}
-use Rattle.decimal_json.proofs.Opened.{value_at_is, array_found, is_closed}
-use Rattle.decimal_json.proofs.ValuesRead.{value_takes}
+use Rattle.json_reading.proofs.Opened.{value_at_is, array_found, is_closed}
+use Rattle.json_reading.proofs.ValuesRead.{value_takes}
 use Rattle.geojson_types.specs.declared.counts.Counts.{Counts}
 use Rattle.value_scanning.specs.Fronts.{any, Front, Stands, Behind, one, some_one}
 use Rattle.value_scanning.proofs.BehindLists.{list_items, no_close, one_byte}

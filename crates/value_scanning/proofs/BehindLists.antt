@@ -1,9 +1,9 @@
 -- What stands behind a thing of a list is what the reading function gives of it.
 use Rattle.std.proofs.Common.{◌≡◌, ℕ, zero, suc, ◌<◌, ◌≤◌, true, false, eqb, List, [], ◌∷◌, length, Some, None, refl, ap, ◌∙◌, arith, length-append}
 use Rattle.json_value.specs.Reading.{Parse, skip, after_word, list_after, list_at, items_at}
-use Rattle.decimal_json.proofs.Opened.{is_open}
-use Rattle.decimal_json.proofs.Steps.{turn}
-use Rattle.decimal_json.proofs.Words.{skip_takes}
+use Rattle.json_reading.proofs.Opened.{is_open}
+use Rattle.json_reading.proofs.Steps.{turn}
+use Rattle.json_reading.proofs.Words.{skip_takes}
 use Rattle.value_scanning.specs.Fronts.{Behind, behind_last, behind_more}
 
 -- white space is not longer than the bytes

@@ -3,8 +3,8 @@ use Rattle.std.proofs.Common.{◌≡◌, ℕ, ◌-◌, ◌<◌, ◌≤◌, List,
 use Rattle.json_value.specs.declared.json.Json.{Json}
 use Rattle.json_value.specs.declared.json.Json.TheVariants as j
 use Rattle.json_value.specs.Reading.{skip, after_word, name_at, member_at, value_at}
-use Rattle.decimal_json.proofs.Opened.{object_found}
-use Rattle.decimal_json.proofs.ValuesRead.{member_takes, value_takes}
+use Rattle.json_reading.proofs.Opened.{object_found}
+use Rattle.json_reading.proofs.ValuesRead.{member_takes, value_takes}
 use Rattle.value_scanning.specs.Fronts.{any, MemberFront, Behind}
 use Rattle.value_scanning.proofs.BehindLists.{list_items, no_close}
 

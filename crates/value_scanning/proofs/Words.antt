@@ -9,7 +9,7 @@ use Rattle.json_value.specs.declared.json.Json.{Json}
 use Rattle.json_value.specs.declared.json.Json.TheVariants as j
 use Rattle.json_value.specs.Grammar.{is_plain}
 use Rattle.json_value.specs.Reading.{skip, after_word, after_plain, plain_front, chars_at, chars_after, if_text, string_at, name_at, member_at, value_at}
-use Rattle.decimal_json.proofs.Opened.{member_found, text_found}
+use Rattle.json_reading.proofs.Opened.{member_found, text_found}
 use Rattle.value_scanning.specs.Fronts.{any, Front, IsNamed, NamedValue}
 use Rattle.value_scanning.proofs.BehindLists.{one_byte}
 

@@ -3,7 +3,7 @@ ghost use Rattle.std.specs.Prelude.{◌≡◌, ◌∷◌, ◌++◌, IfOk, IfSome
 ghost use Rattle.json_value.specs.declared.json.Json.{Json as Value};
 ghost use Rattle.value_scanning.specs.Fronts.{IsNamed, MemberFront, NamedValue};
 
-use decimal_json::{after_word, skip, string_at};
+use json_reading::{after_word, skip, string_at};
 use json_value::OwnText;
 use std::alloc::Global;
 use text_checking::after_value;

@@ -3,7 +3,7 @@ ghost use Rattle.std.specs.Prelude.{IfOk};
 ghost use Rattle.value_scanning.specs.Fronts.{AreFurther};
 
 use crate::members::opened;
-use decimal_json::skip;
+use json_reading::skip;
 use std::alloc::Global;
 use unit_scanning::{Halt, after_byte, number_at};
 

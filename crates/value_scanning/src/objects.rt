@@ -7,8 +7,8 @@ ghost use Rattle.geojson_types.specs.declared.counts.Counts.{Counts as Counted};
 ghost use Rattle.value_scanning.specs.MemberLists.{TakesMember, ReadsMembers};
 
 use crate::members::opened;
-use decimal_json::{after_word, skip};
 use geojson_types::Counts;
+use json_reading::{after_word, skip};
 use std::alloc::Global;
 use unit_scanning::{Halt, after_byte};
 

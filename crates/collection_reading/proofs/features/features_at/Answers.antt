@@ -1,5 +1,5 @@
 use Rattle.std.proofs.Common.{Some, sym, ap, ◌∷◌, [], ◌∙◌}
-use Rattle.decimal_json.proofs.Words.{after_word_takes}
+use Rattle.json_reading.proofs.Words.{after_word_takes}
 use Rattle.collection_reading.proofs.FeaturesFollow.{none_read}
 use Rattle.collection_reading.proofs.FeaturesSoFar.{no_array_stands, none_stand, some_stand}
 use Rattle.coordinate_faults.proofs.FirstBytes.{is_no_array}

@@ -1,5 +1,5 @@
 use Rattle.std.proofs.Common.{sym, ◌∷◌, [], ◌∙◌, arith}
-use Rattle.decimal_json.proofs.Words.{after_word_takes}
+use Rattle.json_reading.proofs.Words.{after_word_takes}
 use Rattle.value_scanning.proofs.ArrayFronts.{empty_value}
 use Rattle.coordinate_faults.proofs.FirstBytes.{is_no_array}
 use Rattle.coordinate_faults.proofs.arrays.opening_at.Goals as goal

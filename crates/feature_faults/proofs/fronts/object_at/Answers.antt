@@ -1,5 +1,5 @@
 use Rattle.std.proofs.Common.{◌≡◌, ◌-◌, sym, refl, ◌∷◌, [], arith}
-use Rattle.decimal_json.proofs.Words.{after_word_takes}
+use Rattle.json_reading.proofs.Words.{after_word_takes}
 use Rattle.json_value.specs.declared.json.Json.TheVariants as j
 use Rattle.coordinate_faults.proofs.FirstBytes.{is_no_object}
 use Rattle.feature_faults.proofs.fronts.object_at.Goals as goal

@@ -1,4 +1,4 @@
-use Rattle.decimal_json.proofs.NumbersRead.{shorter}
+use Rattle.json_reading.proofs.NumbersRead.{shorter}
 use Rattle.properties_scanning.proofs.Copied.{number_copied}
 use Rattle.properties_scanning.proofs.values.copy_number.Goals as goal
 

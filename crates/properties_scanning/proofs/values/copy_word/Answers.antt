@@ -1,5 +1,5 @@
 use Rattle.std.proofs.Common.{sym}
-use Rattle.decimal_json.proofs.Words.{after_word_takes}
+use Rattle.json_reading.proofs.Words.{after_word_takes}
 use Rattle.properties_scanning.proofs.values.copy_word.Goals as goal
 
 pub returns : goal.returns

@@ -1,6 +1,6 @@
 use Rattle.std.specs.Str.{is_utf8}
-use Rattle.decimal_json.proofs.TextsRead.{text_takes}
-use Rattle.decimal_json.proofs.TextsFound.{not_read}
+use Rattle.json_reading.proofs.TextsRead.{text_takes}
+use Rattle.json_reading.proofs.TextsFound.{not_read}
 use Rattle.text_checking.proofs.checking.check.Goals as goal
 
 pub returns-in-Ok-clause-read : goal.returns-in-Ok-clause-read

@@ -2,7 +2,7 @@ use Rattle.std.proofs.Common.{false, true}
 use Rattle.std.specs.Str.{is_utf8}
 use Rattle.std.proofs.lemmas.Result.{err_from_is_err_and}
 use Rattle.json_value.specs.Reading.{document}
-use Rattle.decimal_json.proofs.Steps.{none_fails}
+use Rattle.json_reading.proofs.Steps.{none_fails}
 use Rattle.text_checking.proofs.Passed.{first_fails}
 use Rattle.text_checking.proofs.Texts.{document_by}
 use Rattle.text_checking.proofs.checking.document.Goals as goal

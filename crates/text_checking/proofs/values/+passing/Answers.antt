@@ -6,9 +6,9 @@ use Rattle.std.specs.Str.{is_utf8}
 use Rattle.json_value.specs.declared.json.Json.{Json}
 use Rattle.json_value.specs.declared.json.Json.TheVariants as j
 use Rattle.json_value.specs.Reading as spec
-use Rattle.decimal_json.proofs.ListLoop as loop
-use Rattle.decimal_json.proofs.Opened as opened
-use Rattle.decimal_json.proofs.Steps.{none_fails, no_comma}
+use Rattle.json_reading.proofs.ListLoop as loop
+use Rattle.json_reading.proofs.Opened as opened
+use Rattle.json_reading.proofs.Steps.{none_fails, no_comma}
 use Rattle.text_checking.proofs.Passed.{passes_on, word_passed, number_passed, colon_fails}
 use Rattle.text_checking.proofs.values.+passing.Goals as goal
 

@@ -2,7 +2,7 @@ use Rattle.std.proofs.Common.{◌≡◌, ℕ, List, length, ◌+◌, ◌-◌, �
 use Rattle.std.specs.Str.{is_utf8}
 use Rattle.json_value.specs.declared.json.Json.{Json}
 use Rattle.json_value.specs.Reading as spec
-use Rattle.decimal_json.proofs.StringLoop.{with_front}
+use Rattle.json_reading.proofs.StringLoop.{with_front}
 use Rattle.text_checking.proofs.values.+passing.Given as goal
 
 abbrev pub decreases-after_value : goal.decreases-after_value

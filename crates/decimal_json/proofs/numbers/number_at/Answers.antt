@@ -1,8 +1,0 @@
-use Rattle.decimal_json.proofs.NumbersRead.{shorter, front_number}
-use Rattle.decimal_json.proofs.numbers.number_at.Goals as goal
-
-pub overflow_sub-bytes : goal.overflow_sub-bytes
-overflow_sub-bytes c = shorter c.args.bytes.now _ c.in_ok-rest.ensures
-
-pub front-requires-clause-number : goal.front-requires-clause-number
-front-requires-clause-number c = front_number c.args.bytes.now _ c.in_ok-rest.ensures

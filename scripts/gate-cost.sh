@@ -2,14 +2,14 @@
 # Tells what the gate costs: processor seconds of each crate's proof, tests and must-fail edits, and the longest chain of
 # proofs, each crate behind those it stands on. It runs the gate and looks at the prover's processes once a second.
 #
-#     scripts/gate-cost.sh                  measures `rt ci`, which proves everything from nothing
+#     scripts/gate-cost.sh                  measures `rt ci --anew`, which proves everything from nothing
 #     scripts/gate-cost.sh rt all check     measures another command, run at the top of the repository
 #
 # The command's own output goes to the file `gate.log` in the folder out/, its status is the script's. A process that lives
 # for less than a second may be missed, so the last line has the whole sum, as the system counts it.
 set -u
 cd "$(dirname "$(readlink -f "$0")")/.." || exit 2
-[ $# -gt 0 ] || set -- rt ci
+[ $# -gt 0 ] || set -- rt ci --anew
 command -v "$1" >/dev/null || { echo "gate-cost: there is no command '$1' on PATH" >&2; exit 2; }
 mkdir -p out
 samples=$(mktemp) || exit 2

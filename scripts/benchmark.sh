@@ -23,8 +23,7 @@ trap 'rm -rf "$work"' EXIT
 trap 'exit 130' INT TERM
 
 if [ -z "$program" ]; then
-    "$root/mapchain" --help >/dev/null
-    program=$root/crates/mapchain/out/mapchain
+    program=$("$root/scripts/program-path.sh") || exit
 fi
 
 # row MESH INPUT OUTPUT NAME COMMAND..: runs the command, prints its row, and keeps its time a byte.

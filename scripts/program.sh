@@ -137,3 +137,21 @@ prove_and_build() {
     rm -rf "$room"
     trap - EXIT INT TERM
 }
+
+# Chooses the program that ./mapchain runs: the one that was built here, where no source is newer; else the released one, where it
+# was made of these very sources and is whole; else one that is proved and built first.
+choose_program() {
+    program=$built
+    if [ -x "$built" ] && ! is_older_than_sources "$built"; then
+        return
+    fi
+    if ! is_released; then
+        echo "mapchain: release/ has no program that was made of these very sources" >&2
+    elif ! is_whole; then
+        echo "mapchain: release/mapchain isn't the program whose sum release/record tells, so it isn't run" >&2
+    else
+        program=$released
+        return
+    fi
+    prove_and_build
+}

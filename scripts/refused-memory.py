@@ -203,19 +203,22 @@ def reduce_again(refusing, program):
     print(f"a reducer, called twice: {number - 1} allocations, each refused once: {counts}")
 
 
+def program_path():
+    """The program that ./mapchain runs."""
+    return subprocess.run([f"{ROOT}/scripts/program-path.sh"], stdout=subprocess.PIPE, text=True, check=True).stdout.rstrip("\n")
+
+
 def built(name):
     """The program of a crate, which is built where it isn't there."""
     program = f"{ROOT}/crates/{name}/out/{name}"
-    if name == "mapchain":
-        subprocess.run([f"{ROOT}/mapchain", "--help"], stdout=subprocess.DEVNULL, check=True)
-    elif not os.path.exists(program):
+    if not os.path.exists(program):
         subprocess.run(["rt", "run"], cwd=f"{ROOT}/crates/{name}", stdout=subprocess.DEVNULL, check=True)
     return program
 
 
 def main():
-    program = sys.argv[1] if len(sys.argv) > 1 else built("mapchain")
-    reducing = sys.argv[2] if len(sys.argv) > 2 else built("allocation_tests")
+    program = os.path.abspath(sys.argv[1]) if len(sys.argv) > 1 else program_path()
+    reducing = os.path.abspath(sys.argv[2]) if len(sys.argv) > 2 else built("allocation_tests")
     start = time.monotonic()
     with tempfile.TemporaryDirectory() as folder:
         for name, text in FILES.items():

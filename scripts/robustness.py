@@ -20,7 +20,8 @@ import threading
 import time
 
 ROOT = os.path.dirname(os.path.dirname(os.path.realpath(__file__)))
-PROGRAM = os.path.abspath(sys.argv[1]) if len(sys.argv) > 1 else f"{ROOT}/crates/mapchain/out/mapchain"
+PROGRAM_PATH = [f"{ROOT}/scripts/program-path.sh"]
+PROGRAM = os.path.abspath(sys.argv[1]) if len(sys.argv) > 1 else subprocess.check_output(PROGRAM_PATH, text=True).rstrip("\n")
 unexpected = []
 
 
@@ -365,8 +366,6 @@ def try_sizes():
 
 
 def main():
-    if len(sys.argv) < 2:
-        subprocess.run([f"{ROOT}/mapchain", "--help"], stdout=subprocess.DEVNULL, check=True)
     resource.setrlimit(resource.RLIMIT_NOFILE, (OPEN_FILES + 100, OPEN_FILES + 100))
     with tempfile.TemporaryDirectory() as folder:
         os.chdir(folder)

@@ -81,11 +81,15 @@ is_whole() {
     [ "$(told program)" = "$(sum_of "$released")" ]
 }
 
-# The verdict on the program in what `rt ci` said, if it proved it in that run.
+# Keeps the verdict on the program that was built: the prover's line in what `rt ci` said, where it proved the program in that run;
+# else the one that is told of the same program already; else rt's word that an earlier run on this machine proved it.
 keep_verdict() {
+    built_sum=$(sum_of "$built")
     line=$(sed -n '/^== mapchain$/,/^rt: mapchain /{/^logic=/p;}' "$1")
-    [ -n "$line" ] && mkdir -p "$beside" && printf '%s %s\n' "$(sum_of "$built")" "$line" >"$beside/verdict"
-    return 0
+    [ -n "$line" ] || line=$(sed -n "s/^$built_sum //p" "$beside/verdict" 2>/dev/null)
+    [ -n "$line" ] || [ "$(told program)" != "$built_sum" ] || line=$(told verdict)
+    [ -n "$line" ] || line=$(sed -n 's/^rt: \(mapchain is kept: .*\)/\1/p' "$1")
+    mkdir -p "$beside" && printf '%s %s\n' "$built_sum" "$line" >"$beside/verdict"
 }
 
 # Reads what `rt ci` says: keeps it, and tells each crate that has ended. The last line is its status.

@@ -1,5 +1,5 @@
 -- Positions and cells by their numbers.
-use Rattle.std.proofs.Common.{◌≡◌, ℕ, ◌^◌, Bool, true, not, List, ◌∷◌, length, Option, Some, None, Ok, refl, arith}
+use Rattle.std.proofs.Common.{◌≡◌, ℕ, Bool, true, not, List, ◌∷◌, length, Option, Some, None, Ok, refl, arith}
 use Rattle.std.specs.Prelude.{ℤ, nat_lt}
 use Rattle.json_value.specs.declared.json.Json.{Json}
 use Rattle.json_value.specs.declared.json.Json.TheVariants as j
@@ -8,7 +8,8 @@ use Rattle.decimal_text.specs.Scaling.{scaled_of}
 use Rattle.json_value.specs.Reading.{skip}
 use Rattle.geojson_types.specs.declared.counts.Counts.{Counts}
 use Rattle.geojson_types.specs.Counting.{count_rounded, count_extra}
-use Rattle.geometry.specs.Points.{Point, position_limit}
+use Rattle.geometry.specs.Points.{Point}
+use Rattle.geometry.specs.Units.{unit_places, input_limit, position_limit}
 use Rattle.topojson_types.specs.declared.transform.Transform.{Transform}
 use Rattle.topojson_types.specs.Transforms.{moved}
 use Rattle.topojson_meaning.specs.Arcs.{number_text, units, elements_position, position, grid_number, grid_cell, elements_cell, cell, cells_behind}
@@ -28,11 +29,11 @@ use Rattle.value_scanning.proofs.InTurn.{EndsList, GoesThrough}
 abbrev listed : List ℕ → List ℕ → List Json → Json
 listed s t vs = j.Array (j.Number s ∷ j.Number t ∷ vs)
 
-units_are : (t : List ℕ) (x : ℤ) (exact : Bool) (c : Counts) → scaled_of 7 (10 ^ 15) t ≡ Ok (record { value = x; exact = exact }) → units t c ≡ Ok (x, count_rounded (not exact) c)
+units_are : (t : List ℕ) (x : ℤ) (exact : Bool) (c : Counts) → scaled_of unit_places input_limit t ≡ Ok (record { value = x; exact = exact }) → units t c ≡ Ok (x, count_rounded (not exact) c)
 unfolding units
-units_are t x exact c h = rw (wider 7 (10 ^ 15) position_limit t (record { value = x; exact = exact }) (omega arith) h) refl
+units_are t x exact c h = rw (wider unit_places input_limit position_limit t (record { value = x; exact = exact }) (omega arith) h) refl
 
-position_is : (s t : List ℕ) (vs : List Json) (more : Bool) (x y : ℤ) (ex ey : Bool) (c : Counts) → scaled_of 7 (10 ^ 15) s ≡ Ok (record { value = x; exact = ex }) → scaled_of 7 (10 ^ 15) t ≡ Ok (record { value = y; exact = ey })
+position_is : (s t : List ℕ) (vs : List Json) (more : Bool) (x y : ℤ) (ex ey : Bool) (c : Counts) → scaled_of unit_places input_limit s ≡ Ok (record { value = x; exact = ex }) → scaled_of unit_places input_limit t ≡ Ok (record { value = y; exact = ey })
     → more ≡ nat_lt 0 (length vs) → position (listed s t vs) c ≡ Ok (record { x = x; y = y }, count_extra more (count_rounded (not ey) (count_rounded (not ex) c)))
 unfolding position elements elements_position number_text
 position_is s t vs more x y ex ey c hx hy some =

@@ -1,7 +1,8 @@
 -- Worked examples, computed from the definition.
-use Rattle.std.proofs.Common.{◌≡◌, ◌*◌, ◌^◌, Some, None, refl}
+use Rattle.std.proofs.Common.{◌≡◌, Some, None, refl}
 use Rattle.std.specs.Prelude.{codes}
 use Rattle.decimal_text.specs.Scaling.{scaled_of}
+use Rattle.geometry.specs.Units.{threshold_limit}
 use Rattle.area_thresholds.specs.Thresholds.{threshold_of}
 
 one_and_a_half : threshold_of (codes "1.5") ≡ Some 300000000000000
@@ -28,7 +29,7 @@ minus_zero = unfold scaled_of in refl
 fine : threshold_of (codes "4.50000000000001") ≡ Some 900000000000002
 fine = unfold scaled_of in refl
 
-largest : threshold_of (codes "1000000000000000000") ≡ Some (2 * 10 ^ 32)
+largest : threshold_of (codes "1000000000000000000") ≡ Some threshold_limit
 largest = unfold scaled_of in refl
 
 past_the_largest : threshold_of (codes "1000000000000000000.00000000000001") ≡ None

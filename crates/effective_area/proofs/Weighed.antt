@@ -1,5 +1,5 @@
 -- The weights of the positions that were taken out, and what is left of the others.
-use Rattle.std.proofs.Common.{◌≡◌, ◌≢◌, ℕ, zero, suc, ◌+◌, ◌-◌, ◌<◌, ◌≤◌, max, true, false, not, eqb, List, [], ◌∷◌, Some, None, length, map, get_or, set, refl, ap, sym, ◌∙◌, subst, arith, ◌⊎◌, inl, inr}
+use Rattle.std.proofs.Common.{◌≡◌, ◌≢◌, ℕ, zero, suc, ◌+◌, ◌-◌, ◌<◌, ◌≤◌, max, true, false, not, eqb, List, [], ◌∷◌, Some, None, length, map, get_or, set, refl, ap, sym, ◌∙◌, subst, arith, ◌⊎◌, inl, inr, ◌*◌}
 use Rattle.std.specs.Prelude.{replicate, ℤ, ◌-ℤ◌, ◌*ℤ◌, unsigned_abs}
 use Rattle.std.specs.List.{All, filter, range_with_len, AllByRecursion}
 use Rattle.std.proofs.lemmas.Bool.Decides.{nat_tests}
@@ -8,14 +8,15 @@ use Rattle.std.proofs.lemmas.List.{ext_get_or, get_or_default, get_or_past, get_
 use Rattle.std.proofs.lemmas.List.FromFn.{get_or-map-range_with_len, length-map-range_with_len}
 use Rattle.geometry.specs.Areas.{twice_area, cross}
 use Rattle.geometry.specs.Lists.{In}
-use Rattle.geometry.specs.Points.{Point, IsPosition, position_limit}
+use Rattle.geometry.specs.Points.{Point, IsPosition}
+use Rattle.geometry.specs.Units.{position_limit, area_limit}
 use Rattle.elimination_meaning.specs.Elimination.{Vertex, Corner, corners, least, without}
 use Rattle.elimination_meaning.specs.Weights.{weight_from, weight}
 use Rattle.elimination_meaning.proofs.Weights.{weigh_on}
 use Rattle.effective_area.specs.declared.weight.Weight.{Weight}
 use Rattle.effective_area.specs.declared.weight.Weight.TheVariants.{End, Area}
 use Rattle.effective_area.specs.Vertices.{origin, vertices}
-use Rattle.effective_area.specs.Weights.{no_limit, told, weights_of}
+use Rattle.effective_area.specs.Weights.{told, weights_of}
 use Rattle.effective_area.proofs.ChainLaws.{same_or_not, keep_step, drop_step}
 use Rattle.effective_area.proofs.Products.{product_bound, apart_fits}
 use Rattle.effective_area.proofs.Scan.{without_vertices, all_vertices}
@@ -143,10 +144,10 @@ short_weights (p ∷ (q ∷ ps)) ws h e = absurd (omega arith)
 
 -- ---- no area is as great as the limit
 
-apart : (a b : ℤ) → unsigned_abs a ≤ position_limit → unsigned_abs b ≤ position_limit → unsigned_abs (a -ℤ b) ≤ 6000000000000000
+apart : (a b : ℤ) → unsigned_abs a ≤ position_limit → unsigned_abs b ≤ position_limit → unsigned_abs (a -ℤ b) ≤ 2 * position_limit
 apart a b p q = omega (arith, ints)
 
-area_bound : (a b c : Point) → IsPosition a → IsPosition b → IsPosition c → twice_area a b c < no_limit
+area_bound : (a b c : Point) → IsPosition a → IsPosition b → IsPosition c → twice_area a b c < area_limit
 area_bound a b c p q r = unfold twice_area cross in
     apart_fits ((b.x -ℤ a.x) *ℤ (c.y -ℤ a.y)) ((c.x -ℤ a.x) *ℤ (b.y -ℤ a.y))
     (product_bound (b.x -ℤ a.x) (c.y -ℤ a.y) (apart b.x a.x q.0 p.0) (apart c.y a.y r.1 p.1))
@@ -165,7 +166,7 @@ more_within ps i p all is h k d l m = on (same_or_not k i)
     on (inr n) = all k d (omega arith) m
 
 -- where each corner is over the limit, there is none
-pub none_over : (ps : List Point) (vs : List ℕ) → All IsPosition ps → AllByRecursion (λ c. no_limit ≤ c.area) (corners (vertices ps (0 ∷ vs))) → least (corners (vertices ps (0 ∷ vs))) ≡ None
+pub none_over : (ps : List Point) (vs : List ℕ) → All IsPosition ps → AllByRecursion (λ c. area_limit ≤ c.area) (corners (vertices ps (0 ∷ vs))) → least (corners (vertices ps (0 ∷ vs))) ≡ None
 none_over ps [] all h = refl
 none_over ps (v ∷ []) all h = refl
 none_over ps (v ∷ (w ∷ ws)) all h = grind (arith, area_bound, is_position)

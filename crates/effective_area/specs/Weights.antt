@@ -1,14 +1,10 @@
 -- The weights of a line's positions.
-use Rattle.std.specs.Prelude.{ℕ, ◌^◌, List, Option, None, Some, length, map}
+use Rattle.std.specs.Prelude.{ℕ, List, Option, None, Some, length, map}
 use Rattle.std.specs.List.{range_with_len}
 use Rattle.geometry.specs.Points.{Point}
 use Rattle.elimination_meaning.specs.Weights.{weight}
 use Rattle.effective_area.specs.declared.weight.Weight.{Weight}
 use Rattle.effective_area.specs.declared.weight.Weight.TheVariants.{End, Area}
-
--- over twice the area of any triangle between positions
-abbrev pub no_limit : ℕ
-no_limit = 10 ^ 32
 
 -- an end has no area
 abbrev pub told : Option ℕ → Weight

@@ -1,7 +1,7 @@
-ghost use Rattle.std.specs.Prelude.{◌≡◌, ◌≤◌, ◌<◌, ◌^◌, ◌*◌, ◌-ℤ◌, ◌*ℤ◌, unsigned_abs};
+ghost use Rattle.std.specs.Prelude.{◌≡◌, ◌≤◌, ◌<◌, ◌*◌, ◌-ℤ◌, ◌*ℤ◌, unsigned_abs};
 ghost use Rattle.effective_area.specs.Counts.{RoseAtMost, RoseBy, no_steps, one_area, one_push};
 ghost use Rattle.geometry.specs.Areas as spec;
-ghost use Rattle.geometry.specs.Points.{position_limit};
+ghost use Rattle.geometry.specs.Units.{area_limit, position_limit};
 
 use geometry::Position;
 
@@ -47,17 +47,17 @@ fn difference(a: i64, b: i64) -> i128
     requires a { unsigned_abs a ≤ position_limit }
     requires b { unsigned_abs b ≤ position_limit }
     ensures value { result ≡ a -ℤ b }
-    ensures bound { unsigned_abs result ≤ 6000000000000000 }
+    ensures bound { unsigned_abs result ≤ 2 * position_limit }
 {
     a as i128 - b as i128
 }
 
 /// A product of differences.
 fn product(a: i128, b: i128) -> i128
-    requires a { unsigned_abs a ≤ 6000000000000000 }
-    requires b { unsigned_abs b ≤ 6000000000000000 }
+    requires a { unsigned_abs a ≤ 2 * position_limit }
+    requires b { unsigned_abs b ≤ 2 * position_limit }
     ensures value { result ≡ a *ℤ b }
-    ensures bound { unsigned_abs result ≤ 36000000000000000000000000000000 }
+    ensures bound { unsigned_abs result ≤ 4 * position_limit * position_limit }
 {
     a * b
 }
@@ -66,7 +66,7 @@ fn product(a: i128, b: i128) -> i128
 /// effective area (Visvalingam and Whyatt 1993). It is counted.
 pub fn twice_area(steps: &mut Steps, a: Position, b: Position, c: Position) -> u128
     ensures value { result ≡ spec.twice_area a b c }
-    ensures bound { result < 10 ^ 32 }
+    ensures bound { result < area_limit }
     ensures counted { steps.new ≡ one_area steps.old }
 {
     steps.count_area();

@@ -3,6 +3,7 @@ ghost use Rattle.std.specs.BinaryHeap.{heap_items, IsHeap};
 ghost use Rattle.std.specs.List.{range_with_len};
 ghost use Rattle.std.specs.List.Sorted.{IsSorted};
 ghost use Rattle.geometry.specs.Points.{IsPosition};
+ghost use Rattle.geometry.specs.Units.{area_limit};
 ghost use Rattle.effective_area.specs.declared.weight.Weight.TheVariants as weight;
 ghost use Rattle.effective_area.specs.Links.{IsState, rentry_cmp};
 ghost use Rattle.effective_area.specs.Weights as spec;
@@ -14,14 +15,11 @@ use crate::noting::noted_links;
 use crate::steps::Steps;
 use crate::taking::take_first;
 use crate::weight::Weight;
-use geometry::Position;
+use geometry::{AREA_LIMIT, Position};
 use owned_values::Memory;
 use std::alloc::Global;
 use std::cmp::Reverse;
 use std::collections::BinaryHeap;
-
-/// Over twice the area of any triangle between positions, in square units.
-const NO_LIMIT: u128 = 100_000_000_000_000_000_000_000_000_000_000;
 
 /// A position is within the limit of positions: this does nothing but say so.
 fn is_within(position: Position)
@@ -55,7 +53,7 @@ fn weigh(
     requires two { 2 ≤ length arc.now }
     requires sorted { IsSorted rentry_cmp sorted.old.items }
     requires order { IsHeap rentry_cmp (heap_items heap.old) }
-    requires state { IsState spec.no_limit arc.now links.old (sorted.old.items ++ heap_items heap.old) (length arc.now - 2) (range_with_len 1 (length arc.now - 1)) }
+    requires state { IsState area_limit arc.now links.old (sorted.old.items ++ heap_items heap.old) (length arc.now - 2) (range_with_len 1 (length arc.now - 1)) }
     requires within { All IsPosition arc.now }
     requires ends { weights.old ≡ replicate (length arc.now) weight.End }
     ensures { OnOk result (weights.new ≡ spec.weights_of arc.now) }
@@ -63,7 +61,9 @@ fn weigh(
     let mut steps = Steps::none();
     let mut level: u128 = 0;
     let mut left = arc.len() - 2;
-    'corners: while let Some(corner) = take_first(sorted, heap, &mut steps, arc, links, NO_LIMIT)? {
+    'corners: while let Some(corner) = take_first(
+        sorted, heap, &mut steps, arc, links, AREA_LIMIT,
+    )? {
         level = level.max(corner.area);
         weights[corner.index] = Weight::Area(level);
         left -= 1;
@@ -81,8 +81,8 @@ pub fn weights(alloc: Global, arc: &[Position]) -> Result<Vec<Weight>, Memory>
         return Ok(weights);
     }
     let mut steps = Steps::none();
-    let mut links = noted_links(alloc, &mut steps, arc, NO_LIMIT)?;
-    let mut sorted = sorted_entries(alloc, &mut steps, arc, &links, NO_LIMIT)?;
+    let mut links = noted_links(alloc, &mut steps, arc, AREA_LIMIT)?;
+    let mut sorted = sorted_entries(alloc, &mut steps, arc, &links, AREA_LIMIT)?;
     let mut heap = BinaryHeap::new(alloc);
     weigh(&mut sorted, &mut heap, arc, &mut links, &mut weights)?;
     Ok(weights)

@@ -21,7 +21,7 @@ use Rattle.geojson_model.specs.Members.{named, need, type_name}
 use Rattle.geojson_model.specs.Polygons.{polygon_in, ring}
 use Rattle.geojson_model.specs.Reader.{Reader, gather, kept}
 use Rattle.geojson_model.specs.Types.{geojson_type, geometry_type, coordinates_type}
-use Rattle.geometry.specs.Points.{input_limit, unit_places}
+use Rattle.geometry.specs.Units.{input_limit, unit_places}
 use Rattle.geojson_model.proofs.Unrolled.{shape_object, shapes_array}
 
 -- a layer, a fault before any feature, and one in a feature

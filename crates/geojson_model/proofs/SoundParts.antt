@@ -10,7 +10,8 @@ use Rattle.geojson_types.specs.Counting.{count_rounded}
 use Rattle.geojson_types.specs.Features.{Shape, is_some_list}
 use Rattle.geometry.specs.Lists.{map_some, unless_empty}
 use Rattle.geojson_types.specs.Nesting.{nesting}
-use Rattle.geometry.specs.Points.{Point, IsInput, input_limit}
+use Rattle.geometry.specs.Points.{Point, IsInput}
+use Rattle.geometry.specs.Units.{input_limit}
 use Rattle.geometry.specs.Rings.{is_ring}
 use Rattle.geojson_model.specs.declared.fault.GeoFaultKind.TheVariants.{WrongKind, Inexact}
 use Rattle.geojson_model.specs.declared.types.CoordinatesType.{CoordinatesType}

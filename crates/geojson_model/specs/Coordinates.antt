@@ -7,7 +7,8 @@ use Rattle.decimal_text.specs.Scaling.{scaled_of}
 use Rattle.geojson_model.specs.declared.fault.GeoFaultKind.TheVariants.{WrongKind, ShortPosition, Range, Inexact}
 use Rattle.geojson_types.specs.Counting.{count_rounded, count_extra}
 use Rattle.json_value.specs.Kinds.{array_of, number_of}
-use Rattle.geometry.specs.Points.{Point, input_limit, unit_places}
+use Rattle.geometry.specs.Points.{Point}
+use Rattle.geometry.specs.Units.{input_limit, unit_places}
 use Rattle.geojson_model.specs.Reader.{Reader, ◌>>=◌, fail}
 
 -- whole units, unless they are out of range, or were rounded where that is refused

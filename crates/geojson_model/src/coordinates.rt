@@ -2,7 +2,7 @@
 ghost use Rattle.std.specs.Prelude.{◌≡◌, ◌≤◌, IfOk, unsigned_abs};
 ghost use Rattle.geojson_model.specs.Answers.{Gives};
 ghost use Rattle.geojson_model.specs.Coordinates as spec;
-ghost use Rattle.geometry.specs.Points.{input_limit};
+ghost use Rattle.geometry.specs.Units.{input_limit};
 ghost use Rattle.geojson_model.specs.Reader.{each};
 
 use crate::fault::GeoFaultKind;

@@ -39,7 +39,7 @@ pub enum GeoFaultKind {
     /// The magnitude of a rounded coordinate is above `INPUT_LIMIT`.
     #[error("Range")]
     Range,
-    /// A coordinate isn't whole in units of `10^-7`, where that is asked for.
+    /// A coordinate isn't whole in units of `10^-PLACES`, where that is asked for.
     #[error("Inexact")]
     Inexact,
     /// An allocation was refused.

@@ -107,7 +107,7 @@ fn features(
 }
 
 /// The layer that a JSON value stands for (RFC 7946), beside what was counted. `exact` refuses a coordinate that
-/// isn't whole in units of `10^-7`, which else is rounded, halves away from zero, and counted. A Feature and a bare
+/// isn't whole in units of `10^-PLACES`, which else is rounded, halves away from zero, and counted. A Feature and a bare
 /// geometry are the one feature of their layer. Identifiers and properties are moved, unchanged. An empty array in
 /// place of coordinates, of a line, of a ring or of a polygon is left out and counted; a geometry of which nothing
 /// is left is null. The fault is the first in the order in which members are looked at, wherever they stand: the type, then the

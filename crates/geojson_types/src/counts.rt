@@ -4,7 +4,7 @@ ghost use Rattle.geojson_types.specs.Counting as spec;
 /// What a reader counts. A count stays at the greatest `u64` once it is there.
 #[derive(Clone, Copy, Debug, PartialEq, Eq)]
 pub struct Counts {
-    /// Coordinates that weren't whole in units of `10^-7` and were rounded.
+    /// Coordinates that weren't whole in units of `10^-PLACES` and were rounded.
     pub rounded: u64,
     /// Positions with more than two elements (RFC 7946, section 3.1.1), of which two were read.
     pub extra: u64,

@@ -8,7 +8,8 @@ use Rattle.json_value.specs.declared.json.Json.{Json}
 use Rattle.json_value.specs.declared.json.Json.TheVariants as j
 use Rattle.json_value.proofs.Utf8Parts.{AreUtf8, MemberUtf8, null_utf8, number_value_utf8, text_value_utf8, parts_utf8, array_utf8, each_utf8, object_utf8, word}
 use Rattle.geometry.proofs.Induction.{by_kinds}
-use Rattle.geometry.specs.Points.{Point, unit_places}
+use Rattle.geometry.specs.Points.{Point}
+use Rattle.geometry.specs.Units.{unit_places}
 use Rattle.geojson_types.specs.declared.id.Id.{Id}
 use Rattle.geojson_types.specs.declared.id.Id.TheVariants as id
 use Rattle.geojson_types.specs.declared.layer.FeatureSet.{FeatureSet}

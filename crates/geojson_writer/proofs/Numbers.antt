@@ -1,5 +1,5 @@
 -- The numbers of what is written are numbers.
-use Rattle.std.proofs.Common.{◌≡◌, ℕ, ℤ, ◌^◌, ◌≤◌, List, [], ◌∷◌, ◌++◌, map, refl, sym, subst, append_assoc, arith}
+use Rattle.std.proofs.Common.{◌≡◌, ℕ, ℤ, ◌≤◌, List, [], ◌∷◌, ◌++◌, map, refl, sym, subst, append_assoc, arith}
 use Rattle.std.specs.Prelude.{codes, unsigned_abs}
 use Rattle.std.specs.List.{AllByRecursion}
 use Rattle.decimal_text.specs.Scaling.{units_text}
@@ -14,6 +14,7 @@ use Rattle.geojson_types.specs.Features.{Shape, Featured}
 use Rattle.geometry.specs.Lists.{joined}
 use Rattle.geojson_types.specs.Places.{shape_points}
 use Rattle.geometry.specs.Points.{Point, IsPosition}
+use Rattle.geometry.specs.Units.{unit_places, cell_limit}
 use Rattle.geometry.proofs.Agreement.{all_left, all_right}
 use Rattle.geometry.proofs.Induction.{by_kinds}
 use Rattle.geometry.proofs.ByKind.{points_at}
@@ -25,8 +26,8 @@ use Rattle.list_laws.proofs.Elements.{all_append, all_weaker}
 
 -- ---- coordinates
 
-coordinate-numbers : (u : ℤ) → unsigned_abs u ≤ 10 ^ 16 → HasNumbers (coordinate_value u)
-coordinate-numbers u h = rw (numbers-number (units_text u 7)) (units_text-number u 7 (omega arith), tt)
+coordinate-numbers : (u : ℤ) → unsigned_abs u ≤ cell_limit → HasNumbers (coordinate_value u)
+coordinate-numbers u h = rw (numbers-number (units_text u unit_places)) (units_text-number u unit_places (omega arith), tt)
 
 position-numbers : (p : Point) → IsPosition p → HasNumbers (position_value p)
 position-numbers p h = array-numbers coordinate_value (p.x ∷ (p.y ∷ [])) (coordinate-numbers p.x (omega (arith, h.0)), (coordinate-numbers p.y (omega (arith, h.1)), tt))

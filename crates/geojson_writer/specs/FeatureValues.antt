@@ -10,7 +10,8 @@ use Rattle.geojson_types.specs.declared.id.Id.TheVariants.{Text, Number}
 use Rattle.geojson_types.specs.declared.layer.FeatureSet.{FeatureSet}
 use Rattle.geojson_types.specs.declared.layer.FeatureSet.TheVariants.{One, Many}
 use Rattle.geojson_types.specs.Features.{Shape, Featured}
-use Rattle.geometry.specs.Points.{Point, unit_places}
+use Rattle.geometry.specs.Points.{Point}
+use Rattle.geometry.specs.Units.{unit_places}
 
 -- a member of an object: its name and its value
 abbrev pub Member : Type 0

@@ -10,3 +10,4 @@ pub mod Points
 pub mod Pruning
 pub mod Rings
 pub mod Shapes
+pub mod Units

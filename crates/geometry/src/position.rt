@@ -1,19 +1,12 @@
 ghost use Rattle.std.specs.Prelude.{◌≡◌, ◌≤◌, ◌↔◌, IsSome, IfSome, IsTrue, unsigned_abs};
-ghost use Rattle.geometry.specs.Points.{IsPosition, IsInput, position_limit};
+ghost use Rattle.geometry.specs.Points.{IsPosition, IsInput};
+ghost use Rattle.geometry.specs.Units.{position_limit};
 ghost use Rattle.geometry.specs.Rings.{same};
 
+use crate::units::{INPUT_LIMIT, POSITION_LIMIT};
 use std::marker::Model;
 
-/// The decimals of a unit, in which coordinates are whole: a unit is `10^-7` of the input's unit.
-pub const PLACES: u32 = 7;
-
-/// The greatest magnitude of a coordinate that is read from a layer, in units: 10^8 of the input's unit.
-pub const INPUT_LIMIT: u64 = 1_000_000_000_000_000;
-
-/// The greatest magnitude of a coordinate of a `Position`, in units.
-pub const POSITION_LIMIT: u64 = 3_000_000_000_000_000;
-
-/// A position (RFC 7946, section 3.1.1) in whole units of `10^-7` of the input's unit, x (longitude) first.
+/// A position (RFC 7946, section 3.1.1) in whole units of `10^-PLACES` of the input's unit, x (longitude) first.
 /// Positions compare by x and then by y.
 #[derive(Clone, Copy, Debug, PartialEq, Eq, PartialOrd, Ord, Hash)]
 pub struct Position {

@@ -1,6 +1,7 @@
 // Positions.
-ghost use Rattle.std.specs.Prelude.{◌≡◌, ◌^◌, ◌≤◌, ◌&&◌, not, IfOk, unsigned_abs};
+ghost use Rattle.std.specs.Prelude.{◌≡◌, ◌≤◌, ◌&&◌, not, IfOk, unsigned_abs};
 ghost use Rattle.geojson_model.specs.Coordinates.{coordinate, position};
+ghost use Rattle.geometry.specs.Units.{input_limit};
 ghost use Rattle.value_scanning.specs.Fronts.{Front, Stands, one};
 
 use crate::arrays::Element;
@@ -27,7 +28,7 @@ fn coordinate_at<'a>(
     counts: &mut Counts,
 ) -> Result<(i64, &'a [u8]), Halt>
     ensures stands { IfOk result (λ x. Stands (Front 0) (coordinate exact) bytes.now x.0 x.1.now counts.old counts.new) }
-    ensures within { IfOk result (λ x. unsigned_abs x.0 ≤ 10 ^ 15) }
+    ensures within { IfOk result (λ x. unsigned_abs x.0 ≤ input_limit) }
 {
     let (units, rest) = number_at(alloc, bytes)?;
     if is_refused(exact, units.exact) {

@@ -6,7 +6,8 @@ use Rattle.std.specs.Int.{int_min, int_max}
 use Rattle.std.specs.List.{AllByRecursion, fold}
 use Rattle.list_laws.proofs.Elements.{all_weaker, all_two, all_of_map, each_of}
 use Rattle.geometry.specs.Lists.{In}
-use Rattle.geometry.specs.Points.{Point, IsInput, input_limit}
+use Rattle.geometry.specs.Points.{Point, IsInput}
+use Rattle.geometry.specs.Units.{input_limit}
 use Rattle.grid_snap.specs.declared.axis.Axis.{Axis}
 use Rattle.grid_snap.specs.declared.bounds.Bounds.{Bounds}
 use Rattle.grid_snap.specs.Axes.{rounded_up, axis_over, Axes, covers, is_on, grid_over, count_limit, IsAxis, IsGrid, reach}

@@ -1,11 +1,12 @@
 -- Cells, and the positions that they lie at.
-use Rattle.std.proofs.Common.{◌≡◌, ℕ, ◌+◌, ◌*◌, ◌^◌, ◌≤◌, ℤ, pos, negsuc, ◌+ℤ◌, ◌-ℤ◌, ◌≤ℤ◌, unsigned_abs, int_le, Bool, true, ◌&&◌, refl, sym, ap, subst, ◌∙◌, ◌/◌, arith, leb, to_z, w64}
+use Rattle.std.proofs.Common.{◌≡◌, ℕ, ◌+◌, ◌*◌, ◌≤◌, ℤ, pos, negsuc, ◌+ℤ◌, ◌-ℤ◌, ◌≤ℤ◌, unsigned_abs, int_le, Bool, true, ◌&&◌, refl, sym, ap, subst, ◌∙◌, ◌/◌, arith, leb, to_z, w64}
 use Rattle.std.proofs.lemmas.Bool.{and_parts}
 use Rattle.std.proofs.lemmas.Bool.Decides.{nat_tests}
 use Rattle.std.proofs.lemmas.Int.{ints}
 use Rattle.std.specs.Prelude.{nat_le}
 use Rattle.decimal_text.specs.Rounding.{nearest}
-use Rattle.geometry.specs.Points.{Point, input_limit}
+use Rattle.geometry.specs.Points.{Point}
+use Rattle.geometry.specs.Units.{input_limit}
 use Rattle.grid_snap.specs.declared.axis.Axis.{Axis}
 use Rattle.grid_snap.specs.Axes.{offset, is_on, number, coordinate, Axes, covers, cell, back, snapped, IsAxis, IsGrid, IsNumbered, count_limit, reach}
 use Rattle.grid_snap.specs.Laws.{SnappedSettle, CellsAreBack, CoveredAreWithin}
@@ -65,7 +66,7 @@ between : (first x : ℤ) (length bound far : ℕ) → first ≤ℤ x → unsign
 between first x length bound far a b c d e = omega (arith, ints, a, b, c, d, e)
 
 pub on_within : (a : Axis) (x : ℤ) → IsAxis a → is_on a x ≡ true → unsigned_abs x ≤ reach
-on_within a x axis on = grind (arith, on_facts a x on, between a.first x (a.last * a.step) (10 ^ 15) reach)
+on_within a x axis on = grind (arith, on_facts a x on, between a.first x (a.last * a.step) input_limit reach)
 
 -- ---- both
 

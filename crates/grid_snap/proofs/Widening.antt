@@ -8,7 +8,8 @@ use Rattle.list_laws.proofs.Lists.{drop_here, joined_append}
 use Rattle.geojson_types.specs.Features.{Shape}
 use Rattle.geometry.specs.Lists.{joined}
 use Rattle.geojson_types.specs.Places.{shape_points}
-use Rattle.geometry.specs.Points.{Point, IsInput, input_limit}
+use Rattle.geometry.specs.Points.{Point, IsInput}
+use Rattle.geometry.specs.Units.{input_limit}
 use Rattle.grid_snap.specs.declared.bounds.Bounds.{Bounds}
 use Rattle.grid_snap.specs.Bounds.{widened, widened_by, IsSpan, AreBounds, AreBoundsIfSome}
 

@@ -3,7 +3,8 @@ use Rattle.std.specs.Prelude.{ℕ, ◌+◌, ◌-◌, ◌*◌, ◌/◌, ◌^◌, 
 use Rattle.std.specs.List.{fold}
 use Rattle.std.specs.Int.{int_min, int_max}
 use Rattle.decimal_text.specs.Rounding.{nearest}
-use Rattle.geometry.specs.Points.{Point, input_limit}
+use Rattle.geometry.specs.Points.{Point}
+use Rattle.geometry.specs.Units.{input_limit}
 use Rattle.grid_snap.specs.declared.axis.Axis.{Axis}
 
 -- ---- one direction

@@ -1,7 +1,8 @@
 -- The least and the greatest coordinates of the positions that were looked at so far.
 use Rattle.std.specs.Prelude.{◌≤◌, ℤ, ◌≤ℤ◌, unsigned_abs, List, [], ◌∷◌, Option, None, Some}
 use Rattle.std.specs.Int.{int_min, int_max}
-use Rattle.geometry.specs.Points.{Point, input_limit}
+use Rattle.geometry.specs.Points.{Point}
+use Rattle.geometry.specs.Units.{input_limit}
 use Rattle.grid_snap.specs.declared.bounds.Bounds.{Bounds}
 
 -- with one position more

@@ -30,7 +30,7 @@ pub fn cells_lie_at_snapped()
     ensures { CellsAreBack }
 {}
 
-/// What is covered is at most 10^15 + 10^9 units from zero in each coordinate, so it is a position.
+/// What is covered is at most `INPUT_LIMIT` + 10^9 units from zero in each coordinate, so it is a position.
 #[tactic(auto, using(crate::proofs::Settled::covered_within))]
 pub fn covered_are_positions()
     ensures { CoveredAreWithin }

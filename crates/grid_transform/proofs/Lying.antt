@@ -1,7 +1,8 @@
 -- Cells of a grid, by its transform.
 use Rattle.std.proofs.Common.{◌≡◌, ℕ, ◌*◌, ◌≤◌, sym, ap, ◌∙◌, arith, ℤ, pos, unsigned_abs, subst}
 use Rattle.std.proofs.Math.Nat.{mul-le-mul_left}
-use Rattle.geometry.specs.Points.{Point, IsPosition, position_limit}
+use Rattle.geometry.specs.Points.{Point, IsPosition}
+use Rattle.geometry.specs.Units.{position_limit}
 use Rattle.grid_snap.specs.declared.axis.Axis.{Axis}
 use Rattle.grid_snap.specs.Axes.{Axes, IsAxis, IsGrid, number, cell, snapped}
 use Rattle.grid_snap.specs.Laws.{Settles}

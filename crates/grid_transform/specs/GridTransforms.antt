@@ -3,7 +3,7 @@ use Rattle.std.specs.Prelude.{pos}
 use Rattle.decimal_text.specs.Scaling.{units_text}
 use Rattle.grid_snap.specs.Axes.{Axes}
 use Rattle.topojson_types.specs.declared.transform.Transform.{Transform}
-use Rattle.geometry.specs.Points.{unit_places}
+use Rattle.geometry.specs.Units.{unit_places}
 
 -- the least decimals of its steps, and of its first coordinates
 unfoldable pub transform_of : Axes → Transform

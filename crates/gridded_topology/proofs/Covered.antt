@@ -1,10 +1,10 @@
 -- The cell of a position that a grid covers.
 use Rattle.std.proofs.Common.{◌≡◌, ◌≤◌, ℤ, unsigned_abs, true, false, refl, arith, to_z, of_z, w64}
 use Rattle.std.proofs.lemmas.Int.{ints, fits_signed_from_abs}
-use Rattle.geometry.specs.Points.{Point, IsWithin, IsPosition, position_limit}
+use Rattle.geometry.specs.Points.{Point, IsWithin, IsPosition}
+use Rattle.geometry.specs.Units.{cell_limit, position_limit}
 use Rattle.grid_snap.specs.Axes.{Axes, IsGrid, IsCell, covers, cell}
 use Rattle.grid_snap.proofs.Settled.{covered_within}
-use Rattle.topojson_types.specs.Cells.{cell_limit}
 use Rattle.gridded_topology.specs.Replacing.{cell_if_covered}
 
 pub if_covered : (g : Axes) (p : Point) → covers g p ≡ true → cell_if_covered g p ≡ cell g p

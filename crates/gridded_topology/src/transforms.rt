@@ -1,7 +1,7 @@
 // The transform of a grid.
 ghost use Rattle.std.specs.Prelude.{◌≡◌, ◌≤◌, IfOk, unsigned_abs};
 ghost use Rattle.decimal_text.specs.Scaling.{units_text};
-ghost use Rattle.geometry.specs.Points.{position_limit, unit_places};
+ghost use Rattle.geometry.specs.Units.{position_limit, unit_places};
 ghost use Rattle.grid_transform.specs.GridTransforms.{transform_of};
 
 use decimal_text::{NumText, units_again};
@@ -12,7 +12,7 @@ use owned_values::Memory;
 use std::alloc::Global;
 use topojson_types::{Transform, TransformNumber, units_are_numbers};
 
-/// The number of a transform whose text is the least decimal of so many units of 10^-7.
+/// The number of a transform whose text is the least decimal of so many units.
 pub fn units_number(alloc: Global, units: i64) -> Result<TransformNumber, Memory>
     requires { unsigned_abs units ≤ position_limit }
     ensures { IfOk result (λ n. n ≡ units_text units unit_places) }

@@ -1,6 +1,7 @@
 // What a build is asked for.
-ghost use Rattle.std.specs.Prelude.{◌≡◌, ◌⊎◌, ◌≤◌, ◌*◌, ◌^◌, IfErr, IfOk, IfSome, None, Some};
+ghost use Rattle.std.specs.Prelude.{◌≡◌, ◌⊎◌, ◌≤◌, IfErr, IfOk, IfSome, None, Some};
 ghost use Rattle.area_thresholds.specs.Thresholds.{threshold_of};
+ghost use Rattle.geometry.specs.Units.{threshold_limit};
 ghost use Rattle.command_words.specs.Requests.{IsCells};
 ghost use Rattle.mapchain_cli.specs.Asking.{IsAskedFor};
 ghost use Rattle.mapchain_cli.specs.declared.ending.Ending.TheVariants as ending;
@@ -14,7 +15,7 @@ use topology_building::Options;
 /// The threshold of the area of this text, which is looked at here.
 pub(crate) fn threshold_asked(alloc: Global, area: &str) -> Result<u128, Ending>
     ensures asked { IfOk result (λ t. threshold_of area.now ≡ Some t) }
-    ensures within { IfOk result (λ t. t ≤ 2 * 10 ^ 32) }
+    ensures within { IfOk result (λ t. t ≤ threshold_limit) }
     // An area that has no threshold is refused, and no other.
     ensures refused { IfErr result (λ e. ((e ≡ ending.BadArea) × (threshold_of area.now ≡ None)) ⊎ (e ≡ ending.Memory)) }
 {

@@ -1,6 +1,6 @@
 // Reading numbers.
 ghost use Rattle.std.specs.Prelude.{◌≡◌, ◌≤◌, ◌^◌, IfOk, unsigned_abs};
-ghost use Rattle.geometry.specs.Points.{position_limit};
+ghost use Rattle.geometry.specs.Units.{position_limit};
 ghost use Rattle.topojson_meaning.specs.Answers.{Finds, Gives};
 ghost use Rattle.topojson_meaning.specs.Arcs as spec;
 

@@ -9,7 +9,8 @@ use Rattle.decimal_text.proofs.UnitsText.{scaled_of-units}
 use Rattle.json_value.specs.declared.json.Json.{Json}
 use Rattle.json_value.specs.declared.json.Json.TheVariants as j
 use Rattle.json_value.proofs.KindsOf.{array_of-array, object_of-object, number_of-number}
-use Rattle.geometry.specs.Points.{Point, IsWithin, IsPosition, position_limit, unit_places}
+use Rattle.geometry.specs.Points.{Point, IsWithin, IsPosition}
+use Rattle.geometry.specs.Units.{position_limit, unit_places}
 use Rattle.topojson_types.specs.declared.transform.Transform.{Transform}
 use Rattle.topojson_types.specs.Differences.{difference, deltas_from}
 use Rattle.topojson_types.specs.Transforms.{grid_limit, place_on, origin, moved}

@@ -14,6 +14,7 @@ use Rattle.json_value.specs.Numbers.{numbers_of, HasNumbers}
 use Rattle.json_value.proofs.NumbersOf.{numbers-null, numbers-number, numbers-text, numbers-array, numbers-object}
 use Rattle.geometry.specs.Lists.{joined}
 use Rattle.geometry.specs.Points.{Point, IsWithin}
+use Rattle.geometry.specs.Units.{cell_limit}
 use Rattle.geometry.specs.Pruning.{strokes, option_strokes}
 use Rattle.geometry.proofs.Agreement.{all_left, all_right, all_of_map}
 use Rattle.geometry.proofs.Cases.{strokes-line, strokes-lines, strokes-area, strokes-areas, strokes-group}
@@ -61,7 +62,7 @@ number_numbers t h = subst (AllByRecursion IsNumber) (sym (numbers-number t)) (h
 
 -- ---- positions and indexes
 
-position_numbers : (decimals : ℕ) (p : Point) → IsWithin (10 ^ 16) p → HasNumbers (position_value decimals p)
+position_numbers : (decimals : ℕ) (p : Point) → IsWithin cell_limit p → HasNumbers (position_value decimals p)
 position_numbers decimals p h = array_numbers (number_value decimals) (p.x ∷ (p.y ∷ []))
     (number_numbers (units_text p.x decimals) (units_text-number p.x decimals (omega (arith, h.0))), (number_numbers (units_text p.y decimals) (units_text-number p.y decimals (omega (arith, h.1))), tt))
 
@@ -77,7 +78,7 @@ unfolding deltas_from
 deltas_numbers t before [] h all = tt
 deltas_numbers t before (c ∷ cs) h all = (position_numbers 0 (difference before c) (apart before.x c.x h.0 all.0.0.0, apart before.y c.y h.1 all.0.0.1), deltas_numbers t c cs all.0.0 all.1)
   where
-    apart : (a b : ℤ) → unsigned_abs a ≤ grid_limit → unsigned_abs b ≤ grid_limit → unsigned_abs (b -ℤ a) ≤ 10 ^ 16
+    apart : (a b : ℤ) → unsigned_abs a ≤ grid_limit → unsigned_abs b ≤ grid_limit → unsigned_abs (b -ℤ a) ≤ cell_limit
     apart a b h k = omega (arith, ints)
 
 arc_numbers : (transform : Option Transform) (cs : List Point) → IsArc transform cs → HasNumbers (arc_value transform cs)

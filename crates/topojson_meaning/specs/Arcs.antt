@@ -6,10 +6,10 @@ use Rattle.decimal_text.specs.Scaling.{scaled_of}
 use Rattle.json_value.specs.declared.json.Json.{Json}
 use Rattle.json_value.specs.Kinds.{number_of}
 use Rattle.geojson_types.specs.Counting.{count_rounded, count_extra}
-use Rattle.geometry.specs.Points.{Point, position_limit}
+use Rattle.geometry.specs.Points.{Point}
+use Rattle.geometry.specs.Units.{unit_places, position_limit}
 use Rattle.topojson_types.specs.declared.transform.Transform.{Transform}
 use Rattle.topojson_types.specs.Transforms.{place_on, is_within, grid_limit, origin, moved}
-use Rattle.geometry.specs.Points.{unit_places}
 use Rattle.topojson_meaning.specs.declared.fault.TopoFault.{TopoFault}
 use Rattle.topojson_meaning.specs.declared.fault.TopoFault.TheVariants.{WrongKind, ShortArc, GridNumber, Range}
 use Rattle.topojson_meaning.specs.Members.{elements}

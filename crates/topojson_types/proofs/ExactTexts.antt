@@ -1,5 +1,5 @@
 -- The least decimals of coordinates as numbers of a transform: exact at its places.
-use Rattle.std.proofs.Common.{◌≡◌, ◌++◌, ℕ, zero, suc, ◌+◌, ◌*◌, ◌/◌, ◌%◌, ◌^◌, ◌<◌, ◌≤◌, Bool, true, false, Option, None, Some, Result, Ok, Err, refl, sym, ap, ◌∙◌, arith, ℤ, pos, negsuc, ◌+ℤ◌, ◌*ℤ◌, unsigned_abs, int_lt, ◌==◌}
+use Rattle.std.proofs.Common.{◌≡◌, ◌++◌, ℕ, zero, suc, ◌+◌, ◌-◌, ◌*◌, ◌/◌, ◌%◌, ◌^◌, ◌<◌, ◌≤◌, Bool, true, false, Option, None, Some, Result, Ok, Err, refl, sym, ap, ◌∙◌, arith, ℤ, pos, negsuc, ◌+ℤ◌, ◌*ℤ◌, unsigned_abs, int_lt, ◌==◌}
 use Rattle.std.proofs.Math.IntN.{neg_ℤ, +ℤ_comm}
 use Rattle.std.proofs.Math.Nat.{zero-mul, mul_assoc}
 use Rattle.std.proofs.lemmas.Nat.{pow-add}
@@ -16,13 +16,9 @@ use Rattle.decimal_text.proofs.Nearest.{nearest-only, rounded_of-whole}
 use Rattle.decimal_text.proofs.RoundedFractions.{IsRounded-whole}
 use Rattle.decimal_text.proofs.ScaledNumber.{denominator-positive, unsigned_abs-signed}
 use Rattle.decimal_text.proofs.UnitsText.{scaled_of-units}
-use Rattle.geometry.specs.Points.{position_limit}
+use Rattle.geometry.specs.Units.{unit_places, position_limit, transform_places, transform_limit, fine_units}
 use Rattle.topojson_types.specs.Differences.{UnitsAreNumbers, StandsExactly}
-use Rattle.topojson_types.specs.TransformNumbers.{transform_limit, value_if, transform_value, to_units, stands_for}
-
--- the units of 10^-20 in a unit
-abbrev fine : ℕ
-fine = 10 ^ 13
+use Rattle.topojson_types.specs.TransformNumbers.{value_if, transform_value, to_units, stands_for}
 
 -- ---- the same text at more places
 
@@ -50,30 +46,30 @@ whole_from negative num den u false h e = absurd cc
 times_signed : (negative : Bool) (size k : ℕ) → signed negative (size * k) ≡ signed negative size *ℤ pos k
 times_signed negative size k = grind (arith, neg_ℤ, zero-mul)
 
-finer : (n : Parts) → numerator n 20 ≡ numerator n 7 * fine
-finer n = grind (arith, pow-add 10 (7 + (if n.exponent_negative then 0 else digits_value n.exponent)) 13, mul_assoc (digits_value (n.whole ++ n.fraction)) (10 ^ (7 + (if n.exponent_negative then 0 else digits_value n.exponent))) fine)
+finer : (n : Parts) → numerator n transform_places ≡ numerator n unit_places * fine_units
+finer n = grind (arith, pow-add 10 (unit_places + (if n.exponent_negative then 0 else digits_value n.exponent)) (transform_places - unit_places), mul_assoc (digits_value (n.whole ++ n.fraction)) (10 ^ (unit_places + (if n.exponent_negative then 0 else digits_value n.exponent))) fine_units)
 
-finer_parts : (o : Option Parts) (u : ℤ) (limit : ℕ) → scaled_parts 7 limit o ≡ Ok (scaled u true) → unsigned_abs u * fine ≤ transform_limit
-    → scaled_parts 20 transform_limit o ≡ Ok (scaled (u *ℤ pos fine) true)
+finer_parts : (o : Option Parts) (u : ℤ) (limit : ℕ) → scaled_parts unit_places limit o ≡ Ok (scaled u true) → unsigned_abs u * fine_units ≤ transform_limit
+    → scaled_parts transform_places transform_limit o ≡ Ok (scaled (u *ℤ pos fine_units) true)
 finer_parts None u limit e small = absurd cc
 finer_parts (Some n) u limit e small =
-    let w : IsWhole n.negative (numerator n 7) (denominator n) u = (whole_from n.negative (numerator n 7) (denominator n) u (nat_le (nearest (numerator n 7) (denominator n)) limit) (denominator-positive n) e) in
-    let num : numerator n 20 ≡ (w.size * fine) * denominator n = finer n ∙ ap (λ m. m * fine) w.is ∙ turned w.size (denominator n) fine in
+    let w : IsWhole n.negative (numerator n unit_places) (denominator n) u = (whole_from n.negative (numerator n unit_places) (denominator n) u (nat_le (nearest (numerator n unit_places) (denominator n)) limit) (denominator-positive n) e) in
+    let num : numerator n transform_places ≡ (w.size * fine_units) * denominator n = finer n ∙ ap (λ m. m * fine_units) w.is ∙ turned w.size (denominator n) fine_units in
     let size : w.size ≡ unsigned_abs u = sym (unsigned_abs-signed n.negative w.size) ∙ ap unsigned_abs w.value in
-    let near : w.size * fine ≤ transform_limit = omega (arith, size, small) in
+    let near : w.size * fine_units ≤ transform_limit = omega (arith, size, small) in
     ap (λ m. rounded_of n.negative m (denominator n) transform_limit) num
-    ∙ rounded_of-whole n.negative (denominator n) (w.size * fine) transform_limit (denominator-positive n) near
-    ∙ ap (λ z. Ok (scaled z true)) (times_signed n.negative w.size fine ∙ ap (λ z. z *ℤ pos fine) w.value)
+    ∙ rounded_of-whole n.negative (denominator n) (w.size * fine_units) transform_limit (denominator-positive n) near
+    ∙ ap (λ z. Ok (scaled z true)) (times_signed n.negative w.size fine_units ∙ ap (λ z. z *ℤ pos fine_units) w.value)
   where
     turned : (a b c : ℕ) → (a * b) * c ≡ (a * c) * b
     turned a b c = omega arith
 
-pub value_of_text : (u : ℤ) → unsigned_abs u ≤ position_limit → transform_value (units_text u 7) ≡ Some (u *ℤ pos fine)
+pub value_of_text : (u : ℤ) → unsigned_abs u ≤ position_limit → transform_value (units_text u unit_places) ≡ Some (u *ℤ pos fine_units)
 unfolding transform_value scaled_of
-value_of_text u h = ap value_if (finer_parts (parts_of (units_text u 7)) u position_limit (scaled_of-units u 7 position_limit (omega arith) h) (omega arith))
+value_of_text u h = ap value_if (finer_parts (parts_of (units_text u unit_places)) u position_limit (scaled_of-units u unit_places position_limit (omega arith) h) (omega arith))
 
 pub units_are_numbers : UnitsAreNumbers
-units_are_numbers u h = (u *ℤ pos fine, value_of_text u h)
+units_are_numbers u h = (u *ℤ pos fine_units, value_of_text u h)
 
 -- ---- what stands for what
 
@@ -83,21 +79,21 @@ below_zero n h = grind arith
 size_below : (n : ℕ) → unsigned_abs (neg_ℤ (pos n)) ≡ n
 size_below n = grind arith
 
-near_whole : (n : ℕ) → nearest (n * fine) fine ≡ n
-near_whole n = nearest-only (n * fine) fine n (omega arith) (IsRounded-whole fine n (omega arith))
+near_whole : (n : ℕ) → nearest (n * fine_units) fine_units ≡ n
+near_whole n = nearest-only (n * fine_units) fine_units n (omega arith) (IsRounded-whole fine_units n (omega arith))
 
-units_again : (z : ℤ) → to_units (z *ℤ pos fine) ≡ z
+units_again : (z : ℤ) → to_units (z *ℤ pos fine_units) ≡ z
 unfolding to_units
 units_again z = grind (arith, near_whole, below_zero, size_below)
 
 -- a step so many times and a first coordinate, all in fine units
-both_fine : (k step a : ℕ) → k * (step * fine) + a * fine ≡ (a + k * step) * fine
+both_fine : (k step a : ℕ) → k * (step * fine_units) + a * fine_units ≡ (a + k * step) * fine_units
 both_fine k step a = omega arith
 
-less_fine : (z : ℤ) (n m : ℕ) → z ≡ pos n +ℤ neg_ℤ (pos m) → pos (n * fine) +ℤ neg_ℤ (pos (m * fine)) ≡ z *ℤ pos fine
+less_fine : (z : ℤ) (n m : ℕ) → z ≡ pos n +ℤ neg_ℤ (pos m) → pos (n * fine_units) +ℤ neg_ℤ (pos (m * fine_units)) ≡ z *ℤ pos fine_units
 less_fine z n m e = grind arith
 
-sum_fine : (k step : ℕ) (first : ℤ) → (pos k *ℤ (pos step *ℤ pos fine)) +ℤ (first *ℤ pos fine) ≡ (first +ℤ (pos k *ℤ pos step)) *ℤ pos fine
+sum_fine : (k step : ℕ) (first : ℤ) → (pos k *ℤ (pos step *ℤ pos fine_units)) +ℤ (first *ℤ pos fine_units) ≡ (first +ℤ (pos k *ℤ pos step)) *ℤ pos fine_units
 sum_fine k step first = grind (arith, both_fine, neg_ℤ, mul_assoc, less_fine)
 
 pub stands_exactly : StandsExactly

@@ -7,8 +7,8 @@ use mir.Syntax.{w128}
 use Rattle.decimal_text.specs.Rounding.{nearest}
 use Rattle.decimal_text.proofs.RoundedFractions.{IsRounded-some, IsRounded-above}
 use Rattle.decimal_text.proofs.ScaledNumber.{unsigned_abs-signed}
-use Rattle.geometry.specs.Points.{position_limit}
-use Rattle.topojson_types.specs.TransformNumbers.{transform_limit, to_units}
+use Rattle.geometry.specs.Units.{position_limit, transform_limit}
+use Rattle.topojson_types.specs.TransformNumbers.{to_units}
 
 pub far_units : (z : ℤ) → 4 * 10 ^ 28 ≤ unsigned_abs z → position_limit < unsigned_abs (to_units z)
 unfolding to_units

@@ -1,10 +1,10 @@
 -- Arcs as differences (TopoJSON 1.0, section 2.1.3), and laws of them and of the texts of a transform.
 use Rattle.std.specs.Prelude.{◌≡◌, ℕ, ◌≤◌, ℤ, ◌+ℤ◌, ◌-ℤ◌, ◌*ℤ◌, pos, unsigned_abs, List, [], ◌∷◌}
 use Rattle.decimal_text.specs.Scaling.{units_text}
-use Rattle.geometry.specs.Points.{Point, position_limit}
+use Rattle.geometry.specs.Points.{Point}
+use Rattle.geometry.specs.Units.{unit_places, position_limit}
 use Rattle.topojson_types.specs.Transforms.{origin, sums}
 use Rattle.topojson_types.specs.TransformNumbers.{IsTransformNumber, stands_for}
-use Rattle.geometry.specs.Points.{unit_places}
 
 -- how far the second cell lies from the first
 abbrev pub difference : Point → Point → Point

@@ -1,4 +1,3 @@
-pub mod Cells
 pub mod Codes
 pub mod Decoding
 pub mod Differences

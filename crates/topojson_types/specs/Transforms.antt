@@ -1,6 +1,7 @@
 -- Where the cells of a topology lie (TopoJSON 1.0, sections 2.1.2 and 2.1.3).
 use Rattle.std.specs.Prelude.{ℕ, ◌^◌, pos, ◌+ℤ◌, unsigned_abs, nat_le, Bool, ◌&&◌, List, [], ◌∷◌, Option, Some, None, if◌then◌else◌}
-use Rattle.geometry.specs.Points.{Point, position_limit}
+use Rattle.geometry.specs.Points.{Point}
+use Rattle.geometry.specs.Units.{position_limit}
 use Rattle.topojson_types.specs.declared.transform.Transform.{Transform}
 use Rattle.topojson_types.specs.TransformNumbers.{stands_for, IsTransformNumber}
 

@@ -7,7 +7,8 @@ use Rattle.geometry.specs.declared.shape.Geometry.{fold-Geometry}
 use Rattle.geometry.specs.declared.shape.Geometry.TheOpen.{Geometry-F}
 use Rattle.geojson_types.specs.declared.id.Id.{Id}
 use Rattle.geojson_types.specs.declared.id.Id.TheVariants as id
-use Rattle.geometry.specs.Points.{Point, unit_places}
+use Rattle.geometry.specs.Points.{Point}
+use Rattle.geometry.specs.Units.{unit_places}
 use Rattle.topojson_types.specs.declared.feature.TopoFeature.{TopoFeature}
 use Rattle.topojson_types.specs.declared.object.TopoObject.{TopoObject}
 use Rattle.topojson_types.specs.declared.object.TopoObject.TheVariants.{One, Many}

@@ -1,12 +1,9 @@
 ghost use Rattle.std.specs.Prelude.{◌≡◌, ◌≤◌, unsigned_abs};
 ghost use Rattle.geometry.specs.Points.{IsWithin};
-ghost use Rattle.topojson_types.specs.Cells.{cell_limit};
+ghost use Rattle.geometry.specs.Units.{cell_limit};
 
 use geojson_types::Position;
 use std::marker::Model;
-
-/// The greatest magnitude of a number of a cell.
-pub const CELL_LIMIT: u64 = 10_000_000_000_000_000;
 
 /// A position of a topology as it is kept: in a topology without a transform the units of a position, x first.
 #[derive(Clone, Copy, Debug, PartialEq, Eq, Hash)]
@@ -17,7 +14,7 @@ pub struct Cell {
 
 impl Model for Cell {
     ghost use Rattle.geometry.specs.Points.{Point, IsWithin};
-    ghost use Rattle.topojson_types.specs.Cells.{cell_limit};
+    ghost use Rattle.geometry.specs.Units.{cell_limit};
 
     ghost Value = { Point };
 

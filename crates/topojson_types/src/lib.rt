@@ -14,13 +14,13 @@ mod topology;
 mod transform;
 mod transform_number;
 
-pub use cell::{CELL_LIMIT, Cell};
+pub use cell::Cell;
 pub use differing::{deltas, difference, sums_of_deltas, texts_stand_exactly, units_are_numbers};
 pub use feature::{TopoFeature, TopoShape};
-pub use geometry::ArcRef;
+pub use geometry::{ArcRef, CELL_LIMIT, TRANSFORM_LIMIT, TRANSFORM_PLACES};
 pub use object::TopoObject;
 pub use placing::{placed, position_at};
 pub use summing::{GRID_LIMIT, SumFault, cell_after, sums};
 pub use topology::Topology;
 pub use transform::Transform;
-pub use transform_number::{TRANSFORM_LIMIT, TRANSFORM_PLACES, TransformNumber};
+pub use transform_number::TransformNumber;

@@ -1,8 +1,8 @@
 // Where cells lie.
-ghost use Rattle.std.specs.Prelude.{◌≡◌, ◌≤◌, ◌^◌, ◌*◌, ℤ, ◌+ℤ◌, ◌*ℤ◌, IfSome, IfNone, ◌<◌, unsigned_abs};
+ghost use Rattle.std.specs.Prelude.{◌≡◌, ◌≤◌, ◌^◌, ℤ, ◌+ℤ◌, ◌*ℤ◌, IfSome, IfNone, ◌<◌, unsigned_abs};
 ghost use Rattle.std.specs.Option.{option_copied};
 ghost use Rattle.decimal_text.specs.Rounding.{nearest};
-ghost use Rattle.geometry.specs.Points.{position_limit};
+ghost use Rattle.geometry.specs.Units.{fine_units, position_limit};
 ghost use Rattle.topojson_types.specs.Transforms as spec;
 ghost use Rattle.topojson_types.specs.TransformNumbers.{to_units, stands_for};
 ghost use Rattle.topojson_types.specs.Validity.{IsPlace};
@@ -10,22 +10,20 @@ ghost use Rattle.topojson_types.specs.Validity.{IsPlace};
 use crate::cell::Cell;
 use crate::transform::Transform;
 use crate::transform_number::TransformNumber;
-use geojson_types::{POSITION_LIMIT, Position};
+use geojson_types::{PLACES, POSITION_LIMIT, Position};
+use geometry::{FINE_UNITS, TRANSFORM_PLACES};
 
-/// Units of 10^-20 in a unit of 10^-7.
-const FINE_UNITS: u128 = 10_000_000_000_000;
-
-/// The greatest power of two that divides `FINE_UNITS`.
-const EVEN_PART: u128 = 8_192;
+/// The greatest power of two that divides `FINE_UNITS`, which is a power of ten.
+const EVEN_PART: u128 = 1 << (TRANSFORM_PLACES - PLACES);
 
 /// What is left of `FINE_UNITS` without it.
-const ODD_PART: u64 = 1_220_703_125;
+const ODD_PART: u64 = (FINE_UNITS / EVEN_PART) as u64;
 
-/// So many units of 10^-20 in units of 10^-7, rounded to the nearest, halves up. Behind the first division, which is a shift, most
+/// So many units of 10^-20 in units of coordinates, rounded to the nearest, halves up. Behind the first division, which is a shift, most
 /// numbers lie in 64 bits, whose division is the faster.
 fn nearest_units(size: u128) -> u128
     requires { size ≤ 2 ^ 127 }
-    ensures { result ≡ nearest size (10 ^ 13) }
+    ensures { result ≡ nearest size fine_units }
 {
     let shifted = (size + FINE_UNITS / 2) / EVEN_PART;
     if shifted <= u128::from(u64::MAX) {
@@ -34,7 +32,7 @@ fn nearest_units(size: u128) -> u128
     shifted / u128::from(ODD_PART)
 }
 
-/// So many units of 10^-20 in units of 10^-7, rounded to the nearest, halves away from zero, if that is a coordinate.
+/// So many units of 10^-20 in units of coordinates, rounded to the nearest, halves away from zero, if that is a coordinate.
 #[tactic(auto, unfolding(crate::specs::TransformNumbers::to_units))]
 fn coordinate_of(value: i128) -> Option<i64>
     ensures some { IfSome result (λ u. (u ≡ to_units value) × (unsigned_abs u ≤ position_limit)) }

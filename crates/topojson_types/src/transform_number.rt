@@ -1,16 +1,12 @@
 // The numbers of a transform.
 ghost use Rattle.std.specs.Prelude.{◌≡◌, ◌≤◌, IfSome, IfNone, None, Some, unsigned_abs};
 ghost use Rattle.decimal_text.specs.Grammar.{IsNumber};
-ghost use Rattle.topojson_types.specs.TransformNumbers.{transform_limit, transform_value};
+ghost use Rattle.geometry.specs.Units.{transform_limit};
+ghost use Rattle.topojson_types.specs.TransformNumbers.{transform_value};
 
 use decimal_text::NumText;
+use geometry::{TRANSFORM_LIMIT, TRANSFORM_PLACES};
 use std::marker::Model;
-
-/// The decimal places at which the numbers of a transform are taken.
-pub const TRANSFORM_PLACES: u32 = 20;
-
-/// The greatest magnitude of a number of a transform, in units of 10^-20.
-pub const TRANSFORM_LIMIT: i128 = 30_000_000_000_000_000_000_000_000_000;
 
 /// A number of a transform: its text as it was read, with its value in units of 10^-20, rounded, halves away from zero.
 #[derive(Debug, Drop)]
@@ -21,7 +17,8 @@ pub struct TransformNumber {
 
 impl Model for TransformNumber {
     ghost use Rattle.std.specs.Prelude.{List, ℕ, ◌≡◌, ◌≤◌, Some, unsigned_abs};
-    ghost use Rattle.topojson_types.specs.TransformNumbers.{transform_limit, transform_value};
+    ghost use Rattle.geometry.specs.Units.{transform_limit};
+    ghost use Rattle.topojson_types.specs.TransformNumbers.{transform_value};
 
     ghost Value = { List ℕ };
 

@@ -1,5 +1,5 @@
 // Cells as they are written (TopoJSON 1.0, section 2.1.1).
-ghost use Rattle.geometry.specs.Points.{unit_places};
+ghost use Rattle.geometry.specs.Units.{unit_places};
 ghost use Rattle.topojson_types.specs.Values.{position_value};
 
 use byte_ends::{Drain, Progress, Sink};

@@ -7,9 +7,9 @@ ghost use Rattle.topology_building.specs.Ranges.{is_in_range};
 pub struct Options {
     /// The number of grid cells along each axis, from 2 to 10^9, that positions are snapped to, if any.
     pub grid: Option<u32>,
-    /// Points are taken out whose triangle has less than this, twice its area in square units of 10^-7: at most 2 * 10^32.
+    /// Points are taken out whose triangle has less than this, twice its area in square units: at most twice `AREA_LIMIT`.
     pub threshold: u128,
-    /// Coordinates that aren't whole in units of 10^-7 are refused.
+    /// Coordinates that aren't whole in units are refused.
     pub exact: bool,
 
     ghost in_range: { is_in_range grid threshold ≡ true },

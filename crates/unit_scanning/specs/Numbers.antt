@@ -1,5 +1,5 @@
--- Digits at the front of bytes, and numbers in whole units of 10^-7.
-use Rattle.std.specs.Prelude.{◌≡◌, ℕ, ◌^◌, ◌||◌, ◌==◌, Bool, true, false, not, List, [], ◌∷◌, ◌++◌, length, Some, Ok, if◌then◌else◌, ℤ}
+-- Digits at the front of bytes, and numbers in whole units.
+use Rattle.std.specs.Prelude.{◌≡◌, ℕ, ◌||◌, ◌==◌, Bool, true, false, not, List, [], ◌∷◌, ◌++◌, length, Some, Ok, if◌then◌else◌, ℤ}
 use Rattle.json_value.specs.declared.json.Json.TheVariants as j
 use Rattle.json_value.specs.Grammar.{is_space}
 use Rattle.decimal_text.specs.Digits.{digits_value_after}
@@ -7,6 +7,7 @@ use Rattle.decimal_text.specs.Grammar.{is_digit, AllDigits}
 use Rattle.decimal_text.specs.Parts.{fraction_text}
 use Rattle.decimal_text.specs.Scaling.{scaled_of}
 use Rattle.json_value.specs.Reading.{value_at}
+use Rattle.geometry.specs.Units.{unit_places, input_limit}
 
 -- the digits at the front
 unfoldable pub digits_front : List ℕ → List ℕ
@@ -48,9 +49,9 @@ pub record IsNumberAt (places limit : ℕ) (bytes : List ℕ) (value : ℤ) (exa
   pub front : (fits : List ℕ → Bool) (d : ℕ) → value_at fits d bytes ≡ Some (j.Number text, rest)
   pub scaled : scaled_of places limit text ≡ Ok (record { value = value; exact = exact })
 
--- the same in units of 10^-7
+-- the same in units of coordinates, within the limit of positions that are read
 abbrev pub IsUnits : List ℕ → ℤ → Bool → List ℕ → Type 0
-IsUnits = IsNumberAt 7 (10 ^ 15)
+IsUnits = IsNumberAt unit_places input_limit
 
 -- the same where it is whole
 abbrev pub IsWholeNumber : ℕ → List ℕ → ℤ → List ℕ → Type 0

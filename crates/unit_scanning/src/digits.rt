@@ -3,9 +3,11 @@ ghost use Rattle.std.specs.Prelude.{◌≡◌, ◌*◌, ◌^◌, ◌<◌, ◌≤
 ghost use Rattle.json_value.specs.Reading.{after_digits};
 ghost use Rattle.decimal_text.specs.Digits.{digits_value_after};
 ghost use Rattle.decimal_text.specs.Grammar as grammar;
+ghost use Rattle.geometry.specs.Units.{input_limit};
 ghost use Rattle.unit_scanning.specs.Numbers.{digits_front, IsFractionOf, starts_digit, whole_front};
 
 use crate::bytes::after_byte;
+use geometry::INPUT_LIMIT;
 
 /// A number that may have one more digit.
 const ROOM: u64 = 100_000_000_000_000_000;
@@ -14,7 +16,7 @@ const ROOM: u64 = 100_000_000_000_000_000;
 const MOST_PLACES: usize = 17;
 
 /// A number that may have one more zero behind it.
-const ROOM_FOR_ZERO: u64 = 100_000_000_000_000;
+const ROOM_FOR_ZERO: u64 = INPUT_LIMIT / 10;
 
 #[inline(always)]
 pub fn is_digit(byte: u8) -> bool
@@ -93,12 +95,12 @@ pub fn fraction_at(start: u64, bytes: &[u8]) -> Option<(u64, usize, &[u8])>
     Some((value, places, rest))
 }
 
-/// The number with so many zeros behind it. None past 10^15.
+/// The number with so many zeros behind it. None past the limit of coordinates that are read.
 #[inline(always)]
 pub fn with_zeros(start: u64, zeros: usize) -> Option<u64>
     requires { start < 10 ^ 18 }
     ensures value { IfSome result (λ v. v ≡ start * 10 ^ zeros) }
-    ensures small { IfSome result (λ v. v ≤ 10 ^ 15) }
+    ensures small { IfSome result (λ v. v ≤ input_limit) }
 {
     let mut value = start;
     for _done in 0..zeros {
@@ -107,7 +109,7 @@ pub fn with_zeros(start: u64, zeros: usize) -> Option<u64>
         }
         value *= 10;
     }
-    if value > 10 * ROOM_FOR_ZERO {
+    if value > INPUT_LIMIT {
         return None;
     }
     Some(value)

@@ -1,12 +1,17 @@
-// Numbers in whole units of `10^-7`, and whole numbers.
+// Numbers in whole units of coordinates, and whole numbers.
 ghost use Rattle.std.specs.Prelude.{◌≡◌, ◌++◌, ◌*◌, ◌^◌, ◌<◌, ◌≤◌, Bool, Ok, IfSome, unsigned_abs};
 ghost use Rattle.decimal_text.specs.Parts.{sign_text};
 ghost use Rattle.decimal_text.specs.Rounding.{signed, rounded_of};
+ghost use Rattle.geometry.specs.Units.{units_in_one, input_limit};
 ghost use Rattle.unit_scanning.specs.Numbers.{IsUnits, IsWholeNumber, ends};
 
 use crate::digits::{digits_at, fraction_at, is_whole, with_zeros};
+use geometry::{INPUT_LIMIT, PLACES};
 
-/// A number in whole units of `10^-7`.
+/// How many decimals are kept.
+const KEPT: usize = PLACES as usize;
+
+/// A number in whole units.
 #[derive(Clone, Copy, Debug, PartialEq, Eq)]
 pub struct Units {
     pub value: i64,
@@ -45,7 +50,7 @@ fn is_end(rest: &[u8]) -> bool
 /// The number with a sign.
 #[inline(always)]
 fn with_sign(negative: bool, size: u64) -> i64
-    requires { size ≤ 10 ^ 15 }
+    requires { size ≤ 10 ^ 18 }
     ensures value { result ≡ signed negative size }
     ensures within { unsigned_abs result ≤ size }
 {
@@ -56,21 +61,21 @@ fn with_sign(negative: bool, size: u64) -> i64
     }
 }
 
-/// So many decimals, rounded to the seven that are kept, halves up, and whether nothing was rounded. None past 10^15.
+/// So many decimals, rounded to those that are kept, halves up, and whether nothing was rounded. None past the limit.
 #[inline(always)]
 fn rounded(value: u64, places: usize) -> Option<(u64, bool)>
     requires value { value < 10 ^ 18 }
     requires places { places ≤ 17 }
-    ensures value { IfSome result (λ x. (negative : Bool) → rounded_of negative (value * 10 ^ 7) (10 ^ places) (10 ^ 15) ≡ Ok (record { value = signed negative x.0; exact = x.1 })) }
-    ensures small { IfSome result (λ x. x.0 ≤ 10 ^ 15) }
+    ensures value { IfSome result (λ x. (negative : Bool) → rounded_of negative (value * units_in_one) (10 ^ places) input_limit ≡ Ok (record { value = signed negative x.0; exact = x.1 })) }
+    ensures small { IfSome result (λ x. x.0 ≤ input_limit) }
 {
-    if places <= 7 {
-        let size = with_zeros(value, 7 - places)?;
+    if places <= KEPT {
+        let size = with_zeros(value, KEPT - places)?;
         return Some((size, true));
     }
-    let step = with_zeros(1, places - 7)?;
+    let step = with_zeros(1, places - KEPT)?;
     let size = (2 * value + step) / (2 * step);
-    if size > 1_000_000_000_000_000 {
+    if size > INPUT_LIMIT {
         return None;
     }
     Some((size, value % step == 0))
@@ -81,7 +86,7 @@ fn rounded(value: u64, places: usize) -> Option<(u64, bool)>
 #[inline(always)]
 pub fn units_at(bytes: &[u8]) -> Option<(Units, &[u8])>
     ensures units { IfSome result (λ x. IsUnits bytes.now x.0.value x.0.exact x.1.now) }
-    ensures within { IfSome result (λ x. unsigned_abs x.0.value ≤ 10 ^ 15) }
+    ensures within { IfSome result (λ x. unsigned_abs x.0.value ≤ input_limit) }
 {
     let (negative, front) = sign_at(bytes);
     if !is_whole(front) {
@@ -104,7 +109,7 @@ pub fn units_at(bytes: &[u8]) -> Option<(Units, &[u8])>
 /// exponent, and where it isn't read this way for its size.
 #[inline(always)]
 pub fn whole_number_at(limit: u64, bytes: &[u8]) -> Option<(i64, &[u8])>
-    requires { limit ≤ 10 ^ 15 }
+    requires { limit ≤ 10 ^ 18 }
     ensures whole { IfSome result (λ x. IsWholeNumber limit bytes.now x.0 x.1.now) }
     ensures within { IfSome result (λ x. unsigned_abs x.0 ≤ limit) }
 {

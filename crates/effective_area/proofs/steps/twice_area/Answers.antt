@@ -2,6 +2,7 @@ use Rattle.std.proofs.Common.{◌<◌, ◌-ℤ◌, ◌*ℤ◌, arith, FitsSigned
 use Rattle.std.proofs.lemmas.Int.{to_z-of_z, fits_signed_from_abs}
 use Rattle.effective_area.proofs.Products.{apart_fits, read_both, both}
 use Rattle.geometry.specs.Areas.{twice_area, cross}
+use Rattle.geometry.specs.Units.{area_limit}
 use Rattle.std.specs.Int.RustNames.{unsigned_abs}
 use mir.Syntax.{w128, w64}
 use Rattle.effective_area.proofs.steps.twice_area.Goals as goal
@@ -29,7 +30,7 @@ returns-clause-value c = unfold twice_area cross in
     let f4 : FitsSigned w128 c.difference-4.result = search rules in
     let f : FitsSigned w128 c.product-left.result = search rules in
     let g : FitsSigned w128 c.product-right.result = search rules in
-    let small : unsigned_abs (c.product-left.result -ℤ c.product-right.result) < 100000000000000000000000000000000 = apart_fits c.product-left.result c.product-right.result c.product-left.ensures.bound c.product-right.ensures.bound in
+    let small : unsigned_abs (c.product-left.result -ℤ c.product-right.result) < area_limit = apart_fits c.product-left.result c.product-right.result c.product-left.ensures.bound c.product-right.ensures.bound in
     let h : FitsSigned w128 (c.product-left.result -ℤ c.product-right.result) = fits_signed_from_abs w128 _ (omega arith) in
     let d1 = both ◌-ℤ◌ _ _ _ _ _ c.x.ensures.x c.x-2.ensures.x (read_both w64 ◌-ℤ◌ _ _ _ x1 x2 c.difference.ensures.value) in
     let d2 = both ◌-ℤ◌ _ _ _ _ _ c.y.ensures.y c.y-2.ensures.y (read_both w64 ◌-ℤ◌ _ _ _ y1 y2 c.difference-2.ensures.value) in
@@ -44,9 +45,9 @@ pub returns-clause-bound : goal.returns-clause-bound
 returns-clause-bound c =
     let f : FitsSigned w128 c.product-left.result = search rules in
     let g : FitsSigned w128 c.product-right.result = search rules in
-    let small : unsigned_abs (c.product-left.result -ℤ c.product-right.result) < 100000000000000000000000000000000 = apart_fits c.product-left.result c.product-right.result c.product-left.ensures.bound c.product-right.ensures.bound in
+    let small : unsigned_abs (c.product-left.result -ℤ c.product-right.result) < area_limit = apart_fits c.product-left.result c.product-right.result c.product-left.ensures.bound c.product-right.ensures.bound in
     let h : FitsSigned w128 (c.product-left.result -ℤ c.product-right.result) = fits_signed_from_abs w128 _ (omega arith) in
     let e = c.unsigned_abs.ensures.value in
     let t = ap (λ z. to_z w128 (of_z w128 z)) (through _ _ f g) ∙ to_z-of_z w128 _ h in
-    let P : ℕ → Type 0 = λ n. n < 100000000000000000000000000000000 in
+    let P : ℕ → Type 0 = λ n. n < area_limit in
     subst P (sym (e ∙ ap unsigned_abs t)) small

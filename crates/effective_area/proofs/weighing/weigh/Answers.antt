@@ -4,7 +4,7 @@ use Rattle.std.specs.List.{filter}
 use Rattle.effective_area.specs.declared.weight.Weight.TheVariants.{Area}
 use Rattle.effective_area.specs.Links.{IsTakenOut, TakesFirst}
 use Rattle.effective_area.specs.Vertices.{seen}
-use Rattle.effective_area.specs.Weights.{no_limit}
+use Rattle.geometry.specs.Units.{area_limit}
 use Rattle.effective_area.proofs.Weighed.{AreWeighed, none_weighed, weighed_on, all_weighed, none_over}
 use Rattle.effective_area.proofs.weighing.weigh.Goals as goal
 
@@ -16,8 +16,8 @@ corners-preserved c =
     let s = c.corners.invariant.state in
     let corner = c.in-Some.corner in
     let items = c.take_first.new.sorted.items ++ heap_items c.take_first.new.heap in
-    let taken : IsTakenOut no_limit c.args.arc.now c.take_first.new.links items c.corners.left s.0 corner =
-    subst (λ o. TakesFirst no_limit c.args.arc.now c.take_first.new.links items c.corners.left s.0 o) c.in-Some.is (c.in_ok-corner.ensures.taken c.corners.left s.0 s.1) in
+    let taken : IsTakenOut area_limit c.args.arc.now c.take_first.new.links items c.corners.left s.0 corner =
+    subst (λ o. TakesFirst area_limit c.args.arc.now c.take_first.new.links items c.corners.left s.0 o) c.in-Some.is (c.in_ok-corner.ensures.taken c.corners.left s.0 s.1) in
     record {
       sorted = c.in_ok-corner.ensures.sorted;
       order = c.in_ok-corner.ensures.order;
@@ -33,5 +33,5 @@ pub returns : goal.returns
 returns c =
     let s = c.corners.invariant.state in
     let items = c.take_first.new.sorted.items ++ heap_items c.take_first.new.heap in
-    let none = subst (λ o. TakesFirst no_limit c.args.arc.now c.take_first.new.links items c.corners.left s.0 o) c.in_default.is (c.in_ok-corner.ensures.taken c.corners.left s.0 s.1) in
+    let none = subst (λ o. TakesFirst area_limit c.args.arc.now c.take_first.new.links items c.corners.left s.0 o) c.in_default.is (c.in_ok-corner.ensures.taken c.corners.left s.0 s.1) in
     all_weighed c.args.arc.now c.corners.level c.corners.left s.0 c.corners.weights s.2 (none_over c.args.arc.now s.0 c.requires.within none.1)

@@ -1,6 +1,6 @@
 use Rattle.std.proofs.Common.{◌≡◌, ◌≤◌, ◌+◌, ◌*◌, ◌/◌, arith, rules, w64}
 use Rattle.std.proofs.lemmas.Int.{ints, fits_signed_from_abs}
-use Rattle.geometry.specs.Points.{input_limit}
+use Rattle.geometry.specs.Units.{input_limit}
 use Rattle.grid_snap.specs.Axes.{offset, number, count_limit}
 use Rattle.grid_snap.proofs.Settled.{number_of_offset, number_within, step_within, offset_within, cast_number, numbered}
 use Rattle.grid_snap.proofs.axis.Axis.number.Goals as goal

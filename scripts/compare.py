@@ -63,7 +63,7 @@ def main():
             for words in (["build", "a=FILE"], ["build", "--exact", "a=FILE"]):
                 compare(old, new, words, file.name)
             write(file, mangled_topology(old, file) if rng.random() < 0.25 else random_files.random_topology())
-            area = one_of(["0", "0.5", "3", "1e4", "0.00000000000001"])
+            area = one_of(["0", "0.5", "3", "1e4", "0.000000000000000001"])
             for words in (["geo", "--object", one_of("aaab"), "FILE"], ["stat", "FILE"], ["simplify", "--min-area", area, "FILE"]):
                 compare(old, new, words, file.name)
     print("the same on", count, "layers and", count, "topologies; runs by command and status:")

@@ -78,14 +78,14 @@ def number():
     text = one_of(["", "-"]) + str(one_of([0, 1, 7, 12, 179, 99999999, 5]))
     kind = rng.random() if loose else 0.0
     if kind < 0.4:
-        text += "." + "".join(one_of("0123456789") for _ in range(one_of([1, 3, 7, 7, 7])))
+        text += "." + "".join(one_of("0123456789") for _ in range(one_of([1, 3, 7, 9, 9])))
     elif kind < 0.6:
-        text += "." + "".join(one_of("012345678") for _ in range(one_of([8, 9, 13, 15, 17, 18, 25])))
+        text += "." + "".join(one_of("012345678") for _ in range(one_of([10, 11, 13, 15, 17, 18, 25])))
     elif kind < 0.65:
-        text += "." + one_of(["00000005", "00000004999999999", "4999999500000000000000001", "0" * 30 + "1"])
+        text += "." + one_of(["0000000005", "0000000004999999999", "499999999500000000000000001", "0" * 30 + "1"])
     elif kind < 0.7:
-        text += one_of(["e0", "e-3", ".5e-7", "E-20", "e-400"])
-    return text if not may(0.03) else one_of(["-0", "-0.0", "0e5", "0E999", "100000000", "-1e8", "1e+7", "5e-8"])
+        text += one_of(["e0", "e-3", ".5e-9", "E-20", "e-400"])
+    return text if not may(0.03) else one_of(["-0", "-0.0", "0e5", "0E999", "100000000", "-1e8", "1e+7", "5e-10"])
 
 
 def position(x, y):
@@ -229,8 +229,8 @@ def topology():
     objects = [name(one_of("abc") if errs(0.1) else "abc"[i]) + ":" + one_of([geometry, collection])() for i in several()]
     members = [(name("type"), '"Topology"' if not errs(0.02) else one_of(['"topology"', "null", "7"]))]
     if is_gridded:
-        steps = ["0.1", "1", "0.0000001", "0.036003600360036005", "1e-3", "0", "-1"] if not errs(0.05) else ["3e9", '"1"', "null"]
-        offsets = ["0", "-180", "-89.99892578124998", "0.5e-8", "1E2"] if not errs(0.05) else ["300000000", "1e400", "[]"]
+        steps = ["0.1", "1", "0.000000001", "0.036003600360036005", "1e-3", "0", "-1"] if not errs(0.05) else ["3e9", '"1"', "null"]
+        offsets = ["0", "-180", "-89.99892578124998", "0.5e-10", "1E2"] if not errs(0.05) else ["300000000", "1e400", "[]"]
         pairs = [(name("scale"), position(one_of(steps), one_of(steps))), (name("translate"), position(one_of(offsets), one_of(offsets)))]
         members.append((name("transform"), members_of(pairs)))
     elif may(0.05):

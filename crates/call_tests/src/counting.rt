@@ -15,7 +15,7 @@ const TOPOLOGY: &[u8] =
     b"{\"type\":\"Topology\",\"objects\":{\"a\":{\"type\":\"GeometryCollection\",\"geometries\":[{\"type\":\"LineString\",\"arcs\":[0]},{\"type\":\"LineString\",\"arcs\":[-1]}]}},\"arcs\":[[[4,0],[2,0],[1,1],[0,0]]]}";
 
 // Twice an area of 1.5 square units of the coordinates.
-const THRESHOLD: u128 = 300_000_000_000_000;
+const THRESHOLD: u128 = 3_000_000_000_000_000_000;
 
 fn source(bytes: &[u8]) -> Source<FromRead<CutReader<'_>>> {
     Source::new(FromRead::new(CutReader::new(bytes, 64, Fault::Never)))

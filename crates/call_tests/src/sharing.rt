@@ -9,8 +9,8 @@ use linework::{Lines, OfLayers, Vertices};
 use std::alloc::{AllocError, Global};
 use std::test::Fail;
 
-// Units of 10^-7 in a unit of the coordinates.
-const ONE: i64 = 10_000_000;
+// Units of 10^-9 in a unit of the coordinates.
+const ONE: i64 = 1_000_000_000;
 
 /// The text of a GeometryCollection of unit squares, row by row from y = 0 and in each row from x = 0, each a Polygon from its lower
 /// left corner and counterclockwise.

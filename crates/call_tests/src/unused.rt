@@ -44,13 +44,14 @@ fn is_threshold(alloc: Global, area: &str, wanted: Option<u128>) -> bool {
     }
 }
 
-// Twice the area in square units of 10^-7; no area is less than nothing, larger than 10^18 or finer than 10^-14.
+// Twice the area in square units of 10^-9; no area is less than nothing, larger than 10^18 or finer than 10^-18.
 #[test]
 fn areas_have_thresholds(rt: HostRuntime) {
-    assert!(rt; is_threshold(rt.alloc(), "1.5", Some(300_000_000_000_000)));
+    assert!(rt; is_threshold(rt.alloc(), "1.5", Some(3_000_000_000_000_000_000)));
     assert!(rt; is_threshold(rt.alloc(), "-1", None));
     assert!(rt; is_threshold(rt.alloc(), "1e19", None));
-    assert!(rt; is_threshold(rt.alloc(), "1e-15", None));
+    assert!(rt; is_threshold(rt.alloc(), "1e-15", Some(2000)));
+    assert!(rt; is_threshold(rt.alloc(), "1e-19", None));
 }
 
 #[test]

@@ -12,8 +12,8 @@ use topojson_decoder::{ArcRef, Topology, Walk, read_topology};
 const SQUARES: &[u8] =
     b"{\"type\":\"Topology\",\"objects\":{},\"arcs\":[[[1,0],[1,1]],[[1,1],[0,1],[0,0],[1,0]],[[1,0],[2,0],[2,1],[1,1]]]}";
 
-// Units of 10^-7.
-const ONE: i64 = 10_000_000;
+// Units of 10^-9.
+const ONE: i64 = 1_000_000_000;
 
 /// The two indexes, if the topology has their arcs.
 fn pair_of(topology: &Topology, first: i64, second: i64) -> Option<[ArcRef; 2]>
@@ -97,13 +97,13 @@ fn counts_of(alloc: Global, text: &[u8]) -> Result<[u64; 3], Fail> {
 fn counts(rt: HostRuntime) -> Result<(), Fail> {
     let alloc = rt.alloc();
     let rounded =
-        b"{\"type\":\"Topology\",\"arcs\":[[[0,0.00000005,9],[1,1e-9]]],\"bbox\":5,\"objects\":{}}";
+        b"{\"type\":\"Topology\",\"arcs\":[[[0,0.0000000005,9],[1,1e-11]]],\"bbox\":5,\"objects\":{}}";
     assert_eq!(rt; counts_of(alloc, rounded)?, [2, 1, 0]);
     let empty =
         b"{\"type\":\"Topology\",\"objects\":{\"a\":{\"type\":\"LineString\",\"arcs\":[]}},\"arcs\":[]}";
     assert_eq!(rt; counts_of(alloc, empty)?, [0, 0, 1]);
     let cells =
-        b"{\"type\":\"Topology\",\"transform\":{\"scale\":[0.00000005,1],\"translate\":[0,0]},\"objects\":{\"a\":{\"type\":\"Point\",\"coordinates\":[1,2,3]}},\"arcs\":[]}";
+        b"{\"type\":\"Topology\",\"transform\":{\"scale\":[0.0000000005,1],\"translate\":[0,0]},\"objects\":{\"a\":{\"type\":\"Point\",\"coordinates\":[1,2,3]}},\"arcs\":[]}";
     assert_eq!(rt; counts_of(alloc, cells)?, [0, 1, 0]);
     Ok(())
 }

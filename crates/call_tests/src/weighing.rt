@@ -3,8 +3,8 @@ use effective_area::{Weight, weights};
 use geojson_types::Position;
 use std::alloc::Global;
 
-// Units of 10^-7 in a unit of the coordinates.
-const ONE: i64 = 10_000_000;
+// Units of 10^-9 in a unit of the coordinates.
+const ONE: i64 = 1_000_000_000;
 
 /// Whether these are the weights of the line.
 fn weighs(alloc: Global, line: &[Position], wanted: &[Weight]) -> bool {
@@ -47,8 +47,8 @@ fn a_neighbour_weighs_what_it_grows_to(rt: HostRuntime) {
     ];
     let wanted = [
         Weight::End,
-        Weight::Area(100_000_000_000_000),
-        Weight::Area(900_000_000_000_000),
+        Weight::Area(1_000_000_000_000_000_000),
+        Weight::Area(9_000_000_000_000_000_000),
         Weight::End,
     ];
     assert!(rt; weighs(rt.alloc(), &line, &wanted));
@@ -63,7 +63,7 @@ fn a_weight_never_falls(rt: HostRuntime) {
         Position::at(2 * ONE, 0),
         Position::at(4 * ONE, 0),
     ];
-    let both = Weight::Area(200_000_000_000_000);
+    let both = Weight::Area(2_000_000_000_000_000_000);
     let wanted = [Weight::End, both, both, Weight::End];
     assert!(rt; weighs(rt.alloc(), &line, &wanted));
 }

@@ -44,7 +44,7 @@ const BUILD_HELP: Help = Help {
 Each file (RFC 7946) is a layer of the map. Standard output takes the topology
 (TopoJSON 1.0) as one text. Where something is refused it takes nothing, and standard
 error says what. Else standard error takes a report, with a line each:
-  rounded  coordinates that were rounded to seven decimal places
+  rounded  coordinates that were rounded to nine decimal places
   extra    positions with more than x and y, as a height: the rest is left out
   empty    empty arrays in the place of coordinates
   dropped  lines that aren't written, each told in a line of its own below
@@ -82,7 +82,7 @@ const AREA_HELP: &str = "Take out points whose triangle has less than the area A
 const AREA_LONG_HELP: &str =
     "Take points out of lines: each that forms a triangle of less than A with its two
 neighbours, the least first. A is in square units of the coordinates, from 0 to
-10^18, with at most 14 decimal places. Without this option it is 0, and no point
+10^18, with at most 18 decimal places. Without this option it is 0, and no point
 is taken out. A shared border is reduced once, so it stays shared. Lines may
 cross afterwards: that isn't checked";
 

@@ -1,4 +1,4 @@
--- Worked examples, computed from the definitions: texts at seven places under the limit 10^15, and units as texts.
+-- Worked examples, computed from the definitions: texts at nine places under the limit 10^17, and units as texts.
 use Rattle.std.proofs.Common.{◌≡◌, ℕ, ◌^◌, List, [], ◌∷◌, map, Result, Ok, Err, true, false, refl, pos, negsuc}
 use Rattle.std.specs.Prelude.{ℤ, codes}
 use Rattle.decimal_text.specs.declared.num_text.Scaled.{Scaled}
@@ -7,19 +7,19 @@ use Rattle.std.specs.Fmt.{digits}
 use Rattle.decimal_text.specs.Scaling.{scaled_of, units_text}
 
 abbrev scaled : List ℕ → Result Scaled Range
-scaled t = scaled_of 7 (10 ^ 15) t
+scaled t = scaled_of 9 (10 ^ 17) t
 
 -- texts, and what they scale to
 abbrev scaled_texts : List (List ℕ × Result Scaled Range)
 scaled_texts =
-    (codes "1e-7", Ok (record { value = pos 1; exact = true }))
-    ∷ (codes "0.00000005", Ok (record { value = pos 1; exact = false }))
-    ∷ (codes "-0.00000005", Ok (record { value = negsuc 0; exact = false }))
-    ∷ (codes "0.00000004", Ok (record { value = pos 0; exact = false }))
+    (codes "1e-9", Ok (record { value = pos 1; exact = true }))
+    ∷ (codes "0.0000000005", Ok (record { value = pos 1; exact = false }))
+    ∷ (codes "-0.0000000005", Ok (record { value = negsuc 0; exact = false }))
+    ∷ (codes "0.0000000004", Ok (record { value = pos 0; exact = false }))
     ∷ (codes "-0", Ok (record { value = pos 0; exact = true }))
-    ∷ (codes "100000000", Ok (record { value = pos (10 ^ 15); exact = true }))
-    ∷ (codes "100000000.00000004", Ok (record { value = pos (10 ^ 15); exact = false }))
-    ∷ (codes "100000000.0000001", Err (record {}))
+    ∷ (codes "100000000", Ok (record { value = pos (10 ^ 17); exact = true }))
+    ∷ (codes "100000000.0000000004", Ok (record { value = pos (10 ^ 17); exact = false }))
+    ∷ (codes "100000000.000000001", Err (record {}))
     ∷ (codes "01", Err (record {}))
     ∷ []
 
@@ -30,11 +30,11 @@ all_scaled = unfold scaled_of in refl
 abbrev unit_texts : List (ℤ × List ℕ)
 unit_texts =
     (pos 0, codes "0")
-    ∷ (pos 15000000, codes "1.5")
-    ∷ (negsuc 4999999, codes "-0.5")
-    ∷ (pos 1, codes "0.0000001")
-    ∷ (negsuc 999999999999999, codes "-100000000")
+    ∷ (pos 1500000000, codes "1.5")
+    ∷ (negsuc 499999999, codes "-0.5")
+    ∷ (pos 1, codes "0.000000001")
+    ∷ (negsuc 99999999999999999, codes "-100000000")
     ∷ []
 
-all_texts : map (λ r. units_text r.0 7) unit_texts ≡ map (λ r. r.1) unit_texts
+all_texts : map (λ r. units_text r.0 9) unit_texts ≡ map (λ r. r.1) unit_texts
 all_texts = unfold units_text digits in refl

@@ -124,9 +124,9 @@ module _ (zero_is : scaled_of unit_places input_limit (codes "0") ≡ Ok (record
   row_range_first far exact = simp (object_kinds, text_kinds, array_kinds, number_kinds, far)
 
   -- half a unit is rounded up and counted, or refused
-  module _ (half_is : scaled_of unit_places input_limit (codes "0.00000005") ≡ Ok (record { value = pos 1; exact = false })) where
+  module _ (half_is : scaled_of unit_places input_limit (codes "0.0000000005") ≡ Ok (record { value = pos 1; exact = false })) where
     abbrev half_point : Json
-    half_point = typed (codes "Point") (coordinates (j.Array (j.Number (codes "0.00000005") ∷ zero ∷ [])))
+    half_point = typed (codes "Point") (coordinates (j.Array (j.Number (codes "0.0000000005") ∷ zero ∷ [])))
 
     pub row_inexact : layer true half_point ≡ within_feature 0 Inexact
     unfolding layer features type_name need named geojson_type geometry_type coordinates_type typed_features bare_feature typed_geometry coordinates_shape some_elements shape_in elements_position coordinate

@@ -20,7 +20,7 @@ abbrev corner : Point
 corner = record { x = pos 0; y = pos 0 }
 
 abbrev tip : Point
-tip = record { x = pos 15000000; y = pos 2500000 }
+tip = record { x = pos 1500000000; y = pos 250000000 }
 
 abbrev one_line : FeatureSet
 one_line = Many (record { id = None; properties = None; shape = Some (g.Line (corner ∷ (tip ∷ []))) } ∷ [])
@@ -35,9 +35,9 @@ abbrev one_feature : FeatureSet
 one_feature = One (record {
   id = Some (id.Number (codes "7.0"));
   properties = Some ((codes "k", j.Number (codes "1.50")) ∷ ((codes "k", j.Null) ∷ []));
-  shape = Some (g.Group (g.Point (record { x = negsuc 4999999; y = pos 1 }) ∷ (g.Group [] ∷ [])));
+  shape = Some (g.Group (g.Point (record { x = negsuc 499999999; y = pos 1 }) ∷ (g.Group [] ∷ [])));
 })
 
 feature_row : json_text (features_value one_feature)
-    ≡ codes "{\"type\":\"Feature\",\"id\":7.0,\"properties\":{\"k\":1.50,\"k\":null},\"geometry\":{\"type\":\"GeometryCollection\",\"geometries\":[{\"type\":\"Point\",\"coordinates\":[-0.5,0.0000001]},{\"type\":\"GeometryCollection\",\"geometries\":[]}]}}"
+    ≡ codes "{\"type\":\"Feature\",\"id\":7.0,\"properties\":{\"k\":1.50,\"k\":null},\"geometry\":{\"type\":\"GeometryCollection\",\"geometries\":[{\"type\":\"Point\",\"coordinates\":[-0.5,0.000000001]},{\"type\":\"GeometryCollection\",\"geometries\":[]}]}}"
 feature_row = unfold feature_value units_text escaped_byte digits in simp (shape_value_at.group, shape_value_at.point, texts) refl

@@ -1,3 +1,4 @@
+mod Examples
 pub mod Agreement
 pub mod Areas
 pub mod ByKind

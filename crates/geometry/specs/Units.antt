@@ -1,9 +1,9 @@
 -- The unit of coordinates, and every number that follows from it.
 use Rattle.std.specs.Prelude.{ℕ, ◌*◌, ◌-◌, ◌^◌}
 
--- the decimals that are kept: a unit is 10^-7 of the input's unit
+-- the decimals that are kept: a unit is 10^-9 of the input's unit
 abbrev pub unit_places : ℕ
-unit_places = 7
+unit_places = 9
 
 -- the units in one of the input's
 abbrev pub units_in_one : ℕ

@@ -1,10 +1,10 @@
 // The unit of coordinates, and every number that follows from it. `specs/Units.antt` has them as contracts see them.
 
-/// The decimals of a unit, in which coordinates are whole: a unit is `10^-7` of the input's unit.
-pub const PLACES: u32 = 7;
+/// The decimals of a unit, in which coordinates are whole: a unit is `10^-9` of the input's unit.
+pub const PLACES: u32 = 9;
 
 /// The units in one of the input's unit: `10^PLACES`.
-const UNITS_IN_ONE: u64 = 10_000_000;
+const UNITS_IN_ONE: u64 = 1_000_000_000;
 
 /// The greatest magnitude of a coordinate that is read from a layer, in units: 10^8 of the input's unit.
 pub const INPUT_LIMIT: u64 = 100_000_000 * UNITS_IN_ONE;

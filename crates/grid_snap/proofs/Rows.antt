@@ -13,39 +13,39 @@ axis first step last = record { first = first; step = step; last = last }
 abbrev square : Axis → Axes
 square a = record { x = a; y = a }
 
--- a line and a point, by four coordinates in each direction: steps of a third of 10^7 units, rounded up
+-- a line and a point, by four coordinates in each direction: steps of a third of 10^9 units, rounded up
 abbrev four : Axes
-four = square (axis (pos 0) 3333334 3)
+four = square (axis (pos 0) 333333334 3)
 
-four_over : grid_over 4 (at (pos 0) (pos 0) ∷ (at (pos 5000000) (pos 10000000) ∷ (at (pos 10000000) (pos 0) ∷ (at (pos 10000000) (pos 10000000) ∷ [])))) ≡ Some four
+four_over : grid_over 4 (at (pos 0) (pos 0) ∷ (at (pos 500000000) (pos 1000000000) ∷ (at (pos 1000000000) (pos 0) ∷ (at (pos 1000000000) (pos 1000000000) ∷ [])))) ≡ Some four
 four_over = refl
 
-four_cell : cell four (at (pos 5000000) (pos 10000000)) ≡ at (pos 1) (pos 3)
+four_cell : cell four (at (pos 500000000) (pos 1000000000)) ≡ at (pos 1) (pos 3)
 four_cell = unfold number in refl
 
-four_snapped : snapped four (at (pos 5000000) (pos 10000000)) ≡ at (pos 3333334) (pos 10000002)
+four_snapped : snapped four (at (pos 500000000) (pos 1000000000)) ≡ at (pos 333333334) (pos 1000000002)
 four_snapped = unfold number in refl
 
-four_back : back four (at (pos 1) (pos 3)) ≡ at (pos 3333334) (pos 10000002)
+four_back : back four (at (pos 1) (pos 3)) ≡ at (pos 333333334) (pos 1000000002)
 four_back = refl
 
-four_covers : covers four (at (pos 10000002) (pos 0)) ≡ true
+four_covers : covers four (at (pos 1000000002) (pos 0)) ≡ true
 four_covers = unfold is_on in refl
 
-four_ends : covers four (at (pos 10000003) (pos 0)) ≡ false
+four_ends : covers four (at (pos 1000000003) (pos 0)) ≡ false
 four_ends = unfold is_on in refl
 
 -- lines along one height: a step of one unit there, and a short line falls together
 abbrev two : Axes
-two = record { x = axis (pos 0) 100000000 1; y = axis (pos 50000000) 1 1 }
+two = record { x = axis (pos 0) 10000000000 1; y = axis (pos 5000000000) 1 1 }
 
-two_over : grid_over 2 (at (pos 0) (pos 50000000) ∷ (at (pos 100000000) (pos 50000000) ∷ (at (pos 10000000) (pos 50000000) ∷ (at (pos 20000000) (pos 50000000) ∷ [])))) ≡ Some two
+two_over : grid_over 2 (at (pos 0) (pos 5000000000) ∷ (at (pos 10000000000) (pos 5000000000) ∷ (at (pos 1000000000) (pos 5000000000) ∷ (at (pos 2000000000) (pos 5000000000) ∷ [])))) ≡ Some two
 two_over = refl
 
-two_one : snapped two (at (pos 10000000) (pos 50000000)) ≡ at (pos 0) (pos 50000000)
+two_one : snapped two (at (pos 1000000000) (pos 5000000000)) ≡ at (pos 0) (pos 5000000000)
 two_one = unfold number in refl
 
-two_other : snapped two (at (pos 20000000) (pos 50000000)) ≡ at (pos 0) (pos 50000000)
+two_other : snapped two (at (pos 2000000000) (pos 5000000000)) ≡ at (pos 0) (pos 5000000000)
 two_other = unfold number in refl
 
 -- halves of a step go up
@@ -61,10 +61,10 @@ one_over = refl
 
 -- both ends of what a layer holds, and as many coordinates as there may be
 abbrev widest : Axes
-widest = square (axis (neg_ℤ (pos (10 ^ 15))) 2000001 (10 ^ 9 - 1))
+widest = square (axis (neg_ℤ (pos (10 ^ 17))) 200000001 (10 ^ 9 - 1))
 
-widest_over : grid_over (10 ^ 9) (at (neg_ℤ (pos (10 ^ 15))) (pos (10 ^ 15)) ∷ (at (pos (10 ^ 15)) (neg_ℤ (pos (10 ^ 15))) ∷ [])) ≡ Some widest
+widest_over : grid_over (10 ^ 9) (at (neg_ℤ (pos (10 ^ 17))) (pos (10 ^ 17)) ∷ (at (pos (10 ^ 17)) (neg_ℤ (pos (10 ^ 17))) ∷ [])) ≡ Some widest
 widest_over = refl
 
-widest_covers : covers widest (at (pos (10 ^ 15)) (neg_ℤ (pos (10 ^ 15)))) ≡ true
+widest_covers : covers widest (at (pos (10 ^ 17)) (neg_ℤ (pos (10 ^ 17)))) ≡ true
 widest_covers = unfold is_on in refl

@@ -22,7 +22,7 @@ one_arc cells = record { objects = []; arcs = cells ∷ []; transform = None }
 -- ---- a step of two units: twice the area of the corner is 8 where it lies, and would be 2 in numbers of the grid
 
 abbrev coarse : Transform
-coarse = record { scale = (codes "0.0000002", codes "0.0000002"); translate = (codes "0", codes "0") }
+coarse = record { scale = (codes "0.000000002", codes "0.000000002"); translate = (codes "0", codes "0") }
 
 abbrev coarse_arc : Contents
 coarse_arc = record { objects = []; arcs = (at 0 0 ∷ (at 1 1 ∷ (at 2 0 ∷ []))) ∷ []; transform = Some coarse }
@@ -38,7 +38,7 @@ coarse_goes = refl
 -- ---- a grid whose origin is ten units to the right
 
 abbrev shift : Transform
-shift = record { scale = (codes "0.0000001", codes "0.0000001"); translate = (codes "0.000001", codes "0") }
+shift = record { scale = (codes "0.000000001", codes "0.000000001"); translate = (codes "0.00000001", codes "0") }
 
 abbrev shift_cell : Point → Point
 shift_cell p = moved p (record { x = negsuc 9; y = pos 0 })

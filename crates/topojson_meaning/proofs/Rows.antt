@@ -81,7 +81,7 @@ abbrev at_x : ℕ → Point
 at_x x = record { x = pos x; y = pos 0 }
 
 abbrev two_arcs : List (List Point)
-two_arcs = (at_x 0 ∷ (at_x 10000000 ∷ [])) ∷ ((at_x 20000000 ∷ (at_x 30000000 ∷ [])) ∷ [])
+two_arcs = (at_x 0 ∷ (at_x 1000000000 ∷ [])) ∷ ((at_x 2000000000 ∷ (at_x 3000000000 ∷ [])) ∷ [])
 
 abbrev position_json : List ℕ → Json
 position_json x = j.Array (j.Number x ∷ (j.Number (codes "0") ∷ []))
@@ -159,5 +159,5 @@ unfolding object members object_of object_type need named type_of geometry_type 
 row_reversed = object_taken (line_string (j.Number (codes "-2") ∷ [])) reversed_line no_counts (simp (j.outs-Object, j.outs-Text, j.outs-Array, j.outs-Number))
 
 -- it decodes to [[3,0],[2,0]]
-decoded_reversed : decoded_line two_arcs false (negsuc 1 ∷ []) ≡ at_x 30000000 ∷ (at_x 20000000 ∷ [])
+decoded_reversed : decoded_line two_arcs false (negsuc 1 ∷ []) ≡ at_x 3000000000 ∷ (at_x 2000000000 ∷ [])
 decoded_reversed = refl

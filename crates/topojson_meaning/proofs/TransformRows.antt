@@ -42,7 +42,7 @@ scaling x y = record { scale = (x, y); translate = (codes "0", codes "0") }
 
 -- numbers that are read as the scales that they are
 abbrev scales : List (List ℕ × List ℕ)
-scales = (codes "1", codes "1") ∷ (codes "0.1", codes "0.1") ∷ (codes "300000000", codes "1") ∷ (codes "0.3333334", codes "0.3333334") ∷ []
+scales = (codes "1", codes "1") ∷ (codes "0.1", codes "0.1") ∷ (codes "300000000", codes "1") ∷ (codes "0.333333334", codes "0.333333334") ∷ []
 
 row_scales : (c : Counts) → map (λ s. transform_if (Some (scale_json s.0 s.1)) c) scales ≡ map (λ s. Ok (Some (scaling s.0 s.1), c)) scales
 unfolding transform_if transform_members need named texts elements array_of number_text number_of transform_pair transform_number transform_value scaled_of
@@ -107,7 +107,7 @@ unfolding topology value_contents contents object_of text_of need named objects 
 row_cells = simp (j.outs-Object, j.outs-Text, j.outs-Array, j.outs-Number)
 
 -- they lie at 214748364.8 and -214748364.8
-row_widest_lie : map (place_on (scaling (codes "0.1") (codes "0.1"))) (at_x (pos (2 ^ 31)) ∷ at_x (negsuc (2 ^ 31 - 1)) ∷ []) ≡ at_x (pos 2147483648000000) ∷ at_x (negsuc 2147483647999999) ∷ []
+row_widest_lie : map (place_on (scaling (codes "0.1") (codes "0.1"))) (at_x (pos (2 ^ 31)) ∷ at_x (negsuc (2 ^ 31 - 1)) ∷ []) ≡ at_x (pos 214748364800000000) ∷ at_x (negsuc 214748364799999999) ∷ []
 unfolding place_on stands_for to_units transform_value scaled_of
 row_widest_lie = refl
 
@@ -132,7 +132,7 @@ abbrev at : ℤ → ℤ → Point
 at x y = record { x = x; y = y }
 
 abbrev grid_of_four : Transform
-grid_of_four = scaling (codes "0.3333334") (codes "0.3333334")
+grid_of_four = scaling (codes "0.333333334") (codes "0.333333334")
 
 -- [[[0,0],[1,3],[2,-3]]] are the cells (0,0), (1,3), (3,0)
 abbrev line_cells : List Point
@@ -148,17 +148,22 @@ row_point_read : (c : Counts) → place (Some grid_of_four) (pair_json (codes "3
 unfolding place elements_place elements_cell grid_number grid_cell elements array_of number_text number_of scaled_of is_within place_on stands_for to_units transform_value
 row_point_read c = simp (j.outs-Array, j.outs-Number)
 
--- they lie at (0,0), (0.3333334,1.0000002), (1.0000002,0) and (1.0000002,1.0000002)
-row_line_lies : map (place_on grid_of_four) line_cells ≡ at (pos 0) (pos 0) ∷ (at (pos 3333334) (pos 10000002) ∷ (at (pos 10000002) (pos 0) ∷ []))
+-- they lie at (0,0), (0.333333334,1.000000002), (1.000000002,0) and (1.000000002,1.000000002)
+row_line_lies : map (place_on grid_of_four) line_cells ≡ at (pos 0) (pos 0) ∷ (at (pos 333333334) (pos 1000000002) ∷ (at (pos 1000000002) (pos 0) ∷ []))
 unfolding place_on stands_for to_units transform_value scaled_of
 row_line_lies = refl
 
-row_point_lies : place_on grid_of_four (at (pos 3) (pos 3)) ≡ at (pos 10000002) (pos 10000002)
+row_point_lies : place_on grid_of_four (at (pos 3) (pos 3)) ≡ at (pos 1000000002) (pos 1000000002)
 unfolding place_on stands_for to_units transform_value scaled_of
 row_point_lies = refl
 
--- with scale [10,0.0000001] and translate [0,5] the cells (0,0) and (1,0) lie at (0,5) and (10,5)
-row_two_lie : map (place_on (record { scale = (codes "10", codes "0.0000001"); translate = (codes "0", codes "5") })) (at (pos 0) (pos 0) ∷ (at (pos 1) (pos 0) ∷ []))
-    ≡ at (pos 0) (pos 50000000) ∷ (at (pos 100000000) (pos 50000000) ∷ [])
+-- on a grid that was written in units of 10^-7 they lie at the same decimals as there: (0,0), (0.3333334,1.0000002) and (1.0000002,0)
+row_written_before : map (place_on (scaling (codes "0.3333334") (codes "0.3333334"))) line_cells ≡ at (pos 0) (pos 0) ∷ (at (pos 333333400) (pos 1000000200) ∷ (at (pos 1000000200) (pos 0) ∷ []))
+unfolding place_on stands_for to_units transform_value scaled_of
+row_written_before = refl
+
+-- with scale [10,0.000000001] and translate [0,5] the cells (0,0) and (1,0) lie at (0,5) and (10,5)
+row_two_lie : map (place_on (record { scale = (codes "10", codes "0.000000001"); translate = (codes "0", codes "5") })) (at (pos 0) (pos 0) ∷ (at (pos 1) (pos 0) ∷ []))
+    ≡ at (pos 0) (pos 5000000000) ∷ (at (pos 10000000000) (pos 5000000000) ∷ [])
 unfolding place_on stands_for to_units transform_value scaled_of
 row_two_lie = refl

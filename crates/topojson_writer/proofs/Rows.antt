@@ -9,6 +9,7 @@ use Rattle.json_value.proofs.Texts.{texts}
 use Rattle.geometry.specs.declared.shape.Geometry.TheVariants as g
 use Rattle.geojson_types.specs.declared.id.Id.TheVariants as id
 use Rattle.geometry.specs.Points.{Point}
+use Rattle.geometry.specs.Units.{units_in_one}
 use Rattle.topojson_types.specs.declared.feature.TopoFeature.{TopoFeature}
 use Rattle.topojson_types.specs.declared.object.TopoObject.TheVariants.{Many}
 use Rattle.topojson_types.specs.declared.transform.Transform.{Transform}
@@ -20,7 +21,7 @@ use Rattle.topojson_writer.proofs.Shapes.{is-group}
 
 -- a position at a whole number of the input's units from zero
 abbrev pub at : ℕ → ℕ → Point
-at x y = record { x = pos (x * 10000000); y = pos (y * 10000000) }
+at x y = record { x = pos (x * units_in_one); y = pos (y * units_in_one) }
 
 -- without identifier and properties
 abbrev pub bare : TopoShape → TopoFeature
@@ -30,7 +31,7 @@ bare s = record { id = None; properties = None; shape = Some s }
 abbrev pub line_of : List ℕ → Contents
 line_of name = record {
   objects = (name, Many (bare (g.Line (pos 0 ∷ [])) ∷ [])) ∷ [];
-  arcs = (at 0 0 ∷ (record { x = pos 15000000; y = pos 2500000 } ∷ [])) ∷ [];
+  arcs = (at 0 0 ∷ (record { x = pos 1500000000; y = pos 250000000 } ∷ [])) ∷ [];
   transform = None;
 }
 
@@ -95,11 +96,11 @@ abbrev line_and_point : Contents
 line_and_point = record {
   objects = (codes "g", Many (bare (g.Line (pos 0 ∷ [])) ∷ (bare (g.Point (cell 3 3)) ∷ []))) ∷ [];
   arcs = (cell 0 0 ∷ (cell 1 3 ∷ (cell 3 0 ∷ []))) ∷ [];
-  transform = Some (on_grid (codes "0.3333334") (codes "0.3333334") (codes "0") (codes "0"));
+  transform = Some (on_grid (codes "0.333333334") (codes "0.333333334") (codes "0") (codes "0"));
 }
 
 row_grid : json_text (topology_value line_and_point)
-    ≡ codes "{\"type\":\"Topology\",\"transform\":{\"scale\":[0.3333334,0.3333334],\"translate\":[0,0]},\"objects\":{\"g\":{\"type\":\"GeometryCollection\",\"geometries\":[{\"type\":\"LineString\",\"arcs\":[0]},{\"type\":\"Point\",\"coordinates\":[3,3]}]}},\"arcs\":[[[0,0],[1,3],[2,-3]]]}"
+    ≡ codes "{\"type\":\"Topology\",\"transform\":{\"scale\":[0.333333334,0.333333334],\"translate\":[0,0]},\"objects\":{\"g\":{\"type\":\"GeometryCollection\",\"geometries\":[{\"type\":\"LineString\",\"arcs\":[0]},{\"type\":\"Point\",\"coordinates\":[3,3]}]}},\"arcs\":[[[0,0],[1,3],[2,-3]]]}"
 unfolding topology_value escaped_byte units_text digits deltas_from
 row_grid = simp (texts, (geometrical_at (position_value 0)).line, (geometrical_at (position_value 0)).point) refl
 
@@ -108,11 +109,11 @@ abbrev line_and_null : Contents
 line_and_null = record {
   objects = (codes "l", Many (bare (g.Line (pos 0 ∷ [])) ∷ (record { id = None; properties = None; shape = None } ∷ []))) ∷ [];
   arcs = (cell 0 0 ∷ (cell 1 0 ∷ [])) ∷ [];
-  transform = Some (on_grid (codes "10") (codes "0.0000001") (codes "0") (codes "5"));
+  transform = Some (on_grid (codes "10") (codes "0.000000001") (codes "0") (codes "5"));
 }
 
 row_grid_of_two : json_text (topology_value line_and_null)
-    ≡ codes "{\"type\":\"Topology\",\"transform\":{\"scale\":[10,0.0000001],\"translate\":[0,5]},\"objects\":{\"l\":{\"type\":\"GeometryCollection\",\"geometries\":[{\"type\":\"LineString\",\"arcs\":[0]},{\"type\":null}]}},\"arcs\":[[[0,0],[1,0]]]}"
+    ≡ codes "{\"type\":\"Topology\",\"transform\":{\"scale\":[10,0.000000001],\"translate\":[0,5]},\"objects\":{\"l\":{\"type\":\"GeometryCollection\",\"geometries\":[{\"type\":\"LineString\",\"arcs\":[0]},{\"type\":null}]}},\"arcs\":[[[0,0],[1,0]]]}"
 unfolding topology_value escaped_byte units_text digits deltas_from
 row_grid_of_two = simp (texts, (geometrical_at (position_value 0)).line) refl
 

@@ -2,7 +2,8 @@
 //! stands on `elimination_meaning`, which says what stays of a line. The layer above uses the law of the trait `Reducer`: its
 //! answer is that definition's list of indexes. `Rescan` looks through the whole line for each position that it takes out;
 //! `HeapLinks` keeps the corners in a heap, takes time n log n, and promises how many steps it counts.
-//! `weights` goes the same way without a threshold, and tells up to which one each position stays.
+//! `weights` goes the same way without a threshold, and tells up to which one each position stays. Of whole rings `ring_under`, which is
+//! passed on from `geometry`, says whether their area is under a limit.
 #![tactic(auto)]
 
 mod candidate;
@@ -19,6 +20,7 @@ mod waiting;
 mod weighing;
 mod weight;
 
+pub use geometry::ring_under;
 pub use heap_links::HeapLinks;
 pub use reducer::Reducer;
 pub use rescan::Rescan;

@@ -1,5 +1,6 @@
--- What the numbers of the unit come to, and the farthest positions.
-use Rattle.std.proofs.Common.{◌≡◌, ◌*◌, ◌^◌, ℤ, pos, negsuc, refl, arith}
+-- What the numbers of the unit come to, the farthest positions, and areas of rings.
+use Rattle.std.proofs.Common.{◌≡◌, ◌*◌, ◌^◌, ℤ, pos, negsuc, neg_ℤ, List, [], ◌∷◌, ◌++◌, refl, arith}
+use Rattle.geometry.specs.Areas.{shoelace, twice_ring_area}
 use Rattle.geometry.specs.Points.{Point, IsInput, IsPosition}
 use Rattle.geometry.specs.Units.{input_limit, position_limit, cell_limit, area_places, area_limit, threshold_limit, fine_units, transform_limit}
 
@@ -41,3 +42,22 @@ of_a_layer = omega arith
 
 of_no_layer : IsInput (at (pos 0) (pos 100000000000000001)) → ⊥
 of_no_layer h = omega (arith, h.1)
+
+-- ---- areas of rings
+
+unit_square : twice_ring_area (at (pos 0) (pos 0) ∷ (at (pos 1) (pos 0) ∷ (at (pos 1) (pos 1) ∷ (at (pos 0) (pos 1) ∷ (at (pos 0) (pos 0) ∷ []))))) ≡ 2
+unit_square = unfold shoelace in refl
+
+clockwise : twice_ring_area (at (pos 0) (pos 0) ∷ (at (pos 0) (pos 1) ∷ (at (pos 1) (pos 0) ∷ (at (pos 0) (pos 0) ∷ [])))) ≡ 1
+clockwise = unfold shoelace in refl
+
+-- it goes out and comes back
+flat : twice_ring_area (at (pos 2) (pos 3) ∷ (at (pos 5) (pos 9) ∷ (at (pos 7) (pos 13) ∷ (at (pos 2) (pos 3) ∷ [])))) ≡ 0
+flat = unfold shoelace in refl
+
+-- around all that a layer may hold, three times
+abbrev square : List Point
+square = at (pos (10 ^ 17)) (pos (10 ^ 17)) ∷ (at (neg_ℤ (pos (10 ^ 17))) (pos (10 ^ 17)) ∷ (at (neg_ℤ (pos (10 ^ 17))) (neg_ℤ (pos (10 ^ 17))) ∷ (at (pos (10 ^ 17)) (neg_ℤ (pos (10 ^ 17))) ∷ [])))
+
+around_all : twice_ring_area (square ++ (square ++ (square ++ (at (pos (10 ^ 17)) (pos (10 ^ 17)) ∷ [])))) ≡ 24 * 10 ^ 34
+around_all = unfold shoelace in refl

@@ -9,3 +9,4 @@ pub mod Moved
 pub mod MovedShapes
 pub mod Omitted
 pub mod Points
+pub mod RingAreas

@@ -10,6 +10,7 @@ mod arc_ref;
 mod moving;
 mod position;
 mod ring;
+mod ring_area;
 mod shape;
 mod units;
 
@@ -18,6 +19,7 @@ pub use arc_ref::ArcRef;
 pub use moving::{Moves, move_shape};
 pub use position::{Position, is_same};
 pub use ring::{Ring, is_closed};
+pub use ring_area::ring_under;
 pub use shape::{Geometry, Shape};
 pub use units::{
     AREA_LIMIT, AREA_PLACES, CELL_LIMIT, FINE_UNITS, INPUT_LIMIT, PLACES, POSITION_LIMIT,

@@ -18,7 +18,7 @@ pub use coordinates::position;
 pub use fault::{GeoFault, GeoFaultKind};
 pub use features::{feature_element, identifier, members_if};
 pub use geojson_types::{
-    Address, Cause, Counts, Dropped, Feature, FeatureSet, Geometry, INPUT_LIMIT, Id, Layer,
+    Address, Cause, Counts, Dropped, Feature, FeatureSet, Geometry, INPUT_LIMIT, Id, Layer, PLACES,
     POSITION_LIMIT, Position, Properties, PropertiesForm, Ring, Shape, is_closed,
 };
 pub use geojson_writer::{features_text_spells_value, put_features, write_features};

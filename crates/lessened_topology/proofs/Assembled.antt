@@ -93,7 +93,7 @@ module _ (one two : Bool → List Point → Option Cause) where
         (option_strokes f.shape) (features_strokes fs) h),
   )
 
-  layers_alike : (ls : Named) → AllByRecursion Alike (named_strokes ls) → map (λ l. map (λ f. option_caused one f.shape) l.1.features) ls ≡ map (λ l. map (λ f. option_caused two f.shape) l.1.features) ls
+  pub layers_alike : (ls : Named) → AllByRecursion Alike (named_strokes ls) → map (λ l. map (λ f. option_caused one f.shape) l.1.features) ls ≡ map (λ l. map (λ f. option_caused two f.shape) l.1.features) ls
   layers_alike [] h = refl
   layers_alike (l ∷ ls) h = grind (arith, features_alike, all_left, all_right, layers_alike ls (all_right Alike (features_strokes l.1.features) (named_strokes ls) h))
 

@@ -1,40 +1,47 @@
 -- What is made of layers, of the table of their arcs and of the positions of each arc that are kept is what is assembled of them.
-use Rattle.std.proofs.Common.{arith, ◌≡◌, ℕ, suc, ◌-◌, ℤ, Bool, true, cond, List, [], ◌∷◌, map, length, Option, None, Some, refl, sym, ap, ◌∙◌}
-use Rattle.std.specs.List.{list_any}
+use Rattle.std.proofs.Common.{arith, ◌≡◌, ℕ, suc, ◌-◌, ℤ, Bool, true, false, List, [], ◌∷◌, map, length, Option, None, Some, refl, sym, ap, ◌∙◌, subst}
+use Rattle.std.specs.List.{AllByRecursion}
+use Rattle.std.specs.Prelude.{sum, if◌then◌else◌}
+use Rattle.std.proofs.lemmas.Option.{none-some}
 use Rattle.std.proofs.Math.Path.{fun_ext}
-use Rattle.arc_choice.specs.Marks.{names_arc}
 use Rattle.arc_table.specs.Arcs.{ArcsAndIndexes, arcs_of, index_in, table_of}
 use Rattle.build_meaning.specs.Built.{all_arcs, untrimmed, positions_of}
-use Rattle.build_meaning.specs.Candidates.{Candidate, fate, if_kept, named_candidates}
-use Rattle.build_meaning.specs.Expected.{own_pieces, is_small, unless}
-use Rattle.build_meaning.specs.Laws.{AreSound}
-use Rattle.build_meaning.specs.Layers.{Named, layers_of, named_strokes}
+use Rattle.build_meaning.specs.Expected.{own_pieces, is_small, kept_line, unless}
+use Rattle.build_meaning.specs.Laws.{AreSound, whole_line}
+use Rattle.build_meaning.specs.Layers.{Named, layers_of, names_of, named_strokes}
 use Rattle.build_meaning.specs.Objects.{Kept, objects_by}
-use Rattle.build_meaning.specs.Trimming.{is_used, keep_from, object_renumbered, trimmed}
-use Rattle.build_meaning.proofs.Candidates.{map_map, stroke, named_are, own_left, objects_left}
+use Rattle.build_meaning.specs.Trimming.{is_used, keep_from, trimmed}
+use Rattle.build_meaning.proofs.Candidates.{map_map}
 use Rattle.build_meaning.proofs.Linework.{long_of, long_strokes, split_lists}
 use Rattle.build_meaning.proofs.Once.{same_pieces}
-use Rattle.build_meaning.proofs.Renumbered.{kept_renumbered, objects_once}
-use Rattle.build_meaning.proofs.Whole.{each_stays}
+use Rattle.build_meaning.proofs.Whole.{each_stays, loses_nothing}
 use Rattle.cutter.specs.Slices.{split_of, piece_lists}
+use Rattle.elimination_meaning.specs.Elimination.{reduced}
 use Rattle.elimination_meaning.specs.Laws.{ZeroLaw}
+use Rattle.geojson_types.specs.Features.{Shape, Featured}
 use Rattle.geometry.specs.declared.address.Cause.{Cause}
 use Rattle.geometry.specs.declared.address.Cause.TheVariants.{Collapsed, Small}
-use Rattle.geometry.specs.declared.address.Dropped.{Dropped}
-use Rattle.geometry.specs.Joins.{arc_at, rejoined}
-use Rattle.geometry.specs.Lists.{some_of}
+use Rattle.geometry.specs.Joins.{AreInRange, rejoined}
+use Rattle.geometry.specs.Lists.{map_some, then_some}
+use Rattle.geometry.specs.Omissions.{dropped_of_layers}
 use Rattle.geometry.specs.Points.{Point}
+use Rattle.geometry.specs.Pruning.{prune}
 use Rattle.junctions.specs.Cleaning.{clean, is_short}
 use Rattle.junctions.specs.declared.stroke.Stroke.{Stroke}
-use Rattle.lessened_topology.specs.Assembled.{arcs_of_layers, own_refs, layers_caused, assembled, assembled_dropped, assembled_taken_out}
-use Rattle.lessened_topology.specs.Lessened.{picked_arcs, picked_whole, lessened_by, taken_out_by, EachFromFirstToLast}
-use Rattle.lessened_topology.proofs.Assembled.{contents, kept_by, before_trimming}
+use Rattle.lessened_topology.specs.Assembled.{arcs_of_layers, own_refs, assembled_cause, option_caused, layers_caused, assembled, assembled_dropped, assembled_taken_out}
+use Rattle.lessened_topology.specs.Lessened.{Refs, small_cause, large_refs, feature_pruned, objects_pruned, picked_arcs, picked_whole, lessened_by, taken_out_by, EachFromFirstToLast}
+use Rattle.lessened_topology.proofs.Assembled.{contents, kept_by, before_trimming, layers_alike}
+use Rattle.lessened_topology.proofs.Lessened.{IsWholeAtZero, no_small}
 use Rattle.linework.specs.Linework.{linework}
+use Rattle.list_laws.proofs.Elements.{all_weaker}
+use Rattle.topojson_types.specs.declared.feature.TopoFeature.{TopoFeature}
 use Rattle.topojson_types.specs.declared.object.TopoObject.{TopoObject}
-use Rattle.topo_model.specs.Drops.{RefsOf, line_cause, long_refs}
-use Rattle.topo_model.specs.Entries.{Entries, entries_of}
-use Rattle.topo_model.specs.Fates.{fates, dealt, entry_by}
-use Rattle.topo_model.specs.Marks.{any_names_arc, used_by}
+use Rattle.topojson_types.specs.Topologies.{Contents, object_features, objects_strokes}
+use Rattle.topojson_types.specs.Validity.{IsPlace, IsTopology}
+use Rattle.topology_reduction.specs.Drops.{draft_cause, shape_drops, objects_drops}
+use Rattle.topology_reduction.proofs.Result as result
+use Rattle.topo_model.specs.Drafts.{RefsOf, long_refs, draft_refs, relined, feature_drafted, objects_drafted}
+use Rattle.topo_model.proofs.Relined.{pruned_once, dropped_once}
 
 -- ---- the table
 
@@ -62,48 +69,6 @@ table_refs ls t is =
     ∙ map_map (map (index_in (all_arcs lines))) (λ (b : Bool × List Point). own_pieces lines b.0 b.1) (long_strokes ls)
     ∙ long_are (own_refs lines) (named_strokes ls)
 
--- ---- fates
-
--- a fate and what the linework has for it
-abbrev Deal : Type 0
-Deal = Option Cause × Option (List ℤ)
-
-abbrev Alone : Type 0
-Alone = Candidate (List Point)
-
-module _ (arcs : List (List Point)) (of : RefsOf) where
-  abbrev why : Bool → List Point → Option Cause
-  why = line_cause arcs of
-
-  -- its cause, by whether it has too few positions from the first, and by whether it is left with too few
-  abbrev by : Bool → Bool → Option Cause
-  by short small = cond short (Some Collapsed) (cond small (Some Small) None)
-
-  abbrev small : Candidate (List Point) → Bool
-  small c = is_small c.closed (rejoined (map (arc_at arcs) (of c.closed c.line)))
-
-  abbrev part : Candidate (List Point) → Deal
-  part c = (fate why c, cond (is_short c.closed (clean c.line)) None (Some (of c.closed c.line)))
-
-  -- what the linework has for each line and ring is dealt to it
-  dealt_all : (cs : List Alone) → dealt (fates why cs) (long_refs of (map stroke cs)) ≡ map part cs
-  dealt_all [] = refl
-  dealt_all (c ∷ cs) = grind (arith, dealt_all cs)
-
-  -- the arcs of those that are kept
-  kept_arcs_named : (i : ℕ) (cs : List (Candidate (List Point)))
-      → any_names_arc (some_of (λ (d : Deal). if_kept d.0 d.1) (map part cs)) i ≡ list_any (λ (b : Bool × List ℤ). names_arc b.1 i) (some_of (own_left why of) cs)
-  kept_arcs_named i [] = refl
-  kept_arcs_named i (c ∷ cs) = grind (arith, kept_arcs_named i cs)
-
-  -- the entries of all, with new indexes
-  entries_renumbered : (u : ℕ → Bool) (cs : List (Candidate (List Point)))
-      → map (entry_by u) (map part cs) ≡ entries_of (kept_renumbered u (λ closed ps. unless (why closed ps) (of closed ps))) (map stroke cs)
-  entries_renumbered u [] = refl
-  entries_renumbered u (c ∷ cs) = grind (arith, entries_renumbered u cs)
-
--- ---- lists of numbers
-
 -- a list for each arc
 pub as_many : {K : Type 0} (numbers : K → List ℕ) (ks : List K) (arcs : List (List Point)) → EachFromFirstToLast (map numbers ks) arcs → length ks ≡ length arcs
 as_many numbers [] [] h = refl
@@ -111,72 +76,130 @@ as_many numbers [] (a ∷ arcs) h = absurd h
 as_many numbers (k ∷ ks) [] h = absurd h
 as_many numbers (k ∷ ks) (a ∷ arcs) h = ap (λ n. suc n) (as_many numbers ks arcs h.1)
 
+-- ---- a draft that is pruned
+
+abbrev Objects : Type 0
+Objects = List (List ℕ × TopoObject)
+
+module _ (of : RefsOf) (k : Refs) where
+  abbrev both : Kept
+  both closed ps = k closed (draft_refs of closed ps)
+
+  shape_pruned : (s : Option Shape) → then_some (prune (λ (p : Point). p) k) (map_some (relined (draft_refs of)) s) ≡ then_some (prune (λ (p : Point). p) both) s
+  shape_pruned None = refl
+  shape_pruned (Some s) = pruned_once (draft_refs of) k s
+
+  features_pruned : (fs : List Featured) → map (feature_pruned k) (map (feature_drafted of) fs) ≡ map (λ f. record { id = f.id; properties = f.properties; shape = then_some (prune (λ (p : Point). p) both) f.shape }) fs
+  features_pruned [] = refl
+  features_pruned (f ∷ fs) = rw (shape_pruned f.shape, features_pruned fs) refl
+
+  pub draft_pruned : (ls : Named) → objects_pruned k (objects_drafted of ls) ≡ objects_by both ls
+  draft_pruned [] = refl
+  draft_pruned (l ∷ ls) = rw (features_pruned l.1.features, draft_pruned ls) refl
+
+-- a line or ring without indexes has too few positions over any arcs
+large_are : (lines : List Stroke) (arcs : List (List Point)) (closed : Bool) (ps : List Point) → large_refs arcs closed (draft_refs (own_refs lines) closed ps) ≡ kept_by lines arcs closed ps
+large_are lines arcs true ps = grind arith
+large_are lines arcs false ps = grind arith
+
+-- ---- what is dropped of a draft
+
+module _ (of : RefsOf) (arcs : List (List Point)) where
+  abbrev cause : Bool → List Point → Option Cause
+  cause closed ps = draft_cause arcs closed (draft_refs of closed ps)
+
+  shape_dropped : (s : Option Shape) → shape_drops arcs (map_some (relined (draft_refs of)) s) ≡ option_caused cause s
+  shape_dropped None = refl
+  shape_dropped (Some s) = dropped_once (draft_refs of) (draft_cause arcs) s
+
+  features_dropped : (fs : List Featured) → map (λ f. shape_drops arcs f.shape) (map (feature_drafted of) fs) ≡ map (λ f. option_caused cause f.shape) fs
+  features_dropped [] = refl
+  features_dropped (f ∷ fs) = rw (shape_dropped f.shape, features_dropped fs) refl
+
+  layers_dropped : (ls : Named) → map (λ o. map (λ f. shape_drops arcs f.shape) (object_features o.1)) (objects_drafted of ls) ≡ map (λ l. map (λ f. option_caused cause f.shape) l.1.features) ls
+  layers_dropped [] = refl
+  layers_dropped (l ∷ ls) = rw (features_dropped l.1.features, layers_dropped ls) refl
+
+-- a line or ring that has enough positions has an index
+module _ (lines : List Stroke) (arcs : List (List Point)) (b : Bool × List Point) (whole : IsWholeAtZero lines b) where
+  -- why it is dropped at zero, by its pieces
+  abbrev at_zero : List (List Point) → Option Cause
+  at_zero ps = if is_small b.0 (rejoined (map (reduced 0) ps)) then Some Small else None
+
+  small_none : at_zero [] ≡ Some Small
+  small_none = grind arith
+
+  some_pieces : is_short b.0 (clean b.1) ≡ false → own_pieces lines b.0 b.1 ≡ [] → ⊥
+  some_pieces long none = none-some Small (sym (no_small lines b whole long) ∙ rw long refl ∙ ap at_zero none ∙ small_none)
+
+  by_pieces : is_short b.0 (clean b.1) ≡ false → (ps : List (List Point)) → own_pieces lines b.0 b.1 ≡ ps → draft_cause arcs b.0 (own_refs lines b.0 b.1) ≡ small_cause arcs b.0 (own_refs lines b.0 b.1)
+  by_pieces long [] is = absurd (some_pieces long is)
+  by_pieces long (p ∷ ps) is =
+      ap (λ zs. draft_cause arcs b.0 (map (index_in (all_arcs lines)) zs)) is ∙ sym (ap (λ zs. small_cause arcs b.0 (map (index_in (all_arcs lines)) zs)) is)
+
+  by_length : (short : Bool) → is_short b.0 (clean b.1) ≡ short → draft_cause arcs b.0 (draft_refs (own_refs lines) b.0 b.1) ≡ assembled_cause lines arcs b.0 b.1
+  by_length true e = rw e refl
+  by_length false e = rw e (by_pieces e (own_pieces lines b.0 b.1) refl)
+
+  pub cause_is : draft_cause arcs b.0 (draft_refs (own_refs lines) b.0 b.1) ≡ assembled_cause lines arcs b.0 b.1
+  cause_is = by_length (is_short b.0 (clean b.1)) refl
+
 -- ---- the topology
 
-module _ (kept : List (List ℕ)) (ls : Named) (t : ArcsAndIndexes) (is : IsTableOf ls t) where
+module _ (kept : List (List ℕ)) (ls : Named) (t : ArcsAndIndexes) (is : IsTableOf ls t) (zero : ZeroLaw) (sound : AreSound ls) (picked : List (List Point)) (picks : picked ≡ picked_arcs kept t.arcs) where
   abbrev of : RefsOf
   of = own_refs (lines_of ls)
 
-  abbrev fewer : List (List Point)
-  fewer = picked_arcs kept t.arcs
+  -- the layers over all arcs
+  abbrev pub whole : Contents
+  whole = untrimmed 0 ls
 
-  -- the objects over all arcs
-  abbrev whole : List (List ℕ × TopoObject)
-  whole = objects_by (kept_by (lines_of ls) fewer) ls
+  abbrev pub draft : Objects
+  draft = objects_drafted of ls
 
-  abbrev pub used : ℕ → Bool
-  used = is_used whole
+  pub same_arcs : t.arcs ≡ whole.arcs
+  same_arcs = table_arcs ls t is ∙ sym (each_stays zero (all_arcs (lines_of ls)))
 
-  abbrev all : List (Candidate (List Point))
-  all = named_candidates (line_cause fewer of true) ls
+  pub picked_is : picked ≡ picked_arcs kept whole.arcs
+  picked_is = picks ∙ ap (picked_arcs kept) same_arcs
 
-  same_fewer : picked_arcs kept (arcs_of_layers ls) ≡ fewer
-  same_fewer = ap (picked_arcs kept) (sym (table_arcs ls t is))
+  fewer_is : picked ≡ picked_arcs kept (arcs_of_layers ls)
+  fewer_is = picks ∙ ap (picked_arcs kept) (table_arcs ls t is)
 
-  left_whole : ZeroLaw → AreSound ls → picked_whole kept (untrimmed 0 ls) ≡ contents whole fewer
-  left_whole zero sound = before_trimming zero kept ls sound ∙ ap (λ arcs. contents (objects_by (kept_by (lines_of ls) arcs) ls) arcs) same_fewer
+  pub through : EachFromFirstToLast kept t.arcs → EachFromFirstToLast kept whole.arcs
+  through h = subst (EachFromFirstToLast kept) same_arcs h
 
-  table_dealt : dealt (fates (line_cause fewer of) all) t.refs ≡ map (part fewer of) all
-  table_dealt = grind (arith, table_refs ls t is, named_are (line_cause fewer of true) ls, dealt_all fewer of all)
+  -- the draft without lines and rings that are too short is the layers without them
+  draft_is : contents (objects_pruned (large_refs picked) draft) picked ≡ picked_whole kept whole
+  draft_is =
+      ap (λ os. contents os picked) (draft_pruned of (large_refs picked) ls ∙ ap (λ (k : Kept). objects_by k ls) (fun_ext (λ closed. fun_ext (large_are (lines_of ls) picked closed))))
+      ∙ ap (λ arcs. contents (objects_by (kept_by (lines_of ls) arcs) ls) arcs) fewer_is
+      ∙ sym (before_trimming zero kept ls sound)
 
-  -- the arcs that kept lines and rings use
-  used_are : (fs : List (Option Cause)) → fs ≡ fates (line_cause fewer of) all → used_by fs t.refs ≡ used
-  used_are fs of_fates = fun_ext (λ i.
-      ap (λ (ds : List Deal). any_names_arc (some_of (λ (d : Deal). if_kept d.0 d.1) ds) i) (ap (λ gs. dealt gs t.refs) of_fates ∙ table_dealt) ∙ kept_arcs_named fewer of i all
-      ∙ ap (list_any (λ (b : Bool × List ℤ). names_arc b.1 i)) (sym (objects_left (line_cause fewer of) of ls)))
+  pub large_is : objects_pruned (large_refs picked) draft ≡ result.large kept whole picked picked_is
+  large_is = ap (λ y. y.objects) (draft_is ∙ sym (result.is_whole kept whole picked picked_is))
 
-  -- what is told of the lines and rings, over the arcs and by the indexes that were given
-  pub causes_are : (fs : List (Option Cause)) (arcs : List (List Point)) (refs : List (List ℤ)) → arcs ≡ fewer → refs ≡ t.refs
-      → ((of : RefsOf) → refs ≡ long_refs of (named_strokes ls) → fs ≡ fates (line_cause arcs of) (named_candidates (line_cause arcs of true) ls)) → fs ≡ fates (line_cause fewer of) all
-  causes_are fs arcs refs same_arcs same_refs told = grind (arith, table_refs)
+  pub is_assembled : trimmed (contents (objects_pruned (large_refs picked) draft) picked) ≡ assembled kept ls
+  unfolding assembled lessened_by
+  is_assembled = ap trimmed draft_is
 
-  pub drops_are : (ds : List Dropped) (arcs : List (List Point)) (refs : List (List ℤ)) → arcs ≡ fewer → refs ≡ t.refs
-      → ((of : RefsOf) → refs ≡ long_refs of (named_strokes ls) → ds ≡ layers_caused (line_cause arcs of) ls) → ds ≡ assembled_dropped kept ls
+  pub ranged : IsTopology whole → EachFromFirstToLast kept t.arcs → AllByRecursion (λ b. AreInRange (length picked) b.1) (objects_strokes (objects_pruned (large_refs picked) draft))
+  ranged valid h =
+      subst (λ (os : Objects). AllByRecursion (λ b. AreInRange (length picked) b.1) (objects_strokes os)) (sym large_is) (result.ranged kept whole picked picked_is valid (through h))
+
+  pub drops_are : objects_drops picked 0 draft ≡ assembled_dropped kept ls
   unfolding assembled_dropped
-  drops_are ds arcs refs same_arcs same_refs told =
-      told of (same_refs ∙ table_refs ls t is) ∙ ap (λ a. layers_caused (line_cause a of) ls) (same_arcs ∙ sym same_fewer)
+  drops_are =
+      ap (dropped_of_layers 0) (layers_dropped of picked ls)
+      ∙ ap (dropped_of_layers 0) (layers_alike (cause of picked) (assembled_cause (lines_of ls) picked) ls
+      (all_weaker (λ b. kept_line (lines_of ls) 0 b.0 b.1 ≡ whole_line ls b.0 b.1) (λ b. cause of picked b.0 b.1 ≡ assembled_cause (lines_of ls) picked b.0 b.1)
+      (cause_is (lines_of ls) picked) (named_strokes ls) (loses_nothing zero ls sound)))
+      ∙ ap (λ arcs. layers_caused (assembled_cause (lines_of ls) arcs) ls) fewer_is
 
-  -- What the steps say of the fates, of the entries with new indexes, of the arcs that are kept, and of the objects.
-  pub is_assembled : ZeroLaw → AreSound ls → (fs : List (Option Cause)) (picked : List (List Point)) (entries : Entries) (arcs : List (List Point)) (objects : List (List ℕ × TopoObject))
-      → fs ≡ fates (line_cause fewer of) all
-      → picked ≡ fewer
-      → entries ≡ map (entry_by (used_by fs t.refs)) (dealt fs t.refs)
-      → arcs ≡ keep_from (used_by fs t.refs) 0 picked
-      → ((kept : Kept) → entries ≡ entries_of kept (named_strokes ls) → objects ≡ objects_by kept ls)
-      → assembled kept ls ≡ contents objects arcs
-  unfolding assembled lessened_by trimmed
-  is_assembled zero sound fs picked entries arcs objects of_fates of_picked of_entries of_arcs of_objects =
-      let each : Kept = kept_by (lines_of ls) fewer in
-      let deal : dealt fs t.refs ≡ map (part fewer of) all = ap (λ gs. dealt gs t.refs) of_fates ∙ table_dealt in
-      let stay : arcs ≡ keep_from used 0 fewer = of_arcs ∙ ap (λ u. keep_from u 0 picked) (used_are fs of_fates) ∙ ap (keep_from used 0) of_picked in
-      let made : objects ≡ map (λ o. (o.0, object_renumbered used o.1)) whole =
-      of_objects (kept_renumbered used each) (of_entries ∙ ap (λ u. map (entry_by u) (dealt fs t.refs)) (used_are fs of_fates) ∙ ap (map (entry_by used)) deal
-      ∙ entries_renumbered fewer of used all ∙ ap (entries_of (kept_renumbered used each)) (named_are (line_cause fewer of true) ls))
-      ∙ sym (objects_once used each ls) in
-      ap trimmed (left_whole zero sound) ∙ sym (ap (λ os. contents os arcs) made ∙ ap (contents (map (λ o. (o.0, object_renumbered used o.1)) whole)) stay)
-
-  -- how many positions are taken out
-  pub is_taken_out : ZeroLaw → AreSound ls → (fs : List (Option Cause)) (picked : List (List Point)) → fs ≡ fates (line_cause fewer of) all → picked ≡ fewer
-      → positions_of (keep_from (used_by fs t.refs) 0 t.arcs) - positions_of (keep_from (used_by fs t.refs) 0 picked) ≡ assembled_taken_out kept ls
-  unfolding assembled_taken_out taken_out_by lessened_by trimmed
-  is_taken_out zero sound fs picked of_fates of_picked = grind (arith, used_are fs of_fates, table_arcs ls t is, each_stays zero (arcs_of_layers ls), left_whole zero sound)
+  pub is_taken_out : sum (map length (keep_from (is_used (objects_pruned (large_refs picked) draft)) 0 t.arcs)) - positions_of (keep_from (is_used (objects_pruned (large_refs picked) draft)) 0 picked)
+      ≡ assembled_taken_out kept ls
+  unfolding assembled_taken_out
+  is_taken_out =
+      ap (λ (os : Objects). positions_of (keep_from (is_used os) 0 t.arcs) - positions_of (keep_from (is_used os) 0 picked)) large_is
+      ∙ ap (λ arcs. positions_of (keep_from (is_used (result.large kept whole picked picked_is)) 0 arcs) - positions_of (keep_from (is_used (result.large kept whole picked picked_is)) 0 picked)) same_arcs
+      ∙ result.taken_is kept whole picked picked_is

@@ -1,7 +1,4 @@
 pub mod Assembled
-pub mod Dealt
-pub mod Marked
 pub mod Picked
-pub mod Replaced
+pub mod Relined
 pub mod Taking
-pub mod Told

@@ -1,4 +1,1 @@
-pub mod Drops
-pub mod Entries
-pub mod Fates
-pub mod Marks
+pub mod Drafts

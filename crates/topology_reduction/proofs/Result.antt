@@ -1,5 +1,5 @@
 -- The topology that is put together is the one that is left.
-use Rattle.std.proofs.Common.{arith, ◌≡◌, ℕ, zero, suc, ◌-◌, ℤ, Bool, List, map, length, Option, Some, refl, sym, ap, ◌∙◌, subst}
+use Rattle.std.proofs.Common.{arith, ◌≡◌, ℕ, zero, suc, ◌-◌, ℤ, Bool, true, List, [], ◌∷◌, map, length, Option, None, Some, refl, sym, ap, ◌∙◌, subst}
 use Rattle.std.specs.List.{AllByRecursion}
 use Rattle.arc_choice.specs.Uses.{answers}
 use Rattle.arc_choice.proofs.Ranked.{RanksOf, all_renumbered}
@@ -9,17 +9,24 @@ use Rattle.build_meaning.specs.Trimming.{is_used, keep_from, line_renumbered, tr
 use Rattle.geometry.specs.declared.address.Cause.{Cause}
 use Rattle.geometry.specs.Joins.{AreInRange}
 use Rattle.geometry.specs.Omissions.{dropped_of_layers}
+use Rattle.geometry.specs.Pruning.{strokes}
+use Rattle.geometry.proofs.Omitted.{omissions_agree}
+use Rattle.geojson_types.specs.Features.{is_some_list}
 use Rattle.geometry.specs.Points.{Point}
-use Rattle.lessened_topology.specs.Lessened.{Refs, large_refs, objects_pruned, picked_arcs, picked_whole, EachFromFirstToLast, lessened_by, option_small, dropped_by, taken_out_by}
+use Rattle.lessened_topology.specs.Lessened.{Refs, large_refs, objects_pruned, picked_arcs, picked_whole, EachFromFirstToLast, lessened_by, option_small, small_cause, dropped_by, taken_out_by}
 use Rattle.lessened_topology.proofs.Again.{all_hold}
 use Rattle.lessened_topology.proofs.Objects.{objects_then, objects_left}
 use Rattle.lessened_topology.proofs.ValidPicked.{picked_length}
 use Rattle.list_laws.proofs.Elements.{all_weaker}
+use Rattle.topojson_features.proofs.Standing.{strokes_full}
+use Rattle.topojson_types.specs.declared.feature.TopoFeature.{TopoFeature}
 use Rattle.topojson_types.specs.declared.object.TopoObject.{TopoObject}
+use Rattle.topojson_types.specs.declared.object.TopoObject.TheVariants.{One, Many}
 use Rattle.topojson_types.specs.declared.transform.Transform.{Transform}
 use Rattle.topojson_types.specs.Decoding.{placed_arcs}
-use Rattle.topojson_types.specs.Topologies.{Contents, object_features, objects_strokes}
-use Rattle.topojson_types.specs.Validity.{IsPlace, IsTopology}
+use Rattle.topojson_types.specs.Topologies.{TopoShape, Contents, object_features, objects_strokes}
+use Rattle.topojson_types.specs.Validity.{is_full_option, IsPlace, IsFeature, IsObject, IsTopology}
+use Rattle.topology_reduction.specs.Drops.{draft_cause, shape_drops, objects_drops}
 use Rattle.topology_reduction.specs.Parts.{contents}
 use Rattle.topology_reduction.specs.Uses.{ranked_refs}
 use Rattle.topology_reduction.proofs.Picks.{places_picked, topology_places}
@@ -73,50 +80,73 @@ pub made_is : (kept : List (List ℕ)) (y : Contents) (objects left made : Objec
 made_is kept y objects left made arcs stay put transform given same t l m p g =
     ap (λ os. contents os put given) m ∙ ap (λ xs. contents left xs given) p ∙ ap (contents left stay) (g ∙ sym t) ∙ l ∙ ap (lessened_by kept) same
 
--- the arcs of which cells are picked, and what is left of the objects over these
-pub record Large (kept : List (List ℕ)) (y : Contents) (picked : List (List Point)) (large : Objects) : Type 0 where
-  pub picked_is : picked ≡ picked_arcs kept y.arcs
-  pub large_is : large ≡ objects_pruned (large_refs (placed_arcs y.transform picked)) y.objects
+-- ---- a draft
 
-module _ (kept : List (List ℕ)) (y : Contents) (picked : List (List Point)) (large : Objects) (s : Large kept y picked large) where
-  is_whole : contents large picked y.transform ≡ picked_whole kept y
+-- what is left of a draft without the lines and rings that have too few positions is what these steps make of it
+pub finished : (os large objects : Objects) (picked stay : List (List Point)) (transform : Option Transform) → large ≡ objects_pruned (large_refs (placed_arcs transform picked)) os
+    → objects ≡ objects_pruned (line_renumbered (is_used large)) large → stay ≡ keep_from (is_used large) 0 picked
+    → contents objects stay transform ≡ trimmed (contents (objects_pruned (large_refs (placed_arcs transform picked)) os) picked transform)
+unfolding trimmed
+finished os large objects picked stay transform l o s =
+    ap (λ os. contents os stay transform) o ∙ ap (λ xs. contents (objects_pruned (line_renumbered (is_used large)) large) xs transform) s
+    ∙ ap (λ (os : Objects). contents (objects_pruned (line_renumbered (is_used os)) os) (keep_from (is_used os) 0 picked) transform) l
+
+-- ---- a topology
+
+-- a line or ring with an index is dropped only where it has too few positions
+same_cause : (arcs : List (List Point)) (b : Bool × List ℤ) → is_some_list b.1 ≡ true → draft_cause arcs b.0 b.1 ≡ small_cause arcs b.0 b.1
+same_cause arcs (closed, []) h = absurd cc
+same_cause arcs (closed, r ∷ rs) h = refl
+
+shape_same : (arcs : List (List Point)) (s : Option TopoShape) → is_full_option s ≡ true → shape_drops arcs s ≡ option_small arcs s
+shape_same arcs None h = refl
+shape_same arcs (Some s) h =
+    omissions_agree Point (List ℤ) (draft_cause arcs) (small_cause arcs) s
+    (all_weaker (λ b. is_some_list b.1 ≡ true) (λ b. draft_cause arcs b.0 b.1 ≡ small_cause arcs b.0 b.1) (same_cause arcs) (strokes s) (strokes_full s h))
+
+features_same : (arcs : List (List Point)) (transform : Option Transform) (fs : List TopoFeature) → AllByRecursion (IsFeature transform) fs → map (λ f. shape_drops arcs f.shape) fs ≡ map (λ f. option_small arcs f.shape) fs
+features_same arcs transform [] h = refl
+features_same arcs transform (f ∷ fs) h = rw (shape_same arcs f.shape h.0.0, features_same arcs transform fs h.1) refl
+
+object_same : (arcs : List (List Point)) (transform : Option Transform) (o : TopoObject) → IsObject transform o → map (λ f. shape_drops arcs f.shape) (object_features o) ≡ map (λ f. option_small arcs f.shape) (object_features o)
+object_same arcs transform (One f) h = features_same arcs transform (f ∷ []) (h.0, tt)
+object_same arcs transform (Many fs) h = features_same arcs transform fs h
+
+objects_same : (arcs : List (List Point)) (transform : Option Transform) (os : Objects) → AllByRecursion (λ o. IsObject transform o.1) os
+    → map (λ o. map (λ f. shape_drops arcs f.shape) (object_features o.1)) os ≡ map (λ o. map (λ f. option_small arcs f.shape) (object_features o.1)) os
+objects_same arcs transform [] h = refl
+objects_same arcs transform (o ∷ os) h = rw (object_same arcs transform o.1 h.0, objects_same arcs transform os h.1) refl
+
+module _ (kept : List (List ℕ)) (y : Contents) (picked : List (List Point)) (is : picked ≡ picked_arcs kept y.arcs) where
+  abbrev pub large : Objects
+  large = objects_pruned (large_refs (placed_arcs y.transform picked)) y.objects
+
+  pub is_whole : contents large picked y.transform ≡ picked_whole kept y
   is_whole = grind arith
 
   pub picked_long : EachFromFirstToLast kept y.arcs → length picked ≡ length y.arcs
-  picked_long through = ap length s.picked_is ∙ picked_length kept y.arcs through
+  picked_long through = ap length is ∙ picked_length kept y.arcs through
 
   -- each index names an arc
-  pub large_ranged : IsTopology y → EachFromFirstToLast kept y.arcs → AllByRecursion (InRange (length picked)) (objects_strokes large)
-  large_ranged valid through =
-      subst (λ os. AllByRecursion (InRange (length picked)) (objects_strokes os)) (sym s.large_is)
-      (range_stays (length picked) (placed_arcs y.transform picked) y.objects (subst (λ n. AllByRecursion (InRange n) (objects_strokes y.objects)) (sym (picked_long through)) valid.ranged))
+  pub ranged : IsTopology y → EachFromFirstToLast kept y.arcs → AllByRecursion (InRange (length picked)) (objects_strokes large)
+  ranged valid through = range_stays (length picked) (placed_arcs y.transform picked) y.objects (subst (λ n. AllByRecursion (InRange n) (objects_strokes y.objects)) (sym (picked_long through)) valid.ranged)
+
+  -- the cells that are picked may stand in the topology
+  pub places_are : IsTopology y → AllByRecursion (λ a. AllByRecursion (IsPlace y.transform) a) picked
+  places_are valid = subst (AllByRecursion (λ a. AllByRecursion (IsPlace y.transform) a)) (sym is) (places_picked y.transform kept y.arcs (topology_places y valid))
 
   -- without the arcs that are not used it is what is left
   pub is_lessened : trimmed (contents large picked y.transform) ≡ lessened_by kept y
   unfolding lessened_by
   is_lessened = ap trimmed is_whole
 
-  pub reduced : (objects : Objects) (arcs : List (List Point)) → objects ≡ objects_pruned (line_renumbered (is_used large)) large → arcs ≡ keep_from (is_used large) 0 picked → contents objects arcs y.transform ≡ lessened_by kept y
-  unfolding trimmed
-  reduced objects arcs o a = ap (λ os. contents os arcs y.transform) o ∙ ap (λ xs. contents (objects_pruned (line_renumbered (is_used large)) large) xs y.transform) a ∙ is_lessened
-
   pub taken_is : positions_of (keep_from (is_used large) 0 y.arcs) - positions_of (keep_from (is_used large) 0 picked) ≡ taken_out_by kept y
   unfolding taken_out_by trimmed
   taken_is = grind (arith, is_whole, is_lessened)
 
--- ---- what the calls give
-
-pub large_over : (kept : List (List ℕ)) (y : Contents) (picked given : List (List Point)) (large : Objects) → picked ≡ picked_arcs kept y.arcs → given ≡ picked
-    → large ≡ objects_pruned (large_refs (placed_arcs y.transform given)) y.objects → Large kept y picked large
-large_over kept y picked given large p g l = grind arith
-
--- the lines and rings that are dropped
-pub drops_are : (kept : List (List ℕ)) (y : Contents) (picked given : List (List Point)) → picked ≡ picked_arcs kept y.arcs → given ≡ picked
-    → dropped_of_layers 0 (map (λ o. map (λ f. option_small (placed_arcs y.transform given) f.shape) (object_features o.1)) y.objects) ≡ dropped_by kept y
-unfolding dropped_by
-drops_are kept y picked given p g = grind arith
-
--- the cells that are picked may stand in the topology
-pub places_are_given : (kept : List (List ℕ)) (y : Contents) → IsTopology y → (picked given : List (List Point)) → picked ≡ picked_arcs kept y.arcs → given ≡ picked
-    → AllByRecursion (λ a. AllByRecursion (IsPlace y.transform) a) given
-places_are_given kept y valid picked given p g = subst (AllByRecursion (λ a. AllByRecursion (IsPlace y.transform) a)) (sym (g ∙ p)) (places_picked y.transform kept y.arcs (topology_places y valid))
+  -- the lines and rings that are dropped
+  pub drops_are : IsTopology y → objects_drops (placed_arcs y.transform picked) 0 y.objects ≡ dropped_by kept y
+  unfolding dropped_by
+  drops_are valid =
+      ap (dropped_of_layers 0) (objects_same (placed_arcs y.transform picked) y.transform y.objects valid.objects)
+      ∙ ap (λ arcs. dropped_of_layers 0 (map (λ o. map (λ f. option_small (placed_arcs y.transform arcs) f.shape) (object_features o.1)) y.objects)) is

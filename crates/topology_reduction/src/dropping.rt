@@ -3,7 +3,7 @@ ghost use Rattle.std.specs.Prelude.{◌≡◌, ◌++◌, IfOk, OnOk, false, map,
 ghost use Rattle.geometry.specs.Omissions.{area_omissions, dropped_of_layers, here, omissions};
 ghost use Rattle.geometry.specs.Paths.{of_parts};
 ghost use Rattle.arc_choice.specs.Places.{dropped_at};
-ghost use Rattle.lessened_topology.specs.Lessened.{option_small, small_cause};
+ghost use Rattle.topology_reduction.specs.Drops.{draft_cause, shape_drops};
 ghost use Rattle.linework.specs.Linework.{feature_address};
 ghost use Rattle.topojson_types.specs.Topologies.{object_features};
 ghost use Rattle.topology_reduction.specs.Drops.{object_drops};
@@ -15,15 +15,15 @@ use owned_values::Memory;
 use std::alloc::Global;
 use topojson_types::{ArcRef, Cell, TopoFeature, TopoObject, TopoShape};
 
-/// The lines and rings of objects that are left with too few positions where they are rebuilt of these arcs, and the rings of
-/// polygons whose outer ring is, in reading order. An object stands in the place of a layer.
+/// The lines and rings of objects that have no arc index, or are left with too few positions where they are rebuilt of these arcs, and
+/// the rings of polygons whose outer ring is dropped, in reading order. An object stands in the place of a layer.
 pub fn dropped_lines(
     alloc: Global,
     objects: &[(OwnText, TopoObject)],
     arcs: &[Items<Cell>],
 ) -> Result<Vec<Dropped>, Memory>
     ensures { IfOk result (λ dropped. dropped.items
-        ≡ dropped_of_layers 0 (map (λ o. map (λ f. option_small arcs.now f.shape) (object_features o.1)) objects.now)) }
+        ≡ dropped_of_layers 0 (map (λ o. map (λ f. shape_drops arcs.now f.shape) (object_features o.1)) objects.now)) }
 {
     let mut dropped = Vec::new(alloc);
     let mut place = Place::first(alloc);
@@ -81,7 +81,7 @@ fn add_feature(
     feature: &TopoFeature,
     dropped: &mut Vec<Dropped>,
 ) -> Result<(), Memory>
-    ensures { OnOk result (dropped.new.items ≡ dropped.old.items ++ dropped_at place.old (option_small arcs.now feature.now.shape)) }
+    ensures { OnOk result (dropped.new.items ≡ dropped.old.items ++ dropped_at place.old (shape_drops arcs.now feature.now.shape)) }
 {
     match &feature.shape {
         None => Ok(()),
@@ -99,7 +99,7 @@ fn add_shape(
     dropped: &mut Vec<Dropped>,
 ) -> Result<(), Memory>
     ensures place { OnOk result (place.new ≡ place.old) }
-    ensures dropped { OnOk result (dropped.new.items ≡ dropped.old.items ++ dropped_at place.old (omissions (small_cause arcs.now) shape.now)) }
+    ensures dropped { OnOk result (dropped.new.items ≡ dropped.old.items ++ dropped_at place.old (omissions (draft_cause arcs.now) shape.now)) }
 {
     match shape {
         Geometry::Point(_) => Ok(()),
@@ -136,7 +136,7 @@ fn add_areas(
 ) -> Result<(), Memory>
     ensures place { OnOk result (place.new ≡ place.old) }
     ensures dropped { OnOk result
-        (dropped.new.items ≡ dropped.old.items ++ dropped_at place.old (of_parts 0 (map (area_omissions (small_cause arcs.now true)) areas.now))) }
+        (dropped.new.items ≡ dropped.old.items ++ dropped_at place.old (of_parts 0 (map (area_omissions (draft_cause arcs.now true)) areas.now))) }
 {
     for (number, rings) in areas.iter().enumerate() {
         place.enter(number)?;
@@ -154,7 +154,7 @@ fn add_rings(
     rings: &[Items<ArcRef>],
     dropped: &mut Vec<Dropped>,
 ) -> Result<(), Memory>
-    ensures { OnOk result (dropped.new.items ≡ dropped.old.items ++ dropped_at place.now (area_omissions (small_cause arcs.now true) rings.now)) }
+    ensures { OnOk result (dropped.new.items ≡ dropped.old.items ++ dropped_at place.now (area_omissions (draft_cause arcs.now true) rings.now)) }
 {
     let Some((outer, holes)) = rings.split_first() else {
         return Ok(());
@@ -177,7 +177,7 @@ fn add_lines(
     dropped: &mut Vec<Dropped>,
 ) -> Result<(), Memory>
     ensures { OnOk result
-        (dropped.new.items ≡ dropped.old.items ++ dropped_at place.now (of_parts 0 (map (λ l. here (small_cause arcs.now false l)) parts.now))) }
+        (dropped.new.items ≡ dropped.old.items ++ dropped_at place.now (of_parts 0 (map (λ l. here (draft_cause arcs.now false l)) parts.now))) }
 {
     for (number, line) in parts.iter().enumerate() {
         add_part(
@@ -193,9 +193,11 @@ fn add_lines(
 
 /// Why a line or a ring is dropped for its own sake, if it is.
 fn cause_of(arcs: &[Items<Cell>], closed: bool, refs: &[ArcRef]) -> Option<Cause>
-    ensures { result ≡ small_cause arcs.now closed refs.now }
+    ensures { result ≡ draft_cause arcs.now closed refs.now }
 {
-    if is_small_line(closed, refs, arcs) {
+    if refs.is_empty() {
+        Some(Cause::Collapsed)
+    } else if is_small_line(closed, refs, arcs) {
         Some(Cause::Small)
     } else {
         None

@@ -1,43 +1,75 @@
-use Rattle.std.proofs.Common.{ℕ, List, map, length, ap, ◌∙◌}
+use Rattle.std.proofs.Common.{ℕ, ◌-◌, List, map, length, sym, ap, ◌∙◌, subst}
+use Rattle.std.specs.Prelude.{sum}
+use Rattle.std.specs.List.{AllByRecursion}
+use Rattle.std.proofs.lemmas.Result.{IfOk-weaker}
+use Rattle.build_meaning.specs.Built.{positions_of, untrimmed}
+use Rattle.build_meaning.specs.Trimming.{is_used, keep_from, trimmed}
+use Rattle.build_meaning.proofs.ValidUntrimmed.{untrimmed_is_valid}
 use Rattle.byte_ends.specs.Ends.{saturated}
-use Rattle.lessened_topology.proofs.ValidPicked.{picked_length}
-use Rattle.topo_model.proofs.Assembled.{as_many, causes_are, drops_are, is_assembled, is_taken_out}
+use Rattle.geometry.specs.Joins.{AreInRange}
+use Rattle.geometry.specs.Points.{Point}
+use Rattle.lessened_topology.specs.Assembled.{own_refs}
+use Rattle.lessened_topology.specs.Lessened.{EachFromFirstToLast, large_refs, objects_pruned}
+use Rattle.lessened_topology.proofs.Assembled.{contents}
+use Rattle.topojson_types.specs.Topologies.{objects_strokes}
+use Rattle.topology_reduction.specs.Drops.{objects_drops}
+use Rattle.topology_reduction.proofs.Result as result
+use Rattle.topo_model.specs.Drafts.{objects_drafted}
+use Rattle.topo_model.proofs.Assembled.{as_many, drops_are, is_assembled, is_taken_out, lines_of, picked_is, ranged, same_arcs, table_refs}
 use Rattle.topo_model.proofs.assembling.objects_and_arcs.Goals as goal
 
 pub picked_cells_of_all-requires : goal.picked_cells_of_all-requires
 picked_cells_of_all-requires c = as_many (λ k. k.items) c.args.kept.now c.args.table.now.arcs c.requires.kept
 
-pub without_unused-requires : goal.without_unused-requires
-without_unused-requires c = ap length c.in_ok-picked.ensures ∙ picked_length (map (λ k. k.items) c.args.kept.now) c.args.table.now.arcs c.requires.kept
+pub finish-requires-clause-places : goal.finish-requires-clause-places
+finish-requires-clause-places c =
+    let kept : List (List ℕ) = map (λ k. k.items) c.args.kept.now in
+    let is = picked_is kept c.args.layers.items c.args.table.now c.requires.table c.zero_law.ensures c.requires.sound c.in_ok-picked.picked.items c.in_ok-picked.ensures in
+    let valid = untrimmed_is_valid c.ends_stay.ensures c.nothing_is_new.ensures 0 c.args.layers.items c.requires.sound c.requires.names in
+    result.places_are kept (untrimmed 0 c.args.layers.items) c.in_ok-picked.picked.items is valid
+
+pub finish-requires-clause-many : goal.finish-requires-clause-many
+finish-requires-clause-many c =
+    let kept : List (List ℕ) = map (λ k. k.items) c.args.kept.now in
+    let is = picked_is kept c.args.layers.items c.args.table.now c.requires.table c.zero_law.ensures c.requires.sound c.in_ok-picked.picked.items c.in_ok-picked.ensures in
+    let same = same_arcs kept c.args.layers.items c.args.table.now c.requires.table c.zero_law.ensures c.requires.sound c.in_ok-picked.picked.items c.in_ok-picked.ensures in
+    let through = subst (EachFromFirstToLast kept) same c.requires.kept in
+    result.picked_long kept (untrimmed 0 c.args.layers.items) c.in_ok-picked.picked.items is through ∙ ap length (sym same ∙ sym c.arcs.ensures)
+
+pub finish-requires-clause-ranged : goal.finish-requires-clause-ranged
+finish-requires-clause-ranged c =
+    let kept : List (List ℕ) = map (λ k. k.items) c.args.kept.now in
+    let picked = c.in_ok-picked.picked.items in
+    let valid = untrimmed_is_valid c.ends_stay.ensures c.nothing_is_new.ensures 0 c.args.layers.items c.requires.sound c.requires.names in
+    let drafted = c.in_ok-objects.ensures (own_refs (lines_of c.args.layers.items)) (table_refs c.args.layers.items c.args.table.now c.requires.table) in
+    subst (λ os. AllByRecursion (λ b. AreInRange (length picked) b.1) (objects_strokes (objects_pruned (large_refs picked) os))) (sym drafted)
+    (ranged kept c.args.layers.items c.args.table.now c.requires.table c.zero_law.ensures c.requires.sound picked c.in_ok-picked.ensures valid c.requires.kept)
 
 pub returns-clause-assembled : goal.returns-clause-assembled
 returns-clause-assembled c =
-    let ls = c.args.layers.items in
-    let t = c.args.table.now in
     let kept : List (List ℕ) = map (λ k. k.items) c.args.kept.now in
-    let same_arcs = ap (λ v. v.arcs) c.over-lines.ensures ∙ c.deref.ensures.value ∙ c.in_ok-picked.ensures in
-    let same_refs = ap (λ v. v.refs) c.over-lines.ensures in
-    let of_fates = c.deref-3.ensures.value
-    ∙ causes_are kept ls t c.requires.table c.in_ok-causes.causes.items c.over-lines.result.arcs c.over-lines.result.refs same_arcs same_refs (rw c.deref-2.ensures.value at c.in_ok-causes.ensures.causes) in
-    is_assembled kept ls t c.requires.table c.zero_law.ensures c.requires.sound c.deref-3.result.now c.in_ok-picked.picked.items c.in_ok-entries.entries.items c.in_ok-entries.arcs.items
-    c.in_ok-objects.objects.items of_fates c.in_ok-picked.ensures c.in_ok-entries.ensures.entries c.in_ok-entries.ensures.arcs (rw c.deref-4.ensures.value at c.in_ok-objects.ensures)
+    let picked = c.in_ok-picked.picked.items in
+    let drafted = c.in_ok-objects.ensures (own_refs (lines_of c.args.layers.items)) (table_refs c.args.layers.items c.args.table.now c.requires.table) in
+    IfOk-weaker c.finish.result _ _
+    (λ r h. sym (h ∙ ap (λ os. trimmed (contents (objects_pruned (large_refs picked) os) picked)) drafted
+    ∙ is_assembled kept c.args.layers.items c.args.table.now c.requires.table c.zero_law.ensures c.requires.sound picked c.in_ok-picked.ensures)) c.finish.ensures.left
 
 pub returns-clause-dropped : goal.returns-clause-dropped
 returns-clause-dropped c =
-    let ls = c.args.layers.items in
-    let t = c.args.table.now in
     let kept : List (List ℕ) = map (λ k. k.items) c.args.kept.now in
-    let same_arcs = ap (λ v. v.arcs) c.over-lines.ensures ∙ c.deref.ensures.value ∙ c.in_ok-picked.ensures in
-    let same_refs = ap (λ v. v.refs) c.over-lines.ensures in
-    drops_are kept ls t c.requires.table c.in_ok-causes.dropped.items c.over-lines.result.arcs c.over-lines.result.refs same_arcs same_refs (rw c.deref-2.ensures.value at c.in_ok-causes.ensures.dropped)
+    let picked = c.in_ok-picked.picked.items in
+    let drafted = c.in_ok-objects.ensures (own_refs (lines_of c.args.layers.items)) (table_refs c.args.layers.items c.args.table.now c.requires.table) in
+    IfOk-weaker c.finish.result _ _
+    (λ r h. h ∙ ap (objects_drops picked 0) drafted
+    ∙ drops_are kept c.args.layers.items c.args.table.now c.requires.table c.zero_law.ensures c.requires.sound picked c.in_ok-picked.ensures) c.finish.ensures.dropped
 
 pub returns-clause-taken_out : goal.returns-clause-taken_out
 returns-clause-taken_out c =
-    let ls = c.args.layers.items in
-    let t = c.args.table.now in
     let kept : List (List ℕ) = map (λ k. k.items) c.args.kept.now in
-    let same_arcs = ap (λ v. v.arcs) c.over-lines.ensures ∙ c.deref.ensures.value ∙ c.in_ok-picked.ensures in
-    let same_refs = ap (λ v. v.refs) c.over-lines.ensures in
-    let of_fates = c.deref-3.ensures.value
-    ∙ causes_are kept ls t c.requires.table c.in_ok-causes.causes.items c.over-lines.result.arcs c.over-lines.result.refs same_arcs same_refs (rw c.deref-2.ensures.value at c.in_ok-causes.ensures.causes) in
-    c.in_ok-entries.ensures.taken_out ∙ ap saturated (is_taken_out kept ls t c.requires.table c.zero_law.ensures c.requires.sound c.deref-3.result.now c.in_ok-picked.picked.items of_fates c.in_ok-picked.ensures)
+    let picked = c.in_ok-picked.picked.items in
+    let drafted = c.in_ok-objects.ensures (own_refs (lines_of c.args.layers.items)) (table_refs c.args.layers.items c.args.table.now c.requires.table) in
+    IfOk-weaker c.finish.result _ _
+    (λ r h. h ∙ ap (λ os. saturated (sum (map length (keep_from (is_used (objects_pruned (large_refs picked) os)) 0 c.arcs.result.now)) - positions_of (keep_from (is_used (objects_pruned (large_refs picked) os)) 0 picked))) drafted
+    ∙ ap saturated (ap (λ (arcs : List (List Point)). sum (map length (keep_from (is_used (objects_pruned (large_refs picked) (objects_drafted (own_refs (lines_of c.args.layers.items)) c.args.layers.items))) 0 arcs))
+    - positions_of (keep_from (is_used (objects_pruned (large_refs picked) (objects_drafted (own_refs (lines_of c.args.layers.items)) c.args.layers.items))) 0 picked)) c.arcs.ensures
+    ∙ is_taken_out kept c.args.layers.items c.args.table.now c.requires.table c.zero_law.ensures c.requires.sound picked c.in_ok-picked.ensures)) c.finish.ensures.taken_out

@@ -6,7 +6,7 @@ use Rattle.geometry.specs.Points.{Point}
 use Rattle.junctions.specs.Gathering.{part_address}
 use Rattle.arc_choice.specs.Places.{dropped_at}
 use Rattle.arc_choice.proofs.Told.{parts_more, told_all}
-use Rattle.lessened_topology.specs.Lessened.{small_cause}
+use Rattle.topology_reduction.specs.Drops.{draft_cause}
 use Rattle.topology_reduction.proofs.Drops.{dropped_kinds, of_group}
 use Rattle.topology_reduction.proofs.dropping.+add_shape.Goals as goal
 
@@ -14,25 +14,25 @@ pub shapes-preserved : goal.shapes-preserved
 shapes-preserved t c =
     let e : c.enter.new.self ≡ part_address c.args.place.now c.shapes.number = c.in_ok-enter-in-Group.ensures ∙ ap (λ a. part_address a c.shapes.number) c.shapes.invariant.0 in (
       c.leave.ensures c.args.place.now c.shapes.number (c.in_ok-add_shape-in-Group.ensures.place ∙ e),
-      parts_more (omissions {P = Point} {L = List ℤ} (small_cause c.args.arcs.now)) c.args.place.now c.shapes.number c.shapes.number c.shapes.dropped.items c.add_shape.new.dropped.items _
+      parts_more (omissions {P = Point} {L = List ℤ} (draft_cause c.args.arcs.now)) c.args.place.now c.shapes.number c.shapes.number c.shapes.dropped.items c.add_shape.new.dropped.items _
           c.as_slice-shape-items.result.now c.shape-item.result c.shapes-test.true c.shape-item.is c.shapes.invariant.1
-          (◌∙◌ {A = List Dropped} c.in_ok-add_shape-in-Group.ensures.dropped (ap (λ a. c.shapes.dropped.items ++ dropped_at a (omissions (small_cause c.args.arcs.now) c.shape-item.result)) e)),
+          (◌∙◌ {A = List Dropped} c.in_ok-add_shape-in-Group.ensures.dropped (ap (λ a. c.shapes.dropped.items ++ dropped_at a (omissions (draft_cause c.args.arcs.now) c.shape-item.result)) e)),
     )
 
 pub returns-in-Point-clause-dropped : goal.returns-in-Point-clause-dropped
 returns-in-Point-clause-dropped t c =
-    sym (ap (λ os. c.args.dropped.now.items ++ dropped_at c.args.place.now os) (ap (omissions (small_cause c.args.arcs.now)) c.in-Point.is ∙ (dropped_kinds c.args.arcs.now).point c.in-Point.field-0)
+    sym (ap (λ os. c.args.dropped.now.items ++ dropped_at c.args.place.now os) (ap (omissions (draft_cause c.args.arcs.now)) c.in-Point.is ∙ (dropped_kinds c.args.arcs.now).point c.in-Point.field-0)
     ∙ append-nil c.args.dropped.now.items)
 
 pub returns-in-MultiPoint-clause-dropped : goal.returns-in-MultiPoint-clause-dropped
 returns-in-MultiPoint-clause-dropped t c =
     sym (ap (λ os. c.args.dropped.now.items ++ dropped_at c.args.place.now os)
-    (ap (omissions (small_cause c.args.arcs.now)) c.in-MultiPoint.is ∙ (dropped_kinds c.args.arcs.now).points c.in-MultiPoint.field-0) ∙ append-nil c.args.dropped.now.items)
+    (ap (omissions (draft_cause c.args.arcs.now)) c.in-MultiPoint.is ∙ (dropped_kinds c.args.arcs.now).points c.in-MultiPoint.field-0) ∙ append-nil c.args.dropped.now.items)
 
 pub returns-after-shapes-clause-dropped : goal.returns-after-shapes-clause-dropped
 returns-after-shapes-clause-dropped t c =
-    told_all (λ ss. dropped_at c.args.place.now (of_parts c.shapes.number (map (omissions {P = Point} {L = List ℤ} (small_cause c.args.arcs.now)) ss))) c.shapes.number c.shapes.dropped.items _
+    told_all (λ ss. dropped_at c.args.place.now (of_parts c.shapes.number (map (omissions {P = Point} {L = List ℤ} (draft_cause c.args.arcs.now)) ss))) c.shapes.number c.shapes.dropped.items _
     c.as_slice-shape-items.result.now refl c.shapes-test.false c.shapes.invariant.1
     ∙ ap (λ os. c.args.dropped.now.items ++ dropped_at c.args.place.now os)
-    (sym (ap (omissions (small_cause c.args.arcs.now)) c.in-Group.is ∙ of_group c.args.arcs.now c.in-Group.shapes
-    ∙ ap (λ ss. of_parts 0 (map (omissions (small_cause c.args.arcs.now)) ss)) (sym c.as_slice-shape-items.ensures)))
+    (sym (ap (omissions (draft_cause c.args.arcs.now)) c.in-Group.is ∙ of_group c.args.arcs.now c.in-Group.shapes
+    ∙ ap (λ ss. of_parts 0 (map (omissions (draft_cause c.args.arcs.now)) ss)) (sym c.as_slice-shape-items.ensures)))

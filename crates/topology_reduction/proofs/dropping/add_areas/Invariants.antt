@@ -2,11 +2,11 @@ use Rattle.std.proofs.Common.{◌≡◌, ◌++◌, true, map, drop}
 use Rattle.geometry.specs.Omissions.{area_omissions}
 use Rattle.geometry.specs.Paths.{of_parts}
 use Rattle.arc_choice.specs.Places.{dropped_at}
-use Rattle.lessened_topology.specs.Lessened.{small_cause}
+use Rattle.topology_reduction.specs.Drops.{draft_cause}
 use Rattle.topology_reduction.proofs.dropping.add_areas.Given as goal
 
 abbrev pub invariant-loop-number : goal.invariant-loop-number
 invariant-loop-number l =
     (l.place ≡ l.initial.place)
-    × (l.dropped.items ++ dropped_at l.initial.place (of_parts l.number (map (area_omissions (small_cause l.arcs true)) (drop l.number l.areas)))
-    ≡ l.initial.dropped.items ++ dropped_at l.initial.place (of_parts 0 (map (area_omissions (small_cause l.arcs true)) l.areas)))
+    × (l.dropped.items ++ dropped_at l.initial.place (of_parts l.number (map (area_omissions (draft_cause l.arcs true)) (drop l.number l.areas)))
+    ≡ l.initial.dropped.items ++ dropped_at l.initial.place (of_parts 0 (map (area_omissions (draft_cause l.arcs true)) l.areas)))

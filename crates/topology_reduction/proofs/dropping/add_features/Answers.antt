@@ -1,7 +1,7 @@
 use Rattle.std.proofs.Common.{◌++◌, refl, ap, ◌∙◌}
 use Rattle.arc_choice.specs.Places.{dropped_at}
 use Rattle.arc_choice.proofs.Told.{told_all}
-use Rattle.lessened_topology.specs.Lessened.{option_small}
+use Rattle.topology_reduction.specs.Drops.{shape_drops}
 use Rattle.topology_reduction.specs.Drops.{object_drops}
 use Rattle.topology_reduction.proofs.Drops.{features_more}
 use Rattle.topology_reduction.proofs.dropping.add_features.Goals as goal
@@ -10,7 +10,7 @@ pub loop-number-preserved : goal.loop-number-preserved
 loop-number-preserved c =
     features_more c.args.arcs.now c.args.object c.loop-number.number c.loop-number.dropped.items c.add_feature.new.dropped.items _ c.args.features.now c.index-features-number.result
     c.loop-number-test.true c.index-features-number.is c.loop-number.invariant
-    (c.in_ok-add_feature.ensures ∙ ap (λ a. c.loop-number.dropped.items ++ dropped_at a (option_small c.args.arcs.now c.index-features-number.result.shape)) c.go_to.ensures)
+    (c.in_ok-add_feature.ensures ∙ ap (λ a. c.loop-number.dropped.items ++ dropped_at a (shape_drops c.args.arcs.now c.index-features-number.result.shape)) c.go_to.ensures)
 
 pub returns : goal.returns
 returns c =

@@ -2,10 +2,10 @@ use Rattle.std.proofs.Common.{◌≡◌, ◌++◌, false, map, drop}
 use Rattle.geometry.specs.Omissions.{here}
 use Rattle.geometry.specs.Paths.{of_parts}
 use Rattle.arc_choice.specs.Places.{dropped_at}
-use Rattle.lessened_topology.specs.Lessened.{small_cause}
+use Rattle.topology_reduction.specs.Drops.{draft_cause}
 use Rattle.topology_reduction.proofs.dropping.add_lines.Given as goal
 
 abbrev pub invariant-loop-number : goal.invariant-loop-number
 invariant-loop-number l =
-    l.dropped.items ++ dropped_at l.place (of_parts l.number (map (λ l1. here (small_cause l.arcs false l1)) (drop l.number l.parts)))
-    ≡ l.initial.dropped.items ++ dropped_at l.place (of_parts 0 (map (λ l1. here (small_cause l.arcs false l1)) l.parts))
+    l.dropped.items ++ dropped_at l.place (of_parts l.number (map (λ l1. here (draft_cause l.arcs false l1)) (drop l.number l.parts)))
+    ≡ l.initial.dropped.items ++ dropped_at l.place (of_parts 0 (map (λ l1. here (draft_cause l.arcs false l1)) l.parts))

@@ -1,6 +1,6 @@
 use Rattle.std.proofs.Common.{map, refl}
 use Rattle.geometry.specs.Omissions.{dropped_of_layers}
-use Rattle.lessened_topology.specs.Lessened.{option_small}
+use Rattle.topology_reduction.specs.Drops.{shape_drops}
 use Rattle.topojson_types.specs.Topologies.{object_features}
 use Rattle.arc_choice.proofs.Told.{told_all}
 use Rattle.topology_reduction.proofs.Drops.{objects_more}
@@ -13,5 +13,5 @@ loop-number-preserved c =
 
 pub returns : goal.returns
 returns c =
-    told_all (λ os. dropped_of_layers c.loop-number.number (map (λ o. map (λ f. option_small c.args.arcs.now f.shape) (object_features o.1)) os)) c.loop-number.number c.loop-number.dropped.items _
+    told_all (λ os. dropped_of_layers c.loop-number.number (map (λ o. map (λ f. shape_drops c.args.arcs.now f.shape) (object_features o.1)) os)) c.loop-number.number c.loop-number.dropped.items _
     c.args.objects.now refl c.loop-number-test.false c.loop-number.invariant

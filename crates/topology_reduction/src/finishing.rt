@@ -1,0 +1,144 @@
+// What is left of a draft of a topology.
+ghost use Rattle.std.specs.Prelude.{◌≡◌, ◌-◌, ℕ, Bool, IfOk, length, map, sum};
+ghost use Rattle.std.specs.List.{AllByRecursion};
+ghost use Rattle.std.specs.Option.{option_copied};
+ghost use Rattle.arc_choice.specs.Uses.{answers};
+ghost use Rattle.build_meaning.specs.Built.{positions_of};
+ghost use Rattle.build_meaning.specs.Trimming.{is_used, keep_from, line_renumbered, trimmed};
+ghost use Rattle.byte_ends.specs.Ends.{saturated};
+ghost use Rattle.geometry.specs.Joins.{AreInRange};
+ghost use Rattle.lessened_topology.specs.Lessened.{large_refs, objects_pruned};
+ghost use Rattle.topojson_types.specs.Decoding.{placed_arcs as all_placed};
+ghost use Rattle.topojson_types.specs.Topologies.{objects_strokes};
+ghost use Rattle.topojson_types.specs.Validity.{IsPlace};
+ghost use Rattle.topology_reduction.specs.Drops.{objects_drops};
+ghost use Rattle.topology_reduction.specs.Parts.{contents};
+
+use crate::choosing::{Large, Ranked};
+use crate::dropping::dropped_lines;
+use crate::marking::used_arcs;
+use crate::placing::placed_arcs;
+use crate::pruning::pruned_objects;
+use arc_choice::{kept_arcs, ranks, taken_out, used_positions};
+use geojson_types::Dropped;
+use json_value::{Items, OwnText};
+use owned_values::Memory;
+use std::alloc::Global;
+use topojson_types::{Cell, TopoObject, Transform};
+
+/// The objects without the lines and rings that have too few positions where they are rebuilt of these arcs.
+fn without_small(
+    alloc: Global,
+    objects: Vec<(OwnText, TopoObject)>,
+    arcs: &[Items<Cell>],
+) -> Result<Vec<(OwnText, TopoObject)>, Memory>
+    ensures { IfOk result (λ left. left.items ≡ objects_pruned (large_refs arcs.now) objects.items) }
+{
+    let left = pruned_objects(alloc, &Large::over(arcs), objects)?;
+    Ok(left)
+}
+
+/// The same, and those lines and rings, in reading order.
+fn large_over(
+    alloc: Global,
+    objects: Vec<(OwnText, TopoObject)>,
+    arcs: &[Items<Cell>],
+) -> Result<(Vec<(OwnText, TopoObject)>, Vec<Dropped>), Memory>
+    ensures objects { IfOk result (λ r. r.0.items ≡ objects_pruned (large_refs arcs.now) objects.items) }
+    ensures dropped { IfOk result (λ r. r.1.items ≡ objects_drops arcs.now 0 objects.items) }
+{
+    let dropped = dropped_lines(alloc, &objects, arcs)?;
+    let left = without_small(alloc, objects, arcs)?;
+    Ok((left, dropped))
+}
+
+/// The same, where the positions of the arcs are those that their cells stand for.
+fn large_objects(
+    alloc: Global,
+    objects: Vec<(OwnText, TopoObject)>,
+    arcs: &[Items<Cell>],
+    transform: Option<&Transform>,
+) -> Result<(Vec<(OwnText, TopoObject)>, Vec<Dropped>), Memory>
+    requires { AllByRecursion (λ arc. AllByRecursion (IsPlace (option_copied transform)) arc) arcs.now }
+    ensures objects { IfOk result (λ r. r.0.items ≡ objects_pruned (large_refs (all_placed (option_copied transform.entry) arcs.now)) objects.items) }
+    ensures dropped { IfOk result (λ r. r.1.items ≡ objects_drops (all_placed (option_copied transform.entry) arcs.now) 0 objects.items) }
+{
+    match transform {
+        None => large_over(alloc, objects, arcs),
+        Some(_) => {
+            let placed = placed_arcs(alloc, arcs, transform)?;
+            large_over(alloc, objects, &placed)
+        }
+    }
+}
+
+/// The objects with new indexes, where only the arcs with a set flag are left.
+fn renumbered(
+    alloc: Global,
+    objects: Vec<(OwnText, TopoObject)>,
+    used: &[bool],
+) -> Result<Vec<(OwnText, TopoObject)>, Memory>
+    requires { AllByRecursion (λ b. AreInRange (length used.now) b.1) (objects_strokes objects.items) }
+    ensures { IfOk result (λ left. (u : ℕ → Bool) → used.now ≡ answers u 0 (length used.now) → left.items ≡ objects_pruned (line_renumbered u) objects.items) }
+{
+    let ranks = ranks(alloc, used)?;
+    let left = pruned_objects(alloc, &Ranked::by(&ranks), objects)?;
+    Ok(left)
+}
+
+/// The objects and the picked arcs without the arcs that no line or ring of these objects uses, with new indexes, and how many of the
+/// positions of the other arcs were not picked.
+fn without_unused<P>(
+    alloc: Global,
+    objects: Vec<(OwnText, TopoObject)>,
+    arcs: &[Items<P>],
+    picked: Vec<Items<Cell>>,
+) -> Result<(Vec<(OwnText, TopoObject)>, Vec<Items<Cell>>, u64), Memory>
+    requires many { length picked.items ≡ length arcs.now }
+    requires ranged { AllByRecursion (λ b. AreInRange (length picked.items) b.1) (objects_strokes objects.items) }
+    ensures objects { IfOk result (λ r. r.0.items ≡ objects_pruned (line_renumbered (is_used objects.items)) objects.items) }
+    ensures arcs { IfOk result (λ r. r.1.items ≡ keep_from (is_used objects.items) 0 picked.items) }
+    ensures taken_out { IfOk result (λ r. r.2
+        ≡ saturated (sum (map length (keep_from (is_used objects.items) 0 arcs.now)) - positions_of (keep_from (is_used objects.items) 0 picked.items))) }
+{
+    let used = used_arcs(alloc, &objects, picked.len())?;
+    let before = used_positions(arcs, &used);
+    let after = used_positions(&picked, &used);
+    let left = renumbered(alloc, objects, &used)?;
+    let stay = kept_arcs(alloc, picked, &used)?;
+    Ok((left, stay, taken_out(before, after)))
+}
+
+/// What is left of objects over arcs of which only the picked cells stay: without the lines and rings that have no arc index, or are
+/// left with too few positions, and without the arcs that no other line uses; the lines and rings that are dropped, in reading order, an
+/// object in the place of a layer; and how many positions of the arcs that stay were not picked.
+pub fn finish<P>(
+    alloc: Global,
+    objects: Vec<(OwnText, TopoObject)>,
+    arcs: &[Items<P>],
+    picked: Vec<Items<Cell>>,
+    transform: Option<&Transform>,
+) -> Result<
+    (
+        Vec<(OwnText, TopoObject)>,
+        Vec<Items<Cell>>,
+        Vec<Dropped>,
+        u64,
+    ),
+    Memory,
+>
+    requires places { AllByRecursion (λ arc. AllByRecursion (IsPlace (option_copied transform)) arc) picked.items }
+    requires many { length picked.items ≡ length arcs.now }
+    requires ranged { AllByRecursion (λ b. AreInRange (length picked.items) b.1)
+        (objects_strokes (objects_pruned (large_refs (all_placed (option_copied transform) picked.items)) objects.items)) }
+    ensures left { IfOk result (λ r. contents r.0.items r.1.items (option_copied transform.entry)
+        ≡ trimmed (contents (objects_pruned (large_refs (all_placed (option_copied transform.entry) picked.items)) objects.items) picked.items (option_copied transform.entry))) }
+    ensures dropped { IfOk result (λ r. r.2.items ≡ objects_drops (all_placed (option_copied transform.entry) picked.items) 0 objects.items) }
+    ensures taken_out { IfOk result (λ r. r.3
+        ≡ saturated (sum (map length (keep_from (is_used (objects_pruned (large_refs (all_placed (option_copied transform.entry) picked.items)) objects.items)) 0 arcs.now))
+        - positions_of (keep_from (is_used (objects_pruned (large_refs (all_placed (option_copied transform.entry) picked.items)) objects.items)) 0 picked.items))) }
+{
+    let (large, dropped) = large_objects(alloc, objects, &picked, transform)?;
+    let (left, stay, taken) = without_unused(alloc, large, arcs, picked)?;
+    Ok((left, stay, dropped, taken))
+}

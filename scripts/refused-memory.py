@@ -83,7 +83,7 @@ PEAK_TOPOLOGY = topology(
     "g",
     ['{"type":"LineString","arcs":[0]}', '{"type":"Point","coordinates":[3,3]}'],
     "[[[0,0],[1,3],[2,-3]]]",
-    '"transform":{"scale":[0.3333334,0.3333334],"translate":[0,0]},',
+    '"transform":{"scale":[0.333333334,0.333333334],"translate":[0,0]},',
 )
 LAND = layer(
     ("Polygon", "[[[0,0],[10,0],[10,10],[0,10],[0,0]],[[4,4],[4,5],[5,4],[4,4]]]"),

@@ -101,7 +101,7 @@ const LAKE: &[u8] =
     b"{\"type\":\"Topology\",\"objects\":{\"land\":{\"type\":\"GeometryCollection\",\"geometries\":[{\"type\":\"Polygon\",\"arcs\":[[1,2,3,4],[0]]},{\"type\":\"LineString\",\"arcs\":[5]}]}},\"arcs\":[[[4,4],[4,5],[5,4],[4,4]],[[0,0],[10,0]],[[10,0],[10,10]],[[10,10],[0,10]],[[0,10],[0,0]],[[20,0],[25,1],[30,0]]]}";
 
 const WITHOUT_LAKE: &[u8] =
-    b"{\"type\":\"Topology\",\"objects\":{\"land\":{\"type\":\"GeometryCollection\",\"geometries\":[{\"type\":\"Polygon\",\"arcs\":[[0,1,2,3]]},{\"type\":\"LineString\",\"arcs\":[4]}]}},\"arcs\":[[[0,0],[10,0]],[[10,0],[10,10]],[[10,10],[0,10]],[[0,10],[0,0]],[[20,0],[30,0]]]}";
+    b"{\"type\":\"Topology\",\"bbox\":[0,0,30,10],\"objects\":{\"land\":{\"type\":\"GeometryCollection\",\"geometries\":[{\"type\":\"Polygon\",\"arcs\":[[0,1,2,3]]},{\"type\":\"LineString\",\"arcs\":[4]}]}},\"arcs\":[[[0,0],[10,0]],[[10,0],[10,10]],[[10,10],[0,10]],[[0,10],[0,0]],[[20,0],[30,0]]]}";
 
 #[test]
 fn a_hole_goes_with_its_arc(rt: HostRuntime) {

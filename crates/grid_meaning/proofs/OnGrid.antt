@@ -7,13 +7,14 @@ use Rattle.geometry.specs.Points.{Point}
 use Rattle.grid_snap.specs.Axes.{Axes, IsGrid, cell}
 use Rattle.grid_transform.specs.GridTransforms.{transform_of}
 use Rattle.grid_transform.proofs.Lying.{has_transform, lie_there, on_grid}
-use Rattle.lessened_topology.specs.Celled.{LiesBack, IsOnGrid, EachCell, objects_places}
+use Rattle.lessened_topology.specs.Celled.{LiesBack, IsOnGrid, EachCell}
 use Rattle.lessened_topology.specs.Laws.{BuiltIsValidOnGrid, DecodesBackOnGrid, LessensToBuilt, LessensToBuiltOnGrid}
 use Rattle.lessened_topology.proofs.BuiltCells.{built_cells}
 use Rattle.lessened_topology.proofs.CelledDecoding.{celled_decodes}
 use Rattle.lessened_topology.proofs.ValidCelled.{celled_is_valid}
 use Rattle.list_laws.proofs.Elements.{all_weaker}
 use Rattle.topojson_types.specs.Topologies.{Contents}
+use Rattle.topojson_types.specs.Validity.{objects_places}
 use Rattle.grid_meaning.specs.Gridded.{IsOn, named_points}
 use Rattle.grid_meaning.specs.Laws.{GriddedIsValid, GriddedDecodes, BuiltCellsAreOn, BuiltIsValidGridded, BuiltDecodesGridded, LessensGridded}
 

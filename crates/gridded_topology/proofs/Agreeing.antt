@@ -12,7 +12,7 @@ use Rattle.geometry.proofs.Cases.{prune-point, prune-points, prune-line, prune-l
 use Rattle.geometry.proofs.Induction.{by_kinds}
 use Rattle.grid_snap.specs.Axes.{Axes, cell}
 use Rattle.grid_transform.specs.GridTransforms.{transform_of}
-use Rattle.lessened_topology.specs.Celled.{feature_celled, object_celled, objects_celled, celled, features_places, objects_places, EachCell}
+use Rattle.lessened_topology.specs.Celled.{feature_celled, object_celled, objects_celled, celled, EachCell}
 use Rattle.lessened_topology.proofs.CelledDecoding.{placed_alike}
 use Rattle.list_laws.proofs.Elements.{all_weaker, all_left, all_right}
 use Rattle.list_laws.proofs.Lists.{map_agree, made_of_some}
@@ -20,7 +20,7 @@ use Rattle.topojson_types.specs.declared.feature.TopoFeature.{TopoFeature}
 use Rattle.topojson_types.specs.declared.object.TopoObject.{TopoObject}
 use Rattle.topojson_types.specs.declared.transform.Transform.{Transform}
 use Rattle.topojson_types.specs.Topologies.{TopoShape, Contents, object_features}
-use Rattle.topojson_types.specs.Validity.{is_full, is_full_option, places, option_places, IsFeature, IsObject, IsTopology}
+use Rattle.topojson_types.specs.Validity.{is_full, is_full_option, places, option_places, features_places, objects_places, IsFeature, IsObject, IsTopology}
 use Rattle.topojson_types.proofs.ByKind.{full_at, full-group}
 use Rattle.grid_meaning.specs.Gridded.{IsOn, gridded}
 use Rattle.gridded_topology.specs.Replacing.{cell_if_covered, replaced_step, shape_replaced, feature_replaced, object_replaced, objects_replaced}

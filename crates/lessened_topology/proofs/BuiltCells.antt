@@ -17,7 +17,7 @@ use Rattle.linework.specs.Laws.{layers_points}
 use Rattle.linework.specs.Linework.{linework}
 use Rattle.linework.proofs.Positions.{none_is_new}
 use Rattle.list_laws.proofs.Elements.{all_append, all_left, all_right, all_of, all_map, all_weaker, each_of}
-use Rattle.topojson_types.specs.Validity.{option_places}
+use Rattle.topojson_types.specs.Validity.{option_places, features_places, objects_places}
 use Rattle.build_meaning.specs.Built.{built}
 use Rattle.build_meaning.specs.Layers.{Named, layers_of}
 use Rattle.build_meaning.specs.Objects.{Kept, features_by, objects_by}
@@ -25,7 +25,7 @@ use Rattle.build_meaning.specs.Trimming.{feature_renumbered, object_renumbered, 
 use Rattle.build_meaning.proofs.ValidPositions.{all_pieces_of}
 use Rattle.build_meaning.proofs.ValidShapes.{places_stay}
 use Rattle.build_meaning.proofs.ValidTrimmed.{all_kept}
-use Rattle.lessened_topology.specs.Celled.{features_places, objects_places, EachCell}
+use Rattle.lessened_topology.specs.Celled.{EachCell}
 use Rattle.lessened_topology.proofs.ValidPruned.{option_stay}
 
 module _ (X : Point → Type 0) where

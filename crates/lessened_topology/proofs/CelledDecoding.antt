@@ -4,7 +4,6 @@ use Rattle.std.specs.List.{AllByRecursion}
 use Rattle.list_laws.proofs.Elements.{all_left, all_right}
 use Rattle.list_laws.proofs.Lists.{map_agree}
 use Rattle.geometry.specs.declared.shape.Geometry.TheVariants as g
-use Rattle.geojson_types.specs.Features.{Featured, Shape}
 use Rattle.geometry.specs.Lists.{map_some, then_some, some_of, joined}
 use Rattle.geometry.specs.Points.{Point}
 use Rattle.geometry.specs.Pruning.{prune}
@@ -15,11 +14,11 @@ use Rattle.topojson_types.specs.declared.feature.TopoFeature.{TopoFeature}
 use Rattle.topojson_types.specs.declared.object.TopoObject.{TopoObject}
 use Rattle.topojson_types.specs.declared.transform.Transform.{Transform}
 use Rattle.topojson_types.specs.Decoding.{decoded_line, decoded_shape, decoded_feature, decoded_object, of_name, decoded}
-use Rattle.topojson_types.specs.Topologies.{TopoShape, Contents, object_features}
+use Rattle.topojson_types.specs.Topologies.{TopoShape, object_features}
 use Rattle.topojson_types.specs.Transforms.{place_on}
-use Rattle.topojson_types.specs.Validity.{places, option_places}
+use Rattle.topojson_types.specs.Validity.{places, option_places, features_places, objects_places}
 use Rattle.topojson_types.proofs.ByKind.{places_at}
-use Rattle.lessened_topology.specs.Celled.{feature_celled, object_celled, objects_celled, celled, LiesBack, features_places, objects_places, EachCell}
+use Rattle.lessened_topology.specs.Celled.{feature_celled, object_celled, objects_celled, celled, LiesBack, EachCell}
 use Rattle.lessened_topology.specs.Laws.{CelledDecodes}
 use Rattle.lessened_topology.proofs.Celled.{all_lie_back}
 

@@ -13,8 +13,8 @@ use Rattle.topojson_types.specs.declared.transform.Transform.{Transform}
 use Rattle.geometry.specs.Joins.{or_empty, arc_at, first_of, last_of, Meet, Closes}
 use Rattle.topojson_types.specs.Topologies.{Contents, object_features}
 use Rattle.topojson_types.specs.Transforms.{IsTransform}
-use Rattle.topojson_types.specs.Validity.{option_places, IsPlace, IsFeature, IsObject, IsArc, IsTopology}
-use Rattle.lessened_topology.specs.Celled.{feature_celled, objects_celled, celled, IsOnGrid, features_places, objects_places, EachCell}
+use Rattle.topojson_types.specs.Validity.{option_places, features_places, objects_places, IsPlace, IsFeature, IsObject, IsArc, IsTopology}
+use Rattle.lessened_topology.specs.Celled.{feature_celled, objects_celled, celled, IsOnGrid, EachCell}
 use Rattle.lessened_topology.specs.Laws.{CelledIsValid}
 use Rattle.lessened_topology.specs.Lessened.{Refs}
 use Rattle.lessened_topology.proofs.Celled.{at_map, objects_lines}

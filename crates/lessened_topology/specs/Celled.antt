@@ -1,16 +1,16 @@
 -- Topologies on a grid: their positions as the cells that stand for them (TopoJSON 1.0, section 2.1.2).
 use Rattle.std.specs.Prelude.{◌≡◌, ℕ, List, Some, map}
 use Rattle.std.specs.List.{AllByRecursion}
-use Rattle.geometry.specs.Lists.{then_some, joined}
+use Rattle.geometry.specs.Lists.{then_some}
 use Rattle.geometry.specs.Points.{Point, IsWithin}
 use Rattle.geometry.specs.Pruning.{prune}
 use Rattle.topojson_types.specs.declared.feature.TopoFeature.{TopoFeature}
 use Rattle.topojson_types.specs.declared.object.TopoObject.{TopoObject}
 use Rattle.topojson_types.specs.declared.object.TopoObject.TheVariants.{One, Many}
 use Rattle.topojson_types.specs.declared.transform.Transform.{Transform}
-use Rattle.topojson_types.specs.Topologies.{Contents, object_features}
+use Rattle.topojson_types.specs.Topologies.{Contents}
 use Rattle.topojson_types.specs.Transforms.{place_on, grid_limit}
-use Rattle.topojson_types.specs.Validity.{option_places}
+use Rattle.topojson_types.specs.Validity.{objects_places}
 
 -- ---- cells in place of positions
 
@@ -40,14 +40,6 @@ abbrev pub IsOnGrid : Transform → (Point → Point) → Point → Type 0
 IsOnGrid transform cell p = IsWithin grid_limit (cell p) × LiesBack transform cell p
 
 -- ---- the cells of a topology
-
--- those of the Points and MultiPoints of features
-abbrev pub features_places : List TopoFeature → List Point
-features_places fs = joined (map (λ f. option_places f.shape) fs)
-
--- those of all objects
-abbrev pub objects_places : List (List ℕ × TopoObject) → List Point
-objects_places os = joined (map (λ o. features_places (object_features o.1)) os)
 
 -- each cell of its arcs, its Points and its MultiPoints has the property
 abbrev pub EachCell : (Point → Type 0) → Contents → Type 0

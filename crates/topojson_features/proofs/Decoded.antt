@@ -1,19 +1,15 @@
 -- Shapes over positions, by their kinds: what is decoded, and that it is proper.
-use Rattle.std.proofs.Common.{◌≡◌, ℕ, zero, suc, ◌+◌, ◌<◌, ◌≤◌, ℤ, Bool, true, false, ◌&&◌, List, [], ◌∷◌, ◌++◌, map, length, take, get_or, Option, Some, refl, ap, sym, ◌∙◌, arith}
-use Rattle.std.proofs.lemmas.List.{take_all, map-append}
-use Rattle.std.proofs.lemmas.List.Folds.{list_all-append}
+use Rattle.std.proofs.Common.{◌≡◌, ℕ, ◌≤◌, ℤ, Bool, true, false, ◌&&◌, List, [], ◌∷◌, map, length, take, Option, Some, refl, ap, sym, ◌∙◌, arith}
+use Rattle.std.proofs.lemmas.List.{take_all}
 use Rattle.std.specs.List.{AllByRecursion, list_all}
-use Rattle.list_laws.proofs.Lists.{made_of_some, mapped_more}
+use Rattle.list_laws.proofs.Lists.{made_of_some}
 use Rattle.geometry.proofs.ByKind.{proper_at, proper-group}
-use Rattle.json_value.specs.Depth.{greatest}
 use Rattle.geometry.specs.declared.shape.Geometry.TheVariants as g
 use Rattle.geojson_types.specs.Features.{Shape, is_some_list, is_line, is_proper}
 use Rattle.geometry.specs.Lists.{map_some, some_of, unless_empty}
-use Rattle.geojson_types.specs.Nesting.{nesting}
 use Rattle.geometry.specs.Points.{Point}
 use Rattle.geometry.specs.Pruning.{area_by}
 use Rattle.geometry.proofs.Cases.{prune-point, prune-points, prune-line, prune-lines, prune-area, prune-areas, prune-group}
-use Rattle.geojson_types.proofs.Nestings.{nesting-group}
 use Rattle.topojson_types.specs.Decoding.{decoded_line, decoded_shape, placed_arcs}
 use Rattle.topojson_types.specs.Topologies.{TopoShape, Contents}
 use Rattle.topojson_types.specs.Transforms.{place}
@@ -118,14 +114,3 @@ module _ (t : Contents) where
 
   pub group_decodes : (s : TopoShape) (ss : List TopoShape) (i : ℕ) (ds es : List Shape) → s ≡ g.Group ss → length ss ≤ i → SoFar ss i ds → es ≡ ds → Decodes s (g.Group es)
   group_decodes s ss i ds es e h so same = grind (arith, prune-group, all_given, take_all, proper-group)
-
--- ---- how deep shapes nest
-
-nests_below : (ss : List TopoShape) (i : ℕ) (m : TopoShape) → i < length ss → m ≡ get_or ss i m → nesting m ≤ greatest (map nesting ss)
-nests_below [] i m h e = absurd (omega (arith, h))
-nests_below (s ∷ ss) zero m h e = rw e (omega arith)
-nests_below (s ∷ ss) (suc i) m h e = let k = nests_below ss i m (omega (arith, h)) e in omega arith
-
--- a member of a group nests less deep
-pub member_nests : (s : TopoShape) (ss : List TopoShape) (i : ℕ) (m : TopoShape) → s ≡ g.Group ss → i < length ss → m ≡ get_or ss i m → nesting m < nesting s
-member_nests s ss i m is h e = grind (arith, nests_below, nesting-group)

@@ -1,5 +1,5 @@
 -- Lines have two positions or more, and rings four, of which the first and the last are equal.
-use Rattle.std.proofs.Common.{◌≡◌, ℕ, zero, suc, ◌-◌, ◌≤◌, ℤ, true, false, List, [], ◌∷◌, ◌++◌, map, length, Option, None, Some, refl, ap, sym, ◌∙◌, subst, arith, append-nil, length-append, leb}
+use Rattle.std.proofs.Common.{◌≡◌, ℕ, zero, suc, ◌-◌, ◌≤◌, ℤ, true, false, List, [], ◌∷◌, ◌++◌, map, length, Some, refl, ap, sym, ◌∙◌, arith, append-nil, length-append}
 use Rattle.std.proofs.lemmas.Bool.Decides.{nat_tests}
 use Rattle.std.proofs.lemmas.List.{length-map}
 use Rattle.std.specs.List.{slice_get}
@@ -8,7 +8,7 @@ use Rattle.list_laws.proofs.Elements.{all_weaker, all_map}
 use Rattle.geojson_types.specs.Features.{is_some_list, is_line}
 use Rattle.geometry.specs.Lists.{map_some, then_some}
 use Rattle.geometry.specs.Points.{Point}
-use Rattle.geometry.specs.Rings.{same, is_closed, is_ring}
+use Rattle.geometry.specs.Rings.{is_closed, is_ring}
 use Rattle.topojson_types.specs.Decoding.{repeated, filled, decoded_line, placed_arcs}
 use Rattle.geometry.specs.Joins.{arc_at, joined_behind_first, rejoined, first_of, last_of, Closes}
 use Rattle.topojson_types.specs.Topologies.{Contents}

@@ -1,20 +1,20 @@
 -- The objects of a valid topology, and the shapes of their features.
-use Rattle.std.proofs.Common.{◌≡◌, ℕ, ℤ, Bool, true, List, [], ◌∷◌, map, length, Option, None, Some, refl, ap, sym, ◌∙◌, subst, if◌then◌else◌, arith}
+use Rattle.std.proofs.Common.{◌≡◌, ℕ, ℤ, Bool, true, List, [], ◌∷◌, map, length, Option, None, Some, ap, sym, ◌∙◌, subst, if◌then◌else◌, arith}
 use Rattle.std.specs.List.{AllByRecursion}
 use Rattle.std.specs.Str.{bytes_eq}
 use Rattle.geojson_types.specs.declared.layer.FeatureSet.{FeatureSet}
 use Rattle.geojson_types.specs.declared.layer.FeatureSet.TheVariants as set
 use Rattle.geojson_types.specs.Features.{Featured, is_some_list}
-use Rattle.geometry.specs.Lists.{joined, map_some}
-use Rattle.geometry.specs.Pruning.{option_strokes}
+use Rattle.geometry.specs.Lists.{map_some}
 use Rattle.geometry.proofs.Agreement.{all_left, all_right}
 use Rattle.topojson_types.specs.declared.feature.TopoFeature.{TopoFeature}
 use Rattle.topojson_types.specs.declared.object.TopoObject.{TopoObject}
 use Rattle.topojson_types.specs.declared.object.TopoObject.TheVariants.{One, Many}
 use Rattle.topojson_types.specs.Decoding.{decoded, decoded_feature, decoded_object, of_name, placed_arcs}
-use Rattle.topojson_types.specs.Topologies.{TopoShape, Contents, object_features, features_strokes}
+use Rattle.topojson_types.specs.Topologies.{Contents, object_features, features_strokes}
 use Rattle.topojson_types.specs.Transforms.{place}
 use Rattle.topojson_types.specs.Validity.{AreInRange, IsClosed, IsFeature, IsObject, IsTopology}
+use Rattle.topojson_types.proofs.Parts.{parts_all}
 use Rattle.topojson_features.specs.Strokes.{IsStroke, IsShapeOption}
 use Rattle.topojson_features.proofs.Standing.{strokes_full}
 
@@ -27,12 +27,6 @@ value_of X b u later v h k m = grind arith
 of_named : {V : Type 0} (X : V → Type 0) (name : List ℕ) (os : List (List ℕ × V)) (v : V) → of_name name os ≡ Some v → AllByRecursion (λ o. X o.1) os → X v
 of_named X name [] v e h = cc
 of_named X name (o ∷ os) v e h = value_of X (bytes_eq o.0 name) o.1 (of_name name os) v e h.0 (λ k. of_named X name os v k h.1)
-
--- ---- parts of joined lists
-
-all_parts : {A B : Type 0} (X : B → Type 0) (f : A → List B) (xs : List A) → AllByRecursion X (joined (map f xs)) → AllByRecursion (λ x. AllByRecursion X (f x)) xs
-all_parts X f [] h = tt
-all_parts X f (x ∷ xs) h = (all_left X (f x) (joined (map f xs)) h, all_parts X f xs (all_right X (f x) (joined (map f xs)) h))
 
 -- ---- the shapes of an object
 
@@ -55,8 +49,8 @@ module _ (t : Contents) (is : IsTopology t) where
   object_stands name o e =
       features_stand (object_features o)
       (grind (arith, (of_named (IsObject t.transform) name t.objects o e is.objects)))
-      (of_named (λ o. AreRanged (features_strokes (object_features o))) name t.objects o e (all_parts (λ b. AreInRange (length t.arcs) b.1) (λ o. features_strokes (object_features o.1)) t.objects is.ranged))
-      (of_named (λ o. AreClosed (features_strokes (object_features o))) name t.objects o e (all_parts (IsClosed t.arcs) (λ o. features_strokes (object_features o.1)) t.objects is.closed))
+      (of_named (λ o. AreRanged (features_strokes (object_features o))) name t.objects o e (parts_all (λ b. AreInRange (length t.arcs) b.1) (λ o. features_strokes (object_features o.1)) t.objects is.ranged))
+      (of_named (λ o. AreClosed (features_strokes (object_features o))) name t.objects o e (parts_all (IsClosed t.arcs) (λ o. features_strokes (object_features o.1)) t.objects is.closed))
 
   pub one_stands : (name : List ℕ) (o : TopoObject) (f : TopoFeature) → of_name name t.objects ≡ Some o → o ≡ One f → IsShapeOption t f.shape
   one_stands name o f e k = (subst (λ o. AllByRecursion (λ f. IsShapeOption t f.shape) (object_features o)) k (object_stands name o e)).0

@@ -6,8 +6,9 @@ use Rattle.json_value.specs.declared.json.Json.TheVariants as j
 use Rattle.json_value.proofs.Texts.{fused}
 use Rattle.geometry.specs.declared.shape.Geometry.TheVariants as g
 use Rattle.geometry.specs.Points.{Point}
+use Rattle.topojson_types.specs.Bounds.{bounds}
 use Rattle.topojson_types.specs.Topologies.{TopoShape, Contents}
-use Rattle.topojson_types.specs.Values.{Members, typed, inner_value, geometrical, cell_value, members_of_transform, objects_value, arcs_value}
+use Rattle.topojson_types.specs.Values.{Members, typed, inner_value, geometrical, cell_value, members_of_transform, members_of_bounds, objects_value, arcs_value}
 use Rattle.topojson_types.proofs.ByKind.{geometrical_at}
 
 -- ---- what they are written as
@@ -22,5 +23,6 @@ abbrev pub written_members : Contents → Members
 written_members t =
     (codes "type", j.Text (codes "Topology"))
     ∷ (members_of_transform t.transform
+    ++ (members_of_bounds (bounds t)
     ++ ((codes "objects", objects_value (cell_value t.transform) t.objects)
-    ∷ ((codes "arcs", arcs_value t.transform t.arcs) ∷ [])))
+    ∷ ((codes "arcs", arcs_value t.transform t.arcs) ∷ []))))

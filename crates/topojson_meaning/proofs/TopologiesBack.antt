@@ -1,7 +1,8 @@
 -- The topology that is written is read back, and nothing is counted.
-use Rattle.std.proofs.Common.{◌≡◌, ℕ, ℤ, Bool, List, [], ◌∷◌, length, Option, Ok, refl, arith}
+use Rattle.std.proofs.Common.{◌≡◌, ℕ, ℤ, Bool, List, [], ◌∷◌, ◌++◌, length, Option, None, Some, Ok, refl, arith}
 use Rattle.std.specs.Prelude.{codes}
 use Rattle.std.specs.List.{AllByRecursion}
+use Rattle.json_value.specs.declared.json.Json.{Json}
 use Rattle.json_value.specs.declared.json.Json.TheVariants as j
 use Rattle.json_value.proofs.KindsOf.{object_of-object, text_of-text}
 use Rattle.geojson_types.specs.Counting.{no_counts}
@@ -13,9 +14,10 @@ use Rattle.list_laws.proofs.Elements.{all_two}
 use Rattle.topojson_types.specs.declared.feature.TopoFeature.{TopoFeature}
 use Rattle.topojson_types.specs.declared.object.TopoObject.{TopoObject}
 use Rattle.topojson_types.specs.declared.transform.Transform.{Transform}
+use Rattle.topojson_types.specs.Bounds.{Corners, bounds}
 use Rattle.topojson_types.specs.Topologies.{Contents, features_strokes, objects_strokes}
 use Rattle.topojson_types.specs.Validity.{IsFeature, IsObject, AreInRange, IsJoined, IsClosed}
-use Rattle.topojson_types.specs.Values.{cell_value, transform_object, objects_value, arcs_value, topology_value}
+use Rattle.topojson_types.specs.Values.{Members, cell_value, transform_object, members_of_transform, members_of_bounds, objects_value, arcs_value, topology_value}
 use Rattle.topojson_meaning.specs.Laws.{IsStored, ReadsBack}
 use Rattle.topojson_meaning.specs.Members.{named, find, need}
 use Rattle.topojson_meaning.specs.Topologies.{contents, value_contents, topology}
@@ -43,10 +45,19 @@ module _ (transform : Option Transform) (arcs : List (List Point)) where
 
 -- ---- its members
 
+-- with or without a transform and a bounding box
+found_among : (transform : Option Transform) (box : Option Corners) (os arcs : Json) (ms : Members)
+    → ms ≡ (codes "type", j.Text (codes "Topology")) ∷ (members_of_transform transform ++ (members_of_bounds box ++ ((codes "objects", os) ∷ ((codes "arcs", arcs) ∷ []))))
+    → (need (codes "type") ms ≡ Ok (j.Text (codes "Topology"))) × (find (codes "transform") ms ≡ Ok (map_some transform_object transform)) × (need (codes "arcs") ms ≡ Ok arcs) × (need (codes "objects") ms ≡ Ok os)
+unfolding need named
+found_among None None os arcs ms e = rw e (refl, refl, refl, refl)
+found_among None (Some b) os arcs ms e = rw e (refl, refl, refl, refl)
+found_among (Some t) None os arcs ms e = rw e (refl, refl, refl, refl)
+found_among (Some t) (Some b) os arcs ms e = rw e (refl, refl, refl, refl)
+
 found : (t : Contents) → (need (codes "type") (written_members t) ≡ Ok (j.Text (codes "Topology"))) × (find (codes "transform") (written_members t) ≡ Ok (map_some transform_object t.transform))
     × (need (codes "arcs") (written_members t) ≡ Ok (arcs_value t.transform t.arcs)) × (need (codes "objects") (written_members t) ≡ Ok (objects_value (cell_value t.transform) t.objects))
-unfolding need named
-found t = (grind arith, grind arith, grind arith, grind arith)
+found t = found_among t.transform (bounds t) (objects_value (cell_value t.transform) t.objects) (arcs_value t.transform t.arcs) (written_members t) refl
 
 -- ---- the topology
 

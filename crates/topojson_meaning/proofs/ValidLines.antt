@@ -10,7 +10,7 @@ use Rattle.geometry.specs.Rings.{both_same}
 use Rattle.geometry.proofs.Points.{same_is}
 use Rattle.geometry.specs.Joins.{number_of, arc_at, first_of, last_of, Meet, Closes}
 use Rattle.topojson_types.specs.Validity.{AreInRange}
-use Rattle.topojson_meaning.specs.Lines.{some_elements, in_range, index, joined_to, indexes_behind, indexes, line_start, line_end, as_ring, line_in, line, ring_in, ring, with_outer, polygon_in, polygon}
+use Rattle.topojson_meaning.specs.Lines.{some_elements, index, joined_to, indexes_behind, indexes, line_start, line_end, as_ring, line_in, line, ring_in, ring, with_outer, polygon_in, polygon}
 use Rattle.topojson_meaning.specs.Reader.{Reader, ◌>>=◌, if_some, kept}
 use Rattle.topojson_meaning.proofs.ValidKept.{IsLine, IsArea}
 use Rattle.topojson_meaning.proofs.ValidYields.{Yields, IfThere, then_yields, give_yields, count_yields, fail_yields, pure_then, if_yields, if_some_yields, kept_yields}

@@ -10,7 +10,7 @@ use Rattle.topojson_types.specs.declared.feature.TopoFeature.{TopoFeature}
 use Rattle.topojson_types.specs.declared.object.TopoObject.{TopoObject}
 use Rattle.topojson_types.specs.declared.transform.Transform.{Transform}
 use Rattle.topojson_types.specs.Topologies.{TopoShape, Contents, object_features, features_strokes, objects_strokes}
-use Rattle.topojson_types.specs.Validity.{option_places, is_single_option, IsPlace, IsFeature, IsArc, IsTransformed, IsTopology}
+use Rattle.topojson_types.specs.Validity.{option_places, IsPlace, IsArc, IsTransformed, IsTopology}
 use Rattle.topojson_meaning.specs.declared.fault.TopoFault.TheVariants.{NotTopology, WrongKind}
 use Rattle.topojson_meaning.specs.Arcs.{arc_list}
 use Rattle.topojson_meaning.specs.Laws.{ReadsValid}

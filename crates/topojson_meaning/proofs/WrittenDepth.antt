@@ -1,5 +1,5 @@
 -- How deep the value nests that is written for a topology.
-use Rattle.std.proofs.Common.{◌≡◌, ℕ, zero, suc, ◌+◌, ◌≤◌, ℤ, List, [], ◌∷◌, map, Option, Some, None, refl, ◌∙◌, arith}
+use Rattle.std.proofs.Common.{◌≡◌, ℕ, zero, suc, ◌+◌, ◌≤◌, ℤ, List, [], ◌∷◌, ◌++◌, map, Option, Some, None, refl, ◌∙◌, arith}
 use Rattle.std.specs.Prelude.{codes}
 use Rattle.std.specs.List.{AllByRecursion}
 use Rattle.decimal_text.specs.Scaling.{units_text}
@@ -13,6 +13,7 @@ use Rattle.geojson_types.specs.declared.id.Id.{Id}
 use Rattle.geojson_types.specs.declared.id.Id.TheVariants as id
 use Rattle.geojson_types.specs.Nesting.{nesting_step, nesting, option_nesting}
 use Rattle.geometry.specs.Points.{Point}
+use Rattle.geometry.specs.Units.{unit_places}
 use Rattle.geometry.proofs.Agreement.{all_left, all_right}
 use Rattle.geometry.proofs.Induction.{by_kinds}
 use Rattle.geometry.proofs.ByKind.{AtKinds}
@@ -21,8 +22,9 @@ use Rattle.topojson_types.specs.declared.feature.TopoFeature.{TopoFeature}
 use Rattle.topojson_types.specs.declared.object.TopoObject.{TopoObject}
 use Rattle.topojson_types.specs.declared.object.TopoObject.TheVariants.{One, Many}
 use Rattle.topojson_types.specs.declared.transform.Transform.{Transform}
+use Rattle.topojson_types.specs.Bounds.{Corners, bounds}
 use Rattle.topojson_types.specs.Topologies.{TopoShape, object_features}
-use Rattle.topojson_types.specs.Values.{Members, Geometrical, number_value, whole_value, position_value, cell_places, cell_value, written_cells, arc_value, line_value, lines_value, typed, inner_value, geometrical, geometrical_option, id_members, feature_value, object_value, pair_value, members_of_transform, objects_value, arcs_value, topology_value}
+use Rattle.topojson_types.specs.Values.{Members, Geometrical, number_value, whole_value, position_value, cell_places, cell_value, written_cells, arc_value, line_value, lines_value, typed, inner_value, geometrical, geometrical_option, id_members, feature_value, object_value, pair_value, members_of_transform, members_of_bounds, objects_value, arcs_value, topology_value}
 use Rattle.topojson_types.proofs.ByKind.{geometrical_at}
 use Rattle.topojson_meaning.specs.Bounds.{objects_features, feature_nesting}
 use Rattle.topojson_meaning.specs.Laws.{ValueNests}
@@ -168,6 +170,13 @@ transform_below (Some t) n h =
     pair_below : (p : List ℕ × List ℕ) → depth (pair_value p) ≤ 1
     pair_below p = array_below j.Number 0 (p.0 ∷ (p.1 ∷ [])) (number_flat 0 p.0, (number_flat 0 p.1, tt))
 
+bounds_below : (b : Option Corners) (n : ℕ) → 1 ≤ n → MembersBelow n (members_of_bounds b)
+bounds_below None n h = tt
+bounds_below (Some b) n h =
+    let numbers = b.0.x ∷ (b.0.y ∷ (b.1.x ∷ (b.1.y ∷ []))) in
+    let whole = array_below (number_value unit_places) 0 numbers (below (λ x. depth (number_value unit_places x)) 0 numbers (λ x. number_flat 0 (units_text x unit_places))) in
+    (omega arith, tt)
+
 arcs_below : (transform : Option Transform) (arcs : List (List Point)) → depth (arcs_value transform arcs) ≤ 3
 arcs_below transform arcs = array_below (arc_value transform) 2 arcs (below (λ cs. depth (arc_value transform cs)) 2 arcs (λ cs. positions_below (cell_places transform) (written_cells transform cs)))
 
@@ -177,6 +186,7 @@ topology_depth t n h =
     let os = object_below (2 + n) (map (λ o. (o.0, object_value (cell_value t.transform) o.1)) t.objects) (objects_below (cell_places t.transform) t.objects n h) in
     let arcs = arcs_below t.transform t.arcs in
     let behind : Members = (codes "objects", objects_value (cell_value t.transform) t.objects) ∷ ((codes "arcs", arcs_value t.transform t.arcs) ∷ []) in
-    let members = all_append (λ m. depth m.1 ≤ 3 + n) (members_of_transform t.transform) behind (transform_below t.transform (3 + n) (omega arith)) (omega arith, (omega arith, tt)) in
+    let later = all_append (λ m. depth m.1 ≤ 3 + n) (members_of_bounds (bounds t)) behind (bounds_below (bounds t) (3 + n) (omega arith)) (omega arith, (omega arith, tt)) in
+    let members = all_append (λ m. depth m.1 ≤ 3 + n) (members_of_transform t.transform) (members_of_bounds (bounds t) ++ behind) (transform_below t.transform (3 + n) (omega arith)) later in
     let whole = object_below (3 + n) (written_members t) (text_flat (3 + n) (codes "Topology"), members) in
     omega (arith, whole)

@@ -14,7 +14,7 @@ use Rattle.json_value.specs.Numbers.{numbers_of, HasNumbers}
 use Rattle.json_value.proofs.NumbersOf.{numbers-null, numbers-number, numbers-text, numbers-array, numbers-object}
 use Rattle.geometry.specs.Lists.{joined}
 use Rattle.geometry.specs.Points.{Point, IsWithin}
-use Rattle.geometry.specs.Units.{cell_limit}
+use Rattle.geometry.specs.Units.{cell_limit, position_limit, unit_places}
 use Rattle.geometry.specs.Pruning.{strokes, option_strokes}
 use Rattle.geometry.proofs.Agreement.{all_left, all_right, all_of_map}
 use Rattle.geometry.proofs.Cases.{strokes-line, strokes-lines, strokes-area, strokes-areas, strokes-group}
@@ -26,9 +26,11 @@ use Rattle.topojson_types.specs.declared.transform.Transform.{Transform}
 use Rattle.topojson_types.specs.Differences.{difference, deltas_from, deltas}
 use Rattle.topojson_types.specs.TransformNumbers.{transform_value, IsTransformNumber}
 use Rattle.topojson_types.specs.Transforms.{grid_limit, origin}
+use Rattle.topojson_types.specs.Bounds.{Corners, bounds}
 use Rattle.topojson_types.specs.Topologies.{TopoShape, object_features, features_strokes, objects_strokes}
 use Rattle.topojson_types.specs.Validity.{IsPlace, IsTransformed, IsArc, IsFeature, IsObject, AreInRange, places}
-use Rattle.topojson_types.specs.Values.{Members, Geometrical, number_value, position_value, cell_places, cell_value, arc_value, line_value, lines_value, typed, inner_value, geometrical, feature_value, object_value, pair_value, members_of_transform, arcs_value, topology_value}
+use Rattle.topojson_types.specs.Values.{Members, Geometrical, number_value, position_value, cell_places, cell_value, arc_value, line_value, lines_value, typed, inner_value, geometrical, feature_value, object_value, pair_value, members_of_transform, members_of_bounds, arcs_value, topology_value}
+use Rattle.topojson_types.proofs.Boxes.{AreCorners, corners_are}
 use Rattle.topojson_types.proofs.ByKind.{geometrical_at, places_at}
 use Rattle.topojson_meaning.specs.Bounds.{objects_features, FeatureHasNumbers}
 use Rattle.topojson_meaning.specs.Laws.{ValueHasNumbers}
@@ -187,6 +189,12 @@ transform_numbers (Some t) h = (
     pair_numbers : (p : List ℕ × List ℕ) → IsTransformNumber p.0 → IsTransformNumber p.1 → HasNumbers (pair_value p)
     pair_numbers p h k = array_numbers j.Number (p.0 ∷ (p.1 ∷ [])) (number_numbers p.0 (transform_text p.0 h), (number_numbers p.1 (transform_text p.1 k), tt))
 
+bounds_numbers : (b : Option Corners) → AreCorners b → Numbered (members_of_bounds b)
+bounds_numbers None h = tt
+bounds_numbers (Some b) h =
+    let number = λ (x : ℤ) (k : unsigned_abs x ≤ position_limit). number_numbers (units_text x unit_places) (units_text-number x unit_places (omega (arith, k))) in
+    (array_numbers (number_value unit_places) (b.0.x ∷ (b.0.y ∷ (b.1.x ∷ (b.1.y ∷ [])))) (number b.0.x h.0.0, (number b.0.y h.0.1, (number b.1.x h.1.0, (number b.1.y h.1.1, tt)))), tt)
+
 arcs_numbers : (transform : Option Transform) (arcs : List (List Point)) → AllByRecursion (IsArc transform) arcs → HasNumbers (arcs_value transform arcs)
 arcs_numbers transform arcs h = array_numbers (arc_value transform) arcs (all_weaker (IsArc transform) (λ cs. HasNumbers (arc_value transform cs)) (arc_numbers transform) arcs h)
 
@@ -197,5 +205,6 @@ topology_numbers t h m =
     let os = object_numbers (map (λ o. (o.0, object_value (cell_value t.transform) o.1)) t.objects) (objects_numbers (length t.arcs) h.1 t.transform t.objects valid.objects valid.ranged m) in
     object_numbers (written_members t) (
       text_numbers (codes "Topology"),
-      all_append (λ m. HasNumbers m.1) (members_of_transform t.transform) _ (transform_numbers t.transform valid.transform) (os, (arcs_numbers t.transform t.arcs valid.arcs, tt)),
+      all_append (λ m. HasNumbers m.1) (members_of_transform t.transform) _ (transform_numbers t.transform valid.transform)
+          (all_append (λ m. HasNumbers m.1) (members_of_bounds (bounds t)) _ (bounds_numbers (bounds t) (corners_are t valid)) (os, (arcs_numbers t.transform t.arcs valid.arcs, tt))),
     )

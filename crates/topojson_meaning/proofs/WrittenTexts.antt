@@ -9,6 +9,7 @@ use Rattle.json_value.specs.declared.json.Json.TheVariants as j
 use Rattle.json_value.proofs.Utf8Parts.{AreUtf8, MemberUtf8, null_utf8, number_value_utf8, text_value_utf8, parts_utf8, array_utf8, each_utf8, object_utf8, word}
 use Rattle.geometry.proofs.Induction.{by_kinds}
 use Rattle.geometry.specs.Points.{Point}
+use Rattle.geometry.specs.Units.{unit_places}
 use Rattle.geojson_types.specs.Numbers.{PropertiesHaveNumbers}
 use Rattle.geojson_types.specs.Texts.{PropertiesHaveTexts}
 use Rattle.list_laws.proofs.Elements.{all_append, all_left, all_right, all_two, all_parts, all_map, all_of_map, all_weaker}
@@ -17,9 +18,10 @@ use Rattle.topojson_types.specs.declared.object.TopoObject.{TopoObject}
 use Rattle.topojson_types.specs.declared.object.TopoObject.TheVariants.{One, Many}
 use Rattle.topojson_types.specs.declared.transform.Transform.{Transform}
 use Rattle.topojson_types.specs.TransformNumbers.{IsTransformNumber}
+use Rattle.topojson_types.specs.Bounds.{Corners, bounds}
 use Rattle.topojson_types.specs.Topologies.{TopoShape, Contents, object_features}
 use Rattle.topojson_types.specs.Validity.{IsTransformed}
-use Rattle.topojson_types.specs.Values.{Members, Geometrical, number_value, whole_value, position_value, cell_value, written_cells, arc_value, line_value, lines_value, typed, inner_value, geometrical, geometrical_option, id_members, properties_members, feature_value, object_value, pair_value, members_of_transform, topology_value}
+use Rattle.topojson_types.specs.Values.{Members, Geometrical, number_value, whole_value, position_value, cell_value, written_cells, arc_value, line_value, lines_value, typed, inner_value, geometrical, geometrical_option, id_members, properties_members, feature_value, object_value, pair_value, members_of_transform, members_of_bounds, topology_value}
 use Rattle.topojson_types.proofs.ByKind.{geometrical_at}
 use Rattle.topojson_meaning.specs.Bounds.{objects_features, FeatureHasNumbers}
 use Rattle.topojson_meaning.specs.Laws.{FeaturesHaveNumbers}
@@ -159,6 +161,10 @@ pair_texts p h k =
 transform_texts : (transform : Option Transform) → IsTransformed transform → Texted (members_of_transform transform)
 transform_texts transform h = grind (arith, word, object_utf8, pair_texts)
 
+bounds_texts : (b : Option Corners) → Texted (members_of_bounds b)
+bounds_texts None = tt
+bounds_texts (Some b) = ((word (codes "bbox") refl, each_utf8 (number_value unit_places) (number_texts unit_places) (b.0.x ∷ (b.0.y ∷ (b.1.x ∷ (b.1.y ∷ []))))), tt)
+
 pub topology_utf8 : (t : Contents) → IsTransformed t.transform → FeaturesHaveNumbers t → ContentsHaveTexts t → AreUtf8 (topology_value t)
 unfolding topology_value
 topology_utf8 t transform numbers texts =
@@ -167,5 +173,6 @@ topology_utf8 t transform numbers texts =
     object_utf8 (written_members t) (
       (type_word, text_value_utf8 (codes "Topology") (word (codes "Topology") refl)),
       all_append MemberUtf8 (members_of_transform t.transform) _ (transform_texts t.transform transform)
-          ((word (codes "objects") refl, os), ((word (codes "arcs") refl, each_utf8 (arc_value t.transform) (arc_texts t.transform) t.arcs), tt)),
+          (all_append MemberUtf8 (members_of_bounds (bounds t)) _ (bounds_texts (bounds t))
+          ((word (codes "objects") refl, os), ((word (codes "arcs") refl, each_utf8 (arc_value t.transform) (arc_texts t.transform) t.arcs), tt))),
     )

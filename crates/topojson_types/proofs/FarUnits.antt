@@ -1,10 +1,9 @@
 -- Sums that are too large for 128 bits stand for nothing that is a coordinate.
-use Rattle.std.proofs.Common.{◌+◌, ◌*◌, ◌^◌, ◌<◌, ◌≤◌, ℤ, pos, ◌+ℤ◌, int_lt, unsigned_abs, FitsSigned, arith}
+use Rattle.std.proofs.Common.{◌+◌, ◌*◌, ◌^◌, ◌<◌, ◌≤◌, ℤ, ◌+ℤ◌, unsigned_abs, FitsSigned, arith}
 use Rattle.std.proofs.lemmas.Bool.{cases_lt}
 use Rattle.std.proofs.lemmas.Int.{ints, fits_signed_from_abs}
 use Rattle.std.proofs.Common.{⊎_elim}
 use mir.Syntax.{w128}
-use Rattle.decimal_text.specs.Rounding.{nearest}
 use Rattle.decimal_text.proofs.RoundedFractions.{IsRounded-some, IsRounded-above}
 use Rattle.decimal_text.proofs.ScaledNumber.{unsigned_abs-signed}
 use Rattle.geometry.specs.Units.{position_limit, transform_limit}

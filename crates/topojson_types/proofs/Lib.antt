@@ -1,4 +1,7 @@
+mod BoundsRows
+pub mod Boxes
 pub mod ByKind
+pub mod Parts
 pub mod SumsBack
 pub mod ExactTexts
 pub mod FarUnits

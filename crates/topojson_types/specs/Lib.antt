@@ -1,3 +1,4 @@
+pub mod Bounds
 pub mod Codes
 pub mod Decoding
 pub mod Differences
@@ -6,4 +7,5 @@ pub mod TransformNumbers
 pub mod Transforms
 pub mod Validity
 pub mod Values
+pub mod Widening
 pub use Rattle.geometry.specs.Joins

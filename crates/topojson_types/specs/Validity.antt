@@ -1,5 +1,5 @@
 -- Which topologies are valid: TopoJSON 1.0, section 2.
-use Rattle.std.specs.Prelude.{◌≡◌, ◌≤◌, ℤ, Bool, true, false, ◌&&◌, List, [], ◌∷◌, Option, None, Some, length, map}
+use Rattle.std.specs.Prelude.{◌≡◌, ◌≤◌, ℕ, ℤ, Bool, true, false, ◌&&◌, List, [], ◌∷◌, Option, None, Some, length, map}
 use Rattle.std.specs.List.{AllByRecursion, list_all}
 pub use Rattle.list_laws.specs.Lists.{AreDistinct}
 use Rattle.geometry.specs.declared.shape.Geometry.{fold-Geometry}
@@ -13,7 +13,7 @@ use Rattle.topojson_types.specs.declared.object.TopoObject.TheVariants.{One, Man
 use Rattle.topojson_types.specs.declared.transform.Transform.{Transform}
 pub use Rattle.geometry.specs.Joins.{AreInRange}
 use Rattle.geometry.specs.Joins.{arc_at, Meet, Closes}
-use Rattle.topojson_types.specs.Topologies.{TopoShape, Contents, objects_strokes}
+use Rattle.topojson_types.specs.Topologies.{TopoShape, Contents, object_features, objects_strokes}
 use Rattle.topojson_types.specs.Transforms.{grid_limit, place_on, IsTransform}
 
 -- ---- shapes
@@ -53,6 +53,14 @@ places = fold-Geometry Point (List ℤ) (List ℤ) (List Point) places_step
 abbrev pub option_places : Option TopoShape → List Point
 option_places None = []
 option_places (Some s) = places s
+
+-- those of features
+abbrev pub features_places : List TopoFeature → List Point
+features_places fs = joined (map (λ f. option_places f.shape) fs)
+
+-- those of all objects
+abbrev pub objects_places : List (List ℕ × TopoObject) → List Point
+objects_places os = joined (map (λ o. features_places (object_features o.1)) os)
 
 -- one level, and the shape is no Group
 abbrev pub single_step : Geometry-F Point (List ℤ) (List ℤ) Bool → Bool

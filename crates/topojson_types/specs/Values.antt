@@ -13,6 +13,7 @@ use Rattle.topojson_types.specs.declared.feature.TopoFeature.{TopoFeature}
 use Rattle.topojson_types.specs.declared.object.TopoObject.{TopoObject}
 use Rattle.topojson_types.specs.declared.object.TopoObject.TheVariants.{One, Many}
 use Rattle.topojson_types.specs.declared.transform.Transform.{Transform}
+use Rattle.topojson_types.specs.Bounds.{Corners, bounds}
 use Rattle.topojson_types.specs.Differences.{deltas}
 use Rattle.topojson_types.specs.Topologies.{TopoShape, Contents}
 
@@ -125,6 +126,10 @@ object_value cell (Many fs) = j.Object ((codes "type", j.Text (codes "GeometryCo
 abbrev pub pair_value : List ℕ × List ℕ → Json
 pair_value p = j.Array (j.Number p.0 ∷ (j.Number p.1 ∷ []))
 
+-- the coordinates of both corners, the least first, and x first
+abbrev pub bounds_value : Corners → Json
+bounds_value b = j.Array (map (number_value unit_places) (b.0.x ∷ (b.0.y ∷ (b.1.x ∷ (b.1.y ∷ [])))))
+
 abbrev pub transform_object : Transform → Json
 transform_object t = j.Object ((codes "scale", pair_value t.scale) ∷ ((codes "translate", pair_value t.translate) ∷ []))
 
@@ -132,6 +137,11 @@ transform_object t = j.Object ((codes "scale", pair_value t.scale) ∷ ((codes "
 abbrev pub members_of_transform : Option Transform → Members
 members_of_transform None = []
 members_of_transform (Some t) = (codes "transform", transform_object t) ∷ []
+
+-- the box from the least coordinates to the greatest, if there is one (section 3), in units also where there is a transform
+abbrev pub members_of_bounds : Option Corners → Members
+members_of_bounds None = []
+members_of_bounds (Some b) = (codes "bbox", bounds_value b) ∷ []
 
 -- the objects by name
 abbrev pub objects_value : (Point → Json) → List (List ℕ × TopoObject) → Json
@@ -144,5 +154,6 @@ unfoldable pub topology_value : Contents → Json
 topology_value t =
     j.Object ((codes "type", j.Text (codes "Topology"))
     ∷ (members_of_transform t.transform
+    ++ (members_of_bounds (bounds t)
     ++ ((codes "objects", objects_value (cell_value t.transform) t.objects)
-    ∷ ((codes "arcs", arcs_value t.transform t.arcs) ∷ []))))
+    ∷ ((codes "arcs", arcs_value t.transform t.arcs) ∷ [])))))

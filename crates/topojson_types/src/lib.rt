@@ -4,6 +4,7 @@
 //! build a `Topology` of parts that are known to be valid, write it, and decode it.
 #![tactic(auto)]
 
+mod bounding;
 mod cell;
 mod differing;
 mod feature;

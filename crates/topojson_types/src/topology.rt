@@ -1,9 +1,11 @@
 ghost use Rattle.std.specs.Prelude.{◌≡◌, ◌<◌, [], Some, get_or, length, slice_get};
 ghost use Rattle.std.specs.Option.{option_copied};
 ghost use Rattle.geometry.specs.Lists.{map_some};
+ghost use Rattle.topojson_types.specs.Bounds.{bounds as bounds_of};
 ghost use Rattle.topojson_types.specs.Transforms.{place as place_of};
 ghost use Rattle.topojson_types.specs.Validity.{IsTopology};
 
+use crate::bounding::{with_arcs, with_objects};
 use crate::cell::Cell;
 use crate::object::TopoObject;
 use crate::placing::position_at;
@@ -84,6 +86,16 @@ impl Topology {
         ensures { map_some (place_of self.now.transform) (slice_get (get_or self.now.arcs arc []) i) ≡ Some result }
     {
         position_at(self.grid.as_ref(), self.lines.as_slice()[arc].as_slice()[i])
+    }
+
+    /// Its bounding box (TopoJSON 1.0, section 3): the least x and y of all positions of its arcs, its Points and its MultiPoints, as
+    /// they lie by its transform, and the greatest. There is none where there is no position.
+    pub fn bounds(&self) -> Option<(Position, Position)>
+        ensures { result ≡ bounds_of self.now }
+    {
+        let transform = self.grid.as_ref();
+        let of_arcs = with_arcs(transform, None, self.lines.as_slice());
+        with_objects(transform, of_arcs, self.shown.as_slice())
     }
 
     /// Its objects, its arcs and its transform, by value.

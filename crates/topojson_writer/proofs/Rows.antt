@@ -2,7 +2,7 @@
 use Rattle.std.proofs.Common.{◌≡◌, ℕ, ◌*◌, pos, negsuc, List, [], ◌∷◌, refl, Some, None}
 use Rattle.std.specs.Prelude.{codes}
 use Rattle.std.specs.Fmt.{digits}
-use Rattle.decimal_text.specs.Scaling.{units_text}
+use Rattle.decimal_text.specs.Scaling.{scaled_of, units_text}
 use Rattle.json_value.specs.declared.json.Json.TheVariants as j
 use Rattle.json_value.specs.Text.{json_text, escaped_byte}
 use Rattle.json_value.proofs.Texts.{texts}
@@ -14,9 +14,12 @@ use Rattle.topojson_types.specs.declared.feature.TopoFeature.{TopoFeature}
 use Rattle.topojson_types.specs.declared.object.TopoObject.TheVariants.{Many}
 use Rattle.topojson_types.specs.declared.transform.Transform.{Transform}
 use Rattle.topojson_types.specs.Topologies.{TopoShape, Contents}
+use Rattle.topojson_types.specs.Bounds.{bounds}
 use Rattle.topojson_types.specs.Differences.{deltas_from}
+use Rattle.topojson_types.specs.TransformNumbers.{transform_value, to_units, stands_for}
+use Rattle.topojson_types.specs.Transforms.{place_on}
 use Rattle.topojson_types.specs.Values.{position_value, cell_value, feature_value, object_value, topology_value}
-use Rattle.topojson_types.proofs.ByKind.{geometrical_at}
+use Rattle.topojson_types.proofs.ByKind.{geometrical_at, places_at}
 use Rattle.topojson_writer.proofs.Shapes.{is-group}
 
 -- a position at a whole number of the input's units from zero
@@ -36,9 +39,9 @@ line_of name = record {
 }
 
 row_line : json_text (topology_value (line_of (codes "a")))
-    ≡ codes "{\"type\":\"Topology\",\"objects\":{\"a\":{\"type\":\"GeometryCollection\",\"geometries\":[{\"type\":\"LineString\",\"arcs\":[0]}]}},\"arcs\":[[[0,0],[1.5,0.25]]]}"
-unfolding topology_value escaped_byte units_text digits
-row_line = simp (texts, (geometrical_at (cell_value None)).line) refl
+    ≡ codes "{\"type\":\"Topology\",\"bbox\":[0,0,1.5,0.25],\"objects\":{\"a\":{\"type\":\"GeometryCollection\",\"geometries\":[{\"type\":\"LineString\",\"arcs\":[0]}]}},\"arcs\":[[[0,0],[1.5,0.25]]]}"
+unfolding topology_value bounds escaped_byte units_text digits
+row_line = simp (texts, places_at.line, (geometrical_at (cell_value None)).line) refl
 
 -- two squares that share a side
 abbrev pub squares_of : List ℕ → Contents
@@ -51,9 +54,9 @@ squares_of name = record {
 }
 
 row_squares : json_text (topology_value (squares_of (codes "land")))
-    ≡ codes "{\"type\":\"Topology\",\"objects\":{\"land\":{\"type\":\"GeometryCollection\",\"geometries\":[{\"type\":\"Polygon\",\"arcs\":[[0,1]]},{\"type\":\"Polygon\",\"arcs\":[[2,-1]]}]}},\"arcs\":[[[1,0],[1,1]],[[1,1],[0,1],[0,0],[1,0]],[[1,0],[2,0],[2,1],[1,1]]]}"
-unfolding topology_value escaped_byte units_text digits
-row_squares = simp (texts, (geometrical_at (cell_value None)).area) refl
+    ≡ codes "{\"type\":\"Topology\",\"bbox\":[0,0,2,1],\"objects\":{\"land\":{\"type\":\"GeometryCollection\",\"geometries\":[{\"type\":\"Polygon\",\"arcs\":[[0,1]]},{\"type\":\"Polygon\",\"arcs\":[[2,-1]]}]}},\"arcs\":[[[1,0],[1,1]],[[1,1],[0,1],[0,0],[1,0]],[[1,0],[2,0],[2,1],[1,1]]]}"
+unfolding topology_value bounds escaped_byte units_text digits
+row_squares = simp (texts, places_at.area, (geometrical_at (cell_value None)).area) refl
 
 -- a Point with identifier and properties that have one name twice
 abbrev point : TopoFeature
@@ -100,9 +103,9 @@ line_and_point = record {
 }
 
 row_grid : json_text (topology_value line_and_point)
-    ≡ codes "{\"type\":\"Topology\",\"transform\":{\"scale\":[0.333333334,0.333333334],\"translate\":[0,0]},\"objects\":{\"g\":{\"type\":\"GeometryCollection\",\"geometries\":[{\"type\":\"LineString\",\"arcs\":[0]},{\"type\":\"Point\",\"coordinates\":[3,3]}]}},\"arcs\":[[[0,0],[1,3],[2,-3]]]}"
-unfolding topology_value escaped_byte units_text digits deltas_from
-row_grid = simp (texts, (geometrical_at (position_value 0)).line, (geometrical_at (position_value 0)).point) refl
+    ≡ codes "{\"type\":\"Topology\",\"transform\":{\"scale\":[0.333333334,0.333333334],\"translate\":[0,0]},\"bbox\":[0,0,1.000000002,1.000000002],\"objects\":{\"g\":{\"type\":\"GeometryCollection\",\"geometries\":[{\"type\":\"LineString\",\"arcs\":[0]},{\"type\":\"Point\",\"coordinates\":[3,3]}]}},\"arcs\":[[[0,0],[1,3],[2,-3]]]}"
+unfolding topology_value bounds place_on stands_for to_units transform_value scaled_of escaped_byte units_text digits deltas_from
+row_grid = simp (texts, places_at.line, places_at.point, (geometrical_at (position_value 0)).line, (geometrical_at (position_value 0)).point) refl
 
 -- a line that the grid leaves, one that it makes a null geometry, and a transform whose numbers are all different
 abbrev line_and_null : Contents
@@ -113,9 +116,9 @@ line_and_null = record {
 }
 
 row_grid_of_two : json_text (topology_value line_and_null)
-    ≡ codes "{\"type\":\"Topology\",\"transform\":{\"scale\":[10,0.000000001],\"translate\":[0,5]},\"objects\":{\"l\":{\"type\":\"GeometryCollection\",\"geometries\":[{\"type\":\"LineString\",\"arcs\":[0]},{\"type\":null}]}},\"arcs\":[[[0,0],[1,0]]]}"
-unfolding topology_value escaped_byte units_text digits deltas_from
-row_grid_of_two = simp (texts, (geometrical_at (position_value 0)).line) refl
+    ≡ codes "{\"type\":\"Topology\",\"transform\":{\"scale\":[10,0.000000001],\"translate\":[0,5]},\"bbox\":[0,5,10,5],\"objects\":{\"l\":{\"type\":\"GeometryCollection\",\"geometries\":[{\"type\":\"LineString\",\"arcs\":[0]},{\"type\":null}]}},\"arcs\":[[[0,0],[1,0]]]}"
+unfolding topology_value bounds place_on stands_for to_units transform_value scaled_of escaped_byte units_text digits deltas_from
+row_grid_of_two = simp (texts, places_at.line, (geometrical_at (position_value 0)).line) refl
 
 -- each arc begins with a cell, not with a difference from the arc before, and Points are cells
 abbrev two_arcs_and_points : Contents
@@ -126,6 +129,6 @@ two_arcs_and_points = record {
 }
 
 row_each_arc : json_text (topology_value two_arcs_and_points)
-    ≡ codes "{\"type\":\"Topology\",\"transform\":{\"scale\":[1,1],\"translate\":[0,0]},\"objects\":{\"m\":{\"type\":\"GeometryCollection\",\"geometries\":[{\"type\":\"MultiPoint\",\"coordinates\":[[5,5],[6,5]]}]}},\"arcs\":[[[1,1],[1,1]],[[2,2],[0,-1]]]}"
-unfolding topology_value escaped_byte units_text digits deltas_from
-row_each_arc = simp (texts, (geometrical_at (position_value 0)).points) refl
+    ≡ codes "{\"type\":\"Topology\",\"transform\":{\"scale\":[1,1],\"translate\":[0,0]},\"bbox\":[1,1,6,5],\"objects\":{\"m\":{\"type\":\"GeometryCollection\",\"geometries\":[{\"type\":\"MultiPoint\",\"coordinates\":[[5,5],[6,5]]}]}},\"arcs\":[[[1,1],[1,1]],[[2,2],[0,-1]]]}"
+unfolding topology_value bounds place_on stands_for to_units transform_value scaled_of escaped_byte units_text digits deltas_from
+row_each_arc = simp (texts, places_at.points, (geometrical_at (position_value 0)).points) refl

@@ -5,6 +5,7 @@
 #![tactic(auto)]
 
 mod arc_writer;
+mod bounds_writer;
 mod cell_writer;
 mod feature_writer;
 mod index_writer;

@@ -9,6 +9,7 @@ ghost use Rattle.topojson_types.specs.Values.{object_value, objects_value, topol
 ghost use Rattle.topojson_writer.specs.Texts.{members_text, contents_members};
 
 use crate::arc_writer::Differences;
+use crate::bounds_writer::put_bounds;
 use crate::cell_writer::{GridCells, Positions};
 use crate::feature_writer::{Features, put_feature};
 use crate::transform_writer::put_transform;
@@ -83,14 +84,16 @@ pub fn put_topology<W: Drain>(topology: &Topology, so_far: Progress, sink: &mut 
 {
     let so_far = put_part(b"{\"type\":\"Topology\"", so_far, sink);
     let so_far = put_transform(topology.transform(), so_far, sink);
+    let so_far = put_bounds(topology.bounds(), so_far, sink);
     let so_far = put_contents(topology, so_far, sink);
     put_part(b"}", so_far, sink)
 }
 
 /// Writes the text of the topology (TopoJSON 1.0, section 2) with no white space, and answers the number of bytes: its transform,
-/// if there is one, its objects by name in order, and then its arcs. A position is two least decimals, x first, and an arc index a
-/// whole number. With a transform a cell is two whole numbers, an arc is its first cell and then differences, and the numbers of
-/// the transform keep their texts. Identifiers and properties keep the texts of their numbers, their order and their duplicates; a
+/// if there is one, its bounding box (section 3), if it has a position, its objects by name in order, and then its arcs. A position
+/// is two least decimals, x first, and an arc index a whole number. The box is the least x and y and then the greatest of where its
+/// cells lie, also with a transform, as least decimals. With a transform a cell is two whole numbers, an arc is its first cell and
+/// then differences, and the numbers of the transform keep their texts. Identifiers and properties keep the texts of their numbers, their order and their duplicates; a
 /// null geometry has the type null. `Write` tells how many bytes of the text the device took before it failed. This takes no
 /// memory.
 pub fn write_topology<W: Drain>(topology: &Topology, sink: &mut Sink<W>) -> Result<u64, WriteFault>

@@ -62,14 +62,14 @@ def layer(*geometries):
     return '{"type":"FeatureCollection","features":[%s]}' % features
 
 
-def topology(name, geometries, arcs, transform=""):
+def topology(name, geometries, arcs, bbox, transform=""):
     """The text of a topology with one object."""
     objects = '{"%s":{"type":"GeometryCollection","geometries":[%s]}}' % (name, ",".join(geometries))
-    return '{"type":"Topology",%s"objects":%s,"arcs":%s}' % (transform, objects, arcs)
+    return '{"type":"Topology",%s"bbox":%s,"objects":%s,"arcs":%s}' % (transform, bbox, objects, arcs)
 
 
 LINE = '{"type":"LineString","coordinates":[[0,0],[1.5,0.25]]}'
-LINE_TOPOLOGY = topology("a", ['{"type":"LineString","arcs":[0]}'], "[[[0,0],[1.5,0.25]]]")
+LINE_TOPOLOGY = topology("a", ['{"type":"LineString","arcs":[0]}'], "[[[0,0],[1.5,0.25]]]", "[0,0,1.5,0.25]")
 SQUARES = layer(
     ("Polygon", "[[[0,0],[1,0],[1,1],[0,1],[0,0]]]"), ("Polygon", "[[[1,0],[2,0],[2,1],[1,1],[1,0]]]")
 )
@@ -77,12 +77,14 @@ SQUARES_TOPOLOGY = topology(
     "land",
     ['{"type":"Polygon","arcs":[[0,1]]}', '{"type":"Polygon","arcs":[[2,-1]]}'],
     "[[[1,0],[1,1]],[[1,1],[0,1],[0,0],[1,0]],[[1,0],[2,0],[2,1],[1,1]]]",
+    "[0,0,2,1]",
 )
 PEAK = layer(("LineString", "[[0,0],[0.5,1],[1,0]]"), ("Point", "[1,1]"))
 PEAK_TOPOLOGY = topology(
     "g",
     ['{"type":"LineString","arcs":[0]}', '{"type":"Point","coordinates":[3,3]}'],
     "[[[0,0],[1,3],[2,-3]]]",
+    "[0,0,1.000000002,1.000000002]",
     '"transform":{"scale":[0.333333334,0.333333334],"translate":[0,0]},',
 )
 LAND = layer(
@@ -94,11 +96,13 @@ FULL_TOPOLOGY = topology(
     "land",
     ['{"type":"Polygon","arcs":[[0],[1]]}', '{"type":"Polygon","arcs":[[-2]]}', '{"type":"LineString","arcs":[2]}'],
     "[[[0,0],[10,0],[10,10],[0,10],[0,0]],[[4,4],[4,5],[5,4],[4,4]],[[20,0],[30,0]]]",
+    "[0,0,30,10]",
 )
 LAND_TOPOLOGY = topology(
     "land",
     ['{"type":"Polygon","arcs":[[0]]}', '{"type":null}', '{"type":"LineString","arcs":[1]}'],
     "[[[0,0],[10,0],[10,10],[0,10],[0,0]],[[20,0],[30,0]]]",
+    "[0,0,30,10]",
 )
 FILES = {
     "line.json": LINE,

@@ -62,8 +62,8 @@ def geometry(kind, coordinates):
     return '{"type":"%s","coordinates":%s}' % (kind, coordinates)
 
 
-def topology(objects, arcs):
-    return '{"type":"Topology","objects":{%s},"arcs":[%s]}' % (objects, arcs)
+def topology(objects, arcs, bounds=""):
+    return '{"type":"Topology",%s"objects":{%s},"arcs":[%s]}' % (bounds, objects, arcs)
 
 
 def listed(each):
@@ -159,7 +159,9 @@ def fault_of(words, redirected=""):
 
 LINE = geometry("LineString", "[[0,0],[1.5,0.25]]")
 LINE_TOPOLOGY = topology(
-    '"a":{"type":"GeometryCollection","geometries":[{"type":"LineString","arcs":[0]}]}', "[[0,0],[1.5,0.25]]"
+    '"a":{"type":"GeometryCollection","geometries":[{"type":"LineString","arcs":[0]}]}',
+    "[[0,0],[1.5,0.25]]",
+    '"bbox":[0,0,1.5,0.25],',
 )
 REPORT = "rounded 0, extra 0, empty 0, dropped 0, arcs 1, kept 2, removed 0"
 COMMANDS = ("build a=line", "simplify line.topojson", "geo --object a line.topojson", "stat line.topojson")

@@ -89,7 +89,7 @@ cross afterwards: that isn't checked";
 const EXACT_HELP: &str = "Refuse coordinates that would have to be rounded";
 
 const EXACT_LONG_HELP: &str =
-    "Refuse a file with a coordinate that isn't a whole multiple of 0.0000001.
+    "Refuse a file with a coordinate that isn't a whole multiple of 0.000000001.
 Without this option such a coordinate is rounded to the nearest multiple,
 halves away from zero, and counted in the report";
 

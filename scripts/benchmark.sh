@@ -10,7 +10,7 @@
 # `stat` (these three on what `build` wrote, `geo` on what it wrote on a grid too) it prints a row of a table: the seconds of the fastest
 # run, the MB/s of its input, and the greatest peak of memory. For the coast these are `build` without options, with an area at which a
 # third of the positions goes, and with one at which nearly all go, and `simplify` with these two areas; for roads, points and lakes `build`
-# and `geo`. Then, for each command, the growth: the
+# and `geo`, and for lakes `build` with a least area of rings at which their holes go. Then, for each command, the growth: the
 # time a byte at 10^6 positions over that at 10^4. Where topo2geo (topojson-client) or ogr2ogr (GDAL) is installed, rows of
 # theirs for the same decoding come beside. Runs follow one another; nothing else should run meanwhile.
 set -eu
@@ -69,10 +69,13 @@ measure_coast() {
     row coast "$work/coast.topojson" "$work/out" "simplify, nearly all go" "$program" simplify --min-area "$2" "$work/coast.topojson"
 }
 
-# measure_shapes KIND NUMBER WORD..: the rows of so many features of the kind.
+# measure_shapes KIND NUMBER WORD..: the rows of so many features of the kind. Of lakes the holes enclose less than the area.
 measure_shapes() {
     "$root/scripts/shapes.py" "$@" >"$work/shapes.json"
     row "$*" "$work/shapes.json" "$work/shapes.topojson" build "$program" build "shapes=$work/shapes.json"
+    if [ "$1" = lakes ]; then
+        row "$*" "$work/shapes.json" "$work/out" "build, ring area" "$program" build --min-ring-area 0.001 "shapes=$work/shapes.json"
+    fi
     row "$*" "$work/shapes.topojson" "$work/out" geo "$program" geo --object shapes "$work/shapes.topojson"
 }
 

@@ -1,4 +1,5 @@
 pub mod Chosen
+pub mod Enclosed
 pub mod Kept
 pub mod Marked
 pub mod Passed

@@ -8,7 +8,7 @@ use Rattle.geometry.proofs.Points.{same_is}
 use Rattle.junctions.specs.Cleaning.{clean, is_short}
 use Rattle.list_laws.specs.Lists.{tail}
 use Rattle.list_laws.proofs.Lists.{drop_here}
-use Rattle.arc_choice.specs.Passing.{Need, unpassed, new_behind, missing_behind, Passes, directed}
+use Rattle.arc_choice.specs.Passing.{Need, unpassed, new_behind, missing_behind, PassesBy, Passes, directed}
 use Rattle.arc_choice.proofs.Short.{some_left}
 
 -- ---- one position
@@ -25,30 +25,54 @@ passed_same n q p e s behind = grind (arith, same_is)
 pub passed_other : (n : Need) (q p : Point) (missing : ℕ) → n.last ≡ Some q → same q p ≡ false → missing ≡ n.missing - 1 → Passes (p ∷ []) n (need (Some p) missing)
 passed_other n q p missing e s m behind = grind (arith, some_left)
 
+-- ---- the arcs behind the first, each without its first position
+
+tail_is : (xs : List Point) → tail xs ≡ drop 1 xs
+tail_is xs = grind arith
+
+abbrev pub later_left : List (List Point) → List ℤ → List Point
+later_left arcs refs = joined_behind_first (map (arc_at arcs) refs)
+
 -- ---- lists
 
 -- where none is missing, none is missing behind whatever comes
 pub none_missing : (n : Need) (ps : List Point) → n.missing ≡ 0 → missing_behind n ps ≡ 0
 none_missing n ps h = omega (arith, h)
 
--- these are still to be passed of all
-abbrev pub Open : List Point → List Point → Need → Need → Type 0
-Open left all old now = (behind : List Point) → missing_behind now (left ++ behind) ≡ missing_behind old (all ++ behind)
+module _ {S V : Type 0} (value : S → List Point → V) where
+  -- these are still to be passed of all
+  abbrev pub Open : List Point → List Point → S → S → Type 0
+  Open left all old now = (behind : List Point) → value now (left ++ behind) ≡ value old (all ++ behind)
 
--- a run of them is passed
-pub run_passed : (run left all : List Point) (old now new : Need) → Open (run ++ left) all old now → Passes run now new → Open left all old new
-run_passed run left all old now new so_far pass behind = pass (left ++ behind) ∙ ap (missing_behind now) (sym (append_assoc run left behind)) ∙ so_far behind
+  -- a run of them is passed
+  pub run_passed : (run left all : List Point) (old now new : S) → Open (run ++ left) all old now → PassesBy value run now new → Open left all old new
+  run_passed run left all old now new so_far pass behind = pass (left ++ behind) ∙ ap (value now) (sym (append_assoc run left behind)) ∙ so_far behind
 
--- the next of them is passed
-pub one_passed : (xs all : List Point) (i : ℕ) (x : Point) (old now new : Need) → i < length xs → x ≡ get_or xs i x → Open (drop i xs) all old now → Passes (x ∷ []) now new → Open (drop (i + 1) xs) all old new
-one_passed xs all i x old now new lt is so_far pass behind = grind (arith, run_passed, drop_here)
+  -- the next of them is passed
+  pub one_passed : (xs all : List Point) (i : ℕ) (x : Point) (old now new : S) → i < length xs → x ≡ get_or xs i x → Open (drop i xs) all old now → PassesBy value (x ∷ []) now new → Open (drop (i + 1) xs) all old new
+  one_passed xs all i x old now new lt is so_far pass =
+      run_passed (x ∷ []) (drop (i + 1) xs) all old now new (λ b. ap (λ l. value now (l ++ b)) (sym (drop_here xs i x lt is)) ∙ so_far b) pass
 
--- all of them are
-pub all_passed : (xs all : List Point) (i : ℕ) (old now : Need) → length xs ≤ i → Open (drop i xs) all old now → Passes all old now
-all_passed xs all i old now le so_far behind = ap (λ l. missing_behind now (l ++ behind)) (sym (drop_all i xs le)) ∙ so_far behind
+  -- all of them are
+  pub all_passed : (xs all : List Point) (i : ℕ) (old now : S) → length xs ≤ i → Open (drop i xs) all old now → PassesBy value all old now
+  all_passed xs all i old now le so_far behind = ap (λ l. value now (l ++ behind)) (sym (drop_all i xs le)) ∙ so_far behind
+
+  pub nothing_passed : (from : ℕ) (arc : List Point) (n : S) → arc ≡ [] → PassesBy value (drop from arc) n n
+  nothing_passed from arc n e behind = sym (ap (λ a. value n (a ++ behind)) (ap (drop from) e ∙ drop_all from [] (omega arith)))
+
+  -- of the arcs behind the first, each without its first position, one more is passed
+  pub later_passed : (arcs : List (List Point)) (later : List ℤ) (i : ℕ) (r : ℤ) (all : List Point) (old now new : S) → i < length later → r ≡ get_or later i r
+      → Open (later_left arcs (drop i later)) all old now → PassesBy value (drop 1 (arc_at arcs r)) now new → Open (later_left arcs (drop (i + 1) later)) all old new
+  later_passed arcs later i r all old now new lt is so_far pass =
+      let left : List Point = later_left arcs (drop (i + 1) later) in
+      let e : later_left arcs (drop i later) ≡ drop 1 (arc_at arcs r) ++ left = ap (later_left arcs) (drop_here later i r lt is) ∙ ap (λ t. t ++ left) (tail_is (arc_at arcs r)) in
+      run_passed (drop 1 (arc_at arcs r)) left all old now new (λ b. ap (λ l. value now (l ++ b)) (sym e) ∙ so_far b) pass
+
+  pub later_all : (arcs : List (List Point)) (later : List ℤ) (i : ℕ) (all : List Point) (old now : S) → length later ≤ i → Open (later_left arcs (drop i later)) all old now → PassesBy value all old now
+  later_all arcs later i all old now le so_far b = ap (λ rs. value now (later_left arcs rs ++ b)) (sym (drop_all i later le)) ∙ so_far b
 
 -- or none is missing any more
-pub stopped : (left all : List Point) (old now : Need) → now.missing ≡ 0 → Open left all old now → Passes all old now
+pub stopped : (left all : List Point) (old now : Need) → now.missing ≡ 0 → Open missing_behind left all old now → Passes all old now
 stopped left all old now none so_far behind = none_missing now behind none ∙ sym (none_missing now (left ++ behind) none) ∙ so_far behind
 
 -- ---- arcs in one direction or the other
@@ -75,36 +99,15 @@ pub no_arc_named : (arcs : List (List Point)) (r : ℤ) (n : ℕ) → n ≡ numb
 unfolding number_of
 no_arc_named arcs r n e got = grind (arith, at_got)
 
-pub nothing_passed : (from : ℕ) (arc : List Point) (n : Need) → arc ≡ [] → Passes (drop from arc) n n
-nothing_passed from arc n e behind = sym (ap (λ a. missing_behind n (a ++ behind)) (ap (drop from) e ∙ drop_all from [] (omega arith)))
-
--- ---- the arcs behind the first, each without its first position
-
-tail_is : (xs : List Point) → tail xs ≡ drop 1 xs
-tail_is xs = grind arith
-
-abbrev pub later_left : List (List Point) → List ℤ → List Point
-later_left arcs refs = joined_behind_first (map (arc_at arcs) refs)
-
-pub later_passed : (arcs : List (List Point)) (later : List ℤ) (i : ℕ) (r : ℤ) (all : List Point) (old now new : Need) → i < length later → r ≡ get_or later i r
-    → Open (later_left arcs (drop i later)) all old now → Passes (drop 1 (arc_at arcs r)) now new → Open (later_left arcs (drop (i + 1) later)) all old new
-later_passed arcs later i r all old now new lt is so_far pass =
-    let left : List Point = later_left arcs (drop (i + 1) later) in
-    let e : later_left arcs (drop i later) ≡ drop 1 (arc_at arcs r) ++ left = ap (later_left arcs) (drop_here later i r lt is) ∙ ap (λ t. t ++ left) (tail_is (arc_at arcs r)) in
-    run_passed (drop 1 (arc_at arcs r)) left all old now new (λ b. ap (λ l. missing_behind now (l ++ b)) (sym e) ∙ so_far b) pass
-
-pub later_all : (arcs : List (List Point)) (later : List ℤ) (i : ℕ) (all : List Point) (old now : Need) → length later ≤ i → Open (later_left arcs (drop i later)) all old now → Passes all old now
-later_all arcs later i all old now le so_far b = ap (λ rs. missing_behind now (later_left arcs rs ++ b)) (sym (drop_all i later le)) ∙ so_far b
-
 -- ---- whether there are enough
 
 nothing_new : (last : Option Point) → new_behind last [] ≡ 0
 nothing_new last = grind arith
 
-pub missing_at_end : (closed : Bool) (all left : List Point) (now : Need) → Open left all (unpassed closed) now → missing_behind now left ≡ (unpassed closed).missing - length (clean all)
+pub missing_at_end : (closed : Bool) (all left : List Point) (now : Need) → Open missing_behind left all (unpassed closed) now → missing_behind now left ≡ (unpassed closed).missing - length (clean all)
 missing_at_end closed all left now so_far = grind (arith, append-nil left, append-nil all)
 
-pub enough_seen : (closed : Bool) (all left : List Point) (now : Need) → now.missing ≡ 0 → Open left all (unpassed closed) now → false ≡ is_short closed (clean all)
+pub enough_seen : (closed : Bool) (all left : List Point) (now : Need) → now.missing ≡ 0 → Open missing_behind left all (unpassed closed) now → false ≡ is_short closed (clean all)
 enough_seen closed all left now none so_far = grind (arith, none_missing now left none, missing_at_end closed all left now so_far)
 
 pub all_seen : (closed : Bool) (all : List Point) (now : Need) (result : Bool) → result ≡ nat_lt 0 now.missing → Passes all (unpassed closed) now → result ≡ is_short closed (clean all)

@@ -1,5 +1,6 @@
--- Lines and rings whose positions are passed one after the other, until there are enough of them.
-use Rattle.std.specs.Prelude.{◌≡◌, ℕ, ◌-◌, Bool, List, ◌++◌, Option, None, Some, length, reverse, if◌then◌else◌}
+-- Lines and rings whose positions are passed one after the other: until there are enough of them, or to sum up the area of a ring.
+use Rattle.std.specs.Prelude.{◌≡◌, ℕ, ◌-◌, ◌*◌, ◌^◌, ℤ, ◌+ℤ◌, Bool, List, ◌++◌, Option, None, Some, length, reverse, if◌then◌else◌}
+use Rattle.geometry.specs.Areas.{Passed, sum_behind, most_turned}
 use Rattle.geometry.specs.Points.{Point}
 use Rattle.junctions.specs.Cleaning.{clean, clean_from}
 
@@ -21,9 +22,25 @@ new_behind (Some p) ps = length (clean_from p ps) - 1
 abbrev pub missing_behind : Need → List Point → ℕ
 missing_behind n ps = n.missing - new_behind n.last ps
 
--- these positions are passed: with whatever comes behind them, as many are missing
+-- these positions are passed: with whatever comes behind them it comes to the same
+abbrev pub PassesBy : {S V : Type 0} → (S → List Point → V) → List Point → S → S → Type 0
+PassesBy value ps old new = (behind : List Point) → value new behind ≡ value old (ps ++ behind)
+
+-- as many are missing
 abbrev pub Passes : List Point → Need → Need → Type 0
-Passes ps old new = (behind : List Point) → missing_behind new behind ≡ missing_behind old (ps ++ behind)
+Passes = PassesBy missing_behind
+
+-- what the sum over a ring is when these are passed
+abbrev pub sum_with : Passed → List Point → ℤ
+sum_with s ps = s.sum +ℤ sum_behind s.last ps
+
+-- the sum is the same
+abbrev pub Sums : List Point → Passed → Passed → Type 0
+Sums = PassesBy sum_with
+
+-- the most that the positions of an arc add to the sum
+abbrev pub most_of_arc : ℕ
+most_of_arc = 2 ^ 64 * most_turned
 
 -- an arc in one direction or the other
 abbrev pub directed : Bool → List Point → List Point

@@ -1,19 +1,66 @@
-// Lines and rings that are left with too few positions where they are rebuilt of their arcs.
-ghost use Rattle.std.specs.Prelude.{◌≡◌, ◌∷◌, [], drop, map};
+// Lines and rings that are left with too few positions where they are rebuilt of their arcs, and rings that enclose too little.
+ghost use Rattle.std.specs.Prelude.{◌≡◌, ◌≤◌, ◌∷◌, [], drop, map};
+ghost use Rattle.std.specs.List.{AllByRecursion};
 ghost use Rattle.build_meaning.specs.Expected.{is_small};
 ghost use Rattle.geometry.specs.Joins.{arc_at, rejoined};
+ghost use Rattle.geometry.specs.Points.{IsPosition};
+ghost use Rattle.geometry.specs.Units.{threshold_limit};
 ghost use Rattle.arc_choice.specs.Passing.{directed, unpassed, Passes};
 ghost use Rattle.junctions.specs.Cleaning.{clean, is_short};
 
+use crate::enclosing::is_ring_under;
 use geojson_types::Position;
 use json_value::Items;
 use std::marker::Model;
 use topojson_types::{ArcRef, Cell};
 
+/// The arcs that lines and rings are rebuilt of, and how little a ring may enclose.
+#[derive(Drop)]
+pub struct Rebuilding<'a> {
+    arcs: &'a [Items<Cell>],
+    ring_limit: u128,
+}
+
+impl<'a> Model for Rebuilding<'a> {
+    ghost use Rattle.std.specs.Prelude.{◌≤◌};
+    ghost use Rattle.std.specs.List.{AllByRecursion};
+    ghost use Rattle.arc_choice.specs.Rebuilding.{Rebuilding as OfArcs};
+    ghost use Rattle.geometry.specs.Points.{IsPosition};
+    ghost use Rattle.geometry.specs.Units.{threshold_limit};
+
+    ghost Value = { OfArcs };
+
+    ghost view = { λ r. record { arcs = r.arcs.now; limit = r.ring_limit } };
+
+    ghost invariant = { λ r. AllByRecursion (λ arc. AllByRecursion IsPosition arc) r.arcs.now × (r.ring_limit ≤ threshold_limit) };
+}
+
+impl<'a> Rebuilding<'a> {
+    /// Of these arcs, where twice the area of a ring may not be under the limit, in square units.
+    pub fn of(arcs: &'a [Items<Cell>], ring_limit: u128) -> Rebuilding<'a>
+        requires places { AllByRecursion (λ arc. AllByRecursion IsPosition arc) arcs.now }
+        requires limit { ring_limit ≤ threshold_limit }
+        ensures { result ≡ record { arcs = arcs.now; limit = ring_limit } }
+    {
+        Rebuilding { arcs, ring_limit }
+    }
+
+    /// Whether an open line of the arcs with these indexes, with equal neighbours as one position, is left with fewer than two
+    /// positions, or a ring with fewer than four, or a ring encloses too little.
+    pub fn is_small(&self, closed: bool, refs: &[ArcRef]) -> bool
+        ensures { result ≡ is_small self.now.limit closed (rejoined (map (arc_at self.now.arcs) refs.now)) }
+    {
+        if is_short_rebuilt(closed, refs, self.arcs) {
+            return true;
+        }
+        closed && is_ring_under(refs, self.arcs, self.ring_limit)
+    }
+}
+
 /// Whether an open line that is rebuilt of the arcs with these indexes, with equal neighbours as one position, is left with fewer
 /// than two positions, or a ring with fewer than four. No more positions are looked at than that takes.
-pub fn is_small_line(closed: bool, refs: &[ArcRef], arcs: &[Items<Cell>]) -> bool
-    ensures { result ≡ is_small closed (rejoined (map (arc_at arcs.now) refs.now)) }
+fn is_short_rebuilt(closed: bool, refs: &[ArcRef], arcs: &[Items<Cell>]) -> bool
+    ensures { result ≡ is_short closed (clean (rejoined (map (arc_at arcs.now) refs.now))) }
 {
     let Some((first, later)) = refs.split_first() else {
         return true;

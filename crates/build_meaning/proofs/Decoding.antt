@@ -52,28 +52,28 @@ module _ {A V : Type 0} (value : A → V) where
 
 -- ---- features
 
-module _ (lines : List Stroke) (t : ℕ) where
+module _ (lines : List Stroke) (t limit : ℕ) where
   abbrev arcs : List (List Point)
   arcs = map (reduced t) (all_arcs lines)
 
   -- what is decoded of its indexes is what is expected of it
   abbrev Returns : Line → Type 0
-  Returns b = then_some (back lines t b.0) (kept_refs lines t b.0 b.1) ≡ kept_line lines t b.0 b.1
+  Returns b = then_some (back lines t b.0) (kept_refs lines t limit b.0 b.1) ≡ kept_line lines t limit b.0 b.1
 
   shape_back : (s : Option Shape) → AllByRecursion Returns (option_strokes s) →
-      then_some (decoded_shape (λ p. p) arcs) (then_some (prune (λ p. p) (kept_refs lines t)) s) ≡ then_some (prune (λ p. p) (kept_line lines t)) s
+      then_some (decoded_shape (λ p. p) arcs) (then_some (prune (λ p. p) (kept_refs lines t limit)) s) ≡ then_some (prune (λ p. p) (kept_line lines t limit)) s
   shape_back None h = refl
   shape_back (Some s) h = search (rules, composed, agreed)
 
   abbrev with_shape : Featured → Option Shape → Featured
   with_shape f s = record { id = f.id; properties = f.properties; shape = s }
 
-  features_back : (fs : List Featured) → AllByRecursion Returns (features_strokes fs) → map (decoded_feature (λ p. p) arcs) (features_by (kept_refs lines t) fs) ≡ map (expected_feature lines t) fs
+  features_back : (fs : List Featured) → AllByRecursion Returns (features_strokes fs) → map (decoded_feature (λ p. p) arcs) (features_by (kept_refs lines t limit) fs) ≡ map (expected_feature lines t limit) fs
   features_back [] h = refl
   features_back (f ∷ fs) h = search (shape_back, all_left, all_right, features_back fs (all_right Returns (option_strokes f.shape) (features_strokes fs) h))
 
   abbrev LayerReturns : List ℕ × Layer → Type 0
-  LayerReturns l = map (decoded_feature (λ p. p) arcs) (features_by (kept_refs lines t) l.1.features) ≡ map (expected_feature lines t) l.1.features
+  LayerReturns l = map (decoded_feature (λ p. p) arcs) (features_by (kept_refs lines t limit) l.1.features) ≡ map (expected_feature lines t limit) l.1.features
 
   layers_back : (ls : Named) → AllByRecursion Returns (named_strokes ls) → AllByRecursion LayerReturns ls
   layers_back [] h = tt
@@ -85,24 +85,24 @@ abbrev lines_of : Named → List Stroke
 lines_of ls = linework (layers_of ls)
 
 -- the features that are expected of a layer
-abbrev expected_of : Named → ℕ → Layer → List Featured
-expected_of ls t l = map (expected_feature (lines_of ls) t) l.features
+abbrev expected_of : Named → ℕ → ℕ → Layer → List Featured
+expected_of ls t limit l = map (expected_feature (lines_of ls) t limit) l.features
 
-untrimmed_decodes : DirectionLaw → (t : ℕ) (ls : Named) → AreSound ls → AreDistinct (names_of ls) →
-    AllByRecursion (λ l. decoded (untrimmed t ls) l.0 ≡ Some (set.Many (expected_of ls t l.1))) ls
+untrimmed_decodes : DirectionLaw → (t limit : ℕ) (ls : Named) → AreSound ls → AreDistinct (names_of ls) →
+    AllByRecursion (λ l. decoded (untrimmed t limit ls) l.0 ≡ Some (set.Many (expected_of ls t limit l.1))) ls
 unfolding decoded
-untrimmed_decodes law t ls sound distinct =
+untrimmed_decodes law t limit ls sound distinct =
     let lines = lines_of ls in
-    let returns = all_weaker (StandsIn lines) (Returns lines t) (line_back law lines t (own_apart ls sound)) (named_strokes ls) (each_stands ls) in
-    all_two (LayerReturns lines t) (λ l. of_name l.0 (objects_by (kept_refs lines t) ls) ≡ Some (Many (features_by (kept_refs lines t) l.1.features)))
-    (λ l. decoded (untrimmed t ls) l.0 ≡ Some (set.Many (expected_of ls t l.1)))
-    (λ l e n. ap (map_some (decoded_object (λ p. p) (arcs lines t))) n ∙ ap (λ fs. Some (set.Many fs)) e)
-    ls (layers_back lines t ls returns) (by_name (λ y. Many (features_by (kept_refs lines t) y.features)) ls distinct)
+    let returns = all_weaker (StandsIn lines) (Returns lines t limit) (line_back law lines t limit (own_apart ls sound)) (named_strokes ls) (each_stands ls) in
+    all_two (LayerReturns lines t limit) (λ l. of_name l.0 (objects_by (kept_refs lines t limit) ls) ≡ Some (Many (features_by (kept_refs lines t limit) l.1.features)))
+    (λ l. decoded (untrimmed t limit ls) l.0 ≡ Some (set.Many (expected_of ls t limit l.1)))
+    (λ l e n. ap (map_some (decoded_object (λ p. p) (arcs lines t limit))) n ∙ ap (λ fs. Some (set.Many fs)) e)
+    ls (layers_back lines t limit ls returns) (by_name (λ y. Many (features_by (kept_refs lines t limit) y.features)) ls distinct)
 
 -- decoding gives each layer what is expected of it
 pub decodes_back : DirectionLaw → DecodesBack
 unfolding built expected
-decodes_back law t ls sound distinct =
-    all_map (λ l. decoded (built t ls) l.0 ≡ Some (set.Many l.1.features)) (λ l. (l.0, record { features = expected_of ls t l.1 })) ls
-    (all_weaker (λ l. decoded (untrimmed t ls) l.0 ≡ Some (set.Many (expected_of ls t l.1))) (λ l. decoded (built t ls) l.0 ≡ Some (set.Many (expected_of ls t l.1)))
-    (λ l e. trimmed_decodes (untrimmed t ls) l.0 ∙ e) ls (untrimmed_decodes law t ls sound distinct))
+decodes_back law t limit ls sound distinct =
+    all_map (λ l. decoded (built t limit ls) l.0 ≡ Some (set.Many l.1.features)) (λ l. (l.0, record { features = expected_of ls t limit l.1 })) ls
+    (all_weaker (λ l. decoded (untrimmed t limit ls) l.0 ≡ Some (set.Many (expected_of ls t limit l.1))) (λ l. decoded (built t limit ls) l.0 ≡ Some (set.Many (expected_of ls t limit l.1)))
+    (λ l e. trimmed_decodes (untrimmed t limit ls) l.0 ∙ e) ls (untrimmed_decodes law t limit ls sound distinct))

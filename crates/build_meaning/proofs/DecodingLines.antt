@@ -1,5 +1,5 @@
 -- What is decoded of a line's indexes among all arcs, each of which is reduced, is the line rebuilt of its own pieces.
-use Rattle.std.proofs.Common.{rules, ◌≡◌, ℕ, zero, suc, ◌<◌, ◌≤◌, ℤ, pos, negsuc, Bool, false, List, [], ◌∷◌, map, length, append-nil, reverse, Option, None, Some, refl, sym, ap, ◌∙◌, arith, inl, inr}
+use Rattle.std.proofs.Common.{◌≡◌, ℕ, zero, suc, ◌<◌, ◌≤◌, ℤ, pos, negsuc, Bool, false, List, [], ◌∷◌, map, length, append-nil, reverse, Option, None, Some, refl, sym, ap, ◌∙◌, arith, inl, inr}
 use Rattle.std.proofs.lemmas.Bool.Decides.{nat_tests}
 use Rattle.arc_table.specs.Arcs.{arcs_of, index_in}
 use Rattle.arc_table.proofs.Alike.{arcs_unlike, arc_is_piece, piece_has_alike}
@@ -14,9 +14,10 @@ use Rattle.geometry.specs.Points.{Point}
 use Rattle.junctions.specs.Cleaning.{clean_from, clean, is_short}
 use Rattle.junctions.specs.declared.stroke.Stroke.{Stroke}
 use Rattle.topojson_types.specs.Decoding.{filled, completed, decoded_line}
-use Rattle.geometry.specs.Joins.{number_of, at, or_empty, arc_at}
+use Rattle.geometry.specs.declared.address.Cause.{Cause}
+use Rattle.geometry.specs.Joins.{number_of, at, or_empty, arc_at, rejoined}
 use Rattle.build_meaning.specs.Built.{all_arcs, kept_refs}
-use Rattle.build_meaning.specs.Expected.{own_cause, rebuilt, is_small, kept_line}
+use Rattle.build_meaning.specs.Expected.{own_pieces, own_cause, rebuilt, unless, kept_line}
 use Rattle.build_meaning.proofs.Linework.{Line, StandsIn, own_in}
 
 -- ---- an arc that is found again when all are replaced
@@ -59,19 +60,32 @@ clean_shorter p (q ∷ qs) = grind (arith, clean_shorter q qs)
 full : (ps : List Point) → 4 ≤ length ps → filled ps ≡ ps
 full ps h = grind (arith, append-nil)
 
-complete : (closed : Bool) (ps : List Point) → is_small closed ps ≡ false → completed closed ps ≡ ps
+complete : (closed : Bool) (ps : List Point) → is_short closed (clean ps) ≡ false → completed closed ps ≡ ps
 complete closed ps h = grind (arith, full, nat_tests, clean_shorter)
 
 -- ---- lines and rings
 
 -- there is no cause to drop it
-pub no_cause : (lines : List Stroke) (t : ℕ) (b : Line) → own_cause lines t b.0 b.1 ≡ None → (is_short b.0 (clean b.1) ≡ false) × (is_small b.0 (rebuilt lines t b.0 b.1) ≡ false)
-no_cause lines t b h = grind arith
+pub no_cause : (lines : List Stroke) (t limit : ℕ) (b : Line) → own_cause lines t limit b.0 b.1 ≡ None → (is_short b.0 (clean b.1) ≡ false) × (is_short b.0 (clean (rebuilt lines t b.0 b.1)) ≡ false)
+no_cause lines t limit b h = grind arith
 
 -- what is decoded of a line's indexes
 abbrev pub back : List Stroke → ℕ → Bool → List ℤ → Option (List Point)
 back lines t closed refs = Some (decoded_line (map (reduced t) (all_arcs lines)) closed refs)
 
-pub line_back : DirectionLaw → (lines : List Stroke) (t : ℕ) → ((p : List Point) → In p (pieces lines) → Apart (interior p)) → (b : Line) → StandsIn lines b →
-    then_some (back lines t b.0) (kept_refs lines t b.0 b.1) ≡ kept_line lines t b.0 b.1
-line_back law lines t apart b stands = search (rules, no_cause, pieces_back, own_in, same_rejoined, complete)
+-- the same line is left, whether or not there is a cause
+unless_same : {A B : Type 0} (f : A → B) (w : Option Cause) (a : A) (b : B) → (w ≡ None → f a ≡ b) → then_some (λ x. Some (f x)) (unless w a) ≡ unless w b
+unless_same f None a b h = ap Some (h refl)
+unless_same f (Some c) a b h = refl
+
+module _ (law : DirectionLaw) (lines : List Stroke) (t limit : ℕ) (apart : (p : List Point) → In p (pieces lines) → Apart (interior p)) where
+  refs_back : (b : Line) → StandsIn lines b → own_cause lines t limit b.0 b.1 ≡ None
+      → decoded_line (map (reduced t) (all_arcs lines)) b.0 (map (index_in (all_arcs lines)) (own_pieces lines b.0 b.1)) ≡ rebuilt lines t b.0 b.1
+  refs_back b stands e =
+      let cause = no_cause lines t limit b e in
+      ap (λ ps. completed b.0 (rejoined ps)) (pieces_back law t (pieces lines) apart (own_pieces lines b.0 b.1) (own_in lines b stands cause.0))
+      ∙ ap (completed b.0) (same_rejoined (map (reduced t) (own_pieces lines b.0 b.1))) ∙ complete b.0 (rebuilt lines t b.0 b.1) cause.1
+
+  pub line_back : (b : Line) → StandsIn lines b → then_some (back lines t b.0) (kept_refs lines t limit b.0 b.1) ≡ kept_line lines t limit b.0 b.1
+  line_back b stands =
+      unless_same (decoded_line (map (reduced t) (all_arcs lines)) b.0) (own_cause lines t limit b.0 b.1) (map (index_in (all_arcs lines)) (own_pieces lines b.0 b.1)) (rebuilt lines t b.0 b.1) (refs_back b stands)

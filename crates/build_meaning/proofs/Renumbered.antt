@@ -23,13 +23,13 @@ module _ (used : ℕ → Bool) (kept : Kept) where
   objects_once (l ∷ ls) = rw (features_once l.1.features, objects_once ls) refl
 
 -- those of the topology that is built
-abbrev pub kept_in : ℕ → Named → Kept
-kept_in t ls = kept_renumbered (is_used (untrimmed t ls).objects) (kept_refs (linework (layers_of ls)) t)
+abbrev pub kept_in : ℕ → ℕ → Named → Kept
+kept_in t limit ls = kept_renumbered (is_used (untrimmed t limit ls).objects) (kept_refs (linework (layers_of ls)) t limit)
 
-pub built_objects : (t : ℕ) (ls : Named) → (built t ls).objects ≡ objects_by (kept_in t ls) ls
+pub built_objects : (t limit : ℕ) (ls : Named) → (built t limit ls).objects ≡ objects_by (kept_in t limit ls) ls
 unfolding built trimmed
-built_objects t ls = objects_once (is_used (untrimmed t ls).objects) (kept_refs (linework (layers_of ls)) t) ls
+built_objects t limit ls = objects_once (is_used (untrimmed t limit ls).objects) (kept_refs (linework (layers_of ls)) t limit) ls
 
-pub built_has_no_transform : (t : ℕ) (ls : Named) → (built t ls).transform ≡ None
+pub built_has_no_transform : (t limit : ℕ) (ls : Named) → (built t limit ls).transform ≡ None
 unfolding built trimmed
-built_has_no_transform t ls = refl
+built_has_no_transform t limit ls = refl

@@ -106,20 +106,20 @@ module _ (kept : Kept) (X : Bool × List ℤ → Type 0) where
 abbrev pub IsFine : List (List Point) → Bool × List ℤ → Type 0
 IsFine arcs b = AreInRange (length arcs) b.1 × IsJoined arcs b × IsClosed arcs b
 
-module _ (lines : List Stroke) (t : ℕ) where
+module _ (lines : List Stroke) (t limit : ℕ) where
   -- a line without pieces is dropped
-  pub some_kept : (closed : Bool) (l : List Point) (m : List ℤ) → kept_refs lines t closed l ≡ Some m → is_some_list m ≡ true
+  pub some_kept : (closed : Bool) (l : List Point) (m : List ℤ) → kept_refs lines t limit closed l ≡ Some m → is_some_list m ≡ true
   some_kept closed l m e = on closed (own_pieces lines closed l) (is_short closed (clean l)) e
     where
       some : (d : Bool) (x : ℤ) (xs : List ℤ) → unless (if d then Some Small else None) (x ∷ xs) ≡ Some m → is_some_list m ≡ true
       some d x xs h = grind arith
 
       on : (b : Bool) (xs : List (List Point)) (c : Bool)
-          → unless (if c then Some Collapsed else (if is_small b (rejoined (map (reduced t) xs)) then Some Small else None)) (map (index_in (all_arcs lines)) xs) ≡ Some m → is_some_list m ≡ true
+          → unless (if c then Some Collapsed else (if is_small limit b (rejoined (map (reduced t) xs)) then Some Small else None)) (map (index_in (all_arcs lines)) xs) ≡ Some m → is_some_list m ≡ true
       on b xs true h = cc
       on true [] false h = cc
       on false [] false h = cc
-      on b (x ∷ xs) false h = some (is_small b (rejoined (map (reduced t) (x ∷ xs)))) (index_in (all_arcs lines) x) (map (index_in (all_arcs lines)) xs) h
+      on b (x ∷ xs) false h = some (is_small limit b (rejoined (map (reduced t) (x ∷ xs)))) (index_in (all_arcs lines) x) (map (index_in (all_arcs lines)) xs) h
 
   module _ (stay : EndsStay) (cleaned : AllClean lines) where
     abbrev arcs : List (List Point)
@@ -144,12 +144,12 @@ module _ (lines : List Stroke) (t : ℕ) where
     line_fine : (b : Bool × List Point) → (s : Stroke) × In s lines × (plain s ≡ clean_line b) → IsFine fewer (b.0, map (index_in arcs) (own_pieces lines b.0 b.1))
     line_fine b r = subst (λ x. IsFine fewer (x.0, map (index_in arcs) (plain_pieces x))) r.2 (stroke_fine r.0 r.1)
 
-    kept_fine : (b : Bool × List Point) → StandsIn lines b → (m : List ℤ) → kept_refs lines t b.0 b.1 ≡ Some m → IsFine fewer (b.0, m)
+    kept_fine : (b : Bool × List Point) → StandsIn lines b → (m : List ℤ) → kept_refs lines t limit b.0 b.1 ≡ Some m → IsFine fewer (b.0, m)
     kept_fine b stands m e = grind (arith, line_fine b)
 
 -- ---- topologies
 
-module _ (stay : EndsStay) (none : NoneIsNew) (t : ℕ) (ls : Named) (sound : AreSound ls) where
+module _ (stay : EndsStay) (none : NoneIsNew) (t limit : ℕ) (ls : Named) (sound : AreSound ls) where
   abbrev lines : List Stroke
   lines = linework (layers_of ls)
 
@@ -157,7 +157,7 @@ module _ (stay : EndsStay) (none : NoneIsNew) (t : ℕ) (ls : Named) (sound : Ar
   all_fewer = map (reduced t) (all_arcs (linework (layers_of ls)))
 
   abbrev pub objects_of : List (List ℕ × TopoObject)
-  objects_of = objects_by (kept_refs (linework (layers_of ls)) t) ls
+  objects_of = objects_by (kept_refs (linework (layers_of ls)) t limit) ls
 
   abbrev used : ℕ → Bool
   used = is_used objects_of
@@ -173,8 +173,8 @@ module _ (stay : EndsStay) (none : NoneIsNew) (t : ℕ) (ls : Named) (sound : Ar
 
   pub before_fine : AllByRecursion (IsFine all_fewer) (objects_strokes objects_of)
   before_fine =
-      objects_left (kept_refs lines t) (IsFine all_fewer) ls
-      (all_weaker (StandsIn lines) (λ b. (m : List ℤ) → kept_refs lines t b.0 b.1 ≡ Some m → IsFine all_fewer (b.0, m)) (kept_fine lines t stay (all_clean ls sound)) (named_strokes ls) (each_stands ls))
+      objects_left (kept_refs lines t limit) (IsFine all_fewer) ls
+      (all_weaker (StandsIn lines) (λ b. (m : List ℤ) → kept_refs lines t limit b.0 b.1 ≡ Some m → IsFine all_fewer (b.0, m)) (kept_fine lines t limit stay (all_clean ls sound)) (named_strokes ls) (each_stands ls))
 
   still_fine : (b : Bool × List ℤ) → IsFine all_fewer b → AllByRecursion (IsUsed used) b.1 → IsFine left (b.0, map (renumbered used) b.1)
   still_fine b h k = grind (arith, all_below used all_fewer b.1 k h.0, all_renumbered used all_fewer b.1 k)
@@ -184,12 +184,12 @@ module _ (stay : EndsStay) (none : NoneIsNew) (t : ℕ) (ls : Named) (sound : Ar
       of_objects used (IsFine left) objects_of
       (all_two (IsFine all_fewer) (λ b. AllByRecursion (IsUsed used) b.1) (λ b. IsFine left (b.0, map (renumbered used) b.1)) still_fine (objects_strokes objects_of) before_fine (all_used objects_of))
 
-  valid : AreDistinct (names_of ls) → IsTopology (built t ls)
+  valid : AreDistinct (names_of ls) → IsTopology (built t limit ls)
   unfolding built trimmed
   valid distinct = grind (arith, names_stay, objects_are, some_kept, all_kept, fewer_are_arcs, all_weaker, all_fine)
 
 pub is_valid : EndsStay → NoneIsNew → IsValid
-is_valid stay none t ls sound distinct = valid stay none t ls sound distinct
+is_valid stay none t limit ls sound distinct = valid stay none t limit ls sound distinct
 
 pub segments_once : EachSegmentOnce
 segments_once ls sound = once_in_lines (linework (layers_of ls)) (all_clean ls sound)

@@ -37,5 +37,5 @@ module _ (kept : Kept) (some : (closed : Bool) (l : List Point) (m : List ℤ) �
   objects_are [] h = tt
   objects_are (l ∷ ls) h = (features_are l.1.features h.0, objects_are ls h.1)
 
-pub untrimmed_is_valid : EndsStay → NoneIsNew → (t : ℕ) (ls : Named) → AreSound ls → AreDistinct (names_of ls) → IsTopology (untrimmed t ls)
-untrimmed_is_valid stay none t ls sound distinct = grind (arith, before_fine stay none t ls sound, names_are, objects_are, some_kept, fewer_are_arcs stay none t ls sound, all_weaker)
+pub untrimmed_is_valid : EndsStay → NoneIsNew → (t limit : ℕ) (ls : Named) → AreSound ls → AreDistinct (names_of ls) → IsTopology (untrimmed t limit ls)
+untrimmed_is_valid stay none t limit ls sound distinct = grind (arith, before_fine stay none t limit ls sound, names_are, objects_are, some_kept, fewer_are_arcs stay none t limit ls sound, all_weaker)

@@ -1,5 +1,6 @@
--- At a threshold of zero what is expected of a line is the line.
-use Rattle.std.proofs.Common.{◌≡◌, nat_lt, Bool, true, false, cond, List, [], ◌∷◌, map, length, None, Some, refl, ap, ◌∙◌, inl, inr, arith}
+-- At a threshold and a limit of zero what is expected of a line is the line.
+use Rattle.std.proofs.Common.{◌≡◌, ℕ, nat_lt, Bool, true, false, ◌&&◌, ◌||◌, cond, List, [], ◌∷◌, map, length, None, Some, refl, ap, ◌∙◌, inl, inr, arith}
+use Rattle.std.proofs.lemmas.Bool.Decides.{nat_tests}
 use Rattle.cutter.specs.Pieces.{start_in, turned, from_start, rejoined}
 use Rattle.cutter.specs.Places.{In}
 use Rattle.cutter.specs.Slices.{started, split_of, strokes}
@@ -9,6 +10,7 @@ use Rattle.cutter.proofs.Starts.{ring_cut, start_cut, line}
 use Rattle.cutter.proofs.Structured.{clean_in}
 use Rattle.elimination_meaning.specs.Elimination.{reduced}
 use Rattle.elimination_meaning.specs.Laws.{ZeroLaw}
+use Rattle.geometry.specs.Areas.{twice_ring_area}
 use Rattle.geometry.specs.declared.address.Address.{Address}
 use Rattle.geometry.specs.Points.{Point}
 use Rattle.geometry.proofs.Points.{same_is}
@@ -53,23 +55,28 @@ plain_start lines b = cond b.0 (turned (start_in (is_cut lines) b.1) b.1) b.1
 
 -- its pieces, joined again, are the line from its start, which is as long when it is cleaned
 abbrev IsWhole : List Stroke → Line → Type 0
-IsWhole lines b = (rejoined (plain_pieces lines b) ≡ plain_start lines b) × (is_small b.0 (plain_start lines b) ≡ is_short b.0 b.1)
+IsWhole lines b = (rejoined (plain_pieces lines b) ≡ plain_start lines b) × (is_small 0 b.0 (plain_start lines b) ≡ is_short b.0 b.1)
+
+-- nothing is under zero
+none_under : (a c : Bool) (n : ℕ) → (a || (c && nat_lt n 0)) ≡ a
+none_under a c n = grind (arith, nat_tests)
 
 stroke_whole : (lines : List Stroke) (s : Stroke) → AllClean lines → In s lines → IsWhole lines (plain s)
 stroke_whole lines s h k = (
   (stroke_split lines s k (clean_in s lines h k)).joins,
-  ap (is_short s.closed) (clean_stays s.closed (from_start (is_cut lines) s) (start_clean lines s h k))
+  none_under (is_short s.closed (clean (from_start (is_cut lines) s))) s.closed (twice_ring_area (from_start (is_cut lines) s))
+      ∙ ap (is_short s.closed) (clean_stays s.closed (from_start (is_cut lines) s) (start_clean lines s h k))
       ∙ ap (λ n. nat_lt n (cond s.closed 4 2)) (start_length lines s.address s.closed s.positions k (clean_in s lines h k)),
 )
 
--- ---- what is expected at a threshold of zero
+-- ---- what is expected at a threshold and a limit of zero
 
 pub each_stays : ZeroLaw → (xs : List (List Point)) → map (reduced 0) xs ≡ xs
 each_stays zero [] = refl
 each_stays zero (x ∷ xs) = ap (λ y. y ∷ map (reduced 0) xs) (zero x) ∙ ap (λ ys. x ∷ ys) (each_stays zero xs)
 
 line_whole : ZeroLaw → (lines : List Stroke) → AllClean lines → (b : Line) → StandsIn lines b →
-    kept_line lines 0 b.0 b.1 ≡ cond (is_short b.0 (clean b.1)) None (Some (from_start (is_cut lines) (cleaned b.0 b.1)))
+    kept_line lines 0 0 b.0 b.1 ≡ cond (is_short b.0 (clean b.1)) None (Some (from_start (is_cut lines) (cleaned b.0 b.1)))
 line_whole zero lines h b stands = grind (arith, clean_line, stroke_whole, each_stays)
 
 -- nothing is taken out

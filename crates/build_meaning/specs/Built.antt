@@ -17,25 +17,25 @@ abbrev pub all_arcs : List Stroke → List (List Point)
 all_arcs lines = arcs_of (pieces lines)
 
 -- the indexes of a line's pieces among the arcs, unless it is dropped
-abbrev pub kept_refs : List Stroke → ℕ → Bool → List Point → Option (List ℤ)
-kept_refs lines t closed ps = unless (own_cause lines t closed ps) (map (index_in (all_arcs lines)) (own_pieces lines closed ps))
+abbrev pub kept_refs : List Stroke → ℕ → ℕ → Bool → List Point → Option (List ℤ)
+kept_refs lines t limit closed ps = unless (own_cause lines t limit closed ps) (map (index_in (all_arcs lines)) (own_pieces lines closed ps))
 
 -- the layers over all arcs, each arc reduced once as it stands; there is no transform
-abbrev pub untrimmed : ℕ → Named → Contents
-untrimmed t ls =
-    record { objects = objects_by (kept_refs (linework (layers_of ls)) t) ls; arcs = map (reduced t) (all_arcs (linework (layers_of ls))); transform = None }
+abbrev pub untrimmed : ℕ → ℕ → Named → Contents
+untrimmed t limit ls =
+    record { objects = objects_by (kept_refs (linework (layers_of ls)) t limit) ls; arcs = map (reduced t) (all_arcs (linework (layers_of ls))); transform = None }
 
 -- the same without the arcs that no kept line uses
-unfoldable pub built : ℕ → Named → Contents
-built t ls = trimmed (untrimmed t ls)
+unfoldable pub built : ℕ → ℕ → Named → Contents
+built t limit ls = trimmed (untrimmed t limit ls)
 
 -- the arcs of lines that are kept, as they are before they are reduced
-abbrev pub used_arcs : ℕ → Named → List (List Point)
-used_arcs t ls = keep_from (is_used (untrimmed t ls).objects) 0 (all_arcs (linework (layers_of ls)))
+abbrev pub used_arcs : ℕ → ℕ → Named → List (List Point)
+used_arcs t limit ls = keep_from (is_used (untrimmed t limit ls).objects) 0 (all_arcs (linework (layers_of ls)))
 
 abbrev pub positions_of : List (List Point) → ℕ
 positions_of arcs = sum (map length arcs)
 
 -- how many positions reduction takes out of the arcs that stay
-unfoldable pub taken_out : ℕ → Named → ℕ
-taken_out t ls = positions_of (used_arcs t ls) - positions_of (map (reduced t) (used_arcs t ls))
+unfoldable pub taken_out : ℕ → ℕ → Named → ℕ
+taken_out t limit ls = positions_of (used_arcs t limit ls) - positions_of (map (reduced t) (used_arcs t limit ls))

@@ -38,23 +38,23 @@ AreSound ls = AllByRecursion (λ l. AllByRecursion IsSound l.1.features) ls
 
 -- decoding gives each layer the features that are expected of it
 abbrev pub DecodesBack : Type 0
-DecodesBack = (t : ℕ) (ls : Named) → AreSound ls → AreDistinct (names_of ls)
-    → AllByRecursion (λ l. decoded (built t ls) l.0 ≡ Some (set.Many l.1.features)) (expected t ls)
+DecodesBack = (t limit : ℕ) (ls : Named) → AreSound ls → AreDistinct (names_of ls)
+    → AllByRecursion (λ l. decoded (built t limit ls) l.0 ≡ Some (set.Many l.1.features)) (expected t limit ls)
 
 -- the topology is valid
 abbrev pub IsValid : Type 0
-IsValid = (t : ℕ) (ls : Named) → AreSound ls → AreDistinct (names_of ls) → IsTopology (built t ls)
+IsValid = (t limit : ℕ) (ls : Named) → AreSound ls → AreDistinct (names_of ls) → IsTopology (built t limit ls)
 
 -- before reduction and before arcs are left out, each segment of the lines lies once, in exactly one arc
 abbrev pub EachSegmentOnce : Type 0
 EachSegmentOnce = (ls : Named) → AreSound ls → AreOnceIn (all_arcs (linework (layers_of ls))) (line_segments (linework (layers_of ls)))
 
--- what is expected of a line at a threshold of zero: itself with equal neighbours as one position, a ring from its start, unless it
+-- what is expected of a line at a threshold and a limit of zero: itself with equal neighbours as one position, a ring from its start, unless it
 -- has too few positions
 abbrev pub whole_line : Named → Bool → List Point → Option (List Point)
 whole_line ls closed ps = if is_short closed (clean ps) then None else Some (from_start (is_cut (linework (layers_of ls))) (cleaned closed ps))
 
--- so at a threshold of zero nothing is taken out of the lines of the layers
+-- so at a threshold and a limit of zero nothing is taken out of the lines of the layers
 abbrev pub LosesNothing : Type 0
 LosesNothing = (ls : Named) → AreSound ls
-    → AllByRecursion (λ b. kept_line (linework (layers_of ls)) 0 b.0 b.1 ≡ whole_line ls b.0 b.1) (named_strokes ls)
+    → AllByRecursion (λ b. kept_line (linework (layers_of ls)) 0 0 b.0 b.1 ≡ whole_line ls b.0 b.1) (named_strokes ls)

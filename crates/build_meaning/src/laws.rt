@@ -25,7 +25,7 @@ pub fn each_segment_once()
     ensures { EachSegmentOnce }
 {}
 
-/// At a threshold of zero what is expected of a line is the line, with equal neighbours as one position and a ring from its
+/// At a threshold and a limit of zero what is expected of a line is the line, with equal neighbours as one position and a ring from its
 /// start; only what has too few positions is dropped.
 #[tactic(auto, using(crate::proofs::Whole::loses_nothing))]
 pub fn zero_loses_nothing()

@@ -28,6 +28,7 @@ fn steps_of_building(alloc: Global) -> Option<Steps> {
     let options = Options {
         grid: None,
         threshold: THRESHOLD,
+        ring_limit: 0,
         exact: false,
     };
     let mut heap = HeapLinks::new();
@@ -49,6 +50,7 @@ fn steps_of_simplifying(alloc: Global) -> Option<Steps> {
         &mut heap,
         &mut source(TOPOLOGY),
         THRESHOLD,
+        0,
         &mut sink,
     )
     .ok()?;

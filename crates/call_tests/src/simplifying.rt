@@ -77,7 +77,7 @@ fn leaves(alloc: Global, text: &[u8], left: &[u8], ring: usize, taken_out: u64) 
     let Ok(kept) = kept_ends(alloc, &topology) else {
         return false;
     };
-    match topology.reduce(alloc, &kept) {
+    match topology.reduce(alloc, &kept, 0) {
         Ok((less, dropped, out)) => {
             is_text(alloc, &less, left) && is_small_ring(&dropped, ring) && out == taken_out
         }

@@ -1,6 +1,6 @@
 // The commands that take the file of a topology, and their help.
 use crate::commands::{Help, command, with_command};
-use crate::usage::area;
+use crate::usage::{area, ring_area};
 use clap::{Arg, Command};
 use std::alloc::{AllocError, Global};
 
@@ -28,11 +28,12 @@ and the same transform, as one text. Where something is refused it takes nothing
 standard error says what. Else standard error takes a report, with a line each as that
 of 'mapchain build'; 'removed' are positions that were taken out of the arcs that are
 written. An arc is reduced once, so that lines which share it go on sharing it. A line
-or ring that is left with too few positions is dropped as 'small', and a hole whose
-outer ring is dropped as 'outer'.
+or ring that is left with too few positions is dropped as 'small', and so is a ring
+that encloses less than '--min-ring-area'. Any other hole whose outer ring is dropped
+is dropped as 'outer'.
 
-A topology that 'mapchain build' wrote without an area becomes, byte for byte, what
-'mapchain build --min-area A' writes of the same files.",
+A topology that 'mapchain build' wrote without these options becomes, byte for byte,
+what 'mapchain build' writes of the same files with them.",
     after: "Example:
   mapchain simplify --min-area 0.0001 map.topojson > small.topojson",
     after_long: "Example:
@@ -90,6 +91,7 @@ fn file<'a>(alloc: Global) -> Arg<'a> {
 fn simplify<'a>(alloc: Global) -> Result<Command<'a>, AllocError> {
     command(alloc, SIMPLIFY, SIMPLIFY_HELP)
         .arg(area(alloc))?
+        .arg(ring_area(alloc))?
         .arg(file(alloc))
 }
 

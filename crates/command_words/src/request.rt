@@ -4,7 +4,7 @@ ghost use Rattle.command_words.specs.Requests.{HasNames, HasSplits, IsCells, IsG
 
 use crate::file_usage::{FILE, GEO, OBJECT, SIMPLIFY, STAT};
 use crate::layer_words::names_and_paths;
-use crate::usage::{AREA, BUILD, EXACT, GRID, LAYERS, program};
+use crate::usage::{AREA, BUILD, EXACT, GRID, LAYERS, RING_AREA, program};
 use crate::words_fault::WordsFault;
 use clap::error::ErrorKind;
 use clap::{ArgMatches, Command};
@@ -22,11 +22,15 @@ pub enum Request<'a> {
         grid: Option<u32>,
         /// Points are taken out whose triangle is smaller than the area of this text, in square units of the coordinates.
         area: &'a str,
+        /// Rings are left out that enclose less than the area of this text, in the same units.
+        ring_area: &'a str,
     },
     /// What is left of the topology in the file of this path where its lines are reduced.
     Simplify {
         /// Points are taken out whose triangle is smaller than the area of this text, in square units of the coordinates.
         area: &'a str,
+        /// Rings are left out that enclose less than the area of this text, in the same units.
+        ring_area: &'a str,
         path: &'a str,
     },
     /// The features of the object of this name, of the topology in the file of this path.
@@ -57,6 +61,11 @@ fn area_of<'a>(arguments: &ArgMatches<'a>) -> &'a str {
     arguments.get_str(AREA).unwrap_or("0")
 }
 
+/// The least area of a ring that is asked for.
+fn ring_area_of<'a>(arguments: &ArgMatches<'a>) -> &'a str {
+    arguments.get_str(RING_AREA).unwrap_or("0")
+}
+
 /// The path of the file of a topology.
 fn path_of<'a>(arguments: &ArgMatches<'a>) -> &'a str {
     arguments.get_str(FILE).unwrap_or("")
@@ -72,11 +81,13 @@ fn build_request<'a>(alloc: Global, arguments: &ArgMatches<'a>) -> Result<Reques
     let layers = names_and_paths(alloc, arguments.get_strs(LAYERS).unwrap_or(&[]))?;
     let exact = arguments.get_flag(EXACT);
     let area = area_of(arguments);
+    let ring_area = ring_area_of(arguments);
     Ok(Request::Build {
         layers,
         exact,
         grid,
         area,
+        ring_area,
     })
 }
 
@@ -88,8 +99,13 @@ fn file_request<'a>(matches: &ArgMatches<'a>) -> Option<Request<'a>>
 {
     if let Some(arguments) = matches.subcommand_matches(SIMPLIFY) {
         let area = area_of(arguments);
+        let ring_area = ring_area_of(arguments);
         let path = path_of(arguments);
-        return Some(Request::Simplify { area, path });
+        return Some(Request::Simplify {
+            area,
+            ring_area,
+            path,
+        });
     }
     if let Some(arguments) = matches.subcommand_matches(GEO) {
         let name = arguments.get_str(OBJECT).unwrap_or("");

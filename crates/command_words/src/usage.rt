@@ -17,6 +17,9 @@ pub(crate) const GRID: &str = "grid";
 /// The option of `build` and `simplify` that takes points out of lines.
 pub(crate) const AREA: &str = "min-area";
 
+/// The option of `build` and `simplify` that leaves out small rings.
+pub(crate) const RING_AREA: &str = "min-ring-area";
+
 /// The option of `build` that refuses coordinates that would have to be rounded.
 pub(crate) const EXACT: &str = "exact";
 
@@ -42,8 +45,9 @@ const BUILD_HELP: Help = Help {
     long_about: "Build a topology from GeoJSON files.
 
 Each file (RFC 7946) is a layer of the map. Standard output takes the topology
-(TopoJSON 1.0) as one text. Where something is refused it takes nothing, and standard
-error says what. Else standard error takes a report, with a line each:
+(TopoJSON 1.0) as one text, with its 'bbox', the bounds of all its positions. Where
+something is refused it takes nothing, and standard error says what. Else standard
+error takes a report, with a line each:
   rounded  coordinates that were rounded to nine decimal places
   extra    positions with more than x and y, as a height: the rest is left out
   empty    empty arrays in the place of coordinates
@@ -55,8 +59,9 @@ error says what. Else standard error takes a report, with a line each:
 A border that lines and rings share, be it between layers, is one arc. Positions that
 are equal and follow each other count as one. A line that is left with one position,
 or a ring with fewer than four, is dropped as 'collapsed', or as 'small' where that is
-so only because points were taken out. Any other hole whose outer ring is dropped is
-dropped as 'outer'.",
+so only because points were taken out. A ring that encloses less than '--min-ring-area'
+is dropped as 'small', too. Any other hole whose outer ring is dropped is dropped as
+'outer'.",
     after: "Example:
   mapchain build coast=coast.json rivers=rivers.json > map.topojson",
     after_long: "Example:
@@ -85,6 +90,15 @@ neighbours, the least first. A is in square units of the coordinates, from 0 to
 10^18, with at most 18 decimal places. Without this option it is 0, and no point
 is taken out. A shared border is reduced once, so it stays shared. Lines may
 cross afterwards: that isn't checked";
+
+const RING_AREA_HELP: &str = "Leave out rings that enclose less than the area B";
+
+const RING_AREA_LONG_HELP: &str =
+    "Leave out rings that enclose less than B once points were taken out: small islands
+and lakes. B is in square units of the coordinates, from 0 to 10^18, with at most
+18 decimal places. Without this option it is 0, and no ring is left out for its
+area. Each ring counts by itself: the area of a hole isn't taken off that of the
+ring around it. Lines that are no rings stay, also those that close";
 
 const EXACT_HELP: &str = "Refuse coordinates that would have to be rounded";
 
@@ -128,6 +142,16 @@ pub(crate) fn area<'a>(alloc: Global) -> Arg<'a> {
         .long_help(AREA_LONG_HELP)
 }
 
+/// The option that leaves out small rings. It takes any text, as that of the area does.
+pub(crate) fn ring_area<'a>(alloc: Global) -> Arg<'a> {
+    Arg::new(alloc, RING_AREA)
+        .long("min-ring-area")
+        .value_name("B")
+        .allow_hyphen_values(true)
+        .help(RING_AREA_HELP)
+        .long_help(RING_AREA_LONG_HELP)
+}
+
 /// The option of `build` that refuses coordinates that would have to be rounded.
 fn exact<'a>(alloc: Global) -> Arg<'a> {
     Arg::new(alloc, EXACT)
@@ -152,6 +176,7 @@ fn build<'a>(alloc: Global) -> Result<Command<'a>, AllocError> {
     command(alloc, BUILD, BUILD_HELP)
         .arg(grid(alloc))?
         .arg(area(alloc))?
+        .arg(ring_area(alloc))?
         .arg(exact(alloc))?
         .arg(layers(alloc))
 }

@@ -1,19 +1,16 @@
 -- The sum over a ring's positions, carried.
-use Rattle.std.proofs.Common.{◌≡◌, ℕ, zero, suc, ◌+◌, ◌*◌, ◌<◌, ◌≤◌, ℤ, pos, ◌+ℤ◌, ◌-ℤ◌, ◌*ℤ◌, List, [], ◌∷◌, drop, length, get_or, FitsSigned, to_z, of_z, refl, ap, ◌∙◌, arith}
+use Rattle.std.proofs.Common.{◌≡◌, ℕ, zero, suc, ◌+◌, ◌*◌, ◌<◌, ◌≤◌, ◌^◌, ℤ, pos, ◌+ℤ◌, ◌-ℤ◌, ◌*ℤ◌, List, [], ◌∷◌, Option, None, Some, drop, length, get_or, FitsSigned, to_z, of_z, refl, ap, ◌∙◌, arith}
+use Rattle.std.proofs.lemmas.List.{drop_all}
 use Rattle.std.proofs.lemmas.Int.{ints, to_z-of_z, fits_signed_from_abs}
 use Rattle.std.specs.Prelude.{unsigned_abs}
-use Rattle.geometry.specs.Areas.{turn, shoelace}
+use Rattle.geometry.specs.Areas.{turn, shoelace, turn_behind, sum_behind, most_turned, sum_limit}
 use Rattle.geometry.specs.Points.{Point}
 use Rattle.list_laws.proofs.Lists.{drop_here}
 use Rattle.geometry.specs.Units.{position_limit, area_limit}
 use mir.Syntax.{w128, Width}
 
--- the most that a position adds
-abbrev pub most : ℕ
-most = 2 * position_limit * position_limit
-
 -- two products of coordinates
-pub products_apart : (a b : ℤ) → unsigned_abs a ≤ position_limit * position_limit → unsigned_abs b ≤ position_limit * position_limit → unsigned_abs (a -ℤ b) ≤ most
+pub products_apart : (a b : ℤ) → unsigned_abs a ≤ position_limit * position_limit → unsigned_abs b ≤ position_limit * position_limit → unsigned_abs (a -ℤ b) ≤ most_turned
 products_apart a b p q = omega (arith, ints)
 
 -- a difference through the bits of its parts
@@ -31,45 +28,49 @@ both f a b x y r p q e = e ∙ ap (λ z. f z b) p ∙ ap (f x) q
 
 -- ---- the walk
 
--- the next position adds its part
-pub step_on : (last p : Point) (others : List Point) (i : ℕ) → i < length others → p ≡ get_or others i p → shoelace (last ∷ drop i others) ≡ turn last p +ℤ shoelace (p ∷ drop (i + 1) others)
-unfolding shoelace
-step_on last p others i lt is = ap (λ r. shoelace (last ∷ r)) (drop_here others i p lt is)
-
 -- so many times what the sum is carried by, and a rest
 abbrev pub sum_of : ℤ → ℤ → ℤ
 sum_of whole rest = whole *ℤ pos area_limit +ℤ rest
 
--- what the sum is in the end stays
-pub sum_stays : (whole rest more kept t s after all : ℤ) → sum_of more kept ≡ sum_of whole (rest +ℤ t) → s ≡ t +ℤ after → sum_of whole rest +ℤ s ≡ all → sum_of more kept +ℤ after ≡ all
-sum_stays whole rest more kept t s after all e f g = omega (arith, ints, e, f, g)
-
--- it rises by no more than that for each position
-pub bound_on : (whole rest more kept t : ℤ) (i : ℕ) → sum_of more kept ≡ sum_of whole (rest +ℤ t) → unsigned_abs t ≤ most → unsigned_abs (sum_of whole rest) ≤ i * most → unsigned_abs (sum_of more kept) ≤ (i + 1) * most
-bound_on whole rest more kept t i e h b = omega (arith, ints, e, h, b)
-
 -- a part added through the bits
-pub added : (rest t : ℤ) → unsigned_abs rest < area_limit → unsigned_abs t ≤ most → to_z w128 (of_z w128 (rest +ℤ to_z w128 (of_z w128 t))) ≡ rest +ℤ t
+pub added : (rest t : ℤ) → unsigned_abs rest < area_limit → unsigned_abs t ≤ most_turned → to_z w128 (of_z w128 (rest +ℤ to_z w128 (of_z w128 t))) ≡ rest +ℤ t
 added rest t h k =
     ap (λ z. to_z w128 (of_z w128 (rest +ℤ z))) (to_z-of_z w128 t (fits_signed_from_abs w128 t (omega (arith, k))))
     ∙ to_z-of_z w128 (rest +ℤ t) (fits_signed_from_abs w128 (rest +ℤ t) (omega (arith, ints, h, k)))
 
--- so what it is carried by fits 64 bits
-pub whole_fits : (whole rest : ℤ) (i : ℕ) → unsigned_abs (sum_of whole rest) ≤ i * most → unsigned_abs rest < area_limit → i < 20000000000000000000 → unsigned_abs whole < 9000000000000000000
-whole_fits whole rest i b r less = omega (arith, ints, b, r, less)
+-- what the sum is carried by stays within 128 bits
+pub whole_fits : (whole rest : ℤ) → unsigned_abs (sum_of whole rest) ≤ sum_limit → unsigned_abs rest < area_limit → unsigned_abs whole < 2 ^ 126
+whole_fits whole rest b r = omega (arith, ints, b, r)
 
-pub empty_is : (ps : List Point) → length ps ≡ 0 → shoelace ps ≡ pos 0
+-- a part is added to the sum
+pub sum_more : (whole rest more kept t : ℤ) → sum_of more kept ≡ sum_of whole (rest +ℤ t) → sum_of more kept ≡ sum_of whole rest +ℤ t
+sum_more whole rest more kept t e = omega (arith, ints, e)
+
+pub bound_more : (s t new : ℤ) → new ≡ s +ℤ t → unsigned_abs t ≤ most_turned → unsigned_abs new ≤ unsigned_abs s + most_turned
+bound_more s t new e h = omega (arith, ints, e, h)
+
+-- ---- lists
+
+-- the next position adds its part
+pub one_behind : (last : Option Point) (p : Point) (ps : List Point) → sum_behind last (p ∷ ps) ≡ turn_behind last p +ℤ sum_behind (Some p) ps
 unfolding shoelace
-empty_is [] e = refl
-empty_is (p ∷ ps) e = absurd (omega (arith, e))
-
-past_end : (ps : List Point) (i : ℕ) → length ps ≤ i → drop i ps ≡ []
-past_end [] zero h = refl
-past_end [] (suc i) h = refl
-past_end (p ∷ ps) zero h = absurd (omega (arith, h))
-past_end (p ∷ ps) (suc i) h = past_end ps i (omega (arith, h))
+one_behind None p ps = omega (arith, ints)
+one_behind (Some q) p ps = refl
 
 -- behind the last position nothing is added
-pub at_end : (last : Point) (others : List Point) (i : ℕ) → length others ≤ i → shoelace (last ∷ drop i others) ≡ pos 0
+pub none_behind : (last : Option Point) → sum_behind last [] ≡ pos 0
 unfolding shoelace
-at_end last others i h = ap (λ r. shoelace (last ∷ r)) (past_end others i h)
+none_behind None = refl
+none_behind (Some q) = refl
+
+-- what the sum is in the end stays
+pub sum_stays : (last : Option Point) (p : Point) (ps : List Point) (i : ℕ) (s all : ℤ) → i < length ps → p ≡ get_or ps i p → s +ℤ sum_behind last (drop i ps) ≡ all
+    → (s +ℤ turn_behind last p) +ℤ sum_behind (Some p) (drop (i + 1) ps) ≡ all
+sum_stays last p ps i s all lt is e =
+    let here : sum_behind last (drop i ps) ≡ turn_behind last p +ℤ sum_behind (Some p) (drop (i + 1) ps) = ap (sum_behind last) (drop_here ps i p lt is) ∙ one_behind last p (drop (i + 1) ps) in
+    omega (arith, ints, here, e)
+
+pub sum_ends : (last : Option Point) (ps : List Point) (i : ℕ) (s all : ℤ) → length ps ≤ i → s +ℤ sum_behind last (drop i ps) ≡ all → s ≡ all
+sum_ends last ps i s all le e =
+    let none : sum_behind last (drop i ps) ≡ pos 0 = ap (sum_behind last) (drop_all i ps le) ∙ none_behind last in
+    omega (arith, ints, none, e)

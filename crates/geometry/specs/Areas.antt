@@ -1,6 +1,7 @@
 -- Signed products of positions, the triangle between three of them, and the area of a ring.
-use Rattle.std.specs.Prelude.{ℕ, ℤ, pos, ◌+ℤ◌, ◌-ℤ◌, ◌*ℤ◌, unsigned_abs, List, [], ◌∷◌}
+use Rattle.std.specs.Prelude.{ℕ, ◌*◌, ◌^◌, ℤ, pos, ◌+ℤ◌, ◌-ℤ◌, ◌*ℤ◌, unsigned_abs, List, [], ◌∷◌, Option, None, Some}
 use Rattle.geometry.specs.Points.{Point}
+use Rattle.geometry.specs.Units.{position_limit}
 
 -- the cross product of the ways from the first position to the others: over zero where they turn left, and under it where
 -- they turn right
@@ -26,3 +27,32 @@ shoelace (p ∷ (q ∷ ps)) = turn p q +ℤ shoelace (q ∷ ps)
 -- twice the area of a ring
 abbrev pub twice_ring_area : List Point → ℕ
 twice_ring_area ps = unsigned_abs (shoelace ps)
+
+-- ---- a ring whose positions are passed one after the other
+
+-- the last that was passed, and the sum so far
+pub record Passed : Type 0 where
+  pub last : Option Point
+  pub sum : ℤ
+
+-- what a position adds behind the last one
+abbrev pub turn_behind : Option Point → Point → ℤ
+turn_behind None p = pos 0
+turn_behind (Some q) p = turn q p
+
+-- one more is passed
+abbrev pub passed : Passed → Point → Passed
+passed s p = record { last = Some p; sum = s.sum +ℤ turn_behind s.last p }
+
+-- what these positions add behind the last one
+abbrev pub sum_behind : Option Point → List Point → ℤ
+sum_behind None ps = shoelace ps
+sum_behind (Some q) ps = shoelace (q ∷ ps)
+
+-- the most that one of them adds
+abbrev pub most_turned : ℕ
+most_turned = 2 * position_limit * position_limit
+
+-- so far from zero is no sum over fewer than 2^128 positions
+abbrev pub sum_limit : ℕ
+sum_limit = 2 ^ 128 * most_turned

@@ -1,10 +1,12 @@
 // The area of a ring.
-ghost use Rattle.std.specs.Prelude.{◌≡◌, ◌+◌, ◌*◌, ◌<◌, ◌≤◌, ◌+ℤ◌, ◌*ℤ◌, nat_lt, pos, unsigned_abs};
+ghost use Rattle.std.specs.Prelude.{◌≡◌, ◌+◌, ◌*◌, ◌<◌, ◌≤◌, ◌^◌, ◌+ℤ◌, ◌*ℤ◌, None, nat_lt, pos, unsigned_abs};
 ghost use Rattle.geometry.specs.Areas as spec;
+ghost use Rattle.geometry.specs.Areas.{sum_limit};
 ghost use Rattle.geometry.specs.Units.{area_limit, position_limit, threshold_limit};
 
 use crate::position::Position;
 use crate::units::AREA_LIMIT;
+use std::marker::Model;
 
 /// What the sum is carried by.
 const CARRY: i128 = AREA_LIMIT as i128;
@@ -22,7 +24,7 @@ fn product(a: i64, b: i64) -> i128
 /// What a position and the next add to the sum.
 fn turn(p: Position, q: Position) -> i128
     ensures value { result ≡ spec.turn p q }
-    ensures bound { unsigned_abs result ≤ 2 * position_limit * position_limit }
+    ensures bound { unsigned_abs result ≤ spec.most_turned }
 {
     let left = product(p.x(), q.y());
     let right = product(q.x(), p.y());
@@ -30,8 +32,8 @@ fn turn(p: Position, q: Position) -> i128
 }
 
 /// The sum of so many times what it is carried by and a rest, with a rest of less than once that.
-fn carried(whole: i64, rest: i128) -> (i64, i128)
-    requires whole { unsigned_abs whole < 9_000_000_000_000_000_000 }
+fn carried(whole: i128, rest: i128) -> (i128, i128)
+    requires whole { unsigned_abs whole < 2 ^ 126 }
     requires rest { unsigned_abs rest < 2 * area_limit }
     ensures value { result.0 *ℤ pos area_limit +ℤ result.1 ≡ whole *ℤ pos area_limit +ℤ rest }
     ensures whole { unsigned_abs result.0 ≤ unsigned_abs whole + 1 }
@@ -46,8 +48,23 @@ fn carried(whole: i64, rest: i128) -> (i64, i128)
     }
 }
 
+/// The sum of so many times what it is carried by and a rest, with what a position adds behind the last one.
+fn with_turn(last: Option<Position>, position: Position, whole: i128, rest: i128) -> (i128, i128)
+    requires sum { unsigned_abs (whole *ℤ pos area_limit +ℤ rest) ≤ sum_limit }
+    requires rest { unsigned_abs rest < area_limit }
+    ensures value { result.0 *ℤ pos area_limit +ℤ result.1 ≡ (whole *ℤ pos area_limit +ℤ rest) +ℤ spec.turn_behind last position }
+    ensures bound { unsigned_abs (result.0 *ℤ pos area_limit +ℤ result.1)
+        ≤ unsigned_abs (whole *ℤ pos area_limit +ℤ rest) + spec.most_turned }
+    ensures rest { unsigned_abs result.1 < area_limit }
+{
+    match last {
+        None => (whole, rest),
+        Some(last) => carried(whole, rest + turn(last, position)),
+    }
+}
+
 /// Whether a sum is closer to zero than the limit.
-fn is_closer(whole: i64, rest: i128, limit: u128) -> bool
+fn is_closer(whole: i128, rest: i128, limit: u128) -> bool
     requires rest { unsigned_abs rest < area_limit }
     requires limit { limit ≤ threshold_limit }
     ensures { result ≡ nat_lt (unsigned_abs (whole *ℤ pos area_limit +ℤ rest)) limit }
@@ -55,24 +72,74 @@ fn is_closer(whole: i64, rest: i128, limit: u128) -> bool
     if whole < -2 || 2 < whole {
         return false;
     }
-    let sum = whole as i128 * CARRY + rest;
+    let sum = whole * CARRY + rest;
     sum.unsigned_abs() < limit
 }
 
-/// Whether twice the area of a ring, in square units, is under the limit. The sum over its positions may pass 128 bits: it is carried.
+/// What the positions of a ring that were passed one after the other add up to: once all were, twice its signed area in square units. As
+/// that may pass 128 bits, it is carried.
+#[derive(Drop)]
+pub struct RingSum {
+    last: Option<Position>,
+    whole: i128,
+    rest: i128,
+}
+
+impl Model for RingSum {
+    ghost use Rattle.std.specs.Prelude.{◌+ℤ◌, ◌*ℤ◌, ◌<◌, pos, unsigned_abs};
+    ghost use Rattle.geometry.specs.Areas.{Passed};
+    ghost use Rattle.geometry.specs.Units.{area_limit};
+
+    ghost Value = { Passed };
+
+    ghost view = { λ s. record { last = s.last; sum = s.whole *ℤ pos area_limit +ℤ s.rest } };
+
+    ghost invariant = { λ s. unsigned_abs s.rest < area_limit };
+}
+
+impl RingSum {
+    /// Before any position is passed.
+    pub fn new() -> RingSum
+        ensures { result ≡ record { last = None; sum = pos 0 } }
+    {
+        RingSum {
+            last: None,
+            whole: 0,
+            rest: 0,
+        }
+    }
+
+    /// Passes one.
+    pub fn pass(&mut self, position: Position)
+        requires { unsigned_abs self.old.sum ≤ sum_limit }
+        ensures passed { self.new ≡ spec.passed self.old position }
+        ensures bound { unsigned_abs self.new.sum ≤ unsigned_abs self.old.sum + spec.most_turned }
+    {
+        let (whole, rest) = with_turn(self.last, position, self.whole, self.rest);
+        *self = RingSum {
+            last: Some(position),
+            whole,
+            rest,
+        };
+    }
+
+    /// Whether the sum is closer to zero than the limit.
+    pub fn is_under(&self, limit: u128) -> bool
+        requires { limit ≤ threshold_limit }
+        ensures { result ≡ nat_lt (unsigned_abs self.now.sum) limit }
+    {
+        is_closer(self.whole, self.rest, limit)
+    }
+}
+
+/// Whether twice the area of a ring, in square units, is under the limit. This takes no memory.
 pub fn ring_under(ring: &[Position], limit: u128) -> bool
     requires { limit ≤ threshold_limit }
     ensures { result ≡ nat_lt (spec.twice_ring_area ring.now) limit }
 {
-    let Some((first, others)) = ring.split_first() else {
-        return 0 < limit;
-    };
-    let mut last = *first;
-    let mut whole: i64 = 0;
-    let mut rest: i128 = 0;
-    'positions: for position in others {
-        (whole, rest) = carried(whole, rest + turn(last, *position));
-        last = *position;
+    let mut sum = RingSum::new();
+    'positions: for position in ring {
+        sum.pass(*position);
     }
-    is_closer(whole, rest, limit)
+    sum.is_under(limit)
 }

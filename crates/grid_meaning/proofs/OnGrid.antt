@@ -58,16 +58,16 @@ gridded_decodes (Some g) y name grid plain on = search (rules, celled_decodes, e
 -- ---- what is built
 
 pub built_on : NoneIsNew → BuiltCellsAreOn
-built_on none g t ls on = built_cells none (IsOn g) t ls on.1
+built_on none g t limit ls on = built_cells none (IsOn g) t limit ls on.1
 
 pub built_valid : IsValid → BuiltIsValidOnGrid → BuiltIsValidGridded
-built_valid valid celled None t ls on sound distinct = valid t ls sound distinct
-built_valid valid celled (Some g) t ls on sound distinct = grind (arith, has_transform, all_placed)
+built_valid valid celled None t limit ls on sound distinct = valid t limit ls sound distinct
+built_valid valid celled (Some g) t limit ls on sound distinct = grind (arith, has_transform, all_placed)
 
 pub built_decodes : DecodesBack → DecodesBackOnGrid → BuiltDecodesGridded
-built_decodes back celled None t ls on sound distinct = back t ls sound distinct
-built_decodes back celled (Some g) t ls on sound distinct = celled (transform_of g) (cell g) t ls sound distinct (all_lie g on.0 (named_points ls) on.1)
+built_decodes back celled None t limit ls on sound distinct = back t limit ls sound distinct
+built_decodes back celled (Some g) t limit ls on sound distinct = celled (transform_of g) (cell g) t limit ls sound distinct (all_lie g on.0 (named_points ls) on.1)
 
 pub lessens : LessensToBuilt → LessensToBuiltOnGrid → LessensGridded
-lessens plain celled None t ls on sound = plain t ls sound
-lessens plain celled (Some g) t ls on sound = celled (transform_of g) (cell g) t ls sound (all_lie g on.0 (named_points ls) on.1)
+lessens plain celled None t limit ls on sound = plain t limit ls sound
+lessens plain celled (Some g) t limit ls on sound = celled (transform_of g) (cell g) t limit ls sound (all_lie g on.0 (named_points ls) on.1)

@@ -112,7 +112,7 @@ two_snapped =
     ap (λ s. layer s (moved (snapped two) (g.Line short))) ((moved_at (snapped two)).line long)
     ∙ ap (λ s. layer (g.Line long) s) ((moved_at (snapped two)).line short)
 
-two_dropped : own_cause (cleaned false long ∷ []) 0 false (at 0 5000000000 ∷ (at 0 5000000000 ∷ [])) ≡ Some Collapsed
+two_dropped : own_cause (cleaned false long ∷ []) 0 0 false (at 0 5000000000 ∷ (at 0 5000000000 ∷ [])) ≡ Some Collapsed
 unfolding same
 two_dropped = refl
 

@@ -80,17 +80,17 @@ GriddedKeeps = (g : Option Axes) (y : Contents) → Keeps y (gridded g y)
 
 -- each of its positions lies on the grid
 abbrev pub BuiltCellsAreOn : Type 0
-BuiltCellsAreOn = (g : Option Axes) (t : ℕ) (ls : Named) → AreOn g ls → EachCell (IsOn g) (built t ls)
+BuiltCellsAreOn = (g : Option Axes) (t limit : ℕ) (ls : Named) → AreOn g ls → EachCell (IsOn g) (built t limit ls)
 
 -- on the grid it is valid
 abbrev pub BuiltIsValidGridded : Type 0
-BuiltIsValidGridded = (g : Option Axes) (t : ℕ) (ls : Named) → AreOn g ls → AreSound ls → AreDistinct (names_of ls) → IsTopology (gridded g (built t ls))
+BuiltIsValidGridded = (g : Option Axes) (t limit : ℕ) (ls : Named) → AreOn g ls → AreSound ls → AreDistinct (names_of ls) → IsTopology (gridded g (built t limit ls))
 
 -- decoding gives each layer the features that are expected of it
 abbrev pub BuiltDecodesGridded : Type 0
-BuiltDecodesGridded = (g : Option Axes) (t : ℕ) (ls : Named) → AreOn g ls → AreSound ls → AreDistinct (names_of ls)
-    → AllByRecursion (λ l. decoded (gridded g (built t ls)) l.0 ≡ Some (set.Many l.1.features)) (expected t ls)
+BuiltDecodesGridded = (g : Option Axes) (t limit : ℕ) (ls : Named) → AreOn g ls → AreSound ls → AreDistinct (names_of ls)
+    → AllByRecursion (λ l. decoded (gridded g (built t limit ls)) l.0 ≡ Some (set.Many l.1.features)) (expected t limit ls)
 
--- what is built at zero and then reduced on the grid is what is built at the threshold
+-- what is built at a threshold and a limit of zero and then reduced by both on the grid is what is built by both
 abbrev pub LessensGridded : Type 0
-LessensGridded = (g : Option Axes) (t : ℕ) (ls : Named) → AreOn g ls → AreSound ls → lessened t (gridded g (built 0 ls)) ≡ gridded g (built t ls)
+LessensGridded = (g : Option Axes) (t limit : ℕ) (ls : Named) → AreOn g ls → AreSound ls → lessened t limit (gridded g (built 0 0 ls)) ≡ gridded g (built t limit ls)

@@ -55,8 +55,8 @@ pub fn built_decodes_gridded()
     built_decodes_back_on_grid();
 }
 
-/// What is built of such layers at a threshold of zero, put on the grid and then reduced, is what is built at the threshold, put on
-/// the grid.
+/// What is built of such layers at a threshold and a limit of zero, put on the grid and then reduced by both, is what is built by both,
+/// put on the grid.
 pub fn lessens_gridded()
     ensures { LessensGridded }
 {

@@ -43,16 +43,16 @@ module _ (kept : Kept) where
   names_kept [] = refl
   names_kept (l ∷ ls) = ap (λ ns. l.0 ∷ ns) (names_kept ls)
 
-pub built_numbers : (t : ℕ) (ls : Named) → EachFeature FeatureHasNumbers ls → AllByRecursion bounds.FeatureHasNumbers (bounds.objects_features (built t ls).objects)
-built_numbers t ls h = subst (λ os. AllByRecursion bounds.FeatureHasNumbers (bounds.objects_features os)) (sym (built_objects t ls))
-    (objects_stay (kept_in t ls) FeatureHasNumbers bounds.FeatureHasNumbers (λ f s k. k) ls h)
+pub built_numbers : (t limit : ℕ) (ls : Named) → EachFeature FeatureHasNumbers ls → AllByRecursion bounds.FeatureHasNumbers (bounds.objects_features (built t limit ls).objects)
+built_numbers t limit ls h = subst (λ os. AllByRecursion bounds.FeatureHasNumbers (bounds.objects_features os)) (sym (built_objects t limit ls))
+    (objects_stay (kept_in t limit ls) FeatureHasNumbers bounds.FeatureHasNumbers (λ f s k. k) ls h)
 
-pub built_texts : (t : ℕ) (ls : Named) → EachFeature FeatureHasTexts ls → AllByRecursion texts.FeatureHasTexts (bounds.objects_features (built t ls).objects)
-built_texts t ls h = subst (λ os. AllByRecursion texts.FeatureHasTexts (bounds.objects_features os)) (sym (built_objects t ls))
-    (objects_stay (kept_in t ls) FeatureHasTexts texts.FeatureHasTexts (λ f s k. k) ls h)
+pub built_texts : (t limit : ℕ) (ls : Named) → EachFeature FeatureHasTexts ls → AllByRecursion texts.FeatureHasTexts (bounds.objects_features (built t limit ls).objects)
+built_texts t limit ls h = subst (λ os. AllByRecursion texts.FeatureHasTexts (bounds.objects_features os)) (sym (built_objects t limit ls))
+    (objects_stay (kept_in t limit ls) FeatureHasTexts texts.FeatureHasTexts (λ f s k. k) ls h)
 
-pub built_nests : (t n : ℕ) (ls : Named) → EachFeature (λ f. feature_nesting f ≤ n) ls → AllByRecursion (λ f. bounds.feature_nesting f ≤ n) (bounds.objects_features (built t ls).objects)
-built_nests t n ls h = subst (λ os. AllByRecursion (λ f. bounds.feature_nesting f ≤ n) (bounds.objects_features os)) (sym (built_objects t ls)) (objects_nest (kept_in t ls) n ls h)
+pub built_nests : (t limit n : ℕ) (ls : Named) → EachFeature (λ f. feature_nesting f ≤ n) ls → AllByRecursion (λ f. bounds.feature_nesting f ≤ n) (bounds.objects_features (built t limit ls).objects)
+built_nests t limit n ls h = subst (λ os. AllByRecursion (λ f. bounds.feature_nesting f ≤ n) (bounds.objects_features os)) (sym (built_objects t limit ls)) (objects_nest (kept_in t limit ls) n ls h)
 
-pub built_names : (t : ℕ) (ls : Named) → map (λ o. o.0) (built t ls).objects ≡ names_of ls
-built_names t ls = ap (map (λ (o : List ℕ × TopoObject). o.0)) (built_objects t ls) ∙ names_kept (kept_in t ls) ls
+pub built_names : (t limit : ℕ) (ls : Named) → map (λ o. o.0) (built t limit ls).objects ≡ names_of ls
+built_names t limit ls = ap (map (λ (o : List ℕ × TopoObject). o.0)) (built_objects t limit ls) ∙ names_kept (kept_in t limit ls) ls

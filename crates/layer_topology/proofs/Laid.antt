@@ -27,60 +27,60 @@ names_distinct on count ls h = subst AreDistinct (sym (snapped on count ls h).na
 
 pub valid : grid.SnappedAreOn → grid.BuiltIsValidGridded → IsValid
 unfolding written
-valid on is count t ls h = let s = snapped on count ls h in is (named_grid count ls) t (snapped_to count ls) s.on s.sound (names_distinct on count ls h)
+valid on is count t limit ls h = let s = snapped on count ls h in is (named_grid count ls) t limit (snapped_to count ls) s.on s.sound (names_distinct on count ls h)
 
 pub names : grid.SnappedAreOn → grid.GriddedKeeps → HasNames
 unfolding written
-names on keeps count t ls h =
+names on keeps count t limit ls h =
     let g = named_grid count ls in
-    (keeps g (built t (snapped_to count ls))).names ∙ (built_names t (snapped_to count ls) ∙ (snapped on count ls h).names)
+    (keeps g (built t limit (snapped_to count ls))).names ∙ (built_names t limit (snapped_to count ls) ∙ (snapped on count ls h).names)
 
 pub back : grid.SnappedAreOn → grid.BuiltDecodesGridded → DecodesBack
 unfolding written
-back on decodes count t ls h = let s = snapped on count ls h in decodes (named_grid count ls) t (snapped_to count ls) s.on s.sound (names_distinct on count ls h)
+back on decodes count t limit ls h = let s = snapped on count ls h in decodes (named_grid count ls) t limit (snapped_to count ls) s.on s.sound (names_distinct on count ls h)
 
 pub once : grid.SnappedAreOn → build.EachSegmentOnce → EachSegmentOnce
 once on segments count ls h = segments (snapped_to count ls) (snapped on count ls h).sound
 
 pub lessens : grid.SnappedAreOn → grid.LessensGridded → LessensToWritten
 unfolding written
-lessens on less count t ls h = let s = snapped on count ls h in less (named_grid count ls) t (snapped_to count ls) s.on s.sound
+lessens on less count t limit ls h = let s = snapped on count ls h in less (named_grid count ls) t limit (snapped_to count ls) s.on s.sound
 
 pub nests : grid.SnappedKeep → grid.GriddedKeeps → NestsNoDeeper
 unfolding written
-nests layers keeps count t n ls h =
+nests layers keeps count t limit n ls h =
     let g = named_grid count ls in
-    (keeps g (built t (snapped_to count ls))).nests n (built_nests t n (snapped_to count ls) ((layers g ls).nests n h))
+    (keeps g (built t limit (snapped_to count ls))).nests n (built_nests t limit n (snapped_to count ls) ((layers g ls).nests n h))
 
 pub numbers : grid.SnappedKeep → grid.GriddedKeeps → NumbersStay
 unfolding written
-numbers layers keeps count t ls h =
+numbers layers keeps count t limit ls h =
     let g = named_grid count ls in
-    (keeps g (built t (snapped_to count ls))).numbers (built_numbers t (snapped_to count ls) ((layers g ls).numbers h))
+    (keeps g (built t limit (snapped_to count ls))).numbers (built_numbers t limit (snapped_to count ls) ((layers g ls).numbers h))
 
 pub texts : grid.SnappedAreOn → grid.SnappedKeep → grid.GriddedKeeps → TextsStay
 unfolding written
-texts on layers keeps count t ls taken utf8 h =
+texts on layers keeps count t limit ls taken utf8 h =
     let g = named_grid count ls in
-    let named : AllByRecursion (λ n. IsUtf8 n) (map (λ (o : List ℕ × TopoObject). o.0) (written count t ls).objects) =
-    subst (AllByRecursion (λ n. IsUtf8 n)) (sym (names on keeps count t ls taken)) utf8 in
+    let named : AllByRecursion (λ n. IsUtf8 n) (map (λ (o : List ℕ × TopoObject). o.0) (written count t limit ls).objects) =
+    subst (AllByRecursion (λ n. IsUtf8 n)) (sym (names on keeps count t limit ls taken)) utf8 in
     record {
-      names = all_of_map (λ n. IsUtf8 n) (λ (o : List ℕ × TopoObject). o.0) (written count t ls).objects named;
-      features = (keeps g (built t (snapped_to count ls))).texts (built_texts t (snapped_to count ls) ((layers g ls).texts h));
+      names = all_of_map (λ n. IsUtf8 n) (λ (o : List ℕ × TopoObject). o.0) (written count t limit ls).objects named;
+      features = (keeps g (built t limit (snapped_to count ls))).texts (built_texts t limit (snapped_to count ls) ((layers g ls).texts h));
     }
 
 -- ---- the steps of making it
 
-module _ (count : Option ℕ) (t : ℕ) (ls : Named) (g : Option Axes) (s : Named) (y : Contents) (asked : g ≡ named_grid count ls) (moved : s ≡ snapped_to count ls) (made : y ≡ built t s) where
+module _ (count : Option ℕ) (t limit : ℕ) (ls : Named) (g : Option Axes) (s : Named) (y : Contents) (asked : g ≡ named_grid count ls) (moved : s ≡ snapped_to count ls) (made : y ≡ built t limit s) where
   pub plain : y.transform ≡ None
-  plain = ap (λ z. z.transform) made ∙ built_has_no_transform t s
+  plain = ap (λ z. z.transform) made ∙ built_has_no_transform t limit s
 
   pub cells_on : grid.SnappedAreOn → grid.BuiltCellsAreOn → AreTaken count ls → EachCell (IsOn g) y
   cells_on on cells h =
       subst (λ z. EachCell (IsOn z) y) (sym asked)
       (subst (λ z. EachCell (IsOn (named_grid count ls)) z) (sym made)
-      (subst (λ z. EachCell (IsOn (named_grid count ls)) (built t z)) (sym moved) (cells (named_grid count ls) t (snapped_to count ls) (snapped on count ls h).on)))
+      (subst (λ z. EachCell (IsOn (named_grid count ls)) (built t limit z)) (sym moved) (cells (named_grid count ls) t limit (snapped_to count ls) (snapped on count ls h).on)))
 
-  pub as_written : (z : Contents) → z ≡ gridded g y → z ≡ written count t ls
+  pub as_written : (z : Contents) → z ≡ gridded g y → z ≡ written count t limit ls
   unfolding written
-  as_written z e = e ∙ ap (λ k. gridded k y) asked ∙ ap (gridded (named_grid count ls)) (made ∙ ap (built t) moved)
+  as_written z e = e ∙ ap (λ k. gridded k y) asked ∙ ap (gridded (named_grid count ls)) (made ∙ ap (built t limit) moved)

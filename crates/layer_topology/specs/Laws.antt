@@ -21,16 +21,16 @@ use Rattle.layer_topology.specs.Written.{snapped_to, written, AreTaken}
 
 -- it is valid
 abbrev pub IsValid : Type 0
-IsValid = (count : Option ℕ) (t : ℕ) (ls : Named) → AreTaken count ls → IsTopology (written count t ls)
+IsValid = (count : Option ℕ) (t limit : ℕ) (ls : Named) → AreTaken count ls → IsTopology (written count t limit ls)
 
 -- its objects have the names of the layers, in order
 abbrev pub HasNames : Type 0
-HasNames = (count : Option ℕ) (t : ℕ) (ls : Named) → AreTaken count ls → map (λ o. o.0) (written count t ls).objects ≡ names_of ls
+HasNames = (count : Option ℕ) (t limit : ℕ) (ls : Named) → AreTaken count ls → map (λ o. o.0) (written count t limit ls).objects ≡ names_of ls
 
 -- decoding it gives each layer the features that are expected of the snapped layer
 abbrev pub DecodesBack : Type 0
-DecodesBack = (count : Option ℕ) (t : ℕ) (ls : Named) → AreTaken count ls
-    → AllByRecursion (λ l. decoded (written count t ls) l.0 ≡ Some (set.Many l.1.features)) (expected t (snapped_to count ls))
+DecodesBack = (count : Option ℕ) (t limit : ℕ) (ls : Named) → AreTaken count ls
+    → AllByRecursion (λ l. decoded (written count t limit ls) l.0 ≡ Some (set.Many l.1.features)) (expected t limit (snapped_to count ls))
 
 -- before reduction each segment of the snapped layers' lines lies once, in exactly one arc
 abbrev pub EachSegmentOnce : Type 0
@@ -39,18 +39,18 @@ EachSegmentOnce = (count : Option ℕ) (ls : Named) → AreTaken count ls
 
 -- its features nest no deeper than those of the layers
 abbrev pub NestsNoDeeper : Type 0
-NestsNoDeeper = (count : Option ℕ) (t n : ℕ) (ls : Named) → EachFeature (λ f. feature_nesting f ≤ n) ls
-    → AllByRecursion (λ f. bounds.feature_nesting f ≤ n) (bounds.objects_features (written count t ls).objects)
+NestsNoDeeper = (count : Option ℕ) (t limit n : ℕ) (ls : Named) → EachFeature (λ f. feature_nesting f ≤ n) ls
+    → AllByRecursion (λ f. bounds.feature_nesting f ≤ n) (bounds.objects_features (written count t limit ls).objects)
 
 -- the number texts of its features are numbers where those of the layers are
 abbrev pub NumbersStay : Type 0
-NumbersStay = (count : Option ℕ) (t : ℕ) (ls : Named) → EachFeature FeatureHasNumbers ls
-    → AllByRecursion bounds.FeatureHasNumbers (bounds.objects_features (written count t ls).objects)
+NumbersStay = (count : Option ℕ) (t limit : ℕ) (ls : Named) → EachFeature FeatureHasNumbers ls
+    → AllByRecursion bounds.FeatureHasNumbers (bounds.objects_features (written count t limit ls).objects)
 
 -- its texts are UTF-8 where those of the layers and their names are
 abbrev pub TextsStay : Type 0
-TextsStay = (count : Option ℕ) (t : ℕ) (ls : Named) → AreTaken count ls → AllByRecursion (λ n. IsUtf8 n) (names_of ls) → EachFeature FeatureHasTexts ls
-    → ContentsHaveTexts (written count t ls)
+TextsStay = (count : Option ℕ) (t limit : ℕ) (ls : Named) → AreTaken count ls → AllByRecursion (λ n. IsUtf8 n) (names_of ls) → EachFeature FeatureHasTexts ls
+    → ContentsHaveTexts (written count t limit ls)
 
 -- what is true of it, all in all
 pub record WrittenLaws : Type 0 where
@@ -62,6 +62,6 @@ pub record WrittenLaws : Type 0 where
   pub numbers : NumbersStay
   pub texts : TextsStay
 
--- what is written at a threshold of zero and then reduced is what is written at the threshold
+-- what is written at a threshold and a limit of zero and then reduced by both is what is written by both
 abbrev pub LessensToWritten : Type 0
-LessensToWritten = (count : Option ℕ) (t : ℕ) (ls : Named) → AreTaken count ls → lessened t (written count 0 ls) ≡ written count t ls
+LessensToWritten = (count : Option ℕ) (t limit : ℕ) (ls : Named) → AreTaken count ls → lessened t limit (written count 0 0 ls) ≡ written count t limit ls

@@ -1,4 +1,4 @@
--- The topology that is written of layers: on the grid that is asked for, if one is, and at a threshold.
+-- The topology that is written of layers: on the grid that is asked for, if one is, at a threshold, and with a least ring area.
 use Rattle.std.specs.Prelude.{ℕ, Option}
 use Rattle.build_meaning.specs.Built.{built}
 use Rattle.build_meaning.specs.Laws.{AreSound}
@@ -11,9 +11,9 @@ use Rattle.topojson_types.specs.Validity.{AreDistinct}
 abbrev pub snapped_to : Option ℕ → Named → Named
 snapped_to count ls = snapped_named (named_grid count ls) ls
 
--- what is built of the snapped layers at the threshold, on that grid
-unfoldable pub written : Option ℕ → ℕ → Named → Contents
-written count t ls = gridded (named_grid count ls) (built t (snapped_to count ls))
+-- what is built of the snapped layers at a threshold and a limit, on that grid
+unfoldable pub written : Option ℕ → ℕ → ℕ → Named → Contents
+written count t limit ls = gridded (named_grid count ls) (built t limit (snapped_to count ls))
 
 -- a grid that may be asked for, and layers as they are read: sound, of positions that are read, under distinct names
 pub record AreTaken (grid : Option ℕ) (ls : Named) : Type 0 where

@@ -21,7 +21,7 @@ pub fn written_laws()
     each_segment_once();
 }
 
-/// What is written of layers at a threshold of zero and then reduced at a threshold is what is written of them at that threshold.
+/// What is written of layers at a threshold and a limit of zero and then reduced by both is what is written of them by both.
 pub fn lessens_to_written()
     ensures { LessensToWritten }
 {

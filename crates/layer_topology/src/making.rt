@@ -1,5 +1,5 @@
 // Making the topology of layers.
-ghost use Rattle.std.specs.Prelude.{◌≡◌, ◌<◌, ◌^◌, IfOk, length, map};
+ghost use Rattle.std.specs.Prelude.{◌≡◌, ◌<◌, ◌≤◌, ◌^◌, IfOk, length, map};
 ghost use Rattle.arc_table.specs.Arcs.{table_of};
 ghost use Rattle.build_meaning.specs.Built.{built, taken_out};
 ghost use Rattle.build_meaning.specs.Expected.{expected_dropped};
@@ -8,6 +8,7 @@ ghost use Rattle.build_meaning.specs.Layers.{layers_of, names_of};
 ghost use Rattle.byte_ends.specs.Ends.{saturated};
 ghost use Rattle.cutter.specs.Slices.{split_of};
 ghost use Rattle.elimination_meaning.specs.Elimination.{reduce};
+ghost use Rattle.geometry.specs.Units.{threshold_limit};
 ghost use Rattle.grid_meaning.specs.Gridded.{AreInputs, IsCount, named_grid};
 ghost use Rattle.layer_topology.specs.Written.{AreTaken, snapped_to, written};
 ghost use Rattle.linework.specs.Linework.{linework};
@@ -57,19 +58,21 @@ fn reduced_arcs<Q: Reducer>(
     Ok(kept)
 }
 
-/// The topology that is built of named layers, each arc reduced once, the lines and rings that are dropped, in reading order, and how
-/// many positions were taken out of the arcs that stay.
+/// The topology that is built of named layers, each arc reduced once, without rings under the limit, the lines and rings that are
+/// dropped, in reading order, and how many positions were taken out of the arcs that stay.
 fn reduced_topology<Q: Reducer>(
     alloc: Global,
     reducer: &mut Q,
     layers: Vec<(OwnText, Layer)>,
     threshold: u128,
+    ring_limit: u128,
 ) -> Result<(Topology, Vec<Dropped>, u64), Memory>
     requires sound { AreSound layers.items }
     requires names { AreDistinct (names_of layers.items) }
-    ensures topology { IfOk result (λ r. r.0 ≡ built threshold layers.items) }
-    ensures dropped { IfOk result (λ r. r.1.items ≡ expected_dropped threshold layers.items) }
-    ensures taken_out { IfOk result (λ r. r.2 ≡ saturated (taken_out threshold layers.items)) }
+    requires limit { ring_limit ≤ threshold_limit }
+    ensures topology { IfOk result (λ r. r.0 ≡ built threshold ring_limit layers.items) }
+    ensures dropped { IfOk result (λ r. r.1.items ≡ expected_dropped threshold ring_limit layers.items) }
+    ensures taken_out { IfOk result (λ r. r.2 ≡ saturated (taken_out threshold ring_limit layers.items)) }
     ensures few { IfOk result (λ r. length r.0.arcs < 2 ^ 63) }
 {
     arc_indexes_reach();
@@ -78,7 +81,7 @@ fn reduced_topology<Q: Reducer>(
     assembling_takes_out();
     let table = shared_arcs(alloc, &layers)?;
     let kept = reduced_arcs(alloc, reducer, &table, threshold)?;
-    assemble(alloc, layers, &table, &kept)
+    assemble(alloc, layers, &table, &kept, ring_limit)
 }
 
 /// The layers snapped to the grid that is asked for, if one is, and the grid.
@@ -97,26 +100,31 @@ fn snapped_layers(
 }
 
 /// The topology of named layers: they are snapped to the grid that is asked for, if one is, the lines and rings are cut into the arcs
-/// that they share, each arc is reduced once at the threshold (twice an area, in square units), and positions on a grid become
-/// cells of it. With it come the lines and rings that are dropped, in reading order, and how many positions were taken out of the
-/// arcs that stay: a count that stays at `u64::MAX` where it would pass it.
+/// that they share, each arc is reduced once at the threshold (twice an area, in square units), rings that then enclose less than half
+/// the ring limit are left out, and positions on a grid become cells of it. With it come the lines and rings that are dropped, in
+/// reading order, and how many positions were taken out of the arcs that stay: a count that stays at `u64::MAX` where it would pass
+/// it.
 pub fn topology_of_layers<Q: Reducer>(
     alloc: Global,
     reducer: &mut Q,
     layers: Vec<(OwnText, Layer)>,
     grid: Option<u32>,
     threshold: u128,
+    ring_limit: u128,
 ) -> Result<(Topology, Vec<Dropped>, u64), Memory>
-    requires { AreTaken grid layers.items }
-    ensures topology { IfOk result (λ r. r.0 ≡ written grid threshold layers.items) }
-    ensures dropped { IfOk result (λ r. r.1.items ≡ expected_dropped threshold (snapped_to grid layers.items)) }
-    ensures taken_out { IfOk result (λ r. r.2 ≡ saturated (taken_out threshold (snapped_to grid layers.items))) }
+    requires taken { AreTaken grid layers.items }
+    requires limit { ring_limit ≤ threshold_limit }
+    ensures topology { IfOk result (λ r. r.0 ≡ written grid threshold ring_limit layers.items) }
+    ensures dropped { IfOk result (λ r. r.1.items ≡ expected_dropped threshold ring_limit (snapped_to grid layers.items)) }
+    ensures taken_out { IfOk result (λ r. r.2 ≡ saturated (taken_out threshold ring_limit (snapped_to grid layers.items))) }
     ensures few { IfOk result (λ r. length r.0.arcs < 2 ^ 63) }
 {
     snapped_are_on();
     built_cells_are_on();
     let (snapped, grid) = snapped_layers(layers, grid);
-    let (topology, dropped, taken_out) = reduced_topology(alloc, reducer, snapped, threshold)?;
+    let (topology, dropped, taken_out) = reduced_topology(
+        alloc, reducer, snapped, threshold, ring_limit,
+    )?;
     let topology = on_grid(alloc, topology, grid)?;
     Ok((topology, dropped, taken_out))
 }

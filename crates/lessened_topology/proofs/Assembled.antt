@@ -43,38 +43,38 @@ abbrev pub contents : List (List ℕ × TopoObject) → List (List Point) → Co
 contents os arcs = record { objects = os; arcs = arcs; transform = None }
 
 -- each line by the indexes of its own pieces, unless it is dropped
-abbrev pub kept_by : List Stroke → List (List Point) → Kept
-kept_by lines arcs closed ps = unless (assembled_cause lines arcs closed ps) (own_refs lines closed ps)
+abbrev pub kept_by : List Stroke → List (List Point) → ℕ → Kept
+kept_by lines arcs limit closed ps = unless (assembled_cause lines arcs limit closed ps) (own_refs lines closed ps)
 
-line_kept : (lines : List Stroke) (arcs : List (List Point)) (b : Line) → IsWholeAtZero lines b → then_some (large_refs arcs b.0) (kept_refs lines 0 b.0 b.1) ≡ kept_by lines arcs b.0 b.1
-line_kept lines arcs b whole = grind (arith, no_small)
+line_kept : (lines : List Stroke) (arcs : List (List Point)) (limit : ℕ) (b : Line) → IsWholeAtZero lines b → then_some (large_refs limit arcs b.0) (kept_refs lines 0 0 b.0 b.1) ≡ kept_by lines arcs limit b.0 b.1
+line_kept lines arcs limit b whole = grind (arith, no_small)
 
 -- what is left of the layers over all arcs, before those that no line uses are left out
-pub before_trimming : ZeroLaw → (kept : List (List ℕ)) (ls : Named) → AreSound ls →
-    picked_whole kept (untrimmed 0 ls) ≡ contents (objects_by (kept_by (linework (layers_of ls)) (picked_arcs kept (arcs_of_layers ls))) ls) (picked_arcs kept (arcs_of_layers ls))
-before_trimming zero kept ls sound =
+pub before_trimming : ZeroLaw → (kept : List (List ℕ)) (limit : ℕ) (ls : Named) → AreSound ls →
+    picked_whole kept limit (untrimmed 0 0 ls) ≡ contents (objects_by (kept_by (linework (layers_of ls)) (picked_arcs kept (arcs_of_layers ls)) limit) ls) (picked_arcs kept (arcs_of_layers ls))
+before_trimming zero kept limit ls sound =
     let lines : List Stroke = linework (layers_of ls) in
     let fewer : List (List Point) = picked_arcs kept (arcs_of_layers ls) in
-    ap (λ arcs. contents (objects_pruned (large_refs (picked_arcs kept arcs)) (objects_by (kept_refs lines 0) ls)) (picked_arcs kept arcs)) (each_stays zero (all_arcs lines))
-    ∙ ap (λ os. contents os fewer) (objects_made (kept_refs lines 0) (large_refs fewer) (kept_by lines fewer) ls
-    (all_weaker (λ b. kept_line lines 0 b.0 b.1 ≡ whole_line ls b.0 b.1) (λ b. then_some (large_refs fewer b.0) (kept_refs lines 0 b.0 b.1) ≡ kept_by lines fewer b.0 b.1)
-    (line_kept lines fewer) (named_strokes ls) (loses_nothing zero ls sound)))
+    ap (λ arcs. contents (objects_pruned (large_refs limit (picked_arcs kept arcs)) (objects_by (kept_refs lines 0 0) ls)) (picked_arcs kept arcs)) (each_stays zero (all_arcs lines))
+    ∙ ap (λ os. contents os fewer) (objects_made (kept_refs lines 0 0) (large_refs limit fewer) (kept_by lines fewer limit) ls
+    (all_weaker (λ b. kept_line lines 0 0 b.0 b.1 ≡ whole_line ls b.0 b.1) (λ b. then_some (large_refs limit fewer b.0) (kept_refs lines 0 0 b.0 b.1) ≡ kept_by lines fewer limit b.0 b.1)
+    (line_kept lines fewer limit) (named_strokes ls) (loses_nothing zero ls sound)))
 
 -- ---- with each arc reduced
 
 picked_reduced : ZeroLaw → (t : ℕ) (arcs : List (List Point)) → picked_arcs (map (reduce t) arcs) (map (reduced 0) arcs) ≡ map (reduced t) arcs
 picked_reduced zero t arcs = ap (picked_arcs (map (reduce t) arcs)) (each_stays zero arcs) ∙ picked_each (reduce t) arcs ∙ each_reduced t arcs
 
-whole_is_untrimmed : DirectionLaw → ZeroLaw → (t : ℕ) (ls : Named) → AreSound ls → picked_whole (arc_indexes t ls) (untrimmed 0 ls) ≡ untrimmed t ls
-whole_is_untrimmed law zero t ls sound = grind (arith, picked_reduced zero t, objects_again law zero t ls sound)
+whole_is_untrimmed : DirectionLaw → ZeroLaw → (t limit : ℕ) (ls : Named) → AreSound ls → picked_whole (arc_indexes t ls) limit (untrimmed 0 0 ls) ≡ untrimmed t limit ls
+whole_is_untrimmed law zero t limit ls sound = grind (arith, picked_reduced zero t, objects_again law zero t limit ls sound)
 
 pub assembles_to_built : DirectionLaw → ZeroLaw → AssemblesToBuilt
 unfolding assembled lessened_by built
-assembles_to_built law zero t ls sound = ap trimmed (whole_is_untrimmed law zero t ls sound)
+assembles_to_built law zero t limit ls sound = ap trimmed (whole_is_untrimmed law zero t limit ls sound)
 
 pub takes_out : DirectionLaw → ZeroLaw → AssemblingTakesOut
 unfolding assembled_taken_out taken_out_by taken_out lessened_by trimmed
-takes_out law zero t ls sound = grind (arith, whole_is_untrimmed law zero t ls sound, each_stays zero, kept_of_map (reduced t))
+takes_out law zero t limit ls sound = grind (arith, whole_is_untrimmed law zero t limit ls sound, each_stays zero, kept_of_map (reduced t))
 
 -- ---- what is dropped
 
@@ -97,26 +97,26 @@ module _ (one two : Bool → List Point → Option Cause) where
   layers_alike [] h = refl
   layers_alike (l ∷ ls) h = grind (arith, features_alike, all_left, all_right, layers_alike ls (all_right Alike (features_strokes l.1.features) (named_strokes ls) h))
 
-module _ (lines : List Stroke) (t : ℕ) where
-  option_told : (s : Option Shape) → option_caused (own_cause lines t) s ≡ option_omissions lines t s
+module _ (lines : List Stroke) (t limit : ℕ) where
+  option_told : (s : Option Shape) → option_caused (own_cause lines t limit) s ≡ option_omissions lines t limit s
   option_told s = grind arith
 
-  features_told : (fs : List Featured) → map (λ f. option_caused (own_cause lines t) f.shape) fs ≡ map (λ f. option_omissions lines t f.shape) fs
+  features_told : (fs : List Featured) → map (λ f. option_caused (own_cause lines t limit) f.shape) fs ≡ map (λ f. option_omissions lines t limit f.shape) fs
   features_told fs = search (all_parts, all_map, all_of_map, all_two, all_weaker, map_agree, option_told)
 
-  layers_told : (ls : Named) → map (λ l. map (λ f. option_caused (own_cause lines t) f.shape) l.1.features) ls ≡ map (λ l. map (λ f. option_omissions lines t f.shape) l.1.features) ls
+  layers_told : (ls : Named) → map (λ l. map (λ f. option_caused (own_cause lines t limit) f.shape) l.1.features) ls ≡ map (λ l. map (λ f. option_omissions lines t limit f.shape) l.1.features) ls
   layers_told ls = search (all_parts, all_map, all_of_map, all_two, all_weaker, map_agree, features_told)
 
 pub drops_expected : DirectionLaw → ZeroLaw → AssemblingDropsExpected
 unfolding assembled_dropped expected_dropped
-drops_expected law zero t ls sound =
+drops_expected law zero t limit ls sound =
     let lines : List Stroke = linework (layers_of ls) in
     let all : List (List Point) = arcs_of_layers ls in
-    ap (λ arcs. layers_caused (assembled_cause lines arcs) ls) (picked_each (reduce t) all ∙ each_reduced t all)
-    ∙ ap (dropped_of_layers 0) (layers_alike (assembled_cause lines (map (reduced t) all)) (own_cause lines t) ls
-    (all_weaker (StandsIn lines) (λ b. assembled_cause lines (map (reduced t) all) b.0 b.1 ≡ own_cause lines t b.0 b.1) (λ b stands. grind
+    ap (λ arcs. layers_caused (assembled_cause lines arcs limit) ls) (picked_each (reduce t) all ∙ each_reduced t all)
+    ∙ ap (dropped_of_layers 0) (layers_alike (assembled_cause lines (map (reduced t) all) limit) (own_cause lines t limit) ls
+    (all_weaker (StandsIn lines) (λ b. assembled_cause lines (map (reduced t) all) limit b.0 b.1 ≡ own_cause lines t limit b.0 b.1) (λ b stands. grind
     (arith, cause_same, own_apart)) (named_strokes ls) (each_stands ls))
-    ∙ layers_told lines t ls)
+    ∙ layers_told lines t limit ls)
 
 -- ---- validity
 
@@ -125,4 +125,4 @@ indexes_reach t ls sound = each_through t None (arcs_of_layers ls) (arcs_long (l
 
 pub assembled_is_valid : EndsStay → NoneIsNew → ZeroLaw → AssembledIsValid
 unfolding assembled
-assembled_is_valid stay none zero kept ls sound distinct through = search (rules, lessened_is_valid, untrimmed_is_valid, each_stays)
+assembled_is_valid stay none zero kept limit ls sound distinct through = search (rules, lessened_is_valid, untrimmed_is_valid, each_stays)

@@ -4,7 +4,7 @@ use Rattle.std.proofs.Common.{◌≡◌, ◌==◌, ℕ, ℤ, pos, Bool, true, fa
 use Rattle.std.specs.List.{list_any}
 use Rattle.elimination_meaning.specs.Elimination.{is_before, reduced}
 use Rattle.geojson_types.specs.Features.{Featured, Shape}
-use Rattle.geometry.specs.Areas.{cross, twice_area}
+use Rattle.geometry.specs.Areas.{cross, twice_area, shoelace}
 use Rattle.geometry.specs.declared.address.Cause.TheVariants.{Small, Outer}
 use Rattle.geometry.specs.declared.shape.Geometry.TheVariants as g
 use Rattle.geometry.specs.Joins.{number_of}
@@ -75,9 +75,9 @@ arcs_are = refl
 
 -- ---- the outer ring is small, and the hole goes with it
 
-row_dropped : assembled_dropped kept layers
+row_dropped : assembled_dropped kept 0 layers
     ≡ record { address = record { layer = 0; feature = 0; path = 0 ∷ [] }; cause = Small } ∷ (record { address = record { layer = 0; feature = 0; path = 1 ∷ [] }; cause = Outer } ∷ [])
-unfolding assembled_dropped same
+unfolding assembled_dropped same shoelace
 row_dropped = simp (lines_are, omissions-area, omissions-line)
 
 -- ---- so two arcs are left out, and the third one is the first
@@ -91,18 +91,18 @@ two s t = ((97 ∷ []), Many (topo_feature s ∷ (topo_feature t ∷ []))) ∷ [
 abbrev ring_refs : List (List ℤ)
 ring_refs = (pos 0 ∷ []) ∷ ((pos 1 ∷ []) ∷ [])
 
-objects_at_zero : objects_by (kept_refs lines 0) layers ≡ two (Some (g.Area ring_refs)) (Some (g.Line (pos 2 ∷ [])))
-unfolding same reduced is_before twice_area cross
+objects_at_zero : objects_by (kept_refs lines 0 0) layers ≡ two (Some (g.Area ring_refs)) (Some (g.Line (pos 2 ∷ [])))
+unfolding same reduced is_before twice_area cross shoelace
 objects_at_zero =
-    ap (λ s. two s (prune (λ p. p) (kept_refs lines 0) (g.Line bent))) (prune-area (λ (p : Point). p) (kept_refs lines 0) rings)
-    ∙ ap (λ s. two (Some (g.Area ring_refs)) s) (prune-line (λ (p : Point). p) (kept_refs lines 0) bent)
+    ap (λ s. two s (prune (λ p. p) (kept_refs lines 0 0) (g.Line bent))) (prune-area (λ (p : Point). p) (kept_refs lines 0 0) rings)
+    ∙ ap (λ s. two (Some (g.Area ring_refs)) s) (prune-line (λ (p : Point). p) (kept_refs lines 0 0) bent)
 
 arcs_picked : picked_arcs kept (map (reduced 0) (all_arcs lines)) ≡ fewer
 unfolding same reduced is_before twice_area cross
 arcs_picked = refl
 
-objects_left : objects_pruned (large_refs fewer) (two (Some (g.Area ring_refs)) (Some (g.Line (pos 2 ∷ [])))) ≡ two None (Some (g.Line (pos 2 ∷ [])))
-unfolding same
+objects_left : objects_pruned (large_refs 0 fewer) (two (Some (g.Area ring_refs)) (Some (g.Line (pos 2 ∷ [])))) ≡ two None (Some (g.Line (pos 2 ∷ [])))
+unfolding same shoelace
 objects_left = simp (prune-area, prune-line)
 
 abbrev used_in : List (Bool × List ℤ) → ℕ → Bool
@@ -115,10 +115,10 @@ trimmed_left : trimmed (contents (two None (Some (g.Line (pos 2 ∷ [])))) fewer
 unfolding trimmed number_of
 trimmed_left = simp (contents, strokes_left, prune-line)
 
-row_assembled : assembled kept layers ≡ contents (two None (Some (g.Line (pos 0 ∷ [])))) (bent ∷ [])
+row_assembled : assembled kept 0 layers ≡ contents (two None (Some (g.Line (pos 0 ∷ [])))) (bent ∷ [])
 unfolding assembled lessened_by
 row_assembled =
-    ap (λ ls. trimmed (contents (objects_pruned (large_refs (picked_arcs kept (map (reduced 0) (all_arcs ls)))) (objects_by (kept_refs ls 0) layers)) (picked_arcs kept (map (reduced 0) (all_arcs ls))))) lines_are
-    ∙ ap (λ arcs. trimmed (contents (objects_pruned (large_refs arcs) (objects_by (kept_refs lines 0) layers)) arcs)) arcs_picked
-    ∙ ap (λ os. trimmed (contents (objects_pruned (large_refs fewer) os) fewer)) objects_at_zero
+    ap (λ ls. trimmed (contents (objects_pruned (large_refs 0 (picked_arcs kept (map (reduced 0) (all_arcs ls)))) (objects_by (kept_refs ls 0 0) layers)) (picked_arcs kept (map (reduced 0) (all_arcs ls))))) lines_are
+    ∙ ap (λ arcs. trimmed (contents (objects_pruned (large_refs 0 arcs) (objects_by (kept_refs lines 0 0) layers)) arcs)) arcs_picked
+    ∙ ap (λ os. trimmed (contents (objects_pruned (large_refs 0 fewer) os) fewer)) objects_at_zero
     ∙ ap (λ os. trimmed (contents os fewer)) objects_left ∙ trimmed_left

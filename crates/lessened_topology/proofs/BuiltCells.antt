@@ -60,6 +60,6 @@ module _ (X : Point → Type 0) where
     objects_among [] h = tt
     objects_among (l ∷ ls) h = grind (arith, all_append, features_among, all_left, all_right, objects_among ls (all_right X (features_points l.1.features) (layers_points (layers_of ls)) h))
 
-pub built_cells : NoneIsNew → (X : Point → Type 0) (t : ℕ) (ls : Named) → AllByRecursion X (layers_points (layers_of ls)) → EachCell X (built t ls)
+pub built_cells : NoneIsNew → (X : Point → Type 0) (t limit : ℕ) (ls : Named) → AllByRecursion X (layers_points (layers_of ls)) → EachCell X (built t limit ls)
 unfolding built trimmed
-built_cells none X t ls h = search (rules, all_kept, each_reduced, arcs_among, objects_among)
+built_cells none X t limit ls h = search (rules, all_kept, each_reduced, arcs_among, objects_among)

@@ -13,15 +13,15 @@ use Rattle.lessened_topology.proofs.CelledDecoding.{celled_decodes}
 use Rattle.lessened_topology.proofs.ValidCelled.{celled_is_valid}
 
 -- there is no transform
-is_plain : (t : ℕ) (ls : Named) → (built t ls).transform ≡ None
+is_plain : (t limit : ℕ) (ls : Named) → (built t limit ls).transform ≡ None
 unfolding built trimmed
-is_plain t ls = refl
+is_plain t limit ls = refl
 
 pub built_decodes : NoneIsNew → BuiltDecodesOnGrid
-built_decodes none transform cell t ls name lie = celled_decodes transform cell (built t ls) name (is_plain t ls) (built_cells none (LiesBack transform cell) t ls lie)
+built_decodes none transform cell t limit ls name lie = celled_decodes transform cell (built t limit ls) name (is_plain t limit ls) (built_cells none (LiesBack transform cell) t limit ls lie)
 
 pub decodes_back : DecodesBack → NoneIsNew → DecodesBackOnGrid
-decodes_back back none transform cell t ls sound distinct lie = grind (arith, all_weaker, built_decodes)
+decodes_back back none transform cell t limit ls sound distinct lie = grind (arith, all_weaker, built_decodes)
 
 pub built_is_valid : IsValid → NoneIsNew → BuiltIsValidOnGrid
-built_is_valid valid none transform cell t ls numbers sound distinct on = search (rules, celled_is_valid, is_plain, built_cells)
+built_is_valid valid none transform cell t limit ls numbers sound distinct on = search (rules, celled_is_valid, is_plain, built_cells)

@@ -126,14 +126,14 @@ module _ (transform : Transform) (cell : Point → Point) where
       ∙ ap (λ arcs. record { objects = objects_celled cell (objects_pruned (line_renumbered (is_used y.objects)) y.objects); arcs = arcs; transform = Some transform })
       (sym (kept_of_map (map cell) (is_used y.objects) 0 y.arcs))
 
-  module _ (t : ℕ) (os : List (List ℕ × TopoObject)) (arcs : List (List Point)) (lie : AllByRecursion Lies arcs) where
+  module _ (t limit : ℕ) (os : List (List ℕ × TopoObject)) (arcs : List (List Point)) (lie : AllByRecursion Lies arcs) where
     abbrev plain : Contents
     plain = record { objects = os; arcs = arcs; transform = None }
 
     abbrev on_grid : List (List Point) → List (List Point) → Contents
-    on_grid places cells = record { objects = objects_pruned (large_refs places) (objects_celled cell os); arcs = cells; transform = Some transform }
+    on_grid places cells = record { objects = objects_pruned (large_refs limit places) (objects_celled cell os); arcs = cells; transform = Some transform }
 
-    pub lessened_celled : lessened t (celled transform cell (record { objects = os; arcs = arcs; transform = None })) ≡ celled transform cell (lessened t (record { objects = os; arcs = arcs; transform = None }))
+    pub lessened_celled : lessened t limit (celled transform cell (record { objects = os; arcs = arcs; transform = None })) ≡ celled transform cell (lessened t limit (record { objects = os; arcs = arcs; transform = None }))
     unfolding lessened lessened_by celled
     lessened_celled =
         let kept : List (List ℕ) = map (reduce t) arcs in
@@ -141,13 +141,13 @@ module _ (transform : Transform) (cell : Point → Point) where
         ap (λ k. trimmed (on_grid (map (map (place_on transform)) (picked_arcs k (map (map cell) arcs))) (picked_arcs k (map (map cell) arcs)))) (indexes_same t arcs lie)
         ∙ ap (λ x. trimmed (on_grid (map (map (place_on transform)) x) x)) (arcs_map cell kept arcs)
         ∙ ap (λ x. trimmed (on_grid x (map (map cell) fewer))) (all_lie_back fewer (picked_lie kept arcs lie))
-        ∙ ap (λ x. trimmed (record { objects = x; arcs = map (map cell) fewer; transform = Some transform })) (objects_turn (large_refs fewer) os)
-        ∙ trimmed_celled (picked_whole kept plain)
+        ∙ ap (λ x. trimmed (record { objects = x; arcs = map (map cell) fewer; transform = Some transform })) (objects_turn (large_refs limit fewer) os)
+        ∙ trimmed_celled (picked_whole kept limit plain)
 
 -- ---- what is built of layers
 
 pub lessens_on_grid : DirectionLaw → ZeroLaw → NoneIsNew → LessensToBuiltOnGrid
 unfolding built trimmed
-lessens_on_grid law stays none transform cell t ls sound lie =
-    (lessened_celled transform cell t (built 0 ls).objects (built 0 ls).arcs (built_cells none (LiesBack transform cell) 0 ls lie).0) ∙ ap
-    (celled transform cell) (lessens_to_built law stays t ls sound)
+lessens_on_grid law stays none transform cell t limit ls sound lie =
+    (lessened_celled transform cell t limit (built 0 0 ls).objects (built 0 0 ls).arcs (built_cells none (LiesBack transform cell) 0 0 ls lie).0) ∙ ap
+    (celled transform cell) (lessens_to_built law stays t limit ls sound)

@@ -32,4 +32,4 @@ module _ (used : ℕ → Bool) (kept : Refs) where
 
 pub lessened_keeps : LessenedKeeps
 unfolding lessened_by trimmed
-lessened_keeps kept y = (objects_keep _ _ y.objects, refl)
+lessened_keeps kept limit y = (objects_keep _ _ y.objects, refl)

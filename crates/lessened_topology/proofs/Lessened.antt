@@ -1,4 +1,4 @@
--- What is built of layers at zero and then reduced is what is built of them at the threshold.
+-- What is built of layers at a threshold and a limit of zero and then reduced by both is what is built of them by both.
 use Rattle.std.proofs.Common.{rules, arith, ◌≡◌, ℕ, ℤ, Bool, false, cond, List, map, None, Some, refl, sym, ap, ◌∙◌, subst}
 use Rattle.std.specs.List.{AllByRecursion}
 use Rattle.arc_table.specs.Arcs.{index_in}
@@ -40,73 +40,73 @@ use Rattle.lessened_topology.proofs.Picked.{arcs_again}
 module _ (lines : List Stroke) where
   -- what is kept at zero is the whole line, unless it has too few positions
   abbrev pub IsWholeAtZero : Line → Type 0
-  IsWholeAtZero b = kept_line lines 0 b.0 b.1 ≡ cond (is_short b.0 (clean b.1)) None (Some (from_start (is_cut lines) (cleaned b.0 b.1)))
+  IsWholeAtZero b = kept_line lines 0 0 b.0 b.1 ≡ cond (is_short b.0 (clean b.1)) None (Some (from_start (is_cut lines) (cleaned b.0 b.1)))
 
-  pub no_small : (b : Line) → IsWholeAtZero b → is_short b.0 (clean b.1) ≡ false → own_cause lines 0 b.0 b.1 ≡ None
+  pub no_small : (b : Line) → IsWholeAtZero b → is_short b.0 (clean b.1) ≡ false → own_cause lines 0 0 b.0 b.1 ≡ None
   no_small b whole e = grind arith
 
 -- ---- a line's indexes name its own pieces, reduced
 
-module _ (law : DirectionLaw) (lines : List Stroke) (t : ℕ) (apart : (p : List Point) → In p (pieces lines) → Apart (interior p)) where
+module _ (law : DirectionLaw) (lines : List Stroke) (t limit : ℕ) (apart : (p : List Point) → In p (pieces lines) → Apart (interior p)) where
   abbrev arcs : List (List Point)
   arcs = map (reduced t) (all_arcs lines)
 
   abbrev refs_of : Line → List ℤ
   refs_of b = map (index_in (all_arcs lines)) (own_pieces lines b.0 b.1)
 
-  -- so the same is too short
+  -- so the same is small
   pub cause_same : (b : Line) → StandsIn lines b → is_short b.0 (clean b.1) ≡ false →
-      small_cause arcs b.0 (refs_of b) ≡ cond (is_small b.0 (rebuilt lines t b.0 b.1)) (Some Small) None
+      small_cause limit arcs b.0 (refs_of b) ≡ cond (is_small limit b.0 (rebuilt lines t b.0 b.1)) (Some Small) None
   cause_same b stands e = search (rules, pieces_back, own_in, same_rejoined)
 
   -- so what is kept at zero and then reduced is what is kept at the threshold
-  line_again : (b : Line) → StandsIn lines b → IsWholeAtZero lines b → then_some (large_refs arcs b.0) (kept_refs lines 0 b.0 b.1) ≡ kept_refs lines t b.0 b.1
+  line_again : (b : Line) → StandsIn lines b → IsWholeAtZero lines b → then_some (large_refs limit arcs b.0) (kept_refs lines 0 0 b.0 b.1) ≡ kept_refs lines t limit b.0 b.1
   line_again b stands whole = grind (arith, no_small, cause_same)
 
 -- ---- the indexes that are left after some arcs are left out
 
-module _ (u : ℕ → Bool) (arcs : List (List Point)) where
+module _ (limit : ℕ) (u : ℕ → Bool) (arcs : List (List Point)) where
   abbrev fewer : List (List Point)
   fewer = keep_from u 0 arcs
 
-  refs_same : (b : Bool × List ℤ) → AllUsed u b → large_refs fewer b.0 (map (renumbered u) b.1) ≡ then_some (line_renumbered u b.0) (large_refs arcs b.0 b.1)
+  refs_same : (b : Bool × List ℤ) → AllUsed u b → large_refs limit fewer b.0 (map (renumbered u) b.1) ≡ then_some (line_renumbered u b.0) (large_refs limit arcs b.0 b.1)
   refs_same b h = search (arith, all_renumbered u arcs b.1 h)
 
   -- reduced and then renumbered is renumbered and then reduced
   objects_same : (os : List (List ℕ × TopoObject)) → AllByRecursion (AllUsed u) (objects_strokes os) →
-      objects_pruned (large_refs fewer) (objects_pruned (line_renumbered u) os) ≡ objects_pruned (line_renumbered u) (objects_pruned (large_refs arcs) os)
+      objects_pruned (large_refs limit fewer) (objects_pruned (line_renumbered u) os) ≡ objects_pruned (line_renumbered u) (objects_pruned (large_refs limit arcs) os)
   objects_same os h =
-      objects_then (line_renumbered u) (large_refs fewer) (λ closed refs. then_some (line_renumbered u closed) (large_refs arcs closed refs)) os
-      (all_weaker (AllUsed u) (λ b. large_refs fewer b.0 (map (renumbered u) b.1) ≡ then_some (line_renumbered u b.0) (large_refs arcs b.0 b.1)) refs_same (objects_strokes os) h)
-      ∙ sym (objects_then (large_refs arcs) (line_renumbered u) (λ closed refs. then_some (line_renumbered u closed) (large_refs arcs closed refs)) os
-      (all_hold (λ b. then_some (line_renumbered u b.0) (large_refs arcs b.0 b.1) ≡ then_some (line_renumbered u b.0) (large_refs arcs b.0 b.1)) (λ b. refl) (objects_strokes os)))
+      objects_then (line_renumbered u) (large_refs limit fewer) (λ closed refs. then_some (line_renumbered u closed) (large_refs limit arcs closed refs)) os
+      (all_weaker (AllUsed u) (λ b. large_refs limit fewer b.0 (map (renumbered u) b.1) ≡ then_some (line_renumbered u b.0) (large_refs limit arcs b.0 b.1)) refs_same (objects_strokes os) h)
+      ∙ sym (objects_then (large_refs limit arcs) (line_renumbered u) (λ closed refs. then_some (line_renumbered u closed) (large_refs limit arcs closed refs)) os
+      (all_hold (λ b. then_some (line_renumbered u b.0) (large_refs limit arcs b.0 b.1) ≡ then_some (line_renumbered u b.0) (large_refs limit arcs b.0 b.1)) (λ b. refl) (objects_strokes os)))
 
   -- no index is new
-  left_used : (os : List (List ℕ × TopoObject)) → AllByRecursion (AllUsed u) (objects_strokes os) → AllByRecursion (AllUsed u) (objects_strokes (objects_pruned (large_refs arcs) os))
-  left_used os h = grind (arith, objects_left (large_refs arcs) (AllUsed u) os, all_weaker (AllUsed u))
+  left_used : (os : List (List ℕ × TopoObject)) → AllByRecursion (AllUsed u) (objects_strokes os) → AllByRecursion (AllUsed u) (objects_strokes (objects_pruned (large_refs limit arcs) os))
+  left_used os h = grind (arith, objects_left (large_refs limit arcs) (AllUsed u) os, all_weaker (AllUsed u))
 
 -- ---- topologies
 
 -- the objects that are built at zero, reduced
-pub objects_again : DirectionLaw → ZeroLaw → (t : ℕ) (ls : Named) → AreSound ls →
-    objects_pruned (large_refs (map (reduced t) (all_arcs (linework (layers_of ls))))) (objects_by (kept_refs (linework (layers_of ls)) 0) ls) ≡ objects_by (kept_refs (linework (layers_of ls)) t) ls
-objects_again law zero t ls sound =
+pub objects_again : DirectionLaw → ZeroLaw → (t limit : ℕ) (ls : Named) → AreSound ls →
+    objects_pruned (large_refs limit (map (reduced t) (all_arcs (linework (layers_of ls))))) (objects_by (kept_refs (linework (layers_of ls)) 0 0) ls) ≡ objects_by (kept_refs (linework (layers_of ls)) t limit) ls
+objects_again law zero t limit ls sound =
     let lines : List Stroke = linework (layers_of ls) in
-    objects_made (kept_refs lines 0) (large_refs (map (reduced t) (all_arcs lines))) (kept_refs lines t) ls
-    (all_two (StandsIn lines) (λ b. kept_line lines 0 b.0 b.1 ≡ whole_line ls b.0 b.1)
-    (λ b. then_some (large_refs (map (reduced t) (all_arcs lines)) b.0) (kept_refs lines 0 b.0 b.1) ≡ kept_refs lines t b.0 b.1)
-    (line_again law lines t (own_apart ls sound)) (named_strokes ls) (each_stands ls) (loses_nothing zero ls sound))
+    objects_made (kept_refs lines 0 0) (large_refs limit (map (reduced t) (all_arcs lines))) (kept_refs lines t limit) ls
+    (all_two (StandsIn lines) (λ b. kept_line lines 0 0 b.0 b.1 ≡ whole_line ls b.0 b.1)
+    (λ b. then_some (large_refs limit (map (reduced t) (all_arcs lines)) b.0) (kept_refs lines 0 0 b.0 b.1) ≡ kept_refs lines t limit b.0 b.1)
+    (line_again law lines t limit (own_apart ls sound)) (named_strokes ls) (each_stands ls) (loses_nothing zero ls sound))
 
 pub lessens_to_built : DirectionLaw → ZeroLaw → LessensToBuilt
 unfolding lessened lessened_by built trimmed
-lessens_to_built law zero t ls sound =
+lessens_to_built law zero t limit ls sound =
     let lines : List Stroke = linework (layers_of ls) in
-    let first : List (List ℕ × TopoObject) = objects_by (kept_refs lines 0) ls in
+    let first : List (List ℕ × TopoObject) = objects_by (kept_refs lines 0 0) ls in
     let u : ℕ → Bool = is_used first in
     let all : List (List Point) = map (reduced t) (all_arcs lines) in
-    let same : objects_pruned (large_refs all) first ≡ objects_by (kept_refs lines t) ls = objects_again law zero t ls sound in
-    ap (λ arcs. trimmed (record { objects = objects_pruned (large_refs arcs) (objects_pruned (line_renumbered u) first); arcs = arcs; transform = None }))
+    let same : objects_pruned (large_refs limit all) first ≡ objects_by (kept_refs lines t limit) ls = objects_again law zero t limit ls sound in
+    ap (λ arcs. trimmed (record { objects = objects_pruned (large_refs limit arcs) (objects_pruned (line_renumbered u) first); arcs = arcs; transform = None }))
     (arcs_again zero t u (all_arcs lines))
-    ∙ ap (λ os. trimmed (record { objects = os; arcs = keep_from u 0 all; transform = None })) (objects_same u all first (all_used first))
+    ∙ ap (λ os. trimmed (record { objects = os; arcs = keep_from u 0 all; transform = None })) (objects_same limit u all first (all_used first))
     ∙ ap (λ os. trimmed (left_with u (record { objects = os; arcs = all; transform = None }))) same
-    ∙ trimmed_again u (untrimmed t ls) (subst (λ os. AllByRecursion (AllUsed u) (objects_strokes os)) same (left_used u all first (all_used first)))
+    ∙ trimmed_again u (untrimmed t limit ls) (subst (λ os. AllByRecursion (AllUsed u) (objects_strokes os)) same (left_used limit u all first (all_used first)))

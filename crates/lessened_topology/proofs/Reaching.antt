@@ -38,4 +38,4 @@ indexes_reach t y h = each_through t y.transform y.arcs (all_weaker (IsArc y.tra
 
 pub reduced_is_valid : ReducedIsValid
 unfolding lessened
-reduced_is_valid t y h = lessened_is_valid (reduced_indexes t y) y h (indexes_reach t y h)
+reduced_is_valid t limit y h = lessened_is_valid (reduced_indexes t y) limit y h (indexes_reach t y h)

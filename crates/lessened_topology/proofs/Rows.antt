@@ -2,7 +2,7 @@
 use Rattle.std.proofs.Common.{◌≡◌, ◌==◌, ℕ, ◌-◌, ℤ, pos, negsuc, Bool, true, false, List, [], ◌∷◌, Option, None, Some, refl, ap, ◌∙◌}
 use Rattle.std.specs.List.{list_any}
 use Rattle.elimination_meaning.specs.Elimination.{is_before, reduce}
-use Rattle.geometry.specs.Areas.{cross, twice_area}
+use Rattle.geometry.specs.Areas.{cross, twice_area, shoelace}
 use Rattle.geometry.specs.declared.address.Cause.TheVariants.{Small, Outer}
 use Rattle.geometry.specs.declared.shape.Geometry.TheVariants as g
 use Rattle.geometry.specs.Omissions.{omissions}
@@ -59,22 +59,22 @@ holed_arcs : picked_arcs (reduced_indexes 2 holed) holed.arcs ≡ fewer
 unfolding reduce is_before twice_area cross
 holed_arcs = refl
 
-holed_area : prune (λ (p : Point). p) (large_refs fewer) (g.Area rings) ≡ Some (g.Area ((pos 0 ∷ []) ∷ []))
-unfolding same
-holed_area = prune-area (λ (p : Point). p) (large_refs fewer) rings
+holed_area : prune (λ (p : Point). p) (large_refs 0 fewer) (g.Area rings) ≡ Some (g.Area ((pos 0 ∷ []) ∷ []))
+unfolding same shoelace
+holed_area = prune-area (λ (p : Point). p) (large_refs 0 fewer) rings
 
-holed_line : prune (λ (p : Point). p) (large_refs fewer) (g.Line (negsuc 2 ∷ [])) ≡ Some (g.Line (negsuc 2 ∷ []))
-unfolding same
-holed_line = prune-line (λ (p : Point). p) (large_refs fewer) (negsuc 2 ∷ [])
+holed_line : prune (λ (p : Point). p) (large_refs 0 fewer) (g.Line (negsuc 2 ∷ [])) ≡ Some (g.Line (negsuc 2 ∷ []))
+unfolding same shoelace
+holed_line = prune-line (λ (p : Point). p) (large_refs 0 fewer) (negsuc 2 ∷ [])
 
 abbrev whole : List (List Point) → Contents
-whole arcs = record { objects = two (prune (λ p. p) (large_refs arcs) (g.Area rings)) (prune (λ p. p) (large_refs arcs) (g.Line (negsuc 2 ∷ []))); arcs = arcs; transform = None }
+whole arcs = record { objects = two (prune (λ p. p) (large_refs 0 arcs) (g.Area rings)) (prune (λ p. p) (large_refs 0 arcs) (g.Line (negsuc 2 ∷ []))); arcs = arcs; transform = None }
 
 -- what is left before arcs are left out
 abbrev left : Contents
 left = record { objects = two (Some (g.Area ((pos 0 ∷ []) ∷ []))) (Some (g.Line (negsuc 2 ∷ []))); arcs = fewer; transform = None }
 
-holed_left : picked_whole (reduced_indexes 2 holed) holed ≡ left
+holed_left : picked_whole (reduced_indexes 2 holed) 0 holed ≡ left
 holed_left = simp (holed_arcs, holed_area, holed_line)
 
 abbrev names : List (Bool × List ℤ)
@@ -98,7 +98,7 @@ trimmed_by u =
       transform = None;
     }
 
-holed_at_two : lessened 2 holed ≡ lessened_holed
+holed_at_two : lessened 2 0 holed ≡ lessened_holed
 unfolding lessened lessened_by trimmed number_of
 holed_at_two =
     ap trimmed holed_left
@@ -109,12 +109,12 @@ holed_at_two =
     (prune-line (λ (p : Point). p) (line_renumbered (used_in names)) (negsuc 2 ∷ []))
 
 -- the hole is told of, as Small
-holed_dropped : lessened_dropped 2 holed ≡ record { address = record { layer = 0; feature = 0; path = 1 ∷ [] }; cause = Small } ∷ []
-unfolding lessened_dropped dropped_by same
+holed_dropped : lessened_dropped 2 0 holed ≡ record { address = record { layer = 0; feature = 0; path = 1 ∷ [] }; cause = Small } ∷ []
+unfolding lessened_dropped dropped_by same shoelace
 holed_dropped = simp (holed_arcs, omissions-area, omissions-line)
 
 -- of the arcs that stay nothing is taken out: the triangle's isn't counted
-holed_taken_out : lessened_taken_out 2 holed ≡ 0
+holed_taken_out : lessened_taken_out 2 0 holed ≡ 0
 unfolding lessened_taken_out taken_out_by lessened_by trimmed number_of
 holed_taken_out =
     ap (λ y. positions_of (keep_from (is_used y.objects) 0 holed.arcs) - positions_of (trimmed y).arcs) holed_left
@@ -125,13 +125,31 @@ holed_taken_out =
 abbrev swapped : List (List ℤ)
 swapped = (pos 1 ∷ []) ∷ ((pos 0 ∷ []) ∷ [])
 
-swapped_area : prune (λ (p : Point). p) (large_refs fewer) (g.Area swapped) ≡ None
-unfolding same
-swapped_area = prune-area (λ (p : Point). p) (large_refs fewer) swapped
+swapped_area : prune (λ (p : Point). p) (large_refs 0 fewer) (g.Area swapped) ≡ None
+unfolding same shoelace
+swapped_area = prune-area (λ (p : Point). p) (large_refs 0 fewer) swapped
 
-swapped_dropped : omissions {P = Point} (small_cause fewer) (g.Area swapped) ≡ record { path = 0 ∷ []; part = Small } ∷ (record { path = 1 ∷ []; part = Outer } ∷ [])
-unfolding same
-swapped_dropped = omissions-area Point (List ℤ) (small_cause fewer) swapped
+swapped_dropped : omissions {P = Point} (small_cause 0 fewer) (g.Area swapped) ≡ record { path = 0 ∷ []; part = Small } ∷ (record { path = 1 ∷ []; part = Outer } ∷ [])
+unfolding same shoelace
+swapped_dropped = omissions-area Point (List ℤ) (small_cause 0 fewer) swapped
+
+-- by a limit above its area, twice which is 1, the triangle is small as well, and at that limit it stays, in both directions
+swapped_under : omissions {P = Point} (small_cause 2 holed.arcs) (g.Area swapped) ≡ record { path = 0 ∷ []; part = Small } ∷ (record { path = 1 ∷ []; part = Outer } ∷ [])
+unfolding same shoelace
+swapped_under = omissions-area Point (List ℤ) (small_cause 2 holed.arcs) swapped
+
+triangle_at_limit : small_cause 1 holed.arcs true (pos 1 ∷ []) ≡ None
+unfolding same shoelace
+triangle_at_limit = refl
+
+backwards_under : small_cause 2 holed.arcs true (negsuc 1 ∷ []) ≡ Some Small
+unfolding same shoelace
+backwards_under = refl
+
+-- an open line encloses nothing
+line_stays : small_cause 2 holed.arcs false (pos 1 ∷ []) ≡ None
+unfolding same shoelace
+line_stays = refl
 
 -- ---- a geometry object that is no collection stands in the place of a layer, and is its feature 0
 
@@ -146,6 +164,6 @@ lone_arcs : picked_arcs (reduced_indexes 2 lone) lone.arcs ≡ lone_fewer
 unfolding reduce is_before twice_area cross
 lone_arcs = refl
 
-lone_dropped : lessened_dropped 2 lone ≡ record { address = record { layer = 1; feature = 0; path = [] }; cause = Small } ∷ []
-unfolding lessened_dropped dropped_by same
+lone_dropped : lessened_dropped 2 0 lone ≡ record { address = record { layer = 1; feature = 0; path = [] }; cause = Small } ∷ []
+unfolding lessened_dropped dropped_by same shoelace
 lone_dropped = simp (lone_arcs, omissions-line)

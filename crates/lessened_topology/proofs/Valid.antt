@@ -64,25 +64,25 @@ valid_trimmed y h =
 
 -- ---- without some cells between the ends of arcs, and without lines that are too short
 
-valid_whole : (kept : List (List ℕ)) (y : Contents) → IsTopology y → EachFromFirstToLast kept y.arcs → IsTopology (picked_whole kept y)
-valid_whole kept y h through =
+valid_whole : (kept : List (List ℕ)) (limit : ℕ) (y : Contents) → IsTopology y → EachFromFirstToLast kept y.arcs → IsTopology (picked_whole kept limit y)
+valid_whole kept limit y h through =
     let fewer : List (List Point) = picked_arcs kept y.arcs in
     let places : List (List Point) = placed_arcs y.transform fewer in
-    let os : List (List ℕ × TopoObject) = objects_pruned (large_refs places) y.objects in
+    let os : List (List ℕ × TopoObject) = objects_pruned (large_refs limit places) y.objects in
     let long : AllByRecursion (λ a. 2 ≤ length a) y.arcs = all_weaker (IsArc y.transform) (λ a. 2 ≤ length a) (λ a k. k.0) y.arcs h.arcs in
     let ends = named_picked kept y.arcs long through in
     let fine : AllByRecursion (IsFine fewer) (objects_strokes os) =
-    objects_left (large_refs places) (IsFine fewer) y.objects
-    (all_weaker (IsFine y.arcs) (λ b. (m : List ℤ) → large_refs places b.0 b.1 ≡ Some m → IsFine fewer (b.0, m))
-    (λ b f m e. same fewer b m (small_cause places b.0 b.1) (
+    objects_left (large_refs limit places) (IsFine fewer) y.objects
+    (all_weaker (IsFine y.arcs) (λ b. (m : List ℤ) → large_refs limit places b.0 b.1 ≡ Some m → IsFine fewer (b.0, m))
+    (λ b f m e. same fewer b m (small_cause limit places b.0 b.1) (
       subst (λ n. AreInRange n b.1) (sym (picked_length kept y.arcs through)) f.0,
       meet_as (arc_at fewer) (arc_at y.arcs) ends b.1 f.1,
       λ c. close_as (arc_at fewer) (arc_at y.arcs) ends b.1 (f.2 c),
     ) e) (objects_strokes y.objects) (all_fine y h)) in
     record {
-      names = subst AreDistinct (sym (names_stay (large_refs places) y.objects)) h.names;
+      names = subst AreDistinct (sym (names_stay (large_refs limit places) y.objects)) h.names;
       transform = h.transform;
-      objects = objects_are (large_refs places) (λ closed l h m e. grind arith) y.transform y.objects h.objects;
+      objects = objects_are (large_refs limit places) (λ closed l h m e. grind arith) y.transform y.objects h.objects;
       arcs = picked_are_arcs y.transform kept y.arcs h.arcs through;
       ranged = all_weaker (IsFine fewer) (λ b. AreInRange (length fewer) b.1) (λ b f. f.0) (objects_strokes os) fine;
       joined = all_weaker (IsFine fewer) (IsJoined fewer) (λ b f. f.1) (objects_strokes os) fine;
@@ -97,4 +97,4 @@ valid_whole kept y h through =
 
 pub lessened_is_valid : LessenedIsValid
 unfolding lessened_by
-lessened_is_valid kept y h through = valid_trimmed (picked_whole kept y) (valid_whole kept y h through)
+lessened_is_valid kept limit y h through = valid_trimmed (picked_whole kept limit y) (valid_whole kept limit y h through)

@@ -35,13 +35,14 @@ arc_indexes t ls = map (reduce t) (arcs_of_layers ls)
 abbrev pub own_refs : List Stroke → Bool → List Point → List ℤ
 own_refs lines closed ps = map (index_in (all_arcs lines)) (own_pieces lines closed ps)
 
--- why a line or ring is dropped for its own sake: it has too few positions from the first, or else when it is rebuilt of these arcs
-abbrev pub assembled_cause : List Stroke → List (List Point) → Bool → List Point → Option Cause
-assembled_cause lines arcs closed ps = if is_short closed (clean ps) then Some Collapsed else small_cause arcs closed (own_refs lines closed ps)
+-- why a line or ring is dropped for its own sake: it has too few positions from the first, or else it is small when it is rebuilt of
+-- these arcs
+abbrev pub assembled_cause : List Stroke → List (List Point) → ℕ → Bool → List Point → Option Cause
+assembled_cause lines arcs limit closed ps = if is_short closed (clean ps) then Some Collapsed else small_cause limit arcs closed (own_refs lines closed ps)
 
 -- the same of layers, where of each arc the positions of these numbers are kept
-abbrev pub cause_by : List (List ℕ) → Named → Bool → List Point → Option Cause
-cause_by kept ls = assembled_cause (linework (layers_of ls)) (picked_arcs kept (arcs_of_layers ls))
+abbrev pub cause_by : List (List ℕ) → ℕ → Named → Bool → List Point → Option Cause
+cause_by kept limit ls = assembled_cause (linework (layers_of ls)) (picked_arcs kept (arcs_of_layers ls)) limit
 
 -- the lines and rings of a shape that may be null that are dropped, and the ways to them
 abbrev pub option_caused : (Bool → List Point → Option Cause) → Option Shape → List (Placed Cause)
@@ -54,15 +55,15 @@ layers_caused why ls = dropped_of_layers 0 (map (λ l. map (λ f. option_caused 
 
 -- ---- topologies
 
--- the layers over their arcs, of each arc the positions of these numbers; without lines and rings that are then left with too few
--- positions, and without the arcs that no kept line uses
-unfoldable pub assembled : List (List ℕ) → Named → Contents
-assembled kept ls = lessened_by kept (untrimmed 0 ls)
+-- the layers over their arcs, of each arc the positions of these numbers; without lines and rings that are then small by a limit, and
+-- without the arcs that no kept line uses
+unfoldable pub assembled : List (List ℕ) → ℕ → Named → Contents
+assembled kept limit ls = lessened_by kept limit (untrimmed 0 0 ls)
 
 -- the lines and rings that are dropped, in reading order
-unfoldable pub assembled_dropped : List (List ℕ) → Named → List Dropped
-assembled_dropped kept ls = layers_caused (cause_by kept ls) ls
+unfoldable pub assembled_dropped : List (List ℕ) → ℕ → Named → List Dropped
+assembled_dropped kept limit ls = layers_caused (cause_by kept limit ls) ls
 
 -- how many positions are taken out of the arcs that stay
-unfoldable pub assembled_taken_out : List (List ℕ) → Named → ℕ
-assembled_taken_out kept ls = taken_out_by kept (untrimmed 0 ls)
+unfoldable pub assembled_taken_out : List (List ℕ) → ℕ → Named → ℕ
+assembled_taken_out kept limit ls = taken_out_by kept limit (untrimmed 0 0 ls)

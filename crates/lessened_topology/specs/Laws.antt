@@ -27,14 +27,14 @@ use Rattle.lessened_topology.specs.Thresholds.{reduced_indexes, lessened}
 abbrev pub PickedIsReduced : Type 0
 PickedIsReduced = (t : ℕ) (ps : List Point) → picked (reduce t ps) ps ≡ reduced t ps
 
--- what is built of layers at zero and then reduced is what is built of them at the threshold
+-- what is built of layers at a threshold and a limit of zero and then reduced by both is what is built of them by both
 abbrev pub LessensToBuilt : Type 0
-LessensToBuilt = (t : ℕ) (ls : Named) → AreSound ls → lessened t (built 0 ls) ≡ built t ls
+LessensToBuilt = (t limit : ℕ) (ls : Named) → AreSound ls → lessened t limit (built 0 0 ls) ≡ built t limit ls
 
 -- the same on a grid where each position of the layers lies on it
 abbrev pub LessensToBuiltOnGrid : Type 0
-LessensToBuiltOnGrid = (transform : Transform) (cell : Point → Point) (t : ℕ) (ls : Named) → AreSound ls → AllByRecursion (LiesBack transform cell) (layers_points (layers_of ls))
-    → lessened t (celled transform cell (built 0 ls)) ≡ celled transform cell (built t ls)
+LessensToBuiltOnGrid = (transform : Transform) (cell : Point → Point) (t limit : ℕ) (ls : Named) → AreSound ls → AllByRecursion (LiesBack transform cell) (layers_points (layers_of ls))
+    → lessened t limit (celled transform cell (built 0 0 ls)) ≡ celled transform cell (built t limit ls)
 
 -- the name of each object, with the identifier and the properties of each of its features, in order
 abbrev pub labels : Contents → List (List ℕ × List (Option Id × Option (List (List ℕ × Json))))
@@ -42,7 +42,7 @@ labels y = map (λ o. (o.0, map (λ f. (f.id, f.properties)) (object_features o.
 
 -- reducing a topology leaves all of them, and its transform
 abbrev pub LessenedKeeps : Type 0
-LessenedKeeps = (kept : List (List ℕ)) (y : Contents) → (labels (lessened_by kept y) ≡ labels y) × ((lessened_by kept y).transform ≡ y.transform)
+LessenedKeeps = (kept : List (List ℕ)) (limit : ℕ) (y : Contents) → (labels (lessened_by kept limit y) ≡ labels y) × ((lessened_by kept limit y).transform ≡ y.transform)
 
 -- ---- on a grid
 
@@ -53,14 +53,14 @@ CelledDecodes = (transform : Transform) (cell : Point → Point) (y : Contents) 
 
 -- so it is with what is built of layers whose positions lie on the grid
 abbrev pub BuiltDecodesOnGrid : Type 0
-BuiltDecodesOnGrid = (transform : Transform) (cell : Point → Point) (t : ℕ) (ls : Named) (name : List ℕ) → AllByRecursion (LiesBack transform cell) (layers_points (layers_of ls))
-    → decoded (celled transform cell (built t ls)) name ≡ decoded (built t ls) name
+BuiltDecodesOnGrid = (transform : Transform) (cell : Point → Point) (t limit : ℕ) (ls : Named) (name : List ℕ) → AllByRecursion (LiesBack transform cell) (layers_points (layers_of ls))
+    → decoded (celled transform cell (built t limit ls)) name ≡ decoded (built t limit ls) name
 
 -- and so decoding gives each layer the features that are expected of it
 abbrev pub DecodesBackOnGrid : Type 0
-DecodesBackOnGrid = (transform : Transform) (cell : Point → Point) (t : ℕ) (ls : Named) → AreSound ls → AreDistinct (names_of ls)
+DecodesBackOnGrid = (transform : Transform) (cell : Point → Point) (t limit : ℕ) (ls : Named) → AreSound ls → AreDistinct (names_of ls)
     → AllByRecursion (LiesBack transform cell) (layers_points (layers_of ls))
-    → AllByRecursion (λ l. decoded (celled transform cell (built t ls)) l.0 ≡ Some (set.Many l.1.features)) (expected t ls)
+    → AllByRecursion (λ l. decoded (celled transform cell (built t limit ls)) l.0 ≡ Some (set.Many l.1.features)) (expected t limit ls)
 
 -- a valid topology whose positions lie on a grid is valid on it
 abbrev pub CelledIsValid : Type 0
@@ -69,14 +69,14 @@ CelledIsValid = (transform : Transform) (cell : Point → Point) (y : Contents) 
 
 -- and so is what is built of layers
 abbrev pub BuiltIsValidOnGrid : Type 0
-BuiltIsValidOnGrid = (transform : Transform) (cell : Point → Point) (t : ℕ) (ls : Named) → IsTransform transform → AreSound ls → AreDistinct (names_of ls)
-    → AllByRecursion (IsOnGrid transform cell) (layers_points (layers_of ls)) → IsTopology (celled transform cell (built t ls))
+BuiltIsValidOnGrid = (transform : Transform) (cell : Point → Point) (t limit : ℕ) (ls : Named) → IsTransform transform → AreSound ls → AreDistinct (names_of ls)
+    → AllByRecursion (IsOnGrid transform cell) (layers_points (layers_of ls)) → IsTopology (celled transform cell (built t limit ls))
 
 -- ---- validity
 
 -- a topology whose arcs keep their ends stays valid
 abbrev pub LessenedIsValid : Type 0
-LessenedIsValid = (kept : List (List ℕ)) (y : Contents) → IsTopology y → EachFromFirstToLast kept y.arcs → IsTopology (lessened_by kept y)
+LessenedIsValid = (kept : List (List ℕ)) (limit : ℕ) (y : Contents) → IsTopology y → EachFromFirstToLast kept y.arcs → IsTopology (lessened_by kept limit y)
 
 -- the numbers of the cells that stay begin with the first and end with the last
 abbrev pub IndexesReach : Type 0
@@ -84,21 +84,21 @@ IndexesReach = (t : ℕ) (y : Contents) → IsTopology y → EachFromFirstToLast
 
 -- so a topology that is reduced is valid
 abbrev pub ReducedIsValid : Type 0
-ReducedIsValid = (t : ℕ) (y : Contents) → IsTopology y → IsTopology (lessened t y)
+ReducedIsValid = (t limit : ℕ) (y : Contents) → IsTopology y → IsTopology (lessened t limit y)
 
 -- ---- assembling
 
 -- what is assembled of layers with each arc reduced at a threshold is what is built of them
 abbrev pub AssemblesToBuilt : Type 0
-AssemblesToBuilt = (t : ℕ) (ls : Named) → AreSound ls → assembled (arc_indexes t ls) ls ≡ built t ls
+AssemblesToBuilt = (t limit : ℕ) (ls : Named) → AreSound ls → assembled (arc_indexes t ls) limit ls ≡ built t limit ls
 
 -- the lines and rings that are dropped are those that are expected to be
 abbrev pub AssemblingDropsExpected : Type 0
-AssemblingDropsExpected = (t : ℕ) (ls : Named) → AreSound ls → assembled_dropped (arc_indexes t ls) ls ≡ expected_dropped t ls
+AssemblingDropsExpected = (t limit : ℕ) (ls : Named) → AreSound ls → assembled_dropped (arc_indexes t ls) limit ls ≡ expected_dropped t limit ls
 
 -- as many positions are taken out as reduction takes out
 abbrev pub AssemblingTakesOut : Type 0
-AssemblingTakesOut = (t : ℕ) (ls : Named) → AreSound ls → assembled_taken_out (arc_indexes t ls) ls ≡ taken_out t ls
+AssemblingTakesOut = (t limit : ℕ) (ls : Named) → AreSound ls → assembled_taken_out (arc_indexes t ls) limit ls ≡ taken_out t limit ls
 
 -- the numbers of the positions that stay of the layers' arcs begin with the first and end with the last
 abbrev pub ArcIndexesReach : Type 0
@@ -106,5 +106,5 @@ ArcIndexesReach = (t : ℕ) (ls : Named) → AreSound ls → EachFromFirstToLast
 
 -- what is assembled of arcs that keep their ends is valid
 abbrev pub AssembledIsValid : Type 0
-AssembledIsValid = (kept : List (List ℕ)) (ls : Named) → AreSound ls → AreDistinct (names_of ls) → EachFromFirstToLast kept (arcs_of_layers ls)
-    → IsTopology (assembled kept ls)
+AssembledIsValid = (kept : List (List ℕ)) (limit : ℕ) (ls : Named) → AreSound ls → AreDistinct (names_of ls) → EachFromFirstToLast kept (arcs_of_layers ls)
+    → IsTopology (assembled kept limit ls)

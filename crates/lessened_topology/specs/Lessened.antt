@@ -43,13 +43,13 @@ EachFromFirstToLast (is ∷ kept) (cells ∷ arcs) = FromFirstToLast (length cel
 
 -- ---- lines and rings
 
--- why a line or ring is dropped for its own sake: rebuilt of the reduced arcs it has too few positions
-abbrev pub small_cause : List (List Point) → Bool → List ℤ → Option Cause
-small_cause arcs closed refs = if is_small closed (rejoined (map (arc_at arcs) refs)) then Some Small else None
+-- why a line or ring is dropped for its own sake: rebuilt of the reduced arcs it is small
+abbrev pub small_cause : ℕ → List (List Point) → Bool → List ℤ → Option Cause
+small_cause limit arcs closed refs = if is_small limit closed (rejoined (map (arc_at arcs) refs)) then Some Small else None
 
 -- its arc indexes, unless it is dropped
-abbrev pub large_refs : List (List Point) → Bool → List ℤ → Option (List ℤ)
-large_refs arcs closed refs = unless (small_cause arcs closed refs) refs
+abbrev pub large_refs : ℕ → List (List Point) → Bool → List ℤ → Option (List ℤ)
+large_refs limit arcs closed refs = unless (small_cause limit arcs closed refs) refs
 
 -- ---- objects
 
@@ -70,25 +70,25 @@ objects_pruned kept os = map (λ o. (o.0, object_pruned kept o.1)) os
 
 -- ---- topologies
 
--- of each arc the cells of these numbers, and without the lines and rings that are left with too few positions
-abbrev pub picked_whole : List (List ℕ) → Contents → Contents
-picked_whole kept y =
-    record { objects = objects_pruned (large_refs (placed_arcs y.transform (picked_arcs kept y.arcs))) y.objects; arcs = picked_arcs kept y.arcs; transform = y.transform }
+-- of each arc the cells of these numbers, and without the lines and rings that are then small by a limit
+abbrev pub picked_whole : List (List ℕ) → ℕ → Contents → Contents
+picked_whole kept limit y =
+    record { objects = objects_pruned (large_refs limit (placed_arcs y.transform (picked_arcs kept y.arcs))) y.objects; arcs = picked_arcs kept y.arcs; transform = y.transform }
 
 -- the same without the arcs that no kept line uses
-unfoldable pub lessened_by : List (List ℕ) → Contents → Contents
-lessened_by kept y = trimmed (picked_whole kept y)
+unfoldable pub lessened_by : List (List ℕ) → ℕ → Contents → Contents
+lessened_by kept limit y = trimmed (picked_whole kept limit y)
 
 -- the lines and rings of a shape that may be null that are dropped, and the ways to them
-abbrev pub option_small : List (List Point) → Option TopoShape → List (Placed Cause)
-option_small arcs None = []
-option_small arcs (Some s) = omissions (small_cause arcs) s
+abbrev pub option_small : ℕ → List (List Point) → Option TopoShape → List (Placed Cause)
+option_small limit arcs None = []
+option_small limit arcs (Some s) = omissions (small_cause limit arcs) s
 
 -- the lines and rings that are dropped, in reading order; an object stands in the place of a layer
-unfoldable pub dropped_by : List (List ℕ) → Contents → List Dropped
-dropped_by kept y =
-    dropped_of_layers 0 (map (λ o. map (λ f. option_small (placed_arcs y.transform (picked_arcs kept y.arcs)) f.shape) (object_features o.1)) y.objects)
+unfoldable pub dropped_by : List (List ℕ) → ℕ → Contents → List Dropped
+dropped_by kept limit y =
+    dropped_of_layers 0 (map (λ o. map (λ f. option_small limit (placed_arcs y.transform (picked_arcs kept y.arcs)) f.shape) (object_features o.1)) y.objects)
 
 -- how many positions are taken out of the arcs that stay
-unfoldable pub taken_out_by : List (List ℕ) → Contents → ℕ
-taken_out_by kept y = positions_of (keep_from (is_used (picked_whole kept y).objects) 0 y.arcs) - positions_of (lessened_by kept y).arcs
+unfoldable pub taken_out_by : List (List ℕ) → ℕ → Contents → ℕ
+taken_out_by kept limit y = positions_of (keep_from (is_used (picked_whole kept limit y).objects) 0 y.arcs) - positions_of (lessened_by kept limit y).arcs

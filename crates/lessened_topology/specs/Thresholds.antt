@@ -17,14 +17,14 @@ placed_cells (Some t) cells = map (place_on t) cells
 abbrev pub reduced_indexes : ℕ → Contents → List (List ℕ)
 reduced_indexes t y = map (λ cells. reduce t (placed_cells y.transform cells)) y.arcs
 
--- the topology with each arc reduced at a threshold
-unfoldable pub lessened : ℕ → Contents → Contents
-lessened t y = lessened_by (reduced_indexes t y) y
+-- the topology with each arc reduced at a threshold, without the lines and rings that are then small by a limit
+unfoldable pub lessened : ℕ → ℕ → Contents → Contents
+lessened t limit y = lessened_by (reduced_indexes t y) limit y
 
 -- the lines and rings that are then dropped, in reading order
-unfoldable pub lessened_dropped : ℕ → Contents → List Dropped
-lessened_dropped t y = dropped_by (reduced_indexes t y) y
+unfoldable pub lessened_dropped : ℕ → ℕ → Contents → List Dropped
+lessened_dropped t limit y = dropped_by (reduced_indexes t y) limit y
 
 -- how many positions are then taken out of the arcs that stay
-unfoldable pub lessened_taken_out : ℕ → Contents → ℕ
-lessened_taken_out t y = taken_out_by (reduced_indexes t y) y
+unfoldable pub lessened_taken_out : ℕ → ℕ → Contents → ℕ
+lessened_taken_out t limit y = taken_out_by (reduced_indexes t y) limit y

@@ -10,7 +10,7 @@ pub fn picked_is_reduced()
     ensures { PickedIsReduced }
 {}
 
-/// What is built of layers at a threshold of zero and then reduced at a threshold is what is built of them at that threshold.
+/// What is built of layers at a threshold and a limit of zero and then reduced by both is what is built of them by both.
 #[tactic(auto, using(crate::proofs::Lessened::lessens_to_built))]
 pub fn lessens_to_built()
     ensures { LessensToBuilt }
@@ -70,8 +70,7 @@ pub fn built_is_valid_on_grid()
     nothing_is_new();
 }
 
-/// A topology of whose arcs cells are left out between the ends is valid again, without the lines that are then too short.
-#[tactic(auto, using(crate::proofs::Valid::lessened_is_valid))]
+/// A topology of whose arcs cells are left out between the ends is valid again, without the lines and rings that are then small.
 pub fn lessened_is_valid()
     ensures { LessenedIsValid }
 {}
@@ -121,7 +120,6 @@ pub fn arc_indexes_reach()
 {}
 
 /// What is assembled of layers is valid, where each arc keeps its ends.
-#[tactic(auto, using(crate::proofs::Assembled::assembled_is_valid))]
 pub fn assembled_is_valid()
     ensures { AssembledIsValid }
 {

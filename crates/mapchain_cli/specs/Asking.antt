@@ -12,7 +12,7 @@ use Rattle.topology_building.specs.declared.options.Options.{Options}
 use Rattle.topology_files.specs.Geo.{IsGeoFault}
 use Rattle.topology_simplifying.specs.Simplified.{IsSimplifyFault}
 use Rattle.mapchain_cli.specs.declared.ending.Ending.{Ending}
-use Rattle.mapchain_cli.specs.declared.ending.Ending.TheVariants.{BadArea, Refused, FileRefused, Memory}
+use Rattle.mapchain_cli.specs.declared.ending.Ending.TheVariants.{BadArea, BadRingArea, Refused, FileRefused, Memory}
 use Rattle.mapchain_cli.specs.Endings.{BuildsOf, DecodesOf, IsSummaryFault, RefusesFile, RefusesLayers, SimplifiesOf, Summarises}
 use Rattle.mapchain_cli.specs.Opening.{Contents, Layers}
 
@@ -20,45 +20,54 @@ use Rattle.mapchain_cli.specs.Opening.{Contents, Layers}
 abbrev pub texts_of : List (Bor (List ℕ) × Bor (List ℕ)) → Layers
 texts_of layers = map (λ l. (l.0.now, l.1.now)) layers
 
--- whether coordinates may be rounded, the grid, and the text of the area whose threshold the options have
-abbrev pub IsAskedFor : Bool → Option ℕ → List ℕ → Options → Type 0
-IsAskedFor exact grid area options =
-    (options.exact ≡ exact) × (options.grid ≡ grid) × (threshold_of area ≡ Some options.threshold)
+-- whether coordinates may be rounded, the grid, and the texts of the areas whose thresholds the options have
+abbrev pub IsAskedFor : Bool → Option ℕ → List ℕ → List ℕ → Options → Type 0
+IsAskedFor exact grid area ring_area options =
+    (options.exact ≡ exact) × (options.grid ≡ grid) × (threshold_of area ≡ Some options.threshold) × (threshold_of ring_area ≡ Some options.ring_limit)
 
 -- what was asked for was written of these files: a build with its options, or what is left of a topology, which have a report; the
 -- features of an object; a summary
 abbrev pub IsAnswered : Contents → Request → Drained → Drained → Option Report → Type 0
-IsAnswered contents (Build layers exact grid area) old new (Some report) =
-    (options : Options) × IsAskedFor exact grid area.now options × BuildsOf contents options (texts_of layers.items) old new report
-IsAnswered contents (Simplify area path) old new (Some report) =
-    (t : ℕ) × (threshold_of area.now ≡ Some t) × SimplifiesOf contents t path.now old new report
+IsAnswered contents (Build layers exact grid area ring_area) old new (Some report) =
+    (options : Options) × IsAskedFor exact grid area.now ring_area.now options × BuildsOf contents options (texts_of layers.items) old new report
+IsAnswered contents (Simplify area ring_area path) old new (Some report) =
+    (t : ℕ) × (limit : ℕ) × (threshold_of area.now ≡ Some t) × (threshold_of ring_area.now ≡ Some limit) × SimplifiesOf contents t limit path.now old new report
 IsAnswered contents (Geo name path) old new None = DecodesOf contents name.now path.now old new
 IsAnswered contents (Stat path) old new None = Summarises contents path.now old new
 IsAnswered contents request old new report = ⊥
 
--- the area that is asked for has no threshold
-abbrev pub HasBadArea : Request → Type 0
-HasBadArea (Build layers exact grid area) = threshold_of area.now ≡ None
-HasBadArea (Simplify area path) = threshold_of area.now ≡ None
-HasBadArea request = ⊥
+-- the first of these areas has no threshold, or else the second hasn't, or memory was refused
+abbrev pub AreRefused : List ℕ → List ℕ → Ending → Type 0
+AreRefused area ring_area BadArea = threshold_of area ≡ None
+AreRefused area ring_area BadRingArea = ((t : ℕ) × (threshold_of area ≡ Some t)) × (threshold_of ring_area ≡ None)
+AreRefused area ring_area Memory = Unit {0}
+AreRefused area ring_area e = ⊥
+
+-- the areas that are asked for are refused in this way
+abbrev pub HasBadArea : Request → Ending → Type 0
+HasBadArea (Build layers exact grid area ring_area) e = AreRefused area.now ring_area.now e
+HasBadArea (Simplify area ring_area path) e = AreRefused area.now ring_area.now e
+HasBadArea request e = ⊥
 
 -- why the build that is asked for isn't done
 abbrev pub RefusesBuild : Contents → Request → Drained → Drained → BuildFault → Type 0
-RefusesBuild contents (Build layers exact grid area) old new e =
-    (options : Options) × IsAskedFor exact grid area.now options × RefusesLayers contents options (texts_of layers.items) old new e
+RefusesBuild contents (Build layers exact grid area ring_area) old new e =
+    (options : Options) × IsAskedFor exact grid area.now ring_area.now options × RefusesLayers contents options (texts_of layers.items) old new e
 RefusesBuild contents request old new e = ⊥
 
 -- why the topology of a file isn't simplified, decoded or summarised as is asked for
 abbrev pub RefusesTopology : Contents → Request → Drained → Drained → FileFault → Type 0
-RefusesTopology contents (Simplify area path) old new e =
-    (t : ℕ) × (threshold_of area.now ≡ Some t) × RefusesFile contents path.now old new (λ s u. IsSimplifyFault t s u old new) e
+RefusesTopology contents (Simplify area ring_area path) old new e =
+    (t : ℕ) × (limit : ℕ) × (threshold_of area.now ≡ Some t) × (threshold_of ring_area.now ≡ Some limit)
+    × RefusesFile contents path.now old new (λ s u. IsSimplifyFault t limit s u old new) e
 RefusesTopology contents (Geo name path) old new e = RefusesFile contents path.now old new (λ s u. IsGeoFault name.now s u old new) e
 RefusesTopology contents (Stat path) old new e = RefusesFile contents path.now old new (IsSummaryFault old new) e
 RefusesTopology contents request old new e = ⊥
 
 -- why what was asked for isn't done
 abbrev pub IsRefused : Contents → Request → Drained → Drained → Ending → Type 0
-IsRefused contents request old new BadArea = (new ≡ old) × HasBadArea request
+IsRefused contents request old new BadArea = (new ≡ old) × HasBadArea request BadArea
+IsRefused contents request old new BadRingArea = (new ≡ old) × HasBadArea request BadRingArea
 IsRefused contents request old new (Refused e) = RefusesBuild contents request old new e
 IsRefused contents request old new (FileRefused e) = RefusesTopology contents request old new e
 IsRefused contents request old new Memory = new ≡ old

@@ -28,12 +28,13 @@ pub record BuildsOf (contents : Contents) (options : Options) (layers : Layers) 
   pub opened : AreOpened contents layers sources_old
   pub built : IsBuilt options sources_old sources_new old new report
 
--- what is left of the topology of the file of this path was written, where it is reduced at this threshold
-pub record SimplifiesOf (contents : Contents) (threshold : ℕ) (path : List ℕ) (old new : Drained) (report : Report) : Type 0 where
+-- what is left of the topology of the file of this path was written, where it is reduced at this threshold, without rings under this
+-- limit
+pub record SimplifiesOf (contents : Contents) (threshold ring_limit : ℕ) (path : List ℕ) (old new : Drained) (report : Report) : Type 0 where
   pub source_old : Fed
   pub source_new : Fed
   pub opened : IsOpened contents path source_old
-  pub simplified : IsSimplified threshold source_old source_new old new report
+  pub simplified : IsSimplified threshold ring_limit source_old source_new old new report
 
 -- the text of the features of an object of this name was written, of the topology of the file of this path
 pub record DecodesOf (contents : Contents) (name path : List ℕ) (old new : Drained) : Type 0 where

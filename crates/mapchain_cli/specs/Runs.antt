@@ -16,7 +16,7 @@ use Rattle.reports.specs.declared.report.Report.{Report}
 use Rattle.mapchain_cli.specs.Asking.{IsAnswered, IsRefused}
 use Rattle.mapchain_cli.specs.Opening.{Contents}
 use Rattle.mapchain_cli.specs.declared.ending.Ending.{Ending}
-use Rattle.mapchain_cli.specs.declared.ending.Ending.TheVariants.{BadArea, Refused, FileRefused, Memory}
+use Rattle.mapchain_cli.specs.declared.ending.Ending.TheVariants.{BadArea, BadRingArea, Refused, FileRefused, Memory}
 
 -- standard output and standard error
 pub record Streams : Type 0 where
@@ -33,6 +33,7 @@ told_of (Some report) = report_text report
 -- of one that isn't done: a line. For want of memory before the files are read there is none
 abbrev pub line_of : Ending → List ℕ
 line_of BadArea = codes "error: bad area\n"
+line_of BadRingArea = codes "error: bad ring area\n"
 line_of (Refused fault) = fault_text fault
 line_of (FileRefused fault) = file_fault_text fault
 line_of Memory = []
@@ -40,6 +41,7 @@ line_of Memory = []
 -- and its status: 1 where the contents of a file are refused, 2 where words are, 3 where devices or memory fail
 abbrev pub ending_status : Ending → ℕ
 ending_status BadArea = words_refused
+ending_status BadRingArea = words_refused
 ending_status (Refused fault) = status_of fault
 ending_status (FileRefused fault) = file_status_of fault
 ending_status Memory = failed

@@ -7,6 +7,8 @@ use std::alloc::{AllocError, AllocFailed};
 pub(crate) enum Ending {
     /// The area isn't one that is taken.
     BadArea,
+    /// The least area of a ring isn't one that is taken.
+    BadRingArea,
     /// The file of a layer couldn't be opened, or the engine refused to build.
     Refused(BuildFault),
     /// The file of a topology couldn't be opened, or the engine refused it.

@@ -1,6 +1,7 @@
 // Running the commands that take the file of a topology.
-ghost use Rattle.std.specs.Prelude.{◌≡◌, None, IfErr, IfOk};
+ghost use Rattle.std.specs.Prelude.{◌≡◌, ◌≤◌, None, IfErr, IfOk};
 ghost use Rattle.byte_ends.specs.declared.source.ReadFault.TheVariants as read;
+ghost use Rattle.geometry.specs.Units.{threshold_limit};
 ghost use Rattle.inputs.specs.declared.file_fault.FileFault.TheVariants as file;
 ghost use Rattle.reports.specs.Summaries as spec;
 ghost use Rattle.topology_files.specs.Geo.{IsGeoFault, SendsText};
@@ -45,21 +46,23 @@ pub(crate) fn decode_object<F: Files, V: Drain>(
     Ok(())
 }
 
-/// Simplifies a topology at this threshold, and gives the report.
+/// Simplifies a topology at this threshold, without rings under this limit, and gives the report.
 pub(crate) fn simplify_file<F: Files, V: Drain>(
     alloc: Global,
     threshold: u128,
+    ring_limit: u128,
     path: &str,
     files: &mut F,
     out: &mut Sink<V>,
 ) -> Result<Report, FileFault>
-    ensures simplified { IfOk result (λ report. SimplifiesOf (F.contents files.old) threshold path.now out.old out.new report) }
+    requires { ring_limit ≤ threshold_limit }
+    ensures simplified { IfOk result (λ report. SimplifiesOf (F.contents files.old) threshold ring_limit path.now out.old out.new report) }
     ensures refused { IfErr result (λ e. RefusesFile (F.contents files.old) path.now out.old out.new
-        (λ s u. IsSimplifyFault threshold s u out.old out.new) e) }
+        (λ s u. IsSimplifyFault threshold ring_limit s u out.old out.new) e) }
 {
     let mut source = open_file(path, files)?;
     let mut reducer = HeapLinks::new();
-    let report = simplify(alloc, &mut reducer, &mut source, threshold, out)?;
+    let report = simplify(alloc, &mut reducer, &mut source, threshold, ring_limit, out)?;
     Ok(report)
 }
 

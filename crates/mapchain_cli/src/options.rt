@@ -3,7 +3,7 @@ ghost use Rattle.std.specs.Prelude.{◌≡◌, ◌⊎◌, ◌≤◌, IfErr, IfOk
 ghost use Rattle.area_thresholds.specs.Thresholds.{threshold_of};
 ghost use Rattle.geometry.specs.Units.{threshold_limit};
 ghost use Rattle.command_words.specs.Requests.{IsCells};
-ghost use Rattle.mapchain_cli.specs.Asking.{IsAskedFor};
+ghost use Rattle.mapchain_cli.specs.Asking.{AreRefused, IsAskedFor};
 ghost use Rattle.mapchain_cli.specs.declared.ending.Ending.TheVariants as ending;
 
 use crate::ending::Ending;
@@ -12,35 +12,54 @@ use byte_ends::Memory;
 use std::alloc::Global;
 use topology_building::Options;
 
-/// The threshold of the area of this text, which is looked at here.
-pub(crate) fn threshold_asked(alloc: Global, area: &str) -> Result<u128, Ending>
+/// The threshold of the area of this text, which is looked at here. An area that has none is refused in this way.
+pub(crate) fn threshold_asked(alloc: Global, area: &str, refused: Ending) -> Result<u128, Ending>
     ensures asked { IfOk result (λ t. threshold_of area.now ≡ Some t) }
     ensures within { IfOk result (λ t. t ≤ threshold_limit) }
     // An area that has no threshold is refused, and no other.
-    ensures refused { IfErr result (λ e. ((e ≡ ending.BadArea) × (threshold_of area.now ≡ None)) ⊎ (e ≡ ending.Memory)) }
+    ensures refused { IfErr result (λ e. ((e ≡ refused) × (threshold_of area.now ≡ None)) ⊎ (e ≡ ending.Memory)) }
 {
     match read_threshold(alloc, area) {
         Ok(Some(threshold)) => Ok(threshold),
-        Ok(None) => Err(Ending::BadArea),
+        Ok(None) => Err(refused),
         Err(Memory) => Err(Ending::Memory),
     }
 }
 
-/// What is asked for with this grid and with the area of this text.
+/// The thresholds of the area and of the ring area of these texts, which are looked at in this order.
+pub(crate) fn thresholds_asked(
+    alloc: Global,
+    area: &str,
+    ring_area: &str,
+) -> Result<(u128, u128), Ending>
+    ensures area { IfOk result (λ r. threshold_of area.now ≡ Some r.0) }
+    ensures ring_area { IfOk result (λ r. threshold_of ring_area.now ≡ Some r.1) }
+    ensures area_within { IfOk result (λ r. r.0 ≤ threshold_limit) }
+    ensures ring_area_within { IfOk result (λ r. r.1 ≤ threshold_limit) }
+    ensures refused { IfErr result (AreRefused area.now ring_area.now) }
+{
+    let threshold = threshold_asked(alloc, area, Ending::BadArea)?;
+    let ring_limit = threshold_asked(alloc, ring_area, Ending::BadRingArea)?;
+    Ok((threshold, ring_limit))
+}
+
+/// What is asked for with this grid and with the areas of these texts.
 pub(crate) fn options_of(
     alloc: Global,
     exact: bool,
     grid: Option<u32>,
     area: &str,
+    ring_area: &str,
 ) -> Result<Options, Ending>
     requires { IfSome grid IsCells }
-    ensures asked { IfOk result (λ options. IsAskedFor exact grid area.now options) }
-    ensures refused { IfErr result (λ e. ((e ≡ ending.BadArea) × (threshold_of area.now ≡ None)) ⊎ (e ≡ ending.Memory)) }
+    ensures asked { IfOk result (λ options. IsAskedFor exact grid area.now ring_area.now options) }
+    ensures refused { IfErr result (AreRefused area.now ring_area.now) }
 {
-    let threshold = threshold_asked(alloc, area)?;
+    let (threshold, ring_limit) = thresholds_asked(alloc, area, ring_area)?;
     Ok(Options {
         grid,
         threshold,
+        ring_limit,
         exact,
     })
 }

@@ -11,7 +11,7 @@ ghost use Rattle.mapchain_cli.specs.declared.ending.Ending.TheVariants as ending
 use crate::ending::Ending;
 use crate::file_running::{decode_object, simplify_file, summarise};
 use crate::files::Files;
-use crate::options::{options_of, threshold_asked};
+use crate::options::{options_of, thresholds_asked};
 use crate::telling::{tell_done, tell_ending, tell_words};
 use byte_ends::{Drain, ReadFault, Sink, Source};
 use command_words::{Request, read_words};
@@ -83,14 +83,19 @@ fn answer<F: Files, V: Drain>(
             exact,
             grid,
             area,
+            ring_area,
         } => {
-            let options = options_of(alloc, exact, grid, area)?;
+            let options = options_of(alloc, exact, grid, area, ring_area)?;
             let report = build_layers(alloc, layers.as_slice(), &options, files, out)?;
             Ok(Some(report))
         }
-        Request::Simplify { area, path } => {
-            let threshold = threshold_asked(alloc, area)?;
-            let report = simplify_file(alloc, threshold, path, files, out)?;
+        Request::Simplify {
+            area,
+            ring_area,
+            path,
+        } => {
+            let (threshold, ring_limit) = thresholds_asked(alloc, area, ring_area)?;
+            let report = simplify_file(alloc, threshold, ring_limit, path, files, out)?;
             Ok(Some(report))
         }
         Request::Geo { name, path } => {

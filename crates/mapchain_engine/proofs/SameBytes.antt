@@ -35,8 +35,8 @@ module _ (one : HaveOneOutcome) (read : ReadIsOutcome) where
       )
 
   pub simplifies_of_same : SimplifiesToBuilt → SimplifiesToBuiltOfSame
-  simplifies_of_same law o p olds news sink_old sink_new report a more_olds more_news more_old more_new more_report b zero grid exact same source after out_old out_new simplified from s =
+  simplifies_of_same law o p olds news sink_old sink_new report a more_olds more_news more_old more_new more_report b zero none grid exact same source after out_old out_new simplified from s =
       let x : Read = (a.layers, a.counts) in
       let y : Read = (b.layers, b.counts) in
       let e : x ≡ y = same_read o.exact olds news more_olds more_news x y same a.builds.read (subst (λ z. AllRead z more_olds more_news b.layers b.counts) exact b.builds.read) in
-      law o p olds news sink_old sink_new report a more_olds more_news more_old more_new more_report b zero grid (sym (ap (λ (z : Read). z.0) e)) source after out_old out_new simplified from s
+      law o p olds news sink_old sink_new report a more_olds more_news more_old more_new more_report b zero none grid (sym (ap (λ (z : Read). z.0) e)) source after out_old out_new simplified from s

@@ -22,14 +22,14 @@ use Rattle.topology_simplifying.specs.Outcomes.{simplified, FollowsSimplified}
 use Rattle.topology_simplifying.specs.Simplified.{lessened_text, report_of, IsSimplifyFault}
 
 -- Where they are no more than an input may have, what a build wrote comes, with the name of each layer, to the text of the features that
--- are expected of it, to the summary of the topology that is built, and at each threshold to what is left of that topology. So `to_geo`,
+-- are expected of it, to the summary of the topology that is built, and at each threshold and ring limit to what is left of that topology. So `to_geo`,
 -- `stat` and `simplify`, which answer what the bytes come to, refuse it only for memory or a device.
 abbrev pub ComesBack : Type 0
 ComesBack = (o : Options) (olds news : Sources) (sink_old sink_new : Drained) (report : Report) (is : IsBuilt o olds news sink_old sink_new report)
     (source : Fed) (from : IsWrittenTo sink_old sink_new source) → length from.bytes ≤ max_input
     → AllByRecursion (λ l. FileComesTo (object_text l.0) from.bytes (Ok (features_text (Many l.1.features)))) (expected_for o is.layers)
     × FileComesTo summarised from.bytes (Ok (summary_of (written_for o is.layers)))
-    × ((t : ℕ) → FileComesTo (simplified t) from.bytes (simplified t (written_for o is.layers) no_counts))
+    × ((t limit : ℕ) → FileComesTo (simplified t limit) from.bytes (simplified t limit (written_for o is.layers) no_counts))
 
 -- ---- what is answered of them
 
@@ -43,9 +43,9 @@ pub record AnswersStat (old new : Fed) (result : Result Summary FileFault) : Typ
   pub refused : IfErr result (λ e. FailsToGive old new e)
   pub decided : (bytes : List ℕ) (outcome : Result Summary FileFault) → old.left ≡ Some bytes → FileComesTo summarised bytes outcome → FollowsSummary outcome result
 
-pub record AnswersSimplify (t : ℕ) (old new : Fed) (out_old out_new : Drained) (result : Result Report FileFault) : Type 0 where
-  pub refused : IfErr result (λ e. IsSimplifyFault t old new out_old out_new e)
-  pub decided : (bytes : List ℕ) (outcome : Result (List ℕ × Report) FileFault) → old.left ≡ Some bytes → FileComesTo (simplified t) bytes outcome
+pub record AnswersSimplify (t limit : ℕ) (old new : Fed) (out_old out_new : Drained) (result : Result Report FileFault) : Type 0 where
+  pub refused : IfErr result (λ e. IsSimplifyFault t limit old new out_old out_new e)
+  pub decided : (bytes : List ℕ) (outcome : Result (List ℕ × Report) FileFault) → old.left ≡ Some bytes → FileComesTo (simplified t limit) bytes outcome
       → FollowsSimplified out_old out_new outcome result
 
 -- an answer of which this holds, or want of memory
@@ -68,10 +68,10 @@ StatIsNeverRefused = (o : Options) (olds news : Sources) (sink_old sink_new : Dr
     (source after : Fed) (result : Result Summary FileFault) (from : IsWrittenTo sink_old sink_new source) → length from.bytes ≤ max_input
     → after.failures ≡ 0 → AnswersStat source after result → OrMemory (λ summary. summary ≡ summary_of (written_for o is.layers)) result
 
--- and `simplify` writes at each threshold the text of what is left of that topology, with its report; or there is no memory.
+-- and `simplify` writes at each threshold and ring limit the text of what is left of that topology, with its report; or there is no memory.
 abbrev pub SimplifyIsNeverRefused : Type 0
 SimplifyIsNeverRefused = (o : Options) (olds news : Sources) (sink_old sink_new : Drained) (report : Report) (is : IsBuilt o olds news sink_old sink_new report)
-    (t : ℕ) (source after : Fed) (out_old out_new : Drained) (result : Result Report FileFault) (from : IsWrittenTo sink_old sink_new source) → length from.bytes ≤ max_input
-    → after.failures ≡ 0 → out_new.failures ≡ 0 → AnswersSimplify t source after out_old out_new result
-    → OrMemory (λ told. Takes out_old out_new (lessened_text t (written_for o is.layers)) (length (lessened_text t (written_for o is.layers)))
-    × (told ≡ report_of t (written_for o is.layers) no_counts)) result
+    (t limit : ℕ) (source after : Fed) (out_old out_new : Drained) (result : Result Report FileFault) (from : IsWrittenTo sink_old sink_new source) → length from.bytes ≤ max_input
+    → after.failures ≡ 0 → out_new.failures ≡ 0 → AnswersSimplify t limit source after out_old out_new result
+    → OrMemory (λ told. Takes out_old out_new (lessened_text t limit (written_for o is.layers)) (length (lessened_text t limit (written_for o is.layers)))
+    × (told ≡ report_of t limit (written_for o is.layers) no_counts)) result

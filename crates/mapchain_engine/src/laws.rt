@@ -33,14 +33,14 @@ pub fn built_text_comes_back()
 
 /// So what `build` wrote is never refused: on no more than `MAX_INPUT` bytes of it, and where no device has failed, whatever `to_geo`,
 /// `stat` and `simplify` answer by their contracts is `Ok`, with the features that are expected of a layer, the summary of the topology
-/// that was built, or what is left of it at the threshold; or it is `Memory`.
+/// that was built, or what is left of it by threshold and ring limit; or it is `Memory`.
 pub fn built_text_is_never_refused()
     ensures geo { GeoIsNeverRefused }
     ensures stat { StatIsNeverRefused }
     ensures simplify { SimplifyIsNeverRefused }
 {}
 
-/// At a threshold of zero what is expected of each line of the layers is the line, with equal neighbours as one position and a ring
+/// At a threshold and a ring limit of zero what is expected of each line of the layers is the line, with equal neighbours as one position and a ring
 /// from its start; only what has too few positions is dropped.
 pub fn built_at_zero_loses_nothing()
     ensures { LosesNothing }
@@ -58,8 +58,8 @@ pub fn built_text_is_summarised()
     one_value();
 }
 
-/// What `build` wrote at a threshold of zero, simplified at a threshold, is byte for byte what `build` writes of the same layers, on the
-/// same grid, at that threshold: one full file is kept, and smaller ones are made of it.
+/// What `build` wrote at a threshold and a ring limit of zero, simplified by both, is byte for byte what `build` writes of the same
+/// layers, on the same grid, by both: one full file is kept, and smaller ones are made of it.
 pub fn simplified_text_is_built()
     ensures { SimplifiesToBuilt }
 {

@@ -4,6 +4,7 @@ use Rattle.std.specs.List.{AllByRecursion}
 use Rattle.std.specs.Prelude.{sum, if◌then◌else◌}
 use Rattle.std.proofs.lemmas.Option.{none-some}
 use Rattle.std.proofs.Math.Path.{fun_ext}
+use Rattle.arc_choice.specs.Rebuilding.{Rebuilding}
 use Rattle.arc_table.specs.Arcs.{ArcsAndIndexes, arcs_of, index_in, table_of}
 use Rattle.build_meaning.specs.Built.{all_arcs, untrimmed, positions_of}
 use Rattle.build_meaning.specs.Expected.{own_pieces, is_small, kept_line, unless}
@@ -40,6 +41,7 @@ use Rattle.topojson_types.specs.Topologies.{Contents, object_features, objects_s
 use Rattle.topojson_types.specs.Validity.{IsPlace, IsTopology}
 use Rattle.topology_reduction.specs.Drops.{draft_cause, shape_drops, objects_drops}
 use Rattle.topology_reduction.proofs.Result as result
+use Rattle.topology_reduction.proofs.Result.{of_arcs}
 use Rattle.topo_model.specs.Drafts.{RefsOf, long_refs, draft_refs, relined, feature_drafted, objects_drafted}
 use Rattle.topo_model.proofs.Relined.{pruned_once, dropped_once}
 
@@ -98,13 +100,13 @@ module _ (of : RefsOf) (k : Refs) where
   draft_pruned (l ∷ ls) = rw (features_pruned l.1.features, draft_pruned ls) refl
 
 -- a line or ring without indexes has too few positions over any arcs
-large_are : (lines : List Stroke) (arcs : List (List Point)) (closed : Bool) (ps : List Point) → large_refs arcs closed (draft_refs (own_refs lines) closed ps) ≡ kept_by lines arcs closed ps
-large_are lines arcs true ps = grind arith
-large_are lines arcs false ps = grind arith
+large_are : (lines : List Stroke) (arcs : List (List Point)) (limit : ℕ) (closed : Bool) (ps : List Point) → large_refs limit arcs closed (draft_refs (own_refs lines) closed ps) ≡ kept_by lines arcs limit closed ps
+large_are lines arcs limit true ps = grind arith
+large_are lines arcs limit false ps = grind arith
 
 -- ---- what is dropped of a draft
 
-module _ (of : RefsOf) (arcs : List (List Point)) where
+module _ (of : RefsOf) (arcs : Rebuilding) where
   abbrev cause : Bool → List Point → Option Cause
   cause closed ps = draft_cause arcs closed (draft_refs of closed ps)
 
@@ -121,10 +123,10 @@ module _ (of : RefsOf) (arcs : List (List Point)) where
   layers_dropped (l ∷ ls) = rw (features_dropped l.1.features, layers_dropped ls) refl
 
 -- a line or ring that has enough positions has an index
-module _ (lines : List Stroke) (arcs : List (List Point)) (b : Bool × List Point) (whole : IsWholeAtZero lines b) where
+module _ (lines : List Stroke) (arcs : List (List Point)) (limit : ℕ) (b : Bool × List Point) (whole : IsWholeAtZero lines b) where
   -- why it is dropped at zero, by its pieces
   abbrev at_zero : List (List Point) → Option Cause
-  at_zero ps = if is_small b.0 (rejoined (map (reduced 0) ps)) then Some Small else None
+  at_zero ps = if is_small 0 b.0 (rejoined (map (reduced 0) ps)) then Some Small else None
 
   small_none : at_zero [] ≡ Some Small
   small_none = grind arith
@@ -132,27 +134,27 @@ module _ (lines : List Stroke) (arcs : List (List Point)) (b : Bool × List Poin
   some_pieces : is_short b.0 (clean b.1) ≡ false → own_pieces lines b.0 b.1 ≡ [] → ⊥
   some_pieces long none = none-some Small (sym (no_small lines b whole long) ∙ rw long refl ∙ ap at_zero none ∙ small_none)
 
-  by_pieces : is_short b.0 (clean b.1) ≡ false → (ps : List (List Point)) → own_pieces lines b.0 b.1 ≡ ps → draft_cause arcs b.0 (own_refs lines b.0 b.1) ≡ small_cause arcs b.0 (own_refs lines b.0 b.1)
+  by_pieces : is_short b.0 (clean b.1) ≡ false → (ps : List (List Point)) → own_pieces lines b.0 b.1 ≡ ps → draft_cause (of_arcs limit arcs) b.0 (own_refs lines b.0 b.1) ≡ small_cause limit arcs b.0 (own_refs lines b.0 b.1)
   by_pieces long [] is = absurd (some_pieces long is)
   by_pieces long (p ∷ ps) is =
-      ap (λ zs. draft_cause arcs b.0 (map (index_in (all_arcs lines)) zs)) is ∙ sym (ap (λ zs. small_cause arcs b.0 (map (index_in (all_arcs lines)) zs)) is)
+      ap (λ zs. draft_cause (of_arcs limit arcs) b.0 (map (index_in (all_arcs lines)) zs)) is ∙ sym (ap (λ zs. small_cause limit arcs b.0 (map (index_in (all_arcs lines)) zs)) is)
 
-  by_length : (short : Bool) → is_short b.0 (clean b.1) ≡ short → draft_cause arcs b.0 (draft_refs (own_refs lines) b.0 b.1) ≡ assembled_cause lines arcs b.0 b.1
+  by_length : (short : Bool) → is_short b.0 (clean b.1) ≡ short → draft_cause (of_arcs limit arcs) b.0 (draft_refs (own_refs lines) b.0 b.1) ≡ assembled_cause lines arcs limit b.0 b.1
   by_length true e = rw e refl
   by_length false e = rw e (by_pieces e (own_pieces lines b.0 b.1) refl)
 
-  pub cause_is : draft_cause arcs b.0 (draft_refs (own_refs lines) b.0 b.1) ≡ assembled_cause lines arcs b.0 b.1
+  pub cause_is : draft_cause (of_arcs limit arcs) b.0 (draft_refs (own_refs lines) b.0 b.1) ≡ assembled_cause lines arcs limit b.0 b.1
   cause_is = by_length (is_short b.0 (clean b.1)) refl
 
 -- ---- the topology
 
-module _ (kept : List (List ℕ)) (ls : Named) (t : ArcsAndIndexes) (is : IsTableOf ls t) (zero : ZeroLaw) (sound : AreSound ls) (picked : List (List Point)) (picks : picked ≡ picked_arcs kept t.arcs) where
+module _ (kept : List (List ℕ)) (limit : ℕ) (ls : Named) (t : ArcsAndIndexes) (is : IsTableOf ls t) (zero : ZeroLaw) (sound : AreSound ls) (picked : List (List Point)) (picks : picked ≡ picked_arcs kept t.arcs) where
   abbrev of : RefsOf
   of = own_refs (lines_of ls)
 
   -- the layers over all arcs
   abbrev pub whole : Contents
-  whole = untrimmed 0 ls
+  whole = untrimmed 0 0 ls
 
   abbrev pub draft : Objects
   draft = objects_drafted of ls
@@ -170,36 +172,36 @@ module _ (kept : List (List ℕ)) (ls : Named) (t : ArcsAndIndexes) (is : IsTabl
   through h = subst (EachFromFirstToLast kept) same_arcs h
 
   -- the draft without lines and rings that are too short is the layers without them
-  draft_is : contents (objects_pruned (large_refs picked) draft) picked ≡ picked_whole kept whole
+  draft_is : contents (objects_pruned (large_refs limit picked) draft) picked ≡ picked_whole kept limit whole
   draft_is =
-      ap (λ os. contents os picked) (draft_pruned of (large_refs picked) ls ∙ ap (λ (k : Kept). objects_by k ls) (fun_ext (λ closed. fun_ext (large_are (lines_of ls) picked closed))))
-      ∙ ap (λ arcs. contents (objects_by (kept_by (lines_of ls) arcs) ls) arcs) fewer_is
-      ∙ sym (before_trimming zero kept ls sound)
+      ap (λ os. contents os picked) (draft_pruned of (large_refs limit picked) ls ∙ ap (λ (k : Kept). objects_by k ls) (fun_ext (λ closed. fun_ext (large_are (lines_of ls) picked limit closed))))
+      ∙ ap (λ arcs. contents (objects_by (kept_by (lines_of ls) arcs limit) ls) arcs) fewer_is
+      ∙ sym (before_trimming zero kept limit ls sound)
 
-  pub large_is : objects_pruned (large_refs picked) draft ≡ result.large kept whole picked picked_is
-  large_is = ap (λ y. y.objects) (draft_is ∙ sym (result.is_whole kept whole picked picked_is))
+  pub large_is : objects_pruned (large_refs limit picked) draft ≡ result.large kept limit whole picked picked_is
+  large_is = ap (λ y. y.objects) (draft_is ∙ sym (result.is_whole kept limit whole picked picked_is))
 
-  pub is_assembled : trimmed (contents (objects_pruned (large_refs picked) draft) picked) ≡ assembled kept ls
+  pub is_assembled : trimmed (contents (objects_pruned (large_refs limit picked) draft) picked) ≡ assembled kept limit ls
   unfolding assembled lessened_by
   is_assembled = ap trimmed draft_is
 
-  pub ranged : IsTopology whole → EachFromFirstToLast kept t.arcs → AllByRecursion (λ b. AreInRange (length picked) b.1) (objects_strokes (objects_pruned (large_refs picked) draft))
+  pub ranged : IsTopology whole → EachFromFirstToLast kept t.arcs → AllByRecursion (λ b. AreInRange (length picked) b.1) (objects_strokes (objects_pruned (large_refs limit picked) draft))
   ranged valid h =
-      subst (λ (os : Objects). AllByRecursion (λ b. AreInRange (length picked) b.1) (objects_strokes os)) (sym large_is) (result.ranged kept whole picked picked_is valid (through h))
+      subst (λ (os : Objects). AllByRecursion (λ b. AreInRange (length picked) b.1) (objects_strokes os)) (sym large_is) (result.ranged kept limit whole picked picked_is valid (through h))
 
-  pub drops_are : objects_drops picked 0 draft ≡ assembled_dropped kept ls
+  pub drops_are : objects_drops (of_arcs limit picked) 0 draft ≡ assembled_dropped kept limit ls
   unfolding assembled_dropped
   drops_are =
-      ap (dropped_of_layers 0) (layers_dropped of picked ls)
-      ∙ ap (dropped_of_layers 0) (layers_alike (cause of picked) (assembled_cause (lines_of ls) picked) ls
-      (all_weaker (λ b. kept_line (lines_of ls) 0 b.0 b.1 ≡ whole_line ls b.0 b.1) (λ b. cause of picked b.0 b.1 ≡ assembled_cause (lines_of ls) picked b.0 b.1)
-      (cause_is (lines_of ls) picked) (named_strokes ls) (loses_nothing zero ls sound)))
-      ∙ ap (λ arcs. layers_caused (assembled_cause (lines_of ls) arcs) ls) fewer_is
+      ap (dropped_of_layers 0) (layers_dropped of (of_arcs limit picked) ls)
+      ∙ ap (dropped_of_layers 0) (layers_alike (cause of (of_arcs limit picked)) (assembled_cause (lines_of ls) picked limit) ls
+      (all_weaker (λ b. kept_line (lines_of ls) 0 0 b.0 b.1 ≡ whole_line ls b.0 b.1) (λ b. cause of (of_arcs limit picked) b.0 b.1 ≡ assembled_cause (lines_of ls) picked limit b.0 b.1)
+      (cause_is (lines_of ls) picked limit) (named_strokes ls) (loses_nothing zero ls sound)))
+      ∙ ap (λ arcs. layers_caused (assembled_cause (lines_of ls) arcs limit) ls) fewer_is
 
-  pub is_taken_out : sum (map length (keep_from (is_used (objects_pruned (large_refs picked) draft)) 0 t.arcs)) - positions_of (keep_from (is_used (objects_pruned (large_refs picked) draft)) 0 picked)
-      ≡ assembled_taken_out kept ls
+  pub is_taken_out : sum (map length (keep_from (is_used (objects_pruned (large_refs limit picked) draft)) 0 t.arcs)) - positions_of (keep_from (is_used (objects_pruned (large_refs limit picked) draft)) 0 picked)
+      ≡ assembled_taken_out kept limit ls
   unfolding assembled_taken_out
   is_taken_out =
       ap (λ (os : Objects). positions_of (keep_from (is_used os) 0 t.arcs) - positions_of (keep_from (is_used os) 0 picked)) large_is
-      ∙ ap (λ arcs. positions_of (keep_from (is_used (result.large kept whole picked picked_is)) 0 arcs) - positions_of (keep_from (is_used (result.large kept whole picked picked_is)) 0 picked)) same_arcs
-      ∙ result.taken_is kept whole picked picked_is
+      ∙ ap (λ arcs. positions_of (keep_from (is_used (result.large kept limit whole picked picked_is)) 0 arcs) - positions_of (keep_from (is_used (result.large kept limit whole picked picked_is)) 0 picked)) same_arcs
+      ∙ result.taken_is kept limit whole picked picked_is

@@ -1,10 +1,11 @@
 // The topology of layers over reduced arcs.
-ghost use Rattle.std.specs.Prelude.{◌≡◌, ◌<◌, ◌^◌, IfOk, None, length, map};
+ghost use Rattle.std.specs.Prelude.{◌≡◌, ◌<◌, ◌≤◌, ◌^◌, IfOk, None, length, map};
 ghost use Rattle.arc_table.specs.Arcs.{table_of};
 ghost use Rattle.build_meaning.specs.Laws.{AreSound};
 ghost use Rattle.build_meaning.specs.Layers.{layers_of, names_of};
 ghost use Rattle.byte_ends.specs.Ends.{saturated};
 ghost use Rattle.cutter.specs.Slices.{split_of};
+ghost use Rattle.geometry.specs.Units.{threshold_limit};
 ghost use Rattle.lessened_topology.specs.Assembled.{assembled, assembled_dropped, assembled_taken_out};
 ghost use Rattle.lessened_topology.specs.Lessened.{EachFromFirstToLast};
 ghost use Rattle.linework.specs.Linework.{linework};
@@ -29,6 +30,7 @@ fn objects_and_arcs(
     layers: Vec<(OwnText, Layer)>,
     table: &Table,
     kept: &[Vec<usize>],
+    ring_limit: u128,
 ) -> Result<
     (
         Vec<(OwnText, TopoObject)>,
@@ -42,40 +44,44 @@ fn objects_and_arcs(
     requires sound { AreSound layers.items }
     requires names { AreDistinct (names_of layers.items) }
     requires kept { EachFromFirstToLast (map (λ k. k.items) kept.now) table.now.arcs }
+    requires limit { ring_limit ≤ threshold_limit }
     ensures assembled { IfOk result
-        (λ r. assembled (map (λ k. k.items) kept.now) layers.items ≡ record { objects = r.0.items; arcs = r.1.items; transform = None }) }
-    ensures dropped { IfOk result (λ r. r.2.items ≡ assembled_dropped (map (λ k. k.items) kept.now) layers.items) }
-    ensures taken_out { IfOk result (λ r. r.3 ≡ saturated (assembled_taken_out (map (λ k. k.items) kept.now) layers.items)) }
+        (λ r. assembled (map (λ k. k.items) kept.now) ring_limit layers.items ≡ record { objects = r.0.items; arcs = r.1.items; transform = None }) }
+    ensures dropped { IfOk result (λ r. r.2.items ≡ assembled_dropped (map (λ k. k.items) kept.now) ring_limit layers.items) }
+    ensures taken_out { IfOk result (λ r. r.3 ≡ saturated (assembled_taken_out (map (λ k. k.items) kept.now) ring_limit layers.items)) }
 {
     zero_law();
     ends_stay();
     nothing_is_new();
     let picked = picked_cells_of_all(alloc, kept, table)?;
     let objects = drafted_objects(alloc, layers, table)?;
-    finish(alloc, objects, table.arcs(), picked, None)
+    finish(alloc, objects, table.arcs(), picked, None, ring_limit)
 }
 
 /// The topology of named layers over the arcs of their lines, where of each arc the positions with these numbers are kept: a list
-/// for each arc, from its first position to its last. Lines and rings that are then left with too few positions, and arcs that no
-/// kept line uses, are left out. With it come the lines and rings that are dropped, in reading order, and how many positions are
-/// taken out of the arcs that stay: a count that stays at `u64::MAX` where it would pass it.
+/// for each arc, from its first position to its last. Lines and rings that are then left with too few positions,
+/// rings of which twice the area is under the limit (in square units), and arcs that no kept line uses are left out. With it come the
+/// lines and rings that are dropped, in reading order, and how many positions are taken out of the arcs that stay: a count that stays
+/// at `u64::MAX` where it would pass it.
 pub fn assemble(
     alloc: Global,
     layers: Vec<(OwnText, Layer)>,
     table: &Table,
     kept: &[Vec<usize>],
+    ring_limit: u128,
 ) -> Result<(Topology, Vec<Dropped>, u64), Memory>
     requires table { table.now ≡ table_of (map (split_of (linework (layers_of layers.items))) (linework (layers_of layers.items))) }
     requires sound { AreSound layers.items }
     requires names { AreDistinct (names_of layers.items) }
     requires kept { EachFromFirstToLast (map (λ k. k.items) kept.now) table.now.arcs }
-    ensures topology { IfOk result (λ r. r.0 ≡ assembled (map (λ k. k.items) kept.now) layers.items) }
-    ensures dropped { IfOk result (λ r. r.1.items ≡ assembled_dropped (map (λ k. k.items) kept.now) layers.items) }
-    ensures taken_out { IfOk result (λ r. r.2 ≡ saturated (assembled_taken_out (map (λ k. k.items) kept.now) layers.items)) }
+    requires limit { ring_limit ≤ threshold_limit }
+    ensures topology { IfOk result (λ r. r.0 ≡ assembled (map (λ k. k.items) kept.now) ring_limit layers.items) }
+    ensures dropped { IfOk result (λ r. r.1.items ≡ assembled_dropped (map (λ k. k.items) kept.now) ring_limit layers.items) }
+    ensures taken_out { IfOk result (λ r. r.2 ≡ saturated (assembled_taken_out (map (λ k. k.items) kept.now) ring_limit layers.items)) }
     ensures few { IfOk result (λ r. length r.0.arcs < 2 ^ 63) }
 {
     assembled_is_valid();
-    let (objects, arcs, dropped, taken) = objects_and_arcs(alloc, layers, table, kept)?;
+    let (objects, arcs, dropped, taken) = objects_and_arcs(alloc, layers, table, kept, ring_limit)?;
     let topology = Topology::of(Items::of(objects), Items::of(arcs), None);
     Ok((topology, dropped, taken))
 }

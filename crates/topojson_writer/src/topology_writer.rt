@@ -93,9 +93,9 @@ pub fn put_topology<W: Drain>(topology: &Topology, so_far: Progress, sink: &mut 
 /// if there is one, its bounding box (section 3), if it has a position, its objects by name in order, and then its arcs. A position
 /// is two least decimals, x first, and an arc index a whole number. The box is the least x and y and then the greatest of where its
 /// cells lie, also with a transform, as least decimals. With a transform a cell is two whole numbers, an arc is its first cell and
-/// then differences, and the numbers of the transform keep their texts. Identifiers and properties keep the texts of their numbers, their order and their duplicates; a
-/// null geometry has the type null. `Write` tells how many bytes of the text the device took before it failed. This takes no
-/// memory.
+/// then differences, and the numbers of the transform keep their texts. Identifiers and properties keep the texts of their numbers,
+/// their order and their duplicates; a null geometry has the type null. `Write` tells how many bytes of the text the device took before
+/// it failed. This takes no memory.
 pub fn write_topology<W: Drain>(topology: &Topology, sink: &mut Sink<W>) -> Result<u64, WriteFault>
     ensures { Writes sink.old sink.new 0 (json_text (topology_value topology.now)) result }
 {

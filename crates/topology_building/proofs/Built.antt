@@ -38,18 +38,18 @@ module _ (laws : BuildingLaws) (o : Options) where
   says ls taken distinct texts few =
       let are = are_taken o ls taken distinct in
       let t = written_for o ls in
-      let valid = laws.written.valid o.grid o.threshold ls are in
+      let valid = laws.written.valid o.grid o.threshold o.ring_limit ls are in
       let stored : IsStored t = (valid, few) in
-      let numbers = laws.written.numbers o.grid o.threshold ls (layers_number ls taken) in
+      let numbers = laws.written.numbers o.grid o.threshold o.ring_limit ls (layers_number ls taken) in
       record {
-        utf8 = laws.utf8 t valid.transform numbers (laws.written.texts o.grid o.threshold ls are texts (layers_texts ls taken));
+        utf8 = laws.utf8 t valid.transform numbers (laws.written.texts o.grid o.threshold o.ring_limit ls are texts (layers_texts ls taken));
         value = topology_value t;
-        spelled = laws.spelled t 127 255 stored numbers (laws.written.nests o.grid o.threshold 127 ls (layers_nest ls taken))
+        spelled = laws.spelled t 127 255 stored numbers (laws.written.nests o.grid o.threshold o.ring_limit 127 ls (layers_nest ls taken))
             (omega arith);
         contents = t;
         stands = laws.read t stored;
-        names = laws.written.names o.grid o.threshold ls are;
-        features = laws.written.back o.grid o.threshold ls are;
+        names = laws.written.names o.grid o.threshold o.ring_limit ls are;
+        features = laws.written.back o.grid o.threshold o.ring_limit ls are;
         shared = refl;
         written = refl;
         once = laws.written.once o.grid ls are;

@@ -14,6 +14,7 @@ use Rattle.geojson_types.specs.Texts.{FeatureHasTexts}
 use Rattle.geojson_types.specs.Places.{option_points, features_points}
 use Rattle.geometry.specs.Points.{Point, IsInput, IsPosition}
 use Rattle.geometry.specs.Pruning.{option_strokes}
+use Rattle.geometry.specs.Units.{threshold_limit}
 use Rattle.geojson_model.specs.Laws.{RingCloses}
 use Rattle.list_laws.proofs.Elements.{all_append, all_left, all_right, all_weaker}
 use Rattle.build_meaning.specs.Laws.{IsSound, AreSound}
@@ -102,13 +103,21 @@ pub layers_inputs : (ls : Named) → AllTaken ls → AreInputs ls
 layers_inputs [] h = tt
 layers_inputs (l ∷ ls) h = all_append IsInput (features_points l.1.features) (named_points ls) (inputs_joined l.1.features h.0) (layers_inputs ls h.1)
 
-counted : (grid : Option ℕ) (t : ℕ) → is_in_range grid t ≡ true → IsCount grid
-counted None t h = tt
-counted (Some n) t h = (grind (arith, nat_tests, h), grind (arith, nat_tests, h))
+counted : (grid : Option ℕ) (t limit : ℕ) → is_in_range grid t limit ≡ true → IsCount grid
+counted None t limit h = tt
+counted (Some n) t limit h = (grind (arith, nat_tests, h), grind (arith, nat_tests, h))
 
 -- a grid that is asked for is one that may be
 pub count_of : (o : Options) → IsCount o.grid
-count_of o = counted o.grid o.threshold o.in_range
+count_of o = counted o.grid o.threshold o.ring_limit o.in_range
+
+limited : (grid : Option ℕ) (t limit : ℕ) → is_in_range grid t limit ≡ true → limit ≤ threshold_limit
+limited None t limit h = grind (arith, nat_tests, h)
+limited (Some n) t limit h = grind (arith, nat_tests, h)
+
+-- and so is a ring limit
+pub limit_of : (o : Options) → o.ring_limit ≤ threshold_limit
+limit_of o = limited o.grid o.threshold o.ring_limit o.in_range
 
 pub are_taken : (o : Options) (ls : Named) → AllTaken ls → AreDistinct (names_of ls) → AreTaken o.grid ls
 are_taken o ls h distinct = record { count = count_of o; sound = layers_sound ls h; inputs = layers_inputs ls h; names = distinct }

@@ -39,11 +39,11 @@ snapped_for o layers = snapped_to o.grid layers
 
 -- the topology that is written of layers
 abbrev pub written_for : Options → Named → Contents
-written_for o layers = written_on o.grid o.threshold layers
+written_for o layers = written_on o.grid o.threshold o.ring_limit layers
 
 -- the features that are expected of it, by layers
 abbrev pub expected_for : Options → Named → Named
-expected_for o layers = expected o.threshold (snapped_for o layers)
+expected_for o layers = expected o.threshold o.ring_limit (snapped_for o layers)
 
 -- ---- what building rests on
 
@@ -58,7 +58,7 @@ pub record BuildingLaws : Type 0 where
 -- ---- what is written
 
 -- The text is UTF-8, and JSON (RFC 8259) of a topology (TopoJSON 1.0) whose objects have the names of the layers, in order. Decoding each gives
--- the features that are expected of its layer, snapped to the grid that is asked for, at the threshold. The topology is the one that
+-- the features that are expected of its layer, snapped to the grid that is asked for, at the threshold and the least ring area. The topology is the one that
 -- is written of the layers, the text is its text, and before reduction each segment of the layers' lines lies once, in exactly one arc.
 pub record SaysTopology (o : Options) (layers : Named) (text : List ℕ) : Type 0 where
   pub utf8 : IsUtf8 text
@@ -75,7 +75,7 @@ pub record SaysTopology (o : Options) (layers : Named) (text : List ℕ) : Type 
 -- the counts of all layers, the lines and rings that are dropped, the arcs, their positions, and those that were taken out of them
 abbrev pub report_of : Options → Named → List Counts → Report
 report_of o layers counts =
-    report_with (added counts) (expected_dropped o.threshold (snapped_for o layers)) (written_for o layers).arcs (saturated (taken_out o.threshold (snapped_for o layers)))
+    report_with (added counts) (expected_dropped o.threshold o.ring_limit (snapped_for o layers)) (written_for o layers).arcs (saturated (taken_out o.threshold o.ring_limit (snapped_for o layers)))
 
 -- all sources spell layers, and the text is their topology
 pub record Builds (o : Options) (olds news : Sources) (layers : Named) (counts : List Counts) (text : List ℕ) : Type 0 where

@@ -64,6 +64,7 @@ fn build_layers<Q: Reducer, R: Feed, W: Drain>(
         layers,
         options.grid,
         options.threshold,
+        options.ring_limit,
     )?;
     let report = report_of(counts, dropped, topology.arcs(), removed);
     send(&topology, sink)?;
@@ -89,8 +90,8 @@ pub fn build<Q: Reducer, R: Feed, W: Drain>(
     // The text that was written is UTF-8, and JSON of a topology whose objects bear the layers' names in order. Decoding each gives the features
     // that are expected of its layer, snapped to the grid that is asked for: identifiers and properties unchanged, each line cut at
     // the junctions of all lines, each piece reduced at the threshold in the line's own direction and joined again, rings from their
-    // starts, without what is dropped. The report tells just what is dropped, and before reduction each segment of the lines lies
-    // once, in exactly one arc.
+    // starts, without what is dropped, as rings that enclose less than is asked for. The report tells just what is dropped, and before
+    // reduction each segment of the lines lies once, in exactly one arc.
     ensures built { IfOk result (λ report. IsBuilt options.now sources.old sources.new sink.old sink.new report) }
     // Every other fault is one that the sources or their bytes have, or a prefix of that text was written.
     ensures refused { IfErr result (λ e. (name_fault (map (λ s. s.0) sources.old) ≡ Some e)

@@ -9,8 +9,10 @@ pub struct Options {
     pub grid: Option<u32>,
     /// Points are taken out whose triangle has less than this, twice its area in square units: at most twice `AREA_LIMIT`.
     pub threshold: u128,
+    /// Rings are left out that are left with less than this, twice their area in square units: at most twice `AREA_LIMIT`.
+    pub ring_limit: u128,
     /// Coordinates that aren't whole in units are refused.
     pub exact: bool,
 
-    ghost in_range: { is_in_range grid threshold ≡ true },
+    ghost in_range: { is_in_range grid threshold ring_limit ≡ true },
 }

@@ -11,36 +11,37 @@ use Rattle.topojson_types.specs.declared.feature.TopoFeature.{TopoFeature}
 use Rattle.topojson_types.specs.declared.object.TopoObject.{TopoObject}
 use Rattle.topojson_types.specs.Topologies.{TopoShape, object_features}
 use Rattle.arc_choice.specs.Places.{dropped_at}
+use Rattle.arc_choice.specs.Rebuilding.{Rebuilding}
 use Rattle.arc_choice.proofs.Told.{told_more}
 use Rattle.topology_reduction.specs.Drops.{draft_cause, shape_drops}
 use Rattle.linework.specs.Linework.{feature_address}
 use Rattle.topology_reduction.specs.Drops.{object_drops}
 
-pub dropped_kinds : (arcs : List (List Point)) → AtKinds (omissions {P = Point} {L = List ℤ} (draft_cause arcs)) (omissions_step (draft_cause arcs))
+pub dropped_kinds : (arcs : Rebuilding) → AtKinds (omissions {P = Point} {L = List ℤ} (draft_cause arcs)) (omissions_step (draft_cause arcs))
 dropped_kinds arcs = omissions_at Point (List ℤ) (draft_cause arcs)
 
-pub of_line : (arcs : List (List Point)) (l : List ℤ) → omissions {P = Point} {L = List ℤ} (draft_cause arcs) (g.Line l) ≡ here (draft_cause arcs false l)
+pub of_line : (arcs : Rebuilding) (l : List ℤ) → omissions {P = Point} {L = List ℤ} (draft_cause arcs) (g.Line l) ≡ here (draft_cause arcs false l)
 of_line arcs = omissions-line Point (List ℤ) (draft_cause arcs)
 
-pub of_lines : (arcs : List (List Point)) (ls : List (List ℤ)) → omissions {P = Point} {L = List ℤ} (draft_cause arcs) (g.Lines ls) ≡ of_parts 0 (map (λ l. here (draft_cause arcs false l)) ls)
+pub of_lines : (arcs : Rebuilding) (ls : List (List ℤ)) → omissions {P = Point} {L = List ℤ} (draft_cause arcs) (g.Lines ls) ≡ of_parts 0 (map (λ l. here (draft_cause arcs false l)) ls)
 of_lines arcs = omissions-lines Point (List ℤ) (draft_cause arcs)
 
-pub of_area : (arcs : List (List Point)) (rs : List (List ℤ)) → omissions {P = Point} {L = List ℤ} (draft_cause arcs) (g.Area rs) ≡ area_omissions (draft_cause arcs true) rs
+pub of_area : (arcs : Rebuilding) (rs : List (List ℤ)) → omissions {P = Point} {L = List ℤ} (draft_cause arcs) (g.Area rs) ≡ area_omissions (draft_cause arcs true) rs
 of_area arcs = omissions-area Point (List ℤ) (draft_cause arcs)
 
-pub of_areas : (arcs : List (List Point)) (areas : List (List (List ℤ))) → omissions {P = Point} {L = List ℤ} (draft_cause arcs) (g.Areas areas) ≡ of_parts 0 (map (area_omissions (draft_cause arcs true)) areas)
+pub of_areas : (arcs : Rebuilding) (areas : List (List (List ℤ))) → omissions {P = Point} {L = List ℤ} (draft_cause arcs) (g.Areas areas) ≡ of_parts 0 (map (area_omissions (draft_cause arcs true)) areas)
 of_areas arcs = omissions-areas Point (List ℤ) (draft_cause arcs)
 
-pub of_group : (arcs : List (List Point)) (ss : List TopoShape) → omissions {P = Point} {L = List ℤ} (draft_cause arcs) (g.Group ss) ≡ of_parts 0 (map (omissions {P = Point} {L = List ℤ} (draft_cause arcs)) ss)
+pub of_group : (arcs : Rebuilding) (ss : List TopoShape) → omissions {P = Point} {L = List ℤ} (draft_cause arcs) (g.Group ss) ≡ of_parts 0 (map (omissions {P = Point} {L = List ℤ} (draft_cause arcs)) ss)
 of_group arcs = omissions-group Point (List ℤ) (draft_cause arcs)
 
 -- one feature more
-pub features_more : (arcs : List (List Point)) (object i : ℕ) (now new whole : List Dropped) (fs : List TopoFeature) (f : TopoFeature) → i < length fs → f ≡ get_or fs i f →
+pub features_more : (arcs : Rebuilding) (object i : ℕ) (now new whole : List Dropped) (fs : List TopoFeature) (f : TopoFeature) → i < length fs → f ≡ get_or fs i f →
     now ++ object_drops arcs object i (drop i fs) ≡ whole → new ≡ now ++ dropped_at (feature_address object i) (shape_drops arcs f.shape) → new ++ object_drops arcs object (i + 1) (drop (i + 1) fs) ≡ whole
 features_more arcs object i = told_more (λ i f. dropped_at (feature_address object i) (shape_drops arcs f.shape)) (object_drops arcs object) (λ i f fs. refl) i i
 
 -- one object more
-pub objects_more : (arcs : List (List Point)) (i : ℕ) (now new whole : List Dropped) (os : List (List ℕ × TopoObject)) (o : List ℕ × TopoObject) → i < length os → o ≡ get_or os i o →
+pub objects_more : (arcs : Rebuilding) (i : ℕ) (now new whole : List Dropped) (os : List (List ℕ × TopoObject)) (o : List ℕ × TopoObject) → i < length os → o ≡ get_or os i o →
     now ++ dropped_of_layers i (map (λ o. map (λ f. shape_drops arcs f.shape) (object_features o.1)) (drop i os)) ≡ whole → new ≡ now ++ object_drops arcs i 0 (object_features o.1) →
     new ++ dropped_of_layers (i + 1) (map (λ o. map (λ f. shape_drops arcs f.shape) (object_features o.1)) (drop (i + 1) os)) ≡ whole
 objects_more arcs i = told_more (λ (i : ℕ) (o : List ℕ × TopoObject). object_drops arcs i 0 (object_features o.1))

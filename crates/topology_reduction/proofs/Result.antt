@@ -1,6 +1,7 @@
 -- The topology that is put together is the one that is left.
 use Rattle.std.proofs.Common.{arith, ◌≡◌, ℕ, zero, suc, ◌-◌, ℤ, Bool, true, List, [], ◌∷◌, map, length, Option, None, Some, refl, sym, ap, ◌∙◌, subst}
 use Rattle.std.specs.List.{AllByRecursion}
+use Rattle.arc_choice.specs.Rebuilding.{Rebuilding}
 use Rattle.arc_choice.specs.Uses.{answers}
 use Rattle.arc_choice.proofs.Ranked.{RanksOf, all_renumbered}
 use Rattle.build_meaning.specs.Built.{positions_of}
@@ -12,7 +13,7 @@ use Rattle.geometry.specs.Omissions.{dropped_of_layers}
 use Rattle.geometry.specs.Pruning.{strokes}
 use Rattle.geometry.proofs.Omitted.{omissions_agree}
 use Rattle.geojson_types.specs.Features.{is_some_list}
-use Rattle.geometry.specs.Points.{Point}
+use Rattle.geometry.specs.Points.{Point, IsPosition}
 use Rattle.lessened_topology.specs.Lessened.{Refs, large_refs, objects_pruned, picked_arcs, picked_whole, EachFromFirstToLast, lessened_by, option_small, small_cause, dropped_by, taken_out_by}
 use Rattle.lessened_topology.proofs.Again.{all_hold}
 use Rattle.lessened_topology.proofs.Objects.{objects_then, objects_left}
@@ -25,6 +26,7 @@ use Rattle.topojson_types.specs.declared.object.TopoObject.TheVariants.{One, Man
 use Rattle.topojson_types.specs.declared.transform.Transform.{Transform}
 use Rattle.topojson_types.specs.Decoding.{placed_arcs}
 use Rattle.topojson_types.specs.Topologies.{TopoShape, Contents, object_features, objects_strokes}
+use Rattle.topojson_types.specs.Transforms.{place_on}
 use Rattle.topojson_types.specs.Validity.{is_full_option, IsPlace, IsFeature, IsObject, IsTopology}
 use Rattle.topology_reduction.specs.Drops.{draft_cause, shape_drops, objects_drops}
 use Rattle.topology_reduction.specs.Parts.{contents}
@@ -43,8 +45,8 @@ same_range : (n : ℕ) (b : Bool × List ℤ) (m : List ℤ) (w : Option Cause) 
 same_range n b m w r e = grind arith
 
 -- those of the lines that stay name arcs
-range_stays : (n : ℕ) (arcs : List (List Point)) (os : Objects) → AllByRecursion (InRange n) (objects_strokes os) → AllByRecursion (InRange n) (objects_strokes (objects_pruned (large_refs arcs) os))
-range_stays n arcs os h = grind (arith, objects_left (large_refs arcs) (InRange n) os, all_weaker (InRange n), same_range n)
+range_stays : (n limit : ℕ) (arcs : List (List Point)) (os : Objects) → AllByRecursion (InRange n) (objects_strokes os) → AllByRecursion (InRange n) (objects_strokes (objects_pruned (large_refs limit arcs) os))
+range_stays n limit arcs os h = grind (arith, objects_left (large_refs limit arcs) (InRange n) os, all_weaker (InRange n), same_range n)
 
 abbrev as_they_are : Refs
 as_they_are closed refs = Some refs
@@ -75,53 +77,56 @@ pub parts_are : (y : Contents) (os : Objects) (arcs : List (List Point)) (transf
 parts_are y os arcs transform o a t = grind arith
 
 -- what is left of the parts makes what is left of the topology
-pub made_is : (kept : List (List ℕ)) (y : Contents) (objects left made : Objects) (arcs stay put : List (List Point)) (transform given : Option Transform) → contents objects arcs transform ≡ y → transform ≡ y.transform
-    → contents left stay transform ≡ lessened_by kept (contents objects arcs transform) → made ≡ left → put ≡ stay → given ≡ y.transform → contents made put given ≡ lessened_by kept y
-made_is kept y objects left made arcs stay put transform given same t l m p g =
-    ap (λ os. contents os put given) m ∙ ap (λ xs. contents left xs given) p ∙ ap (contents left stay) (g ∙ sym t) ∙ l ∙ ap (lessened_by kept) same
+pub made_is : (kept : List (List ℕ)) (limit : ℕ) (y : Contents) (objects left made : Objects) (arcs stay put : List (List Point)) (transform given : Option Transform) → contents objects arcs transform ≡ y → transform ≡ y.transform
+    → contents left stay transform ≡ lessened_by kept limit (contents objects arcs transform) → made ≡ left → put ≡ stay → given ≡ y.transform → contents made put given ≡ lessened_by kept limit y
+made_is kept limit y objects left made arcs stay put transform given same t l m p g =
+    ap (λ os. contents os put given) m ∙ ap (λ xs. contents left xs given) p ∙ ap (contents left stay) (g ∙ sym t) ∙ l ∙ ap (lessened_by kept limit) same
 
 -- ---- a draft
 
 -- what is left of a draft without the lines and rings that have too few positions is what these steps make of it
-pub finished : (os large objects : Objects) (picked stay : List (List Point)) (transform : Option Transform) → large ≡ objects_pruned (large_refs (placed_arcs transform picked)) os
+pub finished : (limit : ℕ) (os large objects : Objects) (picked stay : List (List Point)) (transform : Option Transform) → large ≡ objects_pruned (large_refs limit (placed_arcs transform picked)) os
     → objects ≡ objects_pruned (line_renumbered (is_used large)) large → stay ≡ keep_from (is_used large) 0 picked
-    → contents objects stay transform ≡ trimmed (contents (objects_pruned (large_refs (placed_arcs transform picked)) os) picked transform)
+    → contents objects stay transform ≡ trimmed (contents (objects_pruned (large_refs limit (placed_arcs transform picked)) os) picked transform)
 unfolding trimmed
-finished os large objects picked stay transform l o s =
+finished limit os large objects picked stay transform l o s =
     ap (λ os. contents os stay transform) o ∙ ap (λ xs. contents (objects_pruned (line_renumbered (is_used large)) large) xs transform) s
     ∙ ap (λ (os : Objects). contents (objects_pruned (line_renumbered (is_used os)) os) (keep_from (is_used os) 0 picked) transform) l
 
 -- ---- a topology
 
+abbrev pub of_arcs : ℕ → List (List Point) → Rebuilding
+of_arcs limit arcs = record { arcs = arcs; limit = limit }
+
 -- a line or ring with an index is dropped only where it has too few positions
-same_cause : (arcs : List (List Point)) (b : Bool × List ℤ) → is_some_list b.1 ≡ true → draft_cause arcs b.0 b.1 ≡ small_cause arcs b.0 b.1
-same_cause arcs (closed, []) h = absurd cc
-same_cause arcs (closed, r ∷ rs) h = refl
+same_cause : (limit : ℕ) (arcs : List (List Point)) (b : Bool × List ℤ) → is_some_list b.1 ≡ true → draft_cause (of_arcs limit arcs) b.0 b.1 ≡ small_cause limit arcs b.0 b.1
+same_cause limit arcs (closed, []) h = absurd cc
+same_cause limit arcs (closed, r ∷ rs) h = refl
 
-shape_same : (arcs : List (List Point)) (s : Option TopoShape) → is_full_option s ≡ true → shape_drops arcs s ≡ option_small arcs s
-shape_same arcs None h = refl
-shape_same arcs (Some s) h =
-    omissions_agree Point (List ℤ) (draft_cause arcs) (small_cause arcs) s
-    (all_weaker (λ b. is_some_list b.1 ≡ true) (λ b. draft_cause arcs b.0 b.1 ≡ small_cause arcs b.0 b.1) (same_cause arcs) (strokes s) (strokes_full s h))
+shape_same : (limit : ℕ) (arcs : List (List Point)) (s : Option TopoShape) → is_full_option s ≡ true → shape_drops (of_arcs limit arcs) s ≡ option_small limit arcs s
+shape_same limit arcs None h = refl
+shape_same limit arcs (Some s) h =
+    omissions_agree Point (List ℤ) (draft_cause (of_arcs limit arcs)) (small_cause limit arcs) s
+    (all_weaker (λ b. is_some_list b.1 ≡ true) (λ b. draft_cause (of_arcs limit arcs) b.0 b.1 ≡ small_cause limit arcs b.0 b.1) (same_cause limit arcs) (strokes s) (strokes_full s h))
 
-features_same : (arcs : List (List Point)) (transform : Option Transform) (fs : List TopoFeature) → AllByRecursion (IsFeature transform) fs → map (λ f. shape_drops arcs f.shape) fs ≡ map (λ f. option_small arcs f.shape) fs
-features_same arcs transform [] h = refl
-features_same arcs transform (f ∷ fs) h = rw (shape_same arcs f.shape h.0.0, features_same arcs transform fs h.1) refl
+features_same : (limit : ℕ) (arcs : List (List Point)) (transform : Option Transform) (fs : List TopoFeature) → AllByRecursion (IsFeature transform) fs → map (λ f. shape_drops (of_arcs limit arcs) f.shape) fs ≡ map (λ f. option_small limit arcs f.shape) fs
+features_same limit arcs transform [] h = refl
+features_same limit arcs transform (f ∷ fs) h = rw (shape_same limit arcs f.shape h.0.0, features_same limit arcs transform fs h.1) refl
 
-object_same : (arcs : List (List Point)) (transform : Option Transform) (o : TopoObject) → IsObject transform o → map (λ f. shape_drops arcs f.shape) (object_features o) ≡ map (λ f. option_small arcs f.shape) (object_features o)
-object_same arcs transform (One f) h = features_same arcs transform (f ∷ []) (h.0, tt)
-object_same arcs transform (Many fs) h = features_same arcs transform fs h
+object_same : (limit : ℕ) (arcs : List (List Point)) (transform : Option Transform) (o : TopoObject) → IsObject transform o → map (λ f. shape_drops (of_arcs limit arcs) f.shape) (object_features o) ≡ map (λ f. option_small limit arcs f.shape) (object_features o)
+object_same limit arcs transform (One f) h = features_same limit arcs transform (f ∷ []) (h.0, tt)
+object_same limit arcs transform (Many fs) h = features_same limit arcs transform fs h
 
-objects_same : (arcs : List (List Point)) (transform : Option Transform) (os : Objects) → AllByRecursion (λ o. IsObject transform o.1) os
-    → map (λ o. map (λ f. shape_drops arcs f.shape) (object_features o.1)) os ≡ map (λ o. map (λ f. option_small arcs f.shape) (object_features o.1)) os
-objects_same arcs transform [] h = refl
-objects_same arcs transform (o ∷ os) h = rw (object_same arcs transform o.1 h.0, objects_same arcs transform os h.1) refl
+objects_same : (limit : ℕ) (arcs : List (List Point)) (transform : Option Transform) (os : Objects) → AllByRecursion (λ o. IsObject transform o.1) os
+    → map (λ o. map (λ f. shape_drops (of_arcs limit arcs) f.shape) (object_features o.1)) os ≡ map (λ o. map (λ f. option_small limit arcs f.shape) (object_features o.1)) os
+objects_same limit arcs transform [] h = refl
+objects_same limit arcs transform (o ∷ os) h = rw (object_same limit arcs transform o.1 h.0, objects_same limit arcs transform os h.1) refl
 
-module _ (kept : List (List ℕ)) (y : Contents) (picked : List (List Point)) (is : picked ≡ picked_arcs kept y.arcs) where
+module _ (kept : List (List ℕ)) (limit : ℕ) (y : Contents) (picked : List (List Point)) (is : picked ≡ picked_arcs kept y.arcs) where
   abbrev pub large : Objects
-  large = objects_pruned (large_refs (placed_arcs y.transform picked)) y.objects
+  large = objects_pruned (large_refs limit (placed_arcs y.transform picked)) y.objects
 
-  pub is_whole : contents large picked y.transform ≡ picked_whole kept y
+  pub is_whole : contents large picked y.transform ≡ picked_whole kept limit y
   is_whole = grind arith
 
   pub picked_long : EachFromFirstToLast kept y.arcs → length picked ≡ length y.arcs
@@ -129,24 +134,40 @@ module _ (kept : List (List ℕ)) (y : Contents) (picked : List (List Point)) (i
 
   -- each index names an arc
   pub ranged : IsTopology y → EachFromFirstToLast kept y.arcs → AllByRecursion (InRange (length picked)) (objects_strokes large)
-  ranged valid through = range_stays (length picked) (placed_arcs y.transform picked) y.objects (subst (λ n. AllByRecursion (InRange n) (objects_strokes y.objects)) (sym (picked_long through)) valid.ranged)
+  ranged valid through = range_stays (length picked) limit (placed_arcs y.transform picked) y.objects (subst (λ n. AllByRecursion (InRange n) (objects_strokes y.objects)) (sym (picked_long through)) valid.ranged)
 
   -- the cells that are picked may stand in the topology
   pub places_are : IsTopology y → AllByRecursion (λ a. AllByRecursion (IsPlace y.transform) a) picked
   places_are valid = subst (AllByRecursion (λ a. AllByRecursion (IsPlace y.transform) a)) (sym is) (places_picked y.transform kept y.arcs (topology_places y valid))
 
   -- without the arcs that are not used it is what is left
-  pub is_lessened : trimmed (contents large picked y.transform) ≡ lessened_by kept y
+  pub is_lessened : trimmed (contents large picked y.transform) ≡ lessened_by kept limit y
   unfolding lessened_by
   is_lessened = ap trimmed is_whole
 
-  pub taken_is : positions_of (keep_from (is_used large) 0 y.arcs) - positions_of (keep_from (is_used large) 0 picked) ≡ taken_out_by kept y
+  pub taken_is : positions_of (keep_from (is_used large) 0 y.arcs) - positions_of (keep_from (is_used large) 0 picked) ≡ taken_out_by kept limit y
   unfolding taken_out_by trimmed
   taken_is = grind (arith, is_whole, is_lessened)
 
   -- the lines and rings that are dropped
-  pub drops_are : IsTopology y → objects_drops (placed_arcs y.transform picked) 0 y.objects ≡ dropped_by kept y
+  pub drops_are : IsTopology y → objects_drops (of_arcs limit (placed_arcs y.transform picked)) 0 y.objects ≡ dropped_by kept limit y
   unfolding dropped_by
   drops_are valid =
-      ap (dropped_of_layers 0) (objects_same (placed_arcs y.transform picked) y.transform y.objects valid.objects)
-      ∙ ap (λ arcs. dropped_of_layers 0 (map (λ o. map (λ f. option_small (placed_arcs y.transform arcs) f.shape) (object_features o.1)) y.objects)) is
+      ap (dropped_of_layers 0) (objects_same limit (placed_arcs y.transform picked) y.transform y.objects valid.objects)
+      ∙ ap (λ arcs. dropped_of_layers 0 (map (λ o. map (λ f. option_small limit (placed_arcs y.transform arcs) f.shape) (object_features o.1)) y.objects)) is
+
+-- ---- where the cells of arcs lie
+
+cells_lie : (t : Transform) (cells : List Point) → AllByRecursion (IsPlace (Some t)) cells → AllByRecursion IsPosition (map (place_on t) cells)
+cells_lie t [] h = tt
+cells_lie t (c ∷ cells) h = (h.0.1, cells_lie t cells h.1)
+
+some_positions : (t : Transform) (arcs : List (List Point)) → AllByRecursion (λ a. AllByRecursion (IsPlace (Some t)) a) arcs → AllByRecursion (λ a. AllByRecursion IsPosition a) (placed_arcs (Some t) arcs)
+some_positions t [] h = tt
+some_positions t (a ∷ arcs) h = (cells_lie t a h.0, some_positions t arcs h.1)
+
+-- they are positions
+pub are_positions : (transform : Option Transform) (arcs : List (List Point)) → AllByRecursion (λ a. AllByRecursion (IsPlace transform) a) arcs
+    → AllByRecursion (λ a. AllByRecursion IsPosition a) (placed_arcs transform arcs)
+are_positions None arcs h = h
+are_positions (Some t) arcs h = some_positions t arcs h

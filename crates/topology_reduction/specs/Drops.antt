@@ -1,31 +1,31 @@
 -- The lines and rings that are dropped of objects of a draft, where a line or ring without arc indexes had too few positions from the
 -- first.
 use Rattle.std.specs.Prelude.{ℕ, ℤ, Bool, List, [], ◌∷◌, Option, None, Some, map}
+use Rattle.arc_choice.specs.Rebuilding.{Rebuilding}
 use Rattle.geometry.specs.declared.address.Cause.{Cause}
 use Rattle.geometry.specs.declared.address.Cause.TheVariants.{Collapsed}
 use Rattle.geometry.specs.declared.address.Dropped.{Dropped}
 use Rattle.geometry.specs.Omissions.{omissions, dropped_of_layer, dropped_of_layers}
 use Rattle.geometry.specs.Paths.{Placed}
-use Rattle.geometry.specs.Points.{Point}
 use Rattle.lessened_topology.specs.Lessened.{small_cause}
 use Rattle.topojson_types.specs.declared.feature.TopoFeature.{TopoFeature}
 use Rattle.topojson_types.specs.declared.object.TopoObject.{TopoObject}
 use Rattle.topojson_types.specs.Topologies.{TopoShape, object_features}
 
--- why a line or ring is dropped for its own sake: it has no indexes, or else it has too few positions when it is rebuilt of these arcs
-abbrev pub draft_cause : List (List Point) → Bool → List ℤ → Option Cause
+-- why a line or ring is dropped for its own sake: it has no indexes, or else it is small when it is rebuilt of these arcs
+abbrev pub draft_cause : Rebuilding → Bool → List ℤ → Option Cause
 draft_cause arcs closed [] = Some Collapsed
-draft_cause arcs closed (r ∷ rs) = small_cause arcs closed (r ∷ rs)
+draft_cause arcs closed (r ∷ rs) = small_cause arcs.limit arcs.arcs closed (r ∷ rs)
 
 -- those of a shape that may be null, and the ways to them
-abbrev pub shape_drops : List (List Point) → Option TopoShape → List (Placed Cause)
+abbrev pub shape_drops : Rebuilding → Option TopoShape → List (Placed Cause)
 shape_drops arcs None = []
 shape_drops arcs (Some s) = omissions (draft_cause arcs) s
 
 -- those of the features of the object with this number, of which the first has the second number
-abbrev pub object_drops : List (List Point) → ℕ → ℕ → List TopoFeature → List Dropped
+abbrev pub object_drops : Rebuilding → ℕ → ℕ → List TopoFeature → List Dropped
 object_drops arcs object feature fs = dropped_of_layer object feature (map (λ f. shape_drops arcs f.shape) fs)
 
 -- those of the objects, of which the first has this number, in reading order; an object stands in the place of a layer
-abbrev pub objects_drops : List (List Point) → ℕ → List (List ℕ × TopoObject) → List Dropped
+abbrev pub objects_drops : Rebuilding → ℕ → List (List ℕ × TopoObject) → List Dropped
 objects_drops arcs object os = dropped_of_layers object (map (λ o. map (λ f. shape_drops arcs f.shape) (object_features o.1)) os)

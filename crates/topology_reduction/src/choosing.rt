@@ -4,39 +4,17 @@ ghost use Rattle.lessened_topology.specs.Lessened.{large_refs};
 ghost use Rattle.topology_reduction.specs.Uses.{ranked_refs};
 
 use crate::pruning::Keeps;
-use arc_choice::{is_small_line, renumber_all};
+use arc_choice::{Rebuilding, renumber_all};
 use json_value::Items;
 use std::marker::Model;
-use topojson_types::{ArcRef, Cell};
+use topojson_types::ArcRef;
 
-/// Those that have enough positions where they are rebuilt of these arcs, as they are.
-#[derive(Drop)]
-pub struct Large<'a> {
-    arcs: &'a [Items<Cell>],
-}
-
-impl<'a> Model for Large<'a> {
-    ghost use Rattle.std.specs.Prelude.{List};
-    ghost use Rattle.geometry.specs.Points.{Point};
-
-    ghost Value = { List (List Point) };
-
-    ghost view = { λ l. l.arcs.now };
-}
-
-impl<'a> Large<'a> {
-    pub fn over(arcs: &'a [Items<Cell>]) -> Large<'a>
-        ensures { result ≡ arcs.now }
-    {
-        Large { arcs }
-    }
-}
-
-impl<'a> Keeps for Large<'a> {
-    ghost keeps = { large_refs };
+/// Those that aren't small where they are rebuilt of these arcs, as they are.
+impl<'a> Keeps for Rebuilding<'a> {
+    ghost keeps = { λ arcs. large_refs arcs.limit arcs.arcs };
 
     fn kept(&self, closed: bool, refs: Items<ArcRef>) -> Option<Items<ArcRef>> {
-        if is_small_line(closed, refs.as_slice(), self.arcs) {
+        if self.is_small(closed, refs.as_slice()) {
             None
         } else {
             Some(refs)

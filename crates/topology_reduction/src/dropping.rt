@@ -8,19 +8,18 @@ ghost use Rattle.linework.specs.Linework.{feature_address};
 ghost use Rattle.topojson_types.specs.Topologies.{object_features};
 ghost use Rattle.topology_reduction.specs.Drops.{object_drops};
 
-use arc_choice::{Place, add_here, add_part, hole_cause, is_small_line};
+use arc_choice::{Place, Rebuilding, add_here, add_part, hole_cause};
 use geojson_types::{Cause, Dropped, Geometry};
 use json_value::{Items, OwnText};
 use owned_values::Memory;
 use std::alloc::Global;
-use topojson_types::{ArcRef, Cell, TopoFeature, TopoObject, TopoShape};
+use topojson_types::{ArcRef, TopoFeature, TopoObject, TopoShape};
 
-/// The lines and rings of objects that have no arc index, or are left with too few positions where they are rebuilt of these arcs, and
-/// the rings of polygons whose outer ring is dropped, in reading order. An object stands in the place of a layer.
+/// The lines and rings of objects that have no arc index, or are small where they are rebuilt of these arcs, and the rings of polygons whose outer ring is dropped, in reading order. An object stands in the place of a layer.
 pub fn dropped_lines(
     alloc: Global,
     objects: &[(OwnText, TopoObject)],
-    arcs: &[Items<Cell>],
+    arcs: &Rebuilding<'_>,
 ) -> Result<Vec<Dropped>, Memory>
     ensures { IfOk result (λ dropped. dropped.items
         ≡ dropped_of_layers 0 (map (λ o. map (λ f. shape_drops arcs.now f.shape) (object_features o.1)) objects.now)) }
@@ -36,7 +35,7 @@ pub fn dropped_lines(
 /// Adds those of the object with this number.
 fn add_object(
     alloc: Global,
-    arcs: &[Items<Cell>],
+    arcs: &Rebuilding<'_>,
     place: &mut Place,
     number: usize,
     object: &TopoObject,
@@ -58,7 +57,7 @@ fn add_object(
 /// Adds those of the features of the object with this number.
 fn add_features(
     alloc: Global,
-    arcs: &[Items<Cell>],
+    arcs: &Rebuilding<'_>,
     place: &mut Place,
     object: usize,
     features: &[TopoFeature],
@@ -76,7 +75,7 @@ fn add_features(
 /// Adds those of the feature at this place.
 fn add_feature(
     alloc: Global,
-    arcs: &[Items<Cell>],
+    arcs: &Rebuilding<'_>,
     place: &mut Place,
     feature: &TopoFeature,
     dropped: &mut Vec<Dropped>,
@@ -93,7 +92,7 @@ fn add_feature(
 #[tactic(auto, using(crate::proofs::Drops::of_line, crate::proofs::Drops::of_lines, crate::proofs::Drops::of_area, crate::proofs::Drops::of_areas))]
 fn add_shape(
     alloc: Global,
-    arcs: &[Items<Cell>],
+    arcs: &Rebuilding<'_>,
     place: &mut Place,
     shape: &TopoShape,
     dropped: &mut Vec<Dropped>,
@@ -129,7 +128,7 @@ fn add_shape(
 /// Adds those of the polygons at this place.
 fn add_areas(
     alloc: Global,
-    arcs: &[Items<Cell>],
+    arcs: &Rebuilding<'_>,
     place: &mut Place,
     areas: &[Items<Items<ArcRef>>],
     dropped: &mut Vec<Dropped>,
@@ -149,7 +148,7 @@ fn add_areas(
 /// Adds those of the rings of the polygon at this place. With the outer ring each hole is dropped.
 fn add_rings(
     alloc: Global,
-    arcs: &[Items<Cell>],
+    arcs: &Rebuilding<'_>,
     place: &Place,
     rings: &[Items<ArcRef>],
     dropped: &mut Vec<Dropped>,
@@ -171,7 +170,7 @@ fn add_rings(
 /// Adds those of the lines at this place.
 fn add_lines(
     alloc: Global,
-    arcs: &[Items<Cell>],
+    arcs: &Rebuilding<'_>,
     place: &Place,
     parts: &[Items<ArcRef>],
     dropped: &mut Vec<Dropped>,
@@ -192,12 +191,12 @@ fn add_lines(
 }
 
 /// Why a line or a ring is dropped for its own sake, if it is.
-fn cause_of(arcs: &[Items<Cell>], closed: bool, refs: &[ArcRef]) -> Option<Cause>
+fn cause_of(arcs: &Rebuilding<'_>, closed: bool, refs: &[ArcRef]) -> Option<Cause>
     ensures { result ≡ draft_cause arcs.now closed refs.now }
 {
     if refs.is_empty() {
         Some(Cause::Collapsed)
-    } else if is_small_line(closed, refs, arcs) {
+    } else if arcs.is_small(closed, refs) {
         Some(Cause::Small)
     } else {
         None

@@ -1,5 +1,5 @@
 // What is left of a draft of a topology.
-ghost use Rattle.std.specs.Prelude.{◌≡◌, ◌-◌, ℕ, Bool, IfOk, length, map, sum};
+ghost use Rattle.std.specs.Prelude.{◌≡◌, ◌-◌, ◌≤◌, ℕ, Bool, IfOk, length, map, sum};
 ghost use Rattle.std.specs.List.{AllByRecursion};
 ghost use Rattle.std.specs.Option.{option_copied};
 ghost use Rattle.arc_choice.specs.Uses.{answers};
@@ -7,6 +7,7 @@ ghost use Rattle.build_meaning.specs.Built.{positions_of};
 ghost use Rattle.build_meaning.specs.Trimming.{is_used, keep_from, line_renumbered, trimmed};
 ghost use Rattle.byte_ends.specs.Ends.{saturated};
 ghost use Rattle.geometry.specs.Joins.{AreInRange};
+ghost use Rattle.geometry.specs.Units.{threshold_limit};
 ghost use Rattle.lessened_topology.specs.Lessened.{large_refs, objects_pruned};
 ghost use Rattle.topojson_types.specs.Decoding.{placed_arcs as all_placed};
 ghost use Rattle.topojson_types.specs.Topologies.{objects_strokes};
@@ -14,27 +15,27 @@ ghost use Rattle.topojson_types.specs.Validity.{IsPlace};
 ghost use Rattle.topology_reduction.specs.Drops.{objects_drops};
 ghost use Rattle.topology_reduction.specs.Parts.{contents};
 
-use crate::choosing::{Large, Ranked};
+use crate::choosing::Ranked;
 use crate::dropping::dropped_lines;
 use crate::marking::used_arcs;
 use crate::placing::placed_arcs;
 use crate::pruning::pruned_objects;
-use arc_choice::{kept_arcs, ranks, taken_out, used_positions};
+use arc_choice::{Rebuilding, kept_arcs, ranks, taken_out, used_positions};
 use geojson_types::Dropped;
 use json_value::{Items, OwnText};
 use owned_values::Memory;
 use std::alloc::Global;
 use topojson_types::{Cell, TopoObject, Transform};
 
-/// The objects without the lines and rings that have too few positions where they are rebuilt of these arcs.
+/// The objects without the lines and rings that are small where they are rebuilt of these arcs.
 fn without_small(
     alloc: Global,
     objects: Vec<(OwnText, TopoObject)>,
-    arcs: &[Items<Cell>],
+    arcs: &Rebuilding<'_>,
 ) -> Result<Vec<(OwnText, TopoObject)>, Memory>
-    ensures { IfOk result (λ left. left.items ≡ objects_pruned (large_refs arcs.now) objects.items) }
+    ensures { IfOk result (λ left. left.items ≡ objects_pruned (large_refs arcs.now.limit arcs.now.arcs) objects.items) }
 {
-    let left = pruned_objects(alloc, &Large::over(arcs), objects)?;
+    let left = pruned_objects(alloc, arcs, objects)?;
     Ok(left)
 }
 
@@ -42,9 +43,9 @@ fn without_small(
 fn large_over(
     alloc: Global,
     objects: Vec<(OwnText, TopoObject)>,
-    arcs: &[Items<Cell>],
+    arcs: &Rebuilding<'_>,
 ) -> Result<(Vec<(OwnText, TopoObject)>, Vec<Dropped>), Memory>
-    ensures objects { IfOk result (λ r. r.0.items ≡ objects_pruned (large_refs arcs.now) objects.items) }
+    ensures objects { IfOk result (λ r. r.0.items ≡ objects_pruned (large_refs arcs.now.limit arcs.now.arcs) objects.items) }
     ensures dropped { IfOk result (λ r. r.1.items ≡ objects_drops arcs.now 0 objects.items) }
 {
     let dropped = dropped_lines(alloc, &objects, arcs)?;
@@ -52,22 +53,27 @@ fn large_over(
     Ok((left, dropped))
 }
 
-/// The same, where the positions of the arcs are those that their cells stand for.
+/// The same, where the positions of the arcs are those that their cells stand for, and twice the area of a ring may not be under the
+/// limit.
 fn large_objects(
     alloc: Global,
     objects: Vec<(OwnText, TopoObject)>,
     arcs: &[Items<Cell>],
     transform: Option<&Transform>,
+    ring_limit: u128,
 ) -> Result<(Vec<(OwnText, TopoObject)>, Vec<Dropped>), Memory>
-    requires { AllByRecursion (λ arc. AllByRecursion (IsPlace (option_copied transform)) arc) arcs.now }
-    ensures objects { IfOk result (λ r. r.0.items ≡ objects_pruned (large_refs (all_placed (option_copied transform.entry) arcs.now)) objects.items) }
-    ensures dropped { IfOk result (λ r. r.1.items ≡ objects_drops (all_placed (option_copied transform.entry) arcs.now) 0 objects.items) }
+    requires places { AllByRecursion (λ arc. AllByRecursion (IsPlace (option_copied transform)) arc) arcs.now }
+    requires limit { ring_limit ≤ threshold_limit }
+    ensures objects { IfOk result (λ r. r.0.items
+        ≡ objects_pruned (large_refs ring_limit (all_placed (option_copied transform.entry) arcs.now)) objects.items) }
+    ensures dropped { IfOk result (λ r. r.1.items
+        ≡ objects_drops (record { arcs = all_placed (option_copied transform.entry) arcs.now; limit = ring_limit }) 0 objects.items) }
 {
     match transform {
-        None => large_over(alloc, objects, arcs),
+        None => large_over(alloc, objects, &Rebuilding::of(arcs, ring_limit)),
         Some(_) => {
             let placed = placed_arcs(alloc, arcs, transform)?;
-            large_over(alloc, objects, &placed)
+            large_over(alloc, objects, &Rebuilding::of(&placed, ring_limit))
         }
     }
 }
@@ -110,7 +116,7 @@ fn without_unused<P>(
 }
 
 /// What is left of objects over arcs of which only the picked cells stay: without the lines and rings that have no arc index, or are
-/// left with too few positions, and without the arcs that no other line uses; the lines and rings that are dropped, in reading order, an
+/// small, and without the arcs that no other line uses; the lines and rings that are dropped, in reading order, an
 /// object in the place of a layer; and how many positions of the arcs that stay were not picked.
 pub fn finish<P>(
     alloc: Global,
@@ -118,6 +124,7 @@ pub fn finish<P>(
     arcs: &[Items<P>],
     picked: Vec<Items<Cell>>,
     transform: Option<&Transform>,
+    ring_limit: u128,
 ) -> Result<
     (
         Vec<(OwnText, TopoObject)>,
@@ -128,17 +135,18 @@ pub fn finish<P>(
     Memory,
 >
     requires places { AllByRecursion (λ arc. AllByRecursion (IsPlace (option_copied transform)) arc) picked.items }
+    requires limit { ring_limit ≤ threshold_limit }
     requires many { length picked.items ≡ length arcs.now }
     requires ranged { AllByRecursion (λ b. AreInRange (length picked.items) b.1)
-        (objects_strokes (objects_pruned (large_refs (all_placed (option_copied transform) picked.items)) objects.items)) }
+        (objects_strokes (objects_pruned (large_refs ring_limit (all_placed (option_copied transform) picked.items)) objects.items)) }
     ensures left { IfOk result (λ r. contents r.0.items r.1.items (option_copied transform.entry)
-        ≡ trimmed (contents (objects_pruned (large_refs (all_placed (option_copied transform.entry) picked.items)) objects.items) picked.items (option_copied transform.entry))) }
-    ensures dropped { IfOk result (λ r. r.2.items ≡ objects_drops (all_placed (option_copied transform.entry) picked.items) 0 objects.items) }
+        ≡ trimmed (contents (objects_pruned (large_refs ring_limit (all_placed (option_copied transform.entry) picked.items)) objects.items) picked.items (option_copied transform.entry))) }
+    ensures dropped { IfOk result (λ r. r.2.items ≡ objects_drops (record { arcs = all_placed (option_copied transform.entry) picked.items; limit = ring_limit }) 0 objects.items) }
     ensures taken_out { IfOk result (λ r. r.3
-        ≡ saturated (sum (map length (keep_from (is_used (objects_pruned (large_refs (all_placed (option_copied transform.entry) picked.items)) objects.items)) 0 arcs.now))
-        - positions_of (keep_from (is_used (objects_pruned (large_refs (all_placed (option_copied transform.entry) picked.items)) objects.items)) 0 picked.items))) }
+        ≡ saturated (sum (map length (keep_from (is_used (objects_pruned (large_refs ring_limit (all_placed (option_copied transform.entry) picked.items)) objects.items)) 0 arcs.now))
+        - positions_of (keep_from (is_used (objects_pruned (large_refs ring_limit (all_placed (option_copied transform.entry) picked.items)) objects.items)) 0 picked.items))) }
 {
-    let (large, dropped) = large_objects(alloc, objects, &picked, transform)?;
+    let (large, dropped) = large_objects(alloc, objects, &picked, transform, ring_limit)?;
     let (left, stay, taken) = without_unused(alloc, large, arcs, picked)?;
     Ok((left, stay, dropped, taken))
 }

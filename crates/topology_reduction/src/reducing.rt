@@ -1,7 +1,8 @@
 // The topology that is left where of each arc only some cells stay.
-ghost use Rattle.std.specs.Prelude.{◌≡◌, IfOk, map};
+ghost use Rattle.std.specs.Prelude.{◌≡◌, ◌≤◌, IfOk, map};
 ghost use Rattle.std.specs.Option.{option_copied};
 ghost use Rattle.byte_ends.specs.Ends.{saturated};
+ghost use Rattle.geometry.specs.Units.{threshold_limit};
 ghost use Rattle.lessened_topology.specs.Lessened.{EachFromFirstToLast, dropped_by, lessened_by, taken_out_by};
 ghost use Rattle.topojson_types.specs.Topologies.{Contents};
 ghost use Rattle.topojson_types.specs.Validity.{IsTopology};
@@ -17,7 +18,7 @@ use std::alloc::Global;
 use topojson_types::{Cell, TopoObject, Topology, Transform};
 
 /// What is left of the objects and the arcs of a topology, with of each arc only the cells with the numbers of its own list: without the
-/// lines and rings that are then left with too few positions, and without the arcs that no kept line uses; the lines and rings that
+/// lines and rings that are then small, and without the arcs that no kept line uses; the lines and rings that
 /// are dropped, in reading order, an object in the place of a layer; and how many positions are taken out of the arcs that stay.
 fn reduced_parts(
     alloc: Global,
@@ -25,6 +26,7 @@ fn reduced_parts(
     arcs: &[Items<Cell>],
     transform: Option<&Transform>,
     kept: &[Vec<usize>],
+    ring_limit: u128,
 ) -> Result<
     (
         Vec<(OwnText, TopoObject)>,
@@ -36,15 +38,16 @@ fn reduced_parts(
 >
     requires valid { IsTopology (contents objects.items arcs.now (option_copied transform)) }
     requires kept { EachFromFirstToLast (map (λ k. k.items) kept.now) arcs.now }
+    requires limit { ring_limit ≤ threshold_limit }
     ensures left { IfOk result (λ r. contents r.0.items r.1.items (option_copied transform.entry)
-        ≡ lessened_by (map (λ k. k.items) kept.now) (contents objects.items arcs.now (option_copied transform.entry))) }
+        ≡ lessened_by (map (λ k. k.items) kept.now) ring_limit (contents objects.items arcs.now (option_copied transform.entry))) }
     ensures dropped { IfOk result (λ r. r.2.items
-        ≡ dropped_by (map (λ k. k.items) kept.now) (contents objects.items arcs.now (option_copied transform.entry))) }
+        ≡ dropped_by (map (λ k. k.items) kept.now) ring_limit (contents objects.items arcs.now (option_copied transform.entry))) }
     ensures taken_out { IfOk result (λ r. r.3
-        ≡ saturated (taken_out_by (map (λ k. k.items) kept.now) (contents objects.items arcs.now (option_copied transform.entry)))) }
+        ≡ saturated (taken_out_by (map (λ k. k.items) kept.now) ring_limit (contents objects.items arcs.now (option_copied transform.entry)))) }
 {
     let picked = picked_arcs(alloc, kept, arcs)?;
-    finish(alloc, objects, arcs, picked, transform)
+    finish(alloc, objects, arcs, picked, transform, ring_limit)
 }
 
 /// What is left of the topology, as a topology with the same transform; the lines and rings that are dropped; and how many positions
@@ -53,11 +56,13 @@ fn reduced_topology(
     alloc: Global,
     topology: Topology,
     kept: &[Vec<usize>],
+    ring_limit: u128,
 ) -> Result<(Topology, Vec<Dropped>, u64), Memory>
-    requires { EachFromFirstToLast (map (λ k. k.items) kept.now) topology.arcs }
-    ensures topology { IfOk result (λ r. r.0 ≡ lessened_by (map (λ k. k.items) kept.now) topology) }
-    ensures dropped { IfOk result (λ r. r.1.items ≡ dropped_by (map (λ k. k.items) kept.now) topology) }
-    ensures taken_out { IfOk result (λ r. r.2 ≡ saturated (taken_out_by (map (λ k. k.items) kept.now) topology)) }
+    requires kept { EachFromFirstToLast (map (λ k. k.items) kept.now) topology.arcs }
+    requires limit { ring_limit ≤ threshold_limit }
+    ensures topology { IfOk result (λ r. r.0 ≡ lessened_by (map (λ k. k.items) kept.now) ring_limit topology) }
+    ensures dropped { IfOk result (λ r. r.1.items ≡ dropped_by (map (λ k. k.items) kept.now) ring_limit topology) }
+    ensures taken_out { IfOk result (λ r. r.2 ≡ saturated (taken_out_by (map (λ k. k.items) kept.now) ring_limit topology)) }
 {
     lessened_is_valid();
     let (objects, arcs, transform) = topology.into_parts();
@@ -67,6 +72,7 @@ fn reduced_topology(
         arcs.as_slice(),
         transform.as_ref(),
         kept,
+        ring_limit,
     )?;
     let reduced = Topology::of(Items::of(left), Items::of(stay), transform);
     Ok((reduced, dropped, taken))
@@ -78,12 +84,18 @@ pub trait Reduces: Sized {
     ghost contents: { Self → Contents };
 
     /// What is left of it, with of each arc only the cells with the numbers of its own list, which begin with the first and end
-    /// with the last; the lines and rings that are dropped; and how many positions are taken out of the arcs that stay.
-    fn reduce(self, alloc: Global, kept: &[Vec<usize>]) -> Result<(Self, Vec<Dropped>, u64), Memory>
-        requires { EachFromFirstToLast (map (λ k. k.items) kept.now) (contents self).arcs }
-        ensures topology { IfOk result (λ r. contents r.0 ≡ lessened_by (map (λ k. k.items) kept.now) (contents self)) }
-        ensures dropped { IfOk result (λ r. r.1.items ≡ dropped_by (map (λ k. k.items) kept.now) (contents self)) }
-        ensures taken_out { IfOk result (λ r. r.2 ≡ saturated (taken_out_by (map (λ k. k.items) kept.now) (contents self))) };
+    /// with the last, without rings that enclose less than half the limit; the lines and rings that are dropped; and how many positions are taken out of the arcs that stay.
+    fn reduce(
+        self,
+        alloc: Global,
+        kept: &[Vec<usize>],
+        ring_limit: u128,
+    ) -> Result<(Self, Vec<Dropped>, u64), Memory>
+        requires kept { EachFromFirstToLast (map (λ k. k.items) kept.now) (contents self).arcs }
+        requires limit { ring_limit ≤ threshold_limit }
+        ensures topology { IfOk result (λ r. contents r.0 ≡ lessened_by (map (λ k. k.items) kept.now) ring_limit (contents self)) }
+        ensures dropped { IfOk result (λ r. r.1.items ≡ dropped_by (map (λ k. k.items) kept.now) ring_limit (contents self)) }
+        ensures taken_out { IfOk result (λ r. r.2 ≡ saturated (taken_out_by (map (λ k. k.items) kept.now) ring_limit (contents self))) };
 }
 
 impl Reduces for Topology {
@@ -93,7 +105,8 @@ impl Reduces for Topology {
         self,
         alloc: Global,
         kept: &[Vec<usize>],
+        ring_limit: u128,
     ) -> Result<(Topology, Vec<Dropped>, u64), Memory> {
-        reduced_topology(alloc, self, kept)
+        reduced_topology(alloc, self, kept, ring_limit)
     }
 }

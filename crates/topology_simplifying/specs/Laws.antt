@@ -19,10 +19,10 @@ pub record StandsFor (bytes : List ℕ) (contents : Contents) (counts : Counts) 
 -- where a source has left bytes that spell a topology, a simplifying that answers wrote the text of what is left of that topology,
 -- and its report is that of it
 abbrev pub SimplifiesToLessened : Type 0
-SimplifiesToLessened = (t : ℕ) (bytes : List ℕ) (contents : Contents) (counts : Counts) (source after : Fed) (sink_old sink_new : Drained) (report : Report)
-    → StandsFor bytes contents counts → source.left ≡ Some bytes → IsSimplified t source after sink_old sink_new report
-    → Takes sink_old sink_new (lessened_text t contents) (length (lessened_text t contents)) × (report ≡ report_of t contents counts)
+SimplifiesToLessened = (t limit : ℕ) (bytes : List ℕ) (contents : Contents) (counts : Counts) (source after : Fed) (sink_old sink_new : Drained) (report : Report)
+    → StandsFor bytes contents counts → source.left ≡ Some bytes → IsSimplified t limit source after sink_old sink_new report
+    → Takes sink_old sink_new (lessened_text t limit contents) (length (lessened_text t limit contents)) × (report ≡ report_of t limit contents counts)
 
 -- where bytes spell a topology, the text of what is left of it is UTF-8
 abbrev pub LessenedIsUtf8 : Type 0
-LessenedIsUtf8 = (t : ℕ) (bytes : List ℕ) (contents : Contents) (counts : Counts) → SpellsTopology bytes contents counts → IsUtf8 (lessened_text t contents)
+LessenedIsUtf8 = (t limit : ℕ) (bytes : List ℕ) (contents : Contents) (counts : Counts) → SpellsTopology bytes contents counts → IsUtf8 (lessened_text t limit contents)

@@ -9,8 +9,8 @@ use Rattle.topology_files.specs.FileOutcomes.{plain_file_fault, IsOutsideGiven, 
 use Rattle.topology_simplifying.specs.Simplified.{lessened_text, report_of}
 
 -- the text of what is left of a topology at the threshold, and the report
-abbrev pub simplified : ℕ → Contents → Counts → Result (List ℕ × Report) FileFault
-simplified t y counts = Ok (lessened_text t y, report_of t y counts)
+abbrev pub simplified : ℕ → ℕ → Contents → Counts → Result (List ℕ × Report) FileFault
+simplified t limit y counts = Ok (lessened_text t limit y, report_of t limit y counts)
 
 -- the text of the outcome was written, and the answer is its report, unless memory, the source or the sink failed, or its fault is
 -- answered

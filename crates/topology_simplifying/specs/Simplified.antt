@@ -16,44 +16,44 @@ use Rattle.topology_files.specs.Files.{IsTopologyRead, FailsToGive}
 -- ---- what is left of a topology
 
 -- the text (TopoJSON 1.0) of what is left of a topology where each arc is reduced at the threshold
-abbrev pub lessened_text : ℕ → Contents → List ℕ
-lessened_text t y = json_text (topology_value (lessened t y))
+abbrev pub lessened_text : ℕ → ℕ → Contents → List ℕ
+lessened_text t limit y = json_text (topology_value (lessened t limit y))
 
 -- what was counted in reading the topology, the lines and rings that are dropped, the arcs that are left, their positions, and
 -- those that were taken out of these arcs
-abbrev pub report_of : ℕ → Contents → Counts → Report
-report_of t y counts = report_with counts (lessened_dropped t y) (lessened t y).arcs (saturated (lessened_taken_out t y))
+abbrev pub report_of : ℕ → ℕ → Contents → Counts → Report
+report_of t limit y counts = report_with counts (lessened_dropped t limit y) (lessened t limit y).arcs (saturated (lessened_taken_out t limit y))
 
 -- ---- reading and writing
 
 -- the source was read to its end, its bytes spell a topology, and this is left of it, with this report
-pub record IsLessened (t : ℕ) (old new : Fed) (less : Contents) (report : Report) : Type 0 where
+pub record IsLessened (t limit : ℕ) (old new : Fed) (less : Contents) (report : Report) : Type 0 where
   pub contents : Contents
   pub counts : Counts
   pub read : IsTopologyRead old new contents counts
-  pub left : less ≡ lessened t contents
-  pub told : report ≡ report_of t contents counts
+  pub left : less ≡ lessened t limit contents
+  pub told : report ≡ report_of t limit contents counts
 
 -- the source was read to its end, its bytes spell a topology, the text of what is left of it is UTF-8, the sink took the whole of
 -- it and passed it on, and this is its report
-pub record IsSimplified (t : ℕ) (old new : Fed) (sink_old sink_new : Drained) (report : Report) : Type 0 where
+pub record IsSimplified (t limit : ℕ) (old new : Fed) (sink_old sink_new : Drained) (report : Report) : Type 0 where
   pub contents : Contents
   pub counts : Counts
   pub read : IsTopologyRead old new contents counts
-  pub utf8 : IsUtf8 (lessened_text t contents)
-  pub written : Takes sink_old sink_new (lessened_text t contents) (length (lessened_text t contents))
+  pub utf8 : IsUtf8 (lessened_text t limit contents)
+  pub written : Takes sink_old sink_new (lessened_text t limit contents) (length (lessened_text t limit contents))
   pub sound : sink_new.failures ≡ 0
   pub flushed : sink_new.flushed ≡ true
-  pub told : report ≡ report_of t contents counts
+  pub told : report ≡ report_of t limit contents counts
 
 -- the device failed when it had taken a front of that text
-pub record IsSimplifiedInPart (t : ℕ) (old new : Fed) (sink_old sink_new : Drained) (sent : ℕ) : Type 0 where
+pub record IsSimplifiedInPart (t limit : ℕ) (old new : Fed) (sink_old sink_new : Drained) (sent : ℕ) : Type 0 where
   pub contents : Contents
   pub counts : Counts
   pub read : IsTopologyRead old new contents counts
-  pub written : WritesFront sink_old sink_new 0 (lessened_text t contents) sent
+  pub written : WritesFront sink_old sink_new 0 (lessened_text t limit contents) sent
 
 -- why nothing is written whole: nothing is written unless the device failed
-abbrev pub IsSimplifyFault : ℕ → Fed → Fed → Drained → Drained → FileFault → Type 0
-IsSimplifyFault t old new sink_old sink_new (Write sent) = IsSimplifiedInPart t old new sink_old sink_new sent
-IsSimplifyFault t old new sink_old sink_new e = (sink_new ≡ sink_old) × FailsToGive old new e
+abbrev pub IsSimplifyFault : ℕ → ℕ → Fed → Fed → Drained → Drained → FileFault → Type 0
+IsSimplifyFault t limit old new sink_old sink_new (Write sent) = IsSimplifiedInPart t limit old new sink_old sink_new sent
+IsSimplifyFault t limit old new sink_old sink_new e = (sink_new ≡ sink_old) × FailsToGive old new e

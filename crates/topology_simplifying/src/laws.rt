@@ -16,8 +16,8 @@ pub fn simplified_text_is_lessened()
 /// The bytes of a file come to exactly one outcome where `simplify` is asked at a threshold: either the text of what is left of the
 /// topology and the report, or the fault, but for where and why a malformed text is malformed.
 pub fn simplified_is_one_outcome()
-    ensures there { (t : ℕ) → HaveFileOutcome (simplified t) }
-    ensures one { (t : ℕ) → HaveOneFileOutcome (simplified t) }
+    ensures there { (t ring_limit : ℕ) → HaveFileOutcome (simplified t ring_limit) }
+    ensures one { (t ring_limit : ℕ) → HaveOneFileOutcome (simplified t ring_limit) }
 {}
 
 /// The text of what is left of a topology is UTF-8 (RFC 8259, section 8.1), whichever topology the bytes of a file spell.

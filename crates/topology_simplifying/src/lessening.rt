@@ -1,8 +1,9 @@
 // Reducing the arcs of a topology that was read.
-ghost use Rattle.std.specs.Prelude.{◌≡◌, IfOk, map};
+ghost use Rattle.std.specs.Prelude.{◌≡◌, ◌≤◌, IfOk, map};
 ghost use Rattle.std.specs.List.{AllByRecursion};
 ghost use Rattle.std.specs.Option.{option_copied};
 ghost use Rattle.elimination_meaning.specs.Elimination.{reduce};
+ghost use Rattle.geometry.specs.Units.{threshold_limit};
 ghost use Rattle.lessened_topology.specs.Thresholds.{lessened, placed_cells};
 ghost use Rattle.topojson_types.specs.Validity.{IsArc};
 ghost use Rattle.topology_simplifying.specs.Simplified as spec;
@@ -52,7 +53,8 @@ fn kept_indexes<Q: Reducer>(
     Ok(kept)
 }
 
-/// What is left of a topology, with these counts, where each arc is reduced at a threshold, and the report of it.
+/// What is left of a topology, with these counts, where each arc is reduced at a threshold and rings under a
+/// limit are left out, and the report of it.
 #[tactic(auto, unfolding(lessened_topology::specs::Thresholds::lessened, lessened_topology::specs::Thresholds::lessened_dropped, lessened_topology::specs::Thresholds::lessened_taken_out))]
 pub fn lessen<Q: Reducer>(
     alloc: Global,
@@ -60,12 +62,14 @@ pub fn lessen<Q: Reducer>(
     topology: Topology,
     counts: Counts,
     t: u128,
+    ring_limit: u128,
 ) -> Result<(Topology, Report), Memory>
-    ensures { IfOk result (λ r. (r.0 ≡ lessened t topology) × (r.1 ≡ spec.report_of t topology counts)) }
+    requires { ring_limit ≤ threshold_limit }
+    ensures { IfOk result (λ r. (r.0 ≡ lessened t ring_limit topology) × (r.1 ≡ spec.report_of t ring_limit topology counts)) }
 {
     indexes_reach();
     let kept = kept_indexes(alloc, reducer, topology.transform(), topology.arcs(), t)?;
-    let (less, dropped, removed) = topology.reduce(alloc, &kept)?;
+    let (less, dropped, removed) = topology.reduce(alloc, &kept, ring_limit)?;
     let report = report_of(counts, dropped, less.arcs(), removed);
     Ok((less, report))
 }

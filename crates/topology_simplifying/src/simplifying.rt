@@ -1,5 +1,6 @@
 // Simplifying the topology of a file.
-ghost use Rattle.std.specs.Prelude.{◌≡◌, ℕ, List, Some, Result, IfOk, IfErr};
+ghost use Rattle.std.specs.Prelude.{◌≡◌, ◌≤◌, ℕ, List, Some, Result, IfOk, IfErr};
+ghost use Rattle.geometry.specs.Units.{threshold_limit};
 ghost use Rattle.inputs.specs.declared.file_fault.FileFault.{FileFault as Fault};
 ghost use Rattle.json_value.specs.Text.{json_text};
 ghost use Rattle.reports.specs.declared.report.Report.{Report as Told};
@@ -28,12 +29,14 @@ fn read_lessened<Q: Reducer, R: Feed>(
     reducer: &mut Q,
     source: &mut Source<R>,
     t: u128,
+    ring_limit: u128,
 ) -> Result<(Topology, Report), FileFault>
-    ensures given { IfOk result (λ r. IsLessened t source.old source.new r.0 r.1) }
+    requires { ring_limit ≤ threshold_limit }
+    ensures given { IfOk result (λ r. IsLessened t ring_limit source.old source.new r.0 r.1) }
     ensures refused { IfErr result (λ e. FailsToGive source.old source.new e) }
 {
     let (topology, counts) = read_file(alloc, source)?;
-    let less = lessen(alloc, reducer, topology, counts, t)?;
+    let less = lessen(alloc, reducer, topology, counts, t, ring_limit)?;
     Ok(less)
 }
 
@@ -50,7 +53,8 @@ fn send<W: Drain>(topology: &Topology, sink: &mut Sink<W>) -> Result<u64, FileFa
 ///
 /// Each arc is reduced once at the threshold `t`, twice an area in square units, by the positions that it stands for (Visvalingam
 /// and Whyatt 1993); the cells that stay keep their numbers, and the transform stays. A line or ring that is left with too few
-/// positions is dropped, and so is a ring of a polygon whose outer ring is; arcs that no line uses are left out. The report tells
+/// positions is dropped, a ring of which twice the area is under `ring_limit` (in square units), and a ring of a polygon whose outer
+/// ring is; arcs that no line uses are left out. The report tells
 /// what was counted in reading, what is dropped, and of the arcs that are left how many positions stay and were taken out. The
 /// topology is refused as by `stat`. On each fault but `Write` the sink is as it was. On `Write` it took a prefix of the text, of
 /// the length that is told. At `Ok` the sink is flushed.
@@ -59,18 +63,20 @@ pub fn simplify<Q: Reducer, R: Feed, W: Drain>(
     reducer: &mut Q,
     source: &mut Source<R>,
     t: u128,
+    ring_limit: u128,
     sink: &mut Sink<W>,
 ) -> Result<Report, FileFault>
+    requires { ring_limit ≤ threshold_limit }
     // The bytes spell a topology, what was written is the text of what is left of it, which is UTF-8, and the report is that of it.
-    ensures written { IfOk result (λ report. IsSimplified t source.old source.new sink.old sink.new report) }
+    ensures written { IfOk result (λ report. IsSimplified t ring_limit source.old source.new sink.old sink.new report) }
     // Every fault is one that the source or its bytes have, or a prefix of that text was written.
-    ensures refused { IfErr result (λ e. IsSimplifyFault t source.old source.new sink.old sink.new e) }
+    ensures refused { IfErr result (λ e. IsSimplifyFault t ring_limit source.old source.new sink.old sink.new e) }
     // And the other way round: what the bytes of the source come to is answered, unless memory, the source or the sink failed.
-    ensures decided { (bytes : List ℕ) (outcome : Result (List ℕ × Told) Fault) → source.old.left ≡ Some bytes → FileComesTo (simplified t) bytes outcome
+    ensures decided { (bytes : List ℕ) (outcome : Result (List ℕ × Told) Fault) → source.old.left ≡ Some bytes → FileComesTo (simplified t ring_limit) bytes outcome
         → FollowsSimplified sink.old sink.new outcome result }
 {
     lessened_text_is_utf8();
-    let (less, report) = read_lessened(alloc, reducer, source, t)?;
+    let (less, report) = read_lessened(alloc, reducer, source, t, ring_limit)?;
     send(&less, sink)?;
     Ok(report)
 }

@@ -1,5 +1,5 @@
 use Rattle.std.proofs.Common.{◌∷◌, [], nat_lt, drop, ap, subst, arith}
-use Rattle.arc_choice.specs.Passing.{Passes, unpassed}
+use Rattle.arc_choice.specs.Passing.{missing_behind, Passes, unpassed}
 use Rattle.arc_choice.proofs.Passed.{one_passed, all_passed, enough_seen, all_seen}
 use Rattle.arc_choice.proofs.rebuilding.is_short_line.Goals as goal
 
@@ -10,10 +10,10 @@ returns-then-need-eq0 c =
 
 pub positions-preserved : goal.positions-preserved
 positions-preserved c =
-    one_passed c.args.positions.now c.args.positions.now c.positions.position-index c.position-item.result (unpassed c.args.closed) c.positions.need c.pass.new.self c.positions-test.true c.position-item.is
+    one_passed missing_behind c.args.positions.now c.args.positions.now c.positions.position-index c.position-item.result (unpassed c.args.closed) c.positions.need c.pass.new.self c.positions-test.true c.position-item.is
     c.positions.invariant (subst (λ p. Passes (p ∷ []) c.positions.need c.pass.new.self) c.of.ensures c.pass.ensures)
 
 pub returns : goal.returns
 returns c =
     all_seen c.args.closed c.args.positions.now c.positions.need _ (ap (λ v. nat_lt 0 v.missing) c.need-2.view_is)
-    (all_passed c.args.positions.now c.args.positions.now c.positions.position-index (unpassed c.args.closed) c.positions.need c.positions-test.false c.positions.invariant)
+    (all_passed missing_behind c.args.positions.now c.args.positions.now c.positions.position-index (unpassed c.args.closed) c.positions.need c.positions-test.false c.positions.invariant)

@@ -14,18 +14,18 @@ pub returns-clause-topology : goal.returns-clause-topology
 returns-clause-topology g c =
     let ls = c.args.layers.items in
     let e = indexes_are ls c.in_ok-table.table (rw c.deref.ensures.value at c.in_ok-table.ensures) c.args.threshold (map (λ k. k.items) c.in_ok-kept.kept.items) c.in_ok-kept.ensures in
-    subst (λ z. IfOk c.assemble.result (λ r. r.0 ≡ z)) (ap (λ k. assembled k ls) e ∙ c.assembles_to_built.ensures c.args.threshold ls c.requires.sound) (rw c.deref-2.ensures.value at c.assemble.ensures.topology)
+    subst (λ z. IfOk c.assemble.result (λ r. r.0 ≡ z)) (ap (λ k. assembled k c.args.ring_limit ls) e ∙ c.assembles_to_built.ensures c.args.threshold c.args.ring_limit ls c.requires.sound) (rw c.deref-2.ensures.value at c.assemble.ensures.topology)
 
 pub returns-clause-dropped : goal.returns-clause-dropped
 returns-clause-dropped g c =
     let ls = c.args.layers.items in
     let e = indexes_are ls c.in_ok-table.table (rw c.deref.ensures.value at c.in_ok-table.ensures) c.args.threshold (map (λ k. k.items) c.in_ok-kept.kept.items) c.in_ok-kept.ensures in
-    subst (λ z. IfOk c.assemble.result (λ r. r.1.items ≡ z)) (ap (λ k. assembled_dropped k ls) e ∙ c.assembling_drops_expected.ensures c.args.threshold ls c.requires.sound)
+    subst (λ z. IfOk c.assemble.result (λ r. r.1.items ≡ z)) (ap (λ k. assembled_dropped k c.args.ring_limit ls) e ∙ c.assembling_drops_expected.ensures c.args.threshold c.args.ring_limit ls c.requires.sound)
     (rw c.deref-2.ensures.value at c.assemble.ensures.dropped)
 
 pub returns-clause-taken_out : goal.returns-clause-taken_out
 returns-clause-taken_out g c =
     let ls = c.args.layers.items in
     let e = indexes_are ls c.in_ok-table.table (rw c.deref.ensures.value at c.in_ok-table.ensures) c.args.threshold (map (λ k. k.items) c.in_ok-kept.kept.items) c.in_ok-kept.ensures in
-    subst (λ z. IfOk c.assemble.result (λ r. r.2 ≡ saturated z)) (ap (λ k. assembled_taken_out k ls) e ∙ c.assembling_takes_out.ensures c.args.threshold ls c.requires.sound)
+    subst (λ z. IfOk c.assemble.result (λ r. r.2 ≡ saturated z)) (ap (λ k. assembled_taken_out k c.args.ring_limit ls) e ∙ c.assembling_takes_out.ensures c.args.threshold c.args.ring_limit ls c.requires.sound)
     (rw c.deref-2.ensures.value at c.assemble.ensures.taken_out)

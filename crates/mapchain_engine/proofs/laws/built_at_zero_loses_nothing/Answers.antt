@@ -9,8 +9,9 @@ use Rattle.mapchain_engine.proofs.BuiltAgain.{taken}
 use Rattle.mapchain_engine.proofs.laws.built_at_zero_loses_nothing.Goals as goal
 
 pub returns : goal.returns
-returns c = λ o olds news sink_old sink_new report is zero.
+returns c = λ o olds news sink_old sink_new report is zero none.
     let ls = snapped_for o is.layers in
     let h = taken c.topology_is_valid.ensures c.read_layers_are_taken.ensures o olds news sink_old sink_new report is in
-    subst (λ t. AllByRecursion (λ b. kept_line (linework (layers_of ls)) t b.0 b.1 ≡ whole_line ls b.0 b.1) (named_strokes ls)) (sym zero)
-    (c.zero_loses_nothing.ensures ls (c.snapped_are_on.ensures o.grid is.layers h.count h.sound h.inputs).sound)
+    subst (λ t. AllByRecursion (λ b. kept_line (linework (layers_of ls)) t o.ring_limit b.0 b.1 ≡ whole_line ls b.0 b.1) (named_strokes ls)) (sym zero)
+    (subst (λ l. AllByRecursion (λ b. kept_line (linework (layers_of ls)) 0 l b.0 b.1 ≡ whole_line ls b.0 b.1) (named_strokes ls)) (sym none)
+    (c.zero_loses_nothing.ensures ls (c.snapped_are_on.ensures o.grid is.layers h.count h.sound h.inputs).sound))

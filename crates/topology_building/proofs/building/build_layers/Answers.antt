@@ -8,6 +8,7 @@ use Rattle.build_meaning.specs.Built.{taken_out}
 use Rattle.build_meaning.specs.Expected.{expected_dropped}
 use Rattle.byte_ends.specs.Ends.{saturated}
 use Rattle.topology_building.proofs.Built as built
+use Rattle.topology_building.proofs.SoundLayers.{limit_of}
 use Rattle.topology_building.proofs.building.build_layers.Goals as goal
 
 pub returns-in_err-layers-clause-refused : goal.returns-in_err-layers-clause-refused
@@ -15,10 +16,13 @@ returns-in_err-layers-clause-refused g c =
     let p = err_from_is_err_and c.from_residual.result c.from_residual.ensures.1 in
     rw (p.1, p.2) (built.not_read c.args.options.now c.args.sources.now c.read_layers.new.sources c.args.sink.now _ c.in_err-layers.ensures)
 
-pub topology_of_layers-requires : goal.topology_of_layers-requires
-topology_of_layers-requires g c =
+pub topology_of_layers-requires-clause-taken : goal.topology_of_layers-requires-clause-taken
+topology_of_layers-requires-clause-taken g c =
     let r = c.in_ok-layers.ensures in
     built.may_be_made c.building_laws.ensures.layers c.args.options.now c.args.sources.now c.read_layers.new.sources c.in_ok-layers.layers.items r.0 r.1 c.requires.names
+
+pub topology_of_layers-requires-clause-limit : goal.topology_of_layers-requires-clause-limit
+topology_of_layers-requires-clause-limit g c = limit_of c.args.options.now
 
 pub returns-in_err-topology-clause-refused : goal.returns-in_err-topology-clause-refused
 returns-in_err-topology-clause-refused g c =
@@ -50,5 +54,5 @@ returns-clause-built g c =
     (rw e at c.in_ok-send.ensures)
     (c.report_of-report.ensures ∙ ap (λ arcs. report_with c.in_ok-layers.counts c.in_ok-topology.dropped.items arcs c.in_ok-topology.removed) (c.arcs.ensures.arcs ∙ ap (λ z. z.arcs) e)
     ∙ ap (λ ds. report_with c.in_ok-layers.counts ds (written_for o ls).arcs c.in_ok-topology.removed) c.in_ok-topology.ensures.dropped
-    ∙ ap (λ n. report_with c.in_ok-layers.counts (expected_dropped o.threshold (snapped_for o ls)) (written_for o ls).arcs n) c.in_ok-topology.ensures.taken_out
-    ∙ ap (λ n. report_with n (expected_dropped o.threshold (snapped_for o ls)) (written_for o ls).arcs (saturated (taken_out o.threshold (snapped_for o ls)))) r.2)
+    ∙ ap (λ n. report_with c.in_ok-layers.counts (expected_dropped o.threshold o.ring_limit (snapped_for o ls)) (written_for o ls).arcs n) c.in_ok-topology.ensures.taken_out
+    ∙ ap (λ n. report_with n (expected_dropped o.threshold o.ring_limit (snapped_for o ls)) (written_for o ls).arcs (saturated (taken_out o.threshold o.ring_limit (snapped_for o ls)))) r.2)

@@ -14,24 +14,24 @@ use Rattle.topology_reduction.specs.Drops.{objects_drops}
 use Rattle.topology_reduction.proofs.Result.{finished}
 use Rattle.topology_reduction.proofs.finishing.finish.Goals as goal
 
-pub large_objects-requires : goal.large_objects-requires
-large_objects-requires o c = subst (AllByRecursion (λ a. AllByRecursion (IsPlace (option_copied c.args.transform)) a)) (sym c.deref.ensures.value) c.requires.places
+pub large_objects-requires-clause-places : goal.large_objects-requires-clause-places
+large_objects-requires-clause-places o c = subst (AllByRecursion (λ a. AllByRecursion (IsPlace (option_copied c.args.transform)) a)) (sym c.deref.ensures.value) c.requires.places
 
 pub without_unused-requires-clause-ranged : goal.without_unused-requires-clause-ranged
 without_unused-requires-clause-ranged o c =
-    let large = c.in_ok-large.ensures.objects ∙ ap (λ arcs. objects_pruned (large_refs (placed_arcs (option_copied c.args.transform) arcs)) c.args.objects.items) c.deref.ensures.value in
+    let large = c.in_ok-large.ensures.objects ∙ ap (λ arcs. objects_pruned (large_refs c.args.ring_limit (placed_arcs (option_copied c.args.transform) arcs)) c.args.objects.items) c.deref.ensures.value in
     subst (λ os. AllByRecursion (λ b. AreInRange (length c.args.picked.items) b.1) (objects_strokes os)) (sym large) c.requires.ranged
 
 pub returns-clause-left : goal.returns-clause-left
 returns-clause-left o c =
-    let large = c.in_ok-large.ensures.objects ∙ ap (λ arcs. objects_pruned (large_refs (placed_arcs (option_copied c.args.transform) arcs)) c.args.objects.items) c.deref.ensures.value in
-    finished c.args.objects.items c.in_ok-large.large.items c.in_ok-left.left.items c.args.picked.items c.in_ok-left.stay.items (option_copied c.args.transform) large c.in_ok-left.ensures.objects c.in_ok-left.ensures.arcs
+    let large = c.in_ok-large.ensures.objects ∙ ap (λ arcs. objects_pruned (large_refs c.args.ring_limit (placed_arcs (option_copied c.args.transform) arcs)) c.args.objects.items) c.deref.ensures.value in
+    finished c.args.ring_limit c.args.objects.items c.in_ok-large.large.items c.in_ok-left.left.items c.args.picked.items c.in_ok-left.stay.items (option_copied c.args.transform) large c.in_ok-left.ensures.objects c.in_ok-left.ensures.arcs
 
 pub returns-clause-dropped : goal.returns-clause-dropped
-returns-clause-dropped o c = c.in_ok-large.ensures.dropped ∙ ap (λ arcs. objects_drops (placed_arcs (option_copied c.args.transform) arcs) 0 c.args.objects.items) c.deref.ensures.value
+returns-clause-dropped o c = c.in_ok-large.ensures.dropped ∙ ap (λ arcs. objects_drops (record { arcs = placed_arcs (option_copied c.args.transform) arcs; limit = c.args.ring_limit }) 0 c.args.objects.items) c.deref.ensures.value
 
 pub returns-clause-taken_out : goal.returns-clause-taken_out
 returns-clause-taken_out o c =
-    let large = c.in_ok-large.ensures.objects ∙ ap (λ arcs. objects_pruned (large_refs (placed_arcs (option_copied c.args.transform) arcs)) c.args.objects.items) c.deref.ensures.value in
+    let large = c.in_ok-large.ensures.objects ∙ ap (λ arcs. objects_pruned (large_refs c.args.ring_limit (placed_arcs (option_copied c.args.transform) arcs)) c.args.objects.items) c.deref.ensures.value in
     c.in_ok-left.ensures.taken_out
     ∙ ap (λ os. saturated (sum (map length (keep_from (is_used os) 0 c.args.arcs.now)) - positions_of (keep_from (is_used os) 0 c.args.picked.items))) large

@@ -12,30 +12,30 @@ picked_arcs-requires c = as_many (λ k. k.items) c.args.kept.now c.args.arcs.now
 
 pub finish-requires-clause-places : goal.finish-requires-clause-places
 finish-requires-clause-places c =
-    places_are (map (λ k. k.items) c.args.kept.now) (contents c.args.objects.items c.args.arcs.now (option_copied c.args.transform)) c.in_ok-picked.picked.items c.in_ok-picked.ensures c.requires.valid
+    places_are (map (λ k. k.items) c.args.kept.now) c.args.ring_limit (contents c.args.objects.items c.args.arcs.now (option_copied c.args.transform)) c.in_ok-picked.picked.items c.in_ok-picked.ensures c.requires.valid
 
 pub finish-requires-clause-many : goal.finish-requires-clause-many
 finish-requires-clause-many c =
-    picked_long (map (λ k. k.items) c.args.kept.now) (contents c.args.objects.items c.args.arcs.now (option_copied c.args.transform)) c.in_ok-picked.picked.items c.in_ok-picked.ensures c.requires.kept
+    picked_long (map (λ k. k.items) c.args.kept.now) c.args.ring_limit (contents c.args.objects.items c.args.arcs.now (option_copied c.args.transform)) c.in_ok-picked.picked.items c.in_ok-picked.ensures c.requires.kept
 
 pub finish-requires-clause-ranged : goal.finish-requires-clause-ranged
 finish-requires-clause-ranged c =
-    ranged (map (λ k. k.items) c.args.kept.now) (contents c.args.objects.items c.args.arcs.now (option_copied c.args.transform)) c.in_ok-picked.picked.items c.in_ok-picked.ensures c.requires.valid c.requires.kept
+    ranged (map (λ k. k.items) c.args.kept.now) c.args.ring_limit (contents c.args.objects.items c.args.arcs.now (option_copied c.args.transform)) c.in_ok-picked.picked.items c.in_ok-picked.ensures c.requires.valid c.requires.kept
 
 pub returns-clause-left : goal.returns-clause-left
 returns-clause-left c =
     IfOk-weaker c.finish.result _ _
-    (λ r h. h ∙ is_lessened (map (λ k. k.items) c.args.kept.now) (contents c.args.objects.items c.args.arcs.now (option_copied c.args.transform)) c.in_ok-picked.picked.items c.in_ok-picked.ensures)
+    (λ r h. h ∙ is_lessened (map (λ k. k.items) c.args.kept.now) c.args.ring_limit (contents c.args.objects.items c.args.arcs.now (option_copied c.args.transform)) c.in_ok-picked.picked.items c.in_ok-picked.ensures)
     c.finish.ensures.left
 
 pub returns-clause-dropped : goal.returns-clause-dropped
 returns-clause-dropped c =
     IfOk-weaker c.finish.result _ _
-    (λ r h. h ∙ drops_are (map (λ k. k.items) c.args.kept.now) (contents c.args.objects.items c.args.arcs.now (option_copied c.args.transform)) c.in_ok-picked.picked.items c.in_ok-picked.ensures c.requires.valid)
+    (λ r h. h ∙ drops_are (map (λ k. k.items) c.args.kept.now) c.args.ring_limit (contents c.args.objects.items c.args.arcs.now (option_copied c.args.transform)) c.in_ok-picked.picked.items c.in_ok-picked.ensures c.requires.valid)
     c.finish.ensures.dropped
 
 pub returns-clause-taken_out : goal.returns-clause-taken_out
 returns-clause-taken_out c =
     IfOk-weaker c.finish.result _ _
-    (λ r h. h ∙ ap saturated (taken_is (map (λ k. k.items) c.args.kept.now) (contents c.args.objects.items c.args.arcs.now (option_copied c.args.transform)) c.in_ok-picked.picked.items c.in_ok-picked.ensures))
+    (λ r h. h ∙ ap saturated (taken_is (map (λ k. k.items) c.args.kept.now) c.args.ring_limit (contents c.args.objects.items c.args.arcs.now (option_copied c.args.transform)) c.in_ok-picked.picked.items c.in_ok-picked.ensures))
     c.finish.ensures.taken_out

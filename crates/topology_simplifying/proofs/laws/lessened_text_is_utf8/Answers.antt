@@ -7,12 +7,12 @@ use Rattle.topology_simplifying.proofs.laws.lessened_text_is_utf8.Goals as goal
 
 pub returns : goal.returns
 unfolding lessened
-returns c = λ t bytes contents counts spells.
+returns c = λ t limit bytes contents counts spells.
     let v = spells.value in
     let formed = c.read_values_are_well_formed.ensures topology_depth bytes v spells.utf8 spells.spelled in
     let valid = c.topology_is_valid.ensures v contents counts spells.stands in
-    let keeps = c.lessened_keeps.ensures (reduced_indexes t contents) contents in
+    let keeps = c.lessened_keeps.ensures (reduced_indexes t contents) limit contents in
     let numbers = c.numbers_stay.ensures v contents counts formed.numbers spells.stands in
     let texts = c.texts_stay.ensures v contents counts formed.texts spells.stands in
-    c.topology_text_is_utf8.ensures (lessened t contents) (subst IsTransformed (sym keeps.1) valid.transform) (numbers_kept contents (lessened t contents) keeps.0 numbers)
-    (texts_kept contents (lessened t contents) keeps.0 texts)
+    c.topology_text_is_utf8.ensures (lessened t limit contents) (subst IsTransformed (sym keeps.1) valid.transform) (numbers_kept contents (lessened t limit contents) keeps.0 numbers)
+    (texts_kept contents (lessened t limit contents) keeps.0 texts)

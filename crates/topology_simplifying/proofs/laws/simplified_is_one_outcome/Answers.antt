@@ -4,7 +4,7 @@ use Rattle.topology_simplifying.specs.Outcomes.{simplified}
 use Rattle.topology_simplifying.proofs.laws.simplified_is_one_outcome.Goals as goal
 
 pub returns-clause-there : goal.returns-clause-there
-returns-clause-there c = λ t. file_there (simplified t)
+returns-clause-there c = λ t limit. file_there (simplified t limit)
 
 pub returns-clause-one : goal.returns-clause-one
-returns-clause-one c = λ t. one_file (simplified t)
+returns-clause-one c = λ t limit. one_file (simplified t limit)

@@ -4,8 +4,8 @@ use Rattle.lessened_topology.specs.Lessened.{EachFromFirstToLast}
 use Rattle.lessened_topology.specs.Thresholds.{placed_cells, reduced_indexes}
 use Rattle.topology_simplifying.proofs.lessening.lessen.Goals as goal
 
-pub reduce-requires : goal.reduce-requires
-reduce-requires g c =
+pub reduce-requires-clause-kept : goal.reduce-requires-clause-kept
+reduce-requires-clause-kept g c =
     let y = c.args.topology in
     let same : map (λ k. k.items) c.deref.result.now ≡ reduced_indexes c.args.t y =
     ap (map (λ k. k.items)) c.deref.ensures.value ∙ c.in_ok-kept.ensures

@@ -1,5 +1,5 @@
 use Rattle.std.proofs.Common.{◌≡◌, ◌-◌, ◌<◌, cond, drop, length, ap, sym, ◌∙◌, arith}
-use Rattle.arc_choice.specs.Passing.{directed}
+use Rattle.arc_choice.specs.Passing.{directed, missing_behind}
 use Rattle.arc_choice.proofs.Passed.{directed_length, directed_at, one_passed}
 use Rattle.arc_choice.proofs.rebuilding.Need.pass_arc.Goals.{then-reversed, else-reversed}
 use Rattle.arc_choice.proofs.rebuilding.Need.pass_arc.Goals as goal
@@ -14,5 +14,5 @@ cells-preserved c =
       | then-reversed w ↦ w.i-is ∙ ap (λ b. cond b (length c.args.arc.now - 1 - c.cells.k) c.cells.k) (sym w.if-reversed.true)
       | else-reversed w ↦ w.i-is ∙ ap (λ b. cond b (length c.args.arc.now - 1 - c.cells.k) c.cells.k) (sym w.if-reversed.false)
     ] in
-    one_passed (directed c.args.reversed arc) (drop c.args.from (directed c.args.reversed arc)) k c.index-arc-i.result c.args.self.now c.cells.self c.pass.new.self
+    one_passed missing_behind (directed c.args.reversed arc) (drop c.args.from (directed c.args.reversed arc)) k c.index-arc-i.result c.args.self.now c.cells.self c.pass.new.self
     (omega (arith, lt, long)) (directed_at c.args.reversed arc k c.if-reversed.i c.index-arc-i.result lt e c.index-arc-i.is) c.cells.invariant c.pass.ensures

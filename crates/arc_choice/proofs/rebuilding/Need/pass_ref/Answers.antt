@@ -1,7 +1,7 @@
 use Rattle.std.proofs.Common.{drop, length, Some, subst, ap, refl, sym, ◌∙◌}
 use Rattle.std.proofs.lemmas.Option.{slice_get_past, slice_get_read}
 use Rattle.geometry.specs.Joins.{arc_at}
-use Rattle.arc_choice.specs.Passing.{Passes}
+use Rattle.arc_choice.specs.Passing.{missing_behind, Passes}
 use Rattle.arc_choice.proofs.Passed.{arc_named, no_arc_named, nothing_passed}
 use Rattle.arc_choice.proofs.rebuilding.Need.pass_ref.Goals as goal
 
@@ -15,5 +15,5 @@ returns-in-Some c =
 
 pub returns-in_default : goal.returns-in_default
 returns-in_default c =
-    nothing_passed c.args.from (arc_at c.args.arcs.now c.args.index) c.args.self.now
+    nothing_passed missing_behind c.args.from (arc_at c.args.arcs.now c.args.index) c.args.self.now
     (no_arc_named c.args.arcs.now c.args.index c.index.result c.index.ensures (slice_get_past c.args.arcs.now c.index.result c.in_default.ensures.lookup.3))

@@ -1,8 +1,8 @@
 use Rattle.std.proofs.Common.{nat_lt, drop, map, ap, arith}
 use Rattle.geometry.specs.Joins.{arc_at, rejoined}
-use Rattle.arc_choice.specs.Passing.{unpassed}
+use Rattle.arc_choice.specs.Passing.{missing_behind, unpassed}
 use Rattle.arc_choice.proofs.Passed.{later_left, later_passed, later_all, enough_seen, all_seen}
-use Rattle.arc_choice.proofs.rebuilding.is_small_line.Goals as goal
+use Rattle.arc_choice.proofs.rebuilding.is_short_rebuilt.Goals as goal
 
 pub returns-then-need-eq0 : goal.returns-then-need-eq0
 returns-then-need-eq0 c =
@@ -12,10 +12,10 @@ returns-then-need-eq0 c =
 
 pub later-preserved : goal.later-preserved
 later-preserved c =
-    later_passed c.args.arcs.now c.in-Some.later.now c.later.index-index c.index-item.result (rejoined (map (arc_at c.args.arcs.now) c.args.refs.now)) (unpassed c.args.closed) c.later.need
+    later_passed missing_behind c.args.arcs.now c.in-Some.later.now c.later.index-index c.index-item.result (rejoined (map (arc_at c.args.arcs.now) c.args.refs.now)) (unpassed c.args.closed) c.later.need
     c.pass_ref-in-later.new.self c.later-test.true c.index-item.is c.later.invariant c.pass_ref-in-later.ensures
 
 pub returns : goal.returns
 returns c =
     all_seen c.args.closed (rejoined (map (arc_at c.args.arcs.now) c.args.refs.now)) c.later.need _ (ap (λ v. nat_lt 0 v.missing) c.need-2.view_is)
-    (later_all c.args.arcs.now c.in-Some.later.now c.later.index-index (rejoined (map (arc_at c.args.arcs.now) c.args.refs.now)) (unpassed c.args.closed) c.later.need c.later-test.false c.later.invariant)
+    (later_all missing_behind c.args.arcs.now c.in-Some.later.now c.later.index-index (rejoined (map (arc_at c.args.arcs.now) c.args.refs.now)) (unpassed c.args.closed) c.later.need c.later-test.false c.later.invariant)

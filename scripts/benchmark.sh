@@ -6,13 +6,14 @@
 #     scripts/benchmark.sh path/to/mapchain   another program with the same commands
 #     RUNS=9 scripts/benchmark.sh             the fastest of nine runs each, instead of five
 #
-# For each mesh and each of `build`, without options, on a grid of 10^6 and with an area, `simplify` with the same area, `geo` and
-# `stat` (these three on what `build` wrote, `geo` on what it wrote on a grid too) it prints a row of a table: the seconds of the fastest
-# run, the MB/s of its input, and the greatest peak of memory. For the coast these are `build` without options, with an area at which a
-# third of the positions goes, and with one at which nearly all go, and `simplify` with these two areas; for roads, points and lakes `build`
-# and `geo`, and for lakes `build` with a least area of rings at which their holes go. Then, for each command, the growth: the
-# time a byte at 10^6 positions over that at 10^4. Where topo2geo (topojson-client) or ogr2ogr (GDAL) is installed, rows of
-# theirs for the same decoding come beside. Runs follow one another; nothing else should run meanwhile.
+# For each mesh and each of `build`, without options, on a grid of 10^6, with an area and with a share of 9/10, `simplify` with the same
+# area, `geo` and `stat` (these three on what `build` wrote, `geo` on what it wrote on a grid too) it prints a row of a table: the seconds
+# of the fastest run, the MB/s of its input, and the greatest peak of memory. For the coast these are `build` without options, with an
+# area at which a third of the positions goes, with one at which nearly all go, and of which a hundredth of the positions stays, and
+# `simplify` with these two areas; for roads, points and lakes `build` and `geo`, and for lakes `build` with a least area of rings at
+# which their holes go. Then, for each command, the growth: the time a byte at 10^6 positions over that at 10^4. Where topo2geo
+# (topojson-client) or ogr2ogr (GDAL) is installed, rows of theirs for the same decoding come beside. Runs follow one another; nothing
+# else should run meanwhile.
 set -eu
 
 root=$(dirname "$(readlink -f "$0")")/..
@@ -47,6 +48,7 @@ measure() {
     row "$mesh" "$work/mesh.json" "$work/mesh.topojson" build "$program" build "mesh=$work/mesh.json"
     row "$mesh" "$work/mesh.json" "$work/grid.topojson" "build, grid" "$program" build --grid 1000000 "mesh=$work/mesh.json"
     row "$mesh" "$work/mesh.json" "$work/out" "build, area" "$program" build --min-area "$area" "mesh=$work/mesh.json"
+    row "$mesh" "$work/mesh.json" "$work/out" "build, share" "$program" build --keep 9/10 "mesh=$work/mesh.json"
     row "$mesh" "$work/mesh.topojson" "$work/out" "simplify, area" "$program" simplify --min-area "$area" "$work/mesh.topojson"
     row "$mesh" "$work/mesh.topojson" "$work/out" geo "$program" geo --object mesh "$work/mesh.topojson"
     row "$mesh" "$work/grid.topojson" "$work/out" "geo, grid" "$program" geo --object mesh "$work/grid.topojson"
@@ -65,6 +67,7 @@ measure_coast() {
     row coast "$work/coast.json" "$work/coast.topojson" build "$program" build "coast=$work/coast.json"
     row coast "$work/coast.json" "$work/out" "build, a third goes" "$program" build --min-area "$1" "coast=$work/coast.json"
     row coast "$work/coast.json" "$work/out" "build, nearly all go" "$program" build --min-area "$2" "coast=$work/coast.json"
+    row coast "$work/coast.json" "$work/out" "build, a hundredth stays" "$program" build --keep 1/100 "coast=$work/coast.json"
     row coast "$work/coast.topojson" "$work/out" "simplify, a third goes" "$program" simplify --min-area "$1" "$work/coast.topojson"
     row coast "$work/coast.topojson" "$work/out" "simplify, nearly all go" "$program" simplify --min-area "$2" "$work/coast.topojson"
 }
@@ -91,7 +94,7 @@ measure_shapes lakes 10000
 measure_shapes lakes 10000 --decimals 15
 measure_coast 0.00000575 0.00275
 echo
-for name in build "build, grid" "build, area" "simplify, area" geo "geo, grid" stat; do
+for name in build "build, grid" "build, area" "build, share" "simplify, area" geo "geo, grid" stat; do
     for kind in "" ", properties"; do
         awk -F '\t' -v name="$name" -v kind="$kind" '
             $1 == "10^4" kind && $2 == name { small = $3 }

@@ -70,6 +70,8 @@ def topology(name, geometries, arcs, bbox, transform=""):
 
 LINE = '{"type":"LineString","coordinates":[[0,0],[1.5,0.25]]}'
 LINE_TOPOLOGY = topology("a", ['{"type":"LineString","arcs":[0]}'], "[[[0,0],[1.5,0.25]]]", "[0,0,1.5,0.25]")
+BEND = '{"type":"LineString","coordinates":[[0,0],[1,1],[2,3],[3,0]]}'
+BENT_TOPOLOGY = topology("b", ['{"type":"LineString","arcs":[0]}'], "[[[0,0],[2,3],[3,0]]]", "[0,0,3,3]")
 SQUARES = layer(
     ("Polygon", "[[[0,0],[1,0],[1,1],[0,1],[0,0]]]"), ("Polygon", "[[[1,0],[2,0],[2,1],[1,1],[1,0]]]")
 )
@@ -107,6 +109,7 @@ LAND_TOPOLOGY = topology(
 FILES = {
     "line.json": LINE,
     "cut.json": LINE[:40],
+    "bend.json": BEND,
     "line.topojson": LINE_TOPOLOGY,
     "squares.json": SQUARES,
     "peak.json": PEAK,
@@ -118,10 +121,10 @@ FILES = {
 # ---- the runs: the words, the status, standard output, standard error, and the line of want of memory
 
 
-def report(arcs, kept, drops=()):
+def report(arcs, kept, drops=(), removed=0):
     """The text of a report that counts nothing else."""
     dropped = "".join(f"drop {it}\n" for it in drops)
-    return f"rounded 0\nextra 0\nempty 0\ndropped {len(drops)}\n{dropped}arcs {arcs}\nkept {kept}\nremoved 0\n"
+    return f"rounded 0\nextra 0\nempty 0\ndropped {len(drops)}\n{dropped}arcs {arcs}\nkept {kept}\nremoved {removed}\n"
 
 
 SMALL = ("0 0 1 small", "0 1 0 small")
@@ -131,6 +134,8 @@ RUNS = (
     ("build land=squares.json", 0, SQUARES_TOPOLOGY, report(3, 10), BUILD),
     ("build --grid 4 g=peak.json", 0, PEAK_TOPOLOGY, report(1, 3), BUILD),
     ("build --min-area 1 land=land.json", 0, LAND_TOPOLOGY, report(2, 7, SMALL), BUILD),
+    ("build --min-ring-area 1 land=land.json", 0, LAND_TOPOLOGY, report(2, 7, SMALL), BUILD),
+    ("build --keep 1/2 b=bend.json", 0, BENT_TOPOLOGY, report(1, 3, removed=1) + "chosen 9000000000000000000\n", BUILD),
     ("build a=line.json b=cut.json", 1, "", "error: layer 1 J2 Malformed\n", BUILD),
     ("build a=line.json b=line.json a=line.json", 2, "", "error: layer 2 B2 DuplicateName\n", BUILD),
     ("simplify --min-area 1 full.topojson", 0, LAND_TOPOLOGY, report(2, 7, SMALL), FILE),

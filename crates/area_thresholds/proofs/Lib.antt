@@ -1,2 +1,4 @@
 mod Examples
+mod ShareExamples
 pub mod Areas
+pub mod ShareNumbers

@@ -5,7 +5,7 @@ use byte_ends::{FromRead, MemoryDrain, Sink, Source};
 use decimal_json::OwnText;
 use effective_area::{HeapLinks, Steps};
 use std::alloc::Global;
-use topology_building::{Options, build};
+use topology_building::{Level, Options, build};
 use topology_simplifying::simplify;
 
 const LAYER: &[u8] =
@@ -27,7 +27,7 @@ fn steps_of_building(alloc: Global) -> Option<Steps> {
     let mut sources = [(OwnText::of(name), source(LAYER))];
     let options = Options {
         grid: None,
-        threshold: THRESHOLD,
+        level: Level::Fixed(THRESHOLD),
         ring_limit: 0,
         exact: false,
     };

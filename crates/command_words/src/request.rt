@@ -4,7 +4,7 @@ ghost use Rattle.command_words.specs.Requests.{HasNames, HasSplits, IsCells, IsG
 
 use crate::file_usage::{FILE, GEO, OBJECT, SIMPLIFY, STAT};
 use crate::layer_words::names_and_paths;
-use crate::usage::{AREA, BUILD, EXACT, GRID, LAYERS, RING_AREA, program};
+use crate::usage::{AREA, BUILD, EXACT, GRID, KEEP, LAYERS, RING_AREA, program};
 use crate::words_fault::WordsFault;
 use clap::error::ErrorKind;
 use clap::{ArgMatches, Command};
@@ -22,6 +22,8 @@ pub enum Request<'a> {
         grid: Option<u32>,
         /// Points are taken out whose triangle is smaller than the area of this text, in square units of the coordinates.
         area: &'a str,
+        /// The least share of the points between the ends of arcs that stay, a text `P/Q`, in place of an area, if any.
+        keep: Option<&'a str>,
         /// Rings are left out that enclose less than the area of this text, in the same units.
         ring_area: &'a str,
     },
@@ -61,6 +63,11 @@ fn area_of<'a>(arguments: &ArgMatches<'a>) -> &'a str {
     arguments.get_str(AREA).unwrap_or("0")
 }
 
+/// The share of the points that is asked for, if any.
+fn keep_of<'a>(arguments: &ArgMatches<'a>) -> Option<&'a str> {
+    arguments.get_str(KEEP)
+}
+
 /// The least area of a ring that is asked for.
 fn ring_area_of<'a>(arguments: &ArgMatches<'a>) -> &'a str {
     arguments.get_str(RING_AREA).unwrap_or("0")
@@ -81,12 +88,14 @@ fn build_request<'a>(alloc: Global, arguments: &ArgMatches<'a>) -> Result<Reques
     let layers = names_and_paths(alloc, arguments.get_strs(LAYERS).unwrap_or(&[]))?;
     let exact = arguments.get_flag(EXACT);
     let area = area_of(arguments);
+    let keep = keep_of(arguments);
     let ring_area = ring_area_of(arguments);
     Ok(Request::Build {
         layers,
         exact,
         grid,
         area,
+        keep,
         ring_area,
     })
 }

@@ -17,6 +17,9 @@ pub(crate) const GRID: &str = "grid";
 /// The option of `build` and `simplify` that takes points out of lines.
 pub(crate) const AREA: &str = "min-area";
 
+/// The option of `build` that keeps a share of the points.
+pub(crate) const KEEP: &str = "keep";
+
 /// The option of `build` and `simplify` that leaves out small rings.
 pub(crate) const RING_AREA: &str = "min-ring-area";
 
@@ -54,7 +57,8 @@ error takes a report, with a line each:
   dropped  lines that aren't written, each told in a line of its own below
   arcs     arcs that are written
   kept     positions in these arcs
-  removed  positions that '--min-area' took out of these arcs
+  removed  positions that '--min-area' or '--keep' took out of these arcs
+  chosen   twice the area that '--keep' chose, in square units
 
 A border that lines and rings share, be it between layers, is one arc. Positions that
 are equal and follow each other count as one. A line that is left with one position,
@@ -90,6 +94,16 @@ neighbours, the least first. A is in square units of the coordinates, from 0 to
 10^18, with at most 18 decimal places. Without this option it is 0, and no point
 is taken out. A shared border is reduced once, so it stays shared. Lines may
 cross afterwards: that isn't checked";
+
+const KEEP_HELP: &str = "Take out points, but keep at least the share P/Q of them";
+
+const KEEP_LONG_HELP: &str =
+    "Take points out of lines as '--min-area' does, with the greatest area that keeps at
+least the share P/Q of the points between the ends of arcs: 1/10 keeps a tenth, or
+more where points go at the same area. P and Q are whole numbers, Q from 1 to
+1000000000 and P at most Q. The share is counted over all arcs, before small lines
+are dropped. The report tells the area in a line 'chosen T': T is twice the area, in
+square units of 10^-9. This option can't stand beside '--min-area'";
 
 const RING_AREA_HELP: &str = "Leave out rings that enclose less than the area B";
 
@@ -142,6 +156,17 @@ pub(crate) fn area<'a>(alloc: Global) -> Arg<'a> {
         .long_help(AREA_LONG_HELP)
 }
 
+/// The option of `build` that keeps a share of the points. It takes any text, as that of the area does, and can't stand beside that.
+fn keep<'a>(alloc: Global) -> Result<Arg<'a>, AllocError> {
+    Arg::new(alloc, KEEP)
+        .long("keep")
+        .value_name("P/Q")
+        .allow_hyphen_values(true)
+        .help(KEEP_HELP)
+        .long_help(KEEP_LONG_HELP)
+        .conflicts_with(AREA)
+}
+
 /// The option that leaves out small rings. It takes any text, as that of the area does.
 pub(crate) fn ring_area<'a>(alloc: Global) -> Arg<'a> {
     Arg::new(alloc, RING_AREA)
@@ -176,6 +201,7 @@ fn build<'a>(alloc: Global) -> Result<Command<'a>, AllocError> {
     command(alloc, BUILD, BUILD_HELP)
         .arg(grid(alloc))?
         .arg(area(alloc))?
+        .arg(keep(alloc)?)?
         .arg(ring_area(alloc))?
         .arg(exact(alloc))?
         .arg(layers(alloc))

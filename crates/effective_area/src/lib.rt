@@ -2,7 +2,9 @@
 //! stands on `elimination_meaning`, which says what stays of a line. The layer above uses the law of the trait `Reducer`: its
 //! answer is that definition's list of indexes. `Rescan` looks through the whole line for each position that it takes out;
 //! `HeapLinks` keeps the corners in a heap, takes time n log n, and promises how many steps it counts.
-//! `weights` goes the same way without a threshold, and tells up to which one each position stays. Of whole rings `ring_under`, which is
+//! `weights` goes the same way without a threshold, and tells up to which one each position stays. Over these weights
+//! `share_threshold` finds the greatest threshold at which a share of the positions between the ends stays, and `kept_by_weights`
+//! tells what stays at a threshold: the answer of a `Reducer`, without reducing again. Of whole rings `ring_under`, which is
 //! passed on from `geometry`, says whether their area is under a limit.
 #![tactic(auto)]
 
@@ -10,10 +12,12 @@ mod candidate;
 mod entry;
 mod heap_links;
 mod indexes;
+mod laws;
 mod links;
 mod noting;
 mod reducer;
 mod rescan;
+mod shares;
 mod steps;
 mod taking;
 mod waiting;
@@ -22,8 +26,10 @@ mod weight;
 
 pub use geometry::ring_under;
 pub use heap_links::HeapLinks;
+pub use laws::{kept_at_is_reduced, share_is_greatest};
 pub use reducer::Reducer;
 pub use rescan::Rescan;
+pub use shares::{kept_by_weights, share_threshold};
 pub use steps::{Steps, twice_area};
 pub use weighing::weights;
 pub use weight::Weight;

@@ -1,3 +1,4 @@
+pub mod Chosen
 pub mod Kept
 pub mod Laid
 pub mod Made

@@ -10,17 +10,34 @@ use Rattle.lessened_topology.specs.Assembled.{arc_indexes, arcs_of_layers}
 use Rattle.lessened_topology.specs.Laws.{ArcIndexesReach}
 use Rattle.lessened_topology.specs.Lessened.{EachFromFirstToLast}
 use Rattle.linework.specs.Linework.{linework}
+use Rattle.layer_topology.specs.Levels.{chosen_at, threshold_at}
+use Rattle.layer_topology.specs.declared.level.Level.{Level}
 
 module _ (ls : Named) (table : ArcsAndIndexes) (is : table ≡ table_of (map (split_of (linework (layers_of ls))) (linework (layers_of ls)))) where
   table_arcs : table.arcs ≡ arcs_of_layers ls
   table_arcs = ap (λ t. t.arcs) is ∙ ap arcs_of (same_pieces (linework (layers_of ls)) (linework (layers_of ls)))
 
+  -- so are their thresholds at a level
+  pub chosen_over : (level : Level) → chosen_at level table.arcs ≡ chosen_at level (arcs_of_layers ls)
+  chosen_over level = ap (chosen_at level) table_arcs
+
   module _ (t : ℕ) (kept : List (List ℕ)) (reduced : kept ≡ map (reduce t) table.arcs) where
     -- the indexes that stay are those of the layers' arcs
-    pub indexes_are : kept ≡ arc_indexes t ls
+    indexes_are : kept ≡ arc_indexes t ls
     indexes_are = reduced ∙ ap (map (reduce t)) table_arcs
 
     -- and reach from the first position of each arc to its last
-    pub indexes_reach : ArcIndexesReach → AreSound ls → EachFromFirstToLast kept table.arcs
+    indexes_reach : ArcIndexesReach → AreSound ls → EachFromFirstToLast kept table.arcs
     indexes_reach reach sound =
         subst (λ arcs. EachFromFirstToLast kept arcs) (sym table_arcs) (subst (λ k. EachFromFirstToLast k (arcs_of_layers ls)) (sym indexes_are) (reach t ls sound))
+
+  module _ (level : Level) (kept : List (List ℕ)) (reduced : kept ≡ map (reduce (threshold_at level table.arcs)) table.arcs) where
+    at_level : kept ≡ map (reduce (threshold_at level (arcs_of_layers ls))) table.arcs
+    at_level = subst (λ arcs. kept ≡ map (reduce (threshold_at level arcs)) table.arcs) table_arcs reduced
+
+    -- the same where each arc is reduced at the threshold of a level
+    pub level_indexes : kept ≡ arc_indexes (threshold_at level (arcs_of_layers ls)) ls
+    level_indexes = indexes_are (threshold_at level (arcs_of_layers ls)) kept at_level
+
+    pub level_reaches : ArcIndexesReach → AreSound ls → EachFromFirstToLast kept table.arcs
+    level_reaches = indexes_reach (threshold_at level (arcs_of_layers ls)) kept at_level

@@ -1,2 +1,3 @@
 pub mod Laws
+pub mod Levels
 pub mod Written

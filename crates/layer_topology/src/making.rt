@@ -1,5 +1,5 @@
 // Making the topology of layers.
-ghost use Rattle.std.specs.Prelude.{◌≡◌, ◌<◌, ◌≤◌, ◌^◌, IfOk, length, map};
+ghost use Rattle.std.specs.Prelude.{◌≡◌, ◌<◌, ◌≤◌, ◌^◌, IfOk, length, map, true};
 ghost use Rattle.arc_table.specs.Arcs.{table_of};
 ghost use Rattle.build_meaning.specs.Built.{built, taken_out};
 ghost use Rattle.build_meaning.specs.Expected.{expected_dropped};
@@ -7,13 +7,16 @@ ghost use Rattle.build_meaning.specs.Laws.{AreSound};
 ghost use Rattle.build_meaning.specs.Layers.{layers_of, names_of};
 ghost use Rattle.byte_ends.specs.Ends.{saturated};
 ghost use Rattle.cutter.specs.Slices.{split_of};
-ghost use Rattle.elimination_meaning.specs.Elimination.{reduce};
 ghost use Rattle.geometry.specs.Units.{threshold_limit};
 ghost use Rattle.grid_meaning.specs.Gridded.{AreInputs, IsCount, named_grid};
+ghost use Rattle.layer_topology.specs.Levels.{chosen_at, is_level, level_chosen, level_threshold, threshold_at};
 ghost use Rattle.layer_topology.specs.Written.{AreTaken, snapped_to, written};
+ghost use Rattle.lessened_topology.specs.Assembled.{arcs_of_layers};
 ghost use Rattle.linework.specs.Linework.{linework};
 ghost use Rattle.topojson_types.specs.Validity.{AreDistinct};
 
+use crate::choosing::kept_positions;
+use crate::level::Level;
 use arc_table::Table;
 use cutter::cut;
 use effective_area::Reducer;
@@ -41,38 +44,23 @@ fn shared_arcs(alloc: Global, layers: &[(OwnText, Layer)]) -> Result<Table, Memo
     Table::build(alloc, &pieces)
 }
 
-/// For each arc the indexes of the positions that stay.
-fn reduced_arcs<Q: Reducer>(
-    alloc: Global,
-    reducer: &mut Q,
-    table: &Table,
-    threshold: u128,
-) -> Result<Vec<Vec<usize>>, Memory>
-    ensures { IfOk result (λ kept. map (λ k. k.items) kept.items ≡ map (reduce threshold) table.now.arcs) }
-{
-    table.law();
-    let mut kept = Vec::with_capacity(alloc, table.len())?;
-    'arcs: for arc in table.arcs() {
-        kept.push(reducer.kept(alloc, arc.as_slice(), threshold)?)?;
-    }
-    Ok(kept)
-}
-
 /// The topology that is built of named layers, each arc reduced once, without rings under the limit, the lines and rings that are
-/// dropped, in reading order, and how many positions were taken out of the arcs that stay.
+/// dropped, in reading order, how many positions were taken out of the arcs that stay, and the threshold, where it was chosen.
 fn reduced_topology<Q: Reducer>(
     alloc: Global,
     reducer: &mut Q,
     layers: Vec<(OwnText, Layer)>,
-    threshold: u128,
+    level: Level,
     ring_limit: u128,
-) -> Result<(Topology, Vec<Dropped>, u64), Memory>
+) -> Result<(Topology, Vec<Dropped>, u64, Option<u128>), Memory>
+    requires level { is_level level ≡ true }
     requires sound { AreSound layers.items }
     requires names { AreDistinct (names_of layers.items) }
     requires limit { ring_limit ≤ threshold_limit }
-    ensures topology { IfOk result (λ r. r.0 ≡ built threshold ring_limit layers.items) }
-    ensures dropped { IfOk result (λ r. r.1.items ≡ expected_dropped threshold ring_limit layers.items) }
-    ensures taken_out { IfOk result (λ r. r.2 ≡ saturated (taken_out threshold ring_limit layers.items)) }
+    ensures topology { IfOk result (λ r. r.0 ≡ built (threshold_at level (arcs_of_layers layers.items)) ring_limit layers.items) }
+    ensures dropped { IfOk result (λ r. r.1.items ≡ expected_dropped (threshold_at level (arcs_of_layers layers.items)) ring_limit layers.items) }
+    ensures taken_out { IfOk result (λ r. r.2 ≡ saturated (taken_out (threshold_at level (arcs_of_layers layers.items)) ring_limit layers.items)) }
+    ensures chosen { IfOk result (λ r. r.3 ≡ chosen_at level (arcs_of_layers layers.items)) }
     ensures few { IfOk result (λ r. length r.0.arcs < 2 ^ 63) }
 {
     arc_indexes_reach();
@@ -80,8 +68,9 @@ fn reduced_topology<Q: Reducer>(
     assembling_drops_expected();
     assembling_takes_out();
     let table = shared_arcs(alloc, &layers)?;
-    let kept = reduced_arcs(alloc, reducer, &table, threshold)?;
-    assemble(alloc, layers, &table, &kept, ring_limit)
+    let (kept, chosen) = kept_positions(alloc, reducer, &table, level)?;
+    let (topology, dropped, taken_out) = assemble(alloc, layers, &table, &kept, ring_limit)?;
+    Ok((topology, dropped, taken_out, chosen))
 }
 
 /// The layers snapped to the grid that is asked for, if one is, and the grid.
@@ -100,31 +89,33 @@ fn snapped_layers(
 }
 
 /// The topology of named layers: they are snapped to the grid that is asked for, if one is, the lines and rings are cut into the arcs
-/// that they share, each arc is reduced once at the threshold (twice an area, in square units), rings that then enclose less than half
-/// the ring limit are left out, and positions on a grid become cells of it. With it come the lines and rings that are dropped, in
-/// reading order, and how many positions were taken out of the arcs that stay: a count that stays at `u64::MAX` where it would pass
-/// it.
+/// that they share, each arc is reduced once at the threshold (twice an area, in square units) that the level gives or for which all arcs
+/// keep its share, rings that then enclose less than half the ring limit are left out, and positions on a grid become cells of it. With
+/// it come the lines and rings that are dropped, in reading order, how many positions were taken out of the arcs that stay, a count that
+/// stays at `u64::MAX` where it would pass it, and the threshold, where it was chosen.
 pub fn topology_of_layers<Q: Reducer>(
     alloc: Global,
     reducer: &mut Q,
     layers: Vec<(OwnText, Layer)>,
     grid: Option<u32>,
-    threshold: u128,
+    level: Level,
     ring_limit: u128,
-) -> Result<(Topology, Vec<Dropped>, u64), Memory>
+) -> Result<(Topology, Vec<Dropped>, u64, Option<u128>), Memory>
+    requires level { is_level level ≡ true }
     requires taken { AreTaken grid layers.items }
     requires limit { ring_limit ≤ threshold_limit }
-    ensures topology { IfOk result (λ r. r.0 ≡ written grid threshold ring_limit layers.items) }
-    ensures dropped { IfOk result (λ r. r.1.items ≡ expected_dropped threshold ring_limit (snapped_to grid layers.items)) }
-    ensures taken_out { IfOk result (λ r. r.2 ≡ saturated (taken_out threshold ring_limit (snapped_to grid layers.items))) }
+    ensures topology { IfOk result (λ r. r.0 ≡ written grid (level_threshold grid level layers.items) ring_limit layers.items) }
+    ensures dropped { IfOk result (λ r. r.1.items ≡ expected_dropped (level_threshold grid level layers.items) ring_limit (snapped_to grid layers.items)) }
+    ensures taken_out { IfOk result (λ r. r.2 ≡ saturated (taken_out (level_threshold grid level layers.items) ring_limit (snapped_to grid layers.items))) }
+    ensures chosen { IfOk result (λ r. r.3 ≡ level_chosen grid level layers.items) }
     ensures few { IfOk result (λ r. length r.0.arcs < 2 ^ 63) }
 {
     snapped_are_on();
     built_cells_are_on();
     let (snapped, grid) = snapped_layers(layers, grid);
-    let (topology, dropped, taken_out) = reduced_topology(
-        alloc, reducer, snapped, threshold, ring_limit,
+    let (topology, dropped, taken_out, chosen) = reduced_topology(
+        alloc, reducer, snapped, level, ring_limit,
     )?;
     let topology = on_grid(alloc, topology, grid)?;
-    Ok((topology, dropped, taken_out))
+    Ok((topology, dropped, taken_out, chosen))
 }

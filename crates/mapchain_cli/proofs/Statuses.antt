@@ -22,7 +22,7 @@ use Rattle.mapchain_cli.specs.Endings.{IsSummaryFault, RefusesLayers}
 use Rattle.mapchain_cli.specs.Opening.{Contents, Layers}
 use Rattle.mapchain_cli.specs.Runs.{EndsAtWords, IsHelped, IsPerformed, IsRefusedFor, LacksMemory, Runs, Streams, ending_status}
 use Rattle.mapchain_cli.specs.declared.ending.Ending.{Ending}
-use Rattle.mapchain_cli.specs.declared.ending.Ending.TheVariants.{BadArea, BadRingArea, Refused, FileRefused, Memory}
+use Rattle.mapchain_cli.specs.declared.ending.Ending.TheVariants.{BadArea, BadRingArea, BadShare, Refused, FileRefused, Memory}
 
 -- ---- standard output of a request that isn't done
 
@@ -41,7 +41,7 @@ layers_keep c o layers old new e (inr (inl h)) lt = h.0
 layers_keep c o layers old new e (inr (inr h)) lt = late_keeps o h.sources_old h.sources_new old new e h.fault lt
 
 build_keeps : (c : Contents) (request : Request) (old new : Drained) (e : BuildFault) → RefusesBuild c request old new e → status_of e < 3 → new ≡ old
-build_keeps c (Build layers exact grid area ring_area) old new e h lt = layers_keep c h.0 _ old new e h.2 lt
+build_keeps c (Build layers exact grid area keep ring_area) old new e h lt = layers_keep c h.0 _ old new e h.2 lt
 build_keeps c (Simplify area ring_area path) old new e h lt = absurd h
 build_keeps c (Geo name path) old new e h lt = absurd h
 build_keeps c (Stat path) old new e h lt = absurd h
@@ -71,7 +71,7 @@ summary_keeps s u old new file.NoObject h lt = h.0
 summary_keeps s u old new file.Memory h lt = h.0
 
 topology_keeps : (c : Contents) (request : Request) (old new : Drained) (e : FileFault) → RefusesTopology c request old new e → file_status_of e < 3 → new ≡ old
-topology_keeps c (Build layers exact grid area ring_area) old new e h lt = absurd h
+topology_keeps c (Build layers exact grid area keep ring_area) old new e h lt = absurd h
 topology_keeps c (Simplify area ring_area path) old new e h lt =
     elim h.4 [ inl k ↦ k.0 | inr k ↦ simplify_keeps h.0 h.1 k.source_old k.source_new old new e k.fault lt ]
 topology_keeps c (Geo name path) old new e (inl h) lt = h.0
@@ -82,6 +82,7 @@ topology_keeps c (Stat path) old new e (inr h) lt = summary_keeps h.source_old h
 keeps : (c : Contents) (request : Request) (old new : Drained) (ending : Ending) → IsRefused c request old new ending → ending_status ending < 3 → new ≡ old
 keeps c request old new BadArea h lt = h.0
 keeps c request old new BadRingArea h lt = h.0
+keeps c request old new BadShare h lt = h.0
 keeps c request old new (Refused e) h lt = build_keeps c request old new e h lt
 keeps c request old new (FileRefused e) h lt = topology_keeps c request old new e h lt
 keeps c request old new Memory h lt = h
@@ -89,8 +90,8 @@ keeps c request old new Memory h lt = h
 -- ---- standard output of one that is
 
 sound : (c : Contents) (request : Request) (old new : Drained) (report : Option Report) → IsAnswered c request old new report → (new.failures ≡ 0) × (new.flushed ≡ true)
-sound c (Build layers exact grid area ring_area) old new (Some report) h = (h.2.built.sound, h.2.built.flushed)
-sound c (Build layers exact grid area ring_area) old new None h = absurd h
+sound c (Build layers exact grid area keep ring_area) old new (Some report) h = (h.2.built.sound, h.2.built.flushed)
+sound c (Build layers exact grid area keep ring_area) old new None h = absurd h
 sound c (Simplify area ring_area path) old new (Some report) h = (h.4.simplified.sound, h.4.simplified.flushed)
 sound c (Simplify area ring_area path) old new None h = absurd h
 sound c (Geo name path) old new (Some report) h = absurd h
@@ -124,6 +125,7 @@ file_status_is file.Memory = (omega arith, omega arith)
 ending_is : (ending : Ending) → (0 < ending_status ending) × (ending_status ending ≤ 3)
 ending_is BadArea = (omega arith, omega arith)
 ending_is BadRingArea = (omega arith, omega arith)
+ending_is BadShare = (omega arith, omega arith)
 ending_is (Refused e) = status_is e
 ending_is (FileRefused e) = file_status_is e
 ending_is Memory = (omega arith, omega arith)

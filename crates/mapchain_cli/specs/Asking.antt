@@ -1,18 +1,22 @@
 -- What is asked for, and what it comes to.
 use Rattle.std.specs.Prelude.{◌≡◌, ℕ, Bool, List, map, Option, Some, None}
 use Rattle.std.specs.Borrow.{Bor}
+use Rattle.std.specs.Option.{option_map}
 use Rattle.byte_ends.specs.Ends.{Drained}
+use Rattle.area_thresholds.specs.Shares.{share_of}
 use Rattle.area_thresholds.specs.Thresholds.{threshold_of}
 use Rattle.command_words.specs.declared.request.Request.{Request}
 use Rattle.command_words.specs.declared.request.Request.TheVariants.{Build, Simplify, Geo, Stat}
 use Rattle.inputs.specs.declared.fault.BuildFault.{BuildFault}
 use Rattle.inputs.specs.declared.file_fault.FileFault.{FileFault}
+use Rattle.layer_topology.specs.declared.level.Level.{Level}
+use Rattle.layer_topology.specs.declared.level.Level.TheVariants as level
 use Rattle.reports.specs.declared.report.Report.{Report}
 use Rattle.topology_building.specs.declared.options.Options.{Options}
 use Rattle.topology_files.specs.Geo.{IsGeoFault}
 use Rattle.topology_simplifying.specs.Simplified.{IsSimplifyFault}
 use Rattle.mapchain_cli.specs.declared.ending.Ending.{Ending}
-use Rattle.mapchain_cli.specs.declared.ending.Ending.TheVariants.{BadArea, BadRingArea, Refused, FileRefused, Memory}
+use Rattle.mapchain_cli.specs.declared.ending.Ending.TheVariants.{BadArea, BadRingArea, BadShare, Refused, FileRefused, Memory}
 use Rattle.mapchain_cli.specs.Endings.{BuildsOf, DecodesOf, IsSummaryFault, RefusesFile, RefusesLayers, SimplifiesOf, Summarises}
 use Rattle.mapchain_cli.specs.Opening.{Contents, Layers}
 
@@ -20,16 +24,23 @@ use Rattle.mapchain_cli.specs.Opening.{Contents, Layers}
 abbrev pub texts_of : List (Bor (List ℕ) × Bor (List ℕ)) → Layers
 texts_of layers = map (λ l. (l.0.now, l.1.now)) layers
 
--- whether coordinates may be rounded, the grid, and the texts of the areas whose thresholds the options have
-abbrev pub IsAskedFor : Bool → Option ℕ → List ℕ → List ℕ → Options → Type 0
-IsAskedFor exact grid area ring_area options =
-    (options.exact ≡ exact) × (options.grid ≡ grid) × (threshold_of area ≡ Some options.threshold) × (threshold_of ring_area ≡ Some options.ring_limit)
+-- the level of a threshold, or of the text of a share in its place; none where the text is no share
+abbrev pub level_of : ℕ → Option (Bor (List ℕ)) → Option Level
+level_of t None = Some (level.Fixed t)
+level_of t (Some keep) = option_map (λ s. level.Share s.0 s.1) (share_of keep.now)
+
+-- whether coordinates may be rounded, the grid, and the texts of the area or the share whose level the options have, and of the least
+-- ring area
+abbrev pub IsAskedFor : Bool → Option ℕ → List ℕ → Option (Bor (List ℕ)) → List ℕ → Options → Type 0
+IsAskedFor exact grid area keep ring_area options =
+    (options.exact ≡ exact) × (options.grid ≡ grid) × ((t : ℕ) × (threshold_of area ≡ Some t) × (level_of t keep ≡ Some options.level))
+    × (threshold_of ring_area ≡ Some options.ring_limit)
 
 -- what was asked for was written of these files: a build with its options, or what is left of a topology, which have a report; the
 -- features of an object; a summary
 abbrev pub IsAnswered : Contents → Request → Drained → Drained → Option Report → Type 0
-IsAnswered contents (Build layers exact grid area ring_area) old new (Some report) =
-    (options : Options) × IsAskedFor exact grid area.now ring_area.now options × BuildsOf contents options (texts_of layers.items) old new report
+IsAnswered contents (Build layers exact grid area keep ring_area) old new (Some report) =
+    (options : Options) × IsAskedFor exact grid area.now keep ring_area.now options × BuildsOf contents options (texts_of layers.items) old new report
 IsAnswered contents (Simplify area ring_area path) old new (Some report) =
     (t : ℕ) × (limit : ℕ) × (threshold_of area.now ≡ Some t) × (threshold_of ring_area.now ≡ Some limit) × SimplifiesOf contents t limit path.now old new report
 IsAnswered contents (Geo name path) old new None = DecodesOf contents name.now path.now old new
@@ -43,16 +54,26 @@ AreRefused area ring_area BadRingArea = ((t : ℕ) × (threshold_of area ≡ Som
 AreRefused area ring_area Memory = Unit {0}
 AreRefused area ring_area e = ⊥
 
--- the areas that are asked for are refused in this way
+-- these areas are taken, and the text of the share is none
+abbrev pub IsShareRefused : List ℕ → List ℕ → Option (Bor (List ℕ)) → Type 0
+IsShareRefused area ring_area keep =
+    ((t : ℕ) × (threshold_of area ≡ Some t) × (level_of t keep ≡ None)) × ((limit : ℕ) × (threshold_of ring_area ≡ Some limit))
+
+-- what a build is asked for is refused in this way: by an area, or else by its share
+abbrev pub BuildIsRefused : List ℕ → Option (Bor (List ℕ)) → List ℕ → Ending → Type 0
+BuildIsRefused area keep ring_area BadShare = IsShareRefused area ring_area keep
+BuildIsRefused area keep ring_area e = AreRefused area ring_area e
+
+-- the areas or the share that are asked for are refused in this way
 abbrev pub HasBadArea : Request → Ending → Type 0
-HasBadArea (Build layers exact grid area ring_area) e = AreRefused area.now ring_area.now e
+HasBadArea (Build layers exact grid area keep ring_area) e = BuildIsRefused area.now keep ring_area.now e
 HasBadArea (Simplify area ring_area path) e = AreRefused area.now ring_area.now e
 HasBadArea request e = ⊥
 
 -- why the build that is asked for isn't done
 abbrev pub RefusesBuild : Contents → Request → Drained → Drained → BuildFault → Type 0
-RefusesBuild contents (Build layers exact grid area ring_area) old new e =
-    (options : Options) × IsAskedFor exact grid area.now ring_area.now options × RefusesLayers contents options (texts_of layers.items) old new e
+RefusesBuild contents (Build layers exact grid area keep ring_area) old new e =
+    (options : Options) × IsAskedFor exact grid area.now keep ring_area.now options × RefusesLayers contents options (texts_of layers.items) old new e
 RefusesBuild contents request old new e = ⊥
 
 -- why the topology of a file isn't simplified, decoded or summarised as is asked for
@@ -68,6 +89,7 @@ RefusesTopology contents request old new e = ⊥
 abbrev pub IsRefused : Contents → Request → Drained → Drained → Ending → Type 0
 IsRefused contents request old new BadArea = (new ≡ old) × HasBadArea request BadArea
 IsRefused contents request old new BadRingArea = (new ≡ old) × HasBadArea request BadRingArea
+IsRefused contents request old new BadShare = (new ≡ old) × HasBadArea request BadShare
 IsRefused contents request old new (Refused e) = RefusesBuild contents request old new e
 IsRefused contents request old new (FileRefused e) = RefusesTopology contents request old new e
 IsRefused contents request old new Memory = new ≡ old

@@ -16,7 +16,7 @@ use Rattle.reports.specs.declared.report.Report.{Report}
 use Rattle.mapchain_cli.specs.Asking.{IsAnswered, IsRefused}
 use Rattle.mapchain_cli.specs.Opening.{Contents}
 use Rattle.mapchain_cli.specs.declared.ending.Ending.{Ending}
-use Rattle.mapchain_cli.specs.declared.ending.Ending.TheVariants.{BadArea, BadRingArea, Refused, FileRefused, Memory}
+use Rattle.mapchain_cli.specs.declared.ending.Ending.TheVariants.{BadArea, BadRingArea, BadShare, Refused, FileRefused, Memory}
 
 -- standard output and standard error
 pub record Streams : Type 0 where
@@ -34,6 +34,7 @@ told_of (Some report) = report_text report
 abbrev pub line_of : Ending → List ℕ
 line_of BadArea = codes "error: bad area\n"
 line_of BadRingArea = codes "error: bad ring area\n"
+line_of BadShare = codes "error: bad share\n"
 line_of (Refused fault) = fault_text fault
 line_of (FileRefused fault) = file_fault_text fault
 line_of Memory = []
@@ -42,6 +43,7 @@ line_of Memory = []
 abbrev pub ending_status : Ending → ℕ
 ending_status BadArea = words_refused
 ending_status BadRingArea = words_refused
+ending_status BadShare = words_refused
 ending_status (Refused fault) = status_of fault
 ending_status (FileRefused fault) = file_status_of fault
 ending_status Memory = failed

@@ -9,6 +9,8 @@ pub(crate) enum Ending {
     BadArea,
     /// The least area of a ring isn't one that is taken.
     BadRingArea,
+    /// The share isn't one that is taken.
+    BadShare,
     /// The file of a layer couldn't be opened, or the engine refused to build.
     Refused(BuildFault),
     /// The file of a topology couldn't be opened, or the engine refused it.

@@ -1,16 +1,17 @@
 // What a build is asked for.
-ghost use Rattle.std.specs.Prelude.{◌≡◌, ◌⊎◌, ◌≤◌, IfErr, IfOk, IfSome, None, Some};
+ghost use Rattle.std.specs.Prelude.{◌≡◌, ◌⊎◌, ◌≤◌, IfErr, IfOk, IfSome, None, Some, true};
 ghost use Rattle.area_thresholds.specs.Thresholds.{threshold_of};
 ghost use Rattle.geometry.specs.Units.{threshold_limit};
 ghost use Rattle.command_words.specs.Requests.{IsCells};
-ghost use Rattle.mapchain_cli.specs.Asking.{AreRefused, IsAskedFor};
+ghost use Rattle.layer_topology.specs.Levels.{is_level};
+ghost use Rattle.mapchain_cli.specs.Asking.{AreRefused, BuildIsRefused, IsAskedFor, level_of};
 ghost use Rattle.mapchain_cli.specs.declared.ending.Ending.TheVariants as ending;
 
 use crate::ending::Ending;
-use area_thresholds::read_threshold;
+use area_thresholds::{read_share, read_threshold};
 use byte_ends::Memory;
 use std::alloc::Global;
-use topology_building::Options;
+use topology_building::{Level, Options};
 
 /// The threshold of the area of this text, which is looked at here. An area that has none is refused in this way.
 pub(crate) fn threshold_asked(alloc: Global, area: &str, refused: Ending) -> Result<u128, Ending>
@@ -43,22 +44,44 @@ pub(crate) fn thresholds_asked(
     Ok((threshold, ring_limit))
 }
 
-/// What is asked for with this grid and with the areas of these texts.
+/// The level of this threshold, or of the share of this text in its place.
+fn level_asked(threshold: u128, keep: Option<&str>) -> Result<Level, Ending>
+    requires { threshold ≤ threshold_limit }
+    ensures asked { IfOk result (λ level. level_of threshold keep.entry ≡ Some level) }
+    ensures within { IfOk result (λ level. is_level level ≡ true) }
+    // A text that is no share is refused, and nothing else.
+    ensures refused { IfErr result (λ e. (e ≡ ending.BadShare) × (level_of threshold keep.entry ≡ None)) }
+{
+    let Some(keep) = keep else {
+        return Ok(Level::Fixed(threshold));
+    };
+    match read_share(keep) {
+        Some(share) => Ok(Level::Share {
+            p: share.part,
+            q: share.whole,
+        }),
+        None => Err(Ending::BadShare),
+    }
+}
+
+/// What is asked for with this grid and with the areas and the share of these texts, which are looked at in this order.
 pub(crate) fn options_of(
     alloc: Global,
     exact: bool,
     grid: Option<u32>,
     area: &str,
+    keep: Option<&str>,
     ring_area: &str,
 ) -> Result<Options, Ending>
     requires { IfSome grid IsCells }
-    ensures asked { IfOk result (λ options. IsAskedFor exact grid area.now ring_area.now options) }
-    ensures refused { IfErr result (AreRefused area.now ring_area.now) }
+    ensures asked { IfOk result (λ options. IsAskedFor exact grid area.now keep.entry ring_area.now options) }
+    ensures refused { IfErr result (BuildIsRefused area.now keep.entry ring_area.now) }
 {
     let (threshold, ring_limit) = thresholds_asked(alloc, area, ring_area)?;
+    let level = level_asked(threshold, keep)?;
     Ok(Options {
         grid,
-        threshold,
+        level,
         ring_limit,
         exact,
     })

@@ -83,9 +83,10 @@ fn answer<F: Files, V: Drain>(
             exact,
             grid,
             area,
+            keep,
             ring_area,
         } => {
-            let options = options_of(alloc, exact, grid, area, ring_area)?;
+            let options = options_of(alloc, exact, grid, area, keep, ring_area)?;
             let report = build_layers(alloc, layers.as_slice(), &options, files, out)?;
             Ok(Some(report))
         }

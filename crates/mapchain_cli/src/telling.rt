@@ -38,6 +38,10 @@ pub(crate) fn tell_ending<W: Drain>(ending: &Ending, err: &mut Sink<W>) -> u8
             tell_text(b"error: bad ring area\n", err);
             WORDS_REFUSED
         }
+        Ending::BadShare => {
+            tell_text(b"error: bad share\n", err);
+            WORDS_REFUSED
+        }
         Ending::Refused(fault) => tell_fault(fault, err),
         Ending::FileRefused(fault) => tell_file_fault(fault, err),
         Ending::Memory => {

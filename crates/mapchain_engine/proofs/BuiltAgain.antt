@@ -17,7 +17,7 @@ use Rattle.topojson_meaning.specs.declared.fault.TopoFault.{TopoFault}
 use Rattle.topojson_meaning.specs.Topologies.{topology}
 use Rattle.reports.specs.declared.report.Report.{Report}
 use Rattle.reports.specs.declared.summary.Summary.{Summary}
-use Rattle.topology_building.specs.Building.{expected_for, written_for, IsBuilt}
+use Rattle.topology_building.specs.Building.{expected_for, threshold_for, written_for, IsBuilt}
 use Rattle.topology_building.specs.Laws.{ReadAreTaken}
 use Rattle.topology_building.specs.declared.options.Options.{Options}
 use Rattle.topology_files.specs.Files.{topology_depth, IsTopologyRead, IsSummarised}
@@ -98,11 +98,12 @@ module _ (one_value : OneValue) (o : Options) (olds news : Sources) (sink_old si
   summary_same after summary s = s.told ∙ ap summary_of (same_contents after s.contents s.counts s.read ∙ is.builds.topology.shared)
 
   -- what is left of it by a threshold and a limit, where it was built at zero, is what is written of the layers by both
-  lessened_is : LessensToWritten → ReadsValid → ReadAreTaken → (t limit : ℕ) → o.threshold ≡ 0 → o.ring_limit ≡ 0 → lessened t limit is.builds.topology.contents ≡ written_on o.grid t limit is.layers
+  lessened_is : LessensToWritten → ReadsValid → ReadAreTaken → (t limit : ℕ) → threshold_for o is.layers ≡ 0 → o.ring_limit ≡ 0
+      → lessened t limit is.builds.topology.contents ≡ written_on o.grid t limit is.layers
   lessened_is less valid may t limit zero none =
       ap (lessened t limit) (is.builds.topology.shared ∙ ap (λ z. written_on o.grid z o.ring_limit is.layers) zero ∙ ap (λ z. written_on o.grid 0 z is.layers) none) ∙ less o.grid t limit is.layers (taken valid may o olds news sink_old sink_new report is)
 
-  simplified_text : LessensToWritten → ReadsValid → ReadAreTaken → (t limit : ℕ) → o.threshold ≡ 0 → o.ring_limit ≡ 0 → (after : Fed) (out_old out_new : Drained) (simplified : Report)
+  simplified_text : LessensToWritten → ReadsValid → ReadAreTaken → (t limit : ℕ) → threshold_for o is.layers ≡ 0 → o.ring_limit ≡ 0 → (after : Fed) (out_old out_new : Drained) (simplified : Report)
       → IsSimplified t limit source after out_old out_new simplified
       → Takes out_old out_new (json_text (topology_value (written_on o.grid t limit is.layers))) (length (json_text (topology_value (written_on o.grid t limit is.layers))))
   simplified_text less valid may t limit zero none after out_old out_new simplified s =
@@ -113,12 +114,13 @@ module _ (one_value : OneValue) (o : Options) (olds news : Sources) (sink_old si
 pub simplifies_to_built : OneValue → LessensToWritten → ReadsValid → ReadAreTaken → SimplifiesToBuilt
 simplifies_to_built one_value less valid may o p olds news sink_old sink_new report full more_olds more_news more_old more_new more_report small zero none grid same source after out_old out_new simplified from s =
     let says = small.builds.topology in
-    let e : json_text (topology_value (written_on o.grid p.threshold p.ring_limit full.layers)) ≡ small.text =
-    ap (λ g. json_text (topology_value (written_on g p.threshold p.ring_limit full.layers))) (sym grid)
-    ∙ ap (λ ls. json_text (topology_value (written_on p.grid p.threshold p.ring_limit ls))) (sym same)
+    let t = threshold_for p small.layers in
+    let e : json_text (topology_value (written_on o.grid t p.ring_limit full.layers)) ≡ small.text =
+    ap (λ g. json_text (topology_value (written_on g t p.ring_limit full.layers))) (sym grid)
+    ∙ ap (λ ls. json_text (topology_value (written_on p.grid t p.ring_limit ls))) (sym same)
     ∙ ap (λ y. json_text (topology_value y)) (sym says.shared) ∙ sym says.written in
     subst (λ text. Takes out_old out_new text (length text)) e
-    (simplified_text one_value o olds news sink_old sink_new report full source from less valid may p.threshold p.ring_limit zero none after out_old out_new simplified s)
+    (simplified_text one_value o olds news sink_old sink_new report full source from less valid may t p.ring_limit zero none after out_old out_new simplified s)
 
 pub decodes_back : OneValue → DecodesBack
 decodes_back one_value o olds news sink_old sink_new report is source from = writes_expected one_value o olds news sink_old sink_new report is source from

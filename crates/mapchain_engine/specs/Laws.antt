@@ -10,7 +10,7 @@ use Rattle.build_meaning.specs.Layers.{layers_of, named_strokes}
 use Rattle.linework.specs.Linework.{linework}
 use Rattle.reports.specs.declared.report.Report.{Report}
 use Rattle.reports.specs.declared.summary.Summary.{Summary}
-use Rattle.topology_building.specs.Building.{expected_for, snapped_for, written_for, IsBuilt}
+use Rattle.topology_building.specs.Building.{expected_for, snapped_for, threshold_for, written_for, IsBuilt}
 use Rattle.topology_building.specs.declared.options.Options.{Options}
 use Rattle.topology_files.specs.Geo.{features_text, IsDecoded}
 use Rattle.layer_sources.specs.Outcomes.{Texts, HaveBytes}
@@ -38,12 +38,12 @@ abbrev pub DecodesBack : Type 0
 DecodesBack = (o : Options) (olds news : Sources) (sink_old sink_new : Drained) (report : Report) (is : IsBuilt o olds news sink_old sink_new report)
     (source : Fed) → IsWrittenTo sink_old sink_new source → WritesEach (expected_for o is.layers) source
 
--- at a threshold and a ring limit of zero each line of the layers, snapped to the grid that is asked for, is expected as it is, with equal neighbours
--- as one position, a ring from its start, unless it has too few positions
+-- at a threshold and a ring limit of zero each line of the layers, snapped to the grid that is asked for, is expected as it is, with
+-- equal neighbours as one position, a ring from its start, unless it has too few positions
 abbrev pub LosesNothing : Type 0
-LosesNothing = (o : Options) (olds news : Sources) (sink_old sink_new : Drained) (report : Report) (is : IsBuilt o olds news sink_old sink_new report) → o.threshold ≡ 0
-    → o.ring_limit ≡ 0
-    → AllByRecursion (λ b. kept_line (linework (layers_of (snapped_for o is.layers))) o.threshold o.ring_limit b.0 b.1 ≡ whole_line (snapped_for o is.layers) b.0 b.1)
+LosesNothing = (o : Options) (olds news : Sources) (sink_old sink_new : Drained) (report : Report) (is : IsBuilt o olds news sink_old sink_new report)
+    → threshold_for o is.layers ≡ 0 → o.ring_limit ≡ 0
+    → AllByRecursion (λ b. kept_line (linework (layers_of (snapped_for o is.layers))) (threshold_for o is.layers) o.ring_limit b.0 b.1 ≡ whole_line (snapped_for o is.layers) b.0 b.1)
     (named_strokes (snapped_for o is.layers))
 
 -- the summary of what a build wrote is that of the topology that is built of the layers
@@ -51,13 +51,14 @@ abbrev pub SummarisesBack : Type 0
 SummarisesBack = (o : Options) (olds news : Sources) (sink_old sink_new : Drained) (report : Report) (is : IsBuilt o olds news sink_old sink_new report)
     (source after : Fed) (summary : Summary) → IsWrittenTo sink_old sink_new source → IsSummarised source after summary → summary ≡ summary_of (written_for o is.layers)
 
--- The topology that a build at a threshold and a ring limit of zero wrote, simplified by both, is byte for byte what a build of the same
--- layers on the same grid writes by both.
+-- The topology that a build at a threshold and a ring limit of zero wrote, simplified by the ring limit of another build of the same layers
+-- on the same grid and by its threshold, given or chosen, is byte for byte what that one writes.
 abbrev pub SimplifiesToBuilt : Type 0
 SimplifiesToBuilt = (o p : Options) (olds news : Sources) (sink_old sink_new : Drained) (report : Report) (full : IsBuilt o olds news sink_old sink_new report)
     (more_olds more_news : Sources) (more_old more_new : Drained) (more_report : Report) (small : IsBuilt p more_olds more_news more_old more_new more_report)
-    → o.threshold ≡ 0 → o.ring_limit ≡ 0 → p.grid ≡ o.grid → small.layers ≡ full.layers
-    → (source after : Fed) (out_old out_new : Drained) (simplified : Report) → IsWrittenTo sink_old sink_new source → IsSimplified p.threshold p.ring_limit source after out_old out_new simplified
+    → threshold_for o full.layers ≡ 0 → o.ring_limit ≡ 0 → p.grid ≡ o.grid → small.layers ≡ full.layers
+    → (source after : Fed) (out_old out_new : Drained) (simplified : Report) → IsWrittenTo sink_old sink_new source
+    → IsSimplified (threshold_for p small.layers) p.ring_limit source after out_old out_new simplified
     → Takes out_old out_new small.text (length small.text)
 
 -- ---- the same bytes
@@ -75,11 +76,11 @@ BuildsOneText = (o : Options) (olds news : Sources) (sink_old sink_new : Drained
     (more_olds more_news : Sources) (more_old more_new : Drained) (more_report : Report) (other : IsBuilt o more_olds more_news more_old more_new more_report)
     → HaveSameBytes olds more_olds → (one.text ≡ other.text) × (report ≡ more_report)
 
--- The topology that a build at a threshold and a ring limit of zero wrote, simplified by both, is byte for byte what a build of the same
--- bytes on the same grid, as exact, writes by both.
+-- The same of another build of the same bytes on the same grid, as exact.
 abbrev pub SimplifiesToBuiltOfSame : Type 0
 SimplifiesToBuiltOfSame = (o p : Options) (olds news : Sources) (sink_old sink_new : Drained) (report : Report) (full : IsBuilt o olds news sink_old sink_new report)
     (more_olds more_news : Sources) (more_old more_new : Drained) (more_report : Report) (small : IsBuilt p more_olds more_news more_old more_new more_report)
-    → o.threshold ≡ 0 → o.ring_limit ≡ 0 → p.grid ≡ o.grid → p.exact ≡ o.exact → HaveSameBytes olds more_olds
-    → (source after : Fed) (out_old out_new : Drained) (simplified : Report) → IsWrittenTo sink_old sink_new source → IsSimplified p.threshold p.ring_limit source after out_old out_new simplified
+    → threshold_for o full.layers ≡ 0 → o.ring_limit ≡ 0 → p.grid ≡ o.grid → p.exact ≡ o.exact → HaveSameBytes olds more_olds
+    → (source after : Fed) (out_old out_new : Drained) (simplified : Report) → IsWrittenTo sink_old sink_new source
+    → IsSimplified (threshold_for p small.layers) p.ring_limit source after out_old out_new simplified
     → Takes out_old out_new small.text (length small.text)

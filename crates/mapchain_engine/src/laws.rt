@@ -40,8 +40,8 @@ pub fn built_text_is_never_refused()
     ensures simplify { SimplifyIsNeverRefused }
 {}
 
-/// At a threshold and a ring limit of zero what is expected of each line of the layers is the line, with equal neighbours as one position and a ring
-/// from its start; only what has too few positions is dropped.
+/// At a threshold and a ring limit of zero what is expected of each line of the layers is the line, with equal neighbours as one
+/// position and a ring from its start; only what has too few positions is dropped.
 pub fn built_at_zero_loses_nothing()
     ensures { LosesNothing }
 {
@@ -59,7 +59,8 @@ pub fn built_text_is_summarised()
 }
 
 /// What `build` wrote at a threshold and a ring limit of zero, simplified by both, is byte for byte what `build` writes of the same
-/// layers, on the same grid, by both: one full file is kept, and smaller ones are made of it.
+/// layers, on the same grid, by both, be the threshold given or chosen for a share: one full file is kept, and smaller ones are made of
+/// it.
 pub fn simplified_text_is_built()
     ensures { SimplifiesToBuilt }
 {

@@ -17,6 +17,6 @@ pub use laws::{
 };
 pub use layer_sources::{layers_have_one_outcome, read_layers_are_the_outcome};
 pub use reports::{Report, Summary, report_text, summary_text};
-pub use topology_building::{Options, build};
+pub use topology_building::{Level, Options, build};
 pub use topology_files::{features_are_one_outcome, stat, summary_is_one_outcome, to_geo};
 pub use topology_simplifying::{simplified_is_one_outcome, simplify};

@@ -1,5 +1,5 @@
 -- The report of a built topology as a text: a line each, ended by a line feed.
-use Rattle.std.specs.Prelude.{ℕ, List, [], ◌∷◌, ◌++◌, length, codes, decimal}
+use Rattle.std.specs.Prelude.{ℕ, List, [], ◌∷◌, ◌++◌, Option, None, Some, length, codes, decimal}
 use Rattle.geometry.specs.declared.address.Cause.{Cause}
 use Rattle.geometry.specs.declared.address.Cause.TheVariants.{Collapsed, Small, Outer}
 use Rattle.geometry.specs.declared.address.Dropped.{Dropped}
@@ -46,5 +46,10 @@ counts_text r =
 abbrev pub arcs_text : Report → List ℕ
 arcs_text r = (line_text (codes "arcs") r.arcs ++ line_text (codes "kept") r.kept) ++ line_text (codes "removed") r.removed
 
+-- the threshold that was chosen, if one was
+abbrev pub chosen_text : Option ℕ → List ℕ
+chosen_text None = []
+chosen_text (Some threshold) = line_text (codes "chosen") threshold
+
 abbrev pub report_text : Report → List ℕ
-report_text r = (counts_text r ++ all_dropped_text r.dropped) ++ arcs_text r
+report_text r = (counts_text r ++ all_dropped_text r.dropped) ++ (arcs_text r ++ chosen_text r.chosen)

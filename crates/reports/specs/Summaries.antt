@@ -17,9 +17,11 @@ use Rattle.reports.specs.Reports.{line_text}
 abbrev pub positions_in : List (List Point) → ℕ
 positions_in arcs = saturated (sum (map length arcs))
 
--- these counts, what is dropped, the arcs with their positions, and how many were taken out of them
-abbrev pub report_with : Counts → List Dropped → List (List Point) → ℕ → Report
-report_with counts dropped arcs removed = record { counts = counts; dropped = dropped; arcs = length arcs; kept = positions_in arcs; removed = removed }
+-- these counts, what is dropped, the arcs with their positions, how many were taken out of them, and the threshold that was chosen, if
+-- one was
+abbrev pub report_with : Counts → List Dropped → List (List Point) → ℕ → Option ℕ → Report
+report_with counts dropped arcs removed chosen =
+    record { counts = counts; dropped = dropped; arcs = length arcs; kept = positions_in arcs; removed = removed; chosen = chosen }
 
 -- there is one
 abbrev pub is_there : {A : Type 0} → Option A → Bool

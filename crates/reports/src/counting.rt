@@ -24,14 +24,15 @@ fn positions_in(arcs: &[Items<Cell>]) -> u64
 }
 
 /// The report of a topology that has these arcs, with these counts, of which these lines and rings are dropped, and out of whose arcs so
-/// many positions were taken.
+/// many positions were taken, at this threshold where one was chosen.
 pub fn report_of(
     counts: Counts,
     dropped: Vec<Dropped>,
     arcs: &[Items<Cell>],
     removed: u64,
+    chosen: Option<u128>,
 ) -> Report
-    ensures { result ≡ spec.report_with counts dropped.items arcs.now removed }
+    ensures { result ≡ spec.report_with counts dropped.items arcs.now removed chosen }
 {
     Report {
         counts,
@@ -39,6 +40,7 @@ pub fn report_of(
         arcs: arcs.len() as u64,
         kept: positions_in(arcs),
         removed,
+        chosen,
     }
 }
 

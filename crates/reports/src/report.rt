@@ -15,4 +15,6 @@ pub struct Report {
     pub kept: u64,
     /// Positions that were taken out of these arcs.
     pub removed: u64,
+    /// The threshold that was chosen where a share was asked for: twice an area, in square units.
+    pub chosen: Option<u128>,
 }

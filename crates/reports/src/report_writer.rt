@@ -106,8 +106,21 @@ fn put_arcs<W: Drain>(report: &Report, so_far: Progress, sink: &mut Sink<W>) -> 
     put_line("removed", report.removed, so_far, sink)
 }
 
-/// Writes a report: a line for each count, and after `dropped` a line for each line or ring that isn't written, with
-/// its layer, feature, path and cause.
+/// Writes the line of the threshold that was chosen, if one was.
+fn put_chosen<W: Drain>(chosen: Option<u128>, so_far: Progress, sink: &mut Sink<W>) -> Progress
+    ensures { Continues sink.old sink.new so_far (spec.chosen_text chosen) result }
+{
+    let Some(threshold) = chosen else {
+        return put_part(b"", so_far, sink);
+    };
+    let mut buffer = Buffer::new();
+    let so_far = put_part(b"chosen ", so_far, sink);
+    let so_far = put_part(buffer.format(threshold).as_bytes(), so_far, sink);
+    put_part(b"\n", so_far, sink)
+}
+
+/// Writes a report: a line for each count, after `dropped` a line for each line or ring that isn't written, with its layer,
+/// feature, path and cause, and last a line of the threshold that was chosen, if one was.
 pub fn report_text<W: Drain>(report: &Report, sink: &mut Sink<W>) -> Result<u64, WriteFault>
     ensures { Writes sink.old sink.new 0 (spec.report_text report.now) result }
 {
@@ -115,5 +128,6 @@ pub fn report_text<W: Drain>(report: &Report, sink: &mut Sink<W>) -> Result<u64,
     'dropped: for dropped in report.dropped.as_slice() {
         so_far = put_dropped(dropped, so_far, sink);
     }
-    put_arcs(report, so_far, sink)
+    let so_far = put_arcs(report, so_far, sink);
+    put_chosen(report.chosen, so_far, sink)
 }

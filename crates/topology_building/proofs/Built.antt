@@ -1,5 +1,5 @@
 -- What building layers comes to.
-use Rattle.std.proofs.Common.{◌≡◌, inl, inr, ℕ, suc, ◌<◌, ◌^◌, Bool, true, List, [], ◌∷◌, length, map, Option, Some, None, Ok, Err, arith, refl}
+use Rattle.std.proofs.Common.{◌≡◌, inl, inr, ℕ, suc, ◌<◌, ◌^◌, Bool, true, List, ◌∷◌, length, map, Some, None, Ok, Err, arith, refl}
 use Rattle.std.specs.List.{AllByRecursion}
 use Rattle.std.specs.Prelude.{IsUtf8}
 use Rattle.byte_ends.specs.Ends.{Fed, Drained}
@@ -16,7 +16,7 @@ use Rattle.topojson_meaning.specs.Laws.{IsStored}
 use Rattle.inputs.specs.declared.fault.BuildFault.{BuildFault}
 use Rattle.inputs.specs.declared.fault.BuildFault.TheVariants.{EmptyName, DuplicateName, Read, Json, Geo, Write, Memory}
 use Rattle.reports.specs.declared.report.Report.{Report}
-use Rattle.topology_building.specs.Building.{written_for, BuildingLaws, SaysTopology, Builds, IsBuilt, IsLateFault, Sends, report_of}
+use Rattle.topology_building.specs.Building.{threshold_for, written_for, BuildingLaws, SaysTopology, Builds, IsBuilt, IsLateFault, Sends, report_of}
 use Rattle.topology_building.specs.Laws.{LayerLaws}
 use Rattle.topology_building.specs.declared.options.Options.{Options}
 use Rattle.inputs.specs.Sent.{build_fault_of}
@@ -38,18 +38,18 @@ module _ (laws : BuildingLaws) (o : Options) where
   says ls taken distinct texts few =
       let are = are_taken o ls taken distinct in
       let t = written_for o ls in
-      let valid = laws.written.valid o.grid o.threshold o.ring_limit ls are in
+      let valid = laws.written.valid o.grid (threshold_for o ls) o.ring_limit ls are in
       let stored : IsStored t = (valid, few) in
-      let numbers = laws.written.numbers o.grid o.threshold o.ring_limit ls (layers_number ls taken) in
+      let numbers = laws.written.numbers o.grid (threshold_for o ls) o.ring_limit ls (layers_number ls taken) in
       record {
-        utf8 = laws.utf8 t valid.transform numbers (laws.written.texts o.grid o.threshold o.ring_limit ls are texts (layers_texts ls taken));
+        utf8 = laws.utf8 t valid.transform numbers (laws.written.texts o.grid (threshold_for o ls) o.ring_limit ls are texts (layers_texts ls taken));
         value = topology_value t;
-        spelled = laws.spelled t 127 255 stored numbers (laws.written.nests o.grid o.threshold o.ring_limit 127 ls (layers_nest ls taken))
+        spelled = laws.spelled t 127 255 stored numbers (laws.written.nests o.grid (threshold_for o ls) o.ring_limit 127 ls (layers_nest ls taken))
             (omega arith);
         contents = t;
         stands = laws.read t stored;
-        names = laws.written.names o.grid o.threshold o.ring_limit ls are;
-        features = laws.written.back o.grid o.threshold o.ring_limit ls are;
+        names = laws.written.names o.grid (threshold_for o ls) o.ring_limit ls are;
+        features = laws.written.back o.grid (threshold_for o ls) o.ring_limit ls are;
         shared = refl;
         written = refl;
         once = laws.written.once o.grid ls are;

@@ -1,10 +1,10 @@
 -- What building says of its answer makes it follow the one outcome of the bytes of the layers.
-use Rattle.std.proofs.Common.{⊎_elim, ◌≡◌, ◌⊎◌, ℕ, List, ◌∙◌, ap, inl, inr, Result, Ok, Err}
+use Rattle.std.proofs.Common.{⊎_elim, ◌≡◌, ℕ, List, ◌∙◌, ap, inl, inr, Result, Ok, Err}
 use Rattle.std.specs.Prelude.{IfOk, IfErr}
 use Rattle.byte_ends.specs.Ends.{Drained}
 use Rattle.geojson_types.specs.declared.counts.Counts.{Counts}
 use Rattle.inputs.specs.declared.fault.BuildFault.{BuildFault}
-use Rattle.inputs.specs.declared.fault.BuildFault.TheVariants.{EmptyName, DuplicateName, Read, Json as Text, Geo, Write, Memory}
+use Rattle.inputs.specs.declared.fault.BuildFault.TheVariants.{Read, Write, Memory}
 use Rattle.reports.specs.declared.report.Report.{Report}
 use Rattle.layer_sources.specs.Outcomes.{Texts, Outcome, AllComeTo, ComesTo, plain_outcome, IsOutsideRead, HaveBytes, FirstHaveBytes, HaveBytesFor}
 use Rattle.layer_sources.specs.Sources.{Sources, Named, AllRead, FailsAt}

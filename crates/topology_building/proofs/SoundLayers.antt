@@ -21,7 +21,9 @@ use Rattle.build_meaning.specs.Laws.{IsSound, AreSound}
 use Rattle.build_meaning.specs.Layers.{names_of}
 use Rattle.grid_meaning.specs.Gridded.{IsCount, AreInputs, named_points}
 use Rattle.grid_meaning.specs.Laws.{EachFeature}
+use Rattle.layer_topology.specs.Levels.{is_level}
 use Rattle.layer_topology.specs.Written.{AreTaken}
+use Rattle.layer_topology.specs.declared.level.Level.{Level}
 use Rattle.topojson_types.specs.Validity.{AreDistinct}
 use Rattle.topology_building.specs.declared.options.Options.{Options}
 use Rattle.topology_building.specs.Laws.{LayerLaws}
@@ -103,21 +105,29 @@ pub layers_inputs : (ls : Named) → AllTaken ls → AreInputs ls
 layers_inputs [] h = tt
 layers_inputs (l ∷ ls) h = all_append IsInput (features_points l.1.features) (named_points ls) (inputs_joined l.1.features h.0) (layers_inputs ls h.1)
 
-counted : (grid : Option ℕ) (t limit : ℕ) → is_in_range grid t limit ≡ true → IsCount grid
-counted None t limit h = tt
-counted (Some n) t limit h = (grind (arith, nat_tests, h), grind (arith, nat_tests, h))
+counted : (grid : Option ℕ) (level : Level) (limit : ℕ) → is_in_range grid level limit ≡ true → IsCount grid
+counted None level limit h = tt
+counted (Some n) level limit h = (grind (arith, nat_tests, h), grind (arith, nat_tests, h))
 
 -- a grid that is asked for is one that may be
 pub count_of : (o : Options) → IsCount o.grid
-count_of o = counted o.grid o.threshold o.ring_limit o.in_range
+count_of o = counted o.grid o.level o.ring_limit o.in_range
 
-limited : (grid : Option ℕ) (t limit : ℕ) → is_in_range grid t limit ≡ true → limit ≤ threshold_limit
-limited None t limit h = grind (arith, nat_tests, h)
-limited (Some n) t limit h = grind (arith, nat_tests, h)
+limited : (grid : Option ℕ) (level : Level) (limit : ℕ) → is_in_range grid level limit ≡ true → limit ≤ threshold_limit
+limited None level limit h = grind (arith, nat_tests, h)
+limited (Some n) level limit h = grind (arith, nat_tests, h)
 
 -- and so is a ring limit
 pub limit_of : (o : Options) → o.ring_limit ≤ threshold_limit
-limit_of o = limited o.grid o.threshold o.ring_limit o.in_range
+limit_of o = limited o.grid o.level o.ring_limit o.in_range
+
+levelled : (grid : Option ℕ) (level : Level) (limit : ℕ) → is_in_range grid level limit ≡ true → is_level level ≡ true
+levelled None level limit h = grind (arith, h)
+levelled (Some n) level limit h = grind (arith, h)
+
+-- and a level
+pub level_of : (o : Options) → is_level o.level ≡ true
+level_of o = levelled o.grid o.level o.ring_limit o.in_range
 
 pub are_taken : (o : Options) (ls : Named) → AllTaken ls → AreDistinct (names_of ls) → AreTaken o.grid ls
 are_taken o ls h distinct = record { count = count_of o; sound = layers_sound ls h; inputs = layers_inputs ls h; names = distinct }

@@ -1,5 +1,5 @@
 -- What `build` answers, reads and writes.
-use Rattle.std.specs.Prelude.{◌≡◌, ℕ, ◌<◌, true, List, length, map, Some, Result, Ok, Err, IsUtf8}
+use Rattle.std.specs.Prelude.{◌≡◌, ℕ, ◌<◌, true, List, length, map, Option, Some, Result, Ok, Err, IsUtf8}
 use Rattle.std.specs.List.{AllByRecursion}
 use Rattle.byte_ends.specs.Ends.{Drained, Takes, saturated}
 use Rattle.byte_ends.specs.Writes.{WritesAll, WritesFront}
@@ -19,6 +19,7 @@ use Rattle.build_meaning.specs.Layers.{layers_of, names_of}
 use Rattle.cutter.specs.Segments.{line_segments}
 use Rattle.linework.specs.Linework.{linework}
 use Rattle.layer_topology.specs.Laws.{WrittenLaws}
+use Rattle.layer_topology.specs.Levels.{level_chosen, level_threshold}
 use Rattle.layer_topology.specs.Written.{snapped_to, written as written_on}
 use Rattle.topojson_meaning.specs.Laws.{ReadsBack, TextIsRead}
 use Rattle.topojson_meaning.specs.Texts.{TextIsUtf8}
@@ -37,13 +38,21 @@ use Rattle.layer_sources.specs.Sources.{Sources, Named, AllRead, FailsAt, AreUnt
 abbrev pub snapped_for : Options → Named → Named
 snapped_for o layers = snapped_to o.grid layers
 
+-- the threshold at which their arcs are reduced: the one that is given, or the greatest that keeps the share that is asked for
+abbrev pub threshold_for : Options → Named → ℕ
+threshold_for o layers = level_threshold o.grid o.level layers
+
+-- the same, where it was chosen
+abbrev pub chosen_for : Options → Named → Option ℕ
+chosen_for o layers = level_chosen o.grid o.level layers
+
 -- the topology that is written of layers
 abbrev pub written_for : Options → Named → Contents
-written_for o layers = written_on o.grid o.threshold o.ring_limit layers
+written_for o layers = written_on o.grid (threshold_for o layers) o.ring_limit layers
 
 -- the features that are expected of it, by layers
 abbrev pub expected_for : Options → Named → Named
-expected_for o layers = expected o.threshold o.ring_limit (snapped_for o layers)
+expected_for o layers = expected (threshold_for o layers) o.ring_limit (snapped_for o layers)
 
 -- ---- what building rests on
 
@@ -58,8 +67,9 @@ pub record BuildingLaws : Type 0 where
 -- ---- what is written
 
 -- The text is UTF-8, and JSON (RFC 8259) of a topology (TopoJSON 1.0) whose objects have the names of the layers, in order. Decoding each gives
--- the features that are expected of its layer, snapped to the grid that is asked for, at the threshold and the least ring area. The topology is the one that
--- is written of the layers, the text is its text, and before reduction each segment of the layers' lines lies once, in exactly one arc.
+-- the features that are expected of its layer, snapped to the grid that is asked for, at the threshold and the least ring area. The
+-- topology is the one that is written of the layers, the text is its text, and before reduction each segment of the layers' lines lies
+-- once, in exactly one arc.
 pub record SaysTopology (o : Options) (layers : Named) (text : List ℕ) : Type 0 where
   pub utf8 : IsUtf8 text
   pub value : Json
@@ -72,10 +82,12 @@ pub record SaysTopology (o : Options) (layers : Named) (text : List ℕ) : Type 
   pub written : text ≡ json_text (topology_value contents)
   pub once : AreOnceIn (all_arcs (linework (layers_of (snapped_for o layers)))) (line_segments (linework (layers_of (snapped_for o layers))))
 
--- the counts of all layers, the lines and rings that are dropped, the arcs, their positions, and those that were taken out of them
+-- the counts of all layers, the lines and rings that are dropped, the arcs, their positions, those that were taken out of them, and the
+-- threshold, where it was chosen
 abbrev pub report_of : Options → Named → List Counts → Report
 report_of o layers counts =
-    report_with (added counts) (expected_dropped o.threshold o.ring_limit (snapped_for o layers)) (written_for o layers).arcs (saturated (taken_out o.threshold o.ring_limit (snapped_for o layers)))
+    report_with (added counts) (expected_dropped (threshold_for o layers) o.ring_limit (snapped_for o layers)) (written_for o layers).arcs
+    (saturated (taken_out (threshold_for o layers) o.ring_limit (snapped_for o layers))) (chosen_for o layers)
 
 -- all sources spell layers, and the text is their topology
 pub record Builds (o : Options) (olds news : Sources) (layers : Named) (counts : List Counts) (text : List ℕ) : Type 0 where

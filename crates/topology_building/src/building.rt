@@ -58,15 +58,15 @@ fn build_layers<Q: Reducer, R: Feed, W: Drain>(
 {
     building_laws();
     let (layers, counts) = read_layers(alloc, sources, options.exact)?;
-    let (topology, dropped, removed) = topology_of_layers(
+    let (topology, dropped, removed, chosen) = topology_of_layers(
         alloc,
         reducer,
         layers,
         options.grid,
-        options.threshold,
+        options.level,
         options.ring_limit,
     )?;
-    let report = report_of(counts, dropped, topology.arcs(), removed);
+    let report = report_of(counts, dropped, topology.arcs(), removed, chosen);
     send(&topology, sink)?;
     Ok(report)
 }

@@ -10,4 +10,5 @@ mod options;
 
 pub use building::build;
 pub use laws::read_layers_are_taken;
+pub use layer_topology::Level;
 pub use options::Options;

@@ -1,5 +1,5 @@
 -- What `simplify` answers, reads and writes.
-use Rattle.std.specs.Prelude.{◌≡◌, ℕ, true, List, length, IsUtf8}
+use Rattle.std.specs.Prelude.{◌≡◌, ℕ, true, List, length, None, IsUtf8}
 use Rattle.byte_ends.specs.Ends.{Fed, Drained, Takes, saturated}
 use Rattle.byte_ends.specs.Writes.{WritesFront}
 use Rattle.geojson_types.specs.declared.counts.Counts.{Counts}
@@ -22,7 +22,7 @@ lessened_text t limit y = json_text (topology_value (lessened t limit y))
 -- what was counted in reading the topology, the lines and rings that are dropped, the arcs that are left, their positions, and
 -- those that were taken out of these arcs
 abbrev pub report_of : ℕ → ℕ → Contents → Counts → Report
-report_of t limit y counts = report_with counts (lessened_dropped t limit y) (lessened t limit y).arcs (saturated (lessened_taken_out t limit y))
+report_of t limit y counts = report_with counts (lessened_dropped t limit y) (lessened t limit y).arcs (saturated (lessened_taken_out t limit y)) None
 
 -- ---- reading and writing
 

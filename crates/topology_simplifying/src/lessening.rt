@@ -70,6 +70,6 @@ pub fn lessen<Q: Reducer>(
     indexes_reach();
     let kept = kept_indexes(alloc, reducer, topology.transform(), topology.arcs(), t)?;
     let (less, dropped, removed) = topology.reduce(alloc, &kept, ring_limit)?;
-    let report = report_of(counts, dropped, less.arcs(), removed);
+    let report = report_of(counts, dropped, less.arcs(), removed, None);
     Ok((less, report))
 }

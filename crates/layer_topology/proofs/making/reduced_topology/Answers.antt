@@ -1,31 +1,37 @@
-use Rattle.std.proofs.Common.{◌≡◌, ◌∙◌, IfOk, ap, map, subst}
+use Rattle.std.proofs.Common.{◌∙◌, ap, map}
 use Rattle.byte_ends.specs.Ends.{saturated}
-use Rattle.lessened_topology.specs.Assembled.{assembled, assembled_dropped, assembled_taken_out}
-use Rattle.layer_topology.proofs.Made.{indexes_are, indexes_reach}
+use Rattle.lessened_topology.specs.Assembled.{arcs_of_layers, assembled, assembled_dropped, assembled_taken_out}
+use Rattle.layer_topology.proofs.Made.{chosen_over, level_indexes, level_reaches}
+use Rattle.layer_topology.specs.Levels.{threshold_at}
 use Rattle.layer_topology.proofs.making.reduced_topology.Goals as goal
 
 pub assemble-requires-clause-kept : goal.assemble-requires-clause-kept
 assemble-requires-clause-kept g c =
     rw c.deref-2.ensures.value
-    (indexes_reach c.args.layers.items c.in_ok-table.table (rw c.deref.ensures.value at c.in_ok-table.ensures) c.args.threshold (map (λ k. k.items) c.in_ok-kept.kept.items) c.in_ok-kept.ensures
+    (level_reaches c.args.layers.items c.in_ok-table.table (rw c.deref.ensures.value at c.in_ok-table.ensures) c.args.level (map (λ k. k.items) c.in_ok-kept.kept.items) c.in_ok-kept.ensures.kept
     c.arc_indexes_reach.ensures c.requires.sound)
 
 pub returns-clause-topology : goal.returns-clause-topology
 returns-clause-topology g c =
     let ls = c.args.layers.items in
-    let e = indexes_are ls c.in_ok-table.table (rw c.deref.ensures.value at c.in_ok-table.ensures) c.args.threshold (map (λ k. k.items) c.in_ok-kept.kept.items) c.in_ok-kept.ensures in
-    subst (λ z. IfOk c.assemble.result (λ r. r.0 ≡ z)) (ap (λ k. assembled k c.args.ring_limit ls) e ∙ c.assembles_to_built.ensures c.args.threshold c.args.ring_limit ls c.requires.sound) (rw c.deref-2.ensures.value at c.assemble.ensures.topology)
+    let t = threshold_at c.args.level (arcs_of_layers ls) in
+    let e = level_indexes ls c.in_ok-table.table (rw c.deref.ensures.value at c.in_ok-table.ensures) c.args.level (map (λ k. k.items) c.in_ok-kept.kept.items) c.in_ok-kept.ensures.kept in
+    (rw c.deref-2.ensures.value at c.in_ok-topology.ensures.topology) ∙ ap (λ k. assembled k c.args.ring_limit ls) e ∙ c.assembles_to_built.ensures t c.args.ring_limit ls c.requires.sound
 
 pub returns-clause-dropped : goal.returns-clause-dropped
 returns-clause-dropped g c =
     let ls = c.args.layers.items in
-    let e = indexes_are ls c.in_ok-table.table (rw c.deref.ensures.value at c.in_ok-table.ensures) c.args.threshold (map (λ k. k.items) c.in_ok-kept.kept.items) c.in_ok-kept.ensures in
-    subst (λ z. IfOk c.assemble.result (λ r. r.1.items ≡ z)) (ap (λ k. assembled_dropped k c.args.ring_limit ls) e ∙ c.assembling_drops_expected.ensures c.args.threshold c.args.ring_limit ls c.requires.sound)
-    (rw c.deref-2.ensures.value at c.assemble.ensures.dropped)
+    let t = threshold_at c.args.level (arcs_of_layers ls) in
+    let e = level_indexes ls c.in_ok-table.table (rw c.deref.ensures.value at c.in_ok-table.ensures) c.args.level (map (λ k. k.items) c.in_ok-kept.kept.items) c.in_ok-kept.ensures.kept in
+    (rw c.deref-2.ensures.value at c.in_ok-topology.ensures.dropped) ∙ ap (λ k. assembled_dropped k c.args.ring_limit ls) e ∙ c.assembling_drops_expected.ensures t c.args.ring_limit ls c.requires.sound
 
 pub returns-clause-taken_out : goal.returns-clause-taken_out
 returns-clause-taken_out g c =
     let ls = c.args.layers.items in
-    let e = indexes_are ls c.in_ok-table.table (rw c.deref.ensures.value at c.in_ok-table.ensures) c.args.threshold (map (λ k. k.items) c.in_ok-kept.kept.items) c.in_ok-kept.ensures in
-    subst (λ z. IfOk c.assemble.result (λ r. r.2 ≡ saturated z)) (ap (λ k. assembled_taken_out k c.args.ring_limit ls) e ∙ c.assembling_takes_out.ensures c.args.threshold c.args.ring_limit ls c.requires.sound)
-    (rw c.deref-2.ensures.value at c.assemble.ensures.taken_out)
+    let t = threshold_at c.args.level (arcs_of_layers ls) in
+    let e = level_indexes ls c.in_ok-table.table (rw c.deref.ensures.value at c.in_ok-table.ensures) c.args.level (map (λ k. k.items) c.in_ok-kept.kept.items) c.in_ok-kept.ensures.kept in
+    (rw c.deref-2.ensures.value at c.in_ok-topology.ensures.taken_out) ∙ ap (λ k. saturated (assembled_taken_out k c.args.ring_limit ls)) e
+    ∙ ap saturated (c.assembling_takes_out.ensures t c.args.ring_limit ls c.requires.sound)
+
+pub returns-clause-chosen : goal.returns-clause-chosen
+returns-clause-chosen g c = c.in_ok-kept.ensures.chosen ∙ chosen_over c.args.layers.items c.in_ok-table.table (rw c.deref.ensures.value at c.in_ok-table.ensures) c.args.level

@@ -3,12 +3,12 @@ use Rattle.std.proofs.lemmas.Result.{err_from_is_err_and}
 use Rattle.json_value.specs.Text.{json_text}
 use Rattle.topojson_types.specs.Values.{topology_value}
 use Rattle.reports.specs.Summaries.{report_with}
-use Rattle.topology_building.specs.Building.{Sends, snapped_for, written_for}
+use Rattle.topology_building.specs.Building.{Sends, chosen_for, snapped_for, threshold_for, written_for}
 use Rattle.build_meaning.specs.Built.{taken_out}
 use Rattle.build_meaning.specs.Expected.{expected_dropped}
 use Rattle.byte_ends.specs.Ends.{saturated}
 use Rattle.topology_building.proofs.Built as built
-use Rattle.topology_building.proofs.SoundLayers.{limit_of}
+use Rattle.topology_building.proofs.SoundLayers.{level_of, limit_of}
 use Rattle.topology_building.proofs.building.build_layers.Goals as goal
 
 pub returns-in_err-layers-clause-refused : goal.returns-in_err-layers-clause-refused
@@ -20,6 +20,9 @@ pub topology_of_layers-requires-clause-taken : goal.topology_of_layers-requires-
 topology_of_layers-requires-clause-taken g c =
     let r = c.in_ok-layers.ensures in
     built.may_be_made c.building_laws.ensures.layers c.args.options.now c.args.sources.now c.read_layers.new.sources c.in_ok-layers.layers.items r.0 r.1 c.requires.names
+
+pub topology_of_layers-requires-clause-level : goal.topology_of_layers-requires-clause-level
+topology_of_layers-requires-clause-level g c = level_of c.args.options.now
 
 pub topology_of_layers-requires-clause-limit : goal.topology_of_layers-requires-clause-limit
 topology_of_layers-requires-clause-limit g c = limit_of c.args.options.now
@@ -52,7 +55,12 @@ returns-clause-built g c =
     built.is_built c.building_laws.ensures o c.args.sources.now c.read_layers.new.sources ls r.0 r.1
     (built.distinct o.exact c.args.sources.now c.read_layers.new.sources ls r.0 r.1 c.requires.names) (built.names_texts o.exact c.args.sources.now c.read_layers.new.sources ls r.0 r.1 c.requires.texts) few c.args.sink.now c.send.new.sink c.report_of-report.result
     (rw e at c.in_ok-send.ensures)
-    (c.report_of-report.ensures ∙ ap (λ arcs. report_with c.in_ok-layers.counts c.in_ok-topology.dropped.items arcs c.in_ok-topology.removed) (c.arcs.ensures.arcs ∙ ap (λ z. z.arcs) e)
-    ∙ ap (λ ds. report_with c.in_ok-layers.counts ds (written_for o ls).arcs c.in_ok-topology.removed) c.in_ok-topology.ensures.dropped
-    ∙ ap (λ n. report_with c.in_ok-layers.counts (expected_dropped o.threshold o.ring_limit (snapped_for o ls)) (written_for o ls).arcs n) c.in_ok-topology.ensures.taken_out
-    ∙ ap (λ n. report_with n (expected_dropped o.threshold o.ring_limit (snapped_for o ls)) (written_for o ls).arcs (saturated (taken_out o.threshold o.ring_limit (snapped_for o ls)))) r.2)
+    (c.report_of-report.ensures
+    ∙ ap (λ arcs. report_with c.in_ok-layers.counts c.in_ok-topology.dropped.items arcs c.in_ok-topology.removed c.in_ok-topology.chosen) (c.arcs.ensures.arcs ∙ ap (λ z. z.arcs) e)
+    ∙ ap (λ ds. report_with c.in_ok-layers.counts ds (written_for o ls).arcs c.in_ok-topology.removed c.in_ok-topology.chosen) c.in_ok-topology.ensures.dropped
+    ∙ ap (λ n. report_with c.in_ok-layers.counts (expected_dropped (threshold_for o ls) o.ring_limit (snapped_for o ls)) (written_for o ls).arcs n c.in_ok-topology.chosen)
+    c.in_ok-topology.ensures.taken_out
+    ∙ ap (λ t. report_with c.in_ok-layers.counts (expected_dropped (threshold_for o ls) o.ring_limit (snapped_for o ls)) (written_for o ls).arcs
+    (saturated (taken_out (threshold_for o ls) o.ring_limit (snapped_for o ls))) t) c.in_ok-topology.ensures.chosen
+    ∙ ap (λ n. report_with n (expected_dropped (threshold_for o ls) o.ring_limit (snapped_for o ls)) (written_for o ls).arcs
+    (saturated (taken_out (threshold_for o ls) o.ring_limit (snapped_for o ls))) (chosen_for o ls)) r.2)

@@ -1,6 +1,6 @@
 use Rattle.std.proofs.Common.{◌≡◌, map, take}
 use Rattle.elimination_meaning.specs.Elimination.{reduce}
-use Rattle.layer_topology.proofs.making.reduced_arcs.Given as goal
+use Rattle.layer_topology.proofs.choosing.reduced_arcs.Given as goal
 
 abbrev pub invariant-arcs : goal.invariant-arcs
 invariant-arcs g l = map (λ k. k.items) l.kept.items ≡ map (reduce l.threshold) (take l.arc-index l.table.arcs)

@@ -13,7 +13,7 @@ use Rattle.geometry.specs.Points.{Point}
 use Rattle.geometry.specs.Rings.{same}
 use Rattle.geometry.proofs.Points.{same_is, same_self}
 use Rattle.junctions.specs.declared.stroke.Stroke.{Stroke}
-use Rattle.junctions.specs.declared.vertex.Vertex.{Vertex}
+use Rattle.junctions.specs.Kept.{Knowledge}
 use Rattle.junctions.specs.Among.{In}
 use Rattle.junctions.specs.Cuts.{starts_free_ring}
 use Rattle.junctions.specs.Visits.{is_junction, is_position_of}
@@ -25,14 +25,14 @@ use Rattle.list_laws.proofs.Members.{any_from_in}
 use Rattle.junctions.specs.Answers.{Answers, is_member, AnswersFor}
 
 -- one flag more
-pub flag_one : (g h : Point → Option Vertex) (w : Point) (x : Vertex) → g w ≡ Some x → ((p : Point) → h p ≡ cond (equal w p) (Some (with_ring_start x)) (g p)) →
+pub flag_one : (g h : Point → Option Knowledge) (w : Point) (x : Knowledge) → g w ≡ Some x → ((p : Point) → h p ≡ cond (equal w p) (Some (with_ring_start x)) (g p)) →
     (p : Point) → h p ≡ flagged (same p w) (g p)
 flag_one g h w x e k p = grind (arith, equal_same w p, same_sym w p, same_is p w)
 
-pub flag_absent : (g : Point → Option Vertex) (w : Point) → g w ≡ None → (p : Point) → g p ≡ flagged (same p w) (g p)
+pub flag_absent : (g : Point → Option Knowledge) (w : Point) → g w ≡ None → (p : Point) → g p ≡ flagged (same p w) (g p)
 flag_absent g w e p = grind (arith, same_is)
 
-pub flag_not : (o : Option Vertex) → o ≡ flagged false o
+pub flag_not : (o : Option Knowledge) → o ≡ flagged false o
 flag_not o = grind arith
 
 -- the rings whose least positions are flagged
@@ -53,7 +53,7 @@ junction_known ls f p e = ap (λ b. at_junction_option (cond b (Some (vertex_of 
 cut_known : (ls : List Stroke) (f : Point → Bool) (p : Point) → is_position_of ls p ≡ true → is_cut_option (vertex_at ls f p) ≡ (is_junction ls p || f p)
 cut_known ls f p e = ap (λ b. is_cut_option (cond b (Some (vertex_of ls f p)) None)) e ∙ ap (λ b. b || f p) (junction_is ls (f p) p)
 
-free_is : (ls : List Stroke) (f : Point → Bool) (g : Point → Option Vertex) → ((p : Point) → g p ≡ vertex_at ls f p) → (ps : List Point) → ((q : Point) → In q ps → is_position_of ls q ≡ true) →
+free_is : (ls : List Stroke) (f : Point → Bool) (g : Point → Option Knowledge) → ((p : Point) → g p ≡ vertex_at ls f p) → (ps : List Point) → ((q : Point) → In q ps → is_position_of ls q ≡ true) →
     is_free g ps ≡ list_all (λ q. not (is_junction ls q)) ps
 free_is ls f g k [] h = refl
 free_is ls f g k (q ∷ qs) h = grind (arith, junction_known, free_is ls f g k qs)
@@ -62,7 +62,7 @@ starts_more : (ls : List Stroke) (i : ℕ) (s : Stroke) (p : Point) → i < leng
 starts_more ls i s p l e = list_any_more (starts_free_ring ls p) ls i s l ∙ ap (λ z. starts_in ls (take i ls) p || starts_free_ring ls p z) (sym e)
 
 -- one line more, a ring
-pub ring_turn : (ls : List Stroke) (i : ℕ) (s : Stroke) (g h : Point → Option Vertex) → i < length ls → s ≡ get_or ls i s → s.closed ≡ true →
+pub ring_turn : (ls : List Stroke) (i : ℕ) (s : Stroke) (g h : Point → Option Knowledge) → i < length ls → s ≡ get_or ls i s → s.closed ≡ true →
     ((p : Point) → g p ≡ vertex_at ls (starts_in ls (take i ls)) p) →
     ((p : Point) → h p ≡ flagged (is_free g s.positions && is_least p s.positions) (g p)) →
     (p : Point) → h p ≡ vertex_at ls (starts_in ls (take (i + 1) ls)) p
@@ -74,7 +74,7 @@ ring_turn ls i s g h l e c k m p =
     ∙ flag_at (starts_free_ring ls p s) ls (starts_in ls (take i ls)) (starts_in ls (take (i + 1) ls)) p (starts_more ls i s p l e)
 
 -- or an open line
-pub line_turn : (ls : List Stroke) (i : ℕ) (s : Stroke) (g : Point → Option Vertex) → i < length ls → s ≡ get_or ls i s → s.closed ≡ false →
+pub line_turn : (ls : List Stroke) (i : ℕ) (s : Stroke) (g : Point → Option Knowledge) → i < length ls → s ≡ get_or ls i s → s.closed ≡ false →
     ((p : Point) → g p ≡ vertex_at ls (starts_in ls (take i ls)) p) →
     (p : Point) → g p ≡ vertex_at ls (starts_in ls (take (i + 1) ls)) p
 line_turn ls i s g l e c k p =
@@ -82,7 +82,7 @@ line_turn ls i s g l e c k p =
     k p ∙ flag_not (vertex_at ls (starts_in ls (take i ls)) p) ∙ ap (λ b. flagged b (vertex_at ls (starts_in ls (take i ls)) p)) n
     ∙ flag_at (starts_free_ring ls p s) ls (starts_in ls (take i ls)) (starts_in ls (take (i + 1) ls)) p (starts_more ls i s p l e)
 
-pub all_flagged : (ls : List Stroke) (i : ℕ) (g : Point → Option Vertex) → length ls ≤ i → ((p : Point) → g p ≡ vertex_at ls (starts_in ls (take i ls)) p) → (p : Point) → g p ≡ vertex_at ls (starts_in ls ls) p
+pub all_flagged : (ls : List Stroke) (i : ℕ) (g : Point → Option Knowledge) → length ls ≤ i → ((p : Point) → g p ≡ vertex_at ls (starts_in ls (take i ls)) p) → (p : Point) → g p ≡ vertex_at ls (starts_in ls ls) p
 all_flagged ls i g l k p = k p ∙ ap (λ z. vertex_at ls (starts_in ls z) p) (take_all i ls l)
 
 -- members of a list, and of those that pass a test
@@ -94,7 +94,7 @@ pub equal_as : (p : Point) → equal p ≡ same p
 unfolding same
 equal_as p = refl
 
-module _ {S : Type 0} (m : IndexMap Point Vertex S) where
+module _ {S : Type 0} (m : IndexMap Point Knowledge S) where
   -- the keys are the positions that the table knows
   pub member_known : (p : Point) → is_some (get equal m p) ≡ is_member (keys m) p
   member_known p = is_some-lookup (equal p) m.entries ∙ ap (λ t. list_any t (keys m)) (equal_as p)
@@ -106,7 +106,7 @@ module _ {S : Type 0} (m : IndexMap Point Vertex S) where
     cuts = filter (λ p. is_cut_option (get equal m p)) (keys m);
   }
 
-  some_at : (b : Bool) (v : Vertex) → is_some (cond b (Some v) None) ≡ b
+  some_at : (b : Bool) (v : Knowledge) → is_some (cond b (Some v) None) ≡ b
   some_at b v = grind arith
 
   -- where the table knows what the lines say, its answers are theirs

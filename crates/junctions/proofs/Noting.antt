@@ -1,25 +1,24 @@
 -- What notes of positions add up to.
-use Rattle.std.proofs.Common.{◌≡◌, ℕ, ◌+◌, ◌-◌, ◌<◌, ◌≤◌, Bool, true, false, cond, not, ◌||◌, ◌&&◌, List, [], ◌∷◌, ◌++◌, slice_get, map, take, drop, get_or, length, append-nil, Option, None, Some, IsSome, refl, ap, sym, ◌∙◌, subst, arith}
+use Rattle.std.proofs.Common.{◌≡◌, ℕ, zero, suc, ◌+◌, ◌-◌, ◌<◌, ◌≤◌, Bool, true, false, cond, not, ◌||◌, ◌&&◌, List, [], ◌∷◌, ◌++◌, slice_get, map, take, drop, get_or, length, append-nil, Option, None, Some, IsSome, refl, ap, sym, ◌∙◌, subst, arith}
 use Rattle.std.specs.List.{filter, flat_map, list_any}
 use Rattle.std.specs.Option.{is_some}
 use Rattle.std.specs.Cmp.{IsEquivalence}
 use Rattle.std.specs.HashMap.{get_key_by, IsUnique}
+use Rattle.std.specs.Map.{values_of}
 use Rattle.std.proofs.Math.Bool.{and-true, and-false, or-false, or-true}
 use Rattle.std.proofs.lemmas.Grind.{flat_map-append}
 use Rattle.std.proofs.lemmas.List.{take_all, take_more, map-append}
 use Rattle.std.proofs.lemmas.List.Elements.{filter-append}
 use Rattle.std.proofs.lemmas.List.Folds.{list_any-append}
 use Rattle.std.proofs.lemmas.Map.Made.{is_some-lookup, lookup_key_passes}
-use Rattle.indexmap.specs.IndexMap.{IndexMap, get, keys, with_value_at}
+use Rattle.indexmap.specs.IndexMap.{IndexMap, get, keys, values, with_value_at}
 use Rattle.indexmap.proofs.CallerLemmas.{keys-with_value_at, updates-with_value_at}
 use Rattle.geometry.specs.Points.{Point}
 use Rattle.geometry.specs.Rings.{same}
 use Rattle.geometry.proofs.Points.{same_is, same_self}
-use Rattle.junctions.specs.declared.neighbors.Neighbors.{Neighbors}
-use Rattle.junctions.specs.declared.neighbors.Neighbors.TheVariants.{Zero}
 use Rattle.junctions.specs.declared.stroke.Stroke.{Stroke}
 use Rattle.junctions.specs.declared.vertex.Note.{Note}
-use Rattle.junctions.specs.declared.vertex.Vertex.{Vertex}
+use Rattle.junctions.specs.Kept.{Neighbors, Zero, Knowledge}
 use Rattle.junctions.specs.Cleaning.{IsCleanList, AllClean}
 use Rattle.junctions.specs.Visits.{Visit, visits_from, inner_visits, neighbors, first_seen, positions, last, is_end, ends_open, is_turn, is_junction, is_position_of}
 use Rattle.junctions.specs.Notes.{equal, with_neighbors, beside, is_back, known, noted, after, touch, pass, line_notes, notes_of, all_notes, with_position, heres, Takes, IsKnown, IsTable, vertex_at, at_junction}
@@ -37,38 +36,47 @@ unfolding same
 equal_laws = record { refl = same_self; symm = same_sym; congr = λ p q r h. ap (λ x. same x r) (same_is p q h) }
 
 -- one list of notes and then another
-pub after_append : (o : Option Vertex) (ns ms : List Note) (p : Point) → after (after o ns p) ms p ≡ after o (ns ++ ms) p
+pub after_append : (o : Option Knowledge) (ns ms : List Note) (p : Point) → after (after o ns p) ms p ≡ after o (ns ++ ms) p
 after_append o [] ms p = refl
 after_append o (n ∷ ns) ms p = after_append (cond (same n.here p) (Some (noted (known o) n)) o) ns ms p
 
 -- a table with its notes
 module _ {S : Type 0} where
   -- no note
-  pub takes_none : (m : IndexMap Point Vertex S) → Takes m m []
+  pub takes_none : (m : IndexMap Point Knowledge S) → Takes m m []
   takes_none m = record { known = λ p. refl; order = refl }
 
   -- one note
-  pub takes_one : (m n : IndexMap Point Vertex S) (x : Note) → ((p : Point) → get equal n p ≡ cond (equal x.here p) (Some (noted (known (get equal m x.here)) x)) (get equal m p)) →
+  pub takes_one : (m n : IndexMap Point Knowledge S) (x : Note) → ((p : Point) → get equal n p ≡ cond (equal x.here p) (Some (noted (known (get equal m x.here)) x)) (get equal m p)) →
       keys n ≡ with_position (keys m) x.here → Takes m n (x ∷ [])
   takes_one m n x e k = grind (arith, equal_same x.here, same_is x.here)
 
   -- a position that is known has its place
-  pub keys_stay : (m : IndexMap Point Vertex S) (p : Point) → IsSome (get equal m p) → keys m ≡ with_position (keys m) p
+  pub keys_stay : (m : IndexMap Point Knowledge S) (p : Point) → IsSome (get equal m p) → keys m ≡ with_position (keys m) p
   unfolding same
   keys_stay m p h = ap (λ b. cond b (keys m) (keys m ++ (p ∷ []))) (sym (sym (is_some-lookup (equal p) m.entries) ∙ h))
 
   -- a position that is the same as that of an entry
-  pub known_is : (m : IndexMap Point Vertex S) (p q : Point) (i : ℕ) (v : Vertex) → same q p ≡ true → slice_get m.entries i ≡ Some (q, v) → get equal m q ≡ Some v → IsKnown m p i v
+  pub known_is : (m : IndexMap Point Knowledge S) (p q : Point) (i : ℕ) (v : Knowledge) → same q p ≡ true → slice_get m.entries i ≡ Some (q, v) → get equal m q ≡ Some v → IsKnown m p i v
   known_is m p q i v h at e = subst (λ x. IsKnown m x i v) (same_is q p h) (record { entry = at; value = e })
 
   -- a position that is found
-  pub stored_is : (m : IndexMap Point Vertex S) (p q : Point) (i : ℕ) (v : Vertex) → slice_get m.entries i ≡ Some (q, v) → Some q ≡ get_key_by (equal p) m → Some v ≡ get equal m p → IsKnown m p i v
+  pub stored_is : (m : IndexMap Point Knowledge S) (p q : Point) (i : ℕ) (v : Knowledge) → slice_get m.entries i ≡ Some (q, v) → Some q ≡ get_key_by (equal p) m → Some v ≡ get equal m p → IsKnown m p i v
   unfolding same
   stored_is m p q i v at k e =
       record { entry = at ∙ ap (λ x. Some (x, v)) (sym (same_is p q (lookup_key_passes (equal p) m.entries q (sym k)))); value = sym e }
 
+  -- the value at the place of an entry
+  pub value_is : (m : IndexMap Point Knowledge S) (p : Point) (i : ℕ) (v w : Knowledge) → slice_get m.entries i ≡ Some (p, v) → Some w ≡ slice_get (values m) i → w ≡ v
+  value_is m p i v w e k = on m.entries i e k
+    where
+      on : (es : List (Point × Knowledge)) (i : ℕ) → slice_get es i ≡ Some (p, v) → Some w ≡ slice_get (values_of es) i → w ≡ v
+      on [] i e k = cc
+      on (x ∷ es) zero e k = grind arith
+      on (x ∷ es) (suc i) e k = on es i e k
+
   -- one note at a position that is known
-  pub takes_known : (m : IndexMap Point Vertex S) (i : ℕ) (x : Note) (v w : Vertex) → IsUnique equal m → IsKnown m x.here i v → w ≡ noted v x → Takes m (with_value_at m i w) (x ∷ [])
+  pub takes_known : (m : IndexMap Point Knowledge S) (i : ℕ) (x : Note) (v w : Knowledge) → IsUnique equal m → IsKnown m x.here i v → w ≡ noted v x → Takes m (with_value_at m i w) (x ∷ [])
   takes_known m i x v w unique k n =
       let u = (updates-with_value_at m i w equal_laws unique x.here v k.entry).0 in
       takes_one m (with_value_at m i w) x
@@ -76,7 +84,7 @@ module _ {S : Type 0} where
       (keys-with_value_at m i w ∙ keys_stay m x.here (subst (λ o. IsSome o) (sym k.value) (λ i. true)))
 
   -- some notes and then more
-  pub takes_then : (l m n : IndexMap Point Vertex S) (ns ms : List Note) → Takes l m ns → Takes m n ms → Takes l n (ns ++ ms)
+  pub takes_then : (l m n : IndexMap Point Knowledge S) (ns ms : List Note) → Takes l m ns → Takes m n ms → Takes l n (ns ++ ms)
   takes_then l m n ns ms e k = grind (arith, after_append, positions_append, map-append)
 
 -- the notes at a position
@@ -87,18 +95,18 @@ at p ns = filter (λ n. same n.here p) ns
 abbrev pub nearby : List Note → List Point
 nearby ns = flat_map (λ n. beside n.beside) ns
 
-abbrev vertex : Neighbors → Bool → Bool → Bool → Vertex
+abbrev vertex : Neighbors → Bool → Bool → Bool → Knowledge
 vertex n turns ends is_ring_start = record { neighbors = n; turns = turns; ends = ends; is_ring_start = is_ring_start }
 
 -- what is known of a position is settled by the notes at it
-abbrev adds_up : Option Vertex → List Note → Vertex
+abbrev adds_up : Option Knowledge → List Note → Knowledge
 adds_up o ns = vertex (with_neighbors (known o).neighbors (nearby ns)) (list_any (λ n. is_back n.beside) ns || (known o).turns) (list_any (λ n. n.ends) ns || (known o).ends) (known o).is_ring_start
 
-known_after : (o : Option Vertex) (ns : List Note) (p : Point) → known (after o ns p) ≡ adds_up o (at p ns)
+known_after : (o : Option Knowledge) (ns : List Note) (p : Point) → known (after o ns p) ≡ adds_up o (at p ns)
 known_after o [] p = refl
 known_after o (n ∷ ns) p = grind (arith, known, known_after (cond (same n.here p) (Some (noted (known o) n)) o) ns p)
 
-some_after : (o : Option Vertex) (ns : List Note) (p : Point) → is_some (after o ns p) ≡ (is_some o || list_any (λ n. same n.here p) ns)
+some_after : (o : Option Knowledge) (ns : List Note) (p : Point) → is_some (after o ns p) ≡ (is_some o || list_any (λ n. same n.here p) ns)
 some_after o [] p = sym (or-false (is_some o))
 some_after o (n ∷ ns) p = grind (arith, known, or-true, some_after (cond (same n.here p) (Some (noted (known o) n)) o) ns p)
 
@@ -203,19 +211,19 @@ all_noted ls c p = on (after None (all_notes ls) p) (is_position_of ls p) (some_
     ∙ ap (λ x. vertex (with_neighbors Zero (neighbors ls p)) x (ends p (all_notes ls) || false) false) (or-false (turn p (all_notes ls)) ∙ turn_all p ls c)
     ∙ ap (λ x. vertex (with_neighbors Zero (neighbors ls p)) (is_turn ls p) x false) (or-false (ends p (all_notes ls)) ∙ ends_all p ls c))
   where
-    on : (o : Option Vertex) (b : Bool) → is_some o ≡ b → known o ≡ vertex (with_neighbors Zero (neighbors ls p)) (is_turn ls p) (ends_open ls p) false →
+    on : (o : Option Knowledge) (b : Bool) → is_some o ≡ b → known o ≡ vertex (with_neighbors Zero (neighbors ls p)) (is_turn ls p) (ends_open ls p) false →
         o ≡ cond b (Some (vertex (with_neighbors Zero (neighbors ls p)) (is_turn ls p) (ends_open ls p) false)) None
     on o b e k = grind arith
 
 -- one line more of those whose notes are taken
-pub notes_turn : {S : Type 0} (l m n : IndexMap Point Vertex S) (ls : List Stroke) (i : ℕ) (s : Stroke) → i < length ls → s ≡ get_or ls i s →
+pub notes_turn : {S : Type 0} (l m n : IndexMap Point Knowledge S) (ls : List Stroke) (i : ℕ) (s : Stroke) → i < length ls → s ≡ get_or ls i s →
     Takes l m (all_notes (take i ls)) → Takes m n (notes_of s) → Takes l n (all_notes (take (i + 1) ls))
 notes_turn l m n ls i s h e k x =
     subst (Takes l n) (sym (ap all_notes (take_more ls i s h ∙ ap (λ z. take i ls ++ (z ∷ [])) (sym e)) ∙ flat_map-append notes_of (take i ls) (s ∷ [])
     ∙ ap (λ z. all_notes (take i ls) ++ z) (append-nil (notes_of s)))) (takes_then l m n (all_notes (take i ls)) (notes_of s) k x)
 
 -- what an empty table is then, where all are taken
-pub all_taken : {S : Type 0} (l m : IndexMap Point Vertex S) (ls : List Stroke) (i : ℕ) → l.entries ≡ [] → AllClean ls → length ls ≤ i → Takes l m (all_notes (take i ls)) →
+pub all_taken : {S : Type 0} (l m : IndexMap Point Knowledge S) (ls : List Stroke) (i : ℕ) → l.entries ≡ [] → AllClean ls → length ls ≤ i → Takes l m (all_notes (take i ls)) →
     IsTable ls (λ q. false) m × (keys m ≡ first_seen (positions ls))
 all_taken l m ls i e c h k = grind (arith, take_all, heres_all, seen_in_order, all_noted)
 

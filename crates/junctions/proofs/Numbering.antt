@@ -7,13 +7,13 @@ use Rattle.indexmap.specs.IndexMap.{insert_entry}
 use Rattle.geometry.specs.Points.{Point}
 use Rattle.geometry.specs.Rings.{same}
 use Rattle.geometry.proofs.Points.{same_is}
-use Rattle.junctions.specs.declared.vertex.Vertex.{Vertex}
+use Rattle.junctions.specs.Kept.{Knowledge}
 use Rattle.junctions.specs.Visits.{first_seen}
 use Rattle.junctions.specs.Notes.{equal, with_position, with_positions}
 use Rattle.junctions.proofs.Cleaned.{same_sym}
 
 -- the keys of a table behind an insertion
-pub keys_inserted : (es : List (Point × Vertex)) (p : Point) (v : Vertex) → keys_of (insert_entry equal es p v) ≡ with_position (keys_of es) p
+pub keys_inserted : (es : List (Point × Knowledge)) (p : Point) (v : Knowledge) → keys_of (insert_entry equal es p v) ≡ with_position (keys_of es) p
 unfolding same
 keys_inserted [] p v = refl
 keys_inserted (e ∷ es) p v = grind (arith, keys_inserted es p v)

@@ -5,10 +5,9 @@ use Rattle.std.specs.List.{list_any}
 use Rattle.geometry.specs.Points.{Point}
 use Rattle.geometry.specs.Rings.{same}
 use Rattle.geometry.proofs.Points.{same_is, same_self}
+use Rattle.junctions.specs.Kept.{Neighbors, Zero, One, Two, More}
 use Rattle.junctions.specs.Among.{In}
 use Rattle.junctions.specs.Visits.{distinct}
-use Rattle.junctions.specs.declared.neighbors.Neighbors.{Neighbors}
-use Rattle.junctions.specs.declared.neighbors.Neighbors.TheVariants.{Zero, One, Two, More}
 use Rattle.junctions.specs.Notes.{with_neighbor, with_neighbors, is_two}
 use Rattle.junctions.proofs.Cleaned.{differs}
 use Rattle.list_laws.proofs.Members.{in_left, in_right, in_append, any_from_in, in_from_any}

@@ -5,11 +5,9 @@ use Rattle.std.specs.Ordering.{int_eq}
 use Rattle.indexmap.specs.IndexMap.{IndexMap, get, keys}
 use Rattle.geometry.specs.Points.{Point}
 use Rattle.geometry.specs.Rings.{same}
-use Rattle.junctions.specs.declared.neighbors.Neighbors.{Neighbors}
-use Rattle.junctions.specs.declared.neighbors.Neighbors.TheVariants.{Zero, One, Two, More}
+use Rattle.junctions.specs.Kept.{Neighbors, Zero, One, Two, More, Knowledge}
 use Rattle.junctions.specs.declared.stroke.Stroke.{Stroke}
 use Rattle.junctions.specs.declared.vertex.Note.{Note}
-use Rattle.junctions.specs.declared.vertex.Vertex.{Vertex}
 use Rattle.junctions.specs.Visits.{Visit, visits, last, neighbors, ends_open, is_turn, is_position_of}
 
 -- the equality by which a table finds a position
@@ -46,15 +44,15 @@ is_back None = false
 is_back (Some pair) = same pair.0 pair.1
 
 -- nothing is known yet
-abbrev pub new_vertex : Vertex
+abbrev pub new_vertex : Knowledge
 new_vertex = record { neighbors = Zero; turns = false; ends = false; is_ring_start = false }
 
-abbrev pub known : Option Vertex → Vertex
+abbrev pub known : Option Knowledge → Knowledge
 known None = new_vertex
 known (Some v) = v
 
 -- what is known with one note more
-abbrev pub noted : Vertex → Note → Vertex
+abbrev pub noted : Knowledge → Note → Knowledge
 noted v n =
     record {
       neighbors = with_neighbors v.neighbors (beside n.beside);
@@ -64,7 +62,7 @@ noted v n =
     }
 
 -- what is known of a position after notes
-abbrev pub after : Option Vertex → List Note → Point → Option Vertex
+abbrev pub after : Option Knowledge → List Note → Point → Option Knowledge
 after o [] p = o
 after o (n ∷ ns) p = after (if same n.here p then Some (noted (known o) n) else o) ns p
 
@@ -102,17 +100,17 @@ abbrev pub heres : List Note → List Point
 heres ns = map (λ n. n.here) ns
 
 -- the notes were taken, in order: what is known of each position, and in which order the positions came
-pub record Takes {S : Type 0} (old new : IndexMap Point Vertex S) (ns : List Note) : Type 0 where
+pub record Takes {S : Type 0} (old new : IndexMap Point Knowledge S) (ns : List Note) : Type 0 where
   pub known : (p : Point) → get equal new p ≡ after (get equal old p) ns p
   pub order : keys new ≡ with_positions (keys old) (heres ns)
 
 -- the position stands in the table at this index, and this is known of it
-pub record IsKnown {S : Type 0} (m : IndexMap Point Vertex S) (p : Point) (i : ℕ) (v : Vertex) : Type 0 where
+pub record IsKnown {S : Type 0} (m : IndexMap Point Knowledge S) (p : Point) (i : ℕ) (v : Knowledge) : Type 0 where
   pub entry : slice_get m.entries i ≡ Some (p, v)
   pub value : get equal m p ≡ Some v
 
 -- what the lines say of a position; whether it is the least of a ring without a junction, is given
-abbrev pub vertex_of : List Stroke → (Point → Bool) → Point → Vertex
+abbrev pub vertex_of : List Stroke → (Point → Bool) → Point → Knowledge
 vertex_of ls starts_ring p =
     record {
       neighbors = with_neighbors Zero (neighbors ls p);
@@ -122,35 +120,35 @@ vertex_of ls starts_ring p =
     }
 
 -- what is known of a position when all lines are read
-abbrev pub vertex_at : List Stroke → (Point → Bool) → Point → Option Vertex
+abbrev pub vertex_at : List Stroke → (Point → Bool) → Point → Option Knowledge
 vertex_at ls starts_ring p = if is_position_of ls p then Some (vertex_of ls starts_ring p) else None
 
 -- the table knows this of each position
-abbrev pub IsTable : {S : Type 0} → List Stroke → (Point → Bool) → IndexMap Point Vertex S → Type 0
+abbrev pub IsTable : {S : Type 0} → List Stroke → (Point → Bool) → IndexMap Point Knowledge S → Type 0
 IsTable ls starts_ring m = (p : Point) → get equal m p ≡ vertex_at ls starts_ring p
 
 -- lines end or turn back there, or there are not exactly two neighbors
-abbrev pub at_junction : Vertex → Bool
+abbrev pub at_junction : Knowledge → Bool
 at_junction v = v.ends || (v.turns || not (is_two v.neighbors))
 
-abbrev pub at_junction_option : Option Vertex → Bool
+abbrev pub at_junction_option : Option Knowledge → Bool
 at_junction_option None = false
 at_junction_option (Some v) = at_junction v
 
 -- the same, or it is the least of a ring without a junction
-abbrev pub is_cut_option : Option Vertex → Bool
+abbrev pub is_cut_option : Option Knowledge → Bool
 is_cut_option None = false
 is_cut_option (Some v) = at_junction v || v.is_ring_start
 
 -- no position of a ring is a junction
-abbrev pub is_free : (Point → Option Vertex) → List Point → Bool
+abbrev pub is_free : (Point → Option Knowledge) → List Point → Bool
 is_free at ps = list_all (λ q. not (at_junction_option (at q))) ps
 
 -- it is the least of a ring without a junction
-abbrev pub with_ring_start : Vertex → Vertex
+abbrev pub with_ring_start : Knowledge → Knowledge
 with_ring_start v = record { neighbors = v.neighbors; turns = v.turns; ends = v.ends; is_ring_start = true }
 
 -- the same, if the test passes
-abbrev pub flagged : Bool → Option Vertex → Option Vertex
+abbrev pub flagged : Bool → Option Knowledge → Option Knowledge
 flagged b None = None
 flagged b (Some v) = if b then Some (with_ring_start v) else Some v

@@ -1,47 +1,62 @@
 // The neighbors of a position.
 ghost use Rattle.std.specs.Prelude.{◌≡◌};
+ghost use Rattle.std.specs.List.{list_any};
+ghost use Rattle.geometry.specs.Rings.{same};
+ghost use Rattle.junctions.specs.Kept.{listed};
 ghost use Rattle.junctions.specs.Notes.{with_neighbor, is_two};
 
 use geometry::{Position, is_same};
+use smallvec::SmallVec;
 
-/// The different neighbors of a position as far as they matter: up to two of them, or that there are more.
+/// How many different neighbors a position has that is no junction.
+pub const FEW: usize = 2;
+
+/// The different neighbors of a position, up to two of them, which lie in the list itself.
+pub type Neighbors = SmallVec<Neighbor, FEW>;
+
+/// A neighbor of a position.
 #[derive(Clone, Copy, Debug)]
-pub enum Neighbors {
-    Zero,
-    One(Position),
-    Two(Position, Position),
-    More,
+pub struct Neighbor {
+    pub position: Position,
 }
 
-impl Neighbors {
-    /// One neighbor more.
-    pub fn with(self, p: Position) -> Neighbors
-        ensures { result ≡ with_neighbor self p }
-    {
-        match self {
-            Neighbors::Zero => Neighbors::One(p),
-            Neighbors::One(first) => {
-                if is_same(first, p) {
-                    Neighbors::One(first)
-                } else {
-                    Neighbors::Two(first, p)
-                }
-            }
-            Neighbors::Two(first, second) => {
-                if is_same(first, p) || is_same(second, p) {
-                    Neighbors::Two(first, second)
-                } else {
-                    Neighbors::More
-                }
-            }
-            Neighbors::More => Neighbors::More,
+impl Default for Neighbor {
+    /// The position of longitude and latitude zero, which stands in an unused place of a list.
+    fn default() -> Neighbor {
+        Neighbor {
+            position: Position::at(0, 0),
         }
     }
+}
 
-    /// Whether there are exactly two.
-    pub fn are_two(self) -> bool
-        ensures { result ≡ is_two self }
-    {
-        matches!(self, Neighbors::Two(_, _))
+/// Takes one neighbor more, where there may be more than the list has. Tells whether there are more now.
+pub fn take(neighbors: &mut Neighbors, more: bool, p: Position) -> bool
+    requires { neighbors.old.capacity ≡ FEW }
+    ensures taken { listed result neighbors.new.items ≡ with_neighbor (listed more neighbors.old.items) p }
+    ensures inline { neighbors.new.capacity ≡ FEW }
+{
+    if more || has(neighbors.as_slice(), p) {
+        return more;
     }
+    if neighbors.len() == FEW {
+        return true;
+    }
+    neighbors.push_reserved(Neighbor { position: p });
+    false
+}
+
+// Whether the position is one of them.
+fn has(neighbors: &[Neighbor], p: Position) -> bool
+    ensures { result ≡ list_any (λ n. same n.position p) neighbors.now }
+{
+    neighbors
+        .iter()
+        .any(|neighbor| is_same(neighbor.position, p))
+}
+
+/// Whether there are exactly two, where there may be more than the list has.
+pub fn are_two(neighbors: &Neighbors, more: bool) -> bool
+    ensures { result ≡ is_two (listed more neighbors.now.items) }
+{
+    !more && neighbors.len() == FEW
 }

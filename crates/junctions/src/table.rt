@@ -13,7 +13,7 @@ ghost use Rattle.junctions.specs.Notes as spec;
 ghost use Rattle.junctions.specs.Notes.{equal, pass, notes_of, Takes, IsKnown, IsTable, flagged, at_junction_option, is_cut_option};
 
 use crate::stroke::Stroke;
-use crate::vertex::{Note, Vertex, noted};
+use crate::vertex::{Note, Vertex};
 use geometry::{Position, is_same};
 use indexmap::IndexMap;
 use owned_values::Memory;
@@ -155,29 +155,29 @@ fn look_ahead(table: &PositionTable, before: u32, positions: &[Position]) -> [u3
 }
 
 // What is known of the position, and its index in the table, if it stands at this place.
-fn known_at(table: &PositionTable, place: usize, p: Position) -> Option<(usize, Vertex)>
-    ensures { IfSome result (λ x. IsKnown table.now p x.0 x.1) }
+fn known_at(table: &PositionTable, place: usize, p: Position) -> Option<(usize, &Vertex)>
+    ensures { IfSome result (λ x. IsKnown table.now p x.0 x.1.now) }
 {
     let (known, vertex) = table.get_index(place)?;
     if is_same(*known, p) {
-        Some((place, *vertex))
+        Some((place, vertex))
     } else {
         None
     }
 }
 
 // The same, wherever it stands.
-fn known_in(table: &PositionTable, p: Position) -> Option<(usize, Vertex)>
-    ensures known { IfSome result (λ x. IsKnown table.now p x.0 x.1) }
+fn known_in(table: &PositionTable, p: Position) -> Option<(usize, &Vertex)>
+    ensures known { IfSome result (λ x. IsKnown table.now p x.0 x.1.now) }
     ensures absent { IfNone result (get equal table.now p ≡ None) }
 {
     let (place, _, vertex) = table.get_full(&p)?;
-    Some((place, *vertex))
+    Some((place, vertex))
 }
 
 // What is known of the position, and its index in the table. It is looked for at the places beside that of the visit before first: where
 // lines run along each other, they pass the same positions in the same order, or in the opposite one.
-fn known_beside(table: &PositionTable, before: u32, p: Position) -> Option<(usize, Vertex)> {
+fn known_beside(table: &PositionTable, before: u32, p: Position) -> Option<(usize, &Vertex)> {
     let before = before as usize;
     if let Some(found) = known_at(table, before.wrapping_sub(1), p) {
         return Some(found);
@@ -186,8 +186,8 @@ fn known_beside(table: &PositionTable, before: u32, p: Position) -> Option<(usiz
 }
 
 // The same, looked for at this place first.
-fn known_near(table: &PositionTable, place: usize, p: Position) -> Option<(usize, Vertex)>
-    ensures known { IfSome result (λ x. IsKnown table.now p x.0 x.1) }
+fn known_near(table: &PositionTable, place: usize, p: Position) -> Option<(usize, &Vertex)>
+    ensures known { IfSome result (λ x. IsKnown table.now p x.0 x.1.now) }
     ensures absent { IfNone result (get equal table.now p ≡ None) }
 {
     if let Some(found) = known_at(table, place, p) {
@@ -206,15 +206,16 @@ fn note(
     ensures { OnOk result (Takes table.old table.new (note ∷ [])) }
 {
     let here = note.here;
-    let Some((place, vertex)) = known_near(table, place as usize, here) else {
+    let Some((place, _known)) = known_near(table, place as usize, here) else {
         places.push(place_of(table.len()))?;
-        table.insert(here, noted(Vertex::new(), note))?;
+        let mut vertex = Vertex::new(*table.allocator());
+        vertex.note(note);
+        table.insert(here, vertex)?;
         return Ok(());
     };
     places.push(place_of(place))?;
-    let now = noted(vertex, note);
     if let Some(vertex) = table.get_index_mut(place) {
-        *vertex = now;
+        vertex.note(note);
     }
     Ok(())
 }
@@ -247,7 +248,7 @@ fn flag_ring(table: &mut PositionTable, places: &[u32], visit: usize, ring: &[Po
     }
     let least = least(ring);
     if let Some(vertex) = table.get_mut(&least) {
-        vertex.is_ring_start = true;
+        vertex.start_ring();
     }
 }
 
@@ -274,15 +275,15 @@ pub fn is_junction_in(table: &PositionTable, place: Option<&u32>, p: Position) -
 }
 
 // What is known of the position, which is looked for at this place first.
-fn vertex_near(table: &PositionTable, place: Option<&u32>, p: Position) -> Option<Vertex>
-    ensures { result ≡ get equal table.now p }
+fn vertex_near<'a>(table: &'a PositionTable, place: Option<&u32>, p: Position) -> Option<&'a Vertex>
+    ensures { option_copied result ≡ get equal table.now p }
 {
     if let Some(place) = place {
         if let Some((_, vertex)) = known_at(table, *place as usize, p) {
             return Some(vertex);
         }
     }
-    table.get(&p).copied()
+    table.get(&p)
 }
 
 /// Whether the table knows the position as a cut position. It is looked for at this place first.

@@ -2,8 +2,11 @@
 ghost use Rattle.std.specs.Prelude.{◌≡◌, ◌||◌};
 ghost use Rattle.junctions.specs.Notes as spec;
 
-use crate::neighbors::Neighbors;
+use crate::neighbors::{Neighbors, are_two, take};
 use geometry::{Position, is_same};
+use smallvec::SmallVec;
+use std::alloc::Global;
+use std::marker::Model;
 
 /// A note of a position: the positions before and after it if a line visits it, and whether it ends an open line.
 #[derive(Clone, Copy, Debug)]
@@ -14,24 +17,44 @@ pub struct Note {
 }
 
 /// What is known of a position.
-#[derive(Clone, Copy, Debug)]
+#[derive(Debug, Drop)]
 pub struct Vertex {
-    pub neighbors: Neighbors,
+    neighbors: Neighbors,
+    /// There are more neighbors than these.
+    more: bool,
     /// A line turns back there.
-    pub turns: bool,
+    turns: bool,
     /// An open line ends there.
-    pub ends: bool,
+    ends: bool,
     /// It is the least position of a ring without a junction.
-    pub is_ring_start: bool,
+    is_ring_start: bool,
+}
+
+impl Model for Vertex {
+    ghost use Rattle.std.specs.Prelude.{◌≡◌};
+    ghost use Rattle.junctions.specs.Kept.{Knowledge, listed};
+    ghost use Rattle.junctions.specs.declared.neighbors.TheConstants.{FEW};
+
+    ghost Value = { Knowledge };
+
+    ghost view = { λ v. record {
+      neighbors = listed v.more v.neighbors.items;
+      turns = v.turns;
+      ends = v.ends;
+      is_ring_start = v.is_ring_start;
+    } };
+
+    ghost invariant = { λ v. v.neighbors.capacity ≡ FEW };
 }
 
 impl Vertex {
     /// Nothing is known yet.
-    pub fn new() -> Vertex
+    pub fn new(alloc: Global) -> Vertex
         ensures { result ≡ spec.new_vertex }
     {
         Vertex {
-            neighbors: Neighbors::Zero,
+            neighbors: SmallVec::new(alloc),
+            more: false,
             turns: false,
             ends: false,
             is_ring_start: false,
@@ -39,38 +62,36 @@ impl Vertex {
     }
 
     /// Whether it is a junction.
-    pub fn at_junction(self) -> bool
-        ensures { result ≡ spec.at_junction self }
+    pub fn at_junction(&self) -> bool
+        ensures { result ≡ spec.at_junction self.now }
     {
-        self.ends || self.turns || !self.neighbors.are_two()
+        self.ends || self.turns || !are_two(&self.neighbors, self.more)
     }
 
     /// Whether lines are cut there.
-    pub fn at_cut(self) -> bool
-        ensures { result ≡ (spec.at_junction self || self.is_ring_start) }
+    pub fn at_cut(&self) -> bool
+        ensures { result ≡ (spec.at_junction self.now || self.now.is_ring_start) }
     {
-        let is_ring_start = self.is_ring_start;
-        self.at_junction() || is_ring_start
+        self.at_junction() || self.is_ring_start
     }
-}
 
-/// What is known with one note more.
-pub fn noted(vertex: Vertex, note: Note) -> Vertex
-    ensures { result ≡ spec.noted vertex note }
-{
-    let ends = note.ends || vertex.ends;
-    let Some((before, after)) = note.beside else {
-        return Vertex {
-            neighbors: vertex.neighbors,
-            turns: vertex.turns,
-            ends,
-            is_ring_start: vertex.is_ring_start,
+    /// Takes one note more.
+    pub fn note(&mut self, note: Note)
+        ensures { self.new ≡ spec.noted self.old note }
+    {
+        self.ends = note.ends || self.ends;
+        let Some((before, after)) = note.beside else {
+            return;
         };
-    };
-    Vertex {
-        neighbors: vertex.neighbors.with(before).with(after),
-        turns: is_same(before, after) || vertex.turns,
-        ends,
-        is_ring_start: vertex.is_ring_start,
+        self.turns = is_same(before, after) || self.turns;
+        self.more = take(&mut self.neighbors, self.more, before);
+        self.more = take(&mut self.neighbors, self.more, after);
+    }
+
+    /// It is the least position of a ring without a junction.
+    pub fn start_ring(&mut self)
+        ensures { self.new ≡ spec.with_ring_start self.old }
+    {
+        self.is_ring_start = true;
     }
 }

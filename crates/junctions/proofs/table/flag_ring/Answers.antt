@@ -1,7 +1,7 @@
-use Rattle.std.proofs.Common.{rules, ◌≡◌, ◌&&◌, refl, ap, sym, ◌∙◌, subst, Some, None, IsSome}
+use Rattle.std.proofs.Common.{rules, ◌≡◌, cond, ◌&&◌, refl, ap, sym, ◌∙◌, subst, Some, None, IsSome}
 use Rattle.indexmap.specs.IndexMap.{get, keys}
 use Rattle.geometry.specs.Order.{is_least}
-use Rattle.junctions.specs.Notes.{equal, flagged, with_ring_start}
+use Rattle.junctions.specs.Notes.{equal, flagged}
 use Rattle.junctions.proofs.Flags.{flag_one, flag_absent, flag_not}
 use Rattle.junctions.proofs.table.flag_ring.Goals as goal
 
@@ -15,13 +15,14 @@ returns-then-not-is_free c = record {
 
 pub returns-in-Some : goal.returns-in-Some
 returns-in-Some c =
-    let x = with_ring_start c.in-Some.vertex.now in
+    let x = c.start_ring.new.self in
     let e : Some c.in-Some.vertex.now ≡ get equal c.args.table.now c.least-least.result = search rules in
     let k : IsSome (get equal c.args.table.now c.least-least.result) = subst (λ o. IsSome o) e (search rules) in
     let h = c.get_mut.follows.holds x in
     record {
       known = λ p.
-          flag_one (get equal c.args.table.now) (get equal (c.get_mut.follows.lender x)) c.least-least.result c.in-Some.vertex.now (sym e) (h.3 k).0 p
+          flag_one (get equal c.args.table.now) (get equal (c.get_mut.follows.lender x)) c.least-least.result c.in-Some.vertex.now (sym e)
+          (λ q. (h.3 k).0 q ∙ ap (λ y. cond (equal c.least-least.result q) (Some y) (get equal c.args.table.now q)) c.start_ring.ensures) p
           ∙ ap (λ b. flagged b (get equal c.args.table.now p)) (sym (c.least-least.ensures p))
           ∙ ap (λ b. flagged (b && is_least p c.args.ring.now) (get equal c.args.table.now p)) (sym c.if-not-is_free.false ∙ c.is_free.ensures);
       order = h.1;

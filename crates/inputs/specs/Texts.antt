@@ -2,7 +2,7 @@
 use Rattle.std.specs.Prelude.{◌≡◌, ◌⊎◌, ℕ, ◌+◌, ◌^◌, ◌<◌, ◌≤◌, List, length, IfSome, Result, Ok, Err, IsUtf8}
 use Rattle.std.specs.Io.KnownBytes.{IsAtEnd}
 use Rattle.std.specs.Str.Lossy.{utf8_valid_len}
-use Rattle.byte_ends.specs.Ends.{Fed, saturated}
+use Rattle.byte_ends.specs.Ends.{Fed, GaveAtMost, GavePast, saturated}
 use Rattle.byte_ends.specs.declared.source.ReadFault.{ReadFault}
 use Rattle.byte_ends.specs.declared.source.ReadFault.TheVariants as read
 use Rattle.json_reading.specs.declared.fault.JsonFault.{JsonFault}
@@ -21,17 +21,23 @@ max_input = 10 ^ 9
 abbrev pub AreLeft : Fed → List ℕ → Type 0
 AreLeft source bytes = IfSome source.left (λ left. bytes ≡ left)
 
+-- the source has no failure more, and gave no more bytes than an input may have
+pub record IsUntroubled (old new : Fed) : Type 0 where
+  pub sound : new.failures ≡ old.failures
+  pub within : GaveAtMost max_input old new
+
 -- the source was read to its end without a failure, and had no more bytes than an input may have
 pub record IsRead (old new : Fed) (bytes : List ℕ) : Type 0 where
   pub all : AreLeft old bytes
   pub end : IsAtEnd new.left
   pub short : length bytes ≤ max_input
-  pub sound : new.failures ≡ old.failures
+  pub untroubled : IsUntroubled old new
 
--- why the source wasn't read to its end
+-- Why the source wasn't read to its end: its device failed when it had given no more bytes than an input may have, or it had more of
+-- them left, and gave at most a block past these.
 abbrev pub FailsToEnd : Fed → Fed → ReadFault → Type 0
-FailsToEnd old new read.Read = new.failures ≡ saturated (old.failures + 1)
-FailsToEnd old new read.TooLong = (new.failures ≡ old.failures) × IfSome old.left (λ left. max_input < length left)
+FailsToEnd old new read.Read = (new.failures ≡ saturated (old.failures + 1)) × GaveAtMost max_input old new
+FailsToEnd old new read.TooLong = (new.failures ≡ old.failures) × IfSome old.left (λ left. max_input < length left) × GavePast max_input old new
 FailsToEnd old new read.Memory = ⊥
 
 -- ---- texts

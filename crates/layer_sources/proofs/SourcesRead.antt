@@ -1,12 +1,13 @@
 -- The sources, as a loop reads one after another.
-use Rattle.std.proofs.Common.{◌≡◌, inl, inr, ℕ, zero, suc, ◌+◌, ◌<◌, ◌≤◌, Bool, List, [], ◌∷◌, ◌++◌, length, get_or, slice_set, refl, sym, ap, ◌∙◌, subst, arith}
+use Rattle.std.proofs.Common.{◌≡◌, inl, inr, ℕ, suc, ◌+◌, ◌<◌, ◌≤◌, Bool, List, [], ◌∷◌, ◌++◌, length, get_or, slice_set, refl, sym, ap, ◌∙◌, subst, arith}
 use Rattle.std.proofs.lemmas.List.{length_push, get_or-set_same}
+use Rattle.std.proofs.KnownBytes.{Consumes-nil}
 use Rattle.byte_ends.specs.Ends.{Fed, saturated}
 use Rattle.geojson_types.specs.declared.counts.Counts.{Counts}
 use Rattle.geojson_types.specs.declared.layer.Layer.{Layer}
 use Rattle.inputs.specs.declared.fault.BuildFault.{BuildFault}
 use Rattle.inputs.specs.declared.fault.BuildFault.TheVariants.{Memory}
-use Rattle.inputs.specs.Texts.{IsRead}
+use Rattle.inputs.specs.Texts.{IsRead, IsUntroubled}
 use Rattle.layer_sources.specs.Reading.{FailsToRead, SpellsLayer}
 use Rattle.layer_sources.specs.Sources.{Sources, Named, IsLayerRead, HaveRead, AllRead, FailsAt, FailsToReadAll, AreUntroubled, plus, added}
 
@@ -60,36 +61,30 @@ fails_at exact n m (s ∷ ss) (t ∷ ts) (y ∷ ls) (d ∷ cs) x source e h lt i
 
 -- ---- none has failed
 
+-- a source that isn't touched gives nothing
+untouched : (source : Fed) → IsUntroubled source source
+untouched source = record { sound = refl; within = ([], Consumes-nil source.left, omega arith) }
+
 untroubled_same : (olds : Sources) → AreUntroubled olds olds
 untroubled_same [] = tt
-untroubled_same (s ∷ ss) = (refl, refl, untroubled_same ss)
-
-pub untroubled_read : (exact : Bool) (olds mid : Sources) (ls : Named) (cs : List Counts) → HaveRead exact olds mid ls cs → AreUntroubled olds mid
-untroubled_read exact olds mid [] [] h = subst (AreUntroubled olds) (sym h) (untroubled_same olds)
-untroubled_read exact (s ∷ ss) (t ∷ ts) (k ∷ ls) (d ∷ cs) h = (h.0.same, h.0.read.sound, untroubled_read exact ss ts ls cs h.1)
-untroubled_read exact olds mid ls cs h = absurd h
+untroubled_same (s ∷ ss) = (refl, untouched s.1, untroubled_same ss)
 
 pub untroubled_all : (exact : Bool) (olds news : Sources) (ls : Named) (cs : List Counts) → AllRead exact olds news ls cs → AreUntroubled olds news
 untroubled_all exact [] [] [] [] h = tt
-untroubled_all exact (s ∷ ss) (t ∷ ts) (k ∷ ls) (d ∷ cs) h = (h.0.same, h.0.read.sound, untroubled_all exact ss ts ls cs h.1)
+untroubled_all exact (s ∷ ss) (t ∷ ts) (k ∷ ls) (d ∷ cs) h = (h.0.same, h.0.read.untroubled, untroubled_all exact ss ts ls cs h.1)
 untroubled_all exact olds news ls cs h = absurd h
 
-untroubled_set : (olds mid : Sources) (i : ℕ) (x : Source) (source : Fed) → AreUntroubled olds mid → i < length mid → x ≡ get_or mid i x → source.failures ≡ x.1.failures
-    → AreUntroubled olds (slice_set mid i (x.0, source))
-untroubled_set [] [] i x source h lt is e = absurd (omega (arith, lt))
-untroubled_set (s ∷ ss) (t ∷ ts) zero x source h lt is e = (ap (λ z. z.0) is ∙ h.0, e ∙ ap (λ z. z.1.failures) is ∙ h.1, h.2)
-untroubled_set (s ∷ ss) (t ∷ ts) (suc i) x source h lt is e = (h.0, h.1, untroubled_set ss ts i x source h.2 (omega (arith, lt)) is e)
-untroubled_set olds mid i x source h lt is e = absurd h
-
--- memory was refused behind the source that was read last
-pub untroubled_here : (exact : Bool) (olds mid : Sources) (ls : Named) (cs : List Counts) (x : Source) (source : Fed) → HaveRead exact olds mid ls cs → length ls < length mid
-    → x ≡ get_or mid (length ls) x → source.failures ≡ x.1.failures → AreUntroubled olds (slice_set mid (length ls) (x.0, source))
-untroubled_here exact olds mid ls cs x source h lt is e = untroubled_set olds mid (length ls) x source (untroubled_read exact olds mid ls cs h) lt is e
+-- memory was refused at one of them
+untroubled_at : (exact : Bool) (n : ℕ) (olds news : Sources) → FailsAt exact n olds news Memory → AreUntroubled olds news
+untroubled_at exact n (s ∷ ss) (t ∷ ts) (inl f) = (f.0, f.1, subst (AreUntroubled ss) (sym f.2) (untroubled_same ss))
+untroubled_at exact n (s ∷ ss) (t ∷ ts) (inr f) = (f.2.same, f.2.read.untroubled, untroubled_at exact (suc n) ss ts f.3)
+untroubled_at exact n olds news f = absurd f
 
 -- what stopped the reading of a source stopped that of all
 pub stops : (exact : Bool) (olds mid : Sources) (ls : Named) (cs : List Counts) (x : Source) (source : Fed) (e : BuildFault) → HaveRead exact olds mid ls cs → length ls < length mid
     → x ≡ get_or mid (length ls) x → FailsToRead (length ls) exact x.1 source e → FailsToReadAll exact olds (slice_set mid (length ls) (x.0, source)) e
-stops exact olds mid ls cs x source Memory h lt is f = untroubled_here exact olds mid ls cs x source h lt is f
+stops exact olds mid ls cs x source Memory h lt is f =
+    untroubled_at exact 0 olds (slice_set mid (length ls) (x.0, source)) (fails_at exact 0 (length ls) olds mid ls cs x source Memory h lt is (omega arith) f)
 stops exact olds mid ls cs x source e h lt is f = fails_at exact 0 (length ls) olds mid ls cs x source e h lt is (omega arith) f
 
 -- ---- counts
@@ -137,8 +132,9 @@ module _ (exact : Bool) (olds mid : Sources) (ls : Named) (cs : List Counts) (ha
     pub stopped : (e : BuildFault) → FailsToRead k exact x.1 source e → FailsToReadAll exact olds (slice_set mid k (x.0, source)) e
     stopped e f = rw number (stops exact olds mid ls cs x source e have within there (rw (sym number) f))
 
-    pub short_of_memory : source.failures ≡ x.1.failures → AreUntroubled olds (slice_set mid k (x.0, source))
-    short_of_memory e = rw number (untroubled_here exact olds mid ls cs x source have within there e)
+    -- memory was refused behind the source that was read last
+    pub short_of_memory : IsUntroubled x.1 source → AreUntroubled olds (slice_set mid k (x.0, source))
+    short_of_memory is_well = stopped Memory is_well
 
   pub ended : length olds ≤ k → AllRead exact olds mid ls cs
   ended le = read_all_of exact olds mid ls cs have (rw (sym number, same_many exact olds mid ls cs have) le)

@@ -10,7 +10,7 @@ use Rattle.geojson_model.specs.Layers.{layer}
 pub use Rattle.layer_scanning.specs.CollectionParts.{layer_depth, SpellsLayer}
 use Rattle.inputs.specs.declared.fault.BuildFault.{BuildFault}
 use Rattle.inputs.specs.declared.fault.BuildFault.TheVariants.{EmptyName, DuplicateName, Read, Json as Text, Geo, Write, Memory}
-use Rattle.inputs.specs.Texts.{IsNoText, IsRead, FailsToEnd}
+use Rattle.inputs.specs.Texts.{IsNoText, IsRead, IsUntroubled, FailsToEnd}
 
 -- why the bytes of the layer of this number spell no layer
 abbrev pub IsNoLayer : ℕ → Bool → List ℕ → BuildFault → Type 0
@@ -32,7 +32,7 @@ IsLayerOf n exact bytes (Err e) = IsNoLayer n exact bytes e
 -- why the layer of this number can't be had of the source
 abbrev pub FailsToRead : ℕ → Bool → Fed → Fed → BuildFault → Type 0
 FailsToRead n exact old new (Read i fault) = (i ≡ n) × FailsToEnd old new fault
-FailsToRead n exact old new Memory = new.failures ≡ old.failures
+FailsToRead n exact old new Memory = IsUntroubled old new
 FailsToRead n exact old new e = (bytes : List ℕ) × IsRead old new bytes × IsNoLayer n exact bytes e
 
 -- the answer for the source of the layer of this number

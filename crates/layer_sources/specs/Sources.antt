@@ -6,7 +6,7 @@ use Rattle.geojson_types.specs.Counting.{no_counts}
 use Rattle.geojson_types.specs.declared.layer.Layer.{Layer}
 use Rattle.inputs.specs.declared.fault.BuildFault.{BuildFault}
 use Rattle.inputs.specs.declared.fault.BuildFault.TheVariants.{Memory}
-use Rattle.inputs.specs.Texts.{IsRead}
+use Rattle.inputs.specs.Texts.{IsRead, IsUntroubled}
 use Rattle.layer_sources.specs.Reading.{SpellsLayer, FailsToRead}
 
 -- layers with their names
@@ -44,10 +44,10 @@ FailsAt exact n (s ∷ olds) (t ∷ news) e =
     ⊎ ((l : List ℕ × Layer) × (c : Counts) × IsLayerRead exact s t l c × FailsAt exact (suc n) olds news e)
 FailsAt exact n olds news e = ⊥
 
--- each source has its name and no failure more
+-- each source has its name and no failure more, and gave no more bytes than an input may have
 abbrev pub AreUntroubled : Sources → Sources → Type 0
 AreUntroubled [] [] = Unit {0}
-AreUntroubled (s ∷ olds) (t ∷ news) = (t.0 ≡ s.0) × (t.1.failures ≡ s.1.failures) × AreUntroubled olds news
+AreUntroubled (s ∷ olds) (t ∷ news) = (t.0 ≡ s.0) × IsUntroubled s.1 t.1 × AreUntroubled olds news
 AreUntroubled olds news = ⊥
 
 -- the counts of two parts, added

@@ -26,7 +26,7 @@ counted old new e h = omega arith
 
 -- no device failed, so it is memory
 given_memory : (old new : Fed) (e : FileFault) → new.failures ≡ 0 → FailsToGive old new e → IsOutsideGiven e → e ≡ Memory
-given_memory old new (Read read.Read) none f out = absurd (counted old.failures new.failures f none)
+given_memory old new (Read read.Read) none f out = absurd (counted old.failures new.failures f.0 none)
 given_memory old new (Read read.TooLong) none f out = absurd out
 given_memory old new (Read read.Memory) none f out = absurd out
 given_memory old new (Json fault) none f out = absurd out

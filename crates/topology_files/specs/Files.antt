@@ -10,7 +10,7 @@ use Rattle.topojson_meaning.specs.Topologies.{topology}
 pub use Rattle.topology_scanning.specs.TopologyParts.{topology_depth, SpellsTopology}
 use Rattle.inputs.specs.declared.file_fault.FileFault.{FileFault}
 use Rattle.inputs.specs.declared.file_fault.FileFault.TheVariants.{Read, Json, Topo, NoObject, Write, Memory}
-use Rattle.inputs.specs.Texts.{IsNoText, IsRead, FailsToEnd}
+use Rattle.inputs.specs.Texts.{IsNoText, IsRead, IsUntroubled, FailsToEnd}
 use Rattle.reports.specs.declared.summary.Summary.{Summary}
 use Rattle.reports.specs.Summaries.{summary_of}
 
@@ -37,7 +37,7 @@ pub record IsTopologyRead (old new : Fed) (contents : Contents) (counts : Counts
 -- why no topology can be had of the source
 abbrev pub FailsToGive : Fed → Fed → FileFault → Type 0
 FailsToGive old new (Read fault) = FailsToEnd old new fault
-FailsToGive old new Memory = new.failures ≡ old.failures
+FailsToGive old new Memory = IsUntroubled old new
 FailsToGive old new e = (bytes : List ℕ) × IsRead old new bytes × IsNoTopology bytes e
 
 -- the answer for the source

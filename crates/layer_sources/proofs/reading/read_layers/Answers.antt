@@ -19,7 +19,7 @@ returns-in_err-name g c =
     let p = err_from_is_err_and c.from_residual-in_err-name.result c.from_residual-in_err-name.ensures.1 in
     rw (p.1, p.2)
     (sources.short_of_memory c.args.exact c.args.sources.now c.sources.sources c.sources.layers.items i.0 i.1 c.sources.layer i.2 x c.read_source.new.source c.sources-test.true
-    (ap (get_or c.sources.sources c.sources.layer) c.index-sources-layer.is) c.in_ok-read.ensures.1.sound)
+    (ap (get_or c.sources.sources c.sources.layer) c.index-sources-layer.is) c.in_ok-read.ensures.1.untroubled)
 
 pub returns-in_err-push : goal.returns-in_err-push
 returns-in_err-push g c =
@@ -28,7 +28,7 @@ returns-in_err-push g c =
     let p = err_from_is_err_and c.from_residual-in_err-push.result c.from_residual-in_err-push.ensures.1 in
     rw (p.1, p.2)
     (sources.short_of_memory c.args.exact c.args.sources.now c.sources.sources c.sources.layers.items i.0 i.1 c.sources.layer i.2 x c.read_source.new.source c.sources-test.true
-    (ap (get_or c.sources.sources c.sources.layer) c.index-sources-layer.is) c.in_ok-read.ensures.1.sound)
+    (ap (get_or c.sources.sources c.sources.layer) c.index-sources-layer.is) c.in_ok-read.ensures.1.untroubled)
 
 pub sources-preserved : goal.sources-preserved
 sources-preserved g c =

@@ -4,4 +4,4 @@ use Rattle.topology_simplifying.proofs.simplifying.read_lessened.Goals as goal
 pub returns-in_err-less-clause-refused : goal.returns-in_err-less-clause-refused
 returns-in_err-less-clause-refused g c =
     let p = err_from_is_err_and c.from_residual-in_err-less.result c.from_residual-in_err-less.ensures.1 in
-    rw (p.1, p.2) c.in_ok-topology.ensures.read.sound
+    rw (p.1, p.2) c.in_ok-topology.ensures.read.untroubled

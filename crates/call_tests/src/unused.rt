@@ -7,7 +7,7 @@ use geojson_types::{Layer, Position};
 use linework::{Lines, OfLayers};
 use std::alloc::Global;
 use std::test::Fail;
-use topojson_types::{Cell, sums};
+use topojson_types::{Cell, SumFault, deltas, sums};
 
 #[test]
 fn memory_takes_bytes(rt: HostRuntime) {
@@ -30,10 +30,25 @@ fn layers_without_names_have_lines(rt: HostRuntime) {
     assert!(rt; Lines::of(rt.alloc(), &[Layer { features }]).is_ok());
 }
 
+// The cells of an arc, and their differences (TopoJSON 1.0, section 2.1.3).
 #[test]
-fn differences_have_sums(rt: HostRuntime) {
+fn cells_and_differences_are_told_of_each_other(rt: HostRuntime) -> Result<(), Fail> {
+    let cells = [Cell::at(0, 0), Cell::at(1, 3), Cell::at(3, 0)];
     let differences = [Cell::at(0, 0), Cell::at(1, 3), Cell::at(2, -3)];
-    assert!(rt; sums(rt.alloc(), &differences).is_ok());
+    let told = deltas(rt.alloc(), &cells)?;
+    assert!(rt; told.as_slice() == differences.as_slice());
+    match sums(rt.alloc(), &differences) {
+        Ok(summed) => assert!(rt; summed.as_slice() == cells.as_slice()),
+        Err(_) => assert!(rt; false),
+    }
+    Ok(())
+}
+
+#[test]
+fn a_sum_past_the_grid_is_refused(rt: HostRuntime) {
+    let differences = [Cell::at(2_147_483_648, 0), Cell::at(1, 0)];
+    let is_refused = matches!(sums(rt.alloc(), &differences), Err(SumFault::Range));
+    assert!(rt; is_refused);
 }
 
 /// Whether this is the threshold of an area.

@@ -1,0 +1,152 @@
+#!/usr/bin/env python3
+"""Runs the commands of the worked examples (crates/worked_examples/FORMAT.md) by a program of its own process each, over real files and
+streams, and compares standard output, standard error and the exit status byte for byte:
+
+    scripts/pages.py                     the program of ./mapchain, which is proved and built first where it has to be
+    scripts/pages.py path/to/mapchain    another program with the same commands
+
+The gate does it with the program that it built, since the pages run there over files and streams in memory: what they leave out is the
+program's `main`, with the file system and the standard streams. Commands on devices that fail are left out here. It prints a line for
+each command that went otherwise, and at its end how many pages and commands there were. The status is 0 where all went as they say.
+"""
+import re
+import subprocess
+import sys
+import tempfile
+from pathlib import Path
+
+ROOT = Path(__file__).resolve().parent.parent
+PAGES = ROOT / "crates" / "worked_examples" / "data"
+
+
+class Command:
+    """A command of a page, and what is wanted of it."""
+
+    def __init__(self, line):
+        words, _, kept = line.removeprefix("$ mapchain").partition(" > ")
+        self.words, self.kept = words.split(" ")[1:], kept
+        self.status, self.output, self.error = 0, b"", b""
+        self.output_of = self.prefix_of = None
+        self.only_kept = self.on_devices = False
+
+    def say(self, line):
+        """Takes a line below the command."""
+        if match := re.fullmatch(r"# status (\d+)", line):
+            self.status = int(match[1])
+        elif match := re.fullmatch(r"# output of (.+)", line):
+            self.output_of = match[1]
+        elif line == "# output only kept":
+            self.only_kept = True
+        elif match := re.fullmatch(r"# for each proper prefix of (.+)", line):
+            self.prefix_of = match[1]
+        elif line.startswith("# for "):
+            self.on_devices = line != "# for one byte a call"
+        elif line.startswith("# "):
+            raise ValueError(f"a line that isn't known: {line}")
+        else:
+            self.error += line.encode() + b"\n"
+
+
+def bytes_of(kind, lines):
+    """What a file of this kind holds."""
+    if kind == "json":
+        return "\n".join(lines).encode()
+    if kind == "text":
+        return "".join(f"{line}\n" for line in lines).encode()
+    if kind == "bytes":
+        return bytes.fromhex(" ".join(lines))
+    if kind == "repeated":
+        counts = (line.split(" ", 1) for line in lines)
+        return "".join(text * int(count) for count, text in counts).encode()
+    if kind == "squares":
+        across, up = map(int, lines[0].split(" by "))
+        squares = (
+            '{"type":"Polygon","coordinates":[[[%d,%d],[%d,%d],[%d,%d],[%d,%d],[%d,%d]]]}'
+            % (x, y, x + 1, y, x + 1, y + 1, x, y + 1, x, y)
+            for y in range(up)
+            for x in range(across)
+        )
+        return ('{"type":"GeometryCollection","geometries":[' + ",".join(squares) + "]}").encode()
+    raise ValueError(f"a block that isn't known: {kind}")
+
+
+def blocks_of(text):
+    """The heads and the lines of the blocks of a page."""
+    lines = iter(text.split("\n"))
+    for line in lines:
+        if line.startswith("```"):
+            inside = []
+            for each in lines:
+                if each == "```":
+                    break
+                inside.append(each)
+            yield line[3:], inside
+
+
+def steps_of(text):
+    """The files of a page and its commands, in order."""
+    steps = []
+    for head, lines in blocks_of(text):
+        if match := re.fullmatch(r"(\w+) file (.+)", head):
+            steps.append((match[2], bytes_of(match[1], lines)))
+        elif match := re.fullmatch(r"(\w+) stdout", head):
+            steps[-1].output = bytes_of(match[1], lines)
+        elif head == "console":
+            for line in lines:
+                if line.startswith("$ "):
+                    steps.append(Command(line))
+                else:
+                    steps[-1].say(line)
+        else:
+            raise ValueError(f"a block that isn't known: {head}")
+    return steps
+
+
+def run(program, words, folder):
+    ended = subprocess.run([program, *words], cwd=folder, capture_output=True, timeout=120)
+    return ended.returncode, ended.stdout, ended.stderr
+
+
+def run_page(program, page, folder):
+    """How many commands were run, and how many went otherwise."""
+    ran = otherwise = 0
+    for step in steps_of(page.read_text()):
+        if not isinstance(step, Command):
+            (folder / step[0]).write_bytes(step[1])
+            continue
+        if step.on_devices:
+            continue
+        wanted = (folder / step.output_of).read_bytes() if step.output_of else step.output
+        whole = (folder / step.prefix_of).read_bytes() if step.prefix_of else b""
+        for length in range(len(whole)) if step.prefix_of else [None]:
+            if length is not None:
+                (folder / step.prefix_of).write_bytes(whole[:length])
+            status, output, error = run(program, step.words, folder)
+            ran += 1
+            if (status, error) != (step.status, step.error) or not (step.only_kept or output == wanted):
+                otherwise += 1
+                print(f"{page.name}: mapchain {' '.join(step.words)}: status {status}, {error.decode(errors='replace')!r}")
+        if step.prefix_of:
+            (folder / step.prefix_of).write_bytes(whole)
+        if step.kept:
+            (folder / step.kept).write_bytes(output)
+    return ran, otherwise
+
+
+def main():
+    if len(sys.argv) > 1:
+        program = str(Path(sys.argv[1]).resolve())
+    else:
+        program = subprocess.run([ROOT / "scripts" / "program-path.sh"], check=True, capture_output=True, text=True).stdout.strip()
+    pages = sorted(PAGES.glob("*.md"))
+    ran = otherwise = 0
+    for page in pages:
+        with tempfile.TemporaryDirectory() as folder:
+            counts = run_page(program, page, Path(folder))
+        ran, otherwise = ran + counts[0], otherwise + counts[1]
+    print(f"{len(pages)} pages, {ran} commands by the program itself, {otherwise} went otherwise")
+    sys.exit(0 if otherwise == 0 and ran else 1)
+
+
+if __name__ == "__main__":
+    main()

@@ -2,7 +2,7 @@
 ghost use Rattle.std.specs.Prelude.{◌≡◌, ℕ, List, Option, None};
 ghost use Rattle.std.specs.Io.{ReadsAtMost};
 ghost use Rattle.std.specs.Io.KnownBytes.{ReadConsumes};
-ghost use Rattle.byte_ends.specs.Ends.{CountsFailure};
+ghost use Rattle.byte_ends.specs.Ends.{CountsEmpty, CountsFailure, CountsGiving};
 
 use std::io::{ErrorKind, Read};
 use std::marker::Model;
@@ -13,7 +13,7 @@ use thiserror::Error;
 #[error("the device failed")]
 pub struct Failed;
 
-/// A device that gives bytes, and counts its failures.
+/// A device that gives bytes, and counts its reads: those that failed, those that gave bytes, and those that gave none.
 pub trait Feed {
     // The bytes that reads will give from here on, where they are known.
     ghost left: { Self → Option (List ℕ) } = { λ _. None };
@@ -21,12 +21,20 @@ pub trait Feed {
     // How many reads failed, up to `u64::MAX`.
     ghost failures: { Self → ℕ };
 
+    // How many reads gave bytes, up to `u64::MAX`.
+    ghost giving_reads: { Self → ℕ };
+
+    // How many reads gave none without a failure, at the end or for want of room, up to `u64::MAX`.
+    ghost empty_reads: { Self → ℕ };
+
     /// Fills the front of `buf` and answers how many bytes it is: none only at the end, or where `buf` has no room.
     /// A failed read consumes nothing.
     fn read(&mut self, buf: &mut [u8]) -> Result<usize, Failed>
         ensures bound { ReadsAtMost result buf.new }
         ensures bytes { ReadConsumes (left self.old) (left self.new) result buf.new }
-        ensures failures { CountsFailure (failures self.old) result (failures self.new) };
+        ensures failures { CountsFailure (failures self.old) result (failures self.new) }
+        ensures giving { CountsGiving (giving_reads self.old) result (giving_reads self.new) }
+        ensures empty { CountsEmpty (empty_reads self.old) result (empty_reads self.new) };
 
     /// How many reads failed: a count that stays at `u64::MAX` once it is there.
     fn failures(&self) -> u64
@@ -34,10 +42,13 @@ pub trait Feed {
 }
 
 /// A reader of std as a feed: an error of the reader is a failure, but for an interrupted read, which is tried again.
+/// A read and all that was tried for it count as one.
 #[derive(Drop)]
 pub struct FromRead<R: Read> {
     inner: R,
     failures: u64,
+    giving_reads: u64,
+    empty_reads: u64,
 }
 
 impl<R: Read> Model for FromRead<R> {
@@ -45,16 +56,28 @@ impl<R: Read> Model for FromRead<R> {
 
     ghost Value = { Fed };
 
-    ghost view = { λ s. record { left = R.remaining s.inner; failures = s.failures } };
+    ghost view = { λ s. record {
+      left = R.remaining s.inner;
+      failures = s.failures;
+      giving_reads = s.giving_reads;
+      empty_reads = s.empty_reads;
+    } };
 }
 
 impl<R: Read> FromRead<R> {
-    /// A feed over this reader, with no failures.
+    /// A feed over this reader, with no reads yet.
     pub fn new(inner: R) -> FromRead<R>
         ensures left { result.left ≡ R.remaining inner }
         ensures failures { result.failures ≡ 0 }
+        ensures giving { result.giving_reads ≡ 0 }
+        ensures empty { result.empty_reads ≡ 0 }
     {
-        FromRead { inner, failures: 0 }
+        FromRead {
+            inner,
+            failures: 0,
+            giving_reads: 0,
+            empty_reads: 0,
+        }
     }
 }
 
@@ -63,10 +86,16 @@ impl<R: Read> Feed for FromRead<R> {
 
     ghost failures = { λ s. s.failures };
 
+    ghost giving_reads = { λ s. s.giving_reads };
+
+    ghost empty_reads = { λ s. s.empty_reads };
+
     fn read(&mut self, buf: &mut [u8]) -> Result<usize, Failed> {
         let given = read_uninterrupted(&mut self.inner, buf);
-        if given.is_err() {
-            self.failures = self.failures.saturating_add(1);
+        match given {
+            Ok(0) => self.empty_reads = self.empty_reads.saturating_add(1),
+            Ok(_) => self.giving_reads = self.giving_reads.saturating_add(1),
+            Err(Failed) => self.failures = self.failures.saturating_add(1),
         }
         given
     }

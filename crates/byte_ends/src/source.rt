@@ -2,7 +2,7 @@
 ghost use Rattle.std.specs.Prelude.{◌≡◌, ◌≢◌, ◌+◌, ◌<◌, ◌≤◌, IfOk, IfSome, OnOk, length, vec_len};
 ghost use Rattle.std.specs.Io.{ReadsAtMost};
 ghost use Rattle.std.specs.Io.KnownBytes.{IsAtEnd, ReadConsumes};
-ghost use Rattle.byte_ends.specs.Ends.{CountsFailure, GaveAtMost, GavePast, saturated};
+ghost use Rattle.byte_ends.specs.Ends.{CountsEmpty, CountsEnd, CountsFailure, CountsGiving, GaveAtMost, GavePast, saturated};
 
 use crate::feed::{Failed, Feed};
 use std::alloc::{AllocError, Global};
@@ -26,7 +26,12 @@ impl<R: Feed> Model for Source<R> {
 
     ghost Value = { Fed };
 
-    ghost view = { λ s. record { left = R.left s.feed; failures = R.failures s.feed } };
+    ghost view = { λ s. record {
+      left = R.left s.feed;
+      failures = R.failures s.feed;
+      giving_reads = R.giving_reads s.feed;
+      empty_reads = R.empty_reads s.feed;
+    } };
 }
 
 impl<R: Feed> Source<R> {
@@ -35,6 +40,8 @@ impl<R: Feed> Source<R> {
         requires { R.failures feed ≡ 0 }
         ensures left { result.left ≡ R.left feed }
         ensures failures { result.failures ≡ 0 }
+        ensures giving { result.giving_reads ≡ R.giving_reads feed }
+        ensures empty { result.empty_reads ≡ R.empty_reads feed }
     {
         Source { feed }
     }
@@ -50,6 +57,8 @@ impl<R: Feed> Source<R> {
         ensures bound { ReadsAtMost result buf.new }
         ensures bytes { ReadConsumes self.old.left self.new.left result buf.new }
         ensures failures { CountsFailure self.old.failures result self.new.failures }
+        ensures giving { CountsGiving self.old.giving_reads result self.new.giving_reads }
+        ensures empty { CountsEmpty self.old.empty_reads result self.new.empty_reads }
     {
         self.feed.read(buf)
     }
@@ -80,7 +89,8 @@ impl From<AllocError> for ReadFault {
 }
 
 /// All bytes that the source has left, if they are no more than `limit`. The first failed read ends it, and so does the
-/// first read that passes the limit, which gives 65,536 bytes at most; what was read until then is lost.
+/// first read that passes the limit, which gives 65,536 bytes at most; what was read until then is lost. At most `limit` + 1
+/// reads give bytes, and one at most gives none or fails: the last.
 pub fn read_all<R: Feed>(
     alloc: Global,
     source: &mut Source<R>,
@@ -96,6 +106,7 @@ pub fn read_all<R: Feed>(
     // No call of the device follows the first one that fails or passes the limit.
     ensures within { result ≢ Err ReadFault.TooLong → GaveAtMost limit source.old source.new }
     ensures past { result ≡ Err ReadFault.TooLong → GavePast limit source.old source.new }
+    ensures ends { CountsEnd source.old.empty_reads result source.new.empty_reads }
     ensures sound { result ≢ Err ReadFault.Read → source.new.failures ≡ source.old.failures }
 {
     let mut room = zeros(alloc, BLOCK)?;

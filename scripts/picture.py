@@ -3,10 +3,16 @@
 
     scripts/picture.py map.topojson > map.svg
     ./mapchain build areas=examples/areas.json | scripts/picture.py > docs/areas.svg
+    scripts/picture.py --plain --bounds 5,45,11,48 map.topojson > part.svg
 
 Polygons are filled lightly. Each arc is drawn once: thin and grey where one line or ring uses it, thick and red where
-two or more do. Its number stands at its middle, and its ends are dots. Degrees are as long upwards as sideways.
+two or more do. Its number stands at its middle, and its ends are dots; `--plain` leaves out both, and draws all arcs thin.
+
+Where the topology lies within longitudes from -180 to 180 and latitudes from -90 to 90, its coordinates are taken for degrees, and
+those sideways are drawn shorter than those upwards, by the cosine of the latitude in the middle of the picture. Else they are
+those of a projection, and drawn as they are. `--degrees` and `--projected` say which it is whatever the numbers are.
 """
+import argparse
 import json
 import math
 import sys
@@ -73,18 +79,38 @@ def middle(positions):
     return positions[-1]
 
 
+def look(users, is_plain):
+    """How an arc is drawn that so many lines and rings use."""
+    if is_plain:
+        return 'stroke="#c1121f" stroke-width="1.2"' if users > 1 else 'stroke="#555555" stroke-width="0.8"'
+    return SHARED if users > 1 else ALONE
+
+
 def path(positions):
     return "M" + "L".join(f"{x:.1f} {y:.1f}" for x, y in positions)
 
 
-def picture(topology):
+def bounds(lines):
+    """The least x and y of lines, and the greatest."""
+    places = [place for line in lines for place in line] or [[0, 0], [1, 1]]
+    return min(x for x, _ in places), min(y for _, y in places), max(x for x, _ in places), max(y for _, y in places)
+
+
+def are_degrees(left, low, right, high):
+    return -180 <= left and right <= 180 and -90 <= low and high <= 90
+
+
+def picture(topology, words):
     lines = placed(topology)
-    places = [place for arc in lines for place in arc] or [[0, 0], [1, 1]]
-    left, right = min(x for x, _ in places), max(x for x, _ in places)
-    low, high = min(y for _, y in places), max(y for _, y in places)
-    scale = (WIDTH - 2 * MARGIN) / (max(right - left, high - low) or 1)
-    width, height = ((end - start) * scale + 2 * MARGIN for start, end in [(left, right), (low, high)])
-    arcs = [[(MARGIN + (p[0] - left) * scale, MARGIN + (high - p[1]) * scale) for p in arc] for arc in lines]
+    whole = bounds(lines)
+    left, low, right, high = words.bounds or whole
+    narrowing = 1
+    if words.degrees or (not words.projected and are_degrees(*whole)):
+        narrowing = max(math.cos(math.radians((low + high) / 2)), 0.01)
+    scale = (WIDTH - 2 * MARGIN) / (max((right - left) * narrowing, high - low) or 1)
+    along = scale * narrowing
+    width, height = (right - left) * along + 2 * MARGIN, (high - low) * scale + 2 * MARGIN
+    arcs = [[(MARGIN + (p[0] - left) * along, MARGIN + (high - p[1]) * scale) for p in arc] for arc in lines]
     shapes = [s for o in topology["objects"].values() for s in o.get("geometries", [o])]
     found = [parts(shape) for shape in shapes]
     users = [0] * len(arcs)
@@ -98,7 +124,10 @@ def picture(topology):
         if outline:
             yield f'<path d="{outline}" fill="{FILLS[i % len(FILLS)]}" fill-rule="evenodd"/>'
     for arc, many in zip(arcs, users):
-        yield f'<path d="{path(arc)}" fill="none" stroke-linejoin="round" {SHARED if many > 1 else ALONE}/>'
+        yield f'<path d="{path(arc)}" fill="none" stroke-linejoin="round" {look(many, words.plain)}/>'
+    if words.plain:
+        yield "</svg>"
+        return
     for x, y in sorted({end for arc in arcs for end in (arc[0], arc[-1])}):
         yield f'<circle cx="{x:.1f}" cy="{y:.1f}" r="4.5"/>'
     for number, (x, y) in enumerate(map(middle, arcs)):
@@ -106,5 +135,26 @@ def picture(topology):
     yield "</svg>"
 
 
-with open(sys.argv[1], encoding="utf-8") if len(sys.argv) > 1 else sys.stdin as source:
-    print("\n".join(picture(json.load(source))))
+def four(text):
+    numbers = tuple(map(float, text.split(",")))
+    if len(numbers) != 4:
+        raise ValueError
+    return numbers
+
+
+def main():
+    parser = argparse.ArgumentParser(description="Draws a topology as an SVG picture on standard output.")
+    parser.add_argument("file", nargs="?", help="the topology; without it, standard input")
+    parser.add_argument("--plain", action="store_true", help="thin lines, without the numbers of arcs and their ends")
+    parser.add_argument("--bounds", type=four, help="the part to draw, as X0,Y0,X1,Y1")
+    kind = parser.add_mutually_exclusive_group()
+    kind.add_argument("--degrees", action="store_true", help="coordinates are longitudes and latitudes")
+    kind.add_argument("--projected", action="store_true", help="coordinates are those of a projection")
+    words = parser.parse_args()
+    with open(words.file, encoding="utf-8") if words.file else sys.stdin as source:
+        topology = json.load(source)
+    print("\n".join(picture(topology, words)))
+
+
+if __name__ == "__main__":
+    main()

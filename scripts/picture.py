@@ -96,6 +96,11 @@ def bounds(lines):
     return min(x for x, _ in places), min(y for _, y in places), max(x for x, _ in places), max(y for _, y in places)
 
 
+def meet(frame, other):
+    """Whether two rectangles have a place in common."""
+    return frame[0] <= other[2] and other[0] <= frame[2] and frame[1] <= other[3] and other[1] <= frame[3]
+
+
 def are_degrees(left, low, right, high):
     return -180 <= left and right <= 180 and -90 <= low and high <= 90
 
@@ -112,6 +117,7 @@ def picture(topology, words):
     width, height = (right - left) * along + 2 * MARGIN, (high - low) * scale + 2 * MARGIN
     arcs = [[(MARGIN + (p[0] - left) * along, MARGIN + (high - p[1]) * scale) for p in arc] for arc in lines]
     shapes = [s for o in topology["objects"].values() for s in o.get("geometries", [o])]
+    frame = (0, 0, width, height)
     found = [parts(shape) for shape in shapes]
     users = [0] * len(arcs)
     for line in [line for lines, polygons in found for line in lines + sum(polygons, [])]:
@@ -120,17 +126,19 @@ def picture(topology, words):
     yield f'<svg xmlns="http://www.w3.org/2000/svg" viewBox="0 0 {width:.0f} {height:.0f}" font-family="sans-serif">'
     yield '<rect width="100%" height="100%" fill="white"/>'
     for i, (_, polygons) in enumerate(found):
-        outline = "".join(path(joined(ring, arcs)) + "Z" for rings in polygons for ring in rings)
+        drawn = [[joined(ring, arcs) for ring in rings] for rings in polygons]
+        outline = "".join(path(ring) + "Z" for rings in drawn if meet(frame, bounds(rings)) for ring in rings)
         if outline:
             yield f'<path d="{outline}" fill="{FILLS[i % len(FILLS)]}" fill-rule="evenodd"/>'
-    for arc, many in zip(arcs, users):
+    arcs = [(number, arc, many) for number, (arc, many) in enumerate(zip(arcs, users)) if meet(frame, bounds([arc]))]
+    for _, arc, many in arcs:
         yield f'<path d="{path(arc)}" fill="none" stroke-linejoin="round" {look(many, words.plain)}/>'
     if words.plain:
         yield "</svg>"
         return
-    for x, y in sorted({end for arc in arcs for end in (arc[0], arc[-1])}):
+    for x, y in sorted({end for _, arc, _ in arcs for end in (arc[0], arc[-1])}):
         yield f'<circle cx="{x:.1f}" cy="{y:.1f}" r="4.5"/>'
-    for number, (x, y) in enumerate(map(middle, arcs)):
+    for number, (x, y) in ((number, middle(arc)) for number, arc, _ in arcs):
         yield f'<text x="{x:.1f}" y="{y:.1f}" {NUMBER} {HALO}>{number}</text>'
     yield "</svg>"
 

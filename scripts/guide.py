@@ -6,7 +6,8 @@
     scripts/guide.py --write ..          writes into docs/ what came, in the place of what stood there
 
 It needs Debian's packages gdal-bin and r-cran-rnaturalearthdata: the guide's shapefile is made of the countries that the latter has, which
-are those of Natural Earth at 1:50 million, in the public domain. They are read when the script runs, and aren't in the repository.
+are those of Natural Earth at 1:50 million, in the public domain. They are read when the script runs, and aren't in the repository. The page
+of its last section is tried in a browser by scripts/web-example.py, which needs more packages; --write takes its picture there.
 
 A block `KIND file NAME` of the guide is a file. A block `console` has commands for bash, each behind `$ `, with what each writes below it,
 standard output and standard error as they come. They run one after another in a folder with `countries.shp` and the files of examples/;
@@ -165,6 +166,9 @@ def main():
         pictures = sorted(folder.glob("guide-*.svg"))
         for picture in pictures:
             changed += keep(ROOT / "docs" / picture.name, picture.read_bytes(), words.write)
+        shot = ["--screenshot", ROOT / "docs" / "guide-web.png"] if words.write else []
+        page = [ROOT / "scripts" / "web-example.py", "--program", program, *shot, folder / "web.topojson"]
+        changed += subprocess.run(page).returncode
     print(f"guide: {guide.ran} commands, {len(pictures)} pictures, {changed} files otherwise than they stood")
     sys.exit(0 if words.write or not changed else 1)
 

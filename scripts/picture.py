@@ -102,7 +102,9 @@ def meet(frame, other):
 
 
 def are_degrees(left, low, right, high):
-    return -180 <= left and right <= 180 and -90 <= low and high <= 90
+    """Whether bounds are those of longitudes and latitudes. The last coordinate of a grid may lie a little behind the greatest one."""
+    beyond = 0.01
+    return -180 - beyond <= left and right <= 180 + beyond and -90 - beyond <= low and high <= 90 + beyond
 
 
 def picture(topology, words):

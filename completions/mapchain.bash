@@ -1,0 +1,75 @@
+# Completion of mapchain for bash; made by scripts/manual.py. A shell reads it from share/bash-completion/completions, or by `source`.
+
+# Layers of the files here that begin with a word: each under its name without the ending.
+_mapchain_layers() {
+    local file layer
+    for file in *.json *.geojson; do
+        printf -v layer %q "${file%.*}=$file"
+        if [ -f "$file" ] && [[ $layer == "$1"* ]]; then COMPREPLY+=("$layer"); fi
+    done
+}
+
+_mapchain_files() {
+    compopt -o filenames
+    mapfile -t COMPREPLY < <(compgen -f -- "$1")
+}
+
+_mapchain_words() {
+    mapfile -t COMPREPLY < <(compgen -W "$2" -- "$1")
+}
+
+_mapchain() {
+    local word=${COMP_WORDS[COMP_CWORD]} at=$((COMP_CWORD - 1)) command= i
+    COMPREPLY=()
+    for ((i = 1; i < COMP_CWORD; i++)); do
+        case ${COMP_WORDS[i]} in
+            -*) ;;
+            *) command=${COMP_WORDS[i]}; break ;;
+        esac
+    done
+    # Where = parts words, what stands behind it is a word of its own.
+    if [ "$word" = = ]; then
+        word= at=$COMP_CWORD
+    fi
+    local before=${COMP_WORDS[at]}
+    if [ "$before" = = ] && [[ ${COMP_WORDS[at-1]} == --* ]]; then
+        before=${COMP_WORDS[at-1]}
+    fi
+    case $before in
+        --grid | --keep | --min-area | --min-ring-area | --object) return ;;
+    esac
+    case $command in
+        '') _mapchain_words "$word" 'build simplify geo stat help --help' ;;
+        build)
+            case $word in
+                -*) _mapchain_words "$word" '--grid --min-area --keep --min-ring-area --exact --help' ;;
+                *)
+                    if [ "$before" = = ]; then
+                        _mapchain_files "$word"
+                    else
+                        _mapchain_layers "$word"
+                    fi
+                    ;;
+            esac
+            ;;
+        simplify)
+            case $word in
+                -*) _mapchain_words "$word" '--min-area --min-ring-area --help' ;;
+                *) _mapchain_files "$word" ;;
+            esac
+            ;;
+        geo)
+            case $word in
+                -*) _mapchain_words "$word" '--object --help' ;;
+                *) _mapchain_files "$word" ;;
+            esac
+            ;;
+        stat)
+            case $word in
+                -*) _mapchain_words "$word" '--help' ;;
+                *) _mapchain_files "$word" ;;
+            esac
+            ;;
+    esac
+}
+complete -F _mapchain mapchain

@@ -1,0 +1,24 @@
+# Completion of mapchain for fish; made by scripts/manual.py. A shell reads it from share/fish/vendor_completions.d.
+
+# Layers of the files here: each under its name without the ending.
+function __mapchain_layers
+    for file in *.json *.geojson
+        echo (string replace -r '\.[^.]*$' '' -- $file)=$file
+    end
+end
+
+complete -c mapchain -n __fish_use_subcommand -f
+complete -c mapchain -s h -l help -d 'Print help'
+complete -c mapchain -n __fish_use_subcommand -a build -d 'Build a topology from GeoJSON files'
+complete -c mapchain -n __fish_use_subcommand -a simplify -d 'Take points out of the lines of a topology'
+complete -c mapchain -n __fish_use_subcommand -a geo -d 'Decode an object of a topology to GeoJSON'
+complete -c mapchain -n __fish_use_subcommand -a stat -d 'Count what is in a topology'
+complete -c mapchain -n '__fish_seen_subcommand_from build' -l grid -x -d 'Snap positions to a grid with N cells along each axis'
+complete -c mapchain -n '__fish_seen_subcommand_from build' -l min-area -x -d 'Take out points whose triangle has less than the area A'
+complete -c mapchain -n '__fish_seen_subcommand_from build' -l keep -x -d 'Take out points, but keep at least the share P/Q of them'
+complete -c mapchain -n '__fish_seen_subcommand_from build' -l min-ring-area -x -d 'Leave out rings that enclose less than the area B'
+complete -c mapchain -n '__fish_seen_subcommand_from build' -l exact -d 'Refuse coordinates that would have to be rounded'
+complete -c mapchain -n '__fish_seen_subcommand_from build' -a '(__mapchain_layers)' -d Layer
+complete -c mapchain -n '__fish_seen_subcommand_from simplify' -l min-area -x -d 'Take out points whose triangle has less than the area A'
+complete -c mapchain -n '__fish_seen_subcommand_from simplify' -l min-ring-area -x -d 'Leave out rings that enclose less than the area B'
+complete -c mapchain -n '__fish_seen_subcommand_from geo' -l object -x -d 'The name of the object'

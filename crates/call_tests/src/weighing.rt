@@ -1,5 +1,5 @@
 // Weights, run. That each is the definition's is proved: these show that memory isn't always refused, and what the definition comes to.
-use effective_area::{Weight, weights};
+use effective_area::{Weight, weights, weights_until};
 use geojson_types::Position;
 use std::alloc::Global;
 
@@ -52,6 +52,23 @@ fn a_neighbour_weighs_what_it_grows_to(rt: HostRuntime) {
         Weight::End,
     ];
     assert!(rt; weighs(rt.alloc(), &line, &wanted));
+}
+
+// Once the first is out nothing more is taken out: the second, that would have 9, has at least as much as the first.
+#[test]
+fn a_weight_stands_for_those_behind(rt: HostRuntime) {
+    let line = [
+        Position::at(0, 0),
+        Position::at(ONE, ONE),
+        Position::at(2 * ONE, 3 * ONE),
+        Position::at(3 * ONE, 0),
+    ];
+    let first = Weight::Area(1_000_000_000_000_000_000);
+    let told = match weights_until(rt.alloc(), &line, 1) {
+        Ok(all) => all.as_slice() == [Weight::End, first, first, Weight::End].as_slice(),
+        Err(_) => false,
+    };
+    assert!(rt; told);
 }
 
 // Both have twice an area of 2. Once the first is gone the second has none, and weighs as much as the first did.

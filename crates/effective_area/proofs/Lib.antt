@@ -1,3 +1,6 @@
+pub mod EndWeights
+pub mod Stopped
+pub mod CappedShares
 pub mod ChainLaws
 pub mod Counts
 pub mod Gathered

@@ -131,7 +131,7 @@ all_in P [] c h k = elim k [ ]
 all_in P (x ∷ xs) c h (inl e) = subst P (sym e) h.0
 all_in P (x ∷ xs) c h (inr k) = all_in P xs c h.1 k
 
-no_least : (cs : List Corner) → least cs ≡ None → cs ≡ []
+pub no_least : (cs : List Corner) → least cs ≡ None → cs ≡ []
 no_least [] e = refl
 no_least (x ∷ xs) e = grind arith
 

@@ -1,10 +1,12 @@
 -- The weights of the positions that were taken out, and what is left of the others.
-use Rattle.std.proofs.Common.{◌≡◌, ◌≢◌, ℕ, zero, suc, ◌+◌, ◌-◌, ◌<◌, ◌≤◌, max, true, false, not, eqb, List, [], ◌∷◌, Some, None, length, map, get_or, set, refl, ap, sym, ◌∙◌, subst, arith, ◌⊎◌, inl, inr, ◌*◌}
+use Rattle.std.proofs.Common.{◌≡◌, ◌≢◌, ℕ, zero, suc, ◌+◌, ◌-◌, ◌<◌, ◌≤◌, max, true, false, cond, not, eqb, leb, List, [], ◌∷◌, Some, None, length, map, get_or, set, refl, ap, sym, ◌∙◌, subst, arith, ◌⊎◌, inl, inr, ◌*◌}
 use Rattle.std.specs.Prelude.{replicate, ℤ, ◌-ℤ◌, ◌*ℤ◌, unsigned_abs}
-use Rattle.std.specs.List.{All, filter, range_with_len, AllByRecursion}
+use Rattle.std.specs.List.{All, filter, range_with_len, AllByRecursion, count_by}
+use Rattle.std.proofs.lemmas.Bool.{le-leb, lt-leb, cases_lt}
 use Rattle.std.proofs.lemmas.Bool.Decides.{nat_tests}
 use Rattle.std.proofs.lemmas.Int.{ints}
 use Rattle.std.proofs.lemmas.List.{ext_get_or, get_or_default, get_or_past, get_or-set_same, get_or-set_other, length-set, length-replicate, get_or-replicate}
+use Rattle.std.proofs.lemmas.List.Sums.{sum_by-set, sum_by-le-sum_by}
 use Rattle.std.proofs.lemmas.List.FromFn.{get_or-map-range_with_len, length-map-range_with_len}
 use Rattle.geometry.specs.Areas.{twice_area, cross}
 use Rattle.geometry.specs.Lists.{In}
@@ -15,6 +17,7 @@ use Rattle.elimination_meaning.specs.Weights.{weight_from, weight}
 use Rattle.elimination_meaning.proofs.Weights.{weigh_on}
 use Rattle.effective_area.specs.declared.weight.Weight.{Weight}
 use Rattle.effective_area.specs.declared.weight.Weight.TheVariants.{End, Area}
+use Rattle.effective_area.specs.Capped.{is_within}
 use Rattle.effective_area.specs.Vertices.{origin, vertices}
 use Rattle.effective_area.specs.Weights.{told, weights_of}
 use Rattle.effective_area.proofs.ChainLaws.{same_or_not, keep_step, drop_step}
@@ -50,11 +53,38 @@ from_filter k i (v ∷ vs) h = grind (arith, same_or_not, drop_step, keep_step, 
 
 -- ---- the weights so far
 
+-- it is the weight of a position between the ends, and not over the level
+pub record IsLow (level : ℕ) (w : Weight) : Type 0 where
+  pub area : ℕ
+  pub known : w ≡ Area area
+  pub low : area ≤ level
+
+-- the weight that is set is counted
+count_more : (level area i : ℕ) (ws : List Weight) → i < length ws → get_or ws i End ≡ End → count_by (is_within level) ws + 1 ≤ count_by (is_within (max level area)) (set ws i (Area (max level area)))
+count_more level area i ws h e =
+    let before : ◌≡◌ {A = ℕ} (cond (is_within (max level area) (get_or ws i End)) 1 0) 0 = ap (λ w. cond (is_within (max level area) w) 1 0) e in
+    let here : ◌≡◌ {A = ℕ} (cond (leb (max level area) (max level area)) 1 0) 1 = ap (λ b. cond b 1 0) (le-leb (max level area) (max level area) (omega arith)) in
+    let more = sum_by-le-sum_by (λ w. cond (is_within level w) 1 0) (λ w. cond (is_within (max level area) w) 1 0) ws each in
+    omega (arith, before, here, more, sum_by-set (λ w. cond (is_within (max level area) w) 1 0) ws i (Area (max level area)) End h)
+  where
+    test : (a : ℕ) → (level < a) ⊎ (a ≤ level) → cond (leb a level) 1 0 ≤ cond (leb a (max level area)) 1 0
+    test a (inl l) = let e : ◌≡◌ {A = ℕ} (cond (leb a level) 1 0) 0 = ap (λ b. cond b 1 0) (lt-leb a level l) in omega (arith, e)
+    test a (inr l) =
+        let f : ◌≡◌ {A = ℕ} (cond (leb a level) 1 0) 1 = ap (λ b. cond b 1 0) (le-leb a level l) in
+        let g : ◌≡◌ {A = ℕ} (cond (leb a (max level area)) 1 0) 1 = ap (λ b. cond b 1 0) (le-leb a (max level area) (omega (arith, l))) in
+        omega (arith, f, g)
+
+    each : (w : Weight) → cond (is_within level w) 1 0 ≤ cond (is_within (max level area) w) 1 0
+    each End = omega arith
+    each (Area a) = test a (cases_lt level a)
+
 -- those that are present have none yet, and theirs is still to come; each of the others has its own
 pub record AreWeighed (ps : List Point) (level left : ℕ) (vs : List ℕ) (ws : List Weight) : Type 0 where
   pub size : length ws ≡ length ps
   pub present : (i : ℕ) → i < length ps → In i (0 ∷ vs) → (get_or ws i End ≡ End) × (weight ps i ≡ weight_from (left + 2) level (vertices ps (0 ∷ vs)) i)
   pub gone : (i : ℕ) → i < length ps → (In i (0 ∷ vs) → ⊥) → get_or ws i End ≡ told (weight ps i)
+  pub low : (i : ℕ) → i < length ps → (In i (0 ∷ vs) → ⊥) → IsLow level (get_or ws i End)
+  pub many : length ps ≤ count_by (is_within level) ws + left + 2
 
 -- nothing is taken out yet
 pub none_weighed : (ps : List Point) (ws : List Weight) → 2 ≤ length ps → ws ≡ replicate (length ps) End → AreWeighed ps 0 (length ps - 2) (range_with_len 1 (length ps - 1)) ws
@@ -65,6 +95,8 @@ none_weighed ps ws two e = record {
     sym (ap (λ n. weight_from n 0 (vertices ps (0 ∷ range_with_len 1 (length ps - 1))) i) fuel ∙ ap (λ n. weight_from (length ps) 0 (vertices ps (range_with_len 0 n)) i) more ∙ ap (λ vs. weight_from (length ps) 0 vs i) (all_vertices ps)),
   );
   gone = λ i h k. absurd (k (all_in i h));
+  low = λ i h k. absurd (k (all_in i h));
+  many = omega (arith, two);
 }
   where
     fuel : length ps - 2 + 2 ≡ length ps
@@ -120,8 +152,24 @@ module _ (ps : List Point) (level left : ℕ) (vs : List ℕ) (ws : List Weight)
       on (inl e) = subst (λ (j : ℕ). get_or new j End ≡ told (weight ps j)) (sym e) here
       on (inr n) = get_or-set_other ws c.index i (Area (max level c.area)) End n ∙ w.gone i h (λ k. m (still_there i k n))
 
+  low' : (i : ℕ) → i < length ps → (In i (0 ∷ rest_of) → ⊥) → IsLow (max level c.area) (get_or new i End)
+  low' i h m = on (same_or_not i c.index)
+    where
+      on : (i ≡ c.index) ⊎ (i ≢ c.index) → IsLow (max level c.area) (get_or new i End)
+      on (inl e) = record {
+        area = max level c.area;
+        known = ap (λ j. get_or new j End) e ∙ get_or-set_same ws c.index (Area (max level c.area)) End (omega (arith, w.size, within));
+        low = omega arith;
+      }
+      on (inr n) =
+          let old = w.low i h (λ k. m (still_there i k n)) in
+          record { area = old.area; known = get_or-set_other ws c.index i (Area (max level c.area)) End n ∙ old.known; low = omega (arith, old.low) }
+
+  many' : length ps ≤ count_by (is_within (max level c.area)) new + (left - 1) + 2
+  many' = omega (arith, w.many, some, count_more level c.area c.index ws (omega (arith, w.size, within)) (w.present c.index within (inr there)).0)
+
   pub weighed_on : AreWeighed ps (max level c.area) (left - 1) rest_of new
-  weighed_on = record { size = length-set ws c.index (Area (max level c.area)) ∙ w.size; present = present'; gone = gone' }
+  weighed_on = record { size = length-set ws c.index (Area (max level c.area)) ∙ w.size; present = present'; gone = gone'; low = low'; many = many' }
 
 -- no corner is left
 pub all_weighed : (ps : List Point) (level left : ℕ) (vs : List ℕ) (ws : List Weight) → AreWeighed ps level left vs ws → least (corners (vertices ps (0 ∷ vs))) ≡ None → ws ≡ weights_of ps
@@ -147,7 +195,7 @@ short_weights (p ∷ (q ∷ ps)) ws h e = absurd (omega arith)
 apart : (a b : ℤ) → unsigned_abs a ≤ position_limit → unsigned_abs b ≤ position_limit → unsigned_abs (a -ℤ b) ≤ 2 * position_limit
 apart a b p q = omega (arith, ints)
 
-area_bound : (a b c : Point) → IsPosition a → IsPosition b → IsPosition c → twice_area a b c < area_limit
+pub area_bound : (a b c : Point) → IsPosition a → IsPosition b → IsPosition c → twice_area a b c < area_limit
 area_bound a b c p q r = unfold twice_area cross in
     apart_fits ((b.x -ℤ a.x) *ℤ (c.y -ℤ a.y)) ((c.x -ℤ a.x) *ℤ (b.y -ℤ a.y))
     (product_bound (b.x -ℤ a.x) (c.y -ℤ a.y) (apart b.x a.x q.0 p.0) (apart c.y a.y r.1 p.1))

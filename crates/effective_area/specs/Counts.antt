@@ -28,3 +28,15 @@ pub record RoseBy (m n : ℕ) (old new : Steps) : Type 0 where
   pub areas_most : new.areas ≤ old.areas + m
   pub pushes_stay : old.pushes ≤ new.pushes
   pub pushes_most : new.pushes ≤ old.pushes + n
+
+-- the areas rose by this at least, unless they came to the largest `u64`
+abbrev pub AreasRose : ℕ → Steps → Steps → Type 0
+AreasRose n old new = min (old.areas + n) (2 ^ 64 - 1) ≤ new.areas
+
+-- what contracts see of a reducer that counts its steps: how often it was called, and what it did in all its calls
+pub record Counted : Type 0 where
+  pub calls : ℕ
+  pub steps : Steps
+
+abbrev pub nothing_counted : Counted
+nothing_counted = record { calls = 0; steps = no_steps }

@@ -2,7 +2,7 @@ ghost use Rattle.std.specs.Prelude.{◌≡◌, ℕ, ◌+◌, ◌-◌, ◌*◌, �
 ghost use Rattle.std.specs.BinaryHeap.{heap_items, IsHeap};
 ghost use Rattle.std.specs.List.{range_with_len};
 ghost use Rattle.std.specs.List.Sorted.{IsSorted};
-ghost use Rattle.effective_area.specs.Counts.{RoseAtMost, RoseBy, no_steps};
+ghost use Rattle.effective_area.specs.Counts.{AreasRose, RoseAtMost, RoseBy, nothing_counted};
 ghost use Rattle.effective_area.specs.Links.{AreNoted, HasCorners, IsFirst, IsLinked, IsState, rentry_cmp};
 ghost use Rattle.elimination_meaning.specs.Elimination.{reduce};
 
@@ -13,6 +13,7 @@ use crate::noting::noted_links;
 use crate::reducer::Reducer;
 use crate::steps::Steps;
 use crate::taking::take_first;
+use crate::tally::Tally;
 use crate::waiting::put_corner;
 use geometry::Position;
 use owned_values::Memory;
@@ -108,45 +109,53 @@ fn kept_by(
 
 /// A reducer that takes time n log n: of the corners under the threshold those wait in their order, stale ones among them, which go
 /// before their neighbours, and the positions that are present are linked both ways. A call raises each count of its steps by three for each position between
-/// the ends at most. Contracts see it as the steps that it did so far: nothing else is left of a call, whether it answered or
-/// not.
+/// the ends at most, and at a threshold over zero that of the areas by one or more. Contracts see it as how often it was called and
+/// the steps that it did so far: nothing else is left of a call, whether it answered or not.
 #[derive(Debug, Drop)]
 pub struct HeapLinks {
+    calls: Tally,
     steps: Steps,
 }
 
 impl Model for HeapLinks {
-    ghost use Rattle.effective_area.specs.declared.steps.Steps.{Steps};
+    ghost use Rattle.effective_area.specs.Counts.{Counted};
 
-    ghost Value = { Steps };
+    ghost Value = { Counted };
 
-    ghost view = { λ r. r.steps };
+    ghost view = { λ r. record { calls = r.calls.count; steps = r.steps } };
 }
 
 impl HeapLinks {
     /// A reducer that did nothing yet.
     pub fn new() -> HeapLinks
-        ensures { result ≡ no_steps }
+        ensures { result ≡ nothing_counted }
     {
         HeapLinks {
+            calls: Tally::none(),
             steps: Steps::none(),
         }
     }
 
     /// What it did so far.
     pub fn steps(&self) -> Steps
-        ensures { result ≡ self.now }
+        ensures { result ≡ self.now.steps }
     {
         self.steps
     }
 }
 
 impl Reducer for HeapLinks {
+    ghost calls = { λ r. r.calls };
+
     fn kept(&mut self, alloc: Global, arc: &[Position], t: u128) -> Result<Vec<usize>, Memory>
         requires { 2 ≤ length arc.now }
         ensures kept { IfOk result (λ kept. kept.items ≡ reduce t arc.now) }
-        ensures counted { RoseAtMost (3 * (length arc.now - 2)) self.old self.new }
+        ensures called { self.new.calls ≡ self.old.calls + 1 }
+        ensures counted { RoseAtMost (3 * (length arc.now - 2)) self.old.steps self.new.steps }
+        // At a threshold over zero the area at each position between the ends is computed.
+        ensures computed { 0 < t → IfOk result (λ _. AreasRose (length arc.now - 2) self.old.steps self.new.steps) }
     {
+        self.calls = self.calls.one_more();
         if t == 0 {
             return all_indexes(alloc, arc.len());
         }

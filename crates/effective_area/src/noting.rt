@@ -1,6 +1,6 @@
 ghost use Rattle.std.specs.Prelude.{◌≡◌, ℕ, ◌+◌, ◌-◌, ◌<◌, ◌≤◌, true, false, IfOk, length};
 ghost use Rattle.elimination_meaning.specs.Elimination.{is_before};
-ghost use Rattle.effective_area.specs.Counts.{RoseBy};
+ghost use Rattle.effective_area.specs.Counts.{AreasRose, RoseBy};
 ghost use Rattle.effective_area.specs.Links.{AreNoted, Fits, IsFirst, NotesArea, entry_at};
 ghost use Rattle.effective_area.specs.Links as spec;
 ghost use Rattle.effective_area.specs.Vertices.{seen};
@@ -60,6 +60,7 @@ fn area_between(
     requires after { after < length arc.now }
     ensures area { result ≡ (entry_at arc.now before index after).corner.area }
     ensures counted { RoseBy 1 0 steps.old steps.new }
+    ensures computed { AreasRose 1 steps.old steps.new }
 {
     let point = arc[index];
     twice_area(steps, arc[before], point, arc[after])
@@ -72,6 +73,7 @@ pub fn note_area(links: &mut [Link], steps: &mut Steps, arc: &[Position], index:
     requires fits { 0 < index → index + 1 < length links.old → Fits links.old (length arc.now) index }
     ensures noted { NotesArea arc.now links.old links.new index }
     ensures counted { RoseBy 1 0 steps.old steps.new }
+    ensures computed { 0 < index → index + 1 < length links.old → AreasRose 1 steps.old steps.new }
 {
     if index == 0 {
         return;
@@ -95,6 +97,7 @@ pub fn noted_links(
     ensures first { IfOk result (λ links. IsFirst links.items (length arc.now)) }
     ensures noted { IfOk result (λ links. AreNoted t arc.now links.items) }
     ensures counted { RoseBy (length arc.now - 2) 0 steps.old steps.new }
+    ensures computed { IfOk result (λ _. AreasRose (length arc.now - 2) steps.old steps.new) }
 {
     let mut links = first_links(alloc, arc.len(), t)?;
     note_all(&mut links, steps, arc);
@@ -108,6 +111,7 @@ fn note_all(links: &mut [Link], steps: &mut Steps, arc: &[Position])
     ensures first { IsFirst links.new (length arc.now) }
     ensures noted { (t : ℕ) → ((v : ℕ) → v < length arc.now → spec.area_in links.old v ≡ t) → AreNoted t arc.now links.new }
     ensures counted { RoseBy (length arc.now - 2) 0 steps.old steps.new }
+    ensures computed { AreasRose (length arc.now - 2) steps.old steps.new }
 {
     for i in 1..arc.len() - 1 {
         note_area(links, steps, arc, i);

@@ -8,9 +8,11 @@ use crate::candidate::Candidate;
 use crate::indexes::all_indexes;
 use crate::reducer::Reducer;
 use crate::steps::{Steps, twice_area};
+use crate::tally::Tally;
 use geometry::Position;
 use owned_values::Memory;
 use std::alloc::Global;
+use std::marker::Model;
 
 /// The one of two candidates that goes first.
 #[tactic(auto, unfolding(elimination_meaning::specs::Elimination::is_before))]
@@ -49,19 +51,36 @@ fn take_out(present: &mut Vec<usize>, index: usize)
 }
 
 /// A reducer that looks through all corners of the line for each position that it takes out: the plainest body of the law,
-/// in time n squared.
+/// in time n squared. Contracts see it as how often it was called: nothing else is left of a call.
 #[derive(Debug, Drop)]
-pub struct Rescan {}
+pub struct Rescan {
+    calls: Tally,
+}
+
+impl Model for Rescan {
+    ghost use Rattle.std.specs.Prelude.{ℕ};
+
+    ghost Value = { ℕ };
+
+    ghost view = { λ r. r.calls.count };
+}
 
 impl Rescan {
-    /// A reducer, which holds nothing.
-    pub fn new() -> Rescan {
-        Rescan {}
+    /// A reducer that wasn't called yet.
+    pub fn new() -> Rescan
+        ensures { result ≡ 0 }
+    {
+        Rescan {
+            calls: Tally::none(),
+        }
     }
 }
 
 impl Reducer for Rescan {
+    ghost calls = { λ calls. calls };
+
     fn kept(&mut self, alloc: Global, arc: &[Position], t: u128) -> Result<Vec<usize>, Memory> {
+        self.calls = self.calls.one_more();
         let mut steps = Steps::none();
         let mut present = all_indexes(alloc, arc.len())?;
         for _turn in 0..arc.len() {

@@ -3,6 +3,7 @@ ghost use Rattle.std.specs.List.{filter_map};
 ghost use Rattle.std.specs.List.Sorted.{IsNonDecreasing};
 ghost use Rattle.geometry.specs.Points.{Point};
 ghost use Rattle.elimination_meaning.specs.Elimination.{reduce};
+ghost use Rattle.effective_area.specs.Capped.{IsEnough};
 ghost use Rattle.effective_area.specs.Shares.{interior_weights, kept_at, share};
 ghost use Rattle.effective_area.specs.Shares as spec;
 ghost use Rattle.effective_area.specs.Weights.{weights_of};
@@ -70,6 +71,16 @@ fn least_part(count: usize, p: u64, q: u64) -> usize
     ensures least { (n : ℕ) → p * count ≤ q * n → result ≤ n }
 {
     (p as u128 * count as u128).div_ceil(q as u128) as usize
+}
+
+/// How many positions of an arc have to be weighed at most, where p / q of so many positions between the ends of arcs are to stay.
+pub fn most_weighed(count: usize, p: u64, q: u64) -> usize
+    requires positive { 0 < q }
+    requires part { p ≤ q }
+    ensures enough { IsEnough p q count result }
+    ensures least { (most : ℕ) → IsEnough p q count most → result ≤ most }
+{
+    count.saturating_sub(least_part(count, p, q).max(1) - 1)
 }
 
 /// The threshold of a share of rising weights.

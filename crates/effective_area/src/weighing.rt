@@ -5,6 +5,7 @@ ghost use Rattle.std.specs.List.Sorted.{IsSorted};
 ghost use Rattle.geometry.specs.Points.{IsPosition};
 ghost use Rattle.geometry.specs.Units.{area_limit};
 ghost use Rattle.effective_area.specs.declared.weight.Weight.TheVariants as weight;
+ghost use Rattle.effective_area.specs.Capped.{AreFilled, IsCapped, IsFoundTo, or_area};
 ghost use Rattle.effective_area.specs.Links.{IsState, rentry_cmp};
 ghost use Rattle.effective_area.specs.Weights as spec;
 
@@ -42,39 +43,64 @@ fn all_ends(alloc: Global, arc: &[Position]) -> Result<Vec<Weight>, Memory>
     Ok(all)
 }
 
-/// Takes out all positions between the ends, the first of all each time, and sets the weight of each.
+/// Takes out positions between the ends, the first of all each time, until so many are out, and sets the weight of each. It answers
+/// the greatest of them.
 fn weigh(
     sorted: &mut Vec<Reverse<Entry>>,
     heap: &mut BinaryHeap<Reverse<Entry>>,
     arc: &[Position],
     links: &mut [Link],
     weights: &mut [Weight],
-) -> Result<(), Memory>
+    most: usize,
+) -> Result<u128, Memory>
     requires two { 2 ≤ length arc.now }
     requires sorted { IsSorted rentry_cmp sorted.old.items }
     requires order { IsHeap rentry_cmp (heap_items heap.old) }
     requires state { IsState area_limit arc.now links.old (sorted.old.items ++ heap_items heap.old) (length arc.now - 2) (range_with_len 1 (length arc.now - 1)) }
     requires within { All IsPosition arc.now }
     requires ends { weights.old ≡ replicate (length arc.now) weight.End }
-    ensures { OnOk result (weights.new ≡ spec.weights_of arc.now) }
+    ensures { IfOk result (λ level. IsFoundTo most level (spec.weights_of arc.now) weights.new) }
 {
     let mut steps = Steps::none();
     let mut level: u128 = 0;
     let mut left = arc.len() - 2;
-    'corners: while let Some(corner) = take_first(
-        sorted, heap, &mut steps, arc, links, AREA_LIMIT,
-    )? {
+    let stop = left.saturating_sub(most);
+    'corners: while left > stop {
+        let Some(corner) = take_first(sorted, heap, &mut steps, arc, links, AREA_LIMIT)? else {
+            return Ok(level);
+        };
         level = level.max(corner.area);
         weights[corner.index] = Weight::Area(level);
         left -= 1;
     }
-    Ok(())
+    Ok(level)
 }
 
-/// The weight of each position of a line (Visvalingam and Whyatt 1993), in time n log n: a reducer keeps at a threshold the ends
-/// and the positions whose weight isn't under it. Of fewer than two positions each is an end.
-pub fn weights(alloc: Global, arc: &[Position]) -> Result<Vec<Weight>, Memory>
-    ensures { IfOk result (λ weights. weights.items ≡ spec.weights_of arc.now) }
+/// This weight, or the level for that of an end.
+fn or_level(weight: Weight, level: u128) -> Weight
+    ensures { result ≡ or_area level weight }
+{
+    match weight {
+        Weight::End => Weight::Area(level),
+        known => known,
+    }
+}
+
+/// Gives the positions between the ends of a line that have no weight yet the level.
+fn fill(weights: &mut [Weight], level: u128)
+    requires two { 2 ≤ length weights.old }
+    ensures { AreFilled level weights.old weights.new }
+{
+    'positions: for i in 1..weights.len() - 1 {
+        weights[i] = or_level(weights[i], level);
+    }
+}
+
+/// The weight of each position of a line as `weights` has it, up to a level: once so many positions are taken out, the greatest weight
+/// of these stands for the weights of all others between the ends, which are no less. In time n log n.
+#[tactic(auto, using(crate::proofs::Stopped::filled))]
+pub fn weights_until(alloc: Global, arc: &[Position], most: usize) -> Result<Vec<Weight>, Memory>
+    ensures { IfOk result (λ weights. IsCapped most (spec.weights_of arc.now) weights.items) }
 {
     let mut weights = all_ends(alloc, arc)?;
     if arc.len() < 2 {
@@ -84,6 +110,15 @@ pub fn weights(alloc: Global, arc: &[Position]) -> Result<Vec<Weight>, Memory>
     let mut links = noted_links(alloc, &mut steps, arc, AREA_LIMIT)?;
     let mut sorted = sorted_entries(alloc, &mut steps, arc, &links, AREA_LIMIT)?;
     let mut heap = BinaryHeap::new(alloc);
-    weigh(&mut sorted, &mut heap, arc, &mut links, &mut weights)?;
+    let level = weigh(&mut sorted, &mut heap, arc, &mut links, &mut weights, most)?;
+    fill(&mut weights, level);
     Ok(weights)
+}
+
+/// The weight of each position of a line (Visvalingam and Whyatt 1993), in time n log n: a reducer keeps at a threshold the ends
+/// and the positions whose weight isn't under it. Of fewer than two positions each is an end.
+pub fn weights(alloc: Global, arc: &[Position]) -> Result<Vec<Weight>, Memory>
+    ensures { IfOk result (λ weights. weights.items ≡ spec.weights_of arc.now) }
+{
+    weights_until(alloc, arc, arc.len() + 1)
 }

@@ -10,7 +10,7 @@ use Rattle.lessened_topology.specs.Assembled.{arc_indexes, arcs_of_layers}
 use Rattle.lessened_topology.specs.Laws.{ArcIndexesReach}
 use Rattle.lessened_topology.specs.Lessened.{EachFromFirstToLast}
 use Rattle.linework.specs.Linework.{linework}
-use Rattle.layer_topology.specs.Levels.{chosen_at, threshold_at}
+use Rattle.layer_topology.specs.Levels.{calls_at, chosen_at, threshold_at}
 use Rattle.layer_topology.specs.declared.level.Level.{Level}
 
 module _ (ls : Named) (table : ArcsAndIndexes) (is : table ≡ table_of (map (split_of (linework (layers_of ls))) (linework (layers_of ls)))) where
@@ -20,6 +20,10 @@ module _ (ls : Named) (table : ArcsAndIndexes) (is : table ≡ table_of (map (sp
   -- so are their thresholds at a level
   pub chosen_over : (level : Level) → chosen_at level table.arcs ≡ chosen_at level (arcs_of_layers ls)
   chosen_over level = ap (chosen_at level) table_arcs
+
+  -- and how often a reducer is called for them
+  pub calls_over : (level : Level) → calls_at level table.arcs ≡ calls_at level (arcs_of_layers ls)
+  calls_over level = ap (calls_at level) table_arcs
 
   module _ (t : ℕ) (kept : List (List ℕ)) (reduced : kept ≡ map (reduce t) table.arcs) where
     -- the indexes that stay are those of the layers' arcs

@@ -1,5 +1,5 @@
 -- How much of the detail of the arcs stays.
-use Rattle.std.specs.Prelude.{ℕ, ◌^◌, Bool, ◌&&◌, nat_le, List, map, Option, None, Some}
+use Rattle.std.specs.Prelude.{ℕ, ◌^◌, Bool, ◌&&◌, nat_le, List, length, map, Option, None, Some}
 use Rattle.build_meaning.specs.Layers.{Named}
 use Rattle.effective_area.specs.Shares.{interior_weights, share}
 use Rattle.effective_area.specs.Weights.{weights_of}
@@ -31,3 +31,11 @@ level_threshold count level ls = threshold_at level (arcs_of_layers (snapped_to 
 
 abbrev pub level_chosen : Option ℕ → Level → Named → Option ℕ
 level_chosen count level ls = chosen_at level (arcs_of_layers (snapped_to count ls))
+
+-- how often a reducer is called for these arcs: once for each, but never at a share, for which each arc is weighed once in place of that
+abbrev pub calls_at : Level → List (List Point) → ℕ
+calls_at (Fixed t) arcs = length arcs
+calls_at (Share p q) arcs = 0
+
+abbrev pub level_calls : Option ℕ → Level → Named → ℕ
+level_calls count level ls = calls_at level (arcs_of_layers (snapped_to count ls))

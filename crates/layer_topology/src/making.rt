@@ -1,5 +1,5 @@
 // Making the topology of layers.
-ghost use Rattle.std.specs.Prelude.{◌≡◌, ◌<◌, ◌≤◌, ◌^◌, IfOk, length, map, true};
+ghost use Rattle.std.specs.Prelude.{◌≡◌, ◌+◌, ◌<◌, ◌≤◌, ◌^◌, IfOk, length, map, true};
 ghost use Rattle.arc_table.specs.Arcs.{table_of};
 ghost use Rattle.build_meaning.specs.Built.{built, taken_out};
 ghost use Rattle.build_meaning.specs.Expected.{expected_dropped};
@@ -9,7 +9,7 @@ ghost use Rattle.byte_ends.specs.Ends.{saturated};
 ghost use Rattle.cutter.specs.Slices.{split_of};
 ghost use Rattle.geometry.specs.Units.{threshold_limit};
 ghost use Rattle.grid_meaning.specs.Gridded.{AreInputs, IsCount, named_grid};
-ghost use Rattle.layer_topology.specs.Levels.{chosen_at, is_level, level_chosen, level_threshold, threshold_at};
+ghost use Rattle.layer_topology.specs.Levels.{calls_at, chosen_at, is_level, level_calls, level_chosen, level_threshold, threshold_at};
 ghost use Rattle.layer_topology.specs.Written.{AreTaken, snapped_to, written};
 ghost use Rattle.lessened_topology.specs.Assembled.{arcs_of_layers};
 ghost use Rattle.linework.specs.Linework.{linework};
@@ -61,6 +61,7 @@ fn reduced_topology<Q: Reducer>(
     ensures dropped { IfOk result (λ r. r.1.items ≡ expected_dropped (threshold_at level (arcs_of_layers layers.items)) ring_limit layers.items) }
     ensures taken_out { IfOk result (λ r. r.2 ≡ saturated (taken_out (threshold_at level (arcs_of_layers layers.items)) ring_limit layers.items)) }
     ensures chosen { IfOk result (λ r. r.3 ≡ chosen_at level (arcs_of_layers layers.items)) }
+    ensures called { IfOk result (λ _. Q.calls reducer.new ≡ Q.calls reducer.old + calls_at level (arcs_of_layers layers.items)) }
     ensures few { IfOk result (λ r. length r.0.arcs < 2 ^ 63) }
 {
     arc_indexes_reach();
@@ -108,6 +109,7 @@ pub fn topology_of_layers<Q: Reducer>(
     ensures dropped { IfOk result (λ r. r.1.items ≡ expected_dropped (level_threshold grid level layers.items) ring_limit (snapped_to grid layers.items)) }
     ensures taken_out { IfOk result (λ r. r.2 ≡ saturated (taken_out (level_threshold grid level layers.items) ring_limit (snapped_to grid layers.items))) }
     ensures chosen { IfOk result (λ r. r.3 ≡ level_chosen grid level layers.items) }
+    ensures called { IfOk result (λ _. Q.calls reducer.new ≡ Q.calls reducer.old + level_calls grid level layers.items) }
     ensures few { IfOk result (λ r. length r.0.arcs < 2 ^ 63) }
 {
     snapped_are_on();

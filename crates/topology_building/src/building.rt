@@ -4,7 +4,7 @@ ghost use Rattle.std.specs.Prelude.{◌≡◌, ◌⊎◌, None, Some, IfOk, IfEr
 ghost use Rattle.json_value.specs.Text.{json_text};
 ghost use Rattle.topojson_types.specs.Values.{topology_value};
 ghost use Rattle.topology_building.specs.Building as spec;
-ghost use Rattle.topology_building.specs.Building.{BuildingLaws, IsBuilt, IsLateFault, Sends};
+ghost use Rattle.topology_building.specs.Building.{BuildingLaws, CallsForLayers, IsBuilt, IsLateFault, Sends};
 ghost use Rattle.layer_sources.specs.Names.{name_fault};
 ghost use Rattle.layer_sources.specs.Outcomes.{ComesTo, HaveBytesFor, Outcome, Texts};
 ghost use Rattle.topology_building.specs.Outcomes.{Follows};
@@ -54,6 +54,7 @@ fn build_layers<Q: Reducer, R: Feed, W: Drain>(
     requires names { name_fault (map (λ s. s.0) sources.old) ≡ None }
     requires texts { AllByRecursion IsUtf8 (map (λ s. s.0) sources.old) }
     ensures built { IfOk result (λ report. IsBuilt options.now sources.old sources.new sink.old sink.new report) }
+    ensures reduced { IfOk result (λ _. CallsForLayers options.now sources.old sources.new (Q.calls reducer.old) (Q.calls reducer.new)) }
     ensures refused { IfErr result (λ e. IsLateFault options.now sources.old sources.new sink.old sink.new e) }
 {
     building_laws();
@@ -93,6 +94,8 @@ pub fn build<Q: Reducer, R: Feed, W: Drain>(
     // starts, without what is dropped, as rings that enclose less than is asked for. The report tells just what is dropped, and before
     // reduction each segment of the lines lies once, in exactly one arc.
     ensures built { IfOk result (λ report. IsBuilt options.now sources.old sources.new sink.old sink.new report) }
+    // The reducer was called once for each arc of all lines, or never where a share is asked for: each arc is weighed once in place of that.
+    ensures reduced { IfOk result (λ _. CallsForLayers options.now sources.old sources.new (Q.calls reducer.old) (Q.calls reducer.new)) }
     // Every other fault is one that the sources or their bytes have, or a prefix of that text was written.
     ensures refused { IfErr result (λ e. (name_fault (map (λ s. s.0) sources.old) ≡ Some e)
         ⊎ IsLateFault options.now sources.old sources.new sink.old sink.new e) }

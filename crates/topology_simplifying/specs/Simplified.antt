@@ -1,5 +1,5 @@
 -- What `simplify` answers, reads and writes.
-use Rattle.std.specs.Prelude.{◌≡◌, ℕ, true, List, length, None, IsUtf8}
+use Rattle.std.specs.Prelude.{◌≡◌, ℕ, ◌+◌, true, List, length, None, IsUtf8}
 use Rattle.byte_ends.specs.Ends.{Fed, Drained, Takes, saturated}
 use Rattle.byte_ends.specs.Writes.{WritesFront}
 use Rattle.geojson_types.specs.declared.counts.Counts.{Counts}
@@ -33,6 +33,14 @@ pub record IsLessened (t limit : ℕ) (old new : Fed) (less : Contents) (report 
   pub read : IsTopologyRead old new contents counts
   pub left : less ≡ lessened t limit contents
   pub told : report ≡ report_of t limit contents counts
+
+-- the source was read to its end, its bytes spell a topology, and a reducer that was called so often before was called once for each
+-- of its arcs since
+pub record CallsForTopology (old new : Fed) (before after : ℕ) : Type 0 where
+  pub contents : Contents
+  pub counts : Counts
+  pub read : IsTopologyRead old new contents counts
+  pub called : after ≡ before + length contents.arcs
 
 -- the source was read to its end, its bytes spell a topology, the text of what is left of it is UTF-8, the sink took the whole of
 -- it and passed it on, and this is its report

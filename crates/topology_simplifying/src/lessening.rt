@@ -1,5 +1,5 @@
 // Reducing the arcs of a topology that was read.
-ghost use Rattle.std.specs.Prelude.{◌≡◌, ◌≤◌, IfOk, map};
+ghost use Rattle.std.specs.Prelude.{◌≡◌, ◌+◌, ◌≤◌, IfOk, length, map};
 ghost use Rattle.std.specs.List.{AllByRecursion};
 ghost use Rattle.std.specs.Option.{option_copied};
 ghost use Rattle.elimination_meaning.specs.Elimination.{reduce};
@@ -28,7 +28,8 @@ fn kept_cells<Q: Reducer>(
     t: u128,
 ) -> Result<Vec<usize>, Memory>
     requires { IsArc (option_copied transform) cells.now }
-    ensures { IfOk result (λ kept. kept.items ≡ reduce t (placed_cells (option_copied transform.entry) cells.now)) }
+    ensures kept { IfOk result (λ kept. kept.items ≡ reduce t (placed_cells (option_copied transform.entry) cells.now)) }
+    ensures called { IfOk result (λ _. Q.calls reducer.new ≡ Q.calls reducer.old + 1) }
 {
     let line = positions(alloc, transform, cells)?;
     let kept = reducer.kept(alloc, line.as_slice(), t)?;
@@ -44,7 +45,8 @@ fn kept_indexes<Q: Reducer>(
     t: u128,
 ) -> Result<Vec<Vec<usize>>, Memory>
     requires { AllByRecursion (IsArc (option_copied transform)) arcs.now }
-    ensures { IfOk result (λ kept. map (λ k. k.items) kept.items ≡ map (λ cells. reduce t (placed_cells (option_copied transform.entry) cells)) arcs.now) }
+    ensures kept { IfOk result (λ kept. map (λ k. k.items) kept.items ≡ map (λ cells. reduce t (placed_cells (option_copied transform.entry) cells)) arcs.now) }
+    ensures called { IfOk result (λ _. Q.calls reducer.new ≡ Q.calls reducer.old + length arcs.now) }
 {
     let mut kept = Vec::with_capacity(alloc, arcs.len())?;
     'arcs: for arc in arcs {
@@ -65,7 +67,8 @@ pub fn lessen<Q: Reducer>(
     ring_limit: u128,
 ) -> Result<(Topology, Report), Memory>
     requires { ring_limit ≤ threshold_limit }
-    ensures { IfOk result (λ r. (r.0 ≡ lessened t ring_limit topology) × (r.1 ≡ spec.report_of t ring_limit topology counts)) }
+    ensures left { IfOk result (λ r. (r.0 ≡ lessened t ring_limit topology) × (r.1 ≡ spec.report_of t ring_limit topology counts)) }
+    ensures called { IfOk result (λ _. Q.calls reducer.new ≡ Q.calls reducer.old + length topology.arcs) }
 {
     indexes_reach();
     let kept = kept_indexes(alloc, reducer, topology.transform(), topology.arcs(), t)?;

@@ -9,7 +9,7 @@ ghost use Rattle.topology_files.specs.FileOutcomes.{FileComesTo};
 ghost use Rattle.topology_files.specs.Files.{FailsToGive};
 ghost use Rattle.topology_files.specs.Geo.{SendsText};
 ghost use Rattle.topology_simplifying.specs.Outcomes.{FollowsSimplified, simplified};
-ghost use Rattle.topology_simplifying.specs.Simplified.{IsLessened, IsSimplified, IsSimplifyFault};
+ghost use Rattle.topology_simplifying.specs.Simplified.{CallsForTopology, IsLessened, IsSimplified, IsSimplifyFault};
 
 use crate::laws::lessened_text_is_utf8;
 use crate::lessening::lessen;
@@ -33,6 +33,7 @@ fn read_lessened<Q: Reducer, R: Feed>(
 ) -> Result<(Topology, Report), FileFault>
     requires { ring_limit ≤ threshold_limit }
     ensures given { IfOk result (λ r. IsLessened t ring_limit source.old source.new r.0 r.1) }
+    ensures reduced { IfOk result (λ _. CallsForTopology source.old source.new (Q.calls reducer.old) (Q.calls reducer.new)) }
     ensures refused { IfErr result (λ e. FailsToGive source.old source.new e) }
 {
     let (topology, counts) = read_file(alloc, source)?;
@@ -69,6 +70,8 @@ pub fn simplify<Q: Reducer, R: Feed, W: Drain>(
     requires { ring_limit ≤ threshold_limit }
     // The bytes spell a topology, what was written is the text of what is left of it, which is UTF-8, and the report is that of it.
     ensures written { IfOk result (λ report. IsSimplified t ring_limit source.old source.new sink.old sink.new report) }
+    // The reducer was called once for each arc of the topology that was read.
+    ensures reduced { IfOk result (λ _. CallsForTopology source.old source.new (Q.calls reducer.old) (Q.calls reducer.new)) }
     // Every fault is one that the source or its bytes have, or a prefix of that text was written.
     ensures refused { IfErr result (λ e. IsSimplifyFault t ring_limit source.old source.new sink.old sink.new e) }
     // And the other way round: what the bytes of the source come to is answered, unless memory, the source or the sink failed.

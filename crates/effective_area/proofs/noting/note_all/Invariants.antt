@@ -1,5 +1,5 @@
 use Rattle.std.proofs.Common.{◌-◌}
-use Rattle.effective_area.specs.Counts.{RoseBy}
+use Rattle.effective_area.specs.Counts.{AreasRose, RoseBy}
 use Rattle.effective_area.proofs.LinkLaws.{NotedTo}
 use Rattle.effective_area.proofs.noting.note_all.Given as goal
 
@@ -7,5 +7,6 @@ use Rattle.effective_area.proofs.noting.note_all.Given as goal
 abbrev pub invariant-loop-i : goal.invariant-loop-i
 invariant-loop-i l = record {
   counted : RoseBy (l.i - 1) 0 l.fn.steps l.steps;
+  computed : AreasRose (l.i - 1) l.fn.steps l.steps;
   noted : NotedTo l.arc l.fn.links l.links l.i;
 }

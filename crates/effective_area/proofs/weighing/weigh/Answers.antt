@@ -1,10 +1,11 @@
-use Rattle.std.proofs.Common.{arith, ℕ, ◌-◌, ◌++◌, set, subst, sym, not, eqb}
+use Rattle.std.proofs.Common.{arith, inl, ℕ, ◌-◌, ◌++◌, set, subst, sym, not, eqb}
 use Rattle.std.specs.BinaryHeap.{heap_items}
 use Rattle.std.specs.List.{filter}
 use Rattle.effective_area.specs.declared.weight.Weight.TheVariants.{Area}
 use Rattle.effective_area.specs.Links.{IsTakenOut, TakesFirst}
 use Rattle.effective_area.specs.Vertices.{seen}
 use Rattle.geometry.specs.Units.{area_limit}
+use Rattle.effective_area.proofs.Stopped.{found, stopped}
 use Rattle.effective_area.proofs.Weighed.{AreWeighed, none_weighed, weighed_on, all_weighed, none_over}
 use Rattle.effective_area.proofs.weighing.weigh.Goals as goal
 
@@ -29,9 +30,17 @@ corners-preserved c =
       );
     }
 
-pub returns : goal.returns
-returns c =
+pub returns-in_default : goal.returns-in_default
+returns-in_default c =
     let s = c.corners.invariant.state in
     let items = c.take_first.new.sorted.items ++ heap_items c.take_first.new.heap in
     let none = subst (λ o. TakesFirst area_limit c.args.arc.now c.take_first.new.links items c.corners.left s.0 o) c.in_default.is (c.in_ok-corner.ensures.taken c.corners.left s.0 s.1) in
-    all_weighed c.args.arc.now c.corners.level c.corners.left s.0 c.corners.weights s.2 (none_over c.args.arc.now s.0 c.requires.within none.1)
+    found c.args.arc.now c.corners.links c.corners.level c.corners.left s.0 c.corners.weights c.requires.two c.requires.within s.1.linked s.1.size s.2 c.args.most
+    (inl (all_weighed c.args.arc.now c.corners.level c.corners.left s.0 c.corners.weights s.2 (none_over c.args.arc.now s.0 c.requires.within none.1)))
+
+pub returns : goal.returns
+returns c =
+    let s = c.corners.invariant.state in
+    found c.args.arc.now c.corners.links c.corners.level c.corners.left s.0 c.corners.weights c.requires.two c.requires.within s.1.linked s.1.size s.2 c.args.most
+    (stopped c.args.arc.now c.corners.links c.corners.level c.corners.left s.0 c.corners.weights c.requires.two c.requires.within s.1.linked s.1.size s.2 c.args.most s.1.many
+    (omega (arith, c.corners-test.false, c.saturating_sub-stop.ensures)))

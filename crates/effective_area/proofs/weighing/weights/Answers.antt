@@ -1,5 +1,12 @@
-use Rattle.effective_area.proofs.Weighed.{short_weights}
+use Rattle.std.proofs.Common.{◌≡◌, ◌+◌, arith, length}
+use Rattle.effective_area.specs.Capped.{IsCapped}
+use Rattle.effective_area.specs.Weights.{weights_of}
+use Rattle.effective_area.proofs.Stopped.{all_told}
+use Rattle.effective_area.proofs.Turns.{ok_also}
 use Rattle.effective_area.proofs.weighing.weights.Goals as goal
 
-pub returns-then-arc-lt2 : goal.returns-then-arc-lt2
-returns-then-arc-lt2 c = short_weights c.args.arc.now c.in_ok-weights.weights.items c.if-arc-lt2.true c.in_ok-weights.ensures.ends
+pub returns : goal.returns
+returns c =
+    let arc = c.args.arc.now in
+    ok_also (λ w. IsCapped (length arc + 1) (weights_of arc) w.items) (λ w. w.items ≡ weights_of arc) c.weights_until.result
+    (λ w h. all_told (length arc + 1) arc w.items (omega arith) h) c.weights_until.ensures

@@ -1,10 +1,27 @@
-use Rattle.std.proofs.Common.{◌∙◌}
+use Rattle.std.proofs.Common.{◌≡◌, ◌∙◌, ℕ, ◌≤◌, length, map, subst, sym}
 use Rattle.std.proofs.lemmas.List.{take_all}
-use Rattle.layer_topology.proofs.Chosen.{all_are_reduced}
+use Rattle.effective_area.specs.Shares.{interior_weights, kept_at}
+use Rattle.effective_area.specs.Weights.{weights_of}
+use Rattle.layer_topology.proofs.Chosen.{all_are_reduced, between_ends}
 use Rattle.layer_topology.proofs.choosing.shared_out_arcs.Goals as goal
 
 pub returns-clause-kept : goal.returns-clause-kept
 returns-clause-kept c =
+    let arcs = c.args.table.now.arcs in
+    let lines = map weights_of arcs in
+    let capped = map (λ w. w.items) c.in_ok-all.all.items in
+    let chosen = rw c.deref.ensures.value at c.in_ok-threshold.ensures in
+    let law = c.capped_is_enough.ensures c.args.p c.args.q c.in_ok-count.count c.most_weighed-most.result lines capped c.requires.part (subst (λ (n : ℕ). length (interior_weights lines) ≤ n) (sym c.in_ok-count.ensures) (between_ends arcs)) c.most_weighed-most.ensures.enough c.in_ok-all.ensures in
     let whole = rw (take_all _ _ c.arcs-test.false) at c.arcs.invariant in
+    let same = subst (λ (t : ℕ). map (kept_at t) capped ≡ map (kept_at t) lines) (sym (chosen ∙ law.0)) law.1 in
     (rw c.as_slice-arc-items.ensures.value at whole)
-    ∙ all_are_reduced (λ w. w.items) c.in_ok-threshold.threshold c.kept_at_is_reduced.ensures c.in_ok-all.all.items c.args.table.now.arcs c.in_ok-all.ensures
+    ∙ all_are_reduced (λ w. w.items) c.in_ok-threshold.threshold c.kept_at_is_reduced.ensures c.in_ok-all.all.items arcs same
+
+pub returns-clause-chosen : goal.returns-clause-chosen
+returns-clause-chosen c =
+    let arcs = c.args.table.now.arcs in
+    let lines = map weights_of arcs in
+    let capped = map (λ w. w.items) c.in_ok-all.all.items in
+    let chosen = rw c.deref.ensures.value at c.in_ok-threshold.ensures in
+    let law = c.capped_is_enough.ensures c.args.p c.args.q c.in_ok-count.count c.most_weighed-most.result lines capped c.requires.part (subst (λ (n : ℕ). length (interior_weights lines) ≤ n) (sym c.in_ok-count.ensures) (between_ends arcs)) c.most_weighed-most.ensures.enough c.in_ok-all.ensures in
+    chosen ∙ law.0

@@ -1,7 +1,7 @@
-use Rattle.std.proofs.Common.{◌∙◌, ap, map}
+use Rattle.std.proofs.Common.{◌+◌, ◌∙◌, ap, map}
 use Rattle.byte_ends.specs.Ends.{saturated}
 use Rattle.lessened_topology.specs.Assembled.{arcs_of_layers, assembled, assembled_dropped, assembled_taken_out}
-use Rattle.layer_topology.proofs.Made.{chosen_over, level_indexes, level_reaches}
+use Rattle.layer_topology.proofs.Made.{calls_over, chosen_over, level_indexes, level_reaches}
 use Rattle.layer_topology.specs.Levels.{threshold_at}
 use Rattle.layer_topology.proofs.making.reduced_topology.Goals as goal
 
@@ -35,3 +35,8 @@ returns-clause-taken_out g c =
 
 pub returns-clause-chosen : goal.returns-clause-chosen
 returns-clause-chosen g c = c.in_ok-kept.ensures.chosen ∙ chosen_over c.args.layers.items c.in_ok-table.table (rw c.deref.ensures.value at c.in_ok-table.ensures) c.args.level
+
+pub returns-clause-called : goal.returns-clause-called
+returns-clause-called g c =
+    c.in_ok-kept.ensures.called
+    ∙ ap (λ n. g.Q.Reducer.calls c.args.reducer.now + n) (calls_over c.args.layers.items c.in_ok-table.table (rw c.deref.ensures.value at c.in_ok-table.ensures) c.args.level)

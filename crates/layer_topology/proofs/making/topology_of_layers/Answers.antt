@@ -1,6 +1,6 @@
-use Rattle.std.proofs.Common.{◌≡◌, subst}
+use Rattle.std.proofs.Common.{◌≡◌, ◌+◌, ◌∙◌, ap, subst}
 use Rattle.build_meaning.specs.Built.{built}
-use Rattle.layer_topology.specs.Levels.{level_threshold, threshold_at}
+use Rattle.layer_topology.specs.Levels.{calls_at, level_threshold, threshold_at}
 use Rattle.lessened_topology.specs.Assembled.{arcs_of_layers}
 use Rattle.layer_topology.proofs.Laid.{as_written, cells_on, plain}
 use Rattle.layer_topology.proofs.making.topology_of_layers.Goals as goal
@@ -21,3 +21,7 @@ returns-clause-topology g c =
     let made : c.in_ok-topology.topology ≡ built (level_threshold c.args.grid c.args.level c.args.layers.items) c.args.ring_limit c.snapped_layers-snapped.result.0.items =
     subst (λ ls. c.in_ok-topology.topology ≡ built (threshold_at c.args.level (arcs_of_layers ls)) c.args.ring_limit c.snapped_layers-snapped.result.0.items) e.snapped c.in_ok-topology.ensures.topology in
     as_written c.args.grid _ c.args.ring_limit c.args.layers.items _ _ _ e.grid e.snapped made _ c.in_ok-topology-2.ensures
+
+pub returns-clause-called : goal.returns-clause-called
+returns-clause-called g c =
+    c.in_ok-topology.ensures.called ∙ ap (λ ls. g.Q.Reducer.calls c.args.reducer.now + calls_at c.args.level (arcs_of_layers ls)) c.snapped_layers-snapped.ensures.snapped

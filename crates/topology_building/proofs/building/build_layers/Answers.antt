@@ -64,3 +64,8 @@ returns-clause-built g c =
     (saturated (taken_out (threshold_for o ls) o.ring_limit (snapped_for o ls))) t) c.in_ok-topology.ensures.chosen
     ∙ ap (λ n. report_with n (expected_dropped (threshold_for o ls) o.ring_limit (snapped_for o ls)) (written_for o ls).arcs
     (saturated (taken_out (threshold_for o ls) o.ring_limit (snapped_for o ls))) (chosen_for o ls)) r.2)
+
+pub returns-clause-reduced : goal.returns-clause-reduced
+returns-clause-reduced g c =
+    let r = c.in_ok-layers.ensures in
+    record { layers = c.in_ok-layers.layers.items; counts = r.0; read = r.1; called = c.in_ok-topology.ensures.called }

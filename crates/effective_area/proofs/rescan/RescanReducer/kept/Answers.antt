@@ -8,8 +8,8 @@ use Rattle.effective_area.proofs.rescan.RescanReducer.kept.Goals.{in_default-via
 pub loop-turn-init : goal.loop-turn-init
 loop-turn-init c = grind (arith, all_inside, start_rest)
 
-pub returns-in_default : goal.returns-in_default
-returns-in_default c = grind (arith, stop_over, stop_none)
+pub returns-in_default-clause-kept : goal.returns-in_default-clause-kept
+returns-in_default-clause-kept c = grind (arith, stop_over, stop_none)
 
 pub loop-turn-preserved : goal.loop-turn-preserved
 loop-turn-preserved c = record {
@@ -17,5 +17,5 @@ loop-turn-preserved c = record {
   rest = turn_rest c.args.t c.loop-turn._turn c.args.arc.now c.loop-turn.present.items c.deref.result.now c.take_out.new.present.items (seen c.in-Some.corner) c.loop-turn-test.true c.deref.ensures.value c.in-Some.ensures c.if-corner-t.true c.take_out.ensures c.loop-turn.invariant.rest;
 }
 
-pub returns : goal.returns
-returns c = stop_end c.args.t c.loop-turn._turn c.args.arc.now c.loop-turn.present.items c.loop-turn-test.false c.loop-turn.invariant.rest
+pub returns-clause-kept : goal.returns-clause-kept
+returns-clause-kept c = stop_end c.args.t c.loop-turn._turn c.args.arc.now c.loop-turn.present.items c.loop-turn-test.false c.loop-turn.invariant.rest

@@ -1,5 +1,6 @@
 // Files in memory.
-ghost use Rattle.std.specs.Prelude.{◌≡◌, IfSome};
+ghost use Rattle.std.specs.Prelude.{◌≡◌, IfNone, IfSome, None};
+ghost use Rattle.std.specs.Option.{option_map};
 
 use crate::devices::{Damage, Devices};
 use byte_ends::devices::{CutReader, Fault};
@@ -20,6 +21,8 @@ pub(crate) struct MemoryFiles {
 }
 
 impl MemoryFiles {
+    ghost use Rattle.example_pages.specs.Held.{held};
+
     pub(crate) fn new(alloc: Global) -> MemoryFiles {
         MemoryFiles {
             entries: Vec::new(alloc),
@@ -39,9 +42,11 @@ impl MemoryFiles {
     }
 
     /// The bytes of the file of this name: of the last one.
-    pub(crate) fn bytes(&self, name: &str) -> Option<&[u8]> {
+    pub(crate) fn bytes(&self, name: &str) -> Option<&[u8]>
+        ensures { option_map (λ b. b.now) result ≡ held self.now.entries.items name.now }
+    {
         let mut found = None;
-        for entry in &self.entries {
+        'entries: for entry in &self.entries {
             if entry.name.as_str() == name {
                 found = Some(entry.bytes.as_slice());
             }
@@ -59,9 +64,14 @@ pub struct LentFiles<'a> {
 }
 
 impl<'a> LentFiles<'a> {
+    ghost use Rattle.example_pages.specs.Held.{lent};
+
     /// The file of this name from its first byte on, if the page has it.
     pub fn open(&self, path: &str) -> Option<Source<FromRead<CutReader<'a>>>>
-        ensures { IfSome result (λ source. source.failures ≡ 0) }
+        ensures bytes { IfSome result (λ source. source.left ≡ lent self.now path.now) }
+        ensures sound { IfSome result (λ source. source.failures ≡ 0) }
+        ensures unread { IfSome result (λ source. (source.giving_reads ≡ 0) × (source.empty_reads ≡ 0)) }
+        ensures absent { IfNone result (lent self.now path.now ≡ None) }
     {
         let damage = self.damage;
         let whole = self.files.bytes(path)?;

@@ -21,23 +21,27 @@ max_input = 10 ^ 9
 abbrev pub AreLeft : Fed → List ℕ → Type 0
 AreLeft source bytes = IfSome source.left (λ left. bytes ≡ left)
 
--- the source has no failure more, and gave no more bytes than an input may have
+-- the source has no failure more, gave no more bytes than an input may have, in no more reads than bytes, and was found at its end once
+-- at most
 pub record IsUntroubled (old new : Fed) : Type 0 where
   pub sound : new.failures ≡ old.failures
   pub within : GaveAtMost max_input old new
+  pub ended : new.empty_reads ≤ old.empty_reads + 1
 
--- the source was read to its end without a failure, and had no more bytes than an input may have
+-- the source was read to its end without a failure, found there by one read alone, and had no more bytes than an input may have
 pub record IsRead (old new : Fed) (bytes : List ℕ) : Type 0 where
   pub all : AreLeft old bytes
   pub end : IsAtEnd new.left
   pub short : length bytes ≤ max_input
+  pub once : new.empty_reads ≡ saturated (old.empty_reads + 1)
   pub untroubled : IsUntroubled old new
 
 -- Why the source wasn't read to its end: its device failed when it had given no more bytes than an input may have, or it had more of
--- them left, and gave at most a block past these.
+-- them left, and gave at most a block past these. Each read before that gave bytes.
 abbrev pub FailsToEnd : Fed → Fed → ReadFault → Type 0
-FailsToEnd old new read.Read = (new.failures ≡ saturated (old.failures + 1)) × GaveAtMost max_input old new
+FailsToEnd old new read.Read = (new.failures ≡ saturated (old.failures + 1)) × GaveAtMost max_input old new × (new.empty_reads ≡ old.empty_reads)
 FailsToEnd old new read.TooLong = (new.failures ≡ old.failures) × IfSome old.left (λ left. max_input < length left) × GavePast max_input old new
+    × (new.empty_reads ≡ old.empty_reads)
 FailsToEnd old new read.Memory = ⊥
 
 -- ---- texts

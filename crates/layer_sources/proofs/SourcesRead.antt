@@ -63,7 +63,7 @@ fails_at exact n m (s ∷ ss) (t ∷ ts) (y ∷ ls) (d ∷ cs) x source e h lt i
 
 -- a source that isn't touched gives nothing
 untouched : (source : Fed) → IsUntroubled source source
-untouched source = record { sound = refl; within = ([], Consumes-nil source.left, omega arith) }
+untouched source = record { sound = refl; within = ([], Consumes-nil source.left, omega arith, omega arith); ended = omega arith }
 
 untroubled_same : (olds : Sources) → AreUntroubled olds olds
 untroubled_same [] = tt

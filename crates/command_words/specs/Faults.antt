@@ -1,5 +1,10 @@
 -- What is told of words that ask for nothing that can be done.
-use Rattle.std.specs.Prelude.{ℕ, List, [], ◌++◌, codes, decimal, Option, Some, None}
+use Rattle.std.specs.Prelude.{◌≡◌, ◌⊎◌, ℕ, Bool, true, false, List, [], ◌++◌, codes, decimal, Option, Some, None}
+use Rattle.std.specs.List.{list_all}
+use Rattle.clap.specs.Kinds.{IsAmong, Kinds}
+use Rattle.clap.specs.Values.{kind_of}
+use Rattle.clap.specs.declared.error.kind.ErrorKind.{ErrorKind}
+use Rattle.clap.specs.declared.error.kind.ErrorKind.TheVariants as kind
 use Rattle.command_words.specs.declared.words_fault.WordsFault.{WordsFault}
 use Rattle.command_words.specs.declared.words_fault.WordsFault.TheVariants.{Help, Refused, NoEquals, GridRange, Memory}
 
@@ -10,3 +15,23 @@ words_fault_text (Refused error) = None
 words_fault_text (NoEquals layer) = Some ((codes "error: layer " ++ decimal layer) ++ codes " has no =\n")
 words_fault_text GridRange = Some (codes "error: a grid has from 2 to 1000000000 cells\n")
 words_fault_text Memory = Some []
+
+-- help is told of an error of this kind
+abbrev pub is_help : ErrorKind → Bool
+is_help kind.DisplayHelp = true
+is_help kind.DisplayVersion = true
+is_help _ = false
+
+-- memory ran out
+abbrev pub is_memory : ErrorKind → Bool
+is_memory kind.OutOfMemory = true
+is_memory _ = false
+
+-- The fault is one of words that `clap` refuses by one of these kinds, or takes if there are none. Where they ask for help, and for nothing
+-- else, that is what is told, and where they don't it isn't.
+abbrev pub IsFaultBy : Kinds → WordsFault → Type 0
+IsFaultBy kinds (Help error) = IsAmong (kind_of error) kinds × (is_help (kind_of error) ≡ true)
+IsFaultBy kinds (Refused error) = (kinds ≡ []) ⊎ (list_all is_help kinds ≡ false)
+IsFaultBy kinds (NoEquals layer) = kinds ≡ []
+IsFaultBy kinds GridRange = kinds ≡ []
+IsFaultBy kinds Memory = Unit {0}

@@ -1,6 +1,9 @@
-// Commands with their help, and commands of a program.
+// Commands with their help.
+ghost use Rattle.clap.specs.Words.{new_app};
+ghost use Rattle.command_words.specs.CommandLine.{IsApp};
+
 use clap::Command;
-use std::alloc::{AllocError, Global};
+use std::alloc::Global;
 
 /// The help of a command: what it is about, in a line and at length, and what is told behind its options, in short and at length.
 #[derive(Clone, Copy)]
@@ -12,18 +15,12 @@ pub(crate) struct Help {
 }
 
 /// The command of this name with this help, which takes nothing so far.
-pub(crate) fn command<'a>(alloc: Global, name: &'static str, help: Help) -> Command<'a> {
+pub(crate) fn command<'a>(alloc: Global, name: &'static str, help: Help) -> Command<'a>
+    ensures { IsApp result (new_app name.now) }
+{
     Command::new(alloc, name)
         .about(help.about)
         .long_about(help.long_about)
         .after_help(help.after)
         .after_long_help(help.after_long)
-}
-
-/// The program with this command, where there was memory for it.
-pub(crate) fn with_command<'a>(
-    program: Command<'a>,
-    command: Result<Command<'a>, AllocError>,
-) -> Result<Command<'a>, AllocError> {
-    program.subcommand(command?)
 }

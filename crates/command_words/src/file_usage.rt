@@ -1,5 +1,8 @@
 // The commands that take the file of a topology, and their help.
-use crate::commands::{Help, command, with_command};
+ghost use Rattle.std.specs.Prelude.{IfOk};
+ghost use Rattle.command_words.specs.CommandLine.{IsApp, IsRule, file_rule, geo_app, object_rule, simplify_app, stat_app};
+
+use crate::commands::{Help, command};
 use crate::usage::{area, ring_area};
 use clap::{Arg, Command};
 use std::alloc::{AllocError, Global};
@@ -80,7 +83,9 @@ Where something is refused it takes nothing, and standard error says what.",
 const FILE_HELP: &str = "A topology (TopoJSON 1.0)";
 
 /// The argument that names the file.
-fn file<'a>(alloc: Global) -> Arg<'a> {
+fn file<'a>(alloc: Global) -> Arg<'a>
+    ensures { IsRule result file_rule }
+{
     Arg::new(alloc, FILE)
         .value_name("FILE")
         .required(true)
@@ -88,7 +93,9 @@ fn file<'a>(alloc: Global) -> Arg<'a> {
 }
 
 /// The command line of `simplify`.
-fn simplify<'a>(alloc: Global) -> Result<Command<'a>, AllocError> {
+pub(crate) fn simplify<'a>(alloc: Global) -> Result<Command<'a>, AllocError>
+    ensures { IfOk result (λ c. IsApp c simplify_app) }
+{
     command(alloc, SIMPLIFY, SIMPLIFY_HELP)
         .arg(area(alloc))?
         .arg(ring_area(alloc))?
@@ -96,7 +103,9 @@ fn simplify<'a>(alloc: Global) -> Result<Command<'a>, AllocError> {
 }
 
 /// The option of `geo` that names the object.
-fn object<'a>(alloc: Global) -> Arg<'a> {
+fn object<'a>(alloc: Global) -> Arg<'a>
+    ensures { IsRule result object_rule }
+{
     Arg::new(alloc, OBJECT)
         .long("object")
         .value_name("NAME")
@@ -105,23 +114,17 @@ fn object<'a>(alloc: Global) -> Arg<'a> {
 }
 
 /// The command line of `geo`.
-fn geo<'a>(alloc: Global) -> Result<Command<'a>, AllocError> {
+pub(crate) fn geo<'a>(alloc: Global) -> Result<Command<'a>, AllocError>
+    ensures { IfOk result (λ c. IsApp c geo_app) }
+{
     command(alloc, GEO, GEO_HELP)
         .arg(object(alloc))?
         .arg(file(alloc))
 }
 
 /// The command line of `stat`.
-fn stat<'a>(alloc: Global) -> Result<Command<'a>, AllocError> {
+pub(crate) fn stat<'a>(alloc: Global) -> Result<Command<'a>, AllocError>
+    ensures { IfOk result (λ c. IsApp c stat_app) }
+{
     command(alloc, STAT, STAT_HELP).arg(file(alloc))
-}
-
-/// The program with these commands.
-pub(crate) fn with_file_commands<'a>(
-    alloc: Global,
-    program: Command<'a>,
-) -> Result<Command<'a>, AllocError> {
-    let program = with_command(program, simplify(alloc))?;
-    let program = with_command(program, geo(alloc))?;
-    with_command(program, stat(alloc))
 }

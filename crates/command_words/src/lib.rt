@@ -1,14 +1,17 @@
 //! The words of the program's command line: its commands and their help, and what given words ask for. It stands on `clap` alone.
-//! A program above calls `read_words`, does what the `Request` asks for, and tells a `WordsFault`.
+//! A program above calls `read_words` on what `joined_words` makes of the words, does what the `Request` asks for, and tells a
+//! `WordsFault`. What the words ask for is `specs/Asked.antt`.
 #![tactic(auto)]
 
 mod commands;
 mod file_usage;
+mod joining;
 mod layer_words;
 mod request;
 mod usage;
 mod words_fault;
 
+pub use joining::joined_words;
 pub use layer_words::name_and_path;
 pub use request::{Request, read_words};
 pub use words_fault::WordsFault;

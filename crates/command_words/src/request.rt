@@ -1,14 +1,27 @@
 // What words ask for.
-ghost use Rattle.std.specs.Prelude.{IfOk, IfSome};
-ghost use Rattle.command_words.specs.Requests.{HasNames, HasSplits, IsCells, IsGridInRange};
+ghost use Rattle.std.specs.Prelude.{◌≡◌, ◌⊎◌, IfErr, IfOk, MatchResult, None, Some, [], map, option_map};
+ghost use Rattle.std.specs.String.{string_bytes};
+ghost use Rattle.clap.specs.Kinds.{HasKind, Kinds};
+ghost use Rattle.clap.specs.Simple.{subcommand_of, subcommand_rows_of};
+ghost use Rattle.clap.specs.Values.{kind_of};
+ghost use Rattle.clap.specs.declared.error.Error.{Error as ClapError};
+ghost use Rattle.clap.specs.declared.error.kind.ErrorKind.TheVariants.{OutOfMemory};
+ghost use Rattle.command_words.specs.declared.words_fault.WordsFault.TheVariants.{Memory, Refused};
+ghost use Rattle.command_words.specs.Asked as spec;
+ghost use Rattle.command_words.specs.Asked.{Answers, area_in, asked, asked_in, build_in, entries_of, exact_in, grid_in};
+ghost use Rattle.command_words.specs.Asked.{keep_in, kinds_of, request_of, ring_area_in, text_of};
+ghost use Rattle.command_words.specs.CommandLine.{IsApp, program_app};
+ghost use Rattle.command_words.specs.Faults as faults;
+ghost use Rattle.command_words.specs.Faults.{IsFaultBy};
+ghost use Rattle.command_words.specs.Written.{IsWritable, written};
 
 use crate::file_usage::{FILE, GEO, OBJECT, SIMPLIFY, STAT};
 use crate::layer_words::names_and_paths;
-use crate::usage::{AREA, BUILD, EXACT, GRID, KEEP, LAYERS, RING_AREA, program};
+use crate::usage::{AREA, BUILD, EXACT, GRID, KEEP, LAYERS, RING_AREA, program, telling_program};
 use crate::words_fault::WordsFault;
 use clap::error::ErrorKind;
-use clap::{ArgMatches, Command};
-use std::alloc::Global;
+use clap::{ArgMatches, Command, Error};
+use std::alloc::{AllocError, Global};
 
 /// What the words of a command line ask for.
 #[derive(Drop)]
@@ -49,115 +62,183 @@ pub enum Request<'a> {
 /// The grid that is asked for, if any. `clap` refuses a number out of range, but none of its contracts says so of a command below the
 /// program, so the range is looked at here once more.
 fn grid_of(arguments: &ArgMatches<'_>) -> Result<Option<u32>, WordsFault>
-    ensures { IfOk result (λ grid. IfSome grid IsCells) }
+    ensures grid { Answers (grid_in (entries_of arguments.now)) (λ grid. grid) result }
+    ensures fault { IfErr result (IsFaultBy []) }
 {
     match arguments.try_get_one::<u32>(GRID) {
         Ok(None) => Ok(None),
-        Ok(Some(cells)) if 2 <= cells && cells <= 1_000_000_000 => Ok(Some(cells)),
-        _ => Err(WordsFault::GridRange),
+        Ok(Some(cells)) => {
+            if 2 <= cells && cells <= 1_000_000_000 {
+                Ok(Some(cells))
+            } else {
+                Err(WordsFault::GridRange)
+            }
+        }
+        Err(_) => Err(WordsFault::GridRange),
     }
 }
 
 /// The area that is asked for.
-fn area_of<'a>(arguments: &ArgMatches<'a>) -> &'a str {
+fn area_of<'a>(arguments: &ArgMatches<'a>) -> &'a str
+    ensures { result.now ≡ area_in (entries_of arguments.now) }
+{
     arguments.get_str(AREA).unwrap_or("0")
 }
 
 /// The share of the points that is asked for, if any.
-fn keep_of<'a>(arguments: &ArgMatches<'a>) -> Option<&'a str> {
+fn keep_of<'a>(arguments: &ArgMatches<'a>) -> Option<&'a str>
+    ensures { option_map (λ k. k.now) result ≡ keep_in (entries_of arguments.now) }
+{
     arguments.get_str(KEEP)
 }
 
+/// Whether an area and a share are given both.
+fn has_both(arguments: &ArgMatches<'_>) -> bool
+    ensures { result ≡ spec.has_both (entries_of arguments.now) }
+{
+    arguments.get_str(AREA).is_some() && keep_of(arguments).is_some()
+}
+
 /// The least area of a ring that is asked for.
-fn ring_area_of<'a>(arguments: &ArgMatches<'a>) -> &'a str {
+fn ring_area_of<'a>(arguments: &ArgMatches<'a>) -> &'a str
+    ensures { result.now ≡ ring_area_in (entries_of arguments.now) }
+{
     arguments.get_str(RING_AREA).unwrap_or("0")
 }
 
-/// The path of the file of a topology.
-fn path_of<'a>(arguments: &ArgMatches<'a>) -> &'a str {
-    arguments.get_str(FILE).unwrap_or("")
+/// The text of an argument, which is empty where it is not given.
+fn text_of<'a>(arguments: &ArgMatches<'a>, id: &str) -> &'a str
+    ensures { result.now ≡ text_of id.now (entries_of arguments.now) }
+{
+    arguments.get_str(id).unwrap_or("")
 }
 
-/// What the command that builds a topology asks for.
-fn build_request<'a>(alloc: Global, arguments: &ArgMatches<'a>) -> Result<Request<'a>, WordsFault>
-    ensures named { IfOk result (λ request. HasNames request) }
-    ensures split { IfOk result (λ request. HasSplits request) }
-    ensures grid { IfOk result (λ request. IsGridInRange request) }
+/// Whether coordinates that would have to be rounded are refused.
+fn is_exact(arguments: &ArgMatches<'_>) -> bool
+    ensures { result ≡ exact_in (entries_of arguments.now) }
 {
+    text_of(arguments, EXACT) == "true"
+}
+
+/// What the command that builds a topology asks for, unless it is given an area and a share both.
+fn build_request<'a>(
+    alloc: Global,
+    arguments: &ArgMatches<'a>,
+) -> Result<Option<Request<'a>>, WordsFault>
+    ensures asked { MatchResult result (λ found. build_in (entries_of arguments.now) ≡ option_map asked found)
+        (λ e. (e ≡ Memory) ⊎ (build_in (entries_of arguments.now) ≡ None)) }
+    ensures fault { IfErr result (IsFaultBy []) }
+{
+    if has_both(arguments) {
+        return Ok(None);
+    }
     let grid = grid_of(arguments)?;
     let layers = names_and_paths(alloc, arguments.get_strs(LAYERS).unwrap_or(&[]))?;
-    let exact = arguments.get_flag(EXACT);
+    let exact = is_exact(arguments);
     let area = area_of(arguments);
     let keep = keep_of(arguments);
     let ring_area = ring_area_of(arguments);
-    Ok(Request::Build {
+    Ok(Some(Request::Build {
         layers,
         exact,
         grid,
         area,
         keep,
         ring_area,
-    })
+    }))
 }
 
-/// What a command that takes the file of a topology asks for, if there is one.
-fn file_request<'a>(matches: &ArgMatches<'a>) -> Option<Request<'a>>
-    ensures named { IfSome result HasNames }
-    ensures split { IfSome result HasSplits }
-    ensures grid { IfSome result IsGridInRange }
+/// What a command of this name asks for, if there is one.
+fn request_in<'a>(
+    alloc: Global,
+    name: &str,
+    arguments: &ArgMatches<'a>,
+) -> Result<Option<Request<'a>>, WordsFault>
+    ensures asked { MatchResult result (λ found. asked_in (name.now, entries_of arguments.now) ≡ option_map asked found)
+        (λ e. (e ≡ Memory) ⊎ (asked_in (name.now, entries_of arguments.now) ≡ None)) }
+    ensures fault { IfErr result (IsFaultBy []) }
 {
-    if let Some(arguments) = matches.subcommand_matches(SIMPLIFY) {
+    if name == BUILD {
+        return build_request(alloc, arguments);
+    }
+    if name == SIMPLIFY {
         let area = area_of(arguments);
         let ring_area = ring_area_of(arguments);
-        let path = path_of(arguments);
-        return Some(Request::Simplify {
+        let path = text_of(arguments, FILE);
+        return Ok(Some(Request::Simplify {
             area,
             ring_area,
             path,
-        });
+        }));
     }
-    if let Some(arguments) = matches.subcommand_matches(GEO) {
-        let name = arguments.get_str(OBJECT).unwrap_or("");
-        let path = path_of(arguments);
-        return Some(Request::Geo { name, path });
+    if name == GEO {
+        let name = text_of(arguments, OBJECT);
+        let path = text_of(arguments, FILE);
+        return Ok(Some(Request::Geo { name, path }));
     }
-    if let Some(arguments) = matches.subcommand_matches(STAT) {
-        let path = path_of(arguments);
-        return Some(Request::Stat { path });
+    if name == STAT {
+        let path = text_of(arguments, FILE);
+        return Ok(Some(Request::Stat { path }));
     }
-    None
+    Ok(None)
 }
 
-/// What a command asks for, if there is one.
-fn request_of<'a>(
-    alloc: Global,
-    matches: &ArgMatches<'a>,
-) -> Result<Option<Request<'a>>, WordsFault>
-    ensures named { IfOk result (λ found. IfSome found HasNames) }
-    ensures split { IfOk result (λ found. IfSome found HasSplits) }
-    ensures grid { IfOk result (λ found. IfSome found IsGridInRange) }
+/// What is told of refused words, by the command line in which a share can't stand beside an area.
+fn refusal(alloc: Global, words: &[String]) -> Result<WordsFault, AllocError>
+    ensures { IfOk result (λ f. (f ≡ Memory) ⊎ ((e : ClapError) × (f ≡ Refused e))) }
 {
-    match matches.subcommand_matches(BUILD) {
-        Some(arguments) => Ok(Some(build_request(alloc, arguments)?)),
-        None => Ok(file_request(matches)),
+    let mut program = telling_program(alloc)?;
+    let error = match program.try_get_matches_from_mut(words) {
+        Ok(_) => program.error(ErrorKind::MissingSubcommand, "a command is missing")?,
+        Err(error) => error,
+    };
+    Ok(WordsFault::refused(error))
+}
+
+/// Whether this kind of error tells help.
+fn is_help(kind: ErrorKind) -> bool
+    ensures { result ≡ faults.is_help kind }
+{
+    matches!(kind, ErrorKind::DisplayHelp | ErrorKind::DisplayVersion)
+}
+
+/// Whether this kind of error comes for want of memory.
+fn is_memory(kind: ErrorKind) -> bool
+    ensures { result ≡ faults.is_memory kind }
+{
+    matches!(kind, ErrorKind::OutOfMemory)
+}
+
+/// What is told of words by this error of theirs.
+fn fault_by(alloc: Global, words: &[String], error: Error) -> Result<WordsFault, AllocError>
+    ensures memory { kind_of error ≡ OutOfMemory → IfOk result (λ f. f ≡ Memory) }
+    ensures fault { (kinds : Kinds) → HasKind kinds error → IfOk result (IsFaultBy kinds) }
+{
+    let kind = error.kind();
+    if is_memory(kind) {
+        return Ok(WordsFault::Memory);
     }
+    if is_help(kind) {
+        return Ok(WordsFault::Help(error));
+    }
+    refusal(alloc, words)
 }
 
 /// What `clap` finds in the words.
 fn matches_in<'a>(
+    alloc: Global,
     program: &mut Command<'a>,
     words: &'a [String],
-) -> Result<ArgMatches<'a>, WordsFault> {
+) -> Result<ArgMatches<'a>, WordsFault>
+    requires { IsApp program.old program_app }
+    ensures { MatchResult result
+        (λ m. (kinds_of (map string_bytes words.now) ≡ []) × (subcommand_rows_of m ≡ subcommand_of program_app (map string_bytes words.now)))
+        (λ e. ((e ≡ Memory) ⊎ (request_of (map string_bytes words.now) ≡ None)) × IsFaultBy (kinds_of (map string_bytes words.now)) e) }
+{
     match program.try_get_matches_from_mut(words) {
         Ok(matches) => Ok(matches),
-        Err(error) => Err(WordsFault::of(error)),
+        Err(error) => Err(fault_by(alloc, words, error)?),
     }
-}
-
-/// What is told where a command is missing.
-fn no_command(program: &mut Command<'_>) -> Result<WordsFault, WordsFault> {
-    let error = program.error(ErrorKind::MissingSubcommand, "a command is missing")?;
-    Ok(WordsFault::of(error))
 }
 
 /// What the words ask for by this command line.
@@ -166,26 +247,28 @@ fn read_by<'a>(
     program: &mut Command<'a>,
     words: &'a [String],
 ) -> Result<Request<'a>, WordsFault>
-    ensures named { IfOk result (λ request. HasNames request) }
-    ensures split { IfOk result (λ request. HasSplits request) }
-    ensures grid { IfOk result (λ request. IsGridInRange request) }
+    requires { IsApp program.old program_app }
+    ensures exact { Answers (request_of (map string_bytes words.now)) asked result }
+    ensures fault { IfErr result (IsFaultBy (kinds_of (map string_bytes words.now))) }
 {
-    let matches = matches_in(program, words)?;
-    match request_of(alloc, &matches)? {
-        Some(request) => Ok(request),
-        None => Err(no_command(program)?),
+    let matches = matches_in(alloc, program, words)?;
+    if let Some((name, arguments)) = matches.subcommand() {
+        if let Some(request) = request_in(alloc, name, arguments)? {
+            return Ok(request);
+        }
     }
+    Err(refusal(alloc, words)?)
 }
 
-/// What the words behind the program's name ask for. Which words are taken for which command is `clap`'s, by the usage that the help
-/// tells.
+/// What the words behind the program's name ask for. An option whose value may begin with a hyphen, and that value, are one word, as
+/// `joined_words` makes them.
 pub fn read_words<'a>(alloc: Global, words: &'a [String]) -> Result<Request<'a>, WordsFault>
-    // The name of each layer is what stands before the first `=` of a word.
-    ensures named { IfOk result (λ request. HasNames request) }
-    // Its path is what stands behind that.
-    ensures split { IfOk result (λ request. HasSplits request) }
-    // A grid that is asked for has from 2 to 10^9 cells along each axis.
-    ensures grid { IfOk result (λ request. IsGridInRange request) }
+    // The request is what the words ask for by the command line, and where they ask for nothing, or memory runs out, there is none.
+    ensures exact { Answers (request_of (map string_bytes words.now)) asked result }
+    // Help is told of words that ask for it, and else they are refused, or have a fault of their own.
+    ensures fault { IfErr result (IsFaultBy (kinds_of (map string_bytes words.now))) }
+    // Words that are written for a request ask for it.
+    ensures written { (a : _) → IsWritable a → map string_bytes words.now ≡ written a → Answers (Some a) asked result }
 {
     let mut program = program(alloc)?;
     read_by(alloc, &mut program, words)

@@ -1,6 +1,11 @@
 // The words that the program takes, and its help.
-use crate::commands::{Help, command, with_command};
-use crate::file_usage::with_file_commands;
+ghost use Rattle.std.specs.Prelude.{◌≡◌, IfOk, pos};
+ghost use Rattle.clap.specs.declared.builder.value_parser.ValueParser.TheVariants.{Signed};
+ghost use Rattle.command_words.specs.CommandLine.{IsApp, IsRule, area_rule, bare_app, build_app, exact_rule, grid_rule};
+ghost use Rattle.command_words.specs.CommandLine.{keep_rule, layers_rule, program_app, ring_area_rule};
+
+use crate::commands::{Help, command};
+use crate::file_usage::{geo, simplify, stat};
 use clap::builder::ValueParser;
 use clap::{Arg, ArgAction, Command, value_parser};
 use std::alloc::{AllocError, Global};
@@ -121,23 +126,51 @@ const EXACT_LONG_HELP: &str =
 Without this option such a coordinate is rounded to the nearest multiple,
 halves away from zero, and counted in the report";
 
-/// The command line of the program.
-pub(crate) fn program<'a>(alloc: Global) -> Result<Command<'a>, AllocError> {
-    let program = command(alloc, "mapchain", PROGRAM_HELP)
+/// The program without its commands.
+fn bare<'a>(alloc: Global) -> Result<Command<'a>, AllocError>
+    ensures { IfOk result (λ c. IsApp c bare_app) }
+{
+    command(alloc, "mapchain", PROGRAM_HELP)
         .no_binary_name(true)
         .subcommand_required(true)
-        .bin_name("mapchain")?;
-    let program = with_command(program, build(alloc))?;
-    with_file_commands(alloc, program)
+        .bin_name("mapchain")
+}
+
+/// The command line of the program, with this option of `build` that keeps a share.
+fn program_with<'a>(alloc: Global, keep: Arg<'a>) -> Result<Command<'a>, AllocError>
+    ensures { IsRule keep.entry keep_rule → IfOk result (λ c. IsApp c program_app) }
+{
+    bare(alloc)?
+        .subcommand(build(alloc, keep)?)?
+        .subcommand(simplify(alloc)?)?
+        .subcommand(geo(alloc)?)?
+        .subcommand(stat(alloc)?)
+}
+
+/// The command line of the program. It takes a share beside an area, which `build_request` refuses.
+pub(crate) fn program<'a>(alloc: Global) -> Result<Command<'a>, AllocError>
+    ensures { IfOk result (λ c. IsApp c program_app) }
+{
+    program_with(alloc, keep(alloc))
+}
+
+/// The same, but for a share beside an area, which it refuses. What is told of refused words is told by it.
+pub(crate) fn telling_program<'a>(alloc: Global) -> Result<Command<'a>, AllocError> {
+    let keep = keep(alloc).conflicts_with(AREA)?;
+    program_with(alloc, keep)
 }
 
 /// The numbers of cells that a grid may have along each axis.
-fn numbers_of_cells<'a>() -> ValueParser<'a> {
+fn numbers_of_cells<'a>() -> ValueParser<'a>
+    ensures { result ≡ Signed (pos 2) (pos 1000000000) }
+{
     value_parser!(u32).range(2..=1_000_000_000)
 }
 
 /// The option of `build` that snaps positions to a grid.
-fn grid<'a>(alloc: Global) -> Arg<'a> {
+fn grid<'a>(alloc: Global) -> Arg<'a>
+    ensures { IsRule result grid_rule }
+{
     Arg::new(alloc, GRID)
         .long("grid")
         .value_name("N")
@@ -147,38 +180,42 @@ fn grid<'a>(alloc: Global) -> Arg<'a> {
 }
 
 /// The option that takes points out of lines. It takes any text: which areas there are isn't judged here.
-pub(crate) fn area<'a>(alloc: Global) -> Arg<'a> {
+pub(crate) fn area<'a>(alloc: Global) -> Arg<'a>
+    ensures { IsRule result area_rule }
+{
     Arg::new(alloc, AREA)
         .long("min-area")
         .value_name("A")
-        .allow_hyphen_values(true)
         .help(AREA_HELP)
         .long_help(AREA_LONG_HELP)
 }
 
-/// The option of `build` that keeps a share of the points. It takes any text, as that of the area does, and can't stand beside that.
-fn keep<'a>(alloc: Global) -> Result<Arg<'a>, AllocError> {
+/// The option of `build` that keeps a share of the points. It takes any text, as that of the area does.
+fn keep<'a>(alloc: Global) -> Arg<'a>
+    ensures { IsRule result keep_rule }
+{
     Arg::new(alloc, KEEP)
         .long("keep")
         .value_name("P/Q")
-        .allow_hyphen_values(true)
         .help(KEEP_HELP)
         .long_help(KEEP_LONG_HELP)
-        .conflicts_with(AREA)
 }
 
 /// The option that leaves out small rings. It takes any text, as that of the area does.
-pub(crate) fn ring_area<'a>(alloc: Global) -> Arg<'a> {
+pub(crate) fn ring_area<'a>(alloc: Global) -> Arg<'a>
+    ensures { IsRule result ring_area_rule }
+{
     Arg::new(alloc, RING_AREA)
         .long("min-ring-area")
         .value_name("B")
-        .allow_hyphen_values(true)
         .help(RING_AREA_HELP)
         .long_help(RING_AREA_LONG_HELP)
 }
 
 /// The option of `build` that refuses coordinates that would have to be rounded.
-fn exact<'a>(alloc: Global) -> Arg<'a> {
+fn exact<'a>(alloc: Global) -> Arg<'a>
+    ensures { IsRule result exact_rule }
+{
     Arg::new(alloc, EXACT)
         .long("exact")
         .action(ArgAction::SetTrue)
@@ -187,7 +224,9 @@ fn exact<'a>(alloc: Global) -> Arg<'a> {
 }
 
 /// The layer words of `build`.
-fn layers<'a>(alloc: Global) -> Arg<'a> {
+fn layers<'a>(alloc: Global) -> Arg<'a>
+    ensures { IsRule result layers_rule }
+{
     Arg::new(alloc, LAYERS)
         .value_name("NAME=PATH")
         .required(true)
@@ -196,12 +235,14 @@ fn layers<'a>(alloc: Global) -> Arg<'a> {
         .long_help(LAYERS_LONG_HELP)
 }
 
-/// The command line of `build`.
-fn build<'a>(alloc: Global) -> Result<Command<'a>, AllocError> {
+/// The command line of `build`, with this option that keeps a share.
+fn build<'a>(alloc: Global, keep: Arg<'a>) -> Result<Command<'a>, AllocError>
+    ensures { IsRule keep.entry keep_rule → IfOk result (λ c. IsApp c build_app) }
+{
     command(alloc, BUILD, BUILD_HELP)
         .arg(grid(alloc))?
         .arg(area(alloc))?
-        .arg(keep(alloc)?)?
+        .arg(keep)?
         .arg(ring_area(alloc))?
         .arg(exact(alloc))?
         .arg(layers(alloc))

@@ -20,16 +20,18 @@ pub enum WordsFault {
 }
 
 impl WordsFault {
-    /// What `clap` says of words that it doesn't take.
-    pub(crate) fn of(error: Error) -> WordsFault {
+    ghost use Rattle.std.specs.Prelude.{◌≡◌, ◌⊎◌};
+    ghost use Rattle.clap.specs.declared.error.Error.{Error as ClapError};
+    ghost use Rattle.command_words.specs.declared.words_fault.WordsFault.TheVariants.{Memory, Refused};
+
+    /// What `clap` says of words that are refused.
+    pub(crate) fn refused(error: Error) -> WordsFault
+        ensures { (result ≡ Memory) ⊎ ((e : ClapError) × (result ≡ Refused e)) }
+    {
         if error.kind() == ErrorKind::OutOfMemory {
             return WordsFault::Memory;
         }
-        if error.use_stderr() {
-            WordsFault::Refused(error)
-        } else {
-            WordsFault::Help(error)
-        }
+        WordsFault::Refused(error)
     }
 }
 

@@ -2,7 +2,7 @@
 #![tactic(auto)]
 
 use byte_ends::{FromRead, Sink, Source, ToWrite};
-use mapchain_cli::{Files, command};
+use mapchain_cli::{Files, Opens, command};
 use std::fs::File;
 use std::io::{BufWriter, ErrorKind};
 use std::process::ExitCode;
@@ -12,13 +12,18 @@ use std::{env, io};
 #[derive(Drop)]
 struct System {
     rt: HostRuntime,
+    opens: Opens,
 }
 
 impl Files for System {
     type R = FromRead<File>;
 
+    ghost opens = { λ s. s.opens };
+
     fn open(&mut self, path: &str) -> Option<Source<FromRead<File>>> {
-        let file = File::open(&self.rt, path).ok()?;
+        let opened = File::open(&self.rt, path);
+        self.opens.count(opened.is_ok());
+        let file = opened.ok()?;
         Some(Source::new(FromRead::new(file)))
     }
 }
@@ -58,6 +63,9 @@ fn main(rt: HostRuntime) -> ExitCode {
     };
     let mut out = Sink::new(ToWrite::new(stdout));
     let mut err = Sink::new(ToWrite::new(stderr));
-    let mut files = System { rt };
+    let mut files = System {
+        rt,
+        opens: Opens::none(),
+    };
     ExitCode::from(command(alloc, words, &mut files, &mut out, &mut err))
 }

@@ -1,6 +1,6 @@
 -- Layers and the sources that their files are opened as.
-use Rattle.std.proofs.Common.{◌≡◌, ℕ, ◌+◌, ◌<◌, List, [], ◌∷◌, ◌++◌, length, map, get_or, take, None, refl, sym, ap, subst, ◌∙◌, Bor}
-use Rattle.std.proofs.lemmas.List.{map_push, take_more}
+use Rattle.std.proofs.Common.{◌≡◌, ℕ, ◌+◌, ◌<◌, List, [], ◌∷◌, ◌++◌, length, map, get_or, take, None, true, false, arith, suc, ◌≤◌, refl, sym, ap, subst, ◌∙◌, Bor}
+use Rattle.std.proofs.lemmas.List.{length-map, map_push, take_more}
 use Rattle.std.proofs.lemmas.Option.{slice_get-get_or, slice_get-map}
 use Rattle.std.specs.Option.{option_map}
 use Rattle.byte_ends.specs.Ends.{Fed}
@@ -9,16 +9,17 @@ use Rattle.inputs.specs.declared.fault.BuildFault.TheVariants as build
 use Rattle.layer_sources.specs.Sources.{Sources}
 use Rattle.mapchain_cli.specs.Asking.{texts_of}
 use Rattle.mapchain_cli.specs.Endings.{IsUnopened}
-use Rattle.mapchain_cli.specs.Opening.{AreOpened, Contents, IsOpened, Layers}
+use Rattle.mapchain_cli.specs.Opening.{AreOpened, Contents, IsOpened, Layers, one_more, opened_times, used}
+use Rattle.mapchain_cli.specs.declared.opens.Opens.{Opens}
 
 -- one more layer
-one_more : (contents : Contents) (layers : Layers) (sources : Sources) (layer : List ℕ × List ℕ) (source : List ℕ × Fed)
+one_layer_more : (contents : Contents) (layers : Layers) (sources : Sources) (layer : List ℕ × List ℕ) (source : List ℕ × Fed)
     → AreOpened contents layers sources → source.0 ≡ layer.0 → IsOpened contents layer.1 source.1 → AreOpened contents (layers ++ layer ∷ []) (sources ++ source ∷ [])
-one_more contents [] [] layer source h named opened = (named, opened, tt)
-one_more contents [] (s ∷ sources) layer source h named opened = absurd h
-one_more contents (l ∷ layers) [] layer source h named opened = absurd h
-one_more contents (l ∷ layers) (s ∷ sources) layer source h named opened =
-    (h.0, h.1, one_more contents layers sources layer source h.2 named opened)
+one_layer_more contents [] [] layer source h named opened = (named, opened, tt)
+one_layer_more contents [] (s ∷ sources) layer source h named opened = absurd h
+one_layer_more contents (l ∷ layers) [] layer source h named opened = absurd h
+one_layer_more contents (l ∷ layers) (s ∷ sources) layer source h named opened =
+    (h.0, h.1, one_layer_more contents layers sources layer source h.2 named opened)
 
 -- the sources have the names of the layers
 pub names_of_opened : (contents : Contents) (layers : Layers) (sources : Sources) → AreOpened contents layers sources → map (λ s. s.0) sources ≡ map (λ l. l.0) layers
@@ -26,6 +27,18 @@ names_of_opened contents [] [] h = refl
 names_of_opened contents [] (s ∷ sources) h = absurd h
 names_of_opened contents (l ∷ layers) [] h = absurd h
 names_of_opened contents (l ∷ layers) (s ∷ sources) h = λ i. (h.0 i) ∷ (names_of_opened contents layers sources h.2 i)
+
+-- one more file was opened
+pub once_more : (n : ℕ) (o : Opens) → one_more true (opened_times n o) ≡ opened_times (n + 1) o
+once_more n o =
+    let e : n + 1 ≡ suc n = omega arith in
+    subst (λ m. one_more true (opened_times n o) ≡ opened_times m o) (sym e) refl
+
+-- a front of the layers is one of their texts
+pub front_of_texts : (layers : List (Bor (List ℕ) × Bor (List ℕ))) (n : ℕ) → n ≤ length layers → n ≤ length (texts_of layers)
+front_of_texts layers n h =
+    let e : length (texts_of layers) ≡ length layers = length-map layers (λ l. (l.0.now, l.1.now)) in
+    omega (arith, h, e)
 
 -- the layer of this number
 module _ (contents : Contents) (layers : List (Bor (List ℕ) × Bor (List ℕ))) (i : ℕ) (layer : Bor (List ℕ) × Bor (List ℕ)) (within : i < length layers) where
@@ -36,14 +49,16 @@ module _ (contents : Contents) (layers : List (Bor (List ℕ) × Bor (List ℕ))
   next_opened sources source h named opened =
       subst (λ ls. AreOpened contents ls (sources ++ source ∷ []))
       (sym (ap texts_of (take_more layers i layer within) ∙ map_push (λ l. (l.0.now, l.1.now)) (take i layers) (get_or layers i layer)))
-      (one_more contents (texts_of (take i layers)) sources _ source h named opened)
+      (one_layer_more contents (texts_of (take i layers)) sources _ source h named opened)
 
   -- its file can't be opened
-  pub unopened : contents (get_or layers i layer).1.now ≡ None → IsUnopened contents (texts_of layers) (build.Read i read.Read)
-  unopened absent = (
+  pub unopened : (before after : Opens) → after ≡ one_more false (opened_times i before) → contents (get_or layers i layer).1.now ≡ None
+      → IsUnopened (used contents before after) (texts_of layers) (build.Read i read.Read)
+  unopened before after tried absent = (
     i,
     ((get_or layers i layer).0.now, (get_or layers i layer).1.now),
     slice_get-map (λ l. (l.0.now, l.1.now)) layers i ∙ ap (option_map (λ l. (l.0.now, l.1.now))) (slice_get-get_or layers i layer within),
     absent,
+    tried,
     refl,
   )

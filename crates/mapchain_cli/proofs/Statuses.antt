@@ -19,8 +19,8 @@ use Rattle.topology_files.specs.Geo.{IsGeoFault}
 use Rattle.topology_simplifying.specs.Simplified.{IsSimplifyFault}
 use Rattle.mapchain_cli.specs.Asking.{IsAnswered, IsRefused, RefusesBuild, RefusesTopology}
 use Rattle.mapchain_cli.specs.Endings.{IsSummaryFault, RefusesLayers}
-use Rattle.mapchain_cli.specs.Opening.{Contents, Layers}
-use Rattle.mapchain_cli.specs.Runs.{EndsAtWords, IsHelped, IsPerformed, IsRefusedFor, LacksMemory, Runs, Streams, ending_status}
+use Rattle.mapchain_cli.specs.Opening.{FileUse, Layers}
+use Rattle.mapchain_cli.specs.Runs.{EndsAtWords, IsHelped, IsPerformed, IsRefusedFor, LacksMemory, RunsOn, Streams, ending_status}
 use Rattle.mapchain_cli.specs.declared.ending.Ending.{Ending}
 use Rattle.mapchain_cli.specs.declared.ending.Ending.TheVariants.{BadArea, BadRingArea, BadShare, Refused, FileRefused, Memory}
 
@@ -35,12 +35,12 @@ late_keeps o olds news old new (Json n fault) h lt = h.0
 late_keeps o olds news old new (Layer n fault) h lt = h.0
 late_keeps o olds news old new NoRoom h lt = h.0
 
-layers_keep : (c : Contents) (o : Options) (layers : Layers) (old new : Drained) (e : BuildFault) → RefusesLayers c o layers old new e → status_of e < 3 → new ≡ old
+layers_keep : (c : FileUse) (o : Options) (layers : Layers) (old new : Drained) (e : BuildFault) → RefusesLayers c o layers old new e → status_of e < 3 → new ≡ old
 layers_keep c o layers old new e (inl h) lt = h.0
 layers_keep c o layers old new e (inr (inl h)) lt = h.0
 layers_keep c o layers old new e (inr (inr h)) lt = late_keeps o h.sources_old h.sources_new old new e h.fault lt
 
-build_keeps : (c : Contents) (request : Request) (old new : Drained) (e : BuildFault) → RefusesBuild c request old new e → status_of e < 3 → new ≡ old
+build_keeps : (c : FileUse) (request : Request) (old new : Drained) (e : BuildFault) → RefusesBuild c request old new e → status_of e < 3 → new ≡ old
 build_keeps c (Build layers exact grid area keep ring_area) old new e h lt = layers_keep c h.0 _ old new e h.2 lt
 build_keeps c (Simplify area ring_area path) old new e h lt = absurd h
 build_keeps c (Geo name path) old new e h lt = absurd h
@@ -70,7 +70,7 @@ summary_keeps s u old new (file.Topo fault) h lt = h.0
 summary_keeps s u old new file.NoObject h lt = h.0
 summary_keeps s u old new file.Memory h lt = h.0
 
-topology_keeps : (c : Contents) (request : Request) (old new : Drained) (e : FileFault) → RefusesTopology c request old new e → file_status_of e < 3 → new ≡ old
+topology_keeps : (c : FileUse) (request : Request) (old new : Drained) (e : FileFault) → RefusesTopology c request old new e → file_status_of e < 3 → new ≡ old
 topology_keeps c (Build layers exact grid area keep ring_area) old new e h lt = absurd h
 topology_keeps c (Simplify area ring_area path) old new e h lt =
     elim h.4 [ inl k ↦ k.0 | inr k ↦ simplify_keeps h.0 h.1 k.source_old k.source_new old new e k.fault lt ]
@@ -79,17 +79,17 @@ topology_keeps c (Geo name path) old new e (inr h) lt = geo_keeps name.now h.sou
 topology_keeps c (Stat path) old new e (inl h) lt = h.0
 topology_keeps c (Stat path) old new e (inr h) lt = summary_keeps h.source_old h.source_new old new e h.fault lt
 
-keeps : (c : Contents) (request : Request) (old new : Drained) (ending : Ending) → IsRefused c request old new ending → ending_status ending < 3 → new ≡ old
+keeps : (c : FileUse) (request : Request) (old new : Drained) (ending : Ending) → IsRefused c request old new ending → ending_status ending < 3 → new ≡ old
 keeps c request old new BadArea h lt = h.0
 keeps c request old new BadRingArea h lt = h.0
 keeps c request old new BadShare h lt = h.0
 keeps c request old new (Refused e) h lt = build_keeps c request old new e h lt
 keeps c request old new (FileRefused e) h lt = topology_keeps c request old new e h lt
-keeps c request old new Memory h lt = h
+keeps c request old new Memory h lt = h.0
 
 -- ---- standard output of one that is
 
-sound : (c : Contents) (request : Request) (old new : Drained) (report : Option Report) → IsAnswered c request old new report → (new.failures ≡ 0) × (new.flushed ≡ true)
+sound : (c : FileUse) (request : Request) (old new : Drained) (report : Option Report) → IsAnswered c request old new report → (new.failures ≡ 0) × (new.flushed ≡ true)
 sound c (Build layers exact grid area keep ring_area) old new (Some report) h = (h.2.built.sound, h.2.built.flushed)
 sound c (Build layers exact grid area keep ring_area) old new None h = absurd h
 sound c (Simplify area ring_area path) old new (Some report) h = (h.4.simplified.sound, h.4.simplified.flushed)
@@ -176,13 +176,13 @@ at_words (words.NoEquals layer) old new status (inr h) = lacks old new status h
 at_words words.GridRange old new status (inl h) = refused_for words.GridRange old new status h
 at_words words.GridRange old new status (inr h) = lacks old new status h
 
-performed : (c : Contents) (request : Request) (old new : Streams) (status : ℕ) → IsPerformed c request old new status → Says old.out new.out status
+performed : (c : FileUse) (request : Request) (old new : Streams) (status : ℕ) → IsPerformed c request old new status → Says old.out new.out status
 performed c request old new status (inl h) =
     let s = sound c request old.out new.out h.0 h.1 in
     at_done old.out new.out status h.3 s.0 s.1
 performed c request old new status (inr h) =
     rw h.3 (at_other old.out new.out (ending_status h.0) (ending_is h.0) (keeps c request old.out new.out h.0 h.1))
 
-pub says : (c : Contents) (old new : Streams) (status : ℕ) → Runs c old new status → Says old.out new.out status
-says c old new status (inl h) = performed c h.0 old new status h.3
-says c old new status (inr h) = at_words h.0 old new status h.1
+pub says : (c : FileUse) (words : List (List ℕ)) (old new : Streams) (status : ℕ) → RunsOn c words old new status → Says old.out new.out status
+says c words old new status (inl h) = performed c h.0 old new status h.2
+says c words old new status (inr h) = at_words h.0 old new status h.2

@@ -1,5 +1,5 @@
 -- What is asked for, and what it comes to.
-use Rattle.std.specs.Prelude.{◌≡◌, ℕ, Bool, List, map, Option, Some, None}
+use Rattle.std.specs.Prelude.{◌≡◌, ℕ, Bool, List, length, map, Option, Some, None}
 use Rattle.std.specs.Borrow.{Bor}
 use Rattle.std.specs.Option.{option_map}
 use Rattle.byte_ends.specs.Ends.{Drained}
@@ -18,7 +18,7 @@ use Rattle.topology_simplifying.specs.Simplified.{IsSimplifyFault}
 use Rattle.mapchain_cli.specs.declared.ending.Ending.{Ending}
 use Rattle.mapchain_cli.specs.declared.ending.Ending.TheVariants.{BadArea, BadRingArea, BadShare, Refused, FileRefused, Memory}
 use Rattle.mapchain_cli.specs.Endings.{BuildsOf, DecodesOf, IsSummaryFault, RefusesFile, RefusesLayers, SimplifiesOf, Summarises}
-use Rattle.mapchain_cli.specs.Opening.{Contents, Layers}
+use Rattle.mapchain_cli.specs.Opening.{FileUse, Layers, Opened, OpensFront}
 
 -- the names of layers and the paths of their files
 abbrev pub texts_of : List (Bor (List ℕ) × Bor (List ℕ)) → Layers
@@ -38,14 +38,14 @@ IsAskedFor exact grid area keep ring_area options =
 
 -- what was asked for was written of these files: a build with its options, or what is left of a topology, which have a report; the
 -- features of an object; a summary
-abbrev pub IsAnswered : Contents → Request → Drained → Drained → Option Report → Type 0
-IsAnswered contents (Build layers exact grid area keep ring_area) old new (Some report) =
-    (options : Options) × IsAskedFor exact grid area.now keep ring_area.now options × BuildsOf contents options (texts_of layers.items) old new report
-IsAnswered contents (Simplify area ring_area path) old new (Some report) =
-    (t : ℕ) × (limit : ℕ) × (threshold_of area.now ≡ Some t) × (threshold_of ring_area.now ≡ Some limit) × SimplifiesOf contents t limit path.now old new report
-IsAnswered contents (Geo name path) old new None = DecodesOf contents name.now path.now old new
-IsAnswered contents (Stat path) old new None = Summarises contents path.now old new
-IsAnswered contents request old new report = ⊥
+abbrev pub IsAnswered : FileUse → Request → Drained → Drained → Option Report → Type 0
+IsAnswered files (Build layers exact grid area keep ring_area) old new (Some report) =
+    (options : Options) × IsAskedFor exact grid area.now keep ring_area.now options × BuildsOf files options (texts_of layers.items) old new report
+IsAnswered files (Simplify area ring_area path) old new (Some report) =
+    (t : ℕ) × (limit : ℕ) × (threshold_of area.now ≡ Some t) × (threshold_of ring_area.now ≡ Some limit) × SimplifiesOf files t limit path.now old new report
+IsAnswered files (Geo name path) old new None = DecodesOf files name.now path.now old new
+IsAnswered files (Stat path) old new None = Summarises files path.now old new
+IsAnswered files request old new report = ⊥
 
 -- the first of these areas has no threshold, or else the second hasn't, or memory was refused
 abbrev pub AreRefused : List ℕ → List ℕ → Ending → Type 0
@@ -71,25 +71,30 @@ HasBadArea (Simplify area ring_area path) e = AreRefused area.now ring_area.now 
 HasBadArea request e = ⊥
 
 -- why the build that is asked for isn't done
-abbrev pub RefusesBuild : Contents → Request → Drained → Drained → BuildFault → Type 0
-RefusesBuild contents (Build layers exact grid area keep ring_area) old new e =
-    (options : Options) × IsAskedFor exact grid area.now keep ring_area.now options × RefusesLayers contents options (texts_of layers.items) old new e
-RefusesBuild contents request old new e = ⊥
+abbrev pub RefusesBuild : FileUse → Request → Drained → Drained → BuildFault → Type 0
+RefusesBuild files (Build layers exact grid area keep ring_area) old new e =
+    (options : Options) × IsAskedFor exact grid area.now keep ring_area.now options × RefusesLayers files options (texts_of layers.items) old new e
+RefusesBuild files request old new e = ⊥
 
 -- why the topology of a file isn't simplified, decoded or summarised as is asked for
-abbrev pub RefusesTopology : Contents → Request → Drained → Drained → FileFault → Type 0
-RefusesTopology contents (Simplify area ring_area path) old new e =
+abbrev pub RefusesTopology : FileUse → Request → Drained → Drained → FileFault → Type 0
+RefusesTopology files (Simplify area ring_area path) old new e =
     (t : ℕ) × (limit : ℕ) × (threshold_of area.now ≡ Some t) × (threshold_of ring_area.now ≡ Some limit)
-    × RefusesFile contents path.now old new (λ s u. IsSimplifyFault t limit s u old new) e
-RefusesTopology contents (Geo name path) old new e = RefusesFile contents path.now old new (λ s u. IsGeoFault name.now s u old new) e
-RefusesTopology contents (Stat path) old new e = RefusesFile contents path.now old new (IsSummaryFault old new) e
-RefusesTopology contents request old new e = ⊥
+    × RefusesFile files path.now old new (λ s u. IsSimplifyFault t limit s u old new) e
+RefusesTopology files (Geo name path) old new e = RefusesFile files path.now old new (λ s u. IsGeoFault name.now s u old new) e
+RefusesTopology files (Stat path) old new e = RefusesFile files path.now old new (IsSummaryFault old new) e
+RefusesTopology files request old new e = ⊥
+
+-- a front of the files that the request names was opened
+abbrev pub OpensSome : FileUse → Request → Type 0
+OpensSome files (Build layers exact grid area keep ring_area) = OpensFront (length (texts_of layers.items)) files
+OpensSome files request = Opened 0 files
 
 -- why what was asked for isn't done
-abbrev pub IsRefused : Contents → Request → Drained → Drained → Ending → Type 0
-IsRefused contents request old new BadArea = (new ≡ old) × HasBadArea request BadArea
-IsRefused contents request old new BadRingArea = (new ≡ old) × HasBadArea request BadRingArea
-IsRefused contents request old new BadShare = (new ≡ old) × HasBadArea request BadShare
-IsRefused contents request old new (Refused e) = RefusesBuild contents request old new e
-IsRefused contents request old new (FileRefused e) = RefusesTopology contents request old new e
-IsRefused contents request old new Memory = new ≡ old
+abbrev pub IsRefused : FileUse → Request → Drained → Drained → Ending → Type 0
+IsRefused files request old new BadArea = (new ≡ old) × Opened 0 files × HasBadArea request BadArea
+IsRefused files request old new BadRingArea = (new ≡ old) × Opened 0 files × HasBadArea request BadRingArea
+IsRefused files request old new BadShare = (new ≡ old) × Opened 0 files × HasBadArea request BadShare
+IsRefused files request old new (Refused e) = RefusesBuild files request old new e
+IsRefused files request old new (FileRefused e) = RefusesTopology files request old new e
+IsRefused files request old new Memory = (new ≡ old) × OpensSome files request

@@ -17,30 +17,33 @@ use Rattle.topology_building.specs.declared.options.Options.{Options}
 use Rattle.topology_files.specs.Files.{FailsToGive, IsSummarised}
 use Rattle.topology_files.specs.Geo.{IsDecoded}
 use Rattle.topology_simplifying.specs.Simplified.{IsSimplified}
-use Rattle.mapchain_cli.specs.Opening.{AreOpened, Contents, IsOpened, Layers}
+use Rattle.mapchain_cli.specs.Opening.{AreOpened, FileUse, IsOpened, Layers, Opened, RefusedBehind}
 
 -- ---- what is written
 
 -- the topology of these layers was written, each read from the file of its path, as it was asked for
-pub record BuildsOf (contents : Contents) (options : Options) (layers : Layers) (old new : Drained) (report : Report) : Type 0 where
+pub record BuildsOf (files : FileUse) (options : Options) (layers : Layers) (old new : Drained) (report : Report) : Type 0 where
   pub sources_old : Sources
   pub sources_new : Sources
-  pub opened : AreOpened contents layers sources_old
+  pub opened : AreOpened files.contents layers sources_old
+  pub each_once : Opened (length layers) files
   pub built : IsBuilt options sources_old sources_new old new report
 
 -- what is left of the topology of the file of this path was written, where it is reduced at this threshold, without rings under this
 -- limit
-pub record SimplifiesOf (contents : Contents) (threshold ring_limit : ℕ) (path : List ℕ) (old new : Drained) (report : Report) : Type 0 where
+pub record SimplifiesOf (files : FileUse) (threshold ring_limit : ℕ) (path : List ℕ) (old new : Drained) (report : Report) : Type 0 where
   pub source_old : Fed
   pub source_new : Fed
-  pub opened : IsOpened contents path source_old
+  pub opened : IsOpened files.contents path source_old
+  pub once : Opened 1 files
   pub simplified : IsSimplified threshold ring_limit source_old source_new old new report
 
 -- the text of the features of an object of this name was written, of the topology of the file of this path
-pub record DecodesOf (contents : Contents) (name path : List ℕ) (old new : Drained) : Type 0 where
+pub record DecodesOf (files : FileUse) (name path : List ℕ) (old new : Drained) : Type 0 where
   pub source_old : Fed
   pub source_new : Fed
-  pub opened : IsOpened contents path source_old
+  pub opened : IsOpened files.contents path source_old
+  pub once : Opened 1 files
   pub sent : ℕ
   pub decoded : IsDecoded name source_old source_new old new sent
 
@@ -49,45 +52,49 @@ abbrev pub SendsSummary : Drained → Drained → Summary → Type 0
 SendsSummary old new summary = Takes old new (summary_text summary) (length (summary_text summary)) × (new.failures ≡ 0) × (new.flushed ≡ true)
 
 -- the summary was written of the topology of the file of this path
-pub record Summarises (contents : Contents) (path : List ℕ) (old new : Drained) : Type 0 where
+pub record Summarises (files : FileUse) (path : List ℕ) (old new : Drained) : Type 0 where
   pub source_old : Fed
   pub source_new : Fed
-  pub opened : IsOpened contents path source_old
+  pub opened : IsOpened files.contents path source_old
+  pub once : Opened 1 files
   pub summary : Summary
   pub told : IsSummarised source_old source_new summary
   pub sent : SendsSummary old new summary
 
 -- ---- why nothing is written whole: nothing is written unless the device failed
 
--- the file of a layer can't be opened, or isn't known, and the fault names that layer
-abbrev pub IsUnopened : Contents → Layers → BuildFault → Type 0
-IsUnopened contents layers e =
-    (i : ℕ) × (layer : List ℕ × List ℕ) × (slice_get layers i ≡ Some layer) × (contents layer.1 ≡ None) × (e ≡ Read i read.Read)
+-- the file of a layer can't be opened, or isn't known, those before it were opened, and none behind it was tried; the fault names that
+-- layer
+abbrev pub IsUnopened : FileUse → Layers → BuildFault → Type 0
+IsUnopened files layers e =
+    (i : ℕ) × (layer : List ℕ × List ℕ) × (slice_get layers i ≡ Some layer) × (files.contents layer.1 ≡ None) × RefusedBehind i files × (e ≡ Read i read.Read)
 
 -- a layer's source is refused, each opened as the file of its path, or the device failed
-pub record IsRefusedLate (contents : Contents) (options : Options) (layers : Layers) (old new : Drained) (e : BuildFault) : Type 0 where
+pub record IsRefusedLate (files : FileUse) (options : Options) (layers : Layers) (old new : Drained) (e : BuildFault) : Type 0 where
   pub sources_old : Sources
   pub sources_new : Sources
-  pub opened : AreOpened contents layers sources_old
+  pub opened : AreOpened files.contents layers sources_old
+  pub each_once : Opened (length layers) files
   pub fault : IsLateFault options sources_old sources_new old new e
 
--- why the topology of these layers isn't built: a file can't be opened, a name is refused, or what was read is
-abbrev pub RefusesLayers : Contents → Options → Layers → Drained → Drained → BuildFault → Type 0
-RefusesLayers contents options layers old new e =
-    ((new ≡ old) × IsUnopened contents layers e)
-    ⊎ (((new ≡ old) × (name_fault (map (λ l. l.0) layers) ≡ Some e)) ⊎ IsRefusedLate contents options layers old new e)
+-- why the topology of these layers isn't built: a file can't be opened, or all were and a name is refused, or what was read is
+abbrev pub RefusesLayers : FileUse → Options → Layers → Drained → Drained → BuildFault → Type 0
+RefusesLayers files options layers old new e =
+    ((new ≡ old) × IsUnopened files layers e)
+    ⊎ (((new ≡ old) × Opened (length layers) files × (name_fault (map (λ l. l.0) layers) ≡ Some e)) ⊎ IsRefusedLate files options layers old new e)
 
 -- the source that is opened as the file of this path has this fault
-pub record IsRefusedFile (contents : Contents) (path : List ℕ) (Fails : Fed → Fed → FileFault → Type 0) (e : FileFault) : Type 0 where
+pub record IsRefusedFile (files : FileUse) (path : List ℕ) (Fails : Fed → Fed → FileFault → Type 0) (e : FileFault) : Type 0 where
   pub source_old : Fed
   pub source_new : Fed
-  pub opened : IsOpened contents path source_old
+  pub opened : IsOpened files.contents path source_old
+  pub once : Opened 1 files
   pub fault : Fails source_old source_new e
 
 -- why the file of a topology of this path isn't used: it can't be opened, or isn't known, or what was read has this fault
-abbrev pub RefusesFile : Contents → List ℕ → Drained → Drained → (Fed → Fed → FileFault → Type 0) → FileFault → Type 0
-RefusesFile contents path old new Fails e =
-    ((new ≡ old) × (contents path ≡ None) × (e ≡ file.Read read.Read)) ⊎ IsRefusedFile contents path Fails e
+abbrev pub RefusesFile : FileUse → List ℕ → Drained → Drained → (Fed → Fed → FileFault → Type 0) → FileFault → Type 0
+RefusesFile files path old new Fails e =
+    ((new ≡ old) × (files.contents path ≡ None) × RefusedBehind 0 files × (e ≡ file.Read read.Read)) ⊎ IsRefusedFile files path Fails e
 
 -- why no summary is written whole: the device failed when it had taken a front of its text, or there is none
 abbrev pub IsSummaryFault : Drained → Drained → Fed → Fed → FileFault → Type 0

@@ -2,8 +2,9 @@
 use Rattle.std.specs.Prelude.{◌≡◌, ◌⊎◌, ℕ, true, List, [], codes, IfSome, Option, None, Some}
 use Rattle.byte_ends.specs.Ends.{Drained}
 use Rattle.byte_ends.specs.Writes.{WritesAll, WritesFront}
-use Rattle.command_words.specs.Faults.{words_fault_text}
-use Rattle.command_words.specs.Requests.{HasSplits, IsGridInRange}
+use Rattle.command_words.specs.Asked.{asked, kinds_of, request_of}
+use Rattle.command_words.specs.Faults.{IsFaultBy, words_fault_text}
+use Rattle.command_words.specs.Joined.{joined}
 use Rattle.command_words.specs.declared.request.Request.{Request}
 use Rattle.command_words.specs.declared.words_fault.WordsFault.{WordsFault}
 use Rattle.command_words.specs.declared.words_fault.WordsFault.TheVariants as words
@@ -14,7 +15,7 @@ use Rattle.inputs.specs.declared.fault.BuildFault.TheVariants.{Write}
 use Rattle.reports.specs.Reports.{report_text}
 use Rattle.reports.specs.declared.report.Report.{Report}
 use Rattle.mapchain_cli.specs.Asking.{IsAnswered, IsRefused}
-use Rattle.mapchain_cli.specs.Opening.{Contents}
+use Rattle.mapchain_cli.specs.Opening.{FileUse, Opened}
 use Rattle.mapchain_cli.specs.declared.ending.Ending.{Ending}
 use Rattle.mapchain_cli.specs.declared.ending.Ending.TheVariants.{BadArea, BadRingArea, BadShare, Refused, FileRefused, Memory}
 
@@ -51,10 +52,10 @@ ending_status Memory = failed
 -- ---- a request over files with these contents
 
 -- it is done, and its report told; or it isn't, and the line is told that says why
-abbrev pub IsPerformed : Contents → Request → Streams → Streams → ℕ → Type 0
-IsPerformed contents request old new status =
-    ((report : Option Report) × IsAnswered contents request old.out new.out report × Tells old.err new.err (told_of report) × (status ≡ 0))
-    ⊎ ((ending : Ending) × IsRefused contents request old.out new.out ending × Tells old.err new.err (line_of ending) × (status ≡ ending_status ending))
+abbrev pub IsPerformed : FileUse → Request → Streams → Streams → ℕ → Type 0
+IsPerformed files request old new status =
+    ((report : Option Report) × IsAnswered files request old.out new.out report × Tells old.err new.err (told_of report) × (status ≡ 0))
+    ⊎ ((ending : Ending) × IsRefused files request old.out new.out ending × Tells old.err new.err (line_of ending) × (status ≡ ending_status ending))
 
 -- ---- words that ask for nothing that is done
 
@@ -81,9 +82,16 @@ EndsAtWords fault old new status = IsRefusedFor fault old new status ⊎ LacksMe
 
 -- ---- a whole run
 
--- A request was read of the words, and performed, or there is none. Which request it is, and when there is none, is `clap`'s to say:
--- its contracts don't.
-abbrev pub Runs : Contents → Streams → Streams → ℕ → Type 0
-Runs contents old new status =
-    ((request : Request) × HasSplits request × IsGridInRange request × IsPerformed contents request old new status)
-    ⊎ ((fault : WordsFault) × EndsAtWords fault old new status)
+-- the words ask for no request, or memory was wanting; and what is told is of the kinds of error that `clap` has for them
+abbrev pub IsUnasked : List (List ℕ) → WordsFault → Type 0
+IsUnasked given fault = ((fault ≡ words.Memory) ⊎ (request_of given ≡ None)) × IsFaultBy (kinds_of given) fault
+
+-- the request that the words ask for is performed, or they ask for none
+abbrev pub RunsOn : FileUse → List (List ℕ) → Streams → Streams → ℕ → Type 0
+RunsOn files given old new status =
+    ((request : Request) × (request_of given ≡ Some (asked request)) × IsPerformed files request old new status)
+    ⊎ ((fault : WordsFault) × IsUnasked given fault × EndsAtWords fault old new status × Opened 0 files)
+
+-- the same of the words as they are given: an option whose value may be any text and that value are joined first
+abbrev pub Runs : FileUse → List (List ℕ) → Streams → Streams → ℕ → Type 0
+Runs files given old new status = RunsOn files (joined given) old new status

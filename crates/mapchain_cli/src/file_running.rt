@@ -1,5 +1,5 @@
 // Running the commands that take the file of a topology.
-ghost use Rattle.std.specs.Prelude.{◌≡◌, ◌≤◌, None, IfErr, IfOk};
+ghost use Rattle.std.specs.Prelude.{◌≡◌, ◌≤◌, None, IfErr, IfOk, OnOk};
 ghost use Rattle.byte_ends.specs.declared.source.ReadFault.TheVariants as read;
 ghost use Rattle.geometry.specs.Units.{threshold_limit};
 ghost use Rattle.inputs.specs.declared.file_fault.FileFault.TheVariants as file;
@@ -7,7 +7,7 @@ ghost use Rattle.reports.specs.Summaries as spec;
 ghost use Rattle.topology_files.specs.Geo.{IsGeoFault, SendsText};
 ghost use Rattle.topology_simplifying.specs.Simplified.{IsSimplifyFault};
 ghost use Rattle.mapchain_cli.specs.Endings.{DecodesOf, IsSummaryFault, RefusesFile, SimplifiesOf, Summarises};
-ghost use Rattle.mapchain_cli.specs.Opening.{IsOpened};
+ghost use Rattle.mapchain_cli.specs.Opening.{IsOpened, Opened, RefusedBehind, used};
 
 use crate::files::Files;
 use byte_ends::{Drain, ReadFault, Sink, Source, flush_behind};
@@ -21,7 +21,9 @@ use topology_simplifying::simplify;
 /// Opens the file of a topology.
 fn open_file<F: Files>(path: &str, files: &mut F) -> Result<Source<F::R>, FileFault>
     ensures opened { IfOk result (λ source. IsOpened (F.contents files.old) path.now source) }
-    ensures refused { IfErr result (λ e. (F.contents files.old path.now ≡ None) × (e ≡ file.Read read.Read)) }
+    ensures once { OnOk result (Opened 1 (used (F.contents files.old) (F.opens files.old) (F.opens files.new))) }
+    ensures refused { IfErr result (λ e. (F.contents files.old path.now ≡ None)
+        × RefusedBehind 0 (used (F.contents files.old) (F.opens files.old) (F.opens files.new)) × (e ≡ file.Read read.Read)) }
 {
     match files.open(path) {
         Some(source) => Ok(source),
@@ -37,8 +39,8 @@ pub(crate) fn decode_object<F: Files, V: Drain>(
     files: &mut F,
     out: &mut Sink<V>,
 ) -> Result<(), FileFault>
-    ensures decoded { IfOk result (λ _. DecodesOf (F.contents files.old) name.now path.now out.old out.new) }
-    ensures refused { IfErr result (λ e. RefusesFile (F.contents files.old) path.now out.old out.new
+    ensures decoded { IfOk result (λ _. DecodesOf (used (F.contents files.old) (F.opens files.old) (F.opens files.new)) name.now path.now out.old out.new) }
+    ensures refused { IfErr result (λ e. RefusesFile (used (F.contents files.old) (F.opens files.old) (F.opens files.new)) path.now out.old out.new
         (λ s u. IsGeoFault name.now s u out.old out.new) e) }
 {
     let mut source = open_file(path, files)?;
@@ -56,8 +58,8 @@ pub(crate) fn simplify_file<F: Files, V: Drain>(
     out: &mut Sink<V>,
 ) -> Result<Report, FileFault>
     requires { ring_limit ≤ threshold_limit }
-    ensures simplified { IfOk result (λ report. SimplifiesOf (F.contents files.old) threshold ring_limit path.now out.old out.new report) }
-    ensures refused { IfErr result (λ e. RefusesFile (F.contents files.old) path.now out.old out.new
+    ensures simplified { IfOk result (λ report. SimplifiesOf (used (F.contents files.old) (F.opens files.old) (F.opens files.new)) threshold ring_limit path.now out.old out.new report) }
+    ensures refused { IfErr result (λ e. RefusesFile (used (F.contents files.old) (F.opens files.old) (F.opens files.new)) path.now out.old out.new
         (λ s u. IsSimplifyFault threshold ring_limit s u out.old out.new) e) }
 {
     let mut source = open_file(path, files)?;
@@ -82,8 +84,8 @@ pub(crate) fn summarise<F: Files, V: Drain>(
     files: &mut F,
     out: &mut Sink<V>,
 ) -> Result<(), FileFault>
-    ensures told { IfOk result (λ _. Summarises (F.contents files.old) path.now out.old out.new) }
-    ensures refused { IfErr result (λ e. RefusesFile (F.contents files.old) path.now out.old out.new (IsSummaryFault out.old out.new) e) }
+    ensures told { IfOk result (λ _. Summarises (used (F.contents files.old) (F.opens files.old) (F.opens files.new)) path.now out.old out.new) }
+    ensures refused { IfErr result (λ e. RefusesFile (used (F.contents files.old) (F.opens files.old) (F.opens files.new)) path.now out.old out.new (IsSummaryFault out.old out.new) e) }
 {
     let mut source = open_file(path, files)?;
     let summary = stat(alloc, &mut source)?;

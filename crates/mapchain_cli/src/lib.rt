@@ -8,6 +8,7 @@
 mod ending;
 mod file_running;
 mod files;
+mod opens;
 mod options;
 mod running;
 mod telling;
@@ -15,4 +16,5 @@ mod telling;
 pub use command_words::name_and_path;
 pub use fault_lines::{file_status, status};
 pub use files::Files;
+pub use opens::Opens;
 pub use running::{command, perform};

@@ -1,11 +1,12 @@
 // Running the program.
-ghost use Rattle.std.specs.Prelude.{◌≡◌, ◌⊎◌, ◌≤◌, IfErr, IfOk, true};
+ghost use Rattle.std.specs.Prelude.{◌≡◌, ◌⊎◌, ◌≤◌, IfErr, IfOk, OnOk, length, map, true};
+ghost use Rattle.std.specs.String.{string_bytes};
 ghost use Rattle.command_words.specs.Requests.{IsGridInRange};
 ghost use Rattle.inputs.specs.declared.fault.BuildFault.{BuildFault as Fault};
 ghost use Rattle.mapchain_cli.specs.Asking.{IsAnswered, IsRefused, texts_of};
 ghost use Rattle.mapchain_cli.specs.Endings.{BuildsOf, IsUnopened, RefusesLayers};
-ghost use Rattle.mapchain_cli.specs.Opening.{AreOpened};
-ghost use Rattle.mapchain_cli.specs.Runs.{IsPerformed, Runs};
+ghost use Rattle.mapchain_cli.specs.Opening.{AreOpened, Opened, OpensFront, used};
+ghost use Rattle.mapchain_cli.specs.Runs.{IsPerformed, Runs, RunsOn};
 ghost use Rattle.mapchain_cli.specs.declared.ending.Ending.TheVariants as ending;
 
 use crate::ending::Ending;
@@ -14,7 +15,7 @@ use crate::files::Files;
 use crate::options::{options_of, thresholds_asked};
 use crate::telling::{tell_done, tell_ending, tell_words};
 use byte_ends::{Drain, ReadFault, Sink, Source};
-use command_words::{Request, read_words};
+use command_words::{Request, WordsFault, joined_words, read_words};
 use effective_area::HeapLinks;
 use fault_lines::DONE;
 use inputs::BuildFault;
@@ -30,8 +31,9 @@ fn open_layers<F: Files>(
     files: &mut F,
 ) -> Result<Vec<(OwnText, Source<F::R>)>, Ending>
     ensures opened { IfOk result (λ v. AreOpened (F.contents files.old) (texts_of layers.now) v.items) }
-    ensures refused { IfErr result (λ e. (e ≡ ending.Memory)
-        ⊎ ((fault : Fault) × (e ≡ ending.Refused fault) × IsUnopened (F.contents files.old) (texts_of layers.now) fault)) }
+    ensures each_once { OnOk result (Opened (length (texts_of layers.now)) (used (F.contents files.old) (F.opens files.old) (F.opens files.new))) }
+    ensures refused { IfErr result (λ e. ((e ≡ ending.Memory) × OpensFront (length (texts_of layers.now)) (used (F.contents files.old) (F.opens files.old) (F.opens files.new)))
+        ⊎ ((fault : Fault) × (e ≡ ending.Refused fault) × IsUnopened (used (F.contents files.old) (F.opens files.old) (F.opens files.new)) (texts_of layers.now) fault)) }
 {
     let mut sources = Vec::new(alloc);
     'layers: for (layer, (name, path)) in layers.iter().enumerate() {
@@ -55,10 +57,11 @@ fn build_layers<F: Files, V: Drain>(
     files: &mut F,
     out: &mut Sink<V>,
 ) -> Result<Report, Ending>
-    ensures built { IfOk result (λ report. BuildsOf (F.contents files.old) options.now (texts_of layers.now) out.old out.new report) }
-    ensures refused { IfErr result (λ e. ((e ≡ ending.Memory) × (out.new ≡ out.old))
+    ensures built { IfOk result (λ report. BuildsOf (used (F.contents files.old) (F.opens files.old) (F.opens files.new)) options.now (texts_of layers.now) out.old out.new report) }
+    ensures refused { IfErr result (λ e. ((e ≡ ending.Memory) × (out.new ≡ out.old)
+        × OpensFront (length (texts_of layers.now)) (used (F.contents files.old) (F.opens files.old) (F.opens files.new)))
         ⊎ ((fault : Fault) × (e ≡ ending.Refused fault)
-        × RefusesLayers (F.contents files.old) options.now (texts_of layers.now) out.old out.new fault)) }
+        × RefusesLayers (used (F.contents files.old) (F.opens files.old) (F.opens files.new)) options.now (texts_of layers.now) out.old out.new fault)) }
 {
     let mut sources = open_layers(alloc, layers, files)?;
     let mut reducer = HeapLinks::new();
@@ -74,8 +77,8 @@ fn answer<F: Files, V: Drain>(
     out: &mut Sink<V>,
 ) -> Result<Option<Report>, Ending>
     requires { IsGridInRange request }
-    ensures answered { IfOk result (λ report. IsAnswered (F.contents files.old) request.entry out.old out.new report) }
-    ensures refused { IfErr result (λ e. IsRefused (F.contents files.old) request.entry out.old out.new e) }
+    ensures answered { IfOk result (λ report. IsAnswered (used (F.contents files.old) (F.opens files.old) (F.opens files.new)) request.entry out.old out.new report) }
+    ensures refused { IfErr result (λ e. IsRefused (used (F.contents files.old) (F.opens files.old) (F.opens files.new)) request.entry out.old out.new e) }
 {
     match request {
         Request::Build {
@@ -119,7 +122,7 @@ pub fn perform<F: Files, V: Drain, W: Drain>(
     err: &mut Sink<W>,
 ) -> u8
     requires { IsGridInRange request }
-    ensures { IsPerformed (F.contents files.old) request.entry
+    ensures { IsPerformed (used (F.contents files.old) (F.opens files.old) (F.opens files.new)) request.entry
         (record { out = out.old; err = err.old }) (record { out = out.new; err = err.new }) result }
 {
     match answer(alloc, request, files, out) {
@@ -128,6 +131,23 @@ pub fn perform<F: Files, V: Drain, W: Drain>(
             DONE
         }
         Err(ending) => tell_ending(&ending, err),
+    }
+}
+
+/// Runs the program on these words, in which an option whose value may be any text and that value are one word.
+fn run<F: Files, V: Drain, W: Drain>(
+    alloc: Global,
+    words: &[String],
+    files: &mut F,
+    out: &mut Sink<V>,
+    err: &mut Sink<W>,
+) -> u8
+    ensures { RunsOn (used (F.contents files.old) (F.opens files.old) (F.opens files.new)) (map string_bytes words.now)
+        (record { out = out.old; err = err.old }) (record { out = out.new; err = err.new }) result }
+{
+    match read_words(alloc, words) {
+        Ok(request) => perform(alloc, request, files, out, err),
+        Err(fault) => tell_words(alloc, &fault, out, err),
     }
 }
 
@@ -142,9 +162,9 @@ pub fn command<F: Files, V: Drain, W: Drain>(
     out: &mut Sink<V>,
     err: &mut Sink<W>,
 ) -> u8
-    // A request that is read of the words is done or refused, or help is given, or the words are refused; and standard error took
-    // what there is to tell.
-    ensures ran { Runs (F.contents files.old)
+    // The request that the words ask for is done or refused. Where they ask for none help is given, or the words are refused. Standard
+    // error took what there is to tell.
+    ensures ran { Runs (used (F.contents files.old) (F.opens files.old) (F.opens files.new)) (map string_bytes words.items)
         (record { out = out.old; err = err.old }) (record { out = out.new; err = err.new }) result }
     ensures status { result ≤ 3 }
     // At status 0 standard output took all that was written to it, and passed it on.
@@ -153,8 +173,8 @@ pub fn command<F: Files, V: Drain, W: Drain>(
     // Where the input or the words are refused, standard output takes nothing.
     ensures refused { (result ≡ 1) ⊎ (result ≡ 2) → out.new ≡ out.old }
 {
-    match read_words(alloc, words.as_slice()) {
-        Ok(request) => perform(alloc, request, files, out, err),
-        Err(fault) => tell_words(alloc, &fault, out, err),
+    match joined_words(alloc, words.as_slice()) {
+        Ok(joined) => run(alloc, joined.as_slice(), files, out, err),
+        Err(_) => tell_words(alloc, &WordsFault::Memory, out, err),
     }
 }

@@ -6,7 +6,7 @@
 use byte_ends::devices::CutReader;
 use byte_ends::{FromRead, Source};
 use example_pages::{LentFiles, Program, Streams, try_page};
-use mapchain_cli::command;
+use mapchain_cli::{Opens, command};
 use std::alloc::{AllocGlobal, Global};
 use std::fs::Files;
 use std::{fs, io};
@@ -15,13 +15,22 @@ use std::{fs, io};
 #[derive(Drop)]
 struct PageFiles<'a> {
     files: LentFiles<'a>,
+    opens: Opens,
 }
 
 impl<'a> mapchain_cli::Files for PageFiles<'a> {
     type R = FromRead<CutReader<'a>>;
 
+    ghost use Rattle.example_pages.specs.Held.{lent};
+
+    ghost contents = { λ s. lent s.files };
+
+    ghost opens = { λ s. s.opens };
+
     fn open(&mut self, path: &str) -> Option<Source<FromRead<CutReader<'a>>>> {
-        self.files.open(path)
+        let opened = self.files.open(path);
+        self.opens.count(opened.is_some());
+        opened
     }
 }
 
@@ -36,7 +45,10 @@ impl Program for Mapchain {
         files: LentFiles<'_>,
         streams: &mut Streams,
     ) -> u8 {
-        let mut files = PageFiles { files };
+        let mut files = PageFiles {
+            files,
+            opens: Opens::none(),
+        };
         command(
             alloc,
             words,

@@ -1,11 +1,13 @@
-use Rattle.command_words.proofs.Names.{next_named, next_split}
+use Rattle.std.proofs.Common.{◌∙◌, ap, inr, option_map, sym}
+use Rattle.command_words.proofs.LayerLemmas.{as_texts, next_layer, no_layer}
 use Rattle.command_words.proofs.layer_words.names_and_paths.Goals as goal
+
+pub returns-in-None-clause-layers : goal.returns-in-None-clause-layers
+returns-in-None-clause-layers c =
+    inr (no_layer c.args.words.now c.words.layers.items c.words.layer _ c.words-test.true c.words.invariant
+    (sym c.name_and_path.ensures.layer ∙ ap (option_map as_texts) c.in-None.is))
 
 pub words-preserved : goal.words-preserved
 words-preserved c =
-    let words = c.args.words.now in
-    let layers = c.words.layers.items in
-    rw c.in_ok-push-in-Some.ensures.items (record {
-      named = next_named words layers c.words.layer _ c.in-Some.split c.words-test.true c.words.invariant.named c.in-Some.ensures.name;
-      split = next_split words layers c.words.layer _ c.in-Some.split c.words-test.true c.words.invariant.split c.in-Some.ensures.split;
-    })
+    rw c.in_ok-push-in-Some.ensures.items (next_layer c.args.words.now c.words.layers.items c.words.layer _ c.in-Some.split c.words-test.true
+    c.words.invariant (sym c.name_and_path.ensures.layer ∙ ap (option_map as_texts) c.in-Some.is))

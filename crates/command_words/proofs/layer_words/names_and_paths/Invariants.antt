@@ -1,9 +1,8 @@
-use Rattle.std.proofs.Common.{◌≡◌, map, take}
-use Rattle.command_words.specs.LayerWords.{AreSplit, name_of}
+use Rattle.std.proofs.Common.{◌≡◌, map, drop}
+use Rattle.command_words.specs.Asked.{layers_of}
+use Rattle.command_words.proofs.LayerLemmas.{before}
 use Rattle.command_words.proofs.layer_words.names_and_paths.Given as goal
 
 abbrev pub invariant-words : goal.invariant-words
-invariant-words l = record {
-  named : map (λ layer. layer.0.now) l.layers.items ≡ map (λ word. name_of word.now) (take l.layer l.words);
-  split : AreSplit (map (λ word. word.now) (take l.layer l.words)) l.layers.items;
-}
+invariant-words l =
+    layers_of (map (λ w. w.now) l.words) ≡ before (map (λ layer. (layer.0.now, layer.1.now)) l.layers.items) (layers_of (drop l.layer (map (λ w. w.now) l.words)))

@@ -10,6 +10,7 @@ returns-in_err-summary-clause-refused g c =
       source_old = c.in_ok-source.source;
       source_new = c.stat.new.source;
       opened = c.in_ok-source.ensures.opened;
+      once = c.in_ok-source.ensures.once;
       fault = summary_fault c.args.out.now c.in_ok-source.source c.stat.new.source c.in_err-summary.field-0.0 c.in_err-summary.ensures.refused;
     }))
 
@@ -20,6 +21,7 @@ returns-in_err-send_summary-clause-refused g c =
       source_old = c.in_ok-source.source;
       source_new = c.stat.new.source;
       opened = c.in_ok-source.ensures.opened;
+      once = c.in_ok-source.ensures.once;
       fault = summary_cut c.args.out.now c.send_summary.new.out c.in_ok-source.source c.stat.new.source c.in_ok-summary.summary c.in_err-send_summary.field-0.0
           c.in_ok-summary.ensures.told c.in_err-send_summary.ensures;
     }))

@@ -1,20 +1,29 @@
-use Rattle.std.proofs.Common.{inl, inr}
-use Rattle.mapchain_cli.specs.Runs.{Runs, Streams}
+use Rattle.std.proofs.Common.{List, ap, inl, inr, map, refl, subst, ◌∙◌, ℕ}
+use Rattle.std.specs.String.{string_bytes}
+use Rattle.command_words.specs.Joined.{joined}
+use Rattle.command_words.specs.declared.words_fault.WordsFault.TheVariants.{Memory}
+use Rattle.mapchain_cli.specs.Opening.{used}
+use Rattle.mapchain_cli.specs.Runs.{RunsOn, Streams}
 use Rattle.mapchain_cli.proofs.Statuses.{says}
 use Rattle.mapchain_cli.proofs.running.command.Goals as goal
 
 pub returns-in-Ok : goal.returns-in-Ok
 returns-in-Ok g c =
+    let files = used (g.F.Files.contents c.args.files.now) (g.F.Files.opens c.args.files.now) (g.F.Files.opens c.run.new.files) in
     let old : Streams = record { out = c.args.out.now; err = c.args.err.now } in
-    let new : Streams = record { out = c.perform.new.out; err = c.perform.new.err } in
-    let ran : Runs (g.F.Files.contents c.args.files.now) old new c.perform.result = inl (c.in-Ok.request, c.in-Ok.ensures.split, c.in-Ok.ensures.grid, c.perform.ensures) in
-    let said = says (g.F.Files.contents c.args.files.now) old new c.perform.result ran in
+    let new : Streams = record { out = c.run.new.out; err = c.run.new.err } in
+    let words = joined (map string_bytes c.args.words.items) in
+    let asked = ap (map string_bytes) c.as_slice-in-Ok.ensures.value ∙ c.in-Ok.ensures ∙ ap (λ ws. joined (map string_bytes ws)) c.as_slice.ensures.value in
+    let ran : RunsOn files words old new c.run.result = subst (λ (ws : List (List ℕ)). RunsOn files ws old new c.run.result) asked c.run.ensures in
+    let said = says files words old new c.run.result ran in
     record { ran = ran; status = said.small; done = said.done; flushed = said.flushed; refused = said.refused }
 
 pub returns : goal.returns
 returns g c =
+    let files = used (g.F.Files.contents c.args.files.now) (g.F.Files.opens c.args.files.now) (g.F.Files.opens c.args.files.now) in
     let old : Streams = record { out = c.args.out.now; err = c.args.err.now } in
     let new : Streams = record { out = c.tell_words.new.out; err = c.tell_words.new.err } in
-    let ran : Runs (g.F.Files.contents c.args.files.now) old new c.tell_words.result = inr (c.in-Err.fault, c.tell_words.ensures) in
-    let said = says (g.F.Files.contents c.args.files.now) old new c.tell_words.result ran in
+    let words = joined (map string_bytes c.args.words.items) in
+    let ran : RunsOn files words old new c.tell_words.result = inr (Memory, (inl refl, tt), c.tell_words.ensures, refl) in
+    let said = says files words old new c.tell_words.result ran in
     record { ran = ran; status = said.small; done = said.done; flushed = said.flushed; refused = said.refused }

@@ -1,0 +1,85 @@
+-- The grid of what words ask for.
+use Rattle.std.proofs.Common.{◌≡◌, ◌^◌, ℕ, List, [], ◌∷◌, Bool, true, false, Option, Some, None, arith, refl, subst}
+use Rattle.std.specs.Prelude.{IfSome, codes, option_and_then, option_map, if◌then◌else◌}
+use Rattle.std.specs.Str.{bytes_eq}
+use Rattle.std.specs.Str.Parse.{digits_value, without_leading_plus}
+use Rattle.clap.specs.Kinds.{Kinds}
+use Rattle.clap.specs.ValueTests.{is_unsigned_in}
+use Rattle.clap.specs.Simple.{subcommand_of}
+use Rattle.clap.specs.Walk.{Row, Text, one_of}
+use Rattle.clap.specs.declared.builder.value_parser.ValueParser.TheVariants.{Unsigned}
+use Rattle.clap.proofs.ValueTestLemmas.{accepts-Accepts}
+use Rattle.command_words.specs.Asked.{Asked, asked, asked_in, build, build_in, build_on, cells_of, geo, grid_at, grid_in, has_both, kinds_of, layers_in, request_of, simplify, simplify_in, stat, text_of, where_none}
+use Rattle.command_words.specs.CommandLine.{program_app}
+use Rattle.command_words.specs.Requests.{IsCells, IsGridInRange}
+use Rattle.command_words.specs.declared.request.Request.{Request}
+use Rattle.command_words.specs.declared.request.Request.TheVariants.{Build, Simplify, Geo, Stat}
+
+-- its grid, if any, may have its number of cells
+abbrev IsInRange : Asked → Type 0
+IsInRange (build layers exact grid area keep ring_area) = IfSome grid IsCells
+IsInRange (simplify area ring_area path) = Unit {0}
+IsInRange (geo name path) = Unit {0}
+IsInRange (stat path) = Unit {0}
+
+cells_in_range : (text : Text) → IfSome (cells_of text) IsCells
+cells_in_range text = go (is_unsigned_in 2 (10 ^ 9) text) refl
+  where
+    go : (b : Bool) → is_unsigned_in 2 (10 ^ 9) text ≡ b → IfSome (if b then Some (digits_value 10 (without_leading_plus text)) else None) IsCells
+    go true e = let a = accepts-Accepts false (Unsigned 2 (10 ^ 9)) text e in (omega (arith, a.2), omega (arith, a.3))
+    go false e = tt
+
+some_cells : (cells : Option ℕ) → IfSome cells IsCells → IfSome (option_map (λ n. Some n) cells) (λ (grid : Option ℕ). IfSome grid IsCells)
+some_cells None h = tt
+some_cells (Some n) h = h
+
+grid_in_range : (given : Option Text) → IfSome (grid_at given) (λ grid. IfSome grid IsCells)
+grid_in_range None = tt
+grid_in_range (Some text) = some_cells (cells_of text) (cells_in_range text)
+
+build_in_range : (rows : List Row) (grid : Option (Option ℕ)) (layers : Option (List (Text × Text))) → IfSome grid (λ g. IfSome g IsCells)
+    → IfSome (option_and_then (λ g. option_map (build_on rows g) layers) grid) IsInRange
+build_in_range rows None layers h = tt
+build_in_range rows (Some g) None h = tt
+build_in_range rows (Some g) (Some ls) h = h
+
+either : (b : Bool) (x y : Option Asked) → IfSome x IsInRange → IfSome y IsInRange → IfSome (if b then x else y) IsInRange
+either true x y h k = h
+either false x y h k = k
+
+command_in_range : (found : Text × List Row) → IfSome (asked_in found) IsInRange
+command_in_range found =
+    let rows = found.1 in
+    let build_rows = build_in_range rows (grid_in rows) (layers_in rows) (grid_in_range (one_of (codes "grid") rows)) in
+    let built = either (has_both rows) None (option_and_then (λ g. option_map (build_on rows g) (layers_in rows)) (grid_in rows)) tt build_rows in
+    let simplified = simplify_in rows in
+    let decoded = geo (text_of (codes "object") rows) (text_of (codes "file") rows) in
+    let counted = stat (text_of (codes "file") rows) in
+    let is_simplify = bytes_eq found.0 (codes "simplify") in
+    let is_geo = bytes_eq found.0 (codes "geo") in
+    let is_stat = bytes_eq found.0 (codes "stat") in
+    let last : Option Asked = if is_stat then Some counted else None in
+    let third : Option Asked = if is_geo then Some decoded else last in
+    let second : Option Asked = if is_simplify then Some simplified else third in
+    either (bytes_eq found.0 (codes "build")) (build_in rows) second built
+    (either is_simplify (Some simplified) third tt (either is_geo (Some decoded) last tt (either is_stat (Some counted) None tt tt)))
+
+found_in_range : (found : Option (Text × List Row)) → IfSome (option_and_then asked_in found) IsInRange
+found_in_range None = tt
+found_in_range (Some found) = command_in_range found
+
+unless_refused : (kinds : Kinds) (o : Option Asked) → IfSome o IsInRange → IfSome (where_none kinds o) IsInRange
+unless_refused [] o h = h
+unless_refused (k ∷ ks) o h = tt
+
+of_request : (request : Request) → IsInRange (asked request) → IsGridInRange request
+of_request (Build layers exact grid area keep ring_area) h = h
+of_request (Simplify area ring_area path) h = tt
+of_request (Geo name path) h = tt
+of_request (Stat path) h = tt
+
+-- the grid of a request that words ask for may have its number of cells
+pub asked_in_range : (words : List Text) (request : Request) → request_of words ≡ Some (asked request) → IsGridInRange request
+asked_in_range words request is =
+    of_request request (subst (λ (o : Option Asked). IfSome o IsInRange) is
+    (unless_refused (kinds_of words) _ (found_in_range (subcommand_of program_app words))))

@@ -1,0 +1,134 @@
+-- What is written is what is asked for.
+use Rattle.std.proofs.Common.{◌≡◌, ◌∙◌, ◌+◌, ◌<◌, ◌==◌, ◌||◌, ◌++◌, ℕ, suc, List, [], ◌∷◌, Bool, true, false, Some, None, cond, length, map, take, drop, refl, sym, ap, ap₂, arith, subst, lt-ltb, length-append}
+use Rattle.std.proofs.Common.{ℤ, ◌≤◌, ◌^◌}
+use Rattle.std.specs.Prelude.{FitsSigned, decimal, nat_lt, neg_ℤ, pos, unwrap_or, ◌≤ℤ◌}
+use Rattle.std.specs.Int.{w64}
+use Rattle.std.specs.Str.Parse.{IsNumeral, digits_value, signed_digits_value, starts_with_minus, without_leading_plus, without_leading_sign}
+use Rattle.std.proofs.lemmas.Bool.{ne_eqb}
+use Rattle.std.proofs.lemmas.Fmt.{decimal_is_IsNumeral}
+use Rattle.std.proofs.lemmas.Int.{ints}
+use Rattle.std.proofs.lemmas.Str.Parse.{digit_from_value}
+use Rattle.clap.specs.ValueTests.{accepts}
+use Rattle.clap.specs.declared.builder.value_parser.ValueParser.TheVariants.{Signed, Unsigned}
+use Rattle.clap.proofs.ValueTestLemmas.{Accepts-accepts}
+use Rattle.std.specs.List.{list_any, position, position_or_len}
+use Rattle.clap.specs.Lexer.{has_byte, without_minus}
+use Rattle.clap.specs.Walk.{Text}
+use Rattle.command_words.specs.LayerWords.{equals_sign}
+use Rattle.command_words.specs.Asked.{Asked, and_layer, build, cells_of, geo, layer_of, layers_of, request_of, simplify, stat}
+use Rattle.command_words.specs.Written.{HasPlainNames, IsWritable, layer_word, written}
+use Rattle.command_words.proofs.Laws.{geo_law, simplify_law, stat_law}
+use Rattle.command_words.proofs.BuildLaw.{build_exact_law, build_grid_exact_law, build_grid_keep_exact_law, build_grid_keep_law, build_grid_law, build_keep_exact_law, build_keep_law, build_law}
+use Rattle.command_words.specs.Requests.{IsCells}
+use Rattle.clap.specs.Lexer.{usize_max}
+use Rattle.command_words.proofs.Getters.{in_range}
+
+both_false : (a b : Bool) → (a || b) ≡ false → (a ≡ false) × (b ≡ false)
+both_false true b e = cc
+both_false false b e = (refl, e)
+
+-- the place of the first `=` is behind the name
+place : (name path : Text) → has_byte equals_sign name ≡ false → position_or_len (λ c. c == equals_sign) (name ++ equals_sign ∷ path) ≡ length name
+place [] path none = refl
+place (x ∷ name) path none =
+    let parts = both_false (x == equals_sign) (has_byte equals_sign name) none in
+    let rest : position_or_len (λ c. c == equals_sign) (name ++ equals_sign ∷ path) ≡ length name = place name path parts.1 in
+    let more : 1 + position_or_len (λ c. c == equals_sign) (name ++ equals_sign ∷ path) ≡ suc (length name) = omega arith in
+    rw parts.0 more
+
+taken : (name rest : Text) → take (length name) (name ++ rest) ≡ name
+taken [] rest = refl
+taken (x ∷ name) rest = ap (λ xs. x ∷ xs) (taken name rest)
+
+dropped : (name path : Text) → drop (suc (length name)) (name ++ equals_sign ∷ path) ≡ path
+dropped [] path = refl
+dropped (x ∷ name) path = dropped name path
+
+split : (name path : Text) → has_byte equals_sign name ≡ false → layer_of (name ++ equals_sign ∷ path) ≡ Some (name, path)
+split name path none =
+    let word = name ++ equals_sign ∷ path in
+    let at = place name path none in
+    let within : length name < length word = rw (length-append name (equals_sign ∷ path)) (omega arith) in
+    let found : position (λ c. c == equals_sign) word ≡ Some (length name) =
+    ap (λ (n : ℕ). cond (nat_lt n (length word)) (Some n) None) at ∙ ap (λ (b : Bool). cond b (Some (length name)) None) (lt-ltb (length name) (length word) within) in
+    let one : length name + 1 ≡ suc (length name) = omega arith in
+    ap (Rattle.std.specs.Option.option_map (λ (i : ℕ). (take i word, drop (i + 1) word))) found
+    ∙ (λ i. Some (taken name (equals_sign ∷ path) i, (ap (λ n. drop n word) one ∙ dropped name path) i))
+
+pub all_split : (layers : List (Text × Text)) → HasPlainNames layers → layers_of (map layer_word layers) ≡ Some layers
+all_split [] plain = refl
+all_split (layer ∷ layers) plain = ap₂ and_layer (split layer.0 layer.1 plain.0) (all_split layers plain.1)
+
+length_words : (layers : List (Text × Text)) → length (map layer_word layers) ≡ length layers
+length_words [] = refl
+length_words (layer ∷ layers) = ap suc (length_words layers)
+
+-- ---- the grid
+
+no_sign : (t : Text) → IsNumeral 10 t → (starts_with_minus t ≡ false) × (without_leading_plus t ≡ t) × (without_minus t ≡ t)
+no_sign [] h = absurd (omega arith)
+no_sign (d ∷ ds) h =
+    let minus : (d == 45) ≡ false = ne_eqb _ _ (λ e. omega (arith, digit_from_value d h.1.0)) in
+    let plus : (d == 43) ≡ false = ne_eqb _ _ (λ e. omega (arith, digit_from_value d h.1.0)) in
+    (minus, ap (λ (b : Bool). drop (cond b 1 0) (d ∷ ds)) plus, ap (λ (b : Bool). unwrap_or (cond b (Some ds) None) (d ∷ ds)) minus)
+
+cells_taken : (t : Text) (n : ℕ) → IsNumeral 10 t → digits_value 10 t ≡ n → 2 ≤ n → n ≤ 1000000000
+    → accepts false (Signed (pos 2) (pos 1000000000)) t ≡ true
+cells_taken t n h v low high =
+    let s = no_sign t h in
+    let bare : without_leading_sign t ≡ t = ap (λ (b : Bool). cond b (drop 1 t) (without_leading_plus t)) s.0 ∙ s.1 in
+    let value : signed_digits_value 10 t ≡ pos n =
+    ap (λ (b : Bool). cond b (neg_ℤ (pos (digits_value 10 (without_leading_sign t)))) (pos (digits_value 10 (without_leading_sign t)))) s.0
+    ∙ ap (λ (w : Text). pos (digits_value 10 w)) bare ∙ ap (λ k. pos k) v in
+    let small : FitsSigned w64 (pos n) = record { sfits = omega arith } in
+    let least : pos 2 ≤ℤ pos n = omega (arith, ints) in
+    let most : pos n ≤ℤ pos 1000000000 = omega (arith, ints) in
+    Accepts-accepts false (Signed (pos 2) (pos 1000000000)) t
+    (subst (IsNumeral 10) (sym bare) h, subst (FitsSigned w64) (sym value) small, subst (λ (z : ℤ). pos 2 ≤ℤ z) (sym value) least, subst (λ (z : ℤ). z ≤ℤ pos 1000000000) (sym value) most)
+
+cells_read : (t : Text) (n : ℕ) → IsNumeral 10 t → digits_value 10 t ≡ n → 2 ≤ n → n ≤ 1000000000 → cells_of (without_minus t) ≡ Some n
+cells_read t n h v low high =
+    let s = no_sign t h in
+    let value : digits_value 10 (without_leading_plus t) ≡ n = ap (digits_value 10) s.1 ∙ v in
+    ap cells_of s.2 ∙ in_range t n (sym value)
+    (Accepts-accepts false (Unsigned 2 (10 ^ 9)) t (subst (IsNumeral 10) (sym s.1) h, omega arith, omega arith, omega arith))
+
+-- a number of cells is read back
+abbrev IsRead : ℕ → Type 0
+IsRead n = (accepts false (Signed (pos 2) (pos 1000000000)) (decimal n) ≡ true) × (cells_of (without_minus (decimal n)) ≡ Some n)
+
+is_read : (n : ℕ) → IsCells n → IsRead n
+is_read n cells =
+    let low : 2 ≤ n = cells.0 in
+    let high : n ≤ 1000000000 = cells.1 in
+    let d = decimal_is_IsNumeral n (omega arith) in
+    (cells_taken (decimal n) n d.0 d.1 low high, cells_read (decimal n) n d.0 d.1 low high)
+
+fits : (layers : List (Text × Text)) → suc (length layers) < usize_max → length (map layer_word layers) < usize_max
+fits layers few = let same = length_words layers in omega (arith, few)
+
+pub asked_as_written : (a : Asked) → IsWritable a → request_of (written a) ≡ Some a
+asked_as_written (build [] exact grid area keep ring_area) can = absurd (omega (arith, can.1))
+asked_as_written (build (layer ∷ layers) true None area None ring_area) can =
+    build_exact_law ring_area (layer_word layer) (map layer_word layers) (layer ∷ layers) (all_split (layer ∷ layers) can.3) (fits layers can.2) area
+asked_as_written (build (layer ∷ layers) false None area None ring_area) can =
+    build_law ring_area (layer_word layer) (map layer_word layers) (layer ∷ layers) (all_split (layer ∷ layers) can.3) (fits layers can.2) area
+asked_as_written (build (layer ∷ layers) true None area (Some share) ring_area) can =
+    build_keep_exact_law ring_area (layer_word layer) (map layer_word layers) (layer ∷ layers) (all_split (layer ∷ layers) can.3) (fits layers can.2) share
+    ∙ (λ i. Some (build (layer ∷ layers) true None (sym can.4 i) (Some share) ring_area))
+asked_as_written (build (layer ∷ layers) false None area (Some share) ring_area) can =
+    build_keep_law ring_area (layer_word layer) (map layer_word layers) (layer ∷ layers) (all_split (layer ∷ layers) can.3) (fits layers can.2) share
+    ∙ (λ i. Some (build (layer ∷ layers) false None (sym can.4 i) (Some share) ring_area))
+asked_as_written (build (layer ∷ layers) true (Some n) area None ring_area) can =
+    build_grid_exact_law ring_area (layer_word layer) (map layer_word layers) (layer ∷ layers) (all_split (layer ∷ layers) can.3) (fits layers can.2) (decimal n) n (is_read n can.0).0 (is_read n can.0).1 area
+asked_as_written (build (layer ∷ layers) false (Some n) area None ring_area) can =
+    build_grid_law ring_area (layer_word layer) (map layer_word layers) (layer ∷ layers) (all_split (layer ∷ layers) can.3) (fits layers can.2) (decimal n) n (is_read n can.0).0 (is_read n can.0).1 area
+asked_as_written (build (layer ∷ layers) true (Some n) area (Some share) ring_area) can =
+    build_grid_keep_exact_law ring_area (layer_word layer) (map layer_word layers) (layer ∷ layers) (all_split (layer ∷ layers) can.3) (fits layers can.2) (decimal n) n (is_read n can.0).0 (is_read n can.0).1 share
+    ∙ (λ i. Some (build (layer ∷ layers) true (Some n) (sym can.4 i) (Some share) ring_area))
+asked_as_written (build (layer ∷ layers) false (Some n) area (Some share) ring_area) can =
+    build_grid_keep_law ring_area (layer_word layer) (map layer_word layers) (layer ∷ layers) (all_split (layer ∷ layers) can.3) (fits layers can.2) (decimal n) n (is_read n can.0).0 (is_read n can.0).1 share
+    ∙ (λ i. Some (build (layer ∷ layers) false (Some n) (sym can.4 i) (Some share) ring_area))
+asked_as_written (simplify area ring_area path) can = simplify_law area ring_area path
+asked_as_written (geo name path) can = geo_law name path
+asked_as_written (stat path) can = stat_law path

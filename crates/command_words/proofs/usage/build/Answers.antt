@@ -1,0 +1,13 @@
+use Rattle.std.proofs.lemmas.Result.{IfOk-weaker}
+use Rattle.command_words.specs.CommandLine.{area_rule, exact_rule, grid_rule, keep_rule, layers_rule, ring_area_rule}
+use Rattle.command_words.proofs.Apps.{more_rules}
+use Rattle.command_words.proofs.usage.build.Goals as goal
+
+pub returns : goal.returns
+returns c = λ keep.
+    let one = more_rules _ _ c.in_ok-arg.field-0 _ grid_rule c.in_ok-arg.ensures c.command.ensures c.grid.ensures in
+    let two = more_rules _ _ c.in_ok-arg-2.field-0 _ area_rule c.in_ok-arg-2.ensures one c.area.ensures in
+    let three = more_rules _ _ c.in_ok-arg-3.field-0 _ keep_rule c.in_ok-arg-3.ensures two keep in
+    let four = more_rules _ _ c.in_ok-arg-4.field-0 _ ring_area_rule c.in_ok-arg-4.ensures three c.ring_area.ensures in
+    let five = more_rules _ _ c.in_ok-arg-5.field-0 _ exact_rule c.in_ok-arg-5.ensures four c.exact.ensures in
+    IfOk-weaker c.arg-6.result _ _ (λ new adds. more_rules _ _ new _ layers_rule adds five c.layers.ensures) c.arg-6.ensures

@@ -1,0 +1,136 @@
+-- What the words behind the program's name ask for.
+use Rattle.std.specs.Prelude.{◌≡◌, ◌⊎◌, ◌+◌, ◌^◌, ◌==◌, ℕ, Bool, is_some, ◌&&◌, List, [], ◌∷◌, map, take, drop, codes, Option, Some, None}
+use Rattle.std.specs.Prelude.{Result, Ok, Err, if◌then◌else◌, option_map, option_and_then, unwrap_or}
+use Rattle.std.specs.List.{position}
+use Rattle.std.specs.Str.{bytes_eq}
+use Rattle.std.specs.Str.Parse.{digits_value, without_leading_plus}
+use Rattle.clap.specs.ValueTests.{is_unsigned_in}
+use Rattle.clap.specs.Walk.{Row, Text, all_of, first_of, one_of, rows_of}
+use Rattle.clap.specs.Matches.{found_of}
+use Rattle.clap.specs.Simple.{subcommand_of}
+use Rattle.clap.specs.Faults.{fault_of}
+use Rattle.clap.specs.Kinds.{Kinds}
+use Rattle.clap.specs.declared.parser.matches.ArgMatches.{ArgMatches}
+use Rattle.command_words.specs.LayerWords.{equals_sign}
+use Rattle.command_words.specs.CommandLine.{program_app}
+use Rattle.command_words.specs.declared.request.Request.{Request}
+use Rattle.command_words.specs.declared.request.Request.TheVariants.{Build, Simplify, Geo, Stat}
+use Rattle.command_words.specs.declared.words_fault.WordsFault.{WordsFault}
+use Rattle.command_words.specs.declared.words_fault.WordsFault.TheVariants.{Memory}
+
+pub data Asked : Type 0 where
+  -- the names and paths of the layers, whether rounding is refused, the cells of the grid, the area, the share, the ring area
+  build : List (Text × Text) → Bool → Option ℕ → Text → Option Text → Text → Asked
+  -- the area, the ring area and the file
+  simplify : Text → Text → Text → Asked
+  -- the object and the file
+  geo : Text → Text → Asked
+  -- the file
+  stat : Text → Asked
+
+-- a request as what it asks for
+abbrev pub asked : Request → Asked
+asked (Build layers exact grid area keep ring_area) =
+    build (map (λ l. (l.0.now, l.1.now)) layers.items) exact grid area.now (option_map (λ k. k.now) keep) ring_area.now
+asked (Simplify area ring_area path) = simplify area.now ring_area.now path.now
+asked (Geo name path) = geo name.now path.now
+asked (Stat path) = stat path.now
+
+-- ---- values
+
+-- a layer word in two, before and behind its first `=`
+abbrev pub layer_of : Text → Option (Text × Text)
+layer_of word = option_map (λ i. (take i word, drop (i + 1) word)) (position (λ c. c == equals_sign) word)
+
+abbrev pub and_layer : Option (Text × Text) → Option (List (Text × Text)) → Option (List (Text × Text))
+and_layer (Some layer) (Some layers) = Some (layer ∷ layers)
+and_layer _ _ = None
+
+-- all of them, if each has an `=`
+abbrev pub layers_of : List Text → Option (List (Text × Text))
+layers_of [] = Some []
+layers_of (word ∷ words) = and_layer (layer_of word) (layers_of words)
+
+-- a number of cells, from 2 to 10^9
+abbrev pub cells_of : Text → Option ℕ
+cells_of text = if is_unsigned_in 2 (10 ^ 9) text then Some (digits_value 10 (without_leading_plus text)) else None
+
+-- ---- what was found for the arguments of a command
+
+-- the first value of this argument
+abbrev pub text_of : Text → List Row → Text
+text_of id rows = unwrap_or (first_of id rows) []
+
+-- the area, which is 0 where none is given
+abbrev pub area_in : List Row → Text
+area_in rows = unwrap_or (first_of (codes "min-area") rows) (codes "0")
+
+-- the share that takes its place, if any
+abbrev pub keep_in : List Row → Option Text
+keep_in rows = first_of (codes "keep") rows
+
+-- an area and a share are given both
+abbrev pub has_both : List Row → Bool
+has_both rows = is_some (first_of (codes "min-area") rows) && is_some (keep_in rows)
+
+-- the ring area, which is 0 where none is given
+abbrev pub ring_area_in : List Row → Text
+ring_area_in rows = unwrap_or (first_of (codes "min-ring-area") rows) (codes "0")
+
+abbrev pub exact_in : List Row → Bool
+exact_in rows = bytes_eq (text_of (codes "exact") rows) (codes "true")
+
+abbrev pub grid_at : Option Text → Option (Option ℕ)
+grid_at None = Some None
+grid_at (Some text) = option_map (λ n. Some n) (cells_of text)
+
+abbrev pub grid_in : List Row → Option (Option ℕ)
+grid_in rows = grid_at (one_of (codes "grid") rows)
+
+abbrev pub layers_in : List Row → Option (List (Text × Text))
+layers_in rows = layers_of (unwrap_or (all_of (codes "layers") rows) [])
+
+-- a build of these layers on this grid
+abbrev pub build_on : List Row → Option ℕ → List (Text × Text) → Asked
+build_on rows grid layers = build layers (exact_in rows) grid (area_in rows) (keep_in rows) (ring_area_in rows)
+
+-- what `build` asks for, which takes no share beside an area
+abbrev pub build_in : List Row → Option Asked
+build_in rows = if has_both rows then None else option_and_then (λ grid. option_map (build_on rows grid) (layers_in rows)) (grid_in rows)
+
+abbrev pub simplify_in : List Row → Asked
+simplify_in rows = simplify (area_in rows) (ring_area_in rows) (text_of (codes "file") rows)
+
+-- what a command of this name asks for
+abbrev pub asked_in : Text × List Row → Option Asked
+asked_in found =
+    if bytes_eq found.0 (codes "build") then build_in found.1
+    else (if bytes_eq found.0 (codes "simplify") then Some (simplify_in found.1)
+    else (if bytes_eq found.0 (codes "geo") then Some (geo (text_of (codes "object") found.1) (text_of (codes "file") found.1))
+    else (if bytes_eq found.0 (codes "stat") then Some (stat (text_of (codes "file") found.1))
+    else None)))
+
+-- ---- the words
+
+abbrev pub where_none : {X : Type 0} → Kinds → Option X → Option X
+where_none [] o = o
+where_none (k ∷ ks) o = None
+
+-- the kinds of error by which the command line may refuse the words, or tell help; where there are none it takes them
+abbrev pub kinds_of : List Text → Kinds
+kinds_of words = fault_of program_app words
+
+-- what the words ask for, if the command line takes them
+abbrev pub request_of : List Text → Option Asked
+request_of words = where_none (kinds_of words) (option_and_then asked_in (subcommand_of program_app words))
+
+-- ---- answers
+
+-- the value is what is asked for, and a fault comes for want of memory or where nothing is
+abbrev pub Answers : {A B : Type 0} → Option B → (A → B) → Result A WordsFault → Type 0
+Answers o f (Ok a) = o ≡ Some (f a)
+Answers o f (Err e) = (e ≡ Memory) ⊎ (o ≡ None)
+
+-- what a parse found for the command's own arguments
+abbrev pub entries_of : ArgMatches → List Row
+entries_of m = rows_of (found_of m)

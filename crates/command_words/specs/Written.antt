@@ -1,0 +1,63 @@
+-- Words that ask for a request, whatever it is.
+use Rattle.std.specs.Prelude.{IfSome, decimal, ◌≡◌, ◌<◌, ◌++◌, ℕ, Bool, true, false, List, [], ◌∷◌, length, map, codes, Option, Some, None}
+use Rattle.clap.specs.Lexer.{has_byte, usize_max}
+use Rattle.clap.specs.Walk.{Text}
+use Rattle.command_words.specs.LayerWords.{equals_sign}
+use Rattle.command_words.specs.Requests.{IsCells}
+use Rattle.command_words.specs.Asked.{Asked, build, geo, simplify, stat}
+
+-- a layer as a word
+abbrev pub layer_word : Text × Text → Text
+layer_word layer = layer.0 ++ equals_sign ∷ layer.1
+
+abbrev pub and_exact : Bool → List Text → List Text
+and_exact true words = codes "--exact" ∷ words
+and_exact false words = words
+
+abbrev pub and_grid : Option ℕ → List Text → List Text
+and_grid (Some n) words = (codes "--grid=" ++ decimal n) ∷ words
+and_grid None words = words
+
+-- the area, or a share in its place
+abbrev pub level_word : Text → Option Text → Text
+level_word area None = codes "--min-area=" ++ area
+level_word area (Some share) = codes "--keep=" ++ share
+
+abbrev pub ring_area_word : Text → Text
+ring_area_word ring_area = codes "--min-ring-area=" ++ ring_area
+
+-- the words of a request
+abbrev pub written : Asked → List Text
+written (build layers exact grid area keep ring_area) =
+    codes "build" ∷ and_grid grid (level_word area keep ∷ ring_area_word ring_area ∷ and_exact exact (codes "--" ∷ map layer_word layers))
+written (simplify area ring_area path) = codes "simplify" ∷ level_word area None ∷ ring_area_word ring_area ∷ codes "--" ∷ path ∷ []
+written (geo name path) = codes "geo" ∷ (codes "--object=" ++ name) ∷ codes "--" ∷ path ∷ []
+written (stat path) = codes "stat" ∷ codes "--" ∷ path ∷ []
+
+-- the same with a value that may be any text as a word of its own
+abbrev pub level_apart : Text → Option Text → List Text → List Text
+level_apart area None words = codes "--min-area" ∷ area ∷ words
+level_apart area (Some share) words = codes "--keep" ∷ share ∷ words
+
+abbrev pub ring_area_apart : Text → List Text → List Text
+ring_area_apart ring_area words = codes "--min-ring-area" ∷ ring_area ∷ words
+
+abbrev pub written_apart : Asked → List Text
+written_apart (build layers exact grid area keep ring_area) =
+    codes "build" ∷ and_grid grid (level_apart area keep (ring_area_apart ring_area (and_exact exact (codes "--" ∷ map layer_word layers))))
+written_apart (simplify area ring_area path) = codes "simplify" ∷ level_apart area None (ring_area_apart ring_area (codes "--" ∷ path ∷ []))
+written_apart (geo name path) = written (geo name path)
+written_apart (stat path) = written (stat path)
+
+-- no name has an `=`
+abbrev pub HasPlainNames : List (Text × Text) → Type 0
+HasPlainNames [] = Unit {0}
+HasPlainNames (layer ∷ layers) = (has_byte equals_sign layer.0 ≡ false) × HasPlainNames layers
+
+-- a request that `written` writes: a build has a layer or more, a grid from 2 to 10^9 cells if any, and an area of 0 beside a share
+abbrev pub IsWritable : Asked → Type 0
+IsWritable (build layers exact grid area keep ring_area) = IfSome grid IsCells × (0 < length layers) × (length layers < usize_max)
+    × HasPlainNames layers × IfSome keep (λ _. area ≡ codes "0")
+IsWritable (simplify area ring_area path) = Unit {0}
+IsWritable (geo name path) = Unit {0}
+IsWritable (stat path) = Unit {0}

@@ -1,4 +1,5 @@
 mod BuiltAgain
 mod ComingBack
+mod Dropping
 mod NeverRefused
 mod SameBytes

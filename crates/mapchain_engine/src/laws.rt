@@ -1,5 +1,6 @@
 // Laws of the contracts. A function here does nothing: its contract is the law.
 ghost use Rattle.mapchain_engine.specs.Back.{ComesBack, GeoIsNeverRefused, SimplifyIsNeverRefused, StatIsNeverRefused};
+ghost use Rattle.mapchain_engine.specs.Dropping.{DropsAreTold};
 ghost use Rattle.mapchain_engine.specs.Laws.{
   BuildsOneText,
   DecodesBack,
@@ -86,3 +87,10 @@ pub fn simplified_text_is_built_of_same_bytes()
     layers_have_one_outcome();
     read_layers_are_the_outcome();
 }
+
+/// What is expected of a layer and what is told as dropped of it are two walks over the same features, and they agree: each line and ring,
+/// in reading order, is either told as dropped, by its place, or stands among the lines of what is left.
+#[tactic(auto, using(crate::proofs::Dropping::leaves_out))]
+pub fn dropped_lines_are_told()
+    ensures { DropsAreTold }
+{}

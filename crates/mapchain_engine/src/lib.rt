@@ -12,8 +12,8 @@ pub use geojson_types::{Address, Cause, Dropped};
 pub use inputs::{BuildFault, FileFault};
 pub use laws::{
     built_at_zero_loses_nothing, built_text_comes_back, built_text_decodes_back,
-    built_text_is_never_refused, built_text_is_summarised, same_bytes_build_one_text,
-    simplified_text_is_built, simplified_text_is_built_of_same_bytes,
+    built_text_is_never_refused, built_text_is_summarised, dropped_lines_are_told,
+    same_bytes_build_one_text, simplified_text_is_built, simplified_text_is_built_of_same_bytes,
 };
 pub use layer_sources::{layers_have_one_outcome, read_layers_are_the_outcome};
 pub use reports::{Report, Summary, report_text, summary_text};

@@ -1,15 +1,15 @@
 #!/usr/bin/env python3
-"""Refuses each allocation of the program in turn, and shows that a run then ends in want of memory with nothing written, or in its
-own answer, and never in anything else:
+"""Refuses each allocation of the program in turn, and shows that a run then ends in want of memory with nothing written. Where the
+allocation is one that a run can do without, which are named below, it may end in its own answer; it never ends in anything else:
 
     scripts/refused-memory.py                     the programs of ./mapchain and of crates/allocation_tests, which are proved
                                                   and built first where they have to be
     scripts/refused-memory.py path/to/mapchain    another program with the same commands
 
 It needs a C compiler, `cc` or the one that CC names, and the C library of GNU: for N = 1, 2, .. a library of a few lines, which
-it compiles and has the program load, refuses the Nth allocation, once. A command is through where a run asked for fewer than N. Its
-answer is then the one that stands here. Then it runs crates/allocation_tests in the same way, where a reducer that was refused
-memory has to answer the next call.
+it compiles and has the program load, refuses the Nth allocation, once, and tells which one that was. A command is through where a run
+asked for fewer than N. Its answer is then the one that stands here. Then it runs crates/allocation_tests in the same way, where a
+reducer that was refused memory has to answer the next call.
 
 It ends with status 0, or with status 1 at the first run that ends in anything else. The gate refuses no memory, so this is run by
 hand, and takes less than a minute.
@@ -22,9 +22,13 @@ import time
 
 ROOT = os.path.dirname(os.path.dirname(os.path.realpath(__file__)))
 
-# What refuses. It tells that it did by a byte to a file.
+# What refuses. It tells of the allocation that it refused, in words to a file: whether it is new, or a list that grows or shrinks,
+# how many bytes were asked for, and how many files the run had opened.
 REFUSING = r"""
-#include <stddef.h>
+#include <fcntl.h>
+#include <malloc.h>
+#include <stdarg.h>
+#include <stdio.h>
 #include <stdlib.h>
 #include <unistd.h>
 
@@ -35,21 +39,48 @@ extern void *__libc_memalign(size_t, size_t);
 
 static long left;
 static int told;
+static int opened;
 
 __attribute__((constructor)) static void start(void) {
     left = atol(getenv("REFUSED_ALLOCATION"));
     told = atoi(getenv("REFUSED_TOLD"));
 }
 
-static int is_refused(void) {
-    return left > 0 && --left == 0 && write(told, "r", 1) == 1;
+static int is_refused(const char *kind, size_t size) {
+    char line[64];
+    if (left <= 0 || --left > 0) return 0;
+    int length = snprintf(line, sizeof line, "%s %zu %d", kind, size, opened);
+    return write(told, line, length) == length;
 }
 
-void *malloc(size_t size) { return is_refused() ? NULL : __libc_malloc(size); }
-void *calloc(size_t n, size_t size) { return is_refused() ? NULL : __libc_calloc(n, size); }
-void *realloc(void *old, size_t size) { return is_refused() ? NULL : __libc_realloc(old, size); }
-void *aligned_alloc(size_t by, size_t size) { return is_refused() ? NULL : __libc_memalign(by, size); }
+int open(const char *path, int flags, ...) {
+    va_list rest;
+    va_start(rest, flags);
+    mode_t mode = flags & O_CREAT ? va_arg(rest, mode_t) : 0;
+    va_end(rest);
+    opened++;
+    return openat(AT_FDCWD, path, flags, mode);
+}
+
+void *malloc(size_t size) { return is_refused("new", size) ? NULL : __libc_malloc(size); }
+void *calloc(size_t n, size_t size) { return is_refused("new", n * size) ? NULL : __libc_calloc(n, size); }
+void *aligned_alloc(size_t by, size_t size) { return is_refused("new", size) ? NULL : __libc_memalign(by, size); }
+
+void *realloc(void *old, size_t size) {
+    const char *kind = old && size <= malloc_usable_size(old) ? "less" : "more";
+    return is_refused(kind, size) ? NULL : __libc_realloc(old, size);
+}
 """
+
+# The allocations that a run can do without:
+#
+# - a list that gives back what it doesn't use keeps its room where it can't;
+# - std collects the words of the command line with or without a list of 96 bytes, before a file is opened;
+# - the names of layers are looked through one by one where the set of them can't be had, whose parts have these sizes in bytes. It is
+#   asked for once all files are open.
+SHRINKING = "less"
+WORDS_LIST = ("new", 96, 0)
+NAME_SET = (256, 72, 144, 1)
 
 # ---- the files
 
@@ -154,18 +185,28 @@ class Refusing:
         subprocess.run(words, input=REFUSING.encode(), check=True)
 
     def run(self, words, number):
-        """The status, standard output and standard error, and whether the allocation of this number was asked for and refused."""
+        """The status, standard output and standard error, and the allocation of this number, if it was asked for: what it was, how many
+        bytes, and how many files were open before."""
         with open(f"{self.folder}/told", "wb") as told:
             file = told.fileno()
             env = {"LD_PRELOAD": self.library, "REFUSED_ALLOCATION": str(number), "REFUSED_TOLD": str(file)}
             ended = subprocess.run(words, cwd=self.folder, env=env, pass_fds=[file], capture_output=True, timeout=60)
-        was_refused = os.path.getsize(f"{self.folder}/told") > 0
-        return ended.returncode, ended.stdout.decode(), ended.stderr.decode(), was_refused
+        with open(f"{self.folder}/told") as told:
+            kind, *numbers = told.read().split() or [None]
+        refused = kind and (kind, *map(int, numbers))
+        return ended.returncode, ended.stdout.decode(), ended.stderr.decode(), refused
+
+
+def is_dispensable(words, refused):
+    """Whether a run of this command can do without this allocation."""
+    kind, size, opened = refused
+    is_of_names = kind == "new" and size in NAME_SET and words[0] == "build" and opened == sum("=" in it for it in words)
+    return kind == SHRINKING or refused == WORDS_LIST or is_of_names
 
 
 def fail(words, number, ended):
     """Tells of a run that ended in anything else, and ends."""
-    print(f"{words}: allocation {number} refused: status {ended[0]}\n{ended[1]}\n{ended[2]}", file=sys.stderr)
+    print(f"{words}: allocation {number}, {ended[3]}, refused: status {ended[0]}\n{ended[1]}\n{ended[2]}", file=sys.stderr)
     sys.exit(1)
 
 
@@ -179,10 +220,12 @@ def refuse_each(refusing, program, run):
         if ended[:3] == (status, output, error):
             if not ended[3]:
                 break
+            if not is_dispensable(words.split(), ended[3]):
+                fail(words, number, ended)
             counts["answered"] += 1
-        elif ended == (3, "", memory, True):
+        elif ended[:3] == (3, "", memory) and ended[3]:
             counts["told"] += 1
-        elif ended == (3, "", "", True):
+        elif ended[:3] == (3, "", "") and ended[3]:
             counts["silent"] += 1
         else:
             fail(words, number, ended)

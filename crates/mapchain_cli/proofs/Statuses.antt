@@ -122,7 +122,7 @@ file_status_is file.NoObject = (omega arith, omega arith)
 file_status_is (file.Write sent) = (omega arith, omega arith)
 file_status_is file.Memory = (omega arith, omega arith)
 
-ending_is : (ending : Ending) → (0 < ending_status ending) × (ending_status ending ≤ 3)
+pub ending_is : (ending : Ending) → (0 < ending_status ending) × (ending_status ending ≤ 3)
 ending_is BadArea = (omega arith, omega arith)
 ending_is BadRingArea = (omega arith, omega arith)
 ending_is BadShare = (omega arith, omega arith)

@@ -2,7 +2,7 @@
 use Rattle.std.specs.Prelude.{◌≡◌, ℕ, Bool, List, length, map, Option, Some, None}
 use Rattle.std.specs.Borrow.{Bor}
 use Rattle.std.specs.Option.{option_map}
-use Rattle.byte_ends.specs.Ends.{Drained}
+use Rattle.byte_ends.specs.Ends.{Drained, Fed}
 use Rattle.area_thresholds.specs.Shares.{share_of}
 use Rattle.area_thresholds.specs.Thresholds.{threshold_of}
 use Rattle.command_words.specs.declared.request.Request.{Request}
@@ -12,13 +12,15 @@ use Rattle.inputs.specs.declared.file_fault.FileFault.{FileFault}
 use Rattle.layer_topology.specs.declared.level.Level.{Level}
 use Rattle.layer_topology.specs.declared.level.Level.TheVariants as level
 use Rattle.reports.specs.declared.report.Report.{Report}
+use Rattle.layer_sources.specs.Sources.{Sources}
+use Rattle.topology_building.specs.Building.{CallsForLayers}
 use Rattle.topology_building.specs.declared.options.Options.{Options}
 use Rattle.topology_files.specs.Geo.{IsGeoFault}
-use Rattle.topology_simplifying.specs.Simplified.{IsSimplifyFault}
+use Rattle.topology_simplifying.specs.Simplified.{CallsForTopology, IsSimplifyFault}
 use Rattle.mapchain_cli.specs.declared.ending.Ending.{Ending}
 use Rattle.mapchain_cli.specs.declared.ending.Ending.TheVariants.{BadArea, BadRingArea, BadShare, Refused, FileRefused, Memory}
 use Rattle.mapchain_cli.specs.Endings.{BuildsOf, DecodesOf, IsSummaryFault, RefusesFile, RefusesLayers, SimplifiesOf, Summarises}
-use Rattle.mapchain_cli.specs.Opening.{FileUse, Layers, Opened, OpensFront}
+use Rattle.mapchain_cli.specs.Opening.{AreOpened, Contents, FileUse, IsOpened, Layers, Opened, OpensFront}
 
 -- the names of layers and the paths of their files
 abbrev pub texts_of : List (Bor (List ℕ) × Bor (List ℕ)) → Layers
@@ -89,6 +91,16 @@ RefusesTopology files request old new e = ⊥
 abbrev pub OpensSome : FileUse → Request → Type 0
 OpensSome files (Build layers exact grid area keep ring_area) = OpensFront (length (texts_of layers.items)) files
 OpensSome files request = Opened 0 files
+
+-- a reducer that was called so often before was called for what is asked for since: once for each arc of the layers, or of the topology
+-- that is simplified, and never for anything else
+abbrev pub CallsFor : Contents → Request → ℕ → ℕ → Type 0
+CallsFor contents (Build layers exact grid area keep ring_area) before after =
+    (options : Options) × (olds : Sources) × (news : Sources) × IsAskedFor exact grid area.now keep ring_area.now options
+    × AreOpened contents (texts_of layers.items) olds × CallsForLayers options olds news before after
+CallsFor contents (Simplify area ring_area path) before after =
+    (old : Fed) × (new : Fed) × IsOpened contents path.now old × CallsForTopology old new before after
+CallsFor contents request before after = after ≡ before
 
 -- why what was asked for isn't done
 abbrev pub IsRefused : FileUse → Request → Drained → Drained → Ending → Type 0

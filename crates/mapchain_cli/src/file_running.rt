@@ -5,7 +5,8 @@ ghost use Rattle.geometry.specs.Units.{threshold_limit};
 ghost use Rattle.inputs.specs.declared.file_fault.FileFault.TheVariants as file;
 ghost use Rattle.reports.specs.Summaries as spec;
 ghost use Rattle.topology_files.specs.Geo.{IsGeoFault, SendsText};
-ghost use Rattle.topology_simplifying.specs.Simplified.{IsSimplifyFault};
+ghost use Rattle.byte_ends.specs.Ends.{Fed};
+ghost use Rattle.topology_simplifying.specs.Simplified.{CallsForTopology, IsSimplifyFault};
 ghost use Rattle.mapchain_cli.specs.Endings.{DecodesOf, IsSummaryFault, RefusesFile, SimplifiesOf, Summarises};
 ghost use Rattle.mapchain_cli.specs.Opening.{IsOpened, Opened, RefusedBehind, used};
 
@@ -51,6 +52,7 @@ pub(crate) fn decode_object<F: Files, V: Drain>(
 /// Simplifies a topology at this threshold, without rings under this limit, and gives the report.
 pub(crate) fn simplify_file<F: Files, V: Drain>(
     alloc: Global,
+    reducer: &mut HeapLinks,
     threshold: u128,
     ring_limit: u128,
     path: &str,
@@ -59,12 +61,13 @@ pub(crate) fn simplify_file<F: Files, V: Drain>(
 ) -> Result<Report, FileFault>
     requires { ring_limit ≤ threshold_limit }
     ensures simplified { IfOk result (λ report. SimplifiesOf (used (F.contents files.old) (F.opens files.old) (F.opens files.new)) threshold ring_limit path.now out.old out.new report) }
+    ensures reduced { IfOk result (λ _. (old : Fed) × (new : Fed) × IsOpened (F.contents files.old) path.now old
+        × CallsForTopology old new reducer.old.calls reducer.new.calls) }
     ensures refused { IfErr result (λ e. RefusesFile (used (F.contents files.old) (F.opens files.old) (F.opens files.new)) path.now out.old out.new
         (λ s u. IsSimplifyFault threshold ring_limit s u out.old out.new) e) }
 {
     let mut source = open_file(path, files)?;
-    let mut reducer = HeapLinks::new();
-    let report = simplify(alloc, &mut reducer, &mut source, threshold, ring_limit, out)?;
+    let report = simplify(alloc, reducer, &mut source, threshold, ring_limit, out)?;
     Ok(report)
 }
 

@@ -3,7 +3,9 @@ ghost use Rattle.std.specs.Prelude.{◌≡◌, ◌⊎◌, ◌≤◌, IfErr, IfOk
 ghost use Rattle.std.specs.String.{string_bytes};
 ghost use Rattle.command_words.specs.Requests.{IsGridInRange};
 ghost use Rattle.inputs.specs.declared.fault.BuildFault.{BuildFault as Fault};
-ghost use Rattle.mapchain_cli.specs.Asking.{IsAnswered, IsRefused, texts_of};
+ghost use Rattle.layer_sources.specs.Sources.{Sources};
+ghost use Rattle.topology_building.specs.Building.{CallsForLayers};
+ghost use Rattle.mapchain_cli.specs.Asking.{CallsFor, IsAnswered, IsRefused, texts_of};
 ghost use Rattle.mapchain_cli.specs.Endings.{BuildsOf, IsUnopened, RefusesLayers};
 ghost use Rattle.mapchain_cli.specs.Opening.{AreOpened, Opened, OpensFront, used};
 ghost use Rattle.mapchain_cli.specs.Runs.{IsPerformed, Runs, RunsOn};
@@ -52,32 +54,36 @@ fn open_layers<F: Files>(
 /// Builds the topology of the layers with these names, each in the file of its path.
 fn build_layers<F: Files, V: Drain>(
     alloc: Global,
+    reducer: &mut HeapLinks,
     layers: &[(&str, &str)],
     options: &Options,
     files: &mut F,
     out: &mut Sink<V>,
 ) -> Result<Report, Ending>
     ensures built { IfOk result (λ report. BuildsOf (used (F.contents files.old) (F.opens files.old) (F.opens files.new)) options.now (texts_of layers.now) out.old out.new report) }
+    ensures reduced { IfOk result (λ _. (olds : Sources) × (news : Sources) × AreOpened (F.contents files.old) (texts_of layers.now) olds
+        × CallsForLayers options.now olds news reducer.old.calls reducer.new.calls) }
     ensures refused { IfErr result (λ e. ((e ≡ ending.Memory) × (out.new ≡ out.old)
         × OpensFront (length (texts_of layers.now)) (used (F.contents files.old) (F.opens files.old) (F.opens files.new)))
         ⊎ ((fault : Fault) × (e ≡ ending.Refused fault)
         × RefusesLayers (used (F.contents files.old) (F.opens files.old) (F.opens files.new)) options.now (texts_of layers.now) out.old out.new fault)) }
 {
     let mut sources = open_layers(alloc, layers, files)?;
-    let mut reducer = HeapLinks::new();
-    let report = build(alloc, &mut reducer, sources.as_mut_slice(), options, out)?;
+    let report = build(alloc, reducer, sources.as_mut_slice(), options, out)?;
     Ok(report)
 }
 
 /// Does what is asked for, and gives the report of a build or of simplifying.
 fn answer<F: Files, V: Drain>(
     alloc: Global,
+    reducer: &mut HeapLinks,
     request: Request<'_>,
     files: &mut F,
     out: &mut Sink<V>,
 ) -> Result<Option<Report>, Ending>
     requires { IsGridInRange request }
     ensures answered { IfOk result (λ report. IsAnswered (used (F.contents files.old) (F.opens files.old) (F.opens files.new)) request.entry out.old out.new report) }
+    ensures reduced { IfOk result (λ _. CallsFor (F.contents files.old) request.entry reducer.old.calls reducer.new.calls) }
     ensures refused { IfErr result (λ e. IsRefused (used (F.contents files.old) (F.opens files.old) (F.opens files.new)) request.entry out.old out.new e) }
 {
     match request {
@@ -90,7 +96,7 @@ fn answer<F: Files, V: Drain>(
             ring_area,
         } => {
             let options = options_of(alloc, exact, grid, area, keep, ring_area)?;
-            let report = build_layers(alloc, layers.as_slice(), &options, files, out)?;
+            let report = build_layers(alloc, reducer, layers.as_slice(), &options, files, out)?;
             Ok(Some(report))
         }
         Request::Simplify {
@@ -99,7 +105,7 @@ fn answer<F: Files, V: Drain>(
             path,
         } => {
             let (threshold, ring_limit) = thresholds_asked(alloc, area, ring_area)?;
-            let report = simplify_file(alloc, threshold, ring_limit, path, files, out)?;
+            let report = simplify_file(alloc, reducer, threshold, ring_limit, path, files, out)?;
             Ok(Some(report))
         }
         Request::Geo { name, path } => {
@@ -113,19 +119,22 @@ fn answer<F: Files, V: Drain>(
     }
 }
 
-/// Does what is asked for, and tells the report of a build or of simplifying, or why it isn't done. The answer is the exit status.
+/// Does what is asked for, by this reducer where lines are reduced, and tells the report of a build or of simplifying, or why it isn't done.
+/// The answer is the exit status.
 pub fn perform<F: Files, V: Drain, W: Drain>(
     alloc: Global,
+    reducer: &mut HeapLinks,
     request: Request<'_>,
     files: &mut F,
     out: &mut Sink<V>,
     err: &mut Sink<W>,
 ) -> u8
     requires { IsGridInRange request }
-    ensures { IsPerformed (used (F.contents files.old) (F.opens files.old) (F.opens files.new)) request.entry
+    ensures performed { IsPerformed (used (F.contents files.old) (F.opens files.old) (F.opens files.new)) request.entry
         (record { out = out.old; err = err.old }) (record { out = out.new; err = err.new }) result }
+    ensures reduced { result ≡ 0 → CallsFor (F.contents files.old) request.entry reducer.old.calls reducer.new.calls }
 {
-    match answer(alloc, request, files, out) {
+    match answer(alloc, reducer, request, files, out) {
         Ok(report) => {
             tell_done(&report, err);
             DONE
@@ -137,6 +146,7 @@ pub fn perform<F: Files, V: Drain, W: Drain>(
 /// Runs the program on these words, in which an option whose value may be any text and that value are one word.
 fn run<F: Files, V: Drain, W: Drain>(
     alloc: Global,
+    reducer: &mut HeapLinks,
     words: &[String],
     files: &mut F,
     out: &mut Sink<V>,
@@ -146,7 +156,7 @@ fn run<F: Files, V: Drain, W: Drain>(
         (record { out = out.old; err = err.old }) (record { out = out.new; err = err.new }) result }
 {
     match read_words(alloc, words) {
-        Ok(request) => perform(alloc, request, files, out, err),
+        Ok(request) => perform(alloc, reducer, request, files, out, err),
         Err(fault) => tell_words(alloc, &fault, out, err),
     }
 }
@@ -174,7 +184,14 @@ pub fn command<F: Files, V: Drain, W: Drain>(
     ensures refused { (result ≡ 1) ⊎ (result ≡ 2) → out.new ≡ out.old }
 {
     match joined_words(alloc, words.as_slice()) {
-        Ok(joined) => run(alloc, joined.as_slice(), files, out, err),
+        Ok(joined) => run(
+            alloc,
+            &mut HeapLinks::new(),
+            joined.as_slice(),
+            files,
+            out,
+            err,
+        ),
         Err(_) => tell_words(alloc, &WordsFault::Memory, out, err),
     }
 }

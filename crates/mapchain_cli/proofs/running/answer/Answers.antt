@@ -18,3 +18,8 @@ pub returns-in_ok-report-in-Build-clause-answered : goal.returns-in_ok-report-in
 returns-in_ok-report-in-Build-clause-answered g c =
     let built = rw c.as_slice.ensures.value at c.in_ok-report-in-Build.ensures.built in
     rw c.in-Build.is (c.in_ok-options-in-Build.options, c.in_ok-options-in-Build.ensures.asked, built)
+
+pub returns-in_ok-report-in-Build-clause-reduced : goal.returns-in_ok-report-in-Build-clause-reduced
+returns-in_ok-report-in-Build-clause-reduced g c =
+    let reduced = rw c.as_slice.ensures.value at c.in_ok-report-in-Build.ensures.reduced in
+    rw c.in-Build.is (c.in_ok-options-in-Build.options, reduced.0, reduced.1, c.in_ok-options-in-Build.ensures.asked, reduced.2, reduced.3)

@@ -7,7 +7,7 @@ pub perform-requires : goal.perform-requires
 perform-requires g c = asked_in_range (map string_bytes c.args.words.now) c.in-Ok.request c.in-Ok.ensures.exact
 
 pub returns-in-Ok : goal.returns-in-Ok
-returns-in-Ok g c = inl (c.in-Ok.request, c.in-Ok.ensures.exact, c.perform.ensures)
+returns-in-Ok g c = inl (c.in-Ok.request, c.in-Ok.ensures.exact, c.perform.ensures.performed)
 
 pub returns-in-Err : goal.returns-in-Err
 returns-in-Err g c = inr (c.in-Err.fault, (c.in-Err.ensures.exact, c.in-Err.ensures.fault), c.tell_words.ensures, refl)

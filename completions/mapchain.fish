@@ -9,6 +9,7 @@ end
 
 complete -c mapchain -n __fish_use_subcommand -f
 complete -c mapchain -s h -l help -d 'Print help'
+complete -c mapchain -n __fish_use_subcommand -s V -l version -d 'Print the version'
 complete -c mapchain -n __fish_use_subcommand -a build -d 'Build a topology from GeoJSON files'
 complete -c mapchain -n __fish_use_subcommand -a simplify -d 'Take points out of the lines of a topology'
 complete -c mapchain -n __fish_use_subcommand -a geo -d 'Decode an object of a topology to GeoJSON'
@@ -18,7 +19,11 @@ complete -c mapchain -n '__fish_seen_subcommand_from build' -l min-area -x -d 'T
 complete -c mapchain -n '__fish_seen_subcommand_from build' -l keep -x -d 'Take out points, but keep at least the share P/Q of them'
 complete -c mapchain -n '__fish_seen_subcommand_from build' -l min-ring-area -x -d 'Leave out rings that enclose less than the area B'
 complete -c mapchain -n '__fish_seen_subcommand_from build' -l exact -d 'Refuse coordinates that would have to be rounded'
+complete -c mapchain -n '__fish_seen_subcommand_from build' -s o -l output -r -F -d 'Write the output to a file in place of standard output'
 complete -c mapchain -n '__fish_seen_subcommand_from build' -a '(__mapchain_layers)' -d Layer
 complete -c mapchain -n '__fish_seen_subcommand_from simplify' -l min-area -x -d 'Take out points whose triangle has less than the area A'
 complete -c mapchain -n '__fish_seen_subcommand_from simplify' -l min-ring-area -x -d 'Leave out rings that enclose less than the area B'
+complete -c mapchain -n '__fish_seen_subcommand_from simplify' -s o -l output -r -F -d 'Write the output to a file in place of standard output'
 complete -c mapchain -n '__fish_seen_subcommand_from geo' -l object -x -d 'The name of the object'
+complete -c mapchain -n '__fish_seen_subcommand_from geo' -s o -l output -r -F -d 'Write the output to a file in place of standard output'
+complete -c mapchain -n '__fish_seen_subcommand_from stat' -s o -l output -r -F -d 'Write the output to a file in place of standard output'

@@ -5,7 +5,8 @@
     scripts/manual.py path/to/mapchain    with that of another program
     scripts/manual.py --write ..          writes them anew
 
-The version is that of CHANGELOG.md. The status is 0 where all three completions and the page are as they would be written.
+The version is that of CHANGELOG.md, and the program's --version must tell it. The status is 0 where all three completions and the page are as
+they would be written.
 """
 import argparse
 import re
@@ -67,11 +68,11 @@ class Program:
         return subprocess.run([self.path, *words], check=True, capture_output=True, text=True).stdout
 
     def options(self, command):
-        """The options of a command, without -h: the long name, the value's name or none, and a line on it."""
+        """The options of a command, without -h: the letter or none, the long name, the value's name or none, and a line on it."""
         for name, lines in self.short[command].items("Options"):
             match = re.fullmatch(r"(?:-(\w), )?--([\w-]+)(?: <(.+)>)?", name)
             if match[2] != "help":
-                yield match[2], match[3], " ".join(lines)
+                yield match[1], match[2], match[3], " ".join(lines)
 
     def arguments(self, command):
         return [name for name, _ in self.full[command].items("Arguments")]
@@ -217,6 +218,7 @@ _mapchain() {
         before=${COMP_WORDS[at-1]}
     fi
     case $before in
+        @FILES@) _mapchain_files "$word"; return ;;
         @VALUED@) return ;;
     esac
     case $command in
@@ -226,6 +228,12 @@ _mapchain() {
 }
 complete -F _mapchain mapchain
 """
+
+def spellings(option):
+    """An option as a word: by its letter, if it has one, and by its name."""
+    letter, name, _, _ = option
+    return [f"-{letter}"] * bool(letter) + [f"--{name}"]
+
 
 BASH_FILES = """                *) _mapchain_files "$word" ;;"""
 BASH_LAYERS = """                *)
@@ -238,10 +246,12 @@ BASH_LAYERS = """                *)
 
 
 def bash(program):
-    valued = sorted({f"--{name}" for each in program.commands for name, value, _ in program.options(each) if value})
+    options = [option for each in program.commands for option in program.options(each)]
+    valued = sorted({f"--{name}" for _, name, value, _ in options if value and value != "FILE"})
+    files = sorted({word for option in options if option[2] == "FILE" for word in spellings(option)})
     cases = []
     for command in program.commands:
-        words = " ".join([f"--{name}" for name, _, _ in program.options(command)] + ["--help"])
+        words = " ".join([word for option in program.options(command) for word in spellings(option)] + ["--help"])
         takes_layers = any("=" in name for name in program.arguments(command))
         cases += [
             f"        {command})",
@@ -251,8 +261,9 @@ def bash(program):
             "            esac",
             "            ;;",
         ]
-    names = " ".join([*program.commands, "help", "--help"])
-    return BASH.replace("@VALUED@", " | ".join(valued)).replace("@COMMANDS@", names).replace("@CASES@", "\n".join(cases))
+    names = " ".join([*program.commands, "help", "--help", "--version"])
+    filled = BASH.replace("@VALUED@", " | ".join(valued)).replace("@FILES@", " | ".join(files))
+    return filled.replace("@COMMANDS@", names).replace("@CASES@", "\n".join(cases))
 
 
 ZSH = r"""#compdef mapchain
@@ -275,7 +286,7 @@ _mapchain() {
     local -a commands=(
 @COMMANDS@
     )
-    _arguments -C '(- *)'{-h,--help}'[print help]' '1: :->command' '*:: :->words'
+    _arguments -C '(- *)'{-h,--help}'[print help]' '(- *)'{-V,--version}'[print the version]' '1: :->command' '*:: :->words'
     case $state in
         command) _describe command commands ;;
         words)
@@ -298,8 +309,12 @@ def zsh(program):
     cases = []
     for command in program.commands:
         words = ["'(- *)'{-h,--help}'[print help]'"]
-        for name, value, about in program.options(command):
-            words.append(f"'--{name}=[{zsh_text(about)}]:{value}: '" if value else f"'--{name}[{zsh_text(about)}]'")
+        for letter, name, value, about in program.options(command):
+            text, files = zsh_text(about), "_files" if value == "FILE" else " "
+            if letter:
+                words.append(f"'(-{letter} --{name})'{{-{letter}+,--{name}=}}'[{text}]:{value}:{files}'")
+            else:
+                words.append(f"'--{name}=[{text}]:{value}:{files}'" if value else f"'--{name}[{text}]'")
         takes_layers = any("=" in name for name in program.arguments(command))
         words.append("'*:layer:_mapchain_layer'" if takes_layers else "'1:topology:_files'")
         cases.append(f"                {command}) _arguments " + " \\\n                    ".join(words) + " ;;")
@@ -317,6 +332,7 @@ end
 
 complete -c mapchain -n __fish_use_subcommand -f
 complete -c mapchain -s h -l help -d 'Print help'
+complete -c mapchain -n __fish_use_subcommand -s V -l version -d 'Print the version'
 """
 
 
@@ -330,9 +346,10 @@ def fish(program):
         lines.append(f"complete -c mapchain -n __fish_use_subcommand -a {name} -d '{fish_text(program.about[name])}'")
     for command in program.commands:
         seen = f"'__fish_seen_subcommand_from {command}'"
-        for name, value, about in program.options(command):
-            takes = " -x" if value else ""
-            lines.append(f"complete -c mapchain -n {seen} -l {name}{takes} -d '{fish_text(about)}'")
+        for letter, name, value, about in program.options(command):
+            takes = " -r -F" if value == "FILE" else " -x" if value else ""
+            short = f" -s {letter}" if letter else ""
+            lines.append(f"complete -c mapchain -n {seen}{short} -l {name}{takes} -d '{fish_text(about)}'")
         if any("=" in name for name in program.arguments(command)):
             lines.append(f"complete -c mapchain -n {seen} -a '(__mapchain_layers)' -d Layer")
     return "\n".join(lines) + "\n"
@@ -355,6 +372,9 @@ def main():
         "completions/mapchain.fish": fish(program),
     }
     otherwise = 0
+    if program.help("--version") != f"mapchain {version}\n":
+        otherwise += 1
+        print(f"manual: --version doesn't tell that of CHANGELOG.md, {version}")
     for name, text in files.items():
         file = ROOT / name
         if file.exists() and file.read_text() == text:

@@ -6,8 +6,9 @@ streams, and compares standard output, standard error and the exit status byte f
     scripts/pages.py path/to/mapchain    another program with the same commands
 
 The gate does it with the program that it built, since the pages run there over files and streams in memory: what they leave out is the
-program's `main`, with the file system and the standard streams. Commands on devices that fail are left out here. It prints a line for
-each command that went otherwise, and at its end how many pages and commands there were. The status is 0 where all went as they say.
+program's `main`, with the file system and the standard streams. Commands on devices that fail are left out here. After each command its
+folder has to hold the files that it held before, byte for byte, but for the file that the command was to write, and no other. It prints a
+line for each command that went otherwise, and at its end how many pages and commands there were. The status is 0 where all went as they say.
 """
 import re
 import subprocess
@@ -26,7 +27,7 @@ class Command:
         words, _, kept = line.removeprefix("$ mapchain").partition(" > ")
         self.words, self.kept = words.split(" ")[1:], kept
         self.status, self.output, self.error = 0, b"", b""
-        self.output_of = self.prefix_of = None
+        self.output_of = self.prefix_of = self.file = None
         self.only_kept = self.on_devices = False
 
     def say(self, line):
@@ -35,12 +36,14 @@ class Command:
             self.status = int(match[1])
         elif match := re.fullmatch(r"# output of (.+)", line):
             self.output_of = match[1]
+        elif match := re.fullmatch(r"# to the file (.+)", line):
+            self.file = match[1]
         elif line == "# output only kept":
             self.only_kept = True
         elif match := re.fullmatch(r"# for each proper prefix of (.+)", line):
             self.prefix_of = match[1]
         elif line.startswith("# for "):
-            self.on_devices = line != "# for one byte a call"
+            self.on_devices |= line != "# for one byte a call"
         elif line.startswith("# "):
             raise ValueError(f"a line that isn't known: {line}")
         else:
@@ -107,6 +110,26 @@ def run(program, words, folder):
     return ended.returncode, ended.stdout, ended.stderr
 
 
+def files_of(folder):
+    """All files of a folder."""
+    return {path.name: path.read_bytes() for path in folder.iterdir()}
+
+
+def run_step(program, step, wanted, folder):
+    """What a command wrote to standard output, and in words what it did that its page doesn't say: nothing where all went as it says."""
+    files = files_of(folder)
+    status, output, error = run(program, step.words, folder)
+    left = files_of(folder)
+    if step.file and step.status == 0:
+        files[step.file] = left.get(step.file) if step.only_kept else wanted
+    streamed = b"" if step.file else output if step.only_kept else wanted
+    if (status, output, error) == (step.status, streamed, step.error) and left == files:
+        return output, ""
+    others = sorted(name for name in left.keys() | files.keys() if left.get(name) != files.get(name))
+    told = f"mapchain {' '.join(step.words)}: status {status}, {error.decode(errors='replace')!r}"
+    return output, told + (f", files not as wanted: {' '.join(others)}" if others else "")
+
+
 def run_page(program, page, folder):
     """How many commands were run, and how many went otherwise."""
     ran = otherwise = 0
@@ -121,11 +144,11 @@ def run_page(program, page, folder):
         for length in range(len(whole)) if step.prefix_of else [None]:
             if length is not None:
                 (folder / step.prefix_of).write_bytes(whole[:length])
-            status, output, error = run(program, step.words, folder)
+            output, difference = run_step(program, step, wanted, folder)
             ran += 1
-            if (status, error) != (step.status, step.error) or not (step.only_kept or output == wanted):
+            if difference:
                 otherwise += 1
-                print(f"{page.name}: mapchain {' '.join(step.words)}: status {status}, {error.decode(errors='replace')!r}")
+                print(f"{page.name}: {difference}")
         if step.prefix_of:
             (folder / step.prefix_of).write_bytes(whole)
         if step.kept:

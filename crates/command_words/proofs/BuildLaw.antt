@@ -1,6 +1,6 @@
 -- What `build` asks for, of any layers.
 use Rattle.std.proofs.Common.{◌≡◌, ◌∙◌, ◌<◌, ◌≤◌, ◌==◌, ◌++◌, ℕ, List, [], ◌∷◌, Bool, true, false, Option, Some, None, codes, length, refl, sym, ap, ap₂, arith, append-nil, append_assoc, le-ltb}
-use Rattle.std.specs.Prelude.{is_some, nat_lt, option_and_then, unwrap_or, find, fold}
+use Rattle.std.specs.Prelude.{is_some, nat_lt, option_and_then, option_map, unwrap_or, find, fold}
 use Rattle.std.proofs.lemmas.Bool.{ne_eqb}
 use Rattle.clap.specs.Lexer.{usize_max}
 use Rattle.clap.specs.Walk.{Row, Text, Walk, answers_to, finished, idle, nothing_held, positional, rows_after, settled, walk_from, walked}
@@ -15,8 +15,9 @@ use Rattle.clap.specs.declared.parser.matches.ValueSource.TheVariants.{CommandLi
 use Rattle.clap.specs.Faults.{check_fault, defaults_fault, entered_fault, level_fault, settle_fault, walk_fault}
 use Rattle.clap.specs.declared.builder.value_parser.ValueParser.TheVariants as vp
 use Rattle.clap.proofs.OnLiterals.{clap_on_literals}
-use Rattle.command_words.specs.Asked.{Asked, asked_in, build, build_in, cells_of, layers_of, request_of, where_none}
+use Rattle.command_words.specs.Asked.{Asked, Ordered, build, build_in, cells_of, layers_of, order_of, ordered_in, output_in, where_none}
 use Rattle.command_words.specs.CommandLine.{program_app}
+use Rattle.command_words.specs.Written.{and_output}
 use Rattle.command_words.proofs.Getters.{build_asked}
 
 or_else_nil : (k : Kinds) → or_else k [] ≡ k
@@ -43,21 +44,28 @@ no_fault name before [] = refl
 no_fault name before (word ∷ words) = no_fault name (before ++ word ∷ []) words
 
 -- what is asked for, of the walk over the words and its faults
-abbrev asked_at : Walk → Kinds → Option Asked
+abbrev asked_at : Walk → Kinds → Option Ordered
 asked_at w k = where_none (or_else k (or_else (entered_fault top w.stopped) (or_else (settle_fault top.top.rules top.top.args_override_self w.held)
     (or_else (defaults_fault (settled top.top.rules w.held).rows top.top.rules) (check_fault top.top (finished top.top.rules w.held) (is_some (entered top w.stopped)))))))
-    (option_and_then asked_in (entered top w.stopped))
+    (option_and_then ordered_in (entered top w.stopped))
 
 -- the command `build`, built
 abbrev build_shape : Shape
 build_shape = unwrap_or (find (λ s. answers_to (codes "build") (label_of s)) top.subs) help_shape
 
-build_level : (words : List Text) → request_of (codes "build" ∷ words)
-    ≡ where_none (level_fault build_shape [] nothing_held words false []) (build_in (rows_after build_shape.rules [] words))
+-- what `build` and the file for its output are asked for
+abbrev order_in : List Row → Option Ordered
+order_in rows = option_map (λ a. (a, output_in rows)) (build_in rows)
+
+order_asked : (rows : List Row) (output : Option Text) (a : Asked) → output_in rows ≡ output → build_in rows ≡ Some a → order_in rows ≡ Some (a, output)
+order_asked rows output a o b = ap₂ (λ (x : Option Asked) (y : Option Text). option_map (λ (z : Asked). (z, y)) x) b o
+
+build_level : (words : List Text) → order_of (codes "build" ∷ words)
+    ≡ where_none (level_fault build_shape [] nothing_held words false []) (order_in (rows_after build_shape.rules [] words))
 unfolding clap_on_literals
 build_level words =
     ap₂ asked_at (more_words (codes "build") [] words) (no_fault (codes "build") [] words)
-    ∙ ap (λ k. where_none k (build_in (rows_after build_shape.rules [] words))) (or_else_nil (level_fault build_shape [] nothing_held words false []))
+    ∙ ap (λ k. where_none k (order_in (rows_after build_shape.rules [] words))) (or_else_nil (level_fault build_shape [] nothing_held words false []))
 
 -- ---- the level of `build`
 
@@ -113,11 +121,11 @@ end_at rows word words = at_layers rows (word ∷ words)
 build_asks : (given : List Text) (rows : List Row) (word : Text) (words : List Text)
     → fold (walked build_shape.rules []) (walk_from nothing_held) given ≡ end_at rows word words
     → walk_fault build_shape [] (walk_from nothing_held) given ≡ [] → length words < usize_max → checks (end_at rows word words) ≡ []
-    → request_of (codes "build" ∷ given) ≡ build_in (finished build_shape.rules (end_at rows word words).held)
+    → order_of (codes "build" ∷ given) ≡ order_in (finished build_shape.rules (end_at rows word words).held)
 build_asks given rows word words ends faultless fits checked =
     let level : level_fault build_shape [] nothing_held given false [] ≡ [] =
     ap₂ level_at ends faultless ∙ ap₂ or_else (settle_layers rows word words fits) checked in
-    build_level given ∙ ap₂ (λ k (w : Walk). where_none k (build_in (finished build_shape.rules w.held))) level ends
+    build_level given ∙ ap₂ (λ k (w : Walk). where_none k (order_in (finished build_shape.rules w.held))) level ends
 
 abbrev given_row : List ℕ → Text → Row
 given_row id value = record { id = id; values = value ∷ []; count = None; source = Some CommandLine; reading = AsWritten }
@@ -133,76 +141,132 @@ abbrev grid_test : Bool → Kinds → Kinds
 grid_test b k = or_else (or_else (or_else (if b then [] else ValueValidation ∷ []) []) []) k
 
 module _ (ring_area word : Text) (words : List Text) (layers : List (Text × Text)) (named : layers_of (word ∷ words) ≡ Some layers) (fits : length words < usize_max) where
-  pub build_law : (area : Text) → request_of (codes "build" ∷ (codes "--min-area=" ++ area) ∷ (codes "--min-ring-area=" ++ ring_area) ∷ codes "--" ∷ word ∷ words)
-      ≡ Some (build layers false None area None ring_area)
+  pub build_law : (output : Option Text) (area : Text) → order_of (codes "build" ∷ and_output output ((codes "--min-area=" ++ area) ∷ (codes "--min-ring-area=" ++ ring_area) ∷ codes "--" ∷ word ∷ words))
+      ≡ Some (build layers false None area None ring_area, output)
   unfolding clap_on_literals
-  build_law area =
+  build_law None area =
       let rows = given_row (codes "min-area") area ∷ given_row (codes "min-ring-area") ring_area ∷ [] in
       build_asks ((codes "--min-area=" ++ area) ∷ (codes "--min-ring-area=" ++ ring_area) ∷ codes "--" ∷ word ∷ words) rows word words
       (more_layers rows (word ∷ []) words) (no_layer_fault rows (word ∷ []) words) fits refl
-      ∙ build_asked (finished build_shape.rules (end_at rows word words).held) None layers false area None ring_area refl refl named refl refl refl refl
+      ∙ order_asked (finished build_shape.rules (end_at rows word words).held) None _ refl
+      (build_asked (finished build_shape.rules (end_at rows word words).held) None layers false area None ring_area refl refl named refl refl refl refl)
+  build_law (Some file) area =
+      let rows = given_row (codes "output") file ∷ given_row (codes "min-area") area ∷ given_row (codes "min-ring-area") ring_area ∷ [] in
+      build_asks ((codes "--output=" ++ file) ∷ (codes "--min-area=" ++ area) ∷ (codes "--min-ring-area=" ++ ring_area) ∷ codes "--" ∷ word ∷ words) rows word words
+      (more_layers rows (word ∷ []) words) (no_layer_fault rows (word ∷ []) words) fits refl
+      ∙ order_asked (finished build_shape.rules (end_at rows word words).held) (Some file) _ refl
+      (build_asked (finished build_shape.rules (end_at rows word words).held) None layers false area None ring_area refl refl named refl refl refl refl)
 
-  pub build_exact_law : (area : Text) → request_of (codes "build" ∷ (codes "--min-area=" ++ area) ∷ (codes "--min-ring-area=" ++ ring_area) ∷ codes "--exact" ∷ codes "--" ∷ word ∷ words)
-      ≡ Some (build layers true None area None ring_area)
+  pub build_exact_law : (output : Option Text) (area : Text) → order_of (codes "build" ∷ and_output output ((codes "--min-area=" ++ area) ∷ (codes "--min-ring-area=" ++ ring_area) ∷ codes "--exact" ∷ codes "--" ∷ word ∷ words))
+      ≡ Some (build layers true None area None ring_area, output)
   unfolding clap_on_literals
-  build_exact_law area =
+  build_exact_law None area =
       let rows = given_row (codes "min-area") area ∷ given_row (codes "min-ring-area") ring_area ∷ exact_row ∷ [] in
       build_asks ((codes "--min-area=" ++ area) ∷ (codes "--min-ring-area=" ++ ring_area) ∷ codes "--exact" ∷ codes "--" ∷ word ∷ words) rows word words
       (more_layers rows (word ∷ []) words) (no_layer_fault rows (word ∷ []) words) fits refl
-      ∙ build_asked (finished build_shape.rules (end_at rows word words).held) None layers true area None ring_area refl refl named refl refl refl refl
+      ∙ order_asked (finished build_shape.rules (end_at rows word words).held) None _ refl
+      (build_asked (finished build_shape.rules (end_at rows word words).held) None layers true area None ring_area refl refl named refl refl refl refl)
+  build_exact_law (Some file) area =
+      let rows = given_row (codes "output") file ∷ given_row (codes "min-area") area ∷ given_row (codes "min-ring-area") ring_area ∷ exact_row ∷ [] in
+      build_asks ((codes "--output=" ++ file) ∷ (codes "--min-area=" ++ area) ∷ (codes "--min-ring-area=" ++ ring_area) ∷ codes "--exact" ∷ codes "--" ∷ word ∷ words) rows word words
+      (more_layers rows (word ∷ []) words) (no_layer_fault rows (word ∷ []) words) fits refl
+      ∙ order_asked (finished build_shape.rules (end_at rows word words).held) (Some file) _ refl
+      (build_asked (finished build_shape.rules (end_at rows word words).held) None layers true area None ring_area refl refl named refl refl refl refl)
 
-  pub build_keep_law : (share : Text) → request_of (codes "build" ∷ (codes "--keep=" ++ share) ∷ (codes "--min-ring-area=" ++ ring_area) ∷ codes "--" ∷ word ∷ words)
-      ≡ Some (build layers false None (codes "0") (Some share) ring_area)
+  pub build_keep_law : (output : Option Text) (share : Text) → order_of (codes "build" ∷ and_output output ((codes "--keep=" ++ share) ∷ (codes "--min-ring-area=" ++ ring_area) ∷ codes "--" ∷ word ∷ words))
+      ≡ Some (build layers false None (codes "0") (Some share) ring_area, output)
   unfolding clap_on_literals
-  build_keep_law share =
+  build_keep_law None share =
       let rows = given_row (codes "keep") share ∷ given_row (codes "min-ring-area") ring_area ∷ [] in
       build_asks ((codes "--keep=" ++ share) ∷ (codes "--min-ring-area=" ++ ring_area) ∷ codes "--" ∷ word ∷ words) rows word words
       (more_layers rows (word ∷ []) words) (no_layer_fault rows (word ∷ []) words) fits refl
-      ∙ build_asked (finished build_shape.rules (end_at rows word words).held) None layers false (codes "0") (Some share) ring_area refl refl named refl refl refl refl
+      ∙ order_asked (finished build_shape.rules (end_at rows word words).held) None _ refl
+      (build_asked (finished build_shape.rules (end_at rows word words).held) None layers false (codes "0") (Some share) ring_area refl refl named refl refl refl refl)
+  build_keep_law (Some file) share =
+      let rows = given_row (codes "output") file ∷ given_row (codes "keep") share ∷ given_row (codes "min-ring-area") ring_area ∷ [] in
+      build_asks ((codes "--output=" ++ file) ∷ (codes "--keep=" ++ share) ∷ (codes "--min-ring-area=" ++ ring_area) ∷ codes "--" ∷ word ∷ words) rows word words
+      (more_layers rows (word ∷ []) words) (no_layer_fault rows (word ∷ []) words) fits refl
+      ∙ order_asked (finished build_shape.rules (end_at rows word words).held) (Some file) _ refl
+      (build_asked (finished build_shape.rules (end_at rows word words).held) None layers false (codes "0") (Some share) ring_area refl refl named refl refl refl refl)
 
-  pub build_keep_exact_law : (share : Text) → request_of (codes "build" ∷ (codes "--keep=" ++ share) ∷ (codes "--min-ring-area=" ++ ring_area) ∷ codes "--exact" ∷ codes "--" ∷ word ∷ words)
-      ≡ Some (build layers true None (codes "0") (Some share) ring_area)
+  pub build_keep_exact_law : (output : Option Text) (share : Text) → order_of (codes "build" ∷ and_output output ((codes "--keep=" ++ share) ∷ (codes "--min-ring-area=" ++ ring_area) ∷ codes "--exact" ∷ codes "--" ∷ word ∷ words))
+      ≡ Some (build layers true None (codes "0") (Some share) ring_area, output)
   unfolding clap_on_literals
-  build_keep_exact_law share =
+  build_keep_exact_law None share =
       let rows = given_row (codes "keep") share ∷ given_row (codes "min-ring-area") ring_area ∷ exact_row ∷ [] in
       build_asks ((codes "--keep=" ++ share) ∷ (codes "--min-ring-area=" ++ ring_area) ∷ codes "--exact" ∷ codes "--" ∷ word ∷ words) rows word words
       (more_layers rows (word ∷ []) words) (no_layer_fault rows (word ∷ []) words) fits refl
-      ∙ build_asked (finished build_shape.rules (end_at rows word words).held) None layers true (codes "0") (Some share) ring_area refl refl named refl refl refl refl
+      ∙ order_asked (finished build_shape.rules (end_at rows word words).held) None _ refl
+      (build_asked (finished build_shape.rules (end_at rows word words).held) None layers true (codes "0") (Some share) ring_area refl refl named refl refl refl refl)
+  build_keep_exact_law (Some file) share =
+      let rows = given_row (codes "output") file ∷ given_row (codes "keep") share ∷ given_row (codes "min-ring-area") ring_area ∷ exact_row ∷ [] in
+      build_asks ((codes "--output=" ++ file) ∷ (codes "--keep=" ++ share) ∷ (codes "--min-ring-area=" ++ ring_area) ∷ codes "--exact" ∷ codes "--" ∷ word ∷ words) rows word words
+      (more_layers rows (word ∷ []) words) (no_layer_fault rows (word ∷ []) words) fits refl
+      ∙ order_asked (finished build_shape.rules (end_at rows word words).held) (Some file) _ refl
+      (build_asked (finished build_shape.rules (end_at rows word words).held) None layers true (codes "0") (Some share) ring_area refl refl named refl refl refl refl)
 
   -- the words of a grid of n cells
   module _ (cells : Text) (n : ℕ) (taken : accepts false (vp.Signed (pos 2) (pos 1000000000)) cells ≡ true) (read : cells_of (without_minus cells) ≡ Some n) where
-    pub build_grid_law : (area : Text) → request_of (codes "build" ∷ (codes "--grid=" ++ cells) ∷ (codes "--min-area=" ++ area) ∷ (codes "--min-ring-area=" ++ ring_area) ∷ codes "--" ∷ word ∷ words)
-        ≡ Some (build layers false (Some n) area None ring_area)
+    pub build_grid_law : (output : Option Text) (area : Text) → order_of (codes "build" ∷ and_output output ((codes "--grid=" ++ cells) ∷ (codes "--min-area=" ++ area) ∷ (codes "--min-ring-area=" ++ ring_area) ∷ codes "--" ∷ word ∷ words))
+        ≡ Some (build layers false (Some n) area None ring_area, output)
     unfolding clap_on_literals
-    build_grid_law area =
+    build_grid_law None area =
         let rows = grid_row cells ∷ given_row (codes "min-area") area ∷ given_row (codes "min-ring-area") ring_area ∷ [] in
         build_asks ((codes "--grid=" ++ cells) ∷ (codes "--min-area=" ++ area) ∷ (codes "--min-ring-area=" ++ ring_area) ∷ codes "--" ∷ word ∷ words) rows word words
         (more_layers rows (word ∷ []) words) (ap₂ grid_test taken (no_layer_fault rows (word ∷ []) words)) fits refl
-        ∙ build_asked (finished build_shape.rules (end_at rows word words).held) (Some n) layers false area None ring_area refl (ap (Rattle.std.specs.Option.option_map (λ k. Some k)) read) named refl refl refl refl
+        ∙ order_asked (finished build_shape.rules (end_at rows word words).held) None _ refl
+        (build_asked (finished build_shape.rules (end_at rows word words).held) (Some n) layers false area None ring_area refl (ap (Rattle.std.specs.Option.option_map (λ k. Some k)) read) named refl refl refl refl)
+    build_grid_law (Some file) area =
+        let rows = given_row (codes "output") file ∷ grid_row cells ∷ given_row (codes "min-area") area ∷ given_row (codes "min-ring-area") ring_area ∷ [] in
+        build_asks ((codes "--output=" ++ file) ∷ (codes "--grid=" ++ cells) ∷ (codes "--min-area=" ++ area) ∷ (codes "--min-ring-area=" ++ ring_area) ∷ codes "--" ∷ word ∷ words) rows word words
+        (more_layers rows (word ∷ []) words) (ap₂ grid_test taken (no_layer_fault rows (word ∷ []) words)) fits refl
+        ∙ order_asked (finished build_shape.rules (end_at rows word words).held) (Some file) _ refl
+        (build_asked (finished build_shape.rules (end_at rows word words).held) (Some n) layers false area None ring_area refl (ap (Rattle.std.specs.Option.option_map (λ k. Some k)) read) named refl refl refl refl)
 
-    pub build_grid_exact_law : (area : Text) → request_of (codes "build" ∷ (codes "--grid=" ++ cells) ∷ (codes "--min-area=" ++ area) ∷ (codes "--min-ring-area=" ++ ring_area) ∷ codes "--exact" ∷ codes "--" ∷ word ∷ words)
-        ≡ Some (build layers true (Some n) area None ring_area)
+    pub build_grid_exact_law : (output : Option Text) (area : Text) → order_of (codes "build" ∷ and_output output ((codes "--grid=" ++ cells) ∷ (codes "--min-area=" ++ area) ∷ (codes "--min-ring-area=" ++ ring_area) ∷ codes "--exact" ∷ codes "--" ∷ word ∷ words))
+        ≡ Some (build layers true (Some n) area None ring_area, output)
     unfolding clap_on_literals
-    build_grid_exact_law area =
+    build_grid_exact_law None area =
         let rows = grid_row cells ∷ given_row (codes "min-area") area ∷ given_row (codes "min-ring-area") ring_area ∷ exact_row ∷ [] in
         build_asks ((codes "--grid=" ++ cells) ∷ (codes "--min-area=" ++ area) ∷ (codes "--min-ring-area=" ++ ring_area) ∷ codes "--exact" ∷ codes "--" ∷ word ∷ words) rows word words
         (more_layers rows (word ∷ []) words) (ap₂ grid_test taken (no_layer_fault rows (word ∷ []) words)) fits refl
-        ∙ build_asked (finished build_shape.rules (end_at rows word words).held) (Some n) layers true area None ring_area refl (ap (Rattle.std.specs.Option.option_map (λ k. Some k)) read) named refl refl refl refl
+        ∙ order_asked (finished build_shape.rules (end_at rows word words).held) None _ refl
+        (build_asked (finished build_shape.rules (end_at rows word words).held) (Some n) layers true area None ring_area refl (ap (Rattle.std.specs.Option.option_map (λ k. Some k)) read) named refl refl refl refl)
+    build_grid_exact_law (Some file) area =
+        let rows = given_row (codes "output") file ∷ grid_row cells ∷ given_row (codes "min-area") area ∷ given_row (codes "min-ring-area") ring_area ∷ exact_row ∷ [] in
+        build_asks ((codes "--output=" ++ file) ∷ (codes "--grid=" ++ cells) ∷ (codes "--min-area=" ++ area) ∷ (codes "--min-ring-area=" ++ ring_area) ∷ codes "--exact" ∷ codes "--" ∷ word ∷ words) rows word words
+        (more_layers rows (word ∷ []) words) (ap₂ grid_test taken (no_layer_fault rows (word ∷ []) words)) fits refl
+        ∙ order_asked (finished build_shape.rules (end_at rows word words).held) (Some file) _ refl
+        (build_asked (finished build_shape.rules (end_at rows word words).held) (Some n) layers true area None ring_area refl (ap (Rattle.std.specs.Option.option_map (λ k. Some k)) read) named refl refl refl refl)
 
-    pub build_grid_keep_law : (share : Text) → request_of (codes "build" ∷ (codes "--grid=" ++ cells) ∷ (codes "--keep=" ++ share) ∷ (codes "--min-ring-area=" ++ ring_area) ∷ codes "--" ∷ word ∷ words)
-        ≡ Some (build layers false (Some n) (codes "0") (Some share) ring_area)
+    pub build_grid_keep_law : (output : Option Text) (share : Text) → order_of (codes "build" ∷ and_output output ((codes "--grid=" ++ cells) ∷ (codes "--keep=" ++ share) ∷ (codes "--min-ring-area=" ++ ring_area) ∷ codes "--" ∷ word ∷ words))
+        ≡ Some (build layers false (Some n) (codes "0") (Some share) ring_area, output)
     unfolding clap_on_literals
-    build_grid_keep_law share =
+    build_grid_keep_law None share =
         let rows = grid_row cells ∷ given_row (codes "keep") share ∷ given_row (codes "min-ring-area") ring_area ∷ [] in
         build_asks ((codes "--grid=" ++ cells) ∷ (codes "--keep=" ++ share) ∷ (codes "--min-ring-area=" ++ ring_area) ∷ codes "--" ∷ word ∷ words) rows word words
         (more_layers rows (word ∷ []) words) (ap₂ grid_test taken (no_layer_fault rows (word ∷ []) words)) fits refl
-        ∙ build_asked (finished build_shape.rules (end_at rows word words).held) (Some n) layers false (codes "0") (Some share) ring_area refl (ap (Rattle.std.specs.Option.option_map (λ k. Some k)) read) named refl refl refl refl
+        ∙ order_asked (finished build_shape.rules (end_at rows word words).held) None _ refl
+        (build_asked (finished build_shape.rules (end_at rows word words).held) (Some n) layers false (codes "0") (Some share) ring_area refl (ap (Rattle.std.specs.Option.option_map (λ k. Some k)) read) named refl refl refl refl)
+    build_grid_keep_law (Some file) share =
+        let rows = given_row (codes "output") file ∷ grid_row cells ∷ given_row (codes "keep") share ∷ given_row (codes "min-ring-area") ring_area ∷ [] in
+        build_asks ((codes "--output=" ++ file) ∷ (codes "--grid=" ++ cells) ∷ (codes "--keep=" ++ share) ∷ (codes "--min-ring-area=" ++ ring_area) ∷ codes "--" ∷ word ∷ words) rows word words
+        (more_layers rows (word ∷ []) words) (ap₂ grid_test taken (no_layer_fault rows (word ∷ []) words)) fits refl
+        ∙ order_asked (finished build_shape.rules (end_at rows word words).held) (Some file) _ refl
+        (build_asked (finished build_shape.rules (end_at rows word words).held) (Some n) layers false (codes "0") (Some share) ring_area refl (ap (Rattle.std.specs.Option.option_map (λ k. Some k)) read) named refl refl refl refl)
 
-    pub build_grid_keep_exact_law : (share : Text) → request_of (codes "build" ∷ (codes "--grid=" ++ cells) ∷ (codes "--keep=" ++ share) ∷ (codes "--min-ring-area=" ++ ring_area) ∷ codes "--exact" ∷ codes "--" ∷ word ∷ words)
-        ≡ Some (build layers true (Some n) (codes "0") (Some share) ring_area)
+    pub build_grid_keep_exact_law : (output : Option Text) (share : Text) → order_of (codes "build" ∷ and_output output ((codes "--grid=" ++ cells) ∷ (codes "--keep=" ++ share) ∷ (codes "--min-ring-area=" ++ ring_area) ∷ codes "--exact" ∷ codes "--" ∷ word ∷ words))
+        ≡ Some (build layers true (Some n) (codes "0") (Some share) ring_area, output)
     unfolding clap_on_literals
-    build_grid_keep_exact_law share =
+    build_grid_keep_exact_law None share =
         let rows = grid_row cells ∷ given_row (codes "keep") share ∷ given_row (codes "min-ring-area") ring_area ∷ exact_row ∷ [] in
         build_asks ((codes "--grid=" ++ cells) ∷ (codes "--keep=" ++ share) ∷ (codes "--min-ring-area=" ++ ring_area) ∷ codes "--exact" ∷ codes "--" ∷ word ∷ words) rows word words
         (more_layers rows (word ∷ []) words) (ap₂ grid_test taken (no_layer_fault rows (word ∷ []) words)) fits refl
-        ∙ build_asked (finished build_shape.rules (end_at rows word words).held) (Some n) layers true (codes "0") (Some share) ring_area refl (ap (Rattle.std.specs.Option.option_map (λ k. Some k)) read) named refl refl refl refl
+        ∙ order_asked (finished build_shape.rules (end_at rows word words).held) None _ refl
+        (build_asked (finished build_shape.rules (end_at rows word words).held) (Some n) layers true (codes "0") (Some share) ring_area refl (ap (Rattle.std.specs.Option.option_map (λ k. Some k)) read) named refl refl refl refl)
+    build_grid_keep_exact_law (Some file) share =
+        let rows = given_row (codes "output") file ∷ grid_row cells ∷ given_row (codes "keep") share ∷ given_row (codes "min-ring-area") ring_area ∷ exact_row ∷ [] in
+        build_asks ((codes "--output=" ++ file) ∷ (codes "--grid=" ++ cells) ∷ (codes "--keep=" ++ share) ∷ (codes "--min-ring-area=" ++ ring_area) ∷ codes "--exact" ∷ codes "--" ∷ word ∷ words) rows word words
+        (more_layers rows (word ∷ []) words) (ap₂ grid_test taken (no_layer_fault rows (word ∷ []) words)) fits refl
+        ∙ order_asked (finished build_shape.rules (end_at rows word words).held) (Some file) _ refl
+        (build_asked (finished build_shape.rules (end_at rows word words).held) (Some n) layers true (codes "0") (Some share) ring_area refl (ap (Rattle.std.specs.Option.option_map (λ k. Some k)) read) named refl refl refl refl)

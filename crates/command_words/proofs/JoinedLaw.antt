@@ -1,9 +1,9 @@
 -- Words that are written for a request ask for it once they are joined.
 use Rattle.std.proofs.Common.{◌≡◌, ◌∙◌, ◌++◌, ℕ, List, [], ◌∷◌, Bool, true, false, Option, Some, None, codes, decimal, map, refl, ap}
 use Rattle.clap.specs.Walk.{Text}
-use Rattle.command_words.specs.Asked.{Asked, build, geo, request_of, simplify, stat}
+use Rattle.command_words.specs.Asked.{Ordered, build, geo, order_of, simplify, stat}
 use Rattle.command_words.specs.Joined.{alone, behind, joined, joined_from}
-use Rattle.command_words.specs.Written.{IsWritable, and_exact, and_grid, layer_word, level_apart, level_word, ring_area_apart, ring_area_word, written, written_apart}
+use Rattle.command_words.specs.Written.{IsWritable, and_exact, and_grid, and_output, layer_word, level_apart, level_word, ring_area_apart, ring_area_word, written, written_apart}
 use Rattle.command_words.proofs.WrittenLaw.{asked_as_written}
 
 same_behind : (words : List Text) → joined_from behind words ≡ words
@@ -36,36 +36,46 @@ module _ (words joined_words : List Text) (h : joined_from alone words ≡ joine
   joined_level area None = ap (λ ws. level_word area None ∷ ws) h
   joined_level area (Some share) = ap (λ ws. level_word area (Some share) ∷ ws) h
 
-joined_same : (a : Asked) → joined (written a) ≡ written a
-joined_same (build layers exact grid area keep ring_area) =
+same_output : (output : Option Text) (words joined_words : List Text) → joined_from alone words ≡ joined_words
+    → joined_from alone (and_output output words) ≡ and_output output joined_words
+same_output None words joined_words h = h
+same_output (Some file) words joined_words h = ap (λ ws. (codes "--output=" ++ file) ∷ ws) h
+
+joined_same : (o : Ordered) → joined (written o) ≡ written o
+joined_same (build layers exact grid area keep ring_area, output) =
     let rest = and_exact exact (codes "--" ∷ map layer_word layers) in
     let rings = ring_area_word ring_area ∷ rest in
     let levels = level_word area keep ∷ rings in
     let below = same_level rings rings (same_ring_area rest rest (same_exact exact (map layer_word layers)) ring_area) area keep in
-    ap (λ ws. codes "build" ∷ ws) (same_grid grid levels levels below)
-joined_same (simplify area ring_area path) =
+    ap (λ ws. codes "build" ∷ ws) (same_output output (and_grid grid levels) (and_grid grid levels) (same_grid grid levels levels below))
+joined_same (simplify area ring_area path, output) =
     let rest = codes "--" ∷ path ∷ [] in
     let rings = ring_area_word ring_area ∷ rest in
-    ap (λ ws. codes "simplify" ∷ ws) (same_level rings rings (same_ring_area rest rest (same_rest (path ∷ [])) ring_area) area None)
-joined_same (geo name path) = refl
-joined_same (stat path) = refl
+    let levels = level_word area None ∷ rings in
+    ap (λ ws. codes "simplify" ∷ ws)
+    (same_output output levels levels (same_level rings rings (same_ring_area rest rest (same_rest (path ∷ [])) ring_area) area None))
+joined_same (geo name path, output) = ap (λ ws. codes "geo" ∷ ws) (same_behind (and_output output ((codes "--object=" ++ name) ∷ codes "--" ∷ path ∷ [])))
+joined_same (stat path, output) = ap (λ ws. codes "stat" ∷ ws) (same_behind (and_output output (codes "--" ∷ path ∷ [])))
 
-joined_apart : (a : Asked) → joined (written_apart a) ≡ written a
-joined_apart (build layers exact grid area keep ring_area) =
+joined_apart : (o : Ordered) → joined (written_apart o) ≡ written o
+joined_apart (build layers exact grid area keep ring_area, output) =
     let rest = and_exact exact (codes "--" ∷ map layer_word layers) in
     let rings = ring_area_word ring_area ∷ rest in
-    let apart = ring_area_apart ring_area rest in
-    let below = joined_level apart rings (joined_ring_area rest rest (same_exact exact (map layer_word layers)) ring_area) area keep in
-    ap (λ ws. codes "build" ∷ ws) (same_grid grid (level_apart area keep apart) (level_word area keep ∷ rings) below)
-joined_apart (simplify area ring_area path) =
+    let apart = level_apart area keep (ring_area_apart ring_area rest) in
+    let levels = level_word area keep ∷ rings in
+    let below = joined_level (ring_area_apart ring_area rest) rings (joined_ring_area rest rest (same_exact exact (map layer_word layers)) ring_area) area keep in
+    ap (λ ws. codes "build" ∷ ws) (same_output output (and_grid grid apart) (and_grid grid levels) (same_grid grid apart levels below))
+joined_apart (simplify area ring_area path, output) =
     let rest = codes "--" ∷ path ∷ [] in
+    let rings = ring_area_word ring_area ∷ rest in
     let apart = ring_area_apart ring_area rest in
     ap (λ ws. codes "simplify" ∷ ws)
-    (joined_level apart (ring_area_word ring_area ∷ rest) (joined_ring_area rest rest (same_rest (path ∷ [])) ring_area) area None)
-joined_apart (geo name path) = refl
-joined_apart (stat path) = refl
+    (same_output output (level_apart area None apart) (level_word area None ∷ rings)
+    (joined_level apart rings (joined_ring_area rest rest (same_rest (path ∷ [])) ring_area) area None))
+joined_apart (geo name path, output) = joined_same (geo name path, output)
+joined_apart (stat path, output) = joined_same (stat path, output)
 
 -- the words that are written for a request, in each of the two spellings, ask for it once they are joined
-pub written_are_asked : (a : Asked) → IsWritable a → (request_of (joined (written a)) ≡ Some a) × (request_of (joined (written_apart a)) ≡ Some a)
-written_are_asked a can =
-    (ap request_of (joined_same a) ∙ asked_as_written a can, ap request_of (joined_apart a) ∙ asked_as_written a can)
+pub written_are_asked : (o : Ordered) → IsWritable o.0 → (order_of (joined (written o)) ≡ Some o) × (order_of (joined (written_apart o)) ≡ Some o)
+written_are_asked o can =
+    (ap order_of (joined_same o) ∙ asked_as_written o can, ap order_of (joined_apart o) ∙ asked_as_written o can)

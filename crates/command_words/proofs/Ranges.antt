@@ -9,9 +9,10 @@ use Rattle.clap.specs.Simple.{subcommand_of}
 use Rattle.clap.specs.Walk.{Row, Text, one_of}
 use Rattle.clap.specs.declared.builder.value_parser.ValueParser.TheVariants.{Unsigned}
 use Rattle.clap.proofs.ValueTestLemmas.{accepts-Accepts}
-use Rattle.command_words.specs.Asked.{Asked, asked, asked_in, build, build_in, build_on, cells_of, geo, grid_at, grid_in, has_both, kinds_of, layers_in, request_of, simplify, simplify_in, stat, text_of, where_none}
+use Rattle.command_words.specs.Asked.{Asked, Ordered, asked, asked_in, build, build_in, build_on, cells_of, geo, grid_at, grid_in, has_both, kinds_of, layers_in, order_of, ordered, ordered_in, output_in, simplify, simplify_in, stat, text_of, where_none}
 use Rattle.command_words.specs.CommandLine.{program_app}
 use Rattle.command_words.specs.Requests.{IsCells, IsGridInRange}
+use Rattle.command_words.specs.declared.request.Order.{Order}
 use Rattle.command_words.specs.declared.request.Request.{Request}
 use Rattle.command_words.specs.declared.request.Request.TheVariants.{Build, Simplify, Geo, Stat}
 
@@ -64,11 +65,15 @@ command_in_range found =
     either (bytes_eq found.0 (codes "build")) (build_in rows) second built
     (either is_simplify (Some simplified) third tt (either is_geo (Some decoded) last tt (either is_stat (Some counted) None tt tt)))
 
-found_in_range : (found : Option (Text × List Row)) → IfSome (option_and_then asked_in found) IsInRange
-found_in_range None = tt
-found_in_range (Some found) = command_in_range found
+with_output : (output : Option Text) (o : Option Asked) → IfSome o IsInRange → IfSome (option_map (λ a. (a, output)) o) (λ (x : Ordered). IsInRange x.0)
+with_output output None h = tt
+with_output output (Some a) h = h
 
-unless_refused : (kinds : Kinds) (o : Option Asked) → IfSome o IsInRange → IfSome (where_none kinds o) IsInRange
+found_in_range : (found : Option (Text × List Row)) → IfSome (option_and_then ordered_in found) (λ (o : Ordered). IsInRange o.0)
+found_in_range None = tt
+found_in_range (Some found) = with_output (output_in found.1) (asked_in found) (command_in_range found)
+
+unless_refused : (kinds : Kinds) (o : Option Ordered) → IfSome o (λ (x : Ordered). IsInRange x.0) → IfSome (where_none kinds o) (λ (x : Ordered). IsInRange x.0)
 unless_refused [] o h = h
 unless_refused (k ∷ ks) o h = tt
 
@@ -79,7 +84,7 @@ of_request (Geo name path) h = tt
 of_request (Stat path) h = tt
 
 -- the grid of a request that words ask for may have its number of cells
-pub asked_in_range : (words : List Text) (request : Request) → request_of words ≡ Some (asked request) → IsGridInRange request
-asked_in_range words request is =
-    of_request request (subst (λ (o : Option Asked). IfSome o IsInRange) is
+pub asked_in_range : (words : List Text) (order : Order) → order_of words ≡ Some (ordered order) → IsGridInRange order.request
+asked_in_range words order is =
+    of_request order.request (subst (λ (o : Option Ordered). IfSome o (λ (x : Ordered). IsInRange x.0)) is
     (unless_refused (kinds_of words) _ (found_in_range (subcommand_of program_app words))))

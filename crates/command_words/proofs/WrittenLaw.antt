@@ -15,7 +15,7 @@ use Rattle.std.specs.List.{list_any, position, position_or_len}
 use Rattle.clap.specs.Lexer.{has_byte, without_minus}
 use Rattle.clap.specs.Walk.{Text}
 use Rattle.command_words.specs.LayerWords.{equals_sign}
-use Rattle.command_words.specs.Asked.{Asked, and_layer, build, cells_of, geo, layer_of, layers_of, request_of, simplify, stat}
+use Rattle.command_words.specs.Asked.{and_layer, Ordered, build, cells_of, geo, layer_of, layers_of, order_of, simplify, stat}
 use Rattle.command_words.specs.Written.{HasPlainNames, IsWritable, layer_word, written}
 use Rattle.command_words.proofs.Laws.{geo_law, simplify_law, stat_law}
 use Rattle.command_words.proofs.BuildLaw.{build_exact_law, build_grid_exact_law, build_grid_keep_exact_law, build_grid_keep_law, build_grid_law, build_keep_exact_law, build_keep_law, build_law}
@@ -107,28 +107,28 @@ is_read n cells =
 fits : (layers : List (Text × Text)) → suc (length layers) < usize_max → length (map layer_word layers) < usize_max
 fits layers few = let same = length_words layers in omega (arith, few)
 
-pub asked_as_written : (a : Asked) → IsWritable a → request_of (written a) ≡ Some a
-asked_as_written (build [] exact grid area keep ring_area) can = absurd (omega (arith, can.1))
-asked_as_written (build (layer ∷ layers) true None area None ring_area) can =
-    build_exact_law ring_area (layer_word layer) (map layer_word layers) (layer ∷ layers) (all_split (layer ∷ layers) can.3) (fits layers can.2) area
-asked_as_written (build (layer ∷ layers) false None area None ring_area) can =
-    build_law ring_area (layer_word layer) (map layer_word layers) (layer ∷ layers) (all_split (layer ∷ layers) can.3) (fits layers can.2) area
-asked_as_written (build (layer ∷ layers) true None area (Some share) ring_area) can =
-    build_keep_exact_law ring_area (layer_word layer) (map layer_word layers) (layer ∷ layers) (all_split (layer ∷ layers) can.3) (fits layers can.2) share
-    ∙ (λ i. Some (build (layer ∷ layers) true None (sym can.4 i) (Some share) ring_area))
-asked_as_written (build (layer ∷ layers) false None area (Some share) ring_area) can =
-    build_keep_law ring_area (layer_word layer) (map layer_word layers) (layer ∷ layers) (all_split (layer ∷ layers) can.3) (fits layers can.2) share
-    ∙ (λ i. Some (build (layer ∷ layers) false None (sym can.4 i) (Some share) ring_area))
-asked_as_written (build (layer ∷ layers) true (Some n) area None ring_area) can =
-    build_grid_exact_law ring_area (layer_word layer) (map layer_word layers) (layer ∷ layers) (all_split (layer ∷ layers) can.3) (fits layers can.2) (decimal n) n (is_read n can.0).0 (is_read n can.0).1 area
-asked_as_written (build (layer ∷ layers) false (Some n) area None ring_area) can =
-    build_grid_law ring_area (layer_word layer) (map layer_word layers) (layer ∷ layers) (all_split (layer ∷ layers) can.3) (fits layers can.2) (decimal n) n (is_read n can.0).0 (is_read n can.0).1 area
-asked_as_written (build (layer ∷ layers) true (Some n) area (Some share) ring_area) can =
-    build_grid_keep_exact_law ring_area (layer_word layer) (map layer_word layers) (layer ∷ layers) (all_split (layer ∷ layers) can.3) (fits layers can.2) (decimal n) n (is_read n can.0).0 (is_read n can.0).1 share
-    ∙ (λ i. Some (build (layer ∷ layers) true (Some n) (sym can.4 i) (Some share) ring_area))
-asked_as_written (build (layer ∷ layers) false (Some n) area (Some share) ring_area) can =
-    build_grid_keep_law ring_area (layer_word layer) (map layer_word layers) (layer ∷ layers) (all_split (layer ∷ layers) can.3) (fits layers can.2) (decimal n) n (is_read n can.0).0 (is_read n can.0).1 share
-    ∙ (λ i. Some (build (layer ∷ layers) false (Some n) (sym can.4 i) (Some share) ring_area))
-asked_as_written (simplify area ring_area path) can = simplify_law area ring_area path
-asked_as_written (geo name path) can = geo_law name path
-asked_as_written (stat path) can = stat_law path
+pub asked_as_written : (o : Ordered) → IsWritable o.0 → order_of (written o) ≡ Some o
+asked_as_written (build [] exact grid area keep ring_area, output) can = absurd (omega (arith, can.1))
+asked_as_written (build (layer ∷ layers) true None area None ring_area, output) can =
+    build_exact_law ring_area (layer_word layer) (map layer_word layers) (layer ∷ layers) (all_split (layer ∷ layers) can.3) (fits layers can.2) output area
+asked_as_written (build (layer ∷ layers) false None area None ring_area, output) can =
+    build_law ring_area (layer_word layer) (map layer_word layers) (layer ∷ layers) (all_split (layer ∷ layers) can.3) (fits layers can.2) output area
+asked_as_written (build (layer ∷ layers) true None area (Some share) ring_area, output) can =
+    build_keep_exact_law ring_area (layer_word layer) (map layer_word layers) (layer ∷ layers) (all_split (layer ∷ layers) can.3) (fits layers can.2) output share
+    ∙ (λ i. Some (build (layer ∷ layers) true None (sym can.4 i) (Some share) ring_area, output))
+asked_as_written (build (layer ∷ layers) false None area (Some share) ring_area, output) can =
+    build_keep_law ring_area (layer_word layer) (map layer_word layers) (layer ∷ layers) (all_split (layer ∷ layers) can.3) (fits layers can.2) output share
+    ∙ (λ i. Some (build (layer ∷ layers) false None (sym can.4 i) (Some share) ring_area, output))
+asked_as_written (build (layer ∷ layers) true (Some n) area None ring_area, output) can =
+    build_grid_exact_law ring_area (layer_word layer) (map layer_word layers) (layer ∷ layers) (all_split (layer ∷ layers) can.3) (fits layers can.2) (decimal n) n (is_read n can.0).0 (is_read n can.0).1 output area
+asked_as_written (build (layer ∷ layers) false (Some n) area None ring_area, output) can =
+    build_grid_law ring_area (layer_word layer) (map layer_word layers) (layer ∷ layers) (all_split (layer ∷ layers) can.3) (fits layers can.2) (decimal n) n (is_read n can.0).0 (is_read n can.0).1 output area
+asked_as_written (build (layer ∷ layers) true (Some n) area (Some share) ring_area, output) can =
+    build_grid_keep_exact_law ring_area (layer_word layer) (map layer_word layers) (layer ∷ layers) (all_split (layer ∷ layers) can.3) (fits layers can.2) (decimal n) n (is_read n can.0).0 (is_read n can.0).1 output share
+    ∙ (λ i. Some (build (layer ∷ layers) true (Some n) (sym can.4 i) (Some share) ring_area, output))
+asked_as_written (build (layer ∷ layers) false (Some n) area (Some share) ring_area, output) can =
+    build_grid_keep_law ring_area (layer_word layer) (map layer_word layers) (layer ∷ layers) (all_split (layer ∷ layers) can.3) (fits layers can.2) (decimal n) n (is_read n can.0).0 (is_read n can.0).1 output share
+    ∙ (λ i. Some (build (layer ∷ layers) false (Some n) (sym can.4 i) (Some share) ring_area, output))
+asked_as_written (simplify area ring_area path, output) can = simplify_law output area ring_area path
+asked_as_written (geo name path, output) can = geo_law output name path
+asked_as_written (stat path, output) can = stat_law output path

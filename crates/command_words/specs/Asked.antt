@@ -13,6 +13,7 @@ use Rattle.clap.specs.Kinds.{Kinds}
 use Rattle.clap.specs.declared.parser.matches.ArgMatches.{ArgMatches}
 use Rattle.command_words.specs.LayerWords.{equals_sign}
 use Rattle.command_words.specs.CommandLine.{program_app}
+use Rattle.command_words.specs.declared.request.Order.{Order}
 use Rattle.command_words.specs.declared.request.Request.{Request}
 use Rattle.command_words.specs.declared.request.Request.TheVariants.{Build, Simplify, Geo, Stat}
 use Rattle.command_words.specs.declared.words_fault.WordsFault.{WordsFault}
@@ -35,6 +36,14 @@ asked (Build layers exact grid area keep ring_area) =
 asked (Simplify area ring_area path) = simplify area.now ring_area.now path.now
 asked (Geo name path) = geo name.now path.now
 asked (Stat path) = stat path.now
+
+-- what is asked for, and the file that the output goes to, if it isn't standard output
+abbrev pub Ordered : Type 0
+Ordered = Asked × Option Text
+
+-- an order as what it asks for
+abbrev pub ordered : Order → Ordered
+ordered order = (asked order.request, option_map (λ o. o.now) order.output)
 
 -- ---- values
 
@@ -110,6 +119,14 @@ asked_in found =
     else (if bytes_eq found.0 (codes "stat") then Some (stat (text_of (codes "file") found.1))
     else None)))
 
+-- the file that the output goes to, if it isn't standard output
+abbrev pub output_in : List Row → Option Text
+output_in rows = first_of (codes "output") rows
+
+-- the same with the file that the output goes to
+abbrev pub ordered_in : Text × List Row → Option Ordered
+ordered_in found = option_map (λ a. (a, output_in found.1)) (asked_in found)
+
 -- ---- the words
 
 abbrev pub where_none : {X : Type 0} → Kinds → Option X → Option X
@@ -121,8 +138,12 @@ abbrev pub kinds_of : List Text → Kinds
 kinds_of words = fault_of program_app words
 
 -- what the words ask for, if the command line takes them
-abbrev pub request_of : List Text → Option Asked
-request_of words = where_none (kinds_of words) (option_and_then asked_in (subcommand_of program_app words))
+abbrev pub order_of : List Text → Option Ordered
+order_of words = where_none (kinds_of words) (option_and_then ordered_in (subcommand_of program_app words))
+
+-- the file that they ask the output to go to, if any
+abbrev pub output_of : List Text → Option Text
+output_of words = option_and_then (λ order. order.1) (order_of words)
 
 -- ---- answers
 

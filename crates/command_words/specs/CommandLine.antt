@@ -1,5 +1,5 @@
 -- The command line: its commands, each with its arguments, as `clap` reads them.
-use Rattle.std.specs.Prelude.{◌≡◌, Some, true, false, codes, pos}
+use Rattle.std.specs.Prelude.{◌≡◌, ℕ, Some, true, false, codes, pos}
 use Rattle.clap.specs.Lexer.{usize_max}
 use Rattle.clap.specs.Walk.{Rule}
 use Rattle.clap.specs.Simple.{App, app_of, new_app, new_rule, on_top, with_rule, with_subcommand}
@@ -46,6 +46,14 @@ grid_rule = record (new_rule (codes "grid")) {
 abbrev pub exact_rule : Rule
 exact_rule = record (new_rule (codes "exact")) { long = Some (codes "exact"); action = Some SetTrue }
 
+-- the letter `o`
+abbrev pub letter_o : ℕ
+letter_o = 111
+
+-- the option -o FILE, or --output FILE
+abbrev pub output_rule : Rule
+output_rule = record (new_rule (codes "output")) { short = Some letter_o; long = Some (codes "output"); value_names = 1 }
+
 -- one argument NAME=PATH or more
 abbrev pub layers_rule : Rule
 layers_rule = record (new_rule (codes "layers")) {
@@ -54,27 +62,28 @@ layers_rule = record (new_rule (codes "layers")) {
   range = Some (record { start_inclusive = 1; end_inclusive = usize_max });
 }
 
--- build [--grid N] [--min-area A] [--keep P/Q] [--min-ring-area B] [--exact] NAME=PATH..
+-- build [--grid N] [--min-area A] [--keep P/Q] [--min-ring-area B] [--exact] [-o FILE] NAME=PATH..
 abbrev pub build_app : App
 build_app = with_rule
-    (with_rule (with_rule (with_rule (with_rule (with_rule (new_app (codes "build")) grid_rule) area_rule) keep_rule) ring_area_rule) exact_rule)
+    (with_rule (with_rule (with_rule (with_rule (with_rule (with_rule (new_app (codes "build")) grid_rule) area_rule) keep_rule) ring_area_rule) exact_rule)
+    output_rule)
     layers_rule
 
--- simplify [--min-area A] [--min-ring-area B] FILE
+-- simplify [--min-area A] [--min-ring-area B] [-o FILE] FILE
 abbrev pub simplify_app : App
-simplify_app = with_rule (with_rule (with_rule (new_app (codes "simplify")) area_rule) ring_area_rule) file_rule
+simplify_app = with_rule (with_rule (with_rule (with_rule (new_app (codes "simplify")) area_rule) ring_area_rule) output_rule) file_rule
 
--- geo --object NAME FILE
+-- geo --object NAME [-o FILE] FILE
 abbrev pub geo_app : App
-geo_app = with_rule (with_rule (new_app (codes "geo")) object_rule) file_rule
+geo_app = with_rule (with_rule (with_rule (new_app (codes "geo")) object_rule) output_rule) file_rule
 
--- stat FILE
+-- stat [-o FILE] FILE
 abbrev pub stat_app : App
-stat_app = with_rule (new_app (codes "stat")) file_rule
+stat_app = with_rule (with_rule (new_app (codes "stat")) output_rule) file_rule
 
--- the program, to whose command the words behind its name belong
+-- the program, which has a version and to whose command the words behind its name belong
 abbrev pub bare_app : App
-bare_app = on_top (λ s. record s { no_binary_name = true; subcommand_required = true }) (new_app (codes "mapchain"))
+bare_app = on_top (λ s. record s { has_version = true; no_binary_name = true; subcommand_required = true }) (new_app (codes "mapchain"))
 
 abbrev pub program_app : App
 program_app = with_subcommand

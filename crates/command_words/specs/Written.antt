@@ -4,7 +4,7 @@ use Rattle.clap.specs.Lexer.{has_byte, usize_max}
 use Rattle.clap.specs.Walk.{Text}
 use Rattle.command_words.specs.LayerWords.{equals_sign}
 use Rattle.command_words.specs.Requests.{IsCells}
-use Rattle.command_words.specs.Asked.{Asked, build, geo, simplify, stat}
+use Rattle.command_words.specs.Asked.{Asked, Ordered, build, geo, simplify, stat}
 
 -- a layer as a word
 abbrev pub layer_word : Text × Text → Text
@@ -26,13 +26,18 @@ level_word area (Some share) = codes "--keep=" ++ share
 abbrev pub ring_area_word : Text → Text
 ring_area_word ring_area = codes "--min-ring-area=" ++ ring_area
 
--- the words of a request
-abbrev pub written : Asked → List Text
-written (build layers exact grid area keep ring_area) =
-    codes "build" ∷ and_grid grid (level_word area keep ∷ ring_area_word ring_area ∷ and_exact exact (codes "--" ∷ map layer_word layers))
-written (simplify area ring_area path) = codes "simplify" ∷ level_word area None ∷ ring_area_word ring_area ∷ codes "--" ∷ path ∷ []
-written (geo name path) = codes "geo" ∷ (codes "--object=" ++ name) ∷ codes "--" ∷ path ∷ []
-written (stat path) = codes "stat" ∷ codes "--" ∷ path ∷ []
+abbrev pub and_output : Option Text → List Text → List Text
+and_output (Some file) words = (codes "--output=" ++ file) ∷ words
+and_output None words = words
+
+-- the words of a request whose output goes to this file, or to standard output
+abbrev pub written : Ordered → List Text
+written (build layers exact grid area keep ring_area, output) =
+    codes "build" ∷ and_output output (and_grid grid (level_word area keep ∷ ring_area_word ring_area ∷ and_exact exact (codes "--" ∷ map layer_word layers)))
+written (simplify area ring_area path, output) =
+    codes "simplify" ∷ and_output output (level_word area None ∷ ring_area_word ring_area ∷ codes "--" ∷ path ∷ [])
+written (geo name path, output) = codes "geo" ∷ and_output output ((codes "--object=" ++ name) ∷ codes "--" ∷ path ∷ [])
+written (stat path, output) = codes "stat" ∷ and_output output (codes "--" ∷ path ∷ [])
 
 -- the same with a value that may be any text as a word of its own
 abbrev pub level_apart : Text → Option Text → List Text → List Text
@@ -42,12 +47,13 @@ level_apart area (Some share) words = codes "--keep" ∷ share ∷ words
 abbrev pub ring_area_apart : Text → List Text → List Text
 ring_area_apart ring_area words = codes "--min-ring-area" ∷ ring_area ∷ words
 
-abbrev pub written_apart : Asked → List Text
-written_apart (build layers exact grid area keep ring_area) =
-    codes "build" ∷ and_grid grid (level_apart area keep (ring_area_apart ring_area (and_exact exact (codes "--" ∷ map layer_word layers))))
-written_apart (simplify area ring_area path) = codes "simplify" ∷ level_apart area None (ring_area_apart ring_area (codes "--" ∷ path ∷ []))
-written_apart (geo name path) = written (geo name path)
-written_apart (stat path) = written (stat path)
+abbrev pub written_apart : Ordered → List Text
+written_apart (build layers exact grid area keep ring_area, output) =
+    codes "build" ∷ and_output output (and_grid grid (level_apart area keep (ring_area_apart ring_area (and_exact exact (codes "--" ∷ map layer_word layers)))))
+written_apart (simplify area ring_area path, output) =
+    codes "simplify" ∷ and_output output (level_apart area None (ring_area_apart ring_area (codes "--" ∷ path ∷ [])))
+written_apart (geo name path, output) = written (geo name path, output)
+written_apart (stat path, output) = written (stat path, output)
 
 -- no name has an `=`
 abbrev pub HasPlainNames : List (Text × Text) → Type 0

@@ -3,7 +3,7 @@ ghost use Rattle.std.specs.Prelude.{IfOk};
 ghost use Rattle.command_words.specs.CommandLine.{IsApp, IsRule, file_rule, geo_app, object_rule, simplify_app, stat_app};
 
 use crate::commands::{Help, command};
-use crate::usage::{area, ring_area};
+use crate::usage::{area, output, ring_area};
 use clap::{Arg, Command};
 use std::alloc::{AllocError, Global};
 
@@ -42,7 +42,7 @@ what 'mapchain build' writes of the same files with them.",
     after_long: "Example:
   mapchain simplify --min-area 0.0001 map.topojson > small.topojson
 
-'mapchain --help' lists the exit statuses.",
+'mapchain --help' lists the exit statuses, and says where faults are explained.",
 };
 
 const GEO_HELP: Help = Help {
@@ -57,7 +57,7 @@ something is refused it takes nothing, and standard error says what.",
     after_long: "Example:
   mapchain geo --object coast map.topojson > coast.json
 
-'mapchain --help' lists the exit statuses.",
+'mapchain --help' lists the exit statuses, and says where faults are explained.",
 };
 
 const OBJECT_HELP: &str = "The name of the object";
@@ -77,7 +77,7 @@ Where something is refused it takes nothing, and standard error says what.",
     after_long: "Example:
   mapchain stat map.topojson
 
-'mapchain --help' lists the exit statuses.",
+'mapchain --help' lists the exit statuses, and says where faults are explained.",
 };
 
 const FILE_HELP: &str = "A topology (TopoJSON 1.0)";
@@ -99,6 +99,7 @@ pub(crate) fn simplify<'a>(alloc: Global) -> Result<Command<'a>, AllocError>
     command(alloc, SIMPLIFY, SIMPLIFY_HELP)
         .arg(area(alloc))?
         .arg(ring_area(alloc))?
+        .arg(output(alloc))?
         .arg(file(alloc))
 }
 
@@ -119,6 +120,7 @@ pub(crate) fn geo<'a>(alloc: Global) -> Result<Command<'a>, AllocError>
 {
     command(alloc, GEO, GEO_HELP)
         .arg(object(alloc))?
+        .arg(output(alloc))?
         .arg(file(alloc))
 }
 
@@ -126,5 +128,7 @@ pub(crate) fn geo<'a>(alloc: Global) -> Result<Command<'a>, AllocError>
 pub(crate) fn stat<'a>(alloc: Global) -> Result<Command<'a>, AllocError>
     ensures { IfOk result (λ c. IsApp c stat_app) }
 {
-    command(alloc, STAT, STAT_HELP).arg(file(alloc))
+    command(alloc, STAT, STAT_HELP)
+        .arg(output(alloc))?
+        .arg(file(alloc))
 }

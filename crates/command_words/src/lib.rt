@@ -13,5 +13,5 @@ mod words_fault;
 
 pub use joining::joined_words;
 pub use layer_words::name_and_path;
-pub use request::{Request, read_words};
+pub use request::{Order, Request, read_words};
 pub use words_fault::WordsFault;

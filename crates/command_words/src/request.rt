@@ -9,7 +9,7 @@ ghost use Rattle.clap.specs.declared.error.kind.ErrorKind.TheVariants.{OutOfMemo
 ghost use Rattle.command_words.specs.declared.words_fault.WordsFault.TheVariants.{Memory, Refused};
 ghost use Rattle.command_words.specs.Asked as spec;
 ghost use Rattle.command_words.specs.Asked.{Answers, area_in, asked, asked_in, build_in, entries_of, exact_in, grid_in};
-ghost use Rattle.command_words.specs.Asked.{keep_in, kinds_of, request_of, ring_area_in, text_of};
+ghost use Rattle.command_words.specs.Asked.{Ordered, keep_in, kinds_of, order_of, ordered, output_in, ring_area_in, text_of};
 ghost use Rattle.command_words.specs.CommandLine.{IsApp, program_app};
 ghost use Rattle.command_words.specs.Faults as faults;
 ghost use Rattle.command_words.specs.Faults.{IsFaultBy};
@@ -17,7 +17,9 @@ ghost use Rattle.command_words.specs.Written.{IsWritable, written};
 
 use crate::file_usage::{FILE, GEO, OBJECT, SIMPLIFY, STAT};
 use crate::layer_words::names_and_paths;
-use crate::usage::{AREA, BUILD, EXACT, GRID, KEEP, LAYERS, RING_AREA, program, telling_program};
+use crate::usage::{
+    AREA, BUILD, EXACT, GRID, KEEP, LAYERS, OUTPUT, RING_AREA, program, telling_program,
+};
 use crate::words_fault::WordsFault;
 use clap::error::ErrorKind;
 use clap::{ArgMatches, Command, Error};
@@ -57,6 +59,14 @@ pub enum Request<'a> {
     Stat {
         path: &'a str,
     },
+}
+
+/// What the words of a command line ask for, and where its output goes.
+#[derive(Drop)]
+pub struct Order<'a> {
+    pub request: Request<'a>,
+    /// The file that takes the output in place of standard output, if any.
+    pub output: Option<&'a str>,
 }
 
 /// The grid that is asked for, if any. `clap` refuses a number out of range, but none of its contracts says so of a command below the
@@ -104,6 +114,13 @@ fn ring_area_of<'a>(arguments: &ArgMatches<'a>) -> &'a str
     ensures { result.now ≡ ring_area_in (entries_of arguments.now) }
 {
     arguments.get_str(RING_AREA).unwrap_or("0")
+}
+
+/// The file for the output, if one is given.
+fn output_of<'a>(arguments: &ArgMatches<'a>) -> Option<&'a str>
+    ensures { option_map (λ o. o.now) result ≡ output_in (entries_of arguments.now) }
+{
+    arguments.get_str(OUTPUT)
 }
 
 /// The text of an argument, which is empty where it is not given.
@@ -233,7 +250,7 @@ fn matches_in<'a>(
     requires { IsApp program.old program_app }
     ensures { MatchResult result
         (λ m. (kinds_of (map string_bytes words.now) ≡ []) × (subcommand_rows_of m ≡ subcommand_of program_app (map string_bytes words.now)))
-        (λ e. ((e ≡ Memory) ⊎ (request_of (map string_bytes words.now) ≡ None)) × IsFaultBy (kinds_of (map string_bytes words.now)) e) }
+        (λ e. ((e ≡ Memory) ⊎ (order_of (map string_bytes words.now) ≡ None)) × IsFaultBy (kinds_of (map string_bytes words.now)) e) }
 {
     match program.try_get_matches_from_mut(words) {
         Ok(matches) => Ok(matches),
@@ -246,15 +263,16 @@ fn read_by<'a>(
     alloc: Global,
     program: &mut Command<'a>,
     words: &'a [String],
-) -> Result<Request<'a>, WordsFault>
+) -> Result<Order<'a>, WordsFault>
     requires { IsApp program.old program_app }
-    ensures exact { Answers (request_of (map string_bytes words.now)) asked result }
+    ensures exact { Answers (order_of (map string_bytes words.now)) ordered result }
     ensures fault { IfErr result (IsFaultBy (kinds_of (map string_bytes words.now))) }
 {
     let matches = matches_in(alloc, program, words)?;
     if let Some((name, arguments)) = matches.subcommand() {
         if let Some(request) = request_in(alloc, name, arguments)? {
-            return Ok(request);
+            let output = output_of(arguments);
+            return Ok(Order { request, output });
         }
     }
     Err(refusal(alloc, words)?)
@@ -262,13 +280,13 @@ fn read_by<'a>(
 
 /// What the words behind the program's name ask for. An option whose value may begin with a hyphen, and that value, are one word, as
 /// `joined_words` makes them.
-pub fn read_words<'a>(alloc: Global, words: &'a [String]) -> Result<Request<'a>, WordsFault>
-    // The request is what the words ask for by the command line, and where they ask for nothing, or memory runs out, there is none.
-    ensures exact { Answers (request_of (map string_bytes words.now)) asked result }
+pub fn read_words<'a>(alloc: Global, words: &'a [String]) -> Result<Order<'a>, WordsFault>
+    // The order is what the words ask for by the command line, and where they ask for nothing, or memory runs out, there is none.
+    ensures exact { Answers (order_of (map string_bytes words.now)) ordered result }
     // Help is told of words that ask for it, and else they are refused, or have a fault of their own.
     ensures fault { IfErr result (IsFaultBy (kinds_of (map string_bytes words.now))) }
-    // Words that are written for a request ask for it.
-    ensures written { (a : _) → IsWritable a → map string_bytes words.now ≡ written a → Answers (Some a) asked result }
+    // Words that are written for a request and the file of its output ask for both.
+    ensures written { (o : Ordered) → IsWritable o.0 → map string_bytes words.now ≡ written o → Answers (Some o) ordered result }
 {
     let mut program = program(alloc)?;
     read_by(alloc, &mut program, words)

@@ -2,7 +2,7 @@
 ghost use Rattle.std.specs.Prelude.{◌≡◌, IfOk, pos};
 ghost use Rattle.clap.specs.declared.builder.value_parser.ValueParser.TheVariants.{Signed};
 ghost use Rattle.command_words.specs.CommandLine.{IsApp, IsRule, area_rule, bare_app, build_app, exact_rule, grid_rule};
-ghost use Rattle.command_words.specs.CommandLine.{keep_rule, layers_rule, program_app, ring_area_rule};
+ghost use Rattle.command_words.specs.CommandLine.{keep_rule, layers_rule, output_rule, program_app, ring_area_rule};
 
 use crate::commands::{Help, command};
 use crate::file_usage::{geo, simplify, stat};
@@ -31,6 +31,12 @@ pub(crate) const RING_AREA: &str = "min-ring-area";
 /// The option of `build` that refuses coordinates that would have to be rounded.
 pub(crate) const EXACT: &str = "exact";
 
+/// The option of each command that names the file for its output.
+pub(crate) const OUTPUT: &str = "output";
+
+/// The version of the program.
+const VERSION: &str = "1.1.0";
+
 const PROGRAM_HELP: Help = Help {
     about: "Build TopoJSON topologies from GeoJSON files, simplify them, and decode them again",
     long_about: "Build TopoJSON topologies from GeoJSON files, simplify them, and decode them again.
@@ -43,7 +49,8 @@ stored once, as a numbered arc, and each shape lists the arcs that it runs along
   1  the contents of a file are refused
   2  the words of the command line are refused
   3  a file can't be opened or read, the output can't be written, or memory ran out
-Standard error says what is wrong, but may be silent where memory ran out.
+Standard error says what is wrong, but may be silent where memory ran out. Its codes,
+as 'G8 ShortRing', are explained in docs/FAULTS.md, with what to do.
 
 'mapchain build --help' and the like say what is read and written, with an example.",
 };
@@ -76,7 +83,7 @@ is dropped as 'small', too. Any other hole whose outer ring is dropped is droppe
     after_long: "Example:
   mapchain build coast=coast.json rivers=rivers.json > map.topojson
 
-'mapchain --help' lists the exit statuses.",
+'mapchain --help' lists the exit statuses, and says where faults are explained.",
 };
 
 const LAYERS_HELP: &str = "A layer: its name in the topology, '=' and its file";
@@ -119,6 +126,13 @@ and lakes. B is in square units of the coordinates, from 0 to 10^18, with at mos
 area. Each ring counts by itself: the area of a hole isn't taken off that of the
 ring around it. Lines that are no rings stay, also those that close";
 
+const OUTPUT_HELP: &str = "Write the output to a file in place of standard output";
+
+const OUTPUT_LONG_HELP: &str =
+    "Write the output to FILE in place of standard output. It goes to a new file beside
+FILE, which takes its name when it is whole and on the disk. Where anything fails
+FILE stays as it was, so FILE may be an input, too";
+
 const EXACT_HELP: &str = "Refuse coordinates that would have to be rounded";
 
 const EXACT_LONG_HELP: &str =
@@ -131,6 +145,7 @@ fn bare<'a>(alloc: Global) -> Result<Command<'a>, AllocError>
     ensures { IfOk result (λ c. IsApp c bare_app) }
 {
     command(alloc, "mapchain", PROGRAM_HELP)
+        .version(VERSION)
         .no_binary_name(true)
         .subcommand_required(true)
         .bin_name("mapchain")
@@ -212,6 +227,18 @@ pub(crate) fn ring_area<'a>(alloc: Global) -> Arg<'a>
         .long_help(RING_AREA_LONG_HELP)
 }
 
+/// The option that names the file for the output.
+pub(crate) fn output<'a>(alloc: Global) -> Arg<'a>
+    ensures { IsRule result output_rule }
+{
+    Arg::new(alloc, OUTPUT)
+        .short('o')
+        .long("output")
+        .value_name("FILE")
+        .help(OUTPUT_HELP)
+        .long_help(OUTPUT_LONG_HELP)
+}
+
 /// The option of `build` that refuses coordinates that would have to be rounded.
 fn exact<'a>(alloc: Global) -> Arg<'a>
     ensures { IsRule result exact_rule }
@@ -245,5 +272,6 @@ fn build<'a>(alloc: Global, keep: Arg<'a>) -> Result<Command<'a>, AllocError>
         .arg(keep)?
         .arg(ring_area(alloc))?
         .arg(exact(alloc))?
+        .arg(output(alloc))?
         .arg(layers(alloc))
 }

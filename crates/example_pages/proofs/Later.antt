@@ -1,5 +1,5 @@
 -- The files of a page, one after the other.
-use Rattle.std.proofs.Common.{◌≡◌, ℕ, List, [], ◌∷◌, ◌++◌, Option, None, Some, refl, ap, arith}
+use Rattle.std.proofs.Common.{◌≡◌, ℕ, List, [], ◌∷◌, ◌++◌, Option, None, Some, refl, arith}
 use Rattle.example_pages.specs.Held.{entry_held, held, or_else}
 use Rattle.example_pages.specs.declared.memory_files.Entry.{Entry}
 

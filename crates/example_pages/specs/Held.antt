@@ -5,8 +5,9 @@ use Rattle.std.specs.Str.{bytes_eq}
 use Rattle.std.specs.String.{string_bytes}
 use Rattle.example_pages.specs.declared.devices.Damage.{Damage}
 use Rattle.example_pages.specs.declared.devices.Damage.TheVariants as damage
+use Rattle.example_pages.specs.declared.lent_files.Kept.{Kept}
+use Rattle.example_pages.specs.declared.lent_files.LentFiles.{LentFiles}
 use Rattle.example_pages.specs.declared.memory_files.Entry.{Entry}
-use Rattle.example_pages.specs.declared.memory_files.LentFiles.{LentFiles}
 
 -- those of this file, if it has this name
 abbrev pub entry_held : Entry → List ℕ → Option (List ℕ)
@@ -27,6 +28,11 @@ left_of damage.None path whole = whole
 left_of (damage.Cut name end) path whole = if bytes_eq name.now path then take end whole else whole
 left_of (damage.Broken name end) path whole = whole
 
--- those that a file of this name has when it is opened
+-- those of the file that a run has written, if it has this name
+abbrev pub written : Option Kept → List ℕ → Option (List ℕ)
+written None path = None
+written (Some kept) path = if bytes_eq (string_bytes kept.name) path then Some kept.bytes.now else None
+
+-- those that a file of this name has when it is opened: as the run has written it, or else as the page has it
 abbrev pub lent : LentFiles → List ℕ → Option (List ℕ)
-lent files path = option_map (left_of files.damage path) (held files.files.now.entries.items path)
+lent files path = or_else (written files.kept path) (option_map (left_of files.damage path) (held files.files.now.entries.items path))

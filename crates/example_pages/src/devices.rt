@@ -23,8 +23,12 @@ pub(crate) struct Devices {
     pub(crate) by_one: bool,
     /// Where the reads of each file fail.
     pub(crate) input: Fault,
-    /// Where standard output fails.
+    /// Where standard output fails, and an output that takes the place of a file.
     pub(crate) output: Fault,
+    /// Whether outputs that take the place of a file can be begun.
+    pub(crate) begins: bool,
+    /// Whether they can take its place.
+    pub(crate) keeps: bool,
     /// How many bytes standard error takes before it fails, if it does.
     pub(crate) error_room: Option<usize>,
 }
@@ -35,6 +39,8 @@ impl Devices {
         by_one: false,
         input: Fault::Never,
         output: Fault::Never,
+        begins: true,
+        keeps: true,
         error_room: None,
     };
 
@@ -43,6 +49,8 @@ impl Devices {
         !self.by_one
             && self.input == Fault::Never
             && self.output == Fault::Never
+            && self.begins
+            && self.keeps
             && self.error_room.is_none()
     }
 

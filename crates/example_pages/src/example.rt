@@ -11,13 +11,13 @@ pub(crate) enum Runs<'a> {
     EachPrefix(&'a str),
     /// Once for each byte of the file of this name, its end too, at which its reads fail.
     EachByteRead(&'a str),
-    /// Once for each byte of the file of this name, at which standard output fails.
+    /// Once for each byte of the file of this name, at which the output fails.
     EachByteWritten(&'a str),
-    /// Once for each byte of the file of this name, at which standard output takes nothing, once, and one byte each other time.
+    /// Once for each byte of the file of this name, at which the output takes nothing, once, and one byte each other time.
     EachByteNotTaken(&'a str),
 }
 
-/// What must come to standard output.
+/// What must come to standard output, or to the file that takes its place.
 #[derive(Drop)]
 pub(crate) enum Output<'a> {
     Nothing,
@@ -36,6 +36,8 @@ pub(crate) struct Example<'a> {
     pub(crate) words: &'a str,
     /// The name that standard output is kept under.
     pub(crate) kept: Option<&'a str>,
+    /// The name of the file that takes what standard output would.
+    pub(crate) file: Option<&'a str>,
     pub(crate) runs: Runs<'a>,
     pub(crate) devices: Devices,
     pub(crate) status: u8,
@@ -53,6 +55,7 @@ impl<'a> Example<'a> {
         Example {
             words,
             kept,
+            file: None,
             runs: Runs::Once,
             devices: Devices::WHOLE,
             status: 0,
@@ -68,6 +71,13 @@ impl<'a> Example<'a> {
         is_open
     }
 
+    /// Takes the name of the file that takes what standard output would, and answers whether that was open.
+    pub(crate) fn takes_file(&mut self, name: &'a str) -> bool {
+        let is_open = self.kept.is_none() && self.file.is_none();
+        self.file = Some(name);
+        is_open
+    }
+
     /// Takes what must come to standard output, and answers whether that was open.
     pub(crate) fn takes_output(&mut self, output: Output<'a>) -> bool {
         let is_open = matches!(self.output, Output::Nothing)
@@ -77,6 +87,15 @@ impl<'a> Example<'a> {
             );
         self.output = output;
         is_open
+    }
+
+    /// How many outputs that take the place of a file it begins.
+    pub(crate) fn begun(&self) -> u64 {
+        if self.file.is_some() && self.devices.begins {
+            1
+        } else {
+            0
+        }
     }
 
     /// Takes a line of standard error.

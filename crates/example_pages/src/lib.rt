@@ -7,6 +7,7 @@
 mod content;
 mod devices;
 mod example;
+mod lent_files;
 mod memory_files;
 mod notes;
 mod page;
@@ -15,7 +16,7 @@ mod program;
 mod running;
 mod tally;
 
-pub use memory_files::LentFiles;
+pub use lent_files::LentFiles;
 pub use page::try_page;
-pub use program::{Program, Streams};
+pub use program::{Ended, Program, Streams};
 pub use tally::Tally;

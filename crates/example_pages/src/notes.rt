@@ -11,8 +11,12 @@ impl<'a> Example<'a> {
         if let Some(name) = note.strip_prefix("output of ") {
             return self.takes_output(Output::File(name));
         }
+        if let Some(name) = note.strip_prefix("to the file ") {
+            return self.takes_file(name);
+        }
         if note == "output only kept" {
-            return self.kept.is_some() && self.takes_output(Output::Kept);
+            let is_kept = self.kept.is_some() || self.file.is_some();
+            return is_kept && self.takes_output(Output::Kept);
         }
         if let Some(number) = note.strip_prefix("status ") {
             return match number.parse::<u8>() {
@@ -30,6 +34,10 @@ impl<'a> Example<'a> {
     fn takes_devices(&mut self, note: &str) -> bool {
         if note == "for one byte a call" {
             self.devices.by_one = true;
+        } else if note == "for an output that can't be begun" {
+            self.devices.begins = false;
+        } else if note == "for an output that can't be kept" {
+            self.devices.keeps = false;
         } else if let Some(fault) = input_fault(note) {
             self.devices.input = fault;
         } else if let Some(fault) = output_fault(note) {
@@ -67,7 +75,7 @@ fn input_fault(note: &str) -> Option<Fault> {
     Some(Fault::InterruptedAtCall(number.parse::<u64>().ok()?))
 }
 
-/// Where a line says that standard output fails.
+/// Where a line says that the output fails.
 fn output_fault(note: &str) -> Option<Fault> {
     match note {
         "for a failing flush" => return Some(Fault::AtFlush),

@@ -1,7 +1,7 @@
 // A page of Markdown, as files and commands.
 use crate::content::content;
 use crate::example::{Example, Output};
-use crate::memory_files::MemoryFiles;
+use crate::memory_files::{Entry, MemoryFiles};
 use crate::page_fault::PageFault;
 use crate::program::Program;
 use crate::running::try_example;
@@ -54,7 +54,7 @@ impl<'a> Page<'a> {
             return Err(PageFault::Line(head));
         };
         if let Some(name) = role.strip_prefix("file ") {
-            self.files.put(alloc, name, bytes)?;
+            self.files.put(Entry::of(alloc, name, bytes)?)?;
             return Ok(());
         }
         if let Some(example) = self.examples.last_mut() {
@@ -94,9 +94,8 @@ impl<'a> Page<'a> {
         tally: &mut Tally,
     ) -> Result<(), AllocError> {
         for example in self.examples.iter() {
-            let output = try_example(alloc, program, &self.files, example, tally)?;
-            if let Some(name) = example.kept {
-                self.files.put(alloc, name, output)?;
+            if let Some(file) = try_example(alloc, program, &self.files, example, tally)? {
+                self.files.put(file)?;
             }
         }
         Ok(())

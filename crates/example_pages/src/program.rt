@@ -1,8 +1,8 @@
 // What runs the commands of pages.
-ghost use Rattle.std.specs.Prelude.{◌<◌};
+ghost use Rattle.std.specs.Prelude.{◌≡◌, ◌<◌, [], Some};
 
 use crate::devices::Devices;
-use crate::memory_files::LentFiles;
+use crate::lent_files::{LentFiles, Written};
 use byte_ends::devices::{CutWriter, Fault};
 use byte_ends::{Sink, ToWrite};
 use std::alloc::{AllocError, Global};
@@ -15,8 +15,11 @@ pub struct Streams {
 }
 
 /// A stream that takes so many bytes a call at most.
-fn stream(alloc: Global, step: usize, fault: Fault) -> Sink<ToWrite<CutWriter>>
+pub(crate) fn stream(alloc: Global, step: usize, fault: Fault) -> Sink<ToWrite<CutWriter>>
     requires { 0 < step }
+    ensures empty { result.taken ≡ Some [] }
+    ensures unsent { result.sent ≡ 0 }
+    ensures sound { result.failures ≡ 0 }
 {
     Sink::new(ToWrite::new(CutWriter::new(Vec::new(alloc), step, fault)))
 }
@@ -36,27 +39,35 @@ impl Streams {
         }
     }
 
-    /// What a run with this answer wrote.
-    pub(crate) fn into_ran(self, alloc: Global, status: u8) -> Result<Ran, AllocError> {
+    /// What a run that ended so wrote.
+    pub(crate) fn into_ran(self, alloc: Global, ended: Ended<'_>) -> Result<Ran, AllocError> {
         let Streams { output, error } = self;
         Ok(Ran {
-            status,
+            status: ended.status,
             output: taken(alloc, output)?,
             error: taken(alloc, error)?,
+            written: ended.files.into_written()?,
         })
     }
 }
 
-/// A program that is run by words over files and streams, and answers an exit status.
+/// How a run ended: its exit status, and the files that it was lent.
+#[derive(Drop)]
+pub struct Ended<'a> {
+    pub status: u8,
+    pub files: LentFiles<'a>,
+}
+
+/// A program that is run by words over files and streams.
 pub trait Program {
     /// Runs it on the words behind its name.
-    fn run(
+    fn run<'a>(
         &self,
         alloc: Global,
         words: Vec<String>,
-        files: LentFiles<'_>,
+        files: LentFiles<'a>,
         streams: &mut Streams,
-    ) -> u8;
+    ) -> Ended<'a>;
 }
 
 /// What a run answered and wrote.
@@ -65,4 +76,15 @@ pub(crate) struct Ran {
     pub(crate) status: u8,
     pub(crate) output: Vec<u8>,
     pub(crate) error: Vec<u8>,
+    pub(crate) written: Written,
+}
+
+impl Ran {
+    /// The file that took the place of standard output, or else what standard output took.
+    pub(crate) fn main_output(&self) -> &[u8] {
+        match &self.written.file {
+            Some(file) => file.bytes.as_slice(),
+            None => self.output.as_slice(),
+        }
+    }
 }

@@ -1,7 +1,8 @@
 // Running a command over files and streams in memory.
 use crate::devices::{Damage, Devices};
 use crate::example::{Example, Output, Runs};
-use crate::memory_files::{LentFiles, MemoryFiles};
+use crate::lent_files::LentFiles;
+use crate::memory_files::{Entry, MemoryFiles};
 use crate::program::{Program, Ran, Streams};
 use crate::tally::Tally;
 use byte_ends::devices::Fault;
@@ -26,24 +27,21 @@ fn run<P: Program>(
     damage: Damage<'_>,
 ) -> Result<Ran, AllocError> {
     let words = words_of(alloc, words)?;
-    let files = LentFiles {
-        files,
-        devices,
-        damage,
-    };
+    let mut room = Vec::new(alloc);
+    let files = LentFiles::on(alloc, files, devices, damage, &mut room);
     let mut streams = Streams::on(alloc, devices);
-    let status = program.run(alloc, words, files, &mut streams);
-    streams.into_ran(alloc, status)
+    let ended = program.run(alloc, words, files, &mut streams);
+    streams.into_ran(alloc, ended)
 }
 
-/// Runs a command as its page says, judges each run, and gives what the last one wrote.
+/// Runs a command as its page says, judges each run, and gives the file that later commands see of it.
 pub(crate) fn try_example<P: Program>(
     alloc: Global,
     program: &P,
     files: &MemoryFiles,
     example: &Example<'_>,
     tally: &mut Tally,
-) -> Result<Vec<u8>, AllocError> {
+) -> Result<Option<Entry>, AllocError> {
     let name = match example.runs {
         Runs::Once => return once(alloc, program, files, example, tally),
         Runs::EachPrefix(name)
@@ -53,7 +51,7 @@ pub(crate) fn try_example<P: Program>(
     };
     let Some(whole) = files.bytes(name) else {
         tally.tell(format!(in alloc; "no file {name}")?)?;
-        return Ok(Vec::new(alloc));
+        return Ok(None);
     };
     match example.runs {
         Runs::EachByteWritten(_) | Runs::EachByteNotTaken(_) => each_byte_written(
@@ -70,7 +68,7 @@ pub(crate) fn try_example<P: Program>(
         )?,
         _ => each_prefix(alloc, program, files, example, name, whole.len(), tally)?,
     }
-    Ok(Vec::new(alloc))
+    Ok(None)
 }
 
 /// Judges a run by what its page says.
@@ -81,10 +79,13 @@ fn judge(
     ran: &Ran,
     tally: &mut Tally,
 ) -> Result<(), AllocError> {
+    if example.file.is_some() && example.status != 0 && !matches!(example.output, Output::Nothing) {
+        return tally.tell(format!(in alloc; "an output where no file is written")?);
+    }
     let output = match &example.output {
         Output::Nothing => &[],
         Output::Block(bytes) => bytes.as_slice(),
-        Output::Kept => ran.output.as_slice(),
+        Output::Kept => ran.main_output(),
         Output::File(name) => match files.bytes(name) {
             Some(bytes) => bytes,
             None => return tally.tell(format!(in alloc; "no file {name}")?),
@@ -98,14 +99,14 @@ fn judge(
     tally.judge(alloc, example, ran, output, error)
 }
 
-/// Runs a command once, and once more with one byte a call where its devices are plain.
+/// Runs a command once, and once more with one byte a call where its devices are plain. Gives the file that later commands see of it.
 fn once<P: Program>(
     alloc: Global,
     program: &P,
     files: &MemoryFiles,
     example: &Example<'_>,
     tally: &mut Tally,
-) -> Result<Vec<u8>, AllocError> {
+) -> Result<Option<Entry>, AllocError> {
     let ran = run(
         alloc,
         program,
@@ -121,7 +122,10 @@ fn once<P: Program>(
         let again = run(alloc, program, files, example.words, devices, Damage::None)?;
         judge(alloc, files, example, &again, tally)?;
     }
-    Ok(ran.output)
+    match example.kept {
+        Some(name) => Ok(Some(Entry::of(alloc, name, ran.output)?)),
+        None => Ok(ran.written.file),
+    }
 }
 
 /// Runs a command for each proper prefix of a file of so many bytes.

@@ -1,5 +1,6 @@
 // What the runs of a page came to.
 use crate::example::Example;
+use crate::lent_files::Written;
 use crate::program::Ran;
 use std::alloc::{AllocError, Global};
 
@@ -34,7 +35,7 @@ impl Tally {
         Ok(())
     }
 
-    /// Judges a run of a command by what was to come.
+    /// Judges a run of a command by what was to come to standard output, or to the file that takes its place.
     pub(crate) fn judge(
         &mut self,
         alloc: Global,
@@ -45,7 +46,7 @@ impl Tally {
     ) -> Result<(), AllocError> {
         self.runs = self.runs.saturating_add(1);
         if ran.status == example.status
-            && ran.output.as_slice() == output
+            && is_written(example, ran, output)
             && ran.error.as_slice() == error
         {
             return Ok(());
@@ -54,9 +55,36 @@ impl Tally {
         let status = ran.status;
         let shown_output = shown(&ran.output);
         let shown_error = shown(&ran.error);
+        let shown_file = shown_file(alloc, &ran.written)?;
         self.tell(format!(in alloc;
-            "mapchain{words}\nstatus {status}\n{shown_output}\n{shown_error}"
+            "mapchain{words}\nstatus {status}\n{shown_output}\n{shown_error}\n{shown_file}"
         )?)
+    }
+}
+
+/// Whether this output went where it was to go: to standard output, or to a file in its place. No file is left where the status isn't 0.
+fn is_written(example: &Example<'_>, ran: &Ran, output: &[u8]) -> bool {
+    let (streamed, file) = match example.file {
+        None => (output, None),
+        Some(name) if example.status == 0 => (&output[..0], Some(name)),
+        Some(_) => (&output[..0], None),
+    };
+    ran.output.as_slice() == streamed
+        && ran.written.begun == example.begun()
+        && ran.written.leaves(file, output)
+}
+
+/// The file that a run has written, as text.
+fn shown_file(alloc: Global, written: &Written) -> Result<String, AllocError> {
+    let begun = written.begun;
+    let discarded = written.discarded;
+    match &written.file {
+        Some(file) => {
+            let name = file.name.as_str();
+            let bytes = shown(&file.bytes);
+            format!(in alloc; "file {name}, begun {begun}, discarded {discarded}\n{bytes}")
+        }
+        None => format!(in alloc; "no file, begun {begun}, discarded {discarded}"),
     }
 }
 

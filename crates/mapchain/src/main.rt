@@ -1,34 +1,17 @@
 //! The program `mapchain` over the file system and the standard streams. `mapchain_cli` has all that it does.
 #![tactic(auto)]
 
-use byte_ends::{FromRead, Sink, Source, ToWrite};
-use mapchain_cli::{Files, Opens, command};
-use std::fs::File;
+mod part_file;
+mod system;
+
+use byte_ends::{Sink, ToWrite};
+use mapchain_cli::command;
 use std::io::{BufWriter, ErrorKind};
 use std::process::ExitCode;
 use std::{env, io};
+use system::System;
 
-/// The file system.
-#[derive(Drop)]
-struct System {
-    rt: HostRuntime,
-    opens: Opens,
-}
-
-impl Files for System {
-    type R = FromRead<File>;
-
-    ghost opens = { λ s. s.opens };
-
-    fn open(&mut self, path: &str) -> Option<Source<FromRead<File>>> {
-        let opened = File::open(&self.rt, path);
-        self.opens.count(opened.is_ok());
-        let file = opened.ok()?;
-        Some(Source::new(FromRead::new(file)))
-    }
-}
-
-/// The bytes that standard output holds back, so that small parts go out together.
+/// The bytes that an output holds back, so that small parts go out together.
 const OUT_BUFFER: usize = 65_536;
 
 /// The bytes that standard error holds back: a report tells each line that is dropped.
@@ -63,9 +46,6 @@ fn main(rt: HostRuntime) -> ExitCode {
     };
     let mut out = Sink::new(ToWrite::new(stdout));
     let mut err = Sink::new(ToWrite::new(stderr));
-    let mut files = System {
-        rt,
-        opens: Opens::none(),
-    };
+    let mut files = System::new(rt);
     ExitCode::from(command(alloc, words, &mut files, &mut out, &mut err))
 }

@@ -1,4 +1,6 @@
 pub mod Cut
+pub mod Delivered
 pub mod Opened
 pub mod Refusals
 pub mod Statuses
+pub mod Untouched

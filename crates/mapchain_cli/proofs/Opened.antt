@@ -1,5 +1,5 @@
 -- Layers and the sources that their files are opened as.
-use Rattle.std.proofs.Common.{◌≡◌, ℕ, ◌+◌, ◌<◌, List, [], ◌∷◌, ◌++◌, length, map, get_or, take, None, true, false, arith, suc, ◌≤◌, refl, sym, ap, subst, ◌∙◌, Bor}
+use Rattle.std.proofs.Common.{◌≡◌, ℕ, zero, ◌+◌, ◌<◌, List, [], ◌∷◌, ◌++◌, length, map, get_or, take, None, true, false, arith, suc, ◌≤◌, refl, sym, ap, subst, ◌∙◌, Bor}
 use Rattle.std.proofs.lemmas.List.{length-map, map_push, take_more}
 use Rattle.std.proofs.lemmas.Option.{slice_get-get_or, slice_get-map}
 use Rattle.std.specs.Option.{option_map}
@@ -9,8 +9,7 @@ use Rattle.inputs.specs.declared.fault.BuildFault.TheVariants as build
 use Rattle.layer_sources.specs.Sources.{Sources}
 use Rattle.mapchain_cli.specs.Asking.{texts_of}
 use Rattle.mapchain_cli.specs.Endings.{IsUnopened}
-use Rattle.mapchain_cli.specs.Opening.{AreOpened, Contents, IsOpened, Layers, one_more, opened_times, used}
-use Rattle.mapchain_cli.specs.declared.opens.Opens.{Opens}
+use Rattle.mapchain_cli.specs.Files.{AreOpened, Contents, FileState, IsOpened, Layers, one_more, opened_times, used}
 
 -- one more layer
 one_layer_more : (contents : Contents) (layers : Layers) (sources : Sources) (layer : List ℕ × List ℕ) (source : List ℕ × Fed)
@@ -29,10 +28,18 @@ names_of_opened contents (l ∷ layers) [] h = absurd h
 names_of_opened contents (l ∷ layers) (s ∷ sources) h = λ i. (h.0 i) ∷ (names_of_opened contents layers sources h.2 i)
 
 -- one more file was opened
-pub once_more : (n : ℕ) (o : Opens) → one_more true (opened_times n o) ≡ opened_times (n + 1) o
-once_more n o =
+pub once_more : (n : ℕ) (s : FileState) → one_more true (opened_times n s) ≡ opened_times (n + 1) s
+once_more n s =
     let e : n + 1 ≡ suc n = omega arith in
-    subst (λ m. one_more true (opened_times n o) ≡ opened_times m o) (sym e) refl
+    subst (λ m. one_more true (opened_times n s) ≡ opened_times m s) (sym e) refl
+
+-- the files that were opened hold what they held
+pub times_contents : (n : ℕ) (s : FileState) → (opened_times n s).contents ≡ s.contents
+times_contents zero s = refl
+times_contents (suc n) s = times_contents n s
+
+pub still : (n : ℕ) (before after : FileState) → after ≡ opened_times n before → after.contents ≡ before.contents
+still n before after times = ap (λ (s : FileState). s.contents) times ∙ times_contents n before
 
 -- a front of the layers is one of their texts
 pub front_of_texts : (layers : List (Bor (List ℕ) × Bor (List ℕ))) (n : ℕ) → n ≤ length layers → n ≤ length (texts_of layers)
@@ -41,20 +48,20 @@ front_of_texts layers n h =
     omega (arith, h, e)
 
 -- the layer of this number
-module _ (contents : Contents) (layers : List (Bor (List ℕ) × Bor (List ℕ))) (i : ℕ) (layer : Bor (List ℕ) × Bor (List ℕ)) (within : i < length layers) where
+module _ (before : FileState) (layers : List (Bor (List ℕ) × Bor (List ℕ))) (i : ℕ) (layer : Bor (List ℕ) × Bor (List ℕ)) (within : i < length layers) where
   -- its file is opened behind those before it
-  pub next_opened : (sources : Sources) (source : List ℕ × Fed) → AreOpened contents (texts_of (take i layers)) sources
-      → source.0 ≡ (get_or layers i layer).0.now → IsOpened contents (get_or layers i layer).1.now source.1
-      → AreOpened contents (texts_of (take (i + 1) layers)) (sources ++ source ∷ [])
+  pub next_opened : (sources : Sources) (source : List ℕ × Fed) → AreOpened before.contents (texts_of (take i layers)) sources
+      → source.0 ≡ (get_or layers i layer).0.now → IsOpened before.contents (get_or layers i layer).1.now source.1
+      → AreOpened before.contents (texts_of (take (i + 1) layers)) (sources ++ source ∷ [])
   next_opened sources source h named opened =
-      subst (λ ls. AreOpened contents ls (sources ++ source ∷ []))
+      subst (λ ls. AreOpened before.contents ls (sources ++ source ∷ []))
       (sym (ap texts_of (take_more layers i layer within) ∙ map_push (λ l. (l.0.now, l.1.now)) (take i layers) (get_or layers i layer)))
-      (one_layer_more contents (texts_of (take i layers)) sources _ source h named opened)
+      (one_layer_more before.contents (texts_of (take i layers)) sources _ source h named opened)
 
   -- its file can't be opened
-  pub unopened : (before after : Opens) → after ≡ one_more false (opened_times i before) → contents (get_or layers i layer).1.now ≡ None
-      → IsUnopened (used contents before after) (texts_of layers) (build.Read i read.Read)
-  unopened before after tried absent = (
+  pub unopened : (after : FileState) → after ≡ one_more false (opened_times i before) → before.contents (get_or layers i layer).1.now ≡ None
+      → IsUnopened (used before after) (texts_of layers) (build.Read i read.Read)
+  unopened after tried absent = (
     i,
     ((get_or layers i layer).0.now, (get_or layers i layer).1.now),
     slice_get-map (λ l. (l.0.now, l.1.now)) layers i ∙ ap (option_map (λ l. (l.0.now, l.1.now))) (slice_get-get_or layers i layer within),

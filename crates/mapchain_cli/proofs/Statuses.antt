@@ -1,7 +1,9 @@
 -- What a run's promise says of its status and of standard output.
-use Rattle.std.proofs.Common.{◌≡◌, ◌⊎◌, ◌<◌, ◌≤◌, inl, inr, ℕ, List, true, Option, None, Some, arith}
-use Rattle.byte_ends.specs.Ends.{Drained, Fed}
+use Rattle.std.proofs.Common.{◌≡◌, ◌⊎◌, ◌∙◌, ◌+◌, ◌<◌, ◌≤◌, inl, inr, ℕ, List, Bool, true, false, Option, None, Some, IfSome, ap, arith, subst, sym}
+use Rattle.std.specs.Option.{option_and_then}
+use Rattle.byte_ends.specs.Ends.{Drained, Fed, saturated}
 use Rattle.byte_ends.specs.declared.source.ReadFault.TheVariants as read
+use Rattle.command_words.specs.Asked.{Ordered, output_of}
 use Rattle.command_words.specs.declared.request.Request.{Request}
 use Rattle.command_words.specs.declared.request.Request.TheVariants.{Build, Simplify, Geo, Stat}
 use Rattle.command_words.specs.declared.words_fault.WordsFault.{WordsFault}
@@ -19,8 +21,11 @@ use Rattle.topology_files.specs.Geo.{IsGeoFault}
 use Rattle.topology_simplifying.specs.Simplified.{IsSimplifyFault}
 use Rattle.mapchain_cli.specs.Asking.{IsAnswered, IsRefused, RefusesBuild, RefusesTopology}
 use Rattle.mapchain_cli.specs.Endings.{IsSummaryFault, RefusesLayers}
-use Rattle.mapchain_cli.specs.Opening.{FileUse, Layers}
-use Rattle.mapchain_cli.specs.Runs.{EndsAtWords, IsHelped, IsPerformed, IsRefusedFor, LacksMemory, RunsOn, Streams, ending_status}
+use Rattle.mapchain_cli.specs.Files.{FileState, FileUse, Layers}
+use Rattle.mapchain_cli.specs.Outputs.{IsCarriedOut, IsSent, Settles, asked_output, is_build, outputs, over, unkept}
+use Rattle.mapchain_cli.specs.Performing.{IsPerformed, Streams, ending_status}
+use Rattle.mapchain_cli.specs.Runs.{EndsAtWords, IsHelped, IsRefusedFor, LacksMemory, RunsOn}
+use Rattle.mapchain_cli.proofs.Untouched.{IsUntouched, answered, opened, refused}
 use Rattle.mapchain_cli.specs.declared.ending.Ending.{Ending}
 use Rattle.mapchain_cli.specs.declared.ending.Ending.TheVariants.{BadArea, BadRingArea, BadShare, Refused, FileRefused, Memory}
 
@@ -130,59 +135,147 @@ ending_is (Refused e) = status_is e
 ending_is (FileRefused e) = file_status_is e
 ending_is Memory = (omega arith, omega arith)
 
--- ---- both
+-- ---- all of it
 
--- what a status says of standard output
-pub record Says (old new : Drained) (status : ℕ) : Type 0 where
+-- what a status says of standard output, where the output is to go to this file, if to any
+pub record Says (old new : Drained) (file : Option (List ℕ)) (status : ℕ) : Type 0 where
   pub small : status ≤ 3
-  pub done : status ≡ 0 → new.failures ≡ 0
-  pub flushed : status ≡ 0 → new.flushed ≡ true
+  pub done : status ≡ 0 → file ≡ None → new.failures ≡ 0
+  pub flushed : status ≡ 0 → file ≡ None → new.flushed ≡ true
+  pub elsewhere : IfSome file (λ _. new ≡ old)
   pub refused : (status ≡ 1) ⊎ (status ≡ 2) → new ≡ old
 
-at_done : (old new : Drained) (status : ℕ) → status ≡ 0 → new.failures ≡ 0 → new.flushed ≡ true → Says old new status
+at_done : (old new : Drained) (status : ℕ) → status ≡ 0 → new.failures ≡ 0 → new.flushed ≡ true → Says old new None status
 at_done old new status is f p = record {
   small = omega arith;
-  done = λ _. f;
-  flushed = λ _. p;
+  done = λ _ _. f;
+  flushed = λ _ _. p;
+  elsewhere = tt;
   refused = λ h. elim h [ inl one ↦ absurd (omega arith) | inr two ↦ absurd (omega arith) ];
 }
 
-at_other : (old new : Drained) (status : ℕ) → (0 < status) × (status ≤ 3) → (status < 3 → new ≡ old) → Says old new status
+at_other : (old new : Drained) (status : ℕ) → (0 < status) × (status ≤ 3) → (status < 3 → new ≡ old) → Says old new None status
 at_other old new status is h = record {
   small = is.1;
-  done = λ zero. absurd (omega (arith, is.0));
-  flushed = λ zero. absurd (omega (arith, is.0));
+  done = λ zero _. absurd (omega (arith, is.0));
+  flushed = λ zero _. absurd (omega (arith, is.0));
+  elsewhere = tt;
   refused = λ k. elim k [ inl one ↦ h (omega arith) | inr two ↦ h (omega arith) ];
 }
 
-lacks : (old new : Streams) (status : ℕ) → LacksMemory old new status → Says old.out new.out status
-lacks old new status h = at_other old.out new.out status (omega (arith, h.2), omega (arith, h.2)) (λ _. h.0)
+-- standard output took nothing
+at_rest : (old new : Drained) (file : Option (List ℕ)) (status : ℕ) → status ≤ 3 → new ≡ old → (status ≡ 0 → file ≡ None → ⊥) → Says old new file status
+at_rest old new file status small same other = record {
+  small = small;
+  done = λ zero none. absurd (other zero none);
+  flushed = λ zero none. absurd (other zero none);
+  elsewhere = rested file same;
+  refused = λ _. same;
+}
+  where
+    rested : (f : Option (List ℕ)) → new ≡ old → IfSome f (λ _. new ≡ old)
+    rested None e = tt
+    rested (Some path) e = e
 
-helped : (old new : Streams) (status : ℕ) → IsHelped old new status → Says old.out new.out status
+lacks : (old new : Streams) (file : Option (List ℕ)) (status : ℕ) → LacksMemory old new status → Says old.out new.out file status
+lacks old new file status h = at_rest old.out new.out file status (omega (arith, h.2)) h.0 (λ zero _. absurd (omega (arith, h.2)))
+
+helped : (old new : Streams) (status : ℕ) → IsHelped old new status → Says old.out new.out None status
 helped old new status (text, sent, inl h) = at_done old.out new.out status h.3 h.0.sound h.1
 helped old new status (text, sent, inr h) = at_other old.out new.out status (omega (arith, h.2), omega (arith, h.2)) (λ lt. absurd (omega (arith, h.2)))
 
-refused_for : (fault : WordsFault) (old new : Streams) (status : ℕ) → IsRefusedFor fault old new status → Says old.out new.out status
+refused_for : (fault : WordsFault) (old new : Streams) (status : ℕ) → IsRefusedFor fault old new status → Says old.out new.out None status
 refused_for fault old new status h = at_other old.out new.out status (omega (arith, h.4), omega (arith, h.4)) (λ _. h.2)
 
-at_words : (fault : WordsFault) (old new : Streams) (status : ℕ) → EndsAtWords fault old new status → Says old.out new.out status
-at_words (words.Help error) old new status (inl h) = helped old new status h
-at_words (words.Help error) old new status (inr h) = lacks old new status h
-at_words words.Memory old new status h = lacks old new status h
-at_words (words.Refused error) old new status (inl h) = refused_for (words.Refused error) old new status h
-at_words (words.Refused error) old new status (inr h) = lacks old new status h
-at_words (words.NoEquals layer) old new status (inl h) = refused_for (words.NoEquals layer) old new status h
-at_words (words.NoEquals layer) old new status (inr h) = lacks old new status h
-at_words words.GridRange old new status (inl h) = refused_for words.GridRange old new status h
-at_words words.GridRange old new status (inr h) = lacks old new status h
+at_words : (fault : WordsFault) (old new : Streams) (file : Option (List ℕ)) (status : ℕ) → (fault ≡ words.Memory) ⊎ (file ≡ None) → EndsAtWords fault old new status
+    → Says old.out new.out file status
+at_words words.Memory old new file status why h = lacks old new file status h
+at_words (words.Help error) old new file status (inl m) h = cc
+at_words (words.Help error) old new file status (inr none) (inl h) = rw none (helped old new status h)
+at_words (words.Help error) old new file status (inr none) (inr h) = lacks old new file status h
+at_words (words.Refused error) old new file status (inl m) h = cc
+at_words (words.Refused error) old new file status (inr none) (inl h) = rw none (refused_for (words.Refused error) old new status h)
+at_words (words.Refused error) old new file status (inr none) (inr h) = lacks old new file status h
+at_words (words.NoEquals layer) old new file status (inl m) h = cc
+at_words (words.NoEquals layer) old new file status (inr none) (inl h) = rw none (refused_for (words.NoEquals layer) old new status h)
+at_words (words.NoEquals layer) old new file status (inr none) (inr h) = lacks old new file status h
+at_words words.GridRange old new file status (inl m) h = cc
+at_words words.GridRange old new file status (inr none) (inl h) = rw none (refused_for words.GridRange old new status h)
+at_words words.GridRange old new file status (inr none) (inr h) = lacks old new file status h
 
-performed : (c : FileUse) (request : Request) (old new : Streams) (status : ℕ) → IsPerformed c request old new status → Says old.out new.out status
+performed : (c : FileUse) (request : Request) (old new : Streams) (status : ℕ) → IsPerformed c request old new status → Says old.out new.out None status
 performed c request old new status (inl h) =
     let s = sound c request old.out new.out h.0 h.1 in
     at_done old.out new.out status h.3 s.0 s.1
 performed c request old new status (inr h) =
     rw h.3 (at_other old.out new.out (ending_status h.0) (ending_is h.0) (keeps c request old.out new.out h.0 h.1))
 
-pub says : (c : FileUse) (words : List (List ℕ)) (old new : Streams) (status : ℕ) → RunsOn c words old new status → Says old.out new.out status
-says c words old new status (inl h) = performed c h.0 old new status h.2
-says c words old new status (inr h) = at_words h.0 old new status h.2
+sent_small : (c : FileUse) (path : List ℕ) (request : Request) (old new : Drained) (status : ℕ) → IsSent c path request old new status → status ≤ 3
+sent_small c path request old new status (inl h) = let is = ending_is (unkept (is_build request) 0) in omega (arith, h.1, is)
+sent_small c path request old new status (inr (inl h)) = let is = ending_is h.ending in omega (arith, h.told, is)
+sent_small c path request old new status (inr (inr h)) = omega (arith, h.done)
+
+carried_out : (c : FileUse) (file : Option (List ℕ)) (request : Request) (old new : Streams) (status : ℕ) → IsCarriedOut c file request old new status
+    → Says old.out new.out file status
+carried_out c None request old new status h = performed c request old new status h
+carried_out c (Some path) request old new status h =
+    at_rest old.out new.out (Some path) status (sent_small c path request old.err new.err status h.1) h.0 (λ _ none. cc)
+
+pub says : (c : FileUse) (given : List (List ℕ)) (old new : Streams) (status : ℕ) → RunsOn c given old new status → Says old.out new.out (output_of given) status
+says c given old new status (inl (order, asks, h)) =
+    let file : output_of given ≡ asked_output order = ap (λ (o : Option Ordered). option_and_then (λ (x : Ordered). x.1) o) asks in
+    subst (λ (f : Option (List ℕ)). Says old.out new.out f status) (sym file) (carried_out c (asked_output order) order.request old new status h)
+says c given old new status (inr (fault, why, ends, unopened)) =
+    let file : (fault ≡ words.Memory) ⊎ (output_of given ≡ None) = elim why.0 [
+      | inl m ↦ inl m
+      | inr none ↦ inr (ap (λ (o : Option Ordered). option_and_then (λ (x : Ordered). x.1) o) none)
+    ] in
+    at_words fault old new (output_of given) status file ends
+
+-- ---- files
+
+-- what a status says of files
+pub record FilesSay (files : FileUse) (status : ℕ) : Type 0 where
+  pub lost : 0 < status → files.after.contents ≡ files.before.contents
+  pub settled : Settles files.before.counts files.after.counts
+
+untouched : (files : FileUse) (status : ℕ) → IsUntouched files → FilesSay files status
+untouched files status h = record { lost = λ _. h.contents; settled = inl h.outputs }
+
+-- the outputs where one more was kept or taken away
+abbrev with_one : Bool → ℕ × (ℕ × ℕ) → ℕ × (ℕ × ℕ)
+with_one true o = (o.0, (saturated (o.1.0 + 1), o.1.1))
+with_one false o = (o.0, (o.1.0, saturated (o.1.1 + 1)))
+
+files_sent : (files : FileUse) (path : List ℕ) (request : Request) (old new : Drained) (status : ℕ) → IsSent files path request old new status → FilesSay files status
+files_sent files path request old new status (inl h) =
+    record { lost = λ _. ap (λ (s : FileState). s.contents) h.0; settled = inl (ap (λ (s : FileState). outputs s.counts) h.0) }
+files_sent files path request old new status (inr (inl h)) =
+    let over_it = over files.before h.begins in
+    let still : IsUntouched over_it = elim h.why [
+      | inl r ↦ refused over_it request h.begins.fresh h.begins.output h.ending r
+      | inr a ↦ answered over_it request h.begins.fresh h.begins.output a.0.0 a.0.1
+    ] in
+    record {
+      lost = λ _. ap (λ (s : FileState). s.contents) h.away ∙ still.contents;
+      settled = inr (false, ap (λ (s : FileState). outputs s.counts) h.away ∙ ap (with_one false) still.outputs);
+    }
+files_sent files path request old new status (inr (inr h)) =
+    let still = answered (over files.before h.begins) request h.begins.fresh h.begins.output h.report h.answered in
+    record {
+      lost = λ more. absurd (omega (arith, more, h.done));
+      settled = inr (true, ap outputs h.kept.counted ∙ ap (with_one true) still.outputs);
+    }
+
+files_performed : (files : FileUse) (request : Request) (old new : Streams) (status : ℕ) → IsPerformed files request old new status → FilesSay files status
+files_performed files request old new status (inl h) = untouched files status (answered files request old.out new.out h.0 h.1)
+files_performed files request old new status (inr h) = untouched files status (refused files request old.out new.out h.0 h.1)
+
+files_carried_out : (files : FileUse) (file : Option (List ℕ)) (request : Request) (old new : Streams) (status : ℕ) → IsCarriedOut files file request old new status
+    → FilesSay files status
+files_carried_out files None request old new status h = files_performed files request old new status h
+files_carried_out files (Some path) request old new status h = files_sent files path request old.err new.err status h.1
+
+pub files_say : (files : FileUse) (given : List (List ℕ)) (old new : Streams) (status : ℕ) → RunsOn files given old new status → FilesSay files status
+files_say files given old new status (inl (order, asks, h)) = files_carried_out files (asked_output order) order.request old new status h
+files_say files given old new status (inr (fault, why, ends, unopened)) = untouched files status (opened files 0 unopened)

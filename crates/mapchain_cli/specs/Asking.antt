@@ -20,7 +20,7 @@ use Rattle.topology_simplifying.specs.Simplified.{CallsForTopology, IsSimplifyFa
 use Rattle.mapchain_cli.specs.declared.ending.Ending.{Ending}
 use Rattle.mapchain_cli.specs.declared.ending.Ending.TheVariants.{BadArea, BadRingArea, BadShare, Refused, FileRefused, Memory}
 use Rattle.mapchain_cli.specs.Endings.{BuildsOf, DecodesOf, IsSummaryFault, RefusesFile, RefusesLayers, SimplifiesOf, Summarises}
-use Rattle.mapchain_cli.specs.Opening.{AreOpened, Contents, FileUse, IsOpened, Layers, Opened, OpensFront}
+use Rattle.mapchain_cli.specs.Files.{AreOpened, Contents, FileUse, IsOpened, Layers, Opened, OpensFront}
 
 -- the names of layers and the paths of their files
 abbrev pub texts_of : List (Bor (List ℕ) × Bor (List ℕ)) → Layers

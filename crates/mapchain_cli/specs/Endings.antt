@@ -17,7 +17,7 @@ use Rattle.topology_building.specs.declared.options.Options.{Options}
 use Rattle.topology_files.specs.Files.{FailsToGive, IsSummarised}
 use Rattle.topology_files.specs.Geo.{IsDecoded}
 use Rattle.topology_simplifying.specs.Simplified.{IsSimplified}
-use Rattle.mapchain_cli.specs.Opening.{AreOpened, FileUse, IsOpened, Layers, Opened, RefusedBehind}
+use Rattle.mapchain_cli.specs.Files.{AreOpened, FileUse, IsOpened, Layers, Opened, RefusedBehind}
 
 -- ---- what is written
 
@@ -25,7 +25,7 @@ use Rattle.mapchain_cli.specs.Opening.{AreOpened, FileUse, IsOpened, Layers, Ope
 pub record BuildsOf (files : FileUse) (options : Options) (layers : Layers) (old new : Drained) (report : Report) : Type 0 where
   pub sources_old : Sources
   pub sources_new : Sources
-  pub opened : AreOpened files.contents layers sources_old
+  pub opened : AreOpened files.before.contents layers sources_old
   pub each_once : Opened (length layers) files
   pub built : IsBuilt options sources_old sources_new old new report
 
@@ -34,7 +34,7 @@ pub record BuildsOf (files : FileUse) (options : Options) (layers : Layers) (old
 pub record SimplifiesOf (files : FileUse) (threshold ring_limit : ℕ) (path : List ℕ) (old new : Drained) (report : Report) : Type 0 where
   pub source_old : Fed
   pub source_new : Fed
-  pub opened : IsOpened files.contents path source_old
+  pub opened : IsOpened files.before.contents path source_old
   pub once : Opened 1 files
   pub simplified : IsSimplified threshold ring_limit source_old source_new old new report
 
@@ -42,7 +42,7 @@ pub record SimplifiesOf (files : FileUse) (threshold ring_limit : ℕ) (path : L
 pub record DecodesOf (files : FileUse) (name path : List ℕ) (old new : Drained) : Type 0 where
   pub source_old : Fed
   pub source_new : Fed
-  pub opened : IsOpened files.contents path source_old
+  pub opened : IsOpened files.before.contents path source_old
   pub once : Opened 1 files
   pub sent : ℕ
   pub decoded : IsDecoded name source_old source_new old new sent
@@ -55,7 +55,7 @@ SendsSummary old new summary = Takes old new (summary_text summary) (length (sum
 pub record Summarises (files : FileUse) (path : List ℕ) (old new : Drained) : Type 0 where
   pub source_old : Fed
   pub source_new : Fed
-  pub opened : IsOpened files.contents path source_old
+  pub opened : IsOpened files.before.contents path source_old
   pub once : Opened 1 files
   pub summary : Summary
   pub told : IsSummarised source_old source_new summary
@@ -67,13 +67,13 @@ pub record Summarises (files : FileUse) (path : List ℕ) (old new : Drained) : 
 -- layer
 abbrev pub IsUnopened : FileUse → Layers → BuildFault → Type 0
 IsUnopened files layers e =
-    (i : ℕ) × (layer : List ℕ × List ℕ) × (slice_get layers i ≡ Some layer) × (files.contents layer.1 ≡ None) × RefusedBehind i files × (e ≡ Read i read.Read)
+    (i : ℕ) × (layer : List ℕ × List ℕ) × (slice_get layers i ≡ Some layer) × (files.before.contents layer.1 ≡ None) × RefusedBehind i files × (e ≡ Read i read.Read)
 
 -- a layer's source is refused, each opened as the file of its path, or the device failed
 pub record IsRefusedLate (files : FileUse) (options : Options) (layers : Layers) (old new : Drained) (e : BuildFault) : Type 0 where
   pub sources_old : Sources
   pub sources_new : Sources
-  pub opened : AreOpened files.contents layers sources_old
+  pub opened : AreOpened files.before.contents layers sources_old
   pub each_once : Opened (length layers) files
   pub fault : IsLateFault options sources_old sources_new old new e
 
@@ -87,14 +87,14 @@ RefusesLayers files options layers old new e =
 pub record IsRefusedFile (files : FileUse) (path : List ℕ) (Fails : Fed → Fed → FileFault → Type 0) (e : FileFault) : Type 0 where
   pub source_old : Fed
   pub source_new : Fed
-  pub opened : IsOpened files.contents path source_old
+  pub opened : IsOpened files.before.contents path source_old
   pub once : Opened 1 files
   pub fault : Fails source_old source_new e
 
 -- why the file of a topology of this path isn't used: it can't be opened, or isn't known, or what was read has this fault
 abbrev pub RefusesFile : FileUse → List ℕ → Drained → Drained → (Fed → Fed → FileFault → Type 0) → FileFault → Type 0
 RefusesFile files path old new Fails e =
-    ((new ≡ old) × (files.contents path ≡ None) × RefusedBehind 0 files × (e ≡ file.Read read.Read)) ⊎ IsRefusedFile files path Fails e
+    ((new ≡ old) × (files.before.contents path ≡ None) × RefusedBehind 0 files × (e ≡ file.Read read.Read)) ⊎ IsRefusedFile files path Fails e
 
 -- why no summary is written whole: the device failed when it had taken a front of its text, or there is none
 abbrev pub IsSummaryFault : Drained → Drained → Fed → Fed → FileFault → Type 0

@@ -1,4 +1,6 @@
 pub mod Asking
 pub mod Endings
-pub mod Opening
+pub mod Files
+pub mod Outputs
+pub mod Performing
 pub mod Runs

@@ -8,7 +8,7 @@ ghost use Rattle.topology_files.specs.Geo.{IsGeoFault, SendsText};
 ghost use Rattle.byte_ends.specs.Ends.{Fed};
 ghost use Rattle.topology_simplifying.specs.Simplified.{CallsForTopology, IsSimplifyFault};
 ghost use Rattle.mapchain_cli.specs.Endings.{DecodesOf, IsSummaryFault, RefusesFile, SimplifiesOf, Summarises};
-ghost use Rattle.mapchain_cli.specs.Opening.{IsOpened, Opened, RefusedBehind, used};
+ghost use Rattle.mapchain_cli.specs.Files.{IsOpened, Opened, RefusedBehind, used};
 
 use crate::files::Files;
 use byte_ends::{Drain, ReadFault, Sink, Source, flush_behind};
@@ -21,10 +21,10 @@ use topology_simplifying::simplify;
 
 /// Opens the file of a topology.
 fn open_file<F: Files>(path: &str, files: &mut F) -> Result<Source<F::R>, FileFault>
-    ensures opened { IfOk result (λ source. IsOpened (F.contents files.old) path.now source) }
-    ensures once { OnOk result (Opened 1 (used (F.contents files.old) (F.opens files.old) (F.opens files.new))) }
-    ensures refused { IfErr result (λ e. (F.contents files.old path.now ≡ None)
-        × RefusedBehind 0 (used (F.contents files.old) (F.opens files.old) (F.opens files.new)) × (e ≡ file.Read read.Read)) }
+    ensures opened { IfOk result (λ source. IsOpened ((F.state files.old).contents) path.now source) }
+    ensures once { OnOk result (Opened 1 (used (F.state files.old) (F.state files.new))) }
+    ensures refused { IfErr result (λ e. ((F.state files.old).contents path.now ≡ None)
+        × RefusedBehind 0 (used (F.state files.old) (F.state files.new)) × (e ≡ file.Read read.Read)) }
 {
     match files.open(path) {
         Some(source) => Ok(source),
@@ -40,8 +40,8 @@ pub(crate) fn decode_object<F: Files, V: Drain>(
     files: &mut F,
     out: &mut Sink<V>,
 ) -> Result<(), FileFault>
-    ensures decoded { IfOk result (λ _. DecodesOf (used (F.contents files.old) (F.opens files.old) (F.opens files.new)) name.now path.now out.old out.new) }
-    ensures refused { IfErr result (λ e. RefusesFile (used (F.contents files.old) (F.opens files.old) (F.opens files.new)) path.now out.old out.new
+    ensures decoded { IfOk result (λ _. DecodesOf (used (F.state files.old) (F.state files.new)) name.now path.now out.old out.new) }
+    ensures refused { IfErr result (λ e. RefusesFile (used (F.state files.old) (F.state files.new)) path.now out.old out.new
         (λ s u. IsGeoFault name.now s u out.old out.new) e) }
 {
     let mut source = open_file(path, files)?;
@@ -60,10 +60,10 @@ pub(crate) fn simplify_file<F: Files, V: Drain>(
     out: &mut Sink<V>,
 ) -> Result<Report, FileFault>
     requires { ring_limit ≤ threshold_limit }
-    ensures simplified { IfOk result (λ report. SimplifiesOf (used (F.contents files.old) (F.opens files.old) (F.opens files.new)) threshold ring_limit path.now out.old out.new report) }
-    ensures reduced { IfOk result (λ _. (old : Fed) × (new : Fed) × IsOpened (F.contents files.old) path.now old
+    ensures simplified { IfOk result (λ report. SimplifiesOf (used (F.state files.old) (F.state files.new)) threshold ring_limit path.now out.old out.new report) }
+    ensures reduced { IfOk result (λ _. (old : Fed) × (new : Fed) × IsOpened ((F.state files.old).contents) path.now old
         × CallsForTopology old new reducer.old.calls reducer.new.calls) }
-    ensures refused { IfErr result (λ e. RefusesFile (used (F.contents files.old) (F.opens files.old) (F.opens files.new)) path.now out.old out.new
+    ensures refused { IfErr result (λ e. RefusesFile (used (F.state files.old) (F.state files.new)) path.now out.old out.new
         (λ s u. IsSimplifyFault threshold ring_limit s u out.old out.new) e) }
 {
     let mut source = open_file(path, files)?;
@@ -87,8 +87,8 @@ pub(crate) fn summarise<F: Files, V: Drain>(
     files: &mut F,
     out: &mut Sink<V>,
 ) -> Result<(), FileFault>
-    ensures told { IfOk result (λ _. Summarises (used (F.contents files.old) (F.opens files.old) (F.opens files.new)) path.now out.old out.new) }
-    ensures refused { IfErr result (λ e. RefusesFile (used (F.contents files.old) (F.opens files.old) (F.opens files.new)) path.now out.old out.new (IsSummaryFault out.old out.new) e) }
+    ensures told { IfOk result (λ _. Summarises (used (F.state files.old) (F.state files.new)) path.now out.old out.new) }
+    ensures refused { IfErr result (λ e. RefusesFile (used (F.state files.old) (F.state files.new)) path.now out.old out.new (IsSummaryFault out.old out.new) e) }
 {
     let mut source = open_file(path, files)?;
     let summary = stat(alloc, &mut source)?;

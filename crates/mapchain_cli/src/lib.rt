@@ -5,16 +5,18 @@
 //! `specs/Runs.antt`.
 #![tactic(auto)]
 
+mod counts;
+mod delivering;
 mod ending;
 mod file_running;
 mod files;
-mod opens;
 mod options;
 mod running;
 mod telling;
 
 pub use command_words::name_and_path;
+pub use counts::Counts;
+pub use delivering::deliver;
 pub use fault_lines::{file_status, status};
 pub use files::Files;
-pub use opens::Opens;
 pub use running::{command, perform};

@@ -1,23 +1,28 @@
 // Running the program.
-ghost use Rattle.std.specs.Prelude.{◌≡◌, ◌⊎◌, ◌≤◌, IfErr, IfOk, OnOk, length, map, true};
+ghost use Rattle.std.specs.Prelude.{◌≡◌, ◌⊎◌, ◌<◌, ◌≤◌, IfErr, IfOk, IfSome, None, OnOk, length, map, true};
 ghost use Rattle.std.specs.String.{string_bytes};
+ghost use Rattle.command_words.specs.Asked.{output_of};
+ghost use Rattle.command_words.specs.Joined.{joined};
 ghost use Rattle.command_words.specs.Requests.{IsGridInRange};
 ghost use Rattle.inputs.specs.declared.fault.BuildFault.{BuildFault as Fault};
 ghost use Rattle.layer_sources.specs.Sources.{Sources};
 ghost use Rattle.topology_building.specs.Building.{CallsForLayers};
 ghost use Rattle.mapchain_cli.specs.Asking.{CallsFor, IsAnswered, IsRefused, texts_of};
 ghost use Rattle.mapchain_cli.specs.Endings.{BuildsOf, IsUnopened, RefusesLayers};
-ghost use Rattle.mapchain_cli.specs.Opening.{AreOpened, Opened, OpensFront, used};
-ghost use Rattle.mapchain_cli.specs.Runs.{IsPerformed, Runs, RunsOn};
+ghost use Rattle.mapchain_cli.specs.Files.{AreOpened, Opened, OpensFront, used};
+ghost use Rattle.mapchain_cli.specs.Outputs.{IsCarriedOut, Settles, asked_output};
+ghost use Rattle.mapchain_cli.specs.Performing.{IsPerformed};
+ghost use Rattle.mapchain_cli.specs.Runs.{Runs, RunsOn};
 ghost use Rattle.mapchain_cli.specs.declared.ending.Ending.TheVariants as ending;
 
+use crate::delivering::deliver;
 use crate::ending::Ending;
 use crate::file_running::{decode_object, simplify_file, summarise};
 use crate::files::Files;
 use crate::options::{options_of, thresholds_asked};
 use crate::telling::{tell_done, tell_ending, tell_words};
 use byte_ends::{Drain, ReadFault, Sink, Source};
-use command_words::{Request, WordsFault, joined_words, read_words};
+use command_words::{Order, Request, WordsFault, joined_words, read_words};
 use effective_area::HeapLinks;
 use fault_lines::DONE;
 use inputs::BuildFault;
@@ -32,10 +37,10 @@ fn open_layers<F: Files>(
     layers: &[(&str, &str)],
     files: &mut F,
 ) -> Result<Vec<(OwnText, Source<F::R>)>, Ending>
-    ensures opened { IfOk result (λ v. AreOpened (F.contents files.old) (texts_of layers.now) v.items) }
-    ensures each_once { OnOk result (Opened (length (texts_of layers.now)) (used (F.contents files.old) (F.opens files.old) (F.opens files.new))) }
-    ensures refused { IfErr result (λ e. ((e ≡ ending.Memory) × OpensFront (length (texts_of layers.now)) (used (F.contents files.old) (F.opens files.old) (F.opens files.new)))
-        ⊎ ((fault : Fault) × (e ≡ ending.Refused fault) × IsUnopened (used (F.contents files.old) (F.opens files.old) (F.opens files.new)) (texts_of layers.now) fault)) }
+    ensures opened { IfOk result (λ v. AreOpened ((F.state files.old).contents) (texts_of layers.now) v.items) }
+    ensures each_once { OnOk result (Opened (length (texts_of layers.now)) (used (F.state files.old) (F.state files.new))) }
+    ensures refused { IfErr result (λ e. ((e ≡ ending.Memory) × OpensFront (length (texts_of layers.now)) (used (F.state files.old) (F.state files.new)))
+        ⊎ ((fault : Fault) × (e ≡ ending.Refused fault) × IsUnopened (used (F.state files.old) (F.state files.new)) (texts_of layers.now) fault)) }
 {
     let mut sources = Vec::new(alloc);
     'layers: for (layer, (name, path)) in layers.iter().enumerate() {
@@ -60,13 +65,13 @@ fn build_layers<F: Files, V: Drain>(
     files: &mut F,
     out: &mut Sink<V>,
 ) -> Result<Report, Ending>
-    ensures built { IfOk result (λ report. BuildsOf (used (F.contents files.old) (F.opens files.old) (F.opens files.new)) options.now (texts_of layers.now) out.old out.new report) }
-    ensures reduced { IfOk result (λ _. (olds : Sources) × (news : Sources) × AreOpened (F.contents files.old) (texts_of layers.now) olds
+    ensures built { IfOk result (λ report. BuildsOf (used (F.state files.old) (F.state files.new)) options.now (texts_of layers.now) out.old out.new report) }
+    ensures reduced { IfOk result (λ _. (olds : Sources) × (news : Sources) × AreOpened ((F.state files.old).contents) (texts_of layers.now) olds
         × CallsForLayers options.now olds news reducer.old.calls reducer.new.calls) }
     ensures refused { IfErr result (λ e. ((e ≡ ending.Memory) × (out.new ≡ out.old)
-        × OpensFront (length (texts_of layers.now)) (used (F.contents files.old) (F.opens files.old) (F.opens files.new)))
+        × OpensFront (length (texts_of layers.now)) (used (F.state files.old) (F.state files.new)))
         ⊎ ((fault : Fault) × (e ≡ ending.Refused fault)
-        × RefusesLayers (used (F.contents files.old) (F.opens files.old) (F.opens files.new)) options.now (texts_of layers.now) out.old out.new fault)) }
+        × RefusesLayers (used (F.state files.old) (F.state files.new)) options.now (texts_of layers.now) out.old out.new fault)) }
 {
     let mut sources = open_layers(alloc, layers, files)?;
     let report = build(alloc, reducer, sources.as_mut_slice(), options, out)?;
@@ -74,7 +79,7 @@ fn build_layers<F: Files, V: Drain>(
 }
 
 /// Does what is asked for, and gives the report of a build or of simplifying.
-fn answer<F: Files, V: Drain>(
+pub(crate) fn answer<F: Files, V: Drain>(
     alloc: Global,
     reducer: &mut HeapLinks,
     request: Request<'_>,
@@ -82,9 +87,9 @@ fn answer<F: Files, V: Drain>(
     out: &mut Sink<V>,
 ) -> Result<Option<Report>, Ending>
     requires { IsGridInRange request }
-    ensures answered { IfOk result (λ report. IsAnswered (used (F.contents files.old) (F.opens files.old) (F.opens files.new)) request.entry out.old out.new report) }
-    ensures reduced { IfOk result (λ _. CallsFor (F.contents files.old) request.entry reducer.old.calls reducer.new.calls) }
-    ensures refused { IfErr result (λ e. IsRefused (used (F.contents files.old) (F.opens files.old) (F.opens files.new)) request.entry out.old out.new e) }
+    ensures answered { IfOk result (λ report. IsAnswered (used (F.state files.old) (F.state files.new)) request.entry out.old out.new report) }
+    ensures reduced { IfOk result (λ _. CallsFor ((F.state files.old).contents) request.entry reducer.old.calls reducer.new.calls) }
+    ensures refused { IfErr result (λ e. IsRefused (used (F.state files.old) (F.state files.new)) request.entry out.old out.new e) }
 {
     match request {
         Request::Build {
@@ -130,9 +135,9 @@ pub fn perform<F: Files, V: Drain, W: Drain>(
     err: &mut Sink<W>,
 ) -> u8
     requires { IsGridInRange request }
-    ensures performed { IsPerformed (used (F.contents files.old) (F.opens files.old) (F.opens files.new)) request.entry
+    ensures performed { IsPerformed (used (F.state files.old) (F.state files.new)) request.entry
         (record { out = out.old; err = err.old }) (record { out = out.new; err = err.new }) result }
-    ensures reduced { result ≡ 0 → CallsFor (F.contents files.old) request.entry reducer.old.calls reducer.new.calls }
+    ensures reduced { result ≡ 0 → CallsFor ((F.state files.old).contents) request.entry reducer.old.calls reducer.new.calls }
 {
     match answer(alloc, reducer, request, files, out) {
         Ok(report) => {
@@ -140,6 +145,25 @@ pub fn perform<F: Files, V: Drain, W: Drain>(
             DONE
         }
         Err(ending) => tell_ending(&ending, err),
+    }
+}
+
+/// Carries out an order, over standard output or the file that it names for the output. The answer is the exit status.
+fn carry_out<F: Files, V: Drain, W: Drain>(
+    alloc: Global,
+    reducer: &mut HeapLinks,
+    order: Order<'_>,
+    files: &mut F,
+    out: &mut Sink<V>,
+    err: &mut Sink<W>,
+) -> u8
+    requires { IsGridInRange order.request }
+    ensures { IsCarriedOut (used (F.state files.old) (F.state files.new)) (asked_output order.entry) order.entry.request
+        (record { out = out.old; err = err.old }) (record { out = out.new; err = err.new }) result }
+{
+    match order.output {
+        None => perform(alloc, reducer, order.request, files, out, err),
+        Some(path) => deliver(alloc, reducer, order.request, path, files, err),
     }
 }
 
@@ -152,19 +176,19 @@ fn run<F: Files, V: Drain, W: Drain>(
     out: &mut Sink<V>,
     err: &mut Sink<W>,
 ) -> u8
-    ensures { RunsOn (used (F.contents files.old) (F.opens files.old) (F.opens files.new)) (map string_bytes words.now)
+    ensures { RunsOn (used (F.state files.old) (F.state files.new)) (map string_bytes words.now)
         (record { out = out.old; err = err.old }) (record { out = out.new; err = err.new }) result }
 {
     match read_words(alloc, words) {
-        Ok(request) => perform(alloc, reducer, request, files, out, err),
+        Ok(order) => carry_out(alloc, reducer, order, files, out, err),
         Err(fault) => tell_words(alloc, &fault, out, err),
     }
 }
 
-/// Runs the program on the words behind its name. Standard output takes the topology, the features, the summary or the
-/// help, standard error the report of a build or of simplifying, or a line that says what is wrong. The answer is the exit status: 0 where
-/// it is done, 1 where the contents of a file are refused, 2 where the words are, and 3 where reading, writing or memory
-/// failed.
+/// Runs the program on the words behind its name. Standard output, or the file that is named for the output, takes the topology, the
+/// features or the summary, standard output the help. Standard error takes the report of a build or of simplifying, or a line that says
+/// what is wrong. The answer is the exit status: 0 where it is done, 1 where the contents of a file are refused, 2 where the words are,
+/// and 3 where reading, writing or memory failed.
 pub fn command<F: Files, V: Drain, W: Drain>(
     alloc: Global,
     words: Vec<String>,
@@ -174,14 +198,20 @@ pub fn command<F: Files, V: Drain, W: Drain>(
 ) -> u8
     // The request that the words ask for is done or refused. Where they ask for none help is given, or the words are refused. Standard
     // error took what there is to tell.
-    ensures ran { Runs (used (F.contents files.old) (F.opens files.old) (F.opens files.new)) (map string_bytes words.items)
+    ensures ran { Runs (used (F.state files.old) (F.state files.new)) (map string_bytes words.items)
         (record { out = out.old; err = err.old }) (record { out = out.new; err = err.new }) result }
     ensures status { result ≤ 3 }
-    // At status 0 standard output took all that was written to it, and passed it on.
-    ensures done { result ≡ 0 → out.new.failures ≡ 0 }
-    ensures flushed { result ≡ 0 → out.new.flushed ≡ true }
+    // At status 0 standard output took all that was written to it, and passed it on, unless the words name a file for the output.
+    ensures done { result ≡ 0 → output_of (joined (map string_bytes words.items)) ≡ None → out.new.failures ≡ 0 }
+    ensures flushed { result ≡ 0 → output_of (joined (map string_bytes words.items)) ≡ None → out.new.flushed ≡ true }
+    // Where they name one, standard output takes nothing.
+    ensures elsewhere { IfSome (output_of (joined (map string_bytes words.items))) (λ _. out.new ≡ out.old) }
     // Where the input or the words are refused, standard output takes nothing.
     ensures refused { (result ≡ 1) ⊎ (result ≡ 2) → out.new ≡ out.old }
+    // Unless all is done, every file holds what it held.
+    ensures lost { 0 < result → (F.state files.new).contents ≡ (F.state files.old).contents }
+    // No output to a file was begun, or one, which was kept or taken away.
+    ensures settled { Settles (F.state files.old).counts (F.state files.new).counts }
 {
     match joined_words(alloc, words.as_slice()) {
         Ok(joined) => run(

@@ -1,7 +1,8 @@
 // Telling how a run ended.
 ghost use Rattle.std.specs.Prelude.{◌≡◌};
 ghost use Rattle.fault_lines.specs.Telling.{Tells};
-ghost use Rattle.mapchain_cli.specs.Runs.{EndsAtWords, IsHelped, ending_status, line_of, told_of};
+ghost use Rattle.mapchain_cli.specs.Performing.{ending_status, line_of, told_of};
+ghost use Rattle.mapchain_cli.specs.Runs.{EndsAtWords, IsHelped};
 
 use crate::ending::Ending;
 use byte_ends::{Drain, Sink, flush_behind};

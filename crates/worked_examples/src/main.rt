@@ -3,34 +3,51 @@
 //! is printed for each run that went otherwise, and then the counts. `FORMAT.md` says what a page may hold.
 #![tactic(auto)]
 
-use byte_ends::devices::CutReader;
-use byte_ends::{FromRead, Source};
-use example_pages::{LentFiles, Program, Streams, try_page};
-use mapchain_cli::{Opens, command};
+use byte_ends::devices::{CutReader, CutWriter};
+use byte_ends::{FromRead, Sink, Source, ToWrite};
+use example_pages::{Ended, LentFiles, Program, Streams, try_page};
+use mapchain_cli::{Counts, command};
 use std::alloc::{AllocGlobal, Global};
 use std::fs::Files;
 use std::{fs, io};
 
-// The files of a page as the command line opens them.
+// The files of a page as the command line reads and writes them.
 #[derive(Drop)]
 struct PageFiles<'a> {
     files: LentFiles<'a>,
-    opens: Opens,
+    counts: Counts,
 }
 
 impl<'a> mapchain_cli::Files for PageFiles<'a> {
     type R = FromRead<CutReader<'a>>;
 
+    type W = ToWrite<CutWriter>;
+
     ghost use Rattle.example_pages.specs.Held.{lent};
 
-    ghost contents = { λ s. lent s.files };
-
-    ghost opens = { λ s. s.opens };
+    ghost state = { λ s. record { contents = lent s.files; counts = s.counts } };
 
     fn open(&mut self, path: &str) -> Option<Source<FromRead<CutReader<'a>>>> {
         let opened = self.files.open(path);
-        self.opens.count(opened.is_some());
+        self.counts.count_open(opened.is_some());
         opened
+    }
+
+    fn begin(&mut self, _path: &str) -> Option<Sink<ToWrite<CutWriter>>> {
+        let begun = self.files.begin();
+        self.counts.count_begin(begun.is_some());
+        begun
+    }
+
+    fn keep(&mut self, path: &str, output: ToWrite<CutWriter>) -> bool {
+        let is_kept = self.files.keep(path, output);
+        self.counts.count_end(is_kept);
+        is_kept
+    }
+
+    fn discard(&mut self, output: ToWrite<CutWriter>) {
+        self.files.discard(output);
+        self.counts.count_end(false);
     }
 }
 
@@ -38,24 +55,28 @@ impl<'a> mapchain_cli::Files for PageFiles<'a> {
 struct Mapchain;
 
 impl Program for Mapchain {
-    fn run(
+    fn run<'a>(
         &self,
         alloc: Global,
         words: Vec<String>,
-        files: LentFiles<'_>,
+        files: LentFiles<'a>,
         streams: &mut Streams,
-    ) -> u8 {
+    ) -> Ended<'a> {
         let mut files = PageFiles {
             files,
-            opens: Opens::none(),
+            counts: Counts::none(),
         };
-        command(
+        let status = command(
             alloc,
             words,
             &mut files,
             &mut streams.output,
             &mut streams.error,
-        )
+        );
+        Ended {
+            status,
+            files: files.files,
+        }
     }
 }
 

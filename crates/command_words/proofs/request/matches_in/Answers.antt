@@ -4,7 +4,7 @@ use Rattle.std.specs.String.{string_bytes}
 use Rattle.clap.specs.Kinds.{HasKind}
 use Rattle.clap.specs.Simple.{App, subcommand_of}
 use Rattle.clap.specs.Faults.{fault_of, is_simple_and_free}
-use Rattle.command_words.specs.Asked.{asked_in, kinds_of}
+use Rattle.command_words.specs.Asked.{kinds_of, ordered_in}
 use Rattle.command_words.specs.CommandLine.{program_app}
 use Rattle.command_words.proofs.Apps.{program_free}
 use Rattle.command_words.proofs.Getters.{refused_for}
@@ -15,6 +15,6 @@ returns-in_ok-fault_by-in-Err c =
     let words = map string_bytes c.args.words.now in
     let kinds = c.in-Err.ensures.kinds (ap is_simple_and_free c.requires.app ∙ program_free) in
     let kind = subst (λ (a : App). HasKind (fault_of a words) c.in-Err.error) c.requires.app kinds in (
-      refused_for (kinds_of words) (option_and_then asked_in (subcommand_of program_app words)) c.in-Err.error _ kind c.in_ok-fault_by-in-Err.ensures.memory,
+      refused_for (kinds_of words) (option_and_then ordered_in (subcommand_of program_app words)) c.in-Err.error _ kind c.in_ok-fault_by-in-Err.ensures.memory,
       c.in_ok-fault_by-in-Err.ensures.fault (kinds_of words) kind,
     )

@@ -1,7 +1,7 @@
 use Rattle.std.proofs.lemmas.Result.{err_from_is_err_and}
 use Rattle.command_words.specs.declared.request.Request.TheVariants.{Build}
 use Rattle.mapchain_cli.specs.Asking.{texts_of}
-use Rattle.mapchain_cli.specs.Opening.{used}
+use Rattle.mapchain_cli.specs.Files.{used}
 use Rattle.mapchain_cli.proofs.Refusals.{layers_refuse}
 use Rattle.mapchain_cli.proofs.running.answer.Goals as goal
 
@@ -11,7 +11,7 @@ returns-in_err-report-in-Build-clause-refused g c =
     let request = Build c.in-Build.layers c.in-Build.exact c.in-Build.grid c.in-Build.area c.in-Build.keep c.in-Build.ring_area in
     let options = c.in_ok-options-in-Build.options in
     let refused = rw c.as_slice.ensures.value at c.in_err-report-in-Build.ensures.refused in
-    rw (c.in-Build.is, p.1, p.2) (layers_refuse (used (g.F.Files.contents c.args.files.now) (g.F.Files.opens c.args.files.now) (g.F.Files.opens c.build_layers.new.files)) request options (texts_of c.in-Build.layers.items) c.args.out.now c.build_layers.new.out
+    rw (c.in-Build.is, p.1, p.2) (layers_refuse (used (g.F.Files.state c.args.files.now) (g.F.Files.state c.build_layers.new.files)) request options (texts_of c.in-Build.layers.items) c.args.out.now c.build_layers.new.out
     c.in_err-report-in-Build.field-0.0 (λ fault h. (options, c.in_ok-options-in-Build.ensures.asked, h)) (λ front. front) refused)
 
 pub returns-in_ok-report-in-Build-clause-answered : goal.returns-in_ok-report-in-Build-clause-answered

@@ -1,4 +1,4 @@
-use Rattle.std.proofs.Common.{◌≡◌, arith, take}
+use Rattle.std.proofs.Common.{arith, take}
 use Rattle.std.proofs.lemmas.List.{take_more}
 use Rattle.example_pages.proofs.Later.{held_later}
 use Rattle.example_pages.proofs.memory_files.MemoryFiles.bytes.Goals as goal

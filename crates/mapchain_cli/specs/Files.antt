@@ -1,0 +1,96 @@
+-- The files of a run: their bytes, the sources that they are opened as, the outputs that take their place, and how often that was done.
+use Rattle.std.specs.Prelude.{◌≡◌, ℕ, zero, suc, ◌+◌, ◌≤◌, Bool, true, false, List, [], ◌∷◌, Option, Some, IfSome}
+use Rattle.byte_ends.specs.Ends.{Drained, Fed, saturated}
+use Rattle.layer_sources.specs.Sources.{Sources}
+use Rattle.mapchain_cli.specs.declared.counts.Counts.{Counts}
+
+-- the bytes of the file of each path, where they are known and it can be opened
+abbrev pub Contents : Type 0
+Contents = List ℕ → Option (List ℕ)
+
+-- what a run knows of files: their bytes, and what was done with them
+pub record FileState : Type 0 where
+  pub contents : Contents
+  pub counts : Counts
+
+-- ---- files that are read
+
+-- the source has left the bytes of the file of this path, where they are known, and has not been read
+pub record IsOpened (contents : Contents) (path : List ℕ) (source : Fed) : Type 0 where
+  pub bytes : IfSome (contents path) (λ bytes. source.left ≡ Some bytes)
+  pub sound : source.failures ≡ 0
+  pub unread : (source.giving_reads ≡ 0) × (source.empty_reads ≡ 0)
+
+-- the names of layers, each with the path of its file
+abbrev pub Layers : Type 0
+Layers = List (List ℕ × List ℕ)
+
+-- each source has the name of its layer, and the bytes of the file of that layer's path
+abbrev pub AreOpened : Contents → Layers → Sources → Type 0
+AreOpened contents [] [] = Unit {0}
+AreOpened contents (layer ∷ layers) (source ∷ sources) = (source.0 ≡ layer.0) × IsOpened contents layer.1 source.1 × AreOpened contents layers sources
+AreOpened contents layers sources = ⊥
+
+-- ---- how often files were opened
+
+-- one more try, which opened a file or didn't
+abbrev pub with_open : Bool → Counts → Counts
+with_open true c = record c { opened = saturated (c.opened + 1) }
+with_open false c = record c { refused = saturated (c.refused + 1) }
+
+abbrev pub one_more : Bool → FileState → FileState
+one_more is_open s = record s { counts = with_open is_open s.counts }
+
+-- the files before a run and behind it
+pub record FileUse : Type 0 where
+  pub before : FileState
+  pub after : FileState
+
+abbrev pub used : FileState → FileState → FileUse
+used before after = record { before = before; after = after }
+
+-- the files where so many were opened
+abbrev pub opened_times : ℕ → FileState → FileState
+opened_times zero s = s
+opened_times (suc n) s = one_more true (opened_times n s)
+
+-- so many files were opened, none was refused, and nothing else was done
+abbrev pub Opened : ℕ → FileUse → Type 0
+Opened n files = files.after ≡ opened_times n files.before
+
+-- so many files were opened, then one was refused, and none was tried behind it
+abbrev pub RefusedBehind : ℕ → FileUse → Type 0
+RefusedBehind n files = files.after ≡ one_more false (opened_times n files.before)
+
+-- so many files or fewer were opened, and none was refused
+abbrev pub OpensFront : ℕ → FileUse → Type 0
+OpensFront most files = (n : ℕ) × (n ≤ most) × Opened n files
+
+-- ---- outputs that take the place of a file
+
+-- nothing was written to the output, and no call of it has failed
+pub record IsFresh (output : Drained) : Type 0 where
+  pub sent : output.sent ≡ 0
+  pub sound : output.failures ≡ 0
+  pub empty : IfSome output.taken (λ bytes. bytes ≡ [])
+
+-- one more try to begin an output
+abbrev pub with_begin : Bool → Counts → Counts
+with_begin true c = record c { begun = saturated (c.begun + 1) }
+with_begin false c = c
+
+abbrev pub begun : Bool → FileState → FileState
+begun is_begun s = record s { counts = with_begin is_begun s.counts }
+
+-- one more output that took the place of a file or was taken away
+abbrev pub with_end : Bool → Counts → Counts
+with_end true c = record c { kept = saturated (c.kept + 1) }
+with_end false c = record c { discarded = saturated (c.discarded + 1) }
+
+abbrev pub ended : Bool → FileState → FileState
+ended is_kept s = record s { counts = with_end is_kept s.counts }
+
+-- the file of this path holds all that the output took, where that is known; that is counted
+pub record Keeps (path : List ℕ) (taken : Option (List ℕ)) (old new : FileState) : Type 0 where
+  pub holds : IfSome (new.contents path) (λ bytes. taken ≡ Some bytes)
+  pub counted : new.counts ≡ with_end true old.counts

@@ -1,0 +1,508 @@
+#!/usr/bin/env python3
+"""Has the program write files by `--output`, and shows that FILE is replaced whole or stays as it was, and that nothing is left beside it:
+
+    scripts/outputs.py                     the program of ./mapchain, which is proved and built first where it has to be
+    scripts/outputs.py path/to/mapchain    another program with the same commands
+
+What a run must write and say is what the same words do without the option. It prints a line for each thing that went otherwise, and
+at its end how much was tried. The status is 0 where all went well. It takes some ten seconds, and a few MB of disk.
+"""
+import contextlib
+import os
+import re
+import resource
+import signal
+import socket
+import stat
+import subprocess
+import sys
+import tempfile
+import time
+
+ROOT = os.path.dirname(os.path.dirname(os.path.realpath(__file__)))
+PROGRAM_PATH = [f"{ROOT}/scripts/program-path.sh"]
+PROGRAM = os.path.abspath(sys.argv[1]) if len(sys.argv) > 1 else subprocess.check_output(PROGRAM_PATH, text=True).rstrip("\n")
+IS_ROOT = os.geteuid() == 0
+counts = {"tried": 0, "otherwise": 0}
+
+
+def expect(name, wanted, found):
+    """Notes what was tried, and prints it where it isn't as it should be."""
+    counts["tried"] += 1
+    if wanted != found:
+        counts["otherwise"] += 1
+        print(f"{name}: {shortened(found)}, not {shortened(wanted)}", flush=True)
+
+
+def shortened(value):
+    text = repr(value)
+    return text if len(text) <= 600 else f"{text[:600]}.."
+
+
+# ---- folders
+
+LINE = b'{"type":"LineString","coordinates":[[0,0],[1.5,0.25]]}'
+LINE_TOPOLOGY = (
+    b'{"type":"Topology","bbox":[0,0,1.5,0.25],"objects":{"a":{"type":"GeometryCollection","geometries":'
+    b'[{"type":"LineString","arcs":[0]}]}},"arcs":[[[0,0],[1.5,0.25]]]}'
+)
+# Each command, with the code of its output's fault.
+COMMANDS = (
+    (["build", "a=line"], "B6"),
+    (["simplify", "topology"], "E5"),
+    (["geo", "--object", "a", "topology"], "E5"),
+    (["stat", "topology"], "E5"),
+)
+OLD = b"the old bytes"
+
+
+def write(path, what, mode=0o644):
+    with open(path, "wb") as file:
+        file.write(what)
+    os.chmod(path, mode)
+
+
+def write_many():
+    """A layer and its topology of some 200 KB each, so that the program's buffers of 64 KiB fill often."""
+    points = b",".join(b'{"type":"Point","coordinates":[%d,%d]}' % (i % 1000, i // 1000) for i in range(5000))
+    write("many", b'{"type":"GeometryCollection","geometries":[%s]}' % points)
+    write("many-topology", plain(["build", "a=many"])[1])
+
+
+@contextlib.contextmanager
+def new_folder():
+    """Goes to a new folder with a layer, a topology and two files that are refused."""
+    with tempfile.TemporaryDirectory() as folder:
+        os.chdir(folder)
+        write("line", LINE)
+        write("topology", LINE_TOPOLOGY)
+        write("no-json", b"{")
+        write("no-map", b"{}")
+        yield
+        os.chdir("/")
+
+
+def what_is(path):
+    """The kind of a path, its permissions, and the bytes of a file or where a link goes."""
+    mode = os.lstat(path).st_mode
+    what = None
+    if stat.S_ISLNK(mode):
+        what = os.readlink(path)
+    elif stat.S_ISREG(mode):
+        with open(path, "rb") as file:
+            what = file.read()
+    return stat.S_IFMT(mode), stat.S_IMODE(mode), what
+
+
+def held():
+    """All paths in the folder and what they are."""
+    paths = (os.path.join(at, name) for at, folders, files in os.walk(".") for name in folders + files)
+    return {os.path.relpath(path): what_is(path) for path in paths}
+
+
+# ---- runs
+
+
+def plain(words):
+    """The status, standard output and standard error of a run without the option."""
+    run = subprocess.run([PROGRAM, *words], capture_output=True, timeout=120)
+    return run.returncode, run.stdout, run.stderr
+
+
+def write_fault(code, sent):
+    return f"error: {code} Write sent {sent}\n".encode()
+
+
+def try_run(name, words, wanted, changed=(), **how):
+    """A run that ends with this status and standard error and leaves standard output empty, with the folder as it was but for the
+    files that are changed: their paths, bytes and permissions."""
+    expect_end(name, wanted, held(), changed, lambda: subprocess.run([PROGRAM, *words], capture_output=True, timeout=120, **how))
+
+
+def expect_end(name, wanted, before, changed, run):
+    ended = run()
+    status, error = wanted
+    expect(name, (status, b"", error), (ended.returncode, ended.stdout, ended.stderr))
+    expect_held(name, before, changed)
+
+
+def expect_held(name, before, changed=()):
+    """The folder is as it was, but for the files that are changed."""
+    wanted = {**before, **{path: (stat.S_IFREG, mode, what) for path, what, mode in changed}}
+    found = held()
+    for path in sorted(wanted.keys() | found.keys()):
+        expect(f"{name}: {path}", wanted.get(path), found.get(path))
+
+
+def try_done(name, words, path, mode, target=None, **how):
+    """A run that is done: the file of this path, or the one that it links to, has the output and these permissions."""
+    status, output, error = plain(words)
+    expect(f"{name}, without --output", 0, status)
+    try_run(name, [*words, "--output", path], (0, error), [(target or path, output, mode)], **how)
+
+
+def try_not_begun(name, path, **how):
+    """A run whose output can't be begun says so by each command, and changes nothing."""
+    for words, code in COMMANDS:
+        try_run(f"{name}, {words[0]}", [*words, "--output", path], (3, write_fault(code, 0)), **how)
+
+
+# ---- outputs that are done
+
+
+def try_new_files():
+    with new_folder():
+        expect("the topology of a line", (0, LINE_TOPOLOGY), plain(["build", "a=line"])[:2])
+        for words, _ in COMMANDS:
+            _, output, error = plain(words)
+            for number, option in enumerate((["-o", "{}"], ["--output", "{}"], ["--output={}"], ["-o{}"])):
+                path = f"{words[0]}-{number}"
+                asked = [word.format(path) for word in option]
+                name = " ".join([*words, *asked])
+                try_run(name, [*words, *asked], (0, error), [(path, output, 0o644)], umask=0o022)
+                asked = [word.format(f"first-{path}") for word in option]
+                name = " ".join([words[0], *asked, *words[1:]])
+                try_run(name, [words[0], *asked, *words[1:]], (0, error), [(f"first-{path}", output, 0o644)], umask=0o022)
+        try_done("a new file for its owner alone", ["build", "a=line"], "private", 0o600, umask=0o077)
+        os.mkdir("below")
+        try_done("a new file in another folder", ["build", "a=line"], "below/new", 0o644, umask=0o022)
+        try_done("a new file by its whole path", ["build", "a=line"], os.path.abspath("whole"), 0o644, "whole", umask=0o022)
+        try_done("a name with blanks, quotes and letters", ["build", "a=line"], 'b l "ä{}%s', 0o644, umask=0o022)
+        try_done("a name that begins with a dot", ["build", "a=line"], ".hidden", 0o644, umask=0o022)
+
+
+def try_old_files():
+    with new_folder():
+        for words, _ in COMMANDS:
+            for mode in (0o600, 0o644, 0o755, 0o664):
+                for what in (b"", OLD, OLD * 100000):
+                    write("old", what, mode)
+                    try_done(f"{words[0]} over a file of {len(what)} bytes", words, "old", mode, umask=0o022)
+                    write("old", what, mode)
+                    try_done(f"{words[0]} over a file of {len(what)} bytes, for its owner", words, "old", mode, umask=0o077)
+        write("old", OLD)
+        os.link("old", "second-name")
+        try_done("a file with two names", ["build", "a=line"], "old", 0o644)
+
+
+def try_links():
+    with new_folder():
+        os.makedirs("below/deeper")
+        write("below/target", OLD, 0o640)
+        for path, goes_to in (
+            ("link", "below/target"),
+            ("whole", os.path.abspath("below/target")),
+            ("link-to-link", "link"),
+            ("below/deeper/up", "../target"),
+        ):
+            os.symlink(goes_to, path)
+            write("below/target", OLD, 0o640)
+            try_done(f"a link to {goes_to}", ["build", "a=line"], path, 0o640, "below/target")
+        os.symlink("below", "folder-link")
+        try_done("a file behind a link to a folder", ["build", "a=line"], "folder-link/target", 0o640, "below/target")
+        os.symlink("line", "line-link")
+        try_done("an input's link as its output", ["build", "a=line"], "line-link", 0o644, "line")
+        for path, goes_to in (("to-nothing", "nothing"), ("round", "round"), ("to-folder", "below")):
+            os.symlink(goes_to, path)
+            try_not_begun(f"a link to {goes_to}", path)
+
+
+def try_own_inputs():
+    with new_folder():
+        write_many()
+        for words, own in (
+            (["build", "a=line"], "line"),
+            (["build", "a=line", "b=line", "c=many"], "line"),
+            (["build", "a=many"], "many"),
+            (["simplify", "many-topology"], "many-topology"),
+            (["geo", "--object", "a", "many-topology"], "many-topology"),
+            (["stat", "many-topology"], "many-topology"),
+        ):
+            before = what_is(own)
+            try_done(f"{' '.join(words)} as its own output", words, own, 0o644)
+            write(own, before[2])
+
+
+# ---- outputs that can't be begun
+
+
+def try_what_is_no_file():
+    with new_folder():
+        os.mkdir("below")
+        os.mkfifo("pipe")
+        with socket.socket(socket.AF_UNIX) as listening:
+            listening.bind("socket")
+        try_not_begun("a folder that isn't there", "missing/new")
+        for path in (".", "..", "below", "below/", "below/.", "pipe", "socket", "line/", "line/new", "missing/", "", "x" * 255, "x" * 5000):
+            try_not_begun(f"{path[:20]!r} as output", path)
+        if not IS_ROOT:
+            try_not_begun("a device", "/dev/null")
+            os.chmod("below", 0o555)
+            try_not_begun("a folder that can't be written", "below/new")
+            os.chmod("below", 0o755)
+            return
+        # Who is root would harm the machine by a device of its own, where the program didn't refuse it.
+        with contextlib.suppress(PermissionError):
+            os.mknod("device", stat.S_IFCHR | 0o666, os.makedev(1, 3))
+            try_not_begun("a device", "device")
+
+
+def try_parts_of_others():
+    with new_folder():
+        write("old", OLD, 0o640)
+        write("old.0.part", b"a part", 0o600)
+        try_done("one part of another run", ["build", "a=line"], "old", 0o640)
+        os.mkdir("old.1.part")
+        os.symlink("nothing", "old.2.part")
+        os.symlink("line", "old.3.part")
+        os.mkfifo("old.4.part")
+        try_done("parts of every kind", ["build", "a=line"], "old", 0o640)
+        try_run("parts of others, and a refused file", ["build", "a=no-json", "-o", "old"], plain(["build", "a=no-json"])[::2])
+        for number in range(1000):
+            if not os.path.lexists(f"old.{number}.part"):
+                write(f"old.{number}.part", b"")
+        try_run("1000 parts of other runs", ["build", "a=line", "-o", "old"], (3, write_fault("B6", 0)))
+
+
+# ---- runs that are refused
+
+REFUSED = (
+    (2, ["no-command"]),
+    (2, ["build"]),
+    (2, ["build", "line"]),
+    (2, ["build", "--grid", "1", "a=line"]),
+    (2, ["build", "--keep", "1/2", "--min-area", "1", "a=line"]),
+    (2, ["build", "--min-area", "x", "a=line"]),
+    (2, ["build", "--min-ring-area", "x", "a=line"]),
+    (2, ["build", "--keep", "x", "a=line"]),
+    (2, ["build", "=line"]),
+    (2, ["build", "a=line", "a=line"]),
+    (2, ["simplify", "--min-area", "x", "topology"]),
+    (2, ["simplify", "--min-ring-area", "x", "topology"]),
+    (2, ["geo", "topology"]),
+    (3, ["build", "a=missing"]),
+    (3, ["build", "a=line", "b=missing"]),
+    (3, ["build", "a=line", "b=."]),
+    (3, ["simplify", "missing"]),
+    (3, ["geo", "--object", "a", "missing"]),
+    (3, ["stat", "missing"]),
+    (1, ["build", "a=no-json"]),
+    (1, ["build", "a=no-map"]),
+    (1, ["build", "a=line", "b=no-json"]),
+    (1, ["simplify", "no-json"]),
+    (1, ["simplify", "no-map"]),
+    (1, ["geo", "--object", "a", "no-json"]),
+    (1, ["geo", "--object", "b", "topology"]),
+    (1, ["stat", "no-map"]),
+)
+
+
+def try_refused():
+    with new_folder():
+        write("old", OLD, 0o640)
+        os.symlink("old", "link")
+        for wanted, words in REFUSED:
+            status, _, error = plain(words)
+            expect(f"{' '.join(words)}, without --output", wanted, status)
+            paths = ("new", "old", "link", "line", "topology", "no-json")
+            for path in paths if words != ["no-command"] else ():
+                name = f"{' '.join(words)} to {path}"
+                before = held()
+                run = subprocess.run([PROGRAM, *words, "-o", path], capture_output=True, timeout=120)
+                # Usage that clap writes may name the options that were given.
+                is_usage = b"Usage:" in error
+                found = b"Usage:" in run.stderr if is_usage else run.stderr
+                expect(name, (status, b"", True if is_usage else error), (run.returncode, run.stdout, found))
+                expect_held(name, before)
+        for words in (["no-command", "-o", "old"], ["build", "a=line", "-o"], ["build", "a=line", "-o", "old", "-o", "new"]):
+            before = held()
+            run = subprocess.run([PROGRAM, *words], capture_output=True, timeout=120)
+            expect(" ".join(words), (2, b""), (run.returncode, run.stdout))
+            expect_held(" ".join(words), before)
+
+
+# ---- outputs that fail on the way
+
+
+def room_for(size):
+    """Lets a process write no file beyond this size: the write that would do so fails, as it does on a full disk."""
+
+    def limit():
+        signal.signal(signal.SIGXFSZ, signal.SIG_IGN)
+        resource.setrlimit(resource.RLIMIT_FSIZE, (size, size))
+
+    return limit
+
+
+def try_full_disks():
+    with new_folder():
+        write("old", OLD, 0o640)
+        os.symlink("old", "link")
+        for words, code in COMMANDS:
+            _, output, error = plain(words)
+            # The program's buffer has 64 KiB, so that it takes a small output whole before the disk is asked.
+            fault = write_fault(code, len(output))
+            for room in (0, 1, len(output) - 1):
+                for path in ("new", "old", "link", words[-1].removeprefix("a=")):
+                    name = f"{words[0]} to {path}, and room for {room} bytes"
+                    try_run(name, [*words, "-o", path], (3, fault), preexec_fn=room_for(room))
+            write("old", OLD, 0o640)
+            name = f"{words[0]}, and room for all"
+            try_run(name, [*words, "-o", "old"], (0, error), [("old", output, 0o640)], preexec_fn=room_for(len(output)))
+        write("old", OLD, 0o640)
+        try_large_on_full_disks()
+
+
+def try_large_on_full_disks():
+    write_many()
+    names = b",".join(b'"o%d":{"type":null}' % i for i in range(20000))
+    write("names", b'{"type":"Topology","objects":{%s},"arcs":[]}' % names)
+    many = (
+        (["build", "a=many"], "B6"),
+        (["simplify", "many-topology"], "E5"),
+        (["geo", "--object", "a", "many-topology"], "E5"),
+        (["stat", "names"], "E5"),
+    )
+    for words, code in many:
+        length = len(plain(words)[1])
+        for room in (0, 1, 65536, 65537, length - 65536, length - 1):
+            for path in ("new", "old", words[-1].removeprefix("a=")):
+                name = f"{' '.join(words)} to {path}, and room for {room} of {length} bytes"
+                before = held()
+                run = subprocess.run([PROGRAM, *words, "-o", path], capture_output=True, timeout=120, preexec_fn=room_for(room))
+                fault = re.fullmatch(rb"error: (..) Write sent (\d+)\n", run.stderr)
+                sent = int(fault[2]) if fault else -1
+                # What the disk took, and what the buffer still held.
+                is_right = room <= sent <= min(room + 65536, length)
+                expect(name, (3, b"", code.encode(), True), (run.returncode, run.stdout, fault and fault[1], is_right))
+                expect_held(name, before)
+
+
+# ---- runs that others see
+
+
+@contextlib.contextmanager
+def started(words, part):
+    """A run that waits for its input, with its new file begun under this name."""
+    run = subprocess.Popen([PROGRAM, *words], stdout=subprocess.PIPE, stderr=subprocess.PIPE)
+    try:
+        end = time.monotonic() + 10
+        while not os.path.lexists(part) and run.poll() is None and time.monotonic() < end:
+            time.sleep(0.01)
+        yield run
+    finally:
+        run.kill()
+        run.communicate()
+
+
+def feed(run, what):
+    """Writes the pipe that a run reads, and gives its status, its standard output and its standard error."""
+    end = time.monotonic() + 10
+    while run.poll() is None and time.monotonic() < end:
+        # (opened without waiting, since a run that has ended already would never read)
+        with contextlib.suppress(OSError), os.fdopen(os.open("pipe", os.O_WRONLY | os.O_NONBLOCK), "wb") as pipe:
+            pipe.write(what)
+            break
+        time.sleep(0.01)
+    with contextlib.suppress(subprocess.TimeoutExpired):
+        run.wait(timeout=60)
+    return (run.returncode, run.stdout.read(), run.stderr.read()) if run.returncode is not None else None
+
+
+def try_while_it_runs():
+    words = ["build", "a=pipe", "-o"]
+    with new_folder():
+        report = plain(["build", "a=line"])[2]
+        os.mkfifo("pipe")
+        write("old", OLD, 0o640)
+        before = held()
+        for path, what in (("old", before["old"]), ("new", None)):
+            with started([*words, path], f"{path}.0.part") as run:
+                expect(f"{path} while a run writes", what, what_is(path) if os.path.lexists(path) else None)
+                expect(f"the part of {path}", True, os.path.lexists(f"{path}.0.part"))
+                expect(f"a run to {path} that waits", (0, b"", report), feed(run, LINE))
+        expect_held("a run that waits", before, [("old", LINE_TOPOLOGY, 0o640), ("new", LINE_TOPOLOGY, 0o644)])
+        before = held()
+        with started([*words, "made"], "made.0.part") as run:
+            with contextlib.suppress(FileExistsError):
+                os.mkdir("made")
+            expect("a folder made meanwhile", (3, b"", write_fault("B6", len(LINE_TOPOLOGY))), feed(run, LINE))
+        with contextlib.suppress(OSError):
+            os.rmdir("made")
+        expect_held("a folder made meanwhile", before)
+
+
+def try_killed_runs():
+    with new_folder():
+        os.mkfifo("pipe")
+        write("old", OLD, 0o640)
+        before = held()
+        for number in range(3):
+            # A part that a killed run left keeps its name.
+            part = f"old.{number}.part"
+            with started(["build", "a=pipe", "-o", "old"], part):
+                pass
+            # (a run may be killed before the part has its permissions)
+            with contextlib.suppress(FileNotFoundError):
+                os.chmod(part, 0o640)
+            expect_held(f"killed run {number}", before, [(part, b"", 0o640)])
+            before = held()
+        try_done("a run behind killed ones", ["build", "a=line"], "old", 0o640)
+
+
+def try_at_once():
+    with new_folder():
+        write("old", OLD, 0o640)
+        before = held()
+        report = plain(["build", "a=line"])[2]
+        words = [PROGRAM, "build", "a=line", "-o", "old"]
+        runs = [subprocess.Popen(words, stdout=subprocess.PIPE, stderr=subprocess.PIPE) for _ in range(20)]
+        for number, run in enumerate(runs):
+            output, error = run.communicate(timeout=120)
+            expect(f"run {number} of twenty at once", (0, b"", report), (run.returncode, output, error))
+        expect_held("twenty runs at once", before, [("old", LINE_TOPOLOGY, 0o640)])
+
+
+def try_closed_streams():
+    """A stream that is closed leaves its number to the next file that is opened: what was meant for it must not get there."""
+    with new_folder():
+        for redirected in ("<&-", ">&-", "2>&-", "<&- >&- 2>&-", ">/dev/full", "2>/dev/full"):
+            for words, _ in COMMANDS:
+                write("old", OLD, 0o640)
+                status, output, _ = plain(words)
+                before = held()
+                script = f'"$0" "$@" {redirected}'
+                run = subprocess.run(["sh", "-c", script, PROGRAM, *words, "-o", "old"], capture_output=True, timeout=120)
+                name = f"{' '.join(words)} {redirected}"
+                expect(name, (0, b""), (run.returncode, run.stdout))
+                expect_held(name, before, [("old", output, 0o640)])
+                write("old", OLD, 0o640)
+                before = held()
+                run = subprocess.run(["sh", "-c", script, PROGRAM, "build", "a=no-json", "-o", "old"], capture_output=True, timeout=120)
+                expect(f"a refused file {redirected}", (1, b""), (run.returncode, run.stdout))
+                expect_held(f"a refused file {redirected}", before)
+
+
+def main():
+    os.umask(0o022)
+    for each in (
+        try_new_files,
+        try_old_files,
+        try_links,
+        try_own_inputs,
+        try_what_is_no_file,
+        try_parts_of_others,
+        try_refused,
+        try_full_disks,
+        try_while_it_runs,
+        try_killed_runs,
+        try_at_once,
+        try_closed_streams,
+    ):
+        each()
+    print(f"{counts['tried']} tried, {counts['otherwise']} went otherwise")
+    sys.exit(1 if counts["otherwise"] else 0)
+
+
+if __name__ == "__main__":
+    main()

@@ -158,6 +158,8 @@ def report(arcs, kept, drops=(), removed=0):
     return f"rounded 0\nextra 0\nempty 0\ndropped {len(drops)}\n{dropped}arcs {arcs}\nkept {kept}\nremoved {removed}\n"
 
 
+# The file of an output that goes to a file.
+OUTPUT = "output"
 SMALL = ("0 0 1 small", "0 1 0 small")
 BUILD, FILE = "error: B7 Memory\n", "error: E6 Memory\n"
 RUNS = (
@@ -172,7 +174,11 @@ RUNS = (
     ("simplify --min-area 1 full.topojson", 0, LAND_TOPOLOGY, report(2, 7, SMALL), FILE),
     ("geo --object a line.topojson", 0, layer(("LineString", "[[0,0],[1.5,0.25]]")), "", FILE),
     ("stat less.topojson", 0, 'objects 1\n"land" 3\narcs 2\npositions 7\ngrid no\n', "", FILE),
+    (f"build -o {OUTPUT} a=line.json", 0, LINE_TOPOLOGY, report(1, 2), BUILD),
+    (f"geo --object=a --output={OUTPUT} line.topojson", 0, layer(("LineString", "[[0,0],[1.5,0.25]]")), "", FILE),
 )
+# What is told where memory is refused before an output to a file is begun.
+UNBEGUN = ("error: B6 Write sent 0\n", "error: E5 Write sent 0\n")
 
 
 class Refusing:
@@ -185,8 +191,9 @@ class Refusing:
         subprocess.run(words, input=REFUSING.encode(), check=True)
 
     def run(self, words, number):
-        """The status, standard output and standard error, and the allocation of this number, if it was asked for: what it was, how many
-        bytes, and how many files were open before."""
+        """The status, standard output or the file of the output, standard error, and the allocation of this number, if it was asked for:
+        what it was, how many bytes, and how many files were open before. No other file may be there behind the run."""
+        before = {*os.listdir(self.folder), "told"}
         with open(f"{self.folder}/told", "wb") as told:
             file = told.fileno()
             env = {"LD_PRELOAD": self.library, "REFUSED_ALLOCATION": str(number), "REFUSED_TOLD": str(file)}
@@ -194,13 +201,21 @@ class Refusing:
         with open(f"{self.folder}/told") as told:
             kind, *numbers = told.read().split() or [None]
         refused = kind and (kind, *map(int, numbers))
-        return ended.returncode, ended.stdout.decode(), ended.stderr.decode(), refused
+        output = ended.stdout.decode()
+        if os.path.exists(f"{self.folder}/{OUTPUT}"):
+            with open(f"{self.folder}/{OUTPUT}") as file:
+                output += file.read()
+            os.remove(f"{self.folder}/{OUTPUT}")
+        if {*os.listdir(self.folder)} != before:
+            output += "and left a file behind"
+        return ended.returncode, output, ended.stderr.decode(), refused
 
 
 def is_dispensable(words, refused):
     """Whether a run of this command can do without this allocation."""
     kind, size, opened = refused
-    is_of_names = kind == "new" and size in NAME_SET and words[0] == "build" and opened == sum("=" in it for it in words)
+    files = sum("=" in it for it in words) + (OUTPUT in words)
+    is_of_names = kind == "new" and size in NAME_SET and words[0] == "build" and opened == files
     return kind == SHRINKING or refused == WORDS_LIST or is_of_names
 
 
@@ -213,7 +228,7 @@ def fail(words, number, ended):
 def refuse_each(refusing, program, run):
     """Refuses each allocation of a run of the program, and prints how the runs ended."""
     words, status, output, error, memory = run
-    counts = {"answered": 0, "told": 0, "silent": 0}
+    counts = {"answered": 0, "told": 0, "silent": 0, "unbegun": 0}
     number = 1
     while True:
         ended = refusing.run([program, *words.split()], number)
@@ -227,12 +242,15 @@ def refuse_each(refusing, program, run):
             counts["told"] += 1
         elif ended[:3] == (3, "", "") and ended[3]:
             counts["silent"] += 1
+        elif OUTPUT in words and ended[:2] == (3, "") and ended[2] in UNBEGUN and ended[3]:
+            counts["unbegun"] += 1
         else:
             fail(words, number, ended)
         number += 1
     print(
         f"{words}: {number - 1} allocations, each refused once: {counts['told']} runs ended in {memory.strip()!r}, "
         f"{counts['silent']} in status 3 with no line, {counts['answered']} in the answer"
+        + (f", {counts['unbegun']} before the output was begun" if counts["unbegun"] else "")
     )
     return number - 1
 

@@ -1,0 +1,3 @@
+pub mod Forms
+pub mod Places
+pub mod Numbers

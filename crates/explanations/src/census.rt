@@ -1,0 +1,209 @@
+// What a feature is made of, counted.
+use crate::bounds::{Bounds, has_elements, has_outer};
+use geojson_model::{CoordinatesType, GeometryType, geometry_type};
+use json_members::{find, need_text};
+use json_value::{Json, OwnText};
+
+/// How deep the collections of geometries are looked into. No value that is read nests deeper.
+pub(crate) const DEEPEST: u32 = 255;
+
+/// The objects of a layer (RFC 7946, section 1.4), which have members of their own.
+#[derive(Clone, Copy, Debug)]
+pub(crate) enum ObjectKind {
+    Layer,
+    Feature,
+    Geometry,
+    Collection,
+}
+
+/// Whether a member of this name is read of such an object.
+fn is_read(kind: ObjectKind, name: &str) -> bool {
+    match kind {
+        ObjectKind::Layer => matches!(name, "type" | "features"),
+        ObjectKind::Feature => matches!(name, "type" | "id" | "properties" | "geometry"),
+        ObjectKind::Geometry => matches!(name, "type" | "coordinates"),
+        ObjectKind::Collection => matches!(name, "type" | "geometries"),
+    }
+}
+
+/// Members that a layer has and that aren't read, counted.
+#[derive(Clone, Copy, Debug)]
+pub(crate) struct LeftOut {
+    pub(crate) bbox: u64,
+    pub(crate) crs: u64,
+    pub(crate) others: u64,
+}
+
+impl LeftOut {
+    pub(crate) fn none() -> LeftOut {
+        LeftOut {
+            bbox: 0,
+            crs: 0,
+            others: 0,
+        }
+    }
+
+    /// With the member of this name.
+    fn count(&mut self, name: &str) {
+        if name == "bbox" {
+            self.bbox = self.bbox.saturating_add(1);
+        } else if name == "crs" {
+            self.crs = self.crs.saturating_add(1);
+        } else {
+            self.others = self.others.saturating_add(1);
+        }
+    }
+
+    /// With those members of an object that aren't read.
+    pub(crate) fn count_unread(&mut self, kind: ObjectKind, members: &[(OwnText, Json)]) {
+        for member in members {
+            let name = member.0.as_str();
+            if !is_read(kind, name) {
+                self.count(name);
+            }
+        }
+    }
+}
+
+/// How many of these lines aren't empty.
+fn lines_in(values: &[Json]) -> u64 {
+    let mut lines: u64 = 0;
+    for value in values {
+        if has_elements(value) {
+            lines = lines.saturating_add(1);
+        }
+    }
+    lines
+}
+
+/// How many rings a polygon has, which has none where its first is empty.
+fn rings_in(values: &[Json]) -> u64 {
+    if has_outer(values) {
+        lines_in(values)
+    } else {
+        0
+    }
+}
+
+/// How many rings these polygons have.
+fn polygon_rings_in(values: &[Json]) -> u64 {
+    let mut rings: u64 = 0;
+    for value in values {
+        if let Some(polygon) = value.as_array() {
+            rings = rings.saturating_add(rings_in(polygon));
+        }
+    }
+    rings
+}
+
+/// How many lines and rings a geometry of this type with this value as `coordinates` or `arcs` has.
+fn lines_of(coordinates: CoordinatesType, value: &Json) -> u64 {
+    let Some(values) = value.as_array() else {
+        return 0;
+    };
+    match coordinates {
+        CoordinatesType::Point => 0,
+        CoordinatesType::MultiPoint => 0,
+        CoordinatesType::LineString => u64::from(!values.is_empty()),
+        CoordinatesType::MultiLineString => lines_in(values),
+        CoordinatesType::Polygon => rings_in(values),
+        CoordinatesType::MultiPolygon => polygon_rings_in(values),
+    }
+}
+
+/// Whether such a geometry has points.
+fn has_points(coordinates: CoordinatesType, value: &Json) -> bool {
+    match coordinates {
+        CoordinatesType::Point => has_elements(value),
+        CoordinatesType::MultiPoint => has_elements(value),
+        _ => false,
+    }
+}
+
+/// What geometries are made of, counted.
+#[derive(Clone, Copy, Debug)]
+pub(crate) struct Census {
+    /// Their lines and rings.
+    pub(crate) lines: u64,
+    /// Whether a Point or a MultiPoint with positions is among them.
+    pub(crate) has_points: bool,
+    pub(crate) left_out: LeftOut,
+    pub(crate) bounds: Bounds,
+    /// Whether they are of a topology, whose lines are `arcs`.
+    is_topology: bool,
+}
+
+impl Census {
+    /// Nothing counted yet, and these bounds of what was read before.
+    pub(crate) fn over(bounds: Bounds, is_topology: bool) -> Census {
+        Census {
+            lines: 0,
+            has_points: false,
+            left_out: LeftOut::none(),
+            bounds,
+            is_topology,
+        }
+    }
+
+    /// Goes on to the next feature, whose lines are counted anew.
+    pub(crate) fn begin_feature(&mut self) {
+        self.lines = 0;
+        self.has_points = false;
+    }
+
+    /// With the geometry of this type that this value makes, which is its `coordinates`, or its `arcs` in a topology.
+    fn count_part(&mut self, coordinates: CoordinatesType, value: &Json) {
+        self.lines = self.lines.saturating_add(lines_of(coordinates, value));
+        self.has_points = self.has_points || has_points(coordinates, value);
+        self.bounds.widen_by_geometry(coordinates, value);
+    }
+
+    /// The name of the member that such a geometry is made of.
+    fn part_name(&self, coordinates: CoordinatesType) -> &'static str {
+        match coordinates {
+            CoordinatesType::Point => "coordinates",
+            CoordinatesType::MultiPoint => "coordinates",
+            _ if self.is_topology => "arcs",
+            _ => "coordinates",
+        }
+    }
+
+    /// With the geometry of this type with these members.
+    fn count_simple(&mut self, coordinates: CoordinatesType, members: &[(OwnText, Json)]) {
+        self.left_out.count_unread(ObjectKind::Geometry, members);
+        if let Ok(Some(value)) = find(members, self.part_name(coordinates)) {
+            self.count_part(coordinates, value);
+        }
+    }
+
+    /// With the geometry of these members, and those in it where it is a collection.
+    pub(crate) fn count_geometry(&mut self, members: &[(OwnText, Json)], depth_left: u32) {
+        let Ok(name) = need_text(members, "type") else {
+            return;
+        };
+        match geometry_type(name) {
+            None => {}
+            Some(GeometryType::Coordinates(coordinates)) => {
+                self.count_simple(coordinates, members);
+            }
+            Some(GeometryType::Collection) => {
+                self.left_out.count_unread(ObjectKind::Collection, members);
+                for value in parts_of(members) {
+                    if let Some(inner) = value.as_object() {
+                        if depth_left > 0 {
+                            self.count_geometry(inner, depth_left - 1);
+                        }
+                    }
+                }
+            }
+        }
+    }
+}
+
+/// The geometries of a collection with these members, or none where they aren't there.
+pub(crate) fn parts_of(members: &[(OwnText, Json)]) -> &[Json] {
+    match find(members, "geometries") {
+        Ok(Some(Json::Array(values))) => values.as_slice(),
+        _ => &[],
+    }
+}

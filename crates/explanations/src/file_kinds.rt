@@ -1,0 +1,30 @@
+// Why a file isn't read.
+use crate::escaping::shown;
+use std::alloc::{AllocError, Global};
+
+/// What the system says of a path.
+#[derive(Clone, Copy, Debug, PartialEq, Eq)]
+pub enum FileKind {
+    /// A file whose bytes can be read again.
+    Regular,
+    /// There is nothing of this name.
+    Missing,
+    /// A folder.
+    Folder,
+    /// The system doesn't let this user read it.
+    NotAllowed,
+    /// A device, a pipe, or what the system says nothing of.
+    Other,
+}
+
+/// Why the file of this path isn't read.
+pub fn unopened(alloc: Global, path: &str, kind: FileKind) -> Result<String, AllocError> {
+    let path = shown(alloc, path)?;
+    match kind {
+        FileKind::Missing => format!(in alloc; "  {path}: no such file\n"),
+        FileKind::Folder => format!(in alloc; "  {path}: a folder, not a file\n"),
+        FileKind::NotAllowed => format!(in alloc; "  {path}: no permission to read it\n"),
+        FileKind::Regular => format!(in alloc; "  {path}: could not be read\n"),
+        FileKind::Other => format!(in alloc; "  {path}: could not be read\n"),
+    }
+}

@@ -1,0 +1,226 @@
+// The features of which nothing is left, and the members of layers that aren't read.
+use crate::bounds::Bounds;
+use crate::census::{Census, DEEPEST, LeftOut, ObjectKind, parts_of};
+use crate::escaping::quoted;
+use crate::labels::label;
+use crate::trees::{objects_of, tree};
+use geojson_model::{Address, Dropped, GeoJsonType, geojson_type};
+use json_members::{find, need_text};
+use json_reading::{LAYER_DEPTH, TOPOLOGY_DEPTH};
+use json_value::{Json, OwnText};
+use std::alloc::{AllocError, Global};
+
+/// The lines that are dropped and aren't told of yet, in reading order.
+#[derive(Drop)]
+struct DropsLeft<'a> {
+    rest: &'a [Dropped],
+}
+
+impl<'a> DropsLeft<'a> {
+    /// Takes those of this feature and all before it, and counts those of this feature.
+    fn take(&mut self, layer: usize, feature: usize) -> u64 {
+        let mut taken: u64 = 0;
+        let mut rest = self.rest;
+        while let [first, more @ ..] = rest {
+            let address = &first.address;
+            if is_behind(address, layer, feature) {
+                break;
+            }
+            if address.layer == layer && address.feature == feature {
+                taken = taken.saturating_add(1);
+            }
+            rest = more;
+        }
+        self.rest = rest;
+        taken
+    }
+}
+
+/// Whether a line stands behind this feature in reading order.
+fn is_behind(address: &Address, layer: usize, feature: usize) -> bool {
+    address.layer > layer || (address.layer == layer && address.feature > feature)
+}
+
+/// Adds a line where the feature of this census had lines, and all of them are dropped. `place` is what it is called.
+fn add_loss(
+    alloc: Global,
+    lines: &mut String,
+    census: &Census,
+    dropped: u64,
+    members: &[(OwnText, Json)],
+    place: &str,
+) -> Result<(), AllocError> {
+    if census.has_points || census.lines == 0 || census.lines != dropped {
+        return Ok(());
+    }
+    let label = label(alloc, members)?;
+    let line = format!(in alloc; "  {place}{label}: nothing of its geometry is left\n")?;
+    lines.push_str(line.as_str())
+}
+
+/// With the member `geometry` of a feature with these members.
+fn count_feature(census: &mut Census, members: &[(OwnText, Json)]) {
+    census.begin_feature();
+    census.left_out.count_unread(ObjectKind::Feature, members);
+    if let Ok(Some(Json::Object(geometry))) = find(members, "geometry") {
+        census.count_geometry(geometry.as_slice(), DEEPEST);
+    }
+}
+
+/// Adds the lines of the features that these values are, in the layer of this number.
+fn add_features(
+    alloc: Global,
+    lines: &mut String,
+    census: &mut Census,
+    layer: usize,
+    values: &[Json],
+    drops: &mut DropsLeft<'_>,
+) -> Result<(), AllocError> {
+    for (feature, value) in values.iter().enumerate() {
+        if let Some(members) = value.as_object() {
+            count_feature(census, members);
+            let dropped = drops.take(layer, feature);
+            let place = format!(in alloc; "layer {layer}, feature {feature}")?;
+            add_loss(alloc, lines, census, dropped, members, place.as_str())?;
+        }
+    }
+    Ok(())
+}
+
+/// The elements of the member `features`.
+fn features_of(members: &[(OwnText, Json)]) -> &[Json] {
+    match find(members, "features") {
+        Ok(Some(Json::Array(values))) => values.as_slice(),
+        _ => &[],
+    }
+}
+
+/// Adds the lines of the layer that the object with these members is.
+fn add_layer(
+    alloc: Global,
+    lines: &mut String,
+    census: &mut Census,
+    layer: usize,
+    members: &[(OwnText, Json)],
+    drops: &mut DropsLeft<'_>,
+) -> Result<(), AllocError> {
+    let Ok(name) = need_text(members, "type") else {
+        return Ok(());
+    };
+    match geojson_type(name) {
+        None => return Ok(()),
+        Some(GeoJsonType::FeatureCollection) => {
+            census.left_out.count_unread(ObjectKind::Layer, members);
+            let values = features_of(members);
+            return add_features(alloc, lines, census, layer, values, drops);
+        }
+        Some(GeoJsonType::Feature) => count_feature(census, members),
+        Some(GeoJsonType::Geometry(_)) => census.count_geometry(members, DEEPEST),
+    }
+    let dropped = drops.take(layer, 0);
+    let place = format!(in alloc; "layer {layer}, feature 0")?;
+    let labelled = if name == "Feature" { members } else { &[] };
+    add_loss(alloc, lines, census, dropped, labelled, place.as_str())
+}
+
+/// The line for members that aren't read, if there are any.
+fn left_out_line(alloc: Global, layer: usize, left_out: &LeftOut) -> Result<String, AllocError> {
+    let bbox = left_out.bbox;
+    let crs = left_out.crs;
+    let others = left_out.others;
+    if bbox == 0 && crs == 0 && others == 0 {
+        return Ok(String::new(alloc));
+    }
+    format!(in alloc;
+        "  layer {layer}: left out \"bbox\" {bbox}, \"crs\" {crs}, other members {others}\n"
+    )
+}
+
+/// What became of the features of a layer that was built: a line for each that had lines or rings and no point, and of which all are
+/// dropped; and a line for the members that aren't read. `bounds` is widened by the layer's positions. `dropped` is in reading order.
+pub fn built_layer(
+    alloc: Global,
+    layer: usize,
+    _name: &str,
+    bytes: &[u8],
+    dropped: &[Dropped],
+    bounds: &mut Bounds,
+) -> Result<String, AllocError> {
+    let mut lines = String::new(alloc);
+    let Some(value) = tree(alloc, bytes, LAYER_DEPTH)? else {
+        return Ok(lines);
+    };
+    let Some(members) = value.as_object() else {
+        return Ok(lines);
+    };
+    let mut census = Census::over(*bounds, false);
+    let mut drops = DropsLeft { rest: dropped };
+    add_layer(alloc, &mut lines, &mut census, layer, members, &mut drops)?;
+    let line = left_out_line(alloc, layer, &census.left_out)?;
+    lines.push_str(line.as_str())?;
+    *bounds = census.bounds;
+    Ok(lines)
+}
+
+/// Adds a line for the feature with these members of an object of a topology, if nothing is left of it.
+fn add_topology_feature(
+    alloc: Global,
+    lines: &mut String,
+    object: (usize, &str),
+    feature: usize,
+    members: &[(OwnText, Json)],
+    drops: &mut DropsLeft<'_>,
+) -> Result<(), AllocError> {
+    let mut census = Census::over(Bounds::none(), true);
+    census.count_geometry(members, DEEPEST);
+    let dropped = drops.take(object.0, feature);
+    let name = object.1;
+    let place = format!(in alloc; "object {name}, feature {feature}")?;
+    add_loss(alloc, lines, &census, dropped, members, place.as_str())
+}
+
+/// Adds the lines of an object of a topology with these members.
+fn add_object(
+    alloc: Global,
+    lines: &mut String,
+    object: (usize, &str),
+    members: &[(OwnText, Json)],
+    drops: &mut DropsLeft<'_>,
+) -> Result<(), AllocError> {
+    if need_text(members, "type") != Ok("GeometryCollection") {
+        return add_topology_feature(alloc, lines, object, 0, members, drops);
+    }
+    for (feature, value) in parts_of(members).iter().enumerate() {
+        if let Some(inner) = value.as_object() {
+            add_topology_feature(alloc, lines, object, feature, inner, drops)?;
+        }
+    }
+    Ok(())
+}
+
+/// What became of the features of a topology that was simplified: a line for each that had lines or rings and no point, and of which
+/// all are dropped. `dropped` is in reading order.
+pub fn simplified_topology(
+    alloc: Global,
+    bytes: &[u8],
+    dropped: &[Dropped],
+) -> Result<String, AllocError> {
+    let mut lines = String::new(alloc);
+    let Some(value) = tree(alloc, bytes, TOPOLOGY_DEPTH)? else {
+        return Ok(lines);
+    };
+    let mut drops = DropsLeft { rest: dropped };
+    for (number, object) in objects_of(&value).iter().enumerate() {
+        if let Some(members) = object.1.as_object() {
+            let name = quoted(alloc, object.0.as_str())?;
+            add_object(
+                alloc,
+                &mut lines,
+                (number, name.as_str()),
+                members,
+                &mut drops,
+            )?;
+        }
+    }
+    Ok(lines)
+}

@@ -36,14 +36,14 @@ _mapchain() {
         before=${COMP_WORDS[at-1]}
     fi
     case $before in
-        --output | -o) _mapchain_files "$word"; return ;;
+        --output | --report | -o) _mapchain_files "$word"; return ;;
         --grid | --keep | --min-area | --min-ring-area | --object) return ;;
     esac
     case $command in
         '') _mapchain_words "$word" 'build simplify geo stat help --help --version' ;;
         build)
             case $word in
-                -*) _mapchain_words "$word" '--grid --min-area --keep --min-ring-area --exact -o --output --help' ;;
+                -*) _mapchain_words "$word" '--grid --min-area --keep --min-ring-area --exact -o --output --report --explain --help' ;;
                 *)
                     if [ "$before" = = ]; then
                         _mapchain_files "$word"
@@ -55,19 +55,19 @@ _mapchain() {
             ;;
         simplify)
             case $word in
-                -*) _mapchain_words "$word" '--min-area --min-ring-area -o --output --help' ;;
+                -*) _mapchain_words "$word" '--min-area --min-ring-area -o --output --report --explain --help' ;;
                 *) _mapchain_files "$word" ;;
             esac
             ;;
         geo)
             case $word in
-                -*) _mapchain_words "$word" '--object -o --output --help' ;;
+                -*) _mapchain_words "$word" '--object -o --output --report --explain --help' ;;
                 *) _mapchain_files "$word" ;;
             esac
             ;;
         stat)
             case $word in
-                -*) _mapchain_words "$word" '-o --output --help' ;;
+                -*) _mapchain_words "$word" '-o --output --report --explain --help' ;;
                 *) _mapchain_files "$word" ;;
             esac
             ;;

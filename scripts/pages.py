@@ -27,7 +27,7 @@ class Command:
         words, _, kept = line.removeprefix("$ mapchain").partition(" > ")
         self.words, self.kept = words.split(" ")[1:], kept
         self.status, self.output, self.error = 0, b"", b""
-        self.output_of = self.prefix_of = self.file = None
+        self.output_of = self.prefix_of = self.file = self.folder = None
         self.only_kept = self.on_devices = False
 
     def say(self, line):
@@ -42,6 +42,8 @@ class Command:
             self.only_kept = True
         elif match := re.fullmatch(r"# for each proper prefix of (.+)", line):
             self.prefix_of = match[1]
+        elif match := re.fullmatch(r"# for a folder (.+)", line):
+            self.folder = match[1]
         elif line.startswith("# for "):
             self.on_devices |= line != "# for one byte a call"
         elif line.startswith("# "):
@@ -110,15 +112,20 @@ def run(program, words, folder):
     return ended.returncode, ended.stdout, ended.stderr
 
 
+def as_it_stands(program, step, folder):
+    """Runs a command by its own words."""
+    return run(program, step.words, folder)
+
+
 def files_of(folder):
     """All files of a folder."""
-    return {path.name: path.read_bytes() for path in folder.iterdir()}
+    return {path.name: path.read_bytes() for path in folder.iterdir() if path.is_file()}
 
 
-def run_step(program, step, wanted, folder):
+def run_step(program, step, wanted, folder, run_command):
     """What a command wrote to standard output, and in words what it did that its page doesn't say: nothing where all went as it says."""
     files = files_of(folder)
-    status, output, error = run(program, step.words, folder)
+    status, output, error = run_command(program, step, folder)
     left = files_of(folder)
     if step.file and step.status == 0:
         files[step.file] = left.get(step.file) if step.only_kept else wanted
@@ -130,8 +137,8 @@ def run_step(program, step, wanted, folder):
     return output, told + (f", files not as wanted: {' '.join(others)}" if others else "")
 
 
-def run_page(program, page, folder):
-    """How many commands were run, and how many went otherwise."""
+def run_page(program, page, folder, run_command=as_it_stands):
+    """How many commands were run, each in this way, and how many went otherwise."""
     ran = otherwise = 0
     for step in steps_of(page.read_text()):
         if not isinstance(step, Command):
@@ -139,18 +146,25 @@ def run_page(program, page, folder):
             continue
         if step.on_devices:
             continue
+        if step.folder:
+            held = (folder / step.folder).read_bytes()
+            (folder / step.folder).unlink()
+            (folder / step.folder).mkdir()
         wanted = (folder / step.output_of).read_bytes() if step.output_of else step.output
         whole = (folder / step.prefix_of).read_bytes() if step.prefix_of else b""
         for length in range(len(whole)) if step.prefix_of else [None]:
             if length is not None:
                 (folder / step.prefix_of).write_bytes(whole[:length])
-            output, difference = run_step(program, step, wanted, folder)
+            output, difference = run_step(program, step, wanted, folder, run_command)
             ran += 1
             if difference:
                 otherwise += 1
                 print(f"{page.name}: {difference}")
         if step.prefix_of:
             (folder / step.prefix_of).write_bytes(whole)
+        if step.folder:
+            (folder / step.folder).rmdir()
+            (folder / step.folder).write_bytes(held)
         if step.kept:
             (folder / step.kept).write_bytes(output)
     return ran, otherwise

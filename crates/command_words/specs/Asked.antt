@@ -145,6 +145,37 @@ order_of words = where_none (kinds_of words) (option_and_then ordered_in (subcom
 abbrev pub output_of : List Text → Option Text
 output_of words = option_and_then (λ order. order.1) (order_of words)
 
+-- ---- what is said of a run beside its report or the line of its fault
+
+pub record Detail : Type 0 where
+  -- it is explained in words
+  pub explains : Bool
+  -- the file that a report of the run goes to, if any
+  pub report : Option Text
+
+-- what an order asks to be said
+abbrev pub detail : Order → Detail
+detail order = record { explains = order.explains; report = option_map (λ r. r.now) order.report }
+
+-- the file for the report of the run, if one is given
+abbrev pub report_in : List Row → Option Text
+report_in rows = first_of (codes "report") rows
+
+-- whether the run is explained
+abbrev pub explains_in : List Row → Bool
+explains_in rows = bytes_eq (text_of (codes "explain") rows) (codes "true")
+
+abbrev pub detail_in : Text × List Row → Detail
+detail_in found = record { explains = explains_in found.1; report = report_in found.1 }
+
+-- what the words ask to be said, if the command line takes them
+abbrev pub detail_of : List Text → Option Detail
+detail_of words = where_none (kinds_of words) (option_map detail_in (subcommand_of program_app words))
+
+-- the file that they ask a report of the run to go to, if they ask for a request
+abbrev pub report_of : List Text → Option Text
+report_of words = option_and_then (λ order. option_and_then (λ (d : Detail). d.report) (detail_of words)) (order_of words)
+
 -- ---- answers
 
 -- the value is what is asked for, and a fault comes for want of memory or where nothing is

@@ -54,6 +54,18 @@ letter_o = 111
 abbrev pub output_rule : Rule
 output_rule = record (new_rule (codes "output")) { short = Some letter_o; long = Some (codes "output"); value_names = 1 }
 
+-- the option --report FILE
+abbrev pub report_rule : Rule
+report_rule = record (new_rule (codes "report")) { long = Some (codes "report"); value_names = 1 }
+
+-- the flag --explain
+abbrev pub explain_rule : Rule
+explain_rule = record (new_rule (codes "explain")) { long = Some (codes "explain"); action = Some SetTrue }
+
+-- a command with the options that each command has: -o FILE, --report FILE and --explain
+abbrev pub with_common : App → App
+with_common app = with_rule (with_rule (with_rule app output_rule) report_rule) explain_rule
+
 -- one argument NAME=PATH or more
 abbrev pub layers_rule : Rule
 layers_rule = record (new_rule (codes "layers")) {
@@ -62,24 +74,23 @@ layers_rule = record (new_rule (codes "layers")) {
   range = Some (record { start_inclusive = 1; end_inclusive = usize_max });
 }
 
--- build [--grid N] [--min-area A] [--keep P/Q] [--min-ring-area B] [--exact] [-o FILE] NAME=PATH..
+-- build [--grid N] [--min-area A] [--keep P/Q] [--min-ring-area B] [--exact] NAME=PATH.., with the common options
 abbrev pub build_app : App
 build_app = with_rule
-    (with_rule (with_rule (with_rule (with_rule (with_rule (with_rule (new_app (codes "build")) grid_rule) area_rule) keep_rule) ring_area_rule) exact_rule)
-    output_rule)
+    (with_common (with_rule (with_rule (with_rule (with_rule (with_rule (new_app (codes "build")) grid_rule) area_rule) keep_rule) ring_area_rule) exact_rule))
     layers_rule
 
--- simplify [--min-area A] [--min-ring-area B] [-o FILE] FILE
+-- simplify [--min-area A] [--min-ring-area B] FILE, with the common options
 abbrev pub simplify_app : App
-simplify_app = with_rule (with_rule (with_rule (with_rule (new_app (codes "simplify")) area_rule) ring_area_rule) output_rule) file_rule
+simplify_app = with_rule (with_common (with_rule (with_rule (new_app (codes "simplify")) area_rule) ring_area_rule)) file_rule
 
--- geo --object NAME [-o FILE] FILE
+-- geo --object NAME FILE, with the common options
 abbrev pub geo_app : App
-geo_app = with_rule (with_rule (with_rule (new_app (codes "geo")) object_rule) output_rule) file_rule
+geo_app = with_rule (with_common (with_rule (new_app (codes "geo")) object_rule)) file_rule
 
--- stat [-o FILE] FILE
+-- stat FILE, with the common options
 abbrev pub stat_app : App
-stat_app = with_rule (with_rule (new_app (codes "stat")) output_rule) file_rule
+stat_app = with_rule (with_common (new_app (codes "stat"))) file_rule
 
 -- the program, which has a version and to whose command the words behind its name belong
 abbrev pub bare_app : App

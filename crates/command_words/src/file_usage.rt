@@ -3,7 +3,7 @@ ghost use Rattle.std.specs.Prelude.{IfOk};
 ghost use Rattle.command_words.specs.CommandLine.{IsApp, IsRule, file_rule, geo_app, object_rule, simplify_app, stat_app};
 
 use crate::commands::{Help, command};
-use crate::usage::{area, output, ring_area};
+use crate::usage::{area, ring_area, with_common};
 use clap::{Arg, Command};
 use std::alloc::{AllocError, Global};
 
@@ -96,11 +96,10 @@ fn file<'a>(alloc: Global) -> Arg<'a>
 pub(crate) fn simplify<'a>(alloc: Global) -> Result<Command<'a>, AllocError>
     ensures { IfOk result (λ c. IsApp c simplify_app) }
 {
-    command(alloc, SIMPLIFY, SIMPLIFY_HELP)
+    let command = command(alloc, SIMPLIFY, SIMPLIFY_HELP)
         .arg(area(alloc))?
-        .arg(ring_area(alloc))?
-        .arg(output(alloc))?
-        .arg(file(alloc))
+        .arg(ring_area(alloc))?;
+    with_common(alloc, command)?.arg(file(alloc))
 }
 
 /// The option of `geo` that names the object.
@@ -118,17 +117,13 @@ fn object<'a>(alloc: Global) -> Arg<'a>
 pub(crate) fn geo<'a>(alloc: Global) -> Result<Command<'a>, AllocError>
     ensures { IfOk result (λ c. IsApp c geo_app) }
 {
-    command(alloc, GEO, GEO_HELP)
-        .arg(object(alloc))?
-        .arg(output(alloc))?
-        .arg(file(alloc))
+    let command = command(alloc, GEO, GEO_HELP).arg(object(alloc))?;
+    with_common(alloc, command)?.arg(file(alloc))
 }
 
 /// The command line of `stat`.
 pub(crate) fn stat<'a>(alloc: Global) -> Result<Command<'a>, AllocError>
     ensures { IfOk result (λ c. IsApp c stat_app) }
 {
-    command(alloc, STAT, STAT_HELP)
-        .arg(output(alloc))?
-        .arg(file(alloc))
+    with_common(alloc, command(alloc, STAT, STAT_HELP))?.arg(file(alloc))
 }

@@ -9,7 +9,8 @@ ghost use Rattle.clap.specs.declared.error.kind.ErrorKind.TheVariants.{OutOfMemo
 ghost use Rattle.command_words.specs.declared.words_fault.WordsFault.TheVariants.{Memory, Refused};
 ghost use Rattle.command_words.specs.Asked as spec;
 ghost use Rattle.command_words.specs.Asked.{Answers, area_in, asked, asked_in, build_in, entries_of, exact_in, grid_in};
-ghost use Rattle.command_words.specs.Asked.{Ordered, keep_in, kinds_of, order_of, ordered, output_in, ring_area_in, text_of};
+ghost use Rattle.command_words.specs.Asked.{Ordered, detail, detail_of, explains_in, keep_in, kinds_of, order_of, ordered};
+ghost use Rattle.command_words.specs.Asked.{output_in, report_in, ring_area_in, text_of};
 ghost use Rattle.command_words.specs.CommandLine.{IsApp, program_app};
 ghost use Rattle.command_words.specs.Faults as faults;
 ghost use Rattle.command_words.specs.Faults.{IsFaultBy};
@@ -18,7 +19,8 @@ ghost use Rattle.command_words.specs.Written.{IsWritable, written};
 use crate::file_usage::{FILE, GEO, OBJECT, SIMPLIFY, STAT};
 use crate::layer_words::names_and_paths;
 use crate::usage::{
-    AREA, BUILD, EXACT, GRID, KEEP, LAYERS, OUTPUT, RING_AREA, program, telling_program,
+    AREA, BUILD, EXACT, EXPLAIN, GRID, KEEP, LAYERS, OUTPUT, REPORT, RING_AREA, program,
+    telling_program,
 };
 use crate::words_fault::WordsFault;
 use clap::error::ErrorKind;
@@ -61,12 +63,16 @@ pub enum Request<'a> {
     },
 }
 
-/// What the words of a command line ask for, and where its output goes.
+/// What the words of a command line ask for, where its output goes, and what is to be said of the run.
 #[derive(Drop)]
 pub struct Order<'a> {
     pub request: Request<'a>,
     /// The file that takes the output in place of standard output, if any.
     pub output: Option<&'a str>,
+    /// The file that takes a report of the run, if any.
+    pub report: Option<&'a str>,
+    /// Whether the run is explained in words.
+    pub explains: bool,
 }
 
 /// The grid that is asked for, if any. `clap` refuses a number out of range, but none of its contracts says so of a command below the
@@ -123,6 +129,13 @@ fn output_of<'a>(arguments: &ArgMatches<'a>) -> Option<&'a str>
     arguments.get_str(OUTPUT)
 }
 
+/// The file for a report of the run, if one is given.
+fn report_of<'a>(arguments: &ArgMatches<'a>) -> Option<&'a str>
+    ensures { option_map (λ r. r.now) result ≡ report_in (entries_of arguments.now) }
+{
+    arguments.get_str(REPORT)
+}
+
 /// The text of an argument, which is empty where it is not given.
 fn text_of<'a>(arguments: &ArgMatches<'a>, id: &str) -> &'a str
     ensures { result.now ≡ text_of id.now (entries_of arguments.now) }
@@ -135,6 +148,13 @@ fn is_exact(arguments: &ArgMatches<'_>) -> bool
     ensures { result ≡ exact_in (entries_of arguments.now) }
 {
     text_of(arguments, EXACT) == "true"
+}
+
+/// Whether the run is explained in words.
+fn is_explained(arguments: &ArgMatches<'_>) -> bool
+    ensures { result ≡ explains_in (entries_of arguments.now) }
+{
+    text_of(arguments, EXPLAIN) == "true"
 }
 
 /// What the command that builds a topology asks for, unless it is given an area and a share both.
@@ -266,13 +286,18 @@ fn read_by<'a>(
 ) -> Result<Order<'a>, WordsFault>
     requires { IsApp program.old program_app }
     ensures exact { Answers (order_of (map string_bytes words.now)) ordered result }
+    ensures detail { IfOk result (λ order. detail_of (map string_bytes words.now) ≡ Some (detail order)) }
     ensures fault { IfErr result (IsFaultBy (kinds_of (map string_bytes words.now))) }
 {
     let matches = matches_in(alloc, program, words)?;
     if let Some((name, arguments)) = matches.subcommand() {
         if let Some(request) = request_in(alloc, name, arguments)? {
-            let output = output_of(arguments);
-            return Ok(Order { request, output });
+            return Ok(Order {
+                request,
+                output: output_of(arguments),
+                report: report_of(arguments),
+                explains: is_explained(arguments),
+            });
         }
     }
     Err(refusal(alloc, words)?)
@@ -283,6 +308,8 @@ fn read_by<'a>(
 pub fn read_words<'a>(alloc: Global, words: &'a [String]) -> Result<Order<'a>, WordsFault>
     // The order is what the words ask for by the command line, and where they ask for nothing, or memory runs out, there is none.
     ensures exact { Answers (order_of (map string_bytes words.now)) ordered result }
+    // So is what is to be said of the run.
+    ensures detail { IfOk result (λ order. detail_of (map string_bytes words.now) ≡ Some (detail order)) }
     // Help is told of words that ask for it, and else they are refused, or have a fault of their own.
     ensures fault { IfErr result (IsFaultBy (kinds_of (map string_bytes words.now))) }
     // Words that are written for a request and the file of its output ask for both.

@@ -1,8 +1,10 @@
 // The words that the program takes, and its help.
 ghost use Rattle.std.specs.Prelude.{◌≡◌, IfOk, pos};
 ghost use Rattle.clap.specs.declared.builder.value_parser.ValueParser.TheVariants.{Signed};
+ghost use Rattle.clap.specs.Simple.{App};
+ghost use Rattle.command_words.specs.CommandLine as spec;
 ghost use Rattle.command_words.specs.CommandLine.{IsApp, IsRule, area_rule, bare_app, build_app, exact_rule, grid_rule};
-ghost use Rattle.command_words.specs.CommandLine.{keep_rule, layers_rule, output_rule, program_app, ring_area_rule};
+ghost use Rattle.command_words.specs.CommandLine.{explain_rule, keep_rule, layers_rule, output_rule, program_app, report_rule, ring_area_rule};
 
 use crate::commands::{Help, command};
 use crate::file_usage::{geo, simplify, stat};
@@ -34,8 +36,14 @@ pub(crate) const EXACT: &str = "exact";
 /// The option of each command that names the file for its output.
 pub(crate) const OUTPUT: &str = "output";
 
+/// The option of each command that names the file for a report of the run.
+pub(crate) const REPORT: &str = "report";
+
+/// The option of each command that explains the run in words.
+pub(crate) const EXPLAIN: &str = "explain";
+
 /// The version of the program.
-const VERSION: &str = "1.1.0";
+const VERSION: &str = "1.2.0";
 
 const PROGRAM_HELP: Help = Help {
     about: "Build TopoJSON topologies from GeoJSON files, simplify them, and decode them again",
@@ -50,7 +58,8 @@ stored once, as a numbered arc, and each shape lists the arcs that it runs along
   2  the words of the command line are refused
   3  a file can't be opened or read, the output can't be written, or memory ran out
 Standard error says what is wrong, but may be silent where memory ran out. Its codes,
-as 'G8 ShortRing', are explained in docs/FAULTS.md, with what to do.
+as 'G8 ShortRing', are explained in docs/FAULTS.md, with what to do; '--explain' says
+what is wrong in words, and where.
 
 'mapchain build --help' and the like say what is read and written, with an example.",
 };
@@ -132,6 +141,21 @@ const OUTPUT_LONG_HELP: &str =
     "Write the output to FILE in place of standard output. It goes to a new file beside
 FILE, which takes its name when it is whole and on the disk. Where anything fails
 FILE stays as it was, so FILE may be an input, too";
+
+const REPORT_HELP: &str = "Write a report of the run to a file, as a JSON object";
+
+const REPORT_LONG_HELP: &str =
+    "Write a report of the run to FILE when the run ends, whether it is done or not, as a
+JSON object: the exit status, the fault, the counts, and the lines of '--explain'.
+docs/FORMATS.md describes it. A file of this name is replaced";
+
+const EXPLAIN_HELP: &str = "Explain in words what is wrong, or what was left out";
+
+const EXPLAIN_LONG_HELP: &str =
+    "Say in words, on standard error below the line of a fault, what is wrong and where, as
+far as that can be found out. Where all is done, say below the report how much was kept,
+which features lost all of their geometry, and what was left out of the layers. Files
+are read once more for it";
 
 const EXACT_HELP: &str = "Refuse coordinates that would have to be rounded";
 
@@ -228,7 +252,7 @@ pub(crate) fn ring_area<'a>(alloc: Global) -> Arg<'a>
 }
 
 /// The option that names the file for the output.
-pub(crate) fn output<'a>(alloc: Global) -> Arg<'a>
+fn output<'a>(alloc: Global) -> Arg<'a>
     ensures { IsRule result output_rule }
 {
     Arg::new(alloc, OUTPUT)
@@ -237,6 +261,41 @@ pub(crate) fn output<'a>(alloc: Global) -> Arg<'a>
         .value_name("FILE")
         .help(OUTPUT_HELP)
         .long_help(OUTPUT_LONG_HELP)
+}
+
+/// The option that names the file for a report of the run.
+fn report<'a>(alloc: Global) -> Arg<'a>
+    ensures { IsRule result report_rule }
+{
+    Arg::new(alloc, REPORT)
+        .long("report")
+        .value_name("FILE")
+        .help(REPORT_HELP)
+        .long_help(REPORT_LONG_HELP)
+}
+
+/// The option that explains the run in words.
+fn explain<'a>(alloc: Global) -> Arg<'a>
+    ensures { IsRule result explain_rule }
+{
+    Arg::new(alloc, EXPLAIN)
+        .long("explain")
+        .action(ArgAction::SetTrue)
+        .help(EXPLAIN_HELP)
+        .long_help(EXPLAIN_LONG_HELP)
+}
+
+/// A command with the options that each command has.
+pub(crate) fn with_common<'a>(
+    alloc: Global,
+    command: Command<'a>,
+) -> Result<Command<'a>, AllocError>
+    ensures { (app : App) → IsApp command.entry app → IfOk result (λ c. IsApp c (spec.with_common app)) }
+{
+    command
+        .arg(output(alloc))?
+        .arg(report(alloc))?
+        .arg(explain(alloc))
 }
 
 /// The option of `build` that refuses coordinates that would have to be rounded.
@@ -266,12 +325,11 @@ fn layers<'a>(alloc: Global) -> Arg<'a>
 fn build<'a>(alloc: Global, keep: Arg<'a>) -> Result<Command<'a>, AllocError>
     ensures { IsRule keep.entry keep_rule → IfOk result (λ c. IsApp c build_app) }
 {
-    command(alloc, BUILD, BUILD_HELP)
+    let command = command(alloc, BUILD, BUILD_HELP)
         .arg(grid(alloc))?
         .arg(area(alloc))?
         .arg(keep)?
         .arg(ring_area(alloc))?
-        .arg(exact(alloc))?
-        .arg(output(alloc))?
-        .arg(layers(alloc))
+        .arg(exact(alloc))?;
+    with_common(alloc, command)?.arg(layers(alloc))
 }

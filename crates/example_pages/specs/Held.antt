@@ -27,6 +27,7 @@ abbrev pub left_of : Damage → List ℕ → List ℕ → List ℕ
 left_of damage.None path whole = whole
 left_of (damage.Cut name end) path whole = if bytes_eq name.now path then take end whole else whole
 left_of (damage.Broken name end) path whole = whole
+left_of (damage.Folder name) path whole = whole
 
 -- those of the file that a run has written, if it has this name
 abbrev pub written : Option Kept → List ℕ → Option (List ℕ)

@@ -14,6 +14,8 @@ pub(crate) enum Damage<'a> {
     Cut(&'a str, usize),
     /// Reads of the file of this name fail behind so many bytes.
     Broken(&'a str, usize),
+    /// The file of this name is a folder: it can be opened, and no read of it gives anything.
+    Folder(&'a str),
 }
 
 /// The devices of a run.

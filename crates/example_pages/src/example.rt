@@ -1,5 +1,5 @@
 // A command of a page, and what must come of it.
-use crate::devices::Devices;
+use crate::devices::{Damage, Devices};
 use std::alloc::{AllocError, Global};
 
 /// How often a command is run, and over what.
@@ -38,6 +38,8 @@ pub(crate) struct Example<'a> {
     pub(crate) kept: Option<&'a str>,
     /// The name of the file that takes what standard output would.
     pub(crate) file: Option<&'a str>,
+    /// The name of the file that is a folder, if one is.
+    pub(crate) folder: Option<&'a str>,
     pub(crate) runs: Runs<'a>,
     pub(crate) devices: Devices,
     pub(crate) status: u8,
@@ -56,6 +58,7 @@ impl<'a> Example<'a> {
             words,
             kept,
             file: None,
+            folder: None,
             runs: Runs::Once,
             devices: Devices::WHOLE,
             status: 0,
@@ -76,6 +79,21 @@ impl<'a> Example<'a> {
         let is_open = self.kept.is_none() && self.file.is_none();
         self.file = Some(name);
         is_open
+    }
+
+    /// Takes the name of the file that is a folder, and answers whether that was open.
+    pub(crate) fn takes_folder(&mut self, name: &'a str) -> bool {
+        let is_open = self.folder.is_none();
+        self.folder = Some(name);
+        is_open
+    }
+
+    /// What is wrong with a file where the command is run once.
+    pub(crate) fn damage(&self) -> Damage<'a> {
+        match self.folder {
+            Some(name) => Damage::Folder(name),
+            None => Damage::None,
+        }
     }
 
     /// Takes what must come to standard output, and answers whether that was open.

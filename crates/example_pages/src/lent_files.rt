@@ -1,5 +1,5 @@
 // The files of a page as a run sees them, and the file that it writes.
-ghost use Rattle.std.specs.Prelude.{◌≡◌, [], IfNone, IfOk, IfSome, None, Some, false, true};
+ghost use Rattle.std.specs.Prelude.{◌≡◌, ◌≢◌, ℕ, List, [], IfNone, IfOk, IfSome, None, Some, false, true};
 ghost use Rattle.std.specs.Option.{option_map};
 ghost use Rattle.std.specs.String.{string_bytes};
 
@@ -126,10 +126,21 @@ impl<'a> LentFiles<'a> {
         let bytes = self.bytes(path)?;
         let fault = match self.damage {
             Damage::Broken(name, end) if name == path => Fault::AtByte(end),
+            Damage::Folder(name) if name == path => Fault::AtByte(0),
             _ => self.devices.input,
         };
         let reader = CutReader::new(bytes, self.devices.step(), fault);
         Some(Source::new(FromRead::new(reader)))
+    }
+
+    /// Whether there is a file of this name, which is no folder.
+    pub fn has_file(&self, path: &str) -> bool {
+        !self.is_folder(path) && self.bytes(path).is_some()
+    }
+
+    /// Whether the file of this name is a folder.
+    pub fn is_folder(&self, path: &str) -> bool {
+        matches!(self.damage, Damage::Folder(name) if name == path)
     }
 
     /// An output that is to take the place of a file, or nothing where it can't be begun.
@@ -149,10 +160,11 @@ impl<'a> LentFiles<'a> {
     /// Puts an output in the place of the file of this name, and answers whether that was done. It is once at most.
     pub fn keep(&mut self, path: &str, output: ToWrite<CutWriter>) -> bool
         ensures kept { result ≡ true → lent self.new path.now ≡ output.taken }
+        ensures others { (other : List ℕ) → other ≢ path.now → lent self.new other ≡ lent self.old other }
         ensures lost { result ≡ false → lent self.new ≡ lent self.old }
     {
         let writer = output.into_inner();
-        if self.devices.keeps {
+        if self.devices.keeps && self.kept.is_none() {
             if let Some(room) = self.room.take() {
                 if let Ok(kept) = Kept::new(self.alloc, room, path, writer.held()) {
                     self.kept = Some(kept);

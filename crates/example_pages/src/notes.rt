@@ -14,6 +14,9 @@ impl<'a> Example<'a> {
         if let Some(name) = note.strip_prefix("to the file ") {
             return self.takes_file(name);
         }
+        if let Some(name) = note.strip_prefix("for a folder ") {
+            return self.takes_folder(name);
+        }
         if note == "output only kept" {
             let is_kept = self.kept.is_some() || self.file.is_some();
             return is_kept && self.takes_output(Output::Kept);

@@ -113,13 +113,20 @@ fn once<P: Program>(
         files,
         example.words,
         example.devices,
-        Damage::None,
+        example.damage(),
     )?;
     judge(alloc, files, example, &ran, tally)?;
     if example.devices.are_plain() {
         let mut devices = example.devices;
         devices.by_one = true;
-        let again = run(alloc, program, files, example.words, devices, Damage::None)?;
+        let again = run(
+            alloc,
+            program,
+            files,
+            example.words,
+            devices,
+            example.damage(),
+        )?;
         judge(alloc, files, example, &again, tally)?;
     }
     match example.kept {

@@ -1,4 +1,7 @@
 // A new file that takes the place of another once it is whole.
+ghost use Rattle.std.specs.Prelude.{◌≡◌, IfOk};
+ghost use Rattle.std.specs.String.{string_bytes};
+
 use std::fs::{File, Permissions};
 use std::io::{ErrorKind, Write};
 use std::os::unix::fs::{OpenOptionsExt, PermissionsExt};
@@ -18,30 +21,31 @@ const OWNER_ONLY: u32 = 0o600;
 
 /// The file that is to be replaced, or the name that a first one is to have.
 #[derive(Drop)]
-struct Target {
+pub(crate) struct Target {
+    /// The path by which it was named.
+    pub(crate) named: String,
+    /// Where that leads, behind symbolic links.
     path: String,
     /// The permissions of the file, where there is one.
     mode: Option<u32>,
 }
 
-/// A new file beside its target. Where it is dropped it is removed, unless it has taken the target's place.
+/// A new file beside a target. Where it is dropped it is removed, unless it has taken the target's place.
 pub(crate) struct PartFile {
     rt: HostRuntime,
     file: File,
     path: String,
-    target: String,
 }
 
-/// What a path names: a regular file, by itself or by a symbolic link, or nothing yet. Anything else is an error.
-fn target_of(rt: &HostRuntime, path: &str) -> io::Result<Target> {
+/// Where a path leads: to a regular file, by itself or by a symbolic link, or to nothing yet. Anything else is an error.
+fn led_to(rt: &HostRuntime, path: &str) -> io::Result<(String, Option<u32>)> {
     if path.is_empty() {
         return Err(io::Error::from(ErrorKind::InvalidInput));
     }
     let named = match fs::symlink_metadata(rt, path) {
         Ok(metadata) => metadata,
         Err(error) if error.kind() == ErrorKind::NotFound => {
-            let path = String::from_str(rt.alloc(), path)?;
-            return Ok(Target { path, mode: None });
+            return Ok((String::from_str(rt.alloc(), path)?, None));
         }
         Err(error) => return Err(error),
     };
@@ -54,8 +58,19 @@ fn target_of(rt: &HostRuntime, path: &str) -> io::Result<Target> {
     if !metadata.is_file() {
         return Err(io::Error::from(ErrorKind::InvalidInput));
     }
-    let mode = Some(metadata.permissions().mode() & PERMISSION_BITS);
-    Ok(Target { path, mode })
+    let mode = metadata.permissions().mode() & PERMISSION_BITS;
+    Ok((path, Some(mode)))
+}
+
+impl Target {
+    /// The file of this path, or the name of one that isn't there yet.
+    pub(crate) fn of(rt: &HostRuntime, path: &str) -> io::Result<Target>
+        ensures { IfOk result (λ target. string_bytes target.named ≡ path.now) }
+    {
+        let named = String::from_str(rt.alloc(), path)?;
+        let (path, mode) = led_to(rt, path)?;
+        Ok(Target { named, path, mode })
+    }
 }
 
 /// Makes a new file beside the target, under the first name that isn't taken.
@@ -80,17 +95,15 @@ fn create_beside(rt: &HostRuntime, target: &Target) -> io::Result<(File, String)
 }
 
 impl PartFile {
-    /// A new file that is to replace the file of this path, with its permissions, or is to be the first of that name. Where the path
-    /// is that of a symbolic link, the file behind it is replaced, and the link stays. Nothing but a regular file is replaced.
-    pub(crate) fn beside(rt: &HostRuntime, path: &str) -> io::Result<PartFile> {
-        let target = target_of(rt, path)?;
+    /// A new file that is to replace this one, with its permissions, or is to be the first of that name. Where the target was named by
+    /// a symbolic link, the file behind it is replaced, and the link stays. Nothing but a regular file is replaced.
+    pub(crate) fn beside(rt: &HostRuntime, target: &Target) -> io::Result<PartFile> {
         let part_rt = rt.clone()?;
-        let (file, path) = create_beside(rt, &target)?;
+        let (file, path) = create_beside(rt, target)?;
         let part = PartFile {
             rt: part_rt,
             file,
             path,
-            target: target.path,
         };
         if let Some(mode) = target.mode {
             part.file.set_permissions(Permissions::from_mode(mode))?;
@@ -100,15 +113,14 @@ impl PartFile {
 
     /// Takes the place of the target, once all of the file is on the disk. On an error the target is as it was, and the new file is
     /// removed.
-    pub(crate) fn replace(self) -> io::Result<()> {
+    pub(crate) fn replace(self, target: &Target) -> io::Result<()> {
         self.file.sync_all()?;
-        fs::rename(&self.rt, self.path.as_str(), self.target.as_str())?;
+        fs::rename(&self.rt, self.path.as_str(), target.path.as_str())?;
         // Nothing is left to remove.
         let PartFile {
             rt: _,
             file: _,
             path: _,
-            target: _,
         } = self;
         Ok(())
     }
@@ -116,12 +128,7 @@ impl PartFile {
 
 impl Drop for PartFile {
     fn drop(self) {
-        let PartFile {
-            rt,
-            file: _,
-            path,
-            target: _,
-        } = self;
+        let PartFile { rt, file: _, path } = self;
         let _ = fs::remove_file(&rt, path.as_str());
     }
 }

@@ -1,19 +1,23 @@
 // The file system as `mapchain_cli` asks for it.
-ghost use Rattle.std.specs.Prelude.{None};
+ghost use Rattle.std.specs.Prelude.{◌≡◌, IfOk, None, is_some, true};
+ghost use Rattle.std.specs.Option.{option_map};
+ghost use Rattle.std.specs.String.{string_bytes};
 
 use crate::OUT_BUFFER;
-use crate::part_file::PartFile;
+use crate::part_file::{PartFile, Target};
 use byte_ends::{FromRead, Sink, Source, ToWrite};
-use mapchain_cli::{Counts, Files};
+use mapchain_cli::{Counts, FileKind, Files};
 use std::fs::File;
-use std::io;
-use std::io::BufWriter;
+use std::io::{BufWriter, ErrorKind};
+use std::{fs, io};
 
 /// The file system.
 #[derive(Drop)]
 pub(crate) struct System {
     rt: HostRuntime,
     counts: Counts,
+    /// The file for which an output was begun last, unless that was kept or taken away.
+    pending: Option<Target>,
 }
 
 impl System {
@@ -22,19 +26,64 @@ impl System {
         System {
             rt,
             counts: Counts::none(),
+            pending: None,
         }
     }
 }
 
-// A new file that holds nothing yet, behind a buffer.
-fn begin(rt: &HostRuntime, path: &str) -> io::Result<BufWriter<PartFile>> {
-    let part = PartFile::beside(rt, path)?;
-    BufWriter::with_capacity(rt.alloc(), OUT_BUFFER, part)
+// The file of this path, and a new file for it that holds nothing yet, behind a buffer.
+fn begin(rt: &HostRuntime, path: &str) -> io::Result<(Target, BufWriter<PartFile>)>
+    ensures { IfOk result (λ r. string_bytes r.0.named ≡ path.now) }
+{
+    let target = Target::of(rt, path)?;
+    let part = PartFile::beside(rt, &target)?;
+    let output = BufWriter::with_capacity(rt.alloc(), OUT_BUFFER, part)?;
+    Ok((target, output))
 }
 
-// Writes what is still held back, and has the new file take its place.
-fn keep(output: BufWriter<PartFile>) -> io::Result<()> {
-    output.into_inner()?.replace()
+// Writes what is still held back, and has the new file take the place of the target.
+fn replace(target: &Target, output: BufWriter<PartFile>) -> io::Result<()> {
+    output.into_inner()?.replace(target)
+}
+
+// Has the new file take the place of the target, if there is one, and answers whether it did.
+fn keep(target: Option<Target>, output: BufWriter<PartFile>) -> bool
+    ensures { result ≡ true → is_some target ≡ true }
+{
+    match target {
+        Some(target) => replace(&target, output).is_ok(),
+        None => {
+            let (_part, _held_back) = output.into_parts();
+            false
+        }
+    }
+}
+
+// What an error says of a path.
+fn kind_by(error: &io::Error) -> FileKind {
+    match error.kind() {
+        ErrorKind::NotFound => FileKind::Missing,
+        ErrorKind::PermissionDenied => FileKind::NotAllowed,
+        _ => FileKind::Other,
+    }
+}
+
+// What a path names. A regular file is opened, to see whether that is allowed.
+fn kind_of(rt: &HostRuntime, path: &str) -> FileKind {
+    let metadata = match fs::metadata(rt, path) {
+        Ok(metadata) => metadata,
+        Err(error) => return kind_by(&error),
+    };
+    if metadata.is_dir() {
+        return FileKind::Folder;
+    }
+    if !metadata.is_file() {
+        return FileKind::Other;
+    }
+    match File::open(rt, path) {
+        Ok(_) => FileKind::Regular,
+        Err(error) => kind_by(&error),
+    }
 }
 
 impl Files for System {
@@ -43,7 +92,7 @@ impl Files for System {
     type W = ToWrite<BufWriter<PartFile>>;
 
     // Others write files too, so that the bytes of none are known.
-    ghost state = { λ s. record { contents = λ _. None; counts = s.counts } };
+    ghost state = { λ s. record { contents = λ _. None; counts = s.counts; pending = option_map (λ target. string_bytes target.named) s.pending } };
 
     fn open(&mut self, path: &str) -> Option<Source<FromRead<File>>> {
         let opened = File::open(&self.rt, path);
@@ -52,22 +101,28 @@ impl Files for System {
         Some(Source::new(FromRead::new(file)))
     }
 
+    fn look(&mut self, path: &str) -> FileKind {
+        kind_of(&self.rt, path)
+    }
+
     fn begin(&mut self, path: &str) -> Option<Sink<ToWrite<BufWriter<PartFile>>>> {
         let begun = begin(&self.rt, path);
         self.counts.count_begin(begun.is_ok());
-        let output = begun.ok()?;
+        let (target, output) = begun.ok()?;
+        self.pending = Some(target);
         Some(Sink::new(ToWrite::new(output)))
     }
 
-    // `begin` has looked up where the output goes.
-    fn keep(&mut self, _path: &str, output: ToWrite<BufWriter<PartFile>>) -> bool {
-        let is_kept = keep(output.into_inner()).is_ok();
+    fn keep(&mut self, output: ToWrite<BufWriter<PartFile>>) -> bool {
+        let target = self.pending.take();
+        let is_kept = keep(target, output.into_inner());
         self.counts.count_end(is_kept);
         is_kept
     }
 
     fn discard(&mut self, output: ToWrite<BufWriter<PartFile>>) {
         let (_part, _held_back) = output.into_inner().into_parts();
+        self.pending = None;
         self.counts.count_end(false);
     }
 }

@@ -1,9 +1,26 @@
--- How a run ends whose output couldn't be begun or kept.
-use Rattle.std.proofs.Common.{◌≡◌, ◌∙◌, ℕ, Bool, ap}
+-- How a request comes out whose output takes the place of a file.
+use Rattle.std.proofs.Common.{◌≡◌, ◌∙◌, ℕ, List, Bool, true, Option, Some, ap, subst, sym}
+use Rattle.byte_ends.specs.Ends.{Drained}
 use Rattle.command_words.specs.declared.request.Request.{Request}
+use Rattle.reports.specs.declared.report.Report.{Report}
+use Rattle.mapchain_cli.specs.Asking.{IsAnswered}
+use Rattle.mapchain_cli.specs.Files.{FileState, Keeps, begun, used}
 use Rattle.mapchain_cli.specs.Outputs.{is_build, unkept}
 use Rattle.mapchain_cli.specs.declared.ending.Ending.{Ending}
+use Rattle.mapchain_cli.proofs.Untouched.{answered}
 
 -- the ending that is told is that of the request
 pub unkept_of : (request : Request) (b : Bool) (sent : ℕ) (ending : Ending) → b ≡ is_build request → ending ≡ unkept b sent → ending ≡ unkept (is_build request) sent
 unkept_of request b sent ending same is = is ∙ ap (λ x. unkept x sent) same
+
+same_path : (p path : List ℕ) → Some p ≡ Some path → p ≡ path
+same_path p path e = cc
+
+-- the output that is kept is the one that was begun for this path
+pub kept_for : (path : List ℕ) (taken : Option (List ℕ)) (old new : FileState) → old.pending ≡ Some path → (p : List ℕ) × Keeps p taken old new → Keeps path taken old new
+kept_for path taken old new is (p, k) = subst (λ q. Keeps q taken old new) (same_path p path (sym k.begun ∙ is)) k
+
+-- a request that is done leaves the path for which its output was begun
+pub still_pending : (path : List ℕ) (before opened : FileState) (request : Request) (old new : Drained) (report : Option Report)
+    → IsAnswered (used (begun true path before) opened) request old new report → opened.pending ≡ Some path
+still_pending path before opened request old new report h = (answered (used (begun true path before) opened) request old new report h).pending

@@ -1,9 +1,9 @@
 -- What a run's promise says of its status and of standard output.
-use Rattle.std.proofs.Common.{◌≡◌, ◌⊎◌, ◌∙◌, ◌+◌, ◌<◌, ◌≤◌, inl, inr, ℕ, List, Bool, true, false, Option, None, Some, IfSome, ap, arith, subst, sym}
+use Rattle.std.proofs.Common.{◌≡◌, ◌⊎◌, ◌<◌, ◌≤◌, inl, inr, ℕ, zero, suc, List, Bool, true, false, Option, None, Some, IfSome, Ok, Err, ap, arith, refl, subst, sym}
 use Rattle.std.specs.Option.{option_and_then}
-use Rattle.byte_ends.specs.Ends.{Drained, Fed, saturated}
+use Rattle.byte_ends.specs.Ends.{Drained, Fed}
 use Rattle.byte_ends.specs.declared.source.ReadFault.TheVariants as read
-use Rattle.command_words.specs.Asked.{Ordered, output_of}
+use Rattle.command_words.specs.Asked.{Detail, Ordered, detail, output_of}
 use Rattle.command_words.specs.declared.request.Request.{Request}
 use Rattle.command_words.specs.declared.request.Request.TheVariants.{Build, Simplify, Geo, Stat}
 use Rattle.command_words.specs.declared.words_fault.WordsFault.{WordsFault}
@@ -21,11 +21,11 @@ use Rattle.topology_files.specs.Geo.{IsGeoFault}
 use Rattle.topology_simplifying.specs.Simplified.{IsSimplifyFault}
 use Rattle.mapchain_cli.specs.Asking.{IsAnswered, IsRefused, RefusesBuild, RefusesTopology}
 use Rattle.mapchain_cli.specs.Endings.{IsSummaryFault, RefusesLayers}
-use Rattle.mapchain_cli.specs.Files.{FileState, FileUse, Layers}
-use Rattle.mapchain_cli.specs.Outputs.{IsCarriedOut, IsSent, Settles, asked_output, is_build, outputs, over, unkept}
-use Rattle.mapchain_cli.specs.Performing.{IsPerformed, Streams, ending_status}
+use Rattle.mapchain_cli.specs.Files.{FileUse, Layers, used}
+use Rattle.mapchain_cli.specs.Following.{Follows, IsCarriedOut, ReportsTo, unreported}
+use Rattle.mapchain_cli.specs.Outputs.{IsPerformed, asked_output}
+use Rattle.mapchain_cli.specs.Performing.{ComesOut, Outcome, Streams, ending_status, status_after}
 use Rattle.mapchain_cli.specs.Runs.{EndsAtWords, IsHelped, IsRefusedFor, LacksMemory, RunsOn}
-use Rattle.mapchain_cli.proofs.Untouched.{IsUntouched, answered, opened, refused}
 use Rattle.mapchain_cli.specs.declared.ending.Ending.{Ending}
 use Rattle.mapchain_cli.specs.declared.ending.Ending.TheVariants.{BadArea, BadRingArea, BadShare, Refused, FileRefused, Memory}
 
@@ -203,79 +203,70 @@ at_words words.GridRange old new file status (inl m) h = cc
 at_words words.GridRange old new file status (inr none) (inl h) = rw none (refused_for words.GridRange old new status h)
 at_words words.GridRange old new file status (inr none) (inr h) = lacks old new file status h
 
-performed : (c : FileUse) (request : Request) (old new : Streams) (status : ℕ) → IsPerformed c request old new status → Says old.out new.out None status
-performed c request old new status (inl h) =
-    let s = sound c request old.out new.out h.0 h.1 in
-    at_done old.out new.out status h.3 s.0 s.1
-performed c request old new status (inr h) =
-    rw h.3 (at_other old.out new.out (ending_status h.0) (ending_is h.0) (keeps c request old.out new.out h.0 h.1))
+-- ---- the status of a run is that of its request, but where the report of one that is done can't be written
 
-sent_small : (c : FileUse) (path : List ℕ) (request : Request) (old new : Drained) (status : ℕ) → IsSent c path request old new status → status ≤ 3
-sent_small c path request old new status (inl h) = let is = ending_is (unkept (is_build request) 0) in omega (arith, h.1, is)
-sent_small c path request old new status (inr (inl h)) = let is = ending_is h.ending in omega (arith, h.told, is)
-sent_small c path request old new status (inr (inr h)) = omega (arith, h.done)
+abbrev pub HasStatus : Option (List ℕ) → Outcome → ℕ → Type 0
+HasStatus report outcome status = (status ≡ status_after outcome) ⊎ ((status ≡ 3) × (status_after outcome ≡ 0) × (report ≡ None → ⊥))
 
-carried_out : (c : FileUse) (file : Option (List ℕ)) (request : Request) (old new : Streams) (status : ℕ) → IsCarriedOut c file request old new status
-    → Says old.out new.out file status
-carried_out c None request old new status h = performed c request old new status h
-carried_out c (Some path) request old new status h =
-    at_rest old.out new.out (Some path) status (sent_small c path request old.err new.err status h.1) h.0 (λ _ none. cc)
+at_unreported : (path : List ℕ) (n status : ℕ) → status ≡ unreported n → (status ≡ n) ⊎ ((status ≡ 3) × (n ≡ 0) × (Some path ≡ None → ⊥))
+at_unreported path zero status e = inr (e, refl, λ is. cc)
+at_unreported path (suc n) status e = inl e
 
-pub says : (c : FileUse) (given : List (List ℕ)) (old new : Streams) (status : ℕ) → RunsOn c given old new status → Says old.out new.out (output_of given) status
-says c given old new status (inl (order, asks, h)) =
+reported_status : (report : Option (List ℕ)) (files : FileUse) (outcome : Outcome) (text : List ℕ) (old new : Drained) (status : ℕ)
+    → ReportsTo report files outcome text old new status → HasStatus report outcome status
+reported_status None files outcome text old new status h = inl h.2
+reported_status (Some path) files outcome text old new status (inl h) = inl h.4
+reported_status (Some path) files outcome text old new status (inr h) = at_unreported path (status_after outcome) status h.2
+
+follow_status : (explains : Bool) (report : Option (List ℕ)) (files : FileUse) (detail : Detail) (outcome : Outcome) (old new : Drained) (status : ℕ)
+    → detail.report ≡ report → Follows explains report files detail outcome old new status → HasStatus report outcome status
+follow_status false None files detail outcome old new status is h = inl h.2
+follow_status false (Some path) files detail outcome old new status is h =
+    subst (λ (r : Option (List ℕ)). HasStatus r outcome status) is (reported_status detail.report _ outcome h.explanation h.explained new status h.reports)
+follow_status true report files detail outcome old new status is h =
+    subst (λ (r : Option (List ℕ)). HasStatus r outcome status) is (reported_status detail.report _ outcome h.explanation h.explained new status h.reports)
+
+pub carried_status : (files : FileUse) (output : Option (List ℕ)) (detail : Detail) (request : Request) (old new : Streams) (status : ℕ)
+    → (h : IsCarriedOut files output detail request old new status) → HasStatus detail.report h.outcome status
+carried_status files output detail request old new status h =
+    follow_status detail.explains detail.report (used h.then files.after) detail h.outcome h.told new.err status refl h.follows
+
+pub after_is : (outcome : Outcome) → status_after outcome ≤ 3
+after_is (Ok report) = omega arith
+after_is (Err ending) = (ending_is ending).1
+
+small : (report : Option (List ℕ)) (outcome : Outcome) (status : ℕ) → HasStatus report outcome status → status ≤ 3
+small report outcome status (inl h) = omega (arith, h, after_is outcome)
+small report outcome status (inr h) = omega (arith, h.0)
+
+comes_out : (files : FileUse) (request : Request) (old new : Drained) (outcome : Outcome) (report : Option (List ℕ)) (status : ℕ)
+    → ComesOut files request old new outcome → HasStatus report outcome status → Says old new None status
+comes_out files request old new (Ok r) report status h (inl is) =
+    let s = sound files request old new r h in
+    at_done old new status is s.0 s.1
+comes_out files request old new (Ok r) report status h (inr is) = at_other old new status (omega (arith, is.0), omega (arith, is.0)) (λ lt. absurd (omega (arith, is.0, lt)))
+comes_out files request old new (Err ending) report status h (inl is) =
+    rw is (at_other old new (ending_status ending) (ending_is ending) (keeps files request old new ending h))
+comes_out files request old new (Err ending) report status h (inr is) = absurd (omega (arith, is.1, (ending_is ending).0))
+
+performed : (files : FileUse) (output : Option (List ℕ)) (request : Request) (old new : Drained) (outcome : Outcome) (report : Option (List ℕ)) (status : ℕ)
+    → IsPerformed files output request old new outcome → HasStatus report outcome status → Says old new output status
+performed files None request old new outcome report status h is = comes_out files request old new outcome report status h is
+performed files (Some path) request old new outcome report status h is =
+    at_rest old new (Some path) status (small report outcome status is) h.0 (λ zero none. cc)
+
+carried_out : (files : FileUse) (output : Option (List ℕ)) (detail : Detail) (request : Request) (old new : Streams) (status : ℕ)
+    → IsCarriedOut files output detail request old new status → Says old.out new.out output status
+carried_out files output detail request old new status h =
+    performed (used files.before h.then) output request old.out new.out h.outcome detail.report status h.performed (carried_status files output detail request old new status h)
+
+pub says : (files : FileUse) (given : List (List ℕ)) (old new : Streams) (status : ℕ) → RunsOn files given old new status → Says old.out new.out (output_of given) status
+says files given old new status (inl (order, asks, details, h)) =
     let file : output_of given ≡ asked_output order = ap (λ (o : Option Ordered). option_and_then (λ (x : Ordered). x.1) o) asks in
-    subst (λ (f : Option (List ℕ)). Says old.out new.out f status) (sym file) (carried_out c (asked_output order) order.request old new status h)
-says c given old new status (inr (fault, why, ends, unopened)) =
+    subst (λ (f : Option (List ℕ)). Says old.out new.out f status) (sym file) (carried_out files (asked_output order) (detail order) order.request old new status h)
+says files given old new status (inr (fault, why, ends, unopened)) =
     let file : (fault ≡ words.Memory) ⊎ (output_of given ≡ None) = elim why.0 [
       | inl m ↦ inl m
       | inr none ↦ inr (ap (λ (o : Option Ordered). option_and_then (λ (x : Ordered). x.1) o) none)
     ] in
     at_words fault old new (output_of given) status file ends
-
--- ---- files
-
--- what a status says of files
-pub record FilesSay (files : FileUse) (status : ℕ) : Type 0 where
-  pub lost : 0 < status → files.after.contents ≡ files.before.contents
-  pub settled : Settles files.before.counts files.after.counts
-
-untouched : (files : FileUse) (status : ℕ) → IsUntouched files → FilesSay files status
-untouched files status h = record { lost = λ _. h.contents; settled = inl h.outputs }
-
--- the outputs where one more was kept or taken away
-abbrev with_one : Bool → ℕ × (ℕ × ℕ) → ℕ × (ℕ × ℕ)
-with_one true o = (o.0, (saturated (o.1.0 + 1), o.1.1))
-with_one false o = (o.0, (o.1.0, saturated (o.1.1 + 1)))
-
-files_sent : (files : FileUse) (path : List ℕ) (request : Request) (old new : Drained) (status : ℕ) → IsSent files path request old new status → FilesSay files status
-files_sent files path request old new status (inl h) =
-    record { lost = λ _. ap (λ (s : FileState). s.contents) h.0; settled = inl (ap (λ (s : FileState). outputs s.counts) h.0) }
-files_sent files path request old new status (inr (inl h)) =
-    let over_it = over files.before h.begins in
-    let still : IsUntouched over_it = elim h.why [
-      | inl r ↦ refused over_it request h.begins.fresh h.begins.output h.ending r
-      | inr a ↦ answered over_it request h.begins.fresh h.begins.output a.0.0 a.0.1
-    ] in
-    record {
-      lost = λ _. ap (λ (s : FileState). s.contents) h.away ∙ still.contents;
-      settled = inr (false, ap (λ (s : FileState). outputs s.counts) h.away ∙ ap (with_one false) still.outputs);
-    }
-files_sent files path request old new status (inr (inr h)) =
-    let still = answered (over files.before h.begins) request h.begins.fresh h.begins.output h.report h.answered in
-    record {
-      lost = λ more. absurd (omega (arith, more, h.done));
-      settled = inr (true, ap outputs h.kept.counted ∙ ap (with_one true) still.outputs);
-    }
-
-files_performed : (files : FileUse) (request : Request) (old new : Streams) (status : ℕ) → IsPerformed files request old new status → FilesSay files status
-files_performed files request old new status (inl h) = untouched files status (answered files request old.out new.out h.0 h.1)
-files_performed files request old new status (inr h) = untouched files status (refused files request old.out new.out h.0 h.1)
-
-files_carried_out : (files : FileUse) (file : Option (List ℕ)) (request : Request) (old new : Streams) (status : ℕ) → IsCarriedOut files file request old new status
-    → FilesSay files status
-files_carried_out files None request old new status h = files_performed files request old new status h
-files_carried_out files (Some path) request old new status h = files_sent files path request old.err new.err status h.1
-
-pub files_say : (files : FileUse) (given : List (List ℕ)) (old new : Streams) (status : ℕ) → RunsOn files given old new status → FilesSay files status
-files_say files given old new status (inl (order, asks, h)) = files_carried_out files (asked_output order) order.request old new status h
-files_say files given old new status (inr (fault, why, ends, unopened)) = untouched files status (opened files 0 unopened)

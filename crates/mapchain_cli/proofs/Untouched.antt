@@ -1,5 +1,5 @@
--- Files that a request reads hold what they held, and no output is begun.
-use Rattle.std.proofs.Common.{◌≡◌, ◌∙◌, inl, inr, ℕ, zero, suc, Option, Some, None, ap, length, refl}
+-- Requests only read files, but for their output.
+use Rattle.std.proofs.Common.{◌≡◌, ◌∙◌, inl, inr, ℕ, zero, suc, Bool, true, false, Option, Some, None, ap, length, refl}
 use Rattle.byte_ends.specs.Ends.{Drained, Fed}
 use Rattle.command_words.specs.declared.request.Request.{Request}
 use Rattle.command_words.specs.declared.request.Request.TheVariants.{Build, Simplify, Geo, Stat}
@@ -9,36 +9,66 @@ use Rattle.reports.specs.declared.report.Report.{Report}
 use Rattle.topology_building.specs.declared.options.Options.{Options}
 use Rattle.mapchain_cli.specs.Asking.{IsAnswered, IsRefused, RefusesBuild, RefusesTopology, texts_of}
 use Rattle.mapchain_cli.specs.Endings.{RefusesFile, RefusesLayers}
-use Rattle.mapchain_cli.specs.Files.{FileState, FileUse, Layers, Opened, RefusedBehind, opened_times}
-use Rattle.mapchain_cli.specs.Outputs.{outputs}
+use Rattle.mapchain_cli.specs.Files.{FileState, FileUse, Layers, OnlyReads, Opened, RefusedBehind, one_more, opened_times, outputs, used}
 use Rattle.mapchain_cli.specs.declared.ending.Ending.{Ending}
 use Rattle.mapchain_cli.specs.declared.ending.Ending.TheVariants.{BadArea, BadRingArea, BadShare, Refused, FileRefused, Memory}
 use Rattle.mapchain_cli.proofs.Opened.{times_contents}
-
--- files hold what they held, and no output was begun
-pub record IsUntouched (files : FileUse) : Type 0 where
-  pub contents : files.after.contents ≡ files.before.contents
-  pub outputs : outputs files.after.counts ≡ outputs files.before.counts
 
 times_outputs : (n : ℕ) (s : FileState) → outputs (opened_times n s).counts ≡ outputs s.counts
 times_outputs zero s = refl
 times_outputs (suc n) s = times_outputs n s
 
-pub opened : (files : FileUse) (n : ℕ) → Opened n files → IsUntouched files
+times_pending : (n : ℕ) (s : FileState) → (opened_times n s).pending ≡ s.pending
+times_pending zero s = refl
+times_pending (suc n) s = times_pending n s
+
+pub opened : (files : FileUse) (n : ℕ) → Opened n files → OnlyReads files
 opened files n e = record {
   contents = ap (λ (s : FileState). s.contents) e ∙ times_contents n files.before;
   outputs = ap (λ (s : FileState). outputs s.counts) e ∙ times_outputs n files.before;
+  pending = ap (λ (s : FileState). s.pending) e ∙ times_pending n files.before;
 }
 
-behind : (files : FileUse) (n : ℕ) → RefusedBehind n files → IsUntouched files
+behind : (files : FileUse) (n : ℕ) → RefusedBehind n files → OnlyReads files
 behind files n e = record {
   contents = ap (λ (s : FileState). s.contents) e ∙ times_contents n files.before;
   outputs = ap (λ (s : FileState). outputs s.counts) e ∙ times_outputs n files.before;
+  pending = ap (λ (s : FileState). s.pending) e ∙ times_pending n files.before;
+}
+
+-- ---- one after another
+
+-- nothing was done
+pub unread : (before after : FileState) → after ≡ before → OnlyReads (used before after)
+unread before after e = record {
+  contents = ap (λ (s : FileState). s.contents) e;
+  outputs = ap (λ (s : FileState). outputs s.counts) e;
+  pending = ap (λ (s : FileState). s.pending) e;
+}
+
+-- one more file was opened, or wasn't
+pub one_read : (is_open : Bool) (before after : FileState) → after ≡ one_more is_open before → OnlyReads (used before after)
+one_read true before after e = record {
+  contents = ap (λ (s : FileState). s.contents) e;
+  outputs = ap (λ (s : FileState). outputs s.counts) e;
+  pending = ap (λ (s : FileState). s.pending) e;
+}
+one_read false before after e = record {
+  contents = ap (λ (s : FileState). s.contents) e;
+  outputs = ap (λ (s : FileState). outputs s.counts) e;
+  pending = ap (λ (s : FileState). s.pending) e;
+}
+
+pub reads_on : (before between after : FileState) → OnlyReads (used before between) → OnlyReads (used between after) → OnlyReads (used before after)
+reads_on before between after h k = record {
+  contents = k.contents ∙ h.contents;
+  outputs = k.outputs ∙ h.outputs;
+  pending = k.pending ∙ h.pending;
 }
 
 -- ---- requests that are done
 
-pub answered : (files : FileUse) (request : Request) (old new : Drained) (report : Option Report) → IsAnswered files request old new report → IsUntouched files
+pub answered : (files : FileUse) (request : Request) (old new : Drained) (report : Option Report) → IsAnswered files request old new report → OnlyReads files
 answered files (Build layers exact grid area keep ring_area) old new (Some report) h = opened files (length (texts_of layers.items)) h.2.each_once
 answered files (Build layers exact grid area keep ring_area) old new None h = absurd h
 answered files (Simplify area ring_area path) old new (Some report) h = opened files 1 h.4.once
@@ -50,35 +80,35 @@ answered files (Stat path) old new None h = opened files 1 h.once
 
 -- ---- requests that aren't
 
-layers_refused : (files : FileUse) (o : Options) (layers : Layers) (old new : Drained) (e : BuildFault) → RefusesLayers files o layers old new e → IsUntouched files
+layers_refused : (files : FileUse) (o : Options) (layers : Layers) (old new : Drained) (e : BuildFault) → RefusesLayers files o layers old new e → OnlyReads files
 layers_refused files o layers old new e (inl h) = behind files h.1.0 h.1.4
 layers_refused files o layers old new e (inr (inl h)) = opened files (length layers) h.1
 layers_refused files o layers old new e (inr (inr h)) = opened files (length layers) h.each_once
 
-build_refused : (files : FileUse) (request : Request) (old new : Drained) (e : BuildFault) → RefusesBuild files request old new e → IsUntouched files
+build_refused : (files : FileUse) (request : Request) (old new : Drained) (e : BuildFault) → RefusesBuild files request old new e → OnlyReads files
 build_refused files (Build layers exact grid area keep ring_area) old new e h = layers_refused files h.0 _ old new e h.2
 build_refused files (Simplify area ring_area path) old new e h = absurd h
 build_refused files (Geo name path) old new e h = absurd h
 build_refused files (Stat path) old new e h = absurd h
 
 file_refused : (files : FileUse) (path : _) (old new : Drained) (Fails : Fed → Fed → FileFault → Type 0) (e : FileFault) → RefusesFile files path old new Fails e
-    → IsUntouched files
+    → OnlyReads files
 file_refused files path old new Fails e (inl h) = behind files 0 h.2
 file_refused files path old new Fails e (inr h) = opened files 1 h.once
 
-topology_refused : (files : FileUse) (request : Request) (old new : Drained) (e : FileFault) → RefusesTopology files request old new e → IsUntouched files
+topology_refused : (files : FileUse) (request : Request) (old new : Drained) (e : FileFault) → RefusesTopology files request old new e → OnlyReads files
 topology_refused files (Build layers exact grid area keep ring_area) old new e h = absurd h
 topology_refused files (Simplify area ring_area path) old new e h = file_refused files path.now old new _ e h.4
 topology_refused files (Geo name path) old new e h = file_refused files path.now old new _ e h
 topology_refused files (Stat path) old new e h = file_refused files path.now old new _ e h
 
-memory_refused : (files : FileUse) (request : Request) (old new : Drained) → IsRefused files request old new Memory → IsUntouched files
+memory_refused : (files : FileUse) (request : Request) (old new : Drained) → IsRefused files request old new Memory → OnlyReads files
 memory_refused files (Build layers exact grid area keep ring_area) old new h = opened files h.1.0 h.1.2
 memory_refused files (Simplify area ring_area path) old new h = opened files 0 h.1
 memory_refused files (Geo name path) old new h = opened files 0 h.1
 memory_refused files (Stat path) old new h = opened files 0 h.1
 
-pub refused : (files : FileUse) (request : Request) (old new : Drained) (ending : Ending) → IsRefused files request old new ending → IsUntouched files
+pub refused : (files : FileUse) (request : Request) (old new : Drained) (ending : Ending) → IsRefused files request old new ending → OnlyReads files
 refused files request old new BadArea h = opened files 0 h.1
 refused files request old new BadRingArea h = opened files 0 h.1
 refused files request old new BadShare h = opened files 0 h.1

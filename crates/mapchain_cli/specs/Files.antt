@@ -1,5 +1,5 @@
 -- The files of a run: their bytes, the sources that they are opened as, the outputs that take their place, and how often that was done.
-use Rattle.std.specs.Prelude.{◌≡◌, ℕ, zero, suc, ◌+◌, ◌≤◌, Bool, true, false, List, [], ◌∷◌, Option, Some, IfSome}
+use Rattle.std.specs.Prelude.{◌≡◌, ◌≢◌, ℕ, zero, suc, ◌+◌, ◌≤◌, Bool, true, false, List, [], ◌∷◌, Option, Some, None, IfSome}
 use Rattle.byte_ends.specs.Ends.{Drained, Fed, saturated}
 use Rattle.layer_sources.specs.Sources.{Sources}
 use Rattle.mapchain_cli.specs.declared.counts.Counts.{Counts}
@@ -12,6 +12,8 @@ Contents = List ℕ → Option (List ℕ)
 pub record FileState : Type 0 where
   pub contents : Contents
   pub counts : Counts
+  -- the path of the output that was begun last, unless it was kept or taken away
+  pub pending : Option (List ℕ)
 
 -- ---- files that are read
 
@@ -79,18 +81,42 @@ abbrev pub with_begin : Bool → Counts → Counts
 with_begin true c = record c { begun = saturated (c.begun + 1) }
 with_begin false c = c
 
-abbrev pub begun : Bool → FileState → FileState
-begun is_begun s = record s { counts = with_begin is_begun s.counts }
+-- an output that is to take the place of the file of this path is begun, or isn't
+abbrev pub begun : Bool → List ℕ → FileState → FileState
+begun true path s = record s { counts = with_begin true s.counts; pending = Some path }
+begun false path s = s
 
 -- one more output that took the place of a file or was taken away
 abbrev pub with_end : Bool → Counts → Counts
 with_end true c = record c { kept = saturated (c.kept + 1) }
 with_end false c = record c { discarded = saturated (c.discarded + 1) }
 
-abbrev pub ended : Bool → FileState → FileState
-ended is_kept s = record s { counts = with_end is_kept s.counts }
+-- an output was taken away
+abbrev pub discarded : FileState → FileState
+discarded s = record s { counts = with_end false s.counts; pending = None }
 
--- the file of this path holds all that the output took, where that is known; that is counted
+-- the file of this path, for which an output was begun last, holds all that the output took, where that is known; no other file changes, and
+-- that is counted
 pub record Keeps (path : List ℕ) (taken : Option (List ℕ)) (old new : FileState) : Type 0 where
+  pub begun : old.pending ≡ Some path
   pub holds : IfSome (new.contents path) (λ bytes. taken ≡ Some bytes)
+  pub others : (other : List ℕ) → other ≢ path → new.contents other ≡ old.contents other
   pub counted : new.counts ≡ with_end true old.counts
+  pub settled : new.pending ≡ None
+
+-- every file holds what it held, but perhaps that of this path, if there is one
+abbrev pub HoldsBut : Option (List ℕ) → FileState → FileState → Type 0
+HoldsBut None old new = new.contents ≡ old.contents
+HoldsBut (Some path) old new = (other : List ℕ) → other ≢ path → new.contents other ≡ old.contents other
+
+-- ---- files that are only read
+
+-- how many outputs were begun, kept and taken away
+abbrev pub outputs : Counts → ℕ × (ℕ × ℕ)
+outputs c = (c.begun, (c.kept, c.discarded))
+
+-- files were opened, or not, and nothing else was done
+pub record OnlyReads (files : FileUse) : Type 0 where
+  pub contents : files.after.contents ≡ files.before.contents
+  pub outputs : outputs files.after.counts ≡ outputs files.before.counts
+  pub pending : files.after.pending ≡ files.before.pending

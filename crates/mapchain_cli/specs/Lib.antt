@@ -1,6 +1,7 @@
 pub mod Asking
 pub mod Endings
 pub mod Files
+pub mod Following
 pub mod Outputs
 pub mod Performing
 pub mod Runs

@@ -1,10 +1,9 @@
--- What is told of a request, and what a run over standard output promises.
-use Rattle.std.specs.Prelude.{◌≡◌, ◌⊎◌, ℕ, List, [], codes, Option, None, Some}
+-- How a request comes out over a sink, and what is told of that.
+use Rattle.std.specs.Prelude.{ℕ, List, [], codes, Option, None, Some, Result, Ok, Err}
 use Rattle.byte_ends.specs.Ends.{Drained}
 use Rattle.command_words.specs.declared.request.Request.{Request}
 use Rattle.fault_lines.specs.FaultLines.{fault_text, file_fault_text}
 use Rattle.fault_lines.specs.Statuses.{failed, file_status_of, status_of, words_refused}
-use Rattle.fault_lines.specs.Telling.{Tells}
 use Rattle.reports.specs.Reports.{report_text}
 use Rattle.reports.specs.declared.report.Report.{Report}
 use Rattle.mapchain_cli.specs.Asking.{IsAnswered, IsRefused}
@@ -17,12 +16,18 @@ pub record Streams : Type 0 where
   pub out : Drained
   pub err : Drained
 
--- ---- what standard error takes
+-- ---- how a request comes out
 
--- of a request that is done: the report of a build or of simplifying
-abbrev pub told_of : Option Report → List ℕ
-told_of None = []
-told_of (Some report) = report_text report
+-- it is done, with the report of a build or of simplifying, or it isn't
+abbrev pub Outcome : Type 0
+Outcome = Result (Option Report) Ending
+
+-- over files with these contents it is done, and what is asked for was written; or it isn't, for this reason
+abbrev pub ComesOut : FileUse → Request → Drained → Drained → Outcome → Type 0
+ComesOut files request old new (Ok report) = IsAnswered files request old new report
+ComesOut files request old new (Err ending) = IsRefused files request old new ending
+
+-- ---- what standard error takes
 
 -- of one that isn't done: a line. For want of memory before the files are read there is none
 abbrev pub line_of : Ending → List ℕ
@@ -42,10 +47,12 @@ ending_status (Refused fault) = status_of fault
 ending_status (FileRefused fault) = file_status_of fault
 ending_status Memory = failed
 
--- ---- a request over files with these contents
+-- of a request that came out so: the report of a build or of simplifying where it is done
+abbrev pub told_of : Outcome → List ℕ
+told_of (Ok None) = []
+told_of (Ok (Some report)) = report_text report
+told_of (Err ending) = line_of ending
 
--- it is done, and its report told; or it isn't, and the line is told that says why
-abbrev pub IsPerformed : FileUse → Request → Streams → Streams → ℕ → Type 0
-IsPerformed files request old new status =
-    ((report : Option Report) × IsAnswered files request old.out new.out report × Tells old.err new.err (told_of report) × (status ≡ 0))
-    ⊎ ((ending : Ending) × IsRefused files request old.out new.out ending × Tells old.err new.err (line_of ending) × (status ≡ ending_status ending))
+abbrev pub status_after : Outcome → ℕ
+status_after (Ok report) = 0
+status_after (Err ending) = ending_status ending

@@ -1,7 +1,7 @@
 -- What a run promises: its exit status, and what standard output, standard error and files took.
 use Rattle.std.specs.Prelude.{◌≡◌, ◌⊎◌, ℕ, true, List, [], IfSome, None, Some}
 use Rattle.byte_ends.specs.Writes.{WritesAll, WritesFront}
-use Rattle.command_words.specs.Asked.{kinds_of, order_of, ordered}
+use Rattle.command_words.specs.Asked.{detail, detail_of, kinds_of, order_of, ordered}
 use Rattle.command_words.specs.Faults.{IsFaultBy, words_fault_text}
 use Rattle.command_words.specs.Joined.{joined}
 use Rattle.command_words.specs.declared.request.Order.{Order}
@@ -12,7 +12,8 @@ use Rattle.fault_lines.specs.Statuses.{failed, words_refused}
 use Rattle.fault_lines.specs.Telling.{Tells}
 use Rattle.inputs.specs.declared.fault.BuildFault.TheVariants.{Write}
 use Rattle.mapchain_cli.specs.Files.{FileUse, Opened}
-use Rattle.mapchain_cli.specs.Outputs.{IsCarriedOut, asked_output}
+use Rattle.mapchain_cli.specs.Following.{IsCarriedOut}
+use Rattle.mapchain_cli.specs.Outputs.{asked_output}
 use Rattle.mapchain_cli.specs.Performing.{Streams}
 
 -- ---- words that ask for nothing that is done
@@ -47,7 +48,8 @@ IsUnasked given fault = ((fault ≡ words.Memory) ⊎ (order_of given ≡ None))
 -- the order that the words ask for is carried out, or they ask for none
 abbrev pub RunsOn : FileUse → List (List ℕ) → Streams → Streams → ℕ → Type 0
 RunsOn files given old new status =
-    ((order : Order) × (order_of given ≡ Some (ordered order)) × IsCarriedOut files (asked_output order) order.request old new status)
+    ((order : Order) × (order_of given ≡ Some (ordered order)) × (detail_of given ≡ Some (detail order))
+    × IsCarriedOut files (asked_output order) (detail order) order.request old new status)
     ⊎ ((fault : WordsFault) × IsUnasked given fault × EndsAtWords fault old new status × Opened 0 files)
 
 -- the same of the words as they are given: an option whose value may be any text and that value are joined first

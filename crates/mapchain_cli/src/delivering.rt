@@ -1,5 +1,5 @@
-// Running a request whose output takes the place of a file.
-ghost use Rattle.std.specs.Prelude.{◌≡◌};
+// Doing a request whose output takes the place of a file.
+ghost use Rattle.std.specs.Prelude.{◌≡◌, IfOk};
 ghost use Rattle.command_words.specs.Requests.{IsGridInRange};
 ghost use Rattle.mapchain_cli.specs.Asking.{CallsFor};
 ghost use Rattle.mapchain_cli.specs.Files.{used};
@@ -9,12 +9,10 @@ ghost use Rattle.mapchain_cli.specs.Outputs.{IsSent};
 use crate::ending::Ending;
 use crate::files::Files;
 use crate::running::answer;
-use crate::telling::{tell_done, tell_ending};
-use byte_ends::{Drain, Sink};
 use command_words::Request;
 use effective_area::HeapLinks;
-use fault_lines::DONE;
 use inputs::{BuildFault, FileFault};
+use reports::Report;
 use std::alloc::Global;
 
 /// Whether a topology is to be built.
@@ -34,36 +32,34 @@ fn unkept(is_build: bool, sent: u64) -> Ending
     Ending::FileRefused(FileFault::Write { sent })
 }
 
-/// Does what is asked for, by this reducer where lines are reduced, puts the output in the place of the file of this path, and tells the
-/// report of a build or of simplifying; or tells why it isn't done, and leaves the file as it is. The answer is the exit status.
-pub fn deliver<F: Files, W: Drain>(
+/// Does what is asked for, by this reducer where lines are reduced, and puts the output in the place of the file of this path. Gives the
+/// report of a build or of simplifying, or why it isn't done, and leaves the file as it is then.
+pub(crate) fn deliver<F: Files>(
     alloc: Global,
     reducer: &mut HeapLinks,
-    request: Request<'_>,
+    request: &Request<'_>,
     path: &str,
     files: &mut F,
-    err: &mut Sink<W>,
-) -> u8
-    requires { IsGridInRange request }
-    ensures sent { IsSent (used (F.state files.old) (F.state files.new)) path.now request.entry err.old err.new result }
-    ensures reduced { result ≡ 0 → CallsFor (F.state files.old).contents request.entry reducer.old.calls reducer.new.calls }
+) -> Result<Option<Report>, Ending>
+    requires { IsGridInRange request.now }
+    ensures sent { IsSent (used (F.state files.old) (F.state files.new)) path.now request.now result }
+    ensures reduced { IfOk result (λ _. CallsFor (F.state files.old).contents request.now reducer.old.calls reducer.new.calls) }
 {
-    let is_build = is_build(&request);
+    let is_build = is_build(request);
     let Some(mut output) = files.begin(path) else {
-        return tell_ending(&unkept(is_build, 0), err);
+        return Err(unkept(is_build, 0));
     };
     match answer(alloc, reducer, request, files, &mut output) {
         Ok(report) => {
             let sent = output.sent();
-            if !files.keep(path, output.into_inner()) {
-                return tell_ending(&unkept(is_build, sent), err);
+            if files.keep(output.into_inner()) {
+                return Ok(report);
             }
-            tell_done(&report, err);
-            DONE
+            Err(unkept(is_build, sent))
         }
         Err(ending) => {
             files.discard(output.into_inner());
-            tell_ending(&ending, err)
+            Err(ending)
         }
     }
 }

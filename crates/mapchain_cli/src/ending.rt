@@ -4,7 +4,7 @@ use std::alloc::{AllocError, AllocFailed};
 
 /// How a run ends that isn't done.
 #[derive(Drop)]
-pub(crate) enum Ending {
+pub enum Ending {
     /// The area isn't one that is taken.
     BadArea,
     /// The least area of a ring isn't one that is taken.

@@ -1,8 +1,9 @@
 // The files of a run: layers and topologies that are read, and outputs that take the place of a file.
 ghost use Rattle.std.specs.Prelude.{◌≡◌, ℕ, List, None, IfNone, IfSome, false, is_some, true};
-ghost use Rattle.mapchain_cli.specs.Files.{FileState, IsFresh, IsOpened, Keeps, begun, ended, one_more};
+ghost use Rattle.mapchain_cli.specs.Files.{FileState, IsFresh, IsOpened, Keeps, begun, discarded, one_more};
 
 use byte_ends::{Drain, Feed, Sink, Source};
+use explanations::FileKind;
 
 /// Files that are read and replaced by their names, as a file system.
 pub trait Files {
@@ -12,7 +13,8 @@ pub trait Files {
     /// The device that takes the bytes of an output which is to take the place of a file.
     type W: Drain + Drop;
 
-    // The bytes of the files, where they are known, and how often files were opened and outputs begun, kept and taken away.
+    // The bytes of the files, where they are known, how often files were opened and outputs begun, kept and taken away, and for which
+    // file the last one was begun.
     ghost state: { Self → FileState };
 
     /// The file of this name from its first byte on, or nothing where it can't be opened.
@@ -23,22 +25,26 @@ pub trait Files {
         // The call is counted, and nothing else changes.
         ensures counted { state self.new ≡ one_more (is_some result) (state self.old) };
 
+    /// What a path names, as far as that is known.
+    fn look(&mut self, path: &str) -> FileKind
+        ensures same { state self.new ≡ state self.old };
+
     /// Begins an output that is to take the place of the file of this path, or of none yet, or nothing where that can't be. The file
     /// stays as it is.
     fn begin(&mut self, path: &str) -> Option<Sink<Self::W>>
         // Nothing was written to it, and no call of it has failed.
         ensures fresh { IfSome result IsFresh }
-        // The call is counted, and nothing else changes.
-        ensures counted { state self.new ≡ begun (is_some result) (state self.old) };
+        // The call is counted, the path is the pending one, and nothing else changes.
+        ensures counted { state self.new ≡ begun (is_some result) path.now (state self.old) };
 
-    /// Puts an output that is whole in the place of the file of this path, once it is on the disk, and answers whether that was done.
-    /// Where it wasn't, the file stays as it is, and the output is taken away.
-    fn keep(&mut self, path: &str, output: Self::W) -> bool
-        // The file holds what the output took, and the call is counted.
-        ensures kept { result ≡ true → Keeps path.now (Self.W.taken output) (state self.old) (state self.new) }
-        ensures lost { result ≡ false → state self.new ≡ ended false (state self.old) };
+    /// Puts an output that is whole in the place of the file for which one was begun last, once it is on the disk, and answers whether
+    /// that was done. Where it wasn't, the file stays as it is, and the output is taken away.
+    fn keep(&mut self, output: Self::W) -> bool
+        // That file holds what the output took, no other file changes, and the call is counted.
+        ensures kept { result ≡ true → (path : List ℕ) × Keeps path (Self.W.taken output) (state self.old) (state self.new) }
+        ensures lost { result ≡ false → state self.new ≡ discarded (state self.old) };
 
     /// Takes an output away that isn't to be kept. All files stay as they are.
     fn discard(&mut self, output: Self::W)
-        ensures counted { state self.new ≡ ended false (state self.old) };
+        ensures counted { state self.new ≡ discarded (state self.old) };
 }

@@ -8,15 +8,18 @@
 mod counts;
 mod delivering;
 mod ending;
+mod explaining;
 mod file_running;
 mod files;
+mod following;
 mod options;
 mod running;
 mod telling;
 
 pub use command_words::name_and_path;
 pub use counts::Counts;
-pub use delivering::deliver;
+pub use ending::Ending;
+pub use explanations::FileKind;
 pub use fault_lines::{file_status, status};
 pub use files::Files;
 pub use running::{command, perform};

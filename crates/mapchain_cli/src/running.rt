@@ -1,7 +1,7 @@
 // Running the program.
-ghost use Rattle.std.specs.Prelude.{◌≡◌, ◌⊎◌, ◌<◌, ◌≤◌, IfErr, IfOk, IfSome, None, OnOk, length, map, true};
+ghost use Rattle.std.specs.Prelude.{◌≡◌, ◌⊎◌, ◌<◌, ◌≤◌, IfErr, IfOk, IfSome, None, OnOk, length, map, option_map, true};
 ghost use Rattle.std.specs.String.{string_bytes};
-ghost use Rattle.command_words.specs.Asked.{output_of};
+ghost use Rattle.command_words.specs.Asked.{detail, output_of, report_of};
 ghost use Rattle.command_words.specs.Joined.{joined};
 ghost use Rattle.command_words.specs.Requests.{IsGridInRange};
 ghost use Rattle.inputs.specs.declared.fault.BuildFault.{BuildFault as Fault};
@@ -9,9 +9,9 @@ ghost use Rattle.layer_sources.specs.Sources.{Sources};
 ghost use Rattle.topology_building.specs.Building.{CallsForLayers};
 ghost use Rattle.mapchain_cli.specs.Asking.{CallsFor, IsAnswered, IsRefused, texts_of};
 ghost use Rattle.mapchain_cli.specs.Endings.{BuildsOf, IsUnopened, RefusesLayers};
-ghost use Rattle.mapchain_cli.specs.Files.{AreOpened, Opened, OpensFront, used};
-ghost use Rattle.mapchain_cli.specs.Outputs.{IsCarriedOut, Settles, asked_output};
-ghost use Rattle.mapchain_cli.specs.Performing.{IsPerformed};
+ghost use Rattle.mapchain_cli.specs.Files.{AreOpened, HoldsBut, Opened, OpensFront, used};
+ghost use Rattle.mapchain_cli.specs.Following.{IsCarriedOut};
+ghost use Rattle.mapchain_cli.specs.Outputs.{IsPerformed, Settles, asked_output};
 ghost use Rattle.mapchain_cli.specs.Runs.{Runs, RunsOn};
 ghost use Rattle.mapchain_cli.specs.declared.ending.Ending.TheVariants as ending;
 
@@ -19,12 +19,12 @@ use crate::delivering::deliver;
 use crate::ending::Ending;
 use crate::file_running::{decode_object, simplify_file, summarise};
 use crate::files::Files;
+use crate::following::follow;
 use crate::options::{options_of, thresholds_asked};
-use crate::telling::{tell_done, tell_ending, tell_words};
+use crate::telling::{tell_outcome, tell_words};
 use byte_ends::{Drain, ReadFault, Sink, Source};
 use command_words::{Order, Request, WordsFault, joined_words, read_words};
 use effective_area::HeapLinks;
-use fault_lines::DONE;
 use inputs::BuildFault;
 use json_value::OwnText;
 use reports::Report;
@@ -82,14 +82,14 @@ fn build_layers<F: Files, V: Drain>(
 pub(crate) fn answer<F: Files, V: Drain>(
     alloc: Global,
     reducer: &mut HeapLinks,
-    request: Request<'_>,
+    request: &Request<'_>,
     files: &mut F,
     out: &mut Sink<V>,
 ) -> Result<Option<Report>, Ending>
-    requires { IsGridInRange request }
-    ensures answered { IfOk result (λ report. IsAnswered (used (F.state files.old) (F.state files.new)) request.entry out.old out.new report) }
-    ensures reduced { IfOk result (λ _. CallsFor ((F.state files.old).contents) request.entry reducer.old.calls reducer.new.calls) }
-    ensures refused { IfErr result (λ e. IsRefused (used (F.state files.old) (F.state files.new)) request.entry out.old out.new e) }
+    requires { IsGridInRange request.now }
+    ensures answered { IfOk result (λ report. IsAnswered (used (F.state files.old) (F.state files.new)) request.now out.old out.new report) }
+    ensures reduced { IfOk result (λ _. CallsFor ((F.state files.old).contents) request.now reducer.old.calls reducer.new.calls) }
+    ensures refused { IfErr result (λ e. IsRefused (used (F.state files.old) (F.state files.new)) request.now out.old out.new e) }
 {
     match request {
         Request::Build {
@@ -100,7 +100,7 @@ pub(crate) fn answer<F: Files, V: Drain>(
             keep,
             ring_area,
         } => {
-            let options = options_of(alloc, exact, grid, area, keep, ring_area)?;
+            let options = options_of(alloc, *exact, *grid, area, *keep, ring_area)?;
             let report = build_layers(alloc, reducer, layers.as_slice(), &options, files, out)?;
             Ok(Some(report))
         }
@@ -124,53 +124,49 @@ pub(crate) fn answer<F: Files, V: Drain>(
     }
 }
 
-/// Does what is asked for, by this reducer where lines are reduced, and tells the report of a build or of simplifying, or why it isn't done.
-/// The answer is the exit status.
-pub fn perform<F: Files, V: Drain, W: Drain>(
+/// Does what is asked for, by this reducer where lines are reduced, over standard output or over an output that takes the place of the
+/// file of this path. Gives the report of a build or of simplifying, or why it isn't done.
+pub fn perform<F: Files, V: Drain>(
     alloc: Global,
     reducer: &mut HeapLinks,
-    request: Request<'_>,
+    request: &Request<'_>,
+    output: Option<&str>,
     files: &mut F,
     out: &mut Sink<V>,
-    err: &mut Sink<W>,
-) -> u8
-    requires { IsGridInRange request }
-    ensures performed { IsPerformed (used (F.state files.old) (F.state files.new)) request.entry
-        (record { out = out.old; err = err.old }) (record { out = out.new; err = err.new }) result }
-    ensures reduced { result ≡ 0 → CallsFor ((F.state files.old).contents) request.entry reducer.old.calls reducer.new.calls }
+) -> Result<Option<Report>, Ending>
+    requires { IsGridInRange request.now }
+    ensures performed { IsPerformed (used (F.state files.old) (F.state files.new)) (option_map (λ o. o.now) output.entry) request.now out.old out.new result }
+    ensures reduced { IfOk result (λ _. CallsFor ((F.state files.old).contents) request.now reducer.old.calls reducer.new.calls) }
 {
-    match answer(alloc, reducer, request, files, out) {
-        Ok(report) => {
-            tell_done(&report, err);
-            DONE
-        }
-        Err(ending) => tell_ending(&ending, err),
+    match output {
+        None => answer(alloc, reducer, request, files, out),
+        Some(path) => deliver(alloc, reducer, request, path, files),
     }
 }
 
-/// Carries out an order, over standard output or the file that it names for the output. The answer is the exit status.
+/// Carries out an order: does what is asked for, tells how that came out, and says more of it where that is asked. The answer is the
+/// exit status.
 fn carry_out<F: Files, V: Drain, W: Drain>(
     alloc: Global,
-    reducer: &mut HeapLinks,
-    order: Order<'_>,
+    order: &Order<'_>,
     files: &mut F,
     out: &mut Sink<V>,
     err: &mut Sink<W>,
 ) -> u8
-    requires { IsGridInRange order.request }
-    ensures { IsCarriedOut (used (F.state files.old) (F.state files.new)) (asked_output order.entry) order.entry.request
+    requires { IsGridInRange order.now.request }
+    ensures { IsCarriedOut (used (F.state files.old) (F.state files.new)) (asked_output order.now) (detail order.now) order.now.request
         (record { out = out.old; err = err.old }) (record { out = out.new; err = err.new }) result }
 {
-    match order.output {
-        None => perform(alloc, reducer, order.request, files, out, err),
-        Some(path) => deliver(alloc, reducer, order.request, path, files, err),
-    }
+    let mut reducer = HeapLinks::new();
+    let request = &order.request;
+    let outcome = perform(alloc, &mut reducer, request, order.output, files, out);
+    tell_outcome(&outcome, err);
+    follow(alloc, order, &outcome, files, err)
 }
 
 /// Runs the program on these words, in which an option whose value may be any text and that value are one word.
 fn run<F: Files, V: Drain, W: Drain>(
     alloc: Global,
-    reducer: &mut HeapLinks,
     words: &[String],
     files: &mut F,
     out: &mut Sink<V>,
@@ -180,7 +176,7 @@ fn run<F: Files, V: Drain, W: Drain>(
         (record { out = out.old; err = err.old }) (record { out = out.new; err = err.new }) result }
 {
     match read_words(alloc, words) {
-        Ok(order) => carry_out(alloc, reducer, order, files, out, err),
+        Ok(order) => carry_out(alloc, &order, files, out, err),
         Err(fault) => tell_words(alloc, &fault, out, err),
     }
 }
@@ -208,20 +204,15 @@ pub fn command<F: Files, V: Drain, W: Drain>(
     ensures elsewhere { IfSome (output_of (joined (map string_bytes words.items))) (λ _. out.new ≡ out.old) }
     // Where the input or the words are refused, standard output takes nothing.
     ensures refused { (result ≡ 1) ⊎ (result ≡ 2) → out.new ≡ out.old }
-    // Unless all is done, every file holds what it held.
-    ensures lost { 0 < result → (F.state files.new).contents ≡ (F.state files.old).contents }
-    // No output to a file was begun, or one, which was kept or taken away.
+    // Unless all is done, every file holds what it held, where the words name none for a report of the run.
+    ensures lost { 0 < result → report_of (joined (map string_bytes words.items)) ≡ None → (F.state files.new).contents ≡ (F.state files.old).contents }
+    // Where the input or the words are refused, every file but that of the report holds what it held.
+    ensures kept { (result ≡ 1) ⊎ (result ≡ 2) → HoldsBut (report_of (joined (map string_bytes words.items))) (F.state files.old) (F.state files.new) }
+    // No output to a file was begun, or one or two, each kept or taken away before the next.
     ensures settled { Settles (F.state files.old).counts (F.state files.new).counts }
 {
     match joined_words(alloc, words.as_slice()) {
-        Ok(joined) => run(
-            alloc,
-            &mut HeapLinks::new(),
-            joined.as_slice(),
-            files,
-            out,
-            err,
-        ),
+        Ok(joined) => run(alloc, joined.as_slice(), files, out, err),
         Err(_) => tell_words(alloc, &WordsFault::Memory, out, err),
     }
 }

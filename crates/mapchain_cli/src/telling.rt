@@ -1,20 +1,41 @@
 // Telling how a run ended.
-ghost use Rattle.std.specs.Prelude.{◌≡◌};
+ghost use Rattle.std.specs.Prelude.{◌≡◌, Ok};
 ghost use Rattle.fault_lines.specs.Telling.{Tells};
-ghost use Rattle.mapchain_cli.specs.Performing.{ending_status, line_of, told_of};
+ghost use Rattle.mapchain_cli.specs.Performing as spec;
+ghost use Rattle.mapchain_cli.specs.Performing.{line_of, told_of};
 ghost use Rattle.mapchain_cli.specs.Runs.{EndsAtWords, IsHelped};
 
 use crate::ending::Ending;
 use byte_ends::{Drain, Sink, flush_behind};
 use command_words::WordsFault;
-use fault_lines::{DONE, FAILED, WORDS_REFUSED, tell_fault, tell_file_fault, tell_text};
+use fault_lines::{
+    DONE, FAILED, WORDS_REFUSED, file_status, status, tell_fault, tell_file_fault, tell_text,
+};
 use inputs::BuildFault;
 use reports::{Report, report_text};
 use std::alloc::Global;
 
+/// Tells why a request isn't done.
+fn tell_ending<W: Drain>(ending: &Ending, err: &mut Sink<W>)
+    ensures { Tells err.old err.new (line_of ending.now) }
+{
+    match ending {
+        Ending::BadArea => tell_text(b"error: bad area\n", err),
+        Ending::BadRingArea => tell_text(b"error: bad ring area\n", err),
+        Ending::BadShare => tell_text(b"error: bad share\n", err),
+        Ending::Refused(fault) => {
+            tell_fault(fault, err);
+        }
+        Ending::FileRefused(fault) => {
+            tell_file_fault(fault, err);
+        }
+        Ending::Memory => tell_text(b"", err),
+    }
+}
+
 /// Tells the report of a request that is done, if it has one.
-pub(crate) fn tell_done<W: Drain>(report: &Option<Report>, err: &mut Sink<W>)
-    ensures { Tells err.old err.new (told_of report.now) }
+fn tell_done<W: Drain>(report: &Option<Report>, err: &mut Sink<W>)
+    ensures { Tells err.old err.new (told_of (Ok report.now)) }
 {
     match report {
         Some(report) => {
@@ -25,30 +46,35 @@ pub(crate) fn tell_done<W: Drain>(report: &Option<Report>, err: &mut Sink<W>)
     }
 }
 
-/// Tells why a request isn't done, and gives the status.
-pub(crate) fn tell_ending<W: Drain>(ending: &Ending, err: &mut Sink<W>) -> u8
-    ensures status { result ≡ ending_status ending.now }
-    ensures told { Tells err.old err.new (line_of ending.now) }
+/// Tells how a request came out: the report of a build or of simplifying, or why it isn't done.
+pub(crate) fn tell_outcome<W: Drain>(outcome: &Result<Option<Report>, Ending>, err: &mut Sink<W>)
+    ensures { Tells err.old err.new (told_of outcome.now) }
+{
+    match outcome {
+        Ok(report) => tell_done(report, err),
+        Err(ending) => tell_ending(ending, err),
+    }
+}
+
+/// The exit status of a request that isn't done.
+fn ending_status(ending: &Ending) -> u8
+    ensures { result ≡ spec.ending_status ending.now }
 {
     match ending {
-        Ending::BadArea => {
-            tell_text(b"error: bad area\n", err);
-            WORDS_REFUSED
-        }
-        Ending::BadRingArea => {
-            tell_text(b"error: bad ring area\n", err);
-            WORDS_REFUSED
-        }
-        Ending::BadShare => {
-            tell_text(b"error: bad share\n", err);
-            WORDS_REFUSED
-        }
-        Ending::Refused(fault) => tell_fault(fault, err),
-        Ending::FileRefused(fault) => tell_file_fault(fault, err),
-        Ending::Memory => {
-            tell_text(b"", err);
-            FAILED
-        }
+        Ending::BadArea | Ending::BadRingArea | Ending::BadShare => WORDS_REFUSED,
+        Ending::Refused(fault) => status(fault),
+        Ending::FileRefused(fault) => file_status(fault),
+        Ending::Memory => FAILED,
+    }
+}
+
+/// The exit status of a request that came out so.
+pub(crate) fn status_after(outcome: &Result<Option<Report>, Ending>) -> u8
+    ensures { result ≡ spec.status_after outcome.now }
+{
+    match outcome {
+        Ok(_) => DONE,
+        Err(ending) => ending_status(ending),
     }
 }
 

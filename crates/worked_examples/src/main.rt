@@ -3,10 +3,16 @@
 //! is printed for each run that went otherwise, and then the counts. `FORMAT.md` says what a page may hold.
 #![tactic(auto)]
 
+ghost use Rattle.std.specs.Prelude.{◌≡◌, IfSome};
+ghost use Rattle.std.specs.Option.{option_map};
+ghost use Rattle.std.specs.String.{string_bytes};
+ghost use Rattle.example_pages.specs.Held.{lent};
+ghost use Rattle.mapchain_cli.specs.Files.{IsFresh};
+
 use byte_ends::devices::{CutReader, CutWriter};
 use byte_ends::{FromRead, Sink, Source, ToWrite};
 use example_pages::{Ended, LentFiles, Program, Streams, try_page};
-use mapchain_cli::{Counts, command};
+use mapchain_cli::{Counts, FileKind, command};
 use std::alloc::{AllocGlobal, Global};
 use std::fs::Files;
 use std::{fs, io};
@@ -14,8 +20,26 @@ use std::{fs, io};
 // The files of a page as the command line reads and writes them.
 #[derive(Drop)]
 struct PageFiles<'a> {
+    alloc: Global,
     files: LentFiles<'a>,
     counts: Counts,
+    /// The path of the output that was begun last, unless it was kept or taken away.
+    pending: Option<String>,
+}
+
+impl<'a> PageFiles<'a> {
+    // Begins an output, and gives the path that it is for, or nothing where that can't be.
+    fn begin_for(&mut self, path: &str) -> Option<(String, Sink<ToWrite<CutWriter>>)>
+        ensures path { IfSome result (λ r. string_bytes r.0 ≡ path.now) }
+        ensures fresh { IfSome result (λ r. IsFresh r.1) }
+        ensures same { lent self.new.files ≡ lent self.old.files }
+        ensures counts { self.new.counts ≡ self.old.counts }
+        ensures pending { self.new.pending ≡ self.old.pending }
+    {
+        let name = String::from_str(self.alloc, path).ok()?;
+        let output = self.files.begin()?;
+        Some((name, output))
+    }
 }
 
 impl<'a> mapchain_cli::Files for PageFiles<'a> {
@@ -23,9 +47,7 @@ impl<'a> mapchain_cli::Files for PageFiles<'a> {
 
     type W = ToWrite<CutWriter>;
 
-    ghost use Rattle.example_pages.specs.Held.{lent};
-
-    ghost state = { λ s. record { contents = lent s.files; counts = s.counts } };
+    ghost state = { λ s. record { contents = lent s.files; counts = s.counts; pending = option_map string_bytes s.pending } };
 
     fn open(&mut self, path: &str) -> Option<Source<FromRead<CutReader<'a>>>> {
         let opened = self.files.open(path);
@@ -33,19 +55,37 @@ impl<'a> mapchain_cli::Files for PageFiles<'a> {
         opened
     }
 
-    fn begin(&mut self, _path: &str) -> Option<Sink<ToWrite<CutWriter>>> {
-        let begun = self.files.begin();
-        self.counts.count_begin(begun.is_some());
-        begun
+    fn look(&mut self, path: &str) -> FileKind {
+        if self.files.is_folder(path) {
+            return FileKind::Folder;
+        }
+        if self.files.has_file(path) {
+            return FileKind::Regular;
+        }
+        FileKind::Missing
     }
 
-    fn keep(&mut self, path: &str, output: ToWrite<CutWriter>) -> bool {
-        let is_kept = self.files.keep(path, output);
+    fn begin(&mut self, path: &str) -> Option<Sink<ToWrite<CutWriter>>> {
+        let begun = self.begin_for(path);
+        self.counts.count_begin(begun.is_some());
+        let (name, output) = begun?;
+        self.pending = Some(name);
+        Some(output)
+    }
+
+    fn keep(&mut self, output: ToWrite<CutWriter>) -> bool {
+        let Some(path) = self.pending.take() else {
+            self.files.discard(output);
+            self.counts.count_end(false);
+            return false;
+        };
+        let is_kept = self.files.keep(path.as_str(), output);
         self.counts.count_end(is_kept);
         is_kept
     }
 
     fn discard(&mut self, output: ToWrite<CutWriter>) {
+        self.pending = None;
         self.files.discard(output);
         self.counts.count_end(false);
     }
@@ -63,8 +103,10 @@ impl Program for Mapchain {
         streams: &mut Streams,
     ) -> Ended<'a> {
         let mut files = PageFiles {
+            alloc,
             files,
             counts: Counts::none(),
+            pending: None,
         };
         let status = command(
             alloc,

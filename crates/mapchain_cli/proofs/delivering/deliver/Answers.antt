@@ -1,46 +1,48 @@
-use Rattle.std.proofs.Common.{◌∙◌, ap, inl, inr, refl, subst, Option, List, ℕ}
+use Rattle.std.proofs.Common.{ap, inl, inr, refl, subst, ◌∙◌, Option, List, ℕ}
 use Rattle.mapchain_cli.specs.Asking.{IsAnswered, IsRefused}
 use Rattle.mapchain_cli.specs.Files.{FileState, Keeps, used}
 use Rattle.mapchain_cli.specs.Outputs.{is_build, unkept}
-use Rattle.mapchain_cli.proofs.Delivered.{unkept_of}
+use Rattle.mapchain_cli.proofs.Delivered.{kept_for, still_pending, unkept_of}
 use Rattle.mapchain_cli.proofs.delivering.deliver.Goals as goal
 
-pub returns-then-not-keep-clause-sent : goal.returns-then-not-keep-clause-sent
-returns-then-not-keep-clause-sent g c =
-    let request = c.args.request in
+pub returns-else-keep-clause-sent : goal.returns-else-keep-clause-sent
+returns-else-keep-clause-sent g c =
+    let request = c.args.request.now in
     let output = c.answer.new.out in
     let opened = g.F.Files.state c.answer.new.files in
-    let ending = c.unkept-then-not-keep.result in
     let answered = subst (λ (s : FileState). IsAnswered (used s opened) request c.in-Some.output output c.in-Ok.report) c.in-Some.ensures.counted c.in-Ok.ensures.answered in
-    let lost = unkept_of request c.is_build-is_build.result c.sent-sent.result ending c.is_build-is_build.ensures c.unkept-then-not-keep.ensures
+    let lost = unkept_of request c.is_build-is_build.result c.sent-sent.result c.unkept-in-Ok.result c.is_build-is_build.ensures c.unkept-in-Ok.ensures
     ∙ ap (unkept (is_build request)) c.sent-sent.ensures in
     inr (inl (record {
       begins = record { fresh = c.in-Some.output; is_fresh = c.in-Some.ensures.fresh; output = output; opened = opened };
-      ending = ending;
+      ending = c.unkept-in-Ok.result;
       why = inr ((c.in-Ok.report, answered), lost);
-      away = c.if-not-keep.ensures.lost refl;
-      told = (c.tell_ending-then-not-keep.ensures.told, c.tell_ending-then-not-keep.ensures.status);
+      away = c.if-keep.ensures.lost refl;
+      refused = refl;
     }))
 
-pub returns-else-not-keep-clause-sent : goal.returns-else-not-keep-clause-sent
-returns-else-not-keep-clause-sent g c =
-    let request = c.args.request in
+pub returns-then-keep-clause-sent : goal.returns-then-keep-clause-sent
+returns-then-keep-clause-sent g c =
+    let request = c.args.request.now in
+    let path = c.args.path.now in
     let output = c.answer.new.out in
+    let begun_at = g.F.Files.state c.args.files.now in
     let opened = g.F.Files.state c.answer.new.files in
     let answered = subst (λ (s : FileState). IsAnswered (used s opened) request c.in-Some.output output c.in-Ok.report) c.in-Some.ensures.counted c.in-Ok.ensures.answered in
-    let kept = subst (λ (t : Option (List ℕ)). Keeps c.args.path.now t opened (g.F.Files.state c.keep.new.self)) c.into_inner.ensures.taken (c.if-not-keep.ensures.kept refl) in
+    let pending = still_pending path begun_at opened request c.in-Some.output output c.in-Ok.report answered in
+    let kept = subst (λ (t : Option (List ℕ)). Keeps path t opened (g.F.Files.state c.keep.new.self)) c.into_inner.ensures.taken
+    (kept_for path _ opened (g.F.Files.state c.keep.new.self) pending (c.if-keep.ensures.kept refl)) in
     inr (inr (record {
       begins = record { fresh = c.in-Some.output; is_fresh = c.in-Some.ensures.fresh; output = output; opened = opened };
       report = c.in-Ok.report;
       answered = answered;
       kept = kept;
-      told = c.tell_done.ensures;
       done = refl;
     }))
 
 pub returns-in-Err-clause-sent : goal.returns-in-Err-clause-sent
 returns-in-Err-clause-sent g c =
-    let request = c.args.request in
+    let request = c.args.request.now in
     let output = c.answer.new.out in
     let opened = g.F.Files.state c.answer.new.files in
     let refused = subst (λ (s : FileState). IsRefused (used s opened) request c.in-Some.output output c.in-Err.ending) c.in-Some.ensures.counted c.in-Err.ensures.refused in
@@ -49,5 +51,5 @@ returns-in-Err-clause-sent g c =
       ending = c.in-Err.ending;
       why = inl refused;
       away = c.discard.ensures.counted;
-      told = (c.tell_ending-in-Err.ensures.told, c.tell_ending-in-Err.ensures.status);
+      refused = refl;
     }))

@@ -5,7 +5,8 @@ use Rattle.command_words.specs.declared.words_fault.WordsFault.TheVariants.{Memo
 use Rattle.mapchain_cli.specs.Files.{used}
 use Rattle.mapchain_cli.specs.Performing.{Streams}
 use Rattle.mapchain_cli.specs.Runs.{RunsOn}
-use Rattle.mapchain_cli.proofs.Statuses.{files_say, says}
+use Rattle.mapchain_cli.proofs.Kept.{files_say}
+use Rattle.mapchain_cli.proofs.Statuses.{says}
 use Rattle.mapchain_cli.proofs.running.command.Goals as goal
 
 pub returns-in-Ok : goal.returns-in-Ok
@@ -26,6 +27,7 @@ returns-in-Ok g c =
       elsewhere = said.elsewhere;
       refused = said.refused;
       lost = filed.lost;
+      kept = filed.kept;
       settled = filed.settled;
     }
 
@@ -46,5 +48,6 @@ returns g c =
       elsewhere = said.elsewhere;
       refused = said.refused;
       lost = filed.lost;
+      kept = filed.kept;
       settled = filed.settled;
     }

@@ -7,7 +7,7 @@ pub carry_out-requires : goal.carry_out-requires
 carry_out-requires g c = asked_in_range (map string_bytes c.args.words.now) c.in-Ok.order c.in-Ok.ensures.exact
 
 pub returns-in-Ok : goal.returns-in-Ok
-returns-in-Ok g c = inl (c.in-Ok.order, c.in-Ok.ensures.exact, c.carry_out.ensures)
+returns-in-Ok g c = inl (c.in-Ok.order, c.in-Ok.ensures.exact, c.in-Ok.ensures.detail, c.carry_out.ensures)
 
 pub returns-in-Err : goal.returns-in-Err
 returns-in-Err g c = inr (c.in-Err.fault, (c.in-Err.ensures.exact, c.in-Err.ensures.fault), c.tell_words.ensures, refl)

@@ -1,0 +1,114 @@
+-- What is said of a run beside its report or the line of its fault, where that is asked.
+use Rattle.std.specs.Prelude.{◌≡◌, ◌⊎◌, ℕ, zero, suc, Bool, true, false, List, codes, Option, None, Some, Ok, Err}
+use Rattle.std.specs.Borrow.{Bor}
+use Rattle.byte_ends.specs.Ends.{Drained}
+use Rattle.byte_ends.specs.Writes.{WritesAll}
+use Rattle.command_words.specs.Asked.{Detail}
+use Rattle.command_words.specs.declared.request.Request.{Request}
+use Rattle.fault_lines.specs.Statuses.{failed}
+use Rattle.fault_lines.specs.Telling.{Tells}
+use Rattle.reports.specs.declared.report.Report.{Report}
+use Rattle.run_reports.specs.RunReports.{run_text}
+use Rattle.run_reports.specs.declared.run_report.RunFault.{RunFault}
+use Rattle.run_reports.specs.declared.run_report.RunFault.TheVariants as fault
+use Rattle.run_reports.specs.declared.run_report.RunReport.{RunReport}
+use Rattle.mapchain_cli.specs.Files.{FileState, FileUse, IsFresh, Keeps, OnlyReads, begun, discarded, used}
+use Rattle.mapchain_cli.specs.Outputs.{IsPerformed}
+use Rattle.mapchain_cli.specs.Performing.{Outcome, Streams, status_after, told_of}
+use Rattle.mapchain_cli.specs.declared.ending.Ending.{Ending}
+use Rattle.mapchain_cli.specs.declared.ending.Ending.TheVariants.{BadArea, BadRingArea, BadShare, Refused, FileRefused, Memory}
+
+-- ---- the report of a run
+
+-- a fault of the report is the reason why a request isn't done
+abbrev pub IsFaultOf : Ending → Option RunFault → Type 0
+IsFaultOf BadArea (Some (fault.Words words)) = words.now ≡ codes "bad area"
+IsFaultOf BadRingArea (Some (fault.Words words)) = words.now ≡ codes "bad ring area"
+IsFaultOf BadShare (Some (fault.Words words)) = words.now ≡ codes "bad share"
+IsFaultOf (Refused e) (Some (fault.Build f)) = f.now ≡ e
+IsFaultOf (FileRefused e) (Some (fault.File f)) = f.now ≡ e
+IsFaultOf Memory (Some fault.Memory) = Unit {0}
+IsFaultOf ending f = ⊥
+
+-- and so is a report that there is of its fault, if it has one
+abbrev pub HasFault : Outcome → Option RunFault → Type 0
+HasFault (Ok report) None = Unit {0}
+HasFault (Err ending) f = IsFaultOf ending f
+HasFault outcome f = ⊥
+
+abbrev pub HasReport : Outcome → Option (Bor Report) → Type 0
+HasReport (Ok None) None = Unit {0}
+HasReport (Ok (Some report)) (Some r) = r.now ≡ report
+HasReport (Err ending) None = Unit {0}
+HasReport outcome r = ⊥
+
+-- the report of a run tells its status, its fault, what was counted, and this explanation
+pub record IsReportOf (outcome : Outcome) (text : List ℕ) (exit : ℕ) (run : RunReport) : Type 0 where
+  pub status : run.status ≡ exit
+  pub fault : HasFault outcome run.fault
+  pub report : HasReport outcome run.report
+  pub explanation : run.explanation.now ≡ text
+
+-- its text is put in the place of the file of this path
+pub record PutsReport (files : FileUse) (path : List ℕ) (run : RunReport) : Type 0 where
+  pub fresh : Drained
+  pub is_fresh : IsFresh fresh
+  pub output : Drained
+  pub sent : ℕ
+  pub whole : WritesAll fresh output 0 (run_text run) sent
+  pub kept : Keeps path output.taken (begun true path files.before) files.after
+
+-- it couldn't be, and its output, where it was begun, was taken away
+abbrev pub IsUnwritten : FileUse → List ℕ → Type 0
+IsUnwritten files path = (files.after ≡ files.before) ⊎ (files.after ≡ discarded (begun true path files.before))
+
+-- the line of a report that couldn't be written
+abbrev pub no_report : List ℕ
+no_report = codes "error: R1 NoReport\n"
+
+-- the status then: that of the run, unless that is done
+abbrev pub unreported : ℕ → ℕ
+unreported zero = failed
+unreported (suc n) = suc n
+
+-- the report is written to the file of this path, or it couldn't be, which is told
+abbrev pub IsReported : FileUse → List ℕ → Outcome → List ℕ → Drained → Drained → ℕ → Type 0
+IsReported files path outcome explanation old new status =
+    ((run : RunReport) × IsReportOf outcome explanation (status_after outcome) run × PutsReport files path run × (new ≡ old) × (status ≡ status_after outcome))
+    ⊎ (IsUnwritten files path × Tells old new no_report × (status ≡ unreported (status_after outcome)))
+
+-- where it is asked for
+abbrev pub ReportsTo : Option (List ℕ) → FileUse → Outcome → List ℕ → Drained → Drained → ℕ → Type 0
+ReportsTo None files outcome explanation old new status = (files.after ≡ files.before) × (new ≡ old) × (status ≡ status_after outcome)
+ReportsTo (Some path) files outcome explanation old new status = IsReported files path outcome explanation old new status
+
+-- ---- an explanation, and then the report
+
+abbrev pub TellsIf : Bool → Drained → Drained → List ℕ → Type 0
+TellsIf true old new text = Tells old new text
+TellsIf false old new text = new ≡ old
+
+-- files are only read for an explanation, which is told where that is asked, and the report of the run has it
+pub record IsExplained (files : FileUse) (detail : Detail) (outcome : Outcome) (old new : Drained) (status : ℕ) : Type 0 where
+  pub explanation : List ℕ
+  pub reread : FileState
+  pub reads : OnlyReads (used files.before reread)
+  pub explained : Drained
+  pub tells : TellsIf detail.explains old explained explanation
+  pub reports : ReportsTo detail.report (used reread files.after) outcome explanation explained new status
+
+-- nothing more is done where nothing is asked
+abbrev pub Follows : Bool → Option (List ℕ) → FileUse → Detail → Outcome → Drained → Drained → ℕ → Type 0
+Follows false None files detail outcome old new status = (files.after ≡ files.before) × (new ≡ old) × (status ≡ status_after outcome)
+Follows explains report files detail outcome old new status = IsExplained files detail outcome old new status
+
+-- ---- an order
+
+-- the request comes out so over its output, which is told on standard error, and then what is asked for beside is done
+pub record IsCarriedOut (files : FileUse) (output : Option (List ℕ)) (detail : Detail) (request : Request) (old new : Streams) (status : ℕ) : Type 0 where
+  pub outcome : Outcome
+  pub then : FileState
+  pub performed : IsPerformed (used files.before then) output request old.out new.out outcome
+  pub told : Drained
+  pub tells : Tells old.err told (told_of outcome)
+  pub follows : Follows detail.explains detail.report (used then files.after) detail outcome told new.err status

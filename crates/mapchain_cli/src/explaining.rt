@@ -1,0 +1,239 @@
+// What is said in words of how a request came out.
+ghost use Rattle.mapchain_cli.specs.Files.{OnlyReads, used};
+
+use crate::ending::Ending;
+use crate::files::Files;
+use byte_ends::{MAX_INPUT, ReadFault, read_all};
+use command_words::Request;
+use explanations::{
+    Bounds, FileKind, bad_area, bad_share, built, built_layer, grid_step, layer_fault,
+    simplified_topology, topology_fault, unopened,
+};
+use inputs::{BuildFault, FileFault};
+use reports::Report;
+use std::alloc::{AllocError, Global};
+
+/// The bytes of a file, read once more where it is a regular file, and can be read.
+fn read_again<F: Files>(alloc: Global, path: &str, files: &mut F) -> Option<Vec<u8>>
+    ensures { OnlyReads (used (F.state files.old) (F.state files.new)) }
+{
+    if files.look(path) != FileKind::Regular {
+        return None;
+    }
+    let mut source = files.open(path)?;
+    read_all(alloc, &mut source, MAX_INPUT).ok()
+}
+
+/// Why a file couldn't be opened or read.
+fn explain_unread<F: Files>(alloc: Global, path: &str, files: &mut F) -> Result<String, AllocError>
+    ensures { OnlyReads (used (F.state files.old) (F.state files.new)) }
+{
+    let kind = files.look(path);
+    unopened(alloc, path, kind)
+}
+
+/// The number of the layer that a fault is in, if it is in one.
+fn layer_in(fault: &BuildFault) -> Option<usize> {
+    match fault {
+        BuildFault::EmptyName { layer }
+        | BuildFault::DuplicateName { layer }
+        | BuildFault::Read { layer, .. }
+        | BuildFault::Json { layer, .. }
+        | BuildFault::Geo { layer, .. } => Some(*layer),
+        BuildFault::Write { .. } | BuildFault::Memory => None,
+    }
+}
+
+/// Why one of these layers is refused.
+fn explain_layer<F: Files>(
+    alloc: Global,
+    layers: &[(&str, &str)],
+    exact: bool,
+    fault: &BuildFault,
+    files: &mut F,
+) -> Result<String, AllocError>
+    ensures { OnlyReads (used (F.state files.old) (F.state files.new)) }
+{
+    let Some(layer) = layer_in(fault) else {
+        return Ok(String::new(alloc));
+    };
+    let Some((name, path)) = layers.get(layer) else {
+        return Ok(String::new(alloc));
+    };
+    if matches!(
+        fault,
+        BuildFault::Read {
+            fault: ReadFault::Read,
+            ..
+        }
+    ) {
+        let mut text = layer_fault(alloc, layer, name, path, exact, &[], fault)?;
+        text.push_str(explain_unread(alloc, path, files)?.as_str())?;
+        return Ok(text);
+    }
+    let bytes = read_again(alloc, path, files).unwrap_or(Vec::new(alloc));
+    layer_fault(alloc, layer, name, path, exact, bytes.as_slice(), fault)
+}
+
+/// Why the file of a topology is refused.
+fn explain_file<F: Files>(
+    alloc: Global,
+    path: &str,
+    fault: &FileFault,
+    files: &mut F,
+) -> Result<String, AllocError>
+    ensures { OnlyReads (used (F.state files.old) (F.state files.new)) }
+{
+    if matches!(fault, FileFault::Read(ReadFault::Read)) {
+        let mut text = topology_fault(alloc, path, &[], fault)?;
+        text.push_str(explain_unread(alloc, path, files)?.as_str())?;
+        return Ok(text);
+    }
+    let bytes = read_again(alloc, path, files).unwrap_or(Vec::new(alloc));
+    topology_fault(alloc, path, bytes.as_slice(), fault)
+}
+
+/// What became of a layer that was built.
+fn explain_built_layer<F: Files>(
+    alloc: Global,
+    layer: usize,
+    named: (&str, &str),
+    report: &Report,
+    bounds: &mut Bounds,
+    files: &mut F,
+) -> Result<String, AllocError>
+    ensures { OnlyReads (used (F.state files.old) (F.state files.new)) }
+{
+    let (name, path) = named;
+    match read_again(alloc, path, files) {
+        Some(bytes) => built_layer(
+            alloc,
+            layer,
+            name,
+            bytes.as_slice(),
+            report.dropped.as_slice(),
+            bounds,
+        ),
+        None => Ok(String::new(alloc)),
+    }
+}
+
+/// What became of layers that were built, on a grid of so many cells, if on one.
+fn explain_built<F: Files>(
+    alloc: Global,
+    layers: &[(&str, &str)],
+    grid: Option<u32>,
+    report: &Report,
+    files: &mut F,
+) -> Result<String, AllocError>
+    ensures { OnlyReads (used (F.state files.old) (F.state files.new)) }
+{
+    let mut text = built(alloc, report)?;
+    let mut bounds = Bounds::none();
+    'layers: for (layer, named) in layers.iter().enumerate() {
+        let of_layer = explain_built_layer(alloc, layer, *named, report, &mut bounds, files)?;
+        text.push_str(of_layer.as_str())?;
+    }
+    if let Some(cells) = grid {
+        text.push_str(grid_step(alloc, &bounds, cells)?.as_str())?;
+    }
+    Ok(text)
+}
+
+/// What became of a topology that was simplified.
+fn explain_simplified<F: Files>(
+    alloc: Global,
+    path: &str,
+    report: &Report,
+    files: &mut F,
+) -> Result<String, AllocError>
+    ensures { OnlyReads (used (F.state files.old) (F.state files.new)) }
+{
+    let mut text = built(alloc, report)?;
+    if let Some(bytes) = read_again(alloc, path, files) {
+        let of_file = simplified_topology(alloc, bytes.as_slice(), report.dropped.as_slice())?;
+        text.push_str(of_file.as_str())?;
+    }
+    Ok(text)
+}
+
+/// What became of a request that is done.
+fn explain_done<F: Files>(
+    alloc: Global,
+    request: &Request<'_>,
+    report: &Report,
+    files: &mut F,
+) -> Result<String, AllocError>
+    ensures { OnlyReads (used (F.state files.old) (F.state files.new)) }
+{
+    match request {
+        Request::Build { layers, grid, .. } => {
+            explain_built(alloc, layers.as_slice(), *grid, report, files)
+        }
+        Request::Simplify { path, .. } => explain_simplified(alloc, path, report, files),
+        Request::Geo { .. } | Request::Stat { .. } => Ok(String::new(alloc)),
+    }
+}
+
+/// Why words of a request are refused: an area, the area of rings, or the share.
+fn explain_words(
+    alloc: Global,
+    request: &Request<'_>,
+    ending: &Ending,
+) -> Result<String, AllocError> {
+    match (request, ending) {
+        (Request::Build { area, .. } | Request::Simplify { area, .. }, Ending::BadArea) => {
+            bad_area(alloc, "--min-area", area)
+        }
+        (
+            Request::Build { ring_area, .. } | Request::Simplify { ring_area, .. },
+            Ending::BadRingArea,
+        ) => bad_area(alloc, "--min-ring-area", ring_area),
+        (
+            Request::Build {
+                keep: Some(keep),
+                ..
+            },
+            Ending::BadShare,
+        ) => bad_share(alloc, keep),
+        _ => Ok(String::new(alloc)),
+    }
+}
+
+/// Why a request isn't done.
+fn explain_refused<F: Files>(
+    alloc: Global,
+    request: &Request<'_>,
+    ending: &Ending,
+    files: &mut F,
+) -> Result<String, AllocError>
+    ensures { OnlyReads (used (F.state files.old) (F.state files.new)) }
+{
+    match (request, ending) {
+        (Request::Build { layers, exact, .. }, Ending::Refused(fault)) => {
+            explain_layer(alloc, layers.as_slice(), *exact, fault, files)
+        }
+        (
+            Request::Geo { path, .. } | Request::Simplify { path, .. } | Request::Stat { path },
+            Ending::FileRefused(fault),
+        ) => explain_file(alloc, path, fault, files),
+        _ => explain_words(alloc, request, ending),
+    }
+}
+
+/// What is said in words of how a request came out, in lines, each ended by a line feed: nothing for want of memory.
+pub(crate) fn explanation_of<F: Files>(
+    alloc: Global,
+    request: &Request<'_>,
+    outcome: &Result<Option<Report>, Ending>,
+    files: &mut F,
+) -> String
+    ensures { OnlyReads (used (F.state files.old) (F.state files.new)) }
+{
+    let text = match outcome {
+        Ok(Some(report)) => explain_done(alloc, request, report, files),
+        Ok(None) => Ok(String::new(alloc)),
+        Err(ending) => explain_refused(alloc, request, ending, files),
+    };
+    text.unwrap_or(String::new(alloc))
+}

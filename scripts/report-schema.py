@@ -29,6 +29,8 @@ COMMANDS = {"build", "simplify", "geo", "stat"}
 TAKE_ANY_TEXT = {"--min-area", "--min-ring-area", "--keep"}
 REPORT = "run.json"
 REFUSED_BY_USAGE = b"\nFor more information, try '--help'."
+# What standard error has where a layer's word isn't NAME=PATH.
+NO_LAYER = b" has no =\n"
 
 
 def options_of(words):
@@ -47,7 +49,9 @@ def takes_report(step):
     """Whether the words of a command go on to a report."""
     if not step.words or step.words[0] not in COMMANDS:
         return False
-    return not {"-h", "--help", "--report"} & set(options_of(step.words[1:])) and REFUSED_BY_USAGE not in step.error
+    if {"-h", "--help", "--report"} & set(options_of(step.words[1:])):
+        return False
+    return not any(words in step.error for words in (REFUSED_BY_USAGE, NO_LAYER))
 
 
 def fault_line(fault):
@@ -102,13 +106,13 @@ class Reports:
             return run(program, step.words, folder)
         status, output, error = run(program, [step.words[0], "--report", REPORT, *step.words[1:]], folder)
         self.seen += 1
-        if difference := self.difference(folder / REPORT, status, error):
+        if difference := self.difference(folder / REPORT, status, error, "--explain" in step.words):
             self.wrong += 1
             print(f"{self.page}: the report of mapchain {' '.join(step.words)}: {difference}")
         (folder / REPORT).unlink(missing_ok=True)
         return status, output, error
 
-    def difference(self, path, status, error):
+    def difference(self, path, status, error, is_explained):
         """In words what is wrong with a report: nothing where it is as it should be."""
         if not path.is_file():
             return "there is none"
@@ -123,8 +127,9 @@ class Reports:
             return "not laid out as the format says"
         if value["status"] != status:
             return f"status {value['status']}, and that of the process is {status}"
-        if told(value).encode() != error:
-            return f"it tells {told(value)!r}, and standard error has {error.decode(errors='replace')!r}"
+        lines = told(value) + "".join(f"  {line}\n" for line in value["explanation"] if is_explained)
+        if lines.encode() != error:
+            return f"it tells {lines!r}, and standard error has {error.decode(errors='replace')!r}"
         return ""
 
 

@@ -133,9 +133,13 @@ impl<'a> LentFiles<'a> {
         Some(Source::new(FromRead::new(reader)))
     }
 
-    /// Whether there is a file of this name, which is no folder.
+    /// Whether the page has a file of this name, which is no folder, and which the run hasn't replaced.
     pub fn has_file(&self, path: &str) -> bool {
-        !self.is_folder(path) && self.bytes(path).is_some()
+        let is_replaced = match &self.kept {
+            Some(kept) => kept.name.as_str() == path,
+            None => false,
+        };
+        !is_replaced && !self.is_folder(path) && self.files.bytes(path).is_some()
     }
 
     /// Whether the file of this name is a folder.

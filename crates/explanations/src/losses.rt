@@ -141,7 +141,6 @@ fn left_out_line(alloc: Global, layer: usize, left_out: &LeftOut) -> Result<Stri
 pub fn built_layer(
     alloc: Global,
     layer: usize,
-    _name: &str,
     bytes: &[u8],
     dropped: &[Dropped],
     bounds: &mut Bounds,

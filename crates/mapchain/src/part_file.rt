@@ -63,6 +63,17 @@ fn led_to(rt: &HostRuntime, path: &str) -> io::Result<(String, Option<u32>)> {
 }
 
 impl Target {
+    /// Whether this path leads to it.
+    pub(crate) fn is_at(&self, rt: &HostRuntime, path: &str) -> bool {
+        match (
+            fs::canonicalize(rt, self.path.as_str()),
+            fs::canonicalize(rt, path),
+        ) {
+            (Ok(own), Ok(other)) => own.as_path() == other.as_path(),
+            _ => false,
+        }
+    }
+
     /// The file of this path, or the name of one that isn't there yet.
     pub(crate) fn of(rt: &HostRuntime, path: &str) -> io::Result<Target>
         ensures { IfOk result (λ target. string_bytes target.named ≡ path.now) }

@@ -18,6 +18,8 @@ pub(crate) struct System {
     counts: Counts,
     /// The file for which an output was begun last, unless that was kept or taken away.
     pending: Option<Target>,
+    /// The file that an output has replaced last.
+    replaced: Option<Target>,
 }
 
 impl System {
@@ -27,6 +29,7 @@ impl System {
             rt,
             counts: Counts::none(),
             pending: None,
+            replaced: None,
         }
     }
 }
@@ -46,17 +49,18 @@ fn replace(target: &Target, output: BufWriter<PartFile>) -> io::Result<()> {
     output.into_inner()?.replace(target)
 }
 
-// Has the new file take the place of the target, if there is one, and answers whether it did.
-fn keep(target: Option<Target>, output: BufWriter<PartFile>) -> bool
-    ensures { result ≡ true → is_some target ≡ true }
+// Has the new file take the place of the target, if there is one, and gives the target if it did.
+fn keep(target: Option<Target>, output: BufWriter<PartFile>) -> Option<Target>
+    ensures { is_some result ≡ true → is_some target ≡ true }
 {
-    match target {
-        Some(target) => replace(&target, output).is_ok(),
-        None => {
-            let (_part, _held_back) = output.into_parts();
-            false
-        }
+    let Some(target) = target else {
+        let (_part, _held_back) = output.into_parts();
+        return None;
+    };
+    if replace(&target, output).is_err() {
+        return None;
     }
+    Some(target)
 }
 
 // What an error says of a path.
@@ -102,7 +106,10 @@ impl Files for System {
     }
 
     fn look(&mut self, path: &str) -> FileKind {
-        kind_of(&self.rt, path)
+        match &self.replaced {
+            Some(target) if target.is_at(&self.rt, path) => FileKind::Other,
+            _ => kind_of(&self.rt, path),
+        }
     }
 
     fn begin(&mut self, path: &str) -> Option<Sink<ToWrite<BufWriter<PartFile>>>> {
@@ -115,7 +122,8 @@ impl Files for System {
 
     fn keep(&mut self, output: ToWrite<BufWriter<PartFile>>) -> bool {
         let target = self.pending.take();
-        let is_kept = keep(target, output.into_inner());
+        self.replaced = keep(target, output.into_inner());
+        let is_kept = self.replaced.is_some();
         self.counts.count_end(is_kept);
         is_kept
     }

@@ -64,7 +64,7 @@ IsUnwritten files path = (files.after ≡ files.before) ⊎ (files.after ≡ dis
 
 -- the line of a report that couldn't be written
 abbrev pub no_report : List ℕ
-no_report = codes "error: R1 NoReport\n"
+no_report = codes "error: F4 NoReport\n"
 
 -- the status then: that of the run, unless that is done
 abbrev pub unreported : ℕ → ℕ

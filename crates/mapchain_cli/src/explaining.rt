@@ -13,7 +13,7 @@ use inputs::{BuildFault, FileFault};
 use reports::Report;
 use std::alloc::{AllocError, Global};
 
-/// The bytes of a file, read once more where it is a regular file, and can be read.
+/// The bytes of a file, read once more where it is a regular file that can be read, and isn't the one that the output has replaced.
 fn read_again<F: Files>(alloc: Global, path: &str, files: &mut F) -> Option<Vec<u8>>
     ensures { OnlyReads (used (F.state files.old) (F.state files.new)) }
 {
@@ -97,19 +97,17 @@ fn explain_file<F: Files>(
 fn explain_built_layer<F: Files>(
     alloc: Global,
     layer: usize,
-    named: (&str, &str),
+    path: &str,
     report: &Report,
     bounds: &mut Bounds,
     files: &mut F,
 ) -> Result<String, AllocError>
     ensures { OnlyReads (used (F.state files.old) (F.state files.new)) }
 {
-    let (name, path) = named;
     match read_again(alloc, path, files) {
         Some(bytes) => built_layer(
             alloc,
             layer,
-            name,
             bytes.as_slice(),
             report.dropped.as_slice(),
             bounds,
@@ -130,8 +128,8 @@ fn explain_built<F: Files>(
 {
     let mut text = built(alloc, report)?;
     let mut bounds = Bounds::none();
-    'layers: for (layer, named) in layers.iter().enumerate() {
-        let of_layer = explain_built_layer(alloc, layer, *named, report, &mut bounds, files)?;
+    'layers: for (layer, (_name, path)) in layers.iter().enumerate() {
+        let of_layer = explain_built_layer(alloc, layer, path, report, &mut bounds, files)?;
         text.push_str(of_layer.as_str())?;
     }
     if let Some(cells) = grid {

@@ -25,7 +25,7 @@ pub trait Files {
         // The call is counted, and nothing else changes.
         ensures counted { state self.new ≡ one_more (is_some result) (state self.old) };
 
-    /// What a path names, as far as that is known.
+    /// What a path names, as far as that is known. A file that an output has replaced is no regular one, as it isn't what was read.
     fn look(&mut self, path: &str) -> FileKind
         ensures same { state self.new ≡ state self.old };
 

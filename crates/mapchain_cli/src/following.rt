@@ -68,7 +68,7 @@ fn tell_unreported<W: Drain>(status: u8, err: &mut Sink<W>) -> u8
     ensures told { Tells err.old err.new no_report }
     ensures status { result ≡ spec.unreported status }
 {
-    tell_text(b"error: R1 NoReport\n", err);
+    tell_text(b"error: F4 NoReport\n", err);
     unreported(status)
 }
 

@@ -916,7 +916,8 @@ impl Placing {
     fn may_join(&self) -> bool {
         match self {
             Placing::Fine(scale, _) => scale.0.abs() < 100_000_000_000 || scale.1.abs() < 100_000_000_000,
-            _ => false,
+            Placing::Cells(scale, _) => scale.0 == 0 || scale.1 == 0,
+            Placing::Units => false,
         }
     }
 }

@@ -1299,7 +1299,9 @@ fn cut(store: &mut Store) -> Answer<Vec<(u32, u32)>> {
         let first = uses.len();
         let mut from = 0;
         for at in 1..numbers.len() {
-            if at + 1 < numbers.len() && !is_junction[numbers[at] as usize] {
+            // A ring may wind more than once, and is cut wherever it comes to its start.
+            let is_cut = is_junction[numbers[at] as usize] || (line.is_ring && numbers[at] == numbers[0]);
+            if at + 1 < numbers.len() && !is_cut {
                 continue;
             }
             let segment = |a: u32, b: u32| (a as u64) << 32 | b as u64;

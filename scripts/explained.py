@@ -6,7 +6,8 @@
 The second word is how many layers and how many topologies there are, the third the seed. The status, standard output and what stands first on
 standard error have to be the same, each line behind that has to begin with two blanks, and the report has to hold the status and these lines.
 The features of which an explanation says that nothing of their geometry is left have to be those of which a line or a ring was dropped and
-which are written without any. At its end it prints how many runs there were, and how many faults had no line but that of their file.
+which are written without any. Through a pipe, which can't be read once more, status and standard output have to be the same, and each line of
+the explanation one of those of before, but for the place of what is malformed, of which the byte is known. At its end it prints how many runs there were, and how many faults had no line but that of their file.
 """
 import json
 import os
@@ -29,8 +30,8 @@ COMMANDS = (
 )
 
 
-def run(program, words, folder):
-    ended = subprocess.run([program, *words], cwd=folder, capture_output=True, timeout=60)
+def run(program, words, folder, piped=None):
+    ended = subprocess.run([program, *words], cwd=folder, input=piped, capture_output=True, timeout=60)
     return ended.returncode, ended.stdout, ended.stderr.decode()
 
 
@@ -59,6 +60,19 @@ def told_emptied(output, lines):
             yield int(match[1]) if match[1] else names.index(match[2]), int(match[3])
 
 
+def piped_difference(program, words, folder, status, output, error, lines):
+    """In words what is wrong with the same command where its file is a pipe."""
+    name = "a.json"
+    through = [word.replace(name, "/dev/stdin") for word in words]
+    ended = run(program, [through[0], "--explain", *through[1:]], folder, (folder / name).read_bytes())
+    if ended[:2] != (status, output) or not ended[2].startswith(error):
+        return f"otherwise through a pipe: {ended[0]}, {ended[2]!r}"
+    for line in ended[2][len(error) :].splitlines():
+        if line.replace("/dev/stdin", name) not in lines and not re.fullmatch(r"  byte \d+: .+", line):
+            return f"through a pipe it says {line!r}"
+    return ""
+
+
 def difference(program, words, folder):
     """In words what is wrong with a command: nothing where it is as it should be; and how many lines stand behind the first."""
     status, output, error = run(program, words, folder)
@@ -72,7 +86,7 @@ def difference(program, words, folder):
         return f"the report differs: {run_report}", 0
     if run_report["report"] and emptied(output, run_report["report"]) != set(told_emptied(output, run_report["explanation"])):
         return f"other features are left without a geometry: {run_report}", 0
-    return "", len(lines)
+    return piped_difference(program, words, folder, status, output, error, lines), len(lines)
 
 
 def main():

@@ -15,6 +15,7 @@ It ends with status 0, or with status 1 at the first run that ends in anything e
 hand, and takes less than a minute.
 """
 import os
+import re
 import subprocess
 import sys
 import tempfile
@@ -162,6 +163,9 @@ def report(arcs, kept, drops=(), removed=0):
 OUTPUT = "output"
 SMALL = ("0 0 1 small", "0 1 0 small")
 BUILD, FILE = "error: B7 Memory\n", "error: E6 Memory\n"
+# Lines that explain a run, some or all of which aren't there where memory for them is refused.
+KEPT_ALL = "  kept 2 of 2 positions of the arcs, 100.0 %\n"
+CUT_SHORT = '  layer 0 is "a", the file cut.json\n  line 1, column 41 (byte 40): the text ends too early\n'
 RUNS = (
     ("build a=line.json", 0, LINE_TOPOLOGY, report(1, 2), BUILD),
     ("build land=squares.json", 0, SQUARES_TOPOLOGY, report(3, 10), BUILD),
@@ -171,6 +175,8 @@ RUNS = (
     ("build --keep 1/2 b=bend.json", 0, BENT_TOPOLOGY, report(1, 3, removed=1) + "chosen 9000000000000000000\n", BUILD),
     ("build a=line.json b=cut.json", 1, "", "error: layer 1 J2 Malformed\n", BUILD),
     ("build a=line.json b=line.json a=line.json", 2, "", "error: layer 2 B2 DuplicateName\n", BUILD),
+    ("build --explain a=line.json", 0, LINE_TOPOLOGY, report(1, 2) + KEPT_ALL, BUILD),
+    ("build --explain a=cut.json", 1, "", "error: layer 0 J2 Malformed\n" + CUT_SHORT, BUILD),
     ("simplify --min-area 1 full.topojson", 0, LAND_TOPOLOGY, report(2, 7, SMALL), FILE),
     ("geo --object a line.topojson", 0, layer(("LineString", "[[0,0],[1.5,0.25]]")), "", FILE),
     ("stat less.topojson", 0, 'objects 1\n"land" 3\narcs 2\npositions 7\ngrid no\n', "", FILE),
@@ -225,19 +231,28 @@ def fail(words, number, ended):
     sys.exit(1)
 
 
+def explained_less(error):
+    """The same with as many lines of its explanation or fewer of the last ones, or with the byte of a fault in place of its line and column:
+    that of a file that can't be read once more."""
+    lines = error.splitlines(True)
+    first = next((at for at, line in enumerate(lines) if line.startswith("  ")), len(lines))
+    less = ["".join(lines[:end]) for end in range(first, len(lines) + 1)]
+    return [*less, re.sub(r"line \d+, column \d+ \((byte \d+)\)", r"\1", error)]
+
+
 def refuse_each(refusing, program, run):
     """Refuses each allocation of a run of the program, and prints how the runs ended."""
     words, status, output, error, memory = run
-    counts = {"answered": 0, "told": 0, "silent": 0, "unbegun": 0}
+    counts = {"answered": 0, "told": 0, "silent": 0, "unbegun": 0, "unexplained": 0}
     number = 1
     while True:
         ended = refusing.run([program, *words.split()], number)
-        if ended[:3] == (status, output, error):
-            if not ended[3]:
-                break
-            if not is_dispensable(words.split(), ended[3]):
-                fail(words, number, ended)
+        if ended[:3] == (status, output, error) and not ended[3]:
+            break
+        if ended[:3] == (status, output, error) and is_dispensable(words.split(), ended[3]):
             counts["answered"] += 1
+        elif "--explain" in words and ended[:2] == (status, output) and ended[2] in explained_less(error) and ended[3]:
+            counts["unexplained"] += 1
         elif ended[:3] == (3, "", memory) and ended[3]:
             counts["told"] += 1
         elif ended[:3] == (3, "", "") and ended[3]:
@@ -251,6 +266,7 @@ def refuse_each(refusing, program, run):
         f"{words}: {number - 1} allocations, each refused once: {counts['told']} runs ended in {memory.strip()!r}, "
         f"{counts['silent']} in status 3 with no line, {counts['answered']} in the answer"
         + (f", {counts['unbegun']} before the output was begun" if counts["unbegun"] else "")
+        + (f", {counts['unexplained']} with less of an explanation" if counts["unexplained"] else "")
     )
     return number - 1
 

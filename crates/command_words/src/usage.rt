@@ -43,7 +43,7 @@ pub(crate) const REPORT: &str = "report";
 pub(crate) const EXPLAIN: &str = "explain";
 
 /// The version of the program.
-const VERSION: &str = "1.2.0";
+const VERSION: &str = "1.2.1";
 
 const PROGRAM_HELP: Help = Help {
     about: "Build TopoJSON topologies from GeoJSON files, simplify them, and decode them again",
@@ -139,8 +139,8 @@ const OUTPUT_HELP: &str = "Write the output to a file in place of standard outpu
 
 const OUTPUT_LONG_HELP: &str =
     "Write the output to FILE in place of standard output. It goes to a new file beside
-FILE, which takes its name when it is whole and on the disk. Where anything fails
-FILE stays as it was, so FILE may be an input, too";
+FILE, which takes its name when it is whole and on the disk. Until then FILE stays
+as it was, whatever fails, so FILE may be an input, too";
 
 const REPORT_HELP: &str = "Write a report of the run to a file, as a JSON object";
 

@@ -7,26 +7,34 @@ use json_value::{Json, OwnText};
 /// How deep the collections of geometries are looked into. No value that is read nests deeper.
 pub(crate) const DEEPEST: u32 = 255;
 
-/// The objects of a layer (RFC 7946, section 1.4), which have members of their own.
+/// The objects of a layer (RFC 7946, section 1.4) or of a topology (TopoJSON 1.0, section 2), which have members of their own.
 #[derive(Clone, Copy, Debug)]
 pub(crate) enum ObjectKind {
     Layer,
     Feature,
-    Geometry,
-    Collection,
+    Topology,
+    Transform,
+    /// A geometry that is made of the member of this name, or of none where it is null.
+    Geometry(Option<&'static str>),
+    /// A geometry of a topology that is a feature, too.
+    GeometryFeature(Option<&'static str>),
 }
 
-/// Whether a member of this name is read of such an object.
+/// Whether a member of this name is read of such an object. The bounds of a topology are written anew.
 fn is_read(kind: ObjectKind, name: &str) -> bool {
     match kind {
         ObjectKind::Layer => matches!(name, "type" | "features"),
         ObjectKind::Feature => matches!(name, "type" | "id" | "properties" | "geometry"),
-        ObjectKind::Geometry => matches!(name, "type" | "coordinates"),
-        ObjectKind::Collection => matches!(name, "type" | "geometries"),
+        ObjectKind::Topology => matches!(name, "type" | "transform" | "bbox" | "arcs" | "objects"),
+        ObjectKind::Transform => matches!(name, "scale" | "translate"),
+        ObjectKind::Geometry(part) => name == "type" || part == Some(name),
+        ObjectKind::GeometryFeature(part) => {
+            matches!(name, "type" | "id" | "properties") || part == Some(name)
+        }
     }
 }
 
-/// Members that a layer has and that aren't read, counted.
+/// Members that a layer or a topology has and that aren't read, counted.
 #[derive(Clone, Copy, Debug)]
 pub(crate) struct LeftOut {
     pub(crate) bbox: u64,
@@ -168,30 +176,48 @@ impl Census {
         }
     }
 
-    /// With the geometry of this type with these members.
-    fn count_simple(&mut self, coordinates: CoordinatesType, members: &[(OwnText, Json)]) {
-        self.left_out.count_unread(ObjectKind::Geometry, members);
-        if let Ok(Some(value)) = find(members, self.part_name(coordinates)) {
-            self.count_part(coordinates, value);
-        }
+    /// With those members of a geometry that aren't read. `part` is the name of the member that it is made of, and `is_feature` says whether
+    /// it is a feature of a topology, too.
+    fn count_left_out(
+        &mut self,
+        part: Option<&'static str>,
+        is_feature: bool,
+        members: &[(OwnText, Json)],
+    ) {
+        let kind = if is_feature {
+            ObjectKind::GeometryFeature(part)
+        } else {
+            ObjectKind::Geometry(part)
+        };
+        self.left_out.count_unread(kind, members);
     }
 
-    /// With the geometry of these members, and those in it where it is a collection.
-    pub(crate) fn count_geometry(&mut self, members: &[(OwnText, Json)], depth_left: u32) {
+    /// With the geometry of these members, and those in it where it is a collection. `is_feature` says whether it is a feature of a
+    /// topology, too.
+    pub(crate) fn count_geometry(
+        &mut self,
+        members: &[(OwnText, Json)],
+        is_feature: bool,
+        depth_left: u32,
+    ) {
         let Ok(name) = need_text(members, "type") else {
-            return;
+            return self.count_left_out(None, is_feature, members);
         };
         match geometry_type(name) {
             None => {}
             Some(GeometryType::Coordinates(coordinates)) => {
-                self.count_simple(coordinates, members);
+                let part = self.part_name(coordinates);
+                self.count_left_out(Some(part), is_feature, members);
+                if let Ok(Some(value)) = find(members, part) {
+                    self.count_part(coordinates, value);
+                }
             }
             Some(GeometryType::Collection) => {
-                self.left_out.count_unread(ObjectKind::Collection, members);
+                self.count_left_out(Some("geometries"), is_feature, members);
                 for value in parts_of(members) {
                     if let Some(inner) = value.as_object() {
                         if depth_left > 0 {
-                            self.count_geometry(inner, depth_left - 1);
+                            self.count_geometry(inner, false, depth_left - 1);
                         }
                     }
                 }

@@ -183,12 +183,15 @@ fn layer_lines(
 fn geo_fault(
     alloc: Global,
     exact: bool,
-    bytes: &[u8],
+    bytes: Option<&[u8]>,
     fault: GeoFault,
 ) -> Result<String, AllocError> {
     if fault.kind == GeoFaultKind::Memory {
         return Ok(String::new(alloc));
     }
+    let Some(bytes) = bytes else {
+        return Ok(String::new(alloc));
+    };
     let Some(value) = tree(alloc, bytes, LAYER_DEPTH)? else {
         return Ok(String::new(alloc));
     };
@@ -199,14 +202,15 @@ fn geo_fault(
 }
 
 /// Why this layer is refused, with this fault: its name and its file, the feature that the fault is in, the place in it and what is
-/// wrong there, as far as that is found out. `bytes` are those of its file, which is read with this `exact`.
+/// wrong there, as far as that is found out. `bytes` are those of its file, which is read with this `exact`, or none where they can't be
+/// read once more.
 pub fn layer_fault(
     alloc: Global,
     layer: usize,
     name: &str,
     path: &str,
     exact: bool,
-    bytes: &[u8],
+    bytes: Option<&[u8]>,
     fault: &BuildFault,
 ) -> Result<String, AllocError> {
     let lines = match fault {

@@ -63,7 +63,7 @@ fn count_feature(census: &mut Census, members: &[(OwnText, Json)]) {
     census.begin_feature();
     census.left_out.count_unread(ObjectKind::Feature, members);
     if let Ok(Some(Json::Object(geometry))) = find(members, "geometry") {
-        census.count_geometry(geometry.as_slice(), DEEPEST);
+        census.count_geometry(geometry.as_slice(), false, DEEPEST);
     }
 }
 
@@ -115,7 +115,7 @@ fn add_layer(
             return add_features(alloc, lines, census, layer, values, drops);
         }
         Some(GeoJsonType::Feature) => count_feature(census, members),
-        Some(GeoJsonType::Geometry(_)) => census.count_geometry(members, DEEPEST),
+        Some(GeoJsonType::Geometry(_)) => census.count_geometry(members, false, DEEPEST),
     }
     let dropped = drops.take(layer, 0);
     let place = format!(in alloc; "layer {layer}, feature 0")?;
@@ -123,17 +123,15 @@ fn add_layer(
     add_loss(alloc, lines, census, dropped, labelled, place.as_str())
 }
 
-/// The line for members that aren't read, if there are any.
-fn left_out_line(alloc: Global, layer: usize, left_out: &LeftOut) -> Result<String, AllocError> {
+/// The line for members that aren't read, if there are any. `place` is what stands before it: the layer, or nothing.
+fn left_out_line(alloc: Global, place: &str, left_out: &LeftOut) -> Result<String, AllocError> {
     let bbox = left_out.bbox;
     let crs = left_out.crs;
     let others = left_out.others;
     if bbox == 0 && crs == 0 && others == 0 {
         return Ok(String::new(alloc));
     }
-    format!(in alloc;
-        "  layer {layer}: left out \"bbox\" {bbox}, \"crs\" {crs}, other members {others}\n"
-    )
+    format!(in alloc; "  {place}left out \"bbox\" {bbox}, \"crs\" {crs}, other members {others}\n")
 }
 
 /// What became of the features of a layer that was built: a line for each that had lines or rings and no point, and of which all are
@@ -155,7 +153,8 @@ pub fn built_layer(
     let mut census = Census::over(*bounds, false);
     let mut drops = DropsLeft { rest: dropped };
     add_layer(alloc, &mut lines, &mut census, layer, members, &mut drops)?;
-    let line = left_out_line(alloc, layer, &census.left_out)?;
+    let place = format!(in alloc; "layer {layer}: ")?;
+    let line = left_out_line(alloc, place.as_str(), &census.left_out)?;
     lines.push_str(line.as_str())?;
     *bounds = census.bounds;
     Ok(lines)
@@ -165,40 +164,54 @@ pub fn built_layer(
 fn add_topology_feature(
     alloc: Global,
     lines: &mut String,
+    census: &mut Census,
     object: (usize, &str),
     feature: usize,
     members: &[(OwnText, Json)],
     drops: &mut DropsLeft<'_>,
 ) -> Result<(), AllocError> {
-    let mut census = Census::over(Bounds::none(), true);
-    census.count_geometry(members, DEEPEST);
+    census.begin_feature();
+    census.count_geometry(members, true, DEEPEST);
     let dropped = drops.take(object.0, feature);
     let name = object.1;
     let place = format!(in alloc; "object {name}, feature {feature}")?;
-    add_loss(alloc, lines, &census, dropped, members, place.as_str())
+    add_loss(alloc, lines, census, dropped, members, place.as_str())
 }
 
 /// Adds the lines of an object of a topology with these members.
 fn add_object(
     alloc: Global,
     lines: &mut String,
+    census: &mut Census,
     object: (usize, &str),
     members: &[(OwnText, Json)],
     drops: &mut DropsLeft<'_>,
 ) -> Result<(), AllocError> {
     if need_text(members, "type") != Ok("GeometryCollection") {
-        return add_topology_feature(alloc, lines, object, 0, members, drops);
+        return add_topology_feature(alloc, lines, census, object, 0, members, drops);
     }
+    let kind = ObjectKind::Geometry(Some("geometries"));
+    census.left_out.count_unread(kind, members);
     for (feature, value) in parts_of(members).iter().enumerate() {
         if let Some(inner) = value.as_object() {
-            add_topology_feature(alloc, lines, object, feature, inner, drops)?;
+            add_topology_feature(alloc, lines, census, object, feature, inner, drops)?;
         }
     }
     Ok(())
 }
 
+/// Counts the members of a topology with these members, and of its transform, that aren't read.
+fn count_topology(census: &mut Census, members: &[(OwnText, Json)]) {
+    census.left_out.count_unread(ObjectKind::Topology, members);
+    if let Ok(Some(Json::Object(transform))) = find(members, "transform") {
+        census
+            .left_out
+            .count_unread(ObjectKind::Transform, transform.as_slice());
+    }
+}
+
 /// What became of the features of a topology that was simplified: a line for each that had lines or rings and no point, and of which
-/// all are dropped. `dropped` is in reading order.
+/// all are dropped; and a line for the members that aren't read. `dropped` is in reading order.
 pub fn simplified_topology(
     alloc: Global,
     bytes: &[u8],
@@ -208,6 +221,10 @@ pub fn simplified_topology(
     let Some(value) = tree(alloc, bytes, TOPOLOGY_DEPTH)? else {
         return Ok(lines);
     };
+    let mut census = Census::over(Bounds::none(), true);
+    if let Some(members) = value.as_object() {
+        count_topology(&mut census, members);
+    }
     let mut drops = DropsLeft { rest: dropped };
     for (number, object) in objects_of(&value).iter().enumerate() {
         if let Some(members) = object.1.as_object() {
@@ -215,11 +232,14 @@ pub fn simplified_topology(
             add_object(
                 alloc,
                 &mut lines,
+                &mut census,
                 (number, name.as_str()),
                 members,
                 &mut drops,
             )?;
         }
     }
+    let line = left_out_line(alloc, "", &census.left_out)?;
+    lines.push_str(line.as_str())?;
     Ok(lines)
 }

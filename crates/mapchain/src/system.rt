@@ -124,13 +124,13 @@ impl Files for System {
         let target = self.pending.take();
         self.replaced = keep(target, output.into_inner());
         let is_kept = self.replaced.is_some();
-        self.counts.count_end(is_kept);
+        self.counts.count_keep(is_kept);
         is_kept
     }
 
     fn discard(&mut self, output: ToWrite<BufWriter<PartFile>>) {
         let (_part, _held_back) = output.into_inner().into_parts();
         self.pending = None;
-        self.counts.count_end(false);
+        self.counts.count_discard();
     }
 }

@@ -1,38 +1,28 @@
 -- What a run's promise says of files.
-use Rattle.std.proofs.Common.{◌≡◌, ◌⊎◌, ◌∙◌, ◌+◌, ◌<◌, inl, inr, ℕ, List, Bool, true, false, Option, None, Some, Ok, Err, ap, ap₂, arith, refl, subst, sym}
+use Rattle.std.proofs.Common.{◌≡◌, ◌⊎◌, ◌∙◌, ◌<◌, inl, inr, ℕ, List, Bool, true, false, Option, None, Some, Ok, Err, ap, ap₂, arith, refl, subst, sym}
 use Rattle.std.specs.Option.{option_and_then}
-use Rattle.byte_ends.specs.Ends.{Drained, saturated}
+use Rattle.byte_ends.specs.Ends.{Drained}
 use Rattle.command_words.specs.Asked.{Detail, Ordered, detail, report_of}
 use Rattle.command_words.specs.declared.request.Request.{Request}
-use Rattle.mapchain_cli.specs.Files.{FileState, FileUse, HoldsBut, OnlyReads, outputs, used}
+use Rattle.mapchain_cli.specs.Files.{FileState, FileUse, HoldsBut, OnlyReads, begun, discarded, not_kept, used, with_discard, with_keep}
 use Rattle.mapchain_cli.specs.Following.{Follows, IsCarriedOut, IsExplained, IsReported, ReportsTo}
-use Rattle.mapchain_cli.specs.Outputs.{IsPerformed, IsSent, Settles, asked_output, one_settled, over}
+use Rattle.mapchain_cli.specs.Outputs.{IsPerformed, IsSent, Settles, SettlesOne, asked_output, over}
 use Rattle.mapchain_cli.specs.Performing.{ComesOut, Outcome, Streams, status_after}
 use Rattle.mapchain_cli.specs.Runs.{RunsOn}
 use Rattle.mapchain_cli.specs.declared.counts.Counts.{Counts}
+use Rattle.mapchain_cli.specs.declared.counts.OutputCounts.{OutputCounts}
 use Rattle.mapchain_cli.proofs.Statuses.{HasStatus, carried_status}
 use Rattle.mapchain_cli.proofs.Untouched.{answered, opened, refused}
 
--- the outputs where one more was begun, and kept or taken away
-abbrev with_one : Bool → ℕ × (ℕ × ℕ) → ℕ × (ℕ × ℕ)
-with_one true o = (saturated (o.0 + 1), (saturated (o.1.0 + 1), o.1.1))
-with_one false o = (saturated (o.0 + 1), (o.1.0, saturated (o.1.1 + 1)))
-
-one_is : (kept : Bool) (c : Counts) → outputs (one_settled kept c) ≡ with_one kept (outputs c)
-one_is true c = refl
-one_is false c = refl
-
--- no output was begun, or one, which was kept or taken away
+-- no output was tried, or one was settled
 abbrev AtMostOne : FileState → FileState → Type 0
-AtMostOne old new = (outputs new.counts ≡ outputs old.counts) ⊎ ((kept : Bool) × (outputs new.counts ≡ with_one kept (outputs old.counts)))
+AtMostOne old new = (new.counts.outputs ≡ old.counts.outputs) ⊎ SettlesOne old.counts.outputs new.counts.outputs
 
-settle_two : (a b c : FileState) → AtMostOne a b → AtMostOne b c → Settles a.counts c.counts
+settle_two : (a b c : FileState) → AtMostOne a b → AtMostOne b c → Settles a.counts.outputs c.counts.outputs
 settle_two a b c (inl h) (inl k) = inl (k ∙ h)
-settle_two a b c (inl h) (inr k) = inr (inl (k.0, k.1 ∙ ap (with_one k.0) h ∙ sym (one_is k.0 a.counts)))
-settle_two a b c (inr h) (inl k) = inr (inl (h.0, k ∙ h.1 ∙ sym (one_is h.0 a.counts)))
-settle_two a b c (inr h) (inr k) =
-    let first = h.1 ∙ sym (one_is h.0 a.counts) in
-    inr (inr (h.0, k.0, k.1 ∙ ap (with_one k.0) first ∙ sym (one_is k.0 (one_settled h.0 a.counts))))
+settle_two a b c (inl h) (inr k) = inr (inl (subst (λ (o : OutputCounts). SettlesOne o c.counts.outputs) h k))
+settle_two a b c (inr h) (inl k) = inr (inl (subst (λ (o : OutputCounts). SettlesOne a.counts.outputs o) (sym k) h))
+settle_two a b c (inr h) (inr k) = inr (inr (b.counts.outputs, h, k))
 
 -- ---- a request
 
@@ -44,23 +34,27 @@ only_reads : (before then : FileState) (outcome : Outcome) → OnlyReads (used b
 only_reads before then outcome h = record { lost = λ _. h.contents; outputs = inl h.outputs }
 
 sent : (before then : FileState) (path : List ℕ) (request : Request) (outcome : Outcome) → IsSent (used before then) path request outcome → Performed before then outcome
-sent before then path request outcome (inl h) =
-    record { lost = λ _. ap (λ (s : FileState). s.contents) h.0; outputs = inl (ap (λ (s : FileState). outputs s.counts) h.0) }
+sent before then path request outcome (inl h) = record {
+  lost = λ _. ap (λ (s : FileState). s.contents) h.0;
+  outputs = inr (inl (ap (λ (s : FileState). s.counts.outputs) h.0));
+}
 sent before then path request outcome (inr (inl h)) =
-    let over_it = over path before h.begins in
-    let still : OnlyReads over_it = elim h.why [
-      | inl r ↦ refused over_it request h.begins.fresh h.begins.output h.ending r
-      | inr a ↦ answered over_it request h.begins.fresh h.begins.output a.0.0 a.0.1
-    ] in
+    let still = refused (over path before h.begins) request h.begins.fresh h.begins.output h.ending h.why in
     record {
       lost = λ _. ap (λ (s : FileState). s.contents) h.away ∙ still.contents;
-      outputs = inr (false, ap (λ (s : FileState). outputs s.counts) h.away ∙ ap (λ (o : ℕ × (ℕ × ℕ)). (o.0, (o.1.0, saturated (o.1.1 + 1)))) still.outputs);
+      outputs = inr (inr (inr (ap (λ (s : FileState). s.counts.outputs) h.away ∙ ap with_discard still.outputs)));
     }
-sent before then path request outcome (inr (inr h)) =
+sent before then path request outcome (inr (inr (inl h))) =
+    let still = answered (over path before h.begins) request h.begins.fresh h.begins.output h.report h.answered in
+    record {
+      lost = λ _. ap (λ (s : FileState). s.contents) h.away ∙ still.contents;
+      outputs = inr (inr (inl (false, ap (λ (s : FileState). s.counts.outputs) h.away ∙ ap (with_keep false) still.outputs)));
+    }
+sent before then path request outcome (inr (inr (inr h))) =
     let still = answered (over path before h.begins) request h.begins.fresh h.begins.output h.report h.answered in
     record {
       lost = λ more. absurd (omega (arith, more, ap status_after h.done));
-      outputs = inr (true, ap outputs h.kept.counted ∙ ap (λ (o : ℕ × (ℕ × ℕ)). (o.0, (saturated (o.1.0 + 1), o.1.1))) still.outputs);
+      outputs = inr (inr (inl (true, ap (λ (c : Counts). c.outputs) h.kept.counted ∙ ap (with_keep true) still.outputs)));
     }
 
 comes_out : (before then : FileState) (request : Request) (old new : Drained) (outcome : Outcome) → ComesOut (used before then) request old new outcome
@@ -87,24 +81,34 @@ holds_after : (report : Option (List ℕ)) (a b c : FileState) → b.contents �
 holds_after None a b c e h = h ∙ e
 holds_after (Some path) a b c e h = λ other but. h other but ∙ ap (λ (x : List ℕ → Option (List ℕ)). x other) e
 
-one_after : (a b c : FileState) → outputs b.counts ≡ outputs a.counts → AtMostOne b c → AtMostOne a c
+one_after : (a b c : FileState) → b.counts.outputs ≡ a.counts.outputs → AtMostOne b c → AtMostOne a c
 one_after a b c e (inl h) = inl (h ∙ e)
-one_after a b c e (inr h) = inr (h.0, h.1 ∙ ap (with_one h.0) e)
+one_after a b c e (inr h) = inr (subst (λ (o : OutputCounts). SettlesOne o c.counts.outputs) e h)
+
+-- all that changes are counts of outputs
+only_outputs : (then after next : FileState) (path : List ℕ) → after ≡ next → next.contents ≡ then.contents → SettlesOne then.counts.outputs next.counts.outputs
+    → Followed then after (Some path)
+only_outputs then after next path is same one = record {
+  holds = λ other but. ap (λ (s : FileState). s.contents other) is ∙ ap (λ (c : List ℕ → Option (List ℕ)). c other) same;
+  outputs = inr (subst (λ (s : FileState). SettlesOne then.counts.outputs s.counts.outputs) (sym is) one);
+}
 
 reported : (then after : FileState) (path : List ℕ) (outcome : Outcome) (text : List ℕ) (old new : Drained) (status : ℕ)
     → IsReported (used then after) path outcome text old new status → Followed then after (Some path)
-reported then after path outcome text old new status (inl h) =
-    let kept = h.2.kept in
-    record { holds = λ other but. kept.others other but; outputs = inr (true, ap outputs kept.counted) }
-reported then after path outcome text old new status (inr (inl same, told, is)) =
-    record { holds = λ other but. ap (λ (s : FileState). s.contents other) same; outputs = inl (ap (λ (s : FileState). outputs s.counts) same) }
-reported then after path outcome text old new status (inr (inr away, told, is)) =
-    record { holds = λ other but. ap (λ (s : FileState). s.contents other) away; outputs = inr (false, ap (λ (s : FileState). outputs s.counts) away) }
+reported then after path outcome text old new status (run, is, inl (h, same, exit)) =
+    let kept = h.kept in
+    record { holds = λ other but. kept.others other but; outputs = inr (inr (inl (true, ap (λ (c : Counts). c.outputs) kept.counted))) }
+reported then after path outcome text old new status (run, is, inr (inl unbegun, told, exit)) =
+    only_outputs then after (begun false path then) path unbegun refl (inl refl)
+reported then after path outcome text old new status (run, is, inr (inr (inl broken), told, exit)) =
+    only_outputs then after (discarded (begun true path then)) path broken.away refl (inr (inr refl))
+reported then after path outcome text old new status (run, is, inr (inr (inr held), told, exit)) =
+    only_outputs then after (not_kept (begun true path then)) path held.away refl (inr (inl (false, refl)))
 
 reports_to : (then after : FileState) (report : Option (List ℕ)) (outcome : Outcome) (text : List ℕ) (old new : Drained) (status : ℕ)
     → ReportsTo report (used then after) outcome text old new status → Followed then after report
 reports_to then after None outcome text old new status h =
-    record { holds = ap (λ (s : FileState). s.contents) h.0; outputs = inl (ap (λ (s : FileState). outputs s.counts) h.0) }
+    record { holds = ap (λ (s : FileState). s.contents) h.0; outputs = inl (ap (λ (s : FileState). s.counts.outputs) h.0) }
 reports_to then after (Some path) outcome text old new status h = reported then after path outcome text old new status h
 
 explained : (then after : FileState) (detail : Detail) (outcome : Outcome) (old new : Drained) (status : ℕ)
@@ -119,7 +123,7 @@ explained then after detail outcome old new status h =
 followed : (explains : Bool) (report : Option (List ℕ)) (then after : FileState) (detail : Detail) (outcome : Outcome) (old new : Drained) (status : ℕ)
     → detail.report ≡ report → Follows explains report (used then after) detail outcome old new status → Followed then after report
 followed false None then after detail outcome old new status is h =
-    record { holds = ap (λ (s : FileState). s.contents) h.0; outputs = inl (ap (λ (s : FileState). outputs s.counts) h.0) }
+    record { holds = ap (λ (s : FileState). s.contents) h.0; outputs = inl (ap (λ (s : FileState). s.counts.outputs) h.0) }
 followed false (Some path) then after detail outcome old new status is h = subst (Followed then after) is (explained then after detail outcome old new status h)
 followed true report then after detail outcome old new status is h = subst (Followed then after) is (explained then after detail outcome old new status h)
 
@@ -129,7 +133,7 @@ followed true report then after detail outcome old new status is h = subst (Foll
 pub record FilesSay (files : FileUse) (report : Option (List ℕ)) (status : ℕ) : Type 0 where
   pub lost : 0 < status → report ≡ None → files.after.contents ≡ files.before.contents
   pub kept : (status ≡ 1) ⊎ (status ≡ 2) → HoldsBut report files.before files.after
-  pub settled : Settles files.before.counts files.after.counts
+  pub settled : Settles files.before.counts.outputs files.after.counts.outputs
 
 still : (files : FileUse) (report : Option (List ℕ)) (status : ℕ) → OnlyReads files → FilesSay files report status
 still files report status h = record {

@@ -215,8 +215,8 @@ at_unreported path (suc n) status e = inl e
 reported_status : (report : Option (List ℕ)) (files : FileUse) (outcome : Outcome) (text : List ℕ) (old new : Drained) (status : ℕ)
     → ReportsTo report files outcome text old new status → HasStatus report outcome status
 reported_status None files outcome text old new status h = inl h.2
-reported_status (Some path) files outcome text old new status (inl h) = inl h.4
-reported_status (Some path) files outcome text old new status (inr h) = at_unreported path (status_after outcome) status h.2
+reported_status (Some path) files outcome text old new status (run, is, inl h) = inl h.2
+reported_status (Some path) files outcome text old new status (run, is, inr h) = at_unreported path (status_after outcome) status h.2
 
 follow_status : (explains : Bool) (report : Option (List ℕ)) (files : FileUse) (detail : Detail) (outcome : Outcome) (old new : Drained) (status : ℕ)
     → detail.report ≡ report → Follows explains report files detail outcome old new status → HasStatus report outcome status

@@ -9,12 +9,12 @@ use Rattle.reports.specs.declared.report.Report.{Report}
 use Rattle.topology_building.specs.declared.options.Options.{Options}
 use Rattle.mapchain_cli.specs.Asking.{IsAnswered, IsRefused, RefusesBuild, RefusesTopology, texts_of}
 use Rattle.mapchain_cli.specs.Endings.{RefusesFile, RefusesLayers}
-use Rattle.mapchain_cli.specs.Files.{FileState, FileUse, Layers, OnlyReads, Opened, RefusedBehind, one_more, opened_times, outputs, used}
+use Rattle.mapchain_cli.specs.Files.{FileState, FileUse, Layers, OnlyReads, Opened, RefusedBehind, one_more, opened_times, used}
 use Rattle.mapchain_cli.specs.declared.ending.Ending.{Ending}
 use Rattle.mapchain_cli.specs.declared.ending.Ending.TheVariants.{BadArea, BadRingArea, BadShare, Refused, FileRefused, Memory}
 use Rattle.mapchain_cli.proofs.Opened.{times_contents}
 
-times_outputs : (n : ℕ) (s : FileState) → outputs (opened_times n s).counts ≡ outputs s.counts
+times_outputs : (n : ℕ) (s : FileState) → (opened_times n s).counts.outputs ≡ s.counts.outputs
 times_outputs zero s = refl
 times_outputs (suc n) s = times_outputs n s
 
@@ -25,14 +25,14 @@ times_pending (suc n) s = times_pending n s
 pub opened : (files : FileUse) (n : ℕ) → Opened n files → OnlyReads files
 opened files n e = record {
   contents = ap (λ (s : FileState). s.contents) e ∙ times_contents n files.before;
-  outputs = ap (λ (s : FileState). outputs s.counts) e ∙ times_outputs n files.before;
+  outputs = ap (λ (s : FileState). s.counts.outputs) e ∙ times_outputs n files.before;
   pending = ap (λ (s : FileState). s.pending) e ∙ times_pending n files.before;
 }
 
 behind : (files : FileUse) (n : ℕ) → RefusedBehind n files → OnlyReads files
 behind files n e = record {
   contents = ap (λ (s : FileState). s.contents) e ∙ times_contents n files.before;
-  outputs = ap (λ (s : FileState). outputs s.counts) e ∙ times_outputs n files.before;
+  outputs = ap (λ (s : FileState). s.counts.outputs) e ∙ times_outputs n files.before;
   pending = ap (λ (s : FileState). s.pending) e ∙ times_pending n files.before;
 }
 
@@ -42,7 +42,7 @@ behind files n e = record {
 pub unread : (before after : FileState) → after ≡ before → OnlyReads (used before after)
 unread before after e = record {
   contents = ap (λ (s : FileState). s.contents) e;
-  outputs = ap (λ (s : FileState). outputs s.counts) e;
+  outputs = ap (λ (s : FileState). s.counts.outputs) e;
   pending = ap (λ (s : FileState). s.pending) e;
 }
 
@@ -50,12 +50,12 @@ unread before after e = record {
 pub one_read : (is_open : Bool) (before after : FileState) → after ≡ one_more is_open before → OnlyReads (used before after)
 one_read true before after e = record {
   contents = ap (λ (s : FileState). s.contents) e;
-  outputs = ap (λ (s : FileState). outputs s.counts) e;
+  outputs = ap (λ (s : FileState). s.counts.outputs) e;
   pending = ap (λ (s : FileState). s.pending) e;
 }
 one_read false before after e = record {
   contents = ap (λ (s : FileState). s.contents) e;
-  outputs = ap (λ (s : FileState). outputs s.counts) e;
+  outputs = ap (λ (s : FileState). s.counts.outputs) e;
   pending = ap (λ (s : FileState). s.pending) e;
 }
 

@@ -3,6 +3,7 @@ use Rattle.std.specs.Prelude.{◌≡◌, ◌≢◌, ℕ, zero, suc, ◌+◌, ◌
 use Rattle.byte_ends.specs.Ends.{Drained, Fed, saturated}
 use Rattle.layer_sources.specs.Sources.{Sources}
 use Rattle.mapchain_cli.specs.declared.counts.Counts.{Counts}
+use Rattle.mapchain_cli.specs.declared.counts.OutputCounts.{OutputCounts}
 
 -- the bytes of the file of each path, where they are known and it can be opened
 abbrev pub Contents : Type 0
@@ -76,24 +77,39 @@ pub record IsFresh (output : Drained) : Type 0 where
   pub sound : output.failures ≡ 0
   pub empty : IfSome output.taken (λ bytes. bytes ≡ [])
 
+-- nothing became of any
+abbrev pub no_outputs : OutputCounts
+no_outputs = record { begun = 0; unbegun = 0; kept = 0; unkept = 0; discarded = 0 }
+
 -- one more try to begin an output
-abbrev pub with_begin : Bool → Counts → Counts
+abbrev pub with_begin : Bool → OutputCounts → OutputCounts
 with_begin true c = record c { begun = saturated (c.begun + 1) }
-with_begin false c = c
+with_begin false c = record c { unbegun = saturated (c.unbegun + 1) }
 
--- an output that is to take the place of the file of this path is begun, or isn't
+-- one more try to put an output in the place of a file
+abbrev pub with_keep : Bool → OutputCounts → OutputCounts
+with_keep true c = record c { kept = saturated (c.kept + 1) }
+with_keep false c = record c { unkept = saturated (c.unkept + 1) }
+
+-- one more output that wasn't to be kept
+abbrev pub with_discard : OutputCounts → OutputCounts
+with_discard c = record c { discarded = saturated (c.discarded + 1) }
+
+abbrev pub in_outputs : (OutputCounts → OutputCounts) → Counts → Counts
+in_outputs more c = record c { outputs = more c.outputs }
+
+-- an output that is to take the place of the file of this path is begun, or it was tried
 abbrev pub begun : Bool → List ℕ → FileState → FileState
-begun true path s = record s { counts = with_begin true s.counts; pending = Some path }
-begun false path s = s
+begun true path s = record s { counts = in_outputs (with_begin true) s.counts; pending = Some path }
+begun false path s = record s { counts = in_outputs (with_begin false) s.counts }
 
--- one more output that took the place of a file or was taken away
-abbrev pub with_end : Bool → Counts → Counts
-with_end true c = record c { kept = saturated (c.kept + 1) }
-with_end false c = record c { discarded = saturated (c.discarded + 1) }
-
--- an output was taken away
+-- an output that wasn't to be kept was taken away
 abbrev pub discarded : FileState → FileState
-discarded s = record s { counts = with_end false s.counts; pending = None }
+discarded s = record s { counts = in_outputs with_discard s.counts; pending = None }
+
+-- an output couldn't take the place of a file, and was taken away
+abbrev pub not_kept : FileState → FileState
+not_kept s = record s { counts = in_outputs (with_keep false) s.counts; pending = None }
 
 -- the file of this path, for which an output was begun last, holds all that the output took, where that is known; no other file changes, and
 -- that is counted
@@ -101,7 +117,7 @@ pub record Keeps (path : List ℕ) (taken : Option (List ℕ)) (old new : FileSt
   pub begun : old.pending ≡ Some path
   pub holds : IfSome (new.contents path) (λ bytes. taken ≡ Some bytes)
   pub others : (other : List ℕ) → other ≢ path → new.contents other ≡ old.contents other
-  pub counted : new.counts ≡ with_end true old.counts
+  pub counted : new.counts ≡ in_outputs (with_keep true) old.counts
   pub settled : new.pending ≡ None
 
 -- every file holds what it held, but perhaps that of this path, if there is one
@@ -111,12 +127,8 @@ HoldsBut (Some path) old new = (other : List ℕ) → other ≢ path → new.con
 
 -- ---- files that are only read
 
--- how many outputs were begun, kept and taken away
-abbrev pub outputs : Counts → ℕ × (ℕ × ℕ)
-outputs c = (c.begun, (c.kept, c.discarded))
-
 -- files were opened, or not, and nothing else was done
 pub record OnlyReads (files : FileUse) : Type 0 where
   pub contents : files.after.contents ≡ files.before.contents
-  pub outputs : outputs files.after.counts ≡ outputs files.before.counts
+  pub outputs : files.after.counts.outputs ≡ files.before.counts.outputs
   pub pending : files.after.pending ≡ files.before.pending

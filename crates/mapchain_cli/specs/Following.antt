@@ -2,7 +2,7 @@
 use Rattle.std.specs.Prelude.{◌≡◌, ◌⊎◌, ℕ, zero, suc, Bool, true, false, List, codes, Option, None, Some, Ok, Err}
 use Rattle.std.specs.Borrow.{Bor}
 use Rattle.byte_ends.specs.Ends.{Drained}
-use Rattle.byte_ends.specs.Writes.{WritesAll}
+use Rattle.byte_ends.specs.Writes.{WritesAll, WritesFront}
 use Rattle.command_words.specs.Asked.{Detail}
 use Rattle.command_words.specs.declared.request.Request.{Request}
 use Rattle.fault_lines.specs.Statuses.{failed}
@@ -12,7 +12,7 @@ use Rattle.run_reports.specs.RunReports.{run_text}
 use Rattle.run_reports.specs.declared.run_report.RunFault.{RunFault}
 use Rattle.run_reports.specs.declared.run_report.RunFault.TheVariants as fault
 use Rattle.run_reports.specs.declared.run_report.RunReport.{RunReport}
-use Rattle.mapchain_cli.specs.Files.{FileState, FileUse, IsFresh, Keeps, OnlyReads, begun, discarded, used}
+use Rattle.mapchain_cli.specs.Files.{FileState, FileUse, IsFresh, Keeps, OnlyReads, begun, discarded, not_kept, used}
 use Rattle.mapchain_cli.specs.Outputs.{IsPerformed}
 use Rattle.mapchain_cli.specs.Performing.{Outcome, Streams, status_after, told_of}
 use Rattle.mapchain_cli.specs.declared.ending.Ending.{Ending}
@@ -58,9 +58,27 @@ pub record PutsReport (files : FileUse) (path : List ℕ) (run : RunReport) : Ty
   pub whole : WritesAll fresh output 0 (run_text run) sent
   pub kept : Keeps path output.taken (begun true path files.before) files.after
 
--- it couldn't be, and its output, where it was begun, was taken away
-abbrev pub IsUnwritten : FileUse → List ℕ → Type 0
-IsUnwritten files path = (files.after ≡ files.before) ⊎ (files.after ≡ discarded (begun true path files.before))
+-- the device of its output failed, which was taken away
+pub record IsBroken (files : FileUse) (path : List ℕ) (run : RunReport) : Type 0 where
+  pub fresh : Drained
+  pub is_fresh : IsFresh fresh
+  pub output : Drained
+  pub sent : ℕ
+  pub front : WritesFront fresh output 0 (run_text run) sent
+  pub away : files.after ≡ discarded (begun true path files.before)
+
+-- its output took it, and couldn't take the place of the file
+pub record IsHeld (files : FileUse) (path : List ℕ) (run : RunReport) : Type 0 where
+  pub fresh : Drained
+  pub is_fresh : IsFresh fresh
+  pub output : Drained
+  pub sent : ℕ
+  pub whole : WritesAll fresh output 0 (run_text run) sent
+  pub away : files.after ≡ not_kept (begun true path files.before)
+
+-- it couldn't be written: its output couldn't be begun, or one of these
+abbrev pub IsUnwritten : FileUse → List ℕ → RunReport → Type 0
+IsUnwritten files path run = (files.after ≡ begun false path files.before) ⊎ (IsBroken files path run ⊎ IsHeld files path run)
 
 -- the line of a report that couldn't be written
 abbrev pub no_report : List ℕ
@@ -71,11 +89,11 @@ abbrev pub unreported : ℕ → ℕ
 unreported zero = failed
 unreported (suc n) = suc n
 
--- the report is written to the file of this path, or it couldn't be, which is told
+-- the report of the run is written to the file of this path, or it couldn't be, which is told
 abbrev pub IsReported : FileUse → List ℕ → Outcome → List ℕ → Drained → Drained → ℕ → Type 0
-IsReported files path outcome explanation old new status =
-    ((run : RunReport) × IsReportOf outcome explanation (status_after outcome) run × PutsReport files path run × (new ≡ old) × (status ≡ status_after outcome))
-    ⊎ (IsUnwritten files path × Tells old new no_report × (status ≡ unreported (status_after outcome)))
+IsReported files path outcome explanation old new status = (run : RunReport) × IsReportOf outcome explanation (status_after outcome) run ×
+    ((PutsReport files path run × (new ≡ old) × (status ≡ status_after outcome))
+    ⊎ (IsUnwritten files path run × Tells old new no_report × (status ≡ unreported (status_after outcome))))
 
 -- where it is asked for
 abbrev pub ReportsTo : Option (List ℕ) → FileUse → Outcome → List ℕ → Drained → Drained → ℕ → Type 0

@@ -8,9 +8,9 @@ use Rattle.inputs.specs.declared.fault.BuildFault.TheVariants.{Write}
 use Rattle.inputs.specs.declared.file_fault.FileFault.TheVariants as file
 use Rattle.reports.specs.declared.report.Report.{Report}
 use Rattle.mapchain_cli.specs.Asking.{IsAnswered, IsRefused}
-use Rattle.mapchain_cli.specs.Files.{FileState, FileUse, IsFresh, Keeps, begun, discarded, outputs, used, with_begin, with_end}
+use Rattle.mapchain_cli.specs.Files.{FileState, FileUse, IsFresh, Keeps, begun, discarded, not_kept, used, with_begin, with_discard, with_keep}
 use Rattle.mapchain_cli.specs.Performing.{ComesOut, Outcome}
-use Rattle.mapchain_cli.specs.declared.counts.Counts.{Counts}
+use Rattle.mapchain_cli.specs.declared.counts.OutputCounts.{OutputCounts}
 use Rattle.mapchain_cli.specs.declared.ending.Ending.{Ending}
 use Rattle.mapchain_cli.specs.declared.ending.Ending.TheVariants.{Refused, FileRefused}
 
@@ -44,26 +44,30 @@ pub record IsDelivered (files : FileUse) (path : List ℕ) (request : Request) (
   pub kept : Keeps path begins.output.taken begins.opened files.after
   pub done : outcome ≡ Ok report
 
--- why it isn't: the request isn't done, or it is, and the output can't be kept
-abbrev pub IsLost : (path : List ℕ) (before : FileState) → Begins path before → Request → Ending → Type 0
-IsLost path before b request ending = IsRefused (over path before b) request b.fresh b.output ending
-    ⊎ (((report : Option Report) × IsAnswered (over path before b) request b.fresh b.output report) × (ending ≡ unkept (is_build request) b.output.sent))
-
--- it isn't, the output is taken away, and nothing else changes
-pub record IsUndelivered (files : FileUse) (path : List ℕ) (request : Request) (outcome : Outcome) : Type 0 where
+-- the request isn't done over the output, which is taken away; nothing else changes
+pub record IsAbandoned (files : FileUse) (path : List ℕ) (request : Request) (outcome : Outcome) : Type 0 where
   pub begins : Begins path files.before
   pub ending : Ending
-  pub why : IsLost path files.before begins request ending
+  pub why : IsRefused (over path files.before begins) request begins.fresh begins.output ending
   pub away : files.after ≡ discarded begins.opened
   pub refused : outcome ≡ Err ending
 
--- the output can't be begun, and nothing changes
-abbrev pub IsUnbegun : FileUse → Request → Outcome → Type 0
-IsUnbegun files request outcome = (files.after ≡ files.before) × (outcome ≡ Err (unkept (is_build request) 0))
+-- it is done over the output, which can't take the place of the file; nothing else changes
+pub record IsUnkept (files : FileUse) (path : List ℕ) (request : Request) (outcome : Outcome) : Type 0 where
+  pub begins : Begins path files.before
+  pub report : Option Report
+  pub answered : IsAnswered (over path files.before begins) request begins.fresh begins.output report
+  pub away : files.after ≡ not_kept begins.opened
+  pub refused : outcome ≡ Err (unkept (is_build request) begins.output.sent)
+
+-- the output can't be begun; nothing else changes
+abbrev pub IsUnbegun : FileUse → List ℕ → Request → Outcome → Type 0
+IsUnbegun files path request outcome = (files.after ≡ begun false path files.before) × (outcome ≡ Err (unkept (is_build request) 0))
 
 -- how a request comes out whose output is to take the place of the file of this path
 abbrev pub IsSent : FileUse → List ℕ → Request → Outcome → Type 0
-IsSent files path request outcome = IsUnbegun files request outcome ⊎ (IsUndelivered files path request outcome ⊎ IsDelivered files path request outcome)
+IsSent files path request outcome =
+    IsUnbegun files path request outcome ⊎ (IsAbandoned files path request outcome ⊎ (IsUnkept files path request outcome ⊎ IsDelivered files path request outcome))
 
 -- ---- either way
 
@@ -78,11 +82,11 @@ IsPerformed files (Some path) request old new outcome = (new ≡ old) × IsSent 
 
 -- ---- counts
 
--- one output was begun, and kept or taken away
-abbrev pub one_settled : Bool → Counts → Counts
-one_settled is_kept c = with_end is_kept (with_begin true c)
+-- one output couldn't be begun; or it was begun, and then kept, or couldn't be, or taken away
+abbrev pub SettlesOne : OutputCounts → OutputCounts → Type 0
+SettlesOne old new = (new ≡ with_begin false old)
+    ⊎ (((is_kept : Bool) × (new ≡ with_keep is_kept (with_begin true old))) ⊎ (new ≡ with_discard (with_begin true old)))
 
--- no output was begun, or one or two, each kept or taken away before the next
-abbrev pub Settles : Counts → Counts → Type 0
-Settles old new = (outputs new ≡ outputs old) ⊎ (((first : Bool) × (outputs new ≡ outputs (one_settled first old)))
-    ⊎ ((first : Bool) × (second : Bool) × (outputs new ≡ outputs (one_settled second (one_settled first old)))))
+-- no output was tried, or one or two, the first of which was settled before the second
+abbrev pub Settles : OutputCounts → OutputCounts → Type 0
+Settles old new = (new ≡ old) ⊎ (SettlesOne old new ⊎ ((between : OutputCounts) × SettlesOne old between × SettlesOne between new))

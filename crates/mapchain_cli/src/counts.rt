@@ -1,20 +1,31 @@
 // How often files were opened, and what became of outputs.
 ghost use Rattle.std.specs.Prelude.{◌≡◌};
 
-/// How often files were opened, and how many outputs that are to take the place of a file were begun, kept and taken away. A count that
-/// is at the greatest `u64` stays there.
+/// What became of outputs that were to take the place of a file, each tried once and ended once. A count that is at the greatest `u64`
+/// stays there.
+#[derive(Clone, Copy, Debug, PartialEq, Eq)]
+pub struct OutputCounts {
+    /// How many were begun.
+    pub begun: u64,
+    /// How many couldn't be begun.
+    pub unbegun: u64,
+    /// How many took the place of a file.
+    pub kept: u64,
+    /// How many were to, and couldn't.
+    pub unkept: u64,
+    /// How many weren't to, and were taken away.
+    pub discarded: u64,
+}
+
+/// How often files were opened, and what became of outputs. A count that is at the greatest `u64` stays there.
 #[derive(Clone, Copy, Debug, PartialEq, Eq)]
 pub struct Counts {
     /// How many files were opened.
     pub opened: u64,
     /// How often a file couldn't be opened.
     pub refused: u64,
-    /// How many outputs were begun.
-    pub begun: u64,
-    /// How many of them took the place of a file.
-    pub kept: u64,
-    /// How many of them were taken away.
-    pub discarded: u64,
+    /// What became of outputs.
+    pub outputs: OutputCounts,
 }
 
 impl Counts {
@@ -22,14 +33,18 @@ impl Counts {
 
     /// Nothing was called yet.
     pub fn none() -> Counts
-        ensures { result ≡ record { opened = 0; refused = 0; begun = 0; kept = 0; discarded = 0 } }
+        ensures { result ≡ record { opened = 0; refused = 0; outputs = spec.no_outputs } }
     {
         Counts {
             opened: 0,
             refused: 0,
-            begun: 0,
-            kept: 0,
-            discarded: 0,
+            outputs: OutputCounts {
+                begun: 0,
+                unbegun: 0,
+                kept: 0,
+                unkept: 0,
+                discarded: 0,
+            },
         }
     }
 
@@ -46,21 +61,30 @@ impl Counts {
 
     /// Counts one more try to begin an output, which began it or didn't.
     pub fn count_begin(&mut self, is_begun: bool)
-        ensures { self.new ≡ spec.with_begin is_begun self.old }
+        ensures { self.new ≡ spec.in_outputs (spec.with_begin is_begun) self.old }
     {
         if is_begun {
-            self.begun = self.begun.saturating_add(1);
+            self.outputs.begun = self.outputs.begun.saturating_add(1);
+        } else {
+            self.outputs.unbegun = self.outputs.unbegun.saturating_add(1);
         }
     }
 
-    /// Counts one more output that took the place of a file or was taken away.
-    pub fn count_end(&mut self, is_kept: bool)
-        ensures { self.new ≡ spec.with_end is_kept self.old }
+    /// Counts one more output that was to take the place of a file, and did or couldn't.
+    pub fn count_keep(&mut self, is_kept: bool)
+        ensures { self.new ≡ spec.in_outputs (spec.with_keep is_kept) self.old }
     {
         if is_kept {
-            self.kept = self.kept.saturating_add(1);
+            self.outputs.kept = self.outputs.kept.saturating_add(1);
         } else {
-            self.discarded = self.discarded.saturating_add(1);
+            self.outputs.unkept = self.outputs.unkept.saturating_add(1);
         }
+    }
+
+    /// Counts one more output that was taken away, as it wasn't to be kept.
+    pub fn count_discard(&mut self)
+        ensures { self.new ≡ spec.in_outputs spec.with_discard self.old }
+    {
+        self.outputs.discarded = self.outputs.discarded.saturating_add(1);
     }
 }

@@ -67,12 +67,12 @@ fn explain_layer<F: Files>(
             ..
         }
     ) {
-        let mut text = layer_fault(alloc, layer, name, path, exact, &[], fault)?;
+        let mut text = layer_fault(alloc, layer, name, path, exact, None, fault)?;
         text.push_str(explain_unread(alloc, path, files)?.as_str())?;
         return Ok(text);
     }
-    let bytes = read_again(alloc, path, files).unwrap_or(Vec::new(alloc));
-    layer_fault(alloc, layer, name, path, exact, bytes.as_slice(), fault)
+    let bytes = read_again(alloc, path, files);
+    layer_fault(alloc, layer, name, path, exact, bytes.as_deref(), fault)
 }
 
 /// Why the file of a topology is refused.
@@ -85,12 +85,12 @@ fn explain_file<F: Files>(
     ensures { OnlyReads (used (F.state files.old) (F.state files.new)) }
 {
     if matches!(fault, FileFault::Read(ReadFault::Read)) {
-        let mut text = topology_fault(alloc, path, &[], fault)?;
+        let mut text = topology_fault(alloc, path, None, fault)?;
         text.push_str(explain_unread(alloc, path, files)?.as_str())?;
         return Ok(text);
     }
-    let bytes = read_again(alloc, path, files).unwrap_or(Vec::new(alloc));
-    topology_fault(alloc, path, bytes.as_slice(), fault)
+    let bytes = read_again(alloc, path, files);
+    topology_fault(alloc, path, bytes.as_deref(), fault)
 }
 
 /// What became of a layer that was built.

@@ -1,6 +1,6 @@
 // The files of a run: layers and topologies that are read, and outputs that take the place of a file.
 ghost use Rattle.std.specs.Prelude.{◌≡◌, ℕ, List, None, IfNone, IfSome, false, is_some, true};
-ghost use Rattle.mapchain_cli.specs.Files.{FileState, IsFresh, IsOpened, Keeps, begun, discarded, one_more};
+ghost use Rattle.mapchain_cli.specs.Files.{FileState, IsFresh, IsOpened, Keeps, begun, discarded, not_kept, one_more};
 
 use byte_ends::{Drain, Feed, Sink, Source};
 use explanations::FileKind;
@@ -13,8 +13,8 @@ pub trait Files {
     /// The device that takes the bytes of an output which is to take the place of a file.
     type W: Drain + Drop;
 
-    // The bytes of the files, where they are known, how often files were opened and outputs begun, kept and taken away, and for which
-    // file the last one was begun.
+    // The bytes of the files, where they are known, how often files were opened, what became of outputs, and for which file the last one
+    // was begun.
     ghost state: { Self → FileState };
 
     /// The file of this name from its first byte on, or nothing where it can't be opened.
@@ -42,7 +42,7 @@ pub trait Files {
     fn keep(&mut self, output: Self::W) -> bool
         // That file holds what the output took, no other file changes, and the call is counted.
         ensures kept { result ≡ true → (path : List ℕ) × Keeps path (Self.W.taken output) (state self.old) (state self.new) }
-        ensures lost { result ≡ false → state self.new ≡ discarded (state self.old) };
+        ensures lost { result ≡ false → state self.new ≡ not_kept (state self.old) };
 
     /// Takes an output away that isn't to be kept. All files stay as they are.
     fn discard(&mut self, output: Self::W)

@@ -75,7 +75,7 @@ fn tell_unreported<W: Drain>(status: u8, err: &mut Sink<W>) -> u8
 /// Puts the report of a run in the place of the file of this path, and answers whether that was done.
 fn put_report<F: Files>(path: &str, run: &RunReport<'_>, files: &mut F) -> bool
     ensures written { result ≡ true → PutsReport (used (F.state files.old) (F.state files.new)) path.now run.now }
-    ensures unwritten { result ≡ false → IsUnwritten (used (F.state files.old) (F.state files.new)) path.now }
+    ensures unwritten { result ≡ false → IsUnwritten (used (F.state files.old) (F.state files.new)) path.now run.now }
 {
     let Some(mut output) = files.begin(path) else {
         return false;

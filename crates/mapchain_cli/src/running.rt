@@ -208,8 +208,8 @@ pub fn command<F: Files, V: Drain, W: Drain>(
     ensures lost { 0 < result → report_of (joined (map string_bytes words.items)) ≡ None → (F.state files.new).contents ≡ (F.state files.old).contents }
     // Where the input or the words are refused, every file but that of the report holds what it held.
     ensures kept { (result ≡ 1) ⊎ (result ≡ 2) → HoldsBut (report_of (joined (map string_bytes words.items))) (F.state files.old) (F.state files.new) }
-    // No output to a file was begun, or one or two, each kept or taken away before the next.
-    ensures settled { Settles (F.state files.old).counts (F.state files.new).counts }
+    // No output to a file was tried, or one or two: each couldn't be begun, or was kept, or couldn't be, or taken away, before the next.
+    ensures settled { Settles (F.state files.old).counts.outputs (F.state files.new).counts.outputs }
 {
     match joined_words(alloc, words.as_slice()) {
         Ok(joined) => run(alloc, joined.as_slice(), files, out, err),

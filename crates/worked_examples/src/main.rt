@@ -76,18 +76,18 @@ impl<'a> mapchain_cli::Files for PageFiles<'a> {
     fn keep(&mut self, output: ToWrite<CutWriter>) -> bool {
         let Some(path) = self.pending.take() else {
             self.files.discard(output);
-            self.counts.count_end(false);
+            self.counts.count_keep(false);
             return false;
         };
         let is_kept = self.files.keep(path.as_str(), output);
-        self.counts.count_end(is_kept);
+        self.counts.count_keep(is_kept);
         is_kept
     }
 
     fn discard(&mut self, output: ToWrite<CutWriter>) {
         self.pending = None;
         self.files.discard(output);
-        self.counts.count_end(false);
+        self.counts.count_discard();
     }
 }
 

@@ -1,4 +1,4 @@
-use Rattle.std.proofs.Common.{ap, inl, inr, refl, subst, ◌∙◌, Option, List, ℕ}
+use Rattle.std.proofs.Common.{Err, ap, inl, inr, refl, subst, ◌∙◌, Option, List, ℕ}
 use Rattle.mapchain_cli.specs.Asking.{IsAnswered, IsRefused}
 use Rattle.mapchain_cli.specs.Files.{FileState, Keeps, used}
 use Rattle.mapchain_cli.specs.Outputs.{is_build, unkept}
@@ -11,15 +11,15 @@ returns-else-keep-clause-sent g c =
     let output = c.answer.new.out in
     let opened = g.F.Files.state c.answer.new.files in
     let answered = subst (λ (s : FileState). IsAnswered (used s opened) request c.in-Some.output output c.in-Ok.report) c.in-Some.ensures.counted c.in-Ok.ensures.answered in
-    let lost = unkept_of request c.is_build-is_build.result c.sent-sent.result c.unkept-in-Ok.result c.is_build-is_build.ensures c.unkept-in-Ok.ensures
+    let refused = unkept_of request c.is_build-is_build.result c.sent-sent.result c.unkept-in-Ok.result c.is_build-is_build.ensures c.unkept-in-Ok.ensures
     ∙ ap (unkept (is_build request)) c.sent-sent.ensures in
-    inr (inl (record {
+    inr (inr (inl (record {
       begins = record { fresh = c.in-Some.output; is_fresh = c.in-Some.ensures.fresh; output = output; opened = opened };
-      ending = c.unkept-in-Ok.result;
-      why = inr ((c.in-Ok.report, answered), lost);
+      report = c.in-Ok.report;
+      answered = answered;
       away = c.if-keep.ensures.lost refl;
-      refused = refl;
-    }))
+      refused = ap Err refused;
+    })))
 
 pub returns-then-keep-clause-sent : goal.returns-then-keep-clause-sent
 returns-then-keep-clause-sent g c =
@@ -32,13 +32,13 @@ returns-then-keep-clause-sent g c =
     let pending = still_pending path begun_at opened request c.in-Some.output output c.in-Ok.report answered in
     let kept = subst (λ (t : Option (List ℕ)). Keeps path t opened (g.F.Files.state c.keep.new.self)) c.into_inner.ensures.taken
     (kept_for path _ opened (g.F.Files.state c.keep.new.self) pending (c.if-keep.ensures.kept refl)) in
-    inr (inr (record {
+    inr (inr (inr (record {
       begins = record { fresh = c.in-Some.output; is_fresh = c.in-Some.ensures.fresh; output = output; opened = opened };
       report = c.in-Ok.report;
       answered = answered;
       kept = kept;
       done = refl;
-    }))
+    })))
 
 pub returns-in-Err-clause-sent : goal.returns-in-Err-clause-sent
 returns-in-Err-clause-sent g c =
@@ -49,7 +49,7 @@ returns-in-Err-clause-sent g c =
     inr (inl (record {
       begins = record { fresh = c.in-Some.output; is_fresh = c.in-Some.ensures.fresh; output = output; opened = opened };
       ending = c.in-Err.ending;
-      why = inl refused;
+      why = refused;
       away = c.discard.ensures.counted;
       refused = refl;
     }))

@@ -1,0 +1,9 @@
+use Rattle.std.proofs.Common.{ap, inr, refl, ◌∙◌}
+use Rattle.mapchain_cli.specs.Following.{unreported}
+use Rattle.mapchain_cli.proofs.following.report_run.Goals as goal
+
+pub returns : goal.returns
+returns g c =
+    let is = c.run_report-run.ensures in
+    let told = c.tell_unreported.ensures in
+    (c.run_report-run.result, is, inr (c.if-put_report.ensures.unwritten refl, told.told, told.status ∙ ap unreported is.status))

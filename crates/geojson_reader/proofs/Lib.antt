@@ -1,0 +1,5 @@
+pub mod PositionParts
+pub mod LineParts
+pub mod ShapeParts
+pub mod SeenMembers
+pub mod GeometryParts

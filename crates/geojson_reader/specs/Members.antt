@@ -1,0 +1,91 @@
+-- Members of objects that are looked up, as they were seen among the others.
+use Rattle.std.specs.Prelude.{◌≡◌, ℕ, List, [], ◌∷◌, Option, Some, None, Result, Ok, Err, codes}
+use Rattle.std.specs.Borrow.{Bor}
+use Rattle.json_value.specs.declared.json.Json.{Json}
+use Rattle.json_value.specs.Kinds.{text_of}
+use Rattle.json_reading.specs.declared.fault.Fault.{Fault}
+use Rattle.json_reading.specs.Gives.{Fails}
+use Rattle.geojson_types.specs.declared.counts.Counts.{Counts}
+use Rattle.geojson_types.specs.Features.{Shape}
+use Rattle.geojson_model.specs.Geometries.{coordinates_shape}
+use Rattle.geojson_model.specs.Members.{named}
+use Rattle.geojson_model.specs.Reader.{Reader, or_fail}
+use Rattle.geojson_model.specs.Types.{geometry_type}
+use Rattle.geojson_model.specs.declared.fault.GeoFaultKind.{GeoFaultKind}
+use Rattle.geojson_model.specs.declared.fault.GeoFaultKind.TheVariants.{UnknownType, WrongKind}
+use Rattle.geojson_model.specs.declared.types.CoordinatesType.{CoordinatesType}
+use Rattle.geojson_model.specs.declared.types.GeometryType.{GeometryType}
+use Rattle.json_cursor.specs.declared.stop.Stop.{Stop}
+use Rattle.json_cursor.specs.declared.stop.Stop.TheVariants as stop
+use Rattle.json_cursor.specs.Arrays.{front_value}
+use Rattle.json_cursor.specs.Members.{Members}
+use Rattle.geojson_reader.specs.declared.seen.Seen.{Seen}
+use Rattle.geojson_reader.specs.declared.seen.Seen.TheVariants.{Never, Once, Again}
+use Rattle.geojson_reader.specs.declared.geometries.Coordinates.{Coordinates}
+use Rattle.geojson_reader.specs.declared.geometries.Parts.{Parts}
+use Rattle.geojson_reader.specs.declared.geometries.Read.{Read}
+use Rattle.geojson_reader.specs.declared.geometries.Start.{Start}
+
+-- these are the values of a name that was seen so
+abbrev pub IsSeen : {A : Type 0} → (Json → A → Type 0) → List Json → Seen A → Type 0
+IsSeen Is vs Never = vs ≡ []
+IsSeen Is vs (Once x) = (v : Json) × (vs ≡ v ∷ []) × Is v x
+IsSeen Is vs Again = (v : Json) × (w : Json) × (us : List Json) × (vs ≡ v ∷ w ∷ us)
+
+-- the same with one more
+abbrev pub see : {A : Type 0} → Seen A → A → Seen A
+see Never x = Once x
+see (Once y) x = Again
+see Again x = Again
+
+-- the value begins there
+abbrev pub IsFront : ℕ → Json → Bor (List ℕ) → Type 0
+IsFront d v front = (rest : List ℕ) × (front_value d front.now ≡ Some (v, rest))
+
+-- a value stands at the front, of which this is known, and this follows it; or none stands there, or nothing is said
+abbrev pub Meets : {A : Type 0} → (Json → A → Type 0) → ℕ → List ℕ → Result (A × Bor (List ℕ)) Fault → Type 0
+Meets Is d bytes (Ok x) = (v : Json) × (front_value d bytes ≡ Some (v, x.1.now)) × Is v x.0
+Meets Is d bytes (Err fault) = Fails fault (front_value d bytes)
+
+-- this is read, or the fault is the reader's, or nothing is said
+abbrev pub Judges : {B : Type 0} → Reader B → Counts → Counts → Result B (Stop GeoFaultKind) → Type 0
+Judges read old new (Ok x) = read old ≡ Ok (x, new)
+Judges read old new (Err (stop.Fault e)) = read old ≡ Err e
+Judges read old new (Err stop.NoValue) = ⊥
+Judges read old new (Err stop.Memory) = Unit {0}
+
+-- ---- the members of a geometry
+
+-- the type that the value of the member `type` names
+abbrev pub type_in : Option (List ℕ) → Result GeometryType GeoFaultKind
+type_in None = Err WrongKind
+type_in (Some name) = or_fail UnknownType (geometry_type name)
+
+abbrev pub IsType : Json → Result GeometryType GeoFaultKind → Type 0
+IsType v type = type ≡ type_in (text_of v)
+
+-- what the value of `coordinates` is read as by this type, from these counts on
+abbrev pub ReadsAs : Start → Json → Read → Result (Option Shape) GeoFaultKind → Type 0
+ReadsAs start v read (Ok shape) = coordinates_shape start.exact read.kind v start.counts ≡ Ok (shape, read.counts)
+ReadsAs start v read (Err e) = coordinates_shape start.exact read.kind v start.counts ≡ Err e
+
+abbrev pub IsRead : Start → Json → Option Read → Type 0
+IsRead start v None = Unit {0}
+IsRead start v (Some read) = ReadsAs start v read read.shape
+
+-- the same of what was read by this very type, if it was
+abbrev pub IsTaken : Start → CoordinatesType → Json → Option (Result (Option Shape) GeoFaultKind × Counts) → Type 0
+IsTaken start kind v None = Unit {0}
+IsTaken start kind v (Some (Ok shape, counts)) = coordinates_shape start.exact kind v start.counts ≡ Ok (shape, counts)
+IsTaken start kind v (Some (Err e, counts)) = coordinates_shape start.exact kind v start.counts ≡ Err e
+
+-- the value of `coordinates` begins there, and was read so, if it was
+pub record IsCoordinates (start : Start) (d : ℕ) (v : Json) (x : Coordinates) : Type 0 where
+  pub front : IsFront d v x.front
+  pub read : IsRead start v x.read
+
+-- what was seen of these members
+pub record IsParts (start : Start) (d : ℕ) (ms : Members) (parts : Parts) : Type 0 where
+  pub kind : IsSeen IsType (named (codes "type") ms) parts.kind
+  pub coordinates : IsSeen (IsCoordinates start d) (named (codes "coordinates") ms) parts.coordinates
+  pub geometries : IsSeen (IsFront d) (named (codes "geometries") ms) parts.geometries

@@ -1,0 +1,77 @@
+// One coordinate of a position.
+ghost use Rattle.std.specs.Prelude.{◌≡◌, ◌≤◌, ◌&&◌, not, IfOk, unsigned_abs};
+ghost use Rattle.geometry.specs.Units.{input_limit};
+ghost use Rattle.geojson_model.specs.Coordinates.{coordinate};
+ghost use Rattle.json_cursor.specs.Answers.{Answers};
+ghost use Rattle.json_cursor.specs.Arrays.{front_value};
+
+use geojson_model::GeoFaultKind;
+use geojson_types::Counts;
+use geometry::{INPUT_LIMIT, PLACES};
+use json_cursor::Stop;
+use json_reading::value_at;
+use std::alloc::Global;
+use unit_scanning::{Halt, number_at};
+
+/// The greatest magnitude in units.
+const LIMIT: i128 = INPUT_LIMIT as i128;
+
+/// Whether a number is refused for being rounded.
+#[inline(always)]
+pub(crate) fn is_refused(exact: bool, whole: bool) -> bool
+    ensures { result ≡ (exact && not whole) }
+{
+    exact && !whole
+}
+
+/// The same as `coordinate_at`, by the value that stands there: the way of what isn't read as a number in units.
+#[cold]
+#[inline(never)]
+fn value_coordinate_at<'a>(
+    alloc: Global,
+    deep: u32,
+    bytes: &'a [u8],
+    exact: bool,
+    counts: &mut Counts,
+) -> Result<(i64, &'a [u8]), Stop<GeoFaultKind>>
+    ensures answers { Answers (λ x. x) (coordinate exact) (front_value deep bytes.now) counts.old counts.new result }
+    ensures within { IfOk result (λ x. unsigned_abs x.0 ≤ input_limit) }
+{
+    let (value, rest) = value_at(alloc, deep, bytes)?;
+    let Some(number) = value.as_number() else {
+        return Err(Stop::Fault(GeoFaultKind::WrongKind));
+    };
+    let Ok(scaled) = number.scaled(PLACES, LIMIT) else {
+        return Err(Stop::Fault(GeoFaultKind::Range));
+    };
+    if is_refused(exact, scaled.exact) {
+        return Err(Stop::Fault(GeoFaultKind::Inexact));
+    }
+    counts.count_rounded(!scaled.exact);
+    Ok((scaled.value as i64, rest))
+}
+
+/// The coordinate at the front in whole units, and what follows it. `exact` refuses what would have to be rounded.
+#[inline(always)]
+pub(crate) fn coordinate_at<'a>(
+    alloc: Global,
+    deep: u32,
+    bytes: &'a [u8],
+    exact: bool,
+    counts: &mut Counts,
+) -> Result<(i64, &'a [u8]), Stop<GeoFaultKind>>
+    ensures answers { Answers (λ x. x) (coordinate exact) (front_value deep bytes.now) counts.old counts.new result }
+    ensures within { IfOk result (λ x. unsigned_abs x.0 ≤ input_limit) }
+{
+    match number_at(alloc, bytes) {
+        Ok((units, rest)) => {
+            if is_refused(exact, units.exact) {
+                return Err(Stop::Fault(GeoFaultKind::Inexact));
+            }
+            counts.count_rounded(!units.exact);
+            Ok((units.value, rest))
+        }
+        Err(Halt::Memory) => Err(Stop::Memory),
+        Err(Halt::Unread) => value_coordinate_at(alloc, deep, bytes, exact, counts),
+    }
+}

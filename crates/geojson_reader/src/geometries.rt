@@ -1,0 +1,438 @@
+// Geometries.
+ghost use Rattle.std.specs.Prelude.{◌≡◌, ◌++◌, [], ℕ, OnOk, codes, length, option_to_list, true};
+ghost use Rattle.json_value.specs.declared.json.Json.{Json as Value};
+ghost use Rattle.json_cursor.specs.Members.{Members as Listed};
+ghost use Rattle.geojson_model.specs.Geometries.{coordinates_shape, geometry, shape, shapes, typed_geometry};
+ghost use Rattle.geojson_model.specs.Reader.{kept};
+ghost use Rattle.json_cursor.specs.Answers.{Answers};
+ghost use Rattle.json_cursor.specs.Arrays.{front_elements, front_value};
+ghost use Rattle.geojson_model.specs.Members.{named};
+ghost use Rattle.geojson_model.specs.declared.types.GeometryType.TheVariants as types;
+ghost use Rattle.geojson_reader.specs.Members.{IsCoordinates, IsFront, IsParts, IsRead, IsSeen, IsTaken, IsType, Judges, Meets};
+ghost use Rattle.geojson_reader.specs.declared.geometries.Start.{Start as Begun};
+
+use crate::seen::Seen;
+use crate::shapes::coordinates_at;
+use geojson_model::{CoordinatesType, GeoFaultKind, GeometryType, geometry_type};
+use geojson_types::{Counts, Shape};
+use json_cursor::{Mark, Members, Stop, behind_byte, mark_at, name_at, object_at, string_at};
+use json_reading::{Fault, Why, skip};
+use json_value::Items;
+use std::alloc::{AllocFailed, Global};
+use text_checking::after_value;
+
+/// By what a geometry is read: whether coordinates may not be rounded, and what was counted before it.
+#[derive(Clone, Copy)]
+pub struct Start {
+    pub exact: bool,
+    pub counts: Counts,
+}
+
+/// What the member `coordinates` is read as by this type, or its fault, and what was counted then.
+#[derive(Drop)]
+pub struct Read {
+    kind: CoordinatesType,
+    shape: Result<Option<Shape>, GeoFaultKind>,
+    counts: Counts,
+}
+
+/// Where the value of the member `coordinates` begins, and what it was read as, if its type was known then.
+#[derive(Drop)]
+pub struct Coordinates<'a> {
+    front: &'a [u8],
+    read: Option<Read>,
+}
+
+/// What was seen of the members of a geometry.
+#[derive(Drop)]
+pub struct Parts<'a> {
+    kind: Seen<Result<GeometryType, GeoFaultKind>>,
+    coordinates: Seen<Coordinates<'a>>,
+    geometries: Seen<&'a [u8]>,
+}
+
+/// The type that the value at the front names, or its fault, and what follows it.
+fn type_at<'a>(
+    alloc: Global,
+    deep: u32,
+    bytes: &'a [u8],
+) -> Result<(Result<GeometryType, GeoFaultKind>, &'a [u8]), Fault>
+    ensures { Meets IsType deep bytes.now result }
+{
+    let Some((name, rest)) = string_at(alloc, bytes)? else {
+        let rest = after_value(alloc, deep, bytes)?;
+        return Ok((Err(GeoFaultKind::WrongKind), rest));
+    };
+    match geometry_type(name.as_str()) {
+        None => Ok((Err(GeoFaultKind::UnknownType), rest)),
+        Some(kind) => Ok((Ok(kind), rest)),
+    }
+}
+
+/// The value of `coordinates` at the front, which is passed over, and what follows it.
+fn passed_at<'a>(
+    alloc: Global,
+    deep: u32,
+    start: Start,
+    bytes: &'a [u8],
+) -> Result<(Coordinates<'a>, &'a [u8]), Fault>
+    ensures { Meets (IsCoordinates start deep) deep bytes.now result }
+{
+    let rest = after_value(alloc, deep, bytes)?;
+    Ok((
+        Coordinates {
+            front: bytes,
+            read: None,
+        },
+        rest,
+    ))
+}
+
+/// The value of `coordinates` at the front, which is read by this type, and what follows it.
+fn read_at<'a>(
+    alloc: Global,
+    deep: u32,
+    start: Start,
+    kind: CoordinatesType,
+    bytes: &'a [u8],
+) -> Result<(Coordinates<'a>, &'a [u8]), Fault>
+    ensures { Meets (IsCoordinates start deep) deep bytes.now result }
+{
+    let mut counts = start.counts;
+    match coordinates_at(alloc, deep, bytes, start.exact, kind, &mut counts) {
+        Ok((shape, rest)) => {
+            let read = Read {
+                kind,
+                shape: Ok(shape),
+                counts,
+            };
+            Ok((
+                Coordinates {
+                    front: bytes,
+                    read: Some(read),
+                },
+                rest,
+            ))
+        }
+        Err(Stop::Fault(fault)) => {
+            let rest = after_value(alloc, deep, bytes)?;
+            let read = Read {
+                kind,
+                shape: Err(fault),
+                counts,
+            };
+            Ok((
+                Coordinates {
+                    front: bytes,
+                    read: Some(read),
+                },
+                rest,
+            ))
+        }
+        Err(Stop::NoValue) => Err(Fault::Malformed {
+            why: Why::Syntax,
+            left: bytes.len(),
+        }),
+        Err(Stop::Memory) => Err(Fault::Memory),
+    }
+}
+
+/// The value of `coordinates` at the front, which is read where its type is known by now, and what follows it.
+fn coordinates_member<'a>(
+    alloc: Global,
+    deep: u32,
+    start: Start,
+    kind: &Seen<Result<GeometryType, GeoFaultKind>>,
+    bytes: &'a [u8],
+) -> Result<(Coordinates<'a>, &'a [u8]), Fault>
+    ensures { Meets (IsCoordinates start deep) deep bytes.now result }
+{
+    match kind {
+        Seen::Once(Ok(GeometryType::Coordinates(kind))) => read_at(
+            alloc, deep, start, *kind, bytes,
+        ),
+        _ => passed_at(alloc, deep, start, bytes),
+    }
+}
+
+impl<'a> Parts<'a> {
+    /// Of no members.
+    fn none() -> Parts<'a>
+        ensures { (start : Begun) (deep : ℕ) → IsParts start deep [] result }
+    {
+        Parts {
+            kind: Seen::Never,
+            coordinates: Seen::Never,
+            geometries: Seen::Never,
+        }
+    }
+}
+
+impl<'a> Members<'a> for Parts<'a> {
+    type With = Start;
+
+    ghost holds = { IsParts };
+
+    fn member(
+        &mut self,
+        alloc: Global,
+        deep: u32,
+        bytes: &'a [u8],
+        with: Start,
+    ) -> Result<&'a [u8], Fault> {
+        let (name, value) = name_at(alloc, bytes)?;
+        if name.is("type") {
+            let (kind, rest) = type_at(alloc, deep, value)?;
+            self.kind.see(kind);
+            return Ok(rest);
+        }
+        if name.is("coordinates") {
+            let (found, rest) = coordinates_member(alloc, deep, with, &self.kind, value)?;
+            self.coordinates.see(found);
+            return Ok(rest);
+        }
+        let rest = after_value(alloc, deep, value)?;
+        if name.is("geometries") {
+            self.geometries.see(value);
+        }
+        Ok(rest)
+    }
+}
+
+/// Whether the types are one.
+fn is_same(one: CoordinatesType, other: CoordinatesType) -> bool
+    ensures { result ≡ true → one ≡ other }
+{
+    match one {
+        CoordinatesType::Point => matches!(other, CoordinatesType::Point),
+        CoordinatesType::MultiPoint => matches!(other, CoordinatesType::MultiPoint),
+        CoordinatesType::LineString => matches!(other, CoordinatesType::LineString),
+        CoordinatesType::MultiLineString => matches!(other, CoordinatesType::MultiLineString),
+        CoordinatesType::Polygon => matches!(other, CoordinatesType::Polygon),
+        CoordinatesType::MultiPolygon => matches!(other, CoordinatesType::MultiPolygon),
+    }
+}
+
+/// What was read of the value by this very type, and what was counted then.
+fn taken(
+    read: Option<Read>,
+    kind: CoordinatesType,
+) -> Option<(Result<Option<Shape>, GeoFaultKind>, Counts)>
+    ensures { (start : Begun) (v : Value) → IsRead start v read → IsTaken start kind v result }
+{
+    let Some(
+        Read {
+            kind: by,
+            shape,
+            counts,
+        },
+    ) = read
+    else {
+        return None;
+    };
+    if !is_same(by, kind) {
+        return None;
+    }
+    Some((shape, counts))
+}
+
+/// What the value of `coordinates` is by this type, which is read where its member came before its type.
+fn shape_by(
+    alloc: Global,
+    deep: u32,
+    kind: CoordinatesType,
+    found: Coordinates<'_>,
+    start: Start,
+    counts: &mut Counts,
+) -> Result<Option<Shape>, Stop<GeoFaultKind>>
+    ensures { (v : Value) → IsCoordinates start deep v found.entry → Judges (coordinates_shape start.exact kind v) start.counts counts.new result }
+{
+    let Coordinates { front, read } = found;
+    match taken(read, kind) {
+        Some((shape, counted)) => {
+            *counts = counted;
+            match shape {
+                Ok(shape) => Ok(shape),
+                Err(fault) => Err(Stop::Fault(fault)),
+            }
+        }
+        None => {
+            *counts = start.counts;
+            match coordinates_at(alloc, deep, front, start.exact, kind, counts) {
+                Err(stop) => Err(stop),
+                Ok((shape, _)) => Ok(shape),
+            }
+        }
+    }
+}
+
+/// What the member `coordinates` is by this type.
+fn coordinates_of(
+    alloc: Global,
+    deep: u32,
+    kind: CoordinatesType,
+    coordinates: Seen<Coordinates<'_>>,
+    start: Start,
+    counts: &mut Counts,
+) -> Result<Option<Shape>, Stop<GeoFaultKind>>
+    ensures { (ms : Listed) → IsSeen (IsCoordinates start deep) (named (codes "coordinates") ms) coordinates.entry
+        → Judges (typed_geometry start.exact (types.Coordinates kind) ms) start.counts counts.new result }
+{
+    match coordinates {
+        Seen::Never => Err(Stop::Fault(GeoFaultKind::Missing)),
+        Seen::Again => Err(Stop::Fault(GeoFaultKind::Duplicate)),
+        Seen::Once(found) => shape_by(alloc, deep, kind, found, start, counts),
+    }
+}
+
+/// What the member `geometries` is.
+#[cycle(geometries)]
+fn group_of(
+    alloc: Global,
+    deep: u32,
+    geometries: Seen<&[u8]>,
+    start: Start,
+    counts: &mut Counts,
+) -> Result<Option<Shape>, Stop<GeoFaultKind>>
+    ensures { (ms : Listed) → IsSeen (IsFront deep) (named (codes "geometries") ms) geometries.entry
+        → Judges (typed_geometry start.exact types.Collection ms) start.counts counts.new result }
+{
+    match geometries {
+        Seen::Never => Err(Stop::Fault(GeoFaultKind::Missing)),
+        Seen::Again => Err(Stop::Fault(GeoFaultKind::Duplicate)),
+        Seen::Once(front) => {
+            *counts = start.counts;
+            match geometries_at(alloc, deep, front, start.exact, counts) {
+                Err(stop) => Err(stop),
+                Ok((shapes, _)) => Ok(Some(Shape::Group(shapes))),
+            }
+        }
+    }
+}
+
+/// The geometry of these members.
+#[cycle(geometries)]
+fn shape_of(
+    alloc: Global,
+    deep: u32,
+    parts: Parts<'_>,
+    start: Start,
+    counts: &mut Counts,
+) -> Result<Option<Shape>, Stop<GeoFaultKind>>
+    ensures { (ms : Listed) → IsParts start deep ms parts.entry → Judges (geometry start.exact ms) start.counts counts.new result }
+{
+    let Parts {
+        kind,
+        coordinates,
+        geometries,
+    } = parts;
+    match kind {
+        Seen::Never => Err(Stop::Fault(GeoFaultKind::Missing)),
+        Seen::Again => Err(Stop::Fault(GeoFaultKind::Duplicate)),
+        Seen::Once(named) => match named {
+            Err(fault) => Err(Stop::Fault(fault)),
+            Ok(geometry) => match geometry {
+                GeometryType::Collection => group_of(alloc, deep, geometries, start, counts),
+                GeometryType::Coordinates(kind) => {
+                    coordinates_of(alloc, deep, kind, coordinates, start, counts)
+                }
+            },
+        },
+    }
+}
+
+/// The geometry at the front (RFC 7946, section 3.1), which is none where nothing is left of it, and what follows it; or why reading
+/// stops. Its members may stand in any order.
+#[cycle(geometries)]
+pub fn geometry_at<'a>(
+    alloc: Global,
+    deep: u32,
+    bytes: &'a [u8],
+    exact: bool,
+    counts: &mut Counts,
+) -> Result<(Option<Shape>, &'a [u8]), Stop<GeoFaultKind>>
+    ensures { Answers (λ x. x) (shape exact) (front_value deep bytes.now) counts.old counts.new result }
+{
+    let start = Start {
+        exact,
+        counts: *counts,
+    };
+    let (found, rest) = object_at::<Parts<'a>>(alloc, deep, Parts::none(), bytes, start)?;
+    let Some(parts) = found else {
+        return Err(Stop::Fault(GeoFaultKind::WrongKind));
+    };
+    match shape_of(alloc, deep - 1, parts, start, counts) {
+        Err(stop) => Err(stop),
+        Ok(shape) => Ok((shape, rest)),
+    }
+}
+
+/// Puts one behind the others, if there is one.
+fn push_some(read: &mut Vec<Shape>, one: Option<Shape>) -> Result<(), AllocFailed<Shape>>
+    ensures { OnOk result (read.new.items ≡ read.old.items ++ option_to_list one) }
+{
+    match one {
+        None => Ok(()),
+        Some(one) => {
+            read.push(one)?;
+            Ok(())
+        }
+    }
+}
+
+/// The geometries behind the bracket of an array, one or more, without those of which nothing is left, and what follows it.
+#[cycle(geometries)]
+fn geometries_behind<'a>(
+    alloc: Global,
+    deep: u32,
+    inside: &'a [u8],
+    exact: bool,
+    counts: &mut Counts,
+) -> Result<(Vec<Shape>, &'a [u8]), Stop<GeoFaultKind>>
+    ensures { Answers (λ v. v.items) (kept (shape exact)) (front_elements deep (length inside.now) inside.now) counts.old counts.new result }
+{
+    let mut read = Vec::new(alloc);
+    let mut rest = inside;
+    'geometries: for _ in 0..inside.len() {
+        match geometry_at(alloc, deep, skip(rest), exact, counts) {
+            Err(stop) => return Err(stop),
+            Ok((one, behind)) => {
+                push_some(&mut read, one)?;
+                let (mark, more) = mark_at(behind);
+                match mark {
+                    Mark::Neither => return Err(Stop::NoValue),
+                    Mark::Close => return Ok((read, more)),
+                    Mark::Comma => {}
+                }
+                rest = more;
+            }
+        }
+    }
+    Err(Stop::NoValue)
+}
+
+/// The geometries of the array at the front, without those of which nothing is left, and what follows it; or why reading stops.
+#[cycle(geometries)]
+fn geometries_at<'a>(
+    alloc: Global,
+    deep: u32,
+    bytes: &'a [u8],
+    exact: bool,
+    counts: &mut Counts,
+) -> Result<(Items<Shape>, &'a [u8]), Stop<GeoFaultKind>>
+    ensures { Answers (λ x. x) (shapes exact) (front_value deep bytes.now) counts.old counts.new result }
+{
+    let Some(inside) = behind_byte(b'[', bytes) else {
+        return Err(Stop::Fault(GeoFaultKind::WrongKind));
+    };
+    if deep == 0 {
+        return Err(Stop::NoValue);
+    }
+    if let Some(rest) = behind_byte(b']', skip(inside)) {
+        return Ok((Items::of(Vec::new(alloc)), rest));
+    }
+    match geometries_behind(alloc, deep - 1, inside, exact, counts) {
+        Err(stop) => Err(stop),
+        Ok((read, rest)) => Ok((Items::of(read), rest)),
+    }
+}

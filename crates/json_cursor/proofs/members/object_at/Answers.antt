@@ -1,0 +1,35 @@
+use Rattle.std.proofs.Common.{[], List, arith}
+use Rattle.std.proofs.lemmas.Result.{err_from_is_err_and}
+use Rattle.json_cursor.proofs.MemberParts.{malformed}
+use Rattle.json_cursor.proofs.Openings.{is_no_object, object_deep, no_members, some_members, members_fail}
+use Rattle.json_cursor.proofs.members.object_at.Goals as goal
+
+pub returns-in_default : goal.returns-in_default
+returns-in_default g c = is_no_object c.args.deep c.args.bytes.now c.in_default.ensures
+
+pub returns-then-deep-eq0 : goal.returns-then-deep-eq0
+returns-then-deep-eq0 g c = malformed _ _ c.broken.ensures (object_deep c.args.deep c.args.bytes.now _ c.in-Some.ensures c.if-deep-eq0.true)
+
+pub returns-in-Some-behind_byte : goal.returns-in-Some-behind_byte
+returns-in-Some-behind_byte g c = record {
+  deep = omega (arith, c.if-deep-eq0.false);
+  members = [];
+  front = no_members c.args.deep c.args.bytes.now _ c.in-Some.ensures c.if-deep-eq0.false _ (rw c.skip.ensures at c.in-Some-behind_byte.ensures);
+  holds = λ h. h;
+}
+
+pub returns-in_err-made : goal.returns-in_err-made
+returns-in_err-made g c =
+    let p = err_from_is_err_and c.from_residual.result c.from_residual.ensures.1 in
+    rw (p.1, p.2)
+    (members_fail c.args.deep c.args.bytes.now _ c.in-Some.ensures c.if-deep-eq0.false (rw c.skip.ensures at c.in_default-behind_byte.ensures) _ c.in_err-made.ensures)
+
+pub returns : goal.returns
+returns g c =
+    let made = c.in_ok-made.ensures in
+    record {
+      deep = omega (arith, c.if-deep-eq0.false);
+      members = made.members;
+      front = some_members c.args.deep c.args.bytes.now _ c.in-Some.ensures c.if-deep-eq0.false (rw c.skip.ensures at c.in_default-behind_byte.ensures) made.members _ made.front;
+      holds = made.holds;
+    }

@@ -1,0 +1,36 @@
+-- What is made of values, one after another.
+use Rattle.std.specs.Prelude.{ℕ, List, [], ◌∷◌, ◌++◌, Option, Result, Ok, Err, option_to_list}
+use Rattle.std.specs.Borrow.{Bor}
+use Rattle.json_members.specs.Readers.{Counting, ◌>>=◌, give}
+use Rattle.json_cursor.specs.declared.stop.Stop.{Stop}
+use Rattle.json_cursor.specs.Answers.{Reads, Stops}
+
+-- each value goes into what was made of those before
+unfoldable pub fold : {C E V S : Type 0} → (S → V → Counting C E S) → S → List V → Counting C E S
+fold take s [] = give s
+fold take s (v ∷ vs) = do
+  t ← take s v
+  fold take t vs
+
+-- the thing at the front goes into what was made, and this follows it; or why reading stops
+abbrev pub Goes : {C E V S : Type 0} → (V → Counting C E S) → Option (V × List ℕ) → C → S → C → Result (Bor (List ℕ)) (Stop E) → Type 0
+Goes take front old made new (Ok rest) = Reads take front made rest.now old new
+Goes take front old made new (Err stop) = Stops take front old stop
+
+-- what is read of one more goes behind what was read before
+abbrev pub with_read : {C E V B : Type 0} → (V → Counting C E (List B)) → List B → V → Counting C E (List B)
+with_read read xs v = do
+  x ← read v
+  give (xs ++ x)
+
+-- what a reader gives, as the elements that it gives of a list
+abbrev pub one : {C E V B : Type 0} → (V → Counting C E B) → V → Counting C E (List B)
+one read v = do
+  x ← read v
+  give (x ∷ [])
+
+-- the same where it may give nothing
+abbrev pub some_one : {C E V B : Type 0} → (V → Counting C E (Option B)) → V → Counting C E (List B)
+some_one read v = do
+  x ← read v
+  give (option_to_list x)

@@ -1,0 +1,5 @@
+pub mod Answers
+pub mod Arrays
+pub mod Folds
+pub mod Members
+pub mod Names

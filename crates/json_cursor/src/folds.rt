@@ -1,0 +1,127 @@
+// The one loop over the elements of an array, whatever is made of them and however they fail.
+ghost use Rattle.std.specs.Prelude.{◌≡◌};
+ghost use Rattle.json_value.specs.declared.json.Json.{Json};
+ghost use Rattle.json_members.specs.Readers.{Counting};
+ghost use Rattle.geojson_types.specs.declared.counts.Counts.{Counts as Counted};
+ghost use Rattle.json_cursor.specs.Answers.{Answers};
+ghost use Rattle.json_cursor.specs.Arrays.{always, array_by, front_elements, front_value, some_array_by};
+ghost use Rattle.json_cursor.specs.Folds.{Goes, fold};
+
+use crate::marks::{Mark, Opening, mark_at, opening_at};
+use crate::stop::Stop;
+use geojson_types::Counts;
+use json_reading::skip;
+use std::alloc::Global;
+
+/// What is made of the elements of an array, one after another.
+pub trait Elements {
+    /// What a value of the grammar may be refused for.
+    type Fault: Copy;
+
+    /// By what the elements are read.
+    type With: Copy;
+
+    /// What is made of one more value.
+    ghost takes: { Self.With → Self → Json → Counting Counted Self.Fault Self };
+
+    /// Goes on with the element at the front, and gives what follows it; or why reading stops.
+    fn element<'a>(
+        &mut self,
+        alloc: Global,
+        deep: u32,
+        bytes: &'a [u8],
+        with: Self::With,
+        counts: &mut Counts,
+    ) -> Result<&'a [u8], Stop<Self::Fault>>
+        ensures { Goes (takes with self.old) (front_value deep bytes.now) counts.old self.new counts.new result };
+}
+
+/// What is made of the elements of an array behind its bracket or behind an element's comma, one or more in so many turns, and what
+/// follows it; or why reading stops: at the first fault, without reading on.
+pub fn folded_at<'a, T: Elements + Drop>(
+    alloc: Global,
+    deep: u32,
+    turns: usize,
+    start: T,
+    inside: &'a [u8],
+    with: T::With,
+    counts: &mut Counts,
+) -> Result<(T, &'a [u8]), Stop<T::Fault>>
+    ensures { Answers (λ x. x) (fold (T.takes with) start) (front_elements deep turns inside.now) counts.old counts.new result }
+{
+    let mut made = start;
+    let mut rest = inside;
+    'elements: for _ in 0..turns {
+        match made.element(alloc, deep, skip(rest), with, counts) {
+            Err(stop) => return Err(stop),
+            Ok(behind) => {
+                let (mark, more) = mark_at(behind);
+                match mark {
+                    Mark::Neither => return Err(Stop::NoValue),
+                    Mark::Close => return Ok((made, more)),
+                    Mark::Comma => {}
+                }
+                rest = more;
+            }
+        }
+    }
+    Err(Stop::NoValue)
+}
+
+/// What is made of the elements of the array at the front, none or more, and what follows it. What is no array has the fault `wrong`.
+pub fn folded_array_at<'a, T: Elements + Drop>(
+    alloc: Global,
+    deep: u32,
+    start: T,
+    bytes: &'a [u8],
+    wrong: T::Fault,
+    with: T::With,
+    counts: &mut Counts,
+) -> Result<(T, &'a [u8]), Stop<T::Fault>>
+    ensures { Answers (λ x. x) (array_by wrong (fold (T.takes with) start)) (front_value deep bytes.now) counts.old counts.new result }
+{
+    let (opening, inside) = opening_at(deep, bytes);
+    match opening {
+        Opening::NoArray => Err(Stop::Fault(wrong)),
+        Opening::TooDeep => Err(Stop::NoValue),
+        Opening::Empty => Ok((start, inside)),
+        Opening::Filled(below) => {
+            folded_at::<T>(alloc, below, inside.len(), start, inside, with, counts)
+        }
+    }
+}
+
+/// The same of an array that is to have elements: an empty one is counted, and nothing is made of it.
+pub fn folded_some_at<'a, T: Elements + Drop>(
+    alloc: Global,
+    deep: u32,
+    start: T,
+    bytes: &'a [u8],
+    wrong: T::Fault,
+    with: T::With,
+    counts: &mut Counts,
+) -> Result<(Option<T>, &'a [u8]), Stop<T::Fault>>
+    ensures { Answers (λ x. x) (some_array_by wrong (always (fold (T.takes with) start))) (front_value deep bytes.now) counts.old counts.new result }
+{
+    let (opening, inside) = opening_at(deep, bytes);
+    match opening {
+        Opening::NoArray => Err(Stop::Fault(wrong)),
+        Opening::TooDeep => Err(Stop::NoValue),
+        Opening::Empty => {
+            counts.count_empty();
+            Ok((None, inside))
+        }
+        Opening::Filled(below) => match folded_at::<T>(
+            alloc,
+            below,
+            inside.len(),
+            start,
+            inside,
+            with,
+            counts,
+        ) {
+            Err(stop) => Err(stop),
+            Ok((made, rest)) => Ok((Some(made), rest)),
+        },
+    }
+}

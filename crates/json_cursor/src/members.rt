@@ -1,0 +1,87 @@
+// The one loop over the members of an object, whatever is made of them.
+ghost use Rattle.std.specs.Prelude.{◌≡◌, ℕ, length};
+ghost use Rattle.json_reading.specs.Gives.{IsMalformed};
+ghost use Rattle.json_cursor.specs.Members.{GoesOn, Made, ReadsObject, TakesAll, front_members};
+
+use crate::marks::behind_byte;
+use json_reading::{Fault, Why, skip};
+use std::alloc::Global;
+
+/// The fault of bytes that go on as no object does.
+#[inline(always)]
+pub(crate) fn broken(left: &[u8]) -> Fault
+    ensures { IsMalformed result }
+{
+    Fault::Malformed {
+        why: Why::Syntax,
+        left: left.len(),
+    }
+}
+
+/// What is made of the members of an object, one after another.
+pub trait Members<'a> {
+    /// By what the members are read.
+    type With: Copy;
+
+    /// This was made of these members, in whose values arrays and objects may nest so deep.
+    ghost holds: { Self.With → ℕ → Made Self };
+
+    /// Goes on with the member at the front, and gives what follows it.
+    fn member(
+        &mut self,
+        alloc: Global,
+        deep: u32,
+        bytes: &'a [u8],
+        with: Self::With,
+    ) -> Result<&'a [u8], Fault>
+        ensures { GoesOn (holds with deep) deep self.old self.new bytes.now result };
+}
+
+/// What is made of the members of an object behind its brace, one or more, and what follows it.
+pub fn members_at<'a, T: Members<'a> + Drop>(
+    alloc: Global,
+    deep: u32,
+    start: T,
+    inside: &'a [u8],
+    with: T::With,
+) -> Result<(T, &'a [u8]), Fault>
+    ensures { TakesAll (T.holds with deep) (front_members deep (length inside.now) inside.now) start result }
+{
+    let mut made = start;
+    let mut rest = inside;
+    'members: for _ in 0..inside.len() {
+        let behind = made.member(alloc, deep, skip(rest), with)?;
+        let mark = skip(behind);
+        if let Some(end) = behind_byte(b'}', mark) {
+            return Ok((made, end));
+        }
+        let Some(more) = behind_byte(b',', mark) else {
+            return Err(broken(mark));
+        };
+        rest = more;
+    }
+    Err(broken(rest))
+}
+
+/// What is made of the members of the object at the front, and what follows it; none of what is no object, of which nothing is read.
+pub fn object_at<'a, T: Members<'a> + Drop>(
+    alloc: Global,
+    deep: u32,
+    start: T,
+    bytes: &'a [u8],
+    with: T::With,
+) -> Result<(Option<T>, &'a [u8]), Fault>
+    ensures { ReadsObject (T.holds with) deep bytes.now start result }
+{
+    let Some(inside) = behind_byte(b'{', bytes) else {
+        return Ok((None, bytes));
+    };
+    if deep == 0 {
+        return Err(broken(inside));
+    }
+    if let Some(end) = behind_byte(b'}', skip(inside)) {
+        return Ok((Some(start), end));
+    }
+    let (made, rest) = members_at::<T>(alloc, deep - 1, start, inside, with)?;
+    Ok((Some(made), rest))
+}

@@ -1,0 +1,105 @@
+// The names of members.
+ghost use Rattle.std.specs.Prelude.{◌≡◌, ℕ, ◌≤◌, length, IfSome, bytes_eq, take, true};
+ghost use Rattle.std.specs.Str.{is_utf8};
+ghost use Rattle.json_value.specs.Reading as reading;
+ghost use Rattle.json_reading.specs.Gives.{Gives};
+ghost use Rattle.json_cursor.specs.Members.{Names, ReadsString};
+ghost use Rattle.json_cursor.specs.Names as spec;
+ghost use Rattle.json_cursor.specs.Names.{EndsPlain, name_of};
+
+use crate::marks::behind_byte;
+use crate::members::broken;
+use json_reading::{Fault, skip};
+use json_value::OwnText;
+use std::alloc::Global;
+
+/// A string, as the name of a member is one.
+#[derive(Drop)]
+pub enum Name<'a> {
+    /// It stands in the text as it is.
+    Plain(&'a str),
+    /// It was made of what stands there.
+    Made(OwnText),
+}
+
+impl<'a> Name<'a> {
+    /// Its text.
+    pub fn as_str(&self) -> &str
+        ensures { result.now ≡ name_of self.now }
+    {
+        match self {
+            Name::Plain(name) => name,
+            Name::Made(name) => name.as_str(),
+        }
+    }
+
+    /// Whether it is this word.
+    #[inline(always)]
+    pub fn is(&self, word: &str) -> bool
+        ensures { result ≡ bytes_eq (name_of self.now) word.now }
+    {
+        self.as_str() == word
+    }
+}
+
+/// Whether a byte is an ASCII character that stands for itself in a string.
+#[inline(always)]
+fn is_simple(byte: u8) -> bool
+    ensures { result ≡ spec.is_simple byte }
+{
+    byte <= 127 && byte >= 32 && byte != b'"' && byte != b'\\'
+}
+
+/// The front of a string up to its quotation mark, and what follows that, where only such bytes stand before it.
+fn plain_at(inside: &[u8]) -> Option<(&[u8], &[u8])>
+    ensures { IfSome result (λ x. EndsPlain inside.now x.0.now x.1.now) }
+{
+    'bytes: for at in 0..inside.len() {
+        let byte = inside[at];
+        if byte == b'"' {
+            return Some((&inside[..at], &inside[at + 1..]));
+        }
+        if !is_simple(byte) {
+            return None;
+        }
+    }
+    None
+}
+
+/// The name behind its first quotation mark, and what follows its last one.
+fn text_at<'a>(alloc: Global, inside: &'a [u8]) -> Result<(Name<'a>, &'a [u8]), Fault>
+    ensures { Gives (λ x. (name_of x.0, x.1.now)) result (reading.string_at is_utf8 inside.now) }
+{
+    if let Some((bytes, rest)) = plain_at(inside) {
+        if let Ok(name) = str::from_utf8(bytes) {
+            return Ok((Name::Plain(name), rest));
+        }
+    }
+    let (name, rest) = json_reading::string_at(alloc, inside)?;
+    Ok((Name::Made(name), rest))
+}
+
+/// The string at the front, and what follows it; none of a value that is no string, of which nothing is read.
+pub fn string_at<'a>(alloc: Global, bytes: &'a [u8]) -> Result<Option<(Name<'a>, &'a [u8])>, Fault>
+    ensures { ReadsString bytes.now result }
+{
+    let Some(inside) = behind_byte(b'"', bytes) else {
+        return Ok(None);
+    };
+    let found = text_at(alloc, inside)?;
+    Ok(Some(found))
+}
+
+/// The name of the member at the front, whose escapes are the characters that they stand for, and where its value begins.
+pub fn name_at<'a>(alloc: Global, bytes: &'a [u8]) -> Result<(Name<'a>, &'a [u8]), Fault>
+    ensures { Names bytes.now result }
+{
+    let Some(inside) = behind_byte(b'"', bytes) else {
+        return Err(broken(bytes));
+    };
+    let (name, name_end) = text_at(alloc, inside)?;
+    let Some(behind) = behind_byte(b':', skip(name_end)) else {
+        return Err(broken(name_end));
+    };
+    Ok((name, skip(behind)))
+}

@@ -1,0 +1,15 @@
+pub mod Then
+pub mod NumberParts
+pub mod PairParts
+pub mod CellParts
+pub mod Running
+pub mod ArcParts
+pub mod StrokeParts
+pub mod ShapeParts
+pub mod MemberLists
+pub mod ObjectOpenings
+pub mod IndexParts
+pub mod NameParts
+pub mod TopologyParts
+pub mod WholeTexts
+pub mod TextParts

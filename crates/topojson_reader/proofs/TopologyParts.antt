@@ -1,0 +1,204 @@
+-- The parts of a topology by where they stand.
+use Rattle.std.proofs.Common.{◌≡◌, ◌≢◌, ℕ, List, [], ◌∷◌, Option, Some, None, Result, Ok, Err, refl, sym, ap, ◌∙◌}
+use Rattle.std.specs.Prelude.{codes, bytes_eq, false, true}
+use Rattle.std.specs.Borrow.{Bor}
+use Rattle.json_value.specs.declared.json.Json.{Json}
+use Rattle.json_value.specs.declared.json.Json.TheVariants as j
+use Rattle.json_value.specs.Kinds.{object_of, text_of}
+use Rattle.json_value.proofs.KindsOf.{object_of-object}
+use Rattle.json_members.specs.Members.{Members, named}
+use Rattle.json_reading.specs.declared.fault.Fault.{Fault}
+use Rattle.json_reading.specs.declared.fault.Fault.TheVariants as fault
+use Rattle.json_reading.specs.Gives.{Fails}
+use Rattle.json_reading.proofs.Steps.{pair_is}
+use Rattle.geojson_types.specs.declared.counts.Counts.{Counts}
+use Rattle.topojson_types.specs.declared.transform.Transform.{Transform}
+use Rattle.topojson_types.specs.Topologies.{Contents}
+use Rattle.topojson_types.specs.declared.object.TopoObject.{TopoObject}
+use Rattle.geometry.specs.Points.{Point}
+use Rattle.topojson_meaning.specs.Arcs.{arc_list}
+use Rattle.topojson_meaning.specs.Objects.{objects}
+use Rattle.topojson_meaning.specs.declared.fault.TopoFault.{TopoFault}
+use Rattle.topojson_meaning.specs.declared.fault.TopoFault.TheVariants as topo
+use Rattle.topojson_meaning.specs.Members.{find, need, need_as}
+use Rattle.topojson_meaning.specs.Reader.{Reader, ◌>>=◌, and_then, pure, or_fail}
+use Rattle.topojson_meaning.specs.Topologies.{contents, contents_on, contents_behind, value_contents, topology_type}
+use Rattle.topojson_meaning.specs.Transforms.{transform_if}
+use Rattle.json_cursor.specs.declared.stop.Stop.{Stop}
+use Rattle.json_cursor.specs.declared.stop.Stop.TheVariants as stop
+use Rattle.json_cursor.specs.Answers.{Reads, Stops, stop_of}
+use Rattle.json_cursor.specs.Arrays.{front_value}
+use Rattle.json_cursor.proofs.Steps.{found_stops}
+use Rattle.topojson_reader.specs.Topologies.{Gives, StopsBy, NeededAt, type_in, transform_in}
+
+-- ---- a part that stands there
+
+-- what stands at a place is one value
+pub one_value : (front : Option (Json × List ℕ)) (v w : Json) (rest end : List ℕ) → front ≡ Some (v, rest) → front ≡ Some (w, end) → v ≡ w
+one_value front v w rest end h k = (pair_is v rest (w, end) (sym h ∙ k)).0
+
+module _ (name : List ℕ) (ms : Members) where
+  pub need_fails : (d : ℕ) (e : TopoFault) → NeededAt d (named name ms) (Err e) → need name ms ≡ Err e
+  unfolding need
+  need_fails d e h = h
+
+  need_one : (v : Json) → named name ms ≡ v ∷ [] → need name ms ≡ Ok v
+  unfolding need
+  need_one v h = rw h refl
+
+  pub needed_value : (d : ℕ) (at : Bor (List ℕ)) (w : Json) (end : List ℕ) → NeededAt d (named name ms) (Ok at) → front_value d at.now ≡ Some (w, end) → need name ms ≡ Ok w
+  needed_value d at w end h k = need_one w (h.2 ∙ ap (λ v. v ∷ []) (one_value (front_value d at.now) h.0 w h.1 end h.3 k))
+
+-- where something stands no fault of the text is told
+pub no_text_fault : {X B : Type 0} (view : X → B) (read : Reader B) (old new : Counts) (front : Option (Json × List ℕ)) (v : Json) (rest : List ℕ) → front ≡ Some (v, rest) → (e : Fault) → Fails e front → Gives view read old new (Err (stop_of e))
+no_text_fault view read old new front v rest h (fault.Malformed why left) k = let wrong = sym h ∙ k in absurd cc
+no_text_fault view read old new front v rest h fault.Memory k = tt
+
+-- ---- its type
+
+module _ (ms : Members) (c : Counts) where
+  pub no_type : (e : TopoFault) → need (codes "type") ms ≡ Err e → type_in ms c ≡ Err e
+  no_type e h = rw h refl
+
+  module _ (v : Json) (h : need (codes "type") ms ≡ Ok v) where
+    pub no_text : text_of v ≡ None → type_in ms c ≡ Err topo.WrongKind
+    no_text k = rw (h, k) refl
+
+    module _ (name : List ℕ) (k : text_of v ≡ Some name) where
+      pub other_type : bytes_eq name (codes "Topology") ≡ false → type_in ms c ≡ Err topo.NotTopology
+      other_type l = rw (h, k, l) refl
+
+      pub its_type : bytes_eq name (codes "Topology") ≡ true → type_in ms c ≡ Ok (tt, c)
+      its_type l = rw (h, k, l) refl
+
+-- ---- a part that is read of a value
+
+module _ {B : Type 0} (name : List ℕ) (read : Json → Reader B) (ms : Members) (old : Counts) where
+  pub part_fails : (e : TopoFault) → need name ms ≡ Err e → need_as name read ms old ≡ Err e
+  part_fails e h = rw h refl
+
+  pub part_is : (v : Json) → need name ms ≡ Ok v → need_as name read ms old ≡ read v old
+  part_is v h = rw h refl
+
+-- a part of which a reader answers
+pub part_gives : {X B : Type 0} (view : X → B) (name : List ℕ) (read : Json → Reader B) (ms : Members) (old new : Counts) (d : ℕ) (at : Bor (List ℕ)) → NeededAt d (named name ms) (Ok at) → (s : Stop TopoFault) → Stops read (front_value d at.now) old s
+    → Gives view (need_as name read ms) old new (Err s)
+part_gives view name read ms old new d at h (stop.Fault e) k = part_is name read ms old h.0 (needed_value name ms d at h.0 h.1 h h.3) ∙ k h.0 h.1 h.3
+part_gives view name read ms old new d at h stop.NoValue k = let wrong = sym h.3 ∙ k in absurd cc
+part_gives view name read ms old new d at h stop.Memory k = tt
+
+pub part_reads : {B : Type 0} (name : List ℕ) (read : Json → Reader B) (ms : Members) (old new : Counts) (d : ℕ) (at : Bor (List ℕ)) (x : B) (rest : List ℕ) → NeededAt d (named name ms) (Ok at) → Reads read (front_value d at.now) x rest old new
+    → need_as name read ms old ≡ Ok (x, new)
+part_reads name read ms old new d at x rest h r = part_is name read ms old r.value (needed_value name ms d at r.value rest h r.front_is) ∙ r.means
+
+-- the fault of a reader of a value, as why reading stops
+pub stops_by : {X B : Type 0} (view : X → B) (read : Reader B) (old new : Counts) (e : TopoFault) (s : Stop TopoFault) → StopsBy e s → (e ≢ topo.Memory → read old ≡ Err e) → Gives view read old new (Err s)
+stops_by view read old new e (stop.Fault f) h k = k h.1 ∙ ap Err (sym h.0)
+stops_by view read old new e stop.NoValue h k = absurd h
+stops_by view read old new e stop.Memory h k = tt
+
+-- ---- its transform
+
+module _ (ms : Members) (c : Counts) where
+  find_none : named (codes "transform") ms ≡ [] → transform_in ms c ≡ transform_if None c
+  find_none h = rw h refl
+
+  pub no_transform : named (codes "transform") ms ≡ [] → transform_in ms c ≡ Ok (None, c)
+  unfolding transform_if
+  no_transform h = rw h refl
+
+  pub two_transforms : (v w : Json) (more : List Json) → named (codes "transform") ms ≡ v ∷ w ∷ more → transform_in ms c ≡ Err topo.Duplicate
+  two_transforms v w more h = rw h refl
+
+  pub one_transform : (v : Json) → named (codes "transform") ms ≡ v ∷ [] → transform_in ms c ≡ transform_if (Some v) c
+  one_transform v h = rw h refl
+
+-- ---- all parts
+
+module _ (ms : Members) (old : Counts) where
+  by_name : (r : Result (List ℕ) TopoFault) → (pure r >>= λ name. topology_type name >>= λ _. contents_behind ms) old ≡ and_then (λ _. contents_behind ms) ((pure r >>= topology_type) old)
+  by_name (Err e) = refl
+  by_name (Ok name) = refl
+
+  by_type : (r : Result Json TopoFault) → (pure r >>= λ t. pure (or_fail topo.WrongKind (text_of t)) >>= λ name. topology_type name >>= λ _. contents_behind ms) old
+      ≡ and_then (λ _. contents_behind ms) ((pure r >>= λ t. pure (or_fail topo.WrongKind (text_of t)) >>= λ name. topology_type name) old)
+  by_type (Err e) = refl
+  by_type (Ok t) = by_name (or_fail topo.WrongKind (text_of t))
+
+  contents_is : contents ms old ≡ and_then (λ _. contents_behind ms) (type_in ms old)
+  unfolding contents
+  contents_is = by_type (need (codes "type") ms)
+
+  by_found : (r : Result (Option Json) TopoFault) → (pure r >>= λ v. transform_if v >>= λ t. contents_on t ms) old ≡ and_then (λ t. contents_on t ms) ((pure r >>= transform_if) old)
+  by_found (Err e) = refl
+  by_found (Ok v) = refl
+
+  behind_is : contents_behind ms old ≡ and_then (λ t. contents_on t ms) (transform_in ms old)
+  behind_is = by_found (find (codes "transform") ms)
+
+  pub type_stops : (e : TopoFault) → type_in ms old ≡ Err e → contents ms old ≡ Err e
+  type_stops e h = contents_is ∙ rw h refl
+
+  module _ (typed : type_in ms old ≡ Ok (tt, old)) where
+    pub transform_stops : (e : TopoFault) → transform_in ms old ≡ Err e → contents ms old ≡ Err e
+    transform_stops e h = contents_is ∙ ap (and_then (λ _. contents_behind ms)) typed ∙ behind_is ∙ rw h refl
+
+    pub then_on : (t : Option Transform) → transform_in ms old ≡ Ok (t, old) → contents ms old ≡ contents_on t ms old
+    then_on t h = contents_is ∙ ap (and_then (λ _. contents_behind ms)) typed ∙ behind_is ∙ rw h refl
+
+-- ---- how the parts stop
+
+-- what the parts are, as a clause sees them
+module _ {X : Type 0} (view : X → Contents) (ms : Members) (old : Counts) where
+  pub type_stop_gives : (new : Counts) (s : Stop TopoFault) → Gives {X = Unit {0}} (λ x. x) (type_in ms) old old (Err s) → Gives view (contents ms) old new (Err s)
+  type_stop_gives new (stop.Fault e) h = type_stops ms old e h
+  type_stop_gives new stop.NoValue h = h
+  type_stop_gives new stop.Memory h = tt
+
+  module _ (typed : type_in ms old ≡ Ok (tt, old)) where
+    pub transform_stop_gives : (new : Counts) (s : Stop TopoFault) → Gives {X = Option Transform} (λ x. x) (transform_in ms) old old (Err s) → Gives view (contents ms) old new (Err s)
+    transform_stop_gives new (stop.Fault e) h = transform_stops ms old typed e h
+    transform_stop_gives new stop.NoValue h = h
+    transform_stop_gives new stop.Memory h = tt
+
+    module _ (t : Option Transform) (found : transform_in ms old ≡ Ok (t, old)) where
+      arcs_by : (e : TopoFault) → need_as (codes "arcs") (arc_list t) ms old ≡ Err e → contents ms old ≡ Err e
+      arcs_by e h = then_on ms old typed t found ∙ rw h refl
+
+      pub arcs_stop_gives : (new mid : Counts) (s : Stop TopoFault) (u : Option Transform) → u ≡ t → Gives {X = List (List Point)} (λ x. x) (need_as (codes "arcs") (arc_list u) ms) old mid (Err s) → Gives view (contents ms) old new (Err s)
+      arcs_stop_gives new mid (stop.Fault e) u same h = arcs_by e (ap (λ z. need_as (codes "arcs") (arc_list z) ms old) (sym same) ∙ h)
+      arcs_stop_gives new mid stop.NoValue u same h = h
+      arcs_stop_gives new mid stop.Memory u same h = tt
+
+      module _ (arcs : List (List Point)) (mid : Counts) (read : need_as (codes "arcs") (arc_list t) ms old ≡ Ok (arcs, mid)) where
+        objects_by : (e : TopoFault) → need_as (codes "objects") (objects t arcs) ms mid ≡ Err e → contents ms old ≡ Err e
+        objects_by e h = then_on ms old typed t found ∙ rw (read, h) refl
+
+        pub objects_stop_gives : (new : Counts) (s : Stop TopoFault) (u : Option Transform) → u ≡ t → (bs : List (List Point)) → bs ≡ arcs → Gives {X = List (List ℕ × TopoObject)} (λ x. x) (need_as (codes "objects") (objects u bs) ms) mid new (Err s) → Gives view (contents ms) old new (Err s)
+        objects_stop_gives new (stop.Fault e) u same bs they h = objects_by e (ap (λ z. need_as (codes "objects") (objects z arcs) ms mid) (sym same) ∙ ap (λ z. need_as (codes "objects") (objects u z) ms mid) (sym they) ∙ h)
+        objects_stop_gives new stop.NoValue u same bs they h = h
+        objects_stop_gives new stop.Memory u same bs they h = tt
+
+module _ (ms : Members) (old : Counts) (typed : type_in ms old ≡ Ok (tt, old)) (t : Option Transform) (found : transform_in ms old ≡ Ok (t, old)) (arcs : List (List Point)) (mid : Counts) (read : need_as (codes "arcs") (arc_list t) ms old ≡ Ok (arcs, mid)) where
+  pub all_read : (os : List (List ℕ × TopoObject)) (new : Counts) → need_as (codes "objects") (objects t arcs) ms mid ≡ Ok (os, new) → contents ms old ≡ Ok (record { objects = os; arcs = arcs; transform = t }, new)
+  all_read os new h = then_on ms old typed t found ∙ rw (read, h) refl
+
+-- ---- the value
+
+module _ (old : Counts) (front : Option (Json × List ℕ)) where
+  pub not_an_object : ((v : Json) (rest : List ℕ) → front ≡ Some (v, rest) → object_of v ≡ None) → Stops value_contents front old (stop.Fault topo.NotTopology)
+  unfolding value_contents
+  not_an_object h v rest is = ap (λ o. (pure (or_fail topo.NotTopology o) >>= contents) old) (h v rest is)
+
+  module _ (ms : Members) (rest : List ℕ) (is : front ≡ Some (j.Object ms, rest)) where
+    object_is : value_contents (j.Object ms) old ≡ contents ms old
+    unfolding value_contents
+    object_is = ap (λ o. (pure (or_fail topo.NotTopology o) >>= contents) old) (object_of-object ms)
+
+    pub object_reads : (t : Contents) (new : Counts) → contents ms old ≡ Ok (t, new) → Reads value_contents front t rest old new
+    object_reads t new h = record { value = j.Object ms; front_is = is; means = object_is ∙ h }
+
+    pub object_stops : {X : Type 0} (view : X → Contents) (new : Counts) (s : Stop TopoFault) → Gives view (contents ms) old new (Err s) → Stops value_contents front old s
+    object_stops view new (stop.Fault e) h = found_stops value_contents front old (j.Object ms) rest e is (object_is ∙ h)
+    object_stops view new stop.NoValue h = absurd h
+    object_stops view new stop.Memory h = tt

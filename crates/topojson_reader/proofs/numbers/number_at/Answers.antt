@@ -1,0 +1,7 @@
+use Rattle.topojson_reader.proofs.numbers.number_at.Goals as goal
+
+pub returns-in-Units-clause-answers : goal.returns-in-Units-clause-answers
+returns-in-Units-clause-answers c = rw c.in-Units.is c.unit_number_at.ensures.answers
+
+pub returns-in-Whole-clause-answers : goal.returns-in-Whole-clause-answers
+returns-in-Whole-clause-answers c = rw c.in-Whole.is c.whole_number_at.ensures.answers

@@ -1,0 +1,9 @@
+pub mod Numbers
+pub mod Pairs
+pub mod Running
+pub mod Cells
+pub mod Strokes
+pub mod Shapes
+pub mod Objects
+pub mod Topologies
+pub mod Texts

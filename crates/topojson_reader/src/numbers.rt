@@ -1,0 +1,124 @@
+// Numbers at a scale.
+ghost use Rattle.std.specs.Prelude.{◌≤◌, ◌<◌, ◌^◌, IfOk, IfSome, unsigned_abs};
+ghost use Rattle.geojson_types.specs.declared.counts.Counts.{Counts};
+ghost use Rattle.geometry.specs.Units.{position_limit, unit_places};
+ghost use Rattle.json_cursor.specs.Answers.{Answers};
+ghost use Rattle.json_cursor.specs.Arrays.{front_value};
+ghost use Rattle.topojson_reader.specs.Numbers.{scale_limit, scaled_at, number};
+
+use geojson_types::{PLACES, POSITION_LIMIT};
+use json_cursor::Stop;
+use json_reading::value_at;
+use std::alloc::Global;
+use topojson_meaning::TopoFault;
+use unit_scanning::{Halt, Units, number_at as units_at, whole_at};
+
+/// At how many decimals a number is taken, and how far from zero it may be.
+#[derive(Clone, Copy, Debug, PartialEq, Eq)]
+pub(crate) enum Scale {
+    /// Units of positions.
+    Units,
+    /// Whole numbers up to a bound.
+    Whole(u64),
+}
+
+/// The greatest bound up to which whole numbers are read without their text.
+const TEXTLESS_LIMIT: u64 = 1_000_000_000_000_000_000;
+
+/// The same as `number_at`, by the value that stands there: the way of what isn't written as most numbers are.
+#[cold]
+#[inline(never)]
+fn value_number_at<'a>(
+    alloc: Global,
+    deep: u32,
+    places: u32,
+    limit: u64,
+    bytes: &'a [u8],
+) -> Result<(Option<Units>, &'a [u8]), Stop<TopoFault>>
+    requires places { places ≤ 20 }
+    requires limit { limit < 2 ^ 63 }
+    ensures answers { (counts : Counts) → Answers (λ x. x) (scaled_at places limit) (front_value deep bytes.now) counts counts result }
+    ensures within { IfOk result (λ x. IfSome x.0 (λ u. unsigned_abs u.value ≤ limit)) }
+{
+    let (value, rest) = value_at(alloc, deep, bytes)?;
+    let Some(number) = value.as_number() else {
+        return Err(Stop::Fault(TopoFault::WrongKind));
+    };
+    match number.scaled(places, i128::from(limit)) {
+        Err(_) => Ok((None, rest)),
+        Ok(scaled) => {
+            let units = Units {
+                value: scaled.value as i64,
+                exact: scaled.exact,
+            };
+            Ok((Some(units), rest))
+        }
+    }
+}
+
+/// The number at the front in units of positions, if it is within their limit, and what follows it.
+#[inline(always)]
+fn unit_number_at<'a>(
+    alloc: Global,
+    deep: u32,
+    bytes: &'a [u8],
+) -> Result<(Option<Units>, &'a [u8]), Stop<TopoFault>>
+    ensures answers { (counts : Counts) → Answers (λ x. x) (scaled_at unit_places position_limit) (front_value deep bytes.now) counts counts result }
+    ensures within { IfOk result (λ x. IfSome x.0 (λ u. unsigned_abs u.value ≤ position_limit)) }
+{
+    match units_at(alloc, bytes) {
+        Ok((units, rest)) => Ok((Some(units), rest)),
+        Err(Halt::Memory) => Err(Stop::Memory),
+        Err(Halt::Unread) => value_number_at(alloc, deep, PLACES, POSITION_LIMIT, bytes),
+    }
+}
+
+/// The bound itself, or as far as whole numbers are read without their text.
+#[inline(always)]
+fn textless_bound(bound: u64) -> u64
+    ensures within { result ≤ bound }
+    ensures small { result ≤ 10 ^ 18 }
+{
+    if bound < TEXTLESS_LIMIT {
+        bound
+    } else {
+        TEXTLESS_LIMIT
+    }
+}
+
+/// The number at the front as a whole one, if it is within the bound, and what follows it. It isn't exact where it isn't whole.
+#[inline(always)]
+fn whole_number_at<'a>(
+    alloc: Global,
+    deep: u32,
+    bound: u64,
+    bytes: &'a [u8],
+) -> Result<(Option<Units>, &'a [u8]), Stop<TopoFault>>
+    requires { bound < 2 ^ 63 }
+    ensures answers { (counts : Counts) → Answers (λ x. x) (scaled_at 0 bound) (front_value deep bytes.now) counts counts result }
+    ensures within { IfOk result (λ x. IfSome x.0 (λ u. unsigned_abs u.value ≤ bound)) }
+{
+    match whole_at(alloc, textless_bound(bound), bytes) {
+        Ok((value, rest)) => Ok((Some(Units { value, exact: true }), rest)),
+        Err(Halt::Memory) => Err(Stop::Memory),
+        Err(Halt::Unread) => value_number_at(alloc, deep, 0, bound, bytes),
+    }
+}
+
+/// The number at the front at this scale, if it is within the limit, and what follows it.
+#[inline(always)]
+pub(crate) fn number_at<'a>(
+    alloc: Global,
+    deep: u32,
+    scale: Scale,
+    bytes: &'a [u8],
+) -> Result<(Option<Units>, &'a [u8]), Stop<TopoFault>>
+    requires { scale_limit scale < 2 ^ 63 }
+    ensures answers { (counts : Counts) → Answers (λ x. x) (number scale) (front_value deep bytes.now) counts counts result }
+    ensures within { IfOk result (λ x. IfSome x.0 (λ u. unsigned_abs u.value ≤ scale_limit scale)) }
+{
+    match scale {
+        Scale::Units => unit_number_at(alloc, deep, bytes),
+        Scale::Whole(bound) => whole_number_at(alloc, deep, bound, bytes),
+    }
+}

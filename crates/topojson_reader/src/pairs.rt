@@ -1,0 +1,108 @@
+// The two numbers of a position or a cell.
+ghost use Rattle.std.specs.Prelude.{◌≡◌, ◌≤◌, ◌<◌, ◌^◌, IfOk, IfSome, length, unsigned_abs};
+ghost use Rattle.geojson_types.specs.declared.counts.Counts.{Counts};
+ghost use Rattle.json_cursor.specs.Answers.{Answers};
+ghost use Rattle.json_cursor.specs.Arrays.{front_elements, front_value};
+ghost use Rattle.topojson_reader.specs.Numbers.{scale_limit};
+ghost use Rattle.topojson_reader.specs.Pairs.{both, pair, second};
+
+use crate::numbers::{Scale, number_at};
+use json_cursor::{Mark, Opening, Stop, after_elements, mark_at, opening_at};
+use json_reading::skip;
+use std::alloc::Global;
+use topojson_meaning::TopoFault;
+use unit_scanning::Units;
+
+/// Two numbers, each if it is in range, and whether elements stand behind them.
+#[derive(Clone, Copy, Debug, PartialEq, Eq)]
+pub(crate) struct Pair {
+    pub x: Option<Units>,
+    pub y: Option<Units>,
+    pub more: bool,
+}
+
+/// The pair whose second number and further elements stand behind the comma, and what follows its bracket.
+#[inline(always)]
+fn second_at<'a>(
+    alloc: Global,
+    deep: u32,
+    scale: Scale,
+    turns: usize,
+    x: Option<Units>,
+    bytes: &'a [u8],
+) -> Result<(Pair, &'a [u8]), Stop<TopoFault>>
+    requires { scale_limit scale < 2 ^ 63 }
+    ensures answers { (counts : Counts) → Answers (λ p. p) (second scale x) (front_elements deep turns bytes.now) counts counts result }
+    ensures within { IfOk result (λ p. IfSome p.0.y (λ u. unsigned_abs u.value ≤ scale_limit scale)) }
+    ensures same { IfOk result (λ p. p.0.x ≡ x) }
+{
+    if turns == 0 {
+        return Err(Stop::NoValue);
+    }
+    match number_at(alloc, deep, scale, skip(bytes)) {
+        Err(stop) => Err(stop),
+        Ok((y, after)) => {
+            let (mark, more) = mark_at(after);
+            match mark {
+                Mark::Neither => Err(Stop::NoValue),
+                Mark::Close => Ok((Pair { x, y, more: false }, more)),
+                Mark::Comma => {
+                    let end = after_elements(alloc, deep, turns - 1, more)?;
+                    Ok((Pair { x, y, more: true }, end))
+                }
+            }
+        }
+    }
+}
+
+/// The pair whose elements stand behind the bracket, and what follows it.
+#[inline(always)]
+fn both_at<'a>(
+    alloc: Global,
+    deep: u32,
+    scale: Scale,
+    turns: usize,
+    inside: &'a [u8],
+) -> Result<(Pair, &'a [u8]), Stop<TopoFault>>
+    requires { scale_limit scale < 2 ^ 63 }
+    ensures answers { (counts : Counts) → Answers (λ p. p) (both scale) (front_elements deep turns inside.now) counts counts result }
+    ensures x { IfOk result (λ p. IfSome p.0.x (λ u. unsigned_abs u.value ≤ scale_limit scale)) }
+    ensures y { IfOk result (λ p. IfSome p.0.y (λ u. unsigned_abs u.value ≤ scale_limit scale)) }
+{
+    if turns == 0 {
+        return Err(Stop::NoValue);
+    }
+    match number_at(alloc, deep, scale, skip(inside)) {
+        Err(stop) => Err(stop),
+        Ok((x, after)) => {
+            let (mark, more) = mark_at(after);
+            match mark {
+                Mark::Neither => Err(Stop::NoValue),
+                Mark::Close => Err(Stop::Fault(TopoFault::WrongKind)),
+                Mark::Comma => second_at(alloc, deep, scale, turns - 1, x, more),
+            }
+        }
+    }
+}
+
+/// The pair that the array at the front begins with, and what follows it.
+#[inline(always)]
+pub(crate) fn pair_at<'a>(
+    alloc: Global,
+    deep: u32,
+    scale: Scale,
+    bytes: &'a [u8],
+) -> Result<(Pair, &'a [u8]), Stop<TopoFault>>
+    requires { scale_limit scale < 2 ^ 63 }
+    ensures answers { (counts : Counts) → Answers (λ p. p) (pair scale) (front_value deep bytes.now) counts counts result }
+    ensures x { IfOk result (λ p. IfSome p.0.x (λ u. unsigned_abs u.value ≤ scale_limit scale)) }
+    ensures y { IfOk result (λ p. IfSome p.0.y (λ u. unsigned_abs u.value ≤ scale_limit scale)) }
+{
+    let (opening, inside) = opening_at(deep, bytes);
+    match opening {
+        Opening::NoArray => Err(Stop::Fault(TopoFault::WrongKind)),
+        Opening::TooDeep => Err(Stop::NoValue),
+        Opening::Empty => Err(Stop::Fault(TopoFault::WrongKind)),
+        Opening::Filled(below) => both_at(alloc, below, scale, inside.len(), inside),
+    }
+}

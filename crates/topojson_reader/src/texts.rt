@@ -1,0 +1,100 @@
+// Whole texts of topologies.
+ghost use Rattle.std.specs.Prelude.{◌≡◌, None, Ok, Err, IsFalse, IsTrue, IsUtf8};
+ghost use Rattle.std.specs.Str.{is_utf8};
+ghost use Rattle.json_value.specs.declared.json.Json.{Json as Value};
+ghost use Rattle.json_value.specs.Grammar.{mark};
+ghost use Rattle.json_value.specs.Reading as reading;
+ghost use Rattle.json_reading.specs.Outcome.{SaysUtf8, SpellsNothing};
+ghost use Rattle.geojson_types.specs.declared.counts.Counts.{Counts as Counted};
+ghost use Rattle.topojson_meaning.specs.Topologies.{topology};
+ghost use Rattle.topojson_reader.specs.Texts.{TextAnswers, deepest};
+
+use crate::topologies::{Parts, topology_at};
+use geojson_types::Counts;
+use json_cursor::Stop;
+use json_reading::{JsonFault, TOPOLOGY_DEPTH, after_word, skip};
+use simdutf8::compat;
+use std::alloc::Global;
+use text_checking::check;
+use topojson_meaning::{TopoFault, topology_is_valid};
+use topojson_types::Topology;
+
+/// Why a text gives no topology.
+#[derive(Clone, Copy, Debug, PartialEq, Eq)]
+pub enum Refusal {
+    /// It spells no value.
+    Text(JsonFault),
+    /// The value that it spells has this first fault.
+    Meaning(TopoFault),
+    Memory,
+}
+
+/// The bytes behind a byte order mark, if there is one.
+fn text_of(bytes: &[u8]) -> &[u8]
+    ensures { result.now ≡ reading.without bytes.now (reading.after_word mark bytes.now) }
+{
+    match after_word(&[0xef, 0xbb, 0xbf], bytes) {
+        Some(rest) => rest,
+        None => bytes,
+    }
+}
+
+/// Whether the bytes are UTF-8.
+fn are_utf8(bytes: &[u8]) -> bool
+    ensures yes { IsTrue result → IsUtf8 bytes.now }
+    ensures no { IsFalse result → ¬ (IsUtf8 bytes.now) }
+{
+    compat::from_utf8(bytes).is_ok()
+}
+
+/// The fault of a text that spells no value.
+fn malformed(alloc: Global, bytes: &[u8]) -> JsonFault
+    requires { IsUtf8 bytes.now → reading.text_at is_utf8 deepest bytes.now ≡ None }
+    ensures utf8 { SaysUtf8 bytes.now (Err result) }
+    ensures nothing { SpellsNothing deepest bytes.now (Err result) }
+{
+    match check(alloc, bytes, TOPOLOGY_DEPTH) {
+        Err(fault) => fault,
+        Ok(()) => unreachable!(),
+    }
+}
+
+/// The topology of these parts, which a value stands for.
+fn topology_of(parts: Parts) -> Topology
+    requires { (v : Value) × (counts : Counted) × (topology v ≡ Ok (record { objects = parts.objects; arcs = parts.arcs; transform = parts.transform }, counts)) }
+    ensures { result ≡ record { objects = parts.objects; arcs = parts.arcs; transform = parts.transform } }
+{
+    let Parts {
+        objects,
+        arcs,
+        transform,
+    } = parts;
+    topology_is_valid();
+    Topology::of(objects, arcs, transform)
+}
+
+/// The topology that a whole text spells (TopoJSON 1.0, section 2.1), with what was counted in reading it. Of a text that spells no value
+/// is told why, whatever else is wrong.
+pub fn read_text(alloc: Global, bytes: &[u8]) -> Result<(Topology, Counts), Refusal>
+    ensures { TextAnswers bytes.now result }
+{
+    if !are_utf8(bytes) {
+        return Err(Refusal::Text(malformed(alloc, bytes)));
+    }
+    let mut counts = Counts::none();
+    match topology_at(alloc, TOPOLOGY_DEPTH, skip(text_of(bytes)), &mut counts) {
+        Ok((parts, rest)) => {
+            let behind = skip(rest);
+            if behind.is_empty() {
+                return Ok((topology_of(parts), counts));
+            }
+            Err(Refusal::Text(malformed(alloc, bytes)))
+        }
+        Err(Stop::NoValue) => Err(Refusal::Text(malformed(alloc, bytes))),
+        Err(Stop::Memory) => Err(Refusal::Memory),
+        Err(Stop::Fault(fault)) => match check(alloc, bytes, TOPOLOGY_DEPTH) {
+            Err(malformed) => Err(Refusal::Text(malformed)),
+            Ok(()) => Err(Refusal::Meaning(fault)),
+        },
+    }
+}

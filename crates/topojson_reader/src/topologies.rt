@@ -1,0 +1,197 @@
+// Topologies (TopoJSON 1.0, section 2.1).
+ghost use Rattle.std.specs.Prelude.{◌≡◌, ℕ, List, codes};
+ghost use Rattle.std.specs.Option.{option_copied};
+ghost use Rattle.json_value.specs.declared.json.Json.{Json as Value};
+ghost use Rattle.json_members.specs.Members.{Members, named};
+ghost use Rattle.geojson_types.specs.declared.counts.Counts.{Counts as Counted};
+ghost use Rattle.json_cursor.specs.Answers.{Answers};
+ghost use Rattle.json_cursor.specs.Arrays.{front_value};
+ghost use Rattle.topojson_meaning.specs.Arcs.{arc_list};
+ghost use Rattle.topojson_meaning.specs.Members.{need_as};
+ghost use Rattle.topojson_meaning.specs.Objects.{objects as objects_in_order};
+ghost use Rattle.topojson_meaning.specs.Topologies as spec;
+ghost use Rattle.topojson_reader.specs.Objects.{IsIndex, IsSeen};
+ghost use Rattle.topojson_reader.specs.Topologies.{Gives, NeededAt, StopsBy, transform_in, type_in};
+
+use crate::arcs::arcs_at;
+use crate::index::{Index, Seen, index_at, is_name};
+use geojson_types::Counts;
+use json_cursor::Stop;
+use json_reading::value_at;
+use json_value::{Items, OwnText};
+use std::alloc::Global;
+use topojson_arc_reading::transform_if;
+use topojson_meaning::TopoFault;
+use topojson_reading::read_objects;
+use topojson_types::{Cell, TopoObject, Transform};
+
+/// What a topology is made of.
+#[derive(Drop)]
+pub struct Parts {
+    pub objects: Items<(OwnText, TopoObject)>,
+    pub arcs: Items<Items<Cell>>,
+    pub transform: Option<Transform>,
+}
+
+/// Why reading stops where a part has this fault.
+fn stop_by(fault: TopoFault) -> Stop<TopoFault>
+    ensures { StopsBy fault result }
+{
+    match fault {
+        TopoFault::Memory => Stop::Memory,
+        fault => Stop::Fault(fault),
+    }
+}
+
+/// Where the value of a member begins that must be there once.
+fn needed(seen: Seen<'_>) -> Result<&[u8], TopoFault>
+    ensures { (deep : ℕ) (vs : List Value) → IsSeen deep vs seen.entry → NeededAt deep vs result }
+{
+    match seen {
+        Seen::Never => Err(TopoFault::Missing),
+        Seen::Once(at) => Ok(at),
+        Seen::Again => Err(TopoFault::Duplicate),
+    }
+}
+
+/// Ok where the type is that of a topology.
+fn type_of(alloc: Global, deep: u32, seen: Seen<'_>) -> Result<(), Stop<TopoFault>>
+    ensures { (ms : Members) (counts : Counted) → IsSeen deep (named (codes "type") ms) seen.entry → Gives (λ x. x) (type_in ms) counts counts result }
+{
+    let at = match needed(seen) {
+        Err(fault) => return Err(Stop::Fault(fault)),
+        Ok(at) => at,
+    };
+    let (value, _) = value_at(alloc, deep, at)?;
+    let Some(name) = value.as_text() else {
+        return Err(Stop::Fault(TopoFault::WrongKind));
+    };
+    if !is_name(name, "Topology") {
+        return Err(Stop::Fault(TopoFault::NotTopology));
+    }
+    Ok(())
+}
+
+/// The transform, if there is one.
+fn transform_of(
+    alloc: Global,
+    deep: u32,
+    seen: Seen<'_>,
+) -> Result<Option<Transform>, Stop<TopoFault>>
+    ensures { (ms : Members) (counts : Counted) → IsSeen deep (named (codes "transform") ms) seen.entry → Gives (λ t. t) (transform_in ms) counts counts result }
+{
+    match seen {
+        Seen::Never => Ok(None),
+        Seen::Again => Err(Stop::Fault(TopoFault::Duplicate)),
+        Seen::Once(at) => {
+            let (value, _) = value_at(alloc, deep, at)?;
+            match transform_if(alloc, Some(&value)) {
+                Err(fault) => Err(stop_by(fault)),
+                Ok(transform) => Ok(transform),
+            }
+        }
+    }
+}
+
+/// The arcs by this transform.
+fn arcs_of(
+    alloc: Global,
+    deep: u32,
+    transform: Option<&Transform>,
+    seen: Seen<'_>,
+    counts: &mut Counts,
+) -> Result<Items<Items<Cell>>, Stop<TopoFault>>
+    ensures { (ms : Members) → IsSeen deep (named (codes "arcs") ms) seen.entry → Gives (λ x. x) (need_as (codes "arcs") (arc_list (option_copied transform.entry)) ms) counts.old counts.new result }
+{
+    let at = match needed(seen) {
+        Err(fault) => return Err(Stop::Fault(fault)),
+        Ok(at) => at,
+    };
+    match arcs_at(alloc, deep, transform, at, counts) {
+        Err(stop) => Err(stop),
+        Ok((arcs, _)) => Ok(arcs),
+    }
+}
+
+/// The objects over these arcs.
+fn objects_of(
+    alloc: Global,
+    deep: u32,
+    transform: Option<&Transform>,
+    arcs: &[Items<Cell>],
+    seen: Seen<'_>,
+    counts: &mut Counts,
+) -> Result<Items<(OwnText, TopoObject)>, Stop<TopoFault>>
+    ensures { (ms : Members) → IsSeen deep (named (codes "objects") ms) seen.entry → Gives (λ x. x) (need_as (codes "objects") (objects_in_order (option_copied transform.entry) arcs.now) ms) counts.old counts.new result }
+{
+    let at = match needed(seen) {
+        Err(fault) => return Err(Stop::Fault(fault)),
+        Ok(at) => at,
+    };
+    let (value, _) = value_at(alloc, deep, at)?;
+    match read_objects(alloc, transform, arcs, value, counts) {
+        Err(fault) => Err(stop_by(fault)),
+        Ok(objects) => Ok(Items::of(objects)),
+    }
+}
+
+/// The parts of the topology whose members stand there, in the order of the definition.
+fn parts_of(
+    alloc: Global,
+    deep: u32,
+    index: Index<'_>,
+    counts: &mut Counts,
+) -> Result<Parts, Stop<TopoFault>>
+    ensures { (ms : Members) → IsIndex deep ms index.entry → Gives (λ p. record { objects = p.objects; arcs = p.arcs; transform = p.transform }) (spec.contents ms) counts.old counts.new result }
+{
+    if let Err(stop) = type_of(alloc, deep, index.kind) {
+        return Err(stop);
+    }
+    let transform = match transform_of(alloc, deep, index.transform) {
+        Err(stop) => return Err(stop),
+        Ok(transform) => transform,
+    };
+    let arcs = match arcs_of(alloc, deep, transform.as_ref(), index.arcs, counts) {
+        Err(stop) => return Err(stop),
+        Ok(arcs) => arcs,
+    };
+    match objects_of(
+        alloc,
+        deep,
+        transform.as_ref(),
+        arcs.as_slice(),
+        index.objects,
+        counts,
+    ) {
+        Err(stop) => Err(stop),
+        Ok(objects) => {
+            Ok(Parts {
+                objects,
+                arcs,
+                transform,
+            })
+        }
+    }
+}
+
+/// The topology at the front, and what follows it; or why reading stops.
+pub fn topology_at<'a>(
+    alloc: Global,
+    deep: u32,
+    bytes: &'a [u8],
+    counts: &mut Counts,
+) -> Result<(Parts, &'a [u8]), Stop<TopoFault>>
+    ensures { Answers (λ p. record { objects = p.objects; arcs = p.arcs; transform = p.transform }) spec.value_contents (front_value deep bytes.now) counts.old counts.new result }
+{
+    match index_at(alloc, deep, bytes) {
+        Err(Stop::Fault(())) => Err(Stop::Fault(TopoFault::NotTopology)),
+        Err(Stop::NoValue) => Err(Stop::NoValue),
+        Err(Stop::Memory) => Err(Stop::Memory),
+        Ok((index, rest)) => {
+            match parts_of(alloc, deep.saturating_sub(1), index, counts) {
+                Err(stop) => Err(stop),
+                Ok(parts) => Ok((parts, rest)),
+            }
+        }
+    }
+}

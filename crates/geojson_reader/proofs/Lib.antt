@@ -3,3 +3,4 @@ pub mod LineParts
 pub mod ShapeParts
 pub mod SeenMembers
 pub mod GeometryParts
+pub mod CollectionParts

@@ -1,8 +1,10 @@
 -- Members of objects that are looked up, as they were seen among the others.
-use Rattle.std.specs.Prelude.{◌≡◌, ℕ, List, [], ◌∷◌, Option, Some, None, Result, Ok, Err, codes}
+use Rattle.std.specs.Prelude.{◌≡◌, ℕ, ◌-◌, List, [], ◌∷◌, Option, Some, None, Result, Ok, Err, codes}
 use Rattle.std.specs.Borrow.{Bor}
 use Rattle.json_value.specs.declared.json.Json.{Json}
 use Rattle.json_value.specs.Kinds.{text_of}
+use Rattle.json_value.specs.Reading.{skip}
+use Rattle.json_value.specs.declared.json.Json.TheVariants as j
 use Rattle.json_reading.specs.declared.fault.Fault.{Fault}
 use Rattle.json_reading.specs.Gives.{Fails}
 use Rattle.geojson_types.specs.declared.counts.Counts.{Counts}
@@ -89,3 +91,10 @@ pub record IsParts (start : Start) (d : ℕ) (ms : Members) (parts : Parts) : Ty
   pub kind : IsSeen IsType (named (codes "type") ms) parts.kind
   pub coordinates : IsSeen (IsCoordinates start d) (named (codes "coordinates") ms) parts.coordinates
   pub geometries : IsSeen (IsFront d) (named (codes "geometries") ms) parts.geometries
+
+-- ---- a collection as most programs write it
+
+-- behind the front of `geometries` a value and the brace that closes the object (125) make it such a collection
+abbrev pub BeginsCollection : ℕ → List ℕ → List ℕ → Type 0
+BeginsCollection d bytes front = (v : Json) (after end : List ℕ) → front_value (d - 1) front ≡ Some (v, after) → skip after ≡ 125 ∷ end
+    → front_value d bytes ≡ Some (j.Object ((codes "type", j.Text (codes "GeometryCollection")) ∷ (codes "geometries", v) ∷ []), end)

@@ -1,14 +1,14 @@
 // Geometries.
-ghost use Rattle.std.specs.Prelude.{◌≡◌, ◌++◌, [], ℕ, OnOk, codes, length, option_to_list, true};
+ghost use Rattle.std.specs.Prelude.{◌≡◌, ◌++◌, ◌<◌, [], ℕ, IfSome, OnOk, Some, codes, length, option_to_list, true};
 ghost use Rattle.json_value.specs.declared.json.Json.{Json as Value};
 ghost use Rattle.json_cursor.specs.Members.{Members as Listed};
 ghost use Rattle.geojson_model.specs.Geometries.{coordinates_shape, geometry, shape, shapes, typed_geometry};
 ghost use Rattle.geojson_model.specs.Reader.{kept};
-ghost use Rattle.json_cursor.specs.Answers.{Answers};
+ghost use Rattle.json_cursor.specs.Answers.{Answers, Reads};
 ghost use Rattle.json_cursor.specs.Arrays.{front_elements, front_value};
 ghost use Rattle.geojson_model.specs.Members.{named};
 ghost use Rattle.geojson_model.specs.declared.types.GeometryType.TheVariants as types;
-ghost use Rattle.geojson_reader.specs.Members.{IsCoordinates, IsFront, IsParts, IsRead, IsSeen, IsTaken, IsType, Judges, Meets};
+ghost use Rattle.geojson_reader.specs.Members.{BeginsCollection, IsCoordinates, IsFront, IsParts, IsRead, IsSeen, IsTaken, IsType, Judges, Meets};
 ghost use Rattle.geojson_reader.specs.declared.geometries.Start.{Start as Begun};
 
 use crate::seen::Seen;
@@ -285,6 +285,48 @@ fn coordinates_of(
     }
 }
 
+/// Where the value of `geometries` begins in an object at the front that begins with the type GeometryCollection and that member, as most
+/// programs write it.
+fn collection_front<'a>(alloc: Global, deep: u32, bytes: &'a [u8]) -> Option<&'a [u8]>
+    ensures begins { IfSome result (λ front. BeginsCollection deep bytes.now front.now) }
+    ensures deep { IfSome result (λ _. 0 < deep) }
+{
+    let Some(inside) = behind_byte(b'{', bytes) else {
+        return None;
+    };
+    if deep == 0 || inside.len() < 2 {
+        return None;
+    }
+    if let Some(_) = behind_byte(b'}', skip(inside)) {
+        return None;
+    }
+    let Ok((first, value)) = name_at(alloc, skip(inside)) else {
+        return None;
+    };
+    if !first.is("type") {
+        return None;
+    }
+    let Ok(text) = string_at(alloc, value) else {
+        return None;
+    };
+    let Some((kind, rest)) = text else {
+        return None;
+    };
+    if !kind.is("GeometryCollection") {
+        return None;
+    }
+    let Some(more) = behind_byte(b',', skip(rest)) else {
+        return None;
+    };
+    let Ok((second, front)) = name_at(alloc, skip(more)) else {
+        return None;
+    };
+    if !second.is("geometries") {
+        return None;
+    }
+    Some(front)
+}
+
 /// What the member `geometries` is.
 #[cycle(geometries)]
 fn group_of(
@@ -357,6 +399,9 @@ pub fn geometry_at<'a>(
         exact,
         counts: *counts,
     };
+    if let Some((shape, rest)) = collection_at(alloc, deep, bytes, exact, counts) {
+        return Ok((Some(shape), rest));
+    }
     let (found, rest) = object_at::<Parts<'a>>(alloc, deep, Parts::none(), bytes, start)?;
     let Some(parts) = found else {
         return Err(Stop::Fault(GeoFaultKind::WrongKind));
@@ -365,6 +410,30 @@ pub fn geometry_at<'a>(
         Err(stop) => Err(stop),
         Ok(shape) => Ok((shape, rest)),
     }
+}
+
+/// The collection at the front, if it is one that is written as most programs write it and has no fault, and what follows it: read in one
+/// walk.
+#[cycle(geometries)]
+fn collection_at<'a>(
+    alloc: Global,
+    deep: u32,
+    bytes: &'a [u8],
+    exact: bool,
+    counts: &mut Counts,
+) -> Option<(Shape, &'a [u8])>
+    ensures { IfSome result (λ x. Reads (shape exact) (front_value deep bytes.now) (Some x.0) x.1.now counts.old counts.new) }
+{
+    let Some(front) = collection_front(alloc, deep, bytes) else {
+        return None;
+    };
+    let Ok((shapes, after)) = geometries_at(alloc, deep - 1, front, exact, counts) else {
+        return None;
+    };
+    let Some(rest) = behind_byte(b'}', skip(after)) else {
+        return None;
+    };
+    Some((Shape::Group(shapes), rest))
 }
 
 /// Puts one behind the others, if there is one.

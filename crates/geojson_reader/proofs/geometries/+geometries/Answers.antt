@@ -11,6 +11,7 @@ use Rattle.json_cursor.proofs.Openings.{is_empty, is_filled, is_no_array, too_de
 use Rattle.geojson_model.specs.Geometries.{geometry, shape, shapes, typed_geometry}
 use Rattle.geojson_model.specs.Reader.{kept}
 use Rattle.geojson_model.specs.declared.types.GeometryType.TheVariants as types
+use Rattle.geojson_reader.proofs.CollectionParts.{collected, one_byte}
 use Rattle.geojson_reader.proofs.GeometryParts as part
 use Rattle.geojson_reader.proofs.SeenMembers.{judged, judged_read}
 use Rattle.geojson_reader.proofs.geometries.+geometries.Goals as goal
@@ -60,18 +61,18 @@ shape_of-returns-in-Coordinates t c = λ ms is.
     part.judges_same (geometry c.args.start.exact ms) (typed_geometry c.args.start.exact (types.Coordinates c.in-Coordinates.kind) ms) c.args.start.counts _
     (part.known_type c.args.start.exact ms c.args.start.counts s.0 s.1 (types.Coordinates c.in-Coordinates.kind) (rw c.in-Coordinates.is at (rw c.in-Ok.is at s.2))) c.coordinates_of.result (c.coordinates_of.ensures ms is.coordinates)
 
-pub geometry_at-returns-in_default : goal.geometry_at-returns-in_default
-geometry_at-returns-in_default t c = λ v rest found. part.no_object c.args.exact v c.args.counts.now ((rw c.in_default.is at c.in_ok-found.ensures) v rest found)
+pub geometry_at-returns-in_default-found : goal.geometry_at-returns-in_default-found
+geometry_at-returns-in_default-found t c = λ v rest found. part.no_object c.args.exact v c.args.counts.now ((rw c.in_default-found.is at c.in_ok-found.ensures) v rest found)
 
 pub geometry_at-returns-in-Err : goal.geometry_at-returns-in-Err
 geometry_at-returns-in-Err t c =
-    let object = rw c.in-Some.is at c.in_ok-found.ensures in
+    let object = rw c.in-Some-found.is at c.in_ok-found.ensures in
     part.object_stops c.args.exact (front_value c.args.deep c.args.bytes.now) object.members _ c.args.counts.now object.front c.shape_of.new.counts c.in-Err.stop
     (c.in-Err.ensures object.members (object.holds (c.none.ensures _ (c.args.deep - 1))))
 
 pub geometry_at-returns-in-Ok : goal.geometry_at-returns-in-Ok
 geometry_at-returns-in-Ok t c =
-    let object = rw c.in-Some.is at c.in_ok-found.ensures in
+    let object = rw c.in-Some-found.is at c.in_ok-found.ensures in
     part.object_reads c.args.exact (front_value c.args.deep c.args.bytes.now) object.members _ c.args.counts.now object.front _ c.shape_of.new.counts
     (c.in-Ok.ensures object.members (object.holds (c.none.ensures _ (c.args.deep - 1))))
 
@@ -128,3 +129,9 @@ geometries_behind-geometries-preserved t c =
 
 pub geometries_behind-returns : goal.geometries_behind-returns
 geometries_behind-returns t c = so_far.turns_over (with_read (some_one (shape c.args.exact))) (value_at is_utf8 c.args.deep) _ _ _ _ _ _ _ _ c.geometries.invariant c.geometries-test.false
+
+pub collection_at-returns : goal.collection_at-returns
+collection_at-returns t c =
+    let r = c.in-Ok.ensures in
+    collected c.args.exact r.value _ c.args.counts.now c.geometries_at.new.counts r.means (front_value c.args.deep c.args.bytes.now) c.in-Some-behind_byte.rest.now
+    (c.in-Some.ensures.begins r.value _ c.in-Some-behind_byte.rest.now r.front_is (one_byte 125 _ _ (rw c.skip.ensures at c.in-Some-behind_byte.ensures)))

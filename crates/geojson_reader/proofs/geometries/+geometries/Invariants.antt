@@ -8,19 +8,22 @@ use Rattle.geojson_model.specs.Geometries.{shape}
 use Rattle.geojson_reader.proofs.geometries.+geometries.Given as goal
 
 abbrev pub decreases-geometry_at : goal.decreases-geometry_at
-decreases-geometry_at l = 4 * l.deep
+decreases-geometry_at l = 4 * l.deep + 1
+
+abbrev pub decreases-collection_at : goal.decreases-collection_at
+decreases-collection_at l = 4 * l.deep
 
 abbrev pub decreases-geometries_behind : goal.decreases-geometries_behind
-decreases-geometries_behind l = 4 * l.deep + 1
+decreases-geometries_behind l = 4 * l.deep + 2
 
 abbrev pub decreases-geometries_at : goal.decreases-geometries_at
-decreases-geometries_at l = 4 * l.deep + 1
+decreases-geometries_at l = 4 * l.deep + 2
 
 abbrev pub decreases-group_of : goal.decreases-group_of
-decreases-group_of l = 4 * l.deep + 2
+decreases-group_of l = 4 * l.deep + 3
 
 abbrev pub decreases-shape_of : goal.decreases-shape_of
-decreases-shape_of l = 4 * l.deep + 3
+decreases-shape_of l = 4 * l.deep + 4
 
 abbrev pub invariant-geometries_behind-geometries : goal.invariant-geometries_behind-geometries
 invariant-geometries_behind-geometries l =

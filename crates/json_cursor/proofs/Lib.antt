@@ -2,6 +2,7 @@ pub mod Steps
 pub mod Lists
 pub mod Openings
 pub mod FoldedSoFar
+pub mod FrontKinds
 pub mod ArrayParts
 pub mod LedParts
 pub mod MemberParts

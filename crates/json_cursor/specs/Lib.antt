@@ -1,5 +1,6 @@
 pub mod Answers
 pub mod Arrays
 pub mod Folds
+pub mod Kinds
 pub mod Members
 pub mod Names

@@ -6,6 +6,7 @@
 
 mod elements;
 mod folds;
+mod kinds;
 mod marks;
 mod members;
 mod names;
@@ -14,6 +15,7 @@ mod stop;
 
 pub use elements::{Element, array_at, led_array_at, some_array_at};
 pub use folds::{Elements, folded_array_at, folded_at, folded_some_at};
+pub use kinds::{Kind, kind_at};
 pub use marks::{Mark, Opening, behind_byte, mark_at, opening_at};
 pub use members::{Members, members_at, object_at};
 pub use names::{Name, name_at, string_at};

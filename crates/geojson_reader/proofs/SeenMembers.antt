@@ -1,5 +1,5 @@
 -- Members that are looked up, seen one after another.
-use Rattle.std.proofs.Common.{◌≡◌, ℕ, Bool, true, false, if◌then◌else◌, List, [], ◌∷◌, ◌++◌, Option, Some, Ok, Err, refl, sym, subst, ap, ◌∙◌}
+use Rattle.std.proofs.Common.{◌≡◌, ℕ, Bool, true, false, if◌then◌else◌, List, [], ◌∷◌, ◌++◌, Option, Some, Result, Ok, Err, Bor, refl, sym, subst, ap, ◌∙◌}
 use Rattle.std.specs.Prelude.{bytes_eq}
 use Rattle.std.proofs.lemmas.Slice.Eq.{bytes_eq-Decides}
 use Rattle.json_value.specs.declared.json.Json.{Json}
@@ -13,10 +13,12 @@ use Rattle.json_cursor.specs.Answers.{Reads, Stops}
 use Rattle.json_cursor.specs.declared.stop.Stop.{Stop}
 use Rattle.json_cursor.specs.declared.stop.Stop.TheVariants as stop
 use Rattle.json_cursor.specs.Arrays.{front_value}
-use Rattle.json_cursor.specs.Members.{Members, front_member}
+use Rattle.json_reading.specs.declared.fault.Fault.{Fault}
+use Rattle.text_checking.proofs.Passed.{first_fails}
+use Rattle.json_cursor.specs.Members.{GoesOn, Made, Members, front_member}
 use Rattle.geojson_reader.specs.declared.seen.Seen.{Seen}
 use Rattle.geojson_reader.specs.declared.seen.Seen.TheVariants.{Never, Once, Again}
-use Rattle.geojson_reader.specs.Members.{IsSeen, Judges, see}
+use Rattle.geojson_reader.specs.Members.{IsSeen, Judges, Sees, see}
 
 by_test : (t : Bool) (v : Json) (us vs ws : List Json) → us ≡ vs ++ ws → (if t then v ∷ us else us) ≡ (if t then v ∷ vs else vs) ++ ws
 by_test true v us vs ws e = ap (λ xs. v ∷ xs) e
@@ -65,6 +67,12 @@ not_other name word other same apart = ap (λ n. bytes_eq n other) ((bytes_eq-De
 pub member_found : (d : ℕ) (bytes name value rest : List ℕ) (v : Json) → front_member d bytes ≡ (front_value d value >>= λ x. Some ((name, x.0), x.1)) → front_value d value ≡ Some (v, rest)
     → front_member d bytes ≡ Some ((name, v), rest)
 member_found d bytes name value rest v named found = named ∙ rw found refl
+
+-- and what goes on with it
+pub member_sees : {S : Type 0} (Holds : Made S) (d : ℕ) (bytes name value : List ℕ) (before after : S) → front_member d bytes ≡ (front_value d value >>= λ x. Some ((name, x.0), x.1)) → (result : Result (Bor (List ℕ)) Fault)
+    → Sees Holds d name value before after result → GoesOn Holds d before after bytes result
+member_sees Holds d bytes name value before after named (Ok rest) s = record { member = (name, s.0); front = member_found d bytes name value rest.now s.0 named s.1; holds = s.2 }
+member_sees Holds d bytes name value before after named (Err fault) h = rw named (first_fails (front_value d value) _ fault h)
 
 -- what is answered of the value that is known to stand at a front
 pub judged : {B : Type 0} (read : Json → Reader B) (front : Option (Json × List ℕ)) (v : Json) (rest : List ℕ) (old new : Counts) → front ≡ Some (v, rest)

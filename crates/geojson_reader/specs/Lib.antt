@@ -1,2 +1,3 @@
+pub mod Features
 pub mod Members
 pub mod Positions

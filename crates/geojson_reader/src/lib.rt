@@ -5,11 +5,13 @@
 #![tactic(auto)]
 
 mod coordinates;
+mod features;
 mod geometries;
 mod lines;
 mod positions;
 mod seen;
 mod shapes;
 
+pub use features::feature_at;
 pub use geometries::geometry_at;
 pub use shapes::coordinates_at;

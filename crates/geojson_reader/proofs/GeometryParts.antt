@@ -20,6 +20,7 @@ use Rattle.geojson_model.specs.declared.types.GeometryType.TheVariants.{Coordina
 use Rattle.geojson_model.specs.Geometries.{coordinates_shape, typed_geometry, geometry, shape, shapes}
 use Rattle.geojson_model.proofs.Unrolled.{shape_object, shape_other, shapes_array, shapes_other}
 use Rattle.geojson_model.specs.Members.{named, need, type_name}
+use Rattle.json_members.specs.Readers.{Counting}
 use Rattle.geojson_model.specs.Reader.{Reader, and_then, gather, kept, or_fail, pure}
 use Rattle.geojson_types.specs.Features.{Shape}
 use Rattle.geojson_model.specs.Types.{coordinates_type, geojson_type, geometry_type}
@@ -31,7 +32,7 @@ use Rattle.json_cursor.specs.declared.stop.Stop.TheVariants as stop
 use Rattle.geojson_reader.specs.Members.{Judges, type_in}
 
 -- readers that answer the same are judged by the same
-pub judges_same : {B : Type 0} (r s : Reader B) (old new : Counts) → r old ≡ s old → (result : Result B (Stop GeoFaultKind)) → Judges s old new result → Judges r old new result
+pub judges_same : {C E B : Type 0} (r s : Counting C E B) (old new : C) → r old ≡ s old → (result : Result B (Stop E)) → Judges s old new result → Judges r old new result
 judges_same r s old new e (Ok x) h = e ∙ h
 judges_same r s old new e (Err (stop.Fault k)) h = e ∙ h
 judges_same r s old new e (Err stop.NoValue) h = absurd h

@@ -4,4 +4,5 @@ pub mod ShapeParts
 pub mod SeenMembers
 pub mod FeatureParts
 pub mod GeometryParts
+pub mod LayerParts
 pub mod CollectionParts

@@ -7,7 +7,7 @@ use Rattle.json_value.specs.Reading.{◌>>=◌}
 use Rattle.json_reading.proofs.Steps.{pair_is}
 use Rattle.geojson_types.specs.declared.counts.Counts.{Counts}
 use Rattle.geojson_model.specs.Members.{named}
-use Rattle.geojson_model.specs.Reader.{Reader}
+use Rattle.json_members.specs.Readers.{Counting}
 use Rattle.geojson_model.specs.declared.fault.GeoFaultKind.{GeoFaultKind}
 use Rattle.json_cursor.specs.Answers.{Reads, Stops}
 use Rattle.json_cursor.specs.declared.stop.Stop.{Stop}
@@ -75,12 +75,12 @@ member_sees Holds d bytes name value before after named (Ok rest) s = record { m
 member_sees Holds d bytes name value before after named (Err fault) h = rw named (first_fails (front_value d value) _ fault h)
 
 -- what is answered of the value that is known to stand at a front
-pub judged : {B : Type 0} (read : Json → Reader B) (front : Option (Json × List ℕ)) (v : Json) (rest : List ℕ) (old new : Counts) → front ≡ Some (v, rest)
-    → (why : Stop GeoFaultKind) → Stops read front old why → Judges (read v) old new (Err why)
+pub judged : {C E B : Type 0} (read : Json → Counting C E B) (front : Option (Json × List ℕ)) (v : Json) (rest : List ℕ) (old new : C) → front ≡ Some (v, rest)
+    → (why : Stop E) → Stops read front old why → Judges (read v) old new (Err why)
 judged read front v rest old new is (stop.Fault e) h = h v rest is
 judged read front v rest old new is stop.NoValue h = let wrong = sym h ∙ is in cc
 judged read front v rest old new is stop.Memory h = tt
 
-pub judged_read : {B : Type 0} (read : Json → Reader B) (front : Option (Json × List ℕ)) (v : Json) (rest : List ℕ) (old new : Counts) → front ≡ Some (v, rest)
+pub judged_read : {C E B : Type 0} (read : Json → Counting C E B) (front : Option (Json × List ℕ)) (v : Json) (rest : List ℕ) (old new : C) → front ≡ Some (v, rest)
     → (x : B) (end : List ℕ) → Reads read front x end old new → read v old ≡ Ok (x, new)
 judged_read read front v rest old new is x end r = ap (λ w. read w old) (pair_is v rest (r.value, end) (sym is ∙ r.front_is)).0 ∙ r.means

@@ -11,7 +11,8 @@ use Rattle.geojson_types.specs.declared.counts.Counts.{Counts}
 use Rattle.geojson_types.specs.Features.{Shape}
 use Rattle.geojson_model.specs.Geometries.{coordinates_shape}
 use Rattle.geojson_model.specs.Members.{named}
-use Rattle.geojson_model.specs.Reader.{Reader, or_fail}
+use Rattle.json_members.specs.Readers.{Counting}
+use Rattle.geojson_model.specs.Reader.{or_fail}
 use Rattle.geojson_model.specs.Types.{geojson_type}
 use Rattle.geojson_model.specs.declared.fault.GeoFaultKind.{GeoFaultKind}
 use Rattle.geojson_model.specs.declared.fault.GeoFaultKind.TheVariants.{UnknownType, WrongKind}
@@ -56,7 +57,7 @@ Sees Holds d name value before after (Ok rest) = (v : Json) × (front_value d va
 Sees Holds d name value before after (Err fault) = Fails fault (front_value d value)
 
 -- this is read, or the fault is the reader's, or nothing is said
-abbrev pub Judges : {B : Type 0} → Reader B → Counts → Counts → Result B (Stop GeoFaultKind) → Type 0
+abbrev pub Judges : {C E B : Type 0} → Counting C E B → C → C → Result B (Stop E) → Type 0
 Judges read old new (Ok x) = read old ≡ Ok (x, new)
 Judges read old new (Err (stop.Fault e)) = read old ≡ Err e
 Judges read old new (Err stop.NoValue) = ⊥

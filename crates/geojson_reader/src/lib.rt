@@ -7,6 +7,7 @@
 mod coordinates;
 mod features;
 mod geometries;
+mod layers;
 mod lines;
 mod positions;
 mod seen;
@@ -14,4 +15,5 @@ mod shapes;
 
 pub use features::feature_at;
 pub use geometries::geometry_at;
+pub use layers::layer_at;
 pub use shapes::coordinates_at;

@@ -1,4 +1,5 @@
 pub mod Steps
+pub mod WholeTexts
 pub mod Lists
 pub mod Openings
 pub mod FoldedSoFar

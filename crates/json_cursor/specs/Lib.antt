@@ -4,3 +4,4 @@ pub mod Folds
 pub mod Kinds
 pub mod Members
 pub mod Names
+pub mod Texts

@@ -12,6 +12,7 @@ mod members;
 mod names;
 mod passing;
 mod stop;
+mod texts;
 
 pub use elements::{Element, array_at, led_array_at, some_array_at};
 pub use folds::{Elements, folded_array_at, folded_at, folded_some_at};
@@ -21,3 +22,4 @@ pub use members::{Members, members_at, object_at};
 pub use names::{Name, name_at, string_at};
 pub use passing::after_elements;
 pub use stop::Stop;
+pub use texts::{Refusal, Whole, read_text};

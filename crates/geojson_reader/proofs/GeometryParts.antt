@@ -29,7 +29,7 @@ use Rattle.json_cursor.specs.Members.{Members}
 use Rattle.json_cursor.proofs.Steps.{found_stops, made, made_reads, made_stops}
 use Rattle.json_cursor.specs.declared.stop.Stop.{Stop}
 use Rattle.json_cursor.specs.declared.stop.Stop.TheVariants as stop
-use Rattle.geojson_reader.specs.Members.{Judges, type_in}
+use Rattle.geojson_reader.specs.Members.{Judges, part as the_part, type_in}
 
 -- readers that answer the same are judged by the same
 pub judges_same : {C E B : Type 0} (r s : Counting C E B) (old new : C) → r old ≡ s old → (result : Result B (Stop E)) → Judges s old new result → Judges r old new result
@@ -172,6 +172,11 @@ module _ (exact : Bool) (front : Option (Json × List ℕ)) (found : Option (Lis
 
   pub elements_read : (ss : List Shape) (rest : List ℕ) (new : Counts) → Reads (kept (shape exact)) found ss rest old new → Reads (shapes exact) front ss rest old new
   elements_read ss rest new r = made_reads j.Array (shapes exact) (kept (shape exact)) front found is old old (λ vs end e. array_shapes exact vs old) ss rest new r
+
+pub group_stops : (exact : Bool) (front : Option (Json × List ℕ)) (old : Counts) (why : Stop GeoFaultKind) → Stops (shapes exact) front old why → Stops (the_part exact Collection) front old why
+group_stops exact front old (stop.Fault e) h = λ v rest found. rw (h v rest found) refl
+group_stops exact front old stop.NoValue h = h
+group_stops exact front old stop.Memory h = tt
 
 -- ---- one geometry more
 

@@ -228,18 +228,26 @@ bare_passes start d ms name v parts no_type no_coordinates no_geometries h = rec
 module _ (start : Start) (d : ℕ) (name value : List ℕ) (seen : Seen Collected) where
   pub with_fields : (parts : Parts) (before after : Fields) → is_field name ≡ true → (result : Result (Bor (List ℕ)) Fault) → Sees (IsFields start) d name value before after result
       → Sees (IsLayerParts start d) d name value (record { bare = parts; fields = before; features = seen }) (record { bare = parts; fields = after; features = seen }) result
-  with_fields parts before after field (Ok rest) h = (h.0, h.1, λ ms is. record {
-    bare = bare_passes start d ms name h.0 parts (field_apart name (codes "type") field refl refl refl) (field_apart name (codes "coordinates") field refl refl refl) (field_apart name (codes "geometries") field refl refl refl) is.bare;
-    fields = h.2 ms is.fields;
-    features = passes (IsCollected start) (codes "features") ms name h.0 seen is.features (field_apart name (codes "features") field refl refl refl);
-  })
+  with_fields parts before after field (Ok rest) h = (
+    h.0,
+    h.1,
+    λ ms is. record {
+      bare = bare_passes start d ms name h.0 parts (field_apart name (codes "type") field refl refl refl) (field_apart name (codes "coordinates") field refl refl refl) (field_apart name (codes "geometries") field refl refl refl) is.bare;
+      fields = h.2 ms is.fields;
+      features = passes (IsCollected start) (codes "features") ms name h.0 seen is.features (field_apart name (codes "features") field refl refl refl);
+    },
+  )
   with_fields parts before after field (Err fault) h = h
 
   pub with_bare : (before after : Parts) (fields : Fields) → bytes_eq name (codes "features") ≡ false → is_field name ≡ false → (result : Result (Bor (List ℕ)) Fault) → Sees (IsParts start d) d name value before after result
       → Sees (IsLayerParts start d) d name value (record { bare = before; fields = fields; features = seen }) (record { bare = after; fields = fields; features = seen }) result
-  with_bare before after fields no_features none (Ok rest) h = let no = no_field name none in (h.0, h.1, λ ms is. record {
-    bare = h.2 ms is.bare;
-    fields = fields_pass start ms name h.0 fields no.geometry no.properties no.id is.fields;
-    features = passes (IsCollected start) (codes "features") ms name h.0 seen is.features no_features;
-  })
+  with_bare before after fields no_features none (Ok rest) h = let no = no_field name none in (
+    h.0,
+    h.1,
+    λ ms is. record {
+      bare = h.2 ms is.bare;
+      fields = fields_pass start ms name h.0 fields no.geometry no.properties no.id is.fields;
+      features = passes (IsCollected start) (codes "features") ms name h.0 seen is.features no_features;
+    },
+  )
   with_bare before after fields no_features none (Err fault) h = h

@@ -5,4 +5,4 @@ pub mod SeenMembers
 pub mod FeatureParts
 pub mod GeometryParts
 pub mod LayerParts
-pub mod CollectionParts
+pub mod UsualGeometries

@@ -1,5 +1,5 @@
 -- Members of objects that are looked up, as they were seen among the others.
-use Rattle.std.specs.Prelude.{◌≡◌, ℕ, ◌-◌, List, [], ◌∷◌, ◌++◌, Option, Some, None, Result, Ok, Err, codes}
+use Rattle.std.specs.Prelude.{◌≡◌, ℕ, ◌-◌, Bool, List, [], ◌∷◌, ◌++◌, Option, Some, None, Result, Ok, Err, codes}
 use Rattle.std.specs.Borrow.{Bor}
 use Rattle.json_value.specs.declared.json.Json.{Json}
 use Rattle.json_value.specs.Kinds.{text_of}
@@ -9,15 +9,18 @@ use Rattle.json_reading.specs.declared.fault.Fault.{Fault}
 use Rattle.json_reading.specs.Gives.{Fails}
 use Rattle.geojson_types.specs.declared.counts.Counts.{Counts}
 use Rattle.geojson_types.specs.Features.{Shape}
-use Rattle.geojson_model.specs.Geometries.{coordinates_shape}
+use Rattle.geometry.specs.declared.shape.Geometry.TheVariants as g
+use Rattle.geojson_model.specs.Geometries.{coordinates_shape, shapes}
 use Rattle.geojson_model.specs.Members.{named}
 use Rattle.json_members.specs.Readers.{Counting}
-use Rattle.geojson_model.specs.Reader.{or_fail}
-use Rattle.geojson_model.specs.Types.{geojson_type}
+use Rattle.geojson_model.specs.Reader.{Reader, ◌>>=◌, give, or_fail}
+use Rattle.geojson_model.specs.Types.{geojson_type, geometry_type}
 use Rattle.geojson_model.specs.declared.fault.GeoFaultKind.{GeoFaultKind}
 use Rattle.geojson_model.specs.declared.fault.GeoFaultKind.TheVariants.{UnknownType, WrongKind}
 use Rattle.geojson_model.specs.declared.types.CoordinatesType.{CoordinatesType}
 use Rattle.geojson_model.specs.declared.types.GeoJsonType.{GeoJsonType}
+use Rattle.geojson_model.specs.declared.types.GeometryType.{GeometryType}
+use Rattle.geojson_model.specs.declared.types.GeometryType.TheVariants as kinds
 use Rattle.json_cursor.specs.declared.stop.Stop.{Stop}
 use Rattle.json_cursor.specs.declared.stop.Stop.TheVariants as stop
 use Rattle.json_cursor.specs.Arrays.{front_value}
@@ -99,9 +102,21 @@ pub record IsParts (start : Start) (d : ℕ) (ms : Members) (parts : Parts) : Ty
   pub coordinates : IsSeen (IsCoordinates start d) (named (codes "coordinates") ms) parts.coordinates
   pub geometries : IsSeen (IsFront d) (named (codes "geometries") ms) parts.geometries
 
--- ---- a collection as most programs write it
+-- ---- a geometry as most programs write it
 
--- behind the front of `geometries` a value and the brace that closes the object (125) make it such a collection
-abbrev pub BeginsCollection : ℕ → List ℕ → List ℕ → Type 0
-BeginsCollection d bytes front = (v : Json) (after end : List ℕ) → front_value (d - 1) front ≡ Some (v, after) → skip after ≡ 125 ∷ end
-    → front_value d bytes ≡ Some (j.Object ((codes "type", j.Text (codes "GeometryCollection")) ∷ (codes "geometries", v) ∷ []), end)
+-- the name of the member that a geometry of this type is made of
+abbrev pub part_name : GeometryType → List ℕ
+part_name kinds.Collection = codes "geometries"
+part_name (kinds.Coordinates kind) = codes "coordinates"
+
+-- what the value of that member gives
+abbrev pub part : Bool → GeometryType → Json → Reader (Option Shape)
+part exact kinds.Collection v = do
+  ss ← shapes exact v
+  give (Some (g.Group ss))
+part exact (kinds.Coordinates kind) v = coordinates_shape exact kind v
+
+-- behind the front of that member a value and the brace that closes the object (125) make it such a geometry
+abbrev pub BeginsGeometry : GeometryType → ℕ → List ℕ → List ℕ → Type 0
+BeginsGeometry kind d bytes front = (v : Json) (after end : List ℕ) → front_value (d - 1) front ≡ Some (v, after) → skip after ≡ 125 ∷ end
+    → (name : List ℕ) × (geometry_type name ≡ Some kind) × (front_value d bytes ≡ Some (j.Object ((codes "type", j.Text name) ∷ (part_name kind, v) ∷ []), end))

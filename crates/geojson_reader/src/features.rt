@@ -16,7 +16,7 @@ use crate::geometries::{Start, geometry_at, type_at};
 use crate::seen::Seen;
 use geojson_model::{GeoFaultKind, GeoJsonType, identifier};
 use geojson_types::{Counts, Feature, Id, Properties, Shape};
-use json_cursor::{Kind, Members, Name, Stop, kind_at, name_at, object_at};
+use json_cursor::{Kind, Members, Name, Stop, kind_at, name_at, object_into};
 use json_reading::{Fault, Why, value_at};
 use properties_scanning::read_properties;
 use std::alloc::Global;
@@ -166,9 +166,7 @@ impl Fields {
 }
 
 /// What the member gives that was seen so: none where it isn't there.
-fn given<T: Drop>(
-    seen: Seen<Result<Option<T>, GeoFaultKind>>,
-) -> Result<Option<T>, GeoFaultKind>
+fn given<T: Drop>(seen: Seen<Result<Option<T>, GeoFaultKind>>) -> Result<Option<T>, GeoFaultKind>
     ensures { result ≡ spec.given seen }
 {
     match seen {
@@ -179,10 +177,7 @@ fn given<T: Drop>(
 }
 
 /// The shape that the member `geometry` gives, and what was counted then.
-fn shape_given(
-    seen: Seen<Drawn>,
-    before: Counts,
-) -> Result<(Option<Shape>, Counts), GeoFaultKind>
+fn shape_given(seen: Seen<Drawn>, before: Counts) -> Result<(Option<Shape>, Counts), GeoFaultKind>
     ensures { result ≡ spec.drawn seen before }
 {
     match seen {
@@ -282,8 +277,8 @@ pub fn feature_at<'a>(
         exact,
         counts: *counts,
     };
-    let (found, rest) = object_at::<FeatureParts>(alloc, deep, FeatureParts::none(), bytes, start)?;
-    let Some(parts) = found else {
+    let mut parts = FeatureParts::none();
+    let Some(rest) = object_into::<FeatureParts>(alloc, deep, &mut parts, bytes, start)? else {
         return Err(Stop::Fault(GeoFaultKind::NotObject));
     };
     let FeatureParts { kind, fields } = parts;

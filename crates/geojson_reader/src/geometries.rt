@@ -1,5 +1,5 @@
 // Geometries.
-ghost use Rattle.std.specs.Prelude.{◌≡◌, ◌++◌, ◌<◌, [], ℕ, IfSome, OnOk, Some, codes, length, option_to_list, true};
+ghost use Rattle.std.specs.Prelude.{◌≡◌, ◌++◌, ◌<◌, [], ℕ, bytes_eq, IfSome, OnOk, Some, codes, length, option_to_list, true};
 ghost use Rattle.json_value.specs.declared.json.Json.{Json as Value};
 ghost use Rattle.json_cursor.specs.Members.{Members as Listed};
 ghost use Rattle.geojson_model.specs.Geometries.{coordinates_shape, geometry, shape, shapes, typed_geometry};
@@ -9,14 +9,21 @@ ghost use Rattle.json_cursor.specs.Arrays.{front_elements, front_value};
 ghost use Rattle.geojson_model.specs.Members.{named};
 ghost use Rattle.geojson_model.specs.declared.types.GeometryType.TheVariants as types;
 ghost use Rattle.json_cursor.specs.Names.{name_of};
-ghost use Rattle.geojson_reader.specs.Members.{BeginsCollection, IsCoordinates, IsFront, IsParts, IsRead, IsSeen, IsTaken, IsType, Judges, Meets, Sees};
+ghost use Rattle.geojson_reader.specs.Members.{BeginsGeometry, IsCoordinates, IsFront, IsParts, IsRead, IsSeen, IsTaken, IsType, Judges, Meets, Sees, part, part_name};
 ghost use Rattle.geojson_reader.specs.declared.geometries.Start.{Start as Begun};
 
 use crate::seen::Seen;
 use crate::shapes::coordinates_at;
-use geojson_model::{CoordinatesType, GeoFaultKind, GeoJsonType, GeometryType, geojson_type};
+use geojson_model::{
+    CoordinatesType,
+    GeoFaultKind,
+    GeoJsonType,
+    GeometryType,
+    geojson_type,
+    geometry_type,
+};
 use geojson_types::{Counts, Shape};
-use json_cursor::{Mark, Members, Name, Stop, behind_byte, mark_at, name_at, object_at, string_at};
+use json_cursor::{Mark, Members, Name, Stop, behind_byte, mark_at, name_at, object_into, string_at};
 use json_reading::{Fault, Why, skip};
 use json_value::Items;
 use std::alloc::{AllocFailed, Global};
@@ -300,10 +307,20 @@ fn coordinates_of(
     }
 }
 
-/// Where the value of `geometries` begins in an object at the front that begins with the type GeometryCollection and that member, as most
-/// programs write it.
-fn collection_front<'a>(alloc: Global, deep: u32, bytes: &'a [u8]) -> Option<&'a [u8]>
-    ensures begins { IfSome result (λ front. BeginsCollection deep bytes.now front.now) }
+/// Whether a geometry of this type is made of the member of this name.
+fn is_part(kind: GeometryType, name: &Name<'_>) -> bool
+    ensures { result ≡ bytes_eq (name_of name.now) (part_name kind) }
+{
+    match kind {
+        GeometryType::Collection => name.is("geometries"),
+        GeometryType::Coordinates(_) => name.is("coordinates"),
+    }
+}
+
+/// The type of the geometry at the front, and where the value of the member begins that it is made of, where these two stand first in it, as
+/// most programs write them.
+fn usual_front<'a>(alloc: Global, deep: u32, bytes: &'a [u8]) -> Option<(GeometryType, &'a [u8])>
+    ensures begins { IfSome result (λ x. BeginsGeometry x.0 deep bytes.now x.1.now) }
     ensures deep { IfSome result (λ _. 0 < deep) }
 {
     let Some(inside) = behind_byte(b'{', bytes) else {
@@ -324,22 +341,22 @@ fn collection_front<'a>(alloc: Global, deep: u32, bytes: &'a [u8]) -> Option<&'a
     let Ok(text) = string_at(alloc, value) else {
         return None;
     };
-    let Some((kind, rest)) = text else {
+    let Some((name, rest)) = text else {
         return None;
     };
-    if !kind.is("GeometryCollection") {
+    let Some(kind) = geometry_type(name.as_str()) else {
         return None;
-    }
+    };
     let Some(more) = behind_byte(b',', skip(rest)) else {
         return None;
     };
     let Ok((second, front)) = name_at(alloc, skip(more)) else {
         return None;
     };
-    if !second.is("geometries") {
+    if !is_part(kind, &second) {
         return None;
     }
-    Some(front)
+    Some((kind, front))
 }
 
 /// What the member `geometries` is.
@@ -418,11 +435,11 @@ pub fn geometry_at<'a>(
         exact,
         counts: *counts,
     };
-    if let Some((shape, rest)) = collection_at(alloc, deep, bytes, exact, counts) {
-        return Ok((Some(shape), rest));
+    if let Some(found) = usual_at(alloc, deep, bytes, exact, counts) {
+        return Ok(found);
     }
-    let (found, rest) = object_at::<Parts<'a>>(alloc, deep, Parts::none(), bytes, start)?;
-    let Some(parts) = found else {
+    let mut parts = Parts::none();
+    let Some(rest) = object_into::<Parts<'a>>(alloc, deep, &mut parts, bytes, start)? else {
         return Err(Stop::Fault(GeoFaultKind::WrongKind));
     };
     match shape_of(alloc, deep - 1, parts, start, counts) {
@@ -431,28 +448,48 @@ pub fn geometry_at<'a>(
     }
 }
 
-/// The collection at the front, if it is one that is written as most programs write it and has no fault, and what follows it: read in one
-/// walk.
+/// The shape of this type that the value at the front gives as the member that a geometry of this type is made of, and what follows it.
 #[cycle(geometries)]
-fn collection_at<'a>(
+fn part_at<'a>(
+    alloc: Global,
+    deep: u32,
+    kind: GeometryType,
+    bytes: &'a [u8],
+    exact: bool,
+    counts: &mut Counts,
+) -> Result<(Option<Shape>, &'a [u8]), Stop<GeoFaultKind>>
+    ensures { Answers (λ x. x) (part exact kind) (front_value deep bytes.now) counts.old counts.new result }
+{
+    match kind {
+        GeometryType::Coordinates(kind) => coordinates_at(alloc, deep, bytes, exact, kind, counts),
+        GeometryType::Collection => match geometries_at(alloc, deep, bytes, exact, counts) {
+            Err(stop) => Err(stop),
+            Ok((shapes, rest)) => Ok((Some(Shape::Group(shapes)), rest)),
+        },
+    }
+}
+
+/// The geometry at the front, if it is written as most programs write it and has no fault, and what follows it: read in one walk.
+#[cycle(geometries)]
+fn usual_at<'a>(
     alloc: Global,
     deep: u32,
     bytes: &'a [u8],
     exact: bool,
     counts: &mut Counts,
-) -> Option<(Shape, &'a [u8])>
-    ensures { IfSome result (λ x. Reads (shape exact) (front_value deep bytes.now) (Some x.0) x.1.now counts.old counts.new) }
+) -> Option<(Option<Shape>, &'a [u8])>
+    ensures { IfSome result (λ x. Reads (shape exact) (front_value deep bytes.now) x.0 x.1.now counts.old counts.new) }
 {
-    let Some(front) = collection_front(alloc, deep, bytes) else {
+    let Some((kind, front)) = usual_front(alloc, deep, bytes) else {
         return None;
     };
-    let Ok((shapes, after)) = geometries_at(alloc, deep - 1, front, exact, counts) else {
+    let Ok((shape, after)) = part_at(alloc, deep - 1, kind, front, exact, counts) else {
         return None;
     };
     let Some(rest) = behind_byte(b'}', skip(after)) else {
         return None;
     };
-    Some((Shape::Group(shapes), rest))
+    Some((shape, rest))
 }
 
 /// Puts one behind the others, if there is one.

@@ -19,7 +19,7 @@ use crate::geometries::{Parts, Start, shape_of};
 use crate::seen::Seen;
 use geojson_model::{GeoFault, GeoFaultKind, GeoJsonType};
 use geojson_types::{Counts, Feature};
-use json_cursor::{Elements, Members, Stop, folded_array_at, name_at, object_at};
+use json_cursor::{Elements, Members, Stop, folded_array_at, name_at, object_into};
 use json_reading::{Fault, Why};
 use json_value::Items;
 use std::alloc::{AllocFailed, Global};
@@ -53,7 +53,6 @@ struct FeatureList {
 impl Model for FeatureList {
     ghost use Rattle.std.specs.Prelude.{List};
     ghost use Rattle.geojson_types.specs.Features.{Featured};
-
     ghost use Rattle.std.specs.Coded.{coded_list};
     ghost use Rattle.geojson_types.specs.Codes.{feature_code};
 
@@ -318,8 +317,8 @@ pub fn layer_at<'a>(
         exact,
         counts: *counts,
     };
-    let (found, rest) = object_at::<LayerParts<'a>>(alloc, deep, LayerParts::none(), bytes, start)?;
-    let Some(parts) = found else {
+    let mut parts = LayerParts::none();
+    let Some(rest) = object_into::<LayerParts<'a>>(alloc, deep, &mut parts, bytes, start)? else {
         return Err(Stop::Fault(fault_within(None, GeoFaultKind::NotObject)));
     };
     match features_of(alloc, deep - 1, parts, start, counts) {

@@ -57,9 +57,9 @@ pub record TakesMembers {S : Type 0} (Holds : Made S) (found : Option (Members �
   pub holds : Holds [] before → Holds members after
 
 -- or there are none, or nothing is said
-abbrev pub TakesAll : {S : Type 0} → Made S → Option (Members × List ℕ) → S → Result (S × Bor (List ℕ)) Fault → Type 0
-TakesAll Holds found before (Ok x) = TakesMembers Holds found before x.0 x.1.now
-TakesAll Holds found before (Err fault) = Fails fault found
+abbrev pub TakesAll : {S : Type 0} → Made S → Option (Members × List ℕ) → S → S → Result (Bor (List ℕ)) Fault → Type 0
+TakesAll Holds found before after (Ok rest) = TakesMembers Holds found before after rest.now
+TakesAll Holds found before after (Err fault) = Fails fault found
 
 -- an object of members stands at the front, and what was made of none goes on with them
 pub record TakesObject {S : Type 0} (Holds : ℕ → Made S) (d : ℕ) (bytes : List ℕ) (before after : S) (rest : List ℕ) : Type 0 where
@@ -69,6 +69,12 @@ pub record TakesObject {S : Type 0} (Holds : ℕ → Made S) (d : ℕ) (bytes : 
   pub holds : Holds (d - 1) [] before → Holds (d - 1) members after
 
 -- or whatever value stands there is no object; or none stands there, or nothing is said
+abbrev pub GoesThrough : {S : Type 0} → (ℕ → Made S) → ℕ → List ℕ → S → S → Result (Option (Bor (List ℕ))) Fault → Type 0
+GoesThrough Holds d bytes before after (Ok (Some rest)) = TakesObject Holds d bytes before after rest.now
+GoesThrough Holds d bytes before after (Ok None) = (v : Json) (end : List ℕ) → front_value d bytes ≡ Some (v, end) → object_of v ≡ None
+GoesThrough Holds d bytes before after (Err fault) = Fails fault (front_value d bytes)
+
+-- the same where what was made is answered
 abbrev pub ReadsObject : {S : Type 0} → (ℕ → Made S) → ℕ → List ℕ → S → Result (Option S × Bor (List ℕ)) Fault → Type 0
 ReadsObject Holds d bytes before (Ok (Some after, rest)) = TakesObject Holds d bytes before after rest.now
 ReadsObject Holds d bytes before (Ok (None, rest)) = (v : Json) (end : List ℕ) → front_value d bytes ≡ Some (v, end) → object_of v ≡ None

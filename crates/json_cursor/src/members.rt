@@ -1,7 +1,7 @@
 // The one loop over the members of an object, whatever is made of them.
 ghost use Rattle.std.specs.Prelude.{◌≡◌, ℕ, length};
 ghost use Rattle.json_reading.specs.Gives.{IsMalformed};
-ghost use Rattle.json_cursor.specs.Members.{GoesOn, Made, ReadsObject, TakesAll, front_members};
+ghost use Rattle.json_cursor.specs.Members.{GoesOn, GoesThrough, Made, ReadsObject, TakesAll, front_members};
 
 use crate::marks::behind_byte;
 use json_reading::{Fault, Why, skip};
@@ -37,23 +37,22 @@ pub trait Members<'a> {
         ensures { GoesOn (holds with deep) deep self.old self.new bytes.now result };
 }
 
-/// What is made of the members of an object behind its brace, one or more, and what follows it.
-pub fn members_at<'a, T: Members<'a> + Drop>(
+/// Goes on with the members of an object behind its brace, one or more, and gives what follows them.
+fn members_into<'a, T: Members<'a>>(
     alloc: Global,
     deep: u32,
-    start: T,
+    made: &mut T,
     inside: &'a [u8],
     with: T::With,
-) -> Result<(T, &'a [u8]), Fault>
-    ensures { TakesAll (T.holds with deep) (front_members deep (length inside.now) inside.now) start result }
+) -> Result<&'a [u8], Fault>
+    ensures { TakesAll (T.holds with deep) (front_members deep (length inside.now) inside.now) made.old made.new result }
 {
-    let mut made = start;
     let mut rest = inside;
     'members: for _ in 0..inside.len() {
         let behind = made.member(alloc, deep, skip(rest), with)?;
         let mark = skip(behind);
         if let Some(end) = behind_byte(b'}', mark) {
-            return Ok((made, end));
+            return Ok(end);
         }
         let Some(more) = behind_byte(b',', mark) else {
             return Err(broken(mark));
@@ -61,6 +60,29 @@ pub fn members_at<'a, T: Members<'a> + Drop>(
         rest = more;
     }
     Err(broken(rest))
+}
+
+/// Goes on with the members of the object at the front, and gives what follows it; none of what is no object, of which nothing is read.
+pub fn object_into<'a, T: Members<'a>>(
+    alloc: Global,
+    deep: u32,
+    made: &mut T,
+    bytes: &'a [u8],
+    with: T::With,
+) -> Result<Option<&'a [u8]>, Fault>
+    ensures { GoesThrough (T.holds with) deep bytes.now made.old made.new result }
+{
+    let Some(inside) = behind_byte(b'{', bytes) else {
+        return Ok(None);
+    };
+    if deep == 0 {
+        return Err(broken(inside));
+    }
+    if let Some(end) = behind_byte(b'}', skip(inside)) {
+        return Ok(Some(end));
+    }
+    let rest = members_into::<T>(alloc, deep - 1, made, inside, with)?;
+    Ok(Some(rest))
 }
 
 /// What is made of the members of the object at the front, and what follows it; none of what is no object, of which nothing is read.
@@ -73,15 +95,10 @@ pub fn object_at<'a, T: Members<'a> + Drop>(
 ) -> Result<(Option<T>, &'a [u8]), Fault>
     ensures { ReadsObject (T.holds with) deep bytes.now start result }
 {
-    let Some(inside) = behind_byte(b'{', bytes) else {
-        return Ok((None, bytes));
-    };
-    if deep == 0 {
-        return Err(broken(inside));
+    let mut made = start;
+    match object_into::<T>(alloc, deep, &mut made, bytes, with) {
+        Err(fault) => Err(fault),
+        Ok(None) => Ok((None, bytes)),
+        Ok(Some(rest)) => Ok((Some(made), rest)),
     }
-    if let Some(end) = behind_byte(b'}', skip(inside)) {
-        return Ok((Some(start), end));
-    }
-    let (made, rest) = members_at::<T>(alloc, deep - 1, start, inside, with)?;
-    Ok((Some(made), rest))
 }

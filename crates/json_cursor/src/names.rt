@@ -24,6 +24,7 @@ pub enum Name<'a> {
 
 impl<'a> Name<'a> {
     /// Its text.
+    #[inline(always)]
     pub fn as_str(&self) -> &str
         ensures { result.now ≡ name_of self.now }
     {
@@ -54,8 +55,7 @@ fn is_simple(byte: u8) -> bool
 fn plain_at(inside: &[u8]) -> Option<(&[u8], &[u8])>
     ensures { IfSome result (λ x. EndsPlain inside.now x.0.now x.1.now) }
 {
-    'bytes: for at in 0..inside.len() {
-        let byte = inside[at];
+    'bytes: for (at, &byte) in inside.iter().enumerate() {
         if byte == b'"' {
             return Some((&inside[..at], &inside[at + 1..]));
         }
@@ -67,6 +67,7 @@ fn plain_at(inside: &[u8]) -> Option<(&[u8], &[u8])>
 }
 
 /// The name behind its first quotation mark, and what follows its last one.
+#[inline(always)]
 fn text_at<'a>(alloc: Global, inside: &'a [u8]) -> Result<(Name<'a>, &'a [u8]), Fault>
     ensures { Gives (λ x. (name_of x.0, x.1.now)) result (reading.string_at is_utf8 inside.now) }
 {

@@ -39,11 +39,7 @@ fn members_at<'a>(
 }
 
 /// The object at the front as properties with their text, and what follows it.
-fn text_at<'a>(
-    alloc: Global,
-    deep: u32,
-    bytes: &'a [u8],
-) -> Result<(Properties, &'a [u8]), Fault>
+fn text_at<'a>(alloc: Global, deep: u32, bytes: &'a [u8]) -> Result<(Properties, &'a [u8]), Fault>
     requires kind { IsKind bytes.now Object }
     requires deep { deep ≤ 254 }
     ensures { Gives (λ x. (j.Object x.0, x.1.now)) result (reading.value_at any deep bytes.now) }

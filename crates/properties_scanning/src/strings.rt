@@ -6,8 +6,8 @@ ghost use Rattle.json_value.specs.Reading.{name_at, string_at as string_front};
 ghost use Rattle.json_reading.specs.declared.fault.Fault.TheVariants.{Memory};
 ghost use Rattle.properties_scanning.specs.Copying.{CopiesOr, any, is_simple};
 
-use byte_ends::{MemoryDrain, Sink};
 use crate::values::broken;
+use byte_ends::{MemoryDrain, Sink};
 use json_reading::{Fault, next, plain_run, string_at};
 use json_writer::write_text;
 use simdutf8::compat;
@@ -77,7 +77,11 @@ fn copy_characters<'a>(
 }
 
 /// Copies the string at the front, with its quotation marks, and gives what follows it.
-pub fn copy_string<'a>(alloc: Global, bytes: &'a [u8], text: &mut Vec<u8>) -> Result<&'a [u8], Fault>
+pub fn copy_string<'a>(
+    alloc: Global,
+    bytes: &'a [u8],
+    text: &mut Vec<u8>,
+) -> Result<&'a [u8], Fault>
     ensures { CopiesOr (name_at any) quoted bytes.now text.old.items text.new.items result }
 {
     let Some((quote, inside)) = next(bytes) else {

@@ -10,8 +10,11 @@ use Rattle.geojson_reader.proofs.geometries.+geometries.Given as goal
 abbrev pub decreases-geometry_at : goal.decreases-geometry_at
 decreases-geometry_at l = 4 * l.deep + 1
 
-abbrev pub decreases-collection_at : goal.decreases-collection_at
-decreases-collection_at l = 4 * l.deep
+abbrev pub decreases-usual_at : goal.decreases-usual_at
+decreases-usual_at l = 4 * l.deep
+
+abbrev pub decreases-part_at : goal.decreases-part_at
+decreases-part_at l = 4 * l.deep + 3
 
 abbrev pub decreases-geometries_behind : goal.decreases-geometries_behind
 decreases-geometries_behind l = 4 * l.deep + 2

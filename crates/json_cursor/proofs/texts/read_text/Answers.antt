@@ -9,9 +9,12 @@ returns-then-is_empty g c =
     (c.if-not-are_utf8.ensures.yes refl, r.value, text.whole c.args.deepest c.args.bytes.now _ c.text_of.ensures r.value _ _ r.front_is c.skip-behind.ensures c.if-is_empty.ensures, rw c.none-counts.ensures at r.means)
 
 pub malformed-requires-in-Ok : goal.malformed-requires-in-Ok
-malformed-requires-in-Ok g c = (c.requires, λ utf8.
-    let r = rw c.skip.ensures at c.in-Ok.ensures in
-    text.trailing c.args.deepest c.args.bytes.now _ c.text_of.ensures r.value _ _ r.front_is c.skip-behind.ensures c.if-is_empty.ensures)
+malformed-requires-in-Ok g c = (
+  c.requires,
+  λ utf8.
+      let r = rw c.skip.ensures at c.in-Ok.ensures in
+      text.trailing c.args.deepest c.args.bytes.now _ c.text_of.ensures r.value _ _ r.front_is c.skip-behind.ensures c.if-is_empty.ensures,
+)
 
 pub malformed-requires-in-Err-NoValue : goal.malformed-requires-in-Err-NoValue
 malformed-requires-in-Err-NoValue g c = (c.requires, λ utf8. text.no_value c.args.deepest c.args.bytes.now _ c.text_of.ensures (rw (c.in-Err-NoValue.field-0-is, c.skip.ensures) at c.in-Err-NoValue.ensures))

@@ -12,15 +12,15 @@ use Rattle.json_value.proofs.KindsOf.{text_of-text}
 use Rattle.geometry.specs.declared.shape.Geometry.TheVariants as g
 use Rattle.geojson_types.specs.declared.counts.Counts.{Counts}
 use Rattle.geojson_types.specs.Features.{Shape}
-use Rattle.geojson_model.specs.declared.types.GeoJsonType.TheVariants as types
-use Rattle.geojson_model.specs.declared.types.GeometryType.TheVariants.{Collection}
-use Rattle.geojson_model.specs.Geometries.{shape, shapes}
-use Rattle.geojson_model.specs.Members.{named}
-use Rattle.geojson_model.specs.Types.{geojson_type, geometry_type}
+use Rattle.geojson_model.specs.declared.types.GeometryType.{GeometryType}
+use Rattle.geojson_model.specs.declared.types.GeometryType.TheVariants.{Collection, Coordinates}
+use Rattle.geojson_model.specs.Geometries.{geometry, shape, typed_geometry}
+use Rattle.geojson_model.specs.Members.{named, need, type_name}
+use Rattle.geojson_model.specs.Types.{geometry_type}
 use Rattle.json_cursor.specs.Answers.{Reads}
 use Rattle.json_cursor.specs.Members.{Members, front_member}
-use Rattle.geojson_reader.specs.Members.{type_in}
-use Rattle.geojson_reader.proofs.GeometryParts.{grouped, known_type, object_reads}
+use Rattle.geojson_reader.specs.Members.{part, part_name}
+use Rattle.geojson_reader.proofs.GeometryParts.{object_reads}
 
 pub one_byte : (byte : ℕ) (bytes rest : List ℕ) → Some rest ≡ after_word (byte ∷ []) bytes → bytes ≡ byte ∷ rest
 unfolding after_word
@@ -49,23 +49,15 @@ is_word name word h = (bytes_eq-Decides name word).0 (sym h)
 
 -- ---- what it is read as
 
-module _ (exact : Bool) (v : Json) (ss : List Shape) (old new : Counts) (inner : shapes exact v old ≡ Ok (ss, new)) where
-  abbrev pub members : Members
-  members = (codes "type", j.Text (codes "GeometryCollection")) ∷ (codes "geometries", v) ∷ []
+module _ (exact : Bool) (v : Json) (name : List ℕ) (old : Counts) where
+  abbrev pub members : GeometryType → Members
+  members kind = (codes "type", j.Text name) ∷ (part_name kind, v) ∷ []
 
-  one_type : named (codes "type") members ≡ j.Text (codes "GeometryCollection") ∷ []
-  unfolding named
-  one_type = refl
+  typed : (kind : GeometryType) → geometry_type name ≡ Some kind → geometry exact (members kind) old ≡ part exact kind v old
+  unfolding geometry type_name named typed_geometry need
+  typed Collection is = rw (text_of-text name, is) refl
+  typed (Coordinates kind) is = rw (text_of-text name, is) refl
 
-  one_value : named (codes "geometries") members ≡ v ∷ []
-  unfolding named
-  one_value = refl
-
-  is_collection : Ok (types.Geometry Collection) ≡ type_in (text_of (j.Text (codes "GeometryCollection")))
-  unfolding geojson_type geometry_type
-  is_collection = sym (ap type_in (text_of-text (codes "GeometryCollection")))
-
-  pub collected : (front : Option (Json × List ℕ)) (end : List ℕ) → front ≡ Some (j.Object members, end) → Reads (shape exact) front (Some (g.Group ss)) end old new
-  collected front end is =
-      object_reads exact front members end old is (Some (g.Group ss)) new
-      (known_type exact members old (j.Text (codes "GeometryCollection")) one_type Collection is_collection ∙ grouped exact members old v one_value ss new inner)
+  pub is_usual : (kind : GeometryType) → geometry_type name ≡ Some kind → (s : Option Shape) (new : Counts) → part exact kind v old ≡ Ok (s, new) → (front : Option (Json × List ℕ)) (end : List ℕ)
+      → front ≡ Some (j.Object (members kind), end) → Reads (shape exact) front s end old new
+  is_usual kind is s new h front end stands = object_reads exact front (members kind) end old stands s new (typed kind is ∙ h)

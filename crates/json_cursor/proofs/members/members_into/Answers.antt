@@ -1,7 +1,7 @@
 use Rattle.std.proofs.Common.{length}
 use Rattle.std.proofs.lemmas.Result.{err_from_is_err_and}
 use Rattle.json_cursor.proofs.MemberParts as part
-use Rattle.json_cursor.proofs.members.members_at.Goals as goal
+use Rattle.json_cursor.proofs.members.members_into.Goals as goal
 
 pub returns-in_err-behind : goal.returns-in_err-behind
 returns-in_err-behind g c =

@@ -2,7 +2,7 @@ use Rattle.std.proofs.Common.{[], List, arith}
 use Rattle.std.proofs.lemmas.Result.{err_from_is_err_and}
 use Rattle.json_cursor.proofs.MemberParts.{malformed}
 use Rattle.json_cursor.proofs.Openings.{is_no_object, object_deep, no_members, some_members, members_fail}
-use Rattle.json_cursor.proofs.members.object_at.Goals as goal
+use Rattle.json_cursor.proofs.members.object_into.Goals as goal
 
 pub returns-in_default : goal.returns-in_default
 returns-in_default g c = is_no_object c.args.deep c.args.bytes.now c.in_default.ensures
@@ -18,15 +18,15 @@ returns-in-Some-behind_byte g c = record {
   holds = λ h. h;
 }
 
-pub returns-in_err-made : goal.returns-in_err-made
-returns-in_err-made g c =
+pub returns-in_err-rest : goal.returns-in_err-rest
+returns-in_err-rest g c =
     let p = err_from_is_err_and c.from_residual.result c.from_residual.ensures.1 in
     rw (p.1, p.2)
-    (members_fail c.args.deep c.args.bytes.now _ c.in-Some.ensures c.if-deep-eq0.false (rw c.skip.ensures at c.in_default-behind_byte.ensures) _ c.in_err-made.ensures)
+    (members_fail c.args.deep c.args.bytes.now _ c.in-Some.ensures c.if-deep-eq0.false (rw c.skip.ensures at c.in_default-behind_byte.ensures) _ c.in_err-rest.ensures)
 
 pub returns : goal.returns
 returns g c =
-    let made = c.in_ok-made.ensures in
+    let made = c.in_ok-rest.ensures in
     record {
       deep = omega (arith, c.if-deep-eq0.false);
       members = made.members;

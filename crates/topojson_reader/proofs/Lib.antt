@@ -13,3 +13,6 @@ pub mod NameParts
 pub mod TopologyParts
 pub mod WholeTexts
 pub mod TextParts
+pub mod SeenMembers
+pub mod GeometryParts
+pub mod PartsSeen

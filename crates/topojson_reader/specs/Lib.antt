@@ -7,3 +7,5 @@ pub mod Shapes
 pub mod Objects
 pub mod Topologies
 pub mod Texts
+pub mod Members
+pub mod Geometries

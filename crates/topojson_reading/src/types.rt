@@ -9,7 +9,7 @@ use topojson_meaning::{ArcsType, GeometryType, PlacesType, TopoFault};
 
 /// The type of this name.
 #[tactic(auto, unfolding(topojson_meaning::specs::GeometryTypes::geometry_type))]
-fn geometry_type(name: &str) -> Option<GeometryType>
+pub fn geometry_type(name: &str) -> Option<GeometryType>
     ensures { result ≡ spec.geometry_type name.now }
 {
     if name == "Point" {
@@ -33,7 +33,7 @@ fn geometry_type(name: &str) -> Option<GeometryType>
 
 /// The type that a value names. Null stands for no shape.
 #[tactic(auto, unfolding(topojson_meaning::specs::GeometryTypes::type_of))]
-fn type_of(value: &Json) -> Result<Option<GeometryType>, TopoFault>
+pub fn type_of(value: &Json) -> Result<Option<GeometryType>, TopoFault>
     ensures { Finds (λ t. t) result (spec.type_of value.now) }
 {
     match value {

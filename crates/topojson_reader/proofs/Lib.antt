@@ -16,3 +16,5 @@ pub mod TextParts
 pub mod SeenMembers
 pub mod GeometryParts
 pub mod PartsSeen
+pub mod FeatureParts
+pub mod FeatureLists

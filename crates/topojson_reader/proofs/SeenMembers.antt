@@ -8,6 +8,7 @@ use Rattle.json_members.specs.Members.{Members, named}
 use Rattle.json_reading.specs.declared.fault.Fault.{Fault}
 use Rattle.json_reading.specs.declared.fault.Fault.TheVariants as text
 use Rattle.json_reading.proofs.Steps.{pair_is}
+use Rattle.json_cursor.proofs.Steps.{found_stops}
 use Rattle.geojson_types.specs.declared.counts.Counts.{Counts}
 use Rattle.topojson_meaning.specs.Reader.{Reader}
 use Rattle.topojson_meaning.specs.declared.fault.TopoFault.{TopoFault}
@@ -67,3 +68,14 @@ judges_same r s old new e (Ok x) h = e ∙ h
 judges_same r s old new e (Err (stop.Fault k)) h = e ∙ h
 judges_same r s old new e (Err stop.NoValue) h = absurd h
 judges_same r s old new e (Err stop.Memory) h = tt
+
+-- ---- what is judged of the object that stands there is answered of it
+
+module _ {B : Type 0} (read : Json → Reader B) (inner : Reader B) (front : Option (Json × List ℕ)) (v : Json) (rest : List ℕ) (old : Counts) (is : front ≡ Some (v, rest)) (law : read v old ≡ inner old) where
+  pub object_stops : (new : Counts) (why : Stop TopoFault) → Judges inner old new (Err why) → Stops read front old why
+  object_stops new (stop.Fault e) h = found_stops read front old v rest e is (law ∙ h)
+  object_stops new stop.NoValue h = absurd h
+  object_stops new stop.Memory h = tt
+
+  pub object_reads : (x : B) (new : Counts) → inner old ≡ Ok (x, new) → Reads read front x rest old new
+  object_reads x new h = record { value = v; front_is = is; means = law ∙ h }

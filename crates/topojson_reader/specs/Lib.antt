@@ -9,3 +9,4 @@ pub mod Topologies
 pub mod Texts
 pub mod Members
 pub mod Geometries
+pub mod Features

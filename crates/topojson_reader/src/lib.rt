@@ -7,6 +7,8 @@
 mod arcs;
 mod areas;
 mod cells;
+mod feature_parts;
+mod features;
 mod geometries;
 mod geometry_parts;
 mod index;
@@ -22,6 +24,7 @@ mod topologies;
 pub use arcs::{arc_at, arcs_at};
 pub use areas::polygon_at;
 pub use cells::{cell_at, place_at};
+pub use features::{feature_at, features_at};
 pub use geometries::geometry_at;
 pub use shapes::{arcs_shape_at, places_shape_at};
 pub use strokes::stroke_at;

@@ -18,3 +18,6 @@ pub mod GeometryParts
 pub mod PartsSeen
 pub mod FeatureParts
 pub mod FeatureLists
+pub mod ObjectSeen
+pub mod NamedLaws
+pub mod NamedSeen

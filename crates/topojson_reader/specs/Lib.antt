@@ -10,3 +10,5 @@ pub mod Texts
 pub mod Members
 pub mod Geometries
 pub mod Features
+pub mod ObjectParts
+pub mod NamedObjects

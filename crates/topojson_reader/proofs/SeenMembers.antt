@@ -12,7 +12,7 @@ use Rattle.json_cursor.proofs.Steps.{found_stops}
 use Rattle.geojson_types.specs.declared.counts.Counts.{Counts}
 use Rattle.topojson_meaning.specs.Reader.{Reader}
 use Rattle.topojson_meaning.specs.declared.fault.TopoFault.{TopoFault}
-use Rattle.json_cursor.specs.Answers.{Reads, Stops}
+use Rattle.json_cursor.specs.Answers.{Answers, Reads, Stops}
 use Rattle.json_cursor.specs.declared.names.Name.{Name}
 use Rattle.json_cursor.specs.declared.stop.Stop.{Stop}
 use Rattle.json_cursor.specs.declared.stop.Stop.TheVariants as stop
@@ -79,3 +79,9 @@ module _ {B : Type 0} (read : Json → Reader B) (inner : Reader B) (front : Opt
 
   pub object_reads : (x : B) (new : Counts) → inner old ≡ Ok (x, new) → Reads read front x rest old new
   object_reads x new h = record { value = v; front_is = is; means = law ∙ h }
+
+-- ---- why a reader stopped
+
+pub stopped : {B : Type 0} (read : Json → Reader B) (front : Option (Json × List ℕ)) (old new : Counts) (answer : Result (B × Bor (List ℕ)) (Stop TopoFault)) (why : Stop TopoFault) → answer ≡ Err why
+    → Answers (λ x. x) read front old new answer → Stops read front old why
+stopped read front old new answer why is h = subst (Answers (λ x. x) read front old new) is h

@@ -1,5 +1,5 @@
 -- What was seen of the members of a geometry (TopoJSON 1.0, section 2.2).
-use Rattle.std.specs.Prelude.{◌≡◌, ℕ, Option, Some, None, Result, Ok, Err, codes}
+use Rattle.std.specs.Prelude.{◌≡◌, ℕ, Option, Some, None, Result, codes}
 use Rattle.std.specs.Option.{option_copied}
 use Rattle.json_value.specs.declared.json.Json.{Json}
 use Rattle.json_members.specs.Members.{Members, named}
@@ -11,7 +11,7 @@ use Rattle.topojson_meaning.specs.declared.geometry_type.GeometryType.TheVariant
 use Rattle.topojson_meaning.specs.GeometryTypes.{type_of}
 use Rattle.topojson_meaning.specs.Reader.{Reader}
 use Rattle.topojson_meaning.specs.Shapes as shapes
-use Rattle.topojson_reader.specs.Members.{IsFront, IsSeen}
+use Rattle.topojson_reader.specs.Members.{IsFront, IsHeld, IsSeen}
 use Rattle.topojson_reader.specs.declared.geometry_parts.Part.{Part}
 use Rattle.topojson_reader.specs.declared.geometry_parts.PartType.{PartType}
 use Rattle.topojson_reader.specs.declared.geometry_parts.PartType.TheVariants.{Places, Arcs}
@@ -39,20 +39,15 @@ geometry start ms = shapes.geometry (option_copied start.transform) start.arcs.n
 abbrev pub IsType : Json → Result (Option GeometryType) TopoFault → Type 0
 IsType v type = type ≡ type_of v
 
--- what a value is read as by this type, from these counts on
-abbrev pub ReadsAs : Start → Json → Read → Result (Option TopoShape) TopoFault → Type 0
-ReadsAs start v read (Ok shape) = part start read.kind v start.counts ≡ Ok (shape, read.counts)
-ReadsAs start v read (Err e) = part start read.kind v start.counts ≡ Err e
-
+-- what a value was read as by its type, if it was
 abbrev pub IsRead : Start → Json → Option Read → Type 0
 IsRead start v None = Unit {0}
-IsRead start v (Some read) = ReadsAs start v read read.shape
+IsRead start v (Some read) = IsHeld (part start read.kind) start.counts read.counts v read.shape
 
--- the same of what was read by this very type, if it was
+-- the same of what was read by this very type
 abbrev pub IsTaken : Start → PartType → Json → Option (Result (Option TopoShape) TopoFault × Counts) → Type 0
 IsTaken start kind v None = Unit {0}
-IsTaken start kind v (Some (Ok shape, counts)) = part start kind v start.counts ≡ Ok (shape, counts)
-IsTaken start kind v (Some (Err e, counts)) = part start kind v start.counts ≡ Err e
+IsTaken start kind v (Some x) = IsHeld (part start kind) start.counts x.1 v x.0
 
 -- the value begins there, and was read so, if it was
 pub record IsPart (start : Start) (d : ℕ) (v : Json) (x : Part) : Type 0 where

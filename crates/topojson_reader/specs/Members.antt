@@ -53,3 +53,8 @@ pub record TakesValue {S : Type 0} (Holds : Made S) (d : ℕ) (name : List ℕ) 
 abbrev pub GoesOnWith : {S : Type 0} → Made S → ℕ → List ℕ → S → S → List ℕ → Result (Bor (List ℕ)) Fault → Type 0
 GoesOnWith Holds d name before after bytes (Ok rest) = TakesValue Holds d name before after bytes rest.now
 GoesOnWith Holds d name before after bytes (Err fault) = Fails fault (front_value d bytes)
+
+-- this is what the value is read as from these counts on, with these after it, or its fault
+abbrev pub IsHeld : {B : Type 0} → (Json → Reader B) → Counts → Counts → Json → Result B TopoFault → Type 0
+IsHeld read old new v (Ok x) = read v old ≡ Ok (x, new)
+IsHeld read old new v (Err e) = read v old ≡ Err e

@@ -1,5 +1,5 @@
 -- The objects of a topology by name that were read so far (TopoJSON 1.0, section 2.1.5).
-use Rattle.std.specs.Prelude.{◌≡◌, ℕ, List, ◌∷◌, ◌++◌, Option, Some, None, Result, Ok, Err}
+use Rattle.std.specs.Prelude.{◌≡◌, ℕ, List, ◌∷◌, ◌++◌, Option, Some, None, Ok, Err}
 use Rattle.std.specs.Option.{option_copied}
 use Rattle.json_value.specs.declared.json.Json.{Json}
 use Rattle.json_members.specs.Members.{Members}
@@ -19,11 +19,6 @@ abbrev pub named_object : Start → List ℕ × Json → Reader (List ℕ × Top
 named_object start m = do
   o ← object start m.1
   give (m.0, o)
-
--- this is what the value is read as, or its fault
-abbrev pub IsHeld : Start → Counts → Counts → Json → Result TopoObject TopoFault → Type 0
-IsHeld start old new v (Ok o) = object start v old ≡ Ok (o, new)
-IsHeld start old new v (Err e) = object start v old ≡ Err e
 
 -- These are the objects of the members before one of this name, which has this fault. Names may be repeated.
 pub record FailsBehind (start : Start) (ms : Members) (os : List (List ℕ × TopoObject)) (failed : List ℕ × TopoFault) : Type 0 where

@@ -1,5 +1,5 @@
 -- What was seen of the members of one object of a topology (TopoJSON 1.0, sections 2.1.5 and 2.2).
-use Rattle.std.specs.Prelude.{◌≡◌, ℕ, List, Option, Some, None, Result, Ok, Err, codes, if◌then◌else◌}
+use Rattle.std.specs.Prelude.{◌≡◌, ℕ, List, Option, Some, None, codes, if◌then◌else◌}
 use Rattle.std.specs.Option.{option_copied}
 use Rattle.json_value.specs.declared.json.Json.{Json}
 use Rattle.json_members.specs.Members.{Members, named}
@@ -7,12 +7,11 @@ use Rattle.geometry.specs.Points.{Point}
 use Rattle.topojson_types.specs.declared.feature.TopoFeature.{TopoFeature}
 use Rattle.topojson_types.specs.declared.object.TopoObject.{TopoObject}
 use Rattle.topojson_types.specs.declared.transform.Transform.{Transform}
-use Rattle.topojson_meaning.specs.declared.fault.TopoFault.{TopoFault}
 use Rattle.topojson_meaning.specs.GeometryTypes.{is_collection, object_type}
 use Rattle.topojson_meaning.specs.Objects as objects
 use Rattle.topojson_meaning.specs.Reader.{Reader, ◌>>=◌, pure}
 use Rattle.topojson_reader.specs.Features.{IsFeature}
-use Rattle.topojson_reader.specs.Members.{IsFront, IsSeen}
+use Rattle.topojson_reader.specs.Members.{IsFront, IsHeld, IsSeen}
 use Rattle.topojson_reader.specs.declared.geometry_parts.Start.{Start}
 use Rattle.topojson_reader.specs.declared.object_parts.Features.{Features}
 use Rattle.topojson_reader.specs.declared.object_parts.ObjectParts.{ObjectParts}
@@ -25,14 +24,10 @@ features start v = objects.features (option_copied start.transform) start.arcs.n
 abbrev pub collection : Start → Members → Reader TopoObject
 collection start ms = objects.collection (option_copied start.transform) start.arcs.now ms
 
--- what the value of `geometries` is read as, from these counts on
-abbrev pub ReadAs : Start → Json → ReadFeatures → Result (List TopoFeature) TopoFault → Type 0
-ReadAs start v read (Ok fs) = features start v start.counts ≡ Ok (fs, read.counts)
-ReadAs start v read (Err e) = features start v start.counts ≡ Err e
-
+-- what the value of `geometries` was read as, if it was
 abbrev pub AreRead : Start → Json → Option ReadFeatures → Type 0
 AreRead start v None = Unit {0}
-AreRead start v (Some read) = ReadAs start v read read.features
+AreRead start v (Some read) = IsHeld (features start) start.counts read.counts v read.features
 
 -- the value begins there, and was read so, if it was
 pub record AreFeatures (start : Start) (d : ℕ) (v : Json) (x : Features) : Type 0 where

@@ -9,12 +9,13 @@ ghost use Rattle.topojson_reader.specs.Geometries.{IsPart, IsParts, IsRead, IsTa
 ghost use Rattle.topojson_reader.specs.Members.{GoesOnWith, IsSeen, Judges, Meets};
 ghost use Rattle.topojson_reader.specs.declared.geometry_parts.Start.{Start as Begun};
 
+use crate::held::held;
 use crate::index::is_name;
 use crate::seen::Seen;
 use crate::shapes::{arcs_shape_at, places_shape_at};
 use geojson_types::Counts;
 use json_cursor::{Members, Stop, name_at, string_at};
-use json_reading::{Fault, Why, value_at};
+use json_reading::{Fault, value_at};
 use json_value::Items;
 use std::alloc::Global;
 use text_checking::after_value;
@@ -128,42 +129,20 @@ fn read_at<'a>(
     ensures { Meets (IsPart start.entry deep) deep bytes.now result }
 {
     let mut counts = start.counts;
-    match typed_at(alloc, deep, start, kind, bytes, &mut counts) {
-        Ok((shape, rest)) => {
-            let read = Read {
-                kind,
-                shape: Ok(shape),
-                counts,
-            };
-            Ok((
-                Part {
-                    front: bytes,
-                    read: Some(read),
-                },
-                rest,
-            ))
-        }
-        Err(Stop::Fault(fault)) => {
-            let rest = after_value(alloc, deep, bytes)?;
-            let read = Read {
-                kind,
-                shape: Err(fault),
-                counts,
-            };
-            Ok((
-                Part {
-                    front: bytes,
-                    read: Some(read),
-                },
-                rest,
-            ))
-        }
-        Err(Stop::NoValue) => Err(Fault::Malformed {
-            why: Why::Syntax,
-            left: bytes.len(),
-        }),
-        Err(Stop::Memory) => Err(Fault::Memory),
-    }
+    let answer = typed_at(alloc, deep, start, kind, bytes, &mut counts);
+    let (shape, rest) = held(alloc, deep, bytes, answer)?;
+    let read = Read {
+        kind,
+        shape,
+        counts,
+    };
+    Ok((
+        Part {
+            front: bytes,
+            read: Some(read),
+        },
+        rest,
+    ))
 }
 
 /// The value at the front, which is read by this type, if it is known, and what follows it.

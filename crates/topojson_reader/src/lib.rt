@@ -11,6 +11,7 @@ mod feature_parts;
 mod features;
 mod geometries;
 mod geometry_parts;
+mod held;
 mod index;
 mod named_objects;
 mod numbers;

@@ -5,16 +5,17 @@ ghost use Rattle.json_members.specs.Members.{Members as Listed};
 ghost use Rattle.json_cursor.specs.Answers.{Answers};
 ghost use Rattle.json_cursor.specs.Arrays.{front_value};
 ghost use Rattle.topojson_meaning.specs.Objects.{is_met, objects, objects_behind};
-ghost use Rattle.topojson_reader.specs.Members.{Judges, Meets};
-ghost use Rattle.topojson_reader.specs.NamedObjects.{AreObjects, IsHeld};
+ghost use Rattle.topojson_reader.specs.Members.{Judges};
+ghost use Rattle.topojson_reader.specs.NamedObjects.{AreObjects};
 ghost use Rattle.topojson_reader.specs.declared.geometry_parts.Start.{Start as Begun};
 
 use crate::geometry_parts::Start;
+use crate::held::held;
 use crate::object_parts::object_at;
 use crate::objects::name_at;
 use geojson_types::Counts;
 use json_cursor::{Members, Stop, object_at as members_at};
-use json_reading::{Fault, Why};
+use json_reading::Fault;
 use json_value::{Items, OwnText};
 use std::alloc::Global;
 use text_checking::after_value;
@@ -28,30 +29,6 @@ pub struct NamedObjects {
     pub list: Vec<(OwnText, TopoObject)>,
     pub counts: Counts,
     pub failed: Option<(OwnText, TopoFault)>,
-}
-
-/// The object at the front, or its fault, and what follows it.
-fn held_at<'a>(
-    alloc: Global,
-    deep: u32,
-    start: Start<'a>,
-    bytes: &'a [u8],
-    counts: &mut Counts,
-) -> Result<(Result<TopoObject, TopoFault>, &'a [u8]), Fault>
-    ensures { Meets (IsHeld start.entry counts.old counts.new) deep bytes.now result }
-{
-    match object_at(alloc, deep, start.transform, start.arcs, bytes, counts) {
-        Ok((object, rest)) => Ok((Ok(object), rest)),
-        Err(Stop::Fault(fault)) => {
-            let rest = after_value(alloc, deep, bytes)?;
-            Ok((Err(fault), rest))
-        }
-        Err(Stop::NoValue) => Err(Fault::Malformed {
-            why: Why::Syntax,
-            left: bytes.len(),
-        }),
-        Err(Stop::Memory) => Err(Fault::Memory),
-    }
 }
 
 /// None yet.
@@ -82,7 +59,8 @@ impl<'a> Members<'a> for NamedObjects {
             let rest = after_value(alloc, deep, value)?;
             return Ok(rest);
         }
-        let (object, rest) = held_at(alloc, deep, with, value, &mut self.counts)?;
+        let answer = object_at(alloc, deep, with.transform, with.arcs, value, &mut self.counts);
+        let (object, rest) = held(alloc, deep, value, answer)?;
         match object {
             Ok(object) => {
                 self.list.push((name, object))?;

@@ -13,11 +13,12 @@ ghost use Rattle.topojson_reader.specs.declared.geometry_parts.Start.{Start as B
 use crate::feature_parts::{FeatureParts, feature_of};
 use crate::features::features_at;
 use crate::geometry_parts::{Start, kind_of};
+use crate::held::held;
 use crate::index::is_name;
 use crate::seen::Seen;
 use geojson_types::Counts;
 use json_cursor::{Members, Stop, name_at, object_at as parts_at};
-use json_reading::{Fault, Why};
+use json_reading::Fault;
 use json_value::Items;
 use std::alloc::Global;
 use text_checking::after_value;
@@ -75,40 +76,16 @@ fn read_at<'a>(
     ensures { Meets (AreFeatures start.entry deep) deep bytes.now result }
 {
     let mut counts = start.counts;
-    match features_at(alloc, deep, start.transform, start.arcs, bytes, &mut counts) {
-        Ok((features, rest)) => {
-            let read = ReadFeatures {
-                features: Ok(features),
-                counts,
-            };
-            Ok((
-                Features {
-                    front: bytes,
-                    read: Some(read),
-                },
-                rest,
-            ))
-        }
-        Err(Stop::Fault(fault)) => {
-            let rest = after_value(alloc, deep, bytes)?;
-            let read = ReadFeatures {
-                features: Err(fault),
-                counts,
-            };
-            Ok((
-                Features {
-                    front: bytes,
-                    read: Some(read),
-                },
-                rest,
-            ))
-        }
-        Err(Stop::NoValue) => Err(Fault::Malformed {
-            why: Why::Syntax,
-            left: bytes.len(),
-        }),
-        Err(Stop::Memory) => Err(Fault::Memory),
-    }
+    let answer = features_at(alloc, deep, start.transform, start.arcs, bytes, &mut counts);
+    let (features, rest) = held(alloc, deep, bytes, answer)?;
+    let read = ReadFeatures { features, counts };
+    Ok((
+        Features {
+            front: bytes,
+            read: Some(read),
+        },
+        rest,
+    ))
 }
 
 /// The value of `geometries` at the front, which is read as features where its object is known to be a collection, and what follows it.

@@ -1,5 +1,5 @@
 -- A feature by its members.
-use Rattle.std.proofs.Common.{◌≡◌, ℕ, true, false, List, [], ◌∷◌, ◌++◌, Option, Some, None, Result, Ok, Err, refl, ap, sym, subst, ◌∙◌}
+use Rattle.std.proofs.Common.{◌≡◌, ℕ, true, false, List, [], ◌∷◌, ◌++◌, Option, Some, None, Result, Ok, Err, refl, sym, subst, ◌∙◌}
 use Rattle.std.specs.Prelude.{bytes_eq, codes}
 use Rattle.std.specs.Borrow.{Bor}
 use Rattle.json_value.specs.declared.json.Json.{Json}

@@ -1,5 +1,5 @@
 -- A geometry by its members.
-use Rattle.std.proofs.Common.{◌≡◌, ℕ, List, [], ◌∷◌, ◌++◌, Option, Some, None, Result, Ok, Err, refl, ap, sym, ◌∙◌}
+use Rattle.std.proofs.Common.{◌≡◌, ℕ, List, [], ◌∷◌, ◌++◌, Option, Some, None, Ok, Err, refl, ap, ◌∙◌}
 use Rattle.std.specs.Prelude.{codes, option_to_list}
 use Rattle.json_value.specs.declared.json.Json.{Json}
 use Rattle.json_value.specs.declared.json.Json.TheVariants as j
@@ -22,7 +22,7 @@ use Rattle.topojson_meaning.specs.Shapes as shapes
 use Rattle.topojson_reading.proofs.Unrolling as unrolling
 use Rattle.json_cursor.specs.Answers.{Reads, Stops}
 use Rattle.json_cursor.specs.Folds.{some_one, with_read}
-use Rattle.json_cursor.proofs.Steps.{found_stops, made, made_reads, made_stops}
+use Rattle.json_cursor.proofs.Steps.{made, made_reads, made_stops}
 use Rattle.json_cursor.specs.declared.stop.Stop.{Stop}
 use Rattle.json_cursor.specs.declared.stop.Stop.TheVariants as stop
 use Rattle.topojson_reader.specs.Members.{Judges}
@@ -95,18 +95,8 @@ module _ (t : Option Transform) (arcs : List (List Point)) where
 
   -- ---- what stands at the front
 
-  -- what is judged of the object that stands there is answered of it
-  module _ (front : Option (Json × List ℕ)) (ms : Members) (rest : List ℕ) (old : Counts) (is : front ≡ Some (j.Object ms, rest)) where
-    object_shape : shapes.shape t arcs (j.Object ms) old ≡ shapes.geometry t arcs ms old
-    object_shape = ap (λ (r : Reader (Option TopoShape)). r old) (unrolling.shape_object t arcs (j.Object ms) ms (object_of-object ms))
-
-    pub object_stops : (new : Counts) (why : Stop TopoFault) → Judges (shapes.geometry t arcs ms) old new (Err why) → Stops (shapes.shape t arcs) front old why
-    object_stops new (stop.Fault e) h = found_stops (shapes.shape t arcs) front old (j.Object ms) rest e is (object_shape ∙ h)
-    object_stops new stop.NoValue h = absurd h
-    object_stops new stop.Memory h = tt
-
-    pub object_reads : (x : Option TopoShape) (new : Counts) → shapes.geometry t arcs ms old ≡ Ok (x, new) → Reads (shapes.shape t arcs) front x rest old new
-    object_reads x new h = record { value = j.Object ms; front_is = is; means = object_shape ∙ h }
+  pub object_shape : (ms : Members) (old : Counts) → shapes.shape t arcs (j.Object ms) old ≡ shapes.geometry t arcs ms old
+  object_shape ms old = ap (λ (r : Reader (Option TopoShape)). r old) (unrolling.shape_object t arcs (j.Object ms) ms (object_of-object ms))
 
   pub no_object : (v : Json) (old : Counts) → object_of v ≡ None → shapes.shape t arcs v old ≡ Err WrongKind
   no_object v old h = ap (λ (r : Reader (Option TopoShape)). r old) (unrolling.shape_other t arcs v h)

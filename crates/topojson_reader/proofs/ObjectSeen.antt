@@ -1,5 +1,5 @@
 -- One object by its members.
-use Rattle.std.proofs.Common.{◌≡◌, ℕ, true, false, List, [], ◌∷◌, ◌++◌, Option, Some, None, Result, Ok, Err, refl, ap, sym, subst, ◌∙◌}
+use Rattle.std.proofs.Common.{◌≡◌, ℕ, true, false, List, [], ◌∷◌, ◌++◌, Option, None, Result, Ok, Err, refl, ap, sym, subst, ◌∙◌}
 use Rattle.std.specs.Prelude.{bytes_eq, codes}
 use Rattle.std.specs.Borrow.{Bor}
 use Rattle.json_value.specs.declared.json.Json.{Json}
@@ -11,7 +11,6 @@ use Rattle.json_reading.specs.declared.fault.Fault.{Fault}
 use Rattle.geojson_types.specs.declared.counts.Counts.{Counts}
 use Rattle.geometry.specs.Points.{Point}
 use Rattle.topojson_types.specs.declared.feature.TopoFeature.{TopoFeature}
-use Rattle.topojson_types.specs.declared.object.TopoObject.{TopoObject}
 use Rattle.topojson_types.specs.declared.object.TopoObject.TheVariants.{One, Many}
 use Rattle.topojson_types.specs.declared.transform.Transform.{Transform}
 use Rattle.topojson_meaning.specs.declared.fault.TopoFault.{TopoFault}
@@ -21,7 +20,7 @@ use Rattle.topojson_meaning.specs.Features as features
 use Rattle.topojson_meaning.specs.GeometryTypes.{is_collection, object_type}
 use Rattle.topojson_meaning.specs.Members.{members, need}
 use Rattle.topojson_meaning.specs.Objects as objects
-use Rattle.topojson_meaning.specs.Reader.{Reader, ◌>>=◌, or_fail, pure}
+use Rattle.topojson_meaning.specs.Reader.{◌>>=◌, or_fail, pure}
 use Rattle.json_cursor.specs.declared.stop.Stop.{Stop}
 use Rattle.json_cursor.specs.declared.stop.Stop.TheVariants as stop
 use Rattle.topojson_reader.specs.declared.feature_parts.FeatureParts.{FeatureParts}

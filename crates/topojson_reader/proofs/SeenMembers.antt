@@ -13,12 +13,10 @@ use Rattle.geojson_types.specs.declared.counts.Counts.{Counts}
 use Rattle.topojson_meaning.specs.Reader.{Reader}
 use Rattle.topojson_meaning.specs.declared.fault.TopoFault.{TopoFault}
 use Rattle.json_cursor.specs.Answers.{Answers, Reads, Stops}
-use Rattle.json_cursor.specs.declared.names.Name.{Name}
 use Rattle.json_cursor.specs.declared.stop.Stop.{Stop}
 use Rattle.json_cursor.specs.declared.stop.Stop.TheVariants as stop
 use Rattle.json_cursor.specs.Arrays.{front_value}
-use Rattle.json_cursor.specs.Members.{GoesOn, Made, Names, front_member}
-use Rattle.json_cursor.specs.Names.{name_of}
+use Rattle.json_cursor.specs.Members.{GoesOn, Made, front_member}
 use Rattle.topojson_reader.specs.declared.seen.Seen.{Seen}
 use Rattle.topojson_reader.specs.declared.seen.Seen.TheVariants.{Never, Once, Again}
 use Rattle.topojson_reader.specs.Members.{GoesOnWith, IsSeen, Judges, see}

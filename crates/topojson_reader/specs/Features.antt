@@ -1,9 +1,8 @@
 -- What was seen of the members of a feature (TopoJSON 1.0, section 2.2).
-use Rattle.std.specs.Prelude.{◌≡◌, ℕ, List, [], ◌∷◌, Option, Some, Result, Ok, Err, codes}
+use Rattle.std.specs.Prelude.{◌≡◌, ℕ, List, Option, Some, Result, Ok, Err, codes}
 use Rattle.std.specs.Option.{option_copied}
 use Rattle.json_value.specs.declared.json.Json.{Json}
 use Rattle.json_members.specs.Members.{Members, named, only}
-use Rattle.geojson_types.specs.declared.id.Id.{Id}
 use Rattle.geometry.specs.Points.{Point}
 use Rattle.topojson_types.specs.declared.feature.TopoFeature.{TopoFeature}
 use Rattle.topojson_types.specs.declared.transform.Transform.{Transform}

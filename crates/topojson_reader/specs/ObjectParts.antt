@@ -1,5 +1,5 @@
 -- What was seen of the members of one object of a topology (TopoJSON 1.0, sections 2.1.5 and 2.2).
-use Rattle.std.specs.Prelude.{◌≡◌, ℕ, List, Option, Some, None, codes, if◌then◌else◌}
+use Rattle.std.specs.Prelude.{ℕ, List, Option, Some, None, codes, if◌then◌else◌}
 use Rattle.std.specs.Option.{option_copied}
 use Rattle.json_value.specs.declared.json.Json.{Json}
 use Rattle.json_members.specs.Members.{Members, named}

@@ -70,7 +70,14 @@ pub(crate) fn typed_of(
         }
         Some(kind) => match kind {
             GeometryType::Places(kind) => {
-                part_of(alloc, deep, PartType::Places(kind), coordinates, start, counts)
+                part_of(
+                    alloc,
+                    deep,
+                    PartType::Places(kind),
+                    coordinates,
+                    start,
+                    counts,
+                )
             }
             GeometryType::Arcs(kind) => {
                 part_of(alloc, deep, PartType::Arcs(kind), arcs, start, counts)

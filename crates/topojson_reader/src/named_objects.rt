@@ -59,7 +59,14 @@ impl<'a> Members<'a> for NamedObjects {
             let rest = after_value(alloc, deep, value)?;
             return Ok(rest);
         }
-        let answer = object_at(alloc, deep, with.transform, with.arcs, value, &mut self.counts);
+        let answer = object_at(
+            alloc,
+            deep,
+            with.transform,
+            with.arcs,
+            value,
+            &mut self.counts,
+        );
         let (object, rest) = held(alloc, deep, value, answer)?;
         match object {
             Ok(object) => {

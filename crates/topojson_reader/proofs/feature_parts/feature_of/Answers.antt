@@ -1,4 +1,4 @@
-use Rattle.std.proofs.Common.{refl, sym, ◌∙◌}
+use Rattle.std.proofs.Common.{refl, sym}
 use Rattle.std.specs.Option.{option_copied}
 use Rattle.topojson_meaning.specs.Features.{identifier, members_if}
 use Rattle.topojson_reader.proofs.FeatureParts as by

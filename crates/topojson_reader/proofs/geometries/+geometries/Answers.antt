@@ -2,6 +2,7 @@ use Rattle.std.proofs.Common.{[], ◌-◌, List, length, refl, subst, sym, ◌�
 use Rattle.std.specs.Option.{option_copied}
 use Rattle.std.specs.Str.{is_utf8}
 use Rattle.json_value.specs.Reading.{value_at}
+use Rattle.json_value.specs.declared.json.Json.TheVariants as j
 use Rattle.topojson_types.specs.Topologies.{TopoShape}
 use Rattle.json_cursor.specs.Answers.{Reads}
 use Rattle.json_cursor.specs.Arrays.{front_elements, front_value}
@@ -10,11 +11,12 @@ use Rattle.json_cursor.proofs.ArrayParts.{as_list, same_reads, same_stops}
 use Rattle.json_cursor.proofs.FoldedSoFar as so_far
 use Rattle.json_cursor.proofs.Openings.{is_empty, is_filled, is_no_array, too_deep}
 use Rattle.topojson_meaning.specs.Reader.{kept}
+use Rattle.topojson_meaning.specs.Shapes as shapes_of
 use Rattle.topojson_meaning.specs.Shapes.{shape, shapes}
 use Rattle.topojson_meaning.specs.declared.geometry_type.GeometryType.TheVariants as types
 use Rattle.topojson_reader.specs.Geometries.{geometry, typed_shape}
 use Rattle.topojson_reader.proofs.GeometryParts as part
-use Rattle.topojson_reader.proofs.SeenMembers.{judged, judged_read, judges_same}
+use Rattle.topojson_reader.proofs.SeenMembers.{judged, judged_read, judges_same, object_reads, object_stops}
 use Rattle.topojson_reader.proofs.geometries.+geometries.Goals as goal
 
 pub group_of-returns-in-Never : goal.group_of-returns-in-Never
@@ -66,13 +68,17 @@ geometry_at-returns-in_default t c = λ v rest found. part.no_object (option_cop
 pub geometry_at-returns-in-Err : goal.geometry_at-returns-in-Err
 geometry_at-returns-in-Err t c =
     let object = rw c.in-Some.is at c.in_ok-found.ensures in
-    part.object_stops (option_copied c.args.transform) c.args.arcs.now (front_value c.args.deep c.args.bytes.now) object.members _ c.args.counts.now object.front c.shape_of.new.counts c.in-Err.stop
+    let transform = option_copied c.args.transform in
+    object_stops (shape transform c.args.arcs.now) (shapes_of.geometry transform c.args.arcs.now object.members) (front_value c.args.deep c.args.bytes.now) (j.Object object.members) _ c.args.counts.now object.front
+    (part.object_shape transform c.args.arcs.now object.members c.args.counts.now) c.shape_of.new.counts c.in-Err.stop
     (c.in-Err.ensures object.members (object.holds (c.none-none.ensures _ (c.args.deep - 1))))
 
 pub geometry_at-returns-in-Ok : goal.geometry_at-returns-in-Ok
 geometry_at-returns-in-Ok t c =
     let object = rw c.in-Some.is at c.in_ok-found.ensures in
-    part.object_reads (option_copied c.args.transform) c.args.arcs.now (front_value c.args.deep c.args.bytes.now) object.members _ c.args.counts.now object.front _ c.shape_of.new.counts
+    let transform = option_copied c.args.transform in
+    object_reads (shape transform c.args.arcs.now) (shapes_of.geometry transform c.args.arcs.now object.members) (front_value c.args.deep c.args.bytes.now) (j.Object object.members) _ c.args.counts.now object.front
+    (part.object_shape transform c.args.arcs.now object.members c.args.counts.now) _ c.shape_of.new.counts
     (c.in-Ok.ensures object.members (object.holds (c.none-none.ensures _ (c.args.deep - 1))))
 
 pub geometries_at-returns-in_default : goal.geometries_at-returns-in_default

@@ -1,6 +1,6 @@
 use Rattle.json_cursor.specs.Arrays.{front_value}
 use Rattle.topojson_reader.specs.ObjectParts.{features}
-use Rattle.topojson_reader.proofs.SeenMembers.{judged, judged_read}
+use Rattle.topojson_reader.proofs.SeenMembers.{judged}
 use Rattle.topojson_reader.proofs.object_parts.features_by.Goals as goal
 
 pub returns-in-Ok : goal.returns-in-Ok

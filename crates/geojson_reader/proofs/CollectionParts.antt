@@ -12,10 +12,11 @@ use Rattle.json_value.proofs.KindsOf.{text_of-text}
 use Rattle.geometry.specs.declared.shape.Geometry.TheVariants as g
 use Rattle.geojson_types.specs.declared.counts.Counts.{Counts}
 use Rattle.geojson_types.specs.Features.{Shape}
+use Rattle.geojson_model.specs.declared.types.GeoJsonType.TheVariants as types
 use Rattle.geojson_model.specs.declared.types.GeometryType.TheVariants.{Collection}
 use Rattle.geojson_model.specs.Geometries.{shape, shapes}
 use Rattle.geojson_model.specs.Members.{named}
-use Rattle.geojson_model.specs.Types.{geometry_type}
+use Rattle.geojson_model.specs.Types.{geojson_type, geometry_type}
 use Rattle.json_cursor.specs.Answers.{Reads}
 use Rattle.json_cursor.specs.Members.{Members, front_member}
 use Rattle.geojson_reader.specs.Members.{type_in}
@@ -60,8 +61,8 @@ module _ (exact : Bool) (v : Json) (ss : List Shape) (old new : Counts) (inner :
   unfolding named
   one_value = refl
 
-  is_collection : Ok Collection ≡ type_in (text_of (j.Text (codes "GeometryCollection")))
-  unfolding geometry_type
+  is_collection : Ok (types.Geometry Collection) ≡ type_in (text_of (j.Text (codes "GeometryCollection")))
+  unfolding geojson_type geometry_type
   is_collection = sym (ap type_in (text_of-text (codes "GeometryCollection")))
 
   pub collected : (front : Option (Json × List ℕ)) (end : List ℕ) → front ≡ Some (j.Object members, end) → Reads (shape exact) front (Some (g.Group ss)) end old new

@@ -1,24 +1,29 @@
 -- A geometry by its members.
-use Rattle.std.proofs.Common.{◌≡◌, ℕ, Bool, List, [], ◌∷◌, ◌++◌, Option, Some, None, Result, Ok, Err, refl, ap, sym, ◌∙◌}
-use Rattle.std.specs.Prelude.{codes, option_to_list}
+use Rattle.std.proofs.Common.{◌≡◌, ℕ, Bool, true, false, List, [], ◌∷◌, ◌++◌, Option, Some, None, Result, Ok, Err, refl, ap, sym, ◌∙◌}
+use Rattle.std.specs.Prelude.{bytes_eq, codes, option_to_list}
+use Rattle.std.proofs.lemmas.Slice.Eq.{bytes_eq-Decides}
 use Rattle.json_cursor.specs.Folds.{some_one, with_read}
 use Rattle.json_value.specs.declared.json.Json.{Json}
 use Rattle.json_value.specs.Kinds.{array_of, object_of, text_of}
 use Rattle.json_value.specs.declared.json.Json.TheVariants as j
 use Rattle.json_value.proofs.KindsOf.{array_of-array, object_of-object}
+use Rattle.geometry.specs.Lists.{map_some}
 use Rattle.geometry.specs.declared.shape.Geometry.TheVariants as g
 use Rattle.geojson_types.specs.declared.counts.Counts.{Counts}
 use Rattle.geojson_model.specs.declared.fault.GeoFaultKind.{GeoFaultKind}
 use Rattle.geojson_model.specs.declared.fault.GeoFaultKind.TheVariants.{Missing, Duplicate, UnknownType, WrongKind}
 use Rattle.geojson_model.specs.declared.types.CoordinatesType.{CoordinatesType}
+use Rattle.geojson_model.specs.declared.types.GeoJsonType.{GeoJsonType}
+use Rattle.geojson_model.specs.declared.types.GeoJsonType.TheVariants as types
 use Rattle.geojson_model.specs.declared.types.GeometryType.{GeometryType}
 use Rattle.geojson_model.specs.declared.types.GeometryType.TheVariants.{Coordinates, Collection}
 use Rattle.geojson_model.specs.Geometries.{coordinates_shape, typed_geometry, geometry, shape, shapes}
 use Rattle.geojson_model.proofs.Unrolled.{shape_object, shape_other, shapes_array, shapes_other}
 use Rattle.geojson_model.specs.Members.{named, need, type_name}
+use Rattle.json_members.specs.Readers.{Counting}
 use Rattle.geojson_model.specs.Reader.{Reader, and_then, gather, kept, or_fail, pure}
 use Rattle.geojson_types.specs.Features.{Shape}
-use Rattle.geojson_model.specs.Types.{geometry_type}
+use Rattle.geojson_model.specs.Types.{coordinates_type, geojson_type, geometry_type}
 use Rattle.json_cursor.specs.Answers.{Reads, Stops}
 use Rattle.json_cursor.specs.Members.{Members}
 use Rattle.json_cursor.proofs.Steps.{found_stops, made, made_reads, made_stops}
@@ -27,7 +32,7 @@ use Rattle.json_cursor.specs.declared.stop.Stop.TheVariants as stop
 use Rattle.geojson_reader.specs.Members.{Judges, type_in}
 
 -- readers that answer the same are judged by the same
-pub judges_same : {B : Type 0} (r s : Reader B) (old new : Counts) → r old ≡ s old → (result : Result B (Stop GeoFaultKind)) → Judges s old new result → Judges r old new result
+pub judges_same : {C E B : Type 0} (r s : Counting C E B) (old new : C) → r old ≡ s old → (result : Result B (Stop E)) → Judges s old new result → Judges r old new result
 judges_same r s old new e (Ok x) h = e ∙ h
 judges_same r s old new e (Err (stop.Fault k)) h = e ∙ h
 judges_same r s old new e (Err stop.NoValue) h = absurd h
@@ -62,32 +67,50 @@ module _ (exact : Bool) (type : CoordinatesType) (ms : Members) (c : Counts) whe
 -- ---- the type, where it is named once
 
 module _ (exact : Bool) (ms : Members) (c : Counts) where
-  abbrev the_fault : GeoFaultKind → Result GeometryType GeoFaultKind
+  abbrev the_fault : GeoFaultKind → Result GeoJsonType GeoFaultKind
   the_fault e = Err e
 
-  abbrev the_kind : GeometryType → Result GeometryType GeoFaultKind
-  the_kind kind = Ok kind
+  abbrev the_type : GeoJsonType → Result GeoJsonType GeoFaultKind
+  the_type type = Ok type
 
   -- what is read by the type, or its fault
-  abbrev by_type : Result GeometryType GeoFaultKind → Result (Option Shape × Counts) GeoFaultKind
-  by_type (Ok kind) = typed_geometry exact kind ms c
+  abbrev by_type : Result GeoJsonType GeoFaultKind → Result (Option Shape × Counts) GeoFaultKind
+  by_type (Ok (types.Geometry kind)) = typed_geometry exact kind ms c
+  by_type (Ok types.Feature) = Err UnknownType
+  by_type (Ok types.FeatureCollection) = Err UnknownType
   by_type (Err e) = Err e
 
-  by_kind : (o : Option GeometryType) → and_then (λ kind. typed_geometry exact kind ms) (pure (or_fail UnknownType o) c) ≡ by_type (or_fail UnknownType o)
+  by_kind : (o : Option GeometryType) → and_then (λ kind. typed_geometry exact kind ms) (pure (or_fail UnknownType o) c) ≡ by_type (or_fail UnknownType (map_some types.Geometry o))
   unfolding typed_geometry
   by_kind None = refl
   by_kind (Some kind) = refl
+
+  -- what is read by the name of the type
+  abbrev ByName : List ℕ → Type 0
+  ByName name = and_then (λ kind. typed_geometry exact kind ms) (pure (or_fail UnknownType (geometry_type name)) c) ≡ by_type (or_fail UnknownType (geojson_type name))
+
+  by_tests : (name : List ℕ) (one other : Bool) → bytes_eq name (codes "FeatureCollection") ≡ one → bytes_eq name (codes "Feature") ≡ other → ByName name
+  unfolding geojson_type geometry_type coordinates_type
+  by_tests name true other h k = rw ((bytes_eq-Decides name (codes "FeatureCollection")).0 h) refl
+  by_tests name false true h k = rw ((bytes_eq-Decides name (codes "Feature")).0 k) refl
+  by_tests name false false h k = rw (h, k) (by_kind (geometry_type name))
+
+  by_name : (name : List ℕ) → ByName name
+  by_name name = by_tests name (bytes_eq name (codes "FeatureCollection")) (bytes_eq name (codes "Feature")) refl refl
 
   module _ (v : Json) (one : named (codes "type") ms ≡ v ∷ []) where
     by_text : (o : Option (List ℕ)) → text_of v ≡ o → geometry exact ms c ≡ by_type (type_in o)
     unfolding geometry type_name
     by_text None is = rw (one, is) refl
-    by_text (Some name) is = rw (one, is) (by_kind (geometry_type name))
+    by_text (Some name) is = rw (one, is) (by_name name)
 
     pub faulty_type : (e : GeoFaultKind) → the_fault e ≡ type_in (text_of v) → geometry exact ms c ≡ Err e
     faulty_type e is = by_text (text_of v) refl ∙ ap by_type (sym is)
 
-    pub known_type : (kind : GeometryType) → the_kind kind ≡ type_in (text_of v) → geometry exact ms c ≡ typed_geometry exact kind ms c
+    pub other_type : (type : GeoJsonType) → the_type type ≡ type_in (text_of v) → by_type (Ok type) ≡ Err UnknownType → geometry exact ms c ≡ Err UnknownType
+    other_type type is h = by_text (text_of v) refl ∙ ap by_type (sym is) ∙ h
+
+    pub known_type : (kind : GeometryType) → the_type (types.Geometry kind) ≡ type_in (text_of v) → geometry exact ms c ≡ typed_geometry exact kind ms c
     known_type kind is = by_text (text_of v) refl ∙ ap by_type (sym is)
 
 -- ---- the geometries of a collection

@@ -1,5 +1,5 @@
 -- Members that are looked up, seen one after another.
-use Rattle.std.proofs.Common.{◌≡◌, ℕ, Bool, true, false, if◌then◌else◌, List, [], ◌∷◌, ◌++◌, Option, Some, Ok, Err, refl, sym, subst, ap, ◌∙◌}
+use Rattle.std.proofs.Common.{◌≡◌, ℕ, Bool, true, false, if◌then◌else◌, List, [], ◌∷◌, ◌++◌, Option, Some, Result, Ok, Err, Bor, refl, sym, subst, ap, ◌∙◌}
 use Rattle.std.specs.Prelude.{bytes_eq}
 use Rattle.std.proofs.lemmas.Slice.Eq.{bytes_eq-Decides}
 use Rattle.json_value.specs.declared.json.Json.{Json}
@@ -7,16 +7,18 @@ use Rattle.json_value.specs.Reading.{◌>>=◌}
 use Rattle.json_reading.proofs.Steps.{pair_is}
 use Rattle.geojson_types.specs.declared.counts.Counts.{Counts}
 use Rattle.geojson_model.specs.Members.{named}
-use Rattle.geojson_model.specs.Reader.{Reader}
+use Rattle.json_members.specs.Readers.{Counting}
 use Rattle.geojson_model.specs.declared.fault.GeoFaultKind.{GeoFaultKind}
 use Rattle.json_cursor.specs.Answers.{Reads, Stops}
 use Rattle.json_cursor.specs.declared.stop.Stop.{Stop}
 use Rattle.json_cursor.specs.declared.stop.Stop.TheVariants as stop
 use Rattle.json_cursor.specs.Arrays.{front_value}
-use Rattle.json_cursor.specs.Members.{Members, front_member}
+use Rattle.json_reading.specs.declared.fault.Fault.{Fault}
+use Rattle.text_checking.proofs.Passed.{first_fails}
+use Rattle.json_cursor.specs.Members.{GoesOn, Made, Members, front_member}
 use Rattle.geojson_reader.specs.declared.seen.Seen.{Seen}
 use Rattle.geojson_reader.specs.declared.seen.Seen.TheVariants.{Never, Once, Again}
-use Rattle.geojson_reader.specs.Members.{IsSeen, Judges, see}
+use Rattle.geojson_reader.specs.Members.{IsSeen, Judges, Sees, see}
 
 by_test : (t : Bool) (v : Json) (us vs ws : List Json) → us ≡ vs ++ ws → (if t then v ∷ us else us) ≡ (if t then v ∷ vs else vs) ++ ws
 by_test true v us vs ws e = ap (λ xs. v ∷ xs) e
@@ -66,13 +68,19 @@ pub member_found : (d : ℕ) (bytes name value rest : List ℕ) (v : Json) → f
     → front_member d bytes ≡ Some ((name, v), rest)
 member_found d bytes name value rest v named found = named ∙ rw found refl
 
+-- and what goes on with it
+pub member_sees : {S : Type 0} (Holds : Made S) (d : ℕ) (bytes name value : List ℕ) (before after : S) → front_member d bytes ≡ (front_value d value >>= λ x. Some ((name, x.0), x.1)) → (result : Result (Bor (List ℕ)) Fault)
+    → Sees Holds d name value before after result → GoesOn Holds d before after bytes result
+member_sees Holds d bytes name value before after named (Ok rest) s = record { member = (name, s.0); front = member_found d bytes name value rest.now s.0 named s.1; holds = s.2 }
+member_sees Holds d bytes name value before after named (Err fault) h = rw named (first_fails (front_value d value) _ fault h)
+
 -- what is answered of the value that is known to stand at a front
-pub judged : {B : Type 0} (read : Json → Reader B) (front : Option (Json × List ℕ)) (v : Json) (rest : List ℕ) (old new : Counts) → front ≡ Some (v, rest)
-    → (why : Stop GeoFaultKind) → Stops read front old why → Judges (read v) old new (Err why)
+pub judged : {C E B : Type 0} (read : Json → Counting C E B) (front : Option (Json × List ℕ)) (v : Json) (rest : List ℕ) (old new : C) → front ≡ Some (v, rest)
+    → (why : Stop E) → Stops read front old why → Judges (read v) old new (Err why)
 judged read front v rest old new is (stop.Fault e) h = h v rest is
 judged read front v rest old new is stop.NoValue h = let wrong = sym h ∙ is in cc
 judged read front v rest old new is stop.Memory h = tt
 
-pub judged_read : {B : Type 0} (read : Json → Reader B) (front : Option (Json × List ℕ)) (v : Json) (rest : List ℕ) (old new : Counts) → front ≡ Some (v, rest)
+pub judged_read : {C E B : Type 0} (read : Json → Counting C E B) (front : Option (Json × List ℕ)) (v : Json) (rest : List ℕ) (old new : C) → front ≡ Some (v, rest)
     → (x : B) (end : List ℕ) → Reads read front x end old new → read v old ≡ Ok (x, new)
 judged_read read front v rest old new is x end r = ap (λ w. read w old) (pair_is v rest (r.value, end) (sym is ∙ r.front_is)).0 ∙ r.means

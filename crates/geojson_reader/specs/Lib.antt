@@ -1,2 +1,4 @@
+pub mod Features
+pub mod Layers
 pub mod Members
 pub mod Positions

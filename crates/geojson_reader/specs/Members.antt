@@ -1,5 +1,5 @@
 -- Members of objects that are looked up, as they were seen among the others.
-use Rattle.std.specs.Prelude.{◌≡◌, ℕ, ◌-◌, List, [], ◌∷◌, Option, Some, None, Result, Ok, Err, codes}
+use Rattle.std.specs.Prelude.{◌≡◌, ℕ, ◌-◌, List, [], ◌∷◌, ◌++◌, Option, Some, None, Result, Ok, Err, codes}
 use Rattle.std.specs.Borrow.{Bor}
 use Rattle.json_value.specs.declared.json.Json.{Json}
 use Rattle.json_value.specs.Kinds.{text_of}
@@ -11,16 +11,17 @@ use Rattle.geojson_types.specs.declared.counts.Counts.{Counts}
 use Rattle.geojson_types.specs.Features.{Shape}
 use Rattle.geojson_model.specs.Geometries.{coordinates_shape}
 use Rattle.geojson_model.specs.Members.{named}
-use Rattle.geojson_model.specs.Reader.{Reader, or_fail}
-use Rattle.geojson_model.specs.Types.{geometry_type}
+use Rattle.json_members.specs.Readers.{Counting}
+use Rattle.geojson_model.specs.Reader.{or_fail}
+use Rattle.geojson_model.specs.Types.{geojson_type}
 use Rattle.geojson_model.specs.declared.fault.GeoFaultKind.{GeoFaultKind}
 use Rattle.geojson_model.specs.declared.fault.GeoFaultKind.TheVariants.{UnknownType, WrongKind}
 use Rattle.geojson_model.specs.declared.types.CoordinatesType.{CoordinatesType}
-use Rattle.geojson_model.specs.declared.types.GeometryType.{GeometryType}
+use Rattle.geojson_model.specs.declared.types.GeoJsonType.{GeoJsonType}
 use Rattle.json_cursor.specs.declared.stop.Stop.{Stop}
 use Rattle.json_cursor.specs.declared.stop.Stop.TheVariants as stop
 use Rattle.json_cursor.specs.Arrays.{front_value}
-use Rattle.json_cursor.specs.Members.{Members}
+use Rattle.json_cursor.specs.Members.{Made, Members}
 use Rattle.geojson_reader.specs.declared.seen.Seen.{Seen}
 use Rattle.geojson_reader.specs.declared.seen.Seen.TheVariants.{Never, Once, Again}
 use Rattle.geojson_reader.specs.declared.geometries.Coordinates.{Coordinates}
@@ -49,8 +50,14 @@ abbrev pub Meets : {A : Type 0} → (Json → A → Type 0) → ℕ → List ℕ
 Meets Is d bytes (Ok x) = (v : Json) × (front_value d bytes ≡ Some (v, x.1.now)) × Is v x.0
 Meets Is d bytes (Err fault) = Fails fault (front_value d bytes)
 
+-- A value stands there, and then the rest, and what holds of members goes on to hold with a member of this name and that value. Or none
+-- stands there, or nothing is said.
+abbrev pub Sees : {S : Type 0} → Made S → ℕ → List ℕ → List ℕ → S → S → Result (Bor (List ℕ)) Fault → Type 0
+Sees Holds d name value before after (Ok rest) = (v : Json) × (front_value d value ≡ Some (v, rest.now)) × ((ms : Members) → Holds ms before → Holds (ms ++ (name, v) ∷ []) after)
+Sees Holds d name value before after (Err fault) = Fails fault (front_value d value)
+
 -- this is read, or the fault is the reader's, or nothing is said
-abbrev pub Judges : {B : Type 0} → Reader B → Counts → Counts → Result B (Stop GeoFaultKind) → Type 0
+abbrev pub Judges : {C E B : Type 0} → Counting C E B → C → C → Result B (Stop E) → Type 0
 Judges read old new (Ok x) = read old ≡ Ok (x, new)
 Judges read old new (Err (stop.Fault e)) = read old ≡ Err e
 Judges read old new (Err stop.NoValue) = ⊥
@@ -59,11 +66,11 @@ Judges read old new (Err stop.Memory) = Unit {0}
 -- ---- the members of a geometry
 
 -- the type that the value of the member `type` names
-abbrev pub type_in : Option (List ℕ) → Result GeometryType GeoFaultKind
+abbrev pub type_in : Option (List ℕ) → Result GeoJsonType GeoFaultKind
 type_in None = Err WrongKind
-type_in (Some name) = or_fail UnknownType (geometry_type name)
+type_in (Some name) = or_fail UnknownType (geojson_type name)
 
-abbrev pub IsType : Json → Result GeometryType GeoFaultKind → Type 0
+abbrev pub IsType : Json → Result GeoJsonType GeoFaultKind → Type 0
 IsType v type = type ≡ type_in (text_of v)
 
 -- what the value of `coordinates` is read as by this type, from these counts on

@@ -8,14 +8,15 @@ ghost use Rattle.json_cursor.specs.Answers.{Answers, Reads};
 ghost use Rattle.json_cursor.specs.Arrays.{front_elements, front_value};
 ghost use Rattle.geojson_model.specs.Members.{named};
 ghost use Rattle.geojson_model.specs.declared.types.GeometryType.TheVariants as types;
-ghost use Rattle.geojson_reader.specs.Members.{BeginsCollection, IsCoordinates, IsFront, IsParts, IsRead, IsSeen, IsTaken, IsType, Judges, Meets};
+ghost use Rattle.json_cursor.specs.Names.{name_of};
+ghost use Rattle.geojson_reader.specs.Members.{BeginsCollection, IsCoordinates, IsFront, IsParts, IsRead, IsSeen, IsTaken, IsType, Judges, Meets, Sees};
 ghost use Rattle.geojson_reader.specs.declared.geometries.Start.{Start as Begun};
 
 use crate::seen::Seen;
 use crate::shapes::coordinates_at;
-use geojson_model::{CoordinatesType, GeoFaultKind, GeometryType, geometry_type};
+use geojson_model::{CoordinatesType, GeoFaultKind, GeoJsonType, GeometryType, geojson_type};
 use geojson_types::{Counts, Shape};
-use json_cursor::{Mark, Members, Stop, behind_byte, mark_at, name_at, object_at, string_at};
+use json_cursor::{Mark, Members, Name, Stop, behind_byte, mark_at, name_at, object_at, string_at};
 use json_reading::{Fault, Why, skip};
 use json_value::Items;
 use std::alloc::{AllocFailed, Global};
@@ -46,24 +47,24 @@ pub struct Coordinates<'a> {
 /// What was seen of the members of a geometry.
 #[derive(Drop)]
 pub struct Parts<'a> {
-    kind: Seen<Result<GeometryType, GeoFaultKind>>,
+    pub kind: Seen<Result<GeoJsonType, GeoFaultKind>>,
     coordinates: Seen<Coordinates<'a>>,
     geometries: Seen<&'a [u8]>,
 }
 
 /// The type that the value at the front names, or its fault, and what follows it.
-fn type_at<'a>(
+pub(crate) fn type_at<'a>(
     alloc: Global,
     deep: u32,
     bytes: &'a [u8],
-) -> Result<(Result<GeometryType, GeoFaultKind>, &'a [u8]), Fault>
+) -> Result<(Result<GeoJsonType, GeoFaultKind>, &'a [u8]), Fault>
     ensures { Meets IsType deep bytes.now result }
 {
     let Some((name, rest)) = string_at(alloc, bytes)? else {
         let rest = after_value(alloc, deep, bytes)?;
         return Ok((Err(GeoFaultKind::WrongKind), rest));
     };
-    match geometry_type(name.as_str()) {
+    match geojson_type(name.as_str()) {
         None => Ok((Err(GeoFaultKind::UnknownType), rest)),
         Some(kind) => Ok((Ok(kind), rest)),
     }
@@ -142,13 +143,13 @@ fn coordinates_member<'a>(
     alloc: Global,
     deep: u32,
     start: Start,
-    kind: &Seen<Result<GeometryType, GeoFaultKind>>,
+    kind: &Seen<Result<GeoJsonType, GeoFaultKind>>,
     bytes: &'a [u8],
 ) -> Result<(Coordinates<'a>, &'a [u8]), Fault>
     ensures { Meets (IsCoordinates start deep) deep bytes.now result }
 {
     match kind {
-        Seen::Once(Ok(GeometryType::Coordinates(kind))) => read_at(
+        Seen::Once(Ok(GeoJsonType::Geometry(GeometryType::Coordinates(kind)))) => read_at(
             alloc, deep, start, *kind, bytes,
         ),
         _ => passed_at(alloc, deep, start, bytes),
@@ -157,7 +158,7 @@ fn coordinates_member<'a>(
 
 impl<'a> Parts<'a> {
     /// Of no members.
-    fn none() -> Parts<'a>
+    pub(crate) fn none() -> Parts<'a>
         ensures { (start : Begun) (deep : ℕ) → IsParts start deep [] result }
     {
         Parts {
@@ -165,6 +166,34 @@ impl<'a> Parts<'a> {
             coordinates: Seen::Never,
             geometries: Seen::Never,
         }
+    }
+
+    /// Goes on with one of this name, whose value is at the front.
+    pub(crate) fn see(
+        &mut self,
+        alloc: Global,
+        deep: u32,
+        name: &Name<'a>,
+        value: &'a [u8],
+        start: Start,
+    ) -> Result<&'a [u8], Fault>
+        ensures { Sees (IsParts start deep) deep (name_of name.now) value.now self.old self.new result }
+    {
+        if name.is("type") {
+            let (kind, rest) = type_at(alloc, deep, value)?;
+            self.kind.see(kind);
+            return Ok(rest);
+        }
+        if name.is("coordinates") {
+            let (found, rest) = coordinates_member(alloc, deep, start, &self.kind, value)?;
+            self.coordinates.see(found);
+            return Ok(rest);
+        }
+        let rest = after_value(alloc, deep, value)?;
+        if name.is("geometries") {
+            self.geometries.see(value);
+        }
+        Ok(rest)
     }
 }
 
@@ -181,21 +210,7 @@ impl<'a> Members<'a> for Parts<'a> {
         with: Start,
     ) -> Result<&'a [u8], Fault> {
         let (name, value) = name_at(alloc, bytes)?;
-        if name.is("type") {
-            let (kind, rest) = type_at(alloc, deep, value)?;
-            self.kind.see(kind);
-            return Ok(rest);
-        }
-        if name.is("coordinates") {
-            let (found, rest) = coordinates_member(alloc, deep, with, &self.kind, value)?;
-            self.coordinates.see(found);
-            return Ok(rest);
-        }
-        let rest = after_value(alloc, deep, value)?;
-        if name.is("geometries") {
-            self.geometries.see(value);
-        }
-        Ok(rest)
+        self.see(alloc, deep, &name, value, with)
     }
 }
 
@@ -354,7 +369,7 @@ fn group_of(
 
 /// The geometry of these members.
 #[cycle(geometries)]
-fn shape_of(
+pub(crate) fn shape_of(
     alloc: Global,
     deep: u32,
     parts: Parts<'_>,
@@ -373,11 +388,15 @@ fn shape_of(
         Seen::Again => Err(Stop::Fault(GeoFaultKind::Duplicate)),
         Seen::Once(named) => match named {
             Err(fault) => Err(Stop::Fault(fault)),
-            Ok(geometry) => match geometry {
-                GeometryType::Collection => group_of(alloc, deep, geometries, start, counts),
-                GeometryType::Coordinates(kind) => {
-                    coordinates_of(alloc, deep, kind, coordinates, start, counts)
-                }
+            Ok(kind) => match kind {
+                GeoJsonType::FeatureCollection => Err(Stop::Fault(GeoFaultKind::UnknownType)),
+                GeoJsonType::Feature => Err(Stop::Fault(GeoFaultKind::UnknownType)),
+                GeoJsonType::Geometry(geometry) => match geometry {
+                    GeometryType::Collection => group_of(alloc, deep, geometries, start, counts),
+                    GeometryType::Coordinates(kind) => {
+                        coordinates_of(alloc, deep, kind, coordinates, start, counts)
+                    }
+                },
             },
         },
     }

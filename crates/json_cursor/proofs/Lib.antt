@@ -1,7 +1,9 @@
 pub mod Steps
+pub mod WholeTexts
 pub mod Lists
 pub mod Openings
 pub mod FoldedSoFar
+pub mod FrontKinds
 pub mod ArrayParts
 pub mod LedParts
 pub mod MemberParts

@@ -1,5 +1,7 @@
 pub mod Answers
 pub mod Arrays
 pub mod Folds
+pub mod Kinds
 pub mod Members
 pub mod Names
+pub mod Texts

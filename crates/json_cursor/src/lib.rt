@@ -6,16 +6,20 @@
 
 mod elements;
 mod folds;
+mod kinds;
 mod marks;
 mod members;
 mod names;
 mod passing;
 mod stop;
+mod texts;
 
 pub use elements::{Element, array_at, led_array_at, some_array_at};
 pub use folds::{Elements, folded_array_at, folded_at, folded_some_at};
+pub use kinds::{Kind, kind_at};
 pub use marks::{Mark, Opening, behind_byte, mark_at, opening_at};
 pub use members::{Members, members_at, object_at};
 pub use names::{Name, name_at, string_at};
 pub use passing::after_elements;
 pub use stop::Stop;
+pub use texts::{Refusal, Whole, read_text};

@@ -5,12 +5,23 @@ use Rattle.json_value.specs.declared.json.Json.{Json}
 use Rattle.json_value.specs.Grammar.{Reads}
 use Rattle.geojson_types.specs.declared.counts.Counts.{Counts}
 use Rattle.geojson_types.specs.declared.layer.Layer.{Layer}
+use Rattle.geojson_types.specs.Features.{Featured}
 use Rattle.geojson_model.specs.declared.fault.GeoFaultKind.TheVariants as geo
 use Rattle.geojson_model.specs.Layers.{layer}
-pub use Rattle.layer_scanning.specs.CollectionParts.{layer_depth, SpellsLayer}
 use Rattle.inputs.specs.declared.fault.BuildFault.{BuildFault}
 use Rattle.inputs.specs.declared.fault.BuildFault.TheVariants.{EmptyName, DuplicateName, Read, Json as Text, Geo, Write, Memory}
 use Rattle.inputs.specs.Texts.{IsNoText, IsRead, IsUntroubled, FailsToEnd}
+
+-- how deep the arrays and objects of a layer may nest
+abbrev pub layer_depth : ℕ
+layer_depth = 127
+
+-- the bytes are UTF-8 and spell a JSON value (RFC 8259) that stands for a layer (RFC 7946) of these features, and this is counted in it
+pub record SpellsLayer (exact : Bool) (bytes : List ℕ) (features : List Featured) (counts : Counts) : Type 0 where
+  pub utf8 : IsUtf8 bytes
+  pub value : Json
+  pub spelled : Reads layer_depth bytes value
+  pub stands : layer exact value ≡ Ok (features, counts)
 
 -- why the bytes of the layer of this number spell no layer
 abbrev pub IsNoLayer : ℕ → Bool → List ℕ → BuildFault → Type 0

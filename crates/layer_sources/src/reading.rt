@@ -1,80 +1,18 @@
 // Reading layers.
-ghost use Rattle.std.specs.Prelude.{◌≡◌, Bool, IfErr, IfSome, MatchResult};
-ghost use Rattle.layer_sources.specs.Reading.{IsLayerOf, IsNoLayer, ReadsLayer, SpellsLayer};
+ghost use Rattle.std.specs.Prelude.{◌≡◌, MatchResult};
+ghost use Rattle.layer_sources.specs.Reading.{IsLayerOf, ReadsLayer};
 ghost use Rattle.layer_sources.specs.Sources.{plus, AllReadTo, FailsToReadAll};
 
 use byte_ends::{Feed, MAX_INPUT, ReadFault, Source, read_all};
-use collection_reading::{Refusal, read_collection};
-use geojson_model::{Counts, GeoFaultKind, Layer, read_layer};
+use geojson_model::{Counts, GeoFaultKind, Layer};
+use geojson_reader::read_layer_text;
 use inputs::BuildFault;
-use json_reading::{JsonFault, LAYER_DEPTH, parse};
+use json_cursor::Refusal;
+use json_reading::JsonFault;
 use json_value::OwnText;
-use layer_scanning::scan_layer;
 use std::alloc::Global;
-use text_checking::check;
-use unit_scanning::Halt;
 
-/// Checks that the bytes of the layer of this number spell a JSON value.
-fn check_text(alloc: Global, bytes: &[u8], layer: usize) -> Result<(), BuildFault>
-    ensures { IfErr result (λ e. (exact : Bool) → IsNoLayer layer exact bytes.now e) }
-{
-    match check(alloc, bytes, LAYER_DEPTH) {
-        Ok(()) => Ok(()),
-        Err(JsonFault::Memory) => Err(BuildFault::Memory),
-        Err(fault) => Err(BuildFault::Json { layer, fault }),
-    }
-}
-
-/// The layer of this number that the bytes spell, where they spell a FeatureCollection, or what is wrong with it. None for any other layer.
-fn collection_of(
-    alloc: Global,
-    bytes: &[u8],
-    layer: usize,
-    exact: bool,
-) -> Result<Option<(Layer, Counts)>, BuildFault>
-    ensures { MatchResult result (λ read. IfSome read (λ r. SpellsLayer exact bytes.now r.0.features r.1)) (λ e. IsNoLayer layer exact bytes.now e) }
-{
-    match read_collection(alloc, bytes, exact) {
-        Ok(read) => Ok(Some(read)),
-        Err(Refusal::Unread) => Ok(None),
-        Err(Refusal::Memory) => Err(BuildFault::Memory),
-        Err(Refusal::Geo(fault)) => {
-            if fault.kind == GeoFaultKind::Memory {
-                return Err(BuildFault::Memory);
-            }
-            Err(BuildFault::Geo { layer, fault })
-        }
-    }
-}
-
-/// The layer of this number that the value of the bytes stands for.
-fn value_layer(
-    alloc: Global,
-    bytes: &[u8],
-    layer: usize,
-    exact: bool,
-) -> Result<(Layer, Counts), BuildFault>
-    ensures { IsLayerOf layer exact bytes.now result }
-{
-    let value = match parse(alloc, bytes, LAYER_DEPTH) {
-        Ok(value) => value,
-        Err(JsonFault::Memory) => return Err(BuildFault::Memory),
-        Err(fault) => return Err(BuildFault::Json { layer, fault }),
-    };
-    match read_layer(alloc, value, exact) {
-        Ok(read) => Ok(read),
-        Err(fault) => {
-            if fault.kind == GeoFaultKind::Memory {
-                return Err(BuildFault::Memory);
-            }
-            Err(BuildFault::Geo { layer, fault })
-        }
-    }
-}
-
-/// The layer of this number that the bytes spell, and what was counted in it: read straight from the bytes where they are written as
-/// most programs write layers. Else the text is checked first, and then read feature by feature where it is a FeatureCollection, or by way
-/// of its JSON value where it is one feature: these tell what is wrong, if anything is.
+/// The layer of this number that the bytes spell, and what was counted in it; or why they spell none.
 fn layer_of(
     alloc: Global,
     bytes: &[u8],
@@ -83,16 +21,22 @@ fn layer_of(
 ) -> Result<(Layer, Counts), BuildFault>
     ensures { IsLayerOf layer exact bytes.now result }
 {
-    match scan_layer(alloc, bytes, exact) {
-        Ok(read) => return Ok(read),
-        Err(Halt::Memory) => return Err(BuildFault::Memory),
-        Err(Halt::Unread) => {}
+    match read_layer_text(alloc, bytes, exact) {
+        Ok(read) => Ok(read),
+        Err(Refusal::Memory) => Err(BuildFault::Memory),
+        Err(Refusal::Text(fault)) => {
+            if fault == JsonFault::Memory {
+                return Err(BuildFault::Memory);
+            }
+            Err(BuildFault::Json { layer, fault })
+        }
+        Err(Refusal::Meaning(fault)) => {
+            if fault.kind == GeoFaultKind::Memory {
+                return Err(BuildFault::Memory);
+            }
+            Err(BuildFault::Geo { layer, fault })
+        }
     }
-    check_text(alloc, bytes, layer)?;
-    if let Some(read) = collection_of(alloc, bytes, layer, exact)? {
-        return Ok(read);
-    }
-    value_layer(alloc, bytes, layer, exact)
 }
 
 /// Reads a source to its end, and gives the layer of this number that its bytes spell.

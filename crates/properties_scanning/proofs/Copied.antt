@@ -73,17 +73,13 @@ module _ (d : ℕ) (bytes rest old new : List ℕ) where
       text = c.text ∙ ap (λ z. z ++ members_text c.thing) pushed ∙ append_assoc old (codes "{") (members_text c.thing) ∙ ap (λ z. old ++ z) (sym (text-object c.thing));
     }
 
-colon_is : (bytes behind : List ℕ) → bytes ≡ 58 ∷ behind → Some behind ≡ after_word (58 ∷ []) bytes
-unfolding after_word
-colon_is bytes behind h = rw h refl
-
 member_text_is : (old name value : List ℕ) → ((old ++ quoted name) ++ codes ":") ++ value ≡ old ++ (name_text name ++ value)
 member_text_is old name value = ap (λ z. z ++ value) (append_assoc old (quoted name) (codes ":")) ∙ append_assoc old (name_text name) value
 
-pub member_copied : (d : ℕ) (bytes name_end behind rest old mid colon new : List ℕ) → Copies (name_at any) quoted bytes name_end old mid → skip name_end ≡ 58 ∷ behind → colon ≡ mid ++ codes ":"
+pub member_copied : (d : ℕ) (bytes name_end behind rest old mid colon new : List ℕ) → Copies (name_at any) quoted bytes name_end old mid → Some behind ≡ after_word (58 ∷ []) (skip name_end) → colon ≡ mid ++ codes ":"
     → Copies (value_at any d) json_text (skip behind) rest colon new → Copies (member_at any (value_at any d)) whole_member bytes rest old new
 member_copied d bytes name_end behind rest old mid colon new n h pushed v = record {
   thing = (n.thing, v.thing);
-  found = member_found any (value_at any d) bytes n.thing name_end n.found behind (colon_is (skip name_end) behind h) v.thing rest v.found;
+  found = member_found any (value_at any d) bytes n.thing name_end n.found behind h v.thing rest v.found;
   text = v.text ∙ ap (λ z. z ++ json_text v.thing) (pushed ∙ ap (λ z. z ++ codes ":") n.text) ∙ member_text_is old n.thing (json_text v.thing);
 }

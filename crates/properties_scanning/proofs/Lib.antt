@@ -1,4 +1,5 @@
 pub mod Copied
+pub mod Failed
 pub mod Lists
 pub mod Quoted
 pub mod Texts

@@ -1,11 +1,14 @@
 -- What stands at the front of bytes, and is copied in the one text that is written for it.
-use Rattle.std.specs.Prelude.{◌≡◌, ℕ, nat_le, ◌&&◌, Bool, List, ◌++◌, map, codes, Some}
+use Rattle.std.specs.Prelude.{◌≡◌, ℕ, nat_le, ◌&&◌, Bool, List, ◌++◌, map, codes, Some, Result, Ok, Err}
+use Rattle.std.specs.Borrow.{Bor}
 use Rattle.std.specs.Str.{is_utf8}
 use Rattle.list_laws.specs.Commas.{comma_separated}
 use Rattle.json_value.specs.declared.json.Json.{Json}
 use Rattle.json_value.specs.Grammar.{is_plain}
 use Rattle.json_value.specs.Text.{json_text, member_text}
 use Rattle.json_value.specs.Reading.{Parse}
+use Rattle.json_reading.specs.declared.fault.Fault.{Fault}
+use Rattle.json_reading.specs.Gives.{Fails}
 
 -- the texts that are taken: those that are UTF-8
 abbrev pub any : List ℕ → Bool
@@ -32,3 +35,8 @@ pub record Copies {A : Type 0} (read : Parse A) (written : A → List ℕ) (byte
   pub thing : A
   pub found : read bytes ≡ Some (thing, rest)
   pub text : new ≡ old ++ written thing
+
+-- the same, and what stands behind it; or nothing of that kind stands there, or nothing is said
+abbrev pub CopiesOr : {A : Type 0} → Parse A → (A → List ℕ) → List ℕ → List ℕ → List ℕ → Result (Bor (List ℕ)) Fault → Type 0
+CopiesOr read written bytes old new (Ok rest) = Copies read written bytes rest.now old new
+CopiesOr read written bytes old new (Err fault) = Fails fault (read bytes)

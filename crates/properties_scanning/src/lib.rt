@@ -6,8 +6,10 @@
 #![tactic(auto)]
 
 mod properties;
+mod reading;
 mod strings;
 mod values;
 
 pub use properties::properties_at;
+pub use reading::read_properties;
 pub use values::copy_value;

@@ -1,16 +1,18 @@
 // Strings (RFC 8259, section 7).
-ghost use Rattle.std.specs.Prelude.{◌≡◌, ◌++◌, IfOk, OnOk};
+ghost use Rattle.std.specs.Prelude.{◌≡◌, ◌++◌, MatchResult};
 ghost use Rattle.std.specs.List.{prefix_len};
 ghost use Rattle.json_value.specs.Text.{quoted};
 ghost use Rattle.json_value.specs.Reading.{name_at, string_at as string_front};
-ghost use Rattle.properties_scanning.specs.Copying.{Copies, any, is_simple};
+ghost use Rattle.json_reading.specs.declared.fault.Fault.TheVariants.{Memory};
+ghost use Rattle.properties_scanning.specs.Copying.{CopiesOr, any, is_simple};
 
 use byte_ends::{MemoryDrain, Sink};
-use json_reading::{plain_run, string_at};
+use crate::values::broken;
+use json_reading::{Fault, next, plain_run, string_at};
 use json_writer::write_text;
 use simdutf8::compat;
 use std::alloc::Global;
-use unit_scanning::{Halt, after_byte};
+use unit_scanning::after_byte;
 
 /// An ASCII byte that stands for itself.
 fn is_simple(byte: u8) -> bool
@@ -32,12 +34,12 @@ fn simple_len(bytes: &[u8]) -> usize
 }
 
 /// Puts the string that is written for the characters behind the text.
-fn push_quoted(alloc: Global, characters: &str, text: &mut Vec<u8>) -> Result<(), Halt>
-    ensures { OnOk result (text.new.items ≡ text.old.items ++ quoted characters.now) }
+fn push_quoted(alloc: Global, characters: &str, text: &mut Vec<u8>) -> Result<(), Fault>
+    ensures { MatchResult result (λ _. text.new.items ≡ text.old.items ++ quoted characters.now) (λ fault. fault ≡ Memory) }
 {
     let mut sink = Sink::new(MemoryDrain::new(alloc));
     if write_text(characters, &mut sink).is_err() {
-        return Err(Halt::Memory);
+        return Err(Fault::Memory);
     }
     let drain = sink.into_inner();
     text.extend_from_slice(drain.as_slice())?;
@@ -45,8 +47,8 @@ fn push_quoted(alloc: Global, characters: &str, text: &mut Vec<u8>) -> Result<()
 }
 
 /// Copies a string with escapes, behind its first quotation mark, by its characters.
-fn copy_escaped<'a>(alloc: Global, inside: &'a [u8], text: &mut Vec<u8>) -> Result<&'a [u8], Halt>
-    ensures { IfOk result (λ rest. Copies (string_front any) quoted inside.now rest.now text.old.items text.new.items) }
+fn copy_escaped<'a>(alloc: Global, inside: &'a [u8], text: &mut Vec<u8>) -> Result<&'a [u8], Fault>
+    ensures { CopiesOr (string_front any) quoted inside.now text.old.items text.new.items result }
 {
     let (characters, rest) = string_at(alloc, inside)?;
     push_quoted(alloc, characters.as_str(), text)?;
@@ -58,15 +60,15 @@ fn copy_characters<'a>(
     alloc: Global,
     inside: &'a [u8],
     text: &mut Vec<u8>,
-) -> Result<&'a [u8], Halt>
-    ensures { IfOk result (λ rest. Copies (string_front any) quoted inside.now rest.now text.old.items text.new.items) }
+) -> Result<&'a [u8], Fault>
+    ensures { CopiesOr (string_front any) quoted inside.now text.old.items text.new.items result }
 {
     let (run, behind) = plain_run(inside);
     let Some(rest) = after_byte(b'"', behind) else {
         return copy_escaped(alloc, inside, text);
     };
     if compat::from_utf8(run).is_err() {
-        return Err(Halt::Unread);
+        return copy_escaped(alloc, inside, text);
     }
     text.push(b'"')?;
     text.extend_from_slice(run)?;
@@ -75,12 +77,15 @@ fn copy_characters<'a>(
 }
 
 /// Copies the string at the front, with its quotation marks, and gives what follows it.
-pub fn copy_string<'a>(alloc: Global, bytes: &'a [u8], text: &mut Vec<u8>) -> Result<&'a [u8], Halt>
-    ensures { IfOk result (λ rest. Copies (name_at any) quoted bytes.now rest.now text.old.items text.new.items) }
+pub fn copy_string<'a>(alloc: Global, bytes: &'a [u8], text: &mut Vec<u8>) -> Result<&'a [u8], Fault>
+    ensures { CopiesOr (name_at any) quoted bytes.now text.old.items text.new.items result }
 {
-    let Some(inside) = after_byte(b'"', bytes) else {
-        return Err(Halt::Unread);
+    let Some((quote, inside)) = next(bytes) else {
+        return Err(broken(bytes));
     };
+    if quote != b'"' {
+        return Err(broken(bytes));
+    }
     let length = simple_len(inside);
     let (_, behind) = inside.split_at(length);
     let Some(rest) = after_byte(b'"', behind) else {

@@ -1,28 +1,38 @@
 // Values (RFC 8259, sections 3 to 6).
-ghost use Rattle.std.specs.Prelude.{◌≡◌, ◌++◌, IfOk, length};
+ghost use Rattle.std.specs.Prelude.{◌≡◌, ◌++◌, MatchResult, length};
 ghost use Rattle.json_value.specs.Text.{json_text};
 ghost use Rattle.json_value.specs.Reading as reading;
-ghost use Rattle.properties_scanning.specs.Copying.{Copies, any, elements_text, members_text, whole_member};
+ghost use Rattle.json_reading.specs.Gives.{Fails, IsMalformed};
+ghost use Rattle.properties_scanning.specs.Copying.{CopiesOr, any, elements_text, members_text, whole_member};
 
 use crate::strings::copy_string;
-use json_reading::{after_number, after_word, next, skip};
+use json_reading::{Fault, Why, after_number, after_word, next, skip};
 use std::alloc::Global;
-use unit_scanning::{Halt, expected};
+
+/// The fault of bytes that go on as no value does.
+pub(crate) fn broken(left: &[u8]) -> Fault
+    ensures { IsMalformed result }
+{
+    Fault::Malformed {
+        why: Why::Syntax,
+        left: left.len(),
+    }
+}
 
 /// Copies the word at the front, and gives what follows it.
-fn copy_word<'a>(word: &[u8], bytes: &'a [u8], text: &mut Vec<u8>) -> Result<&'a [u8], Halt>
-    ensures { IfOk result (λ rest. (bytes.now ≡ word.now ++ rest.now) × (text.new.items ≡ text.old.items ++ word.now)) }
+fn copy_word<'a>(word: &[u8], bytes: &'a [u8], text: &mut Vec<u8>) -> Result<&'a [u8], Fault>
+    ensures { MatchResult result (λ rest. (bytes.now ≡ word.now ++ rest.now) × (text.new.items ≡ text.old.items ++ word.now)) (λ fault. Fails fault (reading.after_word word.now bytes.now)) }
 {
     let Some(rest) = after_word(word, bytes) else {
-        return Err(Halt::Unread);
+        return Err(broken(bytes));
     };
     text.extend_from_slice(word)?;
     Ok(rest)
 }
 
 /// Copies the number at the front by its own text, and gives what follows it.
-fn copy_number<'a>(bytes: &'a [u8], text: &mut Vec<u8>) -> Result<&'a [u8], Halt>
-    ensures { IfOk result (λ rest. Copies reading.number_at (λ t. t) bytes.now rest.now text.old.items text.new.items) }
+fn copy_number<'a>(bytes: &'a [u8], text: &mut Vec<u8>) -> Result<&'a [u8], Fault>
+    ensures { CopiesOr reading.number_at (λ t. t) bytes.now text.old.items text.new.items result }
 {
     let rest = after_number(bytes)?;
     let (number, _) = bytes.split_at(bytes.len() - rest.len());
@@ -38,11 +48,11 @@ pub fn copy_value<'a>(
     deepest: u32,
     bytes: &'a [u8],
     text: &mut Vec<u8>,
-) -> Result<&'a [u8], Halt>
-    ensures { IfOk result (λ rest. Copies (reading.value_at any deepest) json_text bytes.now rest.now text.old.items text.new.items) }
+) -> Result<&'a [u8], Fault>
+    ensures { CopiesOr (reading.value_at any deepest) json_text bytes.now text.old.items text.new.items result }
 {
     let Some((first, inside)) = next(bytes) else {
-        return Err(Halt::Unread);
+        return Err(broken(bytes));
     };
     match first {
         b'n' => return copy_word(b"null", bytes, text),
@@ -51,14 +61,14 @@ pub fn copy_value<'a>(
         b'"' => return copy_string(alloc, bytes, text),
         b'[' => {
             if deepest == 0 {
-                return Err(Halt::Unread);
+                return Err(broken(bytes));
             }
             text.push(b'[')?;
             return copy_array(alloc, deepest - 1, inside, text);
         }
         b'{' => {
             if deepest == 0 {
-                return Err(Halt::Unread);
+                return Err(broken(bytes));
             }
             text.push(b'{')?;
             return copy_object(alloc, deepest - 1, inside, text);
@@ -75,8 +85,8 @@ fn copy_array<'a>(
     deepest: u32,
     inside: &'a [u8],
     text: &mut Vec<u8>,
-) -> Result<&'a [u8], Halt>
-    ensures { IfOk result (λ rest. Copies (reading.array_at any deepest) elements_text inside.now rest.now text.old.items text.new.items) }
+) -> Result<&'a [u8], Fault>
+    ensures { CopiesOr (reading.array_at any deepest) elements_text inside.now text.old.items text.new.items result }
 {
     if let Some(rest) = after_word(b"]", skip(inside)) {
         text.push(b']')?;
@@ -92,25 +102,26 @@ fn copy_elements<'a>(
     deepest: u32,
     inside: &'a [u8],
     text: &mut Vec<u8>,
-) -> Result<&'a [u8], Halt>
-    ensures { IfOk result (λ rest. Copies (reading.elements_at any deepest (length inside.now)) elements_text inside.now rest.now text.old.items text.new.items) }
+) -> Result<&'a [u8], Fault>
+    ensures { CopiesOr (reading.elements_at any deepest (length inside.now)) elements_text inside.now text.old.items text.new.items result }
 {
     let mut rest = inside;
     for _ in 0..inside.len() {
         let behind = copy_value(alloc, deepest, skip(rest), text)?;
-        let Some((mark, more)) = next(skip(behind)) else {
-            return Err(Halt::Unread);
+        let after = skip(behind);
+        let Some((mark, more)) = next(after) else {
+            return Err(broken(after));
         };
         text.push(mark)?;
         if mark == b']' {
             return Ok(more);
         }
         if mark != b',' {
-            return Err(Halt::Unread);
+            return Err(broken(after));
         }
         rest = more;
     }
-    Err(Halt::Unread)
+    Err(broken(rest))
 }
 
 /// Copies the members of an object behind its brace, and gives what follows it.
@@ -120,8 +131,8 @@ fn copy_object<'a>(
     deepest: u32,
     inside: &'a [u8],
     text: &mut Vec<u8>,
-) -> Result<&'a [u8], Halt>
-    ensures { IfOk result (λ rest. Copies (reading.object_at any deepest) members_text inside.now rest.now text.old.items text.new.items) }
+) -> Result<&'a [u8], Fault>
+    ensures { CopiesOr (reading.object_at any deepest) members_text inside.now text.old.items text.new.items result }
 {
     if let Some(rest) = after_word(b"}", skip(inside)) {
         text.push(b'}')?;
@@ -137,25 +148,26 @@ fn copy_members<'a>(
     deepest: u32,
     inside: &'a [u8],
     text: &mut Vec<u8>,
-) -> Result<&'a [u8], Halt>
-    ensures { IfOk result (λ rest. Copies (reading.members_at any deepest (length inside.now)) members_text inside.now rest.now text.old.items text.new.items) }
+) -> Result<&'a [u8], Fault>
+    ensures { CopiesOr (reading.members_at any deepest (length inside.now)) members_text inside.now text.old.items text.new.items result }
 {
     let mut rest = inside;
     for _ in 0..inside.len() {
         let behind = copy_member(alloc, deepest, skip(rest), text)?;
-        let Some((mark, more)) = next(skip(behind)) else {
-            return Err(Halt::Unread);
+        let after = skip(behind);
+        let Some((mark, more)) = next(after) else {
+            return Err(broken(after));
         };
         text.push(mark)?;
         if mark == b'}' {
             return Ok(more);
         }
         if mark != b',' {
-            return Err(Halt::Unread);
+            return Err(broken(after));
         }
         rest = more;
     }
-    Err(Halt::Unread)
+    Err(broken(rest))
 }
 
 /// Copies the member at the front, and gives what follows it.
@@ -165,11 +177,14 @@ fn copy_member<'a>(
     deepest: u32,
     bytes: &'a [u8],
     text: &mut Vec<u8>,
-) -> Result<&'a [u8], Halt>
-    ensures { IfOk result (λ rest. Copies (reading.member_at any (reading.value_at any deepest)) whole_member bytes.now rest.now text.old.items text.new.items) }
+) -> Result<&'a [u8], Fault>
+    ensures { CopiesOr (reading.member_at any (reading.value_at any deepest)) whole_member bytes.now text.old.items text.new.items result }
 {
     let name_end = copy_string(alloc, bytes, text)?;
-    let behind = expected(b':', name_end)?;
+    let colon = skip(name_end);
+    let Some(behind) = after_word(b":", colon) else {
+        return Err(broken(colon));
+    };
     text.push(b':')?;
     copy_value(alloc, deepest, skip(behind), text)
 }

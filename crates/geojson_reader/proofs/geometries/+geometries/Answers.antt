@@ -10,6 +10,7 @@ use Rattle.json_cursor.proofs.FoldedSoFar as so_far
 use Rattle.json_cursor.proofs.Openings.{is_empty, is_filled, is_no_array, too_deep}
 use Rattle.geojson_model.specs.Geometries.{geometry, shape, shapes, typed_geometry}
 use Rattle.geojson_model.specs.Reader.{kept}
+use Rattle.geojson_model.specs.declared.types.GeoJsonType.TheVariants.{Feature, FeatureCollection}
 use Rattle.geojson_model.specs.declared.types.GeometryType.TheVariants as types
 use Rattle.geojson_reader.proofs.CollectionParts.{collected, one_byte}
 use Rattle.geojson_reader.proofs.GeometryParts as part
@@ -49,17 +50,27 @@ shape_of-returns-in-Err t c = λ ms is.
     let s = rw c.in-Once.is at is.kind in
     part.faulty_type c.args.start.exact ms c.args.start.counts s.0 s.1 c.in-Err.fault (rw c.in-Err.is at s.2)
 
+pub shape_of-returns-in-FeatureCollection : goal.shape_of-returns-in-FeatureCollection
+shape_of-returns-in-FeatureCollection t c = λ ms is.
+    let s = rw c.in-Once.is at is.kind in
+    part.other_type c.args.start.exact ms c.args.start.counts s.0 s.1 FeatureCollection (rw c.in-FeatureCollection.is at (rw c.in-Ok.is at s.2)) refl
+
+pub shape_of-returns-in-Feature : goal.shape_of-returns-in-Feature
+shape_of-returns-in-Feature t c = λ ms is.
+    let s = rw c.in-Once.is at is.kind in
+    part.other_type c.args.start.exact ms c.args.start.counts s.0 s.1 Feature (rw c.in-Feature.is at (rw c.in-Ok.is at s.2)) refl
+
 pub shape_of-returns-in-Collection : goal.shape_of-returns-in-Collection
 shape_of-returns-in-Collection t c = λ ms is.
     let s = rw c.in-Once.is at is.kind in
     part.judges_same (geometry c.args.start.exact ms) (typed_geometry c.args.start.exact types.Collection ms) c.args.start.counts _
-    (part.known_type c.args.start.exact ms c.args.start.counts s.0 s.1 types.Collection (rw c.in-Collection.is at (rw c.in-Ok.is at s.2))) c.group_of.result (c.group_of.ensures ms is.geometries)
+    (part.known_type c.args.start.exact ms c.args.start.counts s.0 s.1 types.Collection (rw c.in-Collection.is at (rw c.in-Geometry.is at (rw c.in-Ok.is at s.2)))) c.group_of.result (c.group_of.ensures ms is.geometries)
 
 pub shape_of-returns-in-Coordinates : goal.shape_of-returns-in-Coordinates
 shape_of-returns-in-Coordinates t c = λ ms is.
     let s = rw c.in-Once.is at is.kind in
     part.judges_same (geometry c.args.start.exact ms) (typed_geometry c.args.start.exact (types.Coordinates c.in-Coordinates.kind) ms) c.args.start.counts _
-    (part.known_type c.args.start.exact ms c.args.start.counts s.0 s.1 (types.Coordinates c.in-Coordinates.kind) (rw c.in-Coordinates.is at (rw c.in-Ok.is at s.2))) c.coordinates_of.result (c.coordinates_of.ensures ms is.coordinates)
+    (part.known_type c.args.start.exact ms c.args.start.counts s.0 s.1 (types.Coordinates c.in-Coordinates.kind) (rw c.in-Coordinates.is at (rw c.in-Geometry.is at (rw c.in-Ok.is at s.2)))) c.coordinates_of.result (c.coordinates_of.ensures ms is.coordinates)
 
 pub geometry_at-returns-in_default-found : goal.geometry_at-returns-in_default-found
 geometry_at-returns-in_default-found t c = λ v rest found. part.no_object c.args.exact v c.args.counts.now ((rw c.in_default-found.is at c.in_ok-found.ensures) v rest found)

@@ -18,5 +18,5 @@ pub returns : goal.returns
 returns c = (
   j.Text (name_of c.in-Some.name),
   (rw c.in-Some.is at c.in_ok-name.ensures) c.args.deep,
-  rw c.as_str.ensures at (ap (or_fail UnknownType) c.in-Some-geometry_type.ensures) ∙ sym (ap type_in (text_of-text (name_of c.in-Some.name))),
+  rw c.as_str.ensures at (ap (or_fail UnknownType) c.in-Some-geojson_type.ensures) ∙ sym (ap type_in (text_of-text (name_of c.in-Some.name))),
 )

@@ -1,49 +1,87 @@
-use Rattle.std.proofs.Common.{refl, sym, ◌∙◌, arith}
-use Rattle.std.proofs.lemmas.Result.{IfOk-weaker}
-use Rattle.json_value.specs.Text.{json_text}
-use Rattle.json_value.specs.Reading.{member_at, value_at}
-use Rattle.properties_scanning.specs.Copying.{any, whole_member}
+use Rattle.std.proofs.Common.{ℕ, ◌-◌, List, length, refl, sym, ◌∙◌, arith}
+use Rattle.json_value.specs.declared.json.Json.{Json}
+use Rattle.json_reading.proofs.ListLoop as loop
+use Rattle.json_reading.proofs.Opened as opened
+use Rattle.json_reading.proofs.Steps.{none_fails}
+use Rattle.std.proofs.lemmas.Result.{err_from_is_err_and}
+use Rattle.std.specs.Prelude.{codes}
+use Rattle.json_value.specs.Text.{json_text, quoted}
+use Rattle.json_value.specs.Reading.{skip, name_at, number_at, member_at, value_at, array_at, object_at, elements_at, members_at}
+use Rattle.properties_scanning.specs.Copying.{any, whole_member, elements_text, members_text}
 use Rattle.properties_scanning.proofs.Copied.{null_copied, true_copied, false_copied, string_copied, number_value_copied, array_copied, object_copied, member_copied}
+use Rattle.properties_scanning.proofs.Failed.{copies_on, word_on, null_fails, true_fails, false_fails, quoted_fails}
 use Rattle.properties_scanning.proofs.Lists.{starts, goes_on, ends, none_copied, some_copied}
 use Rattle.properties_scanning.proofs.values.+copier.Goals as goal
 
 -- ---- values
 
 pub copy_value-returns-in-110 : goal.copy_value-returns-in-110
-copy_value-returns-in-110 t c = IfOk-weaker c.copy_word.result _ _ (λ rest k. null_copied c.args.deepest c.args.bytes.now rest.now c.args.text.now.items c.copy_word.new.text.items k.0 k.1) c.copy_word.ensures
+copy_value-returns-in-110 t c =
+    word_on (codes "null") (value_at any c.args.deepest) json_text c.args.bytes.now c.args.text.now.items _ (λ rest is text. null_copied c.args.deepest c.args.bytes.now rest.now c.args.text.now.items _ is text)
+    (null_fails c.args.deepest _ c.args.bytes.now _ c.in-Some.ensures c.in-110.is) c.copy_word.result c.copy_word.ensures
 
 pub copy_value-returns-in-116 : goal.copy_value-returns-in-116
-copy_value-returns-in-116 t c = IfOk-weaker c.copy_word-in-116.result _ _ (λ rest k. true_copied c.args.deepest c.args.bytes.now rest.now c.args.text.now.items c.copy_word-in-116.new.text.items k.0 k.1) c.copy_word-in-116.ensures
+copy_value-returns-in-116 t c =
+    word_on (codes "true") (value_at any c.args.deepest) json_text c.args.bytes.now c.args.text.now.items _ (λ rest is text. true_copied c.args.deepest c.args.bytes.now rest.now c.args.text.now.items _ is text)
+    (true_fails c.args.deepest _ c.args.bytes.now _ c.in-Some.ensures c.in-116.is) c.copy_word-in-116.result c.copy_word-in-116.ensures
 
 pub copy_value-returns-in-102 : goal.copy_value-returns-in-102
-copy_value-returns-in-102 t c = IfOk-weaker c.copy_word-in-102.result _ _ (λ rest k. false_copied c.args.deepest c.args.bytes.now rest.now c.args.text.now.items c.copy_word-in-102.new.text.items k.0 k.1) c.copy_word-in-102.ensures
+copy_value-returns-in-102 t c =
+    word_on (codes "false") (value_at any c.args.deepest) json_text c.args.bytes.now c.args.text.now.items _ (λ rest is text. false_copied c.args.deepest c.args.bytes.now rest.now c.args.text.now.items _ is text)
+    (false_fails c.args.deepest _ c.args.bytes.now _ c.in-Some.ensures c.in-102.is) c.copy_word-in-102.result c.copy_word-in-102.ensures
 
 pub copy_value-returns-in-34 : goal.copy_value-returns-in-34
 copy_value-returns-in-34 t c =
-    IfOk-weaker c.copy_string.result _ _ (λ rest k. string_copied c.args.deepest c.args.bytes.now rest.now c.args.text.now.items c.copy_string.new.text.items _ _ c.in-Some.ensures c.in-34.is k) c.copy_string.ensures
+    copies_on (name_at any) quoted (value_at any c.args.deepest) json_text c.args.bytes.now c.args.bytes.now c.args.text.now.items c.args.text.now.items _
+    (λ rest k. string_copied c.args.deepest c.args.bytes.now rest.now c.args.text.now.items _ _ _ c.in-Some.ensures c.in-34.is k)
+    (quoted_fails c.args.deepest _ c.args.bytes.now _ c.in-Some.ensures c.in-34.is (opened.text_fails any c.args.deepest _ c.args.bytes.now _ c.in-Some.ensures c.in-34.is)) c.copy_string.result c.copy_string.ensures
 
 pub copy_value-returns-in-91 : goal.copy_value-returns-in-91
 copy_value-returns-in-91 t c =
-    IfOk-weaker c.copy_array.result _ _
-    (λ rest k. array_copied c.args.deepest c.args.bytes.now rest.now c.args.text.now.items c.copy_array.new.text.items _ _ c.in-Some.ensures _ c.in-91.is c.if-deepest-eq0.false c.in_ok-push-in-91.ensures.items k) c.copy_array.ensures
+    copies_on (array_at any (c.args.deepest - 1)) elements_text (value_at any c.args.deepest) json_text _ c.args.bytes.now c.args.text.now.items _ _
+    (λ rest k. array_copied c.args.deepest c.args.bytes.now rest.now c.args.text.now.items _ _ _ c.in-Some.ensures _ c.in-91.is c.if-deepest-eq0.false c.in_ok-push-in-91.ensures.items k)
+    (opened.array_fails any c.args.deepest _ c.args.bytes.now _ c.in-Some.ensures c.in-91.is c.if-deepest-eq0.false) c.copy_array.result c.copy_array.ensures
 
 pub copy_value-returns-in-123 : goal.copy_value-returns-in-123
 copy_value-returns-in-123 t c =
-    IfOk-weaker c.copy_object.result _ _
-    (λ rest k. object_copied c.args.deepest c.args.bytes.now rest.now c.args.text.now.items c.copy_object.new.text.items _ _ c.in-Some.ensures _ c.in-123.is c.if-deepest-eq0-2.false c.in_ok-push-in-123.ensures.items k) c.copy_object.ensures
+    copies_on (object_at any (c.args.deepest - 1)) members_text (value_at any c.args.deepest) json_text _ c.args.bytes.now c.args.text.now.items _ _
+    (λ rest k. object_copied c.args.deepest c.args.bytes.now rest.now c.args.text.now.items _ _ _ c.in-Some.ensures _ c.in-123.is c.if-deepest-eq0-2.false c.in_ok-push-in-123.ensures.items k)
+    (opened.object_fails any c.args.deepest _ c.args.bytes.now _ c.in-Some.ensures c.in-123.is c.if-deepest-eq0-2.false) c.copy_object.result c.copy_object.ensures
 
 pub copy_value-returns : goal.copy_value-returns
 copy_value-returns t c =
-    IfOk-weaker c.copy_number.result _ _
-    (λ rest k. number_value_copied c.args.deepest c.args.bytes.now rest.now c.args.text.now.items c.copy_number.new.text.items _ _ c.in-Some.ensures (omega arith) (omega arith) (omega arith) (omega arith) (omega arith) (omega arith) k) c.copy_number.ensures
+    copies_on number_at (λ t. t) (value_at any c.args.deepest) json_text c.args.bytes.now c.args.bytes.now c.args.text.now.items c.args.text.now.items _
+    (λ rest k. number_value_copied c.args.deepest c.args.bytes.now rest.now c.args.text.now.items _ _ _ c.in-Some.ensures (omega arith) (omega arith) (omega arith) (omega arith) (omega arith) (omega arith) k)
+    (opened.number_fails any c.args.deepest _ c.args.bytes.now _ c.in-Some.ensures (omega arith) (omega arith) (omega arith) (omega arith) (omega arith) (omega arith)) c.copy_number.result c.copy_number.ensures
+
+pub copy_value-returns-in_default : goal.copy_value-returns-in_default
+copy_value-returns-in_default t c = none_fails _ _ (opened.at_nothing any c.args.deepest c.args.bytes.now c.in_default.ensures)
+
+pub copy_value-returns-then-deepest-eq0 : goal.copy_value-returns-then-deepest-eq0
+copy_value-returns-then-deepest-eq0 t c = none_fails _ _ (opened.array_too_deep any c.args.deepest _ c.args.bytes.now _ c.in-Some.ensures c.in-91.is c.if-deepest-eq0.true)
+
+pub copy_value-returns-then-deepest-eq0-2 : goal.copy_value-returns-then-deepest-eq0-2
+copy_value-returns-then-deepest-eq0-2 t c = none_fails _ _ (opened.object_too_deep any c.args.deepest _ c.args.bytes.now _ c.in-Some.ensures c.in-123.is c.if-deepest-eq0-2.true)
 
 -- ---- members
 
 pub copy_member-returns : goal.copy_member-returns
 copy_member-returns t c =
-    IfOk-weaker c.copy_value.result _ _
-    (λ rest k. member_copied c.args.deepest c.args.bytes.now c.in_ok-name_end.name_end.now c.in_ok-behind.behind.now rest.now c.args.text.now.items _ _ c.copy_value.new.text.items c.in_ok-name_end.ensures c.in_ok-behind.ensures c.in_ok-push.ensures.items
-    (rw c.skip.ensures at k)) c.copy_value.ensures
+    let named = c.in_ok-name_end.ensures in
+    let colon = rw c.skip-colon.ensures at c.in-Some.ensures in
+    copies_on (value_at any c.args.deepest) json_text (member_at any (value_at any c.args.deepest)) whole_member (skip c.in-Some.behind.now) c.args.bytes.now c.args.text.now.items _ _
+    (λ rest k. member_copied c.args.deepest c.args.bytes.now c.in_ok-name_end.name_end.now c.in-Some.behind.now rest.now c.args.text.now.items _ _ _ named colon c.in_ok-push.ensures.items k)
+    (opened.value_fails any (value_at any c.args.deepest) c.args.bytes.now named.thing c.in_ok-name_end.name_end.now named.found c.in-Some.behind.now colon) c.copy_value.result (rw c.skip.ensures at c.copy_value.ensures)
+
+pub copy_member-returns-in_err-name_end : goal.copy_member-returns-in_err-name_end
+copy_member-returns-in_err-name_end t c =
+    let p = err_from_is_err_and c.from_residual.result c.from_residual.ensures.1 in
+    rw (p.1, p.2) (opened.name_fails any (value_at any c.args.deepest) c.args.bytes.now _ c.in_err-name_end.ensures)
+
+pub copy_member-returns-in_default : goal.copy_member-returns-in_default
+copy_member-returns-in_default t c =
+    let named = c.in_ok-name_end.ensures in
+    none_fails _ _ (opened.no_colon any (value_at any c.args.deepest) c.args.bytes.now named.thing c.in_ok-name_end.name_end.now named.found (rw c.skip-colon.ensures at c.in_default.ensures))
 
 -- ---- elements
 
@@ -52,8 +90,9 @@ copy_array-returns-in-Some t c = none_copied 93 (value_at any c.args.deepest) js
 
 pub copy_array-returns : goal.copy_array-returns
 copy_array-returns t c =
-    IfOk-weaker c.copy_elements.result _ _
-    (λ rest k. some_copied 93 (value_at any c.args.deepest) json_text c.args.inside.now rest.now c.args.text.now.items c.copy_elements.new.text.items (rw c.skip.ensures at c.in_default.ensures) k) c.copy_elements.ensures
+    copies_on (elements_at any c.args.deepest (length c.args.inside.now)) elements_text (array_at any c.args.deepest) elements_text c.args.inside.now c.args.inside.now c.args.text.now.items c.args.text.now.items _
+    (λ rest k. some_copied 93 (value_at any c.args.deepest) json_text c.args.inside.now rest.now c.args.text.now.items _ (rw c.skip.ensures at c.in_default.ensures) k)
+    (λ e h. rw (opened.is_open _ 93 (value_at any c.args.deepest) c.args.inside.now (rw c.skip.ensures at c.in_default.ensures)) h) c.copy_elements.result c.copy_elements.ensures
 
 pub copy_elements-loop-init : goal.copy_elements-loop-init
 copy_elements-loop-init t c = starts 93 (value_at any c.args.deepest) json_text _ c.args.inside.now c.args.text.now.items
@@ -61,12 +100,12 @@ copy_elements-loop-init t c = starts 93 (value_at any c.args.deepest) json_text 
 pub copy_elements-loop-preserved : goal.copy_elements-loop-preserved
 copy_elements-loop-preserved t c =
     goes_on 93 (value_at any c.args.deepest) json_text _ _ c.args.inside.now _ c.args.text.now.items _ c.loop.invariant c.loop-test.true _ _ (rw c.skip.ensures at c.in_ok-behind.ensures) _ _ _
-    (sym c.skip-in-loop.ensures ∙ c.in-Some.ensures) c.in_ok-push.ensures.items c.if-mark-ne44.false
+    (sym c.skip-after.ensures ∙ c.in-Some.ensures) c.in_ok-push.ensures.items c.if-mark-ne44.false
 
 pub copy_elements-returns-then-mark-eq93 : goal.copy_elements-returns-then-mark-eq93
 copy_elements-returns-then-mark-eq93 t c =
     ends 93 (value_at any c.args.deepest) json_text _ _ c.args.inside.now _ c.args.text.now.items _ c.loop.invariant c.loop-test.true _ _ (rw c.skip.ensures at c.in_ok-behind.ensures) _ _ _
-    (sym c.skip-in-loop.ensures ∙ c.in-Some.ensures) c.in_ok-push.ensures.items refl c.if-mark-eq93.true
+    (sym c.skip-after.ensures ∙ c.in-Some.ensures) c.in_ok-push.ensures.items refl c.if-mark-eq93.true
 
 -- ---- members
 
@@ -75,8 +114,9 @@ copy_object-returns-in-Some t c = none_copied 125 (member_at any (value_at any c
 
 pub copy_object-returns : goal.copy_object-returns
 copy_object-returns t c =
-    IfOk-weaker c.copy_members.result _ _
-    (λ rest k. some_copied 125 (member_at any (value_at any c.args.deepest)) whole_member c.args.inside.now rest.now c.args.text.now.items c.copy_members.new.text.items (rw c.skip.ensures at c.in_default.ensures) k) c.copy_members.ensures
+    copies_on (members_at any c.args.deepest (length c.args.inside.now)) members_text (object_at any c.args.deepest) members_text c.args.inside.now c.args.inside.now c.args.text.now.items c.args.text.now.items _
+    (λ rest k. some_copied 125 (member_at any (value_at any c.args.deepest)) whole_member c.args.inside.now rest.now c.args.text.now.items _ (rw c.skip.ensures at c.in_default.ensures) k)
+    (λ e h. rw (opened.is_open _ 125 (member_at any (value_at any c.args.deepest)) c.args.inside.now (rw c.skip.ensures at c.in_default.ensures)) h) c.copy_members.result c.copy_members.ensures
 
 pub copy_members-loop-init : goal.copy_members-loop-init
 copy_members-loop-init t c = starts 125 (member_at any (value_at any c.args.deepest)) whole_member _ c.args.inside.now c.args.text.now.items
@@ -84,9 +124,45 @@ copy_members-loop-init t c = starts 125 (member_at any (value_at any c.args.deep
 pub copy_members-loop-preserved : goal.copy_members-loop-preserved
 copy_members-loop-preserved t c =
     goes_on 125 (member_at any (value_at any c.args.deepest)) whole_member _ _ c.args.inside.now _ c.args.text.now.items _ c.loop.invariant c.loop-test.true _ _ (rw c.skip.ensures at c.in_ok-behind.ensures) _ _ _
-    (sym c.skip-in-loop.ensures ∙ c.in-Some.ensures) c.in_ok-push.ensures.items c.if-mark-ne44.false
+    (sym c.skip-after.ensures ∙ c.in-Some.ensures) c.in_ok-push.ensures.items c.if-mark-ne44.false
 
 pub copy_members-returns-then-mark-eq125 : goal.copy_members-returns-then-mark-eq125
 copy_members-returns-then-mark-eq125 t c =
     ends 125 (member_at any (value_at any c.args.deepest)) whole_member _ _ c.args.inside.now _ c.args.text.now.items _ c.loop.invariant c.loop-test.true _ _ (rw c.skip.ensures at c.in_ok-behind.ensures) _ _ _
-    (sym c.skip-in-loop.ensures ∙ c.in-Some.ensures) c.in_ok-push.ensures.items refl c.if-mark-eq125.true
+    (sym c.skip-after.ensures ∙ c.in-Some.ensures) c.in_ok-push.ensures.items refl c.if-mark-eq125.true
+
+pub copy_elements-returns-in_err-behind : goal.copy_elements-returns-in_err-behind
+copy_elements-returns-in_err-behind t c =
+    let p = err_from_is_err_and c.from_residual.result c.from_residual.ensures.1 in
+    rw (p.1, p.2) (loop.fails Json 93 (value_at any c.args.deepest) _ _ _ _ _ c.loop.invariant.joins _ c.loop-test.true (rw c.skip.ensures at c.in_err-behind.ensures))
+
+pub copy_elements-returns-in_default : goal.copy_elements-returns-in_default
+copy_elements-returns-in_default t c =
+    let copied = rw c.skip.ensures at c.in_ok-behind.ensures in
+    none_fails _ _ (loop.at_nothing Json 93 (value_at any c.args.deepest) _ _ _ _ _ c.loop.invariant.joins _ _ c.loop-test.true copied.found (sym c.skip-after.ensures ∙ c.in_default.ensures))
+
+pub copy_elements-returns-then-mark-ne44 : goal.copy_elements-returns-then-mark-ne44
+copy_elements-returns-then-mark-ne44 t c =
+    let copied = rw c.skip.ensures at c.in_ok-behind.ensures in
+    none_fails _ _ (loop.at_other Json 93 (value_at any c.args.deepest) _ _ _ _ _ c.loop.invariant.joins _ _ c.loop-test.true copied.found _ _ (sym c.skip-after.ensures ∙ c.in-Some.ensures) c.if-mark-eq93.false c.if-mark-ne44.true)
+
+pub copy_elements-returns : goal.copy_elements-returns
+copy_elements-returns t c = none_fails _ _ (loop.turns_over Json 93 (value_at any c.args.deepest) _ _ _ _ _ c.loop.invariant.joins c.loop-test.false)
+
+pub copy_members-returns-in_err-behind : goal.copy_members-returns-in_err-behind
+copy_members-returns-in_err-behind t c =
+    let p = err_from_is_err_and c.from_residual.result c.from_residual.ensures.1 in
+    rw (p.1, p.2) (loop.fails (List ℕ × Json) 125 (member_at any (value_at any c.args.deepest)) _ _ _ _ _ c.loop.invariant.joins _ c.loop-test.true (rw c.skip.ensures at c.in_err-behind.ensures))
+
+pub copy_members-returns-in_default : goal.copy_members-returns-in_default
+copy_members-returns-in_default t c =
+    let copied = rw c.skip.ensures at c.in_ok-behind.ensures in
+    none_fails _ _ (loop.at_nothing (List ℕ × Json) 125 (member_at any (value_at any c.args.deepest)) _ _ _ _ _ c.loop.invariant.joins _ _ c.loop-test.true copied.found (sym c.skip-after.ensures ∙ c.in_default.ensures))
+
+pub copy_members-returns-then-mark-ne44 : goal.copy_members-returns-then-mark-ne44
+copy_members-returns-then-mark-ne44 t c =
+    let copied = rw c.skip.ensures at c.in_ok-behind.ensures in
+    none_fails _ _ (loop.at_other (List ℕ × Json) 125 (member_at any (value_at any c.args.deepest)) _ _ _ _ _ c.loop.invariant.joins _ _ c.loop-test.true copied.found _ _ (sym c.skip-after.ensures ∙ c.in-Some.ensures) c.if-mark-eq125.false c.if-mark-ne44.true)
+
+pub copy_members-returns : goal.copy_members-returns
+copy_members-returns t c = none_fails _ _ (loop.turns_over (List ℕ × Json) 125 (member_at any (value_at any c.args.deepest)) _ _ _ _ _ c.loop.invariant.joins c.loop-test.false)

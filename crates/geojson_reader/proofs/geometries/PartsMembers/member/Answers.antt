@@ -1,73 +1,8 @@
-use Rattle.std.proofs.Common.{[], ◌++◌, ◌∷◌, refl, subst, sym}
-use Rattle.std.specs.Prelude.{codes}
-use Rattle.json_cursor.specs.Members.{TakesMember}
 use Rattle.json_cursor.specs.Names.{name_of}
-use Rattle.geojson_model.specs.Members.{named}
-use Rattle.geojson_reader.specs.Members.{IsCoordinates, IsFront, IsParts, IsSeen, IsType}
-use Rattle.geojson_reader.specs.declared.geometries.Parts.{Parts}
-use Rattle.geojson_reader.proofs.SeenMembers.{member_found, not_other, passes, sees}
+use Rattle.geojson_reader.specs.Members.{IsParts}
+use Rattle.geojson_reader.proofs.SeenMembers.{member_sees}
 use Rattle.geojson_reader.proofs.geometries.PartsMembers.member.Goals as goal
-use Rattle.geojson_reader.proofs.geometries.PartsMembers.member.Goals.{then-is-3, else-is-3}
-
-pub returns-then-is : goal.returns-then-is
-returns-then-is c =
-    let d = c.args.deep in
-    let name = name_of c.in_ok-name.name in
-    let found = c.in_ok-kind.ensures in
-    let same = sym c.if-is.ensures in
-    record {
-      member = (name, found.0);
-      front = member_found d c.args.bytes.now name c.in_ok-name.value.now _ found.0 (c.in_ok-name.ensures d) found.1;
-      holds = λ ms h. record {
-        kind = subst (λ s. IsSeen IsType (named (codes "type") (ms ++ (name, found.0) ∷ [])) s) (sym c.see.ensures) (sees IsType (codes "type") ms name found.0 c.args.self.now.kind h.kind c.in_ok-kind.kind same found.2);
-        coordinates = passes (IsCoordinates c.args.with d) (codes "coordinates") ms name found.0 c.args.self.now.coordinates h.coordinates (not_other name (codes "type") (codes "coordinates") same refl);
-        geometries = passes (IsFront d) (codes "geometries") ms name found.0 c.args.self.now.geometries h.geometries (not_other name (codes "type") (codes "geometries") same refl);
-      };
-    }
-
-pub returns-then-is-2 : goal.returns-then-is-2
-returns-then-is-2 c =
-    let d = c.args.deep in
-    let name = name_of c.in_ok-name.name in
-    let found = c.in_ok-found.ensures in
-    let same = sym c.if-is-2.ensures in
-    record {
-      member = (name, found.0);
-      front = member_found d c.args.bytes.now name c.in_ok-name.value.now _ found.0 (c.in_ok-name.ensures d) found.1;
-      holds = λ ms h. record {
-        kind = passes IsType (codes "type") ms name found.0 c.args.self.now.kind h.kind (not_other name (codes "coordinates") (codes "type") same refl);
-        coordinates = subst (λ s. IsSeen (IsCoordinates c.args.with d) (named (codes "coordinates") (ms ++ (name, found.0) ∷ [])) s) (sym c.see-then-is-2.ensures)
-            (sees (IsCoordinates c.args.with d) (codes "coordinates") ms name found.0 c.args.self.now.coordinates h.coordinates c.in_ok-found.found same found.2);
-        geometries = passes (IsFront d) (codes "geometries") ms name found.0 c.args.self.now.geometries h.geometries (not_other name (codes "coordinates") (codes "geometries") same refl);
-      };
-    }
 
 pub returns : goal.returns
 returns c =
-    let d = c.args.deep in
-    let name = name_of c.in_ok-name.name in
-    let found = c.in_ok-rest.ensures in
-    let no_type = sym c.if-is.ensures in
-    let no_coordinates = sym c.if-is-2.ensures in
-    let front = member_found d c.args.bytes.now name c.in_ok-name.value.now _ found.0 (c.in_ok-name.ensures d) found.1 in
-    elim c.if-is-3.branch [
-      | then-is-3 w ↦ subst (λ (s : Parts). TakesMember (IsParts c.args.with d) d c.args.self.now s c.args.bytes.now c.in_ok-rest.rest.now) (sym w.self-is) (record {
-        member = (name, found.0);
-        front = front;
-        holds = λ ms h. record {
-          kind = passes IsType (codes "type") ms name found.0 c.args.self.now.kind h.kind no_type;
-          coordinates = passes (IsCoordinates c.args.with d) (codes "coordinates") ms name found.0 c.args.self.now.coordinates h.coordinates no_coordinates;
-          geometries = subst (λ s. IsSeen (IsFront d) (named (codes "geometries") (ms ++ (name, found.0) ∷ [])) s) (sym w.see-then-is-3.ensures)
-              (sees (IsFront d) (codes "geometries") ms name found.0 c.args.self.now.geometries h.geometries c.in_ok-name.value (sym w.if-is-3.ensures) (_, found.1));
-        };
-      })
-      | else-is-3 w ↦ subst (λ (s : Parts). TakesMember (IsParts c.args.with d) d c.args.self.now s c.args.bytes.now c.in_ok-rest.rest.now) (sym w.self-is) (record {
-        member = (name, found.0);
-        front = front;
-        holds = λ ms h. record {
-          kind = passes IsType (codes "type") ms name found.0 c.args.self.now.kind h.kind no_type;
-          coordinates = passes (IsCoordinates c.args.with d) (codes "coordinates") ms name found.0 c.args.self.now.coordinates h.coordinates no_coordinates;
-          geometries = passes (IsFront d) (codes "geometries") ms name found.0 c.args.self.now.geometries h.geometries (sym w.if-is-3.ensures);
-        };
-      })
-    ]
+    member_sees (IsParts c.args.with c.args.deep) c.args.deep c.args.bytes.now (name_of c.in_ok-name.name) c.in_ok-name.value.now _ _ (c.in_ok-name.ensures c.args.deep) c.see.result c.see.ensures

@@ -1,0 +1,113 @@
+// Whole texts.
+ghost use Rattle.std.specs.Prelude.{◌≡◌, ◌≤◌, ℕ, None, Err, IsFalse, IsTrue, IsUtf8};
+ghost use Rattle.std.specs.Str.{is_utf8};
+ghost use Rattle.json_value.specs.declared.json.Json.{Json};
+ghost use Rattle.json_value.specs.Grammar.{mark};
+ghost use Rattle.json_value.specs.Reading as reading;
+ghost use Rattle.json_members.specs.Readers.{Counting};
+ghost use Rattle.json_reading.specs.Outcome.{SaysUtf8, SpellsNothing};
+ghost use Rattle.geojson_types.specs.declared.counts.Counts.{Counts as Counted};
+ghost use Rattle.json_cursor.specs.Answers.{Answers};
+ghost use Rattle.json_cursor.specs.Arrays.{front_value};
+ghost use Rattle.json_cursor.specs.Texts.{TextAnswers};
+
+use crate::stop::Stop;
+use geojson_types::Counts;
+use json_reading::{JsonFault, after_word, skip};
+use simdutf8::compat;
+use std::alloc::Global;
+use text_checking::check;
+
+/// How the value that a whole text spells is read.
+pub trait Whole: Copy {
+    /// What the value is read as.
+    type Read: Drop;
+
+    /// What a value of the grammar may be refused for.
+    type Fault: Copy;
+
+    /// What a value is read as.
+    ghost reads: { Self → Json → Counting Counted Self.Fault Self.Read };
+
+    /// The one at the front, and what follows it; or why reading stops.
+    fn read<'a>(
+        self,
+        alloc: Global,
+        deep: u32,
+        bytes: &'a [u8],
+        counts: &mut Counts,
+    ) -> Result<(Self::Read, &'a [u8]), Stop<Self::Fault>>
+        ensures { Answers (λ x. x) (reads self) (front_value deep bytes.now) counts.old counts.new result };
+}
+
+/// Why a text isn't read.
+#[derive(Clone, Copy, Debug, PartialEq, Eq)]
+pub enum Refusal<E> {
+    /// It spells no value.
+    Text(JsonFault),
+    /// The value that it spells has this first fault.
+    Meaning(E),
+    Memory,
+}
+
+/// The bytes behind a byte order mark, if there is one.
+fn text_of(bytes: &[u8]) -> &[u8]
+    ensures { result.now ≡ reading.without bytes.now (reading.after_word mark bytes.now) }
+{
+    match after_word(&[0xef, 0xbb, 0xbf], bytes) {
+        Some(rest) => rest,
+        None => bytes,
+    }
+}
+
+/// Whether the bytes are UTF-8.
+fn are_utf8(bytes: &[u8]) -> bool
+    ensures yes { IsTrue result → IsUtf8 bytes.now }
+    ensures no { IsFalse result → ¬ (IsUtf8 bytes.now) }
+{
+    compat::from_utf8(bytes).is_ok()
+}
+
+/// The fault of a text that spells no value.
+fn malformed(alloc: Global, bytes: &[u8], deepest: u32) -> JsonFault
+    requires { (deepest ≤ 255) × (IsUtf8 bytes.now → reading.text_at is_utf8 deepest bytes.now ≡ None) }
+    ensures utf8 { SaysUtf8 bytes.now (Err result) }
+    ensures nothing { SpellsNothing deepest bytes.now (Err result) }
+{
+    match check(alloc, bytes, deepest) {
+        Err(fault) => fault,
+        Ok(()) => unreachable!(),
+    }
+}
+
+/// What the value of a whole text (RFC 8259) is read as, in which arrays and objects nest no deeper than `deepest`, with what was counted.
+/// Of a text that spells no value is told why, whatever else is wrong.
+pub fn read_text<R: Whole>(
+    alloc: Global,
+    bytes: &[u8],
+    deepest: u32,
+    reader: R,
+) -> Result<(R::Read, Counts), Refusal<R::Fault>>
+    requires { deepest ≤ 255 }
+    ensures { TextAnswers (λ x. x) (R.reads reader) deepest bytes.now result }
+{
+    if !are_utf8(bytes) {
+        return Err(Refusal::Text(malformed(alloc, bytes, deepest)));
+    }
+    let mut counts = Counts::none();
+    match reader.read(alloc, deepest, skip(text_of(bytes)), &mut counts) {
+        Ok((read, rest)) => {
+            let behind = skip(rest);
+            if behind.is_empty() {
+                return Ok((read, counts));
+            }
+            Err(Refusal::Text(malformed(alloc, bytes, deepest)))
+        }
+        Err(Stop::NoValue) => Err(Refusal::Text(malformed(alloc, bytes, deepest))),
+        Err(Stop::Memory) => Err(Refusal::Memory),
+        Err(Stop::Fault(fault)) => match check(alloc, bytes, deepest) {
+            Err(malformed) => Err(Refusal::Text(malformed)),
+            Ok(()) => Err(Refusal::Meaning(fault)),
+        },
+    }
+}

@@ -1,0 +1,84 @@
+// The properties of a feature (RFC 7946, section 3.2), of whatever kind the value is.
+ghost use Rattle.std.specs.Prelude.{◌≡◌, ◌≤◌};
+ghost use Rattle.json_value.specs.declared.json.Json.TheVariants as j;
+ghost use Rattle.json_value.specs.Reading as reading;
+ghost use Rattle.json_reading.specs.Gives.{Gives};
+ghost use Rattle.json_cursor.specs.Kinds.{IsKind};
+ghost use Rattle.json_cursor.specs.declared.kinds.Kind.TheVariants.{Object};
+ghost use Rattle.properties_scanning.specs.Copying.{any};
+ghost use Rattle.properties_scanning.specs.Fronts.{ReadsProperties};
+
+use crate::values::copy_value;
+use feature_properties::Properties;
+use json_cursor::{Kind, kind_at};
+use json_reading::{Fault, value_at};
+use json_value::Json;
+use std::alloc::Global;
+use text_checking::after_value;
+
+/// How deep the text of properties may nest.
+const TEXT_DEPTH: u32 = 254;
+
+/// The room that a text is given first, in bytes.
+const ROOM: usize = 64;
+
+/// The object at the front as properties with their members, and what follows it.
+fn members_at<'a>(
+    alloc: Global,
+    deep: u32,
+    bytes: &'a [u8],
+) -> Result<(Properties, &'a [u8]), Fault>
+    requires { IsKind bytes.now Object }
+    ensures { Gives (λ x. (j.Object x.0, x.1.now)) result (reading.value_at any deep bytes.now) }
+{
+    let (value, rest) = value_at(alloc, deep, bytes)?;
+    match value {
+        Json::Object(members) => Ok((Properties::of(members), rest)),
+        _ => unreachable!(),
+    }
+}
+
+/// The object at the front as properties with their text, and what follows it.
+fn text_at<'a>(
+    alloc: Global,
+    deep: u32,
+    bytes: &'a [u8],
+) -> Result<(Properties, &'a [u8]), Fault>
+    requires kind { IsKind bytes.now Object }
+    requires deep { deep ≤ 254 }
+    ensures { Gives (λ x. (j.Object x.0, x.1.now)) result (reading.value_at any deep bytes.now) }
+{
+    let mut text = Vec::with_capacity(alloc, ROOM)?;
+    let rest = copy_value(alloc, deep, bytes, &mut text)?;
+    text.shrink_to_fit();
+    Ok((Properties::of_text(text), rest))
+}
+
+/// The properties that the value at the front gives, and what follows it: null gives none, and an object those with its members. Nothing is
+/// read of any other value, which is passed over. They are kept as their text, unless it may nest deeper than such a text may.
+pub fn read_properties<'a>(
+    alloc: Global,
+    deep: u32,
+    bytes: &'a [u8],
+) -> Result<(Option<Option<Properties>>, &'a [u8]), Fault>
+    ensures { ReadsProperties deep bytes.now result }
+{
+    match kind_at(bytes) {
+        Kind::Null => {
+            let rest = after_value(alloc, deep, bytes)?;
+            Ok((Some(None), rest))
+        }
+        Kind::Object => {
+            if deep > TEXT_DEPTH {
+                let (properties, rest) = members_at(alloc, deep, bytes)?;
+                return Ok((Some(Some(properties)), rest));
+            }
+            let (properties, rest) = text_at(alloc, deep, bytes)?;
+            Ok((Some(Some(properties)), rest))
+        }
+        _ => {
+            let rest = after_value(alloc, deep, bytes)?;
+            Ok((None, rest))
+        }
+    }
+}

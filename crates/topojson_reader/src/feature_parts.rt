@@ -13,11 +13,13 @@ use crate::geometry_parts::{GeometryParts, Start};
 use crate::index::is_name;
 use crate::seen::Seen;
 use geojson_types::{Counts, Id, Properties};
-use json_cursor::{Members, Stop, name_at};
+use json_cursor::{Kind, Members, Stop, kind_at, name_at};
 use json_reading::{Fault, value_at};
+use properties_scanning::read_properties;
 use std::alloc::Global;
+use text_checking::after_value;
 use topojson_meaning::{GeometryType, TopoFault};
-use topojson_reading::{identifier, properties_if};
+use topojson_reading::identifier;
 use topojson_types::TopoFeature;
 
 /// What was seen of the members of a feature: those of its geometry, and what its identifier and its properties are, or their faults.
@@ -36,8 +38,20 @@ fn id_at<'a>(
 ) -> Result<(Result<Option<Id>, TopoFault>, &'a [u8]), Fault>
     ensures { Meets (IsFound identifier_in) deep bytes.now result }
 {
-    let (value, rest) = value_at(alloc, deep, bytes)?;
-    Ok((identifier(Some(value)), rest))
+    match kind_at(bytes) {
+        Kind::Array => {
+            let rest = after_value(alloc, deep, bytes)?;
+            Ok((Err(TopoFault::WrongKind), rest))
+        }
+        Kind::Object => {
+            let rest = after_value(alloc, deep, bytes)?;
+            Ok((Err(TopoFault::WrongKind), rest))
+        }
+        _ => {
+            let (value, rest) = value_at(alloc, deep, bytes)?;
+            Ok((identifier(Some(value)), rest))
+        }
+    }
 }
 
 /// The properties that the value at the front is, or their fault, and what follows it.
@@ -48,8 +62,11 @@ fn properties_member<'a>(
 ) -> Result<(Result<Option<Properties>, TopoFault>, &'a [u8]), Fault>
     ensures { Meets (IsFound members_if) deep bytes.now result }
 {
-    let (value, rest) = value_at(alloc, deep, bytes)?;
-    Ok((properties_if(Some(value)), rest))
+    let (read, rest) = read_properties(alloc, deep, bytes)?;
+    match read {
+        None => Ok((Err(TopoFault::WrongKind), rest)),
+        Some(properties) => Ok((Ok(properties), rest)),
+    }
 }
 
 impl<'a> FeatureParts<'a> {

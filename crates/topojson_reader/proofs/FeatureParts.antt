@@ -3,7 +3,6 @@ use Rattle.std.proofs.Common.{◌≡◌, ℕ, true, false, List, [], ◌∷◌, 
 use Rattle.std.specs.Prelude.{bytes_eq, codes}
 use Rattle.std.specs.Borrow.{Bor}
 use Rattle.json_value.specs.declared.json.Json.{Json}
-use Rattle.json_members.specs.Answers.{Finds}
 use Rattle.json_members.specs.Members.{Members, named}
 use Rattle.json_reading.specs.declared.fault.Fault.{Fault}
 use Rattle.geojson_types.specs.declared.counts.Counts.{Counts}
@@ -34,11 +33,6 @@ use Rattle.topojson_reader.specs.Members.{GoesOnWith, IsSeen, Judges, see}
 use Rattle.topojson_reader.proofs.IndexParts.{no_other}
 use Rattle.topojson_reader.proofs.PartsSeen.{sees_word}
 use Rattle.topojson_reader.proofs.SeenMembers.{passes, sees}
-
--- what is found is what is read
-pub finds : {E A : Type 0} (answer read : Result A E) → Finds (λ x. x) answer read → answer ≡ read
-finds (Ok x) read h = sym h
-finds (Err e) read h = sym h
 
 -- ---- what was seen
 

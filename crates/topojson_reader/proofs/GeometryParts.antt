@@ -3,7 +3,10 @@ use Rattle.std.proofs.Common.{◌≡◌, ℕ, List, [], ◌∷◌, ◌++◌, Opt
 use Rattle.std.specs.Prelude.{codes, option_to_list}
 use Rattle.json_value.specs.declared.json.Json.{Json}
 use Rattle.json_value.specs.declared.json.Json.TheVariants as j
-use Rattle.json_value.specs.Kinds.{array_of, object_of}
+use Rattle.json_value.specs.declared.json.Json.TheOpen.{Json-F}
+use Rattle.json_value.specs.declared.json.Json.TheViews.{out-Json}
+use Rattle.json_value.specs.Kinds.{array_of, object_of, text_in, text_of}
+use Rattle.json_cursor.specs.Kinds.{kind_in, kind_of}
 use Rattle.json_value.proofs.KindsOf.{array_of-array, object_of-object}
 use Rattle.json_members.specs.Members.{Members, named}
 use Rattle.geometry.specs.Points.{Point}
@@ -25,6 +28,7 @@ use Rattle.json_cursor.specs.Folds.{some_one, with_read}
 use Rattle.json_cursor.proofs.Steps.{made, made_reads, made_stops}
 use Rattle.json_cursor.specs.declared.stop.Stop.{Stop}
 use Rattle.json_cursor.specs.declared.stop.Stop.TheVariants as stop
+use Rattle.topojson_reader.specs.Geometries.{textless_type}
 use Rattle.topojson_reader.specs.Members.{Judges}
 
 -- ---- the type
@@ -41,6 +45,18 @@ module _ (ms : Members) where
   pub one_type : (v : Json) → named (codes "type") ms ≡ v ∷ [] → object_type ms ≡ type_of v
   unfolding object_type need
   one_type v h = rw h refl
+
+textless_in : (x : Json-F Json) → text_in x ≡ None → textless_type (kind_in x) ≡ type_in x
+textless_in Json-F.Null h = refl
+textless_in (Json-F.Bool b) h = refl
+textless_in (Json-F.Number n) h = refl
+textless_in (Json-F.Text t) h = absurd cc
+textless_in (Json-F.Array vs) h = refl
+textless_in (Json-F.Object ms) h = refl
+
+pub textless : (v : Json) → text_of v ≡ None → textless_type (kind_of v) ≡ type_of v
+unfolding text_of type_of
+textless v h = textless_in (out-Json v) h
 
 pub type_of_text : (name : List ℕ) → type_of (j.Text name) ≡ known (geometry_type name)
 unfolding type_of

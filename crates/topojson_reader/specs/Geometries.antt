@@ -1,16 +1,19 @@
 -- What was seen of the members of a geometry (TopoJSON 1.0, section 2.2).
-use Rattle.std.specs.Prelude.{◌≡◌, ℕ, Option, Some, None, Result, codes}
+use Rattle.std.specs.Prelude.{◌≡◌, ℕ, Option, Some, None, Result, Ok, Err, codes}
 use Rattle.std.specs.Option.{option_copied}
 use Rattle.json_value.specs.declared.json.Json.{Json}
 use Rattle.json_members.specs.Members.{Members, named}
 use Rattle.geojson_types.specs.declared.counts.Counts.{Counts}
 use Rattle.topojson_types.specs.Topologies.{TopoShape}
 use Rattle.topojson_meaning.specs.declared.fault.TopoFault.{TopoFault}
+use Rattle.topojson_meaning.specs.declared.fault.TopoFault.TheVariants.{WrongKind}
 use Rattle.topojson_meaning.specs.declared.geometry_type.GeometryType.{GeometryType}
 use Rattle.topojson_meaning.specs.declared.geometry_type.GeometryType.TheVariants as types
 use Rattle.topojson_meaning.specs.GeometryTypes.{type_of}
 use Rattle.topojson_meaning.specs.Reader.{Reader}
 use Rattle.topojson_meaning.specs.Shapes as shapes
+use Rattle.json_cursor.specs.declared.kinds.Kind.{Kind}
+use Rattle.json_cursor.specs.declared.kinds.Kind.TheVariants.{Null}
 use Rattle.topojson_reader.specs.Members.{IsFront, IsHeld, IsSeen}
 use Rattle.topojson_reader.specs.declared.geometry_parts.Part.{Part}
 use Rattle.topojson_reader.specs.declared.geometry_parts.PartType.{PartType}
@@ -38,6 +41,11 @@ geometry start ms = shapes.geometry (option_copied start.transform) start.arcs.n
 -- the type that the value of the member `type` names, or its fault
 abbrev pub IsType : Json → Result (Option GeometryType) TopoFault → Type 0
 IsType v type = type ≡ type_of v
+
+-- the type that a value of this kind names, which is no text
+abbrev pub textless_type : Kind → Result (Option GeometryType) TopoFault
+textless_type Null = Ok None
+textless_type kind = Err WrongKind
 
 -- what a value was read as by its type, if it was
 abbrev pub IsRead : Start → Json → Option Read → Type 0

@@ -6,6 +6,7 @@ ghost use Rattle.json_cursor.specs.Answers.{Answers};
 ghost use Rattle.json_cursor.specs.Arrays.{front_value};
 ghost use Rattle.topojson_meaning.specs.GeometryTypes.{object_type, part_name};
 ghost use Rattle.topojson_reader.specs.Geometries.{IsPart, IsParts, IsRead, IsTaken, IsType, of_part, part, typed_shape};
+ghost use Rattle.topojson_reader.specs.Geometries as spec;
 ghost use Rattle.topojson_reader.specs.Members.{GoesOnWith, IsSeen, Judges, Meets};
 ghost use Rattle.topojson_reader.specs.declared.geometry_parts.Start.{Start as Begun};
 
@@ -14,13 +15,13 @@ use crate::index::is_name;
 use crate::seen::Seen;
 use crate::shapes::{arcs_shape_at, places_shape_at};
 use geojson_types::Counts;
-use json_cursor::{Members, Stop, name_at, string_at};
-use json_reading::{Fault, value_at};
+use json_cursor::{Kind, Members, Stop, kind_at, name_at, string_at};
+use json_reading::Fault;
 use json_value::Items;
 use std::alloc::Global;
 use text_checking::after_value;
 use topojson_meaning::{ArcsType, GeometryType, PlacesType, TopoFault};
-use topojson_reading::{geometry_type, type_of};
+use topojson_reading::geometry_type;
 use topojson_types::{Cell, TopoShape, Transform};
 
 /// By what the members of an object are read: the transform and the arcs of the topology, and what was counted before the object.
@@ -62,6 +63,16 @@ pub struct GeometryParts<'a> {
     pub geometries: Seen<&'a [u8]>,
 }
 
+/// The type that a value of this kind names, which is no text.
+fn textless_type(kind: Kind) -> Result<Option<GeometryType>, TopoFault>
+    ensures { result ≡ spec.textless_type kind }
+{
+    match kind {
+        Kind::Null => Ok(None),
+        _ => Err(TopoFault::WrongKind),
+    }
+}
+
 /// The type that the value at the front names, which is none where it is null, or its fault, and what follows it.
 fn type_at<'a>(
     alloc: Global,
@@ -71,8 +82,8 @@ fn type_at<'a>(
     ensures { Meets IsType deep bytes.now result }
 {
     let Some((name, rest)) = string_at(alloc, bytes)? else {
-        let (value, rest) = value_at(alloc, deep, bytes)?;
-        return Ok((type_of(&value), rest));
+        let rest = after_value(alloc, deep, bytes)?;
+        return Ok((textless_type(kind_at(bytes)), rest));
     };
     match geometry_type(name.as_str()) {
         None => Ok((Err(TopoFault::UnknownType), rest)),

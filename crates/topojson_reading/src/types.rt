@@ -33,7 +33,7 @@ pub fn geometry_type(name: &str) -> Option<GeometryType>
 
 /// The type that a value names. Null stands for no shape.
 #[tactic(auto, unfolding(topojson_meaning::specs::GeometryTypes::type_of))]
-pub fn type_of(value: &Json) -> Result<Option<GeometryType>, TopoFault>
+fn type_of(value: &Json) -> Result<Option<GeometryType>, TopoFault>
     ensures { Finds (λ t. t) result (spec.type_of value.now) }
 {
     match value {

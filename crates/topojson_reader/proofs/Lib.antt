@@ -13,3 +13,11 @@ pub mod NameParts
 pub mod TopologyParts
 pub mod WholeTexts
 pub mod TextParts
+pub mod SeenMembers
+pub mod GeometryParts
+pub mod PartsSeen
+pub mod FeatureParts
+pub mod FeatureLists
+pub mod ObjectSeen
+pub mod NamedLaws
+pub mod NamedSeen

@@ -7,3 +7,8 @@ pub mod Shapes
 pub mod Objects
 pub mod Topologies
 pub mod Texts
+pub mod Members
+pub mod Geometries
+pub mod Features
+pub mod ObjectParts
+pub mod NamedObjects

@@ -1,16 +1,23 @@
 //! Topologies (TopoJSON 1.0) read straight from bytes, whatever their form and whatever their faults. It stands on `json_cursor`, whose
 //! `Answers` says what a reader answers of the bytes, and on `topojson_meaning`, which says what a value stands for. A layer above calls
-//! `read_text`. The members `objects` and `transform` are read by trees of them yet, so nothing stands on it: `topology_files` reads by
-//! `topology_scanning` and trees.
+//! `read_text`. Nothing stands on it yet: `topology_files` reads by `topology_scanning` and trees.
 #![tactic(auto)]
 
 mod arcs;
 mod areas;
 mod cells;
+mod feature_parts;
+mod features;
+mod geometries;
+mod geometry_parts;
+mod held;
 mod index;
+mod named_objects;
 mod numbers;
+mod object_parts;
 mod objects;
 mod pairs;
+mod seen;
 mod shapes;
 mod strokes;
 mod texts;
@@ -19,6 +26,10 @@ mod topologies;
 pub use arcs::{arc_at, arcs_at};
 pub use areas::polygon_at;
 pub use cells::{cell_at, place_at};
+pub use features::{feature_at, features_at};
+pub use geometries::geometry_at;
+pub use named_objects::objects_at;
+pub use object_parts::object_at;
 pub use shapes::{arcs_shape_at, places_shape_at};
 pub use strokes::stroke_at;
 pub use texts::{Refusal, read_text};

@@ -15,6 +15,7 @@ ghost use Rattle.topojson_reader.specs.Topologies.{Gives, NeededAt, StopsBy, tra
 
 use crate::arcs::arcs_at;
 use crate::index::{Index, Seen, index_at, is_name};
+use crate::named_objects::objects_at;
 use geojson_types::Counts;
 use json_cursor::Stop;
 use json_reading::value_at;
@@ -22,7 +23,6 @@ use json_value::{Items, OwnText};
 use std::alloc::Global;
 use topojson_arc_reading::transform_if;
 use topojson_meaning::TopoFault;
-use topojson_reading::read_objects;
 use topojson_types::{Cell, TopoObject, Transform};
 
 /// What a topology is made of.
@@ -128,10 +128,9 @@ fn objects_of(
         Err(fault) => return Err(Stop::Fault(fault)),
         Ok(at) => at,
     };
-    let (value, _) = value_at(alloc, deep, at)?;
-    match read_objects(alloc, transform, arcs, value, counts) {
-        Err(fault) => Err(stop_by(fault)),
-        Ok(objects) => Ok(Items::of(objects)),
+    match objects_at(alloc, deep, transform, arcs, at, counts) {
+        Err(stop) => Err(stop),
+        Ok((objects, _)) => Ok(objects),
     }
 }
 

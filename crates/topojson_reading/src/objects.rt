@@ -53,7 +53,7 @@ fn collection(
 }
 
 /// Whether it is the type of a collection.
-fn is_collection(geometry: Option<GeometryType>) -> bool
+pub fn is_collection(geometry: Option<GeometryType>) -> bool
     ensures { result ≡ is_collection_type geometry }
 {
     match geometry {

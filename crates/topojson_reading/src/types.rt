@@ -9,7 +9,7 @@ use topojson_meaning::{ArcsType, GeometryType, PlacesType, TopoFault};
 
 /// The type of this name.
 #[tactic(auto, unfolding(topojson_meaning::specs::GeometryTypes::geometry_type))]
-fn geometry_type(name: &str) -> Option<GeometryType>
+pub fn geometry_type(name: &str) -> Option<GeometryType>
     ensures { result ≡ spec.geometry_type name.now }
 {
     if name == "Point" {

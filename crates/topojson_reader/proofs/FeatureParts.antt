@@ -1,0 +1,144 @@
+-- A feature by its members.
+use Rattle.std.proofs.Common.{◌≡◌, ℕ, true, false, List, [], ◌∷◌, ◌++◌, Option, Some, None, Result, Ok, Err, refl, sym, subst, ◌∙◌}
+use Rattle.std.specs.Prelude.{bytes_eq, codes}
+use Rattle.std.specs.Borrow.{Bor}
+use Rattle.json_value.specs.declared.json.Json.{Json}
+use Rattle.json_members.specs.Members.{Members, named}
+use Rattle.json_reading.specs.declared.fault.Fault.{Fault}
+use Rattle.geojson_types.specs.declared.counts.Counts.{Counts}
+use Rattle.geojson_types.specs.declared.id.Id.{Id}
+use Rattle.geometry.specs.Points.{Point}
+use Rattle.topojson_types.specs.declared.feature.TopoFeature.{TopoFeature}
+use Rattle.topojson_types.specs.declared.transform.Transform.{Transform}
+use Rattle.topojson_types.specs.Topologies.{TopoShape}
+use Rattle.topojson_meaning.specs.declared.fault.TopoFault.{TopoFault}
+use Rattle.topojson_meaning.specs.declared.fault.TopoFault.TheVariants.{Duplicate}
+use Rattle.topojson_meaning.specs.declared.geometry_type.GeometryType.{GeometryType}
+use Rattle.topojson_meaning.specs.Features as features
+use Rattle.topojson_meaning.specs.Features.{identifier, members_if}
+use Rattle.topojson_meaning.specs.GeometryTypes.{object_type}
+use Rattle.topojson_meaning.specs.Members.{find}
+use Rattle.topojson_meaning.specs.Reader.{Reader, ◌>>=◌, give, pure}
+use Rattle.topojson_meaning.specs.Shapes.{typed_shape}
+use Rattle.json_cursor.specs.declared.stop.Stop.{Stop}
+use Rattle.json_cursor.specs.declared.stop.Stop.TheVariants as stop
+use Rattle.topojson_reader.specs.declared.feature_parts.FeatureParts.{FeatureParts}
+use Rattle.topojson_reader.specs.declared.geometry_parts.GeometryParts.{GeometryParts}
+use Rattle.topojson_reader.specs.declared.geometry_parts.Start.{Start}
+use Rattle.topojson_reader.specs.declared.seen.Seen.{Seen}
+use Rattle.topojson_reader.specs.declared.seen.Seen.TheVariants.{Never}
+use Rattle.topojson_reader.specs.Features.{IsFeature, IsFound, found, found_in, typed_feature}
+use Rattle.topojson_reader.specs.Geometries.{IsParts}
+use Rattle.topojson_reader.specs.Members.{GoesOnWith, IsSeen, Judges, see}
+use Rattle.topojson_reader.proofs.IndexParts.{no_other}
+use Rattle.topojson_reader.proofs.PartsSeen.{sees_word}
+use Rattle.topojson_reader.proofs.SeenMembers.{passes, sees}
+
+-- ---- what was seen
+
+-- nothing was seen of no members
+pub no_parts : (start : Start) (d : ℕ) (parts : GeometryParts) → IsParts start d [] parts → IsFeature start d [] (record { parts = parts; id = Never; properties = Never })
+unfolding named
+no_parts start d parts h = record { parts = h; id = refl; properties = refl }
+
+module _ (start : Start) (d : ℕ) (name : List ℕ) where
+  module _ (ms : Members) (seen : FeatureParts) (v : Json) (h : IsFeature start d ms seen) where
+    abbrev more : Members
+    more = ms ++ (name, v) ∷ []
+
+    passes_id : bytes_eq name (codes "id") ≡ false → IsSeen (IsFound identifier) (named (codes "id") more) seen.id
+    passes_id other = passes (IsFound identifier) (codes "id") ms name v seen.id h.id other
+
+    passes_properties : bytes_eq name (codes "properties") ≡ false → IsSeen (IsFound members_if) (named (codes "properties") more) seen.properties
+    passes_properties other = passes (IsFound members_if) (codes "properties") ms name v seen.properties h.properties other
+
+    pub sees_id : (x : Result (Option Id) TopoFault) (s : Seen (Result (Option Id) TopoFault)) → s ≡ see seen.id x → bytes_eq name (codes "id") ≡ true → IsFound identifier v x
+        → IsFeature start d more (record { parts = seen.parts; id = s; properties = seen.properties })
+    sees_id x s is same k = record {
+      parts = sees_word start d ms seen.parts name v h.parts (codes "id") same refl refl refl refl;
+      id = subst (IsSeen (IsFound identifier) (named (codes "id") more)) (sym is) (sees (IsFound identifier) (codes "id") ms name v seen.id h.id x same k);
+      properties = passes_properties (no_other name (codes "id") (codes "properties") same refl);
+    }
+
+    pub sees_properties : (x : Result (Option Members) TopoFault) (s : Seen (Result (Option Members) TopoFault)) → s ≡ see seen.properties x → bytes_eq name (codes "properties") ≡ true → IsFound members_if v x
+        → IsFeature start d more (record { parts = seen.parts; id = seen.id; properties = s })
+    sees_properties x s is same k = record {
+      parts = sees_word start d ms seen.parts name v h.parts (codes "properties") same refl refl refl refl;
+      id = passes_id (no_other name (codes "properties") (codes "id") same refl);
+      properties = subst (IsSeen (IsFound members_if) (named (codes "properties") more)) (sym is) (sees (IsFound members_if) (codes "properties") ms name v seen.properties h.properties x same k);
+    }
+
+    pub sees_part : (parts : GeometryParts) → bytes_eq name (codes "id") ≡ false → bytes_eq name (codes "properties") ≡ false → IsParts start d more parts
+        → IsFeature start d more (record { parts = parts; id = seen.id; properties = seen.properties })
+    sees_part parts no_id no_properties k = record { parts = k; id = passes_id no_id; properties = passes_properties no_properties }
+
+  -- a member of its geometry, or of another name
+  pub part_goes_on : (seen : FeatureParts) (after : GeometryParts) (bytes : List ℕ) → bytes_eq name (codes "id") ≡ false → bytes_eq name (codes "properties") ≡ false → (answer : Result (Bor (List ℕ)) Fault)
+      → GoesOnWith (IsParts start d) d name seen.parts after bytes answer → GoesOnWith (IsFeature start d) d name seen (record { parts = after; id = seen.id; properties = seen.properties }) bytes answer
+  part_goes_on seen after bytes no_id no_properties (Ok rest) g = record { value = g.value; front = g.front; holds = λ ms h. sees_part ms seen g.value h after no_id no_properties (g.holds ms h.parts) }
+  part_goes_on seen after bytes no_id no_properties (Err fault) g = g
+
+-- ---- what a member is that may be absent
+
+module _ {A : Type 0} (read : Option Json → Result A TopoFault) where
+  pub no_value : (vs : List Json) → vs ≡ [] → found_in read vs ≡ read None
+  no_value vs h = rw h refl
+
+  pub one_value : (vs : List Json) (v : Json) → vs ≡ v ∷ [] → found_in read vs ≡ read (Some v)
+  one_value vs v h = rw h refl
+
+  pub more_values : (vs : List Json) (v w : Json) (us : List Json) → vs ≡ v ∷ w ∷ us → found_in read vs ≡ Err Duplicate
+  more_values vs v w us h = rw h refl
+
+  then_found : {B : Type 0} (then : A → Reader B) (r : Result (Option Json) TopoFault) (c : Counts) → (pure r >>= λ v. pure (read v) >>= then) c ≡ (pure (found read r) >>= then) c
+  then_found then (Ok v) c = refl
+  then_found then (Err e) c = refl
+
+-- ---- the feature, part by part
+
+module _ (t : Option Transform) (arcs : List (List Point)) (type : Option GeometryType) (ms : Members) (c : Counts) where
+  abbrev with_both : Option Id → Option Members → Reader TopoFeature
+  with_both id properties = do
+    shape ← typed_shape t arcs type ms
+    give (record { id = id; properties = properties; shape = shape })
+
+  abbrev with_id : Option Id → Reader TopoFeature
+  with_id id = do
+    p ← pure (find (codes "properties") ms)
+    properties ← pure (members_if p)
+    with_both id properties
+
+  by_id : features.feature t arcs type ms c ≡ (pure (found_in identifier (named (codes "id") ms)) >>= with_id) c
+  unfolding features.feature
+  by_id = then_found identifier with_id (find (codes "id") ms) c
+
+  pub faulty_id : (e : TopoFault) → found_in identifier (named (codes "id") ms) ≡ Err e → features.feature t arcs type ms c ≡ Err e
+  faulty_id e h = by_id ∙ rw h refl
+
+  module _ (id : Option Id) (is : found_in identifier (named (codes "id") ms) ≡ Ok id) where
+    by_properties : features.feature t arcs type ms c ≡ (pure (found_in members_if (named (codes "properties") ms)) >>= with_both id) c
+    by_properties = by_id ∙ rw is (then_found members_if (with_both id) (find (codes "properties") ms) c)
+
+    pub faulty_properties : (e : TopoFault) → found_in members_if (named (codes "properties") ms) ≡ Err e → features.feature t arcs type ms c ≡ Err e
+    faulty_properties e h = by_properties ∙ rw h refl
+
+    module _ (properties : Option Members) (are : found_in members_if (named (codes "properties") ms) ≡ Ok properties) where
+      by_shape : features.feature t arcs type ms c ≡ with_both id properties c
+      by_shape = by_properties ∙ rw are refl
+
+      pub shaped : (shape : Option TopoShape) (d : Counts) → typed_shape t arcs type ms c ≡ Ok (shape, d) → features.feature t arcs type ms c ≡ Ok (record { id = id; properties = properties; shape = shape }, d)
+      shaped shape d h = by_shape ∙ rw h refl
+
+      faulty_shape : (e : TopoFault) → typed_shape t arcs type ms c ≡ Err e → features.feature t arcs type ms c ≡ Err e
+      faulty_shape e h = by_shape ∙ rw h refl
+
+      pub shape_stops : (new : Counts) (why : Stop TopoFault) → Judges (typed_shape t arcs type ms) c new (Err why) → Judges (features.feature t arcs type ms) c new (Err why)
+      shape_stops new (stop.Fault e) h = faulty_shape e h
+      shape_stops new stop.NoValue h = absurd h
+      shape_stops new stop.Memory h = tt
+
+  pub faulty_type : (e : TopoFault) → object_type ms ≡ Err e → typed_feature t arcs ms c ≡ Err e
+  faulty_type e h = rw h refl
+
+  pub known_type : object_type ms ≡ Ok type → typed_feature t arcs ms c ≡ features.feature t arcs type ms c
+  known_type h = rw h refl

@@ -1,0 +1,88 @@
+-- Objects by name, seen one after another.
+use Rattle.std.proofs.Common.{◌≡◌, ◌≢◌, ℕ, ◌+◌, ◌<◌, ◌≤◌, true, false, List, [], ◌∷◌, ◌++◌, length, get_or, drop, Option, Some, None, Result, Ok, Err, refl, sym, ap, ◌∙◌, append_assoc}
+use Rattle.std.specs.Prelude.{bytes_eq, is_some}
+use Rattle.std.specs.Option.{option_copied}
+use Rattle.json_value.specs.declared.json.Json.{Json}
+use Rattle.json_members.specs.Members.{Members}
+use Rattle.json_members.proofs.Turns.{drop_end, drop_here}
+use Rattle.geojson_types.specs.declared.counts.Counts.{Counts}
+use Rattle.topojson_types.specs.declared.object.TopoObject.{TopoObject}
+use Rattle.topojson_meaning.specs.declared.fault.TopoFault.{TopoFault}
+use Rattle.topojson_meaning.specs.Reader.{each, gather}
+use Rattle.topojson_reader.specs.declared.geometry_parts.Start.{Start}
+use Rattle.topojson_reader.specs.NamedObjects.{AreRead, FailsBehind, named_object, object}
+use Rattle.topojson_meaning.specs.declared.fault.TopoFault.TheVariants.{Duplicate}
+use Rattle.topojson_meaning.specs.Objects.{is_met, objects_behind}
+use Rattle.topojson_reading.specs.Names.{names_before_repeat}
+use Rattle.topojson_reading.proofs.Repeating.{names_of}
+use Rattle.topojson_reader.proofs.NamedLaws.{read_more}
+use Rattle.topojson_reader.proofs.NamedLaws as law
+
+module _ (start : Start) where
+  -- of no members
+  pub nothing : (c : Counts) → c ≡ start.counts → each (named_object start) [] start.counts ≡ Ok ([], c)
+  unfolding gather
+  nothing c h = ap (λ d. Ok ([], d)) (sym h)
+
+  module _ (ms : Members) (os : List (List ℕ × TopoObject)) (c : Counts) where
+    -- behind a fault
+    pub passes : (failed : Option (List ℕ × TopoFault)) (m : List ℕ × Json) → is_some failed ≡ true → AreRead start ms os c failed → AreRead start (ms ++ m ∷ []) os c failed
+    passes None m some h = absurd cc
+    passes (Some failed) m some h = record {
+      before = h.before;
+      value = h.value;
+      after = h.after ++ m ∷ [];
+      mid = h.mid;
+      are = ap (λ z. z ++ m ∷ []) h.are ∙ append_assoc h.before ((failed.0, h.value) ∷ h.after) (m ∷ []);
+      read = h.read;
+      fails = h.fails;
+    }
+
+    -- and where there was none
+    module _ (name : List ℕ) (v : Json) where
+      pub reads : (failed : Option (List ℕ × TopoFault)) → is_some failed ≡ false → AreRead start ms os c failed → (o : TopoObject) (d : Counts) → object start v c ≡ Ok (o, d) → AreRead start (ms ++ (name, v) ∷ []) (os ++ (name, o) ∷ []) d failed
+      reads None none h o d k = read_more (named_object start) (name, v) ms start.counts c d os (name, o) h (rw k refl)
+      reads (Some failed) none h o d k = absurd cc
+
+      pub fails : (failed : Option (List ℕ × TopoFault)) → is_some failed ≡ false → AreRead start ms os c failed → (e : TopoFault) → object start v c ≡ Err e → FailsBehind start (ms ++ (name, v) ∷ []) os (name, e)
+      fails None none h e k = record { before = ms; value = v; after = []; mid = c; are = refl; read = h; fails = k }
+      fails (Some failed) none h e k = absurd cc
+
+-- ---- a name among others
+
+module _ (name : List ℕ) (ms : List (List ℕ × TopoObject)) where
+  pub is_here : (i : ℕ) (m : List ℕ × TopoObject) → i < length ms → m ≡ get_or ms i m → is_met name (names_of ms) ≡ is_met name (names_of (drop i ms)) → bytes_eq m.0 name ≡ true → is_met name (names_of ms) ≡ true
+  is_here i m lt is now same = now ∙ ap (λ z. is_met name (names_of z)) (drop_here ms i m lt is) ∙ rw same refl
+
+  pub not_here : (i : ℕ) (m : List ℕ × TopoObject) → i < length ms → m ≡ get_or ms i m → is_met name (names_of ms) ≡ is_met name (names_of (drop i ms)) → bytes_eq m.0 name ≡ false → is_met name (names_of ms) ≡ is_met name (names_of (drop (i + 1) ms))
+  not_here i m lt is now other = now ∙ ap (λ z. is_met name (names_of z)) (drop_here ms i m lt is) ∙ rw other refl
+
+  pub not_there : (i : ℕ) → length ms ≤ i → is_met name (names_of ms) ≡ is_met name (names_of (drop i ms)) → is_met name (names_of ms) ≡ false
+  not_there i le now = now ∙ ap (λ z. is_met name (names_of z)) (drop_end i ms le)
+
+-- ---- all of them, in order
+
+module _ (start : Start) (ms : Members) (os : List (List ℕ × TopoObject)) (c : Counts) where
+  abbrev whole : Result (List (List ℕ × TopoObject) × Counts) TopoFault
+  whole = objects_behind (option_copied start.transform) start.arcs.now [] ms start.counts
+
+  pub repeated : (failed : Option (List ℕ × TopoFault)) → AreRead start ms os c failed → names_before_repeat [] (names_of os) ≢ length os → whole ≡ Err Duplicate
+  repeated None h k = law.one_repeats (option_copied start.transform) start.arcs.now ms start.counts c os h k
+  repeated (Some failed) h k =
+      ap (λ z. objects_behind (option_copied start.transform) start.arcs.now [] z start.counts) h.are
+      ∙ law.repeats_before (option_copied start.transform) start.arcs.now h.before failed.0 h.value h.after start.counts h.mid os h.read k
+
+  module _ (differ : names_before_repeat [] (names_of os) ≡ length os) where
+    pub all_read : (failed : Option (List ℕ × TopoFault)) → failed ≡ None → AreRead start ms os c failed → whole ≡ Ok (os, c)
+    all_read None is h = law.all_differ (option_copied start.transform) start.arcs.now ms start.counts c os h differ
+    all_read (Some failed) is h = absurd cc
+
+    module _ (name : List ℕ) (e : TopoFault) (h : FailsBehind start ms os (name, e)) where
+      are : whole ≡ objects_behind (option_copied start.transform) start.arcs.now [] (h.before ++ (name, h.value) ∷ h.after) start.counts
+      are = ap (λ z. objects_behind (option_copied start.transform) start.arcs.now [] z start.counts) h.are
+
+      pub repeats_there : is_met name (names_of os) ≡ true → whole ≡ Err Duplicate
+      repeats_there again = are ∙ law.repeats_there (option_copied start.transform) start.arcs.now h.before name h.value h.after start.counts h.mid os h.read differ again
+
+      pub fails_there : is_met name (names_of os) ≡ false → whole ≡ Err e
+      fails_there new = are ∙ law.fails_there (option_copied start.transform) start.arcs.now h.before name h.value h.after start.counts h.mid os h.read differ e h.fails new

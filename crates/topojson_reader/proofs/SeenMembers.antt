@@ -1,0 +1,85 @@
+-- Members that are looked up, seen one after another.
+use Rattle.std.proofs.Common.{◌≡◌, ℕ, true, false, List, [], ◌∷◌, ◌++◌, Option, Some, Ok, Err, refl, sym, subst, ap, ◌∙◌}
+use Rattle.std.specs.Prelude.{bytes_eq, Result}
+use Rattle.std.specs.Borrow.{Bor}
+use Rattle.json_value.specs.declared.json.Json.{Json}
+use Rattle.json_value.specs.Reading.{◌>>=◌}
+use Rattle.json_members.specs.Members.{Members, named}
+use Rattle.json_reading.specs.declared.fault.Fault.{Fault}
+use Rattle.json_reading.specs.declared.fault.Fault.TheVariants as text
+use Rattle.json_reading.proofs.Steps.{pair_is}
+use Rattle.json_cursor.proofs.Steps.{found_stops}
+use Rattle.geojson_types.specs.declared.counts.Counts.{Counts}
+use Rattle.topojson_meaning.specs.Reader.{Reader}
+use Rattle.topojson_meaning.specs.declared.fault.TopoFault.{TopoFault}
+use Rattle.json_cursor.specs.Answers.{Answers, Reads, Stops}
+use Rattle.json_cursor.specs.declared.stop.Stop.{Stop}
+use Rattle.json_cursor.specs.declared.stop.Stop.TheVariants as stop
+use Rattle.json_cursor.specs.Arrays.{front_value}
+use Rattle.json_cursor.specs.Members.{GoesOn, Made, front_member}
+use Rattle.topojson_reader.specs.declared.seen.Seen.{Seen}
+use Rattle.topojson_reader.specs.declared.seen.Seen.TheVariants.{Never, Once, Again}
+use Rattle.topojson_reader.specs.Members.{GoesOnWith, IsSeen, Judges, see}
+use Rattle.topojson_reader.proofs.IndexParts.{one_more, no_more}
+
+one_seen : {A : Type 0} (Is : Json → A → Type 0) (vs : List Json) (s : Seen A) (v : Json) (x : A) → IsSeen Is vs s → Is v x → IsSeen Is (vs ++ v ∷ []) (see s x)
+one_seen Is vs Never v x h is = (v, ap (λ us. us ++ v ∷ []) h, is)
+one_seen Is vs (Once y) v x (w, same, k) is = (w, v, [], ap (λ us. us ++ v ∷ []) same)
+one_seen Is vs Again v x (w, u, us, same) is = (w, u, us ++ v ∷ [], ap (λ ws. ws ++ v ∷ []) same)
+
+module _ {A : Type 0} (Is : Json → A → Type 0) (word : List ℕ) (ms : Members) (name : List ℕ) (v : Json) (s : Seen A) (h : IsSeen Is (named word ms) s) where
+  -- a member of this name
+  pub sees : (x : A) → bytes_eq name word ≡ true → Is v x → IsSeen Is (named word (ms ++ (name, v) ∷ [])) (see s x)
+  sees x same is = subst (λ us. IsSeen Is us (see s x)) (sym (one_more word ms v name same)) (one_seen Is (named word ms) s v x h is)
+
+  -- and of another
+  pub passes : bytes_eq name word ≡ false → IsSeen Is (named word (ms ++ (name, v) ∷ [])) s
+  passes other = subst (λ us. IsSeen Is us s) (sym (no_more word ms v name other)) h
+
+-- ---- a member, as soon as its name was found
+
+member_found : (d : ℕ) (bytes name value rest : List ℕ) (v : Json) → front_member d bytes ≡ (front_value d value >>= λ x. Some ((name, x.0), x.1)) → front_value d value ≡ Some (v, rest)
+    → front_member d bytes ≡ Some ((name, v), rest)
+member_found d bytes name value rest v named found = named ∙ rw found refl
+
+pub member_goes_on : {S : Type 0} (Holds : Made S) (d : ℕ) (before after : S) (bytes name value : List ℕ) → front_member d bytes ≡ (front_value d value >>= λ x. Some ((name, x.0), x.1))
+    → (answer : Result (Bor (List ℕ)) Fault) → GoesOnWith Holds d name before after value answer → GoesOn Holds d before after bytes answer
+member_goes_on Holds d before after bytes name value named (Ok rest) h = record { member = (name, h.value); front = member_found d bytes name value rest.now h.value named h.front; holds = h.holds }
+member_goes_on Holds d before after bytes name value named (Err (text.Malformed why left)) h = named ∙ rw h refl
+member_goes_on Holds d before after bytes name value named (Err text.Memory) h = tt
+
+-- ---- what is answered of the value that is known to stand at a front
+
+pub judged : {B : Type 0} (read : Json → Reader B) (front : Option (Json × List ℕ)) (v : Json) (rest : List ℕ) (old new : Counts) → front ≡ Some (v, rest)
+    → (why : Stop TopoFault) → Stops read front old why → Judges (read v) old new (Err why)
+judged read front v rest old new is (stop.Fault e) h = h v rest is
+judged read front v rest old new is stop.NoValue h = let wrong = sym h ∙ is in cc
+judged read front v rest old new is stop.Memory h = tt
+
+pub judged_read : {B : Type 0} (read : Json → Reader B) (front : Option (Json × List ℕ)) (v : Json) (rest : List ℕ) (old new : Counts) → front ≡ Some (v, rest)
+    → (x : B) (end : List ℕ) → Reads read front x end old new → read v old ≡ Ok (x, new)
+judged_read read front v rest old new is x end r = ap (λ w. read w old) (pair_is v rest (r.value, end) (sym is ∙ r.front_is)).0 ∙ r.means
+
+-- readers that answer the same are judged by the same
+pub judges_same : {B : Type 0} (r s : Reader B) (old new : Counts) → r old ≡ s old → (result : Result B (Stop TopoFault)) → Judges s old new result → Judges r old new result
+judges_same r s old new e (Ok x) h = e ∙ h
+judges_same r s old new e (Err (stop.Fault k)) h = e ∙ h
+judges_same r s old new e (Err stop.NoValue) h = absurd h
+judges_same r s old new e (Err stop.Memory) h = tt
+
+-- ---- what is judged of the object that stands there is answered of it
+
+module _ {B : Type 0} (read : Json → Reader B) (inner : Reader B) (front : Option (Json × List ℕ)) (v : Json) (rest : List ℕ) (old : Counts) (is : front ≡ Some (v, rest)) (law : read v old ≡ inner old) where
+  pub object_stops : (new : Counts) (why : Stop TopoFault) → Judges inner old new (Err why) → Stops read front old why
+  object_stops new (stop.Fault e) h = found_stops read front old v rest e is (law ∙ h)
+  object_stops new stop.NoValue h = absurd h
+  object_stops new stop.Memory h = tt
+
+  pub object_reads : (x : B) (new : Counts) → inner old ≡ Ok (x, new) → Reads read front x rest old new
+  object_reads x new h = record { value = v; front_is = is; means = law ∙ h }
+
+-- ---- why a reader stopped
+
+pub stopped : {B : Type 0} (read : Json → Reader B) (front : Option (Json × List ℕ)) (old new : Counts) (answer : Result (B × Bor (List ℕ)) (Stop TopoFault)) (why : Stop TopoFault) → answer ≡ Err why
+    → Answers (λ x. x) read front old new answer → Stops read front old why
+stopped read front old new answer why is h = subst (Answers (λ x. x) read front old new) is h

@@ -1,0 +1,5 @@
+use Rattle.topojson_reader.proofs.NamedSeen.{nothing}
+use Rattle.topojson_reader.proofs.named_objects.none.Goals as goal
+
+pub returns : goal.returns
+returns c = λ start deep same. rw c.new.ensures.items (nothing start c.args.counts same)

@@ -1,0 +1,171 @@
+// What is seen of the members of a feature (TopoJSON 1.0, section 2.2).
+ghost use Rattle.std.specs.Prelude.{◌≡◌, [], ℕ, List, None, Ok, Option, Result};
+ghost use Rattle.json_value.specs.declared.json.Json.{Json as Value};
+ghost use Rattle.json_members.specs.Members.{Members as Listed};
+ghost use Rattle.topojson_meaning.specs.Features.{identifier as identifier_in, members_if};
+ghost use Rattle.topojson_meaning.specs.declared.fault.TopoFault.{TopoFault as Refusal};
+ghost use Rattle.topojson_reader.specs.Features.{IsFeature, IsFound, feature, found_in as found_among};
+ghost use Rattle.topojson_reader.specs.Members.{GoesOnWith, IsSeen, Judges, Meets};
+ghost use Rattle.topojson_reader.specs.declared.geometry_parts.Start.{Start as Begun};
+
+use crate::geometries::typed_of;
+use crate::geometry_parts::{GeometryParts, Start};
+use crate::index::is_name;
+use crate::seen::Seen;
+use geojson_types::{Counts, Id, Properties};
+use json_cursor::{Kind, Members, Stop, kind_at, name_at};
+use json_reading::{Fault, value_at};
+use properties_scanning::read_properties;
+use std::alloc::Global;
+use text_checking::after_value;
+use topojson_meaning::{GeometryType, TopoFault};
+use topojson_reading::identifier;
+use topojson_types::TopoFeature;
+
+/// What was seen of the members of a feature: those of its geometry, and what its identifier and its properties are, or their faults.
+#[derive(Drop)]
+pub struct FeatureParts<'a> {
+    pub parts: GeometryParts<'a>,
+    pub id: Seen<Result<Option<Id>, TopoFault>>,
+    pub properties: Seen<Result<Option<Properties>, TopoFault>>,
+}
+
+/// The identifier that the value at the front is, or its fault, and what follows it.
+fn id_at<'a>(
+    alloc: Global,
+    deep: u32,
+    bytes: &'a [u8],
+) -> Result<(Result<Option<Id>, TopoFault>, &'a [u8]), Fault>
+    ensures { Meets (IsFound identifier_in) deep bytes.now result }
+{
+    match kind_at(bytes) {
+        Kind::Array => {
+            let rest = after_value(alloc, deep, bytes)?;
+            Ok((Err(TopoFault::WrongKind), rest))
+        }
+        Kind::Object => {
+            let rest = after_value(alloc, deep, bytes)?;
+            Ok((Err(TopoFault::WrongKind), rest))
+        }
+        _ => {
+            let (value, rest) = value_at(alloc, deep, bytes)?;
+            Ok((identifier(Some(value)), rest))
+        }
+    }
+}
+
+/// The properties that the value at the front is, or their fault, and what follows it.
+fn properties_member<'a>(
+    alloc: Global,
+    deep: u32,
+    bytes: &'a [u8],
+) -> Result<(Result<Option<Properties>, TopoFault>, &'a [u8]), Fault>
+    ensures { Meets (IsFound members_if) deep bytes.now result }
+{
+    let (read, rest) = read_properties(alloc, deep, bytes)?;
+    match read {
+        None => Ok((Err(TopoFault::WrongKind), rest)),
+        Some(properties) => Ok((Ok(properties), rest)),
+    }
+}
+
+impl<'a> FeatureParts<'a> {
+    /// Of no members.
+    pub(crate) fn none() -> FeatureParts<'a>
+        ensures { (start : Begun) (deep : ℕ) → IsFeature start deep [] result }
+    {
+        FeatureParts {
+            parts: GeometryParts::none(),
+            id: Seen::Never,
+            properties: Seen::Never,
+        }
+    }
+
+    /// Goes on with the value at the front of a member of this name, and gives what follows it.
+    pub(crate) fn value(
+        &mut self,
+        alloc: Global,
+        deep: u32,
+        name: &str,
+        bytes: &'a [u8],
+        start: Start<'a>,
+    ) -> Result<&'a [u8], Fault>
+        ensures { GoesOnWith (IsFeature start.entry deep) deep name.now self.old self.new bytes.now result }
+    {
+        if is_name(name, "id") {
+            let (id, rest) = id_at(alloc, deep, bytes)?;
+            self.id.see(id);
+            return Ok(rest);
+        }
+        if is_name(name, "properties") {
+            let (properties, rest) = properties_member(alloc, deep, bytes)?;
+            self.properties.see(properties);
+            return Ok(rest);
+        }
+        self.parts.value(alloc, deep, name, bytes, start)
+    }
+}
+
+impl<'a> Members<'a> for FeatureParts<'a> {
+    type With = Start<'a>;
+
+    ghost holds = { IsFeature };
+
+    fn member(
+        &mut self,
+        alloc: Global,
+        deep: u32,
+        bytes: &'a [u8],
+        with: Start<'a>,
+    ) -> Result<&'a [u8], Fault> {
+        let (name, value) = name_at(alloc, bytes)?;
+        self.value(alloc, deep, name.as_str(), value, with)
+    }
+}
+
+/// What a member is that was seen so, and that may be absent.
+fn found_in<T: Drop>(seen: Seen<Result<Option<T>, TopoFault>>) -> Result<Option<T>, TopoFault>
+    ensures { (read : Option Value → Result (Option T) Refusal) (vs : List Value) → read None ≡ Ok None → IsSeen (IsFound read) vs seen → result ≡ found_among read vs }
+{
+    match seen {
+        Seen::Never => Ok(None),
+        Seen::Again => Err(TopoFault::Duplicate),
+        Seen::Once(found) => found,
+    }
+}
+
+/// The feature of this type whose members were seen so.
+pub(crate) fn feature_of(
+    alloc: Global,
+    deep: u32,
+    kind: Option<GeometryType>,
+    seen: FeatureParts<'_>,
+    start: Start<'_>,
+    counts: &mut Counts,
+) -> Result<TopoFeature, Stop<TopoFault>>
+    ensures { (ms : Listed) → IsFeature start.entry deep ms seen.entry → Judges (feature start.entry kind ms) start.entry.counts counts.new result }
+{
+    let FeatureParts {
+        parts,
+        id,
+        properties,
+    } = seen;
+    let id = match found_in(id) {
+        Err(fault) => return Err(Stop::Fault(fault)),
+        Ok(id) => id,
+    };
+    let properties = match found_in(properties) {
+        Err(fault) => return Err(Stop::Fault(fault)),
+        Ok(properties) => properties,
+    };
+    match typed_of(alloc, deep, kind, parts, start, counts) {
+        Err(stop) => Err(stop),
+        Ok(shape) => {
+            Ok(TopoFeature {
+                id,
+                properties,
+                shape,
+            })
+        }
+    }
+}

@@ -1,0 +1,126 @@
+// Features in collections (TopoJSON 1.0, section 2.2).
+ghost use Rattle.std.specs.Prelude.{◌≡◌, length};
+ghost use Rattle.std.specs.Option.{option_copied};
+ghost use Rattle.json_members.specs.Members.{Members as Listed};
+ghost use Rattle.json_cursor.specs.Answers.{Answers};
+ghost use Rattle.json_cursor.specs.Arrays.{front_elements, front_value};
+ghost use Rattle.topojson_meaning.specs.Features.{feature_element};
+ghost use Rattle.topojson_meaning.specs.Objects.{features};
+ghost use Rattle.topojson_meaning.specs.Reader.{each};
+ghost use Rattle.topojson_reader.specs.Features.{IsFeature, typed_feature};
+ghost use Rattle.topojson_reader.specs.Members.{Judges};
+
+use crate::feature_parts::{FeatureParts, feature_of};
+use crate::geometry_parts::{Start, kind_of};
+use geojson_types::Counts;
+use json_cursor::{Mark, Opening, Stop, mark_at, object_at, opening_at};
+use json_reading::skip;
+use json_value::Items;
+use std::alloc::Global;
+use topojson_meaning::TopoFault;
+use topojson_types::{Cell, TopoFeature, Transform};
+
+/// The feature whose members were seen so.
+fn typed_feature_of(
+    alloc: Global,
+    deep: u32,
+    seen: FeatureParts<'_>,
+    start: Start<'_>,
+    counts: &mut Counts,
+) -> Result<TopoFeature, Stop<TopoFault>>
+    ensures { (ms : Listed) → IsFeature start.entry deep ms seen.entry
+        → Judges (typed_feature (option_copied start.entry.transform) start.entry.arcs.now ms) start.entry.counts counts.new result }
+{
+    match kind_of(&seen.parts.kind) {
+        Err(fault) => Err(Stop::Fault(fault)),
+        Ok(kind) => feature_of(alloc, deep, kind, seen, start, counts),
+    }
+}
+
+/// The feature at the front that is a geometry in a collection, and what follows it; or why reading stops. Its members may stand in any
+/// order.
+pub fn feature_at<'a>(
+    alloc: Global,
+    deep: u32,
+    transform: Option<&'a Transform>,
+    arcs: &'a [Items<Cell>],
+    bytes: &'a [u8],
+    counts: &mut Counts,
+) -> Result<(TopoFeature, &'a [u8]), Stop<TopoFault>>
+    ensures { Answers (λ x. x) (feature_element (option_copied transform.entry) arcs.now) (front_value deep bytes.now) counts.old counts.new result }
+{
+    let start = Start {
+        transform,
+        arcs,
+        counts: *counts,
+    };
+    let none = FeatureParts::none();
+    let (found, rest) = object_at::<FeatureParts<'a>>(alloc, deep, none, bytes, start)?;
+    let Some(seen) = found else {
+        return Err(Stop::Fault(TopoFault::WrongKind));
+    };
+    match typed_feature_of(alloc, deep - 1, seen, start, counts) {
+        Err(stop) => Err(stop),
+        Ok(feature) => Ok((feature, rest)),
+    }
+}
+
+/// The features behind the bracket of an array, one or more, and what follows it.
+fn features_behind<'a>(
+    alloc: Global,
+    deep: u32,
+    transform: Option<&'a Transform>,
+    arcs: &'a [Items<Cell>],
+    inside: &'a [u8],
+    counts: &mut Counts,
+) -> Result<(Vec<TopoFeature>, &'a [u8]), Stop<TopoFault>>
+    ensures { Answers (λ v. v.items) (each (feature_element (option_copied transform.entry) arcs.now)) (front_elements deep (length inside.now) inside.now) counts.old counts.new result }
+{
+    let mut read = Vec::new(alloc);
+    let mut rest = inside;
+    'features: for _ in 0..inside.len() {
+        match feature_at(alloc, deep, transform, arcs, skip(rest), counts) {
+            Err(stop) => return Err(stop),
+            Ok((feature, behind)) => {
+                read.push(feature)?;
+                let (mark, more) = mark_at(behind);
+                match mark {
+                    Mark::Neither => return Err(Stop::NoValue),
+                    Mark::Close => return Ok((read, more)),
+                    Mark::Comma => {}
+                }
+                rest = more;
+            }
+        }
+    }
+    Err(Stop::NoValue)
+}
+
+/// The features of the collection whose `geometries` stand at the front, and what follows them; or why reading stops.
+pub fn features_at<'a>(
+    alloc: Global,
+    deep: u32,
+    transform: Option<&'a Transform>,
+    arcs: &'a [Items<Cell>],
+    bytes: &'a [u8],
+    counts: &mut Counts,
+) -> Result<(Items<TopoFeature>, &'a [u8]), Stop<TopoFault>>
+    ensures { Answers (λ x. x) (features (option_copied transform.entry) arcs.now) (front_value deep bytes.now) counts.old counts.new result }
+{
+    let (opening, inside) = opening_at(deep, bytes);
+    match opening {
+        Opening::NoArray => Err(Stop::Fault(TopoFault::WrongKind)),
+        Opening::TooDeep => Err(Stop::NoValue),
+        Opening::Empty => Ok((Items::of(Vec::new(alloc)), inside)),
+        Opening::Filled(below) => {
+            match features_behind(alloc, below, transform, arcs, inside, counts) {
+                Err(stop) => Err(stop),
+                Ok((read, rest)) => {
+                    let mut features = read;
+                    features.shrink_to_fit();
+                    Ok((Items::of(features), rest))
+                }
+            }
+        }
+    }
+}

@@ -1,0 +1,209 @@
+// Geometries inside collections (TopoJSON 1.0, section 2.2.7).
+ghost use Rattle.std.specs.Prelude.{◌≡◌, ◌++◌, OnOk, Some, codes, length, option_to_list};
+ghost use Rattle.std.specs.Option.{option_copied};
+ghost use Rattle.json_members.specs.Members.{Members as Listed, named};
+ghost use Rattle.json_cursor.specs.Answers.{Answers};
+ghost use Rattle.json_cursor.specs.Arrays.{front_elements, front_value};
+ghost use Rattle.topojson_meaning.specs.Reader.{kept};
+ghost use Rattle.topojson_meaning.specs.Shapes.{shape, shapes};
+ghost use Rattle.topojson_meaning.specs.declared.geometry_type.GeometryType.TheVariants as types;
+ghost use Rattle.topojson_reader.specs.Geometries.{IsParts, geometry, typed_shape};
+ghost use Rattle.topojson_reader.specs.Members.{IsFront, IsSeen, Judges};
+
+use crate::geometry_parts::{GeometryParts, PartType, Start, kind_of, part_of};
+use crate::seen::Seen;
+use geojson_types::Counts;
+use json_cursor::{Mark, Stop, behind_byte, mark_at, object_at};
+use json_reading::skip;
+use json_value::Items;
+use std::alloc::{AllocFailed, Global};
+use topojson_meaning::{GeometryType, TopoFault};
+use topojson_types::{Cell, TopoShape, Transform};
+
+/// What the member `geometries` of a collection is.
+#[cycle(geometries)]
+fn group_of(
+    alloc: Global,
+    deep: u32,
+    geometries: Seen<&[u8]>,
+    start: Start<'_>,
+    counts: &mut Counts,
+) -> Result<Option<TopoShape>, Stop<TopoFault>>
+    ensures { (ms : Listed) → IsSeen (IsFront deep) (named (codes "geometries") ms) geometries.entry
+        → Judges (typed_shape start.entry (Some types.Collection) ms) start.entry.counts counts.new result }
+{
+    match geometries {
+        Seen::Never => Err(Stop::Fault(TopoFault::Missing)),
+        Seen::Again => Err(Stop::Fault(TopoFault::Duplicate)),
+        Seen::Once(front) => {
+            *counts = start.counts;
+            match geometries_at(alloc, deep, start.transform, start.arcs, front, counts) {
+                Err(stop) => Err(stop),
+                Ok((shapes, _)) => Ok(Some(TopoShape::Group(shapes))),
+            }
+        }
+    }
+}
+
+/// The shape of a geometry of this type whose members were seen so. A null type has none.
+#[cycle(geometries)]
+pub(crate) fn typed_of(
+    alloc: Global,
+    deep: u32,
+    kind: Option<GeometryType>,
+    parts: GeometryParts<'_>,
+    start: Start<'_>,
+    counts: &mut Counts,
+) -> Result<Option<TopoShape>, Stop<TopoFault>>
+    ensures { (ms : Listed) → IsParts start.entry deep ms parts.entry → Judges (typed_shape start.entry kind ms) start.entry.counts counts.new result }
+{
+    let GeometryParts {
+        kind: _,
+        coordinates,
+        arcs,
+        geometries,
+    } = parts;
+    match kind {
+        None => {
+            *counts = start.counts;
+            Ok(None)
+        }
+        Some(kind) => match kind {
+            GeometryType::Places(kind) => {
+                part_of(
+                    alloc,
+                    deep,
+                    PartType::Places(kind),
+                    coordinates,
+                    start,
+                    counts,
+                )
+            }
+            GeometryType::Arcs(kind) => {
+                part_of(alloc, deep, PartType::Arcs(kind), arcs, start, counts)
+            }
+            GeometryType::Collection => group_of(alloc, deep, geometries, start, counts),
+        },
+    }
+}
+
+/// The geometry whose members were seen so.
+#[cycle(geometries)]
+fn shape_of(
+    alloc: Global,
+    deep: u32,
+    parts: GeometryParts<'_>,
+    start: Start<'_>,
+    counts: &mut Counts,
+) -> Result<Option<TopoShape>, Stop<TopoFault>>
+    ensures { (ms : Listed) → IsParts start.entry deep ms parts.entry → Judges (geometry start.entry ms) start.entry.counts counts.new result }
+{
+    match kind_of(&parts.kind) {
+        Err(fault) => Err(Stop::Fault(fault)),
+        Ok(kind) => typed_of(alloc, deep, kind, parts, start, counts),
+    }
+}
+
+/// The geometry at the front, which is none where nothing is left of it, and what follows it; or why reading stops. Its members may stand
+/// in any order.
+#[cycle(geometries)]
+pub fn geometry_at<'a>(
+    alloc: Global,
+    deep: u32,
+    transform: Option<&'a Transform>,
+    arcs: &'a [Items<Cell>],
+    bytes: &'a [u8],
+    counts: &mut Counts,
+) -> Result<(Option<TopoShape>, &'a [u8]), Stop<TopoFault>>
+    ensures { Answers (λ x. x) (shape (option_copied transform.entry) arcs.now) (front_value deep bytes.now) counts.old counts.new result }
+{
+    let start = Start {
+        transform,
+        arcs,
+        counts: *counts,
+    };
+    let none = GeometryParts::none();
+    let (found, rest) = object_at::<GeometryParts<'a>>(alloc, deep, none, bytes, start)?;
+    let Some(parts) = found else {
+        return Err(Stop::Fault(TopoFault::WrongKind));
+    };
+    match shape_of(alloc, deep - 1, parts, start, counts) {
+        Err(stop) => Err(stop),
+        Ok(shape) => Ok((shape, rest)),
+    }
+}
+
+/// Puts one behind the others, if there is one.
+fn push_some(
+    read: &mut Vec<TopoShape>,
+    one: Option<TopoShape>,
+) -> Result<(), AllocFailed<TopoShape>>
+    ensures { OnOk result (read.new.items ≡ read.old.items ++ option_to_list one) }
+{
+    match one {
+        None => Ok(()),
+        Some(one) => {
+            read.push(one)?;
+            Ok(())
+        }
+    }
+}
+
+/// The geometries behind the bracket of an array, one or more, without those of which nothing is left, and what follows it.
+#[cycle(geometries)]
+fn geometries_behind<'a>(
+    alloc: Global,
+    deep: u32,
+    transform: Option<&'a Transform>,
+    arcs: &'a [Items<Cell>],
+    inside: &'a [u8],
+    counts: &mut Counts,
+) -> Result<(Vec<TopoShape>, &'a [u8]), Stop<TopoFault>>
+    ensures { Answers (λ v. v.items) (kept (shape (option_copied transform.entry) arcs.now)) (front_elements deep (length inside.now) inside.now) counts.old counts.new result }
+{
+    let mut read = Vec::new(alloc);
+    let mut rest = inside;
+    'geometries: for _ in 0..inside.len() {
+        match geometry_at(alloc, deep, transform, arcs, skip(rest), counts) {
+            Err(stop) => return Err(stop),
+            Ok((one, behind)) => {
+                push_some(&mut read, one)?;
+                let (mark, more) = mark_at(behind);
+                match mark {
+                    Mark::Neither => return Err(Stop::NoValue),
+                    Mark::Close => return Ok((read, more)),
+                    Mark::Comma => {}
+                }
+                rest = more;
+            }
+        }
+    }
+    Err(Stop::NoValue)
+}
+
+/// The geometries of the array at the front, without those of which nothing is left, and what follows it; or why reading stops.
+#[cycle(geometries)]
+fn geometries_at<'a>(
+    alloc: Global,
+    deep: u32,
+    transform: Option<&'a Transform>,
+    arcs: &'a [Items<Cell>],
+    bytes: &'a [u8],
+    counts: &mut Counts,
+) -> Result<(Items<TopoShape>, &'a [u8]), Stop<TopoFault>>
+    ensures { Answers (λ x. x) (shapes (option_copied transform.entry) arcs.now) (front_value deep bytes.now) counts.old counts.new result }
+{
+    let Some(inside) = behind_byte(b'[', bytes) else {
+        return Err(Stop::Fault(TopoFault::WrongKind));
+    };
+    if deep == 0 {
+        return Err(Stop::NoValue);
+    }
+    if let Some(rest) = behind_byte(b']', skip(inside)) {
+        return Ok((Items::of(Vec::new(alloc)), rest));
+    }
+    match geometries_behind(alloc, deep - 1, transform, arcs, inside, counts) {
+        Err(stop) => Err(stop),
+        Ok((read, rest)) => Ok((Items::of(read), rest)),
+    }
+}

@@ -1,0 +1,158 @@
+// The objects of a topology by name (TopoJSON 1.0, section 2.1.5).
+ghost use Rattle.std.specs.Prelude.{◌≡◌, [], ℕ, map};
+ghost use Rattle.std.specs.Option.{option_copied};
+ghost use Rattle.json_members.specs.Members.{Members as Listed};
+ghost use Rattle.json_cursor.specs.Answers.{Answers};
+ghost use Rattle.json_cursor.specs.Arrays.{front_value};
+ghost use Rattle.topojson_meaning.specs.Objects.{is_met, objects, objects_behind};
+ghost use Rattle.topojson_reader.specs.Members.{Judges};
+ghost use Rattle.topojson_reader.specs.NamedObjects.{AreObjects};
+ghost use Rattle.topojson_reader.specs.declared.geometry_parts.Start.{Start as Begun};
+
+use crate::geometry_parts::Start;
+use crate::held::held;
+use crate::object_parts::object_at;
+use crate::objects::name_at;
+use geojson_types::Counts;
+use json_cursor::{Members, Stop, object_at as members_at};
+use json_reading::Fault;
+use json_value::{Items, OwnText};
+use std::alloc::Global;
+use text_checking::after_value;
+use topojson_meaning::TopoFault;
+use topojson_reading::members_before_repeat;
+use topojson_types::{Cell, TopoObject, Transform};
+
+/// The objects that were read so far, in order, and what was counted. Once one has a fault, that and its name are kept, and no more is read.
+#[derive(Drop)]
+pub struct NamedObjects {
+    pub list: Vec<(OwnText, TopoObject)>,
+    pub counts: Counts,
+    pub failed: Option<(OwnText, TopoFault)>,
+}
+
+/// None yet.
+fn none(alloc: Global, counts: Counts) -> NamedObjects
+    ensures { (start : Begun) (deep : ℕ) → counts ≡ start.counts → AreObjects start deep [] result }
+{
+    NamedObjects {
+        list: Vec::new(alloc),
+        counts,
+        failed: None,
+    }
+}
+
+impl<'a> Members<'a> for NamedObjects {
+    type With = Start<'a>;
+
+    ghost holds = { AreObjects };
+
+    fn member(
+        &mut self,
+        alloc: Global,
+        deep: u32,
+        bytes: &'a [u8],
+        with: Start<'a>,
+    ) -> Result<&'a [u8], Fault> {
+        let (name, value) = name_at(alloc, bytes)?;
+        if self.failed.is_some() {
+            let rest = after_value(alloc, deep, value)?;
+            return Ok(rest);
+        }
+        let answer = object_at(
+            alloc,
+            deep,
+            with.transform,
+            with.arcs,
+            value,
+            &mut self.counts,
+        );
+        let (object, rest) = held(alloc, deep, value, answer)?;
+        match object {
+            Ok(object) => {
+                self.list.push((name, object))?;
+                Ok(rest)
+            }
+            Err(fault) => {
+                self.failed = Some((name, fault));
+                Ok(rest)
+            }
+        }
+    }
+}
+
+/// Whether one of them has this name.
+fn is_among(name: &str, list: &[(OwnText, TopoObject)]) -> bool
+    ensures { result ≡ is_met name.now (map (λ m. m.0) list.now) }
+{
+    'names: for at in 0..list.len() {
+        if list[at].0.as_str() == name {
+            return true;
+        }
+    }
+    false
+}
+
+/// They, or the first fault: a name that is repeated before one has a fault, or by that one, or that fault.
+fn in_order(
+    alloc: Global,
+    seen: NamedObjects,
+    start: Start<'_>,
+    counts: &mut Counts,
+) -> Result<Items<(OwnText, TopoObject)>, Stop<TopoFault>>
+    ensures { (deep : ℕ) (ms : Listed) → AreObjects start.entry deep ms seen
+        → Judges (objects_behind (option_copied start.entry.transform) start.entry.arcs.now [] ms) start.entry.counts counts.new result }
+{
+    let NamedObjects {
+        list,
+        counts: counted,
+        failed,
+    } = seen;
+    let Ok(repeat) = members_before_repeat(alloc, &list) else {
+        return Err(Stop::Memory);
+    };
+    if repeat != list.len() {
+        return Err(Stop::Fault(TopoFault::Duplicate));
+    }
+    match failed {
+        None => {
+            *counts = counted;
+            let mut objects = list;
+            objects.shrink_to_fit();
+            Ok(Items::of(objects))
+        }
+        Some((name, fault)) => {
+            if is_among(name.as_str(), &list) {
+                return Err(Stop::Fault(TopoFault::Duplicate));
+            }
+            Err(Stop::Fault(fault))
+        }
+    }
+}
+
+/// The objects by name that the value of `objects` at the front is, in order, over these arcs, and what follows it; or why reading stops.
+pub fn objects_at<'a>(
+    alloc: Global,
+    deep: u32,
+    transform: Option<&'a Transform>,
+    arcs: &'a [Items<Cell>],
+    bytes: &'a [u8],
+    counts: &mut Counts,
+) -> Result<(Items<(OwnText, TopoObject)>, &'a [u8]), Stop<TopoFault>>
+    ensures { Answers (λ x. x) (objects (option_copied transform.entry) arcs.now) (front_value deep bytes.now) counts.old counts.new result }
+{
+    let start = Start {
+        transform,
+        arcs,
+        counts: *counts,
+    };
+    let none = none(alloc, *counts);
+    let (found, rest) = members_at::<NamedObjects>(alloc, deep, none, bytes, start)?;
+    let Some(seen) = found else {
+        return Err(Stop::Fault(TopoFault::WrongKind));
+    };
+    match in_order(alloc, seen, start, counts) {
+        Err(stop) => Err(stop),
+        Ok(objects) => Ok((objects, rest)),
+    }
+}

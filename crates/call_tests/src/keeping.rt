@@ -2,7 +2,7 @@
 use feature_properties::{Properties, PropertiesForm};
 use json_value::Json;
 use properties_reading::property_values;
-use properties_scanning::properties_at;
+use properties_scanning::read_properties;
 use std::alloc::Global;
 
 // The text without white space, with its characters written in the one way.
@@ -35,11 +35,11 @@ fn are_as_read(alloc: Global, properties: &Properties) -> bool {
 
 /// Whether the properties at the front are as they are read, and this follows them.
 fn is_read(alloc: Global, text: &str, behind: &str) -> bool {
-    let Ok(read) = properties_at(alloc, 124, text.as_bytes()) else {
+    let Ok(read) = read_properties(alloc, 124, text.as_bytes()) else {
         return false;
     };
-    let (properties, rest) = read;
-    let Some(properties) = properties else {
+    let (given, rest) = read;
+    let Some(Some(properties)) = given else {
         return false;
     };
     rest == behind.as_bytes() && are_as_read(alloc, &properties)

@@ -15,15 +15,12 @@ ghost use Rattle.geojson_reader.specs.declared.geometries.Start.{Start as Begun}
 use crate::seen::Seen;
 use crate::shapes::coordinates_at;
 use geojson_model::{
-    CoordinatesType,
-    GeoFaultKind,
-    GeoJsonType,
-    GeometryType,
-    geojson_type,
-    geometry_type,
+    CoordinatesType, GeoFaultKind, GeoJsonType, GeometryType, geojson_type, geometry_type,
 };
 use geojson_types::{Counts, Shape};
-use json_cursor::{Mark, Members, Name, Stop, behind_byte, mark_at, name_at, object_into, string_at};
+use json_cursor::{
+    Mark, Members, Name, Stop, behind_byte, mark_at, name_at, object_into, string_at,
+};
 use json_reading::{Fault, Why, skip};
 use json_value::Items;
 use std::alloc::{AllocFailed, Global};

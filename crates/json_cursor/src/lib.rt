@@ -1,7 +1,7 @@
 //! A cursor over JSON text (RFC 8259): arrays are read straight from bytes, element by element, and objects, member by member, whatever is
 //! made of them and however they may fail. It stands on `json_reading` and on `text_checking`. The layers above use the contract `Answers` of
 //! `specs/Answers.antt`: what stands at the front is read so, or has this first fault whatever value it is, or is no value; and of objects the
-//! contracts of `specs/Members.antt`.
+//! contracts of `specs/Members.antt`. The top of a reader calls `read_text`, which puts what is malformed before what the value has of faults.
 #![tactic(auto)]
 
 mod elements;

@@ -1,6 +1,6 @@
-//! Topologies (TopoJSON 1.0) read straight from bytes, whatever their form and whatever their faults. It stands on `json_cursor`, whose
-//! `Answers` says what a reader answers of the bytes, and on `topojson_meaning`, which says what a value stands for. A layer above calls
-//! `read_text`. Nothing stands on it yet: `topology_files` reads by `topology_scanning` and trees.
+//! The reader of topologies (TopoJSON 1.0) straight from bytes, whatever their form and whatever their faults. It stands on `json_cursor`,
+//! whose `Answers` says what a reader answers of the bytes, and on `topojson_meaning`, which says what a value stands for. A layer above calls
+//! `read_text`.
 #![tactic(auto)]
 
 mod arcs;

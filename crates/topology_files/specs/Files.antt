@@ -7,12 +7,23 @@ use Rattle.geojson_types.specs.declared.counts.Counts.{Counts}
 use Rattle.topojson_types.specs.Topologies.{Contents}
 use Rattle.topojson_meaning.specs.declared.fault.TopoFault.TheVariants as topo
 use Rattle.topojson_meaning.specs.Topologies.{topology}
-pub use Rattle.topology_scanning.specs.TopologyParts.{topology_depth, SpellsTopology}
 use Rattle.inputs.specs.declared.file_fault.FileFault.{FileFault}
 use Rattle.inputs.specs.declared.file_fault.FileFault.TheVariants.{Read, Json, Topo, NoObject, Write, Memory}
 use Rattle.inputs.specs.Texts.{IsNoText, IsRead, IsUntroubled, FailsToEnd}
 use Rattle.reports.specs.declared.summary.Summary.{Summary}
 use Rattle.reports.specs.Summaries.{summary_of}
+
+-- how deep the arrays and objects of a topology may nest
+abbrev pub topology_depth : ℕ
+topology_depth = 255
+
+-- the bytes are UTF-8 and spell a JSON value (RFC 8259) that stands for this topology (TopoJSON 1.0), with what is counted in
+-- reading it
+pub record SpellsTopology (bytes : List ℕ) (contents : Contents) (counts : Counts) : Type 0 where
+  pub utf8 : IsUtf8 bytes
+  pub value : Value
+  pub spelled : Reads topology_depth bytes value
+  pub stands : topology value ≡ Ok (contents, counts)
 
 -- why the bytes spell no topology
 abbrev pub IsNoTopology : List ℕ → FileFault → Type 0

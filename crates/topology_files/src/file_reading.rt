@@ -4,33 +4,31 @@ ghost use Rattle.topology_files.specs.Files.{IsTopologyOf, ReadsTopology};
 use byte_ends::{Feed, MAX_INPUT, ReadFault, Source, read_all};
 use geojson_types::Counts;
 use inputs::FileFault;
-use json_reading::{JsonFault, TOPOLOGY_DEPTH, parse};
+use json_reading::JsonFault;
 use std::alloc::Global;
 use topojson_meaning::TopoFault;
-use topojson_reading::read_topology;
+use topojson_reader::{Refusal, read_text};
 use topojson_types::Topology;
-use topology_scanning::scan_topology;
-use unit_scanning::Halt;
 
-/// The topology that the bytes spell, with what was counted in reading it: read straight from the bytes where they are written as most
-/// programs write topologies, and else from the JSON value that they spell, which tells what is wrong, if anything is.
+/// The topology that the bytes spell, with what was counted in reading it; or why they spell none.
 fn topology_of(alloc: Global, bytes: &[u8]) -> Result<(Topology, Counts), FileFault>
     ensures { IsTopologyOf bytes.now result }
 {
-    match scan_topology(alloc, bytes) {
-        Ok(read) => return Ok(read),
-        Err(Halt::Memory) => return Err(FileFault::Memory),
-        Err(Halt::Unread) => {}
-    }
-    let value = match parse(alloc, bytes, TOPOLOGY_DEPTH) {
-        Ok(value) => value,
-        Err(JsonFault::Memory) => return Err(FileFault::Memory),
-        Err(fault) => return Err(FileFault::Json(fault)),
-    };
-    match read_topology(alloc, value) {
+    match read_text(alloc, bytes) {
         Ok(read) => Ok(read),
-        Err(TopoFault::Memory) => Err(FileFault::Memory),
-        Err(fault) => Err(FileFault::Topo(fault)),
+        Err(Refusal::Memory) => Err(FileFault::Memory),
+        Err(Refusal::Text(fault)) => {
+            if fault == JsonFault::Memory {
+                return Err(FileFault::Memory);
+            }
+            Err(FileFault::Json(fault))
+        }
+        Err(Refusal::Meaning(fault)) => {
+            if fault == TopoFault::Memory {
+                return Err(FileFault::Memory);
+            }
+            Err(FileFault::Topo(fault))
+        }
     }
 }
 

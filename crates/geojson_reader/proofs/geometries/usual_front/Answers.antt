@@ -18,6 +18,9 @@ returns-clause-begins c = λ v after end found close.
     let first = member_found d _ (name_of c.in-Ok.first) c.in-Ok.value.now c.in-Some-text.rest.now (j.Text name) (rw c.skip-2.ensures at (c.in-Ok.ensures d)) text in
     let second = member_found d _ (name_of c.in-Ok-name_at.second) c.in-Ok-name_at.front.now after v (rw c.skip-4.ensures at (c.in-Ok-name_at.ensures d)) found in
     let comma = rw c.skip-3.ensures at c.in-Some-behind_byte-2.ensures in
-    let members = two_members d c.in-Some.inside.now _ _ c.in-Some-text.rest.now c.in-Some-behind_byte-2.more.now after end first comma second close (omega (arith, c.if-inside-lt2.false)) in
-    (name, sym (rw c.as_str.ensures at c.in-Some-geometry_type.ensures), rw (is_word (name_of c.in-Ok.first) (codes "type") c.if-not-is.ensures, is_word (name_of c.in-Ok-name_at.second) (part_name kind) c.if-not-is_part.ensures)
-    at (some_members c.args.deep c.args.bytes.now c.in-Some.inside.now c.in-Some.ensures c.if-deep-eq0.false (rw c.skip.ensures at c.in_default-behind_byte.ensures) _ end members))
+    let members = two_members d c.in-Some.inside.now _ _ c.in-Some-text.rest.now c.in-Some-behind_byte-2.more.now after end first comma second close (omega (arith, c.if-inside-lt2.false)) in (
+      name,
+      sym (rw c.as_str.ensures at c.in-Some-geometry_type.ensures),
+      rw (is_word (name_of c.in-Ok.first) (codes "type") c.if-not-is.ensures, is_word (name_of c.in-Ok-name_at.second) (part_name kind) c.if-not-is_part.ensures)
+          at (some_members c.args.deep c.args.bytes.now c.in-Some.inside.now c.in-Some.ensures c.if-deep-eq0.false (rw c.skip.ensures at c.in_default-behind_byte.ensures) _ end members),
+    )

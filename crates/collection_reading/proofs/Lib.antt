@@ -1,3 +1,0 @@
-pub mod FeaturesFollow
-pub mod FeaturesSoFar
-pub mod LayerMeans

@@ -1,2 +1,0 @@
-pub mod FeaturesRead
-pub mod Outcomes

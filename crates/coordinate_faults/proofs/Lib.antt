@@ -1,4 +1,0 @@
-pub mod FirstBytes
-pub mod ElementsSoFar
-pub mod Follow
-pub mod Shapes

@@ -1,4 +1,0 @@
-pub mod Seeing
-pub mod Showing
-pub mod GeometryParts
-pub mod FeatureParts

@@ -1,2 +1,0 @@
-pub mod Checks
-pub mod Fronts

@@ -1,4 +1,0 @@
-pub mod Listed
-pub mod PositionParts
-pub mod LineParts
-pub mod ShapeParts

@@ -1,4 +1,0 @@
-pub mod FeatureMembers
-pub mod FeatureMeans
-pub mod CollectionMeans
-pub mod SingleMeans

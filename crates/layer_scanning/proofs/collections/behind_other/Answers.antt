@@ -1,7 +1,0 @@
-use Rattle.std.proofs.Common.{sym, ap, ◌∙◌}
-use Rattle.std.specs.Prelude.{codes, bytes_eq}
-use Rattle.layer_scanning.proofs.CollectionMeans.{take_foreign}
-use Rattle.layer_scanning.proofs.collections.behind_other.Goals as goal
-
-pub returns : goal.returns
-returns c = λ exact collection counts. take_foreign exact c.args.bytes.now _ c.in_ok-name.name c.in_ok-name.ensures.0 collection counts c.in_ok-name.ensures.1 (ap (λ z. bytes_eq z (codes "type")) (sym c.as_str.ensures.text) ∙ c.is_known.ensures.no_type c.if-is_known.false) (ap (λ z. bytes_eq z (codes "features")) (sym c.as_str.ensures.text) ∙ c.is_known.ensures.no_features c.if-is_known.false)

@@ -14,17 +14,16 @@ use Rattle.geojson_types.specs.declared.id.Id.{Id}
 use Rattle.geojson_types.specs.Features.{Featured, Shape, is_proper_option}
 use Rattle.geojson_model.proofs.Proper.{object_proper}
 use Rattle.geojson_model.proofs.Unrolled.{shape_object, shape_other}
-use Rattle.geojson_model.specs.Features.{feature, feature_element, identifier, identifier_in, members_if, members_in}
+use Rattle.geojson_model.specs.Features.{feature, feature_element, identifier, members_if}
 use Rattle.geojson_model.specs.Geometries.{geometry, shape}
 use Rattle.geojson_model.specs.Members.{find, named, type_name}
 use Rattle.geojson_model.specs.Reader.{Reader, and_then, fail, give, if_some, or_fail, pure}
-use Rattle.geojson_model.specs.Types.{coordinates_type, geojson_type, geometry_type}
+use Rattle.geojson_model.specs.Types.{geojson_type, geometry_type}
 use Rattle.geojson_model.specs.declared.fault.GeoFaultKind.{GeoFaultKind}
-use Rattle.geojson_model.specs.declared.fault.GeoFaultKind.TheVariants.{Duplicate, NotObject, UnknownType, WrongKind}
+use Rattle.geojson_model.specs.declared.fault.GeoFaultKind.TheVariants.{NotObject, UnknownType}
 use Rattle.geojson_model.specs.declared.types.GeoJsonType.{GeoJsonType}
 use Rattle.geojson_model.specs.declared.types.GeoJsonType.TheVariants as types
 use Rattle.geojson_model.specs.declared.types.GeometryType.{GeometryType}
-use Rattle.json_cursor.specs.Answers.{Reads, Stops}
 use Rattle.json_cursor.specs.Arrays.{front_value}
 use Rattle.json_reading.specs.declared.fault.Fault.{Fault}
 use Rattle.text_checking.specs.Passes.{Passes}
@@ -32,11 +31,8 @@ use Rattle.geojson_reader.proofs.SeenMembers.{passes}
 use Rattle.json_cursor.specs.Kinds.{kind_in, kind_of}
 use Rattle.json_cursor.specs.Members.{Members}
 use Rattle.json_cursor.specs.declared.kinds.Kind.TheVariants as kind
-use Rattle.json_cursor.specs.declared.stop.Stop.{Stop}
-use Rattle.json_cursor.specs.declared.stop.Stop.TheVariants as stop
-use Rattle.json_cursor.proofs.Steps.{found_stops}
 use Rattle.geojson_reader.specs.Features.{IsDrawn, IsFeatureParts, IsFields, IsId, IsProperties, counted, drawn, drawn_shape, given, named_fault, type_fault}
-use Rattle.geojson_reader.specs.Members.{IsSeen, IsType, Judges, Sees, type_in}
+use Rattle.geojson_reader.specs.Members.{IsSeen, IsType, Sees, type_in}
 use Rattle.geojson_reader.specs.declared.features.Drawn.{Drawn}
 use Rattle.geojson_reader.specs.declared.features.Fields.{Fields}
 use Rattle.geojson_reader.specs.declared.geometries.Start.{Start}

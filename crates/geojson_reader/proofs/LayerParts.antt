@@ -2,7 +2,6 @@
 use Rattle.std.proofs.Common.{◌≡◌, ℕ, ◌+◌, Bool, true, false, List, [], ◌∷◌, ◌++◌, length, Option, Some, None, Result, Ok, Err, Bor, refl, ap, sym, ◌∙◌, append_assoc, arith}
 use Rattle.std.specs.Prelude.{bytes_eq, codes}
 use Rattle.std.proofs.lemmas.List.{append-nil}
-use Rattle.std.proofs.lemmas.Slice.Eq.{bytes_eq-Decides}
 use Rattle.json_value.specs.declared.json.Json.{Json}
 use Rattle.json_value.specs.declared.json.Json.TheVariants as j
 use Rattle.json_value.specs.Kinds.{array_of, object_of, text_of}
@@ -16,8 +15,8 @@ use Rattle.geojson_model.specs.Features.{feature, feature_element}
 use Rattle.geojson_model.specs.Geometries.{geometry, typed_geometry}
 use Rattle.geojson_model.specs.Layers.{bare, bare_feature, collection_features, features, features_from, single_feature, typed_features}
 use Rattle.geojson_model.specs.Members.{named, need, type_name}
-use Rattle.geojson_model.specs.Reader.{LayerReader, and_then, fault_in, give, or_fail, pure, within}
-use Rattle.geojson_model.specs.Types.{coordinates_type, geojson_type, geometry_type}
+use Rattle.geojson_model.specs.Reader.{and_then, fault_in, give, or_fail, pure, within}
+use Rattle.geojson_model.specs.Types.{geojson_type, geometry_type}
 use Rattle.geojson_model.specs.declared.fault.GeoFault.{GeoFault}
 use Rattle.geojson_model.specs.declared.fault.GeoFaultKind.{GeoFaultKind}
 use Rattle.geojson_model.specs.declared.fault.GeoFaultKind.TheVariants.{Duplicate, Missing, NotObject, UnknownType, WrongKind}
@@ -25,7 +24,7 @@ use Rattle.geojson_model.specs.declared.types.GeoJsonType.{GeoJsonType}
 use Rattle.geojson_model.specs.declared.types.GeoJsonType.TheVariants as types
 use Rattle.geojson_model.specs.declared.types.GeometryType.{GeometryType}
 use Rattle.json_cursor.specs.Answers.{Stops}
-use Rattle.json_cursor.specs.Arrays.{array_by, front_value}
+use Rattle.json_cursor.specs.Arrays.{array_by}
 use Rattle.json_cursor.specs.Folds.{fold}
 use Rattle.json_cursor.specs.Members.{Members}
 use Rattle.json_cursor.specs.declared.stop.Stop.{Stop}
@@ -37,7 +36,6 @@ use Rattle.geojson_reader.specs.declared.features.Fields.{Fields}
 use Rattle.geojson_reader.specs.declared.geometries.Parts.{Parts}
 use Rattle.geojson_reader.specs.declared.geometries.Start.{Start}
 use Rattle.geojson_reader.specs.declared.layers.Collected.{Collected}
-use Rattle.geojson_reader.specs.declared.layers.LayerParts.{LayerParts}
 use Rattle.geojson_reader.specs.declared.seen.Seen.{Seen}
 use Rattle.geojson_reader.specs.declared.seen.Seen.TheVariants.{Never, Once, Again}
 use Rattle.json_cursor.proofs.Steps.{found_stops}

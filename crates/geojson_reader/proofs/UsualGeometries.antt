@@ -7,9 +7,7 @@ use Rattle.json_value.specs.declared.json.Json.TheVariants as j
 use Rattle.json_value.specs.Reading.{skip, after_word, list_at}
 use Rattle.json_reading.proofs.ListLoop as turns
 use Rattle.json_reading.proofs.StringLoop.{with_front}
-use Rattle.json_value.specs.Kinds.{text_of}
 use Rattle.json_value.proofs.KindsOf.{text_of-text}
-use Rattle.geometry.specs.declared.shape.Geometry.TheVariants as g
 use Rattle.geojson_types.specs.declared.counts.Counts.{Counts}
 use Rattle.geojson_types.specs.Features.{Shape}
 use Rattle.geojson_model.specs.declared.types.GeometryType.{GeometryType}

@@ -1,8 +1,7 @@
 -- The parts of a member, and members one turn after another.
-use Rattle.std.proofs.Common.{◌≡◌, ◌≢◌, ℕ, ◌+◌, ◌-◌, ◌<◌, ◌≤◌, List, [], ◌∷◌, ◌++◌, length, Option, Some, None, refl, sym, ap, ◌∙◌, arith}
+use Rattle.std.proofs.Common.{◌≡◌, ℕ, ◌+◌, ◌-◌, ◌<◌, ◌≤◌, List, [], ◌∷◌, ◌++◌, Option, Some, None, refl, sym, ap, ◌∙◌, arith}
 use Rattle.std.specs.Str.{is_utf8}
-use Rattle.json_value.specs.declared.json.Json.{Json}
-use Rattle.json_value.specs.Reading.{Parse, ◌>>=◌, skip, after_word, list_at, member_at, name_at, string_at}
+use Rattle.json_value.specs.Reading.{◌>>=◌, skip, after_word, list_at, member_at, name_at, string_at}
 use Rattle.json_reading.specs.declared.fault.Fault.{Fault}
 use Rattle.json_reading.specs.declared.fault.Fault.TheVariants as fault
 use Rattle.json_reading.specs.Gives.{Fails, IsMalformed}

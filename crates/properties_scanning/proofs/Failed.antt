@@ -1,5 +1,5 @@
 -- What is copied where its last part is, and is none where a part is none.
-use Rattle.std.proofs.Common.{◌≡◌, ℕ, List, ◌∷◌, ◌++◌, Result, Ok, Err, refl, Bor}
+use Rattle.std.proofs.Common.{◌≡◌, ℕ, List, ◌∷◌, ◌++◌, Result, Ok, Err, Bor}
 use Rattle.std.specs.Prelude.{codes, MatchResult}
 use Rattle.json_value.specs.Reading.{Parse, after_word, after_number, word_at, number_at, name_at, string_at, value_at}
 use Rattle.json_reading.specs.declared.fault.Fault.{Fault}

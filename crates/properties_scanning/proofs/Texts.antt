@@ -1,7 +1,5 @@
 -- The text that is copied of an object is read as it again.
-use Rattle.std.proofs.Common.{◌≡◌, ◌≢◌, ℕ, zero, suc, ◌≤◌, List, [], ◌∷◌, ◌++◌, Some, None, refl, sym, ap, ◌∙◌, arith}
-use Rattle.std.specs.Prelude.{codes}
-use Rattle.std.proofs.lemmas.Option.{option_and_then_some}
+use Rattle.std.proofs.Common.{◌≡◌, ◌≢◌, ℕ, ◌≤◌, List, [], ◌++◌, Some, None, refl, sym, ap, ◌∙◌, arith}
 use Rattle.json_value.specs.declared.json.Json.{Json, roll-Json}
 use Rattle.json_value.specs.declared.json.Json.TheViews.{out-Json, roll-out-Json}
 use Rattle.json_value.specs.declared.json.Json.TheOpen.{Json-F}
@@ -11,26 +9,12 @@ use Rattle.json_cursor.specs.declared.kinds.Kind.TheVariants as kind
 use Rattle.properties_scanning.specs.Fronts.{properties_in, properties_of}
 use Rattle.json_value.specs.declared.json.Json.TheVariants as j
 use Rattle.json_value.specs.Kinds.{object_of}
-use Rattle.json_value.specs.Reading.{after_word, word_at, value_with, value_at}
+use Rattle.json_value.specs.Reading.{value_at}
 use Rattle.json_value.specs.Text.{json_text}
 use Rattle.json_value.proofs.KindsOf.{object_of-object}
 use Rattle.json_reading.proofs.FrontValues.{text_is_read, front_formed, front_no_deeper}
-use Rattle.json_reading.proofs.Opened.{at_n}
-use Rattle.json_reading.proofs.Steps.{pair_is}
-use Rattle.json_reading.proofs.Words.{after_word_takes}
 use Rattle.feature_properties.specs.Members.{Members, members_if, members_read, members_in}
 use Rattle.properties_scanning.specs.Copying.{any, Copies}
-
-pub null_front : (d : ℕ) (bytes rest : List ℕ) → Some rest ≡ after_word (codes "null") bytes → value_at any d bytes ≡ Some (j.Null, rest)
-unfolding word_at after_word
-null_front d bytes rest h =
-    ap (value_at any d) (after_word_takes (codes "null") bytes rest (sym h)) ∙ at_n any d 110 (codes "null" ++ rest) (codes "ull" ++ rest) refl refl
-
--- what begins with a brace is an object
-object_front : (d : ℕ) (inside rest : List ℕ) (v : Json) → value_at any d (123 ∷ inside) ≡ Some (v, rest) → (ms : Members) × (v ≡ j.Object ms)
-unfolding value_at value_with
-object_front zero inside rest v h = cc
-object_front (suc d) inside rest v h = option_and_then_some _ _ _ h (λ (x : Members × List ℕ) f g. (x.0, sym (pair_is (j.Object x.0) x.1 (v, rest) g).0))
 
 -- An object stands at the front, and the text is the one that is written for it. Its members are those that the text has.
 pub record ObjectText (d : ℕ) (bytes rest text : List ℕ) : Type 0 where
@@ -49,10 +33,6 @@ text_of_object d bytes rest start copied text le object none whole c =
       front = c.found ∙ ap (λ v. Some (v, rest)) (ms.1 ∙ ap j.Object (sym same));
       written = ap (λ xs. json_text (j.Object xs)) same ∙ ap json_text (sym ms.1) ∙ sym is;
     }
-
-pub object_text : (d : ℕ) (bytes inside rest start copied text : List ℕ) → d ≤ 254 → bytes ≡ 123 ∷ inside → start ≡ [] → text ≡ copied → Copies (value_at any d) json_text bytes rest start copied → ObjectText d bytes rest text
-object_text d bytes inside rest start copied text le first none whole c =
-    text_of_object d bytes rest start copied text le (λ v end h. object_front d inside end v (sym (ap (value_at any d) first) ∙ h)) none whole c
 
 -- an object is a value of that kind
 kind_object : (v : Json) (x : Json-F Json) → out-Json v ≡ x → kind.Object ≡ kind_in x → (ms : Members) × (v ≡ j.Object ms)

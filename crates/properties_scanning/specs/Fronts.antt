@@ -7,14 +7,8 @@ use Rattle.json_value.specs.declared.json.Json.TheViews.{out-Json}
 use Rattle.json_value.specs.Reading.{value_at}
 use Rattle.json_reading.specs.declared.fault.Fault.{Fault}
 use Rattle.json_reading.specs.Gives.{Fails}
-use Rattle.json_value.specs.declared.json.Json.TheVariants as j
 use Rattle.feature_properties.specs.Members.{Members}
 use Rattle.properties_scanning.specs.Copying.{any}
-
--- an object with these members, or null where there are no properties (RFC 7946, section 3.2)
-abbrev pub properties_value : Option Members → Json
-properties_value None = j.Null
-properties_value (Some ms) = j.Object ms
 
 -- the members of an object; null has none, and any other value isn't what properties are
 abbrev pub properties_in : Json-F Json → Option (Option Members)

@@ -4,11 +4,8 @@
 //! value at the front gives as properties, whatever value it is.
 #![tactic(auto)]
 
-mod properties;
 mod reading;
 mod strings;
 mod values;
 
-pub use properties::properties_at;
 pub use reading::read_properties;
-pub use values::copy_value;

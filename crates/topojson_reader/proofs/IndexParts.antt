@@ -17,7 +17,7 @@ use Rattle.json_cursor.proofs.Steps.{made}
 use Rattle.topojson_reader.proofs.MemberLists as list
 use Rattle.json_members.specs.Members.{Members, named}
 use Rattle.json_cursor.specs.Arrays.{front_value}
-use Rattle.value_scanning.proofs.Named.{named_append, foreign_named, other_named}
+use Rattle.topojson_reader.proofs.NamedMembers.{named_append, foreign_named, other_named}
 use Rattle.topojson_reader.specs.declared.index.Index.{Index}
 use Rattle.topojson_reader.specs.declared.index.Seen.{Seen}
 use Rattle.topojson_reader.specs.declared.index.Seen.TheVariants as seen

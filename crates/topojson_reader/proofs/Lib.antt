@@ -1,4 +1,6 @@
 pub mod Then
+pub mod Wider
+pub mod NamedMembers
 pub mod NumberParts
 pub mod PairParts
 pub mod CellParts
@@ -11,7 +13,6 @@ pub mod ObjectOpenings
 pub mod IndexParts
 pub mod NameParts
 pub mod TopologyParts
-pub mod WholeTexts
 pub mod TextParts
 pub mod SeenMembers
 pub mod GeometryParts

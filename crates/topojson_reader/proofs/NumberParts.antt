@@ -9,7 +9,7 @@ use Rattle.json_value.specs.Kinds.{number_of}
 use Rattle.json_value.proofs.KindsOf.{number_of-number}
 use Rattle.geojson_types.specs.declared.counts.Counts.{Counts}
 use Rattle.unit_scanning.specs.Numbers.{IsNumberAt}
-use Rattle.value_scanning.proofs.Wider.{wider}
+use Rattle.topojson_reader.proofs.Wider.{wider}
 use Rattle.topojson_meaning.specs.declared.fault.TopoFault.TheVariants.{WrongKind}
 use Rattle.topojson_meaning.specs.Arcs.{number_text}
 use Rattle.json_cursor.specs.Answers.{Reads}

@@ -1,7 +1,6 @@
 use Rattle.std.proofs.Common.{◌-◌, ◌∙◌, ap, sym, Err}
 use Rattle.json_value.specs.declared.json.Json.TheVariants as j
 use Rattle.json_cursor.specs.Arrays.{front_value}
-use Rattle.geojson_model.specs.Layers.{features}
 use Rattle.geojson_reader.proofs.LayerParts as part
 use Rattle.geojson_reader.proofs.layers.layer_at.Goals as goal
 

@@ -1,4 +1,3 @@
-use Rattle.std.proofs.Common.{length}
 use Rattle.std.proofs.lemmas.Result.{err_from_is_err_and}
 use Rattle.json_cursor.proofs.MemberParts as part
 use Rattle.json_cursor.proofs.members.members_into.Goals as goal

@@ -1,4 +1,4 @@
-use Rattle.std.proofs.Common.{[], List, arith}
+use Rattle.std.proofs.Common.{[], arith}
 use Rattle.std.proofs.lemmas.Result.{err_from_is_err_and}
 use Rattle.json_cursor.proofs.MemberParts.{malformed}
 use Rattle.json_cursor.proofs.Openings.{is_no_object, object_deep, no_members, some_members, members_fail}

@@ -1,7 +1,7 @@
 use Rattle.std.proofs.Common.{refl}
 use Rattle.topojson_meaning.specs.Topologies.{value_contents}
 use Rattle.topojson_reader.specs.Texts.{deepest}
-use Rattle.topojson_reader.proofs.WholeTexts as text
+use Rattle.json_cursor.proofs.WholeTexts as text
 use Rattle.topojson_reader.proofs.TextParts.{stands_for, stands_for_none}
 use Rattle.topojson_reader.proofs.texts.read_text.Goals as goal
 

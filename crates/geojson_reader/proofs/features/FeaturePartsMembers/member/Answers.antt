@@ -2,7 +2,7 @@ use Rattle.std.proofs.Common.{[], ◌++◌, ◌∷◌, refl, subst, sym}
 use Rattle.std.specs.Prelude.{codes}
 use Rattle.json_cursor.specs.Names.{name_of}
 use Rattle.geojson_model.specs.Members.{named}
-use Rattle.geojson_reader.specs.Features.{IsFeatureParts, IsFields}
+use Rattle.geojson_reader.specs.Features.{IsFeatureParts}
 use Rattle.geojson_reader.specs.Members.{IsSeen, IsType}
 use Rattle.geojson_reader.proofs.FeatureParts.{fields_pass, with_fields}
 use Rattle.geojson_reader.proofs.SeenMembers.{member_found, member_sees, not_other, sees}

@@ -2,7 +2,7 @@ use Rattle.std.proofs.Common.{[], ◌++◌, ◌∷◌, refl, subst, sym}
 use Rattle.std.specs.Prelude.{codes}
 use Rattle.json_cursor.specs.Names.{name_of}
 use Rattle.geojson_model.specs.Members.{named}
-use Rattle.geojson_reader.specs.Features.{IsDrawn, IsFields, IsId, IsProperties}
+use Rattle.geojson_reader.specs.Features.{IsDrawn, IsId, IsProperties}
 use Rattle.geojson_reader.specs.Members.{IsSeen}
 use Rattle.geojson_reader.proofs.FeatureParts.{passed_over}
 use Rattle.geojson_reader.proofs.SeenMembers.{not_other, passes, sees}

@@ -1,11 +1,9 @@
 -- The members of a name, where one more is read.
-use Rattle.std.proofs.Common.{◌≡◌, ℕ, Bool, true, false, cond, List, [], ◌∷◌, ◌++◌, Option, Some, None, Ok, refl, ap, ◌∙◌}
-use Rattle.std.specs.Prelude.{bytes_eq, option_to_list}
+use Rattle.std.proofs.Common.{◌≡◌, ℕ, Bool, true, false, cond, List, [], ◌∷◌, ◌++◌, refl, ap, ◌∙◌}
+use Rattle.std.specs.Prelude.{bytes_eq}
 use Rattle.std.proofs.lemmas.List.{append-nil}
 use Rattle.json_value.specs.declared.json.Json.{Json}
-use Rattle.json_members.specs.declared.fault.LookupFault.{LookupFault}
-use Rattle.json_members.specs.Members.{named, find}
-use Rattle.json_members.specs.Readers.{with_fault}
+use Rattle.json_members.specs.Members.{named}
 
 by_test : {V : Type 0} (t : Bool) (v : V) (xs ys : List V) → cond t (v ∷ (xs ++ ys)) (xs ++ ys) ≡ cond t (v ∷ xs) xs ++ ys
 by_test true v xs ys = refl
@@ -20,16 +18,6 @@ named_append name (m ∷ ms) ns = ap (λ z. cond (bytes_eq m.0 name) (m.1 ∷ z)
 pub other_named : (name : List ℕ) (ms : List (List ℕ × Json)) (m : List ℕ × Json) (xs : List Json) → named name ms ≡ xs → named name (m ∷ []) ≡ [] → named name (ms ++ m ∷ []) ≡ xs
 other_named name ms m xs h k = named_append name ms (m ∷ []) ∙ ap (λ z. named name ms ++ z) k ∙ append-nil (named name ms) ∙ h
 
--- the first of this name
-pub first_named : (name : List ℕ) (ms : List (List ℕ × Json)) (m : List ℕ × Json) (v : Json) → named name ms ≡ [] → named name (m ∷ []) ≡ v ∷ [] → named name (ms ++ m ∷ []) ≡ v ∷ []
-first_named name ms m v h k = named_append name ms (m ∷ []) ∙ ap (λ z. named name ms ++ z) k ∙ ap (λ z. z ++ v ∷ []) h
-
 pub foreign_named : (name : List ℕ) (m : List ℕ × Json) → bytes_eq m.0 name ≡ false → named name (m ∷ []) ≡ []
 unfolding named
 foreign_named name m h = rw h refl
-
--- ---- the look-up of a name, whatever its faults are called
-
-pub found_is : {F : Type 0} (fault : LookupFault → F) (name : List ℕ) (ms : List (List ℕ × Json)) (o : Option Json) → named name ms ≡ option_to_list o → with_fault fault (find name ms) ≡ Ok o
-found_is fault name ms None h = rw h refl
-found_is fault name ms (Some v) h = rw h refl

@@ -1,3 +1,0 @@
-pub mod CellParts
-pub mod ArcParts
-pub mod PlaceParts

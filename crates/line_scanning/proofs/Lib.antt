@@ -1,2 +1,0 @@
-pub mod StrokeParts
-pub mod ShapeParts

@@ -1,3 +1,0 @@
-pub mod FeatureMembers
-pub mod FeatureMeans
-pub mod ObjectMeans

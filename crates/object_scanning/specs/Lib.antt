@@ -1,2 +1,0 @@
-pub mod FeatureParts
-pub mod ObjectParts

@@ -1,2 +1,0 @@
-pub mod MemberParts
-pub mod TopologyMeans

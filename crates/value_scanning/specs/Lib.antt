@@ -1,2 +1,0 @@
-pub mod Fronts
-pub mod MemberLists

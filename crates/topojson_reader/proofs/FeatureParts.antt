@@ -30,9 +30,8 @@ use Rattle.topojson_reader.specs.declared.seen.Seen.TheVariants.{Never}
 use Rattle.topojson_reader.specs.Features.{IsFeature, IsFound, found, found_in, typed_feature}
 use Rattle.topojson_reader.specs.Geometries.{IsParts}
 use Rattle.topojson_reader.specs.Members.{GoesOnWith, IsSeen, Judges, see}
-use Rattle.topojson_reader.proofs.IndexParts.{no_other}
 use Rattle.topojson_reader.proofs.PartsSeen.{sees_word}
-use Rattle.topojson_reader.proofs.SeenMembers.{passes, sees}
+use Rattle.topojson_reader.proofs.SeenMembers.{no_other, passes, sees}
 
 -- ---- what was seen
 

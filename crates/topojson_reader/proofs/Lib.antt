@@ -8,10 +8,7 @@ pub mod Running
 pub mod ArcParts
 pub mod StrokeParts
 pub mod ShapeParts
-pub mod MemberLists
-pub mod ObjectOpenings
 pub mod IndexParts
-pub mod NameParts
 pub mod TopologyParts
 pub mod TextParts
 pub mod SeenMembers

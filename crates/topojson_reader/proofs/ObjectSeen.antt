@@ -33,9 +33,8 @@ use Rattle.topojson_reader.specs.Features.{IsFeature}
 use Rattle.topojson_reader.specs.Members.{GoesOnWith, IsFront, IsSeen, Judges, see}
 use Rattle.topojson_reader.specs.ObjectParts.{AreFeatures, IsObject, typed_object}
 use Rattle.topojson_reader.proofs.FeatureParts.{sees_part}
-use Rattle.topojson_reader.proofs.IndexParts.{no_other}
 use Rattle.topojson_reader.proofs.PartsSeen.{sees_geometries}
-use Rattle.topojson_reader.proofs.SeenMembers.{passes, sees}
+use Rattle.topojson_reader.proofs.SeenMembers.{no_other, passes, sees}
 
 -- ---- what was seen
 

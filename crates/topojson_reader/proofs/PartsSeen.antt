@@ -13,8 +13,7 @@ use Rattle.topojson_reader.specs.declared.geometry_parts.Part.{Part}
 use Rattle.topojson_reader.specs.declared.geometry_parts.Start.{Start}
 use Rattle.topojson_reader.specs.Geometries.{IsPart, IsParts, IsType}
 use Rattle.topojson_reader.specs.Members.{IsFront, IsSeen, see}
-use Rattle.topojson_reader.proofs.IndexParts.{no_other}
-use Rattle.topojson_reader.proofs.SeenMembers.{passes, sees}
+use Rattle.topojson_reader.proofs.SeenMembers.{no_other, passes, sees}
 
 -- nothing was seen of no members
 pub no_parts : (start : Start) (d : ℕ) → IsParts start d [] (record { kind = Never; coordinates = Never; arcs = Never; geometries = Never })

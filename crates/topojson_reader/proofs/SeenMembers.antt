@@ -1,6 +1,7 @@
 -- Members that are looked up, seen one after another.
 use Rattle.std.proofs.Common.{◌≡◌, ℕ, true, false, List, [], ◌∷◌, ◌++◌, Option, Some, Ok, Err, refl, sym, subst, ap, ◌∙◌}
 use Rattle.std.specs.Prelude.{bytes_eq, Result}
+use Rattle.std.proofs.lemmas.Slice.Eq.{bytes_eq-Decides}
 use Rattle.std.specs.Borrow.{Bor}
 use Rattle.json_value.specs.declared.json.Json.{Json}
 use Rattle.json_value.specs.Reading.{◌>>=◌}
@@ -20,7 +21,22 @@ use Rattle.json_cursor.specs.Members.{GoesOn, Made, front_member}
 use Rattle.topojson_reader.specs.declared.seen.Seen.{Seen}
 use Rattle.topojson_reader.specs.declared.seen.Seen.TheVariants.{Never, Once, Again}
 use Rattle.topojson_reader.specs.Members.{GoesOnWith, IsSeen, Judges, see}
-use Rattle.topojson_reader.proofs.IndexParts.{one_more, no_more}
+use Rattle.topojson_reader.proofs.NamedMembers.{named_append, foreign_named, other_named}
+
+-- a name that is this word is no other
+pub no_other : (n a b : List ℕ) → bytes_eq n a ≡ true → bytes_eq a b ≡ false → bytes_eq n b ≡ false
+no_other n a b h k = let same : n ≡ a = (bytes_eq-Decides n a).0 h in ap (λ z. bytes_eq z b) same ∙ k
+
+module _ (name : List ℕ) (ms : Members) (v : Json) where
+  same_one : (n : List ℕ) → bytes_eq n name ≡ true → named name ((n, v) ∷ []) ≡ v ∷ []
+  unfolding named
+  same_one n h = rw h refl
+
+  one_more : (n : List ℕ) → bytes_eq n name ≡ true → named name (ms ++ (n, v) ∷ []) ≡ named name ms ++ v ∷ []
+  one_more n h = named_append name ms ((n, v) ∷ []) ∙ ap (λ z. named name ms ++ z) (same_one n h)
+
+  no_more : (n : List ℕ) → bytes_eq n name ≡ false → named name (ms ++ (n, v) ∷ []) ≡ named name ms
+  no_more n h = other_named name ms (n, v) (named name ms) refl (foreign_named name (n, v) h)
 
 one_seen : {A : Type 0} (Is : Json → A → Type 0) (vs : List Json) (s : Seen A) (v : Json) (x : A) → IsSeen Is vs s → Is v x → IsSeen Is (vs ++ v ∷ []) (see s x)
 one_seen Is vs Never v x h is = (v, ap (λ us. us ++ v ∷ []) h, is)

@@ -29,6 +29,8 @@ use Rattle.json_cursor.specs.declared.stop.Stop.TheVariants as stop
 use Rattle.json_cursor.specs.Answers.{Reads, Stops, stop_of}
 use Rattle.json_cursor.specs.Arrays.{front_value}
 use Rattle.json_cursor.proofs.Steps.{found_stops}
+use Rattle.topojson_reader.specs.declared.seen.Seen.TheVariants.{Once}
+use Rattle.topojson_reader.specs.Members.{IsFront, IsSeen}
 use Rattle.topojson_reader.specs.Topologies.{Gives, StopsBy, NeededAt, type_in, transform_in}
 
 -- ---- a part that stands there
@@ -36,6 +38,17 @@ use Rattle.topojson_reader.specs.Topologies.{Gives, StopsBy, NeededAt, type_in, 
 -- what stands at a place is one value
 pub one_value : (front : Option (Json × List ℕ)) (v w : Json) (rest end : List ℕ) → front ≡ Some (v, rest) → front ≡ Some (w, end) → v ≡ w
 one_value front v w rest end h k = (pair_is v rest (w, end) (sym h ∙ k)).0
+
+-- the only value of a name begins where it was seen
+pub needed_front : (d : ℕ) (vs : List Json) (at : Bor (List ℕ)) → IsSeen (IsFront d) vs (Once at) → NeededAt d vs (Ok at)
+needed_front d vs at (v, same, (rest, front)) = (v, rest, same, front)
+
+-- and no value, or more than one, is a fault
+pub needed_never : (d : ℕ) (vs : List Json) → vs ≡ [] → NeededAt d vs (Err topo.Missing)
+needed_never d vs h = rw h refl
+
+pub needed_again : (d : ℕ) (vs : List Json) (v w : Json) (us : List Json) → vs ≡ v ∷ w ∷ us → NeededAt d vs (Err topo.Duplicate)
+needed_again d vs v w us h = rw h refl
 
 module _ (name : List ℕ) (ms : Members) where
   pub need_fails : (d : ℕ) (e : TopoFault) → NeededAt d (named name ms) (Err e) → need name ms ≡ Err e

@@ -4,7 +4,7 @@ pub mod Running
 pub mod Cells
 pub mod Strokes
 pub mod Shapes
-pub mod Objects
+pub mod Index
 pub mod Topologies
 pub mod Texts
 pub mod Members

@@ -15,7 +15,6 @@ mod index;
 mod named_objects;
 mod numbers;
 mod object_parts;
-mod objects;
 mod pairs;
 mod seen;
 mod shapes;

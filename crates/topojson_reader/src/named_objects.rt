@@ -1,9 +1,10 @@
 // The objects of a topology by name (TopoJSON 1.0, section 2.1.5).
-ghost use Rattle.std.specs.Prelude.{◌≡◌, [], ℕ, map};
+ghost use Rattle.std.specs.Prelude.{◌≡◌, [], ℕ, IfOk, map};
 ghost use Rattle.std.specs.Option.{option_copied};
 ghost use Rattle.json_members.specs.Members.{Members as Listed};
 ghost use Rattle.json_cursor.specs.Answers.{Answers};
 ghost use Rattle.json_cursor.specs.Arrays.{front_value};
+ghost use Rattle.json_cursor.specs.Names.{name_of};
 ghost use Rattle.topojson_meaning.specs.Objects.{is_met, objects, objects_behind};
 ghost use Rattle.topojson_reader.specs.Members.{Judges};
 ghost use Rattle.topojson_reader.specs.NamedObjects.{AreObjects};
@@ -12,12 +13,11 @@ ghost use Rattle.topojson_reader.specs.declared.geometry_parts.Start.{Start as B
 use crate::geometry_parts::Start;
 use crate::held::held;
 use crate::object_parts::object_at;
-use crate::objects::name_at;
 use geojson_types::Counts;
-use json_cursor::{Members, Stop, object_at as members_at};
+use json_cursor::{Members, Name, Stop, name_at, object_at as members_at};
 use json_reading::Fault;
 use json_value::{Items, OwnText};
-use std::alloc::Global;
+use std::alloc::{AllocError, Global};
 use text_checking::after_value;
 use topojson_meaning::TopoFault;
 use topojson_reading::members_before_repeat;
@@ -42,6 +42,16 @@ fn none(alloc: Global, counts: Counts) -> NamedObjects
     }
 }
 
+/// The name in memory of its own.
+fn owned(alloc: Global, name: Name<'_>) -> Result<OwnText, AllocError>
+    ensures { IfOk result (λ t. t ≡ name_of name.entry) }
+{
+    match name {
+        Name::Plain(name) => Ok(OwnText::of(String::from_str(alloc, name)?)),
+        Name::Made(name) => Ok(name),
+    }
+}
+
 impl<'a> Members<'a> for NamedObjects {
     type With = Start<'a>;
 
@@ -59,6 +69,7 @@ impl<'a> Members<'a> for NamedObjects {
             let rest = after_value(alloc, deep, value)?;
             return Ok(rest);
         }
+        let name = owned(alloc, name)?;
         let answer = object_at(
             alloc,
             deep,

@@ -2,7 +2,7 @@
 ghost use Rattle.std.specs.Prelude.{◌≡◌, ℕ, List, codes};
 ghost use Rattle.std.specs.Option.{option_copied};
 ghost use Rattle.json_value.specs.declared.json.Json.{Json as Value};
-ghost use Rattle.json_members.specs.Members.{Members, named};
+ghost use Rattle.json_members.specs.Members.{Members as Listed, named};
 ghost use Rattle.geojson_types.specs.declared.counts.Counts.{Counts as Counted};
 ghost use Rattle.json_cursor.specs.Answers.{Answers};
 ghost use Rattle.json_cursor.specs.Arrays.{front_value};
@@ -10,14 +10,16 @@ ghost use Rattle.topojson_meaning.specs.Arcs.{arc_list};
 ghost use Rattle.topojson_meaning.specs.Members.{need_as};
 ghost use Rattle.topojson_meaning.specs.Objects.{objects as objects_in_order};
 ghost use Rattle.topojson_meaning.specs.Topologies as spec;
-ghost use Rattle.topojson_reader.specs.Objects.{IsIndex, IsSeen};
+ghost use Rattle.topojson_reader.specs.Index.{IsIndex};
+ghost use Rattle.topojson_reader.specs.Members.{IsFront, IsSeen};
 ghost use Rattle.topojson_reader.specs.Topologies.{Gives, NeededAt, StopsBy, transform_in, type_in};
 
 use crate::arcs::arcs_at;
-use crate::index::{Index, Seen, index_at, is_name};
+use crate::index::Index;
 use crate::named_objects::objects_at;
+use crate::seen::Seen;
 use geojson_types::Counts;
-use json_cursor::Stop;
+use json_cursor::{Stop, object_at as members_at, string_at};
 use json_reading::value_at;
 use json_value::{Items, OwnText};
 use std::alloc::Global;
@@ -44,8 +46,8 @@ fn stop_by(fault: TopoFault) -> Stop<TopoFault>
 }
 
 /// Where the value of a member begins that must be there once.
-fn needed(seen: Seen<'_>) -> Result<&[u8], TopoFault>
-    ensures { (deep : ℕ) (vs : List Value) → IsSeen deep vs seen.entry → NeededAt deep vs result }
+fn needed<'a>(seen: Seen<&'a [u8]>) -> Result<&'a [u8], TopoFault>
+    ensures { (deep : ℕ) (vs : List Value) → IsSeen (IsFront deep) vs seen.entry → NeededAt deep vs result }
 {
     match seen {
         Seen::Never => Err(TopoFault::Missing),
@@ -55,18 +57,17 @@ fn needed(seen: Seen<'_>) -> Result<&[u8], TopoFault>
 }
 
 /// Ok where the type is that of a topology.
-fn type_of(alloc: Global, deep: u32, seen: Seen<'_>) -> Result<(), Stop<TopoFault>>
-    ensures { (ms : Members) (counts : Counted) → IsSeen deep (named (codes "type") ms) seen.entry → Gives (λ x. x) (type_in ms) counts counts result }
+fn type_of(alloc: Global, deep: u32, seen: Seen<&[u8]>) -> Result<(), Stop<TopoFault>>
+    ensures { (ms : Listed) (counts : Counted) → IsSeen (IsFront deep) (named (codes "type") ms) seen.entry → Gives (λ x. x) (type_in ms) counts counts result }
 {
     let at = match needed(seen) {
         Err(fault) => return Err(Stop::Fault(fault)),
         Ok(at) => at,
     };
-    let (value, _) = value_at(alloc, deep, at)?;
-    let Some(name) = value.as_text() else {
+    let Some((name, _)) = string_at(alloc, at)? else {
         return Err(Stop::Fault(TopoFault::WrongKind));
     };
-    if !is_name(name, "Topology") {
+    if !name.is("Topology") {
         return Err(Stop::Fault(TopoFault::NotTopology));
     }
     Ok(())
@@ -76,9 +77,9 @@ fn type_of(alloc: Global, deep: u32, seen: Seen<'_>) -> Result<(), Stop<TopoFaul
 fn transform_of(
     alloc: Global,
     deep: u32,
-    seen: Seen<'_>,
+    seen: Seen<&[u8]>,
 ) -> Result<Option<Transform>, Stop<TopoFault>>
-    ensures { (ms : Members) (counts : Counted) → IsSeen deep (named (codes "transform") ms) seen.entry → Gives (λ t. t) (transform_in ms) counts counts result }
+    ensures { (ms : Listed) (counts : Counted) → IsSeen (IsFront deep) (named (codes "transform") ms) seen.entry → Gives (λ t. t) (transform_in ms) counts counts result }
 {
     match seen {
         Seen::Never => Ok(None),
@@ -98,10 +99,10 @@ fn arcs_of(
     alloc: Global,
     deep: u32,
     transform: Option<&Transform>,
-    seen: Seen<'_>,
+    seen: Seen<&[u8]>,
     counts: &mut Counts,
 ) -> Result<Items<Items<Cell>>, Stop<TopoFault>>
-    ensures { (ms : Members) → IsSeen deep (named (codes "arcs") ms) seen.entry → Gives (λ x. x) (need_as (codes "arcs") (arc_list (option_copied transform.entry)) ms) counts.old counts.new result }
+    ensures { (ms : Listed) → IsSeen (IsFront deep) (named (codes "arcs") ms) seen.entry → Gives (λ x. x) (need_as (codes "arcs") (arc_list (option_copied transform.entry)) ms) counts.old counts.new result }
 {
     let at = match needed(seen) {
         Err(fault) => return Err(Stop::Fault(fault)),
@@ -119,10 +120,10 @@ fn objects_of(
     deep: u32,
     transform: Option<&Transform>,
     arcs: &[Items<Cell>],
-    seen: Seen<'_>,
+    seen: Seen<&[u8]>,
     counts: &mut Counts,
 ) -> Result<Items<(OwnText, TopoObject)>, Stop<TopoFault>>
-    ensures { (ms : Members) → IsSeen deep (named (codes "objects") ms) seen.entry → Gives (λ x. x) (need_as (codes "objects") (objects_in_order (option_copied transform.entry) arcs.now) ms) counts.old counts.new result }
+    ensures { (ms : Listed) → IsSeen (IsFront deep) (named (codes "objects") ms) seen.entry → Gives (λ x. x) (need_as (codes "objects") (objects_in_order (option_copied transform.entry) arcs.now) ms) counts.old counts.new result }
 {
     let at = match needed(seen) {
         Err(fault) => return Err(Stop::Fault(fault)),
@@ -141,16 +142,22 @@ fn parts_of(
     index: Index<'_>,
     counts: &mut Counts,
 ) -> Result<Parts, Stop<TopoFault>>
-    ensures { (ms : Members) → IsIndex deep ms index.entry → Gives (λ p. record { objects = p.objects; arcs = p.arcs; transform = p.transform }) (spec.contents ms) counts.old counts.new result }
+    ensures { (ms : Listed) → IsIndex deep ms index.entry → Gives (λ p. record { objects = p.objects; arcs = p.arcs; transform = p.transform }) (spec.contents ms) counts.old counts.new result }
 {
-    if let Err(stop) = type_of(alloc, deep, index.kind) {
+    let Index {
+        kind,
+        transform,
+        arcs,
+        objects,
+    } = index;
+    if let Err(stop) = type_of(alloc, deep, kind) {
         return Err(stop);
     }
-    let transform = match transform_of(alloc, deep, index.transform) {
+    let transform = match transform_of(alloc, deep, transform) {
         Err(stop) => return Err(stop),
         Ok(transform) => transform,
     };
-    let arcs = match arcs_of(alloc, deep, transform.as_ref(), index.arcs, counts) {
+    let arcs = match arcs_of(alloc, deep, transform.as_ref(), arcs, counts) {
         Err(stop) => return Err(stop),
         Ok(arcs) => arcs,
     };
@@ -159,7 +166,7 @@ fn parts_of(
         deep,
         transform.as_ref(),
         arcs.as_slice(),
-        index.objects,
+        objects,
         counts,
     ) {
         Err(stop) => Err(stop),
@@ -182,15 +189,13 @@ pub fn topology_at<'a>(
 ) -> Result<(Parts, &'a [u8]), Stop<TopoFault>>
     ensures { Answers (λ p. record { objects = p.objects; arcs = p.arcs; transform = p.transform }) spec.value_contents (front_value deep bytes.now) counts.old counts.new result }
 {
-    match index_at(alloc, deep, bytes) {
-        Err(Stop::Fault(())) => Err(Stop::Fault(TopoFault::NotTopology)),
-        Err(Stop::NoValue) => Err(Stop::NoValue),
-        Err(Stop::Memory) => Err(Stop::Memory),
-        Ok((index, rest)) => {
-            match parts_of(alloc, deep.saturating_sub(1), index, counts) {
-                Err(stop) => Err(stop),
-                Ok(parts) => Ok((parts, rest)),
-            }
-        }
+    let none = Index::none();
+    let (found, rest) = members_at::<Index<'a>>(alloc, deep, none, bytes, ())?;
+    let Some(index) = found else {
+        return Err(Stop::Fault(TopoFault::NotTopology));
+    };
+    match parts_of(alloc, deep - 1, index, counts) {
+        Err(stop) => Err(stop),
+        Ok(parts) => Ok((parts, rest)),
     }
 }

@@ -1,7 +1,10 @@
 use Rattle.std.proofs.Common.{sym}
 use Rattle.std.specs.Prelude.{codes}
 use Rattle.std.proofs.lemmas.Result.{err_from_is_err_and}
+use Rattle.json_value.specs.declared.json.Json.TheVariants as j
+use Rattle.json_value.proofs.KindsOf.{text_of-text}
 use Rattle.json_cursor.specs.Arrays.{front_value}
+use Rattle.json_cursor.specs.Names.{name_of}
 use Rattle.topojson_reader.specs.Topologies.{type_in}
 use Rattle.topojson_reader.proofs.TopologyParts as part
 use Rattle.topojson_reader.proofs.topologies.type_of.Goals as goal
@@ -9,17 +12,23 @@ use Rattle.topojson_reader.proofs.topologies.type_of.Goals as goal
 pub returns-in-Err : goal.returns-in-Err
 returns-in-Err c = λ ms counts h. part.no_type ms counts _ (part.need_fails (codes "type") ms c.args.deep _ (c.in-Err.ensures c.args.deep _ h))
 
-pub returns-in_err-value : goal.returns-in_err-value
-returns-in_err-value c = λ ms counts h.
+pub returns-in_err-name : goal.returns-in_err-name
+returns-in_err-name c = λ ms counts h.
     let p = err_from_is_err_and c.from_residual.result c.from_residual.ensures.1 in
     let there = c.in-Ok.ensures c.args.deep _ h in
-    rw (p.1, p.2) (part.no_text_fault (λ x. x) (type_in ms) counts counts (front_value c.args.deep c.in-Ok.at.now) there.0 there.1 there.3 _ c.in_err-value.ensures)
+    rw (p.1, p.2) (part.no_text_fault (λ x. x) (type_in ms) counts counts (front_value c.args.deep c.in-Ok.at.now) there.0 there.1 there.3 _ (c.in_err-name.ensures c.args.deep))
 
 pub returns-in_default : goal.returns-in_default
-returns-in_default c = λ ms counts h. part.no_text ms counts _ (part.needed_value (codes "type") ms c.args.deep c.in-Ok.at _ _ (c.in-Ok.ensures c.args.deep _ h) c.in_ok-value.ensures) c.in_default.ensures
+returns-in_default c = λ ms counts h.
+    let there = c.in-Ok.ensures c.args.deep _ h in
+    part.no_text ms counts there.0 (part.needed_value (codes "type") ms c.args.deep c.in-Ok.at there.0 there.1 there there.3) ((rw c.in_default.is at c.in_ok-name.ensures) c.args.deep there.0 there.1 there.3)
 
-pub returns-then-not-is_name : goal.returns-then-not-is_name
-returns-then-not-is_name c = λ ms counts h. part.other_type ms counts _ (part.needed_value (codes "type") ms c.args.deep c.in-Ok.at _ _ (c.in-Ok.ensures c.args.deep _ h) c.in_ok-value.ensures) _ c.in-Some.ensures (sym c.if-not-is_name.ensures)
+pub returns-then-not-is : goal.returns-then-not-is
+returns-then-not-is c = λ ms counts h.
+    let name = name_of c.in-Some.name in
+    part.other_type ms counts (j.Text name) (part.needed_value (codes "type") ms c.args.deep c.in-Ok.at _ _ (c.in-Ok.ensures c.args.deep _ h) ((rw c.in-Some.is at c.in_ok-name.ensures) c.args.deep)) name (text_of-text name) (sym c.if-not-is.ensures)
 
 pub returns : goal.returns
-returns c = λ ms counts h. part.its_type ms counts _ (part.needed_value (codes "type") ms c.args.deep c.in-Ok.at _ _ (c.in-Ok.ensures c.args.deep _ h) c.in_ok-value.ensures) _ c.in-Some.ensures (sym c.if-not-is_name.ensures)
+returns c = λ ms counts h.
+    let name = name_of c.in-Some.name in
+    part.its_type ms counts (j.Text name) (part.needed_value (codes "type") ms c.args.deep c.in-Ok.at _ _ (c.in-Ok.ensures c.args.deep _ h) ((rw c.in-Some.is at c.in_ok-name.ensures) c.args.deep)) name (text_of-text name) (sym c.if-not-is.ensures)

@@ -1,9 +1,0 @@
-use Rattle.std.proofs.Common.{sym, ◌∙◌}
-use Rattle.topojson_reader.proofs.MemberLists.{nothing_behind, other_behind}
-use Rattle.topojson_reader.proofs.objects.member_mark_at.Goals as goal
-
-pub returns-in_default : goal.returns-in_default
-returns-in_default c = nothing_behind c.args.bytes.now (sym c.skip-behind.ensures ∙ c.in_default.ensures)
-
-pub returns : goal.returns
-returns c = other_behind c.args.bytes.now _ _ (sym c.skip-behind.ensures ∙ c.in-Some.ensures) c.if-first-eq125.false c.if-first-eq44.false

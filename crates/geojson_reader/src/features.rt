@@ -3,7 +3,7 @@ ghost use Rattle.std.specs.Prelude.{◌≡◌, [], ℕ, OnOk, codes};
 ghost use Rattle.std.specs.Option.{option_copied};
 ghost use Rattle.json_cursor.specs.Answers.{Answers};
 ghost use Rattle.json_cursor.specs.Arrays.{front_value};
-ghost use Rattle.json_cursor.specs.Members.{Members as Listed};
+ghost use Rattle.json_cursor.specs.Members.{Members as Listed, Names};
 ghost use Rattle.json_cursor.specs.Names.{name_of};
 ghost use Rattle.geojson_model.specs.Features.{feature, feature_element};
 ghost use Rattle.geojson_model.specs.Members.{named};
@@ -16,7 +16,7 @@ use crate::geometries::{Start, geometry_at, type_at};
 use crate::seen::Seen;
 use geojson_model::{GeoFaultKind, GeoJsonType, identifier};
 use geojson_types::{Counts, Feature, Id, Properties, Shape};
-use json_cursor::{Kind, Members, Name, Stop, kind_at, name_at, object_into};
+use json_cursor::{Kind, Members, Name, Stop, kind_at, name_at, named_at, object_into};
 use json_reading::{Fault, Why, value_at};
 use properties_scanning::read_properties;
 use std::alloc::Global;
@@ -226,6 +226,25 @@ impl FeatureParts {
     }
 }
 
+/// The name of the member at the front, and where its value begins: those of a feature are looked for first.
+fn feature_name_at<'a>(alloc: Global, bytes: &'a [u8]) -> Result<(Name<'a>, &'a [u8]), Fault>
+    ensures { Names bytes.now result }
+{
+    if let Some(found) = named_at("geometry", bytes) {
+        return Ok(found);
+    }
+    if let Some(found) = named_at("properties", bytes) {
+        return Ok(found);
+    }
+    if let Some(found) = named_at("type", bytes) {
+        return Ok(found);
+    }
+    if let Some(found) = named_at("id", bytes) {
+        return Ok(found);
+    }
+    name_at(alloc, bytes)
+}
+
 impl<'a> Members<'a> for FeatureParts {
     type With = Start;
 
@@ -238,7 +257,7 @@ impl<'a> Members<'a> for FeatureParts {
         bytes: &'a [u8],
         with: Start,
     ) -> Result<&'a [u8], Fault> {
-        let (name, value) = name_at(alloc, bytes)?;
+        let (name, value) = feature_name_at(alloc, bytes)?;
         if name.is("type") {
             let (kind, rest) = type_at(alloc, deep, value)?;
             self.kind.see(kind);

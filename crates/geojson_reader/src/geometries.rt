@@ -1,5 +1,5 @@
 // Geometries.
-ghost use Rattle.std.specs.Prelude.{◌≡◌, ◌++◌, ◌<◌, [], ℕ, bytes_eq, IfSome, OnOk, Some, codes, length, option_to_list, true};
+ghost use Rattle.std.specs.Prelude.{◌≡◌, ◌++◌, ◌<◌, [], ℕ, IfSome, OnOk, Some, codes, length, option_to_list, true};
 ghost use Rattle.json_value.specs.declared.json.Json.{Json as Value};
 ghost use Rattle.json_cursor.specs.Members.{Members as Listed};
 ghost use Rattle.geojson_model.specs.Geometries.{coordinates_shape, geometry, shape, shapes, typed_geometry};
@@ -8,7 +8,7 @@ ghost use Rattle.json_cursor.specs.Answers.{Answers, Reads};
 ghost use Rattle.json_cursor.specs.Arrays.{front_elements, front_value};
 ghost use Rattle.geojson_model.specs.Members.{named};
 ghost use Rattle.geojson_model.specs.declared.types.GeometryType.TheVariants as types;
-ghost use Rattle.json_cursor.specs.Names.{name_of};
+ghost use Rattle.json_cursor.specs.Names.{name_of, simple};
 ghost use Rattle.geojson_reader.specs.Members.{BeginsGeometry, IsCoordinates, IsFront, IsParts, IsRead, IsSeen, IsTaken, IsType, Judges, Meets, Sees, part, part_name};
 ghost use Rattle.geojson_reader.specs.declared.geometries.Start.{Start as Begun};
 
@@ -19,7 +19,7 @@ use geojson_model::{
 };
 use geojson_types::{Counts, Shape};
 use json_cursor::{
-    Mark, Members, Name, Stop, behind_byte, mark_at, name_at, object_into, string_at,
+    Mark, Members, Name, Stop, behind_byte, mark_at, name_at, named_at, object_into, string_at,
 };
 use json_reading::{Fault, Why, skip};
 use json_value::Items;
@@ -304,13 +304,14 @@ fn coordinates_of(
     }
 }
 
-/// Whether a geometry of this type is made of the member of this name.
-fn is_part(kind: GeometryType, name: &Name<'_>) -> bool
-    ensures { result ≡ bytes_eq (name_of name.now) (part_name kind) }
+/// The name of the member that a geometry of this type is made of.
+fn part_word(kind: GeometryType) -> &'static str
+    ensures name { result.now ≡ part_name kind }
+    ensures simple { simple result.now ≡ true }
 {
     match kind {
-        GeometryType::Collection => name.is("geometries"),
-        GeometryType::Coordinates(_) => name.is("coordinates"),
+        GeometryType::Collection => "geometries",
+        GeometryType::Coordinates(_) => "coordinates",
     }
 }
 
@@ -329,12 +330,9 @@ fn usual_front<'a>(alloc: Global, deep: u32, bytes: &'a [u8]) -> Option<(Geometr
     if let Some(_) = behind_byte(b'}', skip(inside)) {
         return None;
     }
-    let Ok((first, value)) = name_at(alloc, skip(inside)) else {
+    let Some((_type, value)) = named_at("type", skip(inside)) else {
         return None;
     };
-    if !first.is("type") {
-        return None;
-    }
     let Ok(text) = string_at(alloc, value) else {
         return None;
     };
@@ -347,12 +345,9 @@ fn usual_front<'a>(alloc: Global, deep: u32, bytes: &'a [u8]) -> Option<(Geometr
     let Some(more) = behind_byte(b',', skip(rest)) else {
         return None;
     };
-    let Ok((second, front)) = name_at(alloc, skip(more)) else {
+    let Some((_part, front)) = named_at(part_word(kind), skip(more)) else {
         return None;
     };
-    if !is_part(kind, &second) {
-        return None;
-    }
     Some((kind, front))
 }
 

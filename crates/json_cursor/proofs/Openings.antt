@@ -70,7 +70,7 @@ is_no_text (b ∷ bs) none d v rest front =
 
 -- ---- the quotation mark
 
-first_byte : (byte : ℕ) (bytes rest : List ℕ) → Some rest ≡ after_word (byte ∷ []) bytes → bytes ≡ byte ∷ rest
+pub first_byte : (byte : ℕ) (bytes rest : List ℕ) → Some rest ≡ after_word (byte ∷ []) bytes → bytes ≡ byte ∷ rest
 unfolding after_word
 first_byte byte bytes rest h = grind arith
 

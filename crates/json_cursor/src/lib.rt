@@ -19,7 +19,7 @@ pub use folds::{Elements, folded_array_at, folded_at, folded_some_at};
 pub use kinds::{Kind, kind_at};
 pub use marks::{Mark, Opening, behind_byte, mark_at, opening_at};
 pub use members::{Members, object_at, object_into};
-pub use names::{Name, name_at, string_at};
+pub use names::{Name, name_at, named_at, string_at};
 pub use passing::after_elements;
 pub use stop::Stop;
 pub use texts::{Refusal, Whole, read_text};

@@ -1,15 +1,15 @@
 // The names of members.
-ghost use Rattle.std.specs.Prelude.{◌≡◌, ℕ, ◌≤◌, length, IfSome, bytes_eq, take, true};
+ghost use Rattle.std.specs.Prelude.{◌≡◌, ℕ, ◌≤◌, length, IfSome, Ok, bytes_eq, take, true};
 ghost use Rattle.std.specs.Str.{is_utf8};
 ghost use Rattle.json_value.specs.Reading as reading;
 ghost use Rattle.json_reading.specs.Gives.{Gives};
 ghost use Rattle.json_cursor.specs.Members.{Names, ReadsString};
 ghost use Rattle.json_cursor.specs.Names as spec;
-ghost use Rattle.json_cursor.specs.Names.{EndsPlain, name_of};
+ghost use Rattle.json_cursor.specs.Names.{EndsPlain, name_of, simple};
 
 use crate::marks::behind_byte;
 use crate::members::broken;
-use json_reading::{Fault, skip};
+use json_reading::{Fault, after_word, skip};
 use json_value::OwnText;
 use std::alloc::Global;
 
@@ -103,4 +103,26 @@ pub fn name_at<'a>(alloc: Global, bytes: &'a [u8]) -> Result<(Name<'a>, &'a [u8]
         return Err(broken(name_end));
     };
     Ok((name, skip(behind)))
+}
+
+/// This word as the name of the member at the front, and where its value begins, if it stands there as it is: without a look for its end.
+#[inline(always)]
+pub fn named_at<'a>(word: &'static str, bytes: &'a [u8]) -> Option<(Name<'a>, &'a [u8])>
+    requires { simple word.now ≡ true }
+    ensures member { IfSome result (λ x. Names bytes.now (Ok x)) }
+    ensures word { IfSome result (λ x. name_of x.0 ≡ word.now) }
+{
+    let Some(inside) = behind_byte(b'"', bytes) else {
+        return None;
+    };
+    let Some(quoted) = after_word(word.as_bytes(), inside) else {
+        return None;
+    };
+    let Some(name_end) = behind_byte(b'"', quoted) else {
+        return None;
+    };
+    let Some(behind) = behind_byte(b':', skip(name_end)) else {
+        return None;
+    };
+    Some((Name::Plain(word), skip(behind)))
 }

@@ -7,6 +7,7 @@ pub mod ArcParts
 pub mod StrokeParts
 pub mod ShapeParts
 pub mod IndexParts
+pub mod TransformParts
 pub mod TopologyParts
 pub mod WholeTexts
 pub mod TextParts

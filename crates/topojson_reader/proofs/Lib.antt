@@ -9,6 +9,7 @@ pub mod ArcParts
 pub mod StrokeParts
 pub mod ShapeParts
 pub mod IndexParts
+pub mod TransformParts
 pub mod TopologyParts
 pub mod TextParts
 pub mod SeenMembers

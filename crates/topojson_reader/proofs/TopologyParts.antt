@@ -31,7 +31,7 @@ use Rattle.json_cursor.specs.Arrays.{front_value}
 use Rattle.json_cursor.proofs.Steps.{found_stops}
 use Rattle.topojson_reader.specs.declared.seen.Seen.TheVariants.{Once}
 use Rattle.topojson_reader.specs.Members.{IsFront, IsSeen}
-use Rattle.topojson_reader.specs.Topologies.{Gives, StopsBy, NeededAt, type_in, transform_in}
+use Rattle.topojson_reader.specs.Topologies.{Gives, NeededAt, type_in, transform_in}
 
 -- ---- a part that stands there
 
@@ -104,11 +104,12 @@ pub part_reads : {B : Type 0} (name : List ℕ) (read : Json → Reader B) (ms :
     → need_as name read ms old ≡ Ok (x, new)
 part_reads name read ms old new d at x rest h r = part_is name read ms old r.value (needed_value name ms d at r.value rest h r.front_is) ∙ r.means
 
--- the fault of a reader of a value, as why reading stops
-pub stops_by : {X B : Type 0} (view : X → B) (read : Reader B) (old new : Counts) (e : TopoFault) (s : Stop TopoFault) → StopsBy e s → (e ≢ topo.Memory → read old ≡ Err e) → Gives view read old new (Err s)
-stops_by view read old new e (stop.Fault f) h k = k h.1 ∙ ap Err (sym h.0)
-stops_by view read old new e stop.NoValue h k = absurd h
-stops_by view read old new e stop.Memory h k = tt
+-- readers that answer the same give the same
+pub gives_same : {X B : Type 0} (view : X → B) (r s : Reader B) (old new : Counts) → r old ≡ s old → (answer : Result X (Stop TopoFault)) → Gives view s old new answer → Gives view r old new answer
+gives_same view r s old new is (Ok x) h = is ∙ h
+gives_same view r s old new is (Err (stop.Fault e)) h = is ∙ h
+gives_same view r s old new is (Err stop.NoValue) h = absurd h
+gives_same view r s old new is (Err stop.Memory) h = tt
 
 -- ---- its transform
 

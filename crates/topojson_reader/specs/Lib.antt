@@ -5,6 +5,7 @@ pub mod Cells
 pub mod Strokes
 pub mod Shapes
 pub mod Index
+pub mod Transforms
 pub mod Topologies
 pub mod Texts
 pub mod Members

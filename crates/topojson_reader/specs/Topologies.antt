@@ -23,12 +23,6 @@ Gives view read old new (Err (stop.Fault e)) = read old ≡ Err e
 Gives view read old new (Err stop.NoValue) = ⊥
 Gives view read old new (Err stop.Memory) = Unit {0}
 
--- want of memory is no fault of what is read
-abbrev pub StopsBy : TopoFault → Stop TopoFault → Type 0
-StopsBy fault (stop.Fault e) = (e ≡ fault) × (fault ≢ topo.Memory)
-StopsBy fault stop.NoValue = ⊥
-StopsBy fault stop.Memory = Unit {0}
-
 -- of these values the only one begins here, or the look-up has this fault
 abbrev pub NeededAt : ℕ → List Json → Result (Bor (List ℕ)) TopoFault → Type 0
 NeededAt d vs (Ok at) = (v : Json) × (rest : List ℕ) × (vs ≡ v ∷ []) × (front_value d at.now ≡ Some (v, rest))

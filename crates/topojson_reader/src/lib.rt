@@ -21,6 +21,7 @@ mod shapes;
 mod strokes;
 mod texts;
 mod topologies;
+mod transforms;
 
 pub use arcs::{arc_at, arcs_at};
 pub use areas::polygon_at;

@@ -12,18 +12,17 @@ ghost use Rattle.topojson_meaning.specs.Objects.{objects as objects_in_order};
 ghost use Rattle.topojson_meaning.specs.Topologies as spec;
 ghost use Rattle.topojson_reader.specs.Index.{IsIndex};
 ghost use Rattle.topojson_reader.specs.Members.{IsFront, IsSeen};
-ghost use Rattle.topojson_reader.specs.Topologies.{Gives, NeededAt, StopsBy, transform_in, type_in};
+ghost use Rattle.topojson_reader.specs.Topologies.{Gives, NeededAt, transform_in, type_in};
 
 use crate::arcs::arcs_at;
 use crate::index::Index;
 use crate::named_objects::objects_at;
 use crate::seen::Seen;
+use crate::transforms::transform_at;
 use geojson_types::Counts;
 use json_cursor::{Stop, object_at as members_at, string_at};
-use json_reading::value_at;
 use json_value::{Items, OwnText};
 use std::alloc::Global;
-use topojson_arc_reading::transform_if;
 use topojson_meaning::TopoFault;
 use topojson_types::{Cell, TopoObject, Transform};
 
@@ -33,16 +32,6 @@ pub struct Parts {
     pub objects: Items<(OwnText, TopoObject)>,
     pub arcs: Items<Items<Cell>>,
     pub transform: Option<Transform>,
-}
-
-/// Why reading stops where a part has this fault.
-fn stop_by(fault: TopoFault) -> Stop<TopoFault>
-    ensures { StopsBy fault result }
-{
-    match fault {
-        TopoFault::Memory => Stop::Memory,
-        fault => Stop::Fault(fault),
-    }
 }
 
 /// Where the value of a member begins that must be there once.
@@ -84,13 +73,7 @@ fn transform_of(
     match seen {
         Seen::Never => Ok(None),
         Seen::Again => Err(Stop::Fault(TopoFault::Duplicate)),
-        Seen::Once(at) => {
-            let (value, _) = value_at(alloc, deep, at)?;
-            match transform_if(alloc, Some(&value)) {
-                Err(fault) => Err(stop_by(fault)),
-                Ok(transform) => Ok(transform),
-            }
-        }
+        Seen::Once(at) => transform_at(alloc, deep, at),
     }
 }
 

@@ -1,0 +1,246 @@
+// The transform of a topology (TopoJSON 1.0, section 2.1.2).
+ghost use Rattle.std.specs.Prelude.{◌≡◌, [], Some};
+ghost use Rattle.json_value.specs.declared.json.Json.{Json as Value};
+ghost use Rattle.json_members.specs.Members.{Members as Listed};
+ghost use Rattle.geojson_types.specs.declared.counts.Counts.{Counts as Counted};
+ghost use Rattle.topojson_meaning.specs.Reader.{pure};
+ghost use Rattle.topojson_meaning.specs.Transforms.{transform_if, transform_members, transform_number, transform_pair};
+ghost use Rattle.topojson_reader.specs.Members.{IsFront, Meets};
+ghost use Rattle.topojson_reader.specs.Topologies.{Gives};
+ghost use Rattle.topojson_reader.specs.Transforms.{IsTexts, IsTransform};
+ghost use Rattle.topojson_reader.specs.Transforms as spec;
+
+use crate::held::held;
+use crate::seen::Seen;
+use decimal_text::NumText;
+use geojson_types::Counts;
+use json_cursor::{
+    Elements, Kind, Members, Stop, folded_array_at, kind_at, name_at, object_at as members_at,
+};
+use json_reading::{Fault, value_at};
+use std::alloc::Global;
+use text_checking::after_value;
+use topojson_meaning::TopoFault;
+use topojson_types::{Transform, TransformNumber};
+
+/// The first two number texts of an array, as far as they were read.
+#[derive(Drop)]
+pub struct NumberTexts {
+    pub x: Option<NumText>,
+    pub y: Option<NumText>,
+}
+
+impl NumberTexts {
+    /// Goes on with one more: the first, or else the second.
+    fn put(&mut self, text: NumText)
+        ensures { self.new ≡ spec.put self.old text }
+    {
+        match self.x {
+            None => self.x = Some(text),
+            Some(_) => self.y = Some(text),
+        }
+    }
+}
+
+impl Elements for NumberTexts {
+    type Fault = TopoFault;
+
+    type With = ();
+
+    ghost takes = { λ _. spec.take };
+
+    fn element<'a>(
+        &mut self,
+        alloc: Global,
+        deep: u32,
+        bytes: &'a [u8],
+        _with: (),
+        _counts: &mut Counts,
+    ) -> Result<&'a [u8], Stop<TopoFault>> {
+        if self.y.is_some() {
+            let rest = after_value(alloc, deep, bytes)?;
+            return Ok(rest);
+        }
+        let (value, rest) = value_at(alloc, deep, bytes)?;
+        let Some(text) = value.into_number() else {
+            return Err(Stop::Fault(TopoFault::WrongKind));
+        };
+        self.put(text);
+        Ok(rest)
+    }
+}
+
+/// Both number texts, or the fault of an array that has fewer.
+fn both_of(read: Result<NumberTexts, TopoFault>) -> Result<(NumText, NumText), TopoFault>
+    ensures { result ≡ spec.both_of read }
+{
+    match read {
+        Err(fault) => Err(fault),
+        Ok(NumberTexts { x, y }) => match x {
+            None => Err(TopoFault::WrongKind),
+            Some(x) => match y {
+                None => Err(TopoFault::WrongKind),
+                Some(y) => Ok((x, y)),
+            },
+        },
+    }
+}
+
+/// The two number texts of the array at the front, or its fault, and what follows it. Elements behind them are passed over.
+fn texts_at<'a>(
+    alloc: Global,
+    deep: u32,
+    bytes: &'a [u8],
+) -> Result<(Result<(NumText, NumText), TopoFault>, &'a [u8]), Fault>
+    ensures { Meets IsTexts deep bytes.now result }
+{
+    let mut counts = Counts::none();
+    let none = NumberTexts { x: None, y: None };
+    let answer = folded_array_at::<NumberTexts>(
+        alloc,
+        deep,
+        none,
+        bytes,
+        TopoFault::WrongKind,
+        (),
+        &mut counts,
+    );
+    let (read, rest) = held(alloc, deep, bytes, answer)?;
+    Ok((both_of(read), rest))
+}
+
+/// What was seen of the members of a transform: their number texts, or their faults.
+#[derive(Drop)]
+pub struct TransformParts {
+    pub scale: Seen<Result<(NumText, NumText), TopoFault>>,
+    pub translate: Seen<Result<(NumText, NumText), TopoFault>>,
+}
+
+impl TransformParts {
+    /// Of no members.
+    fn none() -> TransformParts
+        ensures { IsTransform [] result }
+    {
+        TransformParts {
+            scale: Seen::Never,
+            translate: Seen::Never,
+        }
+    }
+}
+
+impl<'a> Members<'a> for TransformParts {
+    type With = ();
+
+    ghost holds = { λ _ _. IsTransform };
+
+    fn member(
+        &mut self,
+        alloc: Global,
+        deep: u32,
+        bytes: &'a [u8],
+        _with: (),
+    ) -> Result<&'a [u8], Fault> {
+        let (name, value) = name_at(alloc, bytes)?;
+        if name.is("scale") {
+            let (texts, rest) = texts_at(alloc, deep, value)?;
+            self.scale.see(texts);
+            return Ok(rest);
+        }
+        if name.is("translate") {
+            let (texts, rest) = texts_at(alloc, deep, value)?;
+            self.translate.see(texts);
+            return Ok(rest);
+        }
+        after_value(alloc, deep, value)
+    }
+}
+
+/// What a member is read as that must be there once.
+fn needed_texts(
+    seen: Seen<Result<(NumText, NumText), TopoFault>>,
+) -> Result<(NumText, NumText), TopoFault>
+    ensures { result ≡ spec.needed seen }
+{
+    match seen {
+        Seen::Never => Err(TopoFault::Missing),
+        Seen::Again => Err(TopoFault::Duplicate),
+        Seen::Once(texts) => texts,
+    }
+}
+
+/// The number with this text, unless it is out of range.
+#[tactic(auto, unfolding(topojson_meaning::specs::Transforms::transform_number))]
+fn number_of(text: NumText) -> Result<TransformNumber, TopoFault>
+    ensures { result ≡ transform_number text }
+{
+    match TransformNumber::of(text) {
+        None => Err(TopoFault::Range),
+        Some(number) => Ok(number),
+    }
+}
+
+/// Two numbers of a transform.
+fn numbers_of(texts: (NumText, NumText)) -> Result<(TransformNumber, TransformNumber), TopoFault>
+    ensures { (counts : Counted) → transform_pair texts counts ≡ pure result counts }
+{
+    let (x, y) = texts;
+    match number_of(x) {
+        Err(fault) => Err(fault),
+        Ok(x) => match number_of(y) {
+            Err(fault) => Err(fault),
+            Ok(y) => Ok((x, y)),
+        },
+    }
+}
+
+/// The transform whose members were seen so: the texts of both are looked at before their ranges.
+fn transform_of(parts: TransformParts) -> Result<Transform, TopoFault>
+    ensures { (ms : Listed) (counts : Counted) → IsTransform ms parts → transform_members ms counts ≡ pure result counts }
+{
+    let TransformParts { scale, translate } = parts;
+    let scale_texts = match needed_texts(scale) {
+        Err(fault) => return Err(fault),
+        Ok(texts) => texts,
+    };
+    let translate_texts = match needed_texts(translate) {
+        Err(fault) => return Err(fault),
+        Ok(texts) => texts,
+    };
+    let scale = match numbers_of(scale_texts) {
+        Err(fault) => return Err(fault),
+        Ok(numbers) => numbers,
+    };
+    match numbers_of(translate_texts) {
+        Err(fault) => Err(fault),
+        Ok(translate) => Ok(Transform { scale, translate }),
+    }
+}
+
+/// The transform that a value of this kind is, which is no object.
+fn other_transform(kind: Kind) -> Result<Option<Transform>, Stop<TopoFault>>
+    ensures { result ≡ spec.other_transform kind }
+{
+    match kind {
+        Kind::Null => Ok(None),
+        _ => Err(Stop::Fault(TopoFault::WrongKind)),
+    }
+}
+
+/// The transform that the value at the front is, which is none where it is null.
+pub(crate) fn transform_at(
+    alloc: Global,
+    deep: u32,
+    bytes: &[u8],
+) -> Result<Option<Transform>, Stop<TopoFault>>
+    ensures { (counts : Counted) (v : Value) → IsFront deep v bytes.entry → Gives (λ t. t) (transform_if (Some v)) counts counts result }
+{
+    let none = TransformParts::none();
+    let (found, _) = members_at::<TransformParts>(alloc, deep, none, bytes, ())?;
+    let Some(parts) = found else {
+        return other_transform(kind_at(bytes));
+    };
+    match transform_of(parts) {
+        Err(fault) => Err(Stop::Fault(fault)),
+        Ok(transform) => Ok(Some(transform)),
+    }
+}

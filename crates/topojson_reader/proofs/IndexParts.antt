@@ -1,66 +1,86 @@
--- Where the members of a topology stand, seen one after another.
-use Rattle.std.proofs.Common.{◌≡◌, ℕ, true, false, List, [], ◌∷◌, ◌++◌, refl, sym, subst}
+-- The members of a topology, seen one after another.
+use Rattle.std.proofs.Common.{◌≡◌, ℕ, true, false, List, [], ◌∷◌, ◌++◌, Option, Result, refl, sym, subst}
 use Rattle.std.specs.Prelude.{bytes_eq, codes}
 use Rattle.std.specs.Borrow.{Bor}
 use Rattle.json_value.specs.declared.json.Json.{Json}
 use Rattle.json_members.specs.Members.{Members, named}
+use Rattle.geojson_types.specs.declared.counts.Counts.{Counts}
+use Rattle.topojson_types.specs.declared.transform.Transform.{Transform}
+use Rattle.topojson_meaning.specs.declared.fault.TopoFault.{TopoFault}
+use Rattle.topojson_reader.specs.declared.index.FoundArcs.{FoundArcs}
 use Rattle.topojson_reader.specs.declared.index.Index.{Index}
 use Rattle.topojson_reader.specs.declared.seen.Seen.{Seen}
-use Rattle.topojson_reader.specs.declared.seen.Seen.TheVariants.{Never}
-use Rattle.topojson_reader.specs.Index.{IsIndex}
+use Rattle.topojson_reader.specs.declared.seen.Seen.TheVariants.{Never, Once, Again}
+use Rattle.topojson_reader.specs.Index.{AreArcs, IsIndex, transform_by, unread}
 use Rattle.topojson_reader.specs.Members.{IsFront, IsSeen, see}
+use Rattle.topojson_reader.specs.Transforms.{IsTransformOf}
 use Rattle.topojson_reader.proofs.SeenMembers.{no_other, passes, sees}
 
 -- nothing was seen of no members
-pub no_index : (d : ℕ) → IsIndex d [] (record { kind = Never; transform = Never; arcs = Never; objects = Never })
+pub no_index : (start : Counts) (d : ℕ) → IsIndex start d [] (record { kind = Never; transform = Never; arcs = Never; objects = Never })
 unfolding named
-no_index d = record { kind = refl; transform = refl; arcs = refl; objects = refl }
+no_index start d = record { kind = refl; transform = refl; arcs = refl; objects = refl }
 
-module _ (d : ℕ) (ms : Members) (i : Index) (name : List ℕ) (v : Json) (h : IsIndex d ms i) where
+-- where arcs stand is known whatever the transform is
+unread_seen : (start : Counts) (d : ℕ) (t u : Option (Option Transform)) (vs : List Json) (s : Seen FoundArcs) → IsSeen (AreArcs start t d) vs s → IsSeen (AreArcs start u d) vs (unread s)
+unread_seen start d t u vs Never h = h
+unread_seen start d t u vs (Once x) (v, same, k) = (v, same, record { front = k.front; read = tt })
+unread_seen start d t u vs Again h = h
+
+module _ (start : Counts) (d : ℕ) (ms : Members) (i : Index) (name : List ℕ) (v : Json) (h : IsIndex start d ms i) where
   abbrev more : Members
   more = ms ++ (name, v) ∷ []
 
-  stays : (word : List ℕ) (s : Seen (Bor (List ℕ))) → IsSeen (IsFront d) (named word ms) s → bytes_eq name word ≡ false → IsSeen (IsFront d) (named word more) s
-  stays word s k other = passes (IsFront d) word ms name v s k other
+  abbrev Arcs : Json → FoundArcs → Type 0
+  Arcs = AreArcs start (transform_by i.transform) d
 
-  -- a member of one of these names, whose value begins there
-  module _ (x : Bor (List ℕ)) (front : IsFront d v x) (s : Seen (Bor (List ℕ))) where
-    grows : (word : List ℕ) (before : Seen (Bor (List ℕ))) → IsSeen (IsFront d) (named word ms) before → s ≡ see before x → bytes_eq name word ≡ true → IsSeen (IsFront d) (named word more) s
-    grows word before k is same = subst (IsSeen (IsFront d) (named word more)) (sym is) (sees (IsFront d) word ms name v before k x same front)
+  passes_type : bytes_eq name (codes "type") ≡ false → IsSeen (IsFront d) (named (codes "type") more) i.kind
+  passes_type other = passes (IsFront d) (codes "type") ms name v i.kind h.kind other
 
-    pub sees_type : s ≡ see i.kind x → bytes_eq name (codes "type") ≡ true → IsIndex d more (record { kind = s; transform = i.transform; arcs = i.arcs; objects = i.objects })
-    sees_type is same = record {
-      kind = grows (codes "type") i.kind h.kind is same;
-      transform = stays (codes "transform") i.transform h.transform (no_other name (codes "type") (codes "transform") same refl);
-      arcs = stays (codes "arcs") i.arcs h.arcs (no_other name (codes "type") (codes "arcs") same refl);
-      objects = stays (codes "objects") i.objects h.objects (no_other name (codes "type") (codes "objects") same refl);
-    }
+  passes_transform : bytes_eq name (codes "transform") ≡ false → IsSeen IsTransformOf (named (codes "transform") more) i.transform
+  passes_transform other = passes IsTransformOf (codes "transform") ms name v i.transform h.transform other
 
-    pub sees_transform : s ≡ see i.transform x → bytes_eq name (codes "transform") ≡ true → IsIndex d more (record { kind = i.kind; transform = s; arcs = i.arcs; objects = i.objects })
-    sees_transform is same = record {
-      kind = stays (codes "type") i.kind h.kind (no_other name (codes "transform") (codes "type") same refl);
-      transform = grows (codes "transform") i.transform h.transform is same;
-      arcs = stays (codes "arcs") i.arcs h.arcs (no_other name (codes "transform") (codes "arcs") same refl);
-      objects = stays (codes "objects") i.objects h.objects (no_other name (codes "transform") (codes "objects") same refl);
-    }
+  passes_arcs : bytes_eq name (codes "arcs") ≡ false → IsSeen Arcs (named (codes "arcs") more) i.arcs
+  passes_arcs other = passes Arcs (codes "arcs") ms name v i.arcs h.arcs other
 
-    pub sees_arcs : s ≡ see i.arcs x → bytes_eq name (codes "arcs") ≡ true → IsIndex d more (record { kind = i.kind; transform = i.transform; arcs = s; objects = i.objects })
-    sees_arcs is same = record {
-      kind = stays (codes "type") i.kind h.kind (no_other name (codes "arcs") (codes "type") same refl);
-      transform = stays (codes "transform") i.transform h.transform (no_other name (codes "arcs") (codes "transform") same refl);
-      arcs = grows (codes "arcs") i.arcs h.arcs is same;
-      objects = stays (codes "objects") i.objects h.objects (no_other name (codes "arcs") (codes "objects") same refl);
-    }
+  passes_objects : bytes_eq name (codes "objects") ≡ false → IsSeen (IsFront d) (named (codes "objects") more) i.objects
+  passes_objects other = passes (IsFront d) (codes "objects") ms name v i.objects h.objects other
 
-    pub sees_objects : s ≡ see i.objects x → bytes_eq name (codes "objects") ≡ true → IsIndex d more (record { kind = i.kind; transform = i.transform; arcs = i.arcs; objects = s })
-    sees_objects is same = record {
-      kind = stays (codes "type") i.kind h.kind (no_other name (codes "objects") (codes "type") same refl);
-      transform = stays (codes "transform") i.transform h.transform (no_other name (codes "objects") (codes "transform") same refl);
-      arcs = stays (codes "arcs") i.arcs h.arcs (no_other name (codes "objects") (codes "arcs") same refl);
-      objects = grows (codes "objects") i.objects h.objects is same;
-    }
+  pub sees_type : (x : Bor (List ℕ)) (s : Seen (Bor (List ℕ))) → s ≡ see i.kind x → bytes_eq name (codes "type") ≡ true → IsFront d v x
+      → IsIndex start d more (record { kind = s; transform = i.transform; arcs = i.arcs; objects = i.objects })
+  sees_type x s is same k = record {
+    kind = subst (IsSeen (IsFront d) (named (codes "type") more)) (sym is) (sees (IsFront d) (codes "type") ms name v i.kind h.kind x same k);
+    transform = passes_transform (no_other name (codes "type") (codes "transform") same refl);
+    arcs = passes_arcs (no_other name (codes "type") (codes "arcs") same refl);
+    objects = passes_objects (no_other name (codes "type") (codes "objects") same refl);
+  }
 
-  -- and of another
-  pub sees_other : bytes_eq name (codes "type") ≡ false → bytes_eq name (codes "transform") ≡ false → bytes_eq name (codes "arcs") ≡ false → bytes_eq name (codes "objects") ≡ false → IsIndex d more i
-  sees_other a b c e =
-      record { kind = stays (codes "type") i.kind h.kind a; transform = stays (codes "transform") i.transform h.transform b; arcs = stays (codes "arcs") i.arcs h.arcs c; objects = stays (codes "objects") i.objects h.objects e }
+  pub sees_transform : (x : Result (Option Transform) TopoFault) (s : Seen (Result (Option Transform) TopoFault)) (arcs : Seen FoundArcs) → s ≡ see i.transform x → arcs ≡ unread i.arcs → bytes_eq name (codes "transform") ≡ true → IsTransformOf v x
+      → IsIndex start d more (record { kind = i.kind; transform = s; arcs = arcs; objects = i.objects })
+  sees_transform x s arcs is a same k = record {
+    kind = passes_type (no_other name (codes "transform") (codes "type") same refl);
+    transform = subst (IsSeen IsTransformOf (named (codes "transform") more)) (sym is) (sees IsTransformOf (codes "transform") ms name v i.transform h.transform x same k);
+    arcs = subst (IsSeen (AreArcs start (transform_by s) d) (named (codes "arcs") more)) (sym a) (unread_seen start d (transform_by i.transform) (transform_by s) (named (codes "arcs") more) i.arcs (passes_arcs (no_other name (codes "transform") (codes "arcs") same refl)));
+    objects = passes_objects (no_other name (codes "transform") (codes "objects") same refl);
+  }
+
+  pub sees_arcs : (x : FoundArcs) (s : Seen FoundArcs) → s ≡ see i.arcs x → bytes_eq name (codes "arcs") ≡ true → AreArcs start (transform_by i.transform) d v x
+      → IsIndex start d more (record { kind = i.kind; transform = i.transform; arcs = s; objects = i.objects })
+  sees_arcs x s is same k = record {
+    kind = passes_type (no_other name (codes "arcs") (codes "type") same refl);
+    transform = passes_transform (no_other name (codes "arcs") (codes "transform") same refl);
+    arcs = subst (IsSeen Arcs (named (codes "arcs") more)) (sym is) (sees Arcs (codes "arcs") ms name v i.arcs h.arcs x same k);
+    objects = passes_objects (no_other name (codes "arcs") (codes "objects") same refl);
+  }
+
+  pub sees_objects : (x : Bor (List ℕ)) (s : Seen (Bor (List ℕ))) → s ≡ see i.objects x → bytes_eq name (codes "objects") ≡ true → IsFront d v x
+      → IsIndex start d more (record { kind = i.kind; transform = i.transform; arcs = i.arcs; objects = s })
+  sees_objects x s is same k = record {
+    kind = passes_type (no_other name (codes "objects") (codes "type") same refl);
+    transform = passes_transform (no_other name (codes "objects") (codes "transform") same refl);
+    arcs = passes_arcs (no_other name (codes "objects") (codes "arcs") same refl);
+    objects = subst (IsSeen (IsFront d) (named (codes "objects") more)) (sym is) (sees (IsFront d) (codes "objects") ms name v i.objects h.objects x same k);
+  }
+
+  pub sees_other : bytes_eq name (codes "type") ≡ false → bytes_eq name (codes "transform") ≡ false → bytes_eq name (codes "arcs") ≡ false → bytes_eq name (codes "objects") ≡ false → IsIndex start d more i
+  sees_other a b c e = record { kind = passes_type a; transform = passes_transform b; arcs = passes_arcs c; objects = passes_objects e }

@@ -5,7 +5,9 @@ use Rattle.std.specs.Str.{is_utf8}
 use Rattle.decimal_text.specs.Scaling.{scaled_of}
 use Rattle.json_value.specs.declared.json.Json.{Json}
 use Rattle.json_value.specs.declared.json.Json.TheVariants as j
-use Rattle.json_value.specs.Kinds.{number_of}
+use Rattle.json_value.specs.declared.json.Json.TheOpen.{Json-F}
+use Rattle.json_value.specs.declared.json.Json.TheViews.{out-Json}
+use Rattle.json_value.specs.Kinds.{number_in, number_of}
 use Rattle.json_value.proofs.KindsOf.{number_of-number}
 use Rattle.geojson_types.specs.declared.counts.Counts.{Counts}
 use Rattle.unit_scanning.specs.Numbers.{IsNumberAt}
@@ -13,8 +15,24 @@ use Rattle.topojson_reader.proofs.Wider.{wider}
 use Rattle.topojson_meaning.specs.declared.fault.TopoFault.TheVariants.{WrongKind}
 use Rattle.topojson_meaning.specs.Arcs.{number_text}
 use Rattle.json_cursor.specs.Answers.{Reads}
+use Rattle.json_cursor.specs.Kinds.{kind_in, kind_of}
+use Rattle.json_cursor.specs.declared.kinds.Kind.{Kind}
+use Rattle.json_cursor.specs.declared.kinds.Kind.TheVariants.{Number}
 use Rattle.json_cursor.specs.Arrays.{front_value}
 use Rattle.topojson_reader.specs.Numbers.{in_range, scaled_at}
+
+-- a value of another kind is no number
+other_in : (x : Json-F Json) → (kind_in x ≡ Number → ⊥) → number_in x ≡ None
+other_in Json-F.Null h = refl
+other_in (Json-F.Bool b) h = refl
+other_in (Json-F.Number n) h = absurd (h refl)
+other_in (Json-F.Text t) h = refl
+other_in (Json-F.Array vs) h = refl
+other_in (Json-F.Object ms) h = refl
+
+pub other_kind : (v : Json) → (kind_of v ≡ Number → ⊥) → number_of v ≡ None
+unfolding number_of
+other_kind v h = other_in (out-Json v) h
 
 module _ (places limit : ℕ) (v : Json) (c : Counts) where
   pub no_number : number_of v ≡ None → scaled_at places limit v c ≡ Err WrongKind

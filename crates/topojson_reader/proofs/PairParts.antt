@@ -1,12 +1,12 @@
 -- Pairs of numbers by their elements.
-use Rattle.std.proofs.Common.{◌≡◌, ℕ, ◌-◌, ◌<◌, true, List, [], ◌∷◌, length, Option, Some, None, Result, Ok, Err, refl, ap, ◌∙◌, arith}
+use Rattle.std.proofs.Common.{◌≡◌, ℕ, ◌-◌, ◌<◌, ◌≤◌, true, false, List, [], ◌∷◌, length, Option, Some, None, Result, Ok, Err, refl, sym, subst, ap, ◌∙◌, arith}
 use Rattle.std.specs.Prelude.{nat_lt}
 use Rattle.std.proofs.lemmas.Bool.Decides.{nat_tests}
 use Rattle.std.specs.Borrow.{Bor}
 use Rattle.json_value.specs.declared.json.Json.{Json}
 use Rattle.json_value.specs.declared.json.Json.TheVariants as j
 use Rattle.json_value.proofs.KindsOf.{array_of-array}
-use Rattle.json_cursor.specs.Arrays.{array_by, list_by}
+use Rattle.json_cursor.specs.Arrays.{array_by, front_value, list_by}
 use Rattle.json_value.specs.Reading.{Parse, skip, list_after, list_at}
 use Rattle.json_reading.specs.declared.fault.Fault.{Fault}
 use Rattle.json_reading.specs.Gives.{Fails}
@@ -22,7 +22,7 @@ use Rattle.json_cursor.proofs.Lists.{ends, goes_on, breaks, first_stops, some_li
 use Rattle.topojson_reader.specs.declared.numbers.Scale.{Scale}
 use Rattle.topojson_reader.specs.declared.pairs.Pair.{Pair}
 use Rattle.topojson_reader.specs.Numbers.{number}
-use Rattle.topojson_reader.specs.Pairs.{second, both, pair}
+use Rattle.topojson_reader.specs.Pairs.{ArePair, second, both, pair}
 
 -- ---- the second element and those behind it, in some turns
 
@@ -82,10 +82,48 @@ module _ (scale : Scale) (item : Parse Json) (n : ℕ) (bs : List ℕ) (some : 0
       is_made : list_at 93 item n bs ≡ made (λ xs. r.value ∷ xs) (list_at 93 item (n - 1) more)
       is_made = goes_on item n bs some r.value after r.front_is more comma
 
+      second_reads : (p : Pair) (end : List ℕ) → Reads (second scale x) (list_at 93 item (n - 1) more) p end c c → Reads (both scale) (list_at 93 item n bs) p end c c
+      second_reads p end h = made_reads (λ xs. r.value ∷ xs) (both scale) (second scale x) (list_at 93 item n bs) (list_at 93 item (n - 1) more) is_made c c (λ ws end k. then_second ws) p end c h
+
       pub by_second : (answer : Result (Pair × Bor (List ℕ)) (Stop TopoFault)) → Answers (λ p. p) (second scale x) (list_at 93 item (n - 1) more) c c answer
           → Answers (λ p. p) (both scale) (list_at 93 item n bs) c c answer
-      by_second (Ok p) h = made_reads (λ xs. r.value ∷ xs) (both scale) (second scale x) (list_at 93 item n bs) (list_at 93 item (n - 1) more) is_made c c (λ ws end k. then_second ws) p.0 p.1.now c h
+      by_second (Ok p) h = second_reads p.0 p.1.now h
       by_second (Err s) h = made_stops (λ xs. r.value ∷ xs) (both scale) (second scale x) (list_at 93 item n bs) (list_at 93 item (n - 1) more) is_made c c (λ ws end k. then_second ws) s h
+
+-- ---- both elements, written as most are
+
+module _ (scale : Scale) (d n : ℕ) (bs : List ℕ) (long : 2 ≤ n) (c : Counts) (x y : Units) (after : List ℕ) (p : ArePair scale bs x y after) where
+  some : 0 < n
+  some = omega (arith, long)
+
+  more : 0 < n - 1
+  more = omega (arith, long)
+
+  less : n - 1 - 1 ≡ n - 2
+  less = omega (arith, long)
+
+  pair_reads : (q : Pair) (end : List ℕ) → Reads (second scale (Some x)) (list_at 93 (front_value d) (n - 1) p.more) q end c c → Reads (both scale) (list_at 93 (front_value d) n bs) q end c c
+  pair_reads = second_reads scale (front_value d) n bs some c (Some x) p.after (p.first d c) p.more p.comma
+
+  pair_stops : (s : Stop TopoFault) → Stops (second scale (Some x)) (list_at 93 (front_value d) (n - 1) p.more) c s → Stops (both scale) (list_at 93 (front_value d) n bs) c s
+  pair_stops s h = by_second scale (front_value d) n bs some c (Some x) p.after (p.first d c) p.more p.comma (Err s) h
+
+  pub pair_ends : (end : List ℕ) → skip after ≡ 93 ∷ end → Reads (both scale) (list_at 93 (front_value d) n bs) (record { x = Some x; y = Some y; more = false }) end c c
+  pair_ends end h = pair_reads (record { x = Some x; y = Some y; more = false }) end (second_ends scale (Some x) (front_value d) (n - 1) p.more more c (Some y) after (p.second d c) end h)
+
+  pub pair_breaks : ((next : Parse (List Json)) (v : Json) → list_after 93 next v (skip after) ≡ None) → list_at 93 (front_value d) n bs ≡ None
+  pair_breaks h = pair_stops stop.NoValue (second_breaks scale (Some x) (front_value d) (n - 1) p.more more c (Some y) after (p.second d c) h)
+
+  module _ (others : List ℕ) (comma : skip after ≡ 44 ∷ others) where
+    pub pair_goes_on : (ws : List Json) (end : List ℕ) → list_at 93 (front_value d) (n - 2) others ≡ Some (ws, end) → Reads (both scale) (list_at 93 (front_value d) n bs) (record { x = Some x; y = Some y; more = true }) end c c
+    pair_goes_on ws end h =
+        pair_reads (record { x = Some x; y = Some y; more = true }) end
+        (second_goes_on scale (Some x) (front_value d) (n - 1) p.more more c (Some y) after (p.second d c) others comma ws end (ap (λ m. list_at 93 (front_value d) m others) less ∙ h))
+
+    pub pair_text_stops : (fault : Fault) → Fails fault (list_at 93 (front_value d) (n - 2) others) → Stops (both scale) (list_at 93 (front_value d) n bs) c (stop_of fault)
+    pair_text_stops fault h =
+        pair_stops (stop_of fault)
+        (second_text_stops scale (Some x) (front_value d) (n - 1) p.more more c (Some y) after (p.second d c) others comma fault (subst (λ m. Fails fault (list_at 93 (front_value d) m others)) (sym less) h))
 
 -- ---- the array of a pair
 

@@ -30,7 +30,7 @@ use Rattle.json_cursor.specs.Answers.{Reads, Stops, stop_of}
 use Rattle.json_cursor.specs.Arrays.{front_value}
 use Rattle.json_cursor.proofs.Steps.{found_stops}
 use Rattle.topojson_reader.specs.declared.seen.Seen.TheVariants.{Once}
-use Rattle.topojson_reader.specs.Members.{IsFront, IsSeen}
+use Rattle.topojson_reader.specs.Members.{IsFront, IsSeen, Judges}
 use Rattle.topojson_reader.specs.Topologies.{Gives, NeededAt, type_in, transform_in}
 
 -- ---- a part that stands there
@@ -92,6 +92,19 @@ module _ {B : Type 0} (name : List ℕ) (read : Json → Reader B) (ms : Members
 
   pub part_is : (v : Json) → need name ms ≡ Ok v → need_as name read ms old ≡ read v old
   part_is v h = rw h refl
+
+  pub part_missing : named name ms ≡ [] → need_as name read ms old ≡ Err topo.Missing
+  part_missing h = part_fails topo.Missing (need_fails name ms 0 topo.Missing (needed_never 0 (named name ms) h))
+
+  pub part_doubled : (v w : Json) (us : List Json) → named name ms ≡ v ∷ w ∷ us → need_as name read ms old ≡ Err topo.Duplicate
+  part_doubled v w us h = part_fails topo.Duplicate (need_fails name ms 0 topo.Duplicate (needed_again 0 (named name ms) v w us h))
+
+  -- what its value is judged as
+  pub part_judged : (new : Counts) (v : Json) → named name ms ≡ v ∷ [] → (answer : Result B (Stop TopoFault)) → Judges (read v) old new answer → Gives (λ x. x) (need_as name read ms) old new answer
+  part_judged new v h (Ok x) k = part_is v (need_one name ms v h) ∙ k
+  part_judged new v h (Err (stop.Fault e)) k = part_is v (need_one name ms v h) ∙ k
+  part_judged new v h (Err stop.NoValue) k = k
+  part_judged new v h (Err stop.Memory) k = tt
 
 -- a part of which a reader answers
 pub part_gives : {X B : Type 0} (view : X → B) (name : List ℕ) (read : Json → Reader B) (ms : Members) (old new : Counts) (d : ℕ) (at : Bor (List ℕ)) → NeededAt d (named name ms) (Ok at) → (s : Stop TopoFault) → Stops read (front_value d at.now) old s

@@ -28,7 +28,6 @@ use Rattle.topojson_reader.specs.declared.seen.Seen.TheVariants.{Never, Once, Ag
 use Rattle.topojson_reader.specs.declared.transforms.NumberTexts.{NumberTexts}
 use Rattle.topojson_reader.specs.declared.transforms.TransformParts.{TransformParts}
 use Rattle.topojson_reader.specs.Members.{GoesOnWith, IsHeld, IsSeen, see}
-use Rattle.topojson_reader.specs.Topologies.{Gives}
 use Rattle.topojson_reader.specs.Transforms.{IsTexts, IsTransform, both_in, both_of, needed, other_transform, put, take, take_in}
 use Rattle.topojson_reader.proofs.SeenMembers.{no_other, passes, sees}
 
@@ -186,7 +185,7 @@ module _ (ts : List ℕ × List ℕ) (c : Counts) where
 
 -- ---- the value
 
-other_in : (x : Json-F Json) (c : Counts) → object_in x ≡ None → Gives (λ t. t) (transform_in x) c c (other_transform (kind_in x))
+other_in : (x : Json-F Json) (c : Counts) → object_in x ≡ None → transform_in x c ≡ pure (other_transform (kind_in x)) c
 other_in Json-F.Null c h = refl
 other_in (Json-F.Bool b) c h = refl
 other_in (Json-F.Number n) c h = refl
@@ -194,7 +193,7 @@ other_in (Json-F.Text t) c h = refl
 other_in (Json-F.Array vs) c h = refl
 other_in (Json-F.Object ms) c h = absurd cc
 
-pub other : (v : Json) (c : Counts) → object_of v ≡ None → Gives (λ t. t) (transform_if (Some v)) c c (other_transform (kind_of v))
+pub other : (v : Json) (c : Counts) → object_of v ≡ None → transform_if (Some v) c ≡ pure (other_transform (kind_of v)) c
 unfolding object_of transform_if
 other v c h = other_in (out-Json v) c h
 

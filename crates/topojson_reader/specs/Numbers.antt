@@ -1,10 +1,13 @@
 -- Numbers at a scale.
-use Rattle.std.specs.Prelude.{ℕ, Option, Some, None, Result, Ok, Err}
+use Rattle.std.specs.Prelude.{ℕ, List, Option, Some, None, Result, Ok, Err}
 use Rattle.decimal_text.specs.declared.num_text.Scaled.{Scaled}
 use Rattle.decimal_text.specs.declared.num_text.Range.{Range as OutOfRange}
 use Rattle.decimal_text.specs.Scaling.{scaled_of}
 use Rattle.geometry.specs.Units.{unit_places, position_limit}
 use Rattle.json_value.specs.declared.json.Json.{Json}
+use Rattle.geojson_types.specs.declared.counts.Counts.{Counts}
+use Rattle.json_cursor.specs.Answers.{Reads}
+use Rattle.json_cursor.specs.Arrays.{front_value}
 use Rattle.unit_scanning.specs.declared.units.Units.{Units}
 use Rattle.topojson_meaning.specs.Arcs.{number_text}
 use Rattle.topojson_meaning.specs.Reader.{Reader, ◌>>=◌, give, pure}
@@ -33,3 +36,7 @@ scale_limit (scale.Whole bound) = bound
 -- the same at a scale
 abbrev pub number : Scale → Json → Reader (Option Units)
 number s = scaled_at (scale_places s) (scale_limit s)
+
+-- this number at this scale stands at the front, however deep arrays and objects may nest, and then the rest
+abbrev pub IsNumber : Scale → List ℕ → Units → List ℕ → Type 0
+IsNumber s bytes u rest = (d : ℕ) (c : Counts) → Reads (number s) (front_value d bytes) (Some u) rest c c

@@ -1,13 +1,14 @@
 -- The numbers of a position or a cell (TopoJSON 1.0, section 2.1.1).
-use Rattle.std.specs.Prelude.{nat_lt, Option, List, [], ◌∷◌, length}
+use Rattle.std.specs.Prelude.{◌≡◌, nat_lt, ℕ, Option, List, [], ◌∷◌, length}
 use Rattle.json_value.specs.declared.json.Json.{Json}
+use Rattle.json_value.specs.Reading.{skip}
 use Rattle.topojson_meaning.specs.declared.fault.TopoFault.TheVariants.{WrongKind}
 use Rattle.topojson_meaning.specs.Reader.{Reader, ◌>>=◌, give, fail}
 use Rattle.unit_scanning.specs.declared.units.Units.{Units}
 use Rattle.json_cursor.specs.Arrays.{array_by}
 use Rattle.topojson_reader.specs.declared.numbers.Scale.{Scale}
 use Rattle.topojson_reader.specs.declared.pairs.Pair.{Pair}
-use Rattle.topojson_reader.specs.Numbers.{number}
+use Rattle.topojson_reader.specs.Numbers.{IsNumber, number}
 
 -- the second, behind this first; elements behind it are not looked at
 abbrev pub second : Scale → Option Units → List Json → Reader Pair
@@ -26,3 +27,11 @@ both scale (v ∷ vs) = do
 -- the first two elements of an array
 abbrev pub pair : Scale → Json → Reader Pair
 pair scale = array_by WrongKind (both scale)
+
+-- two numbers stand behind white space, with a comma (44) between them, and this follows them
+pub record ArePair (scale : Scale) (bytes : List ℕ) (x y : Units) (rest : List ℕ) : Type 0 where
+  pub after : List ℕ
+  pub first : IsNumber scale (skip bytes) x after
+  pub more : List ℕ
+  pub comma : skip after ≡ 44 ∷ more
+  pub second : IsNumber scale (skip more) y rest

@@ -8,11 +8,9 @@ use Rattle.topojson_meaning.specs.declared.fault.TopoFault.{TopoFault}
 use Rattle.topojson_meaning.specs.declared.fault.TopoFault.TheVariants.{Missing, Duplicate, WrongKind}
 use Rattle.topojson_meaning.specs.Arcs.{number_text}
 use Rattle.topojson_meaning.specs.Reader.{Reader, ◌>>=◌, give, pure}
-use Rattle.topojson_meaning.specs.Transforms.{texts}
+use Rattle.topojson_meaning.specs.Transforms.{texts, transform_if}
 use Rattle.json_cursor.specs.declared.kinds.Kind.{Kind}
 use Rattle.json_cursor.specs.declared.kinds.Kind.TheVariants.{Null}
-use Rattle.json_cursor.specs.declared.stop.Stop.{Stop}
-use Rattle.json_cursor.specs.declared.stop.Stop.TheVariants as stop
 use Rattle.topojson_reader.specs.Members.{IsSeen}
 use Rattle.topojson_reader.specs.declared.seen.Seen.{Seen}
 use Rattle.topojson_reader.specs.declared.seen.Seen.TheVariants.{Never, Once, Again}
@@ -67,6 +65,10 @@ needed (Once x) = x
 needed Again = Err Duplicate
 
 -- the transform that a value of this kind is, which is no object
-abbrev pub other_transform : Kind → Result (Option Transform) (Stop TopoFault)
+abbrev pub other_transform : Kind → Result (Option Transform) TopoFault
 other_transform Null = Ok None
-other_transform kind = Err (stop.Fault WrongKind)
+other_transform kind = Err WrongKind
+
+-- this is the transform that the value is, or its fault
+abbrev pub IsTransformOf : Json → Result (Option Transform) TopoFault → Type 0
+IsTransformOf v t = (counts : Counts) → transform_if (Some v) counts ≡ pure t counts

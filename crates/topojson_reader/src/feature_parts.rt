@@ -2,6 +2,7 @@
 ghost use Rattle.std.specs.Prelude.{◌≡◌, [], ℕ, List, None, Ok, Option, Result};
 ghost use Rattle.json_value.specs.declared.json.Json.{Json as Value};
 ghost use Rattle.json_members.specs.Members.{Members as Listed};
+ghost use Rattle.json_cursor.specs.Members.{Names};
 ghost use Rattle.topojson_meaning.specs.Features.{identifier as identifier_in, members_if};
 ghost use Rattle.topojson_meaning.specs.declared.fault.TopoFault.{TopoFault as Refusal};
 ghost use Rattle.topojson_reader.specs.Features.{IsFeature, IsFound, feature, found_in as found_among};
@@ -13,7 +14,7 @@ use crate::geometry_parts::{GeometryParts, Start};
 use crate::index::is_name;
 use crate::seen::Seen;
 use geojson_types::{Counts, Id, Properties};
-use json_cursor::{Kind, Members, Stop, kind_at, name_at};
+use json_cursor::{Kind, Members, Name, Stop, kind_at, name_at, named_at};
 use json_reading::{Fault, value_at};
 use properties_scanning::read_properties;
 use std::alloc::Global;
@@ -106,6 +107,28 @@ impl<'a> FeatureParts<'a> {
     }
 }
 
+/// The name of the member at the front, and where its value begins: those of a feature are looked for first.
+fn feature_name_at<'a>(alloc: Global, bytes: &'a [u8]) -> Result<(Name<'a>, &'a [u8]), Fault>
+    ensures { Names bytes.now result }
+{
+    if let Some(found) = named_at("type", bytes) {
+        return Ok(found);
+    }
+    if let Some(found) = named_at("properties", bytes) {
+        return Ok(found);
+    }
+    if let Some(found) = named_at("arcs", bytes) {
+        return Ok(found);
+    }
+    if let Some(found) = named_at("id", bytes) {
+        return Ok(found);
+    }
+    if let Some(found) = named_at("coordinates", bytes) {
+        return Ok(found);
+    }
+    name_at(alloc, bytes)
+}
+
 impl<'a> Members<'a> for FeatureParts<'a> {
     type With = Start<'a>;
 
@@ -118,7 +141,7 @@ impl<'a> Members<'a> for FeatureParts<'a> {
         bytes: &'a [u8],
         with: Start<'a>,
     ) -> Result<&'a [u8], Fault> {
-        let (name, value) = name_at(alloc, bytes)?;
+        let (name, value) = feature_name_at(alloc, bytes)?;
         self.value(alloc, deep, name.as_str(), value, with)
     }
 }

@@ -13,7 +13,7 @@ ghost use Rattle.topojson_reader.specs.Members.{Judges};
 use crate::feature_parts::{FeatureParts, feature_of};
 use crate::geometry_parts::{Start, kind_of};
 use geojson_types::Counts;
-use json_cursor::{Mark, Opening, Stop, mark_at, object_at, opening_at};
+use json_cursor::{Mark, Opening, Stop, mark_at, object_into, opening_at};
 use json_reading::skip;
 use json_value::Items;
 use std::alloc::Global;
@@ -54,9 +54,8 @@ pub fn feature_at<'a>(
         arcs,
         counts: *counts,
     };
-    let none = FeatureParts::none();
-    let (found, rest) = object_at::<FeatureParts<'a>>(alloc, deep, none, bytes, start)?;
-    let Some(seen) = found else {
+    let mut seen = FeatureParts::none();
+    let Some(rest) = object_into::<FeatureParts<'a>>(alloc, deep, &mut seen, bytes, start)? else {
         return Err(Stop::Fault(TopoFault::WrongKind));
     };
     match typed_feature_of(alloc, deep - 1, seen, start, counts) {

@@ -1,17 +1,16 @@
 // Numbers at a scale.
-ghost use Rattle.std.specs.Prelude.{◌≤◌, ◌<◌, ◌^◌, IfOk, IfSome, unsigned_abs};
+ghost use Rattle.std.specs.Prelude.{◌≡◌, ◌≤◌, ◌<◌, ◌^◌, IfOk, IfSome, unsigned_abs};
 ghost use Rattle.geojson_types.specs.declared.counts.Counts.{Counts};
-ghost use Rattle.geometry.specs.Units.{position_limit, unit_places};
 ghost use Rattle.json_cursor.specs.Answers.{Answers};
 ghost use Rattle.json_cursor.specs.Arrays.{front_value};
-ghost use Rattle.topojson_reader.specs.Numbers.{scale_limit, scaled_at, number};
+ghost use Rattle.topojson_reader.specs.Numbers.{IsNumber, scale_limit, scaled_at, number};
 
 use geojson_types::{PLACES, POSITION_LIMIT};
-use json_cursor::Stop;
+use json_cursor::{Kind, Stop, kind_at};
 use json_reading::value_at;
 use std::alloc::Global;
 use topojson_meaning::TopoFault;
-use unit_scanning::{Halt, Units, number_at as units_at, whole_at};
+use unit_scanning::{Units, units_at, whole_number_at};
 
 /// At how many decimals a number is taken, and how far from zero it may be.
 #[derive(Clone, Copy, Debug, PartialEq, Eq)]
@@ -40,6 +39,10 @@ fn value_number_at<'a>(
     ensures answers { (counts : Counts) → Answers (λ x. x) (scaled_at places limit) (front_value deep bytes.now) counts counts result }
     ensures within { IfOk result (λ x. IfSome x.0 (λ u. unsigned_abs u.value ≤ limit)) }
 {
+    match kind_at(bytes) {
+        Kind::Number => {}
+        _ => return Err(Stop::Fault(TopoFault::WrongKind)),
+    }
     let (value, rest) = value_at(alloc, deep, bytes)?;
     let Some(number) = value.as_number() else {
         return Err(Stop::Fault(TopoFault::WrongKind));
@@ -56,23 +59,6 @@ fn value_number_at<'a>(
     }
 }
 
-/// The number at the front in units of positions, if it is within their limit, and what follows it.
-#[inline(always)]
-fn unit_number_at<'a>(
-    alloc: Global,
-    deep: u32,
-    bytes: &'a [u8],
-) -> Result<(Option<Units>, &'a [u8]), Stop<TopoFault>>
-    ensures answers { (counts : Counts) → Answers (λ x. x) (scaled_at unit_places position_limit) (front_value deep bytes.now) counts counts result }
-    ensures within { IfOk result (λ x. IfSome x.0 (λ u. unsigned_abs u.value ≤ position_limit)) }
-{
-    match units_at(alloc, bytes) {
-        Ok((units, rest)) => Ok((Some(units), rest)),
-        Err(Halt::Memory) => Err(Stop::Memory),
-        Err(Halt::Unread) => value_number_at(alloc, deep, PLACES, POSITION_LIMIT, bytes),
-    }
-}
-
 /// The bound itself, or as far as whole numbers are read without their text.
 #[inline(always)]
 fn textless_bound(bound: u64) -> u64
@@ -86,22 +72,23 @@ fn textless_bound(bound: u64) -> u64
     }
 }
 
-/// The number at the front as a whole one, if it is within the bound, and what follows it. It isn't exact where it isn't whole.
+/// The number at the front at this scale, and what follows it, where it is written as most are: without an exponent, in few digits, and
+/// whole where whole numbers are wanted.
 #[inline(always)]
-fn whole_number_at<'a>(
-    alloc: Global,
-    deep: u32,
-    bound: u64,
-    bytes: &'a [u8],
-) -> Result<(Option<Units>, &'a [u8]), Stop<TopoFault>>
-    requires { bound < 2 ^ 63 }
-    ensures answers { (counts : Counts) → Answers (λ x. x) (scaled_at 0 bound) (front_value deep bytes.now) counts counts result }
-    ensures within { IfOk result (λ x. IfSome x.0 (λ u. unsigned_abs u.value ≤ bound)) }
+pub(crate) fn usual_number_at(scale: Scale, bytes: &[u8]) -> Option<(Units, &[u8])>
+    requires { scale_limit scale < 2 ^ 63 }
+    ensures reads { IfSome result (λ x. IsNumber scale bytes.now x.0 x.1.now) }
+    ensures within { IfSome result (λ x. unsigned_abs x.0.value ≤ scale_limit scale) }
 {
-    match whole_at(alloc, textless_bound(bound), bytes) {
-        Ok((value, rest)) => Ok((Some(Units { value, exact: true }), rest)),
-        Err(Halt::Memory) => Err(Stop::Memory),
-        Err(Halt::Unread) => value_number_at(alloc, deep, 0, bound, bytes),
+    match scale {
+        Scale::Units => {
+            let (units, rest) = units_at(bytes)?;
+            Some((units, rest))
+        }
+        Scale::Whole(bound) => {
+            let (value, rest) = whole_number_at(textless_bound(bound), bytes)?;
+            Some((Units { value, exact: true }, rest))
+        }
     }
 }
 
@@ -117,8 +104,11 @@ pub(crate) fn number_at<'a>(
     ensures answers { (counts : Counts) → Answers (λ x. x) (number scale) (front_value deep bytes.now) counts counts result }
     ensures within { IfOk result (λ x. IfSome x.0 (λ u. unsigned_abs u.value ≤ scale_limit scale)) }
 {
-    match scale {
-        Scale::Units => unit_number_at(alloc, deep, bytes),
-        Scale::Whole(bound) => whole_number_at(alloc, deep, bound, bytes),
+    match usual_number_at(scale, bytes) {
+        Some((units, rest)) => Ok((Some(units), rest)),
+        None => match scale {
+            Scale::Units => value_number_at(alloc, deep, PLACES, POSITION_LIMIT, bytes),
+            Scale::Whole(bound) => value_number_at(alloc, deep, 0, bound, bytes),
+        },
     }
 }

@@ -4,9 +4,9 @@ ghost use Rattle.geojson_types.specs.declared.counts.Counts.{Counts};
 ghost use Rattle.json_cursor.specs.Answers.{Answers};
 ghost use Rattle.json_cursor.specs.Arrays.{front_elements, front_value};
 ghost use Rattle.topojson_reader.specs.Numbers.{scale_limit};
-ghost use Rattle.topojson_reader.specs.Pairs.{both, pair, second};
+ghost use Rattle.topojson_reader.specs.Pairs.{ArePair, both, pair, second};
 
-use crate::numbers::{Scale, number_at};
+use crate::numbers::{Scale, number_at, usual_number_at};
 use json_cursor::{Mark, Opening, Stop, after_elements, mark_at, opening_at};
 use json_reading::skip;
 use std::alloc::Global;
@@ -55,9 +55,10 @@ fn second_at<'a>(
     }
 }
 
-/// The pair whose elements stand behind the bracket, and what follows it.
-#[inline(always)]
-fn both_at<'a>(
+/// The pair whose elements stand behind the bracket, however they are written and whatever their fault is, and what follows it.
+#[cold]
+#[inline(never)]
+fn any_both_at<'a>(
     alloc: Global,
     deep: u32,
     scale: Scale,
@@ -81,6 +82,66 @@ fn both_at<'a>(
                 Mark::Close => Err(Stop::Fault(TopoFault::WrongKind)),
                 Mark::Comma => second_at(alloc, deep, scale, turns - 1, x, more),
             }
+        }
+    }
+}
+
+/// Two numbers with a comma between them, as most are written, and what follows them.
+#[inline(always)]
+fn usual_both_at(scale: Scale, inside: &[u8]) -> Option<(Units, Units, &[u8])>
+    requires { scale_limit scale < 2 ^ 63 }
+    ensures pair { IfSome result (λ p. ArePair scale inside.now p.0 p.1 p.2.now) }
+    ensures x { IfSome result (λ p. unsigned_abs p.0.value ≤ scale_limit scale) }
+    ensures y { IfSome result (λ p. unsigned_abs p.1.value ≤ scale_limit scale) }
+{
+    let (x, after) = usual_number_at(scale, skip(inside))?;
+    let (mark, more) = mark_at(after);
+    let Mark::Comma = mark else {
+        return None;
+    };
+    let (y, rest) = usual_number_at(scale, skip(more))?;
+    Some((x, y, rest))
+}
+
+/// The pair whose elements stand behind the bracket, and what follows it.
+#[inline(always)]
+fn both_at<'a>(
+    alloc: Global,
+    deep: u32,
+    scale: Scale,
+    turns: usize,
+    inside: &'a [u8],
+) -> Result<(Pair, &'a [u8]), Stop<TopoFault>>
+    requires { scale_limit scale < 2 ^ 63 }
+    ensures answers { (counts : Counts) → Answers (λ p. p) (both scale) (front_elements deep turns inside.now) counts counts result }
+    ensures x { IfOk result (λ p. IfSome p.0.x (λ u. unsigned_abs u.value ≤ scale_limit scale)) }
+    ensures y { IfOk result (λ p. IfSome p.0.y (λ u. unsigned_abs u.value ≤ scale_limit scale)) }
+{
+    if turns < 2 {
+        return any_both_at(alloc, deep, scale, turns, inside);
+    }
+    let Some((x, y, after)) = usual_both_at(scale, inside) else {
+        return any_both_at(alloc, deep, scale, turns, inside);
+    };
+    let (mark, more) = mark_at(after);
+    match mark {
+        Mark::Neither => Err(Stop::NoValue),
+        Mark::Close => {
+            let pair = Pair {
+                x: Some(x),
+                y: Some(y),
+                more: false,
+            };
+            Ok((pair, more))
+        }
+        Mark::Comma => {
+            let end = after_elements(alloc, deep, turns - 2, more)?;
+            let pair = Pair {
+                x: Some(x),
+                y: Some(y),
+                more: true,
+            };
+            Ok((pair, end))
         }
     }
 }

@@ -1,5 +1,5 @@
 // Topologies (TopoJSON 1.0, section 2.1).
-ghost use Rattle.std.specs.Prelude.{◌≡◌, ℕ, List, codes};
+ghost use Rattle.std.specs.Prelude.{◌≡◌, ℕ, IfOk, List, Some, codes};
 ghost use Rattle.std.specs.Option.{option_copied};
 ghost use Rattle.json_value.specs.declared.json.Json.{Json as Value};
 ghost use Rattle.json_members.specs.Members.{Members as Listed, named};
@@ -8,17 +8,18 @@ ghost use Rattle.json_cursor.specs.Answers.{Answers};
 ghost use Rattle.json_cursor.specs.Arrays.{front_value};
 ghost use Rattle.topojson_meaning.specs.Arcs.{arc_list};
 ghost use Rattle.topojson_meaning.specs.Members.{need_as};
+ghost use Rattle.topojson_meaning.specs.Reader.{pure};
 ghost use Rattle.topojson_meaning.specs.Objects.{objects as objects_in_order};
 ghost use Rattle.topojson_meaning.specs.Topologies as spec;
-ghost use Rattle.topojson_reader.specs.Index.{IsIndex};
-ghost use Rattle.topojson_reader.specs.Members.{IsFront, IsSeen};
+ghost use Rattle.topojson_reader.specs.Index.{AreArcs, IsIndex, transform_by};
+ghost use Rattle.topojson_reader.specs.Members.{IsFront, IsSeen, Judges};
 ghost use Rattle.topojson_reader.specs.Topologies.{Gives, NeededAt, transform_in, type_in};
+ghost use Rattle.topojson_reader.specs.Transforms.{IsTransformOf};
 
 use crate::arcs::arcs_at;
-use crate::index::Index;
+use crate::index::{FoundArcs, Index, ReadArcs};
 use crate::named_objects::objects_at;
 use crate::seen::Seen;
-use crate::transforms::transform_at;
 use geojson_types::Counts;
 use json_cursor::{Stop, object_at as members_at, string_at};
 use json_value::{Items, OwnText};
@@ -62,18 +63,46 @@ fn type_of(alloc: Global, deep: u32, seen: Seen<&[u8]>) -> Result<(), Stop<TopoF
     Ok(())
 }
 
-/// The transform, if there is one.
+/// The transform of whose member this was seen, if there is one.
 fn transform_of(
-    alloc: Global,
-    deep: u32,
-    seen: Seen<&[u8]>,
-) -> Result<Option<Transform>, Stop<TopoFault>>
-    ensures { (ms : Listed) (counts : Counted) → IsSeen (IsFront deep) (named (codes "transform") ms) seen.entry → Gives (λ t. t) (transform_in ms) counts counts result }
+    seen: Seen<Result<Option<Transform>, TopoFault>>,
+) -> Result<Option<Transform>, TopoFault>
+    ensures gives { (ms : Listed) (counts : Counted) → IsSeen IsTransformOf (named (codes "transform") ms) seen → transform_in ms counts ≡ pure result counts }
+    ensures by { IfOk result (λ t. transform_by seen ≡ Some t) }
 {
     match seen {
         Seen::Never => Ok(None),
-        Seen::Again => Err(Stop::Fault(TopoFault::Duplicate)),
-        Seen::Once(at) => transform_at(alloc, deep, at),
+        Seen::Again => Err(TopoFault::Duplicate),
+        Seen::Once(transform) => transform,
+    }
+}
+
+/// The arcs by this transform, as they were read or else from where they stand.
+fn arcs_by(
+    alloc: Global,
+    deep: u32,
+    transform: Option<&Transform>,
+    found: FoundArcs<'_>,
+    counts: &mut Counts,
+) -> Result<Items<Items<Cell>>, Stop<TopoFault>>
+    ensures { (v : Value) → AreArcs counts.old (Some (option_copied transform.entry)) deep v found.entry → Judges (arc_list (option_copied transform.entry) v) counts.old counts.new result }
+{
+    let FoundArcs { front, read } = found;
+    match read {
+        Some(ReadArcs {
+            arcs,
+            counts: counted,
+        }) => {
+            *counts = counted;
+            match arcs {
+                Err(fault) => Err(Stop::Fault(fault)),
+                Ok(arcs) => Ok(arcs),
+            }
+        }
+        None => match arcs_at(alloc, deep, transform, front, counts) {
+            Err(stop) => Err(stop),
+            Ok((arcs, _)) => Ok(arcs),
+        },
     }
 }
 
@@ -82,18 +111,16 @@ fn arcs_of(
     alloc: Global,
     deep: u32,
     transform: Option<&Transform>,
-    seen: Seen<&[u8]>,
+    seen: Seen<FoundArcs<'_>>,
     counts: &mut Counts,
 ) -> Result<Items<Items<Cell>>, Stop<TopoFault>>
-    ensures { (ms : Listed) → IsSeen (IsFront deep) (named (codes "arcs") ms) seen.entry → Gives (λ x. x) (need_as (codes "arcs") (arc_list (option_copied transform.entry)) ms) counts.old counts.new result }
+    ensures { (ms : Listed) → IsSeen (AreArcs counts.old (Some (option_copied transform.entry)) deep) (named (codes "arcs") ms) seen.entry
+        → Gives (λ x. x) (need_as (codes "arcs") (arc_list (option_copied transform.entry)) ms) counts.old counts.new result }
 {
-    let at = match needed(seen) {
-        Err(fault) => return Err(Stop::Fault(fault)),
-        Ok(at) => at,
-    };
-    match arcs_at(alloc, deep, transform, at, counts) {
-        Err(stop) => Err(stop),
-        Ok((arcs, _)) => Ok(arcs),
+    match seen {
+        Seen::Never => Err(Stop::Fault(TopoFault::Missing)),
+        Seen::Again => Err(Stop::Fault(TopoFault::Duplicate)),
+        Seen::Once(found) => arcs_by(alloc, deep, transform, found, counts),
     }
 }
 
@@ -125,7 +152,7 @@ fn parts_of(
     index: Index<'_>,
     counts: &mut Counts,
 ) -> Result<Parts, Stop<TopoFault>>
-    ensures { (ms : Listed) → IsIndex deep ms index.entry → Gives (λ p. record { objects = p.objects; arcs = p.arcs; transform = p.transform }) (spec.contents ms) counts.old counts.new result }
+    ensures { (ms : Listed) → IsIndex counts.old deep ms index.entry → Gives (λ p. record { objects = p.objects; arcs = p.arcs; transform = p.transform }) (spec.contents ms) counts.old counts.new result }
 {
     let Index {
         kind,
@@ -136,8 +163,8 @@ fn parts_of(
     if let Err(stop) = type_of(alloc, deep, kind) {
         return Err(stop);
     }
-    let transform = match transform_of(alloc, deep, transform) {
-        Err(stop) => return Err(stop),
+    let transform = match transform_of(transform) {
+        Err(fault) => return Err(Stop::Fault(fault)),
         Ok(transform) => transform,
     };
     let arcs = match arcs_of(alloc, deep, transform.as_ref(), arcs, counts) {
@@ -173,7 +200,7 @@ pub fn topology_at<'a>(
     ensures { Answers (λ p. record { objects = p.objects; arcs = p.arcs; transform = p.transform }) spec.value_contents (front_value deep bytes.now) counts.old counts.new result }
 {
     let none = Index::none();
-    let (found, rest) = members_at::<Index<'a>>(alloc, deep, none, bytes, ())?;
+    let (found, rest) = members_at::<Index<'a>>(alloc, deep, none, bytes, *counts)?;
     let Some(index) = found else {
         return Err(Stop::Fault(TopoFault::NotTopology));
     };

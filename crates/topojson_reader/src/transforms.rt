@@ -1,13 +1,11 @@
 // The transform of a topology (TopoJSON 1.0, section 2.1.2).
-ghost use Rattle.std.specs.Prelude.{◌≡◌, [], Some};
-ghost use Rattle.json_value.specs.declared.json.Json.{Json as Value};
+ghost use Rattle.std.specs.Prelude.{◌≡◌, []};
 ghost use Rattle.json_members.specs.Members.{Members as Listed};
 ghost use Rattle.geojson_types.specs.declared.counts.Counts.{Counts as Counted};
 ghost use Rattle.topojson_meaning.specs.Reader.{pure};
-ghost use Rattle.topojson_meaning.specs.Transforms.{transform_if, transform_members, transform_number, transform_pair};
-ghost use Rattle.topojson_reader.specs.Members.{IsFront, Meets};
-ghost use Rattle.topojson_reader.specs.Topologies.{Gives};
-ghost use Rattle.topojson_reader.specs.Transforms.{IsTexts, IsTransform};
+ghost use Rattle.topojson_meaning.specs.Transforms.{transform_members, transform_number, transform_pair};
+ghost use Rattle.topojson_reader.specs.Members.{Meets};
+ghost use Rattle.topojson_reader.specs.Transforms.{IsTexts, IsTransform, IsTransformOf};
 ghost use Rattle.topojson_reader.specs.Transforms as spec;
 
 use crate::held::held;
@@ -60,6 +58,10 @@ impl Elements for NumberTexts {
         if self.y.is_some() {
             let rest = after_value(alloc, deep, bytes)?;
             return Ok(rest);
+        }
+        match kind_at(bytes) {
+            Kind::Number => {}
+            _ => return Err(Stop::Fault(TopoFault::WrongKind)),
         }
         let (value, rest) = value_at(alloc, deep, bytes)?;
         let Some(text) = value.into_number() else {
@@ -216,31 +218,32 @@ fn transform_of(parts: TransformParts) -> Result<Transform, TopoFault>
     }
 }
 
-/// The transform that a value of this kind is, which is no object.
-fn other_transform(kind: Kind) -> Result<Option<Transform>, Stop<TopoFault>>
+/// The transform that a value of this kind is, which is no object, or its fault.
+fn other_transform(kind: Kind) -> Result<Option<Transform>, TopoFault>
     ensures { result ≡ spec.other_transform kind }
 {
     match kind {
         Kind::Null => Ok(None),
-        _ => Err(Stop::Fault(TopoFault::WrongKind)),
+        _ => Err(TopoFault::WrongKind),
     }
 }
 
-/// The transform that the value at the front is, which is none where it is null.
-pub(crate) fn transform_at(
+/// The transform that the value at the front is, which is none where it is null, or its fault, and what follows it.
+pub(crate) fn transform_member<'a>(
     alloc: Global,
     deep: u32,
-    bytes: &[u8],
-) -> Result<Option<Transform>, Stop<TopoFault>>
-    ensures { (counts : Counted) (v : Value) → IsFront deep v bytes.entry → Gives (λ t. t) (transform_if (Some v)) counts counts result }
+    bytes: &'a [u8],
+) -> Result<(Result<Option<Transform>, TopoFault>, &'a [u8]), Fault>
+    ensures { Meets IsTransformOf deep bytes.now result }
 {
     let none = TransformParts::none();
-    let (found, _) = members_at::<TransformParts>(alloc, deep, none, bytes, ())?;
+    let (found, rest) = members_at::<TransformParts>(alloc, deep, none, bytes, ())?;
     let Some(parts) = found else {
-        return other_transform(kind_at(bytes));
+        let rest = after_value(alloc, deep, bytes)?;
+        return Ok((other_transform(kind_at(bytes)), rest));
     };
     match transform_of(parts) {
-        Err(fault) => Err(Stop::Fault(fault)),
-        Ok(transform) => Ok(Some(transform)),
+        Err(fault) => Ok((Err(fault), rest)),
+        Ok(transform) => Ok((Ok(Some(transform)), rest)),
     }
 }

@@ -12,4 +12,4 @@ mod units;
 pub use bytes::{after_byte, expected};
 pub use halt::Halt;
 pub use numbers::{number_at, whole_at};
-pub use units::Units;
+pub use units::{Units, units_at, whole_number_at};

@@ -9,20 +9,20 @@ use Rattle.topojson_reader.proofs.SeenMembers.{object_reads, object_stops}
 use Rattle.topojson_reader.proofs.features.feature_at.Goals as goal
 
 pub returns-in_default : goal.returns-in_default
-returns-in_default c = λ v rest found. by.no_feature (option_copied c.args.transform) c.args.arcs.now v c.args.counts.now ((rw c.in_default.is at c.in_ok-found.ensures) v rest found)
+returns-in_default c = λ v rest found. by.no_feature (option_copied c.args.transform) c.args.arcs.now v c.args.counts.now ((rw c.in_default.is at c.in_ok-rest.ensures) v rest found)
 
 pub returns-in-Err : goal.returns-in-Err
 returns-in-Err c =
-    let object = rw c.in-Some.is at c.in_ok-found.ensures in
+    let object = rw c.in-Some.is at c.in_ok-rest.ensures in
     let transform = option_copied c.args.transform in
     object_stops (feature_element transform c.args.arcs.now) (typed_feature transform c.args.arcs.now object.members) (front_value c.args.deep c.args.bytes.now) (j.Object object.members) _ c.args.counts.now object.front
     (by.feature_object transform c.args.arcs.now object.members c.args.counts.now) c.typed_feature_of.new.counts c.in-Err.stop
-    (c.in-Err.ensures object.members (object.holds (c.none-none.ensures _ (c.args.deep - 1))))
+    (c.in-Err.ensures object.members (object.holds (c.none-seen.ensures _ (c.args.deep - 1))))
 
 pub returns-in-Ok : goal.returns-in-Ok
 returns-in-Ok c =
-    let object = rw c.in-Some.is at c.in_ok-found.ensures in
+    let object = rw c.in-Some.is at c.in_ok-rest.ensures in
     let transform = option_copied c.args.transform in
     object_reads (feature_element transform c.args.arcs.now) (typed_feature transform c.args.arcs.now object.members) (front_value c.args.deep c.args.bytes.now) (j.Object object.members) _ c.args.counts.now object.front
     (by.feature_object transform c.args.arcs.now object.members c.args.counts.now) _ c.typed_feature_of.new.counts
-    (c.in-Ok.ensures object.members (object.holds (c.none-none.ensures _ (c.args.deep - 1))))
+    (c.in-Ok.ensures object.members (object.holds (c.none-seen.ensures _ (c.args.deep - 1))))

@@ -11,10 +11,10 @@ pub returns-in-Err : goal.returns-in-Err
 returns-in-Err c =
     let object = rw c.in-Some.is at c.in_ok-found.ensures in
     part.object_stops c.args.counts.now (front_value c.args.deep c.args.bytes.now) object.members _ object.front (λ (p : Parts). record { objects = p.objects; arcs = p.arcs; transform = p.transform }) c.parts_of.new.counts c.in-Err.stop
-    (c.in-Err.ensures object.members (object.holds (c.none-none.ensures (c.args.deep - 1))))
+    (c.in-Err.ensures object.members (object.holds (c.none-none.ensures c.args.counts.now (c.args.deep - 1))))
 
 pub returns-in-Ok : goal.returns-in-Ok
 returns-in-Ok c =
     let object = rw c.in-Some.is at c.in_ok-found.ensures in
     part.object_reads c.args.counts.now (front_value c.args.deep c.args.bytes.now) object.members _ object.front _ c.parts_of.new.counts
-    (c.in-Ok.ensures object.members (object.holds (c.none-none.ensures (c.args.deep - 1))))
+    (c.in-Ok.ensures object.members (object.holds (c.none-none.ensures c.args.counts.now (c.args.deep - 1))))

@@ -1,12 +1,14 @@
 -- A position by its elements.
-use Rattle.std.proofs.Common.{◌≡◌, ℕ, ◌-◌, ◌<◌, ◌≤◌, Bool, true, false, not, List, [], ◌∷◌, length, Option, Some, None, Result, Ok, Err, refl, sym, ap, subst, ◌∙◌, arith}
+use Rattle.std.proofs.Common.{◌≡◌, ◌≢◌, ℕ, ◌-◌, ◌<◌, ◌≤◌, Bool, true, false, not, List, [], ◌∷◌, length, Option, Some, None, Result, Ok, Err, refl, sym, ap, subst, ◌∙◌, arith}
 use Rattle.std.specs.Prelude.{ℤ, ◌&&◌, nat_lt}
 use Rattle.std.proofs.lemmas.Bool.Decides.{nat_tests}
 use Rattle.std.specs.Borrow.{Bor}
 use Rattle.json_value.specs.declared.json.Json.{Json}
 use Rattle.json_value.specs.declared.json.Json.TheVariants as j
 use Rattle.json_value.proofs.KindsOf.{array_of-array, number_of-number}
-use Rattle.json_value.specs.Kinds.{array_of, number_of}
+use Rattle.json_value.specs.declared.json.Json.TheOpen.{Json-F}
+use Rattle.json_value.specs.declared.json.Json.TheViews.{out-Json}
+use Rattle.json_value.specs.Kinds.{array_of, number_in, number_of}
 use Rattle.json_value.specs.Reading.{Parse, skip, list_after, list_at, value_at}
 use Rattle.std.specs.Str.{is_utf8}
 use Rattle.unit_scanning.specs.declared.units.Units.{Units}
@@ -25,6 +27,8 @@ use Rattle.geojson_model.specs.declared.fault.GeoFaultKind.TheVariants.{WrongKin
 use Rattle.geojson_model.specs.Coordinates.{coordinate, elements_position, array_position, position}
 use Rattle.json_cursor.specs.declared.stop.Stop.{Stop}
 use Rattle.json_cursor.specs.declared.stop.Stop.TheVariants as stop
+use Rattle.json_cursor.specs.Kinds.{kind_in, kind_of}
+use Rattle.json_cursor.specs.declared.kinds.Kind.TheVariants.{Number}
 use Rattle.json_cursor.specs.Answers.{Reads, Stops, Answers, stop_of}
 use Rattle.geojson_reader.specs.Positions.{ArePair, second_position}
 use Rattle.json_cursor.proofs.Steps.{made, unmade, made_reads, made_stops, part_stops, found_stops}
@@ -32,10 +36,20 @@ use Rattle.json_cursor.proofs.Lists.{no_element, ends, goes_on, breaks, first_st
 
 -- ---- a coordinate
 
+no_number_in : (x : Json-F Json) → kind_in x ≢ Number → number_in x ≡ None
+no_number_in (Json-F.Number t) h = absurd (h refl)
+no_number_in x h = refl
+
+other_kind : (v : Json) → kind_of v ≢ Number → number_of v ≡ None
+other_kind v h = unfold number_of in no_number_in (out-Json v) h
+
 module _ (exact : Bool) (v : Json) (c : Counts) where
   pub no_number : number_of v ≡ None → coordinate exact v c ≡ Err WrongKind
   unfolding coordinate
   no_number h = rw h refl
+
+  pub of_other_kind : kind_of v ≢ Number → coordinate exact v c ≡ Err WrongKind
+  of_other_kind h = no_number (other_kind v h)
 
   module _ (t : List ℕ) (number : number_of v ≡ Some t) where
     pub past_range : (e : OutOfRange) → scaled_of unit_places input_limit t ≡ Err e → coordinate exact v c ≡ Err Range

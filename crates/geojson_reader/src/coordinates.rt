@@ -8,10 +8,10 @@ ghost use Rattle.json_cursor.specs.Arrays.{front_value};
 use geojson_model::GeoFaultKind;
 use geojson_types::Counts;
 use geometry::{INPUT_LIMIT, PLACES};
-use json_cursor::Stop;
+use json_cursor::{Kind, Stop, kind_at};
 use json_reading::value_at;
 use std::alloc::Global;
-use unit_scanning::{Halt, number_at};
+use unit_scanning::units_at;
 
 /// The greatest magnitude in units.
 const LIMIT: i128 = INPUT_LIMIT as i128;
@@ -24,7 +24,7 @@ pub(crate) fn is_refused(exact: bool, whole: bool) -> bool
     exact && !whole
 }
 
-/// The same as `coordinate_at`, by the value that stands there: the way of what isn't read as a number in units.
+/// The same as `coordinate_at`, by the text of the number that stands there, however it is written. Of what is no number nothing is read.
 #[cold]
 #[inline(never)]
 fn value_coordinate_at<'a>(
@@ -37,6 +37,9 @@ fn value_coordinate_at<'a>(
     ensures answers { Answers (λ x. x) (coordinate exact) (front_value deep bytes.now) counts.old counts.new result }
     ensures within { IfOk result (λ x. unsigned_abs x.0 ≤ input_limit) }
 {
+    let Kind::Number = kind_at(bytes) else {
+        return Err(Stop::Fault(GeoFaultKind::WrongKind));
+    };
     let (value, rest) = value_at(alloc, deep, bytes)?;
     let Some(number) = value.as_number() else {
         return Err(Stop::Fault(GeoFaultKind::WrongKind));
@@ -63,15 +66,12 @@ pub(crate) fn coordinate_at<'a>(
     ensures answers { Answers (λ x. x) (coordinate exact) (front_value deep bytes.now) counts.old counts.new result }
     ensures within { IfOk result (λ x. unsigned_abs x.0 ≤ input_limit) }
 {
-    match number_at(alloc, bytes) {
-        Ok((units, rest)) => {
-            if is_refused(exact, units.exact) {
-                return Err(Stop::Fault(GeoFaultKind::Inexact));
-            }
-            counts.count_rounded(!units.exact);
-            Ok((units.value, rest))
-        }
-        Err(Halt::Memory) => Err(Stop::Memory),
-        Err(Halt::Unread) => value_coordinate_at(alloc, deep, bytes, exact, counts),
+    let Some((units, rest)) = units_at(bytes) else {
+        return value_coordinate_at(alloc, deep, bytes, exact, counts);
+    };
+    if is_refused(exact, units.exact) {
+        return Err(Stop::Fault(GeoFaultKind::Inexact));
     }
+    counts.count_rounded(!units.exact);
+    Ok((units.value, rest))
 }

@@ -1,5 +1,5 @@
 // Positions.
-ghost use Rattle.std.specs.Prelude.{◌≡◌, ◌≤◌, IfOk, unsigned_abs, length};
+ghost use Rattle.std.specs.Prelude.{◌≡◌, ◌≤◌, IfSome, unsigned_abs, length};
 ghost use Rattle.geojson_model.specs.Coordinates as spec;
 ghost use Rattle.json_cursor.specs.Answers.{Answers};
 ghost use Rattle.json_cursor.specs.Arrays.{front_elements, front_value};
@@ -14,7 +14,7 @@ use json_cursor::{Element, Mark, Opening, Stop, after_elements, mark_at, opening
 use json_reading::skip;
 use std::alloc::Global;
 use text_checking::after_value;
-use unit_scanning::{Halt, Units, number_at};
+use unit_scanning::{Units, units_at};
 
 /// The position whose second coordinate and further elements stand behind the comma, and what follows its bracket.
 #[inline(always)]
@@ -93,18 +93,18 @@ fn any_numbers_at<'a>(
 
 /// Two numbers with a comma between them, and what follows them.
 #[inline(always)]
-fn pair_at(alloc: Global, bytes: &[u8]) -> Result<(Units, Units, &[u8]), Halt>
-    ensures pair { IfOk result (λ p. ArePair bytes.now p.0 p.1 p.2.now) }
-    ensures first { IfOk result (λ p. unsigned_abs p.0.value ≤ input_limit) }
-    ensures second { IfOk result (λ p. unsigned_abs p.1.value ≤ input_limit) }
+fn pair_at(bytes: &[u8]) -> Option<(Units, Units, &[u8])>
+    ensures pair { IfSome result (λ p. ArePair bytes.now p.0 p.1 p.2.now) }
+    ensures first { IfSome result (λ p. unsigned_abs p.0.value ≤ input_limit) }
+    ensures second { IfSome result (λ p. unsigned_abs p.1.value ≤ input_limit) }
 {
-    let (x, after) = number_at(alloc, skip(bytes))?;
+    let (x, after) = units_at(skip(bytes))?;
     let (mark, more) = mark_at(after);
     let Mark::Comma = mark else {
-        return Err(Halt::Unread);
+        return None;
     };
-    let (y, rest) = number_at(alloc, skip(more))?;
-    Ok((x, y, rest))
+    let (y, rest) = units_at(skip(more))?;
+    Some((x, y, rest))
 }
 
 /// The position whose elements stand behind the bracket, and what follows it.
@@ -122,7 +122,7 @@ pub(crate) fn numbers_at<'a>(
     if turns < 2 {
         return any_numbers_at(alloc, deep, turns, inside, exact, counts);
     }
-    let Ok((x, y, after)) = pair_at(alloc, inside) else {
+    let Some((x, y, after)) = pair_at(inside) else {
         return any_numbers_at(alloc, deep, turns, inside, exact, counts);
     };
     if is_refused(exact, x.exact) || is_refused(exact, y.exact) {

@@ -8,11 +8,11 @@ ghost use Rattle.properties_scanning.specs.Copying.{CopiesOr, any, is_simple};
 
 use crate::values::broken;
 use byte_ends::{MemoryDrain, Sink};
+use json_cursor::behind_byte;
 use json_reading::{Fault, next, plain_run, string_at};
 use json_writer::write_text;
 use simdutf8::compat;
 use std::alloc::Global;
-use unit_scanning::after_byte;
 
 /// An ASCII byte that stands for itself.
 fn is_simple(byte: u8) -> bool
@@ -64,7 +64,7 @@ fn copy_characters<'a>(
     ensures { CopiesOr (string_front any) quoted inside.now text.old.items text.new.items result }
 {
     let (run, behind) = plain_run(inside);
-    let Some(rest) = after_byte(b'"', behind) else {
+    let Some(rest) = behind_byte(b'"', behind) else {
         return copy_escaped(alloc, inside, text);
     };
     if compat::from_utf8(run).is_err() {
@@ -92,7 +92,7 @@ pub fn copy_string<'a>(
     }
     let length = simple_len(inside);
     let (_, behind) = inside.split_at(length);
-    let Some(rest) = after_byte(b'"', behind) else {
+    let Some(rest) = behind_byte(b'"', behind) else {
         return copy_characters(alloc, inside, text);
     };
     let (string, _) = bytes.split_at(length + 2);

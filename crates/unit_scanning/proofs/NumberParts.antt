@@ -2,11 +2,8 @@
 use Rattle.std.proofs.Common.{◌≡◌, ℕ, ◌+◌, ◌-◌, ◌*◌, ◌^◌, ◌<◌, ◌≤◌, Bool, true, false, not, cond, eqb, List, [], ◌∷◌, ◌++◌, length, Some, Ok, refl, sym, ap, ◌∙◌, subst, append_assoc, length-append, ◌≢◌, arith}
 use Rattle.std.proofs.lemmas.Bool.{eqb-true}
 use Rattle.std.proofs.lemmas.List.{append-nil}
-use Rattle.std.specs.Str.{is_utf8}
 use Rattle.json_value.specs.declared.json.Json.{Json}
 use Rattle.json_value.specs.declared.json.Json.TheVariants as j
-use Rattle.json_value.specs.Kinds.{number_of as number_in_value}
-use Rattle.json_value.proofs.KindsOf.{number_of_is}
 use Rattle.decimal_text.specs.Digits.{digits_value_after, digits_value}
 use Rattle.decimal_text.specs.Grammar.{is_digit, AllDigits, IsMinus, no_minus, one_minus, IsWhole, whole_zero, whole_digits, IsFraction, no_fraction, fraction, no_exponent, IsNumber, number_of}
 use Rattle.decimal_text.specs.Parts.{Parts, sign_text, fraction_text, SpellsNumber, spells_no_exponent}
@@ -16,12 +13,11 @@ use Rattle.decimal_text.proofs.DigitsValue.{digits_value_after-append}
 use Rattle.decimal_text.proofs.Nearest.{rounded_of-whole}
 use Rattle.decimal_text.proofs.ReadsParts.{parts-read}
 use Rattle.decimal_text.proofs.ScaledNumber.{scaled_of-read}
-use Rattle.json_value.specs.Reading.{Parse, ◌>>=◌, value_at, value_with, number_at, after_digits}
+use Rattle.json_value.specs.Reading.{Parse, value_at, after_digits}
 use Rattle.json_reading.proofs.Ending.{Ends}
-use Rattle.json_reading.proofs.NumbersFound.{is_lead, with_number}
+use Rattle.json_reading.proofs.NumbersFound.{with_number}
 use Rattle.json_reading.proofs.Opened.{value_at_is}
-use Rattle.json_reading.proofs.Steps.{differs}
-use Rattle.unit_scanning.specs.Numbers.{digits_front, IsFractionOf, IsNumberAt, ends, leads, starts_digit, whole_front}
+use Rattle.unit_scanning.specs.Numbers.{digits_front, IsFractionOf, IsNumberAt, ends, starts_digit, whole_front}
 
 not_true : (b : Bool) → not b ≡ true → b ≡ false
 not_true true h = cc
@@ -152,15 +148,3 @@ no_fraction_of behind whole = record { digits = []; all = tt; text = refl; value
 
 pub whole_scales : (negative : Bool) (size limit : ℕ) → size ≤ limit → rounded_of negative (size * 10 ^ 0) (10 ^ 0) limit ≡ Ok (record { value = signed negative size; exact = true })
 whole_scales negative size limit small = rounded_of-whole negative 1 size limit (omega arith) small
-
--- ---- a number by its text
-
-lead_value : (fits : List ℕ → Bool) (d b : ℕ) (bs : List ℕ) → is_lead b ≡ true → value_at fits d (b ∷ bs) ≡ (number_at (b ∷ bs) >>= λ t. Some (j.Number t.0, t.1))
-unfolding value_with
-lead_value fits d b bs h = rw ((value_at_is fits d).2, differs is_lead b 110 refl h, differs is_lead b 116 refl h, differs is_lead b 102 refl h, differs is_lead b 34 refl h, differs is_lead b 91 refl h, differs is_lead b 123 refl h) refl
-
--- a number is one at any depth
-pub number_anywhere : (bytes : List ℕ) (v : Json) (t rest : List ℕ) → leads bytes ≡ true → value_at is_utf8 0 bytes ≡ Some (v, rest) → number_in_value v ≡ Some t → (fits : List ℕ → Bool) (d : ℕ) → value_at fits d bytes ≡ Some (j.Number t, rest)
-number_anywhere [] v t rest h found is fits d = absurd cc
-number_anywhere (b ∷ bs) v t rest h found is fits d =
-    lead_value fits d b bs h ∙ sym (lead_value is_utf8 0 b bs h) ∙ found ∙ ap (λ x. Some (x, rest)) (number_of_is v t is)

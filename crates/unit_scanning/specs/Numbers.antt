@@ -24,11 +24,6 @@ abbrev pub whole_front : List ℕ → Bool
 whole_front [] = false
 whole_front (b ∷ bs) = if b == 48 then not (starts_digit bs) else is_digit b
 
--- a minus sign (45) or a digit is first
-abbrev pub leads : List ℕ → Bool
-leads [] = false
-leads (b ∷ bs) = b == 45 || is_digit b
-
 -- a fraction, or none, stands before the rest, and its digits write the value after those of start
 pub record IsFractionOf (bytes : List ℕ) (start value places : ℕ) (rest : List ℕ) : Type 0 where
   pub digits : List ℕ

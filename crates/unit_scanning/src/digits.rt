@@ -1,12 +1,11 @@
 // Digits at the front of bytes.
-ghost use Rattle.std.specs.Prelude.{◌≡◌, ◌*◌, ◌^◌, ◌<◌, ◌≤◌, IfSome};
+ghost use Rattle.std.specs.Prelude.{◌≡◌, ◌∷◌, ◌*◌, ◌^◌, ◌<◌, ◌≤◌, IfSome};
 ghost use Rattle.json_value.specs.Reading.{after_digits};
 ghost use Rattle.decimal_text.specs.Digits.{digits_value_after};
 ghost use Rattle.decimal_text.specs.Grammar as grammar;
 ghost use Rattle.geometry.specs.Units.{input_limit};
 ghost use Rattle.unit_scanning.specs.Numbers.{digits_front, IsFractionOf, starts_digit, whole_front};
 
-use crate::bytes::after_byte;
 use geometry::INPUT_LIMIT;
 
 /// A number that may have one more digit.
@@ -18,8 +17,19 @@ const MOST_PLACES: usize = 17;
 /// A number that may have one more zero behind it.
 const ROOM_FOR_ZERO: u64 = INPUT_LIMIT / 10;
 
+/// What follows the byte, where it is first.
 #[inline(always)]
-pub fn is_digit(byte: u8) -> bool
+fn after_byte(byte: u8, bytes: &[u8]) -> Option<&[u8]>
+    ensures { IfSome result (λ rest. bytes.now ≡ byte ∷ rest.now) }
+{
+    match bytes {
+        [] => None,
+        [first, rest @ ..] => { if *first == byte { Some(rest) } else { None } }
+    }
+}
+
+#[inline(always)]
+fn is_digit(byte: u8) -> bool
     ensures { result ≡ grammar.is_digit byte }
 {
     byte >= b'0' && byte <= b'9'

@@ -13,14 +13,14 @@ use Rattle.geojson_reader.proofs.coordinates.coordinate_at.Goals as goal
 
 pub returns-then-is_refused-clause-answers : goal.returns-then-is_refused-clause-answers
 returns-then-is_refused-clause-answers c =
-    let u = c.in-Ok.ensures.units in
+    let u = c.in-Some.ensures.units in
     found_stops (coordinate c.args.exact) (front_value c.args.deep c.args.bytes.now) c.args.counts.now (j.Number u.text) _ _ (u.front is_utf8 c.args.deep)
     (rounded_refused c.args.exact (j.Number u.text) c.args.counts.now u.text (number_of-number u.text) _ u.scaled (sym c.if-is_refused.ensures))
 
-pub returns-else-is_refused-clause-answers : goal.returns-else-is_refused-clause-answers
-returns-else-is_refused-clause-answers c =
-    let u = c.in-Ok.ensures.units in
-    let x : to_z w64 (of_z w64 c.in-Ok.units.value) ≡ c.in-Ok.units.value = omega (arith, ints, c.in-Ok.ensures.within) in
+pub returns-clause-answers : goal.returns-clause-answers
+returns-clause-answers c =
+    let u = c.in-Some.ensures.units in
+    let x : to_z w64 (of_z w64 c.in-Some.units.value) ≡ c.in-Some.units.value = omega (arith, ints, c.in-Some.ensures.within) in
     rw (x, c.count_rounded.ensures) record {
       value = j.Number u.text;
       front_is = u.front is_utf8 c.args.deep;

@@ -5,11 +5,15 @@ use mir.Val.{to_z, of_z}
 use Rattle.geojson_model.specs.Coordinates.{coordinate}
 use Rattle.json_cursor.specs.Arrays.{front_value}
 use Rattle.json_cursor.proofs.Steps.{found_stops}
-use Rattle.geojson_reader.proofs.PositionParts.{no_number, past_range, rounded_refused, in_range}
+use Rattle.geojson_reader.proofs.PositionParts.{no_number, of_other_kind, past_range, rounded_refused, in_range}
 use Rattle.geojson_reader.proofs.coordinates.value_coordinate_at.Goals as goal
 
 pub returns-in_default-clause-answers : goal.returns-in_default-clause-answers
-returns-in_default-clause-answers c = found_stops (coordinate c.args.exact) (front_value c.args.deep c.args.bytes.now) c.args.counts.now _ _ _ c.in_ok-value.ensures (no_number c.args.exact _ c.args.counts.now c.in_default.ensures)
+returns-in_default-clause-answers c = λ v rest found. of_other_kind c.args.exact v c.args.counts.now (λ h. c.in_default.not-Number (c.kind_at.ensures c.args.deep v rest found ∙ h))
+
+pub returns-in_default-as_number-clause-answers : goal.returns-in_default-as_number-clause-answers
+returns-in_default-as_number-clause-answers c =
+    found_stops (coordinate c.args.exact) (front_value c.args.deep c.args.bytes.now) c.args.counts.now _ _ _ c.in_ok-value.ensures (no_number c.args.exact _ c.args.counts.now c.in_default-as_number.ensures)
 
 pub returns-in_default-scaled-clause-answers : goal.returns-in_default-scaled-clause-answers
 returns-in_default-scaled-clause-answers c =

@@ -1,11 +1,9 @@
 use Rattle.std.proofs.Common.{◌-◌, ◌∙◌, sym, arith}
-use Rattle.std.specs.Prelude.{codes}
 use Rattle.json_value.specs.declared.json.Json.TheVariants as j
 use Rattle.json_cursor.specs.Names.{name_of}
 use Rattle.json_cursor.proofs.Openings.{some_members}
-use Rattle.geojson_reader.specs.Members.{part_name}
 use Rattle.geojson_reader.proofs.SeenMembers.{member_found}
-use Rattle.geojson_reader.proofs.UsualGeometries.{is_word, two_members}
+use Rattle.geojson_reader.proofs.UsualGeometries.{two_members}
 use Rattle.geojson_reader.proofs.geometries.usual_front.Goals as goal
 
 pub returns-clause-begins : goal.returns-clause-begins

@@ -8,7 +8,8 @@ ghost use Rattle.json_cursor.specs.Answers.{Answers, Reads};
 ghost use Rattle.json_cursor.specs.Arrays.{front_elements, front_value};
 ghost use Rattle.geojson_model.specs.Members.{named};
 ghost use Rattle.geojson_model.specs.declared.types.GeometryType.TheVariants as types;
-ghost use Rattle.json_cursor.specs.Names.{name_of, simple};
+ghost use Rattle.json_cursor.specs.Names.{name_of};
+ghost use Rattle.text_checking.specs.Strings.{simple};
 ghost use Rattle.geojson_reader.specs.Members.{BeginsGeometry, IsCoordinates, IsFront, IsParts, IsRead, IsSeen, IsTaken, IsType, Judges, Meets, Sees, part, part_name};
 ghost use Rattle.geojson_reader.specs.declared.geometries.Start.{Start as Begun};
 

@@ -7,4 +7,3 @@ pub mod FrontKinds
 pub mod ArrayParts
 pub mod LedParts
 pub mod MemberParts
-pub mod PlainNames

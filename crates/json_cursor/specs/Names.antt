@@ -1,6 +1,5 @@
 -- The names of members.
-use Rattle.std.specs.Prelude.{◌≡◌, ℕ, nat_le, ◌&&◌, Bool, true, List, [], ◌∷◌, ◌++◌}
-use Rattle.json_value.specs.Grammar.{is_plain}
+use Rattle.std.specs.Prelude.{ℕ, List}
 use Rattle.json_cursor.specs.declared.names.Name.{Name}
 use Rattle.json_cursor.specs.declared.names.Name.TheVariants.{Plain, Made}
 
@@ -8,16 +7,3 @@ use Rattle.json_cursor.specs.declared.names.Name.TheVariants.{Plain, Made}
 abbrev pub name_of : Name → List ℕ
 name_of (Plain name) = name.now
 name_of (Made name) = name
-
--- an ASCII byte that stands for itself
-abbrev pub is_simple : ℕ → Bool
-is_simple b = nat_le b 127 && is_plain b
-
--- only such bytes
-abbrev pub simple : List ℕ → Bool
-simple [] = true
-simple (b ∷ bs) = is_simple b && simple bs
-
--- behind only such bytes stands a quotation mark (34), and then the rest
-abbrev pub EndsPlain : List ℕ → List ℕ → List ℕ → Type 0
-EndsPlain inside name rest = (inside ≡ name ++ 34 ∷ rest) × (simple name ≡ true)

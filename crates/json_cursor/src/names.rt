@@ -1,17 +1,18 @@
 // The names of members.
-ghost use Rattle.std.specs.Prelude.{◌≡◌, ℕ, ◌≤◌, length, IfSome, Ok, bytes_eq, take, true};
+ghost use Rattle.std.specs.Prelude.{◌≡◌, IfSome, Ok, bytes_eq, true};
 ghost use Rattle.std.specs.Str.{is_utf8};
 ghost use Rattle.json_value.specs.Reading as reading;
 ghost use Rattle.json_reading.specs.Gives.{Gives};
 ghost use Rattle.json_cursor.specs.Members.{Names, ReadsString};
-ghost use Rattle.json_cursor.specs.Names as spec;
-ghost use Rattle.json_cursor.specs.Names.{EndsPlain, name_of, simple};
+ghost use Rattle.json_cursor.specs.Names.{name_of};
+ghost use Rattle.text_checking.specs.Strings.{simple};
 
 use crate::marks::behind_byte;
 use crate::members::broken;
 use json_reading::{Fault, after_word, skip};
 use json_value::OwnText;
 use std::alloc::Global;
+use text_checking::plain_at;
 
 /// A string, as the name of a member is one.
 #[derive(Drop)]
@@ -41,29 +42,6 @@ impl<'a> Name<'a> {
     {
         self.as_str() == word
     }
-}
-
-/// Whether a byte is an ASCII character that stands for itself in a string.
-#[inline(always)]
-fn is_simple(byte: u8) -> bool
-    ensures { result ≡ spec.is_simple byte }
-{
-    byte <= 127 && byte >= 32 && byte != b'"' && byte != b'\\'
-}
-
-/// The front of a string up to its quotation mark, and what follows that, where only such bytes stand before it.
-fn plain_at(inside: &[u8]) -> Option<(&[u8], &[u8])>
-    ensures { IfSome result (λ x. EndsPlain inside.now x.0.now x.1.now) }
-{
-    'bytes: for (at, &byte) in inside.iter().enumerate() {
-        if byte == b'"' {
-            return Some((&inside[..at], &inside[at + 1..]));
-        }
-        if !is_simple(byte) {
-            return None;
-        }
-    }
-    None
 }
 
 /// The name behind its first quotation mark, and what follows its last one.

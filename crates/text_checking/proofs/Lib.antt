@@ -1,3 +1,4 @@
 pub mod Passed
 pub mod Texts
 pub mod Words
+pub mod PlainStrings

@@ -6,7 +6,8 @@ ghost use Rattle.json_value.specs.Reading as spec;
 ghost use Rattle.text_checking.specs.Passes.{Passes};
 
 use crate::bytes::{expected, expected_word, stopped};
-use json_reading::{Fault, Why, after_number, after_word, next, skip, string_at};
+use crate::strings::after_string;
+use json_reading::{Fault, Why, after_number, after_word, next, skip};
 use std::alloc::Global;
 
 /// An array or object opens past the depth.
@@ -17,14 +18,6 @@ fn too_deep(bytes: &[u8]) -> Fault
         why: Why::Deep,
         left: bytes.len(),
     }
-}
-
-/// What follows the string, behind its first quotation mark. Its text is let go.
-fn after_string<'a>(alloc: Global, bytes: &'a [u8]) -> Result<&'a [u8], Fault>
-    ensures { Passes result (spec.string_at is_utf8 bytes.now) }
-{
-    let (_, rest) = string_at(alloc, bytes)?;
-    Ok(rest)
 }
 
 /// What follows the value at the front, in which arrays and objects may nest so deep. No value is made.

@@ -2,7 +2,7 @@ use Rattle.std.proofs.Common.{Some, ap, sym, ◌∙◌}
 use Rattle.json_reading.proofs.Words.{after_word_takes}
 use Rattle.json_cursor.proofs.MemberParts as part
 use Rattle.json_cursor.proofs.Openings.{first_byte}
-use Rattle.json_cursor.proofs.PlainNames.{plain_string, word_ends}
+use Rattle.text_checking.proofs.PlainStrings.{plain_string, word_ends}
 use Rattle.json_cursor.proofs.names.named_at.Goals as goal
 
 pub returns-clause-member : goal.returns-clause-member

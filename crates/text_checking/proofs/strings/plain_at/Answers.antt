@@ -1,7 +1,7 @@
 use Rattle.std.proofs.Common.{◌≡◌, ◌+◌, arith, suc, subst, sym, take, true, ℕ}
-use Rattle.json_cursor.specs.Names.{simple}
-use Rattle.json_cursor.proofs.PlainNames.{simple_next}
-use Rattle.json_cursor.proofs.names.plain_at.Goals as goal
+use Rattle.text_checking.specs.Strings.{simple}
+use Rattle.text_checking.proofs.PlainStrings.{simple_next}
+use Rattle.text_checking.proofs.strings.plain_at.Goals as goal
 
 pub bytes-preserved : goal.bytes-preserved
 bytes-preserved c =

@@ -1,4 +1,4 @@
--- Names that stand in the text as they are.
+-- Strings that stand in the text as they are.
 use Rattle.std.proofs.Common.{◌≡◌, ℕ, zero, suc, ◌+◌, ◌<◌, Bool, true, List, [], ◌∷◌, ◌++◌, length, get_or, take, Some, refl, ap, ◌∙◌, arith, length-append}
 use Rattle.std.specs.Prelude.{nat_le, ◌&&◌}
 use Rattle.std.proofs.lemmas.Bool.{and_parts}
@@ -7,7 +7,7 @@ use Rattle.std.proofs.lemmas.Str.{IsUtf8-from_ascii, is_utf8-from_IsUtf8}
 use Rattle.std.specs.Str.{is_utf8}
 use Rattle.json_value.specs.Grammar.{is_plain}
 use Rattle.json_value.specs.Reading.{after_plain, plain_front, chars_at, chars_after, if_text, string_at}
-use Rattle.json_cursor.specs.Names.{EndsPlain, is_simple, simple}
+use Rattle.text_checking.specs.Strings.{EndsPlain, is_simple, simple}
 
 low : (b : ℕ) → nat_le b 127 ≡ true → b < 128
 low b h = grind (arith, nat_tests)

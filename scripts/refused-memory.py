@@ -77,13 +77,10 @@ void *realloc(void *old, size_t size) {
 #
 # - a list that gives back what it doesn't use keeps its room where it can't;
 # - std collects the words of the command line with or without a list of 96 bytes, before a file is opened;
-# - a geometry whose type stands first is read once more in the general way where memory is refused to the first: a list of positions is of 64
-#   bytes, and of 128 when it grows, and one of rings of 96;
 # - the names of layers are looked through one by one where the set of them can't be had, whose parts have these sizes in bytes. It is
 #   asked for once all files are open.
 SHRINKING = "less"
 WORDS_LIST = ("new", 96, 0)
-GEOMETRY_LISTS = (("new", 64), ("more", 128), ("new", 96))
 NAME_SET = (256, 72, 144, 1)
 
 # ---- the files
@@ -225,8 +222,7 @@ def is_dispensable(words, refused):
     kind, size, opened = refused
     files = sum("=" in it for it in words) + (OUTPUT in words)
     is_of_names = kind == "new" and size in NAME_SET and words[0] == "build" and opened == files
-    is_of_geometry = (kind, size) in GEOMETRY_LISTS and words[0] == "build" and opened > 0
-    return kind == SHRINKING or refused == WORDS_LIST or is_of_names or is_of_geometry
+    return kind == SHRINKING or refused == WORDS_LIST or is_of_names
 
 
 def fail(words, number, ended):

@@ -1,8 +1,8 @@
 -- Members of objects that are looked up, as they were seen among the others.
-use Rattle.std.specs.Prelude.{◌≡◌, ℕ, ◌-◌, Bool, List, [], ◌∷◌, ◌++◌, Option, Some, None, Result, Ok, Err, codes}
+use Rattle.std.specs.Prelude.{◌≡◌, ℕ, ◌-◌, Bool, true, false, if◌then◌else◌, ◌||◌, List, [], ◌∷◌, ◌++◌, Option, Some, None, Result, Ok, Err, codes}
 use Rattle.std.specs.Borrow.{Bor}
 use Rattle.json_value.specs.declared.json.Json.{Json}
-use Rattle.json_value.specs.Kinds.{text_of}
+use Rattle.json_value.specs.Kinds.{object_of, text_of}
 use Rattle.json_value.specs.Reading.{skip}
 use Rattle.json_value.specs.declared.json.Json.TheVariants as j
 use Rattle.json_reading.specs.declared.fault.Fault.{Fault}
@@ -16,7 +16,7 @@ use Rattle.json_members.specs.Readers.{Counting}
 use Rattle.geojson_model.specs.Reader.{Reader, ◌>>=◌, give, or_fail}
 use Rattle.geojson_model.specs.Types.{geojson_type, geometry_type}
 use Rattle.geojson_model.specs.declared.fault.GeoFaultKind.{GeoFaultKind}
-use Rattle.geojson_model.specs.declared.fault.GeoFaultKind.TheVariants.{UnknownType, WrongKind}
+use Rattle.geojson_model.specs.declared.fault.GeoFaultKind.TheVariants.{Duplicate, UnknownType, WrongKind}
 use Rattle.geojson_model.specs.declared.types.CoordinatesType.{CoordinatesType}
 use Rattle.geojson_model.specs.declared.types.GeoJsonType.{GeoJsonType}
 use Rattle.geojson_model.specs.declared.types.GeometryType.{GeometryType}
@@ -43,6 +43,11 @@ abbrev pub see : {A : Type 0} → Seen A → A → Seen A
 see Never x = Once x
 see (Once y) x = Again
 see Again x = Again
+
+abbrev pub is_again : {A : Type 0} → Seen A → Bool
+is_again Never = false
+is_again (Once x) = false
+is_again Again = true
 
 -- the value begins there
 abbrev pub IsFront : ℕ → Json → Bor (List ℕ) → Type 0
@@ -120,3 +125,39 @@ part exact (kinds.Coordinates kind) v = coordinates_shape exact kind v
 abbrev pub BeginsGeometry : GeometryType → ℕ → List ℕ → List ℕ → Type 0
 BeginsGeometry kind d bytes front = (v : Json) (after end : List ℕ) → front_value (d - 1) front ≡ Some (v, after) → skip after ≡ 125 ∷ end
     → (name : List ℕ) × (geometry_type name ≡ Some kind) × (front_value d bytes ≡ Some (j.Object ((codes "type", j.Text name) ∷ (part_name kind, v) ∷ []), end))
+
+-- a geometry of this type whose type stands first in it, and then the member that it is made of, whose value begins there
+pub record IsLed (kind : GeometryType) (d : ℕ) (front : List ℕ) (v : Json) : Type 0 where
+  pub name : List ℕ
+  pub typed : geometry_type name ≡ Some kind
+  pub part : Json
+  pub after : List ℕ
+  pub found : front_value (d - 1) front ≡ Some (part, after)
+  pub more : Members
+  pub object : v ≡ j.Object ((codes "type", j.Text name) ∷ (part_name kind, part) ∷ more)
+
+-- whatever value stands there is one
+abbrev pub LeadsGeometry : GeometryType → ℕ → List ℕ → List ℕ → Type 0
+LeadsGeometry kind d bytes front = (v : Json) (end : List ℕ) → front_value d bytes ≡ Some (v, end) → IsLed kind d front v
+
+-- the type stands twice, or the member that a geometry of this type is made of
+abbrev pub twice : GeometryType → Parts → Bool
+twice kinds.Collection parts = is_again parts.kind || is_again parts.geometries
+twice (kinds.Coordinates kind) parts = is_again parts.kind || is_again parts.coordinates
+
+abbrev pub first_fault : Bool → GeoFaultKind → GeoFaultKind
+first_fault twice fault = if twice then Duplicate else fault
+
+-- an object stands at the front in which they do, or don't; or whatever value stands there is no object; or none stands there, or nothing is said
+pub record RepeatsIn (kind : GeometryType) (d : ℕ) (bytes : List ℕ) (is : Bool) (rest : List ℕ) : Type 0 where
+  pub members : Members
+  pub front : front_value d bytes ≡ Some (j.Object members, rest)
+  pub start : Start
+  pub parts : Parts
+  pub seen : IsParts start (d - 1) members parts
+  pub answer : is ≡ twice kind parts
+
+abbrev pub Repeats : GeometryType → ℕ → List ℕ → Result (Option (Bool × Bor (List ℕ))) Fault → Type 0
+Repeats kind d bytes (Ok (Some x)) = RepeatsIn kind d bytes x.0 x.1.now
+Repeats kind d bytes (Ok None) = (v : Json) (end : List ℕ) → front_value d bytes ≡ Some (v, end) → object_of v ≡ None
+Repeats kind d bytes (Err fault) = Fails fault (front_value d bytes)

@@ -295,6 +295,7 @@ pub fn feature_at<'a>(
     let start = Start {
         exact,
         counts: *counts,
+        reads: true,
     };
     let mut parts = FeatureParts::none();
     let Some(rest) = object_into::<FeatureParts>(alloc, deep, &mut parts, bytes, start)? else {

@@ -1,37 +1,37 @@
 // Geometries.
-ghost use Rattle.std.specs.Prelude.{◌≡◌, ◌++◌, ◌<◌, [], ℕ, IfSome, OnOk, Some, codes, length, option_to_list, true};
+ghost use Rattle.std.specs.Prelude.{◌≡◌, ◌++◌, ◌<◌, [], ℕ, OnOk, Some, codes, length, option_to_list, true};
 ghost use Rattle.json_value.specs.declared.json.Json.{Json as Value};
 ghost use Rattle.json_cursor.specs.Members.{Members as Listed};
 ghost use Rattle.geojson_model.specs.Geometries.{coordinates_shape, geometry, shape, shapes, typed_geometry};
 ghost use Rattle.geojson_model.specs.Reader.{kept};
-ghost use Rattle.json_cursor.specs.Answers.{Answers, Reads};
+ghost use Rattle.json_cursor.specs.Answers.{Answers};
 ghost use Rattle.json_cursor.specs.Arrays.{front_elements, front_value};
 ghost use Rattle.geojson_model.specs.Members.{named};
 ghost use Rattle.geojson_model.specs.declared.types.GeometryType.TheVariants as types;
 ghost use Rattle.json_cursor.specs.Names.{name_of};
-ghost use Rattle.text_checking.specs.Strings.{simple};
-ghost use Rattle.geojson_reader.specs.Members.{BeginsGeometry, IsCoordinates, IsFront, IsParts, IsRead, IsSeen, IsTaken, IsType, Judges, Meets, Sees, part, part_name};
+ghost use Rattle.geojson_reader.specs.Members.{BeginsGeometry, IsCoordinates, IsFront, IsParts, IsRead, IsSeen, IsTaken, IsType, Judges, LeadsGeometry, Meets, Sees, part, twice};
 ghost use Rattle.geojson_reader.specs.declared.geometries.Start.{Start as Begun};
 
+use crate::leading::{first_fault, led_at, twice_at};
 use crate::seen::Seen;
 use crate::shapes::coordinates_at;
-use geojson_model::{
-    CoordinatesType, GeoFaultKind, GeoJsonType, GeometryType, geojson_type, geometry_type,
-};
+use geojson_model::{CoordinatesType, GeoFaultKind, GeoJsonType, GeometryType, geojson_type};
 use geojson_types::{Counts, Shape};
 use json_cursor::{
-    Mark, Members, Name, Stop, behind_byte, mark_at, name_at, named_at, object_into, string_at,
+    Mark, Members, Name, Stop, behind_byte, mark_at, name_at, object_into, string_at,
 };
 use json_reading::{Fault, Why, skip};
 use json_value::Items;
 use std::alloc::{AllocFailed, Global};
 use text_checking::after_value;
 
-/// By what a geometry is read: whether coordinates may not be rounded, and what was counted before it.
+/// By what a geometry is read: whether coordinates may not be rounded, what was counted before it, and whether the coordinates are read
+/// where they stand behind the type, or passed over.
 #[derive(Clone, Copy)]
 pub struct Start {
     pub exact: bool,
     pub counts: Counts,
+    pub reads: bool,
 }
 
 /// What the member `coordinates` is read as by this type, or its fault, and what was counted then.
@@ -153,6 +153,9 @@ fn coordinates_member<'a>(
 ) -> Result<(Coordinates<'a>, &'a [u8]), Fault>
     ensures { Meets (IsCoordinates start deep) deep bytes.now result }
 {
+    if !start.reads {
+        return passed_at(alloc, deep, start, bytes);
+    }
     match kind {
         Seen::Once(Ok(GeoJsonType::Geometry(GeometryType::Coordinates(kind)))) => read_at(
             alloc, deep, start, *kind, bytes,
@@ -199,6 +202,18 @@ impl<'a> Parts<'a> {
             self.geometries.see(value);
         }
         Ok(rest)
+    }
+}
+
+impl Parts<'_> {
+    /// Whether the type stands twice, or the member that a geometry of this type is made of.
+    pub(crate) fn stand_twice(&self, kind: GeometryType) -> bool
+        ensures { result ≡ twice kind self.now }
+    {
+        match kind {
+            GeometryType::Collection => self.kind.is_again() || self.geometries.is_again(),
+            GeometryType::Coordinates(_) => self.kind.is_again() || self.coordinates.is_again(),
+        }
     }
 }
 
@@ -305,53 +320,6 @@ fn coordinates_of(
     }
 }
 
-/// The name of the member that a geometry of this type is made of.
-fn part_word(kind: GeometryType) -> &'static str
-    ensures name { result.now ≡ part_name kind }
-    ensures simple { simple result.now ≡ true }
-{
-    match kind {
-        GeometryType::Collection => "geometries",
-        GeometryType::Coordinates(_) => "coordinates",
-    }
-}
-
-/// The type of the geometry at the front, and where the value of the member begins that it is made of, where these two stand first in it, as
-/// most programs write them.
-fn usual_front<'a>(alloc: Global, deep: u32, bytes: &'a [u8]) -> Option<(GeometryType, &'a [u8])>
-    ensures begins { IfSome result (λ x. BeginsGeometry x.0 deep bytes.now x.1.now) }
-    ensures deep { IfSome result (λ _. 0 < deep) }
-{
-    let Some(inside) = behind_byte(b'{', bytes) else {
-        return None;
-    };
-    if deep == 0 || inside.len() < 2 {
-        return None;
-    }
-    if let Some(_) = behind_byte(b'}', skip(inside)) {
-        return None;
-    }
-    let Some((_type, value)) = named_at("type", skip(inside)) else {
-        return None;
-    };
-    let Ok(text) = string_at(alloc, value) else {
-        return None;
-    };
-    let Some((name, rest)) = text else {
-        return None;
-    };
-    let Some(kind) = geometry_type(name.as_str()) else {
-        return None;
-    };
-    let Some(more) = behind_byte(b',', skip(rest)) else {
-        return None;
-    };
-    let Some((_part, front)) = named_at(part_word(kind), skip(more)) else {
-        return None;
-    };
-    Some((kind, front))
-}
-
 /// What the member `geometries` is.
 #[cycle(geometries)]
 fn group_of(
@@ -424,13 +392,28 @@ pub fn geometry_at<'a>(
 ) -> Result<(Option<Shape>, &'a [u8]), Stop<GeoFaultKind>>
     ensures { Answers (λ x. x) (shape exact) (front_value deep bytes.now) counts.old counts.new result }
 {
+    match led_at(alloc, deep, bytes)? {
+        None => any_geometry_at(alloc, deep, bytes, exact, counts),
+        Some((kind, front)) => { led_geometry_at(alloc, deep, kind, front, bytes, exact, counts) }
+    }
+}
+
+/// The same by its members, one after another. A member that is made of geometries is passed over first.
+#[cycle(geometries)]
+fn any_geometry_at<'a>(
+    alloc: Global,
+    deep: u32,
+    bytes: &'a [u8],
+    exact: bool,
+    counts: &mut Counts,
+) -> Result<(Option<Shape>, &'a [u8]), Stop<GeoFaultKind>>
+    ensures { Answers (λ x. x) (shape exact) (front_value deep bytes.now) counts.old counts.new result }
+{
     let start = Start {
         exact,
         counts: *counts,
+        reads: true,
     };
-    if let Some(found) = usual_at(alloc, deep, bytes, exact, counts) {
-        return Ok(found);
-    }
     let mut parts = Parts::none();
     let Some(rest) = object_into::<Parts<'a>>(alloc, deep, &mut parts, bytes, start)? else {
         return Err(Stop::Fault(GeoFaultKind::WrongKind));
@@ -438,6 +421,50 @@ pub fn geometry_at<'a>(
     match shape_of(alloc, deep - 1, parts, start, counts) {
         Err(stop) => Err(stop),
         Ok(shape) => Ok((shape, rest)),
+    }
+}
+
+/// The same where its type and the member that it is made of stand first: that member is read once, and those behind it are passed over.
+#[cycle(geometries)]
+fn led_geometry_at<'a>(
+    alloc: Global,
+    deep: u32,
+    kind: GeometryType,
+    front: &'a [u8],
+    bytes: &'a [u8],
+    exact: bool,
+    counts: &mut Counts,
+) -> Result<(Option<Shape>, &'a [u8]), Stop<GeoFaultKind>>
+    requires deep { 0 < deep }
+    requires begins { BeginsGeometry kind deep bytes.now front.now }
+    requires leads { LeadsGeometry kind deep bytes.now front.now }
+    ensures { Answers (λ x. x) (shape exact) (front_value deep bytes.now) counts.old counts.new result }
+{
+    match part_at(alloc, deep - 1, kind, front, exact, counts) {
+        Err(Stop::Memory) => Err(Stop::Memory),
+        Err(Stop::NoValue) => Err(Stop::NoValue),
+        Err(Stop::Fault(fault)) => {
+            let found = twice_at(alloc, deep, kind, bytes)?;
+            match found {
+                None => Err(Stop::Fault(GeoFaultKind::WrongKind)),
+                Some((twice, _)) => Err(Stop::Fault(first_fault(twice, fault))),
+            }
+        }
+        Ok((shape, after)) => {
+            if let Some(rest) = behind_byte(b'}', skip(after)) {
+                return Ok((shape, rest));
+            }
+            let met = twice_at(alloc, deep, kind, bytes)?;
+            match met {
+                None => Err(Stop::Fault(GeoFaultKind::WrongKind)),
+                Some((twice, rest)) => {
+                    if twice {
+                        return Err(Stop::Fault(GeoFaultKind::Duplicate));
+                    }
+                    Ok((shape, rest))
+                }
+            }
+        }
     }
 }
 
@@ -460,29 +487,6 @@ fn part_at<'a>(
             Ok((shapes, rest)) => Ok((Some(Shape::Group(shapes)), rest)),
         },
     }
-}
-
-/// The geometry at the front, if it is written as most programs write it and has no fault, and what follows it: read in one walk.
-#[cycle(geometries)]
-fn usual_at<'a>(
-    alloc: Global,
-    deep: u32,
-    bytes: &'a [u8],
-    exact: bool,
-    counts: &mut Counts,
-) -> Option<(Option<Shape>, &'a [u8])>
-    ensures { IfSome result (λ x. Reads (shape exact) (front_value deep bytes.now) x.0 x.1.now counts.old counts.new) }
-{
-    let Some((kind, front)) = usual_front(alloc, deep, bytes) else {
-        return None;
-    };
-    let Ok((shape, after)) = part_at(alloc, deep - 1, kind, front, exact, counts) else {
-        return None;
-    };
-    let Some(rest) = behind_byte(b'}', skip(after)) else {
-        return None;
-    };
-    Some((shape, rest))
 }
 
 /// Puts one behind the others, if there is one.

@@ -215,7 +215,7 @@ fn collection_of(
     seen: Seen<Collected>,
     counts: &mut Counts,
 ) -> Result<Items<Feature>, Stop<GeoFault>>
-    ensures { (exact : Bool) (old : Counted) (ms : Listed) → IsSeen (IsCollected (record { exact = exact; counts = old })) (named (codes "features") ms) seen → Judges (collection_features exact ms) old counts.new result }
+    ensures { (start : Begun) (ms : Listed) → IsSeen (IsCollected start) (named (codes "features") ms) seen → Judges (collection_features start.exact ms) start.counts counts.new result }
 {
     match seen {
         Seen::Never => Err(Stop::Fault(fault_within(None, GeoFaultKind::Missing))),
@@ -316,6 +316,7 @@ pub fn layer_at<'a>(
     let start = Start {
         exact,
         counts: *counts,
+        reads: true,
     };
     let mut parts = LayerParts::none();
     let Some(rest) = object_into::<LayerParts<'a>>(alloc, deep, &mut parts, bytes, start)? else {

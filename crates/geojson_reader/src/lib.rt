@@ -7,6 +7,7 @@ mod coordinates;
 mod features;
 mod geometries;
 mod layers;
+mod leading;
 mod lines;
 mod positions;
 mod seen;

@@ -21,4 +21,10 @@ impl<T: Drop> Seen<T> {
             Seen::Again => {}
         }
     }
+    /// Whether it stood more than once.
+    pub(crate) fn is_again(&self) -> bool
+        ensures { result ≡ spec.is_again self.now }
+    {
+        matches!(self, Seen::Again)
+    }
 }

@@ -12,7 +12,7 @@ use Rattle.geojson_model.specs.Geometries.{geometry, shape, shapes, typed_geomet
 use Rattle.geojson_model.specs.Reader.{kept}
 use Rattle.geojson_model.specs.declared.types.GeoJsonType.TheVariants.{Feature, FeatureCollection}
 use Rattle.geojson_model.specs.declared.types.GeometryType.TheVariants as types
-use Rattle.geojson_reader.proofs.UsualGeometries.{is_usual, one_byte}
+use Rattle.geojson_reader.proofs.UsualGeometries.{is_usual, led_faulty, led_nothing, led_read, led_twice, one_byte}
 use Rattle.geojson_reader.proofs.GeometryParts as part
 use Rattle.geojson_reader.proofs.SeenMembers.{judged, judged_read}
 use Rattle.geojson_reader.proofs.geometries.+geometries.Goals as goal
@@ -72,18 +72,18 @@ shape_of-returns-in-Coordinates t c = λ ms is.
     part.judges_same (geometry c.args.start.exact ms) (typed_geometry c.args.start.exact (types.Coordinates c.in-Coordinates.kind) ms) c.args.start.counts _
     (part.known_type c.args.start.exact ms c.args.start.counts s.0 s.1 (types.Coordinates c.in-Coordinates.kind) (rw c.in-Coordinates.is at (rw c.in-Geometry.is at (rw c.in-Ok.is at s.2)))) c.coordinates_of.result (c.coordinates_of.ensures ms is.coordinates)
 
-pub geometry_at-returns-in_default-2 : goal.geometry_at-returns-in_default-2
-geometry_at-returns-in_default-2 t c = λ v rest found. part.no_object c.args.exact v c.args.counts.now ((rw c.in_default-2.is at c.in_ok-rest.ensures) v rest found)
+pub any_geometry_at-returns-in_default : goal.any_geometry_at-returns-in_default
+any_geometry_at-returns-in_default t c = λ v rest found. part.no_object c.args.exact v c.args.counts.now ((rw c.in_default.is at c.in_ok-rest.ensures) v rest found)
 
-pub geometry_at-returns-in-Err : goal.geometry_at-returns-in-Err
-geometry_at-returns-in-Err t c =
-    let object = rw c.in-Some-2.is at c.in_ok-rest.ensures in
+pub any_geometry_at-returns-in-Err : goal.any_geometry_at-returns-in-Err
+any_geometry_at-returns-in-Err t c =
+    let object = rw c.in-Some.is at c.in_ok-rest.ensures in
     part.object_stops c.args.exact (front_value c.args.deep c.args.bytes.now) object.members _ c.args.counts.now object.front c.shape_of.new.counts c.in-Err.stop
     (c.in-Err.ensures object.members (object.holds (c.none-parts.ensures _ (c.args.deep - 1))))
 
-pub geometry_at-returns-in-Ok : goal.geometry_at-returns-in-Ok
-geometry_at-returns-in-Ok t c =
-    let object = rw c.in-Some-2.is at c.in_ok-rest.ensures in
+pub any_geometry_at-returns-in-Ok : goal.any_geometry_at-returns-in-Ok
+any_geometry_at-returns-in-Ok t c =
+    let object = rw c.in-Some.is at c.in_ok-rest.ensures in
     part.object_reads c.args.exact (front_value c.args.deep c.args.bytes.now) object.members _ c.args.counts.now object.front _ c.shape_of.new.counts
     (c.in-Ok.ensures object.members (object.holds (c.none-parts.ensures _ (c.args.deep - 1))))
 
@@ -141,14 +141,33 @@ geometries_behind-geometries-preserved t c =
 pub geometries_behind-returns : goal.geometries_behind-returns
 geometries_behind-returns t c = so_far.turns_over (with_read (some_one (shape c.args.exact))) (value_at is_utf8 c.args.deep) _ _ _ _ _ _ _ _ c.geometries.invariant c.geometries-test.false
 
-pub usual_at-returns : goal.usual_at-returns
-usual_at-returns t c =
-    let r = c.in-Ok.ensures in
-    let begins = c.in-Some.ensures.begins r.value _ c.in-Some-behind_byte.rest.now r.front_is (one_byte 125 _ _ (rw c.skip.ensures at c.in-Some-behind_byte.ensures)) in
-    is_usual c.args.exact r.value begins.0 c.args.counts.now c.in-Some.kind begins.1 _ c.part_at.new.counts r.means (front_value c.args.deep c.args.bytes.now) c.in-Some-behind_byte.rest.now begins.2
-
 pub part_at-returns-in-Coordinates : goal.part_at-returns-in-Coordinates
 part_at-returns-in-Coordinates t c = rw c.in-Coordinates.is c.coordinates_at.ensures
 
 pub part_at-returns-in-Err : goal.part_at-returns-in-Err
 part_at-returns-in-Err t c = rw c.in-Collection.is (part.group_stops c.args.exact (front_value c.args.deep c.args.bytes.now) c.args.counts.now c.in-Err.stop c.in-Err.ensures)
+
+pub led_geometry_at-returns-in-Err-NoValue : goal.led_geometry_at-returns-in-Err-NoValue
+led_geometry_at-returns-in-Err-NoValue t c = led_nothing c.args.exact c.args.kind c.args.deep c.args.bytes.now c.args.front.now c.args.counts.now c.requires.leads (rw c.in-Err-NoValue.field-0-is at c.in-Err-NoValue.ensures)
+
+pub led_geometry_at-returns-in-None : goal.led_geometry_at-returns-in-None
+led_geometry_at-returns-in-None t c = λ v rest found. part.no_object c.args.exact v c.args.counts.now ((rw c.in-None.is at c.in_ok-found-in-Err-Fault.ensures) v rest found)
+
+pub led_geometry_at-returns-in-Some : goal.led_geometry_at-returns-in-Some
+led_geometry_at-returns-in-Some t c =
+    rw c.first_fault.ensures (led_faulty c.args.exact c.args.kind c.args.deep c.args.bytes.now c.args.front.now c.args.counts.now c.requires.leads c.in-Some.twice _ (rw c.in-Some.is at c.in_ok-found-in-Err-Fault.ensures) c.in-Err-Fault.fault (rw c.in-Err-Fault.field-0-is at c.in-Err-Fault.ensures))
+
+pub led_geometry_at-returns-in-Some-behind_byte : goal.led_geometry_at-returns-in-Some-behind_byte
+led_geometry_at-returns-in-Some-behind_byte t c =
+    let r = c.in-Ok.ensures in
+    let begins = c.requires.begins r.value _ c.in-Some-behind_byte.rest.now r.front_is (one_byte 125 _ _ (rw c.skip.ensures at c.in-Some-behind_byte.ensures)) in
+    is_usual c.args.exact r.value begins.0 c.args.counts.now c.args.kind begins.1 _ c.part_at.new.counts r.means (front_value c.args.deep c.args.bytes.now) c.in-Some-behind_byte.rest.now begins.2
+
+pub led_geometry_at-returns-in-None-met : goal.led_geometry_at-returns-in-None-met
+led_geometry_at-returns-in-None-met t c = λ v rest found. part.no_object c.args.exact v c.args.counts.now ((rw c.in-None-met.is at c.in_ok-met-in-Ok.ensures) v rest found)
+
+pub led_geometry_at-returns-then-twice : goal.led_geometry_at-returns-then-twice
+led_geometry_at-returns-then-twice t c = led_twice c.args.exact c.args.kind c.args.deep c.args.bytes.now c.args.front.now c.args.counts.now c.requires.leads c.in-Some-met.twice _ (rw c.in-Some-met.is at c.in_ok-met-in-Ok.ensures) c.if-twice.true
+
+pub led_geometry_at-returns-else-twice : goal.led_geometry_at-returns-else-twice
+led_geometry_at-returns-else-twice t c = led_read c.args.exact c.args.kind c.args.deep c.args.bytes.now c.args.front.now c.args.counts.now c.requires.leads c.in-Some-met.twice _ (rw c.in-Some-met.is at c.in_ok-met-in-Ok.ensures) c.if-twice.false _ _ _ c.in-Ok.ensures

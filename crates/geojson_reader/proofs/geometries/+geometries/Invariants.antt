@@ -8,25 +8,28 @@ use Rattle.geojson_model.specs.Geometries.{shape}
 use Rattle.geojson_reader.proofs.geometries.+geometries.Given as goal
 
 abbrev pub decreases-geometry_at : goal.decreases-geometry_at
-decreases-geometry_at l = 4 * l.deep + 1
+decreases-geometry_at l = 8 * l.deep + 6
 
-abbrev pub decreases-usual_at : goal.decreases-usual_at
-decreases-usual_at l = 4 * l.deep
+abbrev pub decreases-any_geometry_at : goal.decreases-any_geometry_at
+decreases-any_geometry_at l = 8 * l.deep + 5
+
+abbrev pub decreases-led_geometry_at : goal.decreases-led_geometry_at
+decreases-led_geometry_at l = 8 * l.deep + 5
 
 abbrev pub decreases-part_at : goal.decreases-part_at
-decreases-part_at l = 4 * l.deep + 3
+decreases-part_at l = 8 * l.deep + 1
 
 abbrev pub decreases-geometries_behind : goal.decreases-geometries_behind
-decreases-geometries_behind l = 4 * l.deep + 2
+decreases-geometries_behind l = 8 * l.deep + 7
 
 abbrev pub decreases-geometries_at : goal.decreases-geometries_at
-decreases-geometries_at l = 4 * l.deep + 2
+decreases-geometries_at l = 8 * l.deep
 
 abbrev pub decreases-group_of : goal.decreases-group_of
-decreases-group_of l = 4 * l.deep + 3
+decreases-group_of l = 8 * l.deep + 1
 
 abbrev pub decreases-shape_of : goal.decreases-shape_of
-decreases-shape_of l = 4 * l.deep + 4
+decreases-shape_of l = 8 * l.deep + 2
 
 abbrev pub invariant-geometries_behind-geometries : goal.invariant-geometries_behind-geometries
 invariant-geometries_behind-geometries l =

@@ -14,7 +14,7 @@ unfolding typed_features
 returns-in-FeatureCollection c = λ ms is.
     judges_same (members_features c.args.start.exact ms) (collection_features c.args.start.exact ms) c.args.start.counts c.collection_of.new.counts
     (part.is_typed c.args.start.exact ms c.args.start.counts c.args.parts.bare.kind is.bare.kind ∙ ap (part.by_type c.args.start.exact ms c.args.start.counts) (sym c.type_of.ensures ∙ c.in-Ok.is ∙ ap Ok c.in-FeatureCollection.is))
-    c.collection_of.result (c.collection_of.ensures c.args.start.exact c.args.start.counts ms is.features)
+    c.collection_of.result (c.collection_of.ensures c.args.start ms is.features)
 
 pub returns-in-Feature : goal.returns-in-Feature
 unfolding typed_features

@@ -227,7 +227,7 @@ fn other_transform(kind: Kind) -> Result<Option<Transform>, Stop<TopoFault>>
 }
 
 /// The transform that the value at the front is, which is none where it is null.
-pub(crate) fn transform_at(
+pub fn transform_at(
     alloc: Global,
     deep: u32,
     bytes: &[u8],

@@ -1,5 +1,5 @@
 -- A value that is read by way of its text.
-use Rattle.std.proofs.Common.{◌≡◌, ℕ, List, [], Some, Ok, Err, sym, ap, subst, ◌∙◌}
+use Rattle.std.proofs.Common.{◌≡◌, ℕ, List, [], Some, Ok, Err, sym, subst, ◌∙◌}
 use Rattle.json_value.specs.declared.json.Json.{Json}
 use Rattle.json_reading.proofs.Steps.{pair_is}
 use Rattle.json_cursor.specs.Answers.{Reads}

@@ -1,12 +1,15 @@
-// The first fault of a topology's tree, and where it is.
+// The first fault of a topology's tree, and where it is. What it is made of is read by way of its text.
 use byte_ends::Memory;
 use geojson_types::Counts;
+use json_cursor::Stop;
 use json_members::{LookupFault, find, need, need_text};
+use json_reading::TOPOLOGY_DEPTH;
 use json_value::{Items, Json, OwnText};
 use std::alloc::{AllocFailed, Global};
-use topojson_arc_reading::{arc, transform_if};
 use topojson_meaning::TopoFault;
-use topojson_reading::{feature_element, members_before_repeat, object};
+use topojson_reader::{
+    arc_at, feature_at, members_before_repeat, object_at, transform_at, written,
+};
 use topojson_types::{Cell, Transform};
 
 /// Where in a topology a fault is. Objects, features and arcs count from zero.
@@ -48,6 +51,14 @@ impl<T: Drop> From<AllocFailed<T>> for Found {
     }
 }
 
+/// The fault at which reading stops. The text of a value spells a value, so that nothing else stops it but want of memory.
+fn fault_of(stop: Stop<TopoFault>) -> TopoFault {
+    match stop {
+        Stop::Fault(fault) => fault,
+        _ => TopoFault::Memory,
+    }
+}
+
 /// The member of this name, which must be there.
 fn needed<'a>(members: &'a [(OwnText, Json)], name: &'static str) -> Result<&'a Json, Found> {
     match need(members, name) {
@@ -58,12 +69,18 @@ fn needed<'a>(members: &'a [(OwnText, Json)], name: &'static str) -> Result<&'a 
 
 /// The transform among these members, if there is one.
 fn transform_of(alloc: Global, members: &[(OwnText, Json)]) -> Result<Option<Transform>, Found> {
-    match find(members, "transform") {
-        Err(fault) => Err(Site::Member("transform").has(TopoFault::from(fault))),
-        Ok(value) => match transform_if(alloc, value) {
-            Err(fault) => Err(Site::Transform.has(fault)),
-            Ok(transform) => Ok(transform),
-        },
+    let value = match find(members, "transform") {
+        Err(fault) => return Err(Site::Member("transform").has(TopoFault::from(fault))),
+        Ok(None) => return Ok(None),
+        Ok(Some(value)) => value,
+    };
+    let text = written(alloc, value)?;
+    let Ok((transform, _)) = transform_at(alloc, TOPOLOGY_DEPTH, &text) else {
+        return Err(Site::Transform.has(TopoFault::Memory));
+    };
+    match transform {
+        Err(fault) => Err(Site::Transform.has(fault)),
+        Ok(transform) => Ok(transform),
     }
 }
 
@@ -79,9 +96,10 @@ fn arcs_of(
     let mut counts = Counts::none();
     let mut arcs = Vec::new(alloc);
     for (index, value) in values.iter().enumerate() {
-        match arc(alloc, transform, value, &mut counts) {
-            Err(fault) => return Err(Site::Arc(index).has(fault)),
-            Ok(cells) => arcs.push(cells)?,
+        let text = written(alloc, value)?;
+        match arc_at(alloc, TOPOLOGY_DEPTH, transform, &text, &mut counts) {
+            Err(stop) => return Err(Site::Arc(index).has(fault_of(stop))),
+            Ok((cells, _)) => arcs.push(cells)?,
         }
     }
     Ok(arcs)
@@ -99,7 +117,7 @@ fn features_of(value: &Json) -> Option<&[Json]> {
     }
 }
 
-/// Looks at the features of an object. Each is read from a copy, since reading takes it apart.
+/// Looks at the features of an object.
 fn walk_features(
     alloc: Global,
     transform: Option<&Transform>,
@@ -109,13 +127,13 @@ fn walk_features(
 ) -> Result<(), Found> {
     let mut counts = Counts::none();
     for (index, value) in values.iter().enumerate() {
-        let copy = value.copy(alloc)?;
+        let text = written(alloc, value)?;
         let site = Site::Feature {
             object: number,
             feature: index,
         };
-        match feature_element(alloc, transform, arcs, copy, &mut counts) {
-            Err(fault) => return Err(site.has(fault)),
+        match feature_at(alloc, TOPOLOGY_DEPTH, transform, arcs, &text, &mut counts) {
+            Err(stop) => return Err(site.has(fault_of(stop))),
             Ok(_) => {}
         }
     }
@@ -133,9 +151,10 @@ fn walk_object(
     if let Some(values) = features_of(value) {
         return walk_features(alloc, transform, arcs, number, values);
     }
+    let text = written(alloc, value)?;
     let mut counts = Counts::none();
-    match object(alloc, transform, arcs, value.copy(alloc)?, &mut counts) {
-        Err(fault) => Err(Site::Object(number).has(fault)),
+    match object_at(alloc, TOPOLOGY_DEPTH, transform, arcs, &text, &mut counts) {
+        Err(stop) => Err(Site::Object(number).has(fault_of(stop))),
         Ok(_) => Ok(()),
     }
 }

@@ -22,7 +22,7 @@ use Rattle.topojson_meaning.specs.GeometryTypes.{geometry_type, known, object_ty
 use Rattle.topojson_meaning.specs.Members.{need}
 use Rattle.topojson_meaning.specs.Reader.{Reader, gather, kept}
 use Rattle.topojson_meaning.specs.Shapes as shapes
-use Rattle.topojson_reading.proofs.Unrolling as unrolling
+use Rattle.topojson_reader.proofs.Unrolling as unrolling
 use Rattle.json_cursor.specs.Answers.{Reads, Stops}
 use Rattle.json_cursor.specs.Folds.{some_one, with_read}
 use Rattle.json_cursor.proofs.Steps.{made, made_reads, made_stops}

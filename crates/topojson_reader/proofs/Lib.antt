@@ -20,3 +20,6 @@ pub mod FeatureLists
 pub mod ObjectSeen
 pub mod NamedLaws
 pub mod NamedSeen
+pub mod Ends
+pub mod Repeating
+pub mod Unrolling

@@ -16,8 +16,8 @@ use Rattle.topojson_meaning.specs.declared.fault.TopoFault.TheVariants.{Duplicat
 use Rattle.topojson_meaning.specs.Members.{members}
 use Rattle.topojson_meaning.specs.Objects.{is_met, object, objects, objects_behind}
 use Rattle.topojson_meaning.specs.Reader.{Reader, ◌>>=◌, and_then, each, gather, give, or_fail, pure}
-use Rattle.topojson_reading.proofs.Repeating.{names_of}
-use Rattle.topojson_reading.specs.Names.{names_before_repeat}
+use Rattle.topojson_reader.proofs.Repeating.{names_of}
+use Rattle.topojson_reader.specs.Names.{names_before_repeat}
 
 -- objects by name
 abbrev pub Named : Type 0

@@ -13,8 +13,8 @@ use Rattle.topojson_reader.specs.declared.geometry_parts.Start.{Start}
 use Rattle.topojson_reader.specs.NamedObjects.{AreRead, FailsBehind, named_object, object}
 use Rattle.topojson_meaning.specs.declared.fault.TopoFault.TheVariants.{Duplicate}
 use Rattle.topojson_meaning.specs.Objects.{is_met, objects_behind}
-use Rattle.topojson_reading.specs.Names.{names_before_repeat}
-use Rattle.topojson_reading.proofs.Repeating.{names_of}
+use Rattle.topojson_reader.specs.Names.{names_before_repeat}
+use Rattle.topojson_reader.proofs.Repeating.{names_of}
 use Rattle.topojson_reader.proofs.NamedLaws.{read_more}
 use Rattle.topojson_reader.proofs.NamedLaws as law
 

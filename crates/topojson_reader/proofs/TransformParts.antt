@@ -14,21 +14,19 @@ use Rattle.topojson_meaning.specs.declared.fault.TopoFault.{TopoFault}
 use Rattle.topojson_meaning.specs.declared.fault.TopoFault.TheVariants.{WrongKind}
 use Rattle.topojson_meaning.specs.Arcs.{number_text}
 use Rattle.topojson_meaning.specs.Members.{elements, need, need_as}
-use Rattle.topojson_meaning.specs.Reader.{Reader, ◌>>=◌, and_then, give, or_fail, pure}
+use Rattle.topojson_meaning.specs.Reader.{◌>>=◌, give, pure}
 use Rattle.topojson_meaning.specs.Transforms.{texts, texts_in, transform_if, transform_in, transform_members, transform_number, transform_pair}
-use Rattle.json_cursor.specs.Arrays.{array_by, front_value, list_by}
+use Rattle.json_cursor.specs.Arrays.{array_by, front_value}
 use Rattle.json_reading.specs.declared.fault.Fault.{Fault}
 use Rattle.text_checking.specs.Passes.{Passes}
 use Rattle.json_cursor.specs.Folds.{fold}
 use Rattle.json_cursor.specs.Kinds.{kind_in, kind_of}
-use Rattle.json_cursor.specs.declared.stop.Stop.{Stop}
-use Rattle.json_cursor.specs.declared.stop.Stop.TheVariants as stop
 use Rattle.topojson_reader.specs.declared.seen.Seen.{Seen}
 use Rattle.topojson_reader.specs.declared.seen.Seen.TheVariants.{Never, Once, Again}
 use Rattle.topojson_reader.specs.declared.transforms.NumberTexts.{NumberTexts}
 use Rattle.topojson_reader.specs.declared.transforms.TransformParts.{TransformParts}
 use Rattle.topojson_reader.specs.Members.{GoesOnWith, IsHeld, IsSeen, see}
-use Rattle.topojson_reader.specs.Transforms.{IsTexts, IsTransform, both_in, both_of, needed, other_transform, put, take, take_in}
+use Rattle.topojson_reader.specs.Transforms.{IsTexts, IsTransform, both_of, needed, other_transform, put, take, take_in}
 use Rattle.topojson_reader.proofs.SeenMembers.{no_other, passes, sees}
 
 -- ---- the number texts of an array

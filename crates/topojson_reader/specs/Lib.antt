@@ -13,3 +13,4 @@ pub mod Geometries
 pub mod Features
 pub mod ObjectParts
 pub mod NamedObjects
+pub mod Names

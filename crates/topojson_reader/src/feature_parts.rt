@@ -3,6 +3,7 @@ ghost use Rattle.std.specs.Prelude.{◌≡◌, [], ℕ, List, None, Ok, Option, 
 ghost use Rattle.json_value.specs.declared.json.Json.{Json as Value};
 ghost use Rattle.json_members.specs.Members.{Members as Listed};
 ghost use Rattle.json_cursor.specs.Members.{Names};
+ghost use Rattle.topojson_meaning.specs.Answers.{Finds};
 ghost use Rattle.topojson_meaning.specs.Features.{identifier as identifier_in, members_if};
 ghost use Rattle.topojson_meaning.specs.declared.fault.TopoFault.{TopoFault as Refusal};
 ghost use Rattle.topojson_reader.specs.Features.{IsFeature, IsFound, feature, found_in as found_among};
@@ -16,11 +17,11 @@ use crate::seen::Seen;
 use geojson_types::{Counts, Id, Properties};
 use json_cursor::{Kind, Members, Name, Stop, kind_at, name_at, named_at};
 use json_reading::{Fault, value_at};
+use json_value::Json;
 use properties_scanning::read_properties;
 use std::alloc::Global;
 use text_checking::after_value;
 use topojson_meaning::{GeometryType, TopoFault};
-use topojson_reading::identifier;
 use topojson_types::TopoFeature;
 
 /// What was seen of the members of a feature: those of its geometry, and what its identifier and its properties are, or their faults.
@@ -29,6 +30,19 @@ pub struct FeatureParts<'a> {
     pub parts: GeometryParts<'a>,
     pub id: Seen<Result<Option<Id>, TopoFault>>,
     pub properties: Seen<Result<Option<Properties>, TopoFault>>,
+}
+
+/// The identifier that the member `id` gives. Absent and null are none.
+fn identifier(value: Option<Json>) -> Result<Option<Id>, TopoFault>
+    ensures { Finds (λ id. id) result (identifier_in value) }
+{
+    match value {
+        None => Ok(None),
+        Some(Json::Null) => Ok(None),
+        Some(Json::Text(text)) => Ok(Some(Id::Text(text))),
+        Some(Json::Number(number)) => Ok(Some(Id::Number(number))),
+        Some(_) => Err(TopoFault::WrongKind),
+    }
 }
 
 /// The identifier that the value at the front is, or its fault, and what follows it.

@@ -14,6 +14,7 @@ use crate::held::held;
 use crate::index::is_name;
 use crate::seen::Seen;
 use crate::shapes::{arcs_shape_at, places_shape_at};
+use crate::types::geometry_type;
 use geojson_types::Counts;
 use json_cursor::{Kind, Members, Stop, kind_at, name_at, string_at};
 use json_reading::Fault;
@@ -21,7 +22,6 @@ use json_value::Items;
 use std::alloc::Global;
 use text_checking::after_value;
 use topojson_meaning::{ArcsType, GeometryType, PlacesType, TopoFault};
-use topojson_reading::geometry_type;
 use topojson_types::{Cell, TopoShape, Transform};
 
 /// By what the members of an object are read: the transform and the arcs of the topology, and what was counted before the object.

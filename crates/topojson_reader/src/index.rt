@@ -11,7 +11,7 @@ ghost use Rattle.topojson_reader.specs.Members.{GoesOnWith, Meets};
 use crate::arcs::arcs_at;
 use crate::held::held;
 use crate::seen::Seen;
-use crate::transforms::transform_member;
+use crate::transforms::transform_at;
 use geojson_types::Counts;
 use json_cursor::{Members, name_at};
 use json_reading::Fault;
@@ -148,7 +148,7 @@ impl<'a> Index<'a> {
         ensures { GoesOnWith (IsIndex start deep) deep name.now self.old self.new bytes.now result }
     {
         if is_name(name, "transform") {
-            let (transform, rest) = transform_member(alloc, deep, bytes)?;
+            let (transform, rest) = transform_at(alloc, deep, bytes)?;
             self.transform.see(transform);
             forget_read(&mut self.arcs);
             return Ok(rest);

@@ -1,6 +1,6 @@
 //! The reader of topologies (TopoJSON 1.0) straight from bytes, whatever their form and whatever their faults. It stands on `json_cursor`,
 //! whose `Answers` says what a reader answers of the bytes, and on `topojson_meaning`, which says what a value stands for. A layer above calls
-//! `read_text`.
+//! `read_text`. What has a value reads it by way of its text (`written`), by the reader of what it is to be.
 #![tactic(auto)]
 
 mod arcs;
@@ -12,6 +12,7 @@ mod geometries;
 mod geometry_parts;
 mod held;
 mod index;
+mod joins;
 mod named_objects;
 mod numbers;
 mod object_parts;
@@ -22,15 +23,19 @@ mod strokes;
 mod texts;
 mod topologies;
 mod transforms;
+mod types;
+mod values;
 
 pub use arcs::{arc_at, arcs_at};
 pub use areas::polygon_at;
 pub use cells::{cell_at, place_at};
 pub use features::{feature_at, features_at};
 pub use geometries::geometry_at;
-pub use named_objects::objects_at;
+pub use named_objects::{members_before_repeat, objects_at};
 pub use object_parts::object_at;
 pub use shapes::{arcs_shape_at, places_shape_at};
 pub use strokes::stroke_at;
-pub use texts::{Refusal, read_text};
+pub use texts::{Refusal, read_text, topology_of};
 pub use topologies::{Parts, topology_at};
+pub use transforms::transform_at;
+pub use values::written;

@@ -8,6 +8,7 @@ ghost use Rattle.json_cursor.specs.Names.{name_of};
 ghost use Rattle.topojson_meaning.specs.Objects.{is_met, objects, objects_behind};
 ghost use Rattle.topojson_reader.specs.Members.{Judges};
 ghost use Rattle.topojson_reader.specs.NamedObjects.{AreObjects};
+ghost use Rattle.topojson_reader.specs.Names.{names_before_repeat};
 ghost use Rattle.topojson_reader.specs.declared.geometry_parts.Start.{Start as Begun};
 
 use crate::geometry_parts::Start;
@@ -17,10 +18,11 @@ use geojson_types::Counts;
 use json_cursor::{Members, Name, Stop, name_at, object_at as members_at};
 use json_reading::Fault;
 use json_value::{Items, OwnText};
+use owned_values::Memory;
 use std::alloc::{AllocError, Global};
+use std::collections::HashSet;
 use text_checking::after_value;
 use topojson_meaning::TopoFault;
-use topojson_reading::members_before_repeat;
 use topojson_types::{Cell, TopoObject, Transform};
 
 /// The objects that were read so far, in order, and what was counted. Once one has a fault, that and its name are kept, and no more is read.
@@ -102,6 +104,20 @@ fn is_among(name: &str, list: &[(OwnText, TopoObject)]) -> bool
         }
     }
     false
+}
+
+/// How many members come before the first whose name an earlier one has.
+pub fn members_before_repeat<V>(alloc: Global, members: &[(OwnText, V)]) -> Result<usize, Memory>
+    ensures { IfOk result (λ n. n ≡ names_before_repeat [] (map (λ m. m.0) members.now)) }
+{
+    let mut met = HashSet::new(alloc);
+    'members: for (index, member) in members.iter().enumerate() {
+        let added = met.insert(member.0.as_str())?;
+        if !added {
+            return Ok(index);
+        }
+    }
+    Ok(members.len())
 }
 
 /// They, or the first fault: a name that is repeated before one has a fault, or by that one, or that fault.

@@ -16,6 +16,7 @@ use crate::geometry_parts::{Start, kind_of};
 use crate::held::held;
 use crate::index::is_name;
 use crate::seen::Seen;
+use crate::types::is_collection;
 use geojson_types::Counts;
 use json_cursor::{Members, Stop, name_at, object_at as parts_at};
 use json_reading::Fault;
@@ -23,7 +24,6 @@ use json_value::Items;
 use std::alloc::Global;
 use text_checking::after_value;
 use topojson_meaning::{GeometryType, TopoFault};
-use topojson_reading::is_collection;
 use topojson_types::{Cell, TopoFeature, TopoObject, Transform};
 
 /// The features that the value of `geometries` is read as, or their fault, and what was counted then.

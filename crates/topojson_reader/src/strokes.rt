@@ -7,13 +7,13 @@ ghost use Rattle.json_cursor.specs.Folds.{some_one};
 ghost use Rattle.topojson_meaning.specs.Lines as spec;
 ghost use Rattle.topojson_reader.specs.Strokes.{IndexesSoFar, is_open as has_gap, stroke, with_index};
 
+use crate::joins::{closes, is_joined};
 use crate::numbers::{Scale, number_at};
 use geojson_types::Counts;
 use json_cursor::{Element, Elements, Stop, folded_some_at};
 use json_value::Items;
 use std::alloc::Global;
 use std::marker::Model;
-use topojson_line_reading::{closes, is_joined};
 use topojson_meaning::TopoFault;
 use topojson_types::{ArcRef, Cell};
 

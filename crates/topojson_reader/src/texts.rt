@@ -60,7 +60,7 @@ fn malformed(alloc: Global, bytes: &[u8]) -> JsonFault
 }
 
 /// The topology of these parts, which a value stands for.
-fn topology_of(parts: Parts) -> Topology
+pub fn topology_of(parts: Parts) -> Topology
     requires { (v : Value) × (counts : Counted) × (topology v ≡ Ok (record { objects = parts.objects; arcs = parts.arcs; transform = parts.transform }, counts)) }
     ensures { result ≡ record { objects = parts.objects; arcs = parts.arcs; transform = parts.transform } }
 {

@@ -229,7 +229,7 @@ fn other_transform(kind: Kind) -> Result<Option<Transform>, TopoFault>
 }
 
 /// The transform that the value at the front is, which is none where it is null, or its fault, and what follows it.
-pub(crate) fn transform_member<'a>(
+pub fn transform_at<'a>(
     alloc: Global,
     deep: u32,
     bytes: &'a [u8],

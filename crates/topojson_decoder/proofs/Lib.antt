@@ -1,0 +1,2 @@
+pub mod ReadableParts
+pub mod ReadingParts

@@ -89,10 +89,12 @@ fn arcs_by(
 {
     let FoundArcs { front, read } = found;
     match read {
-        Some(ReadArcs {
-            arcs,
-            counts: counted,
-        }) => {
+        Some(
+            ReadArcs {
+                arcs,
+                counts: counted,
+            },
+        ) => {
             *counts = counted;
             match arcs {
                 Err(fault) => Err(Stop::Fault(fault)),

@@ -27,7 +27,7 @@ pub(crate) fn position(value: &Json, exact: bool) -> Result<Position, GeoFaultKi
         [x, y, ..] => {
             let x = coordinate(x, exact)?;
             let y = coordinate(y, exact)?;
-            Ok(Position::at(x, y))
+            Position::new(x, y).ok_or(GeoFaultKind::Range)
         }
         _ => Err(GeoFaultKind::ShortPosition),
     }

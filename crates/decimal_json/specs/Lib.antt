@@ -11,3 +11,4 @@ pub use Rattle.json_value.specs.Numbers
 pub use Rattle.json_value.specs.Reading
 pub use Rattle.json_value.specs.Text
 pub use Rattle.json_reading.specs.Outcome
+pub mod Readable

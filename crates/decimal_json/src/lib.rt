@@ -3,6 +3,9 @@
 //! `decimal_text`, `json_value`, `json_writer` and `json_reading`. The contracts are theirs.
 #![tactic(auto)]
 
+mod readable;
+mod written;
+
 pub use byte_ends::{
     Broken, Drain, Failed, Feed, FromRead, MAX_INPUT, Memory, MemoryDrain, ReadFault, Sink, Source,
     ToWrite, WriteFault, devices, read_all,
@@ -18,3 +21,4 @@ pub use json_value::{
 pub use json_writer::{
     print_units, put_json, put_members, put_text, put_units, write_json, write_members, write_text,
 };
+pub use written::value_text;

@@ -1,5 +1,6 @@
 // The least and the greatest coordinates of what was read.
-use geojson_model::{CoordinatesType, Counts, Position, position};
+use crate::positions::position;
+use geojson_meaning::{CoordinatesType, Position};
 use json_value::Json;
 
 /// The least and the greatest coordinates, in units of `10^-PLACES`.
@@ -49,8 +50,7 @@ impl Bounds {
 
     /// With the position that a value is.
     fn widen_by(&mut self, value: &Json) {
-        let mut counts = Counts::none();
-        if let Ok(position) = position(value, false, &mut counts) {
+        if let Ok(position) = position(value, false) {
             self.widen(position);
         }
     }

@@ -1,6 +1,6 @@
 // What a feature is made of, counted.
 use crate::bounds::{Bounds, has_elements, has_outer};
-use geojson_model::{CoordinatesType, GeometryType, geometry_type};
+use geojson_meaning::{CoordinatesType, GeometryType, geometry_type};
 use json_members::{find, need_text};
 use json_value::{Json, OwnText};
 

@@ -6,7 +6,7 @@ use crate::labels::label_of;
 use crate::read_faults::read_words;
 use crate::trees::{tree, type_of};
 use crate::walk::{Member, Step, Walk};
-use geojson_model::{GeoFault, GeoFaultKind, GeoJsonType, geojson_type};
+use geojson_meaning::{GeoFault, GeoFaultKind, GeoJsonType, geojson_type};
 use inputs::BuildFault;
 use json_members::need;
 use json_reading::LAYER_DEPTH;

@@ -4,7 +4,7 @@ use crate::census::{Census, DEEPEST, LeftOut, ObjectKind, parts_of};
 use crate::escaping::quoted;
 use crate::labels::label;
 use crate::trees::{objects_of, tree};
-use geojson_model::{Address, Dropped, GeoJsonType, geojson_type};
+use geojson_meaning::{Address, Dropped, GeoJsonType, geojson_type};
 use json_members::{find, need_text};
 use json_reading::{LAYER_DEPTH, TOPOLOGY_DEPTH};
 use json_value::{Json, OwnText};

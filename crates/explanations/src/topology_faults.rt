@@ -6,7 +6,7 @@ use crate::labels::label_of;
 use crate::read_faults::read_words;
 use crate::topology_walk::{Found, Site, walk_topology};
 use crate::trees::{objects_of, tree, type_of};
-use geojson_model::geojson_type;
+use geojson_meaning::geojson_type;
 use inputs::FileFault;
 use json_reading::TOPOLOGY_DEPTH;
 use json_value::Json;

@@ -1,5 +1,6 @@
 // The first fault of a topology's tree, and where it is. What it is made of is read by way of its text.
 use byte_ends::Memory;
+use decimal_json::value_text;
 use geojson_types::Counts;
 use json_cursor::Stop;
 use json_members::{LookupFault, find, need, need_text};
@@ -7,9 +8,7 @@ use json_reading::TOPOLOGY_DEPTH;
 use json_value::{Items, Json, OwnText};
 use std::alloc::{AllocFailed, Global};
 use topojson_meaning::TopoFault;
-use topojson_reader::{
-    arc_at, feature_at, members_before_repeat, object_at, transform_at, written,
-};
+use topojson_reader::{arc_at, feature_at, members_before_repeat, object_at, transform_at};
 use topojson_types::{Cell, Transform};
 
 /// Where in a topology a fault is. Objects, features and arcs count from zero.
@@ -74,7 +73,7 @@ fn transform_of(alloc: Global, members: &[(OwnText, Json)]) -> Result<Option<Tra
         Ok(None) => return Ok(None),
         Ok(Some(value)) => value,
     };
-    let text = written(alloc, value)?;
+    let text = value_text(alloc, value)?;
     let Ok((transform, _)) = transform_at(alloc, TOPOLOGY_DEPTH, &text) else {
         return Err(Site::Transform.has(TopoFault::Memory));
     };
@@ -96,7 +95,7 @@ fn arcs_of(
     let mut counts = Counts::none();
     let mut arcs = Vec::new(alloc);
     for (index, value) in values.iter().enumerate() {
-        let text = written(alloc, value)?;
+        let text = value_text(alloc, value)?;
         match arc_at(alloc, TOPOLOGY_DEPTH, transform, &text, &mut counts) {
             Err(stop) => return Err(Site::Arc(index).has(fault_of(stop))),
             Ok((cells, _)) => arcs.push(cells)?,
@@ -127,7 +126,7 @@ fn walk_features(
 ) -> Result<(), Found> {
     let mut counts = Counts::none();
     for (index, value) in values.iter().enumerate() {
-        let text = written(alloc, value)?;
+        let text = value_text(alloc, value)?;
         let site = Site::Feature {
             object: number,
             feature: index,
@@ -151,7 +150,7 @@ fn walk_object(
     if let Some(values) = features_of(value) {
         return walk_features(alloc, transform, arcs, number, values);
     }
-    let text = written(alloc, value)?;
+    let text = value_text(alloc, value)?;
     let mut counts = Counts::none();
     match object_at(alloc, TOPOLOGY_DEPTH, transform, arcs, &text, &mut counts) {
         Err(stop) => Err(Site::Object(number).has(fault_of(stop))),

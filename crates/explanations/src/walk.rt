@@ -1,8 +1,7 @@
 // The first fault of a layer's tree, and the way to it.
 use crate::census::DEEPEST;
-use geojson_model::{
-    CoordinatesType, Counts, GeoFaultKind, GeometryType, Position, geometry_type, position,
-};
+use crate::positions::position;
+use geojson_meaning::{CoordinatesType, GeoFaultKind, GeometryType, Position, geometry_type};
 use json_members::{LookupFault, find};
 use json_value::{Json, OwnText};
 use std::alloc::Global;
@@ -277,8 +276,7 @@ impl Walk {
 
     /// Looks at a position.
     fn position(&mut self, value: &Json) -> Result<(), GeoFaultKind> {
-        let mut counts = Counts::none();
-        match position(value, self.exact, &mut counts) {
+        match position(value, self.exact) {
             Ok(_) => Ok(()),
             Err(kind) => Err(self.stop(kind, position_words(kind, value))),
         }
@@ -370,8 +368,7 @@ fn position_words(kind: GeoFaultKind, value: &Json) -> &'static str {
 
 /// The position that a value is.
 fn position_of(value: &Json) -> Option<Position> {
-    let mut counts = Counts::none();
-    position(value, false, &mut counts).ok()
+    position(value, false).ok()
 }
 
 /// Whether these positions end where they begin.

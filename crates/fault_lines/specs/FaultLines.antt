@@ -4,8 +4,8 @@ use Rattle.byte_ends.specs.declared.source.ReadFault.{ReadFault}
 use Rattle.byte_ends.specs.declared.source.ReadFault.TheVariants as read
 use Rattle.json_reading.specs.declared.fault.JsonFault.{JsonFault}
 use Rattle.json_reading.specs.declared.fault.JsonFault.TheVariants as json
-use Rattle.geojson_model.specs.declared.fault.GeoFault.{GeoFault}
-use Rattle.geojson_model.specs.Faults.{code, name}
+use Rattle.geojson_meaning.specs.declared.fault.GeoFault.{GeoFault}
+use Rattle.geojson_meaning.specs.Faults.{code, name}
 use Rattle.topojson_meaning.specs.declared.fault.TopoFault.{TopoFault}
 use Rattle.topojson_meaning.specs.Faults as topo
 use Rattle.inputs.specs.declared.fault.BuildFault.{BuildFault}

@@ -5,7 +5,7 @@ ghost use Rattle.byte_ends.specs.Writes.{Writes};
 ghost use Rattle.fault_lines.specs.FaultLines as spec;
 
 use byte_ends::{Drain, Progress, ReadFault, Sink, put_part};
-use geojson_model::GeoFault;
+use geojson_meaning::GeoFault;
 use inputs::{BuildFault, FileFault};
 use itoa::Buffer;
 use json_reading::JsonFault;

@@ -1,56 +1,95 @@
--- The feature that a JSON value stands for (RFC 7946, section 3.2), or the first fault.
-use Rattle.std.specs.Prelude.{ℕ, Bool, List, Option, Some, None, Result, Ok, Err, codes, bytes_eq, if◌then◌else◌}
+-- Members of features, as they were seen among the others.
+use Rattle.std.specs.Prelude.{◌≡◌, ℕ, Bool, ◌||◌, List, Option, Some, None, Result, Ok, Err, bytes_eq, codes}
 use Rattle.json_value.specs.declared.json.Json.{Json}
 use Rattle.json_value.specs.declared.json.Json.TheViews.{out-Json}
-use Rattle.json_value.specs.declared.json.Json.TheOpen.{Json-F}
+use Rattle.geojson_types.specs.declared.counts.Counts.{Counts}
 use Rattle.geojson_types.specs.declared.id.Id.{Id}
-use Rattle.geojson_types.specs.declared.id.Id.TheVariants as id
-use Rattle.geojson_model.specs.declared.fault.GeoFaultKind.{GeoFaultKind}
-use Rattle.geojson_model.specs.declared.fault.GeoFaultKind.TheVariants.{NotObject, UnknownType, WrongKind}
-use Rattle.geojson_types.specs.Features.{Featured}
-use Rattle.geojson_model.specs.Geometries.{geometry}
-use Rattle.json_value.specs.Kinds.{object_of}
-use Rattle.geojson_model.specs.Members.{find, type_name}
-use Rattle.geojson_model.specs.Reader.{Reader, ◌>>=◌, give, fail, pure, or_fail, if_some}
+use Rattle.geojson_types.specs.Features.{Shape}
+use Rattle.geojson_meaning.specs.Features.{identifier_in, members_in}
+use Rattle.geojson_meaning.specs.Geometries.{geometry}
+use Rattle.geojson_meaning.specs.Members.{named}
+use Rattle.geojson_meaning.specs.Reader.{Reader, ◌>>=◌, if_some, pure}
+use Rattle.geojson_meaning.specs.declared.fault.GeoFaultKind.{GeoFaultKind}
+use Rattle.geojson_meaning.specs.declared.fault.GeoFaultKind.TheVariants.{Missing, Duplicate, UnknownType}
+use Rattle.geojson_meaning.specs.declared.types.GeoJsonType.{GeoJsonType}
+use Rattle.geojson_meaning.specs.declared.types.GeoJsonType.TheVariants as type
+use Rattle.json_cursor.specs.Members.{Members}
+use Rattle.json_cursor.specs.declared.stop.Stop.{Stop}
+use Rattle.json_cursor.specs.declared.stop.Stop.TheVariants as stop
+use Rattle.geojson_model.specs.Members.{IsSeen, IsType}
+use Rattle.geojson_model.specs.declared.features.Drawn.{Drawn}
+use Rattle.geojson_model.specs.declared.features.FeatureParts.{FeatureParts}
+use Rattle.geojson_model.specs.declared.features.Fields.{Fields}
+use Rattle.geojson_model.specs.declared.geometries.Start.{Start}
+use Rattle.geojson_model.specs.declared.seen.Seen.{Seen}
+use Rattle.geojson_model.specs.declared.seen.Seen.TheVariants.{Never, Once, Again}
 
--- an identifier is a text or a number; null is none
-abbrev pub identifier_in : Json-F Json → Result (Option Id) GeoFaultKind
-identifier_in Json-F.Null = Ok None
-identifier_in (Json-F.Text t) = Ok (Some (id.Text t))
-identifier_in (Json-F.Number t) = Ok (Some (id.Number t))
-identifier_in _ = Err WrongKind
+-- ---- the members of a feature
 
--- the identifier that the member `id` gives, if it is there
-abbrev pub identifier : Option Json → Result (Option Id) GeoFaultKind
-identifier None = Ok None
-identifier (Some v) = identifier_in (out-Json v)
+abbrev pub IsId : Json → Result (Option Id) GeoFaultKind → Type 0
+IsId v id = id ≡ identifier_in (out-Json v)
 
--- the members of an object; null has none
-abbrev pub members_in : Json-F Json → Result (Option (List (List ℕ × Json))) GeoFaultKind
-members_in Json-F.Null = Ok None
-members_in (Json-F.Object ms) = Ok (Some ms)
-members_in _ = Err WrongKind
+abbrev pub IsProperties : Json → Result (Option Members) GeoFaultKind → Type 0
+IsProperties v properties = properties ≡ members_in (out-Json v)
 
--- the members of the object that a member is, if it is there
-abbrev pub members_if : Option Json → Result (Option (List (List ℕ × Json))) GeoFaultKind
-members_if None = Ok None
-members_if (Some v) = members_in (out-Json v)
+-- the shape that the value of `geometry` gives
+abbrev pub drawn_shape : Bool → Json → Reader (Option Shape)
+drawn_shape exact v = do
+  object ← pure (members_in (out-Json v))
+  if_some (geometry exact) object
 
--- the feature with these members
-unfoldable pub feature : Bool → List (List ℕ × Json) → Reader Featured
-feature exact ms = do
-  i ← pure (find (codes "id") ms)
-  id ← pure (identifier i)
-  p ← pure (find (codes "properties") ms)
-  properties ← pure (members_if p)
-  o ← pure (find (codes "geometry") ms)
-  object ← pure (members_if o)
-  shape ← if_some (geometry exact) object
-  give (record { id = id; properties = properties; shape = shape })
+-- it was read so, from these counts on
+abbrev pub Draws : Start → Json → Result (Option Shape) GeoFaultKind → Counts → Type 0
+Draws start v (Ok shape) counts = drawn_shape start.exact v start.counts ≡ Ok (shape, counts)
+Draws start v (Err e) counts = drawn_shape start.exact v start.counts ≡ Err e
 
--- the feature that an element of `features` is: an object whose type is Feature
-unfoldable pub feature_element : Bool → Json → Reader Featured
-feature_element exact v = do
-  ms ← pure (or_fail NotObject (object_of v))
-  name ← pure (type_name ms)
-  if bytes_eq name (codes "Feature") then feature exact ms else fail UnknownType
+abbrev pub IsDrawn : Start → Json → Drawn → Type 0
+IsDrawn start v drawn = Draws start v drawn.shape drawn.counts
+
+abbrev pub is_field : List ℕ → Bool
+is_field name = bytes_eq name (codes "geometry") || (bytes_eq name (codes "properties") || bytes_eq name (codes "id"))
+
+-- what was seen of these members
+pub record IsFields (start : Start) (ms : Members) (fields : Fields) : Type 0 where
+  pub id : IsSeen IsId (named (codes "id") ms) fields.id
+  pub properties : IsSeen IsProperties (named (codes "properties") ms) fields.properties
+  pub geometry : IsSeen (IsDrawn start) (named (codes "geometry") ms) fields.geometry
+
+-- the same, with the type
+pub record IsFeatureParts (start : Start) (d : ℕ) (ms : Members) (parts : FeatureParts) : Type 0 where
+  pub kind : IsSeen IsType (named (codes "type") ms) parts.kind
+  pub fields : IsFields start ms parts.fields
+
+-- ---- what they give
+
+abbrev pub given : {A : Type 0} → Seen (Result (Option A) GeoFaultKind) → Result (Option A) GeoFaultKind
+given Never = Ok None
+given (Once x) = x
+given Again = Err Duplicate
+
+-- a shape or its fault, with what was counted then
+abbrev pub counted : Result (Option Shape) GeoFaultKind → Counts → Result (Option Shape × Counts) GeoFaultKind
+counted (Ok shape) counts = Ok (shape, counts)
+counted (Err e) counts = Err e
+
+abbrev pub drawn : Seen Drawn → Counts → Result (Option Shape × Counts) GeoFaultKind
+drawn Never before = Ok (None, before)
+drawn (Once x) before = counted x.shape x.counts
+drawn Again before = Err Duplicate
+
+-- the fault of a type that was named once
+abbrev pub named_fault : Result GeoJsonType GeoFaultKind → Option GeoFaultKind
+named_fault (Err e) = Some e
+named_fault (Ok type.FeatureCollection) = Some UnknownType
+named_fault (Ok type.Feature) = None
+named_fault (Ok (type.Geometry geometry)) = Some UnknownType
+
+abbrev pub type_fault : Seen (Result GeoJsonType GeoFaultKind) → Option GeoFaultKind
+type_fault Never = Some Missing
+type_fault (Once x) = named_fault x
+type_fault Again = Some Duplicate
+
+-- an answer that has no other reason to stop
+abbrev pub stopped : {A : Type 0} → Result A GeoFaultKind → Result A (Stop GeoFaultKind)
+stopped (Ok x) = Ok x
+stopped (Err e) = Err (stop.Fault e)

@@ -1,66 +1,80 @@
--- The layer that a JSON value stands for, with its counts, or the first fault on the way from its front to its end.
-use Rattle.std.specs.Prelude.{ℕ, ◌+◌, Bool, List, [], ◌∷◌, Option, Some, None, Result, codes}
+-- Members of the object of a layer, as they were seen among the others.
+use Rattle.std.specs.Prelude.{◌≡◌, ℕ, Bool, List, [], ◌∷◌, ◌++◌, length, Option, Some, None, Result, Ok, Err, codes}
 use Rattle.json_value.specs.declared.json.Json.{Json}
+use Rattle.json_value.specs.Kinds.{array_of}
 use Rattle.geojson_types.specs.declared.counts.Counts.{Counts}
-use Rattle.geojson_model.specs.declared.fault.GeoFault.{GeoFault}
-use Rattle.geojson_model.specs.declared.fault.GeoFaultKind.TheVariants.{NotObject, UnknownType, WrongKind}
-use Rattle.geojson_model.specs.declared.types.GeoJsonType.{GeoJsonType}
-use Rattle.geojson_model.specs.declared.types.GeoJsonType.TheVariants.{FeatureCollection, Feature, Geometry}
-use Rattle.geojson_model.specs.declared.types.GeometryType.{GeometryType}
-use Rattle.geojson_types.specs.Counting.{no_counts}
-use Rattle.geojson_types.specs.Features.{Shape, Featured}
-use Rattle.geojson_model.specs.Features.{feature, feature_element}
-use Rattle.geojson_model.specs.Geometries.{typed_geometry}
-use Rattle.geojson_model.specs.Types.{geojson_type}
-use Rattle.json_value.specs.Kinds.{object_of, array_of}
-use Rattle.geojson_model.specs.Members.{need, type_name}
-use Rattle.geojson_model.specs.Reader.{LayerReader, ◌>>=◌, give, pure, or_fail, within}
+use Rattle.geojson_types.specs.Features.{Featured}
+use Rattle.geojson_meaning.specs.Features.{feature_element}
+use Rattle.geojson_meaning.specs.Layers.{features_from, typed_features}
+use Rattle.geojson_meaning.specs.Members.{named, type_name}
+use Rattle.geojson_meaning.specs.Reader.{LayerReader, ◌>>=◌, fault_in, give, or_fail, pure, within}
+use Rattle.geojson_meaning.specs.Types.{geojson_type}
+use Rattle.geojson_meaning.specs.declared.fault.GeoFault.{GeoFault}
+use Rattle.geojson_meaning.specs.declared.fault.GeoFaultKind.{GeoFaultKind}
+use Rattle.geojson_meaning.specs.declared.fault.GeoFaultKind.TheVariants.{Missing, Duplicate, UnknownType, WrongKind}
+use Rattle.geojson_meaning.specs.declared.types.GeoJsonType.{GeoJsonType}
+use Rattle.geojson_meaning.specs.declared.types.GeoJsonType.TheVariants as type
+use Rattle.geojson_meaning.specs.declared.types.GeometryType.{GeometryType}
+use Rattle.json_cursor.specs.Members.{Members}
+use Rattle.json_cursor.specs.declared.stop.Stop.{Stop}
+use Rattle.json_cursor.specs.declared.stop.Stop.TheVariants as stop
+use Rattle.geojson_model.specs.Features.{IsFields}
+use Rattle.geojson_model.specs.Members.{IsParts, IsSeen}
+use Rattle.geojson_model.specs.declared.geometries.Start.{Start}
+use Rattle.geojson_model.specs.declared.layers.Collected.{Collected}
+use Rattle.geojson_model.specs.declared.layers.LayerParts.{LayerParts}
+use Rattle.geojson_model.specs.declared.seen.Seen.{Seen}
+use Rattle.geojson_model.specs.declared.seen.Seen.TheVariants.{Never, Once, Again}
 
--- the features in order, of which the first has this number
-unfoldable pub features_from : Bool → ℕ → List Json → LayerReader (List Featured)
-features_from exact n [] = give []
-features_from exact n (v ∷ vs) = do
-  f ← within (Some n) (feature_element exact v)
-  fs ← features_from exact (n + 1) vs
-  give (f ∷ fs)
+-- how deep arrays and objects may nest in the text of a layer
+abbrev pub deepest : ℕ
+deepest = 127
 
--- the features of a FeatureCollection with these members (RFC 7946, section 3.3)
-unfoldable pub collection_features : Bool → List (List ℕ × Json) → LayerReader (List Featured)
-collection_features exact ms = do
-  v ← within None (pure (need (codes "features") ms))
+-- why reading stops, in the feature of this number, or in none
+abbrev pub stop_in : Option ℕ → Stop GeoFaultKind → Stop GeoFault
+stop_in n (stop.Fault kind) = stop.Fault (fault_in n kind)
+stop_in n stop.NoValue = stop.NoValue
+stop_in n stop.Memory = stop.Memory
+
+-- one more feature behind these, of which it has the number
+abbrev pub numbered : Bool → List Featured → Json → LayerReader (List Featured)
+numbered exact fs v = do
+  f ← within (Some (length fs)) (feature_element exact v)
+  give (fs ++ f ∷ [])
+
+-- the features that the value of `features` gives
+abbrev pub array_features : Bool → Json → LayerReader (List Featured)
+array_features exact v = do
   vs ← within None (pure (or_fail WrongKind (array_of v)))
   features_from exact 0 vs
 
--- a Feature is the one feature of its layer
-unfoldable pub single_feature : Bool → List (List ℕ × Json) → LayerReader (List Featured)
-single_feature exact ms = do
-  f ← within (Some 0) (feature exact ms)
-  give (f ∷ [])
+-- they were read so, from these counts on
+abbrev pub Collects : Start → Json → Result (List Featured) GeoFault → Counts → Type 0
+Collects start v (Ok fs) counts = array_features start.exact v start.counts ≡ Ok (fs, counts)
+Collects start v (Err e) counts = array_features start.exact v start.counts ≡ Err e
 
--- the feature that a bare geometry stands for
-abbrev pub bare : Option Shape → Featured
-bare shape = record { id = None; properties = None; shape = shape }
+abbrev pub IsCollected : Start → Json → Collected → Type 0
+IsCollected start v x = Collects start v x.features x.counts
 
--- a bare geometry is the one feature of its layer too
-unfoldable pub bare_feature : Bool → GeometryType → List (List ℕ × Json) → LayerReader (List Featured)
-bare_feature exact type ms = do
-  shape ← within (Some 0) (typed_geometry exact type ms)
-  give (bare shape ∷ [])
+-- what was seen of these members
+pub record IsLayerParts (start : Start) (d : ℕ) (ms : Members) (parts : LayerParts) : Type 0 where
+  pub bare : IsParts start d ms parts.bare
+  pub fields : IsFields start ms parts.fields
+  pub features : IsSeen (IsCollected start) (named (codes "features") ms) parts.features
 
--- the features of an object of this type with these members
-unfoldable pub typed_features : Bool → GeoJsonType → List (List ℕ × Json) → LayerReader (List Featured)
-typed_features exact FeatureCollection ms = collection_features exact ms
-typed_features exact Feature ms = single_feature exact ms
-typed_features exact (Geometry type) ms = bare_feature exact type ms
+-- a type that must be there once
+abbrev pub type_of : Seen (Result GeoJsonType GeoFaultKind) → Result GeoJsonType GeoFaultKind
+type_of Never = Err Missing
+type_of (Once x) = x
+type_of Again = Err Duplicate
 
--- the features of a value
-unfoldable pub features : Bool → Json → LayerReader (List Featured)
-features exact v = do
-  ms ← within None (pure (or_fail NotObject (object_of v)))
+-- the geometry type of an object with these members is this
+abbrev pub Types : GeometryType → Members → Type 0
+Types kind ms = (name : List ℕ) × (type_name ms ≡ Ok name) × (geojson_type name ≡ Some (type.Geometry kind))
+
+-- the features of an object with these members
+abbrev pub members_features : Bool → Members → LayerReader (List Featured)
+members_features exact ms = do
   name ← within None (pure (type_name ms))
   type ← within None (pure (or_fail UnknownType (geojson_type name)))
   typed_features exact type ms
-
--- the features of a value beside what was counted, from nothing on
-unfoldable pub layer : Bool → Json → Result (List Featured × Counts) GeoFault
-layer exact v = features exact v no_counts

@@ -1,12 +1,4 @@
-pub mod Answers
-pub mod Coordinates
-pub mod Faults
 pub mod Features
-pub mod Geometries
-pub mod Laws
 pub mod Layers
-pub mod Lines
 pub mod Members
-pub mod Polygons
-pub mod Reader
-pub mod Types
+pub mod Positions

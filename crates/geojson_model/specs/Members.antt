@@ -1,34 +1,163 @@
--- Looking up a member of an object by its name, where a look-up's fault is one of a layer.
-use Rattle.std.specs.Prelude.{ℕ, List, Option, Result, codes}
-use Rattle.json_members.specs.declared.fault.LookupFault.{LookupFault}
-use Rattle.json_members.specs.declared.fault.LookupFault.TheVariants as of_lookup
-use Rattle.json_members.specs.Members as members_by
-pub use Rattle.json_members.specs.Members.{Members}
-unfoldable pub use Rattle.json_members.specs.Members.{named}
-use Rattle.geojson_model.specs.declared.fault.GeoFaultKind.{GeoFaultKind}
-use Rattle.geojson_model.specs.declared.fault.GeoFaultKind.TheVariants.{Missing, Duplicate, WrongKind}
-use Rattle.geojson_model.specs.Reader.{Reader, ◌>>=◌, pure, with_fault}
+-- Members of objects that are looked up, as they were seen among the others.
+use Rattle.std.specs.Prelude.{◌≡◌, ℕ, ◌-◌, Bool, true, false, if◌then◌else◌, ◌||◌, List, [], ◌∷◌, ◌++◌, Option, Some, None, Result, Ok, Err, codes}
+use Rattle.std.specs.Borrow.{Bor}
+use Rattle.json_value.specs.declared.json.Json.{Json}
+use Rattle.json_value.specs.Kinds.{object_of, text_of}
+use Rattle.json_value.specs.Reading.{skip}
+use Rattle.json_value.specs.declared.json.Json.TheVariants as j
+use Rattle.json_reading.specs.declared.fault.Fault.{Fault}
+use Rattle.json_reading.specs.Gives.{Fails}
+use Rattle.geojson_types.specs.declared.counts.Counts.{Counts}
+use Rattle.geojson_types.specs.Features.{Shape}
+use Rattle.geometry.specs.declared.shape.Geometry.TheVariants as g
+use Rattle.geojson_meaning.specs.Geometries.{coordinates_shape, shapes}
+use Rattle.geojson_meaning.specs.Members.{named}
+use Rattle.json_members.specs.Readers.{Counting}
+use Rattle.geojson_meaning.specs.Reader.{Reader, ◌>>=◌, give, or_fail}
+use Rattle.geojson_meaning.specs.Types.{geojson_type, geometry_type}
+use Rattle.geojson_meaning.specs.declared.fault.GeoFaultKind.{GeoFaultKind}
+use Rattle.geojson_meaning.specs.declared.fault.GeoFaultKind.TheVariants.{Duplicate, UnknownType, WrongKind}
+use Rattle.geojson_meaning.specs.declared.types.CoordinatesType.{CoordinatesType}
+use Rattle.geojson_meaning.specs.declared.types.GeoJsonType.{GeoJsonType}
+use Rattle.geojson_meaning.specs.declared.types.GeometryType.{GeometryType}
+use Rattle.geojson_meaning.specs.declared.types.GeometryType.TheVariants as kinds
+use Rattle.json_cursor.specs.declared.stop.Stop.{Stop}
+use Rattle.json_cursor.specs.declared.stop.Stop.TheVariants as stop
+use Rattle.json_cursor.specs.Arrays.{front_value}
+use Rattle.json_cursor.specs.Members.{Made, Members}
+use Rattle.geojson_model.specs.declared.seen.Seen.{Seen}
+use Rattle.geojson_model.specs.declared.seen.Seen.TheVariants.{Never, Once, Again}
+use Rattle.geojson_model.specs.declared.geometries.Coordinates.{Coordinates}
+use Rattle.geojson_model.specs.declared.geometries.Parts.{Parts}
+use Rattle.geojson_model.specs.declared.geometries.Read.{Read}
+use Rattle.geojson_model.specs.declared.geometries.Start.{Start}
 
--- the fault that a look-up's is
-abbrev pub lookup_fault : LookupFault → GeoFaultKind
-lookup_fault of_lookup.Missing = Missing
-lookup_fault of_lookup.Duplicate = Duplicate
-lookup_fault of_lookup.WrongKind = WrongKind
+-- these are the values of a name that was seen so
+abbrev pub IsSeen : {A : Type 0} → (Json → A → Type 0) → List Json → Seen A → Type 0
+IsSeen Is vs Never = vs ≡ []
+IsSeen Is vs (Once x) = (v : Json) × (vs ≡ v ∷ []) × Is v x
+IsSeen Is vs Again = (v : Json) × (w : Json) × (us : List Json) × (vs ≡ v ∷ w ∷ us)
 
--- the value of the member of this name, if there is one
-abbrev pub find : {V : Type 0} → List ℕ → List (List ℕ × V) → Result (Option V) GeoFaultKind
-find name ms = with_fault lookup_fault (members_by.find name ms)
+-- the same with one more
+abbrev pub see : {A : Type 0} → Seen A → A → Seen A
+see Never x = Once x
+see (Once y) x = Again
+see Again x = Again
 
--- the value of the member of this name
-unfoldable pub need : {V : Type 0} → List ℕ → List (List ℕ × V) → Result V GeoFaultKind
-need name ms = with_fault lookup_fault (members_by.need name ms)
+abbrev pub is_again : {A : Type 0} → Seen A → Bool
+is_again Never = false
+is_again (Once x) = false
+is_again Again = true
 
--- the value of the member of this name, and what it is read as
-abbrev pub need_as : {V B : Type 0} → List ℕ → (V → Reader B) → List (List ℕ × V) → Reader B
-need_as name read ms = do
-  v ← pure (need name ms)
-  read v
+-- the value begins there
+abbrev pub IsFront : ℕ → Json → Bor (List ℕ) → Type 0
+IsFront d v front = (rest : List ℕ) × (front_value d front.now ≡ Some (v, rest))
 
--- the name of the type of an object with these members
-unfoldable pub type_name : Members → Result (List ℕ) GeoFaultKind
-type_name ms = with_fault lookup_fault (members_by.need_text (codes "type") ms)
+-- a value stands at the front, of which this is known, and this follows it; or none stands there, or nothing is said
+abbrev pub Meets : {A : Type 0} → (Json → A → Type 0) → ℕ → List ℕ → Result (A × Bor (List ℕ)) Fault → Type 0
+Meets Is d bytes (Ok x) = (v : Json) × (front_value d bytes ≡ Some (v, x.1.now)) × Is v x.0
+Meets Is d bytes (Err fault) = Fails fault (front_value d bytes)
+
+-- A value stands there, and then the rest, and what holds of members goes on to hold with a member of this name and that value. Or none
+-- stands there, or nothing is said.
+abbrev pub Sees : {S : Type 0} → Made S → ℕ → List ℕ → List ℕ → S → S → Result (Bor (List ℕ)) Fault → Type 0
+Sees Holds d name value before after (Ok rest) = (v : Json) × (front_value d value ≡ Some (v, rest.now)) × ((ms : Members) → Holds ms before → Holds (ms ++ (name, v) ∷ []) after)
+Sees Holds d name value before after (Err fault) = Fails fault (front_value d value)
+
+-- this is read, or the fault is the reader's, or nothing is said
+abbrev pub Judges : {C E B : Type 0} → Counting C E B → C → C → Result B (Stop E) → Type 0
+Judges read old new (Ok x) = read old ≡ Ok (x, new)
+Judges read old new (Err (stop.Fault e)) = read old ≡ Err e
+Judges read old new (Err stop.NoValue) = ⊥
+Judges read old new (Err stop.Memory) = Unit {0}
+
+-- ---- the members of a geometry
+
+-- the type that the value of the member `type` names
+abbrev pub type_in : Option (List ℕ) → Result GeoJsonType GeoFaultKind
+type_in None = Err WrongKind
+type_in (Some name) = or_fail UnknownType (geojson_type name)
+
+abbrev pub IsType : Json → Result GeoJsonType GeoFaultKind → Type 0
+IsType v type = type ≡ type_in (text_of v)
+
+-- what the value of `coordinates` is read as by this type, from these counts on
+abbrev pub ReadsAs : Start → Json → Read → Result (Option Shape) GeoFaultKind → Type 0
+ReadsAs start v read (Ok shape) = coordinates_shape start.exact read.kind v start.counts ≡ Ok (shape, read.counts)
+ReadsAs start v read (Err e) = coordinates_shape start.exact read.kind v start.counts ≡ Err e
+
+abbrev pub IsRead : Start → Json → Option Read → Type 0
+IsRead start v None = Unit {0}
+IsRead start v (Some read) = ReadsAs start v read read.shape
+
+-- the same of what was read by this very type, if it was
+abbrev pub IsTaken : Start → CoordinatesType → Json → Option (Result (Option Shape) GeoFaultKind × Counts) → Type 0
+IsTaken start kind v None = Unit {0}
+IsTaken start kind v (Some (Ok shape, counts)) = coordinates_shape start.exact kind v start.counts ≡ Ok (shape, counts)
+IsTaken start kind v (Some (Err e, counts)) = coordinates_shape start.exact kind v start.counts ≡ Err e
+
+-- the value of `coordinates` begins there, and was read so, if it was
+pub record IsCoordinates (start : Start) (d : ℕ) (v : Json) (x : Coordinates) : Type 0 where
+  pub front : IsFront d v x.front
+  pub read : IsRead start v x.read
+
+-- what was seen of these members
+pub record IsParts (start : Start) (d : ℕ) (ms : Members) (parts : Parts) : Type 0 where
+  pub kind : IsSeen IsType (named (codes "type") ms) parts.kind
+  pub coordinates : IsSeen (IsCoordinates start d) (named (codes "coordinates") ms) parts.coordinates
+  pub geometries : IsSeen (IsFront d) (named (codes "geometries") ms) parts.geometries
+
+-- ---- a geometry as most programs write it
+
+-- the name of the member that a geometry of this type is made of
+abbrev pub part_name : GeometryType → List ℕ
+part_name kinds.Collection = codes "geometries"
+part_name (kinds.Coordinates kind) = codes "coordinates"
+
+-- what the value of that member gives
+abbrev pub part : Bool → GeometryType → Json → Reader (Option Shape)
+part exact kinds.Collection v = do
+  ss ← shapes exact v
+  give (Some (g.Group ss))
+part exact (kinds.Coordinates kind) v = coordinates_shape exact kind v
+
+-- behind the front of that member a value and the brace that closes the object (125) make it such a geometry
+abbrev pub BeginsGeometry : GeometryType → ℕ → List ℕ → List ℕ → Type 0
+BeginsGeometry kind d bytes front = (v : Json) (after end : List ℕ) → front_value (d - 1) front ≡ Some (v, after) → skip after ≡ 125 ∷ end
+    → (name : List ℕ) × (geometry_type name ≡ Some kind) × (front_value d bytes ≡ Some (j.Object ((codes "type", j.Text name) ∷ (part_name kind, v) ∷ []), end))
+
+-- a geometry of this type whose type stands first in it, and then the member that it is made of, whose value begins there
+pub record IsLed (kind : GeometryType) (d : ℕ) (front : List ℕ) (v : Json) : Type 0 where
+  pub name : List ℕ
+  pub typed : geometry_type name ≡ Some kind
+  pub part : Json
+  pub after : List ℕ
+  pub found : front_value (d - 1) front ≡ Some (part, after)
+  pub more : Members
+  pub object : v ≡ j.Object ((codes "type", j.Text name) ∷ (part_name kind, part) ∷ more)
+
+-- whatever value stands there is one
+abbrev pub LeadsGeometry : GeometryType → ℕ → List ℕ → List ℕ → Type 0
+LeadsGeometry kind d bytes front = (v : Json) (end : List ℕ) → front_value d bytes ≡ Some (v, end) → IsLed kind d front v
+
+-- the type stands twice, or the member that a geometry of this type is made of
+abbrev pub twice : GeometryType → Parts → Bool
+twice kinds.Collection parts = is_again parts.kind || is_again parts.geometries
+twice (kinds.Coordinates kind) parts = is_again parts.kind || is_again parts.coordinates
+
+abbrev pub first_fault : Bool → GeoFaultKind → GeoFaultKind
+first_fault twice fault = if twice then Duplicate else fault
+
+-- an object stands at the front in which they do, or don't; or whatever value stands there is no object; or none stands there, or nothing is said
+pub record RepeatsIn (kind : GeometryType) (d : ℕ) (bytes : List ℕ) (is : Bool) (rest : List ℕ) : Type 0 where
+  pub members : Members
+  pub front : front_value d bytes ≡ Some (j.Object members, rest)
+  pub start : Start
+  pub parts : Parts
+  pub seen : IsParts start (d - 1) members parts
+  pub answer : is ≡ twice kind parts
+
+abbrev pub Repeats : GeometryType → ℕ → List ℕ → Result (Option (Bool × Bor (List ℕ))) Fault → Type 0
+Repeats kind d bytes (Ok (Some x)) = RepeatsIn kind d bytes x.0 x.1.now
+Repeats kind d bytes (Ok None) = (v : Json) (end : List ℕ) → front_value d bytes ≡ Some (v, end) → object_of v ≡ None
+Repeats kind d bytes (Err fault) = Fails fault (front_value d bytes)

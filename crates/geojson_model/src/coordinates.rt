@@ -1,80 +1,77 @@
-// Reading positions.
-ghost use Rattle.std.specs.Prelude.{◌≡◌, ◌≤◌, IfOk, unsigned_abs};
-ghost use Rattle.geojson_model.specs.Answers.{Gives};
-ghost use Rattle.geojson_model.specs.Coordinates as spec;
+// One coordinate of a position.
+ghost use Rattle.std.specs.Prelude.{◌≡◌, ◌≤◌, ◌&&◌, not, IfOk, unsigned_abs};
 ghost use Rattle.geometry.specs.Units.{input_limit};
-ghost use Rattle.geojson_model.specs.Reader.{each};
+ghost use Rattle.geojson_meaning.specs.Coordinates.{coordinate};
+ghost use Rattle.json_cursor.specs.Answers.{Answers};
+ghost use Rattle.json_cursor.specs.Arrays.{front_value};
 
-use crate::fault::GeoFaultKind;
-use geojson_types::{Counts, INPUT_LIMIT, PLACES, Position};
-use json_value::Json;
+use geojson_meaning::GeoFaultKind;
+use geojson_types::Counts;
+use geometry::{INPUT_LIMIT, PLACES};
+use json_cursor::{Kind, Stop, kind_at};
+use json_reading::value_at;
 use std::alloc::Global;
+use unit_scanning::units_at;
 
-/// A coordinate in whole units.
-#[tactic(auto, unfolding(crate::specs::Coordinates::coordinate))]
-fn coordinate(value: &Json, exact: bool, counts: &mut Counts) -> Result<i64, GeoFaultKind>
-    ensures value { Gives (λ x. x) result counts.new (spec.coordinate exact value.now counts.old) }
-    ensures within { IfOk result (λ x. unsigned_abs x ≤ input_limit) }
+/// The greatest magnitude in units.
+const LIMIT: i128 = INPUT_LIMIT as i128;
+
+/// Whether a number is refused for being rounded.
+#[inline(always)]
+pub(crate) fn is_refused(exact: bool, whole: bool) -> bool
+    ensures { result ≡ (exact && not whole) }
 {
-    let Some(number) = value.as_number() else {
-        return Err(GeoFaultKind::WrongKind);
-    };
-    match number.scaled(PLACES, INPUT_LIMIT as i128) {
-        Err(_) => Err(GeoFaultKind::Range),
-        Ok(scaled) => {
-            if exact && !scaled.exact {
-                return Err(GeoFaultKind::Inexact);
-            }
-            counts.count_rounded(!scaled.exact);
-            Ok(scaled.value as i64)
-        }
-    }
+    exact && !whole
 }
 
-/// The position with these elements. Those behind the second are not looked at.
-#[tactic(auto, unfolding(crate::specs::Coordinates::elements_position))]
-pub(crate) fn elements_position(
-    elements: &[Json],
-    exact: bool,
-    counts: &mut Counts,
-) -> Result<Position, GeoFaultKind>
-    ensures { Gives (λ p. p) result counts.new (spec.elements_position exact elements.now counts.old) }
-{
-    match elements {
-        [] => Err(GeoFaultKind::ShortPosition),
-        [_] => Err(GeoFaultKind::ShortPosition),
-        [x, y, more @ ..] => {
-            let x = coordinate(x, exact, counts)?;
-            let y = coordinate(y, exact, counts)?;
-            counts.count_extra(!more.is_empty());
-            Ok(Position::at(x, y))
-        }
-    }
-}
-
-/// A position.
-#[tactic(auto, unfolding(crate::specs::Coordinates::position))]
-pub fn position(value: &Json, exact: bool, counts: &mut Counts) -> Result<Position, GeoFaultKind>
-    ensures { Gives (λ p. p) result counts.new (spec.position exact value.now counts.old) }
-{
-    match value.as_array() {
-        None => Err(GeoFaultKind::WrongKind),
-        Some(elements) => elements_position(elements, exact, counts),
-    }
-}
-
-/// Positions in order.
-pub(crate) fn positions(
+/// The same as `coordinate_at`, by the text of the number that stands there, however it is written. Of what is no number nothing is read.
+#[cold]
+#[inline(never)]
+fn value_coordinate_at<'a>(
     alloc: Global,
-    values: &[Json],
+    deep: u32,
+    bytes: &'a [u8],
     exact: bool,
     counts: &mut Counts,
-) -> Result<Vec<Position>, GeoFaultKind>
-    ensures { Gives (λ ps. ps.items) result counts.new (each (spec.position exact) values.now counts.old) }
+) -> Result<(i64, &'a [u8]), Stop<GeoFaultKind>>
+    ensures answers { Answers (λ x. x) (coordinate exact) (front_value deep bytes.now) counts.old counts.new result }
+    ensures within { IfOk result (λ x. unsigned_abs x.0 ≤ input_limit) }
 {
-    let mut read = Vec::with_capacity(alloc, values.len())?;
-    'values: for value in values {
-        read.push(position(value, exact, counts)?)?;
+    let Kind::Number = kind_at(bytes) else {
+        return Err(Stop::Fault(GeoFaultKind::WrongKind));
+    };
+    let (value, rest) = value_at(alloc, deep, bytes)?;
+    let Some(number) = value.as_number() else {
+        return Err(Stop::Fault(GeoFaultKind::WrongKind));
+    };
+    let Ok(scaled) = number.scaled(PLACES, LIMIT) else {
+        return Err(Stop::Fault(GeoFaultKind::Range));
+    };
+    if is_refused(exact, scaled.exact) {
+        return Err(Stop::Fault(GeoFaultKind::Inexact));
     }
-    Ok(read)
+    counts.count_rounded(!scaled.exact);
+    Ok((scaled.value as i64, rest))
+}
+
+/// The coordinate at the front in whole units, and what follows it. `exact` refuses what would have to be rounded.
+#[inline(always)]
+pub(crate) fn coordinate_at<'a>(
+    alloc: Global,
+    deep: u32,
+    bytes: &'a [u8],
+    exact: bool,
+    counts: &mut Counts,
+) -> Result<(i64, &'a [u8]), Stop<GeoFaultKind>>
+    ensures answers { Answers (λ x. x) (coordinate exact) (front_value deep bytes.now) counts.old counts.new result }
+    ensures within { IfOk result (λ x. unsigned_abs x.0 ≤ input_limit) }
+{
+    let Some((units, rest)) = units_at(bytes) else {
+        return value_coordinate_at(alloc, deep, bytes, exact, counts);
+    };
+    if is_refused(exact, units.exact) {
+        return Err(Stop::Fault(GeoFaultKind::Inexact));
+    }
+    counts.count_rounded(!units.exact);
+    Ok((units.value, rest))
 }

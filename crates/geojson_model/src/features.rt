@@ -1,100 +1,312 @@
-// Reading features.
-ghost use Rattle.std.specs.Prelude.{◌≡◌, codes};
-ghost use Rattle.geojson_model.specs.Answers.{Gives, Finds};
+// Features (RFC 7946, section 3.2).
+ghost use Rattle.std.specs.Prelude.{◌≡◌, [], ℕ, OnOk, codes};
+ghost use Rattle.std.specs.Option.{option_copied};
+ghost use Rattle.json_cursor.specs.Answers.{Answers};
+ghost use Rattle.json_cursor.specs.Arrays.{front_value};
+ghost use Rattle.json_cursor.specs.Members.{Members as Listed, Names};
+ghost use Rattle.json_cursor.specs.Names.{name_of};
+ghost use Rattle.geojson_meaning.specs.Features.{feature, feature_element};
+ghost use Rattle.geojson_meaning.specs.Members.{named};
+ghost use Rattle.geojson_model.specs.Features.{IsDrawn, IsFeatureParts, IsFields, IsId, IsProperties};
 ghost use Rattle.geojson_model.specs.Features as spec;
-ghost use Rattle.geojson_model.specs.Geometries.{geometry as geometry_of};
-ghost use Rattle.geojson_model.specs.Reader.{if_some, or_fail};
-ghost use Rattle.geojson_model.specs.declared.fault.GeoFaultKind.TheVariants.{NotObject};
-ghost use Rattle.json_value.specs.Kinds.{object_of};
+ghost use Rattle.geojson_model.specs.Members.{IsSeen, Judges, Meets, Sees};
+ghost use Rattle.geojson_model.specs.declared.geometries.Start.{Start as Begun};
 
-use crate::fault::GeoFaultKind;
-use crate::geometries::geometry;
+use crate::geometries::{Start, geometry_at, type_at};
+use crate::seen::Seen;
+use geojson_meaning::{GeoFaultKind, GeoJsonType, identifier};
 use geojson_types::{Counts, Feature, Id, Properties, Shape};
-use json_members::{need_text, take};
-use json_value::{Items, Json, OwnText};
+use json_cursor::{Kind, Members, Name, Stop, kind_at, name_at, named_at, object_into};
+use json_reading::{Fault, Why, value_at};
+use properties_scanning::read_properties;
 use std::alloc::Global;
+use text_checking::after_value;
 
-/// The identifier that the member `id` of a feature gives (RFC 7946, section 3.2). Absent and null are none. The fault is `WrongKind`.
-pub fn identifier(value: Option<Json>) -> Result<Option<Id>, GeoFaultKind>
-    ensures { Finds (λ id. id) result (spec.identifier value) }
-{
-    match value {
-        None => Ok(None),
-        Some(Json::Null) => Ok(None),
-        Some(Json::Text(text)) => Ok(Some(Id::Text(text))),
-        Some(Json::Number(number)) => Ok(Some(Id::Number(number))),
-        Some(_) => Err(GeoFaultKind::WrongKind),
-    }
+/// What the value of `geometry` is read as, or its fault, and what was counted then.
+#[derive(Drop)]
+pub struct Drawn {
+    shape: Result<Option<Shape>, GeoFaultKind>,
+    counts: Counts,
 }
 
-/// The members of the object that a member of a feature is. Absent and null have none. The fault is `WrongKind`.
-pub fn members_if(value: Option<Json>) -> Result<Option<Items<(OwnText, Json)>>, GeoFaultKind>
-    ensures { Finds (λ ms. ms) result (spec.members_if value) }
-{
-    match value {
-        None => Ok(None),
-        Some(Json::Null) => Ok(None),
-        Some(Json::Object(members)) => Ok(Some(members)),
-        Some(_) => Err(GeoFaultKind::WrongKind),
-    }
+/// What was seen of the members of a feature, but for its type.
+#[derive(Drop)]
+pub struct Fields {
+    id: Seen<Result<Option<Id>, GeoFaultKind>>,
+    properties: Seen<Result<Option<Properties>, GeoFaultKind>>,
+    geometry: Seen<Drawn>,
 }
 
-/// The members of a value that must be an object.
-pub(crate) fn members_of(value: Json) -> Result<Vec<(OwnText, Json)>, GeoFaultKind>
-    ensures { Finds (λ ms. ms.items) result (or_fail NotObject (object_of value)) }
-{
-    match value.into_object() {
-        None => Err(GeoFaultKind::NotObject),
-        Some(members) => Ok(members.into_inner()),
-    }
+/// What was seen of the members of a feature.
+#[derive(Drop)]
+pub struct FeatureParts {
+    kind: Seen<Result<GeoJsonType, GeoFaultKind>>,
+    fields: Fields,
 }
 
-/// The shape that the member `geometry` gives.
-fn feature_shape(
+/// The identifier that the value at the front is, or its fault, and what follows it.
+fn id_at<'a>(
     alloc: Global,
-    object: Option<Items<(OwnText, Json)>>,
-    exact: bool,
-    counts: &mut Counts,
-) -> Result<Option<Shape>, GeoFaultKind>
-    ensures { Gives (λ x. x) result counts.new (if_some (geometry_of exact) object counts.old) }
+    deep: u32,
+    bytes: &'a [u8],
+) -> Result<(Result<Option<Id>, GeoFaultKind>, &'a [u8]), Fault>
+    ensures { Meets IsId deep bytes.now result }
 {
-    match object {
-        None => Ok(None),
-        Some(members) => geometry(alloc, members.as_slice(), exact, counts),
+    match kind_at(bytes) {
+        Kind::Array => {
+            let rest = after_value(alloc, deep, bytes)?;
+            Ok((Err(GeoFaultKind::WrongKind), rest))
+        }
+        Kind::Object => {
+            let rest = after_value(alloc, deep, bytes)?;
+            Ok((Err(GeoFaultKind::WrongKind), rest))
+        }
+        _ => {
+            let (value, rest) = value_at(alloc, deep, bytes)?;
+            Ok((identifier(Some(value)), rest))
+        }
     }
 }
 
-/// The feature with these members. Its identifier and its properties are moved out of them, unchanged.
-#[tactic(auto, using(crate::proofs::Proper::object_proper), unfolding(crate::specs::Features::feature))]
-pub(crate) fn feature(
+/// The properties that the value at the front gives, or its fault, and what follows it.
+fn properties_at<'a>(
     alloc: Global,
-    mut members: Vec<(OwnText, Json)>,
-    exact: bool,
+    deep: u32,
+    bytes: &'a [u8],
+) -> Result<(Result<Option<Properties>, GeoFaultKind>, &'a [u8]), Fault>
+    ensures { Meets IsProperties deep bytes.now result }
+{
+    let (read, rest) = read_properties(alloc, deep, bytes)?;
+    match read {
+        None => Ok((Err(GeoFaultKind::WrongKind), rest)),
+        Some(properties) => Ok((Ok(properties), rest)),
+    }
+}
+
+/// The shape that the value at the front gives as a geometry, or its fault, and what follows it: null gives none.
+fn drawn_at<'a>(
+    alloc: Global,
+    deep: u32,
+    bytes: &'a [u8],
+    start: Start,
+) -> Result<(Drawn, &'a [u8]), Fault>
+    ensures { Meets (IsDrawn start) deep bytes.now result }
+{
+    let mut counts = start.counts;
+    if let Kind::Null = kind_at(bytes) {
+        let rest = after_value(alloc, deep, bytes)?;
+        let shape = Ok(None);
+        return Ok((Drawn { shape, counts }, rest));
+    }
+    match geometry_at(alloc, deep, bytes, start.exact, &mut counts) {
+        Ok((shape, rest)) => {
+            let shape = Ok(shape);
+            Ok((Drawn { shape, counts }, rest))
+        }
+        Err(Stop::Fault(fault)) => {
+            let rest = after_value(alloc, deep, bytes)?;
+            let shape = Err(fault);
+            Ok((Drawn { shape, counts }, rest))
+        }
+        Err(Stop::NoValue) => Err(Fault::Malformed {
+            why: Why::Syntax,
+            left: bytes.len(),
+        }),
+        Err(Stop::Memory) => Err(Fault::Memory),
+    }
+}
+
+/// Whether a member of this name is one of a feature, but for its type.
+pub(crate) fn is_field(name: &Name<'_>) -> bool
+    ensures { result ≡ spec.is_field (name_of name.now) }
+{
+    name.is("geometry") || name.is("properties") || name.is("id")
+}
+
+impl Fields {
+    /// Of no members.
+    pub(crate) fn none() -> Fields
+        ensures { (start : Begun) → IsFields start [] result }
+    {
+        Fields {
+            id: Seen::Never,
+            properties: Seen::Never,
+            geometry: Seen::Never,
+        }
+    }
+
+    /// Goes on with one of this name, whose value is at the front.
+    pub(crate) fn see<'a>(
+        &mut self,
+        alloc: Global,
+        deep: u32,
+        name: &Name<'_>,
+        value: &'a [u8],
+        start: Start,
+    ) -> Result<&'a [u8], Fault>
+        ensures { Sees (IsFields start) deep (name_of name.now) value.now self.old self.new result }
+    {
+        if name.is("geometry") {
+            let (drawn, rest) = drawn_at(alloc, deep, value, start)?;
+            self.geometry.see(drawn);
+            return Ok(rest);
+        }
+        if name.is("properties") {
+            let (properties, rest) = properties_at(alloc, deep, value)?;
+            self.properties.see(properties);
+            return Ok(rest);
+        }
+        if name.is("id") {
+            let (id, rest) = id_at(alloc, deep, value)?;
+            self.id.see(id);
+            return Ok(rest);
+        }
+        after_value(alloc, deep, value)
+    }
+}
+
+/// What the member gives that was seen so: none where it isn't there.
+fn given<T: Drop>(seen: Seen<Result<Option<T>, GeoFaultKind>>) -> Result<Option<T>, GeoFaultKind>
+    ensures { result ≡ spec.given seen }
+{
+    match seen {
+        Seen::Never => Ok(None),
+        Seen::Again => Err(GeoFaultKind::Duplicate),
+        Seen::Once(value) => value,
+    }
+}
+
+/// The shape that the member `geometry` gives, and what was counted then.
+fn shape_given(seen: Seen<Drawn>, before: Counts) -> Result<(Option<Shape>, Counts), GeoFaultKind>
+    ensures { result ≡ spec.drawn seen before }
+{
+    match seen {
+        Seen::Never => Ok((None, before)),
+        Seen::Again => Err(GeoFaultKind::Duplicate),
+        Seen::Once(drawn) => {
+            let Drawn { shape, counts } = drawn;
+            match shape {
+                Err(fault) => Err(fault),
+                Ok(shape) => Ok((shape, counts)),
+            }
+        }
+    }
+}
+
+/// The feature of these members.
+pub(crate) fn feature_of(
+    fields: Fields,
+    start: Start,
     counts: &mut Counts,
 ) -> Result<Feature, GeoFaultKind>
-    ensures { Gives (λ f. f) result counts.new (spec.feature exact members.items counts.old) }
+    requires { (ms : Listed) × IsFields start ms fields }
+    ensures { (ms : Listed) → IsFields start ms fields → Judges (feature start.exact ms) start.counts counts.new (spec.stopped result) }
 {
-    let id = identifier(take(&mut members, "id")?)?;
-    let properties = members_if(take(&mut members, "properties")?)?;
-    let object = members_if(take(&mut members, "geometry")?)?;
-    let shape = feature_shape(alloc, object, exact, counts)?;
-    let properties = Properties::of_option(properties);
+    let Fields {
+        id,
+        properties,
+        geometry,
+    } = fields;
+    let id = given(id)?;
+    let properties = given(properties)?;
+    let (shape, counted) = shape_given(geometry, start.counts)?;
+    *counts = counted;
     Ok(Feature::of(id, properties, shape))
 }
 
-/// The feature that an element of `features` is.
-#[tactic(auto, unfolding(crate::specs::Features::feature_element, crate::specs::Members::type_name))]
-pub fn feature_element(
+impl FeatureParts {
+    /// Of no members.
+    fn none() -> FeatureParts
+        ensures { (start : Begun) (deep : ℕ) → IsFeatureParts start deep [] result }
+    {
+        FeatureParts {
+            kind: Seen::Never,
+            fields: Fields::none(),
+        }
+    }
+}
+
+/// The name of the member at the front, and where its value begins: those of a feature are looked for first.
+fn feature_name_at<'a>(alloc: Global, bytes: &'a [u8]) -> Result<(Name<'a>, &'a [u8]), Fault>
+    ensures { Names bytes.now result }
+{
+    if let Some(found) = named_at("geometry", bytes) {
+        return Ok(found);
+    }
+    if let Some(found) = named_at("properties", bytes) {
+        return Ok(found);
+    }
+    if let Some(found) = named_at("type", bytes) {
+        return Ok(found);
+    }
+    if let Some(found) = named_at("id", bytes) {
+        return Ok(found);
+    }
+    name_at(alloc, bytes)
+}
+
+impl<'a> Members<'a> for FeatureParts {
+    type With = Start;
+
+    ghost holds = { IsFeatureParts };
+
+    fn member(
+        &mut self,
+        alloc: Global,
+        deep: u32,
+        bytes: &'a [u8],
+        with: Start,
+    ) -> Result<&'a [u8], Fault> {
+        let (name, value) = feature_name_at(alloc, bytes)?;
+        if name.is("type") {
+            let (kind, rest) = type_at(alloc, deep, value)?;
+            self.kind.see(kind);
+            return Ok(rest);
+        }
+        self.fields.see(alloc, deep, &name, value, with)
+    }
+}
+
+/// The fault of an object whose type was seen so where a feature is to stand, if it has one.
+fn type_fault(seen: &Seen<Result<GeoJsonType, GeoFaultKind>>) -> Option<GeoFaultKind>
+    ensures { result ≡ spec.type_fault seen.now }
+{
+    match seen {
+        Seen::Never => Some(GeoFaultKind::Missing),
+        Seen::Again => Some(GeoFaultKind::Duplicate),
+        Seen::Once(Err(fault)) => Some(*fault),
+        Seen::Once(Ok(kind)) => match kind {
+            GeoJsonType::Feature => None,
+            _ => Some(GeoFaultKind::UnknownType),
+        },
+    }
+}
+
+/// The feature at the front (RFC 7946, section 3.2), and what follows it; or why reading stops. Its members may stand in any order.
+pub fn feature_at<'a>(
     alloc: Global,
-    value: Json,
+    deep: u32,
+    bytes: &'a [u8],
     exact: bool,
     counts: &mut Counts,
-) -> Result<Feature, GeoFaultKind>
-    ensures { Gives (λ f. f) result counts.new (spec.feature_element exact value counts.old) }
+) -> Result<(Feature, &'a [u8]), Stop<GeoFaultKind>>
+    ensures { Answers (λ x. x) (feature_element exact) (front_value deep bytes.now) counts.old counts.new result }
 {
-    let members = members_of(value)?;
-    if need_text(&members, "type")? != "Feature" {
-        return Err(GeoFaultKind::UnknownType);
+    let start = Start {
+        exact,
+        counts: *counts,
+        reads: true,
+    };
+    let mut parts = FeatureParts::none();
+    let Some(rest) = object_into::<FeatureParts>(alloc, deep, &mut parts, bytes, start)? else {
+        return Err(Stop::Fault(GeoFaultKind::NotObject));
+    };
+    let FeatureParts { kind, fields } = parts;
+    if let Some(fault) = type_fault(&kind) {
+        return Err(Stop::Fault(fault));
     }
-    feature(alloc, members, exact, counts)
+    match feature_of(fields, start, counts) {
+        Err(fault) => Err(Stop::Fault(fault)),
+        Ok(feature) => Ok((feature, rest)),
+    }
 }

@@ -1,147 +1,560 @@
-// Reading geometries.
-ghost use Rattle.std.specs.Prelude.{◌≡◌};
-ghost use Rattle.geojson_model.specs.Answers.{Gives};
-ghost use Rattle.geojson_model.specs.Geometries as spec;
-ghost use Rattle.geometry.specs.Lists.{unless_empty};
+// Geometries.
+ghost use Rattle.std.specs.Prelude.{◌≡◌, ◌++◌, ◌<◌, [], ℕ, OnOk, Some, codes, length, option_to_list, true};
+ghost use Rattle.json_value.specs.declared.json.Json.{Json as Value};
+ghost use Rattle.json_cursor.specs.Members.{Members as Listed};
+ghost use Rattle.geojson_meaning.specs.Geometries.{coordinates_shape, geometry, shape, shapes, typed_geometry};
+ghost use Rattle.geojson_meaning.specs.Reader.{kept};
+ghost use Rattle.json_cursor.specs.Answers.{Answers};
+ghost use Rattle.json_cursor.specs.Arrays.{front_elements, front_value};
+ghost use Rattle.geojson_meaning.specs.Members.{named};
+ghost use Rattle.geojson_meaning.specs.declared.types.GeometryType.TheVariants as types;
+ghost use Rattle.json_cursor.specs.Names.{name_of};
+ghost use Rattle.geojson_model.specs.Members.{BeginsGeometry, IsCoordinates, IsFront, IsParts, IsRead, IsSeen, IsTaken, IsType, Judges, LeadsGeometry, Meets, Sees, part, twice};
+ghost use Rattle.geojson_model.specs.declared.geometries.Start.{Start as Begun};
 
-use crate::coordinates::{elements_position, positions};
-use crate::fault::GeoFaultKind;
-use crate::lines::{line_in, lines, some_elements};
-use crate::polygons::{polygon_in, polygons};
-use crate::types::{CoordinatesType, GeometryType, geometry_type};
+use crate::leading::{first_fault, led_at, twice_at};
+use crate::seen::Seen;
+use crate::shapes::coordinates_at;
+use geojson_meaning::{CoordinatesType, GeoFaultKind, GeoJsonType, GeometryType, geojson_type};
 use geojson_types::{Counts, Shape};
-use json_members::{need, need_text};
-use json_value::{Items, Json, OwnText};
-use std::alloc::Global;
+use json_cursor::{
+    Mark, Members, Name, Stop, behind_byte, mark_at, name_at, object_into, string_at,
+};
+use json_reading::{Fault, Why, skip};
+use json_value::Items;
+use std::alloc::{AllocFailed, Global};
+use text_checking::after_value;
 
-/// The items, unless there is none.
-fn some_items<T: Drop>(items: Vec<T>) -> Option<Items<T>>
-    ensures { result ≡ unless_empty (λ xs. xs) items.items }
+/// By what a geometry is read: whether coordinates may not be rounded, what was counted before it, and whether the coordinates are read
+/// where they stand behind the type, or passed over.
+#[derive(Clone, Copy)]
+pub struct Start {
+    pub exact: bool,
+    pub counts: Counts,
+    pub reads: bool,
+}
+
+/// What the member `coordinates` is read as by this type, or its fault, and what was counted then.
+#[derive(Drop)]
+pub struct Read {
+    kind: CoordinatesType,
+    shape: Result<Option<Shape>, GeoFaultKind>,
+    counts: Counts,
+}
+
+/// Where the value of the member `coordinates` begins, and what it was read as, if its type was known then.
+#[derive(Drop)]
+pub struct Coordinates<'a> {
+    front: &'a [u8],
+    read: Option<Read>,
+}
+
+/// What was seen of the members of a geometry.
+#[derive(Drop)]
+pub struct Parts<'a> {
+    pub kind: Seen<Result<GeoJsonType, GeoFaultKind>>,
+    coordinates: Seen<Coordinates<'a>>,
+    geometries: Seen<&'a [u8]>,
+}
+
+/// The type that the value at the front names, or its fault, and what follows it.
+pub(crate) fn type_at<'a>(
+    alloc: Global,
+    deep: u32,
+    bytes: &'a [u8],
+) -> Result<(Result<GeoJsonType, GeoFaultKind>, &'a [u8]), Fault>
+    ensures { Meets IsType deep bytes.now result }
 {
-    if items.is_empty() {
+    let Some((name, rest)) = string_at(alloc, bytes)? else {
+        let rest = after_value(alloc, deep, bytes)?;
+        return Ok((Err(GeoFaultKind::WrongKind), rest));
+    };
+    match geojson_type(name.as_str()) {
+        None => Ok((Err(GeoFaultKind::UnknownType), rest)),
+        Some(kind) => Ok((Ok(kind), rest)),
+    }
+}
+
+/// The value of `coordinates` at the front, which is passed over, and what follows it.
+fn passed_at<'a>(
+    alloc: Global,
+    deep: u32,
+    start: Start,
+    bytes: &'a [u8],
+) -> Result<(Coordinates<'a>, &'a [u8]), Fault>
+    ensures { Meets (IsCoordinates start deep) deep bytes.now result }
+{
+    let rest = after_value(alloc, deep, bytes)?;
+    Ok((
+        Coordinates {
+            front: bytes,
+            read: None,
+        },
+        rest,
+    ))
+}
+
+/// The value of `coordinates` at the front, which is read by this type, and what follows it.
+fn read_at<'a>(
+    alloc: Global,
+    deep: u32,
+    start: Start,
+    kind: CoordinatesType,
+    bytes: &'a [u8],
+) -> Result<(Coordinates<'a>, &'a [u8]), Fault>
+    ensures { Meets (IsCoordinates start deep) deep bytes.now result }
+{
+    let mut counts = start.counts;
+    match coordinates_at(alloc, deep, bytes, start.exact, kind, &mut counts) {
+        Ok((shape, rest)) => {
+            let read = Read {
+                kind,
+                shape: Ok(shape),
+                counts,
+            };
+            Ok((
+                Coordinates {
+                    front: bytes,
+                    read: Some(read),
+                },
+                rest,
+            ))
+        }
+        Err(Stop::Fault(fault)) => {
+            let rest = after_value(alloc, deep, bytes)?;
+            let read = Read {
+                kind,
+                shape: Err(fault),
+                counts,
+            };
+            Ok((
+                Coordinates {
+                    front: bytes,
+                    read: Some(read),
+                },
+                rest,
+            ))
+        }
+        Err(Stop::NoValue) => Err(Fault::Malformed {
+            why: Why::Syntax,
+            left: bytes.len(),
+        }),
+        Err(Stop::Memory) => Err(Fault::Memory),
+    }
+}
+
+/// The value of `coordinates` at the front, which is read where its type is known by now, and what follows it.
+fn coordinates_member<'a>(
+    alloc: Global,
+    deep: u32,
+    start: Start,
+    kind: &Seen<Result<GeoJsonType, GeoFaultKind>>,
+    bytes: &'a [u8],
+) -> Result<(Coordinates<'a>, &'a [u8]), Fault>
+    ensures { Meets (IsCoordinates start deep) deep bytes.now result }
+{
+    if !start.reads {
+        return passed_at(alloc, deep, start, bytes);
+    }
+    match kind {
+        Seen::Once(Ok(GeoJsonType::Geometry(GeometryType::Coordinates(kind)))) => read_at(
+            alloc, deep, start, *kind, bytes,
+        ),
+        _ => passed_at(alloc, deep, start, bytes),
+    }
+}
+
+impl<'a> Parts<'a> {
+    /// Of no members.
+    pub(crate) fn none() -> Parts<'a>
+        ensures { (start : Begun) (deep : ℕ) → IsParts start deep [] result }
+    {
+        Parts {
+            kind: Seen::Never,
+            coordinates: Seen::Never,
+            geometries: Seen::Never,
+        }
+    }
+
+    /// Goes on with one of this name, whose value is at the front.
+    pub(crate) fn see(
+        &mut self,
+        alloc: Global,
+        deep: u32,
+        name: &Name<'a>,
+        value: &'a [u8],
+        start: Start,
+    ) -> Result<&'a [u8], Fault>
+        ensures { Sees (IsParts start deep) deep (name_of name.now) value.now self.old self.new result }
+    {
+        if name.is("type") {
+            let (kind, rest) = type_at(alloc, deep, value)?;
+            self.kind.see(kind);
+            return Ok(rest);
+        }
+        if name.is("coordinates") {
+            let (found, rest) = coordinates_member(alloc, deep, start, &self.kind, value)?;
+            self.coordinates.see(found);
+            return Ok(rest);
+        }
+        let rest = after_value(alloc, deep, value)?;
+        if name.is("geometries") {
+            self.geometries.see(value);
+        }
+        Ok(rest)
+    }
+}
+
+impl Parts<'_> {
+    /// Whether the type stands twice, or the member that a geometry of this type is made of.
+    pub(crate) fn stand_twice(&self, kind: GeometryType) -> bool
+        ensures { result ≡ twice kind self.now }
+    {
+        match kind {
+            GeometryType::Collection => self.kind.is_again() || self.geometries.is_again(),
+            GeometryType::Coordinates(_) => self.kind.is_again() || self.coordinates.is_again(),
+        }
+    }
+}
+
+impl<'a> Members<'a> for Parts<'a> {
+    type With = Start;
+
+    ghost holds = { IsParts };
+
+    fn member(
+        &mut self,
+        alloc: Global,
+        deep: u32,
+        bytes: &'a [u8],
+        with: Start,
+    ) -> Result<&'a [u8], Fault> {
+        let (name, value) = name_at(alloc, bytes)?;
+        self.see(alloc, deep, &name, value, with)
+    }
+}
+
+/// Whether the types are one.
+fn is_same(one: CoordinatesType, other: CoordinatesType) -> bool
+    ensures { result ≡ true → one ≡ other }
+{
+    match one {
+        CoordinatesType::Point => matches!(other, CoordinatesType::Point),
+        CoordinatesType::MultiPoint => matches!(other, CoordinatesType::MultiPoint),
+        CoordinatesType::LineString => matches!(other, CoordinatesType::LineString),
+        CoordinatesType::MultiLineString => matches!(other, CoordinatesType::MultiLineString),
+        CoordinatesType::Polygon => matches!(other, CoordinatesType::Polygon),
+        CoordinatesType::MultiPolygon => matches!(other, CoordinatesType::MultiPolygon),
+    }
+}
+
+/// What was read of the value by this very type, and what was counted then.
+fn taken(
+    read: Option<Read>,
+    kind: CoordinatesType,
+) -> Option<(Result<Option<Shape>, GeoFaultKind>, Counts)>
+    ensures { (start : Begun) (v : Value) → IsRead start v read → IsTaken start kind v result }
+{
+    let Some(
+        Read {
+            kind: by,
+            shape,
+            counts,
+        },
+    ) = read
+    else {
+        return None;
+    };
+    if !is_same(by, kind) {
         return None;
     }
-    Some(Items::of(items))
+    Some((shape, counts))
 }
 
-/// The shape of this type with these elements of `coordinates`.
-#[tactic(auto, unfolding(crate::specs::Geometries::shape_in))]
-fn shape_in(
+/// What the value of `coordinates` is by this type, which is read where its member came before its type.
+fn shape_by(
     alloc: Global,
-    coordinates: CoordinatesType,
-    values: &[Json],
-    exact: bool,
+    deep: u32,
+    kind: CoordinatesType,
+    found: Coordinates<'_>,
+    start: Start,
     counts: &mut Counts,
-) -> Result<Option<Shape>, GeoFaultKind>
-    ensures { Gives (λ x. x) result counts.new (spec.shape_in exact coordinates values.now counts.old) }
+) -> Result<Option<Shape>, Stop<GeoFaultKind>>
+    ensures { (v : Value) → IsCoordinates start deep v found.entry → Judges (coordinates_shape start.exact kind v) start.counts counts.new result }
+{
+    let Coordinates { front, read } = found;
+    match taken(read, kind) {
+        Some((shape, counted)) => {
+            *counts = counted;
+            match shape {
+                Ok(shape) => Ok(shape),
+                Err(fault) => Err(Stop::Fault(fault)),
+            }
+        }
+        None => {
+            *counts = start.counts;
+            match coordinates_at(alloc, deep, front, start.exact, kind, counts) {
+                Err(stop) => Err(stop),
+                Ok((shape, _)) => Ok(shape),
+            }
+        }
+    }
+}
+
+/// What the member `coordinates` is by this type.
+fn coordinates_of(
+    alloc: Global,
+    deep: u32,
+    kind: CoordinatesType,
+    coordinates: Seen<Coordinates<'_>>,
+    start: Start,
+    counts: &mut Counts,
+) -> Result<Option<Shape>, Stop<GeoFaultKind>>
+    ensures { (ms : Listed) → IsSeen (IsCoordinates start deep) (named (codes "coordinates") ms) coordinates.entry
+        → Judges (typed_geometry start.exact (types.Coordinates kind) ms) start.counts counts.new result }
 {
     match coordinates {
-        CoordinatesType::Point => Ok(Some(Shape::Point(elements_position(values, exact, counts)?))),
-        CoordinatesType::MultiPoint => {
-            let positions = positions(alloc, values, exact, counts)?;
-            Ok(some_items(positions).map(Shape::MultiPoint))
-        }
-        CoordinatesType::LineString => {
-            let line = line_in(alloc, values, exact, counts)?;
-            Ok(line.map(Shape::Line))
-        }
-        CoordinatesType::MultiLineString => {
-            let lines = lines(alloc, values, exact, counts)?;
-            Ok(some_items(lines).map(Shape::Lines))
-        }
-        CoordinatesType::Polygon => {
-            let rings = polygon_in(alloc, values, exact, counts)?;
-            Ok(rings.map(Shape::Area))
-        }
-        CoordinatesType::MultiPolygon => {
-            let polygons = polygons(alloc, values, exact, counts)?;
-            Ok(some_items(polygons).map(Shape::Areas))
-        }
+        Seen::Never => Err(Stop::Fault(GeoFaultKind::Missing)),
+        Seen::Again => Err(Stop::Fault(GeoFaultKind::Duplicate)),
+        Seen::Once(found) => shape_by(alloc, deep, kind, found, start, counts),
     }
 }
 
-/// The shape of this type with this value as `coordinates`.
-#[tactic(auto, unfolding(crate::specs::Geometries::coordinates_shape))]
-fn coordinates_shape(
-    alloc: Global,
-    coordinates: CoordinatesType,
-    value: &Json,
-    exact: bool,
-    counts: &mut Counts,
-) -> Result<Option<Shape>, GeoFaultKind>
-    ensures { Gives (λ x. x) result counts.new (spec.coordinates_shape exact coordinates value.now counts.old) }
-{
-    match some_elements(value, counts)? {
-        None => Ok(None),
-        Some(values) => shape_in(alloc, coordinates, values, exact, counts),
-    }
-}
-
-/// The geometry of this type with these members.
+/// What the member `geometries` is.
 #[cycle(geometries)]
-#[tactic(auto, using(crate::proofs::Deeper::deeper), unfolding(crate::specs::Geometries::typed_geometry, crate::specs::Members::need))]
-pub(crate) fn typed_geometry(
+fn group_of(
     alloc: Global,
-    geometry: GeometryType,
-    members: &[(OwnText, Json)],
-    exact: bool,
+    deep: u32,
+    geometries: Seen<&[u8]>,
+    start: Start,
     counts: &mut Counts,
-) -> Result<Option<Shape>, GeoFaultKind>
-    ensures { Gives (λ x. x) result counts.new (spec.typed_geometry exact geometry members.now counts.old) }
+) -> Result<Option<Shape>, Stop<GeoFaultKind>>
+    ensures { (ms : Listed) → IsSeen (IsFront deep) (named (codes "geometries") ms) geometries.entry
+        → Judges (typed_geometry start.exact types.Collection ms) start.counts counts.new result }
 {
-    match geometry {
-        GeometryType::Collection => {
-            let value = need(members, "geometries")?;
-            let group = shapes(alloc, value, exact, counts)?;
-            Ok(Some(Shape::Group(Items::of(group))))
-        }
-        GeometryType::Coordinates(coordinates) => {
-            let value = need(members, "coordinates")?;
-            coordinates_shape(alloc, coordinates, value, exact, counts)
+    match geometries {
+        Seen::Never => Err(Stop::Fault(GeoFaultKind::Missing)),
+        Seen::Again => Err(Stop::Fault(GeoFaultKind::Duplicate)),
+        Seen::Once(front) => {
+            *counts = start.counts;
+            match geometries_at(alloc, deep, front, start.exact, counts) {
+                Err(stop) => Err(stop),
+                Ok((shapes, _)) => Ok(Some(Shape::Group(shapes))),
+            }
         }
     }
 }
 
-/// The geometry with these members.
+/// The geometry of these members.
 #[cycle(geometries)]
-#[tactic(auto, using(crate::proofs::Deeper::deeper), unfolding(crate::specs::Geometries::geometry, crate::specs::Members::type_name))]
-pub(crate) fn geometry(
+pub(crate) fn shape_of(
     alloc: Global,
-    members: &[(OwnText, Json)],
-    exact: bool,
+    deep: u32,
+    parts: Parts<'_>,
+    start: Start,
     counts: &mut Counts,
-) -> Result<Option<Shape>, GeoFaultKind>
-    ensures { Gives (λ x. x) result counts.new (spec.geometry exact members.now counts.old) }
+) -> Result<Option<Shape>, Stop<GeoFaultKind>>
+    ensures { (ms : Listed) → IsParts start deep ms parts.entry → Judges (geometry start.exact ms) start.counts counts.new result }
 {
-    match geometry_type(need_text(members, "type")?) {
-        None => Err(GeoFaultKind::UnknownType),
-        Some(geometry) => typed_geometry(alloc, geometry, members, exact, counts),
+    let Parts {
+        kind,
+        coordinates,
+        geometries,
+    } = parts;
+    match kind {
+        Seen::Never => Err(Stop::Fault(GeoFaultKind::Missing)),
+        Seen::Again => Err(Stop::Fault(GeoFaultKind::Duplicate)),
+        Seen::Once(named) => match named {
+            Err(fault) => Err(Stop::Fault(fault)),
+            Ok(kind) => match kind {
+                GeoJsonType::FeatureCollection => Err(Stop::Fault(GeoFaultKind::UnknownType)),
+                GeoJsonType::Feature => Err(Stop::Fault(GeoFaultKind::UnknownType)),
+                GeoJsonType::Geometry(geometry) => match geometry {
+                    GeometryType::Collection => group_of(alloc, deep, geometries, start, counts),
+                    GeometryType::Coordinates(kind) => {
+                        coordinates_of(alloc, deep, kind, coordinates, start, counts)
+                    }
+                },
+            },
+        },
     }
 }
 
-/// The geometries of a collection in order. Those that are null are left out.
+/// The geometry at the front (RFC 7946, section 3.1), which is none where nothing is left of it, and what follows it; or why reading
+/// stops. Its members may stand in any order.
 #[cycle(geometries)]
-#[tactic(auto, using(crate::proofs::Deeper::deeper))]
-fn shapes(
+pub fn geometry_at<'a>(
     alloc: Global,
-    value: &Json,
+    deep: u32,
+    bytes: &'a [u8],
     exact: bool,
     counts: &mut Counts,
-) -> Result<Vec<Shape>, GeoFaultKind>
-    ensures { Gives (λ xs. xs.items) result counts.new (spec.shapes exact value.now counts.old) }
+) -> Result<(Option<Shape>, &'a [u8]), Stop<GeoFaultKind>>
+    ensures { Answers (λ x. x) (shape exact) (front_value deep bytes.now) counts.old counts.new result }
 {
-    let Some(values) = value.as_array() else {
-        return Err(GeoFaultKind::WrongKind);
+    match led_at(alloc, deep, bytes)? {
+        None => any_geometry_at(alloc, deep, bytes, exact, counts),
+        Some((kind, front)) => { led_geometry_at(alloc, deep, kind, front, bytes, exact, counts) }
+    }
+}
+
+/// The same by its members, one after another. A member that is made of geometries is passed over first.
+#[cycle(geometries)]
+fn any_geometry_at<'a>(
+    alloc: Global,
+    deep: u32,
+    bytes: &'a [u8],
+    exact: bool,
+    counts: &mut Counts,
+) -> Result<(Option<Shape>, &'a [u8]), Stop<GeoFaultKind>>
+    ensures { Answers (λ x. x) (shape exact) (front_value deep bytes.now) counts.old counts.new result }
+{
+    let start = Start {
+        exact,
+        counts: *counts,
+        reads: true,
     };
-    let mut read = Vec::with_capacity(alloc, values.len())?;
-    'values: for value in values {
-        let Some(members) = value.as_object() else {
-            return Err(GeoFaultKind::WrongKind);
-        };
-        let Some(shape) = geometry(alloc, members, exact, counts)? else {
-            continue;
-        };
-        read.push(shape)?;
+    let mut parts = Parts::none();
+    let Some(rest) = object_into::<Parts<'a>>(alloc, deep, &mut parts, bytes, start)? else {
+        return Err(Stop::Fault(GeoFaultKind::WrongKind));
+    };
+    match shape_of(alloc, deep - 1, parts, start, counts) {
+        Err(stop) => Err(stop),
+        Ok(shape) => Ok((shape, rest)),
     }
-    Ok(read)
+}
+
+/// The same where its type and the member that it is made of stand first: that member is read once, and those behind it are passed over.
+#[cycle(geometries)]
+fn led_geometry_at<'a>(
+    alloc: Global,
+    deep: u32,
+    kind: GeometryType,
+    front: &'a [u8],
+    bytes: &'a [u8],
+    exact: bool,
+    counts: &mut Counts,
+) -> Result<(Option<Shape>, &'a [u8]), Stop<GeoFaultKind>>
+    requires deep { 0 < deep }
+    requires begins { BeginsGeometry kind deep bytes.now front.now }
+    requires leads { LeadsGeometry kind deep bytes.now front.now }
+    ensures { Answers (λ x. x) (shape exact) (front_value deep bytes.now) counts.old counts.new result }
+{
+    match part_at(alloc, deep - 1, kind, front, exact, counts) {
+        Err(Stop::Memory) => Err(Stop::Memory),
+        Err(Stop::NoValue) => Err(Stop::NoValue),
+        Err(Stop::Fault(fault)) => {
+            let found = twice_at(alloc, deep, kind, bytes)?;
+            match found {
+                None => Err(Stop::Fault(GeoFaultKind::WrongKind)),
+                Some((twice, _)) => Err(Stop::Fault(first_fault(twice, fault))),
+            }
+        }
+        Ok((shape, after)) => {
+            if let Some(rest) = behind_byte(b'}', skip(after)) {
+                return Ok((shape, rest));
+            }
+            let met = twice_at(alloc, deep, kind, bytes)?;
+            match met {
+                None => Err(Stop::Fault(GeoFaultKind::WrongKind)),
+                Some((twice, rest)) => {
+                    if twice {
+                        return Err(Stop::Fault(GeoFaultKind::Duplicate));
+                    }
+                    Ok((shape, rest))
+                }
+            }
+        }
+    }
+}
+
+/// The shape of this type that the value at the front gives as the member that a geometry of this type is made of, and what follows it.
+#[cycle(geometries)]
+fn part_at<'a>(
+    alloc: Global,
+    deep: u32,
+    kind: GeometryType,
+    bytes: &'a [u8],
+    exact: bool,
+    counts: &mut Counts,
+) -> Result<(Option<Shape>, &'a [u8]), Stop<GeoFaultKind>>
+    ensures { Answers (λ x. x) (part exact kind) (front_value deep bytes.now) counts.old counts.new result }
+{
+    match kind {
+        GeometryType::Coordinates(kind) => coordinates_at(alloc, deep, bytes, exact, kind, counts),
+        GeometryType::Collection => match geometries_at(alloc, deep, bytes, exact, counts) {
+            Err(stop) => Err(stop),
+            Ok((shapes, rest)) => Ok((Some(Shape::Group(shapes)), rest)),
+        },
+    }
+}
+
+/// Puts one behind the others, if there is one.
+fn push_some(read: &mut Vec<Shape>, one: Option<Shape>) -> Result<(), AllocFailed<Shape>>
+    ensures { OnOk result (read.new.items ≡ read.old.items ++ option_to_list one) }
+{
+    match one {
+        None => Ok(()),
+        Some(one) => {
+            read.push(one)?;
+            Ok(())
+        }
+    }
+}
+
+/// The geometries behind the bracket of an array, one or more, without those of which nothing is left, and what follows it.
+#[cycle(geometries)]
+fn geometries_behind<'a>(
+    alloc: Global,
+    deep: u32,
+    inside: &'a [u8],
+    exact: bool,
+    counts: &mut Counts,
+) -> Result<(Vec<Shape>, &'a [u8]), Stop<GeoFaultKind>>
+    ensures { Answers (λ v. v.items) (kept (shape exact)) (front_elements deep (length inside.now) inside.now) counts.old counts.new result }
+{
+    let mut read = Vec::new(alloc);
+    let mut rest = inside;
+    'geometries: for _ in 0..inside.len() {
+        match geometry_at(alloc, deep, skip(rest), exact, counts) {
+            Err(stop) => return Err(stop),
+            Ok((one, behind)) => {
+                push_some(&mut read, one)?;
+                let (mark, more) = mark_at(behind);
+                match mark {
+                    Mark::Neither => return Err(Stop::NoValue),
+                    Mark::Close => return Ok((read, more)),
+                    Mark::Comma => {}
+                }
+                rest = more;
+            }
+        }
+    }
+    Err(Stop::NoValue)
+}
+
+/// The geometries of the array at the front, without those of which nothing is left, and what follows it; or why reading stops.
+#[cycle(geometries)]
+fn geometries_at<'a>(
+    alloc: Global,
+    deep: u32,
+    bytes: &'a [u8],
+    exact: bool,
+    counts: &mut Counts,
+) -> Result<(Items<Shape>, &'a [u8]), Stop<GeoFaultKind>>
+    ensures { Answers (λ x. x) (shapes exact) (front_value deep bytes.now) counts.old counts.new result }
+{
+    let Some(inside) = behind_byte(b'[', bytes) else {
+        return Err(Stop::Fault(GeoFaultKind::WrongKind));
+    };
+    if deep == 0 {
+        return Err(Stop::NoValue);
+    }
+    if let Some(rest) = behind_byte(b']', skip(inside)) {
+        return Ok((Items::of(Vec::new(alloc)), rest));
+    }
+    match geometries_behind(alloc, deep - 1, inside, exact, counts) {
+        Err(stop) => Err(stop),
+        Ok((read, rest)) => Ok((Items::of(read), rest)),
+    }
 }

@@ -1,30 +1,31 @@
-//! GeoJSON layers (RFC 7946): the reader that makes a layer of a JSON value. It stands on `geojson_types` for what
-//! layers are made of, which it passes on with the writer of `geojson_writer`, on `json_value` for the values and on
-//! `decimal_text` for coordinates. The layer above uses the contract of `read_layer`: what it answers is what the
-//! definition `layer` of `specs/Layers.antt` gives.
+//! The reader of layers (RFC 7946) straight from bytes, whatever their form and whatever their faults: members in any order, names with
+//! escapes, collections at any depth. What stands at the front is read as the definitions of `geojson_meaning` say, or has the fault that they
+//! say comes first. It stands on `json_cursor`, whose `Answers` each contract is. A layer above calls `read_layer_text`; what has a JSON
+//! value calls `read_layer`. What layers are made of is passed on.
 #![tactic(auto)]
 
 mod coordinates;
-mod fault;
 mod features;
 mod geometries;
-mod laws;
+mod layers;
+mod leading;
 mod lines;
-mod polygons;
-mod reading;
-mod types;
+mod positions;
+mod seen;
+mod shapes;
+mod texts;
+mod values;
 
-pub use coordinates::position;
-pub use fault::{GeoFault, GeoFaultKind};
-pub use features::{feature_element, identifier, members_if};
-pub use geojson_types::{
-    Address, Cause, Counts, Dropped, Feature, FeatureSet, Geometry, INPUT_LIMIT, Id, Layer, PLACES,
-    POSITION_LIMIT, Position, Properties, PropertiesForm, Ring, Shape, is_closed,
+pub use features::feature_at;
+pub use geojson_meaning::{
+    Address, Cause, CoordinatesType, Counts, Dropped, Feature, FeatureSet, GeoFault, GeoFaultKind,
+    GeoJsonType, Geometry, GeometryType, INPUT_LIMIT, Id, Layer, PLACES, POSITION_LIMIT, Position,
+    Properties, PropertiesForm, Ring, Shape, exact_is_stricter, features_text_spells_value,
+    geojson_type, geometry_type, inputs_alone, is_closed, nothing_deeper, numbers_stay,
+    put_features, rings_close, shapes_are_proper, texts_stay, write_features,
 };
-pub use geojson_writer::{features_text_spells_value, put_features, write_features};
-pub use laws::{
-    exact_is_stricter, inputs_alone, nothing_deeper, numbers_stay, rings_close, shapes_are_proper,
-    texts_stay,
-};
-pub use reading::{read_layer, read_shape};
-pub use types::{CoordinatesType, GeoJsonType, GeometryType, geojson_type, geometry_type};
+pub use geometries::geometry_at;
+pub use layers::layer_at;
+pub use shapes::coordinates_at;
+pub use texts::read_layer_text;
+pub use values::read_layer;

@@ -1,82 +1,165 @@
-// Reading lines.
+// Lines, rings and polygons.
 ghost use Rattle.std.specs.Prelude.{◌≡◌};
-ghost use Rattle.std.specs.Option.{option_copied};
-ghost use Rattle.geojson_model.specs.Answers.{Gives};
-ghost use Rattle.geojson_model.specs.Lines as spec;
-ghost use Rattle.geojson_model.specs.Reader.{kept};
+ghost use Rattle.geojson_meaning.specs.Lines.{line};
+ghost use Rattle.geojson_meaning.specs.Polygons.{polygon, ring};
+ghost use Rattle.json_cursor.specs.Answers.{Answers};
+ghost use Rattle.json_cursor.specs.Arrays.{front_value};
+ghost use Rattle.json_cursor.specs.Folds.{some_one};
 
-use crate::coordinates::positions;
-use crate::fault::GeoFaultKind;
-use geojson_types::{Counts, Position};
-use json_value::{Items, Json};
+use crate::positions::Positions;
+use geojson_meaning::GeoFaultKind;
+use geojson_types::{Counts, Position, Ring, is_closed};
+use json_cursor::{Element, Stop, led_array_at, some_array_at};
+use json_value::Items;
 use std::alloc::Global;
 
-/// The elements of an array. An empty one is counted, and gives nothing.
-#[tactic(auto, unfolding(crate::specs::Lines::some_elements))]
-pub(crate) fn some_elements<'a>(
-    value: &'a Json,
+/// The line at the front (RFC 7946, section 3.1.4), if its array isn't empty, and what follows it; or why reading stops.
+pub(crate) fn line_at<'a>(
+    alloc: Global,
+    deep: u32,
+    bytes: &'a [u8],
+    exact: bool,
     counts: &mut Counts,
-) -> Result<Option<&'a [Json]>, GeoFaultKind>
-    ensures { Gives option_copied result counts.new (spec.some_elements value.now counts.old) }
+) -> Result<(Option<Items<Position>>, &'a [u8]), Stop<GeoFaultKind>>
+    ensures { Answers (λ x. x) (line exact) (front_value deep bytes.now) counts.old counts.new result }
 {
-    match value.as_array() {
-        None => Err(GeoFaultKind::WrongKind),
-        Some([]) => {
-            counts.count_empty();
-            Ok(None)
+    let wrong = GeoFaultKind::WrongKind;
+    match some_array_at::<Positions>(alloc, deep, bytes, wrong, Positions { exact }, counts) {
+        Err(stop) => Err(stop),
+        Ok((read, rest)) => {
+            let Some(positions) = read else {
+                return Ok((None, rest));
+            };
+            if positions.len() < 2 {
+                return Err(Stop::Fault(GeoFaultKind::ShortLine));
+            }
+            Ok((Some(positions), rest))
         }
-        Some(values) => Ok(Some(values)),
     }
 }
 
-/// The line with these positions.
-#[tactic(auto, unfolding(crate::specs::Lines::line_in))]
-pub(crate) fn line_in(
+/// The linear ring at the front (RFC 7946, section 3.1.6), if its array isn't empty, and what follows it; or why reading stops.
+#[tactic(auto, unfolding(geometry::specs::Rings::is_ring))]
+pub(crate) fn ring_at<'a>(
     alloc: Global,
-    values: &[Json],
+    deep: u32,
+    bytes: &'a [u8],
     exact: bool,
     counts: &mut Counts,
-) -> Result<Option<Items<Position>>, GeoFaultKind>
-    ensures { Gives (λ x. x) result counts.new (spec.line_in exact values.now counts.old) }
+) -> Result<(Option<Ring>, &'a [u8]), Stop<GeoFaultKind>>
+    ensures { Answers (λ x. x) (ring exact) (front_value deep bytes.now) counts.old counts.new result }
 {
-    let positions = positions(alloc, values, exact, counts)?;
-    if positions.len() < 2 {
-        return Err(GeoFaultKind::ShortLine);
-    }
-    Ok(Some(Items::of(positions)))
-}
-
-/// A line, if its array isn't empty.
-#[tactic(auto, unfolding(crate::specs::Lines::line))]
-fn line(
-    alloc: Global,
-    value: &Json,
-    exact: bool,
-    counts: &mut Counts,
-) -> Result<Option<Items<Position>>, GeoFaultKind>
-    ensures { Gives (λ x. x) result counts.new (spec.line exact value.now counts.old) }
-{
-    match some_elements(value, counts)? {
-        None => Ok(None),
-        Some(values) => line_in(alloc, values, exact, counts),
+    let wrong = GeoFaultKind::WrongKind;
+    match some_array_at::<Positions>(alloc, deep, bytes, wrong, Positions { exact }, counts) {
+        Err(stop) => Err(stop),
+        Ok((read, rest)) => {
+            let Some(items) = read else {
+                return Ok((None, rest));
+            };
+            let positions = items.into_inner();
+            if positions.len() < 4 {
+                return Err(Stop::Fault(GeoFaultKind::ShortRing));
+            }
+            if !is_closed(&positions) {
+                return Err(Stop::Fault(GeoFaultKind::OpenRing));
+            }
+            Ok((Some(Ring::of(positions)), rest))
+        }
     }
 }
 
-/// Lines in order. Those with an empty array are left out.
-pub(crate) fn lines(
+/// How the lines of an array are read.
+#[derive(Clone, Copy)]
+pub(crate) struct Lines {
+    pub exact: bool,
+}
+
+impl Element for Lines {
+    type Read = Items<Position>;
+
+    type Fault = GeoFaultKind;
+
+    ghost reads = { λ r. some_one (line r.exact) };
+
+    fn read<'a>(
+        self,
+        alloc: Global,
+        deep: u32,
+        bytes: &'a [u8],
+        counts: &mut Counts,
+    ) -> Result<(Option<Items<Position>>, &'a [u8]), Stop<GeoFaultKind>> {
+        match line_at(alloc, deep, bytes, self.exact, counts) {
+            Ok((line, rest)) => Ok((line, rest)),
+            Err(stop) => Err(stop),
+        }
+    }
+}
+
+/// How the rings of a polygon are read.
+#[derive(Clone, Copy)]
+pub(crate) struct Rings {
+    pub exact: bool,
+}
+
+impl Element for Rings {
+    type Read = Ring;
+
+    type Fault = GeoFaultKind;
+
+    ghost reads = { λ r. some_one (ring r.exact) };
+
+    fn read<'a>(
+        self,
+        alloc: Global,
+        deep: u32,
+        bytes: &'a [u8],
+        counts: &mut Counts,
+    ) -> Result<(Option<Ring>, &'a [u8]), Stop<GeoFaultKind>> {
+        match ring_at(alloc, deep, bytes, self.exact, counts) {
+            Ok((ring, rest)) => Ok((ring, rest)),
+            Err(stop) => Err(stop),
+        }
+    }
+}
+
+/// The rings of the polygon at the front, the outer one first, if its array isn't empty and its outer ring isn't left out, and what
+/// follows it; or why reading stops.
+pub(crate) fn polygon_at<'a>(
     alloc: Global,
-    values: &[Json],
+    deep: u32,
+    bytes: &'a [u8],
     exact: bool,
     counts: &mut Counts,
-) -> Result<Vec<Items<Position>>, GeoFaultKind>
-    ensures { Gives (λ ls. ls.items) result counts.new (kept (spec.line exact) values.now counts.old) }
+) -> Result<(Option<Items<Ring>>, &'a [u8]), Stop<GeoFaultKind>>
+    ensures { Answers (λ x. x) (polygon exact) (front_value deep bytes.now) counts.old counts.new result }
 {
-    let mut read = Vec::with_capacity(alloc, values.len())?;
-    'values: for value in values {
-        let Some(line) = line(alloc, value, exact, counts)? else {
-            continue;
-        };
-        read.push(line)?;
+    let wrong = GeoFaultKind::WrongKind;
+    led_array_at::<Rings>(alloc, deep, bytes, wrong, Rings { exact }, counts)
+}
+
+/// How the polygons of an array are read.
+#[derive(Clone, Copy)]
+pub(crate) struct Polygons {
+    pub exact: bool,
+}
+
+impl Element for Polygons {
+    type Read = Items<Ring>;
+
+    type Fault = GeoFaultKind;
+
+    ghost reads = { λ r. some_one (polygon r.exact) };
+
+    fn read<'a>(
+        self,
+        alloc: Global,
+        deep: u32,
+        bytes: &'a [u8],
+        counts: &mut Counts,
+    ) -> Result<(Option<Items<Ring>>, &'a [u8]), Stop<GeoFaultKind>> {
+        match polygon_at(alloc, deep, bytes, self.exact, counts) {
+            Ok((rings, rest)) => Ok((rings, rest)),
+            Err(stop) => Err(stop),
+        }
     }
-    Ok(read)
 }

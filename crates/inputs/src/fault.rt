@@ -1,6 +1,6 @@
 // Why a topology couldn't be built.
 use byte_ends::{Memory, ReadFault, WriteFault};
-use geojson_model::GeoFault;
+use geojson_meaning::GeoFault;
 use json_reading::JsonFault;
 use std::alloc::AllocFailed;
 use thiserror::Error;

@@ -5,8 +5,8 @@ use Rattle.json_reading.specs.declared.fault.JsonFault.{JsonFault}
 use Rattle.json_value.specs.declared.json.Json.{Json}
 use Rattle.geojson_types.specs.declared.counts.Counts.{Counts}
 use Rattle.geojson_types.specs.Features.{Featured}
-use Rattle.geojson_model.specs.declared.fault.GeoFault.{GeoFault}
-use Rattle.geojson_model.specs.Layers.{layer}
+use Rattle.geojson_meaning.specs.declared.fault.GeoFault.{GeoFault}
+use Rattle.geojson_meaning.specs.Layers.{layer}
 use Rattle.inputs.specs.declared.fault.BuildFault.{BuildFault}
 use Rattle.inputs.specs.declared.fault.BuildFault.TheVariants.{EmptyName, DuplicateName, Read, Json as Text, Geo, Write, Memory}
 use Rattle.inputs.specs.Texts.{BytesComeTo, plain_text_fault}

@@ -6,8 +6,8 @@ use Rattle.json_value.specs.Grammar.{Reads}
 use Rattle.geojson_types.specs.declared.counts.Counts.{Counts}
 use Rattle.geojson_types.specs.declared.layer.Layer.{Layer}
 use Rattle.geojson_types.specs.Features.{Featured}
-use Rattle.geojson_model.specs.declared.fault.GeoFaultKind.TheVariants as geo
-use Rattle.geojson_model.specs.Layers.{layer}
+use Rattle.geojson_meaning.specs.declared.fault.GeoFaultKind.TheVariants as geo
+use Rattle.geojson_meaning.specs.Layers.{layer}
 use Rattle.inputs.specs.declared.fault.BuildFault.{BuildFault}
 use Rattle.inputs.specs.declared.fault.BuildFault.TheVariants.{EmptyName, DuplicateName, Read, Json as Text, Geo, Write, Memory}
 use Rattle.inputs.specs.Texts.{IsNoText, IsRead, IsUntroubled, FailsToEnd}

@@ -4,8 +4,8 @@ ghost use Rattle.layer_sources.specs.Reading.{IsLayerOf, ReadsLayer};
 ghost use Rattle.layer_sources.specs.Sources.{plus, AllReadTo, FailsToReadAll};
 
 use byte_ends::{Feed, MAX_INPUT, ReadFault, Source, read_all};
-use geojson_model::{Counts, GeoFaultKind, Layer};
-use geojson_reader::read_layer_text;
+use geojson_meaning::{Counts, GeoFaultKind, Layer};
+use geojson_model::read_layer_text;
 use inputs::BuildFault;
 use json_cursor::Refusal;
 use json_reading::JsonFault;

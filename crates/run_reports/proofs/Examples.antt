@@ -2,8 +2,8 @@
 use Rattle.std.proofs.Common.{◌≡◌, [], ◌∷◌, Bor, Some, None, refl}
 use Rattle.std.specs.Prelude.{codes}
 use Rattle.std.specs.Fmt.{digits}
-use Rattle.geojson_model.specs.Faults.{code, name}
-use Rattle.geojson_model.specs.declared.fault.GeoFaultKind.TheVariants.{OpenRing}
+use Rattle.geojson_meaning.specs.Faults.{code, name}
+use Rattle.geojson_meaning.specs.declared.fault.GeoFaultKind.TheVariants.{OpenRing}
 use Rattle.geometry.specs.declared.address.Cause.TheVariants.{Small}
 use Rattle.geometry.specs.declared.address.Dropped.{Dropped}
 use Rattle.inputs.specs.declared.fault.BuildFault.{BuildFault}

@@ -4,7 +4,7 @@ use Rattle.byte_ends.specs.declared.source.ReadFault.{ReadFault}
 use Rattle.byte_ends.specs.declared.source.ReadFault.TheVariants as read
 use Rattle.json_reading.specs.declared.fault.JsonFault.{JsonFault}
 use Rattle.json_reading.specs.declared.fault.JsonFault.TheVariants as json
-use Rattle.geojson_model.specs.Faults as geo
+use Rattle.geojson_meaning.specs.Faults as geo
 use Rattle.topojson_meaning.specs.Faults as topo
 use Rattle.inputs.specs.declared.fault.BuildFault.{BuildFault}
 use Rattle.inputs.specs.declared.fault.BuildFault.TheVariants as build

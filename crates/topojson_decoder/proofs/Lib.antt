@@ -1,2 +1,1 @@
-pub mod ReadableParts
 pub mod ReadingParts

@@ -3,7 +3,6 @@
 //! from `topojson_walk`, and the types of `topojson_types`.
 #![tactic(auto)]
 
-mod readable;
 mod reading;
 
 pub use reading::read_topology;

@@ -3,14 +3,13 @@ ghost use Rattle.std.specs.Prelude.{◌≡◌, ◌≢◌, Ok, Err, IfOk, IfErr};
 ghost use Rattle.topojson_meaning.specs.Topologies as spec;
 ghost use Rattle.topojson_meaning.specs.declared.fault.TopoFault.TheVariants.{Memory};
 
-use crate::readable::is_readable;
+use decimal_json::value_text;
 use geojson_types::Counts;
 use json_cursor::Stop;
-use json_reading::written_text_is_read;
 use json_value::Json;
 use std::alloc::Global;
 use topojson_meaning::TopoFault;
-use topojson_reader::{topology_at, topology_of, written};
+use topojson_reader::{topology_at, topology_of};
 use topojson_types::Topology;
 
 /// The topology that a JSON value stands for (TopoJSON 1.0, section 2.1), with what was counted, or the first fault on the way through
@@ -21,11 +20,7 @@ pub fn read_topology(alloc: Global, value: Json) -> Result<(Topology, Counts), T
     ensures topology { IfOk result (λ r. spec.topology value ≡ Ok (r.0, r.1)) }
     ensures fault { IfErr result (λ e. e ≢ Memory → spec.topology value ≡ Err e) }
 {
-    if !is_readable(u32::MAX, &value) {
-        return Err(TopoFault::Memory);
-    }
-    let text = written(alloc, &value)?;
-    written_text_is_read();
+    let text = value_text(alloc, &value)?;
     let mut counts = Counts::none();
     match topology_at(alloc, u32::MAX, &text, &mut counts) {
         Ok((parts, _)) => Ok((topology_of(parts), counts)),

@@ -1,6 +1,6 @@
 //! The reader of topologies (TopoJSON 1.0) straight from bytes, whatever their form and whatever their faults. It stands on `json_cursor`,
 //! whose `Answers` says what a reader answers of the bytes, and on `topojson_meaning`, which says what a value stands for. A layer above calls
-//! `read_text`. What has a value reads it by way of its text (`written`), by the reader of what it is to be.
+//! `read_text`. What has a value reads it by way of its text, by the reader of what it is to be.
 #![tactic(auto)]
 
 mod arcs;
@@ -24,7 +24,6 @@ mod texts;
 mod topologies;
 mod transforms;
 mod types;
-mod values;
 
 pub use arcs::{arc_at, arcs_at};
 pub use areas::polygon_at;
@@ -38,4 +37,3 @@ pub use strokes::stroke_at;
 pub use texts::{Refusal, read_text, topology_of};
 pub use topologies::{Parts, topology_at};
 pub use transforms::transform_at;
-pub use values::written;

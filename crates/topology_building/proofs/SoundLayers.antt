@@ -15,7 +15,7 @@ use Rattle.geojson_types.specs.Places.{option_points, features_points}
 use Rattle.geometry.specs.Points.{Point, IsInput, IsPosition}
 use Rattle.geometry.specs.Pruning.{option_strokes}
 use Rattle.geometry.specs.Units.{threshold_limit}
-use Rattle.geojson_model.specs.Laws.{RingCloses}
+use Rattle.geojson_meaning.specs.Laws.{RingCloses}
 use Rattle.list_laws.proofs.Elements.{all_append, all_left, all_right, all_weaker}
 use Rattle.build_meaning.specs.Laws.{IsSound, AreSound}
 use Rattle.build_meaning.specs.Layers.{names_of}

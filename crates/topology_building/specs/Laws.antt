@@ -2,7 +2,7 @@
 use Rattle.std.specs.Prelude.{ℕ, ◌≤◌, List, IsUtf8}
 use Rattle.build_meaning.specs.Layers.{names_of}
 use Rattle.geojson_types.specs.declared.counts.Counts.{Counts}
-use Rattle.geojson_model.specs.Laws.{ShapesAreProper, InputsAlone, RingsClose, NothingDeeper, NumbersStay, TextsStay}
+use Rattle.geojson_meaning.specs.Laws.{ShapesAreProper, InputsAlone, RingsClose, NothingDeeper, NumbersStay, TextsStay}
 use Rattle.json_value.specs.declared.json.Json.{Json}
 use Rattle.json_value.specs.Depth.{depth}
 use Rattle.json_value.specs.Grammar.{Reads}

@@ -1,7 +1,7 @@
 // A law of the definitions. A function here does nothing: its contract is the law.
 ghost use Rattle.topology_building.specs.Laws.{LayerLaws, ReadAreTaken};
 
-use geojson_model::{
+use geojson_meaning::{
     inputs_alone, nothing_deeper, numbers_stay, rings_close, shapes_are_proper, texts_stay,
 };
 use json_value::{read_values_are_bounded, read_values_are_well_formed};

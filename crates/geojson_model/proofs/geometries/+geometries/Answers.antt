@@ -1,28 +1,173 @@
-use Rattle.std.proofs.Common.{ap}
-use Rattle.std.proofs.lemmas.Result.{err_from_is_err_and}
-use Rattle.geojson_model.proofs.Collecting as k
-use Rattle.geojson_model.proofs.Unrolled as u
+use Rattle.std.proofs.Common.{[], ◌-◌, List, length, refl, subst, sym, ◌∙◌}
+use Rattle.geojson_types.specs.Features.{Shape}
+use Rattle.json_cursor.specs.Answers.{Reads}
+use Rattle.std.specs.Str.{is_utf8}
+use Rattle.json_value.specs.Reading.{value_at}
+use Rattle.json_cursor.specs.Arrays.{front_elements, front_value}
+use Rattle.json_cursor.specs.Folds.{fold, some_one, with_read}
+use Rattle.json_cursor.proofs.ArrayParts.{as_list, same_reads, same_stops}
+use Rattle.json_cursor.proofs.FoldedSoFar as so_far
+use Rattle.json_cursor.proofs.Openings.{is_empty, is_filled, is_no_array, too_deep}
+use Rattle.geojson_meaning.specs.Geometries.{geometry, shape, shapes, typed_geometry}
+use Rattle.geojson_meaning.specs.Reader.{kept}
+use Rattle.geojson_meaning.specs.declared.types.GeoJsonType.TheVariants.{Feature, FeatureCollection}
+use Rattle.geojson_meaning.specs.declared.types.GeometryType.TheVariants as types
+use Rattle.geojson_model.proofs.UsualGeometries.{is_usual, led_faulty, led_nothing, led_read, led_twice, one_byte}
+use Rattle.geojson_model.proofs.GeometryParts as part
+use Rattle.geojson_model.proofs.SeenMembers.{judged, judged_read}
 use Rattle.geojson_model.proofs.geometries.+geometries.Goals as goal
 
-pub shapes-returns-in_default : goal.shapes-returns-in_default
-shapes-returns-in_default t c = λ n. ap (λ r. r c.args.counts.now) (u.shapes_other c.args.exact _ c.in_default.ensures)
+pub group_of-returns-in-Never : goal.group_of-returns-in-Never
+group_of-returns-in-Never t c = λ ms seen. part.no_geometries c.args.start.exact ms c.args.start.counts (rw c.in-Never.is at seen)
 
-pub shapes-returns-in_default-as_object : goal.shapes-returns-in_default-as_object
-shapes-returns-in_default-as_object t c = λ n. k.not_object c.args.exact _ _ c.in-Some.ensures _ _ _ _ _ c.values-test.true c.value-item.is c.values.invariant c.in_default-as_object.ensures
+pub group_of-returns-in-Again : goal.group_of-returns-in-Again
+group_of-returns-in-Again t c = λ ms seen.
+    let s = rw c.in-Again.is at seen in
+    part.more_geometries c.args.start.exact ms c.args.start.counts s.0 s.1 s.2 s.3
 
-pub shapes-returns-in_err-shape : goal.shapes-returns-in_err-shape
-shapes-returns-in_err-shape t c =
-    let p = err_from_is_err_and c.from_residual-in_err-shape.result c.from_residual-in_err-shape.ensures.1 in
-    rw (p.1, p.2) (λ n. k.shape_fails c.args.exact _ _ c.in-Some.ensures _ _ _ _ _ c.values-test.true c.value-item.is c.values.invariant _ c.in-Some-as_object.ensures _ (c.in_err-shape.ensures n))
+pub group_of-returns-in-Err : goal.group_of-returns-in-Err
+group_of-returns-in-Err t c = λ ms seen.
+    let s = rw c.in-Once.is at seen in
+    part.judged_group c.args.start.exact ms c.args.start.counts s.0 s.1 c.geometries_at.new.counts c.in-Err.stop
+    (judged (shapes c.args.start.exact) (front_value c.args.deep c.in-Once.front.now) s.0 s.2.0 c.args.start.counts c.geometries_at.new.counts s.2.1 c.in-Err.stop c.in-Err.ensures)
 
-pub shapes-values-preserved-in_default-2 : goal.shapes-values-preserved-in_default-2
-shapes-values-preserved-in_default-2 t c = k.shape_skipped c.args.exact _ _ c.in-Some.ensures _ _ _ _ _ c.values-test.true c.value-item.is c.values.invariant _ c.in-Some-as_object.ensures _ (rw c.in_default-2.is at c.in_ok-shape.ensures)
+pub group_of-returns-in-Ok : goal.group_of-returns-in-Ok
+group_of-returns-in-Ok t c = λ ms seen.
+    let s = rw c.in-Once.is at seen in
+    part.grouped c.args.start.exact ms c.args.start.counts s.0 s.1 _ c.geometries_at.new.counts
+    (judged_read (shapes c.args.start.exact) (front_value c.args.deep c.in-Once.front.now) s.0 s.2.0 c.args.start.counts c.geometries_at.new.counts s.2.1 _ _ c.in-Ok.ensures)
 
-pub shapes-values-preserved : goal.shapes-values-preserved
-shapes-values-preserved t c = rw c.in_ok-push.ensures.items (k.shape_kept c.args.exact _ _ c.in-Some.ensures _ _ _ _ _ c.values-test.true c.value-item.is c.values.invariant _ c.in-Some-as_object.ensures _ _ (rw c.in-Some-2.is at c.in_ok-shape.ensures))
+pub shape_of-returns-in-Never : goal.shape_of-returns-in-Never
+shape_of-returns-in-Never t c = λ ms is. part.no_type c.args.start.exact ms c.args.start.counts (rw c.in-Never.is at is.kind)
 
-pub shapes-returns : goal.shapes-returns
-shapes-returns t c = k.shapes_end c.args.exact _ _ c.in-Some.ensures _ _ _ _ c.values-test.false c.values.invariant
+pub shape_of-returns-in-Again : goal.shape_of-returns-in-Again
+shape_of-returns-in-Again t c = λ ms is.
+    let s = rw c.in-Again.is at is.kind in
+    part.more_types c.args.start.exact ms c.args.start.counts s.0 s.1 s.2 s.3
 
-pub typed_geometry-returns-in_ok-value-in-Coordinates : goal.typed_geometry-returns-in_ok-value-in-Coordinates
-typed_geometry-returns-in_ok-value-in-Coordinates t c = rw (c.in-Coordinates.is, k.coordinates_are c.args.exact c.in-Coordinates.coordinates c.args.members.now _ c.args.counts.now c.in_ok-value-in-Coordinates.ensures) c.coordinates_shape.ensures
+pub shape_of-returns-in-Err : goal.shape_of-returns-in-Err
+shape_of-returns-in-Err t c = λ ms is.
+    let s = rw c.in-Once.is at is.kind in
+    part.faulty_type c.args.start.exact ms c.args.start.counts s.0 s.1 c.in-Err.fault (rw c.in-Err.is at s.2)
+
+pub shape_of-returns-in-FeatureCollection : goal.shape_of-returns-in-FeatureCollection
+shape_of-returns-in-FeatureCollection t c = λ ms is.
+    let s = rw c.in-Once.is at is.kind in
+    part.other_type c.args.start.exact ms c.args.start.counts s.0 s.1 FeatureCollection (rw c.in-FeatureCollection.is at (rw c.in-Ok.is at s.2)) refl
+
+pub shape_of-returns-in-Feature : goal.shape_of-returns-in-Feature
+shape_of-returns-in-Feature t c = λ ms is.
+    let s = rw c.in-Once.is at is.kind in
+    part.other_type c.args.start.exact ms c.args.start.counts s.0 s.1 Feature (rw c.in-Feature.is at (rw c.in-Ok.is at s.2)) refl
+
+pub shape_of-returns-in-Collection : goal.shape_of-returns-in-Collection
+shape_of-returns-in-Collection t c = λ ms is.
+    let s = rw c.in-Once.is at is.kind in
+    part.judges_same (geometry c.args.start.exact ms) (typed_geometry c.args.start.exact types.Collection ms) c.args.start.counts _
+    (part.known_type c.args.start.exact ms c.args.start.counts s.0 s.1 types.Collection (rw c.in-Collection.is at (rw c.in-Geometry.is at (rw c.in-Ok.is at s.2)))) c.group_of.result (c.group_of.ensures ms is.geometries)
+
+pub shape_of-returns-in-Coordinates : goal.shape_of-returns-in-Coordinates
+shape_of-returns-in-Coordinates t c = λ ms is.
+    let s = rw c.in-Once.is at is.kind in
+    part.judges_same (geometry c.args.start.exact ms) (typed_geometry c.args.start.exact (types.Coordinates c.in-Coordinates.kind) ms) c.args.start.counts _
+    (part.known_type c.args.start.exact ms c.args.start.counts s.0 s.1 (types.Coordinates c.in-Coordinates.kind) (rw c.in-Coordinates.is at (rw c.in-Geometry.is at (rw c.in-Ok.is at s.2)))) c.coordinates_of.result (c.coordinates_of.ensures ms is.coordinates)
+
+pub any_geometry_at-returns-in_default : goal.any_geometry_at-returns-in_default
+any_geometry_at-returns-in_default t c = λ v rest found. part.no_object c.args.exact v c.args.counts.now ((rw c.in_default.is at c.in_ok-rest.ensures) v rest found)
+
+pub any_geometry_at-returns-in-Err : goal.any_geometry_at-returns-in-Err
+any_geometry_at-returns-in-Err t c =
+    let object = rw c.in-Some.is at c.in_ok-rest.ensures in
+    part.object_stops c.args.exact (front_value c.args.deep c.args.bytes.now) object.members _ c.args.counts.now object.front c.shape_of.new.counts c.in-Err.stop
+    (c.in-Err.ensures object.members (object.holds (c.none-parts.ensures _ (c.args.deep - 1))))
+
+pub any_geometry_at-returns-in-Ok : goal.any_geometry_at-returns-in-Ok
+any_geometry_at-returns-in-Ok t c =
+    let object = rw c.in-Some.is at c.in_ok-rest.ensures in
+    part.object_reads c.args.exact (front_value c.args.deep c.args.bytes.now) object.members _ c.args.counts.now object.front _ c.shape_of.new.counts
+    (c.in-Ok.ensures object.members (object.holds (c.none-parts.ensures _ (c.args.deep - 1))))
+
+pub geometries_at-returns-in_default : goal.geometries_at-returns-in_default
+geometries_at-returns-in_default t c = λ v rest found. part.no_array c.args.exact v c.args.counts.now (is_no_array c.args.deep c.args.bytes.now c.in_default.ensures v rest found)
+
+pub geometries_at-returns-then-deep-eq0 : goal.geometries_at-returns-then-deep-eq0
+geometries_at-returns-then-deep-eq0 t c = too_deep c.args.deep c.args.bytes.now _ c.in-Some.ensures c.if-deep-eq0.true
+
+pub geometries_at-returns-in-Some-behind_byte : goal.geometries_at-returns-in-Some-behind_byte
+geometries_at-returns-in-Some-behind_byte t c =
+    subst (λ (ss : List Shape). Reads (shapes c.args.exact) (front_value c.args.deep c.args.bytes.now) ss c.in-Some-behind_byte.rest.now c.args.counts.now c.args.counts.now) (sym (c.of.ensures ∙ c.new.ensures.items))
+    (part.no_elements c.args.exact (front_value c.args.deep c.args.bytes.now) _ c.args.counts.now
+    (is_empty c.args.deep c.args.bytes.now _ c.in-Some.ensures c.if-deep-eq0.false _ (rw c.skip.ensures at c.in-Some-behind_byte.ensures)))
+
+pub geometries_at-returns-in-Err : goal.geometries_at-returns-in-Err
+geometries_at-returns-in-Err t c =
+    part.elements_stop c.args.exact (front_value c.args.deep c.args.bytes.now) (front_elements (c.args.deep - 1) (length c.in-Some.inside.now) c.in-Some.inside.now) c.args.counts.now
+    (is_filled c.args.deep c.args.bytes.now _ c.in-Some.ensures c.if-deep-eq0.false (rw c.skip.ensures at c.in_default-behind_byte.ensures)) c.in-Err.stop c.in-Err.ensures
+
+pub geometries_at-returns-in-Ok : goal.geometries_at-returns-in-Ok
+geometries_at-returns-in-Ok t c =
+    rw c.of-in-Ok.ensures
+    (part.elements_read c.args.exact (front_value c.args.deep c.args.bytes.now) (front_elements (c.args.deep - 1) (length c.in-Some.inside.now) c.in-Some.inside.now) c.args.counts.now
+    (is_filled c.args.deep c.args.bytes.now _ c.in-Some.ensures c.if-deep-eq0.false (rw c.skip.ensures at c.in_default-behind_byte.ensures)) _ _ _ c.in-Ok.ensures)
+
+pub geometries_behind-geometries-init : goal.geometries_behind-geometries-init
+geometries_behind-geometries-init t c =
+    rw c.new-read.ensures.items (so_far.starts (with_read (some_one (shape c.args.exact))) (value_at is_utf8 c.args.deep) (length c.args.inside.now) (front_elements c.args.deep (length c.args.inside.now) c.args.inside.now) [] c.args.counts.now c.args.inside.now refl)
+
+pub geometries_behind-returns-in-Err : goal.geometries_behind-returns-in-Err
+geometries_behind-returns-in-Err t c =
+    let read = some_one (shape c.args.exact) in
+    same_stops (fold (with_read read) []) (kept (shape c.args.exact)) (front_elements c.args.deep (length c.args.inside.now) c.args.inside.now) c.args.counts.now (λ vs. as_list read vs c.args.counts.now) c.in-Err.stop
+    (so_far.stops (with_read read) (value_at is_utf8 c.args.deep) _ _ _ _ _ _ _ _ c.geometries.invariant c.geometries-test.true c.in-Err.stop
+    (part.taken_stops c.args.exact _ _ _ c.in-Err.stop (rw c.skip.ensures at c.in-Err.ensures)))
+
+pub geometries_behind-returns-in-Neither : goal.geometries_behind-returns-in-Neither
+geometries_behind-returns-in-Neither t c =
+    so_far.breaks (with_read (some_one (shape c.args.exact))) (value_at is_utf8 c.args.deep) _ _ _ _ _ _ _ _ c.geometries.invariant c.geometries-test.true _ _ _
+    (part.taken_reads c.args.exact _ _ _ _ _ _ (rw c.skip.ensures at c.in-Ok.ensures)) (rw c.in-Neither.is at c.mark_at-mark.ensures)
+
+pub geometries_behind-returns-in-Close : goal.geometries_behind-returns-in-Close
+geometries_behind-returns-in-Close t c =
+    let read = some_one (shape c.args.exact) in
+    same_reads (fold (with_read read) []) (kept (shape c.args.exact)) (front_elements c.args.deep (length c.args.inside.now) c.args.inside.now) c.args.counts.now (λ vs. as_list read vs c.args.counts.now) _ _ _
+    (rw (sym c.in_ok-push_some-in-Ok.ensures) at (so_far.ends (with_read read) (value_at is_utf8 c.args.deep) _ _ _ _ _ _ _ _ c.geometries.invariant c.geometries-test.true _ _ _
+    (part.taken_reads c.args.exact _ _ _ _ _ _ (rw c.skip.ensures at c.in-Ok.ensures)) _ (rw c.in-Close.is at c.mark_at-mark.ensures)))
+
+pub geometries_behind-geometries-preserved : goal.geometries_behind-geometries-preserved
+geometries_behind-geometries-preserved t c =
+    rw (sym c.in_ok-push_some-in-Ok.ensures) at (so_far.goes_on (with_read (some_one (shape c.args.exact))) (value_at is_utf8 c.args.deep) _ _ _ _ _ _ _ _ c.geometries.invariant c.geometries-test.true _ _ _
+    (part.taken_reads c.args.exact _ _ _ _ _ _ (rw c.skip.ensures at c.in-Ok.ensures)) _ (rw c.in-Comma.is at c.mark_at-mark.ensures))
+
+pub geometries_behind-returns : goal.geometries_behind-returns
+geometries_behind-returns t c = so_far.turns_over (with_read (some_one (shape c.args.exact))) (value_at is_utf8 c.args.deep) _ _ _ _ _ _ _ _ c.geometries.invariant c.geometries-test.false
+
+pub part_at-returns-in-Coordinates : goal.part_at-returns-in-Coordinates
+part_at-returns-in-Coordinates t c = rw c.in-Coordinates.is c.coordinates_at.ensures
+
+pub part_at-returns-in-Err : goal.part_at-returns-in-Err
+part_at-returns-in-Err t c = rw c.in-Collection.is (part.group_stops c.args.exact (front_value c.args.deep c.args.bytes.now) c.args.counts.now c.in-Err.stop c.in-Err.ensures)
+
+pub led_geometry_at-returns-in-Err-NoValue : goal.led_geometry_at-returns-in-Err-NoValue
+led_geometry_at-returns-in-Err-NoValue t c = led_nothing c.args.exact c.args.kind c.args.deep c.args.bytes.now c.args.front.now c.args.counts.now c.requires.leads (rw c.in-Err-NoValue.field-0-is at c.in-Err-NoValue.ensures)
+
+pub led_geometry_at-returns-in-None : goal.led_geometry_at-returns-in-None
+led_geometry_at-returns-in-None t c = λ v rest found. part.no_object c.args.exact v c.args.counts.now ((rw c.in-None.is at c.in_ok-found-in-Err-Fault.ensures) v rest found)
+
+pub led_geometry_at-returns-in-Some : goal.led_geometry_at-returns-in-Some
+led_geometry_at-returns-in-Some t c =
+    rw c.first_fault.ensures (led_faulty c.args.exact c.args.kind c.args.deep c.args.bytes.now c.args.front.now c.args.counts.now c.requires.leads c.in-Some.twice _ (rw c.in-Some.is at c.in_ok-found-in-Err-Fault.ensures) c.in-Err-Fault.fault (rw c.in-Err-Fault.field-0-is at c.in-Err-Fault.ensures))
+
+pub led_geometry_at-returns-in-Some-behind_byte : goal.led_geometry_at-returns-in-Some-behind_byte
+led_geometry_at-returns-in-Some-behind_byte t c =
+    let r = c.in-Ok.ensures in
+    let begins = c.requires.begins r.value _ c.in-Some-behind_byte.rest.now r.front_is (one_byte 125 _ _ (rw c.skip.ensures at c.in-Some-behind_byte.ensures)) in
+    is_usual c.args.exact r.value begins.0 c.args.counts.now c.args.kind begins.1 _ c.part_at.new.counts r.means (front_value c.args.deep c.args.bytes.now) c.in-Some-behind_byte.rest.now begins.2
+
+pub led_geometry_at-returns-in-None-met : goal.led_geometry_at-returns-in-None-met
+led_geometry_at-returns-in-None-met t c = λ v rest found. part.no_object c.args.exact v c.args.counts.now ((rw c.in-None-met.is at c.in_ok-met-in-Ok.ensures) v rest found)
+
+pub led_geometry_at-returns-then-twice : goal.led_geometry_at-returns-then-twice
+led_geometry_at-returns-then-twice t c = led_twice c.args.exact c.args.kind c.args.deep c.args.bytes.now c.args.front.now c.args.counts.now c.requires.leads c.in-Some-met.twice _ (rw c.in-Some-met.is at c.in_ok-met-in-Ok.ensures) c.if-twice.true
+
+pub led_geometry_at-returns-else-twice : goal.led_geometry_at-returns-else-twice
+led_geometry_at-returns-else-twice t c = led_read c.args.exact c.args.kind c.args.deep c.args.bytes.now c.args.front.now c.args.counts.now c.requires.leads c.in-Some-met.twice _ (rw c.in-Some-met.is at c.in_ok-met-in-Ok.ensures) c.if-twice.false _ _ _ c.in-Ok.ensures

@@ -1,6 +1,6 @@
 use Rattle.std.proofs.Common.{◌≢◌, refl, rules}
-use Rattle.geojson_model.specs.Layers.{layer}
-use Rattle.geojson_model.specs.declared.fault.GeoFaultKind.TheVariants.{Memory}
+use Rattle.geojson_meaning.specs.Layers.{layer}
+use Rattle.geojson_meaning.specs.declared.fault.GeoFaultKind.TheVariants.{Memory}
 use Rattle.layer_sources.proofs.reading.layer_of.Goals as goal
 
 pub returns-in-Ok : goal.returns-in-Ok

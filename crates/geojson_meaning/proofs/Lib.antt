@@ -1,0 +1,14 @@
+pub mod Inputs
+pub mod Inside
+pub mod Proper
+pub mod Rows
+pub mod ShapeCases
+pub mod Sound
+pub mod SoundFeatures
+pub mod SoundLayers
+pub mod SoundParts
+pub mod SoundShapes
+pub mod Stricter
+pub mod StricterLayers
+pub mod StricterParts
+pub mod Unrolled

@@ -1,0 +1,191 @@
+-- A geometry by its members.
+use Rattle.std.proofs.Common.{◌≡◌, ℕ, Bool, true, false, List, [], ◌∷◌, ◌++◌, Option, Some, None, Result, Ok, Err, refl, ap, sym, ◌∙◌}
+use Rattle.std.specs.Prelude.{bytes_eq, codes, option_to_list}
+use Rattle.std.proofs.lemmas.Slice.Eq.{bytes_eq-Decides}
+use Rattle.json_cursor.specs.Folds.{some_one, with_read}
+use Rattle.json_value.specs.declared.json.Json.{Json}
+use Rattle.json_value.specs.Kinds.{array_of, object_of, text_of}
+use Rattle.json_value.specs.declared.json.Json.TheVariants as j
+use Rattle.json_value.proofs.KindsOf.{array_of-array, object_of-object}
+use Rattle.geometry.specs.Lists.{map_some}
+use Rattle.geometry.specs.declared.shape.Geometry.TheVariants as g
+use Rattle.geojson_types.specs.declared.counts.Counts.{Counts}
+use Rattle.geojson_meaning.specs.declared.fault.GeoFaultKind.{GeoFaultKind}
+use Rattle.geojson_meaning.specs.declared.fault.GeoFaultKind.TheVariants.{Missing, Duplicate, UnknownType, WrongKind}
+use Rattle.geojson_meaning.specs.declared.types.CoordinatesType.{CoordinatesType}
+use Rattle.geojson_meaning.specs.declared.types.GeoJsonType.{GeoJsonType}
+use Rattle.geojson_meaning.specs.declared.types.GeoJsonType.TheVariants as types
+use Rattle.geojson_meaning.specs.declared.types.GeometryType.{GeometryType}
+use Rattle.geojson_meaning.specs.declared.types.GeometryType.TheVariants.{Coordinates, Collection}
+use Rattle.geojson_meaning.specs.Geometries.{coordinates_shape, typed_geometry, geometry, shape, shapes}
+use Rattle.geojson_meaning.proofs.Unrolled.{shape_object, shape_other, shapes_array, shapes_other}
+use Rattle.geojson_meaning.specs.Members.{named, need, type_name}
+use Rattle.json_members.specs.Readers.{Counting}
+use Rattle.geojson_meaning.specs.Reader.{Reader, and_then, gather, kept, or_fail, pure}
+use Rattle.geojson_types.specs.Features.{Shape}
+use Rattle.geojson_meaning.specs.Types.{coordinates_type, geojson_type, geometry_type}
+use Rattle.json_cursor.specs.Answers.{Reads, Stops}
+use Rattle.json_cursor.specs.Members.{Members}
+use Rattle.json_cursor.proofs.Steps.{found_stops, made, made_reads, made_stops}
+use Rattle.json_cursor.specs.declared.stop.Stop.{Stop}
+use Rattle.json_cursor.specs.declared.stop.Stop.TheVariants as stop
+use Rattle.geojson_model.specs.Members.{Judges, part as the_part, type_in}
+
+-- readers that answer the same are judged by the same
+pub judges_same : {C E B : Type 0} (r s : Counting C E B) (old new : C) → r old ≡ s old → (result : Result B (Stop E)) → Judges s old new result → Judges r old new result
+judges_same r s old new e (Ok x) h = e ∙ h
+judges_same r s old new e (Err (stop.Fault k)) h = e ∙ h
+judges_same r s old new e (Err stop.NoValue) h = absurd h
+judges_same r s old new e (Err stop.Memory) h = tt
+
+-- ---- the type
+
+module _ (exact : Bool) (ms : Members) (c : Counts) where
+  pub no_type : named (codes "type") ms ≡ [] → geometry exact ms c ≡ Err Missing
+  unfolding geometry type_name
+  no_type h = rw h refl
+
+  pub more_types : (v w : Json) (us : List Json) → named (codes "type") ms ≡ v ∷ w ∷ us → geometry exact ms c ≡ Err Duplicate
+  unfolding geometry type_name
+  more_types v w us h = rw h refl
+
+-- ---- coordinates
+
+module _ (exact : Bool) (type : CoordinatesType) (ms : Members) (c : Counts) where
+  pub no_coordinates : named (codes "coordinates") ms ≡ [] → typed_geometry exact (Coordinates type) ms c ≡ Err Missing
+  unfolding typed_geometry need
+  no_coordinates h = rw h refl
+
+  pub more_coordinates : (v w : Json) (us : List Json) → named (codes "coordinates") ms ≡ v ∷ w ∷ us → typed_geometry exact (Coordinates type) ms c ≡ Err Duplicate
+  unfolding typed_geometry need
+  more_coordinates v w us h = rw h refl
+
+  pub one_coordinates : (v : Json) → named (codes "coordinates") ms ≡ v ∷ [] → typed_geometry exact (Coordinates type) ms c ≡ coordinates_shape exact type v c
+  unfolding typed_geometry need
+  one_coordinates v h = rw h refl
+
+-- ---- the type, where it is named once
+
+module _ (exact : Bool) (ms : Members) (c : Counts) where
+  abbrev the_fault : GeoFaultKind → Result GeoJsonType GeoFaultKind
+  the_fault e = Err e
+
+  abbrev the_type : GeoJsonType → Result GeoJsonType GeoFaultKind
+  the_type type = Ok type
+
+  -- what is read by the type, or its fault
+  abbrev by_type : Result GeoJsonType GeoFaultKind → Result (Option Shape × Counts) GeoFaultKind
+  by_type (Ok (types.Geometry kind)) = typed_geometry exact kind ms c
+  by_type (Ok types.Feature) = Err UnknownType
+  by_type (Ok types.FeatureCollection) = Err UnknownType
+  by_type (Err e) = Err e
+
+  by_kind : (o : Option GeometryType) → and_then (λ kind. typed_geometry exact kind ms) (pure (or_fail UnknownType o) c) ≡ by_type (or_fail UnknownType (map_some types.Geometry o))
+  unfolding typed_geometry
+  by_kind None = refl
+  by_kind (Some kind) = refl
+
+  -- what is read by the name of the type
+  abbrev ByName : List ℕ → Type 0
+  ByName name = and_then (λ kind. typed_geometry exact kind ms) (pure (or_fail UnknownType (geometry_type name)) c) ≡ by_type (or_fail UnknownType (geojson_type name))
+
+  by_tests : (name : List ℕ) (one other : Bool) → bytes_eq name (codes "FeatureCollection") ≡ one → bytes_eq name (codes "Feature") ≡ other → ByName name
+  unfolding geojson_type geometry_type coordinates_type
+  by_tests name true other h k = rw ((bytes_eq-Decides name (codes "FeatureCollection")).0 h) refl
+  by_tests name false true h k = rw ((bytes_eq-Decides name (codes "Feature")).0 k) refl
+  by_tests name false false h k = rw (h, k) (by_kind (geometry_type name))
+
+  by_name : (name : List ℕ) → ByName name
+  by_name name = by_tests name (bytes_eq name (codes "FeatureCollection")) (bytes_eq name (codes "Feature")) refl refl
+
+  module _ (v : Json) (one : named (codes "type") ms ≡ v ∷ []) where
+    by_text : (o : Option (List ℕ)) → text_of v ≡ o → geometry exact ms c ≡ by_type (type_in o)
+    unfolding geometry type_name
+    by_text None is = rw (one, is) refl
+    by_text (Some name) is = rw (one, is) (by_name name)
+
+    pub faulty_type : (e : GeoFaultKind) → the_fault e ≡ type_in (text_of v) → geometry exact ms c ≡ Err e
+    faulty_type e is = by_text (text_of v) refl ∙ ap by_type (sym is)
+
+    pub other_type : (type : GeoJsonType) → the_type type ≡ type_in (text_of v) → by_type (Ok type) ≡ Err UnknownType → geometry exact ms c ≡ Err UnknownType
+    other_type type is h = by_text (text_of v) refl ∙ ap by_type (sym is) ∙ h
+
+    pub known_type : (kind : GeometryType) → the_type (types.Geometry kind) ≡ type_in (text_of v) → geometry exact ms c ≡ typed_geometry exact kind ms c
+    known_type kind is = by_text (text_of v) refl ∙ ap by_type (sym is)
+
+-- ---- the geometries of a collection
+
+module _ (exact : Bool) (ms : Members) (c : Counts) where
+  pub no_geometries : named (codes "geometries") ms ≡ [] → typed_geometry exact Collection ms c ≡ Err Missing
+  unfolding typed_geometry need
+  no_geometries h = rw h refl
+
+  pub more_geometries : (v w : Json) (us : List Json) → named (codes "geometries") ms ≡ v ∷ w ∷ us → typed_geometry exact Collection ms c ≡ Err Duplicate
+  unfolding typed_geometry need
+  more_geometries v w us h = rw h refl
+
+  module _ (v : Json) (one : named (codes "geometries") ms ≡ v ∷ []) where
+    pub grouped : (ss : List Shape) (d : Counts) → shapes exact v c ≡ Ok (ss, d) → typed_geometry exact Collection ms c ≡ Ok (Some (g.Group ss), d)
+    unfolding typed_geometry need
+    grouped ss d h = rw (one, h) refl
+
+    pub ungrouped : (e : GeoFaultKind) → shapes exact v c ≡ Err e → typed_geometry exact Collection ms c ≡ Err e
+    unfolding typed_geometry need
+    ungrouped e h = rw (one, h) refl
+
+    pub judged_group : (new : Counts) (why : Stop GeoFaultKind) → Judges (shapes exact v) c new (Err why) → Judges (typed_geometry exact Collection ms) c new (Err why)
+    judged_group new (stop.Fault e) h = ungrouped e h
+    judged_group new stop.NoValue h = absurd h
+    judged_group new stop.Memory h = tt
+
+-- ---- what stands at the front
+
+-- what is judged of the object that stands there is answered of it
+module _ (exact : Bool) (front : Option (Json × List ℕ)) (ms : Members) (rest : List ℕ) (old : Counts) (is : front ≡ Some (j.Object ms, rest)) where
+  object_shape : shape exact (j.Object ms) old ≡ geometry exact ms old
+  object_shape = ap (λ (r : Reader (Option Shape)). r old) (shape_object exact (j.Object ms) ms (object_of-object ms))
+
+  pub object_stops : (new : Counts) (why : Stop GeoFaultKind) → Judges (geometry exact ms) old new (Err why) → Stops (shape exact) front old why
+  object_stops new (stop.Fault e) h = found_stops (shape exact) front old (j.Object ms) rest e is (object_shape ∙ h)
+  object_stops new stop.NoValue h = absurd h
+  object_stops new stop.Memory h = tt
+
+  pub object_reads : (x : Option Shape) (new : Counts) → geometry exact ms old ≡ Ok (x, new) → Reads (shape exact) front x rest old new
+  object_reads x new h = record { value = j.Object ms; front_is = is; means = object_shape ∙ h }
+
+pub no_object : (exact : Bool) (v : Json) (old : Counts) → object_of v ≡ None → shape exact v old ≡ Err WrongKind
+no_object exact v old h = ap (λ (r : Reader (Option Shape)). r old) (shape_other exact v h)
+
+pub no_array : (exact : Bool) (v : Json) (old : Counts) → array_of v ≡ None → shapes exact v old ≡ Err WrongKind
+no_array exact v old h = ap (λ (r : Reader (List Shape)). r old) (shapes_other exact v h)
+
+array_shapes : (exact : Bool) (vs : List Json) (old : Counts) → shapes exact (j.Array vs) old ≡ kept (shape exact) vs old
+array_shapes exact vs old = ap (λ (r : Reader (List Shape)). r old) (shapes_array exact (j.Array vs) vs (array_of-array vs))
+
+pub no_elements : (exact : Bool) (front : Option (Json × List ℕ)) (rest : List ℕ) (old : Counts) → front ≡ Some (j.Array [], rest) → Reads (shapes exact) front [] rest old old
+unfolding gather
+no_elements exact front rest old is = record { value = j.Array []; front_is = is; means = array_shapes exact [] old }
+
+module _ (exact : Bool) (front : Option (Json × List ℕ)) (found : Option (List Json × List ℕ)) (old : Counts) (is : front ≡ made j.Array found) where
+  pub elements_stop : (why : Stop GeoFaultKind) → Stops (kept (shape exact)) found old why → Stops (shapes exact) front old why
+  elements_stop why h = made_stops j.Array (shapes exact) (kept (shape exact)) front found is old old (λ vs rest e. array_shapes exact vs old) why h
+
+  pub elements_read : (ss : List Shape) (rest : List ℕ) (new : Counts) → Reads (kept (shape exact)) found ss rest old new → Reads (shapes exact) front ss rest old new
+  elements_read ss rest new r = made_reads j.Array (shapes exact) (kept (shape exact)) front found is old old (λ vs end e. array_shapes exact vs old) ss rest new r
+
+pub group_stops : (exact : Bool) (front : Option (Json × List ℕ)) (old : Counts) (why : Stop GeoFaultKind) → Stops (shapes exact) front old why → Stops (the_part exact Collection) front old why
+group_stops exact front old (stop.Fault e) h = λ v rest found. rw (h v rest found) refl
+group_stops exact front old stop.NoValue h = h
+group_stops exact front old stop.Memory h = tt
+
+-- ---- one geometry more
+
+pub taken_stops : (exact : Bool) (now : List Shape) (front : Option (Json × List ℕ)) (old : Counts) (why : Stop GeoFaultKind) → Stops (shape exact) front old why
+    → Stops (with_read (some_one (shape exact)) now) front old why
+taken_stops exact now front old (stop.Fault e) h = λ v rest found. rw (h v rest found) refl
+taken_stops exact now front old stop.NoValue h = h
+taken_stops exact now front old stop.Memory h = tt
+
+pub taken_reads : (exact : Bool) (now : List Shape) (front : Option (Json × List ℕ)) (x : Option Shape) (rest : List ℕ) (old new : Counts) → Reads (shape exact) front x rest old new
+    → Reads (with_read (some_one (shape exact)) now) front (now ++ option_to_list x) rest old new
+taken_reads exact now front x rest old new r = record { value = r.value; front_is = r.front_is; means = rw r.means refl }

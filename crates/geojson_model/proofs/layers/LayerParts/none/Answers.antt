@@ -1,0 +1,7 @@
+use Rattle.std.proofs.Common.{refl}
+use Rattle.geojson_meaning.specs.Members.{named}
+use Rattle.geojson_model.proofs.layers.LayerParts.none.Goals as goal
+
+pub returns : goal.returns
+unfolding named
+returns c = λ start deep. record { bare = c.none.ensures start deep; fields = c.none-2.ensures start; features = refl }

@@ -1,8 +1,0 @@
-use Rattle.std.proofs.Common.{◌≡◌, drop}
-use Rattle.geojson_model.specs.Polygons.{ring}
-use Rattle.geojson_model.specs.Reader.{kept}
-use Rattle.json_members.proofs.Turns.{with_front}
-use Rattle.geojson_model.proofs.polygons.rings.Given as goal
-
-abbrev pub invariant-values : goal.invariant-values
-invariant-values l = with_front l.read.items (kept (ring l.exact) (drop l.value-index l.values) l.counts) ≡ kept (ring l.exact) l.values l.fn.counts

@@ -1,0 +1,329 @@
+// Layers (RFC 7946, section 3).
+ghost use Rattle.std.specs.Prelude.{◌≡◌, [], ℕ, Bool, IfOk, length, ◌∷◌, codes};
+ghost use Rattle.geojson_types.specs.declared.counts.Counts.{Counts as Counted};
+ghost use Rattle.geojson_meaning.specs.Members.{named};
+ghost use Rattle.json_cursor.specs.Answers.{Answers};
+ghost use Rattle.json_cursor.specs.Arrays.{front_value};
+ghost use Rattle.json_cursor.specs.Members.{Members as Listed};
+ghost use Rattle.geojson_meaning.specs.Layers.{bare_feature, collection_features, features, single_feature};
+ghost use Rattle.geojson_meaning.specs.Reader.{fault_in};
+ghost use Rattle.geojson_meaning.specs.declared.types.GeometryType.{GeometryType as Geometries};
+ghost use Rattle.geojson_model.specs.Features.{IsFields};
+ghost use Rattle.geojson_model.specs.Layers.{IsCollected, IsLayerParts, Types, members_features, numbered};
+ghost use Rattle.geojson_model.specs.Layers as spec;
+ghost use Rattle.geojson_model.specs.Members.{IsParts, IsSeen, Judges, Meets};
+ghost use Rattle.geojson_model.specs.declared.geometries.Start.{Start as Begun};
+
+use crate::features::{Fields, feature_at, feature_of, is_field};
+use crate::geometries::{Parts, Start, shape_of};
+use crate::seen::Seen;
+use geojson_meaning::{GeoFault, GeoFaultKind, GeoJsonType};
+use geojson_types::{Counts, Feature};
+use json_cursor::{Elements, Members, Stop, folded_array_at, name_at, object_into};
+use json_reading::{Fault, Why};
+use json_value::Items;
+use std::alloc::{AllocFailed, Global};
+use std::marker::Model;
+use text_checking::after_value;
+
+/// The fault of this kind in the feature of this number, or in none.
+pub(crate) fn fault_within(feature: Option<usize>, kind: GeoFaultKind) -> GeoFault
+    ensures { result ≡ fault_in feature kind }
+{
+    GeoFault { feature, kind }
+}
+
+/// The same of why reading stops.
+fn within(feature: Option<usize>, stop: Stop<GeoFaultKind>) -> Stop<GeoFault>
+    ensures { result ≡ spec.stop_in feature stop }
+{
+    match stop {
+        Stop::Fault(kind) => Stop::Fault(fault_within(feature, kind)),
+        Stop::NoValue => Stop::NoValue,
+        Stop::Memory => Stop::Memory,
+    }
+}
+
+/// The features that were read so far.
+#[derive(Drop)]
+struct FeatureList {
+    list: Vec<Feature>,
+}
+
+impl Model for FeatureList {
+    ghost use Rattle.std.specs.Prelude.{List};
+    ghost use Rattle.geojson_types.specs.Features.{Featured};
+    ghost use Rattle.std.specs.Coded.{coded_list};
+    ghost use Rattle.geojson_types.specs.Codes.{feature_code};
+
+    ghost Value = { List Featured };
+
+    ghost coded = { coded_list feature_code };
+
+    ghost view = { λ s. s.list.items };
+}
+
+/// How many they are.
+fn count_of(list: &Vec<Feature>) -> usize
+    ensures { result ≡ length list.now.items }
+{
+    list.len()
+}
+
+impl Elements for FeatureList {
+    type Fault = GeoFault;
+
+    type With = bool;
+
+    ghost takes = { numbered };
+
+    fn element<'a>(
+        &mut self,
+        alloc: Global,
+        deep: u32,
+        bytes: &'a [u8],
+        with: bool,
+        counts: &mut Counts,
+    ) -> Result<&'a [u8], Stop<GeoFault>> {
+        let number = count_of(&self.list);
+        match feature_at(alloc, deep, bytes, with, counts) {
+            Err(stop) => Err(within(Some(number), stop)),
+            Ok((feature, rest)) => {
+                self.list.push(feature)?;
+                Ok(rest)
+            }
+        }
+    }
+}
+
+/// They alone, without room for more.
+fn items_of(features: FeatureList) -> Items<Feature>
+    ensures { result ≡ features }
+{
+    let mut list = features.list;
+    list.shrink_to_fit();
+    Items::of(list)
+}
+
+/// What the value of `features` is read as, or its fault, and what was counted then.
+#[derive(Drop)]
+pub struct Collected {
+    features: Result<Items<Feature>, GeoFault>,
+    counts: Counts,
+}
+
+/// What was seen of the members of a layer's object.
+#[derive(Drop)]
+pub struct LayerParts<'a> {
+    bare: Parts<'a>,
+    fields: Fields,
+    features: Seen<Collected>,
+}
+
+/// The features of the array at the front, or their first fault, and what follows it.
+fn features_at<'a>(
+    alloc: Global,
+    deep: u32,
+    bytes: &'a [u8],
+    start: Start,
+) -> Result<(Collected, &'a [u8]), Fault>
+    ensures { Meets (IsCollected start) deep bytes.now result }
+{
+    let mut counts = start.counts;
+    let none = FeatureList {
+        list: Vec::new(alloc),
+    };
+    let wrong = fault_within(None, GeoFaultKind::WrongKind);
+    match folded_array_at::<FeatureList>(
+        alloc,
+        deep,
+        none,
+        bytes,
+        wrong,
+        start.exact,
+        &mut counts,
+    ) {
+        Ok((read, rest)) => {
+            let features = Ok(items_of(read));
+            Ok((Collected { features, counts }, rest))
+        }
+        Err(Stop::Fault(fault)) => {
+            let rest = after_value(alloc, deep, bytes)?;
+            let features = Err(fault);
+            Ok((Collected { features, counts }, rest))
+        }
+        Err(Stop::NoValue) => Err(Fault::Malformed {
+            why: Why::Syntax,
+            left: bytes.len(),
+        }),
+        Err(Stop::Memory) => Err(Fault::Memory),
+    }
+}
+
+impl<'a> LayerParts<'a> {
+    /// Of no members.
+    fn none() -> LayerParts<'a>
+        ensures { (start : Begun) (deep : ℕ) → IsLayerParts start deep [] result }
+    {
+        LayerParts {
+            bare: Parts::none(),
+            fields: Fields::none(),
+            features: Seen::Never,
+        }
+    }
+}
+
+impl<'a> Members<'a> for LayerParts<'a> {
+    type With = Start;
+
+    ghost holds = { IsLayerParts };
+
+    fn member(
+        &mut self,
+        alloc: Global,
+        deep: u32,
+        bytes: &'a [u8],
+        with: Start,
+    ) -> Result<&'a [u8], Fault> {
+        let (name, value) = name_at(alloc, bytes)?;
+        if name.is("features") {
+            let (features, rest) = features_at(alloc, deep, value, with)?;
+            self.features.see(features);
+            return Ok(rest);
+        }
+        if is_field(&name) {
+            return self.fields.see(alloc, deep, &name, value, with);
+        }
+        self.bare.see(alloc, deep, &name, value, with)
+    }
+}
+
+/// The type that was seen so, which must be there once.
+fn type_of(seen: &Seen<Result<GeoJsonType, GeoFaultKind>>) -> Result<GeoJsonType, GeoFaultKind>
+    ensures { result ≡ spec.type_of seen.now }
+{
+    match seen {
+        Seen::Never => Err(GeoFaultKind::Missing),
+        Seen::Again => Err(GeoFaultKind::Duplicate),
+        Seen::Once(Err(fault)) => Err(*fault),
+        Seen::Once(Ok(kind)) => Ok(*kind),
+    }
+}
+
+/// The features of a FeatureCollection, whose member `features` was seen so.
+fn collection_of(
+    seen: Seen<Collected>,
+    counts: &mut Counts,
+) -> Result<Items<Feature>, Stop<GeoFault>>
+    ensures { (start : Begun) (ms : Listed) → IsSeen (IsCollected start) (named (codes "features") ms) seen → Judges (collection_features start.exact ms) start.counts counts.new result }
+{
+    match seen {
+        Seen::Never => Err(Stop::Fault(fault_within(None, GeoFaultKind::Missing))),
+        Seen::Again => Err(Stop::Fault(fault_within(None, GeoFaultKind::Duplicate))),
+        Seen::Once(collected) => {
+            let Collected {
+                features,
+                counts: counted,
+            } = collected;
+            *counts = counted;
+            match features {
+                Err(fault) => Err(Stop::Fault(fault)),
+                Ok(features) => Ok(features),
+            }
+        }
+    }
+}
+
+/// A list of one feature.
+fn one(alloc: Global, feature: Feature) -> Result<Items<Feature>, AllocFailed<Feature>>
+    ensures { IfOk result (λ fs. fs ≡ feature ∷ []) }
+{
+    let mut list = Vec::new(alloc);
+    list.push(feature)?;
+    Ok(Items::of(list))
+}
+
+/// The one feature of a Feature with these members.
+fn single_of(
+    alloc: Global,
+    fields: Fields,
+    start: Start,
+    counts: &mut Counts,
+) -> Result<Items<Feature>, Stop<GeoFault>>
+    requires { (ms : Listed) × IsFields start ms fields }
+    ensures { (ms : Listed) → IsFields start ms fields → Judges (single_feature start.exact ms) start.counts counts.new result }
+{
+    match feature_of(fields, start, counts) {
+        Err(fault) => Err(Stop::Fault(fault_within(Some(0), fault))),
+        Ok(feature) => Ok(one(alloc, feature)?),
+    }
+}
+
+/// The one feature of a bare geometry with these members.
+fn bare_of(
+    alloc: Global,
+    deep: u32,
+    bare: Parts<'_>,
+    start: Start,
+    counts: &mut Counts,
+) -> Result<Items<Feature>, Stop<GeoFault>>
+    requires { (ms : Listed) × IsParts start deep ms bare }
+    ensures { (kind : Geometries) (ms : Listed) → IsParts start deep ms bare.entry → Types kind ms → Judges (bare_feature start.exact kind ms) start.counts counts.new result }
+{
+    match shape_of(alloc, deep, bare, start, counts) {
+        Err(stop) => Err(within(Some(0), stop)),
+        Ok(shape) => Ok(one(alloc, Feature::of(None, None, shape))?),
+    }
+}
+
+/// The features of an object with these members.
+fn features_of(
+    alloc: Global,
+    deep: u32,
+    parts: LayerParts<'_>,
+    start: Start,
+    counts: &mut Counts,
+) -> Result<Items<Feature>, Stop<GeoFault>>
+    requires { (ms : Listed) × IsLayerParts start deep ms parts }
+    ensures { (ms : Listed) → IsLayerParts start deep ms parts.entry → Judges (members_features start.exact ms) start.counts counts.new result }
+{
+    let LayerParts {
+        bare,
+        fields,
+        features,
+    } = parts;
+    match type_of(&bare.kind) {
+        Err(fault) => Err(Stop::Fault(fault_within(None, fault))),
+        Ok(kind) => match kind {
+            GeoJsonType::FeatureCollection => collection_of(features, counts),
+            GeoJsonType::Feature => single_of(alloc, fields, start, counts),
+            GeoJsonType::Geometry(_) => bare_of(alloc, deep, bare, start, counts),
+        },
+    }
+}
+
+/// The features of the layer at the front (RFC 7946, section 3), and what follows it; or why reading stops. A Feature and a bare geometry are
+/// the one feature of their layer. Members may stand in any order.
+pub fn layer_at<'a>(
+    alloc: Global,
+    deep: u32,
+    bytes: &'a [u8],
+    exact: bool,
+    counts: &mut Counts,
+) -> Result<(Items<Feature>, &'a [u8]), Stop<GeoFault>>
+    ensures { Answers (λ x. x) (features exact) (front_value deep bytes.now) counts.old counts.new result }
+{
+    let start = Start {
+        exact,
+        counts: *counts,
+        reads: true,
+    };
+    let mut parts = LayerParts::none();
+    let Some(rest) = object_into::<LayerParts<'a>>(alloc, deep, &mut parts, bytes, start)? else {
+        return Err(Stop::Fault(fault_within(None, GeoFaultKind::NotObject)));
+    };
+    match features_of(alloc, deep - 1, parts, start, counts) {
+        Err(stop) => Err(stop),
+        Ok(features) => Ok((features, rest)),
+    }
+}

@@ -1,0 +1,96 @@
+// Geometries whose type and the member that they are made of stand first, as most programs write them.
+ghost use Rattle.std.specs.Prelude.{◌≡◌, ◌<◌, IfErr, IfOk, IfSome, true};
+ghost use Rattle.json_reading.specs.Gives.{Fails};
+ghost use Rattle.json_cursor.specs.Arrays.{front_value};
+ghost use Rattle.text_checking.specs.Strings.{simple};
+ghost use Rattle.geojson_model.specs.Members.{BeginsGeometry, LeadsGeometry, Repeats, part_name};
+ghost use Rattle.geojson_model.specs.Members as spec;
+
+use crate::geometries::{Parts, Start};
+use geojson_meaning::{GeoFaultKind, GeometryType, geometry_type};
+use geojson_types::Counts;
+use json_cursor::{behind_byte, named_at, object_into, string_at};
+use json_reading::{Fault, skip};
+use std::alloc::Global;
+
+/// The name of the member that a geometry of this type is made of.
+fn part_word(kind: GeometryType) -> &'static str
+    ensures name { result.now ≡ part_name kind }
+    ensures simple { simple result.now ≡ true }
+{
+    match kind {
+        GeometryType::Collection => "geometries",
+        GeometryType::Coordinates(_) => "coordinates",
+    }
+}
+
+/// The type of the geometry at the front, and where the value of the member begins that it is made of, where these two stand first in it.
+pub(crate) fn led_at<'a>(
+    alloc: Global,
+    deep: u32,
+    bytes: &'a [u8],
+) -> Result<Option<(GeometryType, &'a [u8])>, Fault>
+    ensures begins { IfOk result (λ o. IfSome o (λ x. BeginsGeometry x.0 deep bytes.now x.1.now)) }
+    ensures leads { IfOk result (λ o. IfSome o (λ x. LeadsGeometry x.0 deep bytes.now x.1.now)) }
+    ensures deep { IfOk result (λ o. IfSome o (λ _. 0 < deep)) }
+    ensures fails { IfErr result (λ fault. Fails fault (front_value deep bytes.now)) }
+{
+    let Some(inside) = behind_byte(b'{', bytes) else {
+        return Ok(None);
+    };
+    if deep == 0 || inside.len() < 2 {
+        return Ok(None);
+    }
+    if let Some(_) = behind_byte(b'}', skip(inside)) {
+        return Ok(None);
+    }
+    let Some((_type, value)) = named_at("type", skip(inside)) else {
+        return Ok(None);
+    };
+    let Some((name, rest)) = string_at(alloc, value)? else {
+        return Ok(None);
+    };
+    let Some(kind) = geometry_type(name.as_str()) else {
+        return Ok(None);
+    };
+    let Some(more) = behind_byte(b',', skip(rest)) else {
+        return Ok(None);
+    };
+    let Some((_part, front)) = named_at(part_word(kind), skip(more)) else {
+        return Ok(None);
+    };
+    Ok(Some((kind, front)))
+}
+
+/// Whether in the object at the front the type stands twice, or the member that a geometry of this type is made of, and what follows it; none
+/// of what is no object. Its members are passed over.
+pub(crate) fn twice_at<'a>(
+    alloc: Global,
+    deep: u32,
+    kind: GeometryType,
+    bytes: &'a [u8],
+) -> Result<Option<(bool, &'a [u8])>, Fault>
+    ensures { Repeats kind deep bytes.now result }
+{
+    let start = Start {
+        exact: false,
+        counts: Counts::none(),
+        reads: false,
+    };
+    let mut parts = Parts::none();
+    let Some(rest) = object_into::<Parts<'a>>(alloc, deep, &mut parts, bytes, start)? else {
+        return Ok(None);
+    };
+    Ok(Some((parts.stand_twice(kind), rest)))
+}
+
+/// The first fault of a geometry whose member has this one: a name that stands twice comes before it.
+pub(crate) fn first_fault(twice: bool, fault: GeoFaultKind) -> GeoFaultKind
+    ensures { result ≡ spec.first_fault twice fault }
+{
+    if twice {
+        GeoFaultKind::Duplicate
+    } else {
+        fault
+    }
+}

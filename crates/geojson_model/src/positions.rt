@@ -1,0 +1,195 @@
+// Positions.
+ghost use Rattle.std.specs.Prelude.{◌≡◌, ◌≤◌, IfSome, unsigned_abs, length};
+ghost use Rattle.geojson_meaning.specs.Coordinates as spec;
+ghost use Rattle.json_cursor.specs.Answers.{Answers};
+ghost use Rattle.json_cursor.specs.Arrays.{front_elements, front_value};
+ghost use Rattle.geometry.specs.Units.{input_limit};
+ghost use Rattle.json_cursor.specs.Folds.{one};
+ghost use Rattle.geojson_model.specs.Positions.{ArePair, second_position};
+
+use crate::coordinates::{coordinate_at, is_refused};
+use geojson_meaning::GeoFaultKind;
+use geojson_types::{Counts, Position};
+use json_cursor::{Element, Mark, Opening, Stop, after_elements, mark_at, opening_at};
+use json_reading::skip;
+use std::alloc::Global;
+use text_checking::after_value;
+use unit_scanning::{Units, units_at};
+
+/// The position whose second coordinate and further elements stand behind the comma, and what follows its bracket.
+#[inline(always)]
+fn second_at<'a>(
+    alloc: Global,
+    deep: u32,
+    turns: usize,
+    x: i64,
+    bytes: &'a [u8],
+    exact: bool,
+    counts: &mut Counts,
+) -> Result<(Position, &'a [u8]), Stop<GeoFaultKind>>
+    requires { unsigned_abs x ≤ input_limit }
+    ensures { Answers (λ p. p) (second_position exact x) (front_elements deep turns bytes.now) counts.old counts.new result }
+{
+    if turns == 0 {
+        return Err(Stop::NoValue);
+    }
+    match coordinate_at(alloc, deep, skip(bytes), exact, counts) {
+        Err(stop) => Err(stop),
+        Ok((y, after)) => {
+            let (mark, more) = mark_at(after);
+            match mark {
+                Mark::Neither => Err(Stop::NoValue),
+                Mark::Close => Ok((Position::at(x, y), more)),
+                Mark::Comma => {
+                    let end = after_elements(alloc, deep, turns - 1, more)?;
+                    counts.count_extra(true);
+                    Ok((Position::at(x, y), end))
+                }
+            }
+        }
+    }
+}
+
+/// The position whose elements stand behind the bracket, however they are written and whatever their fault is, and what follows it. A
+/// first element that stands alone is told as that, whatever it is.
+#[cold]
+#[inline(never)]
+fn any_numbers_at<'a>(
+    alloc: Global,
+    deep: u32,
+    turns: usize,
+    inside: &'a [u8],
+    exact: bool,
+    counts: &mut Counts,
+) -> Result<(Position, &'a [u8]), Stop<GeoFaultKind>>
+    ensures { Answers (λ p. p) (spec.elements_position exact) (front_elements deep turns inside.now) counts.old counts.new result }
+{
+    if turns == 0 {
+        return Err(Stop::NoValue);
+    }
+    let first = skip(inside);
+    match coordinate_at(alloc, deep, first, exact, counts) {
+        Err(Stop::NoValue) => Err(Stop::NoValue),
+        Err(Stop::Memory) => Err(Stop::Memory),
+        Err(Stop::Fault(kind)) => {
+            let behind = after_value(alloc, deep, first)?;
+            let (mark, _) = mark_at(behind);
+            match mark {
+                Mark::Neither => Err(Stop::NoValue),
+                Mark::Close => Err(Stop::Fault(GeoFaultKind::ShortPosition)),
+                Mark::Comma => Err(Stop::Fault(kind)),
+            }
+        }
+        Ok((x, after)) => {
+            let (next, more) = mark_at(after);
+            match next {
+                Mark::Neither => Err(Stop::NoValue),
+                Mark::Close => Err(Stop::Fault(GeoFaultKind::ShortPosition)),
+                Mark::Comma => second_at(alloc, deep, turns - 1, x, more, exact, counts),
+            }
+        }
+    }
+}
+
+/// Two numbers with a comma between them, and what follows them.
+#[inline(always)]
+fn pair_at(bytes: &[u8]) -> Option<(Units, Units, &[u8])>
+    ensures pair { IfSome result (λ p. ArePair bytes.now p.0 p.1 p.2.now) }
+    ensures first { IfSome result (λ p. unsigned_abs p.0.value ≤ input_limit) }
+    ensures second { IfSome result (λ p. unsigned_abs p.1.value ≤ input_limit) }
+{
+    let (x, after) = units_at(skip(bytes))?;
+    let (mark, more) = mark_at(after);
+    let Mark::Comma = mark else {
+        return None;
+    };
+    let (y, rest) = units_at(skip(more))?;
+    Some((x, y, rest))
+}
+
+/// The position whose elements stand behind the bracket, and what follows it.
+#[inline(always)]
+pub(crate) fn numbers_at<'a>(
+    alloc: Global,
+    deep: u32,
+    turns: usize,
+    inside: &'a [u8],
+    exact: bool,
+    counts: &mut Counts,
+) -> Result<(Position, &'a [u8]), Stop<GeoFaultKind>>
+    ensures { Answers (λ p. p) (spec.elements_position exact) (front_elements deep turns inside.now) counts.old counts.new result }
+{
+    if turns < 2 {
+        return any_numbers_at(alloc, deep, turns, inside, exact, counts);
+    }
+    let Some((x, y, after)) = pair_at(inside) else {
+        return any_numbers_at(alloc, deep, turns, inside, exact, counts);
+    };
+    if is_refused(exact, x.exact) || is_refused(exact, y.exact) {
+        return any_numbers_at(alloc, deep, turns, inside, exact, counts);
+    }
+    let (mark, more) = mark_at(after);
+    match mark {
+        Mark::Neither => Err(Stop::NoValue),
+        Mark::Close => {
+            counts.count_rounded(!x.exact);
+            counts.count_rounded(!y.exact);
+            Ok((Position::at(x.value, y.value), more))
+        }
+        Mark::Comma => {
+            let end = after_elements(alloc, deep, turns - 2, more)?;
+            counts.count_rounded(!x.exact);
+            counts.count_rounded(!y.exact);
+            counts.count_extra(true);
+            Ok((Position::at(x.value, y.value), end))
+        }
+    }
+}
+
+/// The position at the front (RFC 7946, section 3.1.1), x (longitude) first, and what follows it.
+#[inline(always)]
+pub(crate) fn position_at<'a>(
+    alloc: Global,
+    deep: u32,
+    bytes: &'a [u8],
+    exact: bool,
+    counts: &mut Counts,
+) -> Result<(Position, &'a [u8]), Stop<GeoFaultKind>>
+    ensures { Answers (λ p. p) (spec.position exact) (front_value deep bytes.now) counts.old counts.new result }
+{
+    let (opening, inside) = opening_at(deep, bytes);
+    match opening {
+        Opening::NoArray => Err(Stop::Fault(GeoFaultKind::WrongKind)),
+        Opening::TooDeep => Err(Stop::NoValue),
+        Opening::Empty => Err(Stop::Fault(GeoFaultKind::ShortPosition)),
+        Opening::Filled(below) => { numbers_at(alloc, below, inside.len(), inside, exact, counts) }
+    }
+}
+
+/// How the positions of an array are read.
+#[derive(Clone, Copy)]
+pub(crate) struct Positions {
+    pub exact: bool,
+}
+
+impl Element for Positions {
+    type Read = Position;
+
+    type Fault = GeoFaultKind;
+
+    ghost reads = { λ r. one (spec.position r.exact) };
+
+    #[inline(always)]
+    fn read<'a>(
+        self,
+        alloc: Global,
+        deep: u32,
+        bytes: &'a [u8],
+        counts: &mut Counts,
+    ) -> Result<(Option<Position>, &'a [u8]), Stop<GeoFaultKind>> {
+        match position_at(alloc, deep, bytes, self.exact, counts) {
+            Ok((position, rest)) => Ok((Some(position), rest)),
+            Err(stop) => Err(stop),
+        }
+    }
+}

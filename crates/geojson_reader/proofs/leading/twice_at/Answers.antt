@@ -1,7 +1,0 @@
-use Rattle.std.proofs.Common.{◌-◌}
-use Rattle.geojson_reader.proofs.leading.twice_at.Goals as goal
-
-pub returns : goal.returns
-returns c =
-    let object = rw c.in-Some.is at c.in_ok-rest.ensures in
-    record { members = object.members; front = object.front; start = _; parts = _; seen = object.holds (c.none-parts.ensures _ (c.args.deep - 1)); answer = c.stand_twice.ensures }

@@ -1,4 +1,0 @@
-pub mod Features
-pub mod Layers
-pub mod Members
-pub mod Positions

@@ -16,7 +16,6 @@ use Rattle.topojson_meaning.specs.declared.fault.TopoFault.TheVariants.{WrongKin
 use Rattle.topojson_meaning.specs.Arcs.{number_text}
 use Rattle.json_cursor.specs.Answers.{Reads}
 use Rattle.json_cursor.specs.Kinds.{kind_in, kind_of}
-use Rattle.json_cursor.specs.declared.kinds.Kind.{Kind}
 use Rattle.json_cursor.specs.declared.kinds.Kind.TheVariants.{Number}
 use Rattle.json_cursor.specs.Arrays.{front_value}
 use Rattle.topojson_reader.specs.Numbers.{in_range, scaled_at}

@@ -14,3 +14,4 @@ pub mod Features
 pub mod ObjectParts
 pub mod NamedObjects
 pub mod Names
+pub mod Leaping

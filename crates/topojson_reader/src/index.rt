@@ -1,20 +1,20 @@
 // What is seen of the members of a topology (TopoJSON 1.0, section 2.1).
-ghost use Rattle.std.specs.Prelude.{◌≡◌, ◌++◌, ◌∷◌, [], ℕ, Option, Some, bytes_eq};
+ghost use Rattle.std.specs.Prelude.{◌≡◌, [], ℕ, Option, Some, bytes_eq, length};
 ghost use Rattle.std.specs.Option.{option_copied};
-ghost use Rattle.json_value.specs.declared.json.Json.{Json as Value};
-ghost use Rattle.json_members.specs.Members.{Members as Listed};
+ghost use Rattle.json_reading.specs.Gives.{IsMalformed};
+ghost use Rattle.json_cursor.specs.Members.{front_members};
 ghost use Rattle.geojson_types.specs.declared.counts.Counts.{Counts as Counted};
 ghost use Rattle.topojson_types.specs.declared.transform.Transform.{Transform as Scaling};
-ghost use Rattle.topojson_reader.specs.Index.{AreArcs, IsIndex, transform_by, unread};
-ghost use Rattle.topojson_reader.specs.Members.{GoesOnWith, Meets};
+ghost use Rattle.topojson_reader.specs.Index.{EndsAt, FindsArcs, GoesOnOrLoses, Indexes, IsIndex, TakesAllOrLoses, TakesOrLoses, transform_by, unread};
 
 use crate::arcs::arcs_at;
 use crate::held::held;
+use crate::leaping::leap;
 use crate::seen::Seen;
 use crate::transforms::transform_at;
 use geojson_types::Counts;
-use json_cursor::{Members, name_at};
-use json_reading::Fault;
+use json_cursor::{behind_byte, name_at};
+use json_reading::{Fault, Why, skip};
 use json_value::Items;
 use std::alloc::Global;
 use text_checking::after_value;
@@ -60,7 +60,7 @@ fn read_at<'a>(
     bytes: &'a [u8],
     start: Counts,
 ) -> Result<(FoundArcs<'a>, &'a [u8]), Fault>
-    ensures { Meets (AreArcs start (Some (option_copied transform.entry)) deep) deep bytes.now result }
+    ensures { FindsArcs start (Some (option_copied transform.entry)) deep bytes.now result }
 {
     let mut counts = start;
     let answer = arcs_at(alloc, deep, transform, bytes, &mut counts);
@@ -75,15 +75,25 @@ fn read_at<'a>(
     ))
 }
 
-/// The arcs at the front, which are passed over, and what follows them.
+/// What follows the value at the front. An array or an object is leaped over, and whether one stands there isn't known before it is read.
+fn end_at<'a>(alloc: Global, deep: u32, bytes: &'a [u8]) -> Result<&'a [u8], Fault>
+    ensures { EndsAt deep bytes.now result }
+{
+    if let Some(rest) = leap(bytes) {
+        return Ok(rest);
+    }
+    after_value(alloc, deep, bytes)
+}
+
+/// The arcs at the front, which are leaped over, and what follows them.
 fn passed_at<'a>(
     alloc: Global,
     deep: u32,
     bytes: &'a [u8],
 ) -> Result<(FoundArcs<'a>, &'a [u8]), Fault>
-    ensures { (start : Counted) (t : Option (Option Scaling)) → Meets (AreArcs start t deep) deep bytes.now result }
+    ensures { (start : Counted) (t : Option (Option Scaling)) → FindsArcs start t deep bytes.now result }
 {
-    let rest = after_value(alloc, deep, bytes)?;
+    let rest = end_at(alloc, deep, bytes)?;
     Ok((
         FoundArcs {
             front: bytes,
@@ -93,7 +103,21 @@ fn passed_at<'a>(
     ))
 }
 
-/// The arcs at the front, which are read by the transform that was seen, if any, unless it has a fault, and what follows them.
+/// How many bytes of arcs are looked at for a number that isn't whole.
+const FEW: usize = 1000;
+
+/// Whether the first numbers of the arcs at the front are whole, so that a transform may still come.
+fn begin_whole(bytes: &[u8]) -> bool {
+    'bytes: for byte in bytes.iter().take(FEW) {
+        if *byte == b'.' || *byte == b'e' || *byte == b'E' {
+            return false;
+        }
+    }
+    true
+}
+
+/// The arcs at the front, which are read by the transform that was seen, and what follows them. They are leaped over where it has a fault, and
+/// where it may still come.
 fn arcs_member<'a>(
     alloc: Global,
     deep: u32,
@@ -101,11 +125,16 @@ fn arcs_member<'a>(
     bytes: &'a [u8],
     start: Counts,
 ) -> Result<(FoundArcs<'a>, &'a [u8]), Fault>
-    ensures { Meets (AreArcs start (transform_by transform.now) deep) deep bytes.now result }
+    ensures { FindsArcs start (transform_by transform.now) deep bytes.now result }
 {
     match transform {
-        Seen::Never => read_at(alloc, deep, None, bytes, start),
         Seen::Again => passed_at(alloc, deep, bytes),
+        Seen::Never => {
+            if begin_whole(bytes) {
+                return passed_at(alloc, deep, bytes);
+            }
+            read_at(alloc, deep, None, bytes, start)
+        }
         Seen::Once(seen) => match seen {
             Err(_) => passed_at(alloc, deep, bytes),
             Ok(transform) => read_at(alloc, deep, transform.as_ref(), bytes, start),
@@ -145,7 +174,7 @@ impl<'a> Index<'a> {
         bytes: &'a [u8],
         start: Counts,
     ) -> Result<&'a [u8], Fault>
-        ensures { GoesOnWith (IsIndex start deep) deep name.now self.old self.new bytes.now result }
+        ensures { GoesOnOrLoses start deep name.now self.old self.new bytes.now result }
     {
         if is_name(name, "transform") {
             let (transform, rest) = transform_at(alloc, deep, bytes)?;
@@ -158,31 +187,88 @@ impl<'a> Index<'a> {
             self.arcs.see(arcs);
             return Ok(rest);
         }
+        if is_name(name, "objects") {
+            let rest = end_at(alloc, deep, bytes)?;
+            self.objects.see(bytes);
+            return Ok(rest);
+        }
         let rest = after_value(alloc, deep, bytes)?;
         if is_name(name, "type") {
             self.kind.see(bytes);
-            return Ok(rest);
-        }
-        if is_name(name, "objects") {
-            self.objects.see(bytes);
         }
         Ok(rest)
     }
-}
 
-impl<'a> Members<'a> for Index<'a> {
-    type With = Counts;
-
-    ghost holds = { IsIndex };
-
+    /// Goes on with the member at the front, and gives what follows it.
     fn member(
         &mut self,
         alloc: Global,
         deep: u32,
         bytes: &'a [u8],
-        with: Counts,
-    ) -> Result<&'a [u8], Fault> {
+        start: Counts,
+    ) -> Result<&'a [u8], Fault>
+        ensures { TakesOrLoses start deep self.old self.new bytes.now result }
+    {
         let (name, value) = name_at(alloc, bytes)?;
-        self.value(alloc, deep, name.as_str(), value, with)
+        self.value(alloc, deep, name.as_str(), value, start)
     }
+}
+
+/// The fault of bytes that go on as no object does.
+fn broken(left: &[u8]) -> Fault
+    ensures { IsMalformed result }
+{
+    Fault::Malformed {
+        why: Why::Syntax,
+        left: left.len(),
+    }
+}
+
+/// Goes on with the members behind the brace of a topology, one or more, and gives what follows them.
+fn members_into<'a>(
+    alloc: Global,
+    deep: u32,
+    index: &mut Index<'a>,
+    inside: &'a [u8],
+    start: Counts,
+) -> Result<&'a [u8], Fault>
+    ensures { TakesAllOrLoses start deep (front_members deep (length inside.now) inside.now) index.old index.new result }
+{
+    let mut rest = inside;
+    'members: for _ in 0..inside.len() {
+        let behind = index.member(alloc, deep, skip(rest), start)?;
+        let mark = skip(behind);
+        if let Some(end) = behind_byte(b'}', mark) {
+            return Ok(end);
+        }
+        let Some(more) = behind_byte(b',', mark) else {
+            return Err(broken(mark));
+        };
+        rest = more;
+    }
+    Err(broken(rest))
+}
+
+/// What was seen of the members of the topology at the front, and what follows it; none of what is no object. Arcs and objects may be leaped
+/// over: whether they stand there, so that this follows, is known once they are read.
+pub(crate) fn members_seen_at<'a>(
+    alloc: Global,
+    deep: u32,
+    bytes: &'a [u8],
+    start: Counts,
+) -> Result<Option<(Index<'a>, &'a [u8])>, Fault>
+    ensures { Indexes start deep bytes.now result }
+{
+    let Some(inside) = behind_byte(b'{', bytes) else {
+        return Ok(None);
+    };
+    if deep == 0 {
+        return Err(broken(inside));
+    }
+    let mut index = Index::none();
+    if let Some(end) = behind_byte(b'}', skip(inside)) {
+        return Ok(Some((index, end)));
+    }
+    let rest = members_into(alloc, deep - 1, &mut index, inside, start)?;
+    Ok(Some((index, rest)))
 }

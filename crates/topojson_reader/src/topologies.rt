@@ -11,17 +11,18 @@ ghost use Rattle.topojson_meaning.specs.Members.{need_as};
 ghost use Rattle.topojson_meaning.specs.Reader.{pure};
 ghost use Rattle.topojson_meaning.specs.Objects.{objects as objects_in_order};
 ghost use Rattle.topojson_meaning.specs.Topologies as spec;
-ghost use Rattle.topojson_reader.specs.Index.{AreArcs, IsIndex, transform_by};
+ghost use Rattle.topojson_reader.specs.Index.{AreArcs, IsIndex, IsLost, NoArcs, NoObjects, transform_by};
+ghost use Rattle.topojson_reader.specs.declared.seen.Seen.TheVariants.{Once};
 ghost use Rattle.topojson_reader.specs.Members.{IsFront, IsSeen, Judges};
 ghost use Rattle.topojson_reader.specs.Topologies.{Gives, NeededAt, transform_in, type_in};
 ghost use Rattle.topojson_reader.specs.Transforms.{IsTransformOf};
 
 use crate::arcs::arcs_at;
-use crate::index::{FoundArcs, Index, ReadArcs};
+use crate::index::{FoundArcs, Index, ReadArcs, members_seen_at};
 use crate::named_objects::objects_at;
 use crate::seen::Seen;
 use geojson_types::Counts;
-use json_cursor::{Stop, object_at as members_at, string_at};
+use json_cursor::{Stop, string_at};
 use json_value::{Items, OwnText};
 use std::alloc::Global;
 use topojson_meaning::TopoFault;
@@ -85,7 +86,8 @@ fn arcs_by(
     found: FoundArcs<'_>,
     counts: &mut Counts,
 ) -> Result<Items<Items<Cell>>, Stop<TopoFault>>
-    ensures { (v : Value) → AreArcs counts.old (Some (option_copied transform.entry)) deep v found.entry → Judges (arc_list (option_copied transform.entry) v) counts.old counts.new result }
+    ensures judges { (v : Value) → AreArcs counts.old (Some (option_copied transform.entry)) deep v found.entry → Judges (arc_list (option_copied transform.entry) v) counts.old counts.new result }
+    ensures there { IfOk result (λ _. NoArcs deep (Once found.entry) → ⊥) }
 {
     let FoundArcs { front, read } = found;
     match read {
@@ -116,7 +118,8 @@ fn arcs_of(
     seen: Seen<FoundArcs<'_>>,
     counts: &mut Counts,
 ) -> Result<Items<Items<Cell>>, Stop<TopoFault>>
-    ensures { (ms : Listed) → IsSeen (AreArcs counts.old (Some (option_copied transform.entry)) deep) (named (codes "arcs") ms) seen.entry
+    ensures there { IfOk result (λ _. NoArcs deep seen.entry → ⊥) }
+    ensures gives { (ms : Listed) → IsSeen (AreArcs counts.old (Some (option_copied transform.entry)) deep) (named (codes "arcs") ms) seen.entry
         → Gives (λ x. x) (need_as (codes "arcs") (arc_list (option_copied transform.entry)) ms) counts.old counts.new result }
 {
     match seen {
@@ -135,15 +138,16 @@ fn objects_of(
     seen: Seen<&[u8]>,
     counts: &mut Counts,
 ) -> Result<Items<(OwnText, TopoObject)>, Stop<TopoFault>>
-    ensures { (ms : Listed) → IsSeen (IsFront deep) (named (codes "objects") ms) seen.entry → Gives (λ x. x) (need_as (codes "objects") (objects_in_order (option_copied transform.entry) arcs.now) ms) counts.old counts.new result }
+    ensures there { IfOk result (λ _. NoObjects deep seen.entry → ⊥) }
+    ensures gives { (ms : Listed) → IsSeen (IsFront deep) (named (codes "objects") ms) seen.entry → Gives (λ x. x) (need_as (codes "objects") (objects_in_order (option_copied transform.entry) arcs.now) ms) counts.old counts.new result }
 {
-    let at = match needed(seen) {
-        Err(fault) => return Err(Stop::Fault(fault)),
-        Ok(at) => at,
-    };
-    match objects_at(alloc, deep, transform, arcs, at, counts) {
-        Err(stop) => Err(stop),
-        Ok((objects, _)) => Ok(objects),
+    match seen {
+        Seen::Never => Err(Stop::Fault(TopoFault::Missing)),
+        Seen::Again => Err(Stop::Fault(TopoFault::Duplicate)),
+        Seen::Once(at) => match objects_at(alloc, deep, transform, arcs, at, counts) {
+            Err(stop) => Err(stop),
+            Ok((objects, _)) => Ok(objects),
+        },
     }
 }
 
@@ -154,7 +158,9 @@ fn parts_of(
     index: Index<'_>,
     counts: &mut Counts,
 ) -> Result<Parts, Stop<TopoFault>>
-    ensures { (ms : Listed) → IsIndex counts.old deep ms index.entry → Gives (λ p. record { objects = p.objects; arcs = p.arcs; transform = p.transform }) (spec.contents ms) counts.old counts.new result }
+    // What was leaped over stands there.
+    ensures there { IfOk result (λ _. IsLost deep index.entry → ⊥) }
+    ensures gives { (ms : Listed) → IsIndex counts.old deep ms index.entry → Gives (λ p. record { objects = p.objects; arcs = p.arcs; transform = p.transform }) (spec.contents ms) counts.old counts.new result }
 {
     let Index {
         kind,
@@ -201,9 +207,7 @@ pub fn topology_at<'a>(
 ) -> Result<(Parts, &'a [u8]), Stop<TopoFault>>
     ensures { Answers (λ p. record { objects = p.objects; arcs = p.arcs; transform = p.transform }) spec.value_contents (front_value deep bytes.now) counts.old counts.new result }
 {
-    let none = Index::none();
-    let (found, rest) = members_at::<Index<'a>>(alloc, deep, none, bytes, *counts)?;
-    let Some(index) = found else {
+    let Some((index, rest)) = members_seen_at(alloc, deep, bytes, *counts)? else {
         return Err(Stop::Fault(TopoFault::NotTopology));
     };
     match parts_of(alloc, deep - 1, index, counts) {

@@ -1,3 +1,4 @@
+use Rattle.std.proofs.Common.{inl}
 use Rattle.std.specs.Option.{option_copied}
 use Rattle.std.proofs.lemmas.Result.{err_from_is_err_and}
 use Rattle.topojson_meaning.specs.Arcs.{arc_list}
@@ -6,7 +7,7 @@ use Rattle.topojson_reader.proofs.index.read_at.Goals as goal
 pub returns : goal.returns
 returns c =
     let found = c.in_ok-arcs.ensures (arc_list (option_copied c.args.transform)) c.args.start c.arcs_at-answer.new.counts c.arcs_at-answer.ensures in
-    (found.0, found.1, record { front = (_, found.1); read = found.2 })
+    inl (found.0, found.1, record { front = (_, found.1); read = found.2 })
 
 pub returns-in_err-arcs : goal.returns-in_err-arcs
 returns-in_err-arcs c =

@@ -4,16 +4,16 @@ use Rattle.topojson_meaning.specs.Arcs.{arc_list}
 use Rattle.topojson_reader.proofs.SeenMembers.{judged, judged_read}
 use Rattle.topojson_reader.proofs.topologies.arcs_by.Goals as goal
 
-pub returns-in-Err : goal.returns-in-Err
-returns-in-Err c = λ v h. rw (c.in-Some.is, c.in-Err.is) at h.read
+pub returns-in-Err-clause-judges : goal.returns-in-Err-clause-judges
+returns-in-Err-clause-judges c = λ v h. rw (c.in-Some.is, c.in-Err.is) at h.read
 
-pub returns-in-Ok : goal.returns-in-Ok
-returns-in-Ok c = λ v h. rw (c.in-Some.is, c.in-Ok.is) at h.read
+pub returns-in-Ok-clause-judges : goal.returns-in-Ok-clause-judges
+returns-in-Ok-clause-judges c = λ v h. rw (c.in-Some.is, c.in-Ok.is) at h.read
 
-pub returns-in-Err-arcs_at : goal.returns-in-Err-arcs_at
-returns-in-Err-arcs_at c = λ v h.
+pub returns-in-Err-arcs_at-clause-judges : goal.returns-in-Err-arcs_at-clause-judges
+returns-in-Err-arcs_at-clause-judges c = λ v h.
     judged (arc_list (option_copied c.args.transform)) (front_value c.args.deep c.args.found.front.now) v h.front.0 c.args.counts.now c.arcs_at.new.counts h.front.1 c.in-Err-arcs_at.stop c.in-Err-arcs_at.ensures
 
-pub returns-in-Ok-arcs_at : goal.returns-in-Ok-arcs_at
-returns-in-Ok-arcs_at c = λ v h.
+pub returns-in-Ok-arcs_at-clause-judges : goal.returns-in-Ok-arcs_at-clause-judges
+returns-in-Ok-arcs_at-clause-judges c = λ v h.
     judged_read (arc_list (option_copied c.args.transform)) (front_value c.args.deep c.args.found.front.now) v h.front.0 c.args.counts.now _ h.front.1 _ _ c.in-Ok-arcs_at.ensures

@@ -1,16 +1,31 @@
+use Rattle.std.proofs.Common.{sym, ◌∙◌}
 use Rattle.std.specs.Prelude.{codes}
 use Rattle.std.specs.Option.{option_copied}
+use Rattle.json_members.specs.Members.{named}
 use Rattle.topojson_meaning.specs.Objects.{objects}
 use Rattle.topojson_reader.proofs.TopologyParts as part
 use Rattle.topojson_reader.proofs.topologies.objects_of.Goals as goal
 
-pub returns-in-Err : goal.returns-in-Err
-returns-in-Err c = λ ms h. part.part_fails (codes "objects") (objects (option_copied c.args.transform) c.args.arcs.now) ms c.args.counts.now _ (part.need_fails (codes "objects") ms c.args.deep _ (c.in-Err.ensures c.args.deep _ h))
+pub returns-in-Never-clause-gives : goal.returns-in-Never-clause-gives
+returns-in-Never-clause-gives c = λ ms h. part.part_missing (codes "objects") (objects (option_copied c.args.transform) c.args.arcs.now) ms c.args.counts.now (rw c.in-Never.is at h)
 
-pub returns-in-Err-objects_at : goal.returns-in-Err-objects_at
-returns-in-Err-objects_at c = λ ms h.
-    part.part_gives (λ x. x) (codes "objects") (objects (option_copied c.args.transform) c.args.arcs.now) ms c.args.counts.now c.objects_at.new.counts c.args.deep c.in-Ok.at (c.in-Ok.ensures c.args.deep _ h) c.in-Err-objects_at.stop c.in-Err-objects_at.ensures
+pub returns-in-Again-clause-gives : goal.returns-in-Again-clause-gives
+returns-in-Again-clause-gives c = λ ms h.
+    let s = rw c.in-Again.is at h in
+    part.part_doubled (codes "objects") (objects (option_copied c.args.transform) c.args.arcs.now) ms c.args.counts.now s.0 s.1 s.2 s.3
 
-pub returns-in-Ok-objects_at : goal.returns-in-Ok-objects_at
-returns-in-Ok-objects_at c = λ ms h.
-    part.part_reads (codes "objects") (objects (option_copied c.args.transform) c.args.arcs.now) ms c.args.counts.now _ c.args.deep c.in-Ok.at _ _ (c.in-Ok.ensures c.args.deep _ h) c.in-Ok-objects_at.ensures
+pub returns-in-Err-clause-gives : goal.returns-in-Err-clause-gives
+returns-in-Err-clause-gives c = λ ms h.
+    let at = part.needed_front c.args.deep (named (codes "objects") ms) c.in-Once.at (rw c.in-Once.is at h) in
+    part.part_gives (λ x. x) (codes "objects") (objects (option_copied c.args.transform) c.args.arcs.now) ms c.args.counts.now c.objects_at.new.counts c.args.deep c.in-Once.at at c.in-Err.stop c.in-Err.ensures
+
+pub returns-in-Ok-clause-gives : goal.returns-in-Ok-clause-gives
+returns-in-Ok-clause-gives c = λ ms h.
+    let at = part.needed_front c.args.deep (named (codes "objects") ms) c.in-Once.at (rw c.in-Once.is at h) in
+    part.part_reads (codes "objects") (objects (option_copied c.args.transform) c.args.arcs.now) ms c.args.counts.now _ c.args.deep c.in-Once.at _ _ at c.in-Ok.ensures
+
+pub returns-in-Ok-clause-there : goal.returns-in-Ok-clause-there
+returns-in-Ok-clause-there c = λ h.
+    let none = rw c.in-Once.is at h in
+    let wrong = sym none ∙ c.in-Ok.ensures.front_is in
+    cc

@@ -1,0 +1,93 @@
+// Arrays and objects that are leaped over: brackets and strings alone are looked at.
+ghost use Rattle.std.specs.Prelude.{◌≡◌, ◌∷◌, ◌<◌, ℕ, IfSome, Some, length};
+ghost use Rattle.topojson_reader.specs.Leaping as spec;
+ghost use Rattle.topojson_reader.specs.Leaping.{Ends, PassesString, at_depth, end_of};
+
+/// Whether the byte opens an array or an object.
+#[inline(always)]
+fn is_opening(byte: u8) -> bool
+    ensures { result ≡ spec.is_opening byte }
+{
+    byte == b'[' || byte == b'{'
+}
+
+/// Whether the byte closes an array or an object.
+#[inline(always)]
+fn is_closing(byte: u8) -> bool
+    ensures { result ≡ spec.is_closing byte }
+{
+    byte == b']' || byte == b'}'
+}
+
+/// What follows the byte that a reverse solidus escapes.
+#[inline(always)]
+fn behind_escaped(bytes: &[u8]) -> Option<&[u8]>
+    ensures { IfSome result (λ rest. (byte : ℕ) × (bytes.now ≡ byte ∷ rest.now)) }
+{
+    match bytes {
+        [] => None,
+        [_, rest @ ..] => Some(rest),
+    }
+}
+
+/// What follows the quotation mark that ends the string.
+#[inline(always)]
+fn behind_string(inside: &[u8]) -> Option<&[u8]>
+    ensures passes { IfSome result (λ rest. PassesString inside.now rest.now) }
+    ensures shorter { IfSome result (λ rest. length rest.now < length inside.now) }
+{
+    let mut rest = inside;
+    while let [first, more @ ..] = rest {
+        if *first == b'"' {
+            return Some(more);
+        }
+        if *first == b'\\' {
+            rest = behind_escaped(more)?;
+        } else {
+            rest = more;
+        }
+    }
+    None
+}
+
+/// What follows the bracket that closes the one that was opened just before.
+fn behind_closing(inside: &[u8]) -> Option<&[u8]>
+    ensures { IfSome result (λ rest. end_of (at_depth 1) inside.now ≡ Some rest.now) }
+{
+    let mut depth = 1u64;
+    let mut rest = inside;
+    while let [first, more @ ..] = rest {
+        if *first == b'"' {
+            rest = behind_string(more)?;
+        } else if is_opening(*first) {
+            depth = depth.checked_add(1)?;
+            rest = more;
+        } else if is_closing(*first) {
+            depth -= 1;
+            if depth == 0 {
+                return Some(more);
+            }
+            rest = more;
+        } else {
+            rest = more;
+        }
+    }
+    None
+}
+
+/// What follows the array or the object at the front, if one stands there: whether one does isn't known before it is read. None of what is
+/// neither, and where no end is found.
+pub(crate) fn leap(bytes: &[u8]) -> Option<&[u8]>
+    ensures { IfSome result (λ rest. Ends bytes.now rest.now) }
+{
+    match bytes {
+        [] => None,
+        [first, inside @ ..] => {
+            if !is_opening(*first) {
+                return None;
+            }
+            let rest = behind_closing(inside)?;
+            Some(rest)
+        }
+    }
+}

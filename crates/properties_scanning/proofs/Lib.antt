@@ -3,3 +3,4 @@ pub mod Failed
 pub mod Lists
 pub mod Quoted
 pub mod Texts
+pub mod SpanParts

@@ -5,6 +5,7 @@
 #![tactic(auto)]
 
 mod reading;
+mod spans;
 mod strings;
 mod values;
 

@@ -1,13 +1,16 @@
 // The properties of a feature (RFC 7946, section 3.2), of whatever kind the value is.
-ghost use Rattle.std.specs.Prelude.{◌≡◌, ◌≤◌};
+ghost use Rattle.std.specs.Prelude.{◌≡◌, ◌≤◌, ◌-◌, [], MatchResult, length, take};
 ghost use Rattle.json_value.specs.declared.json.Json.TheVariants as j;
 ghost use Rattle.json_value.specs.Reading as reading;
-ghost use Rattle.json_reading.specs.Gives.{Gives};
+ghost use Rattle.json_value.specs.Text.{json_text};
+ghost use Rattle.json_reading.specs.Gives.{Fails, Gives};
+ghost use Rattle.json_reading.specs.declared.fault.Fault.TheVariants.{Memory};
 ghost use Rattle.json_cursor.specs.Kinds.{IsKind};
 ghost use Rattle.json_cursor.specs.declared.kinds.Kind.TheVariants.{Object};
-ghost use Rattle.properties_scanning.specs.Copying.{any};
+ghost use Rattle.properties_scanning.specs.Copying.{Copies, any};
 ghost use Rattle.properties_scanning.specs.Fronts.{ReadsProperties};
 
+use crate::spans::behind_value;
 use crate::values::copy_value;
 use feature_properties::Properties;
 use json_cursor::{Kind, kind_at};
@@ -38,15 +41,45 @@ fn members_at<'a>(
     }
 }
 
+/// The text of the object at the front, which stands there in it, and what follows it.
+fn span_at<'a>(alloc: Global, bytes: &'a [u8], rest: &'a [u8]) -> Result<Vec<u8>, Fault>
+    requires { length rest.now ≤ length bytes.now }
+    ensures { MatchResult result (λ text. text.items ≡ take (length bytes.now - length rest.now) bytes.now) (λ fault. fault ≡ Memory) }
+{
+    let (span, _) = bytes.split_at(bytes.len() - rest.len());
+    let mut text = Vec::with_capacity(alloc, span.len())?;
+    text.extend_from_slice(span)?;
+    Ok(text)
+}
+
+/// The text of the object at the front, copied part by part, and what follows it.
+fn copied_at<'a>(alloc: Global, deep: u32, bytes: &'a [u8]) -> Result<(Vec<u8>, &'a [u8]), Fault>
+    ensures { MatchResult result (λ x. Copies (reading.value_at any deep) json_text bytes.now x.1.now [] x.0.items) (λ fault. Fails fault (reading.value_at any deep bytes.now)) }
+{
+    let mut text = Vec::with_capacity(alloc, ROOM)?;
+    let rest = copy_value(alloc, deep, bytes, &mut text)?;
+    text.shrink_to_fit();
+    Ok((text, rest))
+}
+
+/// The text of the object at the front, and what follows it: at once where it stands as it is written, and else part by part.
+fn written_at<'a>(alloc: Global, deep: u32, bytes: &'a [u8]) -> Result<(Vec<u8>, &'a [u8]), Fault>
+    ensures { MatchResult result (λ x. Copies (reading.value_at any deep) json_text bytes.now x.1.now [] x.0.items) (λ fault. Fails fault (reading.value_at any deep bytes.now)) }
+{
+    let Some(rest) = behind_value(deep, bytes) else {
+        return copied_at(alloc, deep, bytes);
+    };
+    let text = span_at(alloc, bytes, rest)?;
+    Ok((text, rest))
+}
+
 /// The object at the front as properties with their text, and what follows it.
 fn text_at<'a>(alloc: Global, deep: u32, bytes: &'a [u8]) -> Result<(Properties, &'a [u8]), Fault>
     requires kind { IsKind bytes.now Object }
     requires deep { deep ≤ 254 }
     ensures { Gives (λ x. (j.Object x.0, x.1.now)) result (reading.value_at any deep bytes.now) }
 {
-    let mut text = Vec::with_capacity(alloc, ROOM)?;
-    let rest = copy_value(alloc, deep, bytes, &mut text)?;
-    text.shrink_to_fit();
+    let (text, rest) = written_at(alloc, deep, bytes)?;
     Ok((Properties::of_text(text), rest))
 }
 

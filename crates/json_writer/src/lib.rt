@@ -5,6 +5,7 @@
 //! `put_object`, over their own ways `PutValue`.
 #![tactic(auto)]
 
+mod backward_text;
 mod list_writer;
 mod number_writer;
 mod short_text;

@@ -5,8 +5,8 @@ ghost use Rattle.decimal_text.specs.Scaling.{units_text};
 ghost use Rattle.json_value.specs.Text.{json_text};
 ghost use Rattle.json_value.specs.declared.json.Json.TheVariants as j;
 
-use crate::short_text::ShortText;
-use crate::units_writer::{add_units, put_units};
+use crate::backward_text::BackwardText;
+use crate::units_writer::{put_units, put_units_in_front};
 use byte_ends::{Drain, Progress, Sink, put_part};
 
 /// Writes a number of units of `10^-places` by its least decimal, as a part of a longer text.
@@ -36,11 +36,11 @@ pub fn put_pair<W: Drain>(
     requires { places ≤ 18 }
     ensures { Continues sink.old sink.new so_far (json_text (j.Array (j.Number (units_text x places) ∷ (j.Number (units_text y places) ∷ [])))) result }
 {
-    let mut text = ShortText::new();
-    text.push(b"[");
-    add_units(&mut text, x, places);
-    text.push(b",");
-    add_units(&mut text, y, places);
-    text.push(b"]");
+    let mut text = BackwardText::new();
+    text.put_byte(b']');
+    put_units_in_front(&mut text, y, places);
+    text.put_byte(b',');
+    put_units_in_front(&mut text, x, places);
+    text.put_byte(b'[');
     put_part(text.as_slice(), so_far, sink)
 }

@@ -1,5 +1,5 @@
 use Rattle.std.proofs.Common.{◌≡◌, ◌∙◌, ℕ, List, [], ◌∷◌, ◌++◌, ap, sym}
-use Rattle.std.proofs.lemmas.List.{append_assoc}
+use Rattle.std.proofs.lemmas.List.{append-nil}
 use Rattle.std.specs.Prelude.{codes}
 use mir.Syntax.{w64}
 use Rattle.std.proofs.lemmas.Int.{to_z-of_z}
@@ -10,13 +10,12 @@ use Rattle.json_value.proofs.Texts.{text-number}
 use Rattle.json_writer.proofs.Lists.{pair-text}
 use Rattle.json_writer.proofs.number_writer.put_pair.Goals as goal
 
--- a text that is made of five parts, one behind the other
-made : (a b c d e : List ℕ) {t0 t1 t2 t3 t4 t5 : List ℕ} → t0 ≡ [] → t1 ≡ t0 ++ a → t2 ≡ t1 ++ b → t3 ≡ t2 ++ c → t4 ≡ t3 ++ d → t5 ≡ t4 ++ e
+-- a text that is made of five parts, one in front of the other
+made : (a b c d e : List ℕ) {t0 t1 t2 t3 t4 t5 : List ℕ} → t0 ≡ [] → t1 ≡ e ++ t0 → t2 ≡ d ++ t1 → t3 ≡ c ++ t2 → t4 ≡ b ++ t3 → t5 ≡ a ++ t4
     → a ++ (b ++ (c ++ (d ++ e))) ≡ t5
 made a b c d e e0 e1 e2 e3 e4 e5 =
-    sym (simp append_assoc)
-    ∙ ap (λ t. (((t ++ b) ++ c) ++ d) ++ e) (sym (e1 ∙ ap (λ t. t ++ a) e0))
-    ∙ ap (λ t. ((t ++ c) ++ d) ++ e) (sym e2) ∙ ap (λ t. (t ++ d) ++ e) (sym e3) ∙ ap (λ t. t ++ e) (sym e4) ∙ sym e5
+    let last = e1 ∙ ap (λ t. e ++ t) e0 ∙ append-nil e in
+    sym (e5 ∙ ap (λ t. a ++ t) (e4 ∙ ap (λ t. b ++ t) (e3 ∙ ap (λ t. c ++ t) (e2 ∙ ap (λ t. d ++ t) last))))
 
 pair : (x y : List ℕ) → json_text (j.Array (j.Number x ∷ (j.Number y ∷ []))) ≡ codes "[" ++ (x ++ (codes "," ++ (y ++ codes "]")))
 pair x y =
@@ -26,6 +25,6 @@ pair x y =
 
 pub returns : goal.returns
 returns g c =
-    let x = rw (to_z-of_z w64 c.args.x c.ranges.x) at c.add_units.ensures.added in
-    let y = rw (to_z-of_z w64 c.args.y c.ranges.y) at c.add_units-2.ensures.added in
-    as_text (pair _ _ ∙ made _ _ _ _ _ c.new-text.ensures c.push.ensures x c.push-2.ensures y c.push-3.ensures ∙ sym c.as_slice.ensures) c.put_part.ensures
+    let x = rw (to_z-of_z w64 c.args.x c.ranges.x) at c.put_units_in_front-2.ensures.added in
+    let y = rw (to_z-of_z w64 c.args.y c.ranges.y) at c.put_units_in_front.ensures.added in
+    as_text (pair _ _ ∙ made (codes "[") _ (codes ",") _ (codes "]") c.new-text.ensures c.put_byte.ensures y c.put_byte-2.ensures x c.put_byte-3.ensures ∙ sym c.as_slice.ensures) c.put_part.ensures

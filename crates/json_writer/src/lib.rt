@@ -14,7 +14,7 @@ mod units_writer;
 mod value_writer;
 
 pub use list_writer::{ArrayOf, PutValue, put_array, put_object};
-pub use number_writer::{put_decimal, put_pair};
+pub use number_writer::{put_decimal, put_pair, put_pair_element};
 pub use short_text::ShortText;
 pub use text_writer::{put_text, write_text};
 pub use units_writer::{add_units, print_units, put_units};

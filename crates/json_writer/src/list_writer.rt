@@ -1,5 +1,6 @@
 // Lists as they are written, whatever their items are.
-ghost use Rattle.std.specs.Prelude.{map};
+ghost use Rattle.std.specs.Prelude.{map, ◌++◌};
+ghost use Rattle.byte_ends.specs.Commas.{comma_unless};
 ghost use Rattle.byte_ends.specs.Continues.{Continues};
 ghost use Rattle.json_value.specs.Text.{json_text, member_text};
 ghost use Rattle.json_value.specs.declared.json.Json.{Json as Value};
@@ -18,6 +19,19 @@ pub trait PutValue<T> {
     /// Writes the item as a part of a longer text.
     fn put<W: Drain>(item: &T, so_far: Progress, sink: &mut Sink<W>) -> Progress
         ensures { Continues sink.old sink.new so_far (json_text (value item.now)) result };
+
+    /// Writes the item as an element of a list: with the comma in front, unless it is the first.
+    fn put_element<W: Drain>(
+        item: &T,
+        is_first: bool,
+        so_far: Progress,
+        sink: &mut Sink<W>,
+    ) -> Progress
+        ensures { Continues sink.old sink.new so_far (comma_unless is_first ++ json_text (value item.now)) result }
+    {
+        let so_far = put_comma(is_first, so_far, sink);
+        Self::put(item, so_far, sink)
+    }
 }
 
 /// Writes the array of the items, each in this way.
@@ -31,9 +45,8 @@ pub fn put_array<P: PutValue<T>, T, W: Drain>(
     let mut so_far = put_part(b"[", so_far, sink);
     let mut is_first = true;
     'items: for item in items {
-        so_far = put_comma(is_first, so_far, sink);
+        so_far = P::put_element(item, is_first, so_far, sink);
         is_first = false;
-        so_far = P::put(item, so_far, sink);
     }
     put_part(b"]", so_far, sink)
 }

@@ -1,5 +1,6 @@
 // Decimal numbers as they are written.
-ghost use Rattle.std.specs.Prelude.{◌≤◌, [], ◌∷◌};
+ghost use Rattle.std.specs.Prelude.{◌≡◌, ◌+◌, ◌<◌, ◌≤◌, [], ◌∷◌, ◌++◌, length};
+ghost use Rattle.byte_ends.specs.Commas.{comma_unless};
 ghost use Rattle.byte_ends.specs.Continues.{Continues};
 ghost use Rattle.decimal_text.specs.Scaling.{units_text};
 ghost use Rattle.json_value.specs.Text.{json_text};
@@ -25,6 +26,30 @@ pub fn put_decimal<W: Drain>(
     }
 }
 
+/// Puts the array of two such numbers in front.
+fn put_pair_in_front(text: &mut BackwardText, x: i64, y: i64, places: u32)
+    requires room { length text.old ≤ 10 }
+    requires places { places ≤ 18 }
+    ensures added { text.new ≡ json_text (j.Array (j.Number (units_text x places) ∷ (j.Number (units_text y places) ∷ []))) ++ text.old }
+    ensures short { length text.new ≤ length text.old + 85 }
+{
+    text.put_byte(b']');
+    put_units_in_front(text, y, places);
+    text.put_byte(b',');
+    put_units_in_front(text, x, places);
+    text.put_byte(b'[');
+}
+
+/// Puts the comma in front of a list's element, or nothing in front of the first.
+fn put_comma_in_front(text: &mut BackwardText, is_first: bool)
+    requires { length text.old < 96 }
+    ensures { text.new ≡ comma_unless is_first ++ text.old }
+{
+    if !is_first {
+        text.put_byte(b',');
+    }
+}
+
 /// Writes the array of two such numbers.
 pub fn put_pair<W: Drain>(
     x: i64,
@@ -37,10 +62,25 @@ pub fn put_pair<W: Drain>(
     ensures { Continues sink.old sink.new so_far (json_text (j.Array (j.Number (units_text x places) ∷ (j.Number (units_text y places) ∷ [])))) result }
 {
     let mut text = BackwardText::new();
-    text.put_byte(b']');
-    put_units_in_front(&mut text, y, places);
-    text.put_byte(b',');
-    put_units_in_front(&mut text, x, places);
-    text.put_byte(b'[');
+    put_pair_in_front(&mut text, x, y, places);
+    put_part(text.as_slice(), so_far, sink)
+}
+
+/// Writes the array of two such numbers as an element of a list: with the comma in front, unless it is the first.
+pub fn put_pair_element<W: Drain>(
+    x: i64,
+    y: i64,
+    places: u32,
+    is_first: bool,
+    so_far: Progress,
+    sink: &mut Sink<W>,
+) -> Progress
+    requires { places ≤ 18 }
+    ensures { Continues sink.old sink.new so_far
+        (comma_unless is_first ++ json_text (j.Array (j.Number (units_text x places) ∷ (j.Number (units_text y places) ∷ [])))) result }
+{
+    let mut text = BackwardText::new();
+    put_pair_in_front(&mut text, x, y, places);
+    put_comma_in_front(&mut text, is_first);
     put_part(text.as_slice(), so_far, sink)
 }

@@ -1,28 +1,30 @@
 // Arcs on a grid as they are written (TopoJSON 1.0, section 2.1.3).
-ghost use Rattle.std.specs.Prelude.{map};
+ghost use Rattle.std.specs.Prelude.{◌++◌, map};
+ghost use Rattle.list_laws.specs.Commas.{comma_unless};
 ghost use Rattle.byte_ends.specs.Continues.{Continues};
 ghost use Rattle.json_value.specs.Text.{json_text};
 ghost use Rattle.json_value.specs.declared.json.Json.TheVariants as j;
 ghost use Rattle.topojson_types.specs.Differences.{difference, deltas};
 ghost use Rattle.topojson_types.specs.Values.{position_value};
 
-use byte_ends::{Drain, Progress, Sink, put_comma, put_part};
+use byte_ends::{Drain, Progress, Sink, put_part};
 use json_value::Items;
-use json_writer::{PutValue, put_pair};
+use json_writer::{PutValue, put_pair_element};
 use topojson_types::Cell;
 
-/// Writes how far a cell lies from the one before.
+/// Writes how far a cell lies from the one before as an element of a list.
 fn put_difference<W: Drain>(
     before: Cell,
     cell: Cell,
+    is_first: bool,
     so_far: Progress,
     sink: &mut Sink<W>,
 ) -> Progress
-    ensures { Continues sink.old sink.new so_far (json_text (position_value 0 (difference before cell))) result }
+    ensures { Continues sink.old sink.new so_far (comma_unless is_first ++ json_text (position_value 0 (difference before cell))) result }
 {
     let x = cell.x() - before.x();
     let y = cell.y() - before.y();
-    put_pair(x, y, 0, so_far, sink)
+    put_pair_element(x, y, 0, is_first, so_far, sink)
 }
 
 /// Writes the first cell of an arc, and then how far each lies from the one before.
@@ -33,9 +35,8 @@ fn put_differences<W: Drain>(cells: &[Cell], so_far: Progress, sink: &mut Sink<W
     let mut is_first = true;
     let mut before = Cell::at(0, 0);
     'cells: for cell in cells {
-        so_far = put_comma(is_first, so_far, sink);
+        so_far = put_difference(before, *cell, is_first, so_far, sink);
         is_first = false;
-        so_far = put_difference(before, *cell, so_far, sink);
         before = *cell;
     }
     put_part(b"]", so_far, sink)

@@ -4,7 +4,7 @@ ghost use Rattle.topojson_types.specs.Values.{position_value};
 
 use byte_ends::{Drain, Progress, Sink};
 use geojson_types::PLACES;
-use json_writer::{PutValue, put_pair};
+use json_writer::{PutValue, put_pair, put_pair_element};
 use topojson_types::Cell;
 
 /// The way to write the cells of a topology without a transform: positions, x first.
@@ -16,6 +16,15 @@ impl PutValue<Cell> for Positions {
     fn put<W: Drain>(cell: &Cell, so_far: Progress, sink: &mut Sink<W>) -> Progress {
         put_pair(cell.x(), cell.y(), PLACES, so_far, sink)
     }
+
+    fn put_element<W: Drain>(
+        cell: &Cell,
+        is_first: bool,
+        so_far: Progress,
+        sink: &mut Sink<W>,
+    ) -> Progress {
+        put_pair_element(cell.x(), cell.y(), PLACES, is_first, so_far, sink)
+    }
 }
 
 /// The way to write cells of a grid: two whole numbers, x first.
@@ -26,5 +35,14 @@ impl PutValue<Cell> for GridCells {
 
     fn put<W: Drain>(cell: &Cell, so_far: Progress, sink: &mut Sink<W>) -> Progress {
         put_pair(cell.x(), cell.y(), 0, so_far, sink)
+    }
+
+    fn put_element<W: Drain>(
+        cell: &Cell,
+        is_first: bool,
+        so_far: Progress,
+        sink: &mut Sink<W>,
+    ) -> Progress {
+        put_pair_element(cell.x(), cell.y(), 0, is_first, so_far, sink)
     }
 }

@@ -1,5 +1,5 @@
 use Rattle.std.specs.Prelude.{codes}
-use Rattle.byte_ends.proofs.Parts.{begins, goes, ends, then}
+use Rattle.byte_ends.proofs.Parts.{begins, goes, ends}
 use Rattle.json_writer.proofs.Lists.{array-text, text_by}
 use Rattle.topojson_types.specs.Differences.{deltas}
 use Rattle.topojson_types.specs.Values.{position_value}
@@ -11,7 +11,7 @@ cells-init g c = rw c.at-before.ensures (begins _ _ (array-text (position_value 
 
 pub cells-preserved : goal.cells-preserved
 cells-preserved g c =
-    goes c.cells.invariant (cell-goes (text_by (position_value 0)) (codes "]") _ _ _ _ _ c.cells-test.true c.cell-item.is) (then c.put_comma-so_far.ensures c.put_difference-so_far.ensures)
+    goes c.cells.invariant (cell-goes (text_by (position_value 0)) (codes "]") _ _ _ _ _ c.cells-test.true c.cell-item.is) c.put_difference-so_far.ensures
 
 pub returns : goal.returns
 returns g c = ends (rw (cells-end (text_by (position_value 0)) (codes "]") c.cells.is_first c.args.cells.now c.cells.cell-index c.cells.before c.cells-test.false) at c.cells.invariant) c.put_part.ensures

@@ -5,7 +5,7 @@ ghost use Rattle.geojson_writer.specs.FeatureValues.{position_value, positions_v
 
 use byte_ends::{Drain, Progress, Sink};
 use geojson_types::{PLACES, Position, Ring};
-use json_writer::{PutValue, put_array, put_pair, put_pair_element};
+use json_writer::{PutValue, ShortText, hold_pair, put_array, put_pair};
 
 /// Writes a position, x first.
 pub fn put_position<W: Drain>(position: Position, so_far: Progress, sink: &mut Sink<W>) -> Progress
@@ -27,10 +27,19 @@ impl PutValue<Position> for Positions {
     fn put_element<W: Drain>(
         position: &Position,
         is_first: bool,
+        held: &mut ShortText,
         so_far: Progress,
         sink: &mut Sink<W>,
     ) -> Progress {
-        put_pair_element(position.x(), position.y(), PLACES, is_first, so_far, sink)
+        hold_pair(
+            position.x(),
+            position.y(),
+            PLACES,
+            is_first,
+            held,
+            so_far,
+            sink,
+        )
     }
 }
 

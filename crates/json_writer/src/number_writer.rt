@@ -3,10 +3,13 @@ ghost use Rattle.std.specs.Prelude.{◌≡◌, ◌+◌, ◌<◌, ◌≤◌, [], 
 ghost use Rattle.byte_ends.specs.Commas.{comma_unless};
 ghost use Rattle.byte_ends.specs.Continues.{Continues};
 ghost use Rattle.decimal_text.specs.Scaling.{units_text};
+ghost use Rattle.json_writer.specs.Holding.{Holds};
 ghost use Rattle.json_value.specs.Text.{json_text};
 ghost use Rattle.json_value.specs.declared.json.Json.TheVariants as j;
 
 use crate::backward_text::BackwardText;
+use crate::holding::hold;
+use crate::short_text::ShortText;
 use crate::units_writer::{put_units, put_units_in_front};
 use byte_ends::{Drain, Progress, Sink, put_part};
 
@@ -66,21 +69,22 @@ pub fn put_pair<W: Drain>(
     put_part(text.as_slice(), so_far, sink)
 }
 
-/// Writes the array of two such numbers as an element of a list: with the comma in front, unless it is the first.
-pub fn put_pair_element<W: Drain>(
+/// Holds the array of two such numbers as an element of a list: with the comma in front, unless it is the first.
+pub fn hold_pair<W: Drain>(
     x: i64,
     y: i64,
     places: u32,
     is_first: bool,
+    held: &mut ShortText,
     so_far: Progress,
     sink: &mut Sink<W>,
 ) -> Progress
     requires { places ≤ 18 }
-    ensures { Continues sink.old sink.new so_far
-        (comma_unless is_first ++ json_text (j.Array (j.Number (units_text x places) ∷ (j.Number (units_text y places) ∷ [])))) result }
+    ensures { Holds sink.old sink.new so_far result held.old
+        (comma_unless is_first ++ json_text (j.Array (j.Number (units_text x places) ∷ (j.Number (units_text y places) ∷ [])))) held.new }
 {
     let mut text = BackwardText::new();
     put_pair_in_front(&mut text, x, y, places);
     put_comma_in_front(&mut text, is_first);
-    put_part(text.as_slice(), so_far, sink)
+    hold(text.as_slice(), held, so_far, sink)
 }

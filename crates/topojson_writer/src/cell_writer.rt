@@ -4,7 +4,7 @@ ghost use Rattle.topojson_types.specs.Values.{position_value};
 
 use byte_ends::{Drain, Progress, Sink};
 use geojson_types::PLACES;
-use json_writer::{PutValue, put_pair, put_pair_element};
+use json_writer::{PutValue, ShortText, hold_pair, put_pair};
 use topojson_types::Cell;
 
 /// The way to write the cells of a topology without a transform: positions, x first.
@@ -20,10 +20,11 @@ impl PutValue<Cell> for Positions {
     fn put_element<W: Drain>(
         cell: &Cell,
         is_first: bool,
+        held: &mut ShortText,
         so_far: Progress,
         sink: &mut Sink<W>,
     ) -> Progress {
-        put_pair_element(cell.x(), cell.y(), PLACES, is_first, so_far, sink)
+        hold_pair(cell.x(), cell.y(), PLACES, is_first, held, so_far, sink)
     }
 }
 
@@ -40,9 +41,10 @@ impl PutValue<Cell> for GridCells {
     fn put_element<W: Drain>(
         cell: &Cell,
         is_first: bool,
+        held: &mut ShortText,
         so_far: Progress,
         sink: &mut Sink<W>,
     ) -> Progress {
-        put_pair_element(cell.x(), cell.y(), 0, is_first, so_far, sink)
+        hold_pair(cell.x(), cell.y(), 0, is_first, held, so_far, sink)
     }
 }

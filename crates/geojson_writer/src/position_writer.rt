@@ -5,7 +5,7 @@ ghost use Rattle.geojson_writer.specs.FeatureValues.{position_value, positions_v
 
 use byte_ends::{Drain, Progress, Sink};
 use geojson_types::{PLACES, Position, Ring};
-use json_writer::{PutValue, put_array, put_pair};
+use json_writer::{PutValue, ShortText, hold_pair, put_array, put_pair};
 
 /// Writes a position, x first.
 pub fn put_position<W: Drain>(position: Position, so_far: Progress, sink: &mut Sink<W>) -> Progress
@@ -22,6 +22,24 @@ impl PutValue<Position> for Positions {
 
     fn put<W: Drain>(position: &Position, so_far: Progress, sink: &mut Sink<W>) -> Progress {
         put_position(*position, so_far, sink)
+    }
+
+    fn put_element<W: Drain>(
+        position: &Position,
+        is_first: bool,
+        held: &mut ShortText,
+        so_far: Progress,
+        sink: &mut Sink<W>,
+    ) -> Progress {
+        hold_pair(
+            position.x(),
+            position.y(),
+            PLACES,
+            is_first,
+            held,
+            so_far,
+            sink,
+        )
     }
 }
 

@@ -1,2 +1,3 @@
 pub mod Fixed
+pub mod Held
 pub mod Lists

@@ -1,5 +1,6 @@
 -- The texts of arrays and objects as lists with commas.
-use Rattle.std.proofs.Common.{◌≡◌, ℕ, true, List, [], ◌∷◌, ◌++◌, map, ◌∙◌, append_assoc, arith}
+use Rattle.std.proofs.Common.{◌≡◌, ℕ, suc, ◌+◌, ◌<◌, Bool, true, false, List, [], ◌∷◌, ◌++◌, length, get_or, drop, map, ap, sym, ◌∙◌, add-one, append_assoc, drop-cons, arith}
+use Rattle.byte_ends.specs.Commas.{comma_unless, with_commas}
 use Rattle.std.specs.Prelude.{codes}
 use Rattle.byte_ends.proofs.Parts.{list_left}
 use Rattle.json_value.specs.declared.json.Json.{Json}
@@ -14,6 +15,17 @@ text_by value_of item = json_text (value_of item)
 -- the text of a member whose value an item stands for
 abbrev pub named_by : {A : Type 0} → (A → Json) → List ℕ × A → List ℕ
 named_by value_of m = member_text (m.0, json_text (value_of m.1))
+
+-- in front of an element: its comma, its text, and what is left behind it
+module _ {A : Type 0} (text_of : A → List ℕ) (closing : List ℕ) (is_first : Bool) (items : List A) (i : ℕ) where
+  regrouped : (comma text behind : List ℕ) → (comma ++ (text ++ behind)) ++ closing ≡ (comma ++ text) ++ (behind ++ closing)
+  regrouped comma text behind = simp append_assoc
+
+  pub element-next : (item : A) → i < length items → item ≡ get_or items i item
+      → list_left text_of closing is_first (drop i items) ≡ (comma_unless is_first ++ text_of item) ++ list_left text_of closing false (drop (i + 1) items)
+  element-next item within is =
+      let here : drop i items ≡ item ∷ drop (i + 1) items = rw add-one (drop-cons items i item within ∙ ap (λ z. z ∷ drop (suc i) items) (sym is)) in
+      ap (list_left text_of closing is_first) here ∙ regrouped (comma_unless is_first) (text_of item) (with_commas false (map text_of (drop (i + 1) items)))
 
 -- an array of the values of these items
 pub array-text : {A : Type 0} (value_of : A → Json) (items : List A) → json_text (j.Array (map value_of items)) ≡ codes "[" ++ list_left (text_by value_of) (codes "]") true items

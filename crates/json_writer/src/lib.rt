@@ -5,6 +5,8 @@
 //! `put_object`, over their own ways `PutValue`.
 #![tactic(auto)]
 
+mod backward_text;
+mod holding;
 mod list_writer;
 mod number_writer;
 mod short_text;
@@ -12,8 +14,9 @@ mod text_writer;
 mod units_writer;
 mod value_writer;
 
+pub use holding::put_behind_held;
 pub use list_writer::{ArrayOf, PutValue, put_array, put_object};
-pub use number_writer::{put_decimal, put_pair};
+pub use number_writer::{hold_pair, put_decimal, put_pair};
 pub use short_text::ShortText;
 pub use text_writer::{put_text, write_text};
 pub use units_writer::{add_units, print_units, put_units};

@@ -1,10 +1,14 @@
 // Lists as they are written, whatever their items are.
-ghost use Rattle.std.specs.Prelude.{map};
+ghost use Rattle.std.specs.Prelude.{map, ◌++◌};
+ghost use Rattle.byte_ends.specs.Commas.{comma_unless};
 ghost use Rattle.byte_ends.specs.Continues.{Continues};
+ghost use Rattle.json_writer.specs.Holding.{Holds};
 ghost use Rattle.json_value.specs.Text.{json_text, member_text};
 ghost use Rattle.json_value.specs.declared.json.Json.{Json as Value};
 ghost use Rattle.json_value.specs.declared.json.Json.TheVariants as j;
 
+use crate::holding::{put_behind_held, put_comma_behind_held};
+use crate::short_text::ShortText;
 use crate::value_writer::put_name;
 use byte_ends::{Drain, Progress, Sink, put_comma, put_part};
 use owned_values::{Items, OwnText};
@@ -18,6 +22,21 @@ pub trait PutValue<T> {
     /// Writes the item as a part of a longer text.
     fn put<W: Drain>(item: &T, so_far: Progress, sink: &mut Sink<W>) -> Progress
         ensures { Continues sink.old sink.new so_far (json_text (value item.now)) result };
+
+    /// Writes or holds the item as an element of a list: with the comma in front, unless it is the first. Items whose texts are
+    /// short are held, so that many of them are written at once.
+    fn put_element<W: Drain>(
+        item: &T,
+        is_first: bool,
+        held: &mut ShortText,
+        so_far: Progress,
+        sink: &mut Sink<W>,
+    ) -> Progress
+        ensures { Holds sink.old sink.new so_far result held.old (comma_unless is_first ++ json_text (value item.now)) held.new }
+    {
+        let so_far = put_comma_behind_held(is_first, held, so_far, sink);
+        Self::put(item, so_far, sink)
+    }
 }
 
 /// Writes the array of the items, each in this way.
@@ -28,14 +47,15 @@ pub fn put_array<P: PutValue<T>, T, W: Drain>(
 ) -> Progress
     ensures { Continues sink.old sink.new so_far (json_text (j.Array (map P.value items.now))) result }
 {
-    let mut so_far = put_part(b"[", so_far, sink);
+    let mut so_far = so_far;
+    let mut held = ShortText::new();
+    held.push(b"[");
     let mut is_first = true;
     'items: for item in items {
-        so_far = put_comma(is_first, so_far, sink);
+        so_far = P::put_element(item, is_first, &mut held, so_far, sink);
         is_first = false;
-        so_far = P::put(item, so_far, sink);
     }
-    put_part(b"]", so_far, sink)
+    put_behind_held(b"]", &mut held, so_far, sink)
 }
 
 /// The way to write a list of items, each in this way, as an array.

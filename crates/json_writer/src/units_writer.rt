@@ -1,60 +1,82 @@
 // Numbers of units as decimal texts.
-ghost use Rattle.std.specs.Prelude.{◌≡◌, ℕ, ◌+◌, ◌%◌, ◌/◌, ◌^◌, ◌<◌, ◌≤◌, ◌++◌, decimal, length};
+ghost use Rattle.std.specs.Prelude.{◌≡◌, ℕ, ◌+◌, ◌%◌, ◌/◌, ◌^◌, ◌<◌, ◌≤◌, ◌++◌, decimal, drop, length};
 ghost use Rattle.byte_ends.specs.Writes.{Writes};
 ghost use Rattle.decimal_text.specs.Parts.{fraction_text, sign_text};
 ghost use Rattle.decimal_text.specs.Scaling.{units_text};
-ghost use Rattle.decimal_text.specs.Units.{fixed, trimmed};
+ghost use Rattle.decimal_text.specs.Units.{trimmed};
 
+use crate::backward_text::BackwardText;
 use crate::short_text::ShortText;
 use byte_ends::{Drain, Sink, WriteFault};
-use itoa::Buffer;
 
-/// The digits without the zeros at their end.
-fn without_zeros(digits: &[u8]) -> &[u8]
-    ensures same { result.now ≡ trimmed digits.now }
-    ensures shorter { length result.now ≤ length digits.now }
+/// The whole part of a number of units of `10^-places`, and `10^places` and the rest: behind its first digit, the one, that has all
+/// digits of the rest, zeros in front too. Nearly all numbers have none or nine places, and division by a constant is fast.
+fn split_size(size: u64, places: u32) -> (u64, u64)
+    requires { places ≤ 18 }
+    ensures whole { result.0 ≡ size / 10 ^ places }
+    ensures rest { result.1 ≡ 10 ^ places + size % 10 ^ places }
 {
-    let mut end = digits.len();
-    while end > 0 && digits[end - 1] == b'0' {
-        end -= 1;
+    if places == 9 {
+        return (size / 1_000_000_000, 1_000_000_000 + size % 1_000_000_000);
     }
-    &digits[..end]
+    if places == 0 {
+        return (size, 1);
+    }
+    let unit = 10u64.pow(places);
+    (size / unit, unit + size % unit)
 }
 
-fn sign_of(negative: bool) -> &'static [u8]
-    ensures { result.now ≡ sign_text negative }
+/// The number without the zeros at its end. Two go at once, since a coordinate of seven decimals has two at nine places.
+fn without_zeros(number: u64) -> u64
+    requires { 0 < number }
+    ensures { decimal result ≡ trimmed (decimal number) }
 {
-    if negative { b"-" } else { b"" }
+    let mut left = number;
+    if left % 100 == 0 {
+        left /= 100;
+    }
+    while left % 10 == 0 {
+        left /= 10;
+    }
+    left
 }
 
-/// Adds a sign and a whole number.
-fn add_whole(text: &mut ShortText, negative: bool, whole: u64)
-    requires { length text.old ≤ 75 }
-    ensures added { text.new ≡ text.old ++ (sign_text negative ++ decimal whole) }
-    ensures short { length text.new ≤ length text.old + 21 }
-{
-    text.push(sign_of(negative));
-    let mut buffer = Buffer::new();
-    text.push(buffer.format(whole).as_bytes());
-}
-
-/// Adds a point and the digits of the rest, if it is not zero. `unit` is `10^places`.
-fn add_rest(text: &mut ShortText, rest: u64, places: u32, unit: u64)
+/// Puts a point and the digits behind the first one in front, without the zeros at their end, or nothing where all are zeros.
+fn put_rest(text: &mut BackwardText, number: u64)
     requires room { length text.old ≤ 76 }
-    requires places { places ≤ 18 }
-    requires unit { unit ≡ 10 ^ places }
-    requires rest { rest < unit }
-    requires small { unit ≤ 10 ^ 18 }
-    ensures added { text.new ≡ text.old ++ fraction_text (trimmed (fixed places rest)) }
+    requires some { 0 < number }
+    ensures added { text.new ≡ fraction_text (trimmed (drop 1 (decimal number))) ++ text.old }
     ensures short { length text.new ≤ length text.old + 20 }
 {
-    let mut buffer = Buffer::new();
-    let padded = buffer.format(unit + rest).as_bytes();
-    let digits = without_zeros(&padded[1..]);
-    if !digits.is_empty() {
-        text.push(b".");
-        text.push(digits);
+    let left = without_zeros(number);
+    if left > 9 {
+        text.put_digits(left);
+        text.replace_first(b'.');
     }
+}
+
+/// Puts a minus sign in front, or nothing.
+fn put_sign(text: &mut BackwardText, negative: bool)
+    requires { length text.old < 96 }
+    ensures added { text.new ≡ sign_text negative ++ text.old }
+    ensures short { length text.new ≤ length text.old + 1 }
+{
+    if negative {
+        text.put_byte(b'-');
+    }
+}
+
+/// Puts a number of units of `10^-places` in front, as the least decimal without exponent.
+pub fn put_units_in_front(text: &mut BackwardText, units: i64, places: u32)
+    requires room { length text.old ≤ 55 }
+    requires places { places ≤ 18 }
+    ensures added { text.new ≡ units_text units places ++ text.old }
+    ensures short { length text.new ≤ length text.old + 41 }
+{
+    let (whole, rest) = split_size(units.unsigned_abs(), places);
+    put_rest(text, rest);
+    text.put_digits(whole);
+    put_sign(text, units < 0);
 }
 
 /// Adds a number of units of `10^-places` as the least decimal without exponent.
@@ -64,10 +86,9 @@ pub fn add_units(text: &mut ShortText, units: i64, places: u32)
     ensures added { text.new ≡ text.old ++ units_text units places }
     ensures short { length text.new ≤ length text.old + 41 }
 {
-    let size = units.unsigned_abs();
-    let unit = 10u64.pow(places);
-    add_whole(text, units < 0, size / unit);
-    add_rest(text, size % unit, places, unit);
+    let mut number = BackwardText::new();
+    put_units_in_front(&mut number, units, places);
+    text.push(number.as_slice());
 }
 
 /// Writes a number of units of `10^-places` as the least decimal without exponent, and counts its bytes on from `count`.
@@ -80,8 +101,8 @@ pub fn put_units<W: Drain>(
     requires { places ≤ 18 }
     ensures { Writes sink.old sink.new count (units_text units places) result }
 {
-    let mut text = ShortText::new();
-    add_units(&mut text, units, places);
+    let mut text = BackwardText::new();
+    put_units_in_front(&mut text, units, places);
     sink.put(count, text.as_slice())
 }
 

@@ -1,44 +1,49 @@
 // Arcs on a grid as they are written (TopoJSON 1.0, section 2.1.3).
-ghost use Rattle.std.specs.Prelude.{map};
+ghost use Rattle.std.specs.Prelude.{◌++◌, map};
+ghost use Rattle.list_laws.specs.Commas.{comma_unless};
 ghost use Rattle.byte_ends.specs.Continues.{Continues};
 ghost use Rattle.json_value.specs.Text.{json_text};
 ghost use Rattle.json_value.specs.declared.json.Json.TheVariants as j;
+ghost use Rattle.json_writer.specs.Holding.{Holds};
 ghost use Rattle.topojson_types.specs.Differences.{difference, deltas};
 ghost use Rattle.topojson_types.specs.Values.{position_value};
 
-use byte_ends::{Drain, Progress, Sink, put_comma, put_part};
+use byte_ends::{Drain, Progress, Sink};
 use json_value::Items;
-use json_writer::{PutValue, put_pair};
+use json_writer::{PutValue, ShortText, hold_pair, put_behind_held};
 use topojson_types::Cell;
 
-/// Writes how far a cell lies from the one before.
-fn put_difference<W: Drain>(
+/// Holds how far a cell lies from the one before, as an element of a list.
+fn hold_difference<W: Drain>(
     before: Cell,
     cell: Cell,
+    is_first: bool,
+    held: &mut ShortText,
     so_far: Progress,
     sink: &mut Sink<W>,
 ) -> Progress
-    ensures { Continues sink.old sink.new so_far (json_text (position_value 0 (difference before cell))) result }
+    ensures { Holds sink.old sink.new so_far result held.old (comma_unless is_first ++ json_text (position_value 0 (difference before cell))) held.new }
 {
     let x = cell.x() - before.x();
     let y = cell.y() - before.y();
-    put_pair(x, y, 0, so_far, sink)
+    hold_pair(x, y, 0, is_first, held, so_far, sink)
 }
 
 /// Writes the first cell of an arc, and then how far each lies from the one before.
 fn put_differences<W: Drain>(cells: &[Cell], so_far: Progress, sink: &mut Sink<W>) -> Progress
     ensures { Continues sink.old sink.new so_far (json_text (j.Array (map (position_value 0) (deltas cells.now)))) result }
 {
-    let mut so_far = put_part(b"[", so_far, sink);
+    let mut so_far = so_far;
+    let mut held = ShortText::new();
+    held.push(b"[");
     let mut is_first = true;
     let mut before = Cell::at(0, 0);
     'cells: for cell in cells {
-        so_far = put_comma(is_first, so_far, sink);
+        so_far = hold_difference(before, *cell, is_first, &mut held, so_far, sink);
         is_first = false;
-        so_far = put_difference(before, *cell, so_far, sink);
         before = *cell;
     }
-    put_part(b"]", so_far, sink)
+    put_behind_held(b"]", &mut held, so_far, sink)
 }
 
 /// The way to write an arc of a topology with a transform.

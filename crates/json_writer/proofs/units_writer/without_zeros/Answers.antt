@@ -1,10 +1,12 @@
-use Rattle.std.proofs.Common.{arith, ◌∙◌, sym}
-use Rattle.decimal_text.proofs.Trimmed.{trimmed-step, trimmed-stop, trimmed-empty}
+use Rattle.std.proofs.Common.{arith}
+use Rattle.json_writer.proofs.Fixed.{trimmed-tenth, trimmed-hundredth, trimmed-whole}
 use Rattle.json_writer.proofs.units_writer.without_zeros.Goals as goal
-use Rattle.json_writer.proofs.units_writer.without_zeros.Goals.{then-loop-end-test+else-digits-end-eq48, else-loop-end-test}
 
-pub loop-end-preserved : goal.loop-end-preserved
-loop-end-preserved c = grind (arith, trimmed-step)
+pub loop-left-init : goal.loop-left-init
+loop-left-init c = grind (arith, trimmed-hundredth)
 
-pub returns-clause-same : goal.returns-clause-same
-returns-clause-same c = grind (arith, trimmed-stop, trimmed-empty)
+pub loop-left-preserved : goal.loop-left-preserved
+loop-left-preserved c = grind (arith, trimmed-tenth)
+
+pub returns : goal.returns
+returns c = grind (arith, trimmed-whole)

@@ -1,12 +1,12 @@
-use Rattle.std.proofs.Common.{◌≡◌, ◌≤◌, length, take}
+use Rattle.std.proofs.Common.{◌≡◌, ◌<◌, decimal}
 use Rattle.decimal_text.specs.Units.{trimmed}
 use Rattle.json_writer.proofs.units_writer.without_zeros.Given as goal
 
-abbrev pub invariant-loop-end : goal.invariant-loop-end
-invariant-loop-end l = record {
-  within : l.end ≤ length l.digits;
-  same : trimmed (take l.end l.digits) ≡ trimmed l.digits;
+abbrev pub invariant-loop-left : goal.invariant-loop-left
+invariant-loop-left l = record {
+  some : 0 < l.left;
+  same : trimmed (decimal l.left) ≡ trimmed (decimal l.number);
 }
 
-abbrev pub decreases-loop-end : goal.decreases-loop-end
-decreases-loop-end l = l.end
+abbrev pub decreases-loop-left : goal.decreases-loop-left
+decreases-loop-left l = l.left

@@ -1,0 +1,82 @@
+// Short parts of a text that are held until there are enough of them to be written at once.
+ghost use Rattle.std.specs.Prelude.{◌≡◌, ◌≤◌, ◌++◌, [], length};
+ghost use Rattle.byte_ends.specs.Commas.{comma_unless};
+ghost use Rattle.byte_ends.specs.Continues.{Continues};
+ghost use Rattle.json_writer.specs.Holding.{Holds};
+
+use crate::short_text::ShortText;
+use byte_ends::{Drain, Progress, Sink, put_part};
+
+// So many bytes may be held while 96 more have room.
+const MOST_HELD: usize = 416;
+
+/// Writes what is held, and holds nothing.
+fn put_held<W: Drain>(held: &mut ShortText, so_far: Progress, sink: &mut Sink<W>) -> Progress
+    ensures wrote { Continues sink.old sink.new so_far held.old result }
+    ensures none { held.new ≡ [] }
+{
+    let so_far = put_part(held.as_slice(), so_far, sink);
+    held.clear();
+    so_far
+}
+
+/// Writes what is held, unless 96 bytes more have room.
+fn make_room<W: Drain>(held: &mut ShortText, so_far: Progress, sink: &mut Sink<W>) -> Progress
+    ensures same { Holds sink.old sink.new so_far result held.old [] held.new }
+    ensures room { length held.new ≤ 416 }
+{
+    if held.len() <= MOST_HELD {
+        return so_far;
+    }
+    put_held(held, so_far, sink)
+}
+
+/// Holds a part of at most 96 bytes.
+pub fn hold<W: Drain>(
+    part: &[u8],
+    held: &mut ShortText,
+    so_far: Progress,
+    sink: &mut Sink<W>,
+) -> Progress
+    requires { length part.now ≤ 96 }
+    ensures { Holds sink.old sink.new so_far result held.old part.now held.new }
+{
+    let so_far = make_room(held, so_far, sink);
+    held.push(part);
+    so_far
+}
+
+/// Writes what is held and the part of at most 96 bytes behind it.
+pub fn put_behind_held<W: Drain>(
+    part: &[u8],
+    held: &mut ShortText,
+    so_far: Progress,
+    sink: &mut Sink<W>,
+) -> Progress
+    requires { length part.now ≤ 96 }
+    ensures wrote { Continues sink.old sink.new so_far (held.old ++ part.now) result }
+    ensures none { held.new ≡ [] }
+{
+    let so_far = hold(part, held, so_far, sink);
+    put_held(held, so_far, sink)
+}
+
+/// The comma in front of a list's element, or nothing in front of the first.
+fn comma(is_first: bool) -> &'static [u8]
+    ensures { result.now ≡ comma_unless is_first }
+{
+    if is_first { b"" } else { b"," }
+}
+
+/// Writes what is held, and the comma in front of a list's element, or nothing in front of the first.
+pub fn put_comma_behind_held<W: Drain>(
+    is_first: bool,
+    held: &mut ShortText,
+    so_far: Progress,
+    sink: &mut Sink<W>,
+) -> Progress
+    ensures wrote { Continues sink.old sink.new so_far (held.old ++ comma_unless is_first) result }
+    ensures none { held.new ≡ [] }
+{
+    put_behind_held(comma(is_first), held, so_far, sink)
+}

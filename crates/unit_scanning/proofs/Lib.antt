@@ -1,2 +1,4 @@
+pub mod FewDigits
 pub mod NumberParts
+pub mod PlainNumbers
 pub mod Rounded

@@ -5,6 +5,8 @@
 #![tactic(auto)]
 
 mod digits;
+mod plain;
+mod signs;
 mod units;
 
 pub use units::{Units, units_at, whole_number_at};

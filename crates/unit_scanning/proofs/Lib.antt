@@ -1,3 +1,4 @@
+pub mod CutNumbers
 pub mod FewDigits
 pub mod NumberParts
 pub mod PlainNumbers

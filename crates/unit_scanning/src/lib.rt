@@ -4,7 +4,9 @@
 //! `units_at`, of `plain_units_at` and of `whole_number_at`.
 #![tactic(auto)]
 
+mod cut;
 mod digits;
+mod ends;
 mod plain;
 mod signs;
 mod units;

@@ -10,7 +10,7 @@ use crate::signs::{sign_at, with_sign};
 use geometry::INPUT_LIMIT;
 
 /// How many digits are read this way, before the point and behind it.
-const FEW: usize = 9;
+pub const FEW: usize = 9;
 
 /// The bytes of the longest number that is read this way, and the one behind it: a sign, digits, the point and digits again.
 const LONGEST: usize = 21;
@@ -48,7 +48,7 @@ fn with_digit(value: u64, bytes: &[u8]) -> Option<(u64, &[u8])>
 
 /// The digits at the front, or the first few of them: what they write after `start`, how many they are, and what follows them.
 #[inline(always)]
-fn few_digits_at(start: u64, bytes: &[u8]) -> (u64, usize, &[u8])
+pub fn few_digits_at(start: u64, bytes: &[u8]) -> (u64, usize, &[u8])
     requires { start < 10 ^ 9 }
     ensures digits { AreDigits bytes.now start result.0 result.1 result.2.now }
     ensures few { result.1 ≤ 9 }
@@ -80,7 +80,7 @@ fn many_digits_at(bytes: &[u8]) -> Option<(u64, &[u8])>
 
 /// The units in one of the last of so many decimals: 10^(9 - places).
 #[inline(always)]
-fn units_of_place(places: usize) -> u64
+pub fn units_of_place(places: usize) -> u64
     requires { places ≤ 9 }
     ensures { result ≡ 10 ^ (9 - places) }
 {

@@ -5,7 +5,9 @@ ghost use Rattle.decimal_text.specs.Rounding.{signed, rounded_of};
 ghost use Rattle.geometry.specs.Units.{units_in_one, input_limit};
 ghost use Rattle.unit_scanning.specs.Numbers.{IsUnits, IsWholeNumber, ends};
 
+use crate::cut::cut_units_at;
 use crate::digits::{digits_at, fraction_at, is_whole, with_zeros};
+use crate::ends::is_end;
 use crate::plain::{plain_units_at, whole_digits_at};
 use crate::signs::{sign_at, with_sign};
 use geometry::{INPUT_LIMIT, PLACES};
@@ -19,23 +21,6 @@ pub struct Units {
     pub value: i64,
     /// Nothing was rounded.
     pub exact: bool,
-}
-
-/// Nothing follows a value, or a byte that may: white space, a comma or a closing bracket.
-#[inline(always)]
-fn is_end(rest: &[u8]) -> bool
-    ensures { result ≡ ends rest.now }
-{
-    match rest {
-        [] => true,
-        [first, ..] => {
-            *first == b' '
-                || *first == b'\t'
-                || *first == b'\n'
-                || *first == b'\r'
-                || (*first == b',' || (*first == b']' || *first == b'}'))
-        }
-    }
 }
 
 /// So many decimals, rounded to those that are kept, halves up, and whether nothing was rounded. None past the limit.
@@ -60,8 +45,7 @@ fn rounded(value: u64, places: usize) -> Option<(u64, bool)>
 
 /// The number at the front in whole units, however many digits it has, and what follows it. None where it has an exponent, and where it
 /// isn't read this way for its size.
-#[inline(never)]
-fn long_units_at(bytes: &[u8]) -> Option<(Units, &[u8])>
+fn any_units_at(bytes: &[u8]) -> Option<(Units, &[u8])>
     ensures units { IfSome result (λ x. IsUnits bytes.now x.0.value x.0.exact x.1.now) }
     ensures within { IfSome result (λ x. unsigned_abs x.0.value ≤ input_limit) }
 {
@@ -80,6 +64,19 @@ fn long_units_at(bytes: &[u8]) -> Option<(Units, &[u8])>
         exact,
     };
     Some((units, rest))
+}
+
+/// The number at the front in whole units, with more decimals than are kept or written in another unusual way, and what follows it. None
+/// where it has an exponent, and where it isn't read this way for its size.
+#[inline(never)]
+fn long_units_at(bytes: &[u8]) -> Option<(Units, &[u8])>
+    ensures units { IfSome result (λ x. IsUnits bytes.now x.0.value x.0.exact x.1.now) }
+    ensures within { IfSome result (λ x. unsigned_abs x.0.value ≤ input_limit) }
+{
+    if let Some((units, rest)) = cut_units_at(bytes) {
+        return Some((units, rest));
+    }
+    any_units_at(bytes)
 }
 
 /// The number at the front in whole units, and what follows it. None where it has an exponent, and where it isn't read this

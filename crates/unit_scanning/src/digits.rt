@@ -29,7 +29,7 @@ pub fn after_byte(byte: u8, bytes: &[u8]) -> Option<&[u8]>
 }
 
 #[inline(always)]
-pub fn is_digit(byte: u8) -> bool
+fn is_digit(byte: u8) -> bool
     ensures { result ≡ grammar.is_digit byte }
 {
     byte >= b'0' && byte <= b'9'

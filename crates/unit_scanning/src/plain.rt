@@ -5,7 +5,7 @@ ghost use Rattle.decimal_text.specs.Digits.{digits_value_after};
 ghost use Rattle.geometry.specs.Units.{input_limit};
 ghost use Rattle.unit_scanning.specs.Numbers.{AreDigits, IsDigitFirst, IsFractionOf, IsUnits, digits_front, ends};
 
-use crate::digits::{after_byte, digits_at, is_digit, is_whole, starts_with_digit};
+use crate::digits::{after_byte, digits_at, is_whole, starts_with_digit};
 use crate::signs::{sign_at, with_sign};
 use geometry::INPUT_LIMIT;
 
@@ -38,10 +38,11 @@ fn with_digit(value: u64, bytes: &[u8]) -> Option<(u64, &[u8])>
     match bytes {
         [] => None,
         [first, rest @ ..] => {
-            if !is_digit(*first) {
+            let digit = u64::from(*first).wrapping_sub(u64::from(b'0'));
+            if digit > 9 {
                 return None;
             }
-            Some((value * 10 + u64::from(*first - b'0'), rest))
+            Some((value * 10 + digit, rest))
         }
     }
 }

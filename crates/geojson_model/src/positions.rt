@@ -108,6 +108,7 @@ fn pair_at(bytes: &[u8]) -> Option<(Units, Units, &[u8])>
 }
 
 /// The position whose elements stand behind the bracket, and what follows it, where the first two are read as they stand.
+#[cold]
 #[inline(never)]
 fn two_numbers_at<'a>(
     alloc: Global,

@@ -70,6 +70,7 @@ pub fn few_digits_at(start: u64, bytes: &[u8]) -> (u64, usize, &[u8])
 }
 
 /// The digits at the front, however many they are: what they write, and what follows them. None past 10^18.
+#[cold]
 #[inline(never)]
 fn many_digits_at(bytes: &[u8]) -> Option<(u64, &[u8])>
     ensures value { IfSome result (λ x. x.0 ≡ digits_value_after 0 (digits_front bytes.now)) }

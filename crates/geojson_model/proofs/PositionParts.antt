@@ -9,10 +9,11 @@ use Rattle.json_value.proofs.KindsOf.{array_of-array, number_of-number}
 use Rattle.json_value.specs.declared.json.Json.TheOpen.{Json-F}
 use Rattle.json_value.specs.declared.json.Json.TheViews.{out-Json}
 use Rattle.json_value.specs.Kinds.{array_of, number_in, number_of}
-use Rattle.json_value.specs.Reading.{Parse, skip, list_after, list_at, value_at}
+use Rattle.json_value.specs.Grammar.{is_space}
+use Rattle.json_value.specs.Reading.{Parse, skip, after_word, list_after, list_at, value_at}
 use Rattle.std.specs.Str.{is_utf8}
 use Rattle.unit_scanning.specs.declared.units.Units.{Units}
-use Rattle.unit_scanning.specs.Numbers.{IsUnits}
+use Rattle.unit_scanning.specs.Numbers.{IsUnits, ends as units_end}
 use Rattle.json_reading.specs.declared.fault.Fault.{Fault}
 use Rattle.json_reading.specs.Gives.{Fails}
 use Rattle.decimal_text.specs.declared.num_text.Scaled.{Scaled}
@@ -30,7 +31,8 @@ use Rattle.json_cursor.specs.declared.stop.Stop.TheVariants as stop
 use Rattle.json_cursor.specs.Kinds.{kind_in, kind_of}
 use Rattle.json_cursor.specs.declared.kinds.Kind.TheVariants.{Number}
 use Rattle.json_cursor.specs.Answers.{Reads, Stops, Answers, stop_of}
-use Rattle.geojson_model.specs.Positions.{ArePair, second_position}
+use Rattle.geojson_model.specs.Positions.{ArePair, ArePlainPair, second_position}
+use Rattle.json_cursor.proofs.Openings.{first_byte}
 use Rattle.json_cursor.proofs.Steps.{made, unmade, made_reads, made_stops, part_stops, found_stops}
 use Rattle.json_cursor.proofs.Lists.{no_element, ends, goes_on, breaks, first_stops, some_listed}
 
@@ -220,3 +222,31 @@ module _ (exact : Bool) (c : Counts) (front : Option (Json × List ℕ)) where
       → Answers (λ p. p) (elements_position exact) elements c new answer → Answers (λ p. p) (position exact) front c new answer
   by_elements elements is new (Ok x) h = made_reads j.Array (position exact) (elements_position exact) front elements is c c (λ vs end k. array_law vs) x.0 x.1.now new h
   by_elements elements is new (Err s) h = made_stops j.Array (position exact) (elements_position exact) front elements is c c (λ vs end k. array_law vs) s h
+
+-- ---- two numbers that are read as most are written
+
+no_mark : (b : ℕ) (bs : List ℕ) → is_space b ≡ false → skip (b ∷ bs) ≡ b ∷ bs
+unfolding skip
+no_mark b bs h = rw h refl
+
+pub plain_pair : (bytes after more behind rest : List ℕ) (x y : ℤ) → (units_end after ≡ true → IsUnits (skip bytes) x true after) → Some more ≡ after_word (44 ∷ []) after
+    → (units_end behind ≡ true → IsUnits (skip more) y true behind) → Some rest ≡ after_word (93 ∷ []) behind → ArePlainPair bytes x y rest
+plain_pair bytes after more behind rest x y first comma second close =
+    let then : after ≡ 44 ∷ more = first_byte 44 after more comma in
+    let last : behind ≡ 93 ∷ rest = first_byte 93 behind rest close in
+    record {
+      after = after;
+      first = first (ap units_end then);
+      more = more;
+      comma = ap skip then ∙ no_mark 44 more refl;
+      second = subst (λ end. IsUnits (skip more) y true end) last (second (ap units_end last));
+    }
+
+never_refused : (exact : Bool) → (exact && not true) ≡ false
+never_refused true = refl
+never_refused false = refl
+
+pub plain_reads : (exact : Bool) (d n : ℕ) (bs : List ℕ) → 2 ≤ n → (c : Counts) (x y : ℤ) (rest : List ℕ) → ArePlainPair bs x y rest
+    → Reads (elements_position exact) (list_at 93 (value_at is_utf8 d) n bs) (record { x = x; y = y }) rest c c
+plain_reads exact d n bs many c x y rest p =
+    pair_ends exact d n bs many c (record { value = x; exact = true }) (record { value = y; exact = true }) (93 ∷ rest) p (never_refused exact) (never_refused exact) rest (no_mark 93 rest refl)

@@ -1,5 +1,5 @@
 -- The parts of a position.
-use Rattle.std.specs.Prelude.{◌≡◌, ℕ, ℤ, Bool, nat_lt, List, [], ◌∷◌, length, Ok}
+use Rattle.std.specs.Prelude.{◌≡◌, ℕ, ℤ, Bool, true, nat_lt, List, [], ◌∷◌, length, Ok}
 use Rattle.json_value.specs.Reading.{skip}
 use Rattle.unit_scanning.specs.declared.units.Units.{Units}
 use Rattle.unit_scanning.specs.Numbers.{IsUnits}
@@ -24,3 +24,7 @@ pub record ArePair (bytes : List ℕ) (x y : Units) (rest : List ℕ) : Type 0 w
   pub more : List ℕ
   pub comma : skip after ≡ 44 ∷ more
   pub second : IsUnits (skip more) y.value y.exact rest
+
+-- two numbers that aren't rounded stand so, the bracket that closes (93) behind them, and this follows it
+abbrev pub ArePlainPair : List ℕ → ℤ → ℤ → List ℕ → Type 0
+ArePlainPair bytes x y rest = ArePair bytes (record { value = x; exact = true }) (record { value = y; exact = true }) (93 ∷ rest)

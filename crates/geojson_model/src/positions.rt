@@ -5,16 +5,16 @@ ghost use Rattle.json_cursor.specs.Answers.{Answers};
 ghost use Rattle.json_cursor.specs.Arrays.{front_elements, front_value};
 ghost use Rattle.geometry.specs.Units.{input_limit};
 ghost use Rattle.json_cursor.specs.Folds.{one};
-ghost use Rattle.geojson_model.specs.Positions.{ArePair, second_position};
+ghost use Rattle.geojson_model.specs.Positions.{ArePair, ArePlainPair, second_position};
 
 use crate::coordinates::{coordinate_at, is_refused};
 use geojson_meaning::GeoFaultKind;
 use geojson_types::{Counts, Position};
-use json_cursor::{Element, Mark, Opening, Stop, after_elements, mark_at, opening_at};
+use json_cursor::{Element, Mark, Opening, Stop, after_elements, behind_byte, mark_at, opening_at};
 use json_reading::skip;
 use std::alloc::Global;
 use text_checking::after_value;
-use unit_scanning::{Units, units_at};
+use unit_scanning::{Units, plain_units_at, units_at};
 
 /// The position whose second coordinate and further elements stand behind the comma, and what follows its bracket.
 #[inline(always)]
@@ -107,9 +107,10 @@ fn pair_at(bytes: &[u8]) -> Option<(Units, Units, &[u8])>
     Some((x, y, rest))
 }
 
-/// The position whose elements stand behind the bracket, and what follows it.
-#[inline(always)]
-pub(crate) fn numbers_at<'a>(
+/// The position whose elements stand behind the bracket, and what follows it, where the first two are read as they stand.
+#[cold]
+#[inline(never)]
+fn two_numbers_at<'a>(
     alloc: Global,
     deep: u32,
     turns: usize,
@@ -144,6 +145,42 @@ pub(crate) fn numbers_at<'a>(
             Ok((Position::at(x.value, y.value), end))
         }
     }
+}
+
+/// Two numbers of few digits, a comma between them and the bracket that closes them, as most positions are written: the numbers, none of
+/// them rounded, and what follows the bracket.
+#[inline(always)]
+fn plain_pair_at(bytes: &[u8]) -> Option<(i64, i64, &[u8])>
+    ensures pair { IfSome result (λ p. ArePlainPair bytes.now p.0 p.1 p.2.now) }
+    ensures first { IfSome result (λ p. unsigned_abs p.0 ≤ input_limit) }
+    ensures second { IfSome result (λ p. unsigned_abs p.1 ≤ input_limit) }
+{
+    let (x, after) = plain_units_at(skip(bytes))?;
+    let more = behind_byte(b',', after)?;
+    let (y, behind) = plain_units_at(skip(more))?;
+    let rest = behind_byte(b']', behind)?;
+    Some((x, y, rest))
+}
+
+/// The position whose elements stand behind the bracket, and what follows it.
+#[inline(always)]
+pub(crate) fn numbers_at<'a>(
+    alloc: Global,
+    deep: u32,
+    turns: usize,
+    inside: &'a [u8],
+    exact: bool,
+    counts: &mut Counts,
+) -> Result<(Position, &'a [u8]), Stop<GeoFaultKind>>
+    ensures { Answers (λ p. p) (spec.elements_position exact) (front_elements deep turns inside.now) counts.old counts.new result }
+{
+    if turns < 2 {
+        return two_numbers_at(alloc, deep, turns, inside, exact, counts);
+    }
+    let Some((x, y, rest)) = plain_pair_at(inside) else {
+        return two_numbers_at(alloc, deep, turns, inside, exact, counts);
+    };
+    Ok((Position::at(x, y), rest))
 }
 
 /// The position at the front (RFC 7946, section 3.1.1), x (longitude) first, and what follows it.

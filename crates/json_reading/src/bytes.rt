@@ -12,6 +12,11 @@ use crate::fault::{Fault, stopped};
 pub fn skip(bytes: &[u8]) -> &[u8]
     ensures { result.now ≡ spec.skip bytes.now }
 {
+    if let [first, ..] = bytes {
+        if *first > b' ' {
+            return bytes;
+        }
+    }
     let mut rest = bytes;
     while let [b' ' | b'\t' | b'\n' | b'\r', more @ ..] = rest {
         rest = more;

@@ -1,2 +1,5 @@
+pub mod CutNumbers
+pub mod FewDigits
 pub mod NumberParts
+pub mod PlainNumbers
 pub mod Rounded

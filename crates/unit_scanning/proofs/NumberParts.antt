@@ -63,7 +63,7 @@ minus_is : (negative : Bool) → IsMinus (sign_text negative)
 minus_is true = one_minus
 minus_is false = no_minus
 
-some_text : (f : List ℕ) → 0 < length f → fraction_text f ≡ 46 ∷ f
+pub some_text : (f : List ℕ) → 0 < length f → fraction_text f ≡ 46 ∷ f
 some_text [] h = absurd (omega arith)
 some_text (d ∷ ds) h = refl
 

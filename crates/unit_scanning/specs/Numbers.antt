@@ -1,5 +1,5 @@
 -- Digits at the front of bytes, and numbers in whole units.
-use Rattle.std.specs.Prelude.{◌≡◌, ℕ, ◌||◌, ◌==◌, Bool, true, false, not, List, [], ◌∷◌, ◌++◌, length, Some, Ok, if◌then◌else◌, ℤ}
+use Rattle.std.specs.Prelude.{◌≡◌, ℕ, ◌+◌, ◌-◌, ◌*◌, ◌||◌, ◌==◌, Bool, true, false, not, List, [], ◌∷◌, ◌++◌, length, Some, Ok, if◌then◌else◌, ℤ}
 use Rattle.json_value.specs.declared.json.Json.TheVariants as j
 use Rattle.json_value.specs.Grammar.{is_space}
 use Rattle.decimal_text.specs.Digits.{digits_value_after}
@@ -23,6 +23,21 @@ starts_digit (b ∷ bs) = is_digit b
 abbrev pub whole_front : List ℕ → Bool
 whole_front [] = false
 whole_front (b ∷ bs) = if b == 48 then not (starts_digit bs) else is_digit b
+
+-- a digit is first, and goes behind the value, and this follows it
+pub record IsDigitFirst (bytes : List ℕ) (value longer : ℕ) (rest : List ℕ) : Type 0 where
+  pub digit : ℕ
+  pub is : is_digit digit ≡ true
+  pub text : bytes ≡ digit ∷ rest
+  pub value_is : longer ≡ 10 * value + (digit - 48)
+
+-- digits stand before the rest, so many, and write the value after those of start
+pub record AreDigits (bytes : List ℕ) (start value count : ℕ) (rest : List ℕ) : Type 0 where
+  pub digits : List ℕ
+  pub all : AllDigits digits
+  pub text : bytes ≡ digits ++ rest
+  pub value_is : value ≡ digits_value_after start digits
+  pub count_is : count ≡ length digits
 
 -- a fraction, or none, stands before the rest, and its digits write the value after those of start
 pub record IsFractionOf (bytes : List ℕ) (start value places : ℕ) (rest : List ℕ) : Type 0 where

@@ -19,7 +19,7 @@ const ROOM_FOR_ZERO: u64 = INPUT_LIMIT / 10;
 
 /// What follows the byte, where it is first.
 #[inline(always)]
-fn after_byte(byte: u8, bytes: &[u8]) -> Option<&[u8]>
+pub fn after_byte(byte: u8, bytes: &[u8]) -> Option<&[u8]>
     ensures { IfSome result (λ rest. bytes.now ≡ byte ∷ rest.now) }
 {
     match bytes {
@@ -60,7 +60,7 @@ pub fn digits_at(start: u64, bytes: &[u8]) -> Option<(u64, &[u8])>
 }
 
 #[inline(always)]
-fn starts_with_digit(bytes: &[u8]) -> bool
+pub fn starts_with_digit(bytes: &[u8]) -> bool
     ensures { result ≡ starts_digit bytes.now }
 {
     match bytes {

@@ -5,7 +5,11 @@ ghost use Rattle.decimal_text.specs.Rounding.{signed, rounded_of};
 ghost use Rattle.geometry.specs.Units.{units_in_one, input_limit};
 ghost use Rattle.unit_scanning.specs.Numbers.{IsUnits, IsWholeNumber, ends};
 
+use crate::cut::cut_units_at;
 use crate::digits::{digits_at, fraction_at, is_whole, with_zeros};
+use crate::ends::is_end;
+use crate::plain::{plain_units_at, whole_digits_at};
+use crate::signs::{sign_at, with_sign};
 use geometry::{INPUT_LIMIT, PLACES};
 
 /// How many decimals are kept.
@@ -17,48 +21,6 @@ pub struct Units {
     pub value: i64,
     /// Nothing was rounded.
     pub exact: bool,
-}
-
-/// What is behind a minus sign, if there is one.
-#[inline(always)]
-fn sign_at(bytes: &[u8]) -> (bool, &[u8])
-    ensures { bytes.now ≡ sign_text result.0 ++ result.1.now }
-{
-    match bytes {
-        [b'-', rest @ ..] => (true, rest),
-        _ => (false, bytes),
-    }
-}
-
-/// Nothing follows a value, or a byte that may: white space, a comma or a closing bracket.
-#[inline(always)]
-fn is_end(rest: &[u8]) -> bool
-    ensures { result ≡ ends rest.now }
-{
-    match rest {
-        [] => true,
-        [first, ..] => {
-            *first == b' '
-                || *first == b'\t'
-                || *first == b'\n'
-                || *first == b'\r'
-                || (*first == b',' || (*first == b']' || *first == b'}'))
-        }
-    }
-}
-
-/// The number with a sign.
-#[inline(always)]
-fn with_sign(negative: bool, size: u64) -> i64
-    requires { size ≤ 10 ^ 18 }
-    ensures value { result ≡ signed negative size }
-    ensures within { unsigned_abs result ≤ size }
-{
-    if negative {
-        -(size as i64)
-    } else {
-        size as i64
-    }
 }
 
 /// So many decimals, rounded to those that are kept, halves up, and whether nothing was rounded. None past the limit.
@@ -81,10 +43,9 @@ fn rounded(value: u64, places: usize) -> Option<(u64, bool)>
     Some((size, value % step == 0))
 }
 
-/// The number at the front in whole units, and what follows it. None where it has an exponent, and where it isn't read this
-/// way for its size.
-#[inline(always)]
-pub fn units_at(bytes: &[u8]) -> Option<(Units, &[u8])>
+/// The number at the front in whole units, however many digits it has, and what follows it. None where it has an exponent, and where it
+/// isn't read this way for its size.
+fn any_units_at(bytes: &[u8]) -> Option<(Units, &[u8])>
     ensures units { IfSome result (λ x. IsUnits bytes.now x.0.value x.0.exact x.1.now) }
     ensures within { IfSome result (λ x. unsigned_abs x.0.value ≤ input_limit) }
 {
@@ -105,6 +66,37 @@ pub fn units_at(bytes: &[u8]) -> Option<(Units, &[u8])>
     Some((units, rest))
 }
 
+/// The number at the front in whole units, with more decimals than are kept or written in another unusual way, and what follows it. None
+/// where it has an exponent, and where it isn't read this way for its size.
+#[cold]
+#[inline(never)]
+fn long_units_at(bytes: &[u8]) -> Option<(Units, &[u8])>
+    ensures units { IfSome result (λ x. IsUnits bytes.now x.0.value x.0.exact x.1.now) }
+    ensures within { IfSome result (λ x. unsigned_abs x.0.value ≤ input_limit) }
+{
+    if let Some((units, rest)) = cut_units_at(bytes) {
+        return Some((units, rest));
+    }
+    any_units_at(bytes)
+}
+
+/// The number at the front in whole units, and what follows it. None where it has an exponent, and where it isn't read this
+/// way for its size.
+#[inline(always)]
+pub fn units_at(bytes: &[u8]) -> Option<(Units, &[u8])>
+    ensures units { IfSome result (λ x. IsUnits bytes.now x.0.value x.0.exact x.1.now) }
+    ensures within { IfSome result (λ x. unsigned_abs x.0.value ≤ input_limit) }
+{
+    let Some((value, rest)) = plain_units_at(bytes) else {
+        return long_units_at(bytes);
+    };
+    if !is_end(rest) {
+        return long_units_at(bytes);
+    }
+    let units = Units { value, exact: true };
+    Some((units, rest))
+}
+
 /// The whole number at the front, no farther from zero than the limit, and what follows it. None where it has a fraction or an
 /// exponent, and where it isn't read this way for its size.
 #[inline(always)]
@@ -117,7 +109,7 @@ pub fn whole_number_at(limit: u64, bytes: &[u8]) -> Option<(i64, &[u8])>
     if !is_whole(front) {
         return None;
     }
-    let (size, rest) = digits_at(0, front)?;
+    let (size, rest) = whole_digits_at(front)?;
     if !is_end(rest) || size > limit {
         return None;
     }

@@ -5,7 +5,7 @@ use mir.Val.{to_z, of_z}
 use Rattle.geometry.specs.Units.{unit_places, input_limit}
 use Rattle.unit_scanning.specs.Numbers.{IsUnits}
 use Rattle.unit_scanning.proofs.NumberParts.{number_is_at}
-use Rattle.unit_scanning.proofs.units.units_at.Goals as goal
+use Rattle.unit_scanning.proofs.units.any_units_at.Goals as goal
 
 pub returns-clause-units : goal.returns-clause-units
 returns-clause-units c =

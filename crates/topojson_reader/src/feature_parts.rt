@@ -121,24 +121,44 @@ impl<'a> FeatureParts<'a> {
     }
 }
 
-/// The name of the member at the front, and where its value begins: those of a feature are looked for first.
+/// The first letter of the name of the member at the front.
+#[inline(always)]
+fn first_letter(bytes: &[u8]) -> u8 {
+    match bytes {
+        [_, letter, ..] => *letter,
+        _ => 0,
+    }
+}
+
+/// The name of the member at the front, and where its value begins: those of a feature are looked for first, by their letters.
 fn feature_name_at<'a>(alloc: Global, bytes: &'a [u8]) -> Result<(Name<'a>, &'a [u8]), Fault>
     ensures { Names bytes.now result }
 {
-    if let Some(found) = named_at("type", bytes) {
-        return Ok(found);
+    let letter = first_letter(bytes);
+    if letter == b't' {
+        if let Some(found) = named_at("type", bytes) {
+            return Ok(found);
+        }
     }
-    if let Some(found) = named_at("properties", bytes) {
-        return Ok(found);
+    if letter == b'p' {
+        if let Some(found) = named_at("properties", bytes) {
+            return Ok(found);
+        }
     }
-    if let Some(found) = named_at("arcs", bytes) {
-        return Ok(found);
+    if letter == b'a' {
+        if let Some(found) = named_at("arcs", bytes) {
+            return Ok(found);
+        }
     }
-    if let Some(found) = named_at("id", bytes) {
-        return Ok(found);
+    if letter == b'i' {
+        if let Some(found) = named_at("id", bytes) {
+            return Ok(found);
+        }
     }
-    if let Some(found) = named_at("coordinates", bytes) {
-        return Ok(found);
+    if letter == b'c' {
+        if let Some(found) = named_at("coordinates", bytes) {
+            return Ok(found);
+        }
     }
     name_at(alloc, bytes)
 }

@@ -18,7 +18,7 @@ ghost use Rattle.topojson_types.specs.Validity.{AreDistinct};
 use crate::choosing::kept_positions;
 use crate::level::Level;
 use arc_table::Table;
-use cutter::cut;
+use cutter::{Pieces, cut};
 use effective_area::Reducer;
 use geojson_types::{Dropped, Layer};
 use grid_meaning::{built_cells_are_on, snapped_are_on};
@@ -34,13 +34,20 @@ use std::alloc::Global;
 use topo_model::assemble;
 use topojson_types::Topology;
 
+/// The lines and rings of the layers, cut. What was noted of their positions is given back.
+fn cut_lines(alloc: Global, layers: &[(OwnText, Layer)]) -> Result<Pieces, Memory>
+    ensures { IfOk result (λ ps. ps ≡ map (split_of (linework (layers_of layers.now))) (linework (layers_of layers.now))) }
+{
+    let lines = Lines::of_named(alloc, layers)?;
+    let vertices = Vertices::of(alloc, &lines)?;
+    cut(alloc, lines, &vertices)
+}
+
 /// The arcs that the lines and rings of the layers share.
 fn shared_arcs(alloc: Global, layers: &[(OwnText, Layer)]) -> Result<Table, Memory>
     ensures { IfOk result (λ t. t ≡ table_of (map (split_of (linework (layers_of layers.now))) (linework (layers_of layers.now)))) }
 {
-    let lines = Lines::of_named(alloc, layers)?;
-    let vertices = Vertices::of(alloc, &lines)?;
-    let pieces = cut(alloc, lines, &vertices)?;
+    let pieces = cut_lines(alloc, layers)?;
     Table::build(alloc, &pieces)
 }
 

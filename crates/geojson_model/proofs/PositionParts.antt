@@ -1,5 +1,5 @@
 -- A position by its elements.
-use Rattle.std.proofs.Common.{◌≡◌, ◌≢◌, ℕ, ◌-◌, ◌<◌, ◌≤◌, Bool, true, false, not, List, [], ◌∷◌, length, Option, Some, None, Result, Ok, Err, refl, sym, ap, subst, ◌∙◌, arith}
+use Rattle.std.proofs.Common.{◌≡◌, ◌≢◌, ℕ, ◌-◌, ◌<◌, ◌≤◌, Bool, true, false, not, cond, List, [], ◌∷◌, length, Option, Some, None, Result, Ok, Err, refl, sym, ap, subst, ◌∙◌, arith}
 use Rattle.std.specs.Prelude.{ℤ, ◌&&◌, nat_lt}
 use Rattle.std.proofs.lemmas.Bool.Decides.{nat_tests}
 use Rattle.std.specs.Borrow.{Bor}
@@ -229,17 +229,30 @@ no_mark : (b : ℕ) (bs : List ℕ) → is_space b ≡ false → skip (b ∷ bs)
 unfolding skip
 no_mark b bs h = rw h refl
 
+ends_by : (b : ℕ) (bs rest : List ℕ) (space : Bool) → is_space b ≡ space → cond space (skip bs) (b ∷ bs) ≡ 93 ∷ rest → units_end (b ∷ bs) ≡ true
+ends_by b bs rest true is h = rw is refl
+ends_by b bs rest false is h = let same : b ≡ 93 = cc in rw same refl
+
+ends_before : (bs rest : List ℕ) → skip bs ≡ 93 ∷ rest → units_end bs ≡ true
+unfolding skip
+ends_before [] rest h = refl
+ends_before (b ∷ bs) rest h = ends_by b bs rest (is_space b) refl h
+
 pub plain_pair : (bytes after more behind rest : List ℕ) (x y : ℤ) → (units_end after ≡ true → IsUnits (skip bytes) x true after) → Some more ≡ after_word (44 ∷ []) after
-    → (units_end behind ≡ true → IsUnits (skip more) y true behind) → Some rest ≡ after_word (93 ∷ []) behind → ArePlainPair bytes x y rest
+    → (units_end behind ≡ true → IsUnits (skip more) y true behind) → Some rest ≡ after_word (93 ∷ []) (skip behind) → ArePlainPair bytes x y rest
 plain_pair bytes after more behind rest x y first comma second close =
     let then : after ≡ 44 ∷ more = first_byte 44 after more comma in
-    let last : behind ≡ 93 ∷ rest = first_byte 93 behind rest close in
+    let last : skip behind ≡ 93 ∷ rest = first_byte 93 (skip behind) rest close in
     record {
-      after = after;
-      first = first (ap units_end then);
-      more = more;
-      comma = ap skip then ∙ no_mark 44 more refl;
-      second = subst (λ end. IsUnits (skip more) y true end) last (second (ap units_end last));
+      behind = behind;
+      pair = record {
+        after = after;
+        first = first (ap units_end then);
+        more = more;
+        comma = ap skip then ∙ no_mark 44 more refl;
+        second = second (ends_before behind rest last);
+      };
+      close = last;
     }
 
 never_refused : (exact : Bool) → (exact && not true) ≡ false
@@ -249,4 +262,4 @@ never_refused false = refl
 pub plain_reads : (exact : Bool) (d n : ℕ) (bs : List ℕ) → 2 ≤ n → (c : Counts) (x y : ℤ) (rest : List ℕ) → ArePlainPair bs x y rest
     → Reads (elements_position exact) (list_at 93 (value_at is_utf8 d) n bs) (record { x = x; y = y }) rest c c
 plain_reads exact d n bs many c x y rest p =
-    pair_ends exact d n bs many c (record { value = x; exact = true }) (record { value = y; exact = true }) (93 ∷ rest) p (never_refused exact) (never_refused exact) rest (no_mark 93 rest refl)
+    pair_ends exact d n bs many c (record { value = x; exact = true }) (record { value = y; exact = true }) p.behind p.pair (never_refused exact) (never_refused exact) rest p.close

@@ -26,5 +26,7 @@ pub record ArePair (bytes : List ℕ) (x y : Units) (rest : List ℕ) : Type 0 w
   pub second : IsUnits (skip more) y.value y.exact rest
 
 -- two numbers that aren't rounded stand so, the bracket that closes (93) behind them, and this follows it
-abbrev pub ArePlainPair : List ℕ → ℤ → ℤ → List ℕ → Type 0
-ArePlainPair bytes x y rest = ArePair bytes (record { value = x; exact = true }) (record { value = y; exact = true }) (93 ∷ rest)
+pub record ArePlainPair (bytes : List ℕ) (x y : ℤ) (rest : List ℕ) : Type 0 where
+  pub behind : List ℕ
+  pub pair : ArePair bytes (record { value = x; exact = true }) (record { value = y; exact = true }) behind
+  pub close : skip behind ≡ 93 ∷ rest

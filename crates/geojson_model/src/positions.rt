@@ -14,7 +14,7 @@ use json_cursor::{Element, Mark, Opening, Stop, after_elements, behind_byte, mar
 use json_reading::skip;
 use std::alloc::Global;
 use text_checking::after_value;
-use unit_scanning::{Units, plain_units_at, units_at};
+use unit_scanning::{Units, long_units_at, plain_units_at};
 
 /// The position whose second coordinate and further elements stand behind the comma, and what follows its bracket.
 #[inline(always)]
@@ -98,12 +98,12 @@ fn pair_at(bytes: &[u8]) -> Option<(Units, Units, &[u8])>
     ensures first { IfSome result (λ p. unsigned_abs p.0.value ≤ input_limit) }
     ensures second { IfSome result (λ p. unsigned_abs p.1.value ≤ input_limit) }
 {
-    let (x, after) = units_at(skip(bytes))?;
+    let (x, after) = long_units_at(skip(bytes))?;
     let (mark, more) = mark_at(after);
     let Mark::Comma = mark else {
         return None;
     };
-    let (y, rest) = units_at(skip(more))?;
+    let (y, rest) = long_units_at(skip(more))?;
     Some((x, y, rest))
 }
 
@@ -158,7 +158,7 @@ fn plain_pair_at(bytes: &[u8]) -> Option<(i64, i64, &[u8])>
     let (x, after) = plain_units_at(skip(bytes))?;
     let more = behind_byte(b',', after)?;
     let (y, behind) = plain_units_at(skip(more))?;
-    let rest = behind_byte(b']', behind)?;
+    let rest = behind_byte(b']', skip(behind))?;
     Some((x, y, rest))
 }
 

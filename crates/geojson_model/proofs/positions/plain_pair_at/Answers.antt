@@ -11,4 +11,4 @@ returns-clause-pair c =
     let y : to_z w64 (of_z w64 c.in_ok-y.y) ≡ c.in_ok-y.y = omega (arith, ints, c.in_ok-y.ensures.within) in
     rw (x, y)
     (part.plain_pair c.args.bytes.now c.in_ok-x.after.now c.in_ok-more.more.now c.in_ok-y.behind.now c.in_ok-rest.rest.now c.in_ok-x.x c.in_ok-y.y
-    (rw c.skip.ensures at c.in_ok-x.ensures.units) c.in_ok-more.ensures (rw c.skip-2.ensures at c.in_ok-y.ensures.units) c.in_ok-rest.ensures)
+    (rw c.skip.ensures at c.in_ok-x.ensures.units) c.in_ok-more.ensures (rw c.skip-2.ensures at c.in_ok-y.ensures.units) (rw c.skip-3.ensures at c.in_ok-rest.ensures))

@@ -1,5 +1,5 @@
 -- A position by its elements.
-use Rattle.std.proofs.Common.{◌≡◌, ◌≢◌, ℕ, ◌-◌, ◌<◌, ◌≤◌, Bool, true, false, not, List, [], ◌∷◌, length, Option, Some, None, Result, Ok, Err, refl, sym, ap, subst, ◌∙◌, arith}
+use Rattle.std.proofs.Common.{◌≡◌, ◌≢◌, ℕ, ◌-◌, ◌<◌, ◌≤◌, Bool, true, false, not, cond, List, [], ◌∷◌, length, Option, Some, None, Result, Ok, Err, refl, sym, ap, subst, ◌∙◌, arith}
 use Rattle.std.specs.Prelude.{ℤ, ◌&&◌, nat_lt}
 use Rattle.std.proofs.lemmas.Bool.Decides.{nat_tests}
 use Rattle.std.specs.Borrow.{Bor}
@@ -229,24 +229,43 @@ no_mark : (b : ℕ) (bs : List ℕ) → is_space b ≡ false → skip (b ∷ bs)
 unfolding skip
 no_mark b bs h = rw h refl
 
-pub plain_pair : (bytes after more behind rest : List ℕ) (x y : ℤ) → (units_end after ≡ true → IsUnits (skip bytes) x true after) → Some more ≡ after_word (44 ∷ []) after
-    → (units_end behind ≡ true → IsUnits (skip more) y true behind) → Some rest ≡ after_word (93 ∷ []) behind → ArePlainPair bytes x y rest
-plain_pair bytes after more behind rest x y first comma second close =
-    let then : after ≡ 44 ∷ more = first_byte 44 after more comma in
-    let last : behind ≡ 93 ∷ rest = first_byte 93 behind rest close in
-    record {
-      after = after;
-      first = first (ap units_end then);
-      more = more;
-      comma = ap skip then ∙ no_mark 44 more refl;
-      second = subst (λ end. IsUnits (skip more) y true end) last (second (ap units_end last));
-    }
+ends_by : (m b : ℕ) (bs rest : List ℕ) → ((ms : List ℕ) → units_end (m ∷ ms) ≡ true) → (space : Bool) → is_space b ≡ space → cond space (skip bs) (b ∷ bs) ≡ m ∷ rest → units_end (b ∷ bs) ≡ true
+ends_by m b bs rest ends true is h = rw is refl
+ends_by m b bs rest ends false is h = let same : b ≡ m = cc in ap (λ z. units_end (z ∷ bs)) same ∙ ends bs
+
+ends_before : (m : ℕ) (bs rest : List ℕ) → ((ms : List ℕ) → units_end (m ∷ ms) ≡ true) → skip bs ≡ m ∷ rest → units_end bs ≡ true
+unfolding skip
+ends_before m [] rest ends h = refl
+ends_before m (b ∷ bs) rest ends h = ends_by m b bs rest ends (is_space b) refl h
+
+module _ (bytes after more behind rest : List ℕ) (x y : ℤ) (first : units_end after ≡ true → IsUnits (skip bytes) x true after) (comma : Some more ≡ after_word (44 ∷ []) after) (second : units_end behind ≡ true → IsUnits (skip more) y true behind) where
+  pair_before : units_end behind ≡ true → ArePair bytes (record { value = x; exact = true }) (record { value = y; exact = true }) behind
+  pair_before ends =
+      let then : after ≡ 44 ∷ more = first_byte 44 after more comma in
+      record { after = after; first = first (ap units_end then); more = more; comma = ap skip then ∙ no_mark 44 more refl; second = second ends }
+
+  pub plain_pair_closes : Some rest ≡ after_word (93 ∷ []) (skip behind) → ArePlainPair bytes x y false rest
+  plain_pair_closes h =
+      let last : skip behind ≡ 93 ∷ rest = first_byte 93 (skip behind) rest h in
+      record { behind = behind; pair = pair_before (ends_before 93 behind rest (λ ms. refl) last); mark = last }
+
+  pub plain_pair_goes_on : Some rest ≡ after_word (44 ∷ []) (skip behind) → ArePlainPair bytes x y true rest
+  plain_pair_goes_on h =
+      let next : skip behind ≡ 44 ∷ rest = first_byte 44 (skip behind) rest h in
+      record { behind = behind; pair = pair_before (ends_before 44 behind rest (λ ms. refl) next); mark = next }
 
 never_refused : (exact : Bool) → (exact && not true) ≡ false
 never_refused true = refl
 never_refused false = refl
 
-pub plain_reads : (exact : Bool) (d n : ℕ) (bs : List ℕ) → 2 ≤ n → (c : Counts) (x y : ℤ) (rest : List ℕ) → ArePlainPair bs x y rest
-    → Reads (elements_position exact) (list_at 93 (value_at is_utf8 d) n bs) (record { x = x; y = y }) rest c c
-plain_reads exact d n bs many c x y rest p =
-    pair_ends exact d n bs many c (record { value = x; exact = true }) (record { value = y; exact = true }) (93 ∷ rest) p (never_refused exact) (never_refused exact) rest (no_mark 93 rest refl)
+module _ (exact : Bool) (d n : ℕ) (bs : List ℕ) (many : 2 ≤ n) (c : Counts) (x y : ℤ) (rest : List ℕ) where
+  pub plain_reads : ArePlainPair bs x y false rest → Reads (elements_position exact) (list_at 93 (value_at is_utf8 d) n bs) (record { x = x; y = y }) rest c c
+  plain_reads p = pair_ends exact d n bs many c (record { value = x; exact = true }) (record { value = y; exact = true }) p.behind p.pair (never_refused exact) (never_refused exact) rest p.mark
+
+  module _ (p : ArePlainPair bs x y true rest) where
+    pub plain_goes_on : (ws : List Json) (end : List ℕ) → list_at 93 (value_at is_utf8 d) (n - 2) rest ≡ Some (ws, end)
+        → Reads (elements_position exact) (list_at 93 (value_at is_utf8 d) n bs) (record { x = x; y = y }) end c (count_extra true c)
+    plain_goes_on ws end h = pair_goes_on exact d n bs many c (record { value = x; exact = true }) (record { value = y; exact = true }) p.behind p.pair (never_refused exact) (never_refused exact) rest p.mark ws end h
+
+    pub plain_text_stops : (fault : Fault) → Fails fault (list_at 93 (value_at is_utf8 d) (n - 2) rest) → Stops (elements_position exact) (list_at 93 (value_at is_utf8 d) n bs) c (stop_of fault)
+    plain_text_stops fault h = pair_text_stops exact d n bs many c (record { value = x; exact = true }) (record { value = y; exact = true }) p.behind p.pair (never_refused exact) (never_refused exact) rest p.mark fault h

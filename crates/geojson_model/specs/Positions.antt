@@ -1,5 +1,5 @@
 -- The parts of a position.
-use Rattle.std.specs.Prelude.{◌≡◌, ℕ, ℤ, Bool, true, nat_lt, List, [], ◌∷◌, length, Ok}
+use Rattle.std.specs.Prelude.{◌≡◌, ℕ, ℤ, Bool, true, if◌then◌else◌, nat_lt, List, [], ◌∷◌, length, Ok}
 use Rattle.json_value.specs.Reading.{skip}
 use Rattle.unit_scanning.specs.declared.units.Units.{Units}
 use Rattle.unit_scanning.specs.Numbers.{IsUnits}
@@ -25,6 +25,9 @@ pub record ArePair (bytes : List ℕ) (x y : Units) (rest : List ℕ) : Type 0 w
   pub comma : skip after ≡ 44 ∷ more
   pub second : IsUnits (skip more) y.value y.exact rest
 
--- two numbers that aren't rounded stand so, the bracket that closes (93) behind them, and this follows it
-abbrev pub ArePlainPair : List ℕ → ℤ → ℤ → List ℕ → Type 0
-ArePlainPair bytes x y rest = ArePair bytes (record { value = x; exact = true }) (record { value = y; exact = true }) (93 ∷ rest)
+-- two numbers that aren't rounded stand so, a comma (44) behind them where more elements follow, or else the bracket that closes (93), and this
+-- follows it
+pub record ArePlainPair (bytes : List ℕ) (x y : ℤ) (more : Bool) (rest : List ℕ) : Type 0 where
+  pub behind : List ℕ
+  pub pair : ArePair bytes (record { value = x; exact = true }) (record { value = y; exact = true }) behind
+  pub mark : skip behind ≡ (if more then 44 else 93) ∷ rest

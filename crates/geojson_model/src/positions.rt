@@ -14,7 +14,7 @@ use json_cursor::{Element, Mark, Opening, Stop, after_elements, behind_byte, mar
 use json_reading::skip;
 use std::alloc::Global;
 use text_checking::after_value;
-use unit_scanning::{Units, plain_units_at, units_at};
+use unit_scanning::{Units, long_units_at, plain_units_at};
 
 /// The position whose second coordinate and further elements stand behind the comma, and what follows its bracket.
 #[inline(always)]
@@ -98,12 +98,12 @@ fn pair_at(bytes: &[u8]) -> Option<(Units, Units, &[u8])>
     ensures first { IfSome result (λ p. unsigned_abs p.0.value ≤ input_limit) }
     ensures second { IfSome result (λ p. unsigned_abs p.1.value ≤ input_limit) }
 {
-    let (x, after) = units_at(skip(bytes))?;
+    let (x, after) = long_units_at(skip(bytes))?;
     let (mark, more) = mark_at(after);
     let Mark::Comma = mark else {
         return None;
     };
-    let (y, rest) = units_at(skip(more))?;
+    let (y, rest) = long_units_at(skip(more))?;
     Some((x, y, rest))
 }
 
@@ -147,19 +147,23 @@ fn two_numbers_at<'a>(
     }
 }
 
-/// Two numbers of few digits, a comma between them and the bracket that closes them, as most positions are written: the numbers, none of
-/// them rounded, and what follows the bracket.
+/// Two numbers of few digits with a comma between them, as most positions are written: the numbers, none of them rounded, whether more
+/// elements follow, and what follows the comma or the bracket behind them.
 #[inline(always)]
-fn plain_pair_at(bytes: &[u8]) -> Option<(i64, i64, &[u8])>
-    ensures pair { IfSome result (λ p. ArePlainPair bytes.now p.0 p.1 p.2.now) }
+fn plain_pair_at(bytes: &[u8]) -> Option<(i64, i64, bool, &[u8])>
+    ensures pair { IfSome result (λ p. ArePlainPair bytes.now p.0 p.1 p.2 p.3.now) }
     ensures first { IfSome result (λ p. unsigned_abs p.0 ≤ input_limit) }
     ensures second { IfSome result (λ p. unsigned_abs p.1 ≤ input_limit) }
 {
     let (x, after) = plain_units_at(skip(bytes))?;
     let more = behind_byte(b',', after)?;
     let (y, behind) = plain_units_at(skip(more))?;
-    let rest = behind_byte(b']', behind)?;
-    Some((x, y, rest))
+    let mark = skip(behind);
+    if let Some(rest) = behind_byte(b']', mark) {
+        return Some((x, y, false, rest));
+    }
+    let rest = behind_byte(b',', mark)?;
+    Some((x, y, true, rest))
 }
 
 /// The position whose elements stand behind the bracket, and what follows it.
@@ -177,9 +181,14 @@ pub(crate) fn numbers_at<'a>(
     if turns < 2 {
         return two_numbers_at(alloc, deep, turns, inside, exact, counts);
     }
-    let Some((x, y, rest)) = plain_pair_at(inside) else {
+    let Some((x, y, goes_on, rest)) = plain_pair_at(inside) else {
         return two_numbers_at(alloc, deep, turns, inside, exact, counts);
     };
+    if goes_on {
+        let end = after_elements(alloc, deep, turns - 2, rest)?;
+        counts.count_extra(true);
+        return Ok((Position::at(x, y), end));
+    }
     Ok((Position::at(x, y), rest))
 }
 

@@ -30,7 +30,7 @@ no_digit_ends : (rest : List ℕ) → Ends rest → starts_digit rest ≡ false
 no_digit_ends [] h = refl
 no_digit_ends (b ∷ bs) h = end_is (λ c. is_digit c ≡ false) refl refl refl refl refl refl refl b h
 
-no_digit_then : (ds rest : List ℕ) → Ends rest → starts_digit (fraction_text ds ++ rest) ≡ false
+pub no_digit_then : (ds rest : List ℕ) → Ends rest → starts_digit (fraction_text ds ++ rest) ≡ false
 no_digit_then [] rest h = no_digit_ends rest h
 no_digit_then (d ∷ ds) rest h = refl
 

@@ -92,7 +92,7 @@ pub fn units_of_place(places: usize) -> u64
 /// A fraction, or the first few digits of it, if there is one: what it writes after `start`, how many digits those are, and what follows
 /// them. None where no digit stands behind the point.
 #[inline(always)]
-fn few_decimals_at(start: u64, bytes: &[u8]) -> Option<(u64, usize, &[u8])>
+pub fn few_decimals_at(start: u64, bytes: &[u8]) -> Option<(u64, usize, &[u8])>
     requires { start < 10 ^ 9 }
     ensures fraction { IfSome result (λ x. IsFractionOf bytes.now start x.0 x.1 x.2.now) }
     ensures few { IfSome result (λ x. x.1 ≤ 9) }

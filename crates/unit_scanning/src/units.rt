@@ -66,11 +66,10 @@ fn any_units_at(bytes: &[u8]) -> Option<(Units, &[u8])>
     Some((units, rest))
 }
 
-/// The number at the front in whole units, with more decimals than are kept or written in another unusual way, and what follows it. None
-/// where it has an exponent, and where it isn't read this way for its size.
+/// The same as `units_at`, which is faster where no more decimals are written than are kept.
 #[cold]
 #[inline(never)]
-fn long_units_at(bytes: &[u8]) -> Option<(Units, &[u8])>
+pub fn long_units_at(bytes: &[u8]) -> Option<(Units, &[u8])>
     ensures units { IfSome result (λ x. IsUnits bytes.now x.0.value x.0.exact x.1.now) }
     ensures within { IfSome result (λ x. unsigned_abs x.0.value ≤ input_limit) }
 {

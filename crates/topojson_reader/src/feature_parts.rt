@@ -33,6 +33,7 @@ pub struct FeatureParts<'a> {
 }
 
 /// The identifier that the member `id` gives. Absent and null are none.
+#[inline(always)]
 fn identifier(value: Option<Json>) -> Result<Option<Id>, TopoFault>
     ensures { Finds (λ id. id) result (identifier_in value) }
 {
@@ -70,6 +71,7 @@ fn id_at<'a>(
 }
 
 /// The properties that the value at the front is, or their fault, and what follows it.
+#[inline(always)]
 fn properties_member<'a>(
     alloc: Global,
     deep: u32,
@@ -86,6 +88,7 @@ fn properties_member<'a>(
 
 impl<'a> FeatureParts<'a> {
     /// Of no members.
+    #[inline(always)]
     pub(crate) fn none() -> FeatureParts<'a>
         ensures { (start : Begun) (deep : ℕ) → IsFeature start deep [] result }
     {
@@ -97,6 +100,7 @@ impl<'a> FeatureParts<'a> {
     }
 
     /// Goes on with the value at the front of a member of this name, and gives what follows it.
+    #[inline(always)]
     pub(crate) fn value(
         &mut self,
         alloc: Global,
@@ -131,6 +135,7 @@ fn first_letter(bytes: &[u8]) -> u8 {
 }
 
 /// The name of the member at the front, and where its value begins: those of a feature are looked for first, by their letters.
+#[inline(always)]
 fn feature_name_at<'a>(alloc: Global, bytes: &'a [u8]) -> Result<(Name<'a>, &'a [u8]), Fault>
     ensures { Names bytes.now result }
 {
@@ -181,6 +186,7 @@ impl<'a> Members<'a> for FeatureParts<'a> {
 }
 
 /// What a member is that was seen so, and that may be absent.
+#[inline(always)]
 fn found_in<T: Drop>(seen: Seen<Result<Option<T>, TopoFault>>) -> Result<Option<T>, TopoFault>
     ensures { (read : Option Value → Result (Option T) Refusal) (vs : List Value) → read None ≡ Ok None → IsSeen (IsFound read) vs seen → result ≡ found_among read vs }
 {
@@ -192,6 +198,7 @@ fn found_in<T: Drop>(seen: Seen<Result<Option<T>, TopoFault>>) -> Result<Option<
 }
 
 /// The feature of this type whose members were seen so.
+#[inline(always)]
 pub(crate) fn feature_of(
     alloc: Global,
     deep: u32,

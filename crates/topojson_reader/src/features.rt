@@ -21,6 +21,7 @@ use topojson_meaning::TopoFault;
 use topojson_types::{Cell, TopoFeature, Transform};
 
 /// The feature whose members were seen so.
+#[inline(always)]
 fn typed_feature_of(
     alloc: Global,
     deep: u32,

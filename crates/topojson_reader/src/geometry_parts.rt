@@ -92,6 +92,7 @@ fn type_at<'a>(
 }
 
 /// What the value at the front is read as by this type, and what follows it; or why reading stops.
+#[inline(always)]
 fn typed_at<'a>(
     alloc: Global,
     deep: u32,
@@ -130,6 +131,7 @@ fn passed_at<'a>(
 }
 
 /// The value at the front, which is read by this type, and what follows it.
+#[inline(always)]
 fn read_at<'a>(
     alloc: Global,
     deep: u32,
@@ -157,6 +159,7 @@ fn read_at<'a>(
 }
 
 /// The value at the front, which is read by this type, if it is known, and what follows it.
+#[inline(always)]
 fn part_at<'a>(
     alloc: Global,
     deep: u32,
@@ -174,6 +177,7 @@ fn part_at<'a>(
 
 impl<'a> GeometryParts<'a> {
     /// Of no members.
+    #[inline(always)]
     pub(crate) fn none() -> GeometryParts<'a>
         ensures { (start : Begun) (deep : ℕ) → IsParts start deep [] result }
     {
@@ -202,6 +206,7 @@ impl<'a> GeometryParts<'a> {
     }
 
     /// Goes on with the value at the front of a member of this name, and gives what follows it.
+    #[inline(always)]
     pub(crate) fn value(
         &mut self,
         alloc: Global,
@@ -255,6 +260,7 @@ impl<'a> Members<'a> for GeometryParts<'a> {
 }
 
 /// The type of the geometry whose members were seen so.
+#[inline(always)]
 pub(crate) fn kind_of(
     kind: &Seen<Result<Option<GeometryType>, TopoFault>>,
 ) -> Result<Option<GeometryType>, TopoFault>
@@ -290,6 +296,7 @@ fn is_same_arcs(one: ArcsType, other: ArcsType) -> bool
 }
 
 /// Whether the types are one.
+#[inline(always)]
 fn is_same(one: PartType, other: PartType) -> bool
     ensures { result ≡ true → one ≡ other }
 {
@@ -306,6 +313,7 @@ fn is_same(one: PartType, other: PartType) -> bool
 }
 
 /// What was read of the value by this very type, and what was counted then.
+#[inline(always)]
 fn taken(
     read: Option<Read>,
     kind: PartType,
@@ -329,6 +337,7 @@ fn taken(
 }
 
 /// What the value is by this type, which is read where its member came before its type.
+#[inline(always)]
 fn shape_by(
     alloc: Global,
     deep: u32,
@@ -359,6 +368,7 @@ fn shape_by(
 }
 
 /// What the member that a geometry of this type is made of is by it.
+#[inline(always)]
 pub(crate) fn part_of(
     alloc: Global,
     deep: u32,

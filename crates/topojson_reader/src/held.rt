@@ -13,6 +13,7 @@ use text_checking::after_value;
 use topojson_meaning::TopoFault;
 
 /// What a reader answers of the value at the front, or its fault, and what follows the value. It is passed over where it has a fault.
+#[inline(always)]
 pub(crate) fn held<'a, T: Drop>(
     alloc: Global,
     deep: u32,

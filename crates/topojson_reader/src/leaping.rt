@@ -51,6 +51,7 @@ fn behind_string(inside: &[u8]) -> Option<&[u8]>
 }
 
 /// What follows the bracket that closes the one that was opened just before.
+#[inline(never)]
 fn behind_closing(inside: &[u8]) -> Option<&[u8]>
     ensures { IfSome result (λ rest. end_of (at_depth 1) inside.now ≡ Some rest.now) }
 {

@@ -12,6 +12,7 @@ pub enum Seen<T> {
 
 impl<T: Drop> Seen<T> {
     /// Goes on with one more, of whose value this is known.
+    #[inline(always)]
     pub(crate) fn see(&mut self, one: T)
         ensures { self.new ≡ spec.see self.old one }
     {

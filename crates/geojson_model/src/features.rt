@@ -117,6 +117,7 @@ fn drawn_at<'a>(
 }
 
 /// Whether a member of this name is one of a feature, but for its type.
+#[inline(always)]
 pub(crate) fn is_field(name: &Name<'_>) -> bool
     ensures { result ≡ spec.is_field (name_of name.now) }
 {
@@ -125,6 +126,7 @@ pub(crate) fn is_field(name: &Name<'_>) -> bool
 
 impl Fields {
     /// Of no members.
+    #[inline(always)]
     pub(crate) fn none() -> Fields
         ensures { (start : Begun) → IsFields start [] result }
     {
@@ -136,6 +138,7 @@ impl Fields {
     }
 
     /// Goes on with one of this name, whose value is at the front.
+    #[inline(always)]
     pub(crate) fn see<'a>(
         &mut self,
         alloc: Global,
@@ -166,6 +169,7 @@ impl Fields {
 }
 
 /// What the member gives that was seen so: none where it isn't there.
+#[inline(always)]
 fn given<T: Drop>(seen: Seen<Result<Option<T>, GeoFaultKind>>) -> Result<Option<T>, GeoFaultKind>
     ensures { result ≡ spec.given seen }
 {
@@ -177,6 +181,7 @@ fn given<T: Drop>(seen: Seen<Result<Option<T>, GeoFaultKind>>) -> Result<Option<
 }
 
 /// The shape that the member `geometry` gives, and what was counted then.
+#[inline(always)]
 fn shape_given(seen: Seen<Drawn>, before: Counts) -> Result<(Option<Shape>, Counts), GeoFaultKind>
     ensures { result ≡ spec.drawn seen before }
 {
@@ -194,6 +199,7 @@ fn shape_given(seen: Seen<Drawn>, before: Counts) -> Result<(Option<Shape>, Coun
 }
 
 /// The feature of these members.
+#[inline(always)]
 pub(crate) fn feature_of(
     fields: Fields,
     start: Start,
@@ -216,6 +222,7 @@ pub(crate) fn feature_of(
 
 impl FeatureParts {
     /// Of no members.
+    #[inline(always)]
     fn none() -> FeatureParts
         ensures { (start : Begun) (deep : ℕ) → IsFeatureParts start deep [] result }
     {
@@ -227,6 +234,7 @@ impl FeatureParts {
 }
 
 /// The name of the member at the front, and where its value begins: those of a feature are looked for first.
+#[inline(always)]
 fn feature_name_at<'a>(alloc: Global, bytes: &'a [u8]) -> Result<(Name<'a>, &'a [u8]), Fault>
     ensures { Names bytes.now result }
 {

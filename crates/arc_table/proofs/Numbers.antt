@@ -12,7 +12,6 @@ use Rattle.geometry.specs.Points.{Point}
 use Rattle.geometry.specs.Rings.{same}
 use Rattle.geometry.proofs.Points.{same_is, same_self}
 use Rattle.std.proofs.lemmas.Bool.{and_parts}
-use Rattle.junctions.proofs.Noting.{equal_same}
 use Rattle.arc_table.proofs.Alike.{same_line_is, same_line_self, is_alike}
 use Rattle.arc_table.proofs.Finding.{found_is}
 use Rattle.arc_table.proofs.Indexes.{index_is, none_both}
@@ -20,7 +19,8 @@ use Rattle.arc_table.proofs.Indexes.{index_is, none_both}
 -- ---- segments
 
 equal_two : (s t : Segment) → equal s t ≡ (same s.from t.from && same s.to t.to)
-equal_two s t = grind (arith, equal_same)
+unfolding same
+equal_two s t = refl
 
 pub equal_is : (s t : Segment) → equal s t ≡ true → s ≡ t
 equal_is s t h = grind (arith, and_parts (same s.from t.from) (same s.to t.to), equal_two s t, same_is s.from t.from, same_is s.to t.to)

@@ -1,7 +1,9 @@
 pub mod Cleaned
-pub mod Flags
+pub mod FirstSeen
+pub mod Keeping
 pub mod Members
 pub mod Noting
-pub mod Numbering
+pub mod Numbers
 pub mod Settled
-pub mod Visiting
+pub mod Starts
+pub mod VisitLists

@@ -1,12 +1,15 @@
 // Junctions and cut positions of the linework.
-ghost use Rattle.std.specs.Prelude.{◌≡◌, IfOk, Some, position, true};
+ghost use Rattle.std.specs.Prelude.{◌≡◌, IfNone, IfOk, IfSome, Some, false, position, slice_get, true};
 ghost use Rattle.geometry.specs.Rings.{same};
 ghost use Rattle.junctions.specs.Answers.{AnswersFor, is_member};
 ghost use Rattle.junctions.specs.Visits.{first_seen, positions};
 
 use crate::lines::Lines;
-use crate::table::{Places, PositionTable, flag_rings, is_cut_in, is_junction_in, table_of};
-use geometry::Position;
+use crate::numbering::Numbering;
+use crate::ring_starts::{is_cut_at, is_junction_at, mark_ring_starts};
+use crate::vertex::Vertex;
+use crate::visiting::{number_lines, visit_lines};
+use geometry::{Position, is_same};
 use owned_values::Memory;
 use std::alloc::Global;
 use std::marker::Model;
@@ -16,23 +19,28 @@ use std::marker::Model;
 /// over all lines. A cut position is a junction, or the least position of a ring that goes through none.
 #[derive(Debug, Drop)]
 pub struct Vertices {
-    table: PositionTable,
-    places: Places,
+    numbering: Numbering,
+    /// The number of the position of each visit of the lines, in reading order. Nothing rests on it behind the making of what is known: what stands
+    /// at a number is compared with the position.
+    numbers: Vec<u32>,
+    vertices: Vec<Vertex>,
 }
 
 impl Model for Vertices {
-    ghost use Rattle.std.specs.List.{filter};
-    ghost use Rattle.indexmap.specs.IndexMap.{get, keys};
+    ghost use Rattle.std.specs.Prelude.{◌≡◌, length};
     ghost use Rattle.junctions.specs.Answers.{Answers};
-    ghost use Rattle.junctions.specs.Notes.{equal, at_junction_option, is_cut_option};
+    ghost use Rattle.junctions.specs.Kept.{at_cut, at_junction, chosen};
+    ghost use Rattle.junctions.specs.Notes.{AreApart};
 
     ghost Value = { Answers };
 
     ghost view = { λ v. record {
-      points = keys v.table;
-      junctions = filter (λ p. at_junction_option (get equal v.table p)) (keys v.table);
-      cuts = filter (λ p. is_cut_option (get equal v.table p)) (keys v.table);
+      points = v.numbering;
+      junctions = chosen at_junction v.numbering v.vertices.items;
+      cuts = chosen at_cut v.numbering v.vertices.items;
     } };
+
+    ghost invariant = { λ v. (length v.vertices.items ≡ length v.numbering) × AreApart v.numbering };
 }
 
 impl Vertices {
@@ -42,16 +50,26 @@ impl Vertices {
         ensures order { IfOk result (λ vertices. vertices.points ≡ first_seen (positions lines.now.strokes)) }
     {
         let strokes = lines.as_slice();
-        let (mut table, places) = table_of(alloc, strokes)?;
-        flag_rings(&mut table, places.as_slice(), strokes);
-        Ok(Vertices { table, places })
+        let (numbering, numbers) = number_lines(alloc, strokes)?;
+        let mut vertices = visit_lines(alloc, numbering.positions(), numbers.as_slice(), strokes)?;
+        mark_ring_starts(
+            vertices.as_mut_slice(),
+            &numbering,
+            numbers.as_slice(),
+            strokes,
+        );
+        Ok(Vertices {
+            numbering,
+            numbers,
+            vertices,
+        })
     }
 
     /// Whether it is a position of a line.
     pub fn has(&self, p: Position) -> bool
         ensures { result ≡ is_member self.now.points p }
     {
-        self.table.contains_key(&p)
+        self.numbering.find(p).is_some()
     }
 
     /// The number of the position, counted from zero, among the different positions of the lines in reading order: each counts
@@ -60,7 +78,7 @@ impl Vertices {
         requires { is_member self.now.points p ≡ true }
         ensures { position (same p) self.now.points ≡ Some result }
     {
-        self.table.get_index_of(&p).unwrap()
+        self.numbering.find(p).unwrap() as usize
     }
 
     /// Whether the position is a junction.
@@ -68,7 +86,10 @@ impl Vertices {
         requires { is_member self.now.points p ≡ true }
         ensures { result ≡ is_member self.now.junctions p }
     {
-        is_junction_in(&self.table, None, p)
+        match self.numbering.find(p) {
+            Some(number) => is_junction_at(self.vertices.as_slice(), number),
+            None => false,
+        }
     }
 
     /// Whether lines are cut at the position.
@@ -76,7 +97,10 @@ impl Vertices {
         requires { is_member self.now.points p ≡ true }
         ensures { result ≡ is_member self.now.cuts p }
     {
-        is_cut_in(&self.table, None, p)
+        match self.numbering.find(p) {
+            Some(number) => is_cut_at(self.vertices.as_slice(), number),
+            None => false,
+        }
     }
 
     /// Whether lines are cut at the position. The number of its visit, over all positions of the lines in reading order, tells where
@@ -85,6 +109,24 @@ impl Vertices {
         requires { is_member self.now.points p ≡ true }
         ensures { result ≡ is_member self.now.cuts p }
     {
-        is_cut_in(&self.table, self.places.as_slice().get(visit), p)
+        match self.number_at(visit, p) {
+            Some(number) => is_cut_at(self.vertices.as_slice(), number),
+            None => false,
+        }
+    }
+
+    // The number of the position, which is looked for at this visit first.
+    fn number_at(&self, visit: usize, p: Position) -> Option<u32>
+        ensures found { IfSome result (λ n. slice_get self.now.points n ≡ Some p) }
+        ensures absent { IfNone result (is_member self.now.points p ≡ false) }
+    {
+        let positions = self.numbering.positions();
+        if let Some(number) = self.numbers.as_slice().get(visit) {
+            let place = *number as usize;
+            if place < positions.len() && is_same(positions[place], p) {
+                return Some(*number);
+            }
+        }
+        self.numbering.find(p)
     }
 }

@@ -3,9 +3,11 @@ pub mod Placing
 pub mod Positions
 pub mod Rows
 pub use Rattle.junctions.proofs.Cleaned
-pub use Rattle.junctions.proofs.Flags
+pub use Rattle.junctions.proofs.FirstSeen
+pub use Rattle.junctions.proofs.Keeping
 pub use Rattle.junctions.proofs.Members
 pub use Rattle.junctions.proofs.Noting
-pub use Rattle.junctions.proofs.Numbering
+pub use Rattle.junctions.proofs.Numbers
 pub use Rattle.junctions.proofs.Settled
-pub use Rattle.junctions.proofs.Visiting
+pub use Rattle.junctions.proofs.Starts
+pub use Rattle.junctions.proofs.VisitLists

@@ -258,6 +258,28 @@ def lines_of(coordinates):
     return features(line(it) for it in coordinates)
 
 
+# The hash of a position, as crates/junctions/src has it: the two halves of the product of its coordinates and these, joined.
+OF_X, OF_Y, WORD = 0x9E3779B97F4A7C15, 0xD6E8FEB86659FD93, 1 << 64
+
+
+def close_step(limit):
+    """A step below the limit, so many times OF_Y is close to a multiple of 2^64: the denominator of a convergent."""
+    before, step, high, low = 1, 0, OF_Y, WORD
+    while low:
+        before, step, whole = step, high // low * step + before, step
+        if step >= limit:
+            return whole
+        high, low = low, high % low
+    return step
+
+
+def colliding(n):
+    """Positions on one line of latitude whose hashes begin alike, so that they are looked for in few places."""
+    step, first = close_step(1 << 34), OF_X >> 56 << 56
+    eastings = (first + i * step ^ OF_X for i in range(n))
+    return listed(f"[{x // 10**9}.{x % 10**9:09},0]" for x in eastings)
+
+
 BUILD, STAT, GEO, SIMPLIFY = "build a=file", "stat file", "geo --object a file", "simplify --min-area 1 file"
 MILLION = 10**6
 OPEN_FILES = min(10**5, resource.getrlimit(resource.RLIMIT_NOFILE)[1] - 100)
@@ -302,6 +324,7 @@ FILES = (
     ("the same, with a least area", MILLION // 4, lambda n: feature(geometry("Polygon", "[[[0,0],%s]]" % ",".join(["[1,0],[0,1],[0,0]"] * n))), BUILD + " --min-ring-area 1", 0),
     ("a segment back and forth", MILLION, lambda n: line(listed(["[0,0],[1,0]"] * n)), BUILD, 0),
     ("lines through one position", MILLION, lambda n: lines_of(f"[[0,0],[{i % 1000 + 1},{i // 1000}]]" for i in range(n)), BUILD, 0),
+    ("a line whose positions collide", MILLION, lambda n: line(colliding(n)), BUILD, 0),
     ("one position, often", MILLION, lambda n: line("[[0,0],%s]" % ",".join(["[1,1]"] * n)), BUILD, 0),
     ("a zigzag that goes", MILLION, lambda n: line(listed(f"[{i},{i % 2}]" for i in range(n))), BUILD + " --min-area 1000", 0),
     ("a spiral that goes", MILLION, lambda n: line(spiral(n)), BUILD + " --min-area 1000000000000", 0),

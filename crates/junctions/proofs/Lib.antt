@@ -1,7 +1,9 @@
 pub mod Cleaned
+pub mod Distinct
+pub mod FirstSeen
 pub mod Flags
 pub mod Members
 pub mod Noting
-pub mod Numbering
+pub mod Probing
 pub mod Settled
 pub mod Visiting

@@ -23,7 +23,7 @@ use Rattle.junctions.specs.Cleaning.{IsCleanList, AllClean}
 use Rattle.junctions.specs.Visits.{Visit, visits_from, inner_visits, neighbors, first_seen, positions, last, is_end, ends_open, is_turn, is_junction, is_position_of}
 use Rattle.junctions.specs.Notes.{equal, with_neighbors, beside, is_back, known, noted, after, touch, pass, line_notes, notes_of, all_notes, with_position, heres, Takes, IsKnown, IsTable, vertex_at, at_junction}
 use Rattle.junctions.proofs.Cleaned.{same_sym}
-use Rattle.junctions.proofs.Numbering.{positions_append, seen_in_order}
+use Rattle.junctions.proofs.FirstSeen.{positions_append, seen_in_order}
 use Rattle.junctions.proofs.Settled.{two_settled}
 use Rattle.junctions.proofs.Visiting.{visit, last_read, ring_visits}
 

@@ -7,6 +7,8 @@
 
 mod lines;
 mod neighbors;
+mod numbering;
+mod slots;
 mod stroke;
 mod table;
 mod vertex;
@@ -14,5 +16,6 @@ mod vertices;
 
 pub use geometry::{Address, Cause, Dropped};
 pub use lines::Lines;
+pub use numbering::Numbering;
 pub use stroke::Stroke;
 pub use vertices::Vertices;

@@ -6,6 +6,6 @@ pub use Rattle.junctions.proofs.Cleaned
 pub use Rattle.junctions.proofs.Flags
 pub use Rattle.junctions.proofs.Members
 pub use Rattle.junctions.proofs.Noting
-pub use Rattle.junctions.proofs.Numbering
+pub use Rattle.junctions.proofs.FirstSeen
 pub use Rattle.junctions.proofs.Settled
 pub use Rattle.junctions.proofs.Visiting

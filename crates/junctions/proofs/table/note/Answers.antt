@@ -4,7 +4,7 @@ use Rattle.std.specs.Map.{keys_of}
 use Rattle.indexmap.specs.IndexMap.{get}
 use Rattle.junctions.specs.Notes.{equal, known, noted}
 use Rattle.junctions.proofs.Noting.{takes_one, takes_known, value_is}
-use Rattle.junctions.proofs.Numbering.{keys_inserted}
+use Rattle.junctions.proofs.FirstSeen.{keys_inserted}
 use Rattle.junctions.proofs.table.note.Goals as goal
 
 pub returns-in_default : goal.returns-in_default

@@ -7,6 +7,7 @@ use Rattle.std.proofs.Math.Bool.{and-false, or-false, or-true, or_assoc}
 use Rattle.std.proofs.Math.ListN.{drop_of_length-le, length-replicate}
 use Rattle.std.proofs.lemmas.List.{take_all}
 use Rattle.std.proofs.lemmas.Bool.{and_parts}
+use Rattle.list_laws.specs.Lists.{AreDistinct}
 use Rattle.geometry.specs.Order.{is_least}
 use Rattle.geometry.specs.Points.{Point}
 use Rattle.geometry.specs.Rings.{same}
@@ -18,11 +19,12 @@ use Rattle.junctions.specs.Answers.{AnswersFor, is_member}
 use Rattle.junctions.specs.Cleaning.{AllClean}
 use Rattle.junctions.specs.Cuts.{is_cut}
 use Rattle.junctions.specs.Kept.{Neighbors, Zero, One, Two, More, Knowledge, is_more, is_settled, Says, passed, at_junction, at_cut, junction_at, cut_at, chosen}
-use Rattle.junctions.specs.Notes.{Note, with_neighbor, with_neighbors, is_two, nothing_known, noted, after, touch, pass, line_notes, ring_or_line_visits, all_notes, AreApart, AreNumbers, Say, Takes, known_of, makes_junction, AreCut}
+use Rattle.junctions.specs.Notes.{Note, with_neighbor, with_neighbors, is_two, nothing_known, noted, after, touch, pass, line_notes, ring_or_line_visits, all_notes, AreNumbers, Say, Takes, known_of, makes_junction, AreCut}
 use Rattle.junctions.specs.Visits.{first_seen, inner_visits, is_junction, positions}
 use Rattle.junctions.proofs.Cleaned.{same_sym}
 use Rattle.junctions.proofs.Noting.{after_append, all_noted, in_lines, junction_is, notes_are}
-use Rattle.junctions.proofs.Numbers.{as_many, member_at, nowhere, numbered, numbered_member, place_of, same_number}
+use Rattle.junctions.proofs.Numbers.{as_many, nowhere, numbered, numbered_member, place_of, same_number}
+use Rattle.junctions.proofs.Distinct.{one_is, one_place}
 use Rattle.junctions.proofs.FirstSeen.{seen_in_order, seen_member}
 use Rattle.junctions.proofs.Starts.{holds_at, least_among, starts_in}
 use Rattle.junctions.proofs.VisitLists.{same_get, visit}
@@ -49,14 +51,14 @@ settled_stays k x h = on k.ends k.turns k.neighbors h
 settled_now : (u w p q : Point) (turns : Bool) → ((same p u && same q w) || (same p w && same q u)) ≡ false → (same p q || (turns || is_more (with_neighbors (Two u w) (p ∷ (q ∷ []))))) ≡ true
 settled_now u w p q turns h = on (same p q) refl (same u p) refl (same w p) refl (same u q) refl (same w q) refl
   where
-    apart : (a b c : Point) → same a b ≡ true → same a c ≡ true → same b c ≡ true
-    apart a b c e f = subst (λ x. same x c ≡ true) (same_is a b e) f
+    distinct : (a b c : Point) → same a b ≡ true → same a c ≡ true → same b c ≡ true
+    distinct a b c e f = subst (λ x. same x c ≡ true) (same_is a b e) f
 
     on : (s : Bool) → same p q ≡ s → (a : Bool) → same u p ≡ a → (b : Bool) → same w p ≡ b → (c : Bool) → same u q ≡ c → (d : Bool) → same w q ≡ d →
         (same p q || (turns || is_more (with_neighbors (Two u w) (p ∷ (q ∷ []))))) ≡ true
     on true s a ea b eb c ec d ed = grind arith
-    on false s true ea b eb true ec d ed = absurd (let z : true ≡ false = sym (apart u p q ea ec) ∙ s in cc)
-    on false s a ea true eb c ec true ed = absurd (let z : true ≡ false = sym (apart w p q eb ed) ∙ s in cc)
+    on false s true ea b eb true ec d ed = absurd (let z : true ≡ false = sym (distinct u p q ea ec) ∙ s in cc)
+    on false s a ea true eb c ec true ed = absurd (let z : true ≡ false = sym (distinct w p q eb ed) ∙ s in cc)
     on false s true ea b eb false ec true ed = absurd (let x = same_sym p u ∙ ea in let y = same_sym q w ∙ ed in let z : true ≡ false = sym (ap (λ v. (v && same q w) || (same p w && same q u)) x ∙ ap (λ v. v || (same p w && same q u)) y) ∙ h in cc)
     on false s a ea true eb true ec d ed = absurd (let x = same_sym p w ∙ eb in let y = same_sym q u ∙ ec in let z : true ≡ false = sym (ap (λ v. (same p u && same q w) || (v && same q u)) x ∙ ap (λ v. (same p u && same q w) || v) y ∙ or-true (same p u && same q w)) ∙ h in cc)
     on false s false ea false eb c ec d ed = grind (arith, or-true)
@@ -72,23 +74,23 @@ kept_now u w p q n h = on (same p u && same q w) refl
     on false e = grind (arith, and_parts (same p w) (same q u) (sym (ap (λ b. b || (same p w && same q u)) e) ∙ h), same_is, same_self, same_sym, or-true)
 
 -- one visit more
-says_pass : (ks : List Point) (v : Vertex) (k : Knowledge) (a b : ℕ) (h p q : Point) → AreApart ks → slice_get ks a ≡ Some p → slice_get ks b ≡ Some q → Says ks v k →
+says_pass : (ks : List Point) (v : Vertex) (k : Knowledge) (a b : ℕ) (h p q : Point) → AreDistinct ks → slice_get ks a ≡ Some p → slice_get ks b ≡ Some q → Says ks v k →
     Says ks (passed v a b) (noted k (pass (visit p h q)))
-says_pass ks Unvisited k a b h p q apart e f (n, t, z) = on (same p q) refl
+says_pass ks Unvisited k a b h p q distinct e f (n, t, z) = on (same p q) refl
   where
     on : (s : Bool) → same p q ≡ s → Says ks (cond (a == b) Junction (Between a b)) (noted k (pass (visit p h q)))
-    on true s = subst (λ x. Says ks (cond x Junction (Between a b)) (noted k (pass (visit p h q)))) (sym (same_number ks a b p q apart e f ∙ s)) (grind (arith, or-true))
+    on true s = subst (λ x. Says ks (cond x Junction (Between a b)) (noted k (pass (visit p h q)))) (sym (same_number ks a b p q distinct e f ∙ s)) (grind (arith, or-true))
     on false s =
-        subst (λ x. Says ks (cond x Junction (Between a b)) (noted k (pass (visit p h q)))) (sym (same_number ks a b p q apart e f ∙ s))
+        subst (λ x. Says ks (cond x Junction (Between a b)) (noted k (pass (visit p h q)))) (sym (same_number ks a b p q distinct e f ∙ s))
         (p, q, e, f, s, ap (λ x. with_neighbors x (p ∷ (q ∷ []))) n ∙ ap (λ x. cond x (One p) (Two p q)) s, ap (λ x. x || k.turns) s ∙ t, z)
-says_pass ks (Between c d) k a b h p q apart e f (u, w, gu, gw, ne, n, t, z) = on ((same p u && same q w) || (same p w && same q u)) refl
+says_pass ks (Between c d) k a b h p q distinct e f (u, w, gu, gw, ne, n, t, z) = on ((same p u && same q w) || (same p w && same q u)) refl
   where
     test : ((a == c && b == d) || (a == d && b == c)) ≡ ((same p u && same q w) || (same p w && same q u))
     test =
-        ap (λ x. (x && b == d) || (a == d && b == c)) (same_number ks a c p u apart e gu)
-        ∙ ap (λ x. (same p u && x) || (a == d && b == c)) (same_number ks b d q w apart f gw)
-        ∙ ap (λ x. (same p u && same q w) || (x && b == c)) (same_number ks a d p w apart e gw)
-        ∙ ap (λ x. (same p u && same q w) || (same p w && x)) (same_number ks b c q u apart f gu)
+        ap (λ x. (x && b == d) || (a == d && b == c)) (same_number ks a c p u distinct e gu)
+        ∙ ap (λ x. (same p u && x) || (a == d && b == c)) (same_number ks b d q w distinct f gw)
+        ∙ ap (λ x. (same p u && same q w) || (x && b == c)) (same_number ks a d p w distinct e gw)
+        ∙ ap (λ x. (same p u && same q w) || (same p w && x)) (same_number ks b c q u distinct f gu)
 
     on : (s : Bool) → ((same p u && same q w) || (same p w && same q u)) ≡ s → Says ks (cond ((a == c && b == d) || (a == d && b == c)) (Between c d) Junction) (noted k (pass (visit p h q)))
     on true s =
@@ -101,8 +103,8 @@ says_pass ks (Between c d) k a b h p q apart e f (u, w, gu, gw, ne, n, t, z) = o
         ∙ ap (λ x. (same p q || k.turns) || is_more (with_neighbors x (p ∷ (q ∷ [])))) n
         ∙ or_assoc (same p q) k.turns (is_more (with_neighbors (Two u w) (p ∷ (q ∷ []))))
         ∙ settled_now u w p q k.turns s)
-says_pass ks Junction k a b h p q apart e f s = settled_stays k (pass (visit p h q)) s
-says_pass ks RingStart k a b h p q apart e f s = absurd s
+says_pass ks Junction k a b h p q distinct e f s = settled_stays k (pass (visit p h q)) s
+says_pass ks RingStart k a b h p q distinct e f s = absurd s
 
 -- ---- all positions
 
@@ -134,9 +136,9 @@ set_length (x ∷ vs) zero v = refl
 set_length (x ∷ vs) (suc i) v = ap suc (set_length vs i v)
 
 -- one note more
-say_one : (ks : List Point) (vs ws : List Vertex) (ns : List Note) (x : Note) (i : ℕ) (f : Vertex → Vertex) → AreApart ks → slice_get ks i ≡ Some x.here →
+say_one : (ks : List Point) (vs ws : List Vertex) (ns : List Note) (x : Note) (i : ℕ) (f : Vertex → Vertex) → AreDistinct ks → slice_get ks i ≡ Some x.here →
     ((v : Vertex) (k : Knowledge) → Says ks v k → Says ks (f v) (noted k x)) → ((v : Vertex) → slice_get vs i ≡ Some v → ws ≡ slice_set vs i (f v)) → Say ks vs ns → Say ks ws (ns ++ (x ∷ []))
-say_one ks vs ws ns x i f apart e step made h = record { size = size; each = each }
+say_one ks vs ws ns x i f distinct e step made h = record { size = size; each = each }
   where
     v : (v : Vertex) × (slice_get vs i ≡ Some v)
     v = let l = within ks i x.here e in there vs i (omega (arith, h.size, l))
@@ -156,7 +158,7 @@ say_one ks vs ws ns x i f apart e step made h = record { size = size; each = eac
         on : (b : Bool) → same x.here p ≡ b → Says ks w (after nothing_known (ns ++ (x ∷ [])) p)
         on true s =
             let q : x.here ≡ p = same_is x.here p s in
-            let same_place : i ≡ j = apart i j p (e ∙ ap Some q) g in
+            let same_place : i ≡ j = one_place ks p i j distinct (e ∙ ap Some q) g in
             let is_new : w ≡ f v.0 = set_here vs i (f v.0) w (ap (slice_get (slice_set vs i (f v.0))) same_place ∙ ap (λ l. slice_get l j) (sym is) ∙ k) in
             subst (Says ks w) (sym (one p ∙ ap (λ b. cond b (noted (after nothing_known ns p) x) (after nothing_known ns p)) s))
             (subst (λ z. Says ks z (noted (after nothing_known ns p) x)) (sym is_new)
@@ -176,14 +178,14 @@ takes_none ks vs before s = subst (Say ks vs) (sym (append-nil before)) s
 pub takes_then : (ks : List Point) (us vs ws : List Vertex) (ns ms : List Note) → Takes ks us vs ns → Takes ks vs ws ms → Takes ks us ws (ns ++ ms)
 takes_then ks us vs ws ns ms h k before s = subst (Say ks ws) (append_assoc before ns ms) (k (before ++ ns) (h before s))
 
-pub takes_pass : (ks : List Point) (vs ws : List Vertex) (h a b : ℕ) (p q r : Point) → AreApart ks → slice_get ks h ≡ Some q → slice_get ks a ≡ Some p → slice_get ks b ≡ Some r →
+pub takes_pass : (ks : List Point) (vs ws : List Vertex) (h a b : ℕ) (p q r : Point) → AreDistinct ks → slice_get ks h ≡ Some q → slice_get ks a ≡ Some p → slice_get ks b ≡ Some r →
     ((v : Vertex) → slice_get vs h ≡ Some v → ws ≡ slice_set vs h (passed v a b)) → Takes ks vs ws (pass (visit p q r) ∷ [])
-takes_pass ks vs ws h a b p q r apart e f g made before s =
-    say_one ks vs ws before (pass (visit p q r)) h (λ v. passed v a b) apart e (λ v k. says_pass ks v k a b q p r apart f g) made s
+takes_pass ks vs ws h a b p q r distinct e f g made before s =
+    say_one ks vs ws before (pass (visit p q r)) h (λ v. passed v a b) distinct e (λ v k. says_pass ks v k a b q p r distinct f g) made s
 
-pub takes_end : (ks : List Point) (vs ws : List Vertex) (h : ℕ) (p : Point) → AreApart ks → slice_get ks h ≡ Some p →
+pub takes_end : (ks : List Point) (vs ws : List Vertex) (h : ℕ) (p : Point) → AreDistinct ks → slice_get ks h ≡ Some p →
     ((v : Vertex) → slice_get vs h ≡ Some v → ws ≡ slice_set vs h Junction) → Takes ks vs ws (touch true p ∷ [])
-takes_end ks vs ws h p apart e made before s = say_one ks vs ws before (touch true p) h (λ v. Junction) apart e (λ v k t. refl) made s
+takes_end ks vs ws h p distinct e made before s = say_one ks vs ws before (touch true p) h (λ v. Junction) distinct e (λ v k t. refl) made s
 
 -- a position that is read, and nothing more
 pub takes_touch : (ks : List Point) (vs : List Vertex) (p : Point) → Takes ks vs vs (touch false p ∷ [])
@@ -204,25 +206,25 @@ first_number : (ks : List Point) (ns : List ℕ) (ps : List Point) (i : ℕ) →
 first_number ks ns ps i are h = numbered ks ns ps i 0 nowhere are h
 
 -- the visit at a place between the ends, by number
-pub takes_inner : (ks : List Point) (ns : List ℕ) (ps : List Point) (i : ℕ) (vs ws : List Vertex) → AreApart ks → AreNumbers ks ns ps → i + 2 < length ns →
+pub takes_inner : (ks : List Point) (ns : List ℕ) (ps : List Point) (i : ℕ) (vs ws : List Vertex) → AreDistinct ks → AreNumbers ks ns ps → i + 2 < length ns →
     ((v : Vertex) → slice_get vs (get_or ns (i + 1) 0) ≡ Some v → ws ≡ slice_set vs (get_or ns (i + 1) 0) (passed v (get_or ns i 0) (get_or ns (i + 2) 0))) →
     Takes ks vs ws (pass (visit (get_or ps i nowhere) (get_or ps (i + 1) nowhere) (get_or ps (i + 2) nowhere)) ∷ [])
-takes_inner ks ns ps i vs ws apart are h made =
-    takes_pass ks vs ws (get_or ns (i + 1) 0) (get_or ns i 0) (get_or ns (i + 2) 0) (get_or ps i nowhere) (get_or ps (i + 1) nowhere) (get_or ps (i + 2) nowhere) apart
+takes_inner ks ns ps i vs ws distinct are h made =
+    takes_pass ks vs ws (get_or ns (i + 1) 0) (get_or ns i 0) (get_or ns (i + 2) 0) (get_or ps i nowhere) (get_or ps (i + 1) nowhere) (get_or ps (i + 2) nowhere) distinct
     (first_number ks ns ps (i + 1) are (omega arith)) (first_number ks ns ps i are (omega arith)) (first_number ks ns ps (i + 2) are (omega arith)) made
 
 -- a ring: the visits between its ends, and that of its last position
-pub takes_ring : (ks : List Point) (ns : List ℕ) (ps : List Point) (us vs ws : List Vertex) → AreApart ks → AreNumbers ks ns ps → 2 ≤ length ns → Takes ks us vs (map pass (inner_visits ps)) →
+pub takes_ring : (ks : List Point) (ns : List ℕ) (ps : List Point) (us vs ws : List Vertex) → AreDistinct ks → AreNumbers ks ns ps → 2 ≤ length ns → Takes ks us vs (map pass (inner_visits ps)) →
     ((v : Vertex) → slice_get vs (get_or ns (length ns - 1) 0) ≡ Some v → ws ≡ slice_set vs (get_or ns (length ns - 1) 0) (passed v (get_or ns ((length ns - 1) - 1) 0) (get_or ns 1 0))) →
     Takes ks us ws (line_notes true ps (ring_or_line_visits true ps))
-takes_ring ks ns ps us vs ws apart are h inner made =
+takes_ring ks ns ps us vs ws distinct are h inner made =
     let m : length ns ≡ length ps = as_many ks ns ps are in
     let n : length ps - 1 ≡ length ns - 1 = omega (arith, m) in
     let a = get_or ps ((length ns - 1) - 1) nowhere in
     let b = get_or ps (length ns - 1) nowhere in
     let c = get_or ps 1 nowhere in
     let last : Takes ks vs ws (pass (visit a b c) ∷ []) =
-    takes_pass ks vs ws (get_or ns (length ns - 1) 0) (get_or ns ((length ns - 1) - 1) 0) (get_or ns 1 0) a b c apart
+    takes_pass ks vs ws (get_or ns (length ns - 1) 0) (get_or ns ((length ns - 1) - 1) 0) (get_or ns 1 0) a b c distinct
     (first_number ks ns ps (length ns - 1) are (omega arith)) (first_number ks ns ps ((length ns - 1) - 1) are (omega arith)) (first_number ks ns ps 1 are (omega arith)) made in
     let first = get_or ps 0 nowhere in
     subst (Takes ks us ws)
@@ -233,17 +235,17 @@ takes_ring ks ns ps us vs ws apart are h inner made =
     (takes_then ks us us vs (touch false first ∷ []) (map pass (inner_visits ps)) (takes_touch ks us first) inner) last)
 
 -- an open line: its ends, and the visits between them
-pub takes_open : (ks : List Point) (ns : List ℕ) (ps : List Point) (us vs ws xs : List Vertex) → AreApart ks → AreNumbers ks ns ps → 2 ≤ length ns →
+pub takes_open : (ks : List Point) (ns : List ℕ) (ps : List Point) (us vs ws xs : List Vertex) → AreDistinct ks → AreNumbers ks ns ps → 2 ≤ length ns →
     ((v : Vertex) → slice_get us (get_or ns 0 0) ≡ Some v → vs ≡ slice_set us (get_or ns 0 0) Junction) → Takes ks vs ws (map pass (inner_visits ps)) →
     ((v : Vertex) → slice_get ws (get_or ns (length ns - 1) 0) ≡ Some v → xs ≡ slice_set ws (get_or ns (length ns - 1) 0) Junction) →
     Takes ks us xs (line_notes false ps (ring_or_line_visits false ps))
-takes_open ks ns ps us vs ws xs apart are h one inner other =
+takes_open ks ns ps us vs ws xs distinct are h one inner other =
     let m : length ns ≡ length ps = as_many ks ns ps are in
     let n : length ps - 1 ≡ length ns - 1 = omega (arith, m) in
     let first = get_or ps 0 nowhere in
     let b = get_or ps (length ns - 1) nowhere in
-    let start : Takes ks us vs (touch true first ∷ []) = takes_end ks us vs (get_or ns 0 0) first apart (first_number ks ns ps 0 are (omega arith)) one in
-    let end : Takes ks ws xs (touch true b ∷ []) = takes_end ks ws xs (get_or ns (length ns - 1) 0) b apart (first_number ks ns ps (length ns - 1) are (omega arith)) other in
+    let start : Takes ks us vs (touch true first ∷ []) = takes_end ks us vs (get_or ns 0 0) first distinct (first_number ks ns ps 0 are (omega arith)) one in
+    let end : Takes ks ws xs (touch true b ∷ []) = takes_end ks ws xs (get_or ns (length ns - 1) 0) b distinct (first_number ks ns ps (length ns - 1) are (omega arith)) other in
     subst (Takes ks us xs)
     (notes_are false ps first b None (omega (arith, m)) (same_get ps 0 nowhere first (omega (arith, m)))
     (same_get ps (length ns - 1) nowhere b (omega (arith, m)) ∙ ap (λ k. get_or ps k b) (sym n)) refl)
@@ -290,9 +292,9 @@ all_read ks vs ls c s = record {
 pub unmarked : (ls : List Stroke) (f g : Point → Bool) (ks : List Point) (vs : List Vertex) → ((p : Point) → f p ≡ g p) → AreCut ls f ks vs → AreCut ls g ks vs
 unmarked ls f g ks vs e h = record { size = h.size; junctions = h.junctions; cuts = λ i p v a b. h.cuts i p v a b ∙ ap (λ x. is_junction ls p || x) (e p) }
 
-pub marked : (ls : List Stroke) (f g : Point → Bool) (ks : List Point) (vs ws : List Vertex) (i : ℕ) (q : Point) → AreApart ks → slice_get ks i ≡ Some q → is_junction ls q ≡ false →
+pub marked : (ls : List Stroke) (f g : Point → Bool) (ks : List Point) (vs ws : List Vertex) (i : ℕ) (q : Point) → AreDistinct ks → slice_get ks i ≡ Some q → is_junction ls q ≡ false →
     ((p : Point) → g p ≡ (f p || same p q)) → (i < length vs → ws ≡ slice_set vs i RingStart) → AreCut ls f ks vs → AreCut ls g ks ws
-marked ls f g ks vs ws i q apart e free adds made h = record { size = size; junctions = junctions; cuts = cuts }
+marked ls f g ks vs ws i q distinct e free adds made h = record { size = size; junctions = junctions; cuts = cuts }
   where
     is : ws ≡ slice_set vs i RingStart
     is = let l = within ks i q e in made (omega (arith, h.size, l))
@@ -303,7 +305,7 @@ marked ls f g ks vs ws i q apart e free adds made h = record { size = size; junc
     start : (j : ℕ) (p : Point) (w : Vertex) → slice_get ks j ≡ Some p → slice_get ws j ≡ Some w → same p q ≡ true → (w ≡ RingStart) × (p ≡ q)
     start j p w a b s =
         let r : p ≡ q = same_is p q s in
-        let m : i ≡ j = apart i j q e (a ∙ ap Some r) in
+        let m : i ≡ j = one_place ks q i j distinct e (a ∙ ap Some r) in
         (set_here vs i RingStart w (ap (slice_get (slice_set vs i RingStart)) m ∙ ap (λ l. slice_get l j) (sym is) ∙ b), r)
 
     other : (j : ℕ) (p : Point) (w : Vertex) → slice_get ks j ≡ Some p → slice_get ws j ≡ Some w → same p q ≡ false → slice_get vs j ≡ Some w
@@ -356,22 +358,22 @@ chosen_none t [] vs p h = refl
 chosen_none t (k ∷ ks) [] p h = refl
 chosen_none t (k ∷ ks) (v ∷ vs) p h = grind (arith, chosen_none t ks vs p)
 
-pub chosen_at : (t : Vertex → Bool) (ks : List Point) (vs : List Vertex) (i : ℕ) (p : Point) (v : Vertex) → AreApart ks → slice_get ks i ≡ Some p → slice_get vs i ≡ Some v → is_member (chosen t ks vs) p ≡ t v
-chosen_at t [] vs i p v apart e f = cc
-chosen_at t (k ∷ ks) [] i p v apart e f = cc
-chosen_at t (k ∷ ks) (w ∷ vs) zero p v apart e f = on (is_member ks p) refl
+pub chosen_at : (t : Vertex → Bool) (ks : List Point) (vs : List Vertex) (i : ℕ) (p : Point) (v : Vertex) → AreDistinct ks → slice_get ks i ≡ Some p → slice_get vs i ≡ Some v → is_member (chosen t ks vs) p ≡ t v
+chosen_at t [] vs i p v distinct e f = cc
+chosen_at t (k ∷ ks) [] i p v distinct e f = cc
+chosen_at t (k ∷ ks) (w ∷ vs) zero p v distinct e f = on (is_member ks p) refl
   where
     on : (b : Bool) → is_member ks p ≡ b → is_member (cond (t w) (k ∷ chosen t ks vs) (chosen t ks vs)) p ≡ t v
-    on true m = let r = place_of ks p m in let z : 0 ≡ suc r.0 = apart 0 (suc r.0) p e r.1 in absurd (omega arith)
+    on true m = let r = place_of ks p m in let z : 0 ≡ suc r.0 = one_place (k ∷ ks) p 0 (suc r.0) distinct e r.1 in absurd (omega arith)
     on false m =
         let a : k ≡ p = cc in
         let b : w ≡ v = cc in
         grind (arith, chosen_none t ks vs p m, same_self p)
-chosen_at t (k ∷ ks) (w ∷ vs) (suc i) p v apart e f =
-    on (same p k) refl (chosen_at t ks vs i p v (λ i j q g h. let z : suc i ≡ suc j = apart (suc i) (suc j) q g h in omega arith) e f)
+chosen_at t (k ∷ ks) (w ∷ vs) (suc i) p v distinct e f =
+    on (same p k) refl (chosen_at t ks vs i p v distinct.1 e f)
   where
     on : (b : Bool) → same p k ≡ b → is_member (chosen t ks vs) p ≡ t v → is_member (cond (t w) (k ∷ chosen t ks vs) (chosen t ks vs)) p ≡ t v
-    on true s rest = let z : 0 ≡ suc i = apart 0 (suc i) p (ap Some (sym (same_is p k s))) e in absurd (omega arith)
+    on true s rest = let z : 0 ≡ suc i = one_place (k ∷ ks) p 0 (suc i) distinct (ap Some (sym (same_is p k s))) e in absurd (omega arith)
     on false s rest = grind arith
 
 -- a list that was lent as a slice and is taken back
@@ -388,14 +390,14 @@ not_free ls f ks vs ns ps are e h =
     (λ p. sym (ap (λ b. f p || (b && is_least p ps)) (sym (free_by_number ls f ks vs ns ps h are) ∙ e) ∙ or-false (f p))) h
 
 -- one that is has its least position
-pub started : (ls : List Stroke) (f : Point → Bool) (ks : List Point) (vs ws : List Vertex) (ns : List ℕ) (ps : List Point) (i : ℕ) (q : Point) → AreApart ks → AreNumbers ks ns ps →
+pub started : (ls : List Stroke) (f : Point → Bool) (ks : List Point) (vs ws : List Vertex) (ns : List ℕ) (ps : List Point) (i : ℕ) (q : Point) → AreDistinct ks → AreNumbers ks ns ps →
     list_all (λ n. not (junction_at vs n)) ns ≡ true → ((p : Point) → is_least p ps ≡ same p q) → slice_get ks i ≡ Some q → (i < length vs → ws ≡ slice_set vs i RingStart) → AreCut ls f ks vs →
     AreCut ls (λ p. f p || (list_all (λ q. not (is_junction ls q)) ps && is_least p ps)) ks ws
-started ls f ks vs ws ns ps i q apart are e least at made h =
+started ls f ks vs ws ns ps i q distinct are e least at made h =
     let all : list_all (λ q. not (is_junction ls q)) ps ≡ true = sym (free_by_number ls f ks vs ns ps h are) ∙ e in
     let among : list_any (same q) ps ≡ true = least_among q ps (least q ∙ same_self q) in
     let free : not (is_junction ls q) ≡ true = holds_at (λ q. not (is_junction ls q)) q ps all among in
-    marked ls f (λ p. f p || (list_all (λ q. not (is_junction ls q)) ps && is_least p ps)) ks vs ws i q apart at (grind (arith, free))
+    marked ls f (λ p. f p || (list_all (λ q. not (is_junction ls q)) ps && is_least p ps)) ks vs ws i q distinct at (grind (arith, free))
     (λ p. ap (λ b. f p || (b && is_least p ps)) all ∙ ap (λ b. f p || b) (least p)) made h
 
 -- its least position has a number
@@ -404,22 +406,22 @@ least_numbered ks ns ps q are least = numbered_member ks ns ps q are (least_amon
 
 -- ---- what is answered
 
-pub junction_answer : (ks : List Point) (vs : List Vertex) (n : ℕ) (p : Point) → length vs ≡ length ks → AreApart ks → slice_get ks n ≡ Some p → junction_at vs n ≡ is_member (chosen at_junction ks vs) p
-junction_answer ks vs n p size apart e =
+pub junction_answer : (ks : List Point) (vs : List Vertex) (n : ℕ) (p : Point) → length vs ≡ length ks → AreDistinct ks → slice_get ks n ≡ Some p → junction_at vs n ≡ is_member (chosen at_junction ks vs) p
+junction_answer ks vs n p size distinct e =
     let l = within ks n p e in
     let v = there vs n (omega (arith, size, l)) in
-    ap (λ o. elim o as (λ _. Bool) [ Some v ↦ at_junction v | None ↦ false ]) v.1 ∙ sym (chosen_at at_junction ks vs n p v.0 apart e v.1)
+    ap (λ o. elim o as (λ _. Bool) [ Some v ↦ at_junction v | None ↦ false ]) v.1 ∙ sym (chosen_at at_junction ks vs n p v.0 distinct e v.1)
 
-pub cut_answer : (ks : List Point) (vs : List Vertex) (n : ℕ) (p : Point) → length vs ≡ length ks → AreApart ks → slice_get ks n ≡ Some p → cut_at vs n ≡ is_member (chosen at_cut ks vs) p
-cut_answer ks vs n p size apart e =
+pub cut_answer : (ks : List Point) (vs : List Vertex) (n : ℕ) (p : Point) → length vs ≡ length ks → AreDistinct ks → slice_get ks n ≡ Some p → cut_at vs n ≡ is_member (chosen at_cut ks vs) p
+cut_answer ks vs n p size distinct e =
     let l = within ks n p e in
     let v = there vs n (omega (arith, size, l)) in
-    ap (λ o. elim o as (λ _. Bool) [ Some v ↦ at_cut v | None ↦ false ]) v.1 ∙ sym (chosen_at at_cut ks vs n p v.0 apart e v.1)
+    ap (λ o. elim o as (λ _. Bool) [ Some v ↦ at_cut v | None ↦ false ]) v.1 ∙ sym (chosen_at at_cut ks vs n p v.0 distinct e v.1)
 
 -- what is found is a member
 pub found_is : (ks : List Point) (p : Point) (o : Option ℕ) → IfSome o (λ n. slice_get ks n ≡ Some p) → IfNone o (is_member ks p ≡ false) → is_some o ≡ is_member ks p
 found_is ks p None h k = sym k
-found_is ks p (Some n) h k = sym (member_at ks n p h)
+found_is ks p (Some n) h k = sym (one_is ks p n h)
 
 -- the answers are those of the lines
 pub answers_of : (ls : List Stroke) (ks : List Point) (vs : List Vertex) → ks ≡ first_seen (positions ls) → AreCut ls (starts_in ls ls) ks vs →

@@ -1,9 +1,11 @@
 pub mod Cleaned
+pub mod Distinct
 pub mod FirstSeen
 pub mod Keeping
 pub mod Members
 pub mod Noting
 pub mod Numbers
+pub mod Probing
 pub mod Settled
 pub mod Starts
 pub mod VisitLists

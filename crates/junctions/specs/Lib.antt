@@ -5,4 +5,6 @@ pub mod Cuts
 pub mod Gathering
 pub mod Kept
 pub mod Notes
+pub mod Numbering
+pub mod Slots
 pub mod Visits

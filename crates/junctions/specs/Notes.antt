@@ -94,10 +94,6 @@ abbrev pub with_positions : List Point → List Point → List Point
 with_positions ps [] = ps
 with_positions ps (q ∷ qs) = with_positions (with_position ps q) qs
 
--- no two of the positions are the same
-abbrev pub AreApart : List Point → Type 0
-AreApart ks = (i j : ℕ) (p : Point) → slice_get ks i ≡ Some p → slice_get ks j ≡ Some p → i ≡ j
-
 -- the numbers are the places at which the positions stand among others
 abbrev pub AreNumbers : List Point → List ℕ → List Point → Type 0
 AreNumbers ks ns ps = map (slice_get ks) ns ≡ map Some ps

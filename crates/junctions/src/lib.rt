@@ -8,6 +8,7 @@
 mod lines;
 mod numbering;
 mod ring_starts;
+mod slots;
 mod stroke;
 mod vertex;
 mod vertices;

@@ -1,6 +1,7 @@
 // The least positions of rings without a junction.
 ghost use Rattle.std.specs.Prelude.{◌≡◌, ◌<◌, ◌&&◌, ◌||◌, Bool, List, false, not, length, slice_set};
 ghost use Rattle.std.specs.List.{list_all, list_any};
+ghost use Rattle.list_laws.specs.Lists.{AreDistinct};
 ghost use Rattle.geometry.specs.Order.{is_least};
 ghost use Rattle.geometry.specs.Points.{Point};
 ghost use Rattle.geometry.specs.Rings.{same};
@@ -9,7 +10,7 @@ ghost use Rattle.junctions.specs.declared.vertex.Vertex.TheVariants.{RingStart};
 ghost use Rattle.junctions.specs.Cleaning.{AllClean};
 ghost use Rattle.junctions.specs.Cuts.{starts_free_ring};
 ghost use Rattle.junctions.specs.Kept.{cut_at, junction_at};
-ghost use Rattle.junctions.specs.Notes.{AreApart, AreNumbers, AreCut};
+ghost use Rattle.junctions.specs.Notes.{AreNumbers, AreCut};
 ghost use Rattle.junctions.specs.Visits.{is_junction, positions as positions_of};
 
 use crate::numbering::Numbering;
@@ -25,7 +26,7 @@ pub fn mark_ring_starts(
     strokes: &[Stroke],
 )
     requires clean { AllClean strokes.now }
-    requires apart { AreApart numbering.now }
+    requires distinct { AreDistinct numbering.now }
     requires numbers { AreNumbers numbering.now numbers.now (positions_of strokes.now) }
     requires visited { AreCut strokes.now (λ p. false) numbering.now vertices.old }
     ensures { AreCut strokes.now (λ p. list_any (starts_free_ring strokes.now p) strokes.now) numbering.now vertices.new }
@@ -48,7 +49,7 @@ fn mark_ring_start(
     ring: &[Position],
 )
     requires some { 0 < length ring.now }
-    requires apart { AreApart numbering.now }
+    requires distinct { AreDistinct numbering.now }
     requires numbers { AreNumbers numbering.now numbers.now ring.now }
     ensures { (ls : List Line) (f : Point → Bool) → AreCut ls f numbering.now vertices.old →
         AreCut ls (λ p. f p || (list_all (λ q. not (is_junction ls q)) ring.now && is_least p ring.now)) numbering.now vertices.new }

@@ -30,7 +30,7 @@ impl Model for Vertices {
     ghost use Rattle.std.specs.Prelude.{◌≡◌, length};
     ghost use Rattle.junctions.specs.Answers.{Answers};
     ghost use Rattle.junctions.specs.Kept.{at_cut, at_junction, chosen};
-    ghost use Rattle.junctions.specs.Notes.{AreApart};
+    ghost use Rattle.list_laws.specs.Lists.{AreDistinct};
 
     ghost Value = { Answers };
 
@@ -40,7 +40,7 @@ impl Model for Vertices {
       cuts = chosen at_cut v.numbering v.vertices.items;
     } };
 
-    ghost invariant = { λ v. (length v.vertices.items ≡ length v.numbering) × AreApart v.numbering };
+    ghost invariant = { λ v. (length v.vertices.items ≡ length v.numbering) × AreDistinct v.numbering };
 }
 
 impl Vertices {

@@ -1,9 +1,10 @@
 // The numbers of the positions of lines, and what their visits say of each.
 ghost use Rattle.std.specs.Prelude.{◌≡◌, ◌≤◌, IfOk, OnOk, List, Some, ◌++◌, length, map, replicate, slice_get, slice_set};
+ghost use Rattle.list_laws.specs.Lists.{AreDistinct};
 ghost use Rattle.geometry.specs.Points.{Point};
 ghost use Rattle.junctions.specs.Cleaning.{AllClean};
 ghost use Rattle.junctions.specs.Kept.{passed};
-ghost use Rattle.junctions.specs.Notes.{AreApart, AreNumbers, Say, Takes, all_notes, line_notes, pass, ring_or_line_visits, with_positions};
+ghost use Rattle.junctions.specs.Notes.{AreNumbers, Say, Takes, all_notes, line_notes, pass, ring_or_line_visits, with_positions};
 ghost use Rattle.junctions.specs.Visits.{first_seen, inner_visits, positions as positions_of};
 ghost use Rattle.junctions.specs.declared.vertex.Vertex.{Vertex as Kept};
 ghost use Rattle.junctions.specs.declared.vertex.Vertex.TheVariants.{Junction, Unvisited};
@@ -63,7 +64,7 @@ pub fn visit_lines(
     strokes: &[Stroke],
 ) -> Result<Vec<Vertex>, Memory>
     requires clean { AllClean strokes.now }
-    requires apart { AreApart positions.now }
+    requires distinct { AreDistinct positions.now }
     requires numbers { AreNumbers positions.now numbers.now (positions_of strokes.now) }
     ensures { IfOk result (λ vs. Say positions.now vs.items (all_notes strokes.now)) }
 {
@@ -88,7 +89,7 @@ fn unvisited(alloc: Global, count: usize) -> Result<Vec<Vertex>, Memory>
 // What the visits of one line say more, by the numbers of its positions.
 fn visit_line(vertices: &mut [Vertex], numbers: &[u32], closed: bool)
     requires { 2 ≤ length numbers.now }
-    ensures { (ks ps : List Point) → AreApart ks → AreNumbers ks numbers.now ps →
+    ensures { (ks ps : List Point) → AreDistinct ks → AreNumbers ks numbers.now ps →
         Takes ks vertices.old vertices.new (line_notes closed ps (ring_or_line_visits closed ps)) }
 {
     let last = numbers.len() - 1;
@@ -105,7 +106,7 @@ fn visit_line(vertices: &mut [Vertex], numbers: &[u32], closed: bool)
 // What the visits between the ends say more.
 fn visit_between(vertices: &mut [Vertex], numbers: &[u32])
     requires { 2 ≤ length numbers.now }
-    ensures { (ks ps : List Point) → AreApart ks → AreNumbers ks numbers.now ps → Takes ks vertices.old vertices.new (map pass (inner_visits ps)) }
+    ensures { (ks ps : List Point) → AreDistinct ks → AreNumbers ks numbers.now ps → Takes ks vertices.old vertices.new (map pass (inner_visits ps)) }
 {
     for i in 0..numbers.len() - 2 {
         visit(vertices, numbers[i + 1], numbers[i], numbers[i + 2]);

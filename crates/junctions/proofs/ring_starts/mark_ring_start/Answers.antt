@@ -12,5 +12,5 @@ returns-in_default c = λ ls f h.
 
 pub returns : goal.returns
 returns c = λ ls f h.
-    started ls f c.args.numbering.now c.args.vertices.now c.start_at.new.vertices c.args.numbers.now c.args.ring.now c.in-Some.start c.least.result c.requires.apart c.requires.numbers
+    started ls f c.args.numbering.now c.args.vertices.now c.start_at.new.vertices c.args.numbers.now c.args.ring.now c.in-Some.start c.least.result c.requires.distinct c.requires.numbers
     (sym c.is_free.ensures ∙ c.if-not-is_free.false) c.least.ensures c.in-Some.ensures.found c.start_at.ensures h

@@ -31,7 +31,7 @@ mark_ring_start-requires c =
     let m : length c.as_slice.result.now ≡ length s.positions = ap length c.as_slice.ensures in
     record {
       some = omega (arith, h, m);
-      apart = c.requires.apart;
+      distinct = c.requires.distinct;
       numbers = subst (λ l. AreNumbers ks c.split_at.result.0.now l) (sym c.as_slice.ensures) (subst (λ l. AreNumbers ks l s.positions) (sym (c.split_at.ensures.front ∙ ap (λ n. take n c.loop-stroke.rest.now) c.len.ensures)) r.1);
     }
 

@@ -40,7 +40,7 @@ loop-stroke-preserved c =
     let behind : AreNumbers ks c.split_at.result.1.now (positions (drop (i + 1) c.args.strokes.now)) =
     subst (λ l. AreNumbers ks l (positions (drop (i + 1) c.args.strokes.now))) (sym (c.split_at.ensures.back ∙ ap (λ n. drop n c.loop-stroke.rest.now) c.len.ensures)) r.2 in
     let said : Say ks c.visit_line.new.vertices (all_notes (take i c.args.strokes.now) ++ notes_of s) =
-    c.visit_line.ensures ks s.positions c.requires.apart own (all_notes (take i c.args.strokes.now))
+    c.visit_line.ensures ks s.positions c.requires.distinct own (all_notes (take i c.args.strokes.now))
     (subst (λ vs. Say ks vs (all_notes (take i c.args.strokes.now))) (sym c.as_mut_slice.ensures.value) c.loop-stroke.invariant.1) in
     let size : length c.visit_line.new.vertices ≡ length c.loop-stroke.vertices.items = said.size ∙ sym c.loop-stroke.invariant.1.size in (
       behind,

@@ -1,18 +1,19 @@
 use Rattle.std.proofs.Common.{◌≡◌, ◌++◌, false, take, drop, length, ap, sym, ◌∙◌, subst, arith}
+use Rattle.list_laws.specs.Lists.{AreDistinct}
 use Rattle.junctions.specs.Answers.{AnswersFor}
 use Rattle.junctions.specs.Cleaning.{AllClean}
 use Rattle.junctions.specs.Kept.{at_cut, at_junction, chosen}
-use Rattle.junctions.specs.Notes.{AreApart, AreCut, Say, all_notes}
+use Rattle.junctions.specs.Notes.{AreCut, Say, all_notes}
 use Rattle.junctions.specs.Visits.{positions}
 use Rattle.junctions.proofs.Keeping.{all_read, answers_of, written_back}
-use Rattle.junctions.proofs.Numbers.{apart_seen}
+use Rattle.junctions.proofs.Numbers.{distinct_seen}
 use Rattle.junctions.proofs.vertices.Vertices.of.Goals as goal
 
-pub visit_lines-requires-clause-apart : goal.visit_lines-requires-clause-apart
-visit_lines-requires-clause-apart c = subst AreApart (sym (c.positions.ensures ∙ c.in_ok-numbering.ensures.order)) (apart_seen (positions c.as_slice-strokes.result.now))
+pub visit_lines-requires-clause-distinct : goal.visit_lines-requires-clause-distinct
+visit_lines-requires-clause-distinct c = subst AreDistinct (sym (c.positions.ensures ∙ c.in_ok-numbering.ensures.order)) (distinct_seen (positions c.as_slice-strokes.result.now))
 
-pub mark_ring_starts-requires-clause-apart : goal.mark_ring_starts-requires-clause-apart
-mark_ring_starts-requires-clause-apart c = subst AreApart (sym c.in_ok-numbering.ensures.order) (apart_seen (positions c.as_slice-strokes.result.now))
+pub mark_ring_starts-requires-clause-distinct : goal.mark_ring_starts-requires-clause-distinct
+mark_ring_starts-requires-clause-distinct c = subst AreDistinct (sym c.in_ok-numbering.ensures.order) (distinct_seen (positions c.as_slice-strokes.result.now))
 
 pub mark_ring_starts-requires-clause-visited : goal.mark_ring_starts-requires-clause-visited
 mark_ring_starts-requires-clause-visited c =
@@ -25,7 +26,7 @@ pub invariant_of-result : goal.invariant_of-result
 invariant_of-result c =
     let m : length c.mark_ring_starts.new.vertices ≡ length c.in_ok-vertices.vertices.items = c.mark_ring_starts.ensures.size ∙ sym (c.in_ok-vertices.ensures.size ∙ ap length c.positions.ensures) in (
       ap length (written_back c.in_ok-vertices.vertices.len c.in_ok-vertices.vertices.items c.mark_ring_starts.new.vertices (omega arith) m) ∙ c.mark_ring_starts.ensures.size,
-      subst AreApart (sym c.in_ok-numbering.ensures.order) (apart_seen (positions c.as_slice-strokes.result.now)),
+      subst AreDistinct (sym c.in_ok-numbering.ensures.order) (distinct_seen (positions c.as_slice-strokes.result.now)),
     )
 
 pub returns-clause-answers : goal.returns-clause-answers

@@ -1,0 +1,15 @@
+use Rattle.junctions.proofs.Distinct.{first_place}
+use Rattle.junctions.proofs.numbering.Numbering.put_in_order.Goals as goal
+
+pub invariant_of-self-2 : goal.invariant_of-self-2
+invariant_of-self-2 c =
+    record {
+      distinct = c.number_in_order.ensures.distinct c.self.invariant.distinct;
+      few = c.number_in_order.ensures.few c.self.invariant.few;
+      found = c.number_in_order.ensures.numbers;
+    }
+
+pub returns-clause-first : goal.returns-clause-first
+returns-clause-first c =
+    first_place c.number_in_order.new.positions.items c.args.p c.in_ok-number.number
+    (c.number_in_order.ensures.distinct c.self.invariant.distinct) c.in_ok-number.ensures.number

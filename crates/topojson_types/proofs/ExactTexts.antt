@@ -81,7 +81,7 @@ size_below n = grind arith
 near_whole : (n : ℕ) → nearest (n * fine_units) fine_units ≡ n
 near_whole n = nearest-only (n * fine_units) fine_units n (omega arith) (IsRounded-whole fine_units n (omega arith))
 
-units_again : (z : ℤ) → to_units (z *ℤ pos fine_units) ≡ z
+pub units_again : (z : ℤ) → to_units (z *ℤ pos fine_units) ≡ z
 unfolding to_units
 units_again z = grind (arith, near_whole, below_zero, size_below)
 

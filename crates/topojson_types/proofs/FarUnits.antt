@@ -13,14 +13,14 @@ pub far_units : (z : ℤ) → 4 * 10 ^ 28 ≤ unsigned_abs z → position_limit 
 unfolding to_units
 far_units z h = grind (arith, unsigned_abs-signed, IsRounded-above, IsRounded-some)
 
-large : (z : ℤ) → (FitsSigned w128 z → ⊥) → 2 ^ 127 ≤ unsigned_abs z
+pub large : (z : ℤ) → (FitsSigned w128 z → ⊥) → 2 ^ 127 ≤ unsigned_abs z
 large z h = ⊎_elim (λ l. absurd (h (fits_signed_from_abs w128 z l))) (λ l. l) (cases_lt (unsigned_abs z) (2 ^ 127))
 
 less_by : (a b : ℤ) → unsigned_abs a ≤ unsigned_abs (a +ℤ b) + unsigned_abs b
 less_by a b = omega (arith, ints)
 
-pub product_far : (product t : ℤ) → (FitsSigned w128 product → ⊥) → unsigned_abs t ≤ transform_limit → position_limit < unsigned_abs (to_units (product +ℤ t))
-product_far product t h small = grind (arith, large, less_by, far_units)
+pub product_far : (product t : ℤ) → 2 ^ 127 ≤ unsigned_abs product → unsigned_abs t ≤ transform_limit → position_limit < unsigned_abs (to_units (product +ℤ t))
+product_far product t h small = grind (arith, less_by, far_units)
 
 pub sum_far : (z : ℤ) → (FitsSigned w128 z → ⊥) → position_limit < unsigned_abs (to_units z)
 sum_far z h = grind (arith, large, far_units)

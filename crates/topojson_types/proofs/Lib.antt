@@ -6,3 +6,4 @@ pub mod SumsBack
 pub mod ExactTexts
 pub mod FarUnits
 pub mod Grids
+pub mod WholeNumbers

@@ -46,17 +46,55 @@ fn coordinate_of(value: i128) -> Option<i64>
     Some(if value < 0 { -units } else { units })
 }
 
+/// The number of the grid times the scale, if it lies in 128 bits. Most scales lie in 64 bits, and such a product needs no test.
+fn product(number: i64, scale: i128) -> Option<i128>
+    ensures some { IfSome result (λ p. p ≡ number *ℤ scale) }
+    ensures none { IfNone result (2 ^ 127 ≤ unsigned_abs (number *ℤ scale)) }
+{
+    match i64::try_from(scale) {
+        Ok(scale) => Some(i128::from(number) * i128::from(scale)),
+        Err(_) => i128::from(number).checked_mul(scale),
+    }
+}
+
 /// The coordinate that a number of the grid stands for, if it is one.
 #[tactic(auto, unfolding(crate::specs::TransformNumbers::stands_for))]
-fn coordinate_on(scale: &TransformNumber, translate: &TransformNumber, number: i64) -> Option<i64>
+fn fine_coordinate_on(
+    scale: &TransformNumber,
+    translate: &TransformNumber,
+    number: i64,
+) -> Option<i64>
     ensures some { IfSome result (λ u. (u ≡ stands_for scale.now translate.now number) × (unsigned_abs u ≤ position_limit)) }
     ensures none { IfNone result (position_limit < unsigned_abs (stands_for scale.now translate.now number)) }
 {
     let scale = scale.value();
     let translate = translate.value();
-    let product = i128::from(number).checked_mul(scale)?;
+    let product = product(number, scale)?;
     let sum = product.checked_add(translate)?;
     coordinate_of(sum)
+}
+
+/// What a number of the grid stands for, where scale and translation are whole numbers of units and the sum lies in 64 bits. As nothing
+/// has to be rounded there, this is the quicker way.
+fn whole_number_on(scale: &TransformNumber, translate: &TransformNumber, number: i64) -> Option<i64>
+    ensures { IfSome result (λ u. u ≡ stands_for scale.now translate.now number) }
+{
+    let product = number.checked_mul(scale.units()?)?;
+    product.checked_add(translate.units()?)
+}
+
+/// The coordinate that a number of the grid stands for, if it is one.
+fn coordinate_on(scale: &TransformNumber, translate: &TransformNumber, number: i64) -> Option<i64>
+    ensures some { IfSome result (λ u. (u ≡ stands_for scale.now translate.now number) × (unsigned_abs u ≤ position_limit)) }
+    ensures none { IfNone result (position_limit < unsigned_abs (stands_for scale.now translate.now number)) }
+{
+    let Some(units) = whole_number_on(scale, translate, number) else {
+        return fine_coordinate_on(scale, translate, number);
+    };
+    if units.unsigned_abs() > POSITION_LIMIT {
+        return None;
+    }
+    Some(units)
 }
 
 /// The position that a cell stands for, if it is one: with a transform (TopoJSON 1.0, section 2.1.2) each number times the scale and

@@ -46,7 +46,7 @@ left arcs front refs back = front ++ (joined_behind_first (map (arc_at arcs) ref
 pub begins : (arcs : List (List Point)) (refs rest : List ℤ) (r : ℤ) (front back : List Point) → refs ≡ r ∷ rest → front ≡ arc_at arcs r → back ≡ [] → left arcs front rest back ≡ rejoined (map (arc_at arcs) refs)
 begins arcs refs rest r front back is e f = grind (arith, append-nil)
 
-abbrev First : List Point → Option Point → List Point → Type 0
+abbrev pub First : List Point → Option Point → List Point → Type 0
 First = YieldsFirst {S = List Point} {A = Point} (λ w. w)
 
 abbrev Last : List Point → Option Point → List Point → Type 0

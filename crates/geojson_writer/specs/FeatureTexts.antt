@@ -3,15 +3,16 @@ use Rattle.std.specs.Prelude.{ℕ, List, [], ◌++◌, map, codes, Option, Some,
 use Rattle.json_value.specs.declared.json.Json.{Json}
 use Rattle.json_value.specs.declared.json.Json.TheVariants as j
 use Rattle.json_value.specs.Text.{json_text}
+use Rattle.geometry.specs.declared.shape.Geometry.{Geometry}
 use Rattle.geometry.specs.declared.shape.Geometry.TheOpen.{Geometry-F}
 use Rattle.geometry.specs.declared.shape.Geometry.TheViews.{out-Geometry}
 use Rattle.geojson_types.specs.declared.id.Id.{Id}
 use Rattle.geojson_types.specs.Features.{Shape}
 use Rattle.geometry.specs.Points.{Point}
-use Rattle.geojson_writer.specs.FeatureValues.{position_value, positions_value, lines_value, polygons_value, shape_value, id_value}
+use Rattle.geojson_writer.specs.FeatureValues.{Member, position_value, positions_value, lines_value, polygons_value, shape_value, properties_value, id_value}
 
 -- up to the coordinates or the geometries, on one level of a geometry
-abbrev pub head_in : Geometry-F Point (List Point) (List Point) Shape → List ℕ
+abbrev pub head_in : {P L R S : Type 0} → Geometry-F P L R S → List ℕ
 head_in (Geometry-F.Point p) = codes "{\"type\":\"Point\",\"coordinates\":"
 head_in (Geometry-F.MultiPoint ps) = codes "{\"type\":\"MultiPoint\",\"coordinates\":"
 head_in (Geometry-F.Line ps) = codes "{\"type\":\"LineString\",\"coordinates\":"
@@ -20,9 +21,9 @@ head_in (Geometry-F.Area rs) = codes "{\"type\":\"Polygon\",\"coordinates\":"
 head_in (Geometry-F.Areas areas) = codes "{\"type\":\"MultiPolygon\",\"coordinates\":"
 head_in (Geometry-F.Group shapes) = codes "{\"type\":\"GeometryCollection\",\"geometries\":"
 
--- what stands in front of the coordinates or the geometries of a geometry
-unfoldable pub head_text : Shape → List ℕ
-head_text shape = head_in (out-Geometry Point (List Point) (List Point) shape)
+-- what stands in front of the coordinates or the geometries of a geometry, whatever that is made of
+unfoldable pub head_text : {P L R : Type 0} → Geometry P L R → List ℕ
+head_text {P} {L} {R} shape = head_in (out-Geometry P L R shape)
 
 -- the coordinates or the geometries, on one level of a geometry
 abbrev pub contents_in : Geometry-F Point (List Point) (List Point) Shape → Json
@@ -42,3 +43,12 @@ contents_value shape = contents_in (out-Geometry Point (List Point) (List Point)
 abbrev pub id_text : Option Id → List ℕ
 id_text None = []
 id_text (Some id) = codes ",\"id\":" ++ json_text (id_value id)
+
+-- a feature up to its geometry
+abbrev pub feature_head : Option Id → Option (List Member) → List ℕ
+feature_head id members =
+    codes "{\"type\":\"Feature\"" ++ (id_text id ++ (codes ",\"properties\":" ++ (json_text (properties_value members) ++ codes ",\"geometry\":")))
+
+-- a collection up to its features
+abbrev pub collection_head : List ℕ
+collection_head = codes "{\"type\":\"FeatureCollection\",\"features\":"

@@ -1,13 +1,14 @@
 // Features as they are written (RFC 7946, sections 3.2 and 3.3).
+ghost use Rattle.std.specs.Option.{option_copied};
 ghost use Rattle.byte_ends.specs.Continues.{Continues};
 ghost use Rattle.byte_ends.specs.Writes.{Writes};
 ghost use Rattle.json_value.specs.Text.{json_text};
-ghost use Rattle.geojson_writer.specs.FeatureTexts.{id_text};
+ghost use Rattle.geojson_writer.specs.FeatureTexts.{collection_head, feature_head, id_text};
 ghost use Rattle.geojson_writer.specs.FeatureValues.{id_value, properties_value, geometry_value, feature_value, collection_value, features_value};
 
 use crate::shape_writer::put_shape;
 use byte_ends::{Drain, Progress, Sink, WriteFault, put_part};
-use geojson_types::{Feature, FeatureSet, Id};
+use geojson_types::{Feature, FeatureSet, Id, Properties};
 use json_writer::{PutValue, put_array, put_text};
 use properties_writer::put_properties;
 
@@ -22,11 +23,11 @@ fn put_id<W: Drain>(id: &Id, so_far: Progress, sink: &mut Sink<W>) -> Progress
     }
 }
 
-/// Writes the member `id` behind a comma, if the feature has an identifier.
-fn put_id_member<W: Drain>(feature: &Feature, so_far: Progress, sink: &mut Sink<W>) -> Progress
-    ensures { Continues sink.old sink.new so_far (id_text feature.now.id) result }
+/// Writes the member `id` behind a comma, if there is an identifier.
+fn put_id_member<W: Drain>(id: Option<&Id>, so_far: Progress, sink: &mut Sink<W>) -> Progress
+    ensures { Continues sink.old sink.new so_far (id_text (option_copied id.entry)) result }
 {
-    match feature.id() {
+    match id {
         None => put_part(b"", so_far, sink),
         Some(id) => {
             let so_far = put_part(b",\"id\":", so_far, sink);
@@ -35,16 +36,16 @@ fn put_id_member<W: Drain>(feature: &Feature, so_far: Progress, sink: &mut Sink<
     }
 }
 
-/// Writes the feature's properties, or null.
+/// Writes properties, or null.
 #[tactic(auto, using(crate::proofs::Objects::leaves))]
 fn put_properties_option<W: Drain>(
-    feature: &Feature,
+    properties: Option<&Properties>,
     so_far: Progress,
     sink: &mut Sink<W>,
 ) -> Progress
-    ensures { Continues sink.old sink.new so_far (json_text (properties_value feature.now.properties)) result }
+    ensures { Continues sink.old sink.new so_far (json_text (properties_value (option_copied properties.entry))) result }
 {
-    match feature.properties() {
+    match properties {
         None => put_part(b"null", so_far, sink),
         Some(properties) => put_properties(properties, so_far, sink),
     }
@@ -61,15 +62,27 @@ fn put_geometry<W: Drain>(feature: &Feature, so_far: Progress, sink: &mut Sink<W
     }
 }
 
+/// Writes a feature with this identifier and these properties, up to its geometry.
+pub fn put_feature_head<W: Drain>(
+    id: Option<&Id>,
+    properties: Option<&Properties>,
+    so_far: Progress,
+    sink: &mut Sink<W>,
+) -> Progress
+    ensures { Continues sink.old sink.new so_far (feature_head (option_copied id.entry) (option_copied properties.entry)) result }
+{
+    let so_far = put_part(b"{\"type\":\"Feature\"", so_far, sink);
+    let so_far = put_id_member(id, so_far, sink);
+    let so_far = put_part(b",\"properties\":", so_far, sink);
+    let so_far = put_properties_option(properties, so_far, sink);
+    put_part(b",\"geometry\":", so_far, sink)
+}
+
 /// Writes a feature.
 fn put_feature<W: Drain>(feature: &Feature, so_far: Progress, sink: &mut Sink<W>) -> Progress
     ensures { Continues sink.old sink.new so_far (json_text (feature_value feature.now)) result }
 {
-    let so_far = put_part(b"{\"type\":\"Feature\"", so_far, sink);
-    let so_far = put_id_member(feature, so_far, sink);
-    let so_far = put_part(b",\"properties\":", so_far, sink);
-    let so_far = put_properties_option(feature, so_far, sink);
-    let so_far = put_part(b",\"geometry\":", so_far, sink);
+    let so_far = put_feature_head(feature.id(), feature.properties(), so_far, sink);
     let so_far = put_geometry(feature, so_far, sink);
     put_part(b"}", so_far, sink)
 }
@@ -85,15 +98,22 @@ impl PutValue<Feature> for Features {
     }
 }
 
+/// Writes a collection of features up to the list of these.
+pub fn put_collection_head<W: Drain>(so_far: Progress, sink: &mut Sink<W>) -> Progress
+    ensures { Continues sink.old sink.new so_far collection_head result }
+{
+    put_part(
+        b"{\"type\":\"FeatureCollection\",\"features\":",
+        so_far,
+        sink,
+    )
+}
+
 /// Writes a collection of these features.
 fn put_collection<W: Drain>(features: &[Feature], so_far: Progress, sink: &mut Sink<W>) -> Progress
     ensures { Continues sink.old sink.new so_far (json_text (collection_value features.now)) result }
 {
-    let so_far = put_part(
-        b"{\"type\":\"FeatureCollection\",\"features\":",
-        so_far,
-        sink,
-    );
+    let so_far = put_collection_head(so_far, sink);
     let so_far = put_array::<Features, Feature, W>(features, so_far, sink);
     put_part(b"}", so_far, sink)
 }

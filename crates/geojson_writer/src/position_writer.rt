@@ -1,6 +1,9 @@
 // Positions and linear rings as they are written.
+ghost use Rattle.std.specs.Prelude.{◌++◌};
+ghost use Rattle.list_laws.specs.Commas.{comma_unless};
 ghost use Rattle.byte_ends.specs.Continues.{Continues};
 ghost use Rattle.json_value.specs.Text.{json_text};
+ghost use Rattle.json_writer.specs.Holding.{Holds};
 ghost use Rattle.geojson_writer.specs.FeatureValues.{position_value, positions_value};
 
 use byte_ends::{Drain, Progress, Sink};
@@ -12,6 +15,27 @@ pub fn put_position<W: Drain>(position: Position, so_far: Progress, sink: &mut S
     ensures { Continues sink.old sink.new so_far (json_text (position_value position)) result }
 {
     put_pair(position.x(), position.y(), PLACES, so_far, sink)
+}
+
+/// Holds a position as an element of a list: with the comma in front, unless it is the first.
+pub fn hold_position<W: Drain>(
+    position: Position,
+    is_first: bool,
+    held: &mut ShortText,
+    so_far: Progress,
+    sink: &mut Sink<W>,
+) -> Progress
+    ensures { Holds sink.old sink.new so_far result held.old (comma_unless is_first ++ json_text (position_value position)) held.new }
+{
+    hold_pair(
+        position.x(),
+        position.y(),
+        PLACES,
+        is_first,
+        held,
+        so_far,
+        sink,
+    )
 }
 
 /// The way to write positions.
@@ -31,15 +55,7 @@ impl PutValue<Position> for Positions {
         so_far: Progress,
         sink: &mut Sink<W>,
     ) -> Progress {
-        hold_pair(
-            position.x(),
-            position.y(),
-            PLACES,
-            is_first,
-            held,
-            so_far,
-            sink,
-        )
+        hold_position(*position, is_first, held, so_far, sink)
     }
 }
 

@@ -12,8 +12,12 @@ use geojson_types::{Geometry, Position, Ring, Shape};
 use json_value::Items;
 use json_writer::{ArrayOf, put_array};
 
-/// Writes what stands in front of the coordinates or the geometries: the type, and the member's name.
-fn put_head<W: Drain>(shape: &Shape, so_far: Progress, sink: &mut Sink<W>) -> Progress
+/// Writes what stands in front of the coordinates or the geometries, whatever the geometry is made of: the type, and the member's name.
+pub fn put_head<P, L, R, W: Drain>(
+    shape: &Geometry<P, L, R>,
+    so_far: Progress,
+    sink: &mut Sink<W>,
+) -> Progress
     ensures { Continues sink.old sink.new so_far (head_text shape.now) result }
 {
     match shape {

@@ -52,11 +52,15 @@ module _ (t : Contents) (is : IsTopology t) where
       (of_named (λ o. AreRanged (features_strokes (object_features o))) name t.objects o e (parts_all (λ b. AreInRange (length t.arcs) b.1) (λ o. features_strokes (object_features o.1)) t.objects is.ranged))
       (of_named (λ o. AreClosed (features_strokes (object_features o))) name t.objects o e (parts_all (IsClosed t.arcs) (λ o. features_strokes (object_features o.1)) t.objects is.closed))
 
-  pub one_stands : (name : List ℕ) (o : TopoObject) (f : TopoFeature) → of_name name t.objects ≡ Some o → o ≡ One f → IsShapeOption t f.shape
-  one_stands name o f e k = (subst (λ o. AllByRecursion (λ f. IsShapeOption t f.shape) (object_features o)) k (object_stands name o e)).0
+-- the shape of one, and those of many
+abbrev Stand : Contents → TopoObject → Type 0
+Stand t o = AllByRecursion (λ f. IsShapeOption t f.shape) (object_features o)
 
-  pub many_stand : (name : List ℕ) (o : TopoObject) (fs : List TopoFeature) → of_name name t.objects ≡ Some o → o ≡ Many fs → AllByRecursion (λ f. IsShapeOption t f.shape) fs
-  many_stand name o fs e k = subst (λ o. AllByRecursion (λ f. IsShapeOption t f.shape) (object_features o)) k (object_stands name o e)
+pub one_stands : (t : Contents) (o : TopoObject) (f : TopoFeature) → Stand t o → o ≡ One f → IsShapeOption t f.shape
+one_stands t o f stand k = (subst (Stand t) k stand).0
+
+pub many_stand : (t : Contents) (o : TopoObject) (fs : List TopoFeature) → Stand t o → o ≡ Many fs → AllByRecursion (λ f. IsShapeOption t f.shape) fs
+many_stand t o fs stand k = subst (Stand t) k stand
 
 -- ---- what an object is decoded to
 

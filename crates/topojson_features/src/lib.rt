@@ -10,5 +10,5 @@ mod shapes;
 
 pub use decode_fault::DecodeFault;
 pub use lines::positions;
-pub use objects::features;
-pub use topojson_walk::Walk;
+pub use objects::{features, named_object};
+pub use topojson_walk::{LineWalk, Walk};

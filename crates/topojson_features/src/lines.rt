@@ -2,7 +2,7 @@
 ghost use Rattle.std.specs.Prelude.{◌≡◌, IfOk, false, length, map, true};
 ghost use Rattle.std.specs.List.{AllByRecursion};
 ghost use Rattle.std.specs.Option.{option_copied};
-ghost use Rattle.topojson_types.specs.Decoding.{decoded_line, filled, placed_arcs};
+ghost use Rattle.topojson_types.specs.Decoding.{decoded_line, placed_arcs};
 ghost use Rattle.topojson_types.specs.Transforms.{place};
 ghost use Rattle.topojson_types.specs.Validity.{AreInRange, IsPlace};
 ghost use Rattle.topojson_features.specs.Strokes.{IsStroke};
@@ -12,10 +12,7 @@ use geojson_types::{Position, Ring};
 use json_value::Items;
 use std::alloc::Global;
 use topojson_types::{ArcRef, Cell, Topology, Transform, position_at};
-use topojson_walk::Walk;
-
-/// The fewest positions of a ring (RFC 7946, section 3.1.6).
-const RING_POSITIONS: usize = 4;
+use topojson_walk::LineWalk;
 
 /// Where cells lie.
 pub fn positions(
@@ -33,17 +30,18 @@ pub fn positions(
     Ok(Items::of(positions))
 }
 
-/// The positions of the arcs that the indexes name.
+/// The positions of a line or a ring of these arcs.
 fn line_positions(
     alloc: Global,
     topology: &Topology,
     refs: &[ArcRef],
+    is_closed: bool,
 ) -> Result<Vec<Position>, Memory>
     requires { AreInRange (length topology.now.arcs) refs.now }
-    ensures { IfOk result (λ ps. ps.items ≡ decoded_line (placed_arcs topology.now.transform topology.now.arcs) false refs.now) }
+    ensures { IfOk result (λ ps. ps.items ≡ decoded_line (placed_arcs topology.now.transform topology.now.arcs) is_closed refs.now) }
 {
     let mut positions = Vec::new(alloc);
-    'positions: for position in Walk::over(topology, refs) {
+    'positions: for position in LineWalk::over(topology, refs, is_closed) {
         positions.push(position)?;
     }
     Ok(positions)
@@ -54,20 +52,7 @@ pub fn line(alloc: Global, topology: &Topology, refs: &[ArcRef]) -> Result<Items
     requires { IsStroke topology.now (false, refs.now) }
     ensures { IfOk result (λ ps. ps ≡ decoded_line (placed_arcs topology.now.transform topology.now.arcs) false refs.now) }
 {
-    Ok(Items::of(line_positions(alloc, topology, refs)?))
-}
-
-/// The positions, filled up to four by the first.
-fn filled_up(mut positions: Vec<Position>) -> Result<Vec<Position>, Memory>
-    ensures { IfOk result (λ ps. ps.items ≡ filled positions.items) }
-{
-    let Some(first) = positions.first().copied() else {
-        return Ok(positions);
-    };
-    'missing: for _ in positions.len()..RING_POSITIONS {
-        positions.push(first)?;
-    }
-    Ok(positions)
+    Ok(Items::of(line_positions(alloc, topology, refs, false)?))
 }
 
 /// The ring of these arcs, filled up to four positions by its first.
@@ -75,8 +60,7 @@ pub fn ring(alloc: Global, topology: &Topology, refs: &[ArcRef]) -> Result<Ring,
     requires { IsStroke topology.now (true, refs.now) }
     ensures { IfOk result (λ r. r ≡ decoded_line (placed_arcs topology.now.transform topology.now.arcs) true refs.now) }
 {
-    let positions = line_positions(alloc, topology, refs)?;
-    Ok(Ring::of(filled_up(positions)?))
+    Ok(Ring::of(line_positions(alloc, topology, refs, true)?))
 }
 
 /// Open lines, in order.

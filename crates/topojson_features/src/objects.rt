@@ -1,8 +1,9 @@
 // The features of objects.
-ghost use Rattle.std.specs.Prelude.{◌≡◌, IfErr, IfOk, None, Some, map};
+ghost use Rattle.std.specs.Prelude.{◌≡◌, IfErr, IfOk, IfSome, None, Some, map};
 ghost use Rattle.std.specs.List.{AllByRecursion};
 ghost use Rattle.std.specs.Option.{option_copied};
 ghost use Rattle.topojson_types.specs.Decoding.{decoded as decoded_features, decoded_feature, of_name, placed_arcs};
+ghost use Rattle.topojson_types.specs.Topologies.{object_features};
 ghost use Rattle.topojson_types.specs.Transforms.{place};
 ghost use Rattle.topojson_features.specs.Strokes.{IsShapeOption};
 ghost use Rattle.topojson_features.specs.declared.decode_fault.DecodeFault.TheVariants.{NoObject};
@@ -87,6 +88,15 @@ fn object<'a>(objects: &'a [(OwnText, TopoObject)], name: &str) -> Option<&'a To
     None
 }
 
+/// The object of this name, if there is one. Its shapes may stand in the topology, as it is valid.
+#[tactic(auto, using(crate::proofs::NamedObjects::object_stands))]
+pub fn named_object<'a>(topology: &'a Topology, name: &str) -> Option<&'a TopoObject>
+    ensures object { option_copied result ≡ of_name name.now topology.now.objects }
+    ensures stands { IfSome (option_copied result) (λ o. AllByRecursion (λ f. IsShapeOption topology.now f.shape) (object_features o)) }
+{
+    object(topology.objects(), name)
+}
+
 /// The features of the object of this name (TopoJSON 1.0, section 2.1.5): a geometry object is a Feature, and a GeometryCollection a
 /// FeatureCollection of its members. Identifiers and properties are copied, and a ring of fewer than four positions is filled up to
 /// four by its first. `NoObject` means that no object has the name.
@@ -94,7 +104,7 @@ pub fn features(alloc: Global, topology: &Topology, name: &str) -> Result<Featur
     ensures found { IfOk result (λ fs. decoded_features topology.now name.now ≡ Some fs) }
     ensures absent { IfErr result (λ e. e ≡ NoObject → decoded_features topology.now name.now ≡ None) }
 {
-    let Some(object) = object(topology.objects(), name) else {
+    let Some(object) = named_object(topology, name) else {
         return Err(DecodeFault::NoObject);
     };
     match object {

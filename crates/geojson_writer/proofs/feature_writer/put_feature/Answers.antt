@@ -4,6 +4,5 @@ use Rattle.geojson_writer.proofs.feature_writer.put_feature.Goals as goal
 
 pub returns : goal.returns
 returns g c =
-    let geometry = then c.put_part-so_far-3.ensures (then c.put_geometry-so_far.ensures c.put_part.ensures) in
-    let properties = then c.put_part-so_far-2.ensures (then c.put_properties_option-so_far.ensures geometry) in
-    as_text (feature-text c.args.feature.now) (then c.put_part-so_far.ensures (then c.put_id_member-so_far.ensures properties))
+    let head = rw (c.id.ensures, c.properties.ensures) at c.put_feature_head-so_far.ensures in
+    as_text (feature-text c.args.feature.now) (then head (then c.put_geometry-so_far.ensures c.put_part.ensures))

@@ -1,0 +1,2 @@
+pub mod Elements
+pub mod Shown

@@ -1,0 +1,106 @@
+// Objects of a topology, written as the features that they stand for (RFC 7946, sections 3.2 and 3.3).
+ghost use Rattle.std.specs.Prelude.{map};
+ghost use Rattle.std.specs.List.{AllByRecursion};
+ghost use Rattle.std.specs.Option.{option_copied};
+ghost use Rattle.byte_ends.specs.Continues.{Continues};
+ghost use Rattle.byte_ends.specs.Writes.{Writes};
+ghost use Rattle.json_value.specs.Text.{json_text};
+ghost use Rattle.json_value.specs.declared.json.Json.TheVariants as j;
+ghost use Rattle.geometry.specs.Lists.{then_some};
+ghost use Rattle.geojson_writer.specs.FeatureValues.{collection_value, feature_value, features_value, geometry_value};
+ghost use Rattle.topojson_types.specs.Topologies.{object_features};
+ghost use Rattle.topojson_features.specs.Strokes.{IsShapeOption};
+ghost use Rattle.decoding_writer.specs.Decoded.{shape_in, feature_in, object_in};
+
+use crate::shape_writer::put_shape;
+use byte_ends::{Drain, Progress, Sink, WriteFault, put_comma, put_part};
+use geojson_writer::{put_collection_head, put_feature_head};
+use topojson_types::{TopoFeature, TopoObject, TopoShape, Topology};
+
+/// Writes a geometry, or null.
+#[tactic(auto, using(json_value::proofs::Texts::texts))]
+fn put_geometry<W: Drain>(
+    topology: &Topology,
+    shape: Option<&TopoShape>,
+    so_far: Progress,
+    sink: &mut Sink<W>,
+) -> Progress
+    requires { IsShapeOption topology.now (option_copied shape) }
+    ensures { Continues sink.old sink.new so_far (json_text (geometry_value (then_some (shape_in topology.now) (option_copied shape.entry)))) result }
+{
+    match shape {
+        None => put_part(b"null", so_far, sink),
+        Some(shape) => put_shape(topology, shape, so_far, sink),
+    }
+}
+
+/// Writes the feature of a geometry object.
+fn put_feature<W: Drain>(
+    topology: &Topology,
+    feature: &TopoFeature,
+    so_far: Progress,
+    sink: &mut Sink<W>,
+) -> Progress
+    requires { IsShapeOption topology.now feature.now.shape }
+    ensures { Continues sink.old sink.new so_far (json_text (feature_value (feature_in topology.now feature.now))) result }
+{
+    let so_far = put_feature_head(
+        feature.id.as_ref(),
+        feature.properties.as_ref(),
+        so_far,
+        sink,
+    );
+    let so_far = put_geometry(topology, feature.shape.as_ref(), so_far, sink);
+    put_part(b"}", so_far, sink)
+}
+
+/// Writes the features of the members of a collection.
+fn put_members<W: Drain>(
+    topology: &Topology,
+    members: &[TopoFeature],
+    so_far: Progress,
+    sink: &mut Sink<W>,
+) -> Progress
+    requires { AllByRecursion (λ f. IsShapeOption topology.now f.shape) members.now }
+    ensures { Continues sink.old sink.new so_far (json_text (j.Array (map feature_value (map (feature_in topology.now) members.now)))) result }
+{
+    let mut so_far = put_part(b"[", so_far, sink);
+    let mut is_first = true;
+    'members: for member in members {
+        so_far = put_comma(is_first, so_far, sink);
+        is_first = false;
+        so_far = put_feature(topology, member, so_far, sink);
+    }
+    put_part(b"]", so_far, sink)
+}
+
+/// Writes a collection of these features.
+fn put_collection<W: Drain>(
+    topology: &Topology,
+    members: &[TopoFeature],
+    so_far: Progress,
+    sink: &mut Sink<W>,
+) -> Progress
+    requires { AllByRecursion (λ f. IsShapeOption topology.now f.shape) members.now }
+    ensures { Continues sink.old sink.new so_far (json_text (collection_value (map (feature_in topology.now) members.now))) result }
+{
+    let so_far = put_collection_head(so_far, sink);
+    let so_far = put_members(topology, members, so_far, sink);
+    put_part(b"}", so_far, sink)
+}
+
+/// Writes the GeoJSON text of the features that an object of the topology stands for, as `write_features` does of features that are
+/// there: each position is written where a walk along the arcs comes to it. This takes no memory.
+pub fn write_object<W: Drain>(
+    topology: &Topology,
+    object: &TopoObject,
+    sink: &mut Sink<W>,
+) -> Result<u64, WriteFault>
+    requires { AllByRecursion (λ f. IsShapeOption topology.now f.shape) (object_features object.now) }
+    ensures { Writes sink.old sink.new 0 (json_text (features_value (object_in topology.now object.now))) result }
+{
+    match object {
+        TopoObject::One(feature) => put_feature(topology, feature, Ok(0), sink),
+        TopoObject::Many(members) => put_collection(topology, members.as_slice(), Ok(0), sink),
+    }
+}

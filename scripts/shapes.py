@@ -4,9 +4,10 @@
     scripts/shapes.py roads 20000 > roads.json
     scripts/shapes.py points 200000 > points.json
     scripts/shapes.py lakes 10000 --decimals 15 > lakes.json
+    scripts/shapes.py houses 100000 > houses.json
 
 The kind says what each feature is: `roads` a LineString of 50 positions, which share nothing, `points` a Point, `lakes` a MultiPolygon of
-three polygons, each a ring of 24 positions and its end, the first with a hole of 12. The number is how many features there are. Positions
+three polygons, each a ring of 24 positions and its end, the first with a hole of 12, `houses` a Polygon of four corners. The number is how many features there are. Positions
 have seven decimal places, or as many as --decimals says, of which those behind the seventh differ from zero. The same arguments give
 the same bytes.
 """
@@ -61,11 +62,18 @@ def lake(number, more):
     return '{"type":"MultiPolygon","coordinates":[' + ",".join("[" + ",".join(rings) + "]" for rings in polygons) + "]}"
 
 
+def house(number, more):
+    x, y = middle(number)
+    across, along = 900 + round(400 * scattered(number, 4)), 1_200 + round(600 * scattered(number, 5))
+    corners = ((0, 0), (across, along // 3), (across - along // 4, along), (-along // 4, along - along // 3), (0, 0))
+    return '{"type":"Polygon","coordinates":[[' + ",".join(position(x + right, y + up, more) for right, up in corners) + "]]}"
+
+
 def point(number, more):
     return '{"type":"Point","coordinates":' + position(*middle(number), more) + "}"
 
 
-KINDS = {"roads": ("Road", road), "points": ("Point", point), "lakes": ("Lake", lake)}
+KINDS = {"houses": ("House", house), "roads": ("Road", road), "points": ("Point", point), "lakes": ("Lake", lake)}
 
 
 def feature(number, name, geometry):

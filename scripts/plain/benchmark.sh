@@ -6,7 +6,7 @@
 #     scripts/plain/benchmark.sh path/to/mapchain   another program with the same commands
 #     RUNS=9 SIZE=6 scripts/plain/benchmark.sh      the fastest of nine runs each, instead of five, at 10^6 positions instead of 10^5
 #
-# The files are those of scripts/benchmark.sh: a mesh with properties, a coast, roads, points and lakes. The two take turns, so a busy
+# The files are those of scripts/benchmark.sh: a mesh with properties, a coast, roads, points, lakes and houses, which are many small features. The two take turns, so a busy
 # machine slows both. Their outputs and reports are compared too, and it ends where they differ. A peak is never less than some 14 MB,
 # which is that of the script that measures.
 set -eu
@@ -63,9 +63,9 @@ measure() {
 echo "| file | MB | command | seconds | plain | ratio | peak MB | plain | ratio |"
 echo "|---|---|---|---|---|---|---|---|---|"
 if [ "$size" = 6 ]; then
-    cells=124 roads=20000 points=1000000 lakes=10000
+    cells=124 roads=20000 points=1000000 lakes=10000 houses=100000
 else
-    cells=40 roads=2000 points=100000 lakes=1000
+    cells=40 roads=2000 points=100000 lakes=1000 houses=10000
 fi
 area=$(awk "BEGIN { side = 160 / ($cells * 16); printf \"%.14f\", side * side / 16 }")
 "$scripts/mesh.py" "$cells" 16 --properties >"$work/layer.json"
@@ -78,5 +78,7 @@ measure roads 0.000001
 measure points 0.000001
 "$scripts/shapes.py" lakes "$lakes" >"$work/layer.json"
 measure lakes 0.000001
+"$scripts/shapes.py" houses "$houses" >"$work/layer.json"
+measure houses 0.000001
 "$scripts/shapes.py" lakes "$lakes" --decimals 15 >"$work/layer.json"
 measure "lakes, 15 places" 0.000001

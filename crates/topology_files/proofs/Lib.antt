@@ -1,4 +1,5 @@
 pub mod DecodedTexts
 pub mod FilesDecided
 pub mod FilesReached
+pub mod ObjectsFound
 pub mod Sent

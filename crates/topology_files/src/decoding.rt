@@ -1,40 +1,32 @@
 // Decoding an object of a topology.
 ghost use Rattle.std.specs.Prelude.{◌≡◌, ℕ, List, Some, Result, IfOk, IfErr};
+ghost use Rattle.std.specs.List.{AllByRecursion};
 ghost use Rattle.inputs.specs.declared.file_fault.FileFault.{FileFault as Fault};
+ghost use Rattle.topojson_types.specs.Topologies.{object_features};
+ghost use Rattle.topojson_features.specs.Strokes.{IsShapeOption};
+ghost use Rattle.decoding_writer.specs.Decoded.{object_in};
 ghost use Rattle.topology_files.specs.FileOutcomes.{FileComesTo, FollowsText, object_text};
-ghost use Rattle.topology_files.specs.Geo.{features_text, FailsToDecode, GivesFeatures, IsDecoded, IsGeoFault, SendsText};
+ghost use Rattle.topology_files.specs.Geo.{features_text, IsDecoded, IsGeoFault, SendsText};
 
 use crate::file_reading::read_file;
 use crate::laws::decoded_text_is_utf8;
 use byte_ends::{Drain, Feed, Sink, Source, flush_behind};
-use geojson_types::FeatureSet;
-use geojson_writer::write_features;
+use decoding_writer::write_object;
 use inputs::FileFault;
 use std::alloc::Global;
-use topojson_features::{DecodeFault, features};
+use topojson_features::named_object;
+use topojson_types::{TopoObject, Topology};
 
-/// Reads a source to its end, and gives the features of the object of this name of the topology that its bytes spell.
-fn read_features<R: Feed>(
-    alloc: Global,
-    source: &mut Source<R>,
-    name: &str,
-) -> Result<FeatureSet, FileFault>
-    ensures given { IfOk result (λ found. GivesFeatures name.now source.old source.new found) }
-    ensures refused { IfErr result (λ e. FailsToDecode name.now source.old source.new e) }
+/// Writes the features of the object and flushes the sink.
+fn send<W: Drain>(
+    topology: &Topology,
+    object: &TopoObject,
+    sink: &mut Sink<W>,
+) -> Result<u64, FileFault>
+    requires { AllByRecursion (λ f. IsShapeOption topology.now f.shape) (object_features object.now) }
+    ensures { SendsText sink.old sink.new (features_text (object_in topology.now object.now)) result }
 {
-    let (topology, _counts) = read_file(alloc, source)?;
-    match features(alloc, &topology, name) {
-        Ok(found) => Ok(found),
-        Err(DecodeFault::NoObject) => Err(FileFault::NoObject),
-        Err(DecodeFault::Memory) => Err(FileFault::Memory),
-    }
-}
-
-/// Writes the features and flushes the sink.
-fn send<W: Drain>(found: &FeatureSet, sink: &mut Sink<W>) -> Result<u64, FileFault>
-    ensures { SendsText sink.old sink.new (features_text found.now) result }
-{
-    let written = write_features(found, sink);
+    let written = write_object(topology, object, sink);
     let sent = flush_behind(written, sink)?;
     Ok(sent)
 }
@@ -59,6 +51,9 @@ pub fn to_geo<R: Feed, W: Drain>(
         → FollowsText sink.old sink.new outcome result }
 {
     decoded_text_is_utf8();
-    let found = read_features(alloc, source, name)?;
-    send(&found, sink)
+    let (topology, _counts) = read_file(alloc, source)?;
+    let Some(object) = named_object(&topology, name) else {
+        return Err(FileFault::NoObject);
+    };
+    send(&topology, object, sink)
 }

@@ -1,4 +1,5 @@
 use Rattle.std.proofs.lemmas.Result.{err_from_is_err_and}
+use Rattle.decoding_writer.specs.Decoded.{object_in}
 use Rattle.topology_files.specs.Geo.{features_text}
 use Rattle.topology_files.proofs.Sent.{cut}
 use Rattle.topology_files.proofs.decoding.send.Goals as goal
@@ -6,7 +7,8 @@ use Rattle.topology_files.proofs.decoding.send.Goals as goal
 pub returns-in_err-sent : goal.returns-in_err-sent
 returns-in_err-sent g c =
     let p = err_from_is_err_and c.from_residual.result c.from_residual.ensures.1 in
-    rw (p.1, p.2) (cut c.args.sink.now c.flush_behind.new.sink (features_text c.args.found.now) _ (c.in_err-sent.ensures c.args.sink.now 0 (features_text c.args.found.now) c.write_features-written.ensures))
+    let text = features_text (object_in c.args.topology.now c.args.object.now) in
+    rw (p.1, p.2) (cut c.args.sink.now c.flush_behind.new.sink text _ (c.in_err-sent.ensures c.args.sink.now 0 text c.write_object-written.ensures))
 
 pub returns : goal.returns
-returns g c = c.in_ok-sent.ensures c.args.sink.now 0 (features_text c.args.found.now) c.write_features-written.ensures
+returns g c = c.in_ok-sent.ensures c.args.sink.now 0 (features_text (object_in c.args.topology.now c.args.object.now)) c.write_object-written.ensures

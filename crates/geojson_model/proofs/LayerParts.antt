@@ -38,7 +38,6 @@ use Rattle.geojson_model.specs.declared.geometries.Start.{Start}
 use Rattle.geojson_model.specs.declared.layers.Collected.{Collected}
 use Rattle.geojson_model.specs.declared.seen.Seen.{Seen}
 use Rattle.geojson_model.specs.declared.seen.Seen.TheVariants.{Never, Once, Again}
-use Rattle.json_cursor.proofs.Steps.{found_stops}
 use Rattle.geojson_model.proofs.FeatureParts.{fields_pass}
 use Rattle.geojson_model.proofs.SeenMembers.{not_other, passes}
 
@@ -166,12 +165,6 @@ module _ (exact : Bool) (ms : Members) (c : Counts) where
 pub no_layer : (exact : Bool) (v : Json) (c : Counts) → object_of v ≡ None → features exact v c ≡ Err (fault_in None NotObject)
 unfolding features
 no_layer exact v c h = rw h refl
-
-pub layer_stops : (exact : Bool) (front : Option (Json × List ℕ)) (ms : Members) (rest : List ℕ) (old : Counts) → front ≡ Some (j.Object ms, rest) → (new : Counts) (why : Stop GeoFault)
-    → Judges (members_features exact ms) old new (Err why) → Stops (features exact) front old why
-layer_stops exact front ms rest old is new (stop.Fault e) h = found_stops (features exact) front old (j.Object ms) rest e is (is_layer exact ms old ∙ h)
-layer_stops exact front ms rest old is new stop.NoValue h = absurd h
-layer_stops exact front ms rest old is new stop.Memory h = tt
 
 -- the type of the object, where it is one of a geometry
 named_kind : (ms : Members) (kind : GeometryType) (v : Json) → named (codes "type") ms ≡ v ∷ [] → (o : Option (List ℕ)) → text_of v ≡ o → type_in o ≡ Ok (types.Geometry kind) → Types kind ms

@@ -53,11 +53,6 @@ is_again Again = true
 abbrev pub IsFront : ℕ → Json → Bor (List ℕ) → Type 0
 IsFront d v front = (rest : List ℕ) × (front_value d front.now ≡ Some (v, rest))
 
--- a value stands at the front, of which this is known, and this follows it; or none stands there, or nothing is said
-abbrev pub Meets : {A : Type 0} → (Json → A → Type 0) → ℕ → List ℕ → Result (A × Bor (List ℕ)) Fault → Type 0
-Meets Is d bytes (Ok x) = (v : Json) × (front_value d bytes ≡ Some (v, x.1.now)) × Is v x.0
-Meets Is d bytes (Err fault) = Fails fault (front_value d bytes)
-
 -- A value stands there, and then the rest, and what holds of members goes on to hold with a member of this name and that value. Or none
 -- stands there, or nothing is said.
 abbrev pub Sees : {S : Type 0} → Made S → ℕ → List ℕ → List ℕ → S → S → Result (Bor (List ℕ)) Fault → Type 0

@@ -3,13 +3,14 @@ ghost use Rattle.std.specs.Prelude.{◌≡◌, [], ℕ, OnOk, codes};
 ghost use Rattle.std.specs.Option.{option_copied};
 ghost use Rattle.json_cursor.specs.Answers.{Answers};
 ghost use Rattle.json_cursor.specs.Arrays.{front_value};
+ghost use Rattle.json_cursor.specs.Held.{Meets};
 ghost use Rattle.json_cursor.specs.Members.{Members as Listed, Names};
 ghost use Rattle.json_cursor.specs.Names.{name_of};
 ghost use Rattle.geojson_meaning.specs.Features.{feature, feature_element};
 ghost use Rattle.geojson_meaning.specs.Members.{named};
 ghost use Rattle.geojson_model.specs.Features.{IsDrawn, IsFeatureParts, IsFields, IsId, IsProperties};
 ghost use Rattle.geojson_model.specs.Features as spec;
-ghost use Rattle.geojson_model.specs.Members.{IsSeen, Judges, Meets, Sees};
+ghost use Rattle.geojson_model.specs.Members.{IsSeen, Judges, Sees};
 ghost use Rattle.geojson_model.specs.declared.geometries.Start.{Start as Begun};
 
 use crate::geometries::{Start, geometry_at, type_at};

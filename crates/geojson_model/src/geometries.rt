@@ -8,8 +8,9 @@ ghost use Rattle.json_cursor.specs.Answers.{Answers};
 ghost use Rattle.json_cursor.specs.Arrays.{front_elements, front_value};
 ghost use Rattle.geojson_meaning.specs.Members.{named};
 ghost use Rattle.geojson_meaning.specs.declared.types.GeometryType.TheVariants as types;
+ghost use Rattle.json_cursor.specs.Held.{Meets};
 ghost use Rattle.json_cursor.specs.Names.{name_of};
-ghost use Rattle.geojson_model.specs.Members.{BeginsGeometry, IsCoordinates, IsFront, IsParts, IsRead, IsSeen, IsTaken, IsType, Judges, LeadsGeometry, Meets, Sees, part, twice};
+ghost use Rattle.geojson_model.specs.Members.{BeginsGeometry, IsCoordinates, IsFront, IsParts, IsRead, IsSeen, IsTaken, IsType, Judges, LeadsGeometry, Sees, part, twice};
 ghost use Rattle.geojson_model.specs.declared.geometries.Start.{Start as Begun};
 
 use crate::leading::{first_fault, led_at, twice_at};

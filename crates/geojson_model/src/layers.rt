@@ -2,8 +2,7 @@
 ghost use Rattle.std.specs.Prelude.{◌≡◌, [], ℕ, Bool, IfOk, length, ◌∷◌, codes};
 ghost use Rattle.geojson_types.specs.declared.counts.Counts.{Counts as Counted};
 ghost use Rattle.geojson_meaning.specs.Members.{named};
-ghost use Rattle.json_cursor.specs.Answers.{Answers};
-ghost use Rattle.json_cursor.specs.Arrays.{front_value};
+ghost use Rattle.json_cursor.specs.Held.{IsHeld, Meets};
 ghost use Rattle.json_cursor.specs.Members.{Members as Listed};
 ghost use Rattle.geojson_meaning.specs.Layers.{bare_feature, collection_features, features, single_feature};
 ghost use Rattle.geojson_meaning.specs.Reader.{fault_in};
@@ -11,7 +10,7 @@ ghost use Rattle.geojson_meaning.specs.declared.types.GeometryType.{GeometryType
 ghost use Rattle.geojson_model.specs.Features.{IsFields};
 ghost use Rattle.geojson_model.specs.Layers.{IsCollected, IsLayerParts, Types, members_features, numbered};
 ghost use Rattle.geojson_model.specs.Layers as spec;
-ghost use Rattle.geojson_model.specs.Members.{IsParts, IsSeen, Judges, Meets};
+ghost use Rattle.geojson_model.specs.Members.{IsParts, IsSeen, Judges};
 ghost use Rattle.geojson_model.specs.declared.geometries.Start.{Start as Begun};
 
 use crate::features::{Fields, feature_at, feature_of, is_field};
@@ -19,7 +18,7 @@ use crate::geometries::{Parts, Start, shape_of};
 use crate::seen::Seen;
 use geojson_meaning::{GeoFault, GeoFaultKind, GeoJsonType};
 use geojson_types::{Counts, Feature};
-use json_cursor::{Elements, Members, Stop, folded_array_at, name_at, object_into};
+use json_cursor::{Elements, Members, Stop, held_array_at, name_at, object_into};
 use json_reading::{Fault, Why};
 use json_value::Items;
 use std::alloc::{AllocFailed, Global};
@@ -134,7 +133,7 @@ fn features_at<'a>(
         list: Vec::new(alloc),
     };
     let wrong = fault_within(None, GeoFaultKind::WrongKind);
-    match folded_array_at::<FeatureList>(
+    let (held, rest) = held_array_at::<FeatureList>(
         alloc,
         deep,
         none,
@@ -142,21 +141,16 @@ fn features_at<'a>(
         wrong,
         start.exact,
         &mut counts,
-    ) {
-        Ok((read, rest)) => {
-            let features = Ok(items_of(read));
-            Ok((Collected { features, counts }, rest))
-        }
-        Err(Stop::Fault(fault)) => {
-            let rest = after_value(alloc, deep, bytes)?;
+    )?;
+    match held {
+        Err(fault) => {
             let features = Err(fault);
             Ok((Collected { features, counts }, rest))
         }
-        Err(Stop::NoValue) => Err(Fault::Malformed {
-            why: Why::Syntax,
-            left: bytes.len(),
-        }),
-        Err(Stop::Memory) => Err(Fault::Memory),
+        Ok(read) => {
+            let features = Ok(items_of(read));
+            Ok((Collected { features, counts }, rest))
+        }
     }
 }
 
@@ -302,7 +296,7 @@ fn features_of(
     }
 }
 
-/// The features of the layer at the front (RFC 7946, section 3), and what follows it; or why reading stops. A Feature and a bare geometry are
+/// The features of the layer at the front (RFC 7946, section 3) or its first fault, and what follows it. A Feature and a bare geometry are
 /// the one feature of their layer. Members may stand in any order.
 pub fn layer_at<'a>(
     alloc: Global,
@@ -310,8 +304,8 @@ pub fn layer_at<'a>(
     bytes: &'a [u8],
     exact: bool,
     counts: &mut Counts,
-) -> Result<(Items<Feature>, &'a [u8]), Stop<GeoFault>>
-    ensures { Answers (λ x. x) (features exact) (front_value deep bytes.now) counts.old counts.new result }
+) -> Result<(Result<Items<Feature>, GeoFault>, &'a [u8]), Fault>
+    ensures { Meets (IsHeld (features exact) counts.old counts.new) deep bytes.now result }
 {
     let start = Start {
         exact,
@@ -320,10 +314,13 @@ pub fn layer_at<'a>(
     };
     let mut parts = LayerParts::none();
     let Some(rest) = object_into::<LayerParts<'a>>(alloc, deep, &mut parts, bytes, start)? else {
-        return Err(Stop::Fault(fault_within(None, GeoFaultKind::NotObject)));
+        let rest = after_value(alloc, deep, bytes)?;
+        return Ok((Err(fault_within(None, GeoFaultKind::NotObject)), rest));
     };
     match features_of(alloc, deep - 1, parts, start, counts) {
-        Err(stop) => Err(stop),
-        Ok(features) => Ok((features, rest)),
+        Ok(features) => Ok((Ok(features), rest)),
+        Err(Stop::Fault(fault)) => Ok((Err(fault), rest)),
+        Err(Stop::NoValue) => unreachable!(),
+        Err(Stop::Memory) => Err(Fault::Memory),
     }
 }

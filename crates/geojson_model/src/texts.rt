@@ -6,8 +6,8 @@ ghost use Rattle.geojson_model.specs.Layers.{deepest};
 use crate::layers::layer_at;
 use geojson_meaning::GeoFault;
 use geojson_types::{Counts, Feature, Layer};
-use json_cursor::{Refusal, Stop, Whole, read_text};
-use json_reading::LAYER_DEPTH;
+use json_cursor::{Refusal, Whole, read_text};
+use json_reading::{Fault, LAYER_DEPTH};
 use json_value::Items;
 use std::alloc::Global;
 
@@ -30,7 +30,7 @@ impl Whole for LayerText {
         deep: u32,
         bytes: &'a [u8],
         counts: &mut Counts,
-    ) -> Result<(Items<Feature>, &'a [u8]), Stop<GeoFault>> {
+    ) -> Result<(Result<Items<Feature>, GeoFault>, &'a [u8]), Fault> {
         layer_at(alloc, deep, bytes, self.exact, counts)
     }
 }

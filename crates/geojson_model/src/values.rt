@@ -10,7 +10,6 @@ use crate::layers::{fault_within, layer_at};
 use decimal_json::value_text;
 use geojson_meaning::{GeoFault, GeoFaultKind};
 use geojson_types::{Counts, Layer};
-use json_cursor::Stop;
 use json_value::Json;
 use std::alloc::Global;
 
@@ -31,9 +30,10 @@ pub fn read_layer(alloc: Global, value: Json, exact: bool) -> Result<(Layer, Cou
     };
     let mut counts = Counts::none();
     match layer_at(alloc, u32::MAX, &text, exact, &mut counts) {
-        Ok((features, _)) => Ok((Layer { features }, counts)),
-        Err(Stop::Fault(fault)) => Err(fault),
-        Err(Stop::NoValue) => Err(fault_within(None, GeoFaultKind::Memory)),
-        Err(Stop::Memory) => Err(fault_within(None, GeoFaultKind::Memory)),
+        Err(_) => Err(fault_within(None, GeoFaultKind::Memory)),
+        Ok((read, _)) => match read {
+            Err(fault) => Err(fault),
+            Ok(features) => Ok((Layer { features }, counts)),
+        },
     }
 }

@@ -26,6 +26,9 @@ pub unmade : {V W : Type 0} (g : V → W) (front : Option (V × List ℕ)) (w : 
 unmade g None w rest h = absurd cc
 unmade g (Some x) w rest h = let e = pair_is (g x.0) x.1 (w, rest) h in (x.0, (ap (λ r. Some (x.0, r)) e.1, sym e.0))
 
+pub made_found : {V W : Type 0} (g : V → W) (whole : Option (W × List ℕ)) (front : Option (V × List ℕ)) → whole ≡ made g front → (v : V) (rest : List ℕ) → front ≡ Some (v, rest) → whole ≡ Some (g v, rest)
+made_found g whole front is v rest found = is ∙ ap (made g) found
+
 -- what is read of the part with the counts there is what is read of the whole
 module _ {C E V W B : Type 0} (g : V → W) (read : W → Counting C E B) (part : V → Counting C E B) (whole : Option (W × List ℕ)) (front : Option (V × List ℕ)) (is : whole ≡ made g front) (old mid : C) (law : (v : V) (rest : List ℕ) → front ≡ Some (v, rest) → read (g v) old ≡ part v mid) where
   pub made_reads : (x : B) (rest : List ℕ) (new : C) → Reads part front x rest mid new → Reads read whole x rest old new

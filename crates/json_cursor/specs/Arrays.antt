@@ -21,6 +21,10 @@ front_value d = value_at is_utf8 d
 abbrev pub front_elements : ℕ → ℕ → Parse (List Json)
 front_elements d turns = list_at 93 (value_at is_utf8 d) turns
 
+-- what stands there, in so many turns, are the last of these elements
+abbrev pub AreLast : ℕ → ℕ → List ℕ → ℕ → List ℕ → Type 0
+AreLast d turns inside n left = (before : List Json) × (front_elements d turns inside ≡ (front_elements d n left >>= λ xs. Some (before ++ xs.0, xs.1)))
+
 -- behind white space stands a comma (44), the bracket that closes (93), or what ends no element
 abbrev pub Marks : List ℕ → Mark → List ℕ → Type 0
 Marks bytes mark.Comma rest = skip bytes ≡ 44 ∷ rest

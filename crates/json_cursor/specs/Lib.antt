@@ -1,6 +1,7 @@
 pub mod Answers
 pub mod Arrays
 pub mod Folds
+pub mod Held
 pub mod Kinds
 pub mod Members
 pub mod Names

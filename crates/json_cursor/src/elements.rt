@@ -196,7 +196,7 @@ fn led_at<'a, E: Element>(
                         reader,
                         counts,
                     ) {
-                        Err(stop) => Err(stop),
+                        Err(stopped) => Err(stopped.stop),
                         Ok((all, rest)) => Ok((led(leads, all), rest)),
                     }
                 }

@@ -1,11 +1,11 @@
 // The one loop over the elements of an array, whatever is made of them and however they fail.
-ghost use Rattle.std.specs.Prelude.{◌≡◌};
+ghost use Rattle.std.specs.Prelude.{◌≡◌, IfErr};
 ghost use Rattle.json_value.specs.declared.json.Json.{Json};
 ghost use Rattle.json_members.specs.Readers.{Counting};
 ghost use Rattle.geojson_types.specs.declared.counts.Counts.{Counts as Counted};
 ghost use Rattle.json_cursor.specs.Answers.{Answers};
-ghost use Rattle.json_cursor.specs.Arrays.{always, array_by, front_elements, front_value, some_array_by};
-ghost use Rattle.json_cursor.specs.Folds.{Goes, fold};
+ghost use Rattle.json_cursor.specs.Arrays.{AreLast, always, array_by, front_elements, front_value, some_array_by};
+ghost use Rattle.json_cursor.specs.Folds.{Folds, Goes, fold};
 
 use crate::marks::{Mark, Opening, mark_at, opening_at};
 use crate::stop::Stop;
@@ -36,6 +36,14 @@ pub trait Elements {
         ensures { Goes (takes with self.old) (front_value deep bytes.now) counts.old self.new counts.new result };
 }
 
+/// Why reading stops at an element, and where that element and those behind it stand, in so many turns.
+#[derive(Clone, Copy)]
+pub struct Stopped<'a, E> {
+    pub stop: Stop<E>,
+    pub turns: usize,
+    pub left: &'a [u8],
+}
+
 /// What is made of the elements of an array behind its bracket or behind an element's comma, one or more in so many turns, and what
 /// follows it; or why reading stops: at the first fault, without reading on.
 pub fn folded_at<'a, T: Elements + Drop>(
@@ -46,18 +54,29 @@ pub fn folded_at<'a, T: Elements + Drop>(
     inside: &'a [u8],
     with: T::With,
     counts: &mut Counts,
-) -> Result<(T, &'a [u8]), Stop<T::Fault>>
-    ensures { Answers (λ x. x) (fold (T.takes with) start) (front_elements deep turns inside.now) counts.old counts.new result }
+) -> Result<(T, &'a [u8]), Stopped<'a, T::Fault>>
+    ensures answers { Folds (fold (T.takes with) start) (front_elements deep turns inside.now) counts.old counts.new result }
+    ensures last { IfErr result (λ s. AreLast deep turns inside.now s.turns s.left.now) }
 {
     let mut made = start;
     let mut rest = inside;
-    'elements: for _ in 0..turns {
+    'elements: for turn in 0..turns {
         match made.element(alloc, deep, skip(rest), with, counts) {
-            Err(stop) => return Err(stop),
+            Err(stop) => return Err(Stopped {
+                stop,
+                turns: turns - turn,
+                left: rest,
+            }),
             Ok(behind) => {
                 let (mark, more) = mark_at(behind);
                 match mark {
-                    Mark::Neither => return Err(Stop::NoValue),
+                    Mark::Neither => {
+                        return Err(Stopped {
+                            stop: Stop::NoValue,
+                            turns: turns - turn,
+                            left: rest,
+                        });
+                    }
                     Mark::Close => return Ok((made, more)),
                     Mark::Comma => {}
                 }
@@ -65,7 +84,11 @@ pub fn folded_at<'a, T: Elements + Drop>(
             }
         }
     }
-    Err(Stop::NoValue)
+    Err(Stopped {
+        stop: Stop::NoValue,
+        turns: 0,
+        left: rest,
+    })
 }
 
 /// What is made of the elements of the array at the front, none or more, and what follows it. What is no array has the fault `wrong`.
@@ -85,9 +108,18 @@ pub fn folded_array_at<'a, T: Elements + Drop>(
         Opening::NoArray => Err(Stop::Fault(wrong)),
         Opening::TooDeep => Err(Stop::NoValue),
         Opening::Empty => Ok((start, inside)),
-        Opening::Filled(below) => {
-            folded_at::<T>(alloc, below, inside.len(), start, inside, with, counts)
-        }
+        Opening::Filled(below) => match folded_at::<T>(
+            alloc,
+            below,
+            inside.len(),
+            start,
+            inside,
+            with,
+            counts,
+        ) {
+            Err(stopped) => Err(stopped.stop),
+            Ok(read) => Ok(read),
+        },
     }
 }
 
@@ -120,7 +152,7 @@ pub fn folded_some_at<'a, T: Elements + Drop>(
             with,
             counts,
         ) {
-            Err(stop) => Err(stop),
+            Err(stopped) => Err(stopped.stop),
             Ok((made, rest)) => Ok((Some(made), rest)),
         },
     }

@@ -6,6 +6,7 @@
 
 mod elements;
 mod folds;
+mod held;
 mod kinds;
 mod marks;
 mod members;
@@ -15,7 +16,8 @@ mod stop;
 mod texts;
 
 pub use elements::{Element, array_at, led_array_at, some_array_at};
-pub use folds::{Elements, folded_array_at, folded_at, folded_some_at};
+pub use folds::{Elements, folded_array_at, folded_some_at};
+pub use held::held_array_at;
 pub use kinds::{Kind, kind_at};
 pub use marks::{Mark, Opening, behind_byte, mark_at, opening_at};
 pub use members::{Members, object_at, object_into};

@@ -7,13 +7,11 @@ ghost use Rattle.json_value.specs.Reading as reading;
 ghost use Rattle.json_members.specs.Readers.{Counting};
 ghost use Rattle.json_reading.specs.Outcome.{SaysUtf8, SpellsNothing};
 ghost use Rattle.geojson_types.specs.declared.counts.Counts.{Counts as Counted};
-ghost use Rattle.json_cursor.specs.Answers.{Answers};
-ghost use Rattle.json_cursor.specs.Arrays.{front_value};
+ghost use Rattle.json_cursor.specs.Held.{IsHeld, Meets};
 ghost use Rattle.json_cursor.specs.Texts.{TextAnswers};
 
-use crate::stop::Stop;
 use geojson_types::Counts;
-use json_reading::{JsonFault, after_word, skip};
+use json_reading::{Fault, JsonFault, after_word, skip};
 use simdutf8::compat;
 use std::alloc::Global;
 use text_checking::check;
@@ -29,15 +27,15 @@ pub trait Whole: Copy {
     /// What a value is read as.
     ghost reads: { Self → Json → Counting Counted Self.Fault Self.Read };
 
-    /// The one at the front, and what follows it; or why reading stops.
+    /// The one at the front or its first fault, and what follows it.
     fn read<'a>(
         self,
         alloc: Global,
         deep: u32,
         bytes: &'a [u8],
         counts: &mut Counts,
-    ) -> Result<(Self::Read, &'a [u8]), Stop<Self::Fault>>
-        ensures { Answers (λ x. x) (reads self) (front_value deep bytes.now) counts.old counts.new result };
+    ) -> Result<(Result<Self::Read, Self::Fault>, &'a [u8]), Fault>
+        ensures { Meets (IsHeld (reads self) counts.old counts.new) deep bytes.now result };
 }
 
 /// Why a text isn't read.
@@ -96,18 +94,17 @@ pub fn read_text<R: Whole>(
     }
     let mut counts = Counts::none();
     match reader.read(alloc, deepest, skip(text_of(bytes)), &mut counts) {
+        Err(Fault::Memory) => Err(Refusal::Memory),
+        Err(Fault::Malformed { .. }) => Err(Refusal::Text(malformed(alloc, bytes, deepest))),
         Ok((read, rest)) => {
             let behind = skip(rest);
-            if behind.is_empty() {
-                return Ok((read, counts));
+            if !behind.is_empty() {
+                return Err(Refusal::Text(malformed(alloc, bytes, deepest)));
             }
-            Err(Refusal::Text(malformed(alloc, bytes, deepest)))
+            match read {
+                Err(fault) => Err(Refusal::Meaning(fault)),
+                Ok(read) => Ok((read, counts)),
+            }
         }
-        Err(Stop::NoValue) => Err(Refusal::Text(malformed(alloc, bytes, deepest))),
-        Err(Stop::Memory) => Err(Refusal::Memory),
-        Err(Stop::Fault(fault)) => match check(alloc, bytes, deepest) {
-            Err(malformed) => Err(Refusal::Text(malformed)),
-            Ok(()) => Err(Refusal::Meaning(fault)),
-        },
     }
 }

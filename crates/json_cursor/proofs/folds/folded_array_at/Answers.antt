@@ -10,5 +10,8 @@ returns-in-NoArray g c = part.not_an_array c.args.wrong (fold (g.T.Elements.take
 pub returns-in-Empty : goal.returns-in-Empty
 returns-in-Empty g c = part.empty_array c.args.wrong (fold (g.T.Elements.takes c.args.with) c.args.start) c.args.counts.now (front_value c.args.deep c.args.bytes.now) _ _ _ (rw c.in-Empty.is at c.opening_at-opening.ensures) (nothing_in (g.T.Elements.takes c.args.with) c.args.start c.args.counts.now)
 
-pub returns-in-Filled : goal.returns-in-Filled
-returns-in-Filled g c = part.array_answers c.args.wrong (fold (g.T.Elements.takes c.args.with) c.args.start) c.args.counts.now (front_value c.args.deep c.args.bytes.now) _ (rw c.in-Filled.is at c.opening_at-opening.ensures) (λ x. x) _ c.folded_at.result c.folded_at.ensures
+pub returns-in-Err : goal.returns-in-Err
+returns-in-Err g c = part.array_stops c.args.wrong (fold (g.T.Elements.takes c.args.with) c.args.start) c.args.counts.now (front_value c.args.deep c.args.bytes.now) _ (rw c.in-Filled.is at c.opening_at-opening.ensures) c.in-Err.stopped.stop c.in-Err.ensures.answers
+
+pub returns-in-Ok : goal.returns-in-Ok
+returns-in-Ok g c = part.array_reads c.args.wrong (fold (g.T.Elements.takes c.args.with) c.args.start) c.args.counts.now (front_value c.args.deep c.args.bytes.now) _ (rw c.in-Filled.is at c.opening_at-opening.ensures) _ _ _ c.in-Ok.ensures.answers

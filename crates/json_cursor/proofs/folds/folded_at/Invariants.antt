@@ -5,4 +5,4 @@ use Rattle.json_cursor.proofs.FoldedSoFar.{FoldedSoFar}
 use Rattle.json_cursor.proofs.folds.folded_at.Given as goal
 
 abbrev pub invariant-elements : goal.invariant-elements
-invariant-elements g l = FoldedSoFar (g.T.Elements.takes l.with) (value_at is_utf8 l.deep) l.turns (front_elements l.deep l.turns l.inside) l.fn.start l.fn.counts l.counter l.rest l.made l.counts
+invariant-elements g l = FoldedSoFar (g.T.Elements.takes l.with) (value_at is_utf8 l.deep) l.turns (front_elements l.deep l.turns l.inside) l.fn.start l.fn.counts l.turn l.rest l.made l.counts

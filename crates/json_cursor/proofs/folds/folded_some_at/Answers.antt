@@ -17,12 +17,12 @@ pub returns-in-Err : goal.returns-in-Err
 returns-in-Err g c =
     let inside = c.opening_at-opening.result.1.now in
     let read = fold (g.T.Elements.takes c.args.with) c.args.start in
-    part.filled_stops c.args.wrong (always read) c.args.counts.now (front_value c.args.deep c.args.bytes.now) (value_at is_utf8 c.in-Filled.below) (length inside) inside (rw c.in-Filled.is at c.opening_at-opening.ensures) c.in-Err.stop
-    (part.always_stops read (front_elements c.in-Filled.below (length inside) inside) c.args.counts.now c.in-Err.stop c.in-Err.ensures)
+    part.filled_stops c.args.wrong (always read) c.args.counts.now (front_value c.args.deep c.args.bytes.now) (value_at is_utf8 c.in-Filled.below) (length inside) inside (rw c.in-Filled.is at c.opening_at-opening.ensures) c.in-Err.stopped.stop
+    (part.always_stops read (front_elements c.in-Filled.below (length inside) inside) c.args.counts.now c.in-Err.stopped.stop c.in-Err.ensures.answers)
 
 pub returns-in-Ok : goal.returns-in-Ok
 returns-in-Ok g c =
     let inside = c.opening_at-opening.result.1.now in
     let read = fold (g.T.Elements.takes c.args.with) c.args.start in
     part.filled_reads c.args.wrong (always read) c.args.counts.now (front_value c.args.deep c.args.bytes.now) (value_at is_utf8 c.in-Filled.below) (length inside) inside (rw c.in-Filled.is at c.opening_at-opening.ensures) (Some c.in-Ok.made) c.in-Ok.rest.now c.folded_at.new.counts
-    (part.always_reads read (front_elements c.in-Filled.below (length inside) inside) c.args.counts.now c.in-Ok.made c.in-Ok.rest.now c.folded_at.new.counts c.in-Ok.ensures)
+    (part.always_reads read (front_elements c.in-Filled.below (length inside) inside) c.args.counts.now c.in-Ok.made c.in-Ok.rest.now c.folded_at.new.counts c.in-Ok.ensures.answers)

@@ -1,4 +1,4 @@
-use Rattle.std.proofs.Common.{Some, ap, sym, ◌∙◌}
+use Rattle.std.proofs.Common.{sym}
 use Rattle.json_reading.proofs.Words.{after_word_takes}
 use Rattle.json_cursor.proofs.MemberParts as part
 use Rattle.json_cursor.proofs.Openings.{first_byte}

@@ -43,6 +43,10 @@ module _ {C E B : Type 0} (wrong : E) (read : List Json → Counting C E B) (c :
     pub array_fault : (vs : List Json) (rest : List ℕ) (e : E) → elements ≡ Some (vs, rest) → Stops read elements c (stop.Fault e) → (v : Json) × (front ≡ Some (v, rest)) × (array_by wrong read v c ≡ Err e)
     array_fault vs rest e found h = (j.Array vs, made_found j.Array front elements filled vs rest found, by_list vs ∙ h vs rest found)
 
+    -- the fault at which reading of the elements stopped is that of the array, once all of them were found
+    pub array_fault : (vs : List Json) (rest : List ℕ) (e : E) → elements ≡ Some (vs, rest) → Stops read elements c (stop.Fault e) → (v : Json) × (front ≡ Some (v, rest)) × (array_by wrong read v c ≡ Err e)
+    array_fault vs rest e found h = (j.Array vs, made_found j.Array front elements filled vs rest found, by_list vs ∙ h vs rest found)
+
 -- ---- an array that is to have elements
 
 module _ {E B : Type 0} (wrong : E) (read : List Json → Counting Counts E (Option B)) (c : Counts) (front : Option (Json × List ℕ)) where

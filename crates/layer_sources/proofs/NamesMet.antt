@@ -1,8 +1,10 @@
 -- The names of layers in a set.
 use Rattle.std.proofs.Common.{◌≡◌, ℕ, Bool, true, false, ◌||◌, cond, List, [], ◌∷◌, ◌++◌, Some, refl, sym, ap, ◌∙◌, Bor}
 use Rattle.std.specs.Prelude.{bytes_eq}
-use Rattle.std.specs.HashSet.{HashSet, Updates}
-use Rattle.layer_sources.specs.Names.{is_among, equal, Knows}
+use Rattle.std.specs.Ordering.{is_eq}
+use Rattle.std.specs.BTreeSet.{BTreeSet, Updates}
+use Rattle.std.proofs.lemmas.Map.Text.{is_eq-slice_cmp}
+use Rattle.layer_sources.specs.Names.{is_among, order, Knows}
 
 -- a name is the last, or among those before it
 among_last : (q name : List ℕ) (names : List (List ℕ)) → is_among q (names ++ name ∷ []) ≡ cond (bytes_eq name q) true (is_among q names)
@@ -19,6 +21,7 @@ among_last q name (other ∷ names) = rw (among_last q name names) (on (bytes_eq
     on false true a = refl
     on false false a = refl
 
-pub knows_more : {S : Type 0} (set after : HashSet (Bor (List ℕ)) S) (key : Bor (List ℕ)) (names : List (List ℕ))
-    → Knows (Some set) names → Updates equal set after key true → Knows (Some after) (names ++ key.now ∷ [])
-knows_more set after key names known updates q = updates.0 q ∙ (ap (cond (equal key q) true) (known q) ∙ sym (among_last q.now key.now names))
+pub knows_more : (set after : BTreeSet (Bor (List ℕ))) (key : Bor (List ℕ)) (names : List (List ℕ))
+    → Knows (Some set) names → Updates order set after key true → Knows (Some after) (names ++ key.now ∷ [])
+knows_more set after key names known updates q =
+    updates.0 q ∙ ap (cond (is_eq (order key q)) true) (known q) ∙ ap (λ b. cond b true (is_among q.now names)) (is_eq-slice_cmp key.now q.now) ∙ sym (among_last q.now key.now names)

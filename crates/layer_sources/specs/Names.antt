@@ -1,7 +1,10 @@
 -- Which names of layers are refused.
 use Rattle.std.specs.Prelude.{◌≡◌, ℕ, Bool, false, ◌||◌, Result, Ok, Err, List, [], ◌∷◌, ◌++◌, length, Option, Some, None, bytes_eq, if◌then◌else◌}
 use Rattle.std.specs.Borrow.{Bor}
-use Rattle.std.specs.HashSet.{HashSet, contains}
+use Rattle.std.specs.BTreeSet.{BTreeSet, contains}
+use Rattle.std.specs.Cmp.Lexicographic.{slice_cmp}
+use Rattle.std.specs.Ordering.{nat_cmp}
+use Rattle.std.specs.declared.cmp.Ordering.{Ordering}
 use Rattle.inputs.specs.declared.fault.BuildFault.{BuildFault}
 use Rattle.inputs.specs.declared.fault.BuildFault.TheVariants.{EmptyName, DuplicateName}
 
@@ -34,11 +37,11 @@ abbrev pub IsRefusedFor : Option BuildFault → Result (Unit {0}) BuildFault →
 IsRefusedFor None r = r ≡ Ok tt
 IsRefusedFor (Some e) r = r ≡ Err e
 
--- the equality by which a set of texts finds one
-abbrev pub equal : Bor (List ℕ) → Bor (List ℕ) → Bool
-equal a b = bytes_eq a.now b.now
+-- the order by which a set of texts finds one
+abbrev pub order : Bor (List ℕ) → Bor (List ℕ) → Ordering
+order a b = slice_cmp nat_cmp a.now b.now
 
 -- the set, if there is one, has these names
-abbrev pub Knows : {S : Type 0} → Option (HashSet (Bor (List ℕ)) S) → List (List ℕ) → Type 0
+abbrev pub Knows : Option (BTreeSet (Bor (List ℕ))) → List (List ℕ) → Type 0
 Knows None names = Unit {0}
-Knows (Some set) names = (q : Bor (List ℕ)) → contains equal set q ≡ is_among q.now names
+Knows (Some set) names = (q : Bor (List ℕ)) → contains order set q ≡ is_among q.now names

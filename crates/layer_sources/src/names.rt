@@ -8,7 +8,7 @@ use byte_ends::{Feed, Source};
 use inputs::BuildFault;
 use json_value::OwnText;
 use std::alloc::Global;
-use std::collections::HashSet;
+use std::collections::BTreeSet;
 
 /// Whether one of the layers has this name.
 fn is_among<R: Feed>(name: &str, sources: &[(OwnText, Source<R>)]) -> bool
@@ -25,10 +25,10 @@ fn is_among<R: Feed>(name: &str, sources: &[(OwnText, Source<R>)]) -> bool
 /// Whether one of the layers before has this name, and the set of their names with this one. Where memory is refused there is no
 /// such set, and all layers are looked through.
 fn meet<'a, R: Feed>(
-    met: Option<HashSet<&'a str>>,
+    met: Option<BTreeSet<&'a str>>,
     name: &'a str,
     before: &[(OwnText, Source<R>)],
-) -> (bool, Option<HashSet<&'a str>>)
+) -> (bool, Option<BTreeSet<&'a str>>)
     requires { Knows met (map (λ s. s.0) before.now) }
     ensures again { result.0 ≡ spec.is_among name.now (map (λ s. s.0) before.now) }
     ensures known { result.0 ≡ false → Knows result.1 (map (λ s. s.0) before.now ++ name.now ∷ []) }
@@ -50,7 +50,7 @@ pub fn check_names<R: Feed>(
     // Names are texts.
     ensures texts { IfOk result (λ _. AllByRecursion IsUtf8 (map (λ s. s.0) sources.now)) }
 {
-    let mut met = Some(HashSet::new(alloc));
+    let mut met = Some(BTreeSet::new(alloc));
     'layers: for (layer, source) in sources.iter().enumerate() {
         let name = source.0.as_str();
         if name.is_empty() {

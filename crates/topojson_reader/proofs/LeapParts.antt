@@ -1,5 +1,5 @@
 -- Where an array or an object ends, by its brackets and strings.
-use Rattle.std.proofs.Common.{◌≡◌, ◌≢◌, ℕ, suc, ◌+◌, ◌-◌, ◌<◌, ◌≤◌, Bool, true, false, ◌||◌, eqb, List, [], ◌∷◌, ◌++◌, length, take, drop, get_or, Some, None, refl, sym, ap, subst, ◌∙◌, append_assoc, arith}
+use Rattle.std.proofs.Common.{◌≡◌, ◌≢◌, ℕ, zero, suc, ◌+◌, ◌-◌, ◌<◌, ◌≤◌, Bool, true, false, ◌||◌, eqb, List, [], ◌∷◌, ◌++◌, length, take, drop, get_or, Some, None, refl, sym, ap, subst, ◌∙◌, append_assoc, arith}
 use Rattle.std.specs.Prelude.{codes}
 use Rattle.std.specs.Str.{is_utf8}
 use Rattle.std.proofs.lemmas.Bool.{eqb-true}
@@ -305,3 +305,27 @@ shorter_by_one inside rest more b is le = omega (arith, ap length is, le)
 
 pub shorter_by_two : (inside rest more behind : List ℕ) (b e : ℕ) → rest ≡ b ∷ more → more ≡ e ∷ behind → length rest ≤ length inside → length behind ≤ length inside
 shorter_by_two inside rest more behind b e is k le = omega (arith, ap length is, ap length k, le)
+
+-- ---- many bytes at once
+
+-- so many bytes that are no brackets and no quotation marks
+pub dull_many : (n : ℕ) (bytes : List ℕ) → n ≤ length bytes → ((k : ℕ) → k < n → IsDull (get_or bytes k 0)) → (m : ℕ) → end_of (at_depth (suc m)) bytes ≡ end_of (at_depth (suc m)) (drop n bytes)
+dull_many zero bytes le dull m = refl
+dull_many (suc n) [] le dull m = absurd (omega (arith, le))
+dull_many (suc n) (b ∷ bs) le dull m = dull_first b [] (dull 0 (omega arith)) no_bytes m bs ∙ dull_many n bs (omega (arith, le)) (λ k lt. dull (suc k) (omega (arith, lt))) m
+
+-- a byte that is none of them
+pub is_dull : (b : ℕ) → eqb b 91 ≡ false → eqb b 123 ≡ false → eqb b 93 ≡ false → eqb b 125 ≡ false → eqb b 34 ≡ false → IsDull b
+is_dull b p q r s t = record { opening = neither _ _ p q; closing = neither _ _ r s; quote = t }
+
+-- so many bytes of a string that neither end it nor escape anything
+pub plain_many : (n : ℕ) (bytes : List ℕ) → n ≤ length bytes → ((k : ℕ) → k < n → (eqb (get_or bytes k 0) 34 ≡ false) × (eqb (get_or bytes k 0) 92 ≡ false)) → (m : ℕ) → end_of (in_string (suc m)) bytes ≡ end_of (in_string (suc m)) (drop n bytes)
+plain_many zero bytes le plain m = refl
+plain_many (suc n) [] le plain m = absurd (omega (arith, le))
+plain_many (suc n) (b ∷ bs) le plain m = let h = plain 0 (omega arith) in in_plain b [] h.0 h.1 nothing_quoted m bs ∙ plain_many n bs (omega (arith, le)) (λ k lt. plain (suc k) (omega (arith, lt))) m
+
+-- the same at a depth that isn't 0
+pub dull_passed : (rest more : List ℕ) (n : ℕ) → 0 < n → ((m : ℕ) → end_of (at_depth (suc m)) rest ≡ end_of (at_depth (suc m)) more) → end_of (at_depth n) rest ≡ end_of (at_depth n) more
+dull_passed rest more n lt h = rw some (h (n - 1)) where
+  some : n ≡ suc (n - 1)
+  some = omega (arith, lt)

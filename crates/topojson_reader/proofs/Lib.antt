@@ -23,5 +23,6 @@ pub mod NamedSeen
 pub mod Ends
 pub mod Repeating
 pub mod Unrolling
+pub mod LaneParts
 pub mod LeapParts
 pub mod LostParts

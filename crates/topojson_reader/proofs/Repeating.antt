@@ -1,7 +1,11 @@
 -- Where the names of objects repeat, and the turns of the loop that looks for it.
-use Rattle.std.proofs.Common.{◌≡◌, ℕ, ◌+◌, ◌<◌, ◌≤◌, Bool, true, false, not, List, [], ◌∷◌, length, map, get_or, drop, sym, ap, ◌∙◌, subst, Bor, arith}
+use Rattle.std.proofs.Common.{◌≡◌, ℕ, ◌+◌, ◌<◌, ◌≤◌, Bool, true, false, not, ◌||◌, cond, List, [], ◌∷◌, length, map, get_or, drop, sym, ap, ◌∙◌, subst, Bor, arith}
 use Rattle.std.specs.Prelude.{bytes_eq}
-use Rattle.std.specs.HashSet.{HashSet, contains, Updates}
+use Rattle.std.specs.BTreeSet.{BTreeSet, contains, Updates}
+use Rattle.std.specs.Cmp.Lexicographic.{slice_cmp}
+use Rattle.std.specs.Ordering.{is_eq, nat_cmp}
+use Rattle.std.specs.declared.cmp.Ordering.{Ordering}
+use Rattle.std.proofs.lemmas.Map.Text.{is_eq-slice_cmp}
 use Rattle.topojson_meaning.specs.Objects.{is_met}
 use Rattle.topojson_reader.specs.Names.{names_before_repeat}
 use Rattle.json_members.proofs.Turns.{drop_end, drop_here}
@@ -11,23 +15,26 @@ names_of ms = map (λ m. m.0) ms
 
 -- ---- the set of the names that were met
 
--- the equality by which the set finds a name
-abbrev pub equal : Bor (List ℕ) → Bor (List ℕ) → Bool
-equal a b = bytes_eq a.now b.now
+-- the order by which the set finds a name
+abbrev pub order : Bor (List ℕ) → Bor (List ℕ) → Ordering
+order a b = slice_cmp nat_cmp a.now b.now
 
 not_not : (b : Bool) → b ≡ not (not b)
 not_not b = grind arith
 
-module _ {S : Type 0} where
-  -- the set has these names
-  abbrev pub Knows : HashSet (Bor (List ℕ)) S → List (List ℕ) → Type 0
-  Knows set met = (q : Bor (List ℕ)) → contains equal set q ≡ is_met q.now met
+-- the set has these names
+abbrev pub Knows : BTreeSet (Bor (List ℕ)) → List (List ℕ) → Type 0
+Knows set met = (q : Bor (List ℕ)) → contains order set q ≡ is_met q.now met
 
-  pub was_met : (set : HashSet (Bor (List ℕ)) S) (key : Bor (List ℕ)) (name : List ℕ) (met : List (List ℕ)) (added : Bool) → key.now ≡ name → added ≡ not (contains equal set key) → Knows set met → is_met name met ≡ not added
-  was_met set key name met added is new known = subst (λ n. is_met n met ≡ not added) is (sym (known key) ∙ (not_not (contains equal set key) ∙ ap not (sym new)))
+pub was_met : (set : BTreeSet (Bor (List ℕ))) (key : Bor (List ℕ)) (name : List ℕ) (met : List (List ℕ)) (added : Bool) → key.now ≡ name → added ≡ not (contains order set key) → Knows set met → is_met name met ≡ not added
+was_met set key name met added is new known = subst (λ n. is_met n met ≡ not added) is (sym (known key) ∙ (not_not (contains order set key) ∙ ap not (sym new)))
 
-  pub knows_more : (set after : HashSet (Bor (List ℕ)) S) (key : Bor (List ℕ)) (name : List ℕ) (met : List (List ℕ)) → key.now ≡ name → Updates equal set after key true → Knows set met → Knows after (name ∷ met)
-  knows_more set after key name met is updates known q = grind arith
+one_more : (same is : Bool) → cond same true is ≡ same || is
+one_more same is = grind arith
+
+pub knows_more : (set after : BTreeSet (Bor (List ℕ))) (key : Bor (List ℕ)) (name : List ℕ) (met : List (List ℕ)) → key.now ≡ name → Updates order set after key true → Knows set met → Knows after (name ∷ met)
+knows_more set after key name met is updates known q =
+    updates.0 q ∙ ap (cond (is_eq (order key q)) true) (known q) ∙ ap (λ b. cond b true (is_met q.now met)) (is_eq-slice_cmp key.now q.now ∙ ap (λ n. bytes_eq n q.now) is) ∙ one_more (bytes_eq name q.now) (is_met q.now met)
 
 -- ---- names one after another
 

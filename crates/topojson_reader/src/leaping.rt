@@ -1,7 +1,9 @@
 // Arrays and objects that are leaped over: brackets and strings alone are looked at.
-ghost use Rattle.std.specs.Prelude.{◌≡◌, ◌∷◌, ◌<◌, ℕ, IfSome, Some, length};
+ghost use Rattle.std.specs.Prelude.{◌≡◌, ◌∷◌, ◌<◌, ◌≤◌, ℕ, suc, IfSome, Some, length};
 ghost use Rattle.topojson_reader.specs.Leaping as spec;
-ghost use Rattle.topojson_reader.specs.Leaping.{Ends, PassesString, at_depth, end_of};
+ghost use Rattle.topojson_reader.specs.Leaping.{Ends, PassesString, at_depth, end_of, in_string};
+
+use crate::lanes::{LANES, first_lanes, lanes_before};
 
 /// Whether the byte opens an array or an object.
 #[inline(always)]
@@ -30,6 +32,40 @@ fn behind_escaped(bytes: &[u8]) -> Option<&[u8]>
     }
 }
 
+/// The bytes of a string without some at the front that neither end it nor escape anything.
+#[inline(always)]
+fn behind_plain(bytes: &[u8]) -> &[u8]
+    ensures passes { (n : ℕ) → end_of (in_string (suc n)) bytes.now ≡ end_of (in_string (suc n)) result.now }
+    ensures shorter { length result.now ≤ length bytes.now }
+{
+    if bytes.len() < LANES {
+        return bytes;
+    }
+    let lanes = first_lanes(bytes);
+    let plain = lanes_before(b'"', lanes).min(lanes_before(b'\\', lanes));
+    let (_, rest) = bytes.split_at(plain);
+    rest
+}
+
+/// The bytes without some at the front that neither begin a string nor open or close anything.
+#[inline(always)]
+fn behind_dull(bytes: &[u8]) -> &[u8]
+    ensures passes { (n : ℕ) → end_of (at_depth (suc n)) bytes.now ≡ end_of (at_depth (suc n)) result.now }
+    ensures shorter { length result.now ≤ length bytes.now }
+{
+    if bytes.len() < LANES {
+        return bytes;
+    }
+    let lanes = first_lanes(bytes);
+    let before_opening = lanes_before(b'[', lanes).min(lanes_before(b'{', lanes));
+    let before_closing = lanes_before(b']', lanes).min(lanes_before(b'}', lanes));
+    let dull = lanes_before(b'"', lanes)
+        .min(before_opening)
+        .min(before_closing);
+    let (_, rest) = bytes.split_at(dull);
+    rest
+}
+
 /// What follows the quotation mark that ends the string.
 #[inline(always)]
 fn behind_string(inside: &[u8]) -> Option<&[u8]>
@@ -37,7 +73,7 @@ fn behind_string(inside: &[u8]) -> Option<&[u8]>
     ensures shorter { IfSome result (λ rest. length rest.now < length inside.now) }
 {
     let mut rest = inside;
-    while let [first, more @ ..] = rest {
+    while let [first, more @ ..] = behind_plain(rest) {
         if *first == b'"' {
             return Some(more);
         }
@@ -57,7 +93,7 @@ fn behind_closing(inside: &[u8]) -> Option<&[u8]>
 {
     let mut depth = 1u64;
     let mut rest = inside;
-    while let [first, more @ ..] = rest {
+    while let [first, more @ ..] = behind_dull(rest) {
         if *first == b'"' {
             rest = behind_string(more)?;
         } else if is_opening(*first) {

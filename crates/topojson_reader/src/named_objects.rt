@@ -20,7 +20,7 @@ use json_reading::Fault;
 use json_value::{Items, OwnText};
 use owned_values::Memory;
 use std::alloc::{AllocError, Global};
-use std::collections::HashSet;
+use std::collections::BTreeSet;
 use text_checking::after_value;
 use topojson_meaning::TopoFault;
 use topojson_types::{Cell, TopoObject, Transform};
@@ -110,7 +110,7 @@ fn is_among(name: &str, list: &[(OwnText, TopoObject)]) -> bool
 pub fn members_before_repeat<V>(alloc: Global, members: &[(OwnText, V)]) -> Result<usize, Memory>
     ensures { IfOk result (λ n. n ≡ names_before_repeat [] (map (λ m. m.0) members.now)) }
 {
-    let mut met = HashSet::new(alloc);
+    let mut met = BTreeSet::new(alloc);
     'members: for (index, member) in members.iter().enumerate() {
         let added = met.insert(member.0.as_str())?;
         if !added {

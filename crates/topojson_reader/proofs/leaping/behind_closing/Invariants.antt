@@ -2,11 +2,11 @@ use Rattle.std.proofs.Common.{◌≡◌, ◌<◌, length}
 use Rattle.topojson_reader.specs.Leaping.{at_depth, end_of}
 use Rattle.topojson_reader.proofs.leaping.behind_closing.Given as goal
 
-abbrev pub invariant-loop-rest : goal.invariant-loop-rest
-invariant-loop-rest l = record {
+abbrev pub invariant-loop-first : goal.invariant-loop-first
+invariant-loop-first l = record {
   deep : 0 < l.depth;
   so_far : end_of (at_depth 1) l.inside ≡ end_of (at_depth l.depth) l.rest;
 }
 
-abbrev pub decreases-loop-rest : goal.decreases-loop-rest
-decreases-loop-rest l = length l.rest
+abbrev pub decreases-loop-first : goal.decreases-loop-first
+decreases-loop-first l = length l.rest

@@ -2,11 +2,11 @@ use Rattle.std.proofs.Common.{◌≡◌, ℕ, suc, ◌≤◌, length}
 use Rattle.topojson_reader.specs.Leaping.{end_of, in_string}
 use Rattle.topojson_reader.proofs.leaping.behind_string.Given as goal
 
-abbrev pub invariant-loop-rest : goal.invariant-loop-rest
-invariant-loop-rest l = record {
+abbrev pub invariant-loop-first : goal.invariant-loop-first
+invariant-loop-first l = record {
   so_far : (n : ℕ) → end_of (in_string (suc n)) l.inside ≡ end_of (in_string (suc n)) l.rest;
   left : length l.rest ≤ length l.inside;
 }
 
-abbrev pub decreases-loop-rest : goal.decreases-loop-rest
-decreases-loop-rest l = length l.rest
+abbrev pub decreases-loop-first : goal.decreases-loop-first
+decreases-loop-first l = length l.rest

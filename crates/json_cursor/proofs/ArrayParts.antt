@@ -39,9 +39,9 @@ module _ {C E B : Type 0} (wrong : E) (read : List Json → Counting C E B) (c :
     pub array_stops : (s : Stop E) → Stops read elements c s → Stops (array_by wrong read) front c s
     array_stops s h = made_stops j.Array (array_by wrong read) read front elements filled c c (λ vs end k. by_list vs) s h
 
-    -- the fault at which reading of the elements stopped is that of the array, once all of them were found
-    pub array_fault : (vs : List Json) (rest : List ℕ) (e : E) → elements ≡ Some (vs, rest) → Stops read elements c (stop.Fault e) → (v : Json) × (front ≡ Some (v, rest)) × (array_by wrong read v c ≡ Err e)
-    array_fault vs rest e found h = (j.Array vs, made_found j.Array front elements filled vs rest found, by_list vs ∙ h vs rest found)
+    pub array_answers : {X : Type 0} (view : X → B) (new : C) (answer : Result (X × Bor (List ℕ)) (Stop E)) → Answers view read elements c new answer → Answers view (array_by wrong read) front c new answer
+    array_answers view new (Ok x) h = array_reads (view x.0) x.1.now new h
+    array_answers view new (Err s) h = array_stops s h
 
     -- the fault at which reading of the elements stopped is that of the array, once all of them were found
     pub array_fault : (vs : List Json) (rest : List ℕ) (e : E) → elements ≡ Some (vs, rest) → Stops read elements c (stop.Fault e) → (v : Json) × (front ≡ Some (v, rest)) × (array_by wrong read v c ≡ Err e)

@@ -1,36 +1,63 @@
 -- The number of the arc that starts as a line does is that of the arc that equals the line.
-use Rattle.std.proofs.Common.{◌≡◌, ℕ, suc, ◌<◌, true, false, cond, ◌&&◌, List, [], ◌∷◌, ◌++◌, length, reverse, get_or, refl, ap, sym, ◌∙◌, arith, ◌⊎◌, inl, inr, Option, None, Some}
+use Rattle.std.proofs.Common.{◌≡◌, ℕ, suc, ◌<◌, Bool, true, false, cond, ◌||◌, List, [], ◌∷◌, ◌++◌, length, map, position, reverse, get_or, refl, ap, sym, ◌∙◌, arith, ◌⊎◌, inl, inr, Option, None, Some}
 use Rattle.std.specs.Option.{option_map}
 use Rattle.std.specs.Prelude.{pos, negsuc}
 use Rattle.arc_table.specs.Arcs.{same_line, number_in, number_or_complement, index_in}
 use Rattle.arc_table.specs.Growth.{has_alike, first_alike, found}
 use Rattle.arc_table.specs.Laws.{AreUnlike}
 use Rattle.arc_table.specs.Starts.{equal, start_of, is_start, number_from, IsStarts, StartTells}
-use Rattle.indexmap.specs.IndexMap.{IndexMap, get}
 use Rattle.cutter.specs.Segments.{Segment}
 use Rattle.geometry.specs.Points.{Point}
-use Rattle.geometry.specs.Rings.{same}
-use Rattle.geometry.proofs.Points.{same_is, same_self}
-use Rattle.std.proofs.lemmas.Bool.{and_parts}
+use Rattle.numbering.specs.Numbering.{with_key}
+use Rattle.std.specs.List.{list_any}
+use Rattle.std.proofs.lemmas.Bool.Decides.{nat_tests}
+use Rattle.std.proofs.lemmas.List.{map-append}
+use Rattle.arc_table.specs.Hashing.{equal_segments, equal_itself}
 use Rattle.arc_table.proofs.Alike.{same_line_is, same_line_self, is_alike}
 use Rattle.arc_table.proofs.Finding.{found_is}
 use Rattle.arc_table.proofs.Indexes.{index_is, none_both}
 
 -- ---- segments
 
-equal_two : (s t : Segment) → equal s t ≡ (same s.from t.from && same s.to t.to)
-unfolding same
-equal_two s t = refl
-
-pub equal_is : (s t : Segment) → equal s t ≡ true → s ≡ t
-equal_is s t h = grind (arith, and_parts (same s.from t.from) (same s.to t.to), equal_two s t, same_is s.from t.from, same_is s.to t.to)
-
 pub start_is : (s : Segment) (o : Option Segment) → is_start s o ≡ true → o ≡ Some s
 start_is s None h = cc
-start_is s (Some t) h = ap (λ x. Some x) (equal_is t s h)
+start_is s (Some t) h = ap (λ x. Some x) (sym (equal_segments s t h))
 
 pub is_started : (s : Segment) (o : Option Segment) → o ≡ Some s → is_start s o ≡ true
-is_started s o e = grind (arith, equal_two, same_self)
+is_started s o e = grind (arith, equal_itself)
+
+-- ---- the first segments of arcs
+
+place_behind : (s t : Segment) (ts : List Segment) → position (equal s) (t ∷ ts) ≡ cond (equal s t) (Some 0) (option_map suc (position (equal s) ts))
+place_behind s t ts = grind (arith, nat_tests)
+
+-- the place of a segment among them is the number of the arc
+pub place_is : (arcs : List (List Point)) (starts : List Segment) (s : Segment) → IsStarts arcs starts → position (equal s) starts ≡ number_from arcs s
+place_is [] [] s h = refl
+place_is [] (t ∷ ts) s h = cc
+place_is (x ∷ xs) [] s h = cc
+place_is (x ∷ xs) (t ∷ ts) s h =
+    let e : start_of x ≡ Some t = cc in
+    let r : map start_of xs ≡ map Some ts = cc in
+    place_behind s t ts ∙ ap (λ o. cond (equal s t) (Some 0) (option_map suc o)) (place_is xs ts s r)
+    ∙ ap (λ o. cond (is_start s o) (Some 0) (option_map suc (number_from xs s))) (sym e)
+
+none_starts : (arcs : List (List Point)) (starts : List Segment) (s : Segment) → IsStarts arcs starts → number_from arcs s ≡ None → list_any (equal s) starts ≡ false
+none_starts [] [] s h n = refl
+none_starts [] (t ∷ ts) s h n = cc
+none_starts (x ∷ xs) [] s h n = cc
+none_starts (x ∷ xs) (t ∷ ts) s h n =
+    let e : start_of x ≡ Some t = cc in
+    let r : map start_of xs ≡ map Some ts = cc in
+    on (equal s t) refl (ap (λ o. cond (is_start s o) (Some 0) (option_map suc (number_from xs s))) (sym e) ∙ n) (none_starts xs ts s r)
+  where
+    behind : (o : Option ℕ) → option_map suc o ≡ None → o ≡ None
+    behind None h = refl
+    behind (Some i) h = cc
+
+    on : (b : Bool) → equal s t ≡ b → cond (equal s t) (Some 0) (option_map suc (number_from xs s)) ≡ None → (number_from xs s ≡ None → list_any (equal s) ts ≡ false) → list_any (equal s) (t ∷ ts) ≡ false
+    on true e m k = let z : Some 0 ≡ None = sym (ap (λ b. cond b (Some 0) (option_map suc (number_from xs s))) e) ∙ m in cc
+    on false e m k = ap (λ b. b || list_any (equal s) ts) e ∙ k (behind (number_from xs s) (sym (ap (λ b. cond b (Some 0) (option_map suc (number_from xs s))) e) ∙ m))
 
 -- ---- the arc that starts as a line does
 
@@ -45,9 +72,9 @@ number_is (x ∷ xs) line s tells e =
     ∙ ap (λ o. cond (same_line x line) (Some 0) (option_map suc o)) (number_is xs line s (λ y k. tells y (inr k)) e)
 
 -- the arc that is found by a line's first segment is the one that equals the line
-pub arc_number : {S : Type 0} (arcs : List (List Point)) (starts : IndexMap Segment ℕ S) (line : List Point) (s : Segment) → IsStarts arcs starts → StartTells arcs line →
-    start_of line ≡ Some s → get equal starts s ≡ number_in arcs line
-arc_number arcs starts line s known tells e = known s ∙ number_is arcs line s tells e
+pub arc_number : (arcs : List (List Point)) (starts : List Segment) (line : List Point) (s : Segment) → IsStarts arcs starts → StartTells arcs line →
+    start_of line ≡ Some s → position (equal s) starts ≡ number_in arcs line
+arc_number arcs starts line s known tells e = place_is arcs starts s known ∙ number_is arcs line s tells e
 
 -- an arc with a number equals the line
 pub number_got : (arcs : List (List Point)) (line : List Point) (i : ℕ) → number_in arcs line ≡ Some i → (i < length arcs) × ((d : List Point) → get_or arcs i d ≡ line)
@@ -59,8 +86,8 @@ number_has [] line x i w e = cc
 number_has (y ∷ ys) line x i w e = grind (arith, same_line_is, is_alike, number_has ys line x)
 
 -- the arc of that number is the line
-pub arc_got : {S : Type 0} (arcs : List (List Point)) (starts : IndexMap Segment ℕ S) (line : List Point) (s : Segment) (i : ℕ) → IsStarts arcs starts → StartTells arcs line →
-    start_of line ≡ Some s → Some i ≡ get equal starts s → (i < length arcs) × ((d : List Point) → get_or arcs i d ≡ line)
+pub arc_got : (arcs : List (List Point)) (starts : List Segment) (line : List Point) (s : Segment) (i : ℕ) → IsStarts arcs starts → StartTells arcs line →
+    start_of line ≡ Some s → Some i ≡ position (equal s) starts → (i < length arcs) × ((d : List Point) → get_or arcs i d ≡ line)
 arc_got arcs starts line s i known tells e f = number_got arcs line i (sym (f ∙ arc_number arcs starts line s known tells e))
 
 -- ---- two look-ups find what a scan finds
@@ -84,15 +111,11 @@ not_found arcs x h = grind (arith, found_is, number_has)
 
 -- ---- one arc more
 
-number_same : (arcs : List (List Point)) (x : List Point) (t : Segment) → is_start t (start_of x) ≡ false → number_from (arcs ++ (x ∷ [])) t ≡ number_from arcs t
-number_same [] x t h = ap (λ b. cond b (Some 0) None) h
-number_same (y ∷ ys) x t h = ap (λ o. cond (is_start t (start_of y)) (Some 0) (option_map suc o)) (number_same ys x t h)
-
-number_new : (arcs : List (List Point)) (x : List Point) (t : Segment) → is_start t (start_of x) ≡ true → number_from arcs t ≡ None → number_from (arcs ++ (x ∷ [])) t ≡ Some (length arcs)
-number_new [] x t h e = ap (λ b. cond b (Some 0) None) h
-number_new (y ∷ ys) x t h e = grind (arith, number_new ys x t h)
-
 -- a new arc is behind all, and none started so
-pub starts_push : (arcs : List (List Point)) (x : List Point) (s : Segment) → StartTells arcs x → start_of x ≡ Some s → found 0 arcs x ≡ None →
-    (t : Segment) → cond (equal s t) (Some (length arcs)) (number_from arcs t) ≡ number_from (arcs ++ (x ∷ [])) t
-starts_push arcs x s tells e h t = grind (arith, number_new arcs x t, equal_is s t, number_is arcs x s tells e, not_found arcs x h, number_same arcs x t)
+pub starts_push : (arcs : List (List Point)) (starts : List Segment) (x : List Point) (s : Segment) → IsStarts arcs starts → StartTells arcs x → start_of x ≡ Some s → found 0 arcs x ≡ None →
+    IsStarts (arcs ++ (x ∷ [])) (with_key equal starts s)
+starts_push arcs starts x s known tells e h =
+    let new : with_key equal starts s ≡ starts ++ (s ∷ []) =
+    ap (λ b. cond b starts (starts ++ (s ∷ []))) (none_starts arcs starts s known (number_is arcs x s tells e ∙ not_found arcs x h)) in
+    map-append start_of arcs (x ∷ []) ∙ ap (λ l. l ++ (start_of x ∷ [])) known ∙ ap (λ o. map Some starts ++ (o ∷ [])) e
+    ∙ sym (map-append Some starts (s ∷ [])) ∙ ap (map Some) (sym new)

@@ -64,7 +64,7 @@ fn find_or_add(
     let index = arcs.as_slice().len();
     let positions = copied(alloc, piece)?;
     arcs.push(Items::of(positions))?;
-    starts.insert(first_segment(piece), index)?;
+    starts.number(first_segment(piece))?;
     Ok(ArcRef::forward(index))
 }
 

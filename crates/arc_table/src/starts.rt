@@ -1,17 +1,16 @@
 // Arcs, found by their first segments.
-ghost use Rattle.std.specs.Prelude.{◌≡◌, ◌<◌, ◌≤◌, ◌+◌, ◌^◌, IfNone, IfSome, Some, length, reverse};
-ghost use Rattle.indexmap.specs.IndexMap.{get};
+ghost use Rattle.std.specs.Prelude.{◌≡◌, ◌<◌, ◌≤◌, ◌+◌, ◌^◌, IfNone, IfSome, Some, length, position, reverse};
 ghost use Rattle.arc_table.specs.Arcs.{number_in};
 ghost use Rattle.arc_table.specs.Starts.{equal, start_of, IsStarts, StartTells};
 
 use crate::comparing::{is_reverse, is_same_line};
-use geometry::Position;
-use indexmap::IndexMap;
+use geometry::{Position, is_same};
+use numbering::{Key, Numbering, hash_of_two};
 use owned_values::Items;
 use std::marker::Model;
 
 /// Two positions in a row.
-#[derive(Clone, Copy, Debug, PartialEq, Eq, Hash)]
+#[derive(Clone, Copy, Debug, PartialEq, Eq, PartialOrd, Ord)]
 pub struct Segment {
     from: Position,
     to: Position,
@@ -27,8 +26,31 @@ impl Model for Segment {
     ghost inverse = { λ s. record { from = s.from; to = s.to } };
 }
 
-/// The number of the arc that starts with a segment.
-pub type Starts = IndexMap<Segment, usize>;
+impl Key for Segment {
+    ghost use Rattle.arc_table.specs.Hashing.{segment_hash, equal_segments, equal_itself, tied_segments};
+    ghost use Rattle.arc_table.specs.Starts.{equal as equal_to};
+
+    ghost same = { equal_to };
+
+    ghost hash = { segment_hash };
+
+    fn is_same(self, other: Segment) -> bool {
+        is_same(self.from, other.from) && is_same(self.to, other.to)
+    }
+
+    fn hash(self) -> u64 {
+        hash_of_two(self.from.hash(), self.to.hash())
+    }
+
+    ghost same_is = { equal_segments };
+
+    ghost same_self = { equal_itself };
+
+    ghost tie_is = { tied_segments };
+}
+
+/// The first segments of the arcs, by which an arc has its number.
+pub type Starts = Numbering<Segment>;
 
 /// The first segment of the line.
 pub fn first_segment(line: &[Position]) -> Segment
@@ -106,7 +128,8 @@ pub fn reversed_arc(
 
 // The number of the arc that starts with the segment.
 fn arc_from(starts: &Starts, segment: Segment) -> Option<usize>
-    ensures { result ≡ get equal starts.now segment }
+    ensures { result ≡ position (equal segment) starts.now }
 {
-    starts.get(&segment).copied()
+    let number = starts.find(segment)?;
+    Some(number as usize)
 }

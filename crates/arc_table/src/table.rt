@@ -11,7 +11,7 @@ ghost use Rattle.arc_table.specs.Laws.{AreAllIn, AreOnceIn, AreUnlike, IsTable, 
 use crate::placing::add_line;
 use cutter::Pieces;
 use geometry::{ArcRef, Position};
-use indexmap::IndexMap;
+use numbering::Numbering;
 use owned_values::{Items, Memory};
 use std::alloc::Global;
 use std::marker::Model;
@@ -56,7 +56,7 @@ impl Table {
         pieces.law();
         let mut arcs = Vec::new(alloc);
         let mut refs = Vec::new(alloc);
-        let mut starts = IndexMap::new(alloc);
+        let mut starts = Numbering::with_room(alloc, pieces.room())?;
         let mut compared = 0;
         for i in 0..pieces.len() {
             let named = add_line(

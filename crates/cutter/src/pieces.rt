@@ -71,6 +71,15 @@ impl Pieces {
         self.splits[i].stroke()
     }
 
+    /// How many pieces there are, or some more; it is only how much room is made for them.
+    pub fn room(&self) -> usize {
+        let mut count: usize = 0;
+        for split in &self.splits {
+            count = count.saturating_add(split.room());
+        }
+        count
+    }
+
     /// The pieces of the line with this number, in its order.
     pub fn of_stroke(&self, i: usize) -> PieceIter<'_>
         requires { i < length self.now }

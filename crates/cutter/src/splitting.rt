@@ -38,6 +38,11 @@ impl Split {
         &self.stroke
     }
 
+    /// How many pieces there are, or some more; it is only how much room is made for them.
+    pub fn room(&self) -> usize {
+        self.cuts.len()
+    }
+
     pub fn pieces(&self) -> PieceIter<'_>
         ensures { result ≡ self.now.pieces }
     {

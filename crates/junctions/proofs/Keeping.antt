@@ -1,5 +1,5 @@
 -- What is kept of positions says what is known of them.
-use Rattle.std.proofs.Common.{◌≡◌, ◌≢◌, ℕ, zero, suc, ◌+◌, ◌-◌, ◌<◌, ◌≤◌, Bool, true, false, cond, ◌==◌, not, ◌||◌, ◌&&◌, ◌⊎◌, inl, inr, List, [], ◌∷◌, ◌++◌, slice_get, slice_set, map, get_or, length, replicate, take, drop, Option, Some, None, append_assoc, append-nil, refl, ap, sym, ◌∙◌, subst, arith}
+use Rattle.std.proofs.Common.{◌≡◌, ◌≢◌, ℕ, zero, suc, ◌+◌, ◌-◌, ◌<◌, ◌≤◌, Bool, true, false, cond, ◌==◌, not, ◌||◌, ◌&&◌, List, [], ◌∷◌, ◌++◌, slice_get, slice_set, map, get_or, length, replicate, take, drop, Option, Some, None, append_assoc, append-nil, refl, ap, sym, ◌∙◌, subst, arith}
 use Rattle.std.specs.Prelude.{IfSome, IfNone}
 use Rattle.std.specs.List.{list_any, list_all}
 use Rattle.std.specs.Option.{is_some}
@@ -19,12 +19,13 @@ use Rattle.junctions.specs.Answers.{AnswersFor, is_member}
 use Rattle.junctions.specs.Cleaning.{AllClean}
 use Rattle.junctions.specs.Cuts.{is_cut}
 use Rattle.junctions.specs.Kept.{Neighbors, Zero, One, Two, More, Knowledge, is_more, is_settled, Says, passed, at_junction, at_cut, junction_at, cut_at, chosen}
-use Rattle.junctions.specs.Notes.{Note, with_neighbor, with_neighbors, is_two, nothing_known, noted, after, touch, pass, line_notes, ring_or_line_visits, all_notes, AreNumbers, Say, Takes, known_of, makes_junction, AreCut}
+use Rattle.junctions.specs.Notes.{Note, with_neighbors, is_two, nothing_known, noted, after, touch, pass, line_notes, ring_or_line_visits, all_notes, AreNumbers, Say, Takes, makes_junction, AreCut}
 use Rattle.junctions.specs.Visits.{first_seen, inner_visits, is_junction, positions}
 use Rattle.junctions.proofs.Cleaned.{same_sym}
 use Rattle.junctions.proofs.Noting.{after_append, all_noted, in_lines, junction_is, notes_are}
 use Rattle.junctions.proofs.Numbers.{as_many, nowhere, numbered, numbered_member, place_of, same_number}
-use Rattle.junctions.proofs.Distinct.{one_is, one_place}
+use Rattle.numbering.proofs.Distinct.{one_place}
+use Rattle.junctions.proofs.Distinct.{one_is}
 use Rattle.junctions.proofs.FirstSeen.{seen_in_order, seen_member}
 use Rattle.junctions.proofs.Starts.{holds_at, least_among, starts_in}
 use Rattle.junctions.proofs.VisitLists.{same_get, visit}

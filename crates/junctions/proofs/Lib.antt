@@ -5,7 +5,6 @@ pub mod Keeping
 pub mod Members
 pub mod Noting
 pub mod Numbers
-pub mod Probing
 pub mod Settled
 pub mod Starts
 pub mod VisitLists

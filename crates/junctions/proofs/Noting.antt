@@ -1,18 +1,17 @@
 -- What notes of positions add up to.
-use Rattle.std.proofs.Common.{◌≡◌, ℕ, zero, suc, ◌+◌, ◌-◌, ◌<◌, ◌≤◌, Bool, true, false, cond, not, ◌||◌, ◌&&◌, List, [], ◌∷◌, ◌++◌, map, take, drop, get_or, length, append_assoc, append-nil, Option, None, Some, refl, ap, sym, ◌∙◌, subst, arith}
+use Rattle.std.proofs.Common.{◌≡◌, ℕ, ◌+◌, ◌-◌, ◌<◌, ◌≤◌, Bool, true, false, cond, not, ◌||◌, ◌&&◌, List, [], ◌∷◌, ◌++◌, map, take, drop, get_or, length, append-nil, Option, None, Some, refl, ap, sym, ◌∙◌, arith}
 use Rattle.std.specs.List.{filter, flat_map, list_any}
-use Rattle.std.proofs.Math.Bool.{and-true, and-false, or-false, or-true}
+use Rattle.std.proofs.Math.Bool.{and-true, and-false, or-false}
 use Rattle.std.proofs.lemmas.Grind.{flat_map-append}
-use Rattle.std.proofs.lemmas.List.{take_all, take_more, map-append}
+use Rattle.std.proofs.lemmas.List.{take_more, map-append}
 use Rattle.std.proofs.lemmas.List.Elements.{filter-append}
 use Rattle.std.proofs.lemmas.List.Folds.{list_any-append}
 use Rattle.geometry.specs.Points.{Point}
 use Rattle.geometry.specs.Rings.{same}
-use Rattle.geometry.proofs.Points.{same_is, same_self}
 use Rattle.junctions.specs.declared.stroke.Stroke.{Stroke}
 use Rattle.junctions.specs.Kept.{Neighbors, Zero, Knowledge}
-use Rattle.junctions.specs.Cleaning.{IsCleanList, AllClean}
-use Rattle.junctions.specs.Visits.{Visit, visits_from, inner_visits, neighbors, positions, last, is_end, ends_open, is_turn, is_junction, is_position_of}
+use Rattle.junctions.specs.Cleaning.{AllClean}
+use Rattle.junctions.specs.Visits.{Visit, inner_visits, neighbors, positions, is_end, ends_open, is_turn, is_junction, is_position_of}
 use Rattle.junctions.specs.Notes.{Note, with_neighbors, beside, is_back, nothing_known, noted, after, touch, pass, line_notes, notes_of, all_notes, known_of, makes_junction}
 use Rattle.junctions.proofs.Cleaned.{same_sym}
 use Rattle.junctions.proofs.Settled.{two_settled}

@@ -1,18 +1,17 @@
 -- Positions by their places among others.
-use Rattle.std.proofs.Common.{◌≡◌, ℕ, zero, suc, ◌+◌, ◌<◌, ◌≤◌, Bool, true, false, cond, ◌==◌, ◌||◌, ◌⊎◌, inl, inr, List, [], ◌∷◌, ◌++◌, slice_get, map, take, drop, get_or, length, length-append, Option, Some, None, append_assoc, append-nil, refl, ap, sym, ◌∙◌, subst, arith}
+use Rattle.std.proofs.Common.{◌≡◌, ℕ, zero, suc, ◌<◌, ◌≤◌, Bool, true, false, cond, ◌==◌, ◌||◌, List, [], ◌∷◌, ◌++◌, slice_get, map, take, drop, get_or, length, Some, refl, ap, sym, ◌∙◌, subst, arith}
 use Rattle.std.specs.Prelude.{pos}
 use Rattle.std.specs.List.{list_any}
 use Rattle.std.proofs.lemmas.Bool.Decides.{nat_tests}
-use Rattle.std.proofs.lemmas.List.{map-append, take_more}
-use Rattle.std.proofs.lemmas.Option.{slice_get_within}
+use Rattle.std.proofs.lemmas.List.{map-append}
 use Rattle.list_laws.specs.Lists.{AreDistinct}
 use Rattle.geometry.specs.Points.{Point}
 use Rattle.geometry.specs.Rings.{same}
 use Rattle.geometry.proofs.Points.{same_is, same_self}
-use Rattle.junctions.specs.declared.stroke.Stroke.{Stroke}
 use Rattle.junctions.specs.Notes.{AreNumbers, with_position, with_positions}
-use Rattle.junctions.specs.Visits.{first_seen, positions}
-use Rattle.junctions.proofs.Distinct.{distinct_more, get_front, one_is, one_place}
+use Rattle.junctions.specs.Visits.{first_seen}
+use Rattle.numbering.proofs.Distinct.{distinct_more, get_front, one_place}
+use Rattle.junctions.proofs.Distinct.{one_is}
 use Rattle.junctions.proofs.FirstSeen.{seen_in_order}
 
 -- a position, where one is wanted that is never read

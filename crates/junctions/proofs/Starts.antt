@@ -1,7 +1,7 @@
 -- The least positions of rings without a junction.
-use Rattle.std.proofs.Common.{◌≡◌, ℕ, zero, suc, ◌+◌, ◌-◌, ◌<◌, ◌≤◌, Bool, true, false, cond, not, ◌||◌, ◌&&◌, List, [], ◌∷◌, ◌++◌, take, drop, get_or, length, append-nil, refl, ap, sym, ◌∙◌, subst, arith, drop-cons, add-one}
-use Rattle.std.specs.List.{flat_map, list_any, list_all}
-use Rattle.std.proofs.Math.Bool.{or-false, or-true}
+use Rattle.std.proofs.Common.{◌≡◌, ℕ, zero, suc, ◌+◌, ◌-◌, ◌<◌, ◌≤◌, Bool, true, false, cond, ◌||◌, List, [], ◌∷◌, ◌++◌, take, drop, get_or, length, append-nil, ap, sym, ◌∙◌, subst, arith}
+use Rattle.std.specs.List.{list_any, list_all}
+use Rattle.std.proofs.Math.Bool.{or-true}
 use Rattle.std.proofs.Math.ListN.{drop_of_length-le}
 use Rattle.std.proofs.lemmas.List.Folds.{list_any_more}
 use Rattle.std.proofs.lemmas.Grind.{flat_map-append}
@@ -13,7 +13,7 @@ use Rattle.geometry.proofs.Points.{same_is, same_self}
 use Rattle.junctions.specs.declared.stroke.Stroke.{Stroke}
 use Rattle.junctions.specs.Cuts.{starts_free_ring}
 use Rattle.junctions.specs.Notes.{AreNumbers}
-use Rattle.junctions.specs.Visits.{is_junction, positions}
+use Rattle.junctions.specs.Visits.{positions}
 use Rattle.junctions.proofs.Numbers.{numbers_split}
 
 -- the rings of which the position is the least, where no junction is one of theirs

@@ -5,6 +5,4 @@ pub mod Cuts
 pub mod Gathering
 pub mod Kept
 pub mod Notes
-pub mod Numbering
-pub mod Slots
 pub mod Visits

@@ -6,9 +6,7 @@
 #![tactic(auto)]
 
 mod lines;
-mod numbering;
 mod ring_starts;
-mod slots;
 mod stroke;
 mod vertex;
 mod vertices;

@@ -13,15 +13,15 @@ ghost use Rattle.junctions.specs.Kept.{cut_at, junction_at};
 ghost use Rattle.junctions.specs.Notes.{AreNumbers, AreCut};
 ghost use Rattle.junctions.specs.Visits.{is_junction, positions as positions_of};
 
-use crate::numbering::Numbering;
 use crate::stroke::Stroke;
 use crate::vertex::Vertex;
 use geometry::Position;
+use numbering::Numbering;
 
 /// Marks the least position of each ring without a junction.
 pub fn mark_ring_starts(
     vertices: &mut [Vertex],
-    numbering: &Numbering,
+    numbering: &Numbering<Position>,
     numbers: &[u32],
     strokes: &[Stroke],
 )
@@ -44,7 +44,7 @@ pub fn mark_ring_starts(
 // Marks the least position of the ring, if no position of it is a junction.
 fn mark_ring_start(
     vertices: &mut [Vertex],
-    numbering: &Numbering,
+    numbering: &Numbering<Position>,
     numbers: &[u32],
     ring: &[Position],
 )

@@ -5,11 +5,11 @@ ghost use Rattle.junctions.specs.Answers.{AnswersFor, is_member};
 ghost use Rattle.junctions.specs.Visits.{first_seen, positions};
 
 use crate::lines::Lines;
-use crate::numbering::Numbering;
 use crate::ring_starts::{is_cut_at, is_junction_at, mark_ring_starts};
 use crate::vertex::Vertex;
 use crate::visiting::{number_lines, visit_lines};
 use geometry::{Position, is_same};
+use numbering::Numbering;
 use owned_values::Memory;
 use std::alloc::Global;
 use std::marker::Model;
@@ -19,7 +19,7 @@ use std::marker::Model;
 /// over all lines. A cut position is a junction, or the least position of a ring that goes through none.
 #[derive(Debug, Drop)]
 pub struct Vertices {
-    numbering: Numbering,
+    numbering: Numbering<Position>,
     /// The number of the position of each visit of the lines, in reading order. Nothing rests on it behind the making of what is known: what stands
     /// at a number is compared with the position.
     numbers: Vec<u32>,
@@ -51,7 +51,7 @@ impl Vertices {
     {
         let strokes = lines.as_slice();
         let (numbering, numbers) = number_lines(alloc, strokes)?;
-        let mut vertices = visit_lines(alloc, numbering.positions(), numbers.as_slice(), strokes)?;
+        let mut vertices = visit_lines(alloc, numbering.keys(), numbers.as_slice(), strokes)?;
         mark_ring_starts(
             vertices.as_mut_slice(),
             &numbering,
@@ -120,7 +120,7 @@ impl Vertices {
         ensures found { IfSome result (λ n. slice_get self.now.points n ≡ Some p) }
         ensures absent { IfNone result (is_member self.now.points p ≡ false) }
     {
-        let positions = self.numbering.positions();
+        let positions = self.numbering.keys();
         if let Some(number) = self.numbers.as_slice().get(visit) {
             let place = *number as usize;
             if place < positions.len() && is_same(positions[place], p) {

@@ -9,15 +9,18 @@ ghost use Rattle.junctions.specs.Visits.{first_seen, inner_visits, positions as 
 ghost use Rattle.junctions.specs.declared.vertex.Vertex.{Vertex as Kept};
 ghost use Rattle.junctions.specs.declared.vertex.Vertex.TheVariants.{Junction, Unvisited};
 
-use crate::numbering::Numbering;
 use crate::stroke::Stroke;
 use crate::vertex::Vertex;
 use geometry::Position;
+use numbering::Numbering;
 use owned_values::Memory;
 use std::alloc::Global;
 
 /// The numbers of the positions of the lines, in reading order.
-pub fn number_lines(alloc: Global, strokes: &[Stroke]) -> Result<(Numbering, Vec<u32>), Memory>
+pub fn number_lines(
+    alloc: Global,
+    strokes: &[Stroke],
+) -> Result<(Numbering<Position>, Vec<u32>), Memory>
     ensures order { IfOk result (λ x. x.0 ≡ first_seen (positions_of strokes.now)) }
     ensures numbers { IfOk result (λ x. AreNumbers x.0 x.1.items (positions_of strokes.now)) }
 {
@@ -41,7 +44,7 @@ fn count_visits(strokes: &[Stroke]) -> usize {
 
 // The numbers of the positions, behind others.
 fn number_line(
-    numbering: &mut Numbering,
+    numbering: &mut Numbering<Position>,
     numbers: &mut Vec<u32>,
     positions: &[Position],
 ) -> Result<(), Memory>

@@ -9,7 +9,6 @@ pub use Rattle.junctions.proofs.Keeping
 pub use Rattle.junctions.proofs.Members
 pub use Rattle.junctions.proofs.Noting
 pub use Rattle.junctions.proofs.Numbers
-pub use Rattle.junctions.proofs.Probing
 pub use Rattle.junctions.proofs.Settled
 pub use Rattle.junctions.proofs.Starts
 pub use Rattle.junctions.proofs.VisitLists

@@ -1,7 +1,7 @@
-use Rattle.std.proofs.Common.{◌≡◌, [], ◌∷◌, ◌++◌, cond, length, ap, sym, ◌∙◌, None, Some}
+use Rattle.std.proofs.Common.{◌≡◌, [], ◌∷◌, ◌++◌, length, ap, sym, ◌∙◌, subst, None}
 use Rattle.std.specs.Prelude.{pos}
 use Rattle.arc_table.specs.Growth.{first_alike, found}
-use Rattle.arc_table.specs.Starts.{equal, number_from}
+use Rattle.arc_table.specs.Starts.{IsStarts}
 use Rattle.arc_table.proofs.Growth.{place_old, place_new}
 use Rattle.arc_table.proofs.Numbers.{starts_push}
 use Rattle.arc_table.proofs.placing.find_or_add.Goals as goal
@@ -29,8 +29,6 @@ pub returns-clause-known : goal.returns-clause-known
 returns-clause-known c =
     let h : found 0 c.args.arcs.now.items c.args.piece.now ≡ None = ap (λ l. found 0 l c.args.piece.now) (sym c.as_slice.ensures.value) ∙ sym c.find.ensures.found ∙ c.in_default.is in
     let more : c.args.arcs.now.items ++ (c.args.piece.now ∷ []) ≡ c.push.new.self.items = sym (c.in_ok-push.ensures.items ∙ ap (λ p. c.args.arcs.now.items ++ (p ∷ [])) (c.of.ensures ∙ c.in_ok-positions.ensures)) in
-    λ t. c.in_ok-insert.ensures.updates.0 t
-    ∙ ap (λ o. cond (equal c.first_segment.result t) (Some (length c.as_slice-index.result.now)) o) (c.requires.known t)
-    ∙ ap (λ l. cond (equal c.first_segment.result t) (Some (length l)) (number_from c.args.arcs.now.items t)) c.as_slice-index.ensures.value
-    ∙ starts_push c.args.arcs.now.items c.args.piece.now c.first_segment.result c.requires.tells c.first_segment.ensures h t
-    ∙ ap (λ l. number_from l t) more
+    subst (λ l. IsStarts l c.number.new.self) more
+    (subst (IsStarts (c.args.arcs.now.items ++ (c.args.piece.now ∷ []))) (sym c.in_ok-number.ensures.keys)
+    (starts_push c.args.arcs.now.items c.args.starts.now c.args.piece.now c.first_segment.result c.requires.known c.requires.tells c.first_segment.ensures h))

@@ -1,5 +1,4 @@
-use Rattle.std.proofs.Common.{rules, ◌≡◌, ◌<◌, true, false, length, ap, sym, ◌∙◌, Some, reverse, arith}
-use Rattle.arc_table.specs.Arcs.{same_line}
+use Rattle.std.proofs.Common.{rules, ◌≡◌, ◌<◌, length, ◌∙◌, Some, reverse, arith}
 use Rattle.arc_table.proofs.Alike.{same_line_self}
 use Rattle.arc_table.proofs.Numbers.{arc_got}
 use Rattle.arc_table.proofs.starts.reversed_arc.Goals as goal

@@ -1,9 +1,8 @@
-use Rattle.std.proofs.Common.{◌≡◌, ◌+◌, ◌<◌, ◌≤◌, ◌&&◌, ◌||◌, Bool, false, not, [], take, drop, length, refl, ap, sym, ◌∙◌, subst, arith}
+use Rattle.std.proofs.Common.{◌≡◌, ◌+◌, ◌≤◌, ◌&&◌, ◌||◌, false, not, [], take, drop, length, refl, ap, sym, ◌∙◌, subst, arith}
 use Rattle.std.specs.List.{list_all}
 use Rattle.std.proofs.Math.Bool.{or-false}
 use Rattle.std.proofs.lemmas.List.{take_all}
 use Rattle.geometry.specs.Order.{is_least}
-use Rattle.geometry.specs.Points.{Point}
 use Rattle.junctions.specs.Notes.{AreCut, AreNumbers}
 use Rattle.junctions.specs.Visits.{is_junction, positions}
 use Rattle.junctions.proofs.Keeping.{unmarked}

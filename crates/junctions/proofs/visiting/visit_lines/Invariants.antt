@@ -1,4 +1,4 @@
-use Rattle.std.proofs.Common.{◌≡◌, take, drop}
+use Rattle.std.proofs.Common.{take, drop}
 use Rattle.junctions.specs.Notes.{AreNumbers, Say, all_notes}
 use Rattle.junctions.specs.Visits.{positions}
 use Rattle.junctions.proofs.visiting.visit_lines.Given as goal

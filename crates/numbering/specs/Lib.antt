@@ -1,0 +1,3 @@
+pub mod Hashing
+pub mod Numbering
+pub mod Slots

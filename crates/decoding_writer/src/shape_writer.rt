@@ -1,7 +1,6 @@
 // Geometries of a topology, written as those that they are decoded to (RFC 7946, section 3.1).
-ghost use Rattle.std.specs.Prelude.{◌≡◌, true, Some, map};
+ghost use Rattle.std.specs.Prelude.{◌≡◌, Some, map};
 ghost use Rattle.std.specs.List.{AllByRecursion};
-ghost use Rattle.std.specs.Option.{option_copied};
 ghost use Rattle.byte_ends.specs.Continues.{Continues};
 ghost use Rattle.json_value.specs.Text.{json_text};
 ghost use Rattle.json_value.specs.declared.json.Json.TheVariants as j;

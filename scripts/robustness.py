@@ -258,13 +258,13 @@ def lines_of(coordinates):
     return features(line(it) for it in coordinates)
 
 
-# The hash of a position, as crates/junctions/src has it: the two halves of the product of its coordinates and these, joined.
-OF_X, OF_Y, WORD = 0x9E3779B97F4A7C15, 0xD6E8FEB86659FD93, 1 << 64
+# The hash of a position, as crates/numbering/src/hashing.rt has it: the two halves of the product of its coordinates and these, joined.
+FIRST, SECOND, WORD = 0x9E3779B97F4A7C15, 0xD6E8FEB86659FD93, 1 << 64
 
 
 def close_step(limit):
-    """A step below the limit, so many times OF_Y is close to a multiple of 2^64: the denominator of a convergent."""
-    before, step, high, low = 1, 0, OF_Y, WORD
+    """A step below the limit, so many times SECOND is close to a multiple of 2^64: the denominator of a convergent."""
+    before, step, high, low = 1, 0, SECOND, WORD
     while low:
         before, step, whole = step, high // low * step + before, step
         if step >= limit:
@@ -275,8 +275,8 @@ def close_step(limit):
 
 def colliding(n):
     """Positions on one line of latitude whose hashes begin alike, so that they are looked for in few places."""
-    step, first = close_step(1 << 34), OF_X >> 56 << 56
-    eastings = (first + i * step ^ OF_X for i in range(n))
+    step, first = close_step(1 << 34), FIRST >> 56 << 56
+    eastings = (first + i * step ^ FIRST for i in range(n))
     return listed(f"[{x // 10**9}.{x % 10**9:09},0]" for x in eastings)
 
 

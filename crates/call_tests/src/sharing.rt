@@ -1,4 +1,5 @@
-// Which numbers positions have, and how often pieces are compared: what is told of the hashed tables, and shows in no topology.
+// Which numbers positions have, also where they are looked for in a map, and how often pieces are compared: what is told of the hashed tables,
+// and shows in no topology.
 use arc_table::Table;
 use byte_ends::Memory;
 use cutter::cut;
@@ -6,6 +7,7 @@ use decimal_json::{LAYER_DEPTH, parse};
 use geojson_model::read_layer;
 use geojson_types::{Layer, Position};
 use linework::{Lines, OfLayers, Vertices};
+use numbering::Numbering;
 use std::alloc::{AllocError, Global};
 use std::test::Fail;
 
@@ -73,6 +75,24 @@ fn positions_are_numbered_in_reading_order(rt: HostRuntime) -> Result<(), Fail> 
         assert_eq!(rt; number_of(&vertices, *x, *y), Some(number));
     }
     assert_eq!(rt; number_of(&vertices, 3 * ONE, 0), None);
+    Ok(())
+}
+
+// Of two positions and no room one finds no slot. All numbers go into a map then, and stay as they were.
+#[test]
+fn numbers_stay_where_no_slot_is_free(rt: HostRuntime) -> Result<(), Fail> {
+    let mut numbering = Numbering::with_room(rt.alloc(), 0)?;
+    for number in 0..20u32 {
+        let position = Position::new(i64::from(number), 0).ok_or("no position")?;
+        assert_eq!(rt; numbering.number(position)?, number);
+    }
+    for number in 0..20u32 {
+        let position = Position::new(i64::from(number), 0).ok_or("no position")?;
+        assert_eq!(rt; numbering.number(position)?, number);
+        assert_eq!(rt; numbering.find(position), Some(number));
+    }
+    let other = Position::new(20, 0).ok_or("no position")?;
+    assert_eq!(rt; numbering.find(other), None);
     Ok(())
 }
 

@@ -96,14 +96,6 @@ impl<K: Key> Numbering<K> {
         self.keys.as_slice()
     }
 
-    /// The same, by value.
-    pub fn into_keys(self) -> Vec<K>
-        ensures { result.items ≡ self }
-    {
-        let numbering = self;
-        numbering.keys
-    }
-
     // The number of the key, for which there is no slot.
     #[cold]
     #[inline(never)]

@@ -1,5 +1,6 @@
-//! Numbers of keys, such as positions: each has the number of those that were seen before it was first seen. The layers above use the
-//! contract of `Numbering`, which is a list of different keys there; how a number is found is no part of it. It stands on `geometry`.
+//! Numbers of keys, such as positions and segments, in the order in which each was first seen, found by hash, and in good time however the
+//! keys were chosen. The layers above use the contract of `Numbering`, which is a list of different keys there; how a number is found is no
+//! part of it. It stands on `geometry`.
 #![tactic(auto)]
 
 mod hashing;

@@ -22,5 +22,5 @@ returns-clause-passes c = λ m.
     rw c.split_at.ensures.back
     (part.dull_many c.min-dull.result bytes few
     (λ k lt. part.is_dull _ (lane.other bytes enough 91 c.lanes_before.result array k (omega arith)) (lane.other bytes enough 123 c.lanes_before-2.result object k (omega arith)) (lane.other bytes enough 93 c.lanes_before-3.result array_end k (omega arith))
-        (lane.other bytes enough 125 c.lanes_before-4.result object_end k (omega arith)) (lane.other bytes enough 34 c.lanes_before-5.result quote k (omega arith)))
+    (lane.other bytes enough 125 c.lanes_before-4.result object_end k (omega arith)) (lane.other bytes enough 34 c.lanes_before-5.result quote k (omega arith)))
     m)

@@ -77,11 +77,11 @@ void *realloc(void *old, size_t size) {
 #
 # - a list that gives back what it doesn't use keeps its room where it can't;
 # - std collects the words of the command line with or without a list of 96 bytes, before a file is opened;
-# - the names of layers are looked through one by one where the set of them can't be had, whose parts have these sizes in bytes. It is
+# - the names of layers are looked through one by one where the set of them can't be had, whose nodes have these bytes. It is
 #   asked for once all files are open.
 SHRINKING = "less"
 WORDS_LIST = ("new", 96, 0)
-NAME_SET = (256, 72, 144, 1)
+NAME_SET = (248,)
 
 # ---- the files
 

@@ -4,9 +4,6 @@ use geojson_meaning::{CoordinatesType, GeometryType, geometry_type};
 use json_members::{find, need_text};
 use json_value::{Json, OwnText};
 
-/// How deep the collections of geometries are looked into. No value that is read nests deeper.
-pub(crate) const DEEPEST: u32 = 255;
-
 /// The objects of a layer (RFC 7946, section 1.4) or of a topology (TopoJSON 1.0, section 2), which have members of their own.
 #[derive(Clone, Copy, Debug)]
 pub(crate) enum ObjectKind {

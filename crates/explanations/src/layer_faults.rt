@@ -1,5 +1,4 @@
 // Why a layer is refused.
-use crate::census::DEEPEST;
 use crate::escaping::{quoted, shown};
 use crate::json_faults::json_fault;
 use crate::labels::label_of;
@@ -104,7 +103,7 @@ fn walk_feature(walk: &mut Walk, value: &Json, number: usize) -> Result<(), GeoF
                 Some(element) => walk.feature_element(element),
             },
             Some(GeoJsonType::Feature) => walk.feature(members),
-            Some(GeoJsonType::Geometry(kind)) => walk.typed_geometry(kind, members, DEEPEST),
+            Some(GeoJsonType::Geometry(kind)) => walk.typed_geometry(kind, members, LAYER_DEPTH),
         },
     }
 }

@@ -1,6 +1,6 @@
 // The features of which nothing is left, and the members of layers that aren't read.
 use crate::bounds::Bounds;
-use crate::census::{Census, DEEPEST, LeftOut, ObjectKind, parts_of};
+use crate::census::{Census, LeftOut, ObjectKind, parts_of};
 use crate::escaping::quoted;
 use crate::labels::label;
 use crate::trees::{objects_of, tree};
@@ -63,7 +63,7 @@ fn count_feature(census: &mut Census, members: &[(OwnText, Json)]) {
     census.begin_feature();
     census.left_out.count_unread(ObjectKind::Feature, members);
     if let Ok(Some(Json::Object(geometry))) = find(members, "geometry") {
-        census.count_geometry(geometry.as_slice(), false, DEEPEST);
+        census.count_geometry(geometry.as_slice(), false, TOPOLOGY_DEPTH);
     }
 }
 
@@ -115,7 +115,7 @@ fn add_layer(
             return add_features(alloc, lines, census, layer, values, drops);
         }
         Some(GeoJsonType::Feature) => count_feature(census, members),
-        Some(GeoJsonType::Geometry(_)) => census.count_geometry(members, false, DEEPEST),
+        Some(GeoJsonType::Geometry(_)) => census.count_geometry(members, false, TOPOLOGY_DEPTH),
     }
     let dropped = drops.take(layer, 0);
     let place = format!(in alloc; "layer {layer}, feature 0")?;
@@ -171,7 +171,7 @@ fn add_topology_feature(
     drops: &mut DropsLeft<'_>,
 ) -> Result<(), AllocError> {
     census.begin_feature();
-    census.count_geometry(members, true, DEEPEST);
+    census.count_geometry(members, true, TOPOLOGY_DEPTH);
     let dropped = drops.take(object.0, feature);
     let name = object.1;
     let place = format!(in alloc; "object {name}, feature {feature}")?;

@@ -1,8 +1,8 @@
 // The first fault of a layer's tree, and the way to it.
-use crate::census::DEEPEST;
 use crate::positions::position;
 use geojson_meaning::{CoordinatesType, GeoFaultKind, GeometryType, Position, geometry_type};
 use json_members::{LookupFault, find};
+use json_reading::LAYER_DEPTH;
 use json_value::{Json, OwnText};
 use std::alloc::Global;
 
@@ -205,7 +205,7 @@ impl Walk {
     /// Looks at the geometry with these members.
     fn geometry(&mut self, members: &[(OwnText, Json)]) -> Result<(), GeoFaultKind> {
         let kind = self.geometry_kind(members)?;
-        self.typed_geometry(kind, members, DEEPEST)
+        self.typed_geometry(kind, members, LAYER_DEPTH)
     }
 
     /// Looks at the geometry of this type with these members.

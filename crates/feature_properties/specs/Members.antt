@@ -5,6 +5,7 @@ use Rattle.std.specs.Str.{is_utf8}
 use Rattle.json_value.specs.declared.json.Json.{Json}
 use Rattle.json_value.specs.contracts.json.Json as json
 use Rattle.json_value.specs.Kinds.{object_of}
+use Rattle.json_value.specs.Limits.{properties_depth}
 use Rattle.json_value.specs.Reading.{value_at}
 
 -- names and values, in order and with duplicates
@@ -25,7 +26,6 @@ abbrev pub members_read : Option (Json × List ℕ) → Members
 members_read None = []
 members_read (Some x) = members_if (object_of x.0)
 
--- The members of the object that the text begins with, in which arrays and objects nest no deeper than properties of a topology may: a topology
--- nests 255 deep, and its properties stand inside of it.
+-- the members of the object that the text begins with, in which arrays and objects nest no deeper than properties may
 unfoldable pub members_in : List ℕ → Members
-members_in text = members_read (value_at is_utf8 254 text)
+members_in text = members_read (value_at is_utf8 properties_depth text)

@@ -26,10 +26,6 @@ use Rattle.geojson_model.specs.declared.layers.LayerParts.{LayerParts}
 use Rattle.geojson_model.specs.declared.seen.Seen.{Seen}
 use Rattle.geojson_model.specs.declared.seen.Seen.TheVariants.{Never, Once, Again}
 
--- how deep arrays and objects may nest in the text of a layer
-abbrev pub deepest : ℕ
-deepest = 127
-
 -- why reading stops, in the feature of this number, or in none
 abbrev pub stop_in : Option ℕ → Stop GeoFaultKind → Stop GeoFault
 stop_in n (stop.Fault kind) = stop.Fault (fault_in n kind)

@@ -1,7 +1,7 @@
 // Whole texts of layers.
 ghost use Rattle.json_cursor.specs.Texts.{TextAnswers};
 ghost use Rattle.geojson_meaning.specs.Layers.{features};
-ghost use Rattle.geojson_model.specs.Layers.{deepest};
+ghost use Rattle.json_value.specs.Limits.{layer_depth};
 
 use crate::layers::layer_at;
 use geojson_meaning::GeoFault;
@@ -43,7 +43,7 @@ pub fn read_layer_text(
     bytes: &[u8],
     exact: bool,
 ) -> Result<(Layer, Counts), Refusal<GeoFault>>
-    ensures { TextAnswers (λ l. l.features) (features exact) deepest bytes.now result }
+    ensures { TextAnswers (λ l. l.features) (features exact) layer_depth bytes.now result }
 {
     match read_text::<LayerText>(alloc, bytes, LAYER_DEPTH, LayerText { exact }) {
         Ok((features, counts)) => Ok((Layer { features }, counts)),

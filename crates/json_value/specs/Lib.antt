@@ -1,6 +1,7 @@
 pub mod Depth
 pub mod Grammar
 pub mod Kinds
+pub mod Limits
 pub mod Numbers
 pub mod Reading
 pub mod Text

@@ -14,7 +14,8 @@ use Rattle.inputs.specs.declared.fault.BuildFault.TheVariants.{Read, Json as Tex
 use Rattle.inputs.specs.Texts.{max_input}
 use Rattle.inputs.proofs.BytesDecided.{plain_text, one_outcome, text_comes}
 use Rattle.layer_sources.specs.Outcomes.{Texts, LayerOutcome, Outcome, of_layer, of_text, LayerComesTo, with_layer, Continues, AllComeTo, ComesTo, plain_fault, plain_outcome, IsOutsideRead, HaveBytes, FirstHaveBytes}
-use Rattle.layer_sources.specs.Reading.{layer_depth, FailsToRead}
+use Rattle.json_value.specs.Limits.{layer_depth}
+use Rattle.layer_sources.specs.Reading.{FailsToRead}
 use Rattle.layer_sources.specs.Sources.{Sources, Named, IsLayerRead, AllRead, FailsAt}
 
 -- ---- one layer

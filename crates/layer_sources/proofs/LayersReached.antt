@@ -5,7 +5,7 @@ use Rattle.inputs.specs.declared.fault.BuildFault.TheVariants.{Read}
 use Rattle.inputs.proofs.BytesReached.{outcome_there}
 use Rattle.layer_sources.specs.Laws.{HaveOutcome}
 use Rattle.layer_sources.specs.Outcomes.{Texts, LayerOutcome, Outcome, of_text, LayerComesTo, with_layer, AllComeTo}
-use Rattle.layer_sources.specs.Reading.{layer_depth}
+use Rattle.json_value.specs.Limits.{layer_depth}
 
 behind_layer : (n : ℕ) (exact : Bool) (b : List ℕ × List ℕ) (bs : Texts) (first : LayerOutcome) → LayerComesTo n exact b.1 first → (rest : Outcome) → AllComeTo (suc n) exact bs rest
     → (outcome : Outcome) × AllComeTo n exact (b ∷ bs) outcome

@@ -10,7 +10,7 @@ use Rattle.geojson_meaning.specs.Layers.{layer}
 use Rattle.inputs.specs.declared.fault.BuildFault.{BuildFault}
 use Rattle.inputs.specs.declared.fault.BuildFault.TheVariants.{EmptyName, DuplicateName, Read, Json as Text, Geo, Write, Memory}
 use Rattle.inputs.specs.Texts.{BytesComeTo, plain_text_fault}
-use Rattle.layer_sources.specs.Reading.{layer_depth}
+use Rattle.json_value.specs.Limits.{layer_depth}
 use Rattle.layer_sources.specs.Sources.{Sources, Named}
 
 -- ---- one layer

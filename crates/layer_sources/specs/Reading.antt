@@ -3,6 +3,7 @@ use Rattle.std.specs.Prelude.{◌≡◌, ◌≢◌, ℕ, Bool, List, Result, Ok,
 use Rattle.byte_ends.specs.Ends.{Fed}
 use Rattle.json_value.specs.declared.json.Json.{Json}
 use Rattle.json_value.specs.Grammar.{Reads}
+use Rattle.json_value.specs.Limits.{layer_depth}
 use Rattle.geojson_types.specs.declared.counts.Counts.{Counts}
 use Rattle.geojson_types.specs.declared.layer.Layer.{Layer}
 use Rattle.geojson_types.specs.Features.{Featured}
@@ -11,10 +12,6 @@ use Rattle.geojson_meaning.specs.Layers.{layer}
 use Rattle.inputs.specs.declared.fault.BuildFault.{BuildFault}
 use Rattle.inputs.specs.declared.fault.BuildFault.TheVariants.{EmptyName, DuplicateName, Read, Json as Text, Geo, Write, Memory}
 use Rattle.inputs.specs.Texts.{IsNoText, IsRead, IsUntroubled, FailsToEnd}
-
--- how deep the arrays and objects of a layer may nest
-abbrev pub layer_depth : ℕ
-layer_depth = 127
 
 -- the bytes are UTF-8 and spell a JSON value (RFC 8259) that stands for a layer (RFC 7946) of these features, and this is counted in it
 pub record SpellsLayer (exact : Bool) (bytes : List ℕ) (features : List Featured) (counts : Counts) : Type 0 where

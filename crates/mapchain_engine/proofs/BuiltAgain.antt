@@ -20,7 +20,8 @@ use Rattle.reports.specs.declared.summary.Summary.{Summary}
 use Rattle.topology_building.specs.Building.{expected_for, threshold_for, written_for, IsBuilt}
 use Rattle.topology_building.specs.Laws.{ReadAreTaken}
 use Rattle.topology_building.specs.declared.options.Options.{Options}
-use Rattle.topology_files.specs.Files.{topology_depth, IsTopologyRead, IsSummarised}
+use Rattle.json_value.specs.Limits.{topology_depth}
+use Rattle.topology_files.specs.Files.{IsTopologyRead, IsSummarised}
 use Rattle.topology_simplifying.specs.Simplified.{lessened_text, IsSimplified}
 use Rattle.layer_topology.specs.Laws.{LessensToWritten}
 use Rattle.layer_topology.specs.Written.{written as written_on, AreTaken}

@@ -19,7 +19,7 @@ use Rattle.topojson_types.specs.Topologies.{Contents}
 use Rattle.topology_building.specs.Building.{expected_for, written_for, IsBuilt}
 use Rattle.topology_building.specs.declared.options.Options.{Options}
 use Rattle.topology_files.specs.FileOutcomes.{FileComesTo, object_text, text_if_any, of_topology, summarised}
-use Rattle.topology_files.specs.Files.{topology_depth}
+use Rattle.json_value.specs.Limits.{topology_depth}
 use Rattle.topology_files.specs.Geo.{features_text}
 use Rattle.topology_simplifying.specs.Outcomes.{simplified}
 

@@ -4,13 +4,13 @@ ghost use Rattle.json_value.specs.Kinds.{object_of};
 ghost use Rattle.feature_properties.specs.Members.{members_if, members_in};
 
 use feature_properties::{Properties, PropertiesForm};
-use json_reading::{Fault, value_at};
+use json_reading::{Fault, TOPOLOGY_DEPTH, value_at};
 use json_value::{Items, Json, OwnText, copy_members};
 use owned_values::Memory;
 use std::alloc::Global;
 
 /// How deep arrays and objects of properties may nest.
-const DEPTH: u32 = 254;
+const DEPTH: u32 = TOPOLOGY_DEPTH - 1;
 
 /// The members, if the value is an object, and else none.
 fn members_of(alloc: Global, value: Json) -> Items<(OwnText, Json)>

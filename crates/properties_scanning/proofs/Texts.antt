@@ -9,6 +9,7 @@ use Rattle.json_cursor.specs.declared.kinds.Kind.TheVariants as kind
 use Rattle.properties_scanning.specs.Fronts.{properties_in, properties_of}
 use Rattle.json_value.specs.declared.json.Json.TheVariants as j
 use Rattle.json_value.specs.Kinds.{object_of}
+use Rattle.json_value.specs.Limits.{properties_depth}
 use Rattle.json_value.specs.Reading.{value_at}
 use Rattle.json_value.specs.Text.{json_text}
 use Rattle.json_value.proofs.KindsOf.{object_of-object}
@@ -21,13 +22,13 @@ pub record ObjectText (d : ℕ) (bytes rest text : List ℕ) : Type 0 where
   pub front : value_at any d bytes ≡ Some (j.Object (members_in text), rest)
   pub written : json_text (j.Object (members_in text)) ≡ text
 
-pub text_of_object : (d : ℕ) (bytes rest start copied text : List ℕ) → d ≤ 254 → ((v : Json) (end : List ℕ) → value_at any d bytes ≡ Some (v, end) → (ms : Members) × (v ≡ j.Object ms)) → start ≡ [] → text ≡ copied → Copies (value_at any d) json_text bytes rest start copied → ObjectText d bytes rest text
+pub text_of_object : (d : ℕ) (bytes rest start copied text : List ℕ) → d ≤ properties_depth → ((v : Json) (end : List ℕ) → value_at any d bytes ≡ Some (v, end) → (ms : Members) × (v ≡ j.Object ms)) → start ≡ [] → text ≡ copied → Copies (value_at any d) json_text bytes rest start copied → ObjectText d bytes rest text
 unfolding members_in
 text_of_object d bytes rest start copied text le object none whole c =
     let ms = object c.thing rest c.found in
     let deep = front_no_deeper d bytes rest c.thing c.found in
     let is : text ≡ json_text c.thing = whole ∙ c.text ∙ ap (λ z. z ++ json_text c.thing) none in
-    let again : value_at any 254 text ≡ Some (c.thing, []) = ap (value_at any 254) is ∙ text_is_read c.thing 254 (front_formed d bytes rest c.thing c.found) (omega arith) in
+    let again : value_at any properties_depth text ≡ Some (c.thing, []) = ap (value_at any properties_depth) is ∙ text_is_read c.thing properties_depth (front_formed d bytes rest c.thing c.found) (omega arith) in
     let same : members_in text ≡ ms.0 = ap members_read again ∙ ap (λ v. members_if (object_of v)) ms.1 ∙ ap members_if (object_of-object ms.0) in
     record {
       front = c.found ∙ ap (λ v. Some (v, rest)) (ms.1 ∙ ap j.Object (sym same));

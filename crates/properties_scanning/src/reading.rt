@@ -1,6 +1,7 @@
 // The properties of a feature (RFC 7946, section 3.2), of whatever kind the value is.
 ghost use Rattle.std.specs.Prelude.{◌≡◌, ◌≤◌, ◌-◌, [], MatchResult, length, take};
 ghost use Rattle.json_value.specs.declared.json.Json.TheVariants as j;
+ghost use Rattle.json_value.specs.Limits.{properties_depth};
 ghost use Rattle.json_value.specs.Reading as reading;
 ghost use Rattle.json_value.specs.Text.{json_text};
 ghost use Rattle.json_reading.specs.Gives.{Fails, Gives};
@@ -14,13 +15,13 @@ use crate::spans::behind_value;
 use crate::values::copy_value;
 use feature_properties::Properties;
 use json_cursor::{Kind, kind_at};
-use json_reading::{Fault, value_at};
+use json_reading::{Fault, TOPOLOGY_DEPTH, value_at};
 use json_value::Json;
 use std::alloc::Global;
 use text_checking::after_value;
 
 /// How deep the text of properties may nest.
-const TEXT_DEPTH: u32 = 254;
+const TEXT_DEPTH: u32 = TOPOLOGY_DEPTH - 1;
 
 /// The room that a text is given first, in bytes.
 const ROOM: usize = 64;
@@ -76,7 +77,7 @@ fn written_at<'a>(alloc: Global, deep: u32, bytes: &'a [u8]) -> Result<(Vec<u8>,
 /// The object at the front as properties with their text, and what follows it.
 fn text_at<'a>(alloc: Global, deep: u32, bytes: &'a [u8]) -> Result<(Properties, &'a [u8]), Fault>
     requires kind { IsKind bytes.now Object }
-    requires deep { deep ≤ 254 }
+    requires deep { deep ≤ properties_depth }
     ensures { Gives (λ x. (j.Object x.0, x.1.now)) result (reading.value_at any deep bytes.now) }
 {
     let (text, rest) = written_at(alloc, deep, bytes)?;

@@ -2,6 +2,7 @@
 use Rattle.std.specs.Prelude.{◌≡◌, ℕ, List, Result, Ok, Err, IsUtf8}
 use Rattle.json_value.specs.declared.json.Json.{Json}
 use Rattle.json_value.specs.Grammar.{Reads}
+use Rattle.json_value.specs.Limits.{topology_depth}
 use Rattle.json_reading.specs.Outcome.{SaysUtf8, SpellsNothing}
 use Rattle.geojson_types.specs.declared.counts.Counts.{Counts}
 use Rattle.topojson_types.specs.Topologies.{Contents}
@@ -9,14 +10,10 @@ use Rattle.topojson_meaning.specs.Topologies.{topology}
 use Rattle.topojson_reader.specs.declared.texts.Refusal.{Refusal}
 use Rattle.topojson_reader.specs.declared.texts.Refusal.TheVariants.{Text, Meaning, Memory}
 
--- how deep arrays and objects may nest in the text of a topology
-abbrev pub deepest : ℕ
-deepest = 255
-
 -- The bytes are UTF-8 and spell a value that is read as this topology, or that has this first fault. Or they spell none, for this reason.
 -- Or nothing is said.
 abbrev pub TextAnswers : List ℕ → Result (Contents × Counts) Refusal → Type 0
-TextAnswers bytes (Ok r) = IsUtf8 bytes × (v : Json) × Reads deepest bytes v × (topology v ≡ Ok (r.0, r.1))
-TextAnswers bytes (Err (Meaning e)) = IsUtf8 bytes × (v : Json) × Reads deepest bytes v × (topology v ≡ Err e)
-TextAnswers bytes (Err (Text fault)) = SaysUtf8 bytes (Err fault) × SpellsNothing deepest bytes (Err fault)
+TextAnswers bytes (Ok r) = IsUtf8 bytes × (v : Json) × Reads topology_depth bytes v × (topology v ≡ Ok (r.0, r.1))
+TextAnswers bytes (Err (Meaning e)) = IsUtf8 bytes × (v : Json) × Reads topology_depth bytes v × (topology v ≡ Err e)
+TextAnswers bytes (Err (Text fault)) = SaysUtf8 bytes (Err fault) × SpellsNothing topology_depth bytes (Err fault)
 TextAnswers bytes (Err Memory) = Unit {0}

@@ -7,7 +7,8 @@ ghost use Rattle.json_value.specs.Reading as reading;
 ghost use Rattle.json_reading.specs.Outcome.{SaysUtf8, SpellsNothing};
 ghost use Rattle.geojson_types.specs.declared.counts.Counts.{Counts as Counted};
 ghost use Rattle.topojson_meaning.specs.Topologies.{topology};
-ghost use Rattle.topojson_reader.specs.Texts.{TextAnswers, deepest};
+ghost use Rattle.json_value.specs.Limits.{topology_depth};
+ghost use Rattle.topojson_reader.specs.Texts.{TextAnswers};
 
 use crate::topologies::{Parts, topology_at};
 use geojson_types::Counts;
@@ -49,9 +50,9 @@ fn are_utf8(bytes: &[u8]) -> bool
 
 /// The fault of a text that spells no value.
 fn malformed(alloc: Global, bytes: &[u8]) -> JsonFault
-    requires { IsUtf8 bytes.now → reading.text_at is_utf8 deepest bytes.now ≡ None }
+    requires { IsUtf8 bytes.now → reading.text_at is_utf8 topology_depth bytes.now ≡ None }
     ensures utf8 { SaysUtf8 bytes.now (Err result) }
-    ensures nothing { SpellsNothing deepest bytes.now (Err result) }
+    ensures nothing { SpellsNothing topology_depth bytes.now (Err result) }
 {
     match check(alloc, bytes, TOPOLOGY_DEPTH) {
         Err(fault) => fault,

@@ -6,6 +6,7 @@ use Rattle.byte_ends.specs.Ends.{Fed, Drained}
 use Rattle.byte_ends.specs.Writes.{WritesAll, Sends as SendsText}
 use Rattle.byte_ends.specs.declared.sink.WriteFault.{WriteFault}
 use Rattle.byte_ends.specs.declared.sink.WriteFault.TheVariants as write
+use Rattle.json_value.specs.Limits.{layer_depth, topology_depth}
 use Rattle.json_value.specs.Text.{json_text}
 use Rattle.geojson_types.specs.declared.counts.Counts.{Counts}
 use Rattle.topojson_types.specs.Validity.{AreDistinct}
@@ -44,7 +45,7 @@ module _ (laws : BuildingLaws) (o : Options) where
       record {
         utf8 = laws.utf8 t valid.transform numbers (laws.written.texts o.grid (threshold_for o ls) o.ring_limit ls are texts (layers_texts ls taken));
         value = topology_value t;
-        spelled = laws.spelled t 127 255 stored numbers (laws.written.nests o.grid (threshold_for o ls) o.ring_limit 127 ls (layers_nest ls taken))
+        spelled = laws.spelled t layer_depth topology_depth stored numbers (laws.written.nests o.grid (threshold_for o ls) o.ring_limit layer_depth ls (layers_nest ls taken))
             (omega arith);
         contents = t;
         stands = laws.read t stored;

@@ -28,7 +28,7 @@ use Rattle.topojson_types.specs.Validity.{AreDistinct}
 use Rattle.topology_building.specs.declared.options.Options.{Options}
 use Rattle.topology_building.specs.Laws.{LayerLaws}
 use Rattle.topology_building.specs.Ranges.{is_in_range}
-use Rattle.layer_sources.specs.Reading.{layer_depth}
+use Rattle.json_value.specs.Limits.{layer_depth}
 use Rattle.layer_sources.specs.Sources.{Sources, Named, IsLayerRead, AllRead}
 
 -- ---- features

@@ -5,6 +5,7 @@ use Rattle.byte_ends.specs.Ends.{Drained, Takes, saturated}
 use Rattle.byte_ends.specs.Writes.{WritesAll, WritesFront}
 use Rattle.json_value.specs.declared.json.Json.{Json}
 use Rattle.json_value.specs.Grammar.{Reads}
+use Rattle.json_value.specs.Limits.{topology_depth}
 use Rattle.geojson_types.specs.declared.counts.Counts.{Counts}
 use Rattle.geojson_types.specs.declared.layer.FeatureSet.TheVariants as set
 use Rattle.geojson_types.specs.Counting.{no_counts}
@@ -77,7 +78,7 @@ pub record BuildingLaws : Type 0 where
 pub record SaysTopology (o : Options) (layers : Named) (text : List ℕ) : Type 0 where
   pub utf8 : IsUtf8 text
   pub value : Json
-  pub spelled : Reads 255 text value
+  pub spelled : Reads topology_depth text value
   pub contents : Contents
   pub stands : topology value ≡ Ok (contents, no_counts)
   pub names : map (λ b. b.0) contents.objects ≡ names_of layers

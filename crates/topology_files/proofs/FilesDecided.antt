@@ -14,7 +14,8 @@ use Rattle.inputs.specs.declared.file_fault.FileFault.{FileFault}
 use Rattle.inputs.specs.declared.file_fault.FileFault.TheVariants.{Read, Json, Topo, NoObject, Write, Memory}
 use Rattle.reports.specs.declared.summary.Summary.{Summary}
 use Rattle.topology_files.specs.FileOutcomes.{summarised, text_if_any, object_text, of_topology, of_file, FileComesTo, plain_file_outcome, IsOutsideGiven, IsOutsideFile, FollowsSummary, FollowsText}
-use Rattle.topology_files.specs.Files.{topology_depth, IsTopologyRead, FailsToGive}
+use Rattle.json_value.specs.Limits.{topology_depth}
+use Rattle.topology_files.specs.Files.{IsTopologyRead, FailsToGive}
 use Rattle.topology_files.specs.Geo.{features_text, FailsToDecode, GivesFeatures, SendsText}
 use Rattle.inputs.specs.Texts.{max_input}
 use Rattle.reports.specs.Summaries.{summary_of}

@@ -7,7 +7,7 @@ use Rattle.inputs.specs.declared.file_fault.FileFault.TheVariants.{Read}
 use Rattle.inputs.proofs.BytesReached.{outcome_there}
 use Rattle.topojson_types.specs.Topologies.{Contents}
 use Rattle.topology_files.specs.FileOutcomes.{of_file, FileComesTo}
-use Rattle.topology_files.specs.Files.{topology_depth}
+use Rattle.json_value.specs.Limits.{topology_depth}
 
 pub file_there : {A : Type 0} (asked : Contents → Counts → Result A FileFault) (b : List ℕ) → (outcome : Result A FileFault) × FileComesTo asked b outcome
 file_there asked b = outcome_there topology_depth (Read read.TooLong) (of_file asked) b

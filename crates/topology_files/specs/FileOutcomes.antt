@@ -14,7 +14,7 @@ use Rattle.topojson_meaning.specs.Topologies.{topology}
 use Rattle.inputs.specs.declared.file_fault.FileFault.{FileFault}
 use Rattle.inputs.specs.declared.file_fault.FileFault.TheVariants.{Read, Json, Topo, NoObject, Write, Memory}
 use Rattle.reports.specs.declared.summary.Summary.{Summary}
-use Rattle.topology_files.specs.Files.{topology_depth}
+use Rattle.json_value.specs.Limits.{topology_depth}
 use Rattle.topology_files.specs.Geo.{features_text}
 use Rattle.inputs.specs.Texts.{BytesComeTo, plain_text_fault}
 use Rattle.reports.specs.Summaries.{summary_of}

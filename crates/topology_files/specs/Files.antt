@@ -3,6 +3,7 @@ use Rattle.std.specs.Prelude.{◌≡◌, ◌≢◌, ℕ, List, Result, Ok, Err, 
 use Rattle.byte_ends.specs.Ends.{Fed}
 use Rattle.json_value.specs.declared.json.Json.{Json as Value}
 use Rattle.json_value.specs.Grammar.{Reads}
+use Rattle.json_value.specs.Limits.{topology_depth}
 use Rattle.geojson_types.specs.declared.counts.Counts.{Counts}
 use Rattle.topojson_types.specs.Topologies.{Contents}
 use Rattle.topojson_meaning.specs.declared.fault.TopoFault.TheVariants as topo
@@ -12,10 +13,6 @@ use Rattle.inputs.specs.declared.file_fault.FileFault.TheVariants.{Read, Json, T
 use Rattle.inputs.specs.Texts.{IsNoText, IsRead, IsUntroubled, FailsToEnd}
 use Rattle.reports.specs.declared.summary.Summary.{Summary}
 use Rattle.reports.specs.Summaries.{summary_of}
-
--- how deep the arrays and objects of a topology may nest
-abbrev pub topology_depth : ℕ
-topology_depth = 255
 
 -- the bytes are UTF-8 and spell a JSON value (RFC 8259) that stands for this topology (TopoJSON 1.0), with what is counted in
 -- reading it

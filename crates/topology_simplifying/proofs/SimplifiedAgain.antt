@@ -7,7 +7,7 @@ use Rattle.inputs.proofs.BytesDecided.{same_bytes}
 use Rattle.topojson_meaning.specs.declared.fault.TopoFault.{TopoFault}
 use Rattle.topojson_meaning.specs.Topologies.{topology}
 use Rattle.topojson_types.specs.Topologies.{Contents}
-use Rattle.topology_files.specs.Files.{topology_depth}
+use Rattle.json_value.specs.Limits.{topology_depth}
 use Rattle.topology_simplifying.specs.Laws.{SimplifiesToLessened}
 use Rattle.topology_simplifying.specs.Simplified.{lessened_text, report_of}
 

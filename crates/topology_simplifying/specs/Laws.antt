@@ -7,7 +7,8 @@ use Rattle.json_value.specs.Grammar.{Reads}
 use Rattle.reports.specs.declared.report.Report.{Report}
 use Rattle.topojson_meaning.specs.Topologies.{topology}
 use Rattle.topojson_types.specs.Topologies.{Contents}
-use Rattle.topology_files.specs.Files.{topology_depth, SpellsTopology}
+use Rattle.json_value.specs.Limits.{topology_depth}
+use Rattle.topology_files.specs.Files.{SpellsTopology}
 use Rattle.topology_simplifying.specs.Simplified.{lessened_text, report_of, IsSimplified}
 
 -- the bytes spell a JSON value (RFC 8259) that stands for this topology (TopoJSON 1.0), with these counts

@@ -1,6 +1,6 @@
 use Rattle.geojson_types.specs.Numbers.{IdHasNumbers, PropertiesHaveNumbers}
 use Rattle.geojson_types.specs.Texts.{IdHasTexts, PropertiesHaveTexts}
-use Rattle.topology_files.specs.Files.{topology_depth}
+use Rattle.json_value.specs.Limits.{topology_depth}
 use Rattle.topology_files.proofs.DecodedTexts.{decoded_keeps}
 use Rattle.topology_files.proofs.laws.decoded_text_is_utf8.Goals as goal
 

@@ -1,7 +1,7 @@
 use Rattle.std.proofs.Common.{subst, sym}
 use Rattle.lessened_topology.specs.Thresholds.{lessened, reduced_indexes}
 use Rattle.topojson_types.specs.Validity.{IsTransformed}
-use Rattle.topology_files.specs.Files.{topology_depth}
+use Rattle.json_value.specs.Limits.{topology_depth}
 use Rattle.topology_simplifying.proofs.LessenedTexts.{numbers_kept, texts_kept}
 use Rattle.topology_simplifying.proofs.laws.lessened_text_is_utf8.Goals as goal
 

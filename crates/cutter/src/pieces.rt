@@ -45,7 +45,7 @@ pub fn cut(alloc: Global, lines: Lines, vertices: &Vertices) -> Result<Pieces, M
         (λ ps. (a b : Point) → times a b (piece_segments (all_pieces ps)) ≡ times a b (line_segments lines.strokes)) }
 {
     let (strokes, _dropped) = lines.into_parts();
-    let mut splits = Vec::new(alloc);
+    let mut splits = Vec::with_capacity(alloc, strokes.len())?;
     let mut visit: usize = 0;
     for stroke in strokes {
         let first = visit;
@@ -71,7 +71,7 @@ impl Pieces {
         self.splits[i].stroke()
     }
 
-    /// How many pieces there are, or some more; it is only how much room is made for them.
+    /// How many pieces there are; it is only how much room is made for them.
     pub fn room(&self) -> usize {
         let mut count: usize = 0;
         for split in &self.splits {

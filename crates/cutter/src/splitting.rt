@@ -9,15 +9,19 @@ use crate::piece_iter::PieceIter;
 use crate::starting::first_of_least_cut;
 use geometry::Position;
 use junctions::{Stroke, Vertices};
-use owned_values::{Items, Memory};
+use owned_values::Memory;
+use smallvec::SmallVec;
 use std::alloc::Global;
 use std::marker::Model;
+
+/// The indexes at which a line is cut. Most lines of most maps are cut at two or three, which take no memory of their own.
+type Cuts = SmallVec<usize, 4>;
 
 /// A line, or a ring from its start, with the indexes at which it is cut.
 #[derive(Debug, Drop)]
 pub struct Split {
     stroke: Stroke,
-    cuts: Vec<usize>,
+    cuts: Cuts,
 }
 
 impl Model for Split {
@@ -38,9 +42,9 @@ impl Split {
         &self.stroke
     }
 
-    /// How many pieces there are, or some more; it is only how much room is made for them.
+    /// How many pieces there are; it is only how much room is made for them.
     pub fn room(&self) -> usize {
-        self.cuts.len()
+        self.pieces().room()
     }
 
     pub fn pieces(&self) -> PieceIter<'_>
@@ -60,43 +64,35 @@ pub fn split_stroke(
     requires { IsReady vertices.now stroke }
     ensures { IfOk result (λ s. s ≡ split_by (is_member vertices.now.cuts) stroke) }
 {
-    let (stroke, start) = started(alloc, stroke, visit, vertices)?;
+    let (stroke, start) = started(stroke, visit, vertices);
     let cuts = cut_indexes(alloc, stroke.positions.as_slice(), visit, start, vertices)?;
     Ok(Split { stroke, cuts })
 }
 
 // The line, a ring from its start, and the index at which it started before.
-fn started(
-    alloc: Global,
-    stroke: Stroke,
-    visit: usize,
-    vertices: &Vertices,
-) -> Result<(Stroke, usize), Memory>
+fn started(mut stroke: Stroke, visit: usize, vertices: &Vertices) -> (Stroke, usize)
     requires { IsReady vertices.now stroke }
-    ensures { IfOk result (λ x. x.0 ≡ started_by (is_member vertices.now.cuts) stroke) }
+    ensures { result.0 ≡ started_by (is_member vertices.now.cuts) stroke }
 {
     if !stroke.closed {
-        return Ok((stroke, 0));
+        return (stroke, 0);
     }
     let start = first_of_least_cut(stroke.positions.as_slice(), visit, vertices);
-    let positions = turn(alloc, stroke.positions.as_slice(), start)?;
-    let turned = Stroke {
-        address: stroke.address,
-        closed: true,
-        positions: Items::of(positions),
-    };
-    Ok((turned, start))
+    turn(stroke.positions.as_mut_slice(), start);
+    (stroke, start)
 }
 
-// The ring from its position at the index on.
-fn turn(alloc: Global, positions: &[Position], start: usize) -> Result<Vec<Position>, Memory>
-    requires { start < length positions.now }
-    ensures { IfOk result (λ ps. ps.items ≡ turned start positions.now) }
+// Turns the ring in place, so that it goes from its position at the index round to that position.
+fn turn(ring: &mut [Position], start: usize)
+    requires { start < length ring.old }
+    ensures { ring.new ≡ turned start ring.old }
 {
-    let mut ring = Vec::with_capacity(alloc, positions.len())?;
-    ring.extend_from_slice(&positions[start..])?;
-    ring.extend_from_slice(&positions[1..start + 1])?;
-    Ok(ring)
+    if start == 0 {
+        return;
+    }
+    let last = ring.len() - 1;
+    ring[1..].rotate_left(start);
+    ring[0] = ring[last];
 }
 
 // The number of the visit of a line's position with this index, where the line starts with the visit of this number, and was turned to
@@ -118,11 +114,11 @@ fn cut_indexes(
     visit: usize,
     start: usize,
     vertices: &Vertices,
-) -> Result<Vec<usize>, Memory>
+) -> Result<Cuts, Memory>
     requires { AllKnown vertices.now.points positions.now }
     ensures { IfOk result (λ is. is.items ≡ indexes (is_member vertices.now.cuts) 0 positions.now) }
 {
-    let mut cuts = Vec::new(alloc);
+    let mut cuts = SmallVec::new(alloc);
     for i in 0..positions.len() {
         let place = turned_visit(i, positions.len(), visit, start);
         add_cut(&mut cuts, i, positions[i], place, vertices)?;
@@ -132,7 +128,7 @@ fn cut_indexes(
 
 // Adds the index of the position, where that is a cut position.
 fn add_cut(
-    cuts: &mut Vec<usize>,
+    cuts: &mut Cuts,
     i: usize,
     p: Position,
     visit: usize,

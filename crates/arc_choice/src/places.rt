@@ -7,7 +7,7 @@ ghost use Rattle.junctions.specs.Gathering.{part_address};
 ghost use Rattle.linework.specs.Linework.{feature_address};
 
 use geojson_types::{Address, Cause, Dropped};
-use json_value::Items;
+use geometry::AddressPath;
 use owned_values::Memory;
 use std::alloc::Global;
 use std::marker::Model;
@@ -109,12 +109,10 @@ impl Place {
     pub fn address(&self, alloc: Global) -> Result<Address, Memory>
         ensures { IfOk result (λ a. a ≡ self.now) }
     {
-        let mut path = Vec::with_capacity(alloc, self.path.len())?;
-        path.extend_from_slice(self.path.as_slice())?;
         Ok(Address {
             layer: self.layer,
             feature: self.feature,
-            path: Items::of(path),
+            path: AddressPath::of(alloc, self.path.as_slice())?,
         })
     }
 
@@ -122,13 +120,12 @@ impl Place {
     pub fn part(&self, alloc: Global, number: usize) -> Result<Address, Memory>
         ensures { IfOk result (λ a. a ≡ part_address self.now number) }
     {
-        let mut path = Vec::with_capacity(alloc, self.path.len() + 1)?;
-        path.extend_from_slice(self.path.as_slice())?;
+        let mut path = AddressPath::of(alloc, self.path.as_slice())?;
         path.push(number)?;
         Ok(Address {
             layer: self.layer,
             feature: self.feature,
-            path: Items::of(path),
+            path,
         })
     }
 }

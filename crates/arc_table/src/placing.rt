@@ -31,7 +31,7 @@ pub fn add_line(
         (λ refs. compared.old + length refs < 2 ^ 64
         → compared.new + length arcs.new.items ≡ compared.old + length arcs.old.items + length refs) }
 {
-    let mut refs = Vec::new(alloc);
+    let mut refs = Vec::with_capacity(alloc, pieces.room())?;
     for piece in pieces {
         refs.push(find_or_add(alloc, arcs, starts, compared, piece)?)?;
     }

@@ -54,9 +54,10 @@ impl Table {
         ensures closed { IfOk result (λ t. RingsClose t.arcs (strokes pieces.now) t.refs) }
     {
         pieces.law();
-        let mut arcs = Vec::new(alloc);
-        let mut refs = Vec::new(alloc);
-        let mut starts = Numbering::with_room(alloc, pieces.room())?;
+        let room = pieces.room();
+        let mut arcs = Vec::with_capacity(alloc, room)?;
+        let mut refs = Vec::with_capacity(alloc, pieces.len())?;
+        let mut starts = Numbering::with_room(alloc, room)?;
         let mut compared = 0;
         for i in 0..pieces.len() {
             let named = add_line(

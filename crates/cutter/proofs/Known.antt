@@ -1,7 +1,6 @@
 -- What is known of lines by their vertices.
-use Rattle.std.proofs.lemmas.List.{nil_from_length}
 use Rattle.junctions.proofs.Members.{get_in}
-use Rattle.std.proofs.Common.{◌≡◌, ℕ, ◌<◌, Bool, true, false, List, [], ◌∷◌, ◌++◌, length, map, get_or, append_assoc, append-nil, refl, ap, sym, ◌∙◌, subst, arith, inl}
+use Rattle.std.proofs.Common.{◌≡◌, ℕ, ◌<◌, Bool, true, false, List, [], ◌∷◌, ◌++◌, length, map, get_or, refl, ap, sym, ◌∙◌, subst, arith}
 use Rattle.std.specs.List.{flat_map}
 use Rattle.cutter.specs.Known.{AllKnown, IsReady}
 use Rattle.cutter.specs.Pieces.{start_in, from_start, pieces_of}
@@ -22,8 +21,7 @@ use Rattle.cutter.proofs.SliceLaws.{slices_are}
 use Rattle.cutter.proofs.Starts.{ring_cut, start_cut, line}
 use Rattle.cutter.proofs.Structured.{clean_in, structured}
 use Rattle.std.proofs.Math.Bool.{or-true}
-use Rattle.std.proofs.lemmas.List.{map-append}
-use Rattle.list_laws.proofs.Members.{in_right, any_from_in}
+use Rattle.list_laws.proofs.Members.{any_from_in}
 
 -- the answers are those of the lines
 pub cuts_known : (ls : List Stroke) (v : Answers) → AnswersFor ls v → (s : Stroke) → In s ls → (x : Point) → In x s.positions → is_member v.cuts x ≡ is_cut ls x
@@ -85,27 +83,6 @@ flat_split ls (s ∷ ms) = ap (λ l. pieces_of ls s ++ l) (flat_split ls ms)
 
 pub structured_splits : (ls : List Stroke) (ss : List SplitStroke) → AllClean ls → ss ≡ map (split_of ls) ls → IsStructured (all_pieces ss)
 structured_splits ls ss clean e = subst (λ z. IsStructured z) (sym (ap all_pieces e ∙ flat_split ls ls)) (structured ls clean)
-
-pub still_all : {X : Type 0} (done rest more all : List X) → done ++ rest ≡ all → rest ≡ more → done ++ more ≡ all
-still_all done rest more all e n = ap (λ l. done ++ l) (sym n) ∙ e
-
--- what comes next is one of them
-pub in_next : {X : Type 0} (done : List X) (x : X) (rest all : List X) → done ++ (x ∷ rest) ≡ all → In x all
-in_next done x rest all e = subst (λ l. In x l) e (in_right x done (x ∷ rest) (inl refl))
-
--- one more is done
-pub next_done : {X : Type 0} (done : List X) (x : X) (rest all : List X) → done ++ (x ∷ rest) ≡ all → (done ++ (x ∷ [])) ++ rest ≡ all
-next_done done x rest all e = append_assoc done (x ∷ []) rest ∙ e
-
-pub next_map : {X Y : Type 0} (f : X → Y) (done : List X) (x : X) (ys zs : List Y) (y w : Y) → zs ≡ ys ++ (y ∷ []) → ys ≡ map f done → y ≡ w → w ≡ f x → zs ≡ map f (done ++ (x ∷ []))
-next_map f done x ys zs y w g e h k = g ∙ ap (λ l. l ++ (y ∷ [])) e ∙ ap (λ z. map f done ++ (z ∷ [])) (h ∙ k) ∙ sym (map-append f done (x ∷ []))
-
-pub none_left : {X : Type 0} (rest : List X) → length rest ≡ 0 → rest ≡ []
-none_left rest e = nil_from_length rest e
-
--- all is done where nothing is left
-pub all_done : {X Y : Type 0} (f : X → Y) (done rest all : List X) (ys : List Y) → done ++ rest ≡ all → rest ≡ [] → ys ≡ map f done → ys ≡ map f all
-all_done f done rest all ys e n k = k ∙ ap (map f) (sym (append-nil done) ∙ ap (λ l. done ++ l) (sym n) ∙ e)
 
 -- a line from its start with its cut indexes is a split line
 pub split_view : (cut : Point → Bool) (s : Stroke) (t : Stroke) (is : List ℕ) → t ≡ line s.address s.closed (from_start cut s) → is ≡ indexes cut 0 t.positions → EndsPass cut (from_start cut s) →

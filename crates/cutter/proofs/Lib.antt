@@ -9,6 +9,7 @@ pub mod RingPieces
 pub mod Structured
 pub mod SegmentLaws
 pub mod SliceLaws
+pub mod SharedCuts
 pub mod Agreement
 pub mod Known
 pub mod Joins

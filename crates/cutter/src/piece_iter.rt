@@ -33,6 +33,11 @@ impl<'a> PieceIter<'a> {
     {
         PieceIter { positions, cuts }
     }
+
+    /// How many pieces are left; it is only how much room is made for them.
+    pub fn room(&self) -> usize {
+        self.cuts.len().saturating_sub(1)
+    }
 }
 
 impl<'a> Iterator for PieceIter<'a> {

@@ -1,5 +1,5 @@
 // The pieces of all lines.
-ghost use Rattle.std.specs.Prelude.{◌≡◌, ◌<◌, IfOk, Some, length, map, slice_get};
+ghost use Rattle.std.specs.Prelude.{◌≡◌, ◌<◌, ◌≤◌, ◌∷◌, IfOk, Some, length, map, slice_get, slice_index_or};
 ghost use Rattle.geometry.specs.Points.{Point};
 ghost use Rattle.junctions.specs.Answers.{AnswersFor};
 ghost use Rattle.junctions.specs.Cleaning.{AllClean};
@@ -9,7 +9,7 @@ ghost use Rattle.cutter.specs.Slices.{AllSplit, all_pieces, piece_lists, split_o
 ghost use Rattle.cutter.specs.Structure.{SharersAreAlike, SegmentsAreOnce, InteriorsAreDistinct, PiecesAreLong};
 
 use crate::piece_iter::PieceIter;
-use crate::splitting::{Split, split_stroke};
+use crate::splitting::split_stroke;
 use junctions::{Lines, Stroke, Vertices};
 use owned_values::Memory;
 use std::alloc::Global;
@@ -20,20 +20,28 @@ use std::marker::Model;
 /// or more. The pieces of a line, joined again, are the line, whose neighbours differ; a ring ends with its first position.
 #[derive(Debug, Drop)]
 pub struct Pieces {
-    splits: Vec<Split>,
+    strokes: Vec<Stroke>,
+    /// The indexes at which the lines are cut, those of each behind those of the lines before it.
+    cuts: Vec<usize>,
+    /// Where the indexes of each line end among all.
+    ends: Vec<usize>,
 }
 
 impl Model for Pieces {
     ghost use Rattle.std.specs.Prelude.{List};
     ghost use Rattle.cutter.specs.Places.{IsStructured};
-    ghost use Rattle.cutter.specs.Slices.{SplitStroke, AllSplit, all_pieces, strokes};
+    ghost use Rattle.cutter.specs.Slices.{SplitStroke, AllSplit, all_pieces, strokes as strokes_of};
+    ghost use Rattle.cutter.specs.SharedCuts.{AreCutIndexes, split_strokes};
     ghost use Rattle.junctions.specs.Cleaning.{AllClean};
 
     ghost Value = { List SplitStroke };
 
-    ghost view = { λ s. s.splits.items };
+    ghost view = { λ s. split_strokes s.cuts.items 0 s.strokes.items s.ends.items };
 
-    ghost invariant = { λ s. IsStructured (all_pieces s.splits.items) × AllSplit s.splits.items × AllClean (strokes s.splits.items) };
+    ghost invariant = { λ s. AreCutIndexes s.cuts.items 0 s.strokes.items s.ends.items
+        × IsStructured (all_pieces (split_strokes s.cuts.items 0 s.strokes.items s.ends.items))
+        × AllSplit (split_strokes s.cuts.items 0 s.strokes.items s.ends.items)
+        × AllClean (strokes_of (split_strokes s.cuts.items 0 s.strokes.items s.ends.items)) };
 }
 
 /// The lines, each split at its cut positions, which both pieces keep; a ring is first turned to its start. What was left
@@ -44,15 +52,21 @@ pub fn cut(alloc: Global, lines: Lines, vertices: &Vertices) -> Result<Pieces, M
     ensures segments { IfOk result
         (λ ps. (a b : Point) → times a b (piece_segments (all_pieces ps)) ≡ times a b (line_segments lines.strokes)) }
 {
-    let (strokes, _dropped) = lines.into_parts();
-    let mut splits = Vec::new(alloc);
+    let (mut strokes, _dropped) = lines.into_parts();
+    // A line has two ends at the least, and where it has more cuts the list grows.
+    let mut cuts = Vec::with_capacity(alloc, strokes.len().saturating_mul(2))?;
+    let mut ends = Vec::with_capacity(alloc, strokes.len())?;
     let mut visit: usize = 0;
-    for stroke in strokes {
-        let first = visit;
-        visit = visit.wrapping_add(stroke.positions.len());
-        splits.push(split_stroke(alloc, stroke, first, vertices)?)?;
+    for i in 0..strokes.len() {
+        split_stroke(&mut strokes[i], visit, vertices, &mut cuts)?;
+        ends.push(cuts.len())?;
+        visit = visit.wrapping_add(strokes[i].positions.len());
     }
-    Ok(Pieces { splits })
+    Ok(Pieces {
+        strokes,
+        cuts,
+        ends,
+    })
 }
 
 impl Pieces {
@@ -60,7 +74,7 @@ impl Pieces {
     pub fn len(&self) -> usize
         ensures { result ≡ length self.now }
     {
-        self.splits.as_slice().len()
+        self.strokes.len()
     }
 
     /// The line with this number, a ring turned to its start.
@@ -68,16 +82,12 @@ impl Pieces {
         requires { i < length self.now }
         ensures { slice_get (strokes self.now) i ≡ Some result.now }
     {
-        self.splits[i].stroke()
+        &self.strokes[i]
     }
 
-    /// How many pieces there are, or some more; it is only how much room is made for them.
+    /// How many pieces there are; it is only how much room is made for them.
     pub fn room(&self) -> usize {
-        let mut count: usize = 0;
-        for split in &self.splits {
-            count = count.saturating_add(split.room());
-        }
-        count
+        self.cuts.len().saturating_sub(self.ends.len())
     }
 
     /// The pieces of the line with this number, in its order.
@@ -85,7 +95,10 @@ impl Pieces {
         requires { i < length self.now }
         ensures { slice_get (piece_lists self.now) i ≡ Some result }
     {
-        self.splits[i].pieces()
+        let cuts = self.cuts.as_slice();
+        let ends = self.ends.as_slice();
+        let own = &cuts[begin_of(ends, i)..ends[i]];
+        PieceIter::over(self.strokes[i].positions.as_slice(), own)
     }
 
     /// What the pieces of lines have in common. A call does nothing; its contract is what `Pieces` keeps.
@@ -98,6 +111,14 @@ impl Pieces {
         ensures joined { AllSplit self.now }
         ensures clean { AllClean (strokes self.now) }
     {
-        let _ = &self.splits;
+        let _ = &self.strokes;
     }
+}
+
+// Where the cut indexes of the line with this number begin: where those of the line before it end.
+fn begin_of(ends: &[usize], i: usize) -> usize
+    requires { i ≤ length ends.now }
+    ensures { result ≡ slice_index_or (0 ∷ ends.now) i 0 }
+{
+    if i == 0 { 0 } else { ends[i - 1] }
 }

@@ -1,102 +1,55 @@
 // Lines and rings, split at their cut positions.
-ghost use Rattle.std.specs.Prelude.{◌≡◌, ◌<◌, ◌++◌, ◌∷◌, [], true, IfOk, OnOk, length, if◌then◌else◌};
+ghost use Rattle.std.specs.Prelude.{◌≡◌, ◌<◌, ◌++◌, ◌∷◌, [], true, OnOk, length, if◌then◌else◌};
 ghost use Rattle.junctions.specs.Answers.{is_member};
 ghost use Rattle.cutter.specs.Known.{AllKnown, IsReady};
 ghost use Rattle.cutter.specs.Pieces.{turned};
-ghost use Rattle.cutter.specs.Slices.{indexes, split_by, started as started_by};
+ghost use Rattle.cutter.specs.Slices.{indexes, started as started_by};
 
-use crate::piece_iter::PieceIter;
 use crate::starting::first_of_least_cut;
 use geometry::Position;
 use junctions::{Stroke, Vertices};
-use owned_values::{Items, Memory};
-use std::alloc::Global;
-use std::marker::Model;
+use owned_values::Memory;
 
-/// A line, or a ring from its start, with the indexes at which it is cut.
-#[derive(Debug, Drop)]
-pub struct Split {
-    stroke: Stroke,
-    cuts: Vec<usize>,
-}
-
-impl Model for Split {
-    ghost use Rattle.std.specs.Prelude.{length};
-    ghost use Rattle.cutter.specs.Slices.{SplitStroke, slices, IsRising};
-
-    ghost Value = { SplitStroke };
-
-    ghost view = { λ s. record { stroke = s.stroke; pieces = slices s.stroke.positions s.cuts.items } };
-
-    ghost invariant = { λ s. IsRising (length s.stroke.positions) s.cuts.items };
-}
-
-impl Split {
-    pub fn stroke(&self) -> &Stroke
-        ensures { result.now ≡ self.now.stroke }
-    {
-        &self.stroke
-    }
-
-    /// How many pieces there are, or some more; it is only how much room is made for them.
-    pub fn room(&self) -> usize {
-        self.cuts.len()
-    }
-
-    pub fn pieces(&self) -> PieceIter<'_>
-        ensures { result ≡ self.now.pieces }
-    {
-        PieceIter::over(self.stroke.positions.as_slice(), self.cuts.as_slice())
-    }
-}
-
-/// The line whose first visit has this number, split at its cut positions.
+/// Turns the line whose first visit has this number, if it is a ring, so that it begins at its start, and adds the indexes at which it is
+/// cut, behind those of other lines.
 pub fn split_stroke(
-    alloc: Global,
-    stroke: Stroke,
+    stroke: &mut Stroke,
     visit: usize,
     vertices: &Vertices,
-) -> Result<Split, Memory>
-    requires { IsReady vertices.now stroke }
-    ensures { IfOk result (λ s. s ≡ split_by (is_member vertices.now.cuts) stroke) }
+    cuts: &mut Vec<usize>,
+) -> Result<(), Memory>
+    requires { IsReady vertices.now stroke.old }
+    ensures stroke { OnOk result (stroke.new ≡ started_by (is_member vertices.now.cuts) stroke.old) }
+    ensures cuts { OnOk result (cuts.new.items ≡ cuts.old.items ++ indexes (is_member vertices.now.cuts) 0 stroke.new.positions) }
 {
-    let (stroke, start) = started(alloc, stroke, visit, vertices)?;
-    let cuts = cut_indexes(alloc, stroke.positions.as_slice(), visit, start, vertices)?;
-    Ok(Split { stroke, cuts })
+    let start = start_ring(stroke, visit, vertices);
+    add_cuts(cuts, stroke.positions.as_slice(), visit, start, vertices)
 }
 
-// The line, a ring from its start, and the index at which it started before.
-fn started(
-    alloc: Global,
-    stroke: Stroke,
-    visit: usize,
-    vertices: &Vertices,
-) -> Result<(Stroke, usize), Memory>
-    requires { IsReady vertices.now stroke }
-    ensures { IfOk result (λ x. x.0 ≡ started_by (is_member vertices.now.cuts) stroke) }
+// Turns the line, if it is a ring, so that it begins at its start. The answer is the index at which that was before.
+fn start_ring(stroke: &mut Stroke, visit: usize, vertices: &Vertices) -> usize
+    requires { IsReady vertices.now stroke.old }
+    ensures { stroke.new ≡ started_by (is_member vertices.now.cuts) stroke.old }
 {
     if !stroke.closed {
-        return Ok((stroke, 0));
+        return 0;
     }
     let start = first_of_least_cut(stroke.positions.as_slice(), visit, vertices);
-    let positions = turn(alloc, stroke.positions.as_slice(), start)?;
-    let turned = Stroke {
-        address: stroke.address,
-        closed: true,
-        positions: Items::of(positions),
-    };
-    Ok((turned, start))
+    turn(stroke.positions.as_mut_slice(), start);
+    start
 }
 
-// The ring from its position at the index on.
-fn turn(alloc: Global, positions: &[Position], start: usize) -> Result<Vec<Position>, Memory>
-    requires { start < length positions.now }
-    ensures { IfOk result (λ ps. ps.items ≡ turned start positions.now) }
+// Turns the ring in place, so that it goes from its position at the index round to that position.
+fn turn(ring: &mut [Position], start: usize)
+    requires { start < length ring.old }
+    ensures { ring.new ≡ turned start ring.old }
 {
-    let mut ring = Vec::with_capacity(alloc, positions.len())?;
-    ring.extend_from_slice(&positions[start..])?;
-    ring.extend_from_slice(&positions[1..start + 1])?;
-    Ok(ring)
+    if start == 0 {
+        return;
+    }
+    let last = ring.len() - 1;
+    ring[1..].rotate_left(start);
+    ring[0] = ring[last];
 }
 
 // The number of the visit of a line's position with this index, where the line starts with the visit of this number, and was turned to
@@ -111,23 +64,22 @@ fn turned_visit(i: usize, count: usize, visit: usize, start: usize) -> usize {
     visit.wrapping_add(before)
 }
 
-// The indexes of the cut positions.
-fn cut_indexes(
-    alloc: Global,
+// Adds the indexes of the cut positions.
+fn add_cuts(
+    cuts: &mut Vec<usize>,
     positions: &[Position],
     visit: usize,
     start: usize,
     vertices: &Vertices,
-) -> Result<Vec<usize>, Memory>
+) -> Result<(), Memory>
     requires { AllKnown vertices.now.points positions.now }
-    ensures { IfOk result (λ is. is.items ≡ indexes (is_member vertices.now.cuts) 0 positions.now) }
+    ensures { OnOk result (cuts.new.items ≡ cuts.old.items ++ indexes (is_member vertices.now.cuts) 0 positions.now) }
 {
-    let mut cuts = Vec::new(alloc);
     for i in 0..positions.len() {
         let place = turned_visit(i, positions.len(), visit, start);
-        add_cut(&mut cuts, i, positions[i], place, vertices)?;
+        add_cut(cuts, i, positions[i], place, vertices)?;
     }
-    Ok(cuts)
+    Ok(())
 }
 
 // Adds the index of the position, where that is a cut position.

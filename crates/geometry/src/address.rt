@@ -1,5 +1,60 @@
 // Where a line stands in the layers, and why it isn't written.
-use owned_values::Items;
+ghost use Rattle.std.specs.Prelude.{◌≡◌, ◌++◌, ◌∷◌, [], IfOk, OnOk};
+
+use owned_values::Memory;
+use smallvec::SmallVec;
+use std::alloc::Global;
+use std::marker::Model;
+
+/// The way inside a geometry: the numbers of parts, the outermost first. Two numbers, as those of a polygon of a MultiPolygon and of
+/// its ring, take no memory of their own.
+#[derive(Debug, Drop)]
+pub struct AddressPath {
+    numbers: SmallVec<usize, 2>,
+}
+
+impl Model for AddressPath {
+    ghost use Rattle.std.specs.Prelude.{List, ℕ};
+
+    ghost Value = { List ℕ };
+
+    ghost view = { λ p. p.numbers.items };
+}
+
+impl AddressPath {
+    /// The way to a geometry itself.
+    pub fn new(alloc: Global) -> AddressPath
+        ensures { result ≡ [] }
+    {
+        AddressPath {
+            numbers: SmallVec::new(alloc),
+        }
+    }
+
+    /// The way with these numbers.
+    pub fn of(alloc: Global, numbers: &[usize]) -> Result<AddressPath, Memory>
+        ensures { IfOk result (λ path. path ≡ numbers.now) }
+    {
+        Ok(AddressPath {
+            numbers: SmallVec::from_slice(alloc, numbers)?,
+        })
+    }
+
+    /// Goes on to the part with this number.
+    pub fn push(&mut self, number: usize) -> Result<(), Memory>
+        ensures { OnOk result (self.new ≡ self.old ++ number ∷ []) }
+    {
+        self.numbers.push(number)?;
+        Ok(())
+    }
+
+    /// The numbers, the outermost first.
+    pub fn as_slice(&self) -> &[usize]
+        ensures { result.now ≡ self.now }
+    {
+        self.numbers.as_slice()
+    }
+}
 
 /// Where a line or a ring stands: the layer's number, the feature's number in the layer, and the way inside its
 /// geometry. The path of a LineString is empty. That of a line of a MultiLineString and of a ring of a Polygon is its
@@ -9,7 +64,7 @@ use owned_values::Items;
 pub struct Address {
     pub layer: usize,
     pub feature: usize,
-    pub path: Items<usize>,
+    pub path: AddressPath,
 }
 
 /// Why a line or a ring isn't written.

@@ -14,7 +14,7 @@ mod ring_area;
 mod shape;
 mod units;
 
-pub use address::{Address, Cause, Dropped};
+pub use address::{Address, AddressPath, Cause, Dropped};
 pub use arc_ref::ArcRef;
 pub use moving::{Moves, move_shape};
 pub use position::{Position, is_same};

@@ -23,7 +23,7 @@ use Rattle.junctions.specs.Notes.{Note, with_neighbors, is_two, nothing_known, n
 use Rattle.junctions.specs.Visits.{first_seen, inner_visits, is_junction, positions}
 use Rattle.junctions.proofs.Cleaned.{same_sym}
 use Rattle.junctions.proofs.Noting.{after_append, all_noted, in_lines, junction_is, notes_are}
-use Rattle.junctions.proofs.Numbers.{as_many, nowhere, numbered, numbered_member, place_of, same_number}
+use Rattle.junctions.proofs.Numbers.{as_many, nowhere, numbered, place_of, same_number}
 use Rattle.numbering.proofs.Distinct.{one_place}
 use Rattle.junctions.proofs.Distinct.{one_is}
 use Rattle.junctions.proofs.FirstSeen.{seen_in_order, seen_member}
@@ -400,10 +400,6 @@ started ls f ks vs ws ns ps i q distinct are e least at made h =
     let free : not (is_junction ls q) ≡ true = holds_at (λ q. not (is_junction ls q)) q ps all among in
     marked ls f (λ p. f p || (list_all (λ q. not (is_junction ls q)) ps && is_least p ps)) ks vs ws i q distinct at (grind (arith, free))
     (λ p. ap (λ b. f p || (b && is_least p ps)) all ∙ ap (λ b. f p || b) (least p)) made h
-
--- its least position has a number
-pub least_numbered : (ks : List Point) (ns : List ℕ) (ps : List Point) (q : Point) → AreNumbers ks ns ps → ((p : Point) → is_least p ps ≡ same p q) → is_member ks q ≡ true
-least_numbered ks ns ps q are least = numbered_member ks ns ps q are (least_among q ps (least q ∙ same_self q))
 
 -- ---- what is answered
 

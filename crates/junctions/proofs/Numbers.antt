@@ -67,19 +67,6 @@ numbered ks (n ∷ ns) [] i d e h l = cc
 numbered ks (n ∷ ns) (p ∷ ps) zero d e h l = cc
 numbered ks (n ∷ ns) (p ∷ ps) (suc i) d e h l = let t : map (slice_get ks) ns ≡ map Some ps = cc in numbered ks ns ps i d e t (omega arith)
 
--- a position of those with numbers is one of all
-pub numbered_member : (ks : List Point) (ns : List ℕ) (ps : List Point) (p : Point) → AreNumbers ks ns ps → list_any (same p) ps ≡ true → list_any (same p) ks ≡ true
-numbered_member ks ns [] p h m = cc
-numbered_member ks [] (q ∷ qs) p h m = cc
-numbered_member ks (n ∷ ns) (q ∷ qs) p h m = let t : map (slice_get ks) ns ≡ map Some qs = cc in on (same p q) refl (numbered_member ks ns qs p t)
-  where
-    here : slice_get ks n ≡ Some q
-    here = cc
-
-    on : (b : Bool) → same p q ≡ b → (list_any (same p) qs ≡ true → list_any (same p) ks ≡ true) → list_any (same p) ks ≡ true
-    on true e r = one_is ks p n (here ∙ ap Some (sym (same_is p q e)))
-    on false e r = r (sym (ap (λ b. b || list_any (same p) qs) e) ∙ m)
-
 -- numbers stay when a position comes behind
 numbers_front : (ks : List Point) (q : Point) (ns : List ℕ) (ps : List Point) → AreNumbers ks ns ps → AreNumbers (ks ++ (q ∷ [])) ns ps
 numbers_front ks q [] [] h = refl

@@ -1,11 +1,11 @@
 -- The least positions of rings without a junction.
-use Rattle.std.proofs.Common.{◌≡◌, ℕ, zero, suc, ◌+◌, ◌-◌, ◌<◌, ◌≤◌, Bool, true, false, cond, ◌||◌, List, [], ◌∷◌, ◌++◌, take, drop, get_or, length, append-nil, ap, sym, ◌∙◌, subst, arith}
+use Rattle.std.proofs.Common.{◌≡◌, ℕ, zero, suc, ◌+◌, ◌<◌, ◌≤◌, Bool, true, false, cond, ◌||◌, List, [], ◌∷◌, ◌++◌, take, drop, get_or, length, append-nil, ap, sym, ◌∙◌, subst, arith}
 use Rattle.std.specs.List.{list_any, list_all}
 use Rattle.std.proofs.Math.Bool.{or-true}
 use Rattle.std.proofs.Math.ListN.{drop_of_length-le}
 use Rattle.std.proofs.lemmas.List.Folds.{list_any_more}
 use Rattle.std.proofs.lemmas.Grind.{flat_map-append}
-use Rattle.std.proofs.lemmas.List.{take_all, take_more}
+use Rattle.std.proofs.lemmas.List.{length-append, length-drop, length-take-le, take_more}
 use Rattle.geometry.specs.Order.{is_before, is_least, least_of}
 use Rattle.geometry.specs.Points.{Point}
 use Rattle.geometry.specs.Rings.{same}
@@ -38,6 +38,14 @@ pub next_numbers : (ks : List Point) (ns : List ℕ) (ls : List Stroke) (i : ℕ
     (length s.positions ≤ length ns) × AreNumbers ks (take (length s.positions) ns) s.positions × AreNumbers ks (drop (length s.positions) ns) (positions (drop (i + 1) ls))
 next_numbers ks ns ls i s h e are = numbers_split ks ns s.positions (positions (drop (i + 1) ls)) (subst (AreNumbers ks ns) (positions_from ls i s h e) are)
 
+-- there are as many numbers as positions in a line, and behind it as positions in the lines behind it
+pub next_many : (ns : List ℕ) (ls : List Stroke) (i : ℕ) (s : Stroke) → i < length ls → s ≡ get_or ls i s → length ns ≡ length (positions (drop i ls)) →
+    (length s.positions ≤ length ns) × (length (take (length s.positions) ns) ≡ length s.positions) × (length (drop (length s.positions) ns) ≡ length (positions (drop (i + 1) ls)))
+next_many ns ls i s h e m =
+    let all : length ns ≡ length s.positions + length (positions (drop (i + 1) ls)) = m ∙ ap length (positions_from ls i s h e) ∙ length-append s.positions (positions (drop (i + 1) ls)) in
+    let few : length s.positions ≤ length ns = omega arith in
+    (few, length-take-le (length s.positions) ns few, omega (arith, length-drop (length s.positions) ns))
+
 -- the positions of the lines with one line more
 pub positions_more : (ls : List Stroke) (i : ℕ) (s : Stroke) → i < length ls → s ≡ get_or ls i s → positions (take (i + 1) ls) ≡ positions (take i ls) ++ s.positions
 positions_more ls i s h e =
@@ -67,10 +75,7 @@ pub holds_at : (t : Point → Bool) (p : Point) (ps : List Point) → list_all t
 holds_at t p [] h k = cc
 holds_at t p (q ∷ qs) h k = grind (arith, same_is, holds_at t p qs)
 
--- the least, when all positions behind the first are read
-abbrev rest : List Point → List Point
-rest ps = take (length ps - 1) (drop 1 ps)
-
-pub least_done : (ps : List Point) (x best : Point) (i : ℕ) → 0 < length ps → x ≡ get_or ps 0 x → length (rest ps) ≤ i → least_of best (drop i (rest ps)) ≡ least_of x (rest ps) →
+-- the least, when all positions are read
+pub least_done : (ps : List Point) (x best : Point) (i : ℕ) → 0 < length ps → x ≡ get_or ps 0 x → length ps ≤ i → least_of best (drop i ps) ≡ least_of x (drop 1 ps) →
     (p : Point) → is_least p ps ≡ same p best
-least_done ps x best i h k m e p = grind (arith, take_all, drop_of_length-le)
+least_done ps x best i h k m e p = grind (arith, drop_of_length-le)

@@ -1,5 +1,5 @@
 // The least positions of rings without a junction.
-ghost use Rattle.std.specs.Prelude.{◌≡◌, ◌<◌, ◌&&◌, ◌||◌, Bool, List, false, not, length, slice_set};
+ghost use Rattle.std.specs.Prelude.{◌≡◌, ◌<◌, ◌&&◌, ◌||◌, Bool, List, false, not, length, slice_index_or, slice_set};
 ghost use Rattle.std.specs.List.{list_all, list_any};
 ghost use Rattle.list_laws.specs.Lists.{AreDistinct};
 ghost use Rattle.geometry.specs.Order.{is_least};
@@ -16,51 +16,35 @@ ghost use Rattle.junctions.specs.Visits.{is_junction, positions as positions_of}
 use crate::stroke::Stroke;
 use crate::vertex::Vertex;
 use geometry::Position;
-use numbering::Numbering;
 
-/// Marks the least position of each ring without a junction.
-pub fn mark_ring_starts(
-    vertices: &mut [Vertex],
-    numbering: &Numbering<Position>,
-    numbers: &[u32],
-    strokes: &[Stroke],
-)
+/// Marks the least position of each ring without a junction, by the numbers of the positions of the lines.
+pub fn mark_ring_starts(vertices: &mut [Vertex], numbers: &[u32], strokes: &[Stroke])
     requires clean { AllClean strokes.now }
-    requires distinct { AreDistinct numbering.now }
-    requires numbers { AreNumbers numbering.now numbers.now (positions_of strokes.now) }
-    requires visited { AreCut strokes.now (λ p. false) numbering.now vertices.old }
-    ensures { AreCut strokes.now (λ p. list_any (starts_free_ring strokes.now p) strokes.now) numbering.now vertices.new }
+    requires numbered { length numbers.now ≡ length (positions_of strokes.now) }
+    ensures { (ks : List Point) → AreDistinct ks → AreNumbers ks numbers.now (positions_of strokes.now) → AreCut strokes.now (λ p. false) ks vertices.old
+        → AreCut strokes.now (λ p. list_any (starts_free_ring strokes.now p) strokes.now) ks vertices.new }
 {
     let mut rest = numbers;
     for stroke in strokes {
         let (own, behind) = rest.split_at(stroke.positions.len());
         if stroke.closed {
-            mark_ring_start(vertices, numbering, own, stroke.positions.as_slice());
+            mark_ring_start(vertices, own, stroke.positions.as_slice());
         }
         rest = behind;
     }
 }
 
 // Marks the least position of the ring, if no position of it is a junction.
-fn mark_ring_start(
-    vertices: &mut [Vertex],
-    numbering: &Numbering<Position>,
-    numbers: &[u32],
-    ring: &[Position],
-)
+fn mark_ring_start(vertices: &mut [Vertex], numbers: &[u32], ring: &[Position])
     requires some { 0 < length ring.now }
-    requires distinct { AreDistinct numbering.now }
-    requires numbers { AreNumbers numbering.now numbers.now ring.now }
-    ensures { (ls : List Line) (f : Point → Bool) → AreCut ls f numbering.now vertices.old →
-        AreCut ls (λ p. f p || (list_all (λ q. not (is_junction ls q)) ring.now && is_least p ring.now)) numbering.now vertices.new }
+    requires numbered { length numbers.now ≡ length ring.now }
+    ensures { (ls : List Line) (f : Point → Bool) (ks : List Point) → AreDistinct ks → AreNumbers ks numbers.now ring.now → AreCut ls f ks vertices.old
+        → AreCut ls (λ p. f p || (list_all (λ q. not (is_junction ls q)) ring.now && is_least p ring.now)) ks vertices.new }
 {
-    if !is_free(vertices, numbers) {
-        return;
+    if is_free(vertices, numbers) {
+        let least = index_of_least(ring);
+        start_at(vertices, numbers[least]);
     }
-    let Some(start) = numbering.find(least(ring)) else {
-        return;
-    };
-    start_at(vertices, start);
 }
 
 // Whether no position with one of these numbers is a junction.
@@ -105,16 +89,19 @@ fn start_at(vertices: &mut [Vertex], number: u32)
     }
 }
 
-// The least of the positions.
-fn least(positions: &[Position]) -> Position
+// The index of the least of the positions.
+fn index_of_least(positions: &[Position]) -> usize
     requires { 0 < length positions.now }
-    ensures { (p : Point) → is_least p positions.now ≡ same p result }
+    ensures within { result < length positions.now }
+    ensures least { (p d : Point) → is_least p positions.now ≡ same p (slice_index_or positions.now result d) }
 {
+    let mut index = 0;
     let mut least = positions[0];
-    for p in &positions[1..] {
-        if *p < least {
-            least = *p;
+    for i in 1..positions.len() {
+        if positions[i] < least {
+            index = i;
+            least = positions[i];
         }
     }
-    least
+    index
 }

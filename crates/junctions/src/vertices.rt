@@ -52,12 +52,7 @@ impl Vertices {
         let strokes = lines.as_slice();
         let (numbering, numbers) = number_lines(alloc, strokes)?;
         let mut vertices = visit_lines(alloc, numbering.keys(), numbers.as_slice(), strokes)?;
-        mark_ring_starts(
-            vertices.as_mut_slice(),
-            &numbering,
-            numbers.as_slice(),
-            strokes,
-        );
+        mark_ring_starts(vertices.as_mut_slice(), numbers.as_slice(), strokes);
         Ok(Vertices {
             numbering,
             numbers,

@@ -7,7 +7,7 @@ ghost use Rattle.junctions.specs.Gathering.{with_strokes, part_address};
 
 use crate::cleaning::cleaned;
 use geojson_types::Feature;
-use geometry::{Address, Position, Ring, Shape};
+use geometry::{Address, AddressPath, Position, Ring, Shape};
 use junctions::{Lines, Stroke};
 use owned_values::{Items, Memory};
 use std::alloc::Global;
@@ -26,7 +26,7 @@ pub fn add_layer(
             let address = Address {
                 layer,
                 feature: number,
-                path: Items::of(Vec::new(alloc)),
+                path: AddressPath::new(alloc),
             };
             add_shape(alloc, address, shape, lines)?;
         }
@@ -135,13 +135,11 @@ fn add_stroke(
 fn part_of(alloc: Global, address: &Address, number: usize) -> Result<Address, Memory>
     ensures { IfOk result (λ part. part ≡ part_address address.now number) }
 {
-    let outer = address.path.as_slice();
-    let mut path = Vec::with_capacity(alloc, outer.len() + 1)?;
-    path.extend_from_slice(outer)?;
+    let mut path = AddressPath::of(alloc, address.path.as_slice())?;
     path.push(number)?;
     Ok(Address {
         layer: address.layer,
         feature: address.feature,
-        path: Items::of(path),
+        path,
     })
 }

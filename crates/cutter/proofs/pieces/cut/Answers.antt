@@ -1,45 +1,66 @@
-use Rattle.std.proofs.Common.{◌≡◌, [], ◌∷◌, ◌++◌, length, arith, ap, sym, ◌∙◌, subst}
-use Rattle.std.specs.Vec.Iter.{into_iter_items}
+use Rattle.std.proofs.Common.{◌≡◌, ◌+◌, ◌<◌, ◌≤◌, [], ◌∷◌, ◌++◌, length, get_or, arith, ap, sym, ◌∙◌, subst}
+use Rattle.geometry.proofs.Moved.{turns}
+use Rattle.junctions.proofs.Members.{get_in}
+use Rattle.junctions.specs.Answers.{is_member}
 use Rattle.junctions.specs.Cleaning.{AllClean}
+use Rattle.junctions.specs.Cuts.{is_cut}
 use Rattle.cutter.specs.Places.{In}
 use Rattle.cutter.specs.Segments.{piece_segments, times}
-use Rattle.cutter.specs.Slices.{AllSplit, all_pieces, split_of, strokes}
-use Rattle.cutter.proofs.Known.{ready, split_known, structured_splits, in_next, next_done, next_map, all_done, none_left, still_all}
+use Rattle.cutter.specs.SharedCuts.{split_strokes}
+use Rattle.cutter.specs.Slices.{AllSplit, all_pieces, split_by, split_of, started, strokes}
 use Rattle.cutter.proofs.CleanStarts.{clean_starts}
 use Rattle.cutter.proofs.Joins.{all_split, same_times}
+use Rattle.cutter.proofs.Known.{ready, split_known, structured_splits}
+use Rattle.cutter.proofs.SharedCuts.{AreSplit, all_lines, line_more, next_line}
 use Rattle.cutter.proofs.pieces.cut.Goals as goal
 
 pub split_stroke-requires : goal.split_stroke-requires
 split_stroke-requires c =
-    let clean : AllClean c.args.lines.strokes = subst (λ l. AllClean l) c.into_parts-strokes.ensures.strokes c.into_parts-strokes.ensures.clean in
-    let left : into_iter_items c.loop-stroke.stroke-iterator ≡ c.in-Some.stroke ∷ into_iter_items c.next.new.self = c.in-Some.ensures.steps.0 in
-    let done = c.loop-stroke.invariant.0 in
-    let m : In c.in-Some.stroke c.args.lines.strokes = in_next done c.in-Some.stroke (into_iter_items c.next.new.self) c.args.lines.strokes (still_all done (into_iter_items c.loop-stroke.stroke-iterator) (c.in-Some.stroke ∷ into_iter_items c.next.new.self) c.args.lines.strokes c.loop-stroke.invariant.1 left) in
-    ready c.args.lines.strokes c.args.vertices.now c.requires c.in-Some.stroke m clean
+    let ls = c.args.lines.strokes in
+    let s = c.index_mut.result.now in
+    let clean : AllClean ls = subst (λ l. AllClean l) c.into_parts-strokes.ensures.strokes c.into_parts-strokes.ensures.clean in
+    let h : c.loop-i.i < length ls = omega (arith, c.loop-i-test.true, c.len-i-end.ensures, ap length c.into_parts-strokes.ensures.strokes) in
+    let m : In s ls = get_in ls c.loop-i.i s h (next_line ls c.loop-i.strokes.items c.loop-i.i s h c.loop-i.invariant.turned c.index_mut.ensures.value) in
+    ready ls c.args.vertices.now c.requires s m clean
 
-pub loop-stroke-preserved : goal.loop-stroke-preserved
-loop-stroke-preserved c =
-    let left : into_iter_items c.loop-stroke.stroke-iterator ≡ c.in-Some.stroke ∷ into_iter_items c.next.new.self = c.in-Some.ensures.steps.0 in
-    let done = c.loop-stroke.invariant.0 in
-    let all : done ++ (c.in-Some.stroke ∷ into_iter_items c.next.new.self) ≡ c.args.lines.strokes = still_all done (into_iter_items c.loop-stroke.stroke-iterator) (c.in-Some.stroke ∷ into_iter_items c.next.new.self) c.args.lines.strokes c.loop-stroke.invariant.1 left in
-    let m : In c.in-Some.stroke c.args.lines.strokes = in_next done c.in-Some.stroke (into_iter_items c.next.new.self) c.args.lines.strokes all in (
-      done ++ (c.in-Some.stroke ∷ []),
-      next_done done c.in-Some.stroke (into_iter_items c.next.new.self) c.args.lines.strokes all,
-      next_map (split_of c.args.lines.strokes) done c.in-Some.stroke c.loop-stroke.splits.items c.push.new.self.items c.in_ok-split_stroke.field-0 _
-          c.in_ok-push.ensures.items c.loop-stroke.invariant.2 c.in_ok-split_stroke.ensures (split_known c.args.lines.strokes c.args.vertices.now c.requires c.in-Some.stroke m),
-      omega (arith, ap length left, c.in-Some.ensures.steps.1, c.loop-stroke.invariant.3),
-    )
+pub loop-i-preserved : goal.loop-i-preserved
+loop-i-preserved c =
+    let ls = c.args.lines.strokes in
+    let i = c.loop-i.i in
+    let s = c.index_mut.result.now in
+    let t = c.split_stroke.new.stroke in
+    let cut = is_member c.args.vertices.now.cuts in
+    let new = c.split_stroke.new.cuts.items in
+    let clean : AllClean ls = subst (λ l. AllClean l) c.into_parts-strokes.ensures.strokes c.into_parts-strokes.ensures.clean in
+    let h : i < length ls = omega (arith, c.loop-i-test.true, c.len-i-end.ensures, ap length c.into_parts-strokes.ensures.strokes) in
+    let e : s ≡ get_or ls i s = next_line ls c.loop-i.strokes.items i s h c.loop-i.invariant.turned c.index_mut.ensures.value in
+    let m : In s ls = get_in ls i s h e in
+    let by : split_by cut s ≡ split_of ls s = split_known ls c.args.vertices.now c.requires s m in
+    let n : c.len-in-loop-i.result ≡ length new = omega (arith, c.len-in-loop-i.ensures) in
+    record {
+      turned = turns (started (is_cut ls)) ls i c.loop-i.strokes.items s t h c.loop-i.invariant.turned
+          (c.in_ok-split_stroke.ensures.stroke ∙ ap (λ x. x.stroke) by ∙ ap (started (is_cut ls)) c.index_mut.ensures.value);
+      split = subst (AreSplit ls (i + 1) new) (sym (c.in_ok-push.ensures.items ∙ ap (λ k. c.loop-i.ends.items ++ (k ∷ [])) n))
+          (line_more ls i s t cut c.loop-i.cuts.items new c.loop-i.ends.items h e c.in_ok-split_stroke.ensures.stroke by (ready ls c.args.vertices.now c.requires s m clean).ends
+          c.in_ok-split_stroke.ensures.cuts c.loop-i.invariant.split);
+    }
 
 pub invariant_of-result : goal.invariant_of-result
 invariant_of-result c =
-    let clean : AllClean c.args.lines.strokes = subst (λ l. AllClean l) c.into_parts-strokes.ensures.strokes c.into_parts-strokes.ensures.clean in
-    let left : into_iter_items c.loop-stroke.stroke-iterator ≡ [] = none_left (into_iter_items c.loop-stroke.stroke-iterator) (sym c.loop-stroke.invariant.3 ∙ c.in-None.ensures.steps.0) in
-    let e = all_done (split_of c.args.lines.strokes) c.loop-stroke.invariant.0 (into_iter_items c.loop-stroke.stroke-iterator) c.args.lines.strokes c.loop-stroke.splits.items c.loop-stroke.invariant.1 left c.loop-stroke.invariant.2 in
-    (structured_splits c.args.lines.strokes c.loop-stroke.splits.items clean e, subst (λ l. AllSplit l) (sym e) (all_split c.args.lines.strokes clean), subst (λ l. AllClean (strokes l)) (sym e) (clean_starts c.args.lines.strokes clean))
+    let ls = c.args.lines.strokes in
+    let clean : AllClean ls = subst (λ l. AllClean l) c.into_parts-strokes.ensures.strokes c.into_parts-strokes.ensures.clean in
+    let h : length ls ≤ c.loop-i.i = omega (arith, c.loop-i-test.false, c.len-i-end.ensures, ap length c.into_parts-strokes.ensures.strokes) in
+    let r = all_lines ls c.loop-i.strokes.items c.loop-i.i c.loop-i.cuts.items c.loop-i.ends.items h c.loop-i.invariant.turned c.loop-i.invariant.split in (
+      r.0,
+      structured_splits ls (split_strokes c.loop-i.cuts.items 0 c.loop-i.strokes.items c.loop-i.ends.items) clean r.1,
+      subst (λ l. AllSplit l) (sym r.1) (all_split ls clean),
+      subst (λ l. AllClean (strokes l)) (sym r.1) (clean_starts ls clean),
+    )
 
 pub returns-clause-segments : goal.returns-clause-segments
 returns-clause-segments c = λ a b.
-    let clean : AllClean c.args.lines.strokes = subst (λ l. AllClean l) c.into_parts-strokes.ensures.strokes c.into_parts-strokes.ensures.clean in
-    let left : into_iter_items c.loop-stroke.stroke-iterator ≡ [] = none_left (into_iter_items c.loop-stroke.stroke-iterator) (sym c.loop-stroke.invariant.3 ∙ c.in-None.ensures.steps.0) in
-    let e = all_done (split_of c.args.lines.strokes) c.loop-stroke.invariant.0 (into_iter_items c.loop-stroke.stroke-iterator) c.args.lines.strokes c.loop-stroke.splits.items c.loop-stroke.invariant.1 left c.loop-stroke.invariant.2 in
-    ap (λ l. times a b (piece_segments (all_pieces l))) e ∙ same_times c.args.lines.strokes clean a b
+    let ls = c.args.lines.strokes in
+    let clean : AllClean ls = subst (λ l. AllClean l) c.into_parts-strokes.ensures.strokes c.into_parts-strokes.ensures.clean in
+    let h : length ls ≤ c.loop-i.i = omega (arith, c.loop-i-test.false, c.len-i-end.ensures, ap length c.into_parts-strokes.ensures.strokes) in
+    let r = all_lines ls c.loop-i.strokes.items c.loop-i.i c.loop-i.cuts.items c.loop-i.ends.items h c.loop-i.invariant.turned c.loop-i.invariant.split in
+    ap (λ l. times a b (piece_segments (all_pieces l))) r.1 ∙ same_times ls clean a b

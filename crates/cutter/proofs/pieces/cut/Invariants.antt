@@ -1,13 +1,12 @@
-use Rattle.std.proofs.Common.{◌≡◌, List, ◌++◌, length, map}
-use Rattle.std.specs.Vec.Iter.{into_iter_items, into_iter_len}
-use Rattle.junctions.specs.declared.stroke.Stroke.{Stroke}
-use Rattle.cutter.specs.Slices.{split_of}
+use Rattle.geometry.proofs.Moved.{Replaced}
+use Rattle.junctions.specs.Cuts.{is_cut}
+use Rattle.cutter.specs.Slices.{started}
+use Rattle.cutter.proofs.SharedCuts.{AreSplit}
 use Rattle.cutter.proofs.pieces.cut.Given as goal
 
--- those that are done, before those that are left, are all of them
-abbrev pub invariant-loop-stroke : goal.invariant-loop-stroke
-invariant-loop-stroke l =
-    (done : List Stroke)
-    × (done ++ into_iter_items l.stroke-iterator ≡ l.fn.lines.strokes)
-    × (l.splits.items ≡ map (split_of l.fn.lines.strokes) done)
-    × (into_iter_len l.stroke-iterator ≡ length (into_iter_items l.stroke-iterator))
+-- the lines before the index are split, and those behind it are as they were
+abbrev pub invariant-loop-i : goal.invariant-loop-i
+invariant-loop-i l = record {
+  turned : Replaced (started (is_cut l.fn.lines.strokes)) l.fn.lines.strokes l.i l.strokes.items;
+  split : AreSplit l.fn.lines.strokes l.i l.cuts.items l.ends.items;
+}

@@ -17,7 +17,7 @@ loop-number-preserved c =
     elim c.match-shape.branch [
       | in-Some+in_ok-add_shape w ↦
           let e : Some w.in-Some.shape.now ≡ c.index-features-number.result.shape = w.in-Some.ensures.value in
-          let p : w.of.result ≡ [] = w.of.ensures ∙ w.new.ensures.items in
+          let p : w.new.result ≡ [] = w.new.ensures in
           w.lines-is ∙ w.in_ok-add_shape.ensures
           ∙ ap (λ p. with_strokes c.loop-number.lines (map (stroke_at (record { layer = c.args.layer; feature = c.loop-number.number; path = p })) (placed_strokes w.in-Some.shape.now))) p
           ∙ ap (λ o. with_strokes c.loop-number.lines (map (stroke_at (feature_address c.args.layer c.loop-number.number)) (option_placed o))) e

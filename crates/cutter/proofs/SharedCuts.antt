@@ -1,0 +1,181 @@
+-- Lines that share one list of cut indexes: one line more, and each of them.
+use Rattle.std.proofs.Common.{◌≡◌, ℕ, zero, suc, ◌+◌, ◌-◌, ◌<◌, ◌≤◌, Bool, false, List, [], ◌∷◌, ◌++◌, take, drop, length, map, get_or, slice_get, Some, refl, ap, sym, ◌∙◌, subst, arith}
+use Rattle.std.specs.List.{slice_range}
+use Rattle.std.proofs.lemmas.List.{get_or-append_right, get_or-drop, length-append, length-drop, length-map, length-take-le, map-append, take-append-le, take_all, take_more}
+use Rattle.geometry.proofs.Moved.{Replaced, ends}
+use Rattle.geometry.specs.Points.{Point}
+use Rattle.junctions.specs.declared.stroke.Stroke.{Stroke}
+use Rattle.junctions.specs.Cuts.{is_cut}
+use Rattle.cutter.specs.Pieces.{from_start}
+use Rattle.cutter.specs.SharedCuts.{AreCutIndexes, split_strokes}
+use Rattle.cutter.specs.Slices.{SplitStroke, slices, indexes, started, split_by, split_of, EndsPass, IsRising, piece_lists, strokes}
+use Rattle.cutter.proofs.Known.{split_view}
+use Rattle.cutter.proofs.SliceLaws.{indexes_rise}
+
+drop_front : (a : ℕ) (cuts more : List ℕ) → a ≤ length cuts → drop a (cuts ++ more) ≡ drop a cuts ++ more
+drop_front zero cuts more h = refl
+drop_front (suc a) [] more h = absurd (omega arith)
+drop_front (suc a) (c ∷ cuts) more h = drop_front a cuts more (omega arith)
+
+drop_whole : (cuts more : List ℕ) → drop (length cuts) (cuts ++ more) ≡ more
+drop_whole [] more = refl
+drop_whole (c ∷ cuts) more = drop_whole cuts more
+
+take_whole : (more : List ℕ) → take (length more) more ≡ more
+take_whole [] = refl
+take_whole (c ∷ more) = ap (λ l. c ∷ l) (take_whole more)
+
+-- indexes of lines before stay where they are
+range_front : (cuts more : List ℕ) (a b : ℕ) → a ≤ b → b ≤ length cuts → slice_range (cuts ++ more) a b ≡ slice_range cuts a b
+range_front cuts more a b h k =
+    let n : b - a ≤ length (drop a cuts) = omega (arith, length-drop a cuts) in
+    ap (take (b - a)) (drop_front a cuts more (omega arith)) ∙ take-append-le (b - a) (drop a cuts) more n
+
+-- those of the last line
+range_back : (cuts more : List ℕ) (a : ℕ) → a ≡ length cuts → slice_range (cuts ++ more) a (length (cuts ++ more)) ≡ more
+range_back cuts more a e =
+    let n : length (cuts ++ more) - length cuts ≡ length more = omega (arith, length-append cuts more) in
+    ap (λ k. take (length (cuts ++ more) - k) (drop k (cuts ++ more))) e ∙ ap (take (length (cuts ++ more) - length cuts)) (drop_whole cuts more)
+    ∙ ap (λ k. take k more) n ∙ take_whole more
+
+-- a line, where one is wanted that is never read
+abbrev pub no_line : Stroke
+no_line = record { address = record { layer = 0; feature = 0; path = [] }; closed = false; positions = [] }
+
+-- a line with the pieces between these indexes
+abbrev pub with_pieces : Stroke → List ℕ → SplitStroke
+with_pieces s is = record { stroke = s; pieces = slices s.positions is }
+
+-- one line more
+pub split_more : (cuts more : List ℕ) (from : ℕ) (ss : List Stroke) (es : List ℕ) (s : Stroke) → AreCutIndexes cuts from ss es →
+    split_strokes (cuts ++ more) from (ss ++ (s ∷ [])) (es ++ (length (cuts ++ more) ∷ [])) ≡ split_strokes cuts from ss es ++ (with_pieces s more ∷ [])
+split_more cuts more from [] [] s h = ap (λ is. with_pieces s is ∷ []) (range_back cuts more from h)
+split_more cuts more from [] (e ∷ es) s h = elim h [ ]
+split_more cuts more from (t ∷ ss) [] s h = elim h [ ]
+split_more cuts more from (t ∷ ss) (e ∷ es) s h =
+    ap (λ is. with_pieces t is ∷ split_strokes (cuts ++ more) e (ss ++ (s ∷ [])) (es ++ (length (cuts ++ more) ∷ []))) (range_front cuts more from e h.0 h.1)
+    ∙ ap (λ l. with_pieces t (slice_range cuts from e) ∷ l) (split_more cuts more e ss es s h.3)
+
+pub indexes_more : (cuts more : List ℕ) (from : ℕ) (ss : List Stroke) (es : List ℕ) (s : Stroke) → AreCutIndexes cuts from ss es → IsRising (length s.positions) more →
+    AreCutIndexes (cuts ++ more) from (ss ++ (s ∷ [])) (es ++ (length (cuts ++ more) ∷ []))
+indexes_more cuts more from [] [] s h r =
+    (omega (arith, h, length-append cuts more), omega arith, subst (IsRising (length s.positions)) (sym (range_back cuts more from h)) r, refl)
+indexes_more cuts more from [] (e ∷ es) s h r = elim h [ ]
+indexes_more cuts more from (t ∷ ss) [] s h r = elim h [ ]
+indexes_more cuts more from (t ∷ ss) (e ∷ es) s h r =
+    (h.0, omega (arith, h.1, length-append cuts more), subst (IsRising (length t.positions)) (sym (range_front cuts more from e h.0 h.1)) h.2, indexes_more cuts more e ss es s h.3 r)
+
+-- the lines themselves
+pub strokes_of : (cuts : List ℕ) (from : ℕ) (ss : List Stroke) (es : List ℕ) → AreCutIndexes cuts from ss es → strokes (split_strokes cuts from ss es) ≡ ss
+strokes_of cuts from [] [] h = refl
+strokes_of cuts from [] (e ∷ es) h = elim h [ ]
+strokes_of cuts from (s ∷ ss) [] h = elim h [ ]
+strokes_of cuts from (s ∷ ss) (e ∷ es) h = ap (λ l. s ∷ l) (strokes_of cuts e ss es h.3)
+
+pub as_many_splits : (cuts : List ℕ) (from : ℕ) (ss : List Stroke) (es : List ℕ) → AreCutIndexes cuts from ss es → length (split_strokes cuts from ss es) ≡ length ss
+as_many_splits cuts from [] [] h = refl
+as_many_splits cuts from [] (e ∷ es) h = elim h [ ]
+as_many_splits cuts from (s ∷ ss) [] h = elim h [ ]
+as_many_splits cuts from (s ∷ ss) (e ∷ es) h = ap suc (as_many_splits cuts e ss es h.3)
+
+-- the cut indexes of one of the lines
+pub record AtLine (cuts : List ℕ) (from : ℕ) (ss : List Stroke) (es : List ℕ) (i : ℕ) (d : Stroke) : Type 0 where
+  pub ends : length es ≡ length ss
+  pub order : get_or (from ∷ es) i 0 ≤ get_or es i 0
+  pub within : get_or es i 0 ≤ length cuts
+  pub rising : IsRising (length (get_or ss i d).positions) (slice_range cuts (get_or (from ∷ es) i 0) (get_or es i 0))
+  pub pieces : slice_get (piece_lists (split_strokes cuts from ss es)) i ≡ Some (slices (get_or ss i d).positions (slice_range cuts (get_or (from ∷ es) i 0) (get_or es i 0)))
+
+pub at_line : (cuts : List ℕ) (from : ℕ) (ss : List Stroke) (es : List ℕ) (i : ℕ) (d : Stroke) → AreCutIndexes cuts from ss es → i < length ss → AtLine cuts from ss es i d
+at_line cuts from [] es i d h k = absurd (omega arith)
+at_line cuts from (s ∷ ss) [] i d h k = elim h [ ]
+at_line cuts from (s ∷ ss) (e ∷ es) zero d h k = record { ends = ap suc (many e ss es h.3); order = h.0; within = h.1; rising = h.2; pieces = refl }
+  where
+    many : (from : ℕ) (ss : List Stroke) (es : List ℕ) → AreCutIndexes cuts from ss es → length es ≡ length ss
+    many from [] [] h = refl
+    many from [] (e ∷ es) h = elim h [ ]
+    many from (s ∷ ss) [] h = elim h [ ]
+    many from (s ∷ ss) (e ∷ es) h = ap suc (many e ss es h.3)
+at_line cuts from (s ∷ ss) (e ∷ es) (suc i) d h k =
+    let r = at_line cuts e ss es i d h.3 (omega arith) in
+    record { ends = ap suc r.ends; order = r.order; within = r.within; rising = r.rising; pieces = r.pieces }
+
+-- the line has an end
+pub has_end : (cuts : List ℕ) (ss : List Stroke) (es : List ℕ) (all : List SplitStroke) (ns : List ℕ) (i : ℕ) → split_strokes cuts 0 ss es ≡ all → AreCutIndexes cuts 0 ss es →
+    i < length all → ns ≡ es → i < length ns
+has_end cuts ss es all ns i view h k en =
+    let many : length all ≡ length ss = sym (ap length view) ∙ as_many_splits cuts 0 ss es h in
+    let r = at_line cuts 0 ss es i no_line h (omega arith) in
+    omega (arith, r.ends, ap length en)
+
+-- the indexes between these places are those of the line
+pub record IsOwn (all : List SplitStroke) (ss : List Stroke) (cs : List ℕ) (first end i : ℕ) : Type 0 where
+  pub line : i < length ss
+  pub order : first ≤ end
+  pub within : end ≤ length cs
+  pub rising : (d : Stroke) → IsRising (length (get_or ss i d).positions) (slice_range cs first end)
+  pub pieces : (d : Stroke) → slice_get (piece_lists all) i ≡ Some (slices (get_or ss i d).positions (slice_range cs first end))
+
+pub own_cuts : (cuts : List ℕ) (ss : List Stroke) (es : List ℕ) (all : List SplitStroke) (cs ns : List ℕ) (i first : ℕ) → split_strokes cuts 0 ss es ≡ all → AreCutIndexes cuts 0 ss es →
+    i < length all → cs ≡ cuts → ns ≡ es → first ≡ get_or (0 ∷ ns) i 0 → IsOwn all ss cs first (get_or ns i 0) i
+own_cuts cuts ss es all cs ns i first view h k ec en ef =
+    let many : length all ≡ length ss = sym (ap length view) ∙ as_many_splits cuts 0 ss es h in
+    let l : i < length ss = omega arith in
+    let r = at_line cuts 0 ss es i no_line h l in
+    subst (λ w. IsOwn all ss w first (get_or ns i 0) i) (sym ec)
+    (subst (λ n. IsOwn all ss cuts n (get_or ns i 0) i) (sym ef)
+    (subst (λ w. IsOwn all ss cuts (get_or (0 ∷ w) i 0) (get_or w i 0) i) (sym en)
+    (subst (λ w. IsOwn w ss cuts (get_or (0 ∷ es) i 0) (get_or es i 0) i) view (record {
+      line = l;
+      order = r.order;
+      within = r.within;
+      rising = λ d. (at_line cuts 0 ss es i d h l).rising;
+      pieces = λ d. (at_line cuts 0 ss es i d h l).pieces;
+    }))))
+
+-- the lines before this place, rings from their starts
+abbrev pub started_before : List Stroke → ℕ → List Stroke
+started_before ls i = map (started (is_cut ls)) (take i ls)
+
+-- the lines before this place are split at the cut indexes
+pub record AreSplit (ls : List Stroke) (i : ℕ) (cuts ends : List ℕ) : Type 0 where
+  pub within : AreCutIndexes cuts 0 (started_before ls i) ends
+  pub split : split_strokes cuts 0 (started_before ls i) ends ≡ map (split_of ls) (take i ls)
+
+map_more : {Y : Type 0} (f : Stroke → Y) (ls : List Stroke) (i : ℕ) (s : Stroke) → i < length ls → s ≡ get_or ls i s → map f (take (i + 1) ls) ≡ map f (take i ls) ++ (f s ∷ [])
+map_more f ls i s h e = ap (map f) (take_more ls i s h ∙ ap (λ z. take i ls ++ (z ∷ [])) (sym e)) ∙ map-append f (take i ls) (s ∷ [])
+
+-- one line more is split
+pub line_more : (ls : List Stroke) (i : ℕ) (s t : Stroke) (cut : Point → Bool) (cuts new ends : List ℕ) → i < length ls → s ≡ get_or ls i s → t ≡ started cut s →
+    split_by cut s ≡ split_of ls s → EndsPass cut (from_start cut s) → new ≡ cuts ++ indexes cut 0 t.positions → AreSplit ls i cuts ends → AreSplit ls (i + 1) new (ends ++ (length new ∷ []))
+line_more ls i s t cut cuts new ends h e st by pass en so =
+    let more = indexes cut 0 t.positions in
+    let same : started (is_cut ls) s ≡ t = sym (ap (λ x. x.stroke) by) ∙ sym st in
+    let lines : started_before ls (i + 1) ≡ started_before ls i ++ (t ∷ []) = map_more (started (is_cut ls)) ls i s h e ∙ ap (λ z. started_before ls i ++ (z ∷ [])) same in
+    let rise : IsRising (length t.positions) more = indexes_rise cut (length t.positions) 0 t.positions (omega arith) in
+    let one : with_pieces t more ≡ split_of ls s = split_view cut s t more st refl pass ∙ by in
+    subst (λ n. AreSplit ls (i + 1) n (ends ++ (length n ∷ []))) (sym en) (record {
+      within = subst (λ l. AreCutIndexes (cuts ++ more) 0 l (ends ++ (length (cuts ++ more) ∷ []))) (sym lines) (indexes_more cuts more 0 (started_before ls i) ends t so.within rise);
+      split = ap (λ l. split_strokes (cuts ++ more) 0 l (ends ++ (length (cuts ++ more) ∷ []))) lines
+          ∙ split_more cuts more 0 (started_before ls i) ends t so.within
+          ∙ ap (λ l. l ++ (with_pieces t more ∷ [])) so.split
+          ∙ ap (λ z. map (split_of ls) (take i ls) ++ (z ∷ [])) one
+          ∙ sym (map_more (split_of ls) ls i s h e);
+    })
+
+-- the line at the place is that of all lines
+pub next_line : (ls ss : List Stroke) (i : ℕ) (s : Stroke) → i < length ls → Replaced (started (is_cut ls)) ls i ss → s ≡ get_or ss i s → s ≡ get_or ls i s
+next_line ls ss i s h so e =
+    let n : length (started_before ls i) ≡ i = length-map (take i ls) (started (is_cut ls)) ∙ length-take-le i ls (omega arith) in
+    let here : i + (i - i) ≡ i = omega arith in
+    e ∙ ap (λ l. get_or l i s) so.made ∙ get_or-append_right (started_before ls i) (drop i ls) i i s n (omega arith) ∙ get_or-drop i ls (i - i) s ∙ ap (λ k. get_or ls k s) here
+
+-- all lines are split
+pub all_lines : (ls ss : List Stroke) (i : ℕ) (cuts es : List ℕ) → length ls ≤ i → Replaced (started (is_cut ls)) ls i ss → AreSplit ls i cuts es →
+    AreCutIndexes cuts 0 ss es × (split_strokes cuts 0 ss es ≡ map (split_of ls) ls)
+all_lines ls ss i cuts es h so split =
+    let whole : take i ls ≡ ls = take_all i ls h in
+    let lines : started_before ls i ≡ ss = ap (map (started (is_cut ls))) whole ∙ sym (ends (started (is_cut ls)) ls i ss h so) in (
+      subst (λ l. AreCutIndexes cuts 0 l es) lines split.within,
+      ap (λ l. split_strokes cuts 0 l es) (sym lines) ∙ split.split ∙ ap (map (split_of ls)) whole,
+    )

@@ -1,7 +1,0 @@
-use Rattle.std.proofs.Common.{◌≡◌, take}
-use Rattle.junctions.specs.Answers.{is_member}
-use Rattle.cutter.specs.Slices.{indexes}
-use Rattle.cutter.proofs.splitting.cut_indexes.Given as goal
-
-abbrev pub invariant-loop-i : goal.invariant-loop-i
-invariant-loop-i l = l.cuts.items ≡ indexes (is_member l.vertices.cuts) 0 (take l.i l.positions)

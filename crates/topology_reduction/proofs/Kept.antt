@@ -1,6 +1,5 @@
 -- Lists of what is kept of the elements of another one, from the front on.
-use Rattle.std.proofs.Common.{arith, ◌≡◌, List, [], ◌∷◌, ◌++◌, map, Option, None, Some, append_assoc, append-nil, sym, ap, ◌∙◌}
-use Rattle.std.proofs.lemmas.List.{map-append}
+use Rattle.std.proofs.Common.{arith, ◌≡◌, List, [], ◌∷◌, ◌++◌, Option, None, Some, append_assoc, append-nil, sym, ap, ◌∙◌}
 use Rattle.build_meaning.proofs.Candidates.{some_append}
 use Rattle.list_laws.specs.Lists.{with_some, some_of}
 
@@ -15,8 +14,3 @@ none_more f front now xs x o so is none = some_more f front now now xs x o so is
 pub one_more : {A B : Type 0} (f : A → Option B) (front now new : List B) (xs : List A) (x : A) (o : Option B) (y : B) → now ≡ front ++ some_of f xs → o ≡ f x → o ≡ Some y → new ≡ now ++ y ∷ []
     → new ≡ front ++ some_of f (xs ++ x ∷ [])
 one_more f front now new xs x o y so is some e = some_more f front now new xs x o so is (e ∙ sym (ap (λ w. now ++ with_some w []) some))
-
--- ---- what is made of each
-
-pub made_more : {A B : Type 0} (f : A → B) (made new : List B) (xs : List A) (x : A) (y : B) → made ≡ map f xs → y ≡ f x → new ≡ made ++ y ∷ [] → new ≡ map f (xs ++ x ∷ [])
-made_more f made new xs x y so is e = e ∙ ap (λ ys. ys ++ y ∷ []) so ∙ ap (λ z. map f xs ++ z ∷ []) is ∙ sym (map-append f xs (x ∷ []))

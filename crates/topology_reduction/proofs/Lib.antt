@@ -1,4 +1,5 @@
 pub mod Drops
+pub mod Front
 pub mod Kept
 pub mod Marks
 pub mod Picks

@@ -1,6 +1,7 @@
 -- The topology that is put together is the one that is left.
-use Rattle.std.proofs.Common.{arith, ◌≡◌, ℕ, zero, suc, ◌-◌, ℤ, Bool, true, List, [], ◌∷◌, map, length, Option, None, Some, refl, sym, ap, ◌∙◌, subst}
+use Rattle.std.proofs.Common.{arith, ◌≡◌, ℕ, zero, suc, ◌-◌, ℤ, Bool, true, List, [], ◌∷◌, ◌++◌, map, length, take, drop, Option, None, Some, refl, sym, ap, ◌∙◌, subst}
 use Rattle.std.specs.List.{AllByRecursion}
+use Rattle.std.proofs.lemmas.List.{length-map}
 use Rattle.arc_choice.specs.Rebuilding.{Rebuilding}
 use Rattle.arc_choice.specs.Uses.{answers}
 use Rattle.arc_choice.proofs.Ranked.{RanksOf, all_renumbered}
@@ -11,10 +12,11 @@ use Rattle.geometry.specs.declared.address.Cause.{Cause}
 use Rattle.geometry.specs.Joins.{AreInRange}
 use Rattle.geometry.specs.Omissions.{dropped_of_layers}
 use Rattle.geometry.specs.Pruning.{strokes}
+use Rattle.geometry.proofs.Moved.{refilled}
 use Rattle.geometry.proofs.Omitted.{omissions_agree}
 use Rattle.geojson_types.specs.Features.{is_some_list}
 use Rattle.geometry.specs.Points.{Point, IsPosition}
-use Rattle.lessened_topology.specs.Lessened.{Refs, large_refs, objects_pruned, picked_arcs, picked_whole, EachFromFirstToLast, lessened_by, option_small, small_cause, dropped_by, taken_out_by}
+use Rattle.lessened_topology.specs.Lessened.{Refs, large_refs, object_pruned, objects_pruned, picked_arcs, picked_whole, EachFromFirstToLast, lessened_by, option_small, small_cause, dropped_by, taken_out_by}
 use Rattle.lessened_topology.proofs.Again.{all_hold}
 use Rattle.lessened_topology.proofs.Objects.{objects_then, objects_left}
 use Rattle.lessened_topology.proofs.ValidPicked.{picked_length}
@@ -56,6 +58,15 @@ objects_ranked ranks u os are h =
     sym (objects_then as_they_are (ranked_refs ranks) (ranked_refs ranks) os (all_hold (λ b. ranked_refs ranks b.0 b.1 ≡ ranked_refs ranks b.0 b.1) (λ b. refl) (objects_strokes os)))
     ∙ objects_then as_they_are (ranked_refs ranks) (line_renumbered u) os
     (all_weaker (InRange (length ranks)) (λ b. ranked_refs ranks b.0 b.1 ≡ line_renumbered u b.0 b.1) (λ b r. ap (λ z. Some z) (all_renumbered ranks u b.1 are r)) (objects_strokes os) h)
+
+-- ---- objects that are changed in place
+
+-- what is written back to the list that was lent whole
+pub put_back : (kept : Refs) (n : ℕ) (os now new : Objects) → n ≡ length os → now ≡ os → new ≡ objects_pruned kept now → take n (new ++ drop (length new) os) ≡ objects_pruned kept now
+put_back kept n os now new many same is = refilled (λ o. (o.0, object_pruned kept o.1)) n os new many (is ∙ ap (objects_pruned kept) same) ∙ ap (objects_pruned kept) (sym same)
+
+pub as_many : (kept : Refs) (n : ℕ) (os left : Objects) → n ≡ length os → left ≡ objects_pruned kept os → n ≡ length left
+as_many kept n os left many is = many ∙ sym (ap length is ∙ length-map os (λ o. (o.0, object_pruned kept o.1)))
 
 -- ---- flags
 

@@ -13,12 +13,8 @@ use topojson_types::ArcRef;
 impl<'a> Keeps for Rebuilding<'a> {
     ghost keeps = { λ arcs. large_refs arcs.limit arcs.arcs };
 
-    fn kept(&self, closed: bool, refs: Items<ArcRef>) -> Option<Items<ArcRef>> {
-        if self.is_small(closed, refs.as_slice()) {
-            None
-        } else {
-            Some(refs)
-        }
+    fn keep(&self, closed: bool, refs: &mut Items<ArcRef>) -> bool {
+        !self.is_small(closed, refs.as_slice())
     }
 }
 
@@ -47,9 +43,8 @@ impl<'a> Ranked<'a> {
 impl<'a> Keeps for Ranked<'a> {
     ghost keeps = { ranked_refs };
 
-    fn kept(&self, _closed: bool, refs: Items<ArcRef>) -> Option<Items<ArcRef>> {
-        let mut refs = refs;
+    fn keep(&self, _closed: bool, refs: &mut Items<ArcRef>) -> bool {
         renumber_all(refs.as_mut_slice(), self.ranks);
-        Some(refs)
+        true
     }
 }

@@ -1,5 +1,5 @@
 // What is left of a draft of a topology.
-ghost use Rattle.std.specs.Prelude.{◌≡◌, ◌-◌, ◌≤◌, ℕ, Bool, IfOk, length, map, sum};
+ghost use Rattle.std.specs.Prelude.{◌≡◌, ◌-◌, ◌≤◌, ℕ, Bool, IfOk, OnOk, length, map, sum};
 ghost use Rattle.std.specs.List.{AllByRecursion};
 ghost use Rattle.std.specs.Option.{option_copied};
 ghost use Rattle.arc_choice.specs.Uses.{answers};
@@ -19,7 +19,7 @@ use crate::choosing::Ranked;
 use crate::dropping::dropped_lines;
 use crate::marking::used_arcs;
 use crate::placing::placed_arcs;
-use crate::pruning::pruned_objects;
+use crate::pruning::prune_objects;
 use arc_choice::{Rebuilding, kept_arcs, ranks, taken_out, used_positions};
 use geojson_types::Dropped;
 use json_value::{Items, OwnText};
@@ -27,92 +27,80 @@ use owned_values::Memory;
 use std::alloc::Global;
 use topojson_types::{Cell, TopoObject, Transform};
 
-/// The objects without the lines and rings that are small where they are rebuilt of these arcs.
-fn without_small(
+/// Leaves out the lines and rings of the objects that are small where they are rebuilt of these arcs. They are, in reading order, what
+/// comes back.
+fn leave_out_small(
     alloc: Global,
-    objects: Vec<(OwnText, TopoObject)>,
+    objects: &mut [(OwnText, TopoObject)],
     arcs: &Rebuilding<'_>,
-) -> Result<Vec<(OwnText, TopoObject)>, Memory>
-    ensures { IfOk result (λ left. left.items ≡ objects_pruned (large_refs arcs.now.limit arcs.now.arcs) objects.items) }
+) -> Result<Vec<Dropped>, Memory>
+    ensures objects { OnOk result (objects.new ≡ objects_pruned (large_refs arcs.now.limit arcs.now.arcs) objects.old) }
+    ensures dropped { IfOk result (λ dropped. dropped.items ≡ objects_drops arcs.now 0 objects.old) }
 {
-    let left = pruned_objects(alloc, arcs, objects)?;
-    Ok(left)
+    let dropped = dropped_lines(alloc, objects, arcs)?;
+    prune_objects(alloc, arcs, objects)?;
+    Ok(dropped)
 }
 
-/// The same, and those lines and rings, in reading order.
-fn large_over(
+/// Leaves out those that are small where the positions of the arcs are those that their cells stand for, and twice the area of a ring
+/// may not be under the limit.
+fn leave_out_dropped(
     alloc: Global,
-    objects: Vec<(OwnText, TopoObject)>,
-    arcs: &Rebuilding<'_>,
-) -> Result<(Vec<(OwnText, TopoObject)>, Vec<Dropped>), Memory>
-    ensures objects { IfOk result (λ r. r.0.items ≡ objects_pruned (large_refs arcs.now.limit arcs.now.arcs) objects.items) }
-    ensures dropped { IfOk result (λ r. r.1.items ≡ objects_drops arcs.now 0 objects.items) }
-{
-    let dropped = dropped_lines(alloc, &objects, arcs)?;
-    let left = without_small(alloc, objects, arcs)?;
-    Ok((left, dropped))
-}
-
-/// The same, where the positions of the arcs are those that their cells stand for, and twice the area of a ring may not be under the
-/// limit.
-fn large_objects(
-    alloc: Global,
-    objects: Vec<(OwnText, TopoObject)>,
+    objects: &mut [(OwnText, TopoObject)],
     arcs: &[Items<Cell>],
     transform: Option<&Transform>,
     ring_limit: u128,
-) -> Result<(Vec<(OwnText, TopoObject)>, Vec<Dropped>), Memory>
+) -> Result<Vec<Dropped>, Memory>
     requires places { AllByRecursion (λ arc. AllByRecursion (IsPlace (option_copied transform)) arc) arcs.now }
     requires limit { ring_limit ≤ threshold_limit }
-    ensures objects { IfOk result (λ r. r.0.items
-        ≡ objects_pruned (large_refs ring_limit (all_placed (option_copied transform.entry) arcs.now)) objects.items) }
-    ensures dropped { IfOk result (λ r. r.1.items
-        ≡ objects_drops (record { arcs = all_placed (option_copied transform.entry) arcs.now; limit = ring_limit }) 0 objects.items) }
+    ensures objects { OnOk result (objects.new
+        ≡ objects_pruned (large_refs ring_limit (all_placed (option_copied transform.entry) arcs.now)) objects.old) }
+    ensures dropped { IfOk result (λ dropped. dropped.items
+        ≡ objects_drops (record { arcs = all_placed (option_copied transform.entry) arcs.now; limit = ring_limit }) 0 objects.old) }
 {
     match transform {
-        None => large_over(alloc, objects, &Rebuilding::of(arcs, ring_limit)),
+        None => leave_out_small(alloc, objects, &Rebuilding::of(arcs, ring_limit)),
         Some(_) => {
             let placed = placed_arcs(alloc, arcs, transform)?;
-            large_over(alloc, objects, &Rebuilding::of(&placed, ring_limit))
+            leave_out_small(alloc, objects, &Rebuilding::of(&placed, ring_limit))
         }
     }
 }
 
-/// The objects with new indexes, where only the arcs with a set flag are left.
-fn renumbered(
+/// Replaces the arc indexes of the objects, where only the arcs with a set flag are left.
+fn renumber(
     alloc: Global,
-    objects: Vec<(OwnText, TopoObject)>,
+    objects: &mut [(OwnText, TopoObject)],
     used: &[bool],
-) -> Result<Vec<(OwnText, TopoObject)>, Memory>
-    requires { AllByRecursion (λ b. AreInRange (length used.now) b.1) (objects_strokes objects.items) }
-    ensures { IfOk result (λ left. (u : ℕ → Bool) → used.now ≡ answers u 0 (length used.now) → left.items ≡ objects_pruned (line_renumbered u) objects.items) }
+) -> Result<(), Memory>
+    requires { AllByRecursion (λ b. AreInRange (length used.now) b.1) (objects_strokes objects.old) }
+    ensures { OnOk result ((u : ℕ → Bool) → used.now ≡ answers u 0 (length used.now) → objects.new ≡ objects_pruned (line_renumbered u) objects.old) }
 {
     let ranks = ranks(alloc, used)?;
-    let left = pruned_objects(alloc, &Ranked::by(&ranks), objects)?;
-    Ok(left)
+    prune_objects(alloc, &Ranked::by(&ranks), objects)
 }
 
-/// The objects and the picked arcs without the arcs that no line or ring of these objects uses, with new indexes, and how many of the
-/// positions of the other arcs were not picked.
+/// The picked arcs without those that no line or ring of the objects uses, and how many of the positions of the others were not picked.
+/// The objects have the new indexes.
 fn without_unused<P>(
     alloc: Global,
-    objects: Vec<(OwnText, TopoObject)>,
+    objects: &mut [(OwnText, TopoObject)],
     arcs: &[Items<P>],
     picked: Vec<Items<Cell>>,
-) -> Result<(Vec<(OwnText, TopoObject)>, Vec<Items<Cell>>, u64), Memory>
+) -> Result<(Vec<Items<Cell>>, u64), Memory>
     requires many { length picked.items ≡ length arcs.now }
-    requires ranged { AllByRecursion (λ b. AreInRange (length picked.items) b.1) (objects_strokes objects.items) }
-    ensures objects { IfOk result (λ r. r.0.items ≡ objects_pruned (line_renumbered (is_used objects.items)) objects.items) }
-    ensures arcs { IfOk result (λ r. r.1.items ≡ keep_from (is_used objects.items) 0 picked.items) }
-    ensures taken_out { IfOk result (λ r. r.2
-        ≡ saturated (sum (map length (keep_from (is_used objects.items) 0 arcs.now)) - positions_of (keep_from (is_used objects.items) 0 picked.items))) }
+    requires ranged { AllByRecursion (λ b. AreInRange (length picked.items) b.1) (objects_strokes objects.old) }
+    ensures objects { OnOk result (objects.new ≡ objects_pruned (line_renumbered (is_used objects.old)) objects.old) }
+    ensures arcs { IfOk result (λ r. r.0.items ≡ keep_from (is_used objects.old) 0 picked.items) }
+    ensures taken_out { IfOk result (λ r. r.1
+        ≡ saturated (sum (map length (keep_from (is_used objects.old) 0 arcs.now)) - positions_of (keep_from (is_used objects.old) 0 picked.items))) }
 {
-    let used = used_arcs(alloc, &objects, picked.len())?;
+    let used = used_arcs(alloc, objects, picked.len())?;
     let before = used_positions(arcs, &used);
     let after = used_positions(&picked, &used);
-    let left = renumbered(alloc, objects, &used)?;
+    renumber(alloc, objects, &used)?;
     let stay = kept_arcs(alloc, picked, &used)?;
-    Ok((left, stay, taken_out(before, after)))
+    Ok((stay, taken_out(before, after)))
 }
 
 /// What is left of objects over arcs of which only the picked cells stay: without the lines and rings that have no arc index, or are
@@ -146,7 +134,8 @@ pub fn finish<P>(
         ≡ saturated (sum (map length (keep_from (is_used (objects_pruned (large_refs ring_limit (all_placed (option_copied transform.entry) picked.items)) objects.items)) 0 arcs.now))
         - positions_of (keep_from (is_used (objects_pruned (large_refs ring_limit (all_placed (option_copied transform.entry) picked.items)) objects.items)) 0 picked.items))) }
 {
-    let (large, dropped) = large_objects(alloc, objects, &picked, transform, ring_limit)?;
-    let (left, stay, taken) = without_unused(alloc, large, arcs, picked)?;
+    let mut left = objects;
+    let dropped = leave_out_dropped(alloc, left.as_mut_slice(), &picked, transform, ring_limit)?;
+    let (stay, taken) = without_unused(alloc, left.as_mut_slice(), arcs, picked)?;
     Ok((left, stay, dropped, taken))
 }

@@ -1,5 +1,7 @@
-// Geometries without some of their lines and rings, and with the arc indexes of the others replaced. What stays is moved.
-ghost use Rattle.std.specs.Prelude.{◌≡◌, ◌++◌, ℤ, Bool, false, true, List, Option, IfOk, OnOk, map};
+// Geometries without some of their lines and rings, and with the arc indexes of the others replaced. What stays is changed where it
+// stands: only a collection and a MultiPolygon have a list made anew.
+ghost use Rattle.std.specs.Prelude.{◌≡◌, ◌≤◌, ℤ, Bool, false, true, List, Option, None, Some, IfOk, OnOk, length, map, take};
+ghost use Rattle.std.specs.Bool.{OnFalse, OnTrue};
 ghost use Rattle.geometry.specs.declared.shape.Geometry.TheVariants as kind;
 ghost use Rattle.geometry.specs.Lists.{map_some, some_of, then_some, unless_empty};
 ghost use Rattle.geometry.specs.Pruning.{area_by, prune};
@@ -16,75 +18,67 @@ pub trait Keeps {
     /// The arc indexes that stand for an open line (false) or a ring (true), if it stays.
     ghost keeps: { Self → Bool → List ℤ → Option (List ℤ) };
 
-    fn kept(&self, closed: bool, refs: Items<ArcRef>) -> Option<Items<ArcRef>>
-        ensures { result ≡ keeps self.now closed refs };
+    /// Whether it stays. Where it does, its arc indexes are replaced by those.
+    fn keep(&self, closed: bool, refs: &mut Items<ArcRef>) -> bool
+        ensures stays { OnTrue result (keeps self.now closed refs.old ≡ Some refs.new) }
+        ensures goes { OnFalse result (keeps self.now closed refs.old ≡ None) };
 }
 
-/// Adds those of the open lines or rings that stay.
-fn add_kept<K: Keeps>(
-    keeps: &K,
-    closed: bool,
-    lines: Vec<Items<ArcRef>>,
-    kept: &mut Vec<Items<ArcRef>>,
-) -> Result<(), Memory>
-    ensures { OnOk result (kept.new.items ≡ kept.old.items ++ some_of (K.keeps keeps.now closed) lines.items) }
+/// Moves those of the open lines or rings that stay to the front, in order. This many they are.
+fn keep_in_front<K: Keeps>(keeps: &K, closed: bool, lines: &mut [Items<ArcRef>]) -> usize
+    ensures within { result ≤ length lines.new }
+    ensures kept { take result lines.new ≡ some_of (K.keeps keeps.now closed) lines.old }
 {
-    'lines: for line in lines {
-        let Some(refs) = keeps.kept(closed, line) else {
-            continue;
-        };
-        kept.push(refs)?;
+    let mut kept: usize = 0;
+    for i in 0..lines.len() {
+        if keeps.keep(closed, &mut lines[i]) {
+            lines.swap(kept, i);
+            kept += 1;
+        }
     }
-    Ok(())
+    kept
 }
 
 /// The line, if it stays.
 fn pruned_line<K: Keeps>(keeps: &K, refs: Items<ArcRef>) -> Option<TopoShape>
     ensures { result ≡ map_some kind.Line (K.keeps keeps.now false refs) }
 {
-    match keeps.kept(false, refs) {
-        None => None,
-        Some(refs) => Some(Geometry::Line(refs)),
+    let mut refs = refs;
+    if keeps.keep(false, &mut refs) {
+        Some(Geometry::Line(refs))
+    } else {
+        None
     }
 }
 
 /// Those of the lines that stay, if any does.
 #[tactic(auto, using(arc_choice::proofs::Kept::empty_left, arc_choice::proofs::Kept::some_left))]
-fn pruned_lines<K: Keeps>(
-    alloc: Global,
-    keeps: &K,
-    lines: Vec<Items<ArcRef>>,
-) -> Result<Option<TopoShape>, Memory>
-    ensures { IfOk result (λ left. left ≡ unless_empty kind.Lines (some_of (K.keeps keeps.now false) lines.items)) }
+fn pruned_lines<K: Keeps>(keeps: &K, lines: Vec<Items<ArcRef>>) -> Option<TopoShape>
+    ensures { result ≡ unless_empty kind.Lines (some_of (K.keeps keeps.now false) lines.items) }
 {
-    let mut kept = Vec::with_capacity(alloc, lines.len())?;
-    add_kept(keeps, false, lines, &mut kept)?;
-    if kept.is_empty() {
-        return Ok(None);
+    let mut lines = lines;
+    let kept = keep_in_front(keeps, false, lines.as_mut_slice());
+    lines.truncate(kept);
+    if lines.is_empty() {
+        return None;
     }
-    Ok(Some(Geometry::Lines(Items::of(kept))))
+    Some(Geometry::Lines(Items::of(lines)))
 }
 
 /// The rings of a polygon that stay, which is left out with its outer ring.
-fn pruned_area<K: Keeps>(
-    alloc: Global,
-    keeps: &K,
-    rings: Vec<Items<ArcRef>>,
-) -> Result<Option<Items<Items<ArcRef>>>, Memory>
-    ensures { IfOk result (λ area. area ≡ area_by (K.keeps keeps.now true) rings.items) }
+fn pruned_area<K: Keeps>(keeps: &K, rings: Vec<Items<ArcRef>>) -> Option<Items<Items<ArcRef>>>
+    ensures { result ≡ area_by (K.keeps keeps.now true) rings.items }
 {
     if rings.is_empty() {
-        return Ok(None);
+        return None;
     }
-    let mut kept = Vec::with_capacity(alloc, rings.len())?;
-    let mut holes = rings;
-    let outer = holes.remove(0);
-    let Some(outer) = keeps.kept(true, outer) else {
-        return Ok(None);
-    };
-    kept.push(outer)?;
-    add_kept(keeps, true, holes, &mut kept)?;
-    Ok(Some(Items::of(kept)))
+    let mut rings = rings;
+    if !keeps.keep(true, &mut rings[0]) {
+        return None;
+    }
+    let holes = keep_in_front(keeps, true, &mut rings[1..]);
+    rings.truncate(1 + holes);
+    Some(Items::of(rings))
 }
 
 /// Those of the polygons that stay, if any does.
@@ -98,7 +92,7 @@ fn pruned_areas<K: Keeps>(
 {
     let mut kept = Vec::with_capacity(alloc, areas.len())?;
     'areas: for rings in areas {
-        let Some(area) = pruned_area(alloc, keeps, rings.into_inner())? else {
+        let Some(area) = pruned_area(keeps, rings.into_inner()) else {
             continue;
         };
         kept.push(area)?;
@@ -110,17 +104,12 @@ fn pruned_areas<K: Keeps>(
 }
 
 /// The polygon without the rings that don't stay, if its outer ring does.
-fn pruned_polygon<K: Keeps>(
-    alloc: Global,
-    keeps: &K,
-    rings: Vec<Items<ArcRef>>,
-) -> Result<Option<TopoShape>, Memory>
-    ensures { IfOk result (λ left. left ≡ map_some kind.Area (area_by (K.keeps keeps.now true) rings.items)) }
+fn pruned_polygon<K: Keeps>(keeps: &K, rings: Vec<Items<ArcRef>>) -> Option<TopoShape>
+    ensures { result ≡ map_some kind.Area (area_by (K.keeps keeps.now true) rings.items) }
 {
-    let area = pruned_area(alloc, keeps, rings)?;
-    match area {
-        None => Ok(None),
-        Some(kept) => Ok(Some(Geometry::Area(kept))),
+    match pruned_area(keeps, rings) {
+        None => None,
+        Some(kept) => Some(Geometry::Area(kept)),
     }
 }
 
@@ -137,8 +126,8 @@ fn pruned_shape<K: Keeps>(
         Geometry::Point(cell) => Ok(Some(Geometry::Point(cell))),
         Geometry::MultiPoint(cells) => Ok(Some(Geometry::MultiPoint(cells))),
         Geometry::Line(refs) => Ok(pruned_line(keeps, refs)),
-        Geometry::Lines(lines) => pruned_lines(alloc, keeps, lines.into_inner()),
-        Geometry::Area(rings) => pruned_polygon(alloc, keeps, rings.into_inner()),
+        Geometry::Lines(lines) => Ok(pruned_lines(keeps, lines.into_inner())),
+        Geometry::Area(rings) => Ok(pruned_polygon(keeps, rings.into_inner())),
         Geometry::Areas(areas) => pruned_areas(alloc, keeps, areas.into_inner()),
         Geometry::Group(shapes) => {
             let shapes = shapes.into_inner();
@@ -154,7 +143,7 @@ fn pruned_shape<K: Keeps>(
     }
 }
 
-/// The same of a shape that may be null.
+/// A shape that may be null without the lines and rings that don't stay.
 fn pruned_option<K: Keeps>(
     alloc: Global,
     keeps: &K,
@@ -168,71 +157,53 @@ fn pruned_option<K: Keeps>(
     }
 }
 
-/// The feature with its shape pruned.
-fn pruned_feature<K: Keeps>(
+/// Prunes the shape of a feature.
+fn prune_feature<K: Keeps>(
     alloc: Global,
     keeps: &K,
-    feature: TopoFeature,
-) -> Result<TopoFeature, Memory>
-    ensures { IfOk result (λ left. left ≡ feature_pruned (K.keeps keeps.now) feature) }
+    feature: &mut TopoFeature,
+) -> Result<(), Memory>
+    ensures { OnOk result (feature.new ≡ feature_pruned (K.keeps keeps.now) feature.old) }
 {
-    let TopoFeature {
-        id,
-        properties,
-        shape,
-    } = feature;
-    let shape = pruned_option(alloc, keeps, shape)?;
-    Ok(TopoFeature {
-        id,
-        properties,
-        shape,
-    })
+    let shape = feature.shape.take();
+    feature.shape = pruned_option(alloc, keeps, shape)?;
+    Ok(())
 }
 
-/// The same of features in order.
-fn pruned_features<K: Keeps>(
+/// Prunes the shapes of features.
+fn prune_features<K: Keeps>(
     alloc: Global,
     keeps: &K,
-    features: Vec<TopoFeature>,
-) -> Result<Vec<TopoFeature>, Memory>
-    ensures { IfOk result (λ left. left.items ≡ map (feature_pruned (K.keeps keeps.now)) features.items) }
+    features: &mut [TopoFeature],
+) -> Result<(), Memory>
+    ensures { OnOk result (features.new ≡ map (feature_pruned (K.keeps keeps.now)) features.old) }
 {
-    let mut made = Vec::with_capacity(alloc, features.len())?;
-    'features: for feature in features {
-        made.push(pruned_feature(alloc, keeps, feature)?)?;
+    'features: for feature in features.iter_mut() {
+        prune_feature(alloc, keeps, feature)?;
     }
-    Ok(made)
+    Ok(())
 }
 
-/// The object with the shapes of its features pruned.
-fn pruned_object<K: Keeps>(
-    alloc: Global,
-    keeps: &K,
-    object: TopoObject,
-) -> Result<TopoObject, Memory>
-    ensures { IfOk result (λ left. left ≡ object_pruned (K.keeps keeps.now) object) }
+/// Prunes the shapes of the features of an object.
+fn prune_object<K: Keeps>(alloc: Global, keeps: &K, object: &mut TopoObject) -> Result<(), Memory>
+    ensures { OnOk result (object.new ≡ object_pruned (K.keeps keeps.now) object.old) }
 {
     match object {
-        TopoObject::One(feature) => Ok(TopoObject::One(pruned_feature(alloc, keeps, feature)?)),
-        TopoObject::Many(features) => {
-            let features = pruned_features(alloc, keeps, features.into_inner())?;
-            Ok(TopoObject::Many(Items::of(features)))
-        }
+        TopoObject::One(feature) => prune_feature(alloc, keeps, feature),
+        TopoObject::Many(features) => prune_features(alloc, keeps, features.as_mut_slice()),
     }
 }
 
-/// The same of named objects in order.
-pub fn pruned_objects<K: Keeps>(
+/// Prunes the shapes of the features of all objects.
+pub fn prune_objects<K: Keeps>(
     alloc: Global,
     keeps: &K,
-    objects: Vec<(OwnText, TopoObject)>,
-) -> Result<Vec<(OwnText, TopoObject)>, Memory>
-    ensures { IfOk result (λ left. left.items ≡ objects_pruned (K.keeps keeps.now) objects.items) }
+    objects: &mut [(OwnText, TopoObject)],
+) -> Result<(), Memory>
+    ensures { OnOk result (objects.new ≡ objects_pruned (K.keeps keeps.now) objects.old) }
 {
-    let mut made = Vec::with_capacity(alloc, objects.len())?;
-    'objects: for (name, object) in objects {
-        let object = pruned_object(alloc, keeps, object)?;
-        made.push((name, object))?;
+    'objects: for object in objects.iter_mut() {
+        prune_object(alloc, keeps, &mut object.1)?;
     }
-    Ok(made)
+    Ok(())
 }

@@ -11,32 +11,32 @@ use Rattle.topojson_types.specs.Topologies.{objects_strokes}
 use Rattle.topology_reduction.proofs.Result.{flags_are, flags_long}
 use Rattle.topology_reduction.proofs.finishing.without_unused.Goals as goal
 
-pub renumbered-requires : goal.renumbered-requires
-renumbered-requires o c =
-    let flags : c.in_ok-used.used.items ≡ answers (is_used c.args.objects.items) 0 (length c.args.picked.items) =
-    flags_are c.args.objects.items c.deref.result.now c.args.picked.items c.len.result c.in_ok-used.used.items c.deref.ensures.value (c.len.ensures ∙ c.args.picked.ok.0) c.in_ok-used.ensures in
-    subst (λ n. AllByRecursion (λ b. AreInRange n b.1) (objects_strokes c.args.objects.items))
-    (flags_long (is_used c.args.objects.items) c.in_ok-used.used.items c.deref-5.result.now (length c.args.picked.items) flags c.deref-5.ensures.value).1 c.requires.ranged
+pub renumber-requires : goal.renumber-requires
+renumber-requires o c =
+    let flags : c.in_ok-used.used.items ≡ answers (is_used c.args.objects.now) 0 (length c.args.picked.items) =
+    flags_are c.args.objects.now c.args.objects.now c.args.picked.items c.len.result c.in_ok-used.used.items refl (c.len.ensures ∙ c.args.picked.ok.0) c.in_ok-used.ensures in
+    subst (λ n. AllByRecursion (λ b. AreInRange n b.1) (objects_strokes c.args.objects.now))
+    (flags_long (is_used c.args.objects.now) c.in_ok-used.used.items c.deref-4.result.now (length c.args.picked.items) flags c.deref-4.ensures.value).1 c.requires.ranged
 
 pub returns-clause-objects : goal.returns-clause-objects
 returns-clause-objects o c =
-    let flags : c.in_ok-used.used.items ≡ answers (is_used c.args.objects.items) 0 (length c.args.picked.items) =
-    flags_are c.args.objects.items c.deref.result.now c.args.picked.items c.len.result c.in_ok-used.used.items c.deref.ensures.value (c.len.ensures ∙ c.args.picked.ok.0) c.in_ok-used.ensures in
-    c.in_ok-left.ensures (is_used c.args.objects.items) (flags_long (is_used c.args.objects.items) c.in_ok-used.used.items c.deref-5.result.now (length c.args.picked.items) flags c.deref-5.ensures.value).0
+    let flags : c.in_ok-used.used.items ≡ answers (is_used c.args.objects.now) 0 (length c.args.picked.items) =
+    flags_are c.args.objects.now c.args.objects.now c.args.picked.items c.len.result c.in_ok-used.used.items refl (c.len.ensures ∙ c.args.picked.ok.0) c.in_ok-used.ensures in
+    c.in_ok-renumber.ensures (is_used c.args.objects.now) (flags_long (is_used c.args.objects.now) c.in_ok-used.used.items c.deref-4.result.now (length c.args.picked.items) flags c.deref-4.ensures.value).0
 
 pub returns-clause-arcs : goal.returns-clause-arcs
 returns-clause-arcs o c =
-    let flags : c.in_ok-used.used.items ≡ answers (is_used c.args.objects.items) 0 (length c.args.picked.items) =
-    flags_are c.args.objects.items c.deref.result.now c.args.picked.items c.len.result c.in_ok-used.used.items c.deref.ensures.value (c.len.ensures ∙ c.args.picked.ok.0) c.in_ok-used.ensures in
-    c.in_ok-stay.ensures ∙ chosen_as (is_used c.args.objects.items) (length c.args.picked.items) c.deref-6.result.now c.args.picked.items (c.deref-6.ensures.value ∙ flags) refl
+    let flags : c.in_ok-used.used.items ≡ answers (is_used c.args.objects.now) 0 (length c.args.picked.items) =
+    flags_are c.args.objects.now c.args.objects.now c.args.picked.items c.len.result c.in_ok-used.used.items refl (c.len.ensures ∙ c.args.picked.ok.0) c.in_ok-used.ensures in
+    c.in_ok-stay.ensures ∙ chosen_as (is_used c.args.objects.now) (length c.args.picked.items) c.deref-5.result.now c.args.picked.items (c.deref-5.ensures.value ∙ flags) refl
 
 pub returns-clause-taken_out : goal.returns-clause-taken_out
 returns-clause-taken_out o c =
-    let u = is_used c.args.objects.items in
+    let u = is_used c.args.objects.now in
     let n = length c.args.picked.items in
-    let flags : c.in_ok-used.used.items ≡ answers (is_used c.args.objects.items) 0 (length c.args.picked.items) =
-    flags_are c.args.objects.items c.deref.result.now c.args.picked.items c.len.result c.in_ok-used.used.items c.deref.ensures.value (c.len.ensures ∙ c.args.picked.ok.0) c.in_ok-used.ensures in
+    let flags : c.in_ok-used.used.items ≡ answers (is_used c.args.objects.now) 0 (length c.args.picked.items) =
+    flags_are c.args.objects.now c.args.objects.now c.args.picked.items c.len.result c.in_ok-used.used.items refl (c.len.ensures ∙ c.args.picked.ok.0) c.in_ok-used.ensures in
     c.taken_out.ensures
-    ∙ ap (λ k. saturated (k - c.used_positions-after.result)) (c.used_positions-before.ensures ∙ ap (λ xs. sum (map length xs)) (chosen_as u n c.deref-2.result.now c.args.arcs.now (c.deref-2.ensures.value ∙ flags) c.requires.many))
+    ∙ ap (λ k. saturated (k - c.used_positions-after.result)) (c.used_positions-before.ensures ∙ ap (λ xs. sum (map length xs)) (chosen_as u n c.deref.result.now c.args.arcs.now (c.deref.ensures.value ∙ flags) c.requires.many))
     ∙ ap (λ k. saturated (sum (map length (keep_from u 0 c.args.arcs.now)) - k))
-    (c.used_positions-after.ensures ∙ ap (λ arcs. positions_of (chosen c.deref-4.result.now arcs)) c.deref-3.ensures.value ∙ ap positions_of (chosen_as u n c.deref-4.result.now c.args.picked.items (c.deref-4.ensures.value ∙ flags) refl))
+    (c.used_positions-after.ensures ∙ ap (λ arcs. positions_of (chosen c.deref-3.result.now arcs)) c.deref-2.ensures.value ∙ ap positions_of (chosen_as u n c.deref-3.result.now c.args.picked.items (c.deref-3.ensures.value ∙ flags) refl))

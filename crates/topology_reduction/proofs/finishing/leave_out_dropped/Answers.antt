@@ -1,13 +1,13 @@
 use Rattle.std.proofs.Common.{ap, sym, subst, ◌∙◌}
 use Rattle.std.specs.List.{AllByRecursion}
 use Rattle.std.specs.Option.{option_copied}
-use Rattle.std.proofs.lemmas.Result.{IfOk-weaker}
+use Rattle.std.proofs.lemmas.Result.{on_ok_weaker}
 use Rattle.arc_choice.specs.Rebuilding.{Rebuilding}
 use Rattle.geometry.specs.Points.{IsPosition}
 use Rattle.lessened_topology.specs.Lessened.{large_refs, objects_pruned}
 use Rattle.topojson_types.specs.Decoding.{placed_arcs}
 use Rattle.topology_reduction.proofs.Result.{are_positions}
-use Rattle.topology_reduction.proofs.finishing.large_objects.Goals as goal
+use Rattle.topology_reduction.proofs.finishing.leave_out_dropped.Goals as goal
 
 pub of-requires-in-Some-clause-places : goal.of-requires-in-Some-clause-places
 of-requires-in-Some-clause-places c =
@@ -15,6 +15,6 @@ of-requires-in-Some-clause-places c =
 
 pub returns-in-None-clause-objects : goal.returns-in-None-clause-objects
 returns-in-None-clause-objects c =
-    IfOk-weaker c.large_over.result _ _
-    (λ r h. h ∙ ap (λ (o : Rebuilding). objects_pruned (large_refs o.limit o.arcs) c.args.objects.items) c.of.ensures
-    ∙ ap (λ t. objects_pruned (large_refs c.args.ring_limit (placed_arcs (option_copied t) c.args.arcs.now)) c.args.objects.items) (sym c.in-None.is)) c.large_over.ensures.objects
+    on_ok_weaker c.leave_out_small.result
+    (λ h. h ∙ ap (λ (o : Rebuilding). objects_pruned (large_refs o.limit o.arcs) c.args.objects.now) c.of.ensures
+    ∙ ap (λ t. objects_pruned (large_refs c.args.ring_limit (placed_arcs (option_copied t) c.args.arcs.now)) c.args.objects.now) (sym c.in-None.is)) c.leave_out_small.ensures.objects

@@ -239,16 +239,16 @@ impl FeatureParts {
 fn feature_name_at<'a>(alloc: Global, bytes: &'a [u8]) -> Result<(Name<'a>, &'a [u8]), Fault>
     ensures { Names bytes.now result }
 {
-    if let Some(found) = named_at("geometry", bytes) {
-        return Ok(found);
-    }
-    if let Some(found) = named_at("properties", bytes) {
-        return Ok(found);
-    }
     if let Some(found) = named_at("type", bytes) {
         return Ok(found);
     }
     if let Some(found) = named_at("id", bytes) {
+        return Ok(found);
+    }
+    if let Some(found) = named_at("geometry", bytes) {
+        return Ok(found);
+    }
+    if let Some(found) = named_at("properties", bytes) {
         return Ok(found);
     }
     name_at(alloc, bytes)

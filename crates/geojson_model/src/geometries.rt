@@ -16,11 +16,10 @@ ghost use Rattle.geojson_model.specs.declared.geometries.Start.{Start as Begun};
 use crate::leading::{first_fault, led_at, twice_at};
 use crate::seen::Seen;
 use crate::shapes::coordinates_at;
+use crate::type_names::type_name_at;
 use geojson_meaning::{CoordinatesType, GeoFaultKind, GeoJsonType, GeometryType, geojson_type};
 use geojson_types::{Counts, Shape};
-use json_cursor::{
-    Mark, Members, Name, Stop, behind_byte, mark_at, name_at, object_into, string_at,
-};
+use json_cursor::{Mark, Members, Name, Stop, behind_byte, mark_at, name_at, object_into};
 use json_reading::{Fault, Why, skip};
 use json_value::Items;
 use std::alloc::{AllocFailed, Global};
@@ -66,7 +65,7 @@ pub(crate) fn type_at<'a>(
 ) -> Result<(Result<GeoJsonType, GeoFaultKind>, &'a [u8]), Fault>
     ensures { Meets IsType deep bytes.now result }
 {
-    let Some((name, rest)) = string_at(alloc, bytes)? else {
+    let Some((name, rest)) = type_name_at(alloc, bytes)? else {
         let rest = after_value(alloc, deep, bytes)?;
         return Ok((Err(GeoFaultKind::WrongKind), rest));
     };

@@ -7,9 +7,10 @@ ghost use Rattle.geojson_model.specs.Members.{BeginsGeometry, LeadsGeometry, Rep
 ghost use Rattle.geojson_model.specs.Members as spec;
 
 use crate::geometries::{Parts, Start};
+use crate::type_names::type_name_at;
 use geojson_meaning::{GeoFaultKind, GeometryType, geometry_type};
 use geojson_types::Counts;
-use json_cursor::{behind_byte, named_at, object_into, string_at};
+use json_cursor::{behind_byte, named_at, object_into};
 use json_reading::{Fault, skip};
 use std::alloc::Global;
 
@@ -47,7 +48,7 @@ pub(crate) fn led_at<'a>(
     let Some((_type, value)) = named_at("type", skip(inside)) else {
         return Ok(None);
     };
-    let Some((name, rest)) = string_at(alloc, value)? else {
+    let Some((name, rest)) = type_name_at(alloc, value)? else {
         return Ok(None);
     };
     let Some(kind) = geometry_type(name.as_str()) else {

@@ -14,6 +14,7 @@ mod positions;
 mod seen;
 mod shapes;
 mod texts;
+mod type_names;
 mod values;
 
 pub use features::feature_at;

@@ -1,5 +1,5 @@
 // Arrays read as lists.
-ghost use Rattle.std.specs.Prelude.{◌≡◌, ◌++◌, if◌then◌else◌, List, IfOk, OnOk, Some, None, length, option_to_list};
+ghost use Rattle.std.specs.Prelude.{◌≡◌, ◌++◌, [], if◌then◌else◌, List, IfOk, OnOk, Some, None, length, option_to_list};
 ghost use Rattle.json_value.specs.declared.json.Json.{Json};
 ghost use Rattle.json_members.specs.Readers.{Counting, gather};
 ghost use Rattle.geojson_types.specs.declared.counts.Counts.{Counts as Counted};
@@ -9,6 +9,7 @@ ghost use Rattle.json_cursor.specs.Folds.{with_read};
 
 use crate::folds::{Elements, folded_array_at, folded_at, folded_some_at};
 use crate::marks::{Mark, Opening, mark_at, opening_at};
+use crate::room::arrays_ahead;
 use crate::stop::Stop;
 use geojson_types::Counts;
 use json_reading::skip;
@@ -110,9 +111,8 @@ pub fn array_at<'a, E: Element>(
 ) -> Result<(Items<E::Read>, &'a [u8]), Stop<E::Fault>>
     ensures { Answers (λ x. x) (array_by wrong (gather (E.reads reader))) (front_value deep bytes.now) counts.old counts.new result }
 {
-    let start = Listed::<E> {
-        list: Vec::new(alloc),
-    };
+    let list = Vec::with_capacity(alloc, arrays_ahead(bytes))?;
+    let start = Listed::<E> { list };
     match folded_array_at::<Listed<E>>(alloc, deep, start, bytes, wrong, reader, counts) {
         Err(stop) => Err(stop),
         Ok((listed, rest)) => Ok((items_of(listed), rest)),
@@ -130,9 +130,8 @@ pub fn some_array_at<'a, E: Element>(
 ) -> Result<(Option<Items<E::Read>>, &'a [u8]), Stop<E::Fault>>
     ensures { Answers (λ x. x) (some_array_by wrong (always (gather (E.reads reader)))) (front_value deep bytes.now) counts.old counts.new result }
 {
-    let start = Listed::<E> {
-        list: Vec::new(alloc),
-    };
+    let list = Vec::with_capacity(alloc, arrays_ahead(bytes))?;
+    let start = Listed::<E> { list };
     match folded_some_at::<Listed<E>>(alloc, deep, start, bytes, wrong, reader, counts) {
         Err(stop) => Err(stop),
         Ok((read, rest)) => {
@@ -144,11 +143,16 @@ pub fn some_array_at<'a, E: Element>(
     }
 }
 
-/// No one, or one.
-fn begun<E: Element>(alloc: Global, one: Option<E::Read>) -> Result<Listed<E>, AllocFailed<E::Read>>
+/// No one, or one, in a list that was empty.
+#[inline(always)]
+fn begun<E: Element>(
+    empty: Vec<E::Read>,
+    one: Option<E::Read>,
+) -> Result<Listed<E>, AllocFailed<E::Read>>
+    requires { empty.items ≡ [] }
     ensures { IfOk result (λ x. x ≡ option_to_list one) }
 {
-    let mut list = Vec::new(alloc);
+    let mut list = empty;
     push_some(&mut list, one)?;
     Ok(Listed { list })
 }
@@ -181,12 +185,15 @@ fn led_at<'a, E: Element>(
         Err(stop) => Err(stop),
         Ok((first, behind)) => {
             let leads = first.is_some();
-            let before = begun::<E>(alloc, first)?;
             let (mark, more) = mark_at(behind);
             match mark {
                 Mark::Neither => Err(Stop::NoValue),
-                Mark::Close => Ok((led(leads, before), more)),
+                Mark::Close => {
+                    let alone = begun::<E>(Vec::with_capacity(alloc, 1)?, first)?;
+                    Ok((led(leads, alone), more))
+                }
                 Mark::Comma => {
+                    let before = begun::<E>(Vec::new(alloc), first)?;
                     match folded_at::<Listed<E>>(
                         alloc,
                         deep,

@@ -12,6 +12,7 @@ mod marks;
 mod members;
 mod names;
 mod passing;
+mod room;
 mod stop;
 mod texts;
 
@@ -21,7 +22,8 @@ pub use held::held_array_at;
 pub use kinds::{Kind, kind_at};
 pub use marks::{Mark, Opening, behind_byte, mark_at, opening_at};
 pub use members::{Members, object_at, object_into};
-pub use names::{Name, name_at, named_at, string_at};
+pub use names::{Name, name_at, named_at, string_at, word_at};
 pub use passing::after_elements;
+pub use room::{arrays_ahead, numbers_ahead};
 pub use stop::Stop;
 pub use texts::{Refusal, Whole, read_text};

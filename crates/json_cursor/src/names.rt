@@ -1,5 +1,5 @@
 // The names of members.
-ghost use Rattle.std.specs.Prelude.{◌≡◌, IfSome, Ok, bytes_eq, true};
+ghost use Rattle.std.specs.Prelude.{◌≡◌, IfSome, Ok, Some, bytes_eq, true};
 ghost use Rattle.std.specs.Str.{is_utf8};
 ghost use Rattle.json_value.specs.Reading as reading;
 ghost use Rattle.json_reading.specs.Gives.{Gives};
@@ -83,7 +83,38 @@ pub fn name_at<'a>(alloc: Global, bytes: &'a [u8]) -> Result<(Name<'a>, &'a [u8]
     Ok((name, skip(behind)))
 }
 
-/// This word as the name of the member at the front, and where its value begins, if it stands there as it is: without a look for its end.
+/// What follows this word and the quotation mark behind it, where a string's front stands so in the text: without a look for its end.
+#[inline(always)]
+fn quoted_at<'a>(word: &str, inside: &'a [u8]) -> Option<&'a [u8]>
+    requires { simple word.now ≡ true }
+    ensures { IfSome result (λ rest. reading.string_at is_utf8 inside.now ≡ Some (word.now, rest.now)) }
+{
+    let Some(quoted) = after_word(word.as_bytes(), inside) else {
+        return None;
+    };
+    let Some(name_end) = behind_byte(b'"', quoted) else {
+        return None;
+    };
+    Some(name_end)
+}
+
+/// This word as the string at the front, and what follows it, if it stands there as it is.
+#[inline(always)]
+pub fn word_at<'a>(word: &'static str, bytes: &'a [u8]) -> Option<(Name<'a>, &'a [u8])>
+    requires { simple word.now ≡ true }
+    ensures string { IfSome result (λ x. ReadsString bytes.now (Ok (Some x))) }
+    ensures word { IfSome result (λ x. name_of x.0 ≡ word.now) }
+{
+    let Some(inside) = behind_byte(b'"', bytes) else {
+        return None;
+    };
+    let Some(rest) = quoted_at(word, inside) else {
+        return None;
+    };
+    Some((Name::Plain(word), rest))
+}
+
+/// This word as the name of the member at the front, and where its value begins, if it stands there as it is.
 #[inline(always)]
 pub fn named_at<'a>(word: &'static str, bytes: &'a [u8]) -> Option<(Name<'a>, &'a [u8])>
     requires { simple word.now ≡ true }
@@ -93,10 +124,7 @@ pub fn named_at<'a>(word: &'static str, bytes: &'a [u8]) -> Option<(Name<'a>, &'
     let Some(inside) = behind_byte(b'"', bytes) else {
         return None;
     };
-    let Some(quoted) = after_word(word.as_bytes(), inside) else {
-        return None;
-    };
-    let Some(name_end) = behind_byte(b'"', quoted) else {
+    let Some(name_end) = quoted_at(word, inside) else {
         return None;
     };
     let Some(behind) = behind_byte(b':', skip(name_end)) else {

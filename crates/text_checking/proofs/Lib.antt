@@ -1,3 +1,6 @@
+pub mod LaneParts
+mod FoundFirst
+mod SimpleLanes
 pub mod Passed
 pub mod Texts
 pub mod Words

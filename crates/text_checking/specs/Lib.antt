@@ -1,2 +1,3 @@
+pub mod Finding
 pub mod Passes
 pub mod Strings

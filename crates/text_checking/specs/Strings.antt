@@ -14,3 +14,7 @@ simple (b ∷ bs) = is_simple b && simple bs
 -- behind only such bytes stands a quotation mark (34), and then the rest
 abbrev pub EndsPlain : List ℕ → List ℕ → List ℕ → Type 0
 EndsPlain inside text rest = (inside ≡ text ++ 34 ∷ rest) × (simple text ≡ true)
+
+-- these follow only such bytes
+abbrev pub PassesSimple : List ℕ → List ℕ → Type 0
+PassesSimple bytes rest = (text : List ℕ) × (bytes ≡ text ++ rest) × (simple text ≡ true)

@@ -1,13 +1,16 @@
 // Strings (RFC 8259, section 7): what follows them.
-ghost use Rattle.std.specs.Prelude.{◌≡◌, IfSome};
+ghost use Rattle.std.specs.Prelude.{◌≡◌, IfSome, length};
+ghost use Rattle.std.specs.List.{prefix_len};
 ghost use Rattle.std.specs.Str.{is_utf8};
 ghost use Rattle.json_value.specs.Reading as spec;
 ghost use Rattle.text_checking.specs.Passes.{Passes};
-ghost use Rattle.text_checking.specs.Strings.{EndsPlain};
+ghost use Rattle.text_checking.specs.Strings.{EndsPlain, PassesSimple};
 ghost use Rattle.text_checking.specs.Strings as strings;
 
+use crate::lanes::{LANES, first_lanes};
 use json_reading::{Fault, string_at};
 use std::alloc::Global;
+use std::simd::prelude::*;
 
 /// Whether a byte is an ASCII character that stands for itself in a string.
 #[inline(always)]
@@ -17,17 +20,48 @@ fn is_simple(byte: u8) -> bool
     byte <= 127 && byte >= 32 && byte != b'"' && byte != b'\\'
 }
 
-/// The front of a string up to its quotation mark, and what follows that, where only such bytes stand before it.
+/// How many of them come before the first that is no such character.
+#[inline(always)]
+fn simple_lanes(lanes: u8x16) -> usize
+    requires { length lanes ≡ 16 }
+    ensures { result ≡ prefix_len strings.is_simple lanes }
+{
+    let marks = lanes.simd_eq(u8x16::splat(b'"')) | lanes.simd_eq(u8x16::splat(b'\\'));
+    let others = lanes.simd_lt(u8x16::splat(32)) | lanes.simd_gt(u8x16::splat(127));
+    let found = (marks | others).to_bitmask();
+    if found == 0 {
+        return LANES;
+    }
+    found.trailing_zeros() as usize
+}
+
+/// The bytes without some such characters at the front.
+#[inline(always)]
+fn behind_simple(bytes: &[u8]) -> &[u8]
+    ensures { PassesSimple bytes.now result.now }
+{
+    if bytes.len() < LANES {
+        return bytes;
+    }
+    let simple = simple_lanes(first_lanes(bytes));
+    let (_, rest) = bytes.split_at(simple);
+    rest
+}
+
+/// The front of a string up to its quotation mark, and what follows that, where only such characters stand before it.
 pub fn plain_at(inside: &[u8]) -> Option<(&[u8], &[u8])>
     ensures { IfSome result (λ x. EndsPlain inside.now x.0.now x.1.now) }
 {
-    'bytes: for (at, &byte) in inside.iter().enumerate() {
-        if byte == b'"' {
-            return Some((&inside[..at], &inside[at + 1..]));
+    let mut rest = inside;
+    while let [first, more @ ..] = behind_simple(rest) {
+        if *first == b'"' {
+            let (text, _) = inside.split_at(inside.len() - more.len() - 1);
+            return Some((text, more));
         }
-        if !is_simple(byte) {
+        if !is_simple(*first) {
             return None;
         }
+        rest = more;
     }
     None
 }

@@ -1,9 +1,8 @@
 -- Where an array or an object ends, by its brackets and strings.
-use Rattle.std.proofs.Common.{◌≡◌, ◌≢◌, ℕ, zero, suc, ◌+◌, ◌-◌, ◌<◌, ◌≤◌, Bool, true, false, ◌||◌, eqb, List, [], ◌∷◌, ◌++◌, length, take, drop, get_or, Some, None, refl, sym, ap, subst, ◌∙◌, append_assoc, arith}
+use Rattle.std.proofs.Common.{◌≡◌, ◌≢◌, ℕ, zero, suc, ◌+◌, ◌-◌, ◌<◌, ◌≤◌, Bool, true, false, ◌||◌, eqb, List, [], ◌∷◌, ◌++◌, length, drop, get_or, Some, None, refl, sym, ap, subst, ◌∙◌, append_assoc, arith}
 use Rattle.std.specs.Prelude.{codes}
 use Rattle.std.specs.Str.{is_utf8}
 use Rattle.std.proofs.lemmas.Bool.{eqb-true}
-use Rattle.std.proofs.lemmas.List.{take_rest}
 use Rattle.decimal_text.specs.Grammar.{is_digit, is_e, AllDigits, IsMinus, no_minus, one_minus, IsWhole, whole_zero, whole_digits, IsFraction, no_fraction, fraction, IsSign, no_sign, plus_sign, minus_sign, IsExponent, no_exponent, exponent, IsNumber, number_of}
 use Rattle.json_value.specs.declared.json.Json.{Json}
 use Rattle.json_value.specs.Grammar.{is_space, IsSpace, is_plain, hex_value, SpellsUnit, unit_of, SpellsChars, chars_end, chars_plain, chars_escape, chars_unit, chars_pair, Spells, SpellsMember, SpellsElements, SpellsMembers, spells_null, spells_true, spells_false, spells_text, spells_number, spells_empty_array, spells_array, spells_empty_object, spells_object, spells_member, elements_last, elements_more, members_last, members_more}
@@ -259,10 +258,6 @@ pub ends : (b : ℕ) (bytes inside rest : List ℕ) → bytes ≡ b ∷ inside �
 ends b bytes inside rest is o h = subst (λ z. Ends z rest) (sym is) (ends_so b inside rest o h)
 
 -- ---- byte after byte
-
-pub split : (rest : List ℕ) → 1 ≤ length rest → rest ≡ get_or rest 0 0 ∷ take (length rest - 1) (drop 1 rest)
-split [] h = absurd (omega (arith, h))
-split (b ∷ bs) h = ap (λ z. b ∷ z) (sym (take_rest (b ∷ bs) 1))
 
 pub string_ends : (b : ℕ) (rest more : List ℕ) → rest ≡ b ∷ more → b ≡ 34 → PassesString rest more
 string_ends b rest more is q n = rw (is, q) (quotes_close n more)

@@ -23,6 +23,5 @@ pub mod NamedSeen
 pub mod Ends
 pub mod Repeating
 pub mod Unrolling
-pub mod LaneParts
 pub mod LeapParts
 pub mod LostParts

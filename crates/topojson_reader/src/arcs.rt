@@ -8,7 +8,7 @@ ghost use Rattle.topojson_reader.specs.Cells.{CellsSoFar, with_cell};
 
 use crate::cells::cell_at;
 use geojson_types::Counts;
-use json_cursor::{Element, Elements, Stop, array_at, folded_array_at};
+use json_cursor::{Element, Elements, Stop, array_at, arrays_ahead, folded_array_at};
 use json_value::Items;
 use std::alloc::Global;
 use std::marker::Model;
@@ -66,10 +66,11 @@ pub fn arc_at<'a>(
 ) -> Result<(Items<Cell>, &'a [u8]), Stop<TopoFault>>
     ensures { Answers (λ x. x) (spec.arc (option_copied transform.entry)) (front_value deep bytes.now) counts.old counts.new result }
 {
+    let list = Vec::with_capacity(alloc, arrays_ahead(bytes))?;
     let start = Cells {
         transform,
         before: Cell::at(0, 0),
-        list: Vec::new(alloc),
+        list,
     };
     match folded_array_at::<Cells>(alloc, deep, start, bytes, TopoFault::WrongKind, (), counts) {
         Err(stop) => Err(stop),

@@ -3,7 +3,7 @@ ghost use Rattle.std.specs.Prelude.{◌≡◌, ◌∷◌, ◌<◌, ◌≤◌, �
 ghost use Rattle.topojson_reader.specs.Leaping as spec;
 ghost use Rattle.topojson_reader.specs.Leaping.{Ends, PassesString, at_depth, end_of, in_string};
 
-use crate::lanes::{LANES, first_lanes, lanes_before};
+use text_checking::{LANES, first_lanes, lanes_before};
 
 /// Whether the byte opens an array or an object.
 #[inline(always)]

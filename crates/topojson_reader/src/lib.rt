@@ -13,7 +13,6 @@ mod geometry_parts;
 mod held;
 mod index;
 mod joins;
-mod lanes;
 mod leaping;
 mod named_objects;
 mod numbers;

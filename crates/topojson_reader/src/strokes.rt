@@ -10,7 +10,7 @@ ghost use Rattle.topojson_reader.specs.Strokes.{IndexesSoFar, is_open as has_gap
 use crate::joins::{closes, is_joined};
 use crate::numbers::{Scale, number_at};
 use geojson_types::Counts;
-use json_cursor::{Element, Elements, Stop, folded_some_at};
+use json_cursor::{Element, Elements, Stop, folded_some_at, numbers_ahead};
 use json_value::Items;
 use std::alloc::Global;
 use std::marker::Model;
@@ -111,10 +111,11 @@ pub fn stroke_at<'a>(
 ) -> Result<(Option<Items<ArcRef>>, &'a [u8]), Stop<TopoFault>>
     ensures { Answers (λ x. x) (stroke closed arcs.now) (front_value deep bytes.now) counts.old counts.new result }
 {
+    let list = Vec::with_capacity(alloc, numbers_ahead(bytes))?;
     let start = Indexes {
         arcs,
         before: None,
-        list: Vec::new(alloc),
+        list,
     };
     match folded_some_at::<Indexes>(alloc, deep, start, bytes, TopoFault::WrongKind, (), counts) {
         Err(stop) => Err(stop),

@@ -22,7 +22,7 @@ returns-in-Neither g c =
 pub returns-in-Close : goal.returns-in-Close
 returns-in-Close g c =
     let some : 0 < length c.args.inside.now = omega (arith, c.if-turns-eq0.false) in
-    rw (c.led.ensures, c.is_some-leads.ensures, c.in_ok-before-in-Ok.ensures)
+    rw (c.led.ensures, c.is_some-leads.ensures, c.in_ok-alone-in-Close.ensures)
     (part.leader_ends (g.E.Element.reads c.args.reader) (value_at is_utf8 c.args.deep) (length c.args.inside.now) c.args.inside.now some c.args.counts.now c.in-Ok.first c.in-Ok.behind.now c.read.new.counts (rw c.skip.ensures at c.in-Ok.ensures)
     _ (rw c.in-Close.is at c.mark_at-mark.ensures))
 
@@ -30,11 +30,11 @@ pub returns-in-Err-folded_at : goal.returns-in-Err-folded_at
 returns-in-Err-folded_at g c =
     let some : 0 < length c.args.inside.now = omega (arith, c.if-turns-eq0.false) in
     part.led_stops (g.E.Element.reads c.args.reader) (value_at is_utf8 c.args.deep) (length c.args.inside.now) c.args.inside.now some c.args.counts.now c.in-Ok.first c.in-Ok.behind.now c.read.new.counts (rw c.skip.ensures at c.in-Ok.ensures)
-    _ (rw c.in-Comma.is at c.mark_at-mark.ensures) c.in-Err-folded_at.stopped.stop (rw c.in_ok-before-in-Ok.ensures at c.in-Err-folded_at.ensures.answers)
+    _ (rw c.in-Comma.is at c.mark_at-mark.ensures) c.in-Err-folded_at.stopped.stop (rw c.in_ok-before-in-Comma.ensures at c.in-Err-folded_at.ensures.answers)
 
-pub returns-in-Ok-folded_at : goal.returns-in-Ok-folded_at
-returns-in-Ok-folded_at g c =
+pub returns : goal.returns
+returns g c =
     let some : 0 < length c.args.inside.now = omega (arith, c.if-turns-eq0.false) in
     rw (c.led-in-Ok-folded_at.ensures, c.is_some-leads.ensures)
     (part.leader_reads (g.E.Element.reads c.args.reader) (value_at is_utf8 c.args.deep) (length c.args.inside.now) c.args.inside.now some c.args.counts.now c.in-Ok.first c.in-Ok.behind.now c.read.new.counts (rw c.skip.ensures at c.in-Ok.ensures)
-    _ (rw c.in-Comma.is at c.mark_at-mark.ensures) _ _ _ (rw c.in_ok-before-in-Ok.ensures at c.in-Ok-folded_at.ensures.answers))
+    _ (rw c.in-Comma.is at c.mark_at-mark.ensures) _ _ _ (rw c.in_ok-before-in-Comma.ensures at c.in-Ok-folded_at.ensures.answers))

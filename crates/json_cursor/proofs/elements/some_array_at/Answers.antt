@@ -9,11 +9,11 @@ pub returns-in-Err : goal.returns-in-Err
 returns-in-Err g c =
     let read = g.E.Element.reads c.args.reader in
     part.same_stops (some_array_by c.args.wrong (always (fold (with_read read) []))) (some_array_by c.args.wrong (always (gather read))) (front_value c.args.deep c.args.bytes.now) c.args.counts.now
-    (λ v. part.same_some_array c.args.wrong (always (fold (with_read read) [])) (always (gather read)) (part.always_as_list read) v c.args.counts.now) c.in-Err.stop (rw c.new.ensures.items at c.in-Err.ensures)
+    (λ v. part.same_some_array c.args.wrong (always (fold (with_read read) [])) (always (gather read)) (part.always_as_list read) v c.args.counts.now) c.in-Err.stop (rw c.in_ok-list.ensures.items at c.in-Err.ensures)
 
 pub returns-in-Some : goal.returns-in-Some
 returns-in-Some g c =
     let read = g.E.Element.reads c.args.reader in
     rw c.items_of.ensures
     (part.same_reads (some_array_by c.args.wrong (always (fold (with_read read) []))) (some_array_by c.args.wrong (always (gather read))) (front_value c.args.deep c.args.bytes.now) c.args.counts.now
-    (λ v. part.same_some_array c.args.wrong (always (fold (with_read read) [])) (always (gather read)) (part.always_as_list read) v c.args.counts.now) _ _ _ (rw (c.new.ensures.items, c.in-Some.is) at c.in-Ok.ensures))
+    (λ v. part.same_some_array c.args.wrong (always (fold (with_read read) [])) (always (gather read)) (part.always_as_list read) v c.args.counts.now) _ _ _ (rw (c.in_ok-list.ensures.items, c.in-Some.is) at c.in-Ok.ensures))

@@ -1,10 +1,14 @@
-use Rattle.std.proofs.Common.{◌≡◌, ◌+◌, arith, suc, subst, sym, take, true, ℕ}
-use Rattle.text_checking.specs.Strings.{simple}
-use Rattle.text_checking.proofs.PlainStrings.{simple_next}
+use Rattle.std.proofs.Common.{sym, arith}
+use Rattle.text_checking.proofs.LaneParts.{split}
+use Rattle.text_checking.proofs.PlainStrings.{one_passed, string_ends}
 use Rattle.text_checking.proofs.strings.plain_at.Goals as goal
 
-pub bytes-preserved : goal.bytes-preserved
-bytes-preserved c =
-    let next : suc c.bytes.at ≡ c.bytes.at + 1 = omega arith in
-    subst (λ (n : ℕ). simple (take n c.args.inside.now) ≡ true) next
-    (simple_next c.args.inside.now c.bytes.at c.bytes-test.true c.bytes.invariant (sym c.if-not-is_simple.ensures))
+pub returns-then-first-eq34 : goal.returns-then-first-eq34
+returns-then-first-eq34 c =
+    let rest = c.behind_simple.result.now in
+    string_ends c.args.inside.now c.loop-first.rest.now rest _ _ c.loop-first.invariant c.behind_simple.ensures (split rest c.in-len1-up.len_at_least) _ _ c.if-first-eq34.true (omega arith) c.split_at.ensures.front
+
+pub loop-first-preserved : goal.loop-first-preserved
+loop-first-preserved c =
+    let rest = c.behind_simple.result.now in
+    one_passed c.args.inside.now c.loop-first.rest.now rest _ _ c.loop-first.invariant c.behind_simple.ensures (split rest c.in-len1-up.len_at_least) (sym c.if-not-is_simple.ensures)

@@ -11,10 +11,10 @@ use Rattle.topojson_reader.proofs.ArcParts.{arc_is, arc_of, no_cell, short_arc, 
 use Rattle.topojson_reader.proofs.arcs.arc_at.Goals as goal
 
 pub returns-in-Err : goal.returns-in-Err
-returns-in-Err c = then_stops (array_by WrongKind (fold with_cell (no_cell (option_copied c.args.transform)))) arc_of (arc (option_copied c.args.transform)) (front_value c.args.deep c.args.bytes.now) c.args.counts.now (λ v. arc_is (option_copied c.args.transform) v c.args.counts.now) c.in-Err.stop (rw (c.at.ensures, c.new.ensures.items) at c.in-Err.ensures)
+returns-in-Err c = then_stops (array_by WrongKind (fold with_cell (no_cell (option_copied c.args.transform)))) arc_of (arc (option_copied c.args.transform)) (front_value c.args.deep c.args.bytes.now) c.args.counts.now (λ v. arc_is (option_copied c.args.transform) v c.args.counts.now) c.in-Err.stop (rw (c.at.ensures, c.in_ok-list.ensures.items) at c.in-Err.ensures)
 
 pub returns-then-len-lt2 : goal.returns-then-len-lt2
-returns-then-len-lt2 c = then_faults (array_by WrongKind (fold with_cell (no_cell (option_copied c.args.transform)))) arc_of (arc (option_copied c.args.transform)) (front_value c.args.deep c.args.bytes.now) c.args.counts.now (λ v. arc_is (option_copied c.args.transform) v c.args.counts.now) _ _ _ (rw (c.at.ensures, c.new.ensures.items) at c.in-Ok.ensures) ShortArc (short_arc c.in-Ok.read _ (omega (arith, c.if-len-lt2.true, c.len.ensures, c.read.inside.list.ok, ap (λ s. length s.1) c.read.view_is)))
+returns-then-len-lt2 c = then_faults (array_by WrongKind (fold with_cell (no_cell (option_copied c.args.transform)))) arc_of (arc (option_copied c.args.transform)) (front_value c.args.deep c.args.bytes.now) c.args.counts.now (λ v. arc_is (option_copied c.args.transform) v c.args.counts.now) _ _ _ (rw (c.at.ensures, c.in_ok-list.ensures.items) at c.in-Ok.ensures) ShortArc (short_arc c.in-Ok.read _ (omega (arith, c.if-len-lt2.true, c.len.ensures, c.read.inside.list.ok, ap (λ s. length s.1) c.read.view_is)))
 
 pub returns-else-len-lt2 : goal.returns-else-len-lt2
-returns-else-len-lt2 c = rw (c.of.ensures, c.shrink_to_fit.ensures.items, ap (λ s. s.1) c.read.view_is) (then_reads (array_by WrongKind (fold with_cell (no_cell (option_copied c.args.transform)))) arc_of (arc (option_copied c.args.transform)) (front_value c.args.deep c.args.bytes.now) c.args.counts.now (λ v. arc_is (option_copied c.args.transform) v c.args.counts.now) _ _ _ (rw (c.at.ensures, c.new.ensures.items) at c.in-Ok.ensures) _ _ (long_arc c.in-Ok.read _ (omega (arith, c.if-len-lt2.false, c.len.ensures, c.read.inside.list.ok, ap (λ s. length s.1) c.read.view_is))))
+returns-else-len-lt2 c = rw (c.of.ensures, c.shrink_to_fit.ensures.items, ap (λ s. s.1) c.read.view_is) (then_reads (array_by WrongKind (fold with_cell (no_cell (option_copied c.args.transform)))) arc_of (arc (option_copied c.args.transform)) (front_value c.args.deep c.args.bytes.now) c.args.counts.now (λ v. arc_is (option_copied c.args.transform) v c.args.counts.now) _ _ _ (rw (c.at.ensures, c.in_ok-list.ensures.items) at c.in-Ok.ensures) _ _ (long_arc c.in-Ok.read _ (omega (arith, c.if-len-lt2.false, c.len.ensures, c.read.inside.list.ok, ap (λ s. length s.1) c.read.view_is))))

@@ -1,5 +1,5 @@
 use Rattle.std.proofs.Common.{◌≤◌, length, arith}
-use Rattle.topojson_reader.proofs.LaneParts as lane
+use Rattle.text_checking.proofs.LaneParts as lane
 use Rattle.topojson_reader.proofs.LeapParts as part
 use Rattle.topojson_reader.proofs.leaping.behind_dull.Goals as goal
 

@@ -10,16 +10,16 @@ use Rattle.topojson_reader.proofs.StrokeParts.{stroke_is, stroke_of, no_index, h
 use Rattle.topojson_reader.proofs.strokes.stroke_at.Goals as goal
 
 pub returns-in-Err : goal.returns-in-Err
-returns-in-Err c = then_stops (some_array_by WrongKind (always (fold with_index (no_index c.args.arcs.now)))) (if_some (stroke_of c.args.closed c.args.arcs.now)) (stroke c.args.closed c.args.arcs.now) (front_value c.args.deep c.args.bytes.now) c.args.counts.now (λ v. stroke_is c.args.arcs.now c.args.closed v c.args.counts.now) c.in-Err.stop (rw c.new.ensures.items at c.in-Err.ensures)
+returns-in-Err c = then_stops (some_array_by WrongKind (always (fold with_index (no_index c.args.arcs.now)))) (if_some (stroke_of c.args.closed c.args.arcs.now)) (stroke c.args.closed c.args.arcs.now) (front_value c.args.deep c.args.bytes.now) c.args.counts.now (λ v. stroke_is c.args.arcs.now c.args.closed v c.args.counts.now) c.in-Err.stop (rw c.in_ok-list.ensures.items at c.in-Err.ensures)
 
 pub returns-in_default : goal.returns-in_default
-returns-in_default c = then_reads (some_array_by WrongKind (always (fold with_index (no_index c.args.arcs.now)))) (if_some (stroke_of c.args.closed c.args.arcs.now)) (stroke c.args.closed c.args.arcs.now) (front_value c.args.deep c.args.bytes.now) c.args.counts.now (λ v. stroke_is c.args.arcs.now c.args.closed v c.args.counts.now) _ _ _ (rw (c.new.ensures.items, c.in_default.is) at c.in-Ok.ensures) _ _ refl
+returns-in_default c = then_reads (some_array_by WrongKind (always (fold with_index (no_index c.args.arcs.now)))) (if_some (stroke_of c.args.closed c.args.arcs.now)) (stroke c.args.closed c.args.arcs.now) (front_value c.args.deep c.args.bytes.now) c.args.counts.now (λ v. stroke_is c.args.arcs.now c.args.closed v c.args.counts.now) _ _ _ (rw (c.in_ok-list.ensures.items, c.in_default.is) at c.in-Ok.ensures) _ _ refl
 
 pub returns-then-is_open : goal.returns-then-is_open
-returns-then-is_open c = then_faults (some_array_by WrongKind (always (fold with_index (no_index c.args.arcs.now)))) (if_some (stroke_of c.args.closed c.args.arcs.now)) (stroke c.args.closed c.args.arcs.now) (front_value c.args.deep c.args.bytes.now) c.args.counts.now (λ v. stroke_is c.args.arcs.now c.args.closed v c.args.counts.now) _ _ _ (rw (c.new.ensures.items, c.in-Some.is) at c.in-Ok.ensures) OpenRing
+returns-then-is_open c = then_faults (some_array_by WrongKind (always (fold with_index (no_index c.args.arcs.now)))) (if_some (stroke_of c.args.closed c.args.arcs.now)) (stroke c.args.closed c.args.arcs.now) (front_value c.args.deep c.args.bytes.now) c.args.counts.now (λ v. stroke_is c.args.arcs.now c.args.closed v c.args.counts.now) _ _ _ (rw (c.in_ok-list.ensures.items, c.in-Some.is) at c.in-Ok.ensures) OpenRing
     (has_gap c.args.arcs.now c.args.closed c.in-Some.indexes _ (ap (is_open c.args.closed c.args.arcs.now) (sym (c.deref.ensures.value ∙ ap (λ s. s.1) c.indexes.view_is)) ∙ sym c.if-is_open.ensures))
 
 pub returns-else-is_open : goal.returns-else-is_open
 returns-else-is_open c = rw (c.of.ensures, c.shrink_to_fit.ensures.items, ap (λ s. s.1) c.indexes.view_is)
-    (then_reads (some_array_by WrongKind (always (fold with_index (no_index c.args.arcs.now)))) (if_some (stroke_of c.args.closed c.args.arcs.now)) (stroke c.args.closed c.args.arcs.now) (front_value c.args.deep c.args.bytes.now) c.args.counts.now (λ v. stroke_is c.args.arcs.now c.args.closed v c.args.counts.now) _ _ _ (rw (c.new.ensures.items, c.in-Some.is) at c.in-Ok.ensures) _ _
+    (then_reads (some_array_by WrongKind (always (fold with_index (no_index c.args.arcs.now)))) (if_some (stroke_of c.args.closed c.args.arcs.now)) (stroke c.args.closed c.args.arcs.now) (front_value c.args.deep c.args.bytes.now) c.args.counts.now (λ v. stroke_is c.args.arcs.now c.args.closed v c.args.counts.now) _ _ _ (rw (c.in_ok-list.ensures.items, c.in-Some.is) at c.in-Ok.ensures) _ _
     (has_none c.args.arcs.now c.args.closed c.in-Some.indexes _ (ap (is_open c.args.closed c.args.arcs.now) (sym (c.deref.ensures.value ∙ ap (λ s. s.1) c.indexes.view_is)) ∙ sym c.if-is_open.ensures)))

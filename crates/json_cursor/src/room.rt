@@ -1,0 +1,58 @@
+// How many elements an array seems to have, so that the list of few elements takes memory once.
+ghost use Rattle.std.specs.Prelude.{◌≤◌};
+
+use crate::marks::behind_byte;
+use json_reading::skip;
+use text_checking::behind_first;
+
+/// How many arrays are looked for in an array.
+const MOST_ARRAYS: usize = 16;
+
+/// How many bytes of an array of numbers are looked at.
+const FEW_BYTES: usize = 64;
+
+/// How many elements the array at the front seems to have, up to `MOST_ARRAYS`, where they are arrays of numbers; none of any other array. A
+/// list is given room for so many, and nothing else rests on it.
+#[inline(never)]
+pub fn arrays_ahead(bytes: &[u8]) -> usize
+    ensures { result ≤ 16 }
+{
+    let Some(inside) = behind_byte(b'[', bytes) else {
+        return 0;
+    };
+    let Some(first) = behind_byte(b'[', skip(inside)) else {
+        return 0;
+    };
+    if behind_byte(b'[', skip(first)).is_some() {
+        return 0;
+    }
+    let mut rest = first;
+    'arrays: for before in 0..MOST_ARRAYS {
+        let Some(behind) = behind_first(b']', rest) else {
+            return before;
+        };
+        if behind_byte(b']', skip(behind)).is_some() {
+            return before + 1;
+        }
+        rest = behind;
+    }
+    MOST_ARRAYS
+}
+
+/// How many elements the array at the front seems to have, where they are numbers, if it is short. A list is given room for so many, and
+/// nothing else rests on it.
+#[inline(never)]
+pub fn numbers_ahead(bytes: &[u8]) -> usize
+    ensures { result ≤ 64 }
+{
+    let mut commas = 0;
+    'bytes: for at in 0..bytes.len().min(FEW_BYTES) {
+        if bytes[at] == b']' {
+            return commas + 1;
+        }
+        if bytes[at] == b',' {
+            commas += 1;
+        }
+    }
+    0
+}

@@ -1,4 +1,4 @@
--- Weights that are told up to a level only.
+-- Weights that are reported up to a level only.
 use Rattle.std.specs.Prelude.{◌≡◌, ℕ, ◌+◌, ◌*◌, ◌<◌, ◌≤◌, ◌⊎◌, nat_le, min, Bool, false, List, [], ◌∷◌, count_by, map, length, slice_index_or}
 use Rattle.effective_area.specs.Shares.{interior_weights, kept_at, share}
 use Rattle.effective_area.specs.declared.weight.Weight.{Weight}
@@ -16,13 +16,13 @@ abbrev pub is_within : ℕ → Weight → Bool
 is_within level End = false
 is_within level (Area area) = nat_le area level
 
--- the weights of a line are told up to a level, and so many of them aren't over it
+-- the weights of a line are reported up to a level, and so many of them aren't over it
 pub record IsStopped (most : ℕ) (ws told : List Weight) : Type 0 where
   pub level : ℕ
   pub capped : told ≡ map (capped_at level) ws
   pub enough : most ≤ count_by (is_within level) ws
 
--- all weights of a line are told, or they are up to such a level
+-- all weights of a line are reported, or they are up to such a level
 abbrev pub IsCapped : ℕ → List Weight → List Weight → Type 0
 IsCapped most ws told = (told ≡ ws) ⊎ IsStopped most ws told
 
@@ -39,7 +39,7 @@ AreCapped most (ws ∷ lines) (told ∷ capped) = IsCapped most ws told × AreCa
 abbrev pub IsEnough : ℕ → ℕ → ℕ → ℕ → Type 0
 IsEnough p q count most = (n : ℕ) → 0 < n → p * count ≤ q * n → count < n + most
 
--- so the threshold of a share is found by what is told, and what stays at it
+-- so the threshold of a share is found by what is reported, and what stays at it
 abbrev pub CappedIsEnough : Type 0
 CappedIsEnough = (p q count most : ℕ) (lines capped : List (List Weight)) → p ≤ q → length (interior_weights lines) ≤ count → IsEnough p q count most → AreCapped most lines capped →
     (share p q (interior_weights capped) ≡ share p q (interior_weights lines))

@@ -13,7 +13,7 @@ abbrev pub here : Option Cause → List (Placed Cause)
 here None = []
 here (Some c) = alone c
 
--- a ring behind the outer one is left out for its own cause, or else because the outer one is
+-- a ring after the outer one is left out for its own cause, or else because the outer one is
 abbrev pub inner_cause : Option Cause → Option Cause → Option Cause
 inner_cause None hole = hole
 inner_cause (Some c) None = Some Outer
@@ -38,7 +38,7 @@ omissions_step why (Geometry-F.Group oss) = of_parts 0 oss
 unfoldable pub omissions : {P L : Type 0} → (Bool → L → Option Cause) → Geometry P L L → List (Placed Cause)
 omissions {P} {L} why = fold-Geometry P L L (List (Placed Cause)) (omissions_step why)
 
--- the same with the numbers of layer and feature
+-- the lines and rings that are left out of one feature, with the numbers of its layer and of it
 abbrev pub dropped_in : ℕ → ℕ → List (Placed Cause) → List Dropped
 dropped_in layer feature os = map (λ o. record { address = record { layer = layer; feature = feature; path = o.path }; cause = o.part }) os
 

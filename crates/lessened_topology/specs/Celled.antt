@@ -1,4 +1,4 @@
--- Topologies on a grid: their positions as the cells that stand for them (TopoJSON 1.0, section 2.1.2).
+-- Quantized topologies: their positions as the cells that stand for them (TopoJSON 1.0, section 2.1.2).
 use Rattle.std.specs.Prelude.{◌≡◌, ℕ, List, Some, map}
 use Rattle.std.specs.List.{AllByRecursion}
 use Rattle.geometry.specs.Lists.{then_some}

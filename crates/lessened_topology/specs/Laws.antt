@@ -31,7 +31,7 @@ PickedIsReduced = (t : ℕ) (ps : List Point) → picked (reduce t ps) ps ≡ re
 abbrev pub LessensToBuilt : Type 0
 LessensToBuilt = (t limit : ℕ) (ls : Named) → AreSound ls → lessened t limit (built 0 0 ls) ≡ built t limit ls
 
--- the same on a grid where each position of the layers lies on it
+-- on a grid on which each position of the layers lies, what is built at a threshold and a limit of zero and then reduced by both is what is built by both
 abbrev pub LessensToBuiltOnGrid : Type 0
 LessensToBuiltOnGrid = (transform : Transform) (cell : Point → Point) (t limit : ℕ) (ls : Named) → AreSound ls → AllByRecursion (LiesBack transform cell) (layers_points (layers_of ls))
     → lessened t limit (celled transform cell (built 0 0 ls)) ≡ celled transform cell (built t limit ls)
@@ -96,7 +96,7 @@ AssemblesToBuilt = (t limit : ℕ) (ls : Named) → AreSound ls → assembled (a
 abbrev pub AssemblingDropsExpected : Type 0
 AssemblingDropsExpected = (t limit : ℕ) (ls : Named) → AreSound ls → assembled_dropped (arc_indexes t ls) limit ls ≡ expected_dropped t limit ls
 
--- as many positions are taken out as reduction takes out
+-- as many positions are removed as reduction removes
 abbrev pub AssemblingTakesOut : Type 0
 AssemblingTakesOut = (t limit : ℕ) (ls : Named) → AreSound ls → assembled_taken_out (arc_indexes t ls) limit ls ≡ taken_out t limit ls
 

@@ -19,7 +19,7 @@ pub fn lessens_to_built()
     zero_law();
 }
 
-/// The same on a grid on which each position of the layers lies: the cells of what is built at zero are reduced to the cells of what
+/// On a grid on which each position of the layers lies, the cells of what is built at zero are reduced to the cells of what
 /// is built at the threshold.
 #[tactic(auto, using(crate::proofs::Celled::lessens_on_grid))]
 pub fn lessens_to_built_on_grid()
@@ -104,7 +104,7 @@ pub fn assembling_drops_expected()
     zero_law();
 }
 
-/// As many positions are then taken out of the arcs that stay as reduction takes out of them.
+/// As many positions are then removed from the arcs that stay as reduction removes from them.
 #[tactic(auto, using(crate::proofs::Assembled::takes_out))]
 pub fn assembling_takes_out()
     ensures { AssemblingTakesOut }

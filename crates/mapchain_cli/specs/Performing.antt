@@ -1,4 +1,4 @@
--- How a request comes out over a sink, and what is told of that.
+-- How a request comes out over a sink, and what is said of that.
 use Rattle.std.specs.Prelude.{ℕ, List, [], codes, Option, None, Some, Result, Ok, Err}
 use Rattle.byte_ends.specs.Ends.{Drained}
 use Rattle.command_words.specs.declared.request.Request.{Request}

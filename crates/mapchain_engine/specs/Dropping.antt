@@ -1,4 +1,4 @@
--- The lines and rings that are told as dropped are those that the expected features lack.
+-- The lines and rings that are reported as dropped are those that the expected features lack.
 use Rattle.std.specs.Prelude.{◌≡◌, ℕ, Bool, List, map, Option, None, Some}
 use Rattle.build_meaning.specs.Expected.{kept_line, own_cause, rebuilt}
 use Rattle.geojson_types.specs.Features.{Shape}
@@ -29,7 +29,7 @@ abbrev pub stays_as : (Bool → List Point → List Point) → Option Cause → 
 stays_as given None closed line = Some (closed, given closed line)
 stays_as given (Some c) closed line = None
 
--- Each line of the shape, in reading order, is either told as dropped, or stands among the lines of what is left of the shape: never both,
+-- Each line of the shape, in reading order, is either reported as dropped, or stands among the lines of what is left of the shape: never both,
 -- and never neither.
 pub record LeavesOutWhatIsTold (lines : List Stroke) (t limit : ℕ) (s : Shape) : Type 0 where
   pub judged : List (Placed Judged)

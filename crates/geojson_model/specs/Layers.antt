@@ -36,7 +36,7 @@ stop_in n (stop.Fault kind) = stop.Fault (fault_in n kind)
 stop_in n stop.NoValue = stop.NoValue
 stop_in n stop.Memory = stop.Memory
 
--- one more feature behind these, of which it has the number
+-- one more feature after these, of which it has the number
 abbrev pub numbered : Bool → List Featured → Json → LayerReader (List Featured)
 numbered exact fs v = do
   f ← within (Some (length fs)) (feature_element exact v)

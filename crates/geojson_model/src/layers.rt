@@ -32,7 +32,7 @@ pub(crate) fn fault_within(feature: Option<usize>, kind: GeoFaultKind) -> GeoFau
     GeoFault { feature, kind }
 }
 
-/// The same of why reading stops.
+/// Why reading stops in the feature of this number, or in none.
 fn within(feature: Option<usize>, stop: Stop<GeoFaultKind>) -> Stop<GeoFault>
     ensures { result ≡ spec.stop_in feature stop }
 {

@@ -20,7 +20,7 @@ Members = List (List ℕ × Json)
 abbrev pub front_member : ℕ → Parse (List ℕ × Json)
 front_member d = member_at is_utf8 (value_at is_utf8 d)
 
--- one member or more behind the brace of an object, up to the one that closes it (125), in so many turns
+-- one member or more after the brace of an object, up to the one that closes it (125), in so many turns
 abbrev pub front_members : ℕ → ℕ → Parse Members
 front_members d turns = list_at 125 (front_member d) turns
 
@@ -74,7 +74,7 @@ GoesThrough Holds d bytes before after (Ok (Some rest)) = TakesObject Holds d by
 GoesThrough Holds d bytes before after (Ok None) = (v : Json) (end : List ℕ) → front_value d bytes ≡ Some (v, end) → object_of v ≡ None
 GoesThrough Holds d bytes before after (Err fault) = Fails fault (front_value d bytes)
 
--- the same where what was made is answered
+-- an object of members stands at the front, and what is answered was made of them; or whatever value stands there is no object; or none stands there, or nothing is said
 abbrev pub ReadsObject : {S : Type 0} → (ℕ → Made S) → ℕ → List ℕ → S → Result (Option S × Bor (List ℕ)) Fault → Type 0
 ReadsObject Holds d bytes before (Ok (Some after, rest)) = TakesObject Holds d bytes before after rest.now
 ReadsObject Holds d bytes before (Ok (None, rest)) = (v : Json) (end : List ℕ) → front_value d bytes ≡ Some (v, end) → object_of v ≡ None

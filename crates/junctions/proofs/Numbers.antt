@@ -80,7 +80,7 @@ numbered_member ks (n ∷ ns) (q ∷ qs) p h m = let t : map (slice_get ks) ns �
     on true e r = one_is ks p n (here ∙ ap Some (sym (same_is p q e)))
     on false e r = r (sym (ap (λ b. b || list_any (same p) qs) e) ∙ m)
 
--- numbers stay when a position comes behind
+-- numbers stay when a position comes after
 numbers_front : (ks : List Point) (q : Point) (ns : List ℕ) (ps : List Point) → AreNumbers ks ns ps → AreNumbers (ks ++ (q ∷ [])) ns ps
 numbers_front ks q [] [] h = refl
 numbers_front ks q [] (p ∷ ps) h = cc
@@ -105,7 +105,7 @@ numbers_more ks ls ns ps n p e f h =
     let g : AreNumbers ls ns ps = subst (λ l. AreNumbers l ns ps) (sym e) (numbers_stay ks p ns ps h) in
     map-append (slice_get ls) ns (n ∷ []) ∙ ap (λ l. l ++ (slice_get ls n ∷ [])) g ∙ ap (λ x. map Some ps ++ (x ∷ [])) f ∙ sym (map-append Some ps (p ∷ []))
 
--- the numbers of a front and those behind it
+-- the numbers of a prefix and those after it
 pub numbers_split : (ks : List Point) (ns : List ℕ) (ps qs : List Point) → AreNumbers ks ns (ps ++ qs) →
     (length ps ≤ length ns) × AreNumbers ks (take (length ps) ns) ps × AreNumbers ks (drop (length ps) ns) qs
 numbers_split ks ns [] qs h = (omega arith, grind arith, h)

@@ -33,7 +33,7 @@ positions_from (t ∷ ls) (suc i) s l e = positions_from ls i s (omega arith) e 
     next : (i : ℕ) → suc (i + 1) ≡ suc i + 1
     next i = omega arith
 
--- the numbers of the positions of a line, in front of those of the lines behind it
+-- the numbers of the positions of a line, in front of those of the lines after it
 pub next_numbers : (ks : List Point) (ns : List ℕ) (ls : List Stroke) (i : ℕ) (s : Stroke) → i < length ls → s ≡ get_or ls i s → AreNumbers ks ns (positions (drop i ls)) →
     (length s.positions ≤ length ns) × AreNumbers ks (take (length s.positions) ns) s.positions × AreNumbers ks (drop (length s.positions) ns) (positions (drop (i + 1) ls))
 next_numbers ks ns ls i s h e are = numbers_split ks ns s.positions (positions (drop (i + 1) ls)) (subst (AreNumbers ks ns) (positions_from ls i s h e) are)
@@ -67,7 +67,7 @@ pub holds_at : (t : Point → Bool) (p : Point) (ps : List Point) → list_all t
 holds_at t p [] h k = cc
 holds_at t p (q ∷ qs) h k = grind (arith, same_is, holds_at t p qs)
 
--- the least, when all positions behind the first are read
+-- the least, when all positions after the first are read
 abbrev rest : List Point → List Point
 rest ps = take (length ps - 1) (drop 1 ps)
 

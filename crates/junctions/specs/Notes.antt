@@ -1,4 +1,4 @@
--- What is noted of each position while the lines are read.
+-- What is known of each position while the lines are read.
 use Rattle.std.specs.Prelude.{◌≡◌, ℕ, Bool, true, false, not, ◌||◌, List, [], ◌∷◌, ◌++◌, map, take, drop, length, slice_get, Option, None, Some, if◌then◌else◌}
 use Rattle.std.specs.List.{flat_map, list_any}
 use Rattle.geometry.specs.Points.{Point}
@@ -85,7 +85,7 @@ notes_of s = line_notes s.closed s.positions (visits s)
 abbrev pub all_notes : List Stroke → List Note
 all_notes ls = flat_map notes_of ls
 
--- one position more, behind the others if it is new
+-- one position more, after the others if it is new
 abbrev pub with_position : List Point → Point → List Point
 with_position ps q = if list_any (same q) ps then ps else ps ++ (q ∷ [])
 

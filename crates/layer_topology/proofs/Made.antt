@@ -39,7 +39,7 @@ module _ (ls : Named) (table : ArcsAndIndexes) (is : table ≡ table_of (map (sp
     at_level : kept ≡ map (reduce (threshold_at level (arcs_of_layers ls))) table.arcs
     at_level = subst (λ arcs. kept ≡ map (reduce (threshold_at level arcs)) table.arcs) table_arcs reduced
 
-    -- the same where each arc is reduced at the threshold of a level
+    -- the indexes that stay are those of the layers' arcs, each reduced at the threshold of a level
     pub level_indexes : kept ≡ arc_indexes (threshold_at level (arcs_of_layers ls)) ls
     level_indexes = indexes_are (threshold_at level (arcs_of_layers ls)) kept at_level
 

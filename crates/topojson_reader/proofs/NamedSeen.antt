@@ -25,7 +25,7 @@ module _ (start : Start) where
   nothing c h = ap (λ d. Ok ([], d)) (sym h)
 
   module _ (ms : Members) (os : List (List ℕ × TopoObject)) (c : Counts) where
-    -- behind a fault
+    -- after a fault
     pub passes : (failed : Option (List ℕ × TopoFault)) (m : List ℕ × Json) → is_some failed ≡ true → AreRead start ms os c failed → AreRead start (ms ++ m ∷ []) os c failed
     passes None m some h = absurd cc
     passes (Some failed) m some h = record {

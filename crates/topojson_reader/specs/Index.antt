@@ -86,7 +86,7 @@ abbrev pub GoesOnOrLoses : Counts → ℕ → List ℕ → Index → Index → L
 GoesOnOrLoses start d name before after bytes (Ok rest) = (TakesValue (IsIndex start d) d name before after bytes rest.now ⊎ ((front_value d bytes ≡ None) × IsLost d after)) × (IsLost d before → IsLost d after)
 GoesOnOrLoses start d name before after bytes (Err fault) = Fails fault (front_value d bytes)
 
--- the same of a member
+-- A member stands at the front, and the index goes on with it. Or none does, and the index is lost. One that was lost stays so. Or nothing is said.
 abbrev pub TakesOrLoses : Counts → ℕ → Index → Index → List ℕ → Result (Bor (List ℕ)) Fault → Type 0
 TakesOrLoses start d before after bytes (Ok rest) = (TakesMember (IsIndex start d) d before after bytes rest.now ⊎ ((front_member d bytes ≡ None) × IsLost d after)) × (IsLost d before → IsLost d after)
 TakesOrLoses start d before after bytes (Err fault) = Fails fault (front_member d bytes)

@@ -21,7 +21,7 @@ IsSeen Is vs Never = vs ≡ []
 IsSeen Is vs (Once x) = (v : Json) × (vs ≡ v ∷ []) × Is v x
 IsSeen Is vs Again = (v : Json) × (w : Json) × (us : List Json) × (vs ≡ v ∷ w ∷ us)
 
--- the same with one more
+-- a name that stood once more among members, with what is known of its value
 abbrev pub see : {A : Type 0} → Seen A → A → Seen A
 see Never x = Once x
 see (Once y) x = Again

@@ -22,7 +22,7 @@ impl<'a> Keeps for Rebuilding<'a> {
     }
 }
 
-/// All of them, each index replaced by the one that the ranks give for its arc.
+/// All of them, each index replaced by the one that the new indexes give for its arc.
 #[derive(Drop)]
 pub struct Ranked<'a> {
     ranks: &'a [ArcRef],

@@ -39,7 +39,7 @@ fn without_small(
     Ok(left)
 }
 
-/// The same, and those lines and rings, in reading order.
+/// The objects without the lines and rings that are small where they are rebuilt of these arcs, and those lines and rings, in reading order.
 fn large_over(
     alloc: Global,
     objects: Vec<(OwnText, TopoObject)>,
@@ -53,7 +53,7 @@ fn large_over(
     Ok((left, dropped))
 }
 
-/// The same, where the positions of the arcs are those that their cells stand for, and twice the area of a ring may not be under the
+/// The objects without their small lines and rings, and these, where the arcs' positions are those that their cells stand for, and twice the area of a ring may not be under the
 /// limit.
 fn large_objects(
     alloc: Global,
@@ -92,8 +92,8 @@ fn renumbered(
     Ok(left)
 }
 
-/// The objects and the picked arcs without the arcs that no line or ring of these objects uses, with new indexes, and how many of the
-/// positions of the other arcs were not picked.
+/// The objects and the retained arcs without the arcs that no line or ring of these objects uses, with new indexes, and how many of the
+/// positions of the other arcs were not retained.
 fn without_unused<P>(
     alloc: Global,
     objects: Vec<(OwnText, TopoObject)>,
@@ -115,9 +115,9 @@ fn without_unused<P>(
     Ok((left, stay, taken_out(before, after)))
 }
 
-/// What is left of objects over arcs of which only the picked cells stay: without the lines and rings that have no arc index, or are
+/// What is left of objects over arcs of which only the retained cells stay: without the lines and rings that have no arc index, or are
 /// small, and without the arcs that no other line uses; the lines and rings that are dropped, in reading order, an
-/// object in the place of a layer; and how many positions of the arcs that stay were not picked.
+/// object in the place of a layer; and how many positions of the arcs that stay were not retained.
 pub fn finish<P>(
     alloc: Global,
     objects: Vec<(OwnText, TopoObject)>,

@@ -154,7 +154,7 @@ fn pruned_shape<K: Keeps>(
     }
 }
 
-/// The same of a shape that may be null.
+/// What is left of the shape, if there is one, without the lines and rings that don't stay.
 fn pruned_option<K: Keeps>(
     alloc: Global,
     keeps: &K,
@@ -189,7 +189,7 @@ fn pruned_feature<K: Keeps>(
     })
 }
 
-/// The same of features in order.
+/// The features with their shapes pruned, in order.
 fn pruned_features<K: Keeps>(
     alloc: Global,
     keeps: &K,
@@ -221,7 +221,7 @@ fn pruned_object<K: Keeps>(
     }
 }
 
-/// The same of named objects in order.
+/// The named objects with the shapes of their features pruned, in order.
 pub fn pruned_objects<K: Keeps>(
     alloc: Global,
     keeps: &K,

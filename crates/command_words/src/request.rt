@@ -308,7 +308,7 @@ fn read_by<'a>(
 pub fn read_words<'a>(alloc: Global, words: &'a [String]) -> Result<Order<'a>, WordsFault>
     // The order is what the words ask for by the command line, and where they ask for nothing, or memory runs out, there is none.
     ensures exact { Answers (order_of (map string_bytes words.now)) ordered result }
-    // So is what is to be said of the run.
+    // What is to be said of the run is what the words ask for.
     ensures detail { IfOk result (λ order. detail_of (map string_bytes words.now) ≡ Some (detail order)) }
     // Help is printed for words that ask for it, and else they are refused, or have a fault of their own.
     ensures fault { IfErr result (IsFaultBy (kinds_of (map string_bytes words.now))) }

@@ -8,7 +8,7 @@ use Rattle.layer_sources.specs.Sources.{Sources, Named, AllRead}
 abbrev pub HaveOutcome : Type 0
 HaveOutcome = (exact : Bool) (bytes : Texts) → (outcome : Outcome) × ComesTo exact bytes outcome
 
--- and to one alone, but for the place and the reason in a malformed text
+-- bytes have only one outcome, but for the place and the reason in a malformed text
 abbrev pub HaveOneOutcome : Type 0
 HaveOneOutcome = (exact : Bool) (bytes : Texts) (one other : Outcome) → ComesTo exact bytes one → ComesTo exact bytes other → plain_outcome one ≡ plain_outcome other
 

@@ -49,7 +49,7 @@ pub fn built_decodes_on_grid()
     nothing_is_new();
 }
 
-/// So decoding what is built on such a grid gives each layer the features that are expected of it.
+/// Decoding what is built of layers on a grid on which their positions lie gives each layer the features that are expected of it.
 pub fn built_decodes_back_on_grid()
     ensures { DecodesBackOnGrid }
 {

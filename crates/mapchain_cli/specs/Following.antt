@@ -30,7 +30,7 @@ IsFaultOf (FileRefused e) (Some (fault.File f)) = f.now ≡ e
 IsFaultOf Memory (Some fault.Memory) = Unit {0}
 IsFaultOf ending f = ⊥
 
--- and so is a report that there is of its fault, if it has one
+-- the fault of a report is that of the outcome, if it has one
 abbrev pub HasFault : Outcome → Option RunFault → Type 0
 HasFault (Ok report) None = Unit {0}
 HasFault (Err ending) f = IsFaultOf ending f

@@ -62,13 +62,13 @@ GeoIsNeverRefused = (o : Options) (olds news : Sources) (sink_old sink_new : Dra
     → AllByRecursion (λ l. AnswersGeo l.0 source after out_old out_new result → OrMemory (λ sent. WritesAll out_old out_new 0 (features_text (Many l.1.features)) sent) result)
     (expected_for o is.layers)
 
--- `stat` reports the summary of the topology that was built,
+-- `stat` reports the summary of the topology that was built; or there is no memory.
 abbrev pub StatIsNeverRefused : Type 0
 StatIsNeverRefused = (o : Options) (olds news : Sources) (sink_old sink_new : Drained) (report : Report) (is : IsBuilt o olds news sink_old sink_new report)
     (source after : Fed) (result : Result Summary FileFault) (from : IsWrittenTo sink_old sink_new source) → length from.bytes ≤ max_input
     → after.failures ≡ 0 → AnswersStat source after result → OrMemory (λ summary. summary ≡ summary_of (written_for o is.layers)) result
 
--- and `simplify` writes at each threshold and ring limit the text of what is left of that topology, with its report; or there is no memory.
+-- `simplify` writes at each threshold and ring limit the text of what is left of the topology that was built, with its report; or there is no memory.
 abbrev pub SimplifyIsNeverRefused : Type 0
 SimplifyIsNeverRefused = (o : Options) (olds news : Sources) (sink_old sink_new : Drained) (report : Report) (is : IsBuilt o olds news sink_old sink_new report)
     (t limit : ℕ) (source after : Fed) (out_old out_new : Drained) (result : Result Report FileFault) (from : IsWrittenTo sink_old sink_new source) → length from.bytes ≤ max_input

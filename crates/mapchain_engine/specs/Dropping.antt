@@ -38,6 +38,6 @@ pub record LeavesOutWhatIsTold (lines : List Stroke) (t limit : ℕ) (s : Shape)
   pub left : some_of (λ x. stays_as (rebuilt lines t) x.part.cause x.part.closed x.part.line) judged
       ≡ option_strokes (prune (λ p. p) (kept_line lines t limit) s)
 
--- so it is with each shape, whatever the lines are that cut it
+-- each line of a shape is either reported as dropped or left, whatever the shape is and whatever the lines are that cut it
 abbrev pub DropsAreTold : Type 0
 DropsAreTold = (lines : List Stroke) (t limit : ℕ) (s : Shape) → LeavesOutWhatIsTold lines t limit s

@@ -32,7 +32,7 @@ pub fn built_text_comes_back()
     ensures { ComesBack }
 {}
 
-/// So what `build` wrote is never refused: on no more than `MAX_INPUT` bytes of it, and where no device has failed, whatever `to_geo`,
+/// What `build` wrote is never refused: on no more than `MAX_INPUT` bytes of it, and where no device has failed, whatever `to_geo`,
 /// `stat` and `simplify` answer by their contracts is `Ok`, with the features that are expected of a layer, the summary of the topology
 /// that was built, or what is left of it by threshold and ring limit; or it is `Memory`.
 pub fn built_text_is_never_refused()

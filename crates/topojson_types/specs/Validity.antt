@@ -101,7 +101,7 @@ IsObject transform (Many fs) = AllByRecursion (IsFeature transform) fs
 abbrev pub IsJoined : List (List Point) → Bool × List ℤ → Type 0
 IsJoined arcs b = Meet (map (arc_at arcs) b.1)
 
--- and a ring's arcs close
+-- the arcs of a ring close
 abbrev pub IsClosed : List (List Point) → Bool × List ℤ → Type 0
 IsClosed arcs b = b.0 ≡ true → Closes (map (arc_at arcs) b.1)
 

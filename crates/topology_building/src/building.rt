@@ -100,7 +100,7 @@ pub fn build<Q: Reducer, R: Feed, W: Drain>(
     ensures refused { IfErr result (λ e. (name_fault (map (λ s. s.0) sources.old) ≡ Some e)
         ⊎ IsLateFault options.now sources.old sources.new sink.old sink.new e) }
 
-    // And the other way round: the outcome of the bytes of the sources is answered, unless memory, a source or the sink failed. Where
+    // The outcome of the bytes of the sources is answered, unless memory, a source or the sink failed. Where
     // the first sources have a fault, nothing need be known of those after them.
     ensures decided { (bytes : Texts) (outcome : Outcome) → name_fault (map (λ s. s.0) sources.old) ≡ None
         → HaveBytesFor outcome sources.old bytes → ComesTo options.now.exact bytes outcome → Follows options.now outcome result }

@@ -46,7 +46,7 @@ pub fn to_geo<R: Feed, W: Drain>(
     ensures written { IfOk result (λ sent. IsDecoded name.now source.old source.new sink.old sink.new sent) }
     // Every fault is one that the source, its bytes or the name have, or a prefix of that text was written.
     ensures refused { IfErr result (λ e. IsGeoFault name.now source.old source.new sink.old sink.new e) }
-    // And the other way round: the outcome of the bytes of the source is answered, unless memory, the source or the sink failed.
+    // The outcome of the bytes of the source is answered, unless memory, the source or the sink failed.
     ensures decided { (bytes : List ℕ) (outcome : Result (List ℕ) Fault) → source.old.left ≡ Some bytes → FileComesTo (object_text name.now) bytes outcome
         → FollowsText sink.old sink.new outcome result }
 {

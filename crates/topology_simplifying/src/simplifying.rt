@@ -74,7 +74,7 @@ pub fn simplify<Q: Reducer, R: Feed, W: Drain>(
     ensures reduced { IfOk result (λ _. CallsForTopology source.old source.new (Q.calls reducer.old) (Q.calls reducer.new)) }
     // Every fault is one that the source or its bytes have, or a prefix of that text was written.
     ensures refused { IfErr result (λ e. IsSimplifyFault t ring_limit source.old source.new sink.old sink.new e) }
-    // And the other way round: the outcome of the bytes of the source is answered, unless memory, the source or the sink failed.
+    // The outcome of the bytes of the source is answered, unless memory, the source or the sink failed.
     ensures decided { (bytes : List ℕ) (outcome : Result (List ℕ × Told) Fault) → source.old.left ≡ Some bytes → FileComesTo (simplified t ring_limit) bytes outcome
         → FollowsSimplified sink.old sink.new outcome result }
 {

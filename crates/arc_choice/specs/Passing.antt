@@ -26,7 +26,7 @@ missing_behind n ps = n.missing - new_behind n.last ps
 abbrev pub PassesBy : {S V : Type 0} → (S → List Point → V) → List Point → S → S → Type 0
 PassesBy value ps old new = (behind : List Point) → value new behind ≡ value old (ps ++ behind)
 
--- as many are missing
+-- these positions are passed: whatever comes after them, as many are missing
 abbrev pub Passes : List Point → Need → Need → Type 0
 Passes = PassesBy missing_behind
 

@@ -55,7 +55,7 @@ abbrev pub and_layer : Option (Text × Text) → Option (List (Text × Text)) �
 and_layer (Some layer) (Some layers) = Some (layer ∷ layers)
 and_layer _ _ = None
 
--- all of them, if each has an `=`
+-- all layer words in two, if each has an `=`
 abbrev pub layers_of : List Text → Option (List (Text × Text))
 layers_of [] = Some []
 layers_of (word ∷ words) = and_layer (layer_of word) (layers_of words)

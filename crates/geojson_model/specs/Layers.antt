@@ -48,7 +48,7 @@ array_features exact v = do
   vs ← within None (pure (or_fail WrongKind (array_of v)))
   features_from exact 0 vs
 
--- they were read so, from these counts on
+-- the features were read so, from these counts on
 abbrev pub Collects : Start → Json → Result (List Featured) GeoFault → Counts → Type 0
 Collects start v (Ok fs) counts = array_features start.exact v start.counts ≡ Ok (fs, counts)
 Collects start v (Err e) counts = array_features start.exact v start.counts ≡ Err e

@@ -95,7 +95,7 @@ impl Elements for FeatureList {
     }
 }
 
-/// They alone, without room for more.
+/// The features alone, without room for more.
 fn items_of(features: FeatureList) -> Items<Feature>
     ensures { result ≡ features }
 {

@@ -42,12 +42,12 @@ omissions {P} {L} why = fold-Geometry P L L (List (Placed Cause)) (omissions_ste
 abbrev pub dropped_in : ℕ → ℕ → List (Placed Cause) → List Dropped
 dropped_in layer feature os = map (λ o. record { address = record { layer = layer; feature = feature; path = o.path }; cause = o.part }) os
 
--- those of the features of a layer, of which the first has this number
+-- the lines and rings that are left out of the features of a layer, of which the first has this number
 abbrev pub dropped_of_layer : ℕ → ℕ → List (List (Placed Cause)) → List Dropped
 dropped_of_layer layer feature [] = []
 dropped_of_layer layer feature (os ∷ oss) = dropped_in layer feature os ++ dropped_of_layer layer (suc feature) oss
 
--- those of the layers, of which the first has this number
+-- the lines and rings that are left out of the layers, of which the first has this number
 abbrev pub dropped_of_layers : ℕ → List (List (List (Placed Cause))) → List Dropped
 dropped_of_layers layer [] = []
 dropped_of_layers layer (osss ∷ more) = dropped_of_layer layer 0 osss ++ dropped_of_layers (suc layer) more

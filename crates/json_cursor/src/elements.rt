@@ -38,7 +38,7 @@ pub trait Element: Copy {
         ensures { Answers (λ x. option_to_list x) (reads self) (front_value deep bytes.now) counts.old counts.new result };
 }
 
-/// Those that were read so far.
+/// The elements that were read so far.
 #[derive(Drop)]
 struct Listed<E: Element> {
     list: Vec<E::Read>,
@@ -90,7 +90,7 @@ impl<E: Element> Elements for Listed<E> {
     }
 }
 
-/// They alone, without room for more.
+/// The elements alone, without room for more.
 fn items_of<E: Element>(listed: Listed<E>) -> Items<E::Read>
     ensures { result ≡ listed }
 {
@@ -153,7 +153,7 @@ fn begun<E: Element>(alloc: Global, one: Option<E::Read>) -> Result<Listed<E>, A
     Ok(Listed { list })
 }
 
-/// They, where the first isn't left out.
+/// The elements, where the first isn't left out.
 fn led<E: Element>(leads: bool, all: Listed<E>) -> Option<Items<E::Read>>
     ensures { result ≡ (if leads then Some all else None) }
 {

@@ -49,7 +49,7 @@ abbrev pub option_caused : (Bool → List Point → Option Cause) → Option Sha
 option_caused why None = []
 option_caused why (Some s) = omissions why s
 
--- those of all layers, in reading order
+-- the lines and rings of all layers that are dropped, in reading order
 abbrev pub layers_caused : (Bool → List Point → Option Cause) → Named → List Dropped
 layers_caused why ls = dropped_of_layers 0 (map (λ l. map (λ f. option_caused why f.shape) l.1.features) ls)
 

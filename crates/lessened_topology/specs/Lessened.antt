@@ -47,7 +47,7 @@ EachFromFirstToLast (is ∷ kept) (cells ∷ arcs) = FromFirstToLast (length cel
 abbrev pub small_cause : ℕ → List (List Point) → Bool → List ℤ → Option Cause
 small_cause limit arcs closed refs = if is_small limit closed (rejoined (map (arc_at arcs) refs)) then Some Small else None
 
--- its arc indexes, unless it is dropped
+-- the arc indexes of a line or ring, unless it is dropped
 abbrev pub large_refs : ℕ → List (List Point) → Bool → List ℤ → Option (List ℤ)
 large_refs limit arcs closed refs = unless (small_cause limit arcs closed refs) refs
 

@@ -49,7 +49,7 @@ pub record IsReportOf (outcome : Outcome) (text : List ℕ) (exit : ℕ) (run : 
   pub report : HasReport outcome run.report
   pub explanation : run.explanation.now ≡ text
 
--- its text is put in the place of the file of this path
+-- the text of the run's report is put in the place of the file of this path
 pub record PutsReport (files : FileUse) (path : List ℕ) (run : RunReport) : Type 0 where
   pub fresh : Drained
   pub is_fresh : IsFresh fresh
@@ -67,7 +67,7 @@ pub record IsBroken (files : FileUse) (path : List ℕ) (run : RunReport) : Type
   pub front : WritesFront fresh output 0 (run_text run) sent
   pub away : files.after ≡ discarded (begun true path files.before)
 
--- its output took it, and couldn't take the place of the file
+-- the output of the run's report took it, and couldn't take the place of the file
 pub record IsHeld (files : FileUse) (path : List ℕ) (run : RunReport) : Type 0 where
   pub fresh : Drained
   pub is_fresh : IsFresh fresh

@@ -20,7 +20,7 @@ pub record Judged : Type 0 where
 abbrev pub stroke_at : Placed Judged → Placed (Bool × List Point)
 stroke_at x = record { path = x.path; part = (x.part.closed, x.part.line) }
 
--- its cause with the way to it, if it is left out
+-- the cause of a line with the way to it, if it is left out
 abbrev pub cause_at : Placed Judged → Option (Placed Cause)
 cause_at x = map_some (λ c. record { path = x.path; part = c }) x.part.cause
 

@@ -20,7 +20,7 @@ use Rattle.topojson_types.specs.Topologies.{TopoShape}
 abbrev pub RefsOf : Type 0
 RefsOf = Bool → List Point → List ℤ
 
--- those of the lines and rings that have enough positions from the first
+-- the arc indexes of the lines and rings that have enough positions from the first
 abbrev pub long_refs : RefsOf → List (Bool × List Point) → List (List ℤ)
 long_refs of [] = []
 long_refs of (b ∷ bs) = if is_short b.0 (clean b.1) then long_refs of bs else of b.0 b.1 ∷ long_refs of bs

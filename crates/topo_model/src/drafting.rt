@@ -30,7 +30,7 @@ impl<'a> Model for Waiting<'a> {
 }
 
 impl<'a> Waiting<'a> {
-    /// All of them.
+    /// The arc indexes of all lines and rings of a table.
     fn all(table: &'a Table) -> Waiting<'a>
         ensures { result ≡ table.now.refs }
     {

@@ -21,7 +21,7 @@ use Rattle.reports.specs.Summaries.{summary_of}
 
 -- ---- what is asked of a topology and of what is counted in reading it
 
--- its summary
+-- the summary of a topology
 abbrev pub summarised : Contents → Counts → Result Summary FileFault
 summarised t counts = Ok (summary_of t)
 

@@ -48,7 +48,7 @@ fn pruned_line<K: Keeps>(keeps: &K, refs: Items<ArcRef>) -> Option<TopoShape>
     }
 }
 
-/// Those of the lines that stay, if any does.
+/// The lines that stay, if any does.
 #[tactic(auto, using(arc_choice::proofs::Kept::empty_left, arc_choice::proofs::Kept::some_left))]
 fn pruned_lines<K: Keeps>(
     alloc: Global,
@@ -87,7 +87,7 @@ fn pruned_area<K: Keeps>(
     Ok(Some(Items::of(kept)))
 }
 
-/// Those of the polygons that stay, if any does.
+/// The polygons that stay, if any does.
 #[tactic(auto, using(arc_choice::proofs::Kept::empty_left, arc_choice::proofs::Kept::some_left))]
 fn pruned_areas<K: Keeps>(
     alloc: Global,

@@ -29,7 +29,7 @@ pub record Knowledge : Type 0 where
 abbrev pub is_settled : Knowledge → Bool
 is_settled k = k.ends || (k.turns || is_more k.neighbors)
 
--- what is kept says what is known, where neighbors are given by their places among these positions
+-- what is kept represents what is known, where neighbors are given by their places among these positions
 abbrev pub Says : List Point → Vertex → Knowledge → Type 0
 Says ks Unvisited k = (k.neighbors ≡ Zero) × (k.turns ≡ false) × (k.ends ≡ false)
 Says ks (Between a b) k =

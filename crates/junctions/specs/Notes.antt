@@ -98,12 +98,12 @@ with_positions ps (q ∷ qs) = with_positions (with_position ps q) qs
 abbrev pub AreNumbers : List Point → List ℕ → List Point → Type 0
 AreNumbers ks ns ps = map (slice_get ks) ns ≡ map Some ps
 
--- what is kept of each of the positions says what is known of it by the notes
+-- what is kept of each of the positions represents what is known of it by the notes
 pub record Say (ks : List Point) (vs : List Vertex) (ns : List Note) : Type 0 where
   pub size : length vs ≡ length ks
   pub each : (i : ℕ) (p : Point) (v : Vertex) → slice_get ks i ≡ Some p → slice_get vs i ≡ Some v → Says ks v (after nothing_known ns p)
 
--- what is kept says these notes more
+-- what is kept represents these notes too, whatever notes came before
 abbrev pub Takes : List Point → List Vertex → List Vertex → List Note → Type 0
 Takes ks old new ns = (before : List Note) → Say ks old before → Say ks new (before ++ ns)
 

@@ -71,7 +71,7 @@ module _ {S V : Type 0} (value : S → List Point → V) where
   pub later_all : (arcs : List (List Point)) (later : List ℤ) (i : ℕ) (all : List Point) (old now : S) → length later ≤ i → Open (later_left arcs (drop i later)) all old now → PassesBy value all old now
   later_all arcs later i all old now le so_far b = ap (λ rs. value now (later_left arcs rs ++ b)) (sym (drop_all i later le)) ∙ so_far b
 
--- or none is missing any more
+-- where none is missing any more, all positions count as passed
 pub stopped : (left all : List Point) (old now : Need) → now.missing ≡ 0 → Open missing_behind left all old now → Passes all old now
 stopped left all old now none so_far behind = none_missing now behind none ∙ sym (none_missing now (left ++ behind) none) ∙ so_far behind
 

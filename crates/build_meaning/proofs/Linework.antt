@@ -153,6 +153,6 @@ own_in lines b h e p k =
     let s = h e in
     in_flat (pieces_of lines) s.0 p lines s.1 (subst (λ m. In p (plain_pieces lines m)) (sym s.2) k)
 
--- and their interior positions are distinct
+-- the interior positions of the pieces of the linework are distinct
 pub own_apart : (ls : Named) → AreSound ls → (p : List Point) → In p (pieces (linework (layers_of ls))) → Apart (interior p)
 own_apart ls h p k = (structured (linework (layers_of ls)) (all_clean ls h)).interior p k

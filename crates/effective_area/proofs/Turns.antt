@@ -396,7 +396,7 @@ none_under t ps links items mid left vs s l em = least_decides (λ d. t ≤ d.ar
         absurd (gone (entry_in ps links v) (l.stays (entry_in ps links v) c (current_at ps links v (omega (arith, s.linked.last, m)))))
     at v p k m none (inr o) = o
 
--- and those that are present stay
+-- those that are present stay where none is under the threshold
 pub end_none : (t : ℕ) (ps : List Point) (links : List Link) (items : List (Reverse Entry)) (left : ℕ) (vs : List ℕ) →
     IsState t ps links items left vs → AllByRecursion (λ c. t ≤ c.area) (corners (vertices ps (0 ∷ vs))) → 0 ∷ vs ≡ reduce t ps
 end_none t ps links items left vs s h = settled t ps (0 ∷ vs) (sym (none_taken (left + 2) t (vertices ps (0 ∷ vs)) h) ∙ s.rest)

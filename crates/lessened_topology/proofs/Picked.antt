@@ -49,7 +49,7 @@ each_again : ZeroLaw → (t : ℕ) (arcs : List (List Point)) → map (reduced t
 each_again zero t [] = refl
 each_again zero t (a ∷ arcs) = grind (arith, each_again zero t arcs)
 
--- so arcs that were reduced at zero and of which some are left out are reduced as they were before
+-- arcs that were reduced at zero and of which some are left out are reduced as they were before
 pub arcs_again : ZeroLaw → (t : ℕ) (used : ℕ → Bool) (arcs : List (List Point)) →
     picked_arcs (map (reduce t) (keep_from used 0 (map (reduced 0) arcs))) (keep_from used 0 (map (reduced 0) arcs)) ≡ keep_from used 0 (map (reduced t) arcs)
 arcs_again zero t used arcs =

@@ -48,6 +48,6 @@ apart_ranks u n (suc i) (suc j) h k e = grind (arith, apart_ranks u (suc n) i j)
 same_test : (i j k l : ℕ) → (k ≡ l → i ≡ j) → (i ≡ j → k ≡ l) → (i == j) ≡ (k == l)
 same_test i j k l f g = grind (arith, nat_tests, f, g)
 
--- so a test on one is the test on its new index
+-- a test on an index is the test on its new index
 pub test_ranks : (u : ℕ → Bool) (i j : ℕ) → u i ≡ true → u j ≡ true → (i == j) ≡ (rank_from u 0 i == rank_from u 0 j)
 test_ranks u i j h k = grind (arith, same_test, apart_ranks)

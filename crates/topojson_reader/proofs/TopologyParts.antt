@@ -43,7 +43,7 @@ one_value front v w rest end h k = (pair_is v rest (w, end) (sym h ∙ k)).0
 pub needed_front : (d : ℕ) (vs : List Json) (at : Bor (List ℕ)) → IsSeen (IsFront d) vs (Once at) → NeededAt d vs (Ok at)
 needed_front d vs at (v, same, (rest, front)) = (v, rest, same, front)
 
--- and no value, or more than one, is a fault
+-- no value of a name that is needed, or more than one, is a fault
 pub needed_never : (d : ℕ) (vs : List Json) → vs ≡ [] → NeededAt d vs (Err topo.Missing)
 needed_never d vs h = rw h refl
 

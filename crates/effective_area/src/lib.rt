@@ -5,7 +5,8 @@
 //! `weights` goes the same way without a threshold, and says up to which one each position stays. Over these weights
 //! `share_threshold` finds the greatest threshold at which a share of the positions between the ends stays, and `kept_by_weights`
 //! says what stays at a threshold: the answer of a `Reducer`, without reducing again. For them `weights_until` need not report all weights of
-//! a long line: `most_weighed` says how many positions are removed at most, and `capped_is_enough` that the answers are the same. Of whole rings `ring_under`, which is
+//! a long line: `most_weighed` says how many positions are removed at most, and `capped_is_enough` that the answers are the same. Of whole
+//! rings `ring_under`, which is
 //! passed on from `geometry`, says whether their area is under a limit.
 #![tactic(auto)]
 

@@ -68,13 +68,15 @@ pub record TakesObject {S : Type 0} (Holds : ℕ → Made S) (d : ℕ) (bytes : 
   pub front : front_value d bytes ≡ Some (j.Object members, rest)
   pub holds : Holds (d - 1) [] before → Holds (d - 1) members after
 
--- an object of members stands at the front, and what was made of none goes on with them; or whatever value stands there is no object; or none stands there, or nothing is said
+-- an object of members stands at the front, and what was made of none goes on with them; or whatever value stands there is no object; or
+-- none stands there, or nothing is said
 abbrev pub GoesThrough : {S : Type 0} → (ℕ → Made S) → ℕ → List ℕ → S → S → Result (Option (Bor (List ℕ))) Fault → Type 0
 GoesThrough Holds d bytes before after (Ok (Some rest)) = TakesObject Holds d bytes before after rest.now
 GoesThrough Holds d bytes before after (Ok None) = (v : Json) (end : List ℕ) → front_value d bytes ≡ Some (v, end) → object_of v ≡ None
 GoesThrough Holds d bytes before after (Err fault) = Fails fault (front_value d bytes)
 
--- an object of members stands at the front, and what is answered was made of them; or whatever value stands there is no object; or none stands there, or nothing is said
+-- an object of members stands at the front, and what is answered was made of them; or whatever value stands there is no object; or none
+-- stands there, or nothing is said
 abbrev pub ReadsObject : {S : Type 0} → (ℕ → Made S) → ℕ → List ℕ → S → Result (Option S × Bor (List ℕ)) Fault → Type 0
 ReadsObject Holds d bytes before (Ok (Some after, rest)) = TakesObject Holds d bytes before after rest.now
 ReadsObject Holds d bytes before (Ok (None, rest)) = (v : Json) (end : List ℕ) → front_value d bytes ≡ Some (v, end) → object_of v ≡ None

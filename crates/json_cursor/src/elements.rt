@@ -119,7 +119,8 @@ pub fn array_at<'a, E: Element>(
     }
 }
 
-/// The elements of the array at the front, which is to have some, and what follows it: an empty one is counted, and gives nothing. What is no array has the fault `wrong`.
+/// The elements of the array at the front, which is to have some, and what follows it: an empty one is counted, and gives nothing. What is
+/// no array has the fault `wrong`.
 pub fn some_array_at<'a, E: Element>(
     alloc: Global,
     deep: u32,

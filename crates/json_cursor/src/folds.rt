@@ -123,7 +123,8 @@ pub fn folded_array_at<'a, T: Elements + Drop>(
     }
 }
 
-/// What is made of the elements of the array at the front, which is to have some, and what follows it: an empty one is counted, and nothing is made of it.
+/// What is made of the elements of the array at the front, which is to have some, and what follows it: an empty one is counted, and nothing
+/// is made of it.
 pub fn folded_some_at<'a, T: Elements + Drop>(
     alloc: Global,
     deep: u32,

@@ -31,7 +31,8 @@ PickedIsReduced = (t : ℕ) (ps : List Point) → picked (reduce t ps) ps ≡ re
 abbrev pub LessensToBuilt : Type 0
 LessensToBuilt = (t limit : ℕ) (ls : Named) → AreSound ls → lessened t limit (built 0 0 ls) ≡ built t limit ls
 
--- on a grid on which each position of the layers lies, what is built at a threshold and a limit of zero and then reduced by both is what is built by both
+-- on a grid on which each position of the layers lies, what is built at a threshold and a limit of zero and then reduced by both is what is
+-- built by both
 abbrev pub LessensToBuiltOnGrid : Type 0
 LessensToBuiltOnGrid = (transform : Transform) (cell : Point → Point) (t limit : ℕ) (ls : Named) → AreSound ls → AllByRecursion (LiesBack transform cell) (layers_points (layers_of ls))
     → lessened t limit (celled transform cell (built 0 0 ls)) ≡ celled transform cell (built t limit ls)

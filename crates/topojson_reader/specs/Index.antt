@@ -102,7 +102,8 @@ pub record IsIndexed (start : Counts) (d : ℕ) (bytes : List ℕ) (i : Index) (
   pub front : front_value d bytes ≡ Some (j.Object members, rest)
   pub index : IsIndex start (d - 1) members i
 
--- an object stands at the front, and this was seen of its members; or no value does, and the index is lost; or whatever value stands there is no object; or none stands there, or nothing is said
+-- an object stands at the front, and this was seen of its members; or no value does, and the index is lost; or whatever value stands there
+-- is no object; or none stands there, or nothing is said
 abbrev pub Indexes : Counts → ℕ → List ℕ → Result (Option (Index × Bor (List ℕ))) Fault → Type 0
 Indexes start d bytes (Ok (Some x)) = (0 < d) × (IsIndexed start d bytes x.0 x.1.now ⊎ ((front_value d bytes ≡ None) × IsLost (d - 1) x.0))
 Indexes start d bytes (Ok None) = (v : Json) (end : List ℕ) → front_value d bytes ≡ Some (v, end) → object_of v ≡ None

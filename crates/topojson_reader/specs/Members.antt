@@ -49,7 +49,8 @@ pub record TakesValue {S : Type 0} (Holds : Made S) (d : ℕ) (name : List ℕ) 
   pub front : front_value d bytes ≡ Some (value, rest)
   pub holds : (ms : Members) → Holds ms before → Holds (ms ++ (name, value) ∷ []) after
 
--- a value stands at the front, and what was made of the members before goes on with it as the one of this name; or none stands there, or nothing is said
+-- a value stands at the front, and what was made of the members before goes on with it as the one of this name; or none stands there, or
+-- nothing is said
 abbrev pub GoesOnWith : {S : Type 0} → Made S → ℕ → List ℕ → S → S → List ℕ → Result (Bor (List ℕ)) Fault → Type 0
 GoesOnWith Holds d name before after bytes (Ok rest) = TakesValue Holds d name before after bytes rest.now
 GoesOnWith Holds d name before after bytes (Err fault) = Fails fault (front_value d bytes)

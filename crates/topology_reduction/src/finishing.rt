@@ -53,7 +53,8 @@ fn large_over(
     Ok((left, dropped))
 }
 
-/// The objects without their small lines and rings, and these, where the arcs' positions are those that their cells stand for, and twice the area of a ring may not be under the
+/// The objects without their small lines and rings, and these, where the arcs' positions are those that their cells stand for, and twice
+/// the area of a ring may not be under the
 /// limit.
 fn large_objects(
     alloc: Global,

@@ -84,7 +84,8 @@ pub trait Reduces: Sized {
     ghost contents: { Self → Contents };
 
     /// What is left of it, with of each arc only the cells with the numbers of its own list, which begin with the first and end
-    /// with the last, without rings that enclose less than half the limit; the lines and rings that are dropped; and how many positions are removed from the arcs that stay.
+    /// with the last, without rings that enclose less than half the limit; the lines and rings that are dropped; and how many positions are
+    /// removed from the arcs that stay.
     fn reduce(
         self,
         alloc: Global,

@@ -1,4 +1,4 @@
-//! A reducer that was refused memory answers the next call as a new one does: it reduces a line twice by the same reducer, and tells
+//! A reducer that was refused memory answers the next call as a new one does: it reduces a line twice by the same reducer, and says
 //! what came. It refuses nothing itself: the script `scripts/refused-memory.py` runs it with its first allocation refused, with its
 //! second, and so on, as it runs the program `mapchain`. It stands on `effective_area`.
 #![tactic(auto)]
@@ -40,7 +40,7 @@ fn reduced(alloc: Global, heap: &mut HeapLinks) -> Outcome {
     }
 }
 
-/// What is told of two outcomes of the same reducer.
+/// What is said of two outcomes of the same reducer.
 fn told(first: Outcome, second: Outcome) -> &'static str {
     match (first, second) {
         (Outcome::Answered, Outcome::Answered) => "answered twice",

@@ -11,7 +11,7 @@ chosen_is : {X : Type 0} (u : ℕ → Bool) (n : ℕ) (xs : List X) → chosen (
 chosen_is u n [] = refl
 chosen_is u n (x ∷ xs) = ap (λ ys. if u n then x ∷ ys else ys) (chosen_is u (suc n) xs)
 
--- the same where they are so many answers
+-- where the flags are the answers for as many numbers as there are elements, the chosen elements are those that pass
 pub chosen_as : {X : Type 0} (u : ℕ → Bool) (n : ℕ) (flags : List Bool) (xs : List X) → flags ≡ answers u 0 n → n ≡ length xs → chosen flags xs ≡ keep_from u 0 xs
 chosen_as u n flags xs are many = ap (λ bs. chosen bs xs) (are ∙ ap (answers u 0) many) ∙ chosen_is u 0 xs
 

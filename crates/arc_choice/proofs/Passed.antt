@@ -25,7 +25,7 @@ passed_same n q p e s behind = grind (arith, same_is)
 pub passed_other : (n : Need) (q p : Point) (missing : ℕ) → n.last ≡ Some q → same q p ≡ false → missing ≡ n.missing - 1 → Passes (p ∷ []) n (need (Some p) missing)
 passed_other n q p missing e s m behind = grind (arith, some_left)
 
--- ---- the arcs behind the first, each without its first position
+-- ---- the arcs after the first, each without its first position
 
 tail_is : (xs : List Point) → tail xs ≡ drop 1 xs
 tail_is xs = grind arith
@@ -35,7 +35,7 @@ later_left arcs refs = joined_behind_first (map (arc_at arcs) refs)
 
 -- ---- lists
 
--- where none is missing, none is missing behind whatever comes
+-- where none is missing, none is missing after whatever comes
 pub none_missing : (n : Need) (ps : List Point) → n.missing ≡ 0 → missing_behind n ps ≡ 0
 none_missing n ps h = omega (arith, h)
 
@@ -60,7 +60,7 @@ module _ {S V : Type 0} (value : S → List Point → V) where
   pub nothing_passed : (from : ℕ) (arc : List Point) (n : S) → arc ≡ [] → PassesBy value (drop from arc) n n
   nothing_passed from arc n e behind = sym (ap (λ a. value n (a ++ behind)) (ap (drop from) e ∙ drop_all from [] (omega arith)))
 
-  -- of the arcs behind the first, each without its first position, one more is passed
+  -- of the arcs after the first, each without its first position, one more is passed
   pub later_passed : (arcs : List (List Point)) (later : List ℤ) (i : ℕ) (r : ℤ) (all : List Point) (old now new : S) → i < length later → r ≡ get_or later i r
       → Open (later_left arcs (drop i later)) all old now → PassesBy value (drop 1 (arc_at arcs r)) now new → Open (later_left arcs (drop (i + 1) later)) all old new
   later_passed arcs later i r all old now new lt is so_far pass =
@@ -71,7 +71,7 @@ module _ {S V : Type 0} (value : S → List Point → V) where
   pub later_all : (arcs : List (List Point)) (later : List ℤ) (i : ℕ) (all : List Point) (old now : S) → length later ≤ i → Open (later_left arcs (drop i later)) all old now → PassesBy value all old now
   later_all arcs later i all old now le so_far b = ap (λ rs. value now (later_left arcs rs ++ b)) (sym (drop_all i later le)) ∙ so_far b
 
--- or none is missing any more
+-- where none is missing any more, all positions count as passed
 pub stopped : (left all : List Point) (old now : Need) → now.missing ≡ 0 → Open missing_behind left all old now → Passes all old now
 stopped left all old now none so_far behind = none_missing now behind none ∙ sym (none_missing now (left ++ behind) none) ∙ so_far behind
 

@@ -24,7 +24,7 @@ answers_get f n (suc count) (suc i) k d e lt = answers_get f (suc n) count i k d
 pub answers_at : {X : Type 0} (f : ℕ → X) (xs : List X) (count i : ℕ) (d x : X) → xs ≡ answers f 0 count → i < count → get_or xs i d ≡ x → f i ≡ x
 answers_at f xs count i d x are lt is = sym (ap (λ ys. get_or ys i d) are ∙ answers_get f 0 count i i d (omega arith) lt) ∙ is
 
--- ---- ranks
+-- ---- new indexes of arcs
 
 swapped : (a b : Bool) (r : ℕ) → (if b then suc (if a then suc r else r) else (if a then suc r else r)) ≡ (if a then suc (if b then suc r else r) else (if b then suc r else r))
 swapped a b r = grind arith
@@ -36,11 +36,11 @@ rank_end u n (suc count) k e = grind (arith, swapped, rank_end u (suc n) count k
 pub rank_more : (u : ℕ → Bool) (i : ℕ) → rank_from u 0 (i + 1) ≡ (if u i then suc (rank_from u 0 i) else rank_from u 0 i)
 rank_more u i = let same : i + 1 ≡ suc i = omega arith in ap (rank_from u 0) same ∙ rank_end u 0 i i (omega arith)
 
--- the rank of the next arc, and those of the arcs before it
+-- the new index of the next arc, and those of the arcs before it
 abbrev pub AreRanks : List Bool → ℕ → ℕ → List ℤ → Type 0
 AreRanks used i rank ranks = (u : ℕ → Bool) → used ≡ answers u 0 (length used) → (rank ≡ rank_from u 0 i) × (ranks ≡ answers (λ j. pos (rank_from u 0 j)) 0 i)
 
--- the same with bounds
+-- the new index of the next arc and those of the arcs before it, with bounds
 abbrev pub Ranked : List Bool → ℕ → ℕ → List ℤ → Type 0
 Ranked used i rank ranks = (rank ≤ i) × (length ranks ≡ i) × AreRanks used i rank ranks
 
@@ -62,7 +62,7 @@ rank_unset used i rank next ranks more lt is n m so_far = grind (arith, one_long
 
 -- ---- indexes
 
--- the ranks of the arcs that pass
+-- the new indexes of the arcs that pass
 abbrev pub RanksOf : List ℤ → (ℕ → Bool) → Type 0
 RanksOf ranks u = ranks ≡ answers (λ i. pos (rank_from u 0 i)) 0 (length ranks)
 
@@ -86,11 +86,11 @@ directed_rank : (u : ℕ → Bool) (r : ℤ) → directed_as r (pos (rank_from u
 unfolding number_of
 directed_rank u r = grind (arith, complement)
 
--- where the list has the ranks of the arcs that pass, this is the index among these
+-- where the list has the new indexes of the arcs that pass, this is the index among these
 renumbered_same : (ranks : List ℤ) (u : ℕ → Bool) (index : ℤ) → RanksOf ranks u → number_of index < length ranks → renumbered_by ranks index ≡ renumbered u index
 renumbered_same ranks u index are lt = grind (arith, slice_get-get_or ranks (number_of index) (pos 0) lt, answers_at, directed_rank u index)
 
--- the same of each index of a line or ring
+-- each index of a line or ring is renumbered as it is among the arcs that pass
 pub all_renumbered : (ranks : List ℤ) (u : ℕ → Bool) (refs : List ℤ) → RanksOf ranks u → AreInRange (length ranks) refs → map (renumbered_by ranks) refs ≡ map (renumbered u) refs
 all_renumbered ranks u [] are h = refl
 all_renumbered ranks u (r ∷ refs) are h = ap (λ z. z ∷ map (renumbered_by ranks) refs) (renumbered_same ranks u r are h.0) ∙ ap (λ zs. renumbered u r ∷ zs) (all_renumbered ranks u refs are h.1)

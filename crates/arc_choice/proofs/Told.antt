@@ -1,4 +1,4 @@
--- What is dropped, told part by part.
+-- What is dropped, listed part by part.
 use Rattle.std.proofs.Common.{◌≡◌, ℕ, suc, ◌+◌, ◌<◌, ◌≤◌, List, [], ◌∷◌, ◌++◌, map, drop, length, get_or, append_assoc, append-nil, refl, ap, sym, ◌∙◌, arith}
 use Rattle.std.proofs.lemmas.List.{at_drop_all, at_drop_more, map-append}
 use Rattle.geometry.specs.declared.address.Address.{Address}
@@ -10,7 +10,7 @@ use Rattle.arc_choice.specs.Places.{dropped_at}
 
 -- ---- part by part
 
--- one element more of a list whose elements are told one after the other
+-- one element more of a list whose elements are listed one after the other
 pub told_more : {X Y : Type 0} (of : ℕ → X → List Y) (all : ℕ → List X → List Y) → ((i : ℕ) (x : X) (xs : List X) → all i (x ∷ xs) ≡ of i x ++ all (suc i) xs) →
     (k i : ℕ) (now new whole : List Y) (xs : List X) (x : X) → i < length xs → x ≡ get_or xs i x →
     now ++ all k (drop i xs) ≡ whole → new ≡ now ++ of k x → new ++ all (k + 1) (drop (i + 1) xs) ≡ whole

@@ -13,7 +13,7 @@ pub record Need : Type 0 where
 abbrev pub unpassed : Bool → Need
 unpassed closed = record { last = None; missing = if closed then 4 else 2 }
 
--- how many positions these are more behind the last one, with equal neighbours as one
+-- how many positions these are more after the last one, with equal neighbours as one
 abbrev pub new_behind : Option Point → List Point → ℕ
 new_behind None ps = length (clean ps)
 new_behind (Some p) ps = length (clean_from p ps) - 1
@@ -22,11 +22,11 @@ new_behind (Some p) ps = length (clean_from p ps) - 1
 abbrev pub missing_behind : Need → List Point → ℕ
 missing_behind n ps = n.missing - new_behind n.last ps
 
--- these positions are passed: with whatever comes behind them it comes to the same
+-- these positions are passed: with whatever comes after them the value is unchanged
 abbrev pub PassesBy : {S V : Type 0} → (S → List Point → V) → List Point → S → S → Type 0
 PassesBy value ps old new = (behind : List Point) → value new behind ≡ value old (ps ++ behind)
 
--- as many are missing
+-- these positions are passed: whatever comes after them, as many are missing
 abbrev pub Passes : List Point → Need → Need → Type 0
 Passes = PassesBy missing_behind
 

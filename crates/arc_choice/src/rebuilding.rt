@@ -76,7 +76,7 @@ fn is_short_rebuilt(closed: bool, refs: &[ArcRef], arcs: &[Items<Cell>]) -> bool
     need.missing > 0
 }
 
-/// The same of an open line or a ring with these positions.
+/// Whether an open line with these positions, equal neighbours as one, has fewer than two, or a ring fewer than four.
 pub fn is_short_line(closed: bool, positions: &[Position]) -> bool
     ensures { result ≡ is_short closed (clean positions.now) }
 {

@@ -34,7 +34,7 @@ fn complement(index: ArcRef) -> ArcRef
     ArcRef::of(-1 - index.written())
 }
 
-/// The index of the same arc in the same direction by the ranks. An index that names no arc stays.
+/// The index of the same arc in the same direction by the new indexes. An index that names no arc stays.
 fn renumber(index: ArcRef, ranks: &[ArcRef]) -> ArcRef
     ensures { result ≡ renumbered_by ranks.now index }
 {
@@ -48,7 +48,7 @@ fn renumber(index: ArcRef, ranks: &[ArcRef]) -> ArcRef
     }
 }
 
-/// The same of each index of a line or ring, in place.
+/// Each index of a line or ring is replaced by that of its arc among the arcs that stay. An index that names no arc stays.
 pub fn renumber_all(refs: &mut [ArcRef], ranks: &[ArcRef])
     ensures { refs.new ≡ map (renumbered_by ranks.now) refs.old }
 {
@@ -99,7 +99,7 @@ pub fn used_positions<P>(arcs: &[Items<P>], used: &[bool]) -> u128
     count
 }
 
-/// How many of so many positions are taken out where so many stay: a count that stays at `u64::MAX` where it would pass it.
+/// How many of so many positions are removed where so many stay: a count that stays at `u64::MAX` where it would pass it.
 pub fn taken_out(before: u128, after: u128) -> u64
     ensures { result ≡ saturated (before - after) }
 {

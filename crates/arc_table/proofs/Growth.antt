@@ -28,7 +28,7 @@ any_last t xs x h = any_from_in t x (xs ++ (x ∷ [])) (in_right x xs (x ∷ [])
 grown_keeps : (qs : List (List Point)) (p x : List Point) → has_alike qs x ≡ true → has_alike (grown qs p) x ≡ true
 grown_keeps qs p x h = grind (arith, any_append)
 
--- an index stays as arcs are added behind
+-- an index stays as arcs are added at the end
 index_stays : (qs more : List (List Point)) (x : List Point) → has_alike qs x ≡ true → first_alike (qs ++ more) x ≡ first_alike qs x
 index_stays [] more x h = cc
 index_stays (q ∷ qs) more x h = grind (arith, index_stays qs more x)
@@ -36,7 +36,7 @@ index_stays (q ∷ qs) more x h = grind (arith, index_stays qs more x)
 grown_index : (qs : List (List Point)) (p x : List Point) → has_alike qs x ≡ true → first_alike (grown qs p) x ≡ first_alike qs x
 grown_index qs p x h = grind (arith, index_stays)
 
--- a piece that is alike none has the number behind all
+-- a piece that is alike none has the number after all others
 new_index : (qs : List (List Point)) (p : List Point) → has_alike qs p ≡ false → first_alike (qs ++ (p ∷ [])) p ≡ pos (length qs)
 new_index [] p h = ap (λ b. cond b (directed (same_line p p) 0) (next (pos 0))) (alike_self p) ∙ ap (λ b. directed b 0) (same_line_self p)
 new_index (q ∷ qs) p h = grind (arith, new_index qs p)

@@ -43,7 +43,7 @@ piece_ranged ps x k = subst (λ z. number_of z < length (arcs_of ps)) (sym (piec
 pieces_named : (ps xs : List (List Point)) → ((x : List Point) → In x xs → In x ps) → map (arc_at (arcs_of ps)) (map (index_in (arcs_of ps)) xs) ≡ xs
 pieces_named ps xs f = grind (arith, map_same (index_in (arcs_of ps)) (first_alike (arcs_of ps)) xs, piece_index ps, named_all (arcs_of ps) xs, piece_has_alike)
 
--- so it is at the end of the loop over the lines
+-- what was found of the lines so far is that of all of them at the end of the loop over the lines
 pub built : (ss : List SplitStroke) (i : ℕ) (qs : List (List Point)) (rss : List (List ℤ)) → length ss ≤ i →
     qs ≡ grow_all [] (every (take i (piece_lists ss))) → rss ≡ refs_in qs (take i (piece_lists ss)) → table qs rss ≡ table_of ss
 built ss i qs rss h e f = grind (arith, every_piece, refs_in, map_same, piece_index, in_every, build_end, length-map ss (λ s. s.pieces))

@@ -111,7 +111,7 @@ not_found arcs x h = grind (arith, found_is, number_has)
 
 -- ---- one arc more
 
--- a new arc is behind all, and none started so
+-- a new arc comes last, and none started so
 pub starts_push : (arcs : List (List Point)) (starts : List Segment) (x : List Point) (s : Segment) → IsStarts arcs starts → StartTells arcs x → start_of x ≡ Some s → found 0 arcs x ≡ None →
     IsStarts (arcs ++ (x ∷ [])) (with_key equal starts s)
 starts_push arcs starts x s known tells e h =

@@ -1,4 +1,4 @@
--- The pieces of lines are told by their starts, and so are the arcs that grow of them.
+-- The pieces of lines are identified by their starts, and so are the arcs that grow of them.
 use Rattle.std.proofs.Common.{◌≡◌, ℕ, zero, suc, ◌+◌, ◌<◌, ◌≤◌, Bool, true, false, cond, List, [], ◌∷◌, ◌++◌, take, length, reverse, append_assoc, refl, ap, sym, ◌∙◌, subst, arith, ◌⊎◌, inl, inr, Some}
 use Rattle.std.proofs.lemmas.List.{reverse-reverse}
 use Rattle.std.proofs.lemmas.Bool.{or_parts}

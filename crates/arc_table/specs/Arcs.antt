@@ -6,7 +6,7 @@ use Rattle.cutter.specs.Slices.{SplitStroke, all_pieces, piece_lists}
 use Rattle.geometry.specs.Points.{Point}
 use Rattle.geometry.specs.Rings.{same}
 
--- the same positions, in the same order
+-- two lists of positions are equal
 abbrev pub same_line : List Point → List Point → Bool
 same_line [] [] = true
 same_line [] (q ∷ qs) = false

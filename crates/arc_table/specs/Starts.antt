@@ -6,7 +6,7 @@ use Rattle.cutter.specs.Segments.{Segment}
 use Rattle.geometry.specs.Points.{Point}
 use Rattle.geometry.specs.Rings.{same}
 
--- the same positions, in the same order
+-- two segments are equal: their first positions are, and their last ones
 abbrev pub equal : Segment → Segment → Bool
 equal s t = same s.from t.from && same s.to t.to
 

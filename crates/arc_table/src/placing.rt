@@ -11,7 +11,7 @@ use geometry::{ArcRef, Position};
 use owned_values::{Items, Memory};
 use std::alloc::Global;
 
-/// The indexes of the pieces of a line, where each piece that is alike no arc becomes one, behind the others.
+/// The indexes of the pieces of a line, where each piece that is alike no arc becomes one, after the others.
 pub fn add_line(
     alloc: Global,
     arcs: &mut Vec<Items<Position>>,

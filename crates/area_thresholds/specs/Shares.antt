@@ -22,7 +22,7 @@ share_out_of None q = None
 share_out_of (Some p) None = None
 share_out_of (Some p) (Some q) = if nat_lt 0 q && (nat_le q share_limit && nat_le p q) then Some (p, q) else None
 
--- The share of the text "P/Q", as P and Q: what stands before the first "/", out of what stands behind it. None where there is no "/",
+-- The share of the text "P/Q", as P and Q: what stands before the first "/", out of what stands after it. None where there is no "/",
 -- where one of the two is no number, where Q is zero or above 10^9, and where P is above Q.
 abbrev pub share_of : List ℕ → Option (ℕ × ℕ)
 share_of t = share_out_of (number_of (before_first is_slash t)) (number_of (after_first is_slash t))

@@ -10,7 +10,7 @@ abbrev pub twice : ℤ → Option ℕ
 twice (pos n) = Some (2 * n)
 twice (negsuc n) = None
 
--- the same of a number that is taken at some places, where nothing was rounded
+-- twice a number that is taken at some places, where nothing was rounded
 abbrev pub twice_exact : Result Scaled Range → Option ℕ
 twice_exact (Ok s) = if s.exact then twice s.value else None
 twice_exact (Err e) = None

@@ -1,4 +1,4 @@
--- The candidates of a shape, by its kind: they are its lines and rings, and those that stay are the lines and rings of the pruned shape.
+-- The droppable lines of a shape, by its kind: they are its lines and rings, and those that stay are the lines and rings of the pruned shape.
 use Rattle.std.proofs.Common.{◌≡◌, ℤ, Bool, true, false, List, [], ◌∷◌, ◌++◌, map, Option, None, Some, refl, sym, ap, ◌∙◌, arith}
 use Rattle.std.specs.List.{AllByRecursion}
 use Rattle.std.proofs.lemmas.List.{map-append}
@@ -161,7 +161,7 @@ parts_are : {A : Type 0} (whole : A → List (Candidate (List Point))) (lines : 
 parts_are whole lines are [] = refl
 parts_are whole lines are (a ∷ xs) = map-append stroke (whole a) (joined (map whole xs)) ∙ rw (are a, parts_are whole lines are xs) refl
 
--- the candidates of layers are their lines and rings
+-- the droppable lines of layers are their lines and rings
 pub named_are : (why : List Point → Option Cause) (ls : Named) → map stroke (named_candidates why ls) ≡ named_strokes ls
 named_are why = grind (arith, parts_are, all_strokes)
 

@@ -73,7 +73,7 @@ no_cause lines t limit b h = grind arith
 abbrev pub back : List Stroke → ℕ → Bool → List ℤ → Option (List Point)
 back lines t closed refs = Some (decoded_line (map (reduced t) (all_arcs lines)) closed refs)
 
--- the same line is left, whether or not there is a cause
+-- a line that stays is left as it is, and one with a cause isn't left, whatever it would be
 unless_same : {A B : Type 0} (f : A → B) (w : Option Cause) (a : A) (b : B) → (w ≡ None → f a ≡ b) → then_some (λ x. Some (f x)) (unless w a) ≡ unless w b
 unless_same f None a b h = ap Some (h refl)
 unless_same f (Some c) a b h = refl

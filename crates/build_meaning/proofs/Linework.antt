@@ -114,7 +114,7 @@ each_split : (lines ms : List Stroke) → piece_lists (map (split_of lines) ms) 
 each_split lines [] = refl
 each_split lines (s ∷ ms) = ap (λ l. pieces_of lines s ∷ l) (each_split lines ms)
 
--- the same in the words of the cut lines
+-- the pieces of the linework, line by line, are those of the layers' lines that aren't short
 pub split_lists : (ls : Named) → piece_lists (map (split_of (linework (layers_of ls))) (linework (layers_of ls)))
     ≡ map (λ b. own_pieces (linework (layers_of ls)) b.0 b.1) (long_strokes ls)
 split_lists ls = grind (arith, each_split, each_plain, linework_lines, each_own)
@@ -130,7 +130,7 @@ in_plain [] m k = elim k [ ]
 in_plain (s ∷ ms) m (inl e) = (s, inl refl, sym e)
 in_plain (s ∷ ms) m (inr k) = let r = in_plain ms m k in (r.0, inr r.1, r.2)
 
--- the same of lines without addresses
+-- a line that isn't short stands, cleaned, among lines without addresses
 abbrev IsLongIn : List Line → Line → Type 0
 IsLongIn ms b = is_short b.0 (clean b.1) ≡ false → In (clean_line b) ms
 
@@ -153,6 +153,6 @@ own_in lines b h e p k =
     let s = h e in
     in_flat (pieces_of lines) s.0 p lines s.1 (subst (λ m. In p (plain_pieces lines m)) (sym s.2) k)
 
--- and their interior positions are distinct
+-- the interior positions of the pieces of the linework are distinct
 pub own_apart : (ls : Named) → AreSound ls → (p : List Point) → In p (pieces (linework (layers_of ls))) → Apart (interior p)
 own_apart ls h p k = (structured (linework (layers_of ls)) (all_clean ls h)).interior p k

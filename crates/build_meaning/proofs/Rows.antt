@@ -102,7 +102,7 @@ loop_is_kept = refl
 abbrev triangle : List Point
 triangle = at 0 0 ∷ (at 1 0 ∷ (at 0 1 ∷ (at 0 0 ∷ [])))
 
--- and encloses nothing
+-- a line that is a loop alone isn't dropped by a limit of rings
 triangle_is_no_ring : own_cause (cleaned false triangle ∷ []) 0 2 false triangle ≡ None
 unfolding same reduced is_before twice_area cross shoelace
 triangle_is_no_ring = refl

@@ -38,6 +38,6 @@ module _ {P Q L M : Type 0} (place : P → Q) (kept : Bool → L → Option M) (
       subst (AllByRecursion X) (sym (candidate.strokes_left place kept out (λ l. matching (kept true l)) s))
       (each_left (candidates out s) (subst (AllByRecursion Gives) (sym (all_strokes out s)) h))
 
-  -- so it is with a shape that may be null
+  -- what is left of a shape that may be null has such lines and rings alone
   pub option_left : (o : Option (Geometry P L L)) → AllByRecursion Gives (option_strokes o) → AllByRecursion X (option_strokes (then_some (prune place kept) o))
   option_left o h = grind (arith, strokes_left)

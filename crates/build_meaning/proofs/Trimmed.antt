@@ -89,7 +89,7 @@ kept_of_map {X = X} f used n (x ∷ xs) = grind (arith, kept_of_map f used (suc 
 kept_placed : (transform : Option Transform) (used : ℕ → Bool) (arcs : List (List Point)) → placed_arcs transform (keep_from used 0 arcs) ≡ keep_from used 0 (placed_arcs transform arcs)
 kept_placed transform used arcs = grind (arith, kept_of_map)
 
--- the same is decoded of each name
+-- a trimmed topology decodes to the features of the whole one, whatever the name
 pub trimmed_decodes : (t : Contents) (name : List ℕ) → decoded (trimmed t) name ≡ decoded t name
 unfolding decoded trimmed
 trimmed_decodes t name = search (kept_placed, name_same, all_used)

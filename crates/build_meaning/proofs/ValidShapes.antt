@@ -42,7 +42,7 @@ areas_places mss = grind (arith, places_at.areas)
 pub no_places : (X : Point → Type 0) (o : Option TopoShape) → option_places o ≡ [] → AllByRecursion X (option_places o)
 no_places X o e = subst (AllByRecursion X) (sym e) tt
 
--- and it is full where what is given has an element
+-- a line is full where what is given for it has an element
 pub line_full : (o : Option (List ℤ)) → ((m : List ℤ) → o ≡ Some m → is_some_list m ≡ true) → is_full_option (map_some g.Line o) ≡ true
 line_full o h = grind (arith, full_at.line)
 

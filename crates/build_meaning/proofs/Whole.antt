@@ -79,6 +79,6 @@ line_whole : ZeroLaw → (lines : List Stroke) → AllClean lines → (b : Line)
     kept_line lines 0 0 b.0 b.1 ≡ cond (is_short b.0 (clean b.1)) None (Some (from_start (is_cut lines) (cleaned b.0 b.1)))
 line_whole zero lines h b stands = grind (arith, clean_line, stroke_whole, each_stays)
 
--- nothing is taken out
+-- nothing is removed
 pub loses_nothing : ZeroLaw → LosesNothing
 loses_nothing zero ls sound = grind (arith, all_weaker, line_whole zero, all_clean ls sound, each_stands ls)

@@ -25,7 +25,7 @@ abbrev pub untrimmed : ℕ → ℕ → Named → Contents
 untrimmed t limit ls =
     record { objects = objects_by (kept_refs (linework (layers_of ls)) t limit) ls; arcs = map (reduced t) (all_arcs (linework (layers_of ls))); transform = None }
 
--- the same without the arcs that no kept line uses
+-- the layers over the arcs that a kept line uses, each arc reduced once as it stands; there is no transform
 unfoldable pub built : ℕ → ℕ → Named → Contents
 built t limit ls = trimmed (untrimmed t limit ls)
 
@@ -36,6 +36,6 @@ used_arcs t limit ls = keep_from (is_used (untrimmed t limit ls).objects) 0 (all
 abbrev pub positions_of : List (List Point) → ℕ
 positions_of arcs = sum (map length arcs)
 
--- how many positions reduction takes out of the arcs that stay
+-- how many positions reduction removes from the arcs that stay
 unfoldable pub taken_out : ℕ → ℕ → Named → ℕ
 taken_out t limit ls = positions_of (used_arcs t limit ls) - positions_of (map (reduced t) (used_arcs t limit ls))

@@ -42,7 +42,7 @@ candidates_step why (Geometry-F.Group css) = joined css
 unfoldable pub candidates : {P L : Type 0} → (L → Option Cause) → Geometry P L L → List (Candidate L)
 candidates {P} {L} why = fold-Geometry P L L (List (Candidate L)) (candidates_step why)
 
--- those of a shape that may be null
+-- the lines and rings of a shape that may be null, in reading order
 abbrev pub option_candidates : {P L : Type 0} → (L → Option Cause) → Option (Geometry P L L) → List (Candidate L)
 option_candidates why None = []
 option_candidates why (Some s) = candidates why s

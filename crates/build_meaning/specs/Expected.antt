@@ -24,11 +24,11 @@ use Rattle.build_meaning.specs.Layers.{Named, layers_of}
 abbrev pub cleaned : Bool → List Point → Stroke
 cleaned closed ps = record { address = record { layer = 0; feature = 0; path = [] }; closed = closed; positions = clean ps }
 
--- its pieces, cut at the cut positions of all lines
+-- the pieces of a line or ring, cut at the cut positions of all lines
 abbrev pub own_pieces : List Stroke → Bool → List Point → List (List Point)
 own_pieces lines closed ps = pieces_of lines (cleaned closed ps)
 
--- its pieces, each reduced, joined again; a ring begins at its start
+-- the pieces of a line or ring, each reduced, joined again; a ring begins at its start
 abbrev pub rebuilt : List Stroke → ℕ → Bool → List Point → List Point
 rebuilt lines t closed ps = rejoined (map (reduced t) (own_pieces lines closed ps))
 

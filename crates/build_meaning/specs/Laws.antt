@@ -54,7 +54,7 @@ EachSegmentOnce = (ls : Named) → AreSound ls → AreOnceIn (all_arcs (linework
 abbrev pub whole_line : Named → Bool → List Point → Option (List Point)
 whole_line ls closed ps = if is_short closed (clean ps) then None else Some (from_start (is_cut (linework (layers_of ls))) (cleaned closed ps))
 
--- so at a threshold and a limit of zero nothing is taken out of the lines of the layers
+-- at a threshold and a limit of zero nothing is removed from the lines of the layers
 abbrev pub LosesNothing : Type 0
 LosesNothing = (ls : Named) → AreSound ls
     → AllByRecursion (λ b. kept_line (linework (layers_of ls)) 0 0 b.0 b.1 ≡ whole_line ls b.0 b.1) (named_strokes ls)

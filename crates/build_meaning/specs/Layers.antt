@@ -20,6 +20,6 @@ layers_of ls = map (λ l. l.1) ls
 abbrev pub features_strokes : List Featured → List (Bool × List Point)
 features_strokes fs = joined (map (λ f. option_strokes f.shape) fs)
 
--- those of all layers
+-- the open lines (false) and rings (true) of all layers
 abbrev pub named_strokes : Named → List (Bool × List Point)
 named_strokes ls = joined (map (λ l. features_strokes l.1.features) ls)

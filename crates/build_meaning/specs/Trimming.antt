@@ -1,4 +1,4 @@
--- Topologies without the arcs that no line uses, where the others are numbered anew.
+-- Topologies without the arcs that no line uses, where the others are renumbered.
 use Rattle.std.specs.Prelude.{ℕ, zero, suc, ◌==◌, ℤ, pos, negsuc, Bool, List, [], ◌∷◌, Option, Some, map, if◌then◌else◌}
 use Rattle.std.specs.List.{list_any}
 use Rattle.geometry.specs.Lists.{then_some}

@@ -1,4 +1,4 @@
--- A text that was written, behind which the sink is flushed.
+-- A text that was written, after which the sink is flushed.
 use Rattle.std.proofs.Common.{◌≡◌, ℕ, true, List, length, take, Ok}
 use Rattle.std.proofs.KnownBytes.{Appends-kept}
 use Rattle.std.specs.Io.KnownBytes.{Keeps}

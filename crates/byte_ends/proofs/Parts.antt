@@ -65,7 +65,7 @@ list_left text_of closing is_first items = with_commas is_first (map text_of ite
 regrouped : (comma text behind closing : List ℕ) → (comma ++ (text ++ behind)) ++ closing ≡ (comma ++ text) ++ (behind ++ closing)
 regrouped comma text behind closing = simp append_assoc
 
--- in front of an element: its comma, its text, and what is left behind it
+-- in front of an element: its comma, its text, and what is left after it
 list_left-next : {A : Type 0} (text_of : A → List ℕ) (closing : List ℕ) (is_first : Bool) (items : List A) (i : ℕ) (item : A)
     → i < length items → item ≡ get_or items i item
     → list_left text_of closing is_first (drop i items) ≡ (comma_unless is_first ++ text_of item) ++ list_left text_of closing false (drop (i + 1) items)
@@ -84,6 +84,6 @@ module _ {A : Type 0} (text_of : A → List ℕ) (closing : List ℕ) (is_first 
       → UpTo old new start text (list_left text_of closing false (drop (i + 1) items)) n
   list-goes item within is comma wrote = goes up (list_left-next text_of closing is_first items i item within is) (then comma wrote)
 
-  -- behind the last element the closing text is written
+  -- after the last element the closing text is written
   pub list-ends : {new : Drained} {result : Progress} → length items ≤ i → Continues now new so_far closing result → Continues old new start text result
   list-ends past wrote = ends (rw (drop_all i items past) at up) wrote

@@ -40,7 +40,7 @@ Takes-then old mid new xs ys n t u = record {
   sent = omega (arith, t.sent, u.sent);
 }
 
--- a front of a text is one of a longer text
+-- a prefix of a text is one of a longer text
 pub Takes-front : (old new : Drained) (xs ys : List ℕ) (n : ℕ) → Takes old new xs n → Takes old new (xs ++ ys) n
 Takes-front old new xs ys n t =
     let within : n ≤ length xs = t.within in

@@ -10,19 +10,19 @@ pub record WritesAll (old new : Drained) (count : ℕ) (text : List ℕ) (answer
   pub counted : answer ≡ saturated (count + length text)
   pub sound : new.failures ≡ 0
 
--- the sink took a front of the text and is broken, and `sent` counts on from `count` by the front's length
+-- the sink took a prefix of the text and is broken, and `sent` counts on from `count` by the prefix's length
 pub record WritesFront (old new : Drained) (count : ℕ) (text : List ℕ) (sent : ℕ) : Type 0 where
   pub many : ℕ
   pub took : Takes old new text many
   pub counted : sent ≡ saturated (count + many)
   pub failed : 0 < new.failures
 
--- a writer of this text did this to its sink: all of it at `Ok`, a front of it at `Write`, and there is no other answer
+-- a writer of this text did this to its sink: all of it at `Ok`, a prefix of it at `Write`, and there is no other answer
 abbrev pub Writes : Drained → Drained → ℕ → List ℕ → Result ℕ WriteFault → Type 0
 Writes old new count text (Ok answer) = WritesAll old new count text answer
 Writes old new count text (Err (Write sent)) = WritesFront old new count text sent
 
--- a writer that flushes behind this text did this to its sink: at `Ok` all of it is taken and passed on
+-- a writer that flushes after this text did this to its sink: at `Ok` all of it is taken and passed on
 abbrev pub Sends : Drained → Drained → ℕ → List ℕ → Result ℕ WriteFault → Type 0
 Sends old new count text (Ok answer) = WritesAll old new count text answer × (new.flushed ≡ true)
 Sends old new count text (Err (Write sent)) = WritesFront old new count text sent

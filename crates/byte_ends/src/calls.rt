@@ -21,7 +21,7 @@ impl Model for Calls {
 
     ghost view = { λ c. record { failures = c.failures; flushed = c.is_flushed; late = c.is_late } };
 
-    // Where none failed, none came behind a failure.
+    // Where none failed, none came after a failure.
     ghost invariant = { λ c. c.failures ≡ 0 → c.is_late ≡ false };
 }
 

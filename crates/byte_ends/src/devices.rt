@@ -118,7 +118,7 @@ impl Model for CutWriter {
 }
 
 impl CutWriter {
-    /// A writer that goes on behind these bytes, which count as taken.
+    /// A writer that goes on after these bytes, which count as taken.
     pub fn new(held: Vec<u8>, step: usize, fault: Fault) -> CutWriter
         requires { 0 < step }
         ensures { result ≡ held.items }
@@ -132,7 +132,7 @@ impl CutWriter {
         }
     }
 
-    /// The bytes that it took, behind those that it was made with.
+    /// The bytes that it took, after those that it was made with.
     pub fn held(&self) -> &[u8]
         ensures { result.now ≡ self.now }
     {

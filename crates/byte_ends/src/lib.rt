@@ -1,5 +1,5 @@
 //! The two ends of a program's bytes: a `Source` that is read to its end, and a `Sink` that is written.
-//! Both stand on std's `Read` and `Write` by way of the traits `Feed` and `Drain`, which count the failures of a device.
+//! Both stand on std's `Read` and `Write` through the traits `Feed` and `Drain`, which count the failures of a device.
 //! A writer above calls `Sink::put`, and its contract is the relation `Writes` of `specs/Writes.antt`: the whole text,
 //! or a prefix of it and a failed device. A text of several parts is written by `put_part` and its like, whose contract is the
 //! relation `Continues`: each goes on from the `Progress` of the one before it, and `flush_behind` sends what was written: `Sends`.

@@ -8,7 +8,7 @@ ghost use Rattle.byte_ends.specs.Writes.{Sends, Writes};
 use crate::drain::Drain;
 use crate::sink::{Broken, Sink, WriteFault};
 
-/// How far a text is written: the count of its bytes so far, or the fault that cut it short. Behind a fault no part is
+/// How far a text is written: the count of its bytes so far, or the fault that cut it short. After a fault no part is
 /// written, and the fault stays.
 pub type Progress = Result<u64, WriteFault>;
 
@@ -32,7 +32,7 @@ pub fn put_comma<W: Drain>(is_first: bool, so_far: Progress, sink: &mut Sink<W>)
     }
 }
 
-/// Flushes the sink behind a text that was written to it with this answer, unless that is a fault. Where the device fails in
+/// Flushes the sink after a text that was written to it with this answer, unless that is a fault. Where the device fails in
 /// flushing, the fault counts the whole text as sent.
 pub fn flush_behind<W: Drain>(written: Progress, sink: &mut Sink<W>) -> Progress
     // What was written stays written, and an `Ok` says that no call of the device failed and that all is passed on.

@@ -52,7 +52,7 @@ impl<W: Drain> Sink<W> {
         ensures failures { result.failures ≡ 0 }
         ensures flushed { result.flushed ≡ W.flushed drain }
     {
-        // None failed, so no call came behind a failure.
+        // None failed, so no call came after a failure.
         let _failures = drain.failures();
         Sink { drain, sent: 0 }
     }

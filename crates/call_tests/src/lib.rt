@@ -1,7 +1,7 @@
 //! Tests of what no clause says and no run of the program shows, in one crate, since a crate with tests is proved twice: `reading`
 //! tests `byte_ends`, `json` tests `decimal_json`, `walking` tests `topojson_decoder` and the walk along arcs that it passes on,
 //! `keeping` tests what `properties_scanning` keeps and `properties_reading` reads again, `reducing` and `weighing` test
-//! `effective_area`, `sharing` tests what `junctions` and `arc_table` tell of their tables, `simplifying` tests `topology_reduction`,
+//! `effective_area`, `sharing` tests what `junctions` and `arc_table` say of their tables, `simplifying` tests `topology_reduction`,
 //! `counting` tests how often the reducer is called that `topology_building` and `topology_simplifying` are lent, and `unused` tests
 //! calls of `area_thresholds`, `byte_ends`, `decimal_text`, `effective_area`, `linework` and `topojson_types`.
 #![tactic(auto)]

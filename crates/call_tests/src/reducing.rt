@@ -6,7 +6,7 @@ use geojson_types::Position;
 use std::alloc::Global;
 use std::test::Fail;
 
-// Of two equal positions whose areas tie, the one with the lesser index is taken out first.
+// Of two equal positions whose areas tie, the one with the lesser index is removed first.
 #[test]
 fn repeated_positions_are_taken_out_by_index(rt: HostRuntime) -> Result<(), Fail> {
     let alloc = rt.alloc();
@@ -27,7 +27,7 @@ fn repeated_positions_are_taken_out_by_index(rt: HostRuntime) -> Result<(), Fail
     Ok(())
 }
 
-// Two areas at first, and one more for the neighbour of the position that is taken out.
+// Two areas at first, and one more for the neighbour of the position that is removed.
 #[test]
 fn steps_are_counted(rt: HostRuntime) -> Result<(), Fail> {
     let line = [
@@ -82,7 +82,7 @@ fn both_reducers_agree_at_each_threshold(rt: HostRuntime) -> Result<(), Fail> {
     Ok(())
 }
 
-/// What a new reducer does where all 198 positions between the ends are taken out.
+/// What a new reducer does where all 198 positions between the ends are removed.
 fn steps_of_all(alloc: Global) -> Option<Steps> {
     let line = crowded(alloc).ok()?;
     if line.len() < 2 {

@@ -1,4 +1,4 @@
-// Which numbers positions have, also where they are looked for in a map, and how often pieces are compared: what is told of the hashed tables,
+// Which numbers positions have, also where they are looked for in a map, and how often pieces are compared: what is said of the hashed tables,
 // and shows in no topology.
 use arc_table::Table;
 use byte_ends::Memory;

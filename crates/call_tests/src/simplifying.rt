@@ -32,7 +32,7 @@ fn all_ends(alloc: Global, arcs: &[Items<Cell>]) -> Result<Vec<Vec<usize>>, Memo
     Ok(kept)
 }
 
-/// The same of the arcs of a topology.
+/// Of each arc of a topology the indexes of its first and its last cell.
 fn kept_ends(alloc: Global, topology: &Topology) -> Result<Vec<Vec<usize>>, Memory>
     ensures { IfOk result (λ kept. EachFromFirstToLast (map (λ k. k.items) kept.items) topology.now.arcs) }
 {
@@ -69,7 +69,7 @@ fn is_small_ring(dropped: &[Dropped], ring: usize) -> bool {
     }
 }
 
-/// Whether the ends of each arc of a text leave this text and drop this ring alone, and how many positions they take out.
+/// Whether the ends of each arc of a text leave this text and drop this ring alone, and how many positions they remove.
 fn leaves(alloc: Global, text: &[u8], left: &[u8], ring: usize, taken_out: u64) -> bool {
     let Some(topology) = topology_of(alloc, text) else {
         return false;

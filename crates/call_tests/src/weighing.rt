@@ -1,4 +1,4 @@
-// Weights, run. That each is the definition's is proved: these show that memory isn't always refused, and what the definition comes to.
+// Weights, run. That each is the definition's is proved: these show that memory isn't always refused, and what the definition gives.
 use effective_area::{Weight, weights, weights_until};
 use geojson_types::Position;
 use std::alloc::Global;
@@ -54,7 +54,7 @@ fn a_neighbour_weighs_what_it_grows_to(rt: HostRuntime) {
     assert!(rt; weighs(rt.alloc(), &line, &wanted));
 }
 
-// Once the first is out nothing more is taken out: the second, that would have 9, has at least as much as the first.
+// Once the first is out nothing more is removed: the second, that would have 9, has at least as much as the first.
 #[test]
 fn a_weight_stands_for_those_behind(rt: HostRuntime) {
     let line = [

@@ -29,7 +29,7 @@ or_else_nil (k ∷ ks) = refl
 abbrev top : App
 top = built program_app
 
--- the walk has met the command of this name, and these words behind it
+-- the walk has met the command of this name, and these words after it
 abbrev at_command : Text → List Text → Walk
 at_command name words = record { held = nothing_held; waiting = idle; position = 1; is_trailing = false; stopped = Some (name, words) }
 
@@ -69,7 +69,7 @@ build_level words =
 
 -- ---- the level of `build`
 
--- the walk is at the layers behind `--`
+-- the walk is at the layers after `--`
 abbrev at_layers : List Row → List Text → Walk
 at_layers rows layers = record {
   held = record { rows = rows; pending = Some (codes "layers", layers); skip = 0 };
@@ -107,7 +107,7 @@ settle_layers rows word words fits =
     let high : length (word ∷ words) ≤ usize_max = omega arith in
     ap₂ or_else (in_range (length (word ∷ words)) low high) (any_text (word ∷ words))
 
--- the checks behind the walk
+-- the checks after the walk
 abbrev checks : Walk → Kinds
 checks w = or_else (defaults_fault (settled build_shape.rules w.held).rows build_shape.rules) (check_fault build_shape (finished build_shape.rules w.held) false)
 

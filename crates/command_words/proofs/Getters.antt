@@ -184,7 +184,7 @@ not_all_help (x ∷ xs) k (inr h) other = and_false (is_help x) (list_all is_hel
 pub refused_by : (kinds : Kinds) (e : Error) → HasKind kinds e → (kind_of e ≡ OutOfMemory → ⊥) → is_help (kind_of e) ≡ false → list_all is_help kinds ≡ false
 refused_by kinds e h memory other = elim h [ inl m ↦ absurd (memory m) | inr k ↦ not_all_help kinds (kind_of e) k other ]
 
--- a refusal is told of words that are refused
+-- a refusal is reported for words that are refused
 pub refusal_for : (kinds : Kinds) (f : WordsFault) → (f ≡ Memory) ⊎ ((e : Error) × (f ≡ Refused e)) → (kinds ≡ []) ⊎ (list_all is_help kinds ≡ false) → IsFaultBy kinds f
 refusal_for kinds f (inl m) h = subst (IsFaultBy kinds) (sym m) tt
 refusal_for kinds f (inr r) h = subst (IsFaultBy kinds) (sym r.1) h

@@ -27,7 +27,7 @@ both_false : (a b : Bool) → (a || b) ≡ false → (a ≡ false) × (b ≡ fal
 both_false true b e = cc
 both_false false b e = (refl, e)
 
--- the place of the first `=` is behind the name
+-- the place of the first `=` is after the name
 place : (name path : Text) → has_byte equals_sign name ≡ false → position_or_len (λ c. c == equals_sign) (name ++ equals_sign ∷ path) ≡ length name
 place [] path none = refl
 place (x ∷ name) path none =

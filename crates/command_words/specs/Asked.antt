@@ -1,4 +1,4 @@
--- What the words behind the program's name ask for.
+-- What the words after the program's name ask for.
 use Rattle.std.specs.Prelude.{◌≡◌, ◌⊎◌, ◌+◌, ◌^◌, ◌==◌, ℕ, Bool, is_some, ◌&&◌, List, [], ◌∷◌, map, take, drop, codes, Option, Some, None}
 use Rattle.std.specs.Prelude.{Result, Ok, Err, if◌then◌else◌, option_map, option_and_then, unwrap_or}
 use Rattle.std.specs.List.{position}
@@ -47,7 +47,7 @@ ordered order = (asked order.request, option_map (λ o. o.now) order.output)
 
 -- ---- values
 
--- a layer word in two, before and behind its first `=`
+-- a layer word in two, before and after its first `=`
 abbrev pub layer_of : Text → Option (Text × Text)
 layer_of word = option_map (λ i. (take i word, drop (i + 1) word)) (position (λ c. c == equals_sign) word)
 
@@ -55,7 +55,7 @@ abbrev pub and_layer : Option (Text × Text) → Option (List (Text × Text)) �
 and_layer (Some layer) (Some layers) = Some (layer ∷ layers)
 and_layer _ _ = None
 
--- all of them, if each has an `=`
+-- all layer words in two, if each has an `=`
 abbrev pub layers_of : List Text → Option (List (Text × Text))
 layers_of [] = Some []
 layers_of (word ∷ words) = and_layer (layer_of word) (layers_of words)
@@ -123,7 +123,7 @@ asked_in found =
 abbrev pub output_in : List Row → Option Text
 output_in rows = first_of (codes "output") rows
 
--- the same with the file that the output goes to
+-- what a command of this name asks for, with the file that the output goes to
 abbrev pub ordered_in : Text × List Row → Option Ordered
 ordered_in found = option_map (λ a. (a, output_in found.1)) (asked_in found)
 
@@ -133,7 +133,7 @@ abbrev pub where_none : {X : Type 0} → Kinds → Option X → Option X
 where_none [] o = o
 where_none (k ∷ ks) o = None
 
--- the kinds of error by which the command line may refuse the words, or tell help; where there are none it takes them
+-- the kinds of error by which the command line may refuse the words, or print help; where there are none it takes them
 abbrev pub kinds_of : List Text → Kinds
 kinds_of words = fault_of program_app words
 

@@ -92,7 +92,7 @@ geo_app = with_rule (with_common (with_rule (new_app (codes "geo")) object_rule)
 abbrev pub stat_app : App
 stat_app = with_rule (with_common (new_app (codes "stat"))) file_rule
 
--- the program, which has a version and to whose command the words behind its name belong
+-- the program, which has a version and to whose command the words after its name belong
 abbrev pub bare_app : App
 bare_app = on_top (λ s. record s { has_version = true; no_binary_name = true; subcommand_required = true }) (new_app (codes "mapchain"))
 

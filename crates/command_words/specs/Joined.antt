@@ -1,4 +1,4 @@
--- Words of which an option that takes a text and the word behind it are made one, as `--min-area=..`.
+-- Words of which an option that takes a text and the word after it are made one, as `--min-area=..`.
 use Rattle.std.specs.Prelude.{Bool, List, [], ◌∷◌, ◌++◌, ◌||◌, codes, if◌then◌else◌}
 use Rattle.std.specs.Str.{bytes_eq}
 use Rattle.clap.specs.Walk.{Text}
@@ -13,7 +13,7 @@ pub data Place : Type 0 where
   alone : Place
   -- the value of this option
   value_of : Text → Place
-  -- a word that stays as it is, and so do those behind it
+  -- a word that stays as it is, and so do those after it
   behind : Place
 
 -- the commands that have an option whose value may be any text

@@ -39,7 +39,7 @@ written (simplify area ring_area path, output) =
 written (geo name path, output) = codes "geo" ∷ and_output output ((codes "--object=" ++ name) ∷ codes "--" ∷ path ∷ [])
 written (stat path, output) = codes "stat" ∷ and_output output (codes "--" ∷ path ∷ [])
 
--- the same with a value that may be any text as a word of its own
+-- the words of a level, with a value that may be any text as a word of its own
 abbrev pub level_apart : Text → Option Text → List Text → List Text
 level_apart area None words = codes "--min-area" ∷ area ∷ words
 level_apart area (Some share) words = codes "--keep" ∷ share ∷ words

@@ -5,7 +5,7 @@ ghost use Rattle.command_words.specs.CommandLine.{IsApp};
 use clap::Command;
 use std::alloc::Global;
 
-/// The help of a command: what it is about, in a line and at length, and what is told behind its options, in short and at length.
+/// The help of a command: what it is about, in a line and at length, and what is printed after its options, in short and at length.
 #[derive(Clone, Copy)]
 pub(crate) struct Help {
     pub(crate) about: &'static str,

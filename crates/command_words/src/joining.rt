@@ -17,7 +17,7 @@ pub(crate) enum Next<'a> {
     Alone,
     /// The value of this option.
     ValueOf(&'a str),
-    /// A word that stays as it is, as those behind it do: it stands behind `--`, or the command has no option whose value may be any text.
+    /// A word that stays as it is, as those after it do: it stands after `--`, or the command has no option whose value may be any text.
     Behind,
 }
 
@@ -84,7 +84,7 @@ fn join_word<'a>(
     }
 }
 
-/// The words, where an option whose value may be any text and the word behind it are one, so that the value may begin with a hyphen.
+/// The words, where an option whose value may be any text and the word after it are one, so that the value may begin with a hyphen.
 /// Such options are `--min-area`, `--keep` and `--min-ring-area` of `build` and `simplify`.
 pub fn joined_words(alloc: Global, words: &[String]) -> Result<Vec<String>, AllocError>
     ensures { IfOk result (λ r. map string_bytes r.items ≡ joined (map string_bytes words.now)) }

@@ -7,7 +7,7 @@ ghost use Rattle.command_words.specs.LayerWords.{IsSplit, equals_sign};
 use crate::words_fault::WordsFault;
 use std::alloc::Global;
 
-/// The layer's name and its file's path: what stands before and behind the first `=`. A path may hold an `=`, a name
+/// The layer's name and its file's path: what stands before and after the first `=`. A path may hold an `=`, a name
 /// may not.
 pub fn name_and_path(word: &str) -> Option<(&str, &str)>
     ensures layer { option_map (λ r. (r.0.now, r.1.now)) result ≡ layer_of word.now }

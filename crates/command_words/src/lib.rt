@@ -1,5 +1,5 @@
 //! The words of the program's command line: its commands and their help, and what given words ask for. It stands on `clap` alone.
-//! A program above calls `read_words` on what `joined_words` makes of the words, does what the `Request` asks for, and tells a
+//! A program above calls `read_words` on what `joined_words` makes of the words, does what the `Request` asks for, and reports a
 //! `WordsFault`. What the words ask for is `specs/Asked.antt`.
 #![tactic(auto)]
 

@@ -37,7 +37,7 @@ pub enum Request<'a> {
         exact: bool,
         /// The number of grid cells along each axis, from 2 to 10^9, that positions are snapped to, if any.
         grid: Option<u32>,
-        /// Points are taken out whose triangle is smaller than the area of this text, in square units of the coordinates.
+        /// Points are removed whose triangle is smaller than the area of this text, in square units of the coordinates.
         area: &'a str,
         /// The least share of the points between the ends of arcs that stay, a text `P/Q`, in place of an area, if any.
         keep: Option<&'a str>,
@@ -46,7 +46,7 @@ pub enum Request<'a> {
     },
     /// What is left of the topology in the file of this path where its lines are reduced.
     Simplify {
-        /// Points are taken out whose triangle is smaller than the area of this text, in square units of the coordinates.
+        /// Points are removed whose triangle is smaller than the area of this text, in square units of the coordinates.
         area: &'a str,
         /// Rings are left out that enclose less than the area of this text, in the same units.
         ring_area: &'a str,
@@ -220,7 +220,7 @@ fn request_in<'a>(
     Ok(None)
 }
 
-/// What is told of refused words, by the command line in which a share can't stand beside an area.
+/// What is said of refused words, by the command line in which a share can't stand beside an area.
 fn refusal(alloc: Global, words: &[String]) -> Result<WordsFault, AllocError>
     ensures { IfOk result (λ f. (f ≡ Memory) ⊎ ((e : ClapError) × (f ≡ Refused e))) }
 {
@@ -232,7 +232,7 @@ fn refusal(alloc: Global, words: &[String]) -> Result<WordsFault, AllocError>
     Ok(WordsFault::refused(error))
 }
 
-/// Whether this kind of error tells help.
+/// Whether this kind of error prints help.
 fn is_help(kind: ErrorKind) -> bool
     ensures { result ≡ faults.is_help kind }
 {
@@ -246,7 +246,7 @@ fn is_memory(kind: ErrorKind) -> bool
     matches!(kind, ErrorKind::OutOfMemory)
 }
 
-/// What is told of words by this error of theirs.
+/// What is said of words by this error of theirs.
 fn fault_by(alloc: Global, words: &[String], error: Error) -> Result<WordsFault, AllocError>
     ensures memory { kind_of error ≡ OutOfMemory → IfOk result (λ f. f ≡ Memory) }
     ensures fault { (kinds : Kinds) → HasKind kinds error → IfOk result (IsFaultBy kinds) }
@@ -303,14 +303,14 @@ fn read_by<'a>(
     Err(refusal(alloc, words)?)
 }
 
-/// What the words behind the program's name ask for. An option whose value may begin with a hyphen, and that value, are one word, as
+/// What the words after the program's name ask for. An option whose value may begin with a hyphen, and that value, are one word, as
 /// `joined_words` makes them.
 pub fn read_words<'a>(alloc: Global, words: &'a [String]) -> Result<Order<'a>, WordsFault>
     // The order is what the words ask for by the command line, and where they ask for nothing, or memory runs out, there is none.
     ensures exact { Answers (order_of (map string_bytes words.now)) ordered result }
-    // So is what is to be said of the run.
+    // What is to be said of the run is what the words ask for.
     ensures detail { IfOk result (λ order. detail_of (map string_bytes words.now) ≡ Some (detail order)) }
-    // Help is told of words that ask for it, and else they are refused, or have a fault of their own.
+    // Help is printed for words that ask for it, and else they are refused, or have a fault of their own.
     ensures fault { IfErr result (IsFaultBy (kinds_of (map string_bytes words.now))) }
     // Words that are written for a request and the file of its output ask for both.
     ensures written { (o : Ordered) → IsWritable o.0 → map string_bytes words.now ≡ written o → Answers (Some o) ordered result }

@@ -193,7 +193,7 @@ pub(crate) fn program<'a>(alloc: Global) -> Result<Command<'a>, AllocError>
     program_with(alloc, keep(alloc))
 }
 
-/// The same, but for a share beside an area, which it refuses. What is told of refused words is told by it.
+/// The command line of the program, which refuses a share beside an area. What is said of refused words is said by it.
 pub(crate) fn telling_program<'a>(alloc: Global) -> Result<Command<'a>, AllocError> {
     let keep = keep(alloc).conflicts_with(AREA)?;
     program_with(alloc, keep)

@@ -4,7 +4,7 @@ use clap::error::ErrorKind;
 use std::alloc::{AllocError, AllocFailed};
 use std::fmt;
 
-/// Why words ask for nothing that can be done. As a text it is what is to be told, which is nothing for want of memory.
+/// Why words ask for nothing that can be done. As a text it is what is to be printed, which is nothing for want of memory.
 #[derive(Drop)]
 pub enum WordsFault {
     /// The words ask for help.

@@ -42,14 +42,14 @@ module _ (f g : Point → Bool) where
   split_agree : (ps : List Point) → ((x : Point) → In x ps → f x ≡ g x) → split_at f ps ≡ split_at g ps
   split_agree ps h = grind (arith, pieces_agree)
 
-  -- the same start
+  -- a ring starts at one index by both tests
   pub start_agree : (ps : List Point) → ((x : Point) → In x ps → f x ≡ g x) → start_in f ps ≡ start_in g ps
   start_agree ps h = ap (λ fs. first_at (λ p. is_least p fs) ps) (filter_agree ps h)
 
   from_agree : (at : Address) (c : Bool) (ps : List Point) → ((x : Point) → In x ps → f x ≡ g x) → from_start f (line at c ps) ≡ from_start g (line at c ps)
   from_agree at c ps h = grind (arith, start_agree)
 
-  -- the same pieces
+  -- a line is split into one list of pieces by both tests
   pub by_agree : (s : Stroke) → ((x : Point) → In x s.positions → f x ≡ g x) → split_by f s ≡ split_by g s
   by_agree s h =
       let e = from_agree s.address s.closed s.positions h in

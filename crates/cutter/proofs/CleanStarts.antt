@@ -52,6 +52,6 @@ starts_from : (ls ms : List Stroke) → ((s : Stroke) → In s ms → In s ls) �
 starts_from ls [] f h = tt
 starts_from ls (s ∷ ms) f h = (clean_start ls s.address s.closed s.positions (f s (inl refl)) h.0, starts_from ls ms (λ t k. f t (inr k)) h.1)
 
--- so it is with all lines
+-- the lines that are left of clean ones, each turned to its start, are clean
 pub clean_starts : (ls : List Stroke) → AllClean ls → AllClean (strokes (map (split_of ls) ls))
 clean_starts ls h = starts_from ls ls (λ s k. k) h

@@ -56,7 +56,7 @@ joins ls at true (p ∷ (q ∷ ps)) k h =
 pub stroke_split : (ls : List Stroke) (s : Stroke) → In s ls → IsClean s → IsSplit (split_of ls s)
 stroke_split ls s k h = grind (arith, joins, joins ls s.address s.closed s.positions k h, split_at_segments (is_cut ls) (from_start (is_cut ls) s))
 
--- so it is with all lines
+-- each of the clean lines is split at its cut positions
 pub all_split : (ls : List Stroke) → AllClean ls → AllSplit (map (split_of ls) ls)
 all_split ls h = all_made IsSplit (split_of ls) ls (λ s k. stroke_split ls s k (clean_in s ls h k))
 

@@ -65,7 +65,7 @@ module _ (ls : List Stroke) (v : Answers) (known : AnswersFor ls v) (s : Stroke)
   pub starts_known : AllClean ls → s.closed ≡ true → start_in (is_member v.cuts) s.positions < length s.positions
   starts_known clean e = subst (λ k. k < length s.positions) (sym start_known) (starts ls s.address s.closed s.positions m (clean_in s ls clean m) e)
 
-  -- so the line can be split ..
+  -- the line can be split by the vertices ..
   pub ready : AllClean ls → IsReady v s
   ready clean = record {
     known = stroke_known ls v known s m;

@@ -1,4 +1,4 @@
--- All pieces of all strokes.
+-- All pieces of all lines and rings.
 use Rattle.std.proofs.Common.{Bool, List, [], ◌∷◌, sym, subst, inl, inr, ◌≤◌, length, arith}
 use Rattle.cutter.specs.Pieces.{pieces_of, pieces}
 use Rattle.cutter.specs.Places.{IsStructured}

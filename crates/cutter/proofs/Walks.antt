@@ -44,7 +44,7 @@ module _ (cut : Point → Bool) (Via : Point → Point → Point → Type 0) whe
     forth : (a b c d : Point) → cut b ≡ false → Via a b c → Via a b d → c ≡ d
     forth a b c d n h k = grind arith
 
-    -- the same walk
+    -- a walk goes only one way
     pub run_unique : {a b : Point} {xs ys : List Point} → Run a b xs → Run a b ys → xs ≡ ys
     run_unique (stop h) (stop k) = refl
     run_unique (stop h) (go n v s) = absurd (let e = sym h ∙ n in cc)

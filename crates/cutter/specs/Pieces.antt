@@ -23,7 +23,7 @@ turned k ps = drop k ps ++ drop 1 (take (k + 1) ps)
 abbrev pub from_start : (Point → Bool) → Stroke → List Point
 from_start cut s = if s.closed then turned (start_in cut s.positions) s.positions else s.positions
 
--- the pieces behind the segment from p to q, and that segment: a piece of its own where q is a cut position, else the
+-- the pieces after the segment from p to q, and that segment: a piece of its own where q is a cut position, else the
 -- beginning of the first of them
 abbrev pub joined : Bool → Point → Point → List (List Point) → List (List Point)
 joined true p q pieces = (p ∷ (q ∷ [])) ∷ pieces

@@ -4,7 +4,7 @@ use Rattle.geometry.specs.Points.{Point}
 pub use Rattle.geometry.specs.Lists.{tail, front_of, front, interior, Apart}
 pub use Rattle.junctions.specs.Among.{In}
 
--- the piece has the segment from a to b, with the positions l before it, backwards, and r behind it
+-- the piece has the segment from a to b, with the positions l before it, backwards, and r after it
 pub data At : List Point → Point → Point → List Point → List Point → Type 0 where
   first : {a b : Point} {r : List Point} → At [] a b r (a ∷ (b ∷ r))
   later : {l : List Point} {a b c : Point} {r xs : List Point} → At l a b (c ∷ r) xs → At (a ∷ l) b c r xs

@@ -60,7 +60,7 @@ pub record IsSplit (s : SplitStroke) : Type 0 where
   pub joins : rejoined s.pieces ≡ s.stroke.positions
   pub segments : piece_segments s.pieces ≡ segments s.stroke.positions
 
--- so are those of each line
+-- the pieces of each line, joined again, are the line, and their segments are its segments
 abbrev pub AllSplit : List SplitStroke → Type 0
 AllSplit ss = AllByRecursion IsSplit ss
 

@@ -26,7 +26,8 @@ pub fn ring_start(stroke: &Stroke, vertices: &Vertices) -> usize
     first_of_least_cut(stroke.positions.as_slice(), 0, vertices)
 }
 
-/// The same of the positions of a ring whose first visit has this number: where they are looked for first, whatever the number is.
+/// The index at which a ring with these positions starts. The number of its first visit says where positions are looked for first; any
+/// number gives one answer.
 pub fn first_of_least_cut(positions: &[Position], visit: usize, vertices: &Vertices) -> usize
     requires { AllKnown vertices.now.points positions.now }
     ensures { result ≡ start_in (is_member vertices.now.cuts) positions.now }

@@ -9,6 +9,6 @@ pub record IsReadable (deepest : ℕ) (v : Json) : Type 0 where
   pub formed : IsWellFormed v
   pub nests : depth v ≤ deepest
 
--- the same of a member's value, and its name is UTF-8
+-- the value of a member is well formed, with nesting no deeper than this, and its name is UTF-8
 abbrev pub IsReadableMember : ℕ → List ℕ × Json → Type 0
 IsReadableMember deepest m = IsUtf8 m.0 × IsReadable deepest m.1

@@ -27,7 +27,7 @@ pub(crate) fn is_readable(deepest: u32, value: &Json) -> bool
     }
 }
 
-/// The same of each of these elements.
+/// Whether arrays and objects nest no deeper than this in any of these elements.
 #[cycle(readable)]
 fn are_readable(deepest: u32, elements: &[Json]) -> bool
     ensures { IsTrue result → AllByRecursion (spec.IsReadable deepest) elements.now }
@@ -40,7 +40,7 @@ fn are_readable(deepest: u32, elements: &[Json]) -> bool
     true
 }
 
-/// The same of the value of each of these members.
+/// Whether arrays and objects nest no deeper than this in the value of any of these members.
 #[cycle(readable)]
 fn have_readable(deepest: u32, members: &[(OwnText, Json)]) -> bool
     ensures { IsTrue result → AllByRecursion (spec.IsReadableMember deepest) members.now }

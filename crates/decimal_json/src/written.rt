@@ -1,4 +1,4 @@
-// Values that are read by way of their texts.
+// Values that are read through their texts.
 ghost use Rattle.std.specs.Prelude.{◌≡◌, [], IfOk, Some};
 ghost use Rattle.std.specs.Str.{is_utf8};
 ghost use Rattle.json_value.specs.Reading.{value_at};
@@ -23,7 +23,7 @@ fn written(alloc: Global, value: &Json) -> Result<Vec<u8>, Memory>
 }
 
 /// The text of a value, which a reader of bytes takes for it where arrays and objects may nest `u32::MAX` deep. That there is too little
-/// memory is told too where they nest deeper.
+/// memory is reported too where they nest deeper.
 pub fn value_text(alloc: Global, value: &Json) -> Result<Vec<u8>, Memory>
     ensures { IfOk result (λ text. value_at is_utf8 4294967295 text.items ≡ Some (value.now, [])) }
 {

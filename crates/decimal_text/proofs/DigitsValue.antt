@@ -95,11 +95,11 @@ more_zeros start v done e = let step : 10 ^ suc done ≡ 10 ^ done * 10 = pow-su
 pub digits_value-cut : (kept cut : List ℕ) → digits_value (kept ++ cut) ≡ digits_value kept * 10 ^ length cut + digits_value cut
 digits_value-cut kept cut = digits_value_after-append 0 kept cut ∙ digits_value_after-split (digits_value kept) cut
 
--- a front of the kept digits passes the limit
+-- a prefix of the kept digits passes the limit
 pub cut_past : (kept cut : List ℕ) (limit : ℕ) → limit < digits_value kept → (limit + 1) * 10 ^ length cut ≤ digits_value (kept ++ cut)
 cut_past kept cut limit h = grind (arith, mul-le-mul_left, digits_value-cut)
 
--- the first digit tells a half
+-- the first digit decides a half
 pub half_by_first : (ds : List ℕ) → All IsDigit ds → 0 < length ds
     → (53 ≤ get_or ds 0 0 → 10 ^ length ds ≤ 2 * digits_value ds) × (10 ^ length ds ≤ 2 * digits_value ds → 53 ≤ get_or ds 0 0)
 half_by_first [] h some = absurd (omega arith)

@@ -38,7 +38,7 @@ number_ascii (number_of m w f e hm hw hf he) =
 pub number_utf8 : {t : List ℕ} → IsNumber t → IsUtf8 t
 number_utf8 {t} h = IsUtf8-from_ascii t (number_ascii h)
 
--- the same of bytes that are those of a number
+-- bytes that are the text of a number are UTF-8
 pub same_utf8 : (s t : List ℕ) → s ≡ t → IsNumber t → IsUtf8 s
 same_utf8 s t e h = subst (λ b. IsUtf8 b) (sym e) (number_utf8 h)
 

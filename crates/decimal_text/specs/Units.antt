@@ -6,7 +6,7 @@ abbrev pub fixed : ℕ → ℕ → List ℕ
 fixed zero n = []
 fixed (suc places) n = fixed places (n / 10) ++ (48 + n % 10) ∷ []
 
--- a digit before digits that have lost the zeros at their end: a zero goes where nothing is left behind it
+-- a digit before digits that have lost the zeros at their end: a zero goes where nothing is left after it
 abbrev pub before_trimmed : ℕ → List ℕ → List ℕ
 before_trimmed c [] = if c == 48 then [] else (c ∷ [])
 before_trimmed c (d ∷ ds) = c ∷ d ∷ ds

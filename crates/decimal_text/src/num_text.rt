@@ -77,7 +77,7 @@ impl NumText {
         }
     }
 
-    /// The same number text once more, in memory of its own.
+    /// A copy of the number text, in memory of its own.
     pub fn copy(&self, alloc: Global) -> Result<NumText, Memory>
         ensures same { IfOk result (λ n. n ≡ self.now) }
         ensures few { length self.now ≤ 22 → IsOk result }

@@ -90,7 +90,7 @@ fn put_collection<W: Drain>(
 }
 
 /// Writes the GeoJSON text of the features that an object of the topology stands for, as `write_features` does of features that are
-/// there: each position is written where a walk along the arcs comes to it. This takes no memory.
+/// there: each position is written where a walk along the arcs reaches it. This takes no memory.
 pub fn write_object<W: Drain>(
     topology: &Topology,
     object: &TopoObject,

@@ -1,4 +1,4 @@
--- The threshold of a share, found by weights that are told up to a level only.
+-- The threshold of a share, found by weights that are reported up to a level only.
 use Rattle.std.proofs.Common.{◌≡◌, ℕ, zero, suc, ◌+◌, ◌-◌, ◌*◌, ◌<◌, ◌≤◌, min, Bool, true, false, cond, leb, List, [], ◌∷◌, ◌++◌, length, map, get_or, refl, ap, sym, ◌∙◌, subst, arith, ◌⊎◌, inl, inr}
 use Rattle.std.specs.List.{filter, filter_map, range_with_len, AllByRecursion, Contains, count_by}
 use Rattle.std.proofs.lemmas.Bool.{le-leb, lt-leb, leb-true, cases_lt}
@@ -160,7 +160,7 @@ lowered_share p q ws cs t h g = record {
     known (inl e) = inl e
     known (inr k) = inr (k.0, omega (arith, k.1, many), here k.0 k.2 (lowered_at t ws cs k.0 t h k.1))
 
--- ---- lines whose weights are told up to a level that isn't under t
+-- ---- lines whose weights are reported up to a level that isn't under t
 
 record IsOver (t : ℕ) (ws told : List Weight) : Type 0 where
   level : ℕ

@@ -1,4 +1,4 @@
--- Chains of links, and one taken out.
+-- Chains of links, and one removed.
 use Rattle.std.proofs.Common.{◌≡◌, ◌≢◌, ℕ, ◌<◌, ◌≤◌, true, false, cond, not, eqb, List, [], ◌∷◌, Some, refl, ap, sym, ◌∙◌, subst, arith, ◌⊎◌, inl, inr}
 use Rattle.std.specs.List.{filter, AllByRecursion}
 use Rattle.std.proofs.lemmas.Bool.Decides.{nat_tests}
@@ -40,7 +40,7 @@ module _ (after before : ℕ → ℕ) where
   named u (v ∷ vs) i h (inl e) = (omega (arith, h.1, ap before e), omega (arith, h.1, h.2, ap before e))
   named u (v ∷ vs) i h (inr k) = let n = named v vs i h.3 k in (omega (arith, h.2, n.0), n.1)
 
-  -- the same chain under functions that agree there
+  -- a chain is one too under functions that agree with those of the chain from its first element on
   pub chain_same : (after' before' : ℕ → ℕ) (t u : ℕ) (vs : List ℕ) → t ≤ u →
       ((v : ℕ) → t ≤ v → after' v ≡ after v) → ((v : ℕ) → t < v → before' v ≡ before v) → Chain after before u vs → Chain after' before' u vs
   chain_same after' before' t u [] l f g h = tt

@@ -12,7 +12,7 @@ rose_then m n k r s t h j l = grind arith
 pub rose_more : (m k : ℕ) (r s : Steps) → RoseAtMost m r s → m ≤ k → RoseAtMost k r s
 rose_more m k r s h l = grind arith
 
--- the same, areas and pushes apart
+-- how counts of areas and of pushes rise, each by its own bound
 pub by_none : (m n : ℕ) (r : Steps) → RoseBy m n r r
 by_none m n r = record { areas_stay = omega arith; areas_most = omega arith; pushes_stay = omega arith; pushes_most = omega arith }
 

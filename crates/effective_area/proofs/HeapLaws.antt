@@ -92,7 +92,7 @@ corners_moved t ps links xs ys n p h = record {
 index_of : (ps : List Point) (links : List Link) (v w : ℕ) → noted ps links v ≡ noted ps links w → v ≡ w
 index_of ps links v w e = unfold noted in ap (λ (c : Corner). c.index) e
 
--- a neighbour doesn't go before a corner that waits
+-- a neighbour doesn't go before a corner that is due
 neighbour_after : (t : ℕ) (ps : List Point) (links : List Link) (u v : ℕ) → Waits t ps links v → (before_in links v ≡ u) ⊎ (after_in links v ≡ u) → is_before (noted ps links u) (noted ps links v) ≡ false
 neighbour_after t ps links u v h (inl e) = subst (λ x. is_before (noted ps links x) (noted ps links v) ≡ false) e h.before
 neighbour_after t ps links u v h (inr e) = subst (λ x. is_before (noted ps links x) (noted ps links v) ≡ false) e h.after

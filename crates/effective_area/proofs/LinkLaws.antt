@@ -65,7 +65,7 @@ notes ps old new i n p q s e = grind (arith, same_entry)
 pub notes_end : (ps : List Point) (links : List Link) (i : ℕ) → (0 < i → i + 1 < length links → ⊥) → NotesArea ps links links i
 notes_end ps links i h = record { same = refl; here = λ p q. absurd (h p q); ends = λ _. refl; others = λ _ _. refl; befores = λ _. refl; afters = λ _. refl }
 
--- the areas up to i are noted
+-- the areas up to i are cached
 pub record NotedTo (ps : List Point) (old new : List Link) (i : ℕ) : Type 0 where
   pub first : IsFirst new (length ps)
   pub done : (v : ℕ) → 0 < v → v < i → area_in new v ≡ (entry_in ps new v).corner.area

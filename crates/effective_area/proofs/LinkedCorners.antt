@@ -50,7 +50,7 @@ module _ (after before : ℕ → ℕ) where
       at_most w (x ∷ xs) h = let k = at_most x xs h.3 in omega (arith, h.2, k)
   next_in u (v ∷ (w ∷ ws)) i h (inr k) l = let n = next_in v (w ∷ ws) i h.3 k l in (inr n.0, n.1, n.2)
 
-  -- one that is linked is taken out once
+  -- one that is linked is removed once
   pub one_less : (u i : ℕ) (vs : List ℕ) → Chain after before u vs → In i vs → suc (length (filter (λ v. not (eqb v i)) vs)) ≡ length vs
   one_less u i [] h k = elim k [ ]
   one_less u i (v ∷ vs) h k = grind (arith, same_or_not, drop_step, kept_above, above_from, keep_step, one_less v i vs h.3)
@@ -61,7 +61,7 @@ module _ (after before : ℕ → ℕ) where
   prev_in u (v ∷ vs) i h (inl e) = inl (ap before e ∙ h.1)
   prev_in u (v ∷ vs) i h (inr k) = elim (prev_in v vs i h.3 k) [ inl e ↦ inr (inl e) | inr m ↦ inr (inr m) ]
 
-  -- those that are linked are none behind the last
+  -- those that are linked are none past the last
   pub in_last : (u : ℕ) (vs : List ℕ) (i : ℕ) → Chain after before u vs → In i vs → i ≤ last_of u vs
   in_last u (v ∷ vs) i h (inl e) = let m = last_most v vs h.3 in omega (arith, e, m)
     where

@@ -99,7 +99,7 @@ pub next_first : (xs ys : List (Reverse Entry)) (next top : Reverse Entry) → 0
     IsUpperBound rentry_cmp top ys → under next top ≡ false → GoesFirst xs ys
 next_first xs ys next top n e u h = goes_first xs ys next top (length xs - 1, omega (arith, n), sym e) u h
 
--- ---- one is taken out
+-- ---- one is removed
 
 pub off_heap : (xs ys ys' : List (Reverse Entry)) (e : Reverse Entry) → IsPermutation ys (e ∷ ys') → IsPermutation (xs ++ ys) (e ∷ (xs ++ ys'))
 off_heap xs ys ys' e p = IsPermutation-trans (xs ++ ys) (xs ++ (e ∷ ys')) (e ∷ (xs ++ ys')) (IsPermutation-append_right xs ys (e ∷ ys') p) (IsPermutation-middle xs e ys')

@@ -49,7 +49,7 @@ lt_test m n h = grind (arith, nat_tests)
 ge_test : (m n : ℕ) → n ≤ m → ltb m n ≡ false
 ge_test m n h = grind (arith, nat_tests)
 
--- a corner without_under the threshold is taken out
+-- a corner without_under the threshold is removed
 pub step_some : (n t : ℕ) (vs : List Vertex) (c : Corner) → Some c ≡ least (corners vs) → c.area < t → eliminate (suc n) t vs ≡ eliminate n t (without c.index vs)
 step_some n t vs c e h = ap (go_on n t vs) (ap (without_under t vs) (sym e) ∙ ap (λ b. cond b (Some (without c.index vs)) None) (lt_test c.area t h))
 
@@ -84,7 +84,7 @@ pub indexes_of : (ps : List Point) (is : List ℕ) → map (λ v. v.index) (vert
 indexes_of ps [] = refl
 indexes_of ps (i ∷ is) = ap (λ l. i ∷ l) (indexes_of ps is)
 
--- what is present when nothing more is taken out
+-- what is present when nothing more is removed
 pub settled : (t : ℕ) (ps : List Point) (is : List ℕ) → vertices ps is ≡ eliminate (length ps) t (numbered 0 ps) → is ≡ reduce t ps
 settled t ps is e = unfold reduce in sym (indexes_of ps is) ∙ ap (map (λ v. v.index)) e
 

@@ -1,4 +1,4 @@
--- The weights that are found when positions are no longer taken out.
+-- The weights that are found when positions are no longer removed.
 use Rattle.std.proofs.Common.{◌≡◌, ℕ, zero, suc, ◌+◌, ◌-◌, ◌<◌, ◌≤◌, min, cond, List, [], ◌∷◌, ◌++◌, Some, None, length, map, take, drop, get_or, refl, ap, sym, ◌∙◌, subst, arith, ◌⊎◌, inl, inr}
 use Rattle.std.specs.List.{All, range_with_len, count_by, sum_by}
 use Rattle.std.specs.declared.cmp.Reverse.{Reverse}
@@ -178,7 +178,7 @@ module _ (most level : ℕ) (ws found new : List Weight) (f : IsFoundTo most lev
 pub written_over : {A : Type 0} (n : ℕ) (xs ys : List A) → n ≡ length xs → take n (xs ++ drop (length xs) ys) ≡ xs
 written_over n xs ys is = rw is (take-append_seam xs (drop (length xs) ys))
 
--- where there are fewer positions, all weights are told
+-- where there are fewer positions, all weights are reported
 pub all_told : (most : ℕ) (ps : List Point) (new : List Weight) → length ps < most → IsCapped most (weights_of ps) new → new ≡ weights_of ps
 all_told most ps new h (inl e) = e
 all_told most ps new h (inr s) = absurd (omega (arith, h, s.enough, count_by-le-length (is_within s.level) (weights_of ps), weights_length ps))

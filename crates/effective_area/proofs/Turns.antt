@@ -35,7 +35,7 @@ module _ (t : ℕ) (ps : List Point) (links : List Link) (vs : List ℕ) (linked
   abbrev corner_of : ℕ → Corner
   corner_of v = corner_at (vertex_at ps (before_in links v)) (vertex_at ps v) (vertex_at ps (after_in links v))
 
-  -- what is noted is the corner
+  -- the cached corner is the corner
   noted_is : (v : ℕ) → 0 < v → In v vs → v < last_of 0 vs → noted ps links v ≡ corner_of v
   noted_is v p k l = unfold noted in grind (arith, named, corner_of_entry)
 
@@ -47,7 +47,7 @@ module _ (t : ℕ) (ps : List Point) (links : List Link) (vs : List ℕ) (linked
       is_before (noted ps links u) (noted ps links v) ≡ false
   neighbour_later u v p k l h none m = grind (arith, noted_is, named, all_in, in_present, in_last, end_later)
 
-  -- the first corner of all waits, if it is under the threshold
+  -- the first corner of all is due, if it is under the threshold
   first_waits : (v : ℕ) → 0 < v → In v vs → v < last_of 0 vs → (corner_of v).area < t → NoneBefore (corner_of v) (corners (vertices ps (0 ∷ vs))) → Waits t ps links v
   first_waits v p k l h none = record {
     later = p;
@@ -77,7 +77,7 @@ ahead_in links vs b f h (inr k) z n = grind (arith, named, prev_in)
 pub behind_in : (links : List Link) (vs : List ℕ) (a l : ℕ) → IsLinked links vs → In a vs → (a + 1 ≡ length links → l ≡ a) → (a + 1 < length links → l ≡ after_in links a) → In l vs
 behind_in links vs a l h k z n = grind (arith, next_in, in_last)
 
--- two areas are noted anew
+-- two areas are computed again
 pub record Renews (ps : List Point) (old new : List Link) (b a : ℕ) : Type 0 where
   pub at : (v : ℕ) → (v ≡ b) ⊎ (v ≡ a) → 0 < v → v + 1 < length new → area_in new v ≡ (entry_in ps new v).corner.area
   pub ends : (v : ℕ) → (v ≡ 0) ⊎ (v + 1 ≡ length new) → area_in new v ≡ area_in old v
@@ -105,7 +105,7 @@ module _ (t : ℕ) (ps : List Point) (links links' : List Link) (items mid items
   at_entry : seen e.corner ≡ corner_of t ps links vs s.linked s.noted e.corner.index
   at_entry = grind (arith, corner_of_entry)
 
-  -- the first corner of all doesn't go before the entry: it waits, or it isn't under the threshold
+  -- the first corner of all doesn't go before the entry: it is due, or it isn't under the threshold
   not_before : (v : ℕ) → 0 < v → In v vs → v < last_of 0 vs → NoneBefore (corner_of t ps links vs s.linked s.noted v) (corners (vertices ps (0 ∷ vs))) →
       is_before (corner_of t ps links vs s.linked s.noted v) (seen e.corner) ≡ false
   not_before v p k m none = on (cases_lt (corner_of t ps links vs s.linked s.noted v).area t)
@@ -163,7 +163,7 @@ module _ (t : ℕ) (ps : List Point) (links links' : List Link) (items mid items
         let m = next_in (after_in links') (before_in links') 0 rest_of v chain' i (omega (arith, last', s.linked.last, un.same)) in
         (n.1, m.1, omega (arith, m.2, last', s.linked.last, s.size))
 
-    -- some may still be taken out
+    -- some may still be removed
     pub some_left : 0 < left
     some_left =
         let one = one_less (after_in links) (before_in links) 0 e.corner.index vs s.linked.chain in_vs in
@@ -369,7 +369,7 @@ chain_unique after before u (x ∷ xs) (y ∷ ys) h k e = grind (arith, chain_un
 pub same_present : (links : List Link) (vs ws : List ℕ) → IsLinked links vs → IsLinked links ws → vs ≡ ws
 same_present links vs ws h k = chain_unique (after_in links) (before_in links) 0 vs ws h.chain k.chain (omega (arith, h.last, k.last))
 
--- where no corner is under the threshold, none is taken out
+-- where no corner is under the threshold, none is removed
 none_taken : (n t : ℕ) (vs : List Vertex) → AllByRecursion (λ c. t ≤ c.area) (corners vs) → eliminate n t vs ≡ vs
 none_taken n t vs h = grind (arith, least_holds, step_none, step_over)
 
@@ -396,7 +396,7 @@ none_under t ps links items mid left vs s l em = least_decides (λ d. t ≤ d.ar
         absurd (gone (entry_in ps links v) (l.stays (entry_in ps links v) c (current_at ps links v (omega (arith, s.linked.last, m)))))
     at v p k m none (inr o) = o
 
--- and those that are present stay
+-- those that are present stay where none is under the threshold
 pub end_none : (t : ℕ) (ps : List Point) (links : List Link) (items : List (Reverse Entry)) (left : ℕ) (vs : List ℕ) →
     IsState t ps links items left vs → AllByRecursion (λ c. t ≤ c.area) (corners (vertices ps (0 ∷ vs))) → 0 ∷ vs ≡ reduce t ps
 end_none t ps links items left vs s h = settled t ps (0 ∷ vs) (sym (none_taken (left + 2) t (vertices ps (0 ∷ vs)) h) ∙ s.rest)

@@ -1,4 +1,4 @@
--- The weights of the positions that were taken out, and what is left of the others.
+-- The weights of the positions that were removed, and what is left of the others.
 use Rattle.std.proofs.Common.{◌≡◌, ◌≢◌, ℕ, zero, suc, ◌+◌, ◌-◌, ◌<◌, ◌≤◌, max, true, false, cond, not, eqb, leb, List, [], ◌∷◌, Some, None, length, map, get_or, set, refl, ap, sym, ◌∙◌, subst, arith, ◌⊎◌, inl, inr, ◌*◌}
 use Rattle.std.specs.Prelude.{replicate, ℤ, ◌-ℤ◌, ◌*ℤ◌, unsigned_abs}
 use Rattle.std.specs.List.{All, filter, range_with_len, AllByRecursion, count_by}
@@ -86,7 +86,7 @@ pub record AreWeighed (ps : List Point) (level left : ℕ) (vs : List ℕ) (ws :
   pub low : (i : ℕ) → i < length ps → (In i (0 ∷ vs) → ⊥) → IsLow level (get_or ws i End)
   pub many : length ps ≤ count_by (is_within level) ws + left + 2
 
--- nothing is taken out yet
+-- nothing is removed yet
 pub none_weighed : (ps : List Point) (ws : List Weight) → 2 ≤ length ps → ws ≡ replicate (length ps) End → AreWeighed ps 0 (length ps - 2) (range_with_len 1 (length ps - 1)) ws
 none_weighed ps ws two e = record {
   size = ap length e ∙ length-replicate (length ps) End;
@@ -109,7 +109,7 @@ none_weighed ps ws two e = record {
     all_in zero h = inl refl
     all_in (suc i) h = inr (range_in 0 (length ps - 1) (suc i) (omega arith) (omega arith))
 
--- the first corner is taken out, and its weight set
+-- the first corner is removed, and its weight set
 module _ (ps : List Point) (level left : ℕ) (vs : List ℕ) (ws : List Weight) (c : Corner) (w : AreWeighed ps level left vs ws)
     (some : 0 < left) (first : least (corners (vertices ps (0 ∷ vs))) ≡ Some c) (there : In c.index vs) (later : 0 < c.index) (within : c.index < length ps) where
   abbrev rest_of : List ℕ

@@ -1,4 +1,4 @@
--- Weights that are told up to a level only.
+-- Weights that are reported up to a level only.
 use Rattle.std.specs.Prelude.{◌≡◌, ℕ, ◌+◌, ◌*◌, ◌<◌, ◌≤◌, ◌⊎◌, nat_le, min, Bool, false, List, [], ◌∷◌, count_by, map, length, slice_index_or}
 use Rattle.effective_area.specs.Shares.{interior_weights, kept_at, share}
 use Rattle.effective_area.specs.declared.weight.Weight.{Weight}
@@ -16,19 +16,19 @@ abbrev pub is_within : ℕ → Weight → Bool
 is_within level End = false
 is_within level (Area area) = nat_le area level
 
--- the weights of a line are told up to a level, and so many of them aren't over it
+-- the weights of a line are reported up to a level, and so many of them aren't over it
 pub record IsStopped (most : ℕ) (ws told : List Weight) : Type 0 where
   pub level : ℕ
   pub capped : told ≡ map (capped_at level) ws
   pub enough : most ≤ count_by (is_within level) ws
 
--- all weights of a line are told, or they are up to such a level
+-- all weights of a line are reported, or they are up to such a level
 abbrev pub IsCapped : ℕ → List Weight → List Weight → Type 0
 IsCapped most ws told = (told ≡ ws) ⊎ IsStopped most ws told
 
 -- ---- shares of them
 
--- so it is with each of these lines
+-- all weights of each of these lines are reported, or they are up to such a level
 abbrev pub AreCapped : ℕ → List (List Weight) → List (List Weight) → Type 0
 AreCapped most [] [] = Unit {0}
 AreCapped most [] (told ∷ capped) = ⊥
@@ -39,7 +39,7 @@ AreCapped most (ws ∷ lines) (told ∷ capped) = IsCapped most ws told × AreCa
 abbrev pub IsEnough : ℕ → ℕ → ℕ → ℕ → Type 0
 IsEnough p q count most = (n : ℕ) → 0 < n → p * count ≤ q * n → count < n + most
 
--- so the threshold of a share is found by what is told, and what stays at it
+-- the threshold of a share is found by the weights that are reported, and so is what stays at it
 abbrev pub CappedIsEnough : Type 0
 CappedIsEnough = (p q count most : ℕ) (lines capped : List (List Weight)) → p ≤ q → length (interior_weights lines) ≤ count → IsEnough p q count most → AreCapped most lines capped →
     (share p q (interior_weights capped) ≡ share p q (interior_weights lines))
@@ -52,7 +52,7 @@ abbrev pub or_area : ℕ → Weight → Weight
 or_area level End = Area level
 or_area level (Area area) = Area area
 
--- so it is between the ends
+-- the weights between the ends that weren't found yet became the level, and the others stay
 pub record AreFilled (level : ℕ) (old new : List Weight) : Type 0 where
   pub size : length new ≡ length old
   pub between : (i : ℕ) → 0 < i → i + 1 < length old → slice_index_or new i End ≡ or_area level (slice_index_or old i End)

@@ -29,7 +29,7 @@ pub record RoseBy (m n : ℕ) (old new : Steps) : Type 0 where
   pub pushes_stay : old.pushes ≤ new.pushes
   pub pushes_most : new.pushes ≤ old.pushes + n
 
--- the areas rose by this at least, unless they came to the largest `u64`
+-- the areas rose by this at least, unless they reached the largest `u64`
 abbrev pub AreasRose : ℕ → Steps → Steps → Type 0
 AreasRose n old new = min (old.areas + n) (2 ^ 64 - 1) ≤ new.areas
 

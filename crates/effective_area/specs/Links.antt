@@ -62,16 +62,16 @@ turned e = record { 0 = e }
 abbrev pub entry_in : List Point → List Link → ℕ → Entry
 entry_in ps links v = entry_at ps (before_in links v) v (after_in links v)
 
--- the corner at an index, with the area that is noted
+-- the corner at an index, with the cached area
 unfoldable pub noted : List Point → List Link → ℕ → Corner
 noted ps links v = record { area = area_in links v; point = slice_index_or ps v origin; index = v }
 
--- the areas of the corners that are present are noted, and the threshold for those of the ends
+-- the areas of the corners that are present are cached, and the threshold for those of the ends
 pub record AreNoted (t : ℕ) (ps : List Point) (links : List Link) : Type 0 where
   pub between : (v : ℕ) → 0 < v → v + 1 < length links → before_in links v ≢ v → area_in links v ≡ (entry_in ps links v).corner.area
   pub ends : (v : ℕ) → (v ≡ 0) ⊎ (v + 1 ≡ length links) → area_in links v ≡ t
 
--- a corner waits if it is under the threshold and neither neighbour goes before it
+-- a corner is due if it is under the threshold and neither neighbour goes before it
 pub record Waits (t : ℕ) (ps : List Point) (links : List Link) (v : ℕ) : Type 0 where
   pub later : 0 < v
   pub inside : v + 1 < length links
@@ -79,7 +79,7 @@ pub record Waits (t : ℕ) (ps : List Point) (links : List Link) (v : ℕ) : Typ
   pub before : is_before (noted ps links (before_in links v)) (noted ps links v) ≡ false
   pub after : is_before (noted ps links (after_in links v)) (noted ps links v) ≡ false
 
--- each current corner that waits has its entry
+-- each current corner that is due has its entry
 abbrev pub Covers : ℕ → List Point → List Link → List (Reverse Entry) → Type 0
 Covers t ps links items = (v : ℕ) → before_in links v ≢ v → Waits t ps links v → Contains items (turned (entry_in ps links v))
 
@@ -108,7 +108,7 @@ pub record SetsArea (old new : List Link) (at area : ℕ) : Type 0 where
   pub befores : (v : ℕ) → before_in new v ≡ before_in old v
   pub afters : (v : ℕ) → after_in new v ≡ after_in old v
 
--- the area at v is noted anew, if v is between the ends
+-- the area at v is computed again, if v is between the ends
 pub record NotesArea (ps : List Point) (old new : List Link) (v : ℕ) : Type 0 where
   pub same : length new ≡ length old
   pub here : 0 < v → v + 1 < length old → area_in new v ≡ (entry_in ps new v).corner.area
@@ -142,7 +142,7 @@ pub record IsState (t : ℕ) (ps : List Point) (links : List Link) (items : List
   pub many : length vs ≡ left + 1
   pub rest : eliminate (left + 2) t (vertices ps (0 ∷ vs)) ≡ eliminate (length ps) t (numbered 0 ps)
 
--- of those that are present, this first corner was taken out, and this is the state behind it
+-- of those that are present, this first corner was removed, and this is the state after it
 pub record IsTakenOut (t : ℕ) (ps : List Point) (links : List Link) (items : List (Reverse Entry)) (left : ℕ) (vs : List ℕ) (c : Candidate) : Type 0 where
   pub some : 0 < left
   pub first : least (corners (vertices ps (0 ∷ vs))) ≡ Some (seen c)
@@ -151,7 +151,7 @@ pub record IsTakenOut (t : ℕ) (ps : List Point) (links : List Link) (items : L
   pub within : c.index < length ps
   pub rest : IsState t ps links items (left - 1) (filter (λ v. not (v == c.index)) vs)
 
--- the first corner is taken out, or none is under the threshold
+-- the first corner is removed, or none is under the threshold
 abbrev pub TakesFirst : ℕ → List Point → List Link → List (Reverse Entry) → ℕ → List ℕ → Option Candidate → Type 0
 TakesFirst t ps links items left vs (Some c) = IsTakenOut t ps links items left vs c
 TakesFirst t ps links items left vs None = IsLinked links vs × AllByRecursion (λ c. t ≤ c.area) (corners (vertices ps (0 ∷ vs)))
@@ -171,26 +171,26 @@ pub record Fits (links : List Link) (n v : ℕ) : Type 0 where
 abbrev pub IsUnder : ℕ → List Point → List Link → ℕ → Entry → Type 0
 IsUnder t ps links v d = (0 < v) × (v + 1 < length links) × (d ≡ entry_in ps links v) × (d.corner.area < t)
 
--- what is needed of v to compare the corner there: it has its neighbours and its area is noted, if it is between the ends
+-- what is needed of v to compare the corner there: it has its neighbours and its area is cached, if it is between the ends
 pub record IsReady (ps : List Point) (links : List Link) (v : ℕ) : Type 0 where
   pub within : v < length links
   pub fits : 0 < v → v + 1 < length links → Fits links (length ps) v
   pub noted : 0 < v → v + 1 < length links → area_in links v ≡ (entry_in ps links v).corner.area
 
--- the corner at v is new, if it waits
+-- the corner at v is new, if it is due
 pub record Pushed (t : ℕ) (ps : List Point) (links : List Link) (old new : List (Reverse Entry)) (v : ℕ) : Type 0 where
   pub has : (d : Entry) → Contains old (turned d) → Contains new (turned d)
   pub here : Waits t ps links v → Contains new (turned (entry_in ps links v))
   pub only : (d : Entry) → Contains new (turned d) → Contains old (turned d) ⊎ IsUnder t ps links v d
 
--- of two neighbours the one that goes first is new, if it waits; the outer one need not be, if its entry waited before
+-- of two neighbours the one that goes first is new, if it is due; the outer one need not be, if its entry was queued before
 pub record PushedFirst (t : ℕ) (ps : List Point) (links : List Link) (old new : List (Reverse Entry)) (v w : ℕ) (known : Bool) : Type 0 where
   pub has : (d : Entry) → Contains old (turned d) → Contains new (turned d)
   pub inner : Waits t ps links v → (before_in links v ≡ w) ⊎ (after_in links v ≡ w) → Contains new (turned (entry_in ps links v))
   pub outer : known ≡ false → v ≢ w → Waits t ps links w → (before_in links w ≡ v) ⊎ (after_in links w ≡ v) → Contains new (turned (entry_in ps links w))
   pub only : (d : Entry) → Contains new (turned d) → Contains old (turned d) ⊎ (IsUnder t ps links v d ⊎ IsUnder t ps links w d)
 
--- the corners before n that wait, and none that isn't under the threshold
+-- the corners before n that are due, and none that isn't under the threshold
 pub record HasCorners (t : ℕ) (ps : List Point) (links : List Link) (items : List (Reverse Entry)) (n : ℕ) : Type 0 where
   pub has : (v : ℕ) → v < n → Waits t ps links v → Contains items (turned (entry_in ps links v))
   pub only : (d : Entry) → Contains items (turned d) → (v : ℕ) × (0 < v) × (v < n) × (d ≡ entry_in ps links v) × (d.corner.area < t)

@@ -15,7 +15,7 @@ abbrev pub area_of : Weight → Option ℕ
 area_of End = None
 area_of (Area area) = Some area
 
--- those of the weights of lines, in order
+-- the areas of the weights of lines, in order
 abbrev pub interior_weights : List (List Weight) → List ℕ
 interior_weights lines = joined (map (filter_map area_of) lines)
 
@@ -59,6 +59,6 @@ stays_at t (Area area) = nat_le t area
 unfoldable pub kept_at : ℕ → List Weight → List ℕ
 kept_at t ws = filter (λ i. stays_at t (slice_index_or ws i End)) (range_with_len 0 (length ws))
 
--- they are those that stay where the line is reduced
+-- the indexes of the positions that stay by their weights are those that stay where the line is reduced
 abbrev pub KeptAtIsReduced : Type 0
 KeptAtIsReduced = (t : ℕ) (ps : List Point) → kept_at t (weights_of ps) ≡ reduce t ps

@@ -13,7 +13,7 @@ pub struct Entry {
     pub after: usize,
 }
 
-/// The entry of an index with its present neighbours, whose area is noted.
+/// The entry of an index with its present neighbours, whose area is cached.
 pub fn entry_of(arc: &[Position], links: &[Link], index: usize) -> Entry
     requires arc { index < length arc.now }
     requires links { index < length links.now }

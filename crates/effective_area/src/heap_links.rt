@@ -22,7 +22,7 @@ use std::cmp::Reverse;
 use std::collections::BinaryHeap;
 use std::marker::Model;
 
-/// The corners of a whole line that wait.
+/// The corners of a whole line that are due.
 fn first_entries(
     alloc: Global,
     steps: &mut Steps,
@@ -43,7 +43,7 @@ fn first_entries(
     Ok(entries)
 }
 
-/// The corners of a whole line that wait, in their order. They are sorted once, which takes less time than a
+/// The corners of a whole line that are due, in their order. They are sorted once, which takes less time than a
 /// heap of them all; those that come later are put on a heap.
 pub fn sorted_entries(
     alloc: Global,
@@ -107,7 +107,7 @@ fn kept_by(
     present(alloc, links)
 }
 
-/// A reducer that takes time n log n: of the corners under the threshold those wait in their order, stale ones among them, which go
+/// A reducer that takes time n log n: of the corners under the threshold those that are due are queued in their order, stale ones among them, which go
 /// before their neighbours, and the positions that are present are linked both ways. A call raises each count of its steps by three for each position between
 /// the ends at most, and at a threshold over zero that of the areas by one or more. Contracts see it as how often it was called and
 /// the steps that it did so far: nothing else is left of a call, whether it answered or not.

@@ -14,8 +14,8 @@ pub fn kept_at_is_reduced()
     ensures { KeptAtIsReduced }
 {}
 
-/// Weights that are told up to a level only have the threshold of a share of all, and the same positions stay at it by them, where
-/// enough weights of each line that isn't told to the end aren't over its level.
+/// Weights that are reported up to a level only have the threshold of a share of all, and the same positions stay at it by them, where
+/// enough weights of each line that isn't reported to the end aren't over its level.
 pub fn capped_is_enough()
     ensures { CappedIsEnough }
 {}

@@ -4,7 +4,7 @@ ghost use Rattle.effective_area.specs.Links.{IsFirst, IsLinked, SetsAfter, SetsA
 use owned_values::Memory;
 use std::alloc::Global;
 
-/// The present neighbours of a position, and twice its effective area between them. One that was taken out names itself as the one
+/// The present neighbours of a position, and twice its effective area between them. One that was removed names itself as the one
 /// before it. An end has the threshold for its area, so that each corner under it goes before the end.
 #[derive(Clone, Copy, Debug, PartialEq, Eq)]
 pub struct Link {
@@ -48,7 +48,7 @@ pub fn unlink(links: &mut [Link], before: usize, index: usize, after: usize)
     set_before(links, index, index);
 }
 
-/// Each index linked to the next, and one area noted for all.
+/// Each index linked to the next, and one area cached for all.
 pub fn first_links(alloc: Global, n: usize, area: u128) -> Result<Vec<Link>, Memory>
     ensures first { IfOk result (λ links. IsFirst links.items n) }
     ensures areas { IfOk result (λ links. (v : ℕ) → v < n → area_in links.items v ≡ area) }

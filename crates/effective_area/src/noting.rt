@@ -12,7 +12,7 @@ use geometry::Position;
 use owned_values::Memory;
 use std::alloc::Global;
 
-/// The corner at an index, with the area that is noted.
+/// The corner at an index, with the cached area.
 pub fn noted(arc: &[Position], links: &[Link], index: usize) -> Candidate
     requires arc { index < length arc.now }
     requires links { index < length links.now }
@@ -26,7 +26,7 @@ pub fn noted(arc: &[Position], links: &[Link], index: usize) -> Candidate
     }
 }
 
-/// Whether the corner at an index goes before another one, by the areas that are noted.
+/// Whether the corner at an index goes before another one, by the cached areas.
 #[tactic(auto, unfolding(elimination_meaning::specs::Elimination::is_before))]
 pub fn goes_before(arc: &[Position], links: &[Link], index: usize, other: usize) -> bool
     requires size { length links.now ≡ length arc.now }

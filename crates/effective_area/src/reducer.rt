@@ -11,7 +11,7 @@ pub trait Reducer {
     ghost calls: { Self → ℕ };
 
     /// The rising indexes of the positions that stay where, while some position between the ends has twice an effective area
-    /// under `t`, in square units, the least by area, position and index is taken out. They depend on the line and the
+    /// under `t`, in square units, the least by area, position and index is removed. They depend on the line and the
     /// threshold alone, whatever this reducer answered before, want of memory too.
     fn kept(&mut self, alloc: Global, arc: &[Position], t: u128) -> Result<Vec<usize>, Memory>
         requires { 2 ≤ length arc.now }

@@ -50,7 +50,7 @@ fn take_out(present: &mut Vec<usize>, index: usize)
     present.retain(move |i| !(*i == index));
 }
 
-/// A reducer that looks through all corners of the line for each position that it takes out: the plainest body of the law,
+/// A reducer that looks through all corners of the line for each position that it removes: the plainest body of the law,
 /// in time n squared. Contracts see it as how often it was called: nothing else is left of a call.
 #[derive(Debug, Drop)]
 pub struct Rescan {

@@ -40,7 +40,7 @@ fn count_all(arcs: &[Vec<Weight>]) -> usize
     count
 }
 
-/// The areas of a line's weights, behind others.
+/// The areas of a line's weights, after others.
 fn push_areas(areas: &mut Vec<u128>, weights: &[Weight]) -> Result<(), Memory>
     ensures { OnOk result (areas.new.items ≡ areas.old.items ++ filter_map spec.area_of weights.now) }
 {

@@ -27,7 +27,7 @@ fn ahead(links: &[Link], index: usize) -> usize
     links[index].before
 }
 
-/// The one behind an index, or the index itself if it is the last.
+/// The one after an index, or the index itself if it is the last.
 fn behind(links: &[Link], index: usize) -> usize
     requires { index < length links.now }
     ensures last { (index + 1 ≡ length links.now) → result ≡ index }
@@ -53,10 +53,10 @@ pub fn take_first(
     requires state { (left : ℕ) × (vs : List ℕ) × IsState t arc.now links.old (sorted.old.items ++ heap_items heap.old) left vs }
     ensures sorted { OnOk result (IsSorted rentry_cmp sorted.new.items) }
     ensures order { OnOk result (IsHeap rentry_cmp (heap_items heap.new)) }
-    // What is taken out is the first corner of those that are present, and what was known of them is known of the others.
+    // What is removed is the first corner of those that are present, and what was known of them is known of the others.
     ensures taken { IfOk result (λ taken. (left : ℕ) (vs : List ℕ) → IsState t arc.now links.old (sorted.old.items ++ heap_items heap.old) left vs
         → TakesFirst t arc.now links.new (sorted.new.items ++ heap_items heap.new) left vs taken) }
-    // Where there was one to take out, two corners are computed anew, and else none.
+    // Where there was one to remove, two corners are computed again, and else none.
     ensures counted { (left : ℕ) (vs : List ℕ) → IsState t arc.now links.old (sorted.old.items ++ heap_items heap.old) left vs → RoseAtMost (2 * min left 1) steps.old steps.new }
 {
     let Some(entry) = pop_current(sorted, heap, links) else {

@@ -74,7 +74,7 @@ pub fn pop_current(
     None
 }
 
-/// The entry of an index, if it is between the ends and its corner waits: it is under the threshold, and those of its neighbours
+/// The entry of an index, if it is between the ends and its corner is due: it is under the threshold, and those of its neighbours
 /// don't go before it.
 fn waiting_entry(arc: &[Position], links: &[Link], t: u128, index: usize) -> Option<Entry>
     requires size { length links.now ≡ length arc.now }
@@ -101,7 +101,7 @@ fn waiting_entry(arc: &[Position], links: &[Link], t: u128, index: usize) -> Opt
     Some(entry_of(arc, links, index))
 }
 
-/// Puts the corner at an index behind the others, if it waits.
+/// Puts the corner at an index after the others, if it is due.
 pub fn put_corner(
     entries: &mut Vec<Reverse<Entry>>,
     steps: &mut Steps,
@@ -122,7 +122,7 @@ pub fn put_corner(
     Ok(())
 }
 
-/// Pushes the corner at an index on the heap, if it waits.
+/// Pushes the corner at an index on the heap, if it is due.
 fn push_corner(
     heap: &mut BinaryHeap<Reverse<Entry>>,
     steps: &mut Steps,
@@ -145,7 +145,7 @@ fn push_corner(
     Ok(())
 }
 
-/// Pushes the one of two neighbours that goes first, if it waits. The outer one is left out if its entry waited before.
+/// Pushes the one of two neighbours that goes first, if it is due. The outer one is left out if its entry was queued before.
 pub fn push_first(
     heap: &mut BinaryHeap<Reverse<Entry>>,
     steps: &mut Steps,

@@ -96,7 +96,7 @@ fn fill(weights: &mut [Weight], level: u128)
     }
 }
 
-/// The weight of each position of a line as `weights` has it, up to a level: once so many positions are taken out, the greatest weight
+/// The weight of each position of a line as `weights` has it, up to a level: once so many positions are removed, the greatest weight
 /// of these stands for the weights of all others between the ends, which are no less. In time n log n.
 #[tactic(auto, using(crate::proofs::Stopped::filled))]
 pub fn weights_until(alloc: Global, arc: &[Position], most: usize) -> Result<Vec<Weight>, Memory>

@@ -1,4 +1,4 @@
--- The ends of a line stay: a corner that is taken out has the index of neither.
+-- The ends of a line stay: a corner that is removed has the index of neither.
 use Rattle.std.proofs.Common.{◌≡◌, ℕ, zero, suc, ◌+◌, ◌<◌, ◌≤◌, Bool, true, false, not, List, [], ◌∷◌, ◌++◌, Option, Some, None, length, map, refl, ap, sym, ◌∙◌, subst, arith, if◌then◌else◌, ◌==◌, nat_lt}
 use Rattle.std.specs.List.{AllByRecursion}
 use Rattle.std.proofs.lemmas.Bool.Decides.{nat_tests}
@@ -72,7 +72,7 @@ ends_stay t p q ps =
     let h = eliminate_ends (length (p ∷ (ps ++ (q ∷ [])))) t _ _ _ (numbered_ends p q ps) in
     (map (λ v. v.point) h.inner, ap (map (λ v. v.point)) h.shape ∙ ap (λ l. p ∷ l) (map-append (λ v. v.point) h.inner (vertex (1 + length ps) q ∷ [])))
 
--- the same in words of indexes
+-- the indexes that stay begin with 0 and end with the last one
 pub index_ends_stay : (t : ℕ) (p q : Point) (ps : List Point) → (between : List ℕ) × (reduce t (p ∷ (ps ++ (q ∷ []))) ≡ 0 ∷ (between ++ ((1 + length ps) ∷ [])))
 unfolding reduce
 index_ends_stay t p q ps =

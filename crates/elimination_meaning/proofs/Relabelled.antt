@@ -13,7 +13,7 @@ use Rattle.elimination_meaning.proofs.Sublists.{sub_tail, sub_front, sub_map, su
 use Rattle.elimination_meaning.proofs.Turned.{go_on}
 use Rattle.elimination_meaning.specs.Sublists.{Sublist}
 
--- the same position under another index
+-- a vertex whose index is replaced by another, at the position that it has
 abbrev pub relabelled : (ℕ → ℕ) → Vertex → Vertex
 relabelled f v = vertex (f v.index) v.point
 

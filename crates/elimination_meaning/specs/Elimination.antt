@@ -23,7 +23,7 @@ pub record Corner : Type 0 where
 abbrev pub corner_at : Vertex → Vertex → Vertex → Corner
 corner_at a b c = record { area = twice_area a.point b.point c.point; point = b.point; index = b.index }
 
--- the corners behind the first two vertices on
+-- the corners after the first two vertices on
 abbrev pub corners_from : Vertex → Vertex → List Vertex → List Corner
 corners_from a b [] = []
 corners_from a b (c ∷ vs) = corner_at a b c ∷ corners_from b c vs
@@ -64,11 +64,11 @@ abbrev pub without_under : ℕ → List Vertex → Option Corner → Option (Lis
 without_under t vs None = None
 without_under t vs (Some c) = if nat_lt c.area t then Some (without c.index vs) else None
 
--- one point taken out, the whole list scanned anew, if its least corner is under the threshold
+-- one point removed, the whole list scanned again, if its least corner is under the threshold
 abbrev pub next : ℕ → List Vertex → Option (List Vertex)
 next t vs = without_under t vs (least (corners vs))
 
--- so many points taken out at most
+-- so many points removed at most
 abbrev pub eliminate : ℕ → ℕ → List Vertex → List Vertex
 eliminate zero t vs = vs
 eliminate (suc n) t vs = elim (next t vs) [ None ↦ vs | Some ws ↦ eliminate n t ws ]
@@ -78,7 +78,7 @@ abbrev pub numbered : ℕ → List Point → List Vertex
 numbered i [] = []
 numbered i (p ∷ ps) = record { index = i; point = p } ∷ numbered (i + 1) ps
 
--- the vertices that stay while the least corner under the threshold is taken out again and again
+-- the vertices that stay while the least corner under the threshold is removed again and again
 abbrev pub remaining : ℕ → List Point → List Vertex
 remaining t ps = eliminate (length ps) t (numbered 0 ps)
 

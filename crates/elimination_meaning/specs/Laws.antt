@@ -16,7 +16,7 @@ DirectionLaw = (t : ℕ) (ps : List Point) → AreDistinct (interior ps) → red
 abbrev pub mirrored : ℕ → List ℕ → List ℕ
 mirrored n is = reverse (map (λ i. n - 1 - i) is)
 
--- and its indexes are those of the line, counted from the other end
+-- the indexes that stay of a reversed line are those that stay of the line, counted from the other end
 abbrev pub IndexDirectionLaw : Type 0
 IndexDirectionLaw = (t : ℕ) (ps : List Point) → AreDistinct (interior ps) → reduce t (reverse ps) ≡ mirrored (length ps) (reduce t ps)
 

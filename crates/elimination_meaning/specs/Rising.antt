@@ -6,7 +6,7 @@ abbrev pub RisesTo : ℕ → ℕ → List ℕ → Type 0
 RisesTo last i [] = i ≡ last
 RisesTo last i (j ∷ js) = (i < j) × RisesTo last j js
 
--- they rise from the first to the last index of a line of so many positions
+-- these indexes rise from the first to the last one of a line of so many positions
 abbrev pub RisesOver : ℕ → List ℕ → Type 0
 RisesOver n [] = ⊥
 RisesOver n (i ∷ is) = (i ≡ 0) × RisesTo (n - 1) i is

@@ -13,7 +13,7 @@ pub fn index_direction_law()
     ensures { IndexDirectionLaw }
 {}
 
-/// At a threshold of zero nothing is taken out.
+/// At a threshold of zero nothing is removed.
 #[tactic(auto, using(crate::proofs::Steps::nothing_under_zero))]
 pub fn zero_law()
     ensures { ZeroLaw }
@@ -43,7 +43,7 @@ pub fn indexes_rise()
     ensures { IndexesRise }
 {}
 
-/// At a higher threshold no position stays that a lower one takes out.
+/// At a higher threshold no position stays that a lower one removes.
 #[tactic(auto, using(crate::proofs::Higher::higher_keeps_fewer))]
 pub fn higher_keeps_fewer()
     ensures { HigherKeepsFewer }

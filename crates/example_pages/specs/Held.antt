@@ -9,7 +9,7 @@ use Rattle.example_pages.specs.declared.lent_files.Kept.{Kept}
 use Rattle.example_pages.specs.declared.lent_files.LentFiles.{LentFiles}
 use Rattle.example_pages.specs.declared.memory_files.Entry.{Entry}
 
--- those of this file, if it has this name
+-- the bytes of this file, if it has this name
 abbrev pub entry_held : Entry → List ℕ → Option (List ℕ)
 entry_held e path = if bytes_eq (string_bytes e.name) path then Some e.bytes.items else None
 
@@ -17,7 +17,7 @@ abbrev pub or_else : {A : Type 0} → Option A → Option A → Option A
 or_else (Some a) o = Some a
 or_else None o = o
 
--- those of the file of this name: of the last one
+-- the bytes of the file of this name: of the last one
 abbrev pub held : List Entry → List ℕ → Option (List ℕ)
 held [] path = None
 held (e ∷ es) path = or_else (held es path) (entry_held e path)
@@ -29,11 +29,11 @@ left_of (damage.Cut name end) path whole = if bytes_eq name.now path then take e
 left_of (damage.Broken name end) path whole = whole
 left_of (damage.Folder name) path whole = whole
 
--- those of the file that a run has written, if it has this name
+-- the bytes of the file that a run has written, if it has this name
 abbrev pub written : Option Kept → List ℕ → Option (List ℕ)
 written None path = None
 written (Some kept) path = if bytes_eq (string_bytes kept.name) path then Some kept.bytes.now else None
 
--- those that a file of this name has when it is opened: as the run has written it, or else as the page has it
+-- the bytes that a file of this name has when it is opened: as the run has written it, or else as the page has it
 abbrev pub lent : LentFiles → List ℕ → Option (List ℕ)
 lent files path = or_else (written files.kept path) (option_map (left_of files.damage path) (held files.files.now.entries.items path))

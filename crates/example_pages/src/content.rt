@@ -30,7 +30,7 @@ fn hexadecimal(alloc: Global, lines: &str) -> Result<Option<Vec<u8>>, AllocError
     Ok(Some(bytes))
 }
 
-/// Of each line the text behind its first space, as often as the number before it says.
+/// Of each line the text after its first space, as often as the number before it says.
 fn repeated(alloc: Global, lines: &str) -> Result<Option<Vec<u8>>, AllocError> {
     let mut bytes = Vec::new(alloc);
     for line in lines.lines() {

@@ -10,9 +10,9 @@ const BLOCK: usize = 65_536;
 #[derive(Clone, Copy)]
 pub(crate) enum Damage<'a> {
     None,
-    /// The file of this name ends behind so many bytes.
+    /// The file of this name ends after so many bytes.
     Cut(&'a str, usize),
-    /// Reads of the file of this name fail behind so many bytes.
+    /// Reads of the file of this name fail after so many bytes.
     Broken(&'a str, usize),
     /// The file of this name is a folder: it can be opened, and no read of it gives anything.
     Folder(&'a str),

@@ -17,7 +17,7 @@ pub(crate) enum Runs<'a> {
     EachByteNotTaken(&'a str),
 }
 
-/// What must come to standard output, or to the file that takes its place.
+/// What must be written to standard output, or to the file that takes its place.
 #[derive(Drop)]
 pub(crate) enum Output<'a> {
     Nothing,
@@ -32,7 +32,7 @@ pub(crate) enum Output<'a> {
 /// A command of a page, and what must come of it.
 #[derive(Drop)]
 pub(crate) struct Example<'a> {
-    /// The words behind the program's name, and a space before each.
+    /// The words after the program's name, and a space before each.
     pub(crate) words: &'a str,
     /// The name that standard output is kept under.
     pub(crate) kept: Option<&'a str>,
@@ -96,7 +96,7 @@ impl<'a> Example<'a> {
         }
     }
 
-    /// Takes what must come to standard output, and answers whether that was open.
+    /// Takes what must be written to standard output, and answers whether that was open.
     pub(crate) fn takes_output(&mut self, output: Output<'a>) -> bool {
         let is_open = matches!(self.output, Output::Nothing)
             && !matches!(

@@ -1,6 +1,6 @@
 //! Pages of worked examples: Markdown whose blocks name files, commands and what must come of them. It stands on `byte_ends` alone,
 //! whose failing devices it lends to the runs, and knows no program: `try_page` runs the commands of a page on any `Program` over
-//! files and streams in memory, and tells which runs went otherwise. `worked_examples`, which has the pages, says in `FORMAT.md` what
+//! files and streams in memory, and says which runs went otherwise. `worked_examples`, which has the pages, says in `FORMAT.md` what
 //! a page may hold.
 #![tactic(auto)]
 

@@ -60,7 +60,7 @@ pub struct Ended<'a> {
 
 /// A program that is run by words over files and streams.
 pub trait Program {
-    /// Runs it on the words behind its name.
+    /// Runs it on the words after its name.
     fn run<'a>(
         &self,
         alloc: Global,

@@ -8,7 +8,7 @@ use crate::tally::Tally;
 use byte_ends::devices::Fault;
 use std::alloc::{AllocError, Global};
 
-/// The words behind the program's name.
+/// The words after the program's name.
 fn words_of(alloc: Global, words: &str) -> Result<Vec<String>, AllocError> {
     let mut all = Vec::new(alloc);
     for word in words.split(' ').skip(1) {

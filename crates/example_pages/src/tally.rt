@@ -1,10 +1,10 @@
-// What the runs of a page came to.
+// The outcomes of the runs of a page.
 use crate::example::Example;
 use crate::lent_files::Written;
 use crate::program::Ran;
 use std::alloc::{AllocError, Global};
 
-/// What the runs of a page came to.
+/// The outcomes of the runs of a page.
 #[derive(Drop)]
 pub struct Tally {
     runs: u64,
@@ -35,7 +35,7 @@ impl Tally {
         Ok(())
     }
 
-    /// Judges a run of a command by what was to come to standard output, or to the file that takes its place.
+    /// Judges a run of a command by what was to be written to standard output, or to the file that takes its place.
     pub(crate) fn judge(
         &mut self,
         alloc: Global,

@@ -23,7 +23,7 @@ none_left (b ∷ bs) = false
 abbrev pub is_utf16 : List ℕ → Bool
 is_utf16 bytes = begins (255 ∷ 254 ∷ []) bytes || (begins (254 ∷ 255 ∷ []) bytes || zero_soon bytes)
 
--- what stands behind white space
+-- what stands after white space
 abbrev pub text_form : List ℕ → FileForm
 text_form bytes = if none_left bytes then Blank else (if begins (codes "<") bytes then Markup else Other)
 

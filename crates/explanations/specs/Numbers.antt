@@ -1,4 +1,4 @@
--- The numbers that are told of a build.
+-- The numbers that are reported of a build.
 use Rattle.std.specs.Prelude.{ℕ, ◌+◌, ◌*◌, ◌/◌}
 
 -- so many of so many in thousandths, rounded down

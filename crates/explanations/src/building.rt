@@ -1,4 +1,4 @@
-// What is told of a topology that was built.
+// What is said of a topology that was built.
 ghost use Rattle.std.specs.Prelude.{◌≡◌, ◌+◌, ◌<◌, ◌≤◌};
 ghost use Rattle.explanations.specs.Numbers.{thousandths as thousandths_of};
 ghost use Rattle.grid_snap.specs.Axes.{axis_over};

@@ -17,7 +17,7 @@ pub(crate) enum ObjectKind {
     GeometryFeature(Option<&'static str>),
 }
 
-/// Whether a member of this name is read of such an object. The bounds of a topology are written anew.
+/// Whether a member of this name is read of such an object. The bounds of a topology are written again.
 fn is_read(kind: ObjectKind, name: &str) -> bool {
     match kind {
         ObjectKind::Layer => matches!(name, "type" | "features"),
@@ -150,7 +150,7 @@ impl Census {
         }
     }
 
-    /// Goes on to the next feature, whose lines are counted anew.
+    /// Goes on to the next feature, whose lines are counted again.
     pub(crate) fn begin_feature(&mut self) {
         self.lines = 0;
         self.has_points = false;

@@ -4,7 +4,7 @@ ghost use Rattle.explanations.specs.Forms as spec;
 
 use json_reading::{after_word, skip};
 
-/// What kind of file it is, as far as its first bytes tell.
+/// What kind of file it is, as far as its first bytes show.
 #[derive(Clone, Copy, Debug, PartialEq, Eq)]
 pub enum FileForm {
     /// Packed by gzip (RFC 1952).
@@ -46,7 +46,7 @@ fn is_utf16(bytes: &[u8]) -> bool
     begins(&[0xff, 0xfe], bytes) || begins(&[0xfe, 0xff], bytes) || zero_soon(bytes)
 }
 
-/// What kind of text it is, behind white space.
+/// What kind of text it is, after white space.
 fn text_form(bytes: &[u8]) -> FileForm
     ensures { result ≡ spec.text_form bytes.now }
 {

@@ -37,7 +37,7 @@ fn advice(form: FileForm) -> &'static str {
     }
 }
 
-/// What is wrong with bytes that are UTF-8 and no JSON text. `sequence` is told where they are JSON texts one behind another.
+/// What is wrong with bytes that are UTF-8 and no JSON text. `sequence` is said where they are JSON texts one after another.
 fn malformed(
     alloc: Global,
     bytes: &[u8],
@@ -70,8 +70,8 @@ fn unread_fault(alloc: Global, fault: JsonFault) -> Result<String, AllocError> {
     }
 }
 
-/// What is wrong with bytes for which this fault was answered, and which are none where they can't be read once more. `sequence` is told of
-/// JSON texts one behind another.
+/// What is wrong with bytes for which this fault was answered, and which are none where they can't be read once more. `sequence` is said of
+/// JSON texts one after another.
 pub(crate) fn json_fault(
     alloc: Global,
     bytes: Option<&[u8]>,

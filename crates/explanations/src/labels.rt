@@ -4,7 +4,7 @@ use json_members::find;
 use json_value::{Json, OwnText};
 use std::alloc::{AllocError, Global};
 
-/// The identifier among the members of a feature, behind a comma.
+/// The identifier among the members of a feature, after a comma.
 fn identifier(alloc: Global, members: &[(OwnText, Json)]) -> Result<String, AllocError> {
     match find(members, "id") {
         Ok(Some(Json::Text(text))) => {
@@ -19,7 +19,7 @@ fn identifier(alloc: Global, members: &[(OwnText, Json)]) -> Result<String, Allo
     }
 }
 
-/// The first of these properties whose value is a text, behind a comma.
+/// The first of these properties whose value is a text, after a comma.
 fn first_text(alloc: Global, properties: &[(OwnText, Json)]) -> Result<String, AllocError> {
     for property in properties {
         if let Some(text) = property.1.as_text() {

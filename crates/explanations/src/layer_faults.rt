@@ -35,7 +35,7 @@ fn add_step(alloc: Global, path: &mut String, step: Step) -> Result<(), AllocErr
     }
 }
 
-/// What to do with a layer that is JSON texts one behind another.
+/// What to do with a layer that is JSON texts one after another.
 const SEQUENCE: &str =
     "  the file is JSON texts one behind another: make one FeatureCollection of them, as by ogr2ogr -f GeoJSON or jq -s\n";
 

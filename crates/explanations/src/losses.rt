@@ -10,7 +10,7 @@ use json_reading::{LAYER_DEPTH, TOPOLOGY_DEPTH};
 use json_value::{Json, OwnText};
 use std::alloc::{AllocError, Global};
 
-/// The lines that are dropped and aren't told of yet, in reading order.
+/// The lines that are dropped and aren't reported yet, in reading order.
 #[derive(Drop)]
 struct DropsLeft<'a> {
     rest: &'a [Dropped],
@@ -36,7 +36,7 @@ impl<'a> DropsLeft<'a> {
     }
 }
 
-/// Whether a line stands behind this feature in reading order.
+/// Whether a line stands after this feature in reading order.
 fn is_behind(address: &Address, layer: usize, feature: usize) -> bool {
     address.layer > layer || (address.layer == layer && address.feature > feature)
 }

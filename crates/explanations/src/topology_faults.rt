@@ -13,7 +13,7 @@ use json_value::Json;
 use std::alloc::{AllocError, Global};
 use topojson_meaning::TopoFault;
 
-/// What a file is that is JSON texts one behind another.
+/// What a file is that is JSON texts one after another.
 const SEQUENCE: &str = "  the file is JSON texts one behind another, and no topology\n";
 
 /// The names of these objects, or that there are none.

@@ -1,4 +1,4 @@
-// The first fault of a topology's tree, and where it is. What it is made of is read by way of its text.
+// The first fault of a topology's tree, and where it is. What it is made of is read through its text.
 use byte_ends::Memory;
 use decimal_json::value_text;
 use geojson_types::Counts;

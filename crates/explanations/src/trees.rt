@@ -33,7 +33,7 @@ pub(crate) fn stop(
     }
 }
 
-/// What stands behind the byte order mark, if there is one.
+/// What stands after the byte order mark, if there is one.
 pub(crate) fn behind_mark(bytes: &[u8]) -> &[u8] {
     match bytes {
         [0xef, 0xbb, 0xbf, rest @ ..] => rest,
@@ -41,7 +41,7 @@ pub(crate) fn behind_mark(bytes: &[u8]) -> &[u8] {
     }
 }
 
-/// Whether the text is JSON values one behind another: a record separator (RFC 7464, section 2.2) begins it, or stands behind its first
+/// Whether the text is JSON values one after another: a record separator (RFC 7464, section 2.2) begins it, or stands after its first
 /// value, or an object does.
 pub(crate) fn is_sequence(alloc: Global, bytes: &[u8], deepest: u32) -> Result<bool, AllocError> {
     let text = skip(behind_mark(bytes));

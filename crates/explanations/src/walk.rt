@@ -39,7 +39,7 @@ pub(crate) enum Step {
     Element(usize),
 }
 
-/// A walk through a layer in the order in which faults are answered. Behind a fault the trail leads to the value that has it, and the
+/// A walk through a layer in the order in which faults are answered. After a fault the trail leads to the value that has it, and the
 /// words say what is wrong with it.
 #[derive(Drop)]
 pub(crate) struct Walk {

@@ -1,4 +1,4 @@
--- A text that was written and flushed is told.
+-- A text that was written and flushed is printed.
 use Rattle.std.proofs.Common.{ℕ, List, length, refl, arith, Result, Ok, Err}
 use Rattle.byte_ends.specs.Ends.{Drained}
 use Rattle.byte_ends.specs.Writes.{Sends}

@@ -1,4 +1,4 @@
--- The line that tells a fault.
+-- The line that reports a fault.
 use Rattle.std.specs.Prelude.{ℕ, List, ◌++◌, codes, decimal, Option, None, Some}
 use Rattle.byte_ends.specs.declared.source.ReadFault.{ReadFault}
 use Rattle.byte_ends.specs.declared.source.ReadFault.TheVariants as read
@@ -38,7 +38,7 @@ geo_text fault = ((code fault.kind ++ codes " ") ++ name fault.kind) ++ feature_
 abbrev pub topo_text : TopoFault → List ℕ
 topo_text fault = (topo.code fault ++ codes " ") ++ topo.name fault
 
--- the front of the line of the layer of this number
+-- the prefix of the line of the layer of this number
 abbrev pub layer_front : ℕ → List ℕ
 layer_front layer = (codes "error: layer " ++ decimal layer) ++ codes " "
 

@@ -1,4 +1,4 @@
-// The line that tells a fault.
+// The line that reports a fault.
 ghost use Rattle.std.specs.Prelude.{◌++◌, Ok, codes, decimal};
 ghost use Rattle.byte_ends.specs.Continues.{Continues};
 ghost use Rattle.byte_ends.specs.Writes.{Writes};
@@ -76,7 +76,7 @@ fn put_topo<W: Drain>(fault: &TopoFault, so_far: Progress, sink: &mut Sink<W>) -
     put_part(fault.name().as_bytes(), so_far, sink)
 }
 
-/// Writes the front of the line of a layer that is refused.
+/// Writes the prefix of the line of a layer that is refused.
 fn put_layer<W: Drain>(layer: usize, sink: &mut Sink<W>) -> Progress
     ensures { Continues sink.old sink.new (Ok 0) (spec.layer_front layer) result }
 {
@@ -103,7 +103,7 @@ fn put_sent<W: Drain>(words: &[u8], sent: u64, sink: &mut Sink<W>) -> Progress
     put_part(b"\n", so_far, sink)
 }
 
-/// Writes a fault as the program tells it, in a line of its own: the layer's number, the fault's code and name, and the number
+/// Writes a fault as the program reports it, in a line of its own: the layer's number, the fault's code and name, and the number
 /// of the feature, the byte or the bytes sent, where the fault has it.
 pub(crate) fn put_fault<W: Drain>(fault: &BuildFault, sink: &mut Sink<W>) -> Progress
     ensures { Writes sink.old sink.new 0 (spec.fault_text fault.now) result }
@@ -131,7 +131,7 @@ pub(crate) fn put_fault<W: Drain>(fault: &BuildFault, sink: &mut Sink<W>) -> Pro
     }
 }
 
-/// Writes a fault of a topology's file as the program tells it, in a line of its own: the fault's code and name, and the number of
+/// Writes a fault of a topology's file as the program reports it, in a line of its own: the fault's code and name, and the number of
 /// the byte or of the bytes sent, where the fault has it.
 pub(crate) fn put_file_fault<W: Drain>(fault: &FileFault, sink: &mut Sink<W>) -> Progress
     ensures { Writes sink.old sink.new 0 (spec.file_fault_text fault.now) result }

@@ -59,7 +59,7 @@ impl Properties {
         }
     }
 
-    /// The same, where there are members. This takes no memory.
+    /// The properties with these members, where there are members. This takes no memory.
     pub fn of_option(members: Option<Items<(OwnText, Json)>>) -> Option<Properties>
         ensures { result ≡ members }
     {
@@ -89,7 +89,7 @@ impl Properties {
         }
     }
 
-    /// The same properties once more, in memory of their own.
+    /// A copy of the properties, in memory of its own.
     pub fn copy(&self, alloc: Global) -> Result<Properties, Memory>
         ensures { IfOk result (λ p. p ≡ self.now) }
     {

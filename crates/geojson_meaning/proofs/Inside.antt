@@ -17,7 +17,7 @@ use Rattle.json_members.proofs.Yields.{IfThere}
 abbrev pub Shallower : ℕ → Json → Type 0
 Shallower n v = depth v < n
 
--- so is the value of a member
+-- the value of a member is less deep than n
 abbrev pub ShallowerMember : ℕ → List ℕ × Json → Type 0
 ShallowerMember n m = depth m.1 < n
 

@@ -36,7 +36,7 @@ use Rattle.list_laws.proofs.Elements.{all_weaker}
 abbrev pub IsPart : ℕ → Type 0 → Type 0 → Json → Type 0
 IsPart n N T v = (depth v < n) × (N → HasNumbers v) × (T → HasTexts v)
 
--- so is the value of a member
+-- the value of a member is less deep than n, with numbers and texts as of a part
 abbrev pub IsPartMember : ℕ → Type 0 → Type 0 → List ℕ × Json → Type 0
 IsPartMember n N T m = (depth m.1 < n) × (N → HasNumbers m.1) × (T → HasTexts m.1)
 

@@ -24,7 +24,7 @@ fail_stricter f lax c d y e = absurd cc
 pub pure_stricter : {E A : Type 0} (r : Result A E) → Stricter (pure r) (pure r)
 pure_stricter r = grind (arith, give_stricter, fail_stricter)
 
--- the same first, without counts
+-- after one step that counts nothing, stricter readers make a stricter reader
 pub after_stricter : {E A B : Type 0} (r : Result A E) (f g : A → Counting E B) → ((x : A) → Stricter (f x) (g x)) → Stricter (pure r >>= f) (pure r >>= g)
 after_stricter r f g = then_stricter (pure r) (pure r) f g (pure_stricter r)
 

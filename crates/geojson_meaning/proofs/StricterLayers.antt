@@ -99,7 +99,7 @@ unfolding features_from
 features_from_stricter n [] = give_stricter []
 features_from_stricter n (v ∷ vs) = search (then_stricter, within_stricter, feature_element_stricter, give_stricter, features_from_stricter (n + 1) vs)
 
--- the same first, without counts and of no feature
+-- after one step that counts nothing and belongs to no feature, stricter readers make a stricter reader
 first_stricter : {A B : Type 0} (r : Result A GeoFaultKind) (m n : A → LayerReader B) → ((x : A) → Stricter (m x) (n x)) → Stricter (within None (pure r) >>= m) (within None (pure r) >>= n)
 first_stricter r m n = then_stricter (within None (pure r)) (within None (pure r)) m n (within_stricter None (pure r) (pure r) (pure_stricter r))
 

@@ -25,7 +25,7 @@ number_in_units exact (Some t) = in_units exact (scaled_of unit_places input_lim
 unfoldable pub coordinate : Bool → Json → Reader ℤ
 coordinate exact v = number_in_units exact (number_of v)
 
--- x and then y; elements behind them are counted once and not looked at
+-- x and then y; elements after them are counted once and not looked at
 unfoldable pub elements_position : Bool → List Json → Reader Point
 elements_position exact [] = fail ShortPosition
 elements_position exact (v ∷ []) = fail ShortPosition

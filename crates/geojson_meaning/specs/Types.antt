@@ -19,7 +19,7 @@ coordinates_type name =
     else (if bytes_eq name (codes "MultiPolygon") then Some coordinates.MultiPolygon
     else None)))))
 
--- those, and the one that has `geometries`
+-- all geometry types: those that have `coordinates`, and the one that has `geometries`
 unfoldable pub geometry_type : List ℕ → Option GeometryType
 geometry_type name = if bytes_eq name (codes "GeometryCollection") then Some geometry.Collection else map_some geometry.Coordinates (coordinates_type name)
 

@@ -68,7 +68,7 @@ impl GeoFaultKind {
         }
     }
 
-    /// The name that a program prints behind the code.
+    /// The name that a program prints after the code.
     #[tactic(auto, unfolding(crate::specs::Faults::name))]
     pub fn name(&self) -> &'static str
         ensures { result.now ≡ spec.name self.now }

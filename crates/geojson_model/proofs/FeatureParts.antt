@@ -180,7 +180,7 @@ module _ (exact : Bool) (ms : Members) (c : Counts) where
   unless (Some e) = Err e
   unless None = feature exact ms c
 
-  -- behind the look-up of the type
+  -- after the look-up of the type
   abbrev by_type_name : Result (List ℕ) GeoFaultKind → Result (Featured × Counts) GeoFaultKind
   by_type_name r = and_then (λ name. if bytes_eq name (codes "Feature") then feature exact ms else fail UnknownType) (pure r c)
 

@@ -41,7 +41,7 @@ use Rattle.geojson_model.specs.declared.seen.Seen.TheVariants.{Never, Once, Agai
 use Rattle.geojson_model.proofs.FeatureParts.{fields_pass}
 use Rattle.geojson_model.proofs.SeenMembers.{not_other, passes}
 
--- ---- features one behind another
+-- ---- features one after another
 
 one_longer : (fs : List Featured) (f : Featured) → length (fs ++ f ∷ []) ≡ length fs + 1
 one_longer [] f = refl

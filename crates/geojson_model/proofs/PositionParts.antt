@@ -67,7 +67,7 @@ module _ (exact : Bool) (v : Json) (c : Counts) where
       unfolding coordinate
       in_range h = rw (number, scaled, h) refl
 
--- ---- the second element and those behind it, in some turns
+-- ---- the second element and those after it, in some turns
 
 module _ (exact : Bool) (x : ℤ) (item : Parse Json) (n : ℕ) (bs : List ℕ) (some : 0 < n) (c : Counts) where
   second_law : (v : Json) (vs : List Json) (e : GeoFaultKind) → coordinate exact v c ≡ Err e → second_position exact x (v ∷ vs) c ≡ Err e
@@ -118,7 +118,7 @@ module _ (exact : Bool) (item : Parse Json) (n : ℕ) (bs : List ℕ) (some : 0 
   pub first_text_stops : (fault : Fault) → Fails fault (item (skip bs)) → Stops (elements_position exact) (list_at 93 item n bs) c (stop_of fault)
   first_text_stops fault h = part_stops (elements_position exact) (item (skip bs)) (list_at 93 item n bs) c fault no_first h
 
-  -- the fault of the first, where a second stands behind it
+  -- the fault of the first, where a second stands after it
   wrong_first : (v : Json) (ws : List Json) (w : Json) (us : List Json) (e : GeoFaultKind) → ws ≡ w ∷ us → coordinate exact v c ≡ Err e → elements_position exact (v ∷ ws) c ≡ Err e
   unfolding elements_position
   wrong_first v ws w us e is h = rw (is, h) refl

@@ -51,7 +51,7 @@ module _ {A : Type 0} (Is : Json → A → Type 0) (word : List ℕ) (ms : Membe
       let e : named word (ms ++ (name, v) ∷ []) ≡ named word ms ++ v ∷ [] = named_append word ms ((name, v) ∷ []) ∙ ap (λ us. named word ms ++ us) (this_named word (name, v) same) in
       subst (λ us. IsSeen Is us (see s x)) (sym e) (one_more Is (named word ms) s v x h is)
 
-  -- and of another
+  -- a member of another name
   pub passes : bytes_eq name word ≡ false → IsSeen Is (named word (ms ++ (name, v) ∷ [])) s
   passes other =
       let e : named word (ms ++ (name, v) ∷ []) ≡ named word ms = named_append word ms ((name, v) ∷ []) ∙ ap (λ us. named word ms ++ us) (other_named word (name, v) other) ∙ nothing_behind (named word ms) in
@@ -66,7 +66,7 @@ pub member_found : (d : ℕ) (bytes name value rest : List ℕ) (v : Json) → f
     → front_member d bytes ≡ Some ((name, v), rest)
 member_found d bytes name value rest v named found = named ∙ rw found refl
 
--- and what goes on with it
+-- what goes on with a member, as soon as its value was found
 pub member_sees : {S : Type 0} (Holds : Made S) (d : ℕ) (bytes name value : List ℕ) (before after : S) → front_member d bytes ≡ (front_value d value >>= λ x. Some ((name, x.0), x.1)) → (result : Result (Bor (List ℕ)) Fault)
     → Sees Holds d name value before after result → GoesOn Holds d before after bytes result
 member_sees Holds d bytes name value before after named (Ok rest) s = record { member = (name, s.0); front = member_found d bytes name value rest.now s.0 named s.1; holds = s.2 }

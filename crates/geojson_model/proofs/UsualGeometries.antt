@@ -46,7 +46,7 @@ nothing_before : (o : Option (Members × List ℕ)) → with_front [] o ≡ o
 nothing_before None = refl
 nothing_before (Some x) = refl
 
--- two members, one behind the other
+-- two members, one after the other
 pub two_members : (d : ℕ) (inside : List ℕ) (m k : List ℕ × Json) (rest more after end : List ℕ)
     → front_member d (skip inside) ≡ Some (m, rest) → Some more ≡ after_word (44 ∷ []) (skip rest)
     → front_member d (skip more) ≡ Some (k, after) → skip after ≡ 125 ∷ end → 1 < length inside
@@ -124,7 +124,7 @@ module _ (d : ℕ) (bytes inside : List ℕ) (opens : Some inside ≡ after_word
   pub members_of : (ms : Members) × ((list_at 125 (front_member (d - 1)) (length inside) inside ≡ Some (ms, end)) × (v ≡ j.Object ms))
   members_of = by_members (list_at 125 (front_member (d - 1)) (length inside) inside) refl
 
--- no value behind the first name, and so no object
+-- no value after the first name, and so no object
 module _ (d : ℕ) (bytes inside : List ℕ) (opens : Some inside ≡ after_word (123 ∷ []) bytes) (deep : d ≢ 0) (filled : None ≡ after_word (125 ∷ []) (skip inside)) (some : 0 < length inside) where
   pub first_fails_all : (name value : List ℕ) → front_member (d - 1) (skip inside) ≡ (front_value (d - 1) value >>= λ v. Some ((name, v.0), v.1)) → (f : Fault) → Fails f (front_value (d - 1) value) → Fails f (front_value d bytes)
   first_fails_all name value named f h =

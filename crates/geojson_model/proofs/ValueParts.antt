@@ -1,4 +1,4 @@
--- A layer that is read by way of its value's text.
+-- A layer that is read through its value's text.
 use Rattle.std.proofs.Common.{◌≡◌, ℕ, Bool, List, [], Some, sym, ap, ◌∙◌}
 use Rattle.json_value.specs.declared.json.Json.{Json}
 use Rattle.json_reading.proofs.Steps.{pair_is}

@@ -55,7 +55,7 @@ pub record IsFields (start : Start) (ms : Members) (fields : Fields) : Type 0 wh
   pub properties : IsSeen IsProperties (named (codes "properties") ms) fields.properties
   pub geometry : IsSeen (IsDrawn start) (named (codes "geometry") ms) fields.geometry
 
--- the same, with the type
+-- what is known of the members of a feature, and its type
 pub record IsFeatureParts (start : Start) (d : ℕ) (ms : Members) (parts : FeatureParts) : Type 0 where
   pub kind : IsSeen IsType (named (codes "type") ms) parts.kind
   pub fields : IsFields start ms parts.fields

@@ -32,7 +32,7 @@ stop_in n (stop.Fault kind) = stop.Fault (fault_in n kind)
 stop_in n stop.NoValue = stop.NoValue
 stop_in n stop.Memory = stop.Memory
 
--- one more feature behind these, of which it has the number
+-- one more feature after these, of which it has the number
 abbrev pub numbered : Bool → List Featured → Json → LayerReader (List Featured)
 numbered exact fs v = do
   f ← within (Some (length fs)) (feature_element exact v)
@@ -44,7 +44,7 @@ array_features exact v = do
   vs ← within None (pure (or_fail WrongKind (array_of v)))
   features_from exact 0 vs
 
--- they were read so, from these counts on
+-- the features were read so, from these counts on
 abbrev pub Collects : Start → Json → Result (List Featured) GeoFault → Counts → Type 0
 Collects start v (Ok fs) counts = array_features start.exact v start.counts ≡ Ok (fs, counts)
 Collects start v (Err e) counts = array_features start.exact v start.counts ≡ Err e

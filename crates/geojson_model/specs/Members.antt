@@ -38,7 +38,7 @@ IsSeen Is vs Never = vs ≡ []
 IsSeen Is vs (Once x) = (v : Json) × (vs ≡ v ∷ []) × Is v x
 IsSeen Is vs Again = (v : Json) × (w : Json) × (us : List Json) × (vs ≡ v ∷ w ∷ us)
 
--- the same with one more
+-- a name that stood once more among members, with what is known of its value
 abbrev pub see : {A : Type 0} → Seen A → A → Seen A
 see Never x = Once x
 see (Once y) x = Again
@@ -85,7 +85,7 @@ abbrev pub IsRead : Start → Json → Option Read → Type 0
 IsRead start v None = Unit {0}
 IsRead start v (Some read) = ReadsAs start v read read.shape
 
--- the same of what was read by this very type, if it was
+-- what the value of `coordinates` was read as by this very type, if it was
 abbrev pub IsTaken : Start → CoordinatesType → Json → Option (Result (Option Shape) GeoFaultKind × Counts) → Type 0
 IsTaken start kind v None = Unit {0}
 IsTaken start kind v (Some (Ok shape, counts)) = coordinates_shape start.exact kind v start.counts ≡ Ok (shape, counts)
@@ -116,7 +116,7 @@ part exact kinds.Collection v = do
   give (Some (g.Group ss))
 part exact (kinds.Coordinates kind) v = coordinates_shape exact kind v
 
--- behind the front of that member a value and the brace that closes the object (125) make it such a geometry
+-- after the front of that member a value and the brace that closes the object (125) make it such a geometry
 abbrev pub BeginsGeometry : GeometryType → ℕ → List ℕ → List ℕ → Type 0
 BeginsGeometry kind d bytes front = (v : Json) (after end : List ℕ) → front_value (d - 1) front ≡ Some (v, after) → skip after ≡ 125 ∷ end
     → (name : List ℕ) × (geometry_type name ≡ Some kind) × (front_value d bytes ≡ Some (j.Object ((codes "type", j.Text name) ∷ (part_name kind, v) ∷ []), end))

@@ -10,14 +10,14 @@ use Rattle.geometry.specs.Points.{Point}
 use Rattle.geojson_meaning.specs.Coordinates.{coordinate}
 use Rattle.geojson_meaning.specs.Reader.{Reader, ◌>>=◌, fail}
 
--- y, behind this x; elements behind it are counted once and not looked at
+-- y, after this x; elements after it are counted once and not looked at
 abbrev pub second_position : Bool → ℤ → List Json → Reader Point
 second_position exact x [] = fail ShortPosition
 second_position exact x (w ∷ more) = do
   y ← coordinate exact w
   λ c. Ok (record { x = x; y = y }, count_extra (nat_lt 0 (length more)) c)
 
--- two numbers stand behind white space, with a comma (44) between them, and this follows them
+-- two numbers stand after white space, with a comma (44) between them, and this follows them
 pub record ArePair (bytes : List ℕ) (x y : Units) (rest : List ℕ) : Type 0 where
   pub after : List ℕ
   pub first : IsUnits (skip bytes) x.value x.exact after
@@ -25,7 +25,7 @@ pub record ArePair (bytes : List ℕ) (x y : Units) (rest : List ℕ) : Type 0 w
   pub comma : skip after ≡ 44 ∷ more
   pub second : IsUnits (skip more) y.value y.exact rest
 
--- two numbers that aren't rounded stand so, a comma (44) behind them where more elements follow, or else the bracket that closes (93), and this
+-- two numbers that aren't rounded stand so, a comma (44) after them where more elements follow, or else the bracket that closes (93), and this
 -- follows it
 pub record ArePlainPair (bytes : List ℕ) (x y : ℤ) (more : Bool) (rest : List ℕ) : Type 0 where
   pub behind : List ℕ

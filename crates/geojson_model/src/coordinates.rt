@@ -24,7 +24,7 @@ pub(crate) fn is_refused(exact: bool, whole: bool) -> bool
     exact && !whole
 }
 
-/// The same as `coordinate_at`, by the text of the number that stands there, however it is written. Of what is no number nothing is read.
+/// A coordinate by the text of the number that stands there, however it is written. Of what is no number nothing is read.
 #[cold]
 #[inline(never)]
 fn value_coordinate_at<'a>(

@@ -26,7 +26,7 @@ use std::alloc::{AllocFailed, Global};
 use text_checking::after_value;
 
 /// By what a geometry is read: whether coordinates may not be rounded, what was counted before it, and whether the coordinates are read
-/// where they stand behind the type, or passed over.
+/// where they stand after the type, or passed over.
 #[derive(Clone, Copy)]
 pub struct Start {
     pub exact: bool,
@@ -398,7 +398,7 @@ pub fn geometry_at<'a>(
     }
 }
 
-/// The same by its members, one after another. A member that is made of geometries is passed over first.
+/// The geometry at the front, by its members one after another. A member that is made of geometries is passed over first.
 #[cycle(geometries)]
 fn any_geometry_at<'a>(
     alloc: Global,
@@ -424,7 +424,7 @@ fn any_geometry_at<'a>(
     }
 }
 
-/// The same where its type and the member that it is made of stand first: that member is read once, and those behind it are passed over.
+/// The geometry at the front, whose type and the member that it is made of stand first: that member is read once, and those after it are passed over.
 #[cycle(geometries)]
 fn led_geometry_at<'a>(
     alloc: Global,
@@ -489,7 +489,7 @@ fn part_at<'a>(
     }
 }
 
-/// Puts one behind the others, if there is one.
+/// Puts one after the others, if there is one.
 fn push_some(read: &mut Vec<Shape>, one: Option<Shape>) -> Result<(), AllocFailed<Shape>>
     ensures { OnOk result (read.new.items ≡ read.old.items ++ option_to_list one) }
 {
@@ -502,7 +502,7 @@ fn push_some(read: &mut Vec<Shape>, one: Option<Shape>) -> Result<(), AllocFaile
     }
 }
 
-/// The geometries behind the bracket of an array, one or more, without those of which nothing is left, and what follows it.
+/// The geometries after the bracket of an array, one or more, without those of which nothing is left, and what follows it.
 #[cycle(geometries)]
 fn geometries_behind<'a>(
     alloc: Global,

@@ -32,7 +32,7 @@ pub(crate) fn fault_within(feature: Option<usize>, kind: GeoFaultKind) -> GeoFau
     GeoFault { feature, kind }
 }
 
-/// The same of why reading stops.
+/// Why reading stops in the feature of this number, or in none.
 fn within(feature: Option<usize>, stop: Stop<GeoFaultKind>) -> Stop<GeoFault>
     ensures { result ≡ spec.stop_in feature stop }
 {
@@ -95,7 +95,7 @@ impl Elements for FeatureList {
     }
 }
 
-/// They alone, without room for more.
+/// The features alone, without room for more.
 fn items_of(features: FeatureList) -> Items<Feature>
     ensures { result ≡ features }
 {

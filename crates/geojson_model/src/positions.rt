@@ -16,7 +16,7 @@ use std::alloc::Global;
 use text_checking::after_value;
 use unit_scanning::{Units, long_units_at, plain_units_at};
 
-/// The position whose second coordinate and further elements stand behind the comma, and what follows its bracket.
+/// The position whose second coordinate and further elements stand after the comma, and what follows its bracket.
 #[inline(always)]
 fn second_at<'a>(
     alloc: Global,
@@ -50,8 +50,8 @@ fn second_at<'a>(
     }
 }
 
-/// The position whose elements stand behind the bracket, however they are written and whatever their fault is, and what follows it. A
-/// first element that stands alone is told as that, whatever it is.
+/// The position whose elements stand after the bracket, however they are written and whatever their fault is, and what follows it. A
+/// first element that stands alone is reported as that, whatever it is.
 #[cold]
 #[inline(never)]
 fn any_numbers_at<'a>(
@@ -107,7 +107,7 @@ fn pair_at(bytes: &[u8]) -> Option<(Units, Units, &[u8])>
     Some((x, y, rest))
 }
 
-/// The position whose elements stand behind the bracket, and what follows it, where the first two are read as they stand.
+/// The position whose elements stand after the bracket, and what follows it, where the first two are read as they stand.
 #[cold]
 #[inline(never)]
 fn two_numbers_at<'a>(
@@ -148,7 +148,7 @@ fn two_numbers_at<'a>(
 }
 
 /// Two numbers of few digits with a comma between them, as most positions are written: the numbers, none of them rounded, whether more
-/// elements follow, and what follows the comma or the bracket behind them.
+/// elements follow, and what follows the comma or the bracket after them.
 #[inline(always)]
 fn plain_pair_at(bytes: &[u8]) -> Option<(i64, i64, bool, &[u8])>
     ensures pair { IfSome result (λ p. ArePlainPair bytes.now p.0 p.1 p.2 p.3.now) }
@@ -166,7 +166,7 @@ fn plain_pair_at(bytes: &[u8]) -> Option<(i64, i64, bool, &[u8])>
     Some((x, y, true, rest))
 }
 
-/// The position whose elements stand behind the bracket, and what follows it.
+/// The position whose elements stand after the bracket, and what follows it.
 #[inline(always)]
 pub(crate) fn numbers_at<'a>(
     alloc: Global,

@@ -36,7 +36,7 @@ impl Whole for LayerText {
 }
 
 /// The layer that a whole text spells (RFC 7946), with what was counted in reading it. `exact` refuses a coordinate that isn't whole in units
-/// of `10^-PLACES`. Of a text that spells no value is told why, whatever else is wrong. Else the fault is the first in the order in which
+/// of `10^-PLACES`. Of a text that spells no value it is said why, whatever else is wrong. Else the fault is the first in the order in which
 /// members are looked at, wherever they stand: the type, then the features in order, and of each its `id`, its `properties` and its `geometry`.
 pub fn read_layer_text(
     alloc: Global,

@@ -18,7 +18,7 @@ use std::alloc::Global;
 /// layer. Identifiers and properties stay unchanged. An empty array in place of coordinates, of a line, of a ring or of a polygon is left
 /// out and counted; a geometry of which nothing is left is null. The fault is the first in the order in which members are looked at,
 /// wherever they stand: the type, then the features in order, and of each its `id`, its `properties` and its `geometry`. The value is read
-/// by way of its text, which takes memory for a while: that there is too little is told too where arrays and objects nest more than
+/// through its text, which takes memory for a while: that there is too little is reported too where arrays and objects nest more than
 /// `u32::MAX` deep.
 pub fn read_layer(alloc: Global, value: Json, exact: bool) -> Result<(Layer, Counts), GeoFault>
     ensures layer { IfOk result (λ r. spec.layer exact value ≡ Ok (r.0.features, r.1)) }

@@ -1,4 +1,4 @@
--- The code of a feature as contracts see it, by which a proof tells two of them apart.
+-- The code of a feature as contracts see it, by which a proof keeps two of them apart.
 use Rattle.std.specs.Prelude.{Option, refl}
 use Rattle.std.specs.Coded.{Coded, code_by, coded×, coded_option}
 use Rattle.feature_properties.specs.Members.{Members, members_code}

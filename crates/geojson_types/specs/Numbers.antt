@@ -14,7 +14,7 @@ IdHasNumbers None = Unit {0}
 IdHasNumbers (Some (id.Text t)) = Unit {0}
 IdHasNumbers (Some (id.Number n)) = IsNumber n
 
--- so are those in properties
+-- the numbers in properties are number texts
 abbrev pub PropertiesHaveNumbers : Option (List (List ℕ × Json)) → Type 0
 PropertiesHaveNumbers None = Unit {0}
 PropertiesHaveNumbers (Some ms) = HasNumbers (j.Object ms)

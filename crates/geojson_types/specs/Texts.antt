@@ -13,7 +13,7 @@ IdHasTexts None = Unit {0}
 IdHasTexts (Some (id.Text t)) = IsUtf8 t
 IdHasTexts (Some (id.Number n)) = Unit {0}
 
--- so are the names and texts in properties
+-- the names and texts in properties are UTF-8
 abbrev pub PropertiesHaveTexts : Option (List (List ℕ × Json)) → Type 0
 PropertiesHaveTexts None = Unit {0}
 PropertiesHaveTexts (Some ms) = HasTexts (j.Object ms)

@@ -12,14 +12,14 @@ use Rattle.json_value.proofs.Texts.{text-null, text-number, text-text, text-obje
 abbrev pub members_left : Bool → List (List ℕ × Json) → List ℕ
 members_left is_first ms = list_left one_member (codes "}") is_first ms
 
--- behind the brace: all members
+-- after the brace: all members
 pub object-text : (ms : List (List ℕ × Json)) → json_text (j.Object ms) ≡ codes "{" ++ members_left true ms
 object-text ms = text-object ms
 
 regrouped : (comma name colon text more closing : List ℕ) → (comma ++ (((name ++ colon) ++ text) ++ more)) ++ closing ≡ comma ++ (name ++ (colon ++ (text ++ (more ++ closing))))
 regrouped comma name colon text more closing = simp append_assoc
 
--- in front of a member: its comma, its name between quotation marks as `written`, the colon, its text, and the members behind it
+-- in front of a member: its comma, its name between quotation marks as `written`, the colon, its text, and the members after it
 pub member-text : (is_first : Bool) (name written : List ℕ) (v : Json) (text : List ℕ) (ms : List (List ℕ × Json)) → quoted name ≡ written → json_text v ≡ text
     → members_left is_first ((name, v) ∷ ms) ≡ comma_unless is_first ++ (written ++ (codes ":" ++ (text ++ members_left false ms)))
 member-text is_first name written v text ms e f =

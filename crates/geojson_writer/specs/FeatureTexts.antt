@@ -39,7 +39,7 @@ contents_in (Geometry-F.Group shapes) = j.Array (map shape_value shapes)
 unfoldable pub contents_value : Shape → Json
 contents_value shape = contents_in (out-Geometry Point (List Point) (List Point) shape)
 
--- the member "id" behind a comma, if there is an identifier
+-- the member "id" after a comma, if there is an identifier
 abbrev pub id_text : Option Id → List ℕ
 id_text None = []
 id_text (Some id) = codes ",\"id\":" ++ json_text (id_value id)

@@ -23,7 +23,7 @@ fn put_id<W: Drain>(id: &Id, so_far: Progress, sink: &mut Sink<W>) -> Progress
     }
 }
 
-/// Writes the member `id` behind a comma, if there is an identifier.
+/// Writes the member `id` after a comma, if there is an identifier.
 fn put_id_member<W: Drain>(id: Option<&Id>, so_far: Progress, sink: &mut Sink<W>) -> Progress
     ensures { Continues sink.old sink.new so_far (id_text (option_copied id.entry)) result }
 {
@@ -135,7 +135,7 @@ pub fn put_features<W: Drain>(
 /// Writes the GeoJSON text of the features with no white space, and answers the number of bytes: a Feature, or a
 /// FeatureCollection. Coordinates are least decimals, x first, identifiers and properties keep the texts of their
 /// numbers, their order and their duplicates, and what is absent in a feature is null, but for the identifier, which is
-/// left out. `Write` tells how many bytes of the text the device took before it failed. This takes no memory.
+/// left out. `Write` says how many bytes of the text the device took before it failed. This takes no memory.
 pub fn write_features<W: Drain>(
     features: &FeatureSet,
     sink: &mut Sink<W>,

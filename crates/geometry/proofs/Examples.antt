@@ -1,4 +1,4 @@
--- What the numbers of the unit come to, the farthest positions, and areas of rings.
+-- The values of the numbers of the unit, the farthest positions, and areas of rings.
 use Rattle.std.proofs.Common.{◌≡◌, ◌*◌, ◌^◌, ℤ, pos, negsuc, neg_ℤ, List, [], ◌∷◌, ◌++◌, refl, arith}
 use Rattle.geometry.specs.Areas.{shoelace, twice_ring_area}
 use Rattle.geometry.specs.Points.{Point, IsInput, IsPosition}

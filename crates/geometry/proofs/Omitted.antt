@@ -1,4 +1,4 @@
--- What is told of dropped lines depends on the lines of the shape alone.
+-- What is said of dropped lines depends on the lines of the shape alone.
 use Rattle.std.proofs.Common.{arith, ◌≡◌, Bool, true, false, List, [], ◌∷◌, map, Option, refl, sym, ap, ◌∙◌, subst}
 use Rattle.std.specs.List.{AllByRecursion}
 use Rattle.geometry.specs.declared.shape.Geometry.{Geometry}

@@ -1,4 +1,4 @@
--- What `same` tells of two positions.
+-- What `same` says of two positions.
 use Rattle.std.proofs.Common.{arith, ◌≡◌, true, ◌&&◌, ap, ◌∙◌}
 use Rattle.std.proofs.lemmas.Bool.{and_parts}
 use Rattle.std.proofs.lemmas.Bool.Decides.{Decides-int_eq}

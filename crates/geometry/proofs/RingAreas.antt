@@ -57,7 +57,7 @@ unfolding shoelace
 one_behind None p ps = omega (arith, ints)
 one_behind (Some q) p ps = refl
 
--- behind the last position nothing is added
+-- after the last position nothing is added
 pub none_behind : (last : Option Point) → sum_behind last [] ≡ pos 0
 unfolding shoelace
 none_behind None = refl

@@ -35,7 +35,7 @@ pub record Passed : Type 0 where
   pub last : Option Point
   pub sum : ℤ
 
--- what a position adds behind the last one
+-- what a position adds after the last one
 abbrev pub turn_behind : Option Point → Point → ℤ
 turn_behind None p = pos 0
 turn_behind (Some q) p = turn q p
@@ -44,7 +44,7 @@ turn_behind (Some q) p = turn q p
 abbrev pub passed : Passed → Point → Passed
 passed s p = record { last = Some p; sum = s.sum +ℤ turn_behind s.last p }
 
--- what these positions add behind the last one
+-- what these positions add after the last one
 abbrev pub sum_behind : Option Point → List Point → ℤ
 sum_behind None ps = shoelace ps
 sum_behind (Some q) ps = shoelace (q ∷ ps)

@@ -33,7 +33,7 @@ abbrev pub arc_at : {X : Type 0} → List (List X) → ℤ → List X
 arc_at arcs (pos i) = or_empty (at arcs i)
 arc_at arcs (negsuc i) = reverse (or_empty (at arcs i))
 
--- lists one behind another, each without its first
+-- lists one after another, each without its first
 abbrev pub joined_behind_first : {X : Type 0} → List (List X) → List X
 joined_behind_first [] = []
 joined_behind_first (p ∷ ps) = tail p ++ joined_behind_first ps

@@ -13,7 +13,7 @@ abbrev pub here : Option Cause → List (Placed Cause)
 here None = []
 here (Some c) = alone c
 
--- a ring behind the outer one is left out for its own cause, or else because the outer one is
+-- a ring after the outer one is left out for its own cause, or else because the outer one is
 abbrev pub inner_cause : Option Cause → Option Cause → Option Cause
 inner_cause None hole = hole
 inner_cause (Some c) None = Some Outer
@@ -38,16 +38,16 @@ omissions_step why (Geometry-F.Group oss) = of_parts 0 oss
 unfoldable pub omissions : {P L : Type 0} → (Bool → L → Option Cause) → Geometry P L L → List (Placed Cause)
 omissions {P} {L} why = fold-Geometry P L L (List (Placed Cause)) (omissions_step why)
 
--- the same with the numbers of layer and feature
+-- the lines and rings that are left out of one feature, with the numbers of its layer and of it
 abbrev pub dropped_in : ℕ → ℕ → List (Placed Cause) → List Dropped
 dropped_in layer feature os = map (λ o. record { address = record { layer = layer; feature = feature; path = o.path }; cause = o.part }) os
 
--- those of the features of a layer, of which the first has this number
+-- the lines and rings that are left out of the features of a layer, of which the first has this number
 abbrev pub dropped_of_layer : ℕ → ℕ → List (List (Placed Cause)) → List Dropped
 dropped_of_layer layer feature [] = []
 dropped_of_layer layer feature (os ∷ oss) = dropped_in layer feature os ++ dropped_of_layer layer (suc feature) oss
 
--- those of the layers, of which the first has this number
+-- the lines and rings that are left out of the layers, of which the first has this number
 abbrev pub dropped_of_layers : ℕ → List (List (List (Placed Cause))) → List Dropped
 dropped_of_layers layer [] = []
 dropped_of_layers layer (osss ∷ more) = dropped_of_layer layer 0 osss ++ dropped_of_layers (suc layer) more

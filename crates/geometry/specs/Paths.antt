@@ -16,7 +16,7 @@ alone x = record { path = []; part = x } ∷ []
 abbrev pub inside_part : {A : Type 0} → ℕ → List (Placed A) → List (Placed A)
 inside_part i xs = map (λ x. record { path = i ∷ x.path; part = x.part }) xs
 
--- those inside the parts, of which the first has this number
+-- what is inside the parts, of which the first has this number
 abbrev pub of_parts : {A : Type 0} → ℕ → List (List (Placed A)) → List (Placed A)
 of_parts i [] = []
 of_parts i (xs ∷ xss) = inside_part i xs ++ of_parts (suc i) xss

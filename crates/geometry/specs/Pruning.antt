@@ -39,7 +39,7 @@ strokes_step (Geometry-F.Group ss) = joined ss
 unfoldable pub strokes : {P L : Type 0} → Geometry P L L → List (Bool × L)
 strokes {P} {L} = fold-Geometry P L L (List (Bool × L)) strokes_step
 
--- those of a shape that may be null
+-- the open lines (false) and the rings (true) of a shape that may be null, in reading order
 abbrev pub option_strokes : {P L : Type 0} → Option (Geometry P L L) → List (Bool × L)
 option_strokes None = []
 option_strokes (Some s) = strokes s

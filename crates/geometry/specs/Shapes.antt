@@ -14,7 +14,7 @@ Shape = Geometry Point (List Point) (List Point)
 abbrev pub is_line : List Point → Bool
 is_line ps = nat_le 2 (length ps)
 
--- the same of a line that may be absent
+-- two positions or more, or no line
 abbrev pub is_line_option : Option (List Point) → Bool
 is_line_option None = true
 is_line_option (Some ps) = is_line ps
@@ -33,7 +33,7 @@ proper_step (Geometry-F.Group bs) = list_all (λ b. b) bs
 unfoldable pub is_proper : Shape → Bool
 is_proper = fold-Geometry Point (List Point) (List Point) Bool proper_step
 
--- the same of a shape that may be null
+-- a proper shape, or none
 abbrev pub is_proper_option : Option Shape → Bool
 is_proper_option None = true
 is_proper_option (Some s) = is_proper s

@@ -72,7 +72,7 @@ pub struct Address {
 pub enum Cause {
     /// Too few positions are left once equal neighbours count as one.
     Collapsed,
-    /// The same, after points were taken out.
+    /// Too few positions are left once points were removed, or the ring encloses too little.
     Small,
     /// It is a ring whose polygon's outer ring is dropped.
     Outer,

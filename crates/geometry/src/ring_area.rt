@@ -48,7 +48,7 @@ fn carried(whole: i128, rest: i128) -> (i128, i128)
     }
 }
 
-/// The sum of so many times what it is carried by and a rest, with what a position adds behind the last one.
+/// The sum of so many times what it is carried by and a rest, with what a position adds after the last one.
 fn with_turn(last: Option<Position>, position: Position, whole: i128, rest: i128) -> (i128, i128)
     requires sum { unsigned_abs (whole *ℤ pos area_limit +ℤ rest) ≤ sum_limit }
     requires rest { unsigned_abs rest < area_limit }

@@ -35,7 +35,7 @@ axis first step last = record { first = pos first; step = step; last = last }
 abbrev layer : Shape → Shape → Named
 layer s t = ((103 ∷ []), record { features = record { id = None; properties = None; shape = Some s } ∷ (record { id = None; properties = None; shape = Some t } ∷ []) }) ∷ []
 
--- and a topology of it
+-- a topology of one object of two features
 abbrev topology : Option TopoShape → Option TopoShape → List (List Point) → Contents
 topology s t arcs = record {
   objects = ((103 ∷ []), Many (record { id = None; properties = None; shape = s } ∷ (record { id = None; properties = None; shape = t } ∷ []))) ∷ [];

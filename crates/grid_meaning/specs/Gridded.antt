@@ -1,4 +1,4 @@
--- Layers and topologies on the grid that is asked for, if one is.
+-- Layers and topologies, quantized where a grid is asked for.
 use Rattle.std.specs.Prelude.{◌≡◌, ℕ, ◌≤◌, true, List, Option, None, Some, map}
 use Rattle.std.specs.List.{AllByRecursion}
 use Rattle.build_meaning.specs.Layers.{Named, layers_of}

@@ -50,7 +50,7 @@ SnappedKeep = (g : Option Axes) (ls : Named) → KeepsLayers ls (snapped_named g
 abbrev pub GriddedIsValid : Type 0
 GriddedIsValid = (g : Option Axes) (y : Contents) → IsGridIfSome g → y.transform ≡ None → EachCell (IsOn g) y → IsTopology y → IsTopology (gridded g y)
 
--- and decodes to the same
+-- a valid topology each of whose positions lies on the grid decodes to the same features on it
 abbrev pub GriddedDecodes : Type 0
 GriddedDecodes = (g : Option Axes) (y : Contents) (name : List ℕ) → IsGridIfSome g → y.transform ≡ None → EachCell (IsOn g) y → decoded (gridded g y) name ≡ decoded y name
 

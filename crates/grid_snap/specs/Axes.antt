@@ -13,7 +13,7 @@ use Rattle.grid_snap.specs.declared.axis.Axis.{Axis}
 abbrev pub offset : Axis → ℤ → ℕ
 offset a x = unsigned_abs (x -ℤ a.first)
 
--- it is neither before the first coordinate of the axis nor behind the last
+-- it is neither before the first coordinate of the axis nor past the last
 unfoldable pub is_on : Axis → ℤ → Bool
 is_on a x = int_le a.first x && nat_le (offset a x) (a.last * a.step)
 
@@ -73,7 +73,7 @@ grid_over count (p ∷ ps) =
 abbrev pub count_limit : ℕ
 count_limit = 10 ^ 9
 
--- how far from zero a coordinate of a grid may be: the last one is less than a step behind the positions
+-- how far from zero a coordinate of a grid may be: the last one is less than a step past the positions
 abbrev pub reach : ℕ
 reach = input_limit + count_limit
 

@@ -61,7 +61,7 @@ SnappedSettle = (g : Axes) (p : Point) → IsGrid g → covers g p ≡ true → 
 abbrev pub CellsAreBack : Type 0
 CellsAreBack = (g : Axes) (c : Point) → IsGrid g → IsCell g c → (covers g (back g c) ≡ true) × (cell g (back g c) ≡ c)
 
--- what is covered, snapped positions among it, is less than a step behind the input: a position
+-- what is covered, snapped positions among it, is less than a step past the input: a position
 abbrev pub CoveredAreWithin : Type 0
 CoveredAreWithin = (g : Axes) (p : Point) → IsGrid g → covers g p ≡ true → IsWithin reach p
 

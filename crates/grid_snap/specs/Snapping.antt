@@ -15,7 +15,7 @@ layers_points ls = joined (map (λ l. features_points l.features) ls)
 abbrev pub snapped_layer : Axes → Layer → Layer
 snapped_layer g l = record { features = map (moved_feature (snapped g)) l.features }
 
--- the same of all layers, where there is a grid
+-- each layer snapped, where there is a grid
 abbrev pub snapped_by : Option Axes → List Layer → List Layer
 snapped_by None ls = ls
 snapped_by (Some g) ls = map (snapped_layer g) ls

@@ -31,7 +31,7 @@ pub(crate) fn axis_over(count: u32, least: i64, greatest: i64) -> Axis
 }
 
 impl Axis {
-    /// Whether a coordinate is neither before the first nor behind the last.
+    /// Whether a coordinate is neither before the first nor past the last.
     #[tactic(auto, unfolding(crate::specs::Axes::is_on))]
     pub(crate) fn has(self, x: i64) -> bool
         requires axis { IsAxis self }

@@ -115,7 +115,7 @@ fn with_option(bounds: Option<Bounds>, shape: Option<&Shape>) -> Option<Bounds>
     }
 }
 
-/// With those of features.
+/// The bounds with the positions of features.
 fn with_features(bounds: Option<Bounds>, features: &[Feature]) -> Option<Bounds>
     ensures { result ≡ widened_by bounds (features_points features.now) }
 {
@@ -126,7 +126,7 @@ fn with_features(bounds: Option<Bounds>, features: &[Feature]) -> Option<Bounds>
     all
 }
 
-/// Those of layers, if there is a position.
+/// The bounds of layers, if there is a position.
 pub(crate) fn bounds_of(layers: &[Layer]) -> Option<Bounds>
     ensures { result ≡ widened_by None (layers_points layers.now) }
 {
@@ -137,7 +137,7 @@ pub(crate) fn bounds_of(layers: &[Layer]) -> Option<Bounds>
     all
 }
 
-/// Those of layers with names.
+/// The bounds of layers with names, if there is a position.
 pub(crate) fn bounds_of_named(layers: &[(OwnText, Layer)]) -> Option<Bounds>
     ensures { result ≡ widened_by None (layers_points (map (λ l. l.1) layers.now)) }
 {

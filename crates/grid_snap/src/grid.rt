@@ -57,7 +57,7 @@ impl Grid {
         Grid::within(bounds_of(layers), count)
     }
 
-    /// The same over layers with names.
+    /// The grid of so many coordinates in each direction over the positions of layers with names. `None` where there is no position.
     pub fn over_named(layers: &[(OwnText, Layer)], count: u32) -> Option<Grid>
         requires some { 2 ≤ count }
         requires few { count ≤ count_limit }

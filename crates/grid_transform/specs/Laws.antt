@@ -6,7 +6,7 @@ use Rattle.topojson_types.specs.Transforms.{IsTransform, place}
 use Rattle.topojson_types.specs.Validity.{IsPlace}
 use Rattle.grid_transform.specs.GridTransforms.{transform_of}
 
--- its texts are numbers of a transform
+-- the texts of a grid's transform are numbers of a transform
 abbrev pub HasTransform : Type 0
 HasTransform = (g : Axes) → IsGrid g → IsTransform (transform_of g)
 

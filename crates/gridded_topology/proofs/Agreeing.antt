@@ -126,7 +126,7 @@ pub put_on : (axes : Axes) (y : Contents) → IsTopology y → EachCell (IsOn (S
 unfolding celled
 put_on axes y valid on = grind (arith, objects_same axes y.transform y.objects valid.objects on.1, arcs_same axes y.transform y.arcs on.0)
 
--- the same of the parts as they are made
+-- what is made of parts that are the quantized objects, arcs and transform is the quantized topology
 pub finished : (axes : Axes) (y : Contents) (os : List (List ℕ × TopoObject)) (arcs : List (List Point)) (t : Transform) → IsTopology y → EachCell (IsOn (Some axes)) y
     → t ≡ transform_of axes → os ≡ objects_replaced (cell_if_covered axes) y.objects → arcs ≡ map (map (cell_if_covered axes)) y.arcs
     → made_of os arcs (Some t) ≡ gridded (Some axes) y

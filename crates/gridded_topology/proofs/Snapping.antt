@@ -35,7 +35,7 @@ still f [] (suc i) d = refl
 still f (x ∷ xs) zero d = refl
 still f (x ∷ xs) (suc i) d = still f xs i d
 
--- so the layer at the index is covered
+-- the layer at the index is covered as long as it wasn't replaced
 pub is_covered : (g : Axes) (ls : Named) (i : ℕ) (now : Named) (l : List ℕ × Layer) → i < length ls → Replaced (named_snapped g) ls i now → l ≡ get_or now i l
     → AllByRecursion (Covered g) (named_points ls) → LayerCovered g (get_or now i l)
 is_covered g ls i now l h so is all = grind (arith, all_at, still, each_layer)

@@ -1,4 +1,4 @@
-// Layers on a grid.
+// Quantized layers.
 ghost use Rattle.std.specs.Prelude.{◌≡◌, true, Some};
 ghost use Rattle.std.specs.List.{AllByRecursion};
 ghost use Rattle.grid_meaning.specs.Gridded.{AreInputs, IsCount, named_grid, named_points, snapped_named};

@@ -1,4 +1,4 @@
-//! Putting layers and topologies on a grid: the layers are snapped before anything is made of them, and the topology that is made
+//! Quantization of layers and topologies: the layers are snapped before anything is made of them, and the topology that is made
 //! of them is given cells in place of positions, and the grid's transform. It stands on `grid_meaning`, whose definitions its
 //! contracts cite, and on `grid_snap` for the grids. The engine calls `snap_layers` first and `on_grid` last.
 #![tactic(auto)]

@@ -27,7 +27,7 @@ fn shape_on(grid: &Grid, shape: &mut TopoShape)
     }
 }
 
-/// Those of the shape of a feature.
+/// Puts the cells of the shape of a feature in the place of its positions.
 fn feature_on(grid: &Grid, feature: &mut TopoFeature)
     ensures { feature.new ≡ feature_replaced (cell_if_covered grid.now) feature.old }
 {
@@ -36,7 +36,7 @@ fn feature_on(grid: &Grid, feature: &mut TopoFeature)
     }
 }
 
-/// Those of features.
+/// Puts the cells of features in the place of their positions.
 fn features_on(grid: &Grid, features: &mut [TopoFeature])
     ensures { features.new ≡ map (feature_replaced (cell_if_covered grid.now)) features.old }
 {
@@ -45,7 +45,7 @@ fn features_on(grid: &Grid, features: &mut [TopoFeature])
     }
 }
 
-/// Those of an object.
+/// Puts the cells of an object in the place of its positions.
 fn object_on(grid: &Grid, object: &mut TopoObject)
     ensures { object.new ≡ object_replaced (cell_if_covered grid.now) object.old }
 {
@@ -55,7 +55,7 @@ fn object_on(grid: &Grid, object: &mut TopoObject)
     }
 }
 
-/// Those of all objects.
+/// Puts the cells of all objects in the place of their positions.
 pub(crate) fn objects_on(grid: &Grid, objects: &mut [(OwnText, TopoObject)])
     ensures { objects.new ≡ objects_replaced (cell_if_covered grid.now) objects.old }
 {

@@ -1,4 +1,4 @@
-// Topologies on a grid.
+// Quantized topologies.
 ghost use Rattle.std.specs.Prelude.{◌≡◌, IfOk, None, Some};
 ghost use Rattle.grid_meaning.specs.Gridded.{IsOn, gridded};
 ghost use Rattle.grid_transform.specs.GridTransforms.{transform_of};

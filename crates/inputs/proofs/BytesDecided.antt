@@ -1,4 +1,4 @@
--- The bytes of a source come to one outcome.
+-- The bytes of a source have one outcome.
 use Rattle.std.proofs.Common.{◌≡◌, ℕ, ◌<◌, ◌≤◌, List, length, ◌∙◌, ap, sym, subst, refl, inl, inr, Option, Some, Result, Ok, Err, arith}
 use Rattle.std.specs.Prelude.{IfSome}
 use Rattle.byte_ends.specs.Ends.{Fed}
@@ -29,7 +29,7 @@ one_text deepest b (Err (text.Malformed at why)) (Err (text.Malformed other how)
 one_text deepest b (Err (text.Malformed at why)) (Err text.Memory) h k = absurd k
 one_text deepest b (Err text.Memory) u h k = absurd h
 
--- two outcomes of the same bytes are the same, as far as faults are told
+-- two outcomes of the same bytes are the same, as far as faults are reported
 pub one_outcome : {A E : Type 0} (deepest : ℕ) (too_long : E) (of_text : Result Json JsonFault → Result A E) (plain : Result A E → Result A E)
     → ((t : Result Json JsonFault) → plain (of_text t) ≡ plain (of_text (plain_text t)))
     → (b : List ℕ) (x y : Result A E) → BytesComeTo deepest too_long of_text b x → BytesComeTo deepest too_long of_text b y → plain x ≡ plain y

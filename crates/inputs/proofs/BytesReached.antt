@@ -1,4 +1,4 @@
--- The bytes of a source come to an outcome.
+-- The bytes of a source have an outcome.
 use Rattle.std.proofs.Common.{◌≡◌, ◌⊎◌, ℕ, ◌<◌, ◌≤◌, Bool, true, false, List, length, refl, inl, inr, Option, Some, None, Result, Ok, Err}
 use Rattle.std.specs.Prelude.{IsUtf8}
 use Rattle.std.specs.Str.{is_utf8}
@@ -33,7 +33,7 @@ text_by deepest b false e = (Err (text.NotUtf8 (utf8_valid_len b)), (λ h. not_t
 pub text_there : (deepest : ℕ) (b : List ℕ) → (t : Result Json JsonFault) × IsTextOf deepest b t
 text_there deepest b = text_by deepest b (is_utf8 b) refl
 
--- bytes come to an outcome
+-- bytes have an outcome
 pub outcome_there : {A E : Type 0} (deepest : ℕ) (too_long : E) (of_text : Result Json JsonFault → Result A E) (b : List ℕ) → (outcome : Result A E) × BytesComeTo deepest too_long of_text b outcome
 outcome_there {A} {E} deepest too_long of_text b = by_length (cases_lt max_input (length b))
   where

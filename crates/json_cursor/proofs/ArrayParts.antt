@@ -143,7 +143,7 @@ module _ {E B D : Type 0} (wrong : E) (read : List Json → Counting Counts E B)
 
 -- ---- lists are what is made of their elements one after another
 
--- what is read, behind these
+-- what is read, after these
 abbrev pub behind : {C E B : Type 0} → List B → Result (List B × C) E → Result (List B × C) E
 behind xs r = and_then (λ ys. give (xs ++ ys)) r
 

@@ -12,7 +12,7 @@ use Rattle.json_cursor.specs.declared.stop.Stop.TheVariants as stop
 use Rattle.json_cursor.specs.Answers.{Stops}
 use Rattle.json_cursor.proofs.Steps.{made, unmade, bound}
 
--- behind a thing stands nothing that goes on with it
+-- after a thing stands nothing that goes on with it
 pub nothing_behind : (bytes : List ℕ) → skip bytes ≡ [] → (more : Parse (List Json)) (v : Json) → list_after 93 more v (skip bytes) ≡ None
 unfolding list_after
 nothing_behind bytes h more v = rw h refl
@@ -96,7 +96,7 @@ twice : {A : Type 0} (vs : List A) (v : A) (o : Option (List A × List ℕ)) →
 twice vs v None = refl
 twice vs v (Some x) = ap (λ zs. Some (zs, x.1)) (sym (append_assoc vs (v ∷ []) x.0))
 
--- these are behind, and the elements from here on make the whole
+-- these were passed, and the elements from here on make the whole
 module _ {A : Type 0} (item : Parse A) (n i : ℕ) (bs : List ℕ) (vs : List A) (total : Option (List A × List ℕ)) (so_far : total ≡ made (λ xs. vs ++ xs) (list_at 93 item (n - i) bs)) where
   pub turns_over : n ≤ i → total ≡ None
   turns_over le = so_far ∙ ap (made (λ xs. vs ++ xs)) (no_turn item (n - i) bs (omega arith))
@@ -126,7 +126,7 @@ module _ {A : Type 0} (item : Parse A) (n i : ℕ) (bs : List ℕ) (vs : List A)
       pub turn_breaks : ((more : Parse (List A)) (x : A) → list_after 93 more x (skip after) ≡ None) → total ≡ None
       turn_breaks h = so_far ∙ ap (made (λ xs. vs ++ xs)) (breaks item (n - i) bs some v after found (h (list_at 93 item (n - i - 1)) v))
 
--- nothing is behind yet
+-- nothing was passed yet
 pub made_nothing : {A : Type 0} (o : Option (List A × List ℕ)) → o ≡ made (λ xs. [] ++ xs) o
 made_nothing None = refl
 made_nothing (Some x) = refl

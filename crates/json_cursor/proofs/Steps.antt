@@ -10,7 +10,7 @@ use Rattle.json_cursor.specs.declared.stop.Stop.{Stop}
 use Rattle.json_cursor.specs.declared.stop.Stop.TheVariants as stop
 use Rattle.json_cursor.specs.Answers.{Reads, Stops, stop_of}
 
--- ---- what stands behind what was found
+-- ---- what stands after what was found
 
 -- where something was found in two steps, the first found something
 pub bound : {V W : Type 0} (front : Option (V × List ℕ)) (next : V → List ℕ → Option (W × List ℕ)) (w : W) (rest : List ℕ) → (front >>= λ x. next x.0 x.1) ≡ Some (w, rest)
@@ -46,7 +46,7 @@ pub text_stops : {C E V B : Type 0} (read : V → Counting C E B) (front : Optio
 text_stops read front old (text.Malformed why left) h = h
 text_stops read front old text.Memory h = tt
 
--- the same of a whole, where its part has the fault
+-- a whole has no value where a part of it stops reading
 pub part_stops : {C E V W B : Type 0} (read : W → Counting C E B) (front : Option (V × List ℕ)) (whole : Option (W × List ℕ)) (old : C) (fault : Fault) → (front ≡ None → whole ≡ None) → Fails fault front → Stops read whole old (stop_of fault)
 part_stops read front whole old (text.Malformed why left) law h = law h
 part_stops read front whole old text.Memory law h = tt

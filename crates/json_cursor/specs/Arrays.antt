@@ -17,7 +17,7 @@ use Rattle.json_cursor.specs.declared.marks.Opening.TheVariants as opening
 abbrev pub front_value : ℕ → Parse Json
 front_value d = value_at is_utf8 d
 
--- one element or more behind the bracket of an array, up to the one that closes it (93), in so many turns
+-- one element or more after the bracket of an array, up to the one that closes it (93), in so many turns
 abbrev pub front_elements : ℕ → ℕ → Parse (List Json)
 front_elements d turns = list_at 93 (value_at is_utf8 d) turns
 
@@ -25,13 +25,13 @@ front_elements d turns = list_at 93 (value_at is_utf8 d) turns
 abbrev pub AreLast : ℕ → ℕ → List ℕ → ℕ → List ℕ → Type 0
 AreLast d turns inside n left = (before : List Json) × (front_elements d turns inside ≡ (front_elements d n left >>= λ xs. Some (before ++ xs.0, xs.1)))
 
--- behind white space stands a comma (44), the bracket that closes (93), or what ends no element
+-- after white space stands a comma (44), the bracket that closes (93), or what ends no element
 abbrev pub Marks : List ℕ → Mark → List ℕ → Type 0
 Marks bytes mark.Comma rest = skip bytes ≡ 44 ∷ rest
 Marks bytes mark.Close rest = skip bytes ≡ 93 ∷ rest
 Marks bytes mark.Neither rest = (more : Parse (List Json)) (v : Json) → list_after 93 more v (skip bytes) ≡ None
 
--- At the front stands no array, or no value, or an empty array, or elements behind a bracket.
+-- At the front stands no array, or no value, or an empty array, or elements after a bracket.
 abbrev pub Opens : ℕ → List ℕ → Opening → List ℕ → Type 0
 Opens d bytes opening.NoArray rest = (v : Json) (end : List ℕ) → front_value d bytes ≡ Some (v, end) → array_of v ≡ None
 Opens d bytes opening.TooDeep rest = front_value d bytes ≡ None
@@ -53,7 +53,7 @@ abbrev pub some_of : {E : Type 0} → List Json → Counting Counts E (Option (L
 some_of [] = λ c. Ok (None, count_empty c)
 some_of (v ∷ vs) = give (Some (v ∷ vs))
 
--- the same of an array, where an empty one is counted, and gives nothing
+-- what is read of an array that is to have elements: an empty one is counted, and gives nothing
 abbrev pub some_array_by : {E B : Type 0} → E → (List Json → Counting Counts E (Option B)) → Json → Counting Counts E (Option B)
 some_array_by wrong read v = λ c. and_then (if_some read) (array_by wrong some_of v c)
 

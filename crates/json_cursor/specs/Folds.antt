@@ -18,12 +18,12 @@ abbrev pub Goes : {C E V S : Type 0} → (V → Counting C E S) → Option (V ×
 Goes take front old made new (Ok rest) = Reads take front made rest.now old new
 Goes take front old made new (Err stop) = Stops take front old stop
 
--- the same of elements of an array
+-- the elements at the front of an array go into what was made, and this follows them; or why reading stops
 abbrev pub Folds : {C E V S : Type 0} → (V → Counting C E S) → Option (V × List ℕ) → C → C → Result (S × Bor (List ℕ)) (Stopped E) → Type 0
 Folds read front old new (Ok x) = Reads read front x.0 x.1.now old new
 Folds read front old new (Err stopped) = Stops read front old stopped.stop
 
--- what is read of one more goes behind what was read before
+-- what is read of one more goes after what was read before
 abbrev pub with_read : {C E V B : Type 0} → (V → Counting C E (List B)) → List B → V → Counting C E (List B)
 with_read read xs v = do
   x ← read v
@@ -35,7 +35,7 @@ one read v = do
   x ← read v
   give (x ∷ [])
 
--- the same where it may give nothing
+-- what a reader gives that may give nothing, as the elements that it gives of a list
 abbrev pub some_one : {C E V B : Type 0} → (V → Counting C E (Option B)) → V → Counting C E (List B)
 some_one read v = do
   x ← read v

@@ -20,7 +20,7 @@ Members = List (List ℕ × Json)
 abbrev pub front_member : ℕ → Parse (List ℕ × Json)
 front_member d = member_at is_utf8 (value_at is_utf8 d)
 
--- one member or more behind the brace of an object, up to the one that closes it (125), in so many turns
+-- one member or more after the brace of an object, up to the one that closes it (125), in so many turns
 abbrev pub front_members : ℕ → ℕ → Parse Members
 front_members d turns = list_at 125 (front_member d) turns
 
@@ -45,7 +45,7 @@ pub record TakesMember {S : Type 0} (Holds : Made S) (d : ℕ) (before after : S
   pub front : front_member d bytes ≡ Some (member, rest)
   pub holds : (ms : Members) → Holds ms before → Holds (ms ++ member ∷ []) after
 
--- or none stands there, or nothing is said
+-- a member stands at the front, and what was made of the members before goes on with it; or none stands there, or nothing is said
 abbrev pub GoesOn : {S : Type 0} → Made S → ℕ → S → S → List ℕ → Result (Bor (List ℕ)) Fault → Type 0
 GoesOn Holds d before after bytes (Ok rest) = TakesMember Holds d before after bytes rest.now
 GoesOn Holds d before after bytes (Err fault) = Fails fault (front_member d bytes)
@@ -56,7 +56,7 @@ pub record TakesMembers {S : Type 0} (Holds : Made S) (found : Option (Members �
   pub front : found ≡ Some (members, rest)
   pub holds : Holds [] before → Holds members after
 
--- or there are none, or nothing is said
+-- these members were found, and what was made of none goes on with them; or there are none, or nothing is said
 abbrev pub TakesAll : {S : Type 0} → Made S → Option (Members × List ℕ) → S → S → Result (Bor (List ℕ)) Fault → Type 0
 TakesAll Holds found before after (Ok rest) = TakesMembers Holds found before after rest.now
 TakesAll Holds found before after (Err fault) = Fails fault found
@@ -68,13 +68,15 @@ pub record TakesObject {S : Type 0} (Holds : ℕ → Made S) (d : ℕ) (bytes : 
   pub front : front_value d bytes ≡ Some (j.Object members, rest)
   pub holds : Holds (d - 1) [] before → Holds (d - 1) members after
 
--- or whatever value stands there is no object; or none stands there, or nothing is said
+-- an object of members stands at the front, and what was made of none goes on with them; or whatever value stands there is no object; or
+-- none stands there, or nothing is said
 abbrev pub GoesThrough : {S : Type 0} → (ℕ → Made S) → ℕ → List ℕ → S → S → Result (Option (Bor (List ℕ))) Fault → Type 0
 GoesThrough Holds d bytes before after (Ok (Some rest)) = TakesObject Holds d bytes before after rest.now
 GoesThrough Holds d bytes before after (Ok None) = (v : Json) (end : List ℕ) → front_value d bytes ≡ Some (v, end) → object_of v ≡ None
 GoesThrough Holds d bytes before after (Err fault) = Fails fault (front_value d bytes)
 
--- the same where what was made is answered
+-- an object of members stands at the front, and what is answered was made of them; or whatever value stands there is no object; or none
+-- stands there, or nothing is said
 abbrev pub ReadsObject : {S : Type 0} → (ℕ → Made S) → ℕ → List ℕ → S → Result (Option S × Bor (List ℕ)) Fault → Type 0
 ReadsObject Holds d bytes before (Ok (Some after, rest)) = TakesObject Holds d bytes before after rest.now
 ReadsObject Holds d bytes before (Ok (None, rest)) = (v : Json) (end : List ℕ) → front_value d bytes ≡ Some (v, end) → object_of v ≡ None

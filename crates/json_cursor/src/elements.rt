@@ -39,7 +39,7 @@ pub trait Element: Copy {
         ensures { Answers (λ x. option_to_list x) (reads self) (front_value deep bytes.now) counts.old counts.new result };
 }
 
-/// Those that were read so far.
+/// The elements that were read so far.
 #[derive(Drop)]
 struct Listed<E: Element> {
     list: Vec<E::Read>,
@@ -51,7 +51,7 @@ impl<E: Element> Model for Listed<E> {
     ghost view = { λ s. s.list.items };
 }
 
-/// Puts one behind the others, if there is one.
+/// Puts one after the others, if there is one.
 #[inline(always)]
 fn push_some<T: Drop>(read: &mut Vec<T>, one: Option<T>) -> Result<(), AllocFailed<T>>
     ensures { OnOk result (read.new.items ≡ read.old.items ++ option_to_list one) }
@@ -91,7 +91,7 @@ impl<E: Element> Elements for Listed<E> {
     }
 }
 
-/// They alone, without room for more.
+/// The elements alone, without room for more.
 fn items_of<E: Element>(listed: Listed<E>) -> Items<E::Read>
     ensures { result ≡ listed }
 {
@@ -119,7 +119,8 @@ pub fn array_at<'a, E: Element>(
     }
 }
 
-/// The same of an array that is to have elements: an empty one is counted, and gives nothing.
+/// The elements of the array at the front, which is to have some, and what follows it: an empty one is counted, and gives nothing. What is
+/// no array has the fault `wrong`.
 pub fn some_array_at<'a, E: Element>(
     alloc: Global,
     deep: u32,
@@ -157,7 +158,7 @@ fn begun<E: Element>(
     Ok(Listed { list })
 }
 
-/// They, where the first isn't left out.
+/// The elements, where the first isn't left out.
 fn led<E: Element>(leads: bool, all: Listed<E>) -> Option<Items<E::Read>>
     ensures { result ≡ (if leads then Some all else None) }
 {
@@ -167,7 +168,7 @@ fn led<E: Element>(leads: bool, all: Listed<E>) -> Option<Items<E::Read>>
     Some(items_of(all))
 }
 
-/// The elements of an array behind its bracket, one or more, where the first leads the others: where it is left out, nothing is left.
+/// The elements of an array after its bracket, one or more, where the first leads the others: where it is left out, nothing is left.
 fn led_at<'a, E: Element>(
     alloc: Global,
     deep: u32,

@@ -36,7 +36,7 @@ pub trait Elements {
         ensures { Goes (takes with self.old) (front_value deep bytes.now) counts.old self.new counts.new result };
 }
 
-/// Why reading stops at an element, and where that element and those behind it stand, in so many turns.
+/// Why reading stops at an element, and where that element and those after it stand, in so many turns.
 #[derive(Clone, Copy)]
 pub struct Stopped<'a, E> {
     pub stop: Stop<E>,
@@ -44,7 +44,7 @@ pub struct Stopped<'a, E> {
     pub left: &'a [u8],
 }
 
-/// What is made of the elements of an array behind its bracket or behind an element's comma, one or more in so many turns, and what
+/// What is made of the elements of an array after its bracket or after an element's comma, one or more in so many turns, and what
 /// follows it; or why reading stops: at the first fault, without reading on.
 pub fn folded_at<'a, T: Elements + Drop>(
     alloc: Global,
@@ -123,7 +123,8 @@ pub fn folded_array_at<'a, T: Elements + Drop>(
     }
 }
 
-/// The same of an array that is to have elements: an empty one is counted, and nothing is made of it.
+/// What is made of the elements of the array at the front, which is to have some, and what follows it: an empty one is counted, and nothing
+/// is made of it.
 pub fn folded_some_at<'a, T: Elements + Drop>(
     alloc: Global,
     deep: u32,

@@ -14,7 +14,7 @@ use std::alloc::Global;
 use text_checking::after_value;
 
 /// What is made of the elements of the array at the front, none or more, or the first fault, and what follows the array: the elements
-/// behind a faulty one are passed over. What is no array has the fault `wrong`.
+/// after a faulty one are passed over. What is no array has the fault `wrong`.
 pub fn held_array_at<'a, T: Elements + Drop>(
     alloc: Global,
     deep: u32,

@@ -1,4 +1,4 @@
-// What opens an array, and what stands behind its elements.
+// What opens an array, and what stands after its elements.
 ghost use Rattle.std.specs.Prelude.{◌≡◌, [], ◌∷◌, MatchOption};
 ghost use Rattle.std.specs.Option.{option_copied};
 ghost use Rattle.json_value.specs.Reading.{after_word};
@@ -6,7 +6,7 @@ ghost use Rattle.json_cursor.specs.Arrays.{Marks, Opens};
 
 use json_reading::skip;
 
-/// What stands behind an element.
+/// What stands after an element.
 #[derive(Clone, Copy, Debug, PartialEq, Eq)]
 pub enum Mark {
     Comma,
@@ -25,7 +25,7 @@ pub(crate) fn first_at(bytes: &[u8]) -> Option<(u8, &[u8])>
     }
 }
 
-/// The mark behind white space, and what follows it.
+/// The mark after white space, and what follows it.
 #[inline(always)]
 pub fn mark_at(bytes: &[u8]) -> (Mark, &[u8])
     ensures { Marks bytes.now result.0 result.1.now }

@@ -37,7 +37,7 @@ pub trait Members<'a> {
         ensures { GoesOn (holds with deep) deep self.old self.new bytes.now result };
 }
 
-/// Goes on with the members of an object behind its brace, one or more, and gives what follows them.
+/// Goes on with the members of an object after its brace, one or more, and gives what follows them.
 fn members_into<'a, T: Members<'a>>(
     alloc: Global,
     deep: u32,

@@ -44,7 +44,7 @@ impl<'a> Name<'a> {
     }
 }
 
-/// The name behind its first quotation mark, and what follows its last one.
+/// The name after its first quotation mark, and what follows its last one.
 #[inline(always)]
 fn text_at<'a>(alloc: Global, inside: &'a [u8]) -> Result<(Name<'a>, &'a [u8]), Fault>
     ensures { Gives (λ x. (name_of x.0, x.1.now)) result (reading.string_at is_utf8 inside.now) }

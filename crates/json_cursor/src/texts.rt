@@ -48,7 +48,7 @@ pub enum Refusal<E> {
     Memory,
 }
 
-/// The bytes behind a byte order mark, if there is one.
+/// The bytes after a byte order mark, if there is one.
 fn text_of(bytes: &[u8]) -> &[u8]
     ensures { result.now ≡ reading.without bytes.now (reading.after_word mark bytes.now) }
 {
@@ -79,7 +79,7 @@ fn malformed(alloc: Global, bytes: &[u8], deepest: u32) -> JsonFault
 }
 
 /// What the value of a whole text (RFC 8259) is read as, in which arrays and objects nest no deeper than `deepest`, with what was counted.
-/// Of a text that spells no value is told why, whatever else is wrong.
+/// Of a text that spells no value it is said why, whatever else is wrong.
 pub fn read_text<R: Whole>(
     alloc: Global,
     bytes: &[u8],

@@ -1,4 +1,4 @@
--- The turns of the loop that looks a member up, and what is left where one is taken out.
+-- The turns of the loop that looks a member up, and what is left where one is removed.
 use Rattle.std.proofs.Common.{◌≡◌, ℕ, zero, suc, ◌+◌, ◌<◌, ◌≤◌, Bool, true, false, not, cond, List, [], ◌∷◌, ◌++◌, length, get_or, take, drop, Option, Some, None, Ok, Err, refl, sym, ap, ◌∙◌, subst, arith}
 use Rattle.std.proofs.lemmas.Bool.{not-false, not-true}
 use Rattle.std.specs.Prelude.{bytes_eq, is_some}
@@ -9,14 +9,14 @@ use Rattle.json_members.specs.Places.{StandsAt, IsPlace}
 use Rattle.json_members.proofs.Turns.{drop_end}
 use Rattle.list_laws.proofs.Lists.{drop_here}
 
--- how the test of the code tells the name
+-- how the test of the code finds the name
 pub not_named : (r : Bool) (a m name : List ℕ) → r ≡ true → r ≡ not (bytes_eq a name) → a ≡ m → bytes_eq m name ≡ false
 not_named r a m name t e is = subst (λ z. bytes_eq z name ≡ false) is (not-true (bytes_eq a name) (sym e ∙ t))
 
 pub is_named : (r : Bool) (a m name : List ℕ) → r ≡ false → r ≡ not (bytes_eq a name) → a ≡ m → bytes_eq m name ≡ true
 is_named r a m name t e is = subst (λ z. bytes_eq z name ≡ true) is (not-false (bytes_eq a name) (sym e ∙ t))
 
--- what was found in front of a place, and what of this name is behind it
+-- what was found in front of a place, and what of this name is after it
 abbrev pub Met : {V : Type 0} → List ℕ → List (List ℕ × V) → ℕ → Option ℕ → Type 0
 Met name ms k None = named name ms ≡ named name (drop k ms)
 Met {V} name ms k (Some i) = (m : List ℕ × V) × (StandsAt name ms i m × (named name ms ≡ m.1 ∷ named name (drop k ms)))

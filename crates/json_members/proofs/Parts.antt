@@ -69,7 +69,7 @@ module _ {V W : Type 0} (h : V → W) (g : List ℕ × V → List ℕ × W) (sam
   pub need_map : (name : List ℕ) (ms : List (List ℕ × V)) → need name (map g ms) ≡ result_map h (need name ms)
   need_map name ms = ap (λ z. there (only z)) (named_map name ms) ∙ there_map h (named name ms)
 
--- and what is read of it
+-- what is read of a value that was mapped and whose fault was replaced
 pub pure_map : {C E F V W B : Type 0} (f : E → F) (h : V → W) (read : W → Counting C F B) (r : Result V E) → (pure (with_fault f (result_map h r)) >>= read) ≡ (pure (with_fault f r) >>= λ v. read (h v))
 pure_map f h read (Ok v) = refl
 pure_map f h read (Err e) = refl

@@ -1,4 +1,4 @@
--- The turns of a loop that reads one value after another: what is still to read, put behind what was read, is
+-- The turns of a loop that reads one value after another: what is still to read, put after what was read, is
 -- what the whole list gives.
 use Rattle.std.proofs.lemmas.List.{drop_all}
 use Rattle.std.proofs.Common.{◌≡◌, ℕ, ◌+◌, ◌<◌, ◌≤◌, List, [], ◌∷◌, ◌++◌, length, get_or, drop, Option, None, Result, Ok, Err, refl, sym, ap, ◌∙◌, subst, append_assoc, append-nil}
@@ -6,7 +6,7 @@ use Rattle.std.specs.Prelude.{option_to_list}
 use Rattle.json_members.specs.Readers.{Counting, and_then, ◌>>=◌, give, gather, each, kept}
 pub use Rattle.list_laws.proofs.Lists.{drop_here}
 
--- what is read, behind these
+-- what is read, after these
 abbrev pub with_front : {C E B : Type 0} → List B → Result (List B × C) E → Result (List B × C) E
 with_front front (Ok x) = Ok (front ++ x.0, x.1)
 with_front front (Err e) = Err e

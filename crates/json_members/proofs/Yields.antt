@@ -43,7 +43,7 @@ abbrev counts_or : {C E A : Type 0} → C → Result (A × C) E → C
 counts_or c (Ok x) = x.1
 counts_or c (Err e) = c
 
--- and count the same
+-- equal successes have equal counts
 pub second_is : {C E A : Type 0} {a b : A} {c d : C} → okay {C = C} {E = E} (a, c) ≡ okay (b, d) → c ≡ d
 second_is {c = c} h = ap (counts_or c) h
 

@@ -6,7 +6,8 @@ abbrev pub Finds : {E X Y : Type 0} → (X → Y) → Result X E → Result Y E 
 Finds view (Ok x) read = read ≡ Ok (view x)
 Finds view (Err e) read = read ≡ Err e
 
--- the same of a reader, with what is counted after it; want of memory, which is this fault, leaves open what it gives
+-- the answer and the counts after it are what a reader gives, or its fault is the reader's; want of memory, which is this fault, leaves
+-- open what it gives
 abbrev pub GivesUnless : {C E X Y : Type 0} → E → (X → Y) → Result X E → C → Result (Y × C) E → Type 0
 GivesUnless memory view (Ok x) after read = read ≡ Ok (view x, after)
 GivesUnless memory view (Err e) after read = e ≢ memory → read ≡ Err e

@@ -33,7 +33,7 @@ abbrev pub or_fail : {E A : Type 0} → E → Option A → Result A E
 or_fail e None = Err e
 or_fail e (Some x) = Ok x
 
--- the same with each fault as another one
+-- a result whose fault is replaced by another one
 abbrev pub with_fault : {E F A : Type 0} → (E → F) → Result A E → Result A F
 with_fault f (Ok x) = Ok x
 with_fault f (Err e) = Err (f e)

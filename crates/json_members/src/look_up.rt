@@ -55,7 +55,7 @@ pub fn need_text<'a>(members: &'a [(OwnText, Json)], name: &str) -> Result<&'a s
     }
 }
 
-/// The value of the member of this name, if there is one, which is taken out. The members of each other name stay as
+/// The value of the member of this name, if there is one, which is removed. The members of each other name stay as
 /// they are.
 pub fn take(members: &mut Vec<(OwnText, Json)>, name: &str) -> Result<Option<Json>, LookupFault>
     ensures value { Finds (λ v. v) result (spec.find name.now members.old.items) }
@@ -70,7 +70,7 @@ pub fn take(members: &mut Vec<(OwnText, Json)>, name: &str) -> Result<Option<Jso
     }
 }
 
-/// The same of a member that must be there.
+/// The value of the member of this name, which must be there, and which is removed. The members of each other name stay as they are.
 pub fn take_needed(members: &mut Vec<(OwnText, Json)>, name: &str) -> Result<Json, LookupFault>
     ensures value { Finds (λ v. v) result (spec.need name.now members.old.items) }
     ensures others { (other : List ℕ) → bytes_eq other name.now ≡ false → spec.named other members.new.items ≡ spec.named other members.old.items }

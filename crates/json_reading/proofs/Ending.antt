@@ -1,4 +1,4 @@
--- What may stand behind a value: nothing, white space, a comma or a closing bracket.
+-- What may stand after a value: nothing, white space, a comma or a closing bracket.
 use Rattle.std.proofs.Common.{◌≡◌, ℕ, Bool, true, List, [], ◌∷◌, ◌++◌, refl, arith}
 use Rattle.std.specs.Prelude.{◌||◌, ◌==◌}
 use Rattle.std.proofs.lemmas.Bool.{or_cases}
@@ -23,6 +23,6 @@ Ends-only u h = grind arith
 pub space_is : (P : ℕ → Type 0) → P 32 → P 9 → P 10 → P 13 → (b : ℕ) → is_space b ≡ true → P b
 space_is P a c d e b h = grind (arith, or_cases, at P 32 b a, at P 9 b c, at P 10 b d)
 
--- what holds of each byte that may stand behind a value
+-- what holds of each byte that may stand after a value
 pub end_is : (P : ℕ → Type 0) → P 32 → P 9 → P 10 → P 13 → P 44 → P 93 → P 125 → (b : ℕ) → is_end b ≡ true → P b
 end_is P a c d e f g k b h = grind (arith, or_cases, space_is)

@@ -20,7 +20,7 @@ module _ (A : Type 0) (R : List ℕ → A → Type 0) (close : ℕ) (item : Pars
   abbrev TakesList : List ℕ → List A → List ℕ → Type 0
   TakesList bs xs rest = (t : List ℕ) × SpellsList R t xs × (bs ≡ t ++ (close ∷ rest))
 
-  -- behind an element: the end, or a comma and more
+  -- after an element: the end, or a comma and more
   abbrev After : A → List ℕ → List A → List ℕ → Type 0
   After x bs xs rest = ((xs ≡ x ∷ []) × (bs ≡ close ∷ rest)) ⊎ ((ys : List A) × (xs ≡ x ∷ ys) × (more : List ℕ) × (bs ≡ 44 ∷ more) × TakesList more ys rest)
 

@@ -21,7 +21,7 @@ module _ (fits : List ℕ → Bool) where
   value_at_is zero = (λ _. None, λ _. None, refl)
   value_at_is (suc d) = (items_at 93 (value_at fits d), items_at 125 (member_at fits (value_at fits d)), refl)
 
-  -- how a value goes on, behind each first byte
+  -- how a value goes on, after each first byte
   module _ (d b : ℕ) (bs rest : List ℕ) (first : bs ≡ b ∷ rest) where
     pub at_n : b ≡ 110 → value_at fits d bs ≡ word_at (codes "ull") j.Null rest
     at_n h = unfold value_with in rw ((value_at_is d).2, first, h) refl

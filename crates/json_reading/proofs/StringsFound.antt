@@ -1,4 +1,4 @@
--- A string is read, behind its first quotation mark.
+-- A string is read, after its first quotation mark.
 use Rattle.std.proofs.Common.{◌≡◌, ℕ, suc, ◌<◌, Bool, true, false, List, [], ◌∷◌, ◌++◌, length, Some, refl, ap, subst, append_assoc, length-append, arith}
 use Rattle.std.specs.Prelude.{encode_utf8}
 use Rattle.std.proofs.lemmas.Option.{option_and_then_some}

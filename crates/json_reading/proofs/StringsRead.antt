@@ -1,4 +1,4 @@
--- What is read as a string, behind its first quotation mark, is spelled so.
+-- What is read as a string, after its first quotation mark, is spelled so.
 use Rattle.std.proofs.Common.{◌≡◌, ℕ, zero, suc, ◌+◌, ◌-◌, ◌*◌, ◌≤◌, Bool, true, eqb, inl, inr, List, [], ◌∷◌, ◌++◌, length, take, Some, None, refl, sym, ap, subst, ◌∙◌, append_assoc, length-append, arith}
 use Rattle.std.specs.Prelude.{codes, encode_utf8}
 use Rattle.std.proofs.lemmas.Str.{encode_ascii}
@@ -124,7 +124,7 @@ joined_end bs run rest xs p q = rw (p, q) refl
 joined_more : (bs run behind u ys s rest : List ℕ) → bs ≡ run ++ behind → behind ≡ u ++ ys → ys ≡ s ++ (34 ∷ rest) → bs ≡ (run ++ (u ++ s)) ++ (34 ∷ rest)
 joined_more bs run behind u ys s rest p q r = p ∙ rw (q, r, append_assoc, append_assoc) refl
 
--- behind plain bytes
+-- after plain bytes
 after_takes : (more : Parse (List ℕ)) → ((bs : List ℕ) (x : List ℕ × List ℕ) → more bs ≡ Some x → TakesChars bs x.0 x.1)
     → (bs behind : List ℕ) (x : List ℕ × List ℕ) → bs ≡ plain_front bs ++ behind → chars_after more (plain_front bs) behind ≡ Some x → TakesChars bs x.0 x.1
 unfolding chars_after
@@ -153,7 +153,7 @@ unfolding chars_at
 chars_takes zero bs x e = cc
 chars_takes (suc n) bs x e = after_takes (chars_at n) (chars_takes n) bs (after_plain bs) x (plain-split bs) e
 
--- behind the first quotation mark: characters and a quotation mark
+-- after the first quotation mark: characters and a quotation mark
 abbrev pub TakesString : List ℕ → List ℕ → Type 0
 TakesString b t = (s : List ℕ) × SpellsChars s t × (b ≡ s ++ 34 ∷ [])
 

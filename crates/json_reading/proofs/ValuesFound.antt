@@ -18,7 +18,7 @@ use Rattle.json_reading.proofs.StringsFound.{string_again}
 pub skip_value : {d : ℕ} {t : List ℕ} {v : Json} → Spells d t v → (rest : List ℕ) → skip (t ++ rest) ≡ t ++ rest
 skip_value h rest = unfold skip in grind (arith, skip_number)
 
--- and not with the bracket that closes an array
+-- a value doesn't begin with the bracket that closes an array
 not_closed : {d : ℕ} {t : List ℕ} {v : Json} → Spells d t v → (rest : List ℕ) → after_word (93 ∷ []) (t ++ rest) ≡ None
 unfolding after_word
 not_closed (spells_number n) rest = number_no_word n 93 [] rest refl

@@ -50,7 +50,7 @@ module _ (fits : List ℕ → Bool) where
         joined_member bs named.0 name.1 front.0 (skip name.1) rest behind.0 (skip rest) here.0 x.1 named.2 front.2 colon behind.2 (here.2 ∙ ap (λ z. here.0 ++ z) same.1),
       ))))
 
-  -- what is behind a bracket that opens
+  -- what is after a bracket that opens
   abbrev ArraySound : ℕ → Parse (List Json) → Type 0
   ArraySound d items = (bs : List ℕ) (x : List Json × List ℕ) → items bs ≡ Some x → (t : List ℕ) × Spells d (91 ∷ t) (j.Array x.0) × (bs ≡ t ++ x.1)
 

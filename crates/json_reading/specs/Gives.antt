@@ -8,7 +8,7 @@ abbrev pub IsMalformed : Fault → Type 0
 IsMalformed (Malformed why left) = Unit {0}
 IsMalformed Memory = ⊥
 
--- the same, with so many bytes left
+-- the fault is one of the text, where so many bytes are left
 abbrev pub StopsBefore : ℕ → Fault → Type 0
 StopsBefore n (Malformed why left) = left ≡ n
 StopsBefore n Memory = ⊥

@@ -6,7 +6,7 @@ use Rattle.json_value.specs.Grammar.{Reads}
 use Rattle.json_reading.specs.declared.fault.JsonFault.{JsonFault}
 use Rattle.json_reading.specs.declared.fault.JsonFault.TheVariants.{NotUtf8, Malformed, Memory}
 
--- `NotUtf8` is answered exactly where the bytes are not UTF-8, with the length of their longest front that is.
+-- `NotUtf8` is answered exactly where the bytes are not UTF-8, with the length of their longest prefix that is.
 abbrev pub SaysUtf8 : List ℕ → Result Json JsonFault → Type 0
 SaysUtf8 b (Ok v) = IsUtf8 b
 SaysUtf8 b (Err (NotUtf8 at)) = ¬ (IsUtf8 b) × (at ≡ utf8_valid_len b)

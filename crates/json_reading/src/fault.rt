@@ -26,7 +26,7 @@ pub enum Why {
 /// Why bytes are no JSON text.
 #[derive(Debug, Drop, Error, Clone, Copy, PartialEq, Eq)]
 pub enum JsonFault {
-    /// The bytes are not UTF-8. `at` is the length of their longest front that is.
+    /// The bytes are not UTF-8. `at` is the length of their longest prefix that is.
     #[error("not UTF-8 at byte {at}")]
     NotUtf8 { at: usize },
     /// The bytes are UTF-8 and spell no value. `at` is the byte at which reading stopped.
@@ -36,7 +36,7 @@ pub enum JsonFault {
     Memory,
 }
 
-/// The same inside the reader, where the place is the number of bytes that are left. The reason stands first, beside the
+/// Why no value is read, inside the reader, where the place is the number of bytes that are left. The reason stands first, beside the
 /// tag, so that a `Result` of a value lies in whole words and is moved by them.
 #[derive(Debug, Drop)]
 pub enum Fault {

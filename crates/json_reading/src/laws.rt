@@ -7,7 +7,7 @@ ghost use Rattle.json_value.specs.WellFormed.{IsWellFormed};
 ghost use Rattle.json_value.specs.declared.json.Json.{Json as Value};
 ghost use Rattle.json_value.specs.Reading.{value_at};
 
-/// The text that is written for a well-formed value is read as it, with nothing behind it, wherever arrays and objects may nest as deep as
+/// The text that is written for a well-formed value is read as it, with nothing after it, wherever arrays and objects may nest as deep as
 /// they do in it.
 pub fn written_text_is_read()
     ensures { (v : Value) (d : ℕ) → IsWellFormed v → depth v ≤ d → value_at is_utf8 d (json_text v) ≡ Some (v, []) }

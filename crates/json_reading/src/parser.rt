@@ -34,7 +34,7 @@ fn document(alloc: Global, deepest: u32, bytes: &[u8]) -> Result<Json, Fault>
     Ok(value)
 }
 
-/// The same, behind at most one byte order mark (RFC 8259, section 8.1).
+/// A value with white space around it, and nothing else, after at most one byte order mark (RFC 8259, section 8.1).
 fn text_at(alloc: Global, deepest: u32, bytes: &[u8]) -> Result<Json, Fault>
     ensures { Gives (λ v. v) result (spec.text_at is_utf8 deepest bytes.now) }
 {

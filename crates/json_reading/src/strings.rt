@@ -10,7 +10,7 @@ use crate::fault::{Fault, Why, stopped};
 use json_value::OwnText;
 use std::alloc::{AllocError, Global};
 
-/// What a letter behind a reverse solidus stands for, but for `u`.
+/// What a letter after a reverse solidus stands for, but for `u`.
 fn unescape(letter: u8) -> Option<char>
     ensures { result ≡ unescape letter }
 {
@@ -98,7 +98,7 @@ fn lone(rest: &[u8]) -> Fault
     }
 }
 
-/// No low half stands behind a high one.
+/// No low half stands after a high one.
 fn no_low(rest: &[u8]) -> Fault
     ensures { IsMalformed result }
 {
@@ -108,7 +108,7 @@ fn no_low(rest: &[u8]) -> Fault
     }
 }
 
-/// The character of a surrogate pair, behind its first half.
+/// The character of a surrogate pair, after its first half.
 #[tactic(auto, unfolding(json_value::specs::Reading::low_at))]
 fn low_at(high: u32, bytes: &[u8]) -> Result<(char, &[u8]), Fault>
     requires { IsTrue (is_high high) }
@@ -134,7 +134,7 @@ fn single(unit: u32) -> char
     char::from_u32(unit).unwrap()
 }
 
-/// The character of an escape, behind `\u`.
+/// The character of an escape, after `\u`.
 #[tactic(auto, unfolding(json_value::specs::Reading::unicode_at))]
 fn unicode_at(bytes: &[u8]) -> Result<(char, &[u8]), Fault>
     ensures { Gives (λ x. (x.0, x.1.now)) result (spec.unicode_at bytes.now) }
@@ -149,7 +149,7 @@ fn unicode_at(bytes: &[u8]) -> Result<(char, &[u8]), Fault>
     Ok((single(unit), rest))
 }
 
-/// The character of an escape, behind the reverse solidus.
+/// The character of an escape, after the reverse solidus.
 #[tactic(auto, unfolding(json_value::specs::Reading::escape_at))]
 fn escape_at(bytes: &[u8]) -> Result<(char, &[u8]), Fault>
     ensures { Gives (λ x. (x.0, x.1.now)) result (spec.escape_at bytes.now) }
@@ -229,7 +229,7 @@ fn chars_at<'a>(alloc: Global, bytes: &'a [u8]) -> Result<(Vec<u8>, &'a [u8]), F
     Err(stopped(rest))
 }
 
-/// A string behind its first quotation mark.
+/// A string after its first quotation mark.
 #[tactic(auto, unfolding(json_value::specs::Reading::string_at, json_value::specs::Reading::if_text))]
 pub fn string_at<'a>(alloc: Global, bytes: &'a [u8]) -> Result<(OwnText, &'a [u8]), Fault>
     ensures { Gives (λ x. (x.0, x.1.now)) result (spec.string_at is_utf8 bytes.now) }

@@ -14,7 +14,7 @@ use std::alloc::Global;
 // The room that an array is given first. Most arrays of geographic data are positions, of two numbers.
 const POSITION: usize = 2;
 
-/// A word behind its first letter.
+/// A word after its first letter.
 #[tactic(auto, unfolding(json_value::specs::Reading::word_at))]
 fn word_at<'a>(word: &[u8], value: Json, bytes: &'a [u8]) -> Result<(Json, &'a [u8]), Fault>
     ensures { Gives (λ x. (x.0, x.1.now)) result (spec.word_at word.now value bytes.now) }
@@ -71,7 +71,7 @@ pub fn value_at<'a>(alloc: Global, deepest: u32, bytes: &'a [u8]) -> Result<(Jso
     Ok((Json::Number(number), rest))
 }
 
-/// The elements of an array, behind the bracket that opens it.
+/// The elements of an array, after the bracket that opens it.
 #[tactic(auto, unfolding(json_value::specs::Reading::items_at, json_value::specs::Reading::items_unless, json_value::specs::Reading::closes))]
 #[cycle(reader)]
 fn array_at<'a>(
@@ -116,7 +116,7 @@ fn elements_at<'a>(
     Err(stopped(rest))
 }
 
-/// The members of an object, behind the brace that opens it.
+/// The members of an object, after the brace that opens it.
 #[tactic(auto, unfolding(json_value::specs::Reading::items_at, json_value::specs::Reading::items_unless, json_value::specs::Reading::closes))]
 #[cycle(reader)]
 fn object_at<'a>(

@@ -1,4 +1,4 @@
--- The letters behind a reverse solidus, and tests that chose.
+-- The letters after a reverse solidus, and tests that chose.
 use Rattle.std.proofs.Common.{◌≡◌, ℕ, ◌<◌, true, false, eqb, inl, inr, Some, refl, sym, subst, arith}
 use Rattle.std.proofs.lemmas.Bool.{eqb-true}
 use Rattle.json_value.specs.Grammar.{unescape}

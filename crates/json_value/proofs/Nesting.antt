@@ -63,7 +63,7 @@ mutual
 pub deeper : {d : ℕ} {t : List ℕ} {v : Json} → Spells d t v → (e : ℕ) → d ≤ e → Spells e t v
 deeper s e h = let le = no_deeper s in as_deep s e (omega arith)
 
--- the same of a whole text
+-- the value of a whole text nests no deeper than the text may
 text_no_deeper : {d : ℕ} {b : List ℕ} {v : Json} → SpellsText d b v → depth v ≤ d
 text_no_deeper r = no_deeper r.4
 

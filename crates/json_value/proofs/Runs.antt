@@ -19,10 +19,10 @@ run_first (b ∷ bytes) = elim (plain_tells b) [
   | inr p ↦ rw p refl
 ]
 
--- what is left to write before a run, and behind it
+-- what is left to write before a run, and after it
 pub run_is : (rest run behind closing : List ℕ) (n : ℕ) → n ≡ prefix_len is_plain rest → run ≡ take n rest → behind ≡ drop n rest → escaped rest ++ closing ≡ run ++ (escaped behind ++ closing)
 run_is rest run behind closing n many front back = grind (arith, run_first, append_assoc)
 
--- and before and behind an escape
+-- what is left to write before an escape, and after it
 pub escape_is : (behind after closing : List ℕ) (b : ℕ) → behind ≡ b ∷ after → escaped behind ++ closing ≡ escaped_byte b ++ (escaped after ++ closing)
 escape_is behind after closing b is = rw is (append_assoc (escaped_byte b) (escaped after) closing)

@@ -17,7 +17,7 @@ use Rattle.list_laws.proofs.Elements.{all_append}
 space_ascii : (b : ℕ) → is_space b ≡ true → b < 128
 space_ascii b h = grind (arith, nat_tests)
 
--- UTF-8 bytes without the white space before them, and behind them
+-- UTF-8 bytes without the white space before them, and after them
 after_space : (w r : List ℕ) → IsSpace w → IsUtf8 (w ++ r) → IsUtf8 r
 after_space [] r h f = f
 after_space (b ∷ w) r h f = after_space w r h.1 (ascii_tail (w ++ r) b (space_ascii b h.0) f)

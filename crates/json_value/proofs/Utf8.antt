@@ -11,7 +11,7 @@ use Rattle.std.proofs.lemmas.Bool.{leb-true, and_parts}
 use Rattle.json_value.proofs.Letters.{letter_kind}
 use Rattle.list_laws.proofs.Tests.{chosen}
 
--- A UTF-8 text may be cut before and behind an ASCII byte.
+-- A UTF-8 text may be cut before and after an ASCII byte.
 pub ascii_split : (p r : List ℕ) (x : ℕ) → x < 128 → IsUtf8 (p ++ (x ∷ r)) → IsUtf8 p × IsUtf8 r
 ascii_split p r x small h =
     let here : get_or (p ++ (x ∷ r)) (length p) 0 < 128 = rw (get_or-append_seam p x r 0) small in
@@ -43,7 +43,7 @@ unit_scalar n small high low = grind (arith, nat_tests)
 pair_scalar : (h l : ℕ) → is_high h ≡ true → is_low l ≡ true → IsScalar (paired h l)
 pair_scalar h l high low = grind (arith, nat_tests)
 
--- Behind an escape of four digits a UTF-8 text goes on, and the number is small.
+-- After an escape of four digits a UTF-8 text goes on, and the number is small.
 record AfterUnit (p s : List ℕ) (n : ℕ) : Type 0 where
   front : IsUtf8 p
   rest : IsUtf8 s

@@ -20,7 +20,7 @@ IsSpace (b ∷ bs) = (is_space b ≡ true) × IsSpace bs
 abbrev pub is_plain : ℕ → Bool
 is_plain b = nat_le 32 b && (not (b == 34) && not (b == 92))
 
--- what a letter behind a reverse solidus stands for: the quotation mark, the two solidi, b, f, n, r and t
+-- what a letter after a reverse solidus stands for: the quotation mark, the two solidi, b, f, n, r and t
 abbrev pub unescape : ℕ → Option ℕ
 unescape e =
     if e == 34 then Some 34
@@ -105,6 +105,6 @@ SpellsText d b v = (w t u : List ℕ) × IsSpace w × Spells d t v × IsSpace u 
 abbrev pub mark : List ℕ
 mark = 239 ∷ 187 ∷ 191 ∷ []
 
--- Reads d b v: the bytes b, behind at most one byte order mark, spell the value v, in which nothing nests deeper than d.
+-- Reads d b v: the bytes b, after at most one byte order mark, spell the value v, in which nothing nests deeper than d.
 abbrev pub Reads : ℕ → List ℕ → Json → Type 0
 Reads d b v = SpellsText d b v ⊎ ((rest : List ℕ) × (b ≡ mark ++ rest) × SpellsText d rest v)

@@ -1,4 +1,4 @@
--- Reading as a function on lists, step by step: what stands at the front of the bytes, and the bytes behind it.
+-- Reading as a function on lists, step by step: what stands at the front of the bytes, and the bytes after it.
 -- What it means is in the grammar: what is read is spelled so, and what is spelled so is read.
 use Rattle.std.specs.Prelude.{ℕ, zero, suc, ◌+◌, ◌*◌, Bool, true, false, if◌then◌else◌, ◌==◌, ◌||◌, ◌-◌, take, List, [], ◌∷◌, ◌++◌, length, codes, Option, Some, None, option_and_then, encode_utf8}
 use Rattle.decimal_text.specs.Grammar.{is_digit, is_e}
@@ -6,7 +6,7 @@ use Rattle.json_value.specs.declared.json.Json.{Json}
 use Rattle.json_value.specs.declared.json.Json.TheVariants as j
 use Rattle.json_value.specs.Grammar.{is_space, is_plain, unescape, hex_value, is_high, is_low, paired, mark}
 
--- what stands at the front and what is behind it, or nothing
+-- what stands at the front and what is after it, or nothing
 abbrev pub Parse : Type 0 → Type 0
 Parse A = List ℕ → Option (A × List ℕ)
 
@@ -25,7 +25,7 @@ after_word [] bs = Some bs
 after_word (c ∷ cs) [] = None
 after_word (c ∷ cs) (b ∷ bs) = if b == c then after_word cs bs else None
 
--- a word behind its first letter
+-- a word after its first letter
 unfoldable pub word_at : List ℕ → Json → Parse Json
 word_at word v bs = after_word word bs >>= λ rest. Some (v, rest)
 
@@ -50,20 +50,20 @@ hex_at (b ∷ bs) = hex_value b >>= λ n. Some (n, bs)
 unfoldable pub unit_at : Parse ℕ
 unit_at bs = hex_at bs >>= λ w. hex_at w.1 >>= λ x. hex_at x.1 >>= λ y. hex_at y.1 >>= λ z. Some (((w.0 * 16 + x.0) * 16 + y.0) * 16 + z.0, z.1)
 
--- the character of a surrogate pair, behind its first half and "\u"
+-- the character of a surrogate pair, after its first half and "\u"
 unfoldable pub low_at : ℕ → Parse ℕ
 low_at high bs = after_word (codes "\\u") bs >>= λ rest. unit_at rest >>= λ low. if is_low low.0 then Some (paired high low.0, low.1) else None
 
--- the character of an escape, behind "\u"
+-- the character of an escape, after "\u"
 unfoldable pub unicode_at : Parse ℕ
 unicode_at bs = unit_at bs >>= λ n. if is_high n.0 then low_at n.0 n.1 else (if is_low n.0 then None else Some n)
 
--- the character of an escape, behind the reverse solidus: 117 is "u"
+-- the character of an escape, after the reverse solidus: 117 is "u"
 unfoldable pub escape_at : Parse ℕ
 escape_at [] = None
 escape_at (e ∷ bs) = if e == 117 then unicode_at bs else (unescape e >>= λ c. Some (c, bs))
 
--- behind plain bytes: the quotation mark (34) that ends the string, or a reverse solidus (92), an escape and more
+-- after plain bytes: the quotation mark (34) that ends the string, or a reverse solidus (92), an escape and more
 unfoldable pub chars_after : Parse (List ℕ) → List ℕ → Parse (List ℕ)
 chars_after more run [] = None
 chars_after more run (b ∷ bs) =
@@ -79,7 +79,7 @@ chars_at (suc n) bs = chars_after (chars_at n) (plain_front bs) (after_plain bs)
 unfoldable pub if_text : (List ℕ → Bool) → List ℕ → Parse (List ℕ)
 if_text fits t bs = if fits t then Some (t, bs) else None
 
--- a string behind its first quotation mark
+-- a string after its first quotation mark
 unfoldable pub string_at : (List ℕ → Bool) → Parse (List ℕ)
 string_at fits bs = chars_at (length bs) bs >>= λ x. if_text fits x.0 x.1
 
@@ -130,7 +130,7 @@ number_at bs = after_number bs >>= λ rest. Some (take (length bs - length rest)
 
 -- ---- lists, up to the byte that closes them
 
--- behind a thing: a comma (44) and more, or the end
+-- after a thing: a comma (44) and more, or the end
 unfoldable pub list_after : {A : Type 0} → ℕ → Parse (List A) → A → Parse (List A)
 list_after close more x [] = None
 list_after close more x (b ∷ bs) = if b == 44 then (more bs >>= λ xs. Some (x ∷ xs.0, xs.1)) else (if b == close then Some (x ∷ [], bs) else None)
@@ -149,7 +149,7 @@ unfoldable pub items_unless : {A : Type 0} → ℕ → Parse A → List ℕ → 
 items_unless close item bs (Some rest) = Some ([], rest)
 items_unless close item bs None = list_at close item (length bs) bs
 
--- a list behind the bracket that opens it
+-- a list after the bracket that opens it
 unfoldable pub items_at : {A : Type 0} → ℕ → Parse A → Parse (List A)
 items_at close item bs = items_unless close item bs (closes close bs)
 
@@ -180,14 +180,14 @@ unfoldable pub value_at : (List ℕ → Bool) → ℕ → Parse Json
 value_at fits zero = value_with fits (λ _. None) (λ _. None)
 value_at fits (suc d) = value_with fits (items_at 93 (value_at fits d)) (items_at 125 (member_at fits (value_at fits d)))
 
--- the elements of an array behind its bracket, and one element or more
+-- the elements of an array after its bracket, and one element or more
 abbrev pub array_at : (List ℕ → Bool) → ℕ → Parse (List Json)
 array_at fits d = items_at 93 (value_at fits d)
 
 abbrev pub elements_at : (List ℕ → Bool) → ℕ → ℕ → Parse (List Json)
 elements_at fits d = list_at 93 (value_at fits d)
 
--- the members of an object behind its brace, and one member or more
+-- the members of an object after its brace, and one member or more
 abbrev pub object_at : (List ℕ → Bool) → ℕ → Parse (List (List ℕ × Json))
 object_at fits d = items_at 125 (member_at fits (value_at fits d))
 
@@ -196,7 +196,7 @@ members_at fits d = list_at 125 (member_at fits (value_at fits d))
 
 -- ---- whole texts
 
--- a value, with nothing behind it
+-- a value, with nothing after it
 unfoldable pub ended : Json → List ℕ → Option Json
 ended v [] = Some v
 ended v (b ∷ bs) = None
@@ -205,11 +205,11 @@ ended v (b ∷ bs) = None
 unfoldable pub document : (List ℕ → Bool) → ℕ → List ℕ → Option Json
 document fits d bs = value_at fits d (skip bs) >>= λ x. ended x.0 (skip x.1)
 
--- the bytes without the front that was found
+-- the bytes without the prefix that was found
 abbrev pub without : List ℕ → Option (List ℕ) → List ℕ
 without bs None = bs
 without bs (Some rest) = rest
 
--- the same, behind at most one byte order mark
+-- a value with white space around it, after at most one byte order mark
 unfoldable pub text_at : (List ℕ → Bool) → ℕ → List ℕ → Option Json
 text_at fits d bs = document fits d (without bs (after_word mark bs))

@@ -6,7 +6,7 @@ use owned_values::{Items, Memory, OwnText};
 use std::alloc::Global;
 
 impl Json {
-    /// The same value once more, in memory of its own: members in their order and with their duplicates, numbers by
+    /// A copy of the value, in memory of its own: members in their order and with their duplicates, numbers by
     /// their own texts.
     #[cycle(copying)]
     pub fn copy(&self, alloc: Global) -> Result<Json, Memory>
@@ -23,7 +23,7 @@ impl Json {
     }
 }
 
-/// The same elements once more.
+/// A copy of the elements, in memory of its own.
 #[cycle(copying)]
 fn copy_elements(alloc: Global, elements: &[Json]) -> Result<Items<Json>, Memory>
     ensures { IfOk result (λ vs. vs ≡ elements.now) }
@@ -35,7 +35,7 @@ fn copy_elements(alloc: Global, elements: &[Json]) -> Result<Items<Json>, Memory
     Ok(Items::of(copied))
 }
 
-/// The same members once more, in memory of their own, in their order and with their duplicates.
+/// A copy of the members, in memory of its own, in their order and with their duplicates.
 #[cycle(copying)]
 pub fn copy_members(
     alloc: Global,

@@ -62,7 +62,7 @@ impl Json {
         }
     }
 
-    /// The elements of an array, by value. Any other value is let go.
+    /// The elements of an array, by value. Any other value is freed.
     #[tactic(auto, unfolding(crate::specs::Kinds::array_of))]
     pub fn into_array(self) -> Option<Items<Json>>
         ensures { MatchOption result (array_of self ≡ None) (λ vs. array_of self ≡ Some vs) }
@@ -73,7 +73,7 @@ impl Json {
         }
     }
 
-    /// The members of an object, by value. Any other value is let go.
+    /// The members of an object, by value. Any other value is freed.
     #[tactic(auto, unfolding(crate::specs::Kinds::object_of))]
     pub fn into_object(self) -> Option<Items<(OwnText, Json)>>
         ensures { MatchOption result (object_of self ≡ None) (λ ms. object_of self ≡ Some ms) }
@@ -84,7 +84,7 @@ impl Json {
         }
     }
 
-    /// A text, by value. Any other value is let go.
+    /// A text, by value. Any other value is freed.
     #[tactic(auto, unfolding(crate::specs::Kinds::text_of))]
     pub fn into_text(self) -> Option<OwnText>
         ensures { MatchOption result (text_of self ≡ None) (λ t. text_of self ≡ Some t) }
@@ -95,7 +95,7 @@ impl Json {
         }
     }
 
-    /// A number, by value. Any other value is let go.
+    /// A number, by value. Any other value is freed.
     #[tactic(auto, unfolding(crate::specs::Kinds::number_of))]
     pub fn into_number(self) -> Option<NumText>
         ensures { MatchOption result (number_of self ≡ None) (λ n. number_of self ≡ Some n) }

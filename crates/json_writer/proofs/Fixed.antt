@@ -51,7 +51,7 @@ trimmed-first c cs h = kept (trimmed cs)
 pub two_digits : (n : ℕ) → 9 < n → n < 2 ^ 64 → 2 ≤ length (decimal n)
 two_digits n long small = grind (arith, decimal_step n (omega arith) small, decimal_nonempty (n / 10) (omega arith), length-append)
 
--- behind the first one
+-- after the first one
 pub dropped : (xs ys : List ℕ) → 0 < length xs → drop 1 (xs ++ ys) ≡ drop 1 xs ++ ys
 dropped [] ys h = absurd (omega arith)
 dropped (x ∷ xs) ys h = refl
@@ -72,7 +72,7 @@ some_behind (c ∷ cs) ds first is long =
     pointed [] h = absurd (omega arith)
     pointed (t ∷ ts) h = refl
 
--- the digits behind the first one, without the zeros at their end
+-- the digits after the first one, without the zeros at their end
 pub fraction-none : (n left : ℕ) → 0 < n → n < 2 ^ 64 → decimal left ≡ trimmed (decimal n) → left ≤ 9 → fraction_text (trimmed (drop 1 (decimal n))) ≡ []
 fraction-none n left some small is short = none_behind (decimal n) (decimal left) (first_decimal n some small) is (omega (arith, ap length (decimal_digit left (omega arith))))
 
@@ -80,6 +80,6 @@ pub fraction-some : (n left : ℕ) → 0 < n → n < 2 ^ 64 → decimal left ≡
     → fraction_text (trimmed (drop 1 (decimal n))) ≡ 46 ∷ drop 1 (decimal left)
 fraction-some n left some small is long fits = some_behind (decimal n) (decimal left) (first_decimal n some small) is (two_digits left long fits)
 
--- the digits behind the one are those of the rest
+-- the digits after the one are those of the rest
 pub rest-digits : (places rest : ℕ) → places ≤ 18 → rest < 10 ^ places → drop 1 (decimal (10 ^ places + rest)) ≡ fixed places rest
 rest-digits places rest few small = ap (drop 1) (decimal-fixed places rest small (omega (arith, pow-18 places few)))

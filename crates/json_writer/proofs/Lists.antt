@@ -16,7 +16,7 @@ text_by value_of item = json_text (value_of item)
 abbrev pub named_by : {A : Type 0} → (A → Json) → List ℕ × A → List ℕ
 named_by value_of m = member_text (m.0, json_text (value_of m.1))
 
--- in front of an element: its comma, its text, and what is left behind it
+-- in front of an element: its comma, its text, and what is left after it
 module _ {A : Type 0} (text_of : A → List ℕ) (closing : List ℕ) (is_first : Bool) (items : List A) (i : ℕ) where
   regrouped : (comma text behind : List ℕ) → (comma ++ (text ++ behind)) ++ closing ≡ (comma ++ text) ++ (behind ++ closing)
   regrouped comma text behind = simp append_assoc

@@ -46,7 +46,7 @@ pub fn hold<W: Drain>(
     so_far
 }
 
-/// Writes what is held and the part of at most 96 bytes behind it.
+/// Writes what is held and the part of at most 96 bytes after it.
 pub fn put_behind_held<W: Drain>(
     part: &[u8],
     held: &mut ShortText,

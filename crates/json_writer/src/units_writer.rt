@@ -9,7 +9,7 @@ use crate::backward_text::BackwardText;
 use crate::short_text::ShortText;
 use byte_ends::{Drain, Sink, WriteFault};
 
-/// The whole part of a number of units of `10^-places`, and `10^places` and the rest: behind its first digit, the one, that has all
+/// The whole part of a number of units of `10^-places`, and `10^places` and the rest: after its first digit, the one, that has all
 /// digits of the rest, zeros in front too. Nearly all numbers have none or nine places, and division by a constant is fast.
 fn split_size(size: u64, places: u32) -> (u64, u64)
     requires { places ≤ 18 }
@@ -41,7 +41,7 @@ fn without_zeros(number: u64) -> u64
     left
 }
 
-/// Puts a point and the digits behind the first one in front, without the zeros at their end, or nothing where all are zeros.
+/// Puts a point and the digits after the first one in front, without the zeros at their end, or nothing where all are zeros.
 fn put_rest(text: &mut BackwardText, number: u64)
     requires room { length text.old ≤ 76 }
     requires some { 0 < number }

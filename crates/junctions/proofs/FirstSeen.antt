@@ -27,7 +27,7 @@ filter_none : (ps : List Point) → filter (is_new []) ps ≡ ps
 filter_none [] = refl
 filter_none (p ∷ ps) = ap (λ l. p ∷ l) (filter_none ps)
 
--- behind those that were seen, the new ones stand in the order in which they are first seen
+-- after those that were seen, the new ones stand in the order in which they are first seen
 seen_behind : (ks ps : List Point) → with_positions ks ps ≡ ks ++ filter (is_new ks) (first_seen ps)
 seen_behind ks [] = sym (append-nil ks)
 seen_behind ks (p ∷ ps) = grind (arith, same_is, list_any-append, same_sym, filter_both, append_assoc, seen_behind (with_position ks p) ps)

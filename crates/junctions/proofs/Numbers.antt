@@ -92,7 +92,7 @@ numbers_more ks ls ns ps n p e f h =
     let g : AreNumbers ls ns ps = subst (λ l. AreNumbers l ns ps) (sym e) (numbers_stay ks p ns ps h) in
     map-append (slice_get ls) ns (n ∷ []) ∙ ap (λ l. l ++ (slice_get ls n ∷ [])) g ∙ ap (λ x. map Some ps ++ (x ∷ [])) f ∙ sym (map-append Some ps (p ∷ []))
 
--- the numbers of a front and those behind it
+-- the numbers of a prefix and those after it
 pub numbers_split : (ks : List Point) (ns : List ℕ) (ps qs : List Point) → AreNumbers ks ns (ps ++ qs) →
     (length ps ≤ length ns) × AreNumbers ks (take (length ps) ns) ps × AreNumbers ks (drop (length ps) ns) qs
 numbers_split ks ns [] qs h = (omega arith, grind arith, h)

@@ -33,7 +33,7 @@ positions_from (t ∷ ls) (suc i) s l e = positions_from ls i s (omega arith) e 
     next : (i : ℕ) → suc (i + 1) ≡ suc i + 1
     next i = omega arith
 
--- the numbers of the positions of a line, in front of those of the lines behind it
+-- the numbers of the positions of a line, in front of those of the lines after it
 pub next_numbers : (ks : List Point) (ns : List ℕ) (ls : List Stroke) (i : ℕ) (s : Stroke) → i < length ls → s ≡ get_or ls i s → AreNumbers ks ns (positions (drop i ls)) →
     (length s.positions ≤ length ns) × AreNumbers ks (take (length s.positions) ns) s.positions × AreNumbers ks (drop (length s.positions) ns) (positions (drop (i + 1) ls))
 next_numbers ks ns ls i s h e are = numbers_split ks ns s.positions (positions (drop (i + 1) ls)) (subst (AreNumbers ks ns) (positions_from ls i s h e) are)

@@ -29,7 +29,7 @@ pub record Knowledge : Type 0 where
 abbrev pub is_settled : Knowledge → Bool
 is_settled k = k.ends || (k.turns || is_more k.neighbors)
 
--- what is kept says what is known, where neighbors are told by their places among these positions
+-- what is kept represents what is known, where neighbors are given by their places among these positions
 abbrev pub Says : List Point → Vertex → Knowledge → Type 0
 Says ks Unvisited k = (k.neighbors ≡ Zero) × (k.turns ≡ false) × (k.ends ≡ false)
 Says ks (Between a b) k =
@@ -58,7 +58,7 @@ at_cut (Between a b) = false
 at_cut Junction = true
 at_cut RingStart = true
 
--- the same of what is kept at a place, if something is
+-- the position with this number is a junction by what is kept of it, if something is
 abbrev pub junction_at : List Vertex → ℕ → Bool
 junction_at vs n = elim (slice_get vs n) [ Some v ↦ at_junction v | None ↦ false ]
 

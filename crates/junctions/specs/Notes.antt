@@ -1,4 +1,4 @@
--- What is noted of each position while the lines are read.
+-- What is known of each position while the lines are read.
 use Rattle.std.specs.Prelude.{◌≡◌, ℕ, Bool, true, false, not, ◌||◌, List, [], ◌∷◌, ◌++◌, map, take, drop, length, slice_get, Option, None, Some, if◌then◌else◌}
 use Rattle.std.specs.List.{flat_map, list_any}
 use Rattle.geometry.specs.Points.{Point}
@@ -85,7 +85,7 @@ notes_of s = line_notes s.closed s.positions (visits s)
 abbrev pub all_notes : List Stroke → List Note
 all_notes ls = flat_map notes_of ls
 
--- one position more, behind the others if it is new
+-- one position more, after the others if it is new
 abbrev pub with_position : List Point → Point → List Point
 with_position ps q = if list_any (same q) ps then ps else ps ++ (q ∷ [])
 
@@ -98,12 +98,12 @@ with_positions ps (q ∷ qs) = with_positions (with_position ps q) qs
 abbrev pub AreNumbers : List Point → List ℕ → List Point → Type 0
 AreNumbers ks ns ps = map (slice_get ks) ns ≡ map Some ps
 
--- what is kept of each of the positions says what is known of it by the notes
+-- what is kept of each of the positions represents what is known of it by the notes
 pub record Say (ks : List Point) (vs : List Vertex) (ns : List Note) : Type 0 where
   pub size : length vs ≡ length ks
   pub each : (i : ℕ) (p : Point) (v : Vertex) → slice_get ks i ≡ Some p → slice_get vs i ≡ Some v → Says ks v (after nothing_known ns p)
 
--- what is kept says these notes more
+-- what is kept represents these notes too, whatever notes came before
 abbrev pub Takes : List Point → List Vertex → List Vertex → List Note → Type 0
 Takes ks old new ns = (before : List Note) → Say ks old before → Say ks new (before ++ ns)
 

@@ -20,7 +20,7 @@ use std::marker::Model;
 #[derive(Debug, Drop)]
 pub struct Vertices {
     numbering: Numbering<Position>,
-    /// The number of the position of each visit of the lines, in reading order. Nothing rests on it behind the making of what is known: what stands
+    /// The number of the position of each visit of the lines, in reading order. Nothing rests on it after the making of what is known: what stands
     /// at a number is compared with the position.
     numbers: Vec<u32>,
     vertices: Vec<Vertex>,
@@ -98,7 +98,7 @@ impl Vertices {
         }
     }
 
-    /// Whether lines are cut at the position. The number of its visit, over all positions of the lines in reading order, tells where
+    /// Whether lines are cut at the position. The number of its visit, over all positions of the lines in reading order, says where
     /// to look first; any number gives the same answer.
     pub fn is_cut_at(&self, visit: usize, p: Position) -> bool
         requires { is_member self.now.points p ≡ true }

@@ -42,7 +42,7 @@ fn count_visits(strokes: &[Stroke]) -> usize {
     count
 }
 
-// The numbers of the positions, behind others.
+// The numbers of the positions, after others.
 fn number_line(
     numbering: &mut Numbering<Position>,
     numbers: &mut Vec<u32>,

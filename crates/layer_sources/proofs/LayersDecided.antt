@@ -1,4 +1,4 @@
--- The bytes of the layers come to one outcome, and what is said of layers that are read, or of why they aren't, tells it.
+-- The bytes of the layers have one outcome, and what is said of layers that are read, or of why they aren't, gives it.
 use Rattle.std.proofs.Common.{⊎_elim, ◌≡◌, ◌⊎◌, ℕ, suc, ◌<◌, Bool, List, [], ◌∷◌, length, ◌∙◌, ap, sym, subst, refl, inl, inr, Some, Result, Ok, Err}
 use Rattle.std.specs.Prelude.{IfSome}
 use Rattle.byte_ends.specs.Ends.{Fed}
@@ -51,7 +51,7 @@ all_once : (n : ℕ) (exact : Bool) (bs : Texts) (o p : Outcome) → AllComeTo n
 all_once n exact [] o p h k = ap plain_outcome (h ∙ sym k)
 all_once n exact (b ∷ bs) o p h k = continued b.0 h.0 k.0 (AllComeTo (suc n) exact bs) o p (all_once (suc n) exact bs) (one_layer n exact b.1 h.0 k.0 h.1 k.1) h.2 k.2
 
--- what the layers come to in one way is what they come to in the other
+-- the outcome of the layers in one way is their outcome in the other way
 pub once : (exact : Bool) (bs : Texts) (r o : Outcome) → AllComeTo 0 exact bs r → ComesTo exact bs o → plain_outcome r ≡ plain_outcome o
 once exact bs r o all comes = all_once 0 exact bs r o all comes
 
@@ -101,7 +101,7 @@ first_comes n exact (s ∷ ss) (t ∷ ts) (l ∷ ls) (c ∷ cs) (b ∷ bs) h k =
 first_comes n exact [] [] [] [] (b ∷ bs) h k = absurd k
 first_comes n exact olds news ls cs bs h k = absurd h
 
--- they come to the fault, or they are taken, and the fault is behind them
+-- they have the fault, or they are taken, and the fault is after them
 pub first_fails : (n : ℕ) (exact : Bool) (olds news : Sources) (bs : Texts) (e : BuildFault) → FailsAt exact n olds news e → FirstHaveBytes olds bs
     → IsOutsideRead e ⊎ (AllComeTo n exact bs (Err e) ⊎ ((r : Named × List Counts) × AllComeTo n exact bs (Ok r)))
 first_fails n exact (s ∷ ss) (t ∷ ts) [] e f k = inr (inr (([], []), refl))

@@ -1,4 +1,4 @@
--- The bytes of layers come to an outcome.
+-- The bytes of layers have an outcome.
 use Rattle.std.proofs.Common.{ℕ, suc, Bool, List, [], ◌∷◌, refl, Ok, Err}
 use Rattle.byte_ends.specs.declared.source.ReadFault.TheVariants as read
 use Rattle.inputs.specs.declared.fault.BuildFault.TheVariants.{Read}

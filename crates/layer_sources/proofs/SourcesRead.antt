@@ -132,7 +132,7 @@ module _ (exact : Bool) (olds mid : Sources) (ls : Named) (cs : List Counts) (ha
     pub stopped : (e : BuildFault) → FailsToRead k exact x.1 source e → FailsToReadAll exact olds (slice_set mid k (x.0, source)) e
     stopped e f = rw number (stops exact olds mid ls cs x source e have within there (rw (sym number) f))
 
-    -- memory was refused behind the source that was read last
+    -- memory was refused after the source that was read last
     pub short_of_memory : IsUntroubled x.1 source → AreUntroubled olds (slice_set mid k (x.0, source))
     short_of_memory is_well = stopped Memory is_well
 

@@ -4,15 +4,15 @@ use Rattle.geojson_types.specs.declared.counts.Counts.{Counts}
 use Rattle.layer_sources.specs.Outcomes.{Texts, Outcome, ComesTo, HaveBytes, plain_outcome}
 use Rattle.layer_sources.specs.Sources.{Sources, Named, AllRead}
 
--- any bytes under any names come to an outcome
+-- any bytes under any names have an outcome
 abbrev pub HaveOutcome : Type 0
 HaveOutcome = (exact : Bool) (bytes : Texts) → (outcome : Outcome) × ComesTo exact bytes outcome
 
--- and to one alone, but for the place and the reason in a malformed text
+-- bytes have only one outcome, but for the place and the reason in a malformed text
 abbrev pub HaveOneOutcome : Type 0
 HaveOneOutcome = (exact : Bool) (bytes : Texts) (one other : Outcome) → ComesTo exact bytes one → ComesTo exact bytes other → plain_outcome one ≡ plain_outcome other
 
--- the layers that are read of sources, with their counts, are what their bytes come to
+-- the layers that are read of sources, with their counts, are the outcome of their bytes
 abbrev pub ReadIsOutcome : Type 0
 ReadIsOutcome = (exact : Bool) (olds news : Sources) (layers : Named) (counts : List Counts) (bytes : Texts) → HaveBytes olds bytes
     → AllRead exact olds news layers counts → ComesTo exact bytes (Ok (layers, counts))

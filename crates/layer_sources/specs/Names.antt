@@ -13,7 +13,7 @@ abbrev pub is_among : List ℕ → List (List ℕ) → Bool
 is_among name [] = false
 is_among name (other ∷ others) = bytes_eq other name || is_among name others
 
--- the fault of this name behind those before it
+-- the fault of this name after those before it
 abbrev pub fault_of_name : List (List ℕ) → List ℕ → Option BuildFault
 fault_of_name before [] = Some (EmptyName (length before))
 fault_of_name before (c ∷ cs) = if is_among (c ∷ cs) before then Some (DuplicateName (length before)) else None

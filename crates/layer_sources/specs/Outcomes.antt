@@ -1,4 +1,4 @@
--- What the bytes of all layers come to.
+-- The outcome of the bytes of all layers.
 use Rattle.std.specs.Prelude.{◌≡◌, ℕ, suc, Bool, List, [], ◌∷◌, Some, Result, Ok, Err}
 use Rattle.byte_ends.specs.declared.source.ReadFault.TheVariants as read
 use Rattle.json_reading.specs.declared.fault.JsonFault.{JsonFault}
@@ -46,17 +46,17 @@ abbrev pub with_layer : List ℕ → List Featured × Counts → Outcome → Out
 with_layer name l (Err e) = Err e
 with_layer name l (Ok r) = Ok ((name, record { features = l.0 }) ∷ r.0, l.1 ∷ r.1)
 
--- the first layer's fault, or what the others come to behind it
+-- the first layer's fault, or the outcome of the others after it
 abbrev pub Continues : List ℕ → LayerOutcome → (Outcome → Type 0) → Outcome → Type 0
 Continues name (Err e) others outcome = outcome ≡ Err e
 Continues name (Ok l) others outcome = (rest : Outcome) × others rest × (outcome ≡ with_layer name l rest)
 
--- the bytes under these names come to this, where the first layer has this number
+-- the bytes under these names have this outcome, where the first layer has this number
 abbrev pub AllComeTo : ℕ → Bool → Texts → Outcome → Type 0
 AllComeTo n exact [] outcome = outcome ≡ Ok ([], [])
 AllComeTo n exact (b ∷ bs) outcome = (first : LayerOutcome) × LayerComesTo n exact b.1 first × Continues b.0 first (AllComeTo (suc n) exact bs) outcome
 
--- the bytes under these names come to this
+-- the bytes under these names have this outcome
 abbrev pub ComesTo : Bool → Texts → Outcome → Type 0
 ComesTo exact bs outcome = AllComeTo 0 exact bs outcome
 
@@ -98,8 +98,8 @@ FirstHaveBytes [] (b ∷ bs) = ⊥
 FirstHaveBytes (s ∷ ss) [] = Unit {0}
 FirstHaveBytes (s ∷ ss) (b ∷ bs) = (b.0 ≡ s.0) × (s.1.left ≡ Some b.1) × FirstHaveBytes ss bs
 
--- All sources have these bytes left. Where these come to a fault, it is enough that the first sources have them: nothing need be known
--- of those behind the one with the fault.
+-- All sources have these bytes left. Where these have a fault, it is enough that the first sources have them: nothing need be known
+-- of those after the one with the fault.
 abbrev pub HaveBytesFor : Outcome → Sources → Texts → Type 0
 HaveBytesFor (Ok r) ss bs = HaveBytes ss bs
 HaveBytesFor (Err e) ss bs = FirstHaveBytes ss bs

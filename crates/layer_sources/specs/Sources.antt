@@ -25,7 +25,7 @@ pub record IsLayerRead (exact : Bool) (old new : List ℕ × Fed) (layer : List 
   pub read : IsRead old.1 new.1 bytes
   pub spells : SpellsLayer exact bytes layer.1.features counts
 
--- the first sources were read, one for each layer, and those behind them weren't touched
+-- the first sources were read, one for each layer, and those after them weren't touched
 abbrev pub HaveRead : Bool → Sources → Sources → Named → List Counts → Type 0
 HaveRead exact olds news [] [] = news ≡ olds
 HaveRead exact (s ∷ olds) (t ∷ news) (l ∷ layers) (c ∷ counts) = IsLayerRead exact s t l c × HaveRead exact olds news layers counts
@@ -37,7 +37,7 @@ AllRead exact [] [] [] [] = Unit {0}
 AllRead exact (s ∷ olds) (t ∷ news) (l ∷ layers) (c ∷ counts) = IsLayerRead exact s t l c × AllRead exact olds news layers counts
 AllRead exact olds news layers counts = ⊥
 
--- The first sources were read, where the first of all has this number; the next one spells no layer, and those behind it weren't touched.
+-- The first sources were read, where the first of all has this number; the next one spells no layer, and those after it weren't touched.
 abbrev pub FailsAt : Bool → ℕ → Sources → Sources → BuildFault → Type 0
 FailsAt exact n (s ∷ olds) (t ∷ news) e =
     ((t.0 ≡ s.0) × FailsToRead n exact s.1 t.1 e × (news ≡ olds))

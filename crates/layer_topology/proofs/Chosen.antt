@@ -24,7 +24,7 @@ module _ {V : Type 0} (items : V → List Weight) (t : ℕ) where
   each_kept [] = refl
   each_kept (v ∷ vs) = ap (λ is. kept_at t (items v) ∷ is) (each_kept vs)
 
-  -- so it is with the vectors by whose weights the same positions stay as by those of the arcs
+  -- vectors by whose weights the positions stay that stay by those of the arcs keep what reduction keeps
   pub all_are_reduced : KeptAtIsReduced → (vs : List V) (arcs : List (List Point)) → map (kept_at t) (map items vs) ≡ map (kept_at t) (map weights_of arcs) → map (λ v. kept_at t (items v)) vs ≡ map (reduce t) arcs
   all_are_reduced is vs arcs e = each_kept vs ∙ e ∙ each_is_reduced is t arcs
 

@@ -17,11 +17,11 @@ module _ (ls : Named) (table : ArcsAndIndexes) (is : table ≡ table_of (map (sp
   table_arcs : table.arcs ≡ arcs_of_layers ls
   table_arcs = ap (λ t. t.arcs) is ∙ ap arcs_of (same_pieces (linework (layers_of ls)) (linework (layers_of ls)))
 
-  -- so are their thresholds at a level
+  -- the thresholds at a level are those of the layers' arcs
   pub chosen_over : (level : Level) → chosen_at level table.arcs ≡ chosen_at level (arcs_of_layers ls)
   chosen_over level = ap (chosen_at level) table_arcs
 
-  -- and how often a reducer is called for them
+  -- a reducer is called for the table's arcs as often as for those of the layers
   pub calls_over : (level : Level) → calls_at level table.arcs ≡ calls_at level (arcs_of_layers ls)
   calls_over level = ap (calls_at level) table_arcs
 
@@ -30,7 +30,7 @@ module _ (ls : Named) (table : ArcsAndIndexes) (is : table ≡ table_of (map (sp
     indexes_are : kept ≡ arc_indexes t ls
     indexes_are = reduced ∙ ap (map (reduce t)) table_arcs
 
-    -- and reach from the first position of each arc to its last
+    -- the indexes that stay reach from the first position of each arc to its last
     indexes_reach : ArcIndexesReach → AreSound ls → EachFromFirstToLast kept table.arcs
     indexes_reach reach sound =
         subst (λ arcs. EachFromFirstToLast kept arcs) (sym table_arcs) (subst (λ k. EachFromFirstToLast k (arcs_of_layers ls)) (sym indexes_are) (reach t ls sound))
@@ -39,7 +39,7 @@ module _ (ls : Named) (table : ArcsAndIndexes) (is : table ≡ table_of (map (sp
     at_level : kept ≡ map (reduce (threshold_at level (arcs_of_layers ls))) table.arcs
     at_level = subst (λ arcs. kept ≡ map (reduce (threshold_at level arcs)) table.arcs) table_arcs reduced
 
-    -- the same where each arc is reduced at the threshold of a level
+    -- the indexes that stay are those of the layers' arcs, each reduced at the threshold of a level
     pub level_indexes : kept ≡ arc_indexes (threshold_at level (arcs_of_layers ls)) ls
     level_indexes = indexes_are (threshold_at level (arcs_of_layers ls)) kept at_level
 

@@ -23,7 +23,7 @@ use Rattle.layer_topology.specs.Written.{snapped_to, written, AreTaken}
 abbrev pub IsValid : Type 0
 IsValid = (count : Option ℕ) (t limit : ℕ) (ls : Named) → AreTaken count ls → IsTopology (written count t limit ls)
 
--- its objects have the names of the layers, in order
+-- the objects of what is written have the names of the layers, in order
 abbrev pub HasNames : Type 0
 HasNames = (count : Option ℕ) (t limit : ℕ) (ls : Named) → AreTaken count ls → map (λ o. o.0) (written count t limit ls).objects ≡ names_of ls
 
@@ -37,7 +37,7 @@ abbrev pub EachSegmentOnce : Type 0
 EachSegmentOnce = (count : Option ℕ) (ls : Named) → AreTaken count ls
     → AreOnceIn (all_arcs (linework (layers_of (snapped_to count ls)))) (line_segments (linework (layers_of (snapped_to count ls))))
 
--- its features nest no deeper than those of the layers
+-- the features of what is written nest no deeper than those of the layers
 abbrev pub NestsNoDeeper : Type 0
 NestsNoDeeper = (count : Option ℕ) (t limit n : ℕ) (ls : Named) → EachFeature (λ f. feature_nesting f ≤ n) ls
     → AllByRecursion (λ f. bounds.feature_nesting f ≤ n) (bounds.objects_features (written count t limit ls).objects)
@@ -47,7 +47,7 @@ abbrev pub NumbersStay : Type 0
 NumbersStay = (count : Option ℕ) (t limit : ℕ) (ls : Named) → EachFeature FeatureHasNumbers ls
     → AllByRecursion bounds.FeatureHasNumbers (bounds.objects_features (written count t limit ls).objects)
 
--- its texts are UTF-8 where those of the layers and their names are
+-- the texts of what is written are UTF-8 where those of the layers and their names are
 abbrev pub TextsStay : Type 0
 TextsStay = (count : Option ℕ) (t limit : ℕ) (ls : Named) → AreTaken count ls → AllByRecursion (λ n. IsUtf8 n) (names_of ls) → EachFeature FeatureHasTexts ls
     → ContentsHaveTexts (written count t limit ls)

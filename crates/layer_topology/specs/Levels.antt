@@ -20,7 +20,7 @@ abbrev pub threshold_at : Level → List (List Point) → ℕ
 threshold_at (Fixed t) arcs = t
 threshold_at (Share p q) arcs = share p q (interior_weights (map weights_of arcs))
 
--- the same, where it was chosen
+-- the threshold of these arcs, where it was chosen for a share
 abbrev pub chosen_at : Level → List (List Point) → Option ℕ
 chosen_at (Fixed t) arcs = None
 chosen_at (Share p q) arcs = Some (threshold_at (Share p q) arcs)

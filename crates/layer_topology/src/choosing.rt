@@ -47,7 +47,7 @@ fn count_positions(table: &Table) -> Result<usize, Memory>
     Ok(count)
 }
 
-/// For each arc the weights of its positions, up to a level once so many of them are taken out.
+/// For each arc the weights of its positions, up to a level once so many of them are removed.
 fn weighed_arcs(alloc: Global, table: &Table, most: usize) -> Result<Vec<Vec<Weight>>, Memory>
     ensures { IfOk result (λ all. AreCapped most (map weights_of table.now.arcs) (map (λ w. w.items) all.items)) }
 {

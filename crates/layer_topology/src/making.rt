@@ -34,7 +34,7 @@ use std::alloc::Global;
 use topo_model::assemble;
 use topojson_types::Topology;
 
-/// The lines and rings of the layers, cut. What was noted of their positions is given back.
+/// The lines and rings of the layers, cut. What was known of their positions is given back.
 fn cut_lines(alloc: Global, layers: &[(OwnText, Layer)]) -> Result<Pieces, Memory>
     ensures { IfOk result (λ ps. ps ≡ map (split_of (linework (layers_of layers.now))) (linework (layers_of layers.now))) }
 {
@@ -52,7 +52,7 @@ fn shared_arcs(alloc: Global, layers: &[(OwnText, Layer)]) -> Result<Table, Memo
 }
 
 /// The topology that is built of named layers, each arc reduced once, without rings under the limit, the lines and rings that are
-/// dropped, in reading order, how many positions were taken out of the arcs that stay, and the threshold, where it was chosen.
+/// dropped, in reading order, how many positions were removed from the arcs that stay, and the threshold, where it was chosen.
 fn reduced_topology<Q: Reducer>(
     alloc: Global,
     reducer: &mut Q,
@@ -99,7 +99,7 @@ fn snapped_layers(
 /// The topology of named layers: they are snapped to the grid that is asked for, if one is, the lines and rings are cut into the arcs
 /// that they share, each arc is reduced once at the threshold (twice an area, in square units) that the level gives or for which all arcs
 /// keep its share, rings that then enclose less than half the ring limit are left out, and positions on a grid become cells of it. With
-/// it come the lines and rings that are dropped, in reading order, how many positions were taken out of the arcs that stay, a count that
+/// it come the lines and rings that are dropped, in reading order, how many positions were removed from the arcs that stay, a count that
 /// stays at `u64::MAX` where it would pass it, and the threshold, where it was chosen.
 pub fn topology_of_layers<Q: Reducer>(
     alloc: Global,

@@ -54,12 +54,12 @@ module _ (law : DirectionLaw) (lines : List Stroke) (t limit : ℕ) (apart : (p 
   abbrev refs_of : Line → List ℤ
   refs_of b = map (index_in (all_arcs lines)) (own_pieces lines b.0 b.1)
 
-  -- so the same is small
+  -- a line of the linework is small when it is rebuilt of the arcs where it is when it is rebuilt of its own pieces
   pub cause_same : (b : Line) → StandsIn lines b → is_short b.0 (clean b.1) ≡ false →
       small_cause limit arcs b.0 (refs_of b) ≡ cond (is_small limit b.0 (rebuilt lines t b.0 b.1)) (Some Small) None
   cause_same b stands e = search (rules, pieces_back, own_in, same_rejoined)
 
-  -- so what is kept at zero and then reduced is what is kept at the threshold
+  -- what is kept at zero and then reduced is what is kept at the threshold
   line_again : (b : Line) → StandsIn lines b → IsWholeAtZero lines b → then_some (large_refs limit arcs b.0) (kept_refs lines 0 0 b.0 b.1) ≡ kept_refs lines t limit b.0 b.1
   line_again b stands whole = grind (arith, no_small, cause_same)
 

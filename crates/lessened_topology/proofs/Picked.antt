@@ -1,4 +1,4 @@
--- The positions that are picked by the indexes that reduction leaves are the reduced line.
+-- The positions that are retained by the indexes that reduction leaves are the reduced line.
 use Rattle.std.proofs.Common.{◌≡◌, ℕ, suc, Bool, ◌+◌, List, [], ◌∷◌, map, length, Some, refl, ap, ◌∙◌, arith}
 use Rattle.std.specs.List.{AllByRecursion}
 use Rattle.elimination_meaning.specs.Elimination.{Vertex, numbered, remaining, reduce, reduced}
@@ -37,7 +37,7 @@ picked_is_reduced t ps =
     (sub_all (Stands ps) (eliminate_sub (length ps) t (numbered 0 ps))
     (numbered_stand ps 0 ps (λ j. ap (at ps) (let e : 0 + j ≡ j = omega arith in e))))
 
--- each arc is picked by its own indexes
+-- each arc is retained by its own indexes
 pub picked_each : (f : List Point → List ℕ) (arcs : List (List Point)) → picked_arcs (map f arcs) arcs ≡ map (λ a. picked (f a) a) arcs
 picked_each f [] = refl
 picked_each f (a ∷ arcs) = ap (λ xs. picked (f a) a ∷ xs) (picked_each f arcs)
@@ -49,7 +49,7 @@ each_again : ZeroLaw → (t : ℕ) (arcs : List (List Point)) → map (reduced t
 each_again zero t [] = refl
 each_again zero t (a ∷ arcs) = grind (arith, each_again zero t arcs)
 
--- so arcs that were reduced at zero and of which some are left out are reduced as they were before
+-- arcs that were reduced at zero and of which some are left out are reduced as they were before
 pub arcs_again : ZeroLaw → (t : ℕ) (used : ℕ → Bool) (arcs : List (List Point)) →
     picked_arcs (map (reduce t) (keep_from used 0 (map (reduced 0) arcs))) (keep_from used 0 (map (reduced 0) arcs)) ≡ keep_from used 0 (map (reduced t) arcs)
 arcs_again zero t used arcs =

@@ -108,12 +108,12 @@ holed_at_two =
     ∙ ap (λ s. record { objects = two (Some (g.Area ((pos 0 ∷ []) ∷ []))) s; arcs = square ∷ (bent ∷ []); transform = None })
     (prune-line (λ (p : Point). p) (line_renumbered (used_in names)) (negsuc 2 ∷ []))
 
--- the hole is told of, as Small
+-- the hole is reported, as Small
 holed_dropped : lessened_dropped 2 0 holed ≡ record { address = record { layer = 0; feature = 0; path = 1 ∷ [] }; cause = Small } ∷ []
 unfolding lessened_dropped dropped_by same shoelace
 holed_dropped = simp (holed_arcs, omissions-area, omissions-line)
 
--- of the arcs that stay nothing is taken out: the triangle's isn't counted
+-- of the arcs that stay nothing is removed: the triangle's isn't counted
 holed_taken_out : lessened_taken_out 2 0 holed ≡ 0
 unfolding lessened_taken_out taken_out_by lessened_by trimmed number_of
 holed_taken_out =

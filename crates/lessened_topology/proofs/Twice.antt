@@ -38,7 +38,7 @@ rank_twice u w v n m (suc i) h = on (u n) refl (λ k p. rank_twice u w v (suc n)
     on true e ih = grind (arith, both_here u w v n m h, both_next u w v n m true e h)
     on false e ih = grind (arith, both_here u w v n m h, both_next u w v n m false e h)
 
--- two numbers that pass have different ranks
+-- two numbers that pass have different new indexes
 apart_ranks : (u : ℕ → Bool) (n i j : ℕ) → u (n + i) ≡ true → u (n + j) ≡ true → rank_from u n i ≡ rank_from u n j → i ≡ j
 apart_ranks u n zero zero h k e = refl
 apart_ranks u n zero (suc j) h k e = grind arith
@@ -48,6 +48,6 @@ apart_ranks u n (suc i) (suc j) h k e = grind (arith, apart_ranks u (suc n) i j)
 same_test : (i j k l : ℕ) → (k ≡ l → i ≡ j) → (i ≡ j → k ≡ l) → (i == j) ≡ (k == l)
 same_test i j k l f g = grind (arith, nat_tests, f, g)
 
--- so a test on one is the test on its rank
+-- a test on an index is the test on its new index
 pub test_ranks : (u : ℕ → Bool) (i j : ℕ) → u i ≡ true → u j ≡ true → (i == j) ≡ (rank_from u 0 i == rank_from u 0 j)
 test_ranks u i j h k = grind (arith, same_test, apart_ranks)

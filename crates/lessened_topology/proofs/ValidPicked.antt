@@ -1,4 +1,4 @@
--- Arcs of which cells are picked from the first to the last begin and end as before.
+-- Arcs of which cells are retained from the first to the last begin and end as before.
 use Rattle.std.proofs.Common.{◌≡◌, ℕ, zero, suc, ◌≤◌, ℤ, pos, negsuc, List, [], ◌∷◌, length, Option, None, Some, refl, ap, ◌∙◌, arith}
 use Rattle.std.specs.List.{AllByRecursion}
 use Rattle.geometry.specs.Lists.{with_some}

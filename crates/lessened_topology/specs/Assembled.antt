@@ -40,7 +40,7 @@ own_refs lines closed ps = map (index_in (all_arcs lines)) (own_pieces lines clo
 abbrev pub assembled_cause : List Stroke → List (List Point) → ℕ → Bool → List Point → Option Cause
 assembled_cause lines arcs limit closed ps = if is_short closed (clean ps) then Some Collapsed else small_cause limit arcs closed (own_refs lines closed ps)
 
--- the same of layers, where of each arc the positions of these numbers are kept
+-- why a line or ring of layers is dropped for its own sake, where of each arc the positions of these numbers are kept
 abbrev pub cause_by : List (List ℕ) → ℕ → Named → Bool → List Point → Option Cause
 cause_by kept limit ls = assembled_cause (linework (layers_of ls)) (picked_arcs kept (arcs_of_layers ls)) limit
 
@@ -49,7 +49,7 @@ abbrev pub option_caused : (Bool → List Point → Option Cause) → Option Sha
 option_caused why None = []
 option_caused why (Some s) = omissions why s
 
--- those of all layers, in reading order
+-- the lines and rings of all layers that are dropped, in reading order
 abbrev pub layers_caused : (Bool → List Point → Option Cause) → Named → List Dropped
 layers_caused why ls = dropped_of_layers 0 (map (λ l. map (λ f. option_caused why f.shape) l.1.features) ls)
 
@@ -64,6 +64,6 @@ assembled kept limit ls = lessened_by kept limit (untrimmed 0 0 ls)
 unfoldable pub assembled_dropped : List (List ℕ) → ℕ → Named → List Dropped
 assembled_dropped kept limit ls = layers_caused (cause_by kept limit ls) ls
 
--- how many positions are taken out of the arcs that stay
+-- how many positions are removed from the arcs that stay
 unfoldable pub assembled_taken_out : List (List ℕ) → ℕ → Named → ℕ
 assembled_taken_out kept limit ls = taken_out_by kept limit (untrimmed 0 0 ls)

@@ -1,4 +1,4 @@
--- Topologies on a grid: their positions as the cells that stand for them (TopoJSON 1.0, section 2.1.2).
+-- Quantized topologies: their positions as the cells that stand for them (TopoJSON 1.0, section 2.1.2).
 use Rattle.std.specs.Prelude.{◌≡◌, ℕ, List, Some, map}
 use Rattle.std.specs.List.{AllByRecursion}
 use Rattle.geometry.specs.Lists.{then_some}
@@ -35,7 +35,7 @@ celled transform cell y = record { objects = objects_celled cell y.objects; arcs
 abbrev pub LiesBack : Transform → (Point → Point) → Point → Type 0
 LiesBack transform cell p = place_on transform (cell p) ≡ p
 
--- and its numbers are within the bound of the grid
+-- the cell of the position lies where the position lies, and its numbers are within the bound of the grid
 abbrev pub IsOnGrid : Transform → (Point → Point) → Point → Type 0
 IsOnGrid transform cell p = IsWithin grid_limit (cell p) × LiesBack transform cell p
 

@@ -31,7 +31,8 @@ PickedIsReduced = (t : ℕ) (ps : List Point) → picked (reduce t ps) ps ≡ re
 abbrev pub LessensToBuilt : Type 0
 LessensToBuilt = (t limit : ℕ) (ls : Named) → AreSound ls → lessened t limit (built 0 0 ls) ≡ built t limit ls
 
--- the same on a grid where each position of the layers lies on it
+-- on a grid on which each position of the layers lies, what is built at a threshold and a limit of zero and then reduced by both is what is
+-- built by both
 abbrev pub LessensToBuiltOnGrid : Type 0
 LessensToBuiltOnGrid = (transform : Transform) (cell : Point → Point) (t limit : ℕ) (ls : Named) → AreSound ls → AllByRecursion (LiesBack transform cell) (layers_points (layers_of ls))
     → lessened t limit (celled transform cell (built 0 0 ls)) ≡ celled transform cell (built t limit ls)
@@ -51,12 +52,12 @@ abbrev pub CelledDecodes : Type 0
 CelledDecodes = (transform : Transform) (cell : Point → Point) (y : Contents) (name : List ℕ) → y.transform ≡ None → EachCell (LiesBack transform cell) y
     → decoded (celled transform cell y) name ≡ decoded y name
 
--- so it is with what is built of layers whose positions lie on the grid
+-- what is built of layers whose positions lie on the grid decodes to the same features by its cells
 abbrev pub BuiltDecodesOnGrid : Type 0
 BuiltDecodesOnGrid = (transform : Transform) (cell : Point → Point) (t limit : ℕ) (ls : Named) (name : List ℕ) → AllByRecursion (LiesBack transform cell) (layers_points (layers_of ls))
     → decoded (celled transform cell (built t limit ls)) name ≡ decoded (built t limit ls) name
 
--- and so decoding gives each layer the features that are expected of it
+-- decoding what is built on the grid gives each layer the features that are expected of it
 abbrev pub DecodesBackOnGrid : Type 0
 DecodesBackOnGrid = (transform : Transform) (cell : Point → Point) (t limit : ℕ) (ls : Named) → AreSound ls → AreDistinct (names_of ls)
     → AllByRecursion (LiesBack transform cell) (layers_points (layers_of ls))
@@ -67,7 +68,7 @@ abbrev pub CelledIsValid : Type 0
 CelledIsValid = (transform : Transform) (cell : Point → Point) (y : Contents) → IsTransform transform → y.transform ≡ None → EachCell (IsOnGrid transform cell) y
     → IsTopology y → IsTopology (celled transform cell y)
 
--- and so is what is built of layers
+-- what is built of layers whose positions lie on a grid is valid on it
 abbrev pub BuiltIsValidOnGrid : Type 0
 BuiltIsValidOnGrid = (transform : Transform) (cell : Point → Point) (t limit : ℕ) (ls : Named) → IsTransform transform → AreSound ls → AreDistinct (names_of ls)
     → AllByRecursion (IsOnGrid transform cell) (layers_points (layers_of ls)) → IsTopology (celled transform cell (built t limit ls))
@@ -82,7 +83,7 @@ LessenedIsValid = (kept : List (List ℕ)) (limit : ℕ) (y : Contents) → IsTo
 abbrev pub IndexesReach : Type 0
 IndexesReach = (t : ℕ) (y : Contents) → IsTopology y → EachFromFirstToLast (reduced_indexes t y) y.arcs
 
--- so a topology that is reduced is valid
+-- a valid topology that is reduced at a threshold stays valid
 abbrev pub ReducedIsValid : Type 0
 ReducedIsValid = (t limit : ℕ) (y : Contents) → IsTopology y → IsTopology (lessened t limit y)
 
@@ -96,7 +97,7 @@ AssemblesToBuilt = (t limit : ℕ) (ls : Named) → AreSound ls → assembled (a
 abbrev pub AssemblingDropsExpected : Type 0
 AssemblingDropsExpected = (t limit : ℕ) (ls : Named) → AreSound ls → assembled_dropped (arc_indexes t ls) limit ls ≡ expected_dropped t limit ls
 
--- as many positions are taken out as reduction takes out
+-- as many positions are removed as reduction removes
 abbrev pub AssemblingTakesOut : Type 0
 AssemblingTakesOut = (t limit : ℕ) (ls : Named) → AreSound ls → assembled_taken_out (arc_indexes t ls) limit ls ≡ taken_out t limit ls
 

@@ -47,7 +47,7 @@ EachFromFirstToLast (is ∷ kept) (cells ∷ arcs) = FromFirstToLast (length cel
 abbrev pub small_cause : ℕ → List (List Point) → Bool → List ℤ → Option Cause
 small_cause limit arcs closed refs = if is_small limit closed (rejoined (map (arc_at arcs) refs)) then Some Small else None
 
--- its arc indexes, unless it is dropped
+-- the arc indexes of a line or ring, unless it is dropped
 abbrev pub large_refs : ℕ → List (List Point) → Bool → List ℤ → Option (List ℤ)
 large_refs limit arcs closed refs = unless (small_cause limit arcs closed refs) refs
 
@@ -75,7 +75,7 @@ abbrev pub picked_whole : List (List ℕ) → ℕ → Contents → Contents
 picked_whole kept limit y =
     record { objects = objects_pruned (large_refs limit (placed_arcs y.transform (picked_arcs kept y.arcs))) y.objects; arcs = picked_arcs kept y.arcs; transform = y.transform }
 
--- the same without the arcs that no kept line uses
+-- of each arc the cells of these numbers, without the lines and rings that are then small, and without the arcs that no kept line uses
 unfoldable pub lessened_by : List (List ℕ) → ℕ → Contents → Contents
 lessened_by kept limit y = trimmed (picked_whole kept limit y)
 
@@ -89,6 +89,6 @@ unfoldable pub dropped_by : List (List ℕ) → ℕ → Contents → List Droppe
 dropped_by kept limit y =
     dropped_of_layers 0 (map (λ o. map (λ f. option_small limit (placed_arcs y.transform (picked_arcs kept y.arcs)) f.shape) (object_features o.1)) y.objects)
 
--- how many positions are taken out of the arcs that stay
+-- how many positions are removed from the arcs that stay
 unfoldable pub taken_out_by : List (List ℕ) → ℕ → Contents → ℕ
 taken_out_by kept limit y = positions_of (keep_from (is_used (picked_whole kept limit y).objects) 0 y.arcs) - positions_of (lessened_by kept limit y).arcs

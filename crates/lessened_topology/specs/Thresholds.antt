@@ -25,6 +25,6 @@ lessened t limit y = lessened_by (reduced_indexes t y) limit y
 unfoldable pub lessened_dropped : ℕ → ℕ → Contents → List Dropped
 lessened_dropped t limit y = dropped_by (reduced_indexes t y) limit y
 
--- how many positions are then taken out of the arcs that stay
+-- how many positions are then removed from the arcs that stay
 unfoldable pub lessened_taken_out : ℕ → ℕ → Contents → ℕ
 lessened_taken_out t limit y = taken_out_by (reduced_indexes t y) limit y

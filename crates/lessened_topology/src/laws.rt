@@ -19,7 +19,7 @@ pub fn lessens_to_built()
     zero_law();
 }
 
-/// The same on a grid on which each position of the layers lies: the cells of what is built at zero are reduced to the cells of what
+/// On a grid on which each position of the layers lies, the cells of what is built at zero are reduced to the cells of what
 /// is built at the threshold.
 #[tactic(auto, using(crate::proofs::Celled::lessens_on_grid))]
 pub fn lessens_to_built_on_grid()
@@ -49,7 +49,7 @@ pub fn built_decodes_on_grid()
     nothing_is_new();
 }
 
-/// So decoding what is built on such a grid gives each layer the features that are expected of it.
+/// Decoding what is built of layers on a grid on which their positions lie gives each layer the features that are expected of it.
 pub fn built_decodes_back_on_grid()
     ensures { DecodesBackOnGrid }
 {
@@ -104,7 +104,7 @@ pub fn assembling_drops_expected()
     zero_law();
 }
 
-/// As many positions are then taken out of the arcs that stay as reduction takes out of them.
+/// As many positions are then removed from the arcs that stay as reduction removes from them.
 #[tactic(auto, using(crate::proofs::Assembled::takes_out))]
 pub fn assembling_takes_out()
     ensures { AssemblingTakesOut }

@@ -1,4 +1,4 @@
-//! Reducing a topology (TopoJSON 1.0) once more: which topology is left, what is dropped; topologies on a grid; and the laws of
+//! Reducing a topology (TopoJSON 1.0) once more: which topology is left, what is dropped; quantized topologies; and the laws of
 //! both. It stands on `build_meaning`, whose trimming it uses. The layers above use the definitions and the laws: what is
 //! reduced, and what is put on a grid, stays valid; on a grid it decodes to the same; and what is built at a threshold of zero
 //! and then reduced is what is built at the threshold, with a grid and without.

@@ -62,7 +62,7 @@ pub parts_done : {A : Type 0} (f : A → Lines) (a : Address) (g now : Gathered)
     now ≡ with_strokes g (map (stroke_at a) (of_parts 0 (map f (take i xs)))) → now ≡ with_strokes g (map (stroke_at a) (of_parts 0 (map f xs)))
 parts_done f a g now xs i l h = h ∙ ap (λ z. with_strokes g (map (stroke_at a) (of_parts 0 (map f z)))) (take_all i xs l)
 
--- the same of features and of layers, each list numbered from zero
+-- one element more of a list that is numbered from zero, be it of features or of layers
 module _ {X : Type 0} (of : ℕ → X → List Stroke) (all : ℕ → List X → List Stroke) (none : (i : ℕ) → all i [] ≡ [])
     (some : (i : ℕ) (x : X) (xs : List X) → all i (x ∷ xs) ≡ of i x ++ all (suc i) xs) where
   all_more : (i : ℕ) (xs : List X) (x : X) → all i (xs ++ (x ∷ [])) ≡ all i xs ++ of (i + length xs) x
@@ -82,7 +82,7 @@ pub layers_turn : (g now new : Gathered) (ls : List Layer) (i : ℕ) (l : Layer)
     now ≡ with_strokes g (strokes_of_layers 0 (take i ls)) → new ≡ with_strokes now (strokes_of_layer i 0 l.features) → new ≡ with_strokes g (strokes_of_layers 0 (take (i + 1) ls))
 layers_turn = all_turn (λ i l. strokes_of_layer i 0 l.features) strokes_of_layers (λ i. refl) (λ i x xs. refl)
 
--- the same of layers with names
+-- layers with names, without them
 abbrev unnamed : List (List ℕ × Layer) → List Layer
 unnamed ls = map (λ l. l.1) ls
 

@@ -33,12 +33,12 @@ feature_address layer feature = record { layer = layer; feature = feature; path 
 abbrev pub feature_strokes : ℕ → ℕ → Featured → List Stroke
 feature_strokes layer feature f = map (stroke_at (feature_address layer feature)) (option_placed f.shape)
 
--- those of the features of a layer, of which the first has this number
+-- the lines and rings of the features of a layer, of which the first has this number
 abbrev pub strokes_of_layer : ℕ → ℕ → List Featured → List Stroke
 strokes_of_layer layer feature [] = []
 strokes_of_layer layer feature (f ∷ fs) = feature_strokes layer feature f ++ strokes_of_layer layer (suc feature) fs
 
--- those of the layers, of which the first has this number
+-- the lines and rings of the layers, of which the first has this number
 abbrev pub strokes_of_layers : ℕ → List Layer → List Stroke
 strokes_of_layers layer [] = []
 strokes_of_layers layer (l ∷ ls) = strokes_of_layer layer 0 l.features ++ strokes_of_layers (suc layer) ls

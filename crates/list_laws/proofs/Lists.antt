@@ -4,7 +4,7 @@ use Rattle.std.proofs.lemmas.List.{map-append, take_all, take_more}
 use Rattle.std.specs.List.{AllByRecursion}
 use Rattle.list_laws.specs.Lists.{some_of, unless_empty, joined, is_some_list}
 
--- from here on: this element, and those behind it
+-- from here on: this element, and those after it
 pub drop_here : {A : Type 0} (xs : List A) (i : ℕ) (x : A) → i < length xs → x ≡ get_or xs i x → drop i xs ≡ x ∷ drop (i + 1) xs
 drop_here xs i x within is = rw add-one (drop-cons xs i x within ∙ ap (λ z. z ∷ drop (suc i) xs) (sym is))
 
@@ -42,7 +42,7 @@ pub some_agree : {A B : Type 0} (f g : A → Option B) (xs : List A) → AllByRe
 some_agree f g [] h = refl
 some_agree f g (x ∷ xs) h = rw (h.0, some_agree f g xs h.1) refl
 
--- ---- lists one behind another
+-- ---- lists one after another
 
 pub joined_append : {A : Type 0} (xss yss : List (List A)) → joined (xss ++ yss) ≡ joined xss ++ joined yss
 joined_append [] yss = refl

@@ -1,4 +1,4 @@
--- What tests and choices tell.
+-- What tests and choices decide.
 use Rattle.std.proofs.Common.{◌≡◌, ◌≢◌, ℕ, Bool, true, false, cond, if◌then◌else◌, bytes_eq, List, ◌⊎◌, inl, inr, refl}
 use Rattle.std.proofs.lemmas.Slice.Eq.{bytes_eq-Decides}
 

@@ -12,7 +12,7 @@ abbrev pub then_some : {A B : Type 0} → (A → Option B) → Option A → Opti
 then_some f None = None
 then_some f (Some x) = f x
 
--- the list behind it, if there is one
+-- the list after it, if there is one
 abbrev pub with_some : {A : Type 0} → Option A → List A → List A
 with_some None xs = xs
 with_some (Some x) xs = x ∷ xs
@@ -27,7 +27,7 @@ abbrev pub unless_empty : {A B : Type 0} → (List A → B) → List A → Optio
 unless_empty make [] = None
 unless_empty make (x ∷ xs) = Some (make (x ∷ xs))
 
--- lists one behind another
+-- lists one after another
 abbrev pub joined : {A : Type 0} → List (List A) → List A
 joined [] = []
 joined (xs ∷ xss) = xs ++ joined xss

@@ -14,10 +14,10 @@ use system::System;
 /// The bytes that an output holds back, so that small parts go out together.
 const OUT_BUFFER: usize = 65_536;
 
-/// The bytes that standard error holds back: a report tells each line that is dropped.
+/// The bytes that standard error holds back: a report lists each line that is dropped.
 const ERROR_BUFFER: usize = 8_192;
 
-/// The words behind the program's name.
+/// The words after the program's name.
 fn words(rt: &HostRuntime) -> io::Result<Vec<String>> {
     let words = env::args(rt)?.skip(1).collect(rt.alloc())?;
     Ok(words)

@@ -24,7 +24,7 @@ const OWNER_ONLY: u32 = 0o600;
 pub(crate) struct Target {
     /// The path by which it was named.
     pub(crate) named: String,
-    /// Where that leads, behind symbolic links.
+    /// Where that leads, past symbolic links.
     path: String,
     /// The permissions of the file, where there is one.
     mode: Option<u32>,
@@ -107,7 +107,7 @@ fn create_beside(rt: &HostRuntime, target: &Target) -> io::Result<(File, String)
 
 impl PartFile {
     /// A new file that is to replace this one, with its permissions, or is to be the first of that name. Where the target was named by
-    /// a symbolic link, the file behind it is replaced, and the link stays. Nothing but a regular file is replaced.
+    /// a symbolic link, the file that it leads to is replaced, and the link stays. Nothing but a regular file is replaced.
     pub(crate) fn beside(rt: &HostRuntime, target: &Target) -> io::Result<PartFile> {
         let part_rt = rt.clone()?;
         let (file, path) = create_beside(rt, target)?;

@@ -34,7 +34,7 @@ impl System {
     }
 }
 
-// The file of this path, and a new file for it that holds nothing yet, behind a buffer.
+// The file of this path, and a new file for it that holds nothing yet, with a buffer before it.
 fn begin(rt: &HostRuntime, path: &str) -> io::Result<(Target, BufWriter<PartFile>)>
     ensures { IfOk result (λ r. string_bytes r.0.named ≡ path.now) }
 {

@@ -18,7 +18,7 @@ use Rattle.topology_files.specs.Geo.{SendsText}
 use Rattle.mapchain_cli.specs.Endings.{IsSummaryFault}
 use Rattle.mapchain_cli.specs.Runs.{IsHelped}
 
--- help that was cut short, where that is told
+-- help that was cut short, where that is reported
 pub help_cut : (old new err_old err_new : Drained) (text : List ℕ) (fault : WriteFault) (told_as : BuildFault) (status : ℕ) → told_as ≡ build_fault_of fault
     → Sends old new 0 text (Err fault) → Tells err_old err_new (fault_text told_as) → status ≡ status_of told_as
     → IsHelped (record { out = old; err = err_old }) (record { out = new; err = err_new }) status

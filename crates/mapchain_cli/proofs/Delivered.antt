@@ -12,7 +12,7 @@ use Rattle.mapchain_cli.specs.Outputs.{is_build, unkept}
 use Rattle.mapchain_cli.specs.declared.ending.Ending.{Ending}
 use Rattle.mapchain_cli.proofs.Untouched.{answered}
 
--- the ending that is told is that of the request
+-- the ending that is reported is that of the request
 pub unkept_of : (request : Request) (b : Bool) (sent : ℕ) (ending : Ending) → b ≡ is_build request → ending ≡ unkept b sent → ending ≡ unkept (is_build request) sent
 unkept_of request b sent ending same is = is ∙ ap (λ x. unkept x sent) same
 

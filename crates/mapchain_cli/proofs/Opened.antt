@@ -41,7 +41,7 @@ times_contents (suc n) s = times_contents n s
 pub still : (n : ℕ) (before after : FileState) → after ≡ opened_times n before → after.contents ≡ before.contents
 still n before after times = ap (λ (s : FileState). s.contents) times ∙ times_contents n before
 
--- a front of the layers is one of their texts
+-- a prefix of the layers is one of their texts
 pub front_of_texts : (layers : List (Bor (List ℕ) × Bor (List ℕ))) (n : ℕ) → n ≤ length layers → n ≤ length (texts_of layers)
 front_of_texts layers n h =
     let e : length (texts_of layers) ≡ length layers = length-map layers (λ l. (l.0.now, l.1.now)) in
@@ -49,7 +49,7 @@ front_of_texts layers n h =
 
 -- the layer of this number
 module _ (before : FileState) (layers : List (Bor (List ℕ) × Bor (List ℕ))) (i : ℕ) (layer : Bor (List ℕ) × Bor (List ℕ)) (within : i < length layers) where
-  -- its file is opened behind those before it
+  -- its file is opened after those before it
   pub next_opened : (sources : Sources) (source : List ℕ × Fed) → AreOpened before.contents (texts_of (take i layers)) sources
       → source.0 ≡ (get_or layers i layer).0.now → IsOpened before.contents (get_or layers i layer).1.now source.1
       → AreOpened before.contents (texts_of (take (i + 1) layers)) (sources ++ source ∷ [])

@@ -1,4 +1,4 @@
--- What is asked for, and what it comes to.
+-- What is asked for, and its outcome.
 use Rattle.std.specs.Prelude.{◌≡◌, ℕ, Bool, List, length, map, Option, Some, None}
 use Rattle.std.specs.Borrow.{Bor}
 use Rattle.std.specs.Option.{option_map}
@@ -87,7 +87,7 @@ RefusesTopology files (Geo name path) old new e = RefusesFile files path.now old
 RefusesTopology files (Stat path) old new e = RefusesFile files path.now old new (IsSummaryFault old new) e
 RefusesTopology files request old new e = ⊥
 
--- a front of the files that the request names was opened
+-- a prefix of the files that the request names was opened
 abbrev pub OpensSome : FileUse → Request → Type 0
 OpensSome files (Build layers exact grid area keep ring_area) = OpensFront (length (texts_of layers.items)) files
 OpensSome files request = Opened 0 files

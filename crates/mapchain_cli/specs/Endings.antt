@@ -63,7 +63,7 @@ pub record Summarises (files : FileUse) (path : List ℕ) (old new : Drained) : 
 
 -- ---- why nothing is written whole: nothing is written unless the device failed
 
--- the file of a layer can't be opened, or isn't known, those before it were opened, and none behind it was tried; the fault names that
+-- the file of a layer can't be opened, or isn't known, those before it were opened, and none after it was tried; the fault names that
 -- layer
 abbrev pub IsUnopened : FileUse → Layers → BuildFault → Type 0
 IsUnopened files layers e =
@@ -96,7 +96,7 @@ abbrev pub RefusesFile : FileUse → List ℕ → Drained → Drained → (Fed �
 RefusesFile files path old new Fails e =
     ((new ≡ old) × (files.before.contents path ≡ None) × RefusedBehind 0 files × (e ≡ file.Read read.Read)) ⊎ IsRefusedFile files path Fails e
 
--- why no summary is written whole: the device failed when it had taken a front of its text, or there is none
+-- why no summary is written whole: the device failed when it had taken a prefix of its text, or there is none
 abbrev pub IsSummaryFault : Drained → Drained → Fed → Fed → FileFault → Type 0
 IsSummaryFault sink_old sink_new old new (file.Write sent) =
     (summary : Summary) × IsSummarised old new summary × WritesFront sink_old sink_new 0 (summary_text summary) sent

@@ -44,7 +44,7 @@ with_open false c = record c { refused = saturated (c.refused + 1) }
 abbrev pub one_more : Bool → FileState → FileState
 one_more is_open s = record s { counts = with_open is_open s.counts }
 
--- the files before a run and behind it
+-- the files before a run and after it
 pub record FileUse : Type 0 where
   pub before : FileState
   pub after : FileState
@@ -61,7 +61,7 @@ opened_times (suc n) s = one_more true (opened_times n s)
 abbrev pub Opened : ℕ → FileUse → Type 0
 Opened n files = files.after ≡ opened_times n files.before
 
--- so many files were opened, then one was refused, and none was tried behind it
+-- so many files were opened, then one was refused, and none was tried after it
 abbrev pub RefusedBehind : ℕ → FileUse → Type 0
 RefusedBehind n files = files.after ≡ one_more false (opened_times n files.before)
 

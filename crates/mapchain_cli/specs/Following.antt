@@ -30,7 +30,7 @@ IsFaultOf (FileRefused e) (Some (fault.File f)) = f.now ≡ e
 IsFaultOf Memory (Some fault.Memory) = Unit {0}
 IsFaultOf ending f = ⊥
 
--- and so is a report that there is of its fault, if it has one
+-- the fault of a report is that of the outcome, if it has one
 abbrev pub HasFault : Outcome → Option RunFault → Type 0
 HasFault (Ok report) None = Unit {0}
 HasFault (Err ending) f = IsFaultOf ending f
@@ -42,14 +42,14 @@ HasReport (Ok (Some report)) (Some r) = r.now ≡ report
 HasReport (Err ending) None = Unit {0}
 HasReport outcome r = ⊥
 
--- the report of a run tells its status, its fault, what was counted, and this explanation
+-- the report of a run has its status, its fault, what was counted, and this explanation
 pub record IsReportOf (outcome : Outcome) (text : List ℕ) (exit : ℕ) (run : RunReport) : Type 0 where
   pub status : run.status ≡ exit
   pub fault : HasFault outcome run.fault
   pub report : HasReport outcome run.report
   pub explanation : run.explanation.now ≡ text
 
--- its text is put in the place of the file of this path
+-- the text of the run's report is put in the place of the file of this path
 pub record PutsReport (files : FileUse) (path : List ℕ) (run : RunReport) : Type 0 where
   pub fresh : Drained
   pub is_fresh : IsFresh fresh
@@ -67,7 +67,7 @@ pub record IsBroken (files : FileUse) (path : List ℕ) (run : RunReport) : Type
   pub front : WritesFront fresh output 0 (run_text run) sent
   pub away : files.after ≡ discarded (begun true path files.before)
 
--- its output took it, and couldn't take the place of the file
+-- the output of the run's report took it, and couldn't take the place of the file
 pub record IsHeld (files : FileUse) (path : List ℕ) (run : RunReport) : Type 0 where
   pub fresh : Drained
   pub is_fresh : IsFresh fresh
@@ -89,7 +89,7 @@ abbrev pub unreported : ℕ → ℕ
 unreported zero = failed
 unreported (suc n) = suc n
 
--- the report of the run is written to the file of this path, or it couldn't be, which is told
+-- the report of the run is written to the file of this path, or it couldn't be, which is reported
 abbrev pub IsReported : FileUse → List ℕ → Outcome → List ℕ → Drained → Drained → ℕ → Type 0
 IsReported files path outcome explanation old new status = (run : RunReport) × IsReportOf outcome explanation (status_after outcome) run ×
     ((PutsReport files path run × (new ≡ old) × (status ≡ status_after outcome))
@@ -106,7 +106,7 @@ abbrev pub TellsIf : Bool → Drained → Drained → List ℕ → Type 0
 TellsIf true old new text = Tells old new text
 TellsIf false old new text = new ≡ old
 
--- files are only read for an explanation, which is told where that is asked, and the report of the run has it
+-- files are only read for an explanation, which is reported where that is asked, and the report of the run has it
 pub record IsExplained (files : FileUse) (detail : Detail) (outcome : Outcome) (old new : Drained) (status : ℕ) : Type 0 where
   pub explanation : List ℕ
   pub reread : FileState
@@ -122,7 +122,7 @@ Follows explains report files detail outcome old new status = IsExplained files 
 
 -- ---- an order
 
--- the request comes out so over its output, which is told on standard error, and then what is asked for beside is done
+-- the request comes out so over its output, which is reported on standard error, and then what is asked for beside is done
 pub record IsCarriedOut (files : FileUse) (output : Option (List ℕ)) (detail : Detail) (request : Request) (old new : Streams) (status : ℕ) : Type 0 where
   pub outcome : Outcome
   pub then : FileState

@@ -25,7 +25,7 @@ abbrev pub unkept : Bool → ℕ → Ending
 unkept true sent = Refused (Write sent)
 unkept false sent = FileRefused (file.Write sent)
 
--- the output for the file of this path is begun, over which the request comes to its end: what it was and what it is then, and the
+-- the output for the file of this path is begun, over which the request ends: what it was and what it is then, and the
 -- files then
 pub record Begins (path : List ℕ) (before : FileState) : Type 0 where
   pub fresh : Drained

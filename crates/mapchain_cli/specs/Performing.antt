@@ -1,4 +1,4 @@
--- How a request comes out over a sink, and what is told of that.
+-- How a request comes out over a sink, and what is said of that.
 use Rattle.std.specs.Prelude.{ℕ, List, [], codes, Option, None, Some, Result, Ok, Err}
 use Rattle.byte_ends.specs.Ends.{Drained}
 use Rattle.command_words.specs.declared.request.Request.{Request}
@@ -38,7 +38,7 @@ line_of (Refused fault) = fault_text fault
 line_of (FileRefused fault) = file_fault_text fault
 line_of Memory = []
 
--- and its status: 1 where the contents of a file are refused, 2 where words are, 3 where devices or memory fail
+-- the status of a request that isn't done: 1 where the contents of a file are refused, 2 where words are, 3 where devices or memory fail
 abbrev pub ending_status : Ending → ℕ
 ending_status BadArea = words_refused
 ending_status BadRingArea = words_refused

@@ -18,17 +18,17 @@ use Rattle.mapchain_cli.specs.Performing.{Streams}
 
 -- ---- words that ask for nothing that is done
 
--- nothing is told for want of memory
+-- nothing is printed for want of memory
 abbrev pub LacksMemory : Streams → Streams → ℕ → Type 0
 LacksMemory old new status = (new.out ≡ old.out) × Tells old.err new.err [] × (status ≡ failed)
 
--- a text of help was written, or the device failed when it had taken a front of it, which is told
+-- a text of help was written, or the device failed when it had taken a prefix of it, which is reported
 abbrev pub IsHelped : Streams → Streams → ℕ → Type 0
 IsHelped old new status = (text : List ℕ) × (sent : ℕ) ×
     ((WritesAll old.out new.out 0 text sent × (new.out.flushed ≡ true) × Tells old.err new.err [] × (status ≡ 0))
     ⊎ (WritesFront old.out new.out 0 text sent × Tells old.err new.err (fault_text (Write sent)) × (status ≡ failed)))
 
--- a text was told, which is the line of the fault where that is not `clap`'s
+-- a text was printed, which is the line of the fault where that is not `clap`'s
 abbrev pub IsRefusedFor : WordsFault → Streams → Streams → ℕ → Type 0
 IsRefusedFor fault old new status = (text : List ℕ) × IfSome (words_fault_text fault) (λ line. text ≡ line)
     × (new.out ≡ old.out) × Tells old.err new.err text × (status ≡ words_refused)
@@ -41,7 +41,7 @@ EndsAtWords fault old new status = IsRefusedFor fault old new status ⊎ LacksMe
 
 -- ---- a whole run
 
--- the words ask for no request, or memory was wanting; and what is told is of the kinds of error that `clap` has for them
+-- the words ask for no request, or memory was wanting; and what is reported is of the kinds of error that `clap` has for them
 abbrev pub IsUnasked : List (List ℕ) → WordsFault → Type 0
 IsUnasked given fault = ((fault ≡ words.Memory) ⊎ (order_of given ≡ None)) × IsFaultBy (kinds_of given) fault
 
@@ -52,6 +52,6 @@ RunsOn files given old new status =
     × IsCarriedOut files (asked_output order) (detail order) order.request old new status)
     ⊎ ((fault : WordsFault) × IsUnasked given fault × EndsAtWords fault old new status × Opened 0 files)
 
--- the same of the words as they are given: an option whose value may be any text and that value are joined first
+-- the run of the words as they are given: an option whose value may be any text and that value are joined first
 abbrev pub Runs : FileUse → List (List ℕ) → Streams → Streams → ℕ → Type 0
 Runs files given old new status = RunsOn files (joined given) old new status

@@ -90,7 +90,7 @@ fn put_report<F: Files>(path: &str, run: &RunReport<'_>, files: &mut F) -> bool
     }
 }
 
-/// Writes the report of a run to the file of this path, or tells that it can't be. The answer is the exit status.
+/// Writes the report of a run to the file of this path, or says that it can't be. The answer is the exit status.
 fn report_run<F: Files, W: Drain>(
     path: &str,
     outcome: &Result<Option<Report>, Ending>,

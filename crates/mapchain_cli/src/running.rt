@@ -144,7 +144,7 @@ pub fn perform<F: Files, V: Drain>(
     }
 }
 
-/// Carries out an order: does what is asked for, tells how that came out, and says more of it where that is asked. The answer is the
+/// Carries out an order: does what is asked for, reports how that came out, and says more of it where that is asked. The answer is the
 /// exit status.
 fn carry_out<F: Files, V: Drain, W: Drain>(
     alloc: Global,
@@ -181,7 +181,7 @@ fn run<F: Files, V: Drain, W: Drain>(
     }
 }
 
-/// Runs the program on the words behind its name. Standard output, or the file that is named for the output, takes the topology, the
+/// Runs the program on the words after its name. Standard output, or the file that is named for the output, takes the topology, the
 /// features or the summary, standard output the help. Standard error takes the report of a build or of simplifying, or a line that says
 /// what is wrong. The answer is the exit status: 0 where it is done, 1 where the contents of a file are refused, 2 where the words are,
 /// and 3 where reading, writing or memory failed.
@@ -193,7 +193,7 @@ pub fn command<F: Files, V: Drain, W: Drain>(
     err: &mut Sink<W>,
 ) -> u8
     // The request that the words ask for is done or refused. Where they ask for none help is given, or the words are refused. Standard
-    // error took what there is to tell.
+    // error took what there is to say.
     ensures ran { Runs (used (F.state files.old) (F.state files.new)) (map string_bytes words.items)
         (record { out = out.old; err = err.old }) (record { out = out.new; err = err.new }) result }
     ensures status { result ≤ 3 }

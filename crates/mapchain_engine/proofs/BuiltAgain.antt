@@ -38,7 +38,7 @@ use Rattle.mapchain_engine.specs.Laws.{IsWrittenTo, WritesEach, DecodesBack, Sim
 use Rattle.layer_sources.specs.Sources.{Sources, Named}
 use Rattle.reports.specs.Summaries.{summary_of}
 
--- what a sink took behind what it had
+-- what a sink took after what it had
 took_behind : (old new : Option (List ℕ)) (before bytes text : List ℕ) → old ≡ Some before → new ≡ Some (before ++ bytes) → Appends old new text → bytes ≡ text
 took_behind old new before bytes text had took grew =
     let e : before ++ bytes ≡ before ++ text = subst (λ o. Appends o (Some (before ++ bytes)) text) had (subst (λ n. Appends old n text) took grew) in

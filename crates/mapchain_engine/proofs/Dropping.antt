@@ -1,4 +1,4 @@
--- What is told as dropped of a shape is what the pruned shape lacks.
+-- What is reported as dropped of a shape is what the pruned shape lacks.
 use Rattle.std.proofs.Common.{◌≡◌, ℕ, suc, Bool, true, false, List, [], ◌∷◌, ◌++◌, map, Option, None, Some, refl, sym, ap, ◌∙◌, arith}
 use Rattle.std.proofs.lemmas.List.{map-append}
 use Rattle.std.specs.List.{AllByRecursion}
@@ -138,7 +138,7 @@ module _ {L : Type 0} (why : Bool → L → Option Cause) where
   areas_caused [] = refl
   areas_caused (rs ∷ areas) = rw (area_caused rs, areas_caused areas) refl
 
--- ---- the candidates of a shape, each with the way to it
+-- ---- the droppable lines of a shape, each with the way to it
 
 module _ (P L : Type 0) (why : Bool → L → Option Cause) where
   abbrev placed_step : Geometry-F P L L (List (Placed (Candidate L))) → List (Placed (Candidate L))
@@ -156,7 +156,7 @@ module _ (P L : Type 0) (why : Bool → L → Option Cause) where
   placed_at : AtKinds placed placed_step
   placed_at = at_kinds placed_step
 
-  -- without their ways they are the candidates
+  -- without their ways they are the droppable lines
   abbrev AreCandidates : Geometry P L L → Type 0
   AreCandidates s = parts_of (placed s) ≡ candidates (why true) s
 
@@ -195,7 +195,7 @@ module _ (P L : Type 0) (why : Bool → L → Option Cause) where
     group = λ ss all. ap (map (moved stroke)) (placed_at.group ss) ∙ moved_parts stroke 0 (map placed ss) ∙ ap (of_parts 0) (group_moved ss all) ∙ sym ((placed_strokes_at P L).group ss);
   })
 
-  -- those that are left out are the omissions
+  -- those that are left out have the drop causes
   abbrev AreOmitted : Geometry P L L → Type 0
   AreOmitted s = caused why (placed s) ≡ omissions why s
 
@@ -252,7 +252,7 @@ module _ (why : Bool → List Point → Option Cause) (given : Bool → List Poi
   lines_judged [] = refl
   lines_judged (x ∷ xs) = rw (by_causes x.part.outer (why x.part.closed x.part.line) x.part.closed x.part.line, lines_judged xs) refl
 
--- a shape's lines that are told as dropped are those that what is left of it lacks
+-- a shape's lines that are reported as dropped are those that what is left of it lacks
 pub leaves_out : (lines : List Stroke) (t limit : ℕ) (s : Shape) → LeavesOutWhatIsTold lines t limit s
 leaves_out lines t limit s =
     let why = own_cause lines t limit in

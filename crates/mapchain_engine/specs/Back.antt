@@ -1,4 +1,4 @@
--- What the bytes come to that a build wrote, and what is answered of them.
+-- The outcome of the bytes that a build wrote, and what is answered of them.
 use Rattle.std.specs.Prelude.{◌≡◌, ℕ, ◌≤◌, List, Some, Result, Ok, Err, IfErr, length}
 use Rattle.std.specs.List.{AllByRecursion}
 use Rattle.byte_ends.specs.Ends.{Fed, Drained, Takes}
@@ -23,7 +23,7 @@ use Rattle.topology_simplifying.specs.Simplified.{lessened_text, report_of, IsSi
 
 -- Where they are no more than an input may have, what a build wrote comes, with the name of each layer, to the text of the features that
 -- are expected of it, to the summary of the topology that is built, and at each threshold and ring limit to what is left of that topology. So `to_geo`,
--- `stat` and `simplify`, which answer what the bytes come to, refuse it only for memory or a device.
+-- `stat` and `simplify`, which answer the outcome of the bytes, refuse it only for memory or a device.
 abbrev pub ComesBack : Type 0
 ComesBack = (o : Options) (olds news : Sources) (sink_old sink_new : Drained) (report : Report) (is : IsBuilt o olds news sink_old sink_new report)
     (source : Fed) (from : IsWrittenTo sink_old sink_new source) → length from.bytes ≤ max_input
@@ -62,13 +62,13 @@ GeoIsNeverRefused = (o : Options) (olds news : Sources) (sink_old sink_new : Dra
     → AllByRecursion (λ l. AnswersGeo l.0 source after out_old out_new result → OrMemory (λ sent. WritesAll out_old out_new 0 (features_text (Many l.1.features)) sent) result)
     (expected_for o is.layers)
 
--- `stat` tells the summary of the topology that was built,
+-- `stat` reports the summary of the topology that was built; or there is no memory.
 abbrev pub StatIsNeverRefused : Type 0
 StatIsNeverRefused = (o : Options) (olds news : Sources) (sink_old sink_new : Drained) (report : Report) (is : IsBuilt o olds news sink_old sink_new report)
     (source after : Fed) (result : Result Summary FileFault) (from : IsWrittenTo sink_old sink_new source) → length from.bytes ≤ max_input
     → after.failures ≡ 0 → AnswersStat source after result → OrMemory (λ summary. summary ≡ summary_of (written_for o is.layers)) result
 
--- and `simplify` writes at each threshold and ring limit the text of what is left of that topology, with its report; or there is no memory.
+-- `simplify` writes at each threshold and ring limit the text of what is left of the topology that was built, with its report; or there is no memory.
 abbrev pub SimplifyIsNeverRefused : Type 0
 SimplifyIsNeverRefused = (o : Options) (olds news : Sources) (sink_old sink_new : Drained) (report : Report) (is : IsBuilt o olds news sink_old sink_new report)
     (t limit : ℕ) (source after : Fed) (out_old out_new : Drained) (result : Result Report FileFault) (from : IsWrittenTo sink_old sink_new source) → length from.bytes ≤ max_input

@@ -1,4 +1,4 @@
--- The lines and rings that are told as dropped are those that the expected features lack.
+-- The lines and rings that are reported as dropped are those that the expected features lack.
 use Rattle.std.specs.Prelude.{◌≡◌, ℕ, Bool, List, map, Option, None, Some}
 use Rattle.build_meaning.specs.Expected.{kept_line, own_cause, rebuilt}
 use Rattle.geojson_types.specs.Features.{Shape}
@@ -20,7 +20,7 @@ pub record Judged : Type 0 where
 abbrev pub stroke_at : Placed Judged → Placed (Bool × List Point)
 stroke_at x = record { path = x.path; part = (x.part.closed, x.part.line) }
 
--- its cause with the way to it, if it is left out
+-- the cause of a line with the way to it, if it is left out
 abbrev pub cause_at : Placed Judged → Option (Placed Cause)
 cause_at x = map_some (λ c. record { path = x.path; part = c }) x.part.cause
 
@@ -29,7 +29,7 @@ abbrev pub stays_as : (Bool → List Point → List Point) → Option Cause → 
 stays_as given None closed line = Some (closed, given closed line)
 stays_as given (Some c) closed line = None
 
--- Each line of the shape, in reading order, is either told as dropped, or stands among the lines of what is left of the shape: never both,
+-- Each line of the shape, in reading order, is either reported as dropped, or stands among the lines of what is left of the shape: never both,
 -- and never neither.
 pub record LeavesOutWhatIsTold (lines : List Stroke) (t limit : ℕ) (s : Shape) : Type 0 where
   pub judged : List (Placed Judged)
@@ -38,6 +38,6 @@ pub record LeavesOutWhatIsTold (lines : List Stroke) (t limit : ℕ) (s : Shape)
   pub left : some_of (λ x. stays_as (rebuilt lines t) x.part.cause x.part.closed x.part.line) judged
       ≡ option_strokes (prune (λ p. p) (kept_line lines t limit) s)
 
--- so it is with each shape, whatever the lines are that cut it
+-- each line of a shape is either reported as dropped or left, whatever the shape is and whatever the lines are that cut it
 abbrev pub DropsAreTold : Type 0
 DropsAreTold = (lines : List Stroke) (t limit : ℕ) (s : Shape) → LeavesOutWhatIsTold lines t limit s

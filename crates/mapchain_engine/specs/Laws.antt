@@ -19,7 +19,7 @@ use Rattle.reports.specs.Summaries.{summary_of}
 use Rattle.topology_files.specs.Files.{IsSummarised}
 use Rattle.topology_simplifying.specs.Simplified.{IsSimplified}
 
--- A source has left what a build wrote to its sink behind what had been there.
+-- A source has left what a build wrote to its sink after what had been there.
 pub record IsWrittenTo (sink_old sink_new : Drained) (source : Fed) : Type 0 where
   pub before : List ℕ
   pub bytes : List ℕ
@@ -76,7 +76,7 @@ BuildsOneText = (o : Options) (olds news : Sources) (sink_old sink_new : Drained
     (more_olds more_news : Sources) (more_old more_new : Drained) (more_report : Report) (other : IsBuilt o more_olds more_news more_old more_new more_report)
     → HaveSameBytes olds more_olds → (one.text ≡ other.text) × (report ≡ more_report)
 
--- The same of another build of the same bytes on the same grid, as exact.
+-- What is simplified of a build is what another build of its bytes on its grid, as exact, writes.
 abbrev pub SimplifiesToBuiltOfSame : Type 0
 SimplifiesToBuiltOfSame = (o p : Options) (olds news : Sources) (sink_old sink_new : Drained) (report : Report) (full : IsBuilt o olds news sink_old sink_new report)
     (more_olds more_news : Sources) (more_old more_new : Drained) (more_report : Report) (small : IsBuilt p more_olds more_news more_old more_new more_report)

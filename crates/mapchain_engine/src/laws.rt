@@ -26,13 +26,13 @@ pub fn built_text_decodes_back()
     one_value();
 }
 
-/// What `build` wrote, if it is no more than `MAX_INPUT` bytes, comes to what is expected: `to_geo` with the name of a layer, `stat` and
-/// `simplify` answer just that by their contracts, unless memory or a device fails.
+/// What `build` wrote, if it is no more than `MAX_INPUT` bytes, gives what is expected: `to_geo` with the name of a layer, `stat` and
+/// `simplify` answer exactly that by their contracts, unless memory or a device fails.
 pub fn built_text_comes_back()
     ensures { ComesBack }
 {}
 
-/// So what `build` wrote is never refused: on no more than `MAX_INPUT` bytes of it, and where no device has failed, whatever `to_geo`,
+/// What `build` wrote is never refused: on no more than `MAX_INPUT` bytes of it, and where no device has failed, whatever `to_geo`,
 /// `stat` and `simplify` answer by their contracts is `Ok`, with the features that are expected of a layer, the summary of the topology
 /// that was built, or what is left of it by threshold and ring limit; or it is `Memory`.
 pub fn built_text_is_never_refused()
@@ -52,7 +52,7 @@ pub fn built_at_zero_loses_nothing()
     read_layers_are_taken();
 }
 
-/// Of what `build` wrote, `stat` tells the summary of the topology that is built of the layers.
+/// Of what `build` wrote, `stat` reports the summary of the topology that is built of the layers.
 pub fn built_text_is_summarised()
     ensures { SummarisesBack }
 {
@@ -71,7 +71,7 @@ pub fn simplified_text_is_built()
     read_layers_are_taken();
 }
 
-/// The same bytes under the same names, built with the same options, give the same text and the same report.
+/// Equal bytes under equal names, built with equal options, give one text and one report.
 pub fn same_bytes_build_one_text()
     ensures { BuildsOneText }
 {
@@ -88,8 +88,8 @@ pub fn simplified_text_is_built_of_same_bytes()
     read_layers_are_the_outcome();
 }
 
-/// What is expected of a layer and what is told as dropped of it are two walks over the same features, and they agree: each line and ring,
-/// in reading order, is either told as dropped, by its place, or stands among the lines of what is left.
+/// What is expected of a layer and what is reported as dropped of it are two walks over the same features, and they agree: each line and ring,
+/// in reading order, is either reported as dropped, by its place, or stands among the lines of what is left.
 #[tactic(auto, using(crate::proofs::Dropping::leaves_out))]
 pub fn dropped_lines_are_told()
     ensures { DropsAreTold }

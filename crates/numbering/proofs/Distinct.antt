@@ -1,4 +1,4 @@
--- Lists of different keys, and one key more behind them.
+-- Lists of different keys, and one key more after them.
 use Rattle.std.proofs.Common.{◌≡◌, ◌≢◌, ℕ, zero, suc, ◌<◌, Bool, true, false, ◌||◌, cond, List, [], ◌∷◌, ◌++◌, length, get_or, position, Option, None, Some, Result, Ok, Err, IfOk, IfSome, IfNone, slice_get, ◌⊎◌, inl, inr, refl, ap, sym, ◌∙◌, subst, arith}
 use Rattle.std.specs.List.{AllByRecursion, list_any, position_or_len}
 use Rattle.std.specs.BTreeMap.{BTreeMap, get, Updates}
@@ -17,7 +17,7 @@ use Rattle.numbering.specs.declared.slots.Search.{Search}
 use Rattle.numbering.specs.declared.slots.Search.TheVariants.{Free, Full}
 
 module _ {K : Type 0} where
-  -- ---- the elements of a list with one more behind it
+  -- ---- the elements of a list with one more after it
   pub get_front : (ps : List K) (p q : K) (k : ℕ) → slice_get ps k ≡ Some q → slice_get (ps ++ (p ∷ [])) k ≡ Some q
   get_front [] p q k e = cc
   get_front (r ∷ ps) p q zero e = e

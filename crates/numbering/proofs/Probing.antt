@@ -6,7 +6,7 @@ use Rattle.numbering.specs.Slots.{home, next, AreTaken, StandsBehind, IsTaken, I
 use Rattle.numbering.proofs.Distinct.{get_more}
 use Rattle.numbering.specs.declared.slots.TheConstants.{EMPTY, REACH}
 
--- the search for a key came to this slot, behind so many that are taken, and it finds the key's number from there
+-- the search for a key reached this slot, after so many that are taken, and it finds the key's number from there
 pub record Passed {K : Type 0} (hash : K → ℕ) (ks : List K) (slots : List ℕ) (k : K) (step : ℕ) (slot : ℕ) : Type 0 where
   pub within : slot < length slots
   pub taken : AreTaken slots (home (length slots) (hash k)) step slot
@@ -52,7 +52,7 @@ module _ {K : Type 0} (hash : K → ℕ) (ks : List K) (slots : List ℕ) (k : K
   empty_ends m i reach at (zero, within, here) = let e : Some EMPTY ≡ Some m = sym at ∙ here in cc
   empty_ends m i reach at (suc d, within, behind) = absurd (behind.0 at)
 
-  -- behind the slots of a search comes an empty one
+  -- after the slots of a search comes an empty one
   pub absent_at : length ks ≤ EMPTY → (step slot : ℕ) → Passed hash ks slots k step slot → slice_get slots slot ≡ Some EMPTY → IsAbsent ks k
   absent_at few step slot passed at n e =
       let is : n ≡ EMPTY = empty_ends n slot (REACH - step) at (passed.found n e) in

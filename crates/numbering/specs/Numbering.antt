@@ -11,7 +11,7 @@ use Rattle.numbering.specs.Slots.{IsIndex, IsAbsent}
 abbrev pub is_member : {K : Type 0} → (K → K → Bool) → List K → K → Bool
 is_member same ks k = list_any (same k) ks
 
--- one key more, behind the others if it is new
+-- one key more, after the others if it is new
 abbrev pub with_key : {K : Type 0} → (K → K → Bool) → List K → K → List K
 with_key same ks k = if is_member same ks k then ks else ks ++ (k ∷ [])
 

@@ -8,7 +8,7 @@ use Rattle.numbering.specs.declared.slots.Search.TheVariants.{Found, Free, Full}
 unfoldable pub home : ℕ → ℕ → ℕ
 home slots hash = hash * slots / 2 ^ 64
 
--- the slot behind this one, of so many
+-- the slot after this one, of so many
 unfoldable pub next : ℕ → ℕ → ℕ
 next slots i = if i + 1 == slots then 0 else i + 1
 
@@ -21,7 +21,7 @@ abbrev pub AreTaken : List ℕ → ℕ → ℕ → ℕ → Type 0
 AreTaken slots i zero j = i ≡ j
 AreTaken slots i (suc d) j = IsTaken slots i × AreTaken slots (next (length slots) i) d j
 
--- from the slot on so many are taken, and behind them stands the number
+-- from the slot on so many are taken, and after them stands the number
 abbrev pub StandsBehind : List ℕ → ℕ → ℕ → ℕ → Type 0
 StandsBehind slots number i zero = slice_get slots i ≡ Some number
 StandsBehind slots number i (suc d) = IsTaken slots i × StandsBehind slots number (next (length slots) i) d
@@ -30,7 +30,7 @@ StandsBehind slots number i (suc d) = IsTaken slots i × StandsBehind slots numb
 abbrev pub IsFoundFrom : List ℕ → ℕ → ℕ → ℕ → Type 0
 IsFoundFrom slots number i reach = (d : ℕ) × (d < reach) × StandsBehind slots number i d
 
--- the slot is empty, and behind the home of a key with this hash within reach
+-- the slot is empty, and after the home of a key with this hash within reach
 abbrev pub IsFreeFor : List ℕ → ℕ → ℕ → Type 0
 IsFreeFor slots hash i = (slice_get slots i ≡ Some EMPTY) × ((d : ℕ) × (d < REACH) × AreTaken slots (home (length slots) hash) d i)
 
@@ -52,7 +52,7 @@ stands_at same ks number k = same_option same (slice_get ks number) k
 abbrev pub IsAbsent : {K : Type 0} → List K → K → Type 0
 IsAbsent ks k = (n : ℕ) → slice_get ks n ≢ Some k
 
--- what a search tells of a key is so
+-- what a search finds of a key is so
 abbrev pub TellsOf : {K : Type 0} → (K → ℕ) → List K → List ℕ → K → Search → Type 0
 TellsOf hash ks slots k (Found number) = slice_get ks number ≡ Some k
 TellsOf hash ks slots k (Free i) = IsAbsent ks k × IsFreeFor slots (hash k) i

@@ -15,7 +15,7 @@ use std::marker::Model;
 pub struct Numbering<K: Key> {
     /// Each key at its number.
     keys: Vec<K>,
-    /// The numbers, each in a slot that the hash of its key tells, or close behind it.
+    /// The numbers, each in a slot that the hash of its key gives, or close after it.
     slots: Vec<u32>,
     /// The numbers again, once a key found no slot close enough, as many do where keys are chosen for equal hashes. They are
     /// no longer looked for in slots then.
@@ -37,11 +37,11 @@ impl<K: Key> Model for Numbering<K> {
 }
 
 impl<K: Key> Numbering<K> {
-    /// No keys yet, with slots for so many calls of `number`. Behind more of them it takes longer to find a key.
+    /// No keys yet, with slots for so many calls of `number`. After more of them it takes longer to find a key.
     pub fn with_room(alloc: Global, calls: usize) -> Result<Numbering<K>, Memory>
         ensures { IfOk result (λ numbering. numbering ≡ []) }
     {
-        // At most half of the slots are taken, so that few numbers stand far behind their homes.
+        // At most half of the slots are taken, so that few numbers stand far after their homes.
         let slots = calls.saturating_mul(2).saturating_add(1);
         Ok(Numbering {
             // Most positions of a map, and most ends of arcs, come twice.

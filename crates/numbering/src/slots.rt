@@ -11,7 +11,7 @@ pub const EMPTY: u32 = u32::MAX;
 /// How many slots are looked at for a key, from its home on.
 pub const REACH: usize = 256;
 
-/// What a search among the slots tells of a key.
+/// What a search among the slots finds of a key.
 #[derive(Clone, Copy)]
 pub enum Search {
     /// It has this number.
@@ -61,7 +61,7 @@ fn home(slots: usize, hash: u64) -> usize
     (hash as u128 * slots as u128 >> 64) as usize
 }
 
-// The slot behind this one, of so many.
+// The slot after this one, of so many.
 fn next(slots: usize, slot: usize) -> usize
     requires { slot < slots }
     ensures next { result ≡ spec.next slots slot }

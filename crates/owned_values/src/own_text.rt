@@ -27,7 +27,7 @@ impl OwnText {
         OwnText { text }
     }
 
-    /// The same text once more, in memory of its own.
+    /// A copy of the text, in memory of its own.
     pub fn copy(&self, alloc: Global) -> Result<OwnText, Memory>
         ensures { IfOk result (λ t. t ≡ self.now) }
     {

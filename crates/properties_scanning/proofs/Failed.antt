@@ -18,7 +18,7 @@ pub copies_on : {A B : Type 0} (part : Parse A) (one : A → List ℕ) (whole : 
 copies_on part one whole all inside bytes old mid new found none (Ok rest) c = found rest c
 copies_on part one whole all inside bytes old mid new found none (Err e) c = none e c
 
--- the same of a word
+-- a word that is copied, and then more, is the whole
 pub word_on : {B : Type 0} (word : List ℕ) (whole : Parse B) (all : B → List ℕ) (bytes old new : List ℕ)
     → ((rest : Bor (List ℕ)) → bytes ≡ word ++ rest.now → new ≡ old ++ word → Copies whole all bytes rest.now old new) → ((e : Fault) → Fails e (after_word word bytes) → Fails e (whole bytes))
     → (answer : Answer) → MatchResult answer (λ rest. (bytes ≡ word ++ rest.now) × (new ≡ old ++ word)) (λ e. Fails e (after_word word bytes)) → CopiesOr whole all bytes old new answer
@@ -38,7 +38,7 @@ module _ (d b : ℕ) (bytes inside : List ℕ) (first : bytes ≡ b ∷ inside) 
   unfolding word_at after_word
   false_fails is e h = rw (at_f any d b bytes inside first is) (first_fails (after_word (codes "alse") inside) _ e (rw (first, is) at h))
 
--- a string behind its quotation mark
+-- a string after its quotation mark
 pub inside_fails : (bytes inside : List ℕ) → bytes ≡ 34 ∷ inside → (e : Fault) → Fails e (string_at any inside) → Fails e (name_at any bytes)
 unfolding name_at after_word
 inside_fails bytes inside first e h = rw first h

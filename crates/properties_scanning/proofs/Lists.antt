@@ -11,7 +11,7 @@ use Rattle.json_reading.proofs.StringLoop.{with_front}
 use Rattle.properties_scanning.specs.Copying.{Copies}
 
 module _ {A : Type 0} (close : ℕ) (item : Parse A) (written : A → List ℕ) where
-  -- what is written for each, and a comma behind it
+  -- what is written for each, and a comma after it
   abbrev pub trailing : List A → List ℕ
   trailing [] = []
   trailing (x ∷ xs) = written x ++ (44 ∷ trailing xs)
@@ -32,7 +32,7 @@ module _ {A : Type 0} (close : ℕ) (item : Parse A) (written : A → List ℕ) 
   abbrev pub list_text : List A → List ℕ
   list_text xs = comma_separated (map written xs) ++ close ∷ []
 
-  -- the things that were copied so far, each with a comma behind it, and how more of them go on
+  -- the things that were copied so far, each with a comma after it, and how more of them go on
   pub record SoFar (n i : ℕ) (inside rest start now : List ℕ) : Type 0 where
     pub things : List A
     pub joins : with_front things (list_at close item (n - i) rest) ≡ list_at close item n inside

@@ -40,7 +40,7 @@ plain_escaped : (t : List ℕ) → AllByRecursion (λ b. is_plain b ≡ true) t 
 plain_escaped [] h = refl
 plain_escaped (b ∷ t) h = rw (plain_stays b h.0) (ap (λ z. b ∷ z) (plain_escaped t h.1))
 
--- a string of such bytes, behind its first quotation mark
+-- a string of such bytes, after its first quotation mark
 pub plain_string : (t rest : List ℕ) → AllByRecursion (λ b. is_plain b ≡ true) t → IsUtf8 t → string_at any (t ++ 34 ∷ rest) ≡ Some (t, rest)
 plain_string t rest h utf8 = string_again any t t rest (plain_spells t h) (is_utf8-from_IsUtf8 t utf8)
 

@@ -16,7 +16,7 @@ use Rattle.properties_scanning.proofs.Copied.{null_copied, true_copied, false_co
 use Rattle.properties_scanning.proofs.Lists as lists
 use Rattle.properties_scanning.proofs.Quoted.{plain_quoted}
 
--- what is written behind nothing is written so behind any text
+-- what is written after nothing is written so after any text
 shifted : {A : Type 0} (read : Parse A) (written : A → List ℕ) (bytes rest old new : List ℕ) → Copies read written bytes rest [] new → Copies read written bytes rest old (old ++ new)
 shifted read written bytes rest old new c = record { thing = c.thing; found = c.found; text = ap (λ z. old ++ z) c.text }
 
@@ -132,7 +132,7 @@ member_spans d bytes name_end behind rest n colon v =
 mark_is : (b : ℕ) (behind more : List ℕ) → behind ≡ b ∷ more → is_space b ≡ false → skip behind ≡ b ∷ more
 mark_is b behind more h k = no_space b behind more h k ∙ h
 
--- the same bytes are left as long as nothing was passed, and then there was no white space before what was passed first
+-- all bytes are left as long as nothing was passed, and then there was no white space before what was passed first
 abbrev pub First : ℕ → List ℕ → List ℕ → Type 0
 First zero inside rest = rest ≡ inside
 First (suc i) inside rest = skip inside ≡ inside
@@ -142,7 +142,7 @@ passed_first zero inside rest h k = subst (λ z. skip z ≡ z) h k
 passed_first (suc i) inside rest h k = h
 
 module _ {A : Type 0} (close : ℕ) (item : Parse A) (written : A → List ℕ) where
-  -- the things so far stand as they are written, with a comma behind each
+  -- the things so far stand as they are written, with a comma after each
   pub record SpansSoFar (n i : ℕ) (inside rest : List ℕ) : Type 0 where
     pub now : List ℕ
     pub so_far : lists.SoFar close item written n i inside rest [] now

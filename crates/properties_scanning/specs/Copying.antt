@@ -22,21 +22,21 @@ is_simple b = nat_le b 127 && is_plain b
 abbrev pub whole_member : List ℕ × Json → List ℕ
 whole_member m = member_text (m.0, json_text m.1)
 
--- the elements of an array behind its bracket, as they are written
+-- the elements of an array after its bracket, as they are written
 abbrev pub elements_text : List Json → List ℕ
 elements_text vs = comma_separated (map json_text vs) ++ codes "]"
 
--- the members of an object behind its brace, as they are written
+-- the members of an object after its brace, as they are written
 abbrev pub members_text : List (List ℕ × Json) → List ℕ
 members_text ms = comma_separated (map whole_member ms) ++ codes "}"
 
--- A thing stands at the front of the bytes, and then the rest. What is written for it was put behind the old text.
+-- A thing stands at the front of the bytes, and then the rest. What is written for it was put after the old text.
 pub record Copies {A : Type 0} (read : Parse A) (written : A → List ℕ) (bytes rest old new : List ℕ) : Type 0 where
   pub thing : A
   pub found : read bytes ≡ Some (thing, rest)
   pub text : new ≡ old ++ written thing
 
--- the same, and what stands behind it; or nothing of that kind stands there, or nothing is said
+-- what stands at the front is copied, and this follows it; or nothing of that kind stands there, or nothing is said
 abbrev pub CopiesOr : {A : Type 0} → Parse A → (A → List ℕ) → List ℕ → List ℕ → List ℕ → Result (Bor (List ℕ)) Fault → Type 0
 CopiesOr read written bytes old new (Ok rest) = Copies read written bytes rest.now old new
 CopiesOr read written bytes old new (Err fault) = Fails fault (read bytes)

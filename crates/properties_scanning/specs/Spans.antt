@@ -9,7 +9,7 @@ pub record Spans {A : Type 0} (read : Parse A) (written : A → List ℕ) (bytes
   pub splits : bytes ≡ span ++ rest
   pub copied : Copies read written bytes rest [] span
 
--- the same, with no white space before it
+-- This text stands at the front with no white space before it, and then the rest. It is what is written for what is read of it.
 pub record SpansFirst {A : Type 0} (read : Parse A) (written : A → List ℕ) (bytes rest : List ℕ) : Type 0 where
   pub spans : Spans read written bytes rest
   pub first : skip bytes ≡ bytes

@@ -85,7 +85,7 @@ pub(crate) fn behind_value(deepest: u32, bytes: &[u8]) -> Option<&[u8]>
     Some(rest)
 }
 
-/// The same of the elements of an array, behind its bracket.
+/// What follows the elements of an array after its bracket, where they stand as they are written.
 #[cycle(spanning)]
 fn behind_array(deepest: u32, inside: &[u8]) -> Option<&[u8]>
     ensures { IfSome result (λ rest. Spans (reading.array_at any deepest) elements_text inside.now rest.now) }
@@ -97,7 +97,7 @@ fn behind_array(deepest: u32, inside: &[u8]) -> Option<&[u8]>
     Some(rest)
 }
 
-/// The same, of one element or more.
+/// What follows one element or more of an array, where they stand as they are written.
 #[cycle(spanning)]
 fn behind_elements(deepest: u32, inside: &[u8]) -> Option<&[u8]>
     ensures { IfSome result (λ rest. SpansFirst (reading.elements_at any deepest (length inside.now)) elements_text inside.now rest.now) }
@@ -117,7 +117,7 @@ fn behind_elements(deepest: u32, inside: &[u8]) -> Option<&[u8]>
     None
 }
 
-/// The same of the members of an object, behind its brace.
+/// What follows the members of an object after its brace, where they stand as they are written.
 #[cycle(spanning)]
 fn behind_object(deepest: u32, inside: &[u8]) -> Option<&[u8]>
     ensures { IfSome result (λ rest. Spans (reading.object_at any deepest) members_text inside.now rest.now) }
@@ -129,7 +129,7 @@ fn behind_object(deepest: u32, inside: &[u8]) -> Option<&[u8]>
     Some(rest)
 }
 
-/// The same, of one member or more.
+/// What follows one member or more of an object, where they stand as they are written.
 #[cycle(spanning)]
 fn behind_members(deepest: u32, inside: &[u8]) -> Option<&[u8]>
     ensures { IfSome result (λ rest. SpansFirst (reading.members_at any deepest (length inside.now)) members_text inside.now rest.now) }
@@ -149,7 +149,7 @@ fn behind_members(deepest: u32, inside: &[u8]) -> Option<&[u8]>
     None
 }
 
-/// The same of a member.
+/// What follows a member, where it stands as it is written.
 #[cycle(spanning)]
 fn behind_member(deepest: u32, bytes: &[u8]) -> Option<&[u8]>
     ensures { IfSome result (λ rest. SpansFirst (reading.member_at any (reading.value_at any deepest)) whole_member bytes.now rest.now) }

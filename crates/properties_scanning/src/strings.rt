@@ -33,7 +33,7 @@ fn simple_len(bytes: &[u8]) -> usize
     bytes.len()
 }
 
-/// Puts the string that is written for the characters behind the text.
+/// Puts the string that is written for the characters after the text.
 fn push_quoted(alloc: Global, characters: &str, text: &mut Vec<u8>) -> Result<(), Fault>
     ensures { MatchResult result (λ _. text.new.items ≡ text.old.items ++ quoted characters.now) (λ fault. fault ≡ Memory) }
 {
@@ -46,7 +46,7 @@ fn push_quoted(alloc: Global, characters: &str, text: &mut Vec<u8>) -> Result<()
     Ok(())
 }
 
-/// Copies a string with escapes, behind its first quotation mark, by its characters.
+/// Copies a string with escapes, after its first quotation mark, by its characters.
 fn copy_escaped<'a>(alloc: Global, inside: &'a [u8], text: &mut Vec<u8>) -> Result<&'a [u8], Fault>
     ensures { CopiesOr (string_front any) quoted inside.now text.old.items text.new.items result }
 {
@@ -55,7 +55,7 @@ fn copy_escaped<'a>(alloc: Global, inside: &'a [u8], text: &mut Vec<u8>) -> Resu
     Ok(rest)
 }
 
-/// Copies a string behind its first quotation mark: at once, where no escape is in it.
+/// Copies a string after its first quotation mark: at once, where no escape is in it.
 fn copy_characters<'a>(
     alloc: Global,
     inside: &'a [u8],

@@ -78,7 +78,7 @@ pub fn copy_value<'a>(
     copy_number(bytes, text)
 }
 
-/// Copies the elements of an array behind its bracket, and gives what follows it.
+/// Copies the elements of an array after its bracket, and gives what follows it.
 #[cycle(copier)]
 fn copy_array<'a>(
     alloc: Global,
@@ -95,7 +95,7 @@ fn copy_array<'a>(
     copy_elements(alloc, deepest, inside, text)
 }
 
-/// The same, of one element or more.
+/// Copies one element or more of an array and the bracket after them, and gives what follows it.
 #[cycle(copier)]
 fn copy_elements<'a>(
     alloc: Global,
@@ -124,7 +124,7 @@ fn copy_elements<'a>(
     Err(broken(rest))
 }
 
-/// Copies the members of an object behind its brace, and gives what follows it.
+/// Copies the members of an object after its brace, and gives what follows it.
 #[cycle(copier)]
 fn copy_object<'a>(
     alloc: Global,
@@ -141,7 +141,7 @@ fn copy_object<'a>(
     copy_members(alloc, deepest, inside, text)
 }
 
-/// The same, of one member or more.
+/// Copies one member or more of an object and the brace after them, and gives what follows it.
 #[cycle(copier)]
 fn copy_members<'a>(
     alloc: Global,

@@ -14,7 +14,7 @@ cause_text Collapsed = codes "collapsed"
 cause_text Small = codes "small"
 cause_text Outer = codes "outer"
 
--- the numbers behind the first, each behind a point
+-- the numbers after the first, each after a point
 abbrev pub path_rest : List ℕ → List ℕ
 path_rest [] = []
 path_rest (n ∷ ns) = (codes "." ++ decimal n) ++ path_rest ns
@@ -42,7 +42,7 @@ counts_text r =
     ((line_text (codes "rounded") r.counts.rounded ++ line_text (codes "extra") r.counts.extra) ++ line_text (codes "empty") r.counts.empty)
     ++ line_text (codes "dropped") (length r.dropped)
 
--- the arcs, the positions in them, and those that were taken out of them
+-- the arcs, the positions in them, and those that were removed from them
 abbrev pub arcs_text : Report → List ℕ
 arcs_text r = (line_text (codes "arcs") r.arcs ++ line_text (codes "kept") r.kept) ++ line_text (codes "removed") r.removed
 

@@ -1,4 +1,4 @@
-//! What is told beside a topology: the report of a build and the summary of a topology, and their texts. It stands on
+//! What is said beside a topology: the report of a build and the summary of a topology, and their texts. It stands on
 //! `topojson_types`, whose topologies are counted, on `geojson_types` for what is dropped, and on `json_value` and `byte_ends` for
 //! writing. The engine uses `summary_of` and `report_of`, and a program `report_text` and `summary_text`.
 #![tactic(auto)]

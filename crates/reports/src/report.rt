@@ -1,4 +1,4 @@
-// What building tells beside the topology.
+// What building reports beside the topology.
 use geojson_types::{Counts, Dropped};
 use json_value::Items;
 
@@ -13,7 +13,7 @@ pub struct Report {
     pub arcs: u64,
     /// Positions in these arcs.
     pub kept: u64,
-    /// Positions that were taken out of these arcs.
+    /// Positions that were removed from these arcs.
     pub removed: u64,
     /// The threshold that was chosen where a share was asked for: twice an area, in square units.
     pub chosen: Option<u128>,

@@ -42,7 +42,7 @@ fn put_cause<W: Drain>(cause: Cause, so_far: Progress, sink: &mut Sink<W>) -> Pr
     }
 }
 
-/// Writes a number of a path behind a point.
+/// Writes a number of a path after a point.
 fn put_next<W: Drain>(number: usize, so_far: Progress, sink: &mut Sink<W>) -> Progress
     ensures { Continues sink.old sink.new so_far (codes "." ++ decimal number) result }
 {

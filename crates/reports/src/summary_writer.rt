@@ -30,7 +30,7 @@ fn put_grid<W: Drain>(grid: bool, so_far: Progress, sink: &mut Sink<W>) -> Progr
     }
 }
 
-/// Writes the lines behind those of the objects.
+/// Writes the lines after those of the objects.
 fn put_totals<W: Drain>(summary: &Summary, so_far: Progress, sink: &mut Sink<W>) -> Progress
     ensures { Continues sink.old sink.new so_far (spec.totals_text summary.now) result }
 {

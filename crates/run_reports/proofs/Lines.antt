@@ -45,7 +45,7 @@ pub blank-kept : (text : List ℕ) (r : Option (Bor (List ℕ))) → r ≡ None
     → text ≡ without_blank text
 blank-kept text r is cases = kept text (strip_prefix_char 32 text None (rw is at cases) (omega arith))
 
--- what is written of the text behind the last line feed
+-- what is written of the text after the last line feed
 pub rest-none : (is_first : Bool) (text : List ℕ) → (length text == 0) ≡ true → with_commas is_first (map line_text (one_line text)) ≡ []
 rest-none is_first [] e = refl
 rest-none is_first (b ∷ text) e = absurd (omega (arith, eqb-true _ _ e))
@@ -66,12 +66,12 @@ next-line is_first text r line behind is split =
     ∙ ap (list_left line_text (codes "]") is_first) (first-line line.now behind.now parts.1)
     ∙ regrouped (comma_unless is_first) (line_text line.now) (with_commas false (map line_text (lines_of behind.now))) (codes "]")
 
--- behind the last line feed
+-- after the last line feed
 pub no-further-line : (is_first : Bool) (text : List ℕ) (r : Option (Bor (List ℕ) × Bor (List ℕ))) → r ≡ None → IsSplitOnceResult 10 text r
     → list_left line_text (codes "]") is_first (lines_of text) ≡ with_commas is_first (map line_text (one_line text)) ++ codes "]"
 no-further-line is_first text r is split = ap (list_left line_text (codes "]") is_first) (last-line text (split_parts 10 text None (rw is at split) (omega arith)))
 
--- what is behind a line is shorter
+-- what is after a line is shorter
 pub shorter : (text : List ℕ) (r : Option (Bor (List ℕ) × Bor (List ℕ))) (line behind : Bor (List ℕ)) → r ≡ Some (line, behind) → IsSplitOnceResult 10 text r
     → length behind.now < length text
 shorter text r line behind is split =

@@ -45,7 +45,7 @@ report-text rounded extra empty dropped arcs kept removed chosen = text-object _
     ∷ (codes ",\"dropped\":", json_text dropped) ∷ (codes ",\"arcs\":", json_text arcs) ∷ (codes ",\"kept\":", json_text kept)
     ∷ (codes ",\"removed\":", json_text removed) ∷ (codes ",\"chosen\":", json_text chosen) ∷ []) (codes "}"))
 
--- the object of a run, with a line feed behind it
+-- the object of a run, with a line feed after it
 pub run-text : (status fault report explanation : Json)
     → json_text (j.Object ((codes "status", status) ∷ (codes "fault", fault) ∷ (codes "report", report) ∷ (codes "explanation", explanation) ∷ [])) ++ codes "\n"
     ≡ in_row ((codes "{\"status\":", json_text status) ∷ (codes ",\"fault\":", json_text fault)

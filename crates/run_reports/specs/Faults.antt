@@ -1,4 +1,4 @@
--- What is told of a fault: its code, its name, and the numbers that it has.
+-- What is said of a fault: its code, its name, and the numbers that it has.
 use Rattle.std.specs.Prelude.{ℕ, List, codes, Option, None, Some}
 use Rattle.byte_ends.specs.declared.source.ReadFault.{ReadFault}
 use Rattle.byte_ends.specs.declared.source.ReadFault.TheVariants as read

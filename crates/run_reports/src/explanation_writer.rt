@@ -18,7 +18,7 @@ fn without_blank(text: &str) -> &str
     }
 }
 
-/// Writes a line without its indent, behind a comma unless it is the first.
+/// Writes a line without its indent, after a comma unless it is the first.
 fn put_line<W: Drain>(line: &str, is_first: bool, so_far: Progress, sink: &mut Sink<W>) -> Progress
     ensures { Continues sink.old sink.new so_far (comma_unless is_first ++ json_text (spec.line_value line.now)) result }
 {
@@ -26,7 +26,7 @@ fn put_line<W: Drain>(line: &str, is_first: bool, so_far: Progress, sink: &mut S
     put_string(without_blank(without_blank(line)), so_far, sink)
 }
 
-/// Writes what stands behind the last line feed, if there is anything.
+/// Writes what stands after the last line feed, if there is anything.
 fn put_rest<W: Drain>(rest: &str, is_first: bool, so_far: Progress, sink: &mut Sink<W>) -> Progress
     ensures { Continues sink.old sink.new so_far (with_commas is_first (map spec.line_text (spec.one_line rest.now))) result }
 {

@@ -1,4 +1,4 @@
-// What is told of a fault: its code, its name, and the numbers that it has.
+// What is said of a fault: its code, its name, and the numbers that it has.
 ghost use Rattle.std.specs.Prelude.{◌≡◌, option_map};
 ghost use Rattle.run_reports.specs.Faults as spec;
 

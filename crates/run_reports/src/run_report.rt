@@ -1,4 +1,4 @@
-// What is told of a run.
+// What is said of a run.
 use inputs::{BuildFault, FileFault};
 use reports::Report;
 
@@ -15,7 +15,7 @@ pub enum RunFault<'a> {
     Memory,
 }
 
-/// What is told of a run.
+/// What is said of a run.
 #[derive(Clone, Copy)]
 pub struct RunReport<'a> {
     /// The exit status.

@@ -9,7 +9,7 @@ use crate::run_report::RunReport;
 use crate::value_writer::put_number_member;
 use byte_ends::{Drain, Sink, WriteFault, put_part};
 
-/// Writes the report of a run as a JSON object (RFC 8259) with no white space and a line feed behind it, and answers the number of bytes:
+/// Writes the report of a run as a JSON object (RFC 8259) with no white space and a line feed after it, and answers the number of bytes:
 /// the exit status, the fault with its code and its name, what was counted, and the explanation line by line, with null for what there
 /// is none of. This takes no memory.
 pub fn write_run_report<W: Drain>(

@@ -18,7 +18,7 @@ pub(crate) fn put_number<W: Drain>(number: u64, so_far: Progress, sink: &mut Sin
     put_part(buffer.format(number).as_bytes(), so_far, sink)
 }
 
-/// Writes these bytes and a whole number behind them.
+/// Writes these bytes and a whole number after them.
 pub(crate) fn put_number_member<W: Drain>(
     name: &[u8],
     number: u64,
@@ -31,7 +31,7 @@ pub(crate) fn put_number_member<W: Drain>(
     put_number(number, so_far, sink)
 }
 
-/// Writes these bytes and a whole number behind them, or null.
+/// Writes these bytes and a whole number after them, or null.
 pub(crate) fn put_optional_member<W: Drain>(
     name: &[u8],
     number: Option<u64>,

@@ -36,7 +36,7 @@ pub colon_fails : (fits : List ℕ → Bool) (value : Parse Json) (bs name after
 unfolding member_at
 colon_fails fits value bs name after named e h = rw named (first_fails (after_word (58 ∷ []) (skip after)) _ e h)
 
--- what follows a name, behind the quotation mark that opens it
+-- what follows a name, after the quotation mark that opens it
 pub name_passed : (fits : List ℕ → Bool) (bs rest : List ℕ) → after_word (34 ∷ []) bs ≡ Some rest → (answer : Answer) → Passes answer (string_at fits rest) → Passes answer (name_at fits bs)
 unfolding name_at
 name_passed fits bs rest quote answer h = rw quote h

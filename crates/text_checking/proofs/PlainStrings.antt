@@ -49,7 +49,7 @@ string_is t rest h = grind (arith, length-append t (34 ∷ rest), chars_are (len
 pub plain_string : (inside name rest : List ℕ) → EndsPlain inside name rest → string_at is_utf8 inside ≡ Some (name, rest)
 plain_string inside name rest h = ap (string_at is_utf8) h.0 ∙ string_is name rest h.1
 
--- a word, and a quotation mark (34) behind it
+-- a word, and a quotation mark (34) after it
 pub word_ends : (inside word quoted rest : List ℕ) → inside ≡ word ++ quoted → quoted ≡ 34 ∷ rest → simple word ≡ true → EndsPlain inside word rest
 word_ends inside word quoted rest h k plain = (h ∙ ap (λ z. word ++ z) k, plain)
 

@@ -9,7 +9,7 @@ abbrev pub Passes : {A : Type 0} → Result (Bor (List ℕ)) Fault → Option (A
 Passes {A} (Ok rest) read = (thing : A) × (read ≡ Some (thing, rest.now))
 Passes (Err fault) read = Fails fault read
 
--- the same of a whole text, which nothing follows
+-- A whole text is read, which nothing follows. Or nothing is read, unless memory ran out.
 abbrev pub Checks : {A : Type 0} → Result (Unit {0}) Fault → Option A → Type 0
 Checks {A} (Ok done) read = (thing : A) × (read ≡ Some thing)
 Checks (Err fault) read = Fails fault read

@@ -11,7 +11,7 @@ abbrev pub simple : List ℕ → Bool
 simple [] = true
 simple (b ∷ bs) = is_simple b && simple bs
 
--- behind only such bytes stands a quotation mark (34), and then the rest
+-- after only such bytes stands a quotation mark (34), and then the rest
 abbrev pub EndsPlain : List ℕ → List ℕ → List ℕ → Type 0
 EndsPlain inside text rest = (inside ≡ text ++ 34 ∷ rest) × (simple text ≡ true)
 

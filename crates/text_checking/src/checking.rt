@@ -25,7 +25,7 @@ fn document(alloc: Global, deepest: u32, bytes: &[u8]) -> Result<(), Fault>
     Ok(())
 }
 
-/// The same, behind at most one byte order mark (RFC 8259, section 8.1).
+/// A value with white space around it, and nothing else, after at most one byte order mark (RFC 8259, section 8.1).
 fn text_at(alloc: Global, deepest: u32, bytes: &[u8]) -> Result<(), Fault>
     ensures { Checks result (spec.text_at is_utf8 deepest bytes.now) }
 {
@@ -41,7 +41,7 @@ pub fn check(alloc: Global, bytes: &[u8], deepest: u32) -> Result<(), JsonFault>
     requires { deepest ≤ 255 }
     // Where nothing is wrong, the bytes spell a value.
     ensures read { OnOk result (IsUtf8 bytes.now × ((v : Value) × Reads deepest bytes.now v)) }
-    // What is wrong is told as `parse` tells it.
+    // What is wrong is reported as `parse` reports it.
     ensures utf8 { IfErr result (λ fault. SaysUtf8 bytes.now (Err fault)) }
     ensures none { IfErr result (λ fault. SpellsNothing deepest bytes.now (Err fault)) }
 {

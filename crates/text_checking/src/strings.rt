@@ -66,8 +66,8 @@ pub fn plain_at(inside: &[u8]) -> Option<(&[u8], &[u8])>
     None
 }
 
-/// What follows the string, behind its first quotation mark. Its text is made only where it has escapes or other characters than ASCII,
-/// and let go.
+/// What follows the string, after its first quotation mark. Its text is made only where it has escapes or other characters than ASCII,
+/// and freed.
 pub(crate) fn after_string<'a>(alloc: Global, bytes: &'a [u8]) -> Result<&'a [u8], Fault>
     ensures { Passes result (spec.string_at is_utf8 bytes.now) }
 {

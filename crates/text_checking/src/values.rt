@@ -50,7 +50,7 @@ pub fn after_value<'a>(alloc: Global, deepest: u32, bytes: &'a [u8]) -> Result<&
     after_number(bytes)
 }
 
-/// What follows the array, behind the bracket that opens it.
+/// What follows the array, after the bracket that opens it.
 #[cycle(passing)]
 fn after_array<'a>(alloc: Global, deepest: u32, bytes: &'a [u8]) -> Result<&'a [u8], Fault>
     ensures { Passes result (spec.array_at is_utf8 deepest bytes.now) }
@@ -61,7 +61,7 @@ fn after_array<'a>(alloc: Global, deepest: u32, bytes: &'a [u8]) -> Result<&'a [
     after_elements(alloc, deepest, bytes)
 }
 
-/// The same, of one element or more.
+/// What follows the array, from one of its elements on.
 #[cycle(passing)]
 fn after_elements<'a>(alloc: Global, deepest: u32, bytes: &'a [u8]) -> Result<&'a [u8], Fault>
     ensures { Passes result (spec.elements_at is_utf8 deepest (length bytes.now) bytes.now) }
@@ -84,7 +84,7 @@ fn after_elements<'a>(alloc: Global, deepest: u32, bytes: &'a [u8]) -> Result<&'
     Err(stopped(rest))
 }
 
-/// What follows the object, behind the brace that opens it.
+/// What follows the object, after the brace that opens it.
 #[cycle(passing)]
 fn after_object<'a>(alloc: Global, deepest: u32, bytes: &'a [u8]) -> Result<&'a [u8], Fault>
     ensures { Passes result (spec.object_at is_utf8 deepest bytes.now) }
@@ -95,7 +95,7 @@ fn after_object<'a>(alloc: Global, deepest: u32, bytes: &'a [u8]) -> Result<&'a 
     after_members(alloc, deepest, bytes)
 }
 
-/// The same, of one member or more.
+/// What follows the object, from one of its members on.
 #[cycle(passing)]
 fn after_members<'a>(alloc: Global, deepest: u32, bytes: &'a [u8]) -> Result<&'a [u8], Fault>
     ensures { Passes result (spec.members_at is_utf8 deepest (length bytes.now) bytes.now) }

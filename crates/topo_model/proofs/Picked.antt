@@ -1,4 +1,4 @@
--- Positions that are picked one after the other.
+-- Positions that are retained one after the other.
 use Rattle.std.proofs.Common.{arith, ◌≡◌, ℕ, ◌+◌, ◌<◌, ◌≤◌, List, [], ◌∷◌, ◌++◌, map, drop, length, get_or, slice_get, append_assoc, Some, sym, ap, ◌∙◌}
 use Rattle.std.proofs.lemmas.List.{drop_more}
 use Rattle.std.proofs.lemmas.Option.{slice_get_past, slice_get_within, get_or_from_slice_get}
@@ -7,7 +7,7 @@ use Rattle.geometry.specs.Points.{Point}
 use Rattle.lessened_topology.specs.Lessened.{picked, picked_arcs}
 use Rattle.list_laws.proofs.Lists.{drop_here}
 
--- what is picked so far, and what the numbers from one on still pick
+-- what is retained so far, and what the numbers from one on still retain
 abbrev pub Picks : List ℕ → List Point → ℕ → List Point → Type 0
 Picks ns ps i now = now ++ picked (drop i ns) ps ≡ picked ns ps
 

@@ -24,7 +24,7 @@ pub none_taken : (closed : Bool) (ps : List Point) (w : Waiting) (b : Bool) (ref
     → Drafts ((closed, ps) ∷ []) (λ of. draft_refs of closed ps) w refs w
 none_taken closed ps w b refs e h is of tail k = grind arith
 
--- and another the next
+-- a line or ring with enough positions takes the next
 pub one_taken : (closed : Bool) (ps : List Point) (w rest : Waiting) (b : Bool) (refs : List ℤ) → b ≡ is_short closed (clean ps) → b ≡ false
     → ((first : List ℤ) (behind : Waiting) → w ≡ first ∷ behind → (refs ≡ first) × (rest ≡ behind)) → Drafts ((closed, ps) ∷ []) (λ of. draft_refs of closed ps) w refs rest
 one_taken closed ps w rest b refs e h takes of tail k =

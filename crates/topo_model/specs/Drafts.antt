@@ -20,7 +20,7 @@ use Rattle.topojson_types.specs.Topologies.{TopoShape}
 abbrev pub RefsOf : Type 0
 RefsOf = Bool → List Point → List ℤ
 
--- those of the lines and rings that have enough positions from the first
+-- the arc indexes of the lines and rings that have enough positions from the first
 abbrev pub long_refs : RefsOf → List (Bool × List Point) → List (List ℤ)
 long_refs of [] = []
 long_refs of (b ∷ bs) = if is_short b.0 (clean b.1) then long_refs of bs else of b.0 b.1 ∷ long_refs of bs
@@ -54,7 +54,7 @@ objects_drafted of ls = map (λ l. (l.0, Many (map (feature_drafted of) l.1.feat
 
 -- ---- a walk
 
--- Where the waiting arc indexes are those of these lines and rings and of others behind, this is what is made of them, and the others
--- wait.
+-- Where the remaining arc indexes are those of these lines and rings and of others after, this is what is made of them, and the others
+-- remain.
 abbrev pub Drafts : {Y : Type 0} → List (Bool × List Point) → (RefsOf → Y) → List (List ℤ) → Y → List (List ℤ) → Type 0
 Drafts lines made waiting y rest = (of : RefsOf) (tail : List (List ℤ)) → waiting ≡ long_refs of lines ++ tail → (y ≡ made of) × (rest ≡ tail)

@@ -24,7 +24,7 @@ use topojson_types::{Cell, TopoObject, Topology};
 use topology_reduction::finish;
 
 /// The objects and the arcs of the topology of named layers over reduced arcs, without the arcs that no kept line uses, the lines
-/// and rings that are dropped, in reading order, and how many positions are taken out of the arcs that stay.
+/// and rings that are dropped, in reading order, and how many positions are removed from the arcs that stay.
 fn objects_and_arcs(
     alloc: Global,
     layers: Vec<(OwnText, Layer)>,
@@ -61,7 +61,7 @@ fn objects_and_arcs(
 /// The topology of named layers over the arcs of their lines, where of each arc the positions with these numbers are kept: a list
 /// for each arc, from its first position to its last. Lines and rings that are then left with too few positions,
 /// rings of which twice the area is under the limit (in square units), and arcs that no kept line uses are left out. With it come the
-/// lines and rings that are dropped, in reading order, and how many positions are taken out of the arcs that stay: a count that stays
+/// lines and rings that are dropped, in reading order, and how many positions are removed from the arcs that stay: a count that stays
 /// at `u64::MAX` where it would pass it.
 pub fn assemble(
     alloc: Global,

@@ -14,7 +14,7 @@ use std::alloc::Global;
 use std::marker::Model;
 use topojson_types::{ArcRef, Cell, TopoFeature, TopoObject, TopoShape};
 
-/// The arc indexes that a table has for lines and rings, in reading order, behind those that were taken.
+/// The arc indexes that a table has for lines and rings, in reading order, after those that were taken.
 #[derive(Drop)]
 struct Waiting<'a> {
     table: &'a Table,
@@ -30,7 +30,7 @@ impl<'a> Model for Waiting<'a> {
 }
 
 impl<'a> Waiting<'a> {
-    /// All of them.
+    /// The arc indexes of all lines and rings of a table.
     fn all(table: &'a Table) -> Waiting<'a>
         ensures { result ≡ table.now.refs }
     {
@@ -50,7 +50,7 @@ impl<'a> Waiting<'a> {
     }
 }
 
-/// The same arc indexes once more.
+/// A copy of the arc indexes.
 fn copied(alloc: Global, refs: &[ArcRef]) -> Result<Items<ArcRef>, Memory>
     ensures { IfOk result (λ copy. copy ≡ refs.now) }
 {
@@ -74,7 +74,7 @@ fn drafted_line(
     waiting.take(alloc)
 }
 
-/// The same of open lines in order.
+/// What stands for each of these open lines, in order.
 fn drafted_lines(
     alloc: Global,
     lines: &[Items<Position>],
@@ -89,7 +89,7 @@ fn drafted_lines(
     Ok(made)
 }
 
-/// The same of rings in order.
+/// What stands for each of these rings, in order.
 fn drafted_rings(
     alloc: Global,
     rings: &[Ring],
@@ -104,7 +104,7 @@ fn drafted_rings(
     Ok(made)
 }
 
-/// The same of the rings of polygons in order.
+/// What stands for each ring of these polygons, in order.
 fn drafted_areas(
     alloc: Global,
     areas: &[Items<Ring>],
@@ -160,7 +160,7 @@ fn drafted_shape(
     }
 }
 
-/// The same of a shape that may be null.
+/// The shape with its lines and rings replaced, if there is one.
 fn drafted_option(
     alloc: Global,
     shape: &Option<Shape>,
@@ -191,7 +191,7 @@ fn drafted_feature(
     })
 }
 
-/// The same of features in order.
+/// The features with the lines and rings of their shapes replaced, in order.
 fn drafted_features(
     alloc: Global,
     features: Vec<Feature>,
@@ -206,7 +206,7 @@ fn drafted_features(
     Ok(made)
 }
 
-/// The same of named layers, each of which becomes a collection.
+/// The named layers with their lines and rings replaced, each of which becomes a collection.
 fn drafted_layers(
     alloc: Global,
     layers: Vec<(OwnText, Layer)>,

@@ -27,7 +27,7 @@ fn picked_cells(
     Ok(Items::of(cells))
 }
 
-/// The same of each arc of the table by its own list.
+/// Of each arc of the table the cells of the positions with the numbers of its own list.
 pub fn picked_cells_of_all(
     alloc: Global,
     kept: &[Vec<usize>],

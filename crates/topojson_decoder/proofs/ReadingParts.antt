@@ -1,4 +1,4 @@
--- A value that is read by way of its text.
+-- A value that is read through its text.
 use Rattle.std.proofs.Common.{◌≡◌, ℕ, List, [], Some, Ok, Err, sym, subst, ◌∙◌}
 use Rattle.json_value.specs.declared.json.Json.{Json}
 use Rattle.json_reading.proofs.Steps.{pair_is}

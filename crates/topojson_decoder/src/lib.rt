@@ -1,4 +1,4 @@
-//! Decoding topologies (TopoJSON 1.0): where a user of topologies begins. `read_topology` reads a value by way of its text, which the
+//! Decoding topologies (TopoJSON 1.0): where a user of topologies begins. `read_topology` reads a value through its text, which the
 //! reader of `topojson_reader` takes. Beside it stand the GeoJSON features of an object, from `topojson_features`, the walk along arcs,
 //! from `topojson_walk`, and the types of `topojson_types`.
 #![tactic(auto)]

@@ -14,8 +14,8 @@ use topojson_types::Topology;
 
 /// The topology that a JSON value stands for (TopoJSON 1.0, section 2.1), with what was counted, or the first fault on the way through
 /// its `type`, `transform`, `arcs` and `objects`. Identifiers and properties stay unchanged. An empty array in place of a line,
-/// a ring, a polygon or coordinates is left out and counted; a geometry of which nothing is left is null. The value is read by way of
-/// its text, which takes memory for a while: that there is too little is told too where arrays and objects nest more than `u32::MAX` deep.
+/// a ring, a polygon or coordinates is left out and counted; a geometry of which nothing is left is null. The value is read through
+/// its text, which takes memory for a while: that there is too little is reported too where arrays and objects nest more than `u32::MAX` deep.
 pub fn read_topology(alloc: Global, value: Json) -> Result<(Topology, Counts), TopoFault>
     ensures topology { IfOk result (λ r. spec.topology value ≡ Ok (r.0, r.1)) }
     ensures fault { IfErr result (λ e. e ≢ Memory → spec.topology value ≡ Err e) }

@@ -43,7 +43,7 @@ last_there : {X : Type 0} (x : X) (xs : List X) → (y : X) × (last_of (x ∷ x
 last_there x [] = (x, refl)
 last_there x (y ∷ ys) = last_there y ys
 
--- the last of lists one behind another is that of the last, where each has two elements or more
+-- the last of lists one after another is that of the last, where each has two elements or more
 last_joined : (p : List Point) (ps : List (List Point)) (q : List Point) → AreLong ps → last_of (p ∷ ps) ≡ Some q → last_of (p ++ joined_behind_first ps) ≡ last_of q
 last_joined p [] q long h = ap last_of (append-nil p) ∙ ap (then_some last_of) h
 last_joined p ((a ∷ (b ∷ r)) ∷ ps) q long h = last_append p b (r ++ joined_behind_first ps) ∙ last_joined (a ∷ (b ∷ r)) ps q long.1 h

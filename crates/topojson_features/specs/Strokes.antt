@@ -20,7 +20,7 @@ pub record IsShape (t : Contents) (s : TopoShape) : Type 0 where
   pub strokes : AllByRecursion (IsStroke t) (pruning.strokes s)
   pub places : AllByRecursion (IsPlace t.transform) (valid.places s)
 
--- the same of a shape that may be null
+-- a shape of a valid topology, or none
 abbrev pub IsShapeOption : Contents → Option TopoShape → Type 0
 IsShapeOption t None = Unit {0}
 IsShapeOption t (Some s) = IsShape t s

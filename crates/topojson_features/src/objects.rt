@@ -60,7 +60,7 @@ fn feature(alloc: Global, topology: &Topology, feature: &TopoFeature) -> Result<
     Ok(Feature::of(id, properties, shape))
 }
 
-/// The same of the members of a collection.
+/// The features that the members of a collection stand for.
 fn members(
     alloc: Global,
     topology: &Topology,

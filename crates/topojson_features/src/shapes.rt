@@ -40,7 +40,7 @@ pub fn decoded(alloc: Global, topology: &Topology, shape: &TopoShape) -> Result<
     }
 }
 
-/// The same of a shape that may be null.
+/// The shape of positions that a shape of a topology stands for, if there is one.
 pub fn decoded_option(
     alloc: Global,
     topology: &Topology,

@@ -30,7 +30,7 @@ use Rattle.topojson_meaning.specs.Transforms.{transform_if}
 abbrev typed : List ℕ → List ℕ × Json
 typed name = (codes "type", j.Text name)
 
--- a topology with these members behind its type
+-- a topology with these members after its type
 abbrev topology_with : Members → Json
 topology_with ms = j.Object (typed (codes "Topology") ∷ ms)
 
@@ -117,7 +117,8 @@ row_curve = object_fault curve UnknownType (simp (j.outs-Object, j.outs-Text))
 abbrev line_string : List Json → Json
 line_string vs = j.Object (typed (codes "LineString") ∷ ((codes "arcs", j.Array vs) ∷ []))
 
--- the elements of a LineString, and the fault of the topology: an arc that does not meet the one before is told before the next element is looked at
+-- the elements of a LineString, and the fault of the topology: an arc that does not meet the one before is reported before the next element
+-- is looked at
 abbrev line_faults : List (List Json × TopoFault)
 line_faults =
     (j.Number (codes "0.5") ∷ [], WrongKind)

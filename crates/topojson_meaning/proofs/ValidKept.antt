@@ -59,7 +59,7 @@ module _ (transform : Option Transform) (arcs : List (List Point)) where
     pub places : AllByRecursion (IsPlace transform) (places s)
     pub strokes : AllByRecursion (IsStroke arcs) (strokes s)
 
-  -- and it is no collection
+  -- a sound shape that is no collection
   abbrev pub IsSingle : TopoShape → Type 0
   IsSingle s = IsShape s × (is_single s ≡ true)
 

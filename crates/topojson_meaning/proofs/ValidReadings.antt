@@ -100,7 +100,7 @@ module _ (transform : Option Transform) (arcs : List (List Point)) where
   typed_shape_yields None ms = typed_with_yields transform arcs (λ w. w) (shapes transform arcs) None ms (all_geometries ms)
   typed_shape_yields (Some type) ms = typed_with_yields transform arcs (λ w. w) (shapes transform arcs) (Some type) ms (all_geometries ms)
 
-  -- and of one that is no collection
+  -- what is read of a geometry that is no collection is none
   pub single_shape_yields : (type : Option GeometryType) (ms : Members) → is_collection type ≡ false → Yields (IfThere (IsSingle transform arcs)) (typed_shape transform arcs type ms)
   unfolding typed_shape part
   single_shape_yields None ms e = single_with_yields transform arcs (λ w. w) (shapes transform arcs) None ms e

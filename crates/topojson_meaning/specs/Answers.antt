@@ -11,6 +11,6 @@ use Rattle.topojson_meaning.specs.Reader.{Reader}
 abbrev pub Gives : {X Y : Type 0} → (X → Y) → Result X TopoFault → Counts → Result (Y × Counts) TopoFault → Type 0
 Gives view answer after read = GivesUnless Memory view answer after read
 
--- the same of a reader that counts nothing, whatever the counts are
+-- whatever the counts are, the answer is what a reader gives that counts nothing, or its fault is the reader's
 abbrev pub Reads : {X Y : Type 0} → (X → Y) → Result X TopoFault → Reader Y → Type 0
 Reads view answer read = (counts : Counts) → Gives view answer counts (read counts)

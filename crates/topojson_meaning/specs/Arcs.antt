@@ -30,7 +30,7 @@ units_in (Ok s) = λ c. Ok (s.value, count_rounded (not s.exact) c)
 unfoldable pub units : List ℕ → Reader ℤ
 units t = units_in (scaled_of unit_places position_limit t)
 
--- both must be numbers, and then x and y are taken in units; elements behind them are counted once and not looked at
+-- both must be numbers, and then x and y are taken in units; elements after them are counted once and not looked at
 unfoldable pub elements_position : List Json → Reader Point
 elements_position [] = fail WrongKind
 elements_position (v ∷ []) = fail WrongKind
@@ -64,7 +64,7 @@ grid_cell t c =
     then (if is_within position_limit (place_on t c) then Ok c else Err Range)
     else Err GridNumber
 
--- both must be numbers, and then whole ones within the bound: the difference from the cell before; elements behind them are
+-- both must be numbers, and then whole ones within the bound: the difference from the cell before; elements after them are
 -- counted once and not looked at
 unfoldable pub elements_cell : Transform → ℕ → Point → List Json → Reader Point
 elements_cell t bound before [] = fail WrongKind

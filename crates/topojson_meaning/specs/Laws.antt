@@ -34,7 +34,7 @@ ReadsValid = (v : Json) (t : Contents) (c : Counts) → topology v ≡ Ok (t, c)
 abbrev pub ReadsBack : Type 0
 ReadsBack = (t : Contents) → IsStored t → topology (topology_value t) ≡ Ok (t, no_counts)
 
--- its numbers are numbers where those of its features are
+-- the numbers in the value of a topology are numbers where those of its features are
 abbrev pub ValueHasNumbers : Type 0
 ValueHasNumbers = (t : Contents) → IsStored t → FeaturesHaveNumbers t → HasNumbers (topology_value t)
 

@@ -57,7 +57,7 @@ meets arcs i j = both_same (last_of (arc_at arcs i)) (first_of (arc_at arcs j))
 abbrev pub joined_to : List (List Point) → ℤ → ℤ → Reader ℤ
 joined_to arcs before i = if meets arcs before i then give i else fail Unjoined
 
--- the indexes of a line behind this one, each joined to the one before
+-- the indexes of a line after this one, each joined to the one before
 unfoldable pub indexes_behind : List (List Point) → ℤ → List Json → Reader (List ℤ)
 indexes_behind arcs before [] = give []
 indexes_behind arcs before (v ∷ vs) = do

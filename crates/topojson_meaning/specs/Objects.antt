@@ -47,7 +47,7 @@ is_met name (n ∷ ns) = bytes_eq n name || is_met name ns
 abbrev pub new_name : List (List ℕ) → List ℕ → Reader (List ℕ)
 new_name met name = if is_met name met then fail Duplicate else give name
 
--- the objects by name in order, behind those of the names that were met
+-- the objects by name in order, after those of the names that were met
 unfoldable pub objects_behind : Option Transform → List (List Point) → List (List ℕ) → Members → Reader (List (List ℕ × TopoObject))
 objects_behind transform arcs met [] = give []
 objects_behind transform arcs met (m ∷ ms) = do

@@ -34,6 +34,6 @@ TextIsUtf8 = (t : Contents) → IsTransformed t.transform → FeaturesHaveNumber
 abbrev pub NumbersStay : Type 0
 NumbersStay = (v : Json) (t : Contents) (c : Counts) → HasNumbers v → topology v ≡ Ok (t, c) → FeaturesHaveNumbers t
 
--- its names, identifiers and properties have UTF-8 texts, if that is so in the value
+-- the names, identifiers and properties of a topology that is read have UTF-8 texts, if that is so in the value
 abbrev pub TextsStay : Type 0
 TextsStay = (v : Json) (t : Contents) (c : Counts) → HasTexts v → topology v ≡ Ok (t, c) → ContentsHaveTexts t

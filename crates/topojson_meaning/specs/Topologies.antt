@@ -26,7 +26,7 @@ contents_on transform ms = do
   os ← need_as (codes "objects") (objects transform arcs) ms
   give (record { objects = os; arcs = arcs; transform = transform })
 
--- the topology with these members, behind its type
+-- the topology with these members, after its type
 abbrev pub contents_behind : Members → Reader Contents
 contents_behind ms = do
   r ← pure (find (codes "transform") ms)

@@ -11,7 +11,7 @@ use Rattle.topojson_meaning.specs.Arcs.{number_text}
 use Rattle.topojson_meaning.specs.Members.{Members, need_as, elements}
 use Rattle.topojson_meaning.specs.Reader.{Reader, ◌>>=◌, give, fail, pure}
 
--- two number texts, x first; elements behind them are not looked at
+-- two number texts, x first; elements after them are not looked at
 abbrev pub texts_in : List Json → Reader (List ℕ × List ℕ)
 texts_in [] = fail WrongKind
 texts_in (v ∷ []) = fail WrongKind

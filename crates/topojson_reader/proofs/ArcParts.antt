@@ -40,7 +40,7 @@ unfolding gather cells_behind
 one_cell (None, before) v vs c = first_of_each (each position vs) (position v c)
 one_cell (Some t, before) v vs c = refl
 
--- the cells of an arc are those behind the origin
+-- the cells of an arc are those after the origin
 all_cells : (transform : Option Transform) (vs : List Json) (c : Counts) → arc_cells transform vs c ≡ cells_from (transform, origin) vs c
 unfolding arc_cells
 all_cells None vs c = refl

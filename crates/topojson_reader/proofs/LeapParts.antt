@@ -319,7 +319,7 @@ plain_many zero bytes le plain m = refl
 plain_many (suc n) [] le plain m = absurd (omega (arith, le))
 plain_many (suc n) (b ∷ bs) le plain m = let h = plain 0 (omega arith) in in_plain b [] h.0 h.1 nothing_quoted m bs ∙ plain_many n bs (omega (arith, le)) (λ k lt. plain (suc k) (omega (arith, lt))) m
 
--- the same at a depth that isn't 0
+-- bytes that neither open nor close anything are passed at a depth that isn't 0
 pub dull_passed : (rest more : List ℕ) (n : ℕ) → 0 < n → ((m : ℕ) → end_of (at_depth (suc m)) rest ≡ end_of (at_depth (suc m)) more) → end_of (at_depth n) rest ≡ end_of (at_depth n) more
 dull_passed rest more n lt h = rw some (h (n - 1)) where
   some : n ≡ suc (n - 1)

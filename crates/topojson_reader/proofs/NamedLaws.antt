@@ -26,7 +26,7 @@ Named = List (List ℕ × TopoObject)
 -- ---- what is read of one more
 
 module _ {A B : Type 0} (read : A → Reader B) (m : A) where
-  -- it goes behind the others
+  -- it goes after the others
   abbrev behind : Result (List B × Counts) TopoFault → Result (List B × Counts) TopoFault
   behind = and_then (λ os. λ d. and_then (λ o. give (os ++ o ∷ [])) (read m d))
 

@@ -25,7 +25,7 @@ module _ (start : Start) where
   nothing c h = ap (λ d. Ok ([], d)) (sym h)
 
   module _ (ms : Members) (os : List (List ℕ × TopoObject)) (c : Counts) where
-    -- behind a fault
+    -- after a fault
     pub passes : (failed : Option (List ℕ × TopoFault)) (m : List ℕ × Json) → is_some failed ≡ true → AreRead start ms os c failed → AreRead start (ms ++ m ∷ []) os c failed
     passes None m some h = absurd cc
     passes (Some failed) m some h = record {
@@ -38,7 +38,7 @@ module _ (start : Start) where
       fails = h.fails;
     }
 
-    -- and where there was none
+    -- one member more, where none had a fault so far
     module _ (name : List ℕ) (v : Json) where
       pub reads : (failed : Option (List ℕ × TopoFault)) → is_some failed ≡ false → AreRead start ms os c failed → (o : TopoObject) (d : Counts) → object start v c ≡ Ok (o, d) → AreRead start (ms ++ (name, v) ∷ []) (os ++ (name, o) ∷ []) d failed
       reads None none h o d k = read_more (named_object start) (name, v) ms start.counts c d os (name, o) h (rw k refl)

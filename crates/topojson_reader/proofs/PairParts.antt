@@ -24,7 +24,7 @@ use Rattle.topojson_reader.specs.declared.pairs.Pair.{Pair}
 use Rattle.topojson_reader.specs.Numbers.{number}
 use Rattle.topojson_reader.specs.Pairs.{ArePair, second, both, pair}
 
--- ---- the second element and those behind it, in some turns
+-- ---- the second element and those after it, in some turns
 
 module _ (scale : Scale) (x : Option Units) (item : Parse Json) (n : ℕ) (bs : List ℕ) (some : 0 < n) (c : Counts) where
   second_law : (v : Json) (vs : List Json) (e : TopoFault) → number scale v c ≡ Err e → second scale x (v ∷ vs) c ≡ Err e

@@ -11,7 +11,7 @@ use Rattle.json_cursor.specs.Folds.{fold}
 use Rattle.json_cursor.proofs.Steps.{then_stops}
 use Rattle.topojson_reader.specs.Running.{running}
 
--- what is read, behind these
+-- what is read, after these
 abbrev behind : {B : Type 0} → List B → Result (List B × Counts) TopoFault → Result (List B × Counts) TopoFault
 behind xs r = and_then (λ ys. give (xs ++ ys)) r
 
@@ -48,7 +48,7 @@ module _ {S B : Type 0} (read : S → Json → Reader B) (next : S → B → S) 
     pub run_through : (s : S) (vs : List Json) (c : Counts) → all_of (fold (running read next) (s, []) vs c) ≡ many s vs c
     run_through s vs c = run vs s [] c ∙ behind_none (many s vs c)
 
-    -- the same, and then what is made of all
+    -- what is read of all elements in two steps, and then what is made of them
     module _ {D : Type 0} (end : List B → Reader D) where
       in_two : (r : Result ((S × List B) × Counts) TopoFault) → and_then end (all_of r) ≡ and_then (λ t. end t.1) r
       in_two (Ok x) = refl

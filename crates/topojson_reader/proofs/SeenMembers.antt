@@ -48,7 +48,7 @@ module _ {A : Type 0} (Is : Json → A → Type 0) (word : List ℕ) (ms : Membe
   pub sees : (x : A) → bytes_eq name word ≡ true → Is v x → IsSeen Is (named word (ms ++ (name, v) ∷ [])) (see s x)
   sees x same is = subst (λ us. IsSeen Is us (see s x)) (sym (one_more word ms v name same)) (one_seen Is (named word ms) s v x h is)
 
-  -- and of another
+  -- a member of another name
   pub passes : bytes_eq name word ≡ false → IsSeen Is (named word (ms ++ (name, v) ∷ [])) s
   passes other = subst (λ us. IsSeen Is us s) (sym (no_more word ms v name other)) h
 

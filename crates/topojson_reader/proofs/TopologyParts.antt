@@ -43,7 +43,7 @@ one_value front v w rest end h k = (pair_is v rest (w, end) (sym h ∙ k)).0
 pub needed_front : (d : ℕ) (vs : List Json) (at : Bor (List ℕ)) → IsSeen (IsFront d) vs (Once at) → NeededAt d vs (Ok at)
 needed_front d vs at (v, same, (rest, front)) = (v, rest, same, front)
 
--- and no value, or more than one, is a fault
+-- no value of a name that is needed, or more than one, is a fault
 pub needed_never : (d : ℕ) (vs : List Json) → vs ≡ [] → NeededAt d vs (Err topo.Missing)
 needed_never d vs h = rw h refl
 
@@ -62,7 +62,7 @@ module _ (name : List ℕ) (ms : Members) where
   pub needed_value : (d : ℕ) (at : Bor (List ℕ)) (w : Json) (end : List ℕ) → NeededAt d (named name ms) (Ok at) → front_value d at.now ≡ Some (w, end) → need name ms ≡ Ok w
   needed_value d at w end h k = need_one w (h.2 ∙ ap (λ v. v ∷ []) (one_value (front_value d at.now) h.0 w h.1 end h.3 k))
 
--- where something stands no fault of the text is told
+-- where something stands no fault of the text is reported
 pub no_text_fault : {X B : Type 0} (view : X → B) (read : Reader B) (old new : Counts) (front : Option (Json × List ℕ)) (v : Json) (rest : List ℕ) → front ≡ Some (v, rest) → (e : Fault) → Fails e front → Gives view read old new (Err (stop_of e))
 no_text_fault view read old new front v rest h (fault.Malformed why left) k = let wrong = sym h ∙ k in absurd cc
 no_text_fault view read old new front v rest h fault.Memory k = tt

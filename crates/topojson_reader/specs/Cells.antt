@@ -1,4 +1,4 @@
--- The cells of an arc, one behind another (TopoJSON 1.0, section 2.1.3).
+-- The cells of an arc, one after another (TopoJSON 1.0, section 2.1.3).
 use Rattle.std.specs.Prelude.{ℤ, not, List, Option, Some, None, Ok, if◌then◌else◌}
 use Rattle.json_value.specs.declared.json.Json.{Json}
 use Rattle.geometry.specs.Points.{Point}
@@ -41,7 +41,7 @@ cell_of t before p = do
 
 -- ---- arcs
 
--- what a value is behind this cell: with a transform a difference from it, and else a position
+-- what a value is after this cell: with a transform a difference from it, and else a position
 abbrev pub cell_from : Option Transform → Point → Json → Reader Point
 cell_from None before v = position v
 cell_from (Some t) before v = cell t difference_limit before v

@@ -52,7 +52,7 @@ abbrev pub IsRead : Start → Json → Option Read → Type 0
 IsRead start v None = Unit {0}
 IsRead start v (Some read) = IsHeld (part start read.kind) start.counts read.counts v read.shape
 
--- the same of what was read by this very type
+-- what a value was read as by this very type, if it was
 abbrev pub IsTaken : Start → PartType → Json → Option (Result (Option TopoShape) TopoFault × Counts) → Type 0
 IsTaken start kind v None = Unit {0}
 IsTaken start kind v (Some x) = IsHeld (part start kind) start.counts x.1 v x.0

@@ -65,7 +65,7 @@ NoArcs d Never = ⊥
 NoArcs d (Once x) = (front_value d x.front.now ≡ None) × (x.read ≡ None)
 NoArcs d Again = Unit {0}
 
--- and where `objects` begin
+-- no value stands where `objects` begin, or there are two of them, of which nothing is kept
 abbrev pub NoObjects : ℕ → Seen (Bor (List ℕ)) → Type 0
 NoObjects d Never = ⊥
 NoObjects d (Once x) = front_value d x.now ≡ None
@@ -86,12 +86,12 @@ abbrev pub GoesOnOrLoses : Counts → ℕ → List ℕ → Index → Index → L
 GoesOnOrLoses start d name before after bytes (Ok rest) = (TakesValue (IsIndex start d) d name before after bytes rest.now ⊎ ((front_value d bytes ≡ None) × IsLost d after)) × (IsLost d before → IsLost d after)
 GoesOnOrLoses start d name before after bytes (Err fault) = Fails fault (front_value d bytes)
 
--- the same of a member
+-- A member stands at the front, and the index goes on with it. Or none does, and the index is lost. One that was lost stays so. Or nothing is said.
 abbrev pub TakesOrLoses : Counts → ℕ → Index → Index → List ℕ → Result (Bor (List ℕ)) Fault → Type 0
 TakesOrLoses start d before after bytes (Ok rest) = (TakesMember (IsIndex start d) d before after bytes rest.now ⊎ ((front_member d bytes ≡ None) × IsLost d after)) × (IsLost d before → IsLost d after)
 TakesOrLoses start d before after bytes (Err fault) = Fails fault (front_member d bytes)
 
--- and of members
+-- Members stand at the front, and the index goes on with them. Or none do, and the index is lost. One that was lost stays so. Or nothing is said.
 abbrev pub TakesAllOrLoses : Counts → ℕ → Option (Members × List ℕ) → Index → Index → Result (Bor (List ℕ)) Fault → Type 0
 TakesAllOrLoses start d found before after (Ok rest) = TakesMembers (IsIndex start d) found before after rest.now ⊎ ((found ≡ None) × IsLost d after)
 TakesAllOrLoses start d found before after (Err fault) = Fails fault found
@@ -102,7 +102,8 @@ pub record IsIndexed (start : Counts) (d : ℕ) (bytes : List ℕ) (i : Index) (
   pub front : front_value d bytes ≡ Some (j.Object members, rest)
   pub index : IsIndex start (d - 1) members i
 
--- or no value does, and the index is lost; or whatever value stands there is no object; or none stands there, or nothing is said
+-- an object stands at the front, and this was seen of its members; or no value does, and the index is lost; or whatever value stands there
+-- is no object; or none stands there, or nothing is said
 abbrev pub Indexes : Counts → ℕ → List ℕ → Result (Option (Index × Bor (List ℕ))) Fault → Type 0
 Indexes start d bytes (Ok (Some x)) = (0 < d) × (IsIndexed start d bytes x.0 x.1.now ⊎ ((front_value d bytes ≡ None) × IsLost (d - 1) x.0))
 Indexes start d bytes (Ok None) = (v : Json) (end : List ℕ) → front_value d bytes ≡ Some (v, end) → object_of v ≡ None

@@ -3,7 +3,7 @@ use Rattle.std.specs.Prelude.{◌≡◌, ℕ, zero, suc, ◌-◌, Bool, true, fa
 use Rattle.json_value.specs.declared.json.Json.{Json}
 use Rattle.json_cursor.specs.Arrays.{front_value}
 
--- how deep a byte stands in arrays and objects, whether in a string, and whether behind a reverse solidus there
+-- how deep a byte stands in arrays and objects, whether in a string, and whether after a reverse solidus there
 pub record Level : Type 0 where
   pub depth : ℕ
   pub quoted : Bool
@@ -41,7 +41,7 @@ abbrev pub is_zero : ℕ → Bool
 is_zero zero = true
 is_zero (suc n) = false
 
--- what follows the byte behind which nothing is open any more
+-- what follows the byte after which nothing is open any more
 unfoldable pub end_of : Level → List ℕ → Option (List ℕ)
 end_of l [] = None
 end_of l (b ∷ bs) = if is_zero (step l b).depth then Some bs else end_of (step l b) bs

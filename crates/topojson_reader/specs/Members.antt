@@ -21,7 +21,7 @@ IsSeen Is vs Never = vs ≡ []
 IsSeen Is vs (Once x) = (v : Json) × (vs ≡ v ∷ []) × Is v x
 IsSeen Is vs Again = (v : Json) × (w : Json) × (us : List Json) × (vs ≡ v ∷ w ∷ us)
 
--- the same with one more
+-- a name that stood once more among members, with what is known of its value
 abbrev pub see : {A : Type 0} → Seen A → A → Seen A
 see Never x = Once x
 see (Once y) x = Again
@@ -49,7 +49,8 @@ pub record TakesValue {S : Type 0} (Holds : Made S) (d : ℕ) (name : List ℕ) 
   pub front : front_value d bytes ≡ Some (value, rest)
   pub holds : (ms : Members) → Holds ms before → Holds (ms ++ (name, value) ∷ []) after
 
--- or none stands there, or nothing is said
+-- a value stands at the front, and what was made of the members before goes on with it as the one of this name; or none stands there, or
+-- nothing is said
 abbrev pub GoesOnWith : {S : Type 0} → Made S → ℕ → List ℕ → S → S → List ℕ → Result (Bor (List ℕ)) Fault → Type 0
 GoesOnWith Holds d name before after bytes (Ok rest) = TakesValue Holds d name before after bytes rest.now
 GoesOnWith Holds d name before after bytes (Err fault) = Fails fault (front_value d bytes)

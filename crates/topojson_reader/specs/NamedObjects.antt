@@ -30,7 +30,7 @@ pub record FailsBehind (start : Start) (ms : Members) (os : List (List ℕ × To
   pub read : each (named_object start) before start.counts ≡ Ok (os, mid)
   pub fails : object start value mid ≡ Err failed.1
 
--- the same, or these are the objects of all of the members
+-- these are the objects of the members before one that has a fault, or the objects of all of the members
 abbrev pub AreRead : Start → Members → List (List ℕ × TopoObject) → Counts → Option (List ℕ × TopoFault) → Type 0
 AreRead start ms os counts None = each (named_object start) ms start.counts ≡ Ok (os, counts)
 AreRead start ms os counts (Some failed) = FailsBehind start ms os failed

@@ -33,7 +33,7 @@ abbrev pub scale_limit : Scale → ℕ
 scale_limit scale.Units = position_limit
 scale_limit (scale.Whole bound) = bound
 
--- the same at a scale
+-- the number that a value is at a scale, if it is within the scale's limit
 abbrev pub number : Scale → Json → Reader (Option Units)
 number s = scaled_at (scale_places s) (scale_limit s)
 

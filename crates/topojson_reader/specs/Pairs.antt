@@ -10,7 +10,7 @@ use Rattle.topojson_reader.specs.declared.numbers.Scale.{Scale}
 use Rattle.topojson_reader.specs.declared.pairs.Pair.{Pair}
 use Rattle.topojson_reader.specs.Numbers.{IsNumber, number}
 
--- the second, behind this first; elements behind it are not looked at
+-- the second, after this first; elements after it are not looked at
 abbrev pub second : Scale → Option Units → List Json → Reader Pair
 second scale x [] = fail WrongKind
 second scale x (w ∷ more) = do
@@ -28,7 +28,7 @@ both scale (v ∷ vs) = do
 abbrev pub pair : Scale → Json → Reader Pair
 pair scale = array_by WrongKind (both scale)
 
--- two numbers stand behind white space, with a comma (44) between them, and this follows them
+-- two numbers stand after white space, with a comma (44) between them, and this follows them
 pub record ArePair (scale : Scale) (bytes : List ℕ) (x y : Units) (rest : List ℕ) : Type 0 where
   pub after : List ℕ
   pub first : IsNumber scale (skip bytes) x after

@@ -3,7 +3,7 @@ use Rattle.std.specs.Prelude.{List, [], ◌∷◌, ◌++◌}
 use Rattle.json_value.specs.declared.json.Json.{Json}
 use Rattle.topojson_meaning.specs.Reader.{Reader, ◌>>=◌, give}
 
--- one more value: what it is read as goes behind the others, and what the next one is read by comes of it
+-- one more value: what it is read as goes after the others, and what the next one is read by comes of it
 abbrev pub running : {S B : Type 0} → (S → Json → Reader B) → (S → B → S) → S × List B → Json → Reader (S × List B)
 running read next s v = do
   x ← read s.0 v

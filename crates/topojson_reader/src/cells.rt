@@ -136,7 +136,7 @@ pub fn place_at<'a>(
     }
 }
 
-/// The cell at the front, which is behind this one in its arc, and what follows it. With a transform it stands as the difference from it
+/// The cell at the front, which is after this one in its arc, and what follows it. With a transform it stands as the difference from it
 /// (section 2.1.3).
 #[inline(always)]
 pub fn cell_at<'a>(

@@ -65,7 +65,7 @@ pub fn feature_at<'a>(
     }
 }
 
-/// The features behind the bracket of an array, one or more, and what follows it.
+/// The features after the bracket of an array, one or more, and what follows it.
 fn features_behind<'a>(
     alloc: Global,
     deep: u32,

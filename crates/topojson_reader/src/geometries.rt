@@ -133,7 +133,7 @@ pub fn geometry_at<'a>(
     }
 }
 
-/// Puts one behind the others, if there is one.
+/// Puts one after the others, if there is one.
 fn push_some(
     read: &mut Vec<TopoShape>,
     one: Option<TopoShape>,
@@ -149,7 +149,7 @@ fn push_some(
     }
 }
 
-/// The geometries behind the bracket of an array, one or more, without those of which nothing is left, and what follows it.
+/// The geometries after the bracket of an array, one or more, without those of which nothing is left, and what follows it.
 #[cycle(geometries)]
 fn geometries_behind<'a>(
     alloc: Global,

@@ -224,7 +224,7 @@ fn broken(left: &[u8]) -> Fault
     }
 }
 
-/// Goes on with the members behind the brace of a topology, one or more, and gives what follows them.
+/// Goes on with the members after the brace of a topology, one or more, and gives what follows them.
 fn members_into<'a>(
     alloc: Global,
     deep: u32,

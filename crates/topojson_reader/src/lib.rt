@@ -1,6 +1,6 @@
 //! The reader of topologies (TopoJSON 1.0) straight from bytes, whatever their form and whatever their faults. It stands on `json_cursor`,
 //! whose `Answers` says what a reader answers of the bytes, and on `topojson_meaning`, which says what a value stands for. A layer above calls
-//! `read_text`. What has a value reads it by way of its text, by the reader of what it is to be.
+//! `read_text`. What has a value reads it through its text, by the reader of what it is to be.
 #![tactic(auto)]
 
 mod arcs;

@@ -120,7 +120,7 @@ pub fn members_before_repeat<V>(alloc: Global, members: &[(OwnText, V)]) -> Resu
     Ok(members.len())
 }
 
-/// They, or the first fault: a name that is repeated before one has a fault, or by that one, or that fault.
+/// The objects, or the first fault: a name that is repeated before one has a fault, or by that one, or that fault.
 fn in_order(
     alloc: Global,
     seen: NamedObjects,

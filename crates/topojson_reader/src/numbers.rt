@@ -24,7 +24,7 @@ pub(crate) enum Scale {
 /// The greatest bound up to which whole numbers are read without their text.
 const TEXTLESS_LIMIT: u64 = 1_000_000_000_000_000_000;
 
-/// The same as `number_at`, by the value that stands there: the way of what isn't written as most numbers are.
+/// The number at the front by the value that stands there, for what isn't written as most numbers are.
 #[cold]
 #[inline(never)]
 fn value_number_at<'a>(

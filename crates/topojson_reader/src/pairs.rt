@@ -13,7 +13,7 @@ use std::alloc::Global;
 use topojson_meaning::TopoFault;
 use unit_scanning::Units;
 
-/// Two numbers, each if it is in range, and whether elements stand behind them.
+/// Two numbers, each if it is in range, and whether elements stand after them.
 #[derive(Clone, Copy, Debug, PartialEq, Eq)]
 pub(crate) struct Pair {
     pub x: Option<Units>,
@@ -21,7 +21,7 @@ pub(crate) struct Pair {
     pub more: bool,
 }
 
-/// The pair whose second number and further elements stand behind the comma, and what follows its bracket.
+/// The pair whose second number and further elements stand after the comma, and what follows its bracket.
 #[inline(always)]
 fn second_at<'a>(
     alloc: Global,
@@ -55,7 +55,7 @@ fn second_at<'a>(
     }
 }
 
-/// The pair whose elements stand behind the bracket, however they are written and whatever their fault is, and what follows it.
+/// The pair whose elements stand after the bracket, however they are written and whatever their fault is, and what follows it.
 #[cold]
 #[inline(never)]
 fn any_both_at<'a>(
@@ -103,7 +103,7 @@ fn usual_both_at(scale: Scale, inside: &[u8]) -> Option<(Units, Units, &[u8])>
     Some((x, y, rest))
 }
 
-/// The pair whose elements stand behind the bracket, and what follows it.
+/// The pair whose elements stand after the bracket, and what follows it.
 #[inline(always)]
 fn both_at<'a>(
     alloc: Global,

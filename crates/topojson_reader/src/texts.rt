@@ -30,7 +30,7 @@ pub enum Refusal {
     Memory,
 }
 
-/// The bytes behind a byte order mark, if there is one.
+/// The bytes after a byte order mark, if there is one.
 fn text_of(bytes: &[u8]) -> &[u8]
     ensures { result.now ≡ reading.without bytes.now (reading.after_word mark bytes.now) }
 {
@@ -75,7 +75,7 @@ pub fn topology_of(parts: Parts) -> Topology
 }
 
 /// The topology that a whole text spells (TopoJSON 1.0, section 2.1), with what was counted in reading it. Of a text that spells no value
-/// is told why, whatever else is wrong.
+/// it is said why, whatever else is wrong.
 pub fn read_text(alloc: Global, bytes: &[u8]) -> Result<(Topology, Counts), Refusal>
     ensures { TextAnswers bytes.now result }
 {

@@ -88,7 +88,7 @@ fn both_of(read: Result<NumberTexts, TopoFault>) -> Result<(NumText, NumText), T
     }
 }
 
-/// The two number texts of the array at the front, or its fault, and what follows it. Elements behind them are passed over.
+/// The two number texts of the array at the front, or its fault, and what follows it. Elements after them are passed over.
 fn texts_at<'a>(
     alloc: Global,
     deep: u32,

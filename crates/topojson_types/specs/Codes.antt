@@ -1,4 +1,4 @@
--- The code of the contents of a topology, by which a proof tells two of them apart.
+-- The code of the contents of a topology, by which a proof keeps two of them apart.
 use Rattle.std.specs.Prelude.{ℕ, List, Option, refl}
 use Rattle.std.specs.Coded.{Coded, code_by, coded×, coded_ℕ, coded_list, coded_option}
 use Rattle.geometry.specs.Points.{Point}

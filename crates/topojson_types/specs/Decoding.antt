@@ -14,7 +14,7 @@ use Rattle.geometry.specs.Joins.{arc_at, rejoined}
 use Rattle.topojson_types.specs.Topologies.{TopoShape, Contents}
 use Rattle.topojson_types.specs.Transforms.{place, place_on}
 
--- the same so many times
+-- a list of one element so many times
 abbrev pub repeated : {X : Type 0} → ℕ → X → List X
 repeated zero x = []
 repeated (suc n) x = x ∷ repeated n x

@@ -28,6 +28,6 @@ object_features (Many fs) = fs
 abbrev pub features_strokes : List TopoFeature → List (Bool × List ℤ)
 features_strokes fs = joined (map (λ f. option_strokes f.shape) fs)
 
--- those of all objects
+-- the open lines (false) and the rings (true) of all objects, as their arc indexes, in reading order
 abbrev pub objects_strokes : List (List ℕ × TopoObject) → List (Bool × List ℤ)
 objects_strokes os = joined (map (λ o. features_strokes (object_features o.1)) os)

@@ -54,11 +54,11 @@ abbrev pub option_places : Option TopoShape → List Point
 option_places None = []
 option_places (Some s) = places s
 
--- those of features
+-- the cells of the Points and MultiPoints of features
 abbrev pub features_places : List TopoFeature → List Point
 features_places fs = joined (map (λ f. option_places f.shape) fs)
 
--- those of all objects
+-- the cells of the Points and MultiPoints of all objects
 abbrev pub objects_places : List (List ℕ × TopoObject) → List Point
 objects_places os = joined (map (λ o. features_places (object_features o.1)) os)
 
@@ -90,7 +90,7 @@ IsPlace (Some t) c = IsWithin grid_limit c × IsPosition (place_on t c)
 abbrev pub IsFeature : Option Transform → TopoFeature → Type 0
 IsFeature transform f = (is_full_option f.shape ≡ true) × AllByRecursion (IsPlace transform) (option_places f.shape)
 
--- its features are, and one alone is no collection
+-- the features of an object may stand in the topology, and one alone is no collection
 abbrev pub IsObject : Option Transform → TopoObject → Type 0
 IsObject transform (One f) = IsFeature transform f × (is_single_option f.shape ≡ true)
 IsObject transform (Many fs) = AllByRecursion (IsFeature transform) fs
@@ -101,7 +101,7 @@ IsObject transform (Many fs) = AllByRecursion (IsFeature transform) fs
 abbrev pub IsJoined : List (List Point) → Bool × List ℤ → Type 0
 IsJoined arcs b = Meet (map (arc_at arcs) b.1)
 
--- and a ring's arcs close
+-- the arcs of a ring close
 abbrev pub IsClosed : List (List Point) → Bool × List ℤ → Type 0
 IsClosed arcs b = b.0 ≡ true → Closes (map (arc_at arcs) b.1)
 

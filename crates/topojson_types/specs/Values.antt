@@ -63,7 +63,7 @@ lines_value ls = j.Array (map line_value ls)
 
 -- ---- geometry objects
 
--- the name of a type, and what the object has behind the members of a feature
+-- the name of a type, and what the object has after the members of a feature
 pub record Geometrical : Type 0 where
   pub type : Json
   pub parts : Members

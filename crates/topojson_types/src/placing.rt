@@ -19,7 +19,7 @@ const EVEN_PART: u128 = 1 << (TRANSFORM_PLACES - PLACES);
 /// What is left of `FINE_UNITS` without it.
 const ODD_PART: u64 = (FINE_UNITS / EVEN_PART) as u64;
 
-/// So many units of 10^-20 in units of coordinates, rounded to the nearest, halves up. Behind the first division, which is a shift, most
+/// So many units of 10^-20 in units of coordinates, rounded to the nearest, halves up. After the first division, which is a shift, most
 /// numbers lie in 64 bits, whose division is the faster.
 fn nearest_units(size: u128) -> u128
     requires { size ≤ 2 ^ 127 }

@@ -52,7 +52,7 @@ First = YieldsFirst {S = List Point} {A = Point} (λ w. w)
 abbrev Last : List Point → Option Point → List Point → Type 0
 Last = YieldsLast {S = List Point} {A = Point} (λ w. w)
 
--- the first of an arc is let go
+-- the first of an arc is left out
 opened : (run more : List Point) (joint : Option Point) → 2 ≤ length run → First run joint more → (tail run ≡ more) × (1 ≤ length more)
 opened run more joint h k = grind arith
 

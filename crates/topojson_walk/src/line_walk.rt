@@ -11,7 +11,7 @@ use topojson_types::{ArcRef, Topology};
 /// The fewest positions of a ring (RFC 7946, section 3.1.6).
 const RING_POSITIONS: usize = 4;
 
-/// The positions that a line or a ring of a topology stands for: those of a walk along its arcs, and behind fewer than four of a ring
+/// The positions that a line or a ring of a topology stands for: those of a walk along its arcs, and after fewer than four of a ring
 /// its first, until there are four. It takes no memory.
 #[derive(Debug, Drop)]
 pub struct LineWalk<'a> {

@@ -40,7 +40,7 @@ pub members-append : (ms ns : Members) → members_text (ms ++ ns) ≡ members_t
 unfolding members_text
 members-append ms ns = with_commas-append ms ns
 
--- an object of a type with these members behind it
+-- an object of a type with these members after it
 pub object-text : (o : Geometrical) → json_text (inner_value o) ≡ type_text o ++ (members_text o.parts ++ codes "}")
 unfolding type_text members_text escaped_byte
 object-text o =

@@ -1,4 +1,4 @@
--- Geometries by their kinds: their types, and what they have behind it.
+-- Geometries by their kinds: their types, and what they have after it.
 use Rattle.std.proofs.Common.{◌≡◌, ℕ, ℤ, List, ◌++◌, map, refl, sym, ap, subst, ◌∙◌}
 use Rattle.std.specs.Prelude.{codes}
 use Rattle.json_value.specs.declared.json.Json.{Json}
@@ -26,7 +26,7 @@ pub type-is : (o : Geometrical) (type key : List ℕ) (v : Json) → o ≡ typed
 unfolding type_text
 type-is o type key v e = ap type_text e ∙ ap (λ (text : List ℕ). codes "{\"type\":" ++ text) (text-text type)
 
--- ---- the name of what is behind it
+-- ---- the name of what is after it
 
 pub name-is : (o : Geometrical) (type key : List ℕ) (v : Json) → o ≡ typed type key v → parts_name o ≡ codes "," ++ name_text key
 unfolding parts_name
@@ -64,7 +64,7 @@ value-group cell shapes = ap parts_value (is-group cell shapes)
 
 pub ruleset values = (value-point, value-points, value-line, value-lines, value-area, value-areas, value-group)
 
--- ---- a geometry has one member behind its type
+-- ---- a geometry has one member after its type
 
 abbrev HasOne : Geometrical → Type 0
 HasOne o = members_text o.parts ≡ parts_name o ++ json_text (parts_value o)

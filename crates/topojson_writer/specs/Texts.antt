@@ -16,11 +16,11 @@ shape_value cell s = inner_value (geometrical cell s)
 unfoldable pub type_text : Geometrical → List ℕ
 type_text o = codes "{\"type\":" ++ json_text o.type
 
--- members, each behind a comma
+-- members, each after a comma
 unfoldable pub members_text : Members → List ℕ
 members_text ms = with_commas false (map (λ m. member_text (m.0, json_text m.1)) ms)
 
--- the name of the first member behind a comma, and its colon
+-- the name of the first member after a comma, and its colon
 abbrev pub first_name : Members → List ℕ
 first_name [] = []
 first_name (m ∷ ms) = codes "," ++ name_text m.0
@@ -30,7 +30,7 @@ abbrev pub first_value : Members → Json
 first_value [] = j.Null
 first_value (m ∷ ms) = m.1
 
--- the name of what is behind the type: `coordinates`, `arcs` or `geometries`
+-- the name of what is after the type: `coordinates`, `arcs` or `geometries`
 unfoldable pub parts_name : Geometrical → List ℕ
 parts_name o = first_name o.parts
 

@@ -20,7 +20,7 @@ impl PutValue<i64> for Coordinates {
     }
 }
 
-/// Writes the member `bbox` behind a comma: the least coordinates and then the greatest, x first.
+/// Writes the member `bbox` after a comma: the least coordinates and then the greatest, x first.
 fn put_bounds_member<W: Drain>(
     least: Position,
     greatest: Position,
@@ -34,7 +34,7 @@ fn put_bounds_member<W: Drain>(
     put_array::<Coordinates, i64, W>(&coordinates, so_far, sink)
 }
 
-/// Writes the member `bbox` behind a comma, if there is a position.
+/// Writes the member `bbox` after a comma, if there is a position.
 #[tactic(auto, using(crate::proofs::Objects::none))]
 pub fn put_bounds<W: Drain>(
     bounds: Option<(Position, Position)>,

@@ -24,7 +24,7 @@ fn put_id_value<W: Drain>(id: &Id, so_far: Progress, sink: &mut Sink<W>) -> Prog
     }
 }
 
-/// Writes the member `id` behind a comma.
+/// Writes the member `id` after a comma.
 fn put_id_member<W: Drain>(id: &Id, so_far: Progress, sink: &mut Sink<W>) -> Progress
     ensures { Continues sink.old sink.new so_far (members_text (id_members (Some id.now))) result }
 {
@@ -32,7 +32,7 @@ fn put_id_member<W: Drain>(id: &Id, so_far: Progress, sink: &mut Sink<W>) -> Pro
     put_id_value(id, so_far, sink)
 }
 
-/// Writes the member `id` behind a comma, if there is an identifier.
+/// Writes the member `id` after a comma, if there is an identifier.
 #[tactic(auto, using(crate::proofs::Objects::none))]
 fn put_id<W: Drain>(id: &Option<Id>, so_far: Progress, sink: &mut Sink<W>) -> Progress
     ensures { Continues sink.old sink.new so_far (members_text (id_members id.now)) result }
@@ -43,7 +43,7 @@ fn put_id<W: Drain>(id: &Option<Id>, so_far: Progress, sink: &mut Sink<W>) -> Pr
     }
 }
 
-/// Writes the member `properties` behind a comma.
+/// Writes the member `properties` after a comma.
 fn put_properties_member<W: Drain>(
     properties: &Properties,
     so_far: Progress,
@@ -55,7 +55,7 @@ fn put_properties_member<W: Drain>(
     put_properties(properties, so_far, sink)
 }
 
-/// Writes the member `properties` behind a comma, if they are an object.
+/// Writes the member `properties` after a comma, if they are an object.
 #[tactic(auto, using(crate::proofs::Objects::none))]
 fn put_properties_option<W: Drain>(
     properties: &Option<Properties>,
@@ -84,7 +84,7 @@ fn put_option_type<C: PutValue<Cell>, W: Drain>(
     }
 }
 
-/// Writes what a geometry has behind its type, identifier and properties: nothing, if it is null.
+/// Writes what a geometry has after its type, identifier and properties: nothing, if it is null.
 #[tactic(auto, using(crate::proofs::Objects::none))]
 fn put_option_parts<C: PutValue<Cell>, W: Drain>(
     shape: &Option<TopoShape>,

@@ -80,7 +80,7 @@ fn put_parts_value<C: PutValue<Cell>, W: Drain>(
     }
 }
 
-/// Writes what a geometry has behind its type, identifier and properties.
+/// Writes what a geometry has after its type, identifier and properties.
 #[cycle(shapes)]
 pub fn put_parts<C: PutValue<Cell>, W: Drain>(
     shape: &TopoShape,

@@ -54,7 +54,7 @@ impl<C: PutValue<Cell>> PutValue<TopoObject> for Objects<C> {
     }
 }
 
-/// Writes the members `objects` and `arcs`, each behind a comma, with cells and arcs in these ways.
+/// Writes the members `objects` and `arcs`, each after a comma, with cells and arcs in these ways.
 fn put_objects_and_arcs<C: PutValue<Cell>, A: PutValue<Items<Cell>>, W: Drain>(
     topology: &Topology,
     so_far: Progress,
@@ -68,7 +68,7 @@ fn put_objects_and_arcs<C: PutValue<Cell>, A: PutValue<Items<Cell>>, W: Drain>(
     put_array::<A, Items<Cell>, W>(topology.arcs(), so_far, sink)
 }
 
-/// Writes the members `objects` and `arcs`, each behind a comma.
+/// Writes the members `objects` and `arcs`, each after a comma.
 fn put_contents<W: Drain>(topology: &Topology, so_far: Progress, sink: &mut Sink<W>) -> Progress
     ensures { Continues sink.old sink.new so_far (members_text (contents_members topology.now)) result }
 {
@@ -94,7 +94,7 @@ pub fn put_topology<W: Drain>(topology: &Topology, so_far: Progress, sink: &mut 
 /// is two least decimals, x first, and an arc index a whole number. The box is the least x and y and then the greatest of where its
 /// cells lie, also with a transform, as least decimals. With a transform a cell is two whole numbers, an arc is its first cell and
 /// then differences, and the numbers of the transform keep their texts. Identifiers and properties keep the texts of their numbers,
-/// their order and their duplicates; a null geometry has the type null. `Write` tells how many bytes of the text the device took before
+/// their order and their duplicates; a null geometry has the type null. `Write` says how many bytes of the text the device took before
 /// it failed. This takes no memory.
 pub fn write_topology<W: Drain>(topology: &Topology, sink: &mut Sink<W>) -> Result<u64, WriteFault>
     ensures { Writes sink.old sink.new 0 (json_text (topology_value topology.now)) result }

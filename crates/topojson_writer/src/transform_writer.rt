@@ -24,7 +24,7 @@ fn put_numbers<W: Drain>(
     put_part(b"]", so_far, sink)
 }
 
-/// Writes the member `transform` behind a comma.
+/// Writes the member `transform` after a comma.
 fn put_transform_member<W: Drain>(
     transform: &Transform,
     so_far: Progress,
@@ -39,7 +39,7 @@ fn put_transform_member<W: Drain>(
     put_part(b"}", so_far, sink)
 }
 
-/// Writes the member `transform` behind a comma, if there is a transform.
+/// Writes the member `transform` after a comma, if there is a transform.
 #[tactic(auto, using(crate::proofs::Objects::none))]
 pub fn put_transform<W: Drain>(
     transform: Option<&Transform>,

@@ -1,4 +1,4 @@
--- What building layers comes to.
+-- The outcome of building layers.
 use Rattle.std.proofs.Common.{◌≡◌, inl, inr, ℕ, suc, ◌<◌, ◌^◌, Bool, true, List, ◌∷◌, length, map, Some, None, Ok, Err, arith, refl}
 use Rattle.std.specs.List.{AllByRecursion}
 use Rattle.std.specs.Prelude.{IsUtf8}

@@ -57,7 +57,7 @@ module _ (o : Options) (olds news : Sources) (sink_old sink_new : Drained) (bs :
   all_decide (Ok report) is late = built_follows report is
   all_decide (Err e) is late = late_follows e late
 
--- ---- the first sources come to a fault
+-- ---- the first sources have a fault
 
 not_taken : (o : Options) (bs : Texts) (f : BuildFault) (r : Named × List Counts) → AllComeTo 0 o.exact bs (Ok r) → ComesTo o.exact bs (Err f) → ⊥
 not_taken o bs f r all comes = let e = once o.exact bs (Ok r) (Err f) all comes in absurd cc

@@ -117,7 +117,7 @@ limited : (grid : Option ℕ) (level : Level) (limit : ℕ) → is_in_range grid
 limited None level limit h = grind (arith, nat_tests, h)
 limited (Some n) level limit h = grind (arith, nat_tests, h)
 
--- and so is a ring limit
+-- a ring limit of options is one that may be
 pub limit_of : (o : Options) → o.ring_limit ≤ threshold_limit
 limit_of o = limited o.grid o.level o.ring_limit o.in_range
 
@@ -125,7 +125,7 @@ levelled : (grid : Option ℕ) (level : Level) (limit : ℕ) → is_in_range gri
 levelled None level limit h = grind (arith, h)
 levelled (Some n) level limit h = grind (arith, h)
 
--- and a level
+-- a level of options is one that may be
 pub level_of : (o : Options) → is_level o.level ≡ true
 level_of o = levelled o.grid o.level o.ring_limit o.in_range
 

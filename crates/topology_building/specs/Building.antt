@@ -43,7 +43,7 @@ snapped_for o layers = snapped_to o.grid layers
 abbrev pub threshold_for : Options → Named → ℕ
 threshold_for o layers = level_threshold o.grid o.level layers
 
--- the same, where it was chosen
+-- the threshold at which the layers' arcs are reduced, where it was chosen for a share
 abbrev pub chosen_for : Options → Named → Option ℕ
 chosen_for o layers = level_chosen o.grid o.level layers
 
@@ -87,7 +87,7 @@ pub record SaysTopology (o : Options) (layers : Named) (text : List ℕ) : Type 
   pub written : text ≡ json_text (topology_value contents)
   pub once : AreOnceIn (all_arcs (linework (layers_of (snapped_for o layers)))) (line_segments (linework (layers_of (snapped_for o layers))))
 
--- the counts of all layers, the lines and rings that are dropped, the arcs, their positions, those that were taken out of them, and the
+-- the counts of all layers, the lines and rings that are dropped, the arcs, their positions, those that were removed from them, and the
 -- threshold, where it was chosen
 abbrev pub report_of : Options → Named → List Counts → Report
 report_of o layers counts =
@@ -134,7 +134,7 @@ IsLateFault o olds news sink_old sink_new (Write sent) = IsCutShort o olds news 
 IsLateFault o olds news sink_old sink_new Memory = (sink_new ≡ sink_old) × AreUntroubled olds news
 IsLateFault o olds news sink_old sink_new e = (sink_new ≡ sink_old) × FailsAt o.exact 0 olds news e
 
--- all of the text was taken and flushed, or a front of it, and the device failed
+-- all of the text was taken and flushed, or a prefix of it, and the device failed
 abbrev pub Sends : Drained → Drained → List ℕ → Result (Unit {0}) BuildFault → Type 0
 Sends old new text (Ok done) = (sent : ℕ) × WritesAll old new 0 text sent × (new.flushed ≡ true)
 Sends old new text (Err (Write sent)) = WritesFront old new 0 text sent

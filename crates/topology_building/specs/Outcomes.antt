@@ -1,4 +1,4 @@
--- Which answers of building follow what the bytes of the layers come to.
+-- Which answers of building follow the outcome of the bytes of the layers.
 use Rattle.std.specs.Prelude.{◌≡◌, ◌⊎◌, Result, Ok, Err}
 use Rattle.inputs.specs.declared.fault.BuildFault.{BuildFault}
 use Rattle.inputs.specs.declared.fault.BuildFault.TheVariants.{Write}

@@ -77,7 +77,7 @@ fn build_layers<Q: Reducer, R: Feed, W: Drain>(
 /// A border that lines and rings of the layers share is one arc, which the reducer reduces once. Names are looked at first, in order:
 /// up to there nothing is read. Then each layer is read, parsed and modelled before the next. Nothing is written before all layers
 /// are taken, so on each fault but `Write` the sink is as it was. On `Write` it took a prefix of the topology's text, of the length
-/// that is told. At `Ok` the sink is flushed.
+/// that is reported. At `Ok` the sink is flushed.
 pub fn build<Q: Reducer, R: Feed, W: Drain>(
     alloc: Global,
     reducer: &mut Q,
@@ -91,7 +91,7 @@ pub fn build<Q: Reducer, R: Feed, W: Drain>(
     // The text that was written is UTF-8, and JSON of a topology whose objects bear the layers' names in order. Decoding each gives the features
     // that are expected of its layer, snapped to the grid that is asked for: identifiers and properties unchanged, each line cut at
     // the junctions of all lines, each piece reduced at the threshold in the line's own direction and joined again, rings from their
-    // starts, without what is dropped, as rings that enclose less than is asked for. The report tells just what is dropped, and before
+    // starts, without what is dropped, as rings that enclose less than is asked for. The report says exactly what is dropped, and before
     // reduction each segment of the lines lies once, in exactly one arc.
     ensures built { IfOk result (λ report. IsBuilt options.now sources.old sources.new sink.old sink.new report) }
     // The reducer was called once for each arc of all lines, or never where a share is asked for: each arc is weighed once in place of that.
@@ -100,8 +100,8 @@ pub fn build<Q: Reducer, R: Feed, W: Drain>(
     ensures refused { IfErr result (λ e. (name_fault (map (λ s. s.0) sources.old) ≡ Some e)
         ⊎ IsLateFault options.now sources.old sources.new sink.old sink.new e) }
 
-    // And the other way round: what the bytes of the sources come to is answered, unless memory, a source or the sink failed. Where
-    // the first sources come to a fault, nothing need be known of those behind them.
+    // The outcome of the bytes of the sources is answered, unless memory, a source or the sink failed. Where
+    // the first sources have a fault, nothing need be known of those after them.
     ensures decided { (bytes : Texts) (outcome : Outcome) → name_fault (map (λ s. s.0) sources.old) ≡ None
         → HaveBytesFor outcome sources.old bytes → ComesTo options.now.exact bytes outcome → Follows options.now outcome result }
 {

@@ -1,4 +1,4 @@
--- The bytes of a file come to one outcome, and what `stat` and `to_geo` say of their answers makes these follow that outcome.
+-- The bytes of a file have one outcome, and what `stat` and `to_geo` say of their answers makes these follow that outcome.
 use Rattle.std.proofs.Common.{◌≡◌, ◌⊎◌, ℕ, ◌<◌, List, length, ◌∙◌, ap, subst, refl, inl, inr, Some, Result, Ok, Err}
 use Rattle.std.specs.Prelude.{IfSome}
 use Rattle.byte_ends.specs.Ends.{Fed, Drained}
@@ -127,7 +127,7 @@ module _ (sink_old sink_new : Drained) where
     found_fails (Json r) is = failed (Json r) is
     found_fails (Topo r) is = failed (Topo r) is
 
-    -- the text of the features that are had is written, or a front of it
+    -- the text of the features that are had is written, or a prefix of it
     pub sent_decides : (features : FeatureSet) → GivesFeatures name old new features → (r : Result ℕ FileFault) → SendsText sink_old sink_new (features_text features) r
         → FollowsText sink_old sink_new outcome r
     sent_decides features is (Ok sent) w = text_written outcome (features_text features) sent (read_decides is.contents is.counts (Ok (features_text features)) is.read (ap text_if_any is.found)) w.0

@@ -1,4 +1,4 @@
--- The bytes of a file come to an outcome.
+-- The bytes of a file have an outcome.
 use Rattle.std.proofs.Common.{ℕ, List, Result}
 use Rattle.byte_ends.specs.declared.source.ReadFault.TheVariants as read
 use Rattle.geojson_types.specs.declared.counts.Counts.{Counts}

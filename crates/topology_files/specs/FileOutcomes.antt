@@ -1,4 +1,4 @@
--- What the bytes of a file come to, and which answers follow it.
+-- The outcome of the bytes of a file, and which answers follow it.
 use Rattle.std.specs.Prelude.{◌≡◌, ◌⊎◌, ℕ, List, Option, None, Some, Result, Ok, Err}
 use Rattle.byte_ends.specs.Ends.{Drained}
 use Rattle.byte_ends.specs.Writes.{WritesAll}
@@ -21,7 +21,7 @@ use Rattle.reports.specs.Summaries.{summary_of}
 
 -- ---- what is asked of a topology and of what is counted in reading it
 
--- its summary
+-- the summary of a topology
 abbrev pub summarised : Contents → Counts → Result Summary FileFault
 summarised t counts = Ok (summary_of t)
 
@@ -33,7 +33,7 @@ text_if_any (Some features) = Ok (features_text features)
 abbrev pub object_text : List ℕ → Contents → Counts → Result (List ℕ) FileFault
 object_text name t counts = text_if_any (decoded t name)
 
--- ---- what bytes come to, where that is asked
+-- ---- the outcome of bytes, where that is asked
 
 abbrev pub of_topology : {A : Type 0} → (Contents → Counts → Result A FileFault) → Result (Contents × Counts) TopoFault → Result A FileFault
 of_topology asked (Err fault) = Err (Topo fault)
@@ -69,7 +69,7 @@ IsOutsideGiven (Read read.Read) = Unit {0}
 IsOutsideGiven Memory = Unit {0}
 IsOutsideGiven e = ⊥
 
--- the same, or the sink failed
+-- memory was refused, the source failed, or the sink failed
 abbrev pub IsOutsideFile : FileFault → Type 0
 IsOutsideFile (Write sent) = Unit {0}
 IsOutsideFile e = IsOutsideGiven e

@@ -16,7 +16,7 @@ use Rattle.topology_files.specs.Files.{IsTopologyRead, FailsToGive}
 abbrev pub features_text : FeatureSet → List ℕ
 features_text features = json_text (features_value features)
 
--- all of the text was taken and flushed, and the answer is its length, or a front of it was taken, and the device failed
+-- all of the text was taken and flushed, and the answer is its length, or a prefix of it was taken, and the device failed
 abbrev pub SendsText : Drained → Drained → List ℕ → Result ℕ FileFault → Type 0
 SendsText old new text (Ok sent) = WritesAll old new 0 text sent × (new.flushed ≡ true)
 SendsText old new text (Err (Write sent)) = WritesFront old new 0 text sent
@@ -37,7 +37,7 @@ pub record IsDecoded (name : List ℕ) (old new : Fed) (sink_old sink_new : Drai
   pub written : WritesAll sink_old sink_new 0 (features_text features) sent
   pub flushed : sink_new.flushed ≡ true
 
--- the device failed when it had taken a front of their text
+-- the device failed when it had taken a prefix of their text
 pub record IsDecodedInPart (name : List ℕ) (old new : Fed) (sink_old sink_new : Drained) (sent : ℕ) : Type 0 where
   pub features : FeatureSet
   pub given : GivesFeatures name old new features

@@ -9,11 +9,11 @@ use Rattle.topology_files.specs.FileOutcomes.{FileComesTo, plain_file_outcome}
 use Rattle.topology_files.specs.Files.{SpellsTopology}
 use Rattle.topology_files.specs.Geo.{features_text}
 
--- any bytes come to an outcome, where this is asked of a topology
+-- any bytes have an outcome, where this is asked of a topology
 abbrev pub HaveFileOutcome : {A : Type 0} → (Contents → Counts → Result A FileFault) → Type 0
 HaveFileOutcome {A} asked = (bytes : List ℕ) → (outcome : Result A FileFault) × FileComesTo asked bytes outcome
 
--- and to one alone, but for the place and the reason in a malformed text
+-- bytes have only one outcome, but for the place and the reason in a malformed text
 abbrev pub HaveOneFileOutcome : {A : Type 0} → (Contents → Counts → Result A FileFault) → Type 0
 HaveOneFileOutcome {A} asked = (bytes : List ℕ) (one other : Result A FileFault) → FileComesTo asked bytes one → FileComesTo asked bytes other
     → plain_file_outcome one ≡ plain_file_outcome other

@@ -35,7 +35,7 @@ fn send<W: Drain>(
 ///
 /// The topology is read from its source to the end, and refused as by `stat`. A GeometryCollection is a FeatureCollection, any other
 /// object a Feature; each line and ring is its arcs, forwards or reversed, put together. On each fault but `Write` the sink is as
-/// it was. On `Write` it took a prefix of the text, of the length that is told. At `Ok` the sink is flushed.
+/// it was. On `Write` it took a prefix of the text, of the length that is reported. At `Ok` the sink is flushed.
 pub fn to_geo<R: Feed, W: Drain>(
     alloc: Global,
     source: &mut Source<R>,
@@ -46,7 +46,7 @@ pub fn to_geo<R: Feed, W: Drain>(
     ensures written { IfOk result (λ sent. IsDecoded name.now source.old source.new sink.old sink.new sent) }
     // Every fault is one that the source, its bytes or the name have, or a prefix of that text was written.
     ensures refused { IfErr result (λ e. IsGeoFault name.now source.old source.new sink.old sink.new e) }
-    // And the other way round: what the bytes of the source come to is answered, unless memory, the source or the sink failed.
+    // The outcome of the bytes of the source is answered, unless memory, the source or the sink failed.
     ensures decided { (bytes : List ℕ) (outcome : Result (List ℕ) Fault) → source.old.left ≡ Some bytes → FileComesTo (object_text name.now) bytes outcome
         → FollowsText sink.old sink.new outcome result }
 {

@@ -7,14 +7,14 @@ use geojson_writer::features_text_is_utf8;
 use json_value::read_values_are_well_formed;
 use topojson_meaning::{numbers_stay, texts_stay};
 
-/// The bytes of a file come to exactly one outcome where `stat` is asked: either the summary, or the fault. What nothing promises is
+/// The bytes of a file have exactly one outcome where `stat` is asked: either the summary, or the fault. What nothing promises is
 /// where and why a malformed text is malformed.
 pub fn summary_is_one_outcome()
     ensures there { HaveFileOutcome summarised }
     ensures one { HaveOneFileOutcome summarised }
 {}
 
-/// The bytes of a file come to exactly one outcome where `to_geo` is asked for the object of a name: either the text of its features,
+/// The bytes of a file have exactly one outcome where `to_geo` is asked for the object of a name: either the text of its features,
 /// or the fault, but for where and why a malformed text is malformed.
 pub fn features_are_one_outcome()
     ensures there { (name : List ℕ) → HaveFileOutcome (object_text name) }

@@ -21,7 +21,7 @@ pub fn stat<R: Feed>(alloc: Global, source: &mut Source<R>) -> Result<Summary, F
     ensures told { IfOk result (λ summary. IsSummarised source.old source.new summary) }
     // Every fault is one that the source or its bytes have.
     ensures refused { IfErr result (λ e. FailsToGive source.old source.new e) }
-    // And the other way round: what the bytes of the source come to is answered, unless memory or the source failed.
+    // The outcome of the bytes of the source is answered, unless memory or the source failed.
     ensures decided { (bytes : List ℕ) (outcome : Result Counted Fault) → source.old.left ≡ Some bytes → FileComesTo summarised bytes outcome
         → FollowsSummary outcome result }
 {

@@ -1,4 +1,4 @@
--- Cells that are picked, and where they lie.
+-- Cells that are retained, and where they lie.
 use Rattle.std.proofs.Common.{◌≡◌, ℕ, ◌+◌, ◌<◌, ◌≤◌, List, [], ◌∷◌, ◌++◌, map, length, take, drop, get_or, slice_get, Option, None, Some, append_assoc, append-nil, refl, sym, ap, ◌∙◌, arith}
 use Rattle.std.proofs.lemmas.List.{take_more, drop_all, map-id}
 use Rattle.std.specs.List.{AllByRecursion}

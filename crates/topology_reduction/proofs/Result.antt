@@ -147,7 +147,7 @@ module _ (kept : List (List ℕ)) (limit : ℕ) (y : Contents) (picked : List (L
   pub ranged : IsTopology y → EachFromFirstToLast kept y.arcs → AllByRecursion (InRange (length picked)) (objects_strokes large)
   ranged valid through = range_stays (length picked) limit (placed_arcs y.transform picked) y.objects (subst (λ n. AllByRecursion (InRange n) (objects_strokes y.objects)) (sym (picked_long through)) valid.ranged)
 
-  -- the cells that are picked may stand in the topology
+  -- the cells that are retained may stand in the topology
   pub places_are : IsTopology y → AllByRecursion (λ a. AllByRecursion (IsPlace y.transform) a) picked
   places_are valid = subst (AllByRecursion (λ a. AllByRecursion (IsPlace y.transform) a)) (sym is) (places_picked y.transform kept y.arcs (topology_places y valid))
 

@@ -17,15 +17,15 @@ abbrev pub draft_cause : Rebuilding → Bool → List ℤ → Option Cause
 draft_cause arcs closed [] = Some Collapsed
 draft_cause arcs closed (r ∷ rs) = small_cause arcs.limit arcs.arcs closed (r ∷ rs)
 
--- those of a shape that may be null, and the ways to them
+-- the lines and rings of a shape that may be null that are dropped, and the ways to them
 abbrev pub shape_drops : Rebuilding → Option TopoShape → List (Placed Cause)
 shape_drops arcs None = []
 shape_drops arcs (Some s) = omissions (draft_cause arcs) s
 
--- those of the features of the object with this number, of which the first has the second number
+-- the lines and rings that are dropped of the features of the object with this number, of which the first has the second number
 abbrev pub object_drops : Rebuilding → ℕ → ℕ → List TopoFeature → List Dropped
 object_drops arcs object feature fs = dropped_of_layer object feature (map (λ f. shape_drops arcs f.shape) fs)
 
--- those of the objects, of which the first has this number, in reading order; an object stands in the place of a layer
+-- the lines and rings that are dropped of the objects, of which the first has this number, in reading order; an object stands in the place of a layer
 abbrev pub objects_drops : Rebuilding → ℕ → List (List ℕ × TopoObject) → List Dropped
 objects_drops arcs object os = dropped_of_layers object (map (λ o. map (λ f. shape_drops arcs f.shape) (object_features o.1)) os)

@@ -9,7 +9,7 @@ use json_value::Items;
 use std::marker::Model;
 use topojson_types::ArcRef;
 
-/// Those that aren't small where they are rebuilt of these arcs, as they are.
+/// Keeps the lines and rings that aren't small where they are rebuilt of these arcs, as they are.
 impl<'a> Keeps for Rebuilding<'a> {
     ghost keeps = { λ arcs. large_refs arcs.limit arcs.arcs };
 
@@ -18,7 +18,7 @@ impl<'a> Keeps for Rebuilding<'a> {
     }
 }
 
-/// All of them, each index replaced by the one that the ranks give for its arc.
+/// Keeps all lines and rings, each index replaced by the new index of its arc.
 #[derive(Drop)]
 pub struct Ranked<'a> {
     ranks: &'a [ArcRef],

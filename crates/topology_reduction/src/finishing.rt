@@ -103,9 +103,9 @@ fn without_unused<P>(
     Ok((stay, taken_out(before, after)))
 }
 
-/// What is left of objects over arcs of which only the picked cells stay: without the lines and rings that have no arc index, or are
+/// What is left of objects over arcs of which only the retained cells stay: without the lines and rings that have no arc index, or are
 /// small, and without the arcs that no other line uses; the lines and rings that are dropped, in reading order, an
-/// object in the place of a layer; and how many positions of the arcs that stay were not picked.
+/// object in the place of a layer; and how many positions of the arcs that stay were not retained.
 pub fn finish<P>(
     alloc: Global,
     objects: Vec<(OwnText, TopoObject)>,

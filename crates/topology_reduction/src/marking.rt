@@ -37,7 +37,7 @@ fn mark_objects(objects: &[(OwnText, TopoObject)], used: &mut [bool])
     }
 }
 
-/// Those that the object uses.
+/// Sets the flags of the arcs that the object uses.
 #[tactic(auto, using(crate::proofs::Marks::one_marked))]
 fn mark_object(object: &TopoObject, used: &mut [bool])
     ensures { used.new ≡ also_set (any_uses (features_strokes (object_features object.now))) 0 used.old }
@@ -48,7 +48,7 @@ fn mark_object(object: &TopoObject, used: &mut [bool])
     }
 }
 
-/// Those that the features use.
+/// Sets the flags of the arcs that the features use.
 fn mark_features(features: &[TopoFeature], used: &mut [bool])
     ensures { used.new ≡ also_set (any_uses (features_strokes features.now)) 0 used.old }
 {
@@ -57,7 +57,7 @@ fn mark_features(features: &[TopoFeature], used: &mut [bool])
     }
 }
 
-/// Those that the feature uses.
+/// Sets the flags of the arcs that the feature uses.
 #[tactic(auto, using(crate::proofs::Marks::null_marked))]
 fn mark_feature(feature: &TopoFeature, used: &mut [bool])
     ensures { used.new ≡ also_set (any_uses (option_strokes feature.now.shape)) 0 used.old }
@@ -67,7 +67,7 @@ fn mark_feature(feature: &TopoFeature, used: &mut [bool])
     }
 }
 
-/// Those that the shape uses.
+/// Sets the flags of the arcs that the shape uses.
 fn mark_shape(shape: &TopoShape, used: &mut [bool])
     ensures { used.new ≡ also_set (any_uses (strokes shape.now)) 0 used.old }
 {
@@ -86,7 +86,7 @@ fn mark_shape(shape: &TopoShape, used: &mut [bool])
     }
 }
 
-/// Those that the polygons use.
+/// Sets the flags of the arcs that the polygons use.
 fn mark_areas(areas: &[Items<Items<ArcRef>>], used: &mut [bool])
     ensures { used.new ≡ also_set (λ n. list_any (λ rings. list_any (λ refs. names_arc refs n) rings) areas.now) 0 used.old }
 {
@@ -95,7 +95,7 @@ fn mark_areas(areas: &[Items<Items<ArcRef>>], used: &mut [bool])
     }
 }
 
-/// Those that the lines or rings use.
+/// Sets the flags of the arcs that the lines or rings use.
 fn mark_lines(lines: &[Items<ArcRef>], used: &mut [bool])
     ensures { used.new ≡ also_set (λ n. list_any (λ refs. names_arc refs n) lines.now) 0 used.old }
 {

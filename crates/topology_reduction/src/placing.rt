@@ -28,7 +28,7 @@ fn placed_cells(
     Ok(Items::of(placed))
 }
 
-/// The same of each arc.
+/// Of each arc the positions that its cells stand for.
 pub fn placed_arcs(
     alloc: Global,
     arcs: &[Items<Cell>],

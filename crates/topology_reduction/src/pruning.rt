@@ -51,7 +51,7 @@ fn pruned_line<K: Keeps>(keeps: &K, refs: Items<ArcRef>) -> Option<TopoShape>
     }
 }
 
-/// Those of the lines that stay, if any does.
+/// The lines that stay, if any does.
 #[tactic(auto, using(arc_choice::proofs::Kept::empty_left, arc_choice::proofs::Kept::some_left))]
 fn pruned_lines<K: Keeps>(keeps: &K, lines: Vec<Items<ArcRef>>) -> Option<TopoShape>
     ensures { result ≡ unless_empty kind.Lines (some_of (K.keeps keeps.now false) lines.items) }
@@ -81,7 +81,7 @@ fn pruned_area<K: Keeps>(keeps: &K, rings: Vec<Items<ArcRef>>) -> Option<Items<I
     Some(Items::of(rings))
 }
 
-/// Those of the polygons that stay, if any does.
+/// The polygons that stay, if any does.
 #[tactic(auto, using(arc_choice::proofs::Kept::empty_left, arc_choice::proofs::Kept::some_left))]
 fn pruned_areas<K: Keeps>(
     alloc: Global,

@@ -19,7 +19,7 @@ use topojson_types::{Cell, TopoObject, Topology, Transform};
 
 /// What is left of the objects and the arcs of a topology, with of each arc only the cells with the numbers of its own list: without the
 /// lines and rings that are then small, and without the arcs that no kept line uses; the lines and rings that
-/// are dropped, in reading order, an object in the place of a layer; and how many positions are taken out of the arcs that stay.
+/// are dropped, in reading order, an object in the place of a layer; and how many positions are removed from the arcs that stay.
 fn reduced_parts(
     alloc: Global,
     objects: Vec<(OwnText, TopoObject)>,
@@ -51,7 +51,7 @@ fn reduced_parts(
 }
 
 /// What is left of the topology, as a topology with the same transform; the lines and rings that are dropped; and how many positions
-/// are taken out of the arcs that stay.
+/// are removed from the arcs that stay.
 fn reduced_topology(
     alloc: Global,
     topology: Topology,
@@ -84,7 +84,8 @@ pub trait Reduces: Sized {
     ghost contents: { Self → Contents };
 
     /// What is left of it, with of each arc only the cells with the numbers of its own list, which begin with the first and end
-    /// with the last, without rings that enclose less than half the limit; the lines and rings that are dropped; and how many positions are taken out of the arcs that stay.
+    /// with the last, without rings that enclose less than half the limit; the lines and rings that are dropped; and how many positions are
+    /// removed from the arcs that stay.
     fn reduce(
         self,
         alloc: Global,

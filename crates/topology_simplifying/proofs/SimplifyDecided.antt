@@ -1,4 +1,4 @@
--- The bytes of a file come to one outcome, and what `simplify` says of its answer makes it follow that outcome.
+-- The bytes of a file have one outcome, and what `simplify` says of its answer makes it follow that outcome.
 use Rattle.std.proofs.Common.{◌≡◌, ◌⊎◌, ℕ, List, length, ◌∙◌, ap, subst, inl, inr, Some, Result, Ok, Err}
 use Rattle.byte_ends.specs.Ends.{Fed, Drained, Takes}
 use Rattle.inputs.specs.declared.file_fault.FileFault.{FileFault}

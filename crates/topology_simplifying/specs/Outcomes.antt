@@ -1,4 +1,4 @@
--- Which answers of simplifying follow what the bytes of the file come to.
+-- Which answers of simplifying follow the outcome of the bytes of the file.
 use Rattle.std.specs.Prelude.{◌≡◌, ◌⊎◌, ℕ, List, length, Result, Ok, Err}
 use Rattle.byte_ends.specs.Ends.{Drained, Takes}
 use Rattle.geojson_types.specs.declared.counts.Counts.{Counts}

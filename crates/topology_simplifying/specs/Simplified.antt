@@ -20,7 +20,7 @@ abbrev pub lessened_text : ℕ → ℕ → Contents → List ℕ
 lessened_text t limit y = json_text (topology_value (lessened t limit y))
 
 -- what was counted in reading the topology, the lines and rings that are dropped, the arcs that are left, their positions, and
--- those that were taken out of these arcs
+-- those that were removed from these arcs
 abbrev pub report_of : ℕ → ℕ → Contents → Counts → Report
 report_of t limit y counts = report_with counts (lessened_dropped t limit y) (lessened t limit y).arcs (saturated (lessened_taken_out t limit y)) None
 
@@ -54,7 +54,7 @@ pub record IsSimplified (t limit : ℕ) (old new : Fed) (sink_old sink_new : Dra
   pub flushed : sink_new.flushed ≡ true
   pub told : report ≡ report_of t limit contents counts
 
--- the device failed when it had taken a front of that text
+-- the device failed when it had taken a prefix of that text
 pub record IsSimplifiedInPart (t limit : ℕ) (old new : Fed) (sink_old sink_new : Drained) (sent : ℕ) : Type 0 where
   pub contents : Contents
   pub counts : Counts

@@ -13,7 +13,7 @@ pub fn simplified_text_is_lessened()
     ensures { SimplifiesToLessened }
 {}
 
-/// The bytes of a file come to exactly one outcome where `simplify` is asked at a threshold: either the text of what is left of the
+/// The bytes of a file have exactly one outcome where `simplify` is asked at a threshold: either the text of what is left of the
 /// topology and the report, or the fault, but for where and why a malformed text is malformed.
 pub fn simplified_is_one_outcome()
     ensures there { (t ring_limit : ℕ) → HaveFileOutcome (simplified t ring_limit) }

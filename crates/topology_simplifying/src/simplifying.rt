@@ -55,10 +55,10 @@ fn send<W: Drain>(topology: &Topology, sink: &mut Sink<W>) -> Result<u64, FileFa
 /// Each arc is reduced once at the threshold `t`, twice an area in square units, by the positions that it stands for (Visvalingam
 /// and Whyatt 1993); the cells that stay keep their numbers, and the transform stays. A line or ring that is left with too few
 /// positions is dropped, a ring of which twice the area is under `ring_limit` (in square units), and a ring of a polygon whose outer
-/// ring is; arcs that no line uses are left out. The report tells
-/// what was counted in reading, what is dropped, and of the arcs that are left how many positions stay and were taken out. The
+/// ring is; arcs that no line uses are left out. The report says
+/// what was counted in reading, what is dropped, and of the arcs that are left how many positions stay and were removed. The
 /// topology is refused as by `stat`. On each fault but `Write` the sink is as it was. On `Write` it took a prefix of the text, of
-/// the length that is told. At `Ok` the sink is flushed.
+/// the length that is reported. At `Ok` the sink is flushed.
 pub fn simplify<Q: Reducer, R: Feed, W: Drain>(
     alloc: Global,
     reducer: &mut Q,
@@ -74,7 +74,7 @@ pub fn simplify<Q: Reducer, R: Feed, W: Drain>(
     ensures reduced { IfOk result (λ _. CallsForTopology source.old source.new (Q.calls reducer.old) (Q.calls reducer.new)) }
     // Every fault is one that the source or its bytes have, or a prefix of that text was written.
     ensures refused { IfErr result (λ e. IsSimplifyFault t ring_limit source.old source.new sink.old sink.new e) }
-    // And the other way round: what the bytes of the source come to is answered, unless memory, the source or the sink failed.
+    // The outcome of the bytes of the source is answered, unless memory, the source or the sink failed.
     ensures decided { (bytes : List ℕ) (outcome : Result (List ℕ × Told) Fault) → source.old.left ≡ Some bytes → FileComesTo (simplified t ring_limit) bytes outcome
         → FollowsSimplified sink.old sink.new outcome result }
 {

@@ -24,7 +24,7 @@ abbrev pub whole_front : List ℕ → Bool
 whole_front [] = false
 whole_front (b ∷ bs) = if b == 48 then not (starts_digit bs) else is_digit b
 
--- a digit is first, and goes behind the value, and this follows it
+-- a digit is first, and goes after the value, and this follows it
 pub record IsDigitFirst (bytes : List ℕ) (value longer : ℕ) (rest : List ℕ) : Type 0 where
   pub digit : ℕ
   pub is : is_digit digit ≡ true
@@ -47,22 +47,22 @@ pub record IsFractionOf (bytes : List ℕ) (start value places : ℕ) (rest : Li
   pub value_is : value ≡ digits_value_after start digits
   pub places_are : places ≡ length digits
 
--- nothing follows, or a byte that may stand behind a value: white space, a comma (44) or a bracket that closes (93, 125)
+-- nothing follows, or a byte that may stand after a value: white space, a comma (44) or a bracket that closes (93, 125)
 abbrev pub ends : List ℕ → Bool
 ends [] = true
 ends (b ∷ bs) = is_space b || (b == 44 || (b == 93 || b == 125))
 
--- The bytes begin with a number that comes to this value at so many decimals, within the limit, rounded where it isn't exact, and the
+-- The bytes begin with a number that has this value at so many decimals, within the limit, rounded where it isn't exact, and the
 -- rest follows it. It is the value at the front at any depth.
 pub record IsNumberAt (places limit : ℕ) (bytes : List ℕ) (value : ℤ) (exact : Bool) (rest : List ℕ) : Type 0 where
   pub text : List ℕ
   pub front : (fits : List ℕ → Bool) (d : ℕ) → value_at fits d bytes ≡ Some (j.Number text, rest)
   pub scaled : scaled_of places limit text ≡ Ok (record { value = value; exact = exact })
 
--- the same in units of coordinates, within the limit of positions that are read
+-- the bytes begin with a number of units of coordinates, within the limit of positions that are read
 abbrev pub IsUnits : List ℕ → ℤ → Bool → List ℕ → Type 0
 IsUnits = IsNumberAt unit_places input_limit
 
--- the same where it is whole
+-- the bytes begin with a whole number within the limit
 abbrev pub IsWholeNumber : ℕ → List ℕ → ℤ → List ℕ → Type 0
 IsWholeNumber limit bytes value rest = IsNumberAt 0 limit bytes value true rest

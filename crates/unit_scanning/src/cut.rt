@@ -11,7 +11,7 @@ use crate::signs::{sign_at, with_sign};
 use crate::units::Units;
 use geometry::INPUT_LIMIT;
 
-/// The bytes of the longest number that is read this way, and the one behind it: a sign, digits, the point, and twice digits again.
+/// The bytes of the longest number that is read this way, and the one after it: a sign, digits, the point, and twice digits again.
 const LONGEST: usize = 30;
 
 /// Whole units and some parts of one, of which so many are a unit, rounded to units, halves up.
@@ -28,8 +28,8 @@ fn nearest_units(units: u64, some: u64, parts: u64) -> u64
     units + 1
 }
 
-/// So many decimals, and more behind them, rounded to those that are kept, and whether nothing was rounded. None past the limit, and where
-/// more decimals stand behind fewer than are kept.
+/// So many decimals, and more after them, rounded to those that are kept, and whether nothing was rounded. None past the limit, and where
+/// more decimals stand after fewer than are kept.
 #[inline(always)]
 fn rounded_at(kept: u64, places: usize, cut: u64, more: usize) -> Option<(u64, bool)>
     requires places { places ≤ 9 }

@@ -14,7 +14,7 @@ const ROOM: u64 = 100_000_000_000_000_000;
 /// How many decimals are read this way.
 const MOST_PLACES: usize = 17;
 
-/// A number that may have one more zero behind it.
+/// A number that may have one more zero after it.
 const ROOM_FOR_ZERO: u64 = INPUT_LIMIT / 10;
 
 /// What follows the byte, where it is first.
@@ -105,7 +105,7 @@ pub fn fraction_at(start: u64, bytes: &[u8]) -> Option<(u64, usize, &[u8])>
     Some((value, places, rest))
 }
 
-/// The number with so many zeros behind it. None past the limit of coordinates that are read.
+/// The number with so many zeros after it. None past the limit of coordinates that are read.
 #[inline(always)]
 pub fn with_zeros(start: u64, zeros: usize) -> Option<u64>
     requires { start < 10 ^ 18 }

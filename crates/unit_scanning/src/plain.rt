@@ -9,10 +9,10 @@ use crate::digits::{after_byte, digits_at, is_whole, starts_with_digit};
 use crate::signs::{sign_at, with_sign};
 use geometry::INPUT_LIMIT;
 
-/// How many digits are read this way, before the point and behind it.
+/// How many digits are read this way, before the point and after it.
 pub const FEW: usize = 9;
 
-/// The bytes of the longest number that is read this way, and the one behind it: a sign, digits, the point and digits again.
+/// The bytes of the longest number that is read this way, and the one after it: a sign, digits, the point and digits again.
 const LONGEST: usize = 21;
 
 /// The units in one of the last of so many decimals.
@@ -29,7 +29,7 @@ const UNITS_OF_PLACE: [u64; 10] = [
     1,
 ];
 
-/// The value with the digit at the front behind it, if there is one, and what follows it.
+/// The value with the digit at the front after it, if there is one, and what follows it.
 #[inline(always)]
 fn with_digit(value: u64, bytes: &[u8]) -> Option<(u64, &[u8])>
     requires { value ≤ 10 ^ 18 }
@@ -90,7 +90,7 @@ pub fn units_of_place(places: usize) -> u64
 }
 
 /// A fraction, or the first few digits of it, if there is one: what it writes after `start`, how many digits those are, and what follows
-/// them. None where no digit stands behind the point.
+/// them. None where no digit stands after the point.
 #[inline(always)]
 pub fn few_decimals_at(start: u64, bytes: &[u8]) -> Option<(u64, usize, &[u8])>
     requires { start < 10 ^ 9 }

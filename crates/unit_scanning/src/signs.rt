@@ -3,7 +3,7 @@ ghost use Rattle.std.specs.Prelude.{◌≡◌, ◌++◌, ◌^◌, ◌≤◌, uns
 ghost use Rattle.decimal_text.specs.Parts.{sign_text};
 ghost use Rattle.decimal_text.specs.Rounding.{signed};
 
-/// What is behind a minus sign, if there is one.
+/// What is after a minus sign, if there is one.
 #[inline(always)]
 pub fn sign_at(bytes: &[u8]) -> (bool, &[u8])
     ensures { bytes.now ≡ sign_text result.0 ++ result.1.now }

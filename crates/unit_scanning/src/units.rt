@@ -66,7 +66,7 @@ fn any_units_at(bytes: &[u8]) -> Option<(Units, &[u8])>
     Some((units, rest))
 }
 
-/// The same as `units_at`, which is faster where no more decimals are written than are kept.
+/// The number at the front in whole units, however many decimals are written. `units_at` is faster where no more are written than are kept.
 #[cold]
 #[inline(never)]
 pub fn long_units_at(bytes: &[u8]) -> Option<(Units, &[u8])>

@@ -7,7 +7,7 @@ use Rattle.std.specs.Int.RustNames.{unsigned_abs}
 use mir.Syntax.{w128, w64}
 use Rattle.effective_area.proofs.steps.twice_area.Goals as goal
 
--- the same difference, through the bits of its parts
+-- a difference that is taken by the bits of its parts is the difference
 through : (p q : ℤ) → FitsSigned w128 p → FitsSigned w128 q → to_z w128 (of_z w128 p) -ℤ to_z w128 (of_z w128 q) ≡ p -ℤ q
 through p q f g = ap (λ z. z -ℤ to_z w128 (of_z w128 q)) (to_z-of_z w128 p f) ∙ ap (λ z. p -ℤ z) (to_z-of_z w128 q g)
 

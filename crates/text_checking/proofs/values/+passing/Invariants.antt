@@ -23,10 +23,10 @@ decreases-after_array l = 4 * l.deepest + 3
 abbrev pub decreases-after_object : goal.decreases-after_object
 decreases-after_object l = 4 * l.deepest + 3
 
--- some elements are behind, and how more of them go on
+-- some elements were passed, and how more of them go on
 abbrev pub invariant-after_elements-loop : goal.invariant-after_elements-loop
 invariant-after_elements-loop l = (vs : List Json) × (with_front vs (spec.elements_at is_utf8 l.deepest (length l.bytes - l.counter) l.rest) ≡ spec.elements_at is_utf8 l.deepest (length l.bytes) l.bytes)
 
--- the same of members
+-- some members were passed, and how more of them go on
 abbrev pub invariant-after_members-loop : goal.invariant-after_members-loop
 invariant-after_members-loop l = (ms : List (List ℕ × Json)) × (with_front ms (spec.members_at is_utf8 l.deepest (length l.bytes - l.counter) l.rest) ≡ spec.members_at is_utf8 l.deepest (length l.bytes) l.bytes)

@@ -11,7 +11,7 @@ split_strokes cuts from [] ends = []
 split_strokes cuts from (s ∷ ss) [] = []
 split_strokes cuts from (s ∷ ss) (end ∷ ends) = record { stroke = s; pieces = slices s.positions (slice_range cuts from end) } ∷ split_strokes cuts end ss ends
 
--- each line has an end, the indexes of each rise below the number of its positions, and none is left behind those of the last
+-- each line has an end, the indexes of each rise below the number of its positions, and none is left after those of the last
 abbrev pub AreCutIndexes : List ℕ → ℕ → List Stroke → List ℕ → Type 0
 AreCutIndexes cuts from [] [] = from ≡ length cuts
 AreCutIndexes cuts from [] (end ∷ ends) = ⊥

@@ -21,7 +21,7 @@ use std::marker::Model;
 #[derive(Debug, Drop)]
 pub struct Pieces {
     strokes: Vec<Stroke>,
-    /// The indexes at which the lines are cut, those of each behind those of the lines before it.
+    /// The indexes at which the lines are cut, those of each after those of the lines before it.
     cuts: Vec<usize>,
     /// Where the indexes of each line end among all.
     ends: Vec<usize>,

@@ -11,7 +11,7 @@ use junctions::{Stroke, Vertices};
 use owned_values::Memory;
 
 /// Turns the line whose first visit has this number, if it is a ring, so that it begins at its start, and adds the indexes at which it is
-/// cut, behind those of other lines.
+/// cut, after those of other lines.
 pub fn split_stroke(
     stroke: &mut Stroke,
     visit: usize,

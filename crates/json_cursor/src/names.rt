@@ -83,7 +83,7 @@ pub fn name_at<'a>(alloc: Global, bytes: &'a [u8]) -> Result<(Name<'a>, &'a [u8]
     Ok((name, skip(behind)))
 }
 
-/// What follows this word and the quotation mark behind it, where a string's front stands so in the text: without a look for its end.
+/// What follows this word and the quotation mark after it, where a string's front stands so in the text: without a look for its end.
 #[inline(always)]
 fn quoted_at<'a>(word: &str, inside: &'a [u8]) -> Option<&'a [u8]>
     requires { simple word.now ≡ true }

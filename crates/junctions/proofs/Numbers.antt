@@ -67,7 +67,7 @@ numbered ks (n ∷ ns) [] i d e h l = cc
 numbered ks (n ∷ ns) (p ∷ ps) zero d e h l = cc
 numbered ks (n ∷ ns) (p ∷ ps) (suc i) d e h l = let t : map (slice_get ks) ns ≡ map Some ps = cc in numbered ks ns ps i d e t (omega arith)
 
--- numbers stay when a position comes behind
+-- numbers stay when a position comes after
 numbers_front : (ks : List Point) (q : Point) (ns : List ℕ) (ps : List Point) → AreNumbers ks ns ps → AreNumbers (ks ++ (q ∷ [])) ns ps
 numbers_front ks q [] [] h = refl
 numbers_front ks q [] (p ∷ ps) h = cc

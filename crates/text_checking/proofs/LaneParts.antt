@@ -22,7 +22,7 @@ module _ (bytes : List ℕ) (enough : 16 ≤ length bytes) where
         let front : k < 16 = omega (arith, lt, within) in
         not_so (eqb (get_or bytes k 0) byte) (subst (λ x. not (eqb x byte) ≡ true) (get_or-take 16 bytes k 0 front) (prefix_len_passes (λ x. not (eqb x byte)) (take 16 bytes) k 0 before))
 
--- the first byte, and those behind it
+-- the first byte, and those after it
 pub split : (rest : List ℕ) → 1 ≤ length rest → rest ≡ get_or rest 0 0 ∷ take (length rest - 1) (drop 1 rest)
 split [] h = absurd (omega (arith, h))
 split (b ∷ bs) h = ap (λ z. b ∷ z) (sym (take_rest (b ∷ bs) 1))

@@ -58,7 +58,7 @@ module _ {A : Type 0} (f : A → Option A) (xs : List A) (i kept : ℕ) (ys : Li
   so_far : take (i + 1) xs ≡ take i xs ++ get_or ys i d ∷ []
   so_far = take_more xs i d (omega (arith, so.long)) ∙ ap (λ z. take i xs ++ z ∷ []) (sym passed.0)
 
-  -- it stays, and lies behind the others that stay
+  -- it stays, and lies after the others that stay
   pub stays : f (get_or ys i d) ≡ Some y → InFront f xs (i + 1) (kept + 1) (swap (set ys i y) kept i)
   stays left = record {
     few = omega (arith, so.few);

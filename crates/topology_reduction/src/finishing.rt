@@ -80,7 +80,7 @@ fn renumber(
     prune_objects(alloc, &Ranked::by(&ranks), objects)
 }
 
-/// The picked arcs without those that no line or ring of the objects uses, and how many of the positions of the others were not picked.
+/// The retained arcs without those that no line or ring of the objects uses, and how many of the positions of the others were not retained.
 /// The objects have the new indexes.
 fn without_unused<P>(
     alloc: Global,

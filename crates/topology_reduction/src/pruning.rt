@@ -1,5 +1,5 @@
 // Geometries without some of their lines and rings, and with the arc indexes of the others replaced. What stays is changed where it
-// stands: only a collection and a MultiPolygon have a list made anew.
+// stands: only a collection and a MultiPolygon have a list made again.
 ghost use Rattle.std.specs.Prelude.{◌≡◌, ◌≤◌, ℤ, Bool, false, true, List, Option, None, Some, IfOk, OnOk, length, map, take};
 ghost use Rattle.std.specs.Bool.{OnFalse, OnTrue};
 ghost use Rattle.geometry.specs.declared.shape.Geometry.TheVariants as kind;

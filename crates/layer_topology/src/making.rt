@@ -77,7 +77,7 @@ fn reduced_topology<Q: Reducer>(
     assembling_takes_out();
     let table = shared_arcs(alloc, &layers)?;
     let (kept, chosen) = kept_positions(alloc, reducer, &table, level)?;
-    let (topology, dropped, taken_out) = assemble(alloc, layers, &table, &kept, ring_limit)?;
+    let (topology, dropped, taken_out) = assemble(alloc, layers, table, &kept, ring_limit)?;
     Ok((topology, dropped, taken_out, chosen))
 }
 

@@ -1,5 +1,5 @@
 -- What is made of layers, of the table of their arcs and of the positions of each arc that are kept is what is assembled of them.
-use Rattle.std.proofs.Common.{arith, ◌≡◌, ℕ, suc, ◌-◌, ℤ, Bool, true, false, List, [], ◌∷◌, map, length, Option, None, Some, refl, sym, ap, ◌∙◌, subst}
+use Rattle.std.proofs.Common.{arith, ◌≡◌, ℕ, suc, ◌-◌, Bool, true, false, List, [], ◌∷◌, map, length, Option, None, Some, refl, sym, ap, ◌∙◌, subst}
 use Rattle.std.specs.List.{AllByRecursion}
 use Rattle.std.specs.Prelude.{sum, if◌then◌else◌}
 use Rattle.std.proofs.lemmas.Option.{none-some}
@@ -7,9 +7,9 @@ use Rattle.std.proofs.Math.Path.{fun_ext}
 use Rattle.arc_choice.specs.Rebuilding.{Rebuilding}
 use Rattle.arc_table.specs.Arcs.{ArcsAndIndexes, arcs_of, index_in, table_of}
 use Rattle.build_meaning.specs.Built.{all_arcs, untrimmed, positions_of}
-use Rattle.build_meaning.specs.Expected.{own_pieces, is_small, kept_line, unless}
+use Rattle.build_meaning.specs.Expected.{own_pieces, is_small, kept_line}
 use Rattle.build_meaning.specs.Laws.{AreSound, whole_line}
-use Rattle.build_meaning.specs.Layers.{Named, layers_of, names_of, named_strokes}
+use Rattle.build_meaning.specs.Layers.{Named, layers_of, named_strokes}
 use Rattle.build_meaning.specs.Objects.{Kept, objects_by}
 use Rattle.build_meaning.specs.Trimming.{is_used, keep_from, trimmed}
 use Rattle.build_meaning.proofs.Candidates.{map_map}
@@ -21,7 +21,7 @@ use Rattle.elimination_meaning.specs.Elimination.{reduced}
 use Rattle.elimination_meaning.specs.Laws.{ZeroLaw}
 use Rattle.geojson_types.specs.Features.{Shape, Featured}
 use Rattle.geometry.specs.declared.address.Cause.{Cause}
-use Rattle.geometry.specs.declared.address.Cause.TheVariants.{Collapsed, Small}
+use Rattle.geometry.specs.declared.address.Cause.TheVariants.{Small}
 use Rattle.geometry.specs.Joins.{AreInRange, rejoined}
 use Rattle.geometry.specs.Lists.{map_some, then_some}
 use Rattle.geometry.specs.Omissions.{dropped_of_layers}
@@ -30,15 +30,14 @@ use Rattle.geometry.specs.Pruning.{prune}
 use Rattle.junctions.specs.Cleaning.{clean, is_short}
 use Rattle.junctions.specs.declared.stroke.Stroke.{Stroke}
 use Rattle.lessened_topology.specs.Assembled.{arcs_of_layers, own_refs, assembled_cause, option_caused, layers_caused, assembled, assembled_dropped, assembled_taken_out}
-use Rattle.lessened_topology.specs.Lessened.{Refs, small_cause, large_refs, feature_pruned, objects_pruned, picked_arcs, picked_whole, lessened_by, taken_out_by, EachFromFirstToLast}
+use Rattle.lessened_topology.specs.Lessened.{Refs, small_cause, large_refs, feature_pruned, objects_pruned, picked_arcs, picked_whole, lessened_by, EachFromFirstToLast}
 use Rattle.lessened_topology.proofs.Assembled.{contents, kept_by, before_trimming, layers_alike}
 use Rattle.lessened_topology.proofs.Lessened.{IsWholeAtZero, no_small}
 use Rattle.linework.specs.Linework.{linework}
 use Rattle.list_laws.proofs.Elements.{all_weaker}
-use Rattle.topojson_types.specs.declared.feature.TopoFeature.{TopoFeature}
 use Rattle.topojson_types.specs.declared.object.TopoObject.{TopoObject}
 use Rattle.topojson_types.specs.Topologies.{Contents, object_features, objects_strokes}
-use Rattle.topojson_types.specs.Validity.{IsPlace, IsTopology}
+use Rattle.topojson_types.specs.Validity.{IsTopology}
 use Rattle.topology_reduction.specs.Drops.{draft_cause, shape_drops, objects_drops}
 use Rattle.topology_reduction.proofs.Result as result
 use Rattle.topology_reduction.proofs.Result.{of_arcs}

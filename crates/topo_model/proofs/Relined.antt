@@ -1,5 +1,5 @@
 -- Shapes with their lines and rings replaced: what is then pruned of them, and what is dropped.
-use Rattle.std.proofs.Common.{◌≡◌, ℤ, Bool, true, false, List, [], ◌∷◌, map, Option, None, Some, refl, sym, ap, ◌∙◌, arith}
+use Rattle.std.proofs.Common.{◌≡◌, ℤ, Bool, true, false, List, [], ◌∷◌, map, Option, Some, refl, sym, ap, ◌∙◌}
 use Rattle.std.specs.List.{AllByRecursion}
 use Rattle.build_meaning.proofs.Candidates.{map_map}
 use Rattle.geojson_types.specs.Features.{Shape}

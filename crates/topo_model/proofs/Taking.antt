@@ -1,13 +1,11 @@
 -- Arc indexes that are taken one after another.
-use Rattle.std.proofs.Common.{◌≡◌, ℕ, ◌+◌, ◌<◌, ◌≤◌, ℤ, Bool, true, false, List, [], ◌∷◌, ◌++◌, map, length, take, drop, get_or, slice_get, Some, refl, sym, ap, ◌∙◌, subst, arith, append-nil, append_assoc}
+use Rattle.std.proofs.Common.{◌≡◌, ℕ, ◌+◌, ◌<◌, ◌≤◌, ℤ, Bool, List, [], ◌∷◌, ◌++◌, map, length, take, get_or, refl, sym, ap, ◌∙◌, subst, arith, append-nil}
 use Rattle.std.proofs.lemmas.List.{take_all, map-append}
-use Rattle.std.proofs.lemmas.Option.{slice_get_within, get_or_from_slice_get}
 use Rattle.geojson_types.specs.Features.{Shape}
 use Rattle.geometry.specs.Lists.{joined}
 use Rattle.geometry.specs.Points.{Point}
 use Rattle.geometry.specs.Pruning.{strokes}
-use Rattle.junctions.specs.Cleaning.{clean, is_short}
-use Rattle.list_laws.proofs.Lists.{drop_here, take_here, joined_append}
+use Rattle.list_laws.proofs.Lists.{take_here, joined_append}
 use Rattle.topojson_types.specs.Topologies.{TopoShape}
 use Rattle.topo_model.specs.Drafts.{RefsOf, long_refs, draft_refs, relined, Drafts}
 
@@ -16,20 +14,6 @@ Line = Bool × List Point
 
 abbrev Waiting : Type 0
 Waiting = List (List ℤ)
-
--- ---- one line
-
--- what has too few positions takes none
-pub none_taken : (closed : Bool) (ps : List Point) (w : Waiting) (b : Bool) (refs : List ℤ) → b ≡ is_short closed (clean ps) → b ≡ true → refs ≡ []
-    → Drafts ((closed, ps) ∷ []) (λ of. draft_refs of closed ps) w refs w
-none_taken closed ps w b refs e h is of tail k = grind arith
-
--- a line or ring with enough positions takes the next
-pub one_taken : (closed : Bool) (ps : List Point) (w rest : Waiting) (b : Bool) (refs : List ℤ) → b ≡ is_short closed (clean ps) → b ≡ false
-    → ((first : List ℤ) (behind : Waiting) → w ≡ first ∷ behind → (refs ≡ first) × (rest ≡ behind)) → Drafts ((closed, ps) ∷ []) (λ of. draft_refs of closed ps) w refs rest
-one_taken closed ps w rest b refs e h takes of tail k =
-    let long : is_short closed (clean ps) ≡ false = sym e ∙ h in
-    rw long (takes (of closed ps) tail (rw long at k))
 
 -- ---- parts, each with lines of its own
 
@@ -86,13 +70,3 @@ shape_of s ls made finish w rest y out e same d is of tail h =
 -- a shape without lines
 pub shape_alone : (s : Shape) (w : Waiting) (t : TopoShape) → strokes s ≡ [] → ((of : RefsOf) → relined (draft_refs of) s ≡ t) → Drafts (strokes s) (λ of. relined (draft_refs of) s) w t w
 shape_alone s w t e same of tail h = (sym (same of), h ∙ ap (λ ls. long_refs of ls ++ tail) e)
-
--- ---- a list that is passed
-
-drop_got : {X : Type 0} (xs : List X) (i : ℕ) (x : X) → slice_get xs i ≡ Some x → drop i xs ≡ x ∷ drop (i + 1) xs
-drop_got xs i x g = drop_here xs i x (slice_get_within xs i x g) (sym (get_or_from_slice_get xs i x x g))
-
-pub taken : {X : Type 0} (xs : List X) (i : ℕ) (x first : X) (rest : List X) → slice_get xs i ≡ Some x → drop i xs ≡ first ∷ rest → (x ≡ first) × (drop (i + 1) xs ≡ rest)
-taken xs i x first rest g d =
-    let e : x ∷ drop (i + 1) xs ≡ first ∷ rest = sym (drop_got xs i x g) ∙ d in
-    (grind arith, grind arith)

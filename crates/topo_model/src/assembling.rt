@@ -28,7 +28,7 @@ use topology_reduction::finish;
 fn objects_and_arcs(
     alloc: Global,
     layers: Vec<(OwnText, Layer)>,
-    table: &Table,
+    table: Table,
     kept: &[Vec<usize>],
     ring_limit: u128,
 ) -> Result<
@@ -40,10 +40,10 @@ fn objects_and_arcs(
     ),
     Memory,
 >
-    requires table { table.now ≡ table_of (map (split_of (linework (layers_of layers.items))) (linework (layers_of layers.items))) }
+    requires table { table ≡ table_of (map (split_of (linework (layers_of layers.items))) (linework (layers_of layers.items))) }
     requires sound { AreSound layers.items }
     requires names { AreDistinct (names_of layers.items) }
-    requires kept { EachFromFirstToLast (map (λ k. k.items) kept.now) table.now.arcs }
+    requires kept { EachFromFirstToLast (map (λ k. k.items) kept.now) table.arcs }
     requires limit { ring_limit ≤ threshold_limit }
     ensures assembled { IfOk result
         (λ r. assembled (map (λ k. k.items) kept.now) ring_limit layers.items ≡ record { objects = r.0.items; arcs = r.1.items; transform = None }) }
@@ -53,9 +53,10 @@ fn objects_and_arcs(
     zero_law();
     ends_stay();
     nothing_is_new();
-    let picked = picked_cells_of_all(alloc, kept, table)?;
-    let objects = drafted_objects(alloc, layers, table)?;
-    finish(alloc, objects, table.arcs(), picked, None, ring_limit)
+    let picked = picked_cells_of_all(alloc, kept, &table)?;
+    let (arcs, refs) = table.into_parts();
+    let objects = drafted_objects(alloc, layers, refs)?;
+    finish(alloc, objects, &arcs, picked, None, ring_limit)
 }
 
 /// The topology of named layers over the arcs of their lines, where of each arc the positions with these numbers are kept: a list
@@ -66,14 +67,14 @@ fn objects_and_arcs(
 pub fn assemble(
     alloc: Global,
     layers: Vec<(OwnText, Layer)>,
-    table: &Table,
+    table: Table,
     kept: &[Vec<usize>],
     ring_limit: u128,
 ) -> Result<(Topology, Vec<Dropped>, u64), Memory>
-    requires table { table.now ≡ table_of (map (split_of (linework (layers_of layers.items))) (linework (layers_of layers.items))) }
+    requires table { table ≡ table_of (map (split_of (linework (layers_of layers.items))) (linework (layers_of layers.items))) }
     requires sound { AreSound layers.items }
     requires names { AreDistinct (names_of layers.items) }
-    requires kept { EachFromFirstToLast (map (λ k. k.items) kept.now) table.now.arcs }
+    requires kept { EachFromFirstToLast (map (λ k. k.items) kept.now) table.arcs }
     requires limit { ring_limit ≤ threshold_limit }
     ensures topology { IfOk result (λ r. r.0 ≡ assembled (map (λ k. k.items) kept.now) ring_limit layers.items) }
     ensures dropped { IfOk result (λ r. r.1.items ≡ assembled_dropped (map (λ k. k.items) kept.now) ring_limit layers.items) }

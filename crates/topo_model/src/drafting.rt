@@ -6,57 +6,49 @@ ghost use Rattle.geometry.specs.Pruning.{option_strokes, strokes};
 ghost use Rattle.topo_model.specs.Drafts.{Drafts, RefsOf, draft_refs, feature_drafted, long_refs, objects_drafted, relined};
 
 use arc_choice::{cells, is_short_line};
-use arc_table::Table;
 use geojson_types::{Feature, Geometry, Layer, Position, Ring, Shape};
 use json_value::{Items, OwnText};
 use owned_values::Memory;
 use std::alloc::Global;
 use std::marker::Model;
+use std::mem;
 use topojson_types::{ArcRef, Cell, TopoFeature, TopoObject, TopoShape};
 
-/// The arc indexes that a table has for lines and rings, in reading order, after those that were taken.
+/// The arc indexes of lines and rings, in reading order, behind those that were taken.
 #[derive(Drop)]
-struct Waiting<'a> {
-    table: &'a Table,
+struct Waiting {
+    refs: Vec<Items<ArcRef>>,
     next: usize,
 }
 
-impl<'a> Model for Waiting<'a> {
+impl Model for Waiting {
     ghost use Rattle.std.specs.Prelude.{List, ℤ, drop};
 
     ghost Value = { List (List ℤ) };
 
-    ghost view = { λ w. drop w.next w.table.now.refs };
+    ghost view = { λ w. drop w.next w.refs.items };
 }
 
-impl<'a> Waiting<'a> {
-    /// The arc indexes of all lines and rings of a table.
-    fn all(table: &'a Table) -> Waiting<'a>
-        ensures { result ≡ table.now.refs }
+impl Waiting {
+    /// All of them.
+    fn all(refs: Vec<Items<ArcRef>>) -> Waiting
+        ensures { result ≡ refs.items }
     {
-        Waiting { table, next: 0 }
+        Waiting { refs, next: 0 }
     }
 
-    /// Takes the next.
-    fn take(&mut self, alloc: Global) -> Result<Items<ArcRef>, Memory>
-        ensures { IfOk result (λ refs. (first : List ℤ) (rest : List (List ℤ)) → self.old ≡ first ∷ rest → (refs ≡ first) × (self.new ≡ rest)) }
+    /// Takes the next. They are moved out.
+    fn take(&mut self, alloc: Global) -> Items<ArcRef>
+        ensures { (first : List ℤ) (rest : List (List ℤ)) → self.old ≡ first ∷ rest → (result ≡ first) × (self.new ≡ rest) }
     {
-        if self.next >= self.table.lines() {
-            return Ok(Items::of(Vec::new(alloc)));
+        let none = Items::of(Vec::new(alloc));
+        if self.next >= self.refs.len() {
+            return none;
         }
-        let refs = copied(alloc, self.table.refs(self.next))?;
+        let refs = mem::replace(&mut self.refs[self.next], none);
         self.next += 1;
-        Ok(refs)
+        refs
     }
-}
-
-/// A copy of the arc indexes.
-fn copied(alloc: Global, refs: &[ArcRef]) -> Result<Items<ArcRef>, Memory>
-    ensures { IfOk result (λ copy. copy ≡ refs.now) }
-{
-    let mut copy = Vec::with_capacity(alloc, refs.len())?;
-    copy.extend_from_slice(refs)?;
-    Ok(Items::of(copy))
 }
 
 /// What stands for an open line or a ring.
@@ -64,12 +56,12 @@ fn drafted_line(
     alloc: Global,
     closed: bool,
     positions: &[Position],
-    waiting: &mut Waiting<'_>,
-) -> Result<Items<ArcRef>, Memory>
-    ensures { IfOk result (λ refs. Drafts ((closed, positions.now) ∷ []) (λ of. draft_refs of closed positions.now) waiting.old refs waiting.new) }
+    waiting: &mut Waiting,
+) -> Items<ArcRef>
+    ensures { Drafts ((closed, positions.now) ∷ []) (λ of. draft_refs of closed positions.now) waiting.old result waiting.new }
 {
     if is_short_line(closed, positions) {
-        return Ok(Items::of(Vec::new(alloc)));
+        return Items::of(Vec::new(alloc));
     }
     waiting.take(alloc)
 }
@@ -78,13 +70,13 @@ fn drafted_line(
 fn drafted_lines(
     alloc: Global,
     lines: &[Items<Position>],
-    waiting: &mut Waiting<'_>,
+    waiting: &mut Waiting,
 ) -> Result<Vec<Items<ArcRef>>, Memory>
     ensures { IfOk result (λ made. Drafts (map (λ l. (false, l)) lines.now) (λ of. map (draft_refs of false) lines.now) waiting.old made.items waiting.new) }
 {
     let mut made = Vec::with_capacity(alloc, lines.len())?;
     'lines: for line in lines {
-        made.push(drafted_line(alloc, false, line.as_slice(), waiting)?)?;
+        made.push(drafted_line(alloc, false, line.as_slice(), waiting))?;
     }
     Ok(made)
 }
@@ -93,13 +85,13 @@ fn drafted_lines(
 fn drafted_rings(
     alloc: Global,
     rings: &[Ring],
-    waiting: &mut Waiting<'_>,
+    waiting: &mut Waiting,
 ) -> Result<Vec<Items<ArcRef>>, Memory>
     ensures { IfOk result (λ made. Drafts (map (λ l. (true, l)) rings.now) (λ of. map (draft_refs of true) rings.now) waiting.old made.items waiting.new) }
 {
     let mut made = Vec::with_capacity(alloc, rings.len())?;
     'rings: for ring in rings {
-        made.push(drafted_line(alloc, true, ring.as_slice(), waiting)?)?;
+        made.push(drafted_line(alloc, true, ring.as_slice(), waiting))?;
     }
     Ok(made)
 }
@@ -108,7 +100,7 @@ fn drafted_rings(
 fn drafted_areas(
     alloc: Global,
     areas: &[Items<Ring>],
-    waiting: &mut Waiting<'_>,
+    waiting: &mut Waiting,
 ) -> Result<Vec<Items<Items<ArcRef>>>, Memory>
     ensures { IfOk result (λ made. Drafts (joined (map (map (λ l. (true, l))) areas.now)) (λ of. map (map (draft_refs of true)) areas.now) waiting.old made.items waiting.new) }
 {
@@ -121,11 +113,7 @@ fn drafted_areas(
 }
 
 /// The shape with each line and ring replaced.
-fn drafted_shape(
-    alloc: Global,
-    shape: &Shape,
-    waiting: &mut Waiting<'_>,
-) -> Result<TopoShape, Memory>
+fn drafted_shape(alloc: Global, shape: &Shape, waiting: &mut Waiting) -> Result<TopoShape, Memory>
     ensures { IfOk result (λ made. Drafts (strokes shape.now) (λ of. relined (draft_refs of) shape.now) waiting.old made waiting.new) }
 {
     match shape {
@@ -134,7 +122,7 @@ fn drafted_shape(
             Ok(Geometry::MultiPoint(cells(alloc, positions.as_slice())?))
         }
         Geometry::Line(line) => {
-            let refs = drafted_line(alloc, false, line.as_slice(), waiting)?;
+            let refs = drafted_line(alloc, false, line.as_slice(), waiting);
             Ok(Geometry::Line(refs))
         }
         Geometry::Lines(lines) => {
@@ -164,7 +152,7 @@ fn drafted_shape(
 fn drafted_option(
     alloc: Global,
     shape: &Option<Shape>,
-    waiting: &mut Waiting<'_>,
+    waiting: &mut Waiting,
 ) -> Result<Option<TopoShape>, Memory>
     ensures { IfOk result (λ made. Drafts (option_strokes shape.now) (λ of. map_some (relined (draft_refs of)) shape.now) waiting.old made waiting.new) }
 {
@@ -178,7 +166,7 @@ fn drafted_option(
 fn drafted_feature(
     alloc: Global,
     feature: Feature,
-    waiting: &mut Waiting<'_>,
+    waiting: &mut Waiting,
 ) -> Result<TopoFeature, Memory>
     ensures { IfOk result (λ made. Drafts (option_strokes feature.shape) (λ of. feature_drafted of feature) waiting.old made waiting.new) }
 {
@@ -195,7 +183,7 @@ fn drafted_feature(
 fn drafted_features(
     alloc: Global,
     features: Vec<Feature>,
-    waiting: &mut Waiting<'_>,
+    waiting: &mut Waiting,
 ) -> Result<Vec<TopoFeature>, Memory>
     ensures { IfOk result (λ made. Drafts (features_strokes features.items) (λ of. map (feature_drafted of) features.items) waiting.old made.items waiting.new) }
 {
@@ -210,7 +198,7 @@ fn drafted_features(
 fn drafted_layers(
     alloc: Global,
     layers: Vec<(OwnText, Layer)>,
-    waiting: &mut Waiting<'_>,
+    waiting: &mut Waiting,
 ) -> Result<Vec<(OwnText, TopoObject)>, Memory>
     ensures { IfOk result (λ made. Drafts (named_strokes layers.items) (λ of. objects_drafted of layers.items) waiting.old made.items waiting.new) }
 {
@@ -222,15 +210,15 @@ fn drafted_layers(
     Ok(made)
 }
 
-/// The objects of named layers, a collection each, with each line and ring replaced by the arc indexes that the table has for it, or by
-/// none where it has too few positions from the first, so that the table has none.
+/// The objects of named layers, a collection each, with each line and ring replaced by its arc indexes: the next of those that are given,
+/// or none where it has too few positions from the first, so that none are given for it.
 pub fn drafted_objects(
     alloc: Global,
     layers: Vec<(OwnText, Layer)>,
-    table: &Table,
+    refs: Vec<Items<ArcRef>>,
 ) -> Result<Vec<(OwnText, TopoObject)>, Memory>
-    ensures { IfOk result (λ made. (of : RefsOf) → table.now.refs ≡ long_refs of (named_strokes layers.items) → made.items ≡ objects_drafted of layers.items) }
+    ensures { IfOk result (λ made. (of : RefsOf) → refs.items ≡ long_refs of (named_strokes layers.items) → made.items ≡ objects_drafted of layers.items) }
 {
-    let mut waiting = Waiting::all(table);
+    let mut waiting = Waiting::all(refs);
     drafted_layers(alloc, layers, &mut waiting)
 }

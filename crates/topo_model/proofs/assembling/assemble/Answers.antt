@@ -10,7 +10,7 @@ of-topology-requires c =
     record {
       valid = rw (c.of.ensures, c.of-2.ensures)
           (subst IsTopology c.in_ok-objects.ensures.assembled (c.assembled_is_valid.ensures _ c.args.ring_limit c.args.layers.items c.requires.sound c.requires.names
-          (subst (EachFromFirstToLast _) (table_arcs c.args.layers.items c.args.table.now c.requires.table) c.requires.kept)));
+          (subst (EachFromFirstToLast _) (table_arcs c.args.layers.items c.args.table c.requires.table) c.requires.kept)));
     }
 
 pub returns-clause-topology : goal.returns-clause-topology

@@ -27,11 +27,11 @@ returns-in_ok-cells-in-MultiPoint t c =
     shape_alone c.args.shape.now c.args.waiting.now (g.MultiPoint c.in_ok-cells-in-MultiPoint.field-0) (ap strokes c.in-MultiPoint.is ∙ strokes-points Point (List Point) c.in-MultiPoint.positions)
     (λ of. ap (relined (draft_refs of)) c.in-MultiPoint.is ∙ (relined_at (draft_refs of)).points c.in-MultiPoint.positions ∙ ap g.MultiPoint (sym (c.in_ok-cells-in-MultiPoint.ensures ∙ c.as_slice.ensures)))
 
-pub returns-in_ok-refs-in-Line : goal.returns-in_ok-refs-in-Line
-returns-in_ok-refs-in-Line t c =
-    shape_of c.args.shape.now ((false, c.in-Line.line) ∷ []) (λ of. draft_refs of false c.in-Line.line) g.Line c.args.waiting.now c.drafted_line.new.waiting c.in_ok-refs-in-Line.refs (g.Line c.in_ok-refs-in-Line.refs)
+pub returns-in-Line : goal.returns-in-Line
+returns-in-Line t c =
+    shape_of c.args.shape.now ((false, c.in-Line.line) ∷ []) (λ of. draft_refs of false c.in-Line.line) g.Line c.args.waiting.now c.drafted_line-refs.new.waiting c.drafted_line-refs.result (g.Line c.drafted_line-refs.result)
     (ap strokes c.in-Line.is ∙ strokes-line Point (List Point) c.in-Line.line) (λ of. ap (relined (draft_refs of)) c.in-Line.is ∙ (relined_at (draft_refs of)).line c.in-Line.line)
-    (subst (λ ps. Drafts ((false, ps) ∷ []) (λ of. draft_refs of false ps) c.args.waiting.now c.in_ok-refs-in-Line.refs c.drafted_line.new.waiting) c.as_slice-in-Line.ensures c.in_ok-refs-in-Line.ensures) refl
+    (subst (λ ps. Drafts ((false, ps) ∷ []) (λ of. draft_refs of false ps) c.args.waiting.now c.drafted_line-refs.result c.drafted_line-refs.new.waiting) c.as_slice-in-Line.ensures c.drafted_line-refs.ensures) refl
 
 pub returns-in_ok-made-in-Lines : goal.returns-in_ok-made-in-Lines
 returns-in_ok-made-in-Lines t c =

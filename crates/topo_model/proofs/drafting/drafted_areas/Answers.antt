@@ -1,4 +1,4 @@
-use Rattle.std.proofs.Common.{true, map, sym, ◌∙◌, subst}
+use Rattle.std.proofs.Common.{true, map, sym, subst}
 use Rattle.topo_model.specs.Drafts.{draft_refs, Drafts}
 use Rattle.topo_model.proofs.Taking.{begun, mapped_next, mapped_all}
 use Rattle.topo_model.proofs.drafting.drafted_areas.Goals as goal

@@ -1,5 +1,4 @@
-use Rattle.std.proofs.Common.{◌∷◌, [], ◌++◌, false, ap, sym, ◌∙◌, subst}
-use Rattle.geometry.specs.Points.{Point}
+use Rattle.std.proofs.Common.{◌∷◌, [], false, subst}
 use Rattle.topo_model.specs.Drafts.{draft_refs, Drafts}
 use Rattle.topo_model.proofs.Taking.{begun, mapped_next, each_line}
 use Rattle.topo_model.proofs.drafting.drafted_lines.Goals as goal
@@ -10,7 +9,7 @@ lines-init c = begun (λ p. (false, p) ∷ []) (λ of p. draft_refs of false p) 
 pub lines-preserved : goal.lines-preserved
 lines-preserved c =
     mapped_next (λ p. (false, p) ∷ []) (λ of p. draft_refs of false p) c.args.lines.now c.lines.line-index c.line-item.result c.args.waiting.now c.lines.waiting c.drafted_line.new.waiting c.lines.made.items
-    c.push.new.self.items c.in_ok-drafted_line.field-0 c.lines-test.true c.line-item.is c.lines.invariant (subst (λ ps. Drafts ((false, ps) ∷ []) (λ of. draft_refs of false ps) c.lines.waiting c.in_ok-drafted_line.field-0 c.drafted_line.new.waiting) c.as_slice.ensures c.in_ok-drafted_line.ensures) c.in_ok-push.ensures.items
+    c.push.new.self.items c.drafted_line.result c.lines-test.true c.line-item.is c.lines.invariant (subst (λ ps. Drafts ((false, ps) ∷ []) (λ of. draft_refs of false ps) c.lines.waiting c.drafted_line.result c.drafted_line.new.waiting) c.as_slice.ensures c.drafted_line.ensures) c.in_ok-push.ensures.items
 
 pub returns : goal.returns
 returns c = each_line false c.args.lines.now c.lines.line-index c.args.waiting.now c.lines.waiting c.lines.made.items c.lines-test.false c.lines.invariant

@@ -1,5 +1,4 @@
-use Rattle.std.proofs.Common.{◌∷◌, [], ◌++◌, true, ap, sym, ◌∙◌, subst}
-use Rattle.geometry.specs.Points.{Point}
+use Rattle.std.proofs.Common.{◌∷◌, [], true, subst}
 use Rattle.topo_model.specs.Drafts.{draft_refs, Drafts}
 use Rattle.topo_model.proofs.Taking.{begun, mapped_next, each_line}
 use Rattle.topo_model.proofs.drafting.drafted_rings.Goals as goal
@@ -10,7 +9,7 @@ rings-init c = begun (λ p. (true, p) ∷ []) (λ of p. draft_refs of true p) c.
 pub rings-preserved : goal.rings-preserved
 rings-preserved c =
     mapped_next (λ p. (true, p) ∷ []) (λ of p. draft_refs of true p) c.args.rings.now c.rings.ring-index c.ring-item.result c.args.waiting.now c.rings.waiting c.drafted_line.new.waiting c.rings.made.items
-    c.push.new.self.items c.in_ok-drafted_line.field-0 c.rings-test.true c.ring-item.is c.rings.invariant (subst (λ ps. Drafts ((true, ps) ∷ []) (λ of. draft_refs of true ps) c.rings.waiting c.in_ok-drafted_line.field-0 c.drafted_line.new.waiting) c.as_slice.ensures.value c.in_ok-drafted_line.ensures) c.in_ok-push.ensures.items
+    c.push.new.self.items c.drafted_line.result c.rings-test.true c.ring-item.is c.rings.invariant (subst (λ ps. Drafts ((true, ps) ∷ []) (λ of. draft_refs of true ps) c.rings.waiting c.drafted_line.result c.drafted_line.new.waiting) c.as_slice.ensures.value c.drafted_line.ensures) c.in_ok-push.ensures.items
 
 pub returns : goal.returns
 returns c = each_line true c.args.rings.now c.rings.ring-index c.args.waiting.now c.rings.waiting c.rings.made.items c.rings-test.false c.rings.invariant

@@ -38,7 +38,7 @@ pub next_numbers : (ks : List Point) (ns : List ℕ) (ls : List Stroke) (i : ℕ
     (length s.positions ≤ length ns) × AreNumbers ks (take (length s.positions) ns) s.positions × AreNumbers ks (drop (length s.positions) ns) (positions (drop (i + 1) ls))
 next_numbers ks ns ls i s h e are = numbers_split ks ns s.positions (positions (drop (i + 1) ls)) (subst (AreNumbers ks ns) (positions_from ls i s h e) are)
 
--- there are as many numbers as positions in a line, and behind it as positions in the lines behind it
+-- a line has as many numbers as positions, and so have the lines after it
 pub next_many : (ns : List ℕ) (ls : List Stroke) (i : ℕ) (s : Stroke) → i < length ls → s ≡ get_or ls i s → length ns ≡ length (positions (drop i ls)) →
     (length s.positions ≤ length ns) × (length (take (length s.positions) ns) ≡ length s.positions) × (length (drop (length s.positions) ns) ≡ length (positions (drop (i + 1) ls)))
 next_many ns ls i s h e m =

@@ -4,7 +4,7 @@ use Rattle.cutter.specs.Slices.{started}
 use Rattle.cutter.proofs.SharedCuts.{AreSplit}
 use Rattle.cutter.proofs.pieces.cut.Given as goal
 
--- the lines before the index are split, and those behind it are as they were
+-- the lines before the index are split, and those after it are as they were
 abbrev pub invariant-loop-i : goal.invariant-loop-i
 invariant-loop-i l = record {
   turned : Replaced (started (is_cut l.fn.lines.strokes)) l.fn.lines.strokes l.i l.strokes.items;

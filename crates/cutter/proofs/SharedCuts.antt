@@ -25,13 +25,13 @@ take_whole : (more : List ℕ) → take (length more) more ≡ more
 take_whole [] = refl
 take_whole (c ∷ more) = ap (λ l. c ∷ l) (take_whole more)
 
--- indexes of lines before stay where they are
+-- the indexes of a line stay the same when more are added after them
 range_front : (cuts more : List ℕ) (a b : ℕ) → a ≤ b → b ≤ length cuts → slice_range (cuts ++ more) a b ≡ slice_range cuts a b
 range_front cuts more a b h k =
     let n : b - a ≤ length (drop a cuts) = omega (arith, length-drop a cuts) in
     ap (take (b - a)) (drop_front a cuts more (omega arith)) ∙ take-append-le (b - a) (drop a cuts) more n
 
--- those of the last line
+-- the indexes that were added
 range_back : (cuts more : List ℕ) (a : ℕ) → a ≡ length cuts → slice_range (cuts ++ more) a (length (cuts ++ more)) ≡ more
 range_back cuts more a e =
     let n : length (cuts ++ more) - length cuts ≡ length more = omega (arith, length-append cuts more) in
@@ -46,7 +46,7 @@ no_line = record { address = record { layer = 0; feature = 0; path = [] }; close
 abbrev pub with_pieces : Stroke → List ℕ → SplitStroke
 with_pieces s is = record { stroke = s; pieces = slices s.positions is }
 
--- one line more
+-- the pieces with one line more
 pub split_more : (cuts more : List ℕ) (from : ℕ) (ss : List Stroke) (es : List ℕ) (s : Stroke) → AreCutIndexes cuts from ss es →
     split_strokes (cuts ++ more) from (ss ++ (s ∷ [])) (es ++ (length (cuts ++ more) ∷ [])) ≡ split_strokes cuts from ss es ++ (with_pieces s more ∷ [])
 split_more cuts more from [] [] s h = ap (λ is. with_pieces s is ∷ []) (range_back cuts more from h)
@@ -65,7 +65,7 @@ indexes_more cuts more from (t ∷ ss) [] s h r = elim h [ ]
 indexes_more cuts more from (t ∷ ss) (e ∷ es) s h r =
     (h.0, omega (arith, h.1, length-append cuts more), subst (IsRising (length t.positions)) (sym (range_front cuts more from e h.0 h.1)) h.2, indexes_more cuts more e ss es s h.3 r)
 
--- the lines themselves
+-- the lines that are split are those lines
 pub strokes_of : (cuts : List ℕ) (from : ℕ) (ss : List Stroke) (es : List ℕ) → AreCutIndexes cuts from ss es → strokes (split_strokes cuts from ss es) ≡ ss
 strokes_of cuts from [] [] h = refl
 strokes_of cuts from [] (e ∷ es) h = elim h [ ]

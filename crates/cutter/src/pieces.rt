@@ -21,9 +21,9 @@ use std::marker::Model;
 #[derive(Debug, Drop)]
 pub struct Pieces {
     strokes: Vec<Stroke>,
-    /// The indexes at which the lines are cut, those of each after those of the lines before it.
+    /// The indexes at which the lines are cut, line after line.
     cuts: Vec<usize>,
-    /// Where the indexes of each line end among all.
+    /// For each line, how many of the indexes are its own or those of lines before it.
     ends: Vec<usize>,
 }
 
@@ -53,7 +53,7 @@ pub fn cut(alloc: Global, lines: Lines, vertices: &Vertices) -> Result<Pieces, M
         (λ ps. (a b : Point) → times a b (piece_segments (all_pieces ps)) ≡ times a b (line_segments lines.strokes)) }
 {
     let (mut strokes, _dropped) = lines.into_parts();
-    // A line has two ends at the least, and where it has more cuts the list grows.
+    // Each line is cut at its two ends. Where there are more cuts the list grows.
     let mut cuts = Vec::with_capacity(alloc, strokes.len().saturating_mul(2))?;
     let mut ends = Vec::with_capacity(alloc, strokes.len())?;
     let mut visit: usize = 0;
@@ -115,7 +115,7 @@ impl Pieces {
     }
 }
 
-// Where the cut indexes of the line with this number begin: where those of the line before it end.
+// How many cut indexes are those of lines before the line with this number.
 fn begin_of(ends: &[usize], i: usize) -> usize
     requires { i ≤ length ends.now }
     ensures { result ≡ slice_index_or (0 ∷ ends.now) i 0 }

@@ -10,8 +10,8 @@ use geometry::Position;
 use junctions::{Stroke, Vertices};
 use owned_values::Memory;
 
-/// Turns the line whose first visit has this number, if it is a ring, so that it begins at its start, and adds the indexes at which it is
-/// cut, after those of other lines.
+/// Splits the line whose first visit has this number: a ring is turned so that it begins at its start, and the indexes at which the line is
+/// cut are added after those of other lines.
 pub fn split_stroke(
     stroke: &mut Stroke,
     visit: usize,
@@ -26,7 +26,7 @@ pub fn split_stroke(
     add_cuts(cuts, stroke.positions.as_slice(), visit, start, vertices)
 }
 
-// Turns the line, if it is a ring, so that it begins at its start. The answer is the index at which that was before.
+// Turns the line, if it is a ring, so that it begins at its start, and returns the index at which the start was before.
 fn start_ring(stroke: &mut Stroke, visit: usize, vertices: &Vertices) -> usize
     requires { IsReady vertices.now stroke.old }
     ensures { stroke.new ≡ started_by (is_member vertices.now.cuts) stroke.old }
@@ -39,7 +39,7 @@ fn start_ring(stroke: &mut Stroke, visit: usize, vertices: &Vertices) -> usize
     start
 }
 
-// Turns the ring in place, so that it goes from its position at the index round to that position.
+// Turns the ring in place: it goes from its position at the index round to that position.
 fn turn(ring: &mut [Position], start: usize)
     requires { start < length ring.old }
     ensures { ring.new ≡ turned start ring.old }

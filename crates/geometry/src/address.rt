@@ -6,8 +6,8 @@ use smallvec::SmallVec;
 use std::alloc::Global;
 use std::marker::Model;
 
-/// The way inside a geometry: the numbers of parts, the outermost first. Two numbers, as those of a polygon of a MultiPolygon and of
-/// its ring, take no memory of their own.
+/// The path inside a geometry: the numbers of parts, the outermost first. Up to two numbers, as those of a polygon of a MultiPolygon and
+/// of its ring, are kept in the path itself and take no allocation.
 #[derive(Debug, Drop)]
 pub struct AddressPath {
     numbers: SmallVec<usize, 2>,
@@ -22,7 +22,7 @@ impl Model for AddressPath {
 }
 
 impl AddressPath {
-    /// The way to a geometry itself.
+    /// The path of a geometry that is no part of another.
     pub fn new(alloc: Global) -> AddressPath
         ensures { result ≡ [] }
     {
@@ -31,7 +31,7 @@ impl AddressPath {
         }
     }
 
-    /// The way with these numbers.
+    /// The path with these numbers.
     pub fn of(alloc: Global, numbers: &[usize]) -> Result<AddressPath, Memory>
         ensures { IfOk result (λ path. path ≡ numbers.now) }
     {
@@ -40,7 +40,7 @@ impl AddressPath {
         })
     }
 
-    /// Goes on to the part with this number.
+    /// Adds the number of a part of what the path leads to.
     pub fn push(&mut self, number: usize) -> Result<(), Memory>
         ensures { OnOk result (self.new ≡ self.old ++ number ∷ []) }
     {

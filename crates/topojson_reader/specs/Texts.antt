@@ -6,8 +6,11 @@ use Rattle.json_reading.specs.Outcome.{SaysUtf8, SpellsNothing}
 use Rattle.geojson_types.specs.declared.counts.Counts.{Counts}
 use Rattle.topojson_types.specs.Topologies.{Contents}
 use Rattle.topojson_meaning.specs.Topologies.{topology}
+use Rattle.topojson_reader.specs.Kept.{of_contents}
+use Rattle.topojson_reader.specs.declared.keeping.Keeping.{Keeping}
 use Rattle.topojson_reader.specs.declared.texts.Refusal.{Refusal}
 use Rattle.topojson_reader.specs.declared.texts.Refusal.TheVariants.{Text, Meaning, Memory}
+use Rattle.topojson_reader.specs.declared.topologies.Parts.{Parts}
 
 -- how deep arrays and objects may nest in the text of a topology
 abbrev pub deepest : ℕ
@@ -20,3 +23,12 @@ TextAnswers bytes (Ok r) = IsUtf8 bytes × (v : Json) × Reads deepest bytes v �
 TextAnswers bytes (Err (Meaning e)) = IsUtf8 bytes × (v : Json) × Reads deepest bytes v × (topology v ≡ Err e)
 TextAnswers bytes (Err (Text fault)) = SaysUtf8 bytes (Err fault) × SpellsNothing deepest bytes (Err fault)
 TextAnswers bytes (Err Memory) = Unit {0}
+
+-- a topology of these parts
+abbrev pub parts_contents : Parts → Contents
+parts_contents p = record { objects = p.objects; arcs = p.arcs; transform = p.transform }
+
+-- The same, where this is what is kept of that topology.
+abbrev pub PartsAnswer : Keeping → List ℕ → Result (Parts × Counts) Refusal → Type 0
+PartsAnswer keeping bytes (Ok r) = (t : Contents) × TextAnswers bytes (Ok (t, r.1)) × (parts_contents r.0 ≡ of_contents keeping t)
+PartsAnswer keeping bytes (Err e) = TextAnswers bytes (Err e)

@@ -1,5 +1,6 @@
 -- Features one after another.
-use Rattle.std.proofs.Common.{◌≡◌, ℕ, List, [], ◌∷◌, ◌++◌, Option, Some, None, Ok, Err, refl, ap, sym}
+use Rattle.std.proofs.Common.{◌≡◌, ℕ, List, [], ◌∷◌, ◌++◌, Option, Some, None, Result, Ok, Err, refl, ap, sym, ◌∙◌}
+use Rattle.std.specs.Prelude.{map}
 use Rattle.json_value.specs.declared.json.Json.{Json}
 use Rattle.json_value.specs.declared.json.Json.TheVariants as j
 use Rattle.json_value.specs.Kinds.{array_of, object_of}
@@ -20,18 +21,27 @@ use Rattle.json_cursor.specs.Arrays.{array_by, list_by}
 use Rattle.json_cursor.specs.Folds.{one, with_read}
 use Rattle.json_cursor.specs.declared.stop.Stop.{Stop}
 use Rattle.json_cursor.specs.declared.stop.Stop.TheVariants as stop
+use Rattle.topojson_reader.specs.declared.keeping.Keeping.{Keeping}
 use Rattle.topojson_reader.specs.Features.{typed_feature}
+use Rattle.topojson_reader.specs.Kept.{kept_feature, kept_features, making, of_feature}
+use Rattle.topojson_reader.proofs.KeptParts.{made_alike, made_each, made_fault}
 
-module _ (t : Option Transform) (arcs : List (List Point)) where
+module _ (k : Keeping) (t : Option Transform) (arcs : List (List Point)) where
   -- ---- a feature by its object
 
-  pub feature_object : (ms : Members) (c : Counts) → feature_element t arcs (j.Object ms) c ≡ typed_feature t arcs ms c
+  whole_object : (ms : Members) (c : Counts) → feature_element t arcs (j.Object ms) c ≡ typed_feature t arcs ms c
   unfolding feature_element members
-  feature_object ms c = ap (λ o. (pure (or_fail WrongKind o) >>= typed_feature t arcs) c) (object_of-object ms)
+  whole_object ms c = ap (λ o. (pure (or_fail WrongKind o) >>= typed_feature t arcs) c) (object_of-object ms)
 
-  pub no_feature : (v : Json) (c : Counts) → object_of v ≡ None → feature_element t arcs v c ≡ Err WrongKind
+  pub feature_object : (ms : Members) (c : Counts) → kept_feature k t arcs (j.Object ms) c ≡ making (of_feature k) (typed_feature t arcs ms) c
+  feature_object ms c = made_alike (of_feature k) (feature_element t arcs (j.Object ms)) c (typed_feature t arcs ms) (whole_object ms c)
+
+  none : (v : Json) (c : Counts) → object_of v ≡ None → feature_element t arcs v c ≡ Err WrongKind
   unfolding feature_element members
-  no_feature v c h = ap (λ o. (pure (or_fail WrongKind o) >>= typed_feature t arcs) c) h
+  none v c h = ap (λ o. (pure (or_fail WrongKind o) >>= typed_feature t arcs) c) h
+
+  pub no_feature : (v : Json) (c : Counts) → object_of v ≡ None → kept_feature k t arcs v c ≡ Err WrongKind
+  no_feature v c h = made_fault (of_feature k) (feature_element t arcs v) c WrongKind (none v c h)
 
   -- ---- the features of an array
 
@@ -39,11 +49,15 @@ module _ (t : Option Transform) (arcs : List (List Point)) where
   by_elements read None c = refl
   by_elements read (Some vs) c = refl
 
-  pub features_are : (v : Json) (c : Counts) → array_by WrongKind (each (feature_element t arcs)) v c ≡ features t arcs v c
-  unfolding features elements array_by
-  features_are v c = sym (by_elements (each (feature_element t arcs)) (array_of v) c)
+  kept_elements : (r : Result (List Json) TopoFault) (c : Counts) → (pure r >>= each (kept_feature k t arcs)) c ≡ making (map (of_feature k)) (pure r >>= each (feature_element t arcs)) c
+  kept_elements (Ok vs) c = made_each (of_feature k) (feature_element t arcs) vs c
+  kept_elements (Err e) c = refl
 
-  pub no_features : (c : Counts) → each (feature_element t arcs) [] c ≡ Ok ([], c)
+  pub features_are : (v : Json) (c : Counts) → array_by WrongKind (each (kept_feature k t arcs)) v c ≡ kept_features k t arcs v c
+  unfolding features elements array_by
+  features_are v c = sym (by_elements (each (kept_feature k t arcs)) (array_of v) c) ∙ kept_elements (or_fail WrongKind (array_of v)) c
+
+  pub no_features : (c : Counts) → each (kept_feature k t arcs) [] c ≡ Ok ([], c)
   unfolding gather
   no_features c = refl
 

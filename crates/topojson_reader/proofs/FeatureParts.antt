@@ -1,9 +1,11 @@
 -- A feature by its members.
-use Rattle.std.proofs.Common.{◌≡◌, ℕ, true, false, List, [], ◌∷◌, ◌++◌, Option, Some, None, Result, Ok, Err, refl, sym, subst, ◌∙◌}
+use Rattle.std.proofs.Common.{◌≡◌, ℕ, true, false, List, [], ◌∷◌, ◌++◌, Option, Some, None, Result, Ok, Err, refl, ap, sym, subst, ◌∙◌}
 use Rattle.std.specs.Prelude.{bytes_eq, codes}
 use Rattle.std.specs.Borrow.{Bor}
 use Rattle.json_value.specs.declared.json.Json.{Json}
-use Rattle.json_members.specs.Members.{Members, named}
+use Rattle.json_value.specs.declared.json.Json.TheOpen.{Json-F}
+use Rattle.json_value.specs.declared.json.Json.TheViews.{out-Json}
+use Rattle.json_members.specs.Members.{Members, named, only}
 use Rattle.json_reading.specs.declared.fault.Fault.{Fault}
 use Rattle.geojson_types.specs.declared.counts.Counts.{Counts}
 use Rattle.geojson_types.specs.declared.id.Id.{Id}
@@ -15,21 +17,26 @@ use Rattle.topojson_meaning.specs.declared.fault.TopoFault.{TopoFault}
 use Rattle.topojson_meaning.specs.declared.fault.TopoFault.TheVariants.{Duplicate}
 use Rattle.topojson_meaning.specs.declared.geometry_type.GeometryType.{GeometryType}
 use Rattle.topojson_meaning.specs.Features as features
-use Rattle.topojson_meaning.specs.Features.{identifier, members_if}
+use Rattle.topojson_meaning.specs.Features.{identifier, identifier_in, members_if, members_in}
 use Rattle.topojson_meaning.specs.GeometryTypes.{object_type}
-use Rattle.topojson_meaning.specs.Members.{find}
-use Rattle.topojson_meaning.specs.Reader.{Reader, ◌>>=◌, give, pure}
+use Rattle.topojson_meaning.specs.Members.{find, lookup_fault}
+use Rattle.topojson_meaning.specs.Reader.{Reader, ◌>>=◌, give, pure, with_fault}
 use Rattle.topojson_meaning.specs.Shapes.{typed_shape}
+use Rattle.json_cursor.specs.Kinds.{kind_in, kind_of}
 use Rattle.json_cursor.specs.declared.stop.Stop.{Stop}
 use Rattle.json_cursor.specs.declared.stop.Stop.TheVariants as stop
 use Rattle.topojson_reader.specs.declared.feature_parts.FeatureParts.{FeatureParts}
 use Rattle.topojson_reader.specs.declared.geometry_parts.GeometryParts.{GeometryParts}
 use Rattle.topojson_reader.specs.declared.geometry_parts.Start.{Start}
+use Rattle.topojson_reader.specs.declared.keeping.Keeping.{Keeping}
+use Rattle.topojson_reader.specs.declared.keeping.Keeping.TheVariants.{Whole, Blank}
 use Rattle.topojson_reader.specs.declared.seen.Seen.{Seen}
 use Rattle.topojson_reader.specs.declared.seen.Seen.TheVariants.{Never}
-use Rattle.topojson_reader.specs.Features.{IsFeature, IsFound, found, found_in, typed_feature}
+use Rattle.topojson_reader.specs.Features.{IsFeature, IsFound, blank_identifier, blank_members, found, found_in, kept_identifier, kept_members, typed_feature}
 use Rattle.topojson_reader.specs.Geometries.{IsParts}
-use Rattle.topojson_reader.specs.Members.{GoesOnWith, IsSeen, Judges, see}
+use Rattle.topojson_reader.specs.Kept.{of_option, of_read}
+use Rattle.topojson_reader.specs.Members.{GoesOnWith, IsSeen, Judges, Meets, see}
+use Rattle.topojson_reader.proofs.KeptParts.{whole_option}
 use Rattle.topojson_reader.proofs.PartsSeen.{sees_word}
 use Rattle.topojson_reader.proofs.SeenMembers.{no_other, passes, sees}
 
@@ -45,26 +52,26 @@ module _ (start : Start) (d : ℕ) (name : List ℕ) where
     abbrev more : Members
     more = ms ++ (name, v) ∷ []
 
-    passes_id : bytes_eq name (codes "id") ≡ false → IsSeen (IsFound identifier) (named (codes "id") more) seen.id
-    passes_id other = passes (IsFound identifier) (codes "id") ms name v seen.id h.id other
+    passes_id : bytes_eq name (codes "id") ≡ false → IsSeen (IsFound (kept_identifier start.keeping)) (named (codes "id") more) seen.id
+    passes_id other = passes (IsFound (kept_identifier start.keeping)) (codes "id") ms name v seen.id h.id other
 
-    passes_properties : bytes_eq name (codes "properties") ≡ false → IsSeen (IsFound members_if) (named (codes "properties") more) seen.properties
-    passes_properties other = passes (IsFound members_if) (codes "properties") ms name v seen.properties h.properties other
+    passes_properties : bytes_eq name (codes "properties") ≡ false → IsSeen (IsFound (kept_members start.keeping)) (named (codes "properties") more) seen.properties
+    passes_properties other = passes (IsFound (kept_members start.keeping)) (codes "properties") ms name v seen.properties h.properties other
 
-    pub sees_id : (x : Result (Option Id) TopoFault) (s : Seen (Result (Option Id) TopoFault)) → s ≡ see seen.id x → bytes_eq name (codes "id") ≡ true → IsFound identifier v x
+    pub sees_id : (x : Result (Option Id) TopoFault) (s : Seen (Result (Option Id) TopoFault)) → s ≡ see seen.id x → bytes_eq name (codes "id") ≡ true → IsFound (kept_identifier start.keeping) v x
         → IsFeature start d more (record { parts = seen.parts; id = s; properties = seen.properties })
     sees_id x s is same k = record {
       parts = sees_word start d ms seen.parts name v h.parts (codes "id") same refl refl refl refl;
-      id = subst (IsSeen (IsFound identifier) (named (codes "id") more)) (sym is) (sees (IsFound identifier) (codes "id") ms name v seen.id h.id x same k);
+      id = subst (IsSeen (IsFound (kept_identifier start.keeping)) (named (codes "id") more)) (sym is) (sees (IsFound (kept_identifier start.keeping)) (codes "id") ms name v seen.id h.id x same k);
       properties = passes_properties (no_other name (codes "id") (codes "properties") same refl);
     }
 
-    pub sees_properties : (x : Result (Option Members) TopoFault) (s : Seen (Result (Option Members) TopoFault)) → s ≡ see seen.properties x → bytes_eq name (codes "properties") ≡ true → IsFound members_if v x
+    pub sees_properties : (x : Result (Option Members) TopoFault) (s : Seen (Result (Option Members) TopoFault)) → s ≡ see seen.properties x → bytes_eq name (codes "properties") ≡ true → IsFound (kept_members start.keeping) v x
         → IsFeature start d more (record { parts = seen.parts; id = seen.id; properties = s })
     sees_properties x s is same k = record {
       parts = sees_word start d ms seen.parts name v h.parts (codes "properties") same refl refl refl refl;
       id = passes_id (no_other name (codes "properties") (codes "id") same refl);
-      properties = subst (IsSeen (IsFound members_if) (named (codes "properties") more)) (sym is) (sees (IsFound members_if) (codes "properties") ms name v seen.properties h.properties x same k);
+      properties = subst (IsSeen (IsFound (kept_members start.keeping)) (named (codes "properties") more)) (sym is) (sees (IsFound (kept_members start.keeping)) (codes "properties") ms name v seen.properties h.properties x same k);
     }
 
     pub sees_part : (parts : GeometryParts) → bytes_eq name (codes "id") ≡ false → bytes_eq name (codes "properties") ≡ false → IsParts start d more parts
@@ -92,6 +99,68 @@ module _ {A : Type 0} (read : Option Json → Result A TopoFault) where
   then_found : {B : Type 0} (then : A → Reader B) (r : Result (Option Json) TopoFault) (c : Counts) → (pure r >>= λ v. pure (read v) >>= then) c ≡ (pure (found read r) >>= then) c
   then_found then (Ok v) c = refl
   then_found then (Err e) c = refl
+
+-- ---- what is kept of it
+
+module _ {A : Type 0} (k : Keeping) where
+  -- the same is read, and this is kept of it
+  pub record Kept (r : Result (Option A) TopoFault) (x : Option A) : Type 0 where
+    pub whole : Option A
+    pub reads : r ≡ Ok whole
+    pub is : x ≡ of_option k whole
+
+  kept_of : (r : Result (Option A) TopoFault) (x : Option A) → of_read k r ≡ Ok x → Kept r x
+  kept_of (Ok y) x h = record { whole = y; reads = refl; is = sym cc }
+  kept_of (Err e) x h = absurd cc
+
+  fault_kept : (r : Result (Option A) TopoFault) (e : TopoFault) → of_read k r ≡ Err e → r ≡ Err e
+  fault_kept (Ok y) e h = absurd cc
+  fault_kept (Err f) e h = cc
+
+  module _ (read : Option Json → Result (Option A) TopoFault) where
+    found_kept : (r : Result (Option Json) TopoFault) → found (λ v. of_read k (read v)) r ≡ of_read k (found read r)
+    found_kept (Ok v) = refl
+    found_kept (Err e) = refl
+
+    module _ (vs : List Json) where
+      pub kept_found : (x : Option A) → Ok x ≡ found_in (λ v. of_read k (read v)) vs → Kept (found_in read vs) x
+      kept_found x h = kept_of (found_in read vs) x (sym (found_kept (with_fault lookup_fault (only vs))) ∙ sym h)
+
+      pub kept_fault : (e : TopoFault) → Err e ≡ found_in (λ v. of_read k (read v)) vs → found_in read vs ≡ Err e
+      kept_fault e h = fault_kept (found_in read vs) e (sym (found_kept (with_fault lookup_fault (only vs))) ∙ sym h)
+
+-- nothing is lost of the whole
+whole_read : {A : Type 0} (r : Result (Option A) TopoFault) → r ≡ of_read Whole r
+whole_read (Ok x) = ap Ok (sym (whole_option x))
+whole_read (Err e) = refl
+
+pub meets_whole : {A : Type 0} (read : Option Json → Result (Option A) TopoFault) (d : ℕ) (bytes : List ℕ) (answer : Result (Result (Option A) TopoFault × Bor (List ℕ)) Fault)
+    → Meets (IsFound read) d bytes answer → Meets (IsFound (λ v. of_read Whole (read v))) d bytes answer
+meets_whole read d bytes (Ok x) h = (h.0, h.1, h.2 ∙ whole_read (read (Some h.0)))
+meets_whole read d bytes (Err fault) h = h
+
+-- and of the kind of a value it is known whether it is faulty
+blank_identifier_in : (x : Json-F Json) → blank_identifier (kind_in x) ≡ of_read Blank (identifier_in x)
+blank_identifier_in Json-F.Null = refl
+blank_identifier_in (Json-F.Bool b) = refl
+blank_identifier_in (Json-F.Number n) = refl
+blank_identifier_in (Json-F.Text t) = refl
+blank_identifier_in (Json-F.Array vs) = refl
+blank_identifier_in (Json-F.Object ms) = refl
+
+pub blank_identifier_of : (v : Json) → blank_identifier (kind_of v) ≡ kept_identifier Blank (Some v)
+blank_identifier_of v = blank_identifier_in (out-Json v)
+
+blank_members_in : (x : Json-F Json) → blank_members (kind_in x) ≡ of_read Blank (members_in x)
+blank_members_in Json-F.Null = refl
+blank_members_in (Json-F.Bool b) = refl
+blank_members_in (Json-F.Number n) = refl
+blank_members_in (Json-F.Text t) = refl
+blank_members_in (Json-F.Array vs) = refl
+blank_members_in (Json-F.Object ms) = refl
+
+pub blank_members_of : (v : Json) → blank_members (kind_of v) ≡ kept_members Blank (Some v)
+blank_members_of v = blank_members_in (out-Json v)
 
 -- ---- the feature, part by part
 

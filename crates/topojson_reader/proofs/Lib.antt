@@ -12,6 +12,7 @@ pub mod IndexParts
 pub mod TransformParts
 pub mod TopologyParts
 pub mod TextParts
+pub mod KeptParts
 pub mod SeenMembers
 pub mod GeometryParts
 pub mod PartsSeen

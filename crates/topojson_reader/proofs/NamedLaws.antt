@@ -1,6 +1,6 @@
 -- Objects by name, and where a name is repeated.
 use Rattle.std.proofs.Common.{◌≡◌, ◌≢◌, ℕ, ◌+◌, Bool, true, false, List, [], ◌∷◌, ◌++◌, length, Option, None, Result, Ok, Err, if◌then◌else◌, refl, sym, ap, ◌∙◌, append-nil, arith}
-use Rattle.std.specs.Prelude.{◌||◌, bytes_eq}
+use Rattle.std.specs.Prelude.{◌||◌, bytes_eq, map}
 use Rattle.json_value.specs.declared.json.Json.{Json}
 use Rattle.json_value.specs.declared.json.Json.TheVariants as j
 use Rattle.json_value.specs.Kinds.{object_of}
@@ -17,7 +17,10 @@ use Rattle.topojson_meaning.specs.Members.{members}
 use Rattle.topojson_meaning.specs.Objects.{is_met, object, objects, objects_behind}
 use Rattle.topojson_meaning.specs.Reader.{Reader, ◌>>=◌, and_then, each, gather, give, or_fail, pure}
 use Rattle.topojson_reader.proofs.Repeating.{names_of}
+use Rattle.topojson_reader.specs.declared.keeping.Keeping.{Keeping}
+use Rattle.topojson_reader.specs.Kept.{kept_objects, making, of_named}
 use Rattle.topojson_reader.specs.Names.{names_before_repeat}
+use Rattle.topojson_reader.proofs.KeptParts.{made_alike, made_fault}
 
 -- objects by name
 abbrev pub Named : Type 0
@@ -209,10 +212,19 @@ module _ (t : Option Transform) (arcs : List (List Point)) where
 
   -- ---- by their value
 
-  pub objects_are : (ms : Members) (c : Counts) → objects t arcs (j.Object ms) c ≡ objects_behind t arcs [] ms c
+  whole : (ms : Members) (c : Counts) → objects t arcs (j.Object ms) c ≡ objects_behind t arcs [] ms c
   unfolding objects members
-  objects_are ms c = ap (λ o. (pure (or_fail WrongKind o) >>= objects_behind t arcs []) c) (object_of-object ms)
+  whole ms c = ap (λ o. (pure (or_fail WrongKind o) >>= objects_behind t arcs []) c) (object_of-object ms)
 
-  pub no_objects : (v : Json) (c : Counts) → object_of v ≡ None → objects t arcs v c ≡ Err WrongKind
+  none : (v : Json) (c : Counts) → object_of v ≡ None → objects t arcs v c ≡ Err WrongKind
   unfolding objects members
-  no_objects v c h = ap (λ o. (pure (or_fail WrongKind o) >>= objects_behind t arcs []) c) h
+  none v c h = ap (λ o. (pure (or_fail WrongKind o) >>= objects_behind t arcs []) c) h
+
+-- ---- what is kept of them, by their value
+
+module _ (k : Keeping) (t : Option Transform) (arcs : List (List Point)) where
+  pub objects_are : (ms : Members) (c : Counts) → kept_objects k t arcs (j.Object ms) c ≡ making (map (of_named k)) (objects_behind t arcs [] ms) c
+  objects_are ms c = made_alike (map (of_named k)) (objects t arcs (j.Object ms)) c (objects_behind t arcs [] ms) (whole t arcs ms c)
+
+  pub no_objects : (v : Json) (c : Counts) → object_of v ≡ None → kept_objects k t arcs v c ≡ Err WrongKind
+  no_objects v c h = made_fault (map (of_named k)) (objects t arcs v) c WrongKind (none t arcs v c h)

@@ -1,6 +1,7 @@
 -- Objects by name, seen one after another.
 use Rattle.std.proofs.Common.{◌≡◌, ◌≢◌, ℕ, ◌+◌, ◌<◌, ◌≤◌, true, false, List, [], ◌∷◌, ◌++◌, length, get_or, drop, Option, Some, None, Result, Ok, Err, refl, sym, ap, ◌∙◌, append_assoc}
-use Rattle.std.specs.Prelude.{bytes_eq, is_some}
+use Rattle.std.specs.Prelude.{bytes_eq, is_some, map}
+use Rattle.std.proofs.lemmas.List.{length-map, map-append}
 use Rattle.std.specs.Option.{option_copied}
 use Rattle.json_value.specs.declared.json.Json.{Json}
 use Rattle.json_members.specs.Members.{Members}
@@ -10,10 +11,13 @@ use Rattle.topojson_types.specs.declared.object.TopoObject.{TopoObject}
 use Rattle.topojson_meaning.specs.declared.fault.TopoFault.{TopoFault}
 use Rattle.topojson_meaning.specs.Reader.{each, gather}
 use Rattle.topojson_reader.specs.declared.geometry_parts.Start.{Start}
+use Rattle.topojson_reader.specs.declared.keeping.Keeping.{Keeping}
+use Rattle.topojson_reader.specs.Kept.{of_named}
 use Rattle.topojson_reader.specs.NamedObjects.{AreRead, FailsBehind, named_object, object}
 use Rattle.topojson_meaning.specs.declared.fault.TopoFault.TheVariants.{Duplicate}
 use Rattle.topojson_meaning.specs.Objects.{is_met, objects_behind}
 use Rattle.topojson_reader.specs.Names.{names_before_repeat}
+use Rattle.topojson_reader.proofs.KeptParts.{names_kept}
 use Rattle.topojson_reader.proofs.Repeating.{names_of}
 use Rattle.topojson_reader.proofs.NamedLaws.{read_more}
 use Rattle.topojson_reader.proofs.NamedLaws as law
@@ -47,6 +51,20 @@ module _ (start : Start) where
       pub fails : (failed : Option (List ℕ × TopoFault)) → is_some failed ≡ false → AreRead start ms os c failed → (e : TopoFault) → object start v c ≡ Err e → FailsBehind start (ms ++ (name, v) ∷ []) os (name, e)
       fails None none h e k = record { before = ms; value = v; after = []; mid = c; are = refl; read = h; fails = k }
       fails (Some failed) none h e k = absurd cc
+
+-- ---- what is kept of them
+
+module _ (k : Keeping) (kept whole : List (List ℕ × TopoObject)) (h : kept ≡ map (of_named k) whole) where
+  -- of one more
+  pub kept_more : (one all : List ℕ × TopoObject) → one ≡ of_named k all → kept ++ one ∷ [] ≡ map (of_named k) (whole ++ all ∷ [])
+  kept_more one all is = rw (h, is) (sym (map-append (of_named k) whole (all ∷ [])))
+
+  -- it is as many, of the same names
+  pub same_names : names_of kept ≡ names_of whole
+  same_names = ap names_of h ∙ names_kept k whole
+
+  pub same_length : length kept ≡ length whole
+  same_length = ap length h ∙ length-map whole (of_named k)
 
 -- ---- a name among others
 

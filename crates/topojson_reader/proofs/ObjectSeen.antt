@@ -25,14 +25,17 @@ use Rattle.json_cursor.specs.declared.stop.Stop.{Stop}
 use Rattle.json_cursor.specs.declared.stop.Stop.TheVariants as stop
 use Rattle.topojson_reader.specs.declared.feature_parts.FeatureParts.{FeatureParts}
 use Rattle.topojson_reader.specs.declared.geometry_parts.Start.{Start}
+use Rattle.topojson_reader.specs.declared.keeping.Keeping.{Keeping}
 use Rattle.topojson_reader.specs.declared.object_parts.Features.{Features}
 use Rattle.topojson_reader.specs.declared.object_parts.ObjectParts.{ObjectParts}
 use Rattle.topojson_reader.specs.declared.seen.Seen.{Seen}
 use Rattle.topojson_reader.specs.declared.seen.Seen.TheVariants.{Never}
 use Rattle.topojson_reader.specs.Features.{IsFeature}
+use Rattle.topojson_reader.specs.Kept.{kept_object, making, of_object}
 use Rattle.topojson_reader.specs.Members.{GoesOnWith, IsFront, IsSeen, Judges, see}
 use Rattle.topojson_reader.specs.ObjectParts.{AreFeatures, IsObject, typed_object}
 use Rattle.topojson_reader.proofs.FeatureParts.{sees_part}
+use Rattle.topojson_reader.proofs.KeptParts.{made_alike, made_fault}
 use Rattle.topojson_reader.proofs.PartsSeen.{sees_geometries}
 use Rattle.topojson_reader.proofs.SeenMembers.{no_other, passes, sees}
 
@@ -121,10 +124,19 @@ module _ (t : Option Transform) (arcs : List (List Point)) where
 
   -- ---- by its value
 
-  pub object_is : (ms : Members) (c : Counts) → objects.object t arcs (j.Object ms) c ≡ typed_object t arcs ms c
+  whole : (ms : Members) (c : Counts) → objects.object t arcs (j.Object ms) c ≡ typed_object t arcs ms c
   unfolding objects.object members
-  object_is ms c = ap (λ o. (pure (or_fail WrongKind o) >>= typed_object t arcs) c) (object_of-object ms)
+  whole ms c = ap (λ o. (pure (or_fail WrongKind o) >>= typed_object t arcs) c) (object_of-object ms)
 
-  pub no_object : (v : Json) (c : Counts) → object_of v ≡ None → objects.object t arcs v c ≡ Err WrongKind
+  none : (v : Json) (c : Counts) → object_of v ≡ None → objects.object t arcs v c ≡ Err WrongKind
   unfolding objects.object members
-  no_object v c h = ap (λ o. (pure (or_fail WrongKind o) >>= typed_object t arcs) c) h
+  none v c h = ap (λ o. (pure (or_fail WrongKind o) >>= typed_object t arcs) c) h
+
+-- ---- what is kept of it, by its value
+
+module _ (k : Keeping) (t : Option Transform) (arcs : List (List Point)) where
+  pub object_is : (ms : Members) (c : Counts) → kept_object k t arcs (j.Object ms) c ≡ making (of_object k) (typed_object t arcs ms) c
+  object_is ms c = made_alike (of_object k) (objects.object t arcs (j.Object ms)) c (typed_object t arcs ms) (whole t arcs ms c)
+
+  pub no_object : (v : Json) (c : Counts) → object_of v ≡ None → kept_object k t arcs v c ≡ Err WrongKind
+  no_object v c h = made_fault (of_object k) (objects.object t arcs v) c WrongKind (none t arcs v c h)

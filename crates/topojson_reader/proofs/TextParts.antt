@@ -14,3 +14,6 @@ stands_for v t c h = h
 pub stands_for_none : (v : Json) (e : TopoFault) → value_contents v no_counts ≡ Err e → topology v ≡ Err e
 unfolding topology
 stands_for_none v e h = h
+
+pub parts_stand : (v : Json) (t u : Contents) (c : Counts) → u ≡ t → topology v ≡ Ok (t, c) → topology v ≡ Ok (u, c)
+parts_stand v t u c same h = rw same h

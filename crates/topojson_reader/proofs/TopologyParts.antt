@@ -29,9 +29,12 @@ use Rattle.json_cursor.specs.declared.stop.Stop.TheVariants as stop
 use Rattle.json_cursor.specs.Answers.{Reads, Stops, stop_of}
 use Rattle.json_cursor.specs.Arrays.{front_value}
 use Rattle.json_cursor.proofs.Steps.{found_stops}
+use Rattle.topojson_reader.specs.declared.keeping.Keeping.{Keeping}
 use Rattle.topojson_reader.specs.declared.seen.Seen.TheVariants.{Once}
+use Rattle.topojson_reader.specs.Kept.{kept_contents, kept_value_contents, making, of_contents}
 use Rattle.topojson_reader.specs.Members.{IsFront, IsSeen, Judges}
 use Rattle.topojson_reader.specs.Topologies.{Gives, NeededAt, type_in, transform_in}
+use Rattle.topojson_reader.proofs.KeptParts.{Unmade, made_alike, made_fault, unmade, unmade_fault}
 
 -- ---- a part that stands there
 
@@ -124,6 +127,29 @@ gives_same view r s old new is (Err (stop.Fault e)) h = is ∙ h
 gives_same view r s old new is (Err stop.NoValue) h = absurd h
 gives_same view r s old new is (Err stop.Memory) h = tt
 
+-- ---- what is made of a part, and of them all
+
+need_made_of : {V A B : Type 0} (f : A → B) (read : V → Reader A) (c : Counts) (r : Result V TopoFault) → (pure r >>= λ v. making f (read v)) c ≡ making f (pure r >>= read) c
+need_made_of f read c (Ok v) = refl
+need_made_of f read c (Err e) = refl
+
+module _ {A B : Type 0} (f : A → B) (name : List ℕ) (read : Json → Reader A) (ms : Members) (c : Counts) where
+  need_made : need_as name (λ v. making f (read v)) ms c ≡ making f (need_as name read ms) c
+  need_made = need_made_of f read c (need name ms)
+
+  pub unmade_part : (x : B) (d : Counts) → need_as name (λ v. making f (read v)) ms c ≡ Ok (x, d) → Unmade f (need_as name read ms c) x d
+  unmade_part x d h = unmade f (need_as name read ms) c x d (sym need_made ∙ h)
+
+  pub unmade_part_gives : (new : Counts) (s : Stop TopoFault) → Gives {X = B} (λ x. x) (need_as name (λ v. making f (read v)) ms) c new (Err s) → Gives {X = A} (λ x. x) (need_as name read ms) c new (Err s)
+  unmade_part_gives new (stop.Fault e) h = unmade_fault f (need_as name read ms) c e (sym need_made ∙ h)
+  unmade_part_gives new stop.NoValue h = h
+  unmade_part_gives new stop.Memory h = tt
+
+pub made_gives : {X A B : Type 0} (view : X → A) (other : X → B) (f : A → B) (read : Reader A) (old new : Counts) (s : Stop TopoFault) → Gives view read old new (Err s) → Gives other (making f read) old new (Err s)
+made_gives view other f read old new (stop.Fault e) h = made_fault f read old e h
+made_gives view other f read old new stop.NoValue h = h
+made_gives view other f read old new stop.Memory h = tt
+
 -- ---- its transform
 
 module _ (ms : Members) (c : Counts) where
@@ -210,22 +236,28 @@ module _ (ms : Members) (old : Counts) (typed : type_in ms old ≡ Ok (tt, old))
   pub all_read : (os : List (List ℕ × TopoObject)) (new : Counts) → need_as (codes "objects") (objects t arcs) ms mid ≡ Ok (os, new) → contents ms old ≡ Ok (record { objects = os; arcs = arcs; transform = t }, new)
   all_read os new h = then_on ms old typed t found ∙ rw (read, h) refl
 
--- ---- the value
+-- ---- what is kept of the value
 
-module _ (old : Counts) (front : Option (Json × List ℕ)) where
-  pub not_an_object : ((v : Json) (rest : List ℕ) → front ≡ Some (v, rest) → object_of v ≡ None) → Stops value_contents front old (stop.Fault topo.NotTopology)
+module _ (k : Keeping) (old : Counts) (front : Option (Json × List ℕ)) where
+  no_object : (v : Json) → object_of v ≡ None → value_contents v old ≡ Err topo.NotTopology
   unfolding value_contents
-  not_an_object h v rest is = ap (λ o. (pure (or_fail topo.NotTopology o) >>= contents) old) (h v rest is)
+  no_object v h = ap (λ o. (pure (or_fail topo.NotTopology o) >>= contents) old) h
+
+  pub not_an_object : ((v : Json) (rest : List ℕ) → front ≡ Some (v, rest) → object_of v ≡ None) → Stops (kept_value_contents k) front old (stop.Fault topo.NotTopology)
+  not_an_object h v rest is = made_fault (of_contents k) (value_contents v) old topo.NotTopology (no_object v (h v rest is))
 
   module _ (ms : Members) (rest : List ℕ) (is : front ≡ Some (j.Object ms, rest)) where
-    object_is : value_contents (j.Object ms) old ≡ contents ms old
+    whole_is : value_contents (j.Object ms) old ≡ contents ms old
     unfolding value_contents
-    object_is = ap (λ o. (pure (or_fail topo.NotTopology o) >>= contents) old) (object_of-object ms)
+    whole_is = ap (λ o. (pure (or_fail topo.NotTopology o) >>= contents) old) (object_of-object ms)
 
-    pub object_reads : (t : Contents) (new : Counts) → contents ms old ≡ Ok (t, new) → Reads value_contents front t rest old new
+    object_is : kept_value_contents k (j.Object ms) old ≡ kept_contents k ms old
+    object_is = made_alike (of_contents k) (value_contents (j.Object ms)) old (contents ms) whole_is
+
+    pub object_reads : (t : Contents) (new : Counts) → kept_contents k ms old ≡ Ok (t, new) → Reads (kept_value_contents k) front t rest old new
     object_reads t new h = record { value = j.Object ms; front_is = is; means = object_is ∙ h }
 
-    pub object_stops : {X : Type 0} (view : X → Contents) (new : Counts) (s : Stop TopoFault) → Gives view (contents ms) old new (Err s) → Stops value_contents front old s
-    object_stops view new (stop.Fault e) h = found_stops value_contents front old (j.Object ms) rest e is (object_is ∙ h)
+    pub object_stops : {X : Type 0} (view : X → Contents) (new : Counts) (s : Stop TopoFault) → Gives view (kept_contents k ms) old new (Err s) → Stops (kept_value_contents k) front old s
+    object_stops view new (stop.Fault e) h = found_stops (kept_value_contents k) front old (j.Object ms) rest e is (object_is ∙ h)
     object_stops view new stop.NoValue h = absurd h
     object_stops view new stop.Memory h = tt

@@ -10,6 +10,7 @@ pub mod Topologies
 pub mod Texts
 pub mod Members
 pub mod Geometries
+pub mod Kept
 pub mod Features
 pub mod ObjectParts
 pub mod NamedObjects

@@ -1,5 +1,5 @@
 -- The objects of a topology by name that were read so far (TopoJSON 1.0, section 2.1.5).
-use Rattle.std.specs.Prelude.{◌≡◌, ℕ, List, ◌∷◌, ◌++◌, Option, Some, None, Ok, Err}
+use Rattle.std.specs.Prelude.{◌≡◌, ℕ, List, [], ◌∷◌, ◌++◌, Option, Some, None, Ok, Err, map}
 use Rattle.std.specs.Option.{option_copied}
 use Rattle.json_value.specs.declared.json.Json.{Json}
 use Rattle.json_members.specs.Members.{Members}
@@ -8,6 +8,7 @@ use Rattle.topojson_types.specs.declared.object.TopoObject.{TopoObject}
 use Rattle.topojson_meaning.specs.declared.fault.TopoFault.{TopoFault}
 use Rattle.topojson_meaning.specs.Objects as objects
 use Rattle.topojson_meaning.specs.Reader.{Reader, ◌>>=◌, give, each}
+use Rattle.topojson_reader.specs.Kept.{making, of_named}
 use Rattle.topojson_reader.specs.declared.geometry_parts.Start.{Start}
 use Rattle.topojson_reader.specs.declared.named_objects.NamedObjects.{NamedObjects}
 
@@ -35,5 +36,12 @@ abbrev pub AreRead : Start → Members → List (List ℕ × TopoObject) → Cou
 AreRead start ms os counts None = each (named_object start) ms start.counts ≡ Ok (os, counts)
 AreRead start ms os counts (Some failed) = FailsBehind start ms os failed
 
-abbrev pub AreObjects : Start → ℕ → Members → NamedObjects → Type 0
-AreObjects start d ms seen = AreRead start ms seen.list.items seen.counts seen.failed
+-- these are what is kept of such objects
+pub record AreObjects (start : Start) (d : ℕ) (ms : Members) (seen : NamedObjects) : Type 0 where
+  pub whole : List (List ℕ × TopoObject)
+  pub kept : seen.list.items ≡ map (of_named start.keeping) whole
+  pub read : AreRead start ms whole seen.counts seen.failed
+
+-- what is kept of the objects by name with these members
+abbrev pub kept_objects_behind : Start → Members → Reader (List (List ℕ × TopoObject))
+kept_objects_behind start ms = making (map (of_named start.keeping)) (objects.objects_behind (option_copied start.transform) start.arcs.now [] ms)

@@ -11,18 +11,19 @@ use Rattle.topojson_meaning.specs.GeometryTypes.{is_collection, object_type}
 use Rattle.topojson_meaning.specs.Objects as objects
 use Rattle.topojson_meaning.specs.Reader.{Reader, ◌>>=◌, pure}
 use Rattle.topojson_reader.specs.Features.{IsFeature}
+use Rattle.topojson_reader.specs.Kept.{kept_features, making, of_object}
 use Rattle.topojson_reader.specs.Members.{IsFront, IsHeld, IsSeen}
 use Rattle.topojson_reader.specs.declared.geometry_parts.Start.{Start}
 use Rattle.topojson_reader.specs.declared.object_parts.Features.{Features}
 use Rattle.topojson_reader.specs.declared.object_parts.ObjectParts.{ObjectParts}
 use Rattle.topojson_reader.specs.declared.object_parts.ReadFeatures.{ReadFeatures}
 
--- the features that the value of `geometries` is, and the collection with these members
+-- what is kept of the features that the value of `geometries` is, and of the collection with these members
 abbrev pub features : Start → Json → Reader (List TopoFeature)
-features start v = objects.features (option_copied start.transform) start.arcs.now v
+features start v = kept_features start.keeping (option_copied start.transform) start.arcs.now v
 
 abbrev pub collection : Start → Members → Reader TopoObject
-collection start ms = objects.collection (option_copied start.transform) start.arcs.now ms
+collection start ms = making (of_object start.keeping) (objects.collection (option_copied start.transform) start.arcs.now ms)
 
 -- what the value of `geometries` was read as, if it was
 abbrev pub AreRead : Start → Json → Option ReadFeatures → Type 0
@@ -44,3 +45,7 @@ abbrev pub typed_object : Option Transform → List (List Point) → Members →
 typed_object transform arcs ms = do
   type ← pure (object_type ms)
   if is_collection type then objects.collection transform arcs ms else objects.single transform arcs type ms
+
+-- what is kept of it
+abbrev pub kept_typed_object : Start → Members → Reader TopoObject
+kept_typed_object start ms = making (of_object start.keeping) (typed_object (option_copied start.transform) start.arcs.now ms)

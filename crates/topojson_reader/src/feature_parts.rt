@@ -6,13 +6,14 @@ ghost use Rattle.json_cursor.specs.Members.{Names};
 ghost use Rattle.topojson_meaning.specs.Answers.{Finds};
 ghost use Rattle.topojson_meaning.specs.Features.{identifier as identifier_in, members_if};
 ghost use Rattle.topojson_meaning.specs.declared.fault.TopoFault.{TopoFault as Refusal};
-ghost use Rattle.topojson_reader.specs.Features.{IsFeature, IsFound, feature, found_in as found_among};
+ghost use Rattle.topojson_reader.specs.Features.{IsFeature, IsFound, blank_identifier, blank_members, feature, found_in as found_among, kept_identifier, kept_members};
 ghost use Rattle.topojson_reader.specs.Members.{GoesOnWith, IsSeen, Judges, Meets};
 ghost use Rattle.topojson_reader.specs.declared.geometry_parts.Start.{Start as Begun};
 
 use crate::geometries::typed_of;
 use crate::geometry_parts::{GeometryParts, Start};
 use crate::index::is_name;
+use crate::keeping::Keeping;
 use crate::seen::Seen;
 use geojson_types::{Counts, Id, Properties};
 use json_cursor::{Kind, Members, Name, Stop, kind_at, name_at, named_at};
@@ -24,7 +25,7 @@ use text_checking::after_value;
 use topojson_meaning::{GeometryType, TopoFault};
 use topojson_types::TopoFeature;
 
-/// What was seen of the members of a feature: those of its geometry, and what its identifier and its properties are, or their faults.
+/// What was seen of the members of a feature: those of its geometry, and what is kept of its identifier and its properties, or their faults.
 #[derive(Drop)]
 pub struct FeatureParts<'a> {
     pub parts: GeometryParts<'a>,
@@ -46,8 +47,31 @@ fn identifier(value: Option<Json>) -> Result<Option<Id>, TopoFault>
     }
 }
 
+/// The identifier that a value of this kind gives where none is kept.
+fn blank_id(kind: Kind) -> Result<Option<Id>, TopoFault>
+    ensures { result ≡ blank_identifier kind }
+{
+    match kind {
+        Kind::Null => Ok(None),
+        Kind::Text => Ok(None),
+        Kind::Number => Ok(None),
+        _ => Err(TopoFault::WrongKind),
+    }
+}
+
+/// The properties that a value of this kind gives where none are kept.
+fn blank_properties(kind: Kind) -> Result<Option<Properties>, TopoFault>
+    ensures { result ≡ blank_members kind }
+{
+    match kind {
+        Kind::Null => Ok(None),
+        Kind::Object => Ok(None),
+        _ => Err(TopoFault::WrongKind),
+    }
+}
+
 /// The identifier that the value at the front is, or its fault, and what follows it.
-fn id_at<'a>(
+fn whole_id_at<'a>(
     alloc: Global,
     deep: u32,
     bytes: &'a [u8],
@@ -70,9 +94,28 @@ fn id_at<'a>(
     }
 }
 
+/// The identifier that is kept of the value at the front, or its fault, and what follows it.
+#[inline(always)]
+fn id_at<'a>(
+    alloc: Global,
+    deep: u32,
+    keeping: Keeping,
+    bytes: &'a [u8],
+) -> Result<(Result<Option<Id>, TopoFault>, &'a [u8]), Fault>
+    ensures { Meets (IsFound (kept_identifier keeping)) deep bytes.now result }
+{
+    match keeping {
+        Keeping::Whole => whole_id_at(alloc, deep, bytes),
+        Keeping::Blank => {
+            let rest = after_value(alloc, deep, bytes)?;
+            Ok((blank_id(kind_at(bytes)), rest))
+        }
+    }
+}
+
 /// The properties that the value at the front is, or their fault, and what follows it.
 #[inline(always)]
-fn properties_member<'a>(
+fn whole_properties_at<'a>(
     alloc: Global,
     deep: u32,
     bytes: &'a [u8],
@@ -83,6 +126,25 @@ fn properties_member<'a>(
     match read {
         None => Ok((Err(TopoFault::WrongKind), rest)),
         Some(properties) => Ok((Ok(properties), rest)),
+    }
+}
+
+/// The properties that are kept of the value at the front, or their fault, and what follows it.
+#[inline(always)]
+fn properties_at<'a>(
+    alloc: Global,
+    deep: u32,
+    keeping: Keeping,
+    bytes: &'a [u8],
+) -> Result<(Result<Option<Properties>, TopoFault>, &'a [u8]), Fault>
+    ensures { Meets (IsFound (kept_members keeping)) deep bytes.now result }
+{
+    match keeping {
+        Keeping::Whole => whole_properties_at(alloc, deep, bytes),
+        Keeping::Blank => {
+            let rest = after_value(alloc, deep, bytes)?;
+            Ok((blank_properties(kind_at(bytes)), rest))
+        }
     }
 }
 
@@ -112,12 +174,12 @@ impl<'a> FeatureParts<'a> {
         ensures { GoesOnWith (IsFeature start.entry deep) deep name.now self.old self.new bytes.now result }
     {
         if is_name(name, "id") {
-            let (id, rest) = id_at(alloc, deep, bytes)?;
+            let (id, rest) = id_at(alloc, deep, start.keeping, bytes)?;
             self.id.see(id);
             return Ok(rest);
         }
         if is_name(name, "properties") {
-            let (properties, rest) = properties_member(alloc, deep, bytes)?;
+            let (properties, rest) = properties_at(alloc, deep, start.keeping, bytes)?;
             self.properties.see(properties);
             return Ok(rest);
         }
@@ -228,7 +290,7 @@ pub(crate) fn feature_of(
             Ok(TopoFeature {
                 id,
                 properties,
-                shape,
+                shape: start.keeping.of(shape),
             })
         }
     }

@@ -5,13 +5,14 @@ ghost use Rattle.json_members.specs.Members.{Members as Listed};
 ghost use Rattle.json_cursor.specs.Answers.{Answers};
 ghost use Rattle.json_cursor.specs.Arrays.{front_elements, front_value};
 ghost use Rattle.topojson_meaning.specs.Features.{feature_element};
-ghost use Rattle.topojson_meaning.specs.Objects.{features};
 ghost use Rattle.topojson_meaning.specs.Reader.{each};
-ghost use Rattle.topojson_reader.specs.Features.{IsFeature, typed_feature};
+ghost use Rattle.topojson_reader.specs.Features.{IsFeature, kept_typed_feature};
+ghost use Rattle.topojson_reader.specs.Kept.{kept_feature, kept_features};
 ghost use Rattle.topojson_reader.specs.Members.{Judges};
 
 use crate::feature_parts::{FeatureParts, feature_of};
 use crate::geometry_parts::{Start, kind_of};
+use crate::keeping::Keeping;
 use geojson_types::Counts;
 use json_cursor::{Mark, Opening, Stop, mark_at, object_into, opening_at};
 use json_reading::skip;
@@ -30,11 +31,40 @@ fn typed_feature_of(
     counts: &mut Counts,
 ) -> Result<TopoFeature, Stop<TopoFault>>
     ensures { (ms : Listed) → IsFeature start.entry deep ms seen.entry
-        → Judges (typed_feature (option_copied start.entry.transform) start.entry.arcs.now ms) start.entry.counts counts.new result }
+        → Judges (kept_typed_feature start.entry ms) start.entry.counts counts.new result }
 {
     match kind_of(&seen.parts.kind) {
         Err(fault) => Err(Stop::Fault(fault)),
         Ok(kind) => feature_of(alloc, deep, kind, seen, start, counts),
+    }
+}
+
+/// What is kept of the feature at the front that is a geometry in a collection, and what follows it; or why reading stops. Its members may
+/// stand in any order.
+fn kept_feature_at<'a>(
+    alloc: Global,
+    deep: u32,
+    keeping: Keeping,
+    transform: Option<&'a Transform>,
+    arcs: &'a [Items<Cell>],
+    bytes: &'a [u8],
+    counts: &mut Counts,
+) -> Result<(TopoFeature, &'a [u8]), Stop<TopoFault>>
+    ensures { Answers (λ x. x) (kept_feature keeping (option_copied transform.entry) arcs.now) (front_value deep bytes.now) counts.old counts.new result }
+{
+    let start = Start {
+        transform,
+        arcs,
+        counts: *counts,
+        keeping,
+    };
+    let mut seen = FeatureParts::none();
+    let Some(rest) = object_into::<FeatureParts<'a>>(alloc, deep, &mut seen, bytes, start)? else {
+        return Err(Stop::Fault(TopoFault::WrongKind));
+    };
+    match typed_feature_of(alloc, deep - 1, seen, start, counts) {
+        Err(stop) => Err(stop),
+        Ok(feature) => Ok((feature, rest)),
     }
 }
 
@@ -50,36 +80,25 @@ pub fn feature_at<'a>(
 ) -> Result<(TopoFeature, &'a [u8]), Stop<TopoFault>>
     ensures { Answers (λ x. x) (feature_element (option_copied transform.entry) arcs.now) (front_value deep bytes.now) counts.old counts.new result }
 {
-    let start = Start {
-        transform,
-        arcs,
-        counts: *counts,
-    };
-    let mut seen = FeatureParts::none();
-    let Some(rest) = object_into::<FeatureParts<'a>>(alloc, deep, &mut seen, bytes, start)? else {
-        return Err(Stop::Fault(TopoFault::WrongKind));
-    };
-    match typed_feature_of(alloc, deep - 1, seen, start, counts) {
-        Err(stop) => Err(stop),
-        Ok(feature) => Ok((feature, rest)),
-    }
+    kept_feature_at(alloc, deep, Keeping::Whole, transform, arcs, bytes, counts)
 }
 
-/// The features after the bracket of an array, one or more, and what follows it.
+/// What is kept of the features behind the bracket of an array, one or more, and what follows it.
 fn features_behind<'a>(
     alloc: Global,
     deep: u32,
+    keeping: Keeping,
     transform: Option<&'a Transform>,
     arcs: &'a [Items<Cell>],
     inside: &'a [u8],
     counts: &mut Counts,
 ) -> Result<(Vec<TopoFeature>, &'a [u8]), Stop<TopoFault>>
-    ensures { Answers (λ v. v.items) (each (feature_element (option_copied transform.entry) arcs.now)) (front_elements deep (length inside.now) inside.now) counts.old counts.new result }
+    ensures { Answers (λ v. v.items) (each (kept_feature keeping (option_copied transform.entry) arcs.now)) (front_elements deep (length inside.now) inside.now) counts.old counts.new result }
 {
     let mut read = Vec::new(alloc);
     let mut rest = inside;
     'features: for _ in 0..inside.len() {
-        match feature_at(alloc, deep, transform, arcs, skip(rest), counts) {
+        match kept_feature_at(alloc, deep, keeping, transform, arcs, skip(rest), counts) {
             Err(stop) => return Err(stop),
             Ok((feature, behind)) => {
                 read.push(feature)?;
@@ -96,16 +115,17 @@ fn features_behind<'a>(
     Err(Stop::NoValue)
 }
 
-/// The features of the collection whose `geometries` stand at the front, and what follows them; or why reading stops.
-pub fn features_at<'a>(
+/// What is kept of the features of the collection whose `geometries` stand at the front, and what follows them; or why reading stops.
+pub(crate) fn features_at<'a>(
     alloc: Global,
     deep: u32,
+    keeping: Keeping,
     transform: Option<&'a Transform>,
     arcs: &'a [Items<Cell>],
     bytes: &'a [u8],
     counts: &mut Counts,
 ) -> Result<(Items<TopoFeature>, &'a [u8]), Stop<TopoFault>>
-    ensures { Answers (λ x. x) (features (option_copied transform.entry) arcs.now) (front_value deep bytes.now) counts.old counts.new result }
+    ensures { Answers (λ x. x) (kept_features keeping (option_copied transform.entry) arcs.now) (front_value deep bytes.now) counts.old counts.new result }
 {
     let (opening, inside) = opening_at(deep, bytes);
     match opening {
@@ -113,7 +133,7 @@ pub fn features_at<'a>(
         Opening::TooDeep => Err(Stop::NoValue),
         Opening::Empty => Ok((Items::of(Vec::new(alloc)), inside)),
         Opening::Filled(below) => {
-            match features_behind(alloc, below, transform, arcs, inside, counts) {
+            match features_behind(alloc, below, keeping, transform, arcs, inside, counts) {
                 Err(stop) => Err(stop),
                 Ok((read, rest)) => {
                     let mut features = read;

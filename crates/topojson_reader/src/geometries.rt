@@ -11,6 +11,7 @@ ghost use Rattle.topojson_reader.specs.Geometries.{IsParts, geometry, typed_shap
 ghost use Rattle.topojson_reader.specs.Members.{IsFront, IsSeen, Judges};
 
 use crate::geometry_parts::{GeometryParts, PartType, Start, kind_of, part_of};
+use crate::keeping::Keeping;
 use crate::seen::Seen;
 use geojson_types::Counts;
 use json_cursor::{Mark, Stop, behind_byte, mark_at, object_at};
@@ -121,6 +122,7 @@ pub fn geometry_at<'a>(
         transform,
         arcs,
         counts: *counts,
+        keeping: Keeping::Whole,
     };
     let none = GeometryParts::none();
     let (found, rest) = object_at::<GeometryParts<'a>>(alloc, deep, none, bytes, start)?;

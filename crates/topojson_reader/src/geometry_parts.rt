@@ -12,6 +12,7 @@ ghost use Rattle.topojson_reader.specs.declared.geometry_parts.Start.{Start as B
 
 use crate::held::held;
 use crate::index::is_name;
+use crate::keeping::Keeping;
 use crate::seen::Seen;
 use crate::shapes::{arcs_shape_at, places_shape_at};
 use crate::types::geometry_type;
@@ -24,12 +25,14 @@ use text_checking::after_value;
 use topojson_meaning::{ArcsType, GeometryType, PlacesType, TopoFault};
 use topojson_types::{Cell, TopoShape, Transform};
 
-/// By what the members of an object are read: the transform and the arcs of the topology, and what was counted before the object.
+/// By what the members of an object are read: the transform and the arcs of the topology, what was counted before the object, and what is
+/// kept of a feature.
 #[derive(Clone, Copy)]
 pub struct Start<'a> {
     pub transform: Option<&'a Transform>,
     pub arcs: &'a [Items<Cell>],
     pub counts: Counts,
+    pub keeping: Keeping,
 }
 
 /// The types of geometries that are made of no others.

@@ -5,15 +5,17 @@ ghost use Rattle.json_members.specs.Members.{Members as Listed};
 ghost use Rattle.json_cursor.specs.Answers.{Answers};
 ghost use Rattle.json_cursor.specs.Arrays.{front_value};
 ghost use Rattle.json_cursor.specs.Names.{name_of};
-ghost use Rattle.topojson_meaning.specs.Objects.{is_met, objects, objects_behind};
+ghost use Rattle.topojson_meaning.specs.Objects.{is_met};
+ghost use Rattle.topojson_reader.specs.Kept.{kept_objects};
 ghost use Rattle.topojson_reader.specs.Members.{Judges};
-ghost use Rattle.topojson_reader.specs.NamedObjects.{AreObjects};
+ghost use Rattle.topojson_reader.specs.NamedObjects.{AreObjects, kept_objects_behind};
 ghost use Rattle.topojson_reader.specs.Names.{names_before_repeat};
 ghost use Rattle.topojson_reader.specs.declared.geometry_parts.Start.{Start as Begun};
 
 use crate::geometry_parts::Start;
 use crate::held::held;
-use crate::object_parts::object_at;
+use crate::keeping::Keeping;
+use crate::object_parts::kept_object_at;
 use geojson_types::Counts;
 use json_cursor::{Members, Name, Stop, name_at, object_at as members_at};
 use json_reading::Fault;
@@ -72,9 +74,10 @@ impl<'a> Members<'a> for NamedObjects {
             return Ok(rest);
         }
         let name = owned(alloc, name)?;
-        let answer = object_at(
+        let answer = kept_object_at(
             alloc,
             deep,
+            with.keeping,
             with.transform,
             with.arcs,
             value,
@@ -128,7 +131,7 @@ fn in_order(
     counts: &mut Counts,
 ) -> Result<Items<(OwnText, TopoObject)>, Stop<TopoFault>>
     ensures { (deep : ℕ) (ms : Listed) → AreObjects start.entry deep ms seen
-        → Judges (objects_behind (option_copied start.entry.transform) start.entry.arcs.now [] ms) start.entry.counts counts.new result }
+        → Judges (kept_objects_behind start.entry ms) start.entry.counts counts.new result }
 {
     let NamedObjects {
         list,
@@ -157,21 +160,24 @@ fn in_order(
     }
 }
 
-/// The objects by name that the value of `objects` at the front is, in order, over these arcs, and what follows it; or why reading stops.
-pub fn objects_at<'a>(
+/// What is kept of the objects by name that the value of `objects` at the front is, in order, over these arcs, and what follows it; or why
+/// reading stops.
+pub(crate) fn objects_at<'a>(
     alloc: Global,
     deep: u32,
+    keeping: Keeping,
     transform: Option<&'a Transform>,
     arcs: &'a [Items<Cell>],
     bytes: &'a [u8],
     counts: &mut Counts,
 ) -> Result<(Items<(OwnText, TopoObject)>, &'a [u8]), Stop<TopoFault>>
-    ensures { Answers (λ x. x) (objects (option_copied transform.entry) arcs.now) (front_value deep bytes.now) counts.old counts.new result }
+    ensures { Answers (λ x. x) (kept_objects keeping (option_copied transform.entry) arcs.now) (front_value deep bytes.now) counts.old counts.new result }
 {
     let start = Start {
         transform,
         arcs,
         counts: *counts,
+        keeping,
     };
     let none = none(alloc, *counts);
     let (found, rest) = members_at::<NamedObjects>(alloc, deep, none, bytes, start)?;

@@ -6,8 +6,9 @@ ghost use Rattle.json_members.specs.Members.{Members as Listed, named};
 ghost use Rattle.json_cursor.specs.Answers.{Answers};
 ghost use Rattle.json_cursor.specs.Arrays.{front_value};
 ghost use Rattle.topojson_meaning.specs.Objects.{object};
+ghost use Rattle.topojson_reader.specs.Kept.{kept_object};
 ghost use Rattle.topojson_reader.specs.Members.{GoesOnWith, IsSeen, Judges, Meets};
-ghost use Rattle.topojson_reader.specs.ObjectParts.{AreFeatures, IsObject, collection, features, typed_object};
+ghost use Rattle.topojson_reader.specs.ObjectParts.{AreFeatures, IsObject, collection, features, kept_typed_object};
 ghost use Rattle.topojson_reader.specs.declared.geometry_parts.Start.{Start as Begun};
 
 use crate::feature_parts::{FeatureParts, feature_of};
@@ -15,6 +16,7 @@ use crate::features::features_at;
 use crate::geometry_parts::{Start, kind_of};
 use crate::held::held;
 use crate::index::is_name;
+use crate::keeping::Keeping;
 use crate::seen::Seen;
 use crate::types::is_collection;
 use geojson_types::Counts;
@@ -76,7 +78,15 @@ fn read_at<'a>(
     ensures { Meets (AreFeatures start.entry deep) deep bytes.now result }
 {
     let mut counts = start.counts;
-    let answer = features_at(alloc, deep, start.transform, start.arcs, bytes, &mut counts);
+    let answer = features_at(
+        alloc,
+        deep,
+        start.keeping,
+        start.transform,
+        start.arcs,
+        bytes,
+        &mut counts,
+    );
     let (features, rest) = held(alloc, deep, bytes, answer)?;
     let read = ReadFeatures { features, counts };
     Ok((
@@ -187,7 +197,15 @@ fn features_by(
         }
         None => {
             *counts = start.counts;
-            match features_at(alloc, deep, start.transform, start.arcs, front, counts) {
+            match features_at(
+                alloc,
+                deep,
+                start.keeping,
+                start.transform,
+                start.arcs,
+                front,
+                counts,
+            ) {
                 Err(stop) => Err(stop),
                 Ok((features, _)) => Ok(features),
             }
@@ -223,7 +241,7 @@ fn object_of(
     start: Start<'_>,
     counts: &mut Counts,
 ) -> Result<TopoObject, Stop<TopoFault>>
-    ensures { (ms : Listed) → IsObject start.entry deep ms seen.entry → Judges (typed_object (option_copied start.entry.transform) start.entry.arcs.now ms) start.entry.counts counts.new result }
+    ensures { (ms : Listed) → IsObject start.entry deep ms seen.entry → Judges (kept_typed_object start.entry ms) start.entry.counts counts.new result }
 {
     let ObjectParts { feature, features } = seen;
     let kind = match kind_of(&feature.parts.kind) {
@@ -239,6 +257,35 @@ fn object_of(
     }
 }
 
+/// What is kept of the object of a topology at the front, and what follows it; or why reading stops. Its members may stand in any order.
+pub(crate) fn kept_object_at<'a>(
+    alloc: Global,
+    deep: u32,
+    keeping: Keeping,
+    transform: Option<&'a Transform>,
+    arcs: &'a [Items<Cell>],
+    bytes: &'a [u8],
+    counts: &mut Counts,
+) -> Result<(TopoObject, &'a [u8]), Stop<TopoFault>>
+    ensures { Answers (λ x. x) (kept_object keeping (option_copied transform.entry) arcs.now) (front_value deep bytes.now) counts.old counts.new result }
+{
+    let start = Start {
+        transform,
+        arcs,
+        counts: *counts,
+        keeping,
+    };
+    let none = ObjectParts::none();
+    let (found, rest) = parts_at::<ObjectParts<'a>>(alloc, deep, none, bytes, start)?;
+    let Some(seen) = found else {
+        return Err(Stop::Fault(TopoFault::WrongKind));
+    };
+    match object_of(alloc, deep - 1, seen, start, counts) {
+        Err(stop) => Err(stop),
+        Ok(object) => Ok((object, rest)),
+    }
+}
+
 /// The object of a topology at the front, and what follows it; or why reading stops. Its members may stand in any order.
 pub fn object_at<'a>(
     alloc: Global,
@@ -250,18 +297,5 @@ pub fn object_at<'a>(
 ) -> Result<(TopoObject, &'a [u8]), Stop<TopoFault>>
     ensures { Answers (λ x. x) (object (option_copied transform.entry) arcs.now) (front_value deep bytes.now) counts.old counts.new result }
 {
-    let start = Start {
-        transform,
-        arcs,
-        counts: *counts,
-    };
-    let none = ObjectParts::none();
-    let (found, rest) = parts_at::<ObjectParts<'a>>(alloc, deep, none, bytes, start)?;
-    let Some(seen) = found else {
-        return Err(Stop::Fault(TopoFault::WrongKind));
-    };
-    match object_of(alloc, deep - 1, seen, start, counts) {
-        Err(stop) => Err(stop),
-        Ok(object) => Ok((object, rest)),
-    }
+    kept_object_at(alloc, deep, Keeping::Whole, transform, arcs, bytes, counts)
 }

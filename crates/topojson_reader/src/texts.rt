@@ -7,10 +7,10 @@ ghost use Rattle.json_value.specs.Reading as reading;
 ghost use Rattle.json_reading.specs.Outcome.{SaysUtf8, SpellsNothing};
 ghost use Rattle.geojson_types.specs.declared.counts.Counts.{Counts as Counted};
 ghost use Rattle.topojson_meaning.specs.Topologies.{topology};
-ghost use Rattle.json_value.specs.Limits.{topology_depth};
-ghost use Rattle.topojson_reader.specs.Texts.{TextAnswers};
+ghost use Rattle.topojson_reader.specs.Texts.{PartsAnswer, TextAnswers, deepest};
 
-use crate::topologies::{Parts, topology_at};
+use crate::keeping::Keeping;
+use crate::topologies::{Parts, kept_topology_at};
 use geojson_types::Counts;
 use json_cursor::Stop;
 use json_reading::{JsonFault, TOPOLOGY_DEPTH, after_word, skip};
@@ -74,20 +74,26 @@ pub fn topology_of(parts: Parts) -> Topology
     Topology::of(objects, arcs, transform)
 }
 
-/// The topology that a whole text spells (TopoJSON 1.0, section 2.1), with what was counted in reading it. Of a text that spells no value
-/// it is said why, whatever else is wrong.
-pub fn read_text(alloc: Global, bytes: &[u8]) -> Result<(Topology, Counts), Refusal>
-    ensures { TextAnswers bytes.now result }
+/// What is kept of the parts of the topology that a whole text spells (TopoJSON 1.0, section 2.1), with what was counted in reading it. Of a
+/// text that spells no value is told why, whatever else is wrong.
+pub fn read_parts(alloc: Global, keeping: Keeping, bytes: &[u8]) -> Result<(Parts, Counts), Refusal>
+    ensures { PartsAnswer keeping bytes.now result }
 {
     if !are_utf8(bytes) {
         return Err(Refusal::Text(malformed(alloc, bytes)));
     }
     let mut counts = Counts::none();
-    match topology_at(alloc, TOPOLOGY_DEPTH, skip(text_of(bytes)), &mut counts) {
+    match kept_topology_at(
+        alloc,
+        TOPOLOGY_DEPTH,
+        keeping,
+        skip(text_of(bytes)),
+        &mut counts,
+    ) {
         Ok((parts, rest)) => {
             let behind = skip(rest);
             if behind.is_empty() {
-                return Ok((topology_of(parts), counts));
+                return Ok((parts, counts));
             }
             Err(Refusal::Text(malformed(alloc, bytes)))
         }
@@ -97,5 +103,16 @@ pub fn read_text(alloc: Global, bytes: &[u8]) -> Result<(Topology, Counts), Refu
             Err(malformed) => Err(Refusal::Text(malformed)),
             Ok(()) => Err(Refusal::Meaning(fault)),
         },
+    }
+}
+
+/// The topology that a whole text spells (TopoJSON 1.0, section 2.1), with what was counted in reading it. Of a text that spells no value
+/// is told why, whatever else is wrong.
+pub fn read_text(alloc: Global, bytes: &[u8]) -> Result<(Topology, Counts), Refusal>
+    ensures { TextAnswers bytes.now result }
+{
+    match read_parts(alloc, Keeping::Whole, bytes) {
+        Err(refusal) => Err(refusal),
+        Ok((parts, counts)) => Ok((topology_of(parts), counts)),
     }
 }

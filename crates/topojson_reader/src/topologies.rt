@@ -9,16 +9,17 @@ ghost use Rattle.json_cursor.specs.Arrays.{front_value};
 ghost use Rattle.topojson_meaning.specs.Arcs.{arc_list};
 ghost use Rattle.topojson_meaning.specs.Members.{need_as};
 ghost use Rattle.topojson_meaning.specs.Reader.{pure};
-ghost use Rattle.topojson_meaning.specs.Objects.{objects as objects_in_order};
 ghost use Rattle.topojson_meaning.specs.Topologies as spec;
 ghost use Rattle.topojson_reader.specs.Index.{AreArcs, IsIndex, IsLost, NoArcs, NoObjects, transform_by};
 ghost use Rattle.topojson_reader.specs.declared.seen.Seen.TheVariants.{Once};
+ghost use Rattle.topojson_reader.specs.Kept.{kept_contents, kept_objects, kept_value_contents};
 ghost use Rattle.topojson_reader.specs.Members.{IsFront, IsSeen, Judges};
 ghost use Rattle.topojson_reader.specs.Topologies.{Gives, NeededAt, transform_in, type_in};
 ghost use Rattle.topojson_reader.specs.Transforms.{IsTransformOf};
 
 use crate::arcs::arcs_at;
 use crate::index::{FoundArcs, Index, ReadArcs, members_seen_at};
+use crate::keeping::Keeping;
 use crate::named_objects::objects_at;
 use crate::seen::Seen;
 use geojson_types::Counts;
@@ -129,38 +130,40 @@ fn arcs_of(
     }
 }
 
-/// The objects over these arcs.
+/// What is kept of the objects over these arcs.
 fn objects_of(
     alloc: Global,
     deep: u32,
+    keeping: Keeping,
     transform: Option<&Transform>,
     arcs: &[Items<Cell>],
     seen: Seen<&[u8]>,
     counts: &mut Counts,
 ) -> Result<Items<(OwnText, TopoObject)>, Stop<TopoFault>>
     ensures there { IfOk result (λ _. NoObjects deep seen.entry → ⊥) }
-    ensures gives { (ms : Listed) → IsSeen (IsFront deep) (named (codes "objects") ms) seen.entry → Gives (λ x. x) (need_as (codes "objects") (objects_in_order (option_copied transform.entry) arcs.now) ms) counts.old counts.new result }
+    ensures gives { (ms : Listed) → IsSeen (IsFront deep) (named (codes "objects") ms) seen.entry → Gives (λ x. x) (need_as (codes "objects") (kept_objects keeping (option_copied transform.entry) arcs.now) ms) counts.old counts.new result }
 {
     match seen {
         Seen::Never => Err(Stop::Fault(TopoFault::Missing)),
         Seen::Again => Err(Stop::Fault(TopoFault::Duplicate)),
-        Seen::Once(at) => match objects_at(alloc, deep, transform, arcs, at, counts) {
+        Seen::Once(at) => match objects_at(alloc, deep, keeping, transform, arcs, at, counts) {
             Err(stop) => Err(stop),
             Ok((objects, _)) => Ok(objects),
         },
     }
 }
 
-/// The parts of the topology whose members stand there, in the order of the definition.
+/// What is kept of the parts of the topology whose members stand there, in the order of the definition.
 fn parts_of(
     alloc: Global,
     deep: u32,
+    keeping: Keeping,
     index: Index<'_>,
     counts: &mut Counts,
 ) -> Result<Parts, Stop<TopoFault>>
     // What was leaped over stands there.
     ensures there { IfOk result (λ _. IsLost deep index.entry → ⊥) }
-    ensures gives { (ms : Listed) → IsIndex counts.old deep ms index.entry → Gives (λ p. record { objects = p.objects; arcs = p.arcs; transform = p.transform }) (spec.contents ms) counts.old counts.new result }
+    ensures gives { (ms : Listed) → IsIndex counts.old deep ms index.entry → Gives (λ p. record { objects = p.objects; arcs = p.arcs; transform = p.transform }) (kept_contents keeping ms) counts.old counts.new result }
 {
     let Index {
         kind,
@@ -182,6 +185,7 @@ fn parts_of(
     match objects_of(
         alloc,
         deep,
+        keeping,
         transform.as_ref(),
         arcs.as_slice(),
         objects,
@@ -198,6 +202,25 @@ fn parts_of(
     }
 }
 
+/// What is kept of the topology at the front, and what follows it; or why reading stops.
+pub(crate) fn kept_topology_at<'a>(
+    alloc: Global,
+    deep: u32,
+    keeping: Keeping,
+    bytes: &'a [u8],
+    counts: &mut Counts,
+) -> Result<(Parts, &'a [u8]), Stop<TopoFault>>
+    ensures { Answers (λ p. record { objects = p.objects; arcs = p.arcs; transform = p.transform }) (kept_value_contents keeping) (front_value deep bytes.now) counts.old counts.new result }
+{
+    let Some((index, rest)) = members_seen_at(alloc, deep, bytes, *counts)? else {
+        return Err(Stop::Fault(TopoFault::NotTopology));
+    };
+    match parts_of(alloc, deep - 1, keeping, index, counts) {
+        Err(stop) => Err(stop),
+        Ok(parts) => Ok((parts, rest)),
+    }
+}
+
 /// The topology at the front, and what follows it; or why reading stops.
 pub fn topology_at<'a>(
     alloc: Global,
@@ -207,11 +230,5 @@ pub fn topology_at<'a>(
 ) -> Result<(Parts, &'a [u8]), Stop<TopoFault>>
     ensures { Answers (λ p. record { objects = p.objects; arcs = p.arcs; transform = p.transform }) spec.value_contents (front_value deep bytes.now) counts.old counts.new result }
 {
-    let Some((index, rest)) = members_seen_at(alloc, deep, bytes, *counts)? else {
-        return Err(Stop::Fault(TopoFault::NotTopology));
-    };
-    match parts_of(alloc, deep - 1, index, counts) {
-        Err(stop) => Err(stop),
-        Ok(parts) => Ok((parts, rest)),
-    }
+    kept_topology_at(alloc, deep, Keeping::Whole, bytes, counts)
 }

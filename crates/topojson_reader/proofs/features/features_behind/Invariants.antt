@@ -5,9 +5,9 @@ use Rattle.json_value.specs.Reading.{value_at}
 use Rattle.json_cursor.specs.Arrays.{front_elements}
 use Rattle.json_cursor.specs.Folds.{one, with_read}
 use Rattle.json_cursor.proofs.FoldedSoFar.{FoldedSoFar}
-use Rattle.topojson_meaning.specs.Features.{feature_element}
+use Rattle.topojson_reader.specs.Kept.{kept_feature}
 use Rattle.topojson_reader.proofs.features.features_behind.Given as goal
 
 abbrev pub invariant-features : goal.invariant-features
 invariant-features l =
-    FoldedSoFar (with_read (one (feature_element (option_copied l.transform) l.arcs))) (value_at is_utf8 l.deep) (length l.inside) (front_elements l.deep (length l.inside) l.inside) [] l.fn.counts l.counter l.rest l.read.items l.counts
+    FoldedSoFar (with_read (one (kept_feature l.keeping (option_copied l.transform) l.arcs))) (value_at is_utf8 l.deep) (length l.inside) (front_elements l.deep (length l.inside) l.inside) [] l.fn.counts l.counter l.rest l.read.items l.counts

@@ -1,27 +1,11 @@
-use Rattle.std.proofs.Common.{inl, inr}
 use Rattle.json_cursor.specs.Arrays.{front_value}
 use Rattle.topojson_meaning.specs.Topologies.{value_contents}
-use Rattle.topojson_reader.specs.declared.topologies.Parts.{Parts}
-use Rattle.topojson_reader.proofs.LostParts.{no_stop}
-use Rattle.topojson_reader.proofs.TopologyParts as part
+use Rattle.topojson_reader.specs.Kept.{of_contents}
+use Rattle.topojson_reader.specs.Texts.{parts_contents}
+use Rattle.topojson_reader.specs.declared.keeping.Keeping.TheVariants.{Whole}
+use Rattle.topojson_reader.proofs.KeptParts.{answers_whole, whole_contents}
 use Rattle.topojson_reader.proofs.topologies.topology_at.Goals as goal
 
-pub returns-in_default : goal.returns-in_default
-returns-in_default c = part.not_an_object c.args.counts.now (front_value c.args.deep c.args.bytes.now) (rw c.in_default.is at c.in_ok-index.ensures)
-
-pub returns-in-Err : goal.returns-in-Err
-returns-in-Err c =
-    let found = rw c.in-Some.is at c.in_ok-index.ensures in
-    elim found.1 [
-      | inl object ↦ part.object_stops c.args.counts.now (front_value c.args.deep c.args.bytes.now) object.members _ object.front (λ (p : Parts). record { objects = p.objects; arcs = p.arcs; transform = p.transform }) c.parts_of.new.counts c.in-Err.stop
-          (c.in-Err.ensures.gives object.members object.index)
-      | inr lost ↦ no_stop value_contents (front_value c.args.deep c.args.bytes.now) c.args.counts.now c.in-Err.stop lost.0
-    ]
-
-pub returns-in-Ok : goal.returns-in-Ok
-returns-in-Ok c =
-    let found = rw c.in-Some.is at c.in_ok-index.ensures in
-    elim found.1 [
-      | inl object ↦ part.object_reads c.args.counts.now (front_value c.args.deep c.args.bytes.now) object.members _ object.front _ c.parts_of.new.counts (c.in-Ok.ensures.gives object.members object.index)
-      | inr lost ↦ absurd (c.in-Ok.ensures.there lost.1)
-    ]
+pub returns : goal.returns
+returns c =
+    answers_whole (of_contents Whole) whole_contents parts_contents value_contents (front_value c.args.deep c.args.bytes.now) c.args.counts.now c.kept_topology_at.new.counts c.kept_topology_at.result c.kept_topology_at.ensures

@@ -14,7 +14,7 @@ use std::marker::Model;
 use std::mem;
 use topojson_types::{ArcRef, Cell, TopoFeature, TopoObject, TopoShape};
 
-/// The arc indexes of lines and rings, in reading order, behind those that were taken.
+/// The arc indexes of lines and rings, in reading order, after those that were taken.
 #[derive(Drop)]
 struct Waiting {
     refs: Vec<Items<ArcRef>>,
@@ -30,7 +30,7 @@ impl Model for Waiting {
 }
 
 impl Waiting {
-    /// All of them.
+    /// The arc indexes of all lines and rings of a table.
     fn all(refs: Vec<Items<ArcRef>>) -> Waiting
         ensures { result ≡ refs.items }
     {

@@ -83,7 +83,7 @@ pub fn feature_at<'a>(
     kept_feature_at(alloc, deep, Keeping::Whole, transform, arcs, bytes, counts)
 }
 
-/// What is kept of the features behind the bracket of an array, one or more, and what follows it.
+/// What is kept of the features after the bracket of an array, one or more, and what follows it.
 fn features_behind<'a>(
     alloc: Global,
     deep: u32,

@@ -14,7 +14,6 @@ mod held;
 mod index;
 mod joins;
 mod keeping;
-mod lanes;
 mod leaping;
 mod named_objects;
 mod numbers;

@@ -7,7 +7,8 @@ ghost use Rattle.json_value.specs.Reading as reading;
 ghost use Rattle.json_reading.specs.Outcome.{SaysUtf8, SpellsNothing};
 ghost use Rattle.geojson_types.specs.declared.counts.Counts.{Counts as Counted};
 ghost use Rattle.topojson_meaning.specs.Topologies.{topology};
-ghost use Rattle.topojson_reader.specs.Texts.{PartsAnswer, TextAnswers, deepest};
+ghost use Rattle.json_value.specs.Limits.{topology_depth};
+ghost use Rattle.topojson_reader.specs.Texts.{PartsAnswer, TextAnswers};
 
 use crate::keeping::Keeping;
 use crate::topologies::{Parts, kept_topology_at};
@@ -75,7 +76,7 @@ pub fn topology_of(parts: Parts) -> Topology
 }
 
 /// What is kept of the parts of the topology that a whole text spells (TopoJSON 1.0, section 2.1), with what was counted in reading it. Of a
-/// text that spells no value is told why, whatever else is wrong.
+/// text that spells no value it is said why, whatever else is wrong.
 pub fn read_parts(alloc: Global, keeping: Keeping, bytes: &[u8]) -> Result<(Parts, Counts), Refusal>
     ensures { PartsAnswer keeping bytes.now result }
 {
@@ -107,7 +108,7 @@ pub fn read_parts(alloc: Global, keeping: Keeping, bytes: &[u8]) -> Result<(Part
 }
 
 /// The topology that a whole text spells (TopoJSON 1.0, section 2.1), with what was counted in reading it. Of a text that spells no value
-/// is told why, whatever else is wrong.
+/// it is said why, whatever else is wrong.
 pub fn read_text(alloc: Global, bytes: &[u8]) -> Result<(Topology, Counts), Refusal>
     ensures { TextAnswers bytes.now result }
 {

@@ -26,4 +26,4 @@ pub use names::{Name, name_at, named_at, string_at, word_at};
 pub use passing::after_elements;
 pub use room::{arrays_ahead, numbers_ahead};
 pub use stop::Stop;
-pub use texts::{Refusal, Whole, read_text};
+pub use texts::{Refusal, Whole, are_utf8, read_text, text_of};

@@ -49,7 +49,7 @@ pub enum Refusal<E> {
 }
 
 /// The bytes after a byte order mark, if there is one.
-fn text_of(bytes: &[u8]) -> &[u8]
+pub fn text_of(bytes: &[u8]) -> &[u8]
     ensures { result.now ≡ reading.without bytes.now (reading.after_word mark bytes.now) }
 {
     match after_word(&[0xef, 0xbb, 0xbf], bytes) {
@@ -59,7 +59,7 @@ fn text_of(bytes: &[u8]) -> &[u8]
 }
 
 /// Whether the bytes are UTF-8.
-fn are_utf8(bytes: &[u8]) -> bool
+pub fn are_utf8(bytes: &[u8]) -> bool
     ensures yes { IsTrue result → IsUtf8 bytes.now }
     ensures no { IsFalse result → ¬ (IsUtf8 bytes.now) }
 {

@@ -1,8 +1,7 @@
 // Whole texts of topologies.
-ghost use Rattle.std.specs.Prelude.{◌≡◌, None, Ok, Err, IsFalse, IsTrue, IsUtf8};
+ghost use Rattle.std.specs.Prelude.{◌≡◌, None, Ok, Err, IsUtf8};
 ghost use Rattle.std.specs.Str.{is_utf8};
 ghost use Rattle.json_value.specs.declared.json.Json.{Json as Value};
-ghost use Rattle.json_value.specs.Grammar.{mark};
 ghost use Rattle.json_value.specs.Reading as reading;
 ghost use Rattle.json_reading.specs.Outcome.{SaysUtf8, SpellsNothing};
 ghost use Rattle.geojson_types.specs.declared.counts.Counts.{Counts as Counted};
@@ -13,9 +12,8 @@ ghost use Rattle.topojson_reader.specs.Texts.{PartsAnswer, TextAnswers};
 use crate::keeping::Keeping;
 use crate::topologies::{Parts, kept_topology_at};
 use geojson_types::Counts;
-use json_cursor::Stop;
-use json_reading::{JsonFault, TOPOLOGY_DEPTH, after_word, skip};
-use simdutf8::compat;
+use json_cursor::{Stop, are_utf8, text_of};
+use json_reading::{JsonFault, TOPOLOGY_DEPTH, skip};
 use std::alloc::Global;
 use text_checking::check;
 use topojson_meaning::{TopoFault, topology_is_valid};
@@ -29,24 +27,6 @@ pub enum Refusal {
     /// The value that it spells has this first fault.
     Meaning(TopoFault),
     Memory,
-}
-
-/// The bytes after a byte order mark, if there is one.
-fn text_of(bytes: &[u8]) -> &[u8]
-    ensures { result.now ≡ reading.without bytes.now (reading.after_word mark bytes.now) }
-{
-    match after_word(&[0xef, 0xbb, 0xbf], bytes) {
-        Some(rest) => rest,
-        None => bytes,
-    }
-}
-
-/// Whether the bytes are UTF-8.
-fn are_utf8(bytes: &[u8]) -> bool
-    ensures yes { IsTrue result → IsUtf8 bytes.now }
-    ensures no { IsFalse result → ¬ (IsUtf8 bytes.now) }
-{
-    compat::from_utf8(bytes).is_ok()
 }
 
 /// The fault of a text that spells no value.

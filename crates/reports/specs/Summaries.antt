@@ -1,5 +1,5 @@
--- What is counted in a topology, what is said of one that is made, and the text of a summary: a line each, ended by a line feed.
-use Rattle.std.specs.Prelude.{ℕ, Bool, true, false, List, [], ◌∷◌, ◌++◌, Option, Some, None, length, map, sum, codes}
+-- What is counted in a topology, what is told of one that is made, and the text of a summary: a line each, ended by a line feed.
+use Rattle.std.specs.Prelude.{ℕ, Bool, true, false, List, [], ◌∷◌, ◌++◌, Option, is_some, length, map, sum, codes}
 use Rattle.byte_ends.specs.Ends.{saturated}
 use Rattle.geojson_types.specs.declared.counts.Counts.{Counts}
 use Rattle.geometry.specs.declared.address.Dropped.{Dropped}
@@ -17,28 +17,27 @@ use Rattle.reports.specs.Reports.{line_text}
 abbrev pub positions_in : List (List Point) → ℕ
 positions_in arcs = saturated (sum (map length arcs))
 
--- these counts, what is dropped, the arcs with their positions, how many were removed from them, and the threshold that was chosen, if
+-- these counts, what is dropped, the arcs with their positions, how many were taken out of them, and the threshold that was chosen, if
 -- one was
 abbrev pub report_with : Counts → List Dropped → List (List Point) → ℕ → Option ℕ → Report
 report_with counts dropped arcs removed chosen =
     record { counts = counts; dropped = dropped; arcs = length arcs; kept = positions_in arcs; removed = removed; chosen = chosen }
 
--- there is one
-abbrev pub is_there : {A : Type 0} → Option A → Bool
-is_there None = false
-is_there (Some x) = true
-
 -- the topology has a transform (TopoJSON 1.0, section 2.1.2)
 abbrev pub has_grid : Contents → Bool
-has_grid t = is_there t.transform
+has_grid t = is_some t.transform
 
 -- an object's name and the number of its features
 abbrev pub counted : List ℕ × TopoObject → List ℕ × ℕ
 counted o = (o.0, length (object_features o.1))
 
 -- the objects in order with their features, the arcs, the positions in them, and whether there is a grid
+abbrev pub summary_with : List (List ℕ × TopoObject) → List (List Point) → Bool → Summary
+summary_with objects arcs grid = record { objects = map counted objects; arcs = length arcs; positions = positions_in arcs; grid = grid }
+
+-- those of a topology
 abbrev pub summary_of : Contents → Summary
-summary_of t = record { objects = map counted t.objects; arcs = length t.arcs; positions = positions_in t.arcs; grid = has_grid t }
+summary_of t = summary_with t.objects t.arcs (has_grid t)
 
 -- ---- its text
 

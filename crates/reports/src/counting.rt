@@ -1,7 +1,7 @@
 // What is counted in a topology.
 ghost use Rattle.std.specs.Prelude.{◌≡◌, IfOk, length, map};
 ghost use Rattle.topojson_types.specs.Topologies.{object_features};
-ghost use Rattle.reports.specs.Summaries.{counted, has_grid};
+ghost use Rattle.reports.specs.Summaries.{counted};
 ghost use Rattle.reports.specs.Summaries as spec;
 
 use crate::report::Report;
@@ -10,7 +10,7 @@ use byte_ends::Memory;
 use geojson_types::{Counts, Dropped};
 use json_value::{Items, OwnText};
 use std::alloc::Global;
-use topojson_types::{Cell, TopoObject, Topology};
+use topojson_types::{Cell, TopoObject};
 
 /// The positions of all arcs: a count that stays at `u64::MAX` once it is there.
 fn positions_in(arcs: &[Items<Cell>]) -> u64
@@ -69,22 +69,20 @@ fn counted_objects(
     Ok(all)
 }
 
-/// Whether there is a transform (TopoJSON 1.0, section 2.1.2).
-fn has_transform(topology: &Topology) -> bool
-    ensures { result ≡ has_grid topology.now }
+/// The summary of a topology of these objects and arcs, with a transform or without one (TopoJSON 1.0, section 2.1).
+pub fn summary_with(
+    alloc: Global,
+    objects: &[(OwnText, TopoObject)],
+    arcs: &[Items<Cell>],
+    grid: bool,
+) -> Result<Summary, Memory>
+    ensures { IfOk result (λ summary. summary ≡ spec.summary_with objects.now arcs.now grid) }
 {
-    topology.transform().is_some()
-}
-
-/// The summary of a topology.
-pub fn summary_of(alloc: Global, topology: &Topology) -> Result<Summary, Memory>
-    ensures { IfOk result (λ summary. summary ≡ spec.summary_of topology.now) }
-{
-    let objects = counted_objects(alloc, topology.objects())?;
+    let objects = counted_objects(alloc, objects)?;
     Ok(Summary {
         objects: Items::of(objects),
-        arcs: topology.arcs().len() as u64,
-        positions: positions_in(topology.arcs()),
-        grid: has_transform(topology),
+        arcs: arcs.len() as u64,
+        positions: positions_in(arcs),
+        grid,
     })
 }

@@ -1,3 +1,5 @@
+pub mod Counted
+pub mod FilesRead
 pub mod DecodedTexts
 pub mod FilesDecided
 pub mod FilesReached

@@ -8,6 +8,10 @@ use Rattle.geojson_types.specs.declared.counts.Counts.{Counts}
 use Rattle.topojson_types.specs.Topologies.{Contents}
 use Rattle.topojson_meaning.specs.declared.fault.TopoFault.TheVariants as topo
 use Rattle.topojson_meaning.specs.Topologies.{topology}
+use Rattle.topojson_reader.specs.Kept.{of_contents}
+use Rattle.topojson_reader.specs.Texts.{parts_contents}
+use Rattle.topojson_reader.specs.declared.keeping.Keeping.TheVariants.{Blank}
+use Rattle.topojson_reader.specs.declared.topologies.Parts.{Parts}
 use Rattle.inputs.specs.declared.file_fault.FileFault.{FileFault}
 use Rattle.inputs.specs.declared.file_fault.FileFault.TheVariants.{Read, Json, Topo, NoObject, Write, Memory}
 use Rattle.inputs.specs.Texts.{IsNoText, IsRead, IsUntroubled, FailsToEnd}
@@ -52,6 +56,24 @@ FailsToGive old new e = (bytes : List ℕ) × IsRead old new bytes × IsNoTopolo
 abbrev pub ReadsTopology : Fed → Fed → Result (Contents × Counts) FileFault → Type 0
 ReadsTopology old new (Ok r) = IsTopologyRead old new r.0 r.1
 ReadsTopology old new (Err e) = FailsToGive old new e
+
+-- ---- what is kept of it, where of each feature nothing is kept but that it is there
+
+-- the answer for the bytes
+abbrev pub IsBlankOf : List ℕ → Result Parts FileFault → Type 0
+IsBlankOf bytes (Ok parts) = (t : Contents) × (counts : Counts) × SpellsTopology bytes t counts × (parts_contents parts ≡ of_contents Blank t)
+IsBlankOf bytes (Err e) = IsNoTopology bytes e
+
+-- and for the source
+pub record IsBlankRead (old new : Fed) (parts : Parts) : Type 0 where
+  pub contents : Contents
+  pub counts : Counts
+  pub read : IsTopologyRead old new contents counts
+  pub kept : parts_contents parts ≡ of_contents Blank contents
+
+abbrev pub ReadsBlank : Fed → Fed → Result Parts FileFault → Type 0
+ReadsBlank old new (Ok parts) = IsBlankRead old new parts
+ReadsBlank old new (Err e) = FailsToGive old new e
 
 -- the source was read to its end, and this is the summary of the topology that its bytes spell
 pub record IsSummarised (old new : Fed) (summary : Summary) : Type 0 where

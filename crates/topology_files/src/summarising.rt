@@ -5,10 +5,10 @@ ghost use Rattle.reports.specs.declared.summary.Summary.{Summary as Counted};
 ghost use Rattle.topology_files.specs.FileOutcomes.{FileComesTo, FollowsSummary, summarised};
 ghost use Rattle.topology_files.specs.Files.{FailsToGive, IsSummarised};
 
-use crate::file_reading::read_file;
+use crate::file_reading::read_blank;
 use byte_ends::{Feed, Source};
 use inputs::FileFault;
-use reports::{Summary, summary_of};
+use reports::{Summary, summary_with};
 use std::alloc::Global;
 
 /// Counts what is in a topology (TopoJSON 1.0) that is read from its source to the end.
@@ -25,7 +25,12 @@ pub fn stat<R: Feed>(alloc: Global, source: &mut Source<R>) -> Result<Summary, F
     ensures decided { (bytes : List ℕ) (outcome : Result Counted Fault) → source.old.left ≡ Some bytes → FileComesTo summarised bytes outcome
         → FollowsSummary outcome result }
 {
-    let (topology, _counts) = read_file(alloc, source)?;
-    let summary = summary_of(alloc, &topology)?;
+    let parts = read_blank(alloc, source)?;
+    let summary = summary_with(
+        alloc,
+        parts.objects.as_slice(),
+        parts.arcs.as_slice(),
+        parts.transform.is_some(),
+    )?;
     Ok(summary)
 }

@@ -1,12 +1,7 @@
-use Rattle.std.proofs.Common.{◌≢◌, rules}
-use Rattle.topojson_meaning.specs.declared.fault.TopoFault.TheVariants.{Memory}
 use Rattle.topology_files.proofs.file_reading.topology_of.Goals as goal
 
 pub returns-in-Ok : goal.returns-in-Ok
 returns-in-Ok c = record { utf8 = c.in-Ok.ensures.0; value = c.in-Ok.ensures.1; spelled = c.in-Ok.ensures.2; stands = c.in-Ok.ensures.3 }
 
-pub returns-else-eq-2 : goal.returns-else-eq-2
-returns-else-eq-2 c =
-    let refused = rw c.in-Err-Meaning.field-0-is at c.in-Err-Meaning.ensures in
-    let kept : c.in-Err-Meaning.fault ≢ Memory = search rules in
-    (kept, refused.0, refused.1, refused.2, refused.3)
+pub returns-in-Err : goal.returns-in-Err
+returns-in-Err c = c.fault_of.ensures c.args.bytes.now c.in-Err.ensures

@@ -1,4 +1,4 @@
--- What is counted in a topology, what is told of one that is made, and the text of a summary: a line each, ended by a line feed.
+-- What is counted in a topology, what is said of one that is made, and the text of a summary: a line each, ended by a line feed.
 use Rattle.std.specs.Prelude.{ℕ, Bool, true, false, List, [], ◌∷◌, ◌++◌, Option, is_some, length, map, sum, codes}
 use Rattle.byte_ends.specs.Ends.{saturated}
 use Rattle.geojson_types.specs.declared.counts.Counts.{Counts}
@@ -17,7 +17,7 @@ use Rattle.reports.specs.Reports.{line_text}
 abbrev pub positions_in : List (List Point) → ℕ
 positions_in arcs = saturated (sum (map length arcs))
 
--- these counts, what is dropped, the arcs with their positions, how many were taken out of them, and the threshold that was chosen, if
+-- these counts, what is dropped, the arcs with their positions, how many were removed from them, and the threshold that was chosen, if
 -- one was
 abbrev pub report_with : Counts → List Dropped → List (List Point) → ℕ → Option ℕ → Report
 report_with counts dropped arcs removed chosen =

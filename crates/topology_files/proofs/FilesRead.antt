@@ -10,7 +10,8 @@ use Rattle.inputs.specs.declared.file_fault.FileFault.TheVariants.{Read, Json, T
 use Rattle.inputs.specs.Texts.{IsNoText, IsRead}
 use Rattle.topojson_reader.specs.declared.topologies.Parts.{Parts}
 use Rattle.topojson_types.specs.Topologies.{Contents}
-use Rattle.topology_files.specs.Files.{FailsToGive, IsBlankOf, IsNoTopology, IsTopologyOf, ReadsBlank, ReadsTopology, topology_depth}
+use Rattle.json_value.specs.Limits.{topology_depth}
+use Rattle.topology_files.specs.Files.{FailsToGive, IsBlankOf, IsNoTopology, IsTopologyOf, ReadsBlank, ReadsTopology}
 
 -- why bytes are no text
 pub no_text : (bytes : List ℕ) (fault : JsonFault) → fault ≢ text.Memory → SaysUtf8 bytes (Err fault) → SpellsNothing topology_depth bytes (Err fault) → IsNoText topology_depth bytes fault

@@ -258,7 +258,7 @@ def lines_of(coordinates):
     return features(line(it) for it in coordinates)
 
 
-# The hash of a position, as crates/numbering/src/hashing.rt has it: the two halves of the product of its coordinates and these, joined.
+# The hash of a position, as crates/junctions/src/hashing.rt has it: the two halves of the product of its coordinates and these, joined.
 FIRST, SECOND, WORD = 0x9E3779B97F4A7C15, 0xD6E8FEB86659FD93, 1 << 64
 
 

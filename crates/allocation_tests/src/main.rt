@@ -41,7 +41,7 @@ fn reduced(alloc: Global, heap: &mut HeapLinks) -> Outcome {
 }
 
 /// What is said of two outcomes of the same reducer.
-fn told(first: Outcome, second: Outcome) -> &'static str {
+fn reported(first: Outcome, second: Outcome) -> &'static str {
     match (first, second) {
         (Outcome::Answered, Outcome::Answered) => "answered twice",
         (Outcome::Refused, Outcome::Answered) => "refused, and then answered",
@@ -54,5 +54,5 @@ fn main(rt: HostRuntime) -> io::Result<()> {
     let mut heap = HeapLinks::new();
     let first = reduced(rt.alloc(), &mut heap);
     let second = reduced(rt.alloc(), &mut heap);
-    println!(rt; "{}", told(first, second))
+    println!(rt; "{}", reported(first, second))
 }

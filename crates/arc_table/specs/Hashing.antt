@@ -9,7 +9,7 @@ use Rattle.cutter.specs.Segments.{Segment}
 use Rattle.geometry.specs.Order.{point_cmp}
 use Rattle.geometry.specs.Rings.{same}
 use Rattle.geometry.proofs.Points.{same_is, same_self}
-use Rattle.numbering.specs.Hashing.{hash_of_two, position_hash, tied_positions}
+use Rattle.junctions.specs.Hashing.{hash_of_two, position_hash, tied_positions}
 use Rattle.arc_table.specs.Starts.{equal}
 
 unfoldable pub segment_hash : Segment → ℕ

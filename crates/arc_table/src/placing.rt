@@ -3,7 +3,7 @@ ghost use Rattle.std.specs.Prelude.{◌≡◌, ◌<◌, ◌≤◌, ◌+◌, ◌^
 ghost use Rattle.cutter.specs.Structure.{PiecesAreLong};
 ghost use Rattle.arc_table.specs.Growth.{first_alike, found, grow_all, grown};
 ghost use Rattle.arc_table.specs.Laws.{AreUnlike};
-ghost use Rattle.arc_table.specs.Starts.{IsStarts, StartTells, StartsTell};
+ghost use Rattle.arc_table.specs.Starts.{IsStarts, StartIdentifies, StartsIdentify};
 
 use crate::starts::{Starts, equal_arc, first_segment, reversed_arc};
 use cutter::PieceIter;
@@ -21,7 +21,7 @@ pub fn add_line(
 ) -> Result<Items<ArcRef>, Memory>
     requires unlike { AreUnlike arcs.old.items }
     requires known { IsStarts arcs.old.items starts.old }
-    requires tell { StartsTell (arcs.old.items ++ pieces) }
+    requires identify { StartsIdentify (arcs.old.items ++ pieces) }
     requires long { PiecesAreLong pieces }
     ensures arcs { OnOk result (arcs.new.items ≡ grow_all arcs.old.items pieces.entry) }
     ensures named { IfOk result (λ refs. refs ≡ map (first_alike arcs.new.items) pieces.entry) }
@@ -49,8 +49,8 @@ fn find_or_add(
     requires long { 2 ≤ length piece.now }
     requires unlike { AreUnlike arcs.old.items }
     requires known { IsStarts arcs.old.items starts.old }
-    requires tells { StartTells arcs.old.items piece.now }
-    requires tells_back { StartTells arcs.old.items (reverse piece.now) }
+    requires identifies { StartIdentifies arcs.old.items piece.now }
+    requires identifies_reversed { StartIdentifies arcs.old.items (reverse piece.now) }
     ensures arcs { OnOk result (arcs.new.items ≡ grown arcs.old.items piece.now) }
     ensures named { IfOk result (λ r. r ≡ first_alike arcs.new.items piece.now) }
     ensures known { OnOk result (IsStarts arcs.new.items starts.new) }
@@ -80,8 +80,8 @@ fn find(
     requires long { 2 ≤ length piece.now }
     requires unlike { AreUnlike arcs.now }
     requires known { IsStarts arcs.now starts.now }
-    requires tells { StartTells arcs.now piece.now }
-    requires tells_back { StartTells arcs.now (reverse piece.now) }
+    requires identifies { StartIdentifies arcs.now piece.now }
+    requires identifies_reversed { StartIdentifies arcs.now (reverse piece.now) }
     ensures found { result ≡ found 0 arcs.now piece.now }
     ensures compared { compared.new ≤ compared.old + 1 }
     ensures once { IfSome result (λ r. compared.old + 1 < 2 ^ 64 → compared.new ≡ compared.old + 1) }

@@ -1,11 +1,11 @@
 // Arcs, found by their first segments.
 ghost use Rattle.std.specs.Prelude.{◌≡◌, ◌<◌, ◌≤◌, ◌+◌, ◌^◌, IfNone, IfSome, Some, length, position, reverse};
 ghost use Rattle.arc_table.specs.Arcs.{number_in};
-ghost use Rattle.arc_table.specs.Starts.{equal, start_of, IsStarts, StartTells};
+ghost use Rattle.arc_table.specs.Starts.{equal, start_of, IsStarts, StartIdentifies};
 
 use crate::comparing::{is_reverse, is_same_line};
 use geometry::{Position, is_same};
-use numbering::{Key, Numbering, hash_of_two};
+use junctions::{Key, Numbering, hash_of_two};
 use owned_values::Items;
 use std::marker::Model;
 
@@ -85,7 +85,7 @@ pub fn equal_arc(
 ) -> Option<usize>
     requires long { 2 ≤ length piece.now }
     requires known { IsStarts arcs.now starts.now }
-    requires tells { StartTells arcs.now piece.now }
+    requires identifies { StartIdentifies arcs.now piece.now }
     ensures number { result ≡ number_in arcs.now piece.now }
     ensures compared { compared.new ≤ compared.old + 1 }
     ensures once { IfSome result (λ i. compared.old + 1 < 2 ^ 64 → compared.new ≡ compared.old + 1) }
@@ -111,7 +111,7 @@ pub fn reversed_arc(
 ) -> Option<usize>
     requires long { 2 ≤ length piece.now }
     requires known { IsStarts arcs.now starts.now }
-    requires tells { StartTells arcs.now (reverse piece.now) }
+    requires identifies { StartIdentifies arcs.now (reverse piece.now) }
     ensures number { result ≡ number_in arcs.now (reverse piece.now) }
     ensures compared { compared.new ≤ compared.old + 1 }
     ensures once { IfSome result (λ i. compared.old + 1 < 2 ^ 64 → compared.new ≡ compared.old + 1) }

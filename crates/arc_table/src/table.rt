@@ -2,8 +2,8 @@
 ghost use Rattle.std.specs.Prelude.{◌≡◌, ◌<◌, ◌≤◌, ◌+◌, ◌^◌, IfOk, Some, length, map, slice_get, sum_by};
 ghost use Rattle.std.specs.List.{AllByRecursion};
 ghost use Rattle.cutter.specs.Segments.{line_segments, piece_segments};
-ghost use Rattle.cutter.specs.Slices.{all_pieces, piece_lists, strokes};
-ghost use Rattle.geometry.specs.Joins.{arc_at, rejoined, Meet};
+ghost use Rattle.cutter.specs.Slices.{all_pieces, piece_lists, lines_and_rings};
+ghost use Rattle.geometry.specs.Joins.{arc_at, stitched, Meet};
 ghost use Rattle.geometry.specs.Joins.{AreInRange};
 ghost use Rattle.arc_table.specs.Arcs.{table_of};
 ghost use Rattle.arc_table.specs.Laws.{AreAllIn, AreOnceIn, AreUnlike, IsTable, RingsClose};
@@ -11,7 +11,7 @@ ghost use Rattle.arc_table.specs.Laws.{AreAllIn, AreOnceIn, AreUnlike, IsTable, 
 use crate::placing::add_line;
 use cutter::Pieces;
 use geometry::{ArcRef, Position};
-use numbering::Numbering;
+use junctions::Numbering;
 use owned_values::{Items, Memory};
 use std::alloc::Global;
 use std::marker::Model;
@@ -45,13 +45,13 @@ impl Table {
     /// again they are the line, a ring turned to its start.
     pub fn build(alloc: Global, pieces: &Pieces) -> Result<Table, Memory>
         ensures table { IfOk result (λ t. t ≡ table_of pieces.now) }
-        ensures once { IfOk result (λ t. AreOnceIn t.arcs (line_segments (strokes pieces.now))) }
+        ensures once { IfOk result (λ t. AreOnceIn t.arcs (line_segments (lines_and_rings pieces.now))) }
         ensures pieces_once { IfOk result (λ t. AreOnceIn t.arcs (piece_segments (all_pieces pieces.now))) }
-        ensures all { IfOk result (λ t. AreAllIn t.arcs (line_segments (strokes pieces.now))) }
+        ensures all { IfOk result (λ t. AreAllIn t.arcs (line_segments (lines_and_rings pieces.now))) }
         ensures named { IfOk result (λ t. map (map (arc_at t.arcs)) t.refs ≡ piece_lists pieces.now) }
         ensures joined { IfOk result
-            (λ t. map (λ refs. rejoined (map (arc_at t.arcs) refs)) t.refs ≡ map (λ s. s.positions) (strokes pieces.now)) }
-        ensures closed { IfOk result (λ t. RingsClose t.arcs (strokes pieces.now) t.refs) }
+            (λ t. map (λ refs. stitched (map (arc_at t.arcs) refs)) t.refs ≡ map (λ s. s.positions) (lines_and_rings pieces.now)) }
+        ensures closed { IfOk result (λ t. RingsClose t.arcs (lines_and_rings pieces.now) t.refs) }
     {
         pieces.law();
         let room = pieces.room();

@@ -9,7 +9,7 @@ use Rattle.geojson_types.specs.declared.layer.Layer.{Layer}
 use Rattle.geojson_types.specs.Features.{Shape, Featured}
 use Rattle.geometry.specs.Lists.{map_some, then_some}
 use Rattle.geometry.specs.Points.{Point}
-use Rattle.geometry.specs.Pruning.{prune, option_strokes}
+use Rattle.geometry.specs.Pruning.{prune, option_lines_and_rings}
 use Rattle.geometry.proofs.Agreement.{all_left, all_right, all_of_map, agreed}
 use Rattle.geometry.proofs.Composition.{composed}
 use Rattle.linework.specs.Linework.{linework}
@@ -20,12 +20,12 @@ use Rattle.topojson_types.specs.Validity.{AreDistinct}
 use Rattle.build_meaning.specs.Built.{all_arcs, kept_refs, untrimmed, built}
 use Rattle.build_meaning.specs.Expected.{kept_line, expected_feature, expected}
 use Rattle.build_meaning.specs.Laws.{AreSound, DecodesBack}
-use Rattle.build_meaning.specs.Layers.{Named, names_of, layers_of, features_strokes, named_strokes}
+use Rattle.build_meaning.specs.Layers.{Named, names_of, layers_of, features_lines_and_rings, named_lines_and_rings}
 use Rattle.build_meaning.specs.Objects.{features_by, objects_by}
 use Rattle.build_meaning.proofs.DecodingLines.{back, line_back}
 use Rattle.build_meaning.proofs.Linework.{Line, StandsIn, each_stands, own_apart}
 use Rattle.build_meaning.proofs.Trimmed.{trimmed_decodes}
-use Rattle.list_laws.proofs.Elements.{all_weaker, all_two, all_map}
+use Rattle.owned_values.proofs.Elements.{all_weaker, all_two, all_map}
 
 -- ---- names
 
@@ -60,7 +60,7 @@ module _ (lines : List Stroke) (t limit : ℕ) where
   abbrev Returns : Line → Type 0
   Returns b = then_some (back lines t b.0) (kept_refs lines t limit b.0 b.1) ≡ kept_line lines t limit b.0 b.1
 
-  shape_back : (s : Option Shape) → AllByRecursion Returns (option_strokes s) →
+  shape_back : (s : Option Shape) → AllByRecursion Returns (option_lines_and_rings s) →
       then_some (decoded_shape (λ p. p) arcs) (then_some (prune (λ p. p) (kept_refs lines t limit)) s) ≡ then_some (prune (λ p. p) (kept_line lines t limit)) s
   shape_back None h = refl
   shape_back (Some s) h = search (rules, composed, agreed)
@@ -68,16 +68,16 @@ module _ (lines : List Stroke) (t limit : ℕ) where
   abbrev with_shape : Featured → Option Shape → Featured
   with_shape f s = record { id = f.id; properties = f.properties; shape = s }
 
-  features_back : (fs : List Featured) → AllByRecursion Returns (features_strokes fs) → map (decoded_feature (λ p. p) arcs) (features_by (kept_refs lines t limit) fs) ≡ map (expected_feature lines t limit) fs
+  features_back : (fs : List Featured) → AllByRecursion Returns (features_lines_and_rings fs) → map (decoded_feature (λ p. p) arcs) (features_by (kept_refs lines t limit) fs) ≡ map (expected_feature lines t limit) fs
   features_back [] h = refl
-  features_back (f ∷ fs) h = search (shape_back, all_left, all_right, features_back fs (all_right Returns (option_strokes f.shape) (features_strokes fs) h))
+  features_back (f ∷ fs) h = search (shape_back, all_left, all_right, features_back fs (all_right Returns (option_lines_and_rings f.shape) (features_lines_and_rings fs) h))
 
   abbrev LayerReturns : List ℕ × Layer → Type 0
   LayerReturns l = map (decoded_feature (λ p. p) arcs) (features_by (kept_refs lines t limit) l.1.features) ≡ map (expected_feature lines t limit) l.1.features
 
-  layers_back : (ls : Named) → AllByRecursion Returns (named_strokes ls) → AllByRecursion LayerReturns ls
+  layers_back : (ls : Named) → AllByRecursion Returns (named_lines_and_rings ls) → AllByRecursion LayerReturns ls
   layers_back [] h = tt
-  layers_back (l ∷ ls) h = search (features_back, all_left, all_right, layers_back ls (all_right Returns (features_strokes l.1.features) (named_strokes ls) h))
+  layers_back (l ∷ ls) h = search (features_back, all_left, all_right, layers_back ls (all_right Returns (features_lines_and_rings l.1.features) (named_lines_and_rings ls) h))
 
 -- ---- layers
 
@@ -93,7 +93,7 @@ untrimmed_decodes : DirectionLaw → (t limit : ℕ) (ls : Named) → AreSound l
 unfolding decoded
 untrimmed_decodes law t limit ls sound distinct =
     let lines = lines_of ls in
-    let returns = all_weaker (StandsIn lines) (Returns lines t limit) (line_back law lines t limit (own_apart ls sound)) (named_strokes ls) (each_stands ls) in
+    let returns = all_weaker (StandsIn lines) (Returns lines t limit) (line_back law lines t limit (own_apart ls sound)) (named_lines_and_rings ls) (each_stands ls) in
     all_two (LayerReturns lines t limit) (λ l. of_name l.0 (objects_by (kept_refs lines t limit) ls) ≡ Some (Many (features_by (kept_refs lines t limit) l.1.features)))
     (λ l. decoded (untrimmed t limit ls) l.0 ≡ Some (set.Many (expected_of ls t limit l.1)))
     (λ l e n. ap (map_some (decoded_object (λ p. p) (arcs lines t limit))) n ∙ ap (λ fs. Some (set.Many fs)) e)

@@ -4,7 +4,7 @@ use Rattle.std.proofs.lemmas.Bool.Decides.{nat_tests}
 use Rattle.arc_table.specs.Arcs.{arcs_of, index_in}
 use Rattle.arc_table.proofs.Alike.{arcs_unlike, arc_is_piece, piece_has_alike}
 use Rattle.arc_table.proofs.Indexes.{named_is, index_is}
-use Rattle.arc_table.proofs.Rejoining.{same_rejoined}
+use Rattle.arc_table.proofs.Stitching.{same_stitched}
 use Rattle.cutter.specs.Pieces.{pieces}
 use Rattle.cutter.specs.Places.{In, Apart, interior}
 use Rattle.elimination_meaning.specs.Elimination.{reduced}
@@ -15,7 +15,7 @@ use Rattle.junctions.specs.Cleaning.{clean_from, clean, is_short}
 use Rattle.junctions.specs.declared.stroke.Stroke.{Stroke}
 use Rattle.topojson_types.specs.Decoding.{filled, completed, decoded_line}
 use Rattle.geometry.specs.declared.address.Cause.{Cause}
-use Rattle.geometry.specs.Joins.{number_of, at, or_empty, arc_at, rejoined}
+use Rattle.geometry.specs.Joins.{number_of, at, or_empty, arc_at, stitched}
 use Rattle.build_meaning.specs.Built.{all_arcs, kept_refs}
 use Rattle.build_meaning.specs.Expected.{own_pieces, own_cause, rebuilt, unless, kept_line}
 use Rattle.build_meaning.proofs.Linework.{Line, StandsIn, own_in}
@@ -83,8 +83,8 @@ module _ (law : DirectionLaw) (lines : List Stroke) (t limit : ℕ) (apart : (p 
       → decoded_line (map (reduced t) (all_arcs lines)) b.0 (map (index_in (all_arcs lines)) (own_pieces lines b.0 b.1)) ≡ rebuilt lines t b.0 b.1
   refs_back b stands e =
       let cause = no_cause lines t limit b e in
-      ap (λ ps. completed b.0 (rejoined ps)) (pieces_back law t (pieces lines) apart (own_pieces lines b.0 b.1) (own_in lines b stands cause.0))
-      ∙ ap (completed b.0) (same_rejoined (map (reduced t) (own_pieces lines b.0 b.1))) ∙ complete b.0 (rebuilt lines t b.0 b.1) cause.1
+      ap (λ ps. completed b.0 (stitched ps)) (pieces_back law t (pieces lines) apart (own_pieces lines b.0 b.1) (own_in lines b stands cause.0))
+      ∙ ap (completed b.0) (same_stitched (map (reduced t) (own_pieces lines b.0 b.1))) ∙ complete b.0 (rebuilt lines t b.0 b.1) cause.1
 
   pub line_back : (b : Line) → StandsIn lines b → then_some (back lines t b.0) (kept_refs lines t limit b.0 b.1) ≡ kept_line lines t limit b.0 b.1
   line_back b stands =

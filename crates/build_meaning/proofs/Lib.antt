@@ -1,11 +1,11 @@
-pub mod Candidates
+pub mod DroppableLines
 pub mod Decoding
 pub mod DecodingLines
 pub mod Linework
 pub mod Once
 pub mod Renumbered
 mod Rows
-pub mod Strokes
+pub mod LinesAndRings
 pub mod Trimmed
 pub mod Valid
 pub mod ValidEnds

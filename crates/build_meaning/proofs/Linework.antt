@@ -11,17 +11,17 @@ use Rattle.geometry.specs.declared.address.Address.{Address}
 use Rattle.geojson_types.specs.Features.{Featured}
 use Rattle.geometry.specs.Paths.{Placed}
 use Rattle.geometry.specs.Points.{Point}
-use Rattle.geometry.specs.Pruning.{option_strokes}
+use Rattle.geometry.specs.Pruning.{option_lines_and_rings}
 use Rattle.junctions.specs.Cleaning.{clean, is_short, IsCleanList, AllClean}
 use Rattle.junctions.specs.Cuts.{is_cut}
-use Rattle.linework.specs.Linework.{stroke_at, strokes_of_layer, strokes_of_layers, linework}
+use Rattle.linework.specs.Linework.{line_or_ring_at, lines_and_rings_of_layer, lines_and_rings_of_layers, linework}
 use Rattle.junctions.specs.declared.stroke.Stroke.{Stroke}
 use Rattle.junctions.proofs.Cleaned.{clean_is_clean}
-use Rattle.linework.proofs.Placing.{told}
+use Rattle.linework.proofs.Placing.{reported}
 use Rattle.build_meaning.specs.Expected.{own_pieces}
 use Rattle.build_meaning.specs.Laws.{IsRingIfClosed, IsSound, AreSound}
-use Rattle.build_meaning.specs.Layers.{Named, layers_of, features_strokes, named_strokes}
-use Rattle.list_laws.proofs.Elements.{all_weaker, all_append}
+use Rattle.build_meaning.specs.Layers.{Named, layers_of, features_lines_and_rings, named_lines_and_rings}
+use Rattle.owned_values.proofs.Elements.{all_weaker, all_append}
 
 -- an open line (false) or a ring (true)
 abbrev pub Line : Type 0
@@ -43,20 +43,20 @@ abbrev pub long_of : List Line → List Line
 long_of bs = filter (λ b. not (is_short b.0 (clean b.1))) bs
 
 -- those of layers
-abbrev pub long_strokes : Named → List Line
-long_strokes ls = long_of (named_strokes ls)
+abbrev pub long_lines_and_rings : Named → List Line
+long_lines_and_rings ls = long_of (named_lines_and_rings ls)
 
 -- ---- which lines they are
 
-placed_lines : (a : Address) (xs : List (Placed Line)) → map plain (map (stroke_at a) xs) ≡ map clean_line (map (λ x. x.part) xs)
+placed_lines : (a : Address) (xs : List (Placed Line)) → map plain (map (line_or_ring_at a) xs) ≡ map clean_line (map (λ x. x.part) xs)
 placed_lines a [] = refl
 placed_lines a (x ∷ xs) = ap (λ l. clean_line x.part ∷ l) (placed_lines a xs)
 
-features_lines : (layer feature : ℕ) (fs : List Featured) → map plain (strokes_of_layer layer feature fs) ≡ map clean_line (features_strokes fs)
+features_lines : (layer feature : ℕ) (fs : List Featured) → map plain (lines_and_rings_of_layer layer feature fs) ≡ map clean_line (features_lines_and_rings fs)
 features_lines layer feature [] = refl
-features_lines layer feature (f ∷ fs) = grind (arith, map-append, placed_lines, told, features_lines layer (suc feature) fs)
+features_lines layer feature (f ∷ fs) = grind (arith, map-append, placed_lines, reported, features_lines layer (suc feature) fs)
 
-layers_lines : (layer : ℕ) (ls : Named) → map plain (strokes_of_layers layer (layers_of ls)) ≡ map clean_line (named_strokes ls)
+layers_lines : (layer : ℕ) (ls : Named) → map plain (lines_and_rings_of_layers layer (layers_of ls)) ≡ map clean_line (named_lines_and_rings ls)
 layers_lines layer [] = refl
 layers_lines layer (l ∷ ls) = grind (arith, map-append, features_lines, layers_lines (suc layer) ls)
 
@@ -66,20 +66,20 @@ filter_map f t [] = refl
 filter_map {A = A} f t (x ∷ xs) = grind (arith, filter_map f t xs)
 
 -- the linework is the lines that aren't short, cleaned
-pub linework_lines : (ls : Named) → map plain (linework (layers_of ls)) ≡ map clean_line (long_strokes ls)
+pub linework_lines : (ls : Named) → map plain (linework (layers_of ls)) ≡ map clean_line (long_lines_and_rings ls)
 unfolding linework
-linework_lines ls = grind (arith, filter_map plain is_long (strokes_of_layers 0 (layers_of ls)), filter_map clean_line is_long (named_strokes ls), layers_lines 0 ls)
+linework_lines ls = grind (arith, filter_map plain is_long (lines_and_rings_of_layers 0 (layers_of ls)), filter_map clean_line is_long (named_lines_and_rings ls), layers_lines 0 ls)
 
 -- ---- clean lines
 
 -- the rings of layers are rings
-features_rings : (fs : List Featured) → AllByRecursion IsSound fs → AllByRecursion IsRingIfClosed (features_strokes fs)
+features_rings : (fs : List Featured) → AllByRecursion IsSound fs → AllByRecursion IsRingIfClosed (features_lines_and_rings fs)
 features_rings [] h = tt
-features_rings (f ∷ fs) h = all_append IsRingIfClosed (option_strokes f.shape) (features_strokes fs) h.0.rings (features_rings fs h.1)
+features_rings (f ∷ fs) h = all_append IsRingIfClosed (option_lines_and_rings f.shape) (features_lines_and_rings fs) h.0.rings (features_rings fs h.1)
 
-pub named_rings : (ls : Named) → AreSound ls → AllByRecursion IsRingIfClosed (named_strokes ls)
+pub named_rings : (ls : Named) → AreSound ls → AllByRecursion IsRingIfClosed (named_lines_and_rings ls)
 named_rings [] h = tt
-named_rings (l ∷ ls) h = all_append IsRingIfClosed (features_strokes l.1.features) (named_strokes ls) (features_rings l.1.features h.0) (named_rings ls h.1)
+named_rings (l ∷ ls) h = all_append IsRingIfClosed (features_lines_and_rings l.1.features) (named_lines_and_rings ls) (features_rings l.1.features h.0) (named_rings ls h.1)
 
 abbrev IsCleanLine : Line → Type 0
 IsCleanLine b = IsCleanList b.0 b.1
@@ -116,7 +116,7 @@ each_split lines (s ∷ ms) = ap (λ l. pieces_of lines s ∷ l) (each_split lin
 
 -- the pieces of the linework, line by line, are those of the layers' lines that aren't short
 pub split_lists : (ls : Named) → piece_lists (map (split_of (linework (layers_of ls))) (linework (layers_of ls)))
-    ≡ map (λ b. own_pieces (linework (layers_of ls)) b.0 b.1) (long_strokes ls)
+    ≡ map (λ b. own_pieces (linework (layers_of ls)) b.0 b.1) (long_lines_and_rings ls)
 split_lists ls = grind (arith, each_split, each_plain, linework_lines, each_own)
 
 -- ---- each line that isn't short stands in the linework
@@ -141,11 +141,11 @@ each_long : (bs : List Line) → AllByRecursion (IsLongIn (kept bs)) bs
 each_long [] = tt
 each_long (b ∷ bs) = grind (arith, all_weaker, each_long bs)
 
-pub each_stands : (ls : Named) → AllByRecursion (StandsIn (linework (layers_of ls))) (named_strokes ls)
+pub each_stands : (ls : Named) → AllByRecursion (StandsIn (linework (layers_of ls))) (named_lines_and_rings ls)
 each_stands ls =
-    all_weaker (IsLongIn (kept (named_strokes ls))) (StandsIn (linework (layers_of ls)))
+    all_weaker (IsLongIn (kept (named_lines_and_rings ls))) (StandsIn (linework (layers_of ls)))
     (λ b k l. in_plain (linework (layers_of ls)) (clean_line b) (subst (In (clean_line b)) (sym (linework_lines ls)) (k l)))
-    (named_strokes ls) (each_long (named_strokes ls))
+    (named_lines_and_rings ls) (each_long (named_lines_and_rings ls))
 
 -- its pieces are pieces of the linework
 pub own_in : (lines : List Stroke) (b : Line) → StandsIn lines b → is_short b.0 (clean b.1) ≡ false → (p : List Point) → In p (own_pieces lines b.0 b.1) → In p (pieces lines)

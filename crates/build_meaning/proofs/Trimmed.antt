@@ -2,25 +2,25 @@
 use Rattle.std.proofs.Common.{rules, ◌≡◌, ℕ, zero, suc, ◌+◌, ℤ, Bool, true, List, [], ◌∷◌, map, Option, None, Some, refl, ap, arith}
 use Rattle.std.specs.List.{AllByRecursion}
 use Rattle.std.proofs.lemmas.Bool.Decides.{nat_tests}
-use Rattle.list_laws.proofs.Members.{any_from_in}
+use Rattle.owned_values.proofs.Members.{any_from_in}
 use Rattle.geometry.specs.Lists.{map_some, then_some}
 use Rattle.geometry.specs.Points.{Point}
-use Rattle.geometry.specs.Pruning.{prune, option_strokes}
+use Rattle.geometry.specs.Pruning.{prune, option_lines_and_rings}
 use Rattle.geometry.proofs.Agreement.{all_left, all_right, agreed}
 use Rattle.geometry.proofs.Composition.{composed}
 use Rattle.topojson_types.specs.declared.feature.TopoFeature.{TopoFeature}
 use Rattle.topojson_types.specs.declared.object.TopoObject.{TopoObject}
 use Rattle.topojson_types.specs.declared.transform.Transform.{Transform}
 use Rattle.topojson_types.specs.Decoding.{completed, decoded_line, decoded_shape, decoded_feature, decoded_object, of_name, placed_arcs, decoded}
-use Rattle.geometry.specs.Joins.{number_of, at, arc_at, rejoined}
-use Rattle.topojson_types.specs.Topologies.{TopoShape, Contents, object_features, features_strokes, objects_strokes}
+use Rattle.geometry.specs.Joins.{number_of, at, arc_at, stitched}
+use Rattle.topojson_types.specs.Topologies.{TopoShape, Contents, object_features, features_lines_and_rings, objects_lines_and_rings}
 use Rattle.geojson_types.specs.Features.{Featured, Shape}
-use Rattle.build_meaning.specs.Trimming.{is_used, keep_from, rank_from, renumbered, line_renumbered, feature_renumbered, object_renumbered, trimmed}
-use Rattle.list_laws.proofs.Elements.{all_weaker, all_of}
+use Rattle.build_meaning.specs.Trimming.{is_used, keep_from, new_index_from, renumbered, line_renumbered, feature_renumbered, object_renumbered, trimmed}
+use Rattle.owned_values.proofs.Elements.{all_weaker, all_of}
 
 -- ---- each arc that is kept is found again
 
-pub kept_at : {X : Type 0} (used : ℕ → Bool) (n : ℕ) (xs : List X) (i : ℕ) → used (n + i) ≡ true → at (keep_from used n xs) (rank_from used n i) ≡ at xs i
+pub kept_at : {X : Type 0} (used : ℕ → Bool) (n : ℕ) (xs : List X) (i : ℕ) → used (n + i) ≡ true → at (keep_from used n xs) (new_index_from used n i) ≡ at xs i
 kept_at used n [] i h = refl
 kept_at {X = X} used n (x ∷ xs) zero h = grind arith
 kept_at {X = X} used n (x ∷ xs) (suc i) h = grind (arith, kept_at used (suc n) xs i)
@@ -44,7 +44,7 @@ all_renumbered used arcs (r ∷ refs) h = rw (renumbered_at used arcs r h.0, all
 
 -- ---- each index of a line of the objects is used
 
-pub all_used : (os : List (List ℕ × TopoObject)) → AllByRecursion (AllUsed (is_used os)) (objects_strokes os)
+pub all_used : (os : List (List ℕ × TopoObject)) → AllByRecursion (AllUsed (is_used os)) (objects_lines_and_rings os)
 all_used os = grind (arith, all_of, any_from_in, nat_tests)
 
 -- ---- what is decoded
@@ -57,9 +57,9 @@ module _ (lies : Point → Point) (used : ℕ → Bool) (arcs : List (List Point
   line_of from closed refs = Some (decoded_line from closed refs)
 
   line_same : (b : Bool × List ℤ) → AllUsed used b → line_of kept b.0 (map (renumbered used) b.1) ≡ line_of arcs b.0 b.1
-  line_same b h = ap (λ xs. Some (completed b.0 (rejoined xs))) (all_renumbered used arcs b.1 h)
+  line_same b h = ap (λ xs. Some (completed b.0 (stitched xs))) (all_renumbered used arcs b.1 h)
 
-  shape_same : (s : Option TopoShape) → AllByRecursion (AllUsed used) (option_strokes s)
+  shape_same : (s : Option TopoShape) → AllByRecursion (AllUsed used) (option_lines_and_rings s)
       → then_some (decoded_shape lies kept) (then_some (prune (λ p. p) (line_renumbered used)) s) ≡ then_some (decoded_shape lies arcs) s
   shape_same None h = refl
   shape_same (Some s) h = search (rules, composed, agreed, all_weaker, line_same)
@@ -67,19 +67,19 @@ module _ (lies : Point → Point) (used : ℕ → Bool) (arcs : List (List Point
   abbrev with_shape : TopoFeature → Option Shape → Featured
   with_shape f s = record { id = f.id; properties = f.properties; shape = s }
 
-  feature_same : (f : TopoFeature) → AllByRecursion (AllUsed used) (option_strokes f.shape) → decoded_feature lies kept (feature_renumbered used f) ≡ decoded_feature lies arcs f
+  feature_same : (f : TopoFeature) → AllByRecursion (AllUsed used) (option_lines_and_rings f.shape) → decoded_feature lies kept (feature_renumbered used f) ≡ decoded_feature lies arcs f
   feature_same f h = ap (with_shape f) (shape_same f.shape h)
 
-  features_same : (fs : List TopoFeature) → AllByRecursion (AllUsed used) (features_strokes fs) → map (decoded_feature lies kept) (map (feature_renumbered used) fs) ≡ map (decoded_feature lies arcs) fs
+  features_same : (fs : List TopoFeature) → AllByRecursion (AllUsed used) (features_lines_and_rings fs) → map (decoded_feature lies kept) (map (feature_renumbered used) fs) ≡ map (decoded_feature lies arcs) fs
   features_same [] h = refl
   features_same (f ∷ fs) h =
-      grind (arith, feature_same, all_left, all_right, features_same fs (all_right (AllUsed used) (option_strokes f.shape) (features_strokes fs) h))
+      grind (arith, feature_same, all_left, all_right, features_same fs (all_right (AllUsed used) (option_lines_and_rings f.shape) (features_lines_and_rings fs) h))
 
-  name_same : (name : List ℕ) (os : List (List ℕ × TopoObject)) → AllByRecursion (AllUsed used) (objects_strokes os)
+  name_same : (name : List ℕ) (os : List (List ℕ × TopoObject)) → AllByRecursion (AllUsed used) (objects_lines_and_rings os)
       → map_some (decoded_object lies kept) (of_name name (map (λ o. (o.0, object_renumbered used o.1)) os)) ≡ map_some (decoded_object lies arcs) (of_name name os)
   name_same name [] h = refl
   name_same name (o ∷ os) h =
-      grind (arith, feature_same, all_left, features_same, all_right, name_same name os (all_right (AllUsed used) (features_strokes (object_features o.1)) (objects_strokes os) h))
+      grind (arith, feature_same, all_left, features_same, all_right, name_same name os (all_right (AllUsed used) (features_lines_and_rings (object_features o.1)) (objects_lines_and_rings os) h))
 
 -- arcs are placed one by one
 pub kept_of_map : {X Y : Type 0} (f : X → Y) (used : ℕ → Bool) (n : ℕ) (xs : List X) → map f (keep_from used n xs) ≡ keep_from used n (map f xs)

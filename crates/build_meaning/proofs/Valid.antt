@@ -3,7 +3,7 @@ use Rattle.std.proofs.Common.{◌≡◌, ℕ, ◌≤◌, ℤ, Bool, true, false,
 use Rattle.std.proofs.lemmas.List.{length-map}
 use Rattle.std.specs.List.{AllByRecursion}
 use Rattle.arc_table.specs.Arcs.{index_in}
-use Rattle.cutter.specs.Pieces.{split_at, start_in, turned, pieces_of, rejoined}
+use Rattle.cutter.specs.Pieces.{split_at, start_in, turned, pieces_of, stitched}
 use Rattle.cutter.specs.Places.{In}
 use Rattle.elimination_meaning.specs.Elimination.{reduced}
 use Rattle.elimination_meaning.specs.Laws.{EndsStay, NoneIsNew}
@@ -13,7 +13,7 @@ use Rattle.geojson_types.specs.Features.{Shape, Featured, is_some_list, is_prope
 use Rattle.geometry.specs.Lists.{then_some}
 use Rattle.geojson_types.specs.Places.{option_points}
 use Rattle.geometry.specs.Points.{Point, IsPosition}
-use Rattle.geometry.specs.Pruning.{prune, option_strokes}
+use Rattle.geometry.specs.Pruning.{prune, option_lines_and_rings}
 use Rattle.geometry.proofs.Agreement.{all_left, all_right}
 use Rattle.geometry.proofs.Composition.{composed}
 use Rattle.junctions.specs.Cleaning.{clean, is_short, AllClean}
@@ -22,13 +22,13 @@ use Rattle.linework.specs.Linework.{linework}
 use Rattle.junctions.specs.declared.stroke.Stroke.{Stroke}
 use Rattle.topojson_types.specs.declared.object.TopoObject.{TopoObject}
 use Rattle.geometry.specs.Joins.{arc_at}
-use Rattle.topojson_types.specs.Topologies.{objects_strokes}
+use Rattle.topojson_types.specs.Topologies.{objects_lines_and_rings}
 use Rattle.topojson_types.specs.Topologies as topology
 use Rattle.topojson_types.specs.Validity.{is_full_option, option_places, IsFeature, IsObject, AreDistinct, AreInRange, IsJoined, IsClosed, IsArc, IsTopology}
 use Rattle.build_meaning.specs.Built.{all_arcs, kept_refs, built}
 use Rattle.build_meaning.specs.Expected.{unless, own_pieces, is_small}
 use Rattle.build_meaning.specs.Laws.{IsSound, AreSound, IsValid, EachSegmentOnce}
-use Rattle.build_meaning.specs.Layers.{Named, names_of, layers_of, features_strokes, named_strokes}
+use Rattle.build_meaning.specs.Layers.{Named, names_of, layers_of, features_lines_and_rings, named_lines_and_rings}
 use Rattle.build_meaning.specs.Objects.{Kept, features_by, objects_by}
 use Rattle.build_meaning.specs.Trimming.{is_used, keep_from, renumbered, line_renumbered, feature_renumbered, object_renumbered, trimmed}
 use Rattle.build_meaning.proofs.ValidEnds.{SameEnds, ends_kept, named_ends, meet_as, close_as}
@@ -39,8 +39,8 @@ use Rattle.build_meaning.proofs.Once.{once_in_lines}
 use Rattle.build_meaning.proofs.ValidPositions.{arcs_placed}
 use Rattle.build_meaning.proofs.Trimmed.{IsUsed, all_renumbered, all_used}
 use Rattle.build_meaning.proofs.ValidTrimmed.{all_kept, all_below, of_objects}
-use Rattle.build_meaning.proofs.Strokes.{option_left}
-use Rattle.list_laws.proofs.Elements.{all_weaker, all_two, all_append, all_map}
+use Rattle.build_meaning.proofs.LinesAndRings.{option_left}
+use Rattle.owned_values.proofs.Elements.{all_weaker, all_two, all_append, all_map}
 
 -- ---- names
 
@@ -90,15 +90,15 @@ module _ (kept : Kept) (X : Bool × List ℤ → Type 0) where
   abbrev Gives : Bool × List Point → Type 0
   Gives b = (m : List ℤ) → kept b.0 b.1 ≡ Some m → X (b.0, m)
 
-  features_left : (fs : List Featured) → AllByRecursion Gives (features_strokes fs) → AllByRecursion X (topology.features_strokes (features_by kept fs))
+  features_left : (fs : List Featured) → AllByRecursion Gives (features_lines_and_rings fs) → AllByRecursion X (topology.features_lines_and_rings (features_by kept fs))
   features_left [] h = tt
   features_left (f ∷ fs) h =
-      search (all_append, option_left, all_left, all_right, features_left fs (all_right Gives (option_strokes f.shape) (features_strokes fs) h))
+      search (all_append, option_left, all_left, all_right, features_left fs (all_right Gives (option_lines_and_rings f.shape) (features_lines_and_rings fs) h))
 
-  objects_left : (ls : Named) → AllByRecursion Gives (named_strokes ls) → AllByRecursion X (objects_strokes (objects_by kept ls))
+  objects_left : (ls : Named) → AllByRecursion Gives (named_lines_and_rings ls) → AllByRecursion X (objects_lines_and_rings (objects_by kept ls))
   objects_left [] h = tt
   objects_left (l ∷ ls) h =
-      grind (arith, all_append, features_left, all_left, all_right, objects_left ls (all_right Gives (features_strokes l.1.features) (named_strokes ls) h))
+      grind (arith, all_append, features_left, all_left, all_right, objects_left ls (all_right Gives (features_lines_and_rings l.1.features) (named_lines_and_rings ls) h))
 
 -- ---- kept lines
 
@@ -115,11 +115,11 @@ module _ (lines : List Stroke) (t limit : ℕ) where
       some d x xs h = grind arith
 
       on : (b : Bool) (xs : List (List Point)) (c : Bool)
-          → unless (if c then Some Collapsed else (if is_small limit b (rejoined (map (reduced t) xs)) then Some Small else None)) (map (index_in (all_arcs lines)) xs) ≡ Some m → is_some_list m ≡ true
+          → unless (if c then Some Collapsed else (if is_small limit b (stitched (map (reduced t) xs)) then Some Small else None)) (map (index_in (all_arcs lines)) xs) ≡ Some m → is_some_list m ≡ true
       on b xs true h = cc
       on true [] false h = cc
       on false [] false h = cc
-      on b (x ∷ xs) false h = some (is_small limit b (rejoined (map (reduced t) (x ∷ xs)))) (index_in (all_arcs lines) x) (map (index_in (all_arcs lines)) xs) h
+      on b (x ∷ xs) false h = some (is_small limit b (stitched (map (reduced t) (x ∷ xs)))) (index_in (all_arcs lines) x) (map (index_in (all_arcs lines)) xs) h
 
   module _ (stay : EndsStay) (cleaned : AllClean lines) where
     abbrev arcs : List (List Point)
@@ -134,15 +134,15 @@ module _ (lines : List Stroke) (t limit : ℕ) where
     same_ends : (r : ℤ) → SameEnds (arc_at fewer r) (arc_at arcs r)
     same_ends = named_ends (reduced t) arcs (all_weaker (λ x. 2 ≤ length x) (λ x. SameEnds (reduced t x) x) (λ x h. (ends_kept stay t x h).0) arcs (arcs_long lines cleaned))
 
-    stroke_fine : (s : Stroke) → In s lines → IsFine fewer (s.closed, map (index_in arcs) (pieces_of lines s))
-    stroke_fine s k = (
+    line_or_ring_fine : (s : Stroke) → In s lines → IsFine fewer (s.closed, map (index_in arcs) (pieces_of lines s))
+    line_or_ring_fine s k = (
       subst (λ n. AreInRange n (map (index_in arcs) (pieces_of lines s))) (sym (length-map arcs (reduced t))) (ranged lines cleaned s k),
       meet_as (arc_at fewer) (arc_at arcs) same_ends (map (index_in arcs) (pieces_of lines s)) (met lines cleaned s k),
       λ c. close_as (arc_at fewer) (arc_at arcs) same_ends (map (index_in arcs) (pieces_of lines s)) (closed lines cleaned s k c),
     )
 
     line_fine : (b : Bool × List Point) → (s : Stroke) × In s lines × (plain s ≡ clean_line b) → IsFine fewer (b.0, map (index_in arcs) (own_pieces lines b.0 b.1))
-    line_fine b r = subst (λ x. IsFine fewer (x.0, map (index_in arcs) (plain_pieces x))) r.2 (stroke_fine r.0 r.1)
+    line_fine b r = subst (λ x. IsFine fewer (x.0, map (index_in arcs) (plain_pieces x))) r.2 (line_or_ring_fine r.0 r.1)
 
     kept_fine : (b : Bool × List Point) → StandsIn lines b → (m : List ℤ) → kept_refs lines t limit b.0 b.1 ≡ Some m → IsFine fewer (b.0, m)
     kept_fine b stands m e = grind (arith, line_fine b)
@@ -171,18 +171,18 @@ module _ (stay : EndsStay) (none : NoneIsNew) (t limit : ℕ) (ls : Named) (soun
       (all_two (λ x. 2 ≤ length x) (λ x. AllByRecursion IsPosition x) (λ x. IsArc None (reduced t x))
       (λ x h k. ((ends_kept stay t x h).1, sub_all IsPosition (none t x) k)) (all_arcs lines) (arcs_long lines (all_clean ls sound)) (arcs_placed ls sound))
 
-  pub before_fine : AllByRecursion (IsFine all_fewer) (objects_strokes objects_of)
+  pub before_fine : AllByRecursion (IsFine all_fewer) (objects_lines_and_rings objects_of)
   before_fine =
       objects_left (kept_refs lines t limit) (IsFine all_fewer) ls
-      (all_weaker (StandsIn lines) (λ b. (m : List ℤ) → kept_refs lines t limit b.0 b.1 ≡ Some m → IsFine all_fewer (b.0, m)) (kept_fine lines t limit stay (all_clean ls sound)) (named_strokes ls) (each_stands ls))
+      (all_weaker (StandsIn lines) (λ b. (m : List ℤ) → kept_refs lines t limit b.0 b.1 ≡ Some m → IsFine all_fewer (b.0, m)) (kept_fine lines t limit stay (all_clean ls sound)) (named_lines_and_rings ls) (each_stands ls))
 
   still_fine : (b : Bool × List ℤ) → IsFine all_fewer b → AllByRecursion (IsUsed used) b.1 → IsFine left (b.0, map (renumbered used) b.1)
   still_fine b h k = grind (arith, all_below used all_fewer b.1 k h.0, all_renumbered used all_fewer b.1 k)
 
-  all_fine : AllByRecursion (IsFine left) (objects_strokes (now used objects_of))
+  all_fine : AllByRecursion (IsFine left) (objects_lines_and_rings (now used objects_of))
   all_fine =
       of_objects used (IsFine left) objects_of
-      (all_two (IsFine all_fewer) (λ b. AllByRecursion (IsUsed used) b.1) (λ b. IsFine left (b.0, map (renumbered used) b.1)) still_fine (objects_strokes objects_of) before_fine (all_used objects_of))
+      (all_two (IsFine all_fewer) (λ b. AllByRecursion (IsUsed used) b.1) (λ b. IsFine left (b.0, map (renumbered used) b.1)) still_fine (objects_lines_and_rings objects_of) before_fine (all_used objects_of))
 
   valid : AreDistinct (names_of ls) → IsTopology (built t limit ls)
   unfolding built trimmed

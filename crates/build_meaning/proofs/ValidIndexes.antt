@@ -7,16 +7,16 @@ use Rattle.arc_table.specs.Growth.{first_alike}
 use Rattle.arc_table.proofs.Alike.{arcs_unlike, arc_is_piece, piece_has_alike}
 use Rattle.arc_table.proofs.Growth.{map_same}
 use Rattle.arc_table.proofs.Indexes.{index_is, named_is, named_all}
-use Rattle.arc_table.proofs.Rejoining.{pieces_meet, rings_close}
+use Rattle.arc_table.proofs.Stitching.{pieces_meet, rings_close}
 use Rattle.cutter.specs.Pieces.{pieces_of, pieces}
 use Rattle.cutter.specs.Segments.{segments}
-use Rattle.cutter.specs.Slices.{IsSplit, started, split_of, strokes}
+use Rattle.cutter.specs.Slices.{IsSplit, started, split_of, lines_and_rings}
 use Rattle.cutter.specs.Structure.{PiecesAreLong}
 use Rattle.cutter.proofs.CleanStarts.{clean_starts}
-use Rattle.cutter.proofs.Joins.{stroke_split}
+use Rattle.cutter.proofs.Joins.{line_or_ring_split}
 use Rattle.cutter.proofs.OpenPieces.{in_flat}
 use Rattle.cutter.proofs.Structured.{structured, clean_in}
-use Rattle.list_laws.proofs.Members.{in_append}
+use Rattle.owned_values.proofs.Members.{in_append}
 use Rattle.geojson_types.specs.Features.{is_some_list}
 use Rattle.geometry.specs.Points.{Point}
 use Rattle.junctions.specs.Among.{In}
@@ -24,9 +24,9 @@ use Rattle.junctions.specs.Cleaning.{IsClean, AllClean}
 use Rattle.junctions.specs.Cuts.{is_cut}
 use Rattle.junctions.specs.declared.stroke.Stroke.{Stroke}
 use Rattle.geometry.specs.Joins.{number_of, arc_at, Meet, Closes}
-use Rattle.list_laws.proofs.Elements.{all_of, all_made}
+use Rattle.owned_values.proofs.Elements.{all_of, all_made}
 
-started_clean : (lines : List Stroke) (s : Stroke) (ms : List Stroke) → AllClean (strokes (map (split_of lines) ms)) → In s ms → IsClean (started (is_cut lines) s)
+started_clean : (lines : List Stroke) (s : Stroke) (ms : List Stroke) → AllClean (lines_and_rings (map (split_of lines) ms)) → In s ms → IsClean (started (is_cut lines) s)
 started_clean lines s [] h k = elim k [ ]
 started_clean lines s (m ∷ ms) h (inl e) = subst (λ z. IsClean (started (is_cut lines) z)) (sym e) h.0
 started_clean lines s (m ∷ ms) h (inr k) = started_clean lines s ms h.1 k
@@ -53,7 +53,7 @@ module _ (lines : List Stroke) (clean : AllClean lines) where
     inside x m = in_flat (pieces_of lines) s x lines k m
 
     split : IsSplit (split_of lines s)
-    split = stroke_split lines s k (clean_in s lines clean k)
+    split = line_or_ring_split lines s k (clean_in s lines clean k)
 
     begun : IsClean (started (is_cut lines) s)
     begun = started_clean lines s lines (clean_starts lines clean) k

@@ -15,7 +15,7 @@ use Rattle.junctions.specs.declared.stroke.Stroke.{Stroke}
 use Rattle.linework.proofs.Positions.{none_is_new}
 use Rattle.build_meaning.specs.Laws.{IsSound, AreSound}
 use Rattle.build_meaning.specs.Layers.{Named, layers_of}
-use Rattle.list_laws.proofs.Elements.{all_append, all_of, each_of, all_drop, all_take}
+use Rattle.owned_values.proofs.Elements.{all_append, all_of, each_of, all_drop, all_take}
 
 -- ---- pieces of a line
 

@@ -16,7 +16,7 @@ use Rattle.geometry.proofs.ByKind.{proper_at, points_at, proper-group}
 use Rattle.topojson_types.specs.Topologies.{TopoShape}
 use Rattle.topojson_types.specs.Validity.{is_full, is_full_option, places, option_places}
 use Rattle.topojson_types.proofs.ByKind.{full_at, places_at, full-group}
-use Rattle.list_laws.proofs.Elements.{all_append}
+use Rattle.owned_values.proofs.Elements.{all_append}
 
 map_id : {A : Type 0} (xs : List A) → map (λ x. x) xs ≡ xs
 map_id [] = refl

@@ -2,20 +2,20 @@
 use Rattle.std.proofs.Common.{◌≡◌, ℕ, zero, suc, ◌+◌, ◌<◌, Bool, true, List, [], ◌∷◌, map, length, Option, None, Some, ap, subst, arith}
 use Rattle.std.specs.List.{AllByRecursion}
 use Rattle.std.specs.Prelude.{ℤ}
-use Rattle.geometry.specs.Pruning.{option_strokes}
+use Rattle.geometry.specs.Pruning.{option_lines_and_rings}
 use Rattle.geometry.proofs.Agreement.{all_left, all_right}
 use Rattle.topojson_types.specs.declared.feature.TopoFeature.{TopoFeature}
 use Rattle.topojson_types.specs.declared.object.TopoObject.{TopoObject}
 use Rattle.geometry.specs.Joins.{number_of}
-use Rattle.topojson_types.specs.Topologies.{object_features, features_strokes, objects_strokes}
-use Rattle.build_meaning.specs.Trimming.{keep_from, rank_from, renumbered, line_renumbered, feature_renumbered, object_renumbered}
+use Rattle.topojson_types.specs.Topologies.{object_features, features_lines_and_rings, objects_lines_and_rings}
+use Rattle.build_meaning.specs.Trimming.{keep_from, new_index_from, renumbered, line_renumbered, feature_renumbered, object_renumbered}
 use Rattle.build_meaning.proofs.Trimmed.{IsUsed}
-use Rattle.build_meaning.proofs.Strokes.{option_left}
-use Rattle.list_laws.proofs.Elements.{all_weaker, all_append}
+use Rattle.build_meaning.proofs.LinesAndRings.{option_left}
+use Rattle.owned_values.proofs.Elements.{all_weaker, all_append}
 
 -- ---- elements that stay
 
-kept_below : {X : Type 0} (used : ℕ → Bool) (n : ℕ) (xs : List X) (i : ℕ) → used (n + i) ≡ true → i < length xs → rank_from used n i < length (keep_from used n xs)
+kept_below : {X : Type 0} (used : ℕ → Bool) (n : ℕ) (xs : List X) (i : ℕ) → used (n + i) ≡ true → i < length xs → new_index_from used n i < length (keep_from used n xs)
 kept_below used n [] i h lt = absurd (omega (arith, lt))
 kept_below {X = X} used n (x ∷ xs) zero h lt = grind arith
 kept_below {X = X} used n (x ∷ xs) (suc i) h lt = grind (arith, kept_below used (suc n) xs i)
@@ -46,20 +46,20 @@ module _ (used : ℕ → Bool) (X : Bool × List ℤ → Type 0) where
   or_else d None = d
   or_else d (Some m) = m
 
-  of_feature : (f : TopoFeature) → AllByRecursion Renumbers (option_strokes f.shape) → AllByRecursion X (option_strokes (feature_renumbered used f).shape)
+  of_feature : (f : TopoFeature) → AllByRecursion Renumbers (option_lines_and_rings f.shape) → AllByRecursion X (option_lines_and_rings (feature_renumbered used f).shape)
   of_feature f h =
       option_left (λ p. p) (line_renumbered used) X f.shape
-      (all_weaker Renumbers (λ b. (m : List ℤ) → Some (map (renumbered used) b.1) ≡ Some m → X (b.0, m)) (λ b k m e. subst (λ z. X (b.0, z)) (ap (or_else m) e) k) (option_strokes f.shape) h)
+      (all_weaker Renumbers (λ b. (m : List ℤ) → Some (map (renumbered used) b.1) ≡ Some m → X (b.0, m)) (λ b k m e. subst (λ z. X (b.0, z)) (ap (or_else m) e) k) (option_lines_and_rings f.shape) h)
 
-  of_features : (fs : List TopoFeature) → AllByRecursion Renumbers (features_strokes fs) → AllByRecursion X (features_strokes (map (feature_renumbered used) fs))
+  of_features : (fs : List TopoFeature) → AllByRecursion Renumbers (features_lines_and_rings fs) → AllByRecursion X (features_lines_and_rings (map (feature_renumbered used) fs))
   of_features [] h = tt
   of_features (f ∷ fs) h =
-      grind (arith, all_append, of_feature, all_left, all_right, of_features fs (all_right Renumbers (option_strokes f.shape) (features_strokes fs) h))
+      grind (arith, all_append, of_feature, all_left, all_right, of_features fs (all_right Renumbers (option_lines_and_rings f.shape) (features_lines_and_rings fs) h))
 
-  of_object : (o : TopoObject) → AllByRecursion Renumbers (features_strokes (object_features o)) → AllByRecursion X (features_strokes (object_features (object_renumbered used o)))
+  of_object : (o : TopoObject) → AllByRecursion Renumbers (features_lines_and_rings (object_features o)) → AllByRecursion X (features_lines_and_rings (object_features (object_renumbered used o)))
   of_object o h = grind (arith, of_features)
 
-  pub of_objects : (os : List (List ℕ × TopoObject)) → AllByRecursion Renumbers (objects_strokes os) → AllByRecursion X (objects_strokes (map (λ o. (o.0, object_renumbered used o.1)) os))
+  pub of_objects : (os : List (List ℕ × TopoObject)) → AllByRecursion Renumbers (objects_lines_and_rings os) → AllByRecursion X (objects_lines_and_rings (map (λ o. (o.0, object_renumbered used o.1)) os))
   of_objects [] h = tt
   of_objects (o ∷ os) h =
-      search (all_append, of_object, all_left, all_right, of_objects os (all_right Renumbers (features_strokes (object_features o.1)) (objects_strokes os) h))
+      search (all_append, of_object, all_left, all_right, of_objects os (all_right Renumbers (features_lines_and_rings (object_features o.1)) (objects_lines_and_rings os) h))

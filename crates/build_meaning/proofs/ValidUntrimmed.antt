@@ -7,7 +7,7 @@ use Rattle.geojson_types.specs.Places.{option_points}
 use Rattle.geometry.specs.Lists.{then_some}
 use Rattle.geometry.specs.Points.{Point, IsPosition}
 use Rattle.geometry.specs.Pruning.{prune}
-use Rattle.list_laws.proofs.Elements.{all_weaker}
+use Rattle.owned_values.proofs.Elements.{all_weaker}
 use Rattle.topojson_types.specs.Validity.{is_full_option, option_places, IsFeature, IsObject, AreDistinct, IsTopology}
 use Rattle.build_meaning.specs.Built.{untrimmed}
 use Rattle.build_meaning.specs.Laws.{IsSound, AreSound}

@@ -37,5 +37,5 @@ abbrev pub positions_of : List (List Point) → ℕ
 positions_of arcs = sum (map length arcs)
 
 -- how many positions reduction removes from the arcs that stay
-unfoldable pub taken_out : ℕ → ℕ → Named → ℕ
-taken_out t limit ls = positions_of (used_arcs t limit ls) - positions_of (map (reduced t) (used_arcs t limit ls))
+unfoldable pub removed_count : ℕ → ℕ → Named → ℕ
+removed_count t limit ls = positions_of (used_arcs t limit ls) - positions_of (map (reduced t) (used_arcs t limit ls))

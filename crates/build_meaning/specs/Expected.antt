@@ -1,7 +1,7 @@
 -- The features that are expected of a topology of layers, and the lines and rings that are dropped. No arcs are known here: each line
 -- is cut into its own pieces, and each of these is reduced in the line's own direction.
 use Rattle.std.specs.Prelude.{ℕ, Bool, ◌&&◌, ◌||◌, nat_lt, List, [], Option, None, Some, map, if◌then◌else◌}
-use Rattle.cutter.specs.Pieces.{pieces_of, rejoined}
+use Rattle.cutter.specs.Pieces.{pieces_of, stitched}
 use Rattle.elimination_meaning.specs.Elimination.{reduced}
 use Rattle.geometry.specs.Areas.{twice_ring_area}
 use Rattle.geometry.specs.declared.address.Cause.{Cause}
@@ -9,7 +9,7 @@ use Rattle.geometry.specs.declared.address.Cause.TheVariants.{Collapsed, Small}
 use Rattle.geometry.specs.declared.address.Dropped.{Dropped}
 use Rattle.geojson_types.specs.Features.{Shape, Featured}
 use Rattle.geometry.specs.Lists.{then_some}
-use Rattle.geometry.specs.Omissions.{omissions, dropped_of_layers}
+use Rattle.geometry.specs.DropCauses.{drop_causes, dropped_of_layers}
 use Rattle.geometry.specs.Paths.{Placed}
 use Rattle.geometry.specs.Points.{Point}
 use Rattle.geometry.specs.Pruning.{prune}
@@ -30,7 +30,7 @@ own_pieces lines closed ps = pieces_of lines (cleaned closed ps)
 
 -- the pieces of a line or ring, each reduced, joined again; a ring begins at its start
 abbrev pub rebuilt : List Stroke → ℕ → Bool → List Point → List Point
-rebuilt lines t closed ps = rejoined (map (reduced t) (own_pieces lines closed ps))
+rebuilt lines t closed ps = stitched (map (reduced t) (own_pieces lines closed ps))
 
 -- a rebuilt line is left with too few positions, with equal neighbours as one, or twice the area of a rebuilt ring is under the limit
 abbrev pub is_small : ℕ → Bool → List Point → Bool
@@ -61,10 +61,10 @@ unfoldable pub expected : ℕ → ℕ → Named → Named
 expected t limit ls = map (λ l. (l.0, record { features = map (expected_feature (linework (layers_of ls)) t limit) l.1.features })) ls
 
 -- the lines and rings of a shape that may be null that are dropped, and the ways to them
-abbrev pub option_omissions : List Stroke → ℕ → ℕ → Option Shape → List (Placed Cause)
-option_omissions lines t limit None = []
-option_omissions lines t limit (Some s) = omissions (own_cause lines t limit) s
+abbrev pub option_drop_causes : List Stroke → ℕ → ℕ → Option Shape → List (Placed Cause)
+option_drop_causes lines t limit None = []
+option_drop_causes lines t limit (Some s) = drop_causes (own_cause lines t limit) s
 
 -- the lines and rings that are dropped, in reading order
 unfoldable pub expected_dropped : ℕ → ℕ → Named → List Dropped
-expected_dropped t limit ls = dropped_of_layers 0 (map (λ l. map (λ f. option_omissions (linework (layers_of ls)) t limit f.shape) l.1.features) ls)
+expected_dropped t limit ls = dropped_of_layers 0 (map (λ l. map (λ f. option_drop_causes (linework (layers_of ls)) t limit f.shape) l.1.features) ls)

@@ -8,7 +8,7 @@ use Rattle.geojson_types.specs.declared.layer.FeatureSet.TheVariants as set
 use Rattle.geojson_types.specs.Features.{Featured, is_proper_option}
 use Rattle.geojson_types.specs.Places.{option_points}
 use Rattle.geometry.specs.Points.{Point, IsPosition}
-use Rattle.geometry.specs.Pruning.{option_strokes}
+use Rattle.geometry.specs.Pruning.{option_lines_and_rings}
 use Rattle.geometry.specs.Rings.{is_ring}
 use Rattle.junctions.specs.Cleaning.{clean, is_short}
 use Rattle.junctions.specs.Cuts.{is_cut}
@@ -17,7 +17,7 @@ use Rattle.topojson_types.specs.Decoding.{decoded}
 use Rattle.topojson_types.specs.Validity.{AreDistinct, IsTopology}
 use Rattle.build_meaning.specs.Built.{all_arcs, built}
 use Rattle.build_meaning.specs.Expected.{cleaned, kept_line, expected}
-use Rattle.build_meaning.specs.Layers.{Named, names_of, layers_of, named_strokes}
+use Rattle.build_meaning.specs.Layers.{Named, names_of, layers_of, named_lines_and_rings}
 
 -- ---- premises
 
@@ -28,7 +28,7 @@ IsRingIfClosed b = b.0 ≡ true → is_ring b.1 ≡ true
 -- what holds of each feature that is read: no list is empty but a group's, its rings are rings, and its positions are positions
 pub record IsSound (f : Featured) : Type 0 where
   pub proper : is_proper_option f.shape ≡ true
-  pub rings : AllByRecursion IsRingIfClosed (option_strokes f.shape)
+  pub rings : AllByRecursion IsRingIfClosed (option_lines_and_rings f.shape)
   pub places : AllByRecursion IsPosition (option_points f.shape)
 
 abbrev pub AreSound : Named → Type 0
@@ -57,4 +57,4 @@ whole_line ls closed ps = if is_short closed (clean ps) then None else Some (fro
 -- at a threshold and a limit of zero nothing is removed from the lines of the layers
 abbrev pub LosesNothing : Type 0
 LosesNothing = (ls : Named) → AreSound ls
-    → AllByRecursion (λ b. kept_line (linework (layers_of ls)) 0 0 b.0 b.1 ≡ whole_line ls b.0 b.1) (named_strokes ls)
+    → AllByRecursion (λ b. kept_line (linework (layers_of ls)) 0 0 b.0 b.1 ≡ whole_line ls b.0 b.1) (named_lines_and_rings ls)

@@ -4,7 +4,7 @@ use Rattle.geojson_types.specs.declared.layer.Layer.{Layer}
 use Rattle.geojson_types.specs.Features.{Featured}
 use Rattle.geometry.specs.Lists.{joined}
 use Rattle.geometry.specs.Points.{Point}
-use Rattle.geometry.specs.Pruning.{option_strokes}
+use Rattle.geometry.specs.Pruning.{option_lines_and_rings}
 
 -- layers with their names
 abbrev pub Named : Type 0
@@ -17,9 +17,9 @@ abbrev pub layers_of : Named → List Layer
 layers_of ls = map (λ l. l.1) ls
 
 -- the open lines (false) and rings (true) of features
-abbrev pub features_strokes : List Featured → List (Bool × List Point)
-features_strokes fs = joined (map (λ f. option_strokes f.shape) fs)
+abbrev pub features_lines_and_rings : List Featured → List (Bool × List Point)
+features_lines_and_rings fs = joined (map (λ f. option_lines_and_rings f.shape) fs)
 
 -- the open lines (false) and rings (true) of all layers
-abbrev pub named_strokes : Named → List (Bool × List Point)
-named_strokes ls = joined (map (λ l. features_strokes l.1.features) ls)
+abbrev pub named_lines_and_rings : Named → List (Bool × List Point)
+named_lines_and_rings ls = joined (map (λ l. features_lines_and_rings l.1.features) ls)

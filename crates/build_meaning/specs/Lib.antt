@@ -1,5 +1,5 @@
 pub mod Built
-pub mod Candidates
+pub mod DroppableLines
 pub mod Expected
 pub mod Laws
 pub mod Layers

@@ -7,11 +7,11 @@ use Rattle.topojson_types.specs.declared.feature.TopoFeature.{TopoFeature}
 use Rattle.topojson_types.specs.declared.object.TopoObject.{TopoObject}
 use Rattle.topojson_types.specs.declared.object.TopoObject.TheVariants.{One, Many}
 use Rattle.geometry.specs.Joins.{number_of}
-use Rattle.topojson_types.specs.Topologies.{Contents, objects_strokes}
+use Rattle.topojson_types.specs.Topologies.{Contents, objects_lines_and_rings}
 
 -- an index of a line or ring names the arc of this number
 abbrev pub is_used : List (List ℕ × TopoObject) → ℕ → Bool
-is_used os i = list_any (λ b. list_any (λ r. number_of r == i) b.1) (objects_strokes os)
+is_used os i = list_any (λ b. list_any (λ r. number_of r == i) b.1) (objects_lines_and_rings os)
 
 -- the elements whose numbers pass, where the first has this number
 abbrev pub keep_from : {X : Type 0} → (ℕ → Bool) → ℕ → List X → List X
@@ -19,14 +19,14 @@ keep_from used i [] = []
 keep_from used i (x ∷ xs) = if used i then x ∷ keep_from used (suc i) xs else keep_from used (suc i) xs
 
 -- how many of so many numbers pass, from this one on
-abbrev pub rank_from : (ℕ → Bool) → ℕ → ℕ → ℕ
-rank_from used n zero = zero
-rank_from used n (suc count) = if used n then suc (rank_from used (suc n) count) else rank_from used (suc n) count
+abbrev pub new_index_from : (ℕ → Bool) → ℕ → ℕ → ℕ
+new_index_from used n zero = zero
+new_index_from used n (suc count) = if used n then suc (new_index_from used (suc n) count) else new_index_from used (suc n) count
 
 -- the index of the same arc in the same direction, where only the arcs that pass are left
 abbrev pub renumbered : (ℕ → Bool) → ℤ → ℤ
-renumbered used (pos i) = pos (rank_from used 0 i)
-renumbered used (negsuc i) = negsuc (rank_from used 0 i)
+renumbered used (pos i) = pos (new_index_from used 0 i)
+renumbered used (negsuc i) = negsuc (new_index_from used 0 i)
 
 -- the indexes of an open line or a ring
 abbrev pub line_renumbered : (ℕ → Bool) → Bool → List ℤ → Option (List ℤ)

@@ -1,7 +1,7 @@
 -- A text that is written part by part, and a list with commas.
 use Rattle.std.proofs.Common.{◌≡◌, ℕ, suc, ◌+◌, ◌<◌, ◌≤◌, Bool, false, List, ◌∷◌, ◌++◌, length, get_or, drop, map, subst, sym, ap, ◌∙◌, add-one, append_assoc, drop-cons, Ok, Err}
 use Rattle.std.proofs.lemmas.List.{drop_all}
-use Rattle.list_laws.specs.Commas.{comma_unless, with_commas}
+use Rattle.owned_values.specs.Commas.{comma_unless, with_commas}
 use Rattle.byte_ends.specs.Continues.{Continues, Progress, goes_on, stays}
 use Rattle.byte_ends.specs.Ends.{Drained}
 use Rattle.byte_ends.specs.Writes.{Writes}
@@ -62,8 +62,8 @@ ends up w = as_text up.whole (then up.wrote w)
 abbrev pub list_left : {A : Type 0} → (A → List ℕ) → List ℕ → Bool → List A → List ℕ
 list_left text_of closing is_first items = with_commas is_first (map text_of items) ++ closing
 
-regrouped : (comma text behind closing : List ℕ) → (comma ++ (text ++ behind)) ++ closing ≡ (comma ++ text) ++ (behind ++ closing)
-regrouped comma text behind closing = simp append_assoc
+regrouped : (comma text following closing : List ℕ) → (comma ++ (text ++ following)) ++ closing ≡ (comma ++ text) ++ (following ++ closing)
+regrouped comma text following closing = simp append_assoc
 
 -- in front of an element: its comma, its text, and what is left after it
 list_left-next : {A : Type 0} (text_of : A → List ℕ) (closing : List ℕ) (is_first : Bool) (items : List A) (i : ℕ) (item : A)
@@ -72,8 +72,8 @@ list_left-next : {A : Type 0} (text_of : A → List ℕ) (closing : List ℕ) (i
 list_left-next text_of closing is_first items i item within is =
     let here : drop i items ≡ item ∷ drop (i + 1) items =
     rw add-one (drop-cons items i item within ∙ ap (λ z. z ∷ drop (suc i) items) (sym is)) in
-    let behind : List ℕ = with_commas false (map text_of (drop (i + 1) items)) in
-    ap (list_left text_of closing is_first) here ∙ regrouped (comma_unless is_first) (text_of item) behind closing
+    let following : List ℕ = with_commas false (map text_of (drop (i + 1) items)) in
+    ap (list_left text_of closing is_first) here ∙ regrouped (comma_unless is_first) (text_of item) following closing
 
 -- the state of the loop in front of the element at i
 module _ {A : Type 0} (text_of : A → List ℕ) (closing : List ℕ) (is_first : Bool) (items : List A) (i : ℕ) {old now : Drained} {start so_far : Progress} {text : List ℕ}

@@ -41,8 +41,8 @@ Takes-then old mid new xs ys n t u = record {
 }
 
 -- a prefix of a text is one of a longer text
-pub Takes-front : (old new : Drained) (xs ys : List ℕ) (n : ℕ) → Takes old new xs n → Takes old new (xs ++ ys) n
-Takes-front old new xs ys n t =
+pub Takes-prefix : (old new : Drained) (xs ys : List ℕ) (n : ℕ) → Takes old new xs n → Takes old new (xs ++ ys) n
+Takes-prefix old new xs ys n t =
     let within : n ≤ length xs = t.within in
     record {
       within = omega (arith, length-append xs ys);
@@ -70,7 +70,7 @@ pub Writes-stop : (old new : Drained) (count : ℕ) (xs ys : List ℕ) (e : Writ
     → Writes old new count xs (Err e) → Writes old new count (xs ++ ys) (Err e)
 Writes-stop old new count xs ys (Write sent) t = record {
   many = t.many;
-  took = Takes-front old new xs ys t.many t.took;
+  took = Takes-prefix old new xs ys t.many t.took;
   counted = t.counted;
   failed = t.failed;
 }

@@ -1,4 +1,4 @@
 pub mod Continues
 pub mod Ends
 pub mod Writes
-pub use Rattle.list_laws.specs.Commas
+pub use Rattle.owned_values.specs.Commas

@@ -11,7 +11,7 @@ pub record WritesAll (old new : Drained) (count : ℕ) (text : List ℕ) (answer
   pub sound : new.failures ≡ 0
 
 -- the sink took a prefix of the text and is broken, and `sent` counts on from `count` by the prefix's length
-pub record WritesFront (old new : Drained) (count : ℕ) (text : List ℕ) (sent : ℕ) : Type 0 where
+pub record WritesPrefix (old new : Drained) (count : ℕ) (text : List ℕ) (sent : ℕ) : Type 0 where
   pub many : ℕ
   pub took : Takes old new text many
   pub counted : sent ≡ saturated (count + many)
@@ -20,9 +20,9 @@ pub record WritesFront (old new : Drained) (count : ℕ) (text : List ℕ) (sent
 -- a writer of this text did this to its sink: all of it at `Ok`, a prefix of it at `Write`, and there is no other answer
 abbrev pub Writes : Drained → Drained → ℕ → List ℕ → Result ℕ WriteFault → Type 0
 Writes old new count text (Ok answer) = WritesAll old new count text answer
-Writes old new count text (Err (Write sent)) = WritesFront old new count text sent
+Writes old new count text (Err (Write sent)) = WritesPrefix old new count text sent
 
 -- a writer that flushes after this text did this to its sink: at `Ok` all of it is taken and passed on
 abbrev pub Sends : Drained → Drained → ℕ → List ℕ → Result ℕ WriteFault → Type 0
 Sends old new count text (Ok answer) = WritesAll old new count text answer × (new.flushed ≡ true)
-Sends old new count text (Err (Write sent)) = WritesFront old new count text sent
+Sends old new count text (Err (Write sent)) = WritesPrefix old new count text sent

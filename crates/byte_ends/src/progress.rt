@@ -1,5 +1,5 @@
 // Texts that are written part by part.
-ghost use Rattle.list_laws.specs.Commas.{comma_unless};
+ghost use Rattle.owned_values.specs.Commas.{comma_unless};
 ghost use Rattle.std.specs.Prelude.{ℕ, List};
 ghost use Rattle.byte_ends.specs.Continues.{Continues};
 ghost use Rattle.byte_ends.specs.Ends.{Drained};
@@ -34,7 +34,7 @@ pub fn put_comma<W: Drain>(is_first: bool, so_far: Progress, sink: &mut Sink<W>)
 
 /// Flushes the sink after a text that was written to it with this answer, unless that is a fault. Where the device fails in
 /// flushing, the fault counts the whole text as sent.
-pub fn flush_behind<W: Drain>(written: Progress, sink: &mut Sink<W>) -> Progress
+pub fn flush_after<W: Drain>(written: Progress, sink: &mut Sink<W>) -> Progress
     // What was written stays written, and an `Ok` says that no call of the device failed and that all is passed on.
     ensures { (start : Drained) (count : ℕ) (text : List ℕ) → Writes start sink.old count text written → Sends start sink.new count text result }
 {

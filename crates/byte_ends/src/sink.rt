@@ -1,7 +1,7 @@
 // A sink for bytes.
 ghost use Rattle.std.specs.Prelude.{◌≡◌, ◌<◌, ◌≤◌, ℕ, OnOk, OnErr, false, length, true};
 ghost use Rattle.std.specs.Io.KnownBytes.{Keeps};
-ghost use Rattle.list_laws.specs.Commas.{comma_unless};
+ghost use Rattle.owned_values.specs.Commas.{comma_unless};
 ghost use Rattle.byte_ends.specs.Ends.{Takes};
 ghost use Rattle.byte_ends.specs.Writes.{Writes};
 

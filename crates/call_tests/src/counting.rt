@@ -4,9 +4,8 @@ use byte_ends::devices::{CutReader, Fault};
 use byte_ends::{FromRead, MemoryDrain, Sink, Source};
 use decimal_json::OwnText;
 use effective_area::{HeapLinks, Steps};
+use mapchain_engine::{Level, Options, build, simplify};
 use std::alloc::Global;
-use topology_building::{Level, Options, build};
-use topology_simplifying::simplify;
 
 const LAYER: &[u8] =
     b"{\"type\":\"FeatureCollection\",\"features\":[{\"type\":\"Feature\",\"properties\":null,\"geometry\":{\"type\":\"LineString\",\"coordinates\":[[4,0],[2,0],[1,1],[0,0]]}},{\"type\":\"Feature\",\"properties\":null,\"geometry\":{\"type\":\"LineString\",\"coordinates\":[[0,0],[1,1],[2,0],[4,0]]}}]}";

@@ -104,7 +104,7 @@ fn is_refused(alloc: Global, text: &str, why: Why, at: usize) -> bool {
 }
 
 #[test]
-fn faults_tell_where_and_why(rt: HostRuntime) {
+fn faults_say_where_and_why(rt: HostRuntime) {
     for (why, rows) in [
         (Why::Syntax, SYNTAX),
         (Why::End, END),

@@ -1,8 +1,7 @@
 // What is kept of properties that are read from bytes, and the values that a kept text has (RFC 8259, sections 2 to 8).
-use feature_properties::{Properties, PropertiesForm};
-use json_value::Json;
-use properties_reading::property_values;
-use properties_scanning::read_properties;
+use json_cursor::read_properties;
+use json_reading::property_values;
+use json_value::{Json, Properties, PropertiesForm};
 use std::alloc::Global;
 
 // The text without white space, with its characters written in the one way.
@@ -34,7 +33,7 @@ fn are_as_read(alloc: Global, properties: &Properties) -> bool {
 }
 
 /// Whether the properties at the front are as they are read, and this follows them.
-fn is_read(alloc: Global, text: &str, behind: &str) -> bool {
+fn is_read(alloc: Global, text: &str, following: &str) -> bool {
     let Ok(read) = read_properties(alloc, 124, text.as_bytes()) else {
         return false;
     };
@@ -42,7 +41,7 @@ fn is_read(alloc: Global, text: &str, behind: &str) -> bool {
     let Some(Some(properties)) = given else {
         return false;
     };
-    rest == behind.as_bytes() && are_as_read(alloc, &properties)
+    rest == following.as_bytes() && are_as_read(alloc, &properties)
 }
 
 #[test]

@@ -8,7 +8,7 @@ use std::test::Fail;
 
 // Of two equal positions whose areas tie, the one with the lesser index is removed first.
 #[test]
-fn repeated_positions_are_taken_out_by_index(rt: HostRuntime) -> Result<(), Fail> {
+fn repeated_positions_are_removed_by_index(rt: HostRuntime) -> Result<(), Fail> {
     let alloc = rt.alloc();
     let top = Position::at(1, 1);
     let line = [Position::at(0, 0), top, top, Position::at(2, 0)];

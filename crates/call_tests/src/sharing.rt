@@ -6,8 +6,8 @@ use cutter::cut;
 use decimal_json::{LAYER_DEPTH, parse};
 use geojson_model::read_layer;
 use geojson_types::{Layer, Position};
+use junctions::Numbering;
 use linework::{Lines, OfLayers, Vertices};
-use numbering::Numbering;
 use std::alloc::{AllocError, Global};
 use std::test::Fail;
 

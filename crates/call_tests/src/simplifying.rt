@@ -1,15 +1,15 @@
 // What is left of a topology whose arcs keep their ends alone.
 ghost use Rattle.std.specs.Prelude.{◌≡◌, ◌-◌, ◌∷◌, [], IfOk, length, map};
-ghost use Rattle.lessened_topology.specs.Lessened.{EachFromFirstToLast};
+ghost use Rattle.simplified_topology.specs.Simplified.{EachFromFirstToLast};
 
 use byte_ends::{Memory, MemoryDrain, Sink};
 use decimal_json::{Items, TOPOLOGY_DEPTH, parse};
 use geojson_types::{Cause, Dropped};
 use std::alloc::Global;
+use topo_model::Reduces;
 use topojson_decoder::{Topology, read_topology};
 use topojson_types::Cell;
 use topojson_writer::write_topology;
-use topology_reduction::Reduces;
 
 /// The indexes of the first and the last cell.
 fn ends(alloc: Global, cells: &[Cell]) -> Result<Vec<usize>, Memory>
@@ -70,7 +70,7 @@ fn is_small_ring(dropped: &[Dropped], ring: usize) -> bool {
 }
 
 /// Whether the ends of each arc of a text leave this text and drop this ring alone, and how many positions they remove.
-fn leaves(alloc: Global, text: &[u8], left: &[u8], ring: usize, taken_out: u64) -> bool {
+fn leaves(alloc: Global, text: &[u8], left: &[u8], ring: usize, removed_count: u64) -> bool {
     let Some(topology) = topology_of(alloc, text) else {
         return false;
     };
@@ -79,7 +79,7 @@ fn leaves(alloc: Global, text: &[u8], left: &[u8], ring: usize, taken_out: u64) 
     };
     match topology.reduce(alloc, &kept, 0) {
         Ok((less, dropped, out)) => {
-            is_text(alloc, &less, left) && is_small_ring(&dropped, ring) && out == taken_out
+            is_text(alloc, &less, left) && is_small_ring(&dropped, ring) && out == removed_count
         }
         Err(_) => false,
     }

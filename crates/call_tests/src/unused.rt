@@ -1,8 +1,7 @@
 // The calls that may run out of memory and that no run of the program makes, and the numbers that two of them answer.
-use area_thresholds::read_threshold;
 use byte_ends::{MemoryDrain, Sink};
 use decimal_json::{Items, NumText};
-use effective_area::{HeapLinks, twice_area};
+use effective_area::{HeapLinks, read_threshold, twice_area};
 use geojson_types::{Layer, Position};
 use linework::{Lines, OfLayers};
 use std::alloc::Global;
@@ -32,11 +31,11 @@ fn layers_without_names_have_lines(rt: HostRuntime) {
 
 // The cells of an arc, and their differences (TopoJSON 1.0, section 2.1.3).
 #[test]
-fn cells_and_differences_are_told_of_each_other(rt: HostRuntime) -> Result<(), Fail> {
+fn cells_and_differences_give_each_other(rt: HostRuntime) -> Result<(), Fail> {
     let cells = [Cell::at(0, 0), Cell::at(1, 3), Cell::at(3, 0)];
     let differences = [Cell::at(0, 0), Cell::at(1, 3), Cell::at(2, -3)];
-    let told = deltas(rt.alloc(), &cells)?;
-    assert!(rt; told.as_slice() == differences.as_slice());
+    let reported = deltas(rt.alloc(), &cells)?;
+    assert!(rt; reported.as_slice() == differences.as_slice());
     match sums(rt.alloc(), &differences) {
         Ok(summed) => assert!(rt; summed.as_slice() == cells.as_slice()),
         Err(_) => assert!(rt; false),

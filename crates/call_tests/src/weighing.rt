@@ -56,7 +56,7 @@ fn a_neighbour_weighs_what_it_grows_to(rt: HostRuntime) {
 
 // Once the first is out nothing more is removed: the second, that would have 9, has at least as much as the first.
 #[test]
-fn a_weight_stands_for_those_behind(rt: HostRuntime) {
+fn a_weight_stands_for_those_after(rt: HostRuntime) {
     let line = [
         Position::at(0, 0),
         Position::at(ONE, ONE),
@@ -64,11 +64,11 @@ fn a_weight_stands_for_those_behind(rt: HostRuntime) {
         Position::at(3 * ONE, 0),
     ];
     let first = Weight::Area(1_000_000_000_000_000_000);
-    let told = match weights_until(rt.alloc(), &line, 1) {
+    let reported = match weights_until(rt.alloc(), &line, 1) {
         Ok(all) => all.as_slice() == [Weight::End, first, first, Weight::End].as_slice(),
         Err(_) => false,
     };
-    assert!(rt; told);
+    assert!(rt; reported);
 }
 
 // Both have twice an area of 2. Once the first is gone the second has none, and weighs as much as the first did.

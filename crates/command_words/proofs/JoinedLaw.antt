@@ -2,16 +2,16 @@
 use Rattle.std.proofs.Common.{◌≡◌, ◌∙◌, ◌++◌, ℕ, List, [], ◌∷◌, Bool, true, false, Option, Some, None, codes, decimal, map, refl, ap}
 use Rattle.clap.specs.Walk.{Text}
 use Rattle.command_words.specs.Asked.{Ordered, build, geo, order_of, simplify, stat}
-use Rattle.command_words.specs.Joined.{alone, behind, joined, joined_from}
+use Rattle.command_words.specs.Joined.{alone, following, joined, joined_from}
 use Rattle.command_words.specs.Written.{IsWritable, and_exact, and_grid, and_output, layer_word, level_apart, level_word, ring_area_apart, ring_area_word, written, written_apart}
 use Rattle.command_words.proofs.WrittenLaw.{asked_as_written}
 
-same_behind : (words : List Text) → joined_from behind words ≡ words
-same_behind [] = refl
-same_behind (word ∷ words) = ap (λ ws. word ∷ ws) (same_behind words)
+same_after : (words : List Text) → joined_from following words ≡ words
+same_after [] = refl
+same_after (word ∷ words) = ap (λ ws. word ∷ ws) (same_after words)
 
 same_rest : (words : List Text) → joined_from alone (codes "--" ∷ words) ≡ codes "--" ∷ words
-same_rest words = ap (λ ws. codes "--" ∷ ws) (same_behind words)
+same_rest words = ap (λ ws. codes "--" ∷ ws) (same_after words)
 
 same_exact : (exact : Bool) (words : List Text) → joined_from alone (and_exact exact (codes "--" ∷ words)) ≡ and_exact exact (codes "--" ∷ words)
 same_exact true words = ap (λ ws. codes "--exact" ∷ ws) (same_rest words)
@@ -54,8 +54,8 @@ joined_same (simplify area ring_area path, output) =
     let levels = level_word area None ∷ rings in
     ap (λ ws. codes "simplify" ∷ ws)
     (same_output output levels levels (same_level rings rings (same_ring_area rest rest (same_rest (path ∷ [])) ring_area) area None))
-joined_same (geo name path, output) = ap (λ ws. codes "geo" ∷ ws) (same_behind (and_output output ((codes "--object=" ++ name) ∷ codes "--" ∷ path ∷ [])))
-joined_same (stat path, output) = ap (λ ws. codes "stat" ∷ ws) (same_behind (and_output output (codes "--" ∷ path ∷ [])))
+joined_same (geo name path, output) = ap (λ ws. codes "geo" ∷ ws) (same_after (and_output output ((codes "--object=" ++ name) ∷ codes "--" ∷ path ∷ [])))
+joined_same (stat path, output) = ap (λ ws. codes "stat" ∷ ws) (same_after (and_output output (codes "--" ∷ path ∷ [])))
 
 joined_apart : (o : Ordered) → joined (written_apart o) ≡ written o
 joined_apart (build layers exact grid area keep ring_area, output) =

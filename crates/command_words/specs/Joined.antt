@@ -3,7 +3,7 @@ use Rattle.std.specs.Prelude.{Bool, List, [], ◌∷◌, ◌++◌, ◌||◌, cod
 use Rattle.std.specs.Str.{bytes_eq}
 use Rattle.clap.specs.Walk.{Text}
 use Rattle.command_words.specs.declared.joining.Next.{Next}
-use Rattle.command_words.specs.declared.joining.Next.TheVariants.{Command, Alone, ValueOf, Behind}
+use Rattle.command_words.specs.declared.joining.Next.TheVariants.{Command, Alone, ValueOf, Following}
 
 -- what a word is by those before it
 pub data Place : Type 0 where
@@ -14,7 +14,7 @@ pub data Place : Type 0 where
   -- the value of this option
   value_of : Text → Place
   -- a word that stays as it is, and so do those after it
-  behind : Place
+  following : Place
 
 -- the commands that have an option whose value may be any text
 abbrev pub has_text_option : Text → Bool
@@ -26,11 +26,11 @@ takes_text word = bytes_eq word (codes "--min-area") || (bytes_eq word (codes "-
 
 -- what a word becomes, and what the next one is
 abbrev pub word_joined : Place → Text → List Text × Place
-word_joined first word = (word ∷ [], if has_text_option word then alone else behind)
+word_joined first word = (word ∷ [], if has_text_option word then alone else following)
 word_joined alone word = if takes_text word then ([], value_of word)
-    else (word ∷ [], if bytes_eq word (codes "--") then behind else alone)
+    else (word ∷ [], if bytes_eq word (codes "--") then following else alone)
 word_joined (value_of option) word = ((option ++ (codes "=" ++ word)) ∷ [], alone)
-word_joined behind word = (word ∷ [], behind)
+word_joined following word = (word ∷ [], following)
 
 -- what is left where there is no word more
 abbrev pub ending : Place → List Text
@@ -48,4 +48,4 @@ abbrev pub place_of : Next → Place
 place_of Command = first
 place_of Alone = alone
 place_of (ValueOf option) = value_of option.now
-place_of Behind = behind
+place_of Following = following

@@ -18,7 +18,7 @@ pub(crate) enum Next<'a> {
     /// The value of this option.
     ValueOf(&'a str),
     /// A word that stays as it is, as those after it do: it stands after `--`, or the command has no option whose value may be any text.
-    Behind,
+    Following,
 }
 
 /// Whether this command has an option whose value may be any text.
@@ -61,7 +61,7 @@ fn join_word<'a>(
             if has_text_option(word) {
                 return Ok(Next::Alone);
             }
-            Ok(Next::Behind)
+            Ok(Next::Following)
         }
         Next::Alone => {
             if takes_text(word) {
@@ -69,7 +69,7 @@ fn join_word<'a>(
             }
             joined.push(String::from_str(alloc, word)?)?;
             if word == "--" {
-                return Ok(Next::Behind);
+                return Ok(Next::Following);
             }
             Ok(Next::Alone)
         }
@@ -77,9 +77,9 @@ fn join_word<'a>(
             joined.push(with_value(alloc, option, word)?)?;
             Ok(Next::Alone)
         }
-        Next::Behind => {
+        Next::Following => {
             joined.push(String::from_str(alloc, word)?)?;
-            Ok(Next::Behind)
+            Ok(Next::Following)
         }
     }
 }

@@ -1,17 +1,17 @@
 -- Two tests that agree on the positions of a line give the same start and the same pieces of it.
-use Rattle.list_laws.proofs.Elements.{all_drop, all_of, all_take, each_of}
+use Rattle.owned_values.proofs.Elements.{all_drop, all_of, all_take, each_of}
 use Rattle.std.proofs.Common.{◌≡◌, ℕ, ◌+◌, Bool, cond, List, [], ◌∷◌, take, drop, refl, ap, sym, ◌∙◌, subst, inl, inr, arith}
 use Rattle.std.specs.List.{filter}
 use Rattle.cutter.specs.Pieces.{joined, pieces_from, split_at, first_at, start_in, turned, from_start}
 use Rattle.cutter.specs.Places.{In}
-use Rattle.cutter.specs.Slices.{SplitStroke, split_by, EndsPass}
+use Rattle.cutter.specs.Slices.{SplitLine, split_by, EndsPass}
 use Rattle.geometry.specs.Order.{is_least}
 use Rattle.geometry.specs.Points.{Point}
 use Rattle.geometry.specs.declared.address.Address.{Address}
 use Rattle.junctions.specs.Visits.{last}
 use Rattle.junctions.specs.declared.stroke.Stroke.{Stroke}
 use Rattle.cutter.proofs.Starts.{line}
-use Rattle.list_laws.proofs.Members.{in_append}
+use Rattle.owned_values.proofs.Members.{in_append}
 
 in_drop : (k : ℕ) (x : Point) (ps : List Point) → In x (drop k ps) → In x ps
 in_drop k x ps h = each_of (λ y. In y ps) (drop k ps) x (all_drop (λ y. In y ps) k ps (all_of (λ y. In y ps) ps (λ y m. m))) h
@@ -27,7 +27,7 @@ pub in_start : (f : Point → Bool) (at : Address) (c : Bool) (ps : List Point) 
 in_start f at c ps x h = grind (arith, in_turned)
 
 -- a split line of its parts
-abbrev pub split : Address → Bool → List Point → List (List Point) → SplitStroke
+abbrev pub split : Address → Bool → List Point → List (List Point) → SplitLine
 split at c ps xs = record { stroke = line at c ps; pieces = xs }
 
 module _ (f g : Point → Bool) where

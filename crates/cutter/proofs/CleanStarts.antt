@@ -2,8 +2,8 @@
 use Rattle.std.proofs.Common.{◌≡◌, ℕ, ◌<◌, ◌≤◌, Bool, true, false, List, [], ◌∷◌, ◌++◌, length, map, refl, ap, sym, ◌∙◌, arith, inl, inr}
 use Rattle.cutter.specs.Pieces.{start_in, turned}
 use Rattle.cutter.specs.Places.{In}
-use Rattle.cutter.specs.Slices.{started, split_of, strokes}
-use Rattle.geometry.specs.Lists.{front_of}
+use Rattle.cutter.specs.Slices.{started, split_of, lines_and_rings}
+use Rattle.geometry.specs.Lists.{all_but_last_of}
 use Rattle.geometry.specs.Points.{Point}
 use Rattle.geometry.specs.declared.address.Address.{Address}
 use Rattle.junctions.specs.Cleaning.{Moves, IsCleanList, IsClean, AllClean}
@@ -11,7 +11,7 @@ use Rattle.junctions.specs.Cuts.{is_cut}
 use Rattle.junctions.specs.Visits.{last}
 use Rattle.junctions.specs.declared.stroke.Stroke.{Stroke}
 use Rattle.cutter.proofs.Joins.{turned_length}
-use Rattle.cutter.proofs.RingPieces.{moves_more, front_last, front_length, turned_is}
+use Rattle.cutter.proofs.RingPieces.{moves_more, all_but_last_last, all_but_last_length, turned_is}
 use Rattle.cutter.proofs.Starts.{ring_cut, start_cut, line}
 use Rattle.cutter.proofs.TurnedRings.{Goes, Good, turned_good}
 
@@ -35,10 +35,10 @@ clean_turned : (ls : List Stroke) (p q : Point) (ps : List Point) → last q ps 
 clean_turned ls p q ps e m k n =
     let more : Moves p (q ∷ (ps ++ (q ∷ []))) = moves_more ls p (q ∷ ps) q m (λ z. m.0 (sym e ∙ z)) in
     let good : Good Any ((p ∷ (q ∷ ps)) ++ (q ∷ [])) = goes_any p q (ps ++ (q ∷ [])) more in
-    let ended : p ∷ (q ∷ ps) ≡ front_of p (q ∷ ps) ++ (p ∷ []) = front_last p (q ∷ ps) ∙ ap (λ z. front_of p (q ∷ ps) ++ (z ∷ [])) e in
+    let ended : p ∷ (q ∷ ps) ≡ all_but_last_of p (q ∷ ps) ++ (p ∷ []) = all_but_last_last p (q ∷ ps) ∙ ap (λ z. all_but_last_of p (q ∷ ps) ++ (z ∷ [])) e in
     let t = turned_is p p q ps e k n in
     clean_of (turned k (p ∷ (q ∷ ps))) _ t.0 t.1 t.2 (omega (arith, turned_length k (p ∷ (q ∷ ps)) n))
-    (turned_good Any k p q ps (front_of p (q ∷ ps)) ended (omega (arith, n, front_length p (q ∷ ps))) good)
+    (turned_good Any k p q ps (all_but_last_of p (q ∷ ps)) ended (omega (arith, n, all_but_last_length p (q ∷ ps))) good)
 
 clean_start : (ls : List Stroke) (at : Address) (c : Bool) (ps : List Point) → In (line at c ps) ls → IsClean (line at c ps) → IsClean (started (is_cut ls) (line at c ps))
 clean_start ls at c [] k h = elim h [ ]
@@ -48,10 +48,10 @@ clean_start ls at true (p ∷ (q ∷ ps)) k h =
     let c = ring_cut ls at p (q ∷ ps) k in
     clean_turned ls p q ps (h.1 refl) h.0 (start_in (is_cut ls) (p ∷ (q ∷ ps))) (start_cut (is_cut ls) c.0 p (p ∷ (q ∷ ps)) c.1 c.2).0
 
-starts_from : (ls ms : List Stroke) → ((s : Stroke) → In s ms → In s ls) → AllClean ms → AllClean (strokes (map (split_of ls) ms))
+starts_from : (ls ms : List Stroke) → ((s : Stroke) → In s ms → In s ls) → AllClean ms → AllClean (lines_and_rings (map (split_of ls) ms))
 starts_from ls [] f h = tt
 starts_from ls (s ∷ ms) f h = (clean_start ls s.address s.closed s.positions (f s (inl refl)) h.0, starts_from ls ms (λ t k. f t (inr k)) h.1)
 
 -- the lines that are left of clean ones, each turned to its start, are clean
-pub clean_starts : (ls : List Stroke) → AllClean ls → AllClean (strokes (map (split_of ls) ls))
+pub clean_starts : (ls : List Stroke) → AllClean ls → AllClean (lines_and_rings (map (split_of ls) ls))
 clean_starts ls h = starts_from ls ls (λ s k. k) h

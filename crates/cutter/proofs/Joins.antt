@@ -1,8 +1,8 @@
 -- The pieces of lines, joined again, are the lines, and their segments occur as often.
 use Rattle.cutter.proofs.Structured.{clean_in}
-use Rattle.list_laws.proofs.Elements.{all_made}
+use Rattle.owned_values.proofs.Elements.{all_made}
 use Rattle.std.proofs.Common.{◌≡◌, ℕ, ◌+◌, ◌<◌, ◌≤◌, Bool, true, false, cond, List, [], ◌∷◌, ◌++◌, take, drop, length, map, refl, ap, sym, ◌∙◌, arith, add_comm, inl, inr}
-use Rattle.cutter.specs.Pieces.{joined, pieces_from, split_at, start_in, turned, from_start, pieces_of, pieces, rejoined}
+use Rattle.cutter.specs.Pieces.{joined, pieces_from, split_at, start_in, turned, from_start, pieces_of, pieces, stitched}
 use Rattle.cutter.specs.Places.{In}
 use Rattle.cutter.specs.Segments.{Segment, segments, segments_from, is_segment, line_segments, piece_segments, times}
 use Rattle.cutter.specs.Slices.{split_of, IsSplit, AllSplit, all_pieces}
@@ -26,23 +26,23 @@ BeginsAt p ((q ∷ ps) ∷ pieces) = q ≡ p
 joined_begins : (b : Bool) (p q : Point) (pieces : List (List Point)) → BeginsAt p (joined b p q pieces)
 joined_begins b p q pieces = grind arith
 
-joined_joins : (b : Bool) (p q : Point) (pieces : List (List Point)) → BeginsAt q pieces → rejoined (joined b p q pieces) ≡ p ∷ rejoined pieces
+joined_joins : (b : Bool) (p q : Point) (pieces : List (List Point)) → BeginsAt q pieces → stitched (joined b p q pieces) ≡ p ∷ stitched pieces
 joined_joins b p q pieces h = grind arith
 
-pub pieces_join : (cut : Point → Bool) (p q : Point) (ps : List Point) → rejoined (pieces_from cut p (q ∷ ps)) ≡ p ∷ (q ∷ ps)
+pub pieces_join : (cut : Point → Bool) (p q : Point) (ps : List Point) → stitched (pieces_from cut p (q ∷ ps)) ≡ p ∷ (q ∷ ps)
 pieces_join cut p q [] = grind arith
 pieces_join cut p q (r ∷ ps) = grind (arith, joined_joins, joined_begins, pieces_join cut q r ps)
 
 pub turned_length : (k : ℕ) (ps : List Point) → k < length ps → length (turned k ps) ≡ length ps
 turned_length k ps h = grind (arith, length-append, length-drop, length-take-le)
 
-pub split_joins : (cut : Point → Bool) (ps : List Point) → 2 ≤ length ps → rejoined (split_at cut ps) ≡ ps
+pub split_joins : (cut : Point → Bool) (ps : List Point) → 2 ≤ length ps → stitched (split_at cut ps) ≡ ps
 split_joins cut [] h = refl
 split_joins cut (p ∷ []) h = absurd (omega arith)
 split_joins cut (p ∷ (q ∷ ps)) h = pieces_join cut p q ps
 
 -- the pieces of a line, joined again, are the line from its start
-joins : (ls : List Stroke) (at : Address) (c : Bool) (ps : List Point) → In (line at c ps) ls → IsClean (line at c ps) → rejoined (pieces_of ls (line at c ps)) ≡ from_start (is_cut ls) (line at c ps)
+joins : (ls : List Stroke) (at : Address) (c : Bool) (ps : List Point) → In (line at c ps) ls → IsClean (line at c ps) → stitched (pieces_of ls (line at c ps)) ≡ from_start (is_cut ls) (line at c ps)
 joins ls at c [] k h = elim h [ ]
 joins ls at c (p ∷ []) k h = elim h [ ]
 joins ls at false (p ∷ (q ∷ ps)) k h = pieces_join (is_cut ls) p q ps
@@ -53,12 +53,12 @@ joins ls at true (p ∷ (q ∷ ps)) k h =
     split_joins (is_cut ls) (turned (start_in (is_cut ls) (p ∷ (q ∷ ps))) (p ∷ (q ∷ ps)))
     (omega (arith, turned_length (start_in (is_cut ls) (p ∷ (q ∷ ps))) (p ∷ (q ∷ ps)) n))
 
-pub stroke_split : (ls : List Stroke) (s : Stroke) → In s ls → IsClean s → IsSplit (split_of ls s)
-stroke_split ls s k h = grind (arith, joins, joins ls s.address s.closed s.positions k h, split_at_segments (is_cut ls) (from_start (is_cut ls) s))
+pub line_or_ring_split : (ls : List Stroke) (s : Stroke) → In s ls → IsClean s → IsSplit (split_of ls s)
+line_or_ring_split ls s k h = grind (arith, joins, joins ls s.address s.closed s.positions k h, split_at_segments (is_cut ls) (from_start (is_cut ls) s))
 
 -- each of the clean lines is split at its cut positions
 pub all_split : (ls : List Stroke) → AllClean ls → AllSplit (map (split_of ls) ls)
-all_split ls h = all_made IsSplit (split_of ls) ls (λ s k. stroke_split ls s k (clean_in s ls h k))
+all_split ls h = all_made IsSplit (split_of ls) ls (λ s k. line_or_ring_split ls s k (clean_in s ls h k))
 
 -- a segment occurs in two lists as often as in each of them together
 times_append : (a b : Point) (xs ys : List Segment) → times a b (xs ++ ys) ≡ times a b xs + times a b ys

@@ -5,7 +5,7 @@ use Rattle.std.specs.List.{flat_map}
 use Rattle.cutter.specs.Known.{AllKnown, IsReady}
 use Rattle.cutter.specs.Pieces.{start_in, from_start, pieces_of}
 use Rattle.cutter.specs.Places.{In, IsStructured}
-use Rattle.cutter.specs.Slices.{slices, indexes, SplitStroke, split_by, split_of, all_pieces, EndsPass}
+use Rattle.cutter.specs.Slices.{slices, indexes, SplitLine, split_by, split_of, all_pieces, EndsPass}
 use Rattle.geometry.specs.Points.{Point}
 use Rattle.geometry.specs.Rings.{same}
 use Rattle.geometry.specs.declared.address.Address.{Address}
@@ -21,15 +21,15 @@ use Rattle.cutter.proofs.SliceLaws.{slices_are}
 use Rattle.cutter.proofs.Starts.{ring_cut, start_cut, line}
 use Rattle.cutter.proofs.Structured.{clean_in, structured}
 use Rattle.std.proofs.Math.Bool.{or-true}
-use Rattle.list_laws.proofs.Members.{any_from_in}
+use Rattle.owned_values.proofs.Members.{any_from_in}
 
 -- the answers are those of the lines
 pub cuts_known : (ls : List Stroke) (v : Answers) → AnswersFor ls v → (s : Stroke) → In s ls → (x : Point) → In x s.positions → is_member v.cuts x ≡ is_cut ls x
 cuts_known ls v k s m x i = k.cuts x (k.points x ∙ any_from_in (λ t. is_member t.positions x) s ls m (any_from_in (same x) x s.positions i (same_self x)))
 
 -- the vertices of lines know each position of them
-pub stroke_known : (ls : List Stroke) (v : Answers) → AnswersFor ls v → (s : Stroke) → In s ls → AllKnown v.points s.positions
-stroke_known ls v k s m x i = k.points x ∙ any_from_in (λ t. is_member t.positions x) s ls m (any_from_in (same x) x s.positions i (same_self x))
+pub line_or_ring_known : (ls : List Stroke) (v : Answers) → AnswersFor ls v → (s : Stroke) → In s ls → AllKnown v.points s.positions
+line_or_ring_known ls v k s m x i = k.points x ∙ any_from_in (λ t. is_member t.positions x) s ls m (any_from_in (same x) x s.positions i (same_self x))
 
 -- they know the element of the list that is read
 pub known_at : (known ps : List Point) (i : ℕ) (x : Point) → AllKnown known ps → i < length ps → x ≡ get_or ps i x → is_member known x ≡ true
@@ -68,7 +68,7 @@ module _ (ls : List Stroke) (v : Answers) (known : AnswersFor ls v) (s : Stroke)
   -- the line can be split by the vertices ..
   pub ready : AllClean ls → IsReady v s
   ready clean = record {
-    known = stroke_known ls v known s m;
+    known = line_or_ring_known ls v known s m;
     starts = starts_known clean;
     ends = ends_agree (is_member v.cuts) (is_cut ls) s (cuts_known ls v known s m) (ends ls s.address s.closed s.positions m (clean_in s ls clean m));
   }
@@ -81,7 +81,7 @@ pub flat_split : (ls ms : List Stroke) → all_pieces (map (split_of ls) ms) ≡
 flat_split ls [] = refl
 flat_split ls (s ∷ ms) = ap (λ l. pieces_of ls s ++ l) (flat_split ls ms)
 
-pub structured_splits : (ls : List Stroke) (ss : List SplitStroke) → AllClean ls → ss ≡ map (split_of ls) ls → IsStructured (all_pieces ss)
+pub structured_splits : (ls : List Stroke) (ss : List SplitLine) → AllClean ls → ss ≡ map (split_of ls) ls → IsStructured (all_pieces ss)
 structured_splits ls ss clean e = subst (λ z. IsStructured z) (sym (ap all_pieces e ∙ flat_split ls ls)) (structured ls clean)
 
 -- a line from its start with its cut indexes is a split line

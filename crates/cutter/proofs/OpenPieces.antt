@@ -11,7 +11,7 @@ use Rattle.junctions.specs.Cuts.{is_cut}
 use Rattle.junctions.specs.Visits.{visits, visits_from, last, is_end}
 use Rattle.junctions.specs.declared.stroke.Stroke.{Stroke}
 pub use Rattle.junctions.proofs.Members.{in_flat}
-use Rattle.list_laws.proofs.Members.{any_from_in}
+use Rattle.owned_values.proofs.Members.{any_from_in}
 use Rattle.cutter.proofs.Junctions.{In, Via}
 use Rattle.cutter.proofs.Splits.{AllWalks}
 use Rattle.cutter.proofs.PieceLaws.{pieces_hold}

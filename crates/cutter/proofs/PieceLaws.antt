@@ -1,7 +1,7 @@
 -- Pieces of lines: sharing, and each place once.
 use Rattle.std.proofs.Common.{◌≡◌, ◌≢◌, true, List, [], ◌∷◌, reverse, refl, ap, sym, ◌∙◌, subst, inl, inr, length, ◌<◌, arith}
 use Rattle.cutter.specs.Pieces.{pieces_from}
-use Rattle.cutter.specs.Places.{Apart, front_of, interior as interior_of}
+use Rattle.cutter.specs.Places.{Apart, all_but_last_of, interior as interior_of}
 use Rattle.geometry.specs.Points.{Point}
 use Rattle.junctions.specs.Cleaning.{Moves}
 use Rattle.junctions.specs.Cuts.{is_cut}
@@ -59,12 +59,12 @@ pieces_hold ls a b ps h k m f = all_walks (is_cut ls) (Via ls) a b ps h (steps_o
 -- one that stands at another place than b differs from b, and so do those after it
 differs : (x : List Point) (once : (l : List Point) (a b c : Point) (r l' : List Point) (a' c' : Point) (r' : List Point) → At l a b (c ∷ r) x → At l' a' b (c' ∷ r') x → l ≡ l')
     (l0 : List Point) (a0 b c0 : Point) (r0 : List Point) → At l0 a0 b (c0 ∷ r0) x →
-    (l : List Point) (a y : Point) (r : List Point) → At l a y r x → length l0 < length l → AllByRecursion (λ z. b ≢ z) (front_of y r)
+    (l : List Point) (a y : Point) (r : List Point) → At l a y r x → length l0 < length l → AllByRecursion (λ z. b ≢ z) (all_but_last_of y r)
 differs x once l0 a0 b c0 r0 m l a y [] n h = tt
 differs x once l0 a0 b c0 r0 m l a y (z ∷ r) n h = grind (arith, once, later, differs x once l0 a0 b c0 r0 m (a ∷ l) y z r (later n) (omega arith))
 
 apart_at : (x : List Point) (once : (l : List Point) (a b c : Point) (r l' : List Point) (a' c' : Point) (r' : List Point) → At l a b (c ∷ r) x → At l' a' b (c' ∷ r') x → l ≡ l')
-    (l : List Point) (a b : Point) (r : List Point) → At l a b r x → Apart (front_of b r)
+    (l : List Point) (a b : Point) (r : List Point) → At l a b r x → Apart (all_but_last_of b r)
 apart_at x once l a b [] m = tt
 apart_at x once l a b (c ∷ r) m = (differs x once l a b c r m (a ∷ l) b c r (later m) (omega arith), apart_at x once (a ∷ l) b c r (later m))
 

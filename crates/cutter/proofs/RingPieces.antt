@@ -1,7 +1,7 @@
 -- The pieces of a ring.
 use Rattle.std.proofs.Common.{drop-cons, ◌≡◌, ◌≢◌, ℕ, zero, suc, ◌<◌, ◌≤◌, true, List, [], ◌∷◌, ◌++◌, take, drop, length, get_or, append-nil, refl, ap, sym, ◌∙◌, subst, arith, inl, inr}
 use Rattle.cutter.specs.Pieces.{pieces_of, split_at, turned, start_in}
-use Rattle.geometry.specs.Lists.{front_of}
+use Rattle.geometry.specs.Lists.{all_but_last_of}
 use Rattle.geometry.specs.Points.{Point}
 use Rattle.geometry.specs.declared.address.Address.{Address}
 use Rattle.junctions.specs.Cleaning.{Moves}
@@ -31,13 +31,13 @@ pub moves_more : (ls : List Stroke) (p : Point) (ps : List Point) (q : Point) �
 moves_more ls p [] q m n = (n, tt)
 moves_more ls p (r ∷ ps) q m n = (m.0, moves_more ls r ps q m.1 n)
 
-pub front_last : (p : Point) (ps : List Point) → p ∷ ps ≡ front_of p ps ++ (last p ps ∷ [])
-front_last p [] = refl
-front_last p (q ∷ ps) = ap (λ l. p ∷ l) (front_last q ps)
+pub all_but_last_last : (p : Point) (ps : List Point) → p ∷ ps ≡ all_but_last_of p ps ++ (last p ps ∷ [])
+all_but_last_last p [] = refl
+all_but_last_last p (q ∷ ps) = ap (λ l. p ∷ l) (all_but_last_last q ps)
 
-pub front_length : (p : Point) (ps : List Point) → length (front_of p ps) ≡ length ps
-front_length p [] = refl
-front_length p (q ∷ ps) = ap suc (front_length q ps)
+pub all_but_last_length : (p : Point) (ps : List Point) → length (all_but_last_of p ps) ≡ length ps
+all_but_last_length p [] = refl
+all_but_last_length p (q ∷ ps) = ap suc (all_but_last_length q ps)
 
 -- a list from the same cut position to it, all good, splits into walks
 split_good : (ls : List Stroke) (xs : List Point) (g : Point) → (ys : List Point) → xs ≡ g ∷ ys → Good (Via ls) xs → is_cut ls g ≡ true → is_cut ls (last g ys) ≡ true → AllWalks (is_cut ls) (Via ls) (split_at (is_cut ls) xs)
@@ -67,7 +67,7 @@ ring_pieces ls at p q ps k e m =
     let t = turned_is p p q ps e (start_in (is_cut ls) (p ∷ (q ∷ ps))) s.0 in
     let more : Moves p (q ∷ (ps ++ (q ∷ []))) = moves_more ls p (q ∷ ps) q m (λ z. m.0 (sym e ∙ z)) in
     let good : Good (Via ls) ((p ∷ (q ∷ ps)) ++ (q ∷ [])) = goes_from ls p q (ps ++ (q ∷ [])) (λ v h. in_flat visits (line at true (p ∷ (q ∷ ps))) v ls k h) more in
-    let ended : p ∷ (q ∷ ps) ≡ front_of p (q ∷ ps) ++ (p ∷ []) = front_last p (q ∷ ps) ∙ ap (λ z. front_of p (q ∷ ps) ++ (z ∷ [])) e in
+    let ended : p ∷ (q ∷ ps) ≡ all_but_last_of p (q ∷ ps) ++ (p ∷ []) = all_but_last_last p (q ∷ ps) ∙ ap (λ z. all_but_last_of p (q ∷ ps) ++ (z ∷ [])) e in
     split_good ls (turned (start_in (is_cut ls) (p ∷ (q ∷ ps))) (p ∷ (q ∷ ps))) (get_or (p ∷ (q ∷ ps)) (start_in (is_cut ls) (p ∷ (q ∷ ps))) p) t.0 t.1
-    (turned_good (Via ls) (start_in (is_cut ls) (p ∷ (q ∷ ps))) p q ps (front_of p (q ∷ ps)) ended (omega (arith, s.0, front_length p (q ∷ ps))) good)
+    (turned_good (Via ls) (start_in (is_cut ls) (p ∷ (q ∷ ps))) p q ps (all_but_last_of p (q ∷ ps)) ended (omega (arith, s.0, all_but_last_length p (q ∷ ps))) good)
     s.1 (ap (is_cut ls) t.2 ∙ s.1)

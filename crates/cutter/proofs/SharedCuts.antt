@@ -7,15 +7,15 @@ use Rattle.geometry.specs.Points.{Point}
 use Rattle.junctions.specs.declared.stroke.Stroke.{Stroke}
 use Rattle.junctions.specs.Cuts.{is_cut}
 use Rattle.cutter.specs.Pieces.{from_start}
-use Rattle.cutter.specs.SharedCuts.{AreCutIndexes, split_strokes}
-use Rattle.cutter.specs.Slices.{SplitStroke, slices, indexes, started, split_by, split_of, EndsPass, IsRising, piece_lists, strokes}
+use Rattle.cutter.specs.SharedCuts.{AreCutIndexes, split_lines_and_rings}
+use Rattle.cutter.specs.Slices.{SplitLine, slices, indexes, started, split_by, split_of, EndsPass, IsRising, piece_lists, lines_and_rings}
 use Rattle.cutter.proofs.Known.{split_view}
 use Rattle.cutter.proofs.SliceLaws.{indexes_rise}
 
-drop_front : (a : ℕ) (cuts more : List ℕ) → a ≤ length cuts → drop a (cuts ++ more) ≡ drop a cuts ++ more
-drop_front zero cuts more h = refl
-drop_front (suc a) [] more h = absurd (omega arith)
-drop_front (suc a) (c ∷ cuts) more h = drop_front a cuts more (omega arith)
+drop_all_but_last : (a : ℕ) (cuts more : List ℕ) → a ≤ length cuts → drop a (cuts ++ more) ≡ drop a cuts ++ more
+drop_all_but_last zero cuts more h = refl
+drop_all_but_last (suc a) [] more h = absurd (omega arith)
+drop_all_but_last (suc a) (c ∷ cuts) more h = drop_all_but_last a cuts more (omega arith)
 
 drop_whole : (cuts more : List ℕ) → drop (length cuts) (cuts ++ more) ≡ more
 drop_whole [] more = refl
@@ -26,10 +26,10 @@ take_whole [] = refl
 take_whole (c ∷ more) = ap (λ l. c ∷ l) (take_whole more)
 
 -- the indexes of a line stay the same when more are added after them
-range_front : (cuts more : List ℕ) (a b : ℕ) → a ≤ b → b ≤ length cuts → slice_range (cuts ++ more) a b ≡ slice_range cuts a b
-range_front cuts more a b h k =
+range_all_but_last : (cuts more : List ℕ) (a b : ℕ) → a ≤ b → b ≤ length cuts → slice_range (cuts ++ more) a b ≡ slice_range cuts a b
+range_all_but_last cuts more a b h k =
     let n : b - a ≤ length (drop a cuts) = omega (arith, length-drop a cuts) in
-    ap (take (b - a)) (drop_front a cuts more (omega arith)) ∙ take-append-le (b - a) (drop a cuts) more n
+    ap (take (b - a)) (drop_all_but_last a cuts more (omega arith)) ∙ take-append-le (b - a) (drop a cuts) more n
 
 -- the indexes that were added
 range_back : (cuts more : List ℕ) (a : ℕ) → a ≡ length cuts → slice_range (cuts ++ more) a (length (cuts ++ more)) ≡ more
@@ -43,17 +43,17 @@ abbrev pub no_line : Stroke
 no_line = record { address = record { layer = 0; feature = 0; path = [] }; closed = false; positions = [] }
 
 -- a line with the pieces between these indexes
-abbrev pub with_pieces : Stroke → List ℕ → SplitStroke
+abbrev pub with_pieces : Stroke → List ℕ → SplitLine
 with_pieces s is = record { stroke = s; pieces = slices s.positions is }
 
 -- the pieces with one line more
 pub split_more : (cuts more : List ℕ) (from : ℕ) (ss : List Stroke) (es : List ℕ) (s : Stroke) → AreCutIndexes cuts from ss es →
-    split_strokes (cuts ++ more) from (ss ++ (s ∷ [])) (es ++ (length (cuts ++ more) ∷ [])) ≡ split_strokes cuts from ss es ++ (with_pieces s more ∷ [])
+    split_lines_and_rings (cuts ++ more) from (ss ++ (s ∷ [])) (es ++ (length (cuts ++ more) ∷ [])) ≡ split_lines_and_rings cuts from ss es ++ (with_pieces s more ∷ [])
 split_more cuts more from [] [] s h = ap (λ is. with_pieces s is ∷ []) (range_back cuts more from h)
 split_more cuts more from [] (e ∷ es) s h = elim h [ ]
 split_more cuts more from (t ∷ ss) [] s h = elim h [ ]
 split_more cuts more from (t ∷ ss) (e ∷ es) s h =
-    ap (λ is. with_pieces t is ∷ split_strokes (cuts ++ more) e (ss ++ (s ∷ [])) (es ++ (length (cuts ++ more) ∷ []))) (range_front cuts more from e h.0 h.1)
+    ap (λ is. with_pieces t is ∷ split_lines_and_rings (cuts ++ more) e (ss ++ (s ∷ [])) (es ++ (length (cuts ++ more) ∷ []))) (range_all_but_last cuts more from e h.0 h.1)
     ∙ ap (λ l. with_pieces t (slice_range cuts from e) ∷ l) (split_more cuts more e ss es s h.3)
 
 pub indexes_more : (cuts more : List ℕ) (from : ℕ) (ss : List Stroke) (es : List ℕ) (s : Stroke) → AreCutIndexes cuts from ss es → IsRising (length s.positions) more →
@@ -63,16 +63,16 @@ indexes_more cuts more from [] [] s h r =
 indexes_more cuts more from [] (e ∷ es) s h r = elim h [ ]
 indexes_more cuts more from (t ∷ ss) [] s h r = elim h [ ]
 indexes_more cuts more from (t ∷ ss) (e ∷ es) s h r =
-    (h.0, omega (arith, h.1, length-append cuts more), subst (IsRising (length t.positions)) (sym (range_front cuts more from e h.0 h.1)) h.2, indexes_more cuts more e ss es s h.3 r)
+    (h.0, omega (arith, h.1, length-append cuts more), subst (IsRising (length t.positions)) (sym (range_all_but_last cuts more from e h.0 h.1)) h.2, indexes_more cuts more e ss es s h.3 r)
 
 -- the lines that are split are those lines
-pub strokes_of : (cuts : List ℕ) (from : ℕ) (ss : List Stroke) (es : List ℕ) → AreCutIndexes cuts from ss es → strokes (split_strokes cuts from ss es) ≡ ss
-strokes_of cuts from [] [] h = refl
-strokes_of cuts from [] (e ∷ es) h = elim h [ ]
-strokes_of cuts from (s ∷ ss) [] h = elim h [ ]
-strokes_of cuts from (s ∷ ss) (e ∷ es) h = ap (λ l. s ∷ l) (strokes_of cuts e ss es h.3)
+pub lines_and_rings_of : (cuts : List ℕ) (from : ℕ) (ss : List Stroke) (es : List ℕ) → AreCutIndexes cuts from ss es → lines_and_rings (split_lines_and_rings cuts from ss es) ≡ ss
+lines_and_rings_of cuts from [] [] h = refl
+lines_and_rings_of cuts from [] (e ∷ es) h = elim h [ ]
+lines_and_rings_of cuts from (s ∷ ss) [] h = elim h [ ]
+lines_and_rings_of cuts from (s ∷ ss) (e ∷ es) h = ap (λ l. s ∷ l) (lines_and_rings_of cuts e ss es h.3)
 
-pub as_many_splits : (cuts : List ℕ) (from : ℕ) (ss : List Stroke) (es : List ℕ) → AreCutIndexes cuts from ss es → length (split_strokes cuts from ss es) ≡ length ss
+pub as_many_splits : (cuts : List ℕ) (from : ℕ) (ss : List Stroke) (es : List ℕ) → AreCutIndexes cuts from ss es → length (split_lines_and_rings cuts from ss es) ≡ length ss
 as_many_splits cuts from [] [] h = refl
 as_many_splits cuts from [] (e ∷ es) h = elim h [ ]
 as_many_splits cuts from (s ∷ ss) [] h = elim h [ ]
@@ -84,7 +84,7 @@ pub record AtLine (cuts : List ℕ) (from : ℕ) (ss : List Stroke) (es : List �
   pub order : get_or (from ∷ es) i 0 ≤ get_or es i 0
   pub within : get_or es i 0 ≤ length cuts
   pub rising : IsRising (length (get_or ss i d).positions) (slice_range cuts (get_or (from ∷ es) i 0) (get_or es i 0))
-  pub pieces : slice_get (piece_lists (split_strokes cuts from ss es)) i ≡ Some (slices (get_or ss i d).positions (slice_range cuts (get_or (from ∷ es) i 0) (get_or es i 0)))
+  pub pieces : slice_get (piece_lists (split_lines_and_rings cuts from ss es)) i ≡ Some (slices (get_or ss i d).positions (slice_range cuts (get_or (from ∷ es) i 0) (get_or es i 0)))
 
 pub at_line : (cuts : List ℕ) (from : ℕ) (ss : List Stroke) (es : List ℕ) (i : ℕ) (d : Stroke) → AreCutIndexes cuts from ss es → i < length ss → AtLine cuts from ss es i d
 at_line cuts from [] es i d h k = absurd (omega arith)
@@ -101,7 +101,7 @@ at_line cuts from (s ∷ ss) (e ∷ es) (suc i) d h k =
     record { ends = ap suc r.ends; order = r.order; within = r.within; rising = r.rising; pieces = r.pieces }
 
 -- the line has an end
-pub has_end : (cuts : List ℕ) (ss : List Stroke) (es : List ℕ) (all : List SplitStroke) (ns : List ℕ) (i : ℕ) → split_strokes cuts 0 ss es ≡ all → AreCutIndexes cuts 0 ss es →
+pub has_end : (cuts : List ℕ) (ss : List Stroke) (es : List ℕ) (all : List SplitLine) (ns : List ℕ) (i : ℕ) → split_lines_and_rings cuts 0 ss es ≡ all → AreCutIndexes cuts 0 ss es →
     i < length all → ns ≡ es → i < length ns
 has_end cuts ss es all ns i view h k en =
     let many : length all ≡ length ss = sym (ap length view) ∙ as_many_splits cuts 0 ss es h in
@@ -109,14 +109,14 @@ has_end cuts ss es all ns i view h k en =
     omega (arith, r.ends, ap length en)
 
 -- the indexes between these places are those of the line
-pub record IsOwn (all : List SplitStroke) (ss : List Stroke) (cs : List ℕ) (first end i : ℕ) : Type 0 where
+pub record IsOwn (all : List SplitLine) (ss : List Stroke) (cs : List ℕ) (first end i : ℕ) : Type 0 where
   pub line : i < length ss
   pub order : first ≤ end
   pub within : end ≤ length cs
   pub rising : (d : Stroke) → IsRising (length (get_or ss i d).positions) (slice_range cs first end)
   pub pieces : (d : Stroke) → slice_get (piece_lists all) i ≡ Some (slices (get_or ss i d).positions (slice_range cs first end))
 
-pub own_cuts : (cuts : List ℕ) (ss : List Stroke) (es : List ℕ) (all : List SplitStroke) (cs ns : List ℕ) (i first : ℕ) → split_strokes cuts 0 ss es ≡ all → AreCutIndexes cuts 0 ss es →
+pub own_cuts : (cuts : List ℕ) (ss : List Stroke) (es : List ℕ) (all : List SplitLine) (cs ns : List ℕ) (i first : ℕ) → split_lines_and_rings cuts 0 ss es ≡ all → AreCutIndexes cuts 0 ss es →
     i < length all → cs ≡ cuts → ns ≡ es → first ≡ get_or (0 ∷ ns) i 0 → IsOwn all ss cs first (get_or ns i 0) i
 own_cuts cuts ss es all cs ns i first view h k ec en ef =
     let many : length all ≡ length ss = sym (ap length view) ∙ as_many_splits cuts 0 ss es h in
@@ -140,7 +140,7 @@ started_before ls i = map (started (is_cut ls)) (take i ls)
 -- the lines before this place are split at the cut indexes
 pub record AreSplit (ls : List Stroke) (i : ℕ) (cuts ends : List ℕ) : Type 0 where
   pub within : AreCutIndexes cuts 0 (started_before ls i) ends
-  pub split : split_strokes cuts 0 (started_before ls i) ends ≡ map (split_of ls) (take i ls)
+  pub split : split_lines_and_rings cuts 0 (started_before ls i) ends ≡ map (split_of ls) (take i ls)
 
 map_more : {Y : Type 0} (f : Stroke → Y) (ls : List Stroke) (i : ℕ) (s : Stroke) → i < length ls → s ≡ get_or ls i s → map f (take (i + 1) ls) ≡ map f (take i ls) ++ (f s ∷ [])
 map_more f ls i s h e = ap (map f) (take_more ls i s h ∙ ap (λ z. take i ls ++ (z ∷ [])) (sym e)) ∙ map-append f (take i ls) (s ∷ [])
@@ -156,7 +156,7 @@ line_more ls i s t cut cuts new ends h e st by pass en so =
     let one : with_pieces t more ≡ split_of ls s = split_view cut s t more st refl pass ∙ by in
     subst (λ n. AreSplit ls (i + 1) n (ends ++ (length n ∷ []))) (sym en) (record {
       within = subst (λ l. AreCutIndexes (cuts ++ more) 0 l (ends ++ (length (cuts ++ more) ∷ []))) (sym lines) (indexes_more cuts more 0 (started_before ls i) ends t so.within rise);
-      split = ap (λ l. split_strokes (cuts ++ more) 0 l (ends ++ (length (cuts ++ more) ∷ []))) lines
+      split = ap (λ l. split_lines_and_rings (cuts ++ more) 0 l (ends ++ (length (cuts ++ more) ∷ []))) lines
           ∙ split_more cuts more 0 (started_before ls i) ends t so.within
           ∙ ap (λ l. l ++ (with_pieces t more ∷ [])) so.split
           ∙ ap (λ z. map (split_of ls) (take i ls) ++ (z ∷ [])) one
@@ -172,10 +172,10 @@ next_line ls ss i s h so e =
 
 -- all lines are split
 pub all_lines : (ls ss : List Stroke) (i : ℕ) (cuts es : List ℕ) → length ls ≤ i → Replaced (started (is_cut ls)) ls i ss → AreSplit ls i cuts es →
-    AreCutIndexes cuts 0 ss es × (split_strokes cuts 0 ss es ≡ map (split_of ls) ls)
+    AreCutIndexes cuts 0 ss es × (split_lines_and_rings cuts 0 ss es ≡ map (split_of ls) ls)
 all_lines ls ss i cuts es h so split =
     let whole : take i ls ≡ ls = take_all i ls h in
     let lines : started_before ls i ≡ ss = ap (map (started (is_cut ls))) whole ∙ sym (ends (started (is_cut ls)) ls i ss h so) in (
       subst (λ l. AreCutIndexes cuts 0 l es) lines split.within,
-      ap (λ l. split_strokes cuts 0 l es) (sym lines) ∙ split.split ∙ ap (map (split_of ls)) whole,
+      ap (λ l. split_lines_and_rings cuts 0 l es) (sym lines) ∙ split.split ∙ ap (map (split_of ls)) whole,
     )

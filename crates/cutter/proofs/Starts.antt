@@ -13,7 +13,7 @@ use Rattle.junctions.specs.Visits.{is_junction}
 use Rattle.junctions.specs.declared.stroke.Stroke.{Stroke}
 use Rattle.junctions.proofs.Members.{in_filter, from_filter}
 use Rattle.cutter.proofs.Junctions.{In}
-use Rattle.list_laws.proofs.Members.{any_from_in}
+use Rattle.owned_values.proofs.Members.{any_from_in}
 
 least_in : (p : Point) (qs : List Point) → In (least_of p qs) (p ∷ qs)
 least_in p [] = inl refl

@@ -14,22 +14,22 @@ use Rattle.cutter.proofs.Splits.{IsWalk, AllWalks}
 use Rattle.cutter.proofs.PieceLaws.{IsPieceOf, one_way, two_ways, once, not_back, interior_apart}
 use Rattle.cutter.proofs.OpenPieces.{open_pieces}
 use Rattle.cutter.proofs.RingPieces.{ring_pieces}
-use Rattle.list_laws.proofs.Elements.{each_of}
+use Rattle.owned_values.proofs.Elements.{each_of}
 
 pub clean_in : (s : Stroke) (ss : List Stroke) → AllClean ss → In s ss → IsClean s
 clean_in s [] h k = elim k [ ]
 clean_in s (t ∷ ts) h (inl e) = subst (λ z. IsClean z) (sym e) h.0
 clean_in s (t ∷ ts) h (inr k) = clean_in s ts h.1 k
 
-stroke_walks : (ls : List Stroke) (at : Address) (closed : Bool) (ps : List Point) → In (line at closed ps) ls → IsClean (line at closed ps) →
+line_or_ring_walks : (ls : List Stroke) (at : Address) (closed : Bool) (ps : List Point) → In (line at closed ps) ls → IsClean (line at closed ps) →
     AllWalks (is_cut ls) (Via ls) (pieces_of ls (line at closed ps))
-stroke_walks ls at closed ps h k = grind (arith, ring_pieces, open_pieces)
+line_or_ring_walks ls at closed ps h k = grind (arith, ring_pieces, open_pieces)
 
 -- each piece of the lines is a walk from cut to cut
 pub piece_of : (ls : List Stroke) → AllClean ls → (x : List Point) → In x (pieces ls) → IsPieceOf ls x
 piece_of ls clean x k =
     let r = from_flat (pieces_of ls) x ls k in
-    each_of (IsWalk (is_cut ls) (Via ls)) (pieces_of ls r.0) x (stroke_walks ls r.0.address r.0.closed r.0.positions r.1 (clean_in r.0 ls clean r.1)) r.2
+    each_of (IsWalk (is_cut ls) (Via ls)) (pieces_of ls r.0) x (line_or_ring_walks ls r.0.address r.0.closed r.0.positions r.1 (clean_in r.0 ls clean r.1)) r.2
 
 two_or_more : (ls : List Stroke) (x : List Point) → IsPieceOf ls x → 2 ≤ length x
 two_or_more ls x h = subst (λ l. 2 ≤ length l) (sym h.is) (omega arith)

@@ -53,10 +53,10 @@ module _ (Via : Point → Point → Point → Type 0) where
       let n : suc j + 1 ≡ suc (suc j) = omega arith in
       let whole : (a ∷ (b ∷ ws)) ++ (b ∷ []) ≡ xs ++ (a ∷ (b ∷ [])) = ap (λ zs. zs ++ (b ∷ [])) e ∙ append_assoc xs (a ∷ []) (b ∷ []) in
       let back : Good (drop (suc j) xs ++ (a ∷ (b ∷ []))) = subst (λ zs. Good zs) (drop-append-le (suc j) xs (a ∷ (b ∷ [])) l) (good_drop (suc j) (xs ++ (a ∷ (b ∷ []))) (subst (λ zs. Good zs) whole h)) in
-      let front : Goes a b (take j ws) = goes_take a b j ws (good_left (a ∷ (b ∷ ws)) (b ∷ []) h) in
+      let all_but_last : Goes a b (take j ws) = goes_take a b j ws (good_left (a ∷ (b ∷ ws)) (b ∷ []) h) in
       let shape : turned (suc j) (a ∷ (b ∷ ws)) ≡ drop (suc j) xs ++ (a ∷ (b ∷ take j ws)) =
       ap (λ m. drop (suc j) (a ∷ (b ∷ ws)) ++ drop 1 (take m (a ∷ (b ∷ ws)))) n
       ∙ ap (λ zs. drop (suc j) zs ++ (b ∷ take j ws)) e
       ∙ ap (λ zs. zs ++ (b ∷ take j ws)) (drop-append-le (suc j) xs (a ∷ []) l)
       ∙ append_assoc (drop (suc j) xs) (a ∷ []) (b ∷ take j ws) in
-      subst (λ zs. Good zs) (sym shape) (good_on (drop (suc j) xs) a b (take j ws) back front)
+      subst (λ zs. Good zs) (sym shape) (good_on (drop (suc j) xs) a b (take j ws) back all_but_last)

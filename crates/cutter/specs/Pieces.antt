@@ -54,6 +54,6 @@ but_first [] = []
 but_first (p ∷ ps) = ps
 
 -- the first piece, then each later one without its first position
-abbrev pub rejoined : List (List Point) → List Point
-rejoined [] = []
-rejoined (piece ∷ pieces) = piece ++ flat_map but_first pieces
+abbrev pub stitched : List (List Point) → List Point
+stitched [] = []
+stitched (piece ∷ pieces) = piece ++ flat_map but_first pieces

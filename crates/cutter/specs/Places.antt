@@ -1,7 +1,7 @@
 -- Where segments and positions stand in pieces, and what the pieces of lines keep.
 use Rattle.std.specs.Prelude.{◌≡◌, ◌≤◌, List, [], ◌∷◌, length, reverse}
 use Rattle.geometry.specs.Points.{Point}
-pub use Rattle.geometry.specs.Lists.{tail, front_of, front, interior, Apart}
+pub use Rattle.geometry.specs.Lists.{tail, all_but_last_of, all_but_last, interior, Apart}
 pub use Rattle.junctions.specs.Among.{In}
 
 -- the piece has the segment from a to b, with the positions l before it, backwards, and r after it

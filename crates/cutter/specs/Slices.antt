@@ -6,7 +6,7 @@ use Rattle.geometry.specs.Points.{Point}
 use Rattle.junctions.specs.Cuts.{is_cut}
 use Rattle.junctions.specs.Visits.{last}
 use Rattle.junctions.specs.declared.stroke.Stroke.{Stroke}
-use Rattle.cutter.specs.Pieces.{from_start, split_at, rejoined}
+use Rattle.cutter.specs.Pieces.{from_start, split_at, stitched}
 use Rattle.cutter.specs.Segments.{segments, piece_segments}
 
 -- the indexes of the positions that pass the test, where the first position has the index i
@@ -27,7 +27,7 @@ IsRising n (i ∷ []) = i < n
 IsRising n (i ∷ (j ∷ js)) = (i < j) × IsRising n (j ∷ js)
 
 -- a line, a ring from its start, and its pieces
-pub record SplitStroke : Type 0 where
+pub record SplitLine : Type 0 where
   pub stroke : Stroke
   pub pieces : List (List Point)
 
@@ -36,32 +36,32 @@ abbrev pub started : (Point → Bool) → Stroke → Stroke
 started cut s = record { address = s.address; closed = s.closed; positions = from_start cut s }
 
 -- the line, split at the positions that pass
-abbrev pub split_by : (Point → Bool) → Stroke → SplitStroke
+abbrev pub split_by : (Point → Bool) → Stroke → SplitLine
 split_by cut s = record { stroke = started cut s; pieces = split_at cut (from_start cut s) }
 
 -- one of the lines, split at their cut positions
-abbrev pub split_of : List Stroke → Stroke → SplitStroke
+abbrev pub split_of : List Stroke → Stroke → SplitLine
 split_of ls s = split_by (is_cut ls) s
 
 -- the lines, rings from their starts
-abbrev pub strokes : List SplitStroke → List Stroke
-strokes ss = map (λ s. s.stroke) ss
+abbrev pub lines_and_rings : List SplitLine → List Stroke
+lines_and_rings ss = map (λ s. s.stroke) ss
 
 -- the pieces of each line
-abbrev pub piece_lists : List SplitStroke → List (List (List Point))
+abbrev pub piece_lists : List SplitLine → List (List (List Point))
 piece_lists ss = map (λ s. s.pieces) ss
 
 -- the pieces of all lines
-abbrev pub all_pieces : List SplitStroke → List (List Point)
+abbrev pub all_pieces : List SplitLine → List (List Point)
 all_pieces ss = flat_map (λ s. s.pieces) ss
 
 -- the pieces, joined again, are the line, and their segments are its segments, in the same order
-pub record IsSplit (s : SplitStroke) : Type 0 where
-  pub joins : rejoined s.pieces ≡ s.stroke.positions
+pub record IsSplit (s : SplitLine) : Type 0 where
+  pub joins : stitched s.pieces ≡ s.stroke.positions
   pub segments : piece_segments s.pieces ≡ segments s.stroke.positions
 
 -- the pieces of each line, joined again, are the line, and their segments are its segments
-abbrev pub AllSplit : List SplitStroke → Type 0
+abbrev pub AllSplit : List SplitLine → Type 0
 AllSplit ss = AllByRecursion IsSplit ss
 
 -- the least position, if there is one

@@ -5,11 +5,11 @@ ghost use Rattle.junctions.specs.Answers.{AnswersFor};
 ghost use Rattle.junctions.specs.Cleaning.{AllClean};
 ghost use Rattle.cutter.specs.Places.{IsStructured};
 ghost use Rattle.cutter.specs.Segments.{line_segments, piece_segments, times};
-ghost use Rattle.cutter.specs.Slices.{AllSplit, all_pieces, piece_lists, split_of, strokes};
+ghost use Rattle.cutter.specs.Slices.{AllSplit, all_pieces, piece_lists, split_of, lines_and_rings};
 ghost use Rattle.cutter.specs.Structure.{SharersAreAlike, SegmentsAreOnce, InteriorsAreDistinct, PiecesAreLong};
 
 use crate::piece_iter::PieceIter;
-use crate::splitting::split_stroke;
+use crate::splitting::split_line;
 use junctions::{Lines, Stroke, Vertices};
 use owned_values::Memory;
 use std::alloc::Global;
@@ -20,7 +20,7 @@ use std::marker::Model;
 /// or more. The pieces of a line, joined again, are the line, whose neighbours differ; a ring ends with its first position.
 #[derive(Debug, Drop)]
 pub struct Pieces {
-    strokes: Vec<Stroke>,
+    lines_and_rings: Vec<Stroke>,
     /// The indexes at which the lines are cut, line after line.
     cuts: Vec<usize>,
     /// For each line, how many of the indexes are its own or those of lines before it.
@@ -30,40 +30,40 @@ pub struct Pieces {
 impl Model for Pieces {
     ghost use Rattle.std.specs.Prelude.{List};
     ghost use Rattle.cutter.specs.Places.{IsStructured};
-    ghost use Rattle.cutter.specs.Slices.{SplitStroke, AllSplit, all_pieces, strokes as strokes_of};
-    ghost use Rattle.cutter.specs.SharedCuts.{AreCutIndexes, split_strokes};
+    ghost use Rattle.cutter.specs.Slices.{SplitLine, AllSplit, all_pieces, lines_and_rings as lines_and_rings_of};
+    ghost use Rattle.cutter.specs.SharedCuts.{AreCutIndexes, split_lines_and_rings};
     ghost use Rattle.junctions.specs.Cleaning.{AllClean};
 
-    ghost Value = { List SplitStroke };
+    ghost Value = { List SplitLine };
 
-    ghost view = { λ s. split_strokes s.cuts.items 0 s.strokes.items s.ends.items };
+    ghost view = { λ s. split_lines_and_rings s.cuts.items 0 s.lines_and_rings.items s.ends.items };
 
-    ghost invariant = { λ s. AreCutIndexes s.cuts.items 0 s.strokes.items s.ends.items
-        × IsStructured (all_pieces (split_strokes s.cuts.items 0 s.strokes.items s.ends.items))
-        × AllSplit (split_strokes s.cuts.items 0 s.strokes.items s.ends.items)
-        × AllClean (strokes_of (split_strokes s.cuts.items 0 s.strokes.items s.ends.items)) };
+    ghost invariant = { λ s. AreCutIndexes s.cuts.items 0 s.lines_and_rings.items s.ends.items
+        × IsStructured (all_pieces (split_lines_and_rings s.cuts.items 0 s.lines_and_rings.items s.ends.items))
+        × AllSplit (split_lines_and_rings s.cuts.items 0 s.lines_and_rings.items s.ends.items)
+        × AllClean (lines_and_rings_of (split_lines_and_rings s.cuts.items 0 s.lines_and_rings.items s.ends.items)) };
 }
 
 /// The lines, each split at its cut positions, which both pieces keep; a ring is first turned to its start. What was left
 /// out of the lines isn't kept.
 pub fn cut(alloc: Global, lines: Lines, vertices: &Vertices) -> Result<Pieces, Memory>
-    requires { AnswersFor lines.strokes vertices.now }
-    ensures pieces { IfOk result (λ ps. ps ≡ map (split_of lines.strokes) lines.strokes) }
+    requires { AnswersFor lines.lines_and_rings vertices.now }
+    ensures pieces { IfOk result (λ ps. ps ≡ map (split_of lines.lines_and_rings) lines.lines_and_rings) }
     ensures segments { IfOk result
-        (λ ps. (a b : Point) → times a b (piece_segments (all_pieces ps)) ≡ times a b (line_segments lines.strokes)) }
+        (λ ps. (a b : Point) → times a b (piece_segments (all_pieces ps)) ≡ times a b (line_segments lines.lines_and_rings)) }
 {
-    let (mut strokes, _dropped) = lines.into_parts();
+    let (mut lines_and_rings, _dropped) = lines.into_parts();
     // Each line is cut at its two ends. Where there are more cuts the list grows.
-    let mut cuts = Vec::with_capacity(alloc, strokes.len().saturating_mul(2))?;
-    let mut ends = Vec::with_capacity(alloc, strokes.len())?;
+    let mut cuts = Vec::with_capacity(alloc, lines_and_rings.len().saturating_mul(2))?;
+    let mut ends = Vec::with_capacity(alloc, lines_and_rings.len())?;
     let mut visit: usize = 0;
-    for i in 0..strokes.len() {
-        split_stroke(&mut strokes[i], visit, vertices, &mut cuts)?;
+    for i in 0..lines_and_rings.len() {
+        split_line(&mut lines_and_rings[i], visit, vertices, &mut cuts)?;
         ends.push(cuts.len())?;
-        visit = visit.wrapping_add(strokes[i].positions.len());
+        visit = visit.wrapping_add(lines_and_rings[i].positions.len());
     }
     Ok(Pieces {
-        strokes,
+        lines_and_rings,
         cuts,
         ends,
     })
@@ -74,15 +74,15 @@ impl Pieces {
     pub fn len(&self) -> usize
         ensures { result ≡ length self.now }
     {
-        self.strokes.len()
+        self.lines_and_rings.len()
     }
 
     /// The line with this number, a ring turned to its start.
     pub fn stroke(&self, i: usize) -> &Stroke
         requires { i < length self.now }
-        ensures { slice_get (strokes self.now) i ≡ Some result.now }
+        ensures { slice_get (lines_and_rings self.now) i ≡ Some result.now }
     {
-        &self.strokes[i]
+        &self.lines_and_rings[i]
     }
 
     /// How many pieces there are; it is only how much room is made for them.
@@ -98,7 +98,7 @@ impl Pieces {
         let cuts = self.cuts.as_slice();
         let ends = self.ends.as_slice();
         let own = &cuts[begin_of(ends, i)..ends[i]];
-        PieceIter::over(self.strokes[i].positions.as_slice(), own)
+        PieceIter::over(self.lines_and_rings[i].positions.as_slice(), own)
     }
 
     /// What the pieces of lines have in common. A call does nothing; its contract is what `Pieces` keeps.
@@ -109,9 +109,9 @@ impl Pieces {
         ensures distinct { InteriorsAreDistinct (all_pieces self.now) }
         ensures long { PiecesAreLong (all_pieces self.now) }
         ensures joined { AllSplit self.now }
-        ensures clean { AllClean (strokes self.now) }
+        ensures clean { AllClean (lines_and_rings self.now) }
     {
-        let _ = &self.strokes;
+        let _ = &self.lines_and_rings;
     }
 }
 

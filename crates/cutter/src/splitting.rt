@@ -12,7 +12,7 @@ use owned_values::Memory;
 
 /// Splits the line whose first visit has this number: a ring is turned so that it begins at its start, and the indexes at which the line is
 /// cut are added after those of other lines.
-pub fn split_stroke(
+pub fn split_line(
     stroke: &mut Stroke,
     visit: usize,
     vertices: &Vertices,

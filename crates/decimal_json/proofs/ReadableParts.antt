@@ -11,7 +11,7 @@ use Rattle.json_value.specs.WellFormed.{texts_of, HasTexts}
 use Rattle.json_value.proofs.Depths.{depth-null, depth-bool, depth-number, depth-text, depth-array, depth-object}
 use Rattle.json_value.proofs.NumbersOf.{all_flat, numbers-null, numbers-bool, numbers-number, numbers-text, numbers-array, numbers-object}
 use Rattle.json_value.proofs.TextsOf.{texts-null, texts-bool, texts-number, texts-text, texts-array, texts-object}
-use Rattle.list_laws.proofs.Elements.{all_weaker}
+use Rattle.owned_values.proofs.Elements.{all_weaker}
 use Rattle.decimal_json.specs.Readable.{IsReadable, IsReadableMember}
 
 -- each is UTF-8

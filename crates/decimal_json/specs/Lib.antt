@@ -1,4 +1,4 @@
-pub use Rattle.list_laws.specs.Commas
+pub use Rattle.owned_values.specs.Commas
 pub use Rattle.byte_ends.specs.Ends
 pub use Rattle.byte_ends.specs.Writes
 pub use Rattle.decimal_text.specs.Grammar as NumberGrammar

@@ -5,7 +5,7 @@ use Rattle.std.proofs.lemmas.Bool.Decides.{nat_tests}
 use Rattle.std.proofs.lemmas.List.Elements.{All-head, All-tail}
 use Rattle.std.specs.List.{prefix_len}
 use Rattle.decimal_text.specs.Grammar.{is_digit, AllDigits}
-use Rattle.decimal_text.specs.Digits.{IsDigit, front_digits, after_digits}
+use Rattle.decimal_text.specs.Digits.{IsDigit, leading_digits, after_digits}
 
 pub digit_true : (c : ℕ) → 48 ≤ c → c ≤ 57 → is_digit c ≡ true
 digit_true c low high = grind (arith, nat_tests)
@@ -27,8 +27,8 @@ prefix_len-run [] [] h stop = refl
 prefix_len-run [] (r ∷ rs) h stop = rw stop refl
 prefix_len-run (c ∷ cs) rest h stop = grind (arith, prefix_len-run cs rest h.1 stop)
 
-pub front_digits-run : (ds rest : List ℕ) → AllDigits ds → StopsDigits rest → front_digits (ds ++ rest) ≡ ds
-front_digits-run ds rest h stop = ap (λ n. take n (ds ++ rest)) (prefix_len-run ds rest h stop) ∙ take-append_seam ds rest
+pub leading_digits-run : (ds rest : List ℕ) → AllDigits ds → StopsDigits rest → leading_digits (ds ++ rest) ≡ ds
+leading_digits-run ds rest h stop = ap (λ n. take n (ds ++ rest)) (prefix_len-run ds rest h stop) ∙ take-append_seam ds rest
 
 pub after_digits-run : (ds rest : List ℕ) → AllDigits ds → StopsDigits rest → after_digits (ds ++ rest) ≡ rest
 after_digits-run ds rest h stop = ap (λ n. drop n (ds ++ rest)) (prefix_len-run ds rest h stop) ∙ drop-append_seam ds rest

@@ -8,7 +8,7 @@ use Rattle.decimal_text.proofs.DigitRuns.{digit_range}
 use Rattle.std.proofs.lemmas.List.{get_or-take}
 use Rattle.std.proofs.lemmas.List.Sums.{prefix_len_passes}
 use Rattle.std.proofs.lemmas.List.Folds.{length-prefix_len}
-use Rattle.decimal_text.specs.Digits.{front_digits}
+use Rattle.decimal_text.specs.Digits.{leading_digits}
 use Rattle.decimal_text.specs.Digits.{IsDigit, digits_value_after, digits_value}
 
 pub digits_value_after-ge : (n : ℕ) (ds : List ℕ) → n ≤ digits_value_after n ds
@@ -109,12 +109,12 @@ half_by_first (c ∷ cs) h some = grind (arith, digits_value-half, digits_value-
 pub zero_parts : (xs ys : List ℕ) → All (λ c. c ≡ 48) xs → All (λ c. c ≡ 48) ys → digits_value (xs ++ ys) ≡ 0
 zero_parts xs ys h k = digits_value-zeros (xs ++ ys) (All-append (λ c. c ≡ 48) xs ys h k)
 
-pub zero_front : (xs ys : List ℕ) → All IsDigit xs → digits_value (xs ++ ys) ≡ 0 → digits_value xs ≡ 0
-zero_front xs ys h e = grind (arith, one-le-pow, mul-le-mul_left, digits_value-cut)
+pub zero_prefix : (xs ys : List ℕ) → All IsDigit xs → digits_value (xs ++ ys) ≡ 0 → digits_value xs ≡ 0
+zero_prefix xs ys h e = grind (arith, one-le-pow, mul-le-mul_left, digits_value-cut)
 
 pub zero_back : (xs ys : List ℕ) → digits_value (xs ++ ys) ≡ 0 → digits_value ys ≡ 0
 zero_back xs ys e = omega (arith, digits_value-cut xs ys)
 
 -- the digits at the front are digits
-pub front_digits-all : (bs : List ℕ) → All IsDigit (front_digits bs)
-front_digits-all bs = grind (arith, length-prefix_len, prefix_len_passes, get_or-take, digit_range)
+pub leading_digits-all : (bs : List ℕ) → All IsDigit (leading_digits bs)
+leading_digits-all bs = grind (arith, length-prefix_len, prefix_len_passes, get_or-take, digit_range)

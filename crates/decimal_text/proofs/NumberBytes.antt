@@ -81,6 +81,6 @@ sign_text_ascii false = IsAscii-nil
 pub units_utf8 : (units : ℤ) (places : ℕ) → IsUtf8 (units_text units places)
 units_utf8 units places = unfold units_text in
     let size : ℕ = unsigned_abs units in
-    let front = IsAscii-append (sign_text (int_lt units (pos 0))) (decimal (size / 10 ^ places)) (sign_text_ascii (int_lt units (pos 0))) (decimal_ascii (size / 10 ^ places)) in
+    let prefix = IsAscii-append (sign_text (int_lt units (pos 0))) (decimal (size / 10 ^ places)) (sign_text_ascii (int_lt units (pos 0))) (decimal_ascii (size / 10 ^ places)) in
     let rest = fraction_text_ascii (trimmed (fixed places (size % 10 ^ places))) (trimmed_ascii (fixed places (size % 10 ^ places)) (fixed_ascii places (size % 10 ^ places))) in
-    IsUtf8-from_ascii _ (IsAscii-append (sign_text (int_lt units (pos 0)) ++ decimal (size / 10 ^ places)) (fraction_text (trimmed (fixed places (size % 10 ^ places)))) front rest)
+    IsUtf8-from_ascii _ (IsAscii-append (sign_text (int_lt units (pos 0)) ++ decimal (size / 10 ^ places)) (fraction_text (trimmed (fixed places (size % 10 ^ places)))) prefix rest)

@@ -5,16 +5,16 @@ use Rattle.std.proofs.lemmas.Bool.Decides.{nat_tests}
 use Rattle.std.proofs.lemmas.List.{append-nil}
 use Rattle.std.proofs.lemmas.Bool.{ne_eqb}
 use Rattle.decimal_text.specs.Grammar.{is_digit, AllDigits, IsWhole}
-use Rattle.decimal_text.specs.Digits.{front_digits, after_digits}
+use Rattle.decimal_text.specs.Digits.{leading_digits, after_digits}
 use Rattle.decimal_text.specs.Parts.{Parts, parts_of, unsigned_of, exponent_of, signed_digits_of, all_digits_of, fraction_of, is_whole, fraction_text, sign_text, SpellsSign, spells_no_sign, spells_plus, spells_minus, SpellsExponent, SpellsNumber}
-use Rattle.decimal_text.proofs.DigitRuns.{digit_range, StopsDigits, front_digits-run, after_digits-run}
+use Rattle.decimal_text.proofs.DigitRuns.{digit_range, StopsDigits, leading_digits-run, after_digits-run}
 
 pick_all : (f a ds : List ℕ) → f ≡ ds → a ≡ [] → 0 < length ds
     → if◌then◌else◌ {A = Option (List ℕ)} (length f == 0) None (if length a == 0 then Some f else None) ≡ Some ds
 pick_all f a ds e1 e2 some = rw (e1, e2) (rw (ne_eqb (length ds) 0 (λ e. omega arith)) refl)
 
 all_digits-read : (b : ℕ) (bs : List ℕ) → is_digit b ≡ true → AllDigits bs → all_digits_of (b ∷ bs) ≡ Some (b ∷ bs)
-all_digits-read b bs hb h = grind (arith, pick_all, append-nil (b ∷ bs), front_digits-run (b ∷ bs) [] (hb, h) tt, after_digits-run (b ∷ bs) [] (hb, h) tt)
+all_digits-read b bs hb h = grind (arith, pick_all, append-nil (b ∷ bs), leading_digits-run (b ∷ bs) [] (hb, h) tt, after_digits-run (b ∷ bs) [] (hb, h) tt)
 
 signed_digits-read : (s : List ℕ) (negative : Bool) (b : ℕ) (bs : List ℕ) → SpellsSign s negative → is_digit b ≡ true → AllDigits bs
     → signed_digits_of (s ++ b ∷ bs) ≡ Some (negative, b ∷ bs)
@@ -49,8 +49,8 @@ fraction-read [] [] h after = refl
 fraction-read [] (c ∷ cs) h after = rw after.1 refl
 fraction-read (x ∷ xs) rest h after =
     let ds : List ℕ = x ∷ xs in
-    pick_some (front_digits (ds ++ rest)) (after_digits (ds ++ rest)) ds rest
-    (front_digits-run ds rest h (after-stops rest after)) (after_digits-run ds rest h (after-stops rest after)) (omega arith)
+    pick_some (leading_digits (ds ++ rest)) (after_digits (ds ++ rest)) ds rest
+    (leading_digits-run ds rest h (after-stops rest after)) (after_digits-run ds rest h (after-stops rest after)) (omega arith)
 
 -- what the grammar says of the digits before the point
 pub record WholeFacts (w : List ℕ) : Type 0 where
@@ -69,7 +69,7 @@ unsigned-read negative exponent_negative w f e ds hw hf he =
     let after = exponent-after e exponent_negative ds he in
     let rest : List ℕ = fraction_text f ++ e in
     let stop = fraction-stops f e after in
-    (rw (front_digits-run w rest facts.digits stop) (rw facts.test (rw (ap fraction_of (after_digits-run w rest facts.digits stop) ∙ fraction-read f e hf after) (rw (exponent-read e exponent_negative ds he) refl))))
+    (rw (leading_digits-run w rest facts.digits stop) (rw facts.test (rw (ap fraction_of (after_digits-run w rest facts.digits stop) ∙ fraction-read f e hf after) (rw (exponent-read e exponent_negative ds he) refl))))
 
 -- a text that begins with a digit has no sign
 unsigned-parts : (w rest : List ℕ) → AllDigits w → 0 < length w → parts_of (w ++ rest) ≡ unsigned_of false (w ++ rest)

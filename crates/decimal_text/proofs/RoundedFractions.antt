@@ -112,8 +112,8 @@ IsRoundedTo-tiny v len places cut limit m small more is exact some =
     ((λ t. absurd (false≢true (sym exact ∙ t))), (λ e. absurd (some (omega arith))))
 
 -- a number far above the limit
-pub far_past : (v behind up limit : ℕ) → v ≢ 0 → limit ≤ 10 ^ 37 → behind + 38 ≤ up → (limit + 1) * 10 ^ behind ≤ v * 10 ^ up
-far_past v behind up limit some small far = grind (arith, pow-add 10 behind 38, pow-le-pow_right, cases_lt v 1, mul-le-mul_left)
+pub far_past : (v following up limit : ℕ) → v ≢ 0 → limit ≤ 10 ^ 37 → following + 38 ≤ up → (limit + 1) * 10 ^ following ≤ v * 10 ^ up
+far_past v following up limit some small far = grind (arith, pow-add 10 following 38, pow-le-pow_right, cases_lt v 1, mul-le-mul_left)
 
 -- there is a rounded number
 pub IsRounded-some : (num den : ℕ) → 0 < den → IsRounded num den ((2 * num + den) / (2 * den))

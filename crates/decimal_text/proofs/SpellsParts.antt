@@ -6,17 +6,17 @@ use Rattle.std.proofs.lemmas.Bool.Decides.{eqb_tells}
 use Rattle.std.proofs.lemmas.List.{append-nil, take-append-drop}
 use Rattle.std.proofs.lemmas.Option.{some_pair_parts}
 use Rattle.decimal_text.specs.Grammar.{is_e, AllDigits, IsMinus, no_minus, one_minus, IsWhole, whole_zero, whole_digits, IsFraction, no_fraction, fraction as fraction_digits, IsSign, no_sign, plus_sign, minus_sign, IsExponent, no_exponent, exponent as exponent_digits, IsNumber, number_of}
-use Rattle.decimal_text.specs.Digits.{front_digits, after_digits}
+use Rattle.decimal_text.specs.Digits.{leading_digits, after_digits}
 use Rattle.decimal_text.specs.Parts.{Parts, parts_of, unsigned_of, exponent_of, signed_digits_of, all_digits_of, fraction_of, is_whole, fraction_text, sign_text, SpellsSign, spells_no_sign, spells_plus, spells_minus, SpellsExponent, spells_no_exponent, spells_exponent, SpellsNumber}
-use Rattle.decimal_text.proofs.DigitsValue.{front_digits-all}
+use Rattle.decimal_text.proofs.DigitsValue.{leading_digits-all}
 use Rattle.decimal_text.proofs.DigitRuns.{AllDigits-from_All}
 use Rattle.decimal_text.proofs.ReadsParts.{parts-read}
 
-front-AllDigits : (t : List ℕ) → AllDigits (front_digits t)
-front-AllDigits t = AllDigits-from_All (front_digits t) (front_digits-all t)
+prefix-AllDigits : (t : List ℕ) → AllDigits (leading_digits t)
+prefix-AllDigits t = AllDigits-from_All (leading_digits t) (leading_digits-all t)
 
-front-after : (t : List ℕ) → front_digits t ++ after_digits t ≡ t
-front-after t = take-append-drop _ t
+prefix-after : (t : List ℕ) → leading_digits t ++ after_digits t ≡ t
+prefix-after t = take-append-drop _ t
 
 empty_from_length : (t : List ℕ) → (length t == 0) ≡ true → t ≡ []
 empty_from_length [] h = refl
@@ -37,13 +37,13 @@ record IsRun (t ds : List ℕ) : Type 0 where
 
 all_digits-spelled : (t ds : List ℕ) → all_digits_of t ≡ Some ds → IsRun t ds
 all_digits-spelled t ds h =
-    let tests = all_tests (length (front_digits t) == 0) (length (after_digits t) == 0) (front_digits t) ds h in
+    let tests = all_tests (length (leading_digits t) == 0) (length (after_digits t) == 0) (leading_digits t) ds h in
     let none : after_digits t ≡ [] = empty_from_length (after_digits t) tests.1 in
-    let is : front_digits t ≡ ds = tests.2 in
+    let is : leading_digits t ≡ ds = tests.2 in
     record {
-      same = sym (front-after t) ∙ ap (λ r. front_digits t ++ r) none ∙ append-nil (front_digits t) ∙ is;
-      digits = subst AllDigits is (front-AllDigits t);
-      some = subst (λ d. 0 < length d) is (some_from_length (front_digits t) tests.0);
+      same = sym (prefix-after t) ∙ ap (λ r. leading_digits t ++ r) none ∙ append-nil (leading_digits t) ∙ is;
+      digits = subst AllDigits is (prefix-AllDigits t);
+      some = subst (λ d. 0 < length d) is (some_from_length (leading_digits t) tests.0);
     }
 
 option_some : (b : Bool) (o : Option (List ℕ)) (negative : Bool) (ds : List ℕ)
@@ -107,7 +107,7 @@ pub fraction_text-some : (f : List ℕ) → 0 < length f → fraction_text f ≡
 fraction_text-some f h = grind arith
 
 fraction-spelled : (t f rest : List ℕ) → fraction_of t ≡ Some (f, rest) → IsFractionAnd t f rest
-fraction-spelled t f rest h = grind (arith, some_pair_parts, eqb-true, fraction_test, some_from_length, front-after, fraction_text-some, front-AllDigits, eqb_tells)
+fraction-spelled t f rest h = grind (arith, some_pair_parts, eqb-true, fraction_test, some_from_length, prefix-after, fraction_text-some, prefix-AllDigits, eqb_tells)
 
 whole-made : (w : List ℕ) → AllDigits w → is_whole w ≡ true → IsWhole w
 whole-made [] h t = absurd (false≢true t)
@@ -115,35 +115,35 @@ whole-made (c ∷ []) h t = ⊎_elim (λ y. let is : c ≡ 48 = y.1 in rw is who
 whole-made (c ∷ d ∷ ds) h t = whole_digits c (d ∷ ds) h.0 (not-true (c == 48) t) h.1
 
 -- the steps of `unsigned_of` where it gives parts
-record UnsignedSteps (negative : Bool) (front after : List ℕ) (n : Parts) : Type 0 where
-  pub whole : is_whole front ≡ true
+record UnsignedSteps (negative : Bool) (prefix after : List ℕ) (n : Parts) : Type 0 where
+  pub whole : is_whole prefix ≡ true
   pub fraction : List ℕ
   pub rest : List ℕ
   pub fraction_is : fraction_of after ≡ Some (fraction, rest)
   pub exponent_negative : Bool
   pub exponent : List ℕ
   pub exponent_is : exponent_of rest ≡ Some (exponent_negative, exponent)
-  pub parts : n ≡ record { negative = negative; whole = front; fraction = fraction; exponent_negative = exponent_negative; exponent = exponent }
+  pub parts : n ≡ record { negative = negative; whole = prefix; fraction = fraction; exponent_negative = exponent_negative; exponent = exponent }
 
 abbrev joined : Bool → List ℕ → List ℕ → Bool × List ℕ → Option Parts
-joined negative front f e = Some (record { negative = negative; whole = front; fraction = f; exponent_negative = e.0; exponent = e.1 })
+joined negative prefix f e = Some (record { negative = negative; whole = prefix; fraction = f; exponent_negative = e.0; exponent = e.1 })
 
 abbrev with_exponent : Bool → List ℕ → List ℕ × List ℕ → Option Parts
-with_exponent negative front f = option_and_then (joined negative front f.0) (exponent_of f.1)
+with_exponent negative prefix f = option_and_then (joined negative prefix f.0) (exponent_of f.1)
 
-exponent_step : (negative : Bool) (front after f r : List ℕ) (n : Parts) (o : Option (Bool × List ℕ)) → is_whole front ≡ true
-    → fraction_of after ≡ Some (f, r) → exponent_of r ≡ o → option_and_then (joined negative front f) o ≡ Some n → UnsignedSteps negative front after n
-exponent_step negative front after f r n None w e1 e2 h = absurd cc
-exponent_step negative front after f r n (Some x) w e1 e2 h = grind arith
+exponent_step : (negative : Bool) (prefix after f r : List ℕ) (n : Parts) (o : Option (Bool × List ℕ)) → is_whole prefix ≡ true
+    → fraction_of after ≡ Some (f, r) → exponent_of r ≡ o → option_and_then (joined negative prefix f) o ≡ Some n → UnsignedSteps negative prefix after n
+exponent_step negative prefix after f r n None w e1 e2 h = absurd cc
+exponent_step negative prefix after f r n (Some x) w e1 e2 h = grind arith
 
-whole_step : (negative b : Bool) (front after : List ℕ) (n : Parts) → is_whole front ≡ b
-    → if◌then◌else◌ {A = Option Parts} b (option_and_then (with_exponent negative front) (fraction_of after)) None ≡ Some n
-    → UnsignedSteps negative front after n
-whole_step negative b front after n h k = grind (arith, exponent_step)
+whole_step : (negative b : Bool) (prefix after : List ℕ) (n : Parts) → is_whole prefix ≡ b
+    → if◌then◌else◌ {A = Option Parts} b (option_and_then (with_exponent negative prefix) (fraction_of after)) None ≡ Some n
+    → UnsignedSteps negative prefix after n
+whole_step negative b prefix after n h k = grind (arith, exponent_step)
 
-spelled_from_steps : (negative : Bool) (t : List ℕ) (n : Parts) → UnsignedSteps negative (front_digits t) (after_digits t) n
+spelled_from_steps : (negative : Bool) (t : List ℕ) (n : Parts) → UnsignedSteps negative (leading_digits t) (after_digits t) n
     → SpellsNumber (sign_text negative ++ t) n
-spelled_from_steps negative t n s = grind (arith, fraction-spelled, front-after, whole-made, front-AllDigits, exponent-spelled)
+spelled_from_steps negative t n s = grind (arith, fraction-spelled, prefix-after, whole-made, prefix-AllDigits, exponent-spelled)
 
 unsigned-spelled : (negative : Bool) (t : List ℕ) (n : Parts) → unsigned_of negative t ≡ Some n → SpellsNumber (sign_text negative ++ t) n
 unsigned-spelled negative t n h = grind (arith, spelled_from_steps, whole_step)

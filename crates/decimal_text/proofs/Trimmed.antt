@@ -33,23 +33,23 @@ pub trimmed-stop : (ds : List ℕ) (e : ℕ) → 0 < e → e ≤ length ds → (
 trimmed-stop ds e pos within h = grind (arith, take_more, trimmed-push (take (e - 1) ds) (get_or ds (e - 1) 0) (other_digit (get_or ds (e - 1) 0) h), other_digit (get_or ds (e - 1) 0) h)
 
 -- nothing is no list with an element at its end
-nothing_ends : (front : List ℕ) (d : ℕ) → [] ≡ front ++ d ∷ [] → ⊥
+nothing_ends : (prefix : List ℕ) (d : ℕ) → [] ≡ prefix ++ d ∷ [] → ⊥
 nothing_ends [] d h = cc
 nothing_ends (x ∷ xs) d h = cc
 
-one_ends : (c : ℕ) (front : List ℕ) (d : ℕ) → c ∷ [] ≡ front ++ d ∷ [] → c ≡ d
+one_ends : (c : ℕ) (prefix : List ℕ) (d : ℕ) → c ∷ [] ≡ prefix ++ d ∷ [] → c ≡ d
 one_ends c [] d h = cc
 one_ends c (x ∷ xs) d h = let rest : [] ≡ xs ++ d ∷ [] = cc in absurd (nothing_ends xs d rest)
 
 before-end : (c : ℕ) (t : List ℕ) → EndsInNoZero t → EndsInNoZero (before_trimmed c t)
 before-end c [] h = grind (arith, nothing_ends, one_ends, eqb_tells)
-before-end c (d ∷ ds) h = λ front e. longer front e
+before-end c (d ∷ ds) h = λ prefix e. longer prefix e
   where
-    longer : (front : List ℕ) → c ∷ d ∷ ds ≡ front ++ 48 ∷ [] → ⊥
+    longer : (prefix : List ℕ) → c ∷ d ∷ ds ≡ prefix ++ 48 ∷ [] → ⊥
     longer [] e = cc
     longer (x ∷ xs) e = let rest : d ∷ ds ≡ xs ++ 48 ∷ [] = cc in h xs rest
 
 -- no zero is left at the end
 pub trimmed-end : (ds : List ℕ) → EndsInNoZero (trimmed ds)
-trimmed-end [] = λ front e. nothing_ends front 48 e
+trimmed-end [] = λ prefix e. nothing_ends prefix 48 e
 trimmed-end (c ∷ cs) = before-end c (trimmed cs) (trimmed-end cs)

@@ -56,13 +56,13 @@ text-more : (n : ℕ) (ds : List ℕ) → 10 ≤ n → IsText (n / 10) ds → Is
 text-more n ds h t =
     let x : ℕ = 48 + n % 10 in
     let push : digits_value (ds ++ x ∷ []) ≡ 10 * digits_value ds + (x - 48) = digits_value_after-append 0 ds (x ∷ []) in
-    let front : 48 < get_or ds 0 0 = t.head (omega arith) in
+    let prefix : 48 < get_or ds 0 0 = t.head (omega arith) in
     record {
       says = omega (arith, push, t.says);
       digits = All-append IsDigit ds (x ∷ []) t.digits (one_digit x (omega arith) (omega arith));
       some = omega (arith, length-append ds (x ∷ []));
-      head = λ p. rw (head-push ds x t.some) front;
-      whole = whole-push ds x t.digits (omega arith, omega arith) t.some front;
+      head = λ p. rw (head-push ds x t.some) prefix;
+      whole = whole-push ds x t.digits (omega arith, omega arith) t.some prefix;
     }
 
 pub decimal-text : (n : ℕ) → n < 10 ^ 64 → IsText n (decimal n)

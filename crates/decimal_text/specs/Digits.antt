@@ -17,8 +17,8 @@ abbrev pub digits_value : List ℕ → ℕ
 digits_value ds = digits_value_after 0 ds
 
 -- the digits that a text begins with
-abbrev pub front_digits : List ℕ → List ℕ
-front_digits t = take (prefix_len is_digit t) t
+abbrev pub leading_digits : List ℕ → List ℕ
+leading_digits t = take (prefix_len is_digit t) t
 
 -- what follows the digits that a text begins with
 abbrev pub after_digits : List ℕ → List ℕ

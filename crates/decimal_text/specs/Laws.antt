@@ -25,7 +25,7 @@ ScaledIsNearest =
 
 -- the digits do not end in a zero
 abbrev pub EndsInNoZero : List ℕ → Type 0
-EndsInNoZero ds = (front : List ℕ) → ds ≢ front ++ codes "0"
+EndsInNoZero ds = (prefix : List ℕ) → ds ≢ prefix ++ codes "0"
 
 -- a text of units is a number, and at the same places it is that number of units exactly, under each limit that the number meets;
 -- it has no exponent, and no zero at the end of its fraction

@@ -1,7 +1,7 @@
 -- The parts of a number text (RFC 8259, section 6): which parts a text spells, and the parts read from left to right.
 use Rattle.std.specs.Prelude.{◌≡◌, ℕ, ◌==◌, Bool, true, false, not, List, [], ◌∷◌, ◌++◌, length, Option, Some, None, option_and_then, if◌then◌else◌, codes}
 use Rattle.decimal_text.specs.Grammar.{is_digit, is_e, AllDigits, IsWhole}
-use Rattle.decimal_text.specs.Digits.{front_digits, after_digits}
+use Rattle.decimal_text.specs.Digits.{leading_digits, after_digits}
 
 -- a number's sign, its digits before and after the point, and its exponent's sign and digits
 pub record Parts : Type 0 where
@@ -50,14 +50,14 @@ is_whole (c ∷ d ∷ ds) = not (c == 48)
 abbrev pub fraction_of : List ℕ → Option (List ℕ × List ℕ)
 fraction_of [] = Some ([], [])
 fraction_of (c ∷ cs) =
-    if c == 46 then (if length (front_digits cs) == 0 then None else Some (front_digits cs, after_digits cs))
+    if c == 46 then (if length (leading_digits cs) == 0 then None else Some (leading_digits cs, after_digits cs))
     else Some ([], c ∷ cs)
 
 -- digits, one or more, and nothing else
 abbrev pub all_digits_of : List ℕ → Option (List ℕ)
 all_digits_of t =
-    if length (front_digits t) == 0 then None
-    else (if length (after_digits t) == 0 then Some (front_digits t) else None)
+    if length (leading_digits t) == 0 then None
+    else (if length (after_digits t) == 0 then Some (leading_digits t) else None)
 
 -- an exponent's sign, a plus or none being positive, and its digits
 abbrev pub signed_digits_of : List ℕ → Option (Bool × List ℕ)
@@ -75,10 +75,10 @@ exponent_of (c ∷ cs) = if is_e c then signed_digits_of cs else None
 -- the parts of a number without a sign
 abbrev pub unsigned_of : Bool → List ℕ → Option Parts
 unsigned_of negative t =
-    if is_whole (front_digits t)
+    if is_whole (leading_digits t)
     then option_and_then
     (λ f. option_and_then
-    (λ e. Some (record { negative = negative; whole = front_digits t; fraction = f.0; exponent_negative = e.0; exponent = e.1 }))
+    (λ e. Some (record { negative = negative; whole = leading_digits t; fraction = f.0; exponent_negative = e.0; exponent = e.1 }))
     (exponent_of f.1))
     (fraction_of (after_digits t))
     else None

@@ -47,7 +47,7 @@ fn room_of(bytes: &[u8]) -> [u8; ROOM]
 
 impl FewBytes {
     /// The first `length` of the bytes once more.
-    pub fn front(alloc: Global, bytes: &[u8], length: usize) -> Result<FewBytes, AllocError>
+    pub fn prefix(alloc: Global, bytes: &[u8], length: usize) -> Result<FewBytes, AllocError>
         requires { length ≤ size bytes.now }
         ensures ok { IfOk result (λ b. b ≡ take length bytes.now) }
         ensures few { length ≤ 22 → IsOk result }

@@ -49,18 +49,18 @@ impl NumText {
         ensures same { IfOk result (λ n. n ≡ text.now) }
         ensures few { length text.now ≤ 22 → IsOk result }
     {
-        NumText::front(alloc, text, text.len())
+        NumText::prefix(alloc, text, text.len())
     }
 
     /// The number whose text the first `length` of the bytes are.
-    pub fn front(alloc: Global, bytes: &[u8], length: usize) -> Result<NumText, Memory>
+    pub fn prefix(alloc: Global, bytes: &[u8], length: usize) -> Result<NumText, Memory>
         requires within { length ≤ size bytes.now }
         requires number { IsNumber (take length bytes.now) }
         ensures same { IfOk result (λ n. n ≡ take length bytes.now) }
         ensures few { length ≤ 22 → IsOk result }
     {
         Ok(NumText {
-            text: FewBytes::front(alloc, bytes, length)?,
+            text: FewBytes::prefix(alloc, bytes, length)?,
         })
     }
 

@@ -2,7 +2,7 @@
 ghost use Rattle.std.specs.Prelude.{◌≡◌, ◌≤◌, All, length, Some, None, IfSome, IfNone};
 ghost use Rattle.std.specs.List.{prefix_len};
 ghost use Rattle.decimal_text.specs.Grammar.{is_digit};
-ghost use Rattle.decimal_text.specs.Digits.{IsDigit, front_digits, after_digits};
+ghost use Rattle.decimal_text.specs.Digits.{IsDigit, leading_digits, after_digits};
 ghost use Rattle.decimal_text.specs.Parts.{all_digits_of, exponent_of, fraction_of, is_whole as whole_test, parts_of, signed_digits_of, unsigned_of};
 ghost use Rattle.decimal_text.specs.PartsInCode.{parts_in, HoldsDigits};
 
@@ -21,7 +21,7 @@ fn digits_len(bytes: &[u8]) -> usize
 
 /// The digits that the bytes begin with, and what follows them.
 fn split_digits(bytes: &[u8]) -> (&[u8], &[u8])
-    ensures front { result.0.now ≡ front_digits bytes.now }
+    ensures prefix { result.0.now ≡ leading_digits bytes.now }
     ensures after { result.1.now ≡ after_digits bytes.now }
     ensures digits { All IsDigit result.0.now }
 {

@@ -31,10 +31,10 @@ fn cut_at(
     ensures { Rounds (digits_value ((kept_whole.now ++ kept_fraction.now) ++ (cut_whole.now ++ cut_fraction.now)))
         (10 ^ length (cut_whole.now ++ cut_fraction.now)) limit result }
 {
-    let Ok(front) = extend(0, kept_whole, limit) else {
+    let Ok(prefix) = extend(0, kept_whole, limit) else {
         return Err(Range);
     };
-    let Ok(down) = extend(front, kept_fraction, limit) else {
+    let Ok(down) = extend(prefix, kept_fraction, limit) else {
         return Err(Range);
     };
     let exact = write_zero(cut_whole, cut_fraction);
@@ -57,10 +57,10 @@ fn shift_left(whole: &[u8], fraction: &[u8], zeros: u128, limit: u128) -> Result
     requires limit { limit ≤ 10 ^ 37 }
     ensures { Rounds (digits_value (whole.now ++ fraction.now) * 10 ^ zeros) 1 limit result }
 {
-    let Ok(front) = extend(0, whole, limit) else {
+    let Ok(prefix) = extend(0, whole, limit) else {
         return Err(Range);
     };
-    let Ok(value) = extend(front, fraction, limit) else {
+    let Ok(value) = extend(prefix, fraction, limit) else {
         return Err(Range);
     };
     let Ok(value) = with_zeros(value, zeros, limit) else {

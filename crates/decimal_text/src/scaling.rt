@@ -27,10 +27,10 @@ fn scaled_magnitude(parts: NumberParts<'_>, places: u32, limit: u128) -> Result<
         ..
     } = parts;
     let ahead = whole.len() as u128;
-    let behind = fraction.len() as u128;
+    let following = fraction.len() as u128;
     let places = u128::from(places);
     let Ok(e) = extend(0, exponent, FAR) else {
-        prove!(ahead + behind < FAR);
+        prove!(ahead + following < FAR);
         if write_zero(whole, fraction) {
             return Ok(Magnitude {
                 value: 0,
@@ -46,9 +46,9 @@ fn scaled_magnitude(parts: NumberParts<'_>, places: u32, limit: u128) -> Result<
         return Err(Range);
     };
     if exponent_negative {
-        shift(whole, fraction, places, behind + e, limit)
+        shift(whole, fraction, places, following + e, limit)
     } else {
-        shift(whole, fraction, places + e, behind, limit)
+        shift(whole, fraction, places + e, following, limit)
     }
 }
 

@@ -7,7 +7,7 @@ use Rattle.json_value.specs.declared.json.Json.TheVariants as j
 use Rattle.json_value.specs.Text.{json_text}
 use Rattle.json_value.proofs.Texts.{fused}
 use Rattle.json_writer.proofs.Lists.{array-text, element-next, text_by}
-use Rattle.list_laws.specs.Commas.{comma_unless}
+use Rattle.owned_values.specs.Commas.{comma_unless}
 
 pub decoded-text : {A B : Type 0} (value_of : B → Json) (decoded : A → B) (items : List A)
     → json_text (j.Array (map value_of (map decoded items))) ≡ codes "[" ++ list_left (text_by (λ a. value_of (decoded a))) (codes "]") true items

@@ -13,7 +13,7 @@ use Rattle.geometry.specs.Points.{Point}
 use Rattle.geometry.proofs.Induction.{by_kinds}
 use Rattle.topojson_types.specs.Topologies.{Contents, TopoShape}
 use Rattle.topojson_types.specs.Transforms.{place}
-use Rattle.topojson_features.specs.Strokes.{IsShape}
+use Rattle.topojson_features.specs.LinesAndRings.{IsShape}
 use Rattle.topojson_features.proofs.Decoded.{Decodes, SoFar, point_decodes, points_decode, line_decodes, lines_decode, area_decodes, areas_decode, group_decodes}
 use Rattle.topojson_features.proofs.Standing.{group_stands}
 use Rattle.decoding_writer.specs.Decoded.{line_in, shape_in}

@@ -9,7 +9,7 @@ ghost use Rattle.json_value.specs.declared.json.Json.TheVariants as j;
 ghost use Rattle.geometry.specs.Lists.{then_some};
 ghost use Rattle.geojson_writer.specs.FeatureValues.{collection_value, feature_value, features_value, geometry_value};
 ghost use Rattle.topojson_types.specs.Topologies.{object_features};
-ghost use Rattle.topojson_features.specs.Strokes.{IsShapeOption};
+ghost use Rattle.topojson_features.specs.LinesAndRings.{IsShapeOption};
 ghost use Rattle.decoding_writer.specs.Decoded.{shape_in, feature_in, object_in};
 
 use crate::shape_writer::put_shape;

@@ -7,13 +7,13 @@ ghost use Rattle.json_value.specs.Text.{json_text};
 ghost use Rattle.geojson_writer.specs.FeatureValues.{positions_value, lines_value, polygons_value};
 ghost use Rattle.topojson_types.specs.Transforms.{place};
 ghost use Rattle.topojson_types.specs.Validity.{AreInRange, IsPlace};
-ghost use Rattle.topojson_features.specs.Strokes.{IsStroke};
+ghost use Rattle.topojson_features.specs.LinesAndRings.{IsLineOrRing};
 ghost use Rattle.decoding_writer.specs.Decoded.{line_in};
 
 use byte_ends::{Drain, Progress, Sink, put_comma, put_part};
 use geojson_writer::hold_position;
 use json_value::Items;
-use json_writer::{ShortText, put_behind_held};
+use json_writer::{ShortText, put_after_held};
 use topojson_features::LineWalk;
 use topojson_types::{ArcRef, Cell, Topology, Transform, position_at};
 
@@ -36,7 +36,7 @@ pub fn put_cells<W: Drain>(
         so_far = hold_position(position, is_first, &mut held, so_far, sink);
         is_first = false;
     }
-    put_behind_held(b"]", &mut held, so_far, sink)
+    put_after_held(b"]", &mut held, so_far, sink)
 }
 
 /// Writes the positions of a line, or of a ring, if it is closed.
@@ -58,7 +58,7 @@ pub fn put_line<W: Drain>(
         so_far = hold_position(position, is_first, &mut held, so_far, sink);
         is_first = false;
     }
-    put_behind_held(b"]", &mut held, so_far, sink)
+    put_after_held(b"]", &mut held, so_far, sink)
 }
 
 /// Writes lines, or the rings of a polygon.
@@ -69,7 +69,7 @@ pub fn put_lines<W: Drain>(
     so_far: Progress,
     sink: &mut Sink<W>,
 ) -> Progress
-    requires { AllByRecursion (λ l. IsStroke topology.now (is_closed, l)) lines.now }
+    requires { AllByRecursion (λ l. IsLineOrRing topology.now (is_closed, l)) lines.now }
     ensures { Continues sink.old sink.new so_far (json_text (lines_value (map (line_in topology.now is_closed) lines.now))) result }
 {
     let mut so_far = put_part(b"[", so_far, sink);
@@ -89,7 +89,7 @@ pub fn put_areas<W: Drain>(
     so_far: Progress,
     sink: &mut Sink<W>,
 ) -> Progress
-    requires { AllByRecursion (λ rs. AllByRecursion (λ l. IsStroke topology.now (true, l)) rs) areas.now }
+    requires { AllByRecursion (λ rs. AllByRecursion (λ l. IsLineOrRing topology.now (true, l)) rs) areas.now }
     ensures { Continues sink.old sink.new so_far (json_text (polygons_value (map (map (line_in topology.now true)) areas.now))) result }
 {
     let mut so_far = put_part(b"[", so_far, sink);

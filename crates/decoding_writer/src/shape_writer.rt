@@ -7,7 +7,7 @@ ghost use Rattle.json_value.specs.declared.json.Json.TheVariants as j;
 ghost use Rattle.geojson_types.specs.Features.{Shape as Decoded};
 ghost use Rattle.geojson_writer.specs.FeatureTexts.{contents_value};
 ghost use Rattle.geojson_writer.specs.FeatureValues.{geometry_value};
-ghost use Rattle.topojson_features.specs.Strokes.{IsShape};
+ghost use Rattle.topojson_features.specs.LinesAndRings.{IsShape};
 ghost use Rattle.decoding_writer.specs.Decoded.{shape_in};
 
 use crate::line_writer::{put_areas, put_cells, put_line, put_lines};

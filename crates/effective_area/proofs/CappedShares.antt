@@ -7,7 +7,7 @@ use Rattle.std.proofs.lemmas.List.{length-map, length-append}
 use Rattle.std.proofs.lemmas.List.Elements.{recursion_from_All, Contains-append_right, Contains-get_or}
 use Rattle.std.proofs.lemmas.List.Sums.{sum_by-append, sum_by-cons, count_by-le-length, get_or-le-sum_by}
 use Rattle.std.proofs.lemmas.Nat.{mul-le}
-use Rattle.list_laws.proofs.Elements.{all_weaker}
+use Rattle.owned_values.proofs.Elements.{all_weaker}
 use Rattle.geometry.specs.Lists.{In}
 use Rattle.effective_area.specs.Capped.{capped_at, is_within, IsStopped, IsCapped, AreCapped, IsEnough, CappedIsEnough}
 use Rattle.effective_area.specs.Shares.{IsGreatestShare, area_of, count_kept, interior_weights, kept_at, share, stays_at}
@@ -162,16 +162,16 @@ lowered_share p q ws cs t h g = record {
 
 -- ---- lines whose weights are reported up to a level that isn't under t
 
-record IsOver (t : ℕ) (ws told : List Weight) : Type 0 where
+record IsOver (t : ℕ) (ws reported : List Weight) : Type 0 where
   level : ℕ
   over : t ≤ level
-  capped : told ≡ map (capped_at level) ws
+  capped : reported ≡ map (capped_at level) ws
 
 abbrev AreOver : ℕ → List (List Weight) → List (List Weight) → Type 0
 AreOver t [] [] = Unit {0}
-AreOver t [] (told ∷ capped) = ⊥
+AreOver t [] (reported ∷ capped) = ⊥
 AreOver t (ws ∷ lines) [] = ⊥
-AreOver t (ws ∷ lines) (told ∷ capped) = ((told ≡ ws) ⊎ IsOver t ws told) × AreOver t lines capped
+AreOver t (ws ∷ lines) (reported ∷ capped) = ((reported ≡ ws) ⊎ IsOver t ws reported) × AreOver t lines capped
 
 lower : (t level area : ℕ) → t ≤ level → (min level area ≡ area) ⊎ ((t ≤ min level area) × (min level area ≤ area))
 lower t level area h = on (cases_lt area level)
@@ -185,16 +185,16 @@ capped_lowered t level [] h = tt
 capped_lowered t level (End ∷ ws) h = capped_lowered t level ws h
 capped_lowered t level (Area area ∷ ws) h = (lower t level area h, capped_lowered t level ws h)
 
-over_lowered : (t : ℕ) (ws told : List Weight) → (told ≡ ws) ⊎ IsOver t ws told → Lowered t (filter_map area_of ws) (filter_map area_of told)
-over_lowered t ws told (inl e) = subst (λ l. Lowered t (filter_map area_of ws) (filter_map area_of l)) (sym e) (same_lowered t (filter_map area_of ws))
-over_lowered t ws told (inr s) = subst (λ l. Lowered t (filter_map area_of ws) (filter_map area_of l)) (sym s.capped) (capped_lowered t s.level ws s.over)
+over_lowered : (t : ℕ) (ws reported : List Weight) → (reported ≡ ws) ⊎ IsOver t ws reported → Lowered t (filter_map area_of ws) (filter_map area_of reported)
+over_lowered t ws reported (inl e) = subst (λ l. Lowered t (filter_map area_of ws) (filter_map area_of l)) (sym e) (same_lowered t (filter_map area_of ws))
+over_lowered t ws reported (inr s) = subst (λ l. Lowered t (filter_map area_of ws) (filter_map area_of l)) (sym s.capped) (capped_lowered t s.level ws s.over)
 
 all_lowered : (t : ℕ) (lines capped : List (List Weight)) → AreOver t lines capped → Lowered t (interior_weights lines) (interior_weights capped)
 all_lowered t [] [] h = tt
-all_lowered t [] (told ∷ capped) h = elim h [ ]
+all_lowered t [] (reported ∷ capped) h = elim h [ ]
 all_lowered t (ws ∷ lines) [] h = elim h [ ]
-all_lowered t (ws ∷ lines) (told ∷ capped) h =
-    lowered_append t (filter_map area_of ws) (filter_map area_of told) (interior_weights lines) (interior_weights capped) (over_lowered t ws told h.0) (all_lowered t lines capped h.1)
+all_lowered t (ws ∷ lines) (reported ∷ capped) h =
+    lowered_append t (filter_map area_of ws) (filter_map area_of reported) (interior_weights lines) (interior_weights capped) (over_lowered t ws reported h.0) (all_lowered t lines capped h.1)
 
 -- ---- what stays of them
 
@@ -217,15 +217,15 @@ capped_kept t level ws h =
     all [] = tt
     all (i ∷ is) = (ap (stays_at t) (get_or_capped level ws i) ∙ capped_stays t level (get_or ws i End) h, all is)
 
-over_kept : (t : ℕ) (ws told : List Weight) → (told ≡ ws) ⊎ IsOver t ws told → kept_at t told ≡ kept_at t ws
-over_kept t ws told (inl e) = ap (kept_at t) e
-over_kept t ws told (inr s) = ap (kept_at t) s.capped ∙ capped_kept t s.level ws s.over
+over_kept : (t : ℕ) (ws reported : List Weight) → (reported ≡ ws) ⊎ IsOver t ws reported → kept_at t reported ≡ kept_at t ws
+over_kept t ws reported (inl e) = ap (kept_at t) e
+over_kept t ws reported (inr s) = ap (kept_at t) s.capped ∙ capped_kept t s.level ws s.over
 
 all_kept : (t : ℕ) (lines capped : List (List Weight)) → AreOver t lines capped → map (kept_at t) capped ≡ map (kept_at t) lines
 all_kept t [] [] h = refl
-all_kept t [] (told ∷ capped) h = elim h [ ]
+all_kept t [] (reported ∷ capped) h = elim h [ ]
 all_kept t (ws ∷ lines) [] h = elim h [ ]
-all_kept t (ws ∷ lines) (told ∷ capped) h = ap (λ l. l ∷ map (kept_at t) capped) (over_kept t ws told h.0) ∙ ap (λ ls. kept_at t ws ∷ ls) (all_kept t lines capped h.1)
+all_kept t (ws ∷ lines) (reported ∷ capped) h = ap (λ l. l ∷ map (kept_at t) capped) (over_kept t ws reported h.0) ∙ ap (λ ls. kept_at t ws ∷ ls) (all_kept t lines capped h.1)
 
 -- ---- no level is under the threshold
 
@@ -300,11 +300,11 @@ module _ (p q count most : ℕ) (lines : List (List Weight)) (part : p ≤ q) (a
 
   each_over : (some capped : List (List Weight)) → ((ws : List Weight) → In ws some → In ws lines) → AreCapped most some capped → AreOver best some capped
   each_over [] [] f h = tt
-  each_over [] (told ∷ capped) f h = elim h [ ]
+  each_over [] (reported ∷ capped) f h = elim h [ ]
   each_over (ws ∷ some) [] f h = elim h [ ]
-  each_over (ws ∷ some) (told ∷ capped) f h = (on h.0, each_over some capped (λ vs k. f vs (inr k)) h.1)
+  each_over (ws ∷ some) (reported ∷ capped) f h = (on h.0, each_over some capped (λ vs k. f vs (inr k)) h.1)
     where
-      on : IsCapped most ws told → (told ≡ ws) ⊎ IsOver best ws told
+      on : IsCapped most ws reported → (reported ≡ ws) ⊎ IsOver best ws reported
       on (inl e) = inl e
       on (inr s) = inr (record { level = s.level; over = level_over ws s.level (f ws (inl refl)) s.enough; capped = s.capped })
 
@@ -318,8 +318,8 @@ capped_is_enough p q count most lines capped part all enough h =
 
 -- ---- one line more
 
-pub capped_more : (most : ℕ) (lines capped : List (List Weight)) (ws told : List Weight) → AreCapped most lines capped → IsCapped most ws told → AreCapped most (lines ++ (ws ∷ [])) (capped ++ (told ∷ []))
-capped_more most [] [] ws told h k = (k, tt)
-capped_more most [] (vs ∷ capped) ws told h k = elim h [ ]
-capped_more most (vs ∷ lines) [] ws told h k = elim h [ ]
-capped_more most (vs ∷ lines) (us ∷ capped) ws told h k = (h.0, capped_more most lines capped ws told h.1 k)
+pub capped_more : (most : ℕ) (lines capped : List (List Weight)) (ws reported : List Weight) → AreCapped most lines capped → IsCapped most ws reported → AreCapped most (lines ++ (ws ∷ [])) (capped ++ (reported ∷ []))
+capped_more most [] [] ws reported h k = (k, tt)
+capped_more most [] (vs ∷ capped) ws reported h k = elim h [ ]
+capped_more most (vs ∷ lines) [] ws reported h k = elim h [ ]
+capped_more most (vs ∷ lines) (us ∷ capped) ws reported h k = (h.0, capped_more most lines capped ws reported h.1 k)

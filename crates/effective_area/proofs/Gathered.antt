@@ -4,7 +4,7 @@ use Rattle.std.specs.List.{cons_option, filter, filter_map, range_with_len}
 use Rattle.std.proofs.lemmas.List.{append-nil, get_or_default, map-append, take_more}
 use Rattle.std.proofs.lemmas.List.Elements.{filter-append, filter_map-append}
 use Rattle.geometry.specs.Lists.{joined}
-use Rattle.list_laws.proofs.Lists.{joined_append, take_here}
+use Rattle.owned_values.proofs.Lists.{joined_append, take_here}
 use Rattle.effective_area.proofs.Scan.{indexes_more}
 use Rattle.effective_area.specs.Shares.{area_of, interior_weights, kept_at, stays_at}
 use Rattle.effective_area.specs.declared.weight.Weight.{Weight}
@@ -21,12 +21,12 @@ lines_more f vs i v within is =
     ∙ ap (λ l. interior_weights (map f (take i vs)) ++ l) (append-nil (filter_map area_of (f v)))
 
 -- with that of one position more, unless it is an end
-pub areas_more : (ws : List Weight) (i : ℕ) (d : Weight) (o : Option ℕ) (front old new : List ℕ) → i < length ws → o ≡ area_of (get_or ws i d)
-    → old ≡ front ++ filter_map area_of (take i ws) → new ≡ old ++ cons_option o [] → new ≡ front ++ filter_map area_of (take (i + 1) ws)
-areas_more ws i d o front old new within e was pushed =
-    pushed ∙ ap (λ l. l ++ cons_option o []) was ∙ append_assoc front (filter_map area_of (take i ws)) (cons_option o [])
-    ∙ ap (λ p. front ++ (filter_map area_of (take i ws) ++ cons_option p [])) e
-    ∙ ap (λ l. front ++ l) (sym (ap (filter_map area_of) (take_more ws i d within) ∙ filter_map-append area_of (take i ws) (get_or ws i d ∷ [])))
+pub areas_more : (ws : List Weight) (i : ℕ) (d : Weight) (o : Option ℕ) (prefix old new : List ℕ) → i < length ws → o ≡ area_of (get_or ws i d)
+    → old ≡ prefix ++ filter_map area_of (take i ws) → new ≡ old ++ cons_option o [] → new ≡ prefix ++ filter_map area_of (take (i + 1) ws)
+areas_more ws i d o prefix old new within e was pushed =
+    pushed ∙ ap (λ l. l ++ cons_option o []) was ∙ append_assoc prefix (filter_map area_of (take i ws)) (cons_option o [])
+    ∙ ap (λ p. prefix ++ (filter_map area_of (take i ws) ++ cons_option p [])) e
+    ∙ ap (λ l. prefix ++ l) (sym (ap (filter_map area_of) (take_more ws i d within) ∙ filter_map-append area_of (take i ws) (get_or ws i d ∷ [])))
 
 -- with the index of one position more, if it stays
 pub indexes_kept_more : (t : ℕ) (ws : List Weight) (i : ℕ) (d : Weight) (b : Bool) (old new : List ℕ) → i < length ws → b ≡ stays_at t (get_or ws i d)

@@ -12,7 +12,7 @@ use Rattle.effective_area.specs.declared.entry.Entry.{Entry}
 use Rattle.geometry.specs.Points.{Point}
 use Rattle.elimination_meaning.specs.Elimination.{Corner, is_before}
 use Rattle.elimination_meaning.proofs.Order.{one_corner}
-use Rattle.effective_area.specs.Links.{IsCurrent, IsUnder, Waits, LeavesCurrent, HasCorners, entry_cmp, rentry_cmp, turned, entry_in, before_in, after_in, noted, Pushed, PushedFirst}
+use Rattle.effective_area.specs.Links.{IsCurrent, IsUnder, IsDue, LeavesCurrent, HasCorners, entry_cmp, rentry_cmp, turned, entry_in, before_in, after_in, cached, Pushed, PushedFirst}
 
 pub contains_cases : {X : Type 0} (e : X) (ys : List X) (x : X) → Contains (e ∷ ys) x → (x ≡ e) ⊎ Contains ys x
 contains_cases e ys x (zero, h, k) = inl (sym k)
@@ -76,11 +76,11 @@ pushed t ps links old new v e perm u = record {
     on d (inl k) = inr (subst (λ x. IsUnder t ps links v x) (sym (ap (λ (x : Reverse Entry). x.0) k)) u)
     on d (inr k) = inl k
 
-pub put_behind : (t : ℕ) (ps : List Point) (links : List Link) (old new : List (Reverse Entry)) (v : ℕ) (e : Entry) →
+pub put_after : (t : ℕ) (ps : List Point) (links : List Link) (old new : List (Reverse Entry)) (v : ℕ) (e : Entry) →
     new ≡ old ++ (turned e ∷ []) → IsUnder t ps links v e → Pushed t ps links old new v
-put_behind t ps links old new v e p u = pushed t ps links old new v e (subst (λ l. IsPermutation (turned e ∷ old) l) (sym p) (IsPermutation-append_comm (turned e ∷ []) old)) u
+put_after t ps links old new v e p u = pushed t ps links old new v e (subst (λ l. IsPermutation (turned e ∷ old) l) (sym p) (IsPermutation-append_comm (turned e ∷ []) old)) u
 
-pub none_pushed : (t : ℕ) (ps : List Point) (links : List Link) (items : List (Reverse Entry)) (v : ℕ) → (Waits t ps links v → ⊥) → Pushed t ps links items items v
+pub none_pushed : (t : ℕ) (ps : List Point) (links : List Link) (items : List (Reverse Entry)) (v : ℕ) → (IsDue t ps links v → ⊥) → Pushed t ps links items items v
 none_pushed t ps links items v n = record { has = λ d h. h; here = λ w. absurd (n w); only = λ d h. inl h }
 
 pub corners_moved : (t : ℕ) (ps : List Point) (links : List Link) (xs ys : List (Reverse Entry)) (n : ℕ) → IsPermutation xs ys → HasCorners t ps links xs n → HasCorners t ps links ys n
@@ -89,26 +89,26 @@ corners_moved t ps links xs ys n p h = record {
   only = λ d k. h.only d (Contains-permutation ys xs (turned d) (IsPermutation-sym xs ys p) k);
 }
 
-index_of : (ps : List Point) (links : List Link) (v w : ℕ) → noted ps links v ≡ noted ps links w → v ≡ w
-index_of ps links v w e = unfold noted in ap (λ (c : Corner). c.index) e
+index_of : (ps : List Point) (links : List Link) (v w : ℕ) → cached ps links v ≡ cached ps links w → v ≡ w
+index_of ps links v w e = unfold cached in ap (λ (c : Corner). c.index) e
 
 -- a neighbour doesn't go before a corner that is due
-neighbour_after : (t : ℕ) (ps : List Point) (links : List Link) (u v : ℕ) → Waits t ps links v → (before_in links v ≡ u) ⊎ (after_in links v ≡ u) → is_before (noted ps links u) (noted ps links v) ≡ false
-neighbour_after t ps links u v h (inl e) = subst (λ x. is_before (noted ps links x) (noted ps links v) ≡ false) e h.before
-neighbour_after t ps links u v h (inr e) = subst (λ x. is_before (noted ps links x) (noted ps links v) ≡ false) e h.after
+neighbour_after : (t : ℕ) (ps : List Point) (links : List Link) (u v : ℕ) → IsDue t ps links v → (before_in links v ≡ u) ⊎ (after_in links v ≡ u) → is_before (cached ps links u) (cached ps links v) ≡ false
+neighbour_after t ps links u v h (inl e) = subst (λ x. is_before (cached ps links x) (cached ps links v) ≡ false) e h.before
+neighbour_after t ps links u v h (inr e) = subst (λ x. is_before (cached ps links x) (cached ps links v) ≡ false) e h.after
 
 -- the one of two neighbours that goes first is pushed
 pub inner_pushed : (t : ℕ) (ps : List Point) (links : List Link) (old new : List (Reverse Entry)) (v w : ℕ) (known : Bool) →
-    is_before (noted ps links w) (noted ps links v) ≡ false → Pushed t ps links old new v → PushedFirst t ps links old new v w known
+    is_before (cached ps links w) (cached ps links v) ≡ false → Pushed t ps links old new v → PushedFirst t ps links old new v w known
 inner_pushed t ps links old new v w known b p = record {
   has = p.has;
   inner = λ h _. p.here h;
-  outer = λ _ n h k. absurd (n (index_of ps links v w (one_corner (noted ps links v) (noted ps links w) (neighbour_after t ps links v w h k) b)));
+  outer = λ _ n h k. absurd (n (index_of ps links v w (one_corner (cached ps links v) (cached ps links w) (neighbour_after t ps links v w h k) b)));
   only = λ d h. elim (p.only d h) [ inl x ↦ inl x | inr x ↦ inr (inl x) ];
 }
 
 pub outer_pushed : (t : ℕ) (ps : List Point) (links : List Link) (old new : List (Reverse Entry)) (v w : ℕ) (known : Bool) →
-    is_before (noted ps links w) (noted ps links v) ≡ true → Pushed t ps links old new w → PushedFirst t ps links old new v w known
+    is_before (cached ps links w) (cached ps links v) ≡ true → Pushed t ps links old new w → PushedFirst t ps links old new v w known
 outer_pushed t ps links old new v w known b p = record {
   has = p.has;
   inner = λ h k. let f : false ≡ true = sym (neighbour_after t ps links w v h k) ∙ b in absurd (cc);
@@ -117,5 +117,5 @@ outer_pushed t ps links old new v w known b p = record {
 }
 
 pub outer_known : (t : ℕ) (ps : List Point) (links : List Link) (items : List (Reverse Entry)) (v w : ℕ) (known : Bool) →
-    is_before (noted ps links w) (noted ps links v) ≡ true → known ≡ true → PushedFirst t ps links items items v w known
+    is_before (cached ps links w) (cached ps links v) ≡ true → known ≡ true → PushedFirst t ps links items items v w known
 outer_known t ps links items v w known b e = grind (arith, neighbour_after)

@@ -9,7 +9,7 @@ use Rattle.effective_area.specs.Vertices.{origin}
 use Rattle.effective_area.specs.declared.links.Link.{Link}
 use Rattle.effective_area.specs.declared.entry.Entry.{Entry}
 use Rattle.effective_area.specs.Chains.{Chain, last_of}
-use Rattle.effective_area.specs.Links.{IsFirst, IsLinked, first_link, after_in, before_in, area_in, entry_at, entry_in, SetsAfter, SetsArea, SetsBefore, Unlinks, NotesArea, AreNoted, noted}
+use Rattle.effective_area.specs.Links.{IsFirst, IsLinked, first_link, after_in, before_in, area_in, entry_at, entry_in, SetsAfter, SetsArea, SetsBefore, Unlinks, CachesArea, AreCached, cached}
 use Rattle.effective_area.proofs.ChainLaws.{same_or_not}
 
 -- a field that a write leaves
@@ -44,12 +44,12 @@ pub entry_is : (ps : List Point) (b i a : ℕ) (x y z : Point) (n : ℕ) → b <
     x ≡ get_or ps b x → y ≡ get_or ps i y → z ≡ get_or ps a z → n ≡ twice_area x y z → entry_of n y b i a ≡ entry_at ps b i a
 entry_is ps b i a x y z n hb hi ha ex ey ez en = unfold entry_at in grind (arith, read)
 
-pub entry_noted : (ps : List Point) (b i a : ℕ) (y : Point) (n : ℕ) → i < length ps → y ≡ get_or ps i y → n ≡ (entry_at ps b i a).corner.area → entry_of n y b i a ≡ entry_at ps b i a
+pub entry_cached : (ps : List Point) (b i a : ℕ) (y : Point) (n : ℕ) → i < length ps → y ≡ get_or ps i y → n ≡ (entry_at ps b i a).corner.area → entry_of n y b i a ≡ entry_at ps b i a
 unfolding entry_at
-entry_noted ps b i a y n h e en = ap (λ m. entry_of m y b i a) en ∙ ap (λ u. entry_of (entry_at ps b i a).corner.area u b i a) (read ps i y h e)
+entry_cached ps b i a y n h e en = ap (λ m. entry_of m y b i a) en ∙ ap (λ u. entry_of (entry_at ps b i a).corner.area u b i a) (read ps i y h e)
 
-pub noted_at : (ps : List Point) (links : List Link) (i : ℕ) (y : Point) → i < length ps → y ≡ get_or ps i y → corner_of (area_in links i) y i ≡ noted ps links i
-noted_at ps links i y h e = unfold noted in ap (λ u. corner_of (area_in links i) u i) (read ps i y h e)
+pub cached_at : (ps : List Point) (links : List Link) (i : ℕ) (y : Point) → i < length ps → y ≡ get_or ps i y → corner_of (area_in links i) y i ≡ cached ps links i
+cached_at ps links i y h e = unfold cached in ap (λ u. corner_of (area_in links i) u i) (read ps i y h e)
 
 -- the area of a corner
 pub area_is : (ps : List Point) (b i a : ℕ) (x y z : Point) (n : ℕ) → b < length ps → i < length ps → a < length ps →
@@ -59,26 +59,26 @@ area_is ps b i a x y z n hb hi ha ex ey ez en = ap (λ (d : Entry). d.corner.are
 pub same_entry : (ps : List Point) (old new : List Link) (v : ℕ) → before_in new v ≡ before_in old v → after_in new v ≡ after_in old v → entry_in ps new v ≡ entry_in ps old v
 same_entry ps old new v e f = ap (λ x. entry_at ps x v (after_in new v)) e ∙ ap (λ x. entry_at ps (before_in old v) v x) f
 
-pub notes : (ps : List Point) (old new : List Link) (i n : ℕ) → 0 < i → i + 1 < length old → SetsArea old new i n → n ≡ (entry_in ps old i).corner.area → NotesArea ps old new i
+pub notes : (ps : List Point) (old new : List Link) (i n : ℕ) → 0 < i → i + 1 < length old → SetsArea old new i n → n ≡ (entry_in ps old i).corner.area → CachesArea ps old new i
 notes ps old new i n p q s e = grind (arith, same_entry)
 
-pub notes_end : (ps : List Point) (links : List Link) (i : ℕ) → (0 < i → i + 1 < length links → ⊥) → NotesArea ps links links i
+pub notes_end : (ps : List Point) (links : List Link) (i : ℕ) → (0 < i → i + 1 < length links → ⊥) → CachesArea ps links links i
 notes_end ps links i h = record { same = refl; here = λ p q. absurd (h p q); ends = λ _. refl; others = λ _ _. refl; befores = λ _. refl; afters = λ _. refl }
 
 -- the areas up to i are cached
-pub record NotedTo (ps : List Point) (old new : List Link) (i : ℕ) : Type 0 where
+pub record CachedTo (ps : List Point) (old new : List Link) (i : ℕ) : Type 0 where
   pub first : IsFirst new (length ps)
   pub done : (v : ℕ) → 0 < v → v < i → area_in new v ≡ (entry_in ps new v).corner.area
   pub rest : (v : ℕ) → (v ≡ 0) ⊎ (i ≤ v) → area_in new v ≡ area_in old v
 
-pub noted_start : (ps : List Point) (links : List Link) → IsFirst links (length ps) → NotedTo ps links links 1
-noted_start ps links f = record { first = f; done = λ v p q. absurd (omega (arith, p, q)); rest = λ _ _. refl }
+pub cached_start : (ps : List Point) (links : List Link) → IsFirst links (length ps) → CachedTo ps links links 1
+cached_start ps links f = record { first = f; done = λ v p q. absurd (omega (arith, p, q)); rest = λ _ _. refl }
 
-pub noted_more : (ps : List Point) (old mid new : List Link) (i : ℕ) → 0 < i → i + 1 < length ps → NotedTo ps old mid i → NotesArea ps mid new i → NotedTo ps old new (i + 1)
-noted_more ps old mid new i p q h n = grind (arith, same_or_not, same_entry)
+pub cached_more : (ps : List Point) (old mid new : List Link) (i : ℕ) → 0 < i → i + 1 < length ps → CachedTo ps old mid i → CachesArea ps mid new i → CachedTo ps old new (i + 1)
+cached_more ps old mid new i p q h n = grind (arith, same_or_not, same_entry)
 
-pub noted_all : (ps : List Point) (old new : List Link) (i t : ℕ) → NotedTo ps old new i → i ≡ length ps - 1 → 2 ≤ length ps → ((v : ℕ) → v < length ps → area_in old v ≡ t) → AreNoted t ps new
-noted_all ps old new i t h e two f = grind arith
+pub cached_all : (ps : List Point) (old new : List Link) (i t : ℕ) → CachedTo ps old new i → i ≡ length ps - 1 → 2 ≤ length ps → ((v : ℕ) → v < length ps → area_in old v ≡ t) → AreCached t ps new
+cached_all ps old new i t h e two f = grind arith
 
 at_each : (g : Link → ℕ) (k : ℕ → ℕ) (xs : List Link) (i : ℕ) (x : Link) → length xs ≡ i → (v : ℕ) → v < i + 1 → g x ≡ k i → ((w : ℕ) → w < i → g (get_or xs w first_link) ≡ k w) → g (get_or (xs ++ (x ∷ [])) v first_link) ≡ k v
 at_each g k xs i x z v h here old = on (same_or_not v i)

@@ -7,14 +7,14 @@ use Rattle.std.specs.declared.cmp.Ordering.TheVariants.{Less, Equal, Greater}
 use Rattle.geometry.specs.Lists.{In}
 use Rattle.geometry.specs.Points.{Point}
 use Rattle.elimination_meaning.specs.Elimination.{Corner, corner_at, corner_cmp, corners, least, lesser, is_before}
-use Rattle.effective_area.specs.Vertices.{vertex_at, vertices, seen}
+use Rattle.effective_area.specs.Vertices.{vertex_at, vertices, candidate_corner}
 use Rattle.std.specs.Cmp.{nat_cmp_is}
 use Rattle.geometry.specs.Order.{point_cmp}
 use Rattle.elimination_meaning.proofs.Steps.{Holds, least_holds}
 use Rattle.effective_area.specs.declared.entry.Entry.{Entry}
 use Rattle.effective_area.specs.Chains.{Chain, last_of}
 use Rattle.effective_area.specs.Links.{entry_cmp}
-use Rattle.list_laws.proofs.Elements.{all_weaker}
+use Rattle.owned_values.proofs.Elements.{all_weaker}
 use Rattle.std.specs.Cmp.{IsStrictWeakOrder}
 use Rattle.std.proofs.lemmas.List.MinMax.{ranks_by}
 use Rattle.elimination_meaning.proofs.Order.{corner_total}
@@ -105,9 +105,9 @@ first_part Less x h = cc
 first_part Equal x h = refl
 first_part Greater x h = refl
 
-pub corner_first : (d e : Entry) → is_lt (entry_cmp d e) ≡ false → is_before (seen d.corner) (seen e.corner) ≡ false
+pub corner_first : (d e : Entry) → is_lt (entry_cmp d e) ≡ false → is_before (candidate_corner d.corner) (candidate_corner e.corner) ≡ false
 unfolding is_before
-corner_first d e h = first_part (corner_cmp (seen d.corner) (seen e.corner)) (ordering_then (nat_cmp d.before e.before) (nat_cmp d.after e.after)) h
+corner_first d e h = first_part (corner_cmp (candidate_corner d.corner) (candidate_corner e.corner)) (ordering_then (nat_cmp d.before e.before) (nat_cmp d.after e.after)) h
 
 -- one with a greater area goes later
 pub over_later : (c d : Corner) → d.area < c.area → is_before c d ≡ false

@@ -12,10 +12,10 @@ use Rattle.std.proofs.lemmas.List.{get_or_default, get_or_append_left, get_or_pu
 use Rattle.std.proofs.lemmas.List.Elements.{All-contains, All-from_recursion, Contains-append_left, Contains-append_right, Contains-append_cases}
 use Rattle.std.proofs.lemmas.List.MinMax.{ranks_by}
 use Rattle.std.proofs.lemmas.List.Sorted.{IsPermutation-append_right, IsPermutation-middle, IsPermutation-trans}
-use Rattle.list_laws.proofs.Elements.{all_weaker, all_append}
+use Rattle.owned_values.proofs.Elements.{all_weaker, all_append}
 use Rattle.geometry.specs.Points.{Point}
 use Rattle.elimination_meaning.proofs.Order.{corner_total}
-use Rattle.effective_area.specs.Vertices.{seen}
+use Rattle.effective_area.specs.Vertices.{candidate_corner}
 use Rattle.effective_area.specs.Links.{GoesFirst, IsUnder, PushedFirst, rentry_cmp, turned, entry_in}
 use Rattle.effective_area.specs.declared.links.Link.{Link}
 use Rattle.effective_area.specs.declared.entry.Entry.{Entry}
@@ -27,7 +27,7 @@ under x y = is_lt (rentry_cmp x y)
 
 turned_total : IsTotalOrder rentry_cmp
 turned_total =
-    back_total (on_total (λ (r : Reverse Entry). r.0) (then_total (on_total (λ (d : Entry). seen d.corner) corner_total) (then_total (on_total (λ (d : Entry). d.before) nat_cmp_total) (on_total (λ (d : Entry). d.after) nat_cmp_total))))
+    back_total (on_total (λ (r : Reverse Entry). r.0) (then_total (on_total (λ (d : Entry). candidate_corner d.corner) corner_total) (then_total (on_total (λ (d : Entry). d.before) nat_cmp_total) (on_total (λ (d : Entry). d.after) nat_cmp_total))))
 
 turned_order : IsStrictWeakOrder under
 turned_order = ranks_by turned_total (λ c. c)
@@ -66,8 +66,8 @@ last_of_sorted xs x s =
     let z : length (xs ++ (x ∷ [])) - 1 ≡ length xs = omega (arith, n) in
     last_bound (xs ++ (x ∷ [])) x s (omega (arith, n)) (sym (ap (λ m. get_or (xs ++ (x ∷ [])) m x) z ∙ get_or_push xs x x (length xs) refl))
 
-pub front_sorted : (xs ys : List (Reverse Entry)) → IsSorted rentry_cmp (xs ++ ys) → IsSorted rentry_cmp xs
-front_sorted xs ys s = λ k d l h.
+pub prefix_sorted : (xs ys : List (Reverse Entry)) → IsSorted rentry_cmp (xs ++ ys) → IsSorted rentry_cmp xs
+prefix_sorted xs ys s = λ k d l h.
     let n : length (xs ++ ys) ≡ length xs + length ys = length-append xs ys in
     ap (λ y. under y (get_or xs k d)) (sym (get_or_append_left xs ys d (k + 1) (omega (arith, h))))
     ∙ ap (λ y. under (get_or (xs ++ ys) (k + 1) d) y) (sym (get_or_append_left xs ys d k (omega (arith, h))))
@@ -131,9 +131,9 @@ both_empty xs ys e f = ap (λ l. l ++ ys) e ∙ f
 
 -- ---- one is pushed
 
-pub pushed_behind : (t : ℕ) (ps : List Point) (links : List Link) (xs old new : List (Reverse Entry)) (v w : ℕ) (known : Bool) →
+pub pushed_after : (t : ℕ) (ps : List Point) (links : List Link) (xs old new : List (Reverse Entry)) (v w : ℕ) (known : Bool) →
     PushedFirst t ps links old new v w known → PushedFirst t ps links (xs ++ old) (xs ++ new) v w known
-pushed_behind t ps links xs old new v w known p = record {
+pushed_after t ps links xs old new v w known p = record {
   has = λ d h. still d (Contains-append_cases xs old (turned d) h);
   inner = λ h k. Contains-append_right xs new (turned (entry_in ps links v)) (p.inner h k);
   outer = λ f n h k. Contains-append_right xs new (turned (entry_in ps links w)) (p.outer f n h k);

@@ -15,9 +15,9 @@ use Rattle.effective_area.specs.Shares.{IsGreatestShare, ShareIsGreatest, count_
 abbrev Known : (ℕ → Bool) → List ℕ → ℕ → Type 0
 Known f ws t = (t ≡ 0) ⊎ (Contains ws t × (f t ≡ true))
 
-behind : (f : ℕ → Bool) (w : ℕ) (ws : List ℕ) (t : ℕ) → Known f ws t → Known f (w ∷ ws) t
-behind f w ws t (inl e) = inl e
-behind f w ws t (inr k) = inr (Contains-append_right (w ∷ []) ws t k.0, k.1)
+following : (f : ℕ → Bool) (w : ℕ) (ws : List ℕ) (t : ℕ) → Known f ws t → Known f (w ∷ ws) t
+following f w ws t (inl e) = inl e
+following f w ws t (inr k) = inr (Contains-append_right (w ∷ []) ws t k.0, k.1)
 
 here : (f : ℕ → Bool) (w : ℕ) (ws : List ℕ) → f w ≡ true → Known f (w ∷ ws) w
 here f w ws e = inr (Contains-get_or (w ∷ ws) 0 w (omega arith), e)
@@ -35,8 +35,8 @@ known_of f (w ∷ ws) = on (f w) refl (known_of f ws)
   where
     on : (b : Bool) → f w ≡ b → Known f ws (greatest (filter f ws)) → Known f (w ∷ ws) (greatest (cond (f w) (w ∷ filter f ws) (filter f ws)))
     on true e ih = subst (λ b. Known f (w ∷ ws) (greatest (cond b (w ∷ filter f ws) (filter f ws)))) (sym e)
-        (larger f (w ∷ ws) w (greatest (filter f ws)) (here f w ws e) (behind f w ws (greatest (filter f ws)) ih))
-    on false e ih = subst (λ b. Known f (w ∷ ws) (greatest (cond b (w ∷ filter f ws) (filter f ws)))) (sym e) (behind f w ws (greatest (filter f ws)) ih)
+        (larger f (w ∷ ws) w (greatest (filter f ws)) (here f w ws e) (following f w ws (greatest (filter f ws)) ih))
+    on false e ih = subst (λ b. Known f (w ∷ ws) (greatest (cond b (w ∷ filter f ws) (filter f ws)))) (sym e) (following f w ws (greatest (filter f ws)) ih)
 
 under_first : (b : Bool) (n w : ℕ) (ns : List ℕ) → n ≤ greatest ns → n ≤ greatest (cond b (w ∷ ns) ns)
 under_first true n w ns h = omega arith

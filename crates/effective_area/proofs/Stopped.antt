@@ -16,7 +16,7 @@ use Rattle.effective_area.specs.Capped.{AreFilled, IsCapped, IsFoundTo, IsStoppe
 use Rattle.effective_area.specs.Chains.{last_of}
 use Rattle.effective_area.specs.Links.{IsLinked, IsState}
 use Rattle.effective_area.specs.Vertices.{vertices}
-use Rattle.effective_area.specs.Weights.{told, weights_of}
+use Rattle.effective_area.specs.Weights.{reported, weights_of}
 use Rattle.effective_area.specs.declared.entry.Entry.{Entry}
 use Rattle.effective_area.specs.declared.links.Link.{Link}
 use Rattle.effective_area.specs.declared.weight.Weight.{Weight}
@@ -30,11 +30,11 @@ use Rattle.effective_area.proofs.Weighed.{AreWeighed, IsLow, all_weighed}
 
 pub weights_length : (ps : List Point) → length (weights_of ps) ≡ length ps
 unfolding weights_of
-weights_length ps = length-map-range_with_len (λ i. told (weight ps i)) 0 (length ps)
+weights_length ps = length-map-range_with_len (λ i. reported (weight ps i)) 0 (length ps)
 
-weights_at : (ps : List Point) (i : ℕ) → i < length ps → get_or (weights_of ps) i End ≡ told (weight ps i)
+weights_at : (ps : List Point) (i : ℕ) → i < length ps → get_or (weights_of ps) i End ≡ reported (weight ps i)
 unfolding weights_of
-weights_at ps i h = get_or-map-range_with_len (λ j. told (weight ps j)) 0 (length ps) i i End h (omega arith)
+weights_at ps i h = get_or-map-range_with_len (λ j. reported (weight ps j)) 0 (length ps) i i End h (omega arith)
 
 -- ---- what is known of some elements
 
@@ -65,7 +65,7 @@ module _ (ps : List Point) (links : List Link) (level left : ℕ) (vs : List ℕ
   between_present : (i : ℕ) → i < length ps → In i (0 ∷ vs) → HasWeight ps i → or_area level (get_or ws i End) ≡ capped_at level (get_or (weights_of ps) i End)
   between_present i h k has =
       let p = w.present i h k in
-      ap (or_area level) p.0 ∙ capped_high level has.area (not_lower (left + 2) level (vertices ps (0 ∷ vs)) i has.area (sym p.1 ∙ has.is)) ∙ ap (capped_at level) (sym (weights_at ps i h ∙ ap told has.is))
+      ap (or_area level) p.0 ∙ capped_high level has.area (not_lower (left + 2) level (vertices ps (0 ∷ vs)) i has.area (sym p.1 ∙ has.is)) ∙ ap (capped_at level) (sym (weights_at ps i h ∙ ap reported has.is))
 
   between_gone : (i : ℕ) → i < length ps → (In i (0 ∷ vs) → ⊥) → or_area level (get_or ws i End) ≡ capped_at level (get_or (weights_of ps) i End)
   between_gone i h k =
@@ -87,7 +87,7 @@ module _ (ps : List Point) (links : List Link) (level left : ℕ) (vs : List ℕ
   ends_present i (inr e) = let f : last_of 0 vs ≡ i = omega (arith, e, linked.last, size) in subst (λ (j : ℕ). In j (0 ∷ vs)) f (last_present 0 vs)
 
   ends_at : (i : ℕ) → (i ≡ 0) ⊎ (i + 1 ≡ length ps) → i < length ps → (get_or ws i End ≡ End) × (get_or (weights_of ps) i End ≡ End)
-  ends_at i e h = ((w.present i h (ends_present i e)).0, weights_at ps i h ∙ ap told (ends_without ps i two e))
+  ends_at i e h = ((w.present i h (ends_present i e)).0, weights_at ps i h ∙ ap reported (ends_without ps i two e))
 
   ends : (i : ℕ) → (i ≡ 0) ⊎ (i + 1 ≡ length (weights_of ps)) → (get_or ws i End ≡ End) × (get_or (weights_of ps) i End ≡ End)
   ends i (inl e) = ends_at i (inl e) (omega (arith, e, two))
@@ -179,6 +179,6 @@ pub written_over : {A : Type 0} (n : ℕ) (xs ys : List A) → n ≡ length xs �
 written_over n xs ys is = rw is (take-append_seam xs (drop (length xs) ys))
 
 -- where there are fewer positions, all weights are reported
-pub all_told : (most : ℕ) (ps : List Point) (new : List Weight) → length ps < most → IsCapped most (weights_of ps) new → new ≡ weights_of ps
-all_told most ps new h (inl e) = e
-all_told most ps new h (inr s) = absurd (omega (arith, h, s.enough, count_by-le-length (is_within s.level) (weights_of ps), weights_length ps))
+pub all_reported : (most : ℕ) (ps : List Point) (new : List Weight) → length ps < most → IsCapped most (weights_of ps) new → new ≡ weights_of ps
+all_reported most ps new h (inl e) = e
+all_reported most ps new h (inr s) = absurd (omega (arith, h, s.enough, count_by-le-length (is_within s.level) (weights_of ps), weights_length ps))

@@ -5,7 +5,7 @@ use Rattle.std.specs.declared.cmp.Reverse.{Reverse}
 use Rattle.geometry.specs.Lists.{In}
 use Rattle.geometry.specs.Points.{Point}
 use Rattle.elimination_meaning.specs.Elimination.{Vertex, Corner, corner_at, corners, least, is_before, eliminate, numbered}
-use Rattle.effective_area.specs.Vertices.{vertex_at, vertices, seen}
+use Rattle.effective_area.specs.Vertices.{vertex_at, vertices, candidate_corner}
 use Rattle.std.proofs.lemmas.Bool.{cases_lt}
 use Rattle.std.proofs.lemmas.List.FromFn.{length-range_with_len}
 use Rattle.elimination_meaning.proofs.Steps.{eliminate_zero, least_holds}
@@ -14,7 +14,7 @@ use Rattle.effective_area.proofs.Scan.{step_some, step_none, step_over, without_
 use Rattle.effective_area.specs.declared.links.Link.{Link}
 use Rattle.effective_area.specs.declared.entry.Entry.{Entry}
 use Rattle.effective_area.specs.Chains.{Chain, last_of}
-use Rattle.effective_area.specs.Links.{after_in, before_in, area_in, entry_at, noted, turned, AreNoted, IsCurrent, IsReady, IsSound, IsLinked, Covers, NotesArea, Unlinks, LeavesCurrent, IsState, IsTakenOut, TakesFirst, IsFirst, IsUnder, Fits, Pushed, PushedFirst, Waits, HasCorners, entry_in}
+use Rattle.effective_area.specs.Links.{after_in, before_in, area_in, entry_at, cached, turned, AreCached, IsCurrent, IsReady, IsSound, IsLinked, Covers, CachesArea, Unlinks, LeavesCurrent, IsState, IsRemoved, RemovesFirst, IsFirst, IsUnder, Fits, Pushed, PushedFirst, IsDue, HasCorners, entry_in}
 use Rattle.effective_area.proofs.LinkLaws.{same_entry}
 use Rattle.effective_area.proofs.ChainLaws.{same_or_not, keep_step, named, cut_out, least_is}
 use Rattle.effective_area.proofs.LinkedCorners.{in_or_not, in_filter, last_filter, next_in, one_less, prev_in, in_last, prev_next, next_prev, in_present, all_present, in_length, corner_first, over_later, under_first, earlier, NoneBefore, all_in, least_decides}
@@ -28,28 +28,28 @@ sound_at t ps b v a h k l u = unfold entry_at in record { is = refl; before = h;
 index_at : (ps : List Point) (b v a : ℕ) → (entry_at ps b v a).corner.index ≡ v
 index_at ps b v a = unfold entry_at in refl
 
-corner_of_entry : (ps : List Point) (b v a : ℕ) → seen (entry_at ps b v a).corner ≡ corner_at (vertex_at ps b) (vertex_at ps v) (vertex_at ps a)
+corner_of_entry : (ps : List Point) (b v a : ℕ) → candidate_corner (entry_at ps b v a).corner ≡ corner_at (vertex_at ps b) (vertex_at ps v) (vertex_at ps a)
 corner_of_entry ps b v a = unfold entry_at in refl
 
-module _ (t : ℕ) (ps : List Point) (links : List Link) (vs : List ℕ) (linked : IsLinked links vs) (notes : AreNoted t ps links) where
+module _ (t : ℕ) (ps : List Point) (links : List Link) (vs : List ℕ) (linked : IsLinked links vs) (notes : AreCached t ps links) where
   abbrev corner_of : ℕ → Corner
   corner_of v = corner_at (vertex_at ps (before_in links v)) (vertex_at ps v) (vertex_at ps (after_in links v))
 
   -- the cached corner is the corner
-  noted_is : (v : ℕ) → 0 < v → In v vs → v < last_of 0 vs → noted ps links v ≡ corner_of v
-  noted_is v p k l = unfold noted in grind (arith, named, corner_of_entry)
+  cached_is : (v : ℕ) → 0 < v → In v vs → v < last_of 0 vs → cached ps links v ≡ corner_of v
+  cached_is v p k l = unfold cached in grind (arith, named, corner_of_entry)
 
   -- an end never goes before a corner under the threshold
-  end_later : (u v : ℕ) → (u ≡ 0) ⊎ (u + 1 ≡ length links) → (noted ps links v).area < t → is_before (noted ps links u) (noted ps links v) ≡ false
-  end_later u v k h = unfold noted in over_later (noted ps links u) (noted ps links v) (omega (arith, h, notes.ends u k))
+  end_later : (u v : ℕ) → (u ≡ 0) ⊎ (u + 1 ≡ length links) → (cached ps links v).area < t → is_before (cached ps links u) (cached ps links v) ≡ false
+  end_later u v k h = unfold cached in over_later (cached ps links u) (cached ps links v) (omega (arith, h, notes.ends u k))
 
   neighbour_later : (u v : ℕ) → 0 < v → In v vs → v < last_of 0 vs → (corner_of v).area < t → NoneBefore (corner_of v) (corners (vertices ps (0 ∷ vs))) → (u ≡ 0) ⊎ In u vs →
-      is_before (noted ps links u) (noted ps links v) ≡ false
-  neighbour_later u v p k l h none m = grind (arith, noted_is, named, all_in, in_present, in_last, end_later)
+      is_before (cached ps links u) (cached ps links v) ≡ false
+  neighbour_later u v p k l h none m = grind (arith, cached_is, named, all_in, in_present, in_last, end_later)
 
   -- the first corner of all is due, if it is under the threshold
-  first_waits : (v : ℕ) → 0 < v → In v vs → v < last_of 0 vs → (corner_of v).area < t → NoneBefore (corner_of v) (corners (vertices ps (0 ∷ vs))) → Waits t ps links v
-  first_waits v p k l h none = record {
+  first_is_due : (v : ℕ) → 0 < v → In v vs → v < last_of 0 vs → (corner_of v).area < t → NoneBefore (corner_of v) (corners (vertices ps (0 ∷ vs))) → IsDue t ps links v
+  first_is_due v p k l h none = record {
     later = p;
     inside = omega (arith, l, linked.last);
     under = subst (λ (c : Corner). c.area < t) (sym (corner_of_entry ps (before_in links v) v (after_in links v))) h;
@@ -59,14 +59,14 @@ module _ (t : ℕ) (ps : List Point) (links : List Link) (vs : List ℕ) (linked
 
   -- what is present can be compared
   pub ready_at : length links ≡ length ps → (v : ℕ) → (v ≡ 0) ⊎ In v vs → IsReady ps links v
-  ready_at size v (inl e) = record { within = omega (arith, e, linked.last); fits = λ p _. absurd (omega (arith, p, e)); noted = λ p _. absurd (omega (arith, p, e)) }
+  ready_at size v (inl e) = record { within = omega (arith, e, linked.last); fits = λ p _. absurd (omega (arith, p, e)); cached = λ p _. absurd (omega (arith, p, e)) }
   ready_at size v (inr k) =
       let n = named (after_in links) (before_in links) 0 vs v linked.chain k in
       let a = in_last (after_in links) (before_in links) 0 vs v linked.chain k in
       record {
         within = omega (arith, a, linked.last);
         fits = λ p q. let m = next_in (after_in links) (before_in links) 0 vs v linked.chain k (omega (arith, q, linked.last)) in record { before = n.1; after = m.1; within = omega (arith, m.2, linked.last, size) };
-        noted = λ p q. notes.between v p q (λ x. absurd (omega (arith, x, n.1)));
+        cached = λ p q. notes.between v p q (λ x. absurd (omega (arith, x, n.1)));
       }
 
 -- the neighbours of what is present are present
@@ -74,8 +74,8 @@ pub ahead_in : (links : List Link) (vs : List ℕ) (b f : ℕ) → IsLinked link
 ahead_in links vs b f h (inl e) z n = inl (z e ∙ e)
 ahead_in links vs b f h (inr k) z n = grind (arith, named, prev_in)
 
-pub behind_in : (links : List Link) (vs : List ℕ) (a l : ℕ) → IsLinked links vs → In a vs → (a + 1 ≡ length links → l ≡ a) → (a + 1 < length links → l ≡ after_in links a) → In l vs
-behind_in links vs a l h k z n = grind (arith, next_in, in_last)
+pub after_is_in : (links : List Link) (vs : List ℕ) (a l : ℕ) → IsLinked links vs → In a vs → (a + 1 ≡ length links → l ≡ a) → (a + 1 < length links → l ≡ after_in links a) → In l vs
+after_is_in links vs a l h k z n = grind (arith, next_in, in_last)
 
 -- two areas are computed again
 pub record Renews (ps : List Point) (old new : List Link) (b a : ℕ) : Type 0 where
@@ -83,10 +83,10 @@ pub record Renews (ps : List Point) (old new : List Link) (b a : ℕ) : Type 0 w
   pub ends : (v : ℕ) → (v ≡ 0) ⊎ (v + 1 ≡ length new) → area_in new v ≡ area_in old v
   pub others : (v : ℕ) → v ≢ b → v ≢ a → area_in new v ≡ area_in old v
 
-pub renews : (ps : List Point) (links one two new : List Link) (b a : ℕ) → b < a → ((v : ℕ) → area_in one v ≡ area_in links v) → NotesArea ps one two b → NotesArea ps two new a → Renews ps links new b a
+pub renews : (ps : List Point) (links one two new : List Link) (b a : ℕ) → b < a → ((v : ℕ) → area_in one v ≡ area_in links v) → CachesArea ps one two b → CachesArea ps two new a → Renews ps links new b a
 renews ps links one two new b a lt same nb na = grind (arith, same_or_not, same_entry)
 
-pub unlinks_on : (ps : List Point) (old mid new : List Link) (b i a v : ℕ) → Unlinks old mid b i a → NotesArea ps mid new v → Unlinks old new b i a
+pub unlinks_on : (ps : List Point) (old mid new : List Link) (b i a v : ℕ) → Unlinks old mid b i a → CachesArea ps mid new v → Unlinks old new b i a
 unlinks_on ps old mid new b i a v u n = grind arith
 
 module _ (t : ℕ) (ps : List Point) (links links' : List Link) (items mid items' : List (Reverse Entry)) (left : ℕ) (vs : List ℕ) (e : Entry)
@@ -102,29 +102,29 @@ module _ (t : ℕ) (ps : List Point) (links links' : List Link) (items mid items
   inside : e.corner.index < last_of 0 vs
   inside = omega (arith, s.linked.last, s.size, so.after, so.within)
 
-  at_entry : seen e.corner ≡ corner_of t ps links vs s.linked s.noted e.corner.index
+  at_entry : candidate_corner e.corner ≡ corner_of t ps links vs s.linked s.cached e.corner.index
   at_entry = grind (arith, corner_of_entry)
 
   -- the first corner of all doesn't go before the entry: it is due, or it isn't under the threshold
-  not_before : (v : ℕ) → 0 < v → In v vs → v < last_of 0 vs → NoneBefore (corner_of t ps links vs s.linked s.noted v) (corners (vertices ps (0 ∷ vs))) →
-      is_before (corner_of t ps links vs s.linked s.noted v) (seen e.corner) ≡ false
-  not_before v p k m none = on (cases_lt (corner_of t ps links vs s.linked s.noted v).area t)
+  not_before : (v : ℕ) → 0 < v → In v vs → v < last_of 0 vs → NoneBefore (corner_of t ps links vs s.linked s.cached v) (corners (vertices ps (0 ∷ vs))) →
+      is_before (corner_of t ps links vs s.linked s.cached v) (candidate_corner e.corner) ≡ false
+  not_before v p k m none = on (cases_lt (corner_of t ps links vs s.linked s.cached v).area t)
     where
-      on : ((corner_of t ps links vs s.linked s.noted v).area < t) ⊎ (t ≤ (corner_of t ps links vs s.linked s.noted v).area) → is_before (corner_of t ps links vs s.linked s.noted v) (seen e.corner) ≡ false
+      on : ((corner_of t ps links vs s.linked s.cached v).area < t) ⊎ (t ≤ (corner_of t ps links vs s.linked s.cached v).area) → is_before (corner_of t ps links vs s.linked s.cached v) (candidate_corner e.corner) ≡ false
       on (inl u) =
           let n = named (after_in links) (before_in links) 0 vs v s.linked.chain k in
-          let c = s.covers v (λ q. absurd (omega (arith, q, n.1))) (first_waits t ps links vs s.linked s.noted v p k m u none) in
-          subst (λ x. is_before x (seen e.corner) ≡ false) (corner_of_entry ps (before_in links v) v (after_in links v))
+          let c = s.covers v (λ q. absurd (omega (arith, q, n.1))) (first_is_due t ps links vs s.linked s.cached v p k m u none) in
+          subst (λ x. is_before x (candidate_corner e.corner) ≡ false) (corner_of_entry ps (before_in links v) v (after_in links v))
           (corner_first (entry_in ps links v) e (l.first e (entry_in ps links v) refl c (current_at ps links v (omega (arith, s.linked.last, m)))))
-      on (inr o) = over_later (corner_of t ps links vs s.linked s.noted v) (seen e.corner) (omega (arith, o, so.under))
+      on (inr o) = over_later (corner_of t ps links vs s.linked s.cached v) (candidate_corner e.corner) (omega (arith, o, so.under))
 
   -- the entry is the first corner of all
-  pub is_least : least (corners (vertices ps (0 ∷ vs))) ≡ Some (seen e.corner)
-  is_least = least_is (seen e.corner) (corners (vertices ps (0 ∷ vs)))
+  pub is_least : least (corners (vertices ps (0 ∷ vs))) ≡ Some (candidate_corner e.corner)
+  is_least = least_is (candidate_corner e.corner) (corners (vertices ps (0 ∷ vs)))
       (subst (λ x. In x (corners (vertices ps (0 ∷ vs)))) (sym at_entry) (in_present (after_in links) (before_in links) ps vs e.corner.index s.linked.chain in_vs inside))
-      (least_decides (λ d. is_before d (seen e.corner) ≡ false) (λ d. is_before d (seen e.corner) ≡ false) (corners (vertices ps (0 ∷ vs)))
-      (all_present (after_in links) (before_in links) (λ d. NoneBefore d (corners (vertices ps (0 ∷ vs))) → is_before d (seen e.corner) ≡ false) ps vs s.linked.chain not_before)
-      (λ d x h n. earlier.chain x d (seen e.corner) n h))
+      (least_decides (λ d. is_before d (candidate_corner e.corner) ≡ false) (λ d. is_before d (candidate_corner e.corner) ≡ false) (corners (vertices ps (0 ∷ vs)))
+      (all_present (after_in links) (before_in links) (λ d. NoneBefore d (corners (vertices ps (0 ∷ vs))) → is_before d (candidate_corner e.corner) ≡ false) ps vs s.linked.chain not_before)
+      (λ d x h n. earlier.chain x d (candidate_corner e.corner) n h))
 
   module _ (un : Unlinks links links' e.before e.corner.index e.after) where
     abbrev pub rest_of : List ℕ
@@ -195,10 +195,10 @@ module _ (t : ℕ) (ps : List Point) (links links' : List Link) (items mid items
     same_at v n m k = (un.others_back v k (λ x. n (ap (before_in links') x ∙ un.out ∙ sym x)), un.others v m)
 
     -- the ones beside its neighbours
-    pub beside_before : (v : ℕ) → Waits t ps links' v → before_in links' v ≢ v → after_in links' v ≡ e.before → (v < e.before) × (v ≡ before_in links e.before)
+    pub beside_before : (v : ℕ) → IsDue t ps links' v → before_in links' v ≢ v → after_in links' v ≡ e.before → (v < e.before) × (v ≡ before_in links e.before)
     beside_before v w n h = grind (arith, there, last', next_in, chain', next_prev)
 
-    pub beside_after : (v : ℕ) → Waits t ps links' v → before_in links' v ≢ v → before_in links' v ≡ e.after → (e.after < v) × (v ≡ after_in links e.after)
+    pub beside_after : (v : ℕ) → IsDue t ps links' v → before_in links' v ≢ v → before_in links' v ≡ e.after → (e.after < v) × (v ≡ after_in links e.after)
     beside_after v w n h =
         let k = there v w.later (omega (arith, w.inside)) n in
         let m = named (after_in links') (before_in links') 0 rest_of v chain' k in (
@@ -207,21 +207,21 @@ module _ (t : ℕ) (ps : List Point) (links links' : List Link) (items mid items
         )
 
     module _ (re : Renews ps links links' e.before e.after) where
-      pub notes_on : AreNoted t ps links'
+      pub notes_on : AreCached t ps links'
       notes_on = grind (arith, same_or_not, same_at, same_entry)
 
-      noted_same : (v : ℕ) → v ≢ e.before → v ≢ e.after → noted ps links' v ≡ noted ps links v
-      unfolding noted
-      noted_same v m k = ap (λ n. one n) (re.others v m k)
+      cached_same : (v : ℕ) → v ≢ e.before → v ≢ e.after → cached ps links' v ≡ cached ps links v
+      unfolding cached
+      cached_same v m k = ap (λ n. one n) (re.others v m k)
         where
           one : ℕ → Corner
           one n = record { area = n; point = (vertex_at ps v).point; index = v }
 
       module _ (has : (d : Entry) → Contains mid (turned d) → Contains items' (turned d))
-          (near : Waits t ps links' e.before → Contains items' (turned (entry_in ps links' e.before)))
-          (far : Waits t ps links' e.after → Contains items' (turned (entry_in ps links' e.after)))
-          (ahead : (v : ℕ) → Waits t ps links' v → before_in links' v ≢ v → after_in links' v ≡ e.before → (is_before (noted ps links e.before) (noted ps links v) ≡ false) ⊎ Contains items' (turned (entry_in ps links' v)))
-          (behind : (v : ℕ) → Waits t ps links' v → before_in links' v ≢ v → before_in links' v ≡ e.after → (is_before (noted ps links e.after) (noted ps links v) ≡ false) ⊎ Contains items' (turned (entry_in ps links' v)))
+          (near : IsDue t ps links' e.before → Contains items' (turned (entry_in ps links' e.before)))
+          (far : IsDue t ps links' e.after → Contains items' (turned (entry_in ps links' e.after)))
+          (ahead : (v : ℕ) → IsDue t ps links' v → before_in links' v ≢ v → after_in links' v ≡ e.before → (is_before (cached ps links e.before) (cached ps links v) ≡ false) ⊎ Contains items' (turned (entry_in ps links' v)))
+          (following : (v : ℕ) → IsDue t ps links' v → before_in links' v ≢ v → before_in links' v ≡ e.after → (is_before (cached ps links e.after) (cached ps links v) ≡ false) ⊎ Contains items' (turned (entry_in ps links' v)))
           (only : (d : Entry) → Contains items' (turned d) → Contains mid (turned d) ⊎ ((v : ℕ) × IsReady ps links' v × IsUnder t ps links' v d)) where
         covers' : Covers t ps links' items'
         covers' v n w = on (same_or_not v e.before) (same_or_not v e.after)
@@ -230,13 +230,13 @@ module _ (t : ℕ) (ps : List Point) (links links' : List Link) (items mid items
             There = Contains items' (turned (entry_in ps links' v))
 
             -- an old entry stays
-            old : v ≢ e.before → v ≢ e.after → is_before (noted ps links (before_in links v)) (noted ps links v) ≡ false → is_before (noted ps links (after_in links v)) (noted ps links v) ≡ false → There
+            old : v ≢ e.before → v ≢ e.after → is_before (cached ps links (before_in links v)) (cached ps links v) ≡ false → is_before (cached ps links (after_in links v)) (cached ps links v) ≡ false → There
             old m k p q =
                 let a = same_at v n m k in
                 let ed = same_entry ps links links' v a.0 a.1 in
                 let ni : v ≢ e.corner.index = λ x. n (ap (before_in links') x ∙ un.out ∙ sym x) in
-                let waits : Waits t ps links v = record { later = w.later; inside = omega (arith, w.inside, un.same); under = subst (λ (x : Entry). x.corner.area < t) ed w.under; before = p; after = q } in
-                let c = s.covers v (λ x. n (a.0 ∙ x)) waits in
+                let is_due : IsDue t ps links v = record { later = w.later; inside = omega (arith, w.inside, un.same); under = subst (λ (x : Entry). x.corner.area < t) ed w.under; before = p; after = q } in
+                let c = s.covers v (λ x. n (a.0 ∙ x)) is_due in
                 let d = entry_in ps links v in
                 let still : Contains mid (turned d) = on_stays d ni (index_at ps (before_in links v) v (after_in links v)) (l.stays d c (current_at ps links v (omega (arith, w.inside, un.same)))) in
                 subst (λ x. Contains items' (turned x)) (sym ed) (has d still)
@@ -251,23 +251,23 @@ module _ (t : ℕ) (ps : List Point) (links links' : List Link) (items mid items
             inner : v < last_of 0 rest_of
             inner = omega (arith, last', s.linked.last, un.same, w.inside)
 
-            same_side : (u u' : ℕ) → v ≢ e.before → v ≢ e.after → u' ≡ u → u' ≢ e.before → u' ≢ e.after → is_before (noted ps links' u') (noted ps links' v) ≡ false → is_before (noted ps links u) (noted ps links v) ≡ false
-            same_side u u' m k z x y h = subst (λ a. is_before (noted ps links a) (noted ps links v) ≡ false) z
-                (ap (λ a. is_before a (noted ps links v)) (sym (noted_same u' x y)) ∙ ap (is_before (noted ps links' u')) (sym (noted_same v m k)) ∙ h)
+            same_side : (u u' : ℕ) → v ≢ e.before → v ≢ e.after → u' ≡ u → u' ≢ e.before → u' ≢ e.after → is_before (cached ps links' u') (cached ps links' v) ≡ false → is_before (cached ps links u) (cached ps links v) ≡ false
+            same_side u u' m k z x y h = subst (λ a. is_before (cached ps links a) (cached ps links v) ≡ false) z
+                (ap (λ a. is_before a (cached ps links v)) (sym (cached_same u' x y)) ∙ ap (is_before (cached ps links' u')) (sym (cached_same v m k)) ∙ h)
 
-            before_side : v ≢ e.before → v ≢ e.after → (is_before (noted ps links (before_in links v)) (noted ps links v) ≡ false) ⊎ There
+            before_side : v ≢ e.before → v ≢ e.after → (is_before (cached ps links (before_in links v)) (cached ps links v) ≡ false) ⊎ There
             before_side m k = pick (same_or_not (before_in links' v) e.before) (same_or_not (before_in links' v) e.after)
               where
-                pick : (before_in links' v ≡ e.before) ⊎ (before_in links' v ≢ e.before) → (before_in links' v ≡ e.after) ⊎ (before_in links' v ≢ e.after) → (is_before (noted ps links (before_in links v)) (noted ps links v) ≡ false) ⊎ There
+                pick : (before_in links' v ≡ e.before) ⊎ (before_in links' v ≢ e.before) → (before_in links' v ≡ e.after) ⊎ (before_in links' v ≢ e.after) → (is_before (cached ps links (before_in links v)) (cached ps links v) ≡ false) ⊎ There
                 pick (inl x) y = absurd (k (sym (prev_next (after_in links') (before_in links') 0 rest_of v chain' here) ∙ ap (after_in links') x ∙ un.bridge))
-                pick (inr x) (inl y) = elim (behind v w n y) [ inl b ↦ inl (subst (λ u. is_before (noted ps links u) (noted ps links v) ≡ false) (sym y ∙ (same_at v n m k).0) b) | inr c ↦ inr c ]
+                pick (inr x) (inl y) = elim (following v w n y) [ inl b ↦ inl (subst (λ u. is_before (cached ps links u) (cached ps links v) ≡ false) (sym y ∙ (same_at v n m k).0) b) | inr c ↦ inr c ]
                 pick (inr x) (inr y) = inl (same_side (before_in links v) (before_in links' v) m k (same_at v n m k).0 x y w.before)
 
-            after_side : v ≢ e.before → v ≢ e.after → (is_before (noted ps links (after_in links v)) (noted ps links v) ≡ false) ⊎ There
+            after_side : v ≢ e.before → v ≢ e.after → (is_before (cached ps links (after_in links v)) (cached ps links v) ≡ false) ⊎ There
             after_side m k = pick (same_or_not (after_in links' v) e.before) (same_or_not (after_in links' v) e.after)
               where
-                pick : (after_in links' v ≡ e.before) ⊎ (after_in links' v ≢ e.before) → (after_in links' v ≡ e.after) ⊎ (after_in links' v ≢ e.after) → (is_before (noted ps links (after_in links v)) (noted ps links v) ≡ false) ⊎ There
-                pick (inl x) y = elim (ahead v w n x) [ inl b ↦ inl (subst (λ u. is_before (noted ps links u) (noted ps links v) ≡ false) (sym x ∙ (same_at v n m k).1) b) | inr c ↦ inr c ]
+                pick : (after_in links' v ≡ e.before) ⊎ (after_in links' v ≢ e.before) → (after_in links' v ≡ e.after) ⊎ (after_in links' v ≢ e.after) → (is_before (cached ps links (after_in links v)) (cached ps links v) ≡ false) ⊎ There
+                pick (inl x) y = elim (ahead v w n x) [ inl b ↦ inl (subst (λ u. is_before (cached ps links u) (cached ps links v) ≡ false) (sym x ∙ (same_at v n m k).1) b) | inr c ↦ inr c ]
                 pick (inr x) (inl y) = absurd (m (sym (next_prev (after_in links') (before_in links') 0 rest_of v chain' here inner) ∙ ap (before_in links') y ∙ un.bridge_back))
                 pick (inr x) (inr y) = inl (same_side (after_in links v) (after_in links' v) m k (same_at v n m k).1 x y w.after)
 
@@ -275,8 +275,8 @@ module _ (t : ℕ) (ps : List Point) (links links' : List Link) (items mid items
             other m k = elim (before_side m k) [ inr c ↦ c | inl p ↦ elim (after_side m k) [ inr c ↦ c | inl q ↦ old m k p q ] ]
 
             on : (v ≡ e.before) ⊎ (v ≢ e.before) → (v ≡ e.after) ⊎ (v ≢ e.after) → There
-            on (inl k) m = subst (λ x. Contains items' (turned (entry_in ps links' x))) (sym k) (near (subst (λ x. Waits t ps links' x) k w))
-            on (inr k) (inl m) = subst (λ x. Contains items' (turned (entry_in ps links' x))) (sym m) (far (subst (λ x. Waits t ps links' x) m w))
+            on (inl k) m = subst (λ x. Contains items' (turned (entry_in ps links' x))) (sym k) (near (subst (λ x. IsDue t ps links' x) k w))
+            on (inr k) (inl m) = subst (λ x. Contains items' (turned (entry_in ps links' x))) (sym m) (far (subst (λ x. IsDue t ps links' x) m w))
             on (inr k) (inr m) = other k m
 
         sound' : (d : Entry) → Contains items' (turned d) → IsSound t ps d
@@ -297,7 +297,7 @@ module _ (t : ℕ) (ps : List Point) (links links' : List Link) (items mid items
             let nz : 0 ≢ e.corner.index = λ x. absurd (omega (arith, x, so.before)) in
             record {
               linked = linked_on;
-              noted = notes_on;
+              cached = notes_on;
               size = un.same ∙ s.size;
               covers = covers';
               sound = sound';
@@ -305,7 +305,7 @@ module _ (t : ℕ) (ps : List Point) (links links' : List Link) (items mid items
               rest = ap (λ n. eliminate n t (vertices ps (0 ∷ rest_of))) fuel
                   ∙ ap (λ x. eliminate (left + 1) t (vertices ps x)) (sym (keep_step e.corner.index 0 vs nz))
                   ∙ ap (eliminate (left + 1) t) (sym (without_vertices ps e.corner.index (0 ∷ vs)))
-                  ∙ sym (step_some (left + 1) t (vertices ps (0 ∷ vs)) (seen e.corner) (sym is_least) so.under)
+                  ∙ sym (step_some (left + 1) t (vertices ps (0 ∷ vs)) (candidate_corner e.corner) (sym is_least) so.under)
                   ∙ ap (λ n. eliminate n t (vertices ps (0 ∷ vs))) fuel2
                   ∙ s.rest;
             }
@@ -327,10 +327,10 @@ range_in u (suc k) j h l = grind (arith, same_or_not, range_in (u + 1) k j)
 pub first_fits : (links : List Link) (n v : ℕ) → IsFirst links n → 0 < v → v + 1 < n → Fits links n v
 first_fits links n v f h k = grind arith
 
-pub first_ready : (t : ℕ) (ps : List Point) (links : List Link) (v : ℕ) → IsFirst links (length ps) → AreNoted t ps links → v < length ps → IsReady ps links v
+pub first_ready : (t : ℕ) (ps : List Point) (links : List Link) (v : ℕ) → IsFirst links (length ps) → AreCached t ps links → v < length ps → IsReady ps links v
 first_ready t ps links v f n h = grind (arith, fits, first_fits)
 
-pub start_state : (t : ℕ) (ps : List Point) (links : List Link) (items : List (Reverse Entry)) → 2 ≤ length ps → IsFirst links (length ps) → AreNoted t ps links →
+pub start_state : (t : ℕ) (ps : List Point) (links : List Link) (items : List (Reverse Entry)) → 2 ≤ length ps → IsFirst links (length ps) → AreCached t ps links →
     HasCorners t ps links items (length ps - 1) → IsState t ps links items (length ps - 2) (range_with_len 1 (length ps - 1))
 start_state t ps links items two f nt hc =
     let m : suc (length ps - 1) ≡ length ps = omega arith in
@@ -342,7 +342,7 @@ start_state t ps links items two f nt hc =
         gone = λ i p q n. absurd (n (range_in 0 (length ps - 1) i p (omega (arith, f.size))));
       };
       size = f.size;
-      noted = nt;
+      cached = nt;
       covers = λ v n w. hc.has v (omega (arith, f.size, w.inside)) w;
       sound = λ d h. let o = hc.only d h in
           let g = first_fits links (length ps) o.0 f o.1 (omega (arith, o.2)) in
@@ -377,7 +377,7 @@ none_taken n t vs h = grind (arith, least_holds, step_none, step_over)
 pub none_under : (t : ℕ) (ps : List Point) (links : List Link) (items mid : List (Reverse Entry)) (left : ℕ) (vs : List ℕ) →
     IsState t ps links items left vs → LeavesCurrent links items None mid → mid ≡ [] → AllByRecursion (λ c. t ≤ c.area) (corners (vertices ps (0 ∷ vs)))
 none_under t ps links items mid left vs s l em = least_decides (λ d. t ≤ d.area) (λ d. t ≤ d.area) (corners (vertices ps (0 ∷ vs)))
-    (all_present (after_in links) (before_in links) (λ d. NoneBefore d (corners (vertices ps (0 ∷ vs))) → t ≤ d.area) ps vs s.linked.chain (λ v p k m none. at v p k m none (cases_lt (corner_of t ps links vs s.linked s.noted v).area t)))
+    (all_present (after_in links) (before_in links) (λ d. NoneBefore d (corners (vertices ps (0 ∷ vs))) → t ≤ d.area) ps vs s.linked.chain (λ v p k m none. at v p k m none (cases_lt (corner_of t ps links vs s.linked s.cached v).area t)))
     (λ d x h n. over d x h n (cases_lt x.area d.area))
   where
     over : (d x : Corner) → t ≤ d.area → is_before x d ≡ false → (x.area < d.area) ⊎ (d.area ≤ x.area) → t ≤ x.area
@@ -388,11 +388,11 @@ none_under t ps links items mid left vs s l em = least_decides (λ d. t ≤ d.ar
     gone d (inl p) = absurd (cc)
     gone d (inr p) = let k : Contains [] (turned d) = subst (λ (x : List (Reverse Entry)). Contains x (turned d)) em p in absurd (omega (arith, k.1))
 
-    at : (v : ℕ) → 0 < v → In v vs → v < last_of 0 vs → NoneBefore (corner_of t ps links vs s.linked s.noted v) (corners (vertices ps (0 ∷ vs))) →
-        ((corner_of t ps links vs s.linked s.noted v).area < t) ⊎ (t ≤ (corner_of t ps links vs s.linked s.noted v).area) → t ≤ (corner_of t ps links vs s.linked s.noted v).area
+    at : (v : ℕ) → 0 < v → In v vs → v < last_of 0 vs → NoneBefore (corner_of t ps links vs s.linked s.cached v) (corners (vertices ps (0 ∷ vs))) →
+        ((corner_of t ps links vs s.linked s.cached v).area < t) ⊎ (t ≤ (corner_of t ps links vs s.linked s.cached v).area) → t ≤ (corner_of t ps links vs s.linked s.cached v).area
     at v p k m none (inl u) =
         let n = named (after_in links) (before_in links) 0 vs v s.linked.chain k in
-        let c = s.covers v (λ q. absurd (omega (arith, q, n.1))) (first_waits t ps links vs s.linked s.noted v p k m u none) in
+        let c = s.covers v (λ q. absurd (omega (arith, q, n.1))) (first_is_due t ps links vs s.linked s.cached v p k m u none) in
         absurd (gone (entry_in ps links v) (l.stays (entry_in ps links v) c (current_at ps links v (omega (arith, s.linked.last, m)))))
     at v p k m none (inr o) = o
 
@@ -403,7 +403,7 @@ end_none t ps links items left vs s h = settled t ps (0 ∷ vs) (sym (none_taken
 
 -- the links are theirs
 pub none_first : (t : ℕ) (ps : List Point) (links links' : List Link) (items items' : List (Reverse Entry)) (left : ℕ) (vs : List ℕ) →
-    IsState t ps links items left vs → TakesFirst t ps links' items' left vs None → (x : List ℕ) × IsLinked links' x × (0 ∷ x ≡ reduce t ps)
+    IsState t ps links items left vs → RemovesFirst t ps links' items' left vs None → (x : List ℕ) × IsLinked links' x × (0 ∷ x ≡ reduce t ps)
 none_first t ps links links' items items' left vs s h = (vs, h.0, end_none t ps links items left vs s h.1)
 
 -- a turn with its two pushes
@@ -412,15 +412,15 @@ pub turn_state : (t : ℕ) (ps : List Point) (links links' : List Link) (items m
     Unlinks links links' e.before e.corner.index e.after → Renews ps links links' e.before e.after →
     IsReady ps links' e.before → IsReady ps links' f → IsReady ps links' e.after → IsReady ps links' l →
     (0 < e.before → f ≡ before_in links e.before) → (e.before ≡ 0 → f ≡ e.before) → (e.after + 1 < length links → l ≡ after_in links e.after) → (e.after + 1 ≡ length links → l ≡ e.after) →
-    (kf ≡ true → is_before (noted ps links e.before) (noted ps links f) ≡ false) → (kl ≡ true → is_before (noted ps links e.after) (noted ps links l) ≡ false) →
+    (kf ≡ true → is_before (cached ps links e.before) (cached ps links f) ≡ false) → (kl ≡ true → is_before (cached ps links e.after) (cached ps links l) ≡ false) →
     PushedFirst t ps links' mid one e.before f kf → PushedFirst t ps links' one two e.after l kl →
-    IsTakenOut t ps links' two left vs e.corner
+    IsRemoved t ps links' two left vs e.corner
 turn_state t ps links links' items mid one two left vs e f l kf kl s lc cur un re rb rf ra rl ef zf el zl nf nl p q =
     let n = next_state t ps links links' items mid two left vs e s lc cur un re (λ d h. q.has d (p.has d h))
     (λ w. q.has (entry_in ps links' e.before) (p.inner w (inl (eb w.later))))
     (λ w. q.inner w (inr (un.others e.after (λ x. absurd (omega (arith, x, sound.before, sound.after))) ∙ sym (el (omega (arith, w.inside, un.same))))))
     (λ v w n h. ahead v w h (beside_before t ps links links' items mid two left vs e s lc cur un v w n h) kf refl)
-    (λ v w n h. behind v w h (beside_after t ps links links' items mid two left vs e s lc cur un v w n h) kl refl) only in
+    (λ v w n h. following v w h (beside_after t ps links links' items mid two left vs e s lc cur un v w n h) kl refl) only in
     record {
       some = some_left t ps links links' items mid two left vs e s lc cur un;
       first = is_least t ps links links' items mid two left vs e s lc cur;
@@ -436,19 +436,19 @@ turn_state t ps links links' items mid one two left vs e f l kf kl s lc cur un r
     eb : 0 < e.before → before_in links' e.before ≡ f
     eb h = un.others_back e.before (λ x. absurd (omega (arith, x, sound.before, sound.after))) (λ x. absurd (omega (arith, x, sound.before))) ∙ sym (ef h)
 
-    ahead : (v : ℕ) → Waits t ps links' v → after_in links' v ≡ e.before → (v < e.before) × (v ≡ before_in links e.before) → (k : Bool) → kf ≡ k → (is_before (noted ps links e.before) (noted ps links v) ≡ false) ⊎ Contains two (turned (entry_in ps links' v))
-    ahead v w h b true z = inl (subst (λ x. is_before (noted ps links e.before) (noted ps links x) ≡ false) (ef (omega (arith, b.0)) ∙ sym b.1) (nf z))
+    ahead : (v : ℕ) → IsDue t ps links' v → after_in links' v ≡ e.before → (v < e.before) × (v ≡ before_in links e.before) → (k : Bool) → kf ≡ k → (is_before (cached ps links e.before) (cached ps links v) ≡ false) ⊎ Contains two (turned (entry_in ps links' v))
+    ahead v w h b true z = inl (subst (λ x. is_before (cached ps links e.before) (cached ps links x) ≡ false) (ef (omega (arith, b.0)) ∙ sym b.1) (nf z))
     ahead v w h b false z =
         let ev : v ≡ f = b.1 ∙ sym (ef (omega (arith, b.0))) in
         inr (q.has (entry_in ps links' v) (subst (λ x. Contains one (turned (entry_in ps links' x))) (sym ev)
-        (p.outer z (λ x. absurd (omega (arith, x, ev, b.0))) (subst (λ x. Waits t ps links' x) ev w) (inr (ap (after_in links') (sym ev) ∙ h)))))
+        (p.outer z (λ x. absurd (omega (arith, x, ev, b.0))) (subst (λ x. IsDue t ps links' x) ev w) (inr (ap (after_in links') (sym ev) ∙ h)))))
 
-    behind : (v : ℕ) → Waits t ps links' v → before_in links' v ≡ e.after → (e.after < v) × (v ≡ after_in links e.after) → (k : Bool) → kl ≡ k → (is_before (noted ps links e.after) (noted ps links v) ≡ false) ⊎ Contains two (turned (entry_in ps links' v))
-    behind v w h b true z = inl (subst (λ x. is_before (noted ps links e.after) (noted ps links x) ≡ false) (el (omega (arith, b.0, w.inside, un.same)) ∙ sym b.1) (nl z))
-    behind v w h b false z =
+    following : (v : ℕ) → IsDue t ps links' v → before_in links' v ≡ e.after → (e.after < v) × (v ≡ after_in links e.after) → (k : Bool) → kl ≡ k → (is_before (cached ps links e.after) (cached ps links v) ≡ false) ⊎ Contains two (turned (entry_in ps links' v))
+    following v w h b true z = inl (subst (λ x. is_before (cached ps links e.after) (cached ps links x) ≡ false) (el (omega (arith, b.0, w.inside, un.same)) ∙ sym b.1) (nl z))
+    following v w h b false z =
         let ev : v ≡ l = b.1 ∙ sym (el (omega (arith, b.0, w.inside, un.same))) in
         inr (subst (λ x. Contains two (turned (entry_in ps links' x))) (sym ev)
-        (q.outer z (λ x. absurd (omega (arith, x, ev, b.0))) (subst (λ x. Waits t ps links' x) ev w) (inl (ap (before_in links') (sym ev) ∙ h))))
+        (q.outer z (λ x. absurd (omega (arith, x, ev, b.0))) (subst (λ x. IsDue t ps links' x) ev w) (inl (ap (before_in links') (sym ev) ∙ h))))
 
     of_first : (d : Entry) → Contains mid (turned d) ⊎ (IsUnder t ps links' e.before d ⊎ IsUnder t ps links' f d) → Contains mid (turned d) ⊎ ((v : ℕ) × IsReady ps links' v × IsUnder t ps links' v d)
     of_first d (inl k) = inl k
@@ -468,15 +468,15 @@ pub record AllReady (ps : List Point) (links : List Link) (b f a l : ℕ) : Type
   pub before : IsReady ps links b
   pub ahead : IsReady ps links f
   pub after : IsReady ps links a
-  pub behind : IsReady ps links l
+  pub following : IsReady ps links l
 
-pub all_ready : (t : ℕ) (ps : List Point) (links : List Link) (vs : List ℕ) (b f a l : ℕ) → IsLinked links vs → AreNoted t ps links → length links ≡ length ps → (b ≡ 0) ⊎ In b vs → In a vs →
+pub all_ready : (t : ℕ) (ps : List Point) (links : List Link) (vs : List ℕ) (b f a l : ℕ) → IsLinked links vs → AreCached t ps links → length links ≡ length ps → (b ≡ 0) ⊎ In b vs → In a vs →
     (b ≡ 0 → f ≡ b) → (0 < b → f ≡ before_in links b) → (a + 1 ≡ length links → l ≡ a) → (a + 1 < length links → l ≡ after_in links a) → AllReady ps links b f a l
 all_ready t ps links vs b f a l h n z ib ia zf ef zl el = record {
   before = ready_at t ps links vs h n z b ib;
   ahead = ready_at t ps links vs h n z f (ahead_in links vs b f h ib zf ef);
   after = ready_at t ps links vs h n z a (inr ia);
-  behind = ready_at t ps links vs h n z l (inr (behind_in links vs a l h ia zl el));
+  following = ready_at t ps links vs h n z l (inr (after_is_in links vs a l h ia zl el));
 }
 
 pub old_ready : (t : ℕ) (ps : List Point) (links : List Link) (items mid : List (Reverse Entry)) (left : ℕ) (vs : List ℕ) (e : Entry) (f l : ℕ) →
@@ -485,7 +485,7 @@ pub old_ready : (t : ℕ) (ps : List Point) (links : List Link) (items mid : Lis
     AllReady ps links e.before f e.after l
 old_ready t ps links items mid left vs e f l s lc cur zf ef zl el =
     let present = in_vs t ps links links items mid mid left vs e s lc cur in
-    all_ready t ps links vs e.before f e.after l s.linked s.noted s.size
+    all_ready t ps links vs e.before f e.after l s.linked s.cached s.size
     (elim (prev_in (after_in links) (before_in links) 0 vs e.corner.index s.linked.chain present) [ inl x ↦ inl (sym cur.before ∙ x) | inr x ↦ inr (subst (λ y. In y vs) cur.before x) ])
     (subst (λ y. In y vs) cur.after (next_in (after_in links) (before_in links) 0 vs e.corner.index s.linked.chain present (inside t ps links links items mid mid left vs e s lc cur)).0)
     zf ef zl el
@@ -512,8 +512,8 @@ pub more_corners : (t : ℕ) (ps : List Point) (links : List Link) (old new : Li
     0 < i → i + 1 < length links → HasCorners t ps links new (i + 1)
 more_corners t ps links old new i h p z w = record { has = λ v b u. on v b u (same_or_not v i); only = λ d k. from d (p.only d k) }
   where
-    on : (v : ℕ) → v < i + 1 → Waits t ps links v → (v ≡ i) ⊎ (v ≢ i) → Contains new (turned (entry_in ps links v))
-    on v b u (inl e) = subst (λ x. Contains new (turned (entry_in ps links x))) (sym e) (p.here (subst (λ x. Waits t ps links x) e u))
+    on : (v : ℕ) → v < i + 1 → IsDue t ps links v → (v ≡ i) ⊎ (v ≢ i) → Contains new (turned (entry_in ps links v))
+    on v b u (inl e) = subst (λ x. Contains new (turned (entry_in ps links x))) (sym e) (p.here (subst (λ x. IsDue t ps links x) e u))
     on v b u (inr n) = p.has (entry_in ps links v) (h.has v (omega arith) u)
 
     from : (d : Entry) → Contains old (turned d) ⊎ IsUnder t ps links i d → (v : ℕ) × (0 < v) × (v < i + 1) × (d ≡ entry_in ps links v) × (d.corner.area < t)

@@ -19,7 +19,7 @@ use Rattle.effective_area.specs.declared.weight.Weight.{Weight}
 use Rattle.effective_area.specs.declared.weight.Weight.TheVariants.{End, Area}
 use Rattle.effective_area.specs.Capped.{is_within}
 use Rattle.effective_area.specs.Vertices.{origin, vertices}
-use Rattle.effective_area.specs.Weights.{told, weights_of}
+use Rattle.effective_area.specs.Weights.{reported, weights_of}
 use Rattle.effective_area.proofs.ChainLaws.{same_or_not, keep_step, drop_step}
 use Rattle.effective_area.proofs.Products.{product_bound, apart_fits}
 use Rattle.effective_area.proofs.Scan.{without_vertices, all_vertices}
@@ -82,7 +82,7 @@ count_more level area i ws h e =
 pub record AreWeighed (ps : List Point) (level left : ℕ) (vs : List ℕ) (ws : List Weight) : Type 0 where
   pub size : length ws ≡ length ps
   pub present : (i : ℕ) → i < length ps → In i (0 ∷ vs) → (get_or ws i End ≡ End) × (weight ps i ≡ weight_from (left + 2) level (vertices ps (0 ∷ vs)) i)
-  pub gone : (i : ℕ) → i < length ps → (In i (0 ∷ vs) → ⊥) → get_or ws i End ≡ told (weight ps i)
+  pub gone : (i : ℕ) → i < length ps → (In i (0 ∷ vs) → ⊥) → get_or ws i End ≡ reported (weight ps i)
   pub low : (i : ℕ) → i < length ps → (In i (0 ∷ vs) → ⊥) → IsLow level (get_or ws i End)
   pub many : length ps ≤ count_by (is_within level) ws + left + 2
 
@@ -141,15 +141,15 @@ module _ (ps : List Point) (level left : ℕ) (vs : List ℕ) (ws : List Weight)
             ∙ ap (λ l. weight_from (left - 1 + 2) (max level c.area) l i) vertices_left,
       )
 
-  gone' : (i : ℕ) → i < length ps → (In i (0 ∷ rest_of) → ⊥) → get_or new i End ≡ told (weight ps i)
+  gone' : (i : ℕ) → i < length ps → (In i (0 ∷ rest_of) → ⊥) → get_or new i End ≡ reported (weight ps i)
   gone' i h m = on (same_or_not i c.index)
     where
-      here : get_or new c.index End ≡ told (weight ps c.index)
+      here : get_or new c.index End ≡ reported (weight ps c.index)
       here = get_or-set_same ws c.index (Area (max level c.area)) End (omega (arith, w.size, within))
-          ∙ ap told (sym ((w.present c.index within (inr there)).1 ∙ ap (λ n. weight_from n level (vertices ps (0 ∷ vs)) c.index) fuel ∙ weigh_here (left - 1 + 2) level (vertices ps (0 ∷ vs)) c first))
+          ∙ ap reported (sym ((w.present c.index within (inr there)).1 ∙ ap (λ n. weight_from n level (vertices ps (0 ∷ vs)) c.index) fuel ∙ weigh_here (left - 1 + 2) level (vertices ps (0 ∷ vs)) c first))
 
-      on : (i ≡ c.index) ⊎ (i ≢ c.index) → get_or new i End ≡ told (weight ps i)
-      on (inl e) = subst (λ (j : ℕ). get_or new j End ≡ told (weight ps j)) (sym e) here
+      on : (i ≡ c.index) ⊎ (i ≢ c.index) → get_or new i End ≡ reported (weight ps i)
+      on (inl e) = subst (λ (j : ℕ). get_or new j End ≡ reported (weight ps j)) (sym e) here
       on (inr n) = get_or-set_other ws c.index i (Area (max level c.area)) End n ∙ w.gone i h (λ k. m (still_there i k n))
 
   low' : (i : ℕ) → i < length ps → (In i (0 ∷ rest_of) → ⊥) → IsLow (max level c.area) (get_or new i End)
@@ -175,11 +175,11 @@ module _ (ps : List Point) (level left : ℕ) (vs : List ℕ) (ws : List Weight)
 pub all_weighed : (ps : List Point) (level left : ℕ) (vs : List ℕ) (ws : List Weight) → AreWeighed ps level left vs ws → least (corners (vertices ps (0 ∷ vs))) ≡ None → ws ≡ weights_of ps
 unfolding weights_of
 all_weighed ps level left vs ws w e =
-    ext_get_or End ws (map (λ i. told (weight ps i)) (range_with_len 0 (length ps))) (w.size ∙ sym (length-map-range_with_len (λ i. told (weight ps i)) 0 (length ps)))
-    (λ i h. each i (omega (arith, h, w.size)) (in_or_not i (0 ∷ vs)) ∙ sym (get_or-map-range_with_len (λ i. told (weight ps i)) 0 (length ps) i i End (omega (arith, h, w.size)) (omega arith)))
+    ext_get_or End ws (map (λ i. reported (weight ps i)) (range_with_len 0 (length ps))) (w.size ∙ sym (length-map-range_with_len (λ i. reported (weight ps i)) 0 (length ps)))
+    (λ i h. each i (omega (arith, h, w.size)) (in_or_not i (0 ∷ vs)) ∙ sym (get_or-map-range_with_len (λ i. reported (weight ps i)) 0 (length ps) i i End (omega (arith, h, w.size)) (omega arith)))
   where
-    each : (i : ℕ) → i < length ps → In i (0 ∷ vs) ⊎ (In i (0 ∷ vs) → ⊥) → get_or ws i End ≡ told (weight ps i)
-    each i h (inl k) = let p = w.present i h k in p.0 ∙ ap told (sym (p.1 ∙ weigh_none (left + 2) level (vertices ps (0 ∷ vs)) i e))
+    each : (i : ℕ) → i < length ps → In i (0 ∷ vs) ⊎ (In i (0 ∷ vs) → ⊥) → get_or ws i End ≡ reported (weight ps i)
+    each i h (inl k) = let p = w.present i h k in p.0 ∙ ap reported (sym (p.1 ∙ weigh_none (left + 2) level (vertices ps (0 ∷ vs)) i e))
     each i h (inr n) = w.gone i h n
 
 -- ---- fewer than two positions

@@ -17,23 +17,23 @@ is_within level End = false
 is_within level (Area area) = nat_le area level
 
 -- the weights of a line are reported up to a level, and so many of them aren't over it
-pub record IsStopped (most : ℕ) (ws told : List Weight) : Type 0 where
+pub record IsStopped (most : ℕ) (ws reported : List Weight) : Type 0 where
   pub level : ℕ
-  pub capped : told ≡ map (capped_at level) ws
+  pub capped : reported ≡ map (capped_at level) ws
   pub enough : most ≤ count_by (is_within level) ws
 
 -- all weights of a line are reported, or they are up to such a level
 abbrev pub IsCapped : ℕ → List Weight → List Weight → Type 0
-IsCapped most ws told = (told ≡ ws) ⊎ IsStopped most ws told
+IsCapped most ws reported = (reported ≡ ws) ⊎ IsStopped most ws reported
 
 -- ---- shares of them
 
 -- all weights of each of these lines are reported, or they are up to such a level
 abbrev pub AreCapped : ℕ → List (List Weight) → List (List Weight) → Type 0
 AreCapped most [] [] = Unit {0}
-AreCapped most [] (told ∷ capped) = ⊥
+AreCapped most [] (reported ∷ capped) = ⊥
 AreCapped most (ws ∷ lines) [] = ⊥
-AreCapped most (ws ∷ lines) (told ∷ capped) = IsCapped most ws told × AreCapped most lines capped
+AreCapped most (ws ∷ lines) (reported ∷ capped) = IsCapped most ws reported × AreCapped most lines capped
 
 -- of so many weights as many are enough as are left beside the fewest, one at least, that are p / q of them, and one more
 abbrev pub IsEnough : ℕ → ℕ → ℕ → ℕ → Type 0

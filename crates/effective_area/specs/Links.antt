@@ -8,7 +8,7 @@ use Rattle.std.specs.declared.cmp.Reverse.{Reverse}
 use Rattle.geometry.specs.Lists.{In}
 use Rattle.geometry.specs.Points.{Point}
 use Rattle.elimination_meaning.specs.Elimination.{corner_at, corner_cmp, corners, eliminate, is_before, least, numbered, Corner}
-use Rattle.effective_area.specs.Vertices.{origin, vertex_at, vertices, seen, candidate}
+use Rattle.effective_area.specs.Vertices.{origin, vertex_at, vertices, candidate_corner, candidate}
 use Rattle.effective_area.specs.declared.candidate.Candidate.{Candidate}
 use Rattle.effective_area.specs.declared.links.Link.{Link}
 use Rattle.effective_area.specs.declared.entry.Entry.{Entry}
@@ -50,7 +50,7 @@ pub record IsLinked (links : List Link) (vs : List ℕ) : Type 0 where
   pub gone : (i : ℕ) → 0 < i → i < length links → (In i vs → ⊥) → before_in links i ≡ i
 
 abbrev pub entry_cmp : Entry → Entry → Ordering
-entry_cmp d e = ordering_then (corner_cmp (seen d.corner) (seen e.corner)) (ordering_then (nat_cmp d.before e.before) (nat_cmp d.after e.after))
+entry_cmp d e = ordering_then (corner_cmp (candidate_corner d.corner) (candidate_corner e.corner)) (ordering_then (nat_cmp d.before e.before) (nat_cmp d.after e.after))
 
 abbrev pub rentry_cmp : Reverse Entry → Reverse Entry → Ordering
 rentry_cmp d e = entry_cmp e.0 d.0
@@ -63,25 +63,25 @@ abbrev pub entry_in : List Point → List Link → ℕ → Entry
 entry_in ps links v = entry_at ps (before_in links v) v (after_in links v)
 
 -- the corner at an index, with the cached area
-unfoldable pub noted : List Point → List Link → ℕ → Corner
-noted ps links v = record { area = area_in links v; point = slice_index_or ps v origin; index = v }
+unfoldable pub cached : List Point → List Link → ℕ → Corner
+cached ps links v = record { area = area_in links v; point = slice_index_or ps v origin; index = v }
 
 -- the areas of the corners that are present are cached, and the threshold for those of the ends
-pub record AreNoted (t : ℕ) (ps : List Point) (links : List Link) : Type 0 where
+pub record AreCached (t : ℕ) (ps : List Point) (links : List Link) : Type 0 where
   pub between : (v : ℕ) → 0 < v → v + 1 < length links → before_in links v ≢ v → area_in links v ≡ (entry_in ps links v).corner.area
   pub ends : (v : ℕ) → (v ≡ 0) ⊎ (v + 1 ≡ length links) → area_in links v ≡ t
 
 -- a corner is due if it is under the threshold and neither neighbour goes before it
-pub record Waits (t : ℕ) (ps : List Point) (links : List Link) (v : ℕ) : Type 0 where
+pub record IsDue (t : ℕ) (ps : List Point) (links : List Link) (v : ℕ) : Type 0 where
   pub later : 0 < v
   pub inside : v + 1 < length links
   pub under : (entry_in ps links v).corner.area < t
-  pub before : is_before (noted ps links (before_in links v)) (noted ps links v) ≡ false
-  pub after : is_before (noted ps links (after_in links v)) (noted ps links v) ≡ false
+  pub before : is_before (cached ps links (before_in links v)) (cached ps links v) ≡ false
+  pub after : is_before (cached ps links (after_in links v)) (cached ps links v) ≡ false
 
 -- each current corner that is due has its entry
 abbrev pub Covers : ℕ → List Point → List Link → List (Reverse Entry) → Type 0
-Covers t ps links items = (v : ℕ) → before_in links v ≢ v → Waits t ps links v → Contains items (turned (entry_in ps links v))
+Covers t ps links items = (v : ℕ) → before_in links v ≢ v → IsDue t ps links v → Contains items (turned (entry_in ps links v))
 
 -- the first of the one list goes before all of the other
 abbrev pub GoesFirst : List (Reverse Entry) → List (Reverse Entry) → Type 0
@@ -109,7 +109,7 @@ pub record SetsArea (old new : List Link) (at area : ℕ) : Type 0 where
   pub afters : (v : ℕ) → after_in new v ≡ after_in old v
 
 -- the area at v is computed again, if v is between the ends
-pub record NotesArea (ps : List Point) (old new : List Link) (v : ℕ) : Type 0 where
+pub record CachesArea (ps : List Point) (old new : List Link) (v : ℕ) : Type 0 where
   pub same : length new ≡ length old
   pub here : 0 < v → v + 1 < length old → area_in new v ≡ (entry_in ps new v).corner.area
   pub ends : (v ≡ 0) ⊎ (v + 1 ≡ length old) → area_in new v ≡ area_in old v
@@ -136,25 +136,25 @@ pub record LeavesCurrent (links : List Link) (old : List (Reverse Entry)) (taken
 pub record IsState (t : ℕ) (ps : List Point) (links : List Link) (items : List (Reverse Entry)) (left : ℕ) (vs : List ℕ) : Type 0 where
   pub linked : IsLinked links vs
   pub size : length links ≡ length ps
-  pub noted : AreNoted t ps links
+  pub cached : AreCached t ps links
   pub covers : Covers t ps links items
   pub sound : (d : Entry) → Contains items (turned d) → IsSound t ps d
   pub many : length vs ≡ left + 1
   pub rest : eliminate (left + 2) t (vertices ps (0 ∷ vs)) ≡ eliminate (length ps) t (numbered 0 ps)
 
 -- of those that are present, this first corner was removed, and this is the state after it
-pub record IsTakenOut (t : ℕ) (ps : List Point) (links : List Link) (items : List (Reverse Entry)) (left : ℕ) (vs : List ℕ) (c : Candidate) : Type 0 where
+pub record IsRemoved (t : ℕ) (ps : List Point) (links : List Link) (items : List (Reverse Entry)) (left : ℕ) (vs : List ℕ) (c : Candidate) : Type 0 where
   pub some : 0 < left
-  pub first : least (corners (vertices ps (0 ∷ vs))) ≡ Some (seen c)
+  pub first : least (corners (vertices ps (0 ∷ vs))) ≡ Some (candidate_corner c)
   pub present : In c.index vs
   pub later : 0 < c.index
   pub within : c.index < length ps
   pub rest : IsState t ps links items (left - 1) (filter (λ v. not (v == c.index)) vs)
 
 -- the first corner is removed, or none is under the threshold
-abbrev pub TakesFirst : ℕ → List Point → List Link → List (Reverse Entry) → ℕ → List ℕ → Option Candidate → Type 0
-TakesFirst t ps links items left vs (Some c) = IsTakenOut t ps links items left vs c
-TakesFirst t ps links items left vs None = IsLinked links vs × AllByRecursion (λ c. t ≤ c.area) (corners (vertices ps (0 ∷ vs)))
+abbrev pub RemovesFirst : ℕ → List Point → List Link → List (Reverse Entry) → ℕ → List ℕ → Option Candidate → Type 0
+RemovesFirst t ps links items left vs (Some c) = IsRemoved t ps links items left vs c
+RemovesFirst t ps links items left vs None = IsLinked links vs × AllByRecursion (λ c. t ≤ c.area) (corners (vertices ps (0 ∷ vs)))
 
 pub record IsFirst (links : List Link) (n : ℕ) : Type 0 where
   pub size : length links ≡ n
@@ -175,22 +175,22 @@ IsUnder t ps links v d = (0 < v) × (v + 1 < length links) × (d ≡ entry_in ps
 pub record IsReady (ps : List Point) (links : List Link) (v : ℕ) : Type 0 where
   pub within : v < length links
   pub fits : 0 < v → v + 1 < length links → Fits links (length ps) v
-  pub noted : 0 < v → v + 1 < length links → area_in links v ≡ (entry_in ps links v).corner.area
+  pub cached : 0 < v → v + 1 < length links → area_in links v ≡ (entry_in ps links v).corner.area
 
 -- the corner at v is new, if it is due
 pub record Pushed (t : ℕ) (ps : List Point) (links : List Link) (old new : List (Reverse Entry)) (v : ℕ) : Type 0 where
   pub has : (d : Entry) → Contains old (turned d) → Contains new (turned d)
-  pub here : Waits t ps links v → Contains new (turned (entry_in ps links v))
+  pub here : IsDue t ps links v → Contains new (turned (entry_in ps links v))
   pub only : (d : Entry) → Contains new (turned d) → Contains old (turned d) ⊎ IsUnder t ps links v d
 
 -- of two neighbours the one that goes first is new, if it is due; the outer one need not be, if its entry was queued before
 pub record PushedFirst (t : ℕ) (ps : List Point) (links : List Link) (old new : List (Reverse Entry)) (v w : ℕ) (known : Bool) : Type 0 where
   pub has : (d : Entry) → Contains old (turned d) → Contains new (turned d)
-  pub inner : Waits t ps links v → (before_in links v ≡ w) ⊎ (after_in links v ≡ w) → Contains new (turned (entry_in ps links v))
-  pub outer : known ≡ false → v ≢ w → Waits t ps links w → (before_in links w ≡ v) ⊎ (after_in links w ≡ v) → Contains new (turned (entry_in ps links w))
+  pub inner : IsDue t ps links v → (before_in links v ≡ w) ⊎ (after_in links v ≡ w) → Contains new (turned (entry_in ps links v))
+  pub outer : known ≡ false → v ≢ w → IsDue t ps links w → (before_in links w ≡ v) ⊎ (after_in links w ≡ v) → Contains new (turned (entry_in ps links w))
   pub only : (d : Entry) → Contains new (turned d) → Contains old (turned d) ⊎ (IsUnder t ps links v d ⊎ IsUnder t ps links w d)
 
 -- the corners before n that are due, and none that isn't under the threshold
 pub record HasCorners (t : ℕ) (ps : List Point) (links : List Link) (items : List (Reverse Entry)) (n : ℕ) : Type 0 where
-  pub has : (v : ℕ) → v < n → Waits t ps links v → Contains items (turned (entry_in ps links v))
+  pub has : (v : ℕ) → v < n → IsDue t ps links v → Contains items (turned (entry_in ps links v))
   pub only : (d : Entry) → Contains items (turned d) → (v : ℕ) × (0 < v) × (v < n) × (d ≡ entry_in ps links v) × (d.corner.area < t)

@@ -14,8 +14,8 @@ abbrev pub vertices : List Point → List ℕ → List Vertex
 vertices ps is = map (vertex_at ps) is
 
 -- the corner that a candidate stands for
-abbrev pub seen : Candidate → Corner
-seen c = record { area = c.area; point = c.point; index = c.index }
+abbrev pub candidate_corner : Candidate → Corner
+candidate_corner c = record { area = c.area; point = c.point; index = c.index }
 
 -- the candidate of a corner
 abbrev pub candidate : Corner → Candidate

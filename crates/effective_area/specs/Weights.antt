@@ -7,10 +7,10 @@ use Rattle.effective_area.specs.declared.weight.Weight.{Weight}
 use Rattle.effective_area.specs.declared.weight.Weight.TheVariants.{End, Area}
 
 -- an end has no area
-abbrev pub told : Option ℕ → Weight
-told None = End
-told (Some area) = Area area
+abbrev pub reported : Option ℕ → Weight
+reported None = End
+reported (Some area) = Area area
 
 -- the weight of each position of a line, in order
 unfoldable pub weights_of : List Point → List Weight
-weights_of ps = map (λ i. told (weight ps i)) (range_with_len 0 (length ps))
+weights_of ps = map (λ i. reported (weight ps i)) (range_with_len 0 (length ps))

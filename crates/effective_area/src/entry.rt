@@ -17,7 +17,7 @@ pub struct Entry {
 pub fn entry_of(arc: &[Position], links: &[Link], index: usize) -> Entry
     requires arc { index < length arc.now }
     requires links { index < length links.now }
-    requires noted { area_in links.now index ≡ (entry_in arc.now links.now index).corner.area }
+    requires cached { area_in links.now index ≡ (entry_in arc.now links.now index).corner.area }
     ensures { result ≡ entry_in arc.now links.now index }
 {
     let link = links[index];

@@ -3,18 +3,18 @@ ghost use Rattle.std.specs.BinaryHeap.{heap_items, IsHeap};
 ghost use Rattle.std.specs.List.{range_with_len};
 ghost use Rattle.std.specs.List.Sorted.{IsSorted};
 ghost use Rattle.effective_area.specs.Counts.{AreasRose, RoseAtMost, RoseBy, nothing_counted};
-ghost use Rattle.effective_area.specs.Links.{AreNoted, HasCorners, IsFirst, IsLinked, IsState, rentry_cmp};
+ghost use Rattle.effective_area.specs.Links.{AreCached, HasCorners, IsFirst, IsLinked, IsState, rentry_cmp};
 ghost use Rattle.elimination_meaning.specs.Elimination.{reduce};
 
+use crate::caching::cached_links;
 use crate::entry::Entry;
 use crate::indexes::all_indexes;
 use crate::links::{Link, present};
-use crate::noting::noted_links;
+use crate::queue::put_corner;
 use crate::reducer::Reducer;
 use crate::steps::Steps;
 use crate::taking::take_first;
 use crate::tally::Tally;
-use crate::waiting::put_corner;
 use geometry::Position;
 use owned_values::Memory;
 use std::alloc::Global;
@@ -32,7 +32,7 @@ fn first_entries(
 ) -> Result<Vec<Reverse<Entry>>, Memory>
     requires two { 2 ≤ length arc.now }
     requires first { IsFirst links.now (length arc.now) }
-    requires noted { AreNoted t arc.now links.now }
+    requires cached { AreCached t arc.now links.now }
     ensures has { IfOk result (λ entries. HasCorners t arc.now links.now entries.items (length arc.now - 1)) }
     ensures counted { RoseBy 0 (length arc.now - 2) steps.old steps.new }
 {
@@ -54,7 +54,7 @@ pub fn sorted_entries(
 ) -> Result<Vec<Reverse<Entry>>, Memory>
     requires two { 2 ≤ length arc.now }
     requires first { IsFirst links.now (length arc.now) }
-    requires noted { AreNoted t arc.now links.now }
+    requires cached { AreCached t arc.now links.now }
     ensures sorted { IfOk result (λ entries. IsSorted rentry_cmp entries.items) }
     ensures state { IfOk result (λ entries. IsState t arc.now links.now entries.items (length arc.now - 2) (range_with_len 1 (length arc.now - 1))) }
     ensures counted { RoseBy 0 (length arc.now - 2) steps.old steps.new }
@@ -97,7 +97,7 @@ fn kept_by(
 ) -> Result<Vec<usize>, Memory>
     requires two { 2 ≤ length arc.now }
     requires first { IsFirst links.old (length arc.now) }
-    requires noted { AreNoted t arc.now links.old }
+    requires cached { AreCached t arc.now links.old }
     ensures kept { IfOk result (λ kept. kept.items ≡ reduce t arc.now) }
     ensures counted { RoseBy (2 * (length arc.now - 2)) (3 * (length arc.now - 2)) steps.old steps.new }
 {
@@ -159,7 +159,7 @@ impl Reducer for HeapLinks {
         if t == 0 {
             return all_indexes(alloc, arc.len());
         }
-        let mut links = noted_links(alloc, &mut self.steps, arc, t)?;
+        let mut links = cached_links(alloc, &mut self.steps, arc, t)?;
         kept_by(alloc, &mut self.steps, arc, &mut links, t)
     }
 }

@@ -1,7 +1,7 @@
 ghost use Rattle.std.specs.Prelude.{◌≡◌, ℕ, ◌<◌, All, length, not, ◌==◌, Some};
 ghost use Rattle.std.specs.List.{filter};
 ghost use Rattle.elimination_meaning.specs.Elimination.{corners, least, lesser};
-ghost use Rattle.effective_area.specs.Vertices.{seen, vertices};
+ghost use Rattle.effective_area.specs.Vertices.{candidate_corner, vertices};
 ghost use Rattle.geometry.specs.Lists.{map_some};
 
 use crate::candidate::Candidate;
@@ -17,7 +17,7 @@ use std::marker::Model;
 /// The one of two candidates that goes first.
 #[tactic(auto, unfolding(elimination_meaning::specs::Elimination::is_before))]
 fn first(best: Option<Candidate>, candidate: Candidate) -> Candidate
-    ensures { Some (seen result) ≡ lesser (map_some seen best) (Some (seen candidate)) }
+    ensures { Some (candidate_corner result) ≡ lesser (map_some candidate_corner best) (Some (candidate_corner candidate)) }
 {
     match best {
         None => candidate,
@@ -28,7 +28,7 @@ fn first(best: Option<Candidate>, candidate: Candidate) -> Candidate
 /// The candidate that goes first of all.
 fn least_corner(steps: &mut Steps, arc: &[Position], present: &[usize]) -> Option<Candidate>
     requires { All (λ i. i < length arc.now) present.now }
-    ensures { map_some seen result ≡ least (corners (vertices arc.now present.now)) }
+    ensures { map_some candidate_corner result ≡ least (corners (vertices arc.now present.now)) }
 {
     if present.len() < 3 {
         return None;

@@ -2,14 +2,14 @@ ghost use Rattle.std.specs.Prelude.{◌≡◌, ℕ, ◌+◌, ◌*◌, ◌<◌, �
 ghost use Rattle.std.specs.BinaryHeap.{heap_items, IsHeap};
 ghost use Rattle.std.specs.List.Sorted.{IsSorted};
 ghost use Rattle.effective_area.specs.Counts.{RoseAtMost};
-ghost use Rattle.effective_area.specs.Links.{IsState, TakesFirst, after_in, before_in, rentry_cmp};
+ghost use Rattle.effective_area.specs.Links.{IsState, RemovesFirst, after_in, before_in, rentry_cmp};
 
+use crate::caching::{goes_after, note_area};
 use crate::candidate::Candidate;
 use crate::entry::Entry;
 use crate::links::{Link, unlink};
-use crate::noting::{goes_behind, note_area};
+use crate::queue::{pop_current, push_first};
 use crate::steps::Steps;
-use crate::waiting::{pop_current, push_first};
 use geometry::Position;
 use owned_values::Memory;
 use std::cmp::Reverse;
@@ -28,7 +28,7 @@ fn ahead(links: &[Link], index: usize) -> usize
 }
 
 /// The one after an index, or the index itself if it is the last.
-fn behind(links: &[Link], index: usize) -> usize
+fn following(links: &[Link], index: usize) -> usize
     requires { index < length links.now }
     ensures last { (index + 1 ≡ length links.now) → result ≡ index }
     ensures inside { index + 1 < length links.now → result ≡ after_in links.now index }
@@ -55,7 +55,7 @@ pub fn take_first(
     ensures order { OnOk result (IsHeap rentry_cmp (heap_items heap.new)) }
     // What is removed is the first corner of those that are present, and what was known of them is known of the others.
     ensures taken { IfOk result (λ taken. (left : ℕ) (vs : List ℕ) → IsState t arc.now links.old (sorted.old.items ++ heap_items heap.old) left vs
-        → TakesFirst t arc.now links.new (sorted.new.items ++ heap_items heap.new) left vs taken) }
+        → RemovesFirst t arc.now links.new (sorted.new.items ++ heap_items heap.new) left vs taken) }
     // Where there was one to remove, two corners are computed again, and else none.
     ensures counted { (left : ℕ) (vs : List ℕ) → IsState t arc.now links.old (sorted.old.items ++ heap_items heap.old) left vs → RoseAtMost (2 * min left 1) steps.old steps.new }
 {
@@ -64,9 +64,9 @@ pub fn take_first(
     };
     let (before, after) = (entry.before, entry.after);
     let first = ahead(links, before);
-    let last = behind(links, after);
-    let is_first_known = goes_behind(arc, links, before, first);
-    let is_last_known = goes_behind(arc, links, after, last);
+    let last = following(links, after);
+    let is_first_known = goes_after(arc, links, before, first);
+    let is_last_known = goes_after(arc, links, after, last);
     unlink(links, before, entry.corner.index, after);
     note_area(links, steps, arc, before);
     note_area(links, steps, arc, after);

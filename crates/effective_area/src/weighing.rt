@@ -9,10 +9,10 @@ ghost use Rattle.effective_area.specs.Capped.{AreFilled, IsCapped, IsFoundTo, or
 ghost use Rattle.effective_area.specs.Links.{IsState, rentry_cmp};
 ghost use Rattle.effective_area.specs.Weights as spec;
 
+use crate::caching::cached_links;
 use crate::entry::Entry;
 use crate::heap_links::sorted_entries;
 use crate::links::Link;
-use crate::noting::noted_links;
 use crate::steps::Steps;
 use crate::taking::take_first;
 use crate::weight::Weight;
@@ -107,7 +107,7 @@ pub fn weights_until(alloc: Global, arc: &[Position], most: usize) -> Result<Vec
         return Ok(weights);
     }
     let mut steps = Steps::none();
-    let mut links = noted_links(alloc, &mut steps, arc, AREA_LIMIT)?;
+    let mut links = cached_links(alloc, &mut steps, arc, AREA_LIMIT)?;
     let mut sorted = sorted_entries(alloc, &mut steps, arc, &links, AREA_LIMIT)?;
     let mut heap = BinaryHeap::new(alloc);
     let level = weigh(&mut sorted, &mut heap, arc, &mut links, &mut weights, most)?;

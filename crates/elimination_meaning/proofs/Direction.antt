@@ -4,7 +4,7 @@ use Rattle.std.specs.List.{AllByRecursion}
 use Rattle.std.proofs.lemmas.Bool.Decides.{nat_tests}
 use Rattle.std.proofs.lemmas.List.{map-append, length-reverse}
 use mathlib.Core.List.{reverse-cons}
-use Rattle.geometry.specs.Lists.{front_of, interior, AreDistinct}
+use Rattle.geometry.specs.Lists.{all_but_last_of, interior, AreDistinct}
 use Rattle.geometry.specs.Points.{Point}
 use Rattle.elimination_meaning.specs.Elimination.{Vertex, eliminate, numbered, remaining, reduce, reduced}
 use Rattle.elimination_meaning.specs.Laws.{DirectionLaw, IndexDirectionLaw}
@@ -12,8 +12,8 @@ use Rattle.elimination_meaning.proofs.Relabelled.{relabelled, between, eliminate
 use Rattle.elimination_meaning.proofs.Steps.{vertex, numbered_points, eliminate_sub}
 use Rattle.elimination_meaning.proofs.Sublists.{sub_map, sub_all}
 use Rattle.elimination_meaning.proofs.Turned.{eliminate_reverse}
-use Rattle.list_laws.proofs.Elements.{all_parts, all_map, all_of_map, all_two, all_weaker}
-use Rattle.list_laws.proofs.Lists.{map_agree}
+use Rattle.owned_values.proofs.Elements.{all_parts, all_map, all_of_map, all_two, all_weaker}
+use Rattle.owned_values.proofs.Lists.{map_agree}
 
 -- the index of the same place counted from the other end of so many, one to one
 abbrev flipped : ℕ → ℕ → ℕ
@@ -54,12 +54,12 @@ numbered_reverse f i j (p ∷ ps) h =
     let g' : f (i + 1 + k) + (k + 1) + 1 ≡ j + length (p ∷ ps) = subst (λ m. f m + (k + 1) + 1 ≡ j + length (p ∷ ps)) y g in
     omega arith)) ∙ sym (reverse-cons (vertex (f i) p) (map (relabelled f) (numbered (i + 1) ps)))
 
-map_front_of : {X Y : Type 0} (f : X → Y) (x : X) (xs : List X) → map f (front_of x xs) ≡ front_of (f x) (map f xs)
-map_front_of f x [] = refl
-map_front_of f x (y ∷ ys) = ap (λ l. f x ∷ l) (map_front_of f y ys)
+map_all_but_last_of : {X Y : Type 0} (f : X → Y) (x : X) (xs : List X) → map f (all_but_last_of x xs) ≡ all_but_last_of (f x) (map f xs)
+map_all_but_last_of f x [] = refl
+map_all_but_last_of f x (y ∷ ys) = ap (λ l. f x ∷ l) (map_all_but_last_of f y ys)
 
 between_is : (ps : List Point) → between (numbered 0 ps) ≡ interior ps
-between_is ps = (grind (arith, map_front_of)) ∙ ap interior (numbered_points 0 ps)
+between_is ps = (grind (arith, map_all_but_last_of)) ∙ ap interior (numbered_points 0 ps)
 
 pub reduced_reverse : DirectionLaw
 unfolding reduced

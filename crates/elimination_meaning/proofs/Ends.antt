@@ -4,7 +4,7 @@ use Rattle.std.specs.List.{AllByRecursion}
 use Rattle.std.proofs.lemmas.Bool.Decides.{nat_tests}
 use Rattle.std.proofs.lemmas.List.{map-append}
 use Rattle.std.proofs.lemmas.List.Elements.{filter-append}
-use Rattle.geometry.specs.Lists.{front_of, interior}
+use Rattle.geometry.specs.Lists.{all_but_last_of, interior}
 use Rattle.geometry.specs.Points.{Point}
 use Rattle.elimination_meaning.specs.Elimination.{Vertex, Corner, corners, least, without, without_under, next, eliminate, numbered, reduce, reduced}
 use Rattle.elimination_meaning.specs.Laws.{EndsStay}
@@ -26,13 +26,13 @@ pub record HasEnds (a b : Vertex) (vs : List Vertex) : Type 0 where
   pub shape : vs ≡ ended a inner b
   pub others : AllByRecursion (IsOther a b) inner
 
-front_of_ended : (v : Vertex) (vs : List Vertex) (b : Vertex) → front_of v (vs ++ (b ∷ [])) ≡ v ∷ vs
-front_of_ended v [] b = refl
-front_of_ended v (w ∷ vs) b = ap (λ l. v ∷ l) (front_of_ended w vs b)
+all_but_last_of_ended : (v : Vertex) (vs : List Vertex) (b : Vertex) → all_but_last_of v (vs ++ (b ∷ [])) ≡ v ∷ vs
+all_but_last_of_ended v [] b = refl
+all_but_last_of_ended v (w ∷ vs) b = ap (λ l. v ∷ l) (all_but_last_of_ended w vs b)
 
 interior_ended : (a : Vertex) (vs : List Vertex) (b : Vertex) → interior (ended a vs b) ≡ vs
 interior_ended a [] b = refl
-interior_ended a (v ∷ vs) b = front_of_ended v vs b
+interior_ended a (v ∷ vs) b = all_but_last_of_ended v vs b
 
 without_ended : (i : ℕ) (a : Vertex) (vs : List Vertex) (b : Vertex) → (a.index == i) ≡ false → (b.index == i) ≡ false → without i (ended a vs b) ≡ ended a (without i vs) b
 without_ended i a vs b h k = grind (arith, filter-append)

@@ -2,8 +2,8 @@
 use Rattle.std.proofs.Common.{◌≡◌, ℕ, zero, suc, ◌+◌, ◌<◌, ◌≤◌, Bool, not, List, [], ◌∷◌, Option, Some, None, length, refl, ap, arith, nat_lt}
 use Rattle.std.specs.List.{filter, AllByRecursion}
 use Rattle.std.proofs.lemmas.List.Filters.{length-filter_both}
-use Rattle.list_laws.proofs.Elements.{all_weaker}
-use Rattle.list_laws.proofs.Tests.{holds_of_chosen}
+use Rattle.owned_values.proofs.Elements.{all_weaker}
+use Rattle.owned_values.proofs.Tests.{holds_of_chosen}
 use Rattle.geometry.specs.Points.{Point}
 use Rattle.elimination_meaning.specs.Elimination.{Vertex, Corner, corners, least, without, without_under, next, eliminate, numbered}
 use Rattle.elimination_meaning.specs.Laws.{NoneIsLeft}

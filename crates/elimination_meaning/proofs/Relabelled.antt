@@ -1,15 +1,15 @@
 -- Where the positions between the ends are distinct, elimination doesn't depend on the indexes.
 use Rattle.std.proofs.Common.{◌≡◌, ◌≢◌, ℕ, zero, suc, List, [], ◌∷◌, Option, Some, None, map, refl, ap, sym, ◌∙◌, subst, ◌==◌, arith}
 use Rattle.std.specs.Ordering.{is_lt, nat_cmp}
-use Rattle.list_laws.proofs.Elements.{all_of_map}
-use Rattle.list_laws.proofs.Tests.{chosen_of}
+use Rattle.owned_values.proofs.Elements.{all_of_map}
+use Rattle.owned_values.proofs.Tests.{chosen_of}
 use Rattle.geometry.specs.Lists.{map_some, interior, AreDistinct}
 use Rattle.geometry.specs.Order.{point_cmp}
 use Rattle.geometry.specs.Points.{Point}
 use Rattle.elimination_meaning.specs.Elimination.{Vertex, Corner, corner_at, corners_from, corners, is_before, lesser, least, without, without_under, next, eliminate}
 use Rattle.elimination_meaning.proofs.Order.{point_exact}
 use Rattle.elimination_meaning.proofs.Steps.{vertex, vertex_of, Holds, least_holds, corner_vertices, next_sub}
-use Rattle.elimination_meaning.proofs.Sublists.{sub_tail, sub_front, sub_map, sub_apart}
+use Rattle.elimination_meaning.proofs.Sublists.{sub_tail, sub_all_but_last, sub_map, sub_apart}
 use Rattle.elimination_meaning.proofs.Turned.{go_on}
 use Rattle.elimination_meaning.specs.Sublists.{Sublist}
 
@@ -57,7 +57,7 @@ next_apart t vs h = on (next t vs) (next_sub t vs)
   where
     on : (o : Option (List Vertex)) → Holds (λ ws. Sublist ws vs) o → Holds (λ ws. AreDistinct (between ws)) o
     on None s = tt
-    on (Some ws) s = sub_apart (sub_map (λ v. v.point) (sub_front (sub_tail s))) h
+    on (Some ws) s = sub_apart (sub_map (λ v. v.point) (sub_all_but_last (sub_tail s))) h
 
 -- ---- elimination
 

@@ -2,9 +2,9 @@
 use Rattle.std.proofs.Common.{◌≡◌, ℕ, zero, suc, ◌+◌, false, List, [], ◌∷◌, Option, Some, None, length, map, refl, ap, sym, ◌∙◌, subst, arith, nat_lt}
 use Rattle.std.specs.List.{AllByRecursion}
 use Rattle.std.proofs.lemmas.Bool.Decides.{nat_tests}
-use Rattle.list_laws.proofs.Elements.{all_of_map}
-use Rattle.list_laws.proofs.Tests.{holds_of_chosen}
-use Rattle.geometry.specs.Lists.{front_of, interior}
+use Rattle.owned_values.proofs.Elements.{all_of_map}
+use Rattle.owned_values.proofs.Tests.{holds_of_chosen}
+use Rattle.geometry.specs.Lists.{all_but_last_of, interior}
 use Rattle.geometry.specs.Points.{Point}
 use Rattle.elimination_meaning.specs.Elimination.{Vertex, Corner, corners, corners_from, lesser, least, next, eliminate, numbered, reduced}
 use Rattle.elimination_meaning.specs.Laws.{ZeroLaw, NoneIsNew}
@@ -34,7 +34,7 @@ least_holds P (c ∷ cs) h = lesser_holds P c (least cs) h.0 (least_holds P cs h
 
 -- ---- the vertices of the corners are those between the ends
 
-from_vertices : (a b : Vertex) (vs : List Vertex) → map vertex_of (corners_from a b vs) ≡ front_of b vs
+from_vertices : (a b : Vertex) (vs : List Vertex) → map vertex_of (corners_from a b vs) ≡ all_but_last_of b vs
 from_vertices a b [] = refl
 from_vertices a b (c ∷ vs) = ap (λ l. b ∷ l) (from_vertices b c vs)
 

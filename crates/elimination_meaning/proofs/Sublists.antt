@@ -1,8 +1,8 @@
 -- Sublists: of parts of lists, of what is made of their elements, and what they take over.
 use Rattle.std.proofs.Common.{◌≢◌, Bool, List, [], ◌∷◌, map, arith}
 use Rattle.std.specs.List.{filter, AllByRecursion}
-use Rattle.list_laws.proofs.Tests.{holds_of_chosen}
-use Rattle.geometry.specs.Lists.{tail, front, front_of, interior, AreDistinct}
+use Rattle.owned_values.proofs.Tests.{holds_of_chosen}
+use Rattle.geometry.specs.Lists.{tail, all_but_last, all_but_last_of, interior, AreDistinct}
 use Rattle.elimination_meaning.specs.Sublists.{Sublist, none, keep, skip}
 
 sub_nil : {X : Type 0} (ys : List X) → Sublist [] ys
@@ -28,29 +28,29 @@ sub_less (skip s) = skip (sub_less s)
 pub sub_tail : {X : Type 0} {xs ys : List X} → Sublist xs ys → Sublist (tail xs) (tail ys)
 sub_tail h = grind (arith, sub_less)
 
-skip_front : {X : Type 0} (y : X) (xs ys : List X) → Sublist xs ys → Sublist (front xs) (front ys) → Sublist (front xs) (front_of y ys)
-skip_front y [] ys s h = sub_nil (front_of y ys)
-skip_front y (x ∷ xs) [] s h = elim s [ ]
-skip_front y (x ∷ xs) (z ∷ zs) s h = skip h
+skip_all_but_last : {X : Type 0} (y : X) (xs ys : List X) → Sublist xs ys → Sublist (all_but_last xs) (all_but_last ys) → Sublist (all_but_last xs) (all_but_last_of y ys)
+skip_all_but_last y [] ys s h = sub_nil (all_but_last_of y ys)
+skip_all_but_last y (x ∷ xs) [] s h = elim s [ ]
+skip_all_but_last y (x ∷ xs) (z ∷ zs) s h = skip h
 
-keep_front : {X : Type 0} (x : X) (xs ys : List X) → Sublist xs ys → Sublist (front xs) (front ys) → Sublist (front_of x xs) (front_of x ys)
-keep_front x [] ys s h = sub_nil (front_of x ys)
-keep_front x (w ∷ ws) [] s h = elim s [ ]
-keep_front x (w ∷ ws) (z ∷ zs) s h = keep h
+keep_all_but_last : {X : Type 0} (x : X) (xs ys : List X) → Sublist xs ys → Sublist (all_but_last xs) (all_but_last ys) → Sublist (all_but_last_of x xs) (all_but_last_of x ys)
+keep_all_but_last x [] ys s h = sub_nil (all_but_last_of x ys)
+keep_all_but_last x (w ∷ ws) [] s h = elim s [ ]
+keep_all_but_last x (w ∷ ws) (z ∷ zs) s h = keep h
 
-pub sub_front : {X : Type 0} {xs ys : List X} → Sublist xs ys → Sublist (front xs) (front ys)
-sub_front none = none
-sub_front (keep {x} {xs} {ys} s) = keep_front x xs ys s (sub_front s)
-sub_front (skip {y} {xs} {ys} s) = skip_front y xs ys s (sub_front s)
+pub sub_all_but_last : {X : Type 0} {xs ys : List X} → Sublist xs ys → Sublist (all_but_last xs) (all_but_last ys)
+sub_all_but_last none = none
+sub_all_but_last (keep {x} {xs} {ys} s) = keep_all_but_last x xs ys s (sub_all_but_last s)
+sub_all_but_last (skip {y} {xs} {ys} s) = skip_all_but_last y xs ys s (sub_all_but_last s)
 
-sub_front_of : {X : Type 0} (x : X) (xs : List X) → Sublist (front_of x xs) (x ∷ xs)
-sub_front_of x [] = skip none
-sub_front_of x (y ∷ ys) = keep (sub_front_of y ys)
+sub_all_but_last_of : {X : Type 0} (x : X) (xs : List X) → Sublist (all_but_last_of x xs) (x ∷ xs)
+sub_all_but_last_of x [] = skip none
+sub_all_but_last_of x (y ∷ ys) = keep (sub_all_but_last_of y ys)
 
 pub sub_interior : {X : Type 0} (xs : List X) → Sublist (interior xs) xs
 sub_interior [] = none
 sub_interior (x ∷ []) = skip none
-sub_interior (x ∷ (y ∷ ys)) = skip (sub_front_of y ys)
+sub_interior (x ∷ (y ∷ ys)) = skip (sub_all_but_last_of y ys)
 
 pub sub_map : {X Y : Type 0} (f : X → Y) {xs ys : List X} → Sublist xs ys → Sublist (map f xs) (map f ys)
 sub_map f none = none

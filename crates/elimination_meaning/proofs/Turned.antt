@@ -4,7 +4,7 @@ use Rattle.std.specs.List.{filter}
 use Rattle.std.proofs.lemmas.List.{reverse-append}
 use Rattle.std.proofs.lemmas.List.Elements.{filter-append}
 use mathlib.Core.List.{reverse-cons}
-use Rattle.list_laws.proofs.Tests.{chosen_of}
+use Rattle.owned_values.proofs.Tests.{chosen_of}
 use Rattle.geometry.specs.Lists.{map_some}
 use Rattle.geometry.proofs.Areas.{area_turned}
 use Rattle.elimination_meaning.specs.Elimination.{Vertex, Corner, corner_at, corners, corners_from, lesser, least, without_under, next, eliminate}

@@ -12,12 +12,12 @@ abbrev pub goes_on : ℕ → Bool
 goes_on b = nat_le 128 b && nat_lt b 192
 
 -- where the next byte stands, after a byte that stands there: a line feed, 10, ends its line
-abbrev pub behind : ℕ → Place → Place
-behind b p =
+abbrev pub following : ℕ → Place → Place
+following b p =
     if b == 10 then record { line = one_more p.line; column = 1 }
     else (if goes_on b then p else record { line = p.line; column = one_more p.column })
 
 -- where the next byte stands after these
-unfoldable pub place_behind : List ℕ → Place → Place
-place_behind [] p = p
-place_behind (b ∷ bs) p = place_behind bs (behind b p)
+unfoldable pub place_after : List ℕ → Place → Place
+place_after [] p = p
+place_after (b ∷ bs) p = place_after bs (following b p)

@@ -1,8 +1,7 @@
 // What a feature is made of, counted.
 use crate::bounds::{Bounds, has_elements, has_outer};
 use geojson_meaning::{CoordinatesType, GeometryType, geometry_type};
-use json_members::{find, need_text};
-use json_value::{Json, OwnText};
+use json_value::{Json, OwnText, find, need_text};
 
 /// The objects of a layer (RFC 7946, section 1.4) or of a topology (TopoJSON 1.0, section 2), which have members of their own.
 #[derive(Clone, Copy, Debug)]

@@ -3,7 +3,7 @@ ghost use Rattle.std.specs.Prelude.{◌≤◌};
 
 use crate::form::{FileForm, form_of};
 use crate::place::place_in;
-use crate::trees::{behind_mark, is_sequence, stop};
+use crate::trees::{after_mark, is_sequence, stop};
 use json_reading::{JsonFault, Why};
 use std::alloc::{AllocError, Global};
 
@@ -46,7 +46,7 @@ fn malformed(
 ) -> Result<String, AllocError>
     requires { deepest ≤ 255 }
 {
-    let advice = advice(form_of(behind_mark(bytes)));
+    let advice = advice(form_of(after_mark(bytes)));
     let Some((at, why)) = stop(alloc, bytes, deepest)? else {
         return String::from_str(alloc, advice);
     };

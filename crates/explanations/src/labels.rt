@@ -1,7 +1,6 @@
 // What a feature is called.
 use crate::escaping::{quoted, shown};
-use json_members::find;
-use json_value::{Json, OwnText};
+use json_value::{Json, OwnText, find};
 use std::alloc::{AllocError, Global};
 
 /// The identifier among the members of a feature, after a comma.

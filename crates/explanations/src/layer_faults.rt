@@ -7,9 +7,8 @@ use crate::trees::{tree, type_of};
 use crate::walk::{Member, Step, Walk};
 use geojson_meaning::{GeoFault, GeoFaultKind, GeoJsonType, geojson_type};
 use inputs::BuildFault;
-use json_members::need;
 use json_reading::LAYER_DEPTH;
-use json_value::{Json, OwnText};
+use json_value::{Json, OwnText, need};
 use std::alloc::{AllocError, Global};
 
 /// Whether the way leads to more of the geometry of a feature than its type.

@@ -1,6 +1,6 @@
 //! What is said beside a fault or a report, in lines for a person: where in a file a fault is and what is wrong there, what a file is that
 //! is no JSON, what became of features and positions. It reads the bytes of an input once more, as a tree of `json_reading`, and goes
-//! the way of `geojson_meaning` and `topojson_reader` through it; it says nothing where it finds another fault than the one that was
+//! the way of `geojson_meaning` and `topojson_decoder` through it; it says nothing where it finds another fault than the one that was
 //! answered. The program calls a function for each outcome. Each line begins with two blanks and ends with a line feed. Contracts say
 //! where a byte stands (`place_in`), what a file begins as (`form_of`), and the numbers of a build; the sentences have none.
 #![tactic(auto)]

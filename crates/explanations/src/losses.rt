@@ -5,9 +5,8 @@ use crate::escaping::quoted;
 use crate::labels::label;
 use crate::trees::{objects_of, tree};
 use geojson_meaning::{Address, Dropped, GeoJsonType, geojson_type};
-use json_members::{find, need_text};
 use json_reading::{LAYER_DEPTH, TOPOLOGY_DEPTH};
-use json_value::{Json, OwnText};
+use json_value::{Json, OwnText, find, need_text};
 use std::alloc::{AllocError, Global};
 
 /// The lines that are dropped and aren't reported yet, in reading order.
@@ -23,7 +22,7 @@ impl<'a> DropsLeft<'a> {
         let mut rest = self.rest;
         while let [first, more @ ..] = rest {
             let address = &first.address;
-            if is_behind(address, layer, feature) {
+            if is_after(address, layer, feature) {
                 break;
             }
             if address.layer == layer && address.feature == feature {
@@ -37,7 +36,7 @@ impl<'a> DropsLeft<'a> {
 }
 
 /// Whether a line stands after this feature in reading order.
-fn is_behind(address: &Address, layer: usize, feature: usize) -> bool {
+fn is_after(address: &Address, layer: usize, feature: usize) -> bool {
     address.layer > layer || (address.layer == layer && address.feature > feature)
 }
 

@@ -15,9 +15,9 @@ fn area_as_number(alloc: Global, text: &str) -> Result<String, AllocError> {
             return format!(in alloc; "  for {text} write 0{text}\n");
         }
     }
-    if let Some(front) = text.strip_suffix(".") {
-        if is_digits(front) {
-            return format!(in alloc; "  for {text} write {front}\n");
+    if let Some(prefix) = text.strip_suffix(".") {
+        if is_digits(prefix) {
+            return format!(in alloc; "  for {text} write {prefix}\n");
         }
     }
     Ok(String::new(alloc))

@@ -10,8 +10,8 @@ pub struct Place {
 }
 
 /// Where the next byte stands.
-fn behind(byte: u8, place: Place) -> Place
-    ensures { result ≡ spec.behind byte place }
+fn following(byte: u8, place: Place) -> Place
+    ensures { result ≡ spec.following byte place }
 {
     if byte == b'\n' {
         return Place {
@@ -29,7 +29,7 @@ fn behind(byte: u8, place: Place) -> Place
 }
 
 /// So many bytes from the first on, or all.
-fn front(bytes: &[u8], count: usize) -> &[u8]
+fn prefix(bytes: &[u8], count: usize) -> &[u8]
     ensures { result.now ≡ take count bytes.now }
 {
     if count < bytes.len() {
@@ -40,14 +40,14 @@ fn front(bytes: &[u8], count: usize) -> &[u8]
 }
 
 /// Where the byte of this number stands, or the end where there are no more bytes.
-#[tactic(auto, unfolding(crate::specs::Places::place_behind))]
+#[tactic(auto, unfolding(crate::specs::Places::place_after))]
 pub fn place_in(bytes: &[u8], at: usize) -> Place
-    ensures { result ≡ spec.place_behind (take at bytes.now) spec.start }
+    ensures { result ≡ spec.place_after (take at bytes.now) spec.start }
 {
-    let mut rest = front(bytes, at);
+    let mut rest = prefix(bytes, at);
     let mut place = Place { line: 1, column: 1 };
     while let [byte, more @ ..] = rest {
-        place = behind(*byte, place);
+        place = following(*byte, place);
         rest = more;
     }
     place

@@ -3,12 +3,11 @@ use byte_ends::Memory;
 use decimal_json::value_text;
 use geojson_types::Counts;
 use json_cursor::Stop;
-use json_members::{LookupFault, find, need, need_text};
 use json_reading::TOPOLOGY_DEPTH;
-use json_value::{Items, Json, OwnText};
+use json_value::{Items, Json, LookupFault, OwnText, find, need, need_text};
 use std::alloc::{AllocFailed, Global};
+use topojson_decoder::{arc_at, feature_at, members_before_repeat, object_at, transform_at};
 use topojson_meaning::TopoFault;
-use topojson_reader::{arc_at, feature_at, members_before_repeat, object_at, transform_at};
 use topojson_types::{Cell, Transform};
 
 /// Where in a topology a fault is. Objects, features and arcs count from zero.

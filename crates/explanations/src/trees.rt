@@ -1,9 +1,8 @@
 // Texts read once more, as trees.
 ghost use Rattle.std.specs.Prelude.{◌≤◌};
 
-use json_members::{find, need_text};
 use json_reading::{Fault, JsonFault, Why, parse, skip, value_at};
-use json_value::{Json, OwnText};
+use json_value::{Json, OwnText, find, need_text};
 use std::alloc::{AllocError, Global};
 
 /// The value that the bytes spell, or nothing where they spell none.
@@ -34,7 +33,7 @@ pub(crate) fn stop(
 }
 
 /// What stands after the byte order mark, if there is one.
-pub(crate) fn behind_mark(bytes: &[u8]) -> &[u8] {
+pub(crate) fn after_mark(bytes: &[u8]) -> &[u8] {
     match bytes {
         [0xef, 0xbb, 0xbf, rest @ ..] => rest,
         _ => bytes,
@@ -44,7 +43,7 @@ pub(crate) fn behind_mark(bytes: &[u8]) -> &[u8] {
 /// Whether the text is JSON values one after another: a record separator (RFC 7464, section 2.2) begins it, or stands after its first
 /// value, or an object does.
 pub(crate) fn is_sequence(alloc: Global, bytes: &[u8], deepest: u32) -> Result<bool, AllocError> {
-    let text = skip(behind_mark(bytes));
+    let text = skip(after_mark(bytes));
     if let [0x1e, ..] = text {
         return Ok(true);
     }

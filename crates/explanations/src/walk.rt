@@ -1,9 +1,8 @@
 // The first fault of a layer's tree, and the way to it.
 use crate::positions::position;
 use geojson_meaning::{CoordinatesType, GeoFaultKind, GeometryType, Position, geometry_type};
-use json_members::{LookupFault, find};
 use json_reading::LAYER_DEPTH;
-use json_value::{Json, OwnText};
+use json_value::{Json, LookupFault, OwnText, find};
 use std::alloc::Global;
 
 /// The members of layers that are looked at (RFC 7946).

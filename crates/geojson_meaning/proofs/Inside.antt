@@ -6,10 +6,10 @@ use Rattle.json_value.specs.Depth.{depth, greatest}
 use Rattle.json_value.specs.Kinds.{array_of, object_of}
 use Rattle.json_value.proofs.Depths.{depth-array, depth-object}
 use Rattle.json_value.proofs.KindsOf.{array_of_is, object_of_is}
-use Rattle.json_members.proofs.Parts as p
-use Rattle.json_members.specs.Members as members_by
+use Rattle.json_value.proofs.Parts as p
+use Rattle.json_value.specs.Members as members_by
 use Rattle.geojson_meaning.specs.Members.{lookup_fault, find, need}
-use Rattle.json_members.proofs.Yields.{IfThere}
+use Rattle.json_value.proofs.Yields.{IfThere}
 
 -- ---- depths
 

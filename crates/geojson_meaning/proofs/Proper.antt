@@ -12,7 +12,7 @@ use Rattle.geojson_meaning.specs.Reader.{if_some}
 use Rattle.geojson_meaning.proofs.Inside.{object_shallower}
 use Rattle.geojson_meaning.proofs.SoundParts.{SoundIn}
 use Rattle.geojson_meaning.proofs.SoundShapes.{ShallowMembers, geometry_yields, typed_geometry_yields}
-use Rattle.json_members.proofs.Yields.{IfThere, first_is}
+use Rattle.json_value.proofs.Yields.{IfThere, first_is}
 
 option_proper : (n : ℕ) (o : Option Shape) → IfThere (SoundIn n) o → is_proper_option o ≡ true
 option_proper n o h = grind arith

@@ -28,9 +28,9 @@ use Rattle.geojson_meaning.proofs.Inside.{ShallowerMember, array_shallower, obje
 use Rattle.geojson_meaning.proofs.Sound.{IsSound}
 use Rattle.geojson_meaning.proofs.SoundParts.{SoundIn}
 use Rattle.geojson_meaning.proofs.SoundShapes.{geometry_yields}
-use Rattle.json_members.proofs.Inside.{HasNumbersMember, array_numbers, object_numbers, number_inside, HasTextsMember, array_texts, object_texts, text_inside}
-use Rattle.json_members.proofs.Yields.{Yields, or_fail_is, IfThere, weaker_yields, there_weaker, then_yields, give_yields, fail_yields, pure_yields, if_yields, if_some_yields}
-use Rattle.list_laws.proofs.Elements.{all_weaker}
+use Rattle.json_value.proofs.Inside.{HasNumbersMember, array_numbers, object_numbers, number_inside, HasTextsMember, array_texts, object_texts, text_inside}
+use Rattle.json_value.proofs.Yields.{Yields, or_fail_is, IfThere, weaker_yields, there_weaker, then_yields, give_yields, fail_yields, pure_yields, if_yields, if_some_yields}
+use Rattle.owned_values.proofs.Elements.{all_weaker}
 
 -- less deep than n, with numbers alone where N holds, and with texts that are UTF-8 where T does
 abbrev pub IsPart : ℕ → Type 0 → Type 0 → Json → Type 0

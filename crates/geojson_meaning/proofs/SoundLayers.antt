@@ -16,7 +16,7 @@ use Rattle.geojson_types.specs.Numbers.{FeatureHasNumbers}
 use Rattle.geojson_types.specs.Texts.{FeatureHasTexts}
 use Rattle.geojson_types.specs.Places.{option_points, features_points}
 use Rattle.geometry.specs.Points.{IsInput}
-use Rattle.geometry.specs.Pruning.{option_strokes}
+use Rattle.geometry.specs.Pruning.{option_lines_and_rings}
 use Rattle.geojson_meaning.specs.declared.fault.GeoFaultKind.TheVariants.{WrongKind}
 use Rattle.geojson_meaning.specs.declared.types.GeoJsonType.{GeoJsonType}
 use Rattle.geojson_meaning.specs.declared.types.GeoJsonType.TheVariants as type
@@ -31,9 +31,9 @@ use Rattle.geojson_meaning.proofs.Inside.{ShallowerMember, object_deep, need_par
 use Rattle.geojson_meaning.proofs.SoundFeatures.{IsPart, IsPartMember, IsSoundFeature, array_parts, object_parts, feature_yields, feature_element_yields, bare_sound}
 use Rattle.geojson_meaning.proofs.SoundParts.{SoundIn}
 use Rattle.geojson_meaning.proofs.SoundShapes.{typed_geometry_yields}
-use Rattle.json_members.proofs.Parts.{given}
-use Rattle.json_members.proofs.Yields.{Yields, or_fail_is, IfThere, then_yields, give_yields, pure_yields}
-use Rattle.list_laws.proofs.Elements.{all_weaker, all_map, all_joined}
+use Rattle.json_value.proofs.Parts.{given}
+use Rattle.json_value.proofs.Yields.{Yields, or_fail_is, IfThere, then_yields, give_yields, pure_yields}
+use Rattle.owned_values.proofs.Elements.{all_weaker, all_map, all_joined}
 
 within_yields : {A : Type 0} (n : Option ℕ) (P : A → Type 0) (m : Reader A) → Yields P m → Yields P (within n m)
 within_yields n P m h c d x e = h c d x (given (fault_in n) (m c) (x, d) e)
@@ -104,7 +104,7 @@ inputs_alone exact v fs c e =
     (each_feature (λ v f. AllByRecursion IsInput (option_points f.shape)) (λ v f h. (grind arith)) exact v fs c e)))
 
 pub rings_close : RingsClose
-rings_close = each_feature (λ v f. AllByRecursion RingCloses (option_strokes f.shape)) (λ v f h. (grind arith))
+rings_close = each_feature (λ v f. AllByRecursion RingCloses (option_lines_and_rings f.shape)) (λ v f h. (grind arith))
 
 pub nothing_deeper : NothingDeeper
 nothing_deeper = each_feature (λ v f. feature_nesting f ≤ depth v) (λ v f h. h.nests)

@@ -24,8 +24,8 @@ use Rattle.geojson_meaning.specs.Reader.{Reader, ◌>>=◌, fail, each, kept, if
 use Rattle.geojson_meaning.proofs.Inside.{Shallower, array_shallower, array_deep}
 use Rattle.geojson_meaning.proofs.Sound.{IsLine, IsRing, IsArea, IsSound, sound-point, sound-points, sound-line, sound-lines, sound-area, sound-areas}
 use Rattle.geojson_meaning.proofs.ShapeCases.{nest_at}
-use Rattle.json_members.proofs.Yields.{Yields, IfThere, weaker_yields, there_weaker, then_yields, give_yields, count_yields, fail_yields, if_yields, if_some_yields, each_of_yields, kept_of_yields}
-use Rattle.list_laws.proofs.Elements.{all_weaker}
+use Rattle.json_value.proofs.Yields.{Yields, IfThere, weaker_yields, there_weaker, then_yields, give_yields, count_yields, fail_yields, if_yields, if_some_yields, each_of_yields, kept_of_yields}
+use Rattle.owned_values.proofs.Elements.{all_weaker}
 
 -- a P, and at least k levels of n
 abbrev pub Takes : {A : Type 0} → (A → Type 0) → ℕ → ℕ → A → Type 0

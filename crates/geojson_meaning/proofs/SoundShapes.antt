@@ -22,8 +22,8 @@ use Rattle.geojson_meaning.proofs.Sound.{IsSound, sound-group}
 use Rattle.geojson_meaning.proofs.SoundParts.{SoundIn, coordinates_shape_yields}
 use Rattle.geojson_meaning.proofs.Unrolled.{shape_object, shape_other, shapes_array, shapes_other}
 use Rattle.geojson_meaning.proofs.ShapeCases.{nest_at}
-use Rattle.json_members.proofs.Yields.{Yields, IfThere, there_weaker, weaker_yields, then_yields, give_yields, fail_yields, pure_yields, kept_of_yields}
-use Rattle.list_laws.proofs.Elements.{all_weaker}
+use Rattle.json_value.proofs.Yields.{Yields, IfThere, there_weaker, weaker_yields, then_yields, give_yields, fail_yields, pure_yields, kept_of_yields}
+use Rattle.owned_values.proofs.Elements.{all_weaker}
 
 -- members whose values are less deep than n
 abbrev pub ShallowMembers : ℕ → List (List ℕ × Json) → Type 0

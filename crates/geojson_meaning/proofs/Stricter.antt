@@ -4,8 +4,8 @@ use Rattle.std.specs.Prelude.{option_to_list}
 use Rattle.std.specs.List.{AllByRecursion}
 use Rattle.geojson_types.specs.declared.counts.Counts.{Counts}
 use Rattle.geojson_meaning.specs.Reader.{Counting, Reader, ◌>>=◌, give, fail, pure, within, gather, each, kept, if_some}
-use Rattle.json_members.proofs.Parts.{given}
-use Rattle.json_members.proofs.Yields.{taken, second_is}
+use Rattle.json_value.proofs.Parts.{given}
+use Rattle.json_value.proofs.Yields.{taken, second_is}
 
 -- what the strict reader gives the lax one gives, and the strict one counts no rounding
 abbrev pub Stricter : {E A : Type 0} → Counting E A → Counting E A → Type 0

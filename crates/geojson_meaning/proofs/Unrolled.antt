@@ -8,11 +8,11 @@ use Rattle.json_value.specs.declared.json.Json.TheOpen.{Json-F}
 use Rattle.json_value.specs.Kinds.{array_of, array_in, object_of, object_in}
 use Rattle.geojson_meaning.specs.declared.fault.GeoFaultKind.TheVariants.{WrongKind}
 use Rattle.geojson_meaning.specs.Geometries.{Readings, readings_step, readings, shape, shapes, geometry, geometry_with, typed_geometry}
-use Rattle.json_members.proofs.Parts.{gather_map, need_map, pure_map}
-use Rattle.json_members.specs.Members as members_by
+use Rattle.json_value.proofs.Parts.{gather_map, need_map, pure_map}
+use Rattle.json_value.specs.Members as members_by
 use Rattle.geojson_meaning.specs.Members.{lookup_fault, need, need_as}
 use Rattle.geojson_meaning.specs.Reader.{Reader, ◌>>=◌, fail, pure, with_fault, kept}
-use Rattle.list_laws.proofs.Lists.{map_back}
+use Rattle.owned_values.proofs.Lists.{map_back}
 
 -- ---- reading under a map
 

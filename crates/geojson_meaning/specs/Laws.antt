@@ -12,7 +12,7 @@ use Rattle.geojson_types.specs.Numbers.{FeatureHasNumbers}
 use Rattle.geojson_types.specs.Texts.{FeatureHasTexts}
 use Rattle.geojson_types.specs.Places.{features_points}
 use Rattle.geometry.specs.Points.{Point, IsInput}
-use Rattle.geometry.specs.Pruning.{option_strokes}
+use Rattle.geometry.specs.Pruning.{option_lines_and_rings}
 use Rattle.geometry.specs.Rings.{is_ring}
 use Rattle.geojson_meaning.specs.Layers.{layer}
 
@@ -26,14 +26,14 @@ abbrev pub InputsAlone : Type 0
 InputsAlone = (exact : Bool) (v : Json) (fs : List Featured) (c : Counts) → layer exact v ≡ Ok (fs, c)
     → All IsInput (features_points fs)
 
--- an element of `strokes` that is marked as a ring is one
+-- an element of `lines_and_rings` that is marked as a ring is one
 abbrev pub RingCloses : Bool × List Point → Type 0
 RingCloses b = b.0 ≡ true → is_ring b.1 ≡ true
 
 -- all rings are linear rings
 abbrev pub RingsClose : Type 0
 RingsClose = (exact : Bool) (v : Json) (fs : List Featured) (c : Counts) → layer exact v ≡ Ok (fs, c)
-    → AllByRecursion (λ f. AllByRecursion RingCloses (option_strokes f.shape)) fs
+    → AllByRecursion (λ f. AllByRecursion RingCloses (option_lines_and_rings f.shape)) fs
 
 -- a layer that is taken where only whole units are is taken where others are too: the same, with the same counts
 pub record ExactIsStricter : Type 0 where

@@ -1,10 +1,10 @@
 -- Looking up a member of an object by its name, where a look-up's fault is one of a layer.
 use Rattle.std.specs.Prelude.{ℕ, List, Option, Result, codes}
-use Rattle.json_members.specs.declared.fault.LookupFault.{LookupFault}
-use Rattle.json_members.specs.declared.fault.LookupFault.TheVariants as of_lookup
-use Rattle.json_members.specs.Members as members_by
-pub use Rattle.json_members.specs.Members.{Members}
-unfoldable pub use Rattle.json_members.specs.Members.{named}
+use Rattle.json_value.specs.declared.fault.LookupFault.{LookupFault}
+use Rattle.json_value.specs.declared.fault.LookupFault.TheVariants as of_lookup
+use Rattle.json_value.specs.Members as members_by
+pub use Rattle.json_value.specs.Members.{Members}
+unfoldable pub use Rattle.json_value.specs.Members.{named}
 use Rattle.geojson_meaning.specs.declared.fault.GeoFaultKind.{GeoFaultKind}
 use Rattle.geojson_meaning.specs.declared.fault.GeoFaultKind.TheVariants.{Missing, Duplicate, WrongKind}
 use Rattle.geojson_meaning.specs.Reader.{Reader, ◌>>=◌, pure, with_fault}

@@ -3,9 +3,9 @@ use Rattle.std.specs.Prelude.{ℕ, Option}
 use Rattle.geojson_types.specs.declared.counts.Counts.{Counts}
 use Rattle.geojson_meaning.specs.declared.fault.GeoFault.{GeoFault}
 use Rattle.geojson_meaning.specs.declared.fault.GeoFaultKind.{GeoFaultKind}
-use Rattle.json_members.specs.Readers as readers
-pub use Rattle.json_members.specs.Readers.{and_then, ◌>>=◌, give, fail, pure, or_fail, with_fault, each, if_some, kept}
-unfoldable pub use Rattle.json_members.specs.Readers.{gather}
+use Rattle.json_value.specs.Readers as readers
+pub use Rattle.json_value.specs.Readers.{and_then, ◌>>=◌, give, fail, pure, or_fail, with_fault, each, if_some, kept}
+unfoldable pub use Rattle.json_value.specs.Readers.{gather}
 
 -- a reader of an A whose faults are of this type
 abbrev pub Counting : Type 0 → Type 0 → Type 0

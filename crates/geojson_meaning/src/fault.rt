@@ -1,7 +1,7 @@
 ghost use Rattle.std.specs.Prelude.{◌≡◌, codes};
 ghost use Rattle.geojson_meaning.specs.Faults as spec;
 
-use json_members::LookupFault;
+use json_value::LookupFault;
 use std::alloc::{AllocError, AllocFailed};
 use thiserror::Error;
 

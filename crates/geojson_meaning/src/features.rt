@@ -1,6 +1,6 @@
 // What features are made of besides their geometry.
 ghost use Rattle.std.specs.Prelude.{◌≡◌};
-ghost use Rattle.json_members.specs.Answers.{Finds};
+ghost use Rattle.json_value.specs.Answers.{Finds};
 ghost use Rattle.geojson_meaning.specs.Features as spec;
 
 use crate::fault::GeoFaultKind;

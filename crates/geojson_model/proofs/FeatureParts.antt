@@ -24,20 +24,20 @@ use Rattle.geojson_meaning.specs.declared.fault.GeoFaultKind.TheVariants.{NotObj
 use Rattle.geojson_meaning.specs.declared.types.GeoJsonType.{GeoJsonType}
 use Rattle.geojson_meaning.specs.declared.types.GeoJsonType.TheVariants as types
 use Rattle.geojson_meaning.specs.declared.types.GeometryType.{GeometryType}
-use Rattle.json_cursor.specs.Arrays.{front_value}
+use Rattle.json_cursor.specs.Arrays.{prefix_value}
 use Rattle.json_reading.specs.declared.fault.Fault.{Fault}
-use Rattle.text_checking.specs.Passes.{Passes}
-use Rattle.geojson_model.proofs.SeenMembers.{passes}
+use Rattle.json_reading.specs.Passes.{Passes}
+use Rattle.geojson_model.proofs.MemberOccurrences.{passes}
 use Rattle.json_cursor.specs.Kinds.{kind_in, kind_of}
 use Rattle.json_cursor.specs.Members.{Members}
 use Rattle.json_cursor.specs.declared.kinds.Kind.TheVariants as kind
 use Rattle.geojson_model.specs.Features.{IsDrawn, IsFeatureParts, IsFields, IsId, IsProperties, counted, drawn, drawn_shape, given, named_fault, type_fault}
-use Rattle.geojson_model.specs.Members.{IsSeen, IsType, Sees, type_in}
+use Rattle.geojson_model.specs.Members.{IsOccurrence, IsType, Sees, type_in}
 use Rattle.geojson_model.specs.declared.features.Drawn.{Drawn}
 use Rattle.geojson_model.specs.declared.features.Fields.{Fields}
 use Rattle.geojson_model.specs.declared.geometries.Start.{Start}
-use Rattle.geojson_model.specs.declared.seen.Seen.{Seen}
-use Rattle.geojson_model.specs.declared.seen.Seen.TheVariants.{Never, Once, Again}
+use Rattle.geojson_model.specs.declared.occurrence.Occurrence.{Occurrence}
+use Rattle.geojson_model.specs.declared.occurrence.Occurrence.TheVariants.{Never, Once, Again}
 
 -- ---- the value of `geometry`
 
@@ -65,15 +65,15 @@ fields_pass start ms name v f no_geometry no_properties no_id h = record {
 }
 
 pub passed_over : (start : Start) (d : ℕ) (name value : List ℕ) (f : Fields) → bytes_eq name (codes "geometry") ≡ false → bytes_eq name (codes "properties") ≡ false → bytes_eq name (codes "id") ≡ false
-    → (result : Result (Bor (List ℕ)) Fault) → Passes result (front_value d value) → Sees (IsFields start) d name value f f result
+    → (result : Result (Bor (List ℕ)) Fault) → Passes result (prefix_value d value) → Sees (IsFields start) d name value f f result
 passed_over start d name value f no_geometry no_properties no_id (Ok rest) h = (h.0, h.1, λ ms is. fields_pass start ms name h.0 f no_geometry no_properties no_id is)
 passed_over start d name value f no_geometry no_properties no_id (Err fault) h = h
 
 -- a member that isn't the type
-pub with_fields : (start : Start) (d : ℕ) (name value : List ℕ) (seen : Seen (Result GeoJsonType GeoFaultKind)) (before after : Fields) → bytes_eq name (codes "type") ≡ false → (result : Result (Bor (List ℕ)) Fault)
-    → Sees (IsFields start) d name value before after result → Sees (IsFeatureParts start d) d name value (record { kind = seen; fields = before }) (record { kind = seen; fields = after }) result
-with_fields start d name value seen before after no_type (Ok rest) h = (h.0, h.1, λ ms is. record { kind = passes IsType (codes "type") ms name h.0 seen is.kind no_type; fields = h.2 ms is.fields })
-with_fields start d name value seen before after no_type (Err fault) h = h
+pub with_fields : (start : Start) (d : ℕ) (name value : List ℕ) (occurrence : Occurrence (Result GeoJsonType GeoFaultKind)) (before after : Fields) → bytes_eq name (codes "type") ≡ false → (result : Result (Bor (List ℕ)) Fault)
+    → Sees (IsFields start) d name value before after result → Sees (IsFeatureParts start d) d name value (record { kind = occurrence; fields = before }) (record { kind = occurrence; fields = after }) result
+with_fields start d name value occurrence before after no_type (Ok rest) h = (h.0, h.1, λ ms is. record { kind = passes IsType (codes "type") ms name h.0 occurrence is.kind no_type; fields = h.2 ms is.fields })
+with_fields start d name value occurrence before after no_type (Err fault) h = h
 
 -- ---- members that are looked up
 
@@ -92,7 +92,7 @@ looked_up of f c (Ok i) = pure_next f c (of i)
 looked_up of f c (Err e) = refl
 
 module _ {A : Type 0} (of : Option Json → Result (Option A) GeoFaultKind) (none : of None ≡ Ok None) (name : List ℕ) (ms : Members) where
-  seen_gives : (s : Seen (Result (Option A) GeoFaultKind)) → IsSeen (λ v x. x ≡ of (Some v)) (named name ms) s → next (find name ms) of ≡ given s
+  seen_gives : (s : Occurrence (Result (Option A) GeoFaultKind)) → IsOccurrence (λ v x. x ≡ of (Some v)) (named name ms) s → next (find name ms) of ≡ given s
   seen_gives Never h = rw h none
   seen_gives (Once x) (v, one, is) = rw one (sym is)
   seen_gives Again (v, w, us, more) = rw more refl
@@ -102,7 +102,7 @@ module _ (exact : Bool) (ms : Members) (c : Counts) where
   abbrev the_shape : Result (Option Shape × Counts) GeoFaultKind
   the_shape = and_then (λ o. λ d. and_then (λ object. if_some (geometry exact) object) (pure (members_if o) d)) (pure (find (codes "geometry") ms) c)
 
-  shape_seen : (start : Start) (s : Seen Drawn) → start.exact ≡ exact → start.counts ≡ c → IsSeen (IsDrawn start) (named (codes "geometry") ms) s → the_shape ≡ drawn s c
+  shape_seen : (start : Start) (s : Occurrence Drawn) → start.exact ≡ exact → start.counts ≡ c → IsOccurrence (IsDrawn start) (named (codes "geometry") ms) s → the_shape ≡ drawn s c
   shape_seen start Never e f h = rw h refl
   shape_seen start (Once x) e f (v, one, is) = rw one (by_shape x.shape refl)
     where
@@ -130,10 +130,10 @@ module _ (exact : Bool) (ms : Members) (c : Counts) where
   abbrev pub combined : Result (Option Id) GeoFaultKind → Result (Option Members) GeoFaultKind → Result (Option Shape × Counts) GeoFaultKind → Result (Featured × Counts) GeoFaultKind
   combined id properties shape = next id (λ i. next properties (λ p. and_then (finish i p) shape))
 
-  behind_properties : (id : Option Id) (r : Result (Option Members) GeoFaultKind) → next (find (codes "properties") ms) members_if ≡ r
+  after_properties : (id : Option Id) (r : Result (Option Members) GeoFaultKind) → next (find (codes "properties") ms) members_if ≡ r
       → and_then (λ p. λ d. and_then (λ properties. λ e. and_then (λ o. λ f. and_then (λ object. λ g. and_then (finish id properties) (if_some (geometry exact) object g)) (pure (members_if o) f)) (pure (find (codes "geometry") ms) e)) (pure (members_if p) d)) (pure (find (codes "properties") ms) c)
       ≡ next r (λ p. and_then (finish id p) the_shape)
-  behind_properties id r is = looked_up members_if _ c (find (codes "properties") ms) ∙ rw is (by_result r)
+  after_properties id r is = looked_up members_if _ c (find (codes "properties") ms) ∙ rw is (by_result r)
     where
       by_result : (r : Result (Option Members) GeoFaultKind) → next r (λ p. and_then (λ o. λ f. and_then (λ object. λ g. and_then (finish id p) (if_some (geometry exact) object g)) (pure (members_if o) f)) (pure (find (codes "geometry") ms) c))
           ≡ next r (λ p. and_then (finish id p) the_shape)
@@ -148,7 +148,7 @@ module _ (exact : Bool) (ms : Members) (c : Counts) where
       by_result : (r : Result (Option Id) GeoFaultKind)
           → next r (λ id. and_then (λ p. λ d. and_then (λ properties. λ e. and_then (λ o. λ f. and_then (λ object. λ g. and_then (finish id properties) (if_some (geometry exact) object g)) (pure (members_if o) f)) (pure (find (codes "geometry") ms) e)) (pure (members_if p) d)) (pure (find (codes "properties") ms) c))
           ≡ combined r properties the_shape
-      by_result (Ok i) = behind_properties i properties also
+      by_result (Ok i) = after_properties i properties also
       by_result (Err e) = refl
 
 -- what these members give is the feature
@@ -203,13 +203,13 @@ module _ (exact : Bool) (ms : Members) (c : Counts) where
     by_text None is = rw (one, is) refl
     by_text (Some name) is = rw (one, is) (by_name name)
 
-  by_type : (s : Seen (Result GeoJsonType GeoFaultKind)) → IsSeen IsType (named (codes "type") ms) s → by_type_name (type_name ms) ≡ unless (type_fault s)
+  by_type : (s : Occurrence (Result GeoJsonType GeoFaultKind)) → IsOccurrence IsType (named (codes "type") ms) s → by_type_name (type_name ms) ≡ unless (type_fault s)
   unfolding type_name
   by_type Never h = rw h refl
   by_type (Once x) (v, one, is) = by_text v one (text_of v) refl ∙ ap (λ r. unless (named_fault r)) (sym is)
   by_type Again (v, w, us, more) = rw more refl
 
-  pub is_element : (s : Seen (Result GeoJsonType GeoFaultKind)) → IsSeen IsType (named (codes "type") ms) s → feature_element exact (j.Object ms) c ≡ unless (type_fault s)
+  pub is_element : (s : Occurrence (Result GeoJsonType GeoFaultKind)) → IsOccurrence IsType (named (codes "type") ms) s → feature_element exact (j.Object ms) c ≡ unless (type_fault s)
   unfolding feature_element
   is_element s h = rw (object_of-object ms) (by_type s h)
 

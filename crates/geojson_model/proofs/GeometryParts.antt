@@ -20,7 +20,7 @@ use Rattle.geojson_meaning.specs.declared.types.GeometryType.TheVariants.{Coordi
 use Rattle.geojson_meaning.specs.Geometries.{coordinates_shape, typed_geometry, geometry, shape, shapes}
 use Rattle.geojson_meaning.proofs.Unrolled.{shape_object, shape_other, shapes_array, shapes_other}
 use Rattle.geojson_meaning.specs.Members.{named, need, type_name}
-use Rattle.json_members.specs.Readers.{Counting}
+use Rattle.json_value.specs.Readers.{Counting}
 use Rattle.geojson_meaning.specs.Reader.{Reader, and_then, gather, kept, or_fail, pure}
 use Rattle.geojson_types.specs.Features.{Shape}
 use Rattle.geojson_meaning.specs.Types.{coordinates_type, geojson_type, geometry_type}
@@ -141,17 +141,17 @@ module _ (exact : Bool) (ms : Members) (c : Counts) where
 -- ---- what stands at the front
 
 -- what is judged of the object that stands there is answered of it
-module _ (exact : Bool) (front : Option (Json × List ℕ)) (ms : Members) (rest : List ℕ) (old : Counts) (is : front ≡ Some (j.Object ms, rest)) where
+module _ (exact : Bool) (prefix : Option (Json × List ℕ)) (ms : Members) (rest : List ℕ) (old : Counts) (is : prefix ≡ Some (j.Object ms, rest)) where
   object_shape : shape exact (j.Object ms) old ≡ geometry exact ms old
   object_shape = ap (λ (r : Reader (Option Shape)). r old) (shape_object exact (j.Object ms) ms (object_of-object ms))
 
-  pub object_stops : (new : Counts) (why : Stop GeoFaultKind) → Judges (geometry exact ms) old new (Err why) → Stops (shape exact) front old why
-  object_stops new (stop.Fault e) h = found_stops (shape exact) front old (j.Object ms) rest e is (object_shape ∙ h)
+  pub object_stops : (new : Counts) (why : Stop GeoFaultKind) → Judges (geometry exact ms) old new (Err why) → Stops (shape exact) prefix old why
+  object_stops new (stop.Fault e) h = found_stops (shape exact) prefix old (j.Object ms) rest e is (object_shape ∙ h)
   object_stops new stop.NoValue h = absurd h
   object_stops new stop.Memory h = tt
 
-  pub object_reads : (x : Option Shape) (new : Counts) → geometry exact ms old ≡ Ok (x, new) → Reads (shape exact) front x rest old new
-  object_reads x new h = record { value = j.Object ms; front_is = is; means = object_shape ∙ h }
+  pub object_reads : (x : Option Shape) (new : Counts) → geometry exact ms old ≡ Ok (x, new) → Reads (shape exact) prefix x rest old new
+  object_reads x new h = record { value = j.Object ms; prefix_is = is; means = object_shape ∙ h }
 
 pub no_object : (exact : Bool) (v : Json) (old : Counts) → object_of v ≡ None → shape exact v old ≡ Err WrongKind
 no_object exact v old h = ap (λ (r : Reader (Option Shape)). r old) (shape_other exact v h)
@@ -162,30 +162,30 @@ no_array exact v old h = ap (λ (r : Reader (List Shape)). r old) (shapes_other 
 array_shapes : (exact : Bool) (vs : List Json) (old : Counts) → shapes exact (j.Array vs) old ≡ kept (shape exact) vs old
 array_shapes exact vs old = ap (λ (r : Reader (List Shape)). r old) (shapes_array exact (j.Array vs) vs (array_of-array vs))
 
-pub no_elements : (exact : Bool) (front : Option (Json × List ℕ)) (rest : List ℕ) (old : Counts) → front ≡ Some (j.Array [], rest) → Reads (shapes exact) front [] rest old old
+pub no_elements : (exact : Bool) (prefix : Option (Json × List ℕ)) (rest : List ℕ) (old : Counts) → prefix ≡ Some (j.Array [], rest) → Reads (shapes exact) prefix [] rest old old
 unfolding gather
-no_elements exact front rest old is = record { value = j.Array []; front_is = is; means = array_shapes exact [] old }
+no_elements exact prefix rest old is = record { value = j.Array []; prefix_is = is; means = array_shapes exact [] old }
 
-module _ (exact : Bool) (front : Option (Json × List ℕ)) (found : Option (List Json × List ℕ)) (old : Counts) (is : front ≡ made j.Array found) where
-  pub elements_stop : (why : Stop GeoFaultKind) → Stops (kept (shape exact)) found old why → Stops (shapes exact) front old why
-  elements_stop why h = made_stops j.Array (shapes exact) (kept (shape exact)) front found is old old (λ vs rest e. array_shapes exact vs old) why h
+module _ (exact : Bool) (prefix : Option (Json × List ℕ)) (found : Option (List Json × List ℕ)) (old : Counts) (is : prefix ≡ made j.Array found) where
+  pub elements_stop : (why : Stop GeoFaultKind) → Stops (kept (shape exact)) found old why → Stops (shapes exact) prefix old why
+  elements_stop why h = made_stops j.Array (shapes exact) (kept (shape exact)) prefix found is old old (λ vs rest e. array_shapes exact vs old) why h
 
-  pub elements_read : (ss : List Shape) (rest : List ℕ) (new : Counts) → Reads (kept (shape exact)) found ss rest old new → Reads (shapes exact) front ss rest old new
-  elements_read ss rest new r = made_reads j.Array (shapes exact) (kept (shape exact)) front found is old old (λ vs end e. array_shapes exact vs old) ss rest new r
+  pub elements_read : (ss : List Shape) (rest : List ℕ) (new : Counts) → Reads (kept (shape exact)) found ss rest old new → Reads (shapes exact) prefix ss rest old new
+  elements_read ss rest new r = made_reads j.Array (shapes exact) (kept (shape exact)) prefix found is old old (λ vs end e. array_shapes exact vs old) ss rest new r
 
-pub group_stops : (exact : Bool) (front : Option (Json × List ℕ)) (old : Counts) (why : Stop GeoFaultKind) → Stops (shapes exact) front old why → Stops (the_part exact Collection) front old why
-group_stops exact front old (stop.Fault e) h = λ v rest found. rw (h v rest found) refl
-group_stops exact front old stop.NoValue h = h
-group_stops exact front old stop.Memory h = tt
+pub group_stops : (exact : Bool) (prefix : Option (Json × List ℕ)) (old : Counts) (why : Stop GeoFaultKind) → Stops (shapes exact) prefix old why → Stops (the_part exact Collection) prefix old why
+group_stops exact prefix old (stop.Fault e) h = λ v rest found. rw (h v rest found) refl
+group_stops exact prefix old stop.NoValue h = h
+group_stops exact prefix old stop.Memory h = tt
 
 -- ---- one geometry more
 
-pub taken_stops : (exact : Bool) (now : List Shape) (front : Option (Json × List ℕ)) (old : Counts) (why : Stop GeoFaultKind) → Stops (shape exact) front old why
-    → Stops (with_read (some_one (shape exact)) now) front old why
-taken_stops exact now front old (stop.Fault e) h = λ v rest found. rw (h v rest found) refl
-taken_stops exact now front old stop.NoValue h = h
-taken_stops exact now front old stop.Memory h = tt
+pub taken_stops : (exact : Bool) (now : List Shape) (prefix : Option (Json × List ℕ)) (old : Counts) (why : Stop GeoFaultKind) → Stops (shape exact) prefix old why
+    → Stops (with_read (some_one (shape exact)) now) prefix old why
+taken_stops exact now prefix old (stop.Fault e) h = λ v rest found. rw (h v rest found) refl
+taken_stops exact now prefix old stop.NoValue h = h
+taken_stops exact now prefix old stop.Memory h = tt
 
-pub taken_reads : (exact : Bool) (now : List Shape) (front : Option (Json × List ℕ)) (x : Option Shape) (rest : List ℕ) (old new : Counts) → Reads (shape exact) front x rest old new
-    → Reads (with_read (some_one (shape exact)) now) front (now ++ option_to_list x) rest old new
-taken_reads exact now front x rest old new r = record { value = r.value; front_is = r.front_is; means = rw r.means refl }
+pub taken_reads : (exact : Bool) (now : List Shape) (prefix : Option (Json × List ℕ)) (x : Option Shape) (rest : List ℕ) (old new : Counts) → Reads (shape exact) prefix x rest old new
+    → Reads (with_read (some_one (shape exact)) now) prefix (now ++ option_to_list x) rest old new
+taken_reads exact now prefix x rest old new r = record { value = r.value; prefix_is = r.prefix_is; means = rw r.means refl }

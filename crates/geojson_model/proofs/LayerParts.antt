@@ -31,15 +31,15 @@ use Rattle.json_cursor.specs.declared.stop.Stop.{Stop}
 use Rattle.json_cursor.specs.declared.stop.Stop.TheVariants as stop
 use Rattle.geojson_model.specs.Features.{IsFields, is_field}
 use Rattle.geojson_model.specs.Layers.{IsCollected, IsLayerParts, Types, array_features, members_features, numbered, stop_in, type_of}
-use Rattle.geojson_model.specs.Members.{IsCoordinates, IsFront, IsParts, IsSeen, IsType, Judges, Sees, type_in}
+use Rattle.geojson_model.specs.Members.{IsCoordinates, BeginsAt, IsParts, IsOccurrence, IsType, Judges, Sees, type_in}
 use Rattle.geojson_model.specs.declared.features.Fields.{Fields}
 use Rattle.geojson_model.specs.declared.geometries.Parts.{Parts}
 use Rattle.geojson_model.specs.declared.geometries.Start.{Start}
 use Rattle.geojson_model.specs.declared.layers.Collected.{Collected}
-use Rattle.geojson_model.specs.declared.seen.Seen.{Seen}
-use Rattle.geojson_model.specs.declared.seen.Seen.TheVariants.{Never, Once, Again}
+use Rattle.geojson_model.specs.declared.occurrence.Occurrence.{Occurrence}
+use Rattle.geojson_model.specs.declared.occurrence.Occurrence.TheVariants.{Never, Once, Again}
 use Rattle.geojson_model.proofs.FeatureParts.{fields_pass}
-use Rattle.geojson_model.proofs.SeenMembers.{not_other, passes}
+use Rattle.geojson_model.proofs.MemberOccurrences.{not_other, passes}
 
 -- ---- features one after another
 
@@ -75,11 +75,11 @@ is_array_features exact wrong v c is = by_kind (array_of v) refl
     by_kind None h = rw (h, is) refl
     by_kind (Some vs) h = rw h (folded exact vs [] c ∙ nothing_before (features_from exact 0 vs c))
 
-pub numbered_stops : (exact : Bool) (fs : List Featured) (front : Option (Json × List ℕ)) (old : Counts) (why : Stop GeoFaultKind) → Stops (feature_element exact) front old why
-    → Stops (numbered exact fs) front old (stop_in (Some (length fs)) why)
-numbered_stops exact fs front old (stop.Fault e) h = λ v rest found. rw (h v rest found) refl
-numbered_stops exact fs front old stop.NoValue h = h
-numbered_stops exact fs front old stop.Memory h = tt
+pub numbered_stops : (exact : Bool) (fs : List Featured) (prefix : Option (Json × List ℕ)) (old : Counts) (why : Stop GeoFaultKind) → Stops (feature_element exact) prefix old why
+    → Stops (numbered exact fs) prefix old (stop_in (Some (length fs)) why)
+numbered_stops exact fs prefix old (stop.Fault e) h = λ v rest found. rw (h v rest found) refl
+numbered_stops exact fs prefix old stop.NoValue h = h
+numbered_stops exact fs prefix old stop.Memory h = tt
 
 -- ---- a FeatureCollection
 
@@ -152,7 +152,7 @@ module _ (exact : Bool) (ms : Members) (c : Counts) where
     by_text None is = rw (one, is) refl
     by_text (Some name) is = rw (one, is) (by_kind (geojson_type name))
 
-  pub is_typed : (s : Seen (Result GeoJsonType GeoFaultKind)) → IsSeen IsType (named (codes "type") ms) s → members_features exact ms c ≡ by_type (type_of s)
+  pub is_typed : (s : Occurrence (Result GeoJsonType GeoFaultKind)) → IsOccurrence IsType (named (codes "type") ms) s → members_features exact ms c ≡ by_type (type_of s)
   unfolding type_name
   is_typed Never h = rw h refl
   is_typed (Once x) (v, one, is) = by_text v one (text_of v) refl ∙ ap by_type (sym is)
@@ -176,7 +176,7 @@ named_kind ms kind v one (Some name) is h = (name, rw (one, is) refl, known (geo
     known None e = absurd cc
     known (Some type) e = cc
 
-pub types_is : (ms : Members) (kind : GeometryType) (s : Seen (Result GeoJsonType GeoFaultKind)) → IsSeen IsType (named (codes "type") ms) s → type_of s ≡ Ok (types.Geometry kind) → Types kind ms
+pub types_is : (ms : Members) (kind : GeometryType) (s : Occurrence (Result GeoJsonType GeoFaultKind)) → IsOccurrence IsType (named (codes "type") ms) s → type_of s ≡ Ok (types.Geometry kind) → Types kind ms
 types_is ms kind Never h is = absurd cc
 types_is ms kind (Once x) (v, one, e) is = named_kind ms kind v one (text_of v) refl (sym e ∙ is)
 types_is ms kind Again h is = absurd cc
@@ -213,32 +213,32 @@ pub bare_passes : (start : Start) (d : ℕ) (ms : Members) (name : List ℕ) (v 
 bare_passes start d ms name v parts no_type no_coordinates no_geometries h = record {
   kind = passes IsType (codes "type") ms name v parts.kind h.kind no_type;
   coordinates = passes (IsCoordinates start d) (codes "coordinates") ms name v parts.coordinates h.coordinates no_coordinates;
-  geometries = passes (IsFront d) (codes "geometries") ms name v parts.geometries h.geometries no_geometries;
+  geometries = passes (BeginsAt d) (codes "geometries") ms name v parts.geometries h.geometries no_geometries;
 }
 
-module _ (start : Start) (d : ℕ) (name value : List ℕ) (seen : Seen Collected) where
+module _ (start : Start) (d : ℕ) (name value : List ℕ) (occurrence : Occurrence Collected) where
   pub with_fields : (parts : Parts) (before after : Fields) → is_field name ≡ true → (result : Result (Bor (List ℕ)) Fault) → Sees (IsFields start) d name value before after result
-      → Sees (IsLayerParts start d) d name value (record { bare = parts; fields = before; features = seen }) (record { bare = parts; fields = after; features = seen }) result
+      → Sees (IsLayerParts start d) d name value (record { bare = parts; fields = before; features = occurrence }) (record { bare = parts; fields = after; features = occurrence }) result
   with_fields parts before after field (Ok rest) h = (
     h.0,
     h.1,
     λ ms is. record {
       bare = bare_passes start d ms name h.0 parts (field_apart name (codes "type") field refl refl refl) (field_apart name (codes "coordinates") field refl refl refl) (field_apart name (codes "geometries") field refl refl refl) is.bare;
       fields = h.2 ms is.fields;
-      features = passes (IsCollected start) (codes "features") ms name h.0 seen is.features (field_apart name (codes "features") field refl refl refl);
+      features = passes (IsCollected start) (codes "features") ms name h.0 occurrence is.features (field_apart name (codes "features") field refl refl refl);
     },
   )
   with_fields parts before after field (Err fault) h = h
 
   pub with_bare : (before after : Parts) (fields : Fields) → bytes_eq name (codes "features") ≡ false → is_field name ≡ false → (result : Result (Bor (List ℕ)) Fault) → Sees (IsParts start d) d name value before after result
-      → Sees (IsLayerParts start d) d name value (record { bare = before; fields = fields; features = seen }) (record { bare = after; fields = fields; features = seen }) result
+      → Sees (IsLayerParts start d) d name value (record { bare = before; fields = fields; features = occurrence }) (record { bare = after; fields = fields; features = occurrence }) result
   with_bare before after fields no_features none (Ok rest) h = let no = no_field name none in (
     h.0,
     h.1,
     λ ms is. record {
       bare = h.2 ms is.bare;
       fields = fields_pass start ms name h.0 fields no.geometry no.properties no.id is.fields;
-      features = passes (IsCollected start) (codes "features") ms name h.0 seen is.features no_features;
+      features = passes (IsCollected start) (codes "features") ms name h.0 occurrence is.features no_features;
     },
   )
   with_bare before after fields no_features none (Err fault) h = h

@@ -1,7 +1,7 @@
 pub mod PositionParts
 pub mod LineParts
 pub mod ShapeParts
-pub mod SeenMembers
+pub mod MemberOccurrences
 pub mod FeatureParts
 pub mod GeometryParts
 pub mod LayerParts

@@ -47,39 +47,39 @@ module _ (exact : Bool) where
   unfolding ring ring_in
   ring_is v c = elements_by (ring_in exact) v c ∙ made_at_end WrongKind (gather (one (position exact))) as_ring v c
 
-  module _ (front : Option (Json × List ℕ)) (old : Counts) where
-    pub line_stops : (s : Stop GeoFaultKind) → Stops positions front old s → Stops (line exact) front old s
-    line_stops s h = then_stops positions (if_some as_line) (line exact) front old (λ v. line_is v old) s h
+  module _ (prefix : Option (Json × List ℕ)) (old : Counts) where
+    pub line_stops : (s : Stop GeoFaultKind) → Stops positions prefix old s → Stops (line exact) prefix old s
+    line_stops s h = then_stops positions (if_some as_line) (line exact) prefix old (λ v. line_is v old) s h
 
-    pub ring_stops : (s : Stop GeoFaultKind) → Stops positions front old s → Stops (ring exact) front old s
-    ring_stops s h = then_stops positions (if_some as_ring) (ring exact) front old (λ v. ring_is v old) s h
+    pub ring_stops : (s : Stop GeoFaultKind) → Stops positions prefix old s → Stops (ring exact) prefix old s
+    ring_stops s h = then_stops positions (if_some as_ring) (ring exact) prefix old (λ v. ring_is v old) s h
 
     module _ (rest : List ℕ) (new : Counts) where
-      pub no_line : Reads positions front None rest old new → Reads (line exact) front None rest old new
-      no_line r = then_reads positions (if_some as_line) (line exact) front old new (λ v. line_is v old) None rest r None new refl
+      pub no_line : Reads positions prefix None rest old new → Reads (line exact) prefix None rest old new
+      no_line r = then_reads positions (if_some as_line) (line exact) prefix old new (λ v. line_is v old) None rest r None new refl
 
-      pub no_ring : Reads positions front None rest old new → Reads (ring exact) front None rest old new
-      no_ring r = then_reads positions (if_some as_ring) (ring exact) front old new (λ v. ring_is v old) None rest r None new refl
+      pub no_ring : Reads positions prefix None rest old new → Reads (ring exact) prefix None rest old new
+      no_ring r = then_reads positions (if_some as_ring) (ring exact) prefix old new (λ v. ring_is v old) None rest r None new refl
 
-      module _ (ps : List Point) (r : Reads positions front (Some ps) rest old new) where
-        pub some_line : 2 ≤ length ps → Reads (line exact) front (Some ps) rest old new
-        some_line long = let enough : nat_le 2 (length ps) ≡ true = grind (arith, nat_tests) in then_reads positions (if_some as_line) (line exact) front old new (λ v. line_is v old) (Some ps) rest r (Some ps) new (rw enough refl)
+      module _ (ps : List Point) (r : Reads positions prefix (Some ps) rest old new) where
+        pub some_line : 2 ≤ length ps → Reads (line exact) prefix (Some ps) rest old new
+        some_line long = let enough : nat_le 2 (length ps) ≡ true = grind (arith, nat_tests) in then_reads positions (if_some as_line) (line exact) prefix old new (λ v. line_is v old) (Some ps) rest r (Some ps) new (rw enough refl)
 
-        pub short_line : length ps < 2 → Stops (line exact) front old (stop.Fault ShortLine)
-        short_line short = let few : nat_le 2 (length ps) ≡ false = grind (arith, nat_tests) in then_faults positions (if_some as_line) (line exact) front old new (λ v. line_is v old) (Some ps) rest r ShortLine (rw few refl)
+        pub short_line : length ps < 2 → Stops (line exact) prefix old (stop.Fault ShortLine)
+        short_line short = let few : nat_le 2 (length ps) ≡ false = grind (arith, nat_tests) in then_faults positions (if_some as_line) (line exact) prefix old new (λ v. line_is v old) (Some ps) rest r ShortLine (rw few refl)
 
-        pub short_ring : length ps < 4 → Stops (ring exact) front old (stop.Fault ShortRing)
-        short_ring short = let few : nat_le 4 (length ps) ≡ false = grind (arith, nat_tests) in then_faults positions (if_some as_ring) (ring exact) front old new (λ v. ring_is v old) (Some ps) rest r ShortRing (rw few refl)
+        pub short_ring : length ps < 4 → Stops (ring exact) prefix old (stop.Fault ShortRing)
+        short_ring short = let few : nat_le 4 (length ps) ≡ false = grind (arith, nat_tests) in then_faults positions (if_some as_ring) (ring exact) prefix old new (λ v. ring_is v old) (Some ps) rest r ShortRing (rw few refl)
 
         module _ (long : 4 ≤ length ps) where
           enough : nat_le 4 (length ps) ≡ true
           enough = grind (arith, nat_tests)
 
-          pub open_ring : is_closed ps ≡ false → Stops (ring exact) front old (stop.Fault OpenRing)
-          open_ring h = then_faults positions (if_some as_ring) (ring exact) front old new (λ v. ring_is v old) (Some ps) rest r OpenRing (rw (enough, h) refl)
+          pub open_ring : is_closed ps ≡ false → Stops (ring exact) prefix old (stop.Fault OpenRing)
+          open_ring h = then_faults positions (if_some as_ring) (ring exact) prefix old new (λ v. ring_is v old) (Some ps) rest r OpenRing (rw (enough, h) refl)
 
-          pub some_ring : is_closed ps ≡ true → Reads (ring exact) front (Some ps) rest old new
-          some_ring h = then_reads positions (if_some as_ring) (ring exact) front old new (λ v. ring_is v old) (Some ps) rest r (Some ps) new (rw (enough, h) refl)
+          pub some_ring : is_closed ps ≡ true → Reads (ring exact) prefix (Some ps) rest old new
+          some_ring h = then_reads positions (if_some as_ring) (ring exact) prefix old new (λ v. ring_is v old) (Some ps) rest r (Some ps) new (rw (enough, h) refl)
 
 -- ---- polygons
 

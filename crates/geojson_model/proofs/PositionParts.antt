@@ -78,10 +78,10 @@ module _ (exact : Bool) (x : ℤ) (item : Parse Json) (n : ℕ) (bs : List ℕ) 
 
   module _ (y : ℤ) (after : List ℕ) (new : Counts) (r : Reads (coordinate exact) (item (skip bs)) y after c new) where
     pub second_ends : (end : List ℕ) → skip after ≡ 93 ∷ end → Reads (second_position exact x) (list_at 93 item n bs) (record { x = x; y = y }) end c new
-    second_ends end h = record { value = r.value ∷ []; front_is = ends item n bs some r.value after r.front_is end h; means = rw r.means refl }
+    second_ends end h = record { value = r.value ∷ []; prefix_is = ends item n bs some r.value after r.prefix_is end h; means = rw r.means refl }
 
     pub second_breaks : ((more : Parse (List Json)) (v : Json) → list_after 93 more v (skip after) ≡ None) → list_at 93 item n bs ≡ None
-    second_breaks h = breaks item n bs some r.value after r.front_is (h (list_at 93 item (n - 1)) r.value)
+    second_breaks h = breaks item n bs some r.value after r.prefix_is (h (list_at 93 item (n - 1)) r.value)
 
     module _ (more : List ℕ) (comma : skip after ≡ 44 ∷ more) where
       by_further : (ws : List Json) (w : Json) (us : List Json) → ws ≡ w ∷ us → second_position exact x (r.value ∷ ws) c ≡ Ok (record { x = x; y = y }, count_extra true new)
@@ -94,13 +94,13 @@ module _ (exact : Bool) (x : ℤ) (item : Parse Json) (n : ℕ) (bs : List ℕ) 
           let f = some_listed item (n - 1) more ws end h in
           record {
             value = r.value ∷ ws;
-            front_is = goes_on item n bs some r.value after r.front_is more comma ∙ ap (made (λ xs. r.value ∷ xs)) h;
+            prefix_is = goes_on item n bs some r.value after r.prefix_is more comma ∙ ap (made (λ xs. r.value ∷ xs)) h;
             means = by_further ws f.0 f.1.0 f.1.1;
           }
 
       pub second_text_stops : (fault : Fault) → Fails fault (list_at 93 item (n - 1) more) → Stops (second_position exact x) (list_at 93 item n bs) c (stop_of fault)
       second_text_stops fault h = part_stops (second_position exact x) (list_at 93 item (n - 1) more) (list_at 93 item n bs) c fault
-          (λ none. goes_on item n bs some r.value after r.front_is more comma ∙ ap (made (λ xs. r.value ∷ xs)) none) h
+          (λ none. goes_on item n bs some r.value after r.prefix_is more comma ∙ ap (made (λ xs. r.value ∷ xs)) none) h
 
 -- ---- the elements of a position, in some turns
 
@@ -137,7 +137,7 @@ module _ (exact : Bool) (item : Parse Json) (n : ℕ) (bs : List ℕ) (some : 0 
 
     module _ (more : List ℕ) (comma : skip after ≡ 44 ∷ more) where
       is_made : list_at 93 item n bs ≡ made (λ xs. r.value ∷ xs) (list_at 93 item (n - 1) more)
-      is_made = goes_on item n bs some r.value after r.front_is more comma
+      is_made = goes_on item n bs some r.value after r.prefix_is more comma
 
       pub position_reads : (p : Point) (rest : List ℕ) (new : Counts) → Reads (second_position exact x) (list_at 93 item (n - 1) more) p rest mid new → Reads (elements_position exact) (list_at 93 item n bs) p rest c new
       position_reads p rest new h = made_reads (λ xs. r.value ∷ xs) (elements_position exact) (second_position exact x) (list_at 93 item n bs) (list_at 93 item (n - 1) more) is_made c mid (λ ws end k. then_second ws) p rest new h
@@ -156,7 +156,7 @@ module _ (exact : Bool) (item : Parse Json) (n : ℕ) (bs : List ℕ) (some : 0 
 number_reads : (exact : Bool) (d : ℕ) (bytes : List ℕ) (u : Units) (rest : List ℕ) (c : Counts) → IsUnits bytes u.value u.exact rest → (exact && not u.exact) ≡ false → Reads (coordinate exact) (value_at is_utf8 d bytes) u.value rest c (count_rounded (not u.exact) c)
 number_reads exact d bytes u rest c n h = record {
   value = j.Number n.text;
-  front_is = n.front is_utf8 d;
+  prefix_is = n.prefix is_utf8 d;
   means = in_range exact (j.Number n.text) c n.text (number_of-number n.text) (record { value = u.value; exact = u.exact }) n.scaled h;
 }
 
@@ -205,23 +205,23 @@ module _ (exact : Bool) (d n : ℕ) (bs : List ℕ) (many : 2 ≤ n) (c : Counts
 
 -- ---- the value of a position
 
-module _ (exact : Bool) (c : Counts) (front : Option (Json × List ℕ)) where
-  pub not_an_array : ((v : Json) (rest : List ℕ) → front ≡ Some (v, rest) → array_of v ≡ None) → Stops (position exact) front c (stop.Fault WrongKind)
+module _ (exact : Bool) (c : Counts) (prefix : Option (Json × List ℕ)) where
+  pub not_an_array : ((v : Json) (rest : List ℕ) → prefix ≡ Some (v, rest) → array_of v ≡ None) → Stops (position exact) prefix c (stop.Fault WrongKind)
   unfolding position
   not_an_array h v rest is = ap (λ o. array_position exact o c) (h v rest is)
 
-  pub no_elements : (rest : List ℕ) → front ≡ Some (j.Array [], rest) → Stops (position exact) front c (stop.Fault ShortPosition)
+  pub no_elements : (rest : List ℕ) → prefix ≡ Some (j.Array [], rest) → Stops (position exact) prefix c (stop.Fault ShortPosition)
   unfolding position elements_position
-  no_elements rest is = found_stops (position exact) front c (j.Array []) rest ShortPosition is (ap (λ o. array_position exact o c) (array_of-array []))
+  no_elements rest is = found_stops (position exact) prefix c (j.Array []) rest ShortPosition is (ap (λ o. array_position exact o c) (array_of-array []))
 
   array_law : (vs : List Json) → position exact (j.Array vs) c ≡ elements_position exact vs c
   unfolding position
   array_law vs = ap (λ o. array_position exact o c) (array_of-array vs)
 
-  pub by_elements : (elements : Option (List Json × List ℕ)) → front ≡ made j.Array elements → (new : Counts) (answer : Result (Point × Bor (List ℕ)) (Stop GeoFaultKind))
-      → Answers (λ p. p) (elements_position exact) elements c new answer → Answers (λ p. p) (position exact) front c new answer
-  by_elements elements is new (Ok x) h = made_reads j.Array (position exact) (elements_position exact) front elements is c c (λ vs end k. array_law vs) x.0 x.1.now new h
-  by_elements elements is new (Err s) h = made_stops j.Array (position exact) (elements_position exact) front elements is c c (λ vs end k. array_law vs) s h
+  pub by_elements : (elements : Option (List Json × List ℕ)) → prefix ≡ made j.Array elements → (new : Counts) (answer : Result (Point × Bor (List ℕ)) (Stop GeoFaultKind))
+      → Answers (λ p. p) (elements_position exact) elements c new answer → Answers (λ p. p) (position exact) prefix c new answer
+  by_elements elements is new (Ok x) h = made_reads j.Array (position exact) (elements_position exact) prefix elements is c c (λ vs end k. array_law vs) x.0 x.1.now new h
+  by_elements elements is new (Err s) h = made_stops j.Array (position exact) (elements_position exact) prefix elements is c c (λ vs end k. array_law vs) s h
 
 -- ---- two numbers that are read as most are written
 
@@ -238,21 +238,21 @@ unfolding skip
 ends_before m [] rest ends h = refl
 ends_before m (b ∷ bs) rest ends h = ends_by m b bs rest ends (is_space b) refl h
 
-module _ (bytes after more behind rest : List ℕ) (x y : ℤ) (first : units_end after ≡ true → IsUnits (skip bytes) x true after) (comma : Some more ≡ after_word (44 ∷ []) after) (second : units_end behind ≡ true → IsUnits (skip more) y true behind) where
-  pair_before : units_end behind ≡ true → ArePair bytes (record { value = x; exact = true }) (record { value = y; exact = true }) behind
+module _ (bytes after more following rest : List ℕ) (x y : ℤ) (first : units_end after ≡ true → IsUnits (skip bytes) x true after) (comma : Some more ≡ after_word (44 ∷ []) after) (second : units_end following ≡ true → IsUnits (skip more) y true following) where
+  pair_before : units_end following ≡ true → ArePair bytes (record { value = x; exact = true }) (record { value = y; exact = true }) following
   pair_before ends =
       let then : after ≡ 44 ∷ more = first_byte 44 after more comma in
       record { after = after; first = first (ap units_end then); more = more; comma = ap skip then ∙ no_mark 44 more refl; second = second ends }
 
-  pub plain_pair_closes : Some rest ≡ after_word (93 ∷ []) (skip behind) → ArePlainPair bytes x y false rest
+  pub plain_pair_closes : Some rest ≡ after_word (93 ∷ []) (skip following) → ArePlainPair bytes x y false rest
   plain_pair_closes h =
-      let last : skip behind ≡ 93 ∷ rest = first_byte 93 (skip behind) rest h in
-      record { behind = behind; pair = pair_before (ends_before 93 behind rest (λ ms. refl) last); mark = last }
+      let last : skip following ≡ 93 ∷ rest = first_byte 93 (skip following) rest h in
+      record { following = following; pair = pair_before (ends_before 93 following rest (λ ms. refl) last); mark = last }
 
-  pub plain_pair_goes_on : Some rest ≡ after_word (44 ∷ []) (skip behind) → ArePlainPair bytes x y true rest
+  pub plain_pair_goes_on : Some rest ≡ after_word (44 ∷ []) (skip following) → ArePlainPair bytes x y true rest
   plain_pair_goes_on h =
-      let next : skip behind ≡ 44 ∷ rest = first_byte 44 (skip behind) rest h in
-      record { behind = behind; pair = pair_before (ends_before 44 behind rest (λ ms. refl) next); mark = next }
+      let next : skip following ≡ 44 ∷ rest = first_byte 44 (skip following) rest h in
+      record { following = following; pair = pair_before (ends_before 44 following rest (λ ms. refl) next); mark = next }
 
 never_refused : (exact : Bool) → (exact && not true) ≡ false
 never_refused true = refl
@@ -260,12 +260,12 @@ never_refused false = refl
 
 module _ (exact : Bool) (d n : ℕ) (bs : List ℕ) (many : 2 ≤ n) (c : Counts) (x y : ℤ) (rest : List ℕ) where
   pub plain_reads : ArePlainPair bs x y false rest → Reads (elements_position exact) (list_at 93 (value_at is_utf8 d) n bs) (record { x = x; y = y }) rest c c
-  plain_reads p = pair_ends exact d n bs many c (record { value = x; exact = true }) (record { value = y; exact = true }) p.behind p.pair (never_refused exact) (never_refused exact) rest p.mark
+  plain_reads p = pair_ends exact d n bs many c (record { value = x; exact = true }) (record { value = y; exact = true }) p.following p.pair (never_refused exact) (never_refused exact) rest p.mark
 
   module _ (p : ArePlainPair bs x y true rest) where
     pub plain_goes_on : (ws : List Json) (end : List ℕ) → list_at 93 (value_at is_utf8 d) (n - 2) rest ≡ Some (ws, end)
         → Reads (elements_position exact) (list_at 93 (value_at is_utf8 d) n bs) (record { x = x; y = y }) end c (count_extra true c)
-    plain_goes_on ws end h = pair_goes_on exact d n bs many c (record { value = x; exact = true }) (record { value = y; exact = true }) p.behind p.pair (never_refused exact) (never_refused exact) rest p.mark ws end h
+    plain_goes_on ws end h = pair_goes_on exact d n bs many c (record { value = x; exact = true }) (record { value = y; exact = true }) p.following p.pair (never_refused exact) (never_refused exact) rest p.mark ws end h
 
     pub plain_text_stops : (fault : Fault) → Fails fault (list_at 93 (value_at is_utf8 d) (n - 2) rest) → Stops (elements_position exact) (list_at 93 (value_at is_utf8 d) n bs) c (stop_of fault)
-    plain_text_stops fault h = pair_text_stops exact d n bs many c (record { value = x; exact = true }) (record { value = y; exact = true }) p.behind p.pair (never_refused exact) (never_refused exact) rest p.mark fault h
+    plain_text_stops fault h = pair_text_stops exact d n bs many c (record { value = x; exact = true }) (record { value = y; exact = true }) p.following p.pair (never_refused exact) (never_refused exact) rest p.mark fault h

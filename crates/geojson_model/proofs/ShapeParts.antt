@@ -31,12 +31,12 @@ left_of make (Some []) c = refl
 left_of make (Some (x ∷ xs)) c = refl
 
 module _ {B : Type 0} (exact : Bool) (kind : CoordinatesType) (make : List B → Shape) (read : Json → Reader (List B))
-    (law : (v : Json) (c : Counts) → coordinates_shape exact kind v c ≡ and_then (if_some (λ xs. give (unless_empty make xs))) (some_array_by WrongKind (always (gather read)) v c)) (front : Option (Json × List ℕ)) (old : Counts) where
-  pub many_stop : (s : Stop GeoFaultKind) → Stops (some_array_by WrongKind (always (gather read))) front old s → Stops (coordinates_shape exact kind) front old s
-  many_stop s h = then_stops (some_array_by WrongKind (always (gather read))) (if_some (λ xs. give (unless_empty make xs))) (coordinates_shape exact kind) front old (λ v. law v old) s h
+    (law : (v : Json) (c : Counts) → coordinates_shape exact kind v c ≡ and_then (if_some (λ xs. give (unless_empty make xs))) (some_array_by WrongKind (always (gather read)) v c)) (prefix : Option (Json × List ℕ)) (old : Counts) where
+  pub many_stop : (s : Stop GeoFaultKind) → Stops (some_array_by WrongKind (always (gather read))) prefix old s → Stops (coordinates_shape exact kind) prefix old s
+  many_stop s h = then_stops (some_array_by WrongKind (always (gather read))) (if_some (λ xs. give (unless_empty make xs))) (coordinates_shape exact kind) prefix old (λ v. law v old) s h
 
-  pub many_read : (x : Option (List B)) (rest : List ℕ) (new : Counts) → Reads (some_array_by WrongKind (always (gather read))) front x rest old new → Reads (coordinates_shape exact kind) front (map_some make (then_some (unless_empty (λ xs. xs)) x)) rest old new
-  many_read x rest new r = then_reads (some_array_by WrongKind (always (gather read))) (if_some (λ xs. give (unless_empty make xs))) (coordinates_shape exact kind) front old new (λ v. law v old) x rest r _ new (left_of make x new)
+  pub many_read : (x : Option (List B)) (rest : List ℕ) (new : Counts) → Reads (some_array_by WrongKind (always (gather read))) prefix x rest old new → Reads (coordinates_shape exact kind) prefix (map_some make (then_some (unless_empty (λ xs. xs)) x)) rest old new
+  many_read x rest new r = then_reads (some_array_by WrongKind (always (gather read))) (if_some (λ xs. give (unless_empty make xs))) (coordinates_shape exact kind) prefix old new (λ v. law v old) x rest r _ new (left_of make x new)
 
 pub points_are : (exact : Bool) (v : Json) (c : Counts) → coordinates_shape exact type.MultiPoint v c ≡ and_then (if_some (λ xs. give (unless_empty g.MultiPoint xs))) (some_array_by WrongKind (always (gather (one (position exact)))) v c)
 unfolding coordinates_shape shape_in
@@ -62,12 +62,12 @@ module _ {A : Type 0} (part : List Json → Reader (Option A)) (make : A → Sha
   then_made (Err e) = refl
 
 module _ {A : Type 0} (exact : Bool) (kind : CoordinatesType) (make : A → Shape) (read : Json → Reader (Option A))
-    (law : (v : Json) (c : Counts) → coordinates_shape exact kind v c ≡ and_then (λ x. give (map_some make x)) (read v c)) (front : Option (Json × List ℕ)) (old : Counts) where
-  pub one_stops : (s : Stop GeoFaultKind) → Stops read front old s → Stops (coordinates_shape exact kind) front old s
-  one_stops s h = then_stops read (λ x. give (map_some make x)) (coordinates_shape exact kind) front old (λ v. law v old) s h
+    (law : (v : Json) (c : Counts) → coordinates_shape exact kind v c ≡ and_then (λ x. give (map_some make x)) (read v c)) (prefix : Option (Json × List ℕ)) (old : Counts) where
+  pub one_stops : (s : Stop GeoFaultKind) → Stops read prefix old s → Stops (coordinates_shape exact kind) prefix old s
+  one_stops s h = then_stops read (λ x. give (map_some make x)) (coordinates_shape exact kind) prefix old (λ v. law v old) s h
 
-  pub one_reads : (x : Option A) (rest : List ℕ) (new : Counts) → Reads read front x rest old new → Reads (coordinates_shape exact kind) front (map_some make x) rest old new
-  one_reads x rest new r = then_reads read (λ x. give (map_some make x)) (coordinates_shape exact kind) front old new (λ v. law v old) x rest r (map_some make x) new refl
+  pub one_reads : (x : Option A) (rest : List ℕ) (new : Counts) → Reads read prefix x rest old new → Reads (coordinates_shape exact kind) prefix (map_some make x) rest old new
+  one_reads x rest new r = then_reads read (λ x. give (map_some make x)) (coordinates_shape exact kind) prefix old new (λ v. law v old) x rest r (map_some make x) new refl
 
 pub line_is : (exact : Bool) (v : Json) (c : Counts) → coordinates_shape exact type.LineString v c ≡ and_then (λ x. give (map_some g.Line x)) (line exact v c)
 unfolding coordinates_shape shape_in line

@@ -9,11 +9,11 @@ use Rattle.json_value.specs.Kinds.{object_of}
 use Rattle.json_reading.specs.declared.fault.Fault.{Fault}
 use Rattle.json_reading.specs.declared.fault.Fault.TheVariants as fault
 use Rattle.json_reading.specs.Gives.{Fails}
-use Rattle.text_checking.proofs.Passed.{first_fails}
+use Rattle.json_reading.proofs.Passed.{first_fails}
 use Rattle.json_reading.specs.declared.fault.Why.TheVariants as why
 use Rattle.json_reading.proofs.Steps.{pair_is}
 use Rattle.json_reading.proofs.ListLoop as turns
-use Rattle.json_reading.proofs.StringLoop.{with_front}
+use Rattle.json_reading.proofs.StringLoop.{with_prefix}
 use Rattle.json_value.proofs.KindsOf.{object_of-object, text_of-text}
 use Rattle.geojson_types.specs.declared.counts.Counts.{Counts}
 use Rattle.geojson_types.specs.Features.{Shape}
@@ -26,38 +26,38 @@ use Rattle.geojson_meaning.specs.declared.fault.GeoFaultKind.{GeoFaultKind}
 use Rattle.geojson_meaning.specs.declared.fault.GeoFaultKind.TheVariants.{Duplicate}
 use Rattle.json_cursor.specs.declared.stop.Stop.TheVariants as stop
 use Rattle.json_cursor.specs.Answers.{Reads, Stops}
-use Rattle.json_cursor.specs.Arrays.{front_value}
-use Rattle.json_cursor.specs.Members.{Members, front_member}
+use Rattle.json_cursor.specs.Arrays.{prefix_value}
+use Rattle.json_cursor.specs.Members.{Members, prefix_member}
 use Rattle.json_cursor.proofs.Openings.{members_fail, some_members}
 use Rattle.json_cursor.proofs.Steps.{bound, made, unmade}
 use Rattle.geojson_model.specs.declared.geometries.Parts.{Parts}
 use Rattle.geojson_model.specs.declared.geometries.Start.{Start}
-use Rattle.geojson_model.specs.declared.seen.Seen.{Seen}
-use Rattle.geojson_model.specs.declared.seen.Seen.TheVariants.{Never, Once, Again}
-use Rattle.geojson_model.specs.Members.{IsCoordinates, IsFront, IsLed, IsParts, IsSeen, IsType, LeadsGeometry, RepeatsIn, first_fault, is_again, part, part_name, twice}
+use Rattle.geojson_model.specs.declared.occurrence.Occurrence.{Occurrence}
+use Rattle.geojson_model.specs.declared.occurrence.Occurrence.TheVariants.{Never, Once, Again}
+use Rattle.geojson_model.specs.Members.{IsCoordinates, BeginsAt, IsLed, IsParts, IsOccurrence, IsType, LeadsGeometry, RepeatsIn, first_fault, is_again, part, part_name, twice}
 use Rattle.geojson_model.proofs.GeometryParts.{object_reads, object_stops}
-use Rattle.geojson_model.proofs.SeenMembers.{judged_read}
+use Rattle.geojson_model.proofs.MemberOccurrences.{judged_read}
 
 pub one_byte : (byte : ℕ) (bytes rest : List ℕ) → Some rest ≡ after_word (byte ∷ []) bytes → bytes ≡ byte ∷ rest
 unfolding after_word
 one_byte byte bytes rest h = grind arith
 
-nothing_before : (o : Option (Members × List ℕ)) → with_front [] o ≡ o
+nothing_before : (o : Option (Members × List ℕ)) → with_prefix [] o ≡ o
 nothing_before None = refl
 nothing_before (Some x) = refl
 
 -- two members, one after the other
 pub two_members : (d : ℕ) (inside : List ℕ) (m k : List ℕ × Json) (rest more after end : List ℕ)
-    → front_member d (skip inside) ≡ Some (m, rest) → Some more ≡ after_word (44 ∷ []) (skip rest)
-    → front_member d (skip more) ≡ Some (k, after) → skip after ≡ 125 ∷ end → 1 < length inside
-    → list_at 125 (front_member d) (length inside) inside ≡ Some (m ∷ k ∷ [], end)
+    → prefix_member d (skip inside) ≡ Some (m, rest) → Some more ≡ after_word (44 ∷ []) (skip rest)
+    → prefix_member d (skip more) ≡ Some (k, after) → skip after ≡ 125 ∷ end → 1 < length inside
+    → list_at 125 (prefix_member d) (length inside) inside ≡ Some (m ∷ k ∷ [], end)
 two_members d inside m k rest more after end first comma second close long =
     let n = length inside in
-    let total = list_at 125 (front_member d) n inside in
+    let total = list_at 125 (prefix_member d) n inside in
     let all : n - 0 ≡ n = omega arith in
-    let start : with_front [] (list_at 125 (front_member d) (n - 0) inside) ≡ total = nothing_before _ ∙ ap (λ i. list_at 125 (front_member d) i inside) all in
-    let one = turns.at_comma _ 125 (front_member d) [] n 0 inside total start m rest (omega (arith, long)) first 44 more (one_byte 44 (skip rest) more comma) refl in
-    turns.at_end _ 125 (front_member d) (m ∷ []) n 1 more total one k after (omega (arith, long)) second 125 end close (omega (arith)) refl
+    let start : with_prefix [] (list_at 125 (prefix_member d) (n - 0) inside) ≡ total = nothing_before _ ∙ ap (λ i. list_at 125 (prefix_member d) i inside) all in
+    let one = turns.at_comma _ 125 (prefix_member d) [] n 0 inside total start m rest (omega (arith, long)) first 44 more (one_byte 44 (skip rest) more comma) refl in
+    turns.at_end _ 125 (prefix_member d) (m ∷ []) n 1 more total one k after (omega (arith, long)) second 125 end close (omega (arith)) refl
 
 -- a name that is a word
 pub is_word : (name word : List ℕ) → true ≡ bytes_eq name word → name ≡ word
@@ -74,9 +74,9 @@ module _ (exact : Bool) (v : Json) (name : List ℕ) (old : Counts) where
   typed Collection is = rw (text_of-text name, is) refl
   typed (Coordinates kind) is = rw (text_of-text name, is) refl
 
-  pub is_usual : (kind : GeometryType) → geometry_type name ≡ Some kind → (s : Option Shape) (new : Counts) → part exact kind v old ≡ Ok (s, new) → (front : Option (Json × List ℕ)) (end : List ℕ)
-      → front ≡ Some (j.Object (members kind), end) → Reads (shape exact) front s end old new
-  is_usual kind is s new h front end stands = object_reads exact front (members kind) end old stands s new (typed kind is ∙ h)
+  pub is_usual : (kind : GeometryType) → geometry_type name ≡ Some kind → (s : Option Shape) (new : Counts) → part exact kind v old ≡ Ok (s, new) → (prefix : Option (Json × List ℕ)) (end : List ℕ)
+      → prefix ≡ Some (j.Object (members kind), end) → Reads (shape exact) prefix s end old new
+  is_usual kind is s new h prefix end stands = object_reads exact prefix (members kind) end old stands s new (typed kind is ∙ h)
 
 -- ---- two members first, and whatever follows them
 
@@ -102,46 +102,46 @@ module _ (item : Parse (List ℕ × Json)) (n : ℕ) (bs : List ℕ) (some : 0 <
   unfolding list_after
   goes_on m rest more found comma = one_turn ∙ rw (found, comma) refl
 
-module _ (d : ℕ) (inside : List ℕ) (m : List ℕ × Json) (rest more name front : List ℕ) (first : front_member d (skip inside) ≡ Some (m, rest)) (comma : Some more ≡ after_word (44 ∷ []) (skip rest))
-    (second : front_member d (skip more) ≡ (front_value d front >>= λ v. Some ((name, v.0), v.1))) (long : 1 < length inside) where
-  pub begin_so : (ms : Members) (end : List ℕ) → list_at 125 (front_member d) (length inside) inside ≡ Some (ms, end)
-      → (w : Json) × ((after : List ℕ) × ((others : Members) × ((front_value d front ≡ Some (w, after)) × (ms ≡ m ∷ (name, w) ∷ others))))
+module _ (d : ℕ) (inside : List ℕ) (m : List ℕ × Json) (rest more name prefix : List ℕ) (first : prefix_member d (skip inside) ≡ Some (m, rest)) (comma : Some more ≡ after_word (44 ∷ []) (skip rest))
+    (second : prefix_member d (skip more) ≡ (prefix_value d prefix >>= λ v. Some ((name, v.0), v.1))) (long : 1 < length inside) where
+  pub begin_so : (ms : Members) (end : List ℕ) → list_at 125 (prefix_member d) (length inside) inside ≡ Some (ms, end)
+      → (w : Json) × ((after : List ℕ) × ((others : Members) × ((prefix_value d prefix ≡ Some (w, after)) × (ms ≡ m ∷ (name, w) ∷ others))))
   begin_so ms end h =
       let n = length inside in
-      let u = unmade (λ ys. m ∷ ys) (list_at 125 (front_member d) (n - 1) more) ms end (sym (goes_on (front_member d) n inside (omega (arith, long)) m rest more first (one_byte 44 (skip rest) more comma)) ∙ h) in
-      let b = bound (front_member d (skip more)) (λ x after. list_after 125 (list_at 125 (front_member d) (n - 1 - 1)) x (skip after)) u.0 end (sym (one_turn (front_member d) (n - 1) more (omega (arith, long))) ∙ u.1.0) in
-      let k = unmade (λ v. (name, v)) (front_value d front) b.0 b.1.0 (sym second ∙ b.1.1.0) in
-      let t = begins (list_at 125 (front_member d) (n - 1 - 1)) b.0 (skip b.1.0) u.0 end b.1.1.1 in
+      let u = unmade (λ ys. m ∷ ys) (list_at 125 (prefix_member d) (n - 1) more) ms end (sym (goes_on (prefix_member d) n inside (omega (arith, long)) m rest more first (one_byte 44 (skip rest) more comma)) ∙ h) in
+      let b = bound (prefix_member d (skip more)) (λ x after. list_after 125 (list_at 125 (prefix_member d) (n - 1 - 1)) x (skip after)) u.0 end (sym (one_turn (prefix_member d) (n - 1) more (omega (arith, long))) ∙ u.1.0) in
+      let k = unmade (λ v. (name, v)) (prefix_value d prefix) b.0 b.1.0 (sym second ∙ b.1.1.0) in
+      let t = begins (list_at 125 (prefix_member d) (n - 1 - 1)) b.0 (skip b.1.0) u.0 end b.1.1.1 in
       (k.0, (b.1.0, (t.0, (k.1.0, u.1.1 ∙ ap (λ ys. m ∷ ys) (t.1 ∙ ap (λ x. x ∷ t.0) k.1.1)))))
 
-module _ (d : ℕ) (bytes inside : List ℕ) (opens : Some inside ≡ after_word (123 ∷ []) bytes) (deep : d ≢ 0) (filled : None ≡ after_word (125 ∷ []) (skip inside)) (v : Json) (end : List ℕ) (found : front_value d bytes ≡ Some (v, end)) where
-  by_members : (o : Option (Members × List ℕ)) → list_at 125 (front_member (d - 1)) (length inside) inside ≡ o → (ms : Members) × ((list_at 125 (front_member (d - 1)) (length inside) inside ≡ Some (ms, end)) × (v ≡ j.Object ms))
-  by_members None h = let wrong = sym (members_fail d bytes inside opens deep filled (fault.Malformed why.Syntax 0) h) ∙ found in absurd cc
+module _ (d : ℕ) (bytes inside : List ℕ) (opens : Some inside ≡ after_word (123 ∷ []) bytes) (depth_left : d ≢ 0) (filled : None ≡ after_word (125 ∷ []) (skip inside)) (v : Json) (end : List ℕ) (found : prefix_value d bytes ≡ Some (v, end)) where
+  by_members : (o : Option (Members × List ℕ)) → list_at 125 (prefix_member (d - 1)) (length inside) inside ≡ o → (ms : Members) × ((list_at 125 (prefix_member (d - 1)) (length inside) inside ≡ Some (ms, end)) × (v ≡ j.Object ms))
+  by_members None h = let wrong = sym (members_fail d bytes inside opens depth_left filled (fault.Malformed why.Syntax 0) h) ∙ found in absurd cc
   by_members (Some x) h =
-      let e = pair_is v end (j.Object x.0, x.1) (sym found ∙ some_members d bytes inside opens deep filled x.0 x.1 h) in
+      let e = pair_is v end (j.Object x.0, x.1) (sym found ∙ some_members d bytes inside opens depth_left filled x.0 x.1 h) in
       (x.0, (h ∙ ap (λ r. Some (x.0, r)) (sym e.1), e.0))
 
-  pub members_of : (ms : Members) × ((list_at 125 (front_member (d - 1)) (length inside) inside ≡ Some (ms, end)) × (v ≡ j.Object ms))
-  members_of = by_members (list_at 125 (front_member (d - 1)) (length inside) inside) refl
+  pub members_of : (ms : Members) × ((list_at 125 (prefix_member (d - 1)) (length inside) inside ≡ Some (ms, end)) × (v ≡ j.Object ms))
+  members_of = by_members (list_at 125 (prefix_member (d - 1)) (length inside) inside) refl
 
 -- no value after the first name, and so no object
-module _ (d : ℕ) (bytes inside : List ℕ) (opens : Some inside ≡ after_word (123 ∷ []) bytes) (deep : d ≢ 0) (filled : None ≡ after_word (125 ∷ []) (skip inside)) (some : 0 < length inside) where
-  pub first_fails_all : (name value : List ℕ) → front_member (d - 1) (skip inside) ≡ (front_value (d - 1) value >>= λ v. Some ((name, v.0), v.1)) → (f : Fault) → Fails f (front_value (d - 1) value) → Fails f (front_value d bytes)
+module _ (d : ℕ) (bytes inside : List ℕ) (opens : Some inside ≡ after_word (123 ∷ []) bytes) (depth_left : d ≢ 0) (filled : None ≡ after_word (125 ∷ []) (skip inside)) (some : 0 < length inside) where
+  pub first_fails_all : (name value : List ℕ) → prefix_member (d - 1) (skip inside) ≡ (prefix_value (d - 1) value >>= λ v. Some ((name, v.0), v.1)) → (f : Fault) → Fails f (prefix_value (d - 1) value) → Fails f (prefix_value d bytes)
   first_fails_all name value named f h =
-      let one : Fails f (front_member (d - 1) (skip inside)) = rw named (first_fails (front_value (d - 1) value) _ f h) in
-      let all : Fails f (list_at 125 (front_member (d - 1)) (length inside) inside) = rw (one_turn (front_member (d - 1)) (length inside) inside some) (first_fails (front_member (d - 1) (skip inside)) _ f one) in
-      members_fail d bytes inside opens deep filled f all
+      let one : Fails f (prefix_member (d - 1) (skip inside)) = rw named (first_fails (prefix_value (d - 1) value) _ f h) in
+      let all : Fails f (list_at 125 (prefix_member (d - 1)) (length inside) inside) = rw (one_turn (prefix_member (d - 1)) (length inside) inside some) (first_fails (prefix_member (d - 1) (skip inside)) _ f one) in
+      members_fail d bytes inside opens depth_left filled f all
 
 -- ---- what it is read as, whatever follows them
 
-abbrev Behind : List Json → Bool → Type 0
-Behind us true = (w : Json) × ((ws : List Json) × (us ≡ w ∷ ws))
-Behind us false = us ≡ []
+abbrev Following : List Json → Bool → Type 0
+Following us true = (w : Json) × ((ws : List Json) × (us ≡ w ∷ ws))
+Following us false = us ≡ []
 
-behind : {A : Type 0} (Is : Json → A → Type 0) (v : Json) (us : List Json) (s : Seen A) → IsSeen Is (v ∷ us) s → Behind us (is_again s)
-behind Is v us Never h = absurd cc
-behind Is v us (Once y) (w, same, k) = cc
-behind Is v us Again (w, u, ws, same) = (u, (ws, cc))
+following : {A : Type 0} (Is : Json → A → Type 0) (v : Json) (us : List Json) (s : Occurrence A) → IsOccurrence Is (v ∷ us) s → Following us (is_again s)
+following Is v us Never h = absurd cc
+following Is v us (Once y) (w, same, k) = cc
+following Is v us Again (w, u, ws, same) = (u, (ws, cc))
 
 module _ (exact : Bool) (v : Json) (name : List ℕ) (more : Members) (old : Counts) where
   abbrev led : GeometryType → Members
@@ -150,7 +150,7 @@ module _ (exact : Bool) (v : Json) (name : List ℕ) (more : Members) (old : Cou
   abbrev MeansBy : GeometryType → Bool → Type 0
   MeansBy kind is = geometry exact (led kind) old ≡ (if is then Err Duplicate else part exact kind v old)
 
-  by_repeats : (kind : GeometryType) → geometry_type name ≡ Some kind → (again doubled : Bool) → Behind (named (codes "type") more) again → Behind (named (part_name kind) more) doubled → MeansBy kind (again || doubled)
+  by_repeats : (kind : GeometryType) → geometry_type name ≡ Some kind → (again doubled : Bool) → Following (named (codes "type") more) again → Following (named (part_name kind) more) doubled → MeansBy kind (again || doubled)
   unfolding geometry type_name named typed_geometry need
   by_repeats Collection is true doubled t u = rw t.1.1 refl
   by_repeats (Coordinates k) is true doubled t u = rw t.1.1 refl
@@ -162,23 +162,23 @@ module _ (exact : Bool) (v : Json) (name : List ℕ) (more : Members) (old : Cou
   means_by : (kind : GeometryType) → geometry_type name ≡ Some kind → (start : Start) (d : ℕ) (parts : Parts) → IsParts start d (led kind) parts → MeansBy kind (twice kind parts)
   unfolding named
   means_by Collection is start d parts h =
-      by_repeats Collection is (is_again parts.kind) (is_again parts.geometries) (behind IsType (j.Text name) (named (codes "type") more) parts.kind h.kind)
-      (behind (IsFront d) v (named (codes "geometries") more) parts.geometries h.geometries)
+      by_repeats Collection is (is_again parts.kind) (is_again parts.geometries) (following IsType (j.Text name) (named (codes "type") more) parts.kind h.kind)
+      (following (BeginsAt d) v (named (codes "geometries") more) parts.geometries h.geometries)
   means_by (Coordinates k) is start d parts h =
-      by_repeats (Coordinates k) is (is_again parts.kind) (is_again parts.coordinates) (behind IsType (j.Text name) (named (codes "type") more) parts.kind h.kind)
-      (behind (IsCoordinates start d) v (named (codes "coordinates") more) parts.coordinates h.coordinates)
+      by_repeats (Coordinates k) is (is_again parts.kind) (is_again parts.coordinates) (following IsType (j.Text name) (named (codes "type") more) parts.kind h.kind)
+      (following (IsCoordinates start d) v (named (codes "coordinates") more) parts.coordinates h.coordinates)
 
-module _ (exact : Bool) (kind : GeometryType) (d : ℕ) (bytes front : List ℕ) (old : Counts) (leads : LeadsGeometry kind d bytes front) where
-  nothing_by : (o : Option (Json × List ℕ)) → front_value d bytes ≡ o → front_value (d - 1) front ≡ None → front_value d bytes ≡ None
+module _ (exact : Bool) (kind : GeometryType) (d : ℕ) (bytes prefix : List ℕ) (old : Counts) (leads : LeadsGeometry kind d bytes prefix) where
+  nothing_by : (o : Option (Json × List ℕ)) → prefix_value d bytes ≡ o → prefix_value (d - 1) prefix ≡ None → prefix_value d bytes ≡ None
   nothing_by None h none = h
   nothing_by (Some x) h none = let wrong = sym none ∙ (leads x.0 x.1 h).found in absurd cc
 
-  pub led_nothing : front_value (d - 1) front ≡ None → front_value d bytes ≡ None
-  led_nothing none = nothing_by (front_value d bytes) refl none
+  pub led_nothing : prefix_value (d - 1) prefix ≡ None → prefix_value d bytes ≡ None
+  led_nothing none = nothing_by (prefix_value d bytes) refl none
 
   module _ (is : Bool) (rest : List ℕ) (r : RepeatsIn kind d bytes is rest) where
-    this : IsLed kind d front (j.Object r.members)
-    this = leads (j.Object r.members) rest r.front
+    this : IsLed kind d prefix (j.Object r.members)
+    this = leads (j.Object r.members) rest r.prefix
 
     these : r.members ≡ led exact this.part this.name this.more old kind
     these =
@@ -189,18 +189,18 @@ module _ (exact : Bool) (kind : GeometryType) (d : ℕ) (bytes front : List ℕ)
 
     means : geometry exact r.members old ≡ chosen is
     means =
-        ap (λ ms. geometry exact ms old) these ∙ means_by exact this.part this.name this.more old kind this.typed r.start (d - 1) r.parts (subst (λ ms. IsParts r.start (d - 1) ms r.parts) these r.seen)
+        ap (λ ms. geometry exact ms old) these ∙ means_by exact this.part this.name this.more old kind this.typed r.start (d - 1) r.parts (subst (λ ms. IsParts r.start (d - 1) ms r.parts) these r.occurrence)
         ∙ ap chosen (sym r.answer)
 
-    pub led_twice : is ≡ true → Stops (shape exact) (front_value d bytes) old (stop.Fault Duplicate)
-    led_twice is_so = object_stops exact (front_value d bytes) r.members rest old r.front old (stop.Fault Duplicate) (means ∙ ap chosen is_so)
+    pub led_twice : is ≡ true → Stops (shape exact) (prefix_value d bytes) old (stop.Fault Duplicate)
+    led_twice is_so = object_stops exact (prefix_value d bytes) r.members rest old r.prefix old (stop.Fault Duplicate) (means ∙ ap chosen is_so)
 
     by_fault : (t : Bool) (read : Result (Option Shape × Counts) GeoFaultKind) (e : GeoFaultKind) → read ≡ Err e → (if t then Err Duplicate else read) ≡ Err (first_fault t e)
     by_fault true read e h = refl
     by_fault false read e h = h
 
-    pub led_faulty : (e : GeoFaultKind) → Stops (part exact kind) (front_value (d - 1) front) old (stop.Fault e) → Stops (shape exact) (front_value d bytes) old (stop.Fault (first_fault is e))
-    led_faulty e h = object_stops exact (front_value d bytes) r.members rest old r.front old (stop.Fault (first_fault is e)) (means ∙ by_fault is _ e (h this.part this.after this.found))
+    pub led_faulty : (e : GeoFaultKind) → Stops (part exact kind) (prefix_value (d - 1) prefix) old (stop.Fault e) → Stops (shape exact) (prefix_value d bytes) old (stop.Fault (first_fault is e))
+    led_faulty e h = object_stops exact (prefix_value d bytes) r.members rest old r.prefix old (stop.Fault (first_fault is e)) (means ∙ by_fault is _ e (h this.part this.after this.found))
 
-    pub led_read : is ≡ false → (s : Option Shape) (after : List ℕ) (new : Counts) → Reads (part exact kind) (front_value (d - 1) front) s after old new → Reads (shape exact) (front_value d bytes) s rest old new
-    led_read is_not s after new q = object_reads exact (front_value d bytes) r.members rest old r.front s new (means ∙ ap chosen is_not ∙ judged_read (part exact kind) (front_value (d - 1) front) this.part this.after old new this.found s after q)
+    pub led_read : is ≡ false → (s : Option Shape) (after : List ℕ) (new : Counts) → Reads (part exact kind) (prefix_value (d - 1) prefix) s after old new → Reads (shape exact) (prefix_value d bytes) s rest old new
+    led_read is_not s after new q = object_reads exact (prefix_value d bytes) r.members rest old r.prefix s new (means ∙ ap chosen is_not ∙ judged_read (part exact kind) (prefix_value (d - 1) prefix) this.part this.after old new this.found s after q)

@@ -16,13 +16,13 @@ use Rattle.geojson_meaning.specs.declared.types.GeoJsonType.TheVariants as type
 use Rattle.json_cursor.specs.Members.{Members}
 use Rattle.json_cursor.specs.declared.stop.Stop.{Stop}
 use Rattle.json_cursor.specs.declared.stop.Stop.TheVariants as stop
-use Rattle.geojson_model.specs.Members.{IsSeen, IsType}
+use Rattle.geojson_model.specs.Members.{IsOccurrence, IsType}
 use Rattle.geojson_model.specs.declared.features.Drawn.{Drawn}
 use Rattle.geojson_model.specs.declared.features.FeatureParts.{FeatureParts}
 use Rattle.geojson_model.specs.declared.features.Fields.{Fields}
 use Rattle.geojson_model.specs.declared.geometries.Start.{Start}
-use Rattle.geojson_model.specs.declared.seen.Seen.{Seen}
-use Rattle.geojson_model.specs.declared.seen.Seen.TheVariants.{Never, Once, Again}
+use Rattle.geojson_model.specs.declared.occurrence.Occurrence.{Occurrence}
+use Rattle.geojson_model.specs.declared.occurrence.Occurrence.TheVariants.{Never, Once, Again}
 
 -- ---- the members of a feature
 
@@ -51,18 +51,18 @@ is_field name = bytes_eq name (codes "geometry") || (bytes_eq name (codes "prope
 
 -- what was seen of these members
 pub record IsFields (start : Start) (ms : Members) (fields : Fields) : Type 0 where
-  pub id : IsSeen IsId (named (codes "id") ms) fields.id
-  pub properties : IsSeen IsProperties (named (codes "properties") ms) fields.properties
-  pub geometry : IsSeen (IsDrawn start) (named (codes "geometry") ms) fields.geometry
+  pub id : IsOccurrence IsId (named (codes "id") ms) fields.id
+  pub properties : IsOccurrence IsProperties (named (codes "properties") ms) fields.properties
+  pub geometry : IsOccurrence (IsDrawn start) (named (codes "geometry") ms) fields.geometry
 
 -- what is known of the members of a feature, and its type
 pub record IsFeatureParts (start : Start) (d : ℕ) (ms : Members) (parts : FeatureParts) : Type 0 where
-  pub kind : IsSeen IsType (named (codes "type") ms) parts.kind
+  pub kind : IsOccurrence IsType (named (codes "type") ms) parts.kind
   pub fields : IsFields start ms parts.fields
 
 -- ---- what they give
 
-abbrev pub given : {A : Type 0} → Seen (Result (Option A) GeoFaultKind) → Result (Option A) GeoFaultKind
+abbrev pub given : {A : Type 0} → Occurrence (Result (Option A) GeoFaultKind) → Result (Option A) GeoFaultKind
 given Never = Ok None
 given (Once x) = x
 given Again = Err Duplicate
@@ -72,7 +72,7 @@ abbrev pub counted : Result (Option Shape) GeoFaultKind → Counts → Result (O
 counted (Ok shape) counts = Ok (shape, counts)
 counted (Err e) counts = Err e
 
-abbrev pub drawn : Seen Drawn → Counts → Result (Option Shape × Counts) GeoFaultKind
+abbrev pub drawn : Occurrence Drawn → Counts → Result (Option Shape × Counts) GeoFaultKind
 drawn Never before = Ok (None, before)
 drawn (Once x) before = counted x.shape x.counts
 drawn Again before = Err Duplicate
@@ -84,7 +84,7 @@ named_fault (Ok type.FeatureCollection) = Some UnknownType
 named_fault (Ok type.Feature) = None
 named_fault (Ok (type.Geometry geometry)) = Some UnknownType
 
-abbrev pub type_fault : Seen (Result GeoJsonType GeoFaultKind) → Option GeoFaultKind
+abbrev pub type_fault : Occurrence (Result GeoJsonType GeoFaultKind) → Option GeoFaultKind
 type_fault Never = Some Missing
 type_fault (Once x) = named_fault x
 type_fault Again = Some Duplicate

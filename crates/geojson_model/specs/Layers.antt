@@ -19,12 +19,12 @@ use Rattle.json_cursor.specs.Members.{Members}
 use Rattle.json_cursor.specs.declared.stop.Stop.{Stop}
 use Rattle.json_cursor.specs.declared.stop.Stop.TheVariants as stop
 use Rattle.geojson_model.specs.Features.{IsFields}
-use Rattle.geojson_model.specs.Members.{IsParts, IsSeen}
+use Rattle.geojson_model.specs.Members.{IsParts, IsOccurrence}
 use Rattle.geojson_model.specs.declared.geometries.Start.{Start}
 use Rattle.geojson_model.specs.declared.layers.Collected.{Collected}
 use Rattle.geojson_model.specs.declared.layers.LayerParts.{LayerParts}
-use Rattle.geojson_model.specs.declared.seen.Seen.{Seen}
-use Rattle.geojson_model.specs.declared.seen.Seen.TheVariants.{Never, Once, Again}
+use Rattle.geojson_model.specs.declared.occurrence.Occurrence.{Occurrence}
+use Rattle.geojson_model.specs.declared.occurrence.Occurrence.TheVariants.{Never, Once, Again}
 
 -- why reading stops, in the feature of this number, or in none
 abbrev pub stop_in : Option ℕ → Stop GeoFaultKind → Stop GeoFault
@@ -56,10 +56,10 @@ IsCollected start v x = Collects start v x.features x.counts
 pub record IsLayerParts (start : Start) (d : ℕ) (ms : Members) (parts : LayerParts) : Type 0 where
   pub bare : IsParts start d ms parts.bare
   pub fields : IsFields start ms parts.fields
-  pub features : IsSeen (IsCollected start) (named (codes "features") ms) parts.features
+  pub features : IsOccurrence (IsCollected start) (named (codes "features") ms) parts.features
 
 -- a type that must be there once
-abbrev pub type_of : Seen (Result GeoJsonType GeoFaultKind) → Result GeoJsonType GeoFaultKind
+abbrev pub type_of : Occurrence (Result GeoJsonType GeoFaultKind) → Result GeoJsonType GeoFaultKind
 type_of Never = Err Missing
 type_of (Once x) = x
 type_of Again = Err Duplicate

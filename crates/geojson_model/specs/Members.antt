@@ -12,7 +12,7 @@ use Rattle.geojson_types.specs.Features.{Shape}
 use Rattle.geometry.specs.declared.shape.Geometry.TheVariants as g
 use Rattle.geojson_meaning.specs.Geometries.{coordinates_shape, shapes}
 use Rattle.geojson_meaning.specs.Members.{named}
-use Rattle.json_members.specs.Readers.{Counting}
+use Rattle.json_value.specs.Readers.{Counting}
 use Rattle.geojson_meaning.specs.Reader.{Reader, ◌>>=◌, give, or_fail}
 use Rattle.geojson_meaning.specs.Types.{geojson_type, geometry_type}
 use Rattle.geojson_meaning.specs.declared.fault.GeoFaultKind.{GeoFaultKind}
@@ -23,41 +23,41 @@ use Rattle.geojson_meaning.specs.declared.types.GeometryType.{GeometryType}
 use Rattle.geojson_meaning.specs.declared.types.GeometryType.TheVariants as kinds
 use Rattle.json_cursor.specs.declared.stop.Stop.{Stop}
 use Rattle.json_cursor.specs.declared.stop.Stop.TheVariants as stop
-use Rattle.json_cursor.specs.Arrays.{front_value}
+use Rattle.json_cursor.specs.Arrays.{prefix_value}
 use Rattle.json_cursor.specs.Members.{Made, Members}
-use Rattle.geojson_model.specs.declared.seen.Seen.{Seen}
-use Rattle.geojson_model.specs.declared.seen.Seen.TheVariants.{Never, Once, Again}
+use Rattle.geojson_model.specs.declared.occurrence.Occurrence.{Occurrence}
+use Rattle.geojson_model.specs.declared.occurrence.Occurrence.TheVariants.{Never, Once, Again}
 use Rattle.geojson_model.specs.declared.geometries.Coordinates.{Coordinates}
 use Rattle.geojson_model.specs.declared.geometries.Parts.{Parts}
 use Rattle.geojson_model.specs.declared.geometries.Read.{Read}
 use Rattle.geojson_model.specs.declared.geometries.Start.{Start}
 
 -- these are the values of a name that was seen so
-abbrev pub IsSeen : {A : Type 0} → (Json → A → Type 0) → List Json → Seen A → Type 0
-IsSeen Is vs Never = vs ≡ []
-IsSeen Is vs (Once x) = (v : Json) × (vs ≡ v ∷ []) × Is v x
-IsSeen Is vs Again = (v : Json) × (w : Json) × (us : List Json) × (vs ≡ v ∷ w ∷ us)
+abbrev pub IsOccurrence : {A : Type 0} → (Json → A → Type 0) → List Json → Occurrence A → Type 0
+IsOccurrence Is vs Never = vs ≡ []
+IsOccurrence Is vs (Once x) = (v : Json) × (vs ≡ v ∷ []) × Is v x
+IsOccurrence Is vs Again = (v : Json) × (w : Json) × (us : List Json) × (vs ≡ v ∷ w ∷ us)
 
 -- a name that stood once more among members, with what is known of its value
-abbrev pub see : {A : Type 0} → Seen A → A → Seen A
+abbrev pub see : {A : Type 0} → Occurrence A → A → Occurrence A
 see Never x = Once x
 see (Once y) x = Again
 see Again x = Again
 
-abbrev pub is_again : {A : Type 0} → Seen A → Bool
+abbrev pub is_again : {A : Type 0} → Occurrence A → Bool
 is_again Never = false
 is_again (Once x) = false
 is_again Again = true
 
 -- the value begins there
-abbrev pub IsFront : ℕ → Json → Bor (List ℕ) → Type 0
-IsFront d v front = (rest : List ℕ) × (front_value d front.now ≡ Some (v, rest))
+abbrev pub BeginsAt : ℕ → Json → Bor (List ℕ) → Type 0
+BeginsAt d v prefix = (rest : List ℕ) × (prefix_value d prefix.now ≡ Some (v, rest))
 
 -- A value stands there, and then the rest, and what holds of members goes on to hold with a member of this name and that value. Or none
 -- stands there, or nothing is said.
 abbrev pub Sees : {S : Type 0} → Made S → ℕ → List ℕ → List ℕ → S → S → Result (Bor (List ℕ)) Fault → Type 0
-Sees Holds d name value before after (Ok rest) = (v : Json) × (front_value d value ≡ Some (v, rest.now)) × ((ms : Members) → Holds ms before → Holds (ms ++ (name, v) ∷ []) after)
-Sees Holds d name value before after (Err fault) = Fails fault (front_value d value)
+Sees Holds d name value before after (Ok rest) = (v : Json) × (prefix_value d value ≡ Some (v, rest.now)) × ((ms : Members) → Holds ms before → Holds (ms ++ (name, v) ∷ []) after)
+Sees Holds d name value before after (Err fault) = Fails fault (prefix_value d value)
 
 -- this is read, or the fault is the reader's, or nothing is said
 abbrev pub Judges : {C E B : Type 0} → Counting C E B → C → C → Result B (Stop E) → Type 0
@@ -93,14 +93,14 @@ IsTaken start kind v (Some (Err e, counts)) = coordinates_shape start.exact kind
 
 -- the value of `coordinates` begins there, and was read so, if it was
 pub record IsCoordinates (start : Start) (d : ℕ) (v : Json) (x : Coordinates) : Type 0 where
-  pub front : IsFront d v x.front
+  pub prefix : BeginsAt d v x.prefix
   pub read : IsRead start v x.read
 
 -- what was seen of these members
 pub record IsParts (start : Start) (d : ℕ) (ms : Members) (parts : Parts) : Type 0 where
-  pub kind : IsSeen IsType (named (codes "type") ms) parts.kind
-  pub coordinates : IsSeen (IsCoordinates start d) (named (codes "coordinates") ms) parts.coordinates
-  pub geometries : IsSeen (IsFront d) (named (codes "geometries") ms) parts.geometries
+  pub kind : IsOccurrence IsType (named (codes "type") ms) parts.kind
+  pub coordinates : IsOccurrence (IsCoordinates start d) (named (codes "coordinates") ms) parts.coordinates
+  pub geometries : IsOccurrence (BeginsAt d) (named (codes "geometries") ms) parts.geometries
 
 -- ---- a geometry as most programs write it
 
@@ -118,22 +118,22 @@ part exact (kinds.Coordinates kind) v = coordinates_shape exact kind v
 
 -- after the front of that member a value and the brace that closes the object (125) make it such a geometry
 abbrev pub BeginsGeometry : GeometryType → ℕ → List ℕ → List ℕ → Type 0
-BeginsGeometry kind d bytes front = (v : Json) (after end : List ℕ) → front_value (d - 1) front ≡ Some (v, after) → skip after ≡ 125 ∷ end
-    → (name : List ℕ) × (geometry_type name ≡ Some kind) × (front_value d bytes ≡ Some (j.Object ((codes "type", j.Text name) ∷ (part_name kind, v) ∷ []), end))
+BeginsGeometry kind d bytes prefix = (v : Json) (after end : List ℕ) → prefix_value (d - 1) prefix ≡ Some (v, after) → skip after ≡ 125 ∷ end
+    → (name : List ℕ) × (geometry_type name ≡ Some kind) × (prefix_value d bytes ≡ Some (j.Object ((codes "type", j.Text name) ∷ (part_name kind, v) ∷ []), end))
 
 -- a geometry of this type whose type stands first in it, and then the member that it is made of, whose value begins there
-pub record IsLed (kind : GeometryType) (d : ℕ) (front : List ℕ) (v : Json) : Type 0 where
+pub record IsLed (kind : GeometryType) (d : ℕ) (prefix : List ℕ) (v : Json) : Type 0 where
   pub name : List ℕ
   pub typed : geometry_type name ≡ Some kind
   pub part : Json
   pub after : List ℕ
-  pub found : front_value (d - 1) front ≡ Some (part, after)
+  pub found : prefix_value (d - 1) prefix ≡ Some (part, after)
   pub more : Members
   pub object : v ≡ j.Object ((codes "type", j.Text name) ∷ (part_name kind, part) ∷ more)
 
 -- whatever value stands there is one
 abbrev pub LeadsGeometry : GeometryType → ℕ → List ℕ → List ℕ → Type 0
-LeadsGeometry kind d bytes front = (v : Json) (end : List ℕ) → front_value d bytes ≡ Some (v, end) → IsLed kind d front v
+LeadsGeometry kind d bytes prefix = (v : Json) (end : List ℕ) → prefix_value d bytes ≡ Some (v, end) → IsLed kind d prefix v
 
 -- the type stands twice, or the member that a geometry of this type is made of
 abbrev pub twice : GeometryType → Parts → Bool
@@ -146,13 +146,13 @@ first_fault twice fault = if twice then Duplicate else fault
 -- an object stands at the front in which they do, or don't; or whatever value stands there is no object; or none stands there, or nothing is said
 pub record RepeatsIn (kind : GeometryType) (d : ℕ) (bytes : List ℕ) (is : Bool) (rest : List ℕ) : Type 0 where
   pub members : Members
-  pub front : front_value d bytes ≡ Some (j.Object members, rest)
+  pub prefix : prefix_value d bytes ≡ Some (j.Object members, rest)
   pub start : Start
   pub parts : Parts
-  pub seen : IsParts start (d - 1) members parts
+  pub occurrence : IsParts start (d - 1) members parts
   pub answer : is ≡ twice kind parts
 
 abbrev pub Repeats : GeometryType → ℕ → List ℕ → Result (Option (Bool × Bor (List ℕ))) Fault → Type 0
 Repeats kind d bytes (Ok (Some x)) = RepeatsIn kind d bytes x.0 x.1.now
-Repeats kind d bytes (Ok None) = (v : Json) (end : List ℕ) → front_value d bytes ≡ Some (v, end) → object_of v ≡ None
-Repeats kind d bytes (Err fault) = Fails fault (front_value d bytes)
+Repeats kind d bytes (Ok None) = (v : Json) (end : List ℕ) → prefix_value d bytes ≡ Some (v, end) → object_of v ≡ None
+Repeats kind d bytes (Err fault) = Fails fault (prefix_value d bytes)

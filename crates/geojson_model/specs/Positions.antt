@@ -28,6 +28,6 @@ pub record ArePair (bytes : List ℕ) (x y : Units) (rest : List ℕ) : Type 0 w
 -- two numbers that aren't rounded stand so, a comma (44) after them where more elements follow, or else the bracket that closes (93), and this
 -- follows it
 pub record ArePlainPair (bytes : List ℕ) (x y : ℤ) (more : Bool) (rest : List ℕ) : Type 0 where
-  pub behind : List ℕ
-  pub pair : ArePair bytes (record { value = x; exact = true }) (record { value = y; exact = true }) behind
-  pub mark : skip behind ≡ (if more then 44 else 93) ∷ rest
+  pub following : List ℕ
+  pub pair : ArePair bytes (record { value = x; exact = true }) (record { value = y; exact = true }) following
+  pub mark : skip following ≡ (if more then 44 else 93) ∷ rest

@@ -3,7 +3,7 @@ ghost use Rattle.std.specs.Prelude.{◌≡◌, ◌≤◌, ◌&&◌, not, IfOk, u
 ghost use Rattle.geometry.specs.Units.{input_limit};
 ghost use Rattle.geojson_meaning.specs.Coordinates.{coordinate};
 ghost use Rattle.json_cursor.specs.Answers.{Answers};
-ghost use Rattle.json_cursor.specs.Arrays.{front_value};
+ghost use Rattle.json_cursor.specs.Arrays.{prefix_value};
 
 use geojson_meaning::GeoFaultKind;
 use geojson_types::Counts;
@@ -29,18 +29,18 @@ pub(crate) fn is_refused(exact: bool, whole: bool) -> bool
 #[inline(never)]
 fn value_coordinate_at<'a>(
     alloc: Global,
-    deep: u32,
+    depth_left: u32,
     bytes: &'a [u8],
     exact: bool,
     counts: &mut Counts,
 ) -> Result<(i64, &'a [u8]), Stop<GeoFaultKind>>
-    ensures answers { Answers (λ x. x) (coordinate exact) (front_value deep bytes.now) counts.old counts.new result }
+    ensures answers { Answers (λ x. x) (coordinate exact) (prefix_value depth_left bytes.now) counts.old counts.new result }
     ensures within { IfOk result (λ x. unsigned_abs x.0 ≤ input_limit) }
 {
     let Kind::Number = kind_at(bytes) else {
         return Err(Stop::Fault(GeoFaultKind::WrongKind));
     };
-    let (value, rest) = value_at(alloc, deep, bytes)?;
+    let (value, rest) = value_at(alloc, depth_left, bytes)?;
     let Some(number) = value.as_number() else {
         return Err(Stop::Fault(GeoFaultKind::WrongKind));
     };
@@ -58,16 +58,16 @@ fn value_coordinate_at<'a>(
 #[inline(always)]
 pub(crate) fn coordinate_at<'a>(
     alloc: Global,
-    deep: u32,
+    depth_left: u32,
     bytes: &'a [u8],
     exact: bool,
     counts: &mut Counts,
 ) -> Result<(i64, &'a [u8]), Stop<GeoFaultKind>>
-    ensures answers { Answers (λ x. x) (coordinate exact) (front_value deep bytes.now) counts.old counts.new result }
+    ensures answers { Answers (λ x. x) (coordinate exact) (prefix_value depth_left bytes.now) counts.old counts.new result }
     ensures within { IfOk result (λ x. unsigned_abs x.0 ≤ input_limit) }
 {
     let Some((units, rest)) = units_at(bytes) else {
-        return value_coordinate_at(alloc, deep, bytes, exact, counts);
+        return value_coordinate_at(alloc, depth_left, bytes, exact, counts);
     };
     if is_refused(exact, units.exact) {
         return Err(Stop::Fault(GeoFaultKind::Inexact));

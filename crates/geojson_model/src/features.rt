@@ -2,26 +2,26 @@
 ghost use Rattle.std.specs.Prelude.{◌≡◌, [], ℕ, OnOk, codes};
 ghost use Rattle.std.specs.Option.{option_copied};
 ghost use Rattle.json_cursor.specs.Answers.{Answers};
-ghost use Rattle.json_cursor.specs.Arrays.{front_value};
-ghost use Rattle.json_cursor.specs.Held.{Meets};
+ghost use Rattle.json_cursor.specs.Arrays.{prefix_value};
+ghost use Rattle.json_cursor.specs.Held.{FindsValue};
 ghost use Rattle.json_cursor.specs.Members.{Members as Listed, Names};
 ghost use Rattle.json_cursor.specs.Names.{name_of};
 ghost use Rattle.geojson_meaning.specs.Features.{feature, feature_element};
 ghost use Rattle.geojson_meaning.specs.Members.{named};
 ghost use Rattle.geojson_model.specs.Features.{IsDrawn, IsFeatureParts, IsFields, IsId, IsProperties};
 ghost use Rattle.geojson_model.specs.Features as spec;
-ghost use Rattle.geojson_model.specs.Members.{IsSeen, Judges, Sees};
+ghost use Rattle.geojson_model.specs.Members.{IsOccurrence, Judges, Sees};
 ghost use Rattle.geojson_model.specs.declared.geometries.Start.{Start as Begun};
 
 use crate::geometries::{Start, geometry_at, type_at};
-use crate::seen::Seen;
+use crate::occurrence::Occurrence;
 use geojson_meaning::{GeoFaultKind, GeoJsonType, identifier};
 use geojson_types::{Counts, Feature, Id, Properties, Shape};
-use json_cursor::{Kind, Members, Name, Stop, kind_at, name_at, named_at, object_into};
-use json_reading::{Fault, Why, value_at};
-use properties_scanning::read_properties;
+use json_cursor::{
+    Kind, Members, Name, Stop, kind_at, name_at, named_at, object_into, read_properties,
+};
+use json_reading::{Fault, Why, after_value, value_at};
 use std::alloc::Global;
-use text_checking::after_value;
 
 /// What the value of `geometry` is read as, or its fault, and what was counted then.
 #[derive(Drop)]
@@ -33,37 +33,37 @@ pub struct Drawn {
 /// What was seen of the members of a feature, but for its type.
 #[derive(Drop)]
 pub struct Fields {
-    id: Seen<Result<Option<Id>, GeoFaultKind>>,
-    properties: Seen<Result<Option<Properties>, GeoFaultKind>>,
-    geometry: Seen<Drawn>,
+    id: Occurrence<Result<Option<Id>, GeoFaultKind>>,
+    properties: Occurrence<Result<Option<Properties>, GeoFaultKind>>,
+    geometry: Occurrence<Drawn>,
 }
 
 /// What was seen of the members of a feature.
 #[derive(Drop)]
 pub struct FeatureParts {
-    kind: Seen<Result<GeoJsonType, GeoFaultKind>>,
+    kind: Occurrence<Result<GeoJsonType, GeoFaultKind>>,
     fields: Fields,
 }
 
 /// The identifier that the value at the front is, or its fault, and what follows it.
 fn id_at<'a>(
     alloc: Global,
-    deep: u32,
+    depth_left: u32,
     bytes: &'a [u8],
 ) -> Result<(Result<Option<Id>, GeoFaultKind>, &'a [u8]), Fault>
-    ensures { Meets IsId deep bytes.now result }
+    ensures { FindsValue IsId depth_left bytes.now result }
 {
     match kind_at(bytes) {
         Kind::Array => {
-            let rest = after_value(alloc, deep, bytes)?;
+            let rest = after_value(alloc, depth_left, bytes)?;
             Ok((Err(GeoFaultKind::WrongKind), rest))
         }
         Kind::Object => {
-            let rest = after_value(alloc, deep, bytes)?;
+            let rest = after_value(alloc, depth_left, bytes)?;
             Ok((Err(GeoFaultKind::WrongKind), rest))
         }
         _ => {
-            let (value, rest) = value_at(alloc, deep, bytes)?;
+            let (value, rest) = value_at(alloc, depth_left, bytes)?;
             Ok((identifier(Some(value)), rest))
         }
     }
@@ -72,12 +72,12 @@ fn id_at<'a>(
 /// The properties that the value at the front gives, or its fault, and what follows it.
 fn properties_at<'a>(
     alloc: Global,
-    deep: u32,
+    depth_left: u32,
     bytes: &'a [u8],
 ) -> Result<(Result<Option<Properties>, GeoFaultKind>, &'a [u8]), Fault>
-    ensures { Meets IsProperties deep bytes.now result }
+    ensures { FindsValue IsProperties depth_left bytes.now result }
 {
-    let (read, rest) = read_properties(alloc, deep, bytes)?;
+    let (read, rest) = read_properties(alloc, depth_left, bytes)?;
     match read {
         None => Ok((Err(GeoFaultKind::WrongKind), rest)),
         Some(properties) => Ok((Ok(properties), rest)),
@@ -87,25 +87,25 @@ fn properties_at<'a>(
 /// The shape that the value at the front gives as a geometry, or its fault, and what follows it: null gives none.
 fn drawn_at<'a>(
     alloc: Global,
-    deep: u32,
+    depth_left: u32,
     bytes: &'a [u8],
     start: Start,
 ) -> Result<(Drawn, &'a [u8]), Fault>
-    ensures { Meets (IsDrawn start) deep bytes.now result }
+    ensures { FindsValue (IsDrawn start) depth_left bytes.now result }
 {
     let mut counts = start.counts;
     if let Kind::Null = kind_at(bytes) {
-        let rest = after_value(alloc, deep, bytes)?;
+        let rest = after_value(alloc, depth_left, bytes)?;
         let shape = Ok(None);
         return Ok((Drawn { shape, counts }, rest));
     }
-    match geometry_at(alloc, deep, bytes, start.exact, &mut counts) {
+    match geometry_at(alloc, depth_left, bytes, start.exact, &mut counts) {
         Ok((shape, rest)) => {
             let shape = Ok(shape);
             Ok((Drawn { shape, counts }, rest))
         }
         Err(Stop::Fault(fault)) => {
-            let rest = after_value(alloc, deep, bytes)?;
+            let rest = after_value(alloc, depth_left, bytes)?;
             let shape = Err(fault);
             Ok((Drawn { shape, counts }, rest))
         }
@@ -132,9 +132,9 @@ impl Fields {
         ensures { (start : Begun) → IsFields start [] result }
     {
         Fields {
-            id: Seen::Never,
-            properties: Seen::Never,
-            geometry: Seen::Never,
+            id: Occurrence::Never,
+            properties: Occurrence::Never,
+            geometry: Occurrence::Never,
         }
     }
 
@@ -143,53 +143,58 @@ impl Fields {
     pub(crate) fn see<'a>(
         &mut self,
         alloc: Global,
-        deep: u32,
+        depth_left: u32,
         name: &Name<'_>,
         value: &'a [u8],
         start: Start,
     ) -> Result<&'a [u8], Fault>
-        ensures { Sees (IsFields start) deep (name_of name.now) value.now self.old self.new result }
+        ensures { Sees (IsFields start) depth_left (name_of name.now) value.now self.old self.new result }
     {
         if name.is("geometry") {
-            let (drawn, rest) = drawn_at(alloc, deep, value, start)?;
+            let (drawn, rest) = drawn_at(alloc, depth_left, value, start)?;
             self.geometry.see(drawn);
             return Ok(rest);
         }
         if name.is("properties") {
-            let (properties, rest) = properties_at(alloc, deep, value)?;
+            let (properties, rest) = properties_at(alloc, depth_left, value)?;
             self.properties.see(properties);
             return Ok(rest);
         }
         if name.is("id") {
-            let (id, rest) = id_at(alloc, deep, value)?;
+            let (id, rest) = id_at(alloc, depth_left, value)?;
             self.id.see(id);
             return Ok(rest);
         }
-        after_value(alloc, deep, value)
+        after_value(alloc, depth_left, value)
     }
 }
 
 /// What the member gives that was seen so: none where it isn't there.
 #[inline(always)]
-fn given<T: Drop>(seen: Seen<Result<Option<T>, GeoFaultKind>>) -> Result<Option<T>, GeoFaultKind>
-    ensures { result ≡ spec.given seen }
+fn given<T: Drop>(
+    occurrence: Occurrence<Result<Option<T>, GeoFaultKind>>,
+) -> Result<Option<T>, GeoFaultKind>
+    ensures { result ≡ spec.given occurrence }
 {
-    match seen {
-        Seen::Never => Ok(None),
-        Seen::Again => Err(GeoFaultKind::Duplicate),
-        Seen::Once(value) => value,
+    match occurrence {
+        Occurrence::Never => Ok(None),
+        Occurrence::Again => Err(GeoFaultKind::Duplicate),
+        Occurrence::Once(value) => value,
     }
 }
 
 /// The shape that the member `geometry` gives, and what was counted then.
 #[inline(always)]
-fn shape_given(seen: Seen<Drawn>, before: Counts) -> Result<(Option<Shape>, Counts), GeoFaultKind>
-    ensures { result ≡ spec.drawn seen before }
+fn shape_given(
+    occurrence: Occurrence<Drawn>,
+    before: Counts,
+) -> Result<(Option<Shape>, Counts), GeoFaultKind>
+    ensures { result ≡ spec.drawn occurrence before }
 {
-    match seen {
-        Seen::Never => Ok((None, before)),
-        Seen::Again => Err(GeoFaultKind::Duplicate),
-        Seen::Once(drawn) => {
+    match occurrence {
+        Occurrence::Never => Ok((None, before)),
+        Occurrence::Again => Err(GeoFaultKind::Duplicate),
+        Occurrence::Once(drawn) => {
             let Drawn { shape, counts } = drawn;
             match shape {
                 Err(fault) => Err(fault),
@@ -225,10 +230,10 @@ impl FeatureParts {
     /// Of no members.
     #[inline(always)]
     fn none() -> FeatureParts
-        ensures { (start : Begun) (deep : ℕ) → IsFeatureParts start deep [] result }
+        ensures { (start : Begun) (depth_left : ℕ) → IsFeatureParts start depth_left [] result }
     {
         FeatureParts {
-            kind: Seen::Never,
+            kind: Occurrence::Never,
             fields: Fields::none(),
         }
     }
@@ -262,29 +267,29 @@ impl<'a> Members<'a> for FeatureParts {
     fn member(
         &mut self,
         alloc: Global,
-        deep: u32,
+        depth_left: u32,
         bytes: &'a [u8],
         with: Start,
     ) -> Result<&'a [u8], Fault> {
         let (name, value) = feature_name_at(alloc, bytes)?;
         if name.is("type") {
-            let (kind, rest) = type_at(alloc, deep, value)?;
+            let (kind, rest) = type_at(alloc, depth_left, value)?;
             self.kind.see(kind);
             return Ok(rest);
         }
-        self.fields.see(alloc, deep, &name, value, with)
+        self.fields.see(alloc, depth_left, &name, value, with)
     }
 }
 
 /// The fault of an object whose type was seen so where a feature is to stand, if it has one.
-fn type_fault(seen: &Seen<Result<GeoJsonType, GeoFaultKind>>) -> Option<GeoFaultKind>
-    ensures { result ≡ spec.type_fault seen.now }
+fn type_fault(occurrence: &Occurrence<Result<GeoJsonType, GeoFaultKind>>) -> Option<GeoFaultKind>
+    ensures { result ≡ spec.type_fault occurrence.now }
 {
-    match seen {
-        Seen::Never => Some(GeoFaultKind::Missing),
-        Seen::Again => Some(GeoFaultKind::Duplicate),
-        Seen::Once(Err(fault)) => Some(*fault),
-        Seen::Once(Ok(kind)) => match kind {
+    match occurrence {
+        Occurrence::Never => Some(GeoFaultKind::Missing),
+        Occurrence::Again => Some(GeoFaultKind::Duplicate),
+        Occurrence::Once(Err(fault)) => Some(*fault),
+        Occurrence::Once(Ok(kind)) => match kind {
             GeoJsonType::Feature => None,
             _ => Some(GeoFaultKind::UnknownType),
         },
@@ -294,12 +299,12 @@ fn type_fault(seen: &Seen<Result<GeoJsonType, GeoFaultKind>>) -> Option<GeoFault
 /// The feature at the front (RFC 7946, section 3.2), and what follows it; or why reading stops. Its members may stand in any order.
 pub fn feature_at<'a>(
     alloc: Global,
-    deep: u32,
+    depth_left: u32,
     bytes: &'a [u8],
     exact: bool,
     counts: &mut Counts,
 ) -> Result<(Feature, &'a [u8]), Stop<GeoFaultKind>>
-    ensures { Answers (λ x. x) (feature_element exact) (front_value deep bytes.now) counts.old counts.new result }
+    ensures { Answers (λ x. x) (feature_element exact) (prefix_value depth_left bytes.now) counts.old counts.new result }
 {
     let start = Start {
         exact,
@@ -307,7 +312,8 @@ pub fn feature_at<'a>(
         reads: true,
     };
     let mut parts = FeatureParts::none();
-    let Some(rest) = object_into::<FeatureParts>(alloc, deep, &mut parts, bytes, start)? else {
+    let Some(rest) = object_into::<FeatureParts>(alloc, depth_left, &mut parts, bytes, start)?
+    else {
         return Err(Stop::Fault(GeoFaultKind::NotObject));
     };
     let FeatureParts { kind, fields } = parts;

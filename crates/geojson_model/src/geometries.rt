@@ -5,25 +5,24 @@ ghost use Rattle.json_cursor.specs.Members.{Members as Listed};
 ghost use Rattle.geojson_meaning.specs.Geometries.{coordinates_shape, geometry, shape, shapes, typed_geometry};
 ghost use Rattle.geojson_meaning.specs.Reader.{kept};
 ghost use Rattle.json_cursor.specs.Answers.{Answers};
-ghost use Rattle.json_cursor.specs.Arrays.{front_elements, front_value};
+ghost use Rattle.json_cursor.specs.Arrays.{prefix_elements, prefix_value};
 ghost use Rattle.geojson_meaning.specs.Members.{named};
 ghost use Rattle.geojson_meaning.specs.declared.types.GeometryType.TheVariants as types;
-ghost use Rattle.json_cursor.specs.Held.{Meets};
+ghost use Rattle.json_cursor.specs.Held.{FindsValue};
 ghost use Rattle.json_cursor.specs.Names.{name_of};
-ghost use Rattle.geojson_model.specs.Members.{BeginsGeometry, IsCoordinates, IsFront, IsParts, IsRead, IsSeen, IsTaken, IsType, Judges, LeadsGeometry, Sees, part, twice};
+ghost use Rattle.geojson_model.specs.Members.{BeginsGeometry, IsCoordinates, BeginsAt, IsParts, IsRead, IsOccurrence, IsTaken, IsType, Judges, LeadsGeometry, Sees, part, twice};
 ghost use Rattle.geojson_model.specs.declared.geometries.Start.{Start as Begun};
 
 use crate::leading::{first_fault, led_at, twice_at};
-use crate::seen::Seen;
+use crate::occurrence::Occurrence;
 use crate::shapes::coordinates_at;
 use crate::type_names::type_name_at;
 use geojson_meaning::{CoordinatesType, GeoFaultKind, GeoJsonType, GeometryType, geojson_type};
 use geojson_types::{Counts, Shape};
-use json_cursor::{Mark, Members, Name, Stop, behind_byte, mark_at, name_at, object_into};
-use json_reading::{Fault, Why, skip};
+use json_cursor::{Mark, Members, Name, Stop, after_byte, mark_at, name_at, object_into};
+use json_reading::{Fault, Why, after_value, skip};
 use json_value::Items;
 use std::alloc::{AllocFailed, Global};
-use text_checking::after_value;
 
 /// By what a geometry is read: whether coordinates may not be rounded, what was counted before it, and whether the coordinates are read
 /// where they stand after the type, or passed over.
@@ -45,28 +44,28 @@ pub struct Read {
 /// Where the value of the member `coordinates` begins, and what it was read as, if its type was known then.
 #[derive(Drop)]
 pub struct Coordinates<'a> {
-    front: &'a [u8],
+    prefix: &'a [u8],
     read: Option<Read>,
 }
 
 /// What was seen of the members of a geometry.
 #[derive(Drop)]
 pub struct Parts<'a> {
-    pub kind: Seen<Result<GeoJsonType, GeoFaultKind>>,
-    coordinates: Seen<Coordinates<'a>>,
-    geometries: Seen<&'a [u8]>,
+    pub kind: Occurrence<Result<GeoJsonType, GeoFaultKind>>,
+    coordinates: Occurrence<Coordinates<'a>>,
+    geometries: Occurrence<&'a [u8]>,
 }
 
 /// The type that the value at the front names, or its fault, and what follows it.
 pub(crate) fn type_at<'a>(
     alloc: Global,
-    deep: u32,
+    depth_left: u32,
     bytes: &'a [u8],
 ) -> Result<(Result<GeoJsonType, GeoFaultKind>, &'a [u8]), Fault>
-    ensures { Meets IsType deep bytes.now result }
+    ensures { FindsValue IsType depth_left bytes.now result }
 {
     let Some((name, rest)) = type_name_at(alloc, bytes)? else {
-        let rest = after_value(alloc, deep, bytes)?;
+        let rest = after_value(alloc, depth_left, bytes)?;
         return Ok((Err(GeoFaultKind::WrongKind), rest));
     };
     match geojson_type(name.as_str()) {
@@ -78,16 +77,16 @@ pub(crate) fn type_at<'a>(
 /// The value of `coordinates` at the front, which is passed over, and what follows it.
 fn passed_at<'a>(
     alloc: Global,
-    deep: u32,
+    depth_left: u32,
     start: Start,
     bytes: &'a [u8],
 ) -> Result<(Coordinates<'a>, &'a [u8]), Fault>
-    ensures { Meets (IsCoordinates start deep) deep bytes.now result }
+    ensures { FindsValue (IsCoordinates start depth_left) depth_left bytes.now result }
 {
-    let rest = after_value(alloc, deep, bytes)?;
+    let rest = after_value(alloc, depth_left, bytes)?;
     Ok((
         Coordinates {
-            front: bytes,
+            prefix: bytes,
             read: None,
         },
         rest,
@@ -97,15 +96,15 @@ fn passed_at<'a>(
 /// The value of `coordinates` at the front, which is read by this type, and what follows it.
 fn read_at<'a>(
     alloc: Global,
-    deep: u32,
+    depth_left: u32,
     start: Start,
     kind: CoordinatesType,
     bytes: &'a [u8],
 ) -> Result<(Coordinates<'a>, &'a [u8]), Fault>
-    ensures { Meets (IsCoordinates start deep) deep bytes.now result }
+    ensures { FindsValue (IsCoordinates start depth_left) depth_left bytes.now result }
 {
     let mut counts = start.counts;
-    match coordinates_at(alloc, deep, bytes, start.exact, kind, &mut counts) {
+    match coordinates_at(alloc, depth_left, bytes, start.exact, kind, &mut counts) {
         Ok((shape, rest)) => {
             let read = Read {
                 kind,
@@ -114,14 +113,14 @@ fn read_at<'a>(
             };
             Ok((
                 Coordinates {
-                    front: bytes,
+                    prefix: bytes,
                     read: Some(read),
                 },
                 rest,
             ))
         }
         Err(Stop::Fault(fault)) => {
-            let rest = after_value(alloc, deep, bytes)?;
+            let rest = after_value(alloc, depth_left, bytes)?;
             let read = Read {
                 kind,
                 shape: Err(fault),
@@ -129,7 +128,7 @@ fn read_at<'a>(
             };
             Ok((
                 Coordinates {
-                    front: bytes,
+                    prefix: bytes,
                     read: Some(read),
                 },
                 rest,
@@ -146,33 +145,33 @@ fn read_at<'a>(
 /// The value of `coordinates` at the front, which is read where its type is known by now, and what follows it.
 fn coordinates_member<'a>(
     alloc: Global,
-    deep: u32,
+    depth_left: u32,
     start: Start,
-    kind: &Seen<Result<GeoJsonType, GeoFaultKind>>,
+    kind: &Occurrence<Result<GeoJsonType, GeoFaultKind>>,
     bytes: &'a [u8],
 ) -> Result<(Coordinates<'a>, &'a [u8]), Fault>
-    ensures { Meets (IsCoordinates start deep) deep bytes.now result }
+    ensures { FindsValue (IsCoordinates start depth_left) depth_left bytes.now result }
 {
     if !start.reads {
-        return passed_at(alloc, deep, start, bytes);
+        return passed_at(alloc, depth_left, start, bytes);
     }
     match kind {
-        Seen::Once(Ok(GeoJsonType::Geometry(GeometryType::Coordinates(kind)))) => read_at(
-            alloc, deep, start, *kind, bytes,
+        Occurrence::Once(Ok(GeoJsonType::Geometry(GeometryType::Coordinates(kind)))) => read_at(
+            alloc, depth_left, start, *kind, bytes,
         ),
-        _ => passed_at(alloc, deep, start, bytes),
+        _ => passed_at(alloc, depth_left, start, bytes),
     }
 }
 
 impl<'a> Parts<'a> {
     /// Of no members.
     pub(crate) fn none() -> Parts<'a>
-        ensures { (start : Begun) (deep : ℕ) → IsParts start deep [] result }
+        ensures { (start : Begun) (depth_left : ℕ) → IsParts start depth_left [] result }
     {
         Parts {
-            kind: Seen::Never,
-            coordinates: Seen::Never,
-            geometries: Seen::Never,
+            kind: Occurrence::Never,
+            coordinates: Occurrence::Never,
+            geometries: Occurrence::Never,
         }
     }
 
@@ -180,24 +179,24 @@ impl<'a> Parts<'a> {
     pub(crate) fn see(
         &mut self,
         alloc: Global,
-        deep: u32,
+        depth_left: u32,
         name: &Name<'a>,
         value: &'a [u8],
         start: Start,
     ) -> Result<&'a [u8], Fault>
-        ensures { Sees (IsParts start deep) deep (name_of name.now) value.now self.old self.new result }
+        ensures { Sees (IsParts start depth_left) depth_left (name_of name.now) value.now self.old self.new result }
     {
         if name.is("type") {
-            let (kind, rest) = type_at(alloc, deep, value)?;
+            let (kind, rest) = type_at(alloc, depth_left, value)?;
             self.kind.see(kind);
             return Ok(rest);
         }
         if name.is("coordinates") {
-            let (found, rest) = coordinates_member(alloc, deep, start, &self.kind, value)?;
+            let (found, rest) = coordinates_member(alloc, depth_left, start, &self.kind, value)?;
             self.coordinates.see(found);
             return Ok(rest);
         }
-        let rest = after_value(alloc, deep, value)?;
+        let rest = after_value(alloc, depth_left, value)?;
         if name.is("geometries") {
             self.geometries.see(value);
         }
@@ -225,12 +224,12 @@ impl<'a> Members<'a> for Parts<'a> {
     fn member(
         &mut self,
         alloc: Global,
-        deep: u32,
+        depth_left: u32,
         bytes: &'a [u8],
         with: Start,
     ) -> Result<&'a [u8], Fault> {
         let (name, value) = name_at(alloc, bytes)?;
-        self.see(alloc, deep, &name, value, with)
+        self.see(alloc, depth_left, &name, value, with)
     }
 }
 
@@ -274,15 +273,15 @@ fn taken(
 /// What the value of `coordinates` is by this type, which is read where its member came before its type.
 fn shape_by(
     alloc: Global,
-    deep: u32,
+    depth_left: u32,
     kind: CoordinatesType,
     found: Coordinates<'_>,
     start: Start,
     counts: &mut Counts,
 ) -> Result<Option<Shape>, Stop<GeoFaultKind>>
-    ensures { (v : Value) → IsCoordinates start deep v found.entry → Judges (coordinates_shape start.exact kind v) start.counts counts.new result }
+    ensures { (v : Value) → IsCoordinates start depth_left v found.entry → Judges (coordinates_shape start.exact kind v) start.counts counts.new result }
 {
-    let Coordinates { front, read } = found;
+    let Coordinates { prefix, read } = found;
     match taken(read, kind) {
         Some((shape, counted)) => {
             *counts = counted;
@@ -293,7 +292,7 @@ fn shape_by(
         }
         None => {
             *counts = start.counts;
-            match coordinates_at(alloc, deep, front, start.exact, kind, counts) {
+            match coordinates_at(alloc, depth_left, prefix, start.exact, kind, counts) {
                 Err(stop) => Err(stop),
                 Ok((shape, _)) => Ok(shape),
             }
@@ -304,19 +303,19 @@ fn shape_by(
 /// What the member `coordinates` is by this type.
 fn coordinates_of(
     alloc: Global,
-    deep: u32,
+    depth_left: u32,
     kind: CoordinatesType,
-    coordinates: Seen<Coordinates<'_>>,
+    coordinates: Occurrence<Coordinates<'_>>,
     start: Start,
     counts: &mut Counts,
 ) -> Result<Option<Shape>, Stop<GeoFaultKind>>
-    ensures { (ms : Listed) → IsSeen (IsCoordinates start deep) (named (codes "coordinates") ms) coordinates.entry
+    ensures { (ms : Listed) → IsOccurrence (IsCoordinates start depth_left) (named (codes "coordinates") ms) coordinates.entry
         → Judges (typed_geometry start.exact (types.Coordinates kind) ms) start.counts counts.new result }
 {
     match coordinates {
-        Seen::Never => Err(Stop::Fault(GeoFaultKind::Missing)),
-        Seen::Again => Err(Stop::Fault(GeoFaultKind::Duplicate)),
-        Seen::Once(found) => shape_by(alloc, deep, kind, found, start, counts),
+        Occurrence::Never => Err(Stop::Fault(GeoFaultKind::Missing)),
+        Occurrence::Again => Err(Stop::Fault(GeoFaultKind::Duplicate)),
+        Occurrence::Once(found) => shape_by(alloc, depth_left, kind, found, start, counts),
     }
 }
 
@@ -324,20 +323,20 @@ fn coordinates_of(
 #[cycle(geometries)]
 fn group_of(
     alloc: Global,
-    deep: u32,
-    geometries: Seen<&[u8]>,
+    depth_left: u32,
+    geometries: Occurrence<&[u8]>,
     start: Start,
     counts: &mut Counts,
 ) -> Result<Option<Shape>, Stop<GeoFaultKind>>
-    ensures { (ms : Listed) → IsSeen (IsFront deep) (named (codes "geometries") ms) geometries.entry
+    ensures { (ms : Listed) → IsOccurrence (BeginsAt depth_left) (named (codes "geometries") ms) geometries.entry
         → Judges (typed_geometry start.exact types.Collection ms) start.counts counts.new result }
 {
     match geometries {
-        Seen::Never => Err(Stop::Fault(GeoFaultKind::Missing)),
-        Seen::Again => Err(Stop::Fault(GeoFaultKind::Duplicate)),
-        Seen::Once(front) => {
+        Occurrence::Never => Err(Stop::Fault(GeoFaultKind::Missing)),
+        Occurrence::Again => Err(Stop::Fault(GeoFaultKind::Duplicate)),
+        Occurrence::Once(prefix) => {
             *counts = start.counts;
-            match geometries_at(alloc, deep, front, start.exact, counts) {
+            match geometries_at(alloc, depth_left, prefix, start.exact, counts) {
                 Err(stop) => Err(stop),
                 Ok((shapes, _)) => Ok(Some(Shape::Group(shapes))),
             }
@@ -349,12 +348,12 @@ fn group_of(
 #[cycle(geometries)]
 pub(crate) fn shape_of(
     alloc: Global,
-    deep: u32,
+    depth_left: u32,
     parts: Parts<'_>,
     start: Start,
     counts: &mut Counts,
 ) -> Result<Option<Shape>, Stop<GeoFaultKind>>
-    ensures { (ms : Listed) → IsParts start deep ms parts.entry → Judges (geometry start.exact ms) start.counts counts.new result }
+    ensures { (ms : Listed) → IsParts start depth_left ms parts.entry → Judges (geometry start.exact ms) start.counts counts.new result }
 {
     let Parts {
         kind,
@@ -362,17 +361,19 @@ pub(crate) fn shape_of(
         geometries,
     } = parts;
     match kind {
-        Seen::Never => Err(Stop::Fault(GeoFaultKind::Missing)),
-        Seen::Again => Err(Stop::Fault(GeoFaultKind::Duplicate)),
-        Seen::Once(named) => match named {
+        Occurrence::Never => Err(Stop::Fault(GeoFaultKind::Missing)),
+        Occurrence::Again => Err(Stop::Fault(GeoFaultKind::Duplicate)),
+        Occurrence::Once(named) => match named {
             Err(fault) => Err(Stop::Fault(fault)),
             Ok(kind) => match kind {
                 GeoJsonType::FeatureCollection => Err(Stop::Fault(GeoFaultKind::UnknownType)),
                 GeoJsonType::Feature => Err(Stop::Fault(GeoFaultKind::UnknownType)),
                 GeoJsonType::Geometry(geometry) => match geometry {
-                    GeometryType::Collection => group_of(alloc, deep, geometries, start, counts),
+                    GeometryType::Collection => group_of(
+                        alloc, depth_left, geometries, start, counts,
+                    ),
                     GeometryType::Coordinates(kind) => {
-                        coordinates_of(alloc, deep, kind, coordinates, start, counts)
+                        coordinates_of(alloc, depth_left, kind, coordinates, start, counts)
                     }
                 },
             },
@@ -385,16 +386,18 @@ pub(crate) fn shape_of(
 #[cycle(geometries)]
 pub fn geometry_at<'a>(
     alloc: Global,
-    deep: u32,
+    depth_left: u32,
     bytes: &'a [u8],
     exact: bool,
     counts: &mut Counts,
 ) -> Result<(Option<Shape>, &'a [u8]), Stop<GeoFaultKind>>
-    ensures { Answers (λ x. x) (shape exact) (front_value deep bytes.now) counts.old counts.new result }
+    ensures { Answers (λ x. x) (shape exact) (prefix_value depth_left bytes.now) counts.old counts.new result }
 {
-    match led_at(alloc, deep, bytes)? {
-        None => any_geometry_at(alloc, deep, bytes, exact, counts),
-        Some((kind, front)) => { led_geometry_at(alloc, deep, kind, front, bytes, exact, counts) }
+    match led_at(alloc, depth_left, bytes)? {
+        None => any_geometry_at(alloc, depth_left, bytes, exact, counts),
+        Some((kind, prefix)) => {
+            led_geometry_at(alloc, depth_left, kind, prefix, bytes, exact, counts)
+        }
     }
 }
 
@@ -402,12 +405,12 @@ pub fn geometry_at<'a>(
 #[cycle(geometries)]
 fn any_geometry_at<'a>(
     alloc: Global,
-    deep: u32,
+    depth_left: u32,
     bytes: &'a [u8],
     exact: bool,
     counts: &mut Counts,
 ) -> Result<(Option<Shape>, &'a [u8]), Stop<GeoFaultKind>>
-    ensures { Answers (λ x. x) (shape exact) (front_value deep bytes.now) counts.old counts.new result }
+    ensures { Answers (λ x. x) (shape exact) (prefix_value depth_left bytes.now) counts.old counts.new result }
 {
     let start = Start {
         exact,
@@ -415,10 +418,10 @@ fn any_geometry_at<'a>(
         reads: true,
     };
     let mut parts = Parts::none();
-    let Some(rest) = object_into::<Parts<'a>>(alloc, deep, &mut parts, bytes, start)? else {
+    let Some(rest) = object_into::<Parts<'a>>(alloc, depth_left, &mut parts, bytes, start)? else {
         return Err(Stop::Fault(GeoFaultKind::WrongKind));
     };
-    match shape_of(alloc, deep - 1, parts, start, counts) {
+    match shape_of(alloc, depth_left - 1, parts, start, counts) {
         Err(stop) => Err(stop),
         Ok(shape) => Ok((shape, rest)),
     }
@@ -428,33 +431,33 @@ fn any_geometry_at<'a>(
 #[cycle(geometries)]
 fn led_geometry_at<'a>(
     alloc: Global,
-    deep: u32,
+    depth_left: u32,
     kind: GeometryType,
-    front: &'a [u8],
+    prefix: &'a [u8],
     bytes: &'a [u8],
     exact: bool,
     counts: &mut Counts,
 ) -> Result<(Option<Shape>, &'a [u8]), Stop<GeoFaultKind>>
-    requires deep { 0 < deep }
-    requires begins { BeginsGeometry kind deep bytes.now front.now }
-    requires leads { LeadsGeometry kind deep bytes.now front.now }
-    ensures { Answers (λ x. x) (shape exact) (front_value deep bytes.now) counts.old counts.new result }
+    requires depth_left { 0 < depth_left }
+    requires begins { BeginsGeometry kind depth_left bytes.now prefix.now }
+    requires leads { LeadsGeometry kind depth_left bytes.now prefix.now }
+    ensures { Answers (λ x. x) (shape exact) (prefix_value depth_left bytes.now) counts.old counts.new result }
 {
-    match part_at(alloc, deep - 1, kind, front, exact, counts) {
+    match part_at(alloc, depth_left - 1, kind, prefix, exact, counts) {
         Err(Stop::Memory) => Err(Stop::Memory),
         Err(Stop::NoValue) => Err(Stop::NoValue),
         Err(Stop::Fault(fault)) => {
-            let found = twice_at(alloc, deep, kind, bytes)?;
+            let found = twice_at(alloc, depth_left, kind, bytes)?;
             match found {
                 None => Err(Stop::Fault(GeoFaultKind::WrongKind)),
                 Some((twice, _)) => Err(Stop::Fault(first_fault(twice, fault))),
             }
         }
         Ok((shape, after)) => {
-            if let Some(rest) = behind_byte(b'}', skip(after)) {
+            if let Some(rest) = after_byte(b'}', skip(after)) {
                 return Ok((shape, rest));
             }
-            let met = twice_at(alloc, deep, kind, bytes)?;
+            let met = twice_at(alloc, depth_left, kind, bytes)?;
             match met {
                 None => Err(Stop::Fault(GeoFaultKind::WrongKind)),
                 Some((twice, rest)) => {
@@ -472,17 +475,19 @@ fn led_geometry_at<'a>(
 #[cycle(geometries)]
 fn part_at<'a>(
     alloc: Global,
-    deep: u32,
+    depth_left: u32,
     kind: GeometryType,
     bytes: &'a [u8],
     exact: bool,
     counts: &mut Counts,
 ) -> Result<(Option<Shape>, &'a [u8]), Stop<GeoFaultKind>>
-    ensures { Answers (λ x. x) (part exact kind) (front_value deep bytes.now) counts.old counts.new result }
+    ensures { Answers (λ x. x) (part exact kind) (prefix_value depth_left bytes.now) counts.old counts.new result }
 {
     match kind {
-        GeometryType::Coordinates(kind) => coordinates_at(alloc, deep, bytes, exact, kind, counts),
-        GeometryType::Collection => match geometries_at(alloc, deep, bytes, exact, counts) {
+        GeometryType::Coordinates(kind) => coordinates_at(
+            alloc, depth_left, bytes, exact, kind, counts,
+        ),
+        GeometryType::Collection => match geometries_at(alloc, depth_left, bytes, exact, counts) {
             Err(stop) => Err(stop),
             Ok((shapes, rest)) => Ok((Some(Shape::Group(shapes)), rest)),
         },
@@ -504,23 +509,23 @@ fn push_some(read: &mut Vec<Shape>, one: Option<Shape>) -> Result<(), AllocFaile
 
 /// The geometries after the bracket of an array, one or more, without those of which nothing is left, and what follows it.
 #[cycle(geometries)]
-fn geometries_behind<'a>(
+fn geometries_after<'a>(
     alloc: Global,
-    deep: u32,
+    depth_left: u32,
     inside: &'a [u8],
     exact: bool,
     counts: &mut Counts,
 ) -> Result<(Vec<Shape>, &'a [u8]), Stop<GeoFaultKind>>
-    ensures { Answers (λ v. v.items) (kept (shape exact)) (front_elements deep (length inside.now) inside.now) counts.old counts.new result }
+    ensures { Answers (λ v. v.items) (kept (shape exact)) (prefix_elements depth_left (length inside.now) inside.now) counts.old counts.new result }
 {
     let mut read = Vec::new(alloc);
     let mut rest = inside;
     'geometries: for _ in 0..inside.len() {
-        match geometry_at(alloc, deep, skip(rest), exact, counts) {
+        match geometry_at(alloc, depth_left, skip(rest), exact, counts) {
             Err(stop) => return Err(stop),
-            Ok((one, behind)) => {
+            Ok((one, following)) => {
                 push_some(&mut read, one)?;
-                let (mark, more) = mark_at(behind);
+                let (mark, more) = mark_at(following);
                 match mark {
                     Mark::Neither => return Err(Stop::NoValue),
                     Mark::Close => return Ok((read, more)),
@@ -537,23 +542,23 @@ fn geometries_behind<'a>(
 #[cycle(geometries)]
 fn geometries_at<'a>(
     alloc: Global,
-    deep: u32,
+    depth_left: u32,
     bytes: &'a [u8],
     exact: bool,
     counts: &mut Counts,
 ) -> Result<(Items<Shape>, &'a [u8]), Stop<GeoFaultKind>>
-    ensures { Answers (λ x. x) (shapes exact) (front_value deep bytes.now) counts.old counts.new result }
+    ensures { Answers (λ x. x) (shapes exact) (prefix_value depth_left bytes.now) counts.old counts.new result }
 {
-    let Some(inside) = behind_byte(b'[', bytes) else {
+    let Some(inside) = after_byte(b'[', bytes) else {
         return Err(Stop::Fault(GeoFaultKind::WrongKind));
     };
-    if deep == 0 {
+    if depth_left == 0 {
         return Err(Stop::NoValue);
     }
-    if let Some(rest) = behind_byte(b']', skip(inside)) {
+    if let Some(rest) = after_byte(b']', skip(inside)) {
         return Ok((Items::of(Vec::new(alloc)), rest));
     }
-    match geometries_behind(alloc, deep - 1, inside, exact, counts) {
+    match geometries_after(alloc, depth_left - 1, inside, exact, counts) {
         Err(stop) => Err(stop),
         Ok((read, rest)) => Ok((Items::of(read), rest)),
     }

@@ -2,7 +2,7 @@
 ghost use Rattle.std.specs.Prelude.{◌≡◌, [], ℕ, Bool, IfOk, length, ◌∷◌, codes};
 ghost use Rattle.geojson_types.specs.declared.counts.Counts.{Counts as Counted};
 ghost use Rattle.geojson_meaning.specs.Members.{named};
-ghost use Rattle.json_cursor.specs.Held.{IsHeld, Meets};
+ghost use Rattle.json_cursor.specs.Held.{IsHeld, FindsValue};
 ghost use Rattle.json_cursor.specs.Members.{Members as Listed};
 ghost use Rattle.geojson_meaning.specs.Layers.{bare_feature, collection_features, features, single_feature};
 ghost use Rattle.geojson_meaning.specs.Reader.{fault_in};
@@ -10,20 +10,19 @@ ghost use Rattle.geojson_meaning.specs.declared.types.GeometryType.{GeometryType
 ghost use Rattle.geojson_model.specs.Features.{IsFields};
 ghost use Rattle.geojson_model.specs.Layers.{IsCollected, IsLayerParts, Types, members_features, numbered};
 ghost use Rattle.geojson_model.specs.Layers as spec;
-ghost use Rattle.geojson_model.specs.Members.{IsParts, IsSeen, Judges};
+ghost use Rattle.geojson_model.specs.Members.{IsParts, IsOccurrence, Judges};
 ghost use Rattle.geojson_model.specs.declared.geometries.Start.{Start as Begun};
 
 use crate::features::{Fields, feature_at, feature_of, is_field};
 use crate::geometries::{Parts, Start, shape_of};
-use crate::seen::Seen;
+use crate::occurrence::Occurrence;
 use geojson_meaning::{GeoFault, GeoFaultKind, GeoJsonType};
 use geojson_types::{Counts, Feature};
 use json_cursor::{Elements, Members, Stop, held_array_at, name_at, object_into};
-use json_reading::{Fault, Why};
+use json_reading::{Fault, Why, after_value};
 use json_value::Items;
 use std::alloc::{AllocFailed, Global};
 use std::marker::Model;
-use text_checking::after_value;
 
 /// The fault of this kind in the feature of this number, or in none.
 pub(crate) fn fault_within(feature: Option<usize>, kind: GeoFaultKind) -> GeoFault
@@ -79,13 +78,13 @@ impl Elements for FeatureList {
     fn element<'a>(
         &mut self,
         alloc: Global,
-        deep: u32,
+        depth_left: u32,
         bytes: &'a [u8],
         with: bool,
         counts: &mut Counts,
     ) -> Result<&'a [u8], Stop<GeoFault>> {
         let number = count_of(&self.list);
-        match feature_at(alloc, deep, bytes, with, counts) {
+        match feature_at(alloc, depth_left, bytes, with, counts) {
             Err(stop) => Err(within(Some(number), stop)),
             Ok((feature, rest)) => {
                 self.list.push(feature)?;
@@ -116,17 +115,17 @@ pub struct Collected {
 pub struct LayerParts<'a> {
     bare: Parts<'a>,
     fields: Fields,
-    features: Seen<Collected>,
+    features: Occurrence<Collected>,
 }
 
 /// The features of the array at the front, or their first fault, and what follows it.
 fn features_at<'a>(
     alloc: Global,
-    deep: u32,
+    depth_left: u32,
     bytes: &'a [u8],
     start: Start,
 ) -> Result<(Collected, &'a [u8]), Fault>
-    ensures { Meets (IsCollected start) deep bytes.now result }
+    ensures { FindsValue (IsCollected start) depth_left bytes.now result }
 {
     let mut counts = start.counts;
     let none = FeatureList {
@@ -135,7 +134,7 @@ fn features_at<'a>(
     let wrong = fault_within(None, GeoFaultKind::WrongKind);
     let (held, rest) = held_array_at::<FeatureList>(
         alloc,
-        deep,
+        depth_left,
         none,
         bytes,
         wrong,
@@ -157,12 +156,12 @@ fn features_at<'a>(
 impl<'a> LayerParts<'a> {
     /// Of no members.
     fn none() -> LayerParts<'a>
-        ensures { (start : Begun) (deep : ℕ) → IsLayerParts start deep [] result }
+        ensures { (start : Begun) (depth_left : ℕ) → IsLayerParts start depth_left [] result }
     {
         LayerParts {
             bare: Parts::none(),
             fields: Fields::none(),
-            features: Seen::Never,
+            features: Occurrence::Never,
         }
     }
 }
@@ -175,46 +174,48 @@ impl<'a> Members<'a> for LayerParts<'a> {
     fn member(
         &mut self,
         alloc: Global,
-        deep: u32,
+        depth_left: u32,
         bytes: &'a [u8],
         with: Start,
     ) -> Result<&'a [u8], Fault> {
         let (name, value) = name_at(alloc, bytes)?;
         if name.is("features") {
-            let (features, rest) = features_at(alloc, deep, value, with)?;
+            let (features, rest) = features_at(alloc, depth_left, value, with)?;
             self.features.see(features);
             return Ok(rest);
         }
         if is_field(&name) {
-            return self.fields.see(alloc, deep, &name, value, with);
+            return self.fields.see(alloc, depth_left, &name, value, with);
         }
-        self.bare.see(alloc, deep, &name, value, with)
+        self.bare.see(alloc, depth_left, &name, value, with)
     }
 }
 
 /// The type that was seen so, which must be there once.
-fn type_of(seen: &Seen<Result<GeoJsonType, GeoFaultKind>>) -> Result<GeoJsonType, GeoFaultKind>
-    ensures { result ≡ spec.type_of seen.now }
+fn type_of(
+    occurrence: &Occurrence<Result<GeoJsonType, GeoFaultKind>>,
+) -> Result<GeoJsonType, GeoFaultKind>
+    ensures { result ≡ spec.type_of occurrence.now }
 {
-    match seen {
-        Seen::Never => Err(GeoFaultKind::Missing),
-        Seen::Again => Err(GeoFaultKind::Duplicate),
-        Seen::Once(Err(fault)) => Err(*fault),
-        Seen::Once(Ok(kind)) => Ok(*kind),
+    match occurrence {
+        Occurrence::Never => Err(GeoFaultKind::Missing),
+        Occurrence::Again => Err(GeoFaultKind::Duplicate),
+        Occurrence::Once(Err(fault)) => Err(*fault),
+        Occurrence::Once(Ok(kind)) => Ok(*kind),
     }
 }
 
 /// The features of a FeatureCollection, whose member `features` was seen so.
 fn collection_of(
-    seen: Seen<Collected>,
+    occurrence: Occurrence<Collected>,
     counts: &mut Counts,
 ) -> Result<Items<Feature>, Stop<GeoFault>>
-    ensures { (start : Begun) (ms : Listed) → IsSeen (IsCollected start) (named (codes "features") ms) seen → Judges (collection_features start.exact ms) start.counts counts.new result }
+    ensures { (start : Begun) (ms : Listed) → IsOccurrence (IsCollected start) (named (codes "features") ms) occurrence → Judges (collection_features start.exact ms) start.counts counts.new result }
 {
-    match seen {
-        Seen::Never => Err(Stop::Fault(fault_within(None, GeoFaultKind::Missing))),
-        Seen::Again => Err(Stop::Fault(fault_within(None, GeoFaultKind::Duplicate))),
-        Seen::Once(collected) => {
+    match occurrence {
+        Occurrence::Never => Err(Stop::Fault(fault_within(None, GeoFaultKind::Missing))),
+        Occurrence::Again => Err(Stop::Fault(fault_within(None, GeoFaultKind::Duplicate))),
+        Occurrence::Once(collected) => {
             let Collected {
                 features,
                 counts: counted,
@@ -256,15 +257,15 @@ fn single_of(
 /// The one feature of a bare geometry with these members.
 fn bare_of(
     alloc: Global,
-    deep: u32,
+    depth_left: u32,
     bare: Parts<'_>,
     start: Start,
     counts: &mut Counts,
 ) -> Result<Items<Feature>, Stop<GeoFault>>
-    requires { (ms : Listed) × IsParts start deep ms bare }
-    ensures { (kind : Geometries) (ms : Listed) → IsParts start deep ms bare.entry → Types kind ms → Judges (bare_feature start.exact kind ms) start.counts counts.new result }
+    requires { (ms : Listed) × IsParts start depth_left ms bare }
+    ensures { (kind : Geometries) (ms : Listed) → IsParts start depth_left ms bare.entry → Types kind ms → Judges (bare_feature start.exact kind ms) start.counts counts.new result }
 {
-    match shape_of(alloc, deep, bare, start, counts) {
+    match shape_of(alloc, depth_left, bare, start, counts) {
         Err(stop) => Err(within(Some(0), stop)),
         Ok(shape) => Ok(one(alloc, Feature::of(None, None, shape))?),
     }
@@ -273,13 +274,13 @@ fn bare_of(
 /// The features of an object with these members.
 fn features_of(
     alloc: Global,
-    deep: u32,
+    depth_left: u32,
     parts: LayerParts<'_>,
     start: Start,
     counts: &mut Counts,
 ) -> Result<Items<Feature>, Stop<GeoFault>>
-    requires { (ms : Listed) × IsLayerParts start deep ms parts }
-    ensures { (ms : Listed) → IsLayerParts start deep ms parts.entry → Judges (members_features start.exact ms) start.counts counts.new result }
+    requires { (ms : Listed) × IsLayerParts start depth_left ms parts }
+    ensures { (ms : Listed) → IsLayerParts start depth_left ms parts.entry → Judges (members_features start.exact ms) start.counts counts.new result }
 {
     let LayerParts {
         bare,
@@ -291,7 +292,7 @@ fn features_of(
         Ok(kind) => match kind {
             GeoJsonType::FeatureCollection => collection_of(features, counts),
             GeoJsonType::Feature => single_of(alloc, fields, start, counts),
-            GeoJsonType::Geometry(_) => bare_of(alloc, deep, bare, start, counts),
+            GeoJsonType::Geometry(_) => bare_of(alloc, depth_left, bare, start, counts),
         },
     }
 }
@@ -300,12 +301,12 @@ fn features_of(
 /// the one feature of their layer. Members may stand in any order.
 pub fn layer_at<'a>(
     alloc: Global,
-    deep: u32,
+    depth_left: u32,
     bytes: &'a [u8],
     exact: bool,
     counts: &mut Counts,
 ) -> Result<(Result<Items<Feature>, GeoFault>, &'a [u8]), Fault>
-    ensures { Meets (IsHeld (features exact) counts.old counts.new) deep bytes.now result }
+    ensures { FindsValue (IsHeld (features exact) counts.old counts.new) depth_left bytes.now result }
 {
     let start = Start {
         exact,
@@ -313,11 +314,12 @@ pub fn layer_at<'a>(
         reads: true,
     };
     let mut parts = LayerParts::none();
-    let Some(rest) = object_into::<LayerParts<'a>>(alloc, deep, &mut parts, bytes, start)? else {
-        let rest = after_value(alloc, deep, bytes)?;
+    let Some(rest) = object_into::<LayerParts<'a>>(alloc, depth_left, &mut parts, bytes, start)?
+    else {
+        let rest = after_value(alloc, depth_left, bytes)?;
         return Ok((Err(fault_within(None, GeoFaultKind::NotObject)), rest));
     };
-    match features_of(alloc, deep - 1, parts, start, counts) {
+    match features_of(alloc, depth_left - 1, parts, start, counts) {
         Ok(features) => Ok((Ok(features), rest)),
         Err(Stop::Fault(fault)) => Ok((Err(fault), rest)),
         Err(Stop::NoValue) => unreachable!(),

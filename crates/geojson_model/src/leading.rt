@@ -1,8 +1,8 @@
 // Geometries whose type and the member that they are made of stand first, as most programs write them.
 ghost use Rattle.std.specs.Prelude.{◌≡◌, ◌<◌, IfErr, IfOk, IfSome, true};
 ghost use Rattle.json_reading.specs.Gives.{Fails};
-ghost use Rattle.json_cursor.specs.Arrays.{front_value};
-ghost use Rattle.text_checking.specs.Strings.{simple};
+ghost use Rattle.json_cursor.specs.Arrays.{prefix_value};
+ghost use Rattle.json_reading.specs.Strings.{simple};
 ghost use Rattle.geojson_model.specs.Members.{BeginsGeometry, LeadsGeometry, Repeats, part_name};
 ghost use Rattle.geojson_model.specs.Members as spec;
 
@@ -10,7 +10,7 @@ use crate::geometries::{Parts, Start};
 use crate::type_names::type_name_at;
 use geojson_meaning::{GeoFaultKind, GeometryType, geometry_type};
 use geojson_types::Counts;
-use json_cursor::{behind_byte, named_at, object_into};
+use json_cursor::{after_byte, named_at, object_into};
 use json_reading::{Fault, skip};
 use std::alloc::Global;
 
@@ -28,21 +28,21 @@ fn part_word(kind: GeometryType) -> &'static str
 /// The type of the geometry at the front, and where the value of the member begins that it is made of, where these two stand first in it.
 pub(crate) fn led_at<'a>(
     alloc: Global,
-    deep: u32,
+    depth_left: u32,
     bytes: &'a [u8],
 ) -> Result<Option<(GeometryType, &'a [u8])>, Fault>
-    ensures begins { IfOk result (λ o. IfSome o (λ x. BeginsGeometry x.0 deep bytes.now x.1.now)) }
-    ensures leads { IfOk result (λ o. IfSome o (λ x. LeadsGeometry x.0 deep bytes.now x.1.now)) }
-    ensures deep { IfOk result (λ o. IfSome o (λ _. 0 < deep)) }
-    ensures fails { IfErr result (λ fault. Fails fault (front_value deep bytes.now)) }
+    ensures begins { IfOk result (λ o. IfSome o (λ x. BeginsGeometry x.0 depth_left bytes.now x.1.now)) }
+    ensures leads { IfOk result (λ o. IfSome o (λ x. LeadsGeometry x.0 depth_left bytes.now x.1.now)) }
+    ensures depth_left { IfOk result (λ o. IfSome o (λ _. 0 < depth_left)) }
+    ensures fails { IfErr result (λ fault. Fails fault (prefix_value depth_left bytes.now)) }
 {
-    let Some(inside) = behind_byte(b'{', bytes) else {
+    let Some(inside) = after_byte(b'{', bytes) else {
         return Ok(None);
     };
-    if deep == 0 || inside.len() < 2 {
+    if depth_left == 0 || inside.len() < 2 {
         return Ok(None);
     }
-    if let Some(_) = behind_byte(b'}', skip(inside)) {
+    if let Some(_) = after_byte(b'}', skip(inside)) {
         return Ok(None);
     }
     let Some((_type, value)) = named_at("type", skip(inside)) else {
@@ -54,24 +54,24 @@ pub(crate) fn led_at<'a>(
     let Some(kind) = geometry_type(name.as_str()) else {
         return Ok(None);
     };
-    let Some(more) = behind_byte(b',', skip(rest)) else {
+    let Some(more) = after_byte(b',', skip(rest)) else {
         return Ok(None);
     };
-    let Some((_part, front)) = named_at(part_word(kind), skip(more)) else {
+    let Some((_part, prefix)) = named_at(part_word(kind), skip(more)) else {
         return Ok(None);
     };
-    Ok(Some((kind, front)))
+    Ok(Some((kind, prefix)))
 }
 
 /// Whether in the object at the front the type stands twice, or the member that a geometry of this type is made of, and what follows it; none
 /// of what is no object. Its members are passed over.
 pub(crate) fn twice_at<'a>(
     alloc: Global,
-    deep: u32,
+    depth_left: u32,
     kind: GeometryType,
     bytes: &'a [u8],
 ) -> Result<Option<(bool, &'a [u8])>, Fault>
-    ensures { Repeats kind deep bytes.now result }
+    ensures { Repeats kind depth_left bytes.now result }
 {
     let start = Start {
         exact: false,
@@ -79,7 +79,7 @@ pub(crate) fn twice_at<'a>(
         reads: false,
     };
     let mut parts = Parts::none();
-    let Some(rest) = object_into::<Parts<'a>>(alloc, deep, &mut parts, bytes, start)? else {
+    let Some(rest) = object_into::<Parts<'a>>(alloc, depth_left, &mut parts, bytes, start)? else {
         return Ok(None);
     };
     Ok(Some((parts.stand_twice(kind), rest)))

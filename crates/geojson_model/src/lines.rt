@@ -3,7 +3,7 @@ ghost use Rattle.std.specs.Prelude.{◌≡◌};
 ghost use Rattle.geojson_meaning.specs.Lines.{line};
 ghost use Rattle.geojson_meaning.specs.Polygons.{polygon, ring};
 ghost use Rattle.json_cursor.specs.Answers.{Answers};
-ghost use Rattle.json_cursor.specs.Arrays.{front_value};
+ghost use Rattle.json_cursor.specs.Arrays.{prefix_value};
 ghost use Rattle.json_cursor.specs.Folds.{some_one};
 
 use crate::positions::Positions;
@@ -16,15 +16,15 @@ use std::alloc::Global;
 /// The line at the front (RFC 7946, section 3.1.4), if its array isn't empty, and what follows it; or why reading stops.
 pub(crate) fn line_at<'a>(
     alloc: Global,
-    deep: u32,
+    depth_left: u32,
     bytes: &'a [u8],
     exact: bool,
     counts: &mut Counts,
 ) -> Result<(Option<Items<Position>>, &'a [u8]), Stop<GeoFaultKind>>
-    ensures { Answers (λ x. x) (line exact) (front_value deep bytes.now) counts.old counts.new result }
+    ensures { Answers (λ x. x) (line exact) (prefix_value depth_left bytes.now) counts.old counts.new result }
 {
     let wrong = GeoFaultKind::WrongKind;
-    match some_array_at::<Positions>(alloc, deep, bytes, wrong, Positions { exact }, counts) {
+    match some_array_at::<Positions>(alloc, depth_left, bytes, wrong, Positions { exact }, counts) {
         Err(stop) => Err(stop),
         Ok((read, rest)) => {
             let Some(positions) = read else {
@@ -42,15 +42,15 @@ pub(crate) fn line_at<'a>(
 #[tactic(auto, unfolding(geometry::specs::Rings::is_ring))]
 pub(crate) fn ring_at<'a>(
     alloc: Global,
-    deep: u32,
+    depth_left: u32,
     bytes: &'a [u8],
     exact: bool,
     counts: &mut Counts,
 ) -> Result<(Option<Ring>, &'a [u8]), Stop<GeoFaultKind>>
-    ensures { Answers (λ x. x) (ring exact) (front_value deep bytes.now) counts.old counts.new result }
+    ensures { Answers (λ x. x) (ring exact) (prefix_value depth_left bytes.now) counts.old counts.new result }
 {
     let wrong = GeoFaultKind::WrongKind;
-    match some_array_at::<Positions>(alloc, deep, bytes, wrong, Positions { exact }, counts) {
+    match some_array_at::<Positions>(alloc, depth_left, bytes, wrong, Positions { exact }, counts) {
         Err(stop) => Err(stop),
         Ok((read, rest)) => {
             let Some(items) = read else {
@@ -84,11 +84,11 @@ impl Element for Lines {
     fn read<'a>(
         self,
         alloc: Global,
-        deep: u32,
+        depth_left: u32,
         bytes: &'a [u8],
         counts: &mut Counts,
     ) -> Result<(Option<Items<Position>>, &'a [u8]), Stop<GeoFaultKind>> {
-        match line_at(alloc, deep, bytes, self.exact, counts) {
+        match line_at(alloc, depth_left, bytes, self.exact, counts) {
             Ok((line, rest)) => Ok((line, rest)),
             Err(stop) => Err(stop),
         }
@@ -111,11 +111,11 @@ impl Element for Rings {
     fn read<'a>(
         self,
         alloc: Global,
-        deep: u32,
+        depth_left: u32,
         bytes: &'a [u8],
         counts: &mut Counts,
     ) -> Result<(Option<Ring>, &'a [u8]), Stop<GeoFaultKind>> {
-        match ring_at(alloc, deep, bytes, self.exact, counts) {
+        match ring_at(alloc, depth_left, bytes, self.exact, counts) {
             Ok((ring, rest)) => Ok((ring, rest)),
             Err(stop) => Err(stop),
         }
@@ -126,15 +126,15 @@ impl Element for Rings {
 /// follows it; or why reading stops.
 pub(crate) fn polygon_at<'a>(
     alloc: Global,
-    deep: u32,
+    depth_left: u32,
     bytes: &'a [u8],
     exact: bool,
     counts: &mut Counts,
 ) -> Result<(Option<Items<Ring>>, &'a [u8]), Stop<GeoFaultKind>>
-    ensures { Answers (λ x. x) (polygon exact) (front_value deep bytes.now) counts.old counts.new result }
+    ensures { Answers (λ x. x) (polygon exact) (prefix_value depth_left bytes.now) counts.old counts.new result }
 {
     let wrong = GeoFaultKind::WrongKind;
-    led_array_at::<Rings>(alloc, deep, bytes, wrong, Rings { exact }, counts)
+    led_array_at::<Rings>(alloc, depth_left, bytes, wrong, Rings { exact }, counts)
 }
 
 /// How the polygons of an array are read.
@@ -153,11 +153,11 @@ impl Element for Polygons {
     fn read<'a>(
         self,
         alloc: Global,
-        deep: u32,
+        depth_left: u32,
         bytes: &'a [u8],
         counts: &mut Counts,
     ) -> Result<(Option<Items<Ring>>, &'a [u8]), Stop<GeoFaultKind>> {
-        match polygon_at(alloc, deep, bytes, self.exact, counts) {
+        match polygon_at(alloc, depth_left, bytes, self.exact, counts) {
             Ok((rings, rest)) => Ok((rings, rest)),
             Err(stop) => Err(stop),
         }

@@ -2,7 +2,7 @@
 ghost use Rattle.std.specs.Prelude.{◌≡◌, ◌≤◌, IfSome, unsigned_abs, length};
 ghost use Rattle.geojson_meaning.specs.Coordinates as spec;
 ghost use Rattle.json_cursor.specs.Answers.{Answers};
-ghost use Rattle.json_cursor.specs.Arrays.{front_elements, front_value};
+ghost use Rattle.json_cursor.specs.Arrays.{prefix_elements, prefix_value};
 ghost use Rattle.geometry.specs.Units.{input_limit};
 ghost use Rattle.json_cursor.specs.Folds.{one};
 ghost use Rattle.geojson_model.specs.Positions.{ArePair, ArePlainPair, second_position};
@@ -10,17 +10,16 @@ ghost use Rattle.geojson_model.specs.Positions.{ArePair, ArePlainPair, second_po
 use crate::coordinates::{coordinate_at, is_refused};
 use geojson_meaning::GeoFaultKind;
 use geojson_types::{Counts, Position};
-use json_cursor::{Element, Mark, Opening, Stop, after_elements, behind_byte, mark_at, opening_at};
-use json_reading::skip;
+use json_cursor::{Element, Mark, Opening, Stop, after_byte, after_elements, mark_at, opening_at};
+use json_reading::{after_value, skip};
 use std::alloc::Global;
-use text_checking::after_value;
 use unit_scanning::{Units, long_units_at, plain_units_at};
 
 /// The position whose second coordinate and further elements stand after the comma, and what follows its bracket.
 #[inline(always)]
 fn second_at<'a>(
     alloc: Global,
-    deep: u32,
+    depth_left: u32,
     turns: usize,
     x: i64,
     bytes: &'a [u8],
@@ -28,12 +27,12 @@ fn second_at<'a>(
     counts: &mut Counts,
 ) -> Result<(Position, &'a [u8]), Stop<GeoFaultKind>>
     requires { unsigned_abs x ≤ input_limit }
-    ensures { Answers (λ p. p) (second_position exact x) (front_elements deep turns bytes.now) counts.old counts.new result }
+    ensures { Answers (λ p. p) (second_position exact x) (prefix_elements depth_left turns bytes.now) counts.old counts.new result }
 {
     if turns == 0 {
         return Err(Stop::NoValue);
     }
-    match coordinate_at(alloc, deep, skip(bytes), exact, counts) {
+    match coordinate_at(alloc, depth_left, skip(bytes), exact, counts) {
         Err(stop) => Err(stop),
         Ok((y, after)) => {
             let (mark, more) = mark_at(after);
@@ -41,7 +40,7 @@ fn second_at<'a>(
                 Mark::Neither => Err(Stop::NoValue),
                 Mark::Close => Ok((Position::at(x, y), more)),
                 Mark::Comma => {
-                    let end = after_elements(alloc, deep, turns - 1, more)?;
+                    let end = after_elements(alloc, depth_left, turns - 1, more)?;
                     counts.count_extra(true);
                     Ok((Position::at(x, y), end))
                 }
@@ -56,24 +55,24 @@ fn second_at<'a>(
 #[inline(never)]
 fn any_numbers_at<'a>(
     alloc: Global,
-    deep: u32,
+    depth_left: u32,
     turns: usize,
     inside: &'a [u8],
     exact: bool,
     counts: &mut Counts,
 ) -> Result<(Position, &'a [u8]), Stop<GeoFaultKind>>
-    ensures { Answers (λ p. p) (spec.elements_position exact) (front_elements deep turns inside.now) counts.old counts.new result }
+    ensures { Answers (λ p. p) (spec.elements_position exact) (prefix_elements depth_left turns inside.now) counts.old counts.new result }
 {
     if turns == 0 {
         return Err(Stop::NoValue);
     }
     let first = skip(inside);
-    match coordinate_at(alloc, deep, first, exact, counts) {
+    match coordinate_at(alloc, depth_left, first, exact, counts) {
         Err(Stop::NoValue) => Err(Stop::NoValue),
         Err(Stop::Memory) => Err(Stop::Memory),
         Err(Stop::Fault(kind)) => {
-            let behind = after_value(alloc, deep, first)?;
-            let (mark, _) = mark_at(behind);
+            let following = after_value(alloc, depth_left, first)?;
+            let (mark, _) = mark_at(following);
             match mark {
                 Mark::Neither => Err(Stop::NoValue),
                 Mark::Close => Err(Stop::Fault(GeoFaultKind::ShortPosition)),
@@ -85,7 +84,7 @@ fn any_numbers_at<'a>(
             match next {
                 Mark::Neither => Err(Stop::NoValue),
                 Mark::Close => Err(Stop::Fault(GeoFaultKind::ShortPosition)),
-                Mark::Comma => second_at(alloc, deep, turns - 1, x, more, exact, counts),
+                Mark::Comma => second_at(alloc, depth_left, turns - 1, x, more, exact, counts),
             }
         }
     }
@@ -112,22 +111,22 @@ fn pair_at(bytes: &[u8]) -> Option<(Units, Units, &[u8])>
 #[inline(never)]
 fn two_numbers_at<'a>(
     alloc: Global,
-    deep: u32,
+    depth_left: u32,
     turns: usize,
     inside: &'a [u8],
     exact: bool,
     counts: &mut Counts,
 ) -> Result<(Position, &'a [u8]), Stop<GeoFaultKind>>
-    ensures { Answers (λ p. p) (spec.elements_position exact) (front_elements deep turns inside.now) counts.old counts.new result }
+    ensures { Answers (λ p. p) (spec.elements_position exact) (prefix_elements depth_left turns inside.now) counts.old counts.new result }
 {
     if turns < 2 {
-        return any_numbers_at(alloc, deep, turns, inside, exact, counts);
+        return any_numbers_at(alloc, depth_left, turns, inside, exact, counts);
     }
     let Some((x, y, after)) = pair_at(inside) else {
-        return any_numbers_at(alloc, deep, turns, inside, exact, counts);
+        return any_numbers_at(alloc, depth_left, turns, inside, exact, counts);
     };
     if is_refused(exact, x.exact) || is_refused(exact, y.exact) {
-        return any_numbers_at(alloc, deep, turns, inside, exact, counts);
+        return any_numbers_at(alloc, depth_left, turns, inside, exact, counts);
     }
     let (mark, more) = mark_at(after);
     match mark {
@@ -138,7 +137,7 @@ fn two_numbers_at<'a>(
             Ok((Position::at(x.value, y.value), more))
         }
         Mark::Comma => {
-            let end = after_elements(alloc, deep, turns - 2, more)?;
+            let end = after_elements(alloc, depth_left, turns - 2, more)?;
             counts.count_rounded(!x.exact);
             counts.count_rounded(!y.exact);
             counts.count_extra(true);
@@ -156,13 +155,13 @@ fn plain_pair_at(bytes: &[u8]) -> Option<(i64, i64, bool, &[u8])>
     ensures second { IfSome result (λ p. unsigned_abs p.1 ≤ input_limit) }
 {
     let (x, after) = plain_units_at(skip(bytes))?;
-    let more = behind_byte(b',', after)?;
-    let (y, behind) = plain_units_at(skip(more))?;
-    let mark = skip(behind);
-    if let Some(rest) = behind_byte(b']', mark) {
+    let more = after_byte(b',', after)?;
+    let (y, following) = plain_units_at(skip(more))?;
+    let mark = skip(following);
+    if let Some(rest) = after_byte(b']', mark) {
         return Some((x, y, false, rest));
     }
-    let rest = behind_byte(b',', mark)?;
+    let rest = after_byte(b',', mark)?;
     Some((x, y, true, rest))
 }
 
@@ -170,22 +169,22 @@ fn plain_pair_at(bytes: &[u8]) -> Option<(i64, i64, bool, &[u8])>
 #[inline(always)]
 pub(crate) fn numbers_at<'a>(
     alloc: Global,
-    deep: u32,
+    depth_left: u32,
     turns: usize,
     inside: &'a [u8],
     exact: bool,
     counts: &mut Counts,
 ) -> Result<(Position, &'a [u8]), Stop<GeoFaultKind>>
-    ensures { Answers (λ p. p) (spec.elements_position exact) (front_elements deep turns inside.now) counts.old counts.new result }
+    ensures { Answers (λ p. p) (spec.elements_position exact) (prefix_elements depth_left turns inside.now) counts.old counts.new result }
 {
     if turns < 2 {
-        return two_numbers_at(alloc, deep, turns, inside, exact, counts);
+        return two_numbers_at(alloc, depth_left, turns, inside, exact, counts);
     }
     let Some((x, y, goes_on, rest)) = plain_pair_at(inside) else {
-        return two_numbers_at(alloc, deep, turns, inside, exact, counts);
+        return two_numbers_at(alloc, depth_left, turns, inside, exact, counts);
     };
     if goes_on {
-        let end = after_elements(alloc, deep, turns - 2, rest)?;
+        let end = after_elements(alloc, depth_left, turns - 2, rest)?;
         counts.count_extra(true);
         return Ok((Position::at(x, y), end));
     }
@@ -196,14 +195,14 @@ pub(crate) fn numbers_at<'a>(
 #[inline(always)]
 pub(crate) fn position_at<'a>(
     alloc: Global,
-    deep: u32,
+    depth_left: u32,
     bytes: &'a [u8],
     exact: bool,
     counts: &mut Counts,
 ) -> Result<(Position, &'a [u8]), Stop<GeoFaultKind>>
-    ensures { Answers (λ p. p) (spec.position exact) (front_value deep bytes.now) counts.old counts.new result }
+    ensures { Answers (λ p. p) (spec.position exact) (prefix_value depth_left bytes.now) counts.old counts.new result }
 {
-    let (opening, inside) = opening_at(deep, bytes);
+    let (opening, inside) = opening_at(depth_left, bytes);
     match opening {
         Opening::NoArray => Err(Stop::Fault(GeoFaultKind::WrongKind)),
         Opening::TooDeep => Err(Stop::NoValue),
@@ -229,11 +228,11 @@ impl Element for Positions {
     fn read<'a>(
         self,
         alloc: Global,
-        deep: u32,
+        depth_left: u32,
         bytes: &'a [u8],
         counts: &mut Counts,
     ) -> Result<(Option<Position>, &'a [u8]), Stop<GeoFaultKind>> {
-        match position_at(alloc, deep, bytes, self.exact, counts) {
+        match position_at(alloc, depth_left, bytes, self.exact, counts) {
             Ok((position, rest)) => Ok((Some(position), rest)),
             Err(stop) => Err(stop),
         }

@@ -5,7 +5,7 @@ ghost use Rattle.geometry.specs.declared.shape.Geometry.TheVariants as g;
 ghost use Rattle.geojson_meaning.specs.Geometries.{coordinates_shape};
 ghost use Rattle.geojson_meaning.specs.declared.types.CoordinatesType.TheVariants as type;
 ghost use Rattle.json_cursor.specs.Answers.{Answers};
-ghost use Rattle.json_cursor.specs.Arrays.{front_value};
+ghost use Rattle.json_cursor.specs.Arrays.{prefix_value};
 
 use crate::lines::{Lines, Polygons, line_at, polygon_at};
 use crate::positions::{Positions, numbers_at};
@@ -83,14 +83,14 @@ fn areas_of(read: Option<Items<Items<Ring>>>) -> Option<Shape>
 /// The Point whose coordinates stand at the front, if their array isn't empty, and what follows them; or why reading stops.
 fn point_at<'a>(
     alloc: Global,
-    deep: u32,
+    depth_left: u32,
     bytes: &'a [u8],
     exact: bool,
     counts: &mut Counts,
 ) -> Result<(Option<Shape>, &'a [u8]), Stop<GeoFaultKind>>
-    ensures { Answers (λ x. x) (coordinates_shape exact type.Point) (front_value deep bytes.now) counts.old counts.new result }
+    ensures { Answers (λ x. x) (coordinates_shape exact type.Point) (prefix_value depth_left bytes.now) counts.old counts.new result }
 {
-    let (opening, inside) = opening_at(deep, bytes);
+    let (opening, inside) = opening_at(depth_left, bytes);
     match opening {
         Opening::NoArray => Err(Stop::Fault(GeoFaultKind::WrongKind)),
         Opening::TooDeep => Err(Stop::NoValue),
@@ -110,41 +110,41 @@ fn point_at<'a>(
 /// The shape that the coordinates at the front are by this type, if something is left of it, and what follows them; or why reading stops.
 pub fn coordinates_at<'a>(
     alloc: Global,
-    deep: u32,
+    depth_left: u32,
     bytes: &'a [u8],
     exact: bool,
     kind: CoordinatesType,
     counts: &mut Counts,
 ) -> Result<(Option<Shape>, &'a [u8]), Stop<GeoFaultKind>>
-    ensures { Answers (λ x. x) (coordinates_shape exact kind) (front_value deep bytes.now) counts.old counts.new result }
+    ensures { Answers (λ x. x) (coordinates_shape exact kind) (prefix_value depth_left bytes.now) counts.old counts.new result }
 {
     let wrong = GeoFaultKind::WrongKind;
     match kind {
-        CoordinatesType::Point => point_at(alloc, deep, bytes, exact, counts),
+        CoordinatesType::Point => point_at(alloc, depth_left, bytes, exact, counts),
         CoordinatesType::MultiPoint => {
             let by = Positions { exact };
-            match some_array_at::<Positions>(alloc, deep, bytes, wrong, by, counts) {
+            match some_array_at::<Positions>(alloc, depth_left, bytes, wrong, by, counts) {
                 Err(stop) => Err(stop),
                 Ok((read, rest)) => Ok((points_of(left(read)), rest)),
             }
         }
-        CoordinatesType::LineString => match line_at(alloc, deep, bytes, exact, counts) {
+        CoordinatesType::LineString => match line_at(alloc, depth_left, bytes, exact, counts) {
             Err(stop) => Err(stop),
             Ok((read, rest)) => Ok((line_of(read), rest)),
         },
         CoordinatesType::MultiLineString => {
-            match some_array_at::<Lines>(alloc, deep, bytes, wrong, Lines { exact }, counts) {
+            match some_array_at::<Lines>(alloc, depth_left, bytes, wrong, Lines { exact }, counts) {
                 Err(stop) => Err(stop),
                 Ok((read, rest)) => Ok((lines_of(left(read)), rest)),
             }
         }
-        CoordinatesType::Polygon => match polygon_at(alloc, deep, bytes, exact, counts) {
+        CoordinatesType::Polygon => match polygon_at(alloc, depth_left, bytes, exact, counts) {
             Err(stop) => Err(stop),
             Ok((read, rest)) => Ok((area_of(read), rest)),
         },
         CoordinatesType::MultiPolygon => {
             let by = Polygons { exact };
-            match some_array_at::<Polygons>(alloc, deep, bytes, wrong, by, counts) {
+            match some_array_at::<Polygons>(alloc, depth_left, bytes, wrong, by, counts) {
                 Err(stop) => Err(stop),
                 Ok((read, rest)) => Ok((areas_of(left(read)), rest)),
             }

@@ -27,11 +27,11 @@ impl Whole for LayerText {
     fn read<'a>(
         self,
         alloc: Global,
-        deep: u32,
+        depth_left: u32,
         bytes: &'a [u8],
         counts: &mut Counts,
     ) -> Result<(Result<Items<Feature>, GeoFault>, &'a [u8]), Fault> {
-        layer_at(alloc, deep, bytes, self.exact, counts)
+        layer_at(alloc, depth_left, bytes, self.exact, counts)
     }
 }
 

@@ -1,7 +1,7 @@
 -- The code of a feature as contracts see it, by which a proof keeps two of them apart.
 use Rattle.std.specs.Prelude.{Option, refl}
 use Rattle.std.specs.Coded.{Coded, code_by, coded×, coded_option}
-use Rattle.feature_properties.specs.Members.{Members, members_code}
+use Rattle.json_value.specs.PropertyMembers.{Members, members_code}
 use Rattle.owned_values.specs.contracts.items.Items as items
 use Rattle.geojson_types.specs.declared.id.Id.{Id}
 use Rattle.geojson_types.specs.contracts.id.Id as id

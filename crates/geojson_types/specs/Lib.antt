@@ -8,7 +8,7 @@ pub mod Places
 pub mod Texts
 pub use Rattle.geometry.specs.Areas
 pub use Rattle.geometry.specs.Lists
-pub use Rattle.geometry.specs.Omissions
+pub use Rattle.geometry.specs.DropCauses
 pub use Rattle.geometry.specs.Order
 pub use Rattle.geometry.specs.Paths
 pub use Rattle.geometry.specs.Points

@@ -1,6 +1,6 @@
 -- The positions of features, in reading order.
 use Rattle.std.specs.Prelude.{List, map}
-use Rattle.list_laws.specs.Lists.{joined}
+use Rattle.owned_values.specs.Lists.{joined}
 use Rattle.geometry.specs.Points.{Point}
 pub use Rattle.geometry.specs.Places.{points_step, option_points}
 unfoldable pub use Rattle.geometry.specs.Places.{shape_points}

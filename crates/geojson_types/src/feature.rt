@@ -4,8 +4,8 @@ ghost use Rattle.geojson_types.specs.Features.{is_proper_option};
 ghost use Rattle.geojson_types.specs.Moving.{moved_feature};
 
 use crate::id::Id;
-use feature_properties::Properties;
 use geometry::{Moves, Shape, move_shape};
+use json_value::Properties;
 use std::marker::Model;
 
 /// A feature (RFC 7946, section 3.2). No list of its shape is empty but that of a Group, and a line of it has

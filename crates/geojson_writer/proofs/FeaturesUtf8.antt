@@ -17,7 +17,7 @@ use Rattle.geojson_types.specs.declared.layer.FeatureSet.TheVariants.{One, Many}
 use Rattle.geojson_types.specs.Features.{Shape, Featured}
 use Rattle.geojson_types.specs.Numbers.{IdHasNumbers, PropertiesHaveNumbers, FeatureHasNumbers}
 use Rattle.geojson_types.specs.Texts.{IdHasTexts, PropertiesHaveTexts, FeatureHasTexts}
-use Rattle.list_laws.proofs.Elements.{all_append, all_two}
+use Rattle.owned_values.proofs.Elements.{all_append, all_two}
 use Rattle.geojson_writer.specs.FeatureValues.{Member, coordinate_value, position_value, positions_value, lines_value, polygons_value, type_member, with_coordinates, shape_value, geometry_value, properties_value, id_members, feature_value, features_value}
 use Rattle.geojson_writer.specs.Numbered.{features_of}
 use Rattle.geojson_writer.proofs.ShapeParts.{shape_value_at}

@@ -22,7 +22,7 @@ use Rattle.geojson_writer.specs.FeatureValues.{coordinate_value, position_value,
 use Rattle.geojson_writer.specs.Numbered.{IsNumbered, features_of}
 use Rattle.geojson_writer.proofs.NumbersInside.{array-numbers, object-numbers, text-numbers, null-numbers, all_inside}
 use Rattle.geojson_writer.proofs.ShapeParts.{shape_value_at}
-use Rattle.list_laws.proofs.Elements.{all_append, all_weaker}
+use Rattle.owned_values.proofs.Elements.{all_append, all_weaker}
 
 -- ---- coordinates
 

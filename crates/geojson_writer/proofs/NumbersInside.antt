@@ -8,7 +8,7 @@ use Rattle.json_value.specs.Numbers.{numbers_of, HasNumbers}
 use Rattle.json_value.proofs.NumbersOf.{all_flat, numbers-null, numbers-text, numbers-array, numbers-object}
 use Rattle.geometry.specs.Lists.{joined}
 use Rattle.geometry.proofs.Agreement.{all_left, all_right}
-use Rattle.list_laws.proofs.Elements.{all_map}
+use Rattle.owned_values.proofs.Elements.{all_map}
 
 -- ---- arrays and objects
 

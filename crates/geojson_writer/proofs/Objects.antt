@@ -1,7 +1,7 @@
 -- The text of an object of fixed members, part by part.
 use Rattle.std.proofs.Common.{◌≡◌, ℕ, Bool, true, false, List, [], ◌∷◌, ◌++◌, map, refl, ap, ◌∙◌, append_assoc}
 use Rattle.std.specs.Prelude.{codes}
-use Rattle.list_laws.specs.Commas.{comma_unless, with_commas}
+use Rattle.owned_values.specs.Commas.{comma_unless, with_commas}
 use Rattle.byte_ends.proofs.Parts.{list_left}
 use Rattle.json_value.specs.declared.json.Json.{Json}
 use Rattle.json_value.specs.declared.json.Json.TheVariants as j

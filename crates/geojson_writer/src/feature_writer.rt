@@ -9,8 +9,7 @@ ghost use Rattle.geojson_writer.specs.FeatureValues.{id_value, properties_value,
 use crate::shape_writer::put_shape;
 use byte_ends::{Drain, Progress, Sink, WriteFault, put_part};
 use geojson_types::{Feature, FeatureSet, Id, Properties};
-use json_writer::{PutValue, put_array, put_text};
-use properties_writer::put_properties;
+use json_writer::{PutValue, put_array, put_properties, put_text};
 
 /// Writes an identifier: a text, or a number by its text.
 #[tactic(auto, using(crate::proofs::Objects::leaves))]

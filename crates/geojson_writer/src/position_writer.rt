@@ -1,6 +1,6 @@
 // Positions and linear rings as they are written.
 ghost use Rattle.std.specs.Prelude.{◌++◌};
-ghost use Rattle.list_laws.specs.Commas.{comma_unless};
+ghost use Rattle.owned_values.specs.Commas.{comma_unless};
 ghost use Rattle.byte_ends.specs.Continues.{Continues};
 ghost use Rattle.json_value.specs.Text.{json_text};
 ghost use Rattle.json_writer.specs.Holding.{Holds};

@@ -1,6 +1,6 @@
 -- Leaving out twice is leaving out once.
-use Rattle.list_laws.proofs.Elements.{all_of}
-use Rattle.list_laws.proofs.Lists.{some_agree}
+use Rattle.owned_values.proofs.Elements.{all_of}
+use Rattle.owned_values.proofs.Lists.{some_agree}
 use Rattle.std.proofs.Common.{arith, ◌≡◌, Bool, true, false, List, [], ◌∷◌, map, Option, Some, refl, sym, ap, ◌∙◌}
 use Rattle.std.specs.List.{AllByRecursion}
 use Rattle.std.proofs.lemmas.Simd.{map-map}

@@ -3,17 +3,17 @@ use Rattle.std.proofs.Common.{arith, ◌≡◌, Bool, true, false, ◌&&◌, Lis
 use Rattle.std.proofs.lemmas.List.{length-map, map-append}
 use Rattle.std.specs.List.{AllByRecursion, list_all}
 use Rattle.std.specs.Prelude.{nat_le}
-use Rattle.list_laws.proofs.Elements.{all_left, all_right}
-use Rattle.list_laws.proofs.Lists.{joined_append, map_agree}
+use Rattle.owned_values.proofs.Elements.{all_left, all_right}
+use Rattle.owned_values.proofs.Lists.{joined_append, map_agree}
 use Rattle.geometry.specs.declared.shape.Geometry.TheVariants as g
 use Rattle.geometry.specs.Shapes.{Shape, is_some_list, is_line, is_proper, is_proper_option}
 use Rattle.geometry.specs.Lists.{joined, map_some}
 use Rattle.geometry.specs.Moving.{moved_step, moved}
 use Rattle.geometry.specs.Places.{shape_points, option_points}
 use Rattle.geometry.specs.Points.{Point}
-use Rattle.geometry.specs.Pruning.{strokes_step, strokes, option_strokes}
+use Rattle.geometry.specs.Pruning.{lines_and_rings_step, lines_and_rings, option_lines_and_rings}
 use Rattle.geometry.proofs.ByKind.{AtKinds, at_kinds, points_at, proper_at, proper-group}
-use Rattle.geometry.proofs.Cases.{strokes_at}
+use Rattle.geometry.proofs.Cases.{lines_and_rings_at}
 use Rattle.geometry.proofs.Induction.{by_kinds}
 
 pub moved_at : (f : Point → Point) → AtKinds (moved f) (moved_step f)
@@ -89,40 +89,40 @@ module _ (f : Point → Point) where
   option_points_moved o = grind (arith, points_moved)
 
   -- its lines and rings are the old ones with each position replaced, in order
-  abbrev pub stroke_moved : Bool × List Point → Bool × List Point
-  stroke_moved b = (b.0, map f b.1)
+  abbrev pub line_or_ring_moved : Bool × List Point → Bool × List Point
+  line_or_ring_moved b = (b.0, map f b.1)
 
-  abbrev HasStrokes : Shape → Type 0
-  HasStrokes s = strokes (moved f s) ≡ map stroke_moved (strokes s)
+  abbrev HasLinesAndRings : Shape → Type 0
+  HasLinesAndRings s = lines_and_rings (moved f s) ≡ map line_or_ring_moved (lines_and_rings s)
 
-  abbrev at_strokes : AtKinds (strokes {P = Point} {L = List Point}) strokes_step
-  at_strokes = strokes_at Point (List Point)
+  abbrev at_lines_and_rings : AtKinds (lines_and_rings {P = Point} {L = List Point}) lines_and_rings_step
+  at_lines_and_rings = lines_and_rings_at Point (List Point)
 
-  tagged : (closed : Bool) (ls : List (List Point)) → map (λ l. (closed, l)) (map (map f) ls) ≡ map stroke_moved (map (λ l. (closed, l)) ls)
+  tagged : (closed : Bool) (ls : List (List Point)) → map (λ l. (closed, l)) (map (map f) ls) ≡ map line_or_ring_moved (map (λ l. (closed, l)) ls)
   tagged closed [] = refl
   tagged closed (l ∷ ls) = ap (λ bs. (closed, map f l) ∷ bs) (tagged closed ls)
 
-  tagged_areas : (rss : List (List (List Point))) → joined (map (map (λ l. (true, l))) (map (map (map f)) rss)) ≡ map stroke_moved (joined (map (map (λ l. (true, l))) rss))
+  tagged_areas : (rss : List (List (List Point))) → joined (map (map (λ l. (true, l))) (map (map (map f)) rss)) ≡ map line_or_ring_moved (joined (map (map (λ l. (true, l))) rss))
   tagged_areas [] = refl
-  tagged_areas (rs ∷ rss) = rw (tagged true rs, tagged_areas rss) (sym (map-append stroke_moved (map (λ l. (true, l)) rs) (joined (map (map (λ l. (true, l))) rss))))
+  tagged_areas (rs ∷ rss) = rw (tagged true rs, tagged_areas rss) (sym (map-append line_or_ring_moved (map (λ l. (true, l)) rs) (joined (map (map (λ l. (true, l))) rss))))
 
-  strokes_members : (ss : List Shape) → AllByRecursion HasStrokes ss → joined (map strokes (map (moved f) ss)) ≡ map stroke_moved (joined (map strokes ss))
-  strokes_members [] all = refl
-  strokes_members (s ∷ ss) all = rw (all.0, strokes_members ss all.1) (sym (map-append stroke_moved (strokes s) (joined (map strokes ss))))
+  lines_and_rings_members : (ss : List Shape) → AllByRecursion HasLinesAndRings ss → joined (map lines_and_rings (map (moved f) ss)) ≡ map line_or_ring_moved (joined (map lines_and_rings ss))
+  lines_and_rings_members [] all = refl
+  lines_and_rings_members (s ∷ ss) all = rw (all.0, lines_and_rings_members ss all.1) (sym (map-append line_or_ring_moved (lines_and_rings s) (joined (map lines_and_rings ss))))
 
-  pub strokes_moved : (s : Shape) → strokes (moved f s) ≡ map stroke_moved (strokes s)
-  strokes_moved = by_kinds HasStrokes (record {
-    point = λ p. ap strokes ((moved_at f).point p) ∙ at_strokes.point (f p) ∙ sym (ap (map stroke_moved) (at_strokes.point p));
-    points = λ ps. ap strokes ((moved_at f).points ps) ∙ at_strokes.points (map f ps) ∙ sym (ap (map stroke_moved) (at_strokes.points ps));
-    line = λ ps. ap strokes ((moved_at f).line ps) ∙ at_strokes.line (map f ps) ∙ sym (ap (map stroke_moved) (at_strokes.line ps));
-    lines = λ ls. ap strokes ((moved_at f).lines ls) ∙ at_strokes.lines (map (map f) ls) ∙ tagged false ls ∙ sym (ap (map stroke_moved) (at_strokes.lines ls));
-    area = λ rs. ap strokes ((moved_at f).area rs) ∙ at_strokes.area (map (map f) rs) ∙ tagged true rs ∙ sym (ap (map stroke_moved) (at_strokes.area rs));
-    areas = λ rss. ap strokes ((moved_at f).areas rss) ∙ at_strokes.areas (map (map (map f)) rss) ∙ tagged_areas rss ∙ sym (ap (map stroke_moved) (at_strokes.areas rss));
-    group = λ ss all. ap strokes ((moved_at f).group ss) ∙ at_strokes.group (map (moved f) ss) ∙ strokes_members ss all ∙ sym (ap (map stroke_moved) (at_strokes.group ss));
+  pub lines_and_rings_moved : (s : Shape) → lines_and_rings (moved f s) ≡ map line_or_ring_moved (lines_and_rings s)
+  lines_and_rings_moved = by_kinds HasLinesAndRings (record {
+    point = λ p. ap lines_and_rings ((moved_at f).point p) ∙ at_lines_and_rings.point (f p) ∙ sym (ap (map line_or_ring_moved) (at_lines_and_rings.point p));
+    points = λ ps. ap lines_and_rings ((moved_at f).points ps) ∙ at_lines_and_rings.points (map f ps) ∙ sym (ap (map line_or_ring_moved) (at_lines_and_rings.points ps));
+    line = λ ps. ap lines_and_rings ((moved_at f).line ps) ∙ at_lines_and_rings.line (map f ps) ∙ sym (ap (map line_or_ring_moved) (at_lines_and_rings.line ps));
+    lines = λ ls. ap lines_and_rings ((moved_at f).lines ls) ∙ at_lines_and_rings.lines (map (map f) ls) ∙ tagged false ls ∙ sym (ap (map line_or_ring_moved) (at_lines_and_rings.lines ls));
+    area = λ rs. ap lines_and_rings ((moved_at f).area rs) ∙ at_lines_and_rings.area (map (map f) rs) ∙ tagged true rs ∙ sym (ap (map line_or_ring_moved) (at_lines_and_rings.area rs));
+    areas = λ rss. ap lines_and_rings ((moved_at f).areas rss) ∙ at_lines_and_rings.areas (map (map (map f)) rss) ∙ tagged_areas rss ∙ sym (ap (map line_or_ring_moved) (at_lines_and_rings.areas rss));
+    group = λ ss all. ap lines_and_rings ((moved_at f).group ss) ∙ at_lines_and_rings.group (map (moved f) ss) ∙ lines_and_rings_members ss all ∙ sym (ap (map line_or_ring_moved) (at_lines_and_rings.group ss));
   })
 
-  pub option_strokes_moved : (o : Option Shape) → option_strokes (map_some (moved f) o) ≡ map stroke_moved (option_strokes o)
-  option_strokes_moved o = grind (arith, strokes_moved)
+  pub option_lines_and_rings_moved : (o : Option Shape) → option_lines_and_rings (map_some (moved f) o) ≡ map line_or_ring_moved (option_lines_and_rings o)
+  option_lines_and_rings_moved o = grind (arith, lines_and_rings_moved)
 
 -- ---- functions that agree
 

@@ -3,9 +3,9 @@ use Rattle.std.proofs.Common.{◌≡◌, ℕ, zero, suc, ◌+◌, ◌*◌, ◌<�
 use Rattle.std.proofs.lemmas.List.{drop_all}
 use Rattle.std.proofs.lemmas.Int.{ints, to_z-of_z, fits_signed_from_abs}
 use Rattle.std.specs.Prelude.{unsigned_abs}
-use Rattle.geometry.specs.Areas.{turn, shoelace, turn_behind, sum_behind, most_turned, sum_limit}
+use Rattle.geometry.specs.Areas.{turn, shoelace, turn_after, sum_after, most_turned, sum_limit}
 use Rattle.geometry.specs.Points.{Point}
-use Rattle.list_laws.proofs.Lists.{drop_here}
+use Rattle.owned_values.proofs.Lists.{drop_here}
 use Rattle.geometry.specs.Units.{position_limit, area_limit}
 use mir.Syntax.{w128, Width}
 
@@ -52,25 +52,25 @@ bound_more s t new e h = omega (arith, ints, e, h)
 -- ---- lists
 
 -- the next position adds its part
-pub one_behind : (last : Option Point) (p : Point) (ps : List Point) → sum_behind last (p ∷ ps) ≡ turn_behind last p +ℤ sum_behind (Some p) ps
+pub one_after : (last : Option Point) (p : Point) (ps : List Point) → sum_after last (p ∷ ps) ≡ turn_after last p +ℤ sum_after (Some p) ps
 unfolding shoelace
-one_behind None p ps = omega (arith, ints)
-one_behind (Some q) p ps = refl
+one_after None p ps = omega (arith, ints)
+one_after (Some q) p ps = refl
 
 -- after the last position nothing is added
-pub none_behind : (last : Option Point) → sum_behind last [] ≡ pos 0
+pub none_after : (last : Option Point) → sum_after last [] ≡ pos 0
 unfolding shoelace
-none_behind None = refl
-none_behind (Some q) = refl
+none_after None = refl
+none_after (Some q) = refl
 
 -- what the sum is in the end stays
-pub sum_stays : (last : Option Point) (p : Point) (ps : List Point) (i : ℕ) (s all : ℤ) → i < length ps → p ≡ get_or ps i p → s +ℤ sum_behind last (drop i ps) ≡ all
-    → (s +ℤ turn_behind last p) +ℤ sum_behind (Some p) (drop (i + 1) ps) ≡ all
+pub sum_stays : (last : Option Point) (p : Point) (ps : List Point) (i : ℕ) (s all : ℤ) → i < length ps → p ≡ get_or ps i p → s +ℤ sum_after last (drop i ps) ≡ all
+    → (s +ℤ turn_after last p) +ℤ sum_after (Some p) (drop (i + 1) ps) ≡ all
 sum_stays last p ps i s all lt is e =
-    let here : sum_behind last (drop i ps) ≡ turn_behind last p +ℤ sum_behind (Some p) (drop (i + 1) ps) = ap (sum_behind last) (drop_here ps i p lt is) ∙ one_behind last p (drop (i + 1) ps) in
+    let here : sum_after last (drop i ps) ≡ turn_after last p +ℤ sum_after (Some p) (drop (i + 1) ps) = ap (sum_after last) (drop_here ps i p lt is) ∙ one_after last p (drop (i + 1) ps) in
     omega (arith, ints, here, e)
 
-pub sum_ends : (last : Option Point) (ps : List Point) (i : ℕ) (s all : ℤ) → length ps ≤ i → s +ℤ sum_behind last (drop i ps) ≡ all → s ≡ all
+pub sum_ends : (last : Option Point) (ps : List Point) (i : ℕ) (s all : ℤ) → length ps ≤ i → s +ℤ sum_after last (drop i ps) ≡ all → s ≡ all
 sum_ends last ps i s all le e =
-    let none : sum_behind last (drop i ps) ≡ pos 0 = ap (sum_behind last) (drop_all i ps le) ∙ none_behind last in
+    let none : sum_after last (drop i ps) ≡ pos 0 = ap (sum_after last) (drop_all i ps le) ∙ none_after last in
     omega (arith, ints, none, e)

@@ -36,18 +36,18 @@ pub record Passed : Type 0 where
   pub sum : ℤ
 
 -- what a position adds after the last one
-abbrev pub turn_behind : Option Point → Point → ℤ
-turn_behind None p = pos 0
-turn_behind (Some q) p = turn q p
+abbrev pub turn_after : Option Point → Point → ℤ
+turn_after None p = pos 0
+turn_after (Some q) p = turn q p
 
 -- one more is passed
 abbrev pub passed : Passed → Point → Passed
-passed s p = record { last = Some p; sum = s.sum +ℤ turn_behind s.last p }
+passed s p = record { last = Some p; sum = s.sum +ℤ turn_after s.last p }
 
 -- what these positions add after the last one
-abbrev pub sum_behind : Option Point → List Point → ℤ
-sum_behind None ps = shoelace ps
-sum_behind (Some q) ps = shoelace (q ∷ ps)
+abbrev pub sum_after : Option Point → List Point → ℤ
+sum_after None ps = shoelace ps
+sum_after (Some q) ps = shoelace (q ∷ ps)
 
 -- the most that one of them adds
 abbrev pub most_turned : ℕ

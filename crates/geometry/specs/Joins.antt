@@ -1,8 +1,8 @@
 -- Arc indexes, the arcs that they name, and lines put together of arcs: TopoJSON 1.0, sections 2.1.3 and 2.1.4.
 use Rattle.std.specs.Prelude.{◌≡◌, ℕ, ◌<◌, zero, suc, ℤ, pos, negsuc, Bool, true, false, List, [], ◌∷◌, ◌++◌, Option, None, Some, reverse}
 use Rattle.std.specs.List.{AllByRecursion}
-use Rattle.list_laws.specs.Lists.{tail}
-pub use Rattle.list_laws.specs.Lists.{tail as behind_first}
+use Rattle.owned_values.specs.Lists.{tail}
+pub use Rattle.owned_values.specs.Lists.{tail as rest_after_first}
 
 -- the number of the arc that an index names
 unfoldable pub number_of : ℤ → ℕ
@@ -34,14 +34,14 @@ arc_at arcs (pos i) = or_empty (at arcs i)
 arc_at arcs (negsuc i) = reverse (or_empty (at arcs i))
 
 -- lists one after another, each without its first
-abbrev pub joined_behind_first : {X : Type 0} → List (List X) → List X
-joined_behind_first [] = []
-joined_behind_first (p ∷ ps) = tail p ++ joined_behind_first ps
+abbrev pub joined_after_first : {X : Type 0} → List (List X) → List X
+joined_after_first [] = []
+joined_after_first (p ∷ ps) = tail p ++ joined_after_first ps
 
 -- the first list, and then each later one without its first
-abbrev pub rejoined : {X : Type 0} → List (List X) → List X
-rejoined [] = []
-rejoined (p ∷ ps) = p ++ joined_behind_first ps
+abbrev pub stitched : {X : Type 0} → List (List X) → List X
+stitched [] = []
+stitched (p ∷ ps) = p ++ joined_after_first ps
 
 abbrev pub first_of : {X : Type 0} → List X → Option X
 first_of [] = None

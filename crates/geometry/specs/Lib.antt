@@ -2,7 +2,7 @@ pub mod Areas
 pub mod Joins
 pub mod Lists
 pub mod Moving
-pub mod Omissions
+pub mod DropCauses
 pub mod Order
 pub mod Paths
 pub mod Places

@@ -32,5 +32,5 @@ placed_step (Geometry-F.Areas areas) = of_parts 0 (map (λ rs. of_parts 0 (map (
 placed_step (Geometry-F.Group xss) = of_parts 0 xss
 
 -- the open lines (false) and the rings (true) of a shape in reading order, each with the way to it
-unfoldable pub placed_strokes : {P L : Type 0} → Geometry P L L → List (Placed (Bool × L))
-placed_strokes {P} {L} = fold-Geometry P L L (List (Placed (Bool × L))) placed_step
+unfoldable pub placed_lines_and_rings : {P L : Type 0} → Geometry P L L → List (Placed (Bool × L))
+placed_lines_and_rings {P} {L} = fold-Geometry P L L (List (Placed (Bool × L))) placed_step

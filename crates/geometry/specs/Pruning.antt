@@ -26,20 +26,20 @@ unfoldable pub prune : {P Q L M : Type 0} → (P → Q) → (Bool → L → Opti
 prune {P} {Q} {L} {M} place kept = fold-Geometry P L L (Option (Geometry Q M M)) (prune_step place kept)
 
 -- one level, with the lines and rings of the shapes of a group in their place
-abbrev pub strokes_step : {P L : Type 0} → Geometry-F P L L (List (Bool × L)) → List (Bool × L)
-strokes_step (Geometry-F.Point p) = []
-strokes_step (Geometry-F.MultiPoint ps) = []
-strokes_step (Geometry-F.Line l) = (false, l) ∷ []
-strokes_step (Geometry-F.Lines ls) = map (λ l. (false, l)) ls
-strokes_step (Geometry-F.Area rs) = map (λ l. (true, l)) rs
-strokes_step (Geometry-F.Areas areas) = joined (map (map (λ l. (true, l))) areas)
-strokes_step (Geometry-F.Group ss) = joined ss
+abbrev pub lines_and_rings_step : {P L : Type 0} → Geometry-F P L L (List (Bool × L)) → List (Bool × L)
+lines_and_rings_step (Geometry-F.Point p) = []
+lines_and_rings_step (Geometry-F.MultiPoint ps) = []
+lines_and_rings_step (Geometry-F.Line l) = (false, l) ∷ []
+lines_and_rings_step (Geometry-F.Lines ls) = map (λ l. (false, l)) ls
+lines_and_rings_step (Geometry-F.Area rs) = map (λ l. (true, l)) rs
+lines_and_rings_step (Geometry-F.Areas areas) = joined (map (map (λ l. (true, l))) areas)
+lines_and_rings_step (Geometry-F.Group ss) = joined ss
 
 -- the open lines (false) and the rings (true) of a shape in reading order
-unfoldable pub strokes : {P L : Type 0} → Geometry P L L → List (Bool × L)
-strokes {P} {L} = fold-Geometry P L L (List (Bool × L)) strokes_step
+unfoldable pub lines_and_rings : {P L : Type 0} → Geometry P L L → List (Bool × L)
+lines_and_rings {P} {L} = fold-Geometry P L L (List (Bool × L)) lines_and_rings_step
 
 -- the open lines (false) and the rings (true) of a shape that may be null, in reading order
-abbrev pub option_strokes : {P L : Type 0} → Option (Geometry P L L) → List (Bool × L)
-option_strokes None = []
-option_strokes (Some s) = strokes s
+abbrev pub option_lines_and_rings : {P L : Type 0} → Option (Geometry P L L) → List (Bool × L)
+option_lines_and_rings None = []
+option_lines_and_rings (Some s) = lines_and_rings s

@@ -1,7 +1,7 @@
 -- Shapes of layers: geometries over positions, and which of them a feature may have.
 use Rattle.std.specs.Prelude.{Bool, true, ◌&&◌, nat_le, List, length, Option, Some, None}
 use Rattle.std.specs.List.{list_all}
-pub use Rattle.list_laws.specs.Lists.{is_some_list}
+pub use Rattle.owned_values.specs.Lists.{is_some_list}
 use Rattle.geometry.specs.Points.{Point}
 use Rattle.geometry.specs.declared.shape.Geometry.{Geometry, fold-Geometry}
 use Rattle.geometry.specs.declared.shape.Geometry.TheOpen.{Geometry-F}

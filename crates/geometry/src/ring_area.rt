@@ -52,7 +52,7 @@ fn carried(whole: i128, rest: i128) -> (i128, i128)
 fn with_turn(last: Option<Position>, position: Position, whole: i128, rest: i128) -> (i128, i128)
     requires sum { unsigned_abs (whole *ℤ pos area_limit +ℤ rest) ≤ sum_limit }
     requires rest { unsigned_abs rest < area_limit }
-    ensures value { result.0 *ℤ pos area_limit +ℤ result.1 ≡ (whole *ℤ pos area_limit +ℤ rest) +ℤ spec.turn_behind last position }
+    ensures value { result.0 *ℤ pos area_limit +ℤ result.1 ≡ (whole *ℤ pos area_limit +ℤ rest) +ℤ spec.turn_after last position }
     ensures bound { unsigned_abs (result.0 *ℤ pos area_limit +ℤ result.1)
         ≤ unsigned_abs (whole *ℤ pos area_limit +ℤ rest) + spec.most_turned }
     ensures rest { unsigned_abs result.1 < area_limit }

@@ -1,14 +1,14 @@
 -- Layers whose covered positions are snapped.
 use Rattle.std.proofs.Common.{◌≡◌, true, List, [], ◌∷◌, map, refl, sym, ap, subst, arith}
 use Rattle.std.specs.List.{AllByRecursion}
-use Rattle.list_laws.proofs.Elements.{all_weaker, all_left, all_right, all_map}
+use Rattle.owned_values.proofs.Elements.{all_weaker, all_left, all_right, all_map}
 use Rattle.geojson_types.specs.declared.layer.Layer.{Layer}
 use Rattle.geojson_types.specs.Features.{Featured}
 use Rattle.geojson_types.specs.Moving.{moved_feature}
 use Rattle.geojson_types.specs.Places.{option_points, features_points}
 use Rattle.geometry.specs.Points.{Point, IsWithin, IsPosition}
-use Rattle.geometry.specs.Pruning.{option_strokes}
-use Rattle.geometry.proofs.MovedShapes.{option_moved_alike, option_proper_moved, option_strokes_moved, option_points_moved, stroke_moved}
+use Rattle.geometry.specs.Pruning.{option_lines_and_rings}
+use Rattle.geometry.proofs.MovedShapes.{option_moved_alike, option_proper_moved, option_lines_and_rings_moved, option_points_moved, line_or_ring_moved}
 use Rattle.geometry.proofs.Moved.{ring_moved}
 use Rattle.grid_snap.specs.Axes.{Axes, IsGrid, covers, snapped, reach}
 use Rattle.grid_snap.specs.Laws.{IsRingIfClosed, Settles, SnappedAreSound}
@@ -34,13 +34,13 @@ features_snapped g (f ∷ fs) h = grind (arith, feature_snapped, all_left, all_r
 
 pub snapped_sound : SnappedAreSound
 snapped_sound g f grid covered =
-    let strokes = option_strokes_moved (snapped g) f.shape in
+    let lines_and_rings = option_lines_and_rings_moved (snapped g) f.shape in
     record {
       proper = option_proper_moved (snapped g) f.shape;
-      strokes = strokes;
-      rings = λ all. subst (AllByRecursion IsRingIfClosed) (sym strokes)
-          (all_map IsRingIfClosed (stroke_moved (snapped g)) (option_strokes f.shape)
-          (all_weaker IsRingIfClosed (λ b. IsRingIfClosed (stroke_moved (snapped g) b)) (λ b h e. ring_moved (snapped g) b.1 (h e)) (option_strokes f.shape) all));
+      lines_and_rings = lines_and_rings;
+      rings = λ all. subst (AllByRecursion IsRingIfClosed) (sym lines_and_rings)
+          (all_map IsRingIfClosed (line_or_ring_moved (snapped g)) (option_lines_and_rings f.shape)
+          (all_weaker IsRingIfClosed (λ b. IsRingIfClosed (line_or_ring_moved (snapped g) b)) (λ b h e. ring_moved (snapped g) b.1 (h e)) (option_lines_and_rings f.shape) all));
       places = subst (AllByRecursion IsPosition) (sym (option_points_moved (snapped g) f.shape))
           (all_map IsPosition (snapped g) (option_points f.shape)
           (all_weaker (IsCovered g) (λ p. IsPosition (snapped g p)) (λ p h. place_of g p grid h) (option_points f.shape) covered));

@@ -4,7 +4,7 @@ use Rattle.std.proofs.lemmas.Int.{ints, fold-int_min_bounds, fold-int_max_bounds
 use Rattle.std.proofs.lemmas.List.Elements.{recursion_from_All}
 use Rattle.std.specs.Int.{int_min, int_max}
 use Rattle.std.specs.List.{AllByRecursion, fold}
-use Rattle.list_laws.proofs.Elements.{all_weaker, all_two, all_of_map, each_of}
+use Rattle.owned_values.proofs.Elements.{all_weaker, all_two, all_of_map, each_of}
 use Rattle.geometry.specs.Lists.{In}
 use Rattle.geometry.specs.Points.{Point, IsInput}
 use Rattle.geometry.specs.Units.{input_limit}

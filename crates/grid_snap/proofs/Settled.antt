@@ -15,7 +15,7 @@ use Rattle.grid_snap.proofs.Spacing.{nearest_whole, nearest_within, scaled_withi
 -- ---- one direction
 
 pub record IsOn (a : Axis) (x : ℤ) : Type 0 where
-  pub behind : a.first ≤ℤ x
+  pub following : a.first ≤ℤ x
   pub near : offset a x ≤ a.last * a.step
 
 pub on_facts : (a : Axis) (x : ℤ) → is_on a x ≡ true → IsOn a x
@@ -30,11 +30,11 @@ offset_at x n = omega (arith, ints)
 near_at : (x : ℤ) (n m : ℕ) → n ≤ m → unsigned_abs ((x +ℤ pos n) -ℤ x) ≤ m
 near_at x n m h = omega (arith, ints)
 
-behind_at : (x : ℤ) (n : ℕ) → x ≤ℤ (x +ℤ pos n)
-behind_at x n = omega (arith, ints)
+after_at : (x : ℤ) (n : ℕ) → x ≤ℤ (x +ℤ pos n)
+after_at x n = omega (arith, ints)
 
 at_on : (a : Axis) (k : ℕ) → k ≤ a.last → is_on a (coordinate a (pos k)) ≡ true
-at_on a k h = grind (arith, on_from, behind_at, near_at, scaled_within)
+at_on a k h = grind (arith, on_from, after_at, near_at, scaled_within)
 
 at_number : (a : Axis) (k : ℕ) → 1 ≤ a.step → number a (coordinate a (pos k)) ≡ k
 at_number a k h = unfold number in ap (λ d. nearest d a.step) (offset_at a.first (k * a.step)) ∙ nearest_whole k a.step h

@@ -4,7 +4,7 @@ use Rattle.std.proofs.lemmas.Int.{ints, clamps}
 use Rattle.std.proofs.lemmas.List.{at_drop_all, map-id}
 use Rattle.std.specs.Int.{int_min, int_max}
 use Rattle.std.specs.List.{AllByRecursion, fold}
-use Rattle.list_laws.proofs.Lists.{drop_here, joined_append}
+use Rattle.owned_values.proofs.Lists.{drop_here, joined_append}
 use Rattle.geojson_types.specs.Features.{Shape}
 use Rattle.geometry.specs.Lists.{joined}
 use Rattle.geojson_types.specs.Places.{shape_points}

@@ -6,7 +6,7 @@ use Rattle.geometry.specs.Lists.{In}
 use Rattle.geojson_types.specs.Moving.{moved_feature}
 use Rattle.geojson_types.specs.Places.{option_points}
 use Rattle.geometry.specs.Points.{Point, IsWithin, IsInput, IsPosition}
-use Rattle.geometry.specs.Pruning.{option_strokes}
+use Rattle.geometry.specs.Pruning.{option_lines_and_rings}
 use Rattle.geometry.specs.Rings.{is_ring}
 use Rattle.grid_snap.specs.declared.axis.Axis.{Axis}
 use Rattle.grid_snap.specs.Axes.{Axes, IsGrid, IsCell, covers, cell, back, snapped, grid_over, count_limit, reach}
@@ -75,8 +75,8 @@ IsRingIfClosed b = b.0 ≡ true → is_ring b.1 ≡ true
 -- are positions
 pub record IsAsSound (g : Axes) (before after : Featured) : Type 0 where
   pub proper : is_proper_option after.shape ≡ is_proper_option before.shape
-  pub strokes : option_strokes after.shape ≡ map (λ b. (b.0, map (snapped g) b.1)) (option_strokes before.shape)
-  pub rings : AllByRecursion IsRingIfClosed (option_strokes before.shape) → AllByRecursion IsRingIfClosed (option_strokes after.shape)
+  pub lines_and_rings : option_lines_and_rings after.shape ≡ map (λ b. (b.0, map (snapped g) b.1)) (option_lines_and_rings before.shape)
+  pub rings : AllByRecursion IsRingIfClosed (option_lines_and_rings before.shape) → AllByRecursion IsRingIfClosed (option_lines_and_rings after.shape)
   pub places : AllByRecursion IsPosition (option_points after.shape)
 
 abbrev pub SnappedAreSound : Type 0

@@ -6,7 +6,7 @@ use Rattle.json_reading.specs.declared.fault.JsonFault.{JsonFault}
 use Rattle.json_reading.specs.declared.fault.JsonFault.TheVariants as text
 use Rattle.json_reading.proofs.TextsFound.{one_value}
 use Rattle.json_value.specs.declared.json.Json.{Json}
-use Rattle.inputs.specs.Texts.{max_input, IsRead, IsTextOf, BytesComeTo, plain_text_fault}
+use Rattle.inputs.specs.Texts.{max_input, IsRead, IsTextOf, BytesHaveOutcome, plain_text_fault}
 
 -- the answer without the place and the reason in a malformed text
 abbrev pub plain_text : Result Json JsonFault → Result Json JsonFault
@@ -32,7 +32,7 @@ one_text deepest b (Err text.Memory) u h k = absurd h
 -- two outcomes of the same bytes are the same, as far as faults are reported
 pub one_outcome : {A E : Type 0} (deepest : ℕ) (too_long : E) (of_text : Result Json JsonFault → Result A E) (plain : Result A E → Result A E)
     → ((t : Result Json JsonFault) → plain (of_text t) ≡ plain (of_text (plain_text t)))
-    → (b : List ℕ) (x y : Result A E) → BytesComeTo deepest too_long of_text b x → BytesComeTo deepest too_long of_text b y → plain x ≡ plain y
+    → (b : List ℕ) (x y : Result A E) → BytesHaveOutcome deepest too_long of_text b x → BytesHaveOutcome deepest too_long of_text b y → plain x ≡ plain y
 one_outcome deepest too_long of_text plain same b x y (inl h) (inl k) = ap plain (h.1 ∙ sym k.1)
 one_outcome deepest too_long of_text plain same b x y (inl h) (inr k) = let long : max_input < length b = h.0 in let short : length b ≤ max_input = k.0 in absurd (omega arith)
 one_outcome deepest too_long of_text plain same b x y (inr h) (inl k) = let short : length b ≤ max_input = h.0 in let long : max_input < length b = k.0 in absurd (omega arith)
@@ -45,6 +45,6 @@ same_bytes left b bytes e h = subst (λ z. IfSome z (λ l. bytes ≡ l)) e h
 
 -- what the text of a source that was read decides
 pub text_comes : {A E : Type 0} (deepest : ℕ) (too_long : E) (of_text : Result Json JsonFault → Result A E) (old new : Fed) (b bytes : List ℕ) (t : Result Json JsonFault)
-    → old.left ≡ Some b → IsRead old new bytes → IsTextOf deepest bytes t → BytesComeTo deepest too_long of_text b (of_text t)
+    → old.left ≡ Some b → IsRead old new bytes → IsTextOf deepest bytes t → BytesHaveOutcome deepest too_long of_text b (of_text t)
 text_comes deepest too_long of_text old new b bytes t e read is =
-    subst (λ z. BytesComeTo deepest too_long of_text z (of_text t)) (same_bytes old.left b bytes e read.all) (inr (read.short, t, is, refl))
+    subst (λ z. BytesHaveOutcome deepest too_long of_text z (of_text t)) (same_bytes old.left b bytes e read.all) (inr (read.short, t, is, refl))

@@ -12,7 +12,7 @@ use Rattle.json_reading.specs.declared.fault.Why.TheVariants.{Syntax}
 use Rattle.json_reading.proofs.TextsFound.{not_read}
 use Rattle.json_reading.proofs.TextsRead.{text_takes}
 use Rattle.json_value.specs.declared.json.Json.{Json}
-use Rattle.inputs.specs.Texts.{max_input, IsTextOf, BytesComeTo}
+use Rattle.inputs.specs.Texts.{max_input, IsTextOf, BytesHaveOutcome}
 
 -- what bytes are as a text
 abbrev Text : ℕ → List ℕ → Type 0
@@ -34,9 +34,9 @@ pub text_there : (deepest : ℕ) (b : List ℕ) → (t : Result Json JsonFault) 
 text_there deepest b = text_by deepest b (is_utf8 b) refl
 
 -- bytes have an outcome
-pub outcome_there : {A E : Type 0} (deepest : ℕ) (too_long : E) (of_text : Result Json JsonFault → Result A E) (b : List ℕ) → (outcome : Result A E) × BytesComeTo deepest too_long of_text b outcome
+pub outcome_there : {A E : Type 0} (deepest : ℕ) (too_long : E) (of_text : Result Json JsonFault → Result A E) (b : List ℕ) → (outcome : Result A E) × BytesHaveOutcome deepest too_long of_text b outcome
 outcome_there {A} {E} deepest too_long of_text b = by_length (cases_lt max_input (length b))
   where
-    by_length : (max_input < length b) ⊎ (length b ≤ max_input) → (outcome : Result A E) × BytesComeTo deepest too_long of_text b outcome
+    by_length : (max_input < length b) ⊎ (length b ≤ max_input) → (outcome : Result A E) × BytesHaveOutcome deepest too_long of_text b outcome
     by_length (inl long) = (Err too_long, inl (long, refl))
     by_length (inr short) = let t = text_there deepest b in (of_text t.0, inr (short, t.0, t.1, refl))

@@ -58,8 +58,8 @@ IsTextOf deepest bytes (Ok v) = IsUtf8 bytes × Reads deepest bytes v
 IsTextOf deepest bytes (Err fault) = IsNoText deepest bytes fault
 
 -- the bytes are too many, which is this fault, or else their text decides
-abbrev pub BytesComeTo : {A E : Type 0} → ℕ → E → (Result Json JsonFault → Result A E) → List ℕ → Result A E → Type 0
-BytesComeTo deepest too_long of_text bytes outcome =
+abbrev pub BytesHaveOutcome : {A E : Type 0} → ℕ → E → (Result Json JsonFault → Result A E) → List ℕ → Result A E → Type 0
+BytesHaveOutcome deepest too_long of_text bytes outcome =
     ((max_input < length bytes) × (outcome ≡ Err too_long))
     ⊎ ((length bytes ≤ max_input) × (t : Result Json JsonFault) × IsTextOf deepest bytes t × (outcome ≡ of_text t))
 

@@ -2,7 +2,7 @@
 use Rattle.std.proofs.Common.{◌≡◌, ℕ, ◌+◌, ◌-◌, ◌<◌, ◌≤◌, List, [], ◌∷◌, ◌++◌, Option, None, Ok, Err, refl, ap, ◌∙◌, append_assoc, arith}
 use Rattle.json_value.specs.declared.json.Json.{Json}
 use Rattle.json_value.specs.Reading.{Parse, skip, list_after, list_at}
-use Rattle.json_members.specs.Readers.{Counting}
+use Rattle.json_value.specs.Readers.{Counting}
 use Rattle.json_cursor.specs.declared.stop.Stop.{Stop}
 use Rattle.json_cursor.specs.Answers.{Reads, Stops}
 use Rattle.json_cursor.specs.Folds.{fold}
@@ -53,16 +53,16 @@ module _ {C E S : Type 0} (take : S → Json → Counting C E S) (item : Parse J
         pub ends : (end : List ℕ) → skip after ≡ 93 ∷ end → Reads (fold take start) total next end old new
         ends end h = record {
           value = s.values ++ r.value ∷ [];
-          front_is = list.turn_ends item n i rest s.values total s.so_far lt r.value after r.front_is end h;
+          prefix_is = list.turn_ends item n i rest s.values total s.so_far lt r.value after r.prefix_is end h;
           means = s.means (r.value ∷ []) ∙ more [] ∙ none;
         }
 
-        pub goes_on : (behind : List ℕ) → skip after ≡ 44 ∷ behind → FoldedSoFar (i + 1) behind next new
-        goes_on behind h = record {
+        pub goes_on : (following : List ℕ) → skip after ≡ 44 ∷ following → FoldedSoFar (i + 1) following next new
+        goes_on following h = record {
           values = s.values ++ r.value ∷ [];
-          so_far = list.turn_goes_on item n i rest s.values total s.so_far lt r.value after r.front_is behind h;
+          so_far = list.turn_goes_on item n i rest s.values total s.so_far lt r.value after r.prefix_is following h;
           means = λ vs. ap (λ zs. fold take start zs old) (append_assoc s.values (r.value ∷ []) vs) ∙ s.means (r.value ∷ vs) ∙ more vs;
         }
 
         pub breaks : ((others : Parse (List Json)) (v : Json) → list_after 93 others v (skip after) ≡ None) → total ≡ None
-        breaks h = list.turn_breaks item n i rest s.values total s.so_far lt r.value after r.front_is h
+        breaks h = list.turn_breaks item n i rest s.values total s.so_far lt r.value after r.prefix_is h

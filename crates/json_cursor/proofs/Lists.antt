@@ -2,7 +2,7 @@
 use Rattle.std.proofs.Common.{◌≡◌, ◌≢◌, ℕ, zero, suc, ◌+◌, ◌-◌, ◌<◌, ◌≤◌, ◌++◌, append_assoc, Bool, true, false, eqb, if◌then◌else◌, List, [], ◌∷◌, Option, Some, None, Err, refl, sym, ap, ◌∙◌, arith}
 use Rattle.json_value.specs.declared.json.Json.{Json}
 use Rattle.json_value.specs.Reading.{Parse, ◌>>=◌, skip, list_after, list_at}
-use Rattle.json_members.specs.Readers.{Counting}
+use Rattle.json_value.specs.Readers.{Counting}
 use Rattle.json_reading.specs.declared.fault.Fault.{Fault}
 use Rattle.json_reading.specs.declared.fault.Fault.TheVariants as fault
 use Rattle.json_reading.specs.Gives.{Fails}
@@ -13,13 +13,13 @@ use Rattle.json_cursor.specs.Answers.{Stops}
 use Rattle.json_cursor.proofs.Steps.{made, unmade, bound}
 
 -- after a thing stands nothing that goes on with it
-pub nothing_behind : (bytes : List ℕ) → skip bytes ≡ [] → (more : Parse (List Json)) (v : Json) → list_after 93 more v (skip bytes) ≡ None
+pub nothing_after : (bytes : List ℕ) → skip bytes ≡ [] → (more : Parse (List Json)) (v : Json) → list_after 93 more v (skip bytes) ≡ None
 unfolding list_after
-nothing_behind bytes h more v = rw h refl
+nothing_after bytes h more v = rw h refl
 
-pub other_behind : (bytes rest : List ℕ) (b : ℕ) → skip bytes ≡ b ∷ rest → b ≢ 93 → b ≢ 44 → (more : Parse (List Json)) (v : Json) → list_after 93 more v (skip bytes) ≡ None
+pub other_after : (bytes rest : List ℕ) (b : ℕ) → skip bytes ≡ b ∷ rest → b ≢ 93 → b ≢ 44 → (more : Parse (List Json)) (v : Json) → list_after 93 more v (skip bytes) ≡ None
 unfolding list_after
-other_behind bytes rest b h close comma more v = rw (h, not_equal b 44 comma, not_equal b 93 close) refl
+other_after bytes rest b h close comma more v = rw (h, not_equal b 44 comma, not_equal b 93 close) refl
 
 module _ {A : Type 0} (more : Parse (List A)) (x : A) (bytes rest : List ℕ) where
   pub at_close : skip bytes ≡ 93 ∷ rest → list_after 93 more x (skip bytes) ≡ Some (x ∷ [], rest)

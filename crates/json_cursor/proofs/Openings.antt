@@ -45,28 +45,28 @@ module _ (Is : Json → Type 0) (null : Is j.Null) (bool : (b : Bool) → Is (j.
       (either Is (eqb b 123) _ _ (λ same. given Is (members bs) (λ ms. (j.Object ms.0, ms.1)) (λ ms. object same ms.0))
       (given Is (number_at (b ∷ bs)) (λ t. (j.Number t.0, t.1)) (λ t. number t.0)))))))
 
-  by_front : (d b : ℕ) (bs rest : List ℕ) (v : Json) → value_at is_utf8 d (b ∷ bs) ≡ Some (v, rest) → (eqb b 34 ≡ true → (t : List ℕ) → Is (j.Text t)) → (eqb b 91 ≡ true → (vs : List Json) → Is (j.Array vs)) → (eqb b 123 ≡ true → (ms : List (List ℕ × Json)) → Is (j.Object ms)) → Is v
-  by_front d b bs rest v front text array object =
+  by_prefix : (d b : ℕ) (bs rest : List ℕ) (v : Json) → value_at is_utf8 d (b ∷ bs) ≡ Some (v, rest) → (eqb b 34 ≡ true → (t : List ℕ) → Is (j.Text t)) → (eqb b 91 ≡ true → (vs : List Json) → Is (j.Array vs)) → (eqb b 123 ≡ true → (ms : List (List ℕ × Json)) → Is (j.Object ms)) → Is v
+  by_prefix d b bs rest v prefix text array object =
       let s = value_at_is is_utf8 d in
-      rw (rw s.2 at front) at (by_byte s.0 s.1 b bs text array object)
+      rw (rw s.2 at prefix) at (by_byte s.0 s.1 b bs text array object)
 
 -- a value with another byte than an opening bracket (91) first is no array
 pub is_no_array : (d : ℕ) (bytes : List ℕ) → None ≡ after_word (91 ∷ []) bytes → (v : Json) (rest : List ℕ) → value_at is_utf8 d bytes ≡ Some (v, rest) → array_of v ≡ None
-is_no_array d [] none v rest front = let wrong = sym (at_nothing is_utf8 d [] refl) ∙ front in absurd cc
-is_no_array d (b ∷ bs) none v rest front =
-    by_front (λ v. array_of v ≡ None) array_of-null array_of-bool array_of-number d b bs rest v front (λ same. array_of-text) (λ same. absurd (differs 91 b bs none same)) (λ same. array_of-object)
+is_no_array d [] none v rest prefix = let wrong = sym (at_nothing is_utf8 d [] refl) ∙ prefix in absurd cc
+is_no_array d (b ∷ bs) none v rest prefix =
+    by_prefix (λ v. array_of v ≡ None) array_of-null array_of-bool array_of-number d b bs rest v prefix (λ same. array_of-text) (λ same. absurd (differs 91 b bs none same)) (λ same. array_of-object)
 
 -- a value with another byte than an opening brace (123) first is no object
 pub is_no_object : (d : ℕ) (bytes : List ℕ) → None ≡ after_word (123 ∷ []) bytes → (v : Json) (rest : List ℕ) → value_at is_utf8 d bytes ≡ Some (v, rest) → object_of v ≡ None
-is_no_object d [] none v rest front = let wrong = sym (at_nothing is_utf8 d [] refl) ∙ front in absurd cc
-is_no_object d (b ∷ bs) none v rest front =
-    by_front (λ v. object_of v ≡ None) object_of-null object_of-bool object_of-number d b bs rest v front (λ same. object_of-text) (λ same. object_of-array) (λ same. absurd (differs 123 b bs none same))
+is_no_object d [] none v rest prefix = let wrong = sym (at_nothing is_utf8 d [] refl) ∙ prefix in absurd cc
+is_no_object d (b ∷ bs) none v rest prefix =
+    by_prefix (λ v. object_of v ≡ None) object_of-null object_of-bool object_of-number d b bs rest v prefix (λ same. object_of-text) (λ same. object_of-array) (λ same. absurd (differs 123 b bs none same))
 
 -- a value with another byte than a quotation mark (34) first is no text
 pub is_no_text : (bytes : List ℕ) → None ≡ after_word (34 ∷ []) bytes → (d : ℕ) (v : Json) (rest : List ℕ) → value_at is_utf8 d bytes ≡ Some (v, rest) → text_of v ≡ None
-is_no_text [] none d v rest front = let wrong = sym (at_nothing is_utf8 d [] refl) ∙ front in absurd cc
-is_no_text (b ∷ bs) none d v rest front =
-    by_front (λ v. text_of v ≡ None) text_of-null text_of-bool text_of-number d b bs rest v front (λ same. absurd (differs 34 b bs none same)) (λ same. text_of-array) (λ same. text_of-object)
+is_no_text [] none d v rest prefix = let wrong = sym (at_nothing is_utf8 d [] refl) ∙ prefix in absurd cc
+is_no_text (b ∷ bs) none d v rest prefix =
+    by_prefix (λ v. text_of v ≡ None) text_of-null text_of-bool text_of-number d b bs rest v prefix (λ same. absurd (differs 34 b bs none same)) (λ same. text_of-array) (λ same. text_of-object)
 
 -- ---- the quotation mark
 
@@ -87,13 +87,13 @@ module _ (d : ℕ) (bytes inside : List ℕ) (opens : Some inside ≡ after_word
   pub too_deep : d ≡ 0 → value_at is_utf8 d bytes ≡ None
   too_deep h = array_too_deep is_utf8 d 91 bytes inside (first_byte 91 bytes inside opens) refl h
 
-  module _ (deep : d ≢ 0) where
+  module _ (depth_left : d ≢ 0) where
     pub is_empty : (rest : List ℕ) → Some rest ≡ after_word (93 ∷ []) (skip inside) → value_at is_utf8 d bytes ≡ Some (j.Array [], rest)
-    is_empty rest h = array_found is_utf8 d 91 bytes inside (first_byte 91 bytes inside opens) refl deep [] rest (is_closed Json 93 (value_at is_utf8 (d - 1)) inside rest h)
+    is_empty rest h = array_found is_utf8 d 91 bytes inside (first_byte 91 bytes inside opens) refl depth_left [] rest (is_closed Json 93 (value_at is_utf8 (d - 1)) inside rest h)
 
     by_items : (o : Option (List Json × List ℕ)) → items_at 93 (value_at is_utf8 (d - 1)) inside ≡ o → value_at is_utf8 d bytes ≡ made j.Array o
-    by_items None h = array_fails is_utf8 d 91 bytes inside (first_byte 91 bytes inside opens) refl deep (fault.Malformed why.Syntax 0) h
-    by_items (Some x) h = array_found is_utf8 d 91 bytes inside (first_byte 91 bytes inside opens) refl deep x.0 x.1 h
+    by_items None h = array_fails is_utf8 d 91 bytes inside (first_byte 91 bytes inside opens) refl depth_left (fault.Malformed why.Syntax 0) h
+    by_items (Some x) h = array_found is_utf8 d 91 bytes inside (first_byte 91 bytes inside opens) refl depth_left x.0 x.1 h
 
     pub is_filled : None ≡ after_word (93 ∷ []) (skip inside) → value_at is_utf8 d bytes ≡ made j.Array (list_at 93 (value_at is_utf8 (d - 1)) (length inside) inside)
     is_filled h = by_items (list_at 93 (value_at is_utf8 (d - 1)) (length inside) inside) (is_open Json 93 (value_at is_utf8 (d - 1)) inside h)
@@ -104,17 +104,17 @@ module _ (d : ℕ) (bytes inside : List ℕ) (opens : Some inside ≡ after_word
   pub object_deep : d ≡ 0 → value_at is_utf8 d bytes ≡ None
   object_deep h = object_too_deep is_utf8 d 123 bytes inside (first_byte 123 bytes inside opens) refl h
 
-  module _ (deep : d ≢ 0) where
+  module _ (depth_left : d ≢ 0) where
     pub no_members : (rest : List ℕ) → Some rest ≡ after_word (125 ∷ []) (skip inside) → value_at is_utf8 d bytes ≡ Some (j.Object [], rest)
     no_members rest h =
-        object_found is_utf8 d 123 bytes inside (first_byte 123 bytes inside opens) refl deep [] rest (is_closed (List ℕ × Json) 125 (member_at is_utf8 (value_at is_utf8 (d - 1))) inside rest h)
+        object_found is_utf8 d 123 bytes inside (first_byte 123 bytes inside opens) refl depth_left [] rest (is_closed (List ℕ × Json) 125 (member_at is_utf8 (value_at is_utf8 (d - 1))) inside rest h)
 
     module _ (filled : None ≡ after_word (125 ∷ []) (skip inside)) where
       members_are : items_at 125 (member_at is_utf8 (value_at is_utf8 (d - 1))) inside ≡ list_at 125 (member_at is_utf8 (value_at is_utf8 (d - 1))) (length inside) inside
       members_are = is_open (List ℕ × Json) 125 (member_at is_utf8 (value_at is_utf8 (d - 1))) inside filled
 
       pub some_members : (ms : List (List ℕ × Json)) (rest : List ℕ) → list_at 125 (member_at is_utf8 (value_at is_utf8 (d - 1))) (length inside) inside ≡ Some (ms, rest) → value_at is_utf8 d bytes ≡ Some (j.Object ms, rest)
-      some_members ms rest h = object_found is_utf8 d 123 bytes inside (first_byte 123 bytes inside opens) refl deep ms rest (members_are ∙ h)
+      some_members ms rest h = object_found is_utf8 d 123 bytes inside (first_byte 123 bytes inside opens) refl depth_left ms rest (members_are ∙ h)
 
       pub members_fail : (f : Fault) → Fails f (list_at 125 (member_at is_utf8 (value_at is_utf8 (d - 1))) (length inside) inside) → Fails f (value_at is_utf8 d bytes)
-      members_fail f h = object_fails is_utf8 d 123 bytes inside (first_byte 123 bytes inside opens) refl deep f (rw (sym members_are) at h)
+      members_fail f h = object_fails is_utf8 d 123 bytes inside (first_byte 123 bytes inside opens) refl depth_left f (rw (sym members_are) at h)

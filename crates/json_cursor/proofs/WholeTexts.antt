@@ -5,11 +5,11 @@ use Rattle.std.specs.Str.{is_utf8}
 use Rattle.json_value.specs.declared.json.Json.{Json}
 use Rattle.json_value.specs.Grammar.{mark, Reads}
 use Rattle.json_value.specs.Reading.{◌>>=◌, skip, after_word, without, ended, document, text_at, value_at}
-use Rattle.json_members.specs.Readers.{Counting}
+use Rattle.json_value.specs.Readers.{Counting}
 use Rattle.json_reading.proofs.Steps.{none_or_some}
 use Rattle.json_reading.proofs.TextsFound.{is_read, not_read}
 use Rattle.json_reading.proofs.TextsRead.{text_takes}
-use Rattle.text_checking.proofs.Texts.{document_by}
+use Rattle.json_reading.proofs.Texts.{document_by}
 use Rattle.json_cursor.specs.declared.stop.Stop.TheVariants as stop
 use Rattle.json_cursor.specs.Answers.{Stops}
 
@@ -18,7 +18,7 @@ unfolding ended
 ended_is w v [] h = cc
 ended_is w v (b ∷ bs) h = absurd cc
 
-in_steps : (front : Option (Json × List ℕ)) (v : Json) → (front >>= λ x. ended x.0 (skip x.1)) ≡ Some v → (rest : List ℕ) × (front ≡ Some (v, rest))
+in_steps : (prefix : Option (Json × List ℕ)) (v : Json) → (prefix >>= λ x. ended x.0 (skip x.1)) ≡ Some v → (rest : List ℕ) × (prefix ≡ Some (v, rest))
 in_steps None v h = absurd cc
 in_steps (Some x) v h = (x.1, ap (λ w. Some (w, x.1)) (ended_is x.0 v (skip x.1) h))
 
@@ -31,12 +31,12 @@ module _ (d : ℕ) (bytes text : List ℕ) (is : text ≡ without bytes (after_w
   unfolding document
   no_value h = text_is ∙ rw h refl
 
-  module _ (v : Json) (after rest : List ℕ) (found : value_at is_utf8 d (skip text) ≡ Some (v, after)) (behind : rest ≡ skip after) where
+  module _ (v : Json) (after rest : List ℕ) (found : value_at is_utf8 d (skip text) ≡ Some (v, after)) (following : rest ≡ skip after) where
     pub whole : true ≡ eqb (length rest) 0 → Reads d bytes v
-    whole h = text_takes is_utf8 d bytes v (text_is ∙ document_by is_utf8 d text v after rest true found behind h)
+    whole h = text_takes is_utf8 d bytes v (text_is ∙ document_by is_utf8 d text v after rest true found following h)
 
     pub trailing : false ≡ eqb (length rest) 0 → text_at is_utf8 d bytes ≡ None
-    trailing h = text_is ∙ document_by is_utf8 d text v after rest false found behind h
+    trailing h = text_is ∙ document_by is_utf8 d text v after rest false found following h
 
   found_in : (v : Json) → text_at is_utf8 d bytes ≡ Some v → (rest : List ℕ) × (value_at is_utf8 d (skip text) ≡ Some (v, rest))
   unfolding document

@@ -5,7 +5,7 @@ use Rattle.json_value.specs.declared.json.Json.{Json}
 use Rattle.json_value.specs.declared.json.Json.TheVariants as j
 use Rattle.json_value.specs.Kinds.{array_of}
 use Rattle.json_value.specs.Reading.{Parse, ◌>>=◌, skip, list_after, list_at, value_at}
-use Rattle.json_members.specs.Readers.{Counting, and_then, give, fail, gather, if_some}
+use Rattle.json_value.specs.Readers.{Counting, and_then, give, fail, gather, if_some}
 use Rattle.geojson_types.specs.declared.counts.Counts.{Counts}
 use Rattle.geojson_types.specs.Counting.{count_empty}
 use Rattle.json_cursor.specs.declared.marks.Mark.{Mark}
@@ -14,16 +14,16 @@ use Rattle.json_cursor.specs.declared.marks.Opening.{Opening}
 use Rattle.json_cursor.specs.declared.marks.Opening.TheVariants as opening
 
 -- what stands at the front, where arrays and objects may nest so deep, and what follows it
-abbrev pub front_value : ℕ → Parse Json
-front_value d = value_at is_utf8 d
+abbrev pub prefix_value : ℕ → Parse Json
+prefix_value d = value_at is_utf8 d
 
 -- one element or more after the bracket of an array, up to the one that closes it (93), in so many turns
-abbrev pub front_elements : ℕ → ℕ → Parse (List Json)
-front_elements d turns = list_at 93 (value_at is_utf8 d) turns
+abbrev pub prefix_elements : ℕ → ℕ → Parse (List Json)
+prefix_elements d turns = list_at 93 (value_at is_utf8 d) turns
 
 -- what stands there, in so many turns, are the last of these elements
 abbrev pub AreLast : ℕ → ℕ → List ℕ → ℕ → List ℕ → Type 0
-AreLast d turns inside n left = (before : List Json) × (front_elements d turns inside ≡ (front_elements d n left >>= λ xs. Some (before ++ xs.0, xs.1)))
+AreLast d turns inside n left = (before : List Json) × (prefix_elements d turns inside ≡ (prefix_elements d n left >>= λ xs. Some (before ++ xs.0, xs.1)))
 
 -- after white space stands a comma (44), the bracket that closes (93), or what ends no element
 abbrev pub Marks : List ℕ → Mark → List ℕ → Type 0
@@ -33,10 +33,10 @@ Marks bytes mark.Neither rest = (more : Parse (List Json)) (v : Json) → list_a
 
 -- At the front stands no array, or no value, or an empty array, or elements after a bracket.
 abbrev pub Opens : ℕ → List ℕ → Opening → List ℕ → Type 0
-Opens d bytes opening.NoArray rest = (v : Json) (end : List ℕ) → front_value d bytes ≡ Some (v, end) → array_of v ≡ None
-Opens d bytes opening.TooDeep rest = front_value d bytes ≡ None
-Opens d bytes opening.Empty rest = front_value d bytes ≡ Some (j.Array [], rest)
-Opens d bytes (opening.Filled below) inside = front_value d bytes ≡ (front_elements below (length inside) inside >>= λ xs. Some (j.Array xs.0, xs.1))
+Opens d bytes opening.NoArray rest = (v : Json) (end : List ℕ) → prefix_value d bytes ≡ Some (v, end) → array_of v ≡ None
+Opens d bytes opening.TooDeep rest = prefix_value d bytes ≡ None
+Opens d bytes opening.Empty rest = prefix_value d bytes ≡ Some (j.Array [], rest)
+Opens d bytes (opening.Filled below) inside = prefix_value d bytes ≡ (prefix_elements below (length inside) inside >>= λ xs. Some (j.Array xs.0, xs.1))
 
 -- ---- arrays by what is read of their elements
 

@@ -3,7 +3,7 @@ use Rattle.std.specs.Prelude.{◌≡◌, ℕ, List, Some}
 use Rattle.json_value.specs.declared.json.Json.{Json}
 use Rattle.json_value.specs.declared.json.Json.TheOpen.{Json-F}
 use Rattle.json_value.specs.declared.json.Json.TheViews.{out-Json}
-use Rattle.json_cursor.specs.Arrays.{front_value}
+use Rattle.json_cursor.specs.Arrays.{prefix_value}
 use Rattle.json_cursor.specs.declared.kinds.Kind.{Kind}
 use Rattle.json_cursor.specs.declared.kinds.Kind.TheVariants.{Null, Bool, Number, Text, Array, Object}
 
@@ -20,4 +20,4 @@ kind_of v = kind_in (out-Json v)
 
 -- it is the kind of whatever value stands at the front
 abbrev pub IsKind : List ℕ → Kind → Type 0
-IsKind bytes kind = (d : ℕ) (v : Json) (rest : List ℕ) → front_value d bytes ≡ Some (v, rest) → kind ≡ kind_of v
+IsKind bytes kind = (d : ℕ) (v : Json) (rest : List ℕ) → prefix_value d bytes ≡ Some (v, rest) → kind ≡ kind_of v

@@ -1,8 +1,11 @@
 pub mod Answers
 pub mod Arrays
+pub mod Copying
 pub mod Folds
+pub mod Prefixes
 pub mod Held
 pub mod Kinds
 pub mod Members
 pub mod Names
+pub mod Spans
 pub mod Texts

@@ -1,10 +1,10 @@
 // Arrays read as lists.
 ghost use Rattle.std.specs.Prelude.{◌≡◌, ◌++◌, [], if◌then◌else◌, List, IfOk, OnOk, Some, None, length, option_to_list};
 ghost use Rattle.json_value.specs.declared.json.Json.{Json};
-ghost use Rattle.json_members.specs.Readers.{Counting, gather};
+ghost use Rattle.json_value.specs.Readers.{Counting, gather};
 ghost use Rattle.geojson_types.specs.declared.counts.Counts.{Counts as Counted};
 ghost use Rattle.json_cursor.specs.Answers.{Answers};
-ghost use Rattle.json_cursor.specs.Arrays.{always, array_by, front_elements, front_value, led_by, some_array_by};
+ghost use Rattle.json_cursor.specs.Arrays.{always, array_by, prefix_elements, prefix_value, led_by, some_array_by};
 ghost use Rattle.json_cursor.specs.Folds.{with_read};
 
 use crate::folds::{Elements, folded_array_at, folded_at, folded_some_at};
@@ -32,11 +32,11 @@ pub trait Element: Copy {
     fn read<'a>(
         self,
         alloc: Global,
-        deep: u32,
+        depth_left: u32,
         bytes: &'a [u8],
         counts: &mut Counts,
     ) -> Result<(Option<Self::Read>, &'a [u8]), Stop<Self::Fault>>
-        ensures { Answers (λ x. option_to_list x) (reads self) (front_value deep bytes.now) counts.old counts.new result };
+        ensures { Answers (λ x. option_to_list x) (reads self) (prefix_value depth_left bytes.now) counts.old counts.new result };
 }
 
 /// The elements that were read so far.
@@ -76,12 +76,12 @@ impl<E: Element> Elements for Listed<E> {
     fn element<'a>(
         &mut self,
         alloc: Global,
-        deep: u32,
+        depth_left: u32,
         bytes: &'a [u8],
         with: E,
         counts: &mut Counts,
     ) -> Result<&'a [u8], Stop<E::Fault>> {
-        match with.read(alloc, deep, bytes, counts) {
+        match with.read(alloc, depth_left, bytes, counts) {
             Err(stop) => Err(stop),
             Ok((one, rest)) => {
                 push_some(&mut self.list, one)?;
@@ -103,17 +103,17 @@ fn items_of<E: Element>(listed: Listed<E>) -> Items<E::Read>
 /// The elements of the array at the front, none or more, and what follows it. What is no array has the fault `wrong`.
 pub fn array_at<'a, E: Element>(
     alloc: Global,
-    deep: u32,
+    depth_left: u32,
     bytes: &'a [u8],
     wrong: E::Fault,
     reader: E,
     counts: &mut Counts,
 ) -> Result<(Items<E::Read>, &'a [u8]), Stop<E::Fault>>
-    ensures { Answers (λ x. x) (array_by wrong (gather (E.reads reader))) (front_value deep bytes.now) counts.old counts.new result }
+    ensures { Answers (λ x. x) (array_by wrong (gather (E.reads reader))) (prefix_value depth_left bytes.now) counts.old counts.new result }
 {
     let list = Vec::with_capacity(alloc, arrays_ahead(bytes))?;
     let start = Listed::<E> { list };
-    match folded_array_at::<Listed<E>>(alloc, deep, start, bytes, wrong, reader, counts) {
+    match folded_array_at::<Listed<E>>(alloc, depth_left, start, bytes, wrong, reader, counts) {
         Err(stop) => Err(stop),
         Ok((listed, rest)) => Ok((items_of(listed), rest)),
     }
@@ -123,17 +123,17 @@ pub fn array_at<'a, E: Element>(
 /// no array has the fault `wrong`.
 pub fn some_array_at<'a, E: Element>(
     alloc: Global,
-    deep: u32,
+    depth_left: u32,
     bytes: &'a [u8],
     wrong: E::Fault,
     reader: E,
     counts: &mut Counts,
 ) -> Result<(Option<Items<E::Read>>, &'a [u8]), Stop<E::Fault>>
-    ensures { Answers (λ x. x) (some_array_by wrong (always (gather (E.reads reader)))) (front_value deep bytes.now) counts.old counts.new result }
+    ensures { Answers (λ x. x) (some_array_by wrong (always (gather (E.reads reader)))) (prefix_value depth_left bytes.now) counts.old counts.new result }
 {
     let list = Vec::with_capacity(alloc, arrays_ahead(bytes))?;
     let start = Listed::<E> { list };
-    match folded_some_at::<Listed<E>>(alloc, deep, start, bytes, wrong, reader, counts) {
+    match folded_some_at::<Listed<E>>(alloc, depth_left, start, bytes, wrong, reader, counts) {
         Err(stop) => Err(stop),
         Ok((read, rest)) => {
             let Some(listed) = read else {
@@ -171,22 +171,22 @@ fn led<E: Element>(leads: bool, all: Listed<E>) -> Option<Items<E::Read>>
 /// The elements of an array after its bracket, one or more, where the first leads the others: where it is left out, nothing is left.
 fn led_at<'a, E: Element>(
     alloc: Global,
-    deep: u32,
+    depth_left: u32,
     inside: &'a [u8],
     reader: E,
     counts: &mut Counts,
 ) -> Result<(Option<Items<E::Read>>, &'a [u8]), Stop<E::Fault>>
-    ensures { Answers (λ x. x) (led_by (E.reads reader)) (front_elements deep (length inside.now) inside.now) counts.old counts.new result }
+    ensures { Answers (λ x. x) (led_by (E.reads reader)) (prefix_elements depth_left (length inside.now) inside.now) counts.old counts.new result }
 {
     let turns = inside.len();
     if turns == 0 {
         return Err(Stop::NoValue);
     }
-    match reader.read(alloc, deep, skip(inside), counts) {
+    match reader.read(alloc, depth_left, skip(inside), counts) {
         Err(stop) => Err(stop),
-        Ok((first, behind)) => {
+        Ok((first, following)) => {
             let leads = first.is_some();
-            let (mark, more) = mark_at(behind);
+            let (mark, more) = mark_at(following);
             match mark {
                 Mark::Neither => Err(Stop::NoValue),
                 Mark::Close => {
@@ -197,7 +197,7 @@ fn led_at<'a, E: Element>(
                     let before = begun::<E>(Vec::new(alloc), first)?;
                     match folded_at::<Listed<E>>(
                         alloc,
-                        deep,
+                        depth_left,
                         turns - 1,
                         before,
                         more,
@@ -217,15 +217,15 @@ fn led_at<'a, E: Element>(
 /// which is counted, nothing is left; the others are read even so.
 pub fn led_array_at<'a, E: Element>(
     alloc: Global,
-    deep: u32,
+    depth_left: u32,
     bytes: &'a [u8],
     wrong: E::Fault,
     reader: E,
     counts: &mut Counts,
 ) -> Result<(Option<Items<E::Read>>, &'a [u8]), Stop<E::Fault>>
-    ensures { Answers (λ x. x) (some_array_by wrong (led_by (E.reads reader))) (front_value deep bytes.now) counts.old counts.new result }
+    ensures { Answers (λ x. x) (some_array_by wrong (led_by (E.reads reader))) (prefix_value depth_left bytes.now) counts.old counts.new result }
 {
-    let (opening, inside) = opening_at(deep, bytes);
+    let (opening, inside) = opening_at(depth_left, bytes);
     match opening {
         Opening::NoArray => Err(Stop::Fault(wrong)),
         Opening::TooDeep => Err(Stop::NoValue),

@@ -1,10 +1,10 @@
 // The one loop over the elements of an array, whatever is made of them and however they fail.
 ghost use Rattle.std.specs.Prelude.{◌≡◌, IfErr};
 ghost use Rattle.json_value.specs.declared.json.Json.{Json};
-ghost use Rattle.json_members.specs.Readers.{Counting};
+ghost use Rattle.json_value.specs.Readers.{Counting};
 ghost use Rattle.geojson_types.specs.declared.counts.Counts.{Counts as Counted};
 ghost use Rattle.json_cursor.specs.Answers.{Answers};
-ghost use Rattle.json_cursor.specs.Arrays.{AreLast, always, array_by, front_elements, front_value, some_array_by};
+ghost use Rattle.json_cursor.specs.Arrays.{AreLast, always, array_by, prefix_elements, prefix_value, some_array_by};
 ghost use Rattle.json_cursor.specs.Folds.{Folds, Goes, fold};
 
 use crate::marks::{Mark, Opening, mark_at, opening_at};
@@ -28,12 +28,12 @@ pub trait Elements {
     fn element<'a>(
         &mut self,
         alloc: Global,
-        deep: u32,
+        depth_left: u32,
         bytes: &'a [u8],
         with: Self::With,
         counts: &mut Counts,
     ) -> Result<&'a [u8], Stop<Self::Fault>>
-        ensures { Goes (takes with self.old) (front_value deep bytes.now) counts.old self.new counts.new result };
+        ensures { Goes (takes with self.old) (prefix_value depth_left bytes.now) counts.old self.new counts.new result };
 }
 
 /// Why reading stops at an element, and where that element and those after it stand, in so many turns.
@@ -48,27 +48,27 @@ pub struct Stopped<'a, E> {
 /// follows it; or why reading stops: at the first fault, without reading on.
 pub fn folded_at<'a, T: Elements + Drop>(
     alloc: Global,
-    deep: u32,
+    depth_left: u32,
     turns: usize,
     start: T,
     inside: &'a [u8],
     with: T::With,
     counts: &mut Counts,
 ) -> Result<(T, &'a [u8]), Stopped<'a, T::Fault>>
-    ensures answers { Folds (fold (T.takes with) start) (front_elements deep turns inside.now) counts.old counts.new result }
-    ensures last { IfErr result (λ s. AreLast deep turns inside.now s.turns s.left.now) }
+    ensures answers { Folds (fold (T.takes with) start) (prefix_elements depth_left turns inside.now) counts.old counts.new result }
+    ensures last { IfErr result (λ s. AreLast depth_left turns inside.now s.turns s.left.now) }
 {
     let mut made = start;
     let mut rest = inside;
     'elements: for turn in 0..turns {
-        match made.element(alloc, deep, skip(rest), with, counts) {
+        match made.element(alloc, depth_left, skip(rest), with, counts) {
             Err(stop) => return Err(Stopped {
                 stop,
                 turns: turns - turn,
                 left: rest,
             }),
-            Ok(behind) => {
-                let (mark, more) = mark_at(behind);
+            Ok(following) => {
+                let (mark, more) = mark_at(following);
                 match mark {
                     Mark::Neither => {
                         return Err(Stopped {
@@ -94,16 +94,16 @@ pub fn folded_at<'a, T: Elements + Drop>(
 /// What is made of the elements of the array at the front, none or more, and what follows it. What is no array has the fault `wrong`.
 pub fn folded_array_at<'a, T: Elements + Drop>(
     alloc: Global,
-    deep: u32,
+    depth_left: u32,
     start: T,
     bytes: &'a [u8],
     wrong: T::Fault,
     with: T::With,
     counts: &mut Counts,
 ) -> Result<(T, &'a [u8]), Stop<T::Fault>>
-    ensures { Answers (λ x. x) (array_by wrong (fold (T.takes with) start)) (front_value deep bytes.now) counts.old counts.new result }
+    ensures { Answers (λ x. x) (array_by wrong (fold (T.takes with) start)) (prefix_value depth_left bytes.now) counts.old counts.new result }
 {
-    let (opening, inside) = opening_at(deep, bytes);
+    let (opening, inside) = opening_at(depth_left, bytes);
     match opening {
         Opening::NoArray => Err(Stop::Fault(wrong)),
         Opening::TooDeep => Err(Stop::NoValue),
@@ -127,16 +127,16 @@ pub fn folded_array_at<'a, T: Elements + Drop>(
 /// is made of it.
 pub fn folded_some_at<'a, T: Elements + Drop>(
     alloc: Global,
-    deep: u32,
+    depth_left: u32,
     start: T,
     bytes: &'a [u8],
     wrong: T::Fault,
     with: T::With,
     counts: &mut Counts,
 ) -> Result<(Option<T>, &'a [u8]), Stop<T::Fault>>
-    ensures { Answers (λ x. x) (some_array_by wrong (always (fold (T.takes with) start))) (front_value deep bytes.now) counts.old counts.new result }
+    ensures { Answers (λ x. x) (some_array_by wrong (always (fold (T.takes with) start))) (prefix_value depth_left bytes.now) counts.old counts.new result }
 {
-    let (opening, inside) = opening_at(deep, bytes);
+    let (opening, inside) = opening_at(depth_left, bytes);
     match opening {
         Opening::NoArray => Err(Stop::Fault(wrong)),
         Opening::TooDeep => Err(Stop::NoValue),

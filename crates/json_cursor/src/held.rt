@@ -1,7 +1,7 @@
 // Arrays whose first fault is held until they are passed.
 ghost use Rattle.json_cursor.specs.Arrays.{array_by};
 ghost use Rattle.json_cursor.specs.Folds.{fold};
-ghost use Rattle.json_cursor.specs.Held.{IsHeld, Meets};
+ghost use Rattle.json_cursor.specs.Held.{IsHeld, FindsValue};
 
 use crate::folds::{Elements, folded_at};
 use crate::marks::{Opening, opening_at};
@@ -9,27 +9,26 @@ use crate::members::broken;
 use crate::passing::after_elements;
 use crate::stop::Stop;
 use geojson_types::Counts;
-use json_reading::Fault;
+use json_reading::{Fault, after_value};
 use std::alloc::Global;
-use text_checking::after_value;
 
 /// What is made of the elements of the array at the front, none or more, or the first fault, and what follows the array: the elements
 /// after a faulty one are passed over. What is no array has the fault `wrong`.
 pub fn held_array_at<'a, T: Elements + Drop>(
     alloc: Global,
-    deep: u32,
+    depth_left: u32,
     start: T,
     bytes: &'a [u8],
     wrong: T::Fault,
     with: T::With,
     counts: &mut Counts,
 ) -> Result<(Result<T, T::Fault>, &'a [u8]), Fault>
-    ensures { Meets (IsHeld (array_by wrong (fold (T.takes with) start)) counts.old counts.new) deep bytes.now result }
+    ensures { FindsValue (IsHeld (array_by wrong (fold (T.takes with) start)) counts.old counts.new) depth_left bytes.now result }
 {
-    let (opening, inside) = opening_at(deep, bytes);
+    let (opening, inside) = opening_at(depth_left, bytes);
     match opening {
         Opening::NoArray => {
-            let rest = after_value(alloc, deep, bytes)?;
+            let rest = after_value(alloc, depth_left, bytes)?;
             Ok((Err(wrong), rest))
         }
         Opening::TooDeep => Err(broken(bytes)),

@@ -30,9 +30,9 @@ pub(crate) fn first_at(bytes: &[u8]) -> Option<(u8, &[u8])>
 pub fn mark_at(bytes: &[u8]) -> (Mark, &[u8])
     ensures { Marks bytes.now result.0 result.1.now }
 {
-    let behind = skip(bytes);
-    let Some((first, rest)) = first_at(behind) else {
-        return (Mark::Neither, behind);
+    let following = skip(bytes);
+    let Some((first, rest)) = first_at(following) else {
+        return (Mark::Neither, following);
     };
     if first == b',' {
         return (Mark::Comma, rest);
@@ -40,7 +40,7 @@ pub fn mark_at(bytes: &[u8]) -> (Mark, &[u8])
     if first == b']' {
         return (Mark::Close, rest);
     }
-    (Mark::Neither, behind)
+    (Mark::Neither, following)
 }
 
 /// What stands at the front of bytes.
@@ -58,7 +58,7 @@ pub enum Opening {
 /// What follows the byte, where it is first.
 #[inline(always)]
 #[tactic(auto, unfolding(json_value::specs::Reading::after_word))]
-pub fn behind_byte(byte: u8, bytes: &[u8]) -> Option<&[u8]>
+pub fn after_byte(byte: u8, bytes: &[u8]) -> Option<&[u8]>
     ensures { option_copied result ≡ after_word (byte ∷ []) bytes.now }
 {
     match bytes {
@@ -69,17 +69,17 @@ pub fn behind_byte(byte: u8, bytes: &[u8]) -> Option<&[u8]>
 
 /// What stands at the front, and what follows it, or its bracket where it has elements.
 #[inline(always)]
-pub fn opening_at(deep: u32, bytes: &[u8]) -> (Opening, &[u8])
-    ensures { Opens deep bytes.now result.0 result.1.now }
+pub fn opening_at(depth_left: u32, bytes: &[u8]) -> (Opening, &[u8])
+    ensures { Opens depth_left bytes.now result.0 result.1.now }
 {
-    let Some(inside) = behind_byte(b'[', bytes) else {
+    let Some(inside) = after_byte(b'[', bytes) else {
         return (Opening::NoArray, bytes);
     };
-    if deep == 0 {
+    if depth_left == 0 {
         return (Opening::TooDeep, bytes);
     }
-    if let Some(rest) = behind_byte(b']', skip(inside)) {
+    if let Some(rest) = after_byte(b']', skip(inside)) {
         return (Opening::Empty, rest);
     }
-    (Opening::Filled(deep - 1), inside)
+    (Opening::Filled(depth_left - 1), inside)
 }

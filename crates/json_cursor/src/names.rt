@@ -5,14 +5,13 @@ ghost use Rattle.json_value.specs.Reading as reading;
 ghost use Rattle.json_reading.specs.Gives.{Gives};
 ghost use Rattle.json_cursor.specs.Members.{Names, ReadsString};
 ghost use Rattle.json_cursor.specs.Names.{name_of};
-ghost use Rattle.text_checking.specs.Strings.{simple};
+ghost use Rattle.json_reading.specs.Strings.{simple};
 
-use crate::marks::behind_byte;
+use crate::marks::after_byte;
 use crate::members::broken;
-use json_reading::{Fault, after_word, skip};
+use json_reading::{Fault, after_word, plain_at, skip};
 use json_value::OwnText;
 use std::alloc::Global;
-use text_checking::plain_at;
 
 /// A string, as the name of a member is one.
 #[derive(Drop)]
@@ -62,7 +61,7 @@ fn text_at<'a>(alloc: Global, inside: &'a [u8]) -> Result<(Name<'a>, &'a [u8]), 
 pub fn string_at<'a>(alloc: Global, bytes: &'a [u8]) -> Result<Option<(Name<'a>, &'a [u8])>, Fault>
     ensures { ReadsString bytes.now result }
 {
-    let Some(inside) = behind_byte(b'"', bytes) else {
+    let Some(inside) = after_byte(b'"', bytes) else {
         return Ok(None);
     };
     let found = text_at(alloc, inside)?;
@@ -73,14 +72,14 @@ pub fn string_at<'a>(alloc: Global, bytes: &'a [u8]) -> Result<Option<(Name<'a>,
 pub fn name_at<'a>(alloc: Global, bytes: &'a [u8]) -> Result<(Name<'a>, &'a [u8]), Fault>
     ensures { Names bytes.now result }
 {
-    let Some(inside) = behind_byte(b'"', bytes) else {
+    let Some(inside) = after_byte(b'"', bytes) else {
         return Err(broken(bytes));
     };
     let (name, name_end) = text_at(alloc, inside)?;
-    let Some(behind) = behind_byte(b':', skip(name_end)) else {
+    let Some(following) = after_byte(b':', skip(name_end)) else {
         return Err(broken(name_end));
     };
-    Ok((name, skip(behind)))
+    Ok((name, skip(following)))
 }
 
 /// What follows this word and the quotation mark after it, where a string's front stands so in the text: without a look for its end.
@@ -92,7 +91,7 @@ fn quoted_at<'a>(word: &str, inside: &'a [u8]) -> Option<&'a [u8]>
     let Some(quoted) = after_word(word.as_bytes(), inside) else {
         return None;
     };
-    let Some(name_end) = behind_byte(b'"', quoted) else {
+    let Some(name_end) = after_byte(b'"', quoted) else {
         return None;
     };
     Some(name_end)
@@ -105,7 +104,7 @@ pub fn word_at<'a>(word: &'static str, bytes: &'a [u8]) -> Option<(Name<'a>, &'a
     ensures string { IfSome result (λ x. ReadsString bytes.now (Ok (Some x))) }
     ensures word { IfSome result (λ x. name_of x.0 ≡ word.now) }
 {
-    let Some(inside) = behind_byte(b'"', bytes) else {
+    let Some(inside) = after_byte(b'"', bytes) else {
         return None;
     };
     let Some(rest) = quoted_at(word, inside) else {
@@ -121,14 +120,14 @@ pub fn named_at<'a>(word: &'static str, bytes: &'a [u8]) -> Option<(Name<'a>, &'
     ensures member { IfSome result (λ x. Names bytes.now (Ok x)) }
     ensures word { IfSome result (λ x. name_of x.0 ≡ word.now) }
 {
-    let Some(inside) = behind_byte(b'"', bytes) else {
+    let Some(inside) = after_byte(b'"', bytes) else {
         return None;
     };
     let Some(name_end) = quoted_at(word, inside) else {
         return None;
     };
-    let Some(behind) = behind_byte(b':', skip(name_end)) else {
+    let Some(following) = after_byte(b':', skip(name_end)) else {
         return None;
     };
-    Some((Name::Plain(word), skip(behind)))
+    Some((Name::Plain(word), skip(following)))
 }

@@ -1,25 +1,24 @@
 // Elements that are passed over.
 ghost use Rattle.std.specs.Str.{is_utf8};
 ghost use Rattle.json_value.specs.Reading as reading;
-ghost use Rattle.text_checking.specs.Passes.{Passes};
+ghost use Rattle.json_reading.specs.Passes.{Passes};
 
 use crate::marks::{Mark, mark_at};
-use json_reading::{Fault, Why, skip};
+use json_reading::{Fault, Why, after_value, skip};
 use std::alloc::Global;
-use text_checking::after_value;
 
 /// What follows the elements of an array, one or more, in at most so many turns.
 pub fn after_elements<'a>(
     alloc: Global,
-    deep: u32,
+    depth_left: u32,
     turns: usize,
     bytes: &'a [u8],
 ) -> Result<&'a [u8], Fault>
-    ensures { Passes result (reading.elements_at is_utf8 deep turns bytes.now) }
+    ensures { Passes result (reading.elements_at is_utf8 depth_left turns bytes.now) }
 {
     let mut rest = bytes;
     'elements: for _ in 0..turns {
-        let after = after_value(alloc, deep, skip(rest))?;
+        let after = after_value(alloc, depth_left, skip(rest))?;
         let (mark, more) = mark_at(after);
         match mark {
             Mark::Close => return Ok(more),

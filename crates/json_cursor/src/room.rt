@@ -1,9 +1,8 @@
 // How many elements an array seems to have, so that the list of few elements takes memory once.
 ghost use Rattle.std.specs.Prelude.{◌≤◌};
 
-use crate::marks::behind_byte;
-use json_reading::skip;
-use text_checking::behind_first;
+use crate::marks::after_byte;
+use json_reading::{rest_after_first, skip};
 
 /// How many arrays are looked for in an array.
 const MOST_ARRAYS: usize = 16;
@@ -17,24 +16,24 @@ const FEW_BYTES: usize = 64;
 pub fn arrays_ahead(bytes: &[u8]) -> usize
     ensures { result ≤ 16 }
 {
-    let Some(inside) = behind_byte(b'[', bytes) else {
+    let Some(inside) = after_byte(b'[', bytes) else {
         return 0;
     };
-    let Some(first) = behind_byte(b'[', skip(inside)) else {
+    let Some(first) = after_byte(b'[', skip(inside)) else {
         return 0;
     };
-    if behind_byte(b'[', skip(first)).is_some() {
+    if after_byte(b'[', skip(first)).is_some() {
         return 0;
     }
     let mut rest = first;
     'arrays: for before in 0..MOST_ARRAYS {
-        let Some(behind) = behind_first(b']', rest) else {
+        let Some(following) = rest_after_first(b']', rest) else {
             return before;
         };
-        if behind_byte(b']', skip(behind)).is_some() {
+        if after_byte(b']', skip(following)).is_some() {
             return before + 1;
         }
-        rest = behind;
+        rest = following;
     }
     MOST_ARRAYS
 }

@@ -4,17 +4,16 @@ ghost use Rattle.std.specs.Str.{is_utf8};
 ghost use Rattle.json_value.specs.declared.json.Json.{Json};
 ghost use Rattle.json_value.specs.Grammar.{mark};
 ghost use Rattle.json_value.specs.Reading as reading;
-ghost use Rattle.json_members.specs.Readers.{Counting};
+ghost use Rattle.json_value.specs.Readers.{Counting};
 ghost use Rattle.json_reading.specs.Outcome.{SaysUtf8, SpellsNothing};
 ghost use Rattle.geojson_types.specs.declared.counts.Counts.{Counts as Counted};
-ghost use Rattle.json_cursor.specs.Held.{IsHeld, Meets};
+ghost use Rattle.json_cursor.specs.Held.{IsHeld, FindsValue};
 ghost use Rattle.json_cursor.specs.Texts.{TextAnswers};
 
 use geojson_types::Counts;
-use json_reading::{Fault, JsonFault, after_word, skip};
+use json_reading::{Fault, JsonFault, after_word, check, skip};
 use simdutf8::compat;
 use std::alloc::Global;
-use text_checking::check;
 
 /// How the value that a whole text spells is read.
 pub trait Whole: Copy {
@@ -31,11 +30,11 @@ pub trait Whole: Copy {
     fn read<'a>(
         self,
         alloc: Global,
-        deep: u32,
+        depth_left: u32,
         bytes: &'a [u8],
         counts: &mut Counts,
     ) -> Result<(Result<Self::Read, Self::Fault>, &'a [u8]), Fault>
-        ensures { Meets (IsHeld (reads self) counts.old counts.new) deep bytes.now result };
+        ensures { FindsValue (IsHeld (reads self) counts.old counts.new) depth_left bytes.now result };
 }
 
 /// Why a text isn't read.
@@ -97,8 +96,8 @@ pub fn read_text<R: Whole>(
         Err(Fault::Memory) => Err(Refusal::Memory),
         Err(Fault::Malformed { .. }) => Err(Refusal::Text(malformed(alloc, bytes, deepest))),
         Ok((read, rest)) => {
-            let behind = skip(rest);
-            if !behind.is_empty() {
+            let following = skip(rest);
+            if !following.is_empty() {
                 return Err(Refusal::Text(malformed(alloc, bytes, deepest)));
             }
             match read {

@@ -2,7 +2,7 @@
 use Rattle.std.proofs.Common.{◌≡◌, ℕ, zero, suc, ◌⊎◌, inl, inr, List, [], ◌∷◌, ◌++◌, length, Option, Some, None, refl, sym, ap, subst, ◌∙◌, append_assoc, arith}
 use Rattle.std.proofs.lemmas.Bool.{eqb-true}
 use Rattle.std.proofs.lemmas.Option.{option_and_then_some}
-use Rattle.list_laws.proofs.Tests.{chosen}
+use Rattle.owned_values.proofs.Tests.{chosen}
 use Rattle.json_value.specs.Grammar.{IsSpace}
 use Rattle.json_value.specs.Reading.{Parse, skip, list_after, list_at, closes, items_unless, items_at}
 use Rattle.json_reading.proofs.Steps.{pair_is, IsSound}
@@ -32,19 +32,19 @@ module _ (A : Type 0) (R : List ℕ → A → Type 0) (close : ℕ) (item : Pars
   unfolding list_at
   list_takes sound zero bs x e = cc
   list_takes sound (suc n) bs x e = option_and_then_some _ _ _ e (λ y f g.
-      let front = skip_takes bs in
+      let prefix = skip_takes bs in
       let here = sound (skip bs) y f in
-      let behind = skip_takes y.1 in
+      let following = skip_takes y.1 in
       elim (after_takes (list_at close item n) (list_takes sound n) y.0 (skip y.1) x g) [
         | inl h ↦ (
-          front.0 ++ here.0 ++ behind.0,
-          subst (λ vs. SpellsList R (front.0 ++ here.0 ++ behind.0) vs) (sym h.0) (list_last front.0 here.0 behind.0 front.1 here.1 behind.1),
-          joined_last front.0 here.0 behind.0 bs (skip bs) y.1 x.1 close front.2 here.2 (behind.2 ∙ ap (λ z. behind.0 ++ z) h.1),
+          prefix.0 ++ here.0 ++ following.0,
+          subst (λ vs. SpellsList R (prefix.0 ++ here.0 ++ following.0) vs) (sym h.0) (list_last prefix.0 here.0 following.0 prefix.1 here.1 following.1),
+          joined_last prefix.0 here.0 following.0 bs (skip bs) y.1 x.1 close prefix.2 here.2 (following.2 ∙ ap (λ z. following.0 ++ z) h.1),
         )
         | inr h ↦ (
-          front.0 ++ here.0 ++ behind.0 ++ 44 ∷ h.4.0,
-          subst (λ vs. SpellsList R (front.0 ++ here.0 ++ behind.0 ++ 44 ∷ h.4.0) vs) (sym h.1) (list_more front.0 here.0 behind.0 h.4.0 front.1 here.1 behind.1 h.4.1),
-          joined_more front.0 here.0 behind.0 h.4.0 bs (skip bs) y.1 h.2 x.1 close front.2 here.2 (behind.2 ∙ ap (λ z. behind.0 ++ z) h.3) h.4.2,
+          prefix.0 ++ here.0 ++ following.0 ++ 44 ∷ h.4.0,
+          subst (λ vs. SpellsList R (prefix.0 ++ here.0 ++ following.0 ++ 44 ∷ h.4.0) vs) (sym h.1) (list_more prefix.0 here.0 following.0 h.4.0 prefix.1 here.1 following.1 h.4.1),
+          joined_more prefix.0 here.0 following.0 h.4.0 bs (skip bs) y.1 h.2 x.1 close prefix.2 here.2 (following.2 ∙ ap (λ z. following.0 ++ z) h.3) h.4.2,
         )
       ])
 
@@ -57,10 +57,10 @@ module _ (A : Type 0) (R : List ℕ → A → Type 0) (close : ℕ) (item : Pars
   unfolding items_unless closes
   unless_takes sound bs None h x e = let r = list_takes sound (length bs) bs x e in inr (r.0, r.1, r.2 ∙ rw append_assoc refl)
   unless_takes sound bs (Some rest) h x e =
-      let front = skip_takes bs in
+      let prefix = skip_takes bs in
       let is_end = after_word_takes (close ∷ []) (skip bs) rest h in
       let p = pair_is [] rest x e in
-      inl (front.0, front.1, sym p.0, front.2 ∙ rw (is_end, p.1, append_assoc) refl)
+      inl (prefix.0, prefix.1, sym p.0, prefix.2 ∙ rw (is_end, p.1, append_assoc) refl)
 
   pub items_takes : IsSound R item → (bs : List ℕ) (x : List A × List ℕ) → items_at close item bs ≡ Some x → TakesItems bs x.0 x.1
   items_takes sound bs x e = unfold items_at in unless_takes sound bs (closes close bs) refl x e

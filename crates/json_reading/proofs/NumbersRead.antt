@@ -3,7 +3,7 @@ use Rattle.std.proofs.Common.{◌≡◌, ◌≢◌, ℕ, ◌-◌, ◌≤◌, Boo
 use Rattle.std.proofs.lemmas.Bool.{eqb-true, or_cases}
 use Rattle.std.proofs.lemmas.Option.{option_and_then_some}
 use Rattle.std.proofs.Math.Seq.{take-append_seam}
-use Rattle.list_laws.proofs.Tests.{chosen}
+use Rattle.owned_values.proofs.Tests.{chosen}
 use Rattle.decimal_text.specs.Grammar.{is_digit, AllDigits, IsMinus, no_minus, one_minus, IsWhole, whole_zero, whole_digits, IsFraction, no_fraction, fraction, IsSign, no_sign, plus_sign, minus_sign, is_e, IsExponent, no_exponent, exponent, IsNumber, number_of}
 use Rattle.json_value.specs.Reading.{after_digits, after_some_digits, after_minus, after_whole, after_fraction, after_sign, after_exponent, after_number, number_at}
 use Rattle.json_reading.proofs.Steps.{not_equal, pair_is, IsSound, at}
@@ -114,5 +114,5 @@ whole_by_digits b bs rest h other = unfold after_whole in rw (h, not_equal b 48 
 pub shorter : (bs rest : List ℕ) → after_number bs ≡ Some rest → length rest ≤ length bs
 shorter bs rest h = let r = after_takes bs rest h in let l = ap length r.2 in omega (arith, l, length-append r.0 rest)
 
-pub front_number : (bs rest : List ℕ) → after_number bs ≡ Some rest → IsNumber (take (length bs - length rest) bs)
-front_number bs rest h = let r = after_takes bs rest h in rw (cut r.0 rest bs r.2) r.1
+pub prefix_number : (bs rest : List ℕ) → after_number bs ≡ Some rest → IsNumber (take (length bs - length rest) bs)
+prefix_number bs rest h = let r = after_takes bs rest h in rw (cut r.0 rest bs r.2) r.1

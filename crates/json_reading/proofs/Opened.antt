@@ -58,11 +58,11 @@ module _ (fits : List ℕ → Bool) where
     at_array h less e = unfold value_at value_with in rw (e, first, h) refl
 
     pub array_fails : b ≡ 91 → d ≢ 0 → (e : Fault) → Fails e (items_at 93 (value_at fits (d - 1)) rest) → Fails e (value_at fits d bs)
-    array_fails h deep fault.Memory f = tt
-    array_fails h deep (fault.Malformed why left) f = at_array h (d - 1) (omega arith) ∙ rw f refl
+    array_fails h depth_left fault.Memory f = tt
+    array_fails h depth_left (fault.Malformed why left) f = at_array h (d - 1) (omega arith) ∙ rw f refl
 
     pub array_found : b ≡ 91 → d ≢ 0 → (vs : List Json) (after : List ℕ) → items_at 93 (value_at fits (d - 1)) rest ≡ Some (vs, after) → value_at fits d bs ≡ Some (j.Array vs, after)
-    array_found h deep vs after f = at_array h (d - 1) (omega arith) ∙ rw f refl
+    array_found h depth_left vs after f = at_array h (d - 1) (omega arith) ∙ rw f refl
 
     pub object_too_deep : b ≡ 123 → d ≡ 0 → value_at fits d bs ≡ None
     object_too_deep h e = unfold value_at value_with in rw (e, first, h) refl
@@ -71,11 +71,11 @@ module _ (fits : List ℕ → Bool) where
     at_object h less e = unfold value_at value_with in rw (e, first, h) refl
 
     pub object_fails : b ≡ 123 → d ≢ 0 → (e : Fault) → Fails e (items_at 125 (member_at fits (value_at fits (d - 1))) rest) → Fails e (value_at fits d bs)
-    object_fails h deep fault.Memory f = tt
-    object_fails h deep (fault.Malformed why left) f = at_object h (d - 1) (omega arith) ∙ rw f refl
+    object_fails h depth_left fault.Memory f = tt
+    object_fails h depth_left (fault.Malformed why left) f = at_object h (d - 1) (omega arith) ∙ rw f refl
 
     pub object_found : b ≡ 123 → d ≢ 0 → (ms : List (List ℕ × Json)) (after : List ℕ) → items_at 125 (member_at fits (value_at fits (d - 1))) rest ≡ Some (ms, after) → value_at fits d bs ≡ Some (j.Object ms, after)
-    object_found h deep ms after f = at_object h (d - 1) (omega arith) ∙ rw f refl
+    object_found h depth_left ms after f = at_object h (d - 1) (omega arith) ∙ rw f refl
 
   pub at_nothing : (d : ℕ) (bs : List ℕ) → bs ≡ [] → value_at fits d bs ≡ None
   at_nothing d bs h = unfold value_with in rw ((value_at_is d).2, h) refl

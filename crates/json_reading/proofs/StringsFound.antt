@@ -3,9 +3,9 @@ use Rattle.std.proofs.Common.{◌≡◌, ℕ, suc, ◌<◌, Bool, true, false, L
 use Rattle.std.specs.Prelude.{encode_utf8}
 use Rattle.std.proofs.lemmas.Option.{option_and_then_some}
 use Rattle.std.proofs.lemmas.Str.{encode_ascii}
-use Rattle.list_laws.proofs.Tests.{chosen}
+use Rattle.owned_values.proofs.Tests.{chosen}
 use Rattle.json_value.specs.Grammar.{is_plain, SpellsUnit, unit_of, is_high, is_low, paired, SpellsChars, chars_end, chars_plain, chars_escape, chars_unit, chars_pair}
-use Rattle.json_value.specs.Reading.{Parse, after_word, plain_front, after_plain, hex_at, unit_at, low_at, unicode_at, escape_at, chars_after, chars_at, if_text, string_at}
+use Rattle.json_value.specs.Reading.{Parse, after_word, plain_prefix, after_plain, hex_at, unit_at, low_at, unicode_at, escape_at, chars_after, chars_at, if_text, string_at}
 use Rattle.json_reading.proofs.Steps.{pair_is, turn}
 use Rattle.json_value.proofs.Letters.{letter_kind}
 
@@ -23,9 +23,9 @@ unit_found (unit_of a b c d p q r s) xs = record { digits = a ∷ b ∷ c ∷ d 
 
 -- an escape, wherever it stands
 record EscapeFound (u : List ℕ) (c : ℕ) (xs : List ℕ) : Type 0 where
-  behind : List ℕ
-  begins : u ++ xs ≡ 92 ∷ behind
-  found : escape_at behind ≡ Some (c, xs)
+  following : List ℕ
+  begins : u ++ xs ≡ 92 ∷ following
+  found : escape_at following ≡ Some (c, xs)
 
 single_found : {u : List ℕ} {n : ℕ} → SpellsUnit u n → is_high n ≡ false → is_low n ≡ false → (xs : List ℕ) → EscapeFound u n xs
 single_found su high low xs = unfold escape_at unicode_at in grind (arith, unit_found su xs)
@@ -44,15 +44,15 @@ plain_more : (more : Parse (List ℕ)) (b : ℕ) (run bs t rest : List ℕ) → 
 plain_more more b run bs t rest h = unfold chars_after in grind (arith, chosen, pair_is, option_and_then_some)
 
 plain_again : (n b : ℕ) (bs t rest : List ℕ) → is_plain b ≡ true → chars_at (suc n) bs ≡ Some (t, rest) → chars_at (suc n) (b ∷ bs) ≡ Some (b ∷ t, rest)
-unfolding chars_at plain_front after_plain
-plain_again n b bs t rest h e = rw h (plain_more (chars_at n) b (plain_front bs) (after_plain bs) t rest e)
+unfolding chars_at plain_prefix after_plain
+plain_again n b bs t rest h e = rw h (plain_more (chars_at n) b (plain_prefix bs) (after_plain bs) t rest e)
 
 any_again : (u s : List ℕ) (c n : ℕ) (t rest : List ℕ) → EscapeFound u c (s ++ (34 ∷ rest)) → chars_at n (s ++ (34 ∷ rest)) ≡ Some (t, rest) → chars_at (suc n) ((u ++ s) ++ (34 ∷ rest)) ≡ Some (encode_utf8 c ++ t, rest)
-unfolding chars_at plain_front after_plain chars_after
+unfolding chars_at plain_prefix after_plain chars_after
 any_again u s c n t rest f g = rw (append_assoc u s (34 ∷ rest), f.begins) (rw (f.found, g) refl)
 
 end_again : (n : ℕ) (rest : List ℕ) → chars_at (suc n) (34 ∷ rest) ≡ Some ([], rest)
-end_again n rest = unfold chars_at plain_front after_plain chars_after in refl
+end_again n rest = unfold chars_at plain_prefix after_plain chars_after in refl
 
 chars_again : {s t : List ℕ} → SpellsChars s t → (n : ℕ) (rest : List ℕ) → length s < n → chars_at n (s ++ (34 ∷ rest)) ≡ Some (t, rest)
 unfolding escape_at
@@ -60,7 +60,7 @@ chars_again chars_end n rest h = let k = turn n 0 h in rw k.1 (end_again k.0 res
 chars_again (chars_plain b {s} {t} p more) n rest h = grind (arith, chars_again more, turn n _ h, plain_again)
 chars_again (chars_escape e c {s} {t} p more) n rest h =
     let k = turn n _ h in
-    let again = any_again (92 ∷ e ∷ []) s c k.0 t rest (record { behind = e ∷ (s ++ (34 ∷ rest)); begins = refl; found = rw ((letter_kind e c p).no_u, p) refl }) (chars_again more k.0 rest (omega arith)) in
+    let again = any_again (92 ∷ e ∷ []) s c k.0 t rest (record { following = e ∷ (s ++ (34 ∷ rest)); begins = refl; found = rw ((letter_kind e c p).no_u, p) refl }) (chars_again more k.0 rest (omega arith)) in
     rw k.1 (rw (encode_ascii c (letter_kind e c p).ascii) at again)
 chars_again (chars_unit u c s t su high low more) n rest h =
     let longer = not_empty u c (single_found su high low []) in

@@ -5,36 +5,36 @@ use Rattle.std.proofs.lemmas.Str.{encode_ascii}
 use Rattle.std.proofs.lemmas.Bool.{eqb-true}
 use Rattle.std.proofs.lemmas.List.{append-nil}
 use Rattle.std.proofs.lemmas.Option.{option_and_then_some}
-use Rattle.list_laws.proofs.Tests.{chosen}
+use Rattle.owned_values.proofs.Tests.{chosen}
 use Rattle.json_value.specs.Grammar.{is_plain, hex_value, SpellsUnit, unit_of, is_high, is_low, paired, SpellsChars, chars_end, chars_plain, chars_escape, chars_unit, chars_pair}
 use Rattle.json_value.proofs.Letters.{letter_kind}
-use Rattle.json_value.specs.Reading.{Parse, plain_front, after_plain, hex_at, unit_at, low_at, unicode_at, escape_at, chars_after, chars_at, if_text, string_at}
+use Rattle.json_value.specs.Reading.{Parse, plain_prefix, after_plain, hex_at, unit_at, low_at, unicode_at, escape_at, chars_after, chars_at, if_text, string_at}
 use Rattle.json_reading.proofs.Steps.{pair_is, IsSound}
 use Rattle.json_reading.proofs.Words.{after_word_takes}
 use Rattle.json_reading.proofs.NumbersRead.{cut}
 
 -- ---- plain bytes
 
-pub plain-split : (bs : List ℕ) → bs ≡ plain_front bs ++ after_plain bs
-unfolding plain_front after_plain
+pub plain-split : (bs : List ℕ) → bs ≡ plain_prefix bs ++ after_plain bs
+unfolding plain_prefix after_plain
 plain-split [] = refl
 plain-split (b ∷ bs) = grind (arith, plain-split bs)
 
 -- Plain bytes before a string's bytes stand for themselves.
-plain_spelled : (bs s t : List ℕ) → SpellsChars s t → SpellsChars (plain_front bs ++ s) (plain_front bs ++ t)
-unfolding plain_front
+plain_spelled : (bs s t : List ℕ) → SpellsChars s t → SpellsChars (plain_prefix bs ++ s) (plain_prefix bs ++ t)
+unfolding plain_prefix
 plain_spelled [] s t h = h
-plain_spelled (b ∷ bs) s t h = elim (chosen (is_plain b) (b ∷ plain_front bs) [] _ refl) [
+plain_spelled (b ∷ bs) s t h = elim (chosen (is_plain b) (b ∷ plain_prefix bs) [] _ refl) [
   | inl k ↦ subst (λ z. SpellsChars (z ++ s) (z ++ t)) k.1 (chars_plain b k.0 (plain_spelled bs s t h))
   | inr k ↦ subst (λ z. SpellsChars (z ++ s) (z ++ t)) k.1 h
 ]
 
 -- what the code cuts off
-pub plain_cut : (bs : List ℕ) → take (length bs - length (after_plain bs)) bs ≡ plain_front bs
-plain_cut bs = cut (plain_front bs) (after_plain bs) bs (plain-split bs)
+pub plain_cut : (bs : List ℕ) → take (length bs - length (after_plain bs)) bs ≡ plain_prefix bs
+plain_cut bs = cut (plain_prefix bs) (after_plain bs) bs (plain-split bs)
 
 pub after_plain-le : (bs : List ℕ) → length (after_plain bs) ≤ length bs
-after_plain-le bs = let l = ap length (plain-split bs) in omega (arith, l, length-append (plain_front bs) (after_plain bs))
+after_plain-le bs = let l = ap length (plain-split bs) in omega (arith, l, length-append (plain_prefix bs) (after_plain bs))
 
 -- ---- escapes
 
@@ -72,19 +72,19 @@ joined_pair bs u xs rest v ys p q r = rw (p, q, r) (ap (λ z. 92 ∷ 117 ∷ z) 
 
 low_found : (high : ℕ) (bs u xs rest : List ℕ) (low x : ℕ × List ℕ) → is_high high ≡ true → SpellsUnit (92 ∷ 117 ∷ u) high → bs ≡ u ++ xs → xs ≡ 92 ∷ 117 ∷ rest
     → unit_at rest ≡ Some low → is_low low.0 ≡ true → Some (paired high low.0, low.1) ≡ Some x → TakesEscape (92 ∷ 117 ∷ bs) x.0 x.1
-low_found high bs u xs rest low x h su front word k l m =
+low_found high bs u xs rest low x h su prefix word k l m =
     let v = unit_takes rest low k in
     let p = pair_is (paired high low.0) low.1 x m in (
       (92 ∷ 117 ∷ u) ++ (92 ∷ 117 ∷ v.0),
       subst (λ c. Escaped ((92 ∷ 117 ∷ u) ++ (92 ∷ 117 ∷ v.0)) c) p.0 (λ s t more. rw (append_assoc (92 ∷ 117 ∷ u) (92 ∷ 117 ∷ v.0) s) (chars_pair (92 ∷ 117 ∷ u) (92 ∷ 117 ∷ v.0) high low.0 s t su v.1 h l more)),
-      joined_pair bs u xs rest v.0 x.1 front word (v.2 ∙ ap (λ z. v.0 ++ z) p.1),
+      joined_pair bs u xs rest v.0 x.1 prefix word (v.2 ∙ ap (λ z. v.0 ++ z) p.1),
     )
 
 low_takes : (high : ℕ) (bs u xs : List ℕ) (x : ℕ × List ℕ) → is_high high ≡ true → SpellsUnit (92 ∷ 117 ∷ u) high → bs ≡ u ++ xs → low_at high xs ≡ Some x → TakesEscape (92 ∷ 117 ∷ bs) x.0 x.1
-low_takes high bs u xs x h su front e = unfold low_at in option_and_then_some _ _ _ e (λ rest f g. option_and_then_some _ _ _ g (λ low k m.
+low_takes high bs u xs x h su prefix e = unfold low_at in option_and_then_some _ _ _ e (λ rest f g. option_and_then_some _ _ _ g (λ low k m.
     let low_is : ℕ × List ℕ = low in
     elim (chosen (is_low low_is.0) (Some (paired high low_is.0, low_is.1)) None (Some x) m) [
-      | inl l ↦ low_found high bs u xs rest low x h su front (after_word_takes (codes "\\u") xs rest f) k l.0 l.1
+      | inl l ↦ low_found high bs u xs rest low x h su prefix (after_word_takes (codes "\\u") xs rest f) k l.0 l.1
       | inr l ↦ (let wrong = l.1 in cc)
     ]))
 
@@ -121,28 +121,28 @@ TakesChars bs t rest = (s : List ℕ) × SpellsChars s t × (bs ≡ s ++ (34 ∷
 joined_end : (bs run rest xs : List ℕ) → bs ≡ run ++ rest → rest ≡ 34 ∷ xs → bs ≡ run ++ (34 ∷ xs)
 joined_end bs run rest xs p q = rw (p, q) refl
 
-joined_more : (bs run behind u ys s rest : List ℕ) → bs ≡ run ++ behind → behind ≡ u ++ ys → ys ≡ s ++ (34 ∷ rest) → bs ≡ (run ++ (u ++ s)) ++ (34 ∷ rest)
-joined_more bs run behind u ys s rest p q r = p ∙ rw (q, r, append_assoc, append_assoc) refl
+joined_more : (bs run following u ys s rest : List ℕ) → bs ≡ run ++ following → following ≡ u ++ ys → ys ≡ s ++ (34 ∷ rest) → bs ≡ (run ++ (u ++ s)) ++ (34 ∷ rest)
+joined_more bs run following u ys s rest p q r = p ∙ rw (q, r, append_assoc, append_assoc) refl
 
 -- after plain bytes
 after_takes : (more : Parse (List ℕ)) → ((bs : List ℕ) (x : List ℕ × List ℕ) → more bs ≡ Some x → TakesChars bs x.0 x.1)
-    → (bs behind : List ℕ) (x : List ℕ × List ℕ) → bs ≡ plain_front bs ++ behind → chars_after more (plain_front bs) behind ≡ Some x → TakesChars bs x.0 x.1
+    → (bs following : List ℕ) (x : List ℕ × List ℕ) → bs ≡ plain_prefix bs ++ following → chars_after more (plain_prefix bs) following ≡ Some x → TakesChars bs x.0 x.1
 unfolding chars_after
 after_takes more sound bs [] x split e = cc
-after_takes more sound bs (b ∷ behind) x split e = elim (chosen (eqb b 34) _ _ _ e) [
-  | inl h ↦ (let p = pair_is (plain_front bs) behind x h.1 in (
-    plain_front bs,
-    subst (λ z. SpellsChars (plain_front bs) z) p.0 (subst (λ z. SpellsChars z z) (append-nil (plain_front bs)) (plain_spelled bs [] [] chars_end)),
-    joined_end bs (plain_front bs) (b ∷ behind) x.1 split (rw (eqb-true b 34 h.0, p.1) refl),
+after_takes more sound bs (b ∷ following) x split e = elim (chosen (eqb b 34) _ _ _ e) [
+  | inl h ↦ (let p = pair_is (plain_prefix bs) following x h.1 in (
+    plain_prefix bs,
+    subst (λ z. SpellsChars (plain_prefix bs) z) p.0 (subst (λ z. SpellsChars z z) (append-nil (plain_prefix bs)) (plain_spelled bs [] [] chars_end)),
+    joined_end bs (plain_prefix bs) (b ∷ following) x.1 split (rw (eqb-true b 34 h.0, p.1) refl),
   ))
   | inr h ↦ elim (chosen (eqb b 92) _ _ _ h.1) [
     | inl k ↦ option_and_then_some _ _ _ k.1 (λ c f g. option_and_then_some _ _ _ g (λ t l m.
-        let u = escape_takes behind c f in
+        let u = escape_takes following c f in
         let r = sound c.1 t l in
-        let p = pair_is (plain_front bs ++ (encode_utf8 c.0 ++ t.0)) t.1 x m in (
-          plain_front bs ++ (u.0 ++ r.0),
-          subst (λ z. SpellsChars (plain_front bs ++ (u.0 ++ r.0)) z) p.0 (plain_spelled bs (u.0 ++ r.0) (encode_utf8 c.0 ++ t.0) (u.1 r.0 t.0 r.1)),
-          joined_more bs (plain_front bs) (b ∷ behind) u.0 c.1 r.0 x.1 split (ap (λ z. z ∷ behind) (eqb-true b 92 k.0) ∙ u.2) (r.2 ∙ ap (λ z. r.0 ++ (34 ∷ z)) p.1),
+        let p = pair_is (plain_prefix bs ++ (encode_utf8 c.0 ++ t.0)) t.1 x m in (
+          plain_prefix bs ++ (u.0 ++ r.0),
+          subst (λ z. SpellsChars (plain_prefix bs ++ (u.0 ++ r.0)) z) p.0 (plain_spelled bs (u.0 ++ r.0) (encode_utf8 c.0 ++ t.0) (u.1 r.0 t.0 r.1)),
+          joined_more bs (plain_prefix bs) (b ∷ following) u.0 c.1 r.0 x.1 split (ap (λ z. z ∷ following) (eqb-true b 92 k.0) ∙ u.2) (r.2 ∙ ap (λ z. r.0 ++ (34 ∷ z)) p.1),
         )))
     | inr k ↦ (let wrong = k.1 in cc)
   ]

@@ -31,8 +31,8 @@ module _ (fits : List ℕ → Bool) (Fit : List ℕ → Type 0) (text : (s t : L
   document_again d b v f r = unfold document ended in
       let t = r.1 in let u = r.2 in
       let here : Fit t = after_space fits Fit text split r.0 t r.3 (before_space fits Fit text split (r.0 ++ t) u r.5 (subst Fit r.6 f)) in
-      let front : skip b ≡ t ++ u = rw (r.6, append_assoc) (skip-space r.0 (t ++ u) r.3 ∙ skip_value r.4 u) in
-      rw (front, found fits Fit text split r.4 here u (Ends-only u r.5), skip_all u r.5) refl
+      let prefix : skip b ≡ t ++ u = rw (r.6, append_assoc) (skip-space r.0 (t ++ u) r.3 ∙ skip_value r.4 u) in
+      rw (prefix, found fits Fit text split r.4 here u (Ends-only u r.5), skip_all u r.5) refl
 
   text_again : (d : ℕ) (b : List ℕ) (v : Json) → Fit b → Reads d b v → text_at fits d b ≡ Some v
   unfolding text_at

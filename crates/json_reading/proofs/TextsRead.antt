@@ -17,19 +17,19 @@ joined w t u b xs ys p q r = p ∙ rw (q, r, append_assoc) refl
 module _ (fits : List ℕ → Bool) where
   document_takes : (d : ℕ) (b : List ℕ) (v : Json) → document fits d b ≡ Some v → SpellsText d b v
   document_takes d b v e = unfold document in option_and_then_some _ _ _ e (λ x f g.
-      let front = skip_takes b in
+      let prefix = skip_takes b in
       let here = value_takes fits d (skip b) x f in
-      let behind = skip_takes x.1 in
+      let following = skip_takes x.1 in
       let done = ended_takes x.0 v (skip x.1) g in
-      let all_space : x.1 ≡ behind.0 = behind.2 ∙ ap (λ z. behind.0 ++ z) done.1 ∙ append-nil behind.0 in
-      let space : IsSpace behind.0 = behind.1 in (
-        front.0,
+      let all_space : x.1 ≡ following.0 = following.2 ∙ ap (λ z. following.0 ++ z) done.1 ∙ append-nil following.0 in
+      let space : IsSpace following.0 = following.1 in (
+        prefix.0,
         here.0,
-        behind.0,
-        front.1,
+        following.0,
+        prefix.1,
         subst (λ z. Spells d here.0 z) done.0 here.1,
         space,
-        joined front.0 here.0 behind.0 b (skip b) x.1 front.2 here.2 all_space,
+        joined prefix.0 here.0 following.0 b (skip b) x.1 prefix.2 here.2 all_space,
       ))
 
   text_by : (d : ℕ) (b : List ℕ) (v : Json) (o : Option (List ℕ)) → after_word mark b ≡ o → document fits d (without b o) ≡ Some v → Reads d b v

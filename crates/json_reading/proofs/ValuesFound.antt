@@ -60,15 +60,15 @@ module _ (fits : List ℕ → Bool) where
 
   -- Texts of which each string fits, and which may be cut at an ASCII byte: the UTF-8 texts, or any bytes.
   module _ (Fit : List ℕ → Type 0) (text : (s t : List ℕ) → SpellsChars s t → Fit s → fits t ≡ true) (split : (p r : List ℕ) (x : ℕ) → x < 128 → Fit (p ++ (x ∷ r)) → Fit p × Fit r) where
-    behind : (x : ℕ) (r : List ℕ) → x < 128 → Fit (x ∷ r) → Fit r
-    behind x r small h = (split [] r x small h).1
+    following : (x : ℕ) (r : List ℕ) → x < 128 → Fit (x ∷ r) → Fit r
+    following x r small h = (split [] r x small h).1
 
     space_ascii : (b : ℕ) → is_space b ≡ true → b < 128
     space_ascii = space_is (λ b. b < 128) (omega arith) (omega arith) (omega arith) (omega arith)
 
     pub after_space : (w r : List ℕ) → IsSpace w → Fit (w ++ r) → Fit r
     after_space [] r h f = f
-    after_space (b ∷ w) r h f = after_space w r h.1 (behind b (w ++ r) (space_ascii b h.0) f)
+    after_space (b ∷ w) r h f = after_space w r h.1 (following b (w ++ r) (space_ascii b h.0) f)
 
     pub before_space : (r u : List ℕ) → IsSpace u → Fit (r ++ u) → Fit r
     before_space r [] h f = subst Fit (append-nil r) f
@@ -76,7 +76,7 @@ module _ (fits : List ℕ → Bool) where
 
     -- the bytes within brackets or quotation marks
     within : (x y : ℕ) (r : List ℕ) → x < 128 → y < 128 → Fit (x ∷ r ++ y ∷ []) → Fit r
-    within x y r small_x small_y f = (split r [] y small_y (behind x (r ++ y ∷ []) small_x f)).0
+    within x y r small_x small_y f = (split r [] y small_y (following x (r ++ y ∷ []) small_x f)).0
 
     mutual
       pub found : {d : ℕ} {t : List ℕ} {v : Json} → Spells d t v → Fit t → (rest : List ℕ) → Ends rest → value_at fits d (t ++ rest) ≡ Some (v, rest)
@@ -95,9 +95,9 @@ module _ (fits : List ℕ → Bool) where
 
       member_found : {d : ℕ} {t : List ℕ} {m : List ℕ × Json} → SpellsMember d t m → Fit t → (rest : List ℕ) → Ends rest → member_at fits (value_at fits d) (t ++ rest) ≡ Some (m, rest)
       member_found (spells_member {d} s w u t {name} {v} h hw hu sv) f rest e =
-          let name_end = split s (w ++ 58 ∷ (u ++ t)) 34 (omega arith) (behind 34 (s ++ 34 ∷ (w ++ 58 ∷ (u ++ t))) (omega arith) f) in
+          let name_end = split s (w ++ 58 ∷ (u ++ t)) 34 (omega arith) (following 34 (s ++ 34 ∷ (w ++ 58 ∷ (u ++ t))) (omega arith) f) in
           let colon = after_space w (58 ∷ (u ++ t)) hw name_end.1 in
-          let value = after_space u t hu (behind 58 (u ++ t) (omega arith) colon) in
+          let value = after_space u t hu (following 58 (u ++ t) (omega arith) colon) in
           rw (regroup s w u t rest) (member_again (value_at fits d) s w u t name rest v h (text s name h name_end.0) hw hu (skip_value sv rest) (found sv value rest e))
 
       elements : {d : ℕ} {ts : List ℕ} {vs : List Json} → SpellsElements d ts vs → Fit ts → SpellsList (Again 93 (value_at fits d)) ts vs

@@ -3,7 +3,7 @@ use Rattle.std.proofs.Common.{◌≡◌, ℕ, zero, suc, Bool, true, false, eqb,
 use Rattle.std.specs.Prelude.{codes}
 use Rattle.std.proofs.lemmas.Bool.{eqb-true}
 use Rattle.std.proofs.lemmas.Option.{option_and_then_some}
-use Rattle.list_laws.proofs.Tests.{chosen}
+use Rattle.owned_values.proofs.Tests.{chosen}
 use Rattle.json_value.specs.declared.json.Json.{Json}
 use Rattle.json_value.specs.declared.json.Json.TheVariants as j
 use Rattle.json_value.specs.Grammar.{SpellsChars, Spells, SpellsMember, spells_null, spells_true, spells_false, spells_text, spells_number, spells_empty_array, spells_array, spells_empty_object, spells_object, spells_member}
@@ -40,14 +40,14 @@ module _ (fits : List ℕ → Bool) where
   member_takes d value sound bs x e = unfold member_at in
       option_and_then_some _ _ _ e (λ name f g. option_and_then_some _ _ _ g (λ rest k m. option_and_then_some _ _ _ m (λ v p q.
       let named = name_takes bs name f in
-      let front = skip_takes name.1 in
+      let prefix = skip_takes name.1 in
       let colon = after_word_takes (58 ∷ []) (skip name.1) rest k in
-      let behind = skip_takes rest in
+      let following = skip_takes rest in
       let here = sound (skip rest) v p in
       let same = pair_is (name.0, v.0) v.1 x q in (
-        34 ∷ named.0 ++ 34 ∷ (front.0 ++ 58 ∷ (behind.0 ++ here.0)),
-        subst (λ y. SpellsMember d (34 ∷ named.0 ++ 34 ∷ (front.0 ++ 58 ∷ (behind.0 ++ here.0))) y) same.0 (spells_member named.0 front.0 behind.0 here.0 named.1 front.1 behind.1 here.1),
-        joined_member bs named.0 name.1 front.0 (skip name.1) rest behind.0 (skip rest) here.0 x.1 named.2 front.2 colon behind.2 (here.2 ∙ ap (λ z. here.0 ++ z) same.1),
+        34 ∷ named.0 ++ 34 ∷ (prefix.0 ++ 58 ∷ (following.0 ++ here.0)),
+        subst (λ y. SpellsMember d (34 ∷ named.0 ++ 34 ∷ (prefix.0 ++ 58 ∷ (following.0 ++ here.0))) y) same.0 (spells_member named.0 prefix.0 following.0 here.0 named.1 prefix.1 following.1 here.1),
+        joined_member bs named.0 name.1 prefix.0 (skip name.1) rest following.0 (skip rest) here.0 x.1 named.2 prefix.2 colon following.2 (here.2 ∙ ap (λ z. here.0 ++ z) same.1),
       ))))
 
   -- what is after a bracket that opens

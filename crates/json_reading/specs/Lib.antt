@@ -1,2 +1,5 @@
+pub mod Finding
 pub mod Gives
 pub mod Outcome
+pub mod Passes
+pub mod Strings

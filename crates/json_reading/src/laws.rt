@@ -14,7 +14,7 @@ pub fn written_text_is_read()
 {}
 
 /// A value that is read at the front of bytes is well formed, and nests no deeper than the reader allows. So its text is read as it.
-pub fn front_values_are_well_formed()
+pub fn prefix_values_are_well_formed()
     ensures formed { (d : ℕ) (bytes rest : List ℕ) (v : Value) → value_at is_utf8 d bytes ≡ Some (v, rest) → IsWellFormed v }
     ensures depth { (d : ℕ) (bytes rest : List ℕ) (v : Value) → value_at is_utf8 d bytes ≡ Some (v, rest) → depth v ≤ d }
 {}

@@ -96,6 +96,6 @@ pub fn number_at<'a>(alloc: Global, bytes: &'a [u8]) -> Result<(NumText, &'a [u8
     ensures { Gives (λ x. (x.0, x.1.now)) result (spec.number_at bytes.now) }
 {
     let rest = after_number(bytes)?;
-    let number = NumText::front(alloc, bytes, bytes.len() - rest.len())?;
+    let number = NumText::prefix(alloc, bytes, bytes.len() - rest.len())?;
     Ok((number, rest))
 }

@@ -189,12 +189,12 @@ fn after_plain(bytes: &[u8]) -> &[u8]
 
 /// The bytes at the front that stand for themselves, and what follows them.
 pub fn plain_run(bytes: &[u8]) -> (&[u8], &[u8])
-    ensures front { result.0.now ≡ spec.plain_front bytes.now }
+    ensures prefix { result.0.now ≡ spec.plain_prefix bytes.now }
     ensures rest { result.1.now ≡ spec.after_plain bytes.now }
 {
     let rest = after_plain(bytes);
-    let (front, _) = bytes.split_at(bytes.len() - rest.len());
-    (front, rest)
+    let (prefix, _) = bytes.split_at(bytes.len() - rest.len());
+    (prefix, rest)
 }
 
 /// Appends the character's UTF-8.
@@ -211,16 +211,16 @@ fn chars_at<'a>(alloc: Global, bytes: &'a [u8]) -> Result<(Vec<u8>, &'a [u8]), F
     let mut text = Vec::new(alloc);
     let mut rest = bytes;
     for _ in 0..bytes.len() {
-        let (run, behind) = plain_run(rest);
+        let (run, following) = plain_run(rest);
         text.extend_from_slice(run)?;
-        let Some((first, after)) = next(behind) else {
-            return Err(stopped(behind));
+        let Some((first, after)) = next(following) else {
+            return Err(stopped(following));
         };
         if first == b'"' {
             return Ok((text, after));
         }
         if first != b'\\' {
-            return Err(stopped(behind));
+            return Err(stopped(following));
         }
         let (character, more) = escape_at(after)?;
         push_character(&mut text, character)?;

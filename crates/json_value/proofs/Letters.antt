@@ -2,7 +2,7 @@
 use Rattle.std.proofs.Common.{◌≡◌, ℕ, ◌<◌, true, false, eqb, inl, inr, Some, refl, sym, subst, arith}
 use Rattle.std.proofs.lemmas.Bool.{eqb-true}
 use Rattle.json_value.specs.Grammar.{unescape}
-use Rattle.list_laws.proofs.Tests.{chosen}
+use Rattle.owned_values.proofs.Tests.{chosen}
 
 letter : (R : ℕ → ℕ → Type 0) (p q e c : ℕ) → R p q → eqb e p ≡ true → Some q ≡ Some c → R e c
 letter R p q e c r s t = let same : q ≡ c = cc in subst (λ z. R e z) same (subst (λ z. R z q) (sym (eqb-true e p s)) r)

@@ -1,16 +1,21 @@
 pub mod Depths
 pub mod Escapes
 mod Examples
+pub mod Inside
 pub mod KindsOf
 pub mod Letters
+pub mod Looking
 pub mod Nesting
 pub mod NumbersOf
+pub mod Parts
 pub mod Runs
 pub mod SpelledNumbers
 pub mod SpelledTexts
 pub mod Texts
 pub mod TextsOf
+pub mod Turns
 pub mod Utf8
 pub mod Utf8Parts
 pub mod Written
 pub mod WrittenUtf8
+pub mod Yields

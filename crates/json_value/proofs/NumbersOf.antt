@@ -1,6 +1,6 @@
 -- The number texts of a value, one equation a variant.
 use Rattle.std.proofs.Common.{◌≡◌, ℕ, Bool, List, [], ◌∷◌, map, refl, sym, ap, ◌∙◌}
-use Rattle.list_laws.proofs.Elements.{all_append}
+use Rattle.owned_values.proofs.Elements.{all_append}
 use Rattle.std.specs.List.{flat_map, AllByRecursion}
 use Rattle.json_value.specs.declared.json.Json.{Json, fold-Json, fold-roll-Json}
 use Rattle.json_value.specs.declared.json.Json.TheOpen.{Json-F}

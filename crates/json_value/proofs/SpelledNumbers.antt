@@ -6,7 +6,7 @@ use Rattle.json_value.specs.declared.json.Json.{Json}
 use Rattle.json_value.specs.Grammar.{Spells, SpellsMember, SpellsElements, SpellsMembers, spells_null, spells_true, spells_false, spells_text, spells_number, spells_empty_array, spells_array, spells_empty_object, spells_object, spells_member, elements_last, elements_more, members_last, members_more, Reads}
 use Rattle.json_value.specs.Numbers.{numbers_of, HasNumbers}
 use Rattle.json_value.proofs.NumbersOf.{numbers-null, numbers-bool, numbers-number, numbers-text, numbers-array, numbers-object}
-use Rattle.list_laws.proofs.Elements.{all_append}
+use Rattle.owned_values.proofs.Elements.{all_append}
 
 mutual
   pub spelled_numbers : {d : ℕ} {t : List ℕ} {v : Json} → Spells d t v → HasNumbers v

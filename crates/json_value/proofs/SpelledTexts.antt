@@ -12,7 +12,7 @@ use Rattle.json_value.specs.WellFormed.{texts_of, HasTexts, IsWellFormed}
 use Rattle.json_value.proofs.SpelledNumbers.{reads_numbers}
 use Rattle.json_value.proofs.TextsOf.{texts-null, texts-bool, texts-number, texts-text, texts-array, texts-object}
 use Rattle.json_value.proofs.Utf8.{ascii_split, ascii_tail, text_utf8}
-use Rattle.list_laws.proofs.Elements.{all_append}
+use Rattle.owned_values.proofs.Elements.{all_append}
 
 space_ascii : (b : ℕ) → is_space b ≡ true → b < 128
 space_ascii b h = grind (arith, nat_tests)

@@ -1,7 +1,7 @@
 -- The text of a value, one equation a variant.
 use Rattle.std.proofs.Common.{◌≡◌, ℕ, Bool, List, [], ◌∷◌, ◌++◌, map, refl, sym, ap, ◌∙◌}
 use Rattle.std.specs.Prelude.{codes}
-use Rattle.list_laws.specs.Commas.{comma_separated}
+use Rattle.owned_values.specs.Commas.{comma_separated}
 use Rattle.json_value.specs.declared.json.Json.{Json, fold-Json, fold-roll-Json}
 use Rattle.json_value.specs.declared.json.Json.TheOpen.{Json-F}
 use Rattle.json_value.specs.declared.json.Json.TheVariants as j

@@ -9,7 +9,7 @@ use Rattle.std.proofs.Math.Seq.{take-append_seam, drop-append-add, get_or-append
 use Rattle.json_value.specs.Grammar.{hex_value, SpellsUnit, unit_of, is_high, is_low, paired, SpellsChars, chars_end, chars_plain, chars_escape, chars_unit, chars_pair}
 use Rattle.std.proofs.lemmas.Bool.{leb-true, and_parts}
 use Rattle.json_value.proofs.Letters.{letter_kind}
-use Rattle.list_laws.proofs.Tests.{chosen}
+use Rattle.owned_values.proofs.Tests.{chosen}
 
 -- A UTF-8 text may be cut before and after an ASCII byte.
 pub ascii_split : (p r : List ℕ) (x : ℕ) → x < 128 → IsUtf8 (p ++ (x ∷ r)) → IsUtf8 p × IsUtf8 r
@@ -45,7 +45,7 @@ pair_scalar h l high low = grind (arith, nat_tests)
 
 -- After an escape of four digits a UTF-8 text goes on, and the number is small.
 record AfterUnit (p s : List ℕ) (n : ℕ) : Type 0 where
-  front : IsUtf8 p
+  prefix : IsUtf8 p
   rest : IsUtf8 s
   small : n < 65536
 
@@ -57,10 +57,10 @@ unit_split (unit_of a b c d {w} {x} {y} {z} ha hb hc hd) p s h =
     let four = hex_kind d z hd in
     let start = ascii_split p (117 ∷ a ∷ b ∷ c ∷ d ∷ s) 92 (omega arith) h in
     let digits = ascii_tail (a ∷ b ∷ c ∷ d ∷ s) 117 (omega arith) start.1 in
-    let behind_one = ascii_tail (b ∷ c ∷ d ∷ s) a one.ascii digits in
-    let behind_two = ascii_tail (c ∷ d ∷ s) b two.ascii behind_one in
-    let behind_three = ascii_tail (d ∷ s) c three.ascii behind_two in
-    record { front = start.0; rest = ascii_tail s d four.ascii behind_three; small = omega (arith, one.small, two.small, three.small, four.small) }
+    let after_one = ascii_tail (b ∷ c ∷ d ∷ s) a one.ascii digits in
+    let after_two = ascii_tail (c ∷ d ∷ s) b two.ascii after_one in
+    let after_three = ascii_tail (d ∷ s) c three.ascii after_two in
+    record { prefix = start.0; rest = ascii_tail s d four.ascii after_three; small = omega (arith, one.small, two.small, three.small, four.small) }
 
 -- ---- strings
 
@@ -76,12 +76,12 @@ chars_utf8 (chars_escape e c {s} {t} k more) p h =
     IsUtf8-append p (c ∷ t) start.0 (IsUtf8-append (c ∷ []) t (ascii_one c kind.ascii) (chars_utf8 more [] (ascii_tail s e kind.letter_ascii start.1)))
 chars_utf8 (chars_unit u n s t k high low more) p h =
     let cut = unit_split k p s h in
-    IsUtf8-append p (encode_utf8 n ++ t) cut.front (IsUtf8-append (encode_utf8 n) t (IsUtf8-encode n (unit_scalar n cut.small high low)) (chars_utf8 more [] cut.rest))
+    IsUtf8-append p (encode_utf8 n ++ t) cut.prefix (IsUtf8-append (encode_utf8 n) t (IsUtf8-encode n (unit_scalar n cut.small high low)) (chars_utf8 more [] cut.rest))
 chars_utf8 (chars_pair u v high low s t k l h1 h2 more) p h =
     let cut = unit_split k p (v ++ s) h in
-    let behind = unit_split l [] s cut.rest in
-    IsUtf8-append p (encode_utf8 (paired high low) ++ t) cut.front
-    (IsUtf8-append (encode_utf8 (paired high low)) t (IsUtf8-encode (paired high low) (pair_scalar high low h1 h2)) (chars_utf8 more [] behind.rest))
+    let following = unit_split l [] s cut.rest in
+    IsUtf8-append p (encode_utf8 (paired high low) ++ t) cut.prefix
+    (IsUtf8-append (encode_utf8 (paired high low)) t (IsUtf8-encode (paired high low) (pair_scalar high low h1 h2)) (chars_utf8 more [] following.rest))
 
 pub text_utf8 : (s t : List ℕ) → SpellsChars s t → IsUtf8 s → IsUtf8 t
 text_utf8 s t h u = chars_utf8 h [] u

@@ -15,7 +15,7 @@ use Rattle.json_value.specs.Numbers.{numbers_of, HasNumbers}
 use Rattle.json_value.specs.WellFormed.{texts_of, HasTexts, IsWellFormed}
 use Rattle.json_value.proofs.NumbersOf.{all_flat, numbers-null, numbers-number, numbers-text, numbers-array, numbers-object}
 use Rattle.json_value.proofs.TextsOf.{texts-null, texts-number, texts-text, texts-array, texts-object}
-use Rattle.list_laws.proofs.Elements.{all_map, all_of, all_weaker}
+use Rattle.owned_values.proofs.Elements.{all_map, all_of, all_weaker}
 
 -- each is UTF-8
 abbrev Each : List (List ℕ) → Type 0

@@ -1,10 +1,10 @@
 -- The text of a value spells it, at the depth of the value.
-use Rattle.list_laws.proofs.Elements.{all_left, all_right}
+use Rattle.owned_values.proofs.Elements.{all_left, all_right}
 use Rattle.std.proofs.Common.{◌≡◌, ℕ, ◌≤◌, Bool, true, false, inl, List, [], ◌∷◌, ◌++◌, map, sym, ap, subst, ◌∙◌, append_assoc, arith}
 use Rattle.std.specs.List.{flat_map, AllByRecursion}
 use Rattle.std.proofs.lemmas.List.{append-nil}
 use Rattle.decimal_text.specs.Grammar.{IsNumber}
-use Rattle.list_laws.specs.Commas.{comma_separated}
+use Rattle.owned_values.specs.Commas.{comma_separated}
 use Rattle.json_value.specs.declared.json.Json.{Json, roll-Json, ind-Json, map-Json}
 use Rattle.json_value.specs.declared.json.Json.TheOpen.{Json-F}
 use Rattle.json_value.specs.declared.json.Json.TheVariants as j

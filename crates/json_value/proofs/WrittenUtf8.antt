@@ -7,7 +7,7 @@ use Rattle.std.proofs.lemmas.Bool.Decides.{nat_tests}
 use Rattle.std.proofs.lemmas.Str.{IsUtf8-append, IsUtf8-from_ascii}
 use Rattle.std.proofs.lemmas.Str.Ascii.{IsAscii-nil}
 use Rattle.decimal_text.proofs.NumberBytes.{ascii_cons}
-use Rattle.list_laws.specs.Commas.{comma_unless, with_commas, comma_separated}
+use Rattle.owned_values.specs.Commas.{comma_unless, with_commas, comma_separated}
 use Rattle.json_value.specs.declared.json.Json.{Json, roll-Json, ind-Json, map-Json}
 use Rattle.json_value.specs.declared.json.Json.TheOpen.{Json-F}
 use Rattle.json_value.specs.declared.json.Json.TheVariants as j
@@ -16,7 +16,7 @@ use Rattle.json_value.specs.Numbers.{numbers_of}
 use Rattle.json_value.specs.Text.{json_text, hex_digit, escaped_byte, escaped, quoted}
 use Rattle.json_value.specs.WellFormed.{texts_of, HasTexts, IsWellFormed}
 use Rattle.json_value.proofs.NumbersOf.{numbers-number, numbers-array, numbers-object}
-use Rattle.json_value.proofs.Runs.{plain_stays, plain_tells}
+use Rattle.json_value.proofs.Runs.{plain_stays, plain_decides}
 use Rattle.json_value.proofs.Texts.{text-null, text-bool, text-number, text-text, text-array, text-object, one_member}
 use Rattle.json_value.proofs.TextsOf.{texts-text, texts-array, texts-object}
 use Rattle.json_value.proofs.Utf8.{ascii_split, ascii_one as one_utf8}
@@ -41,20 +41,20 @@ not_plain : (b : ℕ) → is_plain b ≡ false → b < 128
 not_plain b h = grind (arith, nat_tests)
 
 -- Bytes that stand for themselves stay in their characters, and each other byte is a character.
-escaped_behind : (t p : List ℕ) → IsUtf8 (p ++ t) → IsUtf8 (p ++ escaped t)
-escaped_behind [] p h = h
-escaped_behind (b ∷ t) p h = elim (plain_tells b) [
+escaped_after : (t p : List ℕ) → IsUtf8 (p ++ t) → IsUtf8 (p ++ escaped t)
+escaped_after [] p h = h
+escaped_after (b ∷ t) p h = elim (plain_decides b) [
   | inl plain ↦ rw (plain_stays b plain) (subst (λ z. IsUtf8 z) (append_assoc p (b ∷ []) (escaped t))
-      (escaped_behind t (p ++ b ∷ []) (subst (λ z. IsUtf8 z) (sym (append_assoc p (b ∷ []) t)) h)))
+      (escaped_after t (p ++ b ∷ []) (subst (λ z. IsUtf8 z) (sym (append_assoc p (b ∷ []) t)) h)))
   | inr other ↦ (let small = not_plain b other in
       let cut = ascii_split p t b small h in
       IsUtf8-append p (escaped_byte b ++ escaped t) cut.0
-      (IsUtf8-append (escaped_byte b) (escaped t) (IsUtf8-from_ascii _ (escape_ascii b small)) (escaped_behind t [] cut.1)))
+      (IsUtf8-append (escaped_byte b) (escaped t) (IsUtf8-from_ascii _ (escape_ascii b small)) (escaped_after t [] cut.1)))
 ]
 
 pub quoted_utf8 : (t : List ℕ) → IsUtf8 t → IsUtf8 (quoted t)
 quoted_utf8 t h =
-    IsUtf8-append (34 ∷ escaped t) (34 ∷ []) (IsUtf8-append (34 ∷ []) (escaped t) (one_utf8 34 (omega arith)) (escaped_behind t [] h)) (one_utf8 34 (omega arith))
+    IsUtf8-append (34 ∷ escaped t) (34 ∷ []) (IsUtf8-append (34 ∷ []) (escaped t) (one_utf8 34 (omega arith)) (escaped_after t [] h)) (one_utf8 34 (omega arith))
 
 -- ---- lists
 

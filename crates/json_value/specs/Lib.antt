@@ -1,8 +1,15 @@
+pub mod Answers
 pub mod Depth
+pub mod Forms
 pub mod Grammar
+pub mod Kept
 pub mod Kinds
 pub mod Limits
+pub mod Members
 pub mod Numbers
+pub mod Places
+pub mod PropertyMembers
+pub mod Readers
 pub mod Reading
 pub mod Text
 pub mod WellFormed

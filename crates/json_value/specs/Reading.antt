@@ -32,9 +32,9 @@ word_at word v bs = after_word word bs >>= λ rest. Some (v, rest)
 -- ---- strings
 
 -- the bytes at the front that stand for themselves
-unfoldable pub plain_front : List ℕ → List ℕ
-plain_front [] = []
-plain_front (b ∷ bs) = if is_plain b then b ∷ plain_front bs else []
+unfoldable pub plain_prefix : List ℕ → List ℕ
+plain_prefix [] = []
+plain_prefix (b ∷ bs) = if is_plain b then b ∷ plain_prefix bs else []
 
 -- what follows the bytes that stand for themselves
 unfoldable pub after_plain : List ℕ → List ℕ
@@ -73,7 +73,7 @@ chars_after more run (b ∷ bs) =
 -- the text of a string, up to its quotation mark. The number bounds the turns.
 unfoldable pub chars_at : ℕ → Parse (List ℕ)
 chars_at zero bs = None
-chars_at (suc n) bs = chars_after (chars_at n) (plain_front bs) (after_plain bs)
+chars_at (suc n) bs = chars_after (chars_at n) (plain_prefix bs) (after_plain bs)
 
 -- The test `fits` says which texts are taken, here and below: those that are UTF-8, where the code reads.
 unfoldable pub if_text : (List ℕ → Bool) → List ℕ → Parse (List ℕ)

@@ -1,7 +1,7 @@
 -- The one text that is written for a value (RFC 8259): no white space, members in order with their duplicates, numbers by their own texts.
 use Rattle.std.specs.Prelude.{ℕ, ◌+◌, ◌/◌, ◌%◌, ◌==◌, nat_lt, Bool, true, false, if◌then◌else◌, List, [], ◌∷◌, ◌++◌, map, codes}
 use Rattle.std.specs.List.{flat_map}
-use Rattle.list_laws.specs.Commas.{comma_separated}
+use Rattle.owned_values.specs.Commas.{comma_separated}
 use Rattle.json_value.specs.declared.json.Json.{Json, fold-Json}
 use Rattle.json_value.specs.declared.json.Json.TheOpen.{Json-F}
 

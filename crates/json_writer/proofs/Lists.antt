@@ -18,8 +18,8 @@ named_by value_of m = member_text (m.0, json_text (value_of m.1))
 
 -- in front of an element: its comma, its text, and what is left after it
 module _ {A : Type 0} (text_of : A → List ℕ) (closing : List ℕ) (is_first : Bool) (items : List A) (i : ℕ) where
-  regrouped : (comma text behind : List ℕ) → (comma ++ (text ++ behind)) ++ closing ≡ (comma ++ text) ++ (behind ++ closing)
-  regrouped comma text behind = simp append_assoc
+  regrouped : (comma text following : List ℕ) → (comma ++ (text ++ following)) ++ closing ≡ (comma ++ text) ++ (following ++ closing)
+  regrouped comma text following = simp append_assoc
 
   pub element-next : (item : A) → i < length items → item ≡ get_or items i item
       → list_left text_of closing is_first (drop i items) ≡ (comma_unless is_first ++ text_of item) ++ list_left text_of closing false (drop (i + 1) items)

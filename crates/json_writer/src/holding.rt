@@ -47,7 +47,7 @@ pub fn hold<W: Drain>(
 }
 
 /// Writes what is held and the part of at most 96 bytes after it.
-pub fn put_behind_held<W: Drain>(
+pub fn put_after_held<W: Drain>(
     part: &[u8],
     held: &mut ShortText,
     so_far: Progress,
@@ -69,7 +69,7 @@ fn comma(is_first: bool) -> &'static [u8]
 }
 
 /// Writes what is held, and the comma in front of a list's element, or nothing in front of the first.
-pub fn put_comma_behind_held<W: Drain>(
+pub fn put_comma_after_held<W: Drain>(
     is_first: bool,
     held: &mut ShortText,
     so_far: Progress,
@@ -78,5 +78,5 @@ pub fn put_comma_behind_held<W: Drain>(
     ensures wrote { Continues sink.old sink.new so_far (held.old ++ comma_unless is_first) result }
     ensures none { held.new ≡ [] }
 {
-    put_behind_held(comma(is_first), held, so_far, sink)
+    put_after_held(comma(is_first), held, so_far, sink)
 }

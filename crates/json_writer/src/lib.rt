@@ -1,22 +1,24 @@
-//! The writers of JSON values (RFC 8259), of strings, of numbers of units, and of lists whatever their items are.
-//! It stands on `json_value`, whose `specs/Text.antt` says which text is written for a value, and on `byte_ends` for the sinks that
-//! it writes to. The layers above write texts by `put_text`, values by `put_json` and `put_members`, numbers of units by
-//! `put_units` and `put_decimal`, or by `add_units` into a `ShortText`, and lists of what they write themselves by `put_array` and
-//! `put_object`, over their own ways `PutValue`.
+//! The writers of JSON values (RFC 8259), of strings, of numbers of units, of the properties of features in either form, and of lists
+//! whatever their items are. It stands on `json_value`, whose `specs/Text.antt` says which text is written for a value, and on `byte_ends`
+//! for the sinks that it writes to. The layers above write texts by `put_text`, values by `put_json` and `put_members`, properties by
+//! `put_properties`, numbers of units by `put_units` and `put_decimal`, or by `add_units` into a `ShortText`, and lists of what they write
+//! themselves by `put_array` and `put_object`, over their own ways `PutValue`.
 #![tactic(auto)]
 
 mod backward_text;
 mod holding;
 mod list_writer;
 mod number_writer;
+mod properties_writer;
 mod short_text;
 mod text_writer;
 mod units_writer;
 mod value_writer;
 
-pub use holding::put_behind_held;
+pub use holding::put_after_held;
 pub use list_writer::{ArrayOf, PutValue, put_array, put_object};
 pub use number_writer::{hold_pair, put_decimal, put_pair};
+pub use properties_writer::put_properties;
 pub use short_text::ShortText;
 pub use text_writer::{put_text, write_text};
 pub use units_writer::{add_units, print_units, put_units};

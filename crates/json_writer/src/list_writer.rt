@@ -7,7 +7,7 @@ ghost use Rattle.json_value.specs.Text.{json_text, member_text};
 ghost use Rattle.json_value.specs.declared.json.Json.{Json as Value};
 ghost use Rattle.json_value.specs.declared.json.Json.TheVariants as j;
 
-use crate::holding::{put_behind_held, put_comma_behind_held};
+use crate::holding::{put_after_held, put_comma_after_held};
 use crate::short_text::ShortText;
 use crate::value_writer::put_name;
 use byte_ends::{Drain, Progress, Sink, put_comma, put_part};
@@ -34,7 +34,7 @@ pub trait PutValue<T> {
     ) -> Progress
         ensures { Holds sink.old sink.new so_far result held.old (comma_unless is_first ++ json_text (value item.now)) held.new }
     {
-        let so_far = put_comma_behind_held(is_first, held, so_far, sink);
+        let so_far = put_comma_after_held(is_first, held, so_far, sink);
         Self::put(item, so_far, sink)
     }
 }
@@ -55,7 +55,7 @@ pub fn put_array<P: PutValue<T>, T, W: Drain>(
         so_far = P::put_element(item, is_first, &mut held, so_far, sink);
         is_first = false;
     }
-    put_behind_held(b"]", &mut held, so_far, sink)
+    put_after_held(b"]", &mut held, so_far, sink)
 }
 
 /// The way to write a list of items, each in this way, as an array.

@@ -81,9 +81,9 @@ pub fn put_text<W: Drain>(text: &str, so_far: Progress, sink: &mut Sink<W>) -> P
     let mut so_far = put_part(b"\"", so_far, sink);
     let mut rest = text.as_bytes();
     'runs: loop {
-        let (run, behind) = rest.split_at(plain_len(rest));
+        let (run, following) = rest.split_at(plain_len(rest));
         so_far = put_part(run, so_far, sink);
-        let Some((byte, after)) = behind.split_first() else {
+        let Some((byte, after)) = following.split_first() else {
             return put_part(b"\"", so_far, sink);
         };
         so_far = put_escaped(*byte, so_far, sink);

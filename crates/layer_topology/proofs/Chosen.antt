@@ -3,7 +3,7 @@ use Rattle.std.proofs.Common.{◌≡◌, ◌∙◌, ℕ, ◌+◌, ◌<◌, ◌�
 use Rattle.std.specs.List.{filter_map, sum_by}
 use Rattle.std.proofs.lemmas.List.{length-append, map-append}
 use Rattle.std.proofs.lemmas.List.Sums.{sum_by-cons}
-use Rattle.list_laws.proofs.Lists.{take_here}
+use Rattle.owned_values.proofs.Lists.{take_here}
 use Rattle.effective_area.proofs.CappedShares.{capped_more}
 use Rattle.effective_area.proofs.Stopped.{weights_length}
 use Rattle.effective_area.specs.Capped.{AreCapped, IsCapped}

@@ -10,8 +10,8 @@ use Rattle.geojson_types.specs.Features.{Featured}
 use Rattle.geojson_types.specs.Nesting.{feature_nesting}
 use Rattle.geojson_types.specs.Numbers.{FeatureHasNumbers}
 use Rattle.geojson_types.specs.Texts.{FeatureHasTexts}
-use Rattle.grid_meaning.specs.Laws.{EachFeature}
-use Rattle.list_laws.proofs.Elements.{all_append}
+use Rattle.simplified_topology.specs.GridLaws.{EachFeature}
+use Rattle.owned_values.proofs.Elements.{all_append}
 use Rattle.topojson_meaning.specs.Bounds as bounds
 use Rattle.topojson_meaning.specs.Texts as texts
 use Rattle.topojson_types.specs.declared.feature.TopoFeature.{TopoFeature}

@@ -6,14 +6,14 @@ use Rattle.build_meaning.specs.Laws as build
 use Rattle.build_meaning.specs.Built.{built}
 use Rattle.build_meaning.specs.Layers.{Named, names_of}
 use Rattle.build_meaning.proofs.Renumbered.{built_has_no_transform}
-use Rattle.grid_meaning.specs.Gridded.{IsOn, gridded, named_grid}
-use Rattle.grid_meaning.specs.Laws as grid
-use Rattle.layer_topology.specs.Laws.{IsValid, HasNames, DecodesBack, EachSegmentOnce, NestsNoDeeper, NumbersStay, TextsStay, LessensToWritten}
+use Rattle.simplified_topology.specs.Quantized.{IsOn, quantized, named_grid}
+use Rattle.simplified_topology.specs.GridLaws as grid
+use Rattle.layer_topology.specs.Laws.{IsValid, HasNames, DecodesBack, EachSegmentOnce, NestsNoDeeper, NumbersStay, TextsStay, SimplifiesToWritten}
 use Rattle.layer_topology.specs.Written.{snapped_to, written, AreTaken}
 use Rattle.layer_topology.proofs.Kept.{built_names, built_nests, built_numbers, built_texts}
 use Rattle.grid_snap.specs.Axes.{Axes}
-use Rattle.lessened_topology.specs.Celled.{EachCell}
-use Rattle.list_laws.proofs.Elements.{all_of_map}
+use Rattle.simplified_topology.specs.Celled.{EachCell}
+use Rattle.owned_values.proofs.Elements.{all_of_map}
 use Rattle.topojson_types.specs.declared.object.TopoObject.{TopoObject}
 use Rattle.topojson_types.specs.Topologies.{Contents}
 use Rattle.topojson_types.specs.Validity.{AreDistinct}
@@ -25,40 +25,40 @@ snapped on count ls h = on count ls h.count h.sound h.inputs
 pub names_distinct : (on : grid.SnappedAreOn) (count : Option ℕ) (ls : Named) → AreTaken count ls → AreDistinct (names_of (snapped_to count ls))
 names_distinct on count ls h = subst AreDistinct (sym (snapped on count ls h).names) h.names
 
-pub valid : grid.SnappedAreOn → grid.BuiltIsValidGridded → IsValid
+pub valid : grid.SnappedAreOn → grid.BuiltIsValidQuantized → IsValid
 unfolding written
 valid on is count t limit ls h = let s = snapped on count ls h in is (named_grid count ls) t limit (snapped_to count ls) s.on s.sound (names_distinct on count ls h)
 
-pub names : grid.SnappedAreOn → grid.GriddedKeeps → HasNames
+pub names : grid.SnappedAreOn → grid.QuantizedKeeps → HasNames
 unfolding written
 names on keeps count t limit ls h =
     let g = named_grid count ls in
     (keeps g (built t limit (snapped_to count ls))).names ∙ (built_names t limit (snapped_to count ls) ∙ (snapped on count ls h).names)
 
-pub back : grid.SnappedAreOn → grid.BuiltDecodesGridded → DecodesBack
+pub back : grid.SnappedAreOn → grid.BuiltDecodesQuantized → DecodesBack
 unfolding written
 back on decodes count t limit ls h = let s = snapped on count ls h in decodes (named_grid count ls) t limit (snapped_to count ls) s.on s.sound (names_distinct on count ls h)
 
 pub once : grid.SnappedAreOn → build.EachSegmentOnce → EachSegmentOnce
 once on segments count ls h = segments (snapped_to count ls) (snapped on count ls h).sound
 
-pub lessens : grid.SnappedAreOn → grid.LessensGridded → LessensToWritten
+pub simplifies : grid.SnappedAreOn → grid.SimplifiesQuantized → SimplifiesToWritten
 unfolding written
-lessens on less count t limit ls h = let s = snapped on count ls h in less (named_grid count ls) t limit (snapped_to count ls) s.on s.sound
+simplifies on less count t limit ls h = let s = snapped on count ls h in less (named_grid count ls) t limit (snapped_to count ls) s.on s.sound
 
-pub nests : grid.SnappedKeep → grid.GriddedKeeps → NestsNoDeeper
+pub nests : grid.SnappedKeep → grid.QuantizedKeeps → NestsNoDeeper
 unfolding written
 nests layers keeps count t limit n ls h =
     let g = named_grid count ls in
     (keeps g (built t limit (snapped_to count ls))).nests n (built_nests t limit n (snapped_to count ls) ((layers g ls).nests n h))
 
-pub numbers : grid.SnappedKeep → grid.GriddedKeeps → NumbersStay
+pub numbers : grid.SnappedKeep → grid.QuantizedKeeps → NumbersStay
 unfolding written
 numbers layers keeps count t limit ls h =
     let g = named_grid count ls in
     (keeps g (built t limit (snapped_to count ls))).numbers (built_numbers t limit (snapped_to count ls) ((layers g ls).numbers h))
 
-pub texts : grid.SnappedAreOn → grid.SnappedKeep → grid.GriddedKeeps → TextsStay
+pub texts : grid.SnappedAreOn → grid.SnappedKeep → grid.QuantizedKeeps → TextsStay
 unfolding written
 texts on layers keeps count t limit ls taken utf8 h =
     let g = named_grid count ls in
@@ -81,6 +81,6 @@ module _ (count : Option ℕ) (t limit : ℕ) (ls : Named) (g : Option Axes) (s 
       (subst (λ z. EachCell (IsOn (named_grid count ls)) z) (sym made)
       (subst (λ z. EachCell (IsOn (named_grid count ls)) (built t limit z)) (sym moved) (cells (named_grid count ls) t limit (snapped_to count ls) (snapped on count ls h).on)))
 
-  pub as_written : (z : Contents) → z ≡ gridded g y → z ≡ written count t limit ls
+  pub as_written : (z : Contents) → z ≡ quantized g y → z ≡ written count t limit ls
   unfolding written
-  as_written z e = e ∙ ap (λ k. gridded k y) asked ∙ ap (gridded (named_grid count ls)) (made ∙ ap (built t limit) moved)
+  as_written z e = e ∙ ap (λ k. quantized k y) asked ∙ ap (quantized (named_grid count ls)) (made ∙ ap (built t limit) moved)

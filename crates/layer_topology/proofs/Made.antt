@@ -6,9 +6,9 @@ use Rattle.build_meaning.specs.Laws.{AreSound}
 use Rattle.build_meaning.specs.Layers.{Named, layers_of}
 use Rattle.cutter.specs.Slices.{split_of}
 use Rattle.elimination_meaning.specs.Elimination.{reduce}
-use Rattle.lessened_topology.specs.Assembled.{arc_indexes, arcs_of_layers}
-use Rattle.lessened_topology.specs.Laws.{ArcIndexesReach}
-use Rattle.lessened_topology.specs.Lessened.{EachFromFirstToLast}
+use Rattle.simplified_topology.specs.Assembled.{arc_indexes, arcs_of_layers}
+use Rattle.simplified_topology.specs.Laws.{ArcIndexesReach}
+use Rattle.simplified_topology.specs.Simplified.{EachFromFirstToLast}
 use Rattle.linework.specs.Linework.{linework}
 use Rattle.layer_topology.specs.Levels.{calls_at, chosen_at, threshold_at}
 use Rattle.layer_topology.specs.declared.level.Level.{Level}

@@ -10,8 +10,8 @@ use Rattle.geojson_types.specs.declared.layer.FeatureSet.TheVariants as set
 use Rattle.geojson_types.specs.Nesting.{feature_nesting}
 use Rattle.geojson_types.specs.Numbers.{FeatureHasNumbers}
 use Rattle.geojson_types.specs.Texts.{FeatureHasTexts}
-use Rattle.grid_meaning.specs.Laws.{EachFeature}
-use Rattle.lessened_topology.specs.Thresholds.{lessened}
+use Rattle.simplified_topology.specs.GridLaws.{EachFeature}
+use Rattle.simplified_topology.specs.Thresholds.{simplified_contents}
 use Rattle.linework.specs.Linework.{linework}
 use Rattle.topojson_meaning.specs.Bounds as bounds
 use Rattle.topojson_meaning.specs.Texts.{ContentsHaveTexts}
@@ -63,5 +63,5 @@ pub record WrittenLaws : Type 0 where
   pub texts : TextsStay
 
 -- what is written at a threshold and a limit of zero and then reduced by both is what is written by both
-abbrev pub LessensToWritten : Type 0
-LessensToWritten = (count : Option ℕ) (t limit : ℕ) (ls : Named) → AreTaken count ls → lessened t limit (written count 0 0 ls) ≡ written count t limit ls
+abbrev pub SimplifiesToWritten : Type 0
+SimplifiesToWritten = (count : Option ℕ) (t limit : ℕ) (ls : Named) → AreTaken count ls → simplified_contents t limit (written count 0 0 ls) ≡ written count t limit ls

@@ -1,3 +1,4 @@
 pub mod Laws
 pub mod Levels
+pub mod Replacing
 pub mod Written

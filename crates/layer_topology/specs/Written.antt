@@ -3,7 +3,7 @@ use Rattle.std.specs.Prelude.{ℕ, Option}
 use Rattle.build_meaning.specs.Built.{built}
 use Rattle.build_meaning.specs.Laws.{AreSound}
 use Rattle.build_meaning.specs.Layers.{Named, names_of}
-use Rattle.grid_meaning.specs.Gridded.{IsCount, AreInputs, named_grid, snapped_named, gridded}
+use Rattle.simplified_topology.specs.Quantized.{IsCount, AreInputs, named_grid, snapped_named, quantized}
 use Rattle.topojson_types.specs.Topologies.{Contents}
 use Rattle.topojson_types.specs.Validity.{AreDistinct}
 
@@ -13,7 +13,7 @@ snapped_to count ls = snapped_named (named_grid count ls) ls
 
 -- what is built of the snapped layers at a threshold and a limit, on that grid
 unfoldable pub written : Option ℕ → ℕ → ℕ → Named → Contents
-written count t limit ls = gridded (named_grid count ls) (built t limit (snapped_to count ls))
+written count t limit ls = quantized (named_grid count ls) (built t limit (snapped_to count ls))
 
 -- a grid that may be asked for, and layers as they are read: sound, of positions that are read, under distinct names
 pub record AreTaken (grid : Option ℕ) (ls : Named) : Type 0 where

@@ -1,10 +1,10 @@
 // Laws of the definitions. A function here changes nothing: its contract is the law.
-ghost use Rattle.layer_topology.specs.Laws.{LessensToWritten, WrittenLaws};
+ghost use Rattle.layer_topology.specs.Laws.{SimplifiesToWritten, WrittenLaws};
 
 use build_meaning::each_segment_once;
-use grid_meaning::{
-    built_decodes_gridded, built_is_valid_gridded, gridded_keeps, lessens_gridded, snapped_are_on,
-    snapped_keep,
+use simplified_topology::{
+    built_decodes_quantized, built_is_valid_quantized, quantized_keeps, simplifies_quantized,
+    snapped_are_on, snapped_keep,
 };
 
 /// What is written of layers is a valid topology with an object for each layer. Decoding it gives each layer the features that are
@@ -15,16 +15,16 @@ pub fn written_laws()
 {
     snapped_are_on();
     snapped_keep();
-    gridded_keeps();
-    built_is_valid_gridded();
-    built_decodes_gridded();
+    quantized_keeps();
+    built_is_valid_quantized();
+    built_decodes_quantized();
     each_segment_once();
 }
 
 /// What is written of layers at a threshold and a limit of zero and then reduced by both is what is written of them by both.
-pub fn lessens_to_written()
-    ensures { LessensToWritten }
+pub fn simplifies_to_written()
+    ensures { SimplifiesToWritten }
 {
     snapped_are_on();
-    lessens_gridded();
+    simplifies_quantized();
 }

@@ -1,14 +1,23 @@
-//! From layers to the topology that is written of them: snapped to the grid that is asked for, cut into arcs, these reduced at the level
-//! that is asked for, and put together again. It stands on `linework`, `cutter` and `arc_table` for the arcs, on a reducer and the weights of `effective_area`, on `topo_model` for
-//! the topology, and on `gridded_topology` for the grid; on `build_meaning` and `grid_meaning` for what that topology is. The engine
-//! uses the contract of `topology_of_layers` and the laws of `laws.rt`.
+//! From layers to the topology that is written of them: on the grid that is asked for, cut into arcs, these reduced at the level that is
+//! asked for, and put together again. On a grid cells stand in place of positions, by the grid's transform. It stands on `linework`,
+//! `cutter` and `arc_table` for the arcs, on a reducer and the weights of `effective_area`, on `topo_model` for the topology, and on
+//! `grid_snap` for the grid; on `build_meaning` and `simplified_topology` for what that topology is. The engine uses the contract of
+//! `topology_of_layers` and the laws of `laws.rt`.
 #![tactic(auto)]
 
+mod cells;
 mod choosing;
 mod laws;
+mod layers;
 mod level;
 mod making;
+mod objects;
+mod topology;
+mod transforms;
 
-pub use laws::{lessens_to_written, written_laws};
+pub use laws::{simplifies_to_written, written_laws};
+pub use layers::snap_layers;
 pub use level::Level;
 pub use making::topology_of_layers;
+pub use topology::on_grid;
+pub use transforms::{transform, units_number};

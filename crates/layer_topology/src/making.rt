@@ -1,35 +1,36 @@
 // Making the topology of layers.
 ghost use Rattle.std.specs.Prelude.{◌≡◌, ◌+◌, ◌<◌, ◌≤◌, ◌^◌, IfOk, length, map, true};
 ghost use Rattle.arc_table.specs.Arcs.{table_of};
-ghost use Rattle.build_meaning.specs.Built.{built, taken_out};
+ghost use Rattle.build_meaning.specs.Built.{built, removed_count};
 ghost use Rattle.build_meaning.specs.Expected.{expected_dropped};
 ghost use Rattle.build_meaning.specs.Laws.{AreSound};
 ghost use Rattle.build_meaning.specs.Layers.{layers_of, names_of};
 ghost use Rattle.byte_ends.specs.Ends.{saturated};
 ghost use Rattle.cutter.specs.Slices.{split_of};
 ghost use Rattle.geometry.specs.Units.{threshold_limit};
-ghost use Rattle.grid_meaning.specs.Gridded.{AreInputs, IsCount, named_grid};
+ghost use Rattle.simplified_topology.specs.Quantized.{AreInputs, IsCount, named_grid};
 ghost use Rattle.layer_topology.specs.Levels.{calls_at, chosen_at, is_level, level_calls, level_chosen, level_threshold, threshold_at};
 ghost use Rattle.layer_topology.specs.Written.{AreTaken, snapped_to, written};
-ghost use Rattle.lessened_topology.specs.Assembled.{arcs_of_layers};
+ghost use Rattle.simplified_topology.specs.Assembled.{arcs_of_layers};
 ghost use Rattle.linework.specs.Linework.{linework};
 ghost use Rattle.topojson_types.specs.Validity.{AreDistinct};
 
 use crate::choosing::kept_positions;
+use crate::layers::snap_layers;
 use crate::level::Level;
+use crate::topology::on_grid;
 use arc_table::Table;
 use cutter::{Pieces, cut};
 use effective_area::Reducer;
 use geojson_types::{Dropped, Layer};
-use grid_meaning::{built_cells_are_on, snapped_are_on};
 use grid_snap::Grid;
-use gridded_topology::{on_grid, snap_layers};
 use json_value::OwnText;
-use lessened_topology::{
-    arc_indexes_reach, assembles_to_built, assembling_drops_expected, assembling_takes_out,
-};
 use linework::{Lines, OfLayers, Vertices};
 use owned_values::Memory;
+use simplified_topology::{
+    arc_indexes_reach, assembles_to_built, assembling_drops_expected, assembling_removes,
+    built_cells_are_on, snapped_are_on,
+};
 use std::alloc::Global;
 use topo_model::assemble;
 use topojson_types::Topology;
@@ -66,7 +67,7 @@ fn reduced_topology<Q: Reducer>(
     requires limit { ring_limit ≤ threshold_limit }
     ensures topology { IfOk result (λ r. r.0 ≡ built (threshold_at level (arcs_of_layers layers.items)) ring_limit layers.items) }
     ensures dropped { IfOk result (λ r. r.1.items ≡ expected_dropped (threshold_at level (arcs_of_layers layers.items)) ring_limit layers.items) }
-    ensures taken_out { IfOk result (λ r. r.2 ≡ saturated (taken_out (threshold_at level (arcs_of_layers layers.items)) ring_limit layers.items)) }
+    ensures removed_count { IfOk result (λ r. r.2 ≡ saturated (removed_count (threshold_at level (arcs_of_layers layers.items)) ring_limit layers.items)) }
     ensures chosen { IfOk result (λ r. r.3 ≡ chosen_at level (arcs_of_layers layers.items)) }
     ensures called { IfOk result (λ _. Q.calls reducer.new ≡ Q.calls reducer.old + calls_at level (arcs_of_layers layers.items)) }
     ensures few { IfOk result (λ r. length r.0.arcs < 2 ^ 63) }
@@ -74,11 +75,11 @@ fn reduced_topology<Q: Reducer>(
     arc_indexes_reach();
     assembles_to_built();
     assembling_drops_expected();
-    assembling_takes_out();
+    assembling_removes();
     let table = shared_arcs(alloc, &layers)?;
     let (kept, chosen) = kept_positions(alloc, reducer, &table, level)?;
-    let (topology, dropped, taken_out) = assemble(alloc, layers, table, &kept, ring_limit)?;
-    Ok((topology, dropped, taken_out, chosen))
+    let (topology, dropped, removed_count) = assemble(alloc, layers, table, &kept, ring_limit)?;
+    Ok((topology, dropped, removed_count, chosen))
 }
 
 /// The layers snapped to the grid that is asked for, if one is, and the grid.
@@ -114,7 +115,7 @@ pub fn topology_of_layers<Q: Reducer>(
     requires limit { ring_limit ≤ threshold_limit }
     ensures topology { IfOk result (λ r. r.0 ≡ written grid (level_threshold grid level layers.items) ring_limit layers.items) }
     ensures dropped { IfOk result (λ r. r.1.items ≡ expected_dropped (level_threshold grid level layers.items) ring_limit (snapped_to grid layers.items)) }
-    ensures taken_out { IfOk result (λ r. r.2 ≡ saturated (taken_out (level_threshold grid level layers.items) ring_limit (snapped_to grid layers.items))) }
+    ensures removed_count { IfOk result (λ r. r.2 ≡ saturated (removed_count (level_threshold grid level layers.items) ring_limit (snapped_to grid layers.items))) }
     ensures chosen { IfOk result (λ r. r.3 ≡ level_chosen grid level layers.items) }
     ensures called { IfOk result (λ _. Q.calls reducer.new ≡ Q.calls reducer.old + level_calls grid level layers.items) }
     ensures few { IfOk result (λ r. length r.0.arcs < 2 ^ 63) }
@@ -122,9 +123,9 @@ pub fn topology_of_layers<Q: Reducer>(
     snapped_are_on();
     built_cells_are_on();
     let (snapped, grid) = snapped_layers(layers, grid);
-    let (topology, dropped, taken_out, chosen) = reduced_topology(
+    let (topology, dropped, removed_count, chosen) = reduced_topology(
         alloc, reducer, snapped, level, ring_limit,
     )?;
     let topology = on_grid(alloc, topology, grid)?;
-    Ok((topology, dropped, taken_out, chosen))
+    Ok((topology, dropped, removed_count, chosen))
 }

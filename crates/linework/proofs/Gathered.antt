@@ -1,5 +1,5 @@
 -- Lines gathered part by part, feature by feature and layer by layer.
-use Rattle.list_laws.proofs.Lists.{take_here}
+use Rattle.owned_values.proofs.Lists.{take_here}
 use Rattle.std.proofs.Common.{◌≡◌, ℕ, suc, ◌+◌, ◌<◌, ◌≤◌, Bool, true, not, List, [], ◌∷◌, ◌++◌, map, filter, take, length, get_or, append_assoc, append-nil, refl, ap, sym, ◌∙◌, arith}
 use Rattle.std.proofs.lemmas.List.{take_all, length-map, length-take-le, map-append}
 use Rattle.geometry.specs.Points.{Point}
@@ -9,16 +9,16 @@ use Rattle.geometry.specs.declared.address.Address.{Address}
 use Rattle.geojson_types.specs.declared.layer.Layer.{Layer}
 use Rattle.junctions.specs.declared.stroke.Stroke.{Stroke}
 use Rattle.junctions.specs.Cleaning.{clean}
-use Rattle.linework.specs.Linework.{stroke_at, feature_strokes, strokes_of_layer, strokes_of_layers, is_collapsed, collapse, linework, collapsed}
-use Rattle.junctions.specs.Gathering.{Gathered, nothing_gathered, with_stroke, with_strokes, part_address}
+use Rattle.linework.specs.Linework.{line_or_ring_at, feature_lines_and_rings, lines_and_rings_of_layer, lines_and_rings_of_layers, is_collapsed, collapse, linework, collapsed}
+use Rattle.junctions.specs.Gathering.{Gathered, nothing_gathered, with_line_or_ring, with_lines_and_rings, part_address}
 
-pub with_append : (g : Gathered) (ss ts : List Stroke) → with_strokes (with_strokes g ss) ts ≡ with_strokes g (ss ++ ts)
-unfolding with_strokes
+pub with_append : (g : Gathered) (ss ts : List Stroke) → with_lines_and_rings (with_lines_and_rings g ss) ts ≡ with_lines_and_rings g (ss ++ ts)
+unfolding with_lines_and_rings
 with_append g [] ts = refl
-with_append g (s ∷ ss) ts = with_append (with_stroke g s) ss ts
+with_append g (s ∷ ss) ts = with_append (with_line_or_ring g s) ss ts
 
-pub with_none : (g : Gathered) → with_strokes g [] ≡ g
-with_none g = unfold with_strokes in refl
+pub with_none : (g : Gathered) → with_lines_and_rings g [] ≡ g
+with_none g = unfold with_lines_and_rings in refl
 
 abbrev pub Lines : Type 0
 Lines = List (Placed (Bool × List Point))
@@ -32,10 +32,10 @@ abbrev pub rings : List (List Point) → Lines
 rings rs = of_parts 0 (map (single true) rs)
 
 -- one line alone
-pub with_alone : (g : Gathered) (a : Address) (closed : Bool) (ps qs : List Point) → qs ≡ clean ps → with_stroke g (record { address = a; closed = closed; positions = qs }) ≡ with_strokes g (map (stroke_at a) (single closed ps))
-with_alone g a closed ps qs e = unfold with_strokes in grind (arith, append-nil)
+pub with_alone : (g : Gathered) (a : Address) (closed : Bool) (ps qs : List Point) → qs ≡ clean ps → with_line_or_ring g (record { address = a; closed = closed; positions = qs }) ≡ with_lines_and_rings g (map (line_or_ring_at a) (single closed ps))
+with_alone g a closed ps qs e = unfold with_lines_and_rings in grind (arith, append-nil)
 
-inside_at : (a : Address) (i : ℕ) (xs : Lines) → map (stroke_at a) (inside_part i xs) ≡ map (stroke_at (part_address a i)) xs
+inside_at : (a : Address) (i : ℕ) (xs : Lines) → map (line_or_ring_at a) (inside_part i xs) ≡ map (line_or_ring_at (part_address a i)) xs
 inside_at a i [] = refl
 inside_at a i (x ∷ xs) = grind (arith, append_assoc, inside_at a i xs)
 
@@ -45,22 +45,22 @@ parts_more i (ys ∷ xss) xs = grind (arith, append_assoc, parts_more (suc i) xs
 
 -- one part more
 pub parts_turn : {A : Type 0} (f : A → Lines) (a : Address) (g now new : Gathered) (xs : List A) (i : ℕ) (x : A) (part : Address) (ys : Lines) → i < length xs → x ≡ get_or xs i x →
-    now ≡ with_strokes g (map (stroke_at a) (of_parts 0 (map f (take i xs)))) → part ≡ part_address a i → ys ≡ f x →
-    new ≡ with_strokes now (map (stroke_at part) ys) → new ≡ with_strokes g (map (stroke_at a) (of_parts 0 (map f (take (i + 1) xs))))
+    now ≡ with_lines_and_rings g (map (line_or_ring_at a) (of_parts 0 (map f (take i xs)))) → part ≡ part_address a i → ys ≡ f x →
+    new ≡ with_lines_and_rings now (map (line_or_ring_at part) ys) → new ≡ with_lines_and_rings g (map (line_or_ring_at a) (of_parts 0 (map f (take (i + 1) xs))))
 parts_turn f a g now new xs i x part ys l e h pe ye k =
     let n : 0 + length (map f (take i xs)) ≡ i = ap (λ m. 0 + m) (length-map (take i xs) f ∙ length-take-le i xs (omega arith)) ∙ (let z : 0 + i ≡ i = omega arith in z) in
     let m : of_parts 0 (map f (take (i + 1) xs)) ≡ of_parts 0 (map f (take i xs)) ++ inside_part i (f x) =
     ap (λ l. of_parts 0 (map f l)) (take_here xs i x l e) ∙ ap (of_parts 0) (map-append f (take i xs) (x ∷ []))
     ∙ parts_more 0 (map f (take i xs)) (f x) ∙ ap (λ j. of_parts 0 (map f (take i xs)) ++ inside_part j (f x)) n in
-    k ∙ ap (λ z. with_strokes now (map (stroke_at z) ys)) pe ∙ ap (λ z. with_strokes now (map (stroke_at (part_address a i)) z)) ye
-    ∙ ap (λ z. with_strokes z (map (stroke_at (part_address a i)) (f x))) h
-    ∙ with_append g (map (stroke_at a) (of_parts 0 (map f (take i xs)))) (map (stroke_at (part_address a i)) (f x))
-    ∙ ap (with_strokes g) (ap (λ l. map (stroke_at a) (of_parts 0 (map f (take i xs))) ++ l) (sym (inside_at a i (f x)))
-    ∙ sym (map-append (stroke_at a) (of_parts 0 (map f (take i xs))) (inside_part i (f x))) ∙ ap (map (stroke_at a)) (sym m))
+    k ∙ ap (λ z. with_lines_and_rings now (map (line_or_ring_at z) ys)) pe ∙ ap (λ z. with_lines_and_rings now (map (line_or_ring_at (part_address a i)) z)) ye
+    ∙ ap (λ z. with_lines_and_rings z (map (line_or_ring_at (part_address a i)) (f x))) h
+    ∙ with_append g (map (line_or_ring_at a) (of_parts 0 (map f (take i xs)))) (map (line_or_ring_at (part_address a i)) (f x))
+    ∙ ap (with_lines_and_rings g) (ap (λ l. map (line_or_ring_at a) (of_parts 0 (map f (take i xs))) ++ l) (sym (inside_at a i (f x)))
+    ∙ sym (map-append (line_or_ring_at a) (of_parts 0 (map f (take i xs))) (inside_part i (f x))) ∙ ap (map (line_or_ring_at a)) (sym m))
 
 pub parts_done : {A : Type 0} (f : A → Lines) (a : Address) (g now : Gathered) (xs : List A) (i : ℕ) → length xs ≤ i →
-    now ≡ with_strokes g (map (stroke_at a) (of_parts 0 (map f (take i xs)))) → now ≡ with_strokes g (map (stroke_at a) (of_parts 0 (map f xs)))
-parts_done f a g now xs i l h = h ∙ ap (λ z. with_strokes g (map (stroke_at a) (of_parts 0 (map f z)))) (take_all i xs l)
+    now ≡ with_lines_and_rings g (map (line_or_ring_at a) (of_parts 0 (map f (take i xs)))) → now ≡ with_lines_and_rings g (map (line_or_ring_at a) (of_parts 0 (map f xs)))
+parts_done f a g now xs i l h = h ∙ ap (λ z. with_lines_and_rings g (map (line_or_ring_at a) (of_parts 0 (map f z)))) (take_all i xs l)
 
 -- one element more of a list that is numbered from zero, be it of features or of layers
 module _ {X : Type 0} (of : ℕ → X → List Stroke) (all : ℕ → List X → List Stroke) (none : (i : ℕ) → all i [] ≡ [])
@@ -70,45 +70,45 @@ module _ {X : Type 0} (of : ℕ → X → List Stroke) (all : ℕ → List X →
   all_more i (y ∷ ys) x = grind (arith, append_assoc, all_more (suc i) ys x)
 
   all_turn : (g now new : Gathered) (xs : List X) (i : ℕ) (x : X) → i < length xs → x ≡ get_or xs i x →
-      now ≡ with_strokes g (all 0 (take i xs)) → new ≡ with_strokes now (of i x) → new ≡ with_strokes g (all 0 (take (i + 1) xs))
+      now ≡ with_lines_and_rings g (all 0 (take i xs)) → new ≡ with_lines_and_rings now (of i x) → new ≡ with_lines_and_rings g (all 0 (take (i + 1) xs))
   all_turn g now new xs i x l e h k =
       grind (arith, length-take-le i xs (omega arith), with_append g (all 0 (take i xs)) (of i x), take_here xs i x l e, all_more 0 (take i xs) x)
 
 pub features_turn : (layer : ℕ) (g now new : Gathered) (fs : List Featured) (i : ℕ) (f : Featured) → i < length fs → f ≡ get_or fs i f →
-    now ≡ with_strokes g (strokes_of_layer layer 0 (take i fs)) → new ≡ with_strokes now (feature_strokes layer i f) → new ≡ with_strokes g (strokes_of_layer layer 0 (take (i + 1) fs))
-features_turn layer = all_turn (feature_strokes layer) (strokes_of_layer layer) (λ i. refl) (λ i x xs. refl)
+    now ≡ with_lines_and_rings g (lines_and_rings_of_layer layer 0 (take i fs)) → new ≡ with_lines_and_rings now (feature_lines_and_rings layer i f) → new ≡ with_lines_and_rings g (lines_and_rings_of_layer layer 0 (take (i + 1) fs))
+features_turn layer = all_turn (feature_lines_and_rings layer) (lines_and_rings_of_layer layer) (λ i. refl) (λ i x xs. refl)
 
 pub layers_turn : (g now new : Gathered) (ls : List Layer) (i : ℕ) (l : Layer) → i < length ls → l ≡ get_or ls i l →
-    now ≡ with_strokes g (strokes_of_layers 0 (take i ls)) → new ≡ with_strokes now (strokes_of_layer i 0 l.features) → new ≡ with_strokes g (strokes_of_layers 0 (take (i + 1) ls))
-layers_turn = all_turn (λ i l. strokes_of_layer i 0 l.features) strokes_of_layers (λ i. refl) (λ i x xs. refl)
+    now ≡ with_lines_and_rings g (lines_and_rings_of_layers 0 (take i ls)) → new ≡ with_lines_and_rings now (lines_and_rings_of_layer i 0 l.features) → new ≡ with_lines_and_rings g (lines_and_rings_of_layers 0 (take (i + 1) ls))
+layers_turn = all_turn (λ i l. lines_and_rings_of_layer i 0 l.features) lines_and_rings_of_layers (λ i. refl) (λ i x xs. refl)
 
 -- layers with names, without them
 abbrev unnamed : List (List ℕ × Layer) → List Layer
 unnamed ls = map (λ l. l.1) ls
 
 pub named_turn : (g now new : Gathered) (ls : List (List ℕ × Layer)) (i : ℕ) (l : List ℕ × Layer) → i < length ls → l ≡ get_or ls i l →
-    now ≡ with_strokes g (strokes_of_layers 0 (unnamed (take i ls))) → new ≡ with_strokes now (strokes_of_layer i 0 l.1.features) → new ≡ with_strokes g (strokes_of_layers 0 (unnamed (take (i + 1) ls)))
-named_turn = all_turn (λ i l. strokes_of_layer i 0 l.1.features) (λ i ls. strokes_of_layers i (unnamed ls)) (λ i. refl) (λ i x xs. refl)
+    now ≡ with_lines_and_rings g (lines_and_rings_of_layers 0 (unnamed (take i ls))) → new ≡ with_lines_and_rings now (lines_and_rings_of_layer i 0 l.1.features) → new ≡ with_lines_and_rings g (lines_and_rings_of_layers 0 (unnamed (take (i + 1) ls)))
+named_turn = all_turn (λ i l. lines_and_rings_of_layer i 0 l.1.features) (λ i ls. lines_and_rings_of_layers i (unnamed ls)) (λ i. refl) (λ i x xs. refl)
 
 -- gathered from nothing, they are the two lists of the definition
-gathered_strokes : (g : Gathered) (ss : List Stroke) → (with_strokes g ss).strokes ≡ g.strokes ++ filter (λ s. not (is_collapsed s)) ss
-unfolding with_strokes
-gathered_strokes g [] = sym (append-nil g.strokes)
-gathered_strokes g (s ∷ ss) = grind (arith, append_assoc, gathered_strokes (with_stroke g s) ss)
+gathered_lines_and_rings : (g : Gathered) (ss : List Stroke) → (with_lines_and_rings g ss).lines_and_rings ≡ g.lines_and_rings ++ filter (λ s. not (is_collapsed s)) ss
+unfolding with_lines_and_rings
+gathered_lines_and_rings g [] = sym (append-nil g.lines_and_rings)
+gathered_lines_and_rings g (s ∷ ss) = grind (arith, append_assoc, gathered_lines_and_rings (with_line_or_ring g s) ss)
 
-gathered_dropped : (g : Gathered) (ss : List Stroke) → (with_strokes g ss).dropped ≡ g.dropped ++ map collapse (filter is_collapsed ss)
-unfolding with_strokes
+gathered_dropped : (g : Gathered) (ss : List Stroke) → (with_lines_and_rings g ss).dropped ≡ g.dropped ++ map collapse (filter is_collapsed ss)
+unfolding with_lines_and_rings
 gathered_dropped g [] = sym (append-nil g.dropped)
-gathered_dropped g (s ∷ ss) = grind (arith, append_assoc, gathered_dropped (with_stroke g s) ss)
+gathered_dropped g (s ∷ ss) = grind (arith, append_assoc, gathered_dropped (with_line_or_ring g s) ss)
 
-pub linework_is : (g : Gathered) (ls : List Layer) (i : ℕ) → length ls ≤ i → g ≡ with_strokes nothing_gathered (strokes_of_layers 0 (take i ls)) → g.strokes ≡ linework ls
-linework_is g ls i l h = unfold linework in grind (arith, gathered_strokes, take_all)
+pub linework_is : (g : Gathered) (ls : List Layer) (i : ℕ) → length ls ≤ i → g ≡ with_lines_and_rings nothing_gathered (lines_and_rings_of_layers 0 (take i ls)) → g.lines_and_rings ≡ linework ls
+linework_is g ls i l h = unfold linework in grind (arith, gathered_lines_and_rings, take_all)
 
-pub collapsed_is : (g : Gathered) (ls : List Layer) (i : ℕ) → length ls ≤ i → g ≡ with_strokes nothing_gathered (strokes_of_layers 0 (take i ls)) → g.dropped ≡ collapsed ls
+pub collapsed_is : (g : Gathered) (ls : List Layer) (i : ℕ) → length ls ≤ i → g ≡ with_lines_and_rings nothing_gathered (lines_and_rings_of_layers 0 (take i ls)) → g.dropped ≡ collapsed ls
 collapsed_is g ls i l h = unfold collapsed in grind (arith, gathered_dropped, take_all)
 
-pub named_linework_is : (g : Gathered) (ls : List (List ℕ × Layer)) (i : ℕ) → length ls ≤ i → g ≡ with_strokes nothing_gathered (strokes_of_layers 0 (unnamed (take i ls))) → g.strokes ≡ linework (map (λ l. l.1) ls)
-named_linework_is g ls i l h = unfold linework in grind (arith, gathered_strokes, take_all)
+pub named_linework_is : (g : Gathered) (ls : List (List ℕ × Layer)) (i : ℕ) → length ls ≤ i → g ≡ with_lines_and_rings nothing_gathered (lines_and_rings_of_layers 0 (unnamed (take i ls))) → g.lines_and_rings ≡ linework (map (λ l. l.1) ls)
+named_linework_is g ls i l h = unfold linework in grind (arith, gathered_lines_and_rings, take_all)
 
-pub named_collapsed_is : (g : Gathered) (ls : List (List ℕ × Layer)) (i : ℕ) → length ls ≤ i → g ≡ with_strokes nothing_gathered (strokes_of_layers 0 (unnamed (take i ls))) → g.dropped ≡ collapsed (map (λ l. l.1) ls)
+pub named_collapsed_is : (g : Gathered) (ls : List (List ℕ × Layer)) (i : ℕ) → length ls ≤ i → g ≡ with_lines_and_rings nothing_gathered (lines_and_rings_of_layers 0 (unnamed (take i ls))) → g.dropped ≡ collapsed (map (λ l. l.1) ls)
 named_collapsed_is g ls i l h = unfold collapsed in grind (arith, gathered_dropped, take_all)

@@ -7,7 +7,7 @@ pub use Rattle.junctions.proofs.Distinct
 pub use Rattle.junctions.proofs.FirstSeen
 pub use Rattle.junctions.proofs.Keeping
 pub use Rattle.junctions.proofs.Members
-pub use Rattle.junctions.proofs.Noting
+pub use Rattle.junctions.proofs.NoteLists
 pub use Rattle.junctions.proofs.Numbers
 pub use Rattle.junctions.proofs.Settled
 pub use Rattle.junctions.proofs.Starts

@@ -4,15 +4,15 @@ use Rattle.std.proofs.lemmas.List.{map-append}
 use Rattle.std.specs.List.{AllByRecursion}
 use Rattle.geometry.specs.declared.shape.Geometry.{Geometry}
 use Rattle.geometry.specs.Lists.{joined}
-use Rattle.geometry.specs.Paths.{Placed, alone, inside_part, of_parts, placed_step, placed_strokes}
-use Rattle.geometry.specs.Pruning.{strokes}
-use Rattle.geometry.proofs.Cases.{strokes-point, strokes-points, strokes-line, strokes-lines, strokes-area, strokes-areas, strokes-group}
+use Rattle.geometry.specs.Paths.{Placed, alone, inside_part, of_parts, placed_step, placed_lines_and_rings}
+use Rattle.geometry.specs.Pruning.{lines_and_rings}
+use Rattle.geometry.proofs.Cases.{lines_and_rings-point, lines_and_rings-points, lines_and_rings-line, lines_and_rings-lines, lines_and_rings-area, lines_and_rings-areas, lines_and_rings-group}
 use Rattle.geometry.proofs.Induction.{by_kinds}
 use Rattle.geometry.proofs.ByKind.{AtKinds, at_kinds}
 
 module _ (P L : Type 0) where
-  pub placed_strokes_at : AtKinds (placed_strokes {P = P} {L = L}) placed_step
-  placed_strokes_at = unfold placed_strokes in at_kinds placed_step
+  pub placed_lines_and_rings_at : AtKinds (placed_lines_and_rings {P = P} {L = L}) placed_step
+  placed_lines_and_rings_at = unfold placed_lines_and_rings in at_kinds placed_step
 
 -- without their ways
 abbrev pub parts_of : {A : Type 0} → List (Placed A) → List A
@@ -48,21 +48,21 @@ module _ {L : Type 0} where
   each_area (rs ∷ areas) = rw (of_alone true rs, each_area areas) refl
 
 module _ {P L : Type 0} where
-  abbrev IsTold : Geometry P L L → Type 0
-  IsTold s = parts_of (placed_strokes s) ≡ strokes s
+  abbrev HasAllParts : Geometry P L L → Type 0
+  HasAllParts s = parts_of (placed_lines_and_rings s) ≡ lines_and_rings s
 
-  members : (ss : List (Geometry P L L)) → AllByRecursion IsTold ss → joined (map parts_of (map placed_strokes ss)) ≡ joined (map strokes ss)
+  members : (ss : List (Geometry P L L)) → AllByRecursion HasAllParts ss → joined (map parts_of (map placed_lines_and_rings ss)) ≡ joined (map lines_and_rings ss)
   members [] all = refl
   members (s ∷ ss) all = rw (all.0, members ss all.1) refl
 
   -- the lines of a shape with their ways are its lines
-  pub told : (s : Geometry P L L) → parts_of (placed_strokes s) ≡ strokes s
-  told = by_kinds IsTold (record {
-    point = λ p. ap parts_of ((placed_strokes_at P L).point p) ∙ sym (strokes-point P L p);
-    points = λ ps. ap parts_of ((placed_strokes_at P L).points ps) ∙ sym (strokes-points P L ps);
-    line = λ l. ap parts_of ((placed_strokes_at P L).line l) ∙ sym (strokes-line P L l);
-    lines = λ ls. ap parts_of ((placed_strokes_at P L).lines ls) ∙ of_alone false ls ∙ sym (strokes-lines P L ls);
-    area = λ rs. ap parts_of ((placed_strokes_at P L).area rs) ∙ of_alone true rs ∙ sym (strokes-area P L rs);
-    areas = λ areas. ap parts_of ((placed_strokes_at P L).areas areas) ∙ joined_parts 0 (map area_parts areas) ∙ each_area areas ∙ sym (strokes-areas P L areas);
-    group = λ ss all. ap parts_of ((placed_strokes_at P L).group ss) ∙ joined_parts 0 (map placed_strokes ss) ∙ members ss all ∙ sym (strokes-group P L ss);
+  pub reported : (s : Geometry P L L) → parts_of (placed_lines_and_rings s) ≡ lines_and_rings s
+  reported = by_kinds HasAllParts (record {
+    point = λ p. ap parts_of ((placed_lines_and_rings_at P L).point p) ∙ sym (lines_and_rings-point P L p);
+    points = λ ps. ap parts_of ((placed_lines_and_rings_at P L).points ps) ∙ sym (lines_and_rings-points P L ps);
+    line = λ l. ap parts_of ((placed_lines_and_rings_at P L).line l) ∙ sym (lines_and_rings-line P L l);
+    lines = λ ls. ap parts_of ((placed_lines_and_rings_at P L).lines ls) ∙ of_alone false ls ∙ sym (lines_and_rings-lines P L ls);
+    area = λ rs. ap parts_of ((placed_lines_and_rings_at P L).area rs) ∙ of_alone true rs ∙ sym (lines_and_rings-area P L rs);
+    areas = λ areas. ap parts_of ((placed_lines_and_rings_at P L).areas areas) ∙ joined_parts 0 (map area_parts areas) ∙ each_area areas ∙ sym (lines_and_rings-areas P L areas);
+    group = λ ss all. ap parts_of ((placed_lines_and_rings_at P L).group ss) ∙ joined_parts 0 (map placed_lines_and_rings ss) ∙ members ss all ∙ sym (lines_and_rings-group P L ss);
   })

@@ -12,7 +12,7 @@ use Rattle.junctions.specs.Cleaning.{clean}
 use Rattle.junctions.specs.Cuts.{is_cut}
 use Rattle.linework.specs.Linework.{linework, collapsed}
 use Rattle.junctions.specs.Visits.{first_seen, positions, is_junction}
-use Rattle.linework.proofs.Placing.{placed_strokes_at}
+use Rattle.linework.proofs.Placing.{placed_lines_and_rings_at}
 
 abbrev at : ℕ → ℕ → Point
 at x y = record { x = pos x; y = pos y }
@@ -96,10 +96,10 @@ abbrev one_collapses : List Layer
 one_collapses = layer (g.Line (at 0 5 ∷ (at 10 5 ∷ [])) ∷ (g.Line (at 0 5 ∷ (at 0 5 ∷ [])) ∷ [])) ∷ []
 
 pub one_stays : linework one_collapses ≡ stroke false (at 0 5 ∷ (at 10 5 ∷ [])) ∷ []
-one_stays = unfold linework same in simp ((placed_strokes_at Point (List Point)).line)
+one_stays = unfold linework same in simp ((placed_lines_and_rings_at Point (List Point)).line)
 
 pub one_is_dropped : collapsed one_collapses ≡ record { address = record { layer = 0; feature = 1; path = [] }; cause = Collapsed } ∷ []
-one_is_dropped = unfold collapsed same in simp ((placed_strokes_at Point (List Point)).line)
+one_is_dropped = unfold collapsed same in simp ((placed_lines_and_rings_at Point (List Point)).line)
 
 -- a ring of three positions, which collapsed, in a collection inside a collection
 abbrev nested : List Layer
@@ -107,4 +107,4 @@ nested = layer [] ∷ (layer (g.Group (g.Point (at 3 3) ∷ (g.Group (g.Area ((a
 
 pub ring_is_dropped : collapsed nested ≡ record { address = record { layer = 1; feature = 0; path = 1 ∷ (0 ∷ (0 ∷ [])) }; cause = Collapsed } ∷ []
 unfolding collapsed same
-ring_is_dropped = simp ((placed_strokes_at Point (List Point)).group, (placed_strokes_at Point (List Point)).point, (placed_strokes_at Point (List Point)).area)
+ring_is_dropped = simp ((placed_lines_and_rings_at Point (List Point)).group, (placed_lines_and_rings_at Point (List Point)).point, (placed_lines_and_rings_at Point (List Point)).area)

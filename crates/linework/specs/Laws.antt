@@ -3,17 +3,17 @@ use Rattle.std.specs.Prelude.{◌≡◌, List, map}
 use Rattle.geojson_types.specs.declared.layer.Layer.{Layer}
 use Rattle.geojson_types.specs.Features.{Shape}
 use Rattle.geometry.specs.Lists.{joined}
-use Rattle.geometry.specs.Paths.{placed_strokes}
+use Rattle.geometry.specs.Paths.{placed_lines_and_rings}
 use Rattle.geojson_types.specs.Places.{features_points}
 use Rattle.geometry.specs.Points.{Point}
-use Rattle.geometry.specs.Pruning.{strokes}
+use Rattle.geometry.specs.Pruning.{lines_and_rings}
 use Rattle.junctions.specs.declared.stroke.Stroke.{Stroke}
 use Rattle.junctions.specs.Among.{In}
 use Rattle.linework.specs.Linework.{linework}
 
 -- the lines and rings of a shape with the ways to them are its lines and rings, in the same order
 abbrev pub PlacedAreAll : Type 0
-PlacedAreAll = (s : Shape) → map (λ x. x.part) (placed_strokes s) ≡ strokes s
+PlacedAreAll = (s : Shape) → map (λ x. x.part) (placed_lines_and_rings s) ≡ lines_and_rings s
 
 -- the positions of the layers
 abbrev pub layers_points : List Layer → List Point

@@ -3,7 +3,7 @@ use Rattle.std.specs.Prelude.{ℕ, suc, Bool, not, List, [], ◌∷◌, ◌++◌
 use Rattle.std.specs.List.{filter}
 use Rattle.geometry.specs.Points.{Point}
 use Rattle.geojson_types.specs.Features.{Shape, Featured}
-use Rattle.geometry.specs.Paths.{Placed, placed_strokes}
+use Rattle.geometry.specs.Paths.{Placed, placed_lines_and_rings}
 use Rattle.geometry.specs.declared.address.Address.{Address}
 use Rattle.geometry.specs.declared.address.Dropped.{Dropped}
 use Rattle.geojson_types.specs.declared.layer.Layer.{Layer}
@@ -12,8 +12,8 @@ use Rattle.junctions.specs.Cleaning.{clean}
 pub use Rattle.junctions.specs.Gathering.{is_collapsed, collapse}
 
 -- what stands inside a shape at this address
-abbrev pub stroke_at : Address → Placed (Bool × List Point) → Stroke
-stroke_at a s =
+abbrev pub line_or_ring_at : Address → Placed (Bool × List Point) → Stroke
+line_or_ring_at a s =
     record {
       address = record { layer = a.layer; feature = a.feature; path = a.path ++ s.path };
       closed = s.part.0;
@@ -23,30 +23,30 @@ stroke_at a s =
 -- the lines and rings of a shape that may be null
 abbrev pub option_placed : Option Shape → List (Placed (Bool × List Point))
 option_placed None = []
-option_placed (Some s) = placed_strokes s
+option_placed (Some s) = placed_lines_and_rings s
 
 -- the address of a feature's geometry
 abbrev pub feature_address : ℕ → ℕ → Address
 feature_address layer feature = record { layer = layer; feature = feature; path = [] }
 
 -- the lines and rings of a feature
-abbrev pub feature_strokes : ℕ → ℕ → Featured → List Stroke
-feature_strokes layer feature f = map (stroke_at (feature_address layer feature)) (option_placed f.shape)
+abbrev pub feature_lines_and_rings : ℕ → ℕ → Featured → List Stroke
+feature_lines_and_rings layer feature f = map (line_or_ring_at (feature_address layer feature)) (option_placed f.shape)
 
 -- the lines and rings of the features of a layer, of which the first has this number
-abbrev pub strokes_of_layer : ℕ → ℕ → List Featured → List Stroke
-strokes_of_layer layer feature [] = []
-strokes_of_layer layer feature (f ∷ fs) = feature_strokes layer feature f ++ strokes_of_layer layer (suc feature) fs
+abbrev pub lines_and_rings_of_layer : ℕ → ℕ → List Featured → List Stroke
+lines_and_rings_of_layer layer feature [] = []
+lines_and_rings_of_layer layer feature (f ∷ fs) = feature_lines_and_rings layer feature f ++ lines_and_rings_of_layer layer (suc feature) fs
 
 -- the lines and rings of the layers, of which the first has this number
-abbrev pub strokes_of_layers : ℕ → List Layer → List Stroke
-strokes_of_layers layer [] = []
-strokes_of_layers layer (l ∷ ls) = strokes_of_layer layer 0 l.features ++ strokes_of_layers (suc layer) ls
+abbrev pub lines_and_rings_of_layers : ℕ → List Layer → List Stroke
+lines_and_rings_of_layers layer [] = []
+lines_and_rings_of_layers layer (l ∷ ls) = lines_and_rings_of_layer layer 0 l.features ++ lines_and_rings_of_layers (suc layer) ls
 
 -- the lines and rings of all layers that have enough positions
 unfoldable pub linework : List Layer → List Stroke
-linework layers = filter (λ s. not (is_collapsed s)) (strokes_of_layers 0 layers)
+linework layers = filter (λ s. not (is_collapsed s)) (lines_and_rings_of_layers 0 layers)
 
 -- the addresses of the others
 unfoldable pub collapsed : List Layer → List Dropped
-collapsed layers = map collapse (filter is_collapsed (strokes_of_layers 0 layers))
+collapsed layers = map collapse (filter is_collapsed (lines_and_rings_of_layers 0 layers))

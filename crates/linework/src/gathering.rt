@@ -1,9 +1,9 @@
 // The walk over layers that gathers their lines and rings, each with its address.
 ghost use Rattle.std.specs.Prelude.{◌≡◌, IfOk, OnOk, true, false, map};
 ghost use Rattle.geometry.specs.Rings.{is_ring};
-ghost use Rattle.geometry.specs.Paths.{alone, of_parts, placed_strokes};
-ghost use Rattle.linework.specs.Linework.{stroke_at, strokes_of_layer};
-ghost use Rattle.junctions.specs.Gathering.{with_strokes, part_address};
+ghost use Rattle.geometry.specs.Paths.{alone, of_parts, placed_lines_and_rings};
+ghost use Rattle.linework.specs.Linework.{line_or_ring_at, lines_and_rings_of_layer};
+ghost use Rattle.junctions.specs.Gathering.{with_lines_and_rings, part_address};
 
 use crate::cleaning::cleaned;
 use geojson_types::Feature;
@@ -19,7 +19,7 @@ pub fn add_layer(
     features: &[Feature],
     lines: &mut Lines,
 ) -> Result<(), Memory>
-    ensures { OnOk result (lines.new ≡ with_strokes lines.old (strokes_of_layer layer 0 features.now)) }
+    ensures { OnOk result (lines.new ≡ with_lines_and_rings lines.old (lines_and_rings_of_layer layer 0 features.now)) }
 {
     for (number, feature) in features.iter().enumerate() {
         if let Some(shape) = feature.shape() {
@@ -41,12 +41,12 @@ fn add_shape(
     shape: &Shape,
     lines: &mut Lines,
 ) -> Result<(), Memory>
-    ensures { OnOk result (lines.new ≡ with_strokes lines.old (map (stroke_at address) (placed_strokes shape.now))) }
+    ensures { OnOk result (lines.new ≡ with_lines_and_rings lines.old (map (line_or_ring_at address) (placed_lines_and_rings shape.now))) }
 {
     match shape {
         Shape::Point(_) => Ok(()),
         Shape::MultiPoint(_) => Ok(()),
-        Shape::Line(line) => add_stroke(alloc, address, false, line.as_slice(), lines),
+        Shape::Line(line) => add_line_or_ring(alloc, address, false, line.as_slice(), lines),
         Shape::Lines(parts) => add_lines(alloc, &address, parts.as_slice(), lines),
         Shape::Area(rings) => add_rings(alloc, &address, rings.as_slice(), lines),
         Shape::Areas(areas) => add_areas(alloc, &address, areas.as_slice(), lines),
@@ -68,8 +68,8 @@ fn add_areas(
     lines: &mut Lines,
 ) -> Result<(), Memory>
     ensures { OnOk result
-        (lines.new ≡ with_strokes lines.old
-        (map (stroke_at address.now) (of_parts 0 (map (λ rs. of_parts 0 (map (λ r. alone (true, r)) rs)) areas.now)))) }
+        (lines.new ≡ with_lines_and_rings lines.old
+        (map (line_or_ring_at address.now) (of_parts 0 (map (λ rs. of_parts 0 (map (λ r. alone (true, r)) rs)) areas.now)))) }
 {
     for (number, rings) in areas.iter().enumerate() {
         let part = part_of(alloc, address, number)?;
@@ -86,11 +86,11 @@ fn add_rings(
     lines: &mut Lines,
 ) -> Result<(), Memory>
     ensures { OnOk result
-        (lines.new ≡ with_strokes lines.old (map (stroke_at address.now) (of_parts 0 (map (λ r. alone (true, r)) rings.now)))) }
+        (lines.new ≡ with_lines_and_rings lines.old (map (line_or_ring_at address.now) (of_parts 0 (map (λ r. alone (true, r)) rings.now)))) }
 {
     for (number, ring) in rings.iter().enumerate() {
         let part = part_of(alloc, address, number)?;
-        add_stroke(alloc, part, true, ring.as_slice(), lines)?;
+        add_line_or_ring(alloc, part, true, ring.as_slice(), lines)?;
     }
     Ok(())
 }
@@ -103,17 +103,17 @@ fn add_lines(
     lines: &mut Lines,
 ) -> Result<(), Memory>
     ensures { OnOk result
-        (lines.new ≡ with_strokes lines.old (map (stroke_at address.now) (of_parts 0 (map (λ l. alone (false, l)) parts.now)))) }
+        (lines.new ≡ with_lines_and_rings lines.old (map (line_or_ring_at address.now) (of_parts 0 (map (λ l. alone (false, l)) parts.now)))) }
 {
     for (number, line) in parts.iter().enumerate() {
         let part = part_of(alloc, address, number)?;
-        add_stroke(alloc, part, false, line.as_slice(), lines)?;
+        add_line_or_ring(alloc, part, false, line.as_slice(), lines)?;
     }
     Ok(())
 }
 
 // Adds a line or a ring.
-fn add_stroke(
+fn add_line_or_ring(
     alloc: Global,
     address: Address,
     closed: bool,
@@ -121,7 +121,7 @@ fn add_stroke(
     lines: &mut Lines,
 ) -> Result<(), Memory>
     requires { closed ≡ true → is_ring positions.now ≡ true }
-    ensures { OnOk result (lines.new ≡ with_strokes lines.old (map (stroke_at address) (alone (closed, positions.now)))) }
+    ensures { OnOk result (lines.new ≡ with_lines_and_rings lines.old (map (line_or_ring_at address) (alone (closed, positions.now)))) }
 {
     let positions = Items::of(cleaned(alloc, positions)?);
     lines.add(Stroke {

@@ -2,8 +2,8 @@
 ghost use Rattle.linework.specs.Laws.{NoneIsNew, PlacedAreAll};
 
 /// The lines and rings of a shape with the ways to them are its lines and rings, in the same order.
-#[tactic(auto, using(crate::proofs::Placing::told))]
-pub fn placed_strokes_are_all()
+#[tactic(auto, using(crate::proofs::Placing::reported))]
+pub fn placed_lines_and_rings_are_all()
     ensures { PlacedAreAll }
 {}
 

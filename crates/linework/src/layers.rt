@@ -19,7 +19,7 @@ pub trait OfLayers: Sized {
 
 impl OfLayers for Lines {
     fn of(alloc: Global, layers: &[Layer]) -> Result<Lines, Memory>
-        ensures strokes { IfOk result (λ lines. lines.strokes ≡ linework layers.now) }
+        ensures lines_and_rings { IfOk result (λ lines. lines.lines_and_rings ≡ linework layers.now) }
         ensures dropped { IfOk result (λ lines. lines.dropped ≡ collapsed layers.now) }
     {
         let mut lines = Lines::none(alloc);
@@ -30,7 +30,7 @@ impl OfLayers for Lines {
     }
 
     fn of_named(alloc: Global, layers: &[(OwnText, Layer)]) -> Result<Lines, Memory>
-        ensures strokes { IfOk result (λ lines. lines.strokes ≡ linework (map (λ l. l.1) layers.now)) }
+        ensures lines_and_rings { IfOk result (λ lines. lines.lines_and_rings ≡ linework (map (λ l. l.1) layers.now)) }
         ensures dropped { IfOk result (λ lines. lines.dropped ≡ collapsed (map (λ l. l.1) layers.now)) }
     {
         let mut lines = Lines::none(alloc);

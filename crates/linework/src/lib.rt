@@ -9,5 +9,5 @@ mod laws;
 mod layers;
 
 pub use junctions::{Address, Cause, Dropped, Lines, Stroke, Vertices};
-pub use laws::{no_position_is_new, placed_strokes_are_all};
+pub use laws::{no_position_is_new, placed_lines_and_rings_are_all};
 pub use layers::OfLayers;

@@ -4,26 +4,26 @@ use Rattle.byte_ends.specs.Ends.{Drained, Fed}
 use Rattle.byte_ends.specs.Writes.{Sends}
 use Rattle.byte_ends.specs.declared.sink.WriteFault.{WriteFault}
 use Rattle.byte_ends.specs.declared.sink.WriteFault.TheVariants as write
-use Rattle.fault_lines.specs.FaultLines.{fault_text}
-use Rattle.fault_lines.specs.Statuses.{status_of}
-use Rattle.fault_lines.specs.Telling.{Tells}
+use Rattle.reports.specs.FaultLines.{fault_text}
+use Rattle.reports.specs.Statuses.{status_of}
+use Rattle.reports.specs.Printing.{Prints}
 use Rattle.inputs.specs.Sent.{build_fault_of}
 use Rattle.inputs.specs.declared.fault.BuildFault.{BuildFault}
 use Rattle.inputs.specs.declared.file_fault.FileFault.{FileFault}
 use Rattle.inputs.specs.declared.file_fault.FileFault.TheVariants.{Read, Json, Topo, NoObject, Write, Memory}
 use Rattle.reports.specs.Summaries.{summary_text}
 use Rattle.reports.specs.declared.summary.Summary.{Summary}
-use Rattle.topology_files.specs.Files.{FailsToGive, IsSummarised}
-use Rattle.topology_files.specs.Geo.{SendsText}
+use Rattle.mapchain_engine.specs.Files.{FailsToGive, IsSummarised}
+use Rattle.mapchain_engine.specs.Geo.{SendsText}
 use Rattle.mapchain_cli.specs.Endings.{IsSummaryFault}
 use Rattle.mapchain_cli.specs.Runs.{IsHelped}
 
 -- help that was cut short, where that is reported
-pub help_cut : (old new err_old err_new : Drained) (text : List ℕ) (fault : WriteFault) (told_as : BuildFault) (status : ℕ) → told_as ≡ build_fault_of fault
-    → Sends old new 0 text (Err fault) → Tells err_old err_new (fault_text told_as) → status ≡ status_of told_as
+pub help_cut : (old new err_old err_new : Drained) (text : List ℕ) (fault : WriteFault) (reported_as : BuildFault) (status : ℕ) → reported_as ≡ build_fault_of fault
+    → Sends old new 0 text (Err fault) → Prints err_old err_new (fault_text reported_as) → status ≡ status_of reported_as
     → IsHelped (record { out = old; err = err_old }) (record { out = new; err = err_new }) status
-help_cut old new err_old err_new text (write.Write sent) told_as status is cut told at =
-    (text, sent, inr (cut, subst (λ e. Tells err_old err_new (fault_text e)) is told, at ∙ ap status_of is))
+help_cut old new err_old err_new text (write.Write sent) reported_as status is cut reported at =
+    (text, sent, inr (cut, subst (λ e. Prints err_old err_new (fault_text e)) is reported, at ∙ ap status_of is))
 
 -- no summary can be had of the source
 pub summary_fault : (sink : Drained) (s u : Fed) (e : FileFault) → FailsToGive s u e → IsSummaryFault sink sink s u e

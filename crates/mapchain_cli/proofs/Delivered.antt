@@ -1,7 +1,7 @@
 -- How a request comes out whose output takes the place of a file.
 use Rattle.std.proofs.Common.{◌≡◌, ◌∙◌, ℕ, List, Bool, true, Option, Some, Err, ap, subst, sym}
 use Rattle.byte_ends.specs.Ends.{Drained}
-use Rattle.byte_ends.specs.Writes.{Sends, WritesFront}
+use Rattle.byte_ends.specs.Writes.{Sends, WritesPrefix}
 use Rattle.byte_ends.specs.declared.sink.WriteFault.{WriteFault}
 use Rattle.byte_ends.specs.declared.sink.WriteFault.TheVariants.{Write}
 use Rattle.command_words.specs.declared.request.Request.{Request}
@@ -29,5 +29,5 @@ pub still_pending : (path : List ℕ) (before opened : FileState) (request : Req
 still_pending path before opened request old new report h = (answered (used (begun true path before) opened) request old new report h).pending
 
 -- a text that wasn't written and passed on was written in part
-pub front_of : (old new : Drained) (count : ℕ) (text : List ℕ) (fault : WriteFault) → Sends old new count text (Err fault) → (sent : ℕ) × WritesFront old new count text sent
-front_of old new count text (Write sent) h = (sent, h)
+pub prefix_of : (old new : Drained) (count : ℕ) (text : List ℕ) (fault : WriteFault) → Sends old new count text (Err fault) → (sent : ℕ) × WritesPrefix old new count text sent
+prefix_of old new count text (Write sent) h = (sent, h)

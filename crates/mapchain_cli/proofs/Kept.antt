@@ -98,11 +98,11 @@ reported : (then after : FileState) (path : List ℕ) (outcome : Outcome) (text 
 reported then after path outcome text old new status (run, is, inl (h, same, exit)) =
     let kept = h.kept in
     record { holds = λ other but. kept.others other but; outputs = inr (inr (inl (true, ap (λ (c : Counts). c.outputs) kept.counted))) }
-reported then after path outcome text old new status (run, is, inr (inl unbegun, told, exit)) =
+reported then after path outcome text old new status (run, is, inr (inl unbegun, printed, exit)) =
     only_outputs then after (begun false path then) path unbegun refl (inl refl)
-reported then after path outcome text old new status (run, is, inr (inr (inl broken), told, exit)) =
+reported then after path outcome text old new status (run, is, inr (inr (inl broken), printed, exit)) =
     only_outputs then after (discarded (begun true path then)) path broken.away refl (inr (inr refl))
-reported then after path outcome text old new status (run, is, inr (inr (inr held), told, exit)) =
+reported then after path outcome text old new status (run, is, inr (inr (inr held), printed, exit)) =
     only_outputs then after (not_kept (begun true path then)) path held.away refl (inr (inl (false, refl)))
 
 reports_to : (then after : FileState) (report : Option (List ℕ)) (outcome : Outcome) (text : List ℕ) (old new : Drained) (status : ℕ)
@@ -158,7 +158,7 @@ carried_out : (files : FileUse) (output : Option (List ℕ)) (detail : Detail) (
     → IsCarriedOut files output detail request old new status → FilesSay files detail.report status
 carried_out files output detail request old new status h =
     let did = performed files.before h.then output request old.out new.out h.outcome h.performed in
-    let said = followed detail.explains detail.report h.then files.after detail h.outcome h.told new.err status refl h.follows in
+    let said = followed detail.explains detail.report h.then files.after detail h.outcome h.reported new.err status refl h.follows in
     let is = carried_status files output detail request old new status h in
     record {
       lost = λ more none. holds_all detail.report h.then files.after none said.holds ∙ did.lost (unreported_request detail.report h.outcome status is none more);

@@ -6,7 +6,7 @@ use Rattle.std.specs.Option.{option_map}
 use Rattle.byte_ends.specs.Ends.{Fed}
 use Rattle.byte_ends.specs.declared.source.ReadFault.TheVariants as read
 use Rattle.inputs.specs.declared.fault.BuildFault.TheVariants as build
-use Rattle.layer_sources.specs.Sources.{Sources}
+use Rattle.inputs.specs.Sources.{Sources}
 use Rattle.mapchain_cli.specs.Asking.{texts_of}
 use Rattle.mapchain_cli.specs.Endings.{IsUnopened}
 use Rattle.mapchain_cli.specs.Files.{AreOpened, Contents, FileState, IsOpened, Layers, one_more, opened_times, used}
@@ -42,8 +42,8 @@ pub still : (n : ℕ) (before after : FileState) → after ≡ opened_times n be
 still n before after times = ap (λ (s : FileState). s.contents) times ∙ times_contents n before
 
 -- a prefix of the layers is one of their texts
-pub front_of_texts : (layers : List (Bor (List ℕ) × Bor (List ℕ))) (n : ℕ) → n ≤ length layers → n ≤ length (texts_of layers)
-front_of_texts layers n h =
+pub prefix_of_texts : (layers : List (Bor (List ℕ) × Bor (List ℕ))) (n : ℕ) → n ≤ length layers → n ≤ length (texts_of layers)
+prefix_of_texts layers n h =
     let e : length (texts_of layers) ≡ length layers = length-map layers (λ l. (l.0.now, l.1.now)) in
     omega (arith, h, e)
 

@@ -3,13 +3,13 @@ use Rattle.std.proofs.Common.{◌≡◌, ◌⊎◌, inl, inr, length, map, Some,
 use Rattle.byte_ends.specs.Ends.{Drained}
 use Rattle.command_words.specs.declared.request.Request.{Request}
 use Rattle.inputs.specs.declared.fault.BuildFault.{BuildFault}
-use Rattle.layer_sources.specs.Names.{name_fault}
-use Rattle.layer_sources.specs.Sources.{Sources}
-use Rattle.topology_building.specs.Building.{IsLateFault}
-use Rattle.topology_building.specs.declared.options.Options.{Options}
+use Rattle.inputs.specs.Names.{name_fault}
+use Rattle.inputs.specs.Sources.{Sources}
+use Rattle.mapchain_engine.specs.Building.{IsLateFault}
+use Rattle.mapchain_engine.specs.declared.options.Options.{Options}
 use Rattle.mapchain_cli.specs.Asking.{IsRefused, OpensSome, RefusesBuild}
 use Rattle.mapchain_cli.specs.Endings.{IsUnopened, RefusesLayers}
-use Rattle.mapchain_cli.specs.Files.{AreOpened, FileUse, Layers, Opened, OpensFront}
+use Rattle.mapchain_cli.specs.Files.{AreOpened, FileUse, Layers, Opened, OpensPrefix}
 use Rattle.mapchain_cli.specs.declared.ending.Ending.{Ending}
 use Rattle.mapchain_cli.specs.declared.ending.Ending.TheVariants.{Refused, Memory}
 use Rattle.mapchain_cli.proofs.Opened.{names_of_opened}
@@ -26,17 +26,17 @@ engine_refuses files options layers olds news old new e opened once keeps (inr l
 -- what ends the run of a build
 abbrev pub EndsBuild : FileUse → Options → Layers → Drained → Drained → Ending → Type 0
 EndsBuild files options layers old new e =
-    ((e ≡ Memory) × (new ≡ old) × OpensFront (length layers) files) ⊎ ((fault : BuildFault) × (e ≡ Refused fault) × RefusesLayers files options layers old new fault)
+    ((e ≡ Memory) × (new ≡ old) × OpensPrefix (length layers) files) ⊎ ((fault : BuildFault) × (e ≡ Refused fault) × RefusesLayers files options layers old new fault)
 
 -- a file can't be opened, or memory is wanting
 pub opening_refuses : (files : FileUse) (options : Options) (layers : Layers) (out : Drained) (e : Ending)
-    → ((e ≡ Memory) × OpensFront (length layers) files) ⊎ ((fault : BuildFault) × (e ≡ Refused fault) × IsUnopened files layers fault) → EndsBuild files options layers out out e
+    → ((e ≡ Memory) × OpensPrefix (length layers) files) ⊎ ((fault : BuildFault) × (e ≡ Refused fault) × IsUnopened files layers fault) → EndsBuild files options layers out out e
 opening_refuses files options layers out e (inl m) = inl (m.0, refl, m.1)
 opening_refuses files options layers out e (inr h) = inr (h.0, h.1, inl (refl, h.2))
 
 -- the layers that a request to build names are refused, or memory is wanting
 pub layers_refuse : (files : FileUse) (request : Request) (options : Options) (layers : Layers) (old new : Drained) (e : Ending)
     → ((fault : BuildFault) → RefusesLayers files options layers old new fault → RefusesBuild files request old new fault)
-    → (OpensFront (length layers) files → OpensSome files request) → EndsBuild files options layers old new e → IsRefused files request old new e
-layers_refuse files request options layers old new e asked front (inl h) = subst (IsRefused files request old new) (sym h.0) (h.1, front h.2)
-layers_refuse files request options layers old new e asked front (inr h) = subst (IsRefused files request old new) (sym h.1) (asked h.0 h.2)
+    → (OpensPrefix (length layers) files → OpensSome files request) → EndsBuild files options layers old new e → IsRefused files request old new e
+layers_refuse files request options layers old new e asked prefix (inl h) = subst (IsRefused files request old new) (sym h.0) (h.1, prefix h.2)
+layers_refuse files request options layers old new e asked prefix (inr h) = subst (IsRefused files request old new) (sym h.1) (asked h.0 h.2)

@@ -8,17 +8,17 @@ use Rattle.command_words.specs.declared.request.Request.{Request}
 use Rattle.command_words.specs.declared.request.Request.TheVariants.{Build, Simplify, Geo, Stat}
 use Rattle.command_words.specs.declared.words_fault.WordsFault.{WordsFault}
 use Rattle.command_words.specs.declared.words_fault.WordsFault.TheVariants as words
-use Rattle.fault_lines.specs.Statuses.{file_status_of, status_of}
+use Rattle.reports.specs.Statuses.{file_status_of, status_of}
 use Rattle.inputs.specs.declared.fault.BuildFault.{BuildFault}
 use Rattle.inputs.specs.declared.fault.BuildFault.TheVariants.{EmptyName, DuplicateName, Read, Json, Geo as Layer, Write, Memory as NoRoom}
 use Rattle.inputs.specs.declared.file_fault.FileFault.{FileFault}
 use Rattle.inputs.specs.declared.file_fault.FileFault.TheVariants as file
-use Rattle.layer_sources.specs.Sources.{Sources}
+use Rattle.inputs.specs.Sources.{Sources}
 use Rattle.reports.specs.declared.report.Report.{Report}
-use Rattle.topology_building.specs.Building.{IsLateFault}
-use Rattle.topology_building.specs.declared.options.Options.{Options}
-use Rattle.topology_files.specs.Geo.{IsGeoFault}
-use Rattle.topology_simplifying.specs.Simplified.{IsSimplifyFault}
+use Rattle.mapchain_engine.specs.Building.{IsLateFault}
+use Rattle.mapchain_engine.specs.declared.options.Options.{Options}
+use Rattle.mapchain_engine.specs.Geo.{IsGeoFault}
+use Rattle.mapchain_engine.specs.Simplified.{IsSimplifyFault}
 use Rattle.mapchain_cli.specs.Asking.{IsAnswered, IsRefused, RefusesBuild, RefusesTopology}
 use Rattle.mapchain_cli.specs.Endings.{IsSummaryFault, RefusesLayers}
 use Rattle.mapchain_cli.specs.Files.{FileUse, Layers, used}
@@ -229,7 +229,7 @@ follow_status true report files detail outcome old new status is h =
 pub carried_status : (files : FileUse) (output : Option (List ℕ)) (detail : Detail) (request : Request) (old new : Streams) (status : ℕ)
     → (h : IsCarriedOut files output detail request old new status) → HasStatus detail.report h.outcome status
 carried_status files output detail request old new status h =
-    follow_status detail.explains detail.report (used h.then files.after) detail h.outcome h.told new.err status refl h.follows
+    follow_status detail.explains detail.report (used h.then files.after) detail h.outcome h.reported new.err status refl h.follows
 
 pub after_is : (outcome : Outcome) → status_after outcome ≤ 3
 after_is (Ok report) = omega arith

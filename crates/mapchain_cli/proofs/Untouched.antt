@@ -6,10 +6,10 @@ use Rattle.command_words.specs.declared.request.Request.TheVariants.{Build, Simp
 use Rattle.inputs.specs.declared.fault.BuildFault.{BuildFault}
 use Rattle.inputs.specs.declared.file_fault.FileFault.{FileFault}
 use Rattle.reports.specs.declared.report.Report.{Report}
-use Rattle.topology_building.specs.declared.options.Options.{Options}
+use Rattle.mapchain_engine.specs.declared.options.Options.{Options}
 use Rattle.mapchain_cli.specs.Asking.{IsAnswered, IsRefused, RefusesBuild, RefusesTopology, texts_of}
 use Rattle.mapchain_cli.specs.Endings.{RefusesFile, RefusesLayers}
-use Rattle.mapchain_cli.specs.Files.{FileState, FileUse, Layers, OnlyReads, Opened, RefusedBehind, one_more, opened_times, used}
+use Rattle.mapchain_cli.specs.Files.{FileState, FileUse, Layers, OnlyReads, Opened, RefusedAfter, one_more, opened_times, used}
 use Rattle.mapchain_cli.specs.declared.ending.Ending.{Ending}
 use Rattle.mapchain_cli.specs.declared.ending.Ending.TheVariants.{BadArea, BadRingArea, BadShare, Refused, FileRefused, Memory}
 use Rattle.mapchain_cli.proofs.Opened.{times_contents}
@@ -29,8 +29,8 @@ opened files n e = record {
   pending = ap (λ (s : FileState). s.pending) e ∙ times_pending n files.before;
 }
 
-behind : (files : FileUse) (n : ℕ) → RefusedBehind n files → OnlyReads files
-behind files n e = record {
+following : (files : FileUse) (n : ℕ) → RefusedAfter n files → OnlyReads files
+following files n e = record {
   contents = ap (λ (s : FileState). s.contents) e ∙ times_contents n files.before;
   outputs = ap (λ (s : FileState). s.counts.outputs) e ∙ times_outputs n files.before;
   pending = ap (λ (s : FileState). s.pending) e ∙ times_pending n files.before;
@@ -81,7 +81,7 @@ answered files (Stat path) old new None h = opened files 1 h.once
 -- ---- requests that aren't
 
 layers_refused : (files : FileUse) (o : Options) (layers : Layers) (old new : Drained) (e : BuildFault) → RefusesLayers files o layers old new e → OnlyReads files
-layers_refused files o layers old new e (inl h) = behind files h.1.0 h.1.4
+layers_refused files o layers old new e (inl h) = following files h.1.0 h.1.4
 layers_refused files o layers old new e (inr (inl h)) = opened files (length layers) h.1
 layers_refused files o layers old new e (inr (inr h)) = opened files (length layers) h.each_once
 
@@ -93,7 +93,7 @@ build_refused files (Stat path) old new e h = absurd h
 
 file_refused : (files : FileUse) (path : _) (old new : Drained) (Fails : Fed → Fed → FileFault → Type 0) (e : FileFault) → RefusesFile files path old new Fails e
     → OnlyReads files
-file_refused files path old new Fails e (inl h) = behind files 0 h.2
+file_refused files path old new Fails e (inl h) = following files 0 h.2
 file_refused files path old new Fails e (inr h) = opened files 1 h.once
 
 topology_refused : (files : FileUse) (request : Request) (old new : Drained) (e : FileFault) → RefusesTopology files request old new e → OnlyReads files

@@ -3,8 +3,8 @@ use Rattle.std.specs.Prelude.{◌≡◌, ℕ, Bool, List, length, map, Option, S
 use Rattle.std.specs.Borrow.{Bor}
 use Rattle.std.specs.Option.{option_map}
 use Rattle.byte_ends.specs.Ends.{Drained, Fed}
-use Rattle.area_thresholds.specs.Shares.{share_of}
-use Rattle.area_thresholds.specs.Thresholds.{threshold_of}
+use Rattle.effective_area.specs.ShareTexts.{share_of}
+use Rattle.effective_area.specs.Thresholds.{threshold_of}
 use Rattle.command_words.specs.declared.request.Request.{Request}
 use Rattle.command_words.specs.declared.request.Request.TheVariants.{Build, Simplify, Geo, Stat}
 use Rattle.inputs.specs.declared.fault.BuildFault.{BuildFault}
@@ -12,15 +12,15 @@ use Rattle.inputs.specs.declared.file_fault.FileFault.{FileFault}
 use Rattle.layer_topology.specs.declared.level.Level.{Level}
 use Rattle.layer_topology.specs.declared.level.Level.TheVariants as level
 use Rattle.reports.specs.declared.report.Report.{Report}
-use Rattle.layer_sources.specs.Sources.{Sources}
-use Rattle.topology_building.specs.Building.{CallsForLayers}
-use Rattle.topology_building.specs.declared.options.Options.{Options}
-use Rattle.topology_files.specs.Geo.{IsGeoFault}
-use Rattle.topology_simplifying.specs.Simplified.{CallsForTopology, IsSimplifyFault}
+use Rattle.inputs.specs.Sources.{Sources}
+use Rattle.mapchain_engine.specs.Building.{CallsForLayers}
+use Rattle.mapchain_engine.specs.declared.options.Options.{Options}
+use Rattle.mapchain_engine.specs.Geo.{IsGeoFault}
+use Rattle.mapchain_engine.specs.Simplified.{CallsForTopology, IsSimplifyFault}
 use Rattle.mapchain_cli.specs.declared.ending.Ending.{Ending}
 use Rattle.mapchain_cli.specs.declared.ending.Ending.TheVariants.{BadArea, BadRingArea, BadShare, Refused, FileRefused, Memory}
 use Rattle.mapchain_cli.specs.Endings.{BuildsOf, DecodesOf, IsSummaryFault, RefusesFile, RefusesLayers, SimplifiesOf, Summarises}
-use Rattle.mapchain_cli.specs.Files.{AreOpened, Contents, FileUse, IsOpened, Layers, Opened, OpensFront}
+use Rattle.mapchain_cli.specs.Files.{AreOpened, Contents, FileUse, IsOpened, Layers, Opened, OpensPrefix}
 
 -- the names of layers and the paths of their files
 abbrev pub texts_of : List (Bor (List ℕ) × Bor (List ℕ)) → Layers
@@ -89,7 +89,7 @@ RefusesTopology files request old new e = ⊥
 
 -- a prefix of the files that the request names was opened
 abbrev pub OpensSome : FileUse → Request → Type 0
-OpensSome files (Build layers exact grid area keep ring_area) = OpensFront (length (texts_of layers.items)) files
+OpensSome files (Build layers exact grid area keep ring_area) = OpensPrefix (length (texts_of layers.items)) files
 OpensSome files request = Opened 0 files
 
 -- a reducer that was called so often before was called for what is asked for since: once for each arc of the layers, or of the topology

@@ -1,23 +1,23 @@
 -- What is written where a request is done, and why one isn't: of which files, in the words of the crates that read them.
 use Rattle.std.specs.Prelude.{◌≡◌, ◌⊎◌, ℕ, true, List, length, map, None, Some, slice_get}
 use Rattle.byte_ends.specs.Ends.{Fed, Drained, Takes}
-use Rattle.byte_ends.specs.Writes.{WritesFront}
+use Rattle.byte_ends.specs.Writes.{WritesPrefix}
 use Rattle.byte_ends.specs.declared.source.ReadFault.TheVariants as read
 use Rattle.inputs.specs.declared.fault.BuildFault.{BuildFault}
 use Rattle.inputs.specs.declared.fault.BuildFault.TheVariants.{Read}
 use Rattle.inputs.specs.declared.file_fault.FileFault.{FileFault}
 use Rattle.inputs.specs.declared.file_fault.FileFault.TheVariants as file
-use Rattle.layer_sources.specs.Names.{name_fault}
-use Rattle.layer_sources.specs.Sources.{Sources}
+use Rattle.inputs.specs.Names.{name_fault}
+use Rattle.inputs.specs.Sources.{Sources}
 use Rattle.reports.specs.declared.report.Report.{Report}
 use Rattle.reports.specs.declared.summary.Summary.{Summary}
 use Rattle.reports.specs.Summaries.{summary_text}
-use Rattle.topology_building.specs.Building.{IsBuilt, IsLateFault}
-use Rattle.topology_building.specs.declared.options.Options.{Options}
-use Rattle.topology_files.specs.Files.{FailsToGive, IsSummarised}
-use Rattle.topology_files.specs.Geo.{IsDecoded}
-use Rattle.topology_simplifying.specs.Simplified.{IsSimplified}
-use Rattle.mapchain_cli.specs.Files.{AreOpened, FileUse, IsOpened, Layers, Opened, RefusedBehind}
+use Rattle.mapchain_engine.specs.Building.{IsBuilt, IsLateFault}
+use Rattle.mapchain_engine.specs.declared.options.Options.{Options}
+use Rattle.mapchain_engine.specs.Files.{FailsToGive, IsSummarised}
+use Rattle.mapchain_engine.specs.Geo.{IsDecoded}
+use Rattle.mapchain_engine.specs.Simplified.{IsSimplified}
+use Rattle.mapchain_cli.specs.Files.{AreOpened, FileUse, IsOpened, Layers, Opened, RefusedAfter}
 
 -- ---- what is written
 
@@ -58,7 +58,7 @@ pub record Summarises (files : FileUse) (path : List ℕ) (old new : Drained) : 
   pub opened : IsOpened files.before.contents path source_old
   pub once : Opened 1 files
   pub summary : Summary
-  pub told : IsSummarised source_old source_new summary
+  pub reported : IsSummarised source_old source_new summary
   pub sent : SendsSummary old new summary
 
 -- ---- why nothing is written whole: nothing is written unless the device failed
@@ -67,7 +67,7 @@ pub record Summarises (files : FileUse) (path : List ℕ) (old new : Drained) : 
 -- layer
 abbrev pub IsUnopened : FileUse → Layers → BuildFault → Type 0
 IsUnopened files layers e =
-    (i : ℕ) × (layer : List ℕ × List ℕ) × (slice_get layers i ≡ Some layer) × (files.before.contents layer.1 ≡ None) × RefusedBehind i files × (e ≡ Read i read.Read)
+    (i : ℕ) × (layer : List ℕ × List ℕ) × (slice_get layers i ≡ Some layer) × (files.before.contents layer.1 ≡ None) × RefusedAfter i files × (e ≡ Read i read.Read)
 
 -- a layer's source is refused, each opened as the file of its path, or the device failed
 pub record IsRefusedLate (files : FileUse) (options : Options) (layers : Layers) (old new : Drained) (e : BuildFault) : Type 0 where
@@ -94,10 +94,10 @@ pub record IsRefusedFile (files : FileUse) (path : List ℕ) (Fails : Fed → Fe
 -- why the file of a topology of this path isn't used: it can't be opened, or isn't known, or what was read has this fault
 abbrev pub RefusesFile : FileUse → List ℕ → Drained → Drained → (Fed → Fed → FileFault → Type 0) → FileFault → Type 0
 RefusesFile files path old new Fails e =
-    ((new ≡ old) × (files.before.contents path ≡ None) × RefusedBehind 0 files × (e ≡ file.Read read.Read)) ⊎ IsRefusedFile files path Fails e
+    ((new ≡ old) × (files.before.contents path ≡ None) × RefusedAfter 0 files × (e ≡ file.Read read.Read)) ⊎ IsRefusedFile files path Fails e
 
 -- why no summary is written whole: the device failed when it had taken a prefix of its text, or there is none
 abbrev pub IsSummaryFault : Drained → Drained → Fed → Fed → FileFault → Type 0
 IsSummaryFault sink_old sink_new old new (file.Write sent) =
-    (summary : Summary) × IsSummarised old new summary × WritesFront sink_old sink_new 0 (summary_text summary) sent
+    (summary : Summary) × IsSummarised old new summary × WritesPrefix sink_old sink_new 0 (summary_text summary) sent
 IsSummaryFault sink_old sink_new old new e = (sink_new ≡ sink_old) × FailsToGive old new e

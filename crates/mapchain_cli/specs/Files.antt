@@ -1,7 +1,7 @@
 -- The files of a run: their bytes, the sources that they are opened as, the outputs that take their place, and how often that was done.
 use Rattle.std.specs.Prelude.{◌≡◌, ◌≢◌, ℕ, zero, suc, ◌+◌, ◌≤◌, Bool, true, false, List, [], ◌∷◌, Option, Some, None, IfSome}
 use Rattle.byte_ends.specs.Ends.{Drained, Fed, saturated}
-use Rattle.layer_sources.specs.Sources.{Sources}
+use Rattle.inputs.specs.Sources.{Sources}
 use Rattle.mapchain_cli.specs.declared.counts.Counts.{Counts}
 use Rattle.mapchain_cli.specs.declared.counts.OutputCounts.{OutputCounts}
 
@@ -62,12 +62,12 @@ abbrev pub Opened : ℕ → FileUse → Type 0
 Opened n files = files.after ≡ opened_times n files.before
 
 -- so many files were opened, then one was refused, and none was tried after it
-abbrev pub RefusedBehind : ℕ → FileUse → Type 0
-RefusedBehind n files = files.after ≡ one_more false (opened_times n files.before)
+abbrev pub RefusedAfter : ℕ → FileUse → Type 0
+RefusedAfter n files = files.after ≡ one_more false (opened_times n files.before)
 
 -- so many files or fewer were opened, and none was refused
-abbrev pub OpensFront : ℕ → FileUse → Type 0
-OpensFront most files = (n : ℕ) × (n ≤ most) × Opened n files
+abbrev pub OpensPrefix : ℕ → FileUse → Type 0
+OpensPrefix most files = (n : ℕ) × (n ≤ most) × Opened n files
 
 -- ---- outputs that take the place of a file
 

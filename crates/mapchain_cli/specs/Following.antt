@@ -2,19 +2,19 @@
 use Rattle.std.specs.Prelude.{◌≡◌, ◌⊎◌, ℕ, zero, suc, Bool, true, false, List, codes, Option, None, Some, Ok, Err}
 use Rattle.std.specs.Borrow.{Bor}
 use Rattle.byte_ends.specs.Ends.{Drained}
-use Rattle.byte_ends.specs.Writes.{WritesAll, WritesFront}
+use Rattle.byte_ends.specs.Writes.{WritesAll, WritesPrefix}
 use Rattle.command_words.specs.Asked.{Detail}
 use Rattle.command_words.specs.declared.request.Request.{Request}
-use Rattle.fault_lines.specs.Statuses.{failed}
-use Rattle.fault_lines.specs.Telling.{Tells}
+use Rattle.reports.specs.Statuses.{failed}
+use Rattle.reports.specs.Printing.{Prints}
 use Rattle.reports.specs.declared.report.Report.{Report}
-use Rattle.run_reports.specs.RunReports.{run_text}
-use Rattle.run_reports.specs.declared.run_report.RunFault.{RunFault}
-use Rattle.run_reports.specs.declared.run_report.RunFault.TheVariants as fault
-use Rattle.run_reports.specs.declared.run_report.RunReport.{RunReport}
+use Rattle.reports.specs.RunReports.{run_text}
+use Rattle.reports.specs.declared.run_report.RunFault.{RunFault}
+use Rattle.reports.specs.declared.run_report.RunFault.TheVariants as fault
+use Rattle.reports.specs.declared.run_report.RunReport.{RunReport}
 use Rattle.mapchain_cli.specs.Files.{FileState, FileUse, IsFresh, Keeps, OnlyReads, begun, discarded, not_kept, used}
 use Rattle.mapchain_cli.specs.Outputs.{IsPerformed}
-use Rattle.mapchain_cli.specs.Performing.{Outcome, Streams, status_after, told_of}
+use Rattle.mapchain_cli.specs.Performing.{Outcome, Streams, status_after, printed_text}
 use Rattle.mapchain_cli.specs.declared.ending.Ending.{Ending}
 use Rattle.mapchain_cli.specs.declared.ending.Ending.TheVariants.{BadArea, BadRingArea, BadShare, Refused, FileRefused, Memory}
 
@@ -64,7 +64,7 @@ pub record IsBroken (files : FileUse) (path : List ℕ) (run : RunReport) : Type
   pub is_fresh : IsFresh fresh
   pub output : Drained
   pub sent : ℕ
-  pub front : WritesFront fresh output 0 (run_text run) sent
+  pub prefix : WritesPrefix fresh output 0 (run_text run) sent
   pub away : files.after ≡ discarded (begun true path files.before)
 
 -- the output of the run's report took it, and couldn't take the place of the file
@@ -93,7 +93,7 @@ unreported (suc n) = suc n
 abbrev pub IsReported : FileUse → List ℕ → Outcome → List ℕ → Drained → Drained → ℕ → Type 0
 IsReported files path outcome explanation old new status = (run : RunReport) × IsReportOf outcome explanation (status_after outcome) run ×
     ((PutsReport files path run × (new ≡ old) × (status ≡ status_after outcome))
-    ⊎ (IsUnwritten files path run × Tells old new no_report × (status ≡ unreported (status_after outcome))))
+    ⊎ (IsUnwritten files path run × Prints old new no_report × (status ≡ unreported (status_after outcome))))
 
 -- where it is asked for
 abbrev pub ReportsTo : Option (List ℕ) → FileUse → Outcome → List ℕ → Drained → Drained → ℕ → Type 0
@@ -102,9 +102,9 @@ ReportsTo (Some path) files outcome explanation old new status = IsReported file
 
 -- ---- an explanation, and then the report
 
-abbrev pub TellsIf : Bool → Drained → Drained → List ℕ → Type 0
-TellsIf true old new text = Tells old new text
-TellsIf false old new text = new ≡ old
+abbrev pub PrintsIf : Bool → Drained → Drained → List ℕ → Type 0
+PrintsIf true old new text = Prints old new text
+PrintsIf false old new text = new ≡ old
 
 -- files are only read for an explanation, which is reported where that is asked, and the report of the run has it
 pub record IsExplained (files : FileUse) (detail : Detail) (outcome : Outcome) (old new : Drained) (status : ℕ) : Type 0 where
@@ -112,7 +112,7 @@ pub record IsExplained (files : FileUse) (detail : Detail) (outcome : Outcome) (
   pub reread : FileState
   pub reads : OnlyReads (used files.before reread)
   pub explained : Drained
-  pub tells : TellsIf detail.explains old explained explanation
+  pub prints : PrintsIf detail.explains old explained explanation
   pub reports : ReportsTo detail.report (used reread files.after) outcome explanation explained new status
 
 -- nothing more is done where nothing is asked
@@ -127,6 +127,6 @@ pub record IsCarriedOut (files : FileUse) (output : Option (List ℕ)) (detail :
   pub outcome : Outcome
   pub then : FileState
   pub performed : IsPerformed (used files.before then) output request old.out new.out outcome
-  pub told : Drained
-  pub tells : Tells old.err told (told_of outcome)
-  pub follows : Follows detail.explains detail.report (used then files.after) detail outcome told new.err status
+  pub reported : Drained
+  pub prints : Prints old.err reported (printed_text outcome)
+  pub follows : Follows detail.explains detail.report (used then files.after) detail outcome reported new.err status

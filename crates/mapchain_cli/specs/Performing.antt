@@ -2,8 +2,8 @@
 use Rattle.std.specs.Prelude.{ℕ, List, [], codes, Option, None, Some, Result, Ok, Err}
 use Rattle.byte_ends.specs.Ends.{Drained}
 use Rattle.command_words.specs.declared.request.Request.{Request}
-use Rattle.fault_lines.specs.FaultLines.{fault_text, file_fault_text}
-use Rattle.fault_lines.specs.Statuses.{failed, file_status_of, status_of, words_refused}
+use Rattle.reports.specs.FaultLines.{fault_text, file_fault_text}
+use Rattle.reports.specs.Statuses.{failed, file_status_of, status_of, words_refused}
 use Rattle.reports.specs.Reports.{report_text}
 use Rattle.reports.specs.declared.report.Report.{Report}
 use Rattle.mapchain_cli.specs.Asking.{IsAnswered, IsRefused}
@@ -48,10 +48,10 @@ ending_status (FileRefused fault) = file_status_of fault
 ending_status Memory = failed
 
 -- of a request that came out so: the report of a build or of simplifying where it is done
-abbrev pub told_of : Outcome → List ℕ
-told_of (Ok None) = []
-told_of (Ok (Some report)) = report_text report
-told_of (Err ending) = line_of ending
+abbrev pub printed_text : Outcome → List ℕ
+printed_text (Ok None) = []
+printed_text (Ok (Some report)) = report_text report
+printed_text (Err ending) = line_of ending
 
 abbrev pub status_after : Outcome → ℕ
 status_after (Ok report) = 0

@@ -1,15 +1,15 @@
 -- What a run promises: its exit status, and what standard output, standard error and files took.
 use Rattle.std.specs.Prelude.{◌≡◌, ◌⊎◌, ℕ, true, List, [], IfSome, None, Some}
-use Rattle.byte_ends.specs.Writes.{WritesAll, WritesFront}
+use Rattle.byte_ends.specs.Writes.{WritesAll, WritesPrefix}
 use Rattle.command_words.specs.Asked.{detail, detail_of, kinds_of, order_of, ordered}
 use Rattle.command_words.specs.Faults.{IsFaultBy, words_fault_text}
 use Rattle.command_words.specs.Joined.{joined}
 use Rattle.command_words.specs.declared.request.Order.{Order}
 use Rattle.command_words.specs.declared.words_fault.WordsFault.{WordsFault}
 use Rattle.command_words.specs.declared.words_fault.WordsFault.TheVariants as words
-use Rattle.fault_lines.specs.FaultLines.{fault_text}
-use Rattle.fault_lines.specs.Statuses.{failed, words_refused}
-use Rattle.fault_lines.specs.Telling.{Tells}
+use Rattle.reports.specs.FaultLines.{fault_text}
+use Rattle.reports.specs.Statuses.{failed, words_refused}
+use Rattle.reports.specs.Printing.{Prints}
 use Rattle.inputs.specs.declared.fault.BuildFault.TheVariants.{Write}
 use Rattle.mapchain_cli.specs.Files.{FileUse, Opened}
 use Rattle.mapchain_cli.specs.Following.{IsCarriedOut}
@@ -20,18 +20,18 @@ use Rattle.mapchain_cli.specs.Performing.{Streams}
 
 -- nothing is printed for want of memory
 abbrev pub LacksMemory : Streams → Streams → ℕ → Type 0
-LacksMemory old new status = (new.out ≡ old.out) × Tells old.err new.err [] × (status ≡ failed)
+LacksMemory old new status = (new.out ≡ old.out) × Prints old.err new.err [] × (status ≡ failed)
 
 -- a text of help was written, or the device failed when it had taken a prefix of it, which is reported
 abbrev pub IsHelped : Streams → Streams → ℕ → Type 0
 IsHelped old new status = (text : List ℕ) × (sent : ℕ) ×
-    ((WritesAll old.out new.out 0 text sent × (new.out.flushed ≡ true) × Tells old.err new.err [] × (status ≡ 0))
-    ⊎ (WritesFront old.out new.out 0 text sent × Tells old.err new.err (fault_text (Write sent)) × (status ≡ failed)))
+    ((WritesAll old.out new.out 0 text sent × (new.out.flushed ≡ true) × Prints old.err new.err [] × (status ≡ 0))
+    ⊎ (WritesPrefix old.out new.out 0 text sent × Prints old.err new.err (fault_text (Write sent)) × (status ≡ failed)))
 
 -- a text was printed, which is the line of the fault where that is not `clap`'s
 abbrev pub IsRefusedFor : WordsFault → Streams → Streams → ℕ → Type 0
 IsRefusedFor fault old new status = (text : List ℕ) × IfSome (words_fault_text fault) (λ line. text ≡ line)
-    × (new.out ≡ old.out) × Tells old.err new.err text × (status ≡ words_refused)
+    × (new.out ≡ old.out) × Prints old.err new.err text × (status ≡ words_refused)
 
 -- help was asked for, or the words are refused, unless memory was wanting
 abbrev pub EndsAtWords : WordsFault → Streams → Streams → ℕ → Type 0

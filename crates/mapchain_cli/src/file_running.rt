@@ -4,27 +4,26 @@ ghost use Rattle.byte_ends.specs.declared.source.ReadFault.TheVariants as read;
 ghost use Rattle.geometry.specs.Units.{threshold_limit};
 ghost use Rattle.inputs.specs.declared.file_fault.FileFault.TheVariants as file;
 ghost use Rattle.reports.specs.Summaries as spec;
-ghost use Rattle.topology_files.specs.Geo.{IsGeoFault, SendsText};
+ghost use Rattle.mapchain_engine.specs.Geo.{IsGeoFault, SendsText};
 ghost use Rattle.byte_ends.specs.Ends.{Fed};
-ghost use Rattle.topology_simplifying.specs.Simplified.{CallsForTopology, IsSimplifyFault};
+ghost use Rattle.mapchain_engine.specs.Simplified.{CallsForTopology, IsSimplifyFault};
 ghost use Rattle.mapchain_cli.specs.Endings.{DecodesOf, IsSummaryFault, RefusesFile, SimplifiesOf, Summarises};
-ghost use Rattle.mapchain_cli.specs.Files.{IsOpened, Opened, RefusedBehind, used};
+ghost use Rattle.mapchain_cli.specs.Files.{IsOpened, Opened, RefusedAfter, used};
 
 use crate::files::Files;
-use byte_ends::{Drain, ReadFault, Sink, Source, flush_behind};
+use byte_ends::{Drain, ReadFault, Sink, Source, flush_after};
 use effective_area::HeapLinks;
 use inputs::FileFault;
+use mapchain_engine::{simplify, stat, to_geo};
 use reports::{Report, Summary, summary_text};
 use std::alloc::Global;
-use topology_files::{stat, to_geo};
-use topology_simplifying::simplify;
 
 /// Opens the file of a topology.
 fn open_file<F: Files>(path: &str, files: &mut F) -> Result<Source<F::R>, FileFault>
     ensures opened { IfOk result (λ source. IsOpened ((F.state files.old).contents) path.now source) }
     ensures once { OnOk result (Opened 1 (used (F.state files.old) (F.state files.new))) }
     ensures refused { IfErr result (λ e. ((F.state files.old).contents path.now ≡ None)
-        × RefusedBehind 0 (used (F.state files.old) (F.state files.new)) × (e ≡ file.Read read.Read)) }
+        × RefusedAfter 0 (used (F.state files.old) (F.state files.new)) × (e ≡ file.Read read.Read)) }
 {
     match files.open(path) {
         Some(source) => Ok(source),
@@ -76,7 +75,7 @@ fn send_summary<V: Drain>(summary: &Summary, out: &mut Sink<V>) -> Result<u64, F
     ensures { SendsText out.old out.new (spec.summary_text summary.now) result }
 {
     let written = summary_text(summary, out);
-    let sent = flush_behind(written, out)?;
+    let sent = flush_after(written, out)?;
     Ok(sent)
 }
 
@@ -87,7 +86,7 @@ pub(crate) fn summarise<F: Files, V: Drain>(
     files: &mut F,
     out: &mut Sink<V>,
 ) -> Result<(), FileFault>
-    ensures told { IfOk result (λ _. Summarises (used (F.state files.old) (F.state files.new)) path.now out.old out.new) }
+    ensures reported { IfOk result (λ _. Summarises (used (F.state files.old) (F.state files.new)) path.now out.old out.new) }
     ensures refused { IfErr result (λ e. RefusesFile (used (F.state files.old) (F.state files.new)) path.now out.old out.new (IsSummaryFault out.old out.new) e) }
 {
     let mut source = open_file(path, files)?;

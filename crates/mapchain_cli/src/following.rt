@@ -2,20 +2,18 @@
 ghost use Rattle.std.specs.Prelude.{◌≡◌, false, true};
 ghost use Rattle.command_words.specs.Asked.{detail};
 ghost use Rattle.mapchain_cli.specs.Files.{used};
-ghost use Rattle.fault_lines.specs.Telling.{Tells};
-ghost use Rattle.mapchain_cli.specs.Following.{Follows, IsFaultOf, IsReportOf, IsReported, IsUnwritten, PutsReport, TellsIf, no_report};
+ghost use Rattle.reports.specs.Printing.{Prints};
+ghost use Rattle.mapchain_cli.specs.Following.{Follows, IsFaultOf, IsReportOf, IsReported, IsUnwritten, PutsReport, PrintsIf, no_report};
 ghost use Rattle.mapchain_cli.specs.Following as spec;
 ghost use Rattle.mapchain_cli.specs.Performing as performing;
 
 use crate::ending::Ending;
 use crate::explaining::explanation_of;
 use crate::files::Files;
-use crate::telling::status_after;
-use byte_ends::{Drain, Sink, flush_behind};
+use crate::printing::status_after;
+use byte_ends::{Drain, Sink, flush_after};
 use command_words::Order;
-use fault_lines::{FAILED, tell_text};
-use reports::Report;
-use run_reports::{RunFault, RunReport, write_run_report};
+use reports::{FAILED, Report, RunFault, RunReport, print_text, write_run_report};
 use std::alloc::Global;
 
 /// The fault of a report of a run.
@@ -64,11 +62,11 @@ fn unreported(status: u8) -> u8
 }
 
 /// Tells that the report of the run couldn't be written, and gives the exit status.
-fn tell_unreported<W: Drain>(status: u8, err: &mut Sink<W>) -> u8
-    ensures told { Tells err.old err.new no_report }
+fn print_unreported<W: Drain>(status: u8, err: &mut Sink<W>) -> u8
+    ensures reported { Prints err.old err.new no_report }
     ensures status { result ≡ spec.unreported status }
 {
-    tell_text(b"error: F4 NoReport\n", err);
+    print_text(b"error: F4 NoReport\n", err);
     unreported(status)
 }
 
@@ -81,7 +79,7 @@ fn put_report<F: Files>(path: &str, run: &RunReport<'_>, files: &mut F) -> bool
         return false;
     };
     let written = write_run_report(run, &mut output);
-    match flush_behind(written, &mut output) {
+    match flush_after(written, &mut output) {
         Ok(_) => files.keep(output.into_inner()),
         Err(_) => {
             files.discard(output.into_inner());
@@ -105,15 +103,15 @@ fn report_run<F: Files, W: Drain>(
     if put_report(path, &run, files) {
         return status;
     }
-    tell_unreported(status, err)
+    print_unreported(status, err)
 }
 
 /// Tells an explanation where that is asked.
-fn tell_if<W: Drain>(is_asked: bool, text: &str, err: &mut Sink<W>)
-    ensures { TellsIf is_asked err.old err.new text.now }
+fn print_if<W: Drain>(is_asked: bool, text: &str, err: &mut Sink<W>)
+    ensures { PrintsIf is_asked err.old err.new text.now }
 {
     if is_asked {
-        tell_text(text.as_bytes(), err);
+        print_text(text.as_bytes(), err);
     }
 }
 
@@ -132,7 +130,7 @@ pub(crate) fn follow<F: Files, W: Drain>(
         return status_after(outcome);
     }
     let explanation = explanation_of(alloc, &order.request, outcome, files);
-    tell_if(order.explains, explanation.as_str(), err);
+    print_if(order.explains, explanation.as_str(), err);
     match order.report {
         None => status_after(outcome),
         Some(path) => report_run(path, outcome, explanation.as_str(), files, err),

@@ -1,6 +1,6 @@
 // What a build is asked for.
 ghost use Rattle.std.specs.Prelude.{◌≡◌, ◌⊎◌, ◌≤◌, IfErr, IfOk, IfSome, None, Some, true};
-ghost use Rattle.area_thresholds.specs.Thresholds.{threshold_of};
+ghost use Rattle.effective_area.specs.Thresholds.{threshold_of};
 ghost use Rattle.geometry.specs.Units.{threshold_limit};
 ghost use Rattle.command_words.specs.Requests.{IsCells};
 ghost use Rattle.layer_topology.specs.Levels.{is_level};
@@ -8,10 +8,10 @@ ghost use Rattle.mapchain_cli.specs.Asking.{AreRefused, BuildIsRefused, IsAskedF
 ghost use Rattle.mapchain_cli.specs.declared.ending.Ending.TheVariants as ending;
 
 use crate::ending::Ending;
-use area_thresholds::{read_share, read_threshold};
 use byte_ends::Memory;
+use effective_area::{read_share, read_threshold};
+use mapchain_engine::{Level, Options};
 use std::alloc::Global;
-use topology_building::{Level, Options};
 
 /// The threshold of the area of this text, which is looked at here. An area that has none is refused in this way.
 pub(crate) fn threshold_asked(alloc: Global, area: &str, refused: Ending) -> Result<u128, Ending>

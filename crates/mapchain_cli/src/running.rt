@@ -5,11 +5,11 @@ ghost use Rattle.command_words.specs.Asked.{detail, output_of, report_of};
 ghost use Rattle.command_words.specs.Joined.{joined};
 ghost use Rattle.command_words.specs.Requests.{IsGridInRange};
 ghost use Rattle.inputs.specs.declared.fault.BuildFault.{BuildFault as Fault};
-ghost use Rattle.layer_sources.specs.Sources.{Sources};
-ghost use Rattle.topology_building.specs.Building.{CallsForLayers};
+ghost use Rattle.inputs.specs.Sources.{Sources};
+ghost use Rattle.mapchain_engine.specs.Building.{CallsForLayers};
 ghost use Rattle.mapchain_cli.specs.Asking.{CallsFor, IsAnswered, IsRefused, texts_of};
 ghost use Rattle.mapchain_cli.specs.Endings.{BuildsOf, IsUnopened, RefusesLayers};
-ghost use Rattle.mapchain_cli.specs.Files.{AreOpened, HoldsBut, Opened, OpensFront, used};
+ghost use Rattle.mapchain_cli.specs.Files.{AreOpened, HoldsBut, Opened, OpensPrefix, used};
 ghost use Rattle.mapchain_cli.specs.Following.{IsCarriedOut};
 ghost use Rattle.mapchain_cli.specs.Outputs.{IsPerformed, Settles, asked_output};
 ghost use Rattle.mapchain_cli.specs.Runs.{Runs, RunsOn};
@@ -21,15 +21,15 @@ use crate::file_running::{decode_object, simplify_file, summarise};
 use crate::files::Files;
 use crate::following::follow;
 use crate::options::{options_of, thresholds_asked};
-use crate::telling::{tell_outcome, tell_words};
+use crate::printing::{print_outcome, print_words_fault};
 use byte_ends::{Drain, ReadFault, Sink, Source};
 use command_words::{Order, Request, WordsFault, joined_words, read_words};
 use effective_area::HeapLinks;
 use inputs::BuildFault;
 use json_value::OwnText;
+use mapchain_engine::{Options, build};
 use reports::Report;
 use std::alloc::Global;
-use topology_building::{Options, build};
 
 /// Opens the file of each layer, in order.
 fn open_layers<F: Files>(
@@ -39,7 +39,7 @@ fn open_layers<F: Files>(
 ) -> Result<Vec<(OwnText, Source<F::R>)>, Ending>
     ensures opened { IfOk result (λ v. AreOpened ((F.state files.old).contents) (texts_of layers.now) v.items) }
     ensures each_once { OnOk result (Opened (length (texts_of layers.now)) (used (F.state files.old) (F.state files.new))) }
-    ensures refused { IfErr result (λ e. ((e ≡ ending.Memory) × OpensFront (length (texts_of layers.now)) (used (F.state files.old) (F.state files.new)))
+    ensures refused { IfErr result (λ e. ((e ≡ ending.Memory) × OpensPrefix (length (texts_of layers.now)) (used (F.state files.old) (F.state files.new)))
         ⊎ ((fault : Fault) × (e ≡ ending.Refused fault) × IsUnopened (used (F.state files.old) (F.state files.new)) (texts_of layers.now) fault)) }
 {
     let mut sources = Vec::new(alloc);
@@ -69,7 +69,7 @@ fn build_layers<F: Files, V: Drain>(
     ensures reduced { IfOk result (λ _. (olds : Sources) × (news : Sources) × AreOpened ((F.state files.old).contents) (texts_of layers.now) olds
         × CallsForLayers options.now olds news reducer.old.calls reducer.new.calls) }
     ensures refused { IfErr result (λ e. ((e ≡ ending.Memory) × (out.new ≡ out.old)
-        × OpensFront (length (texts_of layers.now)) (used (F.state files.old) (F.state files.new)))
+        × OpensPrefix (length (texts_of layers.now)) (used (F.state files.old) (F.state files.new)))
         ⊎ ((fault : Fault) × (e ≡ ending.Refused fault)
         × RefusesLayers (used (F.state files.old) (F.state files.new)) options.now (texts_of layers.now) out.old out.new fault)) }
 {
@@ -160,7 +160,7 @@ fn carry_out<F: Files, V: Drain, W: Drain>(
     let mut reducer = HeapLinks::new();
     let request = &order.request;
     let outcome = perform(alloc, &mut reducer, request, order.output, files, out);
-    tell_outcome(&outcome, err);
+    print_outcome(&outcome, err);
     follow(alloc, order, &outcome, files, err)
 }
 
@@ -177,7 +177,7 @@ fn run<F: Files, V: Drain, W: Drain>(
 {
     match read_words(alloc, words) {
         Ok(order) => carry_out(alloc, &order, files, out, err),
-        Err(fault) => tell_words(alloc, &fault, out, err),
+        Err(fault) => print_words_fault(alloc, &fault, out, err),
     }
 }
 
@@ -213,6 +213,6 @@ pub fn command<F: Files, V: Drain, W: Drain>(
 {
     match joined_words(alloc, words.as_slice()) {
         Ok(joined) => run(alloc, joined.as_slice(), files, out, err),
-        Err(_) => tell_words(alloc, &WordsFault::Memory, out, err),
+        Err(_) => print_words_fault(alloc, &WordsFault::Memory, out, err),
     }
 }

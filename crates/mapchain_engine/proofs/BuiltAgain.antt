@@ -17,15 +17,15 @@ use Rattle.topojson_meaning.specs.declared.fault.TopoFault.{TopoFault}
 use Rattle.topojson_meaning.specs.Topologies.{topology}
 use Rattle.reports.specs.declared.report.Report.{Report}
 use Rattle.reports.specs.declared.summary.Summary.{Summary}
-use Rattle.topology_building.specs.Building.{expected_for, threshold_for, written_for, IsBuilt}
-use Rattle.topology_building.specs.Laws.{ReadAreTaken}
-use Rattle.topology_building.specs.declared.options.Options.{Options}
+use Rattle.mapchain_engine.specs.Building.{expected_for, threshold_for, written_for, IsBuilt}
+use Rattle.mapchain_engine.specs.BuildLaws.{ReadAreTaken}
+use Rattle.mapchain_engine.specs.declared.options.Options.{Options}
 use Rattle.json_value.specs.Limits.{topology_depth}
-use Rattle.topology_files.specs.Files.{IsTopologyRead, IsSummarised}
-use Rattle.topology_simplifying.specs.Simplified.{lessened_text, IsSimplified}
-use Rattle.layer_topology.specs.Laws.{LessensToWritten}
+use Rattle.mapchain_engine.specs.Files.{IsTopologyRead, IsSummarised}
+use Rattle.mapchain_engine.specs.Simplified.{simplified_contents_text, IsSimplified}
+use Rattle.layer_topology.specs.Laws.{SimplifiesToWritten}
 use Rattle.layer_topology.specs.Written.{written as written_on, AreTaken}
-use Rattle.lessened_topology.specs.Thresholds.{lessened}
+use Rattle.simplified_topology.specs.Thresholds.{simplified_contents}
 use Rattle.build_meaning.specs.Layers.{names_of}
 use Rattle.json_value.specs.declared.json.Json.{Json}
 use Rattle.json_value.specs.Grammar.{Reads}
@@ -33,14 +33,14 @@ use Rattle.json_value.specs.Text.{json_text}
 use Rattle.topojson_types.specs.Validity.{AreDistinct}
 use Rattle.topojson_types.specs.Values.{topology_value}
 use Rattle.topojson_meaning.specs.Laws.{ReadsValid}
-use Rattle.topology_files.specs.Geo.{features_text, IsDecoded}
+use Rattle.mapchain_engine.specs.Geo.{features_text, IsDecoded}
 use Rattle.mapchain_engine.specs.Laws.{IsWrittenTo, WritesEach, DecodesBack, SimplifiesToBuilt, SummarisesBack}
-use Rattle.layer_sources.specs.Sources.{Sources, Named}
+use Rattle.inputs.specs.Sources.{Sources, Named}
 use Rattle.reports.specs.Summaries.{summary_of}
 
 -- what a sink took after what it had
-took_behind : (old new : Option (List ℕ)) (before bytes text : List ℕ) → old ≡ Some before → new ≡ Some (before ++ bytes) → Appends old new text → bytes ≡ text
-took_behind old new before bytes text had took grew =
+took_after : (old new : Option (List ℕ)) (before bytes text : List ℕ) → old ≡ Some before → new ≡ Some (before ++ bytes) → Appends old new text → bytes ≡ text
+took_after old new before bytes text had took grew =
     let e : before ++ bytes ≡ before ++ text = subst (λ o. Appends o (Some (before ++ bytes)) text) had (subst (λ n. Appends old n text) took grew) in
     append_cancel_left before bytes text e
 
@@ -69,7 +69,7 @@ module _ (o : Options) (olds news : Sources) (sink_old sink_new : Drained) (repo
     (source : Fed) (from : IsWrittenTo sink_old sink_new source) where
   -- the bytes that the source has left are the text that was built
   pub same_text : from.bytes ≡ is.text
-  same_text = took_behind sink_old.taken sink_new.taken from.before from.bytes is.text from.had from.took (rw take-length at is.written.taken)
+  same_text = took_after sink_old.taken sink_new.taken from.before from.bytes is.text from.had from.took (rw take-length at is.written.taken)
 
 module _ (one_value : OneValue) (o : Options) (olds news : Sources) (sink_old sink_new : Drained) (report : Report) (is : IsBuilt o olds news sink_old sink_new report)
     (source : Fed) (from : IsWrittenTo sink_old sink_new source) where
@@ -96,23 +96,23 @@ module _ (one_value : OneValue) (o : Options) (olds news : Sources) (sink_old si
   writes_expected = writes_each (expected_for o is.layers) is.builds.topology.features
 
   summary_same : (after : Fed) (summary : Summary) → IsSummarised source after summary → summary ≡ summary_of (written_for o is.layers)
-  summary_same after summary s = s.told ∙ ap summary_of (same_contents after s.contents s.counts s.read ∙ is.builds.topology.shared)
+  summary_same after summary s = s.reported ∙ ap summary_of (same_contents after s.contents s.counts s.read ∙ is.builds.topology.shared)
 
   -- what is left of it by a threshold and a limit, where it was built at zero, is what is written of the layers by both
-  lessened_is : LessensToWritten → ReadsValid → ReadAreTaken → (t limit : ℕ) → threshold_for o is.layers ≡ 0 → o.ring_limit ≡ 0
-      → lessened t limit is.builds.topology.contents ≡ written_on o.grid t limit is.layers
-  lessened_is less valid may t limit zero none =
-      ap (lessened t limit) (is.builds.topology.shared ∙ ap (λ z. written_on o.grid z o.ring_limit is.layers) zero ∙ ap (λ z. written_on o.grid 0 z is.layers) none) ∙ less o.grid t limit is.layers (taken valid may o olds news sink_old sink_new report is)
+  simplified_is : SimplifiesToWritten → ReadsValid → ReadAreTaken → (t limit : ℕ) → threshold_for o is.layers ≡ 0 → o.ring_limit ≡ 0
+      → simplified_contents t limit is.builds.topology.contents ≡ written_on o.grid t limit is.layers
+  simplified_is less valid may t limit zero none =
+      ap (simplified_contents t limit) (is.builds.topology.shared ∙ ap (λ z. written_on o.grid z o.ring_limit is.layers) zero ∙ ap (λ z. written_on o.grid 0 z is.layers) none) ∙ less o.grid t limit is.layers (taken valid may o olds news sink_old sink_new report is)
 
-  simplified_text : LessensToWritten → ReadsValid → ReadAreTaken → (t limit : ℕ) → threshold_for o is.layers ≡ 0 → o.ring_limit ≡ 0 → (after : Fed) (out_old out_new : Drained) (simplified : Report)
+  simplified_text : SimplifiesToWritten → ReadsValid → ReadAreTaken → (t limit : ℕ) → threshold_for o is.layers ≡ 0 → o.ring_limit ≡ 0 → (after : Fed) (out_old out_new : Drained) (simplified : Report)
       → IsSimplified t limit source after out_old out_new simplified
       → Takes out_old out_new (json_text (topology_value (written_on o.grid t limit is.layers))) (length (json_text (topology_value (written_on o.grid t limit is.layers))))
   simplified_text less valid may t limit zero none after out_old out_new simplified s =
-      let e : lessened_text t limit s.contents ≡ json_text (topology_value (written_on o.grid t limit is.layers)) =
-      ap (lessened_text t limit) (same_contents after s.contents s.counts s.read) ∙ ap (λ y. json_text (topology_value y)) (lessened_is less valid may t limit zero none) in
+      let e : simplified_contents_text t limit s.contents ≡ json_text (topology_value (written_on o.grid t limit is.layers)) =
+      ap (simplified_contents_text t limit) (same_contents after s.contents s.counts s.read) ∙ ap (λ y. json_text (topology_value y)) (simplified_is less valid may t limit zero none) in
       subst (λ text. Takes out_old out_new text (length text)) e s.written
 
-pub simplifies_to_built : OneValue → LessensToWritten → ReadsValid → ReadAreTaken → SimplifiesToBuilt
+pub simplifies_to_built : OneValue → SimplifiesToWritten → ReadsValid → ReadAreTaken → SimplifiesToBuilt
 simplifies_to_built one_value less valid may o p olds news sink_old sink_new report full more_olds more_news more_old more_new more_report small zero none grid same source after out_old out_new simplified from s =
     let says = small.builds.topology in
     let t = threshold_for p small.layers in

@@ -2,25 +2,25 @@
 use Rattle.std.proofs.Common.{◌≡◌, ℕ, suc, Bool, true, false, List, [], ◌∷◌, ◌++◌, map, Option, None, Some, refl, sym, ap, ◌∙◌, arith}
 use Rattle.std.proofs.lemmas.List.{map-append}
 use Rattle.std.specs.List.{AllByRecursion}
-use Rattle.build_meaning.proofs.Candidates.{Matches, candidates_at, map_map, some_append, strokes_left}
-use Rattle.build_meaning.specs.Candidates.{Candidate, area_candidates, candidates, fate, free, hole, if_kept}
+use Rattle.build_meaning.proofs.DroppableLines.{Matches, droppable_lines_at, map_map, some_append, lines_and_rings_left}
+use Rattle.build_meaning.specs.DroppableLines.{DroppableLine, area_droppable_lines, droppable_lines, drop_cause, free, hole, if_kept}
 use Rattle.build_meaning.specs.Expected.{kept_line, own_cause, rebuilt, unless}
 use Rattle.geojson_types.specs.Features.{Shape}
 use Rattle.geometry.proofs.ByKind.{AtKinds, at_kinds}
-use Rattle.geometry.proofs.Cases.{omissions_at}
+use Rattle.geometry.proofs.Cases.{drop_causes_at}
 use Rattle.geometry.proofs.Induction.{by_kinds}
 use Rattle.geometry.specs.Lists.{joined, map_some, some_of, with_some}
-use Rattle.geometry.specs.Omissions.{area_omissions, here, inner_cause, omissions}
-use Rattle.geometry.specs.Paths.{Placed, alone, inside_part, of_parts, placed_strokes}
+use Rattle.geometry.specs.DropCauses.{area_drop_causes, here, inner_cause, drop_causes}
+use Rattle.geometry.specs.Paths.{Placed, alone, inside_part, of_parts, placed_lines_and_rings}
 use Rattle.geometry.specs.Points.{Point}
-use Rattle.geometry.specs.Pruning.{option_strokes, prune}
+use Rattle.geometry.specs.Pruning.{option_lines_and_rings, prune}
 use Rattle.geometry.specs.declared.address.Cause.{Cause}
 use Rattle.geometry.specs.declared.shape.Geometry.{Geometry, fold-Geometry}
 use Rattle.geometry.specs.declared.shape.Geometry.TheOpen.{Geometry-F}
 use Rattle.geometry.specs.declared.shape.Geometry.TheVariants as g
 use Rattle.junctions.specs.declared.stroke.Stroke.{Stroke}
-use Rattle.linework.proofs.Placing.{parts_of, placed_strokes_at}
-use Rattle.mapchain_engine.specs.Dropping.{Judged, LeavesOutWhatIsTold, cause_at, stays_as, stroke_at}
+use Rattle.linework.proofs.Placing.{parts_of, placed_lines_and_rings_at}
+use Rattle.mapchain_engine.specs.Dropping.{Judged, LeavesOutWhatIsReported, cause_at, stays_as, line_or_ring_at}
 
 -- ---- parts, changed where they stand
 
@@ -65,16 +65,16 @@ parts_joined i (xs ∷ xss) = grind (arith, map-append, parts_inside, parts_join
 
 -- ---- lines and rings, each with the way to it
 
-abbrev frees : {L : Type 0} → Bool → List L → List (List (Placed (Candidate L)))
+abbrev frees : {L : Type 0} → Bool → List L → List (List (Placed (DroppableLine L)))
 frees closed ls = map (λ l. alone (free closed l)) ls
 
-abbrev holes : {L : Type 0} → Option Cause → List L → List (List (Placed (Candidate L)))
+abbrev holes : {L : Type 0} → Option Cause → List L → List (List (Placed (DroppableLine L)))
 holes o ls = map (λ l. alone (hole o l)) ls
 
-abbrev strokes_alone : {L : Type 0} → Bool → List L → List (List (Placed (Bool × L)))
-strokes_alone closed ls = map (λ l. alone (closed, l)) ls
+abbrev lines_and_rings_alone : {L : Type 0} → Bool → List L → List (List (Placed (Bool × L)))
+lines_and_rings_alone closed ls = map (λ l. alone (closed, l)) ls
 
-abbrev stroke : {L : Type 0} → Candidate L → Bool × L
+abbrev stroke : {L : Type 0} → DroppableLine L → Bool × L
 stroke c = (c.closed, c.line)
 
 frees_alone : {L : Type 0} (closed : Bool) (ls : List L) → joined (map parts_of (frees closed ls)) ≡ map (free closed) ls
@@ -85,11 +85,11 @@ holes_alone : {L : Type 0} (o : Option Cause) (ls : List L) → joined (map part
 holes_alone o [] = refl
 holes_alone o (l ∷ ls) = ap (λ xs. hole o l ∷ xs) (holes_alone o ls)
 
-frees_moved : {L : Type 0} (closed : Bool) (ls : List L) → map (map (moved stroke)) (frees closed ls) ≡ strokes_alone closed ls
+frees_moved : {L : Type 0} (closed : Bool) (ls : List L) → map (map (moved stroke)) (frees closed ls) ≡ lines_and_rings_alone closed ls
 frees_moved closed [] = refl
 frees_moved closed (l ∷ ls) = ap (λ xs. alone (closed, l) ∷ xs) (frees_moved closed ls)
 
-holes_moved : {L : Type 0} (o : Option Cause) (ls : List L) → map (map (moved stroke)) (holes o ls) ≡ strokes_alone true ls
+holes_moved : {L : Type 0} (o : Option Cause) (ls : List L) → map (map (moved stroke)) (holes o ls) ≡ lines_and_rings_alone true ls
 holes_moved o [] = refl
 holes_moved o (l ∷ ls) = ap (λ xs. alone (true, l) ∷ xs) (holes_moved o ls)
 
@@ -98,28 +98,28 @@ here_of None = refl
 here_of (Some c) = refl
 
 module _ {L : Type 0} (why : Bool → L → Option Cause) where
-  abbrev area_placed : List L → List (Placed (Candidate L))
+  abbrev area_placed : List L → List (Placed (DroppableLine L))
   area_placed [] = []
   area_placed (outer ∷ inner) = of_parts 0 (alone (free true outer) ∷ holes (why true outer) inner)
 
-  area_parts : (rs : List L) → parts_of (area_placed rs) ≡ area_candidates (why true) rs
+  area_parts : (rs : List L) → parts_of (area_placed rs) ≡ area_droppable_lines (why true) rs
   area_parts [] = refl
   area_parts (o ∷ hs) = parts_joined 0 (alone (free true o) ∷ holes (why true o) hs) ∙ ap (λ xs. free true o ∷ xs) (holes_alone (why true o) hs)
 
-  areas_parts : (areas : List (List L)) → joined (map parts_of (map area_placed areas)) ≡ joined (map (area_candidates (why true)) areas)
+  areas_parts : (areas : List (List L)) → joined (map parts_of (map area_placed areas)) ≡ joined (map (area_droppable_lines (why true)) areas)
   areas_parts [] = refl
   areas_parts (rs ∷ areas) = rw (area_parts rs, areas_parts areas) refl
 
-  area_moved : (rs : List L) → map (moved stroke) (area_placed rs) ≡ of_parts 0 (strokes_alone true rs)
+  area_moved : (rs : List L) → map (moved stroke) (area_placed rs) ≡ of_parts 0 (lines_and_rings_alone true rs)
   area_moved [] = refl
   area_moved (o ∷ hs) = moved_parts stroke 0 (alone (free true o) ∷ holes (why true o) hs) ∙ ap (λ xss. of_parts 0 (alone (true, o) ∷ xss)) (holes_moved (why true o) hs)
 
-  areas_moved : (areas : List (List L)) → map (map (moved stroke)) (map area_placed areas) ≡ map (λ rs. of_parts 0 (strokes_alone true rs)) areas
+  areas_moved : (areas : List (List L)) → map (map (moved stroke)) (map area_placed areas) ≡ map (λ rs. of_parts 0 (lines_and_rings_alone true rs)) areas
   areas_moved [] = refl
   areas_moved (rs ∷ areas) = rw (area_moved rs, areas_moved areas) refl
 
-  abbrev caused : List (Placed (Candidate L)) → List (Placed Cause)
-  caused xs = some_of (moved_some (fate why)) xs
+  abbrev caused : List (Placed (DroppableLine L)) → List (Placed Cause)
+  caused xs = some_of (moved_some (drop_cause why)) xs
 
   frees_caused : (closed : Bool) (ls : List L) → map caused (frees closed ls) ≡ map (λ l. here (why closed l)) ls
   frees_caused closed [] = refl
@@ -129,19 +129,19 @@ module _ {L : Type 0} (why : Bool → L → Option Cause) where
   holes_caused o [] = refl
   holes_caused o (l ∷ ls) = rw (here_of (inner_cause o (why true l)), holes_caused o ls) refl
 
-  area_caused : (rs : List L) → caused (area_placed rs) ≡ area_omissions (why true) rs
+  area_caused : (rs : List L) → caused (area_placed rs) ≡ area_drop_causes (why true) rs
   area_caused [] = refl
   area_caused (o ∷ hs) =
-      some_parts (fate why) 0 (alone (free true o) ∷ holes (why true o) hs) ∙ rw (here_of (why true o), holes_caused (why true o) hs) refl
+      some_parts (drop_cause why) 0 (alone (free true o) ∷ holes (why true o) hs) ∙ rw (here_of (why true o), holes_caused (why true o) hs) refl
 
-  areas_caused : (areas : List (List L)) → map caused (map area_placed areas) ≡ map (area_omissions (why true)) areas
+  areas_caused : (areas : List (List L)) → map caused (map area_placed areas) ≡ map (area_drop_causes (why true)) areas
   areas_caused [] = refl
   areas_caused (rs ∷ areas) = rw (area_caused rs, areas_caused areas) refl
 
 -- ---- the droppable lines of a shape, each with the way to it
 
 module _ (P L : Type 0) (why : Bool → L → Option Cause) where
-  abbrev placed_step : Geometry-F P L L (List (Placed (Candidate L))) → List (Placed (Candidate L))
+  abbrev placed_step : Geometry-F P L L (List (Placed (DroppableLine L))) → List (Placed (DroppableLine L))
   placed_step (Geometry-F.Point p) = []
   placed_step (Geometry-F.MultiPoint ps) = []
   placed_step (Geometry-F.Line l) = alone (free false l)
@@ -150,69 +150,69 @@ module _ (P L : Type 0) (why : Bool → L → Option Cause) where
   placed_step (Geometry-F.Areas areas) = of_parts 0 (map (area_placed why) areas)
   placed_step (Geometry-F.Group xss) = of_parts 0 xss
 
-  abbrev placed : Geometry P L L → List (Placed (Candidate L))
-  placed = fold-Geometry P L L (List (Placed (Candidate L))) placed_step
+  abbrev placed : Geometry P L L → List (Placed (DroppableLine L))
+  placed = fold-Geometry P L L (List (Placed (DroppableLine L))) placed_step
 
   placed_at : AtKinds placed placed_step
   placed_at = at_kinds placed_step
 
   -- without their ways they are the droppable lines
-  abbrev AreCandidates : Geometry P L L → Type 0
-  AreCandidates s = parts_of (placed s) ≡ candidates (why true) s
+  abbrev AreDroppableLines : Geometry P L L → Type 0
+  AreDroppableLines s = parts_of (placed s) ≡ droppable_lines (why true) s
 
-  group_parts : (ss : List (Geometry P L L)) → AllByRecursion AreCandidates ss → joined (map parts_of (map placed ss)) ≡ joined (map (candidates (why true)) ss)
+  group_parts : (ss : List (Geometry P L L)) → AllByRecursion AreDroppableLines ss → joined (map parts_of (map placed ss)) ≡ joined (map (droppable_lines (why true)) ss)
   group_parts [] all = refl
   group_parts (s ∷ ss) all = rw (all.0, group_parts ss all.1) refl
 
-  are_candidates : (s : Geometry P L L) → AreCandidates s
-  are_candidates = by_kinds AreCandidates (record {
-    point = λ p. ap parts_of (placed_at.point p) ∙ sym ((candidates_at P L (why true)).point p);
-    points = λ ps. ap parts_of (placed_at.points ps) ∙ sym ((candidates_at P L (why true)).points ps);
-    line = λ l. ap parts_of (placed_at.line l) ∙ sym ((candidates_at P L (why true)).line l);
-    lines = λ ls. ap parts_of (placed_at.lines ls) ∙ parts_joined 0 (frees false ls) ∙ frees_alone false ls ∙ sym ((candidates_at P L (why true)).lines ls);
-    area = λ rs. ap parts_of (placed_at.area rs) ∙ area_parts why rs ∙ sym ((candidates_at P L (why true)).area rs);
-    areas = λ areas. ap parts_of (placed_at.areas areas) ∙ parts_joined 0 (map (area_placed why) areas) ∙ areas_parts why areas ∙ sym ((candidates_at P L (why true)).areas areas);
-    group = λ ss all. ap parts_of (placed_at.group ss) ∙ parts_joined 0 (map placed ss) ∙ group_parts ss all ∙ sym ((candidates_at P L (why true)).group ss);
+  are_droppable_lines : (s : Geometry P L L) → AreDroppableLines s
+  are_droppable_lines = by_kinds AreDroppableLines (record {
+    point = λ p. ap parts_of (placed_at.point p) ∙ sym ((droppable_lines_at P L (why true)).point p);
+    points = λ ps. ap parts_of (placed_at.points ps) ∙ sym ((droppable_lines_at P L (why true)).points ps);
+    line = λ l. ap parts_of (placed_at.line l) ∙ sym ((droppable_lines_at P L (why true)).line l);
+    lines = λ ls. ap parts_of (placed_at.lines ls) ∙ parts_joined 0 (frees false ls) ∙ frees_alone false ls ∙ sym ((droppable_lines_at P L (why true)).lines ls);
+    area = λ rs. ap parts_of (placed_at.area rs) ∙ area_parts why rs ∙ sym ((droppable_lines_at P L (why true)).area rs);
+    areas = λ areas. ap parts_of (placed_at.areas areas) ∙ parts_joined 0 (map (area_placed why) areas) ∙ areas_parts why areas ∙ sym ((droppable_lines_at P L (why true)).areas areas);
+    group = λ ss all. ap parts_of (placed_at.group ss) ∙ parts_joined 0 (map placed ss) ∙ group_parts ss all ∙ sym ((droppable_lines_at P L (why true)).group ss);
   })
 
   -- without the causes of their outer rings they are the lines with their ways
-  abbrev AreStrokes : Geometry P L L → Type 0
-  AreStrokes s = map (moved stroke) (placed s) ≡ placed_strokes s
+  abbrev AreLinesAndRings : Geometry P L L → Type 0
+  AreLinesAndRings s = map (moved stroke) (placed s) ≡ placed_lines_and_rings s
 
-  group_moved : (ss : List (Geometry P L L)) → AllByRecursion AreStrokes ss → map (map (moved stroke)) (map placed ss) ≡ map placed_strokes ss
+  group_moved : (ss : List (Geometry P L L)) → AllByRecursion AreLinesAndRings ss → map (map (moved stroke)) (map placed ss) ≡ map placed_lines_and_rings ss
   group_moved [] all = refl
   group_moved (s ∷ ss) all = rw (all.0, group_moved ss all.1) refl
 
-  are_strokes : (s : Geometry P L L) → AreStrokes s
-  are_strokes = by_kinds AreStrokes (record {
-    point = λ p. ap (map (moved stroke)) (placed_at.point p) ∙ sym ((placed_strokes_at P L).point p);
-    points = λ ps. ap (map (moved stroke)) (placed_at.points ps) ∙ sym ((placed_strokes_at P L).points ps);
-    line = λ l. ap (map (moved stroke)) (placed_at.line l) ∙ sym ((placed_strokes_at P L).line l);
-    lines = λ ls. ap (map (moved stroke)) (placed_at.lines ls) ∙ moved_parts stroke 0 (frees false ls) ∙ ap (of_parts 0) (frees_moved false ls) ∙ sym ((placed_strokes_at P L).lines ls);
-    area = λ rs. ap (map (moved stroke)) (placed_at.area rs) ∙ area_moved why rs ∙ sym ((placed_strokes_at P L).area rs);
+  are_lines_and_rings : (s : Geometry P L L) → AreLinesAndRings s
+  are_lines_and_rings = by_kinds AreLinesAndRings (record {
+    point = λ p. ap (map (moved stroke)) (placed_at.point p) ∙ sym ((placed_lines_and_rings_at P L).point p);
+    points = λ ps. ap (map (moved stroke)) (placed_at.points ps) ∙ sym ((placed_lines_and_rings_at P L).points ps);
+    line = λ l. ap (map (moved stroke)) (placed_at.line l) ∙ sym ((placed_lines_and_rings_at P L).line l);
+    lines = λ ls. ap (map (moved stroke)) (placed_at.lines ls) ∙ moved_parts stroke 0 (frees false ls) ∙ ap (of_parts 0) (frees_moved false ls) ∙ sym ((placed_lines_and_rings_at P L).lines ls);
+    area = λ rs. ap (map (moved stroke)) (placed_at.area rs) ∙ area_moved why rs ∙ sym ((placed_lines_and_rings_at P L).area rs);
     areas = λ areas. ap (map (moved stroke)) (placed_at.areas areas) ∙ moved_parts stroke 0 (map (area_placed why) areas) ∙ ap (of_parts 0) (areas_moved why areas)
-        ∙ sym ((placed_strokes_at P L).areas areas);
-    group = λ ss all. ap (map (moved stroke)) (placed_at.group ss) ∙ moved_parts stroke 0 (map placed ss) ∙ ap (of_parts 0) (group_moved ss all) ∙ sym ((placed_strokes_at P L).group ss);
+        ∙ sym ((placed_lines_and_rings_at P L).areas areas);
+    group = λ ss all. ap (map (moved stroke)) (placed_at.group ss) ∙ moved_parts stroke 0 (map placed ss) ∙ ap (of_parts 0) (group_moved ss all) ∙ sym ((placed_lines_and_rings_at P L).group ss);
   })
 
   -- those that are left out have the drop causes
   abbrev AreOmitted : Geometry P L L → Type 0
-  AreOmitted s = caused why (placed s) ≡ omissions why s
+  AreOmitted s = caused why (placed s) ≡ drop_causes why s
 
-  group_caused : (ss : List (Geometry P L L)) → AllByRecursion AreOmitted ss → map (caused why) (map placed ss) ≡ map (omissions why) ss
+  group_caused : (ss : List (Geometry P L L)) → AllByRecursion AreOmitted ss → map (caused why) (map placed ss) ≡ map (drop_causes why) ss
   group_caused [] all = refl
   group_caused (s ∷ ss) all = rw (all.0, group_caused ss all.1) refl
 
   are_omitted : (s : Geometry P L L) → AreOmitted s
   are_omitted = by_kinds AreOmitted (record {
-    point = λ p. ap (caused why) (placed_at.point p) ∙ sym ((omissions_at P L why).point p);
-    points = λ ps. ap (caused why) (placed_at.points ps) ∙ sym ((omissions_at P L why).points ps);
-    line = λ l. ap (caused why) (placed_at.line l) ∙ here_of (why false l) ∙ sym ((omissions_at P L why).line l);
-    lines = λ ls. ap (caused why) (placed_at.lines ls) ∙ some_parts (fate why) 0 (frees false ls) ∙ ap (of_parts 0) (frees_caused why false ls) ∙ sym ((omissions_at P L why).lines ls);
-    area = λ rs. ap (caused why) (placed_at.area rs) ∙ area_caused why rs ∙ sym ((omissions_at P L why).area rs);
-    areas = λ areas. ap (caused why) (placed_at.areas areas) ∙ some_parts (fate why) 0 (map (area_placed why) areas) ∙ ap (of_parts 0) (areas_caused why areas)
-        ∙ sym ((omissions_at P L why).areas areas);
-    group = λ ss all. ap (caused why) (placed_at.group ss) ∙ some_parts (fate why) 0 (map placed ss) ∙ ap (of_parts 0) (group_caused ss all) ∙ sym ((omissions_at P L why).group ss);
+    point = λ p. ap (caused why) (placed_at.point p) ∙ sym ((drop_causes_at P L why).point p);
+    points = λ ps. ap (caused why) (placed_at.points ps) ∙ sym ((drop_causes_at P L why).points ps);
+    line = λ l. ap (caused why) (placed_at.line l) ∙ here_of (why false l) ∙ sym ((drop_causes_at P L why).line l);
+    lines = λ ls. ap (caused why) (placed_at.lines ls) ∙ some_parts (drop_cause why) 0 (frees false ls) ∙ ap (of_parts 0) (frees_caused why false ls) ∙ sym ((drop_causes_at P L why).lines ls);
+    area = λ rs. ap (caused why) (placed_at.area rs) ∙ area_caused why rs ∙ sym ((drop_causes_at P L why).area rs);
+    areas = λ areas. ap (caused why) (placed_at.areas areas) ∙ some_parts (drop_cause why) 0 (map (area_placed why) areas) ∙ ap (of_parts 0) (areas_caused why areas)
+        ∙ sym ((drop_causes_at P L why).areas areas);
+    group = λ ss all. ap (caused why) (placed_at.group ss) ∙ some_parts (drop_cause why) 0 (map placed ss) ∙ ap (of_parts 0) (group_caused ss all) ∙ sym ((drop_causes_at P L why).group ss);
   })
 
 -- ---- the lines of a shape, each with why it is left out
@@ -224,21 +224,21 @@ module _ (why : Bool → List Point → Option Cause) (given : Bool → List Poi
   matches : (ps : List Point) → Matches (why true ps) (kept true ps)
   matches ps = grind arith
 
-  abbrev judge : Candidate (List Point) → Judged
-  judge c = record { closed = c.closed; line = c.line; cause = fate why c }
+  abbrev judge : DroppableLine (List Point) → Judged
+  judge c = record { closed = c.closed; line = c.line; cause = drop_cause why c }
 
-  strokes_judged : (xs : List (Placed (Candidate (List Point)))) → map stroke_at (map (moved judge) xs) ≡ map (moved (λ c. (c.closed, c.line))) xs
-  strokes_judged [] = refl
-  strokes_judged (x ∷ xs) = ap (λ ys. record { path = x.path; part = (x.part.closed, x.part.line) } ∷ ys) (strokes_judged xs)
+  lines_and_rings_judged : (xs : List (Placed (DroppableLine (List Point)))) → map line_or_ring_at (map (moved judge) xs) ≡ map (moved (λ c. (c.closed, c.line))) xs
+  lines_and_rings_judged [] = refl
+  lines_and_rings_judged (x ∷ xs) = ap (λ ys. record { path = x.path; part = (x.part.closed, x.part.line) } ∷ ys) (lines_and_rings_judged xs)
 
-  causes_judged : (xs : List (Placed (Candidate (List Point)))) → some_of cause_at (map (moved judge) xs) ≡ some_of (moved_some (fate why)) xs
+  causes_judged : (xs : List (Placed (DroppableLine (List Point)))) → some_of cause_at (map (moved judge) xs) ≡ some_of (moved_some (drop_cause why)) xs
   causes_judged [] = refl
-  causes_judged (x ∷ xs) = ap (with_some (at_path x.path (fate why x.part))) (causes_judged xs)
+  causes_judged (x ∷ xs) = ap (with_some (at_path x.path (drop_cause why x.part))) (causes_judged xs)
 
   abbrev stay : Judged → Option (Bool × List Point)
   stay j = stays_as given j.cause j.closed j.line
 
-  abbrev left : Candidate (List Point) → Option (Bool × List Point)
+  abbrev left : DroppableLine (List Point) → Option (Bool × List Point)
   left c = if_kept c.outer (map_some (λ m. (c.closed, m)) (kept c.closed c.line))
 
   by_causes : (outer own : Option Cause) (closed : Bool) (ps : List Point)
@@ -248,19 +248,19 @@ module _ (why : Bool → List Point → Option Cause) (given : Bool → List Poi
   by_causes (Some c) None closed ps = refl
   by_causes (Some c) (Some d) closed ps = refl
 
-  lines_judged : (xs : List (Placed (Candidate (List Point)))) → some_of (λ x. stay x.part) (map (moved judge) xs) ≡ some_of left (parts_of xs)
+  lines_judged : (xs : List (Placed (DroppableLine (List Point)))) → some_of (λ x. stay x.part) (map (moved judge) xs) ≡ some_of left (parts_of xs)
   lines_judged [] = refl
   lines_judged (x ∷ xs) = rw (by_causes x.part.outer (why x.part.closed x.part.line) x.part.closed x.part.line, lines_judged xs) refl
 
 -- a shape's lines that are reported as dropped are those that what is left of it lacks
-pub leaves_out : (lines : List Stroke) (t limit : ℕ) (s : Shape) → LeavesOutWhatIsTold lines t limit s
+pub leaves_out : (lines : List Stroke) (t limit : ℕ) (s : Shape) → LeavesOutWhatIsReported lines t limit s
 leaves_out lines t limit s =
     let why = own_cause lines t limit in
     let given = rebuilt lines t in
     record {
       judged = map (moved (judge why given)) (placed Point (List Point) why s);
-      all = strokes_judged why given (placed Point (List Point) why s) ∙ are_strokes Point (List Point) why s;
-      told = causes_judged why given (placed Point (List Point) why s) ∙ are_omitted Point (List Point) why s;
-      left = lines_judged why given (placed Point (List Point) why s) ∙ ap (some_of (left why given)) (are_candidates Point (List Point) why s)
-          ∙ sym (strokes_left (λ p. p) (kept why given) (why true) (matches why given) s);
+      all = lines_and_rings_judged why given (placed Point (List Point) why s) ∙ are_lines_and_rings Point (List Point) why s;
+      reported = causes_judged why given (placed Point (List Point) why s) ∙ are_omitted Point (List Point) why s;
+      left = lines_judged why given (placed Point (List Point) why s) ∙ ap (some_of (left why given)) (are_droppable_lines Point (List Point) why s)
+          ∙ sym (lines_and_rings_left (λ p. p) (kept why given) (why true) (matches why given) s);
     }

@@ -7,18 +7,18 @@ use Rattle.geojson_types.specs.declared.layer.FeatureSet.TheVariants.{Many}
 use Rattle.geojson_types.specs.Counting.{no_counts}
 use Rattle.inputs.specs.declared.file_fault.FileFault.{FileFault}
 use Rattle.inputs.specs.declared.file_fault.FileFault.TheVariants.{Read, Json, Topo, NoObject, Write, Memory}
-use Rattle.list_laws.proofs.Elements.{all_weaker}
+use Rattle.owned_values.proofs.Elements.{all_weaker}
 use Rattle.mapchain_engine.specs.Back.{AnswersGeo, OrMemory, GeoIsNeverRefused, StatIsNeverRefused, SimplifyIsNeverRefused}
 use Rattle.mapchain_engine.proofs.ComingBack.{comes_back}
 use Rattle.reports.specs.declared.report.Report.{Report}
 use Rattle.reports.specs.declared.summary.Summary.{Summary}
 use Rattle.reports.specs.Summaries.{summary_of}
-use Rattle.topology_building.specs.Building.{expected_for, written_for}
-use Rattle.topology_files.specs.FileOutcomes.{FileComesTo, FollowsSummary, FollowsText, IsOutsideFile, IsOutsideGiven, object_text}
-use Rattle.topology_files.specs.Files.{FailsToGive}
-use Rattle.topology_files.specs.Geo.{features_text, IsGeoFault}
-use Rattle.topology_simplifying.specs.Outcomes.{FollowsSimplified, simplified}
-use Rattle.topology_simplifying.specs.Simplified.{lessened_text, report_of, IsSimplifyFault}
+use Rattle.mapchain_engine.specs.Building.{expected_for, written_for}
+use Rattle.mapchain_engine.specs.FileOutcomes.{FileHasOutcome, FollowsSummary, FollowsText, IsOutsideFile, IsOutsideGiven, object_text}
+use Rattle.mapchain_engine.specs.Files.{FailsToGive}
+use Rattle.mapchain_engine.specs.Geo.{features_text, IsGeoFault}
+use Rattle.mapchain_engine.specs.SimplifyOutcomes.{FollowsSimplified, simplified}
+use Rattle.mapchain_engine.specs.Simplified.{simplified_contents_text, report_of, IsSimplifyFault}
 
 -- a source that failed in a call has failures
 counted : (old new : ℕ) → new ≡ saturated (old + 1) → new ≡ 0 → ⊥
@@ -62,8 +62,8 @@ module _ (old new : Fed) (out_old out_new : Drained) (none : new.failures ≡ 0)
   geo_answers name text (Err e) refused follows = geo_memory name e refused follows
 
   simplify_answers : (t limit : ℕ) (r : List ℕ × Report) (result : Result Report FileFault) → IfErr result (λ e. IsSimplifyFault t limit old new out_old out_new e)
-      → FollowsSimplified out_old out_new (Ok r) result → OrMemory (λ told. Takes out_old out_new r.0 (length r.0) × (told ≡ r.1)) result
-  simplify_answers t limit r (Ok told) refused follows = (follows.0, follows.2)
+      → FollowsSimplified out_old out_new (Ok r) result → OrMemory (λ reported. Takes out_old out_new r.0 (length r.0) × (reported ≡ r.1)) result
+  simplify_answers t limit r (Ok reported) refused follows = (follows.0, follows.2)
   simplify_answers t limit r (Err e) refused follows = simplify_memory t limit e refused follows
 
 stat_answers : (old new : Fed) → new.failures ≡ 0 → (s : Summary) (result : Result Summary FileFault) → IfErr result (λ e. FailsToGive old new e) → FollowsSummary (Ok s) result
@@ -73,7 +73,7 @@ stat_answers old new none s (Err e) refused follows = given_memory old new e non
 
 pub geo_is_never_refused : GeoIsNeverRefused
 geo_is_never_refused o olds news sink_old sink_new report is source after out_old out_new result from short none sound =
-    all_weaker (λ l. FileComesTo (object_text l.0) from.bytes (Ok (features_text (Many l.1.features))))
+    all_weaker (λ l. FileHasOutcome (object_text l.0) from.bytes (Ok (features_text (Many l.1.features))))
     (λ l. AnswersGeo l.0 source after out_old out_new result → OrMemory (λ sent. WritesAll out_old out_new 0 (features_text (Many l.1.features)) sent) result)
     (λ l comes says. geo_answers source after out_old out_new none sound l.0 (features_text (Many l.1.features)) result says.refused (says.decided from.bytes (Ok (features_text (Many l.1.features))) from.left comes))
     (expected_for o is.layers) (comes_back o olds news sink_old sink_new report is source from short).0
@@ -87,4 +87,4 @@ pub simplify_is_never_refused : SimplifyIsNeverRefused
 simplify_is_never_refused o olds news sink_old sink_new report is t limit source after out_old out_new result from short none sound says =
     let y = written_for o is.layers in
     let comes = (comes_back o olds news sink_old sink_new report is source from short).2 t limit in
-    simplify_answers source after out_old out_new none sound t limit (lessened_text t limit y, report_of t limit y no_counts) result says.refused (says.decided from.bytes (simplified t limit y no_counts) from.left comes)
+    simplify_answers source after out_old out_new none sound t limit (simplified_contents_text t limit y, report_of t limit y no_counts) result says.refused (says.decided from.bytes (simplified t limit y no_counts) from.left comes)

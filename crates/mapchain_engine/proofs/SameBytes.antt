@@ -2,11 +2,11 @@
 use Rattle.std.proofs.Common.{◌≡◌, Bool, List, ap, subst, sym, ◌∙◌, Ok}
 use Rattle.geojson_types.specs.declared.counts.Counts.{Counts}
 use Rattle.json_value.specs.Text.{json_text}
-use Rattle.layer_sources.specs.Laws.{HaveOneOutcome, ReadIsOutcome}
-use Rattle.layer_sources.specs.Outcomes.{plain_outcome}
-use Rattle.layer_sources.specs.Sources.{Sources, Named, AllRead}
+use Rattle.inputs.specs.LayerLaws.{HaveOneOutcome, ReadIsOutcome}
+use Rattle.inputs.specs.Outcomes.{plain_outcome}
+use Rattle.inputs.specs.Sources.{Sources, Named, AllRead}
 use Rattle.mapchain_engine.specs.Laws.{HaveSameBytes, BuildsOneText, SimplifiesToBuilt, SimplifiesToBuiltOfSame}
-use Rattle.topology_building.specs.Building.{written_for, report_of}
+use Rattle.mapchain_engine.specs.Building.{written_for, report_of}
 use Rattle.topojson_types.specs.Values.{topology_value}
 
 -- layers with their counts
@@ -31,7 +31,7 @@ module _ (one : HaveOneOutcome) (read : ReadIsOutcome) where
       ap (λ (z : Read). json_text (topology_value (written_for o z.0))) e in (
         a.builds.topology.written ∙ ap (λ c. json_text (topology_value c)) a.builds.topology.shared ∙ f ∙ sym (ap (λ c. json_text (topology_value c)) b.builds.topology.shared)
             ∙ sym b.builds.topology.written,
-        a.told ∙ ap (λ (z : Read). report_of o z.0 z.1) e ∙ sym b.told,
+        a.reported ∙ ap (λ (z : Read). report_of o z.0 z.1) e ∙ sym b.reported,
       )
 
   pub simplifies_of_same : SimplifiesToBuilt → SimplifiesToBuiltOfSame

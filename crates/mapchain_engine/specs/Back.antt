@@ -8,18 +8,18 @@ use Rattle.geojson_types.specs.Counting.{no_counts}
 use Rattle.inputs.specs.declared.file_fault.FileFault.{FileFault}
 use Rattle.inputs.specs.declared.file_fault.FileFault.TheVariants.{Memory}
 use Rattle.inputs.specs.Texts.{max_input}
-use Rattle.layer_sources.specs.Sources.{Sources}
+use Rattle.inputs.specs.Sources.{Sources}
 use Rattle.mapchain_engine.specs.Laws.{IsWrittenTo}
 use Rattle.reports.specs.declared.report.Report.{Report}
 use Rattle.reports.specs.declared.summary.Summary.{Summary}
 use Rattle.reports.specs.Summaries.{summary_of}
-use Rattle.topology_building.specs.Building.{expected_for, written_for, IsBuilt}
-use Rattle.topology_building.specs.declared.options.Options.{Options}
-use Rattle.topology_files.specs.FileOutcomes.{FileComesTo, FollowsSummary, FollowsText, object_text, summarised}
-use Rattle.topology_files.specs.Files.{FailsToGive}
-use Rattle.topology_files.specs.Geo.{features_text, IsGeoFault}
-use Rattle.topology_simplifying.specs.Outcomes.{simplified, FollowsSimplified}
-use Rattle.topology_simplifying.specs.Simplified.{lessened_text, report_of, IsSimplifyFault}
+use Rattle.mapchain_engine.specs.Building.{expected_for, written_for, IsBuilt}
+use Rattle.mapchain_engine.specs.declared.options.Options.{Options}
+use Rattle.mapchain_engine.specs.FileOutcomes.{FileHasOutcome, FollowsSummary, FollowsText, object_text, summarised}
+use Rattle.mapchain_engine.specs.Files.{FailsToGive}
+use Rattle.mapchain_engine.specs.Geo.{features_text, IsGeoFault}
+use Rattle.mapchain_engine.specs.SimplifyOutcomes.{simplified, FollowsSimplified}
+use Rattle.mapchain_engine.specs.Simplified.{simplified_contents_text, report_of, IsSimplifyFault}
 
 -- Where they are no more than an input may have, what a build wrote comes, with the name of each layer, to the text of the features that
 -- are expected of it, to the summary of the topology that is built, and at each threshold and ring limit to what is left of that topology. So `to_geo`,
@@ -27,25 +27,25 @@ use Rattle.topology_simplifying.specs.Simplified.{lessened_text, report_of, IsSi
 abbrev pub ComesBack : Type 0
 ComesBack = (o : Options) (olds news : Sources) (sink_old sink_new : Drained) (report : Report) (is : IsBuilt o olds news sink_old sink_new report)
     (source : Fed) (from : IsWrittenTo sink_old sink_new source) → length from.bytes ≤ max_input
-    → AllByRecursion (λ l. FileComesTo (object_text l.0) from.bytes (Ok (features_text (Many l.1.features)))) (expected_for o is.layers)
-    × FileComesTo summarised from.bytes (Ok (summary_of (written_for o is.layers)))
-    × ((t limit : ℕ) → FileComesTo (simplified t limit) from.bytes (simplified t limit (written_for o is.layers) no_counts))
+    → AllByRecursion (λ l. FileHasOutcome (object_text l.0) from.bytes (Ok (features_text (Many l.1.features)))) (expected_for o is.layers)
+    × FileHasOutcome summarised from.bytes (Ok (summary_of (written_for o is.layers)))
+    × ((t limit : ℕ) → FileHasOutcome (simplified t limit) from.bytes (simplified t limit (written_for o is.layers) no_counts))
 
 -- ---- what is answered of them
 
 -- what the contracts of `to_geo`, `stat` and `simplify` say of a call that answers this: why it refuses, and that the bytes decide
 pub record AnswersGeo (name : List ℕ) (old new : Fed) (out_old out_new : Drained) (result : Result ℕ FileFault) : Type 0 where
   pub refused : IfErr result (λ e. IsGeoFault name old new out_old out_new e)
-  pub decided : (bytes : List ℕ) (outcome : Result (List ℕ) FileFault) → old.left ≡ Some bytes → FileComesTo (object_text name) bytes outcome
+  pub decided : (bytes : List ℕ) (outcome : Result (List ℕ) FileFault) → old.left ≡ Some bytes → FileHasOutcome (object_text name) bytes outcome
       → FollowsText out_old out_new outcome result
 
 pub record AnswersStat (old new : Fed) (result : Result Summary FileFault) : Type 0 where
   pub refused : IfErr result (λ e. FailsToGive old new e)
-  pub decided : (bytes : List ℕ) (outcome : Result Summary FileFault) → old.left ≡ Some bytes → FileComesTo summarised bytes outcome → FollowsSummary outcome result
+  pub decided : (bytes : List ℕ) (outcome : Result Summary FileFault) → old.left ≡ Some bytes → FileHasOutcome summarised bytes outcome → FollowsSummary outcome result
 
 pub record AnswersSimplify (t limit : ℕ) (old new : Fed) (out_old out_new : Drained) (result : Result Report FileFault) : Type 0 where
   pub refused : IfErr result (λ e. IsSimplifyFault t limit old new out_old out_new e)
-  pub decided : (bytes : List ℕ) (outcome : Result (List ℕ × Report) FileFault) → old.left ≡ Some bytes → FileComesTo (simplified t limit) bytes outcome
+  pub decided : (bytes : List ℕ) (outcome : Result (List ℕ × Report) FileFault) → old.left ≡ Some bytes → FileHasOutcome (simplified t limit) bytes outcome
       → FollowsSimplified out_old out_new outcome result
 
 -- an answer of which this holds, or want of memory
@@ -73,5 +73,5 @@ abbrev pub SimplifyIsNeverRefused : Type 0
 SimplifyIsNeverRefused = (o : Options) (olds news : Sources) (sink_old sink_new : Drained) (report : Report) (is : IsBuilt o olds news sink_old sink_new report)
     (t limit : ℕ) (source after : Fed) (out_old out_new : Drained) (result : Result Report FileFault) (from : IsWrittenTo sink_old sink_new source) → length from.bytes ≤ max_input
     → after.failures ≡ 0 → out_new.failures ≡ 0 → AnswersSimplify t limit source after out_old out_new result
-    → OrMemory (λ told. Takes out_old out_new (lessened_text t limit (written_for o is.layers)) (length (lessened_text t limit (written_for o is.layers)))
-    × (told ≡ report_of t limit (written_for o is.layers) no_counts)) result
+    → OrMemory (λ reported. Takes out_old out_new (simplified_contents_text t limit (written_for o is.layers)) (length (simplified_contents_text t limit (written_for o is.layers)))
+    × (reported ≡ report_of t limit (written_for o is.layers) no_counts)) result

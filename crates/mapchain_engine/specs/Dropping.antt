@@ -3,10 +3,10 @@ use Rattle.std.specs.Prelude.{◌≡◌, ℕ, Bool, List, map, Option, None, Som
 use Rattle.build_meaning.specs.Expected.{kept_line, own_cause, rebuilt}
 use Rattle.geojson_types.specs.Features.{Shape}
 use Rattle.geometry.specs.Lists.{map_some, some_of}
-use Rattle.geometry.specs.Omissions.{omissions}
-use Rattle.geometry.specs.Paths.{Placed, placed_strokes}
+use Rattle.geometry.specs.DropCauses.{drop_causes}
+use Rattle.geometry.specs.Paths.{Placed, placed_lines_and_rings}
 use Rattle.geometry.specs.Points.{Point}
-use Rattle.geometry.specs.Pruning.{option_strokes, prune}
+use Rattle.geometry.specs.Pruning.{option_lines_and_rings, prune}
 use Rattle.geometry.specs.declared.address.Cause.{Cause}
 use Rattle.junctions.specs.declared.stroke.Stroke.{Stroke}
 
@@ -17,8 +17,8 @@ pub record Judged : Type 0 where
   pub cause : Option Cause
 
 -- the line with the way to it
-abbrev pub stroke_at : Placed Judged → Placed (Bool × List Point)
-stroke_at x = record { path = x.path; part = (x.part.closed, x.part.line) }
+abbrev pub line_or_ring_at : Placed Judged → Placed (Bool × List Point)
+line_or_ring_at x = record { path = x.path; part = (x.part.closed, x.part.line) }
 
 -- the cause of a line with the way to it, if it is left out
 abbrev pub cause_at : Placed Judged → Option (Placed Cause)
@@ -31,13 +31,13 @@ stays_as given (Some c) closed line = None
 
 -- Each line of the shape, in reading order, is either reported as dropped, or stands among the lines of what is left of the shape: never both,
 -- and never neither.
-pub record LeavesOutWhatIsTold (lines : List Stroke) (t limit : ℕ) (s : Shape) : Type 0 where
+pub record LeavesOutWhatIsReported (lines : List Stroke) (t limit : ℕ) (s : Shape) : Type 0 where
   pub judged : List (Placed Judged)
-  pub all : map stroke_at judged ≡ placed_strokes s
-  pub told : some_of cause_at judged ≡ omissions (own_cause lines t limit) s
+  pub all : map line_or_ring_at judged ≡ placed_lines_and_rings s
+  pub reported : some_of cause_at judged ≡ drop_causes (own_cause lines t limit) s
   pub left : some_of (λ x. stays_as (rebuilt lines t) x.part.cause x.part.closed x.part.line) judged
-      ≡ option_strokes (prune (λ p. p) (kept_line lines t limit) s)
+      ≡ option_lines_and_rings (prune (λ p. p) (kept_line lines t limit) s)
 
 -- each line of a shape is either reported as dropped or left, whatever the shape is and whatever the lines are that cut it
-abbrev pub DropsAreTold : Type 0
-DropsAreTold = (lines : List Stroke) (t limit : ℕ) (s : Shape) → LeavesOutWhatIsTold lines t limit s
+abbrev pub DropsAreReported : Type 0
+DropsAreReported = (lines : List Stroke) (t limit : ℕ) (s : Shape) → LeavesOutWhatIsReported lines t limit s

@@ -6,18 +6,18 @@ use Rattle.byte_ends.specs.Writes.{WritesAll}
 use Rattle.geojson_types.specs.declared.layer.FeatureSet.TheVariants.{Many}
 use Rattle.build_meaning.specs.Expected.{kept_line}
 use Rattle.build_meaning.specs.Laws.{whole_line}
-use Rattle.build_meaning.specs.Layers.{layers_of, named_strokes}
+use Rattle.build_meaning.specs.Layers.{layers_of, named_lines_and_rings}
 use Rattle.linework.specs.Linework.{linework}
 use Rattle.reports.specs.declared.report.Report.{Report}
 use Rattle.reports.specs.declared.summary.Summary.{Summary}
-use Rattle.topology_building.specs.Building.{expected_for, snapped_for, threshold_for, written_for, IsBuilt}
-use Rattle.topology_building.specs.declared.options.Options.{Options}
-use Rattle.topology_files.specs.Geo.{features_text, IsDecoded}
-use Rattle.layer_sources.specs.Outcomes.{Texts, HaveBytes}
-use Rattle.layer_sources.specs.Sources.{Sources, Named}
+use Rattle.mapchain_engine.specs.Building.{expected_for, snapped_for, threshold_for, written_for, IsBuilt}
+use Rattle.mapchain_engine.specs.declared.options.Options.{Options}
+use Rattle.mapchain_engine.specs.Geo.{features_text, IsDecoded}
+use Rattle.inputs.specs.Outcomes.{Texts, HaveBytes}
+use Rattle.inputs.specs.Sources.{Sources, Named}
 use Rattle.reports.specs.Summaries.{summary_of}
-use Rattle.topology_files.specs.Files.{IsSummarised}
-use Rattle.topology_simplifying.specs.Simplified.{IsSimplified}
+use Rattle.mapchain_engine.specs.Files.{IsSummarised}
+use Rattle.mapchain_engine.specs.Simplified.{IsSimplified}
 
 -- A source has left what a build wrote to its sink after what had been there.
 pub record IsWrittenTo (sink_old sink_new : Drained) (source : Fed) : Type 0 where
@@ -44,7 +44,7 @@ abbrev pub LosesNothing : Type 0
 LosesNothing = (o : Options) (olds news : Sources) (sink_old sink_new : Drained) (report : Report) (is : IsBuilt o olds news sink_old sink_new report)
     → threshold_for o is.layers ≡ 0 → o.ring_limit ≡ 0
     → AllByRecursion (λ b. kept_line (linework (layers_of (snapped_for o is.layers))) (threshold_for o is.layers) o.ring_limit b.0 b.1 ≡ whole_line (snapped_for o is.layers) b.0 b.1)
-    (named_strokes (snapped_for o is.layers))
+    (named_lines_and_rings (snapped_for o is.layers))
 
 -- the summary of what a build wrote is that of the topology that is built of the layers
 abbrev pub SummarisesBack : Type 0

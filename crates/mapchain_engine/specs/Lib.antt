@@ -1,3 +1,14 @@
 pub mod Back
+pub mod BuildLaws
+pub mod BuildOutcomes
+pub mod Building
 pub mod Dropping
+pub mod FileLaws
+pub mod FileOutcomes
+pub mod Files
+pub mod Geo
 pub mod Laws
+pub mod Ranges
+pub mod Simplified
+pub mod SimplifyLaws
+pub mod SimplifyOutcomes

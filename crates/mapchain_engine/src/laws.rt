@@ -1,6 +1,6 @@
 // Laws of the contracts. A function here does nothing: its contract is the law.
 ghost use Rattle.mapchain_engine.specs.Back.{ComesBack, GeoIsNeverRefused, SimplifyIsNeverRefused, StatIsNeverRefused};
-ghost use Rattle.mapchain_engine.specs.Dropping.{DropsAreTold};
+ghost use Rattle.mapchain_engine.specs.Dropping.{DropsAreReported};
 ghost use Rattle.mapchain_engine.specs.Laws.{
   BuildsOneText,
   DecodesBack,
@@ -10,13 +10,13 @@ ghost use Rattle.mapchain_engine.specs.Laws.{
   SummarisesBack,
 };
 
+use crate::build_laws::read_layers_are_taken;
 use build_meaning::zero_loses_nothing;
-use grid_meaning::snapped_are_on;
+use inputs::{layers_have_one_outcome, read_layers_are_the_outcome};
 use json_reading::one_value;
-use layer_sources::{layers_have_one_outcome, read_layers_are_the_outcome};
-use layer_topology::lessens_to_written;
+use layer_topology::simplifies_to_written;
+use simplified_topology::snapped_are_on;
 use topojson_meaning::topology_is_valid;
-use topology_building::read_layers_are_taken;
 
 /// What `build` wrote, at any threshold, `to_geo` reads again: with the name of a layer, answering `Ok`, it writes the text of the
 /// features that are expected of this layer, the same as in the contract of `build`.
@@ -66,7 +66,7 @@ pub fn simplified_text_is_built()
     ensures { SimplifiesToBuilt }
 {
     one_value();
-    lessens_to_written();
+    simplifies_to_written();
     topology_is_valid();
     read_layers_are_taken();
 }
@@ -91,6 +91,6 @@ pub fn simplified_text_is_built_of_same_bytes()
 /// What is expected of a layer and what is reported as dropped of it are two walks over the same features, and they agree: each line and ring,
 /// in reading order, is either reported as dropped, by its place, or stands among the lines of what is left.
 #[tactic(auto, using(crate::proofs::Dropping::leaves_out))]
-pub fn dropped_lines_are_told()
-    ensures { DropsAreTold }
+pub fn dropped_lines_are_reported()
+    ensures { DropsAreReported }
 {}

@@ -1,2 +1,4 @@
+pub mod Commas
+pub mod Lists
 pub mod Refusals
 pub mod formers

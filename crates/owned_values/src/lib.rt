@@ -1,5 +1,7 @@
-//! What values of all layers are made of: lists and texts that contracts see as the list of their elements and of their bytes,
-//! and the error of a call that fails only for want of memory. It stands on std alone.
+//! What all layers stand on: owned lists and texts, the error of want of memory, and the words and laws of lists, options and truth values
+//! that the library has not. Contracts see a list as its elements and a text as its bytes. It stands on std alone. `specs/Lists.antt` has
+//! the words, `specs/Commas.antt` those of texts in a row with commas; `proofs/` has the laws: `Elements` of what holds of each element of
+//! a list, `Members` of which elements a list has, `Lists` of lists made of lists.
 #![tactic(auto)]
 
 mod items;

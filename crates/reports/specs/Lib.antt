@@ -1,2 +1,9 @@
+pub mod FaultLines
+pub mod Faults
+pub mod Lines
 pub mod Reports
+pub mod RunReports
+pub mod Statuses
 pub mod Summaries
+pub mod Printing
+pub mod Values

@@ -4,16 +4,16 @@ use Rattle.std.specs.List.{AllByRecursion}
 use Rattle.std.specs.Prelude.{sum, if◌then◌else◌}
 use Rattle.std.proofs.lemmas.Option.{none-some}
 use Rattle.std.proofs.Math.Path.{fun_ext}
-use Rattle.arc_choice.specs.Rebuilding.{Rebuilding}
+use Rattle.topo_model.specs.Rebuilding.{Rebuilding}
 use Rattle.arc_table.specs.Arcs.{ArcsAndIndexes, arcs_of, index_in, table_of}
 use Rattle.build_meaning.specs.Built.{all_arcs, untrimmed, positions_of}
 use Rattle.build_meaning.specs.Expected.{own_pieces, is_small, kept_line}
 use Rattle.build_meaning.specs.Laws.{AreSound, whole_line}
-use Rattle.build_meaning.specs.Layers.{Named, layers_of, named_strokes}
+use Rattle.build_meaning.specs.Layers.{Named, layers_of, named_lines_and_rings}
 use Rattle.build_meaning.specs.Objects.{Kept, objects_by}
 use Rattle.build_meaning.specs.Trimming.{is_used, keep_from, trimmed}
-use Rattle.build_meaning.proofs.Candidates.{map_map}
-use Rattle.build_meaning.proofs.Linework.{long_of, long_strokes, split_lists}
+use Rattle.build_meaning.proofs.DroppableLines.{map_map}
+use Rattle.build_meaning.proofs.Linework.{long_of, long_lines_and_rings, split_lists}
 use Rattle.build_meaning.proofs.Once.{same_pieces}
 use Rattle.build_meaning.proofs.Whole.{each_stays, loses_nothing}
 use Rattle.cutter.specs.Slices.{split_of, piece_lists}
@@ -22,25 +22,25 @@ use Rattle.elimination_meaning.specs.Laws.{ZeroLaw}
 use Rattle.geojson_types.specs.Features.{Shape, Featured}
 use Rattle.geometry.specs.declared.address.Cause.{Cause}
 use Rattle.geometry.specs.declared.address.Cause.TheVariants.{Small}
-use Rattle.geometry.specs.Joins.{AreInRange, rejoined}
+use Rattle.geometry.specs.Joins.{AreInRange, stitched}
 use Rattle.geometry.specs.Lists.{map_some, then_some}
-use Rattle.geometry.specs.Omissions.{dropped_of_layers}
+use Rattle.geometry.specs.DropCauses.{dropped_of_layers}
 use Rattle.geometry.specs.Points.{Point}
 use Rattle.geometry.specs.Pruning.{prune}
 use Rattle.junctions.specs.Cleaning.{clean, is_short}
 use Rattle.junctions.specs.declared.stroke.Stroke.{Stroke}
-use Rattle.lessened_topology.specs.Assembled.{arcs_of_layers, own_refs, assembled_cause, option_caused, layers_caused, assembled, assembled_dropped, assembled_taken_out}
-use Rattle.lessened_topology.specs.Lessened.{Refs, small_cause, large_refs, feature_pruned, objects_pruned, picked_arcs, picked_whole, lessened_by, EachFromFirstToLast}
-use Rattle.lessened_topology.proofs.Assembled.{contents, kept_by, before_trimming, layers_alike}
-use Rattle.lessened_topology.proofs.Lessened.{IsWholeAtZero, no_small}
+use Rattle.simplified_topology.specs.Assembled.{arcs_of_layers, own_refs, assembled_cause, option_caused, layers_caused, assembled, assembled_dropped, assembled_removed_count}
+use Rattle.simplified_topology.specs.Simplified.{Refs, small_cause, large_refs, feature_pruned, objects_pruned, retained_arcs, retained_whole, simplified_by, EachFromFirstToLast}
+use Rattle.simplified_topology.proofs.Assembled.{contents, kept_by, before_trimming, layers_alike}
+use Rattle.simplified_topology.proofs.Simplified.{IsWholeAtZero, no_small}
 use Rattle.linework.specs.Linework.{linework}
-use Rattle.list_laws.proofs.Elements.{all_weaker}
+use Rattle.owned_values.proofs.Elements.{all_weaker}
 use Rattle.topojson_types.specs.declared.object.TopoObject.{TopoObject}
-use Rattle.topojson_types.specs.Topologies.{Contents, object_features, objects_strokes}
+use Rattle.topojson_types.specs.Topologies.{Contents, object_features, objects_lines_and_rings}
 use Rattle.topojson_types.specs.Validity.{IsTopology}
-use Rattle.topology_reduction.specs.Drops.{draft_cause, shape_drops, objects_drops}
-use Rattle.topology_reduction.proofs.Result as result
-use Rattle.topology_reduction.proofs.Result.{of_arcs}
+use Rattle.topo_model.specs.Drops.{draft_cause, shape_drops, objects_drops}
+use Rattle.topo_model.proofs.Result as result
+use Rattle.topo_model.proofs.Result.{of_arcs}
 use Rattle.topo_model.specs.Drafts.{RefsOf, long_refs, draft_refs, relined, feature_drafted, objects_drafted}
 use Rattle.topo_model.proofs.Relined.{pruned_once, dropped_once}
 
@@ -61,14 +61,14 @@ long_are : (of : RefsOf) (bs : List (Bool × List Point)) → map (λ (b : Bool 
 long_are of [] = refl
 long_are of (b ∷ bs) = grind (arith, long_are of bs)
 
-pub table_refs : (ls : Named) (t : ArcsAndIndexes) → IsTableOf ls t → t.refs ≡ long_refs (own_refs (lines_of ls)) (named_strokes ls)
+pub table_refs : (ls : Named) (t : ArcsAndIndexes) → IsTableOf ls t → t.refs ≡ long_refs (own_refs (lines_of ls)) (named_lines_and_rings ls)
 table_refs ls t is =
     let lines = lines_of ls in
     ap (λ t. t.refs) is
     ∙ ap (λ ps. map (map (index_in (arcs_of ps))) (piece_lists (map (split_of lines) lines))) (same_pieces lines lines)
     ∙ ap (map (map (index_in (all_arcs lines)))) (split_lists ls)
-    ∙ map_map (map (index_in (all_arcs lines))) (λ (b : Bool × List Point). own_pieces lines b.0 b.1) (long_strokes ls)
-    ∙ long_are (own_refs lines) (named_strokes ls)
+    ∙ map_map (map (index_in (all_arcs lines))) (λ (b : Bool × List Point). own_pieces lines b.0 b.1) (long_lines_and_rings ls)
+    ∙ long_are (own_refs lines) (named_lines_and_rings ls)
 
 -- a list for each arc
 pub as_many : {K : Type 0} (numbers : K → List ℕ) (ks : List K) (arcs : List (List Point)) → EachFromFirstToLast (map numbers ks) arcs → length ks ≡ length arcs
@@ -125,7 +125,7 @@ module _ (of : RefsOf) (arcs : Rebuilding) where
 module _ (lines : List Stroke) (arcs : List (List Point)) (limit : ℕ) (b : Bool × List Point) (whole : IsWholeAtZero lines b) where
   -- why it is dropped at zero, by its pieces
   abbrev at_zero : List (List Point) → Option Cause
-  at_zero ps = if is_small 0 b.0 (rejoined (map (reduced 0) ps)) then Some Small else None
+  at_zero ps = if is_small 0 b.0 (stitched (map (reduced 0) ps)) then Some Small else None
 
   small_none : at_zero [] ≡ Some Small
   small_none = grind arith
@@ -147,7 +147,7 @@ module _ (lines : List Stroke) (arcs : List (List Point)) (limit : ℕ) (b : Boo
 
 -- ---- the topology
 
-module _ (kept : List (List ℕ)) (limit : ℕ) (ls : Named) (t : ArcsAndIndexes) (is : IsTableOf ls t) (zero : ZeroLaw) (sound : AreSound ls) (picked : List (List Point)) (picks : picked ≡ picked_arcs kept t.arcs) where
+module _ (kept : List (List ℕ)) (limit : ℕ) (ls : Named) (t : ArcsAndIndexes) (is : IsTableOf ls t) (zero : ZeroLaw) (sound : AreSound ls) (retained : List (List Point)) (picks : retained ≡ retained_arcs kept t.arcs) where
   abbrev of : RefsOf
   of = own_refs (lines_of ls)
 
@@ -161,46 +161,46 @@ module _ (kept : List (List ℕ)) (limit : ℕ) (ls : Named) (t : ArcsAndIndexes
   pub same_arcs : t.arcs ≡ whole.arcs
   same_arcs = table_arcs ls t is ∙ sym (each_stays zero (all_arcs (lines_of ls)))
 
-  pub picked_is : picked ≡ picked_arcs kept whole.arcs
-  picked_is = picks ∙ ap (picked_arcs kept) same_arcs
+  pub retained_is : retained ≡ retained_arcs kept whole.arcs
+  retained_is = picks ∙ ap (retained_arcs kept) same_arcs
 
-  fewer_is : picked ≡ picked_arcs kept (arcs_of_layers ls)
-  fewer_is = picks ∙ ap (picked_arcs kept) (table_arcs ls t is)
+  fewer_is : retained ≡ retained_arcs kept (arcs_of_layers ls)
+  fewer_is = picks ∙ ap (retained_arcs kept) (table_arcs ls t is)
 
   pub through : EachFromFirstToLast kept t.arcs → EachFromFirstToLast kept whole.arcs
   through h = subst (EachFromFirstToLast kept) same_arcs h
 
   -- the draft without lines and rings that are too short is the layers without them
-  draft_is : contents (objects_pruned (large_refs limit picked) draft) picked ≡ picked_whole kept limit whole
+  draft_is : contents (objects_pruned (large_refs limit retained) draft) retained ≡ retained_whole kept limit whole
   draft_is =
-      ap (λ os. contents os picked) (draft_pruned of (large_refs limit picked) ls ∙ ap (λ (k : Kept). objects_by k ls) (fun_ext (λ closed. fun_ext (large_are (lines_of ls) picked limit closed))))
+      ap (λ os. contents os retained) (draft_pruned of (large_refs limit retained) ls ∙ ap (λ (k : Kept). objects_by k ls) (fun_ext (λ closed. fun_ext (large_are (lines_of ls) retained limit closed))))
       ∙ ap (λ arcs. contents (objects_by (kept_by (lines_of ls) arcs limit) ls) arcs) fewer_is
       ∙ sym (before_trimming zero kept limit ls sound)
 
-  pub large_is : objects_pruned (large_refs limit picked) draft ≡ result.large kept limit whole picked picked_is
-  large_is = ap (λ y. y.objects) (draft_is ∙ sym (result.is_whole kept limit whole picked picked_is))
+  pub large_is : objects_pruned (large_refs limit retained) draft ≡ result.large kept limit whole retained retained_is
+  large_is = ap (λ y. y.objects) (draft_is ∙ sym (result.is_whole kept limit whole retained retained_is))
 
-  pub is_assembled : trimmed (contents (objects_pruned (large_refs limit picked) draft) picked) ≡ assembled kept limit ls
-  unfolding assembled lessened_by
+  pub is_assembled : trimmed (contents (objects_pruned (large_refs limit retained) draft) retained) ≡ assembled kept limit ls
+  unfolding assembled simplified_by
   is_assembled = ap trimmed draft_is
 
-  pub ranged : IsTopology whole → EachFromFirstToLast kept t.arcs → AllByRecursion (λ b. AreInRange (length picked) b.1) (objects_strokes (objects_pruned (large_refs limit picked) draft))
+  pub ranged : IsTopology whole → EachFromFirstToLast kept t.arcs → AllByRecursion (λ b. AreInRange (length retained) b.1) (objects_lines_and_rings (objects_pruned (large_refs limit retained) draft))
   ranged valid h =
-      subst (λ (os : Objects). AllByRecursion (λ b. AreInRange (length picked) b.1) (objects_strokes os)) (sym large_is) (result.ranged kept limit whole picked picked_is valid (through h))
+      subst (λ (os : Objects). AllByRecursion (λ b. AreInRange (length retained) b.1) (objects_lines_and_rings os)) (sym large_is) (result.ranged kept limit whole retained retained_is valid (through h))
 
-  pub drops_are : objects_drops (of_arcs limit picked) 0 draft ≡ assembled_dropped kept limit ls
+  pub drops_are : objects_drops (of_arcs limit retained) 0 draft ≡ assembled_dropped kept limit ls
   unfolding assembled_dropped
   drops_are =
-      ap (dropped_of_layers 0) (layers_dropped of (of_arcs limit picked) ls)
-      ∙ ap (dropped_of_layers 0) (layers_alike (cause of (of_arcs limit picked)) (assembled_cause (lines_of ls) picked limit) ls
-      (all_weaker (λ b. kept_line (lines_of ls) 0 0 b.0 b.1 ≡ whole_line ls b.0 b.1) (λ b. cause of (of_arcs limit picked) b.0 b.1 ≡ assembled_cause (lines_of ls) picked limit b.0 b.1)
-      (cause_is (lines_of ls) picked limit) (named_strokes ls) (loses_nothing zero ls sound)))
+      ap (dropped_of_layers 0) (layers_dropped of (of_arcs limit retained) ls)
+      ∙ ap (dropped_of_layers 0) (layers_alike (cause of (of_arcs limit retained)) (assembled_cause (lines_of ls) retained limit) ls
+      (all_weaker (λ b. kept_line (lines_of ls) 0 0 b.0 b.1 ≡ whole_line ls b.0 b.1) (λ b. cause of (of_arcs limit retained) b.0 b.1 ≡ assembled_cause (lines_of ls) retained limit b.0 b.1)
+      (cause_is (lines_of ls) retained limit) (named_lines_and_rings ls) (loses_nothing zero ls sound)))
       ∙ ap (λ arcs. layers_caused (assembled_cause (lines_of ls) arcs limit) ls) fewer_is
 
-  pub is_taken_out : sum (map length (keep_from (is_used (objects_pruned (large_refs limit picked) draft)) 0 t.arcs)) - positions_of (keep_from (is_used (objects_pruned (large_refs limit picked) draft)) 0 picked)
-      ≡ assembled_taken_out kept limit ls
-  unfolding assembled_taken_out
-  is_taken_out =
-      ap (λ (os : Objects). positions_of (keep_from (is_used os) 0 t.arcs) - positions_of (keep_from (is_used os) 0 picked)) large_is
-      ∙ ap (λ arcs. positions_of (keep_from (is_used (result.large kept limit whole picked picked_is)) 0 arcs) - positions_of (keep_from (is_used (result.large kept limit whole picked picked_is)) 0 picked)) same_arcs
-      ∙ result.taken_is kept limit whole picked picked_is
+  pub removed_count_is : sum (map length (keep_from (is_used (objects_pruned (large_refs limit retained) draft)) 0 t.arcs)) - positions_of (keep_from (is_used (objects_pruned (large_refs limit retained) draft)) 0 retained)
+      ≡ assembled_removed_count kept limit ls
+  unfolding assembled_removed_count
+  removed_count_is =
+      ap (λ (os : Objects). positions_of (keep_from (is_used os) 0 t.arcs) - positions_of (keep_from (is_used os) 0 retained)) large_is
+      ∙ ap (λ arcs. positions_of (keep_from (is_used (result.large kept limit whole retained retained_is)) 0 arcs) - positions_of (keep_from (is_used (result.large kept limit whole retained retained_is)) 0 retained)) same_arcs
+      ∙ result.taken_is kept limit whole retained retained_is

@@ -1,20 +1,20 @@
 -- Shapes with their lines and rings replaced: what is then pruned of them, and what is dropped.
 use Rattle.std.proofs.Common.{◌≡◌, ℤ, Bool, true, false, List, [], ◌∷◌, map, Option, Some, refl, sym, ap, ◌∙◌}
 use Rattle.std.specs.List.{AllByRecursion}
-use Rattle.build_meaning.proofs.Candidates.{map_map}
+use Rattle.build_meaning.proofs.DroppableLines.{map_map}
 use Rattle.geojson_types.specs.Features.{Shape}
 use Rattle.geometry.specs.declared.address.Cause.{Cause}
 use Rattle.geometry.specs.declared.shape.Geometry.TheVariants as g
 use Rattle.geometry.specs.Lists.{map_some, with_some, some_of, unless_empty}
-use Rattle.geometry.specs.Omissions.{here, inner_cause, area_omissions, omissions}
+use Rattle.geometry.specs.DropCauses.{here, inner_cause, area_drop_causes, drop_causes}
 use Rattle.geometry.specs.Paths.{Placed, of_parts}
 use Rattle.geometry.specs.Points.{Point}
 use Rattle.geometry.specs.Pruning.{area_by, prune}
 use Rattle.geometry.proofs.ByKind.{AtKinds, at_kinds}
-use Rattle.geometry.proofs.Cases.{prune-point, prune-points, prune-line, prune-lines, prune-area, prune-areas, prune-group, omissions_at}
+use Rattle.geometry.proofs.Cases.{prune-point, prune-points, prune-line, prune-lines, prune-area, prune-areas, prune-group, drop_causes_at}
 use Rattle.geometry.proofs.Induction.{by_kinds}
 use Rattle.topojson_types.specs.Topologies.{TopoShape}
-use Rattle.lessened_topology.specs.Lessened.{Refs}
+use Rattle.simplified_topology.specs.Simplified.{Refs}
 use Rattle.topo_model.specs.Drafts.{RefsOf, relined_step, relined}
 
 pub relined_at : (f : RefsOf) → AtKinds (relined f) (relined_step f)
@@ -67,30 +67,30 @@ module _ (f : RefsOf) (why : Bool → List ℤ → Option Cause) where
   cause closed ps = why closed (f closed ps)
 
   abbrev gone : TopoShape → List (Placed Cause)
-  gone s = omissions {P = Point} {L = List ℤ} why s
+  gone s = drop_causes {P = Point} {L = List ℤ} why s
 
-  abbrev Told : Shape → Type 0
-  Told s = gone (relined f s) ≡ omissions {P = Point} {L = List Point} cause s
+  abbrev Reported : Shape → Type 0
+  Reported s = gone (relined f s) ≡ drop_causes {P = Point} {L = List Point} cause s
 
-  area_told : (rs : List (List Point)) → area_omissions (why true) (map (f true) rs) ≡ area_omissions (cause true) rs
-  area_told [] = refl
-  area_told (o ∷ hs) = ap (λ xs. of_parts 0 (here (cause true o) ∷ xs)) (map_map (λ h. here (inner_cause (cause true o) (why true h))) (f true) hs)
+  area_reported : (rs : List (List Point)) → area_drop_causes (why true) (map (f true) rs) ≡ area_drop_causes (cause true) rs
+  area_reported [] = refl
+  area_reported (o ∷ hs) = ap (λ xs. of_parts 0 (here (cause true o) ∷ xs)) (map_map (λ h. here (inner_cause (cause true o) (why true h))) (f true) hs)
 
-  areas_told : (areas : List (List (List Point))) → map (area_omissions (why true)) (map (map (f true)) areas) ≡ map (area_omissions (cause true)) areas
-  areas_told [] = refl
-  areas_told (rs ∷ areas) = rw (area_told rs, areas_told areas) refl
+  areas_reported : (areas : List (List (List Point))) → map (area_drop_causes (why true)) (map (map (f true)) areas) ≡ map (area_drop_causes (cause true)) areas
+  areas_reported [] = refl
+  areas_reported (rs ∷ areas) = rw (area_reported rs, areas_reported areas) refl
 
-  members_told : (ss : List Shape) → AllByRecursion Told ss → map gone (map (relined f) ss) ≡ map (omissions {P = Point} {L = List Point} cause) ss
-  members_told [] h = refl
-  members_told (s ∷ ss) h = rw (h.0, members_told ss h.1) refl
+  members_reported : (ss : List Shape) → AllByRecursion Reported ss → map gone (map (relined f) ss) ≡ map (drop_causes {P = Point} {L = List Point} cause) ss
+  members_reported [] h = refl
+  members_reported (s ∷ ss) h = rw (h.0, members_reported ss h.1) refl
 
-  pub dropped_once : (s : Shape) → gone (relined f s) ≡ omissions {P = Point} {L = List Point} cause s
-  dropped_once = by_kinds Told (record {
-    point = λ p. ap gone ((relined_at f).point p) ∙ (omissions_at Point (List ℤ) why).point p ∙ sym ((omissions_at Point (List Point) cause).point p);
-    points = λ ps. ap gone ((relined_at f).points ps) ∙ (omissions_at Point (List ℤ) why).points ps ∙ sym ((omissions_at Point (List Point) cause).points ps);
-    line = λ l. ap gone ((relined_at f).line l) ∙ (omissions_at Point (List ℤ) why).line (f false l) ∙ sym ((omissions_at Point (List Point) cause).line l);
-    lines = λ ls. ap gone ((relined_at f).lines ls) ∙ (omissions_at Point (List ℤ) why).lines (map (f false) ls) ∙ ap (of_parts 0) (map_map (λ l. here (why false l)) (f false) ls) ∙ sym ((omissions_at Point (List Point) cause).lines ls);
-    area = λ rs. ap gone ((relined_at f).area rs) ∙ (omissions_at Point (List ℤ) why).area (map (f true) rs) ∙ area_told rs ∙ sym ((omissions_at Point (List Point) cause).area rs);
-    areas = λ areas. ap gone ((relined_at f).areas areas) ∙ (omissions_at Point (List ℤ) why).areas (map (map (f true)) areas) ∙ ap (of_parts 0) (areas_told areas) ∙ sym ((omissions_at Point (List Point) cause).areas areas);
-    group = λ ss all. ap gone ((relined_at f).group ss) ∙ (omissions_at Point (List ℤ) why).group (map (relined f) ss) ∙ ap (of_parts 0) (members_told ss all) ∙ sym ((omissions_at Point (List Point) cause).group ss);
+  pub dropped_once : (s : Shape) → gone (relined f s) ≡ drop_causes {P = Point} {L = List Point} cause s
+  dropped_once = by_kinds Reported (record {
+    point = λ p. ap gone ((relined_at f).point p) ∙ (drop_causes_at Point (List ℤ) why).point p ∙ sym ((drop_causes_at Point (List Point) cause).point p);
+    points = λ ps. ap gone ((relined_at f).points ps) ∙ (drop_causes_at Point (List ℤ) why).points ps ∙ sym ((drop_causes_at Point (List Point) cause).points ps);
+    line = λ l. ap gone ((relined_at f).line l) ∙ (drop_causes_at Point (List ℤ) why).line (f false l) ∙ sym ((drop_causes_at Point (List Point) cause).line l);
+    lines = λ ls. ap gone ((relined_at f).lines ls) ∙ (drop_causes_at Point (List ℤ) why).lines (map (f false) ls) ∙ ap (of_parts 0) (map_map (λ l. here (why false l)) (f false) ls) ∙ sym ((drop_causes_at Point (List Point) cause).lines ls);
+    area = λ rs. ap gone ((relined_at f).area rs) ∙ (drop_causes_at Point (List ℤ) why).area (map (f true) rs) ∙ area_reported rs ∙ sym ((drop_causes_at Point (List Point) cause).area rs);
+    areas = λ areas. ap gone ((relined_at f).areas areas) ∙ (drop_causes_at Point (List ℤ) why).areas (map (map (f true)) areas) ∙ ap (of_parts 0) (areas_reported areas) ∙ sym ((drop_causes_at Point (List Point) cause).areas areas);
+    group = λ ss all. ap gone ((relined_at f).group ss) ∙ (drop_causes_at Point (List ℤ) why).group (map (relined f) ss) ∙ ap (of_parts 0) (members_reported ss all) ∙ sym ((drop_causes_at Point (List Point) cause).group ss);
   })

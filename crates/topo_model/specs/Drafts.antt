@@ -57,4 +57,4 @@ objects_drafted of ls = map (λ l. (l.0, Many (map (feature_drafted of) l.1.feat
 -- Where the remaining arc indexes are those of these lines and rings and of others after, this is what is made of them, and the others
 -- remain.
 abbrev pub Drafts : {Y : Type 0} → List (Bool × List Point) → (RefsOf → Y) → List (List ℤ) → Y → List (List ℤ) → Type 0
-Drafts lines made waiting y rest = (of : RefsOf) (tail : List (List ℤ)) → waiting ≡ long_refs of lines ++ tail → (y ≡ made of) × (rest ≡ tail)
+Drafts lines made remaining y rest = (of : RefsOf) (tail : List (List ℤ)) → remaining ≡ long_refs of lines ++ tail → (y ≡ made of) × (rest ≡ tail)

@@ -1,1 +1,10 @@
+pub mod ArcUses
 pub mod Drafts
+pub mod Drops
+pub mod Marks
+pub mod Parts
+pub mod Passing
+pub mod Places
+pub mod Renumbering
+pub mod Rebuilding
+pub mod Uses

@@ -6,22 +6,22 @@ ghost use Rattle.build_meaning.specs.Layers.{layers_of, names_of};
 ghost use Rattle.byte_ends.specs.Ends.{saturated};
 ghost use Rattle.cutter.specs.Slices.{split_of};
 ghost use Rattle.geometry.specs.Units.{threshold_limit};
-ghost use Rattle.lessened_topology.specs.Assembled.{assembled, assembled_dropped, assembled_taken_out};
-ghost use Rattle.lessened_topology.specs.Lessened.{EachFromFirstToLast};
+ghost use Rattle.simplified_topology.specs.Assembled.{assembled, assembled_dropped, assembled_removed_count};
+ghost use Rattle.simplified_topology.specs.Simplified.{EachFromFirstToLast};
 ghost use Rattle.linework.specs.Linework.{linework};
 ghost use Rattle.topojson_types.specs.Validity.{AreDistinct};
 
 use crate::drafting::drafted_objects;
-use crate::picking::picked_cells_of_all;
+use crate::finishing::finish;
+use crate::position_retaining::retained_cells_of_all;
 use arc_table::Table;
 use elimination_meaning::{ends_stay, nothing_is_new, zero_law};
 use geojson_types::{Dropped, Layer};
 use json_value::{Items, OwnText};
-use lessened_topology::assembled_is_valid;
 use owned_values::Memory;
+use simplified_topology::assembled_is_valid;
 use std::alloc::Global;
 use topojson_types::{Cell, TopoObject, Topology};
-use topology_reduction::finish;
 
 /// The objects and the arcs of the topology of named layers over reduced arcs, without the arcs that no kept line uses, the lines
 /// and rings that are dropped, in reading order, and how many positions are removed from the arcs that stay.
@@ -48,15 +48,15 @@ fn objects_and_arcs(
     ensures assembled { IfOk result
         (λ r. assembled (map (λ k. k.items) kept.now) ring_limit layers.items ≡ record { objects = r.0.items; arcs = r.1.items; transform = None }) }
     ensures dropped { IfOk result (λ r. r.2.items ≡ assembled_dropped (map (λ k. k.items) kept.now) ring_limit layers.items) }
-    ensures taken_out { IfOk result (λ r. r.3 ≡ saturated (assembled_taken_out (map (λ k. k.items) kept.now) ring_limit layers.items)) }
+    ensures removed_count { IfOk result (λ r. r.3 ≡ saturated (assembled_removed_count (map (λ k. k.items) kept.now) ring_limit layers.items)) }
 {
     zero_law();
     ends_stay();
     nothing_is_new();
-    let picked = picked_cells_of_all(alloc, kept, &table)?;
+    let retained = retained_cells_of_all(alloc, kept, &table)?;
     let (arcs, refs) = table.into_parts();
     let objects = drafted_objects(alloc, layers, refs)?;
-    finish(alloc, objects, &arcs, picked, None, ring_limit)
+    finish(alloc, objects, &arcs, retained, None, ring_limit)
 }
 
 /// The topology of named layers over the arcs of their lines, where of each arc the positions with these numbers are kept: a list
@@ -78,7 +78,7 @@ pub fn assemble(
     requires limit { ring_limit ≤ threshold_limit }
     ensures topology { IfOk result (λ r. r.0 ≡ assembled (map (λ k. k.items) kept.now) ring_limit layers.items) }
     ensures dropped { IfOk result (λ r. r.1.items ≡ assembled_dropped (map (λ k. k.items) kept.now) ring_limit layers.items) }
-    ensures taken_out { IfOk result (λ r. r.2 ≡ saturated (assembled_taken_out (map (λ k. k.items) kept.now) ring_limit layers.items)) }
+    ensures removed_count { IfOk result (λ r. r.2 ≡ saturated (assembled_removed_count (map (λ k. k.items) kept.now) ring_limit layers.items)) }
     ensures few { IfOk result (λ r. length r.0.arcs < 2 ^ 63) }
 {
     assembled_is_valid();

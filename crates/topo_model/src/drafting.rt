@@ -1,11 +1,12 @@
 // Layers as a draft of a topology.
 ghost use Rattle.std.specs.Prelude.{◌≡◌, ◌∷◌, [], ℤ, List, IfOk, false, map, true};
-ghost use Rattle.build_meaning.specs.Layers.{features_strokes, named_strokes};
+ghost use Rattle.build_meaning.specs.Layers.{features_lines_and_rings, named_lines_and_rings};
 ghost use Rattle.geometry.specs.Lists.{joined, map_some};
-ghost use Rattle.geometry.specs.Pruning.{option_strokes, strokes};
+ghost use Rattle.geometry.specs.Pruning.{option_lines_and_rings, lines_and_rings};
 ghost use Rattle.topo_model.specs.Drafts.{Drafts, RefsOf, draft_refs, feature_drafted, long_refs, objects_drafted, relined};
 
-use arc_choice::{cells, is_short_line};
+use crate::position_cells::cells;
+use crate::rebuilding::is_short_line;
 use geojson_types::{Feature, Geometry, Layer, Position, Ring, Shape};
 use json_value::{Items, OwnText};
 use owned_values::Memory;
@@ -16,12 +17,12 @@ use topojson_types::{ArcRef, Cell, TopoFeature, TopoObject, TopoShape};
 
 /// The arc indexes of lines and rings, in reading order, after those that were taken.
 #[derive(Drop)]
-struct Waiting {
+struct Remaining {
     refs: Vec<Items<ArcRef>>,
     next: usize,
 }
 
-impl Model for Waiting {
+impl Model for Remaining {
     ghost use Rattle.std.specs.Prelude.{List, ℤ, drop};
 
     ghost Value = { List (List ℤ) };
@@ -29,12 +30,12 @@ impl Model for Waiting {
     ghost view = { λ w. drop w.next w.refs.items };
 }
 
-impl Waiting {
+impl Remaining {
     /// The arc indexes of all lines and rings of a table.
-    fn all(refs: Vec<Items<ArcRef>>) -> Waiting
+    fn all(refs: Vec<Items<ArcRef>>) -> Remaining
         ensures { result ≡ refs.items }
     {
-        Waiting { refs, next: 0 }
+        Remaining { refs, next: 0 }
     }
 
     /// Takes the next. They are moved out.
@@ -56,27 +57,27 @@ fn drafted_line(
     alloc: Global,
     closed: bool,
     positions: &[Position],
-    waiting: &mut Waiting,
+    remaining: &mut Remaining,
 ) -> Items<ArcRef>
-    ensures { Drafts ((closed, positions.now) ∷ []) (λ of. draft_refs of closed positions.now) waiting.old result waiting.new }
+    ensures { Drafts ((closed, positions.now) ∷ []) (λ of. draft_refs of closed positions.now) remaining.old result remaining.new }
 {
     if is_short_line(closed, positions) {
         return Items::of(Vec::new(alloc));
     }
-    waiting.take(alloc)
+    remaining.take(alloc)
 }
 
 /// What stands for each of these open lines, in order.
 fn drafted_lines(
     alloc: Global,
     lines: &[Items<Position>],
-    waiting: &mut Waiting,
+    remaining: &mut Remaining,
 ) -> Result<Vec<Items<ArcRef>>, Memory>
-    ensures { IfOk result (λ made. Drafts (map (λ l. (false, l)) lines.now) (λ of. map (draft_refs of false) lines.now) waiting.old made.items waiting.new) }
+    ensures { IfOk result (λ made. Drafts (map (λ l. (false, l)) lines.now) (λ of. map (draft_refs of false) lines.now) remaining.old made.items remaining.new) }
 {
     let mut made = Vec::with_capacity(alloc, lines.len())?;
     'lines: for line in lines {
-        made.push(drafted_line(alloc, false, line.as_slice(), waiting))?;
+        made.push(drafted_line(alloc, false, line.as_slice(), remaining))?;
     }
     Ok(made)
 }
@@ -85,13 +86,13 @@ fn drafted_lines(
 fn drafted_rings(
     alloc: Global,
     rings: &[Ring],
-    waiting: &mut Waiting,
+    remaining: &mut Remaining,
 ) -> Result<Vec<Items<ArcRef>>, Memory>
-    ensures { IfOk result (λ made. Drafts (map (λ l. (true, l)) rings.now) (λ of. map (draft_refs of true) rings.now) waiting.old made.items waiting.new) }
+    ensures { IfOk result (λ made. Drafts (map (λ l. (true, l)) rings.now) (λ of. map (draft_refs of true) rings.now) remaining.old made.items remaining.new) }
 {
     let mut made = Vec::with_capacity(alloc, rings.len())?;
     'rings: for ring in rings {
-        made.push(drafted_line(alloc, true, ring.as_slice(), waiting))?;
+        made.push(drafted_line(alloc, true, ring.as_slice(), remaining))?;
     }
     Ok(made)
 }
@@ -100,21 +101,25 @@ fn drafted_rings(
 fn drafted_areas(
     alloc: Global,
     areas: &[Items<Ring>],
-    waiting: &mut Waiting,
+    remaining: &mut Remaining,
 ) -> Result<Vec<Items<Items<ArcRef>>>, Memory>
-    ensures { IfOk result (λ made. Drafts (joined (map (map (λ l. (true, l))) areas.now)) (λ of. map (map (draft_refs of true)) areas.now) waiting.old made.items waiting.new) }
+    ensures { IfOk result (λ made. Drafts (joined (map (map (λ l. (true, l))) areas.now)) (λ of. map (map (draft_refs of true)) areas.now) remaining.old made.items remaining.new) }
 {
     let mut made = Vec::with_capacity(alloc, areas.len())?;
     'areas: for rings in areas {
-        let rings = drafted_rings(alloc, rings.as_slice(), waiting)?;
+        let rings = drafted_rings(alloc, rings.as_slice(), remaining)?;
         made.push(Items::of(rings))?;
     }
     Ok(made)
 }
 
 /// The shape with each line and ring replaced.
-fn drafted_shape(alloc: Global, shape: &Shape, waiting: &mut Waiting) -> Result<TopoShape, Memory>
-    ensures { IfOk result (λ made. Drafts (strokes shape.now) (λ of. relined (draft_refs of) shape.now) waiting.old made waiting.new) }
+fn drafted_shape(
+    alloc: Global,
+    shape: &Shape,
+    remaining: &mut Remaining,
+) -> Result<TopoShape, Memory>
+    ensures { IfOk result (λ made. Drafts (lines_and_rings shape.now) (λ of. relined (draft_refs of) shape.now) remaining.old made remaining.new) }
 {
     match shape {
         Geometry::Point(position) => Ok(Geometry::Point(Cell::of(*position))),
@@ -122,26 +127,26 @@ fn drafted_shape(alloc: Global, shape: &Shape, waiting: &mut Waiting) -> Result<
             Ok(Geometry::MultiPoint(cells(alloc, positions.as_slice())?))
         }
         Geometry::Line(line) => {
-            let refs = drafted_line(alloc, false, line.as_slice(), waiting);
+            let refs = drafted_line(alloc, false, line.as_slice(), remaining);
             Ok(Geometry::Line(refs))
         }
         Geometry::Lines(lines) => {
-            let made = drafted_lines(alloc, lines.as_slice(), waiting)?;
+            let made = drafted_lines(alloc, lines.as_slice(), remaining)?;
             Ok(Geometry::Lines(Items::of(made)))
         }
         Geometry::Area(rings) => {
-            let made = drafted_rings(alloc, rings.as_slice(), waiting)?;
+            let made = drafted_rings(alloc, rings.as_slice(), remaining)?;
             Ok(Geometry::Area(Items::of(made)))
         }
         Geometry::Areas(areas) => {
-            let made = drafted_areas(alloc, areas.as_slice(), waiting)?;
+            let made = drafted_areas(alloc, areas.as_slice(), remaining)?;
             Ok(Geometry::Areas(Items::of(made)))
         }
         Geometry::Group(shapes) => {
             let shapes = shapes.as_slice();
             let mut made = Vec::with_capacity(alloc, shapes.len())?;
             'shapes: for shape in shapes {
-                made.push(drafted_shape(alloc, shape, waiting)?)?;
+                made.push(drafted_shape(alloc, shape, remaining)?)?;
             }
             Ok(Geometry::Group(Items::of(made)))
         }
@@ -152,13 +157,13 @@ fn drafted_shape(alloc: Global, shape: &Shape, waiting: &mut Waiting) -> Result<
 fn drafted_option(
     alloc: Global,
     shape: &Option<Shape>,
-    waiting: &mut Waiting,
+    remaining: &mut Remaining,
 ) -> Result<Option<TopoShape>, Memory>
-    ensures { IfOk result (λ made. Drafts (option_strokes shape.now) (λ of. map_some (relined (draft_refs of)) shape.now) waiting.old made waiting.new) }
+    ensures { IfOk result (λ made. Drafts (option_lines_and_rings shape.now) (λ of. map_some (relined (draft_refs of)) shape.now) remaining.old made remaining.new) }
 {
     match shape {
         None => Ok(None),
-        Some(shape) => Ok(Some(drafted_shape(alloc, shape, waiting)?)),
+        Some(shape) => Ok(Some(drafted_shape(alloc, shape, remaining)?)),
     }
 }
 
@@ -166,12 +171,12 @@ fn drafted_option(
 fn drafted_feature(
     alloc: Global,
     feature: Feature,
-    waiting: &mut Waiting,
+    remaining: &mut Remaining,
 ) -> Result<TopoFeature, Memory>
-    ensures { IfOk result (λ made. Drafts (option_strokes feature.shape) (λ of. feature_drafted of feature) waiting.old made waiting.new) }
+    ensures { IfOk result (λ made. Drafts (option_lines_and_rings feature.shape) (λ of. feature_drafted of feature) remaining.old made remaining.new) }
 {
     let (id, properties, shape) = feature.into_parts();
-    let shape = drafted_option(alloc, &shape, waiting)?;
+    let shape = drafted_option(alloc, &shape, remaining)?;
     Ok(TopoFeature {
         id,
         properties,
@@ -183,13 +188,13 @@ fn drafted_feature(
 fn drafted_features(
     alloc: Global,
     features: Vec<Feature>,
-    waiting: &mut Waiting,
+    remaining: &mut Remaining,
 ) -> Result<Vec<TopoFeature>, Memory>
-    ensures { IfOk result (λ made. Drafts (features_strokes features.items) (λ of. map (feature_drafted of) features.items) waiting.old made.items waiting.new) }
+    ensures { IfOk result (λ made. Drafts (features_lines_and_rings features.items) (λ of. map (feature_drafted of) features.items) remaining.old made.items remaining.new) }
 {
     let mut made = Vec::with_capacity(alloc, features.len())?;
     'features: for feature in features {
-        made.push(drafted_feature(alloc, feature, waiting)?)?;
+        made.push(drafted_feature(alloc, feature, remaining)?)?;
     }
     Ok(made)
 }
@@ -198,13 +203,13 @@ fn drafted_features(
 fn drafted_layers(
     alloc: Global,
     layers: Vec<(OwnText, Layer)>,
-    waiting: &mut Waiting,
+    remaining: &mut Remaining,
 ) -> Result<Vec<(OwnText, TopoObject)>, Memory>
-    ensures { IfOk result (λ made. Drafts (named_strokes layers.items) (λ of. objects_drafted of layers.items) waiting.old made.items waiting.new) }
+    ensures { IfOk result (λ made. Drafts (named_lines_and_rings layers.items) (λ of. objects_drafted of layers.items) remaining.old made.items remaining.new) }
 {
     let mut made = Vec::with_capacity(alloc, layers.len())?;
     'layers: for (name, layer) in layers {
-        let features = drafted_features(alloc, layer.features.into_inner(), waiting)?;
+        let features = drafted_features(alloc, layer.features.into_inner(), remaining)?;
         made.push((name, TopoObject::Many(Items::of(features))))?;
     }
     Ok(made)
@@ -217,8 +222,8 @@ pub fn drafted_objects(
     layers: Vec<(OwnText, Layer)>,
     refs: Vec<Items<ArcRef>>,
 ) -> Result<Vec<(OwnText, TopoObject)>, Memory>
-    ensures { IfOk result (λ made. (of : RefsOf) → refs.items ≡ long_refs of (named_strokes layers.items) → made.items ≡ objects_drafted of layers.items) }
+    ensures { IfOk result (λ made. (of : RefsOf) → refs.items ≡ long_refs of (named_lines_and_rings layers.items) → made.items ≡ objects_drafted of layers.items) }
 {
-    let mut waiting = Waiting::all(refs);
-    drafted_layers(alloc, layers, &mut waiting)
+    let mut remaining = Remaining::all(refs);
+    drafted_layers(alloc, layers, &mut remaining)
 }

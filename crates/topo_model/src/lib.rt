@@ -1,15 +1,38 @@
-//! From layers and the table of their arcs to a topology (TopoJSON 1.0) over reduced arcs, of each of which only some positions are
-//! kept. Layers become a draft, in which each line and ring is replaced by its arc indexes (`specs/Drafts.antt`), and
-//! `topology_reduction` finishes it. It stands on `lessened_topology`, which says what topology that is and when it is what is built
-//! of the layers, and on `arc_table`. The layer above uses the contract of `assemble`.
+//! From layers and the table of their arcs to a topology (TopoJSON 1.0) over reduced arcs, of each of which only some positions are kept,
+//! and simplifying a topology in the same way. Layers become a draft, in which each line and ring is replaced by its arc indexes
+//! (`specs/Drafts.antt`); a topology is a draft as it is. There is one way to finish a draft: lines and rings that are left with too few
+//! positions or enclose too little are dropped, arcs that no kept line uses are left out, and the others have new indexes. It stands on
+//! `simplified_topology`, which says what topology that is and when it is what is built of the layers, and on `arc_table`. The layers above
+//! use the contracts of `assemble`, of `finish` and of `Reduces::reduce`.
 #![tactic(auto)]
 
+mod arc_uses;
 mod assembling;
+mod cell_retaining;
+mod choosing;
 mod drafting;
-mod picking;
+mod dropping;
+mod enclosing;
+mod finishing;
+mod marking;
+mod places;
+mod placing;
+mod position_cells;
+mod position_retaining;
+mod pruning;
+mod rebuilding;
+mod reducing;
+mod trimming;
 
 pub use assembling::assemble;
+pub use finishing::finish;
+pub use marking::{mark_refs, unused_flags};
+pub use places::{Place, add_here, add_part, hole_cause};
+pub use position_cells::cells;
+pub use rebuilding::{Rebuilding, is_short_line};
+pub use reducing::Reduces;
 pub use topojson_types::{
     ArcRef, CELL_LIMIT, Cell, GRID_LIMIT, SumFault, TopoFeature, TopoObject, TopoShape, Topology,
     Transform, TransformNumber, placed, sums,
 };
+pub use trimming::{kept_arcs, removed_count, renumber_all, renumbering, used_positions};

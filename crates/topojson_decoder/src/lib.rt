@@ -1,14 +1,51 @@
-//! Decoding topologies (TopoJSON 1.0): where a user of topologies begins. `read_topology` reads a value through its text, which the
-//! reader of `topojson_reader` takes. Beside it stand the GeoJSON features of an object, from `topojson_features`, the walk along arcs,
-//! from `topojson_walk`, and the types of `topojson_types`.
+//! Decoding topologies (TopoJSON 1.0): the reader of topologies straight from bytes, whatever their form and whatever their faults, and
+//! where a user of topologies begins. It stands on `json_cursor`, whose `Answers` says what a reader answers of the bytes, and on
+//! `topojson_meaning`, which says what a value stands for. A layer above calls `read_text`. `read_topology` reads a value through its
+//! text, by that reader. Beside it stand the GeoJSON features of an object and the walk along arcs, from `topojson_features`, and the types
+//! of `topojson_types`.
 #![tactic(auto)]
 
+mod arcs;
+mod areas;
+mod cells;
+mod collected_features;
+mod feature_parts;
+mod geometries;
+mod geometry_parts;
+mod held;
+mod index;
+mod joins;
+mod keeping;
+mod leaping;
+mod lines_and_rings;
+mod named_objects;
+mod numbers;
+mod object_parts;
+mod occurrence;
+mod pairs;
 mod reading;
+mod shapes;
+mod texts;
+mod topologies;
+mod transforms;
+mod types;
 
+pub use arcs::{arc_at, arcs_at};
+pub use areas::polygon_at;
+pub use cells::{cell_at, place_at};
+pub use collected_features::feature_at;
+pub use geometries::geometry_at;
+pub use keeping::Keeping;
+pub use lines_and_rings::line_or_ring_at;
+pub use named_objects::members_before_repeat;
+pub use object_parts::object_at;
 pub use reading::read_topology;
-pub use topojson_features::{DecodeFault, features};
+pub use shapes::{arcs_shape_at, places_shape_at};
+pub use texts::{Refusal, read_parts, read_text, topology_of};
+pub use topojson_features::{DecodeFault, Walk, features};
 pub use topojson_meaning::TopoFault;
 pub use topojson_types::{
     ArcRef, Cell, TopoFeature, TopoObject, TopoShape, Topology, Transform, TransformNumber,
 };
-pub use topojson_walk::Walk;
+pub use topologies::{Parts, topology_at};
+pub use transforms::transform_at;

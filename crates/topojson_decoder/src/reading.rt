@@ -3,13 +3,14 @@ ghost use Rattle.std.specs.Prelude.{◌≡◌, ◌≢◌, Ok, Err, IfOk, IfErr};
 ghost use Rattle.topojson_meaning.specs.Topologies as spec;
 ghost use Rattle.topojson_meaning.specs.declared.fault.TopoFault.TheVariants.{Memory};
 
+use crate::texts::topology_of;
+use crate::topologies::topology_at;
 use decimal_json::value_text;
 use geojson_types::Counts;
 use json_cursor::Stop;
 use json_value::Json;
 use std::alloc::Global;
 use topojson_meaning::TopoFault;
-use topojson_reader::{topology_at, topology_of};
 use topojson_types::Topology;
 
 /// The topology that a JSON value stands for (TopoJSON 1.0, section 2.1), with what was counted, or the first fault on the way through

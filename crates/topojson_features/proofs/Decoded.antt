@@ -2,7 +2,7 @@
 use Rattle.std.proofs.Common.{◌≡◌, ℕ, ◌≤◌, ℤ, Bool, true, false, ◌&&◌, List, [], ◌∷◌, map, length, take, Option, Some, refl, ap, sym, ◌∙◌, arith}
 use Rattle.std.proofs.lemmas.List.{take_all}
 use Rattle.std.specs.List.{AllByRecursion, list_all}
-use Rattle.list_laws.proofs.Lists.{made_of_some}
+use Rattle.owned_values.proofs.Lists.{made_of_some}
 use Rattle.geometry.proofs.ByKind.{proper_at, proper-group}
 use Rattle.geometry.specs.declared.shape.Geometry.TheVariants as g
 use Rattle.geojson_types.specs.Features.{Shape, is_some_list, is_line, is_proper}
@@ -13,7 +13,7 @@ use Rattle.geometry.proofs.Cases.{prune-point, prune-points, prune-line, prune-l
 use Rattle.topojson_types.specs.Decoding.{decoded_line, decoded_shape, placed_arcs}
 use Rattle.topojson_types.specs.Topologies.{TopoShape, Contents}
 use Rattle.topojson_types.specs.Transforms.{place}
-use Rattle.topojson_features.specs.Strokes.{IsStroke, IsShape}
+use Rattle.topojson_features.specs.LinesAndRings.{IsLineOrRing, IsShape}
 use Rattle.topojson_features.proofs.Ends.{line_is}
 use Rattle.topojson_features.proofs.Standing.{points_full, line_stands, lines_stand, lines_full, area_full, areas_full}
 
@@ -63,7 +63,7 @@ module _ (t : Contents) where
   abbrev pub Decodes : TopoShape → Shape → Type 0
   Decodes s d = (shown s ≡ Some d) × (is_proper d ≡ true)
 
-  lines_proper : (ls : List (List ℤ)) → AllByRecursion (λ l. IsStroke t (false, l)) ls → list_all is_line (map (drawn false) ls) ≡ true
+  lines_proper : (ls : List (List ℤ)) → AllByRecursion (λ l. IsLineOrRing t (false, l)) ls → list_all is_line (map (drawn false) ls) ≡ true
   lines_proper [] h = refl
   lines_proper (l ∷ ls) h = rw (line_is t l h.0, lines_proper ls h.1) refl
 

@@ -4,19 +4,19 @@ use Rattle.std.proofs.lemmas.Bool.Decides.{nat_tests}
 use Rattle.std.proofs.lemmas.List.{length-map}
 use Rattle.std.specs.List.{slice_get}
 use Rattle.geometry.proofs.Points.{same_self}
-use Rattle.list_laws.proofs.Elements.{all_weaker, all_map}
+use Rattle.owned_values.proofs.Elements.{all_weaker, all_map}
 use Rattle.geojson_types.specs.Features.{is_some_list, is_line}
 use Rattle.geometry.specs.Lists.{map_some, then_some}
 use Rattle.geometry.specs.Points.{Point}
 use Rattle.geometry.specs.Rings.{is_closed, is_ring}
 use Rattle.topojson_types.specs.Decoding.{repeated, filled, decoded_line, placed_arcs}
-use Rattle.geometry.specs.Joins.{arc_at, joined_behind_first, rejoined, first_of, last_of, Closes}
+use Rattle.geometry.specs.Joins.{arc_at, joined_after_first, stitched, first_of, last_of, Closes}
 use Rattle.topojson_types.specs.Topologies.{Contents}
 use Rattle.topojson_types.specs.Transforms.{place}
 use Rattle.topojson_types.specs.Validity.{AreInRange}
-use Rattle.topojson_features.specs.Strokes.{IsStroke}
-use Rattle.topojson_walk.proofs.Opening.{AreLong, arc_long}
-use Rattle.topojson_walk.proofs.Placing.{placed_rejoined, long_arcs}
+use Rattle.topojson_features.specs.LinesAndRings.{IsLineOrRing}
+use Rattle.topojson_features.proofs.Opening.{AreLong, arc_long}
+use Rattle.topojson_features.proofs.Placing.{placed_stitched, long_arcs}
 
 -- ---- ends of lists
 
@@ -44,9 +44,9 @@ last_there x [] = (x, refl)
 last_there x (y ∷ ys) = last_there y ys
 
 -- the last of lists one after another is that of the last, where each has two elements or more
-last_joined : (p : List Point) (ps : List (List Point)) (q : List Point) → AreLong ps → last_of (p ∷ ps) ≡ Some q → last_of (p ++ joined_behind_first ps) ≡ last_of q
+last_joined : (p : List Point) (ps : List (List Point)) (q : List Point) → AreLong ps → last_of (p ∷ ps) ≡ Some q → last_of (p ++ joined_after_first ps) ≡ last_of q
 last_joined p [] q long h = ap last_of (append-nil p) ∙ ap (then_some last_of) h
-last_joined p ((a ∷ (b ∷ r)) ∷ ps) q long h = last_append p b (r ++ joined_behind_first ps) ∙ last_joined (a ∷ (b ∷ r)) ps q long.1 h
+last_joined p ((a ∷ (b ∷ r)) ∷ ps) q long h = last_append p b (r ++ joined_after_first ps) ∙ last_joined (a ∷ (b ∷ r)) ps q long.1 h
 last_joined p ps q long h = absurd (omega (arith, long.0))
 
 -- ---- rings
@@ -76,7 +76,7 @@ long_map arcs refs long ranged = grind (arith, all_map, all_weaker, arc_long)
 
 -- the cells of a ring begin and end with one cell
 ring_ends : (arcs : List (List Point)) (refs : List ℤ) → AreLong arcs → is_some_list refs ≡ true → AreInRange (length arcs) refs → Closes (map (arc_at arcs) refs)
-    → (p : Point) × (first_of (rejoined (map (arc_at arcs) refs)) ≡ Some p) × (last_of (rejoined (map (arc_at arcs) refs)) ≡ Some p)
+    → (p : Point) × (first_of (stitched (map (arc_at arcs) refs)) ≡ Some p) × (last_of (stitched (map (arc_at arcs) refs)) ≡ Some p)
 ring_ends arcs refs h k m e = grind (arith, long_map, first_there, last_there, first_append, last_joined)
 
 module _ (t : Contents) (refs : List ℤ) where
@@ -84,22 +84,22 @@ module _ (t : Contents) (refs : List ℤ) where
   abbrev pub drawn : List Point
   drawn = decoded_line (placed_arcs t.transform t.arcs) false refs
 
-  pub ring_is : IsStroke t (true, refs) → (ps : List Point) → ps ≡ filled drawn → is_ring ps ≡ true
+  pub ring_is : IsLineOrRing t (true, refs) → (ps : List Point) → ps ≡ filled drawn → is_ring ps ≡ true
   ring_is stroke ps e =
-      let cells = rejoined (map (arc_at t.arcs) refs) in
+      let cells = stitched (map (arc_at t.arcs) refs) in
       let k = ring_ends t.arcs refs (long_arcs t stroke.topology) stroke.full stroke.ranged (stroke.closed refl) in
-      let same : drawn ≡ map (place t.transform) cells = sym (placed_rejoined t.transform t.arcs refs) in
+      let same : drawn ≡ map (place t.transform) cells = sym (placed_stitched t.transform t.arcs refs) in
       rw (e, same)
       (grind (arith, ring_filled, (first_map (place t.transform) cells k.0 k.1), (last_map (place t.transform) cells k.0 k.2)))
 
-  pub line_is : IsStroke t (false, refs) → is_line drawn ≡ true
-  line_is stroke = rw (← placed_rejoined t.transform t.arcs refs) (on refs stroke.full stroke.ranged)
+  pub line_is : IsLineOrRing t (false, refs) → is_line drawn ≡ true
+  line_is stroke = rw (← placed_stitched t.transform t.arcs refs) (on refs stroke.full stroke.ranged)
     where
-      on : (rs : List ℤ) → is_some_list rs ≡ true → AreInRange (length t.arcs) rs → is_line (map (place t.transform) (rejoined (map (arc_at t.arcs) rs))) ≡ true
+      on : (rs : List ℤ) → is_some_list rs ≡ true → AreInRange (length t.arcs) rs → is_line (map (place t.transform) (stitched (map (arc_at t.arcs) rs))) ≡ true
       on [] s h = cc
       on (r ∷ rs) s h =
           let a = arc_at t.arcs r in
-          let more = joined_behind_first (map (arc_at t.arcs) rs) in
+          let more = joined_after_first (map (arc_at t.arcs) rs) in
           let long : 2 ≤ length a = arc_long t.arcs r (long_arcs t stroke.topology) h.0 in
           let size : 2 ≤ length (map (place t.transform) (a ++ more)) = omega (arith, length-append a more, length-map (a ++ more) (place t.transform)) in
           grind (arith, nat_tests)

@@ -11,12 +11,12 @@ use Rattle.topojson_types.specs.declared.feature.TopoFeature.{TopoFeature}
 use Rattle.topojson_types.specs.declared.object.TopoObject.{TopoObject}
 use Rattle.topojson_types.specs.declared.object.TopoObject.TheVariants.{One, Many}
 use Rattle.topojson_types.specs.Decoding.{decoded, decoded_feature, decoded_object, of_name, placed_arcs}
-use Rattle.topojson_types.specs.Topologies.{Contents, object_features, features_strokes}
+use Rattle.topojson_types.specs.Topologies.{Contents, object_features, features_lines_and_rings}
 use Rattle.topojson_types.specs.Transforms.{place}
 use Rattle.topojson_types.specs.Validity.{AreInRange, IsClosed, IsFeature, IsObject, IsTopology}
 use Rattle.topojson_types.proofs.Parts.{parts_all}
-use Rattle.topojson_features.specs.Strokes.{IsStroke, IsShapeOption}
-use Rattle.topojson_features.proofs.Standing.{strokes_full}
+use Rattle.topojson_features.specs.LinesAndRings.{IsLineOrRing, IsShapeOption}
+use Rattle.topojson_features.proofs.Standing.{lines_and_rings_full}
 
 -- ---- names
 
@@ -37,20 +37,20 @@ module _ (t : Contents) (is : IsTopology t) where
   abbrev AreClosed : List (Bool × List ℤ) → Type 0
   AreClosed bs = AllByRecursion (IsClosed t.arcs) bs
 
-  strokes_stand : (bs : List (Bool × List ℤ)) → AllByRecursion (λ b. is_some_list b.1 ≡ true) bs → AreRanged bs → AreClosed bs → AllByRecursion (IsStroke t) bs
-  strokes_stand [] f h k = tt
-  strokes_stand (b ∷ bs) f h k = (record { topology = is; full = f.0; ranged = h.0; closed = k.0 }, strokes_stand bs f.1 h.1 k.1)
+  lines_and_rings_stand : (bs : List (Bool × List ℤ)) → AllByRecursion (λ b. is_some_list b.1 ≡ true) bs → AreRanged bs → AreClosed bs → AllByRecursion (IsLineOrRing t) bs
+  lines_and_rings_stand [] f h k = tt
+  lines_and_rings_stand (b ∷ bs) f h k = (record { topology = is; full = f.0; ranged = h.0; closed = k.0 }, lines_and_rings_stand bs f.1 h.1 k.1)
 
-  features_stand : (fs : List TopoFeature) → AllByRecursion (IsFeature t.transform) fs → AreRanged (features_strokes fs) → AreClosed (features_strokes fs) → AllByRecursion (λ f. IsShapeOption t f.shape) fs
+  features_stand : (fs : List TopoFeature) → AllByRecursion (IsFeature t.transform) fs → AreRanged (features_lines_and_rings fs) → AreClosed (features_lines_and_rings fs) → AllByRecursion (λ f. IsShapeOption t f.shape) fs
   features_stand [] f h k = tt
-  features_stand (x ∷ fs) f h k = grind (arith, features_stand fs f.1, strokes_stand, strokes_full, all_left, all_right)
+  features_stand (x ∷ fs) f h k = grind (arith, features_stand fs f.1, lines_and_rings_stand, lines_and_rings_full, all_left, all_right)
 
   pub object_stands : (name : List ℕ) (o : TopoObject) → of_name name t.objects ≡ Some o → AllByRecursion (λ f. IsShapeOption t f.shape) (object_features o)
   object_stands name o e =
       features_stand (object_features o)
       (grind (arith, (of_named (IsObject t.transform) name t.objects o e is.objects)))
-      (of_named (λ o. AreRanged (features_strokes (object_features o))) name t.objects o e (parts_all (λ b. AreInRange (length t.arcs) b.1) (λ o. features_strokes (object_features o.1)) t.objects is.ranged))
-      (of_named (λ o. AreClosed (features_strokes (object_features o))) name t.objects o e (parts_all (IsClosed t.arcs) (λ o. features_strokes (object_features o.1)) t.objects is.closed))
+      (of_named (λ o. AreRanged (features_lines_and_rings (object_features o))) name t.objects o e (parts_all (λ b. AreInRange (length t.arcs) b.1) (λ o. features_lines_and_rings (object_features o.1)) t.objects is.ranged))
+      (of_named (λ o. AreClosed (features_lines_and_rings (object_features o))) name t.objects o e (parts_all (IsClosed t.arcs) (λ o. features_lines_and_rings (object_features o.1)) t.objects is.closed))
 
 -- the shape of one, and those of many
 abbrev Stand : Contents → TopoObject → Type 0

@@ -1,1 +1,2 @@
-pub mod Strokes
+pub mod Filling
+pub mod LinesAndRings

@@ -5,14 +5,14 @@ ghost use Rattle.std.specs.Option.{option_copied};
 ghost use Rattle.topojson_types.specs.Decoding.{decoded_line, placed_arcs};
 ghost use Rattle.topojson_types.specs.Transforms.{place};
 ghost use Rattle.topojson_types.specs.Validity.{AreInRange, IsPlace};
-ghost use Rattle.topojson_features.specs.Strokes.{IsStroke};
+ghost use Rattle.topojson_features.specs.LinesAndRings.{IsLineOrRing};
 
+use crate::line_walk::LineWalk;
 use byte_ends::Memory;
 use geojson_types::{Position, Ring};
 use json_value::Items;
 use std::alloc::Global;
 use topojson_types::{ArcRef, Cell, Topology, Transform, position_at};
-use topojson_walk::LineWalk;
 
 /// Where cells lie.
 pub fn positions(
@@ -49,7 +49,7 @@ fn line_positions(
 
 /// The positions of an open line.
 pub fn line(alloc: Global, topology: &Topology, refs: &[ArcRef]) -> Result<Items<Position>, Memory>
-    requires { IsStroke topology.now (false, refs.now) }
+    requires { IsLineOrRing topology.now (false, refs.now) }
     ensures { IfOk result (λ ps. ps ≡ decoded_line (placed_arcs topology.now.transform topology.now.arcs) false refs.now) }
 {
     Ok(Items::of(line_positions(alloc, topology, refs, false)?))
@@ -57,7 +57,7 @@ pub fn line(alloc: Global, topology: &Topology, refs: &[ArcRef]) -> Result<Items
 
 /// The ring of these arcs, filled up to four positions by its first.
 pub fn ring(alloc: Global, topology: &Topology, refs: &[ArcRef]) -> Result<Ring, Memory>
-    requires { IsStroke topology.now (true, refs.now) }
+    requires { IsLineOrRing topology.now (true, refs.now) }
     ensures { IfOk result (λ r. r ≡ decoded_line (placed_arcs topology.now.transform topology.now.arcs) true refs.now) }
 {
     Ok(Ring::of(line_positions(alloc, topology, refs, true)?))
@@ -69,7 +69,7 @@ pub fn lines(
     topology: &Topology,
     lines: &[Items<ArcRef>],
 ) -> Result<Items<Items<Position>>, Memory>
-    requires { AllByRecursion (λ l. IsStroke topology.now (false, l)) lines.now }
+    requires { AllByRecursion (λ l. IsLineOrRing topology.now (false, l)) lines.now }
     ensures { IfOk result (λ ls. ls ≡ map (decoded_line (placed_arcs topology.now.transform topology.now.arcs) false) lines.now) }
 {
     let mut decoded = Vec::with_capacity(alloc, lines.len())?;
@@ -85,7 +85,7 @@ pub fn rings(
     topology: &Topology,
     rings: &[Items<ArcRef>],
 ) -> Result<Items<Ring>, Memory>
-    requires { AllByRecursion (λ l. IsStroke topology.now (true, l)) rings.now }
+    requires { AllByRecursion (λ l. IsLineOrRing topology.now (true, l)) rings.now }
     ensures { IfOk result (λ rs. rs ≡ map (decoded_line (placed_arcs topology.now.transform topology.now.arcs) true) rings.now) }
 {
     let mut decoded = Vec::with_capacity(alloc, rings.len())?;
@@ -101,7 +101,7 @@ pub fn areas(
     topology: &Topology,
     areas: &[Items<Items<ArcRef>>],
 ) -> Result<Items<Items<Ring>>, Memory>
-    requires { AllByRecursion (λ rs. AllByRecursion (λ l. IsStroke topology.now (true, l)) rs) areas.now }
+    requires { AllByRecursion (λ rs. AllByRecursion (λ l. IsLineOrRing topology.now (true, l)) rs) areas.now }
     ensures { IfOk result (λ as_. as_ ≡ map (map (decoded_line (placed_arcs topology.now.transform topology.now.arcs) true)) areas.now) }
 {
     let mut decoded = Vec::with_capacity(alloc, areas.len())?;

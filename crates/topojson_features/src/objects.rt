@@ -5,7 +5,7 @@ ghost use Rattle.std.specs.Option.{option_copied};
 ghost use Rattle.topojson_types.specs.Decoding.{decoded as decoded_features, decoded_feature, of_name, placed_arcs};
 ghost use Rattle.topojson_types.specs.Topologies.{object_features};
 ghost use Rattle.topojson_types.specs.Transforms.{place};
-ghost use Rattle.topojson_features.specs.Strokes.{IsShapeOption};
+ghost use Rattle.topojson_features.specs.LinesAndRings.{IsShapeOption};
 ghost use Rattle.topojson_features.specs.declared.decode_fault.DecodeFault.TheVariants.{NoObject};
 
 use crate::decode_fault::DecodeFault;

@@ -4,7 +4,7 @@ ghost use Rattle.geojson_types.specs.Features.{is_proper, is_proper_option};
 ghost use Rattle.geometry.specs.Lists.{then_some};
 ghost use Rattle.topojson_types.specs.Decoding.{decoded_shape, placed_arcs};
 ghost use Rattle.topojson_types.specs.Transforms.{place};
-ghost use Rattle.topojson_features.specs.Strokes.{IsShape, IsShapeOption};
+ghost use Rattle.topojson_features.specs.LinesAndRings.{IsShape, IsShapeOption};
 
 use crate::lines::{areas, line, lines, positions, rings};
 use byte_ends::Memory;

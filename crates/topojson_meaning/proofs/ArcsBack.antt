@@ -18,7 +18,7 @@ use Rattle.topojson_types.specs.Validity.{IsPlace, IsArc}
 use Rattle.topojson_types.specs.Values.{Members, number_value, cell_places, cell_value, written_cells, arc_value, arcs_value}
 use Rattle.topojson_types.proofs.Grids.{is_within-both}
 use Rattle.topojson_types.proofs.SumsBack.{moved_there}
-use Rattle.topojson_meaning.specs.Arcs.{number_text, units, elements_position, position, grid_number, grid_cell, elements_cell, cell, difference_limit, cells_behind, elements_place, place, arc_cells, arc, arc_list}
+use Rattle.topojson_meaning.specs.Arcs.{number_text, units, elements_position, position, grid_number, grid_cell, elements_cell, cell, difference_limit, cells_after, elements_place, place, arc_cells, arc, arc_list}
 use Rattle.topojson_meaning.specs.Members.{elements, members}
 use Rattle.topojson_meaning.specs.Reader.{each}
 use Rattle.topojson_meaning.proofs.Steps.{Gives, then_gives, pure_gives, each_gives}
@@ -75,11 +75,11 @@ difference_back t before p h k =
     (elements_cell_back t difference_limit before p d (omega arith) (grind (arith, ints)) (moved_there before p) k)
 
 -- cells as differences, the first one from this cell
-behind_back : (t : Transform) (before : Point) (cs : List Point) → IsWithin grid_limit before → AllByRecursion (IsPlace (Some t)) cs
-    → Gives (cells_behind t before (map (cell_value (Some t)) (deltas_from before cs))) cs
-unfolding cells_behind deltas_from
-behind_back t before [] h all counts = refl
-behind_back t before (c ∷ cs) h all counts = rw (difference_back t before c h all.0 counts, behind_back t c cs all.0.0 all.1 counts) refl
+after_back : (t : Transform) (before : Point) (cs : List Point) → IsWithin grid_limit before → AllByRecursion (IsPlace (Some t)) cs
+    → Gives (cells_after t before (map (cell_value (Some t)) (deltas_from before cs))) cs
+unfolding cells_after deltas_from
+after_back t before [] h all counts = refl
+after_back t before (c ∷ cs) h all counts = rw (difference_back t before c h all.0 counts, after_back t c cs all.0.0 all.1 counts) refl
 
 -- ---- places
 
@@ -101,7 +101,7 @@ arc_cells_back : (transform : Option Transform) (cs : List Point) → AllByRecur
     → Gives (arc_cells transform (map (cell_value transform) (written_cells transform cs))) cs
 unfolding arc_cells
 arc_cells_back None cs h = each_gives IsPosition (cell_value None) position position_back cs h
-arc_cells_back (Some t) cs h = behind_back t origin cs (omega arith, omega arith) h
+arc_cells_back (Some t) cs h = after_back t origin cs (omega arith, omega arith) h
 
 arc_back : (transform : Option Transform) (cs : List Point) → IsArc transform cs → Gives (arc transform (arc_value transform cs)) cs
 unfolding arc

@@ -8,7 +8,7 @@ use Rattle.geojson_types.specs.declared.id.Id.{Id}
 use Rattle.geojson_types.specs.declared.id.Id.TheVariants as id
 use Rattle.geometry.specs.Lists.{map_some}
 use Rattle.geometry.specs.Points.{Point}
-use Rattle.geometry.specs.Pruning.{option_strokes}
+use Rattle.geometry.specs.Pruning.{option_lines_and_rings}
 use Rattle.topojson_types.specs.declared.feature.TopoFeature.{TopoFeature}
 use Rattle.topojson_types.specs.declared.transform.Transform.{Transform}
 use Rattle.topojson_types.specs.Topologies.{TopoShape}
@@ -17,14 +17,14 @@ use Rattle.topojson_types.specs.Values.{Members, Geometrical, id_value, id_membe
 use Rattle.topojson_meaning.specs.declared.geometry_type.GeometryType.{GeometryType}
 use Rattle.topojson_meaning.specs.Features.{identifier, identifier_in, members_if, members_in, feature, feature_element}
 use Rattle.topojson_meaning.specs.GeometryTypes.{part_name, is_collection, type_in, type_of, object_type}
-use Rattle.json_members.specs.Members.{only, there}
+use Rattle.json_value.specs.Members.{only, there}
 use Rattle.topojson_meaning.specs.Members.{lookup_fault, named, find, need}
 use Rattle.topojson_meaning.specs.Reader.{with_fault}
 use Rattle.topojson_meaning.specs.Shapes.{typed_shape}
 use Rattle.topojson_meaning.proofs.ArcsBack.{object_members}
 use Rattle.topojson_meaning.proofs.ShapesBack.{Parts, named_type, shape_parts, typed_back}
 use Rattle.topojson_meaning.proofs.Steps.{Gives, pure_gives}
-use Rattle.topojson_meaning.proofs.ValidKept.{IsStroke}
+use Rattle.topojson_meaning.proofs.ValidKept.{IsLineOrRing}
 
 -- ---- members
 
@@ -132,10 +132,10 @@ module _ (transform : Option Transform) (arcs : List (List Point)) (long : AllBy
 
 -- no list of its shape is empty but a collection's, its cells may stand there, and its lines and rings are sound
 abbrev pub FineFeature : Option Transform → List (List Point) → TopoFeature → Type 0
-FineFeature transform arcs f = IsFeature transform f × AllByRecursion (IsStroke arcs) (option_strokes f.shape)
+FineFeature transform arcs f = IsFeature transform f × AllByRecursion (IsLineOrRing arcs) (option_lines_and_rings f.shape)
 
 module _ (transform : Option Transform) (arcs : List (List Point)) (long : AllByRecursion (IsArc transform) arcs) (few : length arcs < 2 ^ 63) where
-  pub shaped : (i : Option Id) (ps : Option Members) (x : Option TopoShape) → is_full_option x ≡ true → AllByRecursion (IsPlace transform) (option_places x) → AllByRecursion (IsStroke arcs) (option_strokes x)
+  pub shaped : (i : Option Id) (ps : Option Members) (x : Option TopoShape) → is_full_option x ≡ true → AllByRecursion (IsPlace transform) (option_places x) → AllByRecursion (IsLineOrRing arcs) (option_lines_and_rings x)
       → Shaped transform arcs i ps x (geometrical_option (cell_value transform) x)
   shaped i ps None h k m = null_shaped transform arcs long few i ps
   shaped i ps (Some s) h k m = some_shaped transform arcs long few i ps s (shape_parts transform arcs long few s (h, k, m))

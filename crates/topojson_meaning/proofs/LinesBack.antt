@@ -17,12 +17,12 @@ use Rattle.geometry.specs.Joins.{number_of, at, or_empty, arc_at, first_of, last
 use Rattle.topojson_types.specs.declared.transform.Transform.{Transform}
 use Rattle.topojson_types.specs.Validity.{IsArc, AreInRange}
 use Rattle.topojson_types.specs.Values.{whole_value, line_value, lines_value}
-use Rattle.topojson_meaning.specs.Lines.{some_elements, index_limit, index, joined_to, indexes_behind, indexes, as_ring, line_in, line, ring_in, ring, polygon_in, polygon}
+use Rattle.topojson_meaning.specs.Lines.{some_elements, index_limit, index, joined_to, indexes_after, indexes, as_ring, line_in, line, ring_in, ring, polygon_in, polygon}
 use Rattle.topojson_meaning.specs.Reader.{if_some, kept}
 use Rattle.topojson_meaning.proofs.ArcsBack.{number_is_text}
 use Rattle.topojson_meaning.proofs.Steps.{Gives, then_gives, kept_gives}
 use Rattle.topojson_meaning.proofs.ValidLines.{last_map}
-use Rattle.topojson_meaning.proofs.ValidKept.{IsStroke, IsLine, IsArea}
+use Rattle.topojson_meaning.proofs.ValidKept.{IsLineOrRing, IsLine, IsArea}
 
 -- ---- arrays that are not empty
 
@@ -64,15 +64,15 @@ module _ (transform : Option Transform) (arcs : List (List Point)) (long : AllBy
   join_back : (before i : ℤ) → number_of i < length arcs → last_of (arc_at arcs before) ≡ first_of (arc_at arcs i) → Gives (joined_to arcs before i) i
   join_back before i h e c = grind (arith, starts, some_same)
 
-  behind_back : (before : ℤ) (refs : List ℤ) → AreInRange (length arcs) refs → Meet (arc_at arcs before ∷ map (arc_at arcs) refs) → Gives (indexes_behind arcs before (map whole_value refs)) refs
-  unfolding indexes_behind
-  behind_back before [] h m c = refl
-  behind_back before (i ∷ refs) h m c = rw (index_back (length arcs) i few h.0 c, join_back before i h.0 m.0 c, behind_back i refs h.1 m.1 c) refl
+  after_back : (before : ℤ) (refs : List ℤ) → AreInRange (length arcs) refs → Meet (arc_at arcs before ∷ map (arc_at arcs) refs) → Gives (indexes_after arcs before (map whole_value refs)) refs
+  unfolding indexes_after
+  after_back before [] h m c = refl
+  after_back before (i ∷ refs) h m c = rw (index_back (length arcs) i few h.0 c, join_back before i h.0 m.0 c, after_back i refs h.1 m.1 c) refl
 
   indexes_back : (refs : List ℤ) → AreInRange (length arcs) refs → Meet (map (arc_at arcs) refs) → Gives (indexes arcs (map whole_value refs)) refs
   unfolding indexes
   indexes_back [] h m c = refl
-  indexes_back (i ∷ refs) h m c = rw (index_back (length arcs) i few h.0 c, behind_back i refs h.1 m c) refl
+  indexes_back (i ∷ refs) h m c = rw (index_back (length arcs) i few h.0 c, after_back i refs h.1 m c) refl
 
   -- the last list, if there is one, ends where this one begins
   abbrev Ends : List Point → Option (List Point) → Type 0
@@ -81,7 +81,7 @@ module _ (transform : Option Transform) (arcs : List (List Point)) (long : AllBy
   end_of : (i : ℤ) (o : Option ℤ) → Ends (arc_at arcs i) (map_some (arc_at arcs) o) → then_some (λ k. last_of (arc_at arcs k)) o ≡ first_of (arc_at arcs i)
   end_of i o h = grind arith
 
-  pub line_in_back : (refs : List ℤ) → IsStroke arcs (false, refs) → Gives (line_in arcs (map whole_value refs)) (Some refs)
+  pub line_in_back : (refs : List ℤ) → IsLineOrRing arcs (false, refs) → Gives (line_in arcs (map whole_value refs)) (Some refs)
   unfolding line_in
   line_in_back refs h c = rw (indexes_back refs h.0 h.1 c) refl
 
@@ -92,7 +92,7 @@ module _ (transform : Option Transform) (arcs : List (List Point)) (long : AllBy
   pub lines_back : (ls : List (List ℤ)) → AllByRecursion (IsLine arcs false) ls → Gives (kept (line arcs) (map line_value ls)) ls
   lines_back = kept_gives (IsLine arcs false) line_value (line arcs) line_back
 
-  ring_in_back : (refs : List ℤ) → IsStroke arcs (true, refs) → Gives (ring_in arcs (map whole_value refs)) (Some refs)
+  ring_in_back : (refs : List ℤ) → IsLineOrRing arcs (true, refs) → Gives (ring_in arcs (map whole_value refs)) (Some refs)
   unfolding ring_in
   ring_in_back refs h = then_gives (indexes arcs (map whole_value refs)) (as_ring arcs) refs (Some refs) (indexes_back refs h.0 h.1)
       (λ c. grind (arith, starts, end_of, last_map, some_same))

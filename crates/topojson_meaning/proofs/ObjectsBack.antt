@@ -14,11 +14,11 @@ use Rattle.topojson_types.specs.Values.{Members, cell_value, feature_value, obje
 use Rattle.topojson_meaning.specs.declared.geometry_type.GeometryType.TheVariants.{Collection}
 use Rattle.topojson_meaning.specs.GeometryTypes.{geometry_type}
 use Rattle.topojson_meaning.specs.Members.{named, need}
-use Rattle.topojson_meaning.specs.Objects.{features, collection, single, object, is_met, objects_behind, objects}
+use Rattle.topojson_meaning.specs.Objects.{features, collection, single, object, is_met, objects_after, objects}
 use Rattle.topojson_meaning.proofs.ArcsBack.{array_elements, object_members}
 use Rattle.topojson_meaning.proofs.FeaturesBack.{feature_members, FineFeature, shaped, feature_back}
 use Rattle.topojson_meaning.proofs.ShapesBack.{named_type}
-use Rattle.list_laws.proofs.Elements.{all_weaker}
+use Rattle.owned_values.proofs.Elements.{all_weaker}
 use Rattle.topojson_meaning.proofs.Steps.{Gives, pure_gives, each_gives}
 
 -- its features are, and one alone is no collection
@@ -66,17 +66,17 @@ module _ (transform : Option Transform) (arcs : List (List Point)) (long : AllBy
   abbrev AreNew : List (List ℕ) → List (List ℕ) → Type 0
   AreNew met names = AllByRecursion (λ n. AllByRecursion (λ y. n ≢ y) names) met
 
-  behind_back : (met : List (List ℕ)) (os : List (List ℕ × TopoObject)) → AreNew met (map (λ o. o.0) os) → AreDistinct (map (λ o. o.0) os) → AllByRecursion (λ o. FineObject transform arcs o.1) os
-      → Gives (objects_behind transform arcs met (map (λ o. (o.0, object_value (cell_value transform) o.1)) os)) os
-  unfolding objects_behind
-  behind_back met [] n d h c = refl
-  behind_back met (o ∷ os) n d h c =
+  after_back : (met : List (List ℕ)) (os : List (List ℕ × TopoObject)) → AreNew met (map (λ o. o.0) os) → AreDistinct (map (λ o. o.0) os) → AllByRecursion (λ o. FineObject transform arcs o.1) os
+      → Gives (objects_after transform arcs met (map (λ o. (o.0, object_value (cell_value transform) o.1)) os)) os
+  unfolding objects_after
+  after_back met [] n d h c = refl
+  after_back met (o ∷ os) n d h c =
       let names : List (List ℕ) = map (λ o. o.0) os in
       let fresh = all_weaker (λ m. AllByRecursion (λ y. m ≢ y) (o.0 ∷ names)) (λ m. m ≢ o.0) (λ m k. k.0) met n in
       let rest = all_weaker (λ m. AllByRecursion (λ y. m ≢ y) (o.0 ∷ names)) (λ m. AllByRecursion (λ y. m ≢ y) names) (λ m k. k.1) met n in
-      rw (unmet o.0 met fresh, object_back o.1 h.0 c, behind_back (o.0 ∷ met) os (d.0, rest) d.1 h.1 c) refl
+      rw (unmet o.0 met fresh, object_back o.1 h.0 c, after_back (o.0 ∷ met) os (d.0, rest) d.1 h.1 c) refl
 
   pub objects_back : (os : List (List ℕ × TopoObject)) → AreDistinct (map (λ o. o.0) os) → AllByRecursion (λ o. FineObject transform arcs o.1) os
       → Gives (objects transform arcs (objects_value (cell_value transform) os)) os
   unfolding objects
-  objects_back os d h = pure_gives _ (objects_behind transform arcs []) _ os (object_members (map (λ o. (o.0, object_value (cell_value transform) o.1)) os)) (behind_back [] os tt d h)
+  objects_back os d h = pure_gives _ (objects_after transform arcs []) _ os (object_members (map (λ o. (o.0, object_value (cell_value transform) o.1)) os)) (after_back [] os tt d h)

@@ -10,11 +10,11 @@ use Rattle.json_value.specs.declared.json.Json.TheViews.{out-Json}
 use Rattle.json_value.specs.Kinds.{array_of, object_of, text_of}
 use Rattle.json_value.specs.Numbers.{HasNumbers}
 use Rattle.json_value.specs.WellFormed.{HasTexts}
-use Rattle.json_members.proofs.Inside.{array_numbers, object_numbers, number_inside, array_texts, object_texts, text_inside, object_inside}
-use Rattle.json_members.proofs.Parts.{find_part, given}
-use Rattle.json_members.proofs.Yields.{each_of_yields}
-use Rattle.json_members.specs.Members as members_by
-use Rattle.list_laws.proofs.Elements.{all_parts, all_weaker}
+use Rattle.json_value.proofs.Inside.{array_numbers, object_numbers, number_inside, array_texts, object_texts, text_inside, object_inside}
+use Rattle.json_value.proofs.Parts.{find_part, given}
+use Rattle.json_value.proofs.Yields.{each_of_yields}
+use Rattle.json_value.specs.Members as members_by
+use Rattle.owned_values.proofs.Elements.{all_parts, all_weaker}
 use Rattle.geometry.specs.Points.{Point}
 use Rattle.geojson_types.specs.declared.id.Id.{Id}
 use Rattle.geojson_types.specs.Numbers.{IdHasNumbers, PropertiesHaveNumbers}
@@ -29,7 +29,7 @@ use Rattle.topojson_meaning.specs.declared.geometry_type.GeometryType.{GeometryT
 use Rattle.topojson_meaning.specs.Arcs.{arc_list}
 use Rattle.topojson_meaning.specs.Features.{identifier_in, identifier, members_if, feature, feature_element}
 use Rattle.topojson_meaning.specs.Members.{Members, lookup_fault, find, need, need_as, elements, members}
-use Rattle.topojson_meaning.specs.Objects.{features, collection, single, object, is_met, new_name, objects_behind, objects}
+use Rattle.topojson_meaning.specs.Objects.{features, collection, single, object, is_met, new_name, objects_after, objects}
 use Rattle.topojson_meaning.specs.Reader.{give, or_fail}
 use Rattle.topojson_meaning.specs.Shapes.{typed_shape}
 use Rattle.topojson_meaning.specs.Texts.{NumbersStay, TextsStay}
@@ -116,18 +116,18 @@ module _ (P : Json → Type 0) (N : List ℕ → Type 0) (I : Option Id → Type
     abbrev KeptNamed : List ℕ × TopoObject → Type 0
     KeptNamed o = N o.0 × KeptObject o.1
 
-    objects_behind_yield : (met : List (List ℕ)) (ms : Members) → AllByRecursion Part ms → Yields (AllByRecursion KeptNamed) (objects_behind transform arcs met ms)
-    unfolding objects_behind
-    objects_behind_yield met [] h = give_yields (AllByRecursion KeptNamed) [] tt
-    objects_behind_yield met (m ∷ ms) h =
+    objects_after_yield : (met : List (List ℕ)) (ms : Members) → AllByRecursion Part ms → Yields (AllByRecursion KeptNamed) (objects_after transform arcs met ms)
+    unfolding objects_after
+    objects_after_yield met [] h = give_yields (AllByRecursion KeptNamed) [] tt
+    objects_after_yield met (m ∷ ms) h =
         then_yields N (AllByRecursion KeptNamed) (new_name met m.0) _ (new_name_yields met m.0 h.0.0)
         (λ name n. then_yields KeptObject (AllByRecursion KeptNamed) (object transform arcs m.1) _ (object_yields m.1 h.0.1)
-        (λ o k. then_yields (AllByRecursion KeptNamed) (AllByRecursion KeptNamed) (objects_behind transform arcs (name ∷ met) ms) _ (objects_behind_yield (name ∷ met) ms h.1)
+        (λ o k. then_yields (AllByRecursion KeptNamed) (AllByRecursion KeptNamed) (objects_after transform arcs (name ∷ met) ms) _ (objects_after_yield (name ∷ met) ms h.1)
         (λ os more. give_yields (AllByRecursion KeptNamed) ((name, o) ∷ os) ((n, k), more))))
 
     objects_yield : (v : Json) → P v → Yields (AllByRecursion KeptNamed) (objects transform arcs v)
     unfolding objects
-    objects_yield v h = pure_then (AllByRecursion KeptNamed) (members v) _ (λ ms e. objects_behind_yield [] ms (members_are v ms h e))
+    objects_yield v h = pure_then (AllByRecursion KeptNamed) (members v) _ (λ ms e. objects_after_yield [] ms (members_are v ms h e))
 
   -- ---- topologies
 

@@ -19,9 +19,9 @@ use Rattle.topojson_meaning.specs.declared.fault.TopoFault.TheVariants.{NotTopol
 use Rattle.topojson_meaning.specs.Arcs.{number_text, units, elements_position, position, arc_cells, arc, arc_list}
 use Rattle.topojson_meaning.specs.Features.{feature}
 use Rattle.topojson_meaning.specs.GeometryTypes.{geometry_type, type_of, object_type}
-use Rattle.topojson_meaning.specs.Lines.{some_elements, index, indexes_behind, indexes, line_in, ring_in, ring, polygon_in}
+use Rattle.topojson_meaning.specs.Lines.{some_elements, index, indexes_after, indexes, line_in, ring_in, ring, polygon_in}
 use Rattle.topojson_meaning.specs.Members.{Members, named, need, members, elements}
-use Rattle.topojson_meaning.specs.Objects.{single, object, objects_behind, objects}
+use Rattle.topojson_meaning.specs.Objects.{single, object, objects_after, objects}
 use Rattle.topojson_meaning.specs.Reader.{gather}
 use Rattle.topojson_meaning.specs.Shapes.{arcs_in, arcs_shape, part, typed_shape}
 use Rattle.topojson_meaning.specs.Topologies.{contents, value_contents, topology}
@@ -55,7 +55,7 @@ abbrev null_object : Json
 null_object = j.Object ((codes "type", j.Null) ∷ [])
 
 row_names : topology (topology_with ((codes "objects", j.Object ((codes "a", null_object) ∷ ((codes "a", null_object) ∷ []))) ∷ ((codes "arcs", j.Array []) ∷ []))) ≡ Err Duplicate
-unfolding topology value_contents contents transform_if object_of text_of need named arc_list elements array_of gather objects objects_behind members object object_type type_of single feature typed_shape
+unfolding topology value_contents contents transform_if object_of text_of need named arc_list elements array_of gather objects objects_after members object object_type type_of single feature typed_shape
 row_names = simp (j.outs-Object, j.outs-Text, j.outs-Array, j.outs-Null)
 
 -- ---- arcs
@@ -98,11 +98,11 @@ abbrev with_object : Json → Json
 with_object x = topology_with ((codes "objects", j.Object ((codes "a", x) ∷ [])) ∷ ((codes "arcs", two_arcs_json) ∷ []))
 
 object_fault : (x : Json) (e : TopoFault) → object None two_arcs x no_counts ≡ Err e → topology (with_object x) ≡ Err e
-unfolding topology value_contents contents transform_if object_of text_of need named objects objects_behind members
+unfolding topology value_contents contents transform_if object_of text_of need named objects objects_after members
 object_fault x e h = simp (j.outs-Object, j.outs-Text, two_arcs_read no_counts, h)
 
 object_taken : (x : Json) (o : TopoObject) (c : Counts) → object None two_arcs x no_counts ≡ Ok (o, c) → topology (with_object x) ≡ Ok (record { objects = (codes "a", o) ∷ []; arcs = two_arcs; transform = None }, c)
-unfolding topology value_contents contents transform_if object_of text_of need named objects objects_behind members
+unfolding topology value_contents contents transform_if object_of text_of need named objects objects_after members
 object_taken x o c h = simp (j.outs-Object, j.outs-Text, two_arcs_read no_counts, h)
 
 -- {"type":"Curve"}
@@ -134,7 +134,7 @@ line_faults =
     ∷ []
 
 row_line_faults : map (λ r. topology (with_object (line_string r.0))) line_faults ≡ map (λ r. Err r.1) line_faults
-unfolding topology value_contents contents transform_if object_of text_of need named objects objects_behind members object object_type type_of geometry_type single feature typed_shape part arcs_shape some_elements array_of arcs_in line_in indexes indexes_behind index number_text number_of scaled_of joins.number_of same
+unfolding topology value_contents contents transform_if object_of text_of need named objects objects_after members object object_type type_of geometry_type single feature typed_shape part arcs_shape some_elements array_of arcs_in line_in indexes indexes_after index number_text number_of scaled_of joins.number_of same
 row_line_faults = simp (j.outs-Object, j.outs-Text, j.outs-Array, j.outs-Number, two_arcs_read no_counts)
 
 -- {"type":"Polygon","arcs":[[0]]}
@@ -142,7 +142,7 @@ abbrev open_ring : Json
 open_ring = j.Object (typed (codes "Polygon") ∷ ((codes "arcs", j.Array (j.Array (j.Number (codes "0") ∷ []) ∷ [])) ∷ []))
 
 row_open_ring : topology (with_object open_ring) ≡ Err OpenRing
-unfolding object members object_of object_type need named type_of geometry_type single feature typed_shape part arcs_shape some_elements array_of arcs_in polygon_in ring ring_in indexes indexes_behind index number_text number_of scaled_of joins.number_of same
+unfolding object members object_of object_type need named type_of geometry_type single feature typed_shape part arcs_shape some_elements array_of arcs_in polygon_in ring ring_in indexes indexes_after index number_text number_of scaled_of joins.number_of same
 row_open_ring = object_fault open_ring OpenRing (simp (j.outs-Object, j.outs-Text, j.outs-Array, j.outs-Number))
 
 -- {"type":"LineString","arcs":[]}
@@ -156,7 +156,7 @@ abbrev reversed_line : TopoObject
 reversed_line = One (record { id = None; properties = None; shape = Some (g.Line (negsuc 1 ∷ [])) })
 
 row_reversed : topology (with_object (line_string (j.Number (codes "-2") ∷ []))) ≡ Ok (record { objects = (codes "a", reversed_line) ∷ []; arcs = two_arcs; transform = None }, no_counts)
-unfolding object members object_of object_type need named type_of geometry_type single feature typed_shape part arcs_shape some_elements array_of arcs_in line_in indexes indexes_behind index number_text number_of scaled_of joins.number_of
+unfolding object members object_of object_type need named type_of geometry_type single feature typed_shape part arcs_shape some_elements array_of arcs_in line_in indexes indexes_after index number_text number_of scaled_of joins.number_of
 row_reversed = object_taken (line_string (j.Number (codes "-2") ∷ [])) reversed_line no_counts (simp (j.outs-Object, j.outs-Text, j.outs-Array, j.outs-Number))
 
 -- it decodes to [[3,0],[2,0]]

@@ -9,9 +9,9 @@ use Rattle.geometry.specs.declared.shape.Geometry.TheVariants as g
 use Rattle.geojson_types.specs.Features.{is_some_list}
 use Rattle.geometry.specs.Lists.{joined}
 use Rattle.geometry.specs.Points.{Point}
-use Rattle.geometry.specs.Pruning.{strokes}
+use Rattle.geometry.specs.Pruning.{lines_and_rings}
 use Rattle.geometry.proofs.Agreement.{all_left, all_right}
-use Rattle.geometry.proofs.Cases.{strokes-line, strokes-lines, strokes-area, strokes-areas, strokes-group}
+use Rattle.geometry.proofs.Cases.{lines_and_rings-line, lines_and_rings-lines, lines_and_rings-area, lines_and_rings-areas, lines_and_rings-group}
 use Rattle.geometry.proofs.Induction.{by_kinds}
 use Rattle.topojson_types.specs.declared.transform.Transform.{Transform}
 use Rattle.topojson_types.specs.Topologies.{TopoShape}
@@ -33,28 +33,28 @@ use Rattle.topojson_meaning.proofs.LinesBack.{some_elements_back, line_in_back, 
 use Rattle.topojson_meaning.proofs.ShapeKinds.{geometrical-group}
 use Rattle.topojson_meaning.proofs.Steps.{Gives, then_gives, pure_gives, kept_gives}
 use Rattle.topojson_meaning.proofs.Unrolled.{shape_object, shapes_array}
-use Rattle.list_laws.proofs.Lists.{made_of_some}
-use Rattle.topojson_meaning.proofs.ValidKept.{IsStroke, IsLine, IsArea}
+use Rattle.owned_values.proofs.Lists.{made_of_some}
+use Rattle.topojson_meaning.proofs.ValidKept.{IsLineOrRing, IsLine, IsArea}
 
 -- ---- lists that are full
 
-full_lines : (arcs : List (List Point)) (closed : Bool) (ls : List (List ℤ)) → list_all is_some_list ls ≡ true → AllByRecursion (IsStroke arcs) (map (λ l. (closed, l)) ls) → AllByRecursion (IsLine arcs closed) ls
+full_lines : (arcs : List (List Point)) (closed : Bool) (ls : List (List ℤ)) → list_all is_some_list ls ≡ true → AllByRecursion (IsLineOrRing arcs) (map (λ l. (closed, l)) ls) → AllByRecursion (IsLine arcs closed) ls
 full_lines arcs closed [] f h = tt
 full_lines arcs closed (l ∷ ls) f h = let p = and_parts (is_some_list l) (list_all is_some_list ls) f in ((p.0, h.0), full_lines arcs closed ls p.1 h.1)
 
-full_area : (arcs : List (List Point)) (rs : List (List ℤ)) → (is_some_list rs && list_all is_some_list rs) ≡ true → AllByRecursion (IsStroke arcs) (map (λ l. (true, l)) rs) → IsArea arcs rs
+full_area : (arcs : List (List Point)) (rs : List (List ℤ)) → (is_some_list rs && list_all is_some_list rs) ≡ true → AllByRecursion (IsLineOrRing arcs) (map (λ l. (true, l)) rs) → IsArea arcs rs
 full_area arcs rs f h = let p = and_parts (is_some_list rs) (list_all is_some_list rs) f in (p.0, full_lines arcs true rs p.1 h)
 
 full_areas : (arcs : List (List Point)) (areas : List (List (List ℤ))) → list_all (λ rs. is_some_list rs && list_all is_some_list rs) areas ≡ true
-    → AllByRecursion (IsStroke arcs) (joined (map (map (λ l. (true, l))) areas)) → AllByRecursion (IsArea arcs) areas
+    → AllByRecursion (IsLineOrRing arcs) (joined (map (map (λ l. (true, l))) areas)) → AllByRecursion (IsArea arcs) areas
 full_areas arcs [] f h = tt
-full_areas arcs (rs ∷ areas) f h = grind (arith, and_parts, full_area, all_left, IsStroke, all_right, full_areas arcs areas)
+full_areas arcs (rs ∷ areas) f h = grind (arith, and_parts, full_area, all_left, IsLineOrRing, all_right, full_areas arcs areas)
 
 -- ---- what is said of a shape
 
 -- no list is empty but a collection's, its cells may stand there, and its lines and rings are sound
 abbrev pub Fine : Option Transform → List (List Point) → TopoShape → Type 0
-Fine transform arcs s = (is_full s ≡ true) × AllByRecursion (IsPlace transform) (places s) × AllByRecursion (IsStroke arcs) (strokes s)
+Fine transform arcs s = (is_full s ≡ true) × AllByRecursion (IsPlace transform) (places s) × AllByRecursion (IsLineOrRing arcs) (lines_and_rings s)
 
 -- it is written with the name of its type and one member, which is read as it
 pub record Parts (transform : Option Transform) (arcs : List (List Point)) (s : TopoShape) : Type 0 where
@@ -126,7 +126,7 @@ module _ (transform : Option Transform) (arcs : List (List Point)) (long : AllBy
   at_line : (refs : List ℤ) → Back (g.Line refs)
   unfolding geometry_type part arcs_shape arcs_in
   at_line refs h =
-      let back = line_in_back transform arcs long few refs (subst (AllByRecursion (IsStroke arcs)) (strokes-line Point (List ℤ) refs) h.2).0 in
+      let back = line_in_back transform arcs long few refs (subst (AllByRecursion (IsLineOrRing arcs)) (lines_and_rings-line Point (List ℤ) refs) h.2).0 in
       made (g.Line refs) (Arcs of_arcs.LineString) (codes "LineString") (line_value refs) ((geometrical_at (cell_value transform)).line refs) refl refl
       (elements_back (arcs_in arcs of_arcs.LineString) whole_value refs (g.Line refs) (sym (full_at.line refs) ∙ h.0) (λ c. rw (back c) refl))
 
@@ -134,14 +134,14 @@ module _ (transform : Option Transform) (arcs : List (List Point)) (long : AllBy
   unfolding geometry_type part arcs_shape arcs_in
   at_lines ls h =
       let f = and_parts (is_some_list ls) (list_all is_some_list ls) (sym (full_at.lines ls) ∙ h.0) in
-      let back = lines_back transform arcs long few ls (full_lines arcs false ls f.1 (subst (AllByRecursion (IsStroke arcs)) (strokes-lines Point (List ℤ) ls) h.2)) in
+      let back = lines_back transform arcs long few ls (full_lines arcs false ls f.1 (subst (AllByRecursion (IsLineOrRing arcs)) (lines_and_rings-lines Point (List ℤ) ls) h.2)) in
       made (g.Lines ls) (Arcs of_arcs.MultiLineString) (codes "MultiLineString") (lines_value ls) ((geometrical_at (cell_value transform)).lines ls) refl refl
       (elements_back (arcs_in arcs of_arcs.MultiLineString) line_value ls (g.Lines ls) f.0 (λ c. rw (back c, made_of_some g.Lines ls f.0) refl))
 
   at_area : (rs : List (List ℤ)) → Back (g.Area rs)
   unfolding geometry_type part arcs_shape arcs_in
   at_area rs h =
-      let k = full_area arcs rs (sym (full_at.area rs) ∙ h.0) (subst (AllByRecursion (IsStroke arcs)) (strokes-area Point (List ℤ) rs) h.2) in
+      let k = full_area arcs rs (sym (full_at.area rs) ∙ h.0) (subst (AllByRecursion (IsLineOrRing arcs)) (lines_and_rings-area Point (List ℤ) rs) h.2) in
       made (g.Area rs) (Arcs of_arcs.Polygon) (codes "Polygon") (lines_value rs) ((geometrical_at (cell_value transform)).area rs) refl refl
       (elements_back (arcs_in arcs of_arcs.Polygon) line_value rs (g.Area rs) k.0 (λ c. rw (polygon_in_back transform arcs long few rs k c) refl))
 
@@ -149,14 +149,14 @@ module _ (transform : Option Transform) (arcs : List (List Point)) (long : AllBy
   unfolding geometry_type part arcs_shape arcs_in
   at_areas areas h =
       let f = and_parts (is_some_list areas) (list_all (λ rs. is_some_list rs && list_all is_some_list rs) areas) (sym (full_at.areas areas) ∙ h.0) in
-      let back = polygons_back transform arcs long few areas (full_areas arcs areas f.1 (subst (AllByRecursion (IsStroke arcs)) (strokes-areas Point (List ℤ) areas) h.2)) in
+      let back = polygons_back transform arcs long few areas (full_areas arcs areas f.1 (subst (AllByRecursion (IsLineOrRing arcs)) (lines_and_rings-areas Point (List ℤ) areas) h.2)) in
       made (g.Areas areas) (Arcs of_arcs.MultiPolygon) (codes "MultiPolygon") (j.Array (map lines_value areas)) ((geometrical_at (cell_value transform)).areas areas) refl refl
       (elements_back (arcs_in arcs of_arcs.MultiPolygon) lines_value areas (g.Areas areas) f.0 (λ c. rw (back c, made_of_some g.Areas areas f.0) refl))
 
-  each_parts : (ss : List TopoShape) → AllByRecursion Back ss → list_all is_full ss ≡ true → AllByRecursion (IsPlace transform) (joined (map places ss)) → AllByRecursion (IsStroke arcs) (joined (map strokes ss))
+  each_parts : (ss : List TopoShape) → AllByRecursion Back ss → list_all is_full ss ≡ true → AllByRecursion (IsPlace transform) (joined (map places ss)) → AllByRecursion (IsLineOrRing arcs) (joined (map lines_and_rings ss))
       → AllByRecursion (Parts transform arcs) ss
   each_parts [] all f h k = tt
-  each_parts (s ∷ ss) all f h k = grind (arith, and_parts, all_left, IsStroke, all_right, each_parts ss all.1)
+  each_parts (s ∷ ss) all f h k = grind (arith, and_parts, all_left, IsLineOrRing, all_right, each_parts ss all.1)
 
   group_back : (ss : List TopoShape) → AllByRecursion (Parts transform arcs) ss → Gives (part transform arcs Collection (j.Array (map (λ s. inner_value (geometrical (cell_value transform) s)) ss))) (Some (g.Group ss))
   unfolding part
@@ -170,7 +170,7 @@ module _ (transform : Option Transform) (arcs : List (List Point)) (long : AllBy
     value = j.Array (map (λ s. inner_value (geometrical (cell_value transform) s)) ss);
     is = geometrical-group (cell_value transform) ss;
     known = refl;
-    reads = group_back ss (each_parts ss all (sym (full-group ss) ∙ h.0) (subst (AllByRecursion (IsPlace transform)) (places_at.group ss) h.1) (subst (AllByRecursion (IsStroke arcs)) (strokes-group Point (List ℤ) ss) h.2));
+    reads = group_back ss (each_parts ss all (sym (full-group ss) ∙ h.0) (subst (AllByRecursion (IsPlace transform)) (places_at.group ss) h.1) (subst (AllByRecursion (IsLineOrRing arcs)) (lines_and_rings-group Point (List ℤ) ss) h.2));
     single = λ e. let f : false ≡ true = sym (single_at.group ss) ∙ e in absurd cc;
   }
 

@@ -8,14 +8,14 @@ use Rattle.json_value.proofs.KindsOf.{object_of-object, text_of-text}
 use Rattle.geojson_types.specs.Counting.{no_counts}
 use Rattle.geometry.specs.Lists.{map_some}
 use Rattle.geometry.specs.Points.{Point}
-use Rattle.geometry.specs.Pruning.{option_strokes}
+use Rattle.geometry.specs.Pruning.{option_lines_and_rings}
 use Rattle.geometry.proofs.Agreement.{all_left, all_right}
-use Rattle.list_laws.proofs.Elements.{all_two}
+use Rattle.owned_values.proofs.Elements.{all_two}
 use Rattle.topojson_types.specs.declared.feature.TopoFeature.{TopoFeature}
 use Rattle.topojson_types.specs.declared.object.TopoObject.{TopoObject}
 use Rattle.topojson_types.specs.declared.transform.Transform.{Transform}
 use Rattle.topojson_types.specs.Bounds.{Corners, bounds}
-use Rattle.topojson_types.specs.Topologies.{Contents, features_strokes, objects_strokes}
+use Rattle.topojson_types.specs.Topologies.{Contents, features_lines_and_rings, objects_lines_and_rings}
 use Rattle.topojson_types.specs.Validity.{IsFeature, IsObject, AreInRange, IsJoined, IsClosed}
 use Rattle.topojson_types.specs.Values.{Members, cell_value, transform_object, members_of_transform, members_of_bounds, objects_value, arcs_value, topology_value}
 use Rattle.topojson_meaning.specs.Laws.{IsStored, ReadsBack}
@@ -27,19 +27,19 @@ use Rattle.topojson_meaning.proofs.ObjectsBack.{FineObject, objects_back}
 use Rattle.topojson_meaning.proofs.ShapeKinds.{written_members}
 use Rattle.topojson_meaning.proofs.Steps.{Gives}
 use Rattle.topojson_meaning.proofs.TransformsBack.{transform_back}
-use Rattle.topojson_meaning.proofs.ValidKept.{IsStroke}
+use Rattle.topojson_meaning.proofs.ValidKept.{IsLineOrRing}
 
 -- ---- what a valid topology says of each part
 
 module _ (transform : Option Transform) (arcs : List (List Point)) where
-  abbrev strokes_of : TopoFeature → List (Bool × List ℤ)
-  strokes_of f = option_strokes f.shape
+  abbrev lines_and_rings_of : TopoFeature → List (Bool × List ℤ)
+  lines_and_rings_of f = option_lines_and_rings f.shape
 
-  fine_features : (fs : List TopoFeature) → AllByRecursion (IsFeature transform) fs → AllByRecursion (IsStroke arcs) (features_strokes fs) → AllByRecursion (FineFeature transform arcs) fs
+  fine_features : (fs : List TopoFeature) → AllByRecursion (IsFeature transform) fs → AllByRecursion (IsLineOrRing arcs) (features_lines_and_rings fs) → AllByRecursion (FineFeature transform arcs) fs
   fine_features [] h k = tt
-  fine_features (f ∷ fs) h k = ((h.0, all_left (IsStroke arcs) (strokes_of f) (features_strokes fs) k), fine_features fs h.1 (all_right (IsStroke arcs) (strokes_of f) (features_strokes fs) k))
+  fine_features (f ∷ fs) h k = ((h.0, all_left (IsLineOrRing arcs) (lines_and_rings_of f) (features_lines_and_rings fs) k), fine_features fs h.1 (all_right (IsLineOrRing arcs) (lines_and_rings_of f) (features_lines_and_rings fs) k))
 
-  fine_objects : (os : List (List ℕ × TopoObject)) → AllByRecursion (λ o. IsObject transform o.1) os → AllByRecursion (IsStroke arcs) (objects_strokes os) → AllByRecursion (λ o. FineObject transform arcs o.1) os
+  fine_objects : (os : List (List ℕ × TopoObject)) → AllByRecursion (λ o. IsObject transform o.1) os → AllByRecursion (IsLineOrRing arcs) (objects_lines_and_rings os) → AllByRecursion (λ o. FineObject transform arcs o.1) os
   fine_objects [] h k = tt
   fine_objects (o ∷ os) h k = grind (arith, all_left, fine_features, all_right, fine_objects os h.1)
 
@@ -65,8 +65,8 @@ contents_back : (t : Contents) → IsStored t → Gives (contents (written_membe
 unfolding contents
 contents_back t h c =
     let valid = h.0 in
-    let closed = all_two (IsJoined t.arcs) (IsClosed t.arcs) (λ b. IsJoined t.arcs b × IsClosed t.arcs b) (λ b j k. (j, k)) (objects_strokes t.objects) valid.joined valid.closed in
-    let sound = all_two (λ b. AreInRange (length t.arcs) b.1) (λ b. IsJoined t.arcs b × IsClosed t.arcs b) (IsStroke t.arcs) (λ b r k. (r, k.0, k.1)) (objects_strokes t.objects) valid.ranged closed in
+    let closed = all_two (IsJoined t.arcs) (IsClosed t.arcs) (λ b. IsJoined t.arcs b × IsClosed t.arcs b) (λ b j k. (j, k)) (objects_lines_and_rings t.objects) valid.joined valid.closed in
+    let sound = all_two (λ b. AreInRange (length t.arcs) b.1) (λ b. IsJoined t.arcs b × IsClosed t.arcs b) (IsLineOrRing t.arcs) (λ b r k. (r, k.0, k.1)) (objects_lines_and_rings t.objects) valid.ranged closed in
     let fine = fine_objects t.transform t.arcs t.objects valid.objects sound in
     rw ((found t).0, text_of-text (codes "Topology"), (found t).1, transform_back t.transform valid.transform c, (found t).2, arcs_back t.transform t.arcs valid.arcs c)
     (rw ((found t).3, objects_back t.transform t.arcs valid.arcs h.1 t.objects valid.names fine c) refl)

@@ -14,9 +14,9 @@ use Rattle.topojson_types.specs.TransformNumbers.{transform_value, to_units, sta
 use Rattle.topojson_types.specs.Transforms.{place_on, is_within}
 use Rattle.topojson_meaning.specs.declared.fault.TopoFault.{TopoFault}
 use Rattle.topojson_meaning.specs.declared.fault.TopoFault.TheVariants.{Missing, WrongKind, GridNumber, Range}
-use Rattle.topojson_meaning.specs.Arcs.{number_text, grid_number, grid_cell, elements_cell, cell, cells_behind, elements_place, place, arc_cells, arc, arc_list}
+use Rattle.topojson_meaning.specs.Arcs.{number_text, grid_number, grid_cell, elements_cell, cell, cells_after, elements_place, place, arc_cells, arc, arc_list}
 use Rattle.topojson_meaning.specs.Members.{named, need, members, elements}
-use Rattle.topojson_meaning.specs.Objects.{objects, objects_behind}
+use Rattle.topojson_meaning.specs.Objects.{objects, objects_after}
 use Rattle.topojson_meaning.specs.Reader.{gather}
 use Rattle.topojson_meaning.specs.Topologies.{contents, value_contents, topology}
 use Rattle.topojson_meaning.specs.Transforms.{texts, transform_number, transform_pair, transform_members, transform_if}
@@ -76,7 +76,7 @@ row_transform_first = simp (j.outs-Object, j.outs-Text, j.outs-Array)
 
 -- a null transform is none
 row_null : topology (transformed j.Null (j.Array [])) ≡ Ok (record { objects = []; arcs = []; transform = None }, no_counts)
-unfolding topology value_contents contents object_of text_of need named transform_if arc_list elements array_of gather objects objects_behind members
+unfolding topology value_contents contents object_of text_of need named transform_if arc_list elements array_of gather objects objects_after members
 row_null = simp (j.outs-Object, j.outs-Text, j.outs-Array, j.outs-Null)
 
 row_topology_above : topology (transformed (scale_json (codes "300000001") (codes "1")) (j.Array [])) ≡ Err Range
@@ -103,7 +103,7 @@ widest = (at_x (pos (2 ^ 31)) ∷ (at_x (negsuc (2 ^ 31 - 1)) ∷ [])) ∷ []
 row_cells : on_scale (codes "1") (codes "0") (codes "0.5") ∷ on_scale (codes "0.1") (codes "2147483648") (codes "1")
     ∷ on_scale (codes "0.1") (codes "2147483648") (codes "-4294967296") ∷ on_scale (codes "0.1") (codes "2147483648") (codes "-4294967297") ∷ []
     ≡ Err GridNumber ∷ Err GridNumber ∷ Ok (record { objects = []; arcs = widest; transform = Some (scaling (codes "0.1") (codes "0.1")) }, no_counts) ∷ Err GridNumber ∷ []
-unfolding topology value_contents contents object_of text_of need named objects objects_behind members transform_if transform_members texts transform_pair transform_number arc_list arc arc_cells cells_behind cell elements_cell grid_number grid_cell elements array_of number_text number_of scaled_of is_within place_on stands_for to_units transform_value gather
+unfolding topology value_contents contents object_of text_of need named objects objects_after members transform_if transform_members texts transform_pair transform_number arc_list arc arc_cells cells_after cell elements_cell grid_number grid_cell elements array_of number_text number_of scaled_of is_within place_on stands_for to_units transform_value gather
 row_cells = simp (j.outs-Object, j.outs-Text, j.outs-Array, j.outs-Number)
 
 -- they lie at 214748364.8 and -214748364.8
@@ -140,7 +140,7 @@ line_cells = at (pos 0) (pos 0) ∷ (at (pos 1) (pos 3) ∷ (at (pos 3) (pos 0) 
 
 row_line_read : (c : Counts) → arc_list (Some grid_of_four)
     (j.Array (j.Array (pair_json (codes "0") (codes "0") ∷ (pair_json (codes "1") (codes "3") ∷ (pair_json (codes "2") (codes "-3") ∷ []))) ∷ [])) c ≡ Ok (line_cells ∷ [], c)
-unfolding arc_list arc arc_cells cells_behind cell elements_cell grid_number grid_cell elements array_of number_text number_of scaled_of is_within place_on stands_for to_units transform_value gather
+unfolding arc_list arc arc_cells cells_after cell elements_cell grid_number grid_cell elements array_of number_text number_of scaled_of is_within place_on stands_for to_units transform_value gather
 row_line_read c = simp (j.outs-Array, j.outs-Number)
 
 -- the Point [3,3] is the cell (3,3)

@@ -10,12 +10,12 @@ use Rattle.topojson_meaning.specs.declared.geometry_type.GeometryType.{GeometryT
 use Rattle.topojson_types.specs.declared.transform.Transform.{Transform}
 use Rattle.topojson_types.specs.Topologies.{TopoShape}
 use Rattle.topojson_meaning.specs.GeometryTypes.{part_name, object_type}
-use Rattle.json_members.proofs.Parts.{gather_map, need_map, pure_map}
-use Rattle.json_members.specs.Members as members_by
+use Rattle.json_value.proofs.Parts.{gather_map, need_map, pure_map}
+use Rattle.json_value.specs.Members as members_by
 use Rattle.topojson_meaning.specs.Members.{Members, lookup_fault, need, need_as}
 use Rattle.topojson_meaning.specs.Reader.{Reader, ◌>>=◌, give, pure, with_fault, kept}
 use Rattle.topojson_meaning.specs.Shapes.{part_with, typed_with, Readings, readings_step, readings, shape, shapes, part, typed_shape, geometry}
-use Rattle.list_laws.proofs.Lists.{map_back}
+use Rattle.owned_values.proofs.Lists.{map_back}
 
 -- ---- reading under a map
 

@@ -8,7 +8,7 @@ use Rattle.geometry.specs.Points.{Point, IsWithin, IsPosition}
 use Rattle.topojson_types.specs.declared.transform.Transform.{Transform}
 use Rattle.topojson_types.specs.Transforms.{grid_limit, is_within, origin}
 use Rattle.topojson_types.specs.Validity.{IsPlace, IsArc}
-use Rattle.topojson_meaning.specs.Arcs.{units, elements_position, position, grid_cell, elements_cell, cell, difference_limit, cells_behind, elements_place, place, arc_cells, as_arc, arc, arc_list}
+use Rattle.topojson_meaning.specs.Arcs.{units, elements_position, position, grid_cell, elements_cell, cell, difference_limit, cells_after, elements_place, place, arc_cells, as_arc, arc, arc_list}
 use Rattle.topojson_meaning.specs.Members.{elements}
 use Rattle.topojson_meaning.specs.Reader.{each}
 use Rattle.topojson_meaning.proofs.ValidYields.{Yields, then_yields, give_yields, count_yields, fail_yields, pure_then, if_yields, each_yields}
@@ -37,13 +37,13 @@ module _ (t : Transform) where
   unfolding elements_cell grid_cell
   elements_cell_yields bound before vs = grind (arith, fail_yields, pure_then, count_yields, within_is)
 
-  cells_behind_yield : (before : Point) (vs : List Json) → Yields (AllByRecursion IsCell) (cells_behind t before vs)
-  unfolding cells_behind cell
-  cells_behind_yield before [] = give_yields (AllByRecursion IsCell) [] tt
-  cells_behind_yield before (v ∷ vs) =
+  cells_after_yield : (before : Point) (vs : List Json) → Yields (AllByRecursion IsCell) (cells_after t before vs)
+  unfolding cells_after cell
+  cells_after_yield before [] = give_yields (AllByRecursion IsCell) [] tt
+  cells_after_yield before (v ∷ vs) =
       then_yields IsCell (AllByRecursion IsCell) (cell t difference_limit before v) _ (pure_then IsCell (elements v)
       (elements_cell t difference_limit before) (λ vs h. elements_cell_yields difference_limit before vs))
-      (λ c hc. then_yields (AllByRecursion IsCell) (AllByRecursion IsCell) (cells_behind t c vs) _ (cells_behind_yield c vs)
+      (λ c hc. then_yields (AllByRecursion IsCell) (AllByRecursion IsCell) (cells_after t c vs) _ (cells_after_yield c vs)
       (λ cs hs. give_yields (AllByRecursion IsCell) (c ∷ cs) (hc, hs)))
 
 -- ---- places
@@ -62,7 +62,7 @@ place_yields transform v = pure_then (IsPlace transform) (elements v) (elements_
 arc_cells_yield : (transform : Option Transform) (vs : List Json) → Yields (AllByRecursion (IsPlace transform)) (arc_cells transform vs)
 unfolding arc_cells
 arc_cells_yield None vs = each_yields IsPosition position position_yields vs
-arc_cells_yield (Some t) vs = cells_behind_yield t origin vs
+arc_cells_yield (Some t) vs = cells_after_yield t origin vs
 
 as_arc_yields : (transform : Option Transform) (cs : List Point) → AllByRecursion (IsPlace transform) cs → Yields (IsArc transform) (as_arc cs)
 as_arc_yields transform cs h = grind (arith, if_yields, give_yields, leb-true, fail_yields)

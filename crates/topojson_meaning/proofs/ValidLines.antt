@@ -10,7 +10,7 @@ use Rattle.geometry.specs.Rings.{both_same}
 use Rattle.geometry.proofs.Points.{same_is}
 use Rattle.geometry.specs.Joins.{number_of, arc_at, first_of, last_of, Meet, Closes}
 use Rattle.topojson_types.specs.Validity.{AreInRange}
-use Rattle.topojson_meaning.specs.Lines.{some_elements, index, joined_to, indexes_behind, indexes, line_start, line_end, as_ring, line_in, line, ring_in, ring, with_outer, polygon_in, polygon}
+use Rattle.topojson_meaning.specs.Lines.{some_elements, index, joined_to, indexes_after, indexes, line_start, line_end, as_ring, line_in, line, ring_in, ring, with_outer, polygon_in, polygon}
 use Rattle.topojson_meaning.specs.Reader.{Reader, ◌>>=◌, if_some, kept}
 use Rattle.topojson_meaning.proofs.ValidKept.{IsLine, IsArea}
 use Rattle.topojson_meaning.proofs.ValidYields.{Yields, IfThere, then_yields, give_yields, count_yields, fail_yields, pure_then, if_yields, if_some_yields, kept_yields}
@@ -49,18 +49,18 @@ module _ (arcs : List (List Point)) where
   IsNext before i = IsIndex i × (last_of (arc_at arcs before) ≡ first_of (arc_at arcs i))
 
   -- indexes whose arcs meet one another, and that of the index before
-  abbrev AreBehind : ℤ → List ℤ → Type 0
-  AreBehind before refs = AreInRange (length arcs) refs × Meet (arc_at arcs before ∷ map (arc_at arcs) refs)
+  abbrev AreAfter : ℤ → List ℤ → Type 0
+  AreAfter before refs = AreInRange (length arcs) refs × Meet (arc_at arcs before ∷ map (arc_at arcs) refs)
 
-  behind_yield : (before : ℤ) (vs : List Json) → Yields (AreBehind before) (indexes_behind arcs before vs)
-  unfolding indexes_behind
-  behind_yield before [] = give_yields (AreBehind before) [] (tt, tt)
-  behind_yield before (v ∷ vs) =
-      then_yields IsIndex (AreBehind before) (index (length arcs) v) _ (index_yields v)
-      (λ j hj. then_yields (IsNext before) (AreBehind before) (joined_to arcs before j) _
+  after_yield : (before : ℤ) (vs : List Json) → Yields (AreAfter before) (indexes_after arcs before vs)
+  unfolding indexes_after
+  after_yield before [] = give_yields (AreAfter before) [] (tt, tt)
+  after_yield before (v ∷ vs) =
+      then_yields IsIndex (AreAfter before) (index (length arcs) v) _ (index_yields v)
+      (λ j hj. then_yields (IsNext before) (AreAfter before) (joined_to arcs before j) _
       (grind (arith, if_yields, give_yields, both_same_is, fail_yields))
-      (λ i hi. then_yields (AreBehind i) (AreBehind before) (indexes_behind arcs i vs) _ (behind_yield i vs)
-      (λ refs h. give_yields (AreBehind before) (i ∷ refs) ((hi.0, h.0), (hi.1, h.1)))))
+      (λ i hi. then_yields (AreAfter i) (AreAfter before) (indexes_after arcs i vs) _ (after_yield i vs)
+      (λ refs h. give_yields (AreAfter before) (i ∷ refs) ((hi.0, h.0), (hi.1, h.1)))))
 
   -- some indexes of a line
   abbrev IsOpen : List ℤ → Type 0
@@ -71,7 +71,7 @@ module _ (arcs : List (List Point)) where
   indexes_yield [] some = absurd cc
   indexes_yield (v ∷ vs) some =
       then_yields IsIndex IsOpen (index (length arcs) v) _ (index_yields v)
-      (λ i hi. then_yields (AreBehind i) IsOpen (indexes_behind arcs i vs) _ (behind_yield i vs)
+      (λ i hi. then_yields (AreAfter i) IsOpen (indexes_after arcs i vs) _ (after_yield i vs)
       (λ refs h. give_yields IsOpen (i ∷ refs) ((refl, ((hi, h.0), h.1, λ e. absurd cc)))))
 
   pub line_in_yields : (vs : List Json) → is_some_list vs ≡ true → Yields (IfThere IsOpen) (line_in arcs vs)

@@ -1,9 +1,9 @@
 -- What holds of each member holds of what is read of those that are looked up.
 use Rattle.std.proofs.Common.{◌≡◌, ℕ, List, Ok}
 use Rattle.std.specs.List.{AllByRecursion}
-use Rattle.json_members.proofs.Parts.{given, need_part}
-use Rattle.json_members.proofs.Yields.{Yields, pure_then}
-use Rattle.json_members.specs.Members as members_by
+use Rattle.json_value.proofs.Parts.{given, need_part}
+use Rattle.json_value.proofs.Yields.{Yields, pure_then}
+use Rattle.json_value.specs.Members as members_by
 use Rattle.topojson_meaning.specs.Members.{lookup_fault, need, need_as}
 use Rattle.topojson_meaning.specs.Reader.{Reader}
 

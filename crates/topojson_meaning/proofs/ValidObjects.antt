@@ -15,14 +15,14 @@ use Rattle.topojson_meaning.specs.declared.geometry_type.GeometryType.{GeometryT
 use Rattle.topojson_meaning.specs.Features.{feature, feature_element}
 use Rattle.topojson_meaning.specs.GeometryTypes.{is_collection}
 use Rattle.topojson_meaning.specs.Members.{Members, elements, members}
-use Rattle.topojson_meaning.specs.Objects.{features, collection, single, object, is_met, new_name, objects_behind, objects}
+use Rattle.topojson_meaning.specs.Objects.{features, collection, single, object, is_met, new_name, objects_after, objects}
 use Rattle.topojson_meaning.specs.Shapes.{typed_shape}
 use Rattle.topojson_meaning.proofs.ValidKept.{IsShape, IsSingle}
 use Rattle.topojson_meaning.proofs.ValidMembers.{need_as_yields}
 use Rattle.topojson_meaning.proofs.ValidReadings.{typed_shape_yields, single_shape_yields}
 use Rattle.topojson_meaning.proofs.ValidYields.{Yields, IfThere, all_trivial, then_yields, give_yields, fail_yields, pure_then, if_yields, each_yields}
-use Rattle.list_laws.proofs.Tests.{bytes_differ}
-use Rattle.list_laws.proofs.Elements.{all_weaker}
+use Rattle.owned_values.proofs.Tests.{bytes_differ}
+use Rattle.owned_values.proofs.Elements.{all_weaker}
 
 -- ---- names
 
@@ -89,10 +89,10 @@ module _ (transform : Option Transform) (arcs : List (List Point)) where
   one_more : (met : List (List ℕ)) (name : List ℕ) (o : TopoObject) (os : List (List ℕ × TopoObject)) → is_met name met ≡ false → KeptObject o → AreObjects (name ∷ met) os → AreObjects met ((name, o) ∷ os)
   one_more met name o os e h k = grind (arith, all_weaker, or_parts, others)
 
-  objects_behind_yield : (met : List (List ℕ)) (ms : Members) → Yields (AreObjects met) (objects_behind transform arcs met ms)
-  unfolding objects_behind object
-  objects_behind_yield met [] = give_yields (AreObjects met) [] (record { fresh = tt; distinct = tt; kept = tt })
-  objects_behind_yield met (m ∷ ms) =
+  objects_after_yield : (met : List (List ℕ)) (ms : Members) → Yields (AreObjects met) (objects_after transform arcs met ms)
+  unfolding objects_after object
+  objects_after_yield met [] = give_yields (AreObjects met) [] (record { fresh = tt; distinct = tt; kept = tt })
+  objects_after_yield met (m ∷ ms) =
       then_yields (IsNewName met) (AreObjects met) (new_name met m.0) _ (grind (arith, if_yields, fail_yields, give_yields))
       (λ name e. then_yields KeptObject (AreObjects met) (object transform arcs m.1) _ (search (
         pure_then,
@@ -100,9 +100,9 @@ module _ (transform : Option Transform) (arcs : List (List Point)) where
         collection_yields,
         single_yields,
       ))
-      (λ o h. then_yields (AreObjects (name ∷ met)) (AreObjects met) (objects_behind transform arcs (name ∷ met) ms) _
-      (objects_behind_yield (name ∷ met) ms) (λ os k. give_yields (AreObjects met) ((name, o) ∷ os) (one_more met name o os e h k))))
+      (λ o h. then_yields (AreObjects (name ∷ met)) (AreObjects met) (objects_after transform arcs (name ∷ met) ms) _
+      (objects_after_yield (name ∷ met) ms) (λ os k. give_yields (AreObjects met) ((name, o) ∷ os) (one_more met name o os e h k))))
 
   pub objects_yield : (v : Json) → Yields (AreObjects []) (objects transform arcs v)
   unfolding objects
-  objects_yield v = pure_then (AreObjects []) (members v) _ (λ ms h. objects_behind_yield [] ms)
+  objects_yield v = pure_then (AreObjects []) (members v) _ (λ ms h. objects_after_yield [] ms)

@@ -5,11 +5,11 @@ use Rattle.std.specs.List.{AllByRecursion}
 use Rattle.json_value.specs.Kinds.{object_of, text_of}
 use Rattle.geojson_types.specs.Counting.{no_counts}
 use Rattle.geometry.specs.Points.{Point}
-use Rattle.geometry.specs.Pruning.{option_strokes}
+use Rattle.geometry.specs.Pruning.{option_lines_and_rings}
 use Rattle.topojson_types.specs.declared.feature.TopoFeature.{TopoFeature}
 use Rattle.topojson_types.specs.declared.object.TopoObject.{TopoObject}
 use Rattle.topojson_types.specs.declared.transform.Transform.{Transform}
-use Rattle.topojson_types.specs.Topologies.{TopoShape, Contents, object_features, features_strokes, objects_strokes}
+use Rattle.topojson_types.specs.Topologies.{TopoShape, Contents, object_features, features_lines_and_rings, objects_lines_and_rings}
 use Rattle.topojson_types.specs.Validity.{option_places, IsPlace, IsArc, IsTransformed, IsTopology}
 use Rattle.topojson_meaning.specs.declared.fault.TopoFault.TheVariants.{NotTopology, WrongKind}
 use Rattle.topojson_meaning.specs.Arcs.{arc_list}
@@ -20,24 +20,24 @@ use Rattle.topojson_meaning.specs.Reader.{or_fail}
 use Rattle.topojson_meaning.specs.Topologies.{topology_type, contents, value_contents, topology}
 use Rattle.topojson_meaning.specs.Transforms.{transform_if}
 use Rattle.topojson_meaning.proofs.ValidArcs.{arc_list_yields}
-use Rattle.topojson_meaning.proofs.ValidKept.{IsStroke, IsShape, IsSingle}
+use Rattle.topojson_meaning.proofs.ValidKept.{IsLineOrRing, IsShape, IsSingle}
 use Rattle.topojson_meaning.proofs.ValidMembers.{need_as_yields}
 use Rattle.topojson_meaning.proofs.ValidObjects.{HasShape, KeptObject, AreObjects, objects_yield}
 use Rattle.topojson_meaning.proofs.ValidTransforms.{transform_if_yields}
 use Rattle.topojson_meaning.proofs.ValidYields.{Yields, IfThere, all_trivial, there_weaker, then_yields, give_yields, pure_then}
-use Rattle.list_laws.proofs.Elements.{all_map, all_joined, all_weaker}
+use Rattle.owned_values.proofs.Elements.{all_map, all_joined, all_weaker}
 
 module _ (transform : Option Transform) (arcs : List (List Point)) where
   -- ---- features
 
-  abbrev Strokes : List (Bool × List ℤ) → Type 0
-  Strokes = AllByRecursion (IsStroke arcs)
+  abbrev LinesAndRings : List (Bool × List ℤ) → Type 0
+  LinesAndRings = AllByRecursion (IsLineOrRing arcs)
 
   option_placed : (o : Option TopoShape) → IfThere (IsShape transform arcs) o → AllByRecursion (IsPlace transform) (option_places o)
   option_placed o h = grind arith
 
-  option_stroked : (o : Option TopoShape) → IfThere (IsShape transform arcs) o → Strokes (option_strokes o)
-  option_stroked o h = grind arith
+  option_is_valid : (o : Option TopoShape) → IfThere (IsShape transform arcs) o → LinesAndRings (option_lines_and_rings o)
+  option_is_valid o h = grind arith
 
   one_shape : (o : Option TopoShape) → IfThere (IsSingle transform arcs) o → IfThere (IsShape transform arcs) o
   one_shape = there_weaker (IsSingle transform arcs) (IsShape transform arcs) (λ s h. h.0)
@@ -50,14 +50,14 @@ module _ (transform : Option Transform) (arcs : List (List Point)) where
   object_kept : (o : TopoObject) → KeptObject transform arcs o → AllByRecursion Kept (object_features o)
   object_kept o h = grind (arith, one_shape)
 
-  features_stroked : (fs : List TopoFeature) → AllByRecursion Kept fs → Strokes (features_strokes fs)
-  features_stroked fs h = search (all_joined, all_map, all_weaker, option_stroked)
+  features_are_valid : (fs : List TopoFeature) → AllByRecursion Kept fs → LinesAndRings (features_lines_and_rings fs)
+  features_are_valid fs h = search (all_joined, all_map, all_weaker, option_is_valid)
 
   abbrev KeptMember : List ℕ × TopoObject → Type 0
   KeptMember o = KeptObject transform arcs o.1
 
-  objects_stroked : (os : List (List ℕ × TopoObject)) → AllByRecursion KeptMember os → Strokes (objects_strokes os)
-  objects_stroked os h = search (all_joined, all_map, all_weaker, features_stroked, object_kept)
+  objects_are_valid : (os : List (List ℕ × TopoObject)) → AllByRecursion KeptMember os → LinesAndRings (objects_lines_and_rings os)
+  objects_are_valid os h = search (all_joined, all_map, all_weaker, features_are_valid, object_kept)
 
   -- ---- topologies
 
@@ -65,7 +65,7 @@ module _ (transform : Option Transform) (arcs : List (List Point)) where
   made os = record { objects = os; arcs = arcs; transform = transform }
 
   topology_valid : (os : List (List ℕ × TopoObject)) → IsTransformed transform → AllByRecursion (IsArc transform) arcs → AreObjects transform arcs [] os → IsTopology (made os)
-  topology_valid os ht ha h = grind (arith, objects_stroked, all_weaker, option_placed, one_shape, IsStroke)
+  topology_valid os ht ha h = grind (arith, objects_are_valid, all_weaker, option_placed, one_shape, IsLineOrRing)
 
   -- the objects over the arcs that were read
   read_objects : (ms : Members) → Yields (AreObjects transform arcs []) (need_as (codes "objects") (objects transform arcs) ms)

@@ -29,7 +29,7 @@ use Rattle.topojson_types.proofs.ByKind.{geometrical_at}
 use Rattle.topojson_meaning.specs.Bounds.{objects_features, feature_nesting}
 use Rattle.topojson_meaning.specs.Laws.{ValueNests}
 use Rattle.topojson_meaning.proofs.ShapeKinds.{geometrical-group, written_members}
-use Rattle.list_laws.proofs.Elements.{all_append, all_weaker}
+use Rattle.owned_values.proofs.Elements.{all_append, all_weaker}
 
 -- ---- lists
 
@@ -185,8 +185,8 @@ unfolding topology_value
 topology_depth t n h =
     let os = object_below (2 + n) (map (λ o. (o.0, object_value (cell_value t.transform) o.1)) t.objects) (objects_below (cell_places t.transform) t.objects n h) in
     let arcs = arcs_below t.transform t.arcs in
-    let behind : Members = (codes "objects", objects_value (cell_value t.transform) t.objects) ∷ ((codes "arcs", arcs_value t.transform t.arcs) ∷ []) in
-    let later = all_append (λ m. depth m.1 ≤ 3 + n) (members_of_bounds (bounds t)) behind (bounds_below (bounds t) (3 + n) (omega arith)) (omega arith, (omega arith, tt)) in
-    let members = all_append (λ m. depth m.1 ≤ 3 + n) (members_of_transform t.transform) (members_of_bounds (bounds t) ++ behind) (transform_below t.transform (3 + n) (omega arith)) later in
+    let following : Members = (codes "objects", objects_value (cell_value t.transform) t.objects) ∷ ((codes "arcs", arcs_value t.transform t.arcs) ∷ []) in
+    let later = all_append (λ m. depth m.1 ≤ 3 + n) (members_of_bounds (bounds t)) following (bounds_below (bounds t) (3 + n) (omega arith)) (omega arith, (omega arith, tt)) in
+    let members = all_append (λ m. depth m.1 ≤ 3 + n) (members_of_transform t.transform) (members_of_bounds (bounds t) ++ following) (transform_below t.transform (3 + n) (omega arith)) later in
     let whole = object_below (3 + n) (written_members t) (text_flat (3 + n) (codes "Topology"), members) in
     omega (arith, whole)

@@ -15,9 +15,9 @@ use Rattle.json_value.proofs.NumbersOf.{numbers-null, numbers-number, numbers-te
 use Rattle.geometry.specs.Lists.{joined}
 use Rattle.geometry.specs.Points.{Point, IsWithin}
 use Rattle.geometry.specs.Units.{cell_limit, position_limit, unit_places}
-use Rattle.geometry.specs.Pruning.{strokes, option_strokes}
+use Rattle.geometry.specs.Pruning.{lines_and_rings, option_lines_and_rings}
 use Rattle.geometry.proofs.Agreement.{all_left, all_right, all_of_map}
-use Rattle.geometry.proofs.Cases.{strokes-line, strokes-lines, strokes-area, strokes-areas, strokes-group}
+use Rattle.geometry.proofs.Cases.{lines_and_rings-line, lines_and_rings-lines, lines_and_rings-area, lines_and_rings-areas, lines_and_rings-group}
 use Rattle.geometry.proofs.Induction.{by_kinds}
 use Rattle.topojson_types.specs.declared.feature.TopoFeature.{TopoFeature}
 use Rattle.topojson_types.specs.declared.object.TopoObject.{TopoObject}
@@ -27,7 +27,7 @@ use Rattle.topojson_types.specs.Differences.{difference, deltas_from, deltas}
 use Rattle.topojson_types.specs.TransformNumbers.{transform_value, IsTransformNumber}
 use Rattle.topojson_types.specs.Transforms.{grid_limit, origin}
 use Rattle.topojson_types.specs.Bounds.{Corners, bounds}
-use Rattle.topojson_types.specs.Topologies.{TopoShape, object_features, features_strokes, objects_strokes}
+use Rattle.topojson_types.specs.Topologies.{TopoShape, object_features, features_lines_and_rings, objects_lines_and_rings}
 use Rattle.topojson_types.specs.Validity.{IsPlace, IsTransformed, IsArc, IsFeature, IsObject, AreInRange, places}
 use Rattle.topojson_types.specs.Values.{Members, Geometrical, number_value, position_value, cell_places, cell_value, arc_value, line_value, lines_value, typed, inner_value, geometrical, feature_value, object_value, pair_value, members_of_transform, members_of_bounds, arcs_value, topology_value}
 use Rattle.topojson_types.proofs.Boxes.{AreCorners, corners_are}
@@ -36,7 +36,7 @@ use Rattle.topojson_meaning.specs.Bounds.{objects_features, FeatureHasNumbers}
 use Rattle.topojson_meaning.specs.Laws.{ValueHasNumbers}
 use Rattle.topojson_meaning.proofs.LinesBack.{magnitude}
 use Rattle.topojson_meaning.proofs.ShapeKinds.{geometrical-group, written_members}
-use Rattle.list_laws.proofs.Elements.{all_append, all_map, all_weaker}
+use Rattle.owned_values.proofs.Elements.{all_append, all_map, all_weaker}
 
 -- ---- lists
 
@@ -112,7 +112,7 @@ module _ (n : ℕ) (few : n < 2 ^ 63) (transform : Option Transform) where
   cell p = cell_value transform p
 
   abbrev Written : TopoShape → Type 0
-  Written s = AllByRecursion (IsPlace transform) (places s) → AllByRecursion Ranged (strokes s) → IsNumbered (geometrical cell s)
+  Written s = AllByRecursion (IsPlace transform) (places s) → AllByRecursion Ranged (lines_and_rings s) → IsNumbered (geometrical cell s)
 
   typed_numbers : (type key : List ℕ) (v : Json) → HasNumbers v → IsNumbered (typed type key v)
   typed_numbers type key v h = (text_numbers type, (h, tt))
@@ -121,7 +121,7 @@ module _ (n : ℕ) (few : n < 2 ^ 63) (transform : Option Transform) where
   ranged_areas [] h = tt
   ranged_areas (rs ∷ areas) h = search (all_of_map, all_left, all_right, ranged_areas areas)
 
-  members_numbers : (ss : List TopoShape) → AllByRecursion Written ss → AllByRecursion (IsPlace transform) (joined (map places ss)) → AllByRecursion Ranged (joined (map strokes ss))
+  members_numbers : (ss : List TopoShape) → AllByRecursion Written ss → AllByRecursion (IsPlace transform) (joined (map places ss)) → AllByRecursion Ranged (joined (map lines_and_rings ss))
       → AllByRecursion (λ s. HasNumbers (inner_value (geometrical cell s))) ss
   members_numbers [] all h k = tt
   members_numbers (s ∷ ss) all h k = grind (
@@ -130,7 +130,7 @@ module _ (n : ℕ) (few : n < 2 ^ 63) (transform : Option Transform) where
     all_left,
     all_right,
     members_numbers ss all.1 (all_right
-        (IsPlace transform) (places s) (joined (map places ss)) h) (all_right Ranged (strokes s) (joined (map strokes ss)) k),
+        (IsPlace transform) (places s) (joined (map places ss)) h) (all_right Ranged (lines_and_rings s) (joined (map lines_and_rings ss)) k),
   )
 
   shape_numbers : (s : TopoShape) → Written s
@@ -138,35 +138,35 @@ module _ (n : ℕ) (few : n < 2 ^ 63) (transform : Option Transform) where
     point = λ p h k. rw ((geometrical_at cell).point p) (typed_numbers (codes "Point") (codes "coordinates") (cell p) (cell_numbers transform p (subst (AllByRecursion (IsPlace transform)) (places_at.point p) h).0));
     points = λ ps h k. rw ((geometrical_at cell).points ps)
         (typed_numbers (codes "MultiPoint") (codes "coordinates") (j.Array (map cell ps)) (cells_numbers transform ps (subst (AllByRecursion (IsPlace transform)) (places_at.points ps) h)));
-    line = λ refs h k. rw ((geometrical_at cell).line refs) (typed_numbers (codes "LineString") (codes "arcs") (line_value refs) (line_numbers refs (subst (AllByRecursion Ranged) (strokes-line Point (List ℤ) refs) k).0));
+    line = λ refs h k. rw ((geometrical_at cell).line refs) (typed_numbers (codes "LineString") (codes "arcs") (line_value refs) (line_numbers refs (subst (AllByRecursion Ranged) (lines_and_rings-line Point (List ℤ) refs) k).0));
     lines = λ ls h k. rw ((geometrical_at cell).lines ls)
-        (typed_numbers (codes "MultiLineString") (codes "arcs") (lines_value ls) (lines_numbers ls (all_of_map Ranged (λ l. (false, l)) ls (subst (AllByRecursion Ranged) (strokes-lines Point (List ℤ) ls) k))));
+        (typed_numbers (codes "MultiLineString") (codes "arcs") (lines_value ls) (lines_numbers ls (all_of_map Ranged (λ l. (false, l)) ls (subst (AllByRecursion Ranged) (lines_and_rings-lines Point (List ℤ) ls) k))));
     area = λ rs h k. rw ((geometrical_at cell).area rs)
-        (typed_numbers (codes "Polygon") (codes "arcs") (lines_value rs) (lines_numbers rs (all_of_map Ranged (λ l. (true, l)) rs (subst (AllByRecursion Ranged) (strokes-area Point (List ℤ) rs) k))));
+        (typed_numbers (codes "Polygon") (codes "arcs") (lines_value rs) (lines_numbers rs (all_of_map Ranged (λ l. (true, l)) rs (subst (AllByRecursion Ranged) (lines_and_rings-area Point (List ℤ) rs) k))));
     areas = λ areas h k. rw ((geometrical_at cell).areas areas)
-        (typed_numbers (codes "MultiPolygon") (codes "arcs") (j.Array (map lines_value areas)) (areas_numbers areas (ranged_areas areas (subst (AllByRecursion Ranged) (strokes-areas Point (List ℤ) areas) k))));
+        (typed_numbers (codes "MultiPolygon") (codes "arcs") (j.Array (map lines_value areas)) (areas_numbers areas (ranged_areas areas (subst (AllByRecursion Ranged) (lines_and_rings-areas Point (List ℤ) areas) k))));
     group = λ ss all h k.
-        let m = members_numbers ss all (subst (AllByRecursion (IsPlace transform)) (places_at.group ss) h) (subst (AllByRecursion Ranged) (strokes-group Point (List ℤ) ss) k) in
+        let m = members_numbers ss all (subst (AllByRecursion (IsPlace transform)) (places_at.group ss) h) (subst (AllByRecursion Ranged) (lines_and_rings-group Point (List ℤ) ss) k) in
         rw (geometrical-group cell ss) (typed_numbers (codes "GeometryCollection") (codes "geometries") _ (array_numbers (λ s. inner_value (geometrical cell s)) ss m));
   })
 
   -- ---- features and objects
 
-  feature_numbers : (f : TopoFeature) → IsFeature transform f → AllByRecursion Ranged (option_strokes f.shape) → FeatureHasNumbers f → HasNumbers (feature_value cell f)
+  feature_numbers : (f : TopoFeature) → IsFeature transform f → AllByRecursion Ranged (option_lines_and_rings f.shape) → FeatureHasNumbers f → HasNumbers (feature_value cell f)
   feature_numbers f h k m = grind (arith, numbers-null, shape_numbers, object_numbers, all_append, text_numbers, number_numbers)
 
-  features_numbers : (fs : List TopoFeature) → AllByRecursion (IsFeature transform) fs → AllByRecursion Ranged (features_strokes fs) → AllByRecursion FeatureHasNumbers fs → AllByRecursion (λ f. HasNumbers (feature_value cell f)) fs
+  features_numbers : (fs : List TopoFeature) → AllByRecursion (IsFeature transform) fs → AllByRecursion Ranged (features_lines_and_rings fs) → AllByRecursion FeatureHasNumbers fs → AllByRecursion (λ f. HasNumbers (feature_value cell f)) fs
   features_numbers [] h k m = tt
   features_numbers (f ∷ fs) h k m =
-      (feature_numbers f h.0 (all_left Ranged (option_strokes f.shape) (features_strokes fs) k) m.0, features_numbers fs h.1 (all_right Ranged (option_strokes f.shape) (features_strokes fs) k) m.1)
+      (feature_numbers f h.0 (all_left Ranged (option_lines_and_rings f.shape) (features_lines_and_rings fs) k) m.0, features_numbers fs h.1 (all_right Ranged (option_lines_and_rings f.shape) (features_lines_and_rings fs) k) m.1)
 
-  object_value_numbers : (o : TopoObject) → IsObject transform o → AllByRecursion Ranged (features_strokes (object_features o)) → AllByRecursion FeatureHasNumbers (object_features o) → HasNumbers (object_value cell o)
-  object_value_numbers (One f) h k m = feature_numbers f h.0 (all_left Ranged (option_strokes f.shape) [] k) m.0
+  object_value_numbers : (o : TopoObject) → IsObject transform o → AllByRecursion Ranged (features_lines_and_rings (object_features o)) → AllByRecursion FeatureHasNumbers (object_features o) → HasNumbers (object_value cell o)
+  object_value_numbers (One f) h k m = feature_numbers f h.0 (all_left Ranged (option_lines_and_rings f.shape) [] k) m.0
   object_value_numbers (Many fs) h k m =
       object_numbers ((codes "type", j.Text (codes "GeometryCollection")) ∷ ((codes "geometries", j.Array (map (feature_value cell) fs)) ∷ []))
       (text_numbers (codes "GeometryCollection"), (array_numbers (feature_value cell) fs (features_numbers fs h k m), tt))
 
-  objects_numbers : (os : List (List ℕ × TopoObject)) → AllByRecursion (λ o. IsObject transform o.1) os → AllByRecursion Ranged (objects_strokes os) → AllByRecursion FeatureHasNumbers (objects_features os)
+  objects_numbers : (os : List (List ℕ × TopoObject)) → AllByRecursion (λ o. IsObject transform o.1) os → AllByRecursion Ranged (objects_lines_and_rings os) → AllByRecursion FeatureHasNumbers (objects_features os)
       → Numbered (map (λ o. (o.0, object_value cell o.1)) os)
   objects_numbers [] h k m = tt
   objects_numbers (o ∷ os) h k m = grind (arith, object_value_numbers, all_left, all_right, objects_numbers os h.1)

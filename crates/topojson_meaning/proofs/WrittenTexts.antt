@@ -12,7 +12,7 @@ use Rattle.geometry.specs.Points.{Point}
 use Rattle.geometry.specs.Units.{unit_places}
 use Rattle.geojson_types.specs.Numbers.{PropertiesHaveNumbers}
 use Rattle.geojson_types.specs.Texts.{PropertiesHaveTexts}
-use Rattle.list_laws.proofs.Elements.{all_append, all_left, all_right, all_two, all_parts, all_map, all_of_map, all_weaker}
+use Rattle.owned_values.proofs.Elements.{all_append, all_left, all_right, all_two, all_parts, all_map, all_of_map, all_weaker}
 use Rattle.topojson_types.specs.declared.feature.TopoFeature.{TopoFeature}
 use Rattle.topojson_types.specs.declared.object.TopoObject.{TopoObject}
 use Rattle.topojson_types.specs.declared.object.TopoObject.TheVariants.{One, Many}
@@ -28,7 +28,7 @@ use Rattle.topojson_meaning.specs.Laws.{FeaturesHaveNumbers}
 use Rattle.topojson_meaning.specs.Texts.{FeatureHasTexts, ContentsHaveTexts}
 use Rattle.topojson_meaning.proofs.ShapeKinds.{geometrical-group, written_members}
 use Rattle.topojson_meaning.proofs.WrittenNumbers.{transform_text}
-use Rattle.list_laws.proofs.Lists.{map_agree}
+use Rattle.owned_values.proofs.Lists.{map_agree}
 
 -- the names of all members are UTF-8, and so are the parts of their values
 abbrev Texted : Members → Type 0

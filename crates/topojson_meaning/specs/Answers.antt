@@ -1,8 +1,8 @@
 -- How what a function answers relates to what a definition gives. Want of memory leaves it open.
 use Rattle.std.specs.Prelude.{Result}
 use Rattle.geojson_types.specs.declared.counts.Counts.{Counts}
-use Rattle.json_members.specs.Answers.{GivesUnless}
-pub use Rattle.json_members.specs.Answers.{Finds}
+use Rattle.json_value.specs.Answers.{GivesUnless}
+pub use Rattle.json_value.specs.Answers.{Finds}
 use Rattle.topojson_meaning.specs.declared.fault.TopoFault.{TopoFault}
 use Rattle.topojson_meaning.specs.declared.fault.TopoFault.TheVariants.{Memory}
 use Rattle.topojson_meaning.specs.Reader.{Reader}

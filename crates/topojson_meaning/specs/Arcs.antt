@@ -88,11 +88,11 @@ abbrev pub difference_limit : ℕ
 difference_limit = 2 ^ 32
 
 -- cells, each the difference from the one before, and the first from this one
-unfoldable pub cells_behind : Transform → Point → List Json → Reader (List Point)
-cells_behind t before [] = give []
-cells_behind t before (v ∷ vs) = do
+unfoldable pub cells_after : Transform → Point → List Json → Reader (List Point)
+cells_after t before [] = give []
+cells_after t before (v ∷ vs) = do
   c ← cell t difference_limit before v
-  cs ← cells_behind t c vs
+  cs ← cells_after t c vs
   give (c ∷ cs)
 
 -- ---- places
@@ -112,7 +112,7 @@ place transform v = do
 -- the cells of an arc with these elements; with a transform the first cell and then differences
 unfoldable pub arc_cells : Option Transform → List Json → Reader (List Point)
 arc_cells None vs = each position vs
-arc_cells (Some t) vs = cells_behind t origin vs
+arc_cells (Some t) vs = cells_after t origin vs
 
 -- two or more
 abbrev pub as_arc : List Point → Reader (List Point)

@@ -58,12 +58,12 @@ abbrev pub joined_to : List (List Point) → ℤ → ℤ → Reader ℤ
 joined_to arcs before i = if meets arcs before i then give i else fail Unjoined
 
 -- the indexes of a line after this one, each joined to the one before
-unfoldable pub indexes_behind : List (List Point) → ℤ → List Json → Reader (List ℤ)
-indexes_behind arcs before [] = give []
-indexes_behind arcs before (v ∷ vs) = do
+unfoldable pub indexes_after : List (List Point) → ℤ → List Json → Reader (List ℤ)
+indexes_after arcs before [] = give []
+indexes_after arcs before (v ∷ vs) = do
   j ← index (length arcs) v
   i ← joined_to arcs before j
-  refs ← indexes_behind arcs i vs
+  refs ← indexes_after arcs i vs
   give (i ∷ refs)
 
 -- the indexes of a line
@@ -71,7 +71,7 @@ unfoldable pub indexes : List (List Point) → List Json → Reader (List ℤ)
 indexes arcs [] = give []
 indexes arcs (v ∷ vs) = do
   i ← index (length arcs) v
-  refs ← indexes_behind arcs i vs
+  refs ← indexes_after arcs i vs
   give (i ∷ refs)
 
 -- where the arc of the first index begins

@@ -2,11 +2,11 @@
 use Rattle.std.specs.Prelude.{ℕ, List, Option, Result}
 use Rattle.json_value.specs.declared.json.Json.{Json}
 use Rattle.json_value.specs.Kinds.{array_of, object_of}
-use Rattle.json_members.specs.declared.fault.LookupFault.{LookupFault}
-use Rattle.json_members.specs.declared.fault.LookupFault.TheVariants as of_lookup
-use Rattle.json_members.specs.Members as members_by
-pub use Rattle.json_members.specs.Members.{Members}
-unfoldable pub use Rattle.json_members.specs.Members.{named}
+use Rattle.json_value.specs.declared.fault.LookupFault.{LookupFault}
+use Rattle.json_value.specs.declared.fault.LookupFault.TheVariants as of_lookup
+use Rattle.json_value.specs.Members as members_by
+pub use Rattle.json_value.specs.Members.{Members}
+unfoldable pub use Rattle.json_value.specs.Members.{named}
 use Rattle.topojson_meaning.specs.declared.fault.TopoFault.{TopoFault}
 use Rattle.topojson_meaning.specs.declared.fault.TopoFault.TheVariants.{Missing, Duplicate, WrongKind}
 use Rattle.topojson_meaning.specs.Reader.{Reader, ◌>>=◌, pure, or_fail, with_fault}

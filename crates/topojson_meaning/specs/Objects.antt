@@ -48,16 +48,16 @@ abbrev pub new_name : List (List ℕ) → List ℕ → Reader (List ℕ)
 new_name met name = if is_met name met then fail Duplicate else give name
 
 -- the objects by name in order, after those of the names that were met
-unfoldable pub objects_behind : Option Transform → List (List Point) → List (List ℕ) → Members → Reader (List (List ℕ × TopoObject))
-objects_behind transform arcs met [] = give []
-objects_behind transform arcs met (m ∷ ms) = do
+unfoldable pub objects_after : Option Transform → List (List Point) → List (List ℕ) → Members → Reader (List (List ℕ × TopoObject))
+objects_after transform arcs met [] = give []
+objects_after transform arcs met (m ∷ ms) = do
   name ← new_name met m.0
   o ← object transform arcs m.1
-  os ← objects_behind transform arcs (name ∷ met) ms
+  os ← objects_after transform arcs (name ∷ met) ms
   give ((name, o) ∷ os)
 
 -- the objects by name in order
 unfoldable pub objects : Option Transform → List (List Point) → Json → Reader (List (List ℕ × TopoObject))
 objects transform arcs v = do
   ms ← pure (members v)
-  objects_behind transform arcs [] ms
+  objects_after transform arcs [] ms

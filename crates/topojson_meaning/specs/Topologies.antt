@@ -27,8 +27,8 @@ contents_on transform ms = do
   give (record { objects = os; arcs = arcs; transform = transform })
 
 -- the topology with these members, after its type
-abbrev pub contents_behind : Members → Reader Contents
-contents_behind ms = do
+abbrev pub contents_after : Members → Reader Contents
+contents_after ms = do
   r ← pure (find (codes "transform") ms)
   transform ← transform_if r
   contents_on transform ms
@@ -39,7 +39,7 @@ contents ms = do
   t ← pure (need (codes "type") ms)
   name ← pure (or_fail WrongKind (text_of t))
   _ ← topology_type name
-  contents_behind ms
+  contents_after ms
 
 -- the topology of a value
 unfoldable pub value_contents : Json → Reader Contents

@@ -2,7 +2,7 @@ ghost use Rattle.std.specs.Prelude.{◌≡◌};
 ghost use Rattle.topojson_meaning.specs.Faults as spec;
 
 use byte_ends::Memory;
-use json_members::LookupFault;
+use json_value::LookupFault;
 use std::alloc::AllocFailed;
 use thiserror::Error;
 

@@ -4,8 +4,8 @@ use Rattle.std.proofs.lemmas.Int.{ints, clamps}
 use Rattle.std.proofs.lemmas.List.{at_drop_all, map-id}
 use Rattle.std.specs.Int.{int_min, int_max}
 use Rattle.std.specs.List.{AllByRecursion, fold}
-use Rattle.list_laws.proofs.Elements.{all_append, all_joined, all_map, all_parts, all_weaker}
-use Rattle.list_laws.proofs.Lists.{drop_here}
+use Rattle.owned_values.proofs.Elements.{all_append, all_joined, all_map, all_parts, all_weaker}
+use Rattle.owned_values.proofs.Lists.{drop_here}
 use Rattle.geometry.specs.Lists.{joined}
 use Rattle.geometry.specs.Points.{Point, IsPosition}
 use Rattle.geometry.specs.Units.{position_limit}

@@ -1,7 +1,7 @@
 -- The parts of joined lists, and the members of a group.
 use Rattle.std.proofs.Common.{◌≡◌, ℕ, zero, suc, ◌<◌, ◌≤◌, List, [], ◌∷◌, map, length, get_or, arith}
 use Rattle.std.specs.List.{AllByRecursion}
-use Rattle.list_laws.proofs.Elements.{all_at, all_left, all_right}
+use Rattle.owned_values.proofs.Elements.{all_at, all_left, all_right}
 use Rattle.json_value.specs.Depth.{greatest}
 use Rattle.geometry.specs.declared.shape.Geometry.TheVariants as g
 use Rattle.geometry.specs.Lists.{joined}

@@ -3,8 +3,8 @@ use Rattle.std.proofs.Common.{◌≡◌, ℕ, ◌+◌, ◌<◌, ◌≤◌, false
 use Rattle.std.proofs.lemmas.Int.{ints}
 use Rattle.std.proofs.lemmas.List.{at_drop_all}
 use Rattle.std.specs.List.{AllByRecursion, list_all}
-use Rattle.list_laws.proofs.Elements.{all_at}
-use Rattle.list_laws.proofs.Lists.{drop_here}
+use Rattle.owned_values.proofs.Elements.{all_at}
+use Rattle.owned_values.proofs.Lists.{drop_here}
 use Rattle.geometry.specs.Points.{Point, IsPosition}
 use Rattle.topojson_types.specs.Transforms.{is_within, grid_limit, moved, origin, sums_from, sums}
 use Rattle.topojson_types.specs.Differences.{difference, deltas_from, deltas, SumsOfDeltas}

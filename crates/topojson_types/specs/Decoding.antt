@@ -10,7 +10,7 @@ use Rattle.topojson_types.specs.declared.feature.TopoFeature.{TopoFeature}
 use Rattle.topojson_types.specs.declared.object.TopoObject.{TopoObject}
 use Rattle.topojson_types.specs.declared.object.TopoObject.TheVariants.{One, Many}
 use Rattle.topojson_types.specs.declared.transform.Transform.{Transform}
-use Rattle.geometry.specs.Joins.{arc_at, rejoined}
+use Rattle.geometry.specs.Joins.{arc_at, stitched}
 use Rattle.topojson_types.specs.Topologies.{TopoShape, Contents}
 use Rattle.topojson_types.specs.Transforms.{place, place_on}
 
@@ -30,7 +30,7 @@ completed closed ps = if closed then filled ps else ps
 
 -- the positions of the arcs that the indexes name, forwards or reversed, in a row
 abbrev pub decoded_line : List (List Point) → Bool → List ℤ → List Point
-decoded_line arcs closed refs = completed closed (rejoined (map (arc_at arcs) refs))
+decoded_line arcs closed refs = completed closed (stitched (map (arc_at arcs) refs))
 
 -- each cell as where it lies, and each line and ring as the positions of its arcs
 abbrev pub decoded_shape : (Point → Point) → List (List Point) → TopoShape → Option Shape

@@ -3,7 +3,7 @@ use Rattle.std.specs.Prelude.{ℕ, ℤ, Bool, List, [], ◌∷◌, Option, map}
 use Rattle.geometry.specs.declared.shape.Geometry.{Geometry}
 use Rattle.geometry.specs.Lists.{joined}
 use Rattle.geometry.specs.Points.{Point}
-use Rattle.geometry.specs.Pruning.{option_strokes}
+use Rattle.geometry.specs.Pruning.{option_lines_and_rings}
 use Rattle.topojson_types.specs.declared.feature.TopoFeature.{TopoFeature}
 use Rattle.topojson_types.specs.declared.object.TopoObject.{TopoObject}
 use Rattle.topojson_types.specs.declared.object.TopoObject.TheVariants.{One, Many}
@@ -25,9 +25,9 @@ object_features (One f) = f ∷ []
 object_features (Many fs) = fs
 
 -- the open lines (false) and the rings (true) of features, as their arc indexes, in reading order
-abbrev pub features_strokes : List TopoFeature → List (Bool × List ℤ)
-features_strokes fs = joined (map (λ f. option_strokes f.shape) fs)
+abbrev pub features_lines_and_rings : List TopoFeature → List (Bool × List ℤ)
+features_lines_and_rings fs = joined (map (λ f. option_lines_and_rings f.shape) fs)
 
 -- the open lines (false) and the rings (true) of all objects, as their arc indexes, in reading order
-abbrev pub objects_strokes : List (List ℕ × TopoObject) → List (Bool × List ℤ)
-objects_strokes os = joined (map (λ o. features_strokes (object_features o.1)) os)
+abbrev pub objects_lines_and_rings : List (List ℕ × TopoObject) → List (Bool × List ℤ)
+objects_lines_and_rings os = joined (map (λ o. features_lines_and_rings (object_features o.1)) os)

@@ -1,7 +1,7 @@
 -- Which topologies are valid: TopoJSON 1.0, section 2.
 use Rattle.std.specs.Prelude.{◌≡◌, ◌≤◌, ℕ, ℤ, Bool, true, false, ◌&&◌, List, [], ◌∷◌, Option, None, Some, length, map}
 use Rattle.std.specs.List.{AllByRecursion, list_all}
-pub use Rattle.list_laws.specs.Lists.{AreDistinct}
+pub use Rattle.owned_values.specs.Lists.{AreDistinct}
 use Rattle.geometry.specs.declared.shape.Geometry.{fold-Geometry}
 use Rattle.geometry.specs.declared.shape.Geometry.TheOpen.{Geometry-F}
 use Rattle.geojson_types.specs.Features.{is_some_list}
@@ -13,7 +13,7 @@ use Rattle.topojson_types.specs.declared.object.TopoObject.TheVariants.{One, Man
 use Rattle.topojson_types.specs.declared.transform.Transform.{Transform}
 pub use Rattle.geometry.specs.Joins.{AreInRange}
 use Rattle.geometry.specs.Joins.{arc_at, Meet, Closes}
-use Rattle.topojson_types.specs.Topologies.{TopoShape, Contents, object_features, objects_strokes}
+use Rattle.topojson_types.specs.Topologies.{TopoShape, Contents, object_features, objects_lines_and_rings}
 use Rattle.topojson_types.specs.Transforms.{grid_limit, place_on, IsTransform}
 
 -- ---- shapes
@@ -121,6 +121,6 @@ pub record IsTopology (t : Contents) : Type 0 where
   pub transform : IsTransformed t.transform
   pub objects : AllByRecursion (λ o. IsObject t.transform o.1) t.objects
   pub arcs : AllByRecursion (IsArc t.transform) t.arcs
-  pub ranged : AllByRecursion (λ b. AreInRange (length t.arcs) b.1) (objects_strokes t.objects)
-  pub joined : AllByRecursion (IsJoined t.arcs) (objects_strokes t.objects)
-  pub closed : AllByRecursion (IsClosed t.arcs) (objects_strokes t.objects)
+  pub ranged : AllByRecursion (λ b. AreInRange (length t.arcs) b.1) (objects_lines_and_rings t.objects)
+  pub joined : AllByRecursion (IsJoined t.arcs) (objects_lines_and_rings t.objects)
+  pub closed : AllByRecursion (IsClosed t.arcs) (objects_lines_and_rings t.objects)

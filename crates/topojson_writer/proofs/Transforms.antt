@@ -2,7 +2,7 @@
 use Rattle.std.proofs.Common.{◌≡◌, ℕ, ◌+◌, ◌<◌, ◌≤◌, Bool, false, List, [], ◌∷◌, ◌++◌, length, get_or, drop, map, ap, ◌∙◌, append_assoc, Some}
 use Rattle.std.specs.Prelude.{codes}
 use Rattle.std.proofs.lemmas.List.{at_drop_all}
-use Rattle.list_laws.specs.Commas.{comma_unless, with_commas}
+use Rattle.owned_values.specs.Commas.{comma_unless, with_commas}
 use Rattle.byte_ends.proofs.Parts.{list_left}
 use Rattle.json_value.specs.declared.json.Json.{Json}
 use Rattle.json_value.specs.declared.json.Json.TheVariants as j
@@ -41,8 +41,8 @@ transform_member-text t = member-alone (codes "transform") (transform_object t) 
 -- ---- arcs on a grid, in front of a cell
 
 module _ (text_of : Point → List ℕ) (closing : List ℕ) (is_first : Bool) (cells : List Point) (i : ℕ) (before : Point) where
-  regrouped : (comma text behind : List ℕ) → (comma ++ (text ++ behind)) ++ closing ≡ (comma ++ text) ++ (behind ++ closing)
-  regrouped comma text behind = simp append_assoc
+  regrouped : (comma text following : List ℕ) → (comma ++ (text ++ following)) ++ closing ≡ (comma ++ text) ++ (following ++ closing)
+  regrouped comma text following = simp append_assoc
 
   pub cell-goes : (c : Point) → i < length cells → c ≡ get_or cells i c → list_left text_of closing is_first (deltas_from before (drop i cells))
       ≡ (comma_unless is_first ++ text_of (difference before c)) ++ list_left text_of closing false (deltas_from c (drop (i + 1) cells))

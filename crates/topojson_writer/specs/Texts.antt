@@ -1,6 +1,6 @@
 -- The texts of a geometry object and of a topology (TopoJSON 1.0, sections 2.1 and 2.2) part by part, as they are written.
 use Rattle.std.specs.Prelude.{ℕ, false, List, [], ◌∷◌, ◌++◌, map, codes}
-use Rattle.list_laws.specs.Commas.{with_commas}
+use Rattle.owned_values.specs.Commas.{with_commas}
 use Rattle.json_value.specs.declared.json.Json.{Json}
 use Rattle.json_value.specs.declared.json.Json.TheVariants as j
 use Rattle.json_value.specs.Text.{json_text, name_text, member_text}

@@ -1,6 +1,6 @@
 // Arcs on a grid as they are written (TopoJSON 1.0, section 2.1.3).
 ghost use Rattle.std.specs.Prelude.{◌++◌, map};
-ghost use Rattle.list_laws.specs.Commas.{comma_unless};
+ghost use Rattle.owned_values.specs.Commas.{comma_unless};
 ghost use Rattle.byte_ends.specs.Continues.{Continues};
 ghost use Rattle.json_value.specs.Text.{json_text};
 ghost use Rattle.json_value.specs.declared.json.Json.TheVariants as j;
@@ -10,7 +10,7 @@ ghost use Rattle.topojson_types.specs.Values.{position_value};
 
 use byte_ends::{Drain, Progress, Sink};
 use json_value::Items;
-use json_writer::{PutValue, ShortText, hold_pair, put_behind_held};
+use json_writer::{PutValue, ShortText, hold_pair, put_after_held};
 use topojson_types::Cell;
 
 /// Holds how far a cell lies from the one before, as an element of a list.
@@ -43,7 +43,7 @@ fn put_differences<W: Drain>(cells: &[Cell], so_far: Progress, sink: &mut Sink<W
         is_first = false;
         before = *cell;
     }
-    put_behind_held(b"]", &mut held, so_far, sink)
+    put_after_held(b"]", &mut held, so_far, sink)
 }
 
 /// The way to write an arc of a topology with a transform.

@@ -8,8 +8,7 @@ ghost use Rattle.topojson_writer.specs.Texts.{type_text, members_text};
 use crate::shape_writer::{put_parts, put_type};
 use byte_ends::{Drain, Progress, Sink, put_part};
 use geojson_types::{Id, Properties};
-use json_writer::{PutValue, put_text};
-use properties_writer::put_properties;
+use json_writer::{PutValue, put_properties, put_text};
 use std::marker::PhantomData;
 use topojson_types::{Cell, TopoFeature, TopoShape};
 

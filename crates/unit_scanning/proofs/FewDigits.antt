@@ -10,17 +10,17 @@ one_more : (ds : List ℕ) (d : ℕ) → AllDigits ds → is_digit d ≡ true �
 one_more [] d h is = (is, tt)
 one_more (b ∷ bs) d h is = (h.0, one_more bs d h.1 is)
 
-pub digits_go_on : (bytes : List ℕ) (start value longer count : ℕ) (rest behind : List ℕ) → AreDigits bytes start value count rest → IsDigitFirst rest value longer behind → AreDigits bytes start longer (count + 1) behind
-digits_go_on bytes start value longer count rest behind a f = record {
+pub digits_go_on : (bytes : List ℕ) (start value longer count : ℕ) (rest following : List ℕ) → AreDigits bytes start value count rest → IsDigitFirst rest value longer following → AreDigits bytes start longer (count + 1) following
+digits_go_on bytes start value longer count rest following a f = record {
   digits = a.digits ++ f.digit ∷ [];
   all = one_more a.digits f.digit a.all f.is;
-  text = a.text ∙ ap (λ r. a.digits ++ r) f.text ∙ sym (append_assoc a.digits (f.digit ∷ []) behind);
+  text = a.text ∙ ap (λ r. a.digits ++ r) f.text ∙ sym (append_assoc a.digits (f.digit ∷ []) following);
   value_is = f.value_is ∙ ap (λ v. 10 * v + (f.digit - 48)) a.value_is ∙ sym (digits_value_after-append start a.digits (f.digit ∷ []));
   count_is = let l = length-append a.digits (f.digit ∷ []) in omega (arith, l, a.count_is);
 }
 
-pub digits_stay_small : (start value longer count : ℕ) (rest behind : List ℕ) → value < (start + 1) * 10 ^ count → IsDigitFirst rest value longer behind → longer < (start + 1) * 10 ^ (count + 1)
-digits_stay_small start value longer count rest behind small f =
+pub digits_stay_small : (start value longer count : ℕ) (rest following : List ℕ) → value < (start + 1) * 10 ^ count → IsDigitFirst rest value longer following → longer < (start + 1) * 10 ^ (count + 1)
+digits_stay_small start value longer count rest following small f =
     let step : 10 ^ (count + 1) ≡ 10 ^ count * 10 = rw add-one (pow-suc 10 count) in
     let range = digit_range f.digit f.is in
     let is = f.value_is in

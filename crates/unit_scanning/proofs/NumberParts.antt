@@ -17,7 +17,7 @@ use Rattle.json_value.specs.Reading.{Parse, value_at, after_digits}
 use Rattle.json_reading.proofs.Ending.{Ends}
 use Rattle.json_reading.proofs.NumbersFound.{with_number}
 use Rattle.json_reading.proofs.Opened.{value_at_is}
-use Rattle.unit_scanning.specs.Numbers.{digits_front, IsFractionOf, IsNumberAt, ends, starts_digit, whole_front}
+use Rattle.unit_scanning.specs.Numbers.{digits_prefix, IsFractionOf, IsNumberAt, ends, starts_digit, whole_prefix}
 
 not_true : (b : Bool) → not b ≡ true → b ≡ false
 not_true true h = cc
@@ -27,35 +27,35 @@ all_by : (b : ℕ) (bs : List ℕ) (t : Bool) → is_digit b ≡ t → AllDigits
 all_by b bs true e h = (e, h)
 all_by b bs false e h = tt
 
-pub front_all : (bs : List ℕ) → AllDigits (digits_front bs)
-unfolding digits_front
-front_all [] = tt
-front_all (b ∷ bs) = all_by b (digits_front bs) (is_digit b) refl (front_all bs)
+pub prefix_all : (bs : List ℕ) → AllDigits (digits_prefix bs)
+unfolding digits_prefix
+prefix_all [] = tt
+prefix_all (b ∷ bs) = all_by b (digits_prefix bs) (is_digit b) refl (prefix_all bs)
 
-split_by : (b : ℕ) (bs : List ℕ) (t : Bool) → is_digit b ≡ t → bs ≡ digits_front bs ++ after_digits bs → b ∷ bs ≡ digits_front (b ∷ bs) ++ after_digits (b ∷ bs)
-unfolding digits_front after_digits
+split_by : (b : ℕ) (bs : List ℕ) (t : Bool) → is_digit b ≡ t → bs ≡ digits_prefix bs ++ after_digits bs → b ∷ bs ≡ digits_prefix (b ∷ bs) ++ after_digits (b ∷ bs)
+unfolding digits_prefix after_digits
 split_by b bs true e h = rw e (ap (λ xs. b ∷ xs) h)
 split_by b bs false e h = rw e refl
 
-pub front_split : (bs : List ℕ) → bs ≡ digits_front bs ++ after_digits bs
-unfolding digits_front after_digits
-front_split [] = refl
-front_split (b ∷ bs) = split_by b bs (is_digit b) refl (front_split bs)
+pub prefix_split : (bs : List ℕ) → bs ≡ digits_prefix bs ++ after_digits bs
+unfolding digits_prefix after_digits
+prefix_split [] = refl
+prefix_split (b ∷ bs) = split_by b bs (is_digit b) refl (prefix_split bs)
 
-front_none : (bs : List ℕ) → starts_digit bs ≡ false → digits_front bs ≡ []
-unfolding digits_front
-front_none [] h = refl
-front_none (b ∷ bs) h = rw h refl
+prefix_none : (bs : List ℕ) → starts_digit bs ≡ false → digits_prefix bs ≡ []
+unfolding digits_prefix
+prefix_none [] h = refl
+prefix_none (b ∷ bs) h = rw h refl
 
-whole_by : (b : ℕ) (bs : List ℕ) (t : Bool) → eqb b 48 ≡ t → cond t (not (starts_digit bs)) (is_digit b) ≡ true → IsWhole (digits_front (b ∷ bs))
-unfolding digits_front
+whole_by : (b : ℕ) (bs : List ℕ) (t : Bool) → eqb b 48 ≡ t → cond t (not (starts_digit bs)) (is_digit b) ≡ true → IsWhole (digits_prefix (b ∷ bs))
+unfolding digits_prefix
 whole_by b bs true e h =
     let none : starts_digit bs ≡ false = not_true (starts_digit bs) h in
     let is : b ≡ 48 = eqb-true b 48 e in
-    rw (is, front_none bs none) whole_zero
-whole_by b bs false e h = rw h (whole_digits b (digits_front bs) h e (front_all bs))
+    rw (is, prefix_none bs none) whole_zero
+whole_by b bs false e h = rw h (whole_digits b (digits_prefix bs) h e (prefix_all bs))
 
-pub whole_is : (bs : List ℕ) → whole_front bs ≡ true → IsWhole (digits_front bs)
+pub whole_is : (bs : List ℕ) → whole_prefix bs ≡ true → IsWhole (digits_prefix bs)
 whole_is [] h = cc
 whole_is (b ∷ bs) h = whole_by b bs (eqb b 48) refl h
 
@@ -107,16 +107,16 @@ found bytes t rest fits d h n e =
     ap (value_at fits d) h ∙ ap (λ (g : Parse Json). g (t ++ rest)) v.2 ∙ with_number fits v.0 v.1 n rest e
 
 -- a point, and digits
-pub fraction_found : (start value : ℕ) (bytes digits rest : List ℕ) → bytes ≡ 46 ∷ digits → value ≡ digits_value_after start (digits_front digits) → rest ≡ after_digits digits
+pub fraction_found : (start value : ℕ) (bytes digits rest : List ℕ) → bytes ≡ 46 ∷ digits → value ≡ digits_value_after start (digits_prefix digits) → rest ≡ after_digits digits
     → length digits - length rest ≢ 0 → IsFractionOf bytes start value (length digits - length rest) rest
 fraction_found start value bytes digits rest hb hv hr some =
-    let f : List ℕ = digits_front digits in
-    let split : digits ≡ f ++ rest = front_split digits ∙ ap (λ x. f ++ x) (sym hr) in
+    let f : List ℕ = digits_prefix digits in
+    let split : digits ≡ f ++ rest = prefix_split digits ∙ ap (λ x. f ++ x) (sym hr) in
     let l = ap length split in
     let places : length digits - length rest ≡ length f = omega (arith, l, length-append f rest) in
     record {
       digits = f;
-      all = front_all digits;
+      all = prefix_all digits;
       text = hb ∙ ap (λ x. 46 ∷ x) split ∙ ap (λ x. x ++ rest) (sym (some_text f (omega arith)));
       value_is = hv;
       places_are = places;
@@ -124,27 +124,27 @@ fraction_found start value bytes digits rest hb hv hr some =
 
 pub rest_shorter : (digits rest : List ℕ) → rest ≡ after_digits digits → length rest ≤ length digits
 rest_shorter digits rest h =
-    let l = ap length (front_split digits ∙ ap (λ x. digits_front digits ++ x) (sym h)) in
-    omega (arith, l, length-append (digits_front digits) rest)
+    let l = ap length (prefix_split digits ∙ ap (λ x. digits_prefix digits ++ x) (sym h)) in
+    omega (arith, l, length-append (digits_prefix digits) rest)
 
-pub number_is_at : (places limit : ℕ) (bytes front behind rest : List ℕ) (negative : Bool) (whole value tens u : ℕ) (exact : Bool)
-    → bytes ≡ sign_text negative ++ front → whole_front front ≡ true → whole ≡ digits_value_after 0 (digits_front front) → behind ≡ after_digits front
-    → IsFractionOf behind whole value tens rest → ends rest ≡ true → rounded_of negative (value * 10 ^ places) (10 ^ tens) limit ≡ Ok (record { value = signed negative u; exact = exact })
+pub number_is_at : (places limit : ℕ) (bytes prefix following rest : List ℕ) (negative : Bool) (whole value tens u : ℕ) (exact : Bool)
+    → bytes ≡ sign_text negative ++ prefix → whole_prefix prefix ≡ true → whole ≡ digits_value_after 0 (digits_prefix prefix) → following ≡ after_digits prefix
+    → IsFractionOf following whole value tens rest → ends rest ≡ true → rounded_of negative (value * 10 ^ places) (10 ^ tens) limit ≡ Ok (record { value = signed negative u; exact = exact })
     → IsNumberAt places limit bytes (signed negative u) exact rest
-number_is_at places limit bytes front behind rest negative whole value tens u exact hs hw hv hb f he hr =
-    let w : List ℕ = digits_front front in
-    let whole_part : IsWhole w = whole_is front hw in
+number_is_at places limit bytes prefix following rest negative whole value tens u exact hs hw hv hb f he hr =
+    let w : List ℕ = digits_prefix prefix in
+    let whole_part : IsWhole w = whole_is prefix hw in
     let t : List ℕ = text_of negative w f.digits in
-    let split : bytes ≡ t ++ rest = hs ∙ ap (λ x. sign_text negative ++ x) (front_split front ∙ ap (λ x. w ++ x) (sym hb ∙ f.text)) ∙ joined (sign_text negative) w (fraction_text f.digits) rest in
+    let split : bytes ≡ t ++ rest = hs ∙ ap (λ x. sign_text negative ++ x) (prefix_split prefix ∙ ap (λ x. w ++ x) (sym hb ∙ f.text)) ∙ joined (sign_text negative) w (fraction_text f.digits) rest in
     record {
       text = t;
-      front = λ fits d. found bytes t rest fits d split (number_is negative w f.digits whole_part f.all) (ends_are rest he);
+      prefix = λ fits d. found bytes t rest fits d split (number_is negative w f.digits whole_part f.all) (ends_are rest he);
       scaled = scales places limit negative w f.digits value u exact (f.value_is ∙ ap (λ n. digits_value_after n f.digits) hv) (subst (λ n. rounded_of negative (value * 10 ^ places) (10 ^ n) limit ≡ Ok (record { value = signed negative u; exact = exact })) f.places_are hr) whole_part f.all;
     }
 
 -- no fraction
-pub no_fraction_of : (behind : List ℕ) (whole : ℕ) → IsFractionOf behind whole whole 0 behind
-no_fraction_of behind whole = record { digits = []; all = tt; text = refl; value_is = refl; places_are = refl }
+pub no_fraction_of : (following : List ℕ) (whole : ℕ) → IsFractionOf following whole whole 0 following
+no_fraction_of following whole = record { digits = []; all = tt; text = refl; value_is = refl; places_are = refl }
 
 pub whole_scales : (negative : Bool) (size limit : ℕ) → size ≤ limit → rounded_of negative (size * 10 ^ 0) (10 ^ 0) limit ≡ Ok (record { value = signed negative size; exact = true })
 whole_scales negative size limit small = rounded_of-whole negative 1 size limit (omega arith) small

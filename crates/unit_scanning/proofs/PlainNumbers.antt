@@ -9,16 +9,16 @@ use Rattle.decimal_text.specs.Grammar.{is_digit, AllDigits}
 use Rattle.decimal_text.specs.Parts.{sign_text, fraction_text}
 use Rattle.decimal_text.specs.Rounding.{signed}
 use Rattle.geometry.specs.Units.{unit_places, input_limit}
-use Rattle.unit_scanning.specs.Numbers.{AreDigits, IsFractionOf, IsUnits, digits_front, ends, starts_digit, whole_front}
+use Rattle.unit_scanning.specs.Numbers.{AreDigits, IsFractionOf, IsUnits, digits_prefix, ends, starts_digit, whole_prefix}
 use Rattle.unit_scanning.proofs.NumberParts.{ends_are, number_is_at}
 use Rattle.unit_scanning.proofs.Rounded.{whole_units}
 
 -- digits that no digit follows are those at the front
-front_is : (ds rest : List ℕ) → AllDigits ds → starts_digit rest ≡ false → digits_front (ds ++ rest) ≡ ds
-unfolding digits_front
-front_is [] [] h none = refl
-front_is [] (b ∷ bs) h none = rw none refl
-front_is (d ∷ ds) rest h none = rw h.0 (ap (λ xs. d ∷ xs) (front_is ds rest h.1 none))
+prefix_is : (ds rest : List ℕ) → AllDigits ds → starts_digit rest ≡ false → digits_prefix (ds ++ rest) ≡ ds
+unfolding digits_prefix
+prefix_is [] [] h none = refl
+prefix_is [] (b ∷ bs) h none = rw none refl
+prefix_is (d ∷ ds) rest h none = rw h.0 (ap (λ xs. d ∷ xs) (prefix_is ds rest h.1 none))
 
 after_is : (ds rest : List ℕ) → AllDigits ds → starts_digit rest ≡ false → after_digits (ds ++ rest) ≡ rest
 unfolding after_digits
@@ -36,19 +36,19 @@ no_digit_then (d ∷ ds) rest h = refl
 
 -- what digits that no digit follows are
 pub digits_are_all : (bytes : List ℕ) (value count : ℕ) (rest : List ℕ) → AreDigits bytes 0 value count rest → starts_digit rest ≡ false
-    → (value ≡ digits_value_after 0 (digits_front bytes)) × (rest ≡ after_digits bytes)
+    → (value ≡ digits_value_after 0 (digits_prefix bytes)) × (rest ≡ after_digits bytes)
 digits_are_all bytes value count rest a none =
-    let first : digits_front bytes ≡ a.digits = ap digits_front a.text ∙ front_is a.digits rest a.all none in
+    let first : digits_prefix bytes ≡ a.digits = ap digits_prefix a.text ∙ prefix_is a.digits rest a.all none in
     let then : after_digits bytes ≡ rest = ap after_digits a.text ∙ after_is a.digits rest a.all none in
     (a.value_is ∙ ap (λ ds. digits_value_after 0 ds) (sym first), sym then)
 
-pub plain_is : (bytes front behind rest : List ℕ) (negative : Bool) (whole count value places size : ℕ)
-    → bytes ≡ sign_text negative ++ front → whole_front front ≡ true → AreDigits front 0 whole count behind → IsFractionOf behind whole value places rest → places ≤ unit_places
+pub plain_is : (bytes prefix following rest : List ℕ) (negative : Bool) (whole count value places size : ℕ)
+    → bytes ≡ sign_text negative ++ prefix → whole_prefix prefix ≡ true → AreDigits prefix 0 whole count following → IsFractionOf following whole value places rest → places ≤ unit_places
     → size ≡ value * 10 ^ (unit_places - places) → size ≤ input_limit → ends rest ≡ true → IsUnits bytes (signed negative size) true rest
-plain_is bytes front behind rest negative whole count value places size sign is a f few scaled small he =
-    let none : starts_digit behind ≡ false = ap starts_digit f.text ∙ no_digit_then f.digits rest (ends_are rest he) in
-    let w = digits_are_all front whole count behind a none in
-    number_is_at unit_places input_limit bytes front behind rest negative whole value places size true sign is w.0 w.1 f he
+plain_is bytes prefix following rest negative whole count value places size sign is a f few scaled small he =
+    let none : starts_digit following ≡ false = ap starts_digit f.text ∙ no_digit_then f.digits rest (ends_are rest he) in
+    let w = digits_are_all prefix whole count following a none in
+    number_is_at unit_places input_limit bytes prefix following rest negative whole value places size true sign is w.0 w.1 f he
     (whole_units negative value places size few scaled small)
 
 -- in units it is below 10^18

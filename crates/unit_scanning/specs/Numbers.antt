@@ -10,9 +10,9 @@ use Rattle.json_value.specs.Reading.{value_at}
 use Rattle.geometry.specs.Units.{unit_places, input_limit}
 
 -- the digits at the front
-unfoldable pub digits_front : List ℕ → List ℕ
-digits_front [] = []
-digits_front (b ∷ bs) = if is_digit b then b ∷ digits_front bs else []
+unfoldable pub digits_prefix : List ℕ → List ℕ
+digits_prefix [] = []
+digits_prefix (b ∷ bs) = if is_digit b then b ∷ digits_prefix bs else []
 
 -- a digit is first
 abbrev pub starts_digit : List ℕ → Bool
@@ -20,9 +20,9 @@ starts_digit [] = false
 starts_digit (b ∷ bs) = is_digit b
 
 -- the digits at the front are a whole part: one or more, and no zero (48) before another
-abbrev pub whole_front : List ℕ → Bool
-whole_front [] = false
-whole_front (b ∷ bs) = if b == 48 then not (starts_digit bs) else is_digit b
+abbrev pub whole_prefix : List ℕ → Bool
+whole_prefix [] = false
+whole_prefix (b ∷ bs) = if b == 48 then not (starts_digit bs) else is_digit b
 
 -- a digit is first, and goes after the value, and this follows it
 pub record IsDigitFirst (bytes : List ℕ) (value longer : ℕ) (rest : List ℕ) : Type 0 where
@@ -56,7 +56,7 @@ ends (b ∷ bs) = is_space b || (b == 44 || (b == 93 || b == 125))
 -- rest follows it. It is the value at the front at any depth.
 pub record IsNumberAt (places limit : ℕ) (bytes : List ℕ) (value : ℤ) (exact : Bool) (rest : List ℕ) : Type 0 where
   pub text : List ℕ
-  pub front : (fits : List ℕ → Bool) (d : ℕ) → value_at fits d bytes ≡ Some (j.Number text, rest)
+  pub prefix : (fits : List ℕ → Bool) (d : ℕ) → value_at fits d bytes ≡ Some (j.Number text, rest)
   pub scaled : scaled_of places limit text ≡ Ok (record { value = value; exact = exact })
 
 -- the bytes begin with a number of units of coordinates, within the limit of positions that are read

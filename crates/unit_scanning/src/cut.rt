@@ -67,12 +67,12 @@ pub fn cut_units_at(bytes: &[u8]) -> Option<(Units, &[u8])>
     if bytes.len() < LONGEST {
         return None;
     }
-    let (negative, front) = sign_at(bytes);
-    if !is_whole(front) {
+    let (negative, prefix) = sign_at(bytes);
+    if !is_whole(prefix) {
         return None;
     }
-    let (whole, _, behind) = few_digits_at(0, front);
-    let (kept, places, next) = few_decimals_at(whole, behind)?;
+    let (whole, _, following) = few_digits_at(0, prefix);
+    let (kept, places, next) = few_decimals_at(whole, following)?;
     let (cut, more, rest) = few_digits_at(0, next);
     if !is_end(rest) {
         return None;

@@ -4,7 +4,7 @@ ghost use Rattle.json_value.specs.Reading.{after_digits};
 ghost use Rattle.decimal_text.specs.Digits.{digits_value_after};
 ghost use Rattle.decimal_text.specs.Grammar as grammar;
 ghost use Rattle.geometry.specs.Units.{input_limit};
-ghost use Rattle.unit_scanning.specs.Numbers.{digits_front, IsFractionOf, starts_digit, whole_front};
+ghost use Rattle.unit_scanning.specs.Numbers.{digits_prefix, IsFractionOf, starts_digit, whole_prefix};
 
 use geometry::INPUT_LIMIT;
 
@@ -37,10 +37,10 @@ fn is_digit(byte: u8) -> bool
 
 /// The number that the digits at the front write after those of `start`, and what follows them. None past 10^18.
 #[inline(always)]
-#[tactic(auto, unfolding(crate::specs::Numbers::digits_front, json_value::specs::Reading::after_digits))]
+#[tactic(auto, unfolding(crate::specs::Numbers::digits_prefix, json_value::specs::Reading::after_digits))]
 pub fn digits_at(start: u64, bytes: &[u8]) -> Option<(u64, &[u8])>
     requires { start < 10 ^ 18 }
-    ensures value { IfSome result (λ x. x.0 ≡ digits_value_after start (digits_front bytes.now)) }
+    ensures value { IfSome result (λ x. x.0 ≡ digits_value_after start (digits_prefix bytes.now)) }
     ensures rest { IfSome result (λ x. x.1.now ≡ after_digits bytes.now) }
     ensures small { IfSome result (λ x. x.0 < 10 ^ 18) }
 {
@@ -72,7 +72,7 @@ pub fn starts_with_digit(bytes: &[u8]) -> bool
 /// The digits at the front are a whole part: one or more, and no zero before another.
 #[inline(always)]
 pub fn is_whole(bytes: &[u8]) -> bool
-    ensures { result ≡ whole_front bytes.now }
+    ensures { result ≡ whole_prefix bytes.now }
 {
     match bytes {
         [] => false,

@@ -3,7 +3,7 @@ ghost use Rattle.std.specs.Prelude.{◌≡◌, ◌+◌, ◌-◌, ◌*◌, ◌^�
 ghost use Rattle.json_value.specs.Reading.{after_digits};
 ghost use Rattle.decimal_text.specs.Digits.{digits_value_after};
 ghost use Rattle.geometry.specs.Units.{input_limit};
-ghost use Rattle.unit_scanning.specs.Numbers.{AreDigits, IsDigitFirst, IsFractionOf, IsUnits, digits_front, ends};
+ghost use Rattle.unit_scanning.specs.Numbers.{AreDigits, IsDigitFirst, IsFractionOf, IsUnits, digits_prefix, ends};
 
 use crate::digits::{after_byte, digits_at, is_whole, starts_with_digit};
 use crate::signs::{sign_at, with_sign};
@@ -59,12 +59,12 @@ pub fn few_digits_at(start: u64, bytes: &[u8]) -> (u64, usize, &[u8])
     let mut count = 0;
     let mut rest = bytes;
     for _turn in 0..FEW {
-        let Some((longer, behind)) = with_digit(value, rest) else {
+        let Some((longer, following)) = with_digit(value, rest) else {
             break;
         };
         value = longer;
         count += 1;
-        rest = behind;
+        rest = following;
     }
     (value, count, rest)
 }
@@ -73,7 +73,7 @@ pub fn few_digits_at(start: u64, bytes: &[u8]) -> (u64, usize, &[u8])
 #[cold]
 #[inline(never)]
 fn many_digits_at(bytes: &[u8]) -> Option<(u64, &[u8])>
-    ensures value { IfSome result (λ x. x.0 ≡ digits_value_after 0 (digits_front bytes.now)) }
+    ensures value { IfSome result (λ x. x.0 ≡ digits_value_after 0 (digits_prefix bytes.now)) }
     ensures rest { IfSome result (λ x. x.1.now ≡ after_digits bytes.now) }
     ensures small { IfSome result (λ x. x.0 < 10 ^ 18) }
 {
@@ -118,12 +118,12 @@ pub fn plain_units_at(bytes: &[u8]) -> Option<(i64, &[u8])>
     if bytes.len() < LONGEST {
         return None;
     }
-    let (negative, front) = sign_at(bytes);
-    if !is_whole(front) {
+    let (negative, prefix) = sign_at(bytes);
+    if !is_whole(prefix) {
         return None;
     }
-    let (whole, _, behind) = few_digits_at(0, front);
-    let (value, places, rest) = few_decimals_at(whole, behind)?;
+    let (whole, _, following) = few_digits_at(0, prefix);
+    let (value, places, rest) = few_decimals_at(whole, following)?;
     let size = value * units_of_place(places);
     if size > INPUT_LIMIT {
         return None;
@@ -134,7 +134,7 @@ pub fn plain_units_at(bytes: &[u8]) -> Option<(i64, &[u8])>
 /// The digits at the front: what they write, and what follows them. None past 10^18. A few are read without a look at how many they are.
 #[inline(always)]
 pub fn whole_digits_at(bytes: &[u8]) -> Option<(u64, &[u8])>
-    ensures value { IfSome result (λ x. x.0 ≡ digits_value_after 0 (digits_front bytes.now)) }
+    ensures value { IfSome result (λ x. x.0 ≡ digits_value_after 0 (digits_prefix bytes.now)) }
     ensures rest { IfSome result (λ x. x.1.now ≡ after_digits bytes.now) }
     ensures small { IfSome result (λ x. x.0 < 10 ^ 18) }
 {

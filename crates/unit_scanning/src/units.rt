@@ -49,12 +49,12 @@ fn any_units_at(bytes: &[u8]) -> Option<(Units, &[u8])>
     ensures units { IfSome result (λ x. IsUnits bytes.now x.0.value x.0.exact x.1.now) }
     ensures within { IfSome result (λ x. unsigned_abs x.0.value ≤ input_limit) }
 {
-    let (negative, front) = sign_at(bytes);
-    if !is_whole(front) {
+    let (negative, prefix) = sign_at(bytes);
+    if !is_whole(prefix) {
         return None;
     }
-    let (whole, behind) = digits_at(0, front)?;
-    let (value, places, rest) = fraction_at(whole, behind)?;
+    let (whole, following) = digits_at(0, prefix)?;
+    let (value, places, rest) = fraction_at(whole, following)?;
     if !is_end(rest) {
         return None;
     }
@@ -104,11 +104,11 @@ pub fn whole_number_at(limit: u64, bytes: &[u8]) -> Option<(i64, &[u8])>
     ensures whole { IfSome result (λ x. IsWholeNumber limit bytes.now x.0 x.1.now) }
     ensures within { IfSome result (λ x. unsigned_abs x.0 ≤ limit) }
 {
-    let (negative, front) = sign_at(bytes);
-    if !is_whole(front) {
+    let (negative, prefix) = sign_at(bytes);
+    if !is_whole(prefix) {
         return None;
     }
-    let (size, rest) = whole_digits_at(front)?;
+    let (size, rest) = whole_digits_at(prefix)?;
     if !is_end(rest) || size > limit {
         return None;
     }

@@ -2,7 +2,7 @@ use Rattle.std.proofs.Common.{◌≡◌, ◌+◌, ◌^◌, length, [], ◌∷◌
 use Rattle.arc_table.specs.Growth.{first_alike, grown}
 use Rattle.arc_table.proofs.Growth.{grow_more, refs_turn}
 use Rattle.arc_table.specs.Laws.{AreUnlike}
-use Rattle.arc_table.proofs.Telling.{count_piece, piece_in, turn_tells, unlike_all}
+use Rattle.arc_table.proofs.Identifying.{count_piece, piece_in, turn_identifies, unlike_all}
 use Rattle.arc_table.proofs.placing.add_line.Goals as goal
 
 pub loop-piece-preserved : goal.loop-piece-preserved
@@ -30,12 +30,12 @@ pub find_or_add-requires-clause-unlike : goal.find_or_add-requires-clause-unlike
 find_or_add-requires-clause-unlike c =
     subst AreUnlike (sym c.loop-piece.invariant.2) (unlike_all c.args.arcs.now.items c.loop-piece.invariant.0 c.requires.unlike)
 
-pub find_or_add-requires-clause-tells : goal.find_or_add-requires-clause-tells
-find_or_add-requires-clause-tells c =
-    (turn_tells c.args.arcs.now.items c.loop-piece.invariant.0 c.in-Some.piece.now c.next.new.self c.args.pieces c.loop-piece.arcs.items
-    (ap (λ l. c.loop-piece.invariant.0 ++ l) (sym c.in-Some.ensures.steps) ∙ c.loop-piece.invariant.1) c.requires.tell c.loop-piece.invariant.2).0
+pub find_or_add-requires-clause-identifies : goal.find_or_add-requires-clause-identifies
+find_or_add-requires-clause-identifies c =
+    (turn_identifies c.args.arcs.now.items c.loop-piece.invariant.0 c.in-Some.piece.now c.next.new.self c.args.pieces c.loop-piece.arcs.items
+    (ap (λ l. c.loop-piece.invariant.0 ++ l) (sym c.in-Some.ensures.steps) ∙ c.loop-piece.invariant.1) c.requires.identify c.loop-piece.invariant.2).0
 
-pub find_or_add-requires-clause-tells_back : goal.find_or_add-requires-clause-tells_back
-find_or_add-requires-clause-tells_back c =
-    (turn_tells c.args.arcs.now.items c.loop-piece.invariant.0 c.in-Some.piece.now c.next.new.self c.args.pieces c.loop-piece.arcs.items
-    (ap (λ l. c.loop-piece.invariant.0 ++ l) (sym c.in-Some.ensures.steps) ∙ c.loop-piece.invariant.1) c.requires.tell c.loop-piece.invariant.2).1
+pub find_or_add-requires-clause-identifies_reversed : goal.find_or_add-requires-clause-identifies_reversed
+find_or_add-requires-clause-identifies_reversed c =
+    (turn_identifies c.args.arcs.now.items c.loop-piece.invariant.0 c.in-Some.piece.now c.next.new.self c.args.pieces c.loop-piece.arcs.items
+    (ap (λ l. c.loop-piece.invariant.0 ++ l) (sym c.in-Some.ensures.steps) ∙ c.loop-piece.invariant.1) c.requires.identify c.loop-piece.invariant.2).1

@@ -31,4 +31,4 @@ returns-clause-known c =
     let more : c.args.arcs.now.items ++ (c.args.piece.now ∷ []) ≡ c.push.new.self.items = sym (c.in_ok-push.ensures.items ∙ ap (λ p. c.args.arcs.now.items ++ (p ∷ [])) (c.of.ensures ∙ c.in_ok-positions.ensures)) in
     subst (λ l. IsStarts l c.number.new.self) more
     (subst (IsStarts (c.args.arcs.now.items ++ (c.args.piece.now ∷ []))) (sym c.in_ok-number.ensures.keys)
-    (starts_push c.args.arcs.now.items c.args.starts.now c.args.piece.now c.first_segment.result c.requires.known c.requires.tells c.first_segment.ensures h))
+    (starts_push c.args.arcs.now.items c.args.starts.now c.args.piece.now c.first_segment.result c.requires.known c.requires.identifies c.first_segment.ensures h))

@@ -7,6 +7,6 @@ use Rattle.cutter.proofs.pieces.cut.Given as goal
 -- the lines before the index are split, and those after it are as they were
 abbrev pub invariant-loop-i : goal.invariant-loop-i
 invariant-loop-i l = record {
-  turned : Replaced (started (is_cut l.fn.lines.strokes)) l.fn.lines.strokes l.i l.strokes.items;
-  split : AreSplit l.fn.lines.strokes l.i l.cuts.items l.ends.items;
+  turned : Replaced (started (is_cut l.fn.lines.lines_and_rings)) l.fn.lines.lines_and_rings l.i l.lines_and_rings.items;
+  split : AreSplit l.fn.lines.lines_and_rings l.i l.cuts.items l.ends.items;
 }

@@ -1,7 +1,7 @@
 use Rattle.std.proofs.Common.{arith, refl, subst}
 use Rattle.std.proofs.lemmas.List.{take_all}
 use Rattle.std.specs.List.{AllByRecursion}
-use Rattle.list_laws.proofs.Fronts.{all_more}
+use Rattle.owned_values.proofs.Prefixes.{all_more}
 use Rattle.decimal_json.specs.Readable.{IsReadable, IsReadableMember}
 use Rattle.decimal_json.proofs.ReadableParts as r
 use Rattle.decimal_json.proofs.readable.+readable.Goals as goal

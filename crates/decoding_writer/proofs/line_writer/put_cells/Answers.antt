@@ -28,4 +28,4 @@ pub returns : goal.returns
 returns g c =
     let lies = place (option_copied c.args.transform) in
     let none = drop_all c.cells.cell-index c.args.cells.now c.cells-test.false in
-    c.cells.invariant _ _ (as_text (ap (λ ps. c.cells.held ++ list_left (text_by (λ p. position_value (lies p))) (codes "]") c.cells.is_first ps) none) c.put_behind_held.ensures.wrote)
+    c.cells.invariant _ _ (as_text (ap (λ ps. c.cells.held ++ list_left (text_by (λ p. position_value (lies p))) (codes "]") c.cells.is_first ps) none) c.put_after_held.ensures.wrote)

@@ -23,4 +23,4 @@ positions-preserved g c = λ last answer w.
 pub returns : goal.returns
 returns g c =
     let left = list_left (text_by position_value) (codes "]") c.positions.is_first in
-    c.positions.invariant _ _ (as_text (ap (λ ps. c.positions.held ++ left ps) c.in-None.ensures.steps.0) c.put_behind_held.ensures.wrote)
+    c.positions.invariant _ _ (as_text (ap (λ ps. c.positions.held ++ left ps) c.in-None.ensures.steps.0) c.put_after_held.ensures.wrote)

@@ -7,11 +7,11 @@ use Rattle.geojson_writer.specs.FeatureTexts.{contents_value}
 use Rattle.geojson_writer.specs.FeatureValues.{geometry_value}
 use Rattle.geojson_writer.proofs.ShapeParts.{shape-text}
 use Rattle.decoding_writer.specs.Decoded.{shape_in}
-use Rattle.list_laws.proofs.Elements.{all_at}
+use Rattle.owned_values.proofs.Elements.{all_at}
 use Rattle.geometry.specs.declared.shape.Geometry.TheVariants as kind
 use Rattle.geojson_types.specs.Nesting.{nesting}
 use Rattle.topojson_types.proofs.Parts.{member_nests}
-use Rattle.topojson_features.specs.Strokes.{IsShape}
+use Rattle.topojson_features.specs.LinesAndRings.{IsShape}
 use Rattle.topojson_features.proofs.Standing.{point_stands, points_stand, line_stands, lines_stand, area_stands, areas_stand, group_stands}
 use Rattle.decoding_writer.proofs.Shown.{shows, point_contents, points_contents, line_contents, lines_contents, area_contents, areas_contents, group_contents}
 use Rattle.decoding_writer.proofs.shape_writer.+shapes.Goals as goal

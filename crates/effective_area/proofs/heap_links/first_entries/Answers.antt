@@ -5,7 +5,7 @@ use Rattle.effective_area.proofs.Turns.{first_ready, more_corners}
 use Rattle.effective_area.proofs.heap_links.first_entries.Goals as goal
 
 pub put_corner-requires-clause-ready : goal.put_corner-requires-clause-ready
-put_corner-requires-clause-ready c = first_ready c.args.t c.args.arc.now c.args.links.now c.loop-i.i c.requires.first c.requires.noted (omega (arith, c.loop-i-test.true))
+put_corner-requires-clause-ready c = first_ready c.args.t c.args.arc.now c.args.links.now c.loop-i.i c.requires.first c.requires.cached (omega (arith, c.loop-i-test.true))
 
 pub loop-i-preserved : goal.loop-i-preserved
 loop-i-preserved c = grind (arith, by_then, more_corners)

@@ -1,7 +1,7 @@
 use Rattle.std.proofs.Common.{◌++◌, arith, refl}
 use Rattle.std.specs.BinaryHeap.{heap_items}
 use Rattle.effective_area.proofs.Counts.{by_none, turn_counted}
-use Rattle.effective_area.proofs.Queues.{pushed_behind}
+use Rattle.effective_area.proofs.Queues.{pushed_after}
 use Rattle.effective_area.proofs.Turns.{old_ready, new_ready, renews, unlinks_on, some_left, turn_state, turn_fits, none_under}
 use Rattle.effective_area.proofs.taking.take_first.Goals as goal
 
@@ -14,19 +14,19 @@ unlink-requires-clause-index c = grind arith
 pub unlink-requires-clause-after : goal.unlink-requires-clause-after
 unlink-requires-clause-after c = grind arith
 
-pub goes_behind-is_first_known-requires-clause-other : goal.goes_behind-is_first_known-requires-clause-other
-goes_behind-is_first_known-requires-clause-other c =
+pub goes_after-is_first_known-requires-clause-other : goal.goes_after-is_first_known-requires-clause-other
+goes_after-is_first_known-requires-clause-other c =
     let s = c.requires.state in
-    let r = old_ready c.args.t c.args.arc.now c.args.links.now (c.args.sorted.now.items ++ heap_items c.args.heap.now) (c.pop_current.new.sorted.items ++ heap_items c.pop_current.new.heap) s.0 s.1 c.in-Some.entry c.ahead-first.result c.behind-last.result s.2 c.in-Some.ensures.left c.in-Some.ensures.current
-    c.ahead-first.ensures.first c.ahead-first.ensures.inside c.behind-last.ensures.last c.behind-last.ensures.inside in
+    let r = old_ready c.args.t c.args.arc.now c.args.links.now (c.args.sorted.now.items ++ heap_items c.args.heap.now) (c.pop_current.new.sorted.items ++ heap_items c.pop_current.new.heap) s.0 s.1 c.in-Some.entry c.ahead-first.result c.following-last.result s.2 c.in-Some.ensures.left c.in-Some.ensures.current
+    c.ahead-first.ensures.first c.ahead-first.ensures.inside c.following-last.ensures.last c.following-last.ensures.inside in
     r.ahead.within
 
-pub goes_behind-is_last_known-requires-clause-other : goal.goes_behind-is_last_known-requires-clause-other
-goes_behind-is_last_known-requires-clause-other c =
+pub goes_after-is_last_known-requires-clause-other : goal.goes_after-is_last_known-requires-clause-other
+goes_after-is_last_known-requires-clause-other c =
     let s = c.requires.state in
-    let r = old_ready c.args.t c.args.arc.now c.args.links.now (c.args.sorted.now.items ++ heap_items c.args.heap.now) (c.pop_current.new.sorted.items ++ heap_items c.pop_current.new.heap) s.0 s.1 c.in-Some.entry c.ahead-first.result c.behind-last.result s.2 c.in-Some.ensures.left c.in-Some.ensures.current
-    c.ahead-first.ensures.first c.ahead-first.ensures.inside c.behind-last.ensures.last c.behind-last.ensures.inside in
-    r.behind.within
+    let r = old_ready c.args.t c.args.arc.now c.args.links.now (c.args.sorted.now.items ++ heap_items c.args.heap.now) (c.pop_current.new.sorted.items ++ heap_items c.pop_current.new.heap) s.0 s.1 c.in-Some.entry c.ahead-first.result c.following-last.result s.2 c.in-Some.ensures.left c.in-Some.ensures.current
+    c.ahead-first.ensures.first c.ahead-first.ensures.inside c.following-last.ensures.last c.following-last.ensures.inside in
+    r.following.within
 
 pub note_area-requires-clause-fits : goal.note_area-requires-clause-fits
 note_area-requires-clause-fits c = grind (arith, turn_fits)
@@ -38,57 +38,57 @@ pub push_first-requires-clause-inner : goal.push_first-requires-clause-inner
 push_first-requires-clause-inner c =
     let s = c.requires.state in
     let h = s.2.sound c.in-Some.entry (c.in-Some.ensures.left.member c.in-Some.entry refl) in
-    let r = new_ready c.args.t c.args.arc.now c.args.links.now c.note_area-2.new.links (c.args.sorted.now.items ++ heap_items c.args.heap.now) (c.pop_current.new.sorted.items ++ heap_items c.pop_current.new.heap) s.0 s.1 c.in-Some.entry c.ahead-first.result c.behind-last.result s.2 c.in-Some.ensures.left c.in-Some.ensures.current
-    (unlinks_on c.args.arc.now c.args.links.now c.note_area.new.links c.note_area-2.new.links c.in-Some.entry.before c.in-Some.entry.corner.index c.in-Some.entry.after c.in-Some.entry.after (unlinks_on c.args.arc.now c.args.links.now c.unlink.new.links c.note_area.new.links c.in-Some.entry.before c.in-Some.entry.corner.index c.in-Some.entry.after c.in-Some.entry.before c.unlink.ensures.links c.note_area.ensures.noted) c.note_area-2.ensures.noted)
-    (renews c.args.arc.now c.args.links.now c.unlink.new.links c.note_area.new.links c.note_area-2.new.links c.in-Some.entry.before c.in-Some.entry.after (omega (arith, h.before, h.after)) c.unlink.ensures.areas c.note_area.ensures.noted c.note_area-2.ensures.noted)
-    c.ahead-first.ensures.first c.ahead-first.ensures.inside c.behind-last.ensures.last c.behind-last.ensures.inside in
+    let r = new_ready c.args.t c.args.arc.now c.args.links.now c.note_area-2.new.links (c.args.sorted.now.items ++ heap_items c.args.heap.now) (c.pop_current.new.sorted.items ++ heap_items c.pop_current.new.heap) s.0 s.1 c.in-Some.entry c.ahead-first.result c.following-last.result s.2 c.in-Some.ensures.left c.in-Some.ensures.current
+    (unlinks_on c.args.arc.now c.args.links.now c.note_area.new.links c.note_area-2.new.links c.in-Some.entry.before c.in-Some.entry.corner.index c.in-Some.entry.after c.in-Some.entry.after (unlinks_on c.args.arc.now c.args.links.now c.unlink.new.links c.note_area.new.links c.in-Some.entry.before c.in-Some.entry.corner.index c.in-Some.entry.after c.in-Some.entry.before c.unlink.ensures.links c.note_area.ensures.cached) c.note_area-2.ensures.cached)
+    (renews c.args.arc.now c.args.links.now c.unlink.new.links c.note_area.new.links c.note_area-2.new.links c.in-Some.entry.before c.in-Some.entry.after (omega (arith, h.before, h.after)) c.unlink.ensures.areas c.note_area.ensures.cached c.note_area-2.ensures.cached)
+    c.ahead-first.ensures.first c.ahead-first.ensures.inside c.following-last.ensures.last c.following-last.ensures.inside in
     r.before
 
 pub push_first-requires-clause-outer : goal.push_first-requires-clause-outer
 push_first-requires-clause-outer c =
     let s = c.requires.state in
     let h = s.2.sound c.in-Some.entry (c.in-Some.ensures.left.member c.in-Some.entry refl) in
-    let r = new_ready c.args.t c.args.arc.now c.args.links.now c.note_area-2.new.links (c.args.sorted.now.items ++ heap_items c.args.heap.now) (c.pop_current.new.sorted.items ++ heap_items c.pop_current.new.heap) s.0 s.1 c.in-Some.entry c.ahead-first.result c.behind-last.result s.2 c.in-Some.ensures.left c.in-Some.ensures.current
-    (unlinks_on c.args.arc.now c.args.links.now c.note_area.new.links c.note_area-2.new.links c.in-Some.entry.before c.in-Some.entry.corner.index c.in-Some.entry.after c.in-Some.entry.after (unlinks_on c.args.arc.now c.args.links.now c.unlink.new.links c.note_area.new.links c.in-Some.entry.before c.in-Some.entry.corner.index c.in-Some.entry.after c.in-Some.entry.before c.unlink.ensures.links c.note_area.ensures.noted) c.note_area-2.ensures.noted)
-    (renews c.args.arc.now c.args.links.now c.unlink.new.links c.note_area.new.links c.note_area-2.new.links c.in-Some.entry.before c.in-Some.entry.after (omega (arith, h.before, h.after)) c.unlink.ensures.areas c.note_area.ensures.noted c.note_area-2.ensures.noted)
-    c.ahead-first.ensures.first c.ahead-first.ensures.inside c.behind-last.ensures.last c.behind-last.ensures.inside in
+    let r = new_ready c.args.t c.args.arc.now c.args.links.now c.note_area-2.new.links (c.args.sorted.now.items ++ heap_items c.args.heap.now) (c.pop_current.new.sorted.items ++ heap_items c.pop_current.new.heap) s.0 s.1 c.in-Some.entry c.ahead-first.result c.following-last.result s.2 c.in-Some.ensures.left c.in-Some.ensures.current
+    (unlinks_on c.args.arc.now c.args.links.now c.note_area.new.links c.note_area-2.new.links c.in-Some.entry.before c.in-Some.entry.corner.index c.in-Some.entry.after c.in-Some.entry.after (unlinks_on c.args.arc.now c.args.links.now c.unlink.new.links c.note_area.new.links c.in-Some.entry.before c.in-Some.entry.corner.index c.in-Some.entry.after c.in-Some.entry.before c.unlink.ensures.links c.note_area.ensures.cached) c.note_area-2.ensures.cached)
+    (renews c.args.arc.now c.args.links.now c.unlink.new.links c.note_area.new.links c.note_area-2.new.links c.in-Some.entry.before c.in-Some.entry.after (omega (arith, h.before, h.after)) c.unlink.ensures.areas c.note_area.ensures.cached c.note_area-2.ensures.cached)
+    c.ahead-first.ensures.first c.ahead-first.ensures.inside c.following-last.ensures.last c.following-last.ensures.inside in
     r.ahead
 
 pub push_first-requires-2-clause-inner : goal.push_first-requires-2-clause-inner
 push_first-requires-2-clause-inner c =
     let s = c.requires.state in
     let h = s.2.sound c.in-Some.entry (c.in-Some.ensures.left.member c.in-Some.entry refl) in
-    let r = new_ready c.args.t c.args.arc.now c.args.links.now c.note_area-2.new.links (c.args.sorted.now.items ++ heap_items c.args.heap.now) (c.pop_current.new.sorted.items ++ heap_items c.pop_current.new.heap) s.0 s.1 c.in-Some.entry c.ahead-first.result c.behind-last.result s.2 c.in-Some.ensures.left c.in-Some.ensures.current
-    (unlinks_on c.args.arc.now c.args.links.now c.note_area.new.links c.note_area-2.new.links c.in-Some.entry.before c.in-Some.entry.corner.index c.in-Some.entry.after c.in-Some.entry.after (unlinks_on c.args.arc.now c.args.links.now c.unlink.new.links c.note_area.new.links c.in-Some.entry.before c.in-Some.entry.corner.index c.in-Some.entry.after c.in-Some.entry.before c.unlink.ensures.links c.note_area.ensures.noted) c.note_area-2.ensures.noted)
-    (renews c.args.arc.now c.args.links.now c.unlink.new.links c.note_area.new.links c.note_area-2.new.links c.in-Some.entry.before c.in-Some.entry.after (omega (arith, h.before, h.after)) c.unlink.ensures.areas c.note_area.ensures.noted c.note_area-2.ensures.noted)
-    c.ahead-first.ensures.first c.ahead-first.ensures.inside c.behind-last.ensures.last c.behind-last.ensures.inside in
+    let r = new_ready c.args.t c.args.arc.now c.args.links.now c.note_area-2.new.links (c.args.sorted.now.items ++ heap_items c.args.heap.now) (c.pop_current.new.sorted.items ++ heap_items c.pop_current.new.heap) s.0 s.1 c.in-Some.entry c.ahead-first.result c.following-last.result s.2 c.in-Some.ensures.left c.in-Some.ensures.current
+    (unlinks_on c.args.arc.now c.args.links.now c.note_area.new.links c.note_area-2.new.links c.in-Some.entry.before c.in-Some.entry.corner.index c.in-Some.entry.after c.in-Some.entry.after (unlinks_on c.args.arc.now c.args.links.now c.unlink.new.links c.note_area.new.links c.in-Some.entry.before c.in-Some.entry.corner.index c.in-Some.entry.after c.in-Some.entry.before c.unlink.ensures.links c.note_area.ensures.cached) c.note_area-2.ensures.cached)
+    (renews c.args.arc.now c.args.links.now c.unlink.new.links c.note_area.new.links c.note_area-2.new.links c.in-Some.entry.before c.in-Some.entry.after (omega (arith, h.before, h.after)) c.unlink.ensures.areas c.note_area.ensures.cached c.note_area-2.ensures.cached)
+    c.ahead-first.ensures.first c.ahead-first.ensures.inside c.following-last.ensures.last c.following-last.ensures.inside in
     r.after
 
 pub push_first-requires-2-clause-outer : goal.push_first-requires-2-clause-outer
 push_first-requires-2-clause-outer c =
     let s = c.requires.state in
     let h = s.2.sound c.in-Some.entry (c.in-Some.ensures.left.member c.in-Some.entry refl) in
-    let r = new_ready c.args.t c.args.arc.now c.args.links.now c.note_area-2.new.links (c.args.sorted.now.items ++ heap_items c.args.heap.now) (c.pop_current.new.sorted.items ++ heap_items c.pop_current.new.heap) s.0 s.1 c.in-Some.entry c.ahead-first.result c.behind-last.result s.2 c.in-Some.ensures.left c.in-Some.ensures.current
-    (unlinks_on c.args.arc.now c.args.links.now c.note_area.new.links c.note_area-2.new.links c.in-Some.entry.before c.in-Some.entry.corner.index c.in-Some.entry.after c.in-Some.entry.after (unlinks_on c.args.arc.now c.args.links.now c.unlink.new.links c.note_area.new.links c.in-Some.entry.before c.in-Some.entry.corner.index c.in-Some.entry.after c.in-Some.entry.before c.unlink.ensures.links c.note_area.ensures.noted) c.note_area-2.ensures.noted)
-    (renews c.args.arc.now c.args.links.now c.unlink.new.links c.note_area.new.links c.note_area-2.new.links c.in-Some.entry.before c.in-Some.entry.after (omega (arith, h.before, h.after)) c.unlink.ensures.areas c.note_area.ensures.noted c.note_area-2.ensures.noted)
-    c.ahead-first.ensures.first c.ahead-first.ensures.inside c.behind-last.ensures.last c.behind-last.ensures.inside in
-    r.behind
+    let r = new_ready c.args.t c.args.arc.now c.args.links.now c.note_area-2.new.links (c.args.sorted.now.items ++ heap_items c.args.heap.now) (c.pop_current.new.sorted.items ++ heap_items c.pop_current.new.heap) s.0 s.1 c.in-Some.entry c.ahead-first.result c.following-last.result s.2 c.in-Some.ensures.left c.in-Some.ensures.current
+    (unlinks_on c.args.arc.now c.args.links.now c.note_area.new.links c.note_area-2.new.links c.in-Some.entry.before c.in-Some.entry.corner.index c.in-Some.entry.after c.in-Some.entry.after (unlinks_on c.args.arc.now c.args.links.now c.unlink.new.links c.note_area.new.links c.in-Some.entry.before c.in-Some.entry.corner.index c.in-Some.entry.after c.in-Some.entry.before c.unlink.ensures.links c.note_area.ensures.cached) c.note_area-2.ensures.cached)
+    (renews c.args.arc.now c.args.links.now c.unlink.new.links c.note_area.new.links c.note_area-2.new.links c.in-Some.entry.before c.in-Some.entry.after (omega (arith, h.before, h.after)) c.unlink.ensures.areas c.note_area.ensures.cached c.note_area-2.ensures.cached)
+    c.ahead-first.ensures.first c.ahead-first.ensures.inside c.following-last.ensures.last c.following-last.ensures.inside in
+    r.following
 
 pub returns-clause-taken : goal.returns-clause-taken
 returns-clause-taken c left vs s =
     let h = s.sound c.in-Some.entry (c.in-Some.ensures.left.member c.in-Some.entry refl) in
-    let r = new_ready c.args.t c.args.arc.now c.args.links.now c.note_area-2.new.links (c.args.sorted.now.items ++ heap_items c.args.heap.now) (c.pop_current.new.sorted.items ++ heap_items c.pop_current.new.heap) left vs c.in-Some.entry c.ahead-first.result c.behind-last.result s c.in-Some.ensures.left c.in-Some.ensures.current
-    (unlinks_on c.args.arc.now c.args.links.now c.note_area.new.links c.note_area-2.new.links c.in-Some.entry.before c.in-Some.entry.corner.index c.in-Some.entry.after c.in-Some.entry.after (unlinks_on c.args.arc.now c.args.links.now c.unlink.new.links c.note_area.new.links c.in-Some.entry.before c.in-Some.entry.corner.index c.in-Some.entry.after c.in-Some.entry.before c.unlink.ensures.links c.note_area.ensures.noted) c.note_area-2.ensures.noted)
-    (renews c.args.arc.now c.args.links.now c.unlink.new.links c.note_area.new.links c.note_area-2.new.links c.in-Some.entry.before c.in-Some.entry.after (omega (arith, h.before, h.after)) c.unlink.ensures.areas c.note_area.ensures.noted c.note_area-2.ensures.noted)
-    c.ahead-first.ensures.first c.ahead-first.ensures.inside c.behind-last.ensures.last c.behind-last.ensures.inside in
+    let r = new_ready c.args.t c.args.arc.now c.args.links.now c.note_area-2.new.links (c.args.sorted.now.items ++ heap_items c.args.heap.now) (c.pop_current.new.sorted.items ++ heap_items c.pop_current.new.heap) left vs c.in-Some.entry c.ahead-first.result c.following-last.result s c.in-Some.ensures.left c.in-Some.ensures.current
+    (unlinks_on c.args.arc.now c.args.links.now c.note_area.new.links c.note_area-2.new.links c.in-Some.entry.before c.in-Some.entry.corner.index c.in-Some.entry.after c.in-Some.entry.after (unlinks_on c.args.arc.now c.args.links.now c.unlink.new.links c.note_area.new.links c.in-Some.entry.before c.in-Some.entry.corner.index c.in-Some.entry.after c.in-Some.entry.before c.unlink.ensures.links c.note_area.ensures.cached) c.note_area-2.ensures.cached)
+    (renews c.args.arc.now c.args.links.now c.unlink.new.links c.note_area.new.links c.note_area-2.new.links c.in-Some.entry.before c.in-Some.entry.after (omega (arith, h.before, h.after)) c.unlink.ensures.areas c.note_area.ensures.cached c.note_area-2.ensures.cached)
+    c.ahead-first.ensures.first c.ahead-first.ensures.inside c.following-last.ensures.last c.following-last.ensures.inside in
     turn_state c.args.t c.args.arc.now c.args.links.now c.note_area-2.new.links (c.args.sorted.now.items ++ heap_items c.args.heap.now) (c.pop_current.new.sorted.items ++ heap_items c.pop_current.new.heap) (c.pop_current.new.sorted.items ++ heap_items c.push_first.new.heap)
-    (c.pop_current.new.sorted.items ++ heap_items c.push_first-2.new.heap) left vs c.in-Some.entry c.ahead-first.result c.behind-last.result c.goes_behind-is_first_known.result c.goes_behind-is_last_known.result s
-    c.in-Some.ensures.left c.in-Some.ensures.current (unlinks_on c.args.arc.now c.args.links.now c.note_area.new.links c.note_area-2.new.links c.in-Some.entry.before c.in-Some.entry.corner.index c.in-Some.entry.after c.in-Some.entry.after (unlinks_on c.args.arc.now c.args.links.now c.unlink.new.links c.note_area.new.links c.in-Some.entry.before c.in-Some.entry.corner.index c.in-Some.entry.after c.in-Some.entry.before c.unlink.ensures.links c.note_area.ensures.noted) c.note_area-2.ensures.noted)
-    (renews c.args.arc.now c.args.links.now c.unlink.new.links c.note_area.new.links c.note_area-2.new.links c.in-Some.entry.before c.in-Some.entry.after (omega (arith, h.before, h.after)) c.unlink.ensures.areas c.note_area.ensures.noted c.note_area-2.ensures.noted)
-    r.before r.ahead r.after r.behind
-    c.ahead-first.ensures.inside c.ahead-first.ensures.first c.behind-last.ensures.inside c.behind-last.ensures.last c.goes_behind-is_first_known.ensures c.goes_behind-is_last_known.ensures
-    (pushed_behind c.args.t c.args.arc.now c.note_area-2.new.links c.pop_current.new.sorted.items (heap_items c.pop_current.new.heap) (heap_items c.push_first.new.heap) c.in-Some.entry.before c.ahead-first.result c.goes_behind-is_first_known.result c.in_ok-push_first.ensures.pushed)
-    (pushed_behind c.args.t c.args.arc.now c.note_area-2.new.links c.pop_current.new.sorted.items (heap_items c.push_first.new.heap) (heap_items c.push_first-2.new.heap) c.in-Some.entry.after c.behind-last.result c.goes_behind-is_last_known.result c.in_ok-push_first-2.ensures.pushed)
+    (c.pop_current.new.sorted.items ++ heap_items c.push_first-2.new.heap) left vs c.in-Some.entry c.ahead-first.result c.following-last.result c.goes_after-is_first_known.result c.goes_after-is_last_known.result s
+    c.in-Some.ensures.left c.in-Some.ensures.current (unlinks_on c.args.arc.now c.args.links.now c.note_area.new.links c.note_area-2.new.links c.in-Some.entry.before c.in-Some.entry.corner.index c.in-Some.entry.after c.in-Some.entry.after (unlinks_on c.args.arc.now c.args.links.now c.unlink.new.links c.note_area.new.links c.in-Some.entry.before c.in-Some.entry.corner.index c.in-Some.entry.after c.in-Some.entry.before c.unlink.ensures.links c.note_area.ensures.cached) c.note_area-2.ensures.cached)
+    (renews c.args.arc.now c.args.links.now c.unlink.new.links c.note_area.new.links c.note_area-2.new.links c.in-Some.entry.before c.in-Some.entry.after (omega (arith, h.before, h.after)) c.unlink.ensures.areas c.note_area.ensures.cached c.note_area-2.ensures.cached)
+    r.before r.ahead r.after r.following
+    c.ahead-first.ensures.inside c.ahead-first.ensures.first c.following-last.ensures.inside c.following-last.ensures.last c.goes_after-is_first_known.ensures c.goes_after-is_last_known.ensures
+    (pushed_after c.args.t c.args.arc.now c.note_area-2.new.links c.pop_current.new.sorted.items (heap_items c.pop_current.new.heap) (heap_items c.push_first.new.heap) c.in-Some.entry.before c.ahead-first.result c.goes_after-is_first_known.result c.in_ok-push_first.ensures.pushed)
+    (pushed_after c.args.t c.args.arc.now c.note_area-2.new.links c.pop_current.new.sorted.items (heap_items c.push_first.new.heap) (heap_items c.push_first-2.new.heap) c.in-Some.entry.after c.following-last.result c.goes_after-is_last_known.result c.in_ok-push_first-2.ensures.pushed)
 
 pub returns-in_default-clause-taken : goal.returns-in_default-clause-taken
 returns-in_default-clause-taken c left vs s = grind (arith, none_under)

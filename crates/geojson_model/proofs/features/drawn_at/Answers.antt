@@ -5,9 +5,9 @@ use Rattle.geojson_model.proofs.features.drawn_at.Goals as goal
 pub returns-in-Ok : goal.returns-in-Ok
 returns-in-Ok c =
     let r = c.in-Ok.ensures in
-    (r.value, r.front_is, is_drawn c.args.start.exact r.value c.args.start.counts (λ h. c.in_default.not-Null (c.kind_at.ensures c.args.deep r.value _ r.front_is ∙ sym h)) ∙ r.means)
+    (r.value, r.prefix_is, is_drawn c.args.start.exact r.value c.args.start.counts (λ h. c.in_default.not-Null (c.kind_at.ensures c.args.depth_left r.value _ r.prefix_is ∙ sym h)) ∙ r.means)
 
 pub returns-in_ok-rest-in-Err-Fault : goal.returns-in_ok-rest-in-Err-Fault
 returns-in_ok-rest-in-Err-Fault c =
     let found = c.in_ok-rest-in-Err-Fault.ensures in
-    (found.0, found.1, is_drawn c.args.start.exact found.0 c.args.start.counts (λ h. c.in_default.not-Null (c.kind_at.ensures c.args.deep found.0 _ found.1 ∙ sym h)) ∙ (rw c.in-Err-Fault.field-0-is at c.in-Err-Fault.ensures) found.0 _ found.1)
+    (found.0, found.1, is_drawn c.args.start.exact found.0 c.args.start.counts (λ h. c.in_default.not-Null (c.kind_at.ensures c.args.depth_left found.0 _ found.1 ∙ sym h)) ∙ (rw c.in-Err-Fault.field-0-is at c.in-Err-Fault.ensures) found.0 _ found.1)

@@ -11,21 +11,21 @@ returns-in_default c =
 pub features_of-requires : goal.features_of-requires
 features_of-requires c =
     let object = rw c.in-Some.is at c.in_ok-rest.ensures in
-    (object.members, object.holds (c.none-parts.ensures _ (c.args.deep - 1)))
+    (object.members, object.holds (c.none-parts.ensures _ (c.args.depth_left - 1)))
 
 pub returns-in-Ok : goal.returns-in-Ok
 returns-in-Ok c =
     let object = rw c.in-Some.is at c.in_ok-rest.ensures in
-    (j.Object object.members, object.front, part.is_layer c.args.exact object.members c.args.counts.now ∙ c.in-Ok.ensures object.members (object.holds (c.none-parts.ensures _ (c.args.deep - 1))))
+    (j.Object object.members, object.prefix, part.is_layer c.args.exact object.members c.args.counts.now ∙ c.in-Ok.ensures object.members (object.holds (c.none-parts.ensures _ (c.args.depth_left - 1))))
 
 pub unreachable-requires : goal.unreachable-requires
 unreachable-requires c =
     let object = rw c.in-Some.is at c.in_ok-rest.ensures in
     let judged = rw c.in-Err-NoValue.field-0-is at c.in-Err-NoValue.ensures in
-    judged object.members (object.holds (c.none-parts.ensures _ (c.args.deep - 1)))
+    judged object.members (object.holds (c.none-parts.ensures _ (c.args.depth_left - 1)))
 
 pub returns-in-Err-Fault : goal.returns-in-Err-Fault
 returns-in-Err-Fault c =
     let object = rw c.in-Some.is at c.in_ok-rest.ensures in
     let judged = rw c.in-Err-Fault.field-0-is at c.in-Err-Fault.ensures in
-    (j.Object object.members, object.front, part.is_layer c.args.exact object.members c.args.counts.now ∙ judged object.members (object.holds (c.none-parts.ensures _ (c.args.deep - 1))))
+    (j.Object object.members, object.prefix, part.is_layer c.args.exact object.members c.args.counts.now ∙ judged object.members (object.holds (c.none-parts.ensures _ (c.args.depth_left - 1))))

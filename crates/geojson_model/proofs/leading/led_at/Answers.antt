@@ -4,36 +4,36 @@ use Rattle.std.proofs.lemmas.Result.{err_from_is_err_and}
 use Rattle.json_value.specs.declared.json.Json.TheVariants as j
 use Rattle.json_cursor.specs.Names.{name_of}
 use Rattle.json_cursor.proofs.Openings.{some_members}
-use Rattle.geojson_model.proofs.SeenMembers.{member_found}
+use Rattle.geojson_model.proofs.MemberOccurrences.{member_found}
 use Rattle.geojson_model.proofs.UsualGeometries.{begin_so, first_fails_all, members_of, two_members}
 use Rattle.geojson_model.proofs.leading.led_at.Goals as goal
 
 pub returns-clause-begins : goal.returns-clause-begins
 returns-clause-begins c = λ v after end found close.
-    let d = c.args.deep - 1 in
+    let d = c.args.depth_left - 1 in
     let kind = c.in-Some-geometry_type.kind in
     let name = name_of c.in-Some-2.name in
     let text = (rw c.in-Some-2.is at c.in_ok-name.ensures) d in
     let first = member_found d _ (name_of c.in-Some-named_at._type) c.in-Some-named_at.value.now c.in-Some-2.rest.now (j.Text name) (rw c.skip-2.ensures at (c.in-Some-named_at.ensures.member d)) text in
-    let second = member_found d _ (name_of c.in-Some-named_at-2._part) c.in-Some-named_at-2.front.now after v (rw c.skip-4.ensures at (c.in-Some-named_at-2.ensures.member d)) found in
-    let comma = rw c.skip-3.ensures at c.in-Some-behind_byte-2.ensures in
-    let members = two_members d c.in-Some.inside.now _ _ c.in-Some-2.rest.now c.in-Some-behind_byte-2.more.now after end first comma second close (omega (arith, c.if-inside-lt2.false)) in (
+    let second = member_found d _ (name_of c.in-Some-named_at-2._part) c.in-Some-named_at-2.prefix.now after v (rw c.skip-4.ensures at (c.in-Some-named_at-2.ensures.member d)) found in
+    let comma = rw c.skip-3.ensures at c.in-Some-after_byte-2.ensures in
+    let members = two_members d c.in-Some.inside.now _ _ c.in-Some-2.rest.now c.in-Some-after_byte-2.more.now after end first comma second close (omega (arith, c.if-inside-lt2.false)) in (
       name,
       sym (rw c.as_str.ensures at c.in-Some-geometry_type.ensures),
       rw (c.in-Some-named_at.ensures.word, c.in-Some-named_at-2.ensures.word ∙ c.part_word.ensures.name)
-          at (some_members c.args.deep c.args.bytes.now c.in-Some.inside.now c.in-Some.ensures c.if-deep-eq0.false (rw c.skip.ensures at c.in_default-behind_byte.ensures) _ end members),
+          at (some_members c.args.depth_left c.args.bytes.now c.in-Some.inside.now c.in-Some.ensures c.if-depth_left-eq0.false (rw c.skip.ensures at c.in_default-after_byte.ensures) _ end members),
     )
 
 pub returns-clause-leads : goal.returns-clause-leads
 returns-clause-leads c = λ v end found.
-    let d = c.args.deep - 1 in
+    let d = c.args.depth_left - 1 in
     let name = name_of c.in-Some-2.name in
     let text = (rw c.in-Some-2.is at c.in_ok-name.ensures) d in
     let first = member_found d _ (name_of c.in-Some-named_at._type) c.in-Some-named_at.value.now c.in-Some-2.rest.now (j.Text name) (rw c.skip-2.ensures at (c.in-Some-named_at.ensures.member d)) text in
     let second = rw c.skip-4.ensures at (c.in-Some-named_at-2.ensures.member d) in
-    let comma = rw c.skip-3.ensures at c.in-Some-behind_byte-2.ensures in
-    let object = members_of c.args.deep c.args.bytes.now c.in-Some.inside.now c.in-Some.ensures c.if-deep-eq0.false (rw c.skip.ensures at c.in_default-behind_byte.ensures) v end found in
-    let two = begin_so d c.in-Some.inside.now _ c.in-Some-2.rest.now c.in-Some-behind_byte-2.more.now _ c.in-Some-named_at-2.front.now first comma second (omega (arith, c.if-inside-lt2.false)) object.0 end object.1.0 in
+    let comma = rw c.skip-3.ensures at c.in-Some-after_byte-2.ensures in
+    let object = members_of c.args.depth_left c.args.bytes.now c.in-Some.inside.now c.in-Some.ensures c.if-depth_left-eq0.false (rw c.skip.ensures at c.in_default-after_byte.ensures) v end found in
+    let two = begin_so d c.in-Some.inside.now _ c.in-Some-2.rest.now c.in-Some-after_byte-2.more.now _ c.in-Some-named_at-2.prefix.now first comma second (omega (arith, c.if-inside-lt2.false)) object.0 end object.1.0 in
     record {
       name = name;
       typed = sym (rw c.as_str.ensures at c.in-Some-geometry_type.ensures);
@@ -47,7 +47,7 @@ returns-clause-leads c = λ v end found.
 
 pub returns-in_err-name-clause-fails : goal.returns-in_err-name-clause-fails
 returns-in_err-name-clause-fails c =
-    let d = c.args.deep - 1 in
+    let d = c.args.depth_left - 1 in
     let p = err_from_is_err_and c.from_residual.result c.from_residual.ensures.1 in
-    rw (p.1, p.2) (first_fails_all c.args.deep c.args.bytes.now c.in-Some.inside.now c.in-Some.ensures c.if-deep-eq0.false (rw c.skip.ensures at c.in_default-behind_byte.ensures) (omega (arith, c.if-inside-lt2.false))
+    rw (p.1, p.2) (first_fails_all c.args.depth_left c.args.bytes.now c.in-Some.inside.now c.in-Some.ensures c.if-depth_left-eq0.false (rw c.skip.ensures at c.in_default-after_byte.ensures) (omega (arith, c.if-inside-lt2.false))
     _ c.in-Some-named_at.value.now (rw c.skip-2.ensures at (c.in-Some-named_at.ensures.member d)) _ (c.in_err-name.ensures d))

@@ -7,4 +7,4 @@ pub returns-clause-numbers : goal.returns-clause-numbers
 returns-clause-numbers c = features-numbers
 
 pub returns-clause-reads : goal.returns-clause-reads
-returns-clause-reads c = λ features d h deep. text_reads (features_value features) d (features-numbers features h) deep
+returns-clause-reads c = λ features d h depth_left. text_reads (features_value features) d (features-numbers features h) depth_left

@@ -1,6 +1,6 @@
 use Rattle.std.proofs.Common.{◌≡◌, ◌+ℤ◌, FitsSigned, to_z, of_z, ap, sym, ◌∙◌, rules}
 use Rattle.std.proofs.lemmas.Int.{to_z-of_z}
-use Rattle.geometry.specs.Areas.{turn_behind}
+use Rattle.geometry.specs.Areas.{turn_after}
 use Rattle.geometry.proofs.RingAreas.{added, sum_of, sum_more}
 use Rattle.geometry.proofs.ring_area.with_turn.Goals as goal
 use mir.Syntax.{w128}
@@ -15,4 +15,4 @@ returns-in-Some-clause-value c =
     ∙ ap (λ r. sum_of c.args.whole (to_z w128 (of_z w128 (r +ℤ to_z w128 (of_z w128 c.turn.result))))) (to_z-of_z w128 c.args.rest rest)
     ∙ ap (sum_of c.args.whole) (added c.args.rest c.turn.result c.requires.rest c.turn.ensures.bound) in
     sum_more c.args.whole c.args.rest c.carried.result.0 c.carried.result.1 c.turn.result value
-    ∙ ap (λ t. sum_of c.args.whole c.args.rest +ℤ t) (c.turn.ensures.value ∙ ap (λ l. turn_behind l c.args.position) (sym c.in-Some.is))
+    ∙ ap (λ t. sum_of c.args.whole c.args.rest +ℤ t) (c.turn.ensures.value ∙ ap (λ l. turn_after l c.args.position) (sym c.in-Some.is))

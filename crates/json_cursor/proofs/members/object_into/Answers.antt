@@ -5,16 +5,16 @@ use Rattle.json_cursor.proofs.Openings.{is_no_object, object_deep, no_members, s
 use Rattle.json_cursor.proofs.members.object_into.Goals as goal
 
 pub returns-in_default : goal.returns-in_default
-returns-in_default g c = is_no_object c.args.deep c.args.bytes.now c.in_default.ensures
+returns-in_default g c = is_no_object c.args.depth_left c.args.bytes.now c.in_default.ensures
 
-pub returns-then-deep-eq0 : goal.returns-then-deep-eq0
-returns-then-deep-eq0 g c = malformed _ _ c.broken.ensures (object_deep c.args.deep c.args.bytes.now _ c.in-Some.ensures c.if-deep-eq0.true)
+pub returns-then-depth_left-eq0 : goal.returns-then-depth_left-eq0
+returns-then-depth_left-eq0 g c = malformed _ _ c.broken.ensures (object_deep c.args.depth_left c.args.bytes.now _ c.in-Some.ensures c.if-depth_left-eq0.true)
 
-pub returns-in-Some-behind_byte : goal.returns-in-Some-behind_byte
-returns-in-Some-behind_byte g c = record {
-  deep = omega (arith, c.if-deep-eq0.false);
+pub returns-in-Some-after_byte : goal.returns-in-Some-after_byte
+returns-in-Some-after_byte g c = record {
+  depth_left = omega (arith, c.if-depth_left-eq0.false);
   members = [];
-  front = no_members c.args.deep c.args.bytes.now _ c.in-Some.ensures c.if-deep-eq0.false _ (rw c.skip.ensures at c.in-Some-behind_byte.ensures);
+  prefix = no_members c.args.depth_left c.args.bytes.now _ c.in-Some.ensures c.if-depth_left-eq0.false _ (rw c.skip.ensures at c.in-Some-after_byte.ensures);
   holds = λ h. h;
 }
 
@@ -22,14 +22,14 @@ pub returns-in_err-rest : goal.returns-in_err-rest
 returns-in_err-rest g c =
     let p = err_from_is_err_and c.from_residual.result c.from_residual.ensures.1 in
     rw (p.1, p.2)
-    (members_fail c.args.deep c.args.bytes.now _ c.in-Some.ensures c.if-deep-eq0.false (rw c.skip.ensures at c.in_default-behind_byte.ensures) _ c.in_err-rest.ensures)
+    (members_fail c.args.depth_left c.args.bytes.now _ c.in-Some.ensures c.if-depth_left-eq0.false (rw c.skip.ensures at c.in_default-after_byte.ensures) _ c.in_err-rest.ensures)
 
 pub returns : goal.returns
 returns g c =
     let made = c.in_ok-rest.ensures in
     record {
-      deep = omega (arith, c.if-deep-eq0.false);
+      depth_left = omega (arith, c.if-depth_left-eq0.false);
       members = made.members;
-      front = some_members c.args.deep c.args.bytes.now _ c.in-Some.ensures c.if-deep-eq0.false (rw c.skip.ensures at c.in_default-behind_byte.ensures) made.members _ made.front;
+      prefix = some_members c.args.depth_left c.args.bytes.now _ c.in-Some.ensures c.if-depth_left-eq0.false (rw c.skip.ensures at c.in_default-after_byte.ensures) made.members _ made.prefix;
       holds = made.holds;
     }

@@ -5,4 +5,4 @@ pub returns-clause-member : goal.returns-clause-member
 returns-clause-member c = λ d.
     rw c.skip-2.ensures
     (part.is_named c.args.bytes.now c.in-Some.inside.now c.in-Some.ensures c.args.word.now c.in-Some-quoted_at.name_end.now c.in-Some-quoted_at.ensures
-    c.in-Some-behind_byte.behind.now (rw c.skip.ensures at c.in-Some-behind_byte.ensures) d)
+    c.in-Some-after_byte.following.now (rw c.skip.ensures at c.in-Some-after_byte.ensures) d)

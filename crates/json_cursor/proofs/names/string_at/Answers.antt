@@ -3,7 +3,7 @@ use Rattle.json_cursor.proofs.Openings.{is_no_text, is_text, no_text}
 use Rattle.json_cursor.proofs.names.string_at.Goals as goal
 
 pub returns-in_default : goal.returns-in_default
-returns-in_default c = λ d v rest front. is_no_text c.args.bytes.now c.in_default.ensures d v rest front
+returns-in_default c = λ d v rest prefix. is_no_text c.args.bytes.now c.in_default.ensures d v rest prefix
 
 pub returns-in_err-found : goal.returns-in_err-found
 returns-in_err-found c =

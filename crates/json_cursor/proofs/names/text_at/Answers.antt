@@ -1,5 +1,5 @@
 use Rattle.std.proofs.Common.{ap, ◌∙◌, sym, Some}
-use Rattle.text_checking.proofs.PlainStrings.{plain_string}
+use Rattle.json_reading.proofs.PlainStrings.{plain_string}
 use Rattle.json_cursor.proofs.names.text_at.Goals as goal
 
 pub returns-in-Ok : goal.returns-in-Ok

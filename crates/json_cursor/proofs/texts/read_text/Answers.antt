@@ -10,15 +10,15 @@ malformed-requires-then-not-is_empty g c = (
   c.requires,
   λ utf8.
       let found = rw c.skip.ensures at c.in-Ok.ensures in
-      text.trailing c.args.deepest c.args.bytes.now _ c.text_of.ensures found.0 _ _ found.1 c.skip-behind.ensures c.if-not-is_empty.ensures,
+      text.trailing c.args.deepest c.args.bytes.now _ c.text_of.ensures found.0 _ _ found.1 c.skip-following.ensures c.if-not-is_empty.ensures,
 )
 
 pub returns-in-Err : goal.returns-in-Err
 returns-in-Err g c =
     let found = rw (c.skip.ensures, c.none-counts.ensures, c.in-Err.is) at c.in-Ok.ensures in
-    (c.if-not-are_utf8.ensures.yes refl, found.0, text.whole c.args.deepest c.args.bytes.now _ c.text_of.ensures found.0 _ _ found.1 c.skip-behind.ensures c.if-not-is_empty.ensures, found.2)
+    (c.if-not-are_utf8.ensures.yes refl, found.0, text.whole c.args.deepest c.args.bytes.now _ c.text_of.ensures found.0 _ _ found.1 c.skip-following.ensures c.if-not-is_empty.ensures, found.2)
 
 pub returns-in-Ok-read : goal.returns-in-Ok-read
 returns-in-Ok-read g c =
     let found = rw (c.skip.ensures, c.none-counts.ensures, c.in-Ok-read.is) at c.in-Ok.ensures in
-    (c.if-not-are_utf8.ensures.yes refl, found.0, text.whole c.args.deepest c.args.bytes.now _ c.text_of.ensures found.0 _ _ found.1 c.skip-behind.ensures c.if-not-is_empty.ensures, found.2)
+    (c.if-not-are_utf8.ensures.yes refl, found.0, text.whole c.args.deepest c.args.bytes.now _ c.text_of.ensures found.0 _ _ found.1 c.skip-following.ensures c.if-not-is_empty.ensures, found.2)

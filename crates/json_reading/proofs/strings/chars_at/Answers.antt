@@ -8,7 +8,7 @@ pub returns-in_default : goal.returns-in_default
 returns-in_default c = none_fails _ _ (loop.at_nothing _ _ _ _ _ c.loop.invariant c.loop-test.true (sym c.plain_run.ensures.rest ∙ c.in_default.ensures))
 
 pub returns-then-first-eq34 : goal.returns-then-first-eq34
-returns-then-first-eq34 c = rw (c.in_ok-extend_from_slice.ensures.items, c.plain_run.ensures.front)
+returns-then-first-eq34 c = rw (c.in_ok-extend_from_slice.ensures.items, c.plain_run.ensures.prefix)
     (loop.at_quote _ _ _ _ _ c.loop.invariant c.loop-test.true _ _ (sym c.plain_run.ensures.rest ∙ c.in-Some.ensures) c.if-first-eq34.true)
 
 pub returns-then-first-ne92 : goal.returns-then-first-ne92
@@ -21,7 +21,7 @@ returns-in_err-character c =
     rw (p.1, p.2) (loop.escape_fails _ _ _ _ _ c.loop.invariant c.loop-test.true _ _ (sym c.plain_run.ensures.rest ∙ c.in-Some.ensures) c.if-first-ne92.false _ c.in_err-character.ensures)
 
 pub loop-preserved : goal.loop-preserved
-loop-preserved c = rw (c.in_ok-push_character.ensures, c.in_ok-extend_from_slice.ensures.items, c.plain_run.ensures.front)
+loop-preserved c = rw (c.in_ok-push_character.ensures, c.in_ok-extend_from_slice.ensures.items, c.plain_run.ensures.prefix)
     (loop.at_escape _ _ _ _ _ c.loop.invariant c.loop-test.true _ _ (sym c.plain_run.ensures.rest ∙ c.in-Some.ensures) c.if-first-ne92.false _ _ c.in_ok-character.ensures)
 
 pub returns : goal.returns

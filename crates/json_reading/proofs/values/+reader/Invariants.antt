@@ -1,7 +1,7 @@
 use Rattle.std.proofs.Common.{◌≡◌, length, ◌+◌, ◌-◌, ◌*◌}
 use Rattle.std.specs.Str.{is_utf8}
 use Rattle.json_value.specs.Reading as spec
-use Rattle.json_reading.proofs.StringLoop.{with_front}
+use Rattle.json_reading.proofs.StringLoop.{with_prefix}
 use Rattle.json_reading.proofs.values.+reader.Given as goal
 
 abbrev pub decreases-value_at : goal.decreases-value_at
@@ -23,7 +23,7 @@ abbrev pub decreases-object_at : goal.decreases-object_at
 decreases-object_at l = 4 * l.deepest + 3
 
 abbrev pub invariant-elements_at-loop : goal.invariant-elements_at-loop
-invariant-elements_at-loop l = with_front l.items.items (spec.elements_at is_utf8 l.deepest (length l.bytes - l.counter) l.rest) ≡ spec.elements_at is_utf8 l.deepest (length l.bytes) l.bytes
+invariant-elements_at-loop l = with_prefix l.items.items (spec.elements_at is_utf8 l.deepest (length l.bytes - l.counter) l.rest) ≡ spec.elements_at is_utf8 l.deepest (length l.bytes) l.bytes
 
 abbrev pub invariant-members_at-loop : goal.invariant-members_at-loop
-invariant-members_at-loop l = with_front l.members.items (spec.members_at is_utf8 l.deepest (length l.bytes - l.counter) l.rest) ≡ spec.members_at is_utf8 l.deepest (length l.bytes) l.bytes
+invariant-members_at-loop l = with_prefix l.members.items (spec.members_at is_utf8 l.deepest (length l.bytes - l.counter) l.rest) ≡ spec.members_at is_utf8 l.deepest (length l.bytes) l.bytes

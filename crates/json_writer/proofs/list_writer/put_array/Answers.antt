@@ -20,4 +20,4 @@ items-preserved g c = λ last answer w.
 pub returns : goal.returns
 returns g c =
     let none = drop_all c.items.item-index c.args.items.now c.items-test.false in
-    c.items.invariant _ _ (as_text (ap (λ xs. c.items.held ++ list_left (text_by g.P.PutValue.value) (codes "]") c.items.is_first xs) none) c.put_behind_held.ensures.wrote)
+    c.items.invariant _ _ (as_text (ap (λ xs. c.items.held ++ list_left (text_by g.P.PutValue.value) (codes "]") c.items.is_first xs) none) c.put_after_held.ensures.wrote)

@@ -15,10 +15,10 @@ split_at-requires g c = rw c.plain_len.ensures (prefix_len-le-length is_plain c.
 -- the closing quotation mark
 pub returns-in_default : goal.returns-in_default
 returns-in_default g c =
-    let behind = goes c.runs.invariant (run_is _ _ _ _ _ c.plain_len.ensures c.split_at.ensures.front c.split_at.ensures.back) c.put_part-so_far-in-runs.ensures in
-    ends (rw (nil_from_length _ c.in_default.ensures.cases) at behind) c.put_part.ensures
+    let following = goes c.runs.invariant (run_is _ _ _ _ _ c.plain_len.ensures c.split_at.ensures.front c.split_at.ensures.back) c.put_part-so_far-in-runs.ensures in
+    ends (rw (nil_from_length _ c.in_default.ensures.cases) at following) c.put_part.ensures
 
 pub runs-preserved : goal.runs-preserved
 runs-preserved g c =
-    let behind = goes c.runs.invariant (run_is _ _ _ _ _ c.plain_len.ensures c.split_at.ensures.front c.split_at.ensures.back) c.put_part-so_far-in-runs.ensures in
-    goes behind (escape_is _ _ _ _ c.in-Some.ensures.cases.0) c.put_escaped-so_far.ensures
+    let following = goes c.runs.invariant (run_is _ _ _ _ _ c.plain_len.ensures c.split_at.ensures.front c.split_at.ensures.back) c.put_part-so_far-in-runs.ensures in
+    goes following (escape_is _ _ _ _ c.in-Some.ensures.cases.0) c.put_escaped-so_far.ensures

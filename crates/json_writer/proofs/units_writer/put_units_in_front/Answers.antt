@@ -31,9 +31,9 @@ returns-clause-added c =
     let number = rw positive at c.split_size-whole.ensures.rest in
     let digits = ap (λ n. drop 1 (decimal n)) number ∙ rest-digits places (size % 10 ^ places) c.requires.places (omega (arith, one-le-pow places 10 (omega arith))) in
     let rest = c.put_rest.ensures.added ∙ ap (λ ds. fraction_text (trimmed ds) ++ c.args.text.now) digits in
-    let front = c.put_digits.ensures ∙ ap (λ n. decimal n ++ c.put_rest.new.text) whole in
+    let prefix = c.put_digits.ensures ∙ ap (λ n. decimal n ++ c.put_rest.new.text) whole in
     let sign = rw is at c.put_sign.ensures.added in
-    made _ _ _ c.args.text.now rest front sign
+    made _ _ _ c.args.text.now rest prefix sign
 
 pub returns-clause-short : goal.returns-clause-short
 returns-clause-short c = grind (arith, length-append, length-decimal-le 20 c.split_size-whole.result.0)

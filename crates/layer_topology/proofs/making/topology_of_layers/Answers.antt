@@ -1,7 +1,7 @@
 use Rattle.std.proofs.Common.{◌≡◌, ◌+◌, ◌∙◌, ap, subst}
 use Rattle.build_meaning.specs.Built.{built}
 use Rattle.layer_topology.specs.Levels.{calls_at, level_threshold, threshold_at}
-use Rattle.lessened_topology.specs.Assembled.{arcs_of_layers}
+use Rattle.simplified_topology.specs.Assembled.{arcs_of_layers}
 use Rattle.layer_topology.proofs.Laid.{as_written, cells_on, plain}
 use Rattle.layer_topology.proofs.making.topology_of_layers.Goals as goal
 

@@ -23,5 +23,5 @@ returns-in_err-send_summary-clause-refused g c =
       opened = c.in_ok-source.ensures.opened;
       once = c.in_ok-source.ensures.once;
       fault = summary_cut c.args.out.now c.send_summary.new.out c.in_ok-source.source c.stat.new.source c.in_ok-summary.summary c.in_err-send_summary.field-0.0
-          c.in_ok-summary.ensures.told c.in_err-send_summary.ensures;
+          c.in_ok-summary.ensures.reported c.in_err-send_summary.ensures;
     }))

@@ -1,7 +1,7 @@
 use Rattle.std.proofs.Common.{List, Option, ap, inl, inr, subst, ◌∙◌, ℕ}
-use Rattle.run_reports.specs.RunReports.{run_text}
+use Rattle.reports.specs.RunReports.{run_text}
 use Rattle.mapchain_cli.specs.Files.{FileState, Keeps, discarded, not_kept}
-use Rattle.mapchain_cli.proofs.Delivered.{front_of, kept_for}
+use Rattle.mapchain_cli.proofs.Delivered.{prefix_of, kept_for}
 use Rattle.mapchain_cli.proofs.following.put_report.Goals as goal
 
 pub returns-in-Ok-clause-written : goal.returns-in-Ok-clause-written
@@ -15,10 +15,10 @@ returns-in-Ok-clause-written g c = λ is_kept.
     record {
       fresh = c.in-Some.output;
       is_fresh = c.in-Some.ensures.fresh;
-      output = c.flush_behind.new.sink;
+      output = c.flush_after.new.sink;
       sent = c.in-Ok.field-0;
       whole = whole.0;
-      kept = subst (λ (s : FileState). Keeps path c.flush_behind.new.sink.taken s after) c.in-Some.ensures.counted kept;
+      kept = subst (λ (s : FileState). Keeps path c.flush_after.new.sink.taken s after) c.in-Some.ensures.counted kept;
     }
 
 pub returns-in-Ok-clause-unwritten : goal.returns-in-Ok-clause-unwritten
@@ -27,7 +27,7 @@ returns-in-Ok-clause-unwritten g c = λ held.
     inr (inr (record {
       fresh = c.in-Some.output;
       is_fresh = c.in-Some.ensures.fresh;
-      output = c.flush_behind.new.sink;
+      output = c.flush_after.new.sink;
       sent = c.in-Ok.field-0;
       whole = whole.0;
       away = c.keep.ensures.lost held ∙ ap not_kept c.in-Some.ensures.counted;
@@ -36,12 +36,12 @@ returns-in-Ok-clause-unwritten g c = λ held.
 pub returns-in-Err-clause-unwritten : goal.returns-in-Err-clause-unwritten
 returns-in-Err-clause-unwritten g c = λ broken.
     let failed = c.in-Err.ensures c.in-Some.output 0 (run_text c.args.run.now) c.write_run_report-written.ensures in
-    let front = front_of c.in-Some.output c.flush_behind.new.sink 0 (run_text c.args.run.now) c.in-Err.field-0 failed in
+    let prefix = prefix_of c.in-Some.output c.flush_after.new.sink 0 (run_text c.args.run.now) c.in-Err.field-0 failed in
     inr (inl (record {
       fresh = c.in-Some.output;
       is_fresh = c.in-Some.ensures.fresh;
-      output = c.flush_behind.new.sink;
-      sent = front.0;
-      front = front.1;
+      output = c.flush_after.new.sink;
+      sent = prefix.0;
+      prefix = prefix.1;
       away = c.discard.ensures.counted ∙ ap discarded c.in-Some.ensures.counted;
     }))

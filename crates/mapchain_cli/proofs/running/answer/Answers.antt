@@ -12,7 +12,7 @@ returns-in_err-report-in-Build-clause-refused g c =
     let options = c.in_ok-options-in-Build.options in
     let refused = rw c.as_slice.ensures.value at c.in_err-report-in-Build.ensures.refused in
     rw (c.in-Build.is, p.1, p.2) (layers_refuse (used (g.F.Files.state c.args.files.now) (g.F.Files.state c.build_layers.new.files)) request options (texts_of c.in-Build.layers.items) c.args.out.now c.build_layers.new.out
-    c.in_err-report-in-Build.field-0.0 (λ fault h. (options, c.in_ok-options-in-Build.ensures.asked, h)) (λ front. front) refused)
+    c.in_err-report-in-Build.field-0.0 (λ fault h. (options, c.in_ok-options-in-Build.ensures.asked, h)) (λ prefix. prefix) refused)
 
 pub returns-in_ok-report-in-Simplify-clause-reduced : goal.returns-in_ok-report-in-Simplify-clause-reduced
 returns-in_ok-report-in-Simplify-clause-reduced g c = rw c.in-Simplify.is c.in_ok-report-in-Simplify.ensures.reduced

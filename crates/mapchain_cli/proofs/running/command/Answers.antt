@@ -35,11 +35,11 @@ pub returns : goal.returns
 returns g c =
     let files = used (g.F.Files.state c.args.files.now) (g.F.Files.state c.args.files.now) in
     let old : Streams = record { out = c.args.out.now; err = c.args.err.now } in
-    let new : Streams = record { out = c.tell_words.new.out; err = c.tell_words.new.err } in
+    let new : Streams = record { out = c.print_words_fault.new.out; err = c.print_words_fault.new.err } in
     let words = joined (map string_bytes c.args.words.items) in
-    let ran : RunsOn files words old new c.tell_words.result = inr (Memory, (inl refl, tt), c.tell_words.ensures, refl) in
-    let said = says files words old new c.tell_words.result ran in
-    let filed = files_say files words old new c.tell_words.result ran in
+    let ran : RunsOn files words old new c.print_words_fault.result = inr (Memory, (inl refl, tt), c.print_words_fault.ensures, refl) in
+    let said = says files words old new c.print_words_fault.result ran in
+    let filed = files_say files words old new c.print_words_fault.result ran in
     record {
       ran = ran;
       status = said.small;

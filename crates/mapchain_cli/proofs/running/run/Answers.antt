@@ -10,4 +10,4 @@ pub returns-in-Ok : goal.returns-in-Ok
 returns-in-Ok g c = inl (c.in-Ok.order, c.in-Ok.ensures.exact, c.in-Ok.ensures.detail, c.carry_out.ensures)
 
 pub returns-in-Err : goal.returns-in-Err
-returns-in-Err g c = inr (c.in-Err.fault, (c.in-Err.ensures.exact, c.in-Err.ensures.fault), c.tell_words.ensures, refl)
+returns-in-Err g c = inr (c.in-Err.fault, (c.in-Err.ensures.exact, c.in-Err.ensures.fault), c.print_words_fault.ensures, refl)

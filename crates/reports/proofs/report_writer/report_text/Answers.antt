@@ -2,7 +2,7 @@ use Rattle.std.proofs.Common.{◌++◌, ◌∙◌, ap, append_assoc}
 use Rattle.std.proofs.lemmas.List.{drop_all}
 use Rattle.byte_ends.proofs.Parts.{begins, goes, ends, then, whole}
 use Rattle.reports.specs.Reports.{all_dropped_text, arcs_text, chosen_text, counts_text, dropped_text}
-use Rattle.list_laws.proofs.Lists.{drop_here}
+use Rattle.owned_values.proofs.Lists.{drop_here}
 use Rattle.reports.proofs.report_writer.report_text.Goals as goal
 
 pub dropped-init : goal.dropped-init

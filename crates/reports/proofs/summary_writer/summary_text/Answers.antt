@@ -4,7 +4,7 @@ use Rattle.std.proofs.lemmas.List.{drop_all}
 use Rattle.byte_ends.proofs.Parts.{begins, goes, ends, whole}
 use Rattle.reports.specs.Reports.{line_text}
 use Rattle.reports.specs.Summaries.{object_text, objects_text, totals_text}
-use Rattle.list_laws.proofs.Lists.{drop_here}
+use Rattle.owned_values.proofs.Lists.{drop_here}
 use Rattle.reports.proofs.summary_writer.summary_text.Goals as goal
 
 pub objects-init : goal.objects-init

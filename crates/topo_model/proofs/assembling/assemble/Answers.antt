@@ -1,7 +1,7 @@
 use Rattle.std.proofs.Common.{sym, ap, ◌∙◌, subst, arith, length, ◌<◌, ◌^◌}
 use Rattle.topojson_types.specs.Validity.{IsTopology}
-use Rattle.lessened_topology.proofs.Assembled.{contents}
-use Rattle.lessened_topology.specs.Lessened.{EachFromFirstToLast}
+use Rattle.simplified_topology.proofs.Assembled.{contents}
+use Rattle.simplified_topology.specs.Simplified.{EachFromFirstToLast}
 use Rattle.topo_model.proofs.Assembled.{table_arcs}
 use Rattle.topo_model.proofs.assembling.assemble.Goals as goal
 

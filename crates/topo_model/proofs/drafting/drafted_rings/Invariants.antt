@@ -4,4 +4,4 @@ use Rattle.topo_model.proofs.Taking.{Mapped}
 use Rattle.topo_model.proofs.drafting.drafted_rings.Given as goal
 
 abbrev pub invariant-rings : goal.invariant-rings
-invariant-rings l = Mapped (λ p. (true, p) ∷ []) (λ of p. draft_refs of true p) (take l.ring-index l.rings) l.initial.waiting l.made.items l.waiting
+invariant-rings l = Mapped (λ p. (true, p) ∷ []) (λ of p. draft_refs of true p) (take l.ring-index l.rings) l.initial.remaining l.made.items l.remaining

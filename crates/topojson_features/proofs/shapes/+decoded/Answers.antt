@@ -1,10 +1,10 @@
 use Rattle.std.proofs.Common.{◌<◌, subst, sym, ◌∙◌, ap, arith}
 use Rattle.std.specs.List.{AllByRecursion}
-use Rattle.list_laws.proofs.Elements.{all_at}
+use Rattle.owned_values.proofs.Elements.{all_at}
 use Rattle.geometry.specs.declared.shape.Geometry.TheVariants as g
 use Rattle.geojson_types.specs.Nesting.{nesting}
 use Rattle.topojson_types.proofs.Parts.{member_nests}
-use Rattle.topojson_features.specs.Strokes.{IsShape}
+use Rattle.topojson_features.specs.LinesAndRings.{IsShape}
 use Rattle.topojson_features.proofs.Decoded.{point_decodes, points_decode, line_decodes, lines_decode, area_decodes, areas_decode, group_decodes}
 use Rattle.topojson_features.proofs.Standing.{point_stands, points_stand, line_stands, lines_stand, area_stands, areas_stand, group_stands}
 use Rattle.topojson_features.proofs.shapes.+decoded.Goals as goal

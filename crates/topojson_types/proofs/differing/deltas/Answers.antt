@@ -1,4 +1,4 @@
-use Rattle.list_laws.proofs.Elements.{all_at}
+use Rattle.owned_values.proofs.Elements.{all_at}
 use Rattle.geometry.specs.Points.{IsPosition}
 use Rattle.topojson_types.proofs.SumsBack.{starts, turns, ends}
 use Rattle.topojson_types.proofs.differing.deltas.Goals as goal

@@ -5,9 +5,9 @@ use mir.Syntax.{w64}
 use Rattle.topojson_types.proofs.WholeNumbers.{stands_whole}
 use Rattle.topojson_types.proofs.placing.whole_number_on.Goals as goal
 
-told : (o : Option ℤ) (P : Type 0) (v w : ℤ) → SomeIff o P v → v ≡ w → IfSome o (λ u. u ≡ w)
-told None P v w h e = tt
-told (Some u) P v w h e = h.1 ∙ e
+reported : (o : Option ℤ) (P : Type 0) (v w : ℤ) → SomeIff o P v → v ≡ w → IfSome o (λ u. u ≡ w)
+reported None P v w h e = tt
+reported (Some u) P v w h e = h.1 ∙ e
 
 pub returns : goal.returns
 returns c =
@@ -17,4 +17,4 @@ returns c =
     let p : to_z w64 (of_z w64 c.in_ok-product.product) ≡ c.in_ok-product.product = search rules in
     let product : c.in_ok-product.product ≡ c.args.number *ℤ c.in_ok-units.field-0 = rw (k, s) at c.in_ok-product.ensures.1 in
     let stands = stands_whole c.args.scale.now c.args.translate.now c.args.number c.in_ok-units.field-0 c.in_ok-units-2.field-0 c.in_ok-units.ensures c.in_ok-units-2.ensures in
-    rw stands (told c.checked_add.result _ _ _ c.checked_add.ensures (rw (p, t, product) refl))
+    rw stands (reported c.checked_add.result _ _ _ c.checked_add.ensures (rw (p, t, product) refl))

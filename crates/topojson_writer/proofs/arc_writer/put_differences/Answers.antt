@@ -22,4 +22,4 @@ cells-preserved g c = λ last answer w.
 pub returns : goal.returns
 returns g c =
     let none = cells-end (text_by (position_value 0)) (codes "]") c.cells.is_first c.args.cells.now c.cells.cell-index c.cells.before c.cells-test.false in
-    c.cells.invariant _ _ (as_text (ap (λ t. c.cells.held ++ t) none) c.put_behind_held.ensures.wrote)
+    c.cells.invariant _ _ (as_text (ap (λ t. c.cells.held ++ t) none) c.put_after_held.ensures.wrote)

@@ -1,5 +1,5 @@
 use Rattle.std.proofs.Common.{ap, ◌∙◌}
-use Rattle.numbering.specs.Hashing.{hash_of_two, position_hash}
+use Rattle.junctions.specs.Hashing.{hash_of_two, position_hash}
 use Rattle.arc_table.specs.Hashing.{segment_hash}
 use Rattle.arc_table.proofs.starts.SegmentKey.hash.Goals as goal
 

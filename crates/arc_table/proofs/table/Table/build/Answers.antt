@@ -2,12 +2,12 @@ use Rattle.std.proofs.Common.{◌≡◌, ◌<◌, ◌≤◌, ◌+◌, ◌^◌, l
 use Rattle.std.specs.List.{sum_by}
 use Rattle.cutter.specs.Places.{In}
 use Rattle.cutter.specs.Segments.{line_segments, piece_segments}
-use Rattle.cutter.specs.Slices.{all_pieces, piece_lists, strokes}
-use Rattle.geometry.specs.Joins.{arc_at, rejoined}
+use Rattle.cutter.specs.Slices.{all_pieces, piece_lists, lines_and_rings}
+use Rattle.geometry.specs.Joins.{arc_at, stitched}
 use Rattle.arc_table.specs.Arcs.{table_of}
 use Rattle.arc_table.specs.Laws.{AreAllIn, AreOnceIn, IsTable, RingsClose}
-use Rattle.arc_table.specs.Starts.{StartsTell}
-use Rattle.arc_table.proofs.Telling.{structured_tells, line_in, line_tells, line_unlike, count_most, count_all}
+use Rattle.arc_table.specs.Starts.{StartsIdentify}
+use Rattle.arc_table.proofs.Identifying.{structured_identifies, line_in, line_identifies, line_unlike, count_most, count_all}
 use Rattle.arc_table.proofs.Growth.{build_arcs, build_refs}
 use Rattle.arc_table.proofs.Kept.{every_piece, table, built, kept, once_in_table, pieces_once, all_in_table, named_lists, lines_of_table, closed_in_table}
 use Rattle.arc_table.proofs.table.Table.build.Goals as goal
@@ -30,10 +30,10 @@ pub add_line-requires-clause-unlike : goal.add_line-requires-clause-unlike
 add_line-requires-clause-unlike c =
     line_unlike (piece_lists c.args.pieces.now) c.loop-i.i c.of_stroke.result c.loop-i.arcs.items c.of_stroke.ensures c.loop-i.invariant.0
 
-pub add_line-requires-clause-tell : goal.add_line-requires-clause-tell
-add_line-requires-clause-tell c =
-    line_tells (piece_lists c.args.pieces.now) c.loop-i.i c.of_stroke.result c.loop-i.arcs.items c.of_stroke.ensures c.loop-i.invariant.0
-    (subst StartsTell (sym (every_piece c.args.pieces.now)) (structured_tells (all_pieces c.args.pieces.now) c.law.ensures.structured))
+pub add_line-requires-clause-identify : goal.add_line-requires-clause-identify
+add_line-requires-clause-identify c =
+    line_identifies (piece_lists c.args.pieces.now) c.loop-i.i c.of_stroke.result c.loop-i.arcs.items c.of_stroke.ensures c.loop-i.invariant.0
+    (subst StartsIdentify (sym (every_piece c.args.pieces.now)) (structured_identifies (all_pieces c.args.pieces.now) c.law.ensures.structured))
 
 pub add_line-requires-clause-long : goal.add_line-requires-clause-long
 add_line-requires-clause-long c = λ x k. c.law.ensures.long x (subst (λ l. In x l) (every_piece c.args.pieces.now)
@@ -51,10 +51,10 @@ returns c =
     built c.args.pieces.now c.loop-i.i c.loop-i.arcs.items c.loop-i.refs.items (omega (arith, c.loop-i-test.false, c.len-i-end.ensures)) c.loop-i.invariant.0 c.loop-i.invariant.1 in
     record {
       table = e;
-      once = subst (λ t. AreOnceIn t.arcs (line_segments (strokes c.args.pieces.now))) (sym e) (once_in_table c.args.pieces.now c.law.ensures.joined c.law.ensures.sharing c.law.ensures.once);
+      once = subst (λ t. AreOnceIn t.arcs (line_segments (lines_and_rings c.args.pieces.now))) (sym e) (once_in_table c.args.pieces.now c.law.ensures.joined c.law.ensures.sharing c.law.ensures.once);
       pieces_once = subst (λ t. AreOnceIn t.arcs (piece_segments (all_pieces c.args.pieces.now))) (sym e) (pieces_once c.args.pieces.now c.law.ensures.sharing c.law.ensures.once);
-      all = subst (λ t. AreAllIn t.arcs (line_segments (strokes c.args.pieces.now))) (sym e) (all_in_table c.args.pieces.now c.law.ensures.joined);
+      all = subst (λ t. AreAllIn t.arcs (line_segments (lines_and_rings c.args.pieces.now))) (sym e) (all_in_table c.args.pieces.now c.law.ensures.joined);
       named = subst (λ t. map (map (arc_at t.arcs)) t.refs ≡ piece_lists c.args.pieces.now) (sym e) (named_lists c.args.pieces.now);
-      joined = subst (λ t. map (λ refs. rejoined (map (arc_at t.arcs) refs)) t.refs ≡ map (λ s. s.positions) (strokes c.args.pieces.now)) (sym e) (lines_of_table c.args.pieces.now c.law.ensures.joined);
-      closed = subst (λ t. RingsClose t.arcs (strokes c.args.pieces.now) t.refs) (sym e) (closed_in_table c.args.pieces.now c.law.ensures.joined c.law.ensures.long c.law.ensures.clean);
+      joined = subst (λ t. map (λ refs. stitched (map (arc_at t.arcs) refs)) t.refs ≡ map (λ s. s.positions) (lines_and_rings c.args.pieces.now)) (sym e) (lines_of_table c.args.pieces.now c.law.ensures.joined);
+      closed = subst (λ t. RingsClose t.arcs (lines_and_rings c.args.pieces.now) t.refs) (sym e) (closed_in_table c.args.pieces.now c.law.ensures.joined c.law.ensures.long c.law.ensures.clean);
     }

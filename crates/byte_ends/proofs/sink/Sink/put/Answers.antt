@@ -22,11 +22,11 @@ loop-at-init g c = record {
 
 pub loop-at-preserved : goal.loop-at-preserved
 loop-at-preserved g c =
-    let told = rw rest_of at c.in-Ok.ensures in
+    let reported = rw rest_of at c.in-Ok.ensures in
     record {
       counted = omega arith;
-      takes = Takes-more _ _ _ _ _ _ c.loop-at.invariant.takes told.bound told.bytes c.saturating_add-self-inside.ensures;
+      takes = Takes-more _ _ _ _ _ _ c.loop-at.invariant.takes reported.bound reported.bytes c.saturating_add-self-inside.ensures;
       sound = omega arith;
-      late = told.late.0 c.loop-at.invariant.sound ∙ c.loop-at.invariant.late;
+      late = reported.late.0 c.loop-at.invariant.sound ∙ c.loop-at.invariant.late;
       small = omega arith;
     }

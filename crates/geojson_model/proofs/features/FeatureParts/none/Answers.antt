@@ -4,4 +4,4 @@ use Rattle.geojson_model.proofs.features.FeatureParts.none.Goals as goal
 
 pub returns : goal.returns
 unfolding named
-returns c = λ start deep. record { kind = refl; fields = c.none.ensures start }
+returns c = λ start depth_left. record { kind = refl; fields = c.none.ensures start }

@@ -4,4 +4,4 @@ use Rattle.geojson_model.proofs.geometries.Parts.none.Goals as goal
 
 pub returns : goal.returns
 unfolding named
-returns c = λ start deep. record { kind = refl; coordinates = refl; geometries = refl }
+returns c = λ start depth_left. record { kind = refl; coordinates = refl; geometries = refl }

@@ -2,30 +2,30 @@ use Rattle.std.proofs.Common.{[], ◌++◌, ◌∷◌, refl, subst, sym}
 use Rattle.std.specs.Prelude.{codes, Ok}
 use Rattle.json_cursor.specs.Names.{name_of}
 use Rattle.geojson_meaning.specs.Members.{named}
-use Rattle.geojson_model.specs.Members.{IsCoordinates, IsFront, IsParts, IsSeen, IsType, Sees}
+use Rattle.geojson_model.specs.Members.{IsCoordinates, BeginsAt, IsParts, IsOccurrence, IsType, Sees}
 use Rattle.geojson_model.specs.declared.geometries.Parts.{Parts}
-use Rattle.geojson_model.proofs.SeenMembers.{not_other, passes, sees}
+use Rattle.geojson_model.proofs.MemberOccurrences.{not_other, passes, sees}
 use Rattle.geojson_model.proofs.geometries.Parts.see.Goals as goal
 use Rattle.geojson_model.proofs.geometries.Parts.see.Goals.{then-is-3, else-is-3}
 
 pub returns-then-is : goal.returns-then-is
 returns-then-is c =
-    let d = c.args.deep in
+    let d = c.args.depth_left in
     let name = name_of c.args.name.now in
     let found = c.in_ok-kind.ensures in
     let same = sym c.if-is.ensures in (
       found.0,
       found.1,
       λ ms h. record {
-        kind = subst (λ s. IsSeen IsType (named (codes "type") (ms ++ (name, found.0) ∷ [])) s) (sym c.see.ensures) (sees IsType (codes "type") ms name found.0 c.args.self.now.kind h.kind c.in_ok-kind.kind same found.2);
+        kind = subst (λ s. IsOccurrence IsType (named (codes "type") (ms ++ (name, found.0) ∷ [])) s) (sym c.see.ensures) (sees IsType (codes "type") ms name found.0 c.args.self.now.kind h.kind c.in_ok-kind.kind same found.2);
         coordinates = passes (IsCoordinates c.args.start d) (codes "coordinates") ms name found.0 c.args.self.now.coordinates h.coordinates (not_other name (codes "type") (codes "coordinates") same refl);
-        geometries = passes (IsFront d) (codes "geometries") ms name found.0 c.args.self.now.geometries h.geometries (not_other name (codes "type") (codes "geometries") same refl);
+        geometries = passes (BeginsAt d) (codes "geometries") ms name found.0 c.args.self.now.geometries h.geometries (not_other name (codes "type") (codes "geometries") same refl);
       },
     )
 
 pub returns-then-is-2 : goal.returns-then-is-2
 returns-then-is-2 c =
-    let d = c.args.deep in
+    let d = c.args.depth_left in
     let name = name_of c.args.name.now in
     let found = c.in_ok-found.ensures in
     let same = sym c.if-is-2.ensures in (
@@ -33,15 +33,15 @@ returns-then-is-2 c =
       found.1,
       λ ms h. record {
         kind = passes IsType (codes "type") ms name found.0 c.args.self.now.kind h.kind (not_other name (codes "coordinates") (codes "type") same refl);
-        coordinates = subst (λ s. IsSeen (IsCoordinates c.args.start d) (named (codes "coordinates") (ms ++ (name, found.0) ∷ [])) s) (sym c.see-then-is-2.ensures)
+        coordinates = subst (λ s. IsOccurrence (IsCoordinates c.args.start d) (named (codes "coordinates") (ms ++ (name, found.0) ∷ [])) s) (sym c.see-then-is-2.ensures)
             (sees (IsCoordinates c.args.start d) (codes "coordinates") ms name found.0 c.args.self.now.coordinates h.coordinates c.in_ok-found.found same found.2);
-        geometries = passes (IsFront d) (codes "geometries") ms name found.0 c.args.self.now.geometries h.geometries (not_other name (codes "coordinates") (codes "geometries") same refl);
+        geometries = passes (BeginsAt d) (codes "geometries") ms name found.0 c.args.self.now.geometries h.geometries (not_other name (codes "coordinates") (codes "geometries") same refl);
       },
     )
 
 pub returns : goal.returns
 returns c =
-    let d = c.args.deep in
+    let d = c.args.depth_left in
     let name = name_of c.args.name.now in
     let found = c.in_ok-rest.ensures in
     let no_type = sym c.if-is.ensures in
@@ -53,8 +53,8 @@ returns c =
         λ ms h. record {
           kind = passes IsType (codes "type") ms name found.0 c.args.self.now.kind h.kind no_type;
           coordinates = passes (IsCoordinates c.args.start d) (codes "coordinates") ms name found.0 c.args.self.now.coordinates h.coordinates no_coordinates;
-          geometries = subst (λ s. IsSeen (IsFront d) (named (codes "geometries") (ms ++ (name, found.0) ∷ [])) s) (sym w.see-then-is-3.ensures)
-              (sees (IsFront d) (codes "geometries") ms name found.0 c.args.self.now.geometries h.geometries c.args.value (sym w.if-is-3.ensures) (_, found.1));
+          geometries = subst (λ s. IsOccurrence (BeginsAt d) (named (codes "geometries") (ms ++ (name, found.0) ∷ [])) s) (sym w.see-then-is-3.ensures)
+              (sees (BeginsAt d) (codes "geometries") ms name found.0 c.args.self.now.geometries h.geometries c.args.value (sym w.if-is-3.ensures) (_, found.1));
         },
       )
       | else-is-3 w ↦ subst (λ (s : Parts). Sees (IsParts c.args.start d) d name c.args.value.now c.args.self.now s (Ok c.in_ok-rest.rest)) (sym w.self-is) (
@@ -63,7 +63,7 @@ returns c =
         λ ms h. record {
           kind = passes IsType (codes "type") ms name found.0 c.args.self.now.kind h.kind no_type;
           coordinates = passes (IsCoordinates c.args.start d) (codes "coordinates") ms name found.0 c.args.self.now.coordinates h.coordinates no_coordinates;
-          geometries = passes (IsFront d) (codes "geometries") ms name found.0 c.args.self.now.geometries h.geometries (sym w.if-is-3.ensures);
+          geometries = passes (BeginsAt d) (codes "geometries") ms name found.0 c.args.self.now.geometries h.geometries (sym w.if-is-3.ensures);
         },
       )
     ]

@@ -1,5 +1,0 @@
-use Rattle.arc_choice.proofs.Chosen.{Chooses}
-use Rattle.arc_choice.proofs.trimming.kept_arcs.Given as goal
-
-abbrev pub invariant-arcs : goal.invariant-arcs
-invariant-arcs l = Chooses l.used l.yielded l.flags l.kept.items

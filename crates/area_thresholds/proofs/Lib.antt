@@ -1,4 +1,0 @@
-mod Examples
-mod ShareExamples
-pub mod Areas
-pub mod ShareNumbers

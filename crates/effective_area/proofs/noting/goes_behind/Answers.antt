@@ -1,6 +1,0 @@
-use Rattle.std.proofs.Common.{sym, ◌∙◌}
-use Rattle.effective_area.proofs.LinkLaws.{not_true}
-use Rattle.effective_area.proofs.noting.goes_behind.Goals as goal
-
-pub returns : goal.returns
-returns c = λ h. sym c.goes_before.ensures ∙ not_true c.goes_before.result h

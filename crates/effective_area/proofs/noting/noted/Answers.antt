@@ -1,7 +1,0 @@
-use Rattle.effective_area.specs.Links.{area_in}
-use Rattle.effective_area.proofs.LinkLaws.{noted_at}
-use Rattle.effective_area.proofs.noting.noted.Goals as goal
-
-pub returns : goal.returns
-unfolding area_in
-returns c = noted_at c.args.arc.now c.args.links.now c.args.index c.index-arc-index.result c.requires.arc c.index-arc-index.is

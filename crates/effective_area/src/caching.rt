@@ -1,0 +1,119 @@
+ghost use Rattle.std.specs.Prelude.{◌≡◌, ℕ, ◌+◌, ◌-◌, ◌<◌, ◌≤◌, true, false, IfOk, length};
+ghost use Rattle.elimination_meaning.specs.Elimination.{is_before};
+ghost use Rattle.effective_area.specs.Counts.{AreasRose, RoseBy};
+ghost use Rattle.effective_area.specs.Links.{AreCached, Fits, IsFirst, CachesArea, entry_at};
+ghost use Rattle.effective_area.specs.Links as spec;
+ghost use Rattle.effective_area.specs.Vertices.{candidate_corner};
+
+use crate::candidate::Candidate;
+use crate::links::{Link, first_links, set_area};
+use crate::steps::{Steps, twice_area};
+use geometry::Position;
+use owned_values::Memory;
+use std::alloc::Global;
+
+/// The corner at an index, with the cached area.
+pub fn cached(arc: &[Position], links: &[Link], index: usize) -> Candidate
+    requires arc { index < length arc.now }
+    requires links { index < length links.now }
+    ensures { candidate_corner result ≡ spec.cached arc.now links.now index }
+{
+    let point = arc[index];
+    Candidate {
+        area: links[index].area,
+        point,
+        index,
+    }
+}
+
+/// Whether the corner at an index goes before another one, by the cached areas.
+#[tactic(auto, unfolding(elimination_meaning::specs::Elimination::is_before))]
+pub fn goes_before(arc: &[Position], links: &[Link], index: usize, other: usize) -> bool
+    requires size { length links.now ≡ length arc.now }
+    requires index { index < length links.now }
+    requires other { other < length links.now }
+    ensures { result ≡ is_before (spec.cached arc.now links.now index) (spec.cached arc.now links.now other) }
+{
+    cached(arc, links, index) < cached(arc, links, other)
+}
+
+/// Whether the corner at an index doesn't go before another one.
+pub fn goes_after(arc: &[Position], links: &[Link], index: usize, other: usize) -> bool
+    requires size { length links.now ≡ length arc.now }
+    requires index { index < length links.now }
+    requires other { other < length links.now }
+    ensures { result ≡ true → is_before (spec.cached arc.now links.now index) (spec.cached arc.now links.now other) ≡ false }
+{
+    !goes_before(arc, links, index, other)
+}
+
+/// Twice the area of the corner at an index between these neighbours.
+fn area_between(
+    steps: &mut Steps,
+    arc: &[Position],
+    before: usize,
+    index: usize,
+    after: usize,
+) -> u128
+    requires before { before < length arc.now }
+    requires index { index < length arc.now }
+    requires after { after < length arc.now }
+    ensures area { result ≡ (entry_at arc.now before index after).corner.area }
+    ensures counted { RoseBy 1 0 steps.old steps.new }
+    ensures computed { AreasRose 1 steps.old steps.new }
+{
+    let point = arc[index];
+    twice_area(steps, arc[before], point, arc[after])
+}
+
+/// Notes the area at an index with its present neighbours, if it is between the ends.
+pub fn note_area(links: &mut [Link], steps: &mut Steps, arc: &[Position], index: usize)
+    requires size { length links.old ≡ length arc.now }
+    requires within { index < length links.old }
+    requires fits { 0 < index → index + 1 < length links.old → Fits links.old (length arc.now) index }
+    ensures cached { CachesArea arc.now links.old links.new index }
+    ensures counted { RoseBy 1 0 steps.old steps.new }
+    ensures computed { 0 < index → index + 1 < length links.old → AreasRose 1 steps.old steps.new }
+{
+    if index == 0 {
+        return;
+    }
+    if links.len() - index <= 1 {
+        return;
+    }
+    let link = links[index];
+    let area = area_between(steps, arc, link.before, index, link.after);
+    set_area(links, index, area);
+}
+
+/// Links from each position of a line to the next, with the areas of its corners, and the threshold for those of its ends.
+pub fn cached_links(
+    alloc: Global,
+    steps: &mut Steps,
+    arc: &[Position],
+    t: u128,
+) -> Result<Vec<Link>, Memory>
+    requires two { 2 ≤ length arc.now }
+    ensures first { IfOk result (λ links. IsFirst links.items (length arc.now)) }
+    ensures cached { IfOk result (λ links. AreCached t arc.now links.items) }
+    ensures counted { RoseBy (length arc.now - 2) 0 steps.old steps.new }
+    ensures computed { IfOk result (λ _. AreasRose (length arc.now - 2) steps.old steps.new) }
+{
+    let mut links = first_links(alloc, arc.len(), t)?;
+    note_all(&mut links, steps, arc);
+    Ok(links)
+}
+
+/// Notes the area of each corner of a whole line.
+fn note_all(links: &mut [Link], steps: &mut Steps, arc: &[Position])
+    requires two { 2 ≤ length arc.now }
+    requires first { IsFirst links.old (length arc.now) }
+    ensures first { IsFirst links.new (length arc.now) }
+    ensures cached { (t : ℕ) → ((v : ℕ) → v < length arc.now → spec.area_in links.old v ≡ t) → AreCached t arc.now links.new }
+    ensures counted { RoseBy (length arc.now - 2) 0 steps.old steps.new }
+    ensures computed { AreasRose (length arc.now - 2) steps.old steps.new }
+{
+    for i in 1..arc.len() - 1 {
+        note_area(links, steps, arc, i);
+    }
+}

@@ -1,3 +1,0 @@
-pub mod FaultLines
-pub mod Statuses
-pub mod Telling

@@ -1,3 +1,0 @@
-pub mod Forms
-pub mod Kept
-pub mod Members

@@ -1,4 +1,0 @@
-pub mod Kept
-pub mod OnGrid
-mod Rows
-pub mod Snapped

@@ -1,5 +1,0 @@
-use Rattle.grid_meaning.proofs.OnGrid.{built_on}
-use Rattle.grid_meaning.proofs.laws.built_cells_are_on.Goals as goal
-
-pub returns : goal.returns
-returns c g t limit ls on = built_on c.nothing_is_new.ensures g t limit ls on

@@ -1,5 +1,0 @@
-use Rattle.grid_meaning.proofs.OnGrid.{built_decodes}
-use Rattle.grid_meaning.proofs.laws.built_decodes_gridded.Goals as goal
-
-pub returns : goal.returns
-returns c g t limit ls on sound distinct = built_decodes c.built_decodes_back.ensures c.built_decodes_back_on_grid.ensures g t limit ls on sound distinct

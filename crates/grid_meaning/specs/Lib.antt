@@ -1,2 +1,0 @@
-pub mod Gridded
-pub mod Laws

@@ -1,2 +1,0 @@
-pub mod GridTransforms
-pub mod Laws

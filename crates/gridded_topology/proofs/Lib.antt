@@ -1,3 +1,0 @@
-pub mod Agreeing
-pub mod Covered
-pub mod Snapping

@@ -1,7 +1,0 @@
-use Rattle.std.proofs.Common.{map}
-use Rattle.geometry.proofs.Moved.{Replaced}
-use Rattle.gridded_topology.specs.Replacing.{cell_if_covered}
-use Rattle.gridded_topology.proofs.cells.arcs_on.Given as goal
-
-abbrev pub invariant-arcs : goal.invariant-arcs
-invariant-arcs l = Replaced (map (cell_if_covered l.grid)) l.fn.arcs l.arc-index l.arcs

@@ -1,6 +1,0 @@
-use Rattle.geometry.proofs.Moved.{Replaced}
-use Rattle.gridded_topology.specs.Replacing.{cell_if_covered}
-use Rattle.gridded_topology.proofs.cells.cells_on.Given as goal
-
-abbrev pub invariant-cells : goal.invariant-cells
-invariant-cells l = Replaced (cell_if_covered l.grid) l.fn.cells l.cell-index l.cells

@@ -1,5 +1,0 @@
-pub mod Inside
-pub mod Looking
-pub mod Parts
-pub mod Turns
-pub mod Yields

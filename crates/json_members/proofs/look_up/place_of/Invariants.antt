@@ -1,5 +1,0 @@
-use Rattle.json_members.proofs.Looking.{Met}
-use Rattle.json_members.proofs.look_up.place_of.Given as goal
-
-abbrev pub invariant-members : goal.invariant-members
-invariant-members l = Met l.name l.members l.index l.found

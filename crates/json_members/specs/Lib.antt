@@ -1,4 +1,0 @@
-pub mod Answers
-pub mod Members
-pub mod Places
-pub mod Readers

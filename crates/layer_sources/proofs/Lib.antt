@@ -1,5 +1,0 @@
-pub mod LayersDecided
-mod LayersReached
-pub mod NamesFound
-mod NamesMet
-pub mod SourcesRead

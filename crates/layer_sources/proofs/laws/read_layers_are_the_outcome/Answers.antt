@@ -1,5 +1,0 @@
-use Rattle.layer_sources.proofs.LayersDecided.{read_comes}
-use Rattle.layer_sources.proofs.laws.read_layers_are_the_outcome.Goals as goal
-
-pub returns : goal.returns
-returns c = λ exact olds news layers counts bytes have read. read_comes 0 exact olds news layers counts bytes read have

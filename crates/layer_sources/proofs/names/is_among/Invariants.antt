@@ -1,6 +1,0 @@
-use Rattle.std.proofs.Common.{◌≡◌, drop, map}
-use Rattle.layer_sources.specs.Names.{is_among}
-use Rattle.layer_sources.proofs.names.is_among.Given as goal
-
-abbrev pub invariant-loop-source : goal.invariant-loop-source
-invariant-loop-source g l = is_among l.name (map (λ s. s.0) (drop l.source-index l.sources)) ≡ is_among l.name (map (λ s. s.0) l.sources)

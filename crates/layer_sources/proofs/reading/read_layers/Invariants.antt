@@ -1,7 +1,0 @@
-use Rattle.std.proofs.Common.{◌≡◌, List, length}
-use Rattle.geojson_types.specs.declared.counts.Counts.{Counts}
-use Rattle.layer_sources.specs.Sources.{HaveRead, added}
-use Rattle.layer_sources.proofs.reading.read_layers.Given as goal
-
-abbrev pub invariant-sources : goal.invariant-sources
-invariant-sources g l = (counts : List Counts) × HaveRead l.exact l.initial.sources l.sources l.layers.items counts × (l.layer ≡ length l.layers.items) × (l.counts ≡ added counts)

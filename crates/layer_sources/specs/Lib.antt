@@ -1,5 +1,0 @@
-pub mod Laws
-pub mod Names
-pub mod Outcomes
-pub mod Reading
-pub mod Sources

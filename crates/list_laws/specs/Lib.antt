@@ -1,2 +1,0 @@
-pub mod Commas
-pub mod Lists

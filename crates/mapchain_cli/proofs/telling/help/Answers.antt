@@ -1,8 +1,0 @@
-use Rattle.mapchain_cli.proofs.Cut.{help_cut}
-use Rattle.mapchain_cli.proofs.telling.help.Goals as goal
-
-pub returns-in-Err : goal.returns-in-Err
-returns-in-Err g c =
-    let text = c.as_bytes.result.now in
-    help_cut c.args.out.now c.flush_behind.new.sink c.args.err.now c.tell_fault.new.err text c.in-Err.fault c.from.result c.tell_fault.result c.from.ensures
-    (c.in-Err.ensures c.args.out.now 0 text c.put-written.ensures.wrote) c.tell_fault.ensures.told c.tell_fault.ensures.status

@@ -1,0 +1,37 @@
+-- What is answered of a source that is read to its end.
+use Rattle.std.proofs.Common.{◌≡◌, ◌≢◌, ℕ, List, Result, Ok, Err, refl}
+use Rattle.byte_ends.specs.Ends.{Fed}
+use Rattle.json_reading.specs.Outcome.{SaysUtf8, SpellsNothing}
+use Rattle.json_reading.specs.declared.fault.JsonFault.{JsonFault}
+use Rattle.json_reading.specs.declared.fault.JsonFault.TheVariants as text
+use Rattle.geojson_types.specs.declared.counts.Counts.{Counts}
+use Rattle.inputs.specs.declared.file_fault.FileFault.{FileFault}
+use Rattle.inputs.specs.declared.file_fault.FileFault.TheVariants.{Read, Json, Topo, NoObject, Write, Memory}
+use Rattle.inputs.specs.Texts.{IsNoText, IsRead}
+use Rattle.topojson_decoder.specs.declared.topologies.Parts.{Parts}
+use Rattle.topojson_types.specs.Topologies.{Contents}
+use Rattle.json_value.specs.Limits.{topology_depth}
+use Rattle.mapchain_engine.specs.Files.{FailsToGive, IsBlankOf, IsNoTopology, IsTopologyOf, ReadsBlank, ReadsTopology}
+
+-- why bytes are no text
+pub no_text : (bytes : List ℕ) (fault : JsonFault) → fault ≢ text.Memory → SaysUtf8 bytes (Err fault) → SpellsNothing topology_depth bytes (Err fault) → IsNoText topology_depth bytes fault
+no_text bytes (text.NotUtf8 at) other utf8 none = utf8
+no_text bytes (text.Malformed at why) other utf8 none = (utf8, none)
+no_text bytes text.Memory other utf8 none = absurd (other refl)
+
+module _ (old new : Fed) (bytes : List ℕ) (is : IsRead old new bytes) where
+  fails : (e : FileFault) → IsNoTopology bytes e → FailsToGive old new e
+  fails (Read fault) h = absurd h
+  fails (Json fault) h = (bytes, is, h)
+  fails (Topo fault) h = (bytes, is, h)
+  fails NoObject h = absurd h
+  fails (Write sent) h = absurd h
+  fails Memory h = is.untroubled
+
+  pub topology_read : (r : Result (Contents × Counts) FileFault) → IsTopologyOf bytes r → ReadsTopology old new r
+  topology_read (Ok r) h = record { bytes = bytes; read = is; spells = h }
+  topology_read (Err e) h = fails e h
+
+  pub blank_read : (r : Result Parts FileFault) → IsBlankOf bytes r → ReadsBlank old new r
+  blank_read (Ok parts) h = record { contents = h.0; counts = h.1; read = record { bytes = bytes; read = is; spells = h.2 }; kept = h.3 }
+  blank_read (Err e) h = fails e h

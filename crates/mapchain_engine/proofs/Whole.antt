@@ -1,0 +1,53 @@
+-- From what is read and what is sent to what is answered.
+use Rattle.std.proofs.Common.{◌≡◌, ℕ, List, subst, refl, map-id, Option, Some, None, Ok, Err}
+use Rattle.std.specs.Prelude.{map}
+use Rattle.byte_ends.specs.Ends.{Fed, Drained}
+use Rattle.byte_ends.specs.Writes.{WritesAll}
+use Rattle.geometry.specs.Points.{Point}
+use Rattle.inputs.specs.declared.file_fault.FileFault.{FileFault}
+use Rattle.inputs.specs.declared.file_fault.FileFault.TheVariants.{Read, Json, Topo, NoObject, Write, Memory}
+use Rattle.json_value.specs.Text.{json_text}
+use Rattle.simplified_topology.specs.Thresholds.{placed_cells}
+use Rattle.reports.specs.declared.report.Report.{Report}
+use Rattle.topojson_types.specs.declared.transform.Transform.{Transform}
+use Rattle.topojson_types.specs.Topologies.{Contents}
+use Rattle.topojson_types.specs.Transforms.{place}
+use Rattle.topojson_types.specs.Values.{topology_value}
+use Rattle.mapchain_engine.specs.Files.{FailsToGive}
+use Rattle.mapchain_engine.specs.Geo.{SendsText}
+use Rattle.mapchain_engine.specs.SimplifyLaws.{SimplifiedIsUtf8}
+use Rattle.mapchain_engine.specs.Simplified.{IsReadAndSimplified, IsSimplified, IsSimplifyFault}
+
+-- ---- positions of cells
+
+pub placed : (transform : Option Transform) (cells : List Point) → map (place transform) cells ≡ placed_cells transform cells
+placed None cells = map-id cells
+placed (Some t) cells = refl
+
+-- ---- nothing is written
+
+pub not_given : (t limit : ℕ) (old new : Fed) (sink : Drained) (e : FileFault) → FailsToGive old new e → IsSimplifyFault t limit old new sink sink e
+not_given t limit old new sink (Read r) f = (refl, f)
+not_given t limit old new sink (Json r) f = (refl, f)
+not_given t limit old new sink (Topo r) f = (refl, f)
+not_given t limit old new sink NoObject f = (refl, f)
+not_given t limit old new sink Memory f = (refl, f)
+not_given t limit old new sink (Write sent) f = absurd f.2
+
+-- ---- the text of what is left is sent
+
+module _ (t limit : ℕ) (old new : Fed) (sink_old sink_new : Drained) (less : Contents) (report : Report) (is : IsReadAndSimplified t limit old new less report) where
+  pub sent_whole : SimplifiedIsUtf8 → (sent : ℕ) → SendsText sink_old sink_new (json_text (topology_value less)) (Ok sent) → IsSimplified t limit old new sink_old sink_new report
+  sent_whole utf8 sent w =
+      let all = subst (λ z. WritesAll sink_old sink_new 0 (json_text (topology_value z)) sent) is.left w.0 in
+      let read = is.read in
+      record { contents = is.contents; counts = is.counts; read = is.read; utf8 = utf8 t limit read.bytes is.contents is.counts read.spells; written = all.took; sound = all.sound; flushed = w.1; reported = is.reported }
+
+  pub cut_short : (e : FileFault) → SendsText sink_old sink_new (json_text (topology_value less)) (Err e) → IsSimplifyFault t limit old new sink_old sink_new e
+  cut_short (Write sent) w =
+      record { contents = is.contents; counts = is.counts; read = is.read; written = rw is.left at w }
+  cut_short (Read r) w = absurd w
+  cut_short (Json r) w = absurd w
+  cut_short (Topo r) w = absurd w
+  cut_short NoObject w = absurd w
+  cut_short Memory w = absurd w

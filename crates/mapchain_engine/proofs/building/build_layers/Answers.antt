@@ -1,0 +1,71 @@
+use Rattle.std.proofs.Common.{◌∙◌, ap, subst, Err, length, ◌<◌, ◌^◌}
+use Rattle.std.proofs.lemmas.Result.{err_from_is_err_and}
+use Rattle.json_value.specs.Text.{json_text}
+use Rattle.topojson_types.specs.Values.{topology_value}
+use Rattle.reports.specs.Summaries.{report_with}
+use Rattle.mapchain_engine.specs.Building.{Sends, chosen_for, snapped_for, threshold_for, written_for}
+use Rattle.build_meaning.specs.Built.{removed_count}
+use Rattle.build_meaning.specs.Expected.{expected_dropped}
+use Rattle.byte_ends.specs.Ends.{saturated}
+use Rattle.mapchain_engine.proofs.Built as built
+use Rattle.mapchain_engine.proofs.SoundLayers.{level_of, limit_of}
+use Rattle.mapchain_engine.proofs.building.build_layers.Goals as goal
+
+pub returns-in_err-layers-clause-refused : goal.returns-in_err-layers-clause-refused
+returns-in_err-layers-clause-refused g c =
+    let p = err_from_is_err_and c.from_residual.result c.from_residual.ensures.1 in
+    rw (p.1, p.2) (built.not_read c.args.options.now c.args.sources.now c.read_layers.new.sources c.args.sink.now _ c.in_err-layers.ensures)
+
+pub topology_of_layers-requires-clause-taken : goal.topology_of_layers-requires-clause-taken
+topology_of_layers-requires-clause-taken g c =
+    let r = c.in_ok-layers.ensures in
+    built.may_be_made c.building_laws.ensures.layers c.args.options.now c.args.sources.now c.read_layers.new.sources c.in_ok-layers.layers.items r.0 r.1 c.requires.names
+
+pub topology_of_layers-requires-clause-level : goal.topology_of_layers-requires-clause-level
+topology_of_layers-requires-clause-level g c = level_of c.args.options.now
+
+pub topology_of_layers-requires-clause-limit : goal.topology_of_layers-requires-clause-limit
+topology_of_layers-requires-clause-limit g c = limit_of c.args.options.now
+
+pub returns-in_err-topology-clause-refused : goal.returns-in_err-topology-clause-refused
+returns-in_err-topology-clause-refused g c =
+    let r = c.in_ok-layers.ensures in
+    let p = err_from_is_err_and c.from_residual-in_err-topology.result c.from_residual-in_err-topology.ensures.1 in
+    rw (p.1, p.2) (built.no_memory c.args.options.now c.args.sources.now c.read_layers.new.sources c.args.sink.now c.in_ok-layers.layers.items r.0 r.1)
+
+pub returns-in_err-send-clause-refused : goal.returns-in_err-send-clause-refused
+returns-in_err-send-clause-refused g c =
+    let r = c.in_ok-layers.ensures in
+    let o = c.args.options.now in
+    let ls = c.in_ok-layers.layers.items in
+    let p = err_from_is_err_and c.from_residual-in_err-send.result c.from_residual-in_err-send.ensures.1 in
+    let few : length (written_for o ls).arcs < 2 ^ 63 = subst (λ z. length z.arcs < 2 ^ 63) c.in_ok-topology.ensures.topology c.in_ok-topology.ensures.few in
+    rw (p.1, p.2)
+    (built.cut_short c.building_laws.ensures o c.args.sources.now c.read_layers.new.sources ls r.0 r.1
+    (built.distinct o.exact c.args.sources.now c.read_layers.new.sources ls r.0 r.1 c.requires.names) (built.names_texts o.exact c.args.sources.now c.read_layers.new.sources ls r.0 r.1 c.requires.texts) few c.args.sink.now c.send.new.sink _
+    (subst (λ z. Sends c.args.sink.now c.send.new.sink (json_text (topology_value z)) (Err c.in_err-send.field-0.0)) c.in_ok-topology.ensures.topology c.in_err-send.ensures))
+
+pub returns-clause-built : goal.returns-clause-built
+returns-clause-built g c =
+    let r = c.in_ok-layers.ensures in
+    let o = c.args.options.now in
+    let ls = c.in_ok-layers.layers.items in
+    let e = c.in_ok-topology.ensures.topology in
+    let few : length (written_for o ls).arcs < 2 ^ 63 = subst (λ z. length z.arcs < 2 ^ 63) e c.in_ok-topology.ensures.few in
+    built.is_built c.building_laws.ensures o c.args.sources.now c.read_layers.new.sources ls r.0 r.1
+    (built.distinct o.exact c.args.sources.now c.read_layers.new.sources ls r.0 r.1 c.requires.names) (built.names_texts o.exact c.args.sources.now c.read_layers.new.sources ls r.0 r.1 c.requires.texts) few c.args.sink.now c.send.new.sink c.report_of-report.result
+    (rw e at c.in_ok-send.ensures)
+    (c.report_of-report.ensures
+    ∙ ap (λ arcs. report_with c.in_ok-layers.counts c.in_ok-topology.dropped.items arcs c.in_ok-topology.removed c.in_ok-topology.chosen) (c.arcs.ensures.arcs ∙ ap (λ z. z.arcs) e)
+    ∙ ap (λ ds. report_with c.in_ok-layers.counts ds (written_for o ls).arcs c.in_ok-topology.removed c.in_ok-topology.chosen) c.in_ok-topology.ensures.dropped
+    ∙ ap (λ n. report_with c.in_ok-layers.counts (expected_dropped (threshold_for o ls) o.ring_limit (snapped_for o ls)) (written_for o ls).arcs n c.in_ok-topology.chosen)
+    c.in_ok-topology.ensures.removed_count
+    ∙ ap (λ t. report_with c.in_ok-layers.counts (expected_dropped (threshold_for o ls) o.ring_limit (snapped_for o ls)) (written_for o ls).arcs
+    (saturated (removed_count (threshold_for o ls) o.ring_limit (snapped_for o ls))) t) c.in_ok-topology.ensures.chosen
+    ∙ ap (λ n. report_with n (expected_dropped (threshold_for o ls) o.ring_limit (snapped_for o ls)) (written_for o ls).arcs
+    (saturated (removed_count (threshold_for o ls) o.ring_limit (snapped_for o ls))) (chosen_for o ls)) r.2)
+
+pub returns-clause-reduced : goal.returns-clause-reduced
+returns-clause-reduced g c =
+    let r = c.in_ok-layers.ensures in
+    record { layers = c.in_ok-layers.layers.items; counts = r.0; read = r.1; called = c.in_ok-topology.ensures.called }

@@ -1,0 +1,10 @@
+use Rattle.mapchain_engine.proofs.FilesDecided.{one_file}
+use Rattle.mapchain_engine.proofs.FilesReached.{file_there}
+use Rattle.mapchain_engine.specs.SimplifyOutcomes.{simplified}
+use Rattle.mapchain_engine.proofs.simplify_laws.simplified_is_one_outcome.Goals as goal
+
+pub returns-clause-there : goal.returns-clause-there
+returns-clause-there c = λ t limit. file_there (simplified t limit)
+
+pub returns-clause-one : goal.returns-clause-one
+returns-clause-one c = λ t limit. one_file (simplified t limit)

@@ -1,0 +1,14 @@
+use Rattle.std.proofs.lemmas.Result.{err_from_is_err_and}
+use Rattle.json_value.specs.Text.{json_text}
+use Rattle.topojson_types.specs.Values.{topology_value}
+use Rattle.mapchain_engine.proofs.Sent.{cut}
+use Rattle.mapchain_engine.proofs.simplifying.send.Goals as goal
+
+pub returns-in_err-sent : goal.returns-in_err-sent
+returns-in_err-sent g c =
+    let text = json_text (topology_value c.args.topology.now) in
+    let p = err_from_is_err_and c.from_residual.result c.from_residual.ensures.1 in
+    rw (p.1, p.2) (cut c.args.sink.now c.flush_after.new.sink text _ (c.in_err-sent.ensures c.args.sink.now 0 text c.write_topology-written.ensures))
+
+pub returns : goal.returns
+returns g c = c.in_ok-sent.ensures c.args.sink.now 0 (json_text (topology_value c.args.topology.now)) c.write_topology-written.ensures

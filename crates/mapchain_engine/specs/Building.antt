@@ -1,0 +1,141 @@
+-- What `build` answers, reads and writes.
+use Rattle.std.specs.Prelude.{◌≡◌, ℕ, ◌+◌, ◌<◌, true, List, length, map, Option, Some, Result, Ok, Err, IsUtf8}
+use Rattle.std.specs.List.{AllByRecursion}
+use Rattle.byte_ends.specs.Ends.{Drained, Takes, saturated}
+use Rattle.byte_ends.specs.Writes.{WritesAll, WritesPrefix}
+use Rattle.json_value.specs.declared.json.Json.{Json}
+use Rattle.json_value.specs.Grammar.{Reads}
+use Rattle.json_value.specs.Limits.{topology_depth}
+use Rattle.geojson_types.specs.declared.counts.Counts.{Counts}
+use Rattle.geojson_types.specs.declared.layer.FeatureSet.TheVariants as set
+use Rattle.geojson_types.specs.Counting.{no_counts}
+use Rattle.json_value.specs.Text.{json_text}
+use Rattle.topojson_types.specs.Decoding.{decoded}
+use Rattle.topojson_types.specs.Topologies.{Contents}
+use Rattle.topojson_types.specs.Values.{topology_value}
+use Rattle.arc_table.specs.Laws.{AreOnceIn}
+use Rattle.build_meaning.specs.Built.{all_arcs, removed_count}
+use Rattle.build_meaning.specs.Expected.{expected, expected_dropped}
+use Rattle.build_meaning.specs.Layers.{layers_of, names_of}
+use Rattle.cutter.specs.Segments.{line_segments}
+use Rattle.linework.specs.Linework.{linework}
+use Rattle.layer_topology.specs.Laws.{WrittenLaws}
+use Rattle.layer_topology.specs.Levels.{level_calls, level_chosen, level_threshold}
+use Rattle.layer_topology.specs.Written.{snapped_to, written as written_on}
+use Rattle.topojson_meaning.specs.Laws.{ReadsBack, TextIsRead}
+use Rattle.topojson_meaning.specs.Texts.{TextIsUtf8}
+use Rattle.topojson_meaning.specs.Topologies.{topology}
+use Rattle.inputs.specs.declared.fault.BuildFault.{BuildFault}
+use Rattle.inputs.specs.declared.fault.BuildFault.TheVariants.{Write, Memory}
+use Rattle.mapchain_engine.specs.BuildLaws.{LayerLaws}
+use Rattle.mapchain_engine.specs.declared.options.Options.{Options}
+use Rattle.reports.specs.declared.report.Report.{Report}
+use Rattle.reports.specs.Summaries.{report_with}
+use Rattle.inputs.specs.Sources.{Sources, Named, AllRead, FailsAt, AreUntroubled, added}
+
+-- ---- what is asked for
+
+-- the layers snapped to the grid that is asked for, if one is
+abbrev pub snapped_for : Options → Named → Named
+snapped_for o layers = snapped_to o.grid layers
+
+-- the threshold at which their arcs are reduced: the one that is given, or the greatest that keeps the share that is asked for
+abbrev pub threshold_for : Options → Named → ℕ
+threshold_for o layers = level_threshold o.grid o.level layers
+
+-- the threshold at which the layers' arcs are reduced, where it was chosen for a share
+abbrev pub chosen_for : Options → Named → Option ℕ
+chosen_for o layers = level_chosen o.grid o.level layers
+
+-- how often a reducer is called for them: once for each of their arcs where the threshold is given, and never for a share
+abbrev pub calls_for : Options → Named → ℕ
+calls_for o layers = level_calls o.grid o.level layers
+
+-- the topology that is written of layers
+abbrev pub written_for : Options → Named → Contents
+written_for o layers = written_on o.grid (threshold_for o layers) o.ring_limit layers
+
+-- the features that are expected of it, by layers
+abbrev pub expected_for : Options → Named → Named
+expected_for o layers = expected (threshold_for o layers) o.ring_limit (snapped_for o layers)
+
+-- ---- what building rests on
+
+-- what is written of layers is valid, decodes back and has each segment once; what is written is read again
+pub record BuildingLaws : Type 0 where
+  pub written : WrittenLaws
+  pub read : ReadsBack
+  pub spelled : TextIsRead
+  pub utf8 : TextIsUtf8
+  pub layers : LayerLaws
+
+-- ---- what is written
+
+-- The text is UTF-8, and JSON (RFC 8259) of a topology (TopoJSON 1.0) whose objects have the names of the layers, in order. Decoding each gives
+-- the features that are expected of its layer, snapped to the grid that is asked for, at the threshold and the least ring area. The
+-- topology is the one that is written of the layers, the text is its text, and before reduction each segment of the layers' lines lies
+-- once, in exactly one arc.
+pub record SaysTopology (o : Options) (layers : Named) (text : List ℕ) : Type 0 where
+  pub utf8 : IsUtf8 text
+  pub value : Json
+  pub spelled : Reads topology_depth text value
+  pub contents : Contents
+  pub stands : topology value ≡ Ok (contents, no_counts)
+  pub names : map (λ b. b.0) contents.objects ≡ names_of layers
+  pub features : AllByRecursion (λ l. decoded contents l.0 ≡ Some (set.Many l.1.features)) (expected_for o layers)
+  pub shared : contents ≡ written_for o layers
+  pub written : text ≡ json_text (topology_value contents)
+  pub once : AreOnceIn (all_arcs (linework (layers_of (snapped_for o layers)))) (line_segments (linework (layers_of (snapped_for o layers))))
+
+-- the counts of all layers, the lines and rings that are dropped, the arcs, their positions, those that were removed from them, and the
+-- threshold, where it was chosen
+abbrev pub report_of : Options → Named → List Counts → Report
+report_of o layers counts =
+    report_with (added counts) (expected_dropped (threshold_for o layers) o.ring_limit (snapped_for o layers)) (written_for o layers).arcs
+    (saturated (removed_count (threshold_for o layers) o.ring_limit (snapped_for o layers))) (chosen_for o layers)
+
+-- all sources spell layers, and the text is their topology
+pub record Builds (o : Options) (olds news : Sources) (layers : Named) (counts : List Counts) (text : List ℕ) : Type 0 where
+  pub read : AllRead o.exact olds news layers counts
+  pub topology : SaysTopology o layers text
+
+-- all sources spell layers, and a reducer that was called so often before was called for their arcs since, and for nothing else
+pub record CallsForLayers (o : Options) (olds news : Sources) (before after : ℕ) : Type 0 where
+  pub layers : Named
+  pub counts : List Counts
+  pub read : AllRead o.exact olds news layers counts
+  pub called : after ≡ before + calls_for o layers
+
+-- the sink took the whole text of the topology and passed it on, and the report is that of the layers
+pub record IsBuilt (o : Options) (olds news : Sources) (sink_old sink_new : Drained) (report : Report) : Type 0 where
+  pub layers : Named
+  pub counts : List Counts
+  pub text : List ℕ
+  pub builds : Builds o olds news layers counts text
+  pub written : Takes sink_old sink_new text (length text)
+  pub sound : sink_new.failures ≡ 0
+  pub flushed : sink_new.flushed ≡ true
+  pub reported : report ≡ report_of o layers counts
+
+-- the device failed when it had taken a prefix of the text of the topology
+pub record IsCutShort (o : Options) (olds news : Sources) (sink_old sink_new : Drained) (sent : ℕ) : Type 0 where
+  pub layers : Named
+  pub counts : List Counts
+  pub text : List ℕ
+  pub builds : Builds o olds news layers counts text
+  pub many : ℕ
+  pub written : Takes sink_old sink_new text many
+  pub counted : sent ≡ saturated many
+  pub failed : 0 < sink_new.failures
+
+-- why nothing is built once the names are taken: nothing is written unless the device failed
+abbrev pub IsLateFault : Options → Sources → Sources → Drained → Drained → BuildFault → Type 0
+IsLateFault o olds news sink_old sink_new (Write sent) = IsCutShort o olds news sink_old sink_new sent
+IsLateFault o olds news sink_old sink_new Memory = (sink_new ≡ sink_old) × AreUntroubled olds news
+IsLateFault o olds news sink_old sink_new e = (sink_new ≡ sink_old) × FailsAt o.exact 0 olds news e
+
+-- all of the text was taken and flushed, or a prefix of it, and the device failed
+abbrev pub Sends : Drained → Drained → List ℕ → Result (Unit {0}) BuildFault → Type 0
+Sends old new text (Ok done) = (sent : ℕ) × WritesAll old new 0 text sent × (new.flushed ≡ true)
+Sends old new text (Err (Write sent)) = WritesPrefix old new 0 text sent
+Sends old new text (Err e) = ⊥

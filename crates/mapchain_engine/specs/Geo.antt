@@ -1,0 +1,61 @@
+-- What `to_geo` answers, reads and writes.
+use Rattle.std.specs.Prelude.{◌≡◌, ℕ, true, List, None, Some, Result, Ok, Err, IsUtf8}
+use Rattle.byte_ends.specs.Ends.{Fed, Drained}
+use Rattle.byte_ends.specs.Writes.{WritesAll, WritesPrefix}
+use Rattle.json_value.specs.Text.{json_text}
+use Rattle.geojson_types.specs.declared.counts.Counts.{Counts}
+use Rattle.geojson_types.specs.declared.layer.FeatureSet.{FeatureSet}
+use Rattle.geojson_writer.specs.FeatureValues.{features_value}
+use Rattle.topojson_types.specs.Decoding.{decoded}
+use Rattle.topojson_types.specs.Topologies.{Contents}
+use Rattle.inputs.specs.declared.file_fault.FileFault.{FileFault}
+use Rattle.inputs.specs.declared.file_fault.FileFault.TheVariants.{NoObject, Write}
+use Rattle.mapchain_engine.specs.Files.{IsTopologyRead, FailsToGive}
+
+-- the GeoJSON text (RFC 7946) of features
+abbrev pub features_text : FeatureSet → List ℕ
+features_text features = json_text (features_value features)
+
+-- all of the text was taken and flushed, and the answer is its length, or a prefix of it was taken, and the device failed
+abbrev pub SendsText : Drained → Drained → List ℕ → Result ℕ FileFault → Type 0
+SendsText old new text (Ok sent) = WritesAll old new 0 text sent × (new.flushed ≡ true)
+SendsText old new text (Err (Write sent)) = WritesPrefix old new 0 text sent
+SendsText old new text (Err e) = ⊥
+
+-- the source was read to its end, its bytes spell a topology, and these are the features of its object of this name
+pub record GivesFeatures (name : List ℕ) (old new : Fed) (features : FeatureSet) : Type 0 where
+  pub contents : Contents
+  pub counts : Counts
+  pub read : IsTopologyRead old new contents counts
+  pub found : decoded contents name ≡ Some features
+
+-- their text is UTF-8, the sink took the whole of it and passed it on, and the answer is its length
+pub record IsDecoded (name : List ℕ) (old new : Fed) (sink_old sink_new : Drained) (sent : ℕ) : Type 0 where
+  pub features : FeatureSet
+  pub given : GivesFeatures name old new features
+  pub utf8 : IsUtf8 (features_text features)
+  pub written : WritesAll sink_old sink_new 0 (features_text features) sent
+  pub flushed : sink_new.flushed ≡ true
+
+-- the device failed when it had taken a prefix of their text
+pub record IsDecodedInPart (name : List ℕ) (old new : Fed) (sink_old sink_new : Drained) (sent : ℕ) : Type 0 where
+  pub features : FeatureSet
+  pub given : GivesFeatures name old new features
+  pub written : WritesPrefix sink_old sink_new 0 (features_text features) sent
+
+-- the source was read to its end, its bytes spell a topology, and none of its objects has this name
+pub record LacksObject (name : List ℕ) (old new : Fed) : Type 0 where
+  pub contents : Contents
+  pub counts : Counts
+  pub read : IsTopologyRead old new contents counts
+  pub absent : decoded contents name ≡ None
+
+-- why the features of an object of this name can't be had
+abbrev pub FailsToDecode : List ℕ → Fed → Fed → FileFault → Type 0
+FailsToDecode name old new NoObject = LacksObject name old new
+FailsToDecode name old new e = FailsToGive old new e
+
+-- why no features are written whole: nothing is written unless the device failed
+abbrev pub IsGeoFault : List ℕ → Fed → Fed → Drained → Drained → FileFault → Type 0
+IsGeoFault name old new sink_old sink_new (Write sent) = IsDecodedInPart name old new sink_old sink_new sent
+IsGeoFault name old new sink_old sink_new e = (sink_new ≡ sink_old) × FailsToDecode name old new e

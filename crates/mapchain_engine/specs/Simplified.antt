@@ -1,0 +1,67 @@
+-- What `simplify` answers, reads and writes.
+use Rattle.std.specs.Prelude.{◌≡◌, ℕ, ◌+◌, true, List, length, None, IsUtf8}
+use Rattle.byte_ends.specs.Ends.{Fed, Drained, Takes, saturated}
+use Rattle.byte_ends.specs.Writes.{WritesPrefix}
+use Rattle.geojson_types.specs.declared.counts.Counts.{Counts}
+use Rattle.inputs.specs.declared.file_fault.FileFault.{FileFault}
+use Rattle.inputs.specs.declared.file_fault.FileFault.TheVariants.{Write}
+use Rattle.json_value.specs.Text.{json_text}
+use Rattle.simplified_topology.specs.Thresholds.{simplified_contents, simplified_dropped, simplified_removed_count}
+use Rattle.reports.specs.declared.report.Report.{Report}
+use Rattle.reports.specs.Summaries.{report_with}
+use Rattle.topojson_types.specs.Topologies.{Contents}
+use Rattle.topojson_types.specs.Values.{topology_value}
+use Rattle.mapchain_engine.specs.Files.{IsTopologyRead, FailsToGive}
+
+-- ---- what is left of a topology
+
+-- the text (TopoJSON 1.0) of what is left of a topology where each arc is reduced at the threshold
+abbrev pub simplified_contents_text : ℕ → ℕ → Contents → List ℕ
+simplified_contents_text t limit y = json_text (topology_value (simplified_contents t limit y))
+
+-- what was counted in reading the topology, the lines and rings that are dropped, the arcs that are left, their positions, and
+-- those that were removed from these arcs
+abbrev pub report_of : ℕ → ℕ → Contents → Counts → Report
+report_of t limit y counts = report_with counts (simplified_dropped t limit y) (simplified_contents t limit y).arcs (saturated (simplified_removed_count t limit y)) None
+
+-- ---- reading and writing
+
+-- the source was read to its end, its bytes spell a topology, and this is left of it, with this report
+pub record IsReadAndSimplified (t limit : ℕ) (old new : Fed) (less : Contents) (report : Report) : Type 0 where
+  pub contents : Contents
+  pub counts : Counts
+  pub read : IsTopologyRead old new contents counts
+  pub left : less ≡ simplified_contents t limit contents
+  pub reported : report ≡ report_of t limit contents counts
+
+-- the source was read to its end, its bytes spell a topology, and a reducer that was called so often before was called once for each
+-- of its arcs since
+pub record CallsForTopology (old new : Fed) (before after : ℕ) : Type 0 where
+  pub contents : Contents
+  pub counts : Counts
+  pub read : IsTopologyRead old new contents counts
+  pub called : after ≡ before + length contents.arcs
+
+-- the source was read to its end, its bytes spell a topology, the text of what is left of it is UTF-8, the sink took the whole of
+-- it and passed it on, and this is its report
+pub record IsSimplified (t limit : ℕ) (old new : Fed) (sink_old sink_new : Drained) (report : Report) : Type 0 where
+  pub contents : Contents
+  pub counts : Counts
+  pub read : IsTopologyRead old new contents counts
+  pub utf8 : IsUtf8 (simplified_contents_text t limit contents)
+  pub written : Takes sink_old sink_new (simplified_contents_text t limit contents) (length (simplified_contents_text t limit contents))
+  pub sound : sink_new.failures ≡ 0
+  pub flushed : sink_new.flushed ≡ true
+  pub reported : report ≡ report_of t limit contents counts
+
+-- the device failed when it had taken a prefix of that text
+pub record IsSimplifiedInPart (t limit : ℕ) (old new : Fed) (sink_old sink_new : Drained) (sent : ℕ) : Type 0 where
+  pub contents : Contents
+  pub counts : Counts
+  pub read : IsTopologyRead old new contents counts
+  pub written : WritesPrefix sink_old sink_new 0 (simplified_contents_text t limit contents) sent
+
+-- why nothing is written whole: nothing is written unless the device failed
+abbrev pub IsSimplifyFault : ℕ → ℕ → Fed → Fed → Drained → Drained → FileFault → Type 0
+IsSimplifyFault t limit old new sink_old sink_new (Write sent) = IsSimplifiedInPart t limit old new sink_old sink_new sent
+IsSimplifyFault t limit old new sink_old sink_new e = (sink_new ≡ sink_old) × FailsToGive old new e

@@ -1,0 +1,109 @@
+// Building a topology.
+ghost use Rattle.std.specs.List.{AllByRecursion};
+ghost use Rattle.std.specs.Prelude.{◌≡◌, ◌⊎◌, None, Some, IfOk, IfErr, IsUtf8, map};
+ghost use Rattle.json_value.specs.Text.{json_text};
+ghost use Rattle.topojson_types.specs.Values.{topology_value};
+ghost use Rattle.mapchain_engine.specs.Building as spec;
+ghost use Rattle.mapchain_engine.specs.Building.{BuildingLaws, CallsForLayers, IsBuilt, IsLateFault, Sends};
+ghost use Rattle.inputs.specs.Names.{name_fault};
+ghost use Rattle.inputs.specs.Outcomes.{HasOutcome, HaveBytesFor, Outcome, Texts};
+ghost use Rattle.mapchain_engine.specs.BuildOutcomes.{Follows};
+
+use crate::build_laws::layer_laws;
+use crate::options::Options;
+use byte_ends::{Drain, Feed, Sink, Source, flush_after};
+use effective_area::Reducer;
+use inputs::{BuildFault, check_names, read_layers};
+use json_value::OwnText;
+use layer_topology::{topology_of_layers, written_laws};
+use reports::{Report, report_of};
+use std::alloc::Global;
+use topojson_meaning::{reads_back, topology_text_is_read, topology_text_is_utf8};
+use topojson_types::Topology;
+use topojson_writer::write_topology;
+
+/// Writes the topology and flushes the sink.
+fn send<W: Drain>(topology: &Topology, sink: &mut Sink<W>) -> Result<(), BuildFault>
+    ensures { Sends sink.old sink.new (json_text (topology_value topology.now)) result }
+{
+    let written = write_topology(topology, sink);
+    flush_after(written, sink)?;
+    Ok(())
+}
+
+/// The laws that the contract of building rests on. This does nothing.
+fn building_laws()
+    ensures { BuildingLaws }
+{
+    written_laws();
+    reads_back();
+    topology_text_is_read();
+    topology_text_is_utf8();
+    layer_laws();
+}
+
+/// Builds the topology of named layers, whose names are taken, and writes it.
+fn build_layers<Q: Reducer, R: Feed, W: Drain>(
+    alloc: Global,
+    reducer: &mut Q,
+    sources: &mut [(OwnText, Source<R>)],
+    options: &Options,
+    sink: &mut Sink<W>,
+) -> Result<Report, BuildFault>
+    requires names { name_fault (map (λ s. s.0) sources.old) ≡ None }
+    requires texts { AllByRecursion IsUtf8 (map (λ s. s.0) sources.old) }
+    ensures built { IfOk result (λ report. IsBuilt options.now sources.old sources.new sink.old sink.new report) }
+    ensures reduced { IfOk result (λ _. CallsForLayers options.now sources.old sources.new (Q.calls reducer.old) (Q.calls reducer.new)) }
+    ensures refused { IfErr result (λ e. IsLateFault options.now sources.old sources.new sink.old sink.new e) }
+{
+    building_laws();
+    let (layers, counts) = read_layers(alloc, sources, options.exact)?;
+    let (topology, dropped, removed, chosen) = topology_of_layers(
+        alloc,
+        reducer,
+        layers,
+        options.grid,
+        options.level,
+        options.ring_limit,
+    )?;
+    let report = report_of(counts, dropped, topology.arcs(), removed, chosen);
+    send(&topology, sink)?;
+    Ok(report)
+}
+
+/// Builds the topology (TopoJSON 1.0) of named layers (RFC 7946), each read from its source to the end, and writes it.
+///
+/// A border that lines and rings of the layers share is one arc, which the reducer reduces once. Names are looked at first, in order:
+/// up to there nothing is read. Then each layer is read, parsed and modelled before the next. Nothing is written before all layers
+/// are taken, so on each fault but `Write` the sink is as it was. On `Write` it took a prefix of the topology's text, of the length
+/// that is reported. At `Ok` the sink is flushed.
+pub fn build<Q: Reducer, R: Feed, W: Drain>(
+    alloc: Global,
+    reducer: &mut Q,
+    sources: &mut [(OwnText, Source<R>)],
+    options: &Options,
+    sink: &mut Sink<W>,
+) -> Result<Report, BuildFault>
+    // The first fault of the names is answered, and nothing is read or written.
+    ensures early { (e : BuildFault) → name_fault (map (λ s. s.0) sources.old) ≡ Some e
+        → (result ≡ Err e) × (sources.new ≡ sources.old) × (sink.new ≡ sink.old) }
+    // The text that was written is UTF-8, and JSON of a topology whose objects bear the layers' names in order. Decoding each gives the features
+    // that are expected of its layer, snapped to the grid that is asked for: identifiers and properties unchanged, each line cut at
+    // the junctions of all lines, each piece reduced at the threshold in the line's own direction and joined again, rings from their
+    // starts, without what is dropped, as rings that enclose less than is asked for. The report says exactly what is dropped, and before
+    // reduction each segment of the lines lies once, in exactly one arc.
+    ensures built { IfOk result (λ report. IsBuilt options.now sources.old sources.new sink.old sink.new report) }
+    // The reducer was called once for each arc of all lines, or never where a share is asked for: each arc is weighed once in place of that.
+    ensures reduced { IfOk result (λ _. CallsForLayers options.now sources.old sources.new (Q.calls reducer.old) (Q.calls reducer.new)) }
+    // Every other fault is one that the sources or their bytes have, or a prefix of that text was written.
+    ensures refused { IfErr result (λ e. (name_fault (map (λ s. s.0) sources.old) ≡ Some e)
+        ⊎ IsLateFault options.now sources.old sources.new sink.old sink.new e) }
+
+    // The outcome of the bytes of the sources is answered, unless memory, a source or the sink failed. Where
+    // the first sources have a fault, nothing need be known of those after them.
+    ensures decided { (bytes : Texts) (outcome : Outcome) → name_fault (map (λ s. s.0) sources.old) ≡ None
+        → HaveBytesFor outcome sources.old bytes → HasOutcome options.now.exact bytes outcome → Follows options.now outcome result }
+{
+    check_names(alloc, sources)?;
+    build_layers(alloc, reducer, sources, options, sink)
+}

@@ -1,0 +1,89 @@
+// Reading topologies.
+ghost use Rattle.std.specs.Prelude.{ℕ, Err, List, MatchResult};
+ghost use Rattle.inputs.specs.Texts.{IsRead};
+ghost use Rattle.topojson_decoder.specs.Texts.{TextAnswers};
+ghost use Rattle.mapchain_engine.specs.Files.{FailsToGive, IsBlankOf, IsNoTopology, IsTopologyOf, ReadsBlank, ReadsTopology};
+
+use byte_ends::{Feed, MAX_INPUT, ReadFault, Source, read_all};
+use geojson_types::Counts;
+use inputs::FileFault;
+use json_reading::JsonFault;
+use std::alloc::Global;
+use topojson_decoder::{Keeping, Parts, Refusal, read_parts, read_text};
+use topojson_meaning::TopoFault;
+use topojson_types::Topology;
+
+/// Why bytes spell no topology.
+fn fault_of(refusal: Refusal) -> FileFault
+    ensures { (bytes : List ℕ) → TextAnswers bytes (Err refusal) → IsNoTopology bytes result }
+{
+    match refusal {
+        Refusal::Memory => FileFault::Memory,
+        Refusal::Text(fault) => {
+            if fault == JsonFault::Memory {
+                return FileFault::Memory;
+            }
+            FileFault::Json(fault)
+        }
+        Refusal::Meaning(fault) => {
+            if fault == TopoFault::Memory {
+                return FileFault::Memory;
+            }
+            FileFault::Topo(fault)
+        }
+    }
+}
+
+/// The topology that the bytes spell, with what was counted in reading it; or why they spell none.
+fn topology_of(alloc: Global, bytes: &[u8]) -> Result<(Topology, Counts), FileFault>
+    ensures { IsTopologyOf bytes.now result }
+{
+    match read_text(alloc, bytes) {
+        Ok(read) => Ok(read),
+        Err(refusal) => Err(fault_of(refusal)),
+    }
+}
+
+/// What the bytes spell, of whose features nothing is kept but that they are there; or why they spell no topology.
+fn blank_of(alloc: Global, bytes: &[u8]) -> Result<Parts, FileFault>
+    ensures { IsBlankOf bytes.now result }
+{
+    match read_parts(alloc, Keeping::Blank, bytes) {
+        Ok((parts, _counts)) => Ok(parts),
+        Err(refusal) => Err(fault_of(refusal)),
+    }
+}
+
+/// The bytes of a source that is read to its end.
+fn bytes_of<R: Feed>(alloc: Global, source: &mut Source<R>) -> Result<Vec<u8>, FileFault>
+    ensures { MatchResult result (λ v. IsRead source.old source.new v.items) (λ e. FailsToGive source.old source.new e) }
+{
+    match read_all(alloc, source, MAX_INPUT) {
+        Ok(bytes) => Ok(bytes),
+        Err(ReadFault::Memory) => Err(FileFault::Memory),
+        Err(fault) => Err(FileFault::Read(fault)),
+    }
+}
+
+/// Reads a source to its end, and gives the topology that its bytes spell, with what was counted in reading it.
+pub fn read_file<R: Feed>(
+    alloc: Global,
+    source: &mut Source<R>,
+) -> Result<(Topology, Counts), FileFault>
+    ensures { ReadsTopology source.old source.new result }
+{
+    match bytes_of(alloc, source) {
+        Ok(bytes) => topology_of(alloc, &bytes),
+        Err(fault) => Err(fault),
+    }
+}
+
+/// Reads a source to its end, and gives what its bytes spell, of whose features nothing is kept but that they are there.
+pub(crate) fn read_blank<R: Feed>(alloc: Global, source: &mut Source<R>) -> Result<Parts, FileFault>
+    ensures { ReadsBlank source.old source.new result }
+{
+    match bytes_of(alloc, source) {
+        Ok(bytes) => blank_of(alloc, &bytes),
+        Err(fault) => Err(fault),
+    }
+}

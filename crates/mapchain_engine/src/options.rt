@@ -1,0 +1,20 @@
+// What is asked for.
+ghost use Rattle.std.specs.Prelude.{◌≡◌, true};
+ghost use Rattle.mapchain_engine.specs.Ranges.{is_in_range};
+
+use layer_topology::Level;
+
+/// How a topology is built.
+#[derive(Clone, Copy, Debug)]
+pub struct Options {
+    /// The number of grid cells along each axis, from 2 to 10^9, that positions are snapped to, if any.
+    pub grid: Option<u32>,
+    /// How much of the detail of lines stays: a threshold of at most twice `AREA_LIMIT`, or a share of at most one.
+    pub level: Level,
+    /// Rings are left out that are left with less than this, twice their area in square units: at most twice `AREA_LIMIT`.
+    pub ring_limit: u128,
+    /// Coordinates that aren't whole in units are refused.
+    pub exact: bool,
+
+    ghost in_range: { is_in_range grid level ring_limit ≡ true },
+}

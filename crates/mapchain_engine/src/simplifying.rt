@@ -1,0 +1,85 @@
+// Simplifying the topology of a file.
+ghost use Rattle.std.specs.Prelude.{◌≡◌, ◌≤◌, ℕ, List, Some, Result, IfOk, IfErr};
+ghost use Rattle.geometry.specs.Units.{threshold_limit};
+ghost use Rattle.inputs.specs.declared.file_fault.FileFault.{FileFault as Fault};
+ghost use Rattle.json_value.specs.Text.{json_text};
+ghost use Rattle.reports.specs.declared.report.Report.{Report as Reported};
+ghost use Rattle.topojson_types.specs.Values.{topology_value};
+ghost use Rattle.mapchain_engine.specs.FileOutcomes.{FileHasOutcome};
+ghost use Rattle.mapchain_engine.specs.Files.{FailsToGive};
+ghost use Rattle.mapchain_engine.specs.Geo.{SendsText};
+ghost use Rattle.mapchain_engine.specs.SimplifyOutcomes.{FollowsSimplified, simplified};
+ghost use Rattle.mapchain_engine.specs.Simplified.{CallsForTopology, IsReadAndSimplified, IsSimplified, IsSimplifyFault};
+
+use crate::file_reading::read_file;
+use crate::reducing::simplify_topology;
+use crate::simplify_laws::simplified_text_is_utf8;
+use byte_ends::{Drain, Feed, Sink, Source, flush_after};
+use effective_area::Reducer;
+use inputs::FileFault;
+use reports::Report;
+use std::alloc::Global;
+use topojson_types::Topology;
+use topojson_writer::write_topology;
+
+/// Reads a source to its end, and gives what is left of the topology that its bytes spell where its arcs are reduced, with the
+/// report.
+fn read_and_simplify<Q: Reducer, R: Feed>(
+    alloc: Global,
+    reducer: &mut Q,
+    source: &mut Source<R>,
+    t: u128,
+    ring_limit: u128,
+) -> Result<(Topology, Report), FileFault>
+    requires { ring_limit ≤ threshold_limit }
+    ensures given { IfOk result (λ r. IsReadAndSimplified t ring_limit source.old source.new r.0 r.1) }
+    ensures reduced { IfOk result (λ _. CallsForTopology source.old source.new (Q.calls reducer.old) (Q.calls reducer.new)) }
+    ensures refused { IfErr result (λ e. FailsToGive source.old source.new e) }
+{
+    let (topology, counts) = read_file(alloc, source)?;
+    let less = simplify_topology(alloc, reducer, topology, counts, t, ring_limit)?;
+    Ok(less)
+}
+
+/// Writes the topology and flushes the sink.
+fn send<W: Drain>(topology: &Topology, sink: &mut Sink<W>) -> Result<u64, FileFault>
+    ensures { SendsText sink.old sink.new (json_text (topology_value topology.now)) result }
+{
+    let written = write_topology(topology, sink);
+    let sent = flush_after(written, sink)?;
+    Ok(sent)
+}
+
+/// Reads a topology (TopoJSON 1.0) from its source to the end, simplifies it, and writes what is left.
+///
+/// Each arc is reduced once at the threshold `t`, twice an area in square units, by the positions that it stands for (Visvalingam
+/// and Whyatt 1993); the cells that stay keep their numbers, and the transform stays. A line or ring that is left with too few
+/// positions is dropped, a ring of which twice the area is under `ring_limit` (in square units), and a ring of a polygon whose outer
+/// ring is; arcs that no line uses are left out. The report says
+/// what was counted in reading, what is dropped, and of the arcs that are left how many positions stay and were removed. The
+/// topology is refused as by `stat`. On each fault but `Write` the sink is as it was. On `Write` it took a prefix of the text, of
+/// the length that is reported. At `Ok` the sink is flushed.
+pub fn simplify<Q: Reducer, R: Feed, W: Drain>(
+    alloc: Global,
+    reducer: &mut Q,
+    source: &mut Source<R>,
+    t: u128,
+    ring_limit: u128,
+    sink: &mut Sink<W>,
+) -> Result<Report, FileFault>
+    requires { ring_limit ≤ threshold_limit }
+    // The bytes spell a topology, what was written is the text of what is left of it, which is UTF-8, and the report is that of it.
+    ensures written { IfOk result (λ report. IsSimplified t ring_limit source.old source.new sink.old sink.new report) }
+    // The reducer was called once for each arc of the topology that was read.
+    ensures reduced { IfOk result (λ _. CallsForTopology source.old source.new (Q.calls reducer.old) (Q.calls reducer.new)) }
+    // Every fault is one that the source or its bytes have, or a prefix of that text was written.
+    ensures refused { IfErr result (λ e. IsSimplifyFault t ring_limit source.old source.new sink.old sink.new e) }
+    // The outcome of the bytes of the source is answered, unless memory, the source or the sink failed.
+    ensures decided { (bytes : List ℕ) (outcome : Result (List ℕ × Reported) Fault) → source.old.left ≡ Some bytes → FileHasOutcome (simplified t ring_limit) bytes outcome
+        → FollowsSimplified sink.old sink.new outcome result }
+{
+    simplified_text_is_utf8();
+    let (less, report) = read_and_simplify(alloc, reducer, source, t, ring_limit)?;
+    send(&less, sink)?;
+    Ok(report)
+}

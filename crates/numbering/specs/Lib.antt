@@ -1,3 +1,0 @@
-pub mod Hashing
-pub mod Numbering
-pub mod Slots

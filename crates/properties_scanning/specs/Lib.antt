@@ -1,3 +1,0 @@
-pub mod Copying
-pub mod Fronts
-pub mod Spans

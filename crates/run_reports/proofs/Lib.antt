@@ -1,3 +1,0 @@
-mod Examples
-mod Lines
-mod Objects

@@ -1,0 +1,27 @@
+-- What is built of layers on a grid: it decodes to what is built of them without, and it is valid.
+use Rattle.std.proofs.Common.{rules, arith, ◌≡◌, ℕ, None, refl}
+use Rattle.elimination_meaning.specs.Laws.{NoneIsNew}
+use Rattle.owned_values.proofs.Elements.{all_weaker}
+use Rattle.build_meaning.specs.Built.{built}
+use Rattle.build_meaning.specs.Laws.{DecodesBack, IsValid}
+use Rattle.build_meaning.specs.Layers.{Named}
+use Rattle.build_meaning.specs.Trimming.{trimmed}
+use Rattle.simplified_topology.specs.Celled.{LiesBack}
+use Rattle.simplified_topology.specs.Laws.{BuiltDecodesOnGrid, BuiltIsValidOnGrid, DecodesBackOnGrid}
+use Rattle.simplified_topology.proofs.BuiltCells.{built_cells}
+use Rattle.simplified_topology.proofs.CelledDecoding.{celled_decodes}
+use Rattle.simplified_topology.proofs.ValidCelled.{celled_is_valid}
+
+-- there is no transform
+is_plain : (t limit : ℕ) (ls : Named) → (built t limit ls).transform ≡ None
+unfolding built trimmed
+is_plain t limit ls = refl
+
+pub built_decodes : NoneIsNew → BuiltDecodesOnGrid
+built_decodes none transform cell t limit ls name lie = celled_decodes transform cell (built t limit ls) name (is_plain t limit ls) (built_cells none (LiesBack transform cell) t limit ls lie)
+
+pub decodes_back : DecodesBack → NoneIsNew → DecodesBackOnGrid
+decodes_back back none transform cell t limit ls sound distinct lie = grind (arith, all_weaker, built_decodes)
+
+pub built_is_valid : IsValid → NoneIsNew → BuiltIsValidOnGrid
+built_is_valid valid none transform cell t limit ls numbers sound distinct on = search (rules, celled_is_valid, is_plain, built_cells)

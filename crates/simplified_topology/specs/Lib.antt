@@ -1,0 +1,9 @@
+pub mod Assembled
+pub mod Celled
+pub mod GridLaws
+pub mod GridTransforms
+pub mod Quantized
+pub mod Laws
+pub mod Simplified
+pub mod Thresholds
+pub mod TransformLaws

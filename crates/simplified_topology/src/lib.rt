@@ -1,0 +1,23 @@
+//! Reducing a topology (TopoJSON 1.0) once more, and topologies on a grid: which topology is left, what is dropped, what is built of layers
+//! that are snapped to a grid over them, and the laws of all these. It stands on `build_meaning`, which says what is built and whose
+//! trimming it uses, on `grid_snap`, whose grids have cells, and on `topojson_types`, which says where a cell lies by a transform. There is
+//! no code but the laws. The layers above use the definitions and the laws: what is reduced, and what is put on a grid, stays valid; on a
+//! grid it decodes to the same, and to the features that are expected of the snapped layers; and what is built at a threshold of zero and
+//! then reduced is what is built at the threshold, with a grid and without.
+#![tactic(auto)]
+
+mod grid_laws;
+mod laws;
+mod transform_laws;
+
+pub use grid_laws::{
+    built_cells_are_on, built_decodes_quantized, built_is_valid_quantized, quantized_decodes,
+    quantized_is_valid, quantized_keeps, simplifies_quantized, snapped_are_on, snapped_keep,
+};
+pub use laws::{
+    arc_indexes_reach, assembled_is_valid, assembles_to_built, assembling_drops_expected,
+    assembling_removes, built_decodes_back_on_grid, built_decodes_on_grid, built_is_valid_on_grid,
+    celled_decodes, celled_is_valid, indexes_reach, reduced_is_valid, retained_is_reduced,
+    simplified_is_valid, simplified_keeps, simplifies_to_built, simplifies_to_built_on_grid,
+};
+pub use transform_laws::{cells_are_on_grid, cells_lie_there, grid_has_transform};

@@ -1,9 +1,0 @@
-use Rattle.std.proofs.Common.{◌≡◌, length}
-use Rattle.text_checking.specs.Finding.{after_first}
-use Rattle.text_checking.proofs.lanes.behind_first.Given as goal
-
-abbrev pub invariant-loop-first : goal.invariant-loop-first
-invariant-loop-first l = after_first l.byte l.bytes ≡ after_first l.byte l.rest
-
-abbrev pub decreases-loop-first : goal.decreases-loop-first
-decreases-loop-first l = length l.rest

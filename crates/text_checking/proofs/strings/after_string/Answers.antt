@@ -1,5 +1,0 @@
-use Rattle.text_checking.proofs.PlainStrings.{plain_string}
-use Rattle.text_checking.proofs.strings.after_string.Goals as goal
-
-pub returns-in-Some : goal.returns-in-Some
-returns-in-Some c = (_, plain_string c.args.bytes.now _ _ c.in-Some.ensures)

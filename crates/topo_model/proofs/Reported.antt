@@ -1,0 +1,35 @@
+-- What is dropped, listed part by part.
+use Rattle.std.proofs.Common.{◌≡◌, ℕ, suc, ◌+◌, ◌<◌, ◌≤◌, List, [], ◌∷◌, ◌++◌, map, drop, length, get_or, append_assoc, append-nil, refl, ap, sym, ◌∙◌, arith}
+use Rattle.std.proofs.lemmas.List.{at_drop_all, at_drop_more, map-append}
+use Rattle.geometry.specs.declared.address.Address.{Address}
+use Rattle.geometry.specs.declared.address.Cause.{Cause}
+use Rattle.geometry.specs.declared.address.Dropped.{Dropped}
+use Rattle.geometry.specs.Paths.{Placed, inside_part, of_parts}
+use Rattle.junctions.specs.Gathering.{part_address}
+use Rattle.topo_model.specs.Places.{dropped_at}
+
+-- ---- part by part
+
+-- one element more of a list whose elements are listed one after the other
+pub reported_more : {X Y : Type 0} (of : ℕ → X → List Y) (all : ℕ → List X → List Y) → ((i : ℕ) (x : X) (xs : List X) → all i (x ∷ xs) ≡ of i x ++ all (suc i) xs) →
+    (k i : ℕ) (now new whole : List Y) (xs : List X) (x : X) → i < length xs → x ≡ get_or xs i x →
+    now ++ all k (drop i xs) ≡ whole → new ≡ now ++ of k x → new ++ all (k + 1) (drop (i + 1) xs) ≡ whole
+reported_more of all some k i now new whole xs x l g h e = grind (arith, append_assoc now (of k x) (all (suc k) (drop (i + 1) xs)), at_drop_more (all k) xs i x l)
+
+-- the end of such a list
+pub reported_all : {X Y : Type 0} (all : List X → List Y) (i : ℕ) (now whole : List Y) (xs : List X) → all [] ≡ [] → length xs ≤ i → now ++ all (drop i xs) ≡ whole → now ≡ whole
+reported_all all i now whole xs n l h = sym (append-nil now) ∙ ap (λ ds. now ++ ds) (sym (at_drop_all all xs i l ∙ n)) ∙ h
+
+inside_at : (a : Address) (i : ℕ) (os : List (Placed Cause)) → dropped_at a (inside_part i os) ≡ dropped_at (part_address a i) os
+inside_at a i [] = refl
+inside_at a i (o ∷ os) = grind (arith, append_assoc, inside_at a i os)
+
+-- the first of the parts
+pub first_part : (a : Address) (k : ℕ) (os : List (Placed Cause)) (more : List (List (Placed Cause))) → dropped_at a (of_parts k (os ∷ more)) ≡ dropped_at (part_address a k) os ++ dropped_at a (of_parts (suc k) more)
+first_part a k os more = map-append (λ o. record { address = record { layer = a.layer; feature = a.feature; path = a.path ++ o.path }; cause = o.part }) (inside_part k os) (of_parts (suc k) more)
+    ∙ ap (λ ds. ds ++ dropped_at a (of_parts (suc k) more)) (inside_at a k os)
+
+-- one part more
+pub parts_more : {X : Type 0} (f : X → List (Placed Cause)) (a : Address) (k i : ℕ) (now new whole : List Dropped) (xs : List X) (x : X) → i < length xs → x ≡ get_or xs i x →
+    now ++ dropped_at a (of_parts k (map f (drop i xs))) ≡ whole → new ≡ now ++ dropped_at (part_address a k) (f x) → new ++ dropped_at a (of_parts (k + 1) (map f (drop (i + 1) xs))) ≡ whole
+parts_more f a = reported_more (λ k x. dropped_at (part_address a k) (f x)) (λ k xs. dropped_at a (of_parts k (map f xs))) (λ k x xs. first_part a k (f x) (map f xs))

@@ -1,0 +1,184 @@
+-- The topology that is put together is the one that is left.
+use Rattle.std.proofs.Common.{arith, ◌≡◌, ℕ, zero, suc, ◌-◌, ℤ, Bool, true, List, [], ◌∷◌, ◌++◌, map, length, take, drop, Option, None, Some, refl, sym, ap, ◌∙◌, subst}
+use Rattle.std.specs.List.{AllByRecursion}
+use Rattle.std.proofs.lemmas.List.{length-map}
+use Rattle.topo_model.specs.Rebuilding.{Rebuilding}
+use Rattle.topo_model.specs.Uses.{answers}
+use Rattle.topo_model.proofs.Renumbered.{NewIndexesOf, all_renumbered}
+use Rattle.build_meaning.specs.Built.{positions_of}
+use Rattle.build_meaning.specs.Expected.{unless}
+use Rattle.build_meaning.specs.Trimming.{is_used, keep_from, line_renumbered, trimmed}
+use Rattle.geometry.specs.declared.address.Cause.{Cause}
+use Rattle.geometry.specs.Joins.{AreInRange}
+use Rattle.geometry.specs.DropCauses.{dropped_of_layers}
+use Rattle.geometry.specs.Pruning.{lines_and_rings}
+use Rattle.geometry.proofs.Moved.{refilled}
+use Rattle.geometry.proofs.Omitted.{drop_causes_agree}
+use Rattle.geojson_types.specs.Features.{is_some_list}
+use Rattle.geometry.specs.Points.{Point, IsPosition}
+use Rattle.simplified_topology.specs.Simplified.{Refs, large_refs, object_pruned, objects_pruned, retained_arcs, retained_whole, EachFromFirstToLast, simplified_by, option_small, small_cause, dropped_by, removed_count_by}
+use Rattle.simplified_topology.proofs.Again.{all_hold}
+use Rattle.simplified_topology.proofs.Objects.{objects_then, objects_left}
+use Rattle.simplified_topology.proofs.ValidRetained.{retained_length}
+use Rattle.owned_values.proofs.Elements.{all_weaker}
+use Rattle.topojson_features.proofs.Standing.{lines_and_rings_full}
+use Rattle.topojson_types.specs.declared.feature.TopoFeature.{TopoFeature}
+use Rattle.topojson_types.specs.declared.object.TopoObject.{TopoObject}
+use Rattle.topojson_types.specs.declared.object.TopoObject.TheVariants.{One, Many}
+use Rattle.topojson_types.specs.declared.transform.Transform.{Transform}
+use Rattle.topojson_types.specs.Decoding.{placed_arcs}
+use Rattle.topojson_types.specs.Topologies.{TopoShape, Contents, object_features, objects_lines_and_rings}
+use Rattle.topojson_types.specs.Transforms.{place_on}
+use Rattle.topojson_types.specs.Validity.{is_full_option, IsPlace, IsFeature, IsObject, IsTopology}
+use Rattle.topo_model.specs.Drops.{draft_cause, shape_drops, objects_drops}
+use Rattle.topo_model.specs.Parts.{contents}
+use Rattle.topo_model.specs.ArcUses.{renumbered_refs}
+use Rattle.topo_model.proofs.Picks.{places_retained, topology_places}
+
+abbrev Objects : Type 0
+Objects = List (List ℕ × TopoObject)
+
+-- ---- indexes
+
+abbrev InRange : ℕ → Bool × List ℤ → Type 0
+InRange n b = AreInRange n b.1
+
+same_range : (n : ℕ) (b : Bool × List ℤ) (m : List ℤ) (w : Option Cause) → InRange n b → unless w b.1 ≡ Some m → AreInRange n m
+same_range n b m w r e = grind arith
+
+-- those of the lines that stay name arcs
+range_stays : (n limit : ℕ) (arcs : List (List Point)) (os : Objects) → AllByRecursion (InRange n) (objects_lines_and_rings os) → AllByRecursion (InRange n) (objects_lines_and_rings (objects_pruned (large_refs limit arcs) os))
+range_stays n limit arcs os h = grind (arith, objects_left (large_refs limit arcs) (InRange n) os, all_weaker (InRange n), same_range n)
+
+abbrev as_they_are : Refs
+as_they_are closed refs = Some refs
+
+pub objects_renumbered : (renumbering : List ℤ) (u : ℕ → Bool) (os : Objects) → NewIndexesOf renumbering u → AllByRecursion (InRange (length renumbering)) (objects_lines_and_rings os) → objects_pruned (renumbered_refs renumbering) os ≡ objects_pruned (line_renumbered u) os
+objects_renumbered renumbering u os are h =
+    sym (objects_then as_they_are (renumbered_refs renumbering) (renumbered_refs renumbering) os (all_hold (λ b. renumbered_refs renumbering b.0 b.1 ≡ renumbered_refs renumbering b.0 b.1) (λ b. refl) (objects_lines_and_rings os)))
+    ∙ objects_then as_they_are (renumbered_refs renumbering) (line_renumbered u) os
+    (all_weaker (InRange (length renumbering)) (λ b. renumbered_refs renumbering b.0 b.1 ≡ line_renumbered u b.0 b.1) (λ b r. ap (λ z. Some z) (all_renumbered renumbering u b.1 are r)) (objects_lines_and_rings os) h)
+
+-- ---- objects that are changed in place
+
+-- what is written back to the list that was lent whole
+pub put_back : (kept : Refs) (n : ℕ) (os now new : Objects) → n ≡ length os → now ≡ os → new ≡ objects_pruned kept now → take n (new ++ drop (length new) os) ≡ objects_pruned kept now
+put_back kept n os now new many same is = refilled (λ o. (o.0, object_pruned kept o.1)) n os new many (is ∙ ap (objects_pruned kept) same) ∙ ap (objects_pruned kept) (sym same)
+
+pub as_many : (kept : Refs) (n : ℕ) (os left : Objects) → n ≡ length os → left ≡ objects_pruned kept os → n ≡ length left
+as_many kept n os left many is = many ∙ sym (ap length is ∙ length-map os (λ o. (o.0, object_pruned kept o.1)))
+
+-- ---- flags
+
+-- the flags of the arcs that objects use
+pub flags_are : (os seen : Objects) (retained : List (List Point)) (n : ℕ) (used : List Bool) → seen ≡ os → n ≡ length retained → used ≡ answers (is_used seen) 0 n → used ≡ answers (is_used os) 0 (length retained)
+flags_are os seen retained n used same many is = is ∙ ap (λ o. answers (is_used o) 0 n) same ∙ ap (answers (is_used os) 0) many
+
+answers_length : {X : Type 0} (f : ℕ → X) (n count : ℕ) → length (answers f n count) ≡ count
+answers_length f n zero = refl
+answers_length f n (suc count) = ap (λ k. suc k) (answers_length f (suc n) count)
+
+-- they are as many as the arcs
+pub flags_long : (u : ℕ → Bool) (used flags : List Bool) (n : ℕ) → used ≡ answers u 0 n → flags ≡ used → (flags ≡ answers u 0 (length flags)) × (n ≡ length flags)
+flags_long u used flags n is same = grind (arith, answers_length)
+
+-- ---- the topology
+
+pub parts_are : (y : Contents) (os : Objects) (arcs : List (List Point)) (transform : Option Transform) → os ≡ y.objects → arcs ≡ y.arcs → transform ≡ y.transform → contents os arcs transform ≡ y
+parts_are y os arcs transform o a t = grind arith
+
+-- what is left of the parts makes what is left of the topology
+pub made_is : (kept : List (List ℕ)) (limit : ℕ) (y : Contents) (objects left made : Objects) (arcs stay put : List (List Point)) (transform given : Option Transform) → contents objects arcs transform ≡ y → transform ≡ y.transform
+    → contents left stay transform ≡ simplified_by kept limit (contents objects arcs transform) → made ≡ left → put ≡ stay → given ≡ y.transform → contents made put given ≡ simplified_by kept limit y
+made_is kept limit y objects left made arcs stay put transform given same t l m p g =
+    ap (λ os. contents os put given) m ∙ ap (λ xs. contents left xs given) p ∙ ap (contents left stay) (g ∙ sym t) ∙ l ∙ ap (simplified_by kept limit) same
+
+-- ---- a draft
+
+-- what is left of a draft without the lines and rings that have too few positions is what these steps make of it
+pub finished : (limit : ℕ) (os large objects : Objects) (retained stay : List (List Point)) (transform : Option Transform) → large ≡ objects_pruned (large_refs limit (placed_arcs transform retained)) os
+    → objects ≡ objects_pruned (line_renumbered (is_used large)) large → stay ≡ keep_from (is_used large) 0 retained
+    → contents objects stay transform ≡ trimmed (contents (objects_pruned (large_refs limit (placed_arcs transform retained)) os) retained transform)
+unfolding trimmed
+finished limit os large objects retained stay transform l o s =
+    ap (λ os. contents os stay transform) o ∙ ap (λ xs. contents (objects_pruned (line_renumbered (is_used large)) large) xs transform) s
+    ∙ ap (λ (os : Objects). contents (objects_pruned (line_renumbered (is_used os)) os) (keep_from (is_used os) 0 retained) transform) l
+
+-- ---- a topology
+
+abbrev pub of_arcs : ℕ → List (List Point) → Rebuilding
+of_arcs limit arcs = record { arcs = arcs; limit = limit }
+
+-- a line or ring with an index is dropped only where it has too few positions
+same_cause : (limit : ℕ) (arcs : List (List Point)) (b : Bool × List ℤ) → is_some_list b.1 ≡ true → draft_cause (of_arcs limit arcs) b.0 b.1 ≡ small_cause limit arcs b.0 b.1
+same_cause limit arcs (closed, []) h = absurd cc
+same_cause limit arcs (closed, r ∷ rs) h = refl
+
+shape_same : (limit : ℕ) (arcs : List (List Point)) (s : Option TopoShape) → is_full_option s ≡ true → shape_drops (of_arcs limit arcs) s ≡ option_small limit arcs s
+shape_same limit arcs None h = refl
+shape_same limit arcs (Some s) h =
+    drop_causes_agree Point (List ℤ) (draft_cause (of_arcs limit arcs)) (small_cause limit arcs) s
+    (all_weaker (λ b. is_some_list b.1 ≡ true) (λ b. draft_cause (of_arcs limit arcs) b.0 b.1 ≡ small_cause limit arcs b.0 b.1) (same_cause limit arcs) (lines_and_rings s) (lines_and_rings_full s h))
+
+features_same : (limit : ℕ) (arcs : List (List Point)) (transform : Option Transform) (fs : List TopoFeature) → AllByRecursion (IsFeature transform) fs → map (λ f. shape_drops (of_arcs limit arcs) f.shape) fs ≡ map (λ f. option_small limit arcs f.shape) fs
+features_same limit arcs transform [] h = refl
+features_same limit arcs transform (f ∷ fs) h = rw (shape_same limit arcs f.shape h.0.0, features_same limit arcs transform fs h.1) refl
+
+object_same : (limit : ℕ) (arcs : List (List Point)) (transform : Option Transform) (o : TopoObject) → IsObject transform o → map (λ f. shape_drops (of_arcs limit arcs) f.shape) (object_features o) ≡ map (λ f. option_small limit arcs f.shape) (object_features o)
+object_same limit arcs transform (One f) h = features_same limit arcs transform (f ∷ []) (h.0, tt)
+object_same limit arcs transform (Many fs) h = features_same limit arcs transform fs h
+
+objects_same : (limit : ℕ) (arcs : List (List Point)) (transform : Option Transform) (os : Objects) → AllByRecursion (λ o. IsObject transform o.1) os
+    → map (λ o. map (λ f. shape_drops (of_arcs limit arcs) f.shape) (object_features o.1)) os ≡ map (λ o. map (λ f. option_small limit arcs f.shape) (object_features o.1)) os
+objects_same limit arcs transform [] h = refl
+objects_same limit arcs transform (o ∷ os) h = rw (object_same limit arcs transform o.1 h.0, objects_same limit arcs transform os h.1) refl
+
+module _ (kept : List (List ℕ)) (limit : ℕ) (y : Contents) (retained : List (List Point)) (is : retained ≡ retained_arcs kept y.arcs) where
+  abbrev pub large : Objects
+  large = objects_pruned (large_refs limit (placed_arcs y.transform retained)) y.objects
+
+  pub is_whole : contents large retained y.transform ≡ retained_whole kept limit y
+  is_whole = grind arith
+
+  pub retained_long : EachFromFirstToLast kept y.arcs → length retained ≡ length y.arcs
+  retained_long through = ap length is ∙ retained_length kept y.arcs through
+
+  -- each index names an arc
+  pub ranged : IsTopology y → EachFromFirstToLast kept y.arcs → AllByRecursion (InRange (length retained)) (objects_lines_and_rings large)
+  ranged valid through = range_stays (length retained) limit (placed_arcs y.transform retained) y.objects (subst (λ n. AllByRecursion (InRange n) (objects_lines_and_rings y.objects)) (sym (retained_long through)) valid.ranged)
+
+  -- the cells that are retained may stand in the topology
+  pub places_are : IsTopology y → AllByRecursion (λ a. AllByRecursion (IsPlace y.transform) a) retained
+  places_are valid = subst (AllByRecursion (λ a. AllByRecursion (IsPlace y.transform) a)) (sym is) (places_retained y.transform kept y.arcs (topology_places y valid))
+
+  -- without the arcs that are not used it is what is left
+  pub is_simplified : trimmed (contents large retained y.transform) ≡ simplified_by kept limit y
+  unfolding simplified_by
+  is_simplified = ap trimmed is_whole
+
+  pub taken_is : positions_of (keep_from (is_used large) 0 y.arcs) - positions_of (keep_from (is_used large) 0 retained) ≡ removed_count_by kept limit y
+  unfolding removed_count_by trimmed
+  taken_is = grind (arith, is_whole, is_simplified)
+
+  -- the lines and rings that are dropped
+  pub drops_are : IsTopology y → objects_drops (of_arcs limit (placed_arcs y.transform retained)) 0 y.objects ≡ dropped_by kept limit y
+  unfolding dropped_by
+  drops_are valid =
+      ap (dropped_of_layers 0) (objects_same limit (placed_arcs y.transform retained) y.transform y.objects valid.objects)
+      ∙ ap (λ arcs. dropped_of_layers 0 (map (λ o. map (λ f. option_small limit (placed_arcs y.transform arcs) f.shape) (object_features o.1)) y.objects)) is
+
+-- ---- where the cells of arcs lie
+
+cells_lie : (t : Transform) (cells : List Point) → AllByRecursion (IsPlace (Some t)) cells → AllByRecursion IsPosition (map (place_on t) cells)
+cells_lie t [] h = tt
+cells_lie t (c ∷ cells) h = (h.0.1, cells_lie t cells h.1)
+
+some_positions : (t : Transform) (arcs : List (List Point)) → AllByRecursion (λ a. AllByRecursion (IsPlace (Some t)) a) arcs → AllByRecursion (λ a. AllByRecursion IsPosition a) (placed_arcs (Some t) arcs)
+some_positions t [] h = tt
+some_positions t (a ∷ arcs) h = (cells_lie t a h.0, some_positions t arcs h.1)
+
+-- they are positions
+pub are_positions : (transform : Option Transform) (arcs : List (List Point)) → AllByRecursion (λ a. AllByRecursion (IsPlace transform) a) arcs
+    → AllByRecursion (λ a. AllByRecursion IsPosition a) (placed_arcs transform arcs)
+are_positions None arcs h = h
+are_positions (Some t) arcs h = some_positions t arcs h

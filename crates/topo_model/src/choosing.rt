@@ -1,0 +1,51 @@
+// Which lines and rings of a topology stay, and with which arc indexes.
+ghost use Rattle.std.specs.Prelude.{◌≡◌};
+ghost use Rattle.simplified_topology.specs.Simplified.{large_refs};
+ghost use Rattle.topo_model.specs.ArcUses.{renumbered_refs};
+
+use crate::pruning::Keeps;
+use crate::rebuilding::Rebuilding;
+use crate::trimming::renumber_all;
+use json_value::Items;
+use std::marker::Model;
+use topojson_types::ArcRef;
+
+/// Keeps the lines and rings that aren't small where they are rebuilt of these arcs, as they are.
+impl<'a> Keeps for Rebuilding<'a> {
+    ghost keeps = { λ arcs. large_refs arcs.limit arcs.arcs };
+
+    fn keep(&self, closed: bool, refs: &mut Items<ArcRef>) -> bool {
+        !self.is_small(closed, refs.as_slice())
+    }
+}
+
+/// Keeps all lines and rings, each index replaced by the new index of its arc.
+#[derive(Drop)]
+pub struct Renumbered<'a> {
+    renumbering: &'a [ArcRef],
+}
+
+impl<'a> Model for Renumbered<'a> {
+    ghost use Rattle.std.specs.Prelude.{List, ℤ};
+
+    ghost Value = { List ℤ };
+
+    ghost view = { λ r. r.renumbering.now };
+}
+
+impl<'a> Renumbered<'a> {
+    pub fn by(renumbering: &'a [ArcRef]) -> Renumbered<'a>
+        ensures { result ≡ renumbering.now }
+    {
+        Renumbered { renumbering }
+    }
+}
+
+impl<'a> Keeps for Renumbered<'a> {
+    ghost keeps = { renumbered_refs };
+
+    fn keep(&self, _closed: bool, refs: &mut Items<ArcRef>) -> bool {
+        renumber_all(refs.as_mut_slice(), self.renumbering);
+        true
+    }
+}

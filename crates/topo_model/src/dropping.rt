@@ -1,0 +1,204 @@
+// The lines and rings of objects that are dropped, and where they stand.
+ghost use Rattle.std.specs.Prelude.{◌≡◌, ◌++◌, IfOk, OnOk, false, map, true};
+ghost use Rattle.geometry.specs.DropCauses.{area_drop_causes, dropped_of_layers, here, drop_causes};
+ghost use Rattle.geometry.specs.Paths.{of_parts};
+ghost use Rattle.topo_model.specs.Places.{dropped_at};
+ghost use Rattle.topo_model.specs.Drops.{draft_cause, shape_drops, object_drops};
+ghost use Rattle.linework.specs.Linework.{feature_address};
+ghost use Rattle.topojson_types.specs.Topologies.{object_features};
+
+use crate::places::{Place, add_here, add_part, hole_cause};
+use crate::rebuilding::Rebuilding;
+use geojson_types::{Cause, Dropped, Geometry};
+use json_value::{Items, OwnText};
+use owned_values::Memory;
+use std::alloc::Global;
+use topojson_types::{ArcRef, TopoFeature, TopoObject, TopoShape};
+
+/// The lines and rings of objects that have no arc index, or are small where they are rebuilt of these arcs, and the rings of polygons whose outer ring is dropped, in reading order. An object stands in the place of a layer.
+pub fn dropped_lines(
+    alloc: Global,
+    objects: &[(OwnText, TopoObject)],
+    arcs: &Rebuilding<'_>,
+) -> Result<Vec<Dropped>, Memory>
+    ensures { IfOk result (λ dropped. dropped.items
+        ≡ dropped_of_layers 0 (map (λ o. map (λ f. shape_drops arcs.now f.shape) (object_features o.1)) objects.now)) }
+{
+    let mut dropped = Vec::new(alloc);
+    let mut place = Place::first(alloc);
+    for (number, object) in objects.iter().enumerate() {
+        add_object(alloc, arcs, &mut place, number, &object.1, &mut dropped)?;
+    }
+    Ok(dropped)
+}
+
+/// Adds those of the object with this number.
+fn add_object(
+    alloc: Global,
+    arcs: &Rebuilding<'_>,
+    place: &mut Place,
+    number: usize,
+    object: &TopoObject,
+    dropped: &mut Vec<Dropped>,
+) -> Result<(), Memory>
+    ensures { OnOk result (dropped.new.items ≡ dropped.old.items ++ object_drops arcs.now number 0 (object_features object.now)) }
+{
+    match object {
+        TopoObject::One(feature) => {
+            place.go_to(number, 0);
+            add_feature(alloc, arcs, place, feature, dropped)
+        }
+        TopoObject::Many(features) => {
+            add_features(alloc, arcs, place, number, features.as_slice(), dropped)
+        }
+    }
+}
+
+/// Adds those of the features of the object with this number.
+fn add_features(
+    alloc: Global,
+    arcs: &Rebuilding<'_>,
+    place: &mut Place,
+    object: usize,
+    features: &[TopoFeature],
+    dropped: &mut Vec<Dropped>,
+) -> Result<(), Memory>
+    ensures { OnOk result (dropped.new.items ≡ dropped.old.items ++ object_drops arcs.now object 0 features.now) }
+{
+    for (number, feature) in features.iter().enumerate() {
+        place.go_to(object, number);
+        add_feature(alloc, arcs, place, feature, dropped)?;
+    }
+    Ok(())
+}
+
+/// Adds those of the feature at this place.
+fn add_feature(
+    alloc: Global,
+    arcs: &Rebuilding<'_>,
+    place: &mut Place,
+    feature: &TopoFeature,
+    dropped: &mut Vec<Dropped>,
+) -> Result<(), Memory>
+    ensures { OnOk result (dropped.new.items ≡ dropped.old.items ++ dropped_at place.old (shape_drops arcs.now feature.now.shape)) }
+{
+    match &feature.shape {
+        None => Ok(()),
+        Some(shape) => add_shape(alloc, arcs, place, shape, dropped),
+    }
+}
+
+/// Adds those of the shape at this place.
+#[tactic(auto, using(crate::proofs::Drops::of_line, crate::proofs::Drops::of_lines, crate::proofs::Drops::of_area, crate::proofs::Drops::of_areas))]
+fn add_shape(
+    alloc: Global,
+    arcs: &Rebuilding<'_>,
+    place: &mut Place,
+    shape: &TopoShape,
+    dropped: &mut Vec<Dropped>,
+) -> Result<(), Memory>
+    ensures place { OnOk result (place.new ≡ place.old) }
+    ensures dropped { OnOk result (dropped.new.items ≡ dropped.old.items ++ dropped_at place.old (drop_causes (draft_cause arcs.now) shape.now)) }
+{
+    match shape {
+        Geometry::Point(_) => Ok(()),
+        Geometry::MultiPoint(_) => Ok(()),
+        Geometry::Line(refs) => {
+            add_here(
+                alloc,
+                place,
+                cause_of(arcs, false, refs.as_slice()),
+                dropped,
+            )
+        }
+        Geometry::Lines(lines) => add_lines(alloc, arcs, place, lines.as_slice(), dropped),
+        Geometry::Area(rings) => add_rings(alloc, arcs, place, rings.as_slice(), dropped),
+        Geometry::Areas(areas) => add_areas(alloc, arcs, place, areas.as_slice(), dropped),
+        Geometry::Group(shapes) => {
+            'shapes: for (number, shape) in shapes.as_slice().iter().enumerate() {
+                place.enter(number)?;
+                add_shape(alloc, arcs, place, shape, dropped)?;
+                place.leave();
+            }
+            Ok(())
+        }
+    }
+}
+
+/// Adds those of the polygons at this place.
+fn add_areas(
+    alloc: Global,
+    arcs: &Rebuilding<'_>,
+    place: &mut Place,
+    areas: &[Items<Items<ArcRef>>],
+    dropped: &mut Vec<Dropped>,
+) -> Result<(), Memory>
+    ensures place { OnOk result (place.new ≡ place.old) }
+    ensures dropped { OnOk result
+        (dropped.new.items ≡ dropped.old.items ++ dropped_at place.old (of_parts 0 (map (area_drop_causes (draft_cause arcs.now true)) areas.now))) }
+{
+    for (number, rings) in areas.iter().enumerate() {
+        place.enter(number)?;
+        add_rings(alloc, arcs, place, rings.as_slice(), dropped)?;
+        place.leave();
+    }
+    Ok(())
+}
+
+/// Adds those of the rings of the polygon at this place. With the outer ring each hole is dropped.
+fn add_rings(
+    alloc: Global,
+    arcs: &Rebuilding<'_>,
+    place: &Place,
+    rings: &[Items<ArcRef>],
+    dropped: &mut Vec<Dropped>,
+) -> Result<(), Memory>
+    ensures { OnOk result (dropped.new.items ≡ dropped.old.items ++ dropped_at place.now (area_drop_causes (draft_cause arcs.now true) rings.now)) }
+{
+    let Some((outer, holes)) = rings.split_first() else {
+        return Ok(());
+    };
+    let outer_cause = cause_of(arcs, true, outer.as_slice());
+    add_part(alloc, place, 0, outer_cause, dropped)?;
+    for (number, hole) in holes.iter().enumerate() {
+        let cause = hole_cause(outer_cause, cause_of(arcs, true, hole.as_slice()));
+        add_part(alloc, place, number + 1, cause, dropped)?;
+    }
+    Ok(())
+}
+
+/// Adds those of the lines at this place.
+fn add_lines(
+    alloc: Global,
+    arcs: &Rebuilding<'_>,
+    place: &Place,
+    parts: &[Items<ArcRef>],
+    dropped: &mut Vec<Dropped>,
+) -> Result<(), Memory>
+    ensures { OnOk result
+        (dropped.new.items ≡ dropped.old.items ++ dropped_at place.now (of_parts 0 (map (λ l. here (draft_cause arcs.now false l)) parts.now))) }
+{
+    for (number, line) in parts.iter().enumerate() {
+        add_part(
+            alloc,
+            place,
+            number,
+            cause_of(arcs, false, line.as_slice()),
+            dropped,
+        )?;
+    }
+    Ok(())
+}
+
+/// Why a line or a ring is dropped for its own sake, if it is.
+fn cause_of(arcs: &Rebuilding<'_>, closed: bool, refs: &[ArcRef]) -> Option<Cause>
+    ensures { result ≡ draft_cause arcs.now closed refs.now }
+{
+    if refs.is_empty() {
+        Some(Cause::Collapsed)
+    } else if arcs.is_small(closed, refs) {
+        Some(Cause::Small)
+    } else {
+        None
+    }
+}

@@ -1,0 +1,142 @@
+// What is left of a draft of a topology.
+ghost use Rattle.std.specs.Prelude.{◌≡◌, ◌-◌, ◌≤◌, ℕ, Bool, IfOk, OnOk, length, map, sum};
+ghost use Rattle.std.specs.List.{AllByRecursion};
+ghost use Rattle.std.specs.Option.{option_copied};
+ghost use Rattle.topo_model.specs.Uses.{answers};
+ghost use Rattle.build_meaning.specs.Built.{positions_of};
+ghost use Rattle.build_meaning.specs.Trimming.{is_used, keep_from, line_renumbered, trimmed};
+ghost use Rattle.byte_ends.specs.Ends.{saturated};
+ghost use Rattle.geometry.specs.Joins.{AreInRange};
+ghost use Rattle.geometry.specs.Units.{threshold_limit};
+ghost use Rattle.simplified_topology.specs.Simplified.{large_refs, objects_pruned};
+ghost use Rattle.topojson_types.specs.Decoding.{placed_arcs as all_placed};
+ghost use Rattle.topojson_types.specs.Topologies.{objects_lines_and_rings};
+ghost use Rattle.topojson_types.specs.Validity.{IsPlace};
+ghost use Rattle.topo_model.specs.Drops.{objects_drops};
+ghost use Rattle.topo_model.specs.Parts.{contents};
+
+use crate::arc_uses::used_arcs;
+use crate::choosing::Renumbered;
+use crate::dropping::dropped_lines;
+use crate::placing::placed_arcs;
+use crate::pruning::prune_objects;
+use crate::rebuilding::Rebuilding;
+use crate::trimming::{kept_arcs, removed_count, renumbering, used_positions};
+use geojson_types::Dropped;
+use json_value::{Items, OwnText};
+use owned_values::Memory;
+use std::alloc::Global;
+use topojson_types::{Cell, TopoObject, Transform};
+
+/// Leaves out the lines and rings of the objects that are small where they are rebuilt of these arcs. They are, in reading order, what
+/// comes back.
+fn leave_out_small(
+    alloc: Global,
+    objects: &mut [(OwnText, TopoObject)],
+    arcs: &Rebuilding<'_>,
+) -> Result<Vec<Dropped>, Memory>
+    ensures objects { OnOk result (objects.new ≡ objects_pruned (large_refs arcs.now.limit arcs.now.arcs) objects.old) }
+    ensures dropped { IfOk result (λ dropped. dropped.items ≡ objects_drops arcs.now 0 objects.old) }
+{
+    let dropped = dropped_lines(alloc, objects, arcs)?;
+    prune_objects(alloc, arcs, objects)?;
+    Ok(dropped)
+}
+
+/// Leaves out those that are small where the positions of the arcs are those that their cells stand for, and twice the area of a ring
+/// may not be under the limit.
+fn leave_out_dropped(
+    alloc: Global,
+    objects: &mut [(OwnText, TopoObject)],
+    arcs: &[Items<Cell>],
+    transform: Option<&Transform>,
+    ring_limit: u128,
+) -> Result<Vec<Dropped>, Memory>
+    requires places { AllByRecursion (λ arc. AllByRecursion (IsPlace (option_copied transform)) arc) arcs.now }
+    requires limit { ring_limit ≤ threshold_limit }
+    ensures objects { OnOk result (objects.new
+        ≡ objects_pruned (large_refs ring_limit (all_placed (option_copied transform.entry) arcs.now)) objects.old) }
+    ensures dropped { IfOk result (λ dropped. dropped.items
+        ≡ objects_drops (record { arcs = all_placed (option_copied transform.entry) arcs.now; limit = ring_limit }) 0 objects.old) }
+{
+    match transform {
+        None => leave_out_small(alloc, objects, &Rebuilding::of(arcs, ring_limit)),
+        Some(_) => {
+            let placed = placed_arcs(alloc, arcs, transform)?;
+            leave_out_small(alloc, objects, &Rebuilding::of(&placed, ring_limit))
+        }
+    }
+}
+
+/// Replaces the arc indexes of the objects, where only the arcs with a set flag are left.
+fn renumber(
+    alloc: Global,
+    objects: &mut [(OwnText, TopoObject)],
+    used: &[bool],
+) -> Result<(), Memory>
+    requires { AllByRecursion (λ b. AreInRange (length used.now) b.1) (objects_lines_and_rings objects.old) }
+    ensures { OnOk result ((u : ℕ → Bool) → used.now ≡ answers u 0 (length used.now) → objects.new ≡ objects_pruned (line_renumbered u) objects.old) }
+{
+    let renumbering = renumbering(alloc, used)?;
+    prune_objects(alloc, &Renumbered::by(&renumbering), objects)
+}
+
+/// The retained arcs without those that no line or ring of the objects uses, and how many of the positions of the others were not retained.
+/// The objects have the new indexes.
+fn without_unused<P>(
+    alloc: Global,
+    objects: &mut [(OwnText, TopoObject)],
+    arcs: &[Items<P>],
+    retained: Vec<Items<Cell>>,
+) -> Result<(Vec<Items<Cell>>, u64), Memory>
+    requires many { length retained.items ≡ length arcs.now }
+    requires ranged { AllByRecursion (λ b. AreInRange (length retained.items) b.1) (objects_lines_and_rings objects.old) }
+    ensures objects { OnOk result (objects.new ≡ objects_pruned (line_renumbered (is_used objects.old)) objects.old) }
+    ensures arcs { IfOk result (λ r. r.0.items ≡ keep_from (is_used objects.old) 0 retained.items) }
+    ensures removed_count { IfOk result (λ r. r.1
+        ≡ saturated (sum (map length (keep_from (is_used objects.old) 0 arcs.now)) - positions_of (keep_from (is_used objects.old) 0 retained.items))) }
+{
+    let used = used_arcs(alloc, objects, retained.len())?;
+    let before = used_positions(arcs, &used);
+    let after = used_positions(&retained, &used);
+    renumber(alloc, objects, &used)?;
+    let stay = kept_arcs(alloc, retained, &used)?;
+    Ok((stay, removed_count(before, after)))
+}
+
+/// What is left of objects over arcs of which only the retained cells stay: without the lines and rings that have no arc index, or are
+/// small, and without the arcs that no other line uses; the lines and rings that are dropped, in reading order, an
+/// object in the place of a layer; and how many positions of the arcs that stay were not retained.
+pub fn finish<P>(
+    alloc: Global,
+    objects: Vec<(OwnText, TopoObject)>,
+    arcs: &[Items<P>],
+    retained: Vec<Items<Cell>>,
+    transform: Option<&Transform>,
+    ring_limit: u128,
+) -> Result<
+    (
+        Vec<(OwnText, TopoObject)>,
+        Vec<Items<Cell>>,
+        Vec<Dropped>,
+        u64,
+    ),
+    Memory,
+>
+    requires places { AllByRecursion (λ arc. AllByRecursion (IsPlace (option_copied transform)) arc) retained.items }
+    requires limit { ring_limit ≤ threshold_limit }
+    requires many { length retained.items ≡ length arcs.now }
+    requires ranged { AllByRecursion (λ b. AreInRange (length retained.items) b.1)
+        (objects_lines_and_rings (objects_pruned (large_refs ring_limit (all_placed (option_copied transform) retained.items)) objects.items)) }
+    ensures left { IfOk result (λ r. contents r.0.items r.1.items (option_copied transform.entry)
+        ≡ trimmed (contents (objects_pruned (large_refs ring_limit (all_placed (option_copied transform.entry) retained.items)) objects.items) retained.items (option_copied transform.entry))) }
+    ensures dropped { IfOk result (λ r. r.2.items ≡ objects_drops (record { arcs = all_placed (option_copied transform.entry) retained.items; limit = ring_limit }) 0 objects.items) }
+    ensures removed_count { IfOk result (λ r. r.3
+        ≡ saturated (sum (map length (keep_from (is_used (objects_pruned (large_refs ring_limit (all_placed (option_copied transform.entry) retained.items)) objects.items)) 0 arcs.now))
+        - positions_of (keep_from (is_used (objects_pruned (large_refs ring_limit (all_placed (option_copied transform.entry) retained.items)) objects.items)) 0 retained.items))) }
+{
+    let mut left = objects;
+    let dropped = leave_out_dropped(alloc, left.as_mut_slice(), &retained, transform, ring_limit)?;
+    let (stay, taken) = without_unused(alloc, left.as_mut_slice(), arcs, retained)?;
+    Ok((left, stay, dropped, taken))
+}

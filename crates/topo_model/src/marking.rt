@@ -1,0 +1,27 @@
+// Which arcs lines and rings use.
+ghost use Rattle.std.specs.Prelude.{◌≡◌, IfOk, false, replicate};
+ghost use Rattle.topo_model.specs.Marks.{also_set, names_arc};
+
+use owned_values::Memory;
+use std::alloc::Global;
+use topojson_types::ArcRef;
+
+/// The flags of so many arcs, of which none is used yet.
+pub fn unused_flags(alloc: Global, arcs: usize) -> Result<Vec<bool>, Memory>
+    ensures { IfOk result (λ flags. flags.items ≡ replicate arcs false) }
+{
+    let flags = vec![in alloc; false; arcs]?;
+    Ok(flags)
+}
+
+/// Sets the flags of the arcs that the indexes name.
+pub fn mark_refs(refs: &[ArcRef], used: &mut [bool])
+    ensures { used.new ≡ also_set (names_arc refs.now) 0 used.old }
+{
+    'refs: for arc in refs {
+        let index = arc.index();
+        if index < used.len() {
+            used[index] = true;
+        }
+    }
+}

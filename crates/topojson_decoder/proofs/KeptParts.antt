@@ -1,0 +1,137 @@
+-- What is kept of what is read.
+use Rattle.std.proofs.Common.{◌≡◌, ℕ, List, [], ◌∷◌, ◌++◌, length, Option, Some, None, Result, Ok, Err, refl, ap, sym, ◌∙◌, arith}
+use Rattle.std.specs.Prelude.{map}
+use Rattle.std.specs.Borrow.{Bor}
+use Rattle.json_value.specs.declared.json.Json.{Json}
+use Rattle.geojson_types.specs.declared.counts.Counts.{Counts}
+use Rattle.topojson_types.specs.Topologies.{Contents}
+use Rattle.topojson_types.specs.declared.feature.TopoFeature.{TopoFeature}
+use Rattle.topojson_types.specs.declared.object.TopoObject.{TopoObject}
+use Rattle.topojson_types.specs.declared.object.TopoObject.TheVariants.{One, Many}
+use Rattle.topojson_meaning.specs.declared.fault.TopoFault.{TopoFault}
+use Rattle.topojson_meaning.specs.Reader.{Reader, and_then, each, gather, give}
+use Rattle.json_cursor.specs.Answers.{Answers, Stops}
+use Rattle.json_cursor.specs.declared.stop.Stop.{Stop}
+use Rattle.json_cursor.specs.declared.stop.Stop.TheVariants as stop
+use Rattle.topojson_decoder.specs.declared.keeping.Keeping.{Keeping}
+use Rattle.topojson_decoder.specs.declared.keeping.Keeping.TheVariants.{Whole, Blank}
+use Rattle.topojson_decoder.specs.Kept.{making, of_contents, of_feature, of_named, of_object, of_option}
+use Rattle.topojson_decoder.specs.Members.{Judges}
+
+-- ---- what is made of what is read
+
+-- the same is read, and this is made of it
+pub record Unmade {A B : Type 0} (f : A → B) (r : Result (A × Counts) TopoFault) (x : B) (d : Counts) : Type 0 where
+  pub whole : A
+  pub reads : r ≡ Ok (whole, d)
+  pub is : x ≡ f whole
+
+module _ {A B : Type 0} (f : A → B) where
+  abbrev make : Result (A × Counts) TopoFault → Result (B × Counts) TopoFault
+  make = and_then (λ x. give (f x))
+
+  unmade_of : (r : Result (A × Counts) TopoFault) (x : B) (d : Counts) → make r ≡ Ok (x, d) → Unmade f r x d
+  unmade_of (Err e) x d h = absurd cc
+  unmade_of (Ok y) x d h =
+      let same : ◌≡◌ {A = B × Counts} (f y.0, y.1) (x, d) = cc in
+      record { whole = y.0; reads = ap (λ z. Ok (y.0, z)) (ap (λ p. p.1) same); is = sym (ap (λ p. p.0) same) }
+
+  fault_of : (r : Result (A × Counts) TopoFault) (e : TopoFault) → make r ≡ Err e → r ≡ Err e
+  fault_of (Err k) e h = cc
+  fault_of (Ok y) e h = absurd cc
+
+  module _ (read : Reader A) (c : Counts) where
+    pub made : (x : A) (d : Counts) → read c ≡ Ok (x, d) → making f read c ≡ Ok (f x, d)
+    made x d h = rw h refl
+
+    pub made_fault : (e : TopoFault) → read c ≡ Err e → making f read c ≡ Err e
+    made_fault e h = rw h refl
+
+    pub unmade : (x : B) (d : Counts) → making f read c ≡ Ok (x, d) → Unmade f (read c) x d
+    unmade x d h = unmade_of (read c) x d h
+
+    pub unmade_fault : (e : TopoFault) → making f read c ≡ Err e → read c ≡ Err e
+    unmade_fault e h = fault_of (read c) e h
+
+    pub made_alike : (other : Reader A) → read c ≡ other c → making f read c ≡ making f other c
+    made_alike other h = ap make h
+
+    -- it stops where the reader stops
+    pub made_stop : (new other : Counts) (why : Stop TopoFault) → Judges read c new (Err why) → Judges (making f read) c other (Err why)
+    made_stop new other (stop.Fault e) h = made_fault e h
+    made_stop new other stop.NoValue h = h
+    made_stop new other stop.Memory h = tt
+
+    pub unmade_stop : (new other : Counts) (why : Stop TopoFault) → Judges (making f read) c new (Err why) → Judges read c other (Err why)
+    unmade_stop new other (stop.Fault e) h = unmade_fault e h
+    unmade_stop new other stop.NoValue h = h
+    unmade_stop new other stop.Memory h = tt
+
+  -- ---- of each of a list
+
+  module _ (element : Json → Reader A) where
+    join : (x : A) (r : Result (List A × Counts) TopoFault) → and_then (λ ys. give (f x ∷ ys)) (and_then (λ ys. give (map f ys)) r) ≡ and_then (λ xs. give (map f xs)) (and_then (λ ys. give (x ∷ ys)) r)
+    join x (Err e) = refl
+    join x (Ok y) = refl
+
+    each_step : (vs : List Json) → ((d : Counts) → each (λ v. making f (element v)) vs d ≡ making (map f) (each element vs) d) → (r : Result (A × Counts) TopoFault)
+        → and_then (λ xs. λ d. and_then (λ ys. give (xs ++ ys)) (each (λ v. making f (element v)) vs d)) (and_then (λ x. give (x ∷ [])) (make r))
+        ≡ and_then (λ xs. give (map f xs)) (and_then (λ xs. λ d. and_then (λ ys. give (xs ++ ys)) (each element vs d)) (and_then (λ x. give (x ∷ [])) r))
+    each_step vs same (Err e) = refl
+    each_step vs same (Ok x) = ap (and_then (λ ys. give (f x.0 ∷ ys))) (same x.1) ∙ join x.0 (each element vs x.1)
+
+    pub made_each : (vs : List Json) (c : Counts) → each (λ v. making f (element v)) vs c ≡ making (map f) (each element vs) c
+    unfolding gather
+    made_each [] c = refl
+    made_each (v ∷ vs) c = each_step vs (made_each vs) (element v c)
+
+-- ---- the whole
+
+module _ {A : Type 0} (f : A → A) (same : (x : A) → f x ≡ x) where
+  nothing_made : (r : Result (A × Counts) TopoFault) → make f r ≡ r
+  nothing_made (Err e) = refl
+  nothing_made (Ok y) = ap (λ z. Ok (z, y.1)) (same y.0)
+
+  -- what is answered of the reader that makes the same of it is answered of the reader
+  pub answers_whole : {X : Type 0} (view : X → A) (read : Json → Reader A) (prefix : Option (Json × List ℕ)) (old new : Counts) (answer : Result (X × Bor (List ℕ)) (Stop TopoFault))
+      → Answers view (λ v. making f (read v)) prefix old new answer → Answers view read prefix old new answer
+  answers_whole view read prefix old new (Ok x) r = record { value = r.value; prefix_is = r.prefix_is; means = sym (nothing_made (read r.value old)) ∙ r.means }
+  answers_whole view read prefix old new (Err (stop.Fault e)) h = λ v rest is. sym (nothing_made (read v old)) ∙ h v rest is
+  answers_whole view read prefix old new (Err stop.NoValue) h = h
+  answers_whole view read prefix old new (Err stop.Memory) h = tt
+
+pub whole_option : {A : Type 0} (x : Option A) → of_option Whole x ≡ x
+whole_option None = refl
+whole_option (Some x) = refl
+
+pub blank_option : {A : Type 0} (x : Option A) → of_option Blank x ≡ None
+blank_option None = refl
+blank_option (Some x) = refl
+
+pub whole_feature : (f : TopoFeature) → of_feature Whole f ≡ f
+whole_feature f = rw (whole_option f.id, whole_option f.properties, whole_option f.shape) refl
+
+pub whole_features : (fs : List TopoFeature) → map (of_feature Whole) fs ≡ fs
+whole_features [] = refl
+whole_features (f ∷ fs) = rw (whole_feature f, whole_features fs) refl
+
+pub whole_object : (o : TopoObject) → of_object Whole o ≡ o
+whole_object (One f) = ap One (whole_feature f)
+whole_object (Many fs) = ap Many (whole_features fs)
+
+pub whole_named : (o : List ℕ × TopoObject) → of_named Whole o ≡ o
+whole_named o = ap (λ z. (o.0, z)) (whole_object o.1)
+
+pub whole_objects : (os : List (List ℕ × TopoObject)) → map (of_named Whole) os ≡ os
+whole_objects [] = refl
+whole_objects (o ∷ os) = rw (whole_named o, whole_objects os) refl
+
+pub whole_contents : (t : Contents) → of_contents Whole t ≡ t
+whole_contents t = ap (λ z. record { objects = z; arcs = t.arcs; transform = t.transform }) (whole_objects t.objects)
+
+-- ---- the names of objects
+
+module _ (k : Keeping) where
+  pub names_kept : (os : List (List ℕ × TopoObject)) → map (λ o. o.0) (map (of_named k) os) ≡ map (λ o. o.0) os
+  names_kept [] = refl
+  names_kept (o ∷ os) = ap (λ z. o.0 ∷ z) (names_kept os)

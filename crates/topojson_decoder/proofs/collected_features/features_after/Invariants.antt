@@ -1,0 +1,13 @@
+use Rattle.std.proofs.Common.{[], length}
+use Rattle.std.specs.Option.{option_copied}
+use Rattle.std.specs.Str.{is_utf8}
+use Rattle.json_value.specs.Reading.{value_at}
+use Rattle.json_cursor.specs.Arrays.{prefix_elements}
+use Rattle.json_cursor.specs.Folds.{one, with_read}
+use Rattle.json_cursor.proofs.FoldedSoFar.{FoldedSoFar}
+use Rattle.topojson_decoder.specs.Kept.{kept_feature}
+use Rattle.topojson_decoder.proofs.collected_features.features_after.Given as goal
+
+abbrev pub invariant-features : goal.invariant-features
+invariant-features l =
+    FoldedSoFar (with_read (one (kept_feature l.keeping (option_copied l.transform) l.arcs))) (value_at is_utf8 l.depth_left) (length l.inside) (prefix_elements l.depth_left (length l.inside) l.inside) [] l.fn.counts l.counter l.rest l.read.items l.counts

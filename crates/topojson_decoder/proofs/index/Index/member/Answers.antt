@@ -1,0 +1,7 @@
+use Rattle.json_cursor.specs.Names.{name_of}
+use Rattle.topojson_decoder.proofs.LostParts.{member_goes_on_or_loses}
+use Rattle.topojson_decoder.proofs.index.Index.member.Goals as goal
+
+pub returns : goal.returns
+returns c =
+    member_goes_on_or_loses c.args.start c.args.depth_left c.args.self.now _ c.args.bytes.now (name_of c.in_ok-name.name) c.in_ok-name.value.now (c.in_ok-name.ensures c.args.depth_left) c.value.result (rw c.as_str.ensures at c.value.ensures)

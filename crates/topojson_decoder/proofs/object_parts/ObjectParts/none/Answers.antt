@@ -1,0 +1,5 @@
+use Rattle.topojson_decoder.proofs.ObjectSeen.{no_parts}
+use Rattle.topojson_decoder.proofs.object_parts.ObjectParts.none.Goals as goal
+
+pub returns : goal.returns
+returns c = λ start depth_left. no_parts start depth_left _ (c.none.ensures start depth_left)

@@ -1,0 +1,44 @@
+use Rattle.std.proofs.Common.{sym}
+use Rattle.std.specs.Option.{option_copied}
+use Rattle.topojson_meaning.specs.Features as features
+use Rattle.topojson_meaning.specs.Objects as objects
+use Rattle.topojson_types.specs.declared.object.TopoObject.TheVariants.{One}
+use Rattle.topojson_decoder.specs.Kept.{of_feature, of_object}
+use Rattle.topojson_decoder.specs.ObjectParts.{collection, kept_typed_object, typed_object}
+use Rattle.topojson_decoder.proofs.KeptParts.{made, made_alike, made_fault, made_stop, unmade, unmade_stop}
+use Rattle.topojson_decoder.proofs.ObjectSeen as by
+use Rattle.topojson_decoder.proofs.MemberOccurrences.{judges_same}
+use Rattle.topojson_decoder.proofs.object_parts.object_of.Goals as goal
+
+pub returns-in-Err : goal.returns-in-Err
+returns-in-Err c = λ ms is.
+    let start = c.args.start in
+    let transform = option_copied start.transform in
+    made_fault (of_object start.keeping) (typed_object transform start.arcs.now ms) start.counts c.in-Err.fault
+    (by.faulty_type transform start.arcs.now ms start.counts c.in-Err.fault (sym (c.in-Err.ensures ms is.feature.parts.kind)))
+
+pub returns-then-is_collection : goal.returns-then-is_collection
+returns-then-is_collection c = λ ms is.
+    let start = c.args.start in
+    let transform = option_copied start.transform in
+    judges_same (kept_typed_object start ms) (collection start ms) start.counts _
+    (made_alike (of_object start.keeping) (typed_object transform start.arcs.now ms) start.counts (objects.collection transform start.arcs.now ms)
+    (by.is_many transform start.arcs.now ms start.counts c.in-Ok.kind (sym (c.in-Ok.ensures ms is.feature.parts.kind)) (sym c.if-is_collection.ensures))) c.collection_of.result (c.collection_of.ensures ms is.features)
+
+pub returns-in-Err-feature_of : goal.returns-in-Err-feature_of
+returns-in-Err-feature_of c = λ ms is.
+    let start = c.args.start in
+    let transform = option_copied start.transform in
+    let counts = c.feature_of.new.counts in
+    let stop = c.in-Err-feature_of.stop in
+    made_stop (of_object start.keeping) (typed_object transform start.arcs.now ms) start.counts counts counts stop
+    (by.single_stops transform start.arcs.now ms start.counts c.in-Ok.kind (sym (c.in-Ok.ensures ms is.feature.parts.kind)) (sym c.if-is_collection.ensures) counts stop
+    (unmade_stop (of_feature start.keeping) (features.feature transform start.arcs.now c.in-Ok.kind ms) start.counts counts counts stop (c.in-Err-feature_of.ensures ms is.feature)))
+
+pub returns : goal.returns
+returns c = λ ms is.
+    let start = c.args.start in
+    let transform = option_copied start.transform in
+    let read = unmade (of_feature start.keeping) (features.feature transform start.arcs.now c.in-Ok.kind ms) start.counts c.in-Ok-feature_of.feature c.feature_of.new.counts (c.in-Ok-feature_of.ensures ms is.feature) in
+    rw read.is (made (of_object start.keeping) (typed_object transform start.arcs.now ms) start.counts (One read.whole) c.feature_of.new.counts
+    (by.single transform start.arcs.now ms start.counts c.in-Ok.kind (sym (c.in-Ok.ensures ms is.feature.parts.kind)) (sym c.if-is_collection.ensures) read.whole c.feature_of.new.counts read.reads))

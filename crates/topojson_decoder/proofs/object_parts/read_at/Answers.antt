@@ -1,0 +1,13 @@
+use Rattle.std.proofs.lemmas.Result.{err_from_is_err_and}
+use Rattle.topojson_decoder.specs.ObjectParts.{features}
+use Rattle.topojson_decoder.proofs.object_parts.read_at.Goals as goal
+
+pub returns : goal.returns
+returns c =
+    let found = c.in_ok-features.ensures (features c.args.start) c.args.start.counts c.features_at-answer.new.counts c.features_at-answer.ensures in
+    (found.0, found.1, record { prefix = (_, found.1); read = found.2 })
+
+pub returns-in_err-features : goal.returns-in_err-features
+returns-in_err-features c =
+    let p = err_from_is_err_and c.from_residual.result c.from_residual.ensures.1 in
+    rw (p.1, p.2) (c.in_err-features.ensures (features c.args.start) c.args.start.counts c.features_at-answer.new.counts c.features_at-answer.ensures)

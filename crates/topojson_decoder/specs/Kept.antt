@@ -1,0 +1,78 @@
+-- What is kept of what is read: all of it, or of each feature only that it is there.
+use Rattle.std.specs.Prelude.{ℕ, List, Option, Some, None, Result, Ok, Err, map}
+use Rattle.json_value.specs.declared.json.Json.{Json}
+use Rattle.json_value.specs.Members.{Members}
+use Rattle.geometry.specs.Points.{Point}
+use Rattle.topojson_types.specs.Topologies.{Contents}
+use Rattle.topojson_types.specs.declared.feature.TopoFeature.{TopoFeature}
+use Rattle.topojson_types.specs.declared.object.TopoObject.{TopoObject}
+use Rattle.topojson_types.specs.declared.object.TopoObject.TheVariants.{One, Many}
+use Rattle.topojson_types.specs.declared.transform.Transform.{Transform}
+use Rattle.topojson_meaning.specs.declared.fault.TopoFault.{TopoFault}
+use Rattle.topojson_meaning.specs.Features.{feature_element}
+use Rattle.topojson_meaning.specs.Objects as objects
+use Rattle.topojson_meaning.specs.Reader.{Reader, ◌>>=◌, give}
+use Rattle.topojson_meaning.specs.Topologies as topologies
+use Rattle.topojson_decoder.specs.declared.keeping.Keeping.{Keeping}
+use Rattle.topojson_decoder.specs.declared.keeping.Keeping.TheVariants.{Whole, Blank}
+
+-- ---- what is kept
+
+abbrev pub of_some : {A : Type 0} → Keeping → A → Option A
+of_some Whole x = Some x
+of_some Blank x = None
+
+-- of a part of a feature
+abbrev pub of_option : {A : Type 0} → Keeping → Option A → Option A
+of_option keeping None = None
+of_option keeping (Some x) = of_some keeping x
+
+-- of what it is read as, where it has no fault
+abbrev pub of_read : {A : Type 0} → Keeping → Result (Option A) TopoFault → Result (Option A) TopoFault
+of_read keeping (Ok x) = Ok (of_option keeping x)
+of_read keeping (Err e) = Err e
+
+-- of a feature
+abbrev pub of_feature : Keeping → TopoFeature → TopoFeature
+of_feature keeping f = record { id = of_option keeping f.id; properties = of_option keeping f.properties; shape = of_option keeping f.shape }
+
+-- of an object, and of one with its name
+abbrev pub of_object : Keeping → TopoObject → TopoObject
+of_object keeping (One f) = One (of_feature keeping f)
+of_object keeping (Many fs) = Many (map (of_feature keeping) fs)
+
+abbrev pub of_named : Keeping → List ℕ × TopoObject → List ℕ × TopoObject
+of_named keeping o = (o.0, of_object keeping o.1)
+
+-- of a topology
+abbrev pub of_contents : Keeping → Contents → Contents
+of_contents keeping t = record { objects = map (of_named keeping) t.objects; arcs = t.arcs; transform = t.transform }
+
+-- ---- readers
+
+-- this of what is read
+abbrev pub making : {A B : Type 0} → (A → B) → Reader A → Reader B
+making f read = do
+  x ← read
+  give (f x)
+
+-- what is kept of a member of a collection, and of all members of one
+abbrev pub kept_feature : Keeping → Option Transform → List (List Point) → Json → Reader TopoFeature
+kept_feature keeping transform arcs v = making (of_feature keeping) (feature_element transform arcs v)
+
+abbrev pub kept_features : Keeping → Option Transform → List (List Point) → Json → Reader (List TopoFeature)
+kept_features keeping transform arcs v = making (map (of_feature keeping)) (objects.features transform arcs v)
+
+-- of an object, and of all objects by name
+abbrev pub kept_object : Keeping → Option Transform → List (List Point) → Json → Reader TopoObject
+kept_object keeping transform arcs v = making (of_object keeping) (objects.object transform arcs v)
+
+abbrev pub kept_objects : Keeping → Option Transform → List (List Point) → Json → Reader (List (List ℕ × TopoObject))
+kept_objects keeping transform arcs v = making (map (of_named keeping)) (objects.objects transform arcs v)
+
+-- of the topology with these members, and of the one that a value stands for
+abbrev pub kept_contents : Keeping → Members → Reader Contents
+kept_contents keeping ms = making (of_contents keeping) (topologies.contents ms)
+
+abbrev pub kept_value_contents : Keeping → Json → Reader Contents
+kept_value_contents keeping v = making (of_contents keeping) (topologies.value_contents v)

@@ -1,0 +1,166 @@
+// Positions and cells of the grid (TopoJSON 1.0, sections 2.1.1 and 2.1.2).
+ghost use Rattle.std.specs.Prelude.{◌≡◌, ◌≤◌, ◌^◌};
+ghost use Rattle.std.specs.Option.{option_copied};
+ghost use Rattle.json_cursor.specs.Answers.{Answers};
+ghost use Rattle.json_cursor.specs.Arrays.{prefix_value};
+ghost use Rattle.topojson_types.specs.Transforms.{moved};
+ghost use Rattle.topojson_meaning.specs.Arcs as spec;
+ghost use Rattle.topojson_decoder.specs.Cells.{cell_from, whole};
+
+use crate::numbers::Scale;
+use crate::pairs::pair_at;
+use geojson_types::Counts;
+use json_cursor::Stop;
+use std::alloc::Global;
+use topojson_meaning::TopoFault;
+use topojson_types::{Cell, GRID_LIMIT, Transform, cell_after, placed};
+use unit_scanning::Units;
+
+/// How far from zero a difference may be.
+const DIFFERENCE_LIMIT: u64 = 4_294_967_296;
+
+/// The position at the front, and what follows it.
+#[inline(always)]
+pub(crate) fn position_at<'a>(
+    alloc: Global,
+    depth_left: u32,
+    bytes: &'a [u8],
+    counts: &mut Counts,
+) -> Result<(Cell, &'a [u8]), Stop<TopoFault>>
+    ensures { Answers (λ p. p) spec.position (prefix_value depth_left bytes.now) counts.old counts.new result }
+{
+    match pair_at(alloc, depth_left, Scale::Units, bytes) {
+        Err(stop) => Err(stop),
+        Ok((pair, rest)) => {
+            let Some(x) = pair.x else {
+                return Err(Stop::Fault(TopoFault::Range));
+            };
+            let Some(y) = pair.y else {
+                return Err(Stop::Fault(TopoFault::Range));
+            };
+            counts.count_rounded(!x.exact);
+            counts.count_rounded(!y.exact);
+            counts.count_extra(pair.more);
+            Ok((Cell::at(x.value, y.value), rest))
+        }
+    }
+}
+
+/// The number of a cell, which must be whole and in range.
+#[inline(always)]
+fn grid_number(number: Option<Units>) -> Option<i64>
+    ensures { result ≡ whole number }
+{
+    let number = number?;
+    if !number.exact {
+        return None;
+    }
+    Some(number.value)
+}
+
+/// The cell of the grid that lies so far from another, and at a position.
+#[inline(always)]
+#[tactic(auto, unfolding(topojson_meaning::specs::Arcs::grid_cell, topojson_types::specs::Transforms::placed))]
+fn grid_cell(transform: &Transform, before: Cell, difference: Cell) -> Result<Cell, TopoFault>
+    ensures { result ≡ spec.grid_cell transform.now (moved before difference) }
+{
+    let Some(cell) = cell_after(before, difference) else {
+        return Err(TopoFault::GridNumber);
+    };
+    match placed(Some(transform), cell) {
+        None => Err(TopoFault::Range),
+        Some(_) => Ok(cell),
+    }
+}
+
+/// The cell at the front, which stands as its difference from this one, and what follows it: the numbers of the difference are no farther
+/// from zero than the bound.
+#[inline(always)]
+fn cell_within<'a>(
+    alloc: Global,
+    depth_left: u32,
+    transform: &Transform,
+    bound: u64,
+    before: Cell,
+    bytes: &'a [u8],
+    counts: &mut Counts,
+) -> Result<(Cell, &'a [u8]), Stop<TopoFault>>
+    requires { bound ≤ 2 ^ 32 }
+    ensures { Answers (λ c. c) (spec.cell transform.now bound before) (prefix_value depth_left bytes.now) counts.old counts.new result }
+{
+    match pair_at(alloc, depth_left, Scale::Whole(bound), bytes) {
+        Err(stop) => Err(stop),
+        Ok((pair, rest)) => {
+            let Some(x) = grid_number(pair.x) else {
+                return Err(Stop::Fault(TopoFault::GridNumber));
+            };
+            let Some(y) = grid_number(pair.y) else {
+                return Err(Stop::Fault(TopoFault::GridNumber));
+            };
+            match grid_cell(transform, before, Cell::at(x, y)) {
+                Err(fault) => Err(Stop::Fault(fault)),
+                Ok(cell) => {
+                    counts.count_extra(pair.more);
+                    Ok((cell, rest))
+                }
+            }
+        }
+    }
+}
+
+/// The place at the front, of a Point or in a MultiPoint, and what follows it. With a transform it is a cell that is no difference (section
+/// 2.1.2).
+#[inline(always)]
+pub fn place_at<'a>(
+    alloc: Global,
+    depth_left: u32,
+    transform: Option<&Transform>,
+    bytes: &'a [u8],
+    counts: &mut Counts,
+) -> Result<(Cell, &'a [u8]), Stop<TopoFault>>
+    ensures { Answers (λ c. c) (spec.place (option_copied transform.entry)) (prefix_value depth_left bytes.now) counts.old counts.new result }
+{
+    match transform {
+        None => position_at(alloc, depth_left, bytes, counts),
+        Some(transform) => {
+            cell_within(
+                alloc,
+                depth_left,
+                transform,
+                GRID_LIMIT,
+                Cell::at(0, 0),
+                bytes,
+                counts,
+            )
+        }
+    }
+}
+
+/// The cell at the front, which is after this one in its arc, and what follows it. With a transform it stands as the difference from it
+/// (section 2.1.3).
+#[inline(always)]
+pub fn cell_at<'a>(
+    alloc: Global,
+    depth_left: u32,
+    transform: Option<&Transform>,
+    before: Cell,
+    bytes: &'a [u8],
+    counts: &mut Counts,
+) -> Result<(Cell, &'a [u8]), Stop<TopoFault>>
+    ensures { Answers (λ c. c) (cell_from (option_copied transform.entry) before) (prefix_value depth_left bytes.now) counts.old counts.new result }
+{
+    match transform {
+        None => position_at(alloc, depth_left, bytes, counts),
+        Some(transform) => {
+            cell_within(
+                alloc,
+                depth_left,
+                transform,
+                DIFFERENCE_LIMIT,
+                before,
+                bytes,
+                counts,
+            )
+        }
+    }
+}

@@ -1,0 +1,169 @@
+// Features in collections (TopoJSON 1.0, section 2.2).
+ghost use Rattle.std.specs.Prelude.{◌≡◌, length};
+ghost use Rattle.std.specs.Option.{option_copied};
+ghost use Rattle.json_value.specs.Members.{Members as Listed};
+ghost use Rattle.json_cursor.specs.Answers.{Answers};
+ghost use Rattle.json_cursor.specs.Arrays.{prefix_elements, prefix_value};
+ghost use Rattle.topojson_meaning.specs.Features.{feature_element};
+ghost use Rattle.topojson_meaning.specs.Reader.{each};
+ghost use Rattle.topojson_decoder.specs.Features.{IsFeature, kept_typed_feature};
+ghost use Rattle.topojson_decoder.specs.Kept.{kept_feature, kept_features};
+ghost use Rattle.topojson_decoder.specs.Members.{Judges};
+
+use crate::feature_parts::{FeatureParts, feature_of};
+use crate::geometry_parts::{Start, kind_of};
+use crate::keeping::Keeping;
+use geojson_types::Counts;
+use json_cursor::{Mark, Opening, Stop, mark_at, object_into, opening_at};
+use json_reading::skip;
+use json_value::Items;
+use std::alloc::Global;
+use topojson_meaning::TopoFault;
+use topojson_types::{Cell, TopoFeature, Transform};
+
+/// The feature whose members were seen so.
+#[inline(always)]
+fn typed_feature_of(
+    alloc: Global,
+    depth_left: u32,
+    occurrence: FeatureParts<'_>,
+    start: Start<'_>,
+    counts: &mut Counts,
+) -> Result<TopoFeature, Stop<TopoFault>>
+    ensures { (ms : Listed) → IsFeature start.entry depth_left ms occurrence.entry
+        → Judges (kept_typed_feature start.entry ms) start.entry.counts counts.new result }
+{
+    match kind_of(&occurrence.parts.kind) {
+        Err(fault) => Err(Stop::Fault(fault)),
+        Ok(kind) => feature_of(alloc, depth_left, kind, occurrence, start, counts),
+    }
+}
+
+/// What is kept of the feature at the front that is a geometry in a collection, and what follows it; or why reading stops. Its members may
+/// stand in any order.
+fn kept_feature_at<'a>(
+    alloc: Global,
+    depth_left: u32,
+    keeping: Keeping,
+    transform: Option<&'a Transform>,
+    arcs: &'a [Items<Cell>],
+    bytes: &'a [u8],
+    counts: &mut Counts,
+) -> Result<(TopoFeature, &'a [u8]), Stop<TopoFault>>
+    ensures { Answers (λ x. x) (kept_feature keeping (option_copied transform.entry) arcs.now) (prefix_value depth_left bytes.now) counts.old counts.new result }
+{
+    let start = Start {
+        transform,
+        arcs,
+        counts: *counts,
+        keeping,
+    };
+    let mut occurrence = FeatureParts::none();
+    let Some(rest) = object_into::<FeatureParts<'a>>(
+        alloc,
+        depth_left,
+        &mut occurrence,
+        bytes,
+        start,
+    )?
+    else {
+        return Err(Stop::Fault(TopoFault::WrongKind));
+    };
+    match typed_feature_of(alloc, depth_left - 1, occurrence, start, counts) {
+        Err(stop) => Err(stop),
+        Ok(feature) => Ok((feature, rest)),
+    }
+}
+
+/// The feature at the front that is a geometry in a collection, and what follows it; or why reading stops. Its members may stand in any
+/// order.
+pub fn feature_at<'a>(
+    alloc: Global,
+    depth_left: u32,
+    transform: Option<&'a Transform>,
+    arcs: &'a [Items<Cell>],
+    bytes: &'a [u8],
+    counts: &mut Counts,
+) -> Result<(TopoFeature, &'a [u8]), Stop<TopoFault>>
+    ensures { Answers (λ x. x) (feature_element (option_copied transform.entry) arcs.now) (prefix_value depth_left bytes.now) counts.old counts.new result }
+{
+    kept_feature_at(
+        alloc,
+        depth_left,
+        Keeping::Whole,
+        transform,
+        arcs,
+        bytes,
+        counts,
+    )
+}
+
+/// What is kept of the features after the bracket of an array, one or more, and what follows it.
+fn features_after<'a>(
+    alloc: Global,
+    depth_left: u32,
+    keeping: Keeping,
+    transform: Option<&'a Transform>,
+    arcs: &'a [Items<Cell>],
+    inside: &'a [u8],
+    counts: &mut Counts,
+) -> Result<(Vec<TopoFeature>, &'a [u8]), Stop<TopoFault>>
+    ensures { Answers (λ v. v.items) (each (kept_feature keeping (option_copied transform.entry) arcs.now)) (prefix_elements depth_left (length inside.now) inside.now) counts.old counts.new result }
+{
+    let mut read = Vec::new(alloc);
+    let mut rest = inside;
+    'features: for _ in 0..inside.len() {
+        match kept_feature_at(
+            alloc,
+            depth_left,
+            keeping,
+            transform,
+            arcs,
+            skip(rest),
+            counts,
+        ) {
+            Err(stop) => return Err(stop),
+            Ok((feature, following)) => {
+                read.push(feature)?;
+                let (mark, more) = mark_at(following);
+                match mark {
+                    Mark::Neither => return Err(Stop::NoValue),
+                    Mark::Close => return Ok((read, more)),
+                    Mark::Comma => {}
+                }
+                rest = more;
+            }
+        }
+    }
+    Err(Stop::NoValue)
+}
+
+/// What is kept of the features of the collection whose `geometries` stand at the front, and what follows them; or why reading stops.
+pub(crate) fn features_at<'a>(
+    alloc: Global,
+    depth_left: u32,
+    keeping: Keeping,
+    transform: Option<&'a Transform>,
+    arcs: &'a [Items<Cell>],
+    bytes: &'a [u8],
+    counts: &mut Counts,
+) -> Result<(Items<TopoFeature>, &'a [u8]), Stop<TopoFault>>
+    ensures { Answers (λ x. x) (kept_features keeping (option_copied transform.entry) arcs.now) (prefix_value depth_left bytes.now) counts.old counts.new result }
+{
+    let (opening, inside) = opening_at(depth_left, bytes);
+    match opening {
+        Opening::NoArray => Err(Stop::Fault(TopoFault::WrongKind)),
+        Opening::TooDeep => Err(Stop::NoValue),
+        Opening::Empty => Ok((Items::of(Vec::new(alloc)), inside)),
+        Opening::Filled(below) => {
+            match features_after(alloc, below, keeping, transform, arcs, inside, counts) {
+                Err(stop) => Err(stop),
+                Ok((read, rest)) => {
+                    let mut features = read;
+                    features.shrink_to_fit();
+                    Ok((Items::of(features), rest))
+                }
+            }
+        }
+    }
+}

@@ -1,0 +1,297 @@
+// What is seen of the members of a feature (TopoJSON 1.0, section 2.2).
+ghost use Rattle.std.specs.Prelude.{◌≡◌, [], ℕ, List, None, Ok, Option, Result};
+ghost use Rattle.json_value.specs.declared.json.Json.{Json as Value};
+ghost use Rattle.json_value.specs.Members.{Members as Listed};
+ghost use Rattle.json_cursor.specs.Members.{Names};
+ghost use Rattle.topojson_meaning.specs.Answers.{Finds};
+ghost use Rattle.topojson_meaning.specs.Features.{identifier as identifier_in, members_if};
+ghost use Rattle.topojson_meaning.specs.declared.fault.TopoFault.{TopoFault as Refusal};
+ghost use Rattle.topojson_decoder.specs.Features.{IsFeature, IsFound, blank_identifier, blank_members, feature, found_in as found_among, kept_identifier, kept_members};
+ghost use Rattle.topojson_decoder.specs.Members.{GoesOnWith, IsOccurrence, Judges, FindsValue};
+ghost use Rattle.topojson_decoder.specs.declared.geometry_parts.Start.{Start as Begun};
+
+use crate::geometries::typed_of;
+use crate::geometry_parts::{GeometryParts, Start};
+use crate::index::is_name;
+use crate::keeping::Keeping;
+use crate::occurrence::Occurrence;
+use geojson_types::{Counts, Id, Properties};
+use json_cursor::{Kind, Members, Name, Stop, kind_at, name_at, named_at, read_properties};
+use json_reading::{Fault, after_value, value_at};
+use json_value::Json;
+use std::alloc::Global;
+use topojson_meaning::{GeometryType, TopoFault};
+use topojson_types::TopoFeature;
+
+/// What was seen of the members of a feature: those of its geometry, and what is kept of its identifier and its properties, or their faults.
+#[derive(Drop)]
+pub struct FeatureParts<'a> {
+    pub parts: GeometryParts<'a>,
+    pub id: Occurrence<Result<Option<Id>, TopoFault>>,
+    pub properties: Occurrence<Result<Option<Properties>, TopoFault>>,
+}
+
+/// The identifier that the member `id` gives. Absent and null are none.
+#[inline(always)]
+fn identifier(value: Option<Json>) -> Result<Option<Id>, TopoFault>
+    ensures { Finds (λ id. id) result (identifier_in value) }
+{
+    match value {
+        None => Ok(None),
+        Some(Json::Null) => Ok(None),
+        Some(Json::Text(text)) => Ok(Some(Id::Text(text))),
+        Some(Json::Number(number)) => Ok(Some(Id::Number(number))),
+        Some(_) => Err(TopoFault::WrongKind),
+    }
+}
+
+/// The identifier that a value of this kind gives where none is kept.
+fn blank_id(kind: Kind) -> Result<Option<Id>, TopoFault>
+    ensures { result ≡ blank_identifier kind }
+{
+    match kind {
+        Kind::Null => Ok(None),
+        Kind::Text => Ok(None),
+        Kind::Number => Ok(None),
+        _ => Err(TopoFault::WrongKind),
+    }
+}
+
+/// The properties that a value of this kind gives where none are kept.
+fn blank_properties(kind: Kind) -> Result<Option<Properties>, TopoFault>
+    ensures { result ≡ blank_members kind }
+{
+    match kind {
+        Kind::Null => Ok(None),
+        Kind::Object => Ok(None),
+        _ => Err(TopoFault::WrongKind),
+    }
+}
+
+/// The identifier that the value at the front is, or its fault, and what follows it.
+fn whole_id_at<'a>(
+    alloc: Global,
+    depth_left: u32,
+    bytes: &'a [u8],
+) -> Result<(Result<Option<Id>, TopoFault>, &'a [u8]), Fault>
+    ensures { FindsValue (IsFound identifier_in) depth_left bytes.now result }
+{
+    match kind_at(bytes) {
+        Kind::Array => {
+            let rest = after_value(alloc, depth_left, bytes)?;
+            Ok((Err(TopoFault::WrongKind), rest))
+        }
+        Kind::Object => {
+            let rest = after_value(alloc, depth_left, bytes)?;
+            Ok((Err(TopoFault::WrongKind), rest))
+        }
+        _ => {
+            let (value, rest) = value_at(alloc, depth_left, bytes)?;
+            Ok((identifier(Some(value)), rest))
+        }
+    }
+}
+
+/// The identifier that is kept of the value at the front, or its fault, and what follows it.
+#[inline(always)]
+fn id_at<'a>(
+    alloc: Global,
+    depth_left: u32,
+    keeping: Keeping,
+    bytes: &'a [u8],
+) -> Result<(Result<Option<Id>, TopoFault>, &'a [u8]), Fault>
+    ensures { FindsValue (IsFound (kept_identifier keeping)) depth_left bytes.now result }
+{
+    match keeping {
+        Keeping::Whole => whole_id_at(alloc, depth_left, bytes),
+        Keeping::Blank => {
+            let rest = after_value(alloc, depth_left, bytes)?;
+            Ok((blank_id(kind_at(bytes)), rest))
+        }
+    }
+}
+
+/// The properties that the value at the front is, or their fault, and what follows it.
+#[inline(always)]
+fn whole_properties_at<'a>(
+    alloc: Global,
+    depth_left: u32,
+    bytes: &'a [u8],
+) -> Result<(Result<Option<Properties>, TopoFault>, &'a [u8]), Fault>
+    ensures { FindsValue (IsFound members_if) depth_left bytes.now result }
+{
+    let (read, rest) = read_properties(alloc, depth_left, bytes)?;
+    match read {
+        None => Ok((Err(TopoFault::WrongKind), rest)),
+        Some(properties) => Ok((Ok(properties), rest)),
+    }
+}
+
+/// The properties that are kept of the value at the front, or their fault, and what follows it.
+#[inline(always)]
+fn properties_at<'a>(
+    alloc: Global,
+    depth_left: u32,
+    keeping: Keeping,
+    bytes: &'a [u8],
+) -> Result<(Result<Option<Properties>, TopoFault>, &'a [u8]), Fault>
+    ensures { FindsValue (IsFound (kept_members keeping)) depth_left bytes.now result }
+{
+    match keeping {
+        Keeping::Whole => whole_properties_at(alloc, depth_left, bytes),
+        Keeping::Blank => {
+            let rest = after_value(alloc, depth_left, bytes)?;
+            Ok((blank_properties(kind_at(bytes)), rest))
+        }
+    }
+}
+
+impl<'a> FeatureParts<'a> {
+    /// Of no members.
+    #[inline(always)]
+    pub(crate) fn none() -> FeatureParts<'a>
+        ensures { (start : Begun) (depth_left : ℕ) → IsFeature start depth_left [] result }
+    {
+        FeatureParts {
+            parts: GeometryParts::none(),
+            id: Occurrence::Never,
+            properties: Occurrence::Never,
+        }
+    }
+
+    /// Goes on with the value at the front of a member of this name, and gives what follows it.
+    #[inline(always)]
+    pub(crate) fn value(
+        &mut self,
+        alloc: Global,
+        depth_left: u32,
+        name: &str,
+        bytes: &'a [u8],
+        start: Start<'a>,
+    ) -> Result<&'a [u8], Fault>
+        ensures { GoesOnWith (IsFeature start.entry depth_left) depth_left name.now self.old self.new bytes.now result }
+    {
+        if is_name(name, "id") {
+            let (id, rest) = id_at(alloc, depth_left, start.keeping, bytes)?;
+            self.id.see(id);
+            return Ok(rest);
+        }
+        if is_name(name, "properties") {
+            let (properties, rest) = properties_at(alloc, depth_left, start.keeping, bytes)?;
+            self.properties.see(properties);
+            return Ok(rest);
+        }
+        self.parts.value(alloc, depth_left, name, bytes, start)
+    }
+}
+
+/// The first letter of the name of the member at the front.
+#[inline(always)]
+fn first_letter(bytes: &[u8]) -> u8 {
+    match bytes {
+        [_, letter, ..] => *letter,
+        _ => 0,
+    }
+}
+
+/// The name of the member at the front, and where its value begins: those of a feature are looked for first, by their letters.
+#[inline(always)]
+fn feature_name_at<'a>(alloc: Global, bytes: &'a [u8]) -> Result<(Name<'a>, &'a [u8]), Fault>
+    ensures { Names bytes.now result }
+{
+    let letter = first_letter(bytes);
+    if letter == b't' {
+        if let Some(found) = named_at("type", bytes) {
+            return Ok(found);
+        }
+    }
+    if letter == b'p' {
+        if let Some(found) = named_at("properties", bytes) {
+            return Ok(found);
+        }
+    }
+    if letter == b'a' {
+        if let Some(found) = named_at("arcs", bytes) {
+            return Ok(found);
+        }
+    }
+    if letter == b'i' {
+        if let Some(found) = named_at("id", bytes) {
+            return Ok(found);
+        }
+    }
+    if letter == b'c' {
+        if let Some(found) = named_at("coordinates", bytes) {
+            return Ok(found);
+        }
+    }
+    name_at(alloc, bytes)
+}
+
+impl<'a> Members<'a> for FeatureParts<'a> {
+    type With = Start<'a>;
+
+    ghost holds = { IsFeature };
+
+    fn member(
+        &mut self,
+        alloc: Global,
+        depth_left: u32,
+        bytes: &'a [u8],
+        with: Start<'a>,
+    ) -> Result<&'a [u8], Fault> {
+        let (name, value) = feature_name_at(alloc, bytes)?;
+        self.value(alloc, depth_left, name.as_str(), value, with)
+    }
+}
+
+/// What a member is that was seen so, and that may be absent.
+#[inline(always)]
+fn found_in<T: Drop>(
+    occurrence: Occurrence<Result<Option<T>, TopoFault>>,
+) -> Result<Option<T>, TopoFault>
+    ensures { (read : Option Value → Result (Option T) Refusal) (vs : List Value) → read None ≡ Ok None → IsOccurrence (IsFound read) vs occurrence → result ≡ found_among read vs }
+{
+    match occurrence {
+        Occurrence::Never => Ok(None),
+        Occurrence::Again => Err(TopoFault::Duplicate),
+        Occurrence::Once(found) => found,
+    }
+}
+
+/// The feature of this type whose members were seen so.
+#[inline(always)]
+pub(crate) fn feature_of(
+    alloc: Global,
+    depth_left: u32,
+    kind: Option<GeometryType>,
+    occurrence: FeatureParts<'_>,
+    start: Start<'_>,
+    counts: &mut Counts,
+) -> Result<TopoFeature, Stop<TopoFault>>
+    ensures { (ms : Listed) → IsFeature start.entry depth_left ms occurrence.entry → Judges (feature start.entry kind ms) start.entry.counts counts.new result }
+{
+    let FeatureParts {
+        parts,
+        id,
+        properties,
+    } = occurrence;
+    let id = match found_in(id) {
+        Err(fault) => return Err(Stop::Fault(fault)),
+        Ok(id) => id,
+    };
+    let properties = match found_in(properties) {
+        Err(fault) => return Err(Stop::Fault(fault)),
+        Ok(properties) => properties,
+    };
+    match typed_of(alloc, depth_left, kind, parts, start, counts) {
+        Err(stop) => Err(stop),
+        Ok(shape) => {
+            Ok(TopoFeature {
+                id,
+                properties,
+                shape: start.keeping.of(shape),
+            })
+        }
+    }
+}

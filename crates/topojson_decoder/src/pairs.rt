@@ -1,0 +1,169 @@
+// The two numbers of a position or a cell.
+ghost use Rattle.std.specs.Prelude.{◌≡◌, ◌≤◌, ◌<◌, ◌^◌, IfOk, IfSome, length, unsigned_abs};
+ghost use Rattle.geojson_types.specs.declared.counts.Counts.{Counts};
+ghost use Rattle.json_cursor.specs.Answers.{Answers};
+ghost use Rattle.json_cursor.specs.Arrays.{prefix_elements, prefix_value};
+ghost use Rattle.topojson_decoder.specs.Numbers.{scale_limit};
+ghost use Rattle.topojson_decoder.specs.Pairs.{ArePair, both, pair, second};
+
+use crate::numbers::{Scale, number_at, usual_number_at};
+use json_cursor::{Mark, Opening, Stop, after_elements, mark_at, opening_at};
+use json_reading::skip;
+use std::alloc::Global;
+use topojson_meaning::TopoFault;
+use unit_scanning::Units;
+
+/// Two numbers, each if it is in range, and whether elements stand after them.
+#[derive(Clone, Copy, Debug, PartialEq, Eq)]
+pub(crate) struct Pair {
+    pub x: Option<Units>,
+    pub y: Option<Units>,
+    pub more: bool,
+}
+
+/// The pair whose second number and further elements stand after the comma, and what follows its bracket.
+#[inline(always)]
+fn second_at<'a>(
+    alloc: Global,
+    depth_left: u32,
+    scale: Scale,
+    turns: usize,
+    x: Option<Units>,
+    bytes: &'a [u8],
+) -> Result<(Pair, &'a [u8]), Stop<TopoFault>>
+    requires { scale_limit scale < 2 ^ 63 }
+    ensures answers { (counts : Counts) → Answers (λ p. p) (second scale x) (prefix_elements depth_left turns bytes.now) counts counts result }
+    ensures within { IfOk result (λ p. IfSome p.0.y (λ u. unsigned_abs u.value ≤ scale_limit scale)) }
+    ensures same { IfOk result (λ p. p.0.x ≡ x) }
+{
+    if turns == 0 {
+        return Err(Stop::NoValue);
+    }
+    match number_at(alloc, depth_left, scale, skip(bytes)) {
+        Err(stop) => Err(stop),
+        Ok((y, after)) => {
+            let (mark, more) = mark_at(after);
+            match mark {
+                Mark::Neither => Err(Stop::NoValue),
+                Mark::Close => Ok((Pair { x, y, more: false }, more)),
+                Mark::Comma => {
+                    let end = after_elements(alloc, depth_left, turns - 1, more)?;
+                    Ok((Pair { x, y, more: true }, end))
+                }
+            }
+        }
+    }
+}
+
+/// The pair whose elements stand after the bracket, however they are written and whatever their fault is, and what follows it.
+#[cold]
+#[inline(never)]
+fn any_both_at<'a>(
+    alloc: Global,
+    depth_left: u32,
+    scale: Scale,
+    turns: usize,
+    inside: &'a [u8],
+) -> Result<(Pair, &'a [u8]), Stop<TopoFault>>
+    requires { scale_limit scale < 2 ^ 63 }
+    ensures answers { (counts : Counts) → Answers (λ p. p) (both scale) (prefix_elements depth_left turns inside.now) counts counts result }
+    ensures x { IfOk result (λ p. IfSome p.0.x (λ u. unsigned_abs u.value ≤ scale_limit scale)) }
+    ensures y { IfOk result (λ p. IfSome p.0.y (λ u. unsigned_abs u.value ≤ scale_limit scale)) }
+{
+    if turns == 0 {
+        return Err(Stop::NoValue);
+    }
+    match number_at(alloc, depth_left, scale, skip(inside)) {
+        Err(stop) => Err(stop),
+        Ok((x, after)) => {
+            let (mark, more) = mark_at(after);
+            match mark {
+                Mark::Neither => Err(Stop::NoValue),
+                Mark::Close => Err(Stop::Fault(TopoFault::WrongKind)),
+                Mark::Comma => second_at(alloc, depth_left, scale, turns - 1, x, more),
+            }
+        }
+    }
+}
+
+/// Two numbers with a comma between them, as most are written, and what follows them.
+#[inline(always)]
+fn usual_both_at(scale: Scale, inside: &[u8]) -> Option<(Units, Units, &[u8])>
+    requires { scale_limit scale < 2 ^ 63 }
+    ensures pair { IfSome result (λ p. ArePair scale inside.now p.0 p.1 p.2.now) }
+    ensures x { IfSome result (λ p. unsigned_abs p.0.value ≤ scale_limit scale) }
+    ensures y { IfSome result (λ p. unsigned_abs p.1.value ≤ scale_limit scale) }
+{
+    let (x, after) = usual_number_at(scale, skip(inside))?;
+    let (mark, more) = mark_at(after);
+    let Mark::Comma = mark else {
+        return None;
+    };
+    let (y, rest) = usual_number_at(scale, skip(more))?;
+    Some((x, y, rest))
+}
+
+/// The pair whose elements stand after the bracket, and what follows it.
+#[inline(always)]
+fn both_at<'a>(
+    alloc: Global,
+    depth_left: u32,
+    scale: Scale,
+    turns: usize,
+    inside: &'a [u8],
+) -> Result<(Pair, &'a [u8]), Stop<TopoFault>>
+    requires { scale_limit scale < 2 ^ 63 }
+    ensures answers { (counts : Counts) → Answers (λ p. p) (both scale) (prefix_elements depth_left turns inside.now) counts counts result }
+    ensures x { IfOk result (λ p. IfSome p.0.x (λ u. unsigned_abs u.value ≤ scale_limit scale)) }
+    ensures y { IfOk result (λ p. IfSome p.0.y (λ u. unsigned_abs u.value ≤ scale_limit scale)) }
+{
+    if turns < 2 {
+        return any_both_at(alloc, depth_left, scale, turns, inside);
+    }
+    let Some((x, y, after)) = usual_both_at(scale, inside) else {
+        return any_both_at(alloc, depth_left, scale, turns, inside);
+    };
+    let (mark, more) = mark_at(after);
+    match mark {
+        Mark::Neither => Err(Stop::NoValue),
+        Mark::Close => {
+            let pair = Pair {
+                x: Some(x),
+                y: Some(y),
+                more: false,
+            };
+            Ok((pair, more))
+        }
+        Mark::Comma => {
+            let end = after_elements(alloc, depth_left, turns - 2, more)?;
+            let pair = Pair {
+                x: Some(x),
+                y: Some(y),
+                more: true,
+            };
+            Ok((pair, end))
+        }
+    }
+}
+
+/// The pair that the array at the front begins with, and what follows it.
+#[inline(always)]
+pub(crate) fn pair_at<'a>(
+    alloc: Global,
+    depth_left: u32,
+    scale: Scale,
+    bytes: &'a [u8],
+) -> Result<(Pair, &'a [u8]), Stop<TopoFault>>
+    requires { scale_limit scale < 2 ^ 63 }
+    ensures answers { (counts : Counts) → Answers (λ p. p) (pair scale) (prefix_value depth_left bytes.now) counts counts result }
+    ensures x { IfOk result (λ p. IfSome p.0.x (λ u. unsigned_abs u.value ≤ scale_limit scale)) }
+    ensures y { IfOk result (λ p. IfSome p.0.y (λ u. unsigned_abs u.value ≤ scale_limit scale)) }
+{
+    let (opening, inside) = opening_at(depth_left, bytes);
+    match opening {
+        Opening::NoArray => Err(Stop::Fault(TopoFault::WrongKind)),
+        Opening::TooDeep => Err(Stop::NoValue),
+        Opening::Empty => Err(Stop::Fault(TopoFault::WrongKind)),
+        Opening::Filled(below) => both_at(alloc, below, scale, inside.len(), inside),
+    }
+}

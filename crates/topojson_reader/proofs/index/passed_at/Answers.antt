@@ -1,5 +1,0 @@
-use Rattle.topojson_reader.proofs.LostParts as part
-use Rattle.topojson_reader.proofs.index.passed_at.Goals as goal
-
-pub returns : goal.returns
-returns c = λ start t. part.found start t c.args.deep c.args.bytes c.in_ok-rest.rest c.in_ok-rest.ensures

@@ -1,8 +1,0 @@
-use Rattle.std.specs.Option.{option_copied}
-use Rattle.json_cursor.specs.Arrays.{front_value}
-use Rattle.topojson_meaning.specs.Arcs.{place}
-use Rattle.topojson_reader.proofs.Then.{one_stops}
-use Rattle.topojson_reader.proofs.shapes.PlacesElement.read.Goals as goal
-
-pub returns-in-Err : goal.returns-in-Err
-returns-in-Err c = one_stops (place (option_copied c.args.self.transform)) (front_value c.args.deep c.args.bytes.now) c.args.counts.now c.in-Err.stop c.in-Err.ensures

@@ -1,3 +1,0 @@
-pub mod Filled
-pub mod Opening
-pub mod Placing

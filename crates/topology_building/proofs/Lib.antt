@@ -1,4 +1,0 @@
-mod Built
-mod Decided
-mod NamesDistinct
-mod SoundLayers

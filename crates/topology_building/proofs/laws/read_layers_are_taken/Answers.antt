@@ -1,5 +1,0 @@
-use Rattle.topology_building.proofs.SoundLayers.{all_taken, are_taken}
-use Rattle.topology_building.proofs.laws.read_layers_are_taken.Goals as goal
-
-pub returns : goal.returns
-returns c = λ o olds news layers counts all distinct. are_taken o layers (all_taken c.layer_laws.ensures o.exact olds news layers counts all) distinct

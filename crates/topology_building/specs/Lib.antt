@@ -1,4 +1,0 @@
-pub mod Building
-pub mod Laws
-pub mod Outcomes
-pub mod Ranges

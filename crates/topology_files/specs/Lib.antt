@@ -1,4 +1,0 @@
-pub mod FileOutcomes
-pub mod Files
-pub mod Geo
-pub mod Laws

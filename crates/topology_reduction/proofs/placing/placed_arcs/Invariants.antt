@@ -1,7 +1,0 @@
-use Rattle.std.proofs.Common.{◌≡◌, map, take}
-use Rattle.std.specs.Option.{option_copied}
-use Rattle.lessened_topology.specs.Thresholds.{placed_cells}
-use Rattle.topology_reduction.proofs.placing.placed_arcs.Given as goal
-
-abbrev pub invariant-arcs : goal.invariant-arcs
-invariant-arcs l = l.placed.items ≡ map (placed_cells (option_copied l.transform)) (take l.arc-index l.arcs)

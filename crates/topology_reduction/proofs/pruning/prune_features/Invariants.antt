@@ -1,6 +1,0 @@
-use Rattle.geometry.proofs.Moved.{Replaced}
-use Rattle.lessened_topology.specs.Lessened.{feature_pruned}
-use Rattle.topology_reduction.proofs.pruning.prune_features.Given as goal
-
-abbrev pub invariant-features : goal.invariant-features
-invariant-features g l = Replaced (feature_pruned (g.K.Keeps.keeps l.keeps)) l.fn.features l.feature-index l.features

@@ -1,3 +1,0 @@
-pub mod Drops
-pub mod Parts
-pub mod Uses

@@ -1,4 +1,0 @@
-pub mod LessenedTexts
-pub mod SimplifiedAgain
-pub mod SimplifyDecided
-pub mod Whole

@@ -61,7 +61,7 @@ fn unreported(status: u8) -> u8
     if status == 0 { FAILED } else { status }
 }
 
-/// Tells that the report of the run couldn't be written, and gives the exit status.
+/// Prints that the report of the run couldn't be written, and gives the exit status.
 fn print_unreported<W: Drain>(status: u8, err: &mut Sink<W>) -> u8
     ensures reported { Prints err.old err.new no_report }
     ensures status { result ≡ spec.unreported status }
@@ -106,7 +106,7 @@ fn report_run<F: Files, W: Drain>(
     print_unreported(status, err)
 }
 
-/// Tells an explanation where that is asked.
+/// Prints an explanation where that is asked.
 fn print_if<W: Drain>(is_asked: bool, text: &str, err: &mut Sink<W>)
     ensures { PrintsIf is_asked err.old err.new text.now }
 {

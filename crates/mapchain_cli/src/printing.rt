@@ -15,7 +15,7 @@ use reports::{
 };
 use std::alloc::Global;
 
-/// Tells why a request isn't done.
+/// Prints why a request isn't done.
 fn print_ending<W: Drain>(ending: &Ending, err: &mut Sink<W>)
     ensures { Prints err.old err.new (line_of ending.now) }
 {
@@ -33,7 +33,7 @@ fn print_ending<W: Drain>(ending: &Ending, err: &mut Sink<W>)
     }
 }
 
-/// Tells the report of a request that is done, if it has one.
+/// Prints the report of a request that is done, if it has one.
 fn print_done<W: Drain>(report: &Option<Report>, err: &mut Sink<W>)
     ensures { Prints err.old err.new (printed_text (Ok report.now)) }
 {
@@ -46,7 +46,7 @@ fn print_done<W: Drain>(report: &Option<Report>, err: &mut Sink<W>)
     }
 }
 
-/// Tells how a request came out: the report of a build or of simplifying, or why it isn't done.
+/// Prints how a request came out: the report of a build or of simplifying, or why it isn't done.
 pub(crate) fn print_outcome<W: Drain>(outcome: &Result<Option<Report>, Ending>, err: &mut Sink<W>)
     ensures { Prints err.old err.new (printed_text outcome.now) }
 {
@@ -92,7 +92,7 @@ fn help<V: Drain, W: Drain>(text: &str, out: &mut Sink<V>, err: &mut Sink<W>) ->
     }
 }
 
-/// Tells what there is to say of words that ask for nothing that is done: help on standard output, what is wrong with them on
+/// Prints what there is to say of words that ask for nothing that is done: help on standard output, what is wrong with them on
 /// standard error, nothing for want of memory. Gives the status.
 pub(crate) fn print_words_fault<V: Drain, W: Drain>(
     alloc: Global,

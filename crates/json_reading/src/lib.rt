@@ -1,7 +1,7 @@
 //! Reads JSON (RFC 8259) with exact number texts: a whole text as a value, or what stands at the front of bytes; or checks a text and
 //! passes over values without making one. It stands on `json_value`, whose `Grammar` says which bytes spell which value and whose `Reading`
 //! says what stands at the front of bytes, and on `decimal_text`. A crate above uses the contract of `parse`: what is read is spelled so,
-//! and what is spelled so is read; that of `check`, which says of a text what `parse` tells; and that of `after_value`: what it gives
+//! and what is spelled so is read; that of `check`, which says of a text what `parse` says; and that of `after_value`: what it gives
 //! follows a value. A function that checks goes the way of the one that makes the value, so that it stops at the same byte. Users of the
 //! library look into properties by `property_values`.
 #![tactic(auto)]

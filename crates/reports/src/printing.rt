@@ -9,7 +9,7 @@ use crate::statuses::{file_status, status};
 use byte_ends::{Drain, Sink, flush_after};
 use inputs::{BuildFault, FileFault};
 
-/// Tells a text, and passes it on. It is cut short where the device fails.
+/// Prints a text, and passes it on. It is cut short where the device fails.
 pub fn print_text<W: Drain>(text: &[u8], err: &mut Sink<W>)
     ensures { Prints err.old err.new text.now }
 {
@@ -17,7 +17,7 @@ pub fn print_text<W: Drain>(text: &[u8], err: &mut Sink<W>)
     let _ = flush_after(written, err);
 }
 
-/// Tells a fault in a line of its own, and gives its status. The line needs no memory, and is cut short where the device fails.
+/// Prints a fault in a line of its own, and gives its status. The line needs no memory, and is cut short where the device fails.
 pub fn print_fault<W: Drain>(fault: &BuildFault, err: &mut Sink<W>) -> u8
     ensures status { result ≡ status_of fault.now }
     ensures reported { Prints err.old err.new (fault_text fault.now) }
@@ -27,7 +27,7 @@ pub fn print_fault<W: Drain>(fault: &BuildFault, err: &mut Sink<W>) -> u8
     status(fault)
 }
 
-/// Tells a fault of the file of a topology in a line of its own, and gives its status, as `print_fault` does.
+/// Prints a fault of the file of a topology in a line of its own, and gives its status, as `print_fault` does.
 pub fn print_file_fault<W: Drain>(fault: &FileFault, err: &mut Sink<W>) -> u8
     ensures status { result ≡ file_status_of fault.now }
     ensures reported { Prints err.old err.new (file_fault_text fault.now) }

@@ -25,7 +25,7 @@ TextAnswers bytes (Err Memory) = Unit {0}
 abbrev pub parts_contents : Parts → Contents
 parts_contents p = record { objects = p.objects; arcs = p.arcs; transform = p.transform }
 
--- The same, where this is what is kept of that topology.
+-- What reading may answer where this much is kept of the topology: its parts are those of the topology, kept so.
 abbrev pub PartsAnswer : Keeping → List ℕ → Result (Parts × Counts) Refusal → Type 0
 PartsAnswer keeping bytes (Ok r) = (t : Contents) × TextAnswers bytes (Ok (t, r.1)) × (parts_contents r.0 ≡ of_contents keeping t)
 PartsAnswer keeping bytes (Err e) = TextAnswers bytes (Err e)

@@ -1,5 +1,5 @@
 -- A heap of entries, some of them stale.
-use Rattle.std.proofs.Common.{◌≡◌, ℕ, suc, zero, Bool, true, false, List, [], ◌∷◌, ◌++◌, Some, None, refl, ap, sym, ◌∙◌, subst, arith, ◌⊎◌, inl, inr}
+use Rattle.std.proofs.Common.{◌≡◌, ◌≤◌, ℕ, suc, zero, Bool, true, false, List, [], ◌∷◌, ◌++◌, Some, None, refl, ap, sym, ◌∙◌, subst, arith, ◌⊎◌, inl, inr}
 use Rattle.std.specs.List.{Contains}
 use Rattle.std.specs.List.Sorted.{IsPermutation}
 use Rattle.std.specs.Ordering.{is_lt}
@@ -12,7 +12,7 @@ use Rattle.effective_area.specs.declared.entry.Entry.{Entry}
 use Rattle.geometry.specs.Points.{Point}
 use Rattle.elimination_meaning.specs.Elimination.{Corner, is_before}
 use Rattle.elimination_meaning.proofs.Order.{one_corner}
-use Rattle.effective_area.specs.Links.{IsCurrent, IsUnder, IsDue, LeavesCurrent, HasCorners, entry_cmp, rentry_cmp, turned, entry_in, before_in, after_in, cached, Pushed, PushedFirst}
+use Rattle.effective_area.specs.Links.{IsCurrent, IsReady, IsUnder, IsDue, LeavesCurrent, HasCorners, area_in, entry_cmp, rentry_cmp, turned, entry_in, before_in, after_in, cached, Pushed, PushedFirst}
 
 pub contains_cases : {X : Type 0} (e : X) (ys : List X) (x : X) → Contains (e ∷ ys) x → (x ≡ e) ⊎ Contains ys x
 contains_cases e ys x (zero, h, k) = inl (sym k)
@@ -115,6 +115,19 @@ outer_pushed t ps links old new v w known b p = record {
   outer = λ _ _ h _. p.here h;
   only = λ d h. elim (p.only d h) [ inl x ↦ inl x | inr x ↦ inr (inr x) ];
 }
+
+-- where neither is under the threshold, none is due
+pub none_due : (t : ℕ) (ps : List Point) (links : List Link) (items : List (Reverse Entry)) (v w : ℕ) (known : Bool) →
+    IsReady ps links v → IsReady ps links w → t ≤ area_in links v → t ≤ area_in links w → PushedFirst t ps links items items v w known
+none_due t ps links items v w known r s p q = record {
+  has = λ d h. h;
+  inner = λ h _. absurd (over v r p h);
+  outer = λ _ _ h _. absurd (over w s q h);
+  only = λ d h. inl h;
+}
+  where
+    over : (u : ℕ) → IsReady ps links u → t ≤ area_in links u → IsDue t ps links u → ⊥
+    over u k l h = omega (arith, l, h.under, k.cached h.later h.inside)
 
 pub outer_known : (t : ℕ) (ps : List Point) (links : List Link) (items : List (Reverse Entry)) (v w : ℕ) (known : Bool) →
     is_before (cached ps links w) (cached ps links v) ≡ true → known ≡ true → PushedFirst t ps links items items v w known

@@ -65,6 +65,13 @@ notes ps old new i n p q s e = grind (arith, same_entry)
 pub notes_end : (ps : List Point) (links : List Link) (i : ℕ) → (0 < i → i + 1 < length links → ⊥) → CachesArea ps links links i
 notes_end ps links i h = record { same = refl; here = λ p q. absurd (h p q); ends = λ _. refl; others = λ _ _. refl; befores = λ _. refl; afters = λ _. refl }
 
+-- an area between neighbours that are the next ones
+pub notes_first : (ps : List Point) (old new : List Link) (i n : ℕ) → IsFirst old (length ps) → 0 < i → i + 1 < length ps → SetsArea old new i n → n ≡ (entry_at ps (i - 1) i (i + 1)).corner.area → CachesArea ps old new i
+notes_first ps old new i n f p q s e =
+    let b : before_in old i ≡ i - 1 = omega (arith, f.befores i (omega arith)) in
+    let a : after_in old i ≡ i + 1 = f.afters i (omega arith) in
+    notes ps old new i n p (omega (arith, f.size)) s (e ∙ sym (ap (λ x. (entry_at ps x i (after_in old i)).corner.area) b ∙ ap (λ x. (entry_at ps (i - 1) i x).corner.area) a))
+
 -- the areas up to i are cached
 pub record CachedTo (ps : List Point) (old new : List Link) (i : ℕ) : Type 0 where
   pub first : IsFirst new (length ps)

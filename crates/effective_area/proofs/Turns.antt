@@ -406,6 +406,13 @@ pub none_first : (t : ℕ) (ps : List Point) (links links' : List Link) (items i
     IsState t ps links items left vs → RemovesFirst t ps links' items' left vs None → (x : List ℕ) × IsLinked links' x × (0 ∷ x ≡ reduce t ps)
 none_first t ps links links' items items' left vs s h = (vs, h.0, end_none t ps links items left vs s h.1)
 
+-- and so many are they
+pub many_stay : (t : ℕ) (ps : List Point) (links links' : List Link) (items items' : List (Reverse Entry)) (left : ℕ) (vs : List ℕ) →
+    IsState t ps links items left vs → RemovesFirst t ps links' items' left vs None → left + 2 ≡ length (reduce t ps)
+many_stay t ps links links' items items' left vs s h =
+    let e : left + 2 ≡ length (0 ∷ vs) = omega (arith, s.many) in
+    e ∙ ap length (end_none t ps links items left vs s h.1)
+
 -- a turn with its two pushes
 pub turn_state : (t : ℕ) (ps : List Point) (links links' : List Link) (items mid one two : List (Reverse Entry)) (left : ℕ) (vs : List ℕ) (e : Entry) (f l : ℕ) (kf kl : Bool) →
     IsState t ps links items left vs → LeavesCurrent links items (Some e) mid → IsCurrent links e →

@@ -1,4 +1,4 @@
-ghost use Rattle.std.specs.Prelude.{◌≡◌, ℕ, ◌+◌, ◌-◌, ◌<◌, ◌≤◌, true, false, IfOk, length};
+ghost use Rattle.std.specs.Prelude.{◌≡◌, ℕ, ◌+◌, ◌-◌, ◌<◌, ◌≤◌, true, false, OnOk, length};
 ghost use Rattle.elimination_meaning.specs.Elimination.{is_before};
 ghost use Rattle.effective_area.specs.Counts.{AreasRose, RoseBy};
 ghost use Rattle.effective_area.specs.Links.{AreCached, Fits, IsFirst, CachesArea, entry_at};
@@ -10,7 +10,6 @@ use crate::links::{Link, first_links, set_area};
 use crate::steps::{Steps, twice_area};
 use geometry::Position;
 use owned_values::Memory;
-use std::alloc::Global;
 
 /// The corner at an index, with the cached area.
 pub fn cached(arc: &[Position], links: &[Link], index: usize) -> Candidate
@@ -37,13 +36,16 @@ pub fn goes_before(arc: &[Position], links: &[Link], index: usize, other: usize)
     cached(arc, links, index) < cached(arc, links, other)
 }
 
-/// Whether the corner at an index doesn't go before another one.
-pub fn goes_after(arc: &[Position], links: &[Link], index: usize, other: usize) -> bool
+/// Whether a corner under the threshold, at the other index, is one that the corner at an index doesn't go before.
+pub fn goes_after(arc: &[Position], links: &[Link], t: u128, index: usize, other: usize) -> bool
     requires size { length links.now ≡ length arc.now }
     requires index { index < length links.now }
     requires other { other < length links.now }
     ensures { result ≡ true → is_before (spec.cached arc.now links.now index) (spec.cached arc.now links.now other) ≡ false }
 {
+    if links[other].area >= t {
+        return false;
+    }
     !goes_before(arc, links, index, other)
 }
 
@@ -86,22 +88,23 @@ pub fn note_area(links: &mut [Link], steps: &mut Steps, arc: &[Position], index:
     set_area(links, index, area);
 }
 
-/// Links from each position of a line to the next, with the areas of its corners, and the threshold for those of its ends.
+/// Fills the list with links from each position of a line to the next, with the areas of its corners, and the threshold for those of
+/// its ends.
 pub fn cached_links(
-    alloc: Global,
+    links: &mut Vec<Link>,
     steps: &mut Steps,
     arc: &[Position],
     t: u128,
-) -> Result<Vec<Link>, Memory>
+) -> Result<(), Memory>
     requires two { 2 ≤ length arc.now }
-    ensures first { IfOk result (λ links. IsFirst links.items (length arc.now)) }
-    ensures cached { IfOk result (λ links. AreCached t arc.now links.items) }
+    ensures first { OnOk result (IsFirst links.new.items (length arc.now)) }
+    ensures cached { OnOk result (AreCached t arc.now links.new.items) }
     ensures counted { RoseBy (length arc.now - 2) 0 steps.old steps.new }
-    ensures computed { IfOk result (λ _. AreasRose (length arc.now - 2) steps.old steps.new) }
+    ensures computed { OnOk result (AreasRose (length arc.now - 2) steps.old steps.new) }
 {
-    let mut links = first_links(alloc, arc.len(), t)?;
-    note_all(&mut links, steps, arc);
-    Ok(links)
+    first_links(links, arc.len(), t)?;
+    note_all(links, steps, arc);
+    Ok(())
 }
 
 /// Notes the area of each corner of a whole line.
@@ -114,6 +117,7 @@ fn note_all(links: &mut [Link], steps: &mut Steps, arc: &[Position])
     ensures computed { AreasRose (length arc.now - 2) steps.old steps.new }
 {
     for i in 1..arc.len() - 1 {
-        note_area(links, steps, arc, i);
+        let area = area_between(steps, arc, i - 1, i, i + 1);
+        set_area(links, i, area);
     }
 }

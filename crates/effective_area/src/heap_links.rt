@@ -1,5 +1,5 @@
-ghost use Rattle.std.specs.Prelude.{◌≡◌, ℕ, ◌+◌, ◌-◌, ◌*◌, ◌<◌, ◌≤◌, ◌++◌, IfOk, OnOk, List, ◌∷◌, length};
-ghost use Rattle.std.specs.BinaryHeap.{heap_items, IsHeap};
+ghost use Rattle.std.specs.Prelude.{◌≡◌, ℕ, ◌+◌, ◌-◌, ◌*◌, ◌<◌, ◌≤◌, ◌++◌, true, IfOk, OnOk, List, ◌∷◌, length, vec_capacity};
+ghost use Rattle.std.specs.BinaryHeap.{heap_capacity, heap_items, IsHeap};
 ghost use Rattle.std.specs.List.{range_with_len};
 ghost use Rattle.std.specs.List.Sorted.{IsSorted};
 ghost use Rattle.effective_area.specs.Counts.{AreasRose, RoseAtMost, RoseBy, nothing_counted};
@@ -22,49 +22,53 @@ use std::cmp::Reverse;
 use std::collections::BinaryHeap;
 use std::marker::Model;
 
-/// The corners of a whole line that are due.
+/// The greatest room, in entries, of the lists that are kept for the next line: 64 KiB at most. What a long line took is given back,
+/// and short ones allocate nothing but their answers.
+const KEPT_ROOM: usize = 1024;
+
+/// Fills the list with the corners of a whole line that are due.
 fn first_entries(
-    alloc: Global,
+    entries: &mut Vec<Reverse<Entry>>,
     steps: &mut Steps,
     arc: &[Position],
     links: &[Link],
     t: u128,
-) -> Result<Vec<Reverse<Entry>>, Memory>
+) -> Result<(), Memory>
     requires two { 2 ≤ length arc.now }
     requires first { IsFirst links.now (length arc.now) }
     requires cached { AreCached t arc.now links.now }
-    ensures has { IfOk result (λ entries. HasCorners t arc.now links.now entries.items (length arc.now - 1)) }
+    ensures has { OnOk result (HasCorners t arc.now links.now entries.new.items (length arc.now - 1)) }
     ensures counted { RoseBy 0 (length arc.now - 2) steps.old steps.new }
 {
-    let mut entries = Vec::new(alloc);
+    entries.clear();
     for i in 1..arc.len() - 1 {
-        put_corner(&mut entries, steps, arc, links, t, i)?;
+        put_corner(entries, steps, arc, links, t, i)?;
     }
-    Ok(entries)
+    Ok(())
 }
 
-/// The corners of a whole line that are due, in their order. They are sorted once, which takes less time than a
+/// Fills the list with the corners of a whole line that are due, in their order. They are sorted once, which takes less time than a
 /// heap of them all; those that come later are put on a heap.
 pub fn sorted_entries(
-    alloc: Global,
+    entries: &mut Vec<Reverse<Entry>>,
     steps: &mut Steps,
     arc: &[Position],
     links: &[Link],
     t: u128,
-) -> Result<Vec<Reverse<Entry>>, Memory>
+) -> Result<(), Memory>
     requires two { 2 ≤ length arc.now }
     requires first { IsFirst links.now (length arc.now) }
     requires cached { AreCached t arc.now links.now }
-    ensures sorted { IfOk result (λ entries. IsSorted rentry_cmp entries.items) }
-    ensures state { IfOk result (λ entries. IsState t arc.now links.now entries.items (length arc.now - 2) (range_with_len 1 (length arc.now - 1))) }
+    ensures sorted { OnOk result (IsSorted rentry_cmp entries.new.items) }
+    ensures state { OnOk result (IsState t arc.now links.now entries.new.items (length arc.now - 2) (range_with_len 1 (length arc.now - 1))) }
     ensures counted { RoseBy 0 (length arc.now - 2) steps.old steps.new }
 {
-    let mut entries = first_entries(alloc, steps, arc, links, t)?;
+    first_entries(entries, steps, arc, links, t)?;
     entries.sort_unstable();
-    Ok(entries)
+    Ok(())
 }
 
-/// Takes out corners under the threshold, the first of all each time.
+/// Takes out corners under the threshold, the first of all each time, and answers how many positions stay.
 fn eliminate(
     sorted: &mut Vec<Reverse<Entry>>,
     heap: &mut BinaryHeap<Reverse<Entry>>,
@@ -72,24 +76,27 @@ fn eliminate(
     arc: &[Position],
     links: &mut [Link],
     t: u128,
-) -> Result<(), Memory>
+) -> Result<usize, Memory>
     requires two { 2 ≤ length arc.now }
     requires sorted { IsSorted rentry_cmp sorted.old.items }
     requires order { IsHeap rentry_cmp (heap_items heap.old) }
     requires state { (vs : List ℕ) × IsState t arc.now links.old (sorted.old.items ++ heap_items heap.old) (length arc.now - 2) vs }
     ensures kept { OnOk result ((vs : List ℕ) × IsLinked links.new vs × (0 ∷ vs ≡ reduce t arc.now)) }
+    ensures many { IfOk result (λ many. many ≡ length (reduce t arc.now)) }
     ensures counted { RoseAtMost (2 * (length arc.now - 2)) steps.old steps.new }
 {
     let mut left = arc.len() - 2;
     'corners: while let Some(_corner) = take_first(sorted, heap, steps, arc, links, t)? {
         left -= 1;
     }
-    Ok(())
+    Ok(left + 2)
 }
 
 /// The indexes that stay, over links from each index to the next.
 fn kept_by(
     alloc: Global,
+    sorted: &mut Vec<Reverse<Entry>>,
+    heap: &mut BinaryHeap<Reverse<Entry>>,
     steps: &mut Steps,
     arc: &[Position],
     links: &mut [Link],
@@ -101,20 +108,78 @@ fn kept_by(
     ensures kept { IfOk result (λ kept. kept.items ≡ reduce t arc.now) }
     ensures counted { RoseBy (2 * (length arc.now - 2)) (3 * (length arc.now - 2)) steps.old steps.new }
 {
-    let mut sorted = sorted_entries(alloc, steps, arc, links, t)?;
-    let mut heap = BinaryHeap::new(alloc);
-    eliminate(&mut sorted, &mut heap, steps, arc, links, t)?;
-    present(alloc, links)
+    sorted_entries(sorted, steps, arc, links, t)?;
+    heap.clear();
+    let many = eliminate(sorted, heap, steps, arc, links, t)?;
+    present(alloc, links, many)
 }
 
-/// A reducer that takes time n log n: of the corners under the threshold those that are due are queued in their order, stale ones among them, which go
-/// before their neighbours, and the positions that are present are linked both ways. A call raises each count of its steps by three for each position between
-/// the ends at most, and at a threshold over zero that of the areas by one or more. Contracts see it as how often it was called and
-/// the steps that it did so far: nothing else is left of a call, whether it answered or not.
+/// What a line is reduced in: its links, and its corners that wait, in their order or on a heap. What stands in these lists when a line
+/// begins is dropped, so of the last line only their memory is used again.
+#[derive(Debug, Drop)]
+struct Buffers {
+    links: Vec<Link>,
+    sorted: Vec<Reverse<Entry>>,
+    heap: BinaryHeap<Reverse<Entry>>,
+}
+
+impl Buffers {
+    /// Empty lists, which take no memory.
+    fn new(alloc: Global) -> Buffers {
+        Buffers {
+            links: Vec::new(alloc),
+            sorted: Vec::new(alloc),
+            heap: BinaryHeap::new(alloc),
+        }
+    }
+
+    /// Whether none of the lists has more room than is kept.
+    fn are_small(&self) -> bool
+        ensures links { result ≡ true → vec_capacity self.now.links ≤ KEPT_ROOM }
+        ensures sorted { result ≡ true → vec_capacity self.now.sorted ≤ KEPT_ROOM }
+        ensures heap { result ≡ true → heap_capacity self.now.heap ≤ KEPT_ROOM }
+    {
+        self.links.capacity() <= KEPT_ROOM
+            && self.sorted.capacity() <= KEPT_ROOM
+            && self.heap.capacity() <= KEPT_ROOM
+    }
+
+    /// The indexes that stay of a line, whatever stands in the lists. They may hold part of this line where memory runs out.
+    fn kept(
+        &mut self,
+        alloc: Global,
+        steps: &mut Steps,
+        arc: &[Position],
+        t: u128,
+    ) -> Result<Vec<usize>, Memory>
+        requires { 2 ≤ length arc.now }
+        ensures kept { IfOk result (λ kept. kept.items ≡ reduce t arc.now) }
+        ensures counted { RoseAtMost (3 * (length arc.now - 2)) steps.old steps.new }
+        ensures computed { IfOk result (λ _. AreasRose (length arc.now - 2) steps.old steps.new) }
+    {
+        cached_links(&mut self.links, steps, arc, t)?;
+        kept_by(
+            alloc,
+            &mut self.sorted,
+            &mut self.heap,
+            steps,
+            arc,
+            &mut self.links,
+            t,
+        )
+    }
+}
+
+/// A reducer that takes time n log n: of the corners under the threshold those that are due are queued in their order, stale ones among
+/// them, which go before their neighbours, and the positions that are present are linked both ways. A call raises each count of its steps
+/// by three for each position between the ends at most, and at a threshold over zero that of the areas by one or more. Contracts see it as
+/// how often it was called and the steps that it did so far: nothing else is left of a call, whether it answered or not. What it reduces
+/// in is used again by the next call, unless it became large: then its memory is given back.
 #[derive(Debug, Drop)]
 pub struct HeapLinks {
     calls: Tally,
     steps: Steps,
+    buffers: Option<Buffers>,
 }
 
 impl Model for HeapLinks {
@@ -133,6 +198,7 @@ impl HeapLinks {
         HeapLinks {
             calls: Tally::none(),
             steps: Steps::none(),
+            buffers: None,
         }
     }
 
@@ -159,7 +225,11 @@ impl Reducer for HeapLinks {
         if t == 0 {
             return all_indexes(alloc, arc.len());
         }
-        let mut links = cached_links(alloc, &mut self.steps, arc, t)?;
-        kept_by(alloc, &mut self.steps, arc, &mut links, t)
+        let buffers = self.buffers.get_or_insert_with(|| Buffers::new(alloc));
+        let kept = buffers.kept(alloc, &mut self.steps, arc, t);
+        if !buffers.are_small() {
+            self.buffers = None;
+        }
+        kept
     }
 }

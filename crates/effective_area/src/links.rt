@@ -1,4 +1,4 @@
-ghost use Rattle.std.specs.Prelude.{◌≡◌, ℕ, ◌<◌, IfOk, List, ◌∷◌, length};
+ghost use Rattle.std.specs.Prelude.{◌≡◌, ℕ, ◌<◌, IfOk, OnOk, List, ◌∷◌, length};
 ghost use Rattle.effective_area.specs.Links.{IsFirst, IsLinked, SetsAfter, SetsArea, SetsBefore, Unlinks, area_in};
 
 use owned_values::Memory;
@@ -48,29 +48,30 @@ pub fn unlink(links: &mut [Link], before: usize, index: usize, after: usize)
     set_before(links, index, index);
 }
 
-/// Each index linked to the next, and one area cached for all.
-pub fn first_links(alloc: Global, n: usize, area: u128) -> Result<Vec<Link>, Memory>
-    ensures first { IfOk result (λ links. IsFirst links.items n) }
-    ensures areas { IfOk result (λ links. (v : ℕ) → v < n → area_in links.items v ≡ area) }
+/// Fills the list with links from each index to the next, and one area for all.
+pub fn first_links(links: &mut Vec<Link>, n: usize, area: u128) -> Result<(), Memory>
+    ensures first { OnOk result (IsFirst links.new.items n) }
+    ensures areas { OnOk result ((v : ℕ) → v < n → area_in links.new.items v ≡ area) }
 {
-    let mut links = Vec::with_capacity(alloc, n)?;
+    links.clear();
+    links.reserve(n)?;
     for i in 0..n {
         let before = if i == 0 { 0 } else { i - 1 };
-        links.push(Link {
+        links.push_reserved(Link {
             before,
             after: i + 1,
             area,
-        })?;
+        });
     }
-    Ok(links)
+    Ok(())
 }
 
-/// The indexes that are present.
-pub fn present(alloc: Global, links: &[Link]) -> Result<Vec<usize>, Memory>
+/// The indexes that are present, in a list that has room for so many at first.
+pub fn present(alloc: Global, links: &[Link], room: usize) -> Result<Vec<usize>, Memory>
     requires { (vs : List ℕ) × IsLinked links.now vs }
     ensures { IfOk result (λ kept. (vs : List ℕ) × IsLinked links.now vs × (kept.items ≡ 0 ∷ vs)) }
 {
-    let mut kept = Vec::new(alloc);
+    let mut kept = Vec::with_capacity(alloc, room)?;
     kept.push(0)?;
     let mut i = 0;
     while links.len() - i > 1 {

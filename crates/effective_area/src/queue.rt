@@ -1,8 +1,9 @@
-ghost use Rattle.std.specs.Prelude.{◌≡◌, ◌+◌, ◌<◌, ◌++◌, true, false, IfSome, IfNone, OnOk, [], ◌∷◌, length, vec_len};
+ghost use Rattle.std.specs.Prelude.{◌≡◌, ◌+◌, ◌<◌, ◌≤◌, ◌++◌, true, false, IfSome, IfNone, OnOk, [], ◌∷◌, length, vec_len};
 ghost use Rattle.std.specs.BinaryHeap.{heap_items, heap_len, IsHeap, IsUpperBound};
 ghost use Rattle.std.specs.List.Sorted.{IsPermutation, IsSorted};
 ghost use Rattle.effective_area.specs.Counts.{RoseBy};
-ghost use Rattle.effective_area.specs.Links.{GoesFirst, IsCurrent, IsReady, IsUnder, LeavesCurrent, Pushed, PushedFirst, IsDue, rentry_cmp};
+ghost use Rattle.effective_area.specs.Links.{GoesFirst, IsCurrent, IsReady, IsUnder, LeavesCurrent, Pushed, PushedFirst, IsDue, area_in, cached, rentry_cmp};
+ghost use Rattle.elimination_meaning.specs.Elimination.{is_before};
 
 use crate::caching::goes_before;
 use crate::entry::{Entry, entry_of, is_current};
@@ -74,9 +75,34 @@ pub fn pop_current(
     None
 }
 
+/// Whether the corner of a neighbour goes before the one at an index. Of the corner at `later` it is known that it doesn't.
+fn neighbour_goes_before(
+    arc: &[Position],
+    links: &[Link],
+    neighbour: usize,
+    index: usize,
+    later: usize,
+) -> bool
+    requires size { length links.now ≡ length arc.now }
+    requires neighbour { neighbour < length links.now }
+    requires index { index < length links.now }
+    ensures { result ≡ true → is_before (cached arc.now links.now neighbour) (cached arc.now links.now index) ≡ true }
+{
+    if neighbour == later {
+        return false;
+    }
+    goes_before(arc, links, neighbour, index)
+}
+
 /// The entry of an index, if it is between the ends and its corner is due: it is under the threshold, and those of its neighbours
-/// don't go before it.
-fn queued_entry(arc: &[Position], links: &[Link], t: u128, index: usize) -> Option<Entry>
+/// don't go before it. Of the corner at `later` that is known.
+fn queued_entry(
+    arc: &[Position],
+    links: &[Link],
+    t: u128,
+    index: usize,
+    later: usize,
+) -> Option<Entry>
     requires size { length links.now ≡ length arc.now }
     requires ready { IsReady arc.now links.now index }
     ensures under { IfSome result (λ e. IsUnder t arc.now links.now index e) }
@@ -92,10 +118,10 @@ fn queued_entry(arc: &[Position], links: &[Link], t: u128, index: usize) -> Opti
     if link.area >= t {
         return None;
     }
-    if goes_before(arc, links, link.before, index) {
+    if neighbour_goes_before(arc, links, link.before, index, later) {
         return None;
     }
-    if goes_before(arc, links, link.after, index) {
+    if neighbour_goes_before(arc, links, link.after, index, later) {
         return None;
     }
     Some(entry_of(arc, links, index))
@@ -115,14 +141,14 @@ pub fn put_corner(
     ensures pushed { OnOk result (Pushed t arc.now links.now entries.old.items entries.new.items index) }
     ensures counted { RoseBy 0 1 steps.old steps.new }
 {
-    if let Some(entry) = queued_entry(arc, links, t, index) {
+    if let Some(entry) = queued_entry(arc, links, t, index, index) {
         steps.count_push();
         entries.push(Reverse(entry))?;
     }
     Ok(())
 }
 
-/// Pushes the corner at an index on the heap, if it is due.
+/// Pushes the corner at an index on the heap, if it is due. That of a neighbour at `later` is known not to go before it.
 fn push_corner(
     heap: &mut BinaryHeap<Reverse<Entry>>,
     steps: &mut Steps,
@@ -130,6 +156,7 @@ fn push_corner(
     links: &[Link],
     t: u128,
     index: usize,
+    later: usize,
 ) -> Result<(), Memory>
     requires size { length links.now ≡ length arc.now }
     requires ready { IsReady arc.now links.now index }
@@ -138,11 +165,24 @@ fn push_corner(
     ensures pushed { OnOk result (Pushed t arc.now links.now (heap_items heap.old) (heap_items heap.new) index) }
     ensures counted { RoseBy 0 1 steps.old steps.new }
 {
-    if let Some(entry) = queued_entry(arc, links, t, index) {
+    if let Some(entry) = queued_entry(arc, links, t, index, later) {
         steps.count_push();
         heap.push(Reverse(entry))?;
     }
     Ok(())
+}
+
+/// Whether neither of two corners is under the threshold.
+#[tactic(auto, unfolding(crate::specs::Links::area_in))]
+fn are_over(links: &[Link], t: u128, index: usize, other: usize) -> bool
+    requires index { index < length links.now }
+    requires other { other < length links.now }
+    ensures { result ≡ true → (t ≤ area_in links.now index) × (t ≤ area_in links.now other) }
+{
+    if links[index].area < t {
+        return false;
+    }
+    links[other].area >= t
 }
 
 /// Pushes the one of two neighbours that goes first, if it is due. The outer one is left out if its entry was queued before.
@@ -164,11 +204,14 @@ pub fn push_first(
     ensures pushed { OnOk result (PushedFirst t arc.now links.now (heap_items heap.old) (heap_items heap.new) inner outer is_known) }
     ensures counted { RoseBy 0 1 steps.old steps.new }
 {
+    if are_over(links, t, inner, outer) {
+        return Ok(());
+    }
     if !goes_before(arc, links, outer, inner) {
-        return push_corner(heap, steps, arc, links, t, inner);
+        return push_corner(heap, steps, arc, links, t, inner, outer);
     }
     if is_known {
         return Ok(());
     }
-    push_corner(heap, steps, arc, links, t, outer)
+    push_corner(heap, steps, arc, links, t, outer, inner)
 }

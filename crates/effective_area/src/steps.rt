@@ -43,23 +43,23 @@ impl Steps {
 }
 
 /// A difference of coordinates.
-fn difference(a: i64, b: i64) -> i128
+fn difference(a: i64, b: i64) -> i64
     requires a { unsigned_abs a ≤ position_limit }
     requires b { unsigned_abs b ≤ position_limit }
     ensures value { result ≡ a -ℤ b }
     ensures bound { unsigned_abs result ≤ 2 * position_limit }
 {
-    a as i128 - b as i128
+    a - b
 }
 
 /// A product of differences.
-fn product(a: i128, b: i128) -> i128
+fn product(a: i64, b: i64) -> i128
     requires a { unsigned_abs a ≤ 2 * position_limit }
     requires b { unsigned_abs b ≤ 2 * position_limit }
     ensures value { result ≡ a *ℤ b }
     ensures bound { unsigned_abs result ≤ 4 * position_limit * position_limit }
 {
-    a * b
+    a as i128 * b as i128
 }
 
 /// Twice the area of the triangle between three positions, in square units: for a position and its two neighbours, twice its

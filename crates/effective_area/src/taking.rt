@@ -65,8 +65,8 @@ pub fn take_first(
     let (before, after) = (entry.before, entry.after);
     let first = ahead(links, before);
     let last = following(links, after);
-    let is_first_known = goes_after(arc, links, before, first);
-    let is_last_known = goes_after(arc, links, after, last);
+    let is_first_known = goes_after(arc, links, t, before, first);
+    let is_last_known = goes_after(arc, links, t, after, last);
     unlink(links, before, entry.corner.index, after);
     note_area(links, steps, arc, before);
     note_area(links, steps, arc, after);

@@ -107,8 +107,10 @@ pub fn weights_until(alloc: Global, arc: &[Position], most: usize) -> Result<Vec
         return Ok(weights);
     }
     let mut steps = Steps::none();
-    let mut links = cached_links(alloc, &mut steps, arc, AREA_LIMIT)?;
-    let mut sorted = sorted_entries(alloc, &mut steps, arc, &links, AREA_LIMIT)?;
+    let mut links = Vec::new(alloc);
+    cached_links(&mut links, &mut steps, arc, AREA_LIMIT)?;
+    let mut sorted = Vec::new(alloc);
+    sorted_entries(&mut sorted, &mut steps, arc, &links, AREA_LIMIT)?;
     let mut heap = BinaryHeap::new(alloc);
     let level = weigh(&mut sorted, &mut heap, arc, &mut links, &mut weights, most)?;
     fill(&mut weights, level);

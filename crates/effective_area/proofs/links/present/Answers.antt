@@ -10,7 +10,7 @@ pub loop-i-smaller : goal.loop-i-smaller
 loop-i-smaller c = unfold after_in in grind (arith, walk_more)
 
 pub loop-i-init : goal.loop-i-init
-loop-i-init c = (c.requires.0, c.requires.0, walk_start c.args.links.now c.push.new.self.items c.requires.0 c.requires.1 (c.in_ok-push.ensures.items ∙ ap (λ l. l ++ (0 ∷ [])) c.new-kept.ensures.items))
+loop-i-init c = (c.requires.0, c.requires.0, walk_start c.args.links.now c.push.new.self.items c.requires.0 c.requires.1 (c.in_ok-push.ensures.items ∙ ap (λ l. l ++ (0 ∷ [])) c.in_ok-kept.ensures.items))
 
 pub loop-i-preserved : goal.loop-i-preserved
 loop-i-preserved c = unfold after_in in grind (arith, walk_more)

@@ -12,19 +12,19 @@ pub returns-then-link-t-clause-none : goal.returns-then-link-t-clause-none
 unfolding area_in
 returns-then-link-t-clause-none c = λ w. absurd (omega (arith, w.under, c.if-link-t.true, c.requires.ready.cached w.later w.inside))
 
-pub returns-then-goes_before-clause-none : goal.returns-then-goes_before-clause-none
+pub returns-then-neighbour_goes_before-clause-none : goal.returns-then-neighbour_goes_before-clause-none
 unfolding before_in
-returns-then-goes_before-clause-none c = λ w. let e : false ≡ true = sym w.before ∙ sym c.goes_before.ensures ∙ c.if-goes_before.true in absurd (cc)
+returns-then-neighbour_goes_before-clause-none c = λ w. let e : false ≡ true = sym w.before ∙ c.neighbour_goes_before.ensures c.if-neighbour_goes_before.true in absurd (cc)
 
-pub returns-then-goes_before-2-clause-none : goal.returns-then-goes_before-2-clause-none
+pub returns-then-neighbour_goes_before-2-clause-none : goal.returns-then-neighbour_goes_before-2-clause-none
 unfolding after_in
-returns-then-goes_before-2-clause-none c = λ w. let e : false ≡ true = sym w.after ∙ sym c.goes_before-2.ensures ∙ c.if-goes_before-2.true in absurd (cc)
+returns-then-neighbour_goes_before-2-clause-none c = λ w. let e : false ≡ true = sym w.after ∙ c.neighbour_goes_before-2.ensures c.if-neighbour_goes_before-2.true in absurd (cc)
 
-pub goes_before-requires-clause-index : goal.goes_before-requires-clause-index
-goes_before-requires-clause-index c = unfold after_in before_in in grind arith
+pub neighbour_goes_before-requires-clause-neighbour : goal.neighbour_goes_before-requires-clause-neighbour
+neighbour_goes_before-requires-clause-neighbour c = unfold after_in before_in in grind arith
 
-pub goes_before-requires-2-clause-index : goal.goes_before-requires-2-clause-index
-goes_before-requires-2-clause-index c = unfold after_in before_in in grind arith
+pub neighbour_goes_before-requires-2-clause-neighbour : goal.neighbour_goes_before-requires-2-clause-neighbour
+neighbour_goes_before-requires-2-clause-neighbour c = unfold after_in before_in in grind arith
 
 pub returns-clause-under : goal.returns-clause-under
 returns-clause-under c = unfold area_in in grind arith

@@ -24,10 +24,10 @@ returns-clause-value c = unfold twice_area cross in
     let x4 : FitsSigned w64 c.x-4.result = search rules in
     let y3 : FitsSigned w64 c.y-3.result = search rules in
     let y4 : FitsSigned w64 c.y-4.result = search rules in
-    let f1 : FitsSigned w128 c.difference.result = search rules in
-    let f2 : FitsSigned w128 c.difference-2.result = search rules in
-    let f3 : FitsSigned w128 c.difference-3.result = search rules in
-    let f4 : FitsSigned w128 c.difference-4.result = search rules in
+    let f1 : FitsSigned w64 c.difference.result = search rules in
+    let f2 : FitsSigned w64 c.difference-2.result = search rules in
+    let f3 : FitsSigned w64 c.difference-3.result = search rules in
+    let f4 : FitsSigned w64 c.difference-4.result = search rules in
     let f : FitsSigned w128 c.product-left.result = search rules in
     let g : FitsSigned w128 c.product-right.result = search rules in
     let small : unsigned_abs (c.product-left.result -ℤ c.product-right.result) < area_limit = apart_fits c.product-left.result c.product-right.result c.product-left.ensures.bound c.product-right.ensures.bound in
@@ -36,8 +36,8 @@ returns-clause-value c = unfold twice_area cross in
     let d2 = both ◌-ℤ◌ _ _ _ _ _ c.y.ensures.y c.y-2.ensures.y (read_both w64 ◌-ℤ◌ _ _ _ y1 y2 c.difference-2.ensures.value) in
     let d3 = both ◌-ℤ◌ _ _ _ _ _ c.x-3.ensures.x c.x-4.ensures.x (read_both w64 ◌-ℤ◌ _ _ _ x3 x4 c.difference-3.ensures.value) in
     let d4 = both ◌-ℤ◌ _ _ _ _ _ c.y-3.ensures.y c.y-4.ensures.y (read_both w64 ◌-ℤ◌ _ _ _ y3 y4 c.difference-4.ensures.value) in
-    let p1 = both ◌*ℤ◌ _ _ _ _ _ d1 d2 (read_both w128 ◌*ℤ◌ _ _ _ f1 f2 c.product-left.ensures.value) in
-    let p2 = both ◌*ℤ◌ _ _ _ _ _ d3 d4 (read_both w128 ◌*ℤ◌ _ _ _ f3 f4 c.product-right.ensures.value) in
+    let p1 = both ◌*ℤ◌ _ _ _ _ _ d1 d2 (read_both w64 ◌*ℤ◌ _ _ _ f1 f2 c.product-left.ensures.value) in
+    let p2 = both ◌*ℤ◌ _ _ _ _ _ d3 d4 (read_both w64 ◌*ℤ◌ _ _ _ f3 f4 c.product-right.ensures.value) in
     let t = ap (λ z. to_z w128 (of_z w128 z)) (through _ _ f g) ∙ to_z-of_z w128 _ h in
     c.unsigned_abs.ensures.value ∙ ap unsigned_abs (both ◌-ℤ◌ _ _ _ _ _ p1 p2 t)
 

@@ -31,6 +31,12 @@ module _ {A : Type 0} (text_of : A → List ℕ) (closing : List ℕ) (is_first 
 pub array-text : {A : Type 0} (value_of : A → Json) (items : List A) → json_text (j.Array (map value_of items)) ≡ codes "[" ++ list_left (text_by value_of) (codes "]") true items
 array-text value_of items = grind (arith, text-array, fused)
 
+-- the same array as an element of a list
+pub array-element : {A : Type 0} (value_of : A → Json) (is_first : Bool) (items : List A)
+    → comma_unless is_first ++ json_text (j.Array (map value_of items)) ≡ (comma_unless is_first ++ codes "[") ++ list_left (text_by value_of) (codes "]") true items
+array-element value_of is_first items =
+    ap (λ (t : List ℕ). comma_unless is_first ++ t) (array-text value_of items) ∙ sym (append_assoc (comma_unless is_first) (codes "[") (list_left (text_by value_of) (codes "]") true items))
+
 -- an object of these members
 pub object-text : {A : Type 0} (value_of : A → Json) (members : List (List ℕ × A))
     → json_text (j.Object (map (λ m. (m.0, value_of m.1)) members)) ≡ codes "{" ++ list_left (named_by value_of) (codes "}") true members

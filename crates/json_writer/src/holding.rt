@@ -1,5 +1,5 @@
 // Short parts of a text that are held until there are enough of them to be written at once.
-ghost use Rattle.std.specs.Prelude.{◌≡◌, ◌≤◌, ◌++◌, [], length};
+ghost use Rattle.std.specs.Prelude.{◌≡◌, ◌≤◌, ◌++◌, [], codes, length};
 ghost use Rattle.byte_ends.specs.Commas.{comma_unless};
 ghost use Rattle.byte_ends.specs.Continues.{Continues};
 ghost use Rattle.json_writer.specs.Holding.{Holds};
@@ -7,11 +7,14 @@ ghost use Rattle.json_writer.specs.Holding.{Holds};
 use crate::short_text::ShortText;
 use byte_ends::{Drain, Progress, Sink, put_part};
 
+// So many bytes a part may have that is held.
+const MOST_OF_PART: usize = 96;
+
 // So many bytes may be held while 96 more have room.
 const MOST_HELD: usize = 416;
 
 /// Writes what is held, and holds nothing.
-fn put_held<W: Drain>(held: &mut ShortText, so_far: Progress, sink: &mut Sink<W>) -> Progress
+pub fn put_held<W: Drain>(held: &mut ShortText, so_far: Progress, sink: &mut Sink<W>) -> Progress
     ensures wrote { Continues sink.old sink.new so_far held.old result }
     ensures none { held.new ≡ [] }
 {
@@ -46,6 +49,22 @@ pub fn hold<W: Drain>(
     so_far
 }
 
+/// Holds a part of at most 96 bytes, and writes a longer one after what is held.
+pub fn hold_or_put<W: Drain>(
+    part: &[u8],
+    held: &mut ShortText,
+    so_far: Progress,
+    sink: &mut Sink<W>,
+) -> Progress
+    ensures { Holds sink.old sink.new so_far result held.old part.now held.new }
+{
+    if part.len() <= MOST_OF_PART {
+        return hold(part, held, so_far, sink);
+    }
+    let so_far = put_held(held, so_far, sink);
+    put_part(part, so_far, sink)
+}
+
 /// Writes what is held and the part of at most 96 bytes after it.
 pub fn put_after_held<W: Drain>(
     part: &[u8],
@@ -68,6 +87,18 @@ fn comma(is_first: bool) -> &'static [u8]
     if is_first { b"" } else { b"," }
 }
 
+/// Holds the comma in front of a list's element, or nothing in front of the first.
+pub fn hold_comma<W: Drain>(
+    is_first: bool,
+    held: &mut ShortText,
+    so_far: Progress,
+    sink: &mut Sink<W>,
+) -> Progress
+    ensures { Holds sink.old sink.new so_far result held.old (comma_unless is_first) held.new }
+{
+    hold(comma(is_first), held, so_far, sink)
+}
+
 /// Writes what is held, and the comma in front of a list's element, or nothing in front of the first.
 pub fn put_comma_after_held<W: Drain>(
     is_first: bool,
@@ -79,4 +110,23 @@ pub fn put_comma_after_held<W: Drain>(
     ensures none { held.new ≡ [] }
 {
     put_after_held(comma(is_first), held, so_far, sink)
+}
+
+/// The opening bracket of an array that is a list's element, with the comma in front, unless it is the first.
+fn opening(is_first: bool) -> &'static [u8]
+    ensures { result.now ≡ comma_unless is_first ++ codes "[" }
+{
+    if is_first { b"[" } else { b",[" }
+}
+
+/// Holds the opening bracket of an array that is a list's element, with the comma in front, unless it is the first.
+pub fn hold_opening<W: Drain>(
+    is_first: bool,
+    held: &mut ShortText,
+    so_far: Progress,
+    sink: &mut Sink<W>,
+) -> Progress
+    ensures { Holds sink.old sink.new so_far result held.old (comma_unless is_first ++ codes "[") held.new }
+{
+    hold(opening(is_first), held, so_far, sink)
 }

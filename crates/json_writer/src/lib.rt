@@ -2,7 +2,8 @@
 //! whatever their items are. It stands on `json_value`, whose `specs/Text.antt` says which text is written for a value, and on `byte_ends`
 //! for the sinks that it writes to. The layers above write texts by `put_text`, values by `put_json` and `put_members`, properties by
 //! `put_properties`, numbers of units by `put_units` and `put_decimal`, or by `add_units` into a `ShortText`, and lists of what they write
-//! themselves by `put_array` and `put_object`, over their own ways `PutValue`.
+//! themselves by `put_array` and `put_object`, over their own ways `PutValue`. What is short is held in a `ShortText` by `hold_array`,
+//! `hold_decimal` and `hold_pair`, so that a sink is called once for much of it.
 #![tactic(auto)]
 
 mod backward_text;
@@ -15,11 +16,11 @@ mod text_writer;
 mod units_writer;
 mod value_writer;
 
-pub use holding::put_after_held;
-pub use list_writer::{ArrayOf, PutValue, put_array, put_object};
-pub use number_writer::{hold_pair, put_decimal, put_pair};
-pub use properties_writer::put_properties;
+pub use holding::{hold, hold_comma, hold_opening, hold_or_put, put_after_held, put_held};
+pub use list_writer::{ArrayOf, PutValue, hold_array, put_array, put_object};
+pub use number_writer::{hold_decimal, hold_pair, put_decimal, put_pair};
+pub use properties_writer::{hold_properties, put_properties};
 pub use short_text::ShortText;
-pub use text_writer::{put_text, write_text};
+pub use text_writer::{put_text, put_text_after_held, write_text};
 pub use units_writer::{add_units, print_units, put_units};
 pub use value_writer::{put_json, put_members, put_name, write_json, write_members};

@@ -7,7 +7,7 @@ ghost use Rattle.json_value.specs.Text.{json_text, member_text};
 ghost use Rattle.json_value.specs.declared.json.Json.{Json as Value};
 ghost use Rattle.json_value.specs.declared.json.Json.TheVariants as j;
 
-use crate::holding::{put_after_held, put_comma_after_held};
+use crate::holding::{hold, hold_opening, put_comma_after_held, put_held};
 use crate::short_text::ShortText;
 use crate::value_writer::put_name;
 use byte_ends::{Drain, Progress, Sink, put_comma, put_part};
@@ -39,6 +39,26 @@ pub trait PutValue<T> {
     }
 }
 
+/// Holds the array of the items, each in this way, as an element of a list: with the comma in front, unless it is the first. So
+/// lists in lists are written at once, too.
+pub fn hold_array<P: PutValue<T>, T, W: Drain>(
+    items: &[T],
+    is_first: bool,
+    held: &mut ShortText,
+    so_far: Progress,
+    sink: &mut Sink<W>,
+) -> Progress
+    ensures { Holds sink.old sink.new so_far result held.old (comma_unless is_first ++ json_text (j.Array (map P.value items.now))) held.new }
+{
+    let mut so_far = hold_opening(is_first, held, so_far, sink);
+    let mut is_first_item = true;
+    'items: for item in items {
+        so_far = P::put_element(item, is_first_item, held, so_far, sink);
+        is_first_item = false;
+    }
+    hold(b"]", held, so_far, sink)
+}
+
 /// Writes the array of the items, each in this way.
 pub fn put_array<P: PutValue<T>, T, W: Drain>(
     items: &[T],
@@ -47,15 +67,9 @@ pub fn put_array<P: PutValue<T>, T, W: Drain>(
 ) -> Progress
     ensures { Continues sink.old sink.new so_far (json_text (j.Array (map P.value items.now))) result }
 {
-    let mut so_far = so_far;
     let mut held = ShortText::new();
-    held.push(b"[");
-    let mut is_first = true;
-    'items: for item in items {
-        so_far = P::put_element(item, is_first, &mut held, so_far, sink);
-        is_first = false;
-    }
-    put_after_held(b"]", &mut held, so_far, sink)
+    let so_far = hold_array::<P, T, W>(items, true, &mut held, so_far, sink);
+    put_held(&mut held, so_far, sink)
 }
 
 /// The way to write a list of items, each in this way, as an array.
@@ -68,6 +82,16 @@ impl<T, P: PutValue<T>> PutValue<Items<T>> for ArrayOf<P> {
 
     fn put<W: Drain>(items: &Items<T>, so_far: Progress, sink: &mut Sink<W>) -> Progress {
         put_array::<P, T, W>(items.as_slice(), so_far, sink)
+    }
+
+    fn put_element<W: Drain>(
+        items: &Items<T>,
+        is_first: bool,
+        held: &mut ShortText,
+        so_far: Progress,
+        sink: &mut Sink<W>,
+    ) -> Progress {
+        hold_array::<P, T, W>(items.as_slice(), is_first, held, so_far, sink)
     }
 }
 

@@ -53,6 +53,24 @@ fn put_comma_in_front(text: &mut BackwardText, is_first: bool)
     }
 }
 
+/// Holds such a number as an element of a list: with the comma in front, unless it is the first.
+pub fn hold_decimal<W: Drain>(
+    units: i64,
+    places: u32,
+    is_first: bool,
+    held: &mut ShortText,
+    so_far: Progress,
+    sink: &mut Sink<W>,
+) -> Progress
+    requires { places ≤ 18 }
+    ensures { Holds sink.old sink.new so_far result held.old (comma_unless is_first ++ json_text (j.Number (units_text units places))) held.new }
+{
+    let mut text = BackwardText::new();
+    put_units_in_front(&mut text, units, places);
+    put_comma_in_front(&mut text, is_first);
+    hold(text.as_slice(), held, so_far, sink)
+}
+
 /// Writes the array of two such numbers.
 pub fn put_pair<W: Drain>(
     x: i64,

@@ -6,7 +6,10 @@ ghost use Rattle.byte_ends.specs.Writes.{Writes};
 ghost use Rattle.json_value.specs.Grammar as grammar;
 ghost use Rattle.json_value.specs.Text.{escaped_byte, quoted};
 ghost use Rattle.json_value.specs.Text as spec;
+ghost use Rattle.json_writer.specs.Holding.{Holds};
 
+use crate::holding::put_held;
+use crate::short_text::ShortText;
 use byte_ends::{Drain, Progress, Sink, WriteFault, put_part};
 
 /// A byte that stands for itself between quotation marks.
@@ -89,6 +92,19 @@ pub fn put_text<W: Drain>(text: &str, so_far: Progress, sink: &mut Sink<W>) -> P
         so_far = put_escaped(*byte, so_far, sink);
         rest = after;
     }
+}
+
+/// Writes what is held and the text between quotation marks after it.
+pub fn put_text_after_held<W: Drain>(
+    text: &str,
+    held: &mut ShortText,
+    so_far: Progress,
+    sink: &mut Sink<W>,
+) -> Progress
+    ensures { Holds sink.old sink.new so_far result held.old (quoted text.now) held.new }
+{
+    let so_far = put_held(held, so_far, sink);
+    put_text(text, so_far, sink)
 }
 
 /// Writes the text as a string of RFC 8259, section 7, and answers the number of bytes. The quotation mark, the reverse

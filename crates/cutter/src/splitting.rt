@@ -1,5 +1,5 @@
 // Lines and rings, split at their cut positions.
-ghost use Rattle.std.specs.Prelude.{◌≡◌, ◌<◌, ◌++◌, ◌∷◌, [], true, OnOk, length, if◌then◌else◌};
+ghost use Rattle.std.specs.Prelude.{◌≡◌, ◌<◌, ◌≤◌, ◌++◌, ◌∷◌, [], true, OnOk, drop, length, take, if◌then◌else◌};
 ghost use Rattle.junctions.specs.Answers.{is_member};
 ghost use Rattle.cutter.specs.Known.{AllKnown, IsReady};
 ghost use Rattle.cutter.specs.Pieces.{turned};
@@ -48,8 +48,19 @@ fn turn(ring: &mut [Position], start: usize)
         return;
     }
     let last = ring.len() - 1;
-    ring[1..].rotate_left(start);
+    move_to_end(&mut ring[1..], start);
     ring[0] = ring[last];
+}
+
+// Moves the first `count` positions after the others. The library's `rotate_left` does so too, through room on the stack, some 4 KB, that
+// it clears at each call.
+fn move_to_end(positions: &mut [Position], count: usize)
+    requires { count ≤ length positions.old }
+    ensures { positions.new ≡ drop count positions.old ++ take count positions.old }
+{
+    positions[..count].reverse();
+    positions[count..].reverse();
+    positions.reverse();
 }
 
 // The number of the visit of a line's position with this index, where the line starts with the visit of this number, and was turned to

@@ -8,7 +8,7 @@ ghost use Rattle.geojson_writer.specs.FeatureValues.{position_value, positions_v
 
 use byte_ends::{Drain, Progress, Sink};
 use geojson_types::{PLACES, Position, Ring};
-use json_writer::{PutValue, ShortText, hold_pair, put_array, put_pair};
+use json_writer::{PutValue, ShortText, hold_array, hold_pair, put_array, put_pair};
 
 /// Writes a position, x first.
 pub fn put_position<W: Drain>(position: Position, so_far: Progress, sink: &mut Sink<W>) -> Progress
@@ -67,5 +67,15 @@ impl PutValue<Ring> for Rings {
 
     fn put<W: Drain>(ring: &Ring, so_far: Progress, sink: &mut Sink<W>) -> Progress {
         put_array::<Positions, Position, W>(ring.as_slice(), so_far, sink)
+    }
+
+    fn put_element<W: Drain>(
+        ring: &Ring,
+        is_first: bool,
+        held: &mut ShortText,
+        so_far: Progress,
+        sink: &mut Sink<W>,
+    ) -> Progress {
+        hold_array::<Positions, Position, W>(ring.as_slice(), is_first, held, so_far, sink)
     }
 }

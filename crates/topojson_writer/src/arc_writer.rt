@@ -10,7 +10,7 @@ ghost use Rattle.topojson_types.specs.Values.{position_value};
 
 use byte_ends::{Drain, Progress, Sink};
 use json_value::Items;
-use json_writer::{PutValue, ShortText, hold_pair, put_after_held};
+use json_writer::{PutValue, ShortText, hold, hold_opening, hold_pair, put_held};
 use topojson_types::Cell;
 
 /// Holds how far a cell lies from the one before, as an element of a list.
@@ -29,21 +29,35 @@ fn hold_difference<W: Drain>(
     hold_pair(x, y, 0, is_first, held, so_far, sink)
 }
 
+/// Holds an arc as an element of a list, with the comma in front, unless it is the first: the first cell, and then how far each lies
+/// from the one before.
+fn hold_differences<W: Drain>(
+    cells: &[Cell],
+    is_first: bool,
+    held: &mut ShortText,
+    so_far: Progress,
+    sink: &mut Sink<W>,
+) -> Progress
+    ensures { Holds sink.old sink.new so_far result held.old (comma_unless is_first ++ json_text (j.Array (map (position_value 0) (deltas cells.now)))) held.new }
+{
+    let mut so_far = hold_opening(is_first, held, so_far, sink);
+    let mut is_first_cell = true;
+    let mut before = Cell::at(0, 0);
+    'cells: for cell in cells {
+        so_far = hold_difference(before, *cell, is_first_cell, held, so_far, sink);
+        is_first_cell = false;
+        before = *cell;
+    }
+    hold(b"]", held, so_far, sink)
+}
+
 /// Writes the first cell of an arc, and then how far each lies from the one before.
 fn put_differences<W: Drain>(cells: &[Cell], so_far: Progress, sink: &mut Sink<W>) -> Progress
     ensures { Continues sink.old sink.new so_far (json_text (j.Array (map (position_value 0) (deltas cells.now)))) result }
 {
-    let mut so_far = so_far;
     let mut held = ShortText::new();
-    held.push(b"[");
-    let mut is_first = true;
-    let mut before = Cell::at(0, 0);
-    'cells: for cell in cells {
-        so_far = hold_difference(before, *cell, is_first, &mut held, so_far, sink);
-        is_first = false;
-        before = *cell;
-    }
-    put_after_held(b"]", &mut held, so_far, sink)
+    let so_far = hold_differences(cells, true, &mut held, so_far, sink);
+    put_held(&mut held, so_far, sink)
 }
 
 /// The way to write an arc of a topology with a transform.
@@ -54,5 +68,15 @@ impl PutValue<Items<Cell>> for Differences {
 
     fn put<W: Drain>(cells: &Items<Cell>, so_far: Progress, sink: &mut Sink<W>) -> Progress {
         put_differences(cells.as_slice(), so_far, sink)
+    }
+
+    fn put_element<W: Drain>(
+        cells: &Items<Cell>,
+        is_first: bool,
+        held: &mut ShortText,
+        so_far: Progress,
+        sink: &mut Sink<W>,
+    ) -> Progress {
+        hold_differences(cells.as_slice(), is_first, held, so_far, sink)
     }
 }

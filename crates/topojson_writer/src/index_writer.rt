@@ -2,7 +2,7 @@
 ghost use Rattle.topojson_types.specs.Values.{whole_value};
 
 use byte_ends::{Drain, Progress, Sink};
-use json_writer::{PutValue, put_decimal};
+use json_writer::{PutValue, ShortText, hold_decimal, put_decimal};
 use topojson_types::ArcRef;
 
 /// The way to write arc indexes, which are whole numbers.
@@ -13,5 +13,15 @@ impl PutValue<ArcRef> for ArcRefs {
 
     fn put<W: Drain>(reference: &ArcRef, so_far: Progress, sink: &mut Sink<W>) -> Progress {
         put_decimal(reference.written(), 0, so_far, sink)
+    }
+
+    fn put_element<W: Drain>(
+        reference: &ArcRef,
+        is_first: bool,
+        held: &mut ShortText,
+        so_far: Progress,
+        sink: &mut Sink<W>,
+    ) -> Progress {
+        hold_decimal(reference.written(), 0, is_first, held, so_far, sink)
     }
 }

@@ -21,6 +21,6 @@ pub use list_writer::{ArrayOf, PutValue, hold_array, put_array, put_object};
 pub use number_writer::{hold_decimal, hold_pair, put_decimal, put_pair};
 pub use properties_writer::{hold_properties, put_properties};
 pub use short_text::ShortText;
-pub use text_writer::{put_text, put_text_after_held, write_text};
+pub use text_writer::{hold_text, put_text, write_text};
 pub use units_writer::{add_units, print_units, put_units};
 pub use value_writer::{put_json, put_members, put_name, write_json, write_members};

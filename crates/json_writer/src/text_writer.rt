@@ -1,5 +1,5 @@
 // The strings of RFC 8259, section 7, as they are written.
-ghost use Rattle.std.specs.Prelude.{◌≡◌, ◌<◌};
+ghost use Rattle.std.specs.Prelude.{◌≡◌, ◌<◌, ◌++◌, codes};
 ghost use Rattle.std.specs.List.{prefix_len};
 ghost use Rattle.byte_ends.specs.Continues.{Continues};
 ghost use Rattle.byte_ends.specs.Writes.{Writes};
@@ -8,7 +8,7 @@ ghost use Rattle.json_value.specs.Text.{escaped_byte, quoted};
 ghost use Rattle.json_value.specs.Text as spec;
 ghost use Rattle.json_writer.specs.Holding.{Holds};
 
-use crate::holding::put_held;
+use crate::holding::{hold, hold_or_put, put_held};
 use crate::short_text::ShortText;
 use byte_ends::{Drain, Progress, Sink, WriteFault, put_part};
 
@@ -95,7 +95,7 @@ pub fn put_text<W: Drain>(text: &str, so_far: Progress, sink: &mut Sink<W>) -> P
 }
 
 /// Writes what is held and the text between quotation marks after it.
-pub fn put_text_after_held<W: Drain>(
+fn put_text_after_held<W: Drain>(
     text: &str,
     held: &mut ShortText,
     so_far: Progress,
@@ -105,6 +105,37 @@ pub fn put_text_after_held<W: Drain>(
 {
     let so_far = put_held(held, so_far, sink);
     put_text(text, so_far, sink)
+}
+
+/// Holds bytes between quotation marks as they are.
+fn hold_between_marks<W: Drain>(
+    bytes: &[u8],
+    held: &mut ShortText,
+    so_far: Progress,
+    sink: &mut Sink<W>,
+) -> Progress
+    ensures { Holds sink.old sink.new so_far result held.old (codes "\"" ++ (bytes.now ++ codes "\"")) held.new }
+{
+    let so_far = hold(b"\"", held, so_far, sink);
+    let so_far = hold_or_put(bytes, held, so_far, sink);
+    hold(b"\"", held, so_far, sink)
+}
+
+/// Writes or holds the text between quotation marks, as `write_text`, as a part of a longer text.
+pub fn hold_text<W: Drain>(
+    text: &str,
+    held: &mut ShortText,
+    so_far: Progress,
+    sink: &mut Sink<W>,
+) -> Progress
+    ensures { Holds sink.old sink.new so_far result held.old (quoted text.now) held.new }
+{
+    let bytes = text.as_bytes();
+    let plain = plain_len(bytes);
+    if plain < bytes.len() {
+        return put_text_after_held(text, held, so_far, sink);
+    }
+    hold_between_marks(bytes, held, so_far, sink)
 }
 
 /// Writes the text as a string of RFC 8259, section 7, and answers the number of bytes. The quotation mark, the reverse

@@ -6,12 +6,9 @@ use Rattle.owned_values.specs.Commas.{with_commas}
 use Rattle.json_value.specs.declared.json.Json.{Json}
 use Rattle.json_value.specs.declared.json.Json.TheVariants as j
 use Rattle.json_value.specs.Text.{json_text, name_text, escaped_byte}
-use Rattle.json_value.proofs.Texts.{text-null, text-number, text-text, text-object, one_member}
+use Rattle.json_value.proofs.Texts.{text-null, text-object, one_member}
 use Rattle.topojson_types.specs.Values.{Members, Geometrical, inner_value}
 use Rattle.topojson_writer.specs.Texts.{type_text, members_text}
-
--- the values that are no array and no object
-pub ruleset leaves = (text-null, text-number, text-text)
 
 pub members-none : members_text [] ≡ []
 unfolding members_text

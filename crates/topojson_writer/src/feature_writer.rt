@@ -10,8 +10,7 @@ use crate::shape_writer::{hold_parts, hold_type};
 use byte_ends::{Drain, Progress, Sink};
 use geojson_types::{Id, Properties};
 use json_writer::{
-    PutValue, ShortText, hold, hold_comma, hold_or_put, hold_properties, put_held,
-    put_text_after_held,
+    PutValue, ShortText, hold, hold_comma, hold_or_put, hold_properties, hold_text, put_held,
 };
 use std::marker::PhantomData;
 use topojson_types::{Cell, TopoFeature, TopoShape};
@@ -26,7 +25,7 @@ fn hold_id_value<W: Drain>(
     ensures { Holds sink.old sink.new so_far result held.old (json_text (id_value id.now)) held.new }
 {
     match id {
-        Id::Text(text) => put_text_after_held(text.as_str(), held, so_far, sink),
+        Id::Text(text) => hold_text(text.as_str(), held, so_far, sink),
         Id::Number(number) => hold_or_put(number.as_bytes(), held, so_far, sink),
     }
 }

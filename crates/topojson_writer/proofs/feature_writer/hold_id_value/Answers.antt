@@ -6,7 +6,7 @@ use Rattle.topojson_types.specs.Values.{id_value}
 use Rattle.topojson_writer.proofs.feature_writer.hold_id_value.Goals as goal
 
 pub returns-in-Text : goal.returns-in-Text
-returns-in-Text g c = held_as _ _ _ _ (ap (λ i. json_text (id_value i)) c.in-Text.is ∙ text-text _) (rw c.as_str.ensures.text at c.put_text_after_held.ensures)
+returns-in-Text g c = held_as _ _ _ _ (ap (λ i. json_text (id_value i)) c.in-Text.is ∙ text-text _) (rw c.as_str.ensures.text at c.hold_text.ensures)
 
 pub returns-in-Number : goal.returns-in-Number
 returns-in-Number g c = held_as _ _ _ _ (ap (λ i. json_text (id_value i)) c.in-Number.is ∙ text-number _) (rw c.as_bytes.ensures.text at c.hold_or_put.ensures)

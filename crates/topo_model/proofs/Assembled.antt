@@ -1,4 +1,4 @@
--- What is made of layers, of the table of their arcs and of the positions of each arc that are kept is what is assembled of them.
+-- What is made of layers, of the indexes of their arcs and of the positions of each arc that are retained is what is assembled of them.
 use Rattle.std.proofs.Common.{arith, ◌≡◌, ℕ, suc, ◌-◌, Bool, true, false, List, [], ◌∷◌, map, length, Option, None, Some, refl, sym, ap, ◌∙◌, subst}
 use Rattle.std.specs.List.{AllByRecursion}
 use Rattle.std.specs.Prelude.{sum, if◌then◌else◌}
@@ -33,6 +33,7 @@ use Rattle.simplified_topology.specs.Assembled.{arcs_of_layers, own_refs, assemb
 use Rattle.simplified_topology.specs.Simplified.{Refs, small_cause, large_refs, feature_pruned, objects_pruned, retained_arcs, retained_whole, simplified_by, EachFromFirstToLast}
 use Rattle.simplified_topology.proofs.Assembled.{contents, kept_by, before_trimming, layers_alike}
 use Rattle.simplified_topology.proofs.Simplified.{IsWholeAtZero, no_small}
+use Rattle.simplified_topology.proofs.ValidRetained.{retained_length}
 use Rattle.linework.specs.Linework.{linework}
 use Rattle.owned_values.proofs.Elements.{all_weaker}
 use Rattle.topojson_types.specs.declared.object.TopoObject.{TopoObject}
@@ -50,32 +51,22 @@ use Rattle.topo_model.proofs.Relined.{pruned_once, dropped_once}
 abbrev pub lines_of : Named → List Stroke
 lines_of ls = linework (layers_of ls)
 
-abbrev pub IsTableOf : Named → ArcsAndIndexes → Type 0
-IsTableOf ls t = t ≡ table_of (map (split_of (linework (layers_of ls))) (linework (layers_of ls)))
-
-pub table_arcs : (ls : Named) (t : ArcsAndIndexes) → IsTableOf ls t → t.arcs ≡ arcs_of_layers ls
-table_arcs ls t is = ap (λ t. t.arcs) is ∙ ap arcs_of (same_pieces (lines_of ls) (lines_of ls))
+-- the table of their arcs
+abbrev pub table_of_lines : Named → ArcsAndIndexes
+table_of_lines ls = table_of (map (split_of (linework (layers_of ls))) (linework (layers_of ls)))
 
 -- the indexes of lines and rings that have enough positions
 long_are : (of : RefsOf) (bs : List (Bool × List Point)) → map (λ (b : Bool × List Point). of b.0 b.1) (long_of bs) ≡ long_refs of bs
 long_are of [] = refl
 long_are of (b ∷ bs) = grind (arith, long_are of bs)
 
-pub table_refs : (ls : Named) (t : ArcsAndIndexes) → IsTableOf ls t → t.refs ≡ long_refs (own_refs (lines_of ls)) (named_lines_and_rings ls)
-table_refs ls t is =
+pub table_refs : (ls : Named) → (table_of_lines ls).refs ≡ long_refs (own_refs (lines_of ls)) (named_lines_and_rings ls)
+table_refs ls =
     let lines = lines_of ls in
-    ap (λ t. t.refs) is
-    ∙ ap (λ ps. map (map (index_in (arcs_of ps))) (piece_lists (map (split_of lines) lines))) (same_pieces lines lines)
+    ap (λ ps. map (map (index_in (arcs_of ps))) (piece_lists (map (split_of lines) lines))) (same_pieces lines lines)
     ∙ ap (map (map (index_in (all_arcs lines)))) (split_lists ls)
     ∙ map_map (map (index_in (all_arcs lines))) (λ (b : Bool × List Point). own_pieces lines b.0 b.1) (long_lines_and_rings ls)
     ∙ long_are (own_refs lines) (named_lines_and_rings ls)
-
--- a list for each arc
-pub as_many : {K : Type 0} (numbers : K → List ℕ) (ks : List K) (arcs : List (List Point)) → EachFromFirstToLast (map numbers ks) arcs → length ks ≡ length arcs
-as_many numbers [] [] h = refl
-as_many numbers [] (a ∷ arcs) h = absurd h
-as_many numbers (k ∷ ks) [] h = absurd h
-as_many numbers (k ∷ ks) (a ∷ arcs) h = ap (λ n. suc n) (as_many numbers ks arcs h.1)
 
 -- ---- a draft that is pruned
 
@@ -147,8 +138,8 @@ module _ (lines : List Stroke) (arcs : List (List Point)) (limit : ℕ) (b : Boo
 
 -- ---- the topology
 
-module _ (kept : List (List ℕ)) (limit : ℕ) (ls : Named) (t : ArcsAndIndexes) (is : IsTableOf ls t) (zero : ZeroLaw) (sound : AreSound ls) (retained : List (List Point)) (picks : retained ≡ retained_arcs kept t.arcs) where
-  abbrev of : RefsOf
+module _ (kept : List (List ℕ)) (limit : ℕ) (ls : Named) (zero : ZeroLaw) (sound : AreSound ls) (retained : List (List Point)) (picks : retained ≡ retained_arcs kept (arcs_of_layers ls)) where
+  abbrev pub of : RefsOf
   of = own_refs (lines_of ls)
 
   -- the layers over all arcs
@@ -158,23 +149,20 @@ module _ (kept : List (List ℕ)) (limit : ℕ) (ls : Named) (t : ArcsAndIndexes
   abbrev pub draft : Objects
   draft = objects_drafted of ls
 
-  pub same_arcs : t.arcs ≡ whole.arcs
-  same_arcs = table_arcs ls t is ∙ sym (each_stays zero (all_arcs (lines_of ls)))
+  pub same_arcs : arcs_of_layers ls ≡ whole.arcs
+  same_arcs = sym (each_stays zero (all_arcs (lines_of ls)))
 
   pub retained_is : retained ≡ retained_arcs kept whole.arcs
   retained_is = picks ∙ ap (retained_arcs kept) same_arcs
 
-  fewer_is : retained ≡ retained_arcs kept (arcs_of_layers ls)
-  fewer_is = picks ∙ ap (retained_arcs kept) (table_arcs ls t is)
-
-  pub through : EachFromFirstToLast kept t.arcs → EachFromFirstToLast kept whole.arcs
+  pub through : EachFromFirstToLast kept (arcs_of_layers ls) → EachFromFirstToLast kept whole.arcs
   through h = subst (EachFromFirstToLast kept) same_arcs h
 
   -- the draft without lines and rings that are too short is the layers without them
   draft_is : contents (objects_pruned (large_refs limit retained) draft) retained ≡ retained_whole kept limit whole
   draft_is =
       ap (λ os. contents os retained) (draft_pruned of (large_refs limit retained) ls ∙ ap (λ (k : Kept). objects_by k ls) (fun_ext (λ closed. fun_ext (large_are (lines_of ls) retained limit closed))))
-      ∙ ap (λ arcs. contents (objects_by (kept_by (lines_of ls) arcs limit) ls) arcs) fewer_is
+      ∙ ap (λ arcs. contents (objects_by (kept_by (lines_of ls) arcs limit) ls) arcs) picks
       ∙ sym (before_trimming zero kept limit ls sound)
 
   pub large_is : objects_pruned (large_refs limit retained) draft ≡ result.large kept limit whole retained retained_is
@@ -184,9 +172,12 @@ module _ (kept : List (List ℕ)) (limit : ℕ) (ls : Named) (t : ArcsAndIndexes
   unfolding assembled simplified_by
   is_assembled = ap trimmed draft_is
 
-  pub ranged : IsTopology whole → EachFromFirstToLast kept t.arcs → AllByRecursion (λ b. AreInRange (length retained) b.1) (objects_lines_and_rings (objects_pruned (large_refs limit retained) draft))
+  pub ranged : IsTopology whole → EachFromFirstToLast kept (arcs_of_layers ls) → AllByRecursion (λ b. AreInRange (length retained) b.1) (objects_lines_and_rings (objects_pruned (large_refs limit retained) draft))
   ranged valid h =
       subst (λ (os : Objects). AllByRecursion (λ b. AreInRange (length retained) b.1) (objects_lines_and_rings os)) (sym large_is) (result.ranged kept limit whole retained retained_is valid (through h))
+
+  pub many : EachFromFirstToLast kept (arcs_of_layers ls) → length retained ≡ length (arcs_of_layers ls)
+  many h = ap length picks ∙ retained_length kept (arcs_of_layers ls) h
 
   pub drops_are : objects_drops (of_arcs limit retained) 0 draft ≡ assembled_dropped kept limit ls
   unfolding assembled_dropped
@@ -195,12 +186,12 @@ module _ (kept : List (List ℕ)) (limit : ℕ) (ls : Named) (t : ArcsAndIndexes
       ∙ ap (dropped_of_layers 0) (layers_alike (cause of (of_arcs limit retained)) (assembled_cause (lines_of ls) retained limit) ls
       (all_weaker (λ b. kept_line (lines_of ls) 0 0 b.0 b.1 ≡ whole_line ls b.0 b.1) (λ b. cause of (of_arcs limit retained) b.0 b.1 ≡ assembled_cause (lines_of ls) retained limit b.0 b.1)
       (cause_is (lines_of ls) retained limit) (named_lines_and_rings ls) (loses_nothing zero ls sound)))
-      ∙ ap (λ arcs. layers_caused (assembled_cause (lines_of ls) arcs limit) ls) fewer_is
+      ∙ ap (λ arcs. layers_caused (assembled_cause (lines_of ls) arcs limit) ls) picks
 
-  pub removed_count_is : sum (map length (keep_from (is_used (objects_pruned (large_refs limit retained) draft)) 0 t.arcs)) - positions_of (keep_from (is_used (objects_pruned (large_refs limit retained) draft)) 0 retained)
+  pub removed_count_is : sum (keep_from (is_used (objects_pruned (large_refs limit retained) draft)) 0 (map length (arcs_of_layers ls))) - positions_of (keep_from (is_used (objects_pruned (large_refs limit retained) draft)) 0 retained)
       ≡ assembled_removed_count kept limit ls
   unfolding assembled_removed_count
   removed_count_is =
-      ap (λ (os : Objects). positions_of (keep_from (is_used os) 0 t.arcs) - positions_of (keep_from (is_used os) 0 retained)) large_is
-      ∙ ap (λ arcs. positions_of (keep_from (is_used (result.large kept limit whole retained retained_is)) 0 arcs) - positions_of (keep_from (is_used (result.large kept limit whole retained retained_is)) 0 retained)) same_arcs
+      ap (λ (os : Objects). sum (keep_from (is_used os) 0 (map length (arcs_of_layers ls))) - positions_of (keep_from (is_used os) 0 retained)) large_is
+      ∙ ap (λ (arcs : List (List Point)). sum (keep_from (is_used (result.large kept limit whole retained retained_is)) 0 (map length arcs)) - positions_of (keep_from (is_used (result.large kept limit whole retained retained_is)) 0 retained)) same_arcs
       ∙ result.taken_is kept limit whole retained retained_is

@@ -1,5 +1,6 @@
 pub mod Assembled
 pub mod Chosen
+pub mod Counted
 pub mod Drops
 pub mod Enclosed
 pub mod Prefix

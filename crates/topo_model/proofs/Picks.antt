@@ -1,16 +1,15 @@
 -- Cells that are retained, and where they lie.
-use Rattle.std.proofs.Common.{◌≡◌, ℕ, ◌+◌, ◌<◌, ◌≤◌, List, [], ◌∷◌, ◌++◌, map, length, take, drop, get_or, slice_get, Option, None, Some, append_assoc, append-nil, refl, sym, ap, ◌∙◌, arith}
-use Rattle.std.proofs.lemmas.List.{take_more, drop_all, map-id}
+use Rattle.std.proofs.Common.{◌≡◌, ℕ, ◌+◌, ◌<◌, List, [], ◌∷◌, ◌++◌, map, length, take, get_or, slice_get, Option, None, Some, refl, sym, ap, ◌∙◌}
+use Rattle.std.proofs.lemmas.List.{take_more, map-id}
 use Rattle.std.specs.List.{AllByRecursion}
 use Rattle.topo_model.proofs.Passed.{at_got}
 use Rattle.geometry.specs.Joins.{at}
 use Rattle.geometry.specs.Lists.{some_of}
 use Rattle.geometry.specs.Points.{Point}
-use Rattle.simplified_topology.specs.Simplified.{retained, retained_arcs, EachFromFirstToLast}
+use Rattle.simplified_topology.specs.Simplified.{retained, retained_arcs}
 use Rattle.simplified_topology.specs.Thresholds.{placed_cells}
 use Rattle.simplified_topology.proofs.ValidRetained.{all_retained}
 use Rattle.owned_values.proofs.Elements.{all_weaker}
-use Rattle.owned_values.proofs.Lists.{drop_here}
 use Rattle.topojson_types.specs.declared.transform.Transform.{Transform}
 use Rattle.topojson_types.specs.Decoding.{placed_arcs}
 use Rattle.topojson_types.specs.Topologies.{Contents}
@@ -30,20 +29,6 @@ retained_one cells now new ns i d cell lt got so e =
     one_more (at cells) [] now new (take i ns) (get_or ns i d) (at cells (get_or ns i d)) cell so refl (at_got cells (get_or ns i d) ∙ got) e ∙ sym (ap (some_of (at cells)) (take_more ns i d lt))
 
 -- ---- those of all arcs
-
-pub arcs_more : {K : Type 0} (numbers : K → List ℕ) (ks : List K) (arcs made new whole : List (List Point)) (i : ℕ) (k : K) (a p : List Point) → i < length ks → length ks ≡ length arcs → k ≡ get_or ks i k → a ≡ get_or arcs i a
-    → made ++ retained_arcs (map numbers (drop i ks)) (drop i arcs) ≡ whole → p ≡ retained (numbers k) a → new ≡ made ++ p ∷ [] → new ++ retained_arcs (map numbers (drop (i + 1) ks)) (drop (i + 1) arcs) ≡ whole
-arcs_more numbers ks arcs made new whole i k a p lt many is of so e pushed = grind (arith, append_assoc, drop_here)
-
-pub arcs_all : {K : Type 0} (numbers : K → List ℕ) (ks : List K) (arcs made whole : List (List Point)) (i : ℕ) → length ks ≤ i → made ++ retained_arcs (map numbers (drop i ks)) (drop i arcs) ≡ whole → made ≡ whole
-arcs_all numbers ks arcs made whole i le so = sym (append-nil made) ∙ ap (λ l. made ++ retained_arcs (map numbers l) (drop i arcs)) (sym (drop_all i ks le)) ∙ so
-
--- a list for each arc
-pub as_many : {K : Type 0} (numbers : K → List ℕ) (ks : List K) (arcs : List (List Point)) → EachFromFirstToLast (map numbers ks) arcs → length ks ≡ length arcs
-as_many numbers [] [] h = refl
-as_many numbers [] (a ∷ arcs) h = absurd h
-as_many numbers (k ∷ ks) [] h = absurd h
-as_many numbers (k ∷ ks) (a ∷ arcs) h = let rest = as_many numbers ks arcs h.1 in omega (arith, rest)
 
 -- cells that may stand in a topology still may
 pub places_retained : (transform : Option Transform) (kept : List (List ℕ)) (arcs : List (List Point)) → AllByRecursion (λ a. AllByRecursion (IsPlace transform) a) arcs

@@ -1,6 +1,7 @@
 -- The topology that is put together is the one that is left.
 use Rattle.std.proofs.Common.{arith, ◌≡◌, ℕ, zero, suc, ◌-◌, ℤ, Bool, true, List, [], ◌∷◌, ◌++◌, map, length, take, drop, Option, None, Some, refl, sym, ap, ◌∙◌, subst}
 use Rattle.std.specs.List.{AllByRecursion}
+use Rattle.std.specs.Prelude.{sum}
 use Rattle.std.proofs.lemmas.List.{length-map}
 use Rattle.topo_model.specs.Rebuilding.{Rebuilding}
 use Rattle.topo_model.specs.Uses.{answers}
@@ -8,6 +9,7 @@ use Rattle.topo_model.proofs.Renumbered.{NewIndexesOf, all_renumbered}
 use Rattle.build_meaning.specs.Built.{positions_of}
 use Rattle.build_meaning.specs.Expected.{unless}
 use Rattle.build_meaning.specs.Trimming.{is_used, keep_from, line_renumbered, trimmed}
+use Rattle.build_meaning.proofs.Trimmed.{kept_of_map}
 use Rattle.geometry.specs.declared.address.Cause.{Cause}
 use Rattle.geometry.specs.Joins.{AreInRange}
 use Rattle.geometry.specs.DropCauses.{dropped_of_layers}
@@ -156,15 +158,19 @@ module _ (kept : List (List ℕ)) (limit : ℕ) (y : Contents) (retained : List 
   unfolding simplified_by
   is_simplified = ap trimmed is_whole
 
-  pub taken_is : positions_of (keep_from (is_used large) 0 y.arcs) - positions_of (keep_from (is_used large) 0 retained) ≡ removed_count_by kept limit y
+  taken_of : positions_of (keep_from (is_used large) 0 y.arcs) - positions_of (keep_from (is_used large) 0 retained) ≡ removed_count_by kept limit y
   unfolding removed_count_by trimmed
-  taken_is = grind (arith, is_whole, is_simplified)
+  taken_of = grind (arith, is_whole, is_simplified)
+
+  -- the positions that are removed, by how many each arc had
+  pub taken_is : sum (keep_from (is_used large) 0 (map length y.arcs)) - positions_of (keep_from (is_used large) 0 retained) ≡ removed_count_by kept limit y
+  taken_is = ap (λ ns. sum ns - positions_of (keep_from (is_used large) 0 retained)) (sym (kept_of_map {X = List Point} length (is_used large) 0 y.arcs)) ∙ taken_of
 
   -- the lines and rings that are dropped
-  pub drops_are : IsTopology y → objects_drops (of_arcs limit (placed_arcs y.transform retained)) 0 y.objects ≡ dropped_by kept limit y
+  pub drops_are : AllByRecursion (λ o. IsObject y.transform o.1) y.objects → objects_drops (of_arcs limit (placed_arcs y.transform retained)) 0 y.objects ≡ dropped_by kept limit y
   unfolding dropped_by
   drops_are valid =
-      ap (dropped_of_layers 0) (objects_same limit (placed_arcs y.transform retained) y.transform y.objects valid.objects)
+      ap (dropped_of_layers 0) (objects_same limit (placed_arcs y.transform retained) y.transform y.objects valid)
       ∙ ap (λ arcs. dropped_of_layers 0 (map (λ o. map (λ f. option_small limit (placed_arcs y.transform arcs) f.shape) (object_features o.1)) y.objects)) is
 
 -- ---- where the cells of arcs lie

@@ -1,38 +1,61 @@
--- Positions that are retained one after the other.
-use Rattle.std.proofs.Common.{arith, ◌≡◌, ℕ, ◌+◌, ◌<◌, ◌≤◌, List, [], ◌∷◌, ◌++◌, map, drop, length, get_or, slice_get, append_assoc, Some, sym, ap, ◌∙◌}
-use Rattle.std.proofs.lemmas.List.{drop_more}
-use Rattle.std.proofs.lemmas.Option.{slice_get_past, slice_get_within, get_or_from_slice_get}
-use Rattle.topo_model.proofs.Passed.{at_got}
+-- Arcs of which only some positions are retained, one after the other.
+use Rattle.std.proofs.Common.{◌≡◌, ℕ, List, [], ◌∷◌, ◌++◌, map, drop, length, refl, sym, ap, ◌∙◌}
+use Rattle.std.proofs.lemmas.List.{drop-map}
 use Rattle.geometry.specs.Points.{Point}
 use Rattle.simplified_topology.specs.Simplified.{retained, retained_arcs}
-use Rattle.owned_values.proofs.Lists.{drop_here}
+use Rattle.topo_model.proofs.Chosen.{following, no_more, one_longer}
 
--- what is retained so far, and what the numbers from one on still retain
-abbrev pub Picks : List ℕ → List Point → ℕ → List Point → Type 0
-Picks ns ps i now = now ++ retained (drop i ns) ps ≡ retained ns ps
+-- ---- numbers that each arc has for itself
 
-next_number : (ns : List ℕ) (i d n : ℕ) → i < length ns → n ≡ get_or ns i d → drop i ns ≡ n ∷ drop (i + 1) ns
-next_number ns i d n lt is = drop_more ns i d lt ∙ ap (λ m. m ∷ drop (i + 1) ns) (sym is)
+module _ (numbers : List Point → List ℕ) where
+  retained_last : (arcs : List (List Point)) (arc : List Point) → retained_arcs (map numbers (arcs ++ arc ∷ [])) (arcs ++ arc ∷ []) ≡ retained_arcs (map numbers arcs) arcs ++ retained (numbers arc) arc ∷ []
+  retained_last [] arc = refl
+  retained_last (a ∷ arcs) arc = ap (λ xs. retained (numbers a) a ∷ xs) (retained_last arcs arc)
 
-pub pick_none : (ns : List ℕ) (ps : List Point) (i d n : ℕ) (now : List Point) → i < length ns → n ≡ get_or ns i d → length ps ≤ n → Picks ns ps i now → Picks ns ps (i + 1) now
-pick_none ns ps i d n now lt is past so_far = grind (arith, at_got ps n, slice_get_past ps n past, next_number ns i d n lt is)
+  pub retained_more : (arcs : List (List Point)) (arc left : List Point) (now new : List (List Point)) → now ≡ retained_arcs (map numbers arcs) arcs → left ≡ retained (numbers arc) arc → new ≡ now ++ left ∷ []
+      → new ≡ retained_arcs (map numbers (arcs ++ arc ∷ [])) (arcs ++ arc ∷ [])
+  retained_more arcs arc left now new so is e = e ∙ ap (λ xs. xs ++ left ∷ []) so ∙ ap (λ x. retained_arcs (map numbers arcs) arcs ++ x ∷ []) is ∙ sym (retained_last arcs arc)
 
-pub pick_some : (ns : List ℕ) (ps : List Point) (i d n : ℕ) (p : Point) (now new : List Point) → i < length ns → n ≡ get_or ns i d → slice_get ps n ≡ Some p → new ≡ now ++ p ∷ [] → Picks ns ps i now
-    → Picks ns ps (i + 1) new
-pick_some ns ps i d n p now new lt is got e so_far = grind (arith, append_assoc, at_got, next_number)
+-- ---- numbers that are given in their order
 
--- ---- all arcs
+of_no_arcs : (kept : List (List ℕ)) → retained_arcs kept [] ≡ []
+of_no_arcs [] = refl
+of_no_arcs (is ∷ kept) = refl
 
-module _ {X : Type 0} (numbers : X → List ℕ) where
-  abbrev pub PicksAll : List X → List (List Point) → ℕ → List (List Point) → Type 0
-  PicksAll kept arcs i now = now ++ retained_arcs (map numbers (drop i kept)) (drop i arcs) ≡ retained_arcs (map numbers kept) arcs
+picked_last : (kept : List (List ℕ)) (arcs : List (List Point)) (is : List ℕ) (rest : List (List ℕ)) (arc : List Point) → is ∷ rest ≡ drop (length arcs) kept
+    → retained_arcs kept (arcs ++ arc ∷ []) ≡ retained_arcs kept arcs ++ retained is arc ∷ []
+picked_last [] [] is rest arc e = absurd cc
+picked_last [] (a ∷ arcs) is rest arc e = absurd cc
+picked_last (k ∷ kept) [] is rest arc e = let same : k ≡ is = cc in ap (λ xs. retained k arc ∷ xs) (of_no_arcs kept) ∙ ap (λ ns. retained ns arc ∷ []) same
+picked_last (k ∷ kept) (a ∷ arcs) is rest arc e = ap (λ xs. retained k a ∷ xs) (picked_last kept arcs is rest arc e)
 
-  pub pick_arc : (kept : List X) (arcs : List (List Point)) (i : ℕ) (k : X) (a : List Point) (now new : List (List Point)) → i < length kept → k ≡ get_or kept i k → slice_get arcs i ≡ Some a
-      → new ≡ now ++ retained (numbers k) a ∷ [] → PicksAll kept arcs i now → PicksAll kept arcs (i + 1) new
-  pick_arc kept arcs i k a now new lt is got e so_far =
-      let rest : List (List Point) = retained_arcs (map numbers (drop (i + 1) kept)) (drop (i + 1) arcs) in
-      ap (λ xs. xs ++ rest) e ∙ append_assoc now (retained (numbers k) a ∷ []) rest
-      ∙ ap (λ ks. now ++ retained_arcs (map numbers ks) (a ∷ drop (i + 1) arcs)) (sym (drop_here kept i k lt is))
-      ∙ ap (λ xs. now ++ retained_arcs (map numbers (drop i kept)) xs)
-      (sym (drop_more arcs i a (slice_get_within arcs i a got) ∙ ap (λ y. y ∷ drop (i + 1) arcs) (get_or_from_slice_get arcs i a a got)))
-      ∙ so_far
+picked_none : (kept : List (List ℕ)) (arcs : List (List Point)) (arc : List Point) → [] ≡ drop (length arcs) kept → retained_arcs kept (arcs ++ arc ∷ []) ≡ retained_arcs kept arcs
+picked_none [] [] arc e = refl
+picked_none [] (a ∷ arcs) arc e = refl
+picked_none (k ∷ kept) [] arc e = absurd cc
+picked_none (k ∷ kept) (a ∷ arcs) arc e = ap (λ xs. retained k a ∷ xs) (picked_none kept arcs arc e)
+
+module _ {V : Type 0} (numbers : V → List ℕ) (all : List V) where
+  -- what is retained of the arcs so far, and what has the numbers for those after them
+  pub record PicksBy (arcs : List (List Point)) (later : List V) (left : List (List Point)) : Type 0 where
+    pub later_are : later ≡ drop (length arcs) all
+    pub left_is : left ≡ retained_arcs (map numbers all) arcs
+
+  pub picks_first : (left : List (List Point)) → left ≡ [] → PicksBy [] all left
+  picks_first left none = record { later_are = refl; left_is = none ∙ sym (of_no_arcs (map numbers all)) }
+
+  pub picks_none : (arcs left : List (List Point)) (arc : List Point) (later : List V) → later ≡ [] → PicksBy arcs later left → PicksBy (arcs ++ arc ∷ []) later left
+  picks_none arcs left arc later none so =
+      let past : [] ≡ drop (length arcs) all = sym none ∙ so.later_are in record {
+        later_are = none ∙ no_more all (length arcs) past ∙ ap (λ n. drop n all) (sym (one_longer arcs arc));
+        left_is = so.left_is ∙ sym (picked_none (map numbers all) arcs arc (ap (map numbers) past ∙ sym (drop-map numbers (length arcs) all)));
+      }
+
+  pub picks_more : (arcs left new : List (List Point)) (arc stay : List Point) (own : V) (later rest : List V) → own ∷ rest ≡ later → stay ≡ retained (numbers own) arc → new ≡ left ++ stay ∷ []
+      → PicksBy arcs later left → PicksBy (arcs ++ arc ∷ []) rest new
+  picks_more arcs left new arc stay own later rest split picks e so =
+      let next : own ∷ rest ≡ drop (length arcs) all = split ∙ so.later_are in record {
+        later_are = following all (length arcs) own rest next ∙ ap (λ n. drop n all) (sym (one_longer arcs arc));
+        left_is = e ∙ ap (λ xs. xs ++ stay ∷ []) so.left_is ∙ ap (λ x. retained_arcs (map numbers all) arcs ++ x ∷ []) picks
+            ∙ sym (picked_last (map numbers all) arcs (numbers own) (map numbers rest) arc (ap (map numbers) next ∙ sym (drop-map numbers (length arcs) all)));
+      }

@@ -7,4 +7,5 @@ pub mod Passing
 pub mod Places
 pub mod Renumbering
 pub mod Rebuilding
+pub mod Retaining
 pub mod Uses

@@ -1,35 +1,35 @@
 // The topology of layers over reduced arcs.
-ghost use Rattle.std.specs.Prelude.{◌≡◌, ◌<◌, ◌≤◌, ◌^◌, IfOk, None, length, map};
+ghost use Rattle.std.specs.Prelude.{◌≡◌, ◌<◌, ◌≤◌, ◌^◌, ℕ, IfOk, List, None, length, map};
 ghost use Rattle.arc_table.specs.Arcs.{table_of};
 ghost use Rattle.build_meaning.specs.Laws.{AreSound};
 ghost use Rattle.build_meaning.specs.Layers.{layers_of, names_of};
 ghost use Rattle.byte_ends.specs.Ends.{saturated};
 ghost use Rattle.cutter.specs.Slices.{split_of};
 ghost use Rattle.geometry.specs.Units.{threshold_limit};
-ghost use Rattle.simplified_topology.specs.Assembled.{assembled, assembled_dropped, assembled_removed_count};
-ghost use Rattle.simplified_topology.specs.Simplified.{EachFromFirstToLast};
+ghost use Rattle.simplified_topology.specs.Assembled.{arcs_of_layers, assembled, assembled_dropped, assembled_removed_count};
+ghost use Rattle.simplified_topology.specs.Simplified.{retained_arcs};
 ghost use Rattle.linework.specs.Linework.{linework};
 ghost use Rattle.topojson_types.specs.Validity.{AreDistinct};
+ghost use Rattle.topo_model.specs.Retaining.{AreRetained};
 
 use crate::drafting::drafted_objects;
 use crate::finishing::finish;
-use crate::position_retaining::retained_cells_of_all;
-use arc_table::Table;
 use elimination_meaning::{ends_stay, nothing_is_new, zero_law};
 use geojson_types::{Dropped, Layer};
 use json_value::{Items, OwnText};
 use owned_values::Memory;
 use simplified_topology::assembled_is_valid;
 use std::alloc::Global;
-use topojson_types::{Cell, TopoObject, Topology};
+use topojson_types::{ArcRef, Cell, TopoObject, Topology};
 
 /// The objects and the arcs of the topology of named layers over reduced arcs, without the arcs that no kept line uses, the lines
 /// and rings that are dropped, in reading order, and how many positions are removed from the arcs that stay.
 fn objects_and_arcs(
     alloc: Global,
     layers: Vec<(OwnText, Layer)>,
-    table: Table,
-    kept: &[Vec<usize>],
+    refs: Vec<Items<ArcRef>>,
+    retained: Vec<Items<Cell>>,
+    counts: &[usize],
     ring_limit: u128,
 ) -> Result<
     (
@@ -40,49 +40,57 @@ fn objects_and_arcs(
     ),
     Memory,
 >
-    requires table { table ≡ table_of (map (split_of (linework (layers_of layers.items))) (linework (layers_of layers.items))) }
+    requires refs { refs.items ≡ (table_of (map (split_of (linework (layers_of layers.items))) (linework (layers_of layers.items)))).refs }
     requires sound { AreSound layers.items }
     requires names { AreDistinct (names_of layers.items) }
-    requires kept { EachFromFirstToLast (map (λ k. k.items) kept.now) table.arcs }
+    requires retained { AreRetained (arcs_of_layers layers.items) retained.items }
+    requires counts { counts.now ≡ map length (arcs_of_layers layers.items) }
     requires limit { ring_limit ≤ threshold_limit }
-    ensures assembled { IfOk result
-        (λ r. assembled (map (λ k. k.items) kept.now) ring_limit layers.items ≡ record { objects = r.0.items; arcs = r.1.items; transform = None }) }
-    ensures dropped { IfOk result (λ r. r.2.items ≡ assembled_dropped (map (λ k. k.items) kept.now) ring_limit layers.items) }
-    ensures removed_count { IfOk result (λ r. r.3 ≡ saturated (assembled_removed_count (map (λ k. k.items) kept.now) ring_limit layers.items)) }
+    ensures assembled { IfOk result (λ r. (kept : List (List ℕ)) → retained.items ≡ retained_arcs kept (arcs_of_layers layers.items)
+        → assembled kept ring_limit layers.items ≡ record { objects = r.0.items; arcs = r.1.items; transform = None }) }
+    ensures dropped { IfOk result (λ r. (kept : List (List ℕ)) → retained.items ≡ retained_arcs kept (arcs_of_layers layers.items)
+        → r.2.items ≡ assembled_dropped kept ring_limit layers.items) }
+    ensures removed_count { IfOk result (λ r. (kept : List (List ℕ)) → retained.items ≡ retained_arcs kept (arcs_of_layers layers.items)
+        → r.3 ≡ saturated (assembled_removed_count kept ring_limit layers.items)) }
 {
     zero_law();
     ends_stay();
     nothing_is_new();
-    let retained = retained_cells_of_all(alloc, kept, &table)?;
-    let (arcs, refs) = table.into_parts();
     let objects = drafted_objects(alloc, layers, refs)?;
-    finish(alloc, objects, &arcs, retained, None, ring_limit)
+    finish(alloc, objects, retained, counts, None, ring_limit)
 }
 
-/// The topology of named layers over the arcs of their lines, where of each arc the positions with these numbers are kept: a list
-/// for each arc, from its first position to its last. Lines and rings that are then left with too few positions,
-/// rings of which twice the area is under the limit (in square units), and arcs that no kept line uses are left out. With it come the
-/// lines and rings that are dropped, in reading order, and how many positions are removed from the arcs that stay: a count that stays
-/// at `u64::MAX` where it would pass it.
+/// The topology of named layers over the arcs of their lines, of each of which only some positions are retained, from its first to its
+/// last. It is given which arcs each line or ring has, and how many positions each arc had. Lines and rings that are then left with too few
+/// positions, rings of which twice the area is under the limit (in square units), and arcs that no kept line uses are left out. With it
+/// come the lines and rings that are dropped, in reading order, and how many positions are removed from the arcs that stay: a count that
+/// stays at `u64::MAX` where it would pass it.
 pub fn assemble(
     alloc: Global,
     layers: Vec<(OwnText, Layer)>,
-    table: Table,
-    kept: &[Vec<usize>],
+    refs: Vec<Items<ArcRef>>,
+    retained: Vec<Items<Cell>>,
+    counts: &[usize],
     ring_limit: u128,
 ) -> Result<(Topology, Vec<Dropped>, u64), Memory>
-    requires table { table ≡ table_of (map (split_of (linework (layers_of layers.items))) (linework (layers_of layers.items))) }
+    requires refs { refs.items ≡ (table_of (map (split_of (linework (layers_of layers.items))) (linework (layers_of layers.items)))).refs }
     requires sound { AreSound layers.items }
     requires names { AreDistinct (names_of layers.items) }
-    requires kept { EachFromFirstToLast (map (λ k. k.items) kept.now) table.arcs }
+    requires retained { AreRetained (arcs_of_layers layers.items) retained.items }
+    requires counts { counts.now ≡ map length (arcs_of_layers layers.items) }
     requires limit { ring_limit ≤ threshold_limit }
-    ensures topology { IfOk result (λ r. r.0 ≡ assembled (map (λ k. k.items) kept.now) ring_limit layers.items) }
-    ensures dropped { IfOk result (λ r. r.1.items ≡ assembled_dropped (map (λ k. k.items) kept.now) ring_limit layers.items) }
-    ensures removed_count { IfOk result (λ r. r.2 ≡ saturated (assembled_removed_count (map (λ k. k.items) kept.now) ring_limit layers.items)) }
+    ensures topology { IfOk result (λ r. (kept : List (List ℕ)) → retained.items ≡ retained_arcs kept (arcs_of_layers layers.items)
+        → r.0 ≡ assembled kept ring_limit layers.items) }
+    ensures dropped { IfOk result (λ r. (kept : List (List ℕ)) → retained.items ≡ retained_arcs kept (arcs_of_layers layers.items)
+        → r.1.items ≡ assembled_dropped kept ring_limit layers.items) }
+    ensures removed_count { IfOk result (λ r. (kept : List (List ℕ)) → retained.items ≡ retained_arcs kept (arcs_of_layers layers.items)
+        → r.2 ≡ saturated (assembled_removed_count kept ring_limit layers.items)) }
     ensures few { IfOk result (λ r. length r.0.arcs < 2 ^ 63) }
 {
     assembled_is_valid();
-    let (objects, arcs, dropped, taken) = objects_and_arcs(alloc, layers, table, kept, ring_limit)?;
+    let (objects, arcs, dropped, taken) = objects_and_arcs(
+        alloc, layers, refs, retained, counts, ring_limit,
+    )?;
     let topology = Topology::of(Items::of(objects), Items::of(arcs), None);
     Ok((topology, dropped, taken))
 }

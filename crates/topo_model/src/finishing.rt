@@ -1,5 +1,5 @@
 // What is left of a draft of a topology.
-ghost use Rattle.std.specs.Prelude.{◌≡◌, ◌-◌, ◌≤◌, ℕ, Bool, IfOk, OnOk, length, map, sum};
+ghost use Rattle.std.specs.Prelude.{◌≡◌, ◌-◌, ◌≤◌, ℕ, Bool, IfOk, OnOk, length, sum};
 ghost use Rattle.std.specs.List.{AllByRecursion};
 ghost use Rattle.std.specs.Option.{option_copied};
 ghost use Rattle.topo_model.specs.Uses.{answers};
@@ -19,9 +19,10 @@ use crate::arc_uses::used_arcs;
 use crate::choosing::Renumbered;
 use crate::dropping::dropped_lines;
 use crate::placing::placed_arcs;
+use crate::position_counting::position_sum;
 use crate::pruning::prune_objects;
 use crate::rebuilding::Rebuilding;
-use crate::trimming::{kept_arcs, removed_count, renumbering, used_positions};
+use crate::trimming::{kept_arcs, removed_count, renumbering, used_sum};
 use geojson_types::Dropped;
 use json_value::{Items, OwnText};
 use owned_values::Memory;
@@ -81,37 +82,37 @@ fn renumber(
     prune_objects(alloc, &Renumbered::by(&renumbering), objects)
 }
 
-/// The retained arcs without those that no line or ring of the objects uses, and how many of the positions of the others were not retained.
-/// The objects have the new indexes.
-fn without_unused<P>(
+/// The retained arcs without those that no line or ring of the objects uses, and how many of the positions of the others were not retained,
+/// where each arc had so many. The objects have the new indexes.
+fn without_unused(
     alloc: Global,
     objects: &mut [(OwnText, TopoObject)],
-    arcs: &[Items<P>],
     retained: Vec<Items<Cell>>,
+    counts: &[usize],
 ) -> Result<(Vec<Items<Cell>>, u64), Memory>
-    requires many { length retained.items ≡ length arcs.now }
+    requires many { length retained.items ≡ length counts.now }
     requires ranged { AllByRecursion (λ b. AreInRange (length retained.items) b.1) (objects_lines_and_rings objects.old) }
     ensures objects { OnOk result (objects.new ≡ objects_pruned (line_renumbered (is_used objects.old)) objects.old) }
     ensures arcs { IfOk result (λ r. r.0.items ≡ keep_from (is_used objects.old) 0 retained.items) }
     ensures removed_count { IfOk result (λ r. r.1
-        ≡ saturated (sum (map length (keep_from (is_used objects.old) 0 arcs.now)) - positions_of (keep_from (is_used objects.old) 0 retained.items))) }
+        ≡ saturated (sum (keep_from (is_used objects.old) 0 counts.now) - positions_of (keep_from (is_used objects.old) 0 retained.items))) }
 {
     let used = used_arcs(alloc, objects, retained.len())?;
-    let before = used_positions(arcs, &used);
-    let after = used_positions(&retained, &used);
+    let before = used_sum(counts, &used);
     renumber(alloc, objects, &used)?;
     let stay = kept_arcs(alloc, retained, &used)?;
+    let after = position_sum(&stay);
     Ok((stay, removed_count(before, after)))
 }
 
-/// What is left of objects over arcs of which only the retained cells stay: without the lines and rings that have no arc index, or are
-/// small, and without the arcs that no other line uses; the lines and rings that are dropped, in reading order, an
+/// What is left of objects over arcs of which only the retained cells stay, and which had so many: without the lines and rings that have no
+/// arc index, or are small, and without the arcs that no other line uses; the lines and rings that are dropped, in reading order, an
 /// object in the place of a layer; and how many positions of the arcs that stay were not retained.
-pub fn finish<P>(
+pub fn finish(
     alloc: Global,
     objects: Vec<(OwnText, TopoObject)>,
-    arcs: &[Items<P>],
     retained: Vec<Items<Cell>>,
+    counts: &[usize],
     transform: Option<&Transform>,
     ring_limit: u128,
 ) -> Result<
@@ -125,18 +126,18 @@ pub fn finish<P>(
 >
     requires places { AllByRecursion (λ arc. AllByRecursion (IsPlace (option_copied transform)) arc) retained.items }
     requires limit { ring_limit ≤ threshold_limit }
-    requires many { length retained.items ≡ length arcs.now }
+    requires many { length retained.items ≡ length counts.now }
     requires ranged { AllByRecursion (λ b. AreInRange (length retained.items) b.1)
         (objects_lines_and_rings (objects_pruned (large_refs ring_limit (all_placed (option_copied transform) retained.items)) objects.items)) }
     ensures left { IfOk result (λ r. contents r.0.items r.1.items (option_copied transform.entry)
         ≡ trimmed (contents (objects_pruned (large_refs ring_limit (all_placed (option_copied transform.entry) retained.items)) objects.items) retained.items (option_copied transform.entry))) }
     ensures dropped { IfOk result (λ r. r.2.items ≡ objects_drops (record { arcs = all_placed (option_copied transform.entry) retained.items; limit = ring_limit }) 0 objects.items) }
     ensures removed_count { IfOk result (λ r. r.3
-        ≡ saturated (sum (map length (keep_from (is_used (objects_pruned (large_refs ring_limit (all_placed (option_copied transform.entry) retained.items)) objects.items)) 0 arcs.now))
+        ≡ saturated (sum (keep_from (is_used (objects_pruned (large_refs ring_limit (all_placed (option_copied transform.entry) retained.items)) objects.items)) 0 counts.now)
         - positions_of (keep_from (is_used (objects_pruned (large_refs ring_limit (all_placed (option_copied transform.entry) retained.items)) objects.items)) 0 retained.items))) }
 {
     let mut left = objects;
     let dropped = leave_out_dropped(alloc, left.as_mut_slice(), &retained, transform, ring_limit)?;
-    let (stay, taken) = without_unused(alloc, left.as_mut_slice(), arcs, retained)?;
+    let (stay, taken) = without_unused(alloc, left.as_mut_slice(), retained, counts)?;
     Ok((left, stay, dropped, taken))
 }

@@ -1,14 +1,14 @@
-//! From layers and the table of their arcs to a topology (TopoJSON 1.0) over reduced arcs, of each of which only some positions are kept,
+//! From layers and the indexes of their arcs to a topology (TopoJSON 1.0) over reduced arcs, of each of which only some positions are left,
 //! and simplifying a topology in the same way. Layers become a draft, in which each line and ring is replaced by its arc indexes
 //! (`specs/Drafts.antt`); a topology is a draft as it is. There is one way to finish a draft: lines and rings that are left with too few
-//! positions or enclose too little are dropped, arcs that no kept line uses are left out, and the others have new indexes. It stands on
-//! `simplified_topology`, which says what topology that is and when it is what is built of the layers, and on `arc_table`. The layers above
-//! use the contracts of `assemble`, of `finish` and of `Reduces::reduce`.
+//! positions or enclose too little are dropped, arcs that no kept line uses are left out, and the others have new indexes. What is left of
+//! an arc is picked of it alone (`retained_positions`, `retained_cells`), so that it can be let go before the next is reduced. It stands
+//! on `simplified_topology`, which says what topology that is and when it is what is built of the layers, and on `arc_table`. The layers
+//! above use the contracts of `assemble` and of `reassemble`.
 #![tactic(auto)]
 
 mod arc_uses;
 mod assembling;
-mod cell_retaining;
 mod choosing;
 mod drafting;
 mod dropping;
@@ -18,10 +18,11 @@ mod marking;
 mod places;
 mod placing;
 mod position_cells;
-mod position_retaining;
+mod position_counting;
 mod pruning;
+mod reassembling;
 mod rebuilding;
-mod reducing;
+mod retaining;
 mod trimming;
 
 pub use assembling::assemble;
@@ -29,10 +30,12 @@ pub use finishing::finish;
 pub use marking::{mark_refs, unused_flags};
 pub use places::{Place, add_here, add_part, hole_cause};
 pub use position_cells::cells;
+pub use position_counting::position_counts;
+pub use reassembling::reassemble;
 pub use rebuilding::{Rebuilding, is_short_line};
-pub use reducing::Reduces;
+pub use retaining::{retained_cells, retained_positions};
 pub use topojson_types::{
     ArcRef, CELL_LIMIT, Cell, GRID_LIMIT, SumFault, TopoFeature, TopoObject, TopoShape, Topology,
     Transform, TransformNumber, placed, sums,
 };
-pub use trimming::{kept_arcs, removed_count, renumber_all, renumbering, used_positions};
+pub use trimming::{kept_arcs, removed_count, renumber_all, renumbering};

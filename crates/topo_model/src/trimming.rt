@@ -80,13 +80,13 @@ pub fn kept_arcs(
     Ok(kept)
 }
 
-/// The positions of the arcs with a set flag.
-pub fn used_positions<P>(arcs: &[Items<P>], used: &[bool]) -> u128
-    ensures { result ≡ sum (map length (chosen used.now arcs.now)) }
+/// The sum of the counts with a set flag.
+pub fn used_sum(counts: &[usize], used: &[bool]) -> u128
+    ensures { result ≡ sum (chosen used.now counts.now) }
 {
-    let mut count: u128 = 0;
+    let mut total: u128 = 0;
     let mut flags = used;
-    'arcs: for arc in arcs {
+    'counts: for count in counts {
         let Some((flag, rest)) = flags.split_first() else {
             continue;
         };
@@ -94,9 +94,9 @@ pub fn used_positions<P>(arcs: &[Items<P>], used: &[bool]) -> u128
         if !*flag {
             continue;
         }
-        count += arc.len() as u128;
+        total += *count as u128;
     }
-    count
+    total
 }
 
 /// How many of so many positions are removed where so many stay: a count that stays at `u64::MAX` where it would pass it.

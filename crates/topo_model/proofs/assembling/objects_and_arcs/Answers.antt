@@ -1,6 +1,7 @@
 use Rattle.std.proofs.Common.{ℕ, ◌-◌, List, map, length, sym, ap, ◌∙◌, subst}
 use Rattle.std.specs.Prelude.{sum}
 use Rattle.std.specs.List.{AllByRecursion}
+use Rattle.std.proofs.lemmas.List.{length-map}
 use Rattle.std.proofs.lemmas.Result.{IfOk-weaker}
 use Rattle.build_meaning.specs.Built.{positions_of, untrimmed}
 use Rattle.build_meaning.specs.Trimming.{is_used, keep_from, trimmed}
@@ -8,68 +9,62 @@ use Rattle.build_meaning.proofs.ValidUntrimmed.{untrimmed_is_valid}
 use Rattle.byte_ends.specs.Ends.{saturated}
 use Rattle.geometry.specs.Joins.{AreInRange}
 use Rattle.geometry.specs.Points.{Point}
-use Rattle.simplified_topology.specs.Assembled.{own_refs}
-use Rattle.simplified_topology.specs.Simplified.{EachFromFirstToLast, large_refs, objects_pruned}
+use Rattle.simplified_topology.specs.Assembled.{arcs_of_layers, own_refs}
+use Rattle.simplified_topology.specs.Simplified.{large_refs, objects_pruned}
 use Rattle.simplified_topology.proofs.Assembled.{contents}
 use Rattle.topojson_types.specs.Topologies.{objects_lines_and_rings}
 use Rattle.topo_model.specs.Drops.{objects_drops}
 use Rattle.topo_model.proofs.Result as result
 use Rattle.topo_model.specs.Drafts.{objects_drafted}
-use Rattle.topo_model.proofs.Assembled.{as_many, drops_are, is_assembled, removed_count_is, lines_of, retained_is, ranged, same_arcs, table_refs}
+use Rattle.topo_model.proofs.Assembled.{drops_are, is_assembled, removed_count_is, lines_of, many, retained_is, ranged, table_refs}
 use Rattle.topo_model.proofs.assembling.objects_and_arcs.Goals as goal
-
-pub retained_cells_of_all-requires : goal.retained_cells_of_all-requires
-retained_cells_of_all-requires c = as_many (λ k. k.items) c.args.kept.now c.args.table.arcs c.requires.kept
 
 pub finish-requires-clause-places : goal.finish-requires-clause-places
 finish-requires-clause-places c =
-    let kept : List (List ℕ) = map (λ k. k.items) c.args.kept.now in
-    let is = retained_is kept c.args.ring_limit c.args.layers.items c.args.table c.requires.table c.zero_law.ensures c.requires.sound c.in_ok-retained.retained.items c.in_ok-retained.ensures in
+    let r = c.requires.retained in
+    let is = retained_is r.kept c.args.ring_limit c.args.layers.items c.zero_law.ensures c.requires.sound c.args.retained.items r.picks in
     let valid = untrimmed_is_valid c.ends_stay.ensures c.nothing_is_new.ensures 0 0 c.args.layers.items c.requires.sound c.requires.names in
-    result.places_are kept c.args.ring_limit (untrimmed 0 0 c.args.layers.items) c.in_ok-retained.retained.items is valid
+    result.places_are r.kept c.args.ring_limit (untrimmed 0 0 c.args.layers.items) c.args.retained.items is valid
 
 pub finish-requires-clause-many : goal.finish-requires-clause-many
 finish-requires-clause-many c =
-    let kept : List (List ℕ) = map (λ k. k.items) c.args.kept.now in
-    let is = retained_is kept c.args.ring_limit c.args.layers.items c.args.table c.requires.table c.zero_law.ensures c.requires.sound c.in_ok-retained.retained.items c.in_ok-retained.ensures in
-    let same = same_arcs kept c.args.ring_limit c.args.layers.items c.args.table c.requires.table c.zero_law.ensures c.requires.sound c.in_ok-retained.retained.items c.in_ok-retained.ensures in
-    let through = subst (EachFromFirstToLast kept) same c.requires.kept in
-    result.retained_long kept c.args.ring_limit (untrimmed 0 0 c.args.layers.items) c.in_ok-retained.retained.items is through ∙ ap length (sym same ∙ sym (c.deref.ensures.value ∙ c.into_parts-arcs.ensures.arcs))
+    let r = c.requires.retained in
+    many r.kept c.args.ring_limit c.args.layers.items c.zero_law.ensures c.requires.sound c.args.retained.items r.picks r.through
+    ∙ sym (ap length c.requires.counts ∙ length-map (arcs_of_layers c.args.layers.items) length)
 
 pub finish-requires-clause-ranged : goal.finish-requires-clause-ranged
 finish-requires-clause-ranged c =
-    let kept : List (List ℕ) = map (λ k. k.items) c.args.kept.now in
-    let retained = c.in_ok-retained.retained.items in
+    let r = c.requires.retained in
+    let retained = c.args.retained.items in
     let valid = untrimmed_is_valid c.ends_stay.ensures c.nothing_is_new.ensures 0 0 c.args.layers.items c.requires.sound c.requires.names in
-    let drafted = c.in_ok-objects.ensures (own_refs (lines_of c.args.layers.items)) (c.into_parts-arcs.ensures.refs ∙ table_refs c.args.layers.items c.args.table c.requires.table) in
+    let drafted = c.in_ok-objects.ensures (own_refs (lines_of c.args.layers.items)) (c.requires.refs ∙ table_refs c.args.layers.items) in
     subst (λ os. AllByRecursion (λ b. AreInRange (length retained) b.1) (objects_lines_and_rings (objects_pruned (large_refs c.args.ring_limit retained) os))) (sym drafted)
-    (ranged kept c.args.ring_limit c.args.layers.items c.args.table c.requires.table c.zero_law.ensures c.requires.sound retained c.in_ok-retained.ensures valid c.requires.kept)
+    (ranged r.kept c.args.ring_limit c.args.layers.items c.zero_law.ensures c.requires.sound retained r.picks valid r.through)
 
 pub returns-clause-assembled : goal.returns-clause-assembled
 returns-clause-assembled c =
-    let kept : List (List ℕ) = map (λ k. k.items) c.args.kept.now in
-    let retained = c.in_ok-retained.retained.items in
-    let drafted = c.in_ok-objects.ensures (own_refs (lines_of c.args.layers.items)) (c.into_parts-arcs.ensures.refs ∙ table_refs c.args.layers.items c.args.table c.requires.table) in
+    let retained = c.args.retained.items in
+    let drafted = c.in_ok-objects.ensures (own_refs (lines_of c.args.layers.items)) (c.requires.refs ∙ table_refs c.args.layers.items) in
     IfOk-weaker c.finish.result _ _
-    (λ r h. sym (h ∙ ap (λ os. trimmed (contents (objects_pruned (large_refs c.args.ring_limit retained) os) retained)) drafted
-    ∙ is_assembled kept c.args.ring_limit c.args.layers.items c.args.table c.requires.table c.zero_law.ensures c.requires.sound retained c.in_ok-retained.ensures)) c.finish.ensures.left
+    (λ r h kept picks. sym (h ∙ ap (λ os. trimmed (contents (objects_pruned (large_refs c.args.ring_limit retained) os) retained)) drafted
+    ∙ is_assembled kept c.args.ring_limit c.args.layers.items c.zero_law.ensures c.requires.sound retained picks)) c.finish.ensures.left
 
 pub returns-clause-dropped : goal.returns-clause-dropped
 returns-clause-dropped c =
-    let kept : List (List ℕ) = map (λ k. k.items) c.args.kept.now in
-    let retained = c.in_ok-retained.retained.items in
-    let drafted = c.in_ok-objects.ensures (own_refs (lines_of c.args.layers.items)) (c.into_parts-arcs.ensures.refs ∙ table_refs c.args.layers.items c.args.table c.requires.table) in
+    let retained = c.args.retained.items in
+    let drafted = c.in_ok-objects.ensures (own_refs (lines_of c.args.layers.items)) (c.requires.refs ∙ table_refs c.args.layers.items) in
     IfOk-weaker c.finish.result _ _
-    (λ r h. h ∙ ap (objects_drops (record { arcs = retained; limit = c.args.ring_limit }) 0) drafted
-    ∙ drops_are kept c.args.ring_limit c.args.layers.items c.args.table c.requires.table c.zero_law.ensures c.requires.sound retained c.in_ok-retained.ensures) c.finish.ensures.dropped
+    (λ r h kept picks. h ∙ ap (objects_drops (record { arcs = retained; limit = c.args.ring_limit }) 0) drafted
+    ∙ drops_are kept c.args.ring_limit c.args.layers.items c.zero_law.ensures c.requires.sound retained picks) c.finish.ensures.dropped
 
 pub returns-clause-removed_count : goal.returns-clause-removed_count
 returns-clause-removed_count c =
-    let kept : List (List ℕ) = map (λ k. k.items) c.args.kept.now in
-    let retained = c.in_ok-retained.retained.items in
-    let drafted = c.in_ok-objects.ensures (own_refs (lines_of c.args.layers.items)) (c.into_parts-arcs.ensures.refs ∙ table_refs c.args.layers.items c.args.table c.requires.table) in
+    let retained = c.args.retained.items in
+    let drafted = c.in_ok-objects.ensures (own_refs (lines_of c.args.layers.items)) (c.requires.refs ∙ table_refs c.args.layers.items) in
     IfOk-weaker c.finish.result _ _
-    (λ r h. h ∙ ap (λ os. saturated (sum (map length (keep_from (is_used (objects_pruned (large_refs c.args.ring_limit retained) os)) 0 c.deref.result.now)) - positions_of (keep_from (is_used (objects_pruned (large_refs c.args.ring_limit retained) os)) 0 retained))) drafted
-    ∙ ap saturated (ap (λ (arcs : List (List Point)). sum (map length (keep_from (is_used (objects_pruned (large_refs c.args.ring_limit retained) (objects_drafted (own_refs (lines_of c.args.layers.items)) c.args.layers.items))) 0 arcs))
-    - positions_of (keep_from (is_used (objects_pruned (large_refs c.args.ring_limit retained) (objects_drafted (own_refs (lines_of c.args.layers.items)) c.args.layers.items))) 0 retained)) (c.deref.ensures.value ∙ c.into_parts-arcs.ensures.arcs)
-    ∙ removed_count_is kept c.args.ring_limit c.args.layers.items c.args.table c.requires.table c.zero_law.ensures c.requires.sound retained c.in_ok-retained.ensures)) c.finish.ensures.removed_count
+    (λ r h kept picks. h
+    ∙ ap (λ os. saturated (sum (keep_from (is_used (objects_pruned (large_refs c.args.ring_limit retained) os)) 0 c.args.counts.now)
+    - positions_of (keep_from (is_used (objects_pruned (large_refs c.args.ring_limit retained) os)) 0 retained))) drafted
+    ∙ ap saturated (ap (λ (ns : List ℕ). sum (keep_from (is_used (objects_pruned (large_refs c.args.ring_limit retained) (objects_drafted (own_refs (lines_of c.args.layers.items)) c.args.layers.items))) 0 ns)
+    - positions_of (keep_from (is_used (objects_pruned (large_refs c.args.ring_limit retained) (objects_drafted (own_refs (lines_of c.args.layers.items)) c.args.layers.items))) 0 retained)) c.requires.counts
+    ∙ removed_count_is kept c.args.ring_limit c.args.layers.items c.zero_law.ensures c.requires.sound retained picks)) c.finish.ensures.removed_count

@@ -1,4 +1,4 @@
-use Rattle.std.proofs.Common.{◌-◌, ◌++◌, length, map, take, drop, ap, sym, subst, ◌∙◌}
+use Rattle.std.proofs.Common.{◌-◌, ◌++◌, length, take, drop, ap, sym, subst, ◌∙◌}
 use Rattle.std.specs.Prelude.{sum}
 use Rattle.std.specs.List.{AllByRecursion}
 use Rattle.std.specs.Option.{option_copied}
@@ -15,10 +15,10 @@ use Rattle.topo_model.proofs.Result.{as_many, finished, put_back}
 use Rattle.topo_model.proofs.finishing.finish.Goals as goal
 
 pub leave_out_dropped-requires-clause-places : goal.leave_out_dropped-requires-clause-places
-leave_out_dropped-requires-clause-places o c = subst (AllByRecursion (λ a. AllByRecursion (IsPlace (option_copied c.args.transform)) a)) (sym c.deref.ensures.value) c.requires.places
+leave_out_dropped-requires-clause-places c = subst (AllByRecursion (λ a. AllByRecursion (IsPlace (option_copied c.args.transform)) a)) (sym c.deref.ensures.value) c.requires.places
 
 pub without_unused-requires-clause-ranged : goal.without_unused-requires-clause-ranged
-without_unused-requires-clause-ranged o c =
+without_unused-requires-clause-ranged c =
     let kept : Refs = large_refs c.args.ring_limit (placed_arcs (option_copied c.args.transform) c.args.retained.items) in
     let pruned = c.in_ok-dropped.ensures.objects ∙ ap (λ arcs. objects_pruned (large_refs c.args.ring_limit (placed_arcs (option_copied c.args.transform) arcs)) c.as_mut_slice.result.now) c.deref.ensures.value in
     let large = c.as_mut_slice-2.ensures.value ∙ put_back kept c.args.objects.len c.args.objects.items c.as_mut_slice.result.now c.leave_out_dropped.new.objects c.args.objects.ok.0 c.as_mut_slice.ensures.value pruned
@@ -26,7 +26,7 @@ without_unused-requires-clause-ranged o c =
     subst (λ os. AllByRecursion (λ b. AreInRange (length c.args.retained.items) b.1) (objects_lines_and_rings os)) (sym large) c.requires.ranged
 
 pub returns-clause-left : goal.returns-clause-left
-returns-clause-left o c =
+returns-clause-left c =
     let kept : Refs = large_refs c.args.ring_limit (placed_arcs (option_copied c.args.transform) c.args.retained.items) in
     let pruned = c.in_ok-dropped.ensures.objects ∙ ap (λ arcs. objects_pruned (large_refs c.args.ring_limit (placed_arcs (option_copied c.args.transform) arcs)) c.as_mut_slice.result.now) c.deref.ensures.value in
     let back = put_back kept c.args.objects.len c.args.objects.items c.as_mut_slice.result.now c.leave_out_dropped.new.objects c.args.objects.ok.0 c.as_mut_slice.ensures.value pruned
@@ -38,15 +38,15 @@ returns-clause-left o c =
     c.args.retained.items c.in_ok-stay.stay.items (option_copied c.args.transform) (c.as_mut_slice-2.ensures.value ∙ back) left c.in_ok-stay.ensures.arcs
 
 pub returns-clause-dropped : goal.returns-clause-dropped
-returns-clause-dropped o c =
+returns-clause-dropped c =
     c.in_ok-dropped.ensures.dropped ∙ ap (λ arcs. objects_drops (record { arcs = placed_arcs (option_copied c.args.transform) arcs; limit = c.args.ring_limit }) 0 c.as_mut_slice.result.now) c.deref.ensures.value
     ∙ ap (objects_drops (record { arcs = placed_arcs (option_copied c.args.transform) c.args.retained.items; limit = c.args.ring_limit }) 0) c.as_mut_slice.ensures.value
 
 pub returns-clause-removed_count : goal.returns-clause-removed_count
-returns-clause-removed_count o c =
+returns-clause-removed_count c =
     let kept : Refs = large_refs c.args.ring_limit (placed_arcs (option_copied c.args.transform) c.args.retained.items) in
     let pruned = c.in_ok-dropped.ensures.objects ∙ ap (λ arcs. objects_pruned (large_refs c.args.ring_limit (placed_arcs (option_copied c.args.transform) arcs)) c.as_mut_slice.result.now) c.deref.ensures.value in
     let large = c.as_mut_slice-2.ensures.value ∙ put_back kept c.args.objects.len c.args.objects.items c.as_mut_slice.result.now c.leave_out_dropped.new.objects c.args.objects.ok.0 c.as_mut_slice.ensures.value pruned
     ∙ ap (objects_pruned kept) c.as_mut_slice.ensures.value in
     c.in_ok-stay.ensures.removed_count
-    ∙ ap (λ os. saturated (sum (map length (keep_from (is_used os) 0 c.args.arcs.now)) - positions_of (keep_from (is_used os) 0 c.args.retained.items))) large
+    ∙ ap (λ os. saturated (sum (keep_from (is_used os) 0 c.args.counts.now) - positions_of (keep_from (is_used os) 0 c.args.retained.items))) large

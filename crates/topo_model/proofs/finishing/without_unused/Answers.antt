@@ -1,7 +1,7 @@
-use Rattle.std.proofs.Common.{◌≡◌, ◌-◌, length, map, ap, subst, ◌∙◌, refl}
+use Rattle.std.proofs.Common.{◌≡◌, ◌-◌, length, ap, subst, ◌∙◌, refl}
 use Rattle.std.specs.Prelude.{sum}
 use Rattle.std.specs.List.{AllByRecursion}
-use Rattle.topo_model.specs.Uses.{answers, chosen}
+use Rattle.topo_model.specs.Uses.{answers}
 use Rattle.topo_model.proofs.Chosen.{chosen_as}
 use Rattle.build_meaning.specs.Built.{positions_of}
 use Rattle.build_meaning.specs.Trimming.{is_used, keep_from}
@@ -12,31 +12,31 @@ use Rattle.topo_model.proofs.Result.{flags_are, flags_long}
 use Rattle.topo_model.proofs.finishing.without_unused.Goals as goal
 
 pub renumber-requires : goal.renumber-requires
-renumber-requires o c =
+renumber-requires c =
     let flags : c.in_ok-used.used.items ≡ answers (is_used c.args.objects.now) 0 (length c.args.retained.items) =
     flags_are c.args.objects.now c.args.objects.now c.args.retained.items c.len.result c.in_ok-used.used.items refl (c.len.ensures ∙ c.args.retained.ok.0) c.in_ok-used.ensures in
     subst (λ n. AllByRecursion (λ b. AreInRange n b.1) (objects_lines_and_rings c.args.objects.now))
-    (flags_long (is_used c.args.objects.now) c.in_ok-used.used.items c.deref-4.result.now (length c.args.retained.items) flags c.deref-4.ensures.value).1 c.requires.ranged
+    (flags_long (is_used c.args.objects.now) c.in_ok-used.used.items c.deref-2.result.now (length c.args.retained.items) flags c.deref-2.ensures.value).1 c.requires.ranged
 
 pub returns-clause-objects : goal.returns-clause-objects
-returns-clause-objects o c =
+returns-clause-objects c =
     let flags : c.in_ok-used.used.items ≡ answers (is_used c.args.objects.now) 0 (length c.args.retained.items) =
     flags_are c.args.objects.now c.args.objects.now c.args.retained.items c.len.result c.in_ok-used.used.items refl (c.len.ensures ∙ c.args.retained.ok.0) c.in_ok-used.ensures in
-    c.in_ok-renumber.ensures (is_used c.args.objects.now) (flags_long (is_used c.args.objects.now) c.in_ok-used.used.items c.deref-4.result.now (length c.args.retained.items) flags c.deref-4.ensures.value).0
+    c.in_ok-renumber.ensures (is_used c.args.objects.now) (flags_long (is_used c.args.objects.now) c.in_ok-used.used.items c.deref-2.result.now (length c.args.retained.items) flags c.deref-2.ensures.value).0
 
 pub returns-clause-arcs : goal.returns-clause-arcs
-returns-clause-arcs o c =
+returns-clause-arcs c =
     let flags : c.in_ok-used.used.items ≡ answers (is_used c.args.objects.now) 0 (length c.args.retained.items) =
     flags_are c.args.objects.now c.args.objects.now c.args.retained.items c.len.result c.in_ok-used.used.items refl (c.len.ensures ∙ c.args.retained.ok.0) c.in_ok-used.ensures in
-    c.in_ok-stay.ensures ∙ chosen_as (is_used c.args.objects.now) (length c.args.retained.items) c.deref-5.result.now c.args.retained.items (c.deref-5.ensures.value ∙ flags) refl
+    c.in_ok-stay.ensures ∙ chosen_as (is_used c.args.objects.now) (length c.args.retained.items) c.deref-3.result.now c.args.retained.items (c.deref-3.ensures.value ∙ flags) refl
 
 pub returns-clause-removed_count : goal.returns-clause-removed_count
-returns-clause-removed_count o c =
+returns-clause-removed_count c =
     let u = is_used c.args.objects.now in
     let n = length c.args.retained.items in
     let flags : c.in_ok-used.used.items ≡ answers (is_used c.args.objects.now) 0 (length c.args.retained.items) =
     flags_are c.args.objects.now c.args.objects.now c.args.retained.items c.len.result c.in_ok-used.used.items refl (c.len.ensures ∙ c.args.retained.ok.0) c.in_ok-used.ensures in
+    let stay = c.in_ok-stay.ensures ∙ chosen_as u n c.deref-3.result.now c.args.retained.items (c.deref-3.ensures.value ∙ flags) refl in
     c.removed_count.ensures
-    ∙ ap (λ k. saturated (k - c.used_positions-after.result)) (c.used_positions-before.ensures ∙ ap (λ xs. sum (map length xs)) (chosen_as u n c.deref.result.now c.args.arcs.now (c.deref.ensures.value ∙ flags) c.requires.many))
-    ∙ ap (λ k. saturated (sum (map length (keep_from u 0 c.args.arcs.now)) - k))
-    (c.used_positions-after.ensures ∙ ap (λ arcs. positions_of (chosen c.deref-3.result.now arcs)) c.deref-2.ensures.value ∙ ap positions_of (chosen_as u n c.deref-3.result.now c.args.retained.items (c.deref-3.ensures.value ∙ flags) refl))
+    ∙ ap (λ k. saturated (k - c.position_sum-after.result)) (c.used_sum-before.ensures ∙ ap sum (chosen_as u n c.deref.result.now c.args.counts.now (c.deref.ensures.value ∙ flags) c.requires.many))
+    ∙ ap (λ k. saturated (sum (keep_from u 0 c.args.counts.now) - k)) (c.position_sum-after.ensures ∙ ap positions_of (c.deref-4.ensures.value ∙ stay))

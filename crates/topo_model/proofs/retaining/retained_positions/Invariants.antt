@@ -1,7 +1,7 @@
 use Rattle.std.proofs.Common.{◌≡◌, take}
 use Rattle.geometry.specs.Joins.{at}
 use Rattle.geometry.specs.Lists.{some_of}
-use Rattle.topo_model.proofs.cell_retaining.retained_cells.Given as goal
+use Rattle.topo_model.proofs.retaining.retained_positions.Given as goal
 
 abbrev pub invariant-numbers : goal.invariant-numbers
-invariant-numbers l = l.stay.items ≡ some_of (at l.cells) (take l.number-index l.numbers)
+invariant-numbers l = l.cells.items ≡ some_of (at l.positions) (take l.number-index l.numbers)

@@ -4,7 +4,7 @@ use Rattle.std.proofs.lemmas.Option.{slice_get_past, slice_get_read}
 use Rattle.geometry.specs.Joins.{at}
 use Rattle.geometry.specs.Lists.{some_of}
 use Rattle.topo_model.proofs.Picks.{retained_none, retained_one}
-use Rattle.topo_model.proofs.cell_retaining.retained_cells.Goals as goal
+use Rattle.topo_model.proofs.retaining.retained_cells.Goals as goal
 
 pub numbers-preserved-in_default : goal.numbers-preserved-in_default
 numbers-preserved-in_default c =

@@ -1,0 +1,83 @@
+// The topology that is left where of each arc of a topology only some cells stay.
+ghost use Rattle.std.specs.Prelude.{◌≡◌, ◌≤◌, ℕ, IfOk, List, length, map};
+ghost use Rattle.std.specs.Option.{option_copied};
+ghost use Rattle.byte_ends.specs.Ends.{saturated};
+ghost use Rattle.geometry.specs.Points.{Point};
+ghost use Rattle.geometry.specs.Units.{threshold_limit};
+ghost use Rattle.simplified_topology.specs.Simplified.{dropped_by, removed_count_by, retained_arcs, simplified_by};
+ghost use Rattle.topo_model.specs.Parts.{contents};
+ghost use Rattle.topo_model.specs.Retaining.{AreRetainedOf};
+
+use crate::finishing::finish;
+use geojson_types::Dropped;
+use json_value::{Items, OwnText};
+use owned_values::Memory;
+use simplified_topology::simplified_is_valid;
+use std::alloc::Global;
+use topojson_types::{Cell, TopoObject, Topology, Transform};
+
+/// What is left of the objects and the arcs of a topology: without the lines and rings that are small over the cells that are retained, and
+/// without the arcs that no kept line uses; the lines and rings that are dropped, in reading order, an object in the place of a layer; and
+/// how many positions are removed from the arcs that stay.
+fn left_parts(
+    alloc: Global,
+    objects: Vec<(OwnText, TopoObject)>,
+    retained: Vec<Items<Cell>>,
+    counts: &[usize],
+    transform: Option<&Transform>,
+    ring_limit: u128,
+) -> Result<
+    (
+        Vec<(OwnText, TopoObject)>,
+        Vec<Items<Cell>>,
+        Vec<Dropped>,
+        u64,
+    ),
+    Memory,
+>
+    requires retained { AreRetainedOf objects.items (option_copied transform) retained.items counts.now }
+    requires limit { ring_limit ≤ threshold_limit }
+    ensures left { IfOk result (λ r. (kept : List (List ℕ)) (arcs : List (List Point)) → retained.items ≡ retained_arcs kept arcs
+        → contents r.0.items r.1.items (option_copied transform.entry) ≡ simplified_by kept ring_limit (contents objects.items arcs (option_copied transform.entry))) }
+    ensures dropped { IfOk result (λ r. (kept : List (List ℕ)) (arcs : List (List Point)) → retained.items ≡ retained_arcs kept arcs
+        → r.2.items ≡ dropped_by kept ring_limit (contents objects.items arcs (option_copied transform.entry))) }
+    ensures removed_count { IfOk result (λ r. (kept : List (List ℕ)) (arcs : List (List Point)) → retained.items ≡ retained_arcs kept arcs
+        → counts.now ≡ map length arcs → r.3 ≡ saturated (removed_count_by kept ring_limit (contents objects.items arcs (option_copied transform.entry)))) }
+{
+    finish(alloc, objects, retained, counts, transform, ring_limit)
+}
+
+/// What is left of a valid topology with these objects and this transform, of whose arcs these cells are retained, of each from its first
+/// to its last. It is given how many cells each arc had. Lines and rings that are then left with too few positions, rings of which twice
+/// the area is under the limit (in square units), and arcs that no kept line uses are left out. With it come the lines and rings that are
+/// dropped, in reading order, an object in the place of a layer, and how many positions are removed from the arcs that stay: a count that
+/// stays at `u64::MAX` where it would pass it.
+pub fn reassemble(
+    alloc: Global,
+    objects: Items<(OwnText, TopoObject)>,
+    retained: Vec<Items<Cell>>,
+    counts: &[usize],
+    transform: Option<Transform>,
+    ring_limit: u128,
+) -> Result<(Topology, Vec<Dropped>, u64), Memory>
+    requires retained { AreRetainedOf objects transform retained.items counts.now }
+    requires limit { ring_limit ≤ threshold_limit }
+    ensures topology { IfOk result (λ r. (kept : List (List ℕ)) (arcs : List (List Point)) → retained.items ≡ retained_arcs kept arcs
+        → r.0 ≡ simplified_by kept ring_limit (contents objects arcs transform)) }
+    ensures dropped { IfOk result (λ r. (kept : List (List ℕ)) (arcs : List (List Point)) → retained.items ≡ retained_arcs kept arcs
+        → r.1.items ≡ dropped_by kept ring_limit (contents objects arcs transform)) }
+    ensures removed_count { IfOk result (λ r. (kept : List (List ℕ)) (arcs : List (List Point)) → retained.items ≡ retained_arcs kept arcs
+        → counts.now ≡ map length arcs → r.2 ≡ saturated (removed_count_by kept ring_limit (contents objects arcs transform))) }
+{
+    simplified_is_valid();
+    let (left, arcs, dropped, taken) = left_parts(
+        alloc,
+        objects.into_inner(),
+        retained,
+        counts,
+        transform.as_ref(),
+        ring_limit,
+    )?;
+    let topology = Topology::of(Items::of(left), Items::of(arcs), transform);
+    Ok((topology, dropped, taken))
+}

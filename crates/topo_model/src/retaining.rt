@@ -1,0 +1,45 @@
+// Arcs of which only some positions stay.
+ghost use Rattle.std.specs.Prelude.{◌≡◌, IfOk};
+ghost use Rattle.simplified_topology.specs.Simplified.{retained};
+
+use geojson_types::Position;
+use json_value::Items;
+use owned_values::Memory;
+use std::alloc::Global;
+use topojson_types::Cell;
+
+/// The cells of the positions with these numbers. They take no more room than they need.
+pub fn retained_positions(
+    alloc: Global,
+    numbers: &[usize],
+    positions: &[Position],
+) -> Result<Items<Cell>, Memory>
+    ensures { IfOk result (λ cells. cells ≡ retained numbers.now positions.now) }
+{
+    let mut cells = Vec::with_capacity(alloc, numbers.len())?;
+    'numbers: for number in numbers {
+        let Some(position) = positions.get(*number) else {
+            continue;
+        };
+        cells.push(Cell::of(*position))?;
+    }
+    Ok(Items::of(cells))
+}
+
+/// The cells with these numbers. They take no more room than they need.
+pub fn retained_cells(
+    alloc: Global,
+    numbers: &[usize],
+    cells: &[Cell],
+) -> Result<Items<Cell>, Memory>
+    ensures { IfOk result (λ stay. stay ≡ retained numbers.now cells.now) }
+{
+    let mut stay = Vec::with_capacity(alloc, numbers.len())?;
+    'numbers: for number in numbers {
+        let Some(cell) = cells.get(*number) else {
+            continue;
+        };
+        stay.push(*cell)?;
+    }
+    Ok(Items::of(stay))
+}

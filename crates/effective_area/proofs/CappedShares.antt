@@ -1,15 +1,14 @@
 -- The threshold of a share, found by weights that are reported up to a level only.
 use Rattle.std.proofs.Common.{◌≡◌, ℕ, zero, suc, ◌+◌, ◌-◌, ◌*◌, ◌<◌, ◌≤◌, min, Bool, true, false, cond, leb, List, [], ◌∷◌, ◌++◌, length, map, get_or, refl, ap, sym, ◌∙◌, subst, arith, ◌⊎◌, inl, inr}
 use Rattle.std.specs.List.{filter, filter_map, range_with_len, AllByRecursion, Contains, count_by}
-use Rattle.std.proofs.lemmas.Bool.{le-leb, lt-leb, leb-true, cases_lt}
-use Rattle.std.proofs.lemmas.Bool.Decides.{nat_tests}
+use Rattle.std.proofs.lemmas.Bool.{le-leb, lt-leb, cases_lt}
 use Rattle.std.proofs.lemmas.List.{length-map, length-append}
-use Rattle.std.proofs.lemmas.List.Elements.{recursion_from_All, Contains-append_right, Contains-get_or}
+use Rattle.std.proofs.lemmas.List.Elements.{Contains-append_right, Contains-get_or}
 use Rattle.std.proofs.lemmas.List.Sums.{sum_by-append, sum_by-cons, count_by-le-length, get_or-le-sum_by}
 use Rattle.std.proofs.lemmas.Nat.{mul-le}
 use Rattle.owned_values.proofs.Elements.{all_weaker}
 use Rattle.geometry.specs.Lists.{In}
-use Rattle.effective_area.specs.Capped.{capped_at, is_within, IsStopped, IsCapped, AreCapped, IsEnough, CappedIsEnough}
+use Rattle.effective_area.specs.Capped.{capped_at, is_within, IsCapped, AreCapped, IsEnough, CappedIsEnough}
 use Rattle.effective_area.specs.Shares.{IsGreatestShare, area_of, count_kept, interior_weights, kept_at, share, stays_at}
 use Rattle.effective_area.specs.declared.weight.Weight.{Weight}
 use Rattle.effective_area.specs.declared.weight.Weight.TheVariants.{End, Area}

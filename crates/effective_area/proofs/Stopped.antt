@@ -1,7 +1,6 @@
 -- The weights that are found when positions are no longer removed.
-use Rattle.std.proofs.Common.{◌≡◌, ℕ, zero, suc, ◌+◌, ◌-◌, ◌<◌, ◌≤◌, min, cond, List, [], ◌∷◌, ◌++◌, Some, None, length, map, take, drop, get_or, refl, ap, sym, ◌∙◌, subst, arith, ◌⊎◌, inl, inr}
-use Rattle.std.specs.List.{All, range_with_len, count_by, sum_by}
-use Rattle.std.specs.declared.cmp.Reverse.{Reverse}
+use Rattle.std.proofs.Common.{◌≡◌, ℕ, suc, ◌+◌, ◌-◌, ◌<◌, ◌≤◌, min, cond, List, [], ◌∷◌, ◌++◌, None, length, map, take, drop, get_or, refl, ap, sym, ◌∙◌, subst, arith, ◌⊎◌, inl, inr}
+use Rattle.std.specs.List.{All, count_by, sum_by}
 use Rattle.std.proofs.Math.Seq.{take-append_seam}
 use Rattle.std.proofs.lemmas.Bool.{cases_lt}
 use Rattle.std.proofs.lemmas.List.{ext_get_or, length-map}
@@ -9,22 +8,20 @@ use Rattle.std.proofs.lemmas.List.Sums.{count_by-le-length, sum_by-cons}
 use Rattle.std.proofs.lemmas.List.FromFn.{get_or-map-range_with_len, length-map-range_with_len}
 use Rattle.geometry.specs.Lists.{In}
 use Rattle.geometry.specs.Points.{Point, IsPosition}
-use Rattle.geometry.specs.Units.{area_limit}
 use Rattle.elimination_meaning.specs.Elimination.{corners, least}
 use Rattle.elimination_meaning.specs.Weights.{weight}
-use Rattle.effective_area.specs.Capped.{AreFilled, IsCapped, IsFoundTo, IsStopped, capped_at, is_within, or_area}
+use Rattle.effective_area.specs.Capped.{AreFilled, IsCapped, IsFoundTo, capped_at, is_within, or_area}
 use Rattle.effective_area.specs.Chains.{last_of}
-use Rattle.effective_area.specs.Links.{IsLinked, IsState}
+use Rattle.effective_area.specs.Links.{IsLinked}
 use Rattle.effective_area.specs.Vertices.{vertices}
 use Rattle.effective_area.specs.Weights.{reported, weights_of}
-use Rattle.effective_area.specs.declared.entry.Entry.{Entry}
 use Rattle.effective_area.specs.declared.links.Link.{Link}
 use Rattle.effective_area.specs.declared.weight.Weight.{Weight}
 use Rattle.effective_area.specs.declared.weight.Weight.TheVariants.{End, Area}
 use Rattle.effective_area.proofs.CappedShares.{get_or_capped}
 use Rattle.effective_area.proofs.EndWeights.{HasWeight, ends_without, not_lower, weight_between}
 use Rattle.effective_area.proofs.LinkedCorners.{in_or_not}
-use Rattle.effective_area.proofs.Weighed.{AreWeighed, IsLow, all_weighed}
+use Rattle.effective_area.proofs.Weighed.{AreWeighed, all_weighed}
 
 -- ---- the weights of a line
 

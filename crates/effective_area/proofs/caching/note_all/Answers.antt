@@ -1,4 +1,4 @@
-use Rattle.std.proofs.Common.{◌-◌, length, arith}
+use Rattle.std.proofs.Common.{◌-◌, arith}
 use Rattle.effective_area.proofs.Counts.{by_none, by_then, by_more}
 use Rattle.effective_area.proofs.LinkLaws.{cached_start, cached_more, cached_all, notes_first}
 use Rattle.effective_area.proofs.caching.note_all.Goals as goal

@@ -1,4 +1,4 @@
-use Rattle.std.proofs.Common.{◌++◌, subst, sym}
+use Rattle.std.proofs.Common.{◌++◌, subst}
 use Rattle.std.specs.BinaryHeap.{heap_items}
 use Rattle.effective_area.specs.Links.{RemovesFirst}
 use Rattle.effective_area.proofs.Turns.{none_first, many_stay}

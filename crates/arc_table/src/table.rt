@@ -9,7 +9,7 @@ ghost use Rattle.arc_table.specs.Arcs.{table_of};
 ghost use Rattle.arc_table.specs.Laws.{AreAllIn, AreOnceIn, AreUnlike, IsTable, RingsClose};
 
 use crate::placing::add_line;
-use cutter::Pieces;
+use cutter::{CutLine, Pieces};
 use geometry::{ArcRef, Position};
 use junctions::Numbering;
 use owned_values::{Items, Memory};
@@ -43,15 +43,18 @@ impl Table {
     /// The distinct pieces up to reversal, in the order and direction of first use, and the arc indexes of each line. Each
     /// segment of the lines lies once, in exactly one arc; the arcs that a line's indexes name are its pieces, and joined
     /// again they are the line, a ring turned to its start.
-    pub fn build(alloc: Global, pieces: &Pieces) -> Result<Table, Memory>
-        ensures table { IfOk result (λ t. t ≡ table_of pieces.now) }
-        ensures once { IfOk result (λ t. AreOnceIn t.arcs (line_segments (lines_and_rings pieces.now))) }
-        ensures pieces_once { IfOk result (λ t. AreOnceIn t.arcs (piece_segments (all_pieces pieces.now))) }
-        ensures all { IfOk result (λ t. AreAllIn t.arcs (line_segments (lines_and_rings pieces.now))) }
-        ensures named { IfOk result (λ t. map (map (arc_at t.arcs)) t.refs ≡ piece_lists pieces.now) }
+    ///
+    /// The positions of a line that is one whole piece become its arc as they are, if it is the first such piece. Each other line is let
+    /// go once its pieces have their indexes.
+    pub fn build(alloc: Global, pieces: Pieces) -> Result<Table, Memory>
+        ensures table { IfOk result (λ t. t ≡ table_of pieces) }
+        ensures once { IfOk result (λ t. AreOnceIn t.arcs (line_segments (lines_and_rings pieces))) }
+        ensures pieces_once { IfOk result (λ t. AreOnceIn t.arcs (piece_segments (all_pieces pieces))) }
+        ensures all { IfOk result (λ t. AreAllIn t.arcs (line_segments (lines_and_rings pieces))) }
+        ensures named { IfOk result (λ t. map (map (arc_at t.arcs)) t.refs ≡ piece_lists pieces) }
         ensures joined { IfOk result
-            (λ t. map (λ refs. stitched (map (arc_at t.arcs) refs)) t.refs ≡ map (λ s. s.positions) (lines_and_rings pieces.now)) }
-        ensures closed { IfOk result (λ t. RingsClose t.arcs (lines_and_rings pieces.now) t.refs) }
+            (λ t. map (λ refs. stitched (map (arc_at t.arcs) refs)) t.refs ≡ map (λ s. s.positions) (lines_and_rings pieces)) }
+        ensures closed { IfOk result (λ t. RingsClose t.arcs (lines_and_rings pieces) t.refs) }
     {
         pieces.law();
         let room = pieces.room();
@@ -59,14 +62,12 @@ impl Table {
         let mut refs = Vec::with_capacity(alloc, pieces.len())?;
         let mut starts = Numbering::with_room(alloc, room)?;
         let mut compared = 0;
-        for i in 0..pieces.len() {
-            let named = add_line(
-                alloc,
-                &mut arcs,
-                &mut starts,
-                &mut compared,
-                pieces.of_stroke(i),
-            )?;
+        let (lines, cuts) = pieces.into_parts();
+        for line in lines {
+            let number = refs.len();
+            let own = cuts.of_line(number);
+            let cut = CutLine::of(line, own);
+            let named = add_line(alloc, &mut arcs, &mut starts, &mut compared, cut)?;
             refs.push(named)?;
         }
         Ok(Table {

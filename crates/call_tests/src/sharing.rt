@@ -100,7 +100,7 @@ fn numbers_stay_where_no_slot_is_free(rt: HostRuntime) -> Result<(), Fail> {
 fn table_of(alloc: Global, lines: Lines) -> Result<Table, Memory> {
     let vertices = Vertices::of(alloc, &lines)?;
     let pieces = cut(alloc, lines, &vertices)?;
-    Table::build(alloc, &pieces)
+    Table::build(alloc, pieces)
 }
 
 // 400 squares have 1600 sides, of which the two at each corner of the whole are one piece: 1596 pieces, of which 836 become arcs. Each of

@@ -1,5 +1,5 @@
 -- Lines that share one list of cut indexes: one line more, and each of them.
-use Rattle.std.proofs.Common.{◌≡◌, ℕ, zero, suc, ◌+◌, ◌-◌, ◌<◌, ◌≤◌, Bool, false, List, [], ◌∷◌, ◌++◌, take, drop, length, map, get_or, slice_get, Some, refl, ap, sym, ◌∙◌, subst, arith}
+use Rattle.std.proofs.Common.{◌≡◌, ℕ, zero, suc, ◌+◌, ◌-◌, ◌<◌, ◌≤◌, Bool, List, [], ◌∷◌, ◌++◌, take, drop, length, map, get_or, slice_get, Some, refl, ap, sym, ◌∙◌, subst, arith}
 use Rattle.std.specs.List.{slice_range}
 use Rattle.std.proofs.lemmas.List.{get_or-append_right, get_or-drop, length-append, length-drop, length-map, length-take-le, map-append, take-append-le, take_all, take_more}
 use Rattle.geometry.proofs.Moved.{Replaced, ends}
@@ -7,7 +7,7 @@ use Rattle.geometry.specs.Points.{Point}
 use Rattle.junctions.specs.declared.stroke.Stroke.{Stroke}
 use Rattle.junctions.specs.Cuts.{is_cut}
 use Rattle.cutter.specs.Pieces.{from_start}
-use Rattle.cutter.specs.SharedCuts.{AreCutIndexes, split_lines_and_rings}
+use Rattle.cutter.specs.SharedCuts.{AllRise, AreCutIndexes, AreEnds, cut_lines, own_indexes, split_lines_and_rings}
 use Rattle.cutter.specs.Slices.{SplitLine, slices, indexes, started, split_by, split_of, EndsPass, IsRising, piece_lists, lines_and_rings}
 use Rattle.cutter.proofs.Known.{split_view}
 use Rattle.cutter.proofs.SliceLaws.{indexes_rise}
@@ -37,10 +37,6 @@ range_back cuts more a e =
     let n : length (cuts ++ more) - length cuts ≡ length more = omega (arith, length-append cuts more) in
     ap (λ k. take (length (cuts ++ more) - k) (drop k (cuts ++ more))) e ∙ ap (take (length (cuts ++ more) - length cuts)) (drop_whole cuts more)
     ∙ ap (λ k. take k more) n ∙ take_whole more
-
--- a line, where one is wanted that is never read
-abbrev pub no_line : Stroke
-no_line = record { address = record { layer = 0; feature = 0; path = [] }; closed = false; positions = [] }
 
 -- a line with the pieces between these indexes
 abbrev pub with_pieces : Stroke → List ℕ → SplitLine
@@ -78,60 +74,88 @@ as_many_splits cuts from [] (e ∷ es) h = elim h [ ]
 as_many_splits cuts from (s ∷ ss) [] h = elim h [ ]
 as_many_splits cuts from (s ∷ ss) (e ∷ es) h = ap suc (as_many_splits cuts e ss es h.3)
 
--- the cut indexes of one of the lines
-pub record AtLine (cuts : List ℕ) (from : ℕ) (ss : List Stroke) (es : List ℕ) (i : ℕ) (d : Stroke) : Type 0 where
-  pub ends : length es ≡ length ss
+-- the lines and the indexes of each, apart
+pub record AreApart (cuts : List ℕ) (from : ℕ) (ss : List Stroke) (es : List ℕ) : Type 0 where
+  pub ends : AreEnds cuts from es
+  pub rising : AllRise ss (own_indexes cuts from es)
+  pub lines : cut_lines ss (own_indexes cuts from es) ≡ split_lines_and_rings cuts from ss es
+
+pub apart : (cuts : List ℕ) (from : ℕ) (ss : List Stroke) (es : List ℕ) → AreCutIndexes cuts from ss es → AreApart cuts from ss es
+apart cuts from [] [] h = record { ends = tt; rising = tt; lines = refl }
+apart cuts from [] (e ∷ es) h = elim h [ ]
+apart cuts from (s ∷ ss) [] h = elim h [ ]
+apart cuts from (s ∷ ss) (e ∷ es) h =
+    let r = apart cuts e ss es h.3 in
+    record { ends = (h.0, h.1, r.ends); rising = (h.2, r.rising); lines = ap (λ l. with_pieces s (slice_range cuts from e) ∷ l) r.lines }
+
+-- ---- the indexes of one of the lines
+
+pub as_many_own : (cuts : List ℕ) (from : ℕ) (es : List ℕ) → length (own_indexes cuts from es) ≡ length es
+as_many_own cuts from [] = refl
+as_many_own cuts from (e ∷ es) = ap suc (as_many_own cuts e es)
+
+pub record IsOwn (cuts : List ℕ) (from : ℕ) (es : List ℕ) (i : ℕ) : Type 0 where
   pub order : get_or (from ∷ es) i 0 ≤ get_or es i 0
   pub within : get_or es i 0 ≤ length cuts
-  pub rising : IsRising (length (get_or ss i d).positions) (slice_range cuts (get_or (from ∷ es) i 0) (get_or es i 0))
-  pub pieces : slice_get (piece_lists (split_lines_and_rings cuts from ss es)) i ≡ Some (slices (get_or ss i d).positions (slice_range cuts (get_or (from ∷ es) i 0) (get_or es i 0)))
+  pub got : slice_get (own_indexes cuts from es) i ≡ Some (slice_range cuts (get_or (from ∷ es) i 0) (get_or es i 0))
 
-pub at_line : (cuts : List ℕ) (from : ℕ) (ss : List Stroke) (es : List ℕ) (i : ℕ) (d : Stroke) → AreCutIndexes cuts from ss es → i < length ss → AtLine cuts from ss es i d
-at_line cuts from [] es i d h k = absurd (omega arith)
-at_line cuts from (s ∷ ss) [] i d h k = elim h [ ]
-at_line cuts from (s ∷ ss) (e ∷ es) zero d h k = record { ends = ap suc (many e ss es h.3); order = h.0; within = h.1; rising = h.2; pieces = refl }
-  where
-    many : (from : ℕ) (ss : List Stroke) (es : List ℕ) → AreCutIndexes cuts from ss es → length es ≡ length ss
-    many from [] [] h = refl
-    many from [] (e ∷ es) h = elim h [ ]
-    many from (s ∷ ss) [] h = elim h [ ]
-    many from (s ∷ ss) (e ∷ es) h = ap suc (many e ss es h.3)
-at_line cuts from (s ∷ ss) (e ∷ es) (suc i) d h k =
-    let r = at_line cuts e ss es i d h.3 (omega arith) in
-    record { ends = ap suc r.ends; order = r.order; within = r.within; rising = r.rising; pieces = r.pieces }
+at_place : (cuts : List ℕ) (from : ℕ) (es : List ℕ) (i : ℕ) → AreEnds cuts from es → i < length es → IsOwn cuts from es i
+at_place cuts from [] i h k = absurd (omega arith)
+at_place cuts from (e ∷ es) zero h k = record { order = h.0; within = h.1; got = refl }
+at_place cuts from (e ∷ es) (suc i) h k =
+    let r = at_place cuts e es i h.2 (omega arith) in
+    record { order = r.order; within = r.within; got = r.got }
 
--- the line has an end
-pub has_end : (cuts : List ℕ) (ss : List Stroke) (es : List ℕ) (all : List SplitLine) (ns : List ℕ) (i : ℕ) → split_lines_and_rings cuts 0 ss es ≡ all → AreCutIndexes cuts 0 ss es →
-    i < length all → ns ≡ es → i < length ns
-has_end cuts ss es all ns i view h k en =
-    let many : length all ≡ length ss = sym (ap length view) ∙ as_many_splits cuts 0 ss es h in
-    let r = at_line cuts 0 ss es i no_line h (omega arith) in
-    omega (arith, r.ends, ap length en)
-
--- the indexes between these places are those of the line
-pub record IsOwn (all : List SplitLine) (ss : List Stroke) (cs : List ℕ) (first end i : ℕ) : Type 0 where
-  pub line : i < length ss
+-- what a place says of the indexes that are read there
+pub record IsRead (all : List (List ℕ)) (cs : List ℕ) (first end i : ℕ) : Type 0 where
   pub order : first ≤ end
   pub within : end ≤ length cs
-  pub rising : (d : Stroke) → IsRising (length (get_or ss i d).positions) (slice_range cs first end)
-  pub pieces : (d : Stroke) → slice_get (piece_lists all) i ≡ Some (slices (get_or ss i d).positions (slice_range cs first end))
+  pub got : slice_get all i ≡ Some (slice_range cs first end)
 
-pub own_cuts : (cuts : List ℕ) (ss : List Stroke) (es : List ℕ) (all : List SplitLine) (cs ns : List ℕ) (i first : ℕ) → split_lines_and_rings cuts 0 ss es ≡ all → AreCutIndexes cuts 0 ss es →
-    i < length all → cs ≡ cuts → ns ≡ es → first ≡ get_or (0 ∷ ns) i 0 → IsOwn all ss cs first (get_or ns i 0) i
-own_cuts cuts ss es all cs ns i first view h k ec en ef =
-    let many : length all ≡ length ss = sym (ap length view) ∙ as_many_splits cuts 0 ss es h in
-    let l : i < length ss = omega arith in
-    let r = at_line cuts 0 ss es i no_line h l in
-    subst (λ w. IsOwn all ss w first (get_or ns i 0) i) (sym ec)
-    (subst (λ n. IsOwn all ss cuts n (get_or ns i 0) i) (sym ef)
-    (subst (λ w. IsOwn all ss cuts (get_or (0 ∷ w) i 0) (get_or w i 0) i) (sym en)
-    (subst (λ w. IsOwn w ss cuts (get_or (0 ∷ es) i 0) (get_or es i 0) i) view (record {
-      line = l;
-      order = r.order;
-      within = r.within;
-      rising = λ d. (at_line cuts 0 ss es i d h l).rising;
-      pieces = λ d. (at_line cuts 0 ss es i d h l).pieces;
-    }))))
+pub has_own : (cuts es : List ℕ) (all : List (List ℕ)) (ns : List ℕ) (i : ℕ) → own_indexes cuts 0 es ≡ all → i < length all → ns ≡ es → i < length ns
+has_own cuts es all ns i view k en = omega (arith, k, ap length view, as_many_own cuts 0 es, ap length en)
+
+pub own_read : (cuts es : List ℕ) (all : List (List ℕ)) (cs ns : List ℕ) (i first : ℕ) → own_indexes cuts 0 es ≡ all → AreEnds cuts 0 es →
+    i < length all → cs ≡ cuts → ns ≡ es → first ≡ get_or (0 ∷ ns) i 0 → IsRead all cs first (get_or ns i 0) i
+own_read cuts es all cs ns i first view h k ec en ef =
+    let r = at_place cuts 0 es i h (has_own cuts es all es i view k refl) in
+    subst (λ w. IsRead all w first (get_or ns i 0) i) (sym ec)
+    (subst (λ n. IsRead all cuts n (get_or ns i 0) i) (sym ef)
+    (subst (λ w. IsRead all cuts (get_or (0 ∷ w) i 0) (get_or w i 0) i) (sym en)
+    (subst (λ w. IsRead w cuts (get_or (0 ∷ es) i 0) (get_or es i 0) i) view (record { order = r.order; within = r.within; got = r.got }))))
+
+-- ---- one of the lines that are cut at indexes of their own
+
+-- its indexes rise
+pub own_rise : (ss : List Stroke) (own : List (List ℕ)) (i : ℕ) (s : Stroke) (is : List ℕ) → AllRise ss own → i < length ss → s ≡ get_or ss i s → slice_get own i ≡ Some is →
+    IsRising (length s.positions) is
+own_rise [] own i s is h k e f = absurd (omega arith)
+own_rise (t ∷ ss) [] i s is h k e f = elim h [ ]
+own_rise (t ∷ ss) (js ∷ own) zero s is h k e f =
+    let g : js ≡ is = cc in
+    subst (λ x. IsRising (length x.positions) is) (sym e) (subst (IsRising (length t.positions)) g h.0)
+own_rise (t ∷ ss) (js ∷ own) (suc i) s is h k e f = own_rise ss own i s is h.1 (omega arith) e f
+
+-- its pieces stand between them
+own_pieces : (ss : List Stroke) (own : List (List ℕ)) (i : ℕ) (s : Stroke) (is : List ℕ) → i < length ss → s ≡ get_or ss i s → slice_get own i ≡ Some is →
+    slice_get (piece_lists (cut_lines ss own)) i ≡ Some (slices s.positions is)
+own_pieces [] own i s is k e f = absurd (omega arith)
+own_pieces (t ∷ ss) [] i s is k e f = cc
+own_pieces (t ∷ ss) (js ∷ own) zero s is k e f =
+    let g : js ≡ is = cc in
+    ap (λ x. Some (slices x.positions js)) (sym e) ∙ ap (λ ks. Some (slices s.positions ks)) g
+own_pieces (t ∷ ss) (js ∷ own) (suc i) s is k e f = own_pieces ss own i s is (omega arith) e f
+
+pub line_pieces : (ss : List Stroke) (own : List (List ℕ)) (all : List SplitLine) (i : ℕ) (s : Stroke) (is : List ℕ) → cut_lines ss own ≡ all → i < length ss → s ≡ get_or ss i s →
+    slice_get own i ≡ Some is → slice_get (piece_lists all) i ≡ Some (slices s.positions is)
+line_pieces ss own all i s is view k e f = ap (λ l. slice_get (piece_lists l) i) (sym view) ∙ own_pieces ss own i s is k e f
+
+-- as many lines as lists of indexes
+pub as_many_lines : (ss : List Stroke) (own : List (List ℕ)) → AllRise ss own → length own ≡ length ss
+as_many_lines [] [] h = refl
+as_many_lines [] (is ∷ own) h = elim h [ ]
+as_many_lines (s ∷ ss) [] h = elim h [ ]
+as_many_lines (s ∷ ss) (is ∷ own) h = ap suc (as_many_lines ss own h.1)
 
 -- the lines before this place, rings from their starts
 abbrev pub started_before : List Stroke → ℕ → List Stroke

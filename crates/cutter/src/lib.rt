@@ -4,11 +4,15 @@
 //! distinct (`specs/Places.antt`). `proofs/` has the proof, from walks between cut positions to all pieces of all lines.
 #![tactic(auto)]
 
+mod cut_indexes;
+mod cut_line;
 mod piece_iter;
 mod pieces;
 mod splitting;
 mod starting;
 
+pub use cut_indexes::CutIndexes;
+pub use cut_line::CutLine;
 pub use piece_iter::PieceIter;
 pub use pieces::{Pieces, cut};
 pub use starting::ring_start;

@@ -1,14 +1,15 @@
 // The pieces of all lines.
-ghost use Rattle.std.specs.Prelude.{◌≡◌, ◌<◌, ◌≤◌, ◌∷◌, IfOk, Some, length, map, slice_get, slice_index_or};
+ghost use Rattle.std.specs.Prelude.{◌≡◌, ◌<◌, IfOk, Some, length, map, slice_get};
 ghost use Rattle.geometry.specs.Points.{Point};
 ghost use Rattle.junctions.specs.Answers.{AnswersFor};
 ghost use Rattle.junctions.specs.Cleaning.{AllClean};
 ghost use Rattle.cutter.specs.Places.{IsStructured};
 ghost use Rattle.cutter.specs.Segments.{line_segments, piece_segments, times};
-ghost use Rattle.cutter.specs.Slices.{AllSplit, all_pieces, piece_lists, split_of, lines_and_rings};
+ghost use Rattle.cutter.specs.SharedCuts.{AllRise, cut_lines};
+ghost use Rattle.cutter.specs.Slices.{AllSplit, all_pieces, split_of, lines_and_rings};
 ghost use Rattle.cutter.specs.Structure.{SharersAreAlike, SegmentsAreOnce, InteriorsAreDistinct, PiecesAreLong};
 
-use crate::piece_iter::PieceIter;
+use crate::cut_indexes::CutIndexes;
 use crate::splitting::split_line;
 use junctions::{Lines, Stroke, Vertices};
 use owned_values::Memory;
@@ -90,15 +91,15 @@ impl Pieces {
         self.cuts.len().saturating_sub(self.ends.len())
     }
 
-    /// The pieces of the line with this number, in its order.
-    pub fn of_stroke(&self, i: usize) -> PieceIter<'_>
-        requires { i < length self.now }
-        ensures { slice_get (piece_lists self.now) i ≡ Some result }
+    /// The lines and rings, rings turned to their starts, and the indexes at which each is cut, by value.
+    pub fn into_parts(self) -> (Vec<Stroke>, CutIndexes)
+        ensures lines { result.0.items ≡ lines_and_rings self }
+        ensures pieces { cut_lines result.0.items result.1 ≡ self }
+        ensures rising { AllRise result.0.items result.1 }
     {
-        let cuts = self.cuts.as_slice();
-        let ends = self.ends.as_slice();
-        let own = &cuts[begin_of(ends, i)..ends[i]];
-        PieceIter::over(self.lines_and_rings[i].positions.as_slice(), own)
+        let pieces = self;
+        let indexes = CutIndexes::of(pieces.cuts, pieces.ends);
+        (pieces.lines_and_rings, indexes)
     }
 
     /// What the pieces of lines have in common. A call does nothing; its contract is what `Pieces` keeps.
@@ -113,12 +114,4 @@ impl Pieces {
     {
         let _ = &self.lines_and_rings;
     }
-}
-
-// How many cut indexes are those of lines before the line with this number.
-fn begin_of(ends: &[usize], i: usize) -> usize
-    requires { i ≤ length ends.now }
-    ensures { result ≡ slice_index_or (0 ∷ ends.now) i 0 }
-{
-    if i == 0 { 0 } else { ends[i - 1] }
 }

@@ -49,7 +49,7 @@ fn shared_arcs(alloc: Global, layers: &[(OwnText, Layer)]) -> Result<Table, Memo
     ensures { IfOk result (λ t. t ≡ table_of (map (split_of (linework (layers_of layers.now))) (linework (layers_of layers.now)))) }
 {
     let pieces = cut_lines(alloc, layers)?;
-    Table::build(alloc, &pieces)
+    Table::build(alloc, pieces)
 }
 
 /// The topology that is built of named layers, each arc reduced once, without rings under the limit, the lines and rings that are

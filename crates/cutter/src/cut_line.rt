@@ -1,0 +1,62 @@
+// A line or a ring that is cut, by value.
+ghost use Rattle.std.specs.Prelude.{◌≡◌, ◌∷◌, [], IfErr, IfOk, length};
+ghost use Rattle.cutter.specs.Slices.{slices, IsRising};
+
+use crate::piece_iter::PieceIter;
+use geometry::Position;
+use junctions::Stroke;
+use owned_values::Items;
+use std::marker::Model;
+
+/// A line or a ring, by value, with the indexes at which it is cut. Contracts see its pieces.
+#[derive(Debug, Drop)]
+pub struct CutLine<'a> {
+    positions: Items<Position>,
+    cuts: &'a [usize],
+}
+
+impl<'a> Model for CutLine<'a> {
+    ghost use Rattle.std.specs.Prelude.{List, length};
+    ghost use Rattle.geometry.specs.Points.{Point};
+    ghost use Rattle.cutter.specs.Slices.{slices, IsRising};
+
+    ghost Value = { List (List Point) };
+
+    ghost view = { λ s. slices s.positions s.cuts.now };
+
+    ghost invariant = { λ s. IsRising (length s.positions) s.cuts.now };
+}
+
+impl<'a> CutLine<'a> {
+    /// The line, cut at these indexes. Its address is let go.
+    pub fn of(line: Stroke, cuts: &'a [usize]) -> CutLine<'a>
+        requires { IsRising (length line.positions) cuts.now }
+        ensures { result ≡ slices line.positions cuts.now }
+    {
+        CutLine {
+            positions: line.positions,
+            cuts,
+        }
+    }
+
+    /// Its positions, if the line is one whole piece, and else the line again.
+    #[tactic(auto, using(crate::proofs::SliceLaws::whole_slice))]
+    pub fn into_whole(self) -> Result<Items<Position>, CutLine<'a>>
+        ensures whole { IfOk result (λ positions. self.entry ≡ positions ∷ []) }
+        ensures again { IfErr result (λ line. line ≡ self.entry) }
+    {
+        let line = self;
+        let last = line.positions.len().saturating_sub(1);
+        if line.cuts.len() == 2 && line.cuts[0] == 0 && line.cuts[1] == last {
+            return Ok(line.positions);
+        }
+        Err(line)
+    }
+
+    /// Its pieces, in order.
+    pub fn pieces(&self) -> PieceIter<'_>
+        ensures { result ≡ self.now }
+    {
+        PieceIter::over(self.positions.as_slice(), self.cuts)
+    }
+}

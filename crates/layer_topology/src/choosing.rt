@@ -1,44 +1,63 @@
 // Which positions of the arcs stay, and at which threshold.
 ghost use Rattle.std.specs.Prelude.{◌≡◌, ◌+◌, ◌<◌, ◌≤◌, IfOk, Some, length, map, sum_by, true};
+ghost use Rattle.std.specs.List.{AllByRecursion};
 ghost use Rattle.effective_area.specs.Capped.{AreCapped};
-ghost use Rattle.effective_area.specs.Shares.{interior_weights, share};
+ghost use Rattle.effective_area.specs.Shares.{interior_weights, kept_at, share};
 ghost use Rattle.effective_area.specs.Weights.{weights_of};
 ghost use Rattle.elimination_meaning.specs.Elimination.{reduce};
 ghost use Rattle.layer_topology.specs.Levels.{calls_at, chosen_at, is_level, threshold_at};
+ghost use Rattle.simplified_topology.specs.Simplified.{retained, retained_arcs};
 
 use crate::level::Level;
-use arc_table::Table;
 use effective_area::{
     Reducer, Weight, capped_is_enough, kept_at_is_reduced, kept_by_weights, most_weighed,
     share_threshold, weights_until,
 };
+use geojson_types::Position;
+use json_value::Items;
 use owned_values::Memory;
 use std::alloc::Global;
+use topo_model::{Cell, retained_positions};
 
-/// For each arc the indexes of the positions that stay at a threshold.
+/// The positions of an arc that stay at a threshold.
+fn reduced_arc<Q: Reducer>(
+    alloc: Global,
+    reducer: &mut Q,
+    arc: &[Position],
+    threshold: u128,
+) -> Result<Items<Cell>, Memory>
+    requires { 2 ≤ length arc.now }
+    ensures retained { IfOk result (λ cells. cells ≡ retained (reduce threshold arc.now) arc.now) }
+    ensures called { IfOk result (λ _. Q.calls reducer.new ≡ Q.calls reducer.old + 1) }
+{
+    let kept = reducer.kept(alloc, arc, threshold)?;
+    retained_positions(alloc, &kept, arc)
+}
+
+/// Of each arc the positions that stay at a threshold. An arc is let go before the next one is reduced.
 fn reduced_arcs<Q: Reducer>(
     alloc: Global,
     reducer: &mut Q,
-    table: &Table,
+    arcs: Vec<Items<Position>>,
     threshold: u128,
-) -> Result<Vec<Vec<usize>>, Memory>
-    ensures kept { IfOk result (λ kept. map (λ k. k.items) kept.items ≡ map (reduce threshold) table.now.arcs) }
-    ensures called { IfOk result (λ _. Q.calls reducer.new ≡ Q.calls reducer.old + length table.now.arcs) }
+) -> Result<Vec<Items<Cell>>, Memory>
+    requires { AllByRecursion (λ arc. 2 ≤ length arc) arcs.items }
+    ensures retained { IfOk result (λ left. left.items ≡ retained_arcs (map (reduce threshold) arcs.items) arcs.items) }
+    ensures called { IfOk result (λ _. Q.calls reducer.new ≡ Q.calls reducer.old + length arcs.items) }
 {
-    table.law();
-    let mut kept = Vec::with_capacity(alloc, table.len())?;
-    'arcs: for arc in table.arcs() {
-        kept.push(reducer.kept(alloc, arc.as_slice(), threshold)?)?;
+    let mut left = Vec::with_capacity(alloc, arcs.len())?;
+    'arcs: for arc in arcs {
+        left.push(reduced_arc(alloc, reducer, arc.as_slice(), threshold)?)?;
     }
-    Ok(kept)
+    Ok(left)
 }
 
 /// How many positions the arcs have. More than a number counts are more than memory holds.
-fn count_positions(table: &Table) -> Result<usize, Memory>
-    ensures { IfOk result (λ count. count ≡ sum_by length table.now.arcs) }
+fn count_positions(arcs: &[Items<Position>]) -> Result<usize, Memory>
+    ensures { IfOk result (λ count. count ≡ sum_by length arcs.now) }
 {
     let mut count: usize = 0;
-    'arcs: for arc in table.arcs() {
+    'arcs: for arc in arcs {
         let Some(more) = count.checked_add(arc.len()) else {
             return Err(Memory);
         };
@@ -48,59 +67,95 @@ fn count_positions(table: &Table) -> Result<usize, Memory>
 }
 
 /// For each arc the weights of its positions, up to a level once so many of them are removed.
-fn weighed_arcs(alloc: Global, table: &Table, most: usize) -> Result<Vec<Vec<Weight>>, Memory>
-    ensures { IfOk result (λ all. AreCapped most (map weights_of table.now.arcs) (map (λ w. w.items) all.items)) }
+fn weighed_arcs(
+    alloc: Global,
+    arcs: &[Items<Position>],
+    most: usize,
+) -> Result<Vec<Vec<Weight>>, Memory>
+    ensures { IfOk result (λ all. AreCapped most (map weights_of arcs.now) (map (λ w. w.items) all.items)) }
 {
-    let mut all = Vec::with_capacity(alloc, table.len())?;
-    'arcs: for arc in table.arcs() {
+    let mut all = Vec::with_capacity(alloc, arcs.len())?;
+    'arcs: for arc in arcs {
         all.push(weights_until(alloc, arc.as_slice(), most)?)?;
     }
     Ok(all)
 }
 
-/// For each arc the indexes of the positions that stay at the greatest threshold that keeps a share, and this threshold. Each arc is
-/// weighed once, so no reducer is needed; and no further than the threshold can lie, so a long arc costs no more than reducing it.
+/// The positions of an arc that stay at a threshold by their weights.
+fn picked_arc(
+    alloc: Global,
+    arc: &[Position],
+    weights: &[Weight],
+    threshold: u128,
+) -> Result<Items<Cell>, Memory>
+    ensures { IfOk result (λ cells. cells ≡ retained (kept_at threshold weights.now) arc.now) }
+{
+    let kept = kept_by_weights(alloc, weights, threshold)?;
+    retained_positions(alloc, &kept, arc)
+}
+
+/// Of each arc the positions that stay at a threshold by its own weights. An arc is let go before the next one is picked from.
+fn picked_arcs(
+    alloc: Global,
+    arcs: Vec<Items<Position>>,
+    weights: &[Vec<Weight>],
+    threshold: u128,
+) -> Result<Vec<Items<Cell>>, Memory>
+    ensures { IfOk result (λ left. left.items ≡ retained_arcs (map (λ w. kept_at threshold w.items) weights.now) arcs.items) }
+{
+    let mut left = Vec::with_capacity(alloc, arcs.len())?;
+    let mut later = weights;
+    'arcs: for arc in arcs {
+        let Some((own, rest)) = later.split_first() else {
+            continue;
+        };
+        later = rest;
+        left.push(picked_arc(alloc, arc.as_slice(), own.as_slice(), threshold)?)?;
+    }
+    Ok(left)
+}
+
+/// Of each arc the positions that stay at the greatest threshold that keeps a share, and this threshold. Each arc is weighed once, so no
+/// reducer is needed; and no further than the threshold can lie, so a long arc costs no more than reducing it.
 fn shared_out_arcs(
     alloc: Global,
-    table: &Table,
+    arcs: Vec<Items<Position>>,
     p: u64,
     q: u64,
-) -> Result<(Vec<Vec<usize>>, u128), Memory>
+) -> Result<(Vec<Items<Cell>>, u128), Memory>
     requires whole { 0 < q }
     requires part { p ≤ q }
-    ensures kept { IfOk result (λ r. map (λ k. k.items) r.0.items ≡ map (reduce r.1) table.now.arcs) }
-    ensures chosen { IfOk result (λ r. r.1 ≡ share p q (interior_weights (map weights_of table.now.arcs))) }
+    ensures retained { IfOk result (λ r. r.0.items ≡ retained_arcs (map (reduce r.1) arcs.items) arcs.items) }
+    ensures chosen { IfOk result (λ r. r.1 ≡ share p q (interior_weights (map weights_of arcs.items))) }
 {
     kept_at_is_reduced();
     capped_is_enough();
-    let count = count_positions(table)?;
+    let count = count_positions(&arcs)?;
     let most = most_weighed(count, p, q);
-    let all = weighed_arcs(alloc, table, most)?;
+    let all = weighed_arcs(alloc, &arcs, most)?;
     let threshold = share_threshold(alloc, &all, p, q)?;
-    let mut kept = Vec::with_capacity(alloc, all.len())?;
-    'arcs: for arc in all.as_slice() {
-        kept.push(kept_by_weights(alloc, arc.as_slice(), threshold)?)?;
-    }
-    Ok((kept, threshold))
+    let left = picked_arcs(alloc, arcs, &all, threshold)?;
+    Ok((left, threshold))
 }
 
-/// For each arc the indexes of the positions that stay, and the threshold, where it was chosen.
-pub(crate) fn kept_positions<Q: Reducer>(
+/// Of each arc the positions that stay, and the threshold, where it was chosen. Once it is picked from, an arc is let go.
+pub(crate) fn left_of_arcs<Q: Reducer>(
     alloc: Global,
     reducer: &mut Q,
-    table: &Table,
+    arcs: Vec<Items<Position>>,
     level: Level,
-) -> Result<(Vec<Vec<usize>>, Option<u128>), Memory>
-    requires { is_level level ≡ true }
-    ensures kept { IfOk result (λ r. map (λ k. k.items) r.0.items ≡ map (reduce (threshold_at level table.now.arcs)) table.now.arcs) }
-    ensures chosen { IfOk result (λ r. r.1 ≡ chosen_at level table.now.arcs) }
-    ensures called { IfOk result (λ _. Q.calls reducer.new ≡ Q.calls reducer.old + calls_at level table.now.arcs) }
+) -> Result<(Vec<Items<Cell>>, Option<u128>), Memory>
+    requires level { is_level level ≡ true }
+    requires long { AllByRecursion (λ arc. 2 ≤ length arc) arcs.items }
+    ensures retained { IfOk result (λ r. r.0.items ≡ retained_arcs (map (reduce (threshold_at level arcs.items)) arcs.items) arcs.items) }
+    ensures chosen { IfOk result (λ r. r.1 ≡ chosen_at level arcs.items) }
+    ensures called { IfOk result (λ _. Q.calls reducer.new ≡ Q.calls reducer.old + calls_at level arcs.items) }
 {
     match level {
-        Level::Fixed(threshold) => Ok((reduced_arcs(alloc, reducer, table, threshold)?, None)),
+        Level::Fixed(threshold) => Ok((reduced_arcs(alloc, reducer, arcs, threshold)?, None)),
         Level::Share { p, q } => {
-            let (kept, threshold) = shared_out_arcs(alloc, table, p, q)?;
-            Ok((kept, Some(threshold)))
+            let (left, threshold) = shared_out_arcs(alloc, arcs, p, q)?;
+            Ok((left, Some(threshold)))
         }
     }
 }

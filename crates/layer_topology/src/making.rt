@@ -15,7 +15,7 @@ ghost use Rattle.simplified_topology.specs.Assembled.{arcs_of_layers};
 ghost use Rattle.linework.specs.Linework.{linework};
 ghost use Rattle.topojson_types.specs.Validity.{AreDistinct};
 
-use crate::choosing::kept_positions;
+use crate::choosing::left_of_arcs;
 use crate::layers::snap_layers;
 use crate::level::Level;
 use crate::topology::on_grid;
@@ -32,7 +32,7 @@ use simplified_topology::{
     built_cells_are_on, snapped_are_on,
 };
 use std::alloc::Global;
-use topo_model::assemble;
+use topo_model::{assemble, position_counts};
 use topojson_types::Topology;
 
 /// The lines and rings of the layers, cut. What was known of their positions is given back.
@@ -77,8 +77,12 @@ fn reduced_topology<Q: Reducer>(
     assembling_drops_expected();
     assembling_removes();
     let table = shared_arcs(alloc, &layers)?;
-    let (kept, chosen) = kept_positions(alloc, reducer, &table, level)?;
-    let (topology, dropped, removed_count) = assemble(alloc, layers, table, &kept, ring_limit)?;
+    let (arcs, refs) = table.into_parts();
+    let counts = position_counts(alloc, &arcs)?;
+    let (left, chosen) = left_of_arcs(alloc, reducer, arcs, level)?;
+    let (topology, dropped, removed_count) = assemble(
+        alloc, layers, refs, left, &counts, ring_limit,
+    )?;
     Ok((topology, dropped, removed_count, chosen))
 }
 

@@ -1,10 +1,14 @@
-use Rattle.std.proofs.Common.{◌≡◌, ◌+◌, map, take}
+use Rattle.std.proofs.Common.{◌≡◌, ◌+◌, ◌≤◌, length, map}
+use Rattle.std.specs.List.{AllByRecursion}
+use Rattle.std.specs.Vec.Iter.{into_iter_items}
 use Rattle.elimination_meaning.specs.Elimination.{reduce}
+use Rattle.simplified_topology.specs.Simplified.{retained_arcs}
 use Rattle.layer_topology.proofs.choosing.reduced_arcs.Given as goal
 
 -- those so far, and a call for each
 abbrev pub invariant-arcs : goal.invariant-arcs
 invariant-arcs g l = record {
-  kept : map (λ k. k.items) l.kept.items ≡ map (reduce l.threshold) (take l.arc-index l.table.arcs);
-  called : g.Q.Reducer.calls l.reducer ≡ g.Q.Reducer.calls l.fn.reducer + l.arc-index;
+  long : AllByRecursion (λ arc. 2 ≤ length arc) (into_iter_items l.arc-iterator);
+  left : l.left.items ≡ retained_arcs (map (reduce l.threshold) l.yielded) l.yielded;
+  called : g.Q.Reducer.calls l.reducer ≡ g.Q.Reducer.calls l.fn.reducer + length l.yielded;
 }

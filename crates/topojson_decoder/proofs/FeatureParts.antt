@@ -25,6 +25,9 @@ use Rattle.topojson_meaning.specs.Shapes.{typed_shape}
 use Rattle.json_cursor.specs.Kinds.{kind_in, kind_of}
 use Rattle.json_cursor.specs.declared.stop.Stop.{Stop}
 use Rattle.json_cursor.specs.declared.stop.Stop.TheVariants as stop
+use Rattle.json_cursor.specs.Members.{GoesOn}
+use Rattle.json_cursor.specs.Names.{name_of}
+use Rattle.topojson_decoder.specs.declared.feature_parts.FeatureMember.{FeatureMember}
 use Rattle.topojson_decoder.specs.declared.feature_parts.FeatureParts.{FeatureParts}
 use Rattle.topojson_decoder.specs.declared.geometry_parts.GeometryParts.{GeometryParts}
 use Rattle.topojson_decoder.specs.declared.geometry_parts.Start.{Start}
@@ -32,13 +35,13 @@ use Rattle.topojson_decoder.specs.declared.keeping.Keeping.{Keeping}
 use Rattle.topojson_decoder.specs.declared.keeping.Keeping.TheVariants.{Whole, Blank}
 use Rattle.topojson_decoder.specs.declared.occurrence.Occurrence.{Occurrence}
 use Rattle.topojson_decoder.specs.declared.occurrence.Occurrence.TheVariants.{Never}
-use Rattle.topojson_decoder.specs.Features.{IsFeature, IsFound, blank_identifier, blank_members, found, found_in, kept_identifier, kept_members, typed_feature}
+use Rattle.topojson_decoder.specs.Features.{IsFeature, IsFound, IsMemberAt, blank_identifier, blank_members, found, found_in, kept_identifier, kept_members, member_name, typed_feature}
 use Rattle.topojson_decoder.specs.Geometries.{IsParts}
 use Rattle.topojson_decoder.specs.Kept.{of_option, of_read}
 use Rattle.topojson_decoder.specs.Members.{GoesOnWith, IsOccurrence, Judges, FindsValue, see}
 use Rattle.topojson_decoder.proofs.KeptParts.{whole_option}
 use Rattle.topojson_decoder.proofs.PartsSeen.{sees_word}
-use Rattle.topojson_decoder.proofs.MemberOccurrences.{no_other, passes, sees}
+use Rattle.topojson_decoder.proofs.MemberOccurrences.{member_goes_on, no_other, passes, sees}
 
 -- ---- what was seen
 
@@ -83,6 +86,12 @@ module _ (start : Start) (d : ℕ) (name : List ℕ) where
       → GoesOnWith (IsParts start d) d name occurrence.parts after bytes answer → GoesOnWith (IsFeature start d) d name occurrence (record { parts = after; id = occurrence.id; properties = occurrence.properties }) bytes answer
   part_goes_on occurrence after bytes no_id no_properties (Ok rest) g = record { value = g.value; prefix = g.prefix; holds = λ ms h. sees_part ms occurrence g.value h after no_id no_properties (g.holds ms h.parts) }
   part_goes_on occurrence after bytes no_id no_properties (Err fault) g = g
+
+-- one of the members that are looked for first
+pub member_at_goes_on : (start : Start) (d : ℕ) (before after : FeatureParts) (bytes : List ℕ) (member : FeatureMember) (value : Bor (List ℕ)) → IsMemberAt bytes member value
+    → (answer : Result (Bor (List ℕ)) Fault) → GoesOnWith (IsFeature start d) d (member_name member) before after value.now answer → GoesOn (IsFeature start d) d before after bytes answer
+member_at_goes_on start d before after bytes member value at answer h =
+    member_goes_on (IsFeature start d) d before after bytes (name_of at.0) value.now (at.1 d) answer (subst (λ n. GoesOnWith (IsFeature start d) d n before after value.now answer) (sym at.2) h)
 
 -- ---- what a member is that may be absent
 

@@ -1,6 +1,7 @@
 -- A geometry by its members.
-use Rattle.std.proofs.Common.{◌≡◌, ℕ, List, [], ◌∷◌, ◌++◌, Option, Some, None, Ok, Err, refl, ap, ◌∙◌}
+use Rattle.std.proofs.Common.{◌≡◌, ℕ, List, [], ◌∷◌, ◌++◌, Option, Some, None, Result, Ok, Err, refl, ap, ◌∙◌}
 use Rattle.std.specs.Prelude.{codes, option_to_list}
+use Rattle.std.specs.Borrow.{Bor}
 use Rattle.json_value.specs.declared.json.Json.{Json}
 use Rattle.json_value.specs.declared.json.Json.TheVariants as j
 use Rattle.json_value.specs.declared.json.Json.TheOpen.{Json-F}
@@ -9,6 +10,9 @@ use Rattle.json_value.specs.Kinds.{array_of, object_of, text_in, text_of}
 use Rattle.json_cursor.specs.Kinds.{kind_in, kind_of}
 use Rattle.json_value.proofs.KindsOf.{array_of-array, object_of-object}
 use Rattle.json_value.specs.Members.{Members, named}
+use Rattle.json_reading.specs.declared.fault.Fault.{Fault}
+use Rattle.json_reading.specs.Passes.{Passes}
+use Rattle.json_cursor.specs.Arrays.{prefix_value}
 use Rattle.geometry.specs.Points.{Point}
 use Rattle.geometry.specs.declared.shape.Geometry.TheVariants as g
 use Rattle.geojson_types.specs.declared.counts.Counts.{Counts}
@@ -28,8 +32,16 @@ use Rattle.json_cursor.specs.Folds.{some_one, with_read}
 use Rattle.json_cursor.proofs.Steps.{made, made_reads, made_stops}
 use Rattle.json_cursor.specs.declared.stop.Stop.{Stop}
 use Rattle.json_cursor.specs.declared.stop.Stop.TheVariants as stop
-use Rattle.topojson_decoder.specs.Geometries.{textless_type}
+use Rattle.topojson_decoder.specs.Geometries.{ReadsPart, textless_type}
+use Rattle.topojson_decoder.specs.declared.geometry_parts.Read.{Read}
+use Rattle.topojson_decoder.specs.declared.geometry_parts.Start.{Start}
 use Rattle.topojson_decoder.specs.Members.{Judges}
+
+-- ---- a value that is passed over
+
+pub passed_over : (start : Start) (d : ℕ) (read : Read) (bytes : List ℕ) (answer : Result (Bor (List ℕ)) Fault) → Passes answer (prefix_value d bytes) → ReadsPart start None d read read bytes answer
+passed_over start d read bytes (Ok rest) h = (h.0, h.1, refl)
+passed_over start d read bytes (Err fault) h = h
 
 -- ---- the type
 

@@ -1,5 +1,5 @@
 -- Members that are looked up, seen one after another.
-use Rattle.std.proofs.Common.{◌≡◌, ℕ, true, false, List, [], ◌∷◌, ◌++◌, Option, Some, Ok, Err, refl, sym, subst, ap, ◌∙◌}
+use Rattle.std.proofs.Common.{◌≡◌, ℕ, Bool, true, false, List, [], ◌∷◌, ◌++◌, Option, Some, Ok, Err, refl, sym, subst, ap, ◌∙◌}
 use Rattle.std.specs.Prelude.{bytes_eq, Result}
 use Rattle.std.proofs.lemmas.Slice.Eq.{bytes_eq-Decides}
 use Rattle.std.specs.Borrow.{Bor}
@@ -20,7 +20,7 @@ use Rattle.json_cursor.specs.Arrays.{prefix_value}
 use Rattle.json_cursor.specs.Members.{GoesOn, Made, prefix_member}
 use Rattle.topojson_decoder.specs.declared.occurrence.Occurrence.{Occurrence}
 use Rattle.topojson_decoder.specs.declared.occurrence.Occurrence.TheVariants.{Never, Once, Again}
-use Rattle.topojson_decoder.specs.Members.{GoesOnWith, IsOccurrence, Judges, see}
+use Rattle.topojson_decoder.specs.Members.{GoesOnWith, IsOccurrence, IsOnly, Judges, see}
 use Rattle.topojson_decoder.proofs.NamedMembers.{named_append, foreign_named, other_named}
 
 -- a name that is this word is no other
@@ -52,7 +52,38 @@ module _ {A : Type 0} (Is : Json → A → Type 0) (word : List ℕ) (ms : Membe
   pub passes : bytes_eq name word ≡ false → IsOccurrence Is (named word (ms ++ (name, v) ∷ [])) s
   passes other = subst (λ us. IsOccurrence Is us s) (sym (no_more word ms v name other)) h
 
+-- ---- values of which one alone counts
+
+module _ (Is : Json → Type 0) where
+  only_more : (vs : List Json) (v : Json) → IsOnly Is vs → IsOnly Is (vs ++ v ∷ [])
+  only_more [] v h = absurd h
+  only_more (x ∷ []) v h = tt
+  only_more (x ∷ y ∷ us) v h = tt
+
+  only_last : (vs : List Json) (v : Json) → Is v → IsOnly Is (vs ++ v ∷ [])
+  only_last [] v is = is
+  only_last (x ∷ []) v is = tt
+  only_last (x ∷ y ∷ us) v is = tt
+
+  module _ (word : List ℕ) (ms : Members) (name : List ℕ) (v : Json) where
+    only_by : (same : Bool) → bytes_eq name word ≡ same → IsOnly Is (named word ms) → IsOnly Is (named word (ms ++ (name, v) ∷ []))
+    only_by true e h = subst (IsOnly Is) (sym (one_more word ms v name e)) (only_more (named word ms) v h)
+    only_by false e h = subst (IsOnly Is) (sym (no_more word ms v name e)) h
+
+    -- one more member, whatever its name is
+    pub only_stays : IsOnly Is (named word ms) → IsOnly Is (named word (ms ++ (name, v) ∷ []))
+    only_stays h = only_by (bytes_eq name word) refl h
+
+    -- a member of this name, whose value is so
+    pub only_sees : bytes_eq name word ≡ true → Is v → IsOnly Is (named word (ms ++ (name, v) ∷ []))
+    only_sees same is = subst (IsOnly Is) (sym (one_more word ms v name same)) (only_last (named word ms) v is)
+
 -- ---- a member, as soon as its name was found
+
+-- of a name that is this word
+pub by_word : {S : Type 0} (Holds : Made S) (d : ℕ) (name word : List ℕ) → bytes_eq name word ≡ true → (before after : S) (bytes : List ℕ) (answer : Result (Bor (List ℕ)) Fault)
+    → GoesOnWith Holds d word before after bytes answer → GoesOnWith Holds d name before after bytes answer
+by_word Holds d name word same before after bytes answer h = let is : name ≡ word = (bytes_eq-Decides name word).0 same in subst (λ n. GoesOnWith Holds d n before after bytes answer) (sym is) h
 
 member_found : (d : ℕ) (bytes name value rest : List ℕ) (v : Json) → prefix_member d bytes ≡ (prefix_value d value >>= λ x. Some ((name, x.0), x.1)) → prefix_value d value ≡ Some (v, rest)
     → prefix_member d bytes ≡ Some ((name, v), rest)

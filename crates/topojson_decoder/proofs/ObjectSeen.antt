@@ -51,7 +51,7 @@ module _ (start : Start) (d : ℕ) (name : List ℕ) where
   pub sees_features : (ms : Members) (occurrence : ObjectParts) (v : Json) → IsObject start d ms occurrence → (x : Features) (s : Occurrence Features) → s ≡ see occurrence.features x → (prefix : Bor (List ℕ)) (member_index : Occurrence (Bor (List ℕ))) → member_index ≡ see occurrence.feature.parts.geometries prefix
       → bytes_eq name (codes "geometries") ≡ true → AreFeatures start d v x → BeginsAt d v prefix
       → IsObject start d (ms ++ (name, v) ∷ []) (record {
-        feature = record { parts = record { kind = occurrence.feature.parts.kind; coordinates = occurrence.feature.parts.coordinates; arcs = occurrence.feature.parts.arcs; geometries = member_index }; id = occurrence.feature.id; properties = occurrence.feature.properties };
+        feature = record { parts = record { kind = occurrence.feature.parts.kind; coordinates = occurrence.feature.parts.coordinates; arcs = occurrence.feature.parts.arcs; geometries = member_index; read = occurrence.feature.parts.read }; id = occurrence.feature.id; properties = occurrence.feature.properties };
         features = s;
       })
   sees_features ms occurrence v h x s is prefix member_index are same k begins = record {

@@ -1,5 +1,6 @@
 -- What was seen of the members of a feature (TopoJSON 1.0, section 2.2).
 use Rattle.std.specs.Prelude.{◌≡◌, ℕ, List, Option, Some, None, Result, Ok, Err, codes}
+use Rattle.std.specs.Borrow.{Bor}
 use Rattle.std.specs.Option.{option_copied}
 use Rattle.json_value.specs.declared.json.Json.{Json}
 use Rattle.json_value.specs.Members.{Members, named, only}
@@ -7,6 +8,9 @@ use Rattle.geojson_types.specs.declared.id.Id.{Id}
 use Rattle.geometry.specs.Points.{Point}
 use Rattle.json_cursor.specs.declared.kinds.Kind.{Kind}
 use Rattle.json_cursor.specs.declared.kinds.Kind.TheVariants.{Null, Number, Text, Object}
+use Rattle.json_cursor.specs.declared.names.Name.{Name}
+use Rattle.json_cursor.specs.Members.{Names}
+use Rattle.json_cursor.specs.Names.{name_of}
 use Rattle.topojson_types.specs.declared.feature.TopoFeature.{TopoFeature}
 use Rattle.topojson_types.specs.declared.transform.Transform.{Transform}
 use Rattle.topojson_meaning.specs.declared.fault.TopoFault.{TopoFault}
@@ -20,6 +24,8 @@ use Rattle.topojson_meaning.specs.Reader.{Reader, ◌>>=◌, pure, with_fault}
 use Rattle.topojson_decoder.specs.Geometries.{IsParts}
 use Rattle.topojson_decoder.specs.Kept.{making, of_feature, of_read}
 use Rattle.topojson_decoder.specs.Members.{IsOccurrence}
+use Rattle.topojson_decoder.specs.declared.feature_parts.FeatureMember.{FeatureMember}
+use Rattle.topojson_decoder.specs.declared.feature_parts.FeatureMember.TheVariants as of_member
 use Rattle.topojson_decoder.specs.declared.feature_parts.FeatureParts.{FeatureParts}
 use Rattle.topojson_decoder.specs.declared.geometry_parts.Start.{Start}
 use Rattle.topojson_decoder.specs.declared.keeping.Keeping.{Keeping}
@@ -54,6 +60,18 @@ abbrev pub blank_members : Kind → Result (Option Members) TopoFault
 blank_members Null = Ok None
 blank_members Object = Ok None
 blank_members kind = Err WrongKind
+
+-- the names of the members that are looked for first
+abbrev pub member_name : FeatureMember → List ℕ
+member_name of_member.Kind = codes "type"
+member_name of_member.Properties = codes "properties"
+member_name of_member.Arcs = codes "arcs"
+member_name of_member.Id = codes "id"
+member_name of_member.Coordinates = codes "coordinates"
+
+-- this one stands at the front, and its value begins there
+abbrev pub IsMemberAt : List ℕ → FeatureMember → Bor (List ℕ) → Type 0
+IsMemberAt bytes member value = (name : Name) × Names bytes (Ok (name, value)) × (name_of name ≡ member_name member)
 
 -- what was seen of these members
 pub record IsFeature (start : Start) (d : ℕ) (ms : Members) (occurrence : FeatureParts) : Type 0 where

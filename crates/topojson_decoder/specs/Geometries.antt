@@ -1,21 +1,23 @@
 -- What was seen of the members of a geometry (TopoJSON 1.0, section 2.2).
-use Rattle.std.specs.Prelude.{◌≡◌, ℕ, Option, Some, None, Result, Ok, Err, codes}
+use Rattle.std.specs.Prelude.{◌≡◌, ℕ, List, Option, Some, None, Result, Ok, Err, codes}
+use Rattle.std.specs.Borrow.{Bor}
 use Rattle.std.specs.Option.{option_copied}
 use Rattle.json_value.specs.declared.json.Json.{Json}
 use Rattle.json_value.specs.Members.{Members, named}
-use Rattle.geojson_types.specs.declared.counts.Counts.{Counts}
+use Rattle.json_reading.specs.declared.fault.Fault.{Fault}
+use Rattle.json_reading.specs.Gives.{Fails}
 use Rattle.topojson_types.specs.Topologies.{TopoShape}
 use Rattle.topojson_meaning.specs.declared.fault.TopoFault.{TopoFault}
 use Rattle.topojson_meaning.specs.declared.fault.TopoFault.TheVariants.{WrongKind}
 use Rattle.topojson_meaning.specs.declared.geometry_type.GeometryType.{GeometryType}
 use Rattle.topojson_meaning.specs.declared.geometry_type.GeometryType.TheVariants as types
-use Rattle.topojson_meaning.specs.GeometryTypes.{type_of}
+use Rattle.topojson_meaning.specs.GeometryTypes.{part_name, type_of}
 use Rattle.topojson_meaning.specs.Reader.{Reader}
 use Rattle.topojson_meaning.specs.Shapes as shapes
 use Rattle.json_cursor.specs.declared.kinds.Kind.{Kind}
 use Rattle.json_cursor.specs.declared.kinds.Kind.TheVariants.{Null}
-use Rattle.topojson_decoder.specs.Members.{BeginsAt, IsHeld, IsOccurrence}
-use Rattle.topojson_decoder.specs.declared.geometry_parts.Part.{Part}
+use Rattle.json_cursor.specs.Arrays.{prefix_value}
+use Rattle.topojson_decoder.specs.Members.{BeginsAt, IsHeld, IsOccurrence, IsOnly}
 use Rattle.topojson_decoder.specs.declared.geometry_parts.PartType.{PartType}
 use Rattle.topojson_decoder.specs.declared.geometry_parts.PartType.TheVariants.{Places, Arcs}
 use Rattle.topojson_decoder.specs.declared.geometry_parts.GeometryParts.{GeometryParts}
@@ -47,24 +49,36 @@ abbrev pub textless_type : Kind → Result (Option GeometryType) TopoFault
 textless_type Null = Ok None
 textless_type kind = Err WrongKind
 
--- what a value was read as by its type, if it was
-abbrev pub IsRead : Start → Json → Option Read → Type 0
-IsRead start v None = Unit {0}
-IsRead start v (Some read) = IsHeld (part start read.kind) start.counts read.counts v read.shape
+-- the value was read so by this type
+abbrev pub IsReadBy : Start → PartType → Json → Read → Type 0
+IsReadBy start kind v read = IsHeld (part start kind) start.counts read.counts v read.shape
 
--- what a value was read as by this very type, if it was
-abbrev pub IsTaken : Start → PartType → Json → Option (Result (Option TopoShape) TopoFault × Counts) → Type 0
-IsTaken start kind v None = Unit {0}
-IsTaken start kind v (Some x) = IsHeld (part start kind) start.counts x.1 v x.0
+-- it was, if it was by this very type
+abbrev pub IsTaken : Start → PartType → Json → Read → Type 0
+IsTaken start kind v read = read.by ≡ Some kind → IsReadBy start kind v read
 
--- the value begins there, and was read so, if it was
-pub record IsPart (start : Start) (d : ℕ) (v : Json) (x : Part) : Type 0 where
-  pub prefix : BeginsAt d v x.prefix
-  pub read : IsRead start v x.read
+-- the value that comes next was read so by its type, or wasn't read where none is known
+abbrev pub IsNext : Start → Option PartType → Json → Read → Read → Type 0
+IsNext start None v before after = after ≡ before
+IsNext start (Some kind) v before after = (after.by ≡ Some kind) × IsReadBy start kind v after
+
+-- a value stands at the front, which comes next, and this follows it; or none stands there, or nothing is said
+abbrev pub ReadsPart : Start → Option PartType → ℕ → Read → Read → List ℕ → Result (Bor (List ℕ)) Fault → Type 0
+ReadsPart start kind d before after bytes (Ok rest) = (v : Json) × (prefix_value d bytes ≡ Some (v, rest.now)) × IsNext start kind v before after
+ReadsPart start kind d before after bytes (Err fault) = Fails fault (prefix_value d bytes)
+
+-- a value of the member that a geometry of this type is made of was read so, if one was; and it is the one that counts, where there is one alone
+abbrev pub IsReadOf : Start → Members → Read → Option PartType → Type 0
+IsReadOf start ms read None = Unit {0}
+IsReadOf start ms read (Some kind) = IsOnly (λ v. IsReadBy start kind v read) (named (part_name (of_part kind)) ms)
+
+abbrev pub IsRead : Start → Members → Read → Type 0
+IsRead start ms read = IsReadOf start ms read read.by
 
 -- what was seen of these members
 pub record IsParts (start : Start) (d : ℕ) (ms : Members) (parts : GeometryParts) : Type 0 where
   pub kind : IsOccurrence IsType (named (codes "type") ms) parts.kind
-  pub coordinates : IsOccurrence (IsPart start d) (named (codes "coordinates") ms) parts.coordinates
-  pub arcs : IsOccurrence (IsPart start d) (named (codes "arcs") ms) parts.arcs
+  pub coordinates : IsOccurrence (BeginsAt d) (named (codes "coordinates") ms) parts.coordinates
+  pub arcs : IsOccurrence (BeginsAt d) (named (codes "arcs") ms) parts.arcs
   pub geometries : IsOccurrence (BeginsAt d) (named (codes "geometries") ms) parts.geometries
+  pub read : IsRead start ms parts.read

@@ -27,6 +27,12 @@ see Never x = Once x
 see (Once y) x = Again
 see Again x = Again
 
+-- there are values, and where there is one alone it is so
+abbrev pub IsOnly : (Json → Type 0) → List Json → Type 0
+IsOnly Is [] = ⊥
+IsOnly Is (v ∷ []) = Is v
+IsOnly Is (v ∷ w ∷ us) = Unit {0}
+
 -- the value begins there
 abbrev pub BeginsAt : ℕ → Json → Bor (List ℕ) → Type 0
 BeginsAt d v prefix = (rest : List ℕ) × (prefix_value d prefix.now ≡ Some (v, rest))

@@ -21,16 +21,16 @@ use std::alloc::Global;
 use topojson_meaning::TopoFault;
 use topojson_types::{Cell, TopoFeature, Transform};
 
-/// The feature whose members were seen so.
+/// The feature whose members were seen so. What was kept of them is taken out.
 #[inline(always)]
 fn typed_feature_of(
     alloc: Global,
     depth_left: u32,
-    occurrence: FeatureParts<'_>,
+    occurrence: &mut FeatureParts<'_>,
     start: Start<'_>,
     counts: &mut Counts,
 ) -> Result<TopoFeature, Stop<TopoFault>>
-    ensures { (ms : Listed) → IsFeature start.entry depth_left ms occurrence.entry
+    ensures { (ms : Listed) → IsFeature start.entry depth_left ms occurrence.old
         → Judges (kept_typed_feature start.entry ms) start.entry.counts counts.new result }
 {
     match kind_of(&occurrence.parts.kind) {
@@ -41,6 +41,7 @@ fn typed_feature_of(
 
 /// What is kept of the feature at the front that is a geometry in a collection, and what follows it; or why reading stops. Its members may
 /// stand in any order.
+#[inline(always)]
 fn kept_feature_at<'a>(
     alloc: Global,
     depth_left: u32,
@@ -69,7 +70,7 @@ fn kept_feature_at<'a>(
     else {
         return Err(Stop::Fault(TopoFault::WrongKind));
     };
-    match typed_feature_of(alloc, depth_left - 1, occurrence, start, counts) {
+    match typed_feature_of(alloc, depth_left - 1, &mut occurrence, start, counts) {
         Err(stop) => Err(stop),
         Ok(feature) => Ok((feature, rest)),
     }

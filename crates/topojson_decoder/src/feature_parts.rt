@@ -1,13 +1,14 @@
 // What is seen of the members of a feature (TopoJSON 1.0, section 2.2).
-ghost use Rattle.std.specs.Prelude.{◌≡◌, [], ℕ, List, None, Ok, Option, Result};
+ghost use Rattle.std.specs.Prelude.{◌≡◌, [], ℕ, IfSome, List, None, Ok, Option, Result, codes, true};
 ghost use Rattle.json_value.specs.declared.json.Json.{Json as Value};
 ghost use Rattle.json_value.specs.Members.{Members as Listed};
-ghost use Rattle.json_cursor.specs.Members.{Names};
+ghost use Rattle.json_cursor.specs.Members.{GoesOn};
+ghost use Rattle.json_reading.specs.Strings.{simple};
 ghost use Rattle.topojson_meaning.specs.Answers.{Finds};
 ghost use Rattle.topojson_meaning.specs.Features.{identifier as identifier_in, members_if};
 ghost use Rattle.topojson_meaning.specs.declared.fault.TopoFault.{TopoFault as Refusal};
-ghost use Rattle.topojson_decoder.specs.Features.{IsFeature, IsFound, blank_identifier, blank_members, feature, found_in as found_among, kept_identifier, kept_members};
-ghost use Rattle.topojson_decoder.specs.Members.{GoesOnWith, IsOccurrence, Judges, FindsValue};
+ghost use Rattle.topojson_decoder.specs.Features.{IsFeature, IsFound, IsMemberAt, blank_identifier, blank_members, feature, found_in as found_among, kept_identifier, kept_members, member_name};
+ghost use Rattle.topojson_decoder.specs.Members.{FindsValue, GoesOnWith, IsOccurrence, Judges};
 ghost use Rattle.topojson_decoder.specs.declared.geometry_parts.Start.{Start as Begun};
 
 use crate::geometries::typed_of;
@@ -16,10 +17,11 @@ use crate::index::is_name;
 use crate::keeping::Keeping;
 use crate::occurrence::Occurrence;
 use geojson_types::{Counts, Id, Properties};
-use json_cursor::{Kind, Members, Name, Stop, kind_at, name_at, named_at, read_properties};
+use json_cursor::{Kind, Members, Stop, kind_at, name_at, named_at, read_properties};
 use json_reading::{Fault, after_value, value_at};
 use json_value::Json;
 use std::alloc::Global;
+use std::mem;
 use topojson_meaning::{GeometryType, TopoFault};
 use topojson_types::TopoFeature;
 
@@ -29,6 +31,16 @@ pub struct FeatureParts<'a> {
     pub parts: GeometryParts<'a>,
     pub id: Occurrence<Result<Option<Id>, TopoFault>>,
     pub properties: Occurrence<Result<Option<Properties>, TopoFault>>,
+}
+
+/// The members of a feature that are looked for first. `Kind` is the member `type`.
+#[derive(Clone, Copy)]
+pub enum FeatureMember {
+    Kind,
+    Properties,
+    Arcs,
+    Id,
+    Coordinates,
 }
 
 /// The identifier that the member `id` gives. Absent and null are none.
@@ -159,6 +171,38 @@ impl<'a> FeatureParts<'a> {
         }
     }
 
+    /// Goes on with the value at the front of a member `id`, and gives what follows it.
+    #[inline(always)]
+    fn id_value(
+        &mut self,
+        alloc: Global,
+        depth_left: u32,
+        bytes: &'a [u8],
+        start: Start<'a>,
+    ) -> Result<&'a [u8], Fault>
+        ensures { GoesOnWith (IsFeature start.entry depth_left) depth_left (codes "id") self.old self.new bytes.now result }
+    {
+        let (id, rest) = id_at(alloc, depth_left, start.keeping, bytes)?;
+        self.id.see(id);
+        Ok(rest)
+    }
+
+    /// Goes on with the value at the front of a member `properties`, and gives what follows it.
+    #[inline(always)]
+    fn properties_value(
+        &mut self,
+        alloc: Global,
+        depth_left: u32,
+        bytes: &'a [u8],
+        start: Start<'a>,
+    ) -> Result<&'a [u8], Fault>
+        ensures { GoesOnWith (IsFeature start.entry depth_left) depth_left (codes "properties") self.old self.new bytes.now result }
+    {
+        let (properties, rest) = properties_at(alloc, depth_left, start.keeping, bytes)?;
+        self.properties.see(properties);
+        Ok(rest)
+    }
+
     /// Goes on with the value at the front of a member of this name, and gives what follows it.
     #[inline(always)]
     pub(crate) fn value(
@@ -172,16 +216,51 @@ impl<'a> FeatureParts<'a> {
         ensures { GoesOnWith (IsFeature start.entry depth_left) depth_left name.now self.old self.new bytes.now result }
     {
         if is_name(name, "id") {
-            let (id, rest) = id_at(alloc, depth_left, start.keeping, bytes)?;
-            self.id.see(id);
-            return Ok(rest);
+            return self.id_value(alloc, depth_left, bytes, start);
         }
         if is_name(name, "properties") {
-            let (properties, rest) = properties_at(alloc, depth_left, start.keeping, bytes)?;
-            self.properties.see(properties);
-            return Ok(rest);
+            return self.properties_value(alloc, depth_left, bytes, start);
         }
         self.parts.value(alloc, depth_left, name, bytes, start)
+    }
+
+    /// Goes on with the value at the front of this member, and gives what follows it.
+    #[inline(always)]
+    fn member_value(
+        &mut self,
+        alloc: Global,
+        depth_left: u32,
+        member: FeatureMember,
+        bytes: &'a [u8],
+        start: Start<'a>,
+    ) -> Result<&'a [u8], Fault>
+        ensures { GoesOnWith (IsFeature start.entry depth_left) depth_left (member_name member) self.old self.new bytes.now result }
+    {
+        match member {
+            FeatureMember::Kind => self.parts.type_value(alloc, depth_left, bytes),
+            FeatureMember::Properties => self.properties_value(alloc, depth_left, bytes, start),
+            FeatureMember::Arcs => self.parts.arcs_value(alloc, depth_left, bytes, start),
+            FeatureMember::Id => self.id_value(alloc, depth_left, bytes, start),
+            FeatureMember::Coordinates => {
+                self.parts
+                    .coordinates_value(alloc, depth_left, bytes, start)
+            }
+        }
+    }
+
+    /// Goes on with the member at the front, whatever its name is, and gives what follows it.
+    #[inline(never)]
+    fn any_member(
+        &mut self,
+        alloc: Global,
+        depth_left: u32,
+        bytes: &'a [u8],
+        start: Start<'a>,
+    ) -> Result<&'a [u8], Fault>
+        ensures { GoesOn (IsFeature start.entry depth_left) depth_left self.old self.new bytes.now result }
+    {
+        let (name, value) = name_at(alloc, bytes)?;
+        self.value(alloc, depth_left, name.as_str(), value, start)
     }
 }
 
@@ -194,38 +273,36 @@ fn first_letter(bytes: &[u8]) -> u8 {
     }
 }
 
-/// The name of the member at the front, and where its value begins: those of a feature are looked for first, by their letters.
+/// This member at the front, and where its value begins, if its name stands there as it is.
 #[inline(always)]
-fn feature_name_at<'a>(alloc: Global, bytes: &'a [u8]) -> Result<(Name<'a>, &'a [u8]), Fault>
-    ensures { Names bytes.now result }
+fn named_member<'a>(
+    member: FeatureMember,
+    name: &'static str,
+    bytes: &'a [u8],
+) -> Option<(FeatureMember, &'a [u8])>
+    requires plain { simple name.now ≡ true }
+    requires own { name.now ≡ member_name member }
+    ensures { IfSome result (λ x. IsMemberAt bytes.now x.0 x.1) }
 {
-    let letter = first_letter(bytes);
-    if letter == b't' {
-        if let Some(found) = named_at("type", bytes) {
-            return Ok(found);
-        }
+    let Some((_found, value)) = named_at(name, bytes) else {
+        return None;
+    };
+    Some((member, value))
+}
+
+/// The member at the front, and where its value begins, if it is one of those that are looked for first, by the first letter of its name.
+#[inline(always)]
+fn feature_member_at<'a>(bytes: &'a [u8]) -> Option<(FeatureMember, &'a [u8])>
+    ensures { IfSome result (λ x. IsMemberAt bytes.now x.0 x.1) }
+{
+    match first_letter(bytes) {
+        b't' => named_member(FeatureMember::Kind, "type", bytes),
+        b'p' => named_member(FeatureMember::Properties, "properties", bytes),
+        b'a' => named_member(FeatureMember::Arcs, "arcs", bytes),
+        b'i' => named_member(FeatureMember::Id, "id", bytes),
+        b'c' => named_member(FeatureMember::Coordinates, "coordinates", bytes),
+        _ => None,
     }
-    if letter == b'p' {
-        if let Some(found) = named_at("properties", bytes) {
-            return Ok(found);
-        }
-    }
-    if letter == b'a' {
-        if let Some(found) = named_at("arcs", bytes) {
-            return Ok(found);
-        }
-    }
-    if letter == b'i' {
-        if let Some(found) = named_at("id", bytes) {
-            return Ok(found);
-        }
-    }
-    if letter == b'c' {
-        if let Some(found) = named_at("coordinates", bytes) {
-            return Ok(found);
-        }
-    }
-    name_at(alloc, bytes)
 }
 
 impl<'a> Members<'a> for FeatureParts<'a> {
@@ -240,51 +317,55 @@ impl<'a> Members<'a> for FeatureParts<'a> {
         bytes: &'a [u8],
         with: Start<'a>,
     ) -> Result<&'a [u8], Fault> {
-        let (name, value) = feature_name_at(alloc, bytes)?;
-        self.value(alloc, depth_left, name.as_str(), value, with)
+        match feature_member_at(bytes) {
+            Some((member, value)) => self.member_value(alloc, depth_left, member, value, with),
+            None => self.any_member(alloc, depth_left, bytes, with),
+        }
     }
 }
 
-/// What a member is that was seen so, and that may be absent.
+/// What a member is that was seen so, and that may be absent. It is taken out.
 #[inline(always)]
 fn found_in<T: Drop>(
-    occurrence: Occurrence<Result<Option<T>, TopoFault>>,
+    occurrence: &mut Occurrence<Result<Option<T>, TopoFault>>,
 ) -> Result<Option<T>, TopoFault>
-    ensures { (read : Option Value → Result (Option T) Refusal) (vs : List Value) → read None ≡ Ok None → IsOccurrence (IsFound read) vs occurrence → result ≡ found_among read vs }
+    ensures { (read : Option Value → Result (Option T) Refusal) (vs : List Value) → read None ≡ Ok None → IsOccurrence (IsFound read) vs occurrence.old → result ≡ found_among read vs }
 {
     match occurrence {
         Occurrence::Never => Ok(None),
         Occurrence::Again => Err(TopoFault::Duplicate),
-        Occurrence::Once(found) => found,
+        Occurrence::Once(found) => mem::replace(found, Ok(None)),
     }
 }
 
-/// The feature of this type whose members were seen so.
+/// The feature of this type whose members were seen so. What was kept of them is taken out.
 #[inline(always)]
 pub(crate) fn feature_of(
     alloc: Global,
     depth_left: u32,
     kind: Option<GeometryType>,
-    occurrence: FeatureParts<'_>,
+    occurrence: &mut FeatureParts<'_>,
     start: Start<'_>,
     counts: &mut Counts,
 ) -> Result<TopoFeature, Stop<TopoFault>>
-    ensures { (ms : Listed) → IsFeature start.entry depth_left ms occurrence.entry → Judges (feature start.entry kind ms) start.entry.counts counts.new result }
+    ensures { (ms : Listed) → IsFeature start.entry depth_left ms occurrence.old → Judges (feature start.entry kind ms) start.entry.counts counts.new result }
 {
-    let FeatureParts {
-        parts,
-        id,
-        properties,
-    } = occurrence;
-    let id = match found_in(id) {
+    let id = match found_in(&mut occurrence.id) {
         Err(fault) => return Err(Stop::Fault(fault)),
         Ok(id) => id,
     };
-    let properties = match found_in(properties) {
+    let properties = match found_in(&mut occurrence.properties) {
         Err(fault) => return Err(Stop::Fault(fault)),
         Ok(properties) => properties,
     };
-    match typed_of(alloc, depth_left, kind, parts, start, counts) {
+    match typed_of(
+        alloc,
+        depth_left,
+        kind,
+        &mut occurrence.parts,
+        start,
+        counts,
+    ) {
         Err(stop) => Err(stop),
         Ok(shape) => {
             Ok(TopoFeature {

@@ -14,7 +14,7 @@ use crate::geometry_parts::{GeometryParts, PartType, Start, kind_of, part_of};
 use crate::keeping::Keeping;
 use crate::occurrence::Occurrence;
 use geojson_types::Counts;
-use json_cursor::{Mark, Stop, after_byte, mark_at, object_at};
+use json_cursor::{Mark, Stop, after_byte, mark_at, object_into};
 use json_reading::skip;
 use json_value::Items;
 use std::alloc::{AllocFailed, Global};
@@ -26,11 +26,11 @@ use topojson_types::{Cell, TopoShape, Transform};
 fn group_of(
     alloc: Global,
     depth_left: u32,
-    geometries: Occurrence<&[u8]>,
+    geometries: &Occurrence<&[u8]>,
     start: Start<'_>,
     counts: &mut Counts,
 ) -> Result<Option<TopoShape>, Stop<TopoFault>>
-    ensures { (ms : Listed) → IsOccurrence (BeginsAt depth_left) (named (codes "geometries") ms) geometries.entry
+    ensures { (ms : Listed) → IsOccurrence (BeginsAt depth_left) (named (codes "geometries") ms) geometries.now
         → Judges (typed_shape start.entry (Some types.Collection) ms) start.entry.counts counts.new result }
 {
     match geometries {
@@ -43,7 +43,7 @@ fn group_of(
                 depth_left,
                 start.transform,
                 start.arcs,
-                prefix,
+                *prefix,
                 counts,
             ) {
                 Err(stop) => Err(stop),
@@ -53,24 +53,19 @@ fn group_of(
     }
 }
 
-/// The shape of a geometry of this type whose members were seen so. A null type has none.
+/// The shape of a geometry of this type whose members were seen so. What was read of them is taken out. A null type has none.
 #[cycle(geometries)]
+#[inline(always)]
 pub(crate) fn typed_of(
     alloc: Global,
     depth_left: u32,
     kind: Option<GeometryType>,
-    parts: GeometryParts<'_>,
+    parts: &mut GeometryParts<'_>,
     start: Start<'_>,
     counts: &mut Counts,
 ) -> Result<Option<TopoShape>, Stop<TopoFault>>
-    ensures { (ms : Listed) → IsParts start.entry depth_left ms parts.entry → Judges (typed_shape start.entry kind ms) start.entry.counts counts.new result }
+    ensures { (ms : Listed) → IsParts start.entry depth_left ms parts.old → Judges (typed_shape start.entry kind ms) start.entry.counts counts.new result }
 {
-    let GeometryParts {
-        kind: _,
-        coordinates,
-        arcs,
-        geometries,
-    } = parts;
     match kind {
         None => {
             *counts = start.counts;
@@ -82,29 +77,40 @@ pub(crate) fn typed_of(
                     alloc,
                     depth_left,
                     PartType::Places(kind),
-                    coordinates,
+                    &parts.coordinates,
+                    &mut parts.read,
                     start,
                     counts,
                 )
             }
             GeometryType::Arcs(kind) => {
-                part_of(alloc, depth_left, PartType::Arcs(kind), arcs, start, counts)
+                part_of(
+                    alloc,
+                    depth_left,
+                    PartType::Arcs(kind),
+                    &parts.arcs,
+                    &mut parts.read,
+                    start,
+                    counts,
+                )
             }
-            GeometryType::Collection => group_of(alloc, depth_left, geometries, start, counts),
+            GeometryType::Collection => {
+                group_of(alloc, depth_left, &parts.geometries, start, counts)
+            }
         },
     }
 }
 
-/// The geometry whose members were seen so.
+/// The geometry whose members were seen so. What was read of them is taken out.
 #[cycle(geometries)]
 fn shape_of(
     alloc: Global,
     depth_left: u32,
-    parts: GeometryParts<'_>,
+    parts: &mut GeometryParts<'_>,
     start: Start<'_>,
     counts: &mut Counts,
 ) -> Result<Option<TopoShape>, Stop<TopoFault>>
-    ensures { (ms : Listed) → IsParts start.entry depth_left ms parts.entry → Judges (geometry start.entry ms) start.entry.counts counts.new result }
+    ensures { (ms : Listed) → IsParts start.entry depth_left ms parts.old → Judges (geometry start.entry ms) start.entry.counts counts.new result }
 {
     match kind_of(&parts.kind) {
         Err(fault) => Err(Stop::Fault(fault)),
@@ -131,12 +137,12 @@ pub fn geometry_at<'a>(
         counts: *counts,
         keeping: Keeping::Whole,
     };
-    let none = GeometryParts::none();
-    let (found, rest) = object_at::<GeometryParts<'a>>(alloc, depth_left, none, bytes, start)?;
-    let Some(parts) = found else {
+    let mut parts = GeometryParts::none();
+    let Some(rest) = object_into::<GeometryParts<'a>>(alloc, depth_left, &mut parts, bytes, start)?
+    else {
         return Err(Stop::Fault(TopoFault::WrongKind));
     };
-    match shape_of(alloc, depth_left - 1, parts, start, counts) {
+    match shape_of(alloc, depth_left - 1, &mut parts, start, counts) {
         Err(stop) => Err(stop),
         Ok(shape) => Ok((shape, rest)),
     }

@@ -1,13 +1,13 @@
 // What is seen of the members of a geometry (TopoJSON 1.0, section 2.2).
-ghost use Rattle.std.specs.Prelude.{◌≡◌, [], ℕ, Some, codes, true};
+ghost use Rattle.std.specs.Prelude.{◌≡◌, [], ℕ, IfSome, List, Some, codes, true};
 ghost use Rattle.json_value.specs.declared.json.Json.{Json as Value};
 ghost use Rattle.json_value.specs.Members.{Members as Listed, named};
 ghost use Rattle.json_cursor.specs.Answers.{Answers};
 ghost use Rattle.json_cursor.specs.Arrays.{prefix_value};
 ghost use Rattle.topojson_meaning.specs.GeometryTypes.{object_type, part_name};
-ghost use Rattle.topojson_decoder.specs.Geometries.{IsPart, IsParts, IsRead, IsTaken, IsType, of_part, part, typed_shape};
+ghost use Rattle.topojson_decoder.specs.Geometries.{IsParts, IsRead, IsTaken, IsType, ReadsPart, of_part, part, typed_shape};
 ghost use Rattle.topojson_decoder.specs.Geometries as spec;
-ghost use Rattle.topojson_decoder.specs.Members.{GoesOnWith, IsOccurrence, Judges, FindsValue};
+ghost use Rattle.topojson_decoder.specs.Members.{BeginsAt, FindsValue, GoesOnWith, IsOccurrence, Judges};
 ghost use Rattle.topojson_decoder.specs.declared.geometry_parts.Start.{Start as Begun};
 
 use crate::held::held;
@@ -21,6 +21,7 @@ use json_cursor::{Kind, Members, Stop, kind_at, name_at, string_at};
 use json_reading::{Fault, after_value};
 use json_value::Items;
 use std::alloc::Global;
+use std::mem;
 use topojson_meaning::{ArcsType, GeometryType, PlacesType, TopoFault};
 use topojson_types::{Cell, TopoShape, Transform};
 
@@ -41,28 +42,23 @@ pub enum PartType {
     Arcs(ArcsType),
 }
 
-/// What the value of `coordinates` or `arcs` is read as by this type, or its fault, and what was counted then.
+/// What the value of `coordinates` or `arcs` that was read last is by its type, or its fault, and what was counted then.
 #[derive(Drop)]
 pub struct Read {
-    pub kind: PartType,
+    /// The type that it was read by. A value that comes before its type is not read.
+    pub by: Option<PartType>,
     pub shape: Result<Option<TopoShape>, TopoFault>,
     pub counts: Counts,
 }
 
-/// Where the value of `coordinates` or `arcs` begins, and what it was read as, if its type was known then.
-#[derive(Drop)]
-pub struct Part<'a> {
-    pub prefix: &'a [u8],
-    pub read: Option<Read>,
-}
-
-/// What was seen of the members of a geometry.
+/// What was seen of the members of a geometry: where their values begin, and what was read of them.
 #[derive(Drop)]
 pub struct GeometryParts<'a> {
     pub kind: Occurrence<Result<Option<GeometryType>, TopoFault>>,
-    pub coordinates: Occurrence<Part<'a>>,
-    pub arcs: Occurrence<Part<'a>>,
+    pub coordinates: Occurrence<&'a [u8]>,
+    pub arcs: Occurrence<&'a [u8]>,
     pub geometries: Occurrence<&'a [u8]>,
+    pub read: Read,
 }
 
 /// The type that a value of this kind names, which is no text.
@@ -113,67 +109,93 @@ fn typed_at<'a>(
     }
 }
 
-/// The value at the front, which is passed over, and what follows it.
-fn passed_at<'a>(
-    alloc: Global,
-    depth_left: u32,
-    start: Start<'_>,
-    bytes: &'a [u8],
-) -> Result<(Part<'a>, &'a [u8]), Fault>
-    ensures { FindsValue (IsPart start.entry depth_left) depth_left bytes.now result }
+/// Whether the types are one.
+fn is_same_places(one: PlacesType, other: PlacesType) -> bool
+    ensures { result ≡ true → one ≡ other }
 {
-    let rest = after_value(alloc, depth_left, bytes)?;
-    Ok((
-        Part {
-            prefix: bytes,
-            read: None,
-        },
-        rest,
-    ))
+    match one {
+        PlacesType::Point => matches!(other, PlacesType::Point),
+        PlacesType::MultiPoint => matches!(other, PlacesType::MultiPoint),
+    }
 }
 
-/// The value at the front, which is read by this type, and what follows it.
-#[inline(always)]
-fn read_at<'a>(
-    alloc: Global,
-    depth_left: u32,
-    start: Start<'_>,
-    kind: PartType,
-    bytes: &'a [u8],
-) -> Result<(Part<'a>, &'a [u8]), Fault>
-    ensures { FindsValue (IsPart start.entry depth_left) depth_left bytes.now result }
+/// Whether the types are one.
+fn is_same_arcs(one: ArcsType, other: ArcsType) -> bool
+    ensures { result ≡ true → one ≡ other }
 {
-    let mut counts = start.counts;
-    let answer = typed_at(alloc, depth_left, start, kind, bytes, &mut counts);
-    let (shape, rest) = held(alloc, depth_left, bytes, answer)?;
-    let read = Read {
-        kind,
-        shape,
-        counts,
-    };
-    Ok((
-        Part {
-            prefix: bytes,
-            read: Some(read),
-        },
-        rest,
-    ))
+    match one {
+        ArcsType::LineString => matches!(other, ArcsType::LineString),
+        ArcsType::MultiLineString => matches!(other, ArcsType::MultiLineString),
+        ArcsType::Polygon => matches!(other, ArcsType::Polygon),
+        ArcsType::MultiPolygon => matches!(other, ArcsType::MultiPolygon),
+    }
 }
 
-/// The value at the front, which is read by this type, if it is known, and what follows it.
+/// Whether the types are one.
 #[inline(always)]
-fn part_at<'a>(
-    alloc: Global,
-    depth_left: u32,
-    start: Start<'_>,
-    kind: Option<PartType>,
-    bytes: &'a [u8],
-) -> Result<(Part<'a>, &'a [u8]), Fault>
-    ensures { FindsValue (IsPart start.entry depth_left) depth_left bytes.now result }
+fn is_same(one: PartType, other: PartType) -> bool
+    ensures { result ≡ true → one ≡ other }
 {
-    match kind {
-        None => passed_at(alloc, depth_left, start, bytes),
-        Some(kind) => read_at(alloc, depth_left, start, kind, bytes),
+    match one {
+        PartType::Places(one) => match other {
+            PartType::Places(other) => is_same_places(one, other),
+            PartType::Arcs(_) => false,
+        },
+        PartType::Arcs(one) => match other {
+            PartType::Places(_) => false,
+            PartType::Arcs(other) => is_same_arcs(one, other),
+        },
+    }
+}
+
+impl Read {
+    /// Goes on with the value at the front, which is read by this type, and gives what follows it.
+    #[inline(always)]
+    fn read_at<'a>(
+        &mut self,
+        alloc: Global,
+        depth_left: u32,
+        start: Start<'_>,
+        kind: PartType,
+        bytes: &'a [u8],
+    ) -> Result<&'a [u8], Fault>
+        ensures { ReadsPart start.entry (Some kind) depth_left self.old self.new bytes.now result }
+    {
+        self.counts = start.counts;
+        let answer = typed_at(alloc, depth_left, start, kind, bytes, &mut self.counts);
+        let (shape, rest) = held(alloc, depth_left, bytes, answer)?;
+        self.by = Some(kind);
+        self.shape = shape;
+        Ok(rest)
+    }
+
+    /// Goes on with the value at the front, which is read by this type, if it is known, and gives what follows it.
+    #[inline(always)]
+    fn part_at<'a>(
+        &mut self,
+        alloc: Global,
+        depth_left: u32,
+        start: Start<'_>,
+        kind: Option<PartType>,
+        bytes: &'a [u8],
+    ) -> Result<&'a [u8], Fault>
+        ensures { ReadsPart start.entry kind depth_left self.old self.new bytes.now result }
+    {
+        match kind {
+            None => after_value(alloc, depth_left, bytes),
+            Some(kind) => self.read_at(alloc, depth_left, start, kind, bytes),
+        }
+    }
+
+    /// Whether it was read by this very type.
+    #[inline(always)]
+    fn is_by(&self, kind: PartType) -> bool
+        ensures { result ≡ true → self.now.by ≡ Some kind }
+    {
+        match self.by {
+            None => false,
+            Some(by) => is_same(by, kind),
+        }
     }
 }
 
@@ -188,11 +210,19 @@ impl<'a> GeometryParts<'a> {
             coordinates: Occurrence::Never,
             arcs: Occurrence::Never,
             geometries: Occurrence::Never,
+            read: Read {
+                by: None,
+                shape: Ok(None),
+                counts: Counts::none(),
+            },
         }
     }
 
     /// The type of those that have `coordinates`, if it was seen.
-    fn places_type(&self) -> Option<PartType> {
+    #[inline(always)]
+    fn places_type(&self) -> Option<PartType>
+        ensures { IfSome result (λ kind. part_name (of_part kind) ≡ codes "coordinates") }
+    {
         match self.kind {
             Occurrence::Once(Ok(Some(GeometryType::Places(kind)))) => Some(PartType::Places(kind)),
             _ => None,
@@ -200,11 +230,63 @@ impl<'a> GeometryParts<'a> {
     }
 
     /// The type of those that have `arcs`, if it was seen.
-    fn arcs_type(&self) -> Option<PartType> {
+    #[inline(always)]
+    fn arcs_type(&self) -> Option<PartType>
+        ensures { IfSome result (λ kind. part_name (of_part kind) ≡ codes "arcs") }
+    {
         match self.kind {
             Occurrence::Once(Ok(Some(GeometryType::Arcs(kind)))) => Some(PartType::Arcs(kind)),
             _ => None,
         }
+    }
+
+    /// Goes on with the value at the front of a member `type`, and gives what follows it.
+    #[inline(always)]
+    pub(crate) fn type_value(
+        &mut self,
+        alloc: Global,
+        depth_left: u32,
+        bytes: &'a [u8],
+    ) -> Result<&'a [u8], Fault>
+        ensures { (start : Begun) → GoesOnWith (IsParts start depth_left) depth_left (codes "type") self.old self.new bytes.now result }
+    {
+        let (kind, rest) = type_at(alloc, depth_left, bytes)?;
+        self.kind.see(kind);
+        Ok(rest)
+    }
+
+    /// Goes on with the value at the front of a member `coordinates`, and gives what follows it.
+    #[inline(always)]
+    pub(crate) fn coordinates_value(
+        &mut self,
+        alloc: Global,
+        depth_left: u32,
+        bytes: &'a [u8],
+        start: Start<'a>,
+    ) -> Result<&'a [u8], Fault>
+        ensures { GoesOnWith (IsParts start.entry depth_left) depth_left (codes "coordinates") self.old self.new bytes.now result }
+    {
+        let kind = self.places_type();
+        let rest = self.read.part_at(alloc, depth_left, start, kind, bytes)?;
+        self.coordinates.see(bytes);
+        Ok(rest)
+    }
+
+    /// Goes on with the value at the front of a member `arcs`, and gives what follows it.
+    #[inline(always)]
+    pub(crate) fn arcs_value(
+        &mut self,
+        alloc: Global,
+        depth_left: u32,
+        bytes: &'a [u8],
+        start: Start<'a>,
+    ) -> Result<&'a [u8], Fault>
+        ensures { GoesOnWith (IsParts start.entry depth_left) depth_left (codes "arcs") self.old self.new bytes.now result }
+    {
+        let kind = self.arcs_type();
+        let rest = self.read.part_at(alloc, depth_left, start, kind, bytes)?;
+        self.arcs.see(bytes);
+        Ok(rest)
     }
 
     /// Goes on with the value at the front of a member of this name, and gives what follows it.
@@ -220,21 +302,13 @@ impl<'a> GeometryParts<'a> {
         ensures { GoesOnWith (IsParts start.entry depth_left) depth_left name.now self.old self.new bytes.now result }
     {
         if is_name(name, "type") {
-            let (kind, rest) = type_at(alloc, depth_left, bytes)?;
-            self.kind.see(kind);
-            return Ok(rest);
+            return self.type_value(alloc, depth_left, bytes);
         }
         if is_name(name, "coordinates") {
-            let kind = self.places_type();
-            let (found, rest) = part_at(alloc, depth_left, start, kind, bytes)?;
-            self.coordinates.see(found);
-            return Ok(rest);
+            return self.coordinates_value(alloc, depth_left, bytes, start);
         }
         if is_name(name, "arcs") {
-            let kind = self.arcs_type();
-            let (found, rest) = part_at(alloc, depth_left, start, kind, bytes)?;
-            self.arcs.see(found);
-            return Ok(rest);
+            return self.arcs_value(alloc, depth_left, bytes, start);
         }
         let rest = after_value(alloc, depth_left, bytes)?;
         if is_name(name, "geometries") {
@@ -275,97 +349,31 @@ pub(crate) fn kind_of(
     }
 }
 
-/// Whether the types are one.
-fn is_same_places(one: PlacesType, other: PlacesType) -> bool
-    ensures { result ≡ true → one ≡ other }
-{
-    match one {
-        PlacesType::Point => matches!(other, PlacesType::Point),
-        PlacesType::MultiPoint => matches!(other, PlacesType::MultiPoint),
-    }
-}
-
-/// Whether the types are one.
-fn is_same_arcs(one: ArcsType, other: ArcsType) -> bool
-    ensures { result ≡ true → one ≡ other }
-{
-    match one {
-        ArcsType::LineString => matches!(other, ArcsType::LineString),
-        ArcsType::MultiLineString => matches!(other, ArcsType::MultiLineString),
-        ArcsType::Polygon => matches!(other, ArcsType::Polygon),
-        ArcsType::MultiPolygon => matches!(other, ArcsType::MultiPolygon),
-    }
-}
-
-/// Whether the types are one.
-#[inline(always)]
-fn is_same(one: PartType, other: PartType) -> bool
-    ensures { result ≡ true → one ≡ other }
-{
-    match one {
-        PartType::Places(one) => match other {
-            PartType::Places(other) => is_same_places(one, other),
-            PartType::Arcs(_) => false,
-        },
-        PartType::Arcs(one) => match other {
-            PartType::Places(_) => false,
-            PartType::Arcs(other) => is_same_arcs(one, other),
-        },
-    }
-}
-
-/// What was read of the value by this very type, and what was counted then.
-#[inline(always)]
-fn taken(
-    read: Option<Read>,
-    kind: PartType,
-) -> Option<(Result<Option<TopoShape>, TopoFault>, Counts)>
-    ensures { (start : Begun) (v : Value) → IsRead start v read → IsTaken start kind v result }
-{
-    let Some(
-        Read {
-            kind: by,
-            shape,
-            counts,
-        },
-    ) = read
-    else {
-        return None;
-    };
-    if !is_same(by, kind) {
-        return None;
-    }
-    Some((shape, counts))
-}
-
-/// What the value is by this type, which is read where its member came before its type.
+/// What the value at the front is by this type, which is read where its member came before its type.
 #[inline(always)]
 fn shape_by(
     alloc: Global,
     depth_left: u32,
     kind: PartType,
-    found: Part<'_>,
+    prefix: &[u8],
+    read: &mut Read,
     start: Start<'_>,
     counts: &mut Counts,
 ) -> Result<Option<TopoShape>, Stop<TopoFault>>
-    ensures { (v : Value) → IsPart start.entry depth_left v found.entry → Judges (part start.entry kind v) start.entry.counts counts.new result }
+    ensures { (v : Value) (rest : List ℕ) → prefix_value depth_left prefix.now ≡ Some (v, rest) → IsTaken start.entry kind v read.old
+        → Judges (part start.entry kind v) start.entry.counts counts.new result }
 {
-    let Part { prefix, read } = found;
-    match taken(read, kind) {
-        Some((shape, counted)) => {
-            *counts = counted;
-            match shape {
-                Ok(shape) => Ok(shape),
-                Err(fault) => Err(Stop::Fault(fault)),
-            }
-        }
-        None => {
-            *counts = start.counts;
-            match typed_at(alloc, depth_left, start, kind, prefix, counts) {
-                Err(stop) => Err(stop),
-                Ok((shape, _)) => Ok(shape),
-            }
-        }
+    if read.is_by(kind) {
+        *counts = read.counts;
+        return match mem::replace(&mut read.shape, Ok(None)) {
+            Ok(shape) => Ok(shape),
+            Err(fault) => Err(Stop::Fault(fault)),
+        };
+    }
+    *counts = start.counts;
+    match typed_at(alloc, depth_left, start, kind, prefix, counts) {
+        Err(stop) => Err(stop),
+        Ok((shape, _)) => Ok(shape),
     }
 }
 
@@ -375,16 +383,19 @@ pub(crate) fn part_of(
     alloc: Global,
     depth_left: u32,
     kind: PartType,
-    occurrence: Occurrence<Part<'_>>,
+    occurrence: &Occurrence<&[u8]>,
+    read: &mut Read,
     start: Start<'_>,
     counts: &mut Counts,
 ) -> Result<Option<TopoShape>, Stop<TopoFault>>
-    ensures { (ms : Listed) → IsOccurrence (IsPart start.entry depth_left) (named (part_name (of_part kind)) ms) occurrence.entry
+    ensures { (ms : Listed) → IsOccurrence (BeginsAt depth_left) (named (part_name (of_part kind)) ms) occurrence.now → IsRead start.entry ms read.old
         → Judges (typed_shape start.entry (Some (of_part kind)) ms) start.entry.counts counts.new result }
 {
     match occurrence {
         Occurrence::Never => Err(Stop::Fault(TopoFault::Missing)),
         Occurrence::Again => Err(Stop::Fault(TopoFault::Duplicate)),
-        Occurrence::Once(found) => shape_by(alloc, depth_left, kind, found, start, counts),
+        Occurrence::Once(prefix) => {
+            shape_by(alloc, depth_left, kind, *prefix, read, start, counts)
+        }
     }
 }

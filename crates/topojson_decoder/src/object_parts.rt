@@ -250,7 +250,8 @@ fn object_of(
     if is_collection(kind) {
         return collection_of(alloc, depth_left, features, start, counts);
     }
-    match feature_of(alloc, depth_left, kind, feature, start, counts) {
+    let mut feature = feature;
+    match feature_of(alloc, depth_left, kind, &mut feature, start, counts) {
         Err(stop) => Err(stop),
         Ok(feature) => Ok(TopoObject::One(feature)),
     }

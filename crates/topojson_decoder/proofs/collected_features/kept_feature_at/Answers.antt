@@ -19,10 +19,10 @@ returns-in-Err c =
     (by.feature_object c.args.keeping transform c.args.arcs.now object.members c.args.counts.now) c.typed_feature_of.new.counts c.in-Err.stop
     (c.in-Err.ensures object.members (object.holds (c.none-occurrence.ensures _ (c.args.depth_left - 1))))
 
-pub returns-in-Ok : goal.returns-in-Ok
-returns-in-Ok c =
+pub returns : goal.returns
+returns c =
     let object = rw c.in-Some.is at c.in_ok-rest.ensures in
     let transform = option_copied c.args.transform in
-    object_reads (kept_feature c.args.keeping transform c.args.arcs.now) (making (of_feature c.args.keeping) (typed_feature transform c.args.arcs.now object.members)) (prefix_value c.args.depth_left c.args.bytes.now) (j.Object object.members) _ c.args.counts.now object.prefix
-    (by.feature_object c.args.keeping transform c.args.arcs.now object.members c.args.counts.now) _ c.typed_feature_of.new.counts
+    object_reads (kept_feature c.args.keeping transform c.args.arcs.now) (making (of_feature c.args.keeping) (typed_feature transform c.args.arcs.now object.members)) (prefix_value c.args.depth_left c.args.bytes.now) (j.Object object.members) c.in-Some.rest.now c.args.counts.now object.prefix
+    (by.feature_object c.args.keeping transform c.args.arcs.now object.members c.args.counts.now) c.in-Ok.feature c.typed_feature_of.new.counts
     (c.in-Ok.ensures object.members (object.holds (c.none-occurrence.ensures _ (c.args.depth_left - 1))))

@@ -13,4 +13,4 @@ returns-in-Again g c = λ read vs absent occurrence.
 pub returns-in-Once : goal.returns-in-Once
 returns-in-Once g c = λ read vs absent occurrence.
     let s = rw c.in-Once.is at occurrence in
-    s.2 ∙ sym (by.one_value read vs s.0 s.1)
+    c.replace.ensures.value ∙ s.2 ∙ sym (by.one_value read vs s.0 s.1)

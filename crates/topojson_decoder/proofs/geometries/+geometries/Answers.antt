@@ -45,10 +45,10 @@ pub typed_of-returns-in-None : goal.typed_of-returns-in-None
 typed_of-returns-in-None t c = λ ms is. rw c.in-None.is (part.no_null (option_copied c.args.start.transform) c.args.start.arcs.now ms c.args.start.counts)
 
 pub typed_of-returns-in-Places : goal.typed_of-returns-in-Places
-typed_of-returns-in-Places t c = λ ms is. rw (c.in-Some.is, c.in-Places.is) (c.part_of.ensures ms is.coordinates)
+typed_of-returns-in-Places t c = λ ms is. rw (c.in-Some.is, c.in-Places.is) (c.part_of.ensures ms is.coordinates is.read)
 
 pub typed_of-returns-in-Arcs : goal.typed_of-returns-in-Arcs
-typed_of-returns-in-Arcs t c = λ ms is. rw (c.in-Some.is, c.in-Arcs.is) (c.part_of-in-Arcs.ensures ms is.arcs)
+typed_of-returns-in-Arcs t c = λ ms is. rw (c.in-Some.is, c.in-Arcs.is) (c.part_of-in-Arcs.ensures ms is.arcs is.read)
 
 pub typed_of-returns-in-Collection : goal.typed_of-returns-in-Collection
 typed_of-returns-in-Collection t c = λ ms is. rw (c.in-Some.is, c.in-Collection.is) (c.group_of.ensures ms is.geometries)
@@ -63,23 +63,23 @@ shape_of-returns-in-Ok t c = λ ms is.
     (part.known_type (option_copied c.args.start.transform) c.args.start.arcs.now ms c.args.start.counts c.in-Ok.kind (sym (c.in-Ok.ensures ms is.kind))) c.typed_of.result (c.typed_of.ensures ms is)
 
 pub geometry_at-returns-in_default : goal.geometry_at-returns-in_default
-geometry_at-returns-in_default t c = λ v rest found. part.no_object (option_copied c.args.transform) c.args.arcs.now v c.args.counts.now ((rw c.in_default.is at c.in_ok-found.ensures) v rest found)
+geometry_at-returns-in_default t c = λ v rest found. part.no_object (option_copied c.args.transform) c.args.arcs.now v c.args.counts.now ((rw c.in_default.is at c.in_ok-rest.ensures) v rest found)
 
 pub geometry_at-returns-in-Err : goal.geometry_at-returns-in-Err
 geometry_at-returns-in-Err t c =
-    let object = rw c.in-Some.is at c.in_ok-found.ensures in
+    let object = rw c.in-Some.is at c.in_ok-rest.ensures in
     let transform = option_copied c.args.transform in
     object_stops (shape transform c.args.arcs.now) (shapes_of.geometry transform c.args.arcs.now object.members) (prefix_value c.args.depth_left c.args.bytes.now) (j.Object object.members) _ c.args.counts.now object.prefix
     (part.object_shape transform c.args.arcs.now object.members c.args.counts.now) c.shape_of.new.counts c.in-Err.stop
-    (c.in-Err.ensures object.members (object.holds (c.none-none.ensures _ (c.args.depth_left - 1))))
+    (c.in-Err.ensures object.members (object.holds (c.none-parts.ensures _ (c.args.depth_left - 1))))
 
-pub geometry_at-returns-in-Ok : goal.geometry_at-returns-in-Ok
-geometry_at-returns-in-Ok t c =
-    let object = rw c.in-Some.is at c.in_ok-found.ensures in
+pub geometry_at-returns : goal.geometry_at-returns
+geometry_at-returns t c =
+    let object = rw c.in-Some.is at c.in_ok-rest.ensures in
     let transform = option_copied c.args.transform in
-    object_reads (shape transform c.args.arcs.now) (shapes_of.geometry transform c.args.arcs.now object.members) (prefix_value c.args.depth_left c.args.bytes.now) (j.Object object.members) _ c.args.counts.now object.prefix
-    (part.object_shape transform c.args.arcs.now object.members c.args.counts.now) _ c.shape_of.new.counts
-    (c.in-Ok.ensures object.members (object.holds (c.none-none.ensures _ (c.args.depth_left - 1))))
+    object_reads (shape transform c.args.arcs.now) (shapes_of.geometry transform c.args.arcs.now object.members) (prefix_value c.args.depth_left c.args.bytes.now) (j.Object object.members) c.in-Some.rest.now c.args.counts.now object.prefix
+    (part.object_shape transform c.args.arcs.now object.members c.args.counts.now) c.in-Ok.shape c.shape_of.new.counts
+    (c.in-Ok.ensures object.members (object.holds (c.none-parts.ensures _ (c.args.depth_left - 1))))
 
 pub geometries_at-returns-in_default : goal.geometries_at-returns-in_default
 geometries_at-returns-in_default t c = λ v rest found. part.no_array (option_copied c.args.transform) c.args.arcs.now v c.args.counts.now (is_no_array c.args.depth_left c.args.bytes.now c.in_default.ensures v rest found)

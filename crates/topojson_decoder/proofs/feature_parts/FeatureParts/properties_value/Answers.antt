@@ -1,0 +1,13 @@
+use Rattle.std.proofs.Common.{refl}
+use Rattle.std.specs.Prelude.{codes}
+use Rattle.topojson_decoder.proofs.FeatureParts as occurrence
+use Rattle.topojson_decoder.proofs.feature_parts.FeatureParts.properties_value.Goals as goal
+
+pub returns : goal.returns
+returns c =
+    let found = c.in_ok-properties.ensures in
+    record {
+      value = found.0;
+      prefix = found.1;
+      holds = λ ms h. occurrence.sees_properties c.args.start c.args.depth_left (codes "properties") ms c.args.self.now found.0 h c.in_ok-properties.properties _ c.see.ensures refl found.2;
+    }

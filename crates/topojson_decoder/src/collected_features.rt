@@ -21,7 +21,7 @@ use std::alloc::Global;
 use topojson_meaning::TopoFault;
 use topojson_types::{Cell, TopoFeature, Transform};
 
-/// The feature whose members were seen so. What was kept of them is taken out.
+/// The feature whose members were seen so. What was kept of them is moved out of there.
 #[inline(always)]
 fn typed_feature_of(
     alloc: Global,

@@ -324,7 +324,7 @@ impl<'a> Members<'a> for FeatureParts<'a> {
     }
 }
 
-/// What a member is that was seen so, and that may be absent. It is taken out.
+/// What a member is that was seen so, and that may be absent. It is moved out of there.
 #[inline(always)]
 fn found_in<T: Drop>(
     occurrence: &mut Occurrence<Result<Option<T>, TopoFault>>,
@@ -338,7 +338,7 @@ fn found_in<T: Drop>(
     }
 }
 
-/// The feature of this type whose members were seen so. What was kept of them is taken out.
+/// The feature of this type whose members were seen so. What was kept of them is moved out of there.
 #[inline(always)]
 pub(crate) fn feature_of(
     alloc: Global,

@@ -53,7 +53,7 @@ fn group_of(
     }
 }
 
-/// The shape of a geometry of this type whose members were seen so. What was read of them is taken out. A null type has none.
+/// The shape of a geometry of this type whose members were seen so. What was read of them is moved out of there. A null type has none.
 #[cycle(geometries)]
 #[inline(always)]
 pub(crate) fn typed_of(
@@ -101,7 +101,7 @@ pub(crate) fn typed_of(
     }
 }
 
-/// The geometry whose members were seen so. What was read of them is taken out.
+/// The geometry whose members were seen so. What was read of them is moved out of there.
 #[cycle(geometries)]
 fn shape_of(
     alloc: Global,

@@ -6,7 +6,7 @@ use Rattle.topo_model.proofs.Passed.{at_got}
 use Rattle.geometry.specs.Joins.{at}
 use Rattle.geometry.specs.Lists.{some_of}
 use Rattle.geometry.specs.Points.{Point}
-use Rattle.simplified_topology.specs.Simplified.{retained, retained_arcs}
+use Rattle.simplified_topology.specs.Simplified.{retained_arcs}
 use Rattle.simplified_topology.specs.Thresholds.{placed_cells}
 use Rattle.simplified_topology.proofs.ValidRetained.{all_retained}
 use Rattle.owned_values.proofs.Elements.{all_weaker}

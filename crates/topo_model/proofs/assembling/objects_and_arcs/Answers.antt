@@ -1,4 +1,4 @@
-use Rattle.std.proofs.Common.{ℕ, ◌-◌, List, map, length, sym, ap, ◌∙◌, subst}
+use Rattle.std.proofs.Common.{ℕ, ◌-◌, List, length, sym, ap, ◌∙◌, subst}
 use Rattle.std.specs.Prelude.{sum}
 use Rattle.std.specs.List.{AllByRecursion}
 use Rattle.std.proofs.lemmas.List.{length-map}
@@ -8,7 +8,6 @@ use Rattle.build_meaning.specs.Trimming.{is_used, keep_from, trimmed}
 use Rattle.build_meaning.proofs.ValidUntrimmed.{untrimmed_is_valid}
 use Rattle.byte_ends.specs.Ends.{saturated}
 use Rattle.geometry.specs.Joins.{AreInRange}
-use Rattle.geometry.specs.Points.{Point}
 use Rattle.simplified_topology.specs.Assembled.{arcs_of_layers, own_refs}
 use Rattle.simplified_topology.specs.Simplified.{large_refs, objects_pruned}
 use Rattle.simplified_topology.proofs.Assembled.{contents}

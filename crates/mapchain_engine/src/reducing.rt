@@ -2,62 +2,87 @@
 ghost use Rattle.std.specs.Prelude.{◌≡◌, ◌+◌, ◌≤◌, IfOk, length, map};
 ghost use Rattle.std.specs.List.{AllByRecursion};
 ghost use Rattle.std.specs.Option.{option_copied};
+ghost use Rattle.byte_ends.specs.Ends.{saturated};
 ghost use Rattle.elimination_meaning.specs.Elimination.{reduce};
 ghost use Rattle.geometry.specs.Units.{threshold_limit};
-ghost use Rattle.simplified_topology.specs.Thresholds.{simplified_contents, placed_cells};
+ghost use Rattle.simplified_topology.specs.Simplified.{retained, retained_arcs};
+ghost use Rattle.simplified_topology.specs.Thresholds.{simplified_contents, simplified_dropped, simplified_removed_count, placed_cells};
 ghost use Rattle.topojson_types.specs.Validity.{IsArc};
 ghost use Rattle.mapchain_engine.specs.Simplified as spec;
 
 use byte_ends::Memory;
 use effective_area::Reducer;
-use geojson_types::Counts;
+use geojson_types::{Counts, Dropped};
 use json_value::Items;
 use reports::{Report, report_of};
 use simplified_topology::indexes_reach;
 use std::alloc::Global;
-use topo_model::Reduces;
+use topo_model::{position_counts, reassemble, retained_cells};
 use topojson_features::positions;
 use topojson_types::{Cell, Topology, Transform};
 
-/// The indexes of the cells of an arc that stay where the positions that they stand for are reduced.
-fn kept_cells<Q: Reducer>(
+/// The cells of an arc that stay where the positions that they stand for are reduced.
+fn reduced_arc<Q: Reducer>(
     alloc: Global,
     reducer: &mut Q,
     transform: Option<&Transform>,
     cells: &[Cell],
     t: u128,
-) -> Result<Vec<usize>, Memory>
+) -> Result<Items<Cell>, Memory>
     requires { IsArc (option_copied transform) cells.now }
-    ensures kept { IfOk result (λ kept. kept.items ≡ reduce t (placed_cells (option_copied transform.entry) cells.now)) }
+    ensures retained { IfOk result (λ stay. stay ≡ retained (reduce t (placed_cells (option_copied transform.entry) cells.now)) cells.now) }
     ensures called { IfOk result (λ _. Q.calls reducer.new ≡ Q.calls reducer.old + 1) }
 {
     let line = positions(alloc, transform, cells)?;
     let kept = reducer.kept(alloc, line.as_slice(), t)?;
-    Ok(kept)
+    retained_cells(alloc, &kept, cells)
 }
 
-/// Of each arc the indexes of the cells that stay. Each arc is reduced once.
-fn kept_indexes<Q: Reducer>(
+/// Of each arc the cells that stay. An arc is let go before the next one is reduced.
+fn reduced_arcs<Q: Reducer>(
     alloc: Global,
     reducer: &mut Q,
     transform: Option<&Transform>,
-    arcs: &[Items<Cell>],
+    arcs: Vec<Items<Cell>>,
     t: u128,
-) -> Result<Vec<Vec<usize>>, Memory>
-    requires { AllByRecursion (IsArc (option_copied transform)) arcs.now }
-    ensures kept { IfOk result (λ kept. map (λ k. k.items) kept.items ≡ map (λ cells. reduce t (placed_cells (option_copied transform.entry) cells)) arcs.now) }
-    ensures called { IfOk result (λ _. Q.calls reducer.new ≡ Q.calls reducer.old + length arcs.now) }
+) -> Result<Vec<Items<Cell>>, Memory>
+    requires { AllByRecursion (IsArc (option_copied transform)) arcs.items }
+    ensures retained { IfOk result
+        (λ left. left.items ≡ retained_arcs (map (λ cells. reduce t (placed_cells (option_copied transform.entry) cells)) arcs.items) arcs.items) }
+    ensures called { IfOk result (λ _. Q.calls reducer.new ≡ Q.calls reducer.old + length arcs.items) }
 {
-    let mut kept = Vec::with_capacity(alloc, arcs.len())?;
+    let mut left = Vec::with_capacity(alloc, arcs.len())?;
     'arcs: for arc in arcs {
-        kept.push(kept_cells(alloc, reducer, transform, arc.as_slice(), t)?)?;
+        left.push(reduced_arc(alloc, reducer, transform, arc.as_slice(), t)?)?;
     }
-    Ok(kept)
+    Ok(left)
+}
+
+/// What is left of a topology where each arc is reduced once at a threshold and rings under a limit are left out, the lines and rings
+/// that are dropped, and how many positions are removed from the arcs that stay.
+fn reduced_topology<Q: Reducer>(
+    alloc: Global,
+    reducer: &mut Q,
+    topology: Topology,
+    t: u128,
+    ring_limit: u128,
+) -> Result<(Topology, Vec<Dropped>, u64), Memory>
+    requires { ring_limit ≤ threshold_limit }
+    ensures topology { IfOk result (λ r. r.0 ≡ simplified_contents t ring_limit topology) }
+    ensures dropped { IfOk result (λ r. r.1.items ≡ simplified_dropped t ring_limit topology) }
+    ensures removed_count { IfOk result (λ r. r.2 ≡ saturated (simplified_removed_count t ring_limit topology)) }
+    ensures called { IfOk result (λ _. Q.calls reducer.new ≡ Q.calls reducer.old + length topology.arcs) }
+{
+    indexes_reach();
+    let (objects, lines, transform) = topology.into_parts();
+    let arcs = lines.into_inner();
+    let counts = position_counts(alloc, &arcs)?;
+    let left = reduced_arcs(alloc, reducer, transform.as_ref(), arcs, t)?;
+    reassemble(alloc, objects, left, &counts, transform, ring_limit)
 }
 
 /// What is left of a topology, with these counts, where each arc is reduced at a threshold and rings under a
 /// limit are left out, and the report of it.
-#[tactic(auto, unfolding(simplified_topology::specs::Thresholds::simplified_contents, simplified_topology::specs::Thresholds::simplified_dropped, simplified_topology::specs::Thresholds::simplified_removed_count))]
 pub fn simplify_topology<Q: Reducer>(
     alloc: Global,
     reducer: &mut Q,
@@ -70,9 +95,7 @@ pub fn simplify_topology<Q: Reducer>(
     ensures left { IfOk result (λ r. (r.0 ≡ simplified_contents t ring_limit topology) × (r.1 ≡ spec.report_of t ring_limit topology counts)) }
     ensures called { IfOk result (λ _. Q.calls reducer.new ≡ Q.calls reducer.old + length topology.arcs) }
 {
-    indexes_reach();
-    let kept = kept_indexes(alloc, reducer, topology.transform(), topology.arcs(), t)?;
-    let (less, dropped, removed) = topology.reduce(alloc, &kept, ring_limit)?;
+    let (less, dropped, removed) = reduced_topology(alloc, reducer, topology, t, ring_limit)?;
     let report = report_of(counts, dropped, less.arcs(), removed, None);
     Ok((less, report))
 }

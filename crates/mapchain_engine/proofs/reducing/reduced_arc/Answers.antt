@@ -1,8 +1,14 @@
 use Rattle.std.proofs.Common.{◌∙◌, ap}
 use Rattle.std.specs.Option.{option_copied}
+use Rattle.std.proofs.lemmas.Result.{IfOk-weaker}
 use Rattle.elimination_meaning.specs.Elimination.{reduce}
+use Rattle.simplified_topology.specs.Simplified.{retained}
 use Rattle.mapchain_engine.proofs.Whole.{placed}
-use Rattle.mapchain_engine.proofs.reducing.kept_cells.Goals as goal
+use Rattle.mapchain_engine.proofs.reducing.reduced_arc.Goals as goal
 
-pub returns-clause-kept : goal.returns-clause-kept
-returns-clause-kept g c = c.in_ok-kept.ensures.kept ∙ ap (reduce c.args.t) (c.as_slice.ensures ∙ c.in_ok-line.ensures ∙ placed (option_copied c.args.transform) c.args.cells.now)
+pub returns-clause-retained : goal.returns-clause-retained
+returns-clause-retained g c =
+    IfOk-weaker c.retained_cells.result _ _
+    (λ stay h. h ∙ ap (λ ns. retained ns c.args.cells.now)
+    (c.deref.ensures.value ∙ c.in_ok-kept.ensures.kept ∙ ap (reduce c.args.t) (c.as_slice.ensures ∙ c.in_ok-line.ensures ∙ placed (option_copied c.args.transform) c.args.cells.now)))
+    c.retained_cells.ensures

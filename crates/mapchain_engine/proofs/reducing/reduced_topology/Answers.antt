@@ -1,17 +1,77 @@
-use Rattle.std.proofs.Common.{◌≡◌, ◌+◌, ◌∙◌, length, map, ap, sym, subst}
+use Rattle.std.proofs.Common.{◌≡◌, ◌+◌, ◌∙◌, List, length, map, ap, refl, sym, subst}
+use Rattle.std.specs.List.{AllByRecursion}
+use Rattle.std.specs.Prelude.{ℕ, Option}
+use Rattle.std.proofs.lemmas.Result.{IfOk-weaker}
+use Rattle.byte_ends.specs.Ends.{saturated}
 use Rattle.elimination_meaning.specs.Elimination.{reduce}
-use Rattle.simplified_topology.specs.Simplified.{EachFromFirstToLast}
-use Rattle.simplified_topology.specs.Thresholds.{placed_cells, reduced_indexes}
-use Rattle.mapchain_engine.proofs.reducing.simplify_topology.Goals as goal
+use Rattle.geometry.specs.Points.{Point}
+use Rattle.simplified_topology.specs.Simplified.{dropped_by, removed_count_by, retained_arcs, simplified_by}
+use Rattle.simplified_topology.specs.Thresholds.{placed_cells, reduced_indexes, simplified_contents, simplified_dropped, simplified_removed_count}
+use Rattle.topojson_types.specs.declared.transform.Transform.{Transform}
+use Rattle.topojson_types.specs.Topologies.{Contents}
+use Rattle.topojson_types.specs.Validity.{IsArc, IsTopology}
+use Rattle.topo_model.proofs.Result.{parts_are}
+use Rattle.mapchain_engine.proofs.reducing.reduced_topology.Goals as goal
 
-pub reduce-requires-clause-kept : goal.reduce-requires-clause-kept
-reduce-requires-clause-kept g c =
+-- the cells that are left are those of the indexes that reduction leaves
+picked : (t : ℕ) (y : Contents) (arcs left : List (List Point)) (transform : Option Transform) → arcs ≡ y.arcs → transform ≡ y.transform → left ≡ retained_arcs (map (λ cells. reduce t (placed_cells transform cells)) arcs) arcs
+    → left ≡ retained_arcs (reduced_indexes t y) y.arcs
+picked t y arcs left transform a tr is =
+    is ∙ ap (λ (tr : Option Transform). retained_arcs (map (λ cells. reduce t (placed_cells tr cells)) arcs) arcs) tr
+    ∙ ap (λ (arcs : List (List Point)). retained_arcs (map (λ cells. reduce t (placed_cells y.transform cells)) arcs) arcs) a
+
+pub reduced_arcs-requires : goal.reduced_arcs-requires
+reduced_arcs-requires g c =
     let y = c.args.topology in
-    let same : map (λ k. k.items) c.deref.result.now ≡ reduced_indexes c.args.t y =
-    ap (map (λ k. k.items)) c.deref.ensures.value ∙ c.in_ok-kept.ensures.kept
-    ∙ ap (λ tr. map (λ cells. reduce c.args.t (placed_cells tr cells)) c.arcs.result.now) c.transform.ensures.transform
-    ∙ ap (map (λ cells. reduce c.args.t (placed_cells y.transform cells))) c.arcs.ensures.arcs in
-    subst (λ l. EachFromFirstToLast l y.arcs) (sym same) (c.indexes_reach.ensures c.args.t y c.arcs.ensures.valid)
+    let parts = c.into_parts-objects.ensures in
+    subst (λ (tr : Option Transform). AllByRecursion (IsArc tr) c.into_inner-arcs.result.items) (sym (c.as_ref.ensures.value ∙ parts.transform))
+    (subst (AllByRecursion (IsArc y.transform)) (sym (c.into_inner-arcs.ensures ∙ parts.arcs)) parts.valid.arcs)
+
+pub reassemble-requires-clause-retained : goal.reassemble-requires-clause-retained
+reassemble-requires-clause-retained g c =
+    let y = c.args.topology in
+    let parts = c.into_parts-objects.ensures in
+    record {
+      arcs = y.arcs;
+      valid = subst IsTopology (sym (parts_are y _ y.arcs _ parts.objects refl parts.transform)) parts.valid;
+      retained_are = record {
+        kept = reduced_indexes c.args.t y;
+        through = c.indexes_reach.ensures c.args.t y parts.valid;
+        picks = picked c.args.t y _ _ _ (c.into_inner-arcs.ensures ∙ parts.arcs) (c.as_ref.ensures.value ∙ parts.transform) c.in_ok-left.ensures.retained;
+      };
+      counts_are = c.deref-2.ensures.value ∙ c.in_ok-counts.ensures ∙ ap (map (λ (cells : List Point). length cells)) (c.deref.ensures.value ∙ c.into_inner-arcs.ensures ∙ parts.arcs);
+    }
+
+pub returns-clause-topology : goal.returns-clause-topology
+unfolding simplified_contents
+returns-clause-topology g c =
+    let y = c.args.topology in
+    let parts = c.into_parts-objects.ensures in
+    let picks = picked c.args.t y _ _ _ (c.into_inner-arcs.ensures ∙ parts.arcs) (c.as_ref.ensures.value ∙ parts.transform) c.in_ok-left.ensures.retained in
+    IfOk-weaker c.reassemble.result _ _
+    (λ r h. h (reduced_indexes c.args.t y) y.arcs picks ∙ ap (simplified_by (reduced_indexes c.args.t y) c.args.ring_limit) (parts_are y _ y.arcs _ parts.objects refl parts.transform)) c.reassemble.ensures.topology
+
+pub returns-clause-dropped : goal.returns-clause-dropped
+unfolding simplified_dropped
+returns-clause-dropped g c =
+    let y = c.args.topology in
+    let parts = c.into_parts-objects.ensures in
+    let picks = picked c.args.t y _ _ _ (c.into_inner-arcs.ensures ∙ parts.arcs) (c.as_ref.ensures.value ∙ parts.transform) c.in_ok-left.ensures.retained in
+    IfOk-weaker c.reassemble.result _ _
+    (λ r h. h (reduced_indexes c.args.t y) y.arcs picks ∙ ap (dropped_by (reduced_indexes c.args.t y) c.args.ring_limit) (parts_are y _ y.arcs _ parts.objects refl parts.transform)) c.reassemble.ensures.dropped
+
+pub returns-clause-removed_count : goal.returns-clause-removed_count
+unfolding simplified_removed_count
+returns-clause-removed_count g c =
+    let y = c.args.topology in
+    let parts = c.into_parts-objects.ensures in
+    let picks = picked c.args.t y _ _ _ (c.into_inner-arcs.ensures ∙ parts.arcs) (c.as_ref.ensures.value ∙ parts.transform) c.in_ok-left.ensures.retained in
+    let counted = c.deref-2.ensures.value ∙ c.in_ok-counts.ensures ∙ ap (map (λ (cells : List Point). length cells)) (c.deref.ensures.value ∙ c.into_inner-arcs.ensures ∙ parts.arcs) in
+    IfOk-weaker c.reassemble.result _ _
+    (λ r h. h (reduced_indexes c.args.t y) y.arcs picks counted
+    ∙ ap (λ z. saturated (removed_count_by (reduced_indexes c.args.t y) c.args.ring_limit z)) (parts_are y _ y.arcs _ parts.objects refl parts.transform)) c.reassemble.ensures.removed_count
 
 pub returns-clause-called : goal.returns-clause-called
-returns-clause-called g c = c.in_ok-kept.ensures.called ∙ ap (λ arcs. g.Q.Reducer.calls c.args.reducer.now + length arcs) c.arcs.ensures.arcs
+returns-clause-called g c =
+    IfOk-weaker c.reassemble.result _ _
+    (λ r _. c.in_ok-left.ensures.called ∙ ap (λ arcs. g.Q.Reducer.calls c.args.reducer.now + length arcs) (c.into_inner-arcs.ensures ∙ c.into_parts-objects.ensures.arcs)) c.reassemble.ensures.topology

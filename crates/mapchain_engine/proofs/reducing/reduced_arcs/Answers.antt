@@ -1,0 +1,27 @@
+use Rattle.std.proofs.Common.{◌∙◌, List, ap, arith, subst, sym}
+use Rattle.std.specs.List.{AllByRecursion}
+use Rattle.std.specs.Option.{option_copied}
+use Rattle.std.proofs.lemmas.List.{length_push}
+use Rattle.elimination_meaning.specs.Elimination.{reduce}
+use Rattle.geometry.specs.Points.{Point}
+use Rattle.simplified_topology.specs.Simplified.{retained}
+use Rattle.simplified_topology.specs.Thresholds.{placed_cells}
+use Rattle.topojson_types.specs.Validity.{IsArc}
+use Rattle.topo_model.proofs.Retained.{retained_more}
+use Rattle.mapchain_engine.proofs.reducing.reduced_arcs.Goals as goal
+
+pub reduced_arc-requires : goal.reduced_arc-requires
+reduced_arc-requires g c =
+    let valid = subst (AllByRecursion (IsArc (option_copied c.args.transform))) c.in-Some.ensures.steps.0 c.arcs.invariant.valid in
+    subst (IsArc (option_copied c.args.transform)) (sym c.as_slice.ensures) valid.0
+
+pub arcs-preserved : goal.arcs-preserved
+arcs-preserved g c =
+    let valid = subst (AllByRecursion (IsArc (option_copied c.args.transform))) c.in-Some.ensures.steps.0 c.arcs.invariant.valid in
+    let numbers = λ (cells : List Point). reduce c.args.t (placed_cells (option_copied c.args.transform) cells) in
+    record {
+      valid = valid.1;
+      left = retained_more numbers c.arcs.yielded c.in-Some.arc _ c.arcs.left.items c.push.new.self.items c.arcs.invariant.left
+          (c.in_ok-reduced_arc.ensures.retained ∙ ap (λ cells. retained (numbers cells) cells) c.as_slice.ensures) c.in_ok-push.ensures.items;
+      called = omega (arith, c.in_ok-reduced_arc.ensures.called, c.arcs.invariant.called, length_push c.arcs.yielded c.in-Some.arc);
+    }

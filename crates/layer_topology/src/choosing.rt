@@ -34,7 +34,7 @@ fn reduced_arc<Q: Reducer>(
     retained_positions(alloc, &kept, arc)
 }
 
-/// Of each arc the positions that stay at a threshold. An arc is let go before the next one is reduced.
+/// Of each arc the positions that stay at a threshold. An arc is freed before the next one is reduced.
 fn reduced_arcs<Q: Reducer>(
     alloc: Global,
     reducer: &mut Q,
@@ -82,7 +82,7 @@ fn weighed_arcs(
 }
 
 /// The positions of an arc that stay at a threshold by their weights.
-fn picked_arc(
+fn arc_by_weights(
     alloc: Global,
     arc: &[Position],
     weights: &[Weight],
@@ -94,8 +94,8 @@ fn picked_arc(
     retained_positions(alloc, &kept, arc)
 }
 
-/// Of each arc the positions that stay at a threshold by its own weights. An arc is let go before the next one is picked from.
-fn picked_arcs(
+/// Of each arc the positions that stay at a threshold by its own weights. An arc is freed before the next one is taken.
+fn arcs_by_weights(
     alloc: Global,
     arcs: Vec<Items<Position>>,
     weights: &[Vec<Weight>],
@@ -110,7 +110,7 @@ fn picked_arcs(
             continue;
         };
         later = rest;
-        left.push(picked_arc(alloc, arc.as_slice(), own.as_slice(), threshold)?)?;
+        left.push(arc_by_weights(alloc, arc.as_slice(), own.as_slice(), threshold)?)?;
     }
     Ok(left)
 }
@@ -134,11 +134,11 @@ fn shared_out_arcs(
     let most = most_weighed(count, p, q);
     let all = weighed_arcs(alloc, &arcs, most)?;
     let threshold = share_threshold(alloc, &all, p, q)?;
-    let left = picked_arcs(alloc, arcs, &all, threshold)?;
+    let left = arcs_by_weights(alloc, arcs, &all, threshold)?;
     Ok((left, threshold))
 }
 
-/// Of each arc the positions that stay, and the threshold, where it was chosen. Once it is picked from, an arc is let go.
+/// Of each arc the positions that stay, and the threshold, where it was chosen. Each arc is freed before the next one is reduced.
 pub(crate) fn left_of_arcs<Q: Reducer>(
     alloc: Global,
     reducer: &mut Q,

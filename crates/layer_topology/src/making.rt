@@ -32,7 +32,7 @@ use simplified_topology::{
     built_cells_are_on, snapped_are_on,
 };
 use std::alloc::Global;
-use topo_model::{assemble, position_counts};
+use topo_model::{assemble_retained, position_counts};
 use topojson_types::Topology;
 
 /// The lines and rings of the layers, cut. What was known of their positions is given back.
@@ -80,7 +80,7 @@ fn reduced_topology<Q: Reducer>(
     let (arcs, refs) = table.into_parts();
     let counts = position_counts(alloc, &arcs)?;
     let (left, chosen) = left_of_arcs(alloc, reducer, arcs, level)?;
-    let (topology, dropped, removed_count) = assemble(
+    let (topology, dropped, removed_count) = assemble_retained(
         alloc, layers, refs, left, &counts, ring_limit,
     )?;
     Ok((topology, dropped, removed_count, chosen))

@@ -38,7 +38,7 @@ fn reduced_arc<Q: Reducer>(
     retained_cells(alloc, &kept, cells)
 }
 
-/// Of each arc the cells that stay. An arc is let go before the next one is reduced.
+/// Of each arc the cells that stay. An arc is freed before the next one is reduced.
 fn reduced_arcs<Q: Reducer>(
     alloc: Global,
     reducer: &mut Q,

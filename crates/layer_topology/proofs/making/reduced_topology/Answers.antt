@@ -10,13 +10,13 @@ use Rattle.layer_topology.proofs.making.reduced_topology.Goals as goal
 pub left_of_arcs-requires-clause-long : goal.left_of_arcs-requires-clause-long
 left_of_arcs-requires-clause-long g c = subst (AllByRecursion (λ (arc : List Point). 2 ≤ length arc)) (sym c.into_parts-arcs.ensures.arcs) c.into_parts-arcs.ensures.kept.long
 
-pub assemble-requires-clause-refs : goal.assemble-requires-clause-refs
-assemble-requires-clause-refs g c =
+pub assemble_retained-requires-clause-refs : goal.assemble_retained-requires-clause-refs
+assemble_retained-requires-clause-refs g c =
     let is = rw c.deref.ensures.value at c.in_ok-table.ensures in
     c.into_parts-arcs.ensures.refs ∙ ap (λ t. t.refs) is
 
-pub assemble-requires-clause-retained : goal.assemble-requires-clause-retained
-assemble-requires-clause-retained g c =
+pub assemble_retained-requires-clause-retained : goal.assemble_retained-requires-clause-retained
+assemble_retained-requires-clause-retained g c =
     let ls = c.args.layers.items in
     let t = threshold_at c.args.level (arcs_of_layers ls) in
     let same = c.into_parts-arcs.ensures.arcs ∙ table_arcs ls c.in_ok-table.table (rw c.deref.ensures.value at c.in_ok-table.ensures) in
@@ -26,8 +26,8 @@ assemble-requires-clause-retained g c =
       picks = left_at_level ls c.args.level _ c.in_ok-left.left.items same c.in_ok-left.ensures.retained;
     }
 
-pub assemble-requires-clause-counts : goal.assemble-requires-clause-counts
-assemble-requires-clause-counts g c =
+pub assemble_retained-requires-clause-counts : goal.assemble_retained-requires-clause-counts
+assemble_retained-requires-clause-counts g c =
     let same = c.into_parts-arcs.ensures.arcs ∙ table_arcs c.args.layers.items c.in_ok-table.table (rw c.deref.ensures.value at c.in_ok-table.ensures) in
     c.deref-3.ensures.value ∙ c.in_ok-counts.ensures ∙ ap (map (λ (arc : List Point). length arc)) (c.deref-2.ensures.value ∙ same)
 

@@ -55,6 +55,9 @@ lines_of ls = linework (layers_of ls)
 abbrev pub table_of_lines : Named → ArcsAndIndexes
 table_of_lines ls = table_of (map (split_of (linework (layers_of ls))) (linework (layers_of ls)))
 
+pub table_arcs : (ls : Named) → (table_of_lines ls).arcs ≡ arcs_of_layers ls
+table_arcs ls = ap arcs_of (same_pieces (lines_of ls) (lines_of ls))
+
 -- the indexes of lines and rings that have enough positions
 long_are : (of : RefsOf) (bs : List (Bool × List Point)) → map (λ (b : Bool × List Point). of b.0 b.1) (long_of bs) ≡ long_refs of bs
 long_are of [] = refl

@@ -9,6 +9,7 @@ pub mod KeptParts
 pub mod Marked
 pub mod Marks
 pub mod Passed
+pub mod Numbered
 pub mod Retained
 pub mod Picks
 pub mod Pruned

@@ -7,13 +7,16 @@ ghost use Rattle.byte_ends.specs.Ends.{saturated};
 ghost use Rattle.cutter.specs.Slices.{split_of};
 ghost use Rattle.geometry.specs.Units.{threshold_limit};
 ghost use Rattle.simplified_topology.specs.Assembled.{arcs_of_layers, assembled, assembled_dropped, assembled_removed_count};
-ghost use Rattle.simplified_topology.specs.Simplified.{retained_arcs};
+ghost use Rattle.simplified_topology.specs.Simplified.{EachFromFirstToLast, retained_arcs};
 ghost use Rattle.linework.specs.Linework.{linework};
 ghost use Rattle.topojson_types.specs.Validity.{AreDistinct};
 ghost use Rattle.topo_model.specs.Retaining.{AreRetained};
 
 use crate::drafting::drafted_objects;
 use crate::finishing::finish;
+use crate::given_numbers::positions_of_all;
+use crate::position_counting::position_counts;
+use arc_table::Table;
 use elimination_meaning::{ends_stay, nothing_is_new, zero_law};
 use geojson_types::{Dropped, Layer};
 use json_value::{Items, OwnText};
@@ -65,7 +68,7 @@ fn objects_and_arcs(
 /// positions, rings of which twice the area is under the limit (in square units), and arcs that no kept line uses are left out. With it
 /// come the lines and rings that are dropped, in reading order, and how many positions are removed from the arcs that stay: a count that
 /// stays at `u64::MAX` where it would pass it.
-pub fn assemble(
+pub fn assemble_retained(
     alloc: Global,
     layers: Vec<(OwnText, Layer)>,
     refs: Vec<Items<ArcRef>>,
@@ -93,4 +96,32 @@ pub fn assemble(
     )?;
     let topology = Topology::of(Items::of(objects), Items::of(arcs), None);
     Ok((topology, dropped, taken))
+}
+
+/// The topology of named layers over the arcs of their lines, where of each arc the positions with these numbers are kept: a list
+/// for each arc, from its first position to its last. Lines and rings that are then left with too few positions,
+/// rings of which twice the area is under the limit (in square units), and arcs that no kept line uses are left out. With it come the
+/// lines and rings that are dropped, in reading order, and how many positions are removed from the arcs that stay: a count that stays
+/// at `u64::MAX` where it would pass it.
+pub fn assemble(
+    alloc: Global,
+    layers: Vec<(OwnText, Layer)>,
+    table: Table,
+    kept: &[Vec<usize>],
+    ring_limit: u128,
+) -> Result<(Topology, Vec<Dropped>, u64), Memory>
+    requires table { table ≡ table_of (map (split_of (linework (layers_of layers.items))) (linework (layers_of layers.items))) }
+    requires sound { AreSound layers.items }
+    requires names { AreDistinct (names_of layers.items) }
+    requires kept { EachFromFirstToLast (map (λ k. k.items) kept.now) table.arcs }
+    requires limit { ring_limit ≤ threshold_limit }
+    ensures topology { IfOk result (λ r. r.0 ≡ assembled (map (λ k. k.items) kept.now) ring_limit layers.items) }
+    ensures dropped { IfOk result (λ r. r.1.items ≡ assembled_dropped (map (λ k. k.items) kept.now) ring_limit layers.items) }
+    ensures removed_count { IfOk result (λ r. r.2 ≡ saturated (assembled_removed_count (map (λ k. k.items) kept.now) ring_limit layers.items)) }
+    ensures few { IfOk result (λ r. length r.0.arcs < 2 ^ 63) }
+{
+    let counts = position_counts(alloc, table.arcs())?;
+    let retained = positions_of_all(alloc, kept, table.arcs())?;
+    let (_arcs, refs) = table.into_parts();
+    assemble_retained(alloc, layers, refs, retained, &counts, ring_limit)
 }

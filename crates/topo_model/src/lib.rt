@@ -2,9 +2,10 @@
 //! and simplifying a topology in the same way. Layers become a draft, in which each line and ring is replaced by its arc indexes
 //! (`specs/Drafts.antt`); a topology is a draft as it is. There is one way to finish a draft: lines and rings that are left with too few
 //! positions or enclose too little are dropped, arcs that no kept line uses are left out, and the others have new indexes. What is left of
-//! an arc is picked of it alone (`retained_positions`, `retained_cells`), so that it can be let go before the next is reduced. It stands
-//! on `simplified_topology`, which says what topology that is and when it is what is built of the layers, and on `arc_table`. The layers
-//! above use the contracts of `assemble` and of `reassemble`.
+//! an arc is made of it alone (`retained_positions`, `retained_cells`), so that it can be freed before the next is reduced; `assemble` and
+//! `Reduces::reduce` are for who has the numbers of all arcs at once. It stands on `simplified_topology`, which says what topology that is
+//! and when it is what is built of the layers, and on `arc_table`. The layers above use the contracts of `assemble_retained` and of
+//! `reassemble`.
 #![tactic(auto)]
 
 mod arc_uses;
@@ -14,6 +15,7 @@ mod drafting;
 mod dropping;
 mod enclosing;
 mod finishing;
+mod given_numbers;
 mod marking;
 mod places;
 mod placing;
@@ -22,10 +24,11 @@ mod position_counting;
 mod pruning;
 mod reassembling;
 mod rebuilding;
+mod reducing;
 mod retaining;
 mod trimming;
 
-pub use assembling::assemble;
+pub use assembling::{assemble, assemble_retained};
 pub use finishing::finish;
 pub use marking::{mark_refs, unused_flags};
 pub use places::{Place, add_here, add_part, hole_cause};
@@ -33,6 +36,7 @@ pub use position_cells::cells;
 pub use position_counting::position_counts;
 pub use reassembling::reassemble;
 pub use rebuilding::{Rebuilding, is_short_line};
+pub use reducing::Reduces;
 pub use retaining::{retained_cells, retained_positions};
 pub use topojson_types::{
     ArcRef, CELL_LIMIT, Cell, GRID_LIMIT, SumFault, TopoFeature, TopoObject, TopoShape, Topology,

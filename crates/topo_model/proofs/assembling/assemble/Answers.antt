@@ -1,22 +1,40 @@
-use Rattle.std.proofs.Common.{sym, ap, ◌∙◌, subst, arith, length, ◌<◌, ◌^◌}
-use Rattle.topojson_types.specs.Validity.{IsTopology}
-use Rattle.simplified_topology.proofs.Assembled.{contents}
+use Rattle.std.proofs.Common.{◌≡◌, ℕ, List, length, map, ap, sym, subst, ◌∙◌}
+use Rattle.std.proofs.lemmas.Result.{IfOk-weaker}
+use Rattle.simplified_topology.specs.Simplified.{EachFromFirstToLast, retained_arcs}
+use Rattle.topo_model.proofs.Assembled.{table_arcs}
+use Rattle.topo_model.proofs.Numbered.{as_many}
 use Rattle.topo_model.proofs.assembling.assemble.Goals as goal
 
-pub of-topology-requires : goal.of-topology-requires
-of-topology-requires c =
-    let r = c.requires.retained in
+pub positions_of_all-requires : goal.positions_of_all-requires
+positions_of_all-requires c = as_many (λ k. k.items) c.args.kept.now _ (subst (EachFromFirstToLast (map (λ k. k.items) c.args.kept.now)) (sym c.arcs-2.ensures) c.requires.kept)
+
+pub assemble_retained-requires-clause-retained : goal.assemble_retained-requires-clause-retained
+assemble_retained-requires-clause-retained c =
+    let same = ap (λ t. t.arcs) c.requires.table ∙ table_arcs c.args.layers.items in
     record {
-      valid = rw (c.of.ensures, c.of-2.ensures)
-          (subst IsTopology (c.in_ok-objects.ensures.assembled r.kept r.picks) (c.assembled_is_valid.ensures r.kept c.args.ring_limit c.args.layers.items c.requires.sound c.requires.names r.through));
+      kept = map (λ k. k.items) c.args.kept.now;
+      through = subst (EachFromFirstToLast (map (λ k. k.items) c.args.kept.now)) same c.requires.kept;
+      picks = c.in_ok-retained.ensures ∙ ap (retained_arcs (map (λ k. k.items) c.args.kept.now)) (c.arcs-2.ensures ∙ same);
     }
 
-pub returns-clause-topology : goal.returns-clause-topology
-returns-clause-topology c kept picks =
-    c.of-topology.ensures ∙ ap (λ os. contents os c.of-2.result) c.of.ensures ∙ ap (contents c.in_ok-objects.objects.items) c.of-2.ensures ∙ sym (c.in_ok-objects.ensures.assembled kept picks)
+pub assemble_retained-requires-clause-counts : goal.assemble_retained-requires-clause-counts
+assemble_retained-requires-clause-counts c =
+    c.deref.ensures.value ∙ c.in_ok-counts.ensures ∙ ap (map length) (c.arcs.ensures ∙ ap (λ t. t.arcs) c.requires.table ∙ table_arcs c.args.layers.items)
 
-pub returns-clause-few : goal.returns-clause-few
-returns-clause-few c =
-    let v = c.in_ok-objects.arcs in
-    let less : length v.items < 2 ^ 63 = omega (arith, v.ok.0, v.ok.1, v.small) in
-    subst (λ z. length z < 2 ^ 63) (sym (ap (λ z. z.arcs) c.of-topology.ensures ∙ c.of-2.ensures)) less
+pub returns-clause-topology : goal.returns-clause-topology
+returns-clause-topology c =
+    IfOk-weaker c.assemble_retained.result _ _
+    (λ r h. h (map (λ k. k.items) c.args.kept.now) (c.in_ok-retained.ensures ∙ ap (retained_arcs (map (λ k. k.items) c.args.kept.now)) (c.arcs-2.ensures ∙ ap (λ t. t.arcs) c.requires.table ∙ table_arcs c.args.layers.items)))
+    c.assemble_retained.ensures.topology
+
+pub returns-clause-dropped : goal.returns-clause-dropped
+returns-clause-dropped c =
+    IfOk-weaker c.assemble_retained.result _ _
+    (λ r h. h (map (λ k. k.items) c.args.kept.now) (c.in_ok-retained.ensures ∙ ap (retained_arcs (map (λ k. k.items) c.args.kept.now)) (c.arcs-2.ensures ∙ ap (λ t. t.arcs) c.requires.table ∙ table_arcs c.args.layers.items)))
+    c.assemble_retained.ensures.dropped
+
+pub returns-clause-removed_count : goal.returns-clause-removed_count
+returns-clause-removed_count c =
+    IfOk-weaker c.assemble_retained.result _ _
+    (λ r h. h (map (λ k. k.items) c.args.kept.now) (c.in_ok-retained.ensures ∙ ap (retained_arcs (map (λ k. k.items) c.args.kept.now)) (c.arcs-2.ensures ∙ ap (λ t. t.arcs) c.requires.table ∙ table_arcs c.args.layers.items)))
+    c.assemble_retained.ensures.removed_count

@@ -44,8 +44,8 @@ impl Table {
     /// segment of the lines lies once, in exactly one arc; the arcs that a line's indexes name are its pieces, and joined
     /// again they are the line, a ring turned to its start.
     ///
-    /// The positions of a line that is one whole piece become its arc as they are, if it is the first such piece. Each other line is let
-    /// go once its pieces have their indexes.
+    /// The positions of a line that is one whole piece become its arc as they are, if it is the first such piece. Each other line is freed
+    /// once its pieces have their indexes.
     pub fn build(alloc: Global, pieces: Pieces) -> Result<Table, Memory>
         ensures table { IfOk result (λ t. t ≡ table_of pieces) }
         ensures once { IfOk result (λ t. AreOnceIn t.arcs (line_segments (lines_and_rings pieces))) }

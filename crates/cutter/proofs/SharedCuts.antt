@@ -6,9 +6,9 @@ use Rattle.geometry.proofs.Moved.{Replaced, ends}
 use Rattle.geometry.specs.Points.{Point}
 use Rattle.junctions.specs.declared.stroke.Stroke.{Stroke}
 use Rattle.junctions.specs.Cuts.{is_cut}
-use Rattle.cutter.specs.Pieces.{from_start}
+use Rattle.cutter.specs.Pieces.{from_start, stitched}
 use Rattle.cutter.specs.SharedCuts.{AllRise, AreCutIndexes, AreEnds, cut_lines, own_indexes, split_lines_and_rings}
-use Rattle.cutter.specs.Slices.{SplitLine, slices, indexes, started, split_by, split_of, EndsPass, IsRising, piece_lists, lines_and_rings}
+use Rattle.cutter.specs.Slices.{SplitLine, AllSplit, slices, indexes, started, split_by, split_of, EndsPass, IsRising, piece_lists, lines_and_rings}
 use Rattle.cutter.proofs.Known.{split_view}
 use Rattle.cutter.proofs.SliceLaws.{indexes_rise}
 
@@ -127,7 +127,7 @@ own_read cuts es all cs ns i first view h k ec en ef =
 -- ---- one of the lines that are cut at indexes of their own
 
 -- its indexes rise
-pub own_rise : (ss : List Stroke) (own : List (List ℕ)) (i : ℕ) (s : Stroke) (is : List ℕ) → AllRise ss own → i < length ss → s ≡ get_or ss i s → slice_get own i ≡ Some is →
+own_rise : (ss : List Stroke) (own : List (List ℕ)) (i : ℕ) (s : Stroke) (is : List ℕ) → AllRise ss own → i < length ss → s ≡ get_or ss i s → slice_get own i ≡ Some is →
     IsRising (length s.positions) is
 own_rise [] own i s is h k e f = absurd (omega arith)
 own_rise (t ∷ ss) [] i s is h k e f = elim h [ ]
@@ -146,9 +146,29 @@ own_pieces (t ∷ ss) (js ∷ own) zero s is k e f =
     ap (λ x. Some (slices x.positions js)) (sym e) ∙ ap (λ ks. Some (slices s.positions ks)) g
 own_pieces (t ∷ ss) (js ∷ own) (suc i) s is k e f = own_pieces ss own i s is (omega arith) e f
 
-pub line_pieces : (ss : List Stroke) (own : List (List ℕ)) (all : List SplitLine) (i : ℕ) (s : Stroke) (is : List ℕ) → cut_lines ss own ≡ all → i < length ss → s ≡ get_or ss i s →
-    slice_get own i ≡ Some is → slice_get (piece_lists all) i ≡ Some (slices s.positions is)
-line_pieces ss own all i s is view k e f = ap (λ l. slice_get (piece_lists l) i) (sym view) ∙ own_pieces ss own i s is k e f
+-- its pieces, joined again, are the line
+own_joined : (ss : List Stroke) (own : List (List ℕ)) (i : ℕ) (s : Stroke) (is : List ℕ) → AllSplit (cut_lines ss own) → i < length ss → s ≡ get_or ss i s → slice_get own i ≡ Some is →
+    stitched (slices s.positions is) ≡ s.positions
+own_joined [] own i s is h k e f = absurd (omega arith)
+own_joined (t ∷ ss) [] i s is h k e f = cc
+own_joined (t ∷ ss) (js ∷ own) zero s is h k e f =
+    let g : js ≡ is = cc in
+    subst (λ x. stitched (slices x.positions is) ≡ x.positions) (sym e) (subst (λ ks. stitched (slices t.positions ks) ≡ t.positions) g h.0.joins)
+own_joined (t ∷ ss) (js ∷ own) (suc i) s is h k e f = own_joined ss own i s is h.1 (omega arith) e f
+
+-- what is known of one of the lines and of the indexes at which it is cut
+pub record IsCutLine (all : List SplitLine) (i : ℕ) (s : Stroke) (is : List ℕ) : Type 0 where
+  pub rising : IsRising (length s.positions) is
+  pub joined : stitched (slices s.positions is) ≡ s.positions
+  pub pieces : slice_get (piece_lists all) i ≡ Some (slices s.positions is)
+
+pub cut_line : (ss : List Stroke) (own : List (List ℕ)) (all : List SplitLine) (i : ℕ) (s : Stroke) (is : List ℕ) → cut_lines ss own ≡ all → AllRise ss own → AllSplit all →
+    i < length ss → s ≡ get_or ss i s → slice_get own i ≡ Some is → IsCutLine all i s is
+cut_line ss own all i s is view rise split k e f = record {
+  rising = own_rise ss own i s is rise k e f;
+  joined = own_joined ss own i s is (subst AllSplit (sym view) split) k e f;
+  pieces = ap (λ l. slice_get (piece_lists l) i) (sym view) ∙ own_pieces ss own i s is k e f;
+}
 
 -- as many lines as lists of indexes
 pub as_many_lines : (ss : List Stroke) (own : List (List ℕ)) → AllRise ss own → length own ≡ length ss

@@ -1,10 +1,10 @@
 -- The slices between the cut indexes are the pieces.
-use Rattle.std.proofs.Common.{◌≡◌, ◌≢◌, ℕ, suc, ◌+◌, ◌-◌, ◌<◌, ◌≤◌, Bool, true, cond, List, [], ◌∷◌, ◌++◌, take, drop, length, append-nil, refl, ap, sym, ◌∙◌, arith, Option, None, Some}
+use Rattle.std.proofs.Common.{◌≡◌, ◌≢◌, ℕ, suc, ◌+◌, ◌<◌, ◌≤◌, Bool, true, cond, List, [], ◌∷◌, ◌++◌, take, drop, length, append-nil, refl, ap, sym, ◌∙◌, arith, Option, None, Some}
 use Rattle.std.specs.List.{slice_range, filter}
 use Rattle.std.proofs.Common.{get_or}
-use Rattle.std.proofs.lemmas.List.{drop-drop, take_all, take_more, length-take}
+use Rattle.std.proofs.lemmas.List.{drop-drop, take_more, length-take}
 use Rattle.std.proofs.lemmas.List.Elements.{filter-append}
-use Rattle.cutter.specs.Pieces.{pieces_from, split_at, first_at, start_in}
+use Rattle.cutter.specs.Pieces.{pieces_from, split_at, first_at, start_in, stitched}
 use Rattle.cutter.specs.Slices.{indexes, slices, IsRising, least_point, least_with}
 use Rattle.geometry.specs.Order.{is_before, least_of, is_least}
 use Rattle.geometry.specs.Points.{Point}
@@ -88,12 +88,19 @@ no_slice ps [] k = refl
 no_slice ps (i ∷ []) k = refl
 no_slice ps (i ∷ (j ∷ js)) k = absurd (omega arith)
 
--- from the first position to the last: the whole list
-pub whole_slice : (ps : List Point) (is : List ℕ) → length is ≡ 2 → get_or is 0 0 ≡ 0 → get_or is 1 0 ≡ length ps - 1 → slices ps is ≡ ps ∷ []
-whole_slice ps [] n a b = absurd (omega arith)
-whole_slice ps (i ∷ []) n a b = absurd (omega arith)
-whole_slice ps (i ∷ (j ∷ [])) n a b = ap (λ k. slice_range ps k (j + 1) ∷ []) a ∙ ap (λ l. l ∷ []) (take_all ((j + 1) - 0) ps (omega (arith, b)))
-whole_slice ps (i ∷ (j ∷ (k ∷ is))) n a b = absurd (omega arith)
+-- of pieces that, joined again, are the list, the only one is the list
+pub whole_slice : (ps : List Point) (is : List ℕ) → stitched (slices ps is) ≡ ps → length is ≡ 2 → slices ps is ≡ ps ∷ []
+whole_slice ps [] e n = absurd (omega arith)
+whole_slice ps (i ∷ []) e n = absurd (omega arith)
+whole_slice ps (i ∷ (j ∷ [])) e n = ap (λ l. l ∷ []) (sym (append-nil (slice_range ps i (j + 1))) ∙ e)
+whole_slice ps (i ∷ (j ∷ (k ∷ is))) e n = absurd (omega arith)
+
+-- two indexes make one piece, and no other number does
+pub other_slices : (ps : List Point) (is : List ℕ) → length is ≢ 2 → length (slices ps is) ≢ 1
+other_slices ps [] h e = absurd (omega (arith, e))
+other_slices ps (i ∷ []) h e = absurd (omega (arith, e))
+other_slices ps (i ∷ (j ∷ [])) h e = h refl
+other_slices ps (i ∷ (j ∷ (k ∷ is))) h e = absurd (omega (arith, e))
 
 pub least_step : (t : Point → Bool) (ps : List Point) (i : ℕ) (x : Point) (best : Option Point) → i < length ps → x ≡ get_or ps i x → best ≡ least_point (filter t (take i ps)) →
     cond (t x) (least_with best x) best ≡ least_point (filter t (take (i + 1) ps))

@@ -1,5 +1,5 @@
 // The indexes at which lines and rings are cut.
-ghost use Rattle.std.specs.Prelude.{◌≡◌, ◌<◌, ◌≤◌, ◌∷◌, Some, length, slice_get, slice_index_or};
+ghost use Rattle.std.specs.Prelude.{◌≡◌, ◌<◌, ◌≤◌, ◌∷◌, Some, length, slice_get, slice_index_or, slice_range};
 ghost use Rattle.cutter.specs.SharedCuts.{AreEnds, own_indexes};
 
 use std::marker::Model;
@@ -40,9 +40,17 @@ impl CutIndexes {
     {
         let indexes = self.indexes.as_slice();
         let ends = self.ends.as_slice();
-        let own = &indexes[begin_of(ends, i)..ends[i]];
-        own
+        between(indexes, begin_of(ends, i), ends[i])
     }
+}
+
+// The indexes from one place up to another.
+fn between(indexes: &[usize], begin: usize, end: usize) -> &[usize]
+    requires order { begin ≤ end }
+    requires within { end ≤ length indexes.now }
+    ensures { result.now ≡ slice_range indexes.now begin end }
+{
+    &indexes[begin..end]
 }
 
 // How many cut indexes are those of lines before the line with this number.

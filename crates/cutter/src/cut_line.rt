@@ -1,5 +1,6 @@
 // A line or a ring that is cut, by value.
-ghost use Rattle.std.specs.Prelude.{◌≡◌, ◌∷◌, [], IfErr, IfOk, length};
+ghost use Rattle.std.specs.Prelude.{◌≡◌, ◌≢◌, ◌∷◌, [], IfErr, IfOk, length};
+ghost use Rattle.cutter.specs.Pieces.{stitched};
 ghost use Rattle.cutter.specs.Slices.{slices, IsRising};
 
 use crate::piece_iter::PieceIter;
@@ -8,7 +9,7 @@ use junctions::Stroke;
 use owned_values::Items;
 use std::marker::Model;
 
-/// A line or a ring, by value, with the indexes at which it is cut. Contracts see its pieces.
+/// A line or a ring, by value, with the indexes at which it is cut. Contracts see its pieces, which, joined again, are its positions.
 #[derive(Debug, Drop)]
 pub struct CutLine<'a> {
     positions: Items<Position>,
@@ -16,21 +17,23 @@ pub struct CutLine<'a> {
 }
 
 impl<'a> Model for CutLine<'a> {
-    ghost use Rattle.std.specs.Prelude.{List, length};
+    ghost use Rattle.std.specs.Prelude.{◌≡◌, List, length};
     ghost use Rattle.geometry.specs.Points.{Point};
+    ghost use Rattle.cutter.specs.Pieces.{stitched};
     ghost use Rattle.cutter.specs.Slices.{slices, IsRising};
 
     ghost Value = { List (List Point) };
 
     ghost view = { λ s. slices s.positions s.cuts.now };
 
-    ghost invariant = { λ s. IsRising (length s.positions) s.cuts.now };
+    ghost invariant = { λ s. IsRising (length s.positions) s.cuts.now × (stitched (slices s.positions s.cuts.now) ≡ s.positions) };
 }
 
 impl<'a> CutLine<'a> {
-    /// The line, cut at these indexes. Its address is let go.
+    /// The line, cut at these indexes. Its address is not kept.
     pub fn of(line: Stroke, cuts: &'a [usize]) -> CutLine<'a>
-        requires { IsRising (length line.positions) cuts.now }
+        requires rising { IsRising (length line.positions) cuts.now }
+        requires joined { stitched (slices line.positions cuts.now) ≡ line.positions }
         ensures { result ≡ slices line.positions cuts.now }
     {
         CutLine {
@@ -39,15 +42,14 @@ impl<'a> CutLine<'a> {
         }
     }
 
-    /// Its positions, if the line is one whole piece, and else the line again.
-    #[tactic(auto, using(crate::proofs::SliceLaws::whole_slice))]
+    /// Its positions, if the line is one piece, and else the line again.
     pub fn into_whole(self) -> Result<Items<Position>, CutLine<'a>>
         ensures whole { IfOk result (λ positions. self.entry ≡ positions ∷ []) }
         ensures again { IfErr result (λ line. line ≡ self.entry) }
+        ensures cut { IfErr result (λ line. length line ≢ 1) }
     {
         let line = self;
-        let last = line.positions.len().saturating_sub(1);
-        if line.cuts.len() == 2 && line.cuts[0] == 0 && line.cuts[1] == last {
+        if line.cuts.len() == 2 {
             return Ok(line.positions);
         }
         Err(line)

@@ -6,7 +6,7 @@ use Rattle.std.specs.List.{sum_by}
 use Rattle.cutter.specs.Places.{In}
 use Rattle.cutter.specs.Segments.{line_segments, piece_segments}
 use Rattle.cutter.specs.Slices.{all_pieces, piece_lists, lines_and_rings}
-use Rattle.cutter.proofs.SharedCuts.{as_many_lines, line_pieces, own_rise}
+use Rattle.cutter.proofs.SharedCuts.{IsCutLine, as_many_lines, cut_line}
 use Rattle.geometry.specs.Joins.{arc_at, stitched}
 use Rattle.arc_table.specs.Arcs.{table_of}
 use Rattle.arc_table.specs.Growth.{grow_all}
@@ -28,8 +28,8 @@ of_line-own-requires c =
     let e : c.len-number.result ≡ n = omega (arith, c.len-number.ensures, c.loop-line.invariant.many) in
     omega (arith, e, t.0, as_many_lines lines cuts c.into_parts-lines.ensures.rising)
 
-pub of-cut-requires : goal.of-cut-requires
-of-cut-requires c =
+pub of-cut-requires-clause-rising : goal.of-cut-requires-clause-rising
+of-cut-requires-clause-rising c =
     let lines = c.into_parts-lines.result.0.items in
     let cuts = c.into_parts-lines.result.1 in
     let n = length c.loop-line.yielded in
@@ -38,7 +38,23 @@ of-cut-requires c =
     c.loop-line.yielded c.loop-line.line-iterator c.loop-line.yielded_by c.next.result c.next.new.self c.in-Some.line c.in-Some.is c.next.ensures.steps in
     let e : c.len-number.result ≡ n = omega (arith, c.len-number.ensures, c.loop-line.invariant.many) in
     let own : slice_get cuts n ≡ Some c.of_line-own.result.now = ap (slice_get cuts) (sym e) ∙ c.of_line-own.ensures in
-    own_rise lines cuts n c.in-Some.line c.of_line-own.result.now c.into_parts-lines.ensures.rising t.0 t.1 own
+    let cut : IsCutLine c.args.pieces n c.in-Some.line c.of_line-own.result.now =
+    cut_line lines cuts c.args.pieces n c.in-Some.line c.of_line-own.result.now c.into_parts-lines.ensures.pieces c.into_parts-lines.ensures.rising c.law.ensures.joined t.0 t.1 own in
+    cut.rising
+
+pub of-cut-requires-clause-joined : goal.of-cut-requires-clause-joined
+of-cut-requires-clause-joined c =
+    let lines = c.into_parts-lines.result.0.items in
+    let cuts = c.into_parts-lines.result.1 in
+    let n = length c.loop-line.yielded in
+    let t : (n < length lines) × (c.in-Some.line ≡ get_or lines n c.in-Some.line) =
+    YieldsList-turn (YieldsList-from_vec {s = c.into_iter-line-iterator.result} lines (search rules) (search rules))
+    c.loop-line.yielded c.loop-line.line-iterator c.loop-line.yielded_by c.next.result c.next.new.self c.in-Some.line c.in-Some.is c.next.ensures.steps in
+    let e : c.len-number.result ≡ n = omega (arith, c.len-number.ensures, c.loop-line.invariant.many) in
+    let own : slice_get cuts n ≡ Some c.of_line-own.result.now = ap (slice_get cuts) (sym e) ∙ c.of_line-own.ensures in
+    let cut : IsCutLine c.args.pieces n c.in-Some.line c.of_line-own.result.now =
+    cut_line lines cuts c.args.pieces n c.in-Some.line c.of_line-own.result.now c.into_parts-lines.ensures.pieces c.into_parts-lines.ensures.rising c.law.ensures.joined t.0 t.1 own in
+    cut.joined
 
 pub loop-line-preserved : goal.loop-line-preserved
 loop-line-preserved c =
@@ -50,8 +66,9 @@ loop-line-preserved c =
     c.loop-line.yielded c.loop-line.line-iterator c.loop-line.yielded_by c.next.result c.next.new.self c.in-Some.line c.in-Some.is c.next.ensures.steps in
     let e : c.len-number.result ≡ n = omega (arith, c.len-number.ensures, c.loop-line.invariant.many) in
     let own : slice_get cuts n ≡ Some c.of_line-own.result.now = ap (slice_get cuts) (sym e) ∙ c.of_line-own.ensures in
-    let got : slice_get (piece_lists c.args.pieces) n ≡ Some c.of-cut.result =
-    line_pieces lines cuts c.args.pieces n c.in-Some.line c.of_line-own.result.now c.into_parts-lines.ensures.pieces t.0 t.1 own ∙ ap (λ l. Some l) (sym c.of-cut.ensures) in
+    let cut : IsCutLine c.args.pieces n c.in-Some.line c.of_line-own.result.now =
+    cut_line lines cuts c.args.pieces n c.in-Some.line c.of_line-own.result.now c.into_parts-lines.ensures.pieces c.into_parts-lines.ensures.rising c.law.ensures.joined t.0 t.1 own in
+    let got : slice_get (piece_lists c.args.pieces) n ≡ Some c.of-cut.result = cut.pieces ∙ ap (λ l. Some l) (sym c.of-cut.ensures) in
     let lists = piece_lists c.args.pieces in
     let arcs = c.loop-line.arcs.items in
     let refs = c.loop-line.refs.items in
@@ -82,8 +99,9 @@ add_line-requires-clause-unlike c =
     c.loop-line.yielded c.loop-line.line-iterator c.loop-line.yielded_by c.next.result c.next.new.self c.in-Some.line c.in-Some.is c.next.ensures.steps in
     let e : c.len-number.result ≡ n = omega (arith, c.len-number.ensures, c.loop-line.invariant.many) in
     let own : slice_get cuts n ≡ Some c.of_line-own.result.now = ap (slice_get cuts) (sym e) ∙ c.of_line-own.ensures in
-    let got : slice_get (piece_lists c.args.pieces) n ≡ Some c.of-cut.result =
-    line_pieces lines cuts c.args.pieces n c.in-Some.line c.of_line-own.result.now c.into_parts-lines.ensures.pieces t.0 t.1 own ∙ ap (λ l. Some l) (sym c.of-cut.ensures) in
+    let cut : IsCutLine c.args.pieces n c.in-Some.line c.of_line-own.result.now =
+    cut_line lines cuts c.args.pieces n c.in-Some.line c.of_line-own.result.now c.into_parts-lines.ensures.pieces c.into_parts-lines.ensures.rising c.law.ensures.joined t.0 t.1 own in
+    let got : slice_get (piece_lists c.args.pieces) n ≡ Some c.of-cut.result = cut.pieces ∙ ap (λ l. Some l) (sym c.of-cut.ensures) in
     line_unlike (piece_lists c.args.pieces) n c.of-cut.result c.loop-line.arcs.items got c.loop-line.invariant.arcs
 
 pub add_line-requires-clause-identify : goal.add_line-requires-clause-identify
@@ -96,8 +114,9 @@ add_line-requires-clause-identify c =
     c.loop-line.yielded c.loop-line.line-iterator c.loop-line.yielded_by c.next.result c.next.new.self c.in-Some.line c.in-Some.is c.next.ensures.steps in
     let e : c.len-number.result ≡ n = omega (arith, c.len-number.ensures, c.loop-line.invariant.many) in
     let own : slice_get cuts n ≡ Some c.of_line-own.result.now = ap (slice_get cuts) (sym e) ∙ c.of_line-own.ensures in
-    let got : slice_get (piece_lists c.args.pieces) n ≡ Some c.of-cut.result =
-    line_pieces lines cuts c.args.pieces n c.in-Some.line c.of_line-own.result.now c.into_parts-lines.ensures.pieces t.0 t.1 own ∙ ap (λ l. Some l) (sym c.of-cut.ensures) in
+    let cut : IsCutLine c.args.pieces n c.in-Some.line c.of_line-own.result.now =
+    cut_line lines cuts c.args.pieces n c.in-Some.line c.of_line-own.result.now c.into_parts-lines.ensures.pieces c.into_parts-lines.ensures.rising c.law.ensures.joined t.0 t.1 own in
+    let got : slice_get (piece_lists c.args.pieces) n ≡ Some c.of-cut.result = cut.pieces ∙ ap (λ l. Some l) (sym c.of-cut.ensures) in
     line_identifies (piece_lists c.args.pieces) n c.of-cut.result c.loop-line.arcs.items got c.loop-line.invariant.arcs
     (subst StartsIdentify (sym (every_piece c.args.pieces)) (structured_identifies (all_pieces c.args.pieces) c.law.ensures.structured))
 
@@ -111,8 +130,9 @@ add_line-requires-clause-long c =
     c.loop-line.yielded c.loop-line.line-iterator c.loop-line.yielded_by c.next.result c.next.new.self c.in-Some.line c.in-Some.is c.next.ensures.steps in
     let e : c.len-number.result ≡ n = omega (arith, c.len-number.ensures, c.loop-line.invariant.many) in
     let own : slice_get cuts n ≡ Some c.of_line-own.result.now = ap (slice_get cuts) (sym e) ∙ c.of_line-own.ensures in
-    let got : slice_get (piece_lists c.args.pieces) n ≡ Some c.of-cut.result =
-    line_pieces lines cuts c.args.pieces n c.in-Some.line c.of_line-own.result.now c.into_parts-lines.ensures.pieces t.0 t.1 own ∙ ap (λ l. Some l) (sym c.of-cut.ensures) in
+    let cut : IsCutLine c.args.pieces n c.in-Some.line c.of_line-own.result.now =
+    cut_line lines cuts c.args.pieces n c.in-Some.line c.of_line-own.result.now c.into_parts-lines.ensures.pieces c.into_parts-lines.ensures.rising c.law.ensures.joined t.0 t.1 own in
+    let got : slice_get (piece_lists c.args.pieces) n ≡ Some c.of-cut.result = cut.pieces ∙ ap (λ l. Some l) (sym c.of-cut.ensures) in
     λ x k. c.law.ensures.long x (subst (λ l. In x l) (every_piece c.args.pieces)
     (line_in (piece_lists c.args.pieces) n c.of-cut.result c.loop-line.arcs.items got c.loop-line.invariant.arcs x k))
 

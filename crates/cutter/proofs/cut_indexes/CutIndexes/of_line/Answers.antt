@@ -1,4 +1,4 @@
-use Rattle.std.proofs.Common.{◌<◌, ◌≤◌, length, get_or, arith, rules}
+use Rattle.std.proofs.Common.{◌<◌, ◌∙◌, length, Some, ap, sym, arith, rules}
 use Rattle.cutter.proofs.SharedCuts.{has_own, own_read}
 use Rattle.cutter.proofs.cut_indexes.CutIndexes.of_line.Goals as goal
 
@@ -15,40 +15,20 @@ offset_bounds-ends-i c =
 pub bounds-ends-i : goal.bounds-ends-i
 bounds-ends-i c = has_own c.self.inside.indexes.items c.self.inside.ends.items c.args.self.now c.as_slice-ends.result.now c.args.i c.self.view_is c.requires c.as_slice-ends.ensures.value
 
-pub offset_bounds-indexes-begin_of : goal.offset_bounds-indexes-begin_of
-offset_bounds-indexes-begin_of c =
+pub between-requires-clause-order : goal.between-requires-clause-order
+between-requires-clause-order c =
     let own = own_read c.self.inside.indexes.items c.self.inside.ends.items c.args.self.now c.as_slice-indexes.result.now c.as_slice-ends.result.now c.args.i c.begin_of.result
     c.self.view_is c.self.invariant c.requires c.as_slice-indexes.ensures.value c.as_slice-ends.ensures.value c.begin_of.ensures in
-    let order : c.begin_of.result ≤ get_or c.as_slice-ends.result.now c.args.i 0 = own.order in
-    let within : get_or c.as_slice-ends.result.now c.args.i 0 ≤ length c.as_slice-indexes.result.now = own.within in
-    search rules
+    own.order
 
-pub slice_bounds-own-count : goal.slice_bounds-own-count
-slice_bounds-own-count c =
+pub between-requires-clause-within : goal.between-requires-clause-within
+between-requires-clause-within c =
     let own = own_read c.self.inside.indexes.items c.self.inside.ends.items c.args.self.now c.as_slice-indexes.result.now c.as_slice-ends.result.now c.args.i c.begin_of.result
     c.self.view_is c.self.invariant c.requires c.as_slice-indexes.ensures.value c.as_slice-ends.ensures.value c.begin_of.ensures in
-    let order : c.begin_of.result ≤ get_or c.as_slice-ends.result.now c.args.i 0 = own.order in
-    let within : get_or c.as_slice-ends.result.now c.args.i 0 ≤ length c.as_slice-indexes.result.now = own.within in
-    search rules
-
-pub slice_bounds-own-start : goal.slice_bounds-own-start
-slice_bounds-own-start c =
-    let own = own_read c.self.inside.indexes.items c.self.inside.ends.items c.args.self.now c.as_slice-indexes.result.now c.as_slice-ends.result.now c.args.i c.begin_of.result
-    c.self.view_is c.self.invariant c.requires c.as_slice-indexes.ensures.value c.as_slice-ends.ensures.value c.begin_of.ensures in
-    let order : c.begin_of.result ≤ get_or c.as_slice-ends.result.now c.args.i 0 = own.order in
-    let within : get_or c.as_slice-ends.result.now c.args.i 0 ≤ length c.as_slice-indexes.result.now = own.within in
-    search rules
-
-pub slice_bounds-own-end : goal.slice_bounds-own-end
-slice_bounds-own-end c =
-    let own = own_read c.self.inside.indexes.items c.self.inside.ends.items c.args.self.now c.as_slice-indexes.result.now c.as_slice-ends.result.now c.args.i c.begin_of.result
-    c.self.view_is c.self.invariant c.requires c.as_slice-indexes.ensures.value c.as_slice-ends.ensures.value c.begin_of.ensures in
-    let order : c.begin_of.result ≤ get_or c.as_slice-ends.result.now c.args.i 0 = own.order in
-    let within : get_or c.as_slice-ends.result.now c.args.i 0 ≤ length c.as_slice-indexes.result.now = own.within in
-    search rules
+    own.within
 
 pub returns : goal.returns
 returns c =
     let own = own_read c.self.inside.indexes.items c.self.inside.ends.items c.args.self.now c.as_slice-indexes.result.now c.as_slice-ends.result.now c.args.i c.begin_of.result
     c.self.view_is c.self.invariant c.requires c.as_slice-indexes.ensures.value c.as_slice-ends.ensures.value c.begin_of.ensures in
-    own.got
+    own.got ∙ ap Some (sym c.between.ensures)

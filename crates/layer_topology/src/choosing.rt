@@ -19,19 +19,19 @@ use owned_values::Memory;
 use std::alloc::Global;
 use topo_model::{Cell, retained_positions};
 
-/// The positions of an arc that stay at a threshold.
-fn reduced_arc<Q: Reducer>(
+/// The positions of a line that stay at a threshold.
+pub fn reduced_line<Q: Reducer>(
     alloc: Global,
     reducer: &mut Q,
-    arc: &[Position],
+    line: &[Position],
     threshold: u128,
 ) -> Result<Items<Cell>, Memory>
-    requires { 2 ≤ length arc.now }
-    ensures retained { IfOk result (λ cells. cells ≡ retained (reduce threshold arc.now) arc.now) }
+    requires { 2 ≤ length line.now }
+    ensures retained { IfOk result (λ cells. cells ≡ retained (reduce threshold line.now) line.now) }
     ensures called { IfOk result (λ _. Q.calls reducer.new ≡ Q.calls reducer.old + 1) }
 {
-    let kept = reducer.kept(alloc, arc, threshold)?;
-    retained_positions(alloc, &kept, arc)
+    let kept = reducer.kept(alloc, line, threshold)?;
+    retained_positions(alloc, &kept, line)
 }
 
 /// Of each arc the positions that stay at a threshold. An arc is freed before the next one is reduced.
@@ -47,7 +47,7 @@ fn reduced_arcs<Q: Reducer>(
 {
     let mut left = Vec::with_capacity(alloc, arcs.len())?;
     'arcs: for arc in arcs {
-        left.push(reduced_arc(alloc, reducer, arc.as_slice(), threshold)?)?;
+        left.push(reduced_line(alloc, reducer, arc.as_slice(), threshold)?)?;
     }
     Ok(left)
 }

@@ -15,6 +15,7 @@ mod objects;
 mod topology;
 mod transforms;
 
+pub use choosing::reduced_line;
 pub use laws::{simplifies_to_written, written_laws};
 pub use layers::snap_layers;
 pub use level::Level;

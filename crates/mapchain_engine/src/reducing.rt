@@ -1,5 +1,5 @@
 // Reducing the arcs of a topology that was read.
-ghost use Rattle.std.specs.Prelude.{◌≡◌, ◌+◌, ◌≤◌, IfOk, length, map};
+ghost use Rattle.std.specs.Prelude.{◌≡◌, ◌+◌, ◌≤◌, IfOk, None, length, map};
 ghost use Rattle.std.specs.List.{AllByRecursion};
 ghost use Rattle.std.specs.Option.{option_copied};
 ghost use Rattle.byte_ends.specs.Ends.{saturated};
@@ -12,8 +12,9 @@ ghost use Rattle.mapchain_engine.specs.Simplified as spec;
 
 use byte_ends::Memory;
 use effective_area::Reducer;
-use geojson_types::{Counts, Dropped};
+use geojson_types::{Counts, Dropped, Position};
 use json_value::Items;
+use layer_topology::reduced_line;
 use reports::{Report, report_of};
 use simplified_topology::indexes_reach;
 use std::alloc::Global;
@@ -21,8 +22,16 @@ use topo_model::{position_counts, reassemble, retained_cells};
 use topojson_features::positions;
 use topojson_types::{Cell, Topology, Transform};
 
+/// The positions of an arc without a transform, which are its cells. The arc is freed.
+fn own_positions(alloc: Global, arc: Items<Cell>) -> Result<Items<Position>, Memory>
+    requires { IsArc None arc }
+    ensures { IfOk result (λ line. line ≡ arc) }
+{
+    positions(alloc, None, arc.as_slice())
+}
+
 /// The cells of an arc that stay where the positions that they stand for are reduced.
-fn reduced_arc<Q: Reducer>(
+fn reduced_cells<Q: Reducer>(
     alloc: Global,
     reducer: &mut Q,
     transform: Option<&Transform>,
@@ -38,7 +47,29 @@ fn reduced_arc<Q: Reducer>(
     retained_cells(alloc, &kept, cells)
 }
 
-/// Of each arc the cells that stay. An arc is freed before the next one is reduced.
+/// The cells of an arc that stay where the positions that they stand for are reduced. An arc without a transform is copied as positions and
+/// freed before it is reduced, so that it isn't held beside them meanwhile.
+fn reduced_arc<Q: Reducer>(
+    alloc: Global,
+    reducer: &mut Q,
+    transform: Option<&Transform>,
+    arc: Items<Cell>,
+    t: u128,
+) -> Result<Items<Cell>, Memory>
+    requires { IsArc (option_copied transform) arc }
+    ensures retained { IfOk result (λ stay. stay ≡ retained (reduce t (placed_cells (option_copied transform.entry) arc)) arc) }
+    ensures called { IfOk result (λ _. Q.calls reducer.new ≡ Q.calls reducer.old + 1) }
+{
+    match transform {
+        None => {
+            let line = own_positions(alloc, arc)?;
+            reduced_line(alloc, reducer, line.as_slice(), t)
+        }
+        Some(_) => reduced_cells(alloc, reducer, transform, arc.as_slice(), t),
+    }
+}
+
+/// Of each arc the cells that stay. No arc is held while the next one is reduced.
 fn reduced_arcs<Q: Reducer>(
     alloc: Global,
     reducer: &mut Q,
@@ -53,7 +84,7 @@ fn reduced_arcs<Q: Reducer>(
 {
     let mut left = Vec::with_capacity(alloc, arcs.len())?;
     'arcs: for arc in arcs {
-        left.push(reduced_arc(alloc, reducer, transform, arc.as_slice(), t)?)?;
+        left.push(reduced_arc(alloc, reducer, transform, arc, t)?)?;
     }
     Ok(left)
 }

@@ -13,7 +13,7 @@ ghost use Rattle.topojson_types.specs.Validity.{AreDistinct};
 ghost use Rattle.topo_model.specs.Retaining.{AreRetained};
 
 use crate::drafting::drafted_objects;
-use crate::finishing::finish;
+use crate::finishing::{Finished, finish};
 use crate::given_numbers::positions_of_all;
 use crate::position_counting::position_counts;
 use arc_table::Table;
@@ -23,7 +23,7 @@ use json_value::{Items, OwnText};
 use owned_values::Memory;
 use simplified_topology::assembled_is_valid;
 use std::alloc::Global;
-use topojson_types::{ArcRef, Cell, TopoObject, Topology};
+use topojson_types::{ArcRef, Cell, Topology};
 
 /// The objects and the arcs of the topology of named layers over reduced arcs, without the arcs that no kept line uses, the lines
 /// and rings that are dropped, in reading order, and how many positions are removed from the arcs that stay.
@@ -34,15 +34,7 @@ fn objects_and_arcs(
     retained: Vec<Items<Cell>>,
     counts: &[usize],
     ring_limit: u128,
-) -> Result<
-    (
-        Vec<(OwnText, TopoObject)>,
-        Vec<Items<Cell>>,
-        Vec<Dropped>,
-        u64,
-    ),
-    Memory,
->
+) -> Result<Finished, Memory>
     requires refs { refs.items ≡ (table_of (map (split_of (linework (layers_of layers.items))) (linework (layers_of layers.items)))).refs }
     requires sound { AreSound layers.items }
     requires names { AreDistinct (names_of layers.items) }
@@ -50,11 +42,11 @@ fn objects_and_arcs(
     requires counts { counts.now ≡ map length (arcs_of_layers layers.items) }
     requires limit { ring_limit ≤ threshold_limit }
     ensures assembled { IfOk result (λ r. (kept : List (List ℕ)) → retained.items ≡ retained_arcs kept (arcs_of_layers layers.items)
-        → assembled kept ring_limit layers.items ≡ record { objects = r.0.items; arcs = r.1.items; transform = None }) }
+        → assembled kept ring_limit layers.items ≡ record { objects = r.objects.items; arcs = r.arcs.items; transform = None }) }
     ensures dropped { IfOk result (λ r. (kept : List (List ℕ)) → retained.items ≡ retained_arcs kept (arcs_of_layers layers.items)
-        → r.2.items ≡ assembled_dropped kept ring_limit layers.items) }
+        → r.dropped.items ≡ assembled_dropped kept ring_limit layers.items) }
     ensures removed_count { IfOk result (λ r. (kept : List (List ℕ)) → retained.items ≡ retained_arcs kept (arcs_of_layers layers.items)
-        → r.3 ≡ saturated (assembled_removed_count kept ring_limit layers.items)) }
+        → r.removed_count ≡ saturated (assembled_removed_count kept ring_limit layers.items)) }
 {
     zero_law();
     ends_stay();
@@ -91,11 +83,9 @@ pub fn assemble_retained(
     ensures few { IfOk result (λ r. length r.0.arcs < 2 ^ 63) }
 {
     assembled_is_valid();
-    let (objects, arcs, dropped, taken) = objects_and_arcs(
-        alloc, layers, refs, retained, counts, ring_limit,
-    )?;
-    let topology = Topology::of(Items::of(objects), Items::of(arcs), None);
-    Ok((topology, dropped, taken))
+    let left = objects_and_arcs(alloc, layers, refs, retained, counts, ring_limit)?;
+    let topology = Topology::of(Items::of(left.objects), Items::of(left.arcs), None);
+    Ok((topology, left.dropped, left.removed_count))
 }
 
 /// The topology of named layers over the arcs of their lines, where of each arc the positions with these numbers are kept: a list

@@ -105,9 +105,21 @@ fn without_unused(
     Ok((stay, removed_count(before, after)))
 }
 
+/// What is left of a draft.
+#[derive(Debug, Drop)]
+pub struct Finished {
+    /// Its objects by name, without the lines and rings that are dropped.
+    pub objects: Vec<(OwnText, TopoObject)>,
+    /// The arcs that they use, in order.
+    pub arcs: Vec<Items<Cell>>,
+    /// The lines and rings that are dropped, in reading order, an object in the place of a layer.
+    pub dropped: Vec<Dropped>,
+    /// How many positions of these arcs were not retained.
+    pub removed_count: u64,
+}
+
 /// What is left of objects over arcs of which only the retained cells stay, and which had so many: without the lines and rings that have no
-/// arc index, or are small, and without the arcs that no other line uses; the lines and rings that are dropped, in reading order, an
-/// object in the place of a layer; and how many positions of the arcs that stay were not retained.
+/// arc index, or are small, and without the arcs that no other line uses.
 pub fn finish(
     alloc: Global,
     objects: Vec<(OwnText, TopoObject)>,
@@ -115,29 +127,32 @@ pub fn finish(
     counts: &[usize],
     transform: Option<&Transform>,
     ring_limit: u128,
-) -> Result<
-    (
-        Vec<(OwnText, TopoObject)>,
-        Vec<Items<Cell>>,
-        Vec<Dropped>,
-        u64,
-    ),
-    Memory,
->
+) -> Result<Finished, Memory>
     requires places { AllByRecursion (λ arc. AllByRecursion (IsPlace (option_copied transform)) arc) retained.items }
     requires limit { ring_limit ≤ threshold_limit }
     requires many { length retained.items ≡ length counts.now }
     requires ranged { AllByRecursion (λ b. AreInRange (length retained.items) b.1)
         (objects_lines_and_rings (objects_pruned (large_refs ring_limit (all_placed (option_copied transform) retained.items)) objects.items)) }
-    ensures left { IfOk result (λ r. contents r.0.items r.1.items (option_copied transform.entry)
+    ensures left { IfOk result (λ r. contents r.objects.items r.arcs.items (option_copied transform.entry)
         ≡ trimmed (contents (objects_pruned (large_refs ring_limit (all_placed (option_copied transform.entry) retained.items)) objects.items) retained.items (option_copied transform.entry))) }
-    ensures dropped { IfOk result (λ r. r.2.items ≡ objects_drops (record { arcs = all_placed (option_copied transform.entry) retained.items; limit = ring_limit }) 0 objects.items) }
-    ensures removed_count { IfOk result (λ r. r.3
+    ensures dropped { IfOk result (λ r. r.dropped.items ≡ objects_drops (record { arcs = all_placed (option_copied transform.entry) retained.items; limit = ring_limit }) 0 objects.items) }
+    ensures removed_count { IfOk result (λ r. r.removed_count
         ≡ saturated (sum (keep_from (is_used (objects_pruned (large_refs ring_limit (all_placed (option_copied transform.entry) retained.items)) objects.items)) 0 counts.now)
         - positions_of (keep_from (is_used (objects_pruned (large_refs ring_limit (all_placed (option_copied transform.entry) retained.items)) objects.items)) 0 retained.items))) }
 {
-    let mut left = objects;
-    let dropped = leave_out_dropped(alloc, left.as_mut_slice(), &retained, transform, ring_limit)?;
-    let (stay, taken) = without_unused(alloc, left.as_mut_slice(), retained, counts)?;
-    Ok((left, stay, dropped, taken))
+    let mut objects = objects;
+    let dropped = leave_out_dropped(
+        alloc,
+        objects.as_mut_slice(),
+        &retained,
+        transform,
+        ring_limit,
+    )?;
+    let (arcs, removed_count) = without_unused(alloc, objects.as_mut_slice(), retained, counts)?;
+    Ok(Finished {
+        objects,
+        arcs,
+        dropped,
+        removed_count,
+    })
 }

@@ -29,17 +29,11 @@ mod retaining;
 mod trimming;
 
 pub use assembling::{assemble, assemble_retained};
-pub use finishing::finish;
-pub use marking::{mark_refs, unused_flags};
-pub use places::{Place, add_here, add_part, hole_cause};
-pub use position_cells::cells;
 pub use position_counting::position_counts;
 pub use reassembling::reassemble;
-pub use rebuilding::{Rebuilding, is_short_line};
 pub use reducing::Reduces;
 pub use retaining::{retained_cells, retained_positions};
 pub use topojson_types::{
     ArcRef, CELL_LIMIT, Cell, GRID_LIMIT, SumFault, TopoFeature, TopoObject, TopoShape, Topology,
     Transform, TransformNumber, placed, sums,
 };
-pub use trimming::{kept_arcs, removed_count, renumber_all, renumbering};

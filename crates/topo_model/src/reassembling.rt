@@ -8,7 +8,7 @@ ghost use Rattle.simplified_topology.specs.Simplified.{dropped_by, removed_count
 ghost use Rattle.topo_model.specs.Parts.{contents};
 ghost use Rattle.topo_model.specs.Retaining.{AreRetainedOf};
 
-use crate::finishing::finish;
+use crate::finishing::{Finished, finish};
 use geojson_types::Dropped;
 use json_value::{Items, OwnText};
 use owned_values::Memory;
@@ -26,23 +26,15 @@ fn left_parts(
     counts: &[usize],
     transform: Option<&Transform>,
     ring_limit: u128,
-) -> Result<
-    (
-        Vec<(OwnText, TopoObject)>,
-        Vec<Items<Cell>>,
-        Vec<Dropped>,
-        u64,
-    ),
-    Memory,
->
+) -> Result<Finished, Memory>
     requires retained { AreRetainedOf objects.items (option_copied transform) retained.items counts.now }
     requires limit { ring_limit ≤ threshold_limit }
     ensures left { IfOk result (λ r. (kept : List (List ℕ)) (arcs : List (List Point)) → retained.items ≡ retained_arcs kept arcs
-        → contents r.0.items r.1.items (option_copied transform.entry) ≡ simplified_by kept ring_limit (contents objects.items arcs (option_copied transform.entry))) }
+        → contents r.objects.items r.arcs.items (option_copied transform.entry) ≡ simplified_by kept ring_limit (contents objects.items arcs (option_copied transform.entry))) }
     ensures dropped { IfOk result (λ r. (kept : List (List ℕ)) (arcs : List (List Point)) → retained.items ≡ retained_arcs kept arcs
-        → r.2.items ≡ dropped_by kept ring_limit (contents objects.items arcs (option_copied transform.entry))) }
+        → r.dropped.items ≡ dropped_by kept ring_limit (contents objects.items arcs (option_copied transform.entry))) }
     ensures removed_count { IfOk result (λ r. (kept : List (List ℕ)) (arcs : List (List Point)) → retained.items ≡ retained_arcs kept arcs
-        → counts.now ≡ map length arcs → r.3 ≡ saturated (removed_count_by kept ring_limit (contents objects.items arcs (option_copied transform.entry)))) }
+        → counts.now ≡ map length arcs → r.removed_count ≡ saturated (removed_count_by kept ring_limit (contents objects.items arcs (option_copied transform.entry)))) }
 {
     finish(alloc, objects, retained, counts, transform, ring_limit)
 }
@@ -70,7 +62,7 @@ pub fn reassemble(
         → counts.now ≡ map length arcs → r.2 ≡ saturated (removed_count_by kept ring_limit (contents objects arcs transform))) }
 {
     simplified_is_valid();
-    let (left, arcs, dropped, taken) = left_parts(
+    let left = left_parts(
         alloc,
         objects.into_inner(),
         retained,
@@ -78,6 +70,6 @@ pub fn reassemble(
         transform.as_ref(),
         ring_limit,
     )?;
-    let topology = Topology::of(Items::of(left), Items::of(arcs), transform);
-    Ok((topology, dropped, taken))
+    let topology = Topology::of(Items::of(left.objects), Items::of(left.arcs), transform);
+    Ok((topology, left.dropped, left.removed_count))
 }

@@ -7,8 +7,8 @@ use Rattle.simplified_topology.specs.Simplified.{retained}
 use Rattle.topo_model.proofs.Retained.{retained_more}
 use Rattle.layer_topology.proofs.choosing.reduced_arcs.Goals as goal
 
-pub reduced_arc-requires : goal.reduced_arc-requires
-reduced_arc-requires g c =
+pub reduced_line-requires : goal.reduced_line-requires
+reduced_line-requires g c =
     let long = subst (AllByRecursion (λ (arc : List Point). 2 ≤ length arc)) c.in-Some.ensures.steps.0 c.arcs.invariant.long in
     subst (λ (arc : List Point). 2 ≤ length arc) (sym c.as_slice.ensures) long.0
 
@@ -18,6 +18,6 @@ arcs-preserved g c =
     record {
       long = long.1;
       left = retained_more (reduce c.args.threshold) c.arcs.yielded c.in-Some.arc _ c.arcs.left.items c.push.new.self.items c.arcs.invariant.left
-          (c.in_ok-reduced_arc.ensures.retained ∙ ap (λ arc. retained (reduce c.args.threshold arc) arc) c.as_slice.ensures) c.in_ok-push.ensures.items;
-      called = omega (arith, c.in_ok-reduced_arc.ensures.called, c.arcs.invariant.called, length_push c.arcs.yielded c.in-Some.arc);
+          (c.in_ok-reduced_line.ensures.retained ∙ ap (λ arc. retained (reduce c.args.threshold arc) arc) c.as_slice.ensures) c.in_ok-push.ensures.items;
+      called = omega (arith, c.in_ok-reduced_line.ensures.called, c.arcs.invariant.called, length_push c.arcs.yielded c.in-Some.arc);
     }

@@ -13,7 +13,7 @@ use Rattle.mapchain_engine.proofs.reducing.reduced_arcs.Goals as goal
 pub reduced_arc-requires : goal.reduced_arc-requires
 reduced_arc-requires g c =
     let valid = subst (AllByRecursion (IsArc (option_copied c.args.transform))) c.in-Some.ensures.steps.0 c.arcs.invariant.valid in
-    subst (IsArc (option_copied c.args.transform)) (sym c.as_slice.ensures) valid.0
+    valid.0
 
 pub arcs-preserved : goal.arcs-preserved
 arcs-preserved g c =
@@ -22,6 +22,6 @@ arcs-preserved g c =
     record {
       valid = valid.1;
       left = retained_more numbers c.arcs.yielded c.in-Some.arc _ c.arcs.left.items c.push.new.self.items c.arcs.invariant.left
-          (c.in_ok-reduced_arc.ensures.retained ∙ ap (λ cells. retained (numbers cells) cells) c.as_slice.ensures) c.in_ok-push.ensures.items;
+          c.in_ok-reduced_arc.ensures.retained c.in_ok-push.ensures.items;
       called = omega (arith, c.in_ok-reduced_arc.ensures.called, c.arcs.invariant.called, length_push c.arcs.yielded c.in-Some.arc);
     }

@@ -1,4 +1,4 @@
-use Rattle.std.proofs.Common.{◌≡◌, ℕ, List, length, map, ap, sym, subst, ◌∙◌}
+use Rattle.std.proofs.Common.{length, map, ap, sym, subst, ◌∙◌}
 use Rattle.std.proofs.lemmas.Result.{IfOk-weaker}
 use Rattle.simplified_topology.specs.Simplified.{EachFromFirstToLast, retained_arcs}
 use Rattle.topo_model.proofs.Assembled.{table_arcs}

@@ -8,15 +8,15 @@ of-topology-requires c =
     let r = c.requires.retained in
     record {
       valid = rw (c.of.ensures, c.of-2.ensures)
-          (subst IsTopology (c.in_ok-objects.ensures.assembled r.kept r.picks) (c.assembled_is_valid.ensures r.kept c.args.ring_limit c.args.layers.items c.requires.sound c.requires.names r.through));
+          (subst IsTopology (c.in_ok-left.ensures.assembled r.kept r.picks) (c.assembled_is_valid.ensures r.kept c.args.ring_limit c.args.layers.items c.requires.sound c.requires.names r.through));
     }
 
 pub returns-clause-topology : goal.returns-clause-topology
 returns-clause-topology c kept picks =
-    c.of-topology.ensures ∙ ap (λ os. contents os c.of-2.result) c.of.ensures ∙ ap (contents c.in_ok-objects.objects.items) c.of-2.ensures ∙ sym (c.in_ok-objects.ensures.assembled kept picks)
+    c.of-topology.ensures ∙ ap (λ os. contents os c.of-2.result) c.of.ensures ∙ ap (contents c.in_ok-left.left.objects.items) c.of-2.ensures ∙ sym (c.in_ok-left.ensures.assembled kept picks)
 
 pub returns-clause-few : goal.returns-clause-few
 returns-clause-few c =
-    let v = c.in_ok-objects.arcs in
+    let v = c.in_ok-left.left.arcs in
     let less : length v.items < 2 ^ 63 = omega (arith, v.ok.0, v.ok.1, v.small) in
     subst (λ z. length z < 2 ^ 63) (sym (ap (λ z. z.arcs) c.of-topology.ensures ∙ c.of-2.ensures)) less

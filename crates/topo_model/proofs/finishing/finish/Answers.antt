@@ -33,9 +33,9 @@ returns-clause-left c =
     ∙ ap (objects_pruned kept) c.as_mut_slice.ensures.value in
     let between = take c.args.objects.len (c.leave_out_dropped.new.objects ++ drop (length c.leave_out_dropped.new.objects) c.args.objects.items) in
     let left = put_back (line_renumbered (is_used c.as_mut_slice-2.result.now)) c.args.objects.len between c.as_mut_slice-2.result.now c.without_unused.new.objects
-    (as_many kept c.args.objects.len c.args.objects.items between c.args.objects.ok.0 back) c.as_mut_slice-2.ensures.value c.in_ok-stay.ensures.objects in
+    (as_many kept c.args.objects.len c.args.objects.items between c.args.objects.ok.0 back) c.as_mut_slice-2.ensures.value c.in_ok-arcs.ensures.objects in
     finished c.args.ring_limit c.args.objects.items c.as_mut_slice-2.result.now (take c.args.objects.len (c.without_unused.new.objects ++ drop (length c.without_unused.new.objects) between))
-    c.args.retained.items c.in_ok-stay.stay.items (option_copied c.args.transform) (c.as_mut_slice-2.ensures.value ∙ back) left c.in_ok-stay.ensures.arcs
+    c.args.retained.items c.in_ok-arcs.arcs.items (option_copied c.args.transform) (c.as_mut_slice-2.ensures.value ∙ back) left c.in_ok-arcs.ensures.arcs
 
 pub returns-clause-dropped : goal.returns-clause-dropped
 returns-clause-dropped c =
@@ -48,5 +48,5 @@ returns-clause-removed_count c =
     let pruned = c.in_ok-dropped.ensures.objects ∙ ap (λ arcs. objects_pruned (large_refs c.args.ring_limit (placed_arcs (option_copied c.args.transform) arcs)) c.as_mut_slice.result.now) c.deref.ensures.value in
     let large = c.as_mut_slice-2.ensures.value ∙ put_back kept c.args.objects.len c.args.objects.items c.as_mut_slice.result.now c.leave_out_dropped.new.objects c.args.objects.ok.0 c.as_mut_slice.ensures.value pruned
     ∙ ap (objects_pruned kept) c.as_mut_slice.ensures.value in
-    c.in_ok-stay.ensures.removed_count
+    c.in_ok-arcs.ensures.removed_count
     ∙ ap (λ os. saturated (sum (keep_from (is_used os) 0 c.args.counts.now) - positions_of (keep_from (is_used os) 0 c.args.retained.items))) large

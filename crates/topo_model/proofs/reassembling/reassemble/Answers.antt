@@ -19,7 +19,7 @@ of-topology-requires c =
     let kept = r.retained_are.kept in
     let y = contents c.args.objects r.arcs c.args.transform in
     let same = parts_are y c.into_inner.result.items r.arcs (option_copied c.as_ref.result) c.into_inner.ensures refl c.as_ref.ensures.value in
-    let made = made_is kept c.args.ring_limit y c.into_inner.result.items c.in_ok-left.left.items c.of.result r.arcs c.in_ok-left.arcs.items c.of-2.result (option_copied c.as_ref.result) c.args.transform same
+    let made = made_is kept c.args.ring_limit y c.into_inner.result.items c.in_ok-left.left.objects.items c.of.result r.arcs c.in_ok-left.left.arcs.items c.of-2.result (option_copied c.as_ref.result) c.args.transform same
     c.as_ref.ensures.value (c.in_ok-left.ensures.left kept r.arcs r.retained_are.picks) c.of.ensures c.of-2.ensures refl in
     record { valid = subst IsTopology (sym made) (c.simplified_is_valid.ensures kept c.args.ring_limit y r.valid r.retained_are.through) }
 
@@ -27,7 +27,7 @@ pub returns-clause-topology : goal.returns-clause-topology
 returns-clause-topology c kept arcs picks =
     let y = contents c.args.objects arcs c.args.transform in
     let same = parts_are y c.into_inner.result.items arcs (option_copied c.as_ref.result) c.into_inner.ensures refl c.as_ref.ensures.value in
-    let made = made_is kept c.args.ring_limit y c.into_inner.result.items c.in_ok-left.left.items c.of.result arcs c.in_ok-left.arcs.items c.of-2.result (option_copied c.as_ref.result) c.args.transform same
+    let made = made_is kept c.args.ring_limit y c.into_inner.result.items c.in_ok-left.left.objects.items c.of.result arcs c.in_ok-left.left.arcs.items c.of-2.result (option_copied c.as_ref.result) c.args.transform same
     c.as_ref.ensures.value (c.in_ok-left.ensures.left kept arcs picks) c.of.ensures c.of-2.ensures refl in
     c.of-topology.ensures ∙ made
 

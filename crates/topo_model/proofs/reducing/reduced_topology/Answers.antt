@@ -1,9 +1,8 @@
-use Rattle.std.proofs.Common.{◌≡◌, ℕ, List, length, map, refl, ap, sym, subst, ◌∙◌}
+use Rattle.std.proofs.Common.{ℕ, List, length, map, refl, ap, sym, subst, ◌∙◌}
 use Rattle.std.proofs.lemmas.Result.{IfOk-weaker}
 use Rattle.byte_ends.specs.Ends.{saturated}
 use Rattle.simplified_topology.specs.Simplified.{EachFromFirstToLast, dropped_by, removed_count_by, retained_arcs, simplified_by}
 use Rattle.topojson_types.specs.Validity.{IsTopology}
-use Rattle.topo_model.specs.Retaining.{AreRetainedOf}
 use Rattle.topo_model.proofs.Numbered.{as_many}
 use Rattle.topo_model.proofs.Result.{parts_are}
 use Rattle.topo_model.proofs.reducing.reduced_topology.Goals as goal

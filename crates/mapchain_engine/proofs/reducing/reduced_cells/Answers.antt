@@ -4,7 +4,7 @@ use Rattle.std.proofs.lemmas.Result.{IfOk-weaker}
 use Rattle.elimination_meaning.specs.Elimination.{reduce}
 use Rattle.simplified_topology.specs.Simplified.{retained}
 use Rattle.mapchain_engine.proofs.Whole.{placed}
-use Rattle.mapchain_engine.proofs.reducing.reduced_arc.Goals as goal
+use Rattle.mapchain_engine.proofs.reducing.reduced_cells.Goals as goal
 
 pub returns-clause-retained : goal.returns-clause-retained
 returns-clause-retained g c =

@@ -1,8 +1,0 @@
-use Rattle.std.proofs.Common.{◌∙◌, ap}
-use Rattle.std.proofs.lemmas.Result.{IfOk-weaker}
-use Rattle.simplified_topology.specs.Simplified.{retained}
-use Rattle.layer_topology.proofs.choosing.reduced_arc.Goals as goal
-
-pub returns-clause-retained : goal.returns-clause-retained
-returns-clause-retained g c =
-    IfOk-weaker c.retained_positions.result _ _ (λ cells h. h ∙ ap (λ ns. retained ns c.args.arc.now) (c.deref.ensures.value ∙ c.in_ok-kept.ensures.kept)) c.retained_positions.ensures

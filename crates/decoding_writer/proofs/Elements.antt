@@ -1,5 +1,5 @@
 -- The texts of arrays of what elements are decoded to.
-use Rattle.std.proofs.Common.{◌≡◌, ℕ, List, ◌∷◌, ◌++◌, ◌∙◌, Bool, true, false, map, refl, ap, arith}
+use Rattle.std.proofs.Common.{◌≡◌, ℕ, List, ◌∷◌, ◌++◌, ◌∙◌, Bool, true, false, map, refl, sym, ap, append_assoc, arith}
 use Rattle.std.specs.Prelude.{codes}
 use Rattle.byte_ends.proofs.Parts.{list_left}
 use Rattle.json_value.specs.declared.json.Json.{Json}
@@ -13,6 +13,14 @@ pub decoded-text : {A B : Type 0} (value_of : B → Json) (decoded : A → B) (i
     → json_text (j.Array (map value_of (map decoded items))) ≡ codes "[" ++ list_left (text_by (λ a. value_of (decoded a))) (codes "]") true items
 decoded-text value_of decoded items =
     ap (λ vs. json_text (j.Array vs)) (fused value_of decoded (λ a. value_of (decoded a)) (λ a. refl) items) ∙ array-text (λ a. value_of (decoded a)) items
+
+-- such an array as an element of a list, with its comma
+pub decoded-element : {A B : Type 0} (value_of : B → Json) (decoded : A → B) (is_first : Bool) (items : List A)
+    → comma_unless is_first ++ json_text (j.Array (map value_of (map decoded items)))
+    ≡ (comma_unless is_first ++ codes "[") ++ list_left (text_by (λ a. value_of (decoded a))) (codes "]") true items
+decoded-element value_of decoded is_first items =
+    ap (λ (t : List ℕ). comma_unless is_first ++ t) (decoded-text value_of decoded items)
+    ∙ sym (append_assoc (comma_unless is_first) (codes "[") (list_left (text_by (λ a. value_of (decoded a))) (codes "]") true items))
 
 -- in front of the first element that is left
 pub first-text : {A : Type 0} (text_of : A → List ℕ) (is_first : Bool) (x : A) (xs : List A)

@@ -6,7 +6,7 @@ use Rattle.byte_ends.proofs.Parts.{list_left}
 use Rattle.json_value.specs.declared.json.Json.{Json}
 use Rattle.json_value.specs.declared.json.Json.TheVariants as j
 use Rattle.json_value.specs.Text.{json_text, quoted, escaped_byte}
-use Rattle.json_value.proofs.Texts.{text-null, text-number, text-text, text-object, one_member}
+use Rattle.json_value.proofs.Texts.{text-text, text-object, one_member}
 
 -- what is left of an object in front of these members
 abbrev pub members_left : Bool → List (List ℕ × Json) → List ℕ
@@ -37,6 +37,3 @@ pub object-of_two : (type_name type_written name written : List ℕ) (v : Json) 
 object-of_two type_name type_written name written v e f = object-text ((codes "type", j.Text type_name) ∷ ((name, v) ∷ []))
     ∙ ap (λ (text : List ℕ). codes "{" ++ text) (member-text true (codes "type") (codes "\"type\"") (j.Text type_name) type_written ((name, v) ∷ []) quoted-type (text-text type_name ∙ e))
     ∙ ap (λ (text : List ℕ). codes "{\"type\":" ++ (type_written ++ text)) (member-text false name written v (json_text v) [] f refl)
-
--- the values that are no array and no object
-pub ruleset leaves = (text-null, text-number, text-text)

@@ -41,8 +41,6 @@ contents-areas areas = unfold contents_value in ap contents_in (g.outs-Areas are
 pub contents-group : (shapes : List Shape) → contents_value (g.Group shapes) ≡ j.Array (map shape_value shapes)
 contents-group shapes = unfold contents_value in ap contents_in (g.outs-Group shapes)
 
-pub ruleset contents = (contents-point, contents-points, contents-line, contents-lines, contents-area, contents-areas, contents-group)
-
 -- ---- the text of a geometry: its head, its contents and a brace
 
 -- the claim of one geometry

@@ -3,87 +3,119 @@ ghost use Rattle.std.specs.Option.{option_copied};
 ghost use Rattle.byte_ends.specs.Continues.{Continues};
 ghost use Rattle.byte_ends.specs.Writes.{Writes};
 ghost use Rattle.json_value.specs.Text.{json_text};
+ghost use Rattle.json_writer.specs.Holding.{Holds};
 ghost use Rattle.geojson_writer.specs.FeatureTexts.{collection_head, feature_head, id_text};
 ghost use Rattle.geojson_writer.specs.FeatureValues.{id_value, properties_value, geometry_value, feature_value, collection_value, features_value};
 
-use crate::shape_writer::put_shape;
+use crate::shape_writer::hold_shape;
 use byte_ends::{Drain, Progress, Sink, WriteFault, put_part};
 use geojson_types::{Feature, FeatureSet, Id, Properties};
-use json_writer::{PutValue, put_array, put_properties, put_text};
+use json_writer::{
+    PutValue, ShortText, hold, hold_comma, hold_or_put, hold_properties, hold_text, put_array,
+    put_held,
+};
 
-/// Writes an identifier: a text, or a number by its text.
-#[tactic(auto, using(crate::proofs::Objects::leaves))]
-fn put_id<W: Drain>(id: &Id, so_far: Progress, sink: &mut Sink<W>) -> Progress
-    ensures { Continues sink.old sink.new so_far (json_text (id_value id.now)) result }
+/// Writes or holds an identifier: a text, or a number by its text.
+fn hold_id<W: Drain>(
+    id: &Id,
+    held: &mut ShortText,
+    so_far: Progress,
+    sink: &mut Sink<W>,
+) -> Progress
+    ensures { Holds sink.old sink.new so_far result held.old (json_text (id_value id.now)) held.new }
 {
     match id {
-        Id::Text(text) => put_text(text.as_str(), so_far, sink),
-        Id::Number(number) => put_part(number.text().as_bytes(), so_far, sink),
+        Id::Text(text) => hold_text(text.as_str(), held, so_far, sink),
+        Id::Number(number) => hold_or_put(number.as_bytes(), held, so_far, sink),
     }
 }
 
-/// Writes the member `id` after a comma, if there is an identifier.
-fn put_id_member<W: Drain>(id: Option<&Id>, so_far: Progress, sink: &mut Sink<W>) -> Progress
-    ensures { Continues sink.old sink.new so_far (id_text (option_copied id.entry)) result }
+/// Writes or holds the member `id` after a comma, if there is an identifier.
+fn hold_id_member<W: Drain>(
+    id: Option<&Id>,
+    held: &mut ShortText,
+    so_far: Progress,
+    sink: &mut Sink<W>,
+) -> Progress
+    ensures { Holds sink.old sink.new so_far result held.old (id_text (option_copied id.entry)) held.new }
 {
     match id {
-        None => put_part(b"", so_far, sink),
+        None => so_far,
         Some(id) => {
-            let so_far = put_part(b",\"id\":", so_far, sink);
-            put_id(id, so_far, sink)
+            let so_far = hold(b",\"id\":", held, so_far, sink);
+            hold_id(id, held, so_far, sink)
         }
     }
 }
 
-/// Writes properties, or null.
-#[tactic(auto, using(crate::proofs::Objects::leaves))]
-fn put_properties_option<W: Drain>(
+/// Writes or holds properties, or null.
+fn hold_properties_option<W: Drain>(
     properties: Option<&Properties>,
+    held: &mut ShortText,
     so_far: Progress,
     sink: &mut Sink<W>,
 ) -> Progress
-    ensures { Continues sink.old sink.new so_far (json_text (properties_value (option_copied properties.entry))) result }
+    ensures { Holds sink.old sink.new so_far result held.old (json_text (properties_value (option_copied properties.entry))) held.new }
 {
     match properties {
-        None => put_part(b"null", so_far, sink),
-        Some(properties) => put_properties(properties, so_far, sink),
+        None => hold(b"null", held, so_far, sink),
+        Some(properties) => hold_properties(properties, held, so_far, sink),
     }
 }
 
-/// Writes the feature's geometry, or null.
-#[tactic(auto, using(crate::proofs::Objects::leaves))]
-fn put_geometry<W: Drain>(feature: &Feature, so_far: Progress, sink: &mut Sink<W>) -> Progress
-    ensures { Continues sink.old sink.new so_far (json_text (geometry_value feature.now.shape)) result }
-{
-    match feature.shape() {
-        None => put_part(b"null", so_far, sink),
-        Some(shape) => put_shape(shape, so_far, sink),
-    }
-}
-
-/// Writes a feature with this identifier and these properties, up to its geometry.
-pub fn put_feature_head<W: Drain>(
-    id: Option<&Id>,
-    properties: Option<&Properties>,
+/// Writes or holds the feature's geometry, or null.
+fn hold_geometry<W: Drain>(
+    feature: &Feature,
+    held: &mut ShortText,
     so_far: Progress,
     sink: &mut Sink<W>,
 ) -> Progress
-    ensures { Continues sink.old sink.new so_far (feature_head (option_copied id.entry) (option_copied properties.entry)) result }
+    ensures { Holds sink.old sink.new so_far result held.old (json_text (geometry_value feature.now.shape)) held.new }
 {
-    let so_far = put_part(b"{\"type\":\"Feature\"", so_far, sink);
-    let so_far = put_id_member(id, so_far, sink);
-    let so_far = put_part(b",\"properties\":", so_far, sink);
-    let so_far = put_properties_option(properties, so_far, sink);
-    put_part(b",\"geometry\":", so_far, sink)
+    match feature.shape() {
+        None => hold(b"null", held, so_far, sink),
+        Some(shape) => hold_shape(shape, held, so_far, sink),
+    }
+}
+
+/// Writes or holds a feature with this identifier and these properties, up to its geometry.
+pub fn hold_feature_head<W: Drain>(
+    id: Option<&Id>,
+    properties: Option<&Properties>,
+    held: &mut ShortText,
+    so_far: Progress,
+    sink: &mut Sink<W>,
+) -> Progress
+    ensures { Holds sink.old sink.new so_far result held.old (feature_head (option_copied id.entry) (option_copied properties.entry)) held.new }
+{
+    let so_far = hold(b"{\"type\":\"Feature\"", held, so_far, sink);
+    let so_far = hold_id_member(id, held, so_far, sink);
+    let so_far = hold(b",\"properties\":", held, so_far, sink);
+    let so_far = hold_properties_option(properties, held, so_far, sink);
+    hold(b",\"geometry\":", held, so_far, sink)
+}
+
+/// Writes or holds a feature.
+fn hold_feature<W: Drain>(
+    feature: &Feature,
+    held: &mut ShortText,
+    so_far: Progress,
+    sink: &mut Sink<W>,
+) -> Progress
+    ensures { Holds sink.old sink.new so_far result held.old (json_text (feature_value feature.now)) held.new }
+{
+    let so_far = hold_feature_head(feature.id(), feature.properties(), held, so_far, sink);
+    let so_far = hold_geometry(feature, held, so_far, sink);
+    hold(b"}", held, so_far, sink)
 }
 
 /// Writes a feature.
 fn put_feature<W: Drain>(feature: &Feature, so_far: Progress, sink: &mut Sink<W>) -> Progress
     ensures { Continues sink.old sink.new so_far (json_text (feature_value feature.now)) result }
 {
-    let so_far = put_feature_head(feature.id(), feature.properties(), so_far, sink);
-    let so_far = put_geometry(feature, so_far, sink);
-    put_part(b"}", so_far, sink)
+    let mut held = ShortText::new();
+    let so_far = hold_feature(feature, &mut held, so_far, sink);
+    put_held(&mut held, so_far, sink)
 }
 
 // The way to write features.
@@ -94,6 +126,17 @@ impl PutValue<Feature> for Features {
 
     fn put<W: Drain>(feature: &Feature, so_far: Progress, sink: &mut Sink<W>) -> Progress {
         put_feature(feature, so_far, sink)
+    }
+
+    fn put_element<W: Drain>(
+        feature: &Feature,
+        is_first: bool,
+        held: &mut ShortText,
+        so_far: Progress,
+        sink: &mut Sink<W>,
+    ) -> Progress {
+        let so_far = hold_comma(is_first, held, so_far, sink);
+        hold_feature(feature, held, so_far, sink)
     }
 }
 

@@ -1,7 +1,6 @@
 // Positions and linear rings as they are written.
 ghost use Rattle.std.specs.Prelude.{◌++◌};
 ghost use Rattle.owned_values.specs.Commas.{comma_unless};
-ghost use Rattle.byte_ends.specs.Continues.{Continues};
 ghost use Rattle.json_value.specs.Text.{json_text};
 ghost use Rattle.json_writer.specs.Holding.{Holds};
 ghost use Rattle.geojson_writer.specs.FeatureValues.{position_value, positions_value};
@@ -10,14 +9,7 @@ use byte_ends::{Drain, Progress, Sink};
 use geojson_types::{PLACES, Position, Ring};
 use json_writer::{PutValue, ShortText, hold_array, hold_pair, put_array, put_pair};
 
-/// Writes a position, x first.
-pub fn put_position<W: Drain>(position: Position, so_far: Progress, sink: &mut Sink<W>) -> Progress
-    ensures { Continues sink.old sink.new so_far (json_text (position_value position)) result }
-{
-    put_pair(position.x(), position.y(), PLACES, so_far, sink)
-}
-
-/// Holds a position as an element of a list: with the comma in front, unless it is the first.
+/// Writes or holds a position, x first, as an element of a list: with the comma in front, unless it is the first.
 pub fn hold_position<W: Drain>(
     position: Position,
     is_first: bool,
@@ -45,7 +37,7 @@ impl PutValue<Position> for Positions {
     ghost value = { position_value };
 
     fn put<W: Drain>(position: &Position, so_far: Progress, sink: &mut Sink<W>) -> Progress {
-        put_position(*position, so_far, sink)
+        put_pair(position.x(), position.y(), PLACES, so_far, sink)
     }
 
     fn put_element<W: Drain>(

@@ -41,7 +41,7 @@ abbrev pub HoldsUpTo : (old now : Drained) (start so_far : Progress) (held text 
 HoldsUpTo old now start so_far held text left held_now =
     (last : Drained) (more : List ℕ) (answer : Progress) → Continues now last so_far (held_now ++ (left ++ more)) answer → Continues old last start (held ++ (text ++ more)) answer
 
--- a part of it behind others that are held
+-- a part of it after others that are held
 in_front : (held text part left more : List ℕ) → text ≡ part ++ left → held ++ (text ++ more) ≡ held ++ (part ++ (left ++ more))
 in_front held text part left more is = ap (λ t. held ++ (t ++ more)) is ∙ ap (λ t. held ++ t) (append_assoc part left more)
 

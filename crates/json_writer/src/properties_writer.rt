@@ -1,5 +1,4 @@
 // Properties as they are written.
-ghost use Rattle.byte_ends.specs.Continues.{Continues};
 ghost use Rattle.json_value.specs.Text.{json_text};
 ghost use Rattle.json_value.specs.declared.json.Json.TheVariants as j;
 ghost use Rattle.json_writer.specs.Holding.{Holds};
@@ -7,24 +6,10 @@ ghost use Rattle.json_writer.specs.Holding.{Holds};
 use crate::holding::{hold_or_put, put_held};
 use crate::short_text::ShortText;
 use crate::value_writer::put_members;
-use byte_ends::{Drain, Progress, Sink, put_part};
+use byte_ends::{Drain, Progress, Sink};
 use json_value::{Properties, PropertiesForm};
 
-/// Writes the object with the members of the properties: a text as it stands, and members as `put_members` does.
-pub fn put_properties<W: Drain>(
-    properties: &Properties,
-    so_far: Progress,
-    sink: &mut Sink<W>,
-) -> Progress
-    ensures { Continues sink.old sink.new so_far (json_text (j.Object properties.now)) result }
-{
-    match properties.form() {
-        PropertiesForm::Values(members) => put_members(members, so_far, sink),
-        PropertiesForm::Text(text) => put_part(text, so_far, sink),
-    }
-}
-
-/// Writes or holds that object, as a part of a longer text.
+/// Writes or holds the object with the members of the properties: a text as it stands, and members as `put_members` does.
 pub fn hold_properties<W: Drain>(
     properties: &Properties,
     held: &mut ShortText,

@@ -1,0 +1,14 @@
+use Rattle.std.proofs.Common.{true, drop, map}
+use Rattle.std.specs.Prelude.{codes}
+use Rattle.byte_ends.proofs.Parts.{list_left}
+use Rattle.json_value.specs.Text.{json_text}
+use Rattle.json_writer.proofs.Held.{HoldsUpTo}
+use Rattle.json_writer.proofs.Lists.{text_by}
+use Rattle.geojson_writer.specs.FeatureValues.{lines_value, polygons_value}
+use Rattle.decoding_writer.specs.Decoded.{line_in}
+use Rattle.decoding_writer.proofs.line_writer.hold_areas.Given as goal
+
+abbrev pub invariant-areas : goal.invariant-areas
+invariant-areas g l =
+    HoldsUpTo l.fn.sink l.sink l.fn.so_far l.so_far l.fn.held (json_text (polygons_value (map (map (line_in l.topology true)) l.areas)))
+    (list_left (text_by (λ rs. lines_value (map (line_in l.topology true) rs))) (codes "]") l.is_first (drop l.rings-index l.areas)) l.held

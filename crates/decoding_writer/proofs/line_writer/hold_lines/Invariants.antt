@@ -1,0 +1,15 @@
+use Rattle.std.proofs.Common.{◌++◌, drop, map}
+use Rattle.std.specs.Prelude.{codes}
+use Rattle.owned_values.specs.Commas.{comma_unless}
+use Rattle.byte_ends.proofs.Parts.{list_left}
+use Rattle.json_value.specs.Text.{json_text}
+use Rattle.json_writer.proofs.Held.{HoldsUpTo}
+use Rattle.json_writer.proofs.Lists.{text_by}
+use Rattle.geojson_writer.specs.FeatureValues.{positions_value, lines_value}
+use Rattle.decoding_writer.specs.Decoded.{line_in}
+use Rattle.decoding_writer.proofs.line_writer.hold_lines.Given as goal
+
+abbrev pub invariant-lines : goal.invariant-lines
+invariant-lines g l =
+    HoldsUpTo l.fn.sink l.sink l.fn.so_far l.so_far l.fn.held (comma_unless l.is_first ++ json_text (lines_value (map (line_in l.topology l.is_closed) l.lines)))
+    (list_left (text_by (λ line. positions_value (line_in l.topology l.is_closed line))) (codes "]") l.is_first_line (drop l.refs-index l.lines)) l.held

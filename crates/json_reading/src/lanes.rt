@@ -20,7 +20,7 @@ pub fn first_lanes(bytes: &[u8]) -> u8x16
 
 /// How many of them come before the first that is this byte.
 #[inline(always)]
-pub fn lanes_before(byte: u8, lanes: u8x16) -> usize
+fn lanes_before(byte: u8, lanes: u8x16) -> usize
     requires { length lanes ≡ 16 }
     ensures { result ≡ prefix_len (λ x. not (x == byte)) lanes }
 {

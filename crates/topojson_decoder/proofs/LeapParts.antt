@@ -1,14 +1,22 @@
 -- Where an array or an object ends, by its brackets and strings.
-use Rattle.std.proofs.Common.{◌≡◌, ◌≢◌, ℕ, zero, suc, ◌+◌, ◌-◌, ◌<◌, ◌≤◌, Bool, true, false, ◌||◌, eqb, List, [], ◌∷◌, ◌++◌, length, drop, get_or, Some, None, refl, sym, ap, subst, ◌∙◌, append_assoc, arith}
+use Rattle.std.proofs.Common.{◌≡◌, ℕ, zero, suc, ◌+◌, ◌-◌, ◌*◌, ◌%◌, ◌^◌, ◌<◌, ◌≤◌, Bool, true, false, not, if◌then◌else◌, ◌||◌, cond, eqb, List, [], ◌∷◌, ◌++◌, length, map, take, drop, get_or, Some, None, refl, sym, ap, subst, ◌∙◌, append_assoc, arith}
+use Rattle.std.specs.Int.RustNames.{count_ones}
+use Rattle.std.specs.List.{prefix_len}
 use Rattle.std.specs.Prelude.{codes}
+use Rattle.std.specs.Simd.Lanes.{mask_l}
 use Rattle.std.specs.Str.{is_utf8}
+use lib.Count.{count_trailing_zeros}
 use Rattle.std.proofs.lemmas.Bool.{eqb-true}
+use Rattle.std.proofs.lemmas.List.{length-take-le, take-map, take-take}
+use Rattle.std.proofs.lemmas.Nat.{one_shl}
+use Rattle.std.proofs.lemmas.Simd.{none_from_empty_mask, ones-mask_l_cons, run_in_chunk_fails, run_in_chunk_le, trailing_mask_l}
 use Rattle.decimal_text.specs.Grammar.{is_digit, is_e, AllDigits, IsMinus, no_minus, one_minus, IsWhole, whole_zero, whole_digits, IsFraction, no_fraction, fraction, IsSign, no_sign, plus_sign, minus_sign, IsExponent, no_exponent, exponent, IsNumber, number_of}
 use Rattle.json_value.specs.declared.json.Json.{Json}
 use Rattle.json_value.specs.Grammar.{is_space, IsSpace, is_plain, hex_value, SpellsUnit, unit_of, SpellsChars, chars_end, chars_plain, chars_escape, chars_unit, chars_pair, Spells, SpellsMember, SpellsElements, SpellsMembers, spells_null, spells_true, spells_false, spells_text, spells_number, spells_empty_array, spells_array, spells_empty_object, spells_object, spells_member, elements_last, elements_more, members_last, members_more}
-use Rattle.json_reading.proofs.Steps.{differs, not_equal}
+use Rattle.json_reading.proofs.Steps.{differs}
 use Rattle.json_reading.proofs.ValuesRead.{value_takes}
-use Rattle.topojson_decoder.specs.Leaping.{Ends, Level, PassesString, at_depth, end_of, in_string, is_closing, is_opening}
+use Rattle.topojson_decoder.specs.Leaping.{Ends, Level, at_depth, end_of, in_string, is_closing, is_mark, is_opening, is_quote, level, turned}
+use Rattle.topojson_decoder.proofs.LeapMasks.{lowest}
 
 -- a bracket that opens is first
 abbrev starts_opening : List ℕ → Type 0
@@ -259,14 +267,8 @@ ends b bytes inside rest is o h = subst (λ z. Ends z rest) (sym is) (ends_so b 
 
 -- ---- byte after byte
 
-pub string_ends : (b : ℕ) (rest more : List ℕ) → rest ≡ b ∷ more → b ≡ 34 → PassesString rest more
-string_ends b rest more is q n = rw (is, q) (quotes_close n more)
-
-pub string_escapes : (b e : ℕ) (rest more following : List ℕ) → rest ≡ b ∷ more → b ≡ 92 → more ≡ e ∷ following → (n : ℕ) → end_of (in_string (suc n)) rest ≡ end_of (in_string (suc n)) following
-string_escapes b e rest more following is q k n = rw (is, q, k) (escaped_first e [] nothing_quoted n following)
-
-pub string_goes_on : (b : ℕ) (rest more : List ℕ) → rest ≡ b ∷ more → b ≢ 34 → b ≢ 92 → (n : ℕ) → end_of (in_string (suc n)) rest ≡ end_of (in_string (suc n)) more
-string_goes_on b rest more is q r n = rw is (in_plain b [] (not_equal b 34 q) (not_equal b 92 r) nothing_quoted n more)
+some_open : (n : ℕ) → 0 < n → n ≡ suc (n - 1)
+some_open n lt = omega (arith, lt)
 
 module _ (b : ℕ) (rest more : List ℕ) (is : rest ≡ b ∷ more) where
   pub opens_more : (n m : ℕ) → m ≡ n + 1 → is_opening b ≡ true → end_of (at_depth n) rest ≡ end_of (at_depth m) more
@@ -285,42 +287,99 @@ module _ (b : ℕ) (rest more : List ℕ) (is : rest ≡ b ∷ more) where
     less : suc (n - 2) ≡ suc (suc (n - 2)) - 1
     less = omega arith
 
-  pub quotes : (n : ℕ) → 0 < n → b ≡ 34 → (end : List ℕ) → PassesString more end → end_of (at_depth n) rest ≡ end_of (at_depth n) end
-  quotes n lt q end h = rw (is, q, some) (quotes_open (n - 1) more ∙ h (n - 1)) where
-    some : n ≡ suc (n - 1)
-    some = omega (arith, lt)
+  pub passes : (n : ℕ) → 0 < n → is_opening b ≡ false → is_closing b ≡ false → end_of (at_depth n) rest ≡ end_of (level n (eqb b 34)) more
+  unfolding end_of
+  passes n lt h k = rw (is, some_open n lt, h, k) refl
 
-  pub passes : (n : ℕ) → 0 < n → b ≢ 34 → is_opening b ≡ false → is_closing b ≡ false → end_of (at_depth n) rest ≡ end_of (at_depth n) more
-  passes n lt q h k = rw (is, some) (dull_first b [] (record { opening = h; closing = k; quote = not_equal b 34 q }) no_bytes (n - 1) more) where
-    some : n ≡ suc (n - 1)
-    some = omega (arith, lt)
+  pub string_goes_on : (n : ℕ) → 0 < n → eqb b 92 ≡ false → end_of (in_string n) rest ≡ end_of (level n (not (eqb b 34))) more
+  unfolding end_of
+  string_goes_on n lt h = rw (is, some_open n lt, h) refl
 
-pub shorter_by_one : (inside rest more : List ℕ) (b : ℕ) → rest ≡ b ∷ more → length rest ≤ length inside → length more ≤ length inside
-shorter_by_one inside rest more b is le = omega (arith, ap length is, le)
-
-pub shorter_by_two : (inside rest more following : List ℕ) (b e : ℕ) → rest ≡ b ∷ more → more ≡ e ∷ following → length rest ≤ length inside → length following ≤ length inside
-shorter_by_two inside rest more following b e is k le = omega (arith, ap length is, ap length k, le)
+  pub string_escapes : (n e : ℕ) (following : List ℕ) → 0 < n → b ≡ 92 → more ≡ e ∷ following → end_of (in_string n) rest ≡ end_of (in_string n) following
+  unfolding end_of
+  string_escapes n e following lt q k = rw (is, q, k, some_open n lt) refl
 
 -- ---- many bytes at once
 
--- so many bytes that are no brackets and no quotation marks
-pub dull_many : (n : ℕ) (bytes : List ℕ) → n ≤ length bytes → ((k : ℕ) → k < n → IsDull (get_or bytes k 0)) → (m : ℕ) → end_of (at_depth (suc m)) bytes ≡ end_of (at_depth (suc m)) (drop n bytes)
-dull_many zero bytes le dull m = refl
-dull_many (suc n) [] le dull m = absurd (omega (arith, le))
-dull_many (suc n) (b ∷ bs) le dull m = dull_first b [] (dull 0 (omega arith)) no_bytes m bs ∙ dull_many n bs (omega (arith, le)) (λ k lt. dull (suc k) (omega (arith, lt))) m
+neither_of : (a b : Bool) → (a || b) ≡ false → (a ≡ false) × (b ≡ false)
+neither_of false false h = (refl, refl)
+neither_of false true h = absurd cc
+neither_of true b h = absurd cc
 
--- a byte that is none of them
-pub is_dull : (b : ℕ) → eqb b 91 ≡ false → eqb b 123 ≡ false → eqb b 93 ≡ false → eqb b 125 ≡ false → eqb b 34 ≡ false → IsDull b
-is_dull b p q r s t = record { opening = neither _ _ p q; closing = neither _ _ r s; quote = t }
+unmarked_in_string : (t : Bool) → not t ≡ (if t then not true else true)
+unmarked_in_string true = refl
+unmarked_in_string false = refl
 
--- so many bytes of a string that neither end it nor escape anything
-pub plain_many : (n : ℕ) (bytes : List ℕ) → n ≤ length bytes → ((k : ℕ) → k < n → (eqb (get_or bytes k 0) 34 ≡ false) × (eqb (get_or bytes k 0) 92 ≡ false)) → (m : ℕ) → end_of (in_string (suc m)) bytes ≡ end_of (in_string (suc m)) (drop n bytes)
-plain_many zero bytes le plain m = refl
-plain_many (suc n) [] le plain m = absurd (omega (arith, le))
-plain_many (suc n) (b ∷ bs) le plain m = let h = plain 0 (omega arith) in in_plain b [] h.0 h.1 nothing_quoted m bs ∙ plain_many n bs (omega (arith, le)) (λ k lt. plain (suc k) (omega (arith, lt))) m
+unmarked_outside : (t : Bool) → t ≡ (if t then not false else false)
+unmarked_outside true = refl
+unmarked_outside false = refl
 
--- bytes that neither open nor close anything are passed at a depth that isn't 0
-pub dull_passed : (rest more : List ℕ) (n : ℕ) → 0 < n → ((m : ℕ) → end_of (at_depth (suc m)) rest ≡ end_of (at_depth (suc m)) more) → end_of (at_depth n) rest ≡ end_of (at_depth n) more
-dull_passed rest more n lt h = rw some (h (n - 1)) where
-  some : n ≡ suc (n - 1)
-  some = omega (arith, lt)
+-- what is no mark turns it if it is a quotation mark
+unmarked_first : (b : ℕ) (q : Bool) (m : ℕ) (rest : List ℕ) → is_mark b ≡ false → end_of (level (suc m) q) (b ∷ rest) ≡ end_of (level (suc m) (if is_quote b then not q else q)) rest
+unmarked_first b q m rest h = by_state q where
+  escapes : (is_opening b || is_closing b ≡ false) × (eqb b 92 ≡ false)
+  escapes = neither_of (is_opening b || is_closing b) (eqb b 92) h
+
+  brackets : (is_opening b ≡ false) × (is_closing b ≡ false)
+  brackets = neither_of (is_opening b) (is_closing b) escapes.0
+
+  by_state : (q : Bool) → end_of (level (suc m) q) (b ∷ rest) ≡ end_of (level (suc m) (if is_quote b then not q else q)) rest
+  by_state true = string_goes_on b (b ∷ rest) rest refl (suc m) (omega arith) escapes.1 ∙ ap (λ z. end_of (level (suc m) z) rest) (unmarked_in_string (eqb b 34))
+  by_state false = passes b (b ∷ rest) rest refl (suc m) (omega arith) brackets.0 brackets.1 ∙ ap (λ z. end_of (level (suc m) z) rest) (unmarked_outside (eqb b 34))
+
+turned_once : (q t : Bool) (n : ℕ) → turned (if t then not q else q) n ≡ turned q (cond t 1 0 + n)
+turned_once q t n = grind arith
+
+pub turned_more : (q t : Bool) (ms : List Bool) → turned (if t then not q else q) (count_ones (mask_l ms)) ≡ turned q (count_ones (mask_l (t ∷ ms)))
+turned_more q t ms = turned_once q t (count_ones (mask_l ms)) ∙ ap (turned q) (sym (ones-mask_l_cons t ms))
+
+pub none_turned : (q : Bool) → turned q (count_ones 0) ≡ q
+unfolding count_ones
+none_turned q = refl
+
+-- so many bytes that are no marks
+pub unmarked_many : (n : ℕ) (bytes : List ℕ) → n ≤ length bytes → ((k : ℕ) → k < n → is_mark (get_or bytes k 0) ≡ false) → (q : Bool) (m : ℕ) →
+    end_of (level (suc m) q) bytes ≡ end_of (level (suc m) (turned q (count_ones (mask_l (map is_quote (take n bytes)))))) (drop n bytes)
+unmarked_many zero bytes le none q m = ap (λ z. end_of (level (suc m) z) bytes) (sym (none_turned q))
+unmarked_many (suc n) [] le none q m = absurd (omega (arith, le))
+unmarked_many (suc n) (b ∷ bs) le none q m =
+    unmarked_first b q m bs (none 0 (omega arith))
+    ∙ unmarked_many n bs (omega (arith, le)) (λ k lt. none (suc k) (omega (arith, lt))) (if is_quote b then not q else q) m
+    ∙ ap (λ z. end_of (level (suc m) z) (drop n bs)) (turned_more q (is_quote b) (map is_quote (take n bs)))
+
+-- what is passed at each depth that isn't 0 is passed at this one
+pub reached : (inside rest found : List ℕ) (n : ℕ) (q r s : Bool) → 0 < n → end_of (at_depth 1) inside ≡ end_of (level n q) rest → ((m : ℕ) → end_of (level (suc m) q) rest ≡ end_of (level (suc m) r) found) → r ≡ s → end_of (at_depth 1) inside ≡ end_of (level n s) found
+reached inside rest found n q r s lt so_far h is = so_far ∙ at_depth_n ∙ ap (λ z. end_of (level n z) found) is where
+  at_depth_n : end_of (level n q) rest ≡ end_of (level n r) found
+  at_depth_n = rw (some_open n lt) (h (n - 1))
+
+pub still : (n : ℕ) (q s : Bool) (more : List ℕ) → q ≡ s → end_of (level n s) more ≡ end_of (level n q) more
+still n q s more is = ap (λ z. end_of (level n z) more) (sym is)
+
+-- ---- sixteen bytes at once
+
+module _ (rest : List ℕ) (enough : 16 ≤ length rest) (marks quotes : ℕ) (marked : marks ≡ mask_l (map is_mark (take 16 rest))) (quoted : quotes ≡ mask_l (map is_quote (take 16 rest))) where
+  -- where no mark is among them
+  pub all_passed : (q t : Bool) (more : List ℕ) → marks ≡ 0 → t ≡ turned q (count_ones quotes) → more ≡ drop 16 rest → (m : ℕ) → end_of (level (suc m) q) rest ≡ end_of (level (suc m) t) more
+  all_passed q t more none is left m = rw (left, is, quoted) (unmarked_many 16 rest enough (λ k lt. none_from_empty_mask is_mark rest 0 16 0 (omega (arith, enough)) (sym marked ∙ none) k (omega arith) (omega (arith, lt))) q m)
+
+  module _ (some : 0 < marks) (before : ℕ) (is : before ≡ count_trailing_zeros 64 marks) where
+    counted : before ≡ prefix_len (λ x. not (is_mark x)) (take 16 rest)
+    counted = is ∙ ap (count_trailing_zeros 64) marked ∙ trailing_mask_l is_mark 64 (take 16 rest) (omega (arith, length-take-le 16 rest enough)) (omega (arith, marked, some))
+
+    within_sixteen : before ≤ 16
+    within_sixteen = run_in_chunk_le is_mark rest 0 16 before 0 (omega (arith, enough)) counted
+
+    pub few : before ≤ length rest
+    few = omega (arith, within_sixteen, enough)
+
+    quotes_before : quotes % (1 * 2 ^ before % 2 ^ 64) ≡ mask_l (map is_quote (take before rest))
+    quotes_before =
+        ap (λ z. quotes % z) (one_shl before 64 (omega (arith, within_sixteen)))
+        ∙ ap (λ z. z % 2 ^ before) quoted
+        ∙ lowest before (map is_quote (take 16 rest))
+        ∙ ap mask_l (take-map is_quote before (take 16 rest) ∙ ap (map is_quote) (take-take before 16 rest within_sixteen))
+
+    -- what comes before the first
+    pub some_passed : (q t : Bool) (more : List ℕ) → t ≡ turned q (count_ones (quotes % (1 * 2 ^ before % 2 ^ 64))) → more ≡ drop before rest → (m : ℕ) → end_of (level (suc m) q) rest ≡ end_of (level (suc m) t) more
+    some_passed q t more h left m = rw (left, h, quotes_before) (unmarked_many before rest few (λ k lt. run_in_chunk_fails is_mark rest 0 16 before 0 (omega (arith, enough)) counted k (omega arith) (omega (arith, lt))) q m)

@@ -6,7 +6,10 @@ pub mod FeatureParts
 pub mod GeometryParts
 pub mod IndexParts
 pub mod KeptParts
+pub mod LeapBlocks
+pub mod LeapMasks
 pub mod LeapParts
+pub mod LeapTurns
 pub mod LostParts
 pub mod NamedLaws
 pub mod NamedMembers

@@ -1,5 +1,5 @@
 -- How brackets and strings nest, and what they say of where an array or an object ends.
-use Rattle.std.specs.Prelude.{◌≡◌, ℕ, zero, suc, ◌-◌, Bool, true, false, not, if◌then◌else◌, ◌||◌, ◌==◌, List, [], ◌∷◌, Option, Some, None}
+use Rattle.std.specs.Prelude.{◌≡◌, ℕ, zero, suc, ◌-◌, ◌%◌, Bool, true, false, not, if◌then◌else◌, ◌||◌, ◌==◌, List, [], ◌∷◌, Option, Some, None}
 use Rattle.json_value.specs.declared.json.Json.{Json}
 use Rattle.json_cursor.specs.Arrays.{prefix_value}
 
@@ -17,6 +17,10 @@ at_depth n = record { depth = n; quoted = false; escaped = false }
 abbrev pub in_string : ℕ → Level
 in_string n = record { depth = n; quoted = true; escaped = false }
 
+-- so deep, and in a string or not
+abbrev pub level : ℕ → Bool → Level
+level n q = record { depth = n; quoted = q; escaped = false }
+
 -- "[" and "{"
 abbrev pub is_opening : ℕ → Bool
 is_opening b = b == 91 || b == 123
@@ -24,6 +28,23 @@ is_opening b = b == 91 || b == 123
 -- "]" and "}"
 abbrev pub is_closing : ℕ → Bool
 is_closing b = b == 93 || b == 125
+
+-- a bracket, or the reverse solidus
+abbrev pub is_mark : ℕ → Bool
+is_mark b = (is_opening b || is_closing b) || b == 92
+
+-- the quotation mark
+abbrev pub is_quote : ℕ → Bool
+is_quote b = b == 34
+
+-- whether what follows so many quotation marks is in a string
+abbrev pub turned : Bool → ℕ → Bool
+turned q n = if n % 2 == 1 then not q else q
+
+-- of each byte, whether what follows it is in no string, where each of these marks turns that
+abbrev pub outsides : Bool → List Bool → List Bool
+outsides o [] = []
+outsides o (m ∷ ms) = (if m then not o else o) ∷ outsides (if m then not o else o) ms
 
 -- one byte more of a string: the reverse solidus is 92, the quotation mark 34
 abbrev pub step_in_string : Level → ℕ → Level
@@ -45,10 +66,6 @@ is_zero (suc n) = false
 unfoldable pub end_of : Level → List ℕ → Option (List ℕ)
 end_of l [] = None
 end_of l (b ∷ bs) = if is_zero (step l b).depth then Some bs else end_of (step l b) bs
-
--- what follows ends where what was in the string ends
-abbrev pub PassesString : List ℕ → List ℕ → Type 0
-PassesString inside rest = (n : ℕ) → end_of (in_string (suc n)) inside ≡ end_of (at_depth (suc n)) rest
 
 -- this follows whatever value stands at the front
 abbrev pub Ends : List ℕ → List ℕ → Type 0

@@ -1,4 +1,4 @@
-use Rattle.std.proofs.Common.{refl, sym}
+use Rattle.std.proofs.Common.{refl}
 use Rattle.geojson_types.specs.Counting.{no_counts}
 use Rattle.topojson_meaning.specs.Topologies.{value_contents}
 use Rattle.topojson_decoder.specs.Kept.{kept_value_contents, of_contents}

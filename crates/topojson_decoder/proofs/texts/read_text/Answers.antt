@@ -1,4 +1,4 @@
-use Rattle.std.proofs.Common.{Ok, ap, ◌∙◌}
+use Rattle.std.proofs.Common.{◌∙◌}
 use Rattle.topojson_decoder.proofs.KeptParts.{whole_contents}
 use Rattle.topojson_decoder.proofs.TextParts.{parts_stand}
 use Rattle.topojson_decoder.proofs.texts.read_text.Goals as goal

@@ -4,20 +4,12 @@ ghost use Rattle.byte_ends.specs.Continues.{Continues};
 ghost use Rattle.byte_ends.specs.Writes.{Writes};
 ghost use Rattle.reports.specs.FaultLines as spec;
 
+use crate::number_writer::put_number;
 use byte_ends::{Drain, Progress, ReadFault, Sink, put_part};
 use geojson_meaning::GeoFault;
 use inputs::{BuildFault, FileFault};
-use itoa::Buffer;
 use json_reading::JsonFault;
 use topojson_meaning::TopoFault;
-
-/// Writes a whole number.
-fn put_number<W: Drain>(number: u64, so_far: Progress, sink: &mut Sink<W>) -> Progress
-    ensures { Continues sink.old sink.new so_far (decimal number) result }
-{
-    let mut buffer = Buffer::new();
-    put_part(buffer.format(number).as_bytes(), so_far, sink)
-}
 
 /// Writes the words for a file that couldn't be read to its end.
 fn put_read<W: Drain>(fault: ReadFault, so_far: Progress, sink: &mut Sink<W>) -> Progress

@@ -11,6 +11,7 @@ mod explanation_writer;
 mod fault_line;
 mod fault_members;
 mod fault_writer;
+mod number_writer;
 mod printing;
 mod report;
 mod report_members;

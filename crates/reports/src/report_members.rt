@@ -2,16 +2,19 @@
 ghost use Rattle.std.specs.Prelude.{◌≡◌, ◌++◌, codes};
 ghost use Rattle.byte_ends.specs.Continues.{Continues};
 ghost use Rattle.json_value.specs.Text.{json_text};
+ghost use Rattle.json_writer.specs.Holding.{Holds};
 ghost use Rattle.reports.specs.Reports.{cause_text};
 ghost use Rattle.reports.specs.RunReports as spec;
 ghost use Rattle.reports.specs.Values.{number_or_null};
 
 use crate::report::Report;
-use crate::value_writer::{Numbers, put_null, put_number_member, put_string};
+use crate::value_writer::{Numbers, hold_number_member, put_null, put_number_member};
 use byte_ends::{Drain, Progress, Sink, put_part};
 use geojson_types::{Cause, Dropped};
 use itoa::Buffer;
-use json_writer::{PutValue, put_array};
+use json_writer::{
+    PutValue, ShortText, hold, hold_array, hold_comma, hold_text, put_array, put_held,
+};
 
 /// The word for why a line or a ring isn't written.
 fn cause_word(cause: Cause) -> &'static str
@@ -24,20 +27,34 @@ fn cause_word(cause: Cause) -> &'static str
     }
 }
 
-/// Writes a line or a ring that isn't written.
-fn put_dropped<W: Drain>(dropped: &Dropped, so_far: Progress, sink: &mut Sink<W>) -> Progress
-    ensures { Continues sink.old sink.new so_far (json_text (spec.dropped_value dropped.now)) result }
+/// Writes or holds a line or a ring that isn't written.
+fn hold_dropped<W: Drain>(
+    dropped: &Dropped,
+    held: &mut ShortText,
+    so_far: Progress,
+    sink: &mut Sink<W>,
+) -> Progress
+    ensures { Holds sink.old sink.new so_far result held.old (json_text (spec.dropped_value dropped.now)) held.new }
 {
     let layer = dropped.address.layer as u64;
     let feature = dropped.address.feature as u64;
     let path = dropped.address.path.as_slice();
-    let so_far = put_number_member(b"{\"layer\":", layer, so_far, sink);
-    let so_far = put_number_member(b",\"feature\":", feature, so_far, sink);
-    let so_far = put_part(b",\"path\":", so_far, sink);
-    let so_far = put_array::<Numbers, usize, W>(path, so_far, sink);
-    let so_far = put_part(b",\"cause\":", so_far, sink);
-    let so_far = put_string(cause_word(dropped.cause), so_far, sink);
-    put_part(b"}", so_far, sink)
+    let so_far = hold_number_member(b"{\"layer\":", layer, held, so_far, sink);
+    let so_far = hold_number_member(b",\"feature\":", feature, held, so_far, sink);
+    let so_far = hold(b",\"path\":", held, so_far, sink);
+    let so_far = hold_array::<Numbers, usize, W>(path, true, held, so_far, sink);
+    let so_far = hold(b",\"cause\":", held, so_far, sink);
+    let so_far = hold_text(cause_word(dropped.cause), held, so_far, sink);
+    hold(b"}", held, so_far, sink)
+}
+
+/// Writes a line or a ring that isn't written.
+fn put_dropped<W: Drain>(dropped: &Dropped, so_far: Progress, sink: &mut Sink<W>) -> Progress
+    ensures { Continues sink.old sink.new so_far (json_text (spec.dropped_value dropped.now)) result }
+{
+    let mut held = ShortText::new();
+    let so_far = hold_dropped(dropped, &mut held, so_far, sink);
+    put_held(&mut held, so_far, sink)
 }
 
 // The way to write lines and rings that aren't written.
@@ -48,6 +65,17 @@ impl PutValue<Dropped> for AllDropped {
 
     fn put<W: Drain>(dropped: &Dropped, so_far: Progress, sink: &mut Sink<W>) -> Progress {
         put_dropped(dropped, so_far, sink)
+    }
+
+    fn put_element<W: Drain>(
+        dropped: &Dropped,
+        is_first: bool,
+        held: &mut ShortText,
+        so_far: Progress,
+        sink: &mut Sink<W>,
+    ) -> Progress {
+        let so_far = hold_comma(is_first, held, so_far, sink);
+        hold_dropped(dropped, held, so_far, sink)
     }
 }
 

@@ -3,7 +3,8 @@ ghost use Rattle.byte_ends.specs.Continues.{Continues};
 ghost use Rattle.byte_ends.specs.Writes.{Writes};
 ghost use Rattle.reports.specs.Summaries as spec;
 
-use crate::report_writer::{put_line, put_number};
+use crate::number_writer::put_number;
+use crate::report_writer::put_line;
 use crate::summary::Summary;
 use byte_ends::{Drain, Progress, Sink, WriteFault, put_part};
 use json_value::OwnText;

@@ -27,7 +27,7 @@ _mapchain() {
             *) command=${COMP_WORDS[i]}; break ;;
         esac
     done
-    # Where = parts words, what stands behind it is a word of its own.
+    # Where = parts words, what stands after it is a word of its own.
     if [ "$word" = = ]; then
         word= at=$COMP_CWORD
     fi

@@ -23,13 +23,13 @@ pub(crate) const OBJECT: &str = "object";
 pub(crate) const FILE: &str = "file";
 
 const SIMPLIFY_HELP: Help = Help {
-    about: "Take points out of the lines of a topology",
-    long_about: "Take points out of the lines of a topology.
+    about: "Remove points from the lines of a topology",
+    long_about: "Remove points from the lines of a topology.
 
 Standard output takes the topology that is left (TopoJSON 1.0), with the same objects
 and the same transform, as one text. Where something is refused it takes nothing, and
 standard error says what. Else standard error takes a report, with a line each as that
-of 'mapchain build'; 'removed' are positions that were taken out of the arcs that are
+of 'mapchain build'; 'removed' are positions that were removed from the arcs that are
 written. An arc is reduced once, so that lines which share it go on sharing it. A line
 or ring that is left with too few positions is dropped as 'small', and so is a ring
 that encloses less than '--min-ring-area'. Any other hole whose outer ring is dropped

@@ -21,7 +21,7 @@ pub(crate) const LAYERS: &str = "layers";
 /// The option of `build` that snaps positions to a grid.
 pub(crate) const GRID: &str = "grid";
 
-/// The option of `build` and `simplify` that takes points out of lines.
+/// The option of `build` and `simplify` that removes points from lines.
 pub(crate) const AREA: &str = "min-area";
 
 /// The option of `build` that keeps a share of the points.
@@ -43,7 +43,7 @@ pub(crate) const REPORT: &str = "report";
 pub(crate) const EXPLAIN: &str = "explain";
 
 /// The version of the program.
-const VERSION: &str = "1.2.5";
+const VERSION: &str = "1.2.6";
 
 const PROGRAM_HELP: Help = Help {
     about: "Build TopoJSON topologies from GeoJSON files, simplify them, and decode them again",
@@ -75,16 +75,16 @@ error takes a report, with a line each:
   rounded  coordinates that were rounded to nine decimal places
   extra    positions with more than x and y, as a height: the rest is left out
   empty    empty arrays in the place of coordinates
-  dropped  lines that aren't written, each told in a line of its own below
+  dropped  lines that aren't written, each reported on a line of its own below
   arcs     arcs that are written
   kept     positions in these arcs
-  removed  positions that '--min-area' or '--keep' took out of these arcs
+  removed  positions that '--min-area' or '--keep' removed from these arcs
   chosen   twice the area that '--keep' chose, in square units
 
 A border that lines and rings share, be it between layers, is one arc. Positions that
 are equal and follow each other count as one. A line that is left with one position,
 or a ring with fewer than four, is dropped as 'collapsed', or as 'small' where that is
-so only because points were taken out. A ring that encloses less than '--min-ring-area'
+so only because points were removed. A ring that encloses less than '--min-ring-area'
 is dropped as 'small', too. Any other hole whose outer ring is dropped is dropped as
 'outer'.",
     after: "Example:
@@ -107,29 +107,29 @@ const GRID_LONG_HELP: &str =
 10000 suits a screen, 1000000 print. Positions are written as numbers of cells,
 in arcs as differences from the position before, so the file gets smaller";
 
-const AREA_HELP: &str = "Take out points whose triangle has less than the area A";
+const AREA_HELP: &str = "Remove points whose triangle has less than the area A";
 
 const AREA_LONG_HELP: &str =
-    "Take points out of lines: each that forms a triangle of less than A with its two
+    "Remove points from lines: each that forms a triangle of less than A with its two
 neighbours, the least first. A is in square units of the coordinates, from 0 to
 10^18, with at most 18 decimal places. Without this option it is 0, and no point
-is taken out. A shared border is reduced once, so it stays shared. Lines may
+is removed. A shared border is reduced once, so it stays shared. Lines may
 cross afterwards: that isn't checked";
 
-const KEEP_HELP: &str = "Take out points, but keep at least the share P/Q of them";
+const KEEP_HELP: &str = "Remove points, but keep at least the share P/Q of them";
 
 const KEEP_LONG_HELP: &str =
-    "Take points out of lines as '--min-area' does, with the greatest area that keeps at
+    "Remove points from lines as '--min-area' does, with the greatest area that keeps at
 least the share P/Q of the points between the ends of arcs: 1/10 keeps a tenth, or
 more where points go at the same area. P and Q are whole numbers, Q from 1 to
 1000000000 and P at most Q. The share is counted over all arcs, before small lines
-are dropped. The report tells the area in a line 'chosen T': T is twice the area, in
+are dropped. The report gives the area in a line 'chosen T': T is twice the area, in
 square units of 10^-9. This option can't stand beside '--min-area'";
 
 const RING_AREA_HELP: &str = "Leave out rings that enclose less than the area B";
 
 const RING_AREA_LONG_HELP: &str =
-    "Leave out rings that enclose less than B once points were taken out: small islands
+    "Leave out rings that enclose less than B once points were removed: small islands
 and lakes. B is in square units of the coordinates, from 0 to 10^18, with at most
 18 decimal places. Without this option it is 0, and no ring is left out for its
 area. Each ring counts by itself: the area of a hole isn't taken off that of the
@@ -218,7 +218,7 @@ fn grid<'a>(alloc: Global) -> Arg<'a>
         .long_help(GRID_LONG_HELP)
 }
 
-/// The option that takes points out of lines. It takes any text: which areas there are isn't judged here.
+/// The option that removes points from lines. It takes any text: which areas there are isn't judged here.
 pub(crate) fn area<'a>(alloc: Global) -> Arg<'a>
     ensures { IsRule result area_rule }
 {

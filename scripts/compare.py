@@ -1,5 +1,5 @@
 #!/usr/bin/env python3
-"""Gives random files to two programs of the same commands, and tells the first on which they differ.
+"""Gives random files to two programs of the same commands, and reports the first on which they differ.
 
     scripts/compare.py old/mapchain new/mapchain 3000 7
     scripts/compare.py --before-bounds old/mapchain new/mapchain 3000 7

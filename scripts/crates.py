@@ -2,7 +2,7 @@
 """Compares the table of crates in docs/ARCHITECTURE.md with what crates.txt and the crates say of themselves:
 
     scripts/crates.py            compares, and says which lines differ
-    scripts/crates.py --write    writes the table anew
+    scripts/crates.py --write    writes the table again
 
 A crate has a line, in the order of crates.txt, with the first sentence of its root file's first comment (`//!`). Where that is longer than a
 line, it ends before its first colon. The table stands between `<!-- made: crates -->` and `<!-- end -->`. The status is 0 where it is as it

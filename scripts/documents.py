@@ -7,7 +7,7 @@
 Each document is read from front to end, in a folder of its own that is empty at first; that of the README has `mapchain`, `examples` and
 `scripts` in it, as a clone has. A block `KIND file NAME` is a file, as in the pages of the worked examples
 (crates/worked_examples/FORMAT.md); one of a kind that isn't known there, as `python`, is text. A block `console` has commands for the
-shell, each behind `$ `; below each stand `# status N`, where its status isn't 0, and what it writes: standard output, and then standard
+shell, each after `$ `; below each stand `# status N`, where its status isn't 0, and what it writes: standard output, and then standard
 error. Where a status isn't 0, standard output has to stay empty. A block without a head is neither. A command stands in a `console`, or it
 is complained of. A picture that the README shows, as docs/areas.svg, has to be what its commands leave in a file of that name.
 

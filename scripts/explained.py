@@ -1,10 +1,10 @@
 #!/usr/bin/env python3
-"""Gives random files to the program with `--explain` and `--report` and without, and tells each run in which these change more than they should:
+"""Gives random files to the program with `--explain` and `--report` and without, and reports each run in which these change more than they should:
 
     scripts/explained.py release/mapchain 1000 7
 
 The second word is how many layers and how many topologies there are, the third the seed. The status, standard output and what stands first on
-standard error have to be the same, each line behind that has to begin with two blanks, and the report has to hold the status and these lines.
+standard error have to be the same, each line after that has to begin with two blanks, and the report has to hold the status and these lines.
 The features of which an explanation says that nothing of their geometry is left have to be those of which a line or a ring was dropped and
 which are written without any. Through a pipe, which can't be read once more, status and standard output have to be the same, and each line of
 the explanation one of those of before, but for the place of what is malformed, of which the byte is known. At its end it prints how many runs there were, and how many faults had no line but that of their file.
@@ -74,7 +74,7 @@ def piped_difference(program, words, folder, status, output, error, lines):
 
 
 def difference(program, words, folder):
-    """In words what is wrong with a command: nothing where it is as it should be; and how many lines stand behind the first."""
+    """In words what is wrong with a command: nothing where it is as it should be; and how many lines stand after the first."""
     status, output, error = run(program, words, folder)
     (folder / "run.json").unlink(missing_ok=True)
     explained = run(program, [words[0], "--explain", "--report", "run.json", *words[1:]], folder)

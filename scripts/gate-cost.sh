@@ -1,6 +1,6 @@
 #!/bin/bash
 # Tells what the gate costs: processor seconds of each crate's proof, tests and must-fail edits, and the longest chain of
-# proofs, each crate behind those it stands on. It runs the gate and looks at the prover's processes once a second.
+# proofs, each crate after those it stands on. It runs the gate and looks at the prover's processes once a second.
 #
 #     scripts/gate-cost.sh                  measures `rt ci --anew`, which proves everything from nothing
 #     scripts/gate-cost.sh rt all check     measures another command, run at the top of the repository
@@ -38,7 +38,7 @@ look() {
             *" --crate-checked "*) part=build ;;
         esac
         { read -r stat <"$dir/stat"; } 2>/dev/null || continue
-        # The fields behind the name in brackets: 12 and 13 are ticks in the program and in the system, 20 is the start.
+        # The fields after the name in brackets: 12 and 13 are ticks in the program and in the system, 20 is the start.
         set -- ${stat##*) }
         echo "$now ${dir#/proc/}.${20} $crate $part $((${12} + ${13}))"
     done

@@ -9,7 +9,7 @@ It needs Debian's packages gdal-bin and r-cran-rnaturalearthdata: the guide's sh
 are those of Natural Earth at 1:50 million, in the public domain. They are read when the script runs, and aren't in the repository. The page
 of its last section is tried in a browser by scripts/web-example.py, which needs more packages; --write takes its picture there.
 
-A block `KIND file NAME` of the guide is a file. A block `console` has commands for bash, each behind `$ `, with what each writes below it,
+A block `KIND file NAME` of the guide is a file. A block `console` has commands for bash, each after `$ `, with what each writes below it,
 standard output and standard error as they come. They run one after another in a folder with `countries.shp` and the files of examples/;
 `mapchain` and `picture.py` are on the path. What they leave in files `guide-*.svg` are the pictures. A table between a line
 `<!-- made: NAME -->` and a line `<!-- end -->` is computed here. The status is 0 where all is as it stands.
@@ -137,7 +137,7 @@ def keep(path, wanted, writes):
     """Whether a file is as wanted; it is written if that is asked for."""
     if path.exists() and path.read_bytes() == wanted:
         return 0
-    print(f"guide: {path.relative_to(ROOT)} {'is written anew' if writes else 'is not what comes'}")
+    print(f"guide: {path.relative_to(ROOT)} {'is written again' if writes else 'is not what comes'}")
     if writes:
         path.write_bytes(wanted)
     return 1

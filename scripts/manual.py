@@ -3,7 +3,7 @@
 
     scripts/manual.py                     compares docs/mapchain.1 and completions/ with the help of ./mapchain
     scripts/manual.py path/to/mapchain    with that of another program
-    scripts/manual.py --write ..          writes them anew
+    scripts/manual.py --write ..          writes them again
 
 The version is that of CHANGELOG.md, and the program's --version must tell it. The status is 0 where all three completions and the page are as
 they would be written.
@@ -167,7 +167,7 @@ def manual(program, version):
         yield from [".PP", *running(line for line in behind if "--help' and the like" not in line)]
     yield from [
         ".SH DIAGNOSTICS",
-        "What is refused is told by one line on standard error, as",
+        "What is refused is reported by one line on standard error, as",
         ".EX", "  error: layer 0 G8 ShortRing feature 2", ".EE",
         "Layers and features count from zero, so this is the third feature of the first layer.",
         "\\fIdocs/FAULTS.md\\fR explains each code by an example and says what to do,",
@@ -209,7 +209,7 @@ _mapchain() {
             *) command=${COMP_WORDS[i]}; break ;;
         esac
     done
-    # Where = parts words, what stands behind it is a word of its own.
+    # Where = parts words, what stands after it is a word of its own.
     if [ "$word" = = ]; then
         word= at=$COMP_CWORD
     fi
@@ -269,7 +269,7 @@ def bash(program):
 ZSH = r"""#compdef mapchain
 # Completion of mapchain for zsh; made by scripts/manual.py. A shell reads it from a folder of $fpath, under the name _mapchain.
 
-# A layer: its name, and behind = its file.
+# A layer: its name, and after = its file.
 _mapchain_layer() {
     if compset -P '*='; then
         _files
@@ -358,7 +358,7 @@ def fish(program):
 def main():
     parser = argparse.ArgumentParser(description="Makes the man page and the completions of the help that the program gives.")
     parser.add_argument("program", nargs="?", help="the program; without it, that of ./mapchain")
-    parser.add_argument("--write", action="store_true", help="write them anew")
+    parser.add_argument("--write", action="store_true", help="write them again")
     words = parser.parse_args()
     path = words.program
     if not path:
@@ -380,7 +380,7 @@ def main():
         if file.exists() and file.read_text() == text:
             continue
         otherwise += 1
-        print(f"manual: {name} {'is written anew' if words.write else 'is not what the help gives; scripts/manual.py --write makes it'}")
+        print(f"manual: {name} {'is written again' if words.write else 'is not what the help gives; scripts/manual.py --write makes it'}")
         if words.write:
             file.parent.mkdir(exist_ok=True)
             file.write_text(text)

@@ -102,7 +102,7 @@ def meet(frame, other):
 
 
 def are_degrees(left, low, right, high):
-    """Whether bounds are those of longitudes and latitudes. The last coordinate of a grid may lie a little behind the greatest one."""
+    """Whether bounds are those of longitudes and latitudes. The last coordinate of a grid may lie a little beyond the greatest one."""
     beyond = 0.01
     return -180 - beyond <= left and right <= 180 + beyond and -90 - beyond <= low and high <= 90 + beyond
 

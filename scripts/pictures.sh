@@ -1,5 +1,5 @@
 #!/bin/sh
-# Makes the pictures of README.md and examples/README.md anew, of what the program writes:
+# Makes the pictures of README.md and examples/README.md again, of what the program writes:
 #
 #     scripts/pictures.sh                     by the program of ./mapchain, which is proved and built first where it has to be
 #     scripts/pictures.sh path/to/mapchain    by another program with the same commands

@@ -68,7 +68,7 @@ sum_of_sources() {
     echo "$sum"
 }
 
-# What the release tells of itself: its sources, its program, its verdict or its kit.
+# What the release's record has of it: its sources, its program, its verdict or its kit.
 told() {
     sed -n "s/^$1 //p" "$record" 2>/dev/null
 }
@@ -92,7 +92,7 @@ keep_verdict() {
     mkdir -p "$beside" && printf '%s %s\n' "$built_sum" "$line" >"$beside/verdict"
 }
 
-# Reads what `rt ci` says: keeps it, and tells each crate that has ended. The last line is its status.
+# Reads what `rt ci` says: keeps it, and reports each crate that has ended. The last line is its status.
 follow() {
     ended=0
     while IFS= read -r line; do
@@ -156,7 +156,7 @@ choose_program() {
     if ! is_released; then
         echo "mapchain: release/ has no program that was made of these very sources" >&2
     elif ! is_whole; then
-        echo "mapchain: release/mapchain isn't the program whose sum release/record tells, so it isn't run" >&2
+        echo "mapchain: release/mapchain isn't the program whose sum release/record has, so it isn't run" >&2
     else
         program=$released
         return

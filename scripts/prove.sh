@@ -15,5 +15,5 @@ if ! is_released; then
 elif is_whole && cmp "$built" "$released"; then
     echo "mapchain: it is the released program, byte for byte" >&2
 else
-    fail 1 "it isn't the released program, or release/record tells another"
+    fail 1 "it isn't the released program, or release/record has another"
 fi

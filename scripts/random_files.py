@@ -89,7 +89,7 @@ def number():
 
 
 def position(x, y):
-    """A position of these two, perhaps with more behind them, or with fewer."""
+    """A position of these two, perhaps with more after them, or with fewer."""
     more = [one_of([number(), number(), "null", "[]", "{}", '"z"', "[[1]]"]) for _ in range(one_of([1, 1, 2]))] if may(0.1) else []
     return listed([x, y, *more] if not errs(0.01) else [x, y][: rng.randrange(2)])
 
@@ -122,7 +122,7 @@ def shape(part, single, line, deep=0):
 
 
 def with_feature(members):
-    """The members of an identifier and of properties, behind these."""
+    """The members of an identifier and of properties, after these."""
     if rng.random() < 0.3:
         members.append((name("id"), one_of(["1", '"a"', "null", "1.50", "-0", '"\\u0041"'] if not errs(0.05) else ["[]", "true", "{}"])))
     if rng.random() < 0.6:

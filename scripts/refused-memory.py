@@ -7,7 +7,7 @@ allocation is one that a run can do without, which are named below, it may end i
     scripts/refused-memory.py path/to/mapchain    another program with the same commands
 
 It needs a C compiler, `cc` or the one that CC names, and the C library of GNU: for N = 1, 2, .. a library of a few lines, which
-it compiles and has the program load, refuses the Nth allocation, once, and tells which one that was. A command is through where a run
+it compiles and has the program load, refuses the Nth allocation, once, and reports which one that was. A command is through where a run
 asked for fewer than N. Its answer is then the one that stands here. Then it runs crates/allocation_tests in the same way, where a
 reducer that was refused memory has to answer the next call.
 
@@ -23,7 +23,7 @@ import time
 
 ROOT = os.path.dirname(os.path.dirname(os.path.realpath(__file__)))
 
-# What refuses. It tells of the allocation that it refused, in words to a file: whether it is new, or a list that grows or shrinks,
+# What refuses. It reports the allocation that it refused, in words to a file: whether it is new, or a list that grows or shrinks,
 # how many bytes were asked for, and how many files the run had opened.
 REFUSING = r"""
 #include <fcntl.h>
@@ -198,7 +198,7 @@ class Refusing:
 
     def run(self, words, number):
         """The status, standard output or the file of the output, standard error, and the allocation of this number, if it was asked for:
-        what it was, how many bytes, and how many files were open before. No other file may be there behind the run."""
+        what it was, how many bytes, and how many files were open before. No other file may be there after the run."""
         before = {*os.listdir(self.folder), "told"}
         with open(f"{self.folder}/told", "wb") as told:
             file = told.fileno()

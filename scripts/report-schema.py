@@ -4,10 +4,10 @@
     scripts/report-schema.py                     the program of ./mapchain, which is proved and built first where it has to be
     scripts/report-schema.py path/to/mapchain    another program with the same commands
 
-Each command that a process can run, and that has no `--report` of its own, gets `--report run.json` behind its name. Standard output, standard
+Each command that a process can run, and that has no `--report` of its own, gets `--report run.json` after its name. Standard output, standard
 error, status and files have to be what the page says without it, as scripts/pages.py compares them, but for the report. That has to be one
 JSON object and a line feed, laid out as docs/FORMATS.md says, and valid by docs/report.schema.json. Its status has to be the process's, and what
-it tells of a fault, or of what was counted, what standard error has. Words that ask for help, name no command, or are refused by the usage, whose
+it reports of a fault, or of what was counted, what standard error has. Words that ask for help, name no command, or are refused by the usage, whose
 text names the options that were given, stay without it. It needs Debian's python3-jsonschema.
 
 It prints a line for each command that went otherwise, and at its end how many there were. The status is 0 where all went as they should.
@@ -34,7 +34,7 @@ NO_LAYER = b" has no =\n"
 
 
 def options_of(words):
-    """The words that are options: not behind `--`, and not the text of an option that takes any."""
+    """The words that are options: not after `--`, and not the text of an option that takes any."""
     words = iter(words)
     for word in words:
         if word == "--":
@@ -129,7 +129,7 @@ class Reports:
             return f"status {value['status']}, and that of the process is {status}"
         lines = told(value) + "".join(f"  {line}\n" for line in value["explanation"] if is_explained)
         if lines.encode() != error:
-            return f"it tells {lines!r}, and standard error has {error.decode(errors='replace')!r}"
+            return f"it gives {lines!r}, and standard error has {error.decode(errors='replace')!r}"
         return ""
 
 

@@ -8,7 +8,7 @@
 
 The kind says what each feature is: `roads` a LineString of 50 positions, which share nothing, `points` a Point, `lakes` a MultiPolygon of
 three polygons, each a ring of 24 positions and its end, the first with a hole of 12, `houses` a Polygon of four corners. The number is how many features there are. Positions
-have seven decimal places, or as many as --decimals says, of which those behind the seventh differ from zero. The same arguments give
+have seven decimal places, or as many as --decimals says, of which those after the seventh differ from zero. The same arguments give
 the same bytes.
 """
 import argparse
@@ -23,7 +23,7 @@ ACROSS = 1_000
 
 
 def position(x, y, more):
-    """A position in units of 10^-7, with digits behind them."""
+    """A position in units of 10^-7, with digits after them."""
     return f"[{decimal(x)}{more},{decimal(y)}{more}]"
 
 

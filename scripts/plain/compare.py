@@ -1,5 +1,5 @@
 #!/usr/bin/env python3
-"""Gives random files to the program and to the one of plain.rs, and tells the first on which they differ.
+"""Gives random files to the program and to the one of plain.rs, and reports the first on which they differ.
 
     scripts/plain/compare.py release/mapchain plain 3000 7
 

@@ -114,7 +114,7 @@ fn kept_by(
     present(alloc, links, many)
 }
 
-/// What a line is reduced in: its links, and its corners that wait, in their order or on a heap. What stands in these lists when a line
+/// What a line is reduced in: its links, and its corners that are queued, in their order or on a heap. What stands in these lists when a line
 /// begins is dropped, so of the last line only their memory is used again.
 #[derive(Debug, Drop)]
 struct Buffers {

@@ -36,7 +36,7 @@ fn add_step(alloc: Global, path: &mut String, step: Step) -> Result<(), AllocErr
 
 /// What to do with a layer that is JSON texts one after another.
 const SEQUENCE: &str =
-    "  the file is JSON texts one behind another: make one FeatureCollection of them, as by ogr2ogr -f GeoJSON or jq -s\n";
+    "  the file is JSON texts one after another: make one FeatureCollection of them, as by ogr2ogr -f GeoJSON or jq -s\n";
 
 /// The way to a value, as `coordinates[0][3]`. That it is the `geometry` of a feature goes without saying for what is in it.
 fn path(alloc: Global, trail: &[Step]) -> Result<String, AllocError> {

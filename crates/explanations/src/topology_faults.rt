@@ -14,7 +14,7 @@ use std::alloc::{AllocError, Global};
 use topojson_meaning::TopoFault;
 
 /// What a file is that is JSON texts one after another.
-const SEQUENCE: &str = "  the file is JSON texts one behind another, and no topology\n";
+const SEQUENCE: &str = "  the file is JSON texts one after another, and no topology\n";
 
 /// The names of these objects, or that there are none.
 fn objects_line(alloc: Global, topology: &Json) -> Result<String, AllocError> {

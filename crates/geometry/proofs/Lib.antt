@@ -9,4 +9,5 @@ pub mod Moved
 pub mod MovedShapes
 pub mod Omitted
 pub mod Points
+pub mod Products
 pub mod RingAreas

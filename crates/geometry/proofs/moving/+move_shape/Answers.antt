@@ -1,9 +1,19 @@
-use Rattle.std.proofs.Common.{◌≢◌, map, refl, sym, ap, ◌∙◌, arith, get_or-set_other, length-set}
+use Rattle.std.proofs.Common.{◌≢◌, ℕ, ◌+◌, ◌≤◌, map, refl, sym, ap, ◌∙◌, arith, get_or-set_other, length-set}
 use Rattle.geometry.specs.declared.shape.Geometry.TheVariants as v
 use Rattle.geometry.specs.Moving.{moved}
 use Rattle.geometry.proofs.Moved.{starts, turns, ends, refilled}
 use Rattle.geometry.proofs.MovedShapes.{moved_at}
 use Rattle.geometry.proofs.moving.+move_shape.Goals as goal
+
+-- ---- an index after another
+
+other : (k i : ℕ) → i + 1 ≤ k → k ≢ i
+other k i h = omega arith
+
+later : (k i : ℕ) → i + 1 ≤ k → i ≤ k
+later k i h = omega arith
+
+-- ---- the goals
 
 pub shapes-init : goal.shapes-init
 shapes-init g t c = record { left = (refl, λ k d h. refl); made = starts (moved (g.M.Moves.goes_to c.args.moves.now)) c.as_mut_slice-shape-items.result.now }
@@ -12,7 +22,7 @@ pub shapes-preserved : goal.shapes-preserved
 shapes-preserved g t c = record {
   left = (
     length-set c.shapes.shape-items c.shapes.shape-index c.move_shape.new.shape ∙ c.shapes.invariant.left.0,
-    λ k d h. let ne : k ≢ c.shapes.shape-index = omega arith in rw get_or-set_other (c.shapes.invariant.left.1 k d (omega arith)),
+    λ k d h. let ne : k ≢ c.shapes.shape-index = other k c.shapes.shape-index h in rw get_or-set_other (c.shapes.invariant.left.1 k d (later k c.shapes.shape-index h)),
   );
   made = turns (moved (g.M.Moves.goes_to c.args.moves.now)) c.as_mut_slice-shape-items.result.now c.shapes.shape-index c.shapes.shape-items c.shape-item.result _
       c.shapes-test.true c.shapes.invariant.made c.move_shape.ensures;

@@ -1,17 +1,22 @@
-use Rattle.std.proofs.Common.{◌≡◌, arith, rules, refl, to_z, of_z, w64, FitsSigned}
-use Rattle.std.proofs.lemmas.Int.{ints, clamps}
+use Rattle.std.proofs.Common.{◌≡◌, ◌∙◌, ap, rules, refl, to_z, of_z, w64, FitsSigned}
 use Rattle.std.specs.Int.{int_min, int_max}
 use Rattle.grid_snap.proofs.Widening.{min_cast, max_cast}
 use Rattle.grid_snap.proofs.bounds.widen.Goals as goal
 
 pub returns-in-Some : goal.returns-in-Some
 returns-in-Some c =
-    let fl : FitsSigned w64 c.in-Some.b.left = first_of (search rules, grind (arith, ints)) in
-    let fr : FitsSigned w64 c.in-Some.b.right = first_of (search rules, grind (arith, ints)) in
-    let fb : FitsSigned w64 c.in-Some.b.bottom = first_of (search rules, grind (arith, ints)) in
-    let ft : FitsSigned w64 c.in-Some.b.top = first_of (search rules, grind (arith, ints)) in
-    let l : to_z w64 (of_z w64 c.min.result) ≡ int_min c.in-Some.b.left c.args.position.x = first_of (omega (arith, ints, clamps), search rules, search (rules, min_cast), grind (arith, min_cast)) in
-    let r : to_z w64 (of_z w64 c.max.result) ≡ int_max c.in-Some.b.right c.args.position.x = first_of (omega (arith, ints, clamps), search rules, search (rules, max_cast), grind (arith, max_cast)) in
-    let b : to_z w64 (of_z w64 c.min-in-Some.result) ≡ int_min c.in-Some.b.bottom c.args.position.y = first_of (omega (arith, ints, clamps), search rules, search (rules, min_cast), grind (arith, min_cast)) in
-    let t : to_z w64 (of_z w64 c.max-in-Some.result) ≡ int_max c.in-Some.b.top c.args.position.y = first_of (omega (arith, ints, clamps), search rules, search (rules, max_cast), grind (arith, max_cast)) in
+    let fl : FitsSigned w64 c.in-Some.b.left = search rules in
+    let fr : FitsSigned w64 c.in-Some.b.right = search rules in
+    let fb : FitsSigned w64 c.in-Some.b.bottom = search rules in
+    let ft : FitsSigned w64 c.in-Some.b.top = search rules in
+    let fx : FitsSigned w64 c.x-x.result = search rules in
+    let fy : FitsSigned w64 c.y-y.result = search rules in
+    let l : to_z w64 (of_z w64 c.min.result) ≡ int_min c.in-Some.b.left c.args.position.x =
+    min_cast c.in-Some.b.left c.x-x.result c.min.result fl fx c.min.ensures.value ∙ ap (int_min c.in-Some.b.left) c.x-x.ensures.x in
+    let r : to_z w64 (of_z w64 c.max.result) ≡ int_max c.in-Some.b.right c.args.position.x =
+    max_cast c.in-Some.b.right c.x-x.result c.max.result fr fx c.max.ensures.value ∙ ap (int_max c.in-Some.b.right) c.x-x.ensures.x in
+    let b : to_z w64 (of_z w64 c.min-in-Some.result) ≡ int_min c.in-Some.b.bottom c.args.position.y =
+    min_cast c.in-Some.b.bottom c.y-y.result c.min-in-Some.result fb fy c.min-in-Some.ensures.value ∙ ap (int_min c.in-Some.b.bottom) c.y-y.ensures.y in
+    let t : to_z w64 (of_z w64 c.max-in-Some.result) ≡ int_max c.in-Some.b.top c.args.position.y =
+    max_cast c.in-Some.b.top c.y-y.result c.max-in-Some.result ft fy c.max-in-Some.ensures.value ∙ ap (int_max c.in-Some.b.top) c.y-y.ensures.y in
     rw (c.in-Some.is, l, r, b, t) refl

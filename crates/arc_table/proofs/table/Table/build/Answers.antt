@@ -1,21 +1,31 @@
-use Rattle.std.proofs.Common.{◌≡◌, ◌<◌, ◌≤◌, ◌+◌, ◌^◌, [], ◌∷◌, ◌++◌, get_or, length, map, take, slice_get, Some, ap, arith, rules, sym, ◌∙◌, subst}
+use Rattle.std.proofs.Common.{◌≡◌, ℕ, List, refl, ◌<◌, ◌≤◌, ◌+◌, ◌^◌, [], ◌∷◌, ◌++◌, get_or, length, map, take, slice_get, Some, ap, arith, rules, sym, ◌∙◌, subst}
 use Rattle.std.proofs.lemmas.Iterator.Adapters.{YieldsList-from_vec}
 use Rattle.std.proofs.lemmas.Iterator.Consumers.{YieldsList-turn, YieldsList-end}
 use Rattle.std.proofs.lemmas.List.{length-map, length_push}
 use Rattle.std.specs.List.{sum_by}
 use Rattle.cutter.specs.Places.{In}
-use Rattle.cutter.specs.Segments.{line_segments, piece_segments}
+use Rattle.cutter.specs.Segments.{Segment, line_segments, piece_segments}
 use Rattle.cutter.specs.Slices.{all_pieces, piece_lists, lines_and_rings}
 use Rattle.cutter.proofs.SharedCuts.{IsCutLine, as_many_lines, cut_line}
 use Rattle.geometry.specs.Joins.{arc_at, stitched}
+use Rattle.geometry.specs.Points.{Point}
 use Rattle.arc_table.specs.Arcs.{table_of}
 use Rattle.arc_table.specs.Growth.{grow_all}
 use Rattle.arc_table.specs.Laws.{AreAllIn, AreOnceIn, IsTable, RingsClose}
-use Rattle.arc_table.specs.Starts.{StartsIdentify}
+use Rattle.arc_table.specs.Starts.{IsStarts, StartsIdentify}
 use Rattle.arc_table.proofs.Identifying.{structured_identifies, line_in, line_identifies, line_unlike, count_most, count_all}
 use Rattle.arc_table.proofs.Growth.{every, refs_in, build_arcs, build_refs}
 use Rattle.arc_table.proofs.Kept.{every_piece, table, built, kept, once_in_table, pieces_once, all_in_table, named_lists, lines_of_table, closed_in_table}
 use Rattle.arc_table.proofs.table.Table.build.Goals as goal
+
+no_starts : (arcs : List (List Point)) (starts : List Segment) → arcs ≡ [] → starts ≡ [] → IsStarts arcs starts
+no_starts arcs starts e f = rw (e, f) refl
+
+both_none : (m n : ℕ) → m ≡ 0 → n ≡ 0 → 0 + m ≡ n
+both_none m n e f = omega arith
+
+least : (n : ℕ) → 0 ≤ n
+least n = omega arith
 
 pub of_line-own-requires : goal.of_line-own-requires
 of_line-own-requires c =
@@ -163,3 +173,19 @@ returns c =
       joined = subst (λ t. map (λ refs. stitched (map (arc_at t.arcs) refs)) t.refs ≡ map (λ s. s.positions) (lines_and_rings c.args.pieces)) (sym e) (lines_of_table c.args.pieces c.law.ensures.joined);
       closed = subst (λ t. RingsClose t.arcs (lines_and_rings c.args.pieces) t.refs) (sym e) (closed_in_table c.args.pieces c.law.ensures.joined c.law.ensures.long c.law.ensures.clean);
     }
+
+pub loop-line-init : goal.loop-line-init
+loop-line-init c =
+    let no_arcs = c.in_ok-arcs.ensures.items in
+    let no_refs = c.in_ok-refs.ensures.items in
+    record {
+      arcs = no_arcs;
+      refs = no_refs;
+      many = ap length no_refs;
+      known = no_starts c.in_ok-arcs.arcs.items c.in_ok-starts.starts no_arcs c.in_ok-starts.ensures;
+      most = least (sum_by length c.in_ok-refs.refs.items);
+      counted = λ _. both_none (length c.in_ok-arcs.arcs.items) (sum_by length c.in_ok-refs.refs.items) (ap length no_arcs) (ap (sum_by length) no_refs);
+    }
+
+pub add_line-requires-clause-known : goal.add_line-requires-clause-known
+add_line-requires-clause-known c = c.loop-line.invariant.known

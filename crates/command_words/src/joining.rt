@@ -1,5 +1,5 @@
 // An option and its value as one word.
-ghost use Rattle.std.specs.Prelude.{◌≡◌, ◌++◌, IfOk, codes, map};
+ghost use Rattle.std.specs.Prelude.{◌≡◌, ◌++◌, ◌∷◌, [], IfOk, OnOk, codes, map};
 ghost use Rattle.std.specs.String.{string_bytes};
 ghost use Rattle.command_words.specs.Joined as spec;
 ghost use Rattle.command_words.specs.Joined.{ending, joined, place_of, word_joined};
@@ -45,6 +45,14 @@ fn with_value(alloc: Global, option: &str, value: &str) -> Result<String, AllocE
     Ok(whole)
 }
 
+/// Adds a word as it is.
+fn push_word(alloc: Global, joined: &mut Vec<String>, word: &str) -> Result<(), AllocError>
+    ensures { OnOk result (map string_bytes joined.new.items ≡ map string_bytes joined.old.items ++ (word.now ∷ [])) }
+{
+    joined.push(String::from_str(alloc, word)?)?;
+    Ok(())
+}
+
 /// Takes one word more, and says what the next one is.
 fn join_word<'a>(
     alloc: Global,
@@ -57,7 +65,7 @@ fn join_word<'a>(
 {
     match place {
         Next::Command => {
-            joined.push(String::from_str(alloc, word)?)?;
+            push_word(alloc, joined, word)?;
             if has_text_option(word) {
                 return Ok(Next::Alone);
             }
@@ -67,7 +75,7 @@ fn join_word<'a>(
             if takes_text(word) {
                 return Ok(Next::ValueOf(word));
             }
-            joined.push(String::from_str(alloc, word)?)?;
+            push_word(alloc, joined, word)?;
             if word == "--" {
                 return Ok(Next::Following);
             }
@@ -78,7 +86,7 @@ fn join_word<'a>(
             Ok(Next::Alone)
         }
         Next::Following => {
-            joined.push(String::from_str(alloc, word)?)?;
+            push_word(alloc, joined, word)?;
             Ok(Next::Following)
         }
     }
@@ -95,7 +103,7 @@ pub fn joined_words(alloc: Global, words: &[String]) -> Result<Vec<String>, Allo
         place = join_word(alloc, &mut joined, place, word.as_str())?;
     }
     if let Next::ValueOf(option) = place {
-        joined.push(String::from_str(alloc, option)?)?;
+        push_word(alloc, &mut joined, option)?;
     }
     Ok(joined)
 }

@@ -92,6 +92,9 @@ module _ (inside rest found more : List ℕ) (b : ℕ) (before : PassesSimple in
   pub one_passed : is_simple b ≡ true → PassesSimple inside more
   one_passed h = ((before.0 ++ then.0) ++ b ∷ [], both ∙ sym (append_assoc (before.0 ++ then.0) (b ∷ []) more), simple_both (before.0 ++ then.0) (b ∷ []) so_far (true_both (is_simple b) true h refl))
 
+  pub shorter : length more < length rest
+  shorter = omega (arith, ap length then.1, length-append then.0 found, ap length split)
+
   pub string_ends : (n : ℕ) (text : List ℕ) → b ≡ 34 → n ≡ length inside - length more - 1 → text ≡ take n inside → EndsPlain inside text more
   string_ends n text quote count prefix =
       let long : n ≡ length (before.0 ++ then.0) = omega (arith, count, ap length both, length-append (before.0 ++ then.0) (b ∷ more)) in

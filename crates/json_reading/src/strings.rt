@@ -1,7 +1,7 @@
 // Strings (RFC 8259, section 7).
-ghost use Rattle.std.specs.Prelude.{◌≡◌, ◌++◌, ◌<◌, length, IfOk, IfSome, IsTrue, OnOk, encode_utf8, false};
+ghost use Rattle.std.specs.Prelude.{◌≡◌, ◌++◌, ◌<◌, ℕ, length, IfOk, IfSome, IsTrue, MatchResult, OnOk, Some, encode_utf8, false};
 ghost use Rattle.json_value.specs.Grammar.{hex_value, is_plain, is_high, is_low, unescape, paired};
-ghost use Rattle.json_reading.specs.Gives.{Gives, IsMalformed, StopsBefore};
+ghost use Rattle.json_reading.specs.Gives.{Fails, Gives, IsMalformed, StopsBefore};
 ghost use Rattle.std.specs.Str.{is_utf8};
 ghost use Rattle.json_value.specs.Reading as spec;
 
@@ -205,6 +205,17 @@ fn push_character(text: &mut Vec<u8>, character: char) -> Result<(), AllocError>
     text.extend_from_slice(character.encode_utf8(&mut buffer).as_bytes())
 }
 
+/// Appends the character of an escape, after the reverse solidus, and gives what follows it.
+fn push_escape<'a>(text: &mut Vec<u8>, bytes: &'a [u8]) -> Result<&'a [u8], Fault>
+    ensures { MatchResult result
+        (λ rest. (c : ℕ) × ((spec.escape_at bytes.now ≡ Some (c, rest.now)) × (text.new.items ≡ text.old.items ++ encode_utf8 c)))
+        (λ fault. Fails fault (spec.escape_at bytes.now)) }
+{
+    let (character, rest) = escape_at(bytes)?;
+    push_character(text, character)?;
+    Ok(rest)
+}
+
 fn chars_at<'a>(alloc: Global, bytes: &'a [u8]) -> Result<(Vec<u8>, &'a [u8]), Fault>
     ensures { Gives (λ x. (x.0.items, x.1.now)) result (spec.chars_at (length bytes.now) bytes.now) }
 {
@@ -222,9 +233,7 @@ fn chars_at<'a>(alloc: Global, bytes: &'a [u8]) -> Result<(Vec<u8>, &'a [u8]), F
         if first != b'\\' {
             return Err(stopped(following));
         }
-        let (character, more) = escape_at(after)?;
-        push_character(&mut text, character)?;
-        rest = more;
+        rest = push_escape(&mut text, after)?;
     }
     Err(stopped(rest))
 }

@@ -35,6 +35,7 @@ pub fn add_layer(
 }
 
 // Adds the lines and rings of the shape at this address.
+#[cycle(shapes)]
 fn add_shape(
     alloc: Global,
     address: Address,
@@ -50,14 +51,26 @@ fn add_shape(
         Shape::Lines(parts) => add_lines(alloc, &address, parts.as_slice(), lines),
         Shape::Area(rings) => add_rings(alloc, &address, rings.as_slice(), lines),
         Shape::Areas(areas) => add_areas(alloc, &address, areas.as_slice(), lines),
-        Shape::Group(shapes) => {
-            'shapes: for (number, shape) in shapes.as_slice().iter().enumerate() {
-                let part = part_of(alloc, &address, number)?;
-                add_shape(alloc, part, shape, lines)?;
-            }
-            Ok(())
-        }
+        Shape::Group(shapes) => add_shapes(alloc, &address, shapes.as_slice(), lines),
     }
+}
+
+// Adds the lines and rings of the shapes of the group at this address.
+#[cycle(shapes)]
+fn add_shapes(
+    alloc: Global,
+    address: &Address,
+    shapes: &[Shape],
+    lines: &mut Lines,
+) -> Result<(), Memory>
+    ensures { OnOk result
+        (lines.new ≡ with_lines_and_rings lines.old (map (line_or_ring_at address.now) (of_parts 0 (map placed_lines_and_rings shapes.now)))) }
+{
+    for (number, shape) in shapes.iter().enumerate() {
+        let part = part_of(alloc, address, number)?;
+        add_shape(alloc, part, shape, lines)?;
+    }
+    Ok(())
 }
 
 // Adds the rings of the polygons at this address.

@@ -4,7 +4,7 @@ use geojson_meaning::{CoordinatesType, GeometryType, geometry_type};
 use json_value::{Json, OwnText, find, need_text};
 
 /// The objects of a layer (RFC 7946, section 1.4) or of a topology (TopoJSON 1.0, section 2), which have members of their own.
-#[derive(Clone, Copy, Debug)]
+#[derive(Clone, Copy)]
 pub(crate) enum ObjectKind {
     Layer,
     Feature,
@@ -31,7 +31,7 @@ fn is_read(kind: ObjectKind, name: &str) -> bool {
 }
 
 /// Members that a layer or a topology has and that aren't read, counted.
-#[derive(Clone, Copy, Debug)]
+#[derive(Clone, Copy)]
 pub(crate) struct LeftOut {
     pub(crate) bbox: u64,
     pub(crate) crs: u64,
@@ -125,7 +125,7 @@ fn has_points(coordinates: CoordinatesType, value: &Json) -> bool {
 }
 
 /// What geometries are made of, counted.
-#[derive(Clone, Copy, Debug)]
+#[derive(Clone, Copy)]
 pub(crate) struct Census {
     /// Their lines and rings.
     pub(crate) lines: u64,

@@ -11,7 +11,7 @@ use topojson_meaning::TopoFault;
 use topojson_types::{Cell, Transform};
 
 /// Where in a topology a fault is. Objects, features and arcs count from zero.
-#[derive(Clone, Copy, Debug)]
+#[derive(Clone, Copy)]
 pub(crate) enum Site {
     Topology,
     Member(&'static str),
@@ -24,7 +24,7 @@ pub(crate) enum Site {
 }
 
 /// A fault, and where it is.
-#[derive(Clone, Copy, Debug)]
+#[derive(Clone, Copy)]
 pub(crate) struct Found {
     pub(crate) fault: TopoFault,
     pub(crate) site: Site,
@@ -132,7 +132,7 @@ fn walk_features(
         };
         match feature_at(alloc, TOPOLOGY_DEPTH, transform, arcs, &text, &mut counts) {
             Err(stop) => return Err(site.has(fault_of(stop))),
-            Ok(_) => {}
+            Ok(read) => drop(read),
         }
     }
     Ok(())
@@ -153,7 +153,10 @@ fn walk_object(
     let mut counts = Counts::none();
     match object_at(alloc, TOPOLOGY_DEPTH, transform, arcs, &text, &mut counts) {
         Err(stop) => Err(Site::Object(number).has(fault_of(stop))),
-        Ok(_) => Ok(()),
+        Ok(read) => {
+            drop(read);
+            Ok(())
+        }
     }
 }
 
@@ -177,6 +180,16 @@ fn walk_objects(
     Ok(())
 }
 
+/// Looks at the arcs and the objects among these members.
+fn walk_contents(
+    alloc: Global,
+    transform: Option<&Transform>,
+    members: &[(OwnText, Json)],
+) -> Result<(), Found> {
+    let arcs = arcs_of(alloc, transform, members)?;
+    walk_objects(alloc, transform, &arcs, members)
+}
+
 /// Looks at a topology in the order in which faults are answered.
 pub(crate) fn walk_topology(alloc: Global, value: &Json) -> Result<(), Found> {
     let Some(members) = value.as_object() else {
@@ -188,6 +201,5 @@ pub(crate) fn walk_topology(alloc: Global, value: &Json) -> Result<(), Found> {
         Some(_) => return Err(Site::Member("type").has(TopoFault::NotTopology)),
     }
     let transform = transform_of(alloc, members)?;
-    let arcs = arcs_of(alloc, transform.as_ref(), members)?;
-    walk_objects(alloc, transform.as_ref(), &arcs, members)
+    walk_contents(alloc, transform.as_ref(), members)
 }

@@ -6,7 +6,7 @@ use json_value::{Json, LookupFault, OwnText, find};
 use std::alloc::Global;
 
 /// The members of layers that are looked at (RFC 7946).
-#[derive(Clone, Copy, Debug, PartialEq, Eq)]
+#[derive(Clone, Copy, PartialEq, Eq)]
 pub(crate) enum Member {
     Type,
     Features,
@@ -32,7 +32,7 @@ impl Member {
 }
 
 /// A step on the way to a value inside another.
-#[derive(Clone, Copy, Debug, PartialEq, Eq)]
+#[derive(Clone, Copy, PartialEq, Eq)]
 pub(crate) enum Step {
     Member(Member),
     Element(usize),

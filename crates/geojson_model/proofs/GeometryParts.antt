@@ -29,7 +29,9 @@ use Rattle.json_cursor.specs.Members.{Members}
 use Rattle.json_cursor.proofs.Steps.{found_stops, made, made_reads, made_stops}
 use Rattle.json_cursor.specs.declared.stop.Stop.{Stop}
 use Rattle.json_cursor.specs.declared.stop.Stop.TheVariants as stop
-use Rattle.geojson_model.specs.Members.{Judges, part as the_part, type_in}
+use Rattle.geojson_model.specs.Members.{IsOccurrence, IsType, Judges, geometry_kind, kind_of, part as the_part, type_in}
+use Rattle.geojson_model.specs.declared.occurrence.Occurrence.{Occurrence}
+use Rattle.geojson_model.specs.declared.occurrence.Occurrence.TheVariants.{Never, Once, Again}
 
 -- readers that answer the same are judged by the same
 pub judges_same : {C E B : Type 0} (r s : Counting C E B) (old new : C) → r old ≡ s old → (result : Result B (Stop E)) → Judges s old new result → Judges r old new result
@@ -37,17 +39,6 @@ judges_same r s old new e (Ok x) h = e ∙ h
 judges_same r s old new e (Err (stop.Fault k)) h = e ∙ h
 judges_same r s old new e (Err stop.NoValue) h = absurd h
 judges_same r s old new e (Err stop.Memory) h = tt
-
--- ---- the type
-
-module _ (exact : Bool) (ms : Members) (c : Counts) where
-  pub no_type : named (codes "type") ms ≡ [] → geometry exact ms c ≡ Err Missing
-  unfolding geometry type_name
-  no_type h = rw h refl
-
-  pub more_types : (v w : Json) (us : List Json) → named (codes "type") ms ≡ v ∷ w ∷ us → geometry exact ms c ≡ Err Duplicate
-  unfolding geometry type_name
-  more_types v w us h = rw h refl
 
 -- ---- coordinates
 
@@ -64,15 +55,9 @@ module _ (exact : Bool) (type : CoordinatesType) (ms : Members) (c : Counts) whe
   unfolding typed_geometry need
   one_coordinates v h = rw h refl
 
--- ---- the type, where it is named once
+-- ---- the type
 
 module _ (exact : Bool) (ms : Members) (c : Counts) where
-  abbrev the_fault : GeoFaultKind → Result GeoJsonType GeoFaultKind
-  the_fault e = Err e
-
-  abbrev the_type : GeoJsonType → Result GeoJsonType GeoFaultKind
-  the_type type = Ok type
-
   -- what is read by the type, or its fault
   abbrev by_type : Result GeoJsonType GeoFaultKind → Result (Option Shape × Counts) GeoFaultKind
   by_type (Ok (types.Geometry kind)) = typed_geometry exact kind ms c
@@ -104,14 +89,22 @@ module _ (exact : Bool) (ms : Members) (c : Counts) where
     by_text None is = rw (one, is) refl
     by_text (Some name) is = rw (one, is) (by_name name)
 
-    pub faulty_type : (e : GeoFaultKind) → the_fault e ≡ type_in (text_of v) → geometry exact ms c ≡ Err e
-    faulty_type e is = by_text (text_of v) refl ∙ ap by_type (sym is)
+  -- the geometry of this type, or the fault of the type
+  abbrev pub by_geometry : Result GeometryType GeoFaultKind → Result (Option Shape × Counts) GeoFaultKind
+  by_geometry (Ok kind) = typed_geometry exact kind ms c
+  by_geometry (Err e) = Err e
 
-    pub other_type : (type : GeoJsonType) → the_type type ≡ type_in (text_of v) → by_type (Ok type) ≡ Err UnknownType → geometry exact ms c ≡ Err UnknownType
-    other_type type is h = by_text (text_of v) refl ∙ ap by_type (sym is) ∙ h
+  same_type : (x : Result GeoJsonType GeoFaultKind) → by_type x ≡ by_geometry (geometry_kind x)
+  same_type (Ok (types.Geometry kind)) = refl
+  same_type (Ok types.FeatureCollection) = refl
+  same_type (Ok types.Feature) = refl
+  same_type (Err e) = refl
 
-    pub known_type : (kind : GeometryType) → the_type (types.Geometry kind) ≡ type_in (text_of v) → geometry exact ms c ≡ typed_geometry exact kind ms c
-    known_type kind is = by_text (text_of v) refl ∙ ap by_type (sym is)
+  pub is_of_kind : (s : Occurrence (Result GeoJsonType GeoFaultKind)) → IsOccurrence IsType (named (codes "type") ms) s → geometry exact ms c ≡ by_geometry (kind_of s)
+  unfolding geometry type_name
+  is_of_kind Never h = rw h refl
+  is_of_kind (Once x) (v, one, is) = by_text v one (text_of v) refl ∙ ap by_type (sym is) ∙ same_type x
+  is_of_kind Again (v, w, us, more) = rw more refl
 
 -- ---- the geometries of a collection
 

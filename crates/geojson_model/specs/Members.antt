@@ -16,9 +16,10 @@ use Rattle.json_value.specs.Readers.{Counting}
 use Rattle.geojson_meaning.specs.Reader.{Reader, ◌>>=◌, give, or_fail}
 use Rattle.geojson_meaning.specs.Types.{geojson_type, geometry_type}
 use Rattle.geojson_meaning.specs.declared.fault.GeoFaultKind.{GeoFaultKind}
-use Rattle.geojson_meaning.specs.declared.fault.GeoFaultKind.TheVariants.{Duplicate, UnknownType, WrongKind}
+use Rattle.geojson_meaning.specs.declared.fault.GeoFaultKind.TheVariants.{Duplicate, Missing, UnknownType, WrongKind}
 use Rattle.geojson_meaning.specs.declared.types.CoordinatesType.{CoordinatesType}
 use Rattle.geojson_meaning.specs.declared.types.GeoJsonType.{GeoJsonType}
+use Rattle.geojson_meaning.specs.declared.types.GeoJsonType.TheVariants as type
 use Rattle.geojson_meaning.specs.declared.types.GeometryType.{GeometryType}
 use Rattle.geojson_meaning.specs.declared.types.GeometryType.TheVariants as kinds
 use Rattle.json_cursor.specs.declared.stop.Stop.{Stop}
@@ -75,6 +76,19 @@ type_in (Some name) = or_fail UnknownType (geojson_type name)
 
 abbrev pub IsType : Json → Result GeoJsonType GeoFaultKind → Type 0
 IsType v type = type ≡ type_in (text_of v)
+
+-- the type, if it is one of a geometry
+abbrev pub geometry_kind : Result GeoJsonType GeoFaultKind → Result GeometryType GeoFaultKind
+geometry_kind (Ok (type.Geometry kind)) = Ok kind
+geometry_kind (Ok type.FeatureCollection) = Err UnknownType
+geometry_kind (Ok type.Feature) = Err UnknownType
+geometry_kind (Err e) = Err e
+
+-- the type of a geometry, which must be there once
+abbrev pub kind_of : Occurrence (Result GeoJsonType GeoFaultKind) → Result GeometryType GeoFaultKind
+kind_of Never = Err Missing
+kind_of (Once x) = geometry_kind x
+kind_of Again = Err Duplicate
 
 -- what the value of `coordinates` is read as by this type, from these counts on
 abbrev pub ReadsAs : Start → Json → Read → Result (Option Shape) GeoFaultKind → Type 0

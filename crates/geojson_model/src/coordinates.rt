@@ -42,11 +42,14 @@ fn value_coordinate_at<'a>(
     };
     let (value, rest) = value_at(alloc, depth_left, bytes)?;
     let Some(number) = value.as_number() else {
+        drop(value);
         return Err(Stop::Fault(GeoFaultKind::WrongKind));
     };
     let Ok(scaled) = number.scaled(PLACES, LIMIT) else {
+        drop(value);
         return Err(Stop::Fault(GeoFaultKind::Range));
     };
+    drop(value);
     if is_refused(exact, scaled.exact) {
         return Err(Stop::Fault(GeoFaultKind::Inexact));
     }

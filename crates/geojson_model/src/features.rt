@@ -1,6 +1,7 @@
 // Features (RFC 7946, section 3.2).
 ghost use Rattle.std.specs.Prelude.{◌≡◌, [], ℕ, OnOk, codes};
 ghost use Rattle.std.specs.Option.{option_copied};
+ghost use Rattle.json_value.specs.declared.json.Json.TheVariants.{Object};
 ghost use Rattle.json_cursor.specs.Answers.{Answers};
 ghost use Rattle.json_cursor.specs.Arrays.{prefix_value};
 ghost use Rattle.json_cursor.specs.Held.{FindsValue};
@@ -237,6 +238,20 @@ impl FeatureParts {
             fields: Fields::none(),
         }
     }
+
+    /// The feature of these members, or the fault of the first that has one, its type before the others.
+    #[inline(always)]
+    fn feature(self, start: Start, counts: &mut Counts) -> Result<Feature, GeoFaultKind>
+        requires { (depth_left : ℕ) × (ms : Listed) × IsFeatureParts start depth_left ms self }
+        ensures { (depth_left : ℕ) (ms : Listed) → IsFeatureParts start depth_left ms self → Judges (feature_element start.exact (Object ms)) start.counts counts.new (spec.stopped result) }
+    {
+        let FeatureParts { kind, fields } = self;
+        if let Some(fault) = type_fault(&kind) {
+            drop(fields);
+            return Err(fault);
+        }
+        feature_of(fields, start, counts)
+    }
 }
 
 /// The name of the member at the front, and where its value begins: those of a feature are looked for first.
@@ -312,16 +327,18 @@ pub fn feature_at<'a>(
         reads: true,
     };
     let mut parts = FeatureParts::none();
-    let Some(rest) = object_into::<FeatureParts>(alloc, depth_left, &mut parts, bytes, start)?
-    else {
-        return Err(Stop::Fault(GeoFaultKind::NotObject));
-    };
-    let FeatureParts { kind, fields } = parts;
-    if let Some(fault) = type_fault(&kind) {
-        return Err(Stop::Fault(fault));
-    }
-    match feature_of(fields, start, counts) {
-        Err(fault) => Err(Stop::Fault(fault)),
-        Ok(feature) => Ok((feature, rest)),
+    match object_into::<FeatureParts>(alloc, depth_left, &mut parts, bytes, start) {
+        Err(fault) => {
+            drop(parts);
+            Err(Stop::from(fault))
+        }
+        Ok(None) => {
+            drop(parts);
+            Err(Stop::Fault(GeoFaultKind::NotObject))
+        }
+        Ok(Some(rest)) => match parts.feature(start, counts) {
+            Err(fault) => Err(Stop::Fault(fault)),
+            Ok(feature) => Ok((feature, rest)),
+        },
     }
 }

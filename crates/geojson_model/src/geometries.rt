@@ -11,6 +11,7 @@ ghost use Rattle.geojson_meaning.specs.declared.types.GeometryType.TheVariants a
 ghost use Rattle.json_cursor.specs.Held.{FindsValue};
 ghost use Rattle.json_cursor.specs.Names.{name_of};
 ghost use Rattle.geojson_model.specs.Members.{BeginsGeometry, IsCoordinates, BeginsAt, IsParts, IsRead, IsOccurrence, IsTaken, IsType, Judges, LeadsGeometry, Sees, part, twice};
+ghost use Rattle.geojson_model.specs.Members as spec;
 ghost use Rattle.geojson_model.specs.declared.geometries.Start.{Start as Begun};
 
 use crate::leading::{first_fault, led_at, twice_at};
@@ -319,6 +320,24 @@ fn coordinates_of(
     }
 }
 
+/// The type of a geometry whose member `type` was seen so.
+#[inline(always)]
+fn kind_of(
+    occurrence: Occurrence<Result<GeoJsonType, GeoFaultKind>>,
+) -> Result<GeometryType, GeoFaultKind>
+    ensures { result ≡ spec.kind_of occurrence }
+{
+    match occurrence {
+        Occurrence::Never => Err(GeoFaultKind::Missing),
+        Occurrence::Again => Err(GeoFaultKind::Duplicate),
+        Occurrence::Once(named) => match named {
+            Err(fault) => Err(fault),
+            Ok(GeoJsonType::Geometry(kind)) => Ok(kind),
+            Ok(_) => Err(GeoFaultKind::UnknownType),
+        },
+    }
+}
+
 /// What the member `geometries` is.
 #[cycle(geometries)]
 fn group_of(
@@ -360,23 +379,21 @@ pub(crate) fn shape_of(
         coordinates,
         geometries,
     } = parts;
-    match kind {
-        Occurrence::Never => Err(Stop::Fault(GeoFaultKind::Missing)),
-        Occurrence::Again => Err(Stop::Fault(GeoFaultKind::Duplicate)),
-        Occurrence::Once(named) => match named {
-            Err(fault) => Err(Stop::Fault(fault)),
-            Ok(kind) => match kind {
-                GeoJsonType::FeatureCollection => Err(Stop::Fault(GeoFaultKind::UnknownType)),
-                GeoJsonType::Feature => Err(Stop::Fault(GeoFaultKind::UnknownType)),
-                GeoJsonType::Geometry(geometry) => match geometry {
-                    GeometryType::Collection => group_of(
-                        alloc, depth_left, geometries, start, counts,
-                    ),
-                    GeometryType::Coordinates(kind) => {
-                        coordinates_of(alloc, depth_left, kind, coordinates, start, counts)
-                    }
-                },
-            },
+    match kind_of(kind) {
+        Err(fault) => {
+            drop(coordinates);
+            drop(geometries);
+            Err(Stop::Fault(fault))
+        }
+        Ok(kind) => match kind {
+            GeometryType::Collection => {
+                drop(coordinates);
+                group_of(alloc, depth_left, geometries, start, counts)
+            }
+            GeometryType::Coordinates(kind) => {
+                drop(geometries);
+                coordinates_of(alloc, depth_left, kind, coordinates, start, counts)
+            }
         },
     }
 }
@@ -418,12 +435,19 @@ fn any_geometry_at<'a>(
         reads: true,
     };
     let mut parts = Parts::none();
-    let Some(rest) = object_into::<Parts<'a>>(alloc, depth_left, &mut parts, bytes, start)? else {
-        return Err(Stop::Fault(GeoFaultKind::WrongKind));
-    };
-    match shape_of(alloc, depth_left - 1, parts, start, counts) {
-        Err(stop) => Err(stop),
-        Ok(shape) => Ok((shape, rest)),
+    match object_into::<Parts<'a>>(alloc, depth_left, &mut parts, bytes, start) {
+        Err(fault) => {
+            drop(parts);
+            Err(Stop::from(fault))
+        }
+        Ok(None) => {
+            drop(parts);
+            Err(Stop::Fault(GeoFaultKind::WrongKind))
+        }
+        Ok(Some(rest)) => match shape_of(alloc, depth_left - 1, parts, start, counts) {
+            Err(stop) => Err(stop),
+            Ok(shape) => Ok((shape, rest)),
+        },
     }
 }
 
@@ -457,11 +481,18 @@ fn led_geometry_at<'a>(
             if let Some(rest) = after_byte(b'}', skip(after)) {
                 return Ok((shape, rest));
             }
-            let met = twice_at(alloc, depth_left, kind, bytes)?;
-            match met {
-                None => Err(Stop::Fault(GeoFaultKind::WrongKind)),
-                Some((twice, rest)) => {
+            match twice_at(alloc, depth_left, kind, bytes) {
+                Err(fault) => {
+                    drop(shape);
+                    Err(Stop::from(fault))
+                }
+                Ok(None) => {
+                    drop(shape);
+                    Err(Stop::Fault(GeoFaultKind::WrongKind))
+                }
+                Ok(Some((twice, rest))) => {
                     if twice {
+                        drop(shape);
                         return Err(Stop::Fault(GeoFaultKind::Duplicate));
                     }
                     Ok((shape, rest))

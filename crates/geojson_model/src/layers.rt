@@ -288,11 +288,28 @@ fn features_of(
         features,
     } = parts;
     match type_of(&bare.kind) {
-        Err(fault) => Err(Stop::Fault(fault_within(None, fault))),
+        Err(fault) => {
+            drop(bare);
+            drop(fields);
+            drop(features);
+            Err(Stop::Fault(fault_within(None, fault)))
+        }
         Ok(kind) => match kind {
-            GeoJsonType::FeatureCollection => collection_of(features, counts),
-            GeoJsonType::Feature => single_of(alloc, fields, start, counts),
-            GeoJsonType::Geometry(_) => bare_of(alloc, depth_left, bare, start, counts),
+            GeoJsonType::FeatureCollection => {
+                drop(bare);
+                drop(fields);
+                collection_of(features, counts)
+            }
+            GeoJsonType::Feature => {
+                drop(bare);
+                drop(features);
+                single_of(alloc, fields, start, counts)
+            }
+            GeoJsonType::Geometry(_) => {
+                drop(fields);
+                drop(features);
+                bare_of(alloc, depth_left, bare, start, counts)
+            }
         },
     }
 }
@@ -314,15 +331,21 @@ pub fn layer_at<'a>(
         reads: true,
     };
     let mut parts = LayerParts::none();
-    let Some(rest) = object_into::<LayerParts<'a>>(alloc, depth_left, &mut parts, bytes, start)?
-    else {
-        let rest = after_value(alloc, depth_left, bytes)?;
-        return Ok((Err(fault_within(None, GeoFaultKind::NotObject)), rest));
-    };
-    match features_of(alloc, depth_left - 1, parts, start, counts) {
-        Ok(features) => Ok((Ok(features), rest)),
-        Err(Stop::Fault(fault)) => Ok((Err(fault), rest)),
-        Err(Stop::NoValue) => unreachable!(),
-        Err(Stop::Memory) => Err(Fault::Memory),
+    match object_into::<LayerParts<'a>>(alloc, depth_left, &mut parts, bytes, start) {
+        Err(fault) => {
+            drop(parts);
+            Err(fault)
+        }
+        Ok(None) => {
+            drop(parts);
+            let rest = after_value(alloc, depth_left, bytes)?;
+            Ok((Err(fault_within(None, GeoFaultKind::NotObject)), rest))
+        }
+        Ok(Some(rest)) => match features_of(alloc, depth_left - 1, parts, start, counts) {
+            Ok(features) => Ok((Ok(features), rest)),
+            Err(Stop::Fault(fault)) => Ok((Err(fault), rest)),
+            Err(Stop::NoValue) => unreachable!(),
+            Err(Stop::Memory) => Err(Fault::Memory),
+        },
     }
 }

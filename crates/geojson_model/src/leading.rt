@@ -45,21 +45,25 @@ pub(crate) fn led_at<'a>(
     if let Some(_) = after_byte(b'}', skip(inside)) {
         return Ok(None);
     }
-    let Some((_type, value)) = named_at("type", skip(inside)) else {
+    let Some((word, value)) = named_at("type", skip(inside)) else {
         return Ok(None);
     };
+    drop(word);
     let Some((name, rest)) = type_name_at(alloc, value)? else {
         return Ok(None);
     };
-    let Some(kind) = geometry_type(name.as_str()) else {
+    let named = geometry_type(name.as_str());
+    drop(name);
+    let Some(kind) = named else {
         return Ok(None);
     };
     let Some(more) = after_byte(b',', skip(rest)) else {
         return Ok(None);
     };
-    let Some((_part, prefix)) = named_at(part_word(kind), skip(more)) else {
+    let Some((part, prefix)) = named_at(part_word(kind), skip(more)) else {
         return Ok(None);
     };
+    drop(part);
     Ok(Some((kind, prefix)))
 }
 
@@ -79,10 +83,13 @@ pub(crate) fn twice_at<'a>(
         reads: false,
     };
     let mut parts = Parts::none();
-    let Some(rest) = object_into::<Parts<'a>>(alloc, depth_left, &mut parts, bytes, start)? else {
-        return Ok(None);
+    let read = match object_into::<Parts<'a>>(alloc, depth_left, &mut parts, bytes, start) {
+        Err(fault) => Err(fault),
+        Ok(None) => Ok(None),
+        Ok(Some(rest)) => Ok(Some((parts.stand_twice(kind), rest))),
     };
-    Ok(Some((parts.stand_twice(kind), rest)))
+    drop(parts);
+    read
 }
 
 /// The first fault of a geometry whose member has this one: a name that stands twice comes before it.

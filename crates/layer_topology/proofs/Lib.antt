@@ -5,3 +5,4 @@ pub mod Kept
 pub mod Laid
 pub mod Made
 pub mod Snapping
+pub mod Unvisited

@@ -7,11 +7,13 @@ ghost use Rattle.build_meaning.specs.Laws.{AreSound};
 ghost use Rattle.build_meaning.specs.Layers.{layers_of, names_of};
 ghost use Rattle.byte_ends.specs.Ends.{saturated};
 ghost use Rattle.cutter.specs.Slices.{split_of};
+ghost use Rattle.elimination_meaning.specs.Elimination.{reduce};
 ghost use Rattle.geometry.specs.Units.{threshold_limit};
 ghost use Rattle.simplified_topology.specs.Quantized.{AreInputs, IsCount, named_grid};
 ghost use Rattle.layer_topology.specs.Levels.{calls_at, chosen_at, is_level, level_calls, level_chosen, level_threshold, threshold_at};
 ghost use Rattle.layer_topology.specs.Written.{AreTaken, snapped_to, written};
 ghost use Rattle.simplified_topology.specs.Assembled.{arcs_of_layers};
+ghost use Rattle.simplified_topology.specs.Simplified.{retained_arcs};
 ghost use Rattle.linework.specs.Linework.{linework};
 ghost use Rattle.topojson_types.specs.Validity.{AreDistinct};
 
@@ -24,7 +26,7 @@ use cutter::{Pieces, cut};
 use effective_area::Reducer;
 use geojson_types::{Dropped, Layer};
 use grid_snap::Grid;
-use json_value::OwnText;
+use json_value::{Items, OwnText};
 use linework::{Lines, OfLayers, Vertices};
 use owned_values::Memory;
 use simplified_topology::{
@@ -33,15 +35,24 @@ use simplified_topology::{
 };
 use std::alloc::Global;
 use topo_model::{assemble_retained, position_counts};
-use topojson_types::Topology;
+use topojson_types::{ArcRef, Cell, Topology};
 
 /// The lines and rings of the layers, cut. What was known of their positions is given back.
 fn cut_lines(alloc: Global, layers: &[(OwnText, Layer)]) -> Result<Pieces, Memory>
     ensures { IfOk result (λ ps. ps ≡ map (split_of (linework (layers_of layers.now))) (linework (layers_of layers.now))) }
 {
     let lines = Lines::of_named(alloc, layers)?;
-    let vertices = Vertices::of(alloc, &lines)?;
-    cut(alloc, lines, &vertices)
+    match Vertices::of(alloc, &lines) {
+        Ok(vertices) => {
+            let pieces = cut(alloc, lines, &vertices);
+            drop(vertices);
+            pieces
+        }
+        Err(fault) => {
+            drop(lines);
+            Err(fault)
+        }
+    }
 }
 
 /// The arcs that the lines and rings of the layers share.
@@ -50,6 +61,38 @@ fn shared_arcs(alloc: Global, layers: &[(OwnText, Layer)]) -> Result<Table, Memo
 {
     let pieces = cut_lines(alloc, layers)?;
     Table::build(alloc, pieces)
+}
+
+/// The lines and rings of the layers by the arcs that they share, how many positions each arc has, of each arc the positions that stay,
+/// and the threshold, where it was chosen.
+fn shared_and_reduced<Q: Reducer>(
+    alloc: Global,
+    reducer: &mut Q,
+    layers: &[(OwnText, Layer)],
+    level: Level,
+) -> Result<
+    (
+        Vec<Items<ArcRef>>,
+        Vec<usize>,
+        Vec<Items<Cell>>,
+        Option<u128>,
+    ),
+    Memory,
+>
+    requires level { is_level level ≡ true }
+    ensures refs { IfOk result
+        (λ r. r.0.items ≡ (table_of (map (split_of (linework (layers_of layers.now))) (linework (layers_of layers.now)))).refs) }
+    ensures counts { IfOk result (λ r. r.1.items ≡ map length (arcs_of_layers layers.now)) }
+    ensures retained { IfOk result (λ r. r.2.items
+        ≡ retained_arcs (map (reduce (threshold_at level (arcs_of_layers layers.now))) (arcs_of_layers layers.now)) (arcs_of_layers layers.now)) }
+    ensures chosen { IfOk result (λ r. r.3 ≡ chosen_at level (arcs_of_layers layers.now)) }
+    ensures called { IfOk result (λ _. Q.calls reducer.new ≡ Q.calls reducer.old + calls_at level (arcs_of_layers layers.now)) }
+{
+    let table = shared_arcs(alloc, layers)?;
+    let (arcs, refs) = table.into_parts();
+    let counts = position_counts(alloc, &arcs)?;
+    let (left, chosen) = left_of_arcs(alloc, reducer, arcs, level)?;
+    Ok((refs, counts, left, chosen))
 }
 
 /// The topology that is built of named layers, each arc reduced once, without rings under the limit, the lines and rings that are
@@ -76,14 +119,18 @@ fn reduced_topology<Q: Reducer>(
     assembles_to_built();
     assembling_drops_expected();
     assembling_removes();
-    let table = shared_arcs(alloc, &layers)?;
-    let (arcs, refs) = table.into_parts();
-    let counts = position_counts(alloc, &arcs)?;
-    let (left, chosen) = left_of_arcs(alloc, reducer, arcs, level)?;
-    let (topology, dropped, removed_count) = assemble_retained(
-        alloc, layers, refs, left, &counts, ring_limit,
-    )?;
-    Ok((topology, dropped, removed_count, chosen))
+    match shared_and_reduced(alloc, reducer, &layers, level) {
+        Ok((refs, counts, left, chosen)) => {
+            let (topology, dropped, removed_count) = assemble_retained(
+                alloc, layers, refs, left, &counts, ring_limit,
+            )?;
+            Ok((topology, dropped, removed_count, chosen))
+        }
+        Err(fault) => {
+            drop(layers);
+            Err(fault)
+        }
+    }
 }
 
 /// The layers snapped to the grid that is asked for, if one is, and the grid.
@@ -130,6 +177,11 @@ pub fn topology_of_layers<Q: Reducer>(
     let (topology, dropped, removed_count, chosen) = reduced_topology(
         alloc, reducer, snapped, level, ring_limit,
     )?;
-    let topology = on_grid(alloc, topology, grid)?;
-    Ok((topology, dropped, removed_count, chosen))
+    match on_grid(alloc, topology, grid) {
+        Ok(topology) => Ok((topology, dropped, removed_count, chosen)),
+        Err(fault) => {
+            drop(dropped);
+            Err(fault)
+        }
+    }
 }

@@ -37,9 +37,12 @@ pub fn on_grid(alloc: Global, topology: Topology, grid: Option<Grid>) -> Result<
 {
     match grid {
         None => Ok(topology),
-        Some(grid) => {
-            let transform = transform(alloc, &grid)?;
-            Ok(with_cells(topology, &grid, transform))
-        }
+        Some(grid) => match transform(alloc, &grid) {
+            Ok(transform) => Ok(with_cells(topology, &grid, transform)),
+            Err(fault) => {
+                drop(topology);
+                Err(fault)
+            }
+        },
     }
 }

@@ -28,6 +28,26 @@ pub fn units_number(alloc: Global, units: i64) -> Result<TransformNumber, Memory
     }
 }
 
+/// The numbers of a transform for both axes.
+fn units_numbers(
+    alloc: Global,
+    x: i64,
+    y: i64,
+) -> Result<(TransformNumber, TransformNumber), Memory>
+    requires x { unsigned_abs x ≤ position_limit }
+    requires y { unsigned_abs y ≤ position_limit }
+    ensures { IfOk result (λ n. n ≡ (units_text x unit_places, units_text y unit_places)) }
+{
+    let first = units_number(alloc, x)?;
+    match units_number(alloc, y) {
+        Ok(second) => Ok((first, second)),
+        Err(fault) => {
+            drop(first);
+            Err(fault)
+        }
+    }
+}
+
 /// The transform by which the cells of the grid lie at its positions: its steps as scale, and its first coordinates as translation.
 #[tactic(auto, unfolding(simplified_topology::specs::GridTransforms::transform_of))]
 pub fn transform(alloc: Global, grid: &Grid) -> Result<Transform, Memory>
@@ -36,11 +56,12 @@ pub fn transform(alloc: Global, grid: &Grid) -> Result<Transform, Memory>
     grid.law();
     let (step_x, step_y) = grid.step();
     let origin = grid.origin();
-    Ok(Transform {
-        scale: (units_number(alloc, step_x)?, units_number(alloc, step_y)?),
-        translate: (
-            units_number(alloc, origin.x())?,
-            units_number(alloc, origin.y())?,
-        ),
-    })
+    let scale = units_numbers(alloc, step_x, step_y)?;
+    match units_numbers(alloc, origin.x(), origin.y()) {
+        Ok(translate) => Ok(Transform { scale, translate }),
+        Err(fault) => {
+            drop(scale);
+            Err(fault)
+        }
+    }
 }

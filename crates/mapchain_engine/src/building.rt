@@ -67,8 +67,15 @@ fn build_layers<Q: Reducer, R: Feed, W: Drain>(
         options.ring_limit,
     )?;
     let report = report_of(counts, dropped, topology.arcs(), removed, chosen);
-    send(&topology, sink)?;
-    Ok(report)
+    let sent = send(&topology, sink);
+    drop(topology);
+    match sent {
+        Ok(()) => Ok(report),
+        Err(fault) => {
+            drop(report);
+            Err(fault)
+        }
+    }
 }
 
 /// Builds the topology (TopoJSON 1.0) of named layers (RFC 7946), each read from its source to the end, and writes it.

@@ -53,7 +53,10 @@ pub fn to_geo<R: Feed, W: Drain>(
     decoded_text_is_utf8();
     let (topology, _counts) = read_file(alloc, source)?;
     let Some(object) = named_object(&topology, name) else {
+        drop(topology);
         return Err(FileFault::NoObject);
     };
-    send(&topology, object, sink)
+    let sent = send(&topology, object, sink);
+    drop(topology);
+    sent
 }

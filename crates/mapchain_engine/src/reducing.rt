@@ -89,6 +89,25 @@ fn reduced_arcs<Q: Reducer>(
     Ok(left)
 }
 
+/// How many positions each arc has, and of each arc the cells that stay.
+fn counted_and_reduced<Q: Reducer>(
+    alloc: Global,
+    reducer: &mut Q,
+    transform: Option<&Transform>,
+    arcs: Vec<Items<Cell>>,
+    t: u128,
+) -> Result<(Vec<usize>, Vec<Items<Cell>>), Memory>
+    requires { AllByRecursion (IsArc (option_copied transform)) arcs.items }
+    ensures counts { IfOk result (λ r. r.0.items ≡ map length arcs.items) }
+    ensures retained { IfOk result
+        (λ r. r.1.items ≡ retained_arcs (map (λ cells. reduce t (placed_cells (option_copied transform.entry) cells)) arcs.items) arcs.items) }
+    ensures called { IfOk result (λ _. Q.calls reducer.new ≡ Q.calls reducer.old + length arcs.items) }
+{
+    let counts = position_counts(alloc, &arcs)?;
+    let left = reduced_arcs(alloc, reducer, transform, arcs, t)?;
+    Ok((counts, left))
+}
+
 /// What is left of a topology where each arc is reduced once at a threshold and rings under a limit are left out, the lines and rings
 /// that are dropped, and how many positions are removed from the arcs that stay.
 fn reduced_topology<Q: Reducer>(
@@ -106,10 +125,14 @@ fn reduced_topology<Q: Reducer>(
 {
     indexes_reach();
     let (objects, lines, transform) = topology.into_parts();
-    let arcs = lines.into_inner();
-    let counts = position_counts(alloc, &arcs)?;
-    let left = reduced_arcs(alloc, reducer, transform.as_ref(), arcs, t)?;
-    reassemble(alloc, objects, left, &counts, transform, ring_limit)
+    match counted_and_reduced(alloc, reducer, transform.as_ref(), lines.into_inner(), t) {
+        Ok((counts, left)) => reassemble(alloc, objects, left, &counts, transform, ring_limit),
+        Err(fault) => {
+            drop(transform);
+            drop(objects);
+            Err(fault)
+        }
+    }
 }
 
 /// What is left of a topology, with these counts, where each arc is reduced at a threshold and rings under a

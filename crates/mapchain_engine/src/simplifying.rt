@@ -80,6 +80,13 @@ pub fn simplify<Q: Reducer, R: Feed, W: Drain>(
 {
     simplified_text_is_utf8();
     let (less, report) = read_and_simplify(alloc, reducer, source, t, ring_limit)?;
-    send(&less, sink)?;
-    Ok(report)
+    let sent = send(&less, sink);
+    drop(less);
+    match sent {
+        Ok(_) => Ok(report),
+        Err(fault) => {
+            drop(report);
+            Err(fault)
+        }
+    }
 }

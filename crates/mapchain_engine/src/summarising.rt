@@ -31,6 +31,7 @@ pub fn stat<R: Feed>(alloc: Global, source: &mut Source<R>) -> Result<Summary, F
         parts.objects.as_slice(),
         parts.arcs.as_slice(),
         parts.transform.is_some(),
-    )?;
-    Ok(summary)
+    );
+    drop(parts);
+    Ok(summary?)
 }

@@ -176,12 +176,20 @@ fn drafted_feature(
     ensures { IfOk result (λ made. Drafts (option_lines_and_rings feature.shape) (λ of. feature_drafted of feature) remaining.old made remaining.new) }
 {
     let (id, properties, shape) = feature.into_parts();
-    let shape = drafted_option(alloc, &shape, remaining)?;
-    Ok(TopoFeature {
-        id,
-        properties,
-        shape,
-    })
+    let drafted = drafted_option(alloc, &shape, remaining);
+    drop(shape);
+    match drafted {
+        Err(fault) => {
+            drop(id);
+            drop(properties);
+            Err(fault)
+        }
+        Ok(shape) => Ok(TopoFeature {
+            id,
+            properties,
+            shape,
+        }),
+    }
 }
 
 /// The features with the lines and rings of their shapes replaced, in order.

@@ -62,14 +62,21 @@ pub fn reassemble(
         → counts.now ≡ map length arcs → r.2 ≡ saturated (removed_count_by kept ring_limit (contents objects arcs transform))) }
 {
     simplified_is_valid();
-    let left = left_parts(
+    match left_parts(
         alloc,
         objects.into_inner(),
         retained,
         counts,
         transform.as_ref(),
         ring_limit,
-    )?;
-    let topology = Topology::of(Items::of(left.objects), Items::of(left.arcs), transform);
-    Ok((topology, left.dropped, left.removed_count))
+    ) {
+        Err(fault) => {
+            drop(transform);
+            Err(fault)
+        }
+        Ok(left) => {
+            let topology = Topology::of(Items::of(left.objects), Items::of(left.arcs), transform);
+            Ok((topology, left.dropped, left.removed_count))
+        }
+    }
 }

@@ -27,10 +27,26 @@ fn reduced_topology(
     ensures dropped { IfOk result (λ r. r.1.items ≡ dropped_by (map (λ k. k.items) kept.now) ring_limit topology) }
     ensures removed_count { IfOk result (λ r. r.2 ≡ saturated (removed_count_by (map (λ k. k.items) kept.now) ring_limit topology)) }
 {
-    let counts = position_counts(alloc, topology.arcs())?;
-    let retained = cells_of_all(alloc, kept, topology.arcs())?;
-    let (objects, _arcs, transform) = topology.into_parts();
-    reassemble(alloc, objects, retained, &counts, transform, ring_limit)
+    let counts = match position_counts(alloc, topology.arcs()) {
+        Ok(counts) => counts,
+        Err(fault) => {
+            drop(topology);
+            return Err(fault);
+        }
+    };
+    let retained = match cells_of_all(alloc, kept, topology.arcs()) {
+        Ok(retained) => retained,
+        Err(fault) => {
+            drop(topology);
+            drop(counts);
+            return Err(fault);
+        }
+    };
+    let (objects, arcs, transform) = topology.into_parts();
+    drop(arcs);
+    let reduced = reassemble(alloc, objects, retained, &counts, transform, ring_limit);
+    drop(counts);
+    reduced
 }
 
 /// What can be simplified as a topology can: of each of its arcs only given cells stay.

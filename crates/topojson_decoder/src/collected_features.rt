@@ -1,5 +1,5 @@
 // Features in collections (TopoJSON 1.0, section 2.2).
-ghost use Rattle.std.specs.Prelude.{◌≡◌, length};
+ghost use Rattle.std.specs.Prelude.{◌≡◌, [], ℕ, length};
 ghost use Rattle.std.specs.Option.{option_copied};
 ghost use Rattle.json_value.specs.Members.{Members as Listed};
 ghost use Rattle.json_cursor.specs.Answers.{Answers};
@@ -39,6 +39,29 @@ fn typed_feature_of(
     }
 }
 
+/// What is kept of the feature at the front, and what follows it; or why reading stops. What is seen of its members goes into `occurrence`,
+/// which holds none yet, and what is kept of them is moved out of there.
+#[inline(always)]
+fn feature_into<'a>(
+    alloc: Global,
+    depth_left: u32,
+    occurrence: &mut FeatureParts<'a>,
+    bytes: &'a [u8],
+    start: Start<'a>,
+    counts: &mut Counts,
+) -> Result<(TopoFeature, &'a [u8]), Stop<TopoFault>>
+    ensures { ((d : ℕ) → IsFeature start.entry d [] occurrence.old) → counts.old ≡ start.entry.counts → Answers (λ x. x) (kept_feature start.entry.keeping (option_copied start.entry.transform) start.entry.arcs.now) (prefix_value depth_left bytes.now) start.entry.counts counts.new result }
+{
+    let Some(rest) = object_into::<FeatureParts<'a>>(alloc, depth_left, occurrence, bytes, start)?
+    else {
+        return Err(Stop::Fault(TopoFault::WrongKind));
+    };
+    match typed_feature_of(alloc, depth_left - 1, occurrence, start, counts) {
+        Err(stop) => Err(stop),
+        Ok(feature) => Ok((feature, rest)),
+    }
+}
+
 /// What is kept of the feature at the front that is a geometry in a collection, and what follows it; or why reading stops. Its members may
 /// stand in any order.
 #[inline(always)]
@@ -60,20 +83,7 @@ fn kept_feature_at<'a>(
         keeping,
     };
     let mut occurrence = FeatureParts::none();
-    let Some(rest) = object_into::<FeatureParts<'a>>(
-        alloc,
-        depth_left,
-        &mut occurrence,
-        bytes,
-        start,
-    )?
-    else {
-        return Err(Stop::Fault(TopoFault::WrongKind));
-    };
-    match typed_feature_of(alloc, depth_left - 1, &mut occurrence, start, counts) {
-        Err(stop) => Err(stop),
-        Ok(feature) => Ok((feature, rest)),
-    }
+    feature_into(alloc, depth_left, &mut occurrence, bytes, start, counts)
 }
 
 /// The feature at the front that is a geometry in a collection, and what follows it; or why reading stops. Its members may stand in any

@@ -1,5 +1,5 @@
 // Geometries inside collections (TopoJSON 1.0, section 2.2.7).
-ghost use Rattle.std.specs.Prelude.{◌≡◌, ◌++◌, OnOk, Some, codes, length, option_to_list};
+ghost use Rattle.std.specs.Prelude.{◌≡◌, [], ℕ, ◌++◌, OnOk, Some, codes, length, option_to_list};
 ghost use Rattle.std.specs.Option.{option_copied};
 ghost use Rattle.json_value.specs.Members.{Members as Listed, named};
 ghost use Rattle.json_cursor.specs.Answers.{Answers};
@@ -118,6 +118,31 @@ fn shape_of(
     }
 }
 
+/// The geometry at the front, which is none where nothing is left of it, and what follows it; or why reading stops. What is seen of its
+/// members goes into `parts`, which hold none yet, and what is read of them is moved out of there.
+#[cycle(geometries)]
+#[inline(always)]
+fn geometry_into<'a>(
+    alloc: Global,
+    depth_left: u32,
+    parts: &mut GeometryParts<'a>,
+    bytes: &'a [u8],
+    start: Start<'a>,
+    counts: &mut Counts,
+) -> Result<(Option<TopoShape>, &'a [u8]), Stop<TopoFault>>
+    ensures { ((d : ℕ) → IsParts start.entry d [] parts.old) → counts.old ≡ start.entry.counts
+        → Answers (λ x. x) (shape (option_copied start.entry.transform) start.entry.arcs.now) (prefix_value depth_left bytes.now) start.entry.counts counts.new result }
+{
+    let Some(rest) = object_into::<GeometryParts<'a>>(alloc, depth_left, parts, bytes, start)?
+    else {
+        return Err(Stop::Fault(TopoFault::WrongKind));
+    };
+    match shape_of(alloc, depth_left - 1, parts, start, counts) {
+        Err(stop) => Err(stop),
+        Ok(shape) => Ok((shape, rest)),
+    }
+}
+
 /// The geometry at the front, which is none where nothing is left of it, and what follows it; or why reading stops. Its members may stand
 /// in any order.
 #[cycle(geometries)]
@@ -138,14 +163,7 @@ pub fn geometry_at<'a>(
         keeping: Keeping::Whole,
     };
     let mut parts = GeometryParts::none();
-    let Some(rest) = object_into::<GeometryParts<'a>>(alloc, depth_left, &mut parts, bytes, start)?
-    else {
-        return Err(Stop::Fault(TopoFault::WrongKind));
-    };
-    match shape_of(alloc, depth_left - 1, &mut parts, start, counts) {
-        Err(stop) => Err(stop),
-        Ok(shape) => Ok((shape, rest)),
-    }
+    geometry_into(alloc, depth_left, &mut parts, bytes, start, counts)
 }
 
 /// Puts one after the others, if there is one.

@@ -69,6 +69,7 @@ impl<'a> Members<'a> for NamedObjects {
     ) -> Result<&'a [u8], Fault> {
         let (name, value) = name_at(alloc, bytes)?;
         if self.failed.is_some() {
+            drop(name);
             let rest = after_value(alloc, depth_left, value)?;
             return Ok(rest);
         }
@@ -82,7 +83,13 @@ impl<'a> Members<'a> for NamedObjects {
             value,
             &mut self.counts,
         );
-        let (object, rest) = held(alloc, depth_left, value, answer)?;
+        let (object, rest) = match held(alloc, depth_left, value, answer) {
+            Err(fault) => {
+                drop(name);
+                return Err(fault);
+            }
+            Ok(read) => read,
+        };
         match object {
             Ok(object) => {
                 self.list.push((name, object))?;

@@ -232,26 +232,45 @@ fn collection_of(
     }
 }
 
+/// The features among the members of an object, of which the others are dropped.
+fn features_in<'a>(occurrence: ObjectParts<'a>) -> Occurrence<Features<'a>>
+    ensures { result ≡ occurrence.entry.features }
+{
+    let ObjectParts { feature, features } = occurrence;
+    drop(feature);
+    features
+}
+
 /// The object whose members were seen so.
 fn object_of(
     alloc: Global,
     depth_left: u32,
-    occurrence: ObjectParts<'_>,
+    mut occurrence: ObjectParts<'_>,
     start: Start<'_>,
     counts: &mut Counts,
 ) -> Result<TopoObject, Stop<TopoFault>>
     ensures { (ms : Listed) → IsObject start.entry depth_left ms occurrence.entry → Judges (kept_typed_object start.entry ms) start.entry.counts counts.new result }
 {
-    let ObjectParts { feature, features } = occurrence;
-    let kind = match kind_of(&feature.parts.kind) {
-        Err(fault) => return Err(Stop::Fault(fault)),
+    let kind = match kind_of(&occurrence.feature.parts.kind) {
+        Err(fault) => {
+            drop(occurrence);
+            return Err(Stop::Fault(fault));
+        }
         Ok(kind) => kind,
     };
     if is_collection(kind) {
-        return collection_of(alloc, depth_left, features, start, counts);
+        return collection_of(alloc, depth_left, features_in(occurrence), start, counts);
     }
-    let mut feature = feature;
-    match feature_of(alloc, depth_left, kind, &mut feature, start, counts) {
+    let read = feature_of(
+        alloc,
+        depth_left,
+        kind,
+        &mut occurrence.feature,
+        start,
+        counts,
+    );
+    drop(occurrence);
+    match read {
         Err(stop) => Err(stop),
         Ok(feature) => Ok(TopoObject::One(feature)),
     }

@@ -21,7 +21,9 @@ pub fn read_topology(alloc: Global, value: Json) -> Result<(Topology, Counts), T
     ensures topology { IfOk result (λ r. spec.topology value ≡ Ok (r.0, r.1)) }
     ensures fault { IfErr result (λ e. e ≢ Memory → spec.topology value ≡ Err e) }
 {
-    let text = value_text(alloc, &value)?;
+    let written = value_text(alloc, &value);
+    drop(value);
+    let text = written?;
     let mut counts = Counts::none();
     match topology_at(alloc, u32::MAX, &text, &mut counts) {
         Ok((parts, _)) => Ok((topology_of(parts), counts)),

@@ -75,6 +75,7 @@ pub fn read_parts(alloc: Global, keeping: Keeping, bytes: &[u8]) -> Result<(Part
             if following.is_empty() {
                 return Ok((parts, counts));
             }
+            drop(parts);
             Err(Refusal::Text(malformed(alloc, bytes)))
         }
         Err(Stop::NoValue) => Err(Refusal::Text(malformed(alloc, bytes))),

@@ -178,14 +178,22 @@ fn parts_of(
         objects,
     } = index;
     if let Err(stop) = type_of(alloc, depth_left, kind) {
+        drop(transform);
+        drop(arcs);
         return Err(stop);
     }
     let transform = match transform_of(transform) {
-        Err(fault) => return Err(Stop::Fault(fault)),
+        Err(fault) => {
+            drop(arcs);
+            return Err(Stop::Fault(fault));
+        }
         Ok(transform) => transform,
     };
     let arcs = match arcs_of(alloc, depth_left, transform.as_ref(), arcs, counts) {
-        Err(stop) => return Err(stop),
+        Err(stop) => {
+            drop(transform);
+            return Err(stop);
+        }
         Ok(arcs) => arcs,
     };
     match objects_of(
@@ -197,7 +205,11 @@ fn parts_of(
         objects,
         counts,
     ) {
-        Err(stop) => Err(stop),
+        Err(stop) => {
+            drop(transform);
+            drop(arcs);
+            Err(stop)
+        }
         Ok(objects) => {
             Ok(Parts {
                 objects,

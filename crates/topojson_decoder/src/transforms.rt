@@ -200,19 +200,31 @@ fn transform_of(parts: TransformParts) -> Result<Transform, TopoFault>
 {
     let TransformParts { scale, translate } = parts;
     let scale_texts = match needed_texts(scale) {
-        Err(fault) => return Err(fault),
+        Err(fault) => {
+            drop(translate);
+            return Err(fault);
+        }
         Ok(texts) => texts,
     };
     let translate_texts = match needed_texts(translate) {
-        Err(fault) => return Err(fault),
+        Err(fault) => {
+            drop(scale_texts);
+            return Err(fault);
+        }
         Ok(texts) => texts,
     };
     let scale = match numbers_of(scale_texts) {
-        Err(fault) => return Err(fault),
+        Err(fault) => {
+            drop(translate_texts);
+            return Err(fault);
+        }
         Ok(numbers) => numbers,
     };
     match numbers_of(translate_texts) {
-        Err(fault) => Err(fault),
+        Err(fault) => {
+            drop(scale);
+            Err(fault)
+        }
         Ok(translate) => Ok(Transform { scale, translate }),
     }
 }

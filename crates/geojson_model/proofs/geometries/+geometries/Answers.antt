@@ -1,4 +1,4 @@
-use Rattle.std.proofs.Common.{[], ◌-◌, List, length, refl, subst, sym, ◌∙◌}
+use Rattle.std.proofs.Common.{[], ◌-◌, List, Ok, ap, length, refl, subst, sym, ◌∙◌}
 use Rattle.geojson_types.specs.Features.{Shape}
 use Rattle.json_cursor.specs.Answers.{Reads}
 use Rattle.std.specs.Str.{is_utf8}
@@ -8,9 +8,9 @@ use Rattle.json_cursor.specs.Folds.{fold, some_one, with_read}
 use Rattle.json_cursor.proofs.ArrayParts.{as_list, same_reads, same_stops}
 use Rattle.json_cursor.proofs.FoldedSoFar as so_far
 use Rattle.json_cursor.proofs.Openings.{is_empty, is_filled, is_no_array, too_deep}
+use Rattle.json_cursor.proofs.Steps.{text_stops}
 use Rattle.geojson_meaning.specs.Geometries.{geometry, shape, shapes, typed_geometry}
 use Rattle.geojson_meaning.specs.Reader.{kept}
-use Rattle.geojson_meaning.specs.declared.types.GeoJsonType.TheVariants.{Feature, FeatureCollection}
 use Rattle.geojson_meaning.specs.declared.types.GeometryType.TheVariants as types
 use Rattle.geojson_model.proofs.UsualGeometries.{is_usual, led_faulty, led_nothing, led_read, led_twice, one_byte}
 use Rattle.geojson_model.proofs.GeometryParts as part
@@ -37,53 +37,37 @@ group_of-returns-in-Ok t c = λ ms occurrence.
     part.grouped c.args.start.exact ms c.args.start.counts s.0 s.1 _ c.geometries_at.new.counts
     (judged_read (shapes c.args.start.exact) (prefix_value c.args.depth_left c.in-Once.prefix.now) s.0 s.2.0 c.args.start.counts c.geometries_at.new.counts s.2.1 _ _ c.in-Ok.ensures)
 
-pub shape_of-returns-in-Never : goal.shape_of-returns-in-Never
-shape_of-returns-in-Never t c = λ ms is. part.no_type c.args.start.exact ms c.args.start.counts (rw c.in-Never.is at is.kind)
-
-pub shape_of-returns-in-Again : goal.shape_of-returns-in-Again
-shape_of-returns-in-Again t c = λ ms is.
-    let s = rw c.in-Again.is at is.kind in
-    part.more_types c.args.start.exact ms c.args.start.counts s.0 s.1 s.2 s.3
-
 pub shape_of-returns-in-Err : goal.shape_of-returns-in-Err
 shape_of-returns-in-Err t c = λ ms is.
-    let s = rw c.in-Once.is at is.kind in
-    part.faulty_type c.args.start.exact ms c.args.start.counts s.0 s.1 c.in-Err.fault (rw c.in-Err.is at s.2)
-
-pub shape_of-returns-in-FeatureCollection : goal.shape_of-returns-in-FeatureCollection
-shape_of-returns-in-FeatureCollection t c = λ ms is.
-    let s = rw c.in-Once.is at is.kind in
-    part.other_type c.args.start.exact ms c.args.start.counts s.0 s.1 FeatureCollection (rw c.in-FeatureCollection.is at (rw c.in-Ok.is at s.2)) refl
-
-pub shape_of-returns-in-Feature : goal.shape_of-returns-in-Feature
-shape_of-returns-in-Feature t c = λ ms is.
-    let s = rw c.in-Once.is at is.kind in
-    part.other_type c.args.start.exact ms c.args.start.counts s.0 s.1 Feature (rw c.in-Feature.is at (rw c.in-Ok.is at s.2)) refl
+    part.is_of_kind c.args.start.exact ms c.args.start.counts c.args.parts.kind is.kind ∙ ap (part.by_geometry c.args.start.exact ms c.args.start.counts) (sym c.kind_of.ensures ∙ c.in-Err.is)
 
 pub shape_of-returns-in-Collection : goal.shape_of-returns-in-Collection
 shape_of-returns-in-Collection t c = λ ms is.
-    let s = rw c.in-Once.is at is.kind in
     part.judges_same (geometry c.args.start.exact ms) (typed_geometry c.args.start.exact types.Collection ms) c.args.start.counts _
-    (part.known_type c.args.start.exact ms c.args.start.counts s.0 s.1 types.Collection (rw c.in-Collection.is at (rw c.in-Geometry.is at (rw c.in-Ok.is at s.2)))) c.group_of.result (c.group_of.ensures ms is.geometries)
+    (part.is_of_kind c.args.start.exact ms c.args.start.counts c.args.parts.kind is.kind ∙ ap (part.by_geometry c.args.start.exact ms c.args.start.counts) (sym c.kind_of.ensures ∙ c.in-Ok.is ∙ ap Ok c.in-Collection.is))
+    c.group_of.result (c.group_of.ensures ms is.geometries)
 
 pub shape_of-returns-in-Coordinates : goal.shape_of-returns-in-Coordinates
 shape_of-returns-in-Coordinates t c = λ ms is.
-    let s = rw c.in-Once.is at is.kind in
     part.judges_same (geometry c.args.start.exact ms) (typed_geometry c.args.start.exact (types.Coordinates c.in-Coordinates.kind) ms) c.args.start.counts _
-    (part.known_type c.args.start.exact ms c.args.start.counts s.0 s.1 (types.Coordinates c.in-Coordinates.kind) (rw c.in-Coordinates.is at (rw c.in-Geometry.is at (rw c.in-Ok.is at s.2)))) c.coordinates_of.result (c.coordinates_of.ensures ms is.coordinates)
-
-pub any_geometry_at-returns-in_default : goal.any_geometry_at-returns-in_default
-any_geometry_at-returns-in_default t c = λ v rest found. part.no_object c.args.exact v c.args.counts.now ((rw c.in_default.is at c.in_ok-rest.ensures) v rest found)
+    (part.is_of_kind c.args.start.exact ms c.args.start.counts c.args.parts.kind is.kind ∙ ap (part.by_geometry c.args.start.exact ms c.args.start.counts) (sym c.kind_of.ensures ∙ c.in-Ok.is ∙ ap Ok c.in-Coordinates.is))
+    c.coordinates_of.result (c.coordinates_of.ensures ms is.coordinates)
 
 pub any_geometry_at-returns-in-Err : goal.any_geometry_at-returns-in-Err
-any_geometry_at-returns-in-Err t c =
-    let object = rw c.in-Some.is at c.in_ok-rest.ensures in
-    part.object_stops c.args.exact (prefix_value c.args.depth_left c.args.bytes.now) object.members _ c.args.counts.now object.prefix c.shape_of.new.counts c.in-Err.stop
-    (c.in-Err.ensures object.members (object.holds (c.none-parts.ensures _ (c.args.depth_left - 1))))
+any_geometry_at-returns-in-Err t c = rw c.from.ensures (text_stops (shape c.args.exact) (prefix_value c.args.depth_left c.args.bytes.now) c.args.counts.now c.in-Err.fault c.in-Err.ensures)
+
+pub any_geometry_at-returns-in-Ok-None : goal.any_geometry_at-returns-in-Ok-None
+any_geometry_at-returns-in-Ok-None t c = λ v rest found. part.no_object c.args.exact v c.args.counts.now ((rw c.in-Ok-None.field-0-is at c.in-Ok-None.ensures) v rest found)
+
+pub any_geometry_at-returns-in-Err-shape_of : goal.any_geometry_at-returns-in-Err-shape_of
+any_geometry_at-returns-in-Err-shape_of t c =
+    let object = rw c.in-Ok-Some.field-0-is at c.in-Ok-Some.ensures in
+    part.object_stops c.args.exact (prefix_value c.args.depth_left c.args.bytes.now) object.members _ c.args.counts.now object.prefix c.shape_of.new.counts c.in-Err-shape_of.stop
+    (c.in-Err-shape_of.ensures object.members (object.holds (c.none-parts.ensures _ (c.args.depth_left - 1))))
 
 pub any_geometry_at-returns-in-Ok : goal.any_geometry_at-returns-in-Ok
 any_geometry_at-returns-in-Ok t c =
-    let object = rw c.in-Some.is at c.in_ok-rest.ensures in
+    let object = rw c.in-Ok-Some.field-0-is at c.in-Ok-Some.ensures in
     part.object_reads c.args.exact (prefix_value c.args.depth_left c.args.bytes.now) object.members _ c.args.counts.now object.prefix _ c.shape_of.new.counts
     (c.in-Ok.ensures object.members (object.holds (c.none-parts.ensures _ (c.args.depth_left - 1))))
 
@@ -163,11 +147,11 @@ led_geometry_at-returns-in-Some-after_byte t c =
     let begins = c.requires.begins r.value _ c.in-Some-after_byte.rest.now r.prefix_is (one_byte 125 _ _ (rw c.skip.ensures at c.in-Some-after_byte.ensures)) in
     is_usual c.args.exact r.value begins.0 c.args.counts.now c.args.kind begins.1 _ c.part_at.new.counts r.means (prefix_value c.args.depth_left c.args.bytes.now) c.in-Some-after_byte.rest.now begins.2
 
-pub led_geometry_at-returns-in-None-met : goal.led_geometry_at-returns-in-None-met
-led_geometry_at-returns-in-None-met t c = λ v rest found. part.no_object c.args.exact v c.args.counts.now ((rw c.in-None-met.is at c.in_ok-met-in-Ok.ensures) v rest found)
+pub led_geometry_at-returns-in-Ok-None : goal.led_geometry_at-returns-in-Ok-None
+led_geometry_at-returns-in-Ok-None t c = λ v rest found. part.no_object c.args.exact v c.args.counts.now ((rw c.in-Ok-None.field-0-is at c.in-Ok-None.ensures) v rest found)
 
 pub led_geometry_at-returns-then-twice : goal.led_geometry_at-returns-then-twice
-led_geometry_at-returns-then-twice t c = led_twice c.args.exact c.args.kind c.args.depth_left c.args.bytes.now c.args.prefix.now c.args.counts.now c.requires.leads c.in-Some-met.twice _ (rw c.in-Some-met.is at c.in_ok-met-in-Ok.ensures) c.if-twice.true
+led_geometry_at-returns-then-twice t c = led_twice c.args.exact c.args.kind c.args.depth_left c.args.bytes.now c.args.prefix.now c.args.counts.now c.requires.leads c.in-Ok-Some.twice _ (rw c.in-Ok-Some.field-0-is at c.in-Ok-Some.ensures) c.if-twice.true
 
 pub led_geometry_at-returns-else-twice : goal.led_geometry_at-returns-else-twice
-led_geometry_at-returns-else-twice t c = led_read c.args.exact c.args.kind c.args.depth_left c.args.bytes.now c.args.prefix.now c.args.counts.now c.requires.leads c.in-Some-met.twice _ (rw c.in-Some-met.is at c.in_ok-met-in-Ok.ensures) c.if-twice.false _ _ _ c.in-Ok.ensures
+led_geometry_at-returns-else-twice t c = led_read c.args.exact c.args.kind c.args.depth_left c.args.bytes.now c.args.prefix.now c.args.counts.now c.requires.leads c.in-Ok-Some.twice _ (rw c.in-Ok-Some.field-0-is at c.in-Ok-Some.ensures) c.if-twice.false _ _ _ c.in-Ok.ensures

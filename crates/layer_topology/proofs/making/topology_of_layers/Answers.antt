@@ -15,13 +15,13 @@ on_grid-requires-clause-on g c =
     let e = c.snapped_layers-snapped.ensures in
     cells_on c.args.grid _ c.args.ring_limit c.args.layers.items _ _ _ e.grid e.snapped c.in_ok-topology.ensures.topology c.snapped_are_on.ensures c.built_cells_are_on.ensures c.requires.taken
 
-pub returns-clause-topology : goal.returns-clause-topology
-returns-clause-topology g c =
+pub returns-in-Ok-clause-topology : goal.returns-in-Ok-clause-topology
+returns-in-Ok-clause-topology g c =
     let e = c.snapped_layers-snapped.ensures in
     let made : c.in_ok-topology.topology ≡ built (level_threshold c.args.grid c.args.level c.args.layers.items) c.args.ring_limit c.snapped_layers-snapped.result.0.items =
     subst (λ ls. c.in_ok-topology.topology ≡ built (threshold_at c.args.level (arcs_of_layers ls)) c.args.ring_limit c.snapped_layers-snapped.result.0.items) e.snapped c.in_ok-topology.ensures.topology in
-    as_written c.args.grid _ c.args.ring_limit c.args.layers.items _ _ _ e.grid e.snapped made _ c.in_ok-topology-2.ensures
+    as_written c.args.grid _ c.args.ring_limit c.args.layers.items _ _ _ e.grid e.snapped made _ c.in-Ok.ensures
 
-pub returns-clause-called : goal.returns-clause-called
-returns-clause-called g c =
+pub returns-in-Ok-clause-called : goal.returns-in-Ok-clause-called
+returns-in-Ok-clause-called g c =
     c.in_ok-topology.ensures.called ∙ ap (λ ls. g.Q.Reducer.calls c.args.reducer.now + calls_at c.args.level (arcs_of_layers ls)) c.snapped_layers-snapped.ensures.snapped

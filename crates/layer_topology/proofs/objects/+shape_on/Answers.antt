@@ -1,8 +1,9 @@
-use Rattle.std.proofs.Common.{◌≢◌, map, refl, sym, ap, ◌∙◌, arith, get_or-set_other, length-set}
+use Rattle.std.proofs.Common.{map, refl, sym, ap, ◌∙◌, length-set}
 use Rattle.geometry.specs.declared.shape.Geometry.TheVariants as v
 use Rattle.geometry.proofs.Moved.{starts, turns, ends, refilled}
 use Rattle.layer_topology.specs.Replacing.{cell_if_covered, shape_replaced}
 use Rattle.layer_topology.proofs.Agreeing.{replaced_at}
+use Rattle.layer_topology.proofs.Unvisited.{unvisited_after}
 use Rattle.layer_topology.proofs.objects.+shape_on.Goals as goal
 
 pub shapes-init : goal.shapes-init
@@ -12,7 +13,7 @@ pub shapes-preserved : goal.shapes-preserved
 shapes-preserved t c = record {
   left = (
     length-set c.shapes.shape-items c.shapes.shape-index c.shape_on.new.shape ∙ c.shapes.invariant.left.0,
-    λ k d h. let ne : k ≢ c.shapes.shape-index = omega arith in rw get_or-set_other (c.shapes.invariant.left.1 k d (omega arith)),
+    unvisited_after c.as_mut_slice-shape-items.result.now c.shapes.shape-items c.shapes.shape-index c.shape_on.new.shape c.shapes.invariant.left.1,
   );
   made = turns (shape_replaced (cell_if_covered c.args.grid.now)) c.as_mut_slice-shape-items.result.now c.shapes.shape-index c.shapes.shape-items c.shape-item.result _
       c.shapes-test.true c.shapes.invariant.made c.shape_on.ensures;

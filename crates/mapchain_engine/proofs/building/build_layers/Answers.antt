@@ -33,28 +33,26 @@ returns-in_err-topology-clause-refused g c =
     let p = err_from_is_err_and c.from_residual-in_err-topology.result c.from_residual-in_err-topology.ensures.1 in
     rw (p.1, p.2) (built.no_memory c.args.options.now c.args.sources.now c.read_layers.new.sources c.args.sink.now c.in_ok-layers.layers.items r.0 r.1)
 
-pub returns-in_err-send-clause-refused : goal.returns-in_err-send-clause-refused
-returns-in_err-send-clause-refused g c =
+pub returns-in-Err-clause-refused : goal.returns-in-Err-clause-refused
+returns-in-Err-clause-refused g c =
     let r = c.in_ok-layers.ensures in
     let o = c.args.options.now in
     let ls = c.in_ok-layers.layers.items in
-    let p = err_from_is_err_and c.from_residual-in_err-send.result c.from_residual-in_err-send.ensures.1 in
     let few : length (written_for o ls).arcs < 2 ^ 63 = subst (λ z. length z.arcs < 2 ^ 63) c.in_ok-topology.ensures.topology c.in_ok-topology.ensures.few in
-    rw (p.1, p.2)
-    (built.cut_short c.building_laws.ensures o c.args.sources.now c.read_layers.new.sources ls r.0 r.1
-    (built.distinct o.exact c.args.sources.now c.read_layers.new.sources ls r.0 r.1 c.requires.names) (built.names_texts o.exact c.args.sources.now c.read_layers.new.sources ls r.0 r.1 c.requires.texts) few c.args.sink.now c.send.new.sink _
-    (subst (λ z. Sends c.args.sink.now c.send.new.sink (json_text (topology_value z)) (Err c.in_err-send.field-0.0)) c.in_ok-topology.ensures.topology c.in_err-send.ensures))
+    built.cut_short c.building_laws.ensures o c.args.sources.now c.read_layers.new.sources ls r.0 r.1
+    (built.distinct o.exact c.args.sources.now c.read_layers.new.sources ls r.0 r.1 c.requires.names) (built.names_texts o.exact c.args.sources.now c.read_layers.new.sources ls r.0 r.1 c.requires.texts) few c.args.sink.now c.send-sent.new.sink _
+    (subst (λ z. Sends c.args.sink.now c.send-sent.new.sink (json_text (topology_value z)) (Err c.in-Err.fault)) c.in_ok-topology.ensures.topology (rw c.in-Err.is at c.send-sent.ensures))
 
-pub returns-clause-built : goal.returns-clause-built
-returns-clause-built g c =
+pub returns-in-Ok-clause-built : goal.returns-in-Ok-clause-built
+returns-in-Ok-clause-built g c =
     let r = c.in_ok-layers.ensures in
     let o = c.args.options.now in
     let ls = c.in_ok-layers.layers.items in
     let e = c.in_ok-topology.ensures.topology in
     let few : length (written_for o ls).arcs < 2 ^ 63 = subst (λ z. length z.arcs < 2 ^ 63) e c.in_ok-topology.ensures.few in
     built.is_built c.building_laws.ensures o c.args.sources.now c.read_layers.new.sources ls r.0 r.1
-    (built.distinct o.exact c.args.sources.now c.read_layers.new.sources ls r.0 r.1 c.requires.names) (built.names_texts o.exact c.args.sources.now c.read_layers.new.sources ls r.0 r.1 c.requires.texts) few c.args.sink.now c.send.new.sink c.report_of-report.result
-    (rw e at c.in_ok-send.ensures)
+    (built.distinct o.exact c.args.sources.now c.read_layers.new.sources ls r.0 r.1 c.requires.names) (built.names_texts o.exact c.args.sources.now c.read_layers.new.sources ls r.0 r.1 c.requires.texts) few c.args.sink.now c.send-sent.new.sink c.report_of-report.result
+    (rw (c.in-Ok.is, e) at c.send-sent.ensures)
     (c.report_of-report.ensures
     ∙ ap (λ arcs. report_with c.in_ok-layers.counts c.in_ok-topology.dropped.items arcs c.in_ok-topology.removed c.in_ok-topology.chosen) (c.arcs.ensures.arcs ∙ ap (λ z. z.arcs) e)
     ∙ ap (λ ds. report_with c.in_ok-layers.counts ds (written_for o ls).arcs c.in_ok-topology.removed c.in_ok-topology.chosen) c.in_ok-topology.ensures.dropped
@@ -65,7 +63,7 @@ returns-clause-built g c =
     ∙ ap (λ n. report_with n (expected_dropped (threshold_for o ls) o.ring_limit (snapped_for o ls)) (written_for o ls).arcs
     (saturated (removed_count (threshold_for o ls) o.ring_limit (snapped_for o ls))) (chosen_for o ls)) r.2)
 
-pub returns-clause-reduced : goal.returns-clause-reduced
-returns-clause-reduced g c =
+pub returns-in-Ok-clause-reduced : goal.returns-in-Ok-clause-reduced
+returns-in-Ok-clause-reduced g c =
     let r = c.in_ok-layers.ensures in
     record { layers = c.in_ok-layers.layers.items; counts = r.0; read = r.1; called = c.in_ok-topology.ensures.called }

@@ -36,14 +36,14 @@ returns-in_default-clause-decided g c bytes outcome left comes =
 pub returns-clause-written : goal.returns-clause-written
 returns-clause-written g c =
     let given = gives c.args.name.now c.args.source.now c.read_file.new.source c.in_ok-topology.topology c.in_ok-topology._counts c.in_ok-topology.ensures c.in-Some.object.now c.in-Some.ensures.object in
-    written c.args.name.now c.args.source.now c.read_file.new.source c.args.sink.now c.send.new.sink (object_in c.in_ok-topology.topology c.in-Some.object.now) given c.decoded_text_is_utf8.ensures c.send.result c.send.ensures
+    written c.args.name.now c.args.source.now c.read_file.new.source c.args.sink.now c.send-sent.new.sink (object_in c.in_ok-topology.topology c.in-Some.object.now) given c.decoded_text_is_utf8.ensures c.send-sent.result c.send-sent.ensures
 
 pub returns-clause-refused : goal.returns-clause-refused
 returns-clause-refused g c =
     let given = gives c.args.name.now c.args.source.now c.read_file.new.source c.in_ok-topology.topology c.in_ok-topology._counts c.in_ok-topology.ensures c.in-Some.object.now c.in-Some.ensures.object in
-    prefix c.args.name.now c.args.source.now c.read_file.new.source c.args.sink.now c.send.new.sink (object_in c.in_ok-topology.topology c.in-Some.object.now) given c.send.result c.send.ensures
+    prefix c.args.name.now c.args.source.now c.read_file.new.source c.args.sink.now c.send-sent.new.sink (object_in c.in_ok-topology.topology c.in-Some.object.now) given c.send-sent.result c.send-sent.ensures
 
 pub returns-clause-decided : goal.returns-clause-decided
 returns-clause-decided g c bytes outcome left comes =
     let given = gives c.args.name.now c.args.source.now c.read_file.new.source c.in_ok-topology.topology c.in_ok-topology._counts c.in_ok-topology.ensures c.in-Some.object.now c.in-Some.ensures.object in
-    sent_decides c.args.sink.now c.send.new.sink c.args.name.now c.args.source.now c.read_file.new.source bytes left outcome comes (object_in c.in_ok-topology.topology c.in-Some.object.now) given c.send.result c.send.ensures
+    sent_decides c.args.sink.now c.send-sent.new.sink c.args.name.now c.args.source.now c.read_file.new.source bytes left outcome comes (object_in c.in_ok-topology.topology c.in-Some.object.now) given c.send-sent.result c.send-sent.ensures

@@ -20,12 +20,12 @@ picked t y arcs left transform a tr is =
     is ∙ ap (λ (tr : Option Transform). retained_arcs (map (λ cells. reduce t (placed_cells tr cells)) arcs) arcs) tr
     ∙ ap (λ (arcs : List (List Point)). retained_arcs (map (λ cells. reduce t (placed_cells y.transform cells)) arcs) arcs) a
 
-pub reduced_arcs-requires : goal.reduced_arcs-requires
-reduced_arcs-requires g c =
+pub counted_and_reduced-requires : goal.counted_and_reduced-requires
+counted_and_reduced-requires g c =
     let y = c.args.topology in
     let parts = c.into_parts-objects.ensures in
-    subst (λ (tr : Option Transform). AllByRecursion (IsArc tr) c.into_inner-arcs.result.items) (sym (c.as_ref.ensures.value ∙ parts.transform))
-    (subst (AllByRecursion (IsArc y.transform)) (sym (c.into_inner-arcs.ensures ∙ parts.arcs)) parts.valid.arcs)
+    subst (λ (tr : Option Transform). AllByRecursion (IsArc tr) c.into_inner.result.items) (sym (c.as_ref.ensures.value ∙ parts.transform))
+    (subst (AllByRecursion (IsArc y.transform)) (sym (c.into_inner.ensures ∙ parts.arcs)) parts.valid.arcs)
 
 pub reassemble-requires-clause-retained : goal.reassemble-requires-clause-retained
 reassemble-requires-clause-retained g c =
@@ -37,41 +37,41 @@ reassemble-requires-clause-retained g c =
       retained_are = record {
         kept = reduced_indexes c.args.t y;
         through = c.indexes_reach.ensures c.args.t y parts.valid;
-        picks = picked c.args.t y _ _ _ (c.into_inner-arcs.ensures ∙ parts.arcs) (c.as_ref.ensures.value ∙ parts.transform) c.in_ok-left.ensures.retained;
+        picks = picked c.args.t y _ _ _ (c.into_inner.ensures ∙ parts.arcs) (c.as_ref.ensures.value ∙ parts.transform) c.in-Ok.ensures.retained;
       };
-      counts_are = c.deref-2.ensures.value ∙ c.in_ok-counts.ensures ∙ ap (map (λ (cells : List Point). length cells)) (c.deref.ensures.value ∙ c.into_inner-arcs.ensures ∙ parts.arcs);
+      counts_are = c.deref.ensures.value ∙ c.in-Ok.ensures.counts ∙ ap (map (λ (cells : List Point). length cells)) (c.into_inner.ensures ∙ parts.arcs);
     }
 
-pub returns-clause-topology : goal.returns-clause-topology
+pub returns-in-Ok-clause-topology : goal.returns-in-Ok-clause-topology
 unfolding simplified_contents
-returns-clause-topology g c =
+returns-in-Ok-clause-topology g c =
     let y = c.args.topology in
     let parts = c.into_parts-objects.ensures in
-    let picks = picked c.args.t y _ _ _ (c.into_inner-arcs.ensures ∙ parts.arcs) (c.as_ref.ensures.value ∙ parts.transform) c.in_ok-left.ensures.retained in
+    let picks = picked c.args.t y _ _ _ (c.into_inner.ensures ∙ parts.arcs) (c.as_ref.ensures.value ∙ parts.transform) c.in-Ok.ensures.retained in
     IfOk-weaker c.reassemble.result _ _
     (λ r h. h (reduced_indexes c.args.t y) y.arcs picks ∙ ap (simplified_by (reduced_indexes c.args.t y) c.args.ring_limit) (parts_are y _ y.arcs _ parts.objects refl parts.transform)) c.reassemble.ensures.topology
 
-pub returns-clause-dropped : goal.returns-clause-dropped
+pub returns-in-Ok-clause-dropped : goal.returns-in-Ok-clause-dropped
 unfolding simplified_dropped
-returns-clause-dropped g c =
+returns-in-Ok-clause-dropped g c =
     let y = c.args.topology in
     let parts = c.into_parts-objects.ensures in
-    let picks = picked c.args.t y _ _ _ (c.into_inner-arcs.ensures ∙ parts.arcs) (c.as_ref.ensures.value ∙ parts.transform) c.in_ok-left.ensures.retained in
+    let picks = picked c.args.t y _ _ _ (c.into_inner.ensures ∙ parts.arcs) (c.as_ref.ensures.value ∙ parts.transform) c.in-Ok.ensures.retained in
     IfOk-weaker c.reassemble.result _ _
     (λ r h. h (reduced_indexes c.args.t y) y.arcs picks ∙ ap (dropped_by (reduced_indexes c.args.t y) c.args.ring_limit) (parts_are y _ y.arcs _ parts.objects refl parts.transform)) c.reassemble.ensures.dropped
 
-pub returns-clause-removed_count : goal.returns-clause-removed_count
+pub returns-in-Ok-clause-removed_count : goal.returns-in-Ok-clause-removed_count
 unfolding simplified_removed_count
-returns-clause-removed_count g c =
+returns-in-Ok-clause-removed_count g c =
     let y = c.args.topology in
     let parts = c.into_parts-objects.ensures in
-    let picks = picked c.args.t y _ _ _ (c.into_inner-arcs.ensures ∙ parts.arcs) (c.as_ref.ensures.value ∙ parts.transform) c.in_ok-left.ensures.retained in
-    let counted = c.deref-2.ensures.value ∙ c.in_ok-counts.ensures ∙ ap (map (λ (cells : List Point). length cells)) (c.deref.ensures.value ∙ c.into_inner-arcs.ensures ∙ parts.arcs) in
+    let picks = picked c.args.t y _ _ _ (c.into_inner.ensures ∙ parts.arcs) (c.as_ref.ensures.value ∙ parts.transform) c.in-Ok.ensures.retained in
+    let counted = c.deref.ensures.value ∙ c.in-Ok.ensures.counts ∙ ap (map (λ (cells : List Point). length cells)) (c.into_inner.ensures ∙ parts.arcs) in
     IfOk-weaker c.reassemble.result _ _
     (λ r h. h (reduced_indexes c.args.t y) y.arcs picks counted
     ∙ ap (λ z. saturated (removed_count_by (reduced_indexes c.args.t y) c.args.ring_limit z)) (parts_are y _ y.arcs _ parts.objects refl parts.transform)) c.reassemble.ensures.removed_count
 
-pub returns-clause-called : goal.returns-clause-called
-returns-clause-called g c =
+pub returns-in-Ok-clause-called : goal.returns-in-Ok-clause-called
+returns-in-Ok-clause-called g c =
     IfOk-weaker c.reassemble.result _ _
-    (λ r _. c.in_ok-left.ensures.called ∙ ap (λ arcs. g.Q.Reducer.calls c.args.reducer.now + length arcs) (c.into_inner-arcs.ensures ∙ c.into_parts-objects.ensures.arcs)) c.reassemble.ensures.topology
+    (λ r _. c.in-Ok.ensures.called ∙ ap (λ arcs. g.Q.Reducer.calls c.args.reducer.now + length arcs) (c.into_inner.ensures ∙ c.into_parts-objects.ensures.arcs)) c.reassemble.ensures.topology

@@ -20,4 +20,4 @@ pub returns-clause-decided : goal.returns-clause-decided
 returns-clause-decided g c bytes outcome left comes =
     let read = c.in_ok-parts.ensures in
     let summary = rw (c.as_slice.ensures, c.as_slice-2.ensures, c.is_some.ensures) at c.in_ok-summary.ensures in
-    summary_decides c.args.source.now c.read_blank.new.source bytes left outcome comes read.contents read.counts c.in_ok-summary.summary read.read (summary ∙ reported_of Blank c.in_ok-parts.parts read.contents read.kept)
+    summary_decides c.args.source.now c.read_blank.new.source bytes left outcome comes read.contents read.counts _ read.read (summary ∙ reported_of Blank c.in_ok-parts.parts read.contents read.kept)

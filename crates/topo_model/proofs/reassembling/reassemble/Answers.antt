@@ -19,24 +19,24 @@ of-topology-requires c =
     let kept = r.retained_are.kept in
     let y = contents c.args.objects r.arcs c.args.transform in
     let same = parts_are y c.into_inner.result.items r.arcs (option_copied c.as_ref.result) c.into_inner.ensures refl c.as_ref.ensures.value in
-    let made = made_is kept c.args.ring_limit y c.into_inner.result.items c.in_ok-left.left.objects.items c.of.result r.arcs c.in_ok-left.left.arcs.items c.of-2.result (option_copied c.as_ref.result) c.args.transform same
-    c.as_ref.ensures.value (c.in_ok-left.ensures.left kept r.arcs r.retained_are.picks) c.of.ensures c.of-2.ensures refl in
+    let made = made_is kept c.args.ring_limit y c.into_inner.result.items c.in-Ok.left.objects.items c.of.result r.arcs c.in-Ok.left.arcs.items c.of-in-Ok.result (option_copied c.as_ref.result) c.args.transform same
+    c.as_ref.ensures.value (c.in-Ok.ensures.left kept r.arcs r.retained_are.picks) c.of.ensures c.of-in-Ok.ensures refl in
     record { valid = subst IsTopology (sym made) (c.simplified_is_valid.ensures kept c.args.ring_limit y r.valid r.retained_are.through) }
 
-pub returns-clause-topology : goal.returns-clause-topology
-returns-clause-topology c kept arcs picks =
+pub returns-in-Ok-clause-topology : goal.returns-in-Ok-clause-topology
+returns-in-Ok-clause-topology c kept arcs picks =
     let y = contents c.args.objects arcs c.args.transform in
     let same = parts_are y c.into_inner.result.items arcs (option_copied c.as_ref.result) c.into_inner.ensures refl c.as_ref.ensures.value in
-    let made = made_is kept c.args.ring_limit y c.into_inner.result.items c.in_ok-left.left.objects.items c.of.result arcs c.in_ok-left.left.arcs.items c.of-2.result (option_copied c.as_ref.result) c.args.transform same
-    c.as_ref.ensures.value (c.in_ok-left.ensures.left kept arcs picks) c.of.ensures c.of-2.ensures refl in
+    let made = made_is kept c.args.ring_limit y c.into_inner.result.items c.in-Ok.left.objects.items c.of.result arcs c.in-Ok.left.arcs.items c.of-in-Ok.result (option_copied c.as_ref.result) c.args.transform same
+    c.as_ref.ensures.value (c.in-Ok.ensures.left kept arcs picks) c.of.ensures c.of-in-Ok.ensures refl in
     c.of-topology.ensures ∙ made
 
-pub returns-clause-dropped : goal.returns-clause-dropped
-returns-clause-dropped c kept arcs picks =
+pub returns-in-Ok-clause-dropped : goal.returns-in-Ok-clause-dropped
+returns-in-Ok-clause-dropped c kept arcs picks =
     let same = parts_are (contents c.args.objects arcs c.args.transform) c.into_inner.result.items arcs (option_copied c.as_ref.result) c.into_inner.ensures refl c.as_ref.ensures.value in
-    c.in_ok-left.ensures.dropped kept arcs picks ∙ ap (dropped_by kept c.args.ring_limit) same
+    c.in-Ok.ensures.dropped kept arcs picks ∙ ap (dropped_by kept c.args.ring_limit) same
 
-pub returns-clause-removed_count : goal.returns-clause-removed_count
-returns-clause-removed_count c kept arcs picks counted =
+pub returns-in-Ok-clause-removed_count : goal.returns-in-Ok-clause-removed_count
+returns-in-Ok-clause-removed_count c kept arcs picks counted =
     let same = parts_are (contents c.args.objects arcs c.args.transform) c.into_inner.result.items arcs (option_copied c.as_ref.result) c.into_inner.ensures refl c.as_ref.ensures.value in
-    c.in_ok-left.ensures.removed_count kept arcs picks counted ∙ ap (λ y. saturated (removed_count_by kept c.args.ring_limit y)) same
+    c.in-Ok.ensures.removed_count kept arcs picks counted ∙ ap (λ y. saturated (removed_count_by kept c.args.ring_limit y)) same

@@ -62,24 +62,29 @@ shape_of-returns-in-Ok t c = λ ms is.
     judges_same (geometry c.args.start ms) (typed_shape c.args.start c.in-Ok.kind ms) c.args.start.counts _
     (part.known_type (option_copied c.args.start.transform) c.args.start.arcs.now ms c.args.start.counts c.in-Ok.kind (sym (c.in-Ok.ensures ms is.kind))) c.typed_of.result (c.typed_of.ensures ms is)
 
-pub geometry_at-returns-in_default : goal.geometry_at-returns-in_default
-geometry_at-returns-in_default t c = λ v rest found. part.no_object (option_copied c.args.transform) c.args.arcs.now v c.args.counts.now ((rw c.in_default.is at c.in_ok-rest.ensures) v rest found)
+pub geometry_into-returns-in_default : goal.geometry_into-returns-in_default
+geometry_into-returns-in_default t c = λ none same v rest found. part.no_object (option_copied c.args.start.transform) c.args.start.arcs.now v c.args.start.counts ((rw c.in_default.is at c.in_ok-rest.ensures) v rest found)
 
-pub geometry_at-returns-in-Err : goal.geometry_at-returns-in-Err
-geometry_at-returns-in-Err t c =
+pub geometry_into-returns-in-Err : goal.geometry_into-returns-in-Err
+geometry_into-returns-in-Err t c = λ none same.
     let object = rw c.in-Some.is at c.in_ok-rest.ensures in
-    let transform = option_copied c.args.transform in
-    object_stops (shape transform c.args.arcs.now) (shapes_of.geometry transform c.args.arcs.now object.members) (prefix_value c.args.depth_left c.args.bytes.now) (j.Object object.members) _ c.args.counts.now object.prefix
-    (part.object_shape transform c.args.arcs.now object.members c.args.counts.now) c.shape_of.new.counts c.in-Err.stop
-    (c.in-Err.ensures object.members (object.holds (c.none-parts.ensures _ (c.args.depth_left - 1))))
+    let start = c.args.start in
+    let transform = option_copied start.transform in
+    object_stops (shape transform start.arcs.now) (shapes_of.geometry transform start.arcs.now object.members) (prefix_value c.args.depth_left c.args.bytes.now) (j.Object object.members) _ start.counts object.prefix
+    (part.object_shape transform start.arcs.now object.members start.counts) c.shape_of.new.counts c.in-Err.stop
+    (c.in-Err.ensures object.members (object.holds (none (c.args.depth_left - 1))))
+
+pub geometry_into-returns-in-Ok : goal.geometry_into-returns-in-Ok
+geometry_into-returns-in-Ok t c = λ none same.
+    let object = rw c.in-Some.is at c.in_ok-rest.ensures in
+    let start = c.args.start in
+    let transform = option_copied start.transform in
+    object_reads (shape transform start.arcs.now) (shapes_of.geometry transform start.arcs.now object.members) (prefix_value c.args.depth_left c.args.bytes.now) (j.Object object.members) c.in-Some.rest.now start.counts object.prefix
+    (part.object_shape transform start.arcs.now object.members start.counts) c.in-Ok.shape c.shape_of.new.counts
+    (c.in-Ok.ensures object.members (object.holds (none (c.args.depth_left - 1))))
 
 pub geometry_at-returns : goal.geometry_at-returns
-geometry_at-returns t c =
-    let object = rw c.in-Some.is at c.in_ok-rest.ensures in
-    let transform = option_copied c.args.transform in
-    object_reads (shape transform c.args.arcs.now) (shapes_of.geometry transform c.args.arcs.now object.members) (prefix_value c.args.depth_left c.args.bytes.now) (j.Object object.members) c.in-Some.rest.now c.args.counts.now object.prefix
-    (part.object_shape transform c.args.arcs.now object.members c.args.counts.now) c.in-Ok.shape c.shape_of.new.counts
-    (c.in-Ok.ensures object.members (object.holds (c.none-parts.ensures _ (c.args.depth_left - 1))))
+geometry_at-returns t c = c.geometry_into.ensures (λ d. c.none-parts.ensures _ d) refl
 
 pub geometries_at-returns-in_default : goal.geometries_at-returns-in_default
 geometries_at-returns-in_default t c = λ v rest found. part.no_array (option_copied c.args.transform) c.args.arcs.now v c.args.counts.now (is_no_array c.args.depth_left c.args.bytes.now c.in_default.ensures v rest found)

@@ -8,23 +8,26 @@ use Rattle.json_cursor.proofs.FoldedSoFar.{FoldedSoFar}
 use Rattle.topojson_meaning.specs.Shapes.{shape}
 use Rattle.topojson_decoder.proofs.geometries.+geometries.Given as goal
 
+abbrev pub decreases-geometry_into : goal.decreases-geometry_into
+decreases-geometry_into l = 6 * l.depth_left + 1
+
 abbrev pub decreases-geometry_at : goal.decreases-geometry_at
-decreases-geometry_at l = 5 * l.depth_left + 1
+decreases-geometry_at l = 6 * l.depth_left + 2
 
 abbrev pub decreases-geometries_after : goal.decreases-geometries_after
-decreases-geometries_after l = 5 * l.depth_left + 2
+decreases-geometries_after l = 6 * l.depth_left + 3
 
 abbrev pub decreases-geometries_at : goal.decreases-geometries_at
-decreases-geometries_at l = 5 * l.depth_left + 2
+decreases-geometries_at l = 6 * l.depth_left + 3
 
 abbrev pub decreases-group_of : goal.decreases-group_of
-decreases-group_of l = 5 * l.depth_left + 3
+decreases-group_of l = 6 * l.depth_left + 4
 
 abbrev pub decreases-typed_of : goal.decreases-typed_of
-decreases-typed_of l = 5 * l.depth_left + 4
+decreases-typed_of l = 6 * l.depth_left + 5
 
 abbrev pub decreases-shape_of : goal.decreases-shape_of
-decreases-shape_of l = 5 * l.depth_left + 5
+decreases-shape_of l = 6 * l.depth_left + 6
 
 abbrev pub invariant-geometries_after-geometries : goal.invariant-geometries_after-geometries
 invariant-geometries_after-geometries l =

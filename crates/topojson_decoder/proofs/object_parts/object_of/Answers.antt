@@ -23,22 +23,22 @@ returns-then-is_collection c = λ ms is.
     let transform = option_copied start.transform in
     judges_same (kept_typed_object start ms) (collection start ms) start.counts _
     (made_alike (of_object start.keeping) (typed_object transform start.arcs.now ms) start.counts (objects.collection transform start.arcs.now ms)
-    (by.is_many transform start.arcs.now ms start.counts c.in-Ok.kind (sym (c.in-Ok.ensures ms is.feature.parts.kind)) (sym c.if-is_collection.ensures))) c.collection_of.result (c.collection_of.ensures ms is.features)
+    (by.is_many transform start.arcs.now ms start.counts c.in-Ok.kind (sym (c.in-Ok.ensures ms is.feature.parts.kind)) (sym c.if-is_collection.ensures))) c.collection_of.result (c.collection_of.ensures ms (rw c.features_in.ensures is.features))
 
-pub returns-in-Err-feature_of : goal.returns-in-Err-feature_of
-returns-in-Err-feature_of c = λ ms is.
+pub returns-in-Err-read : goal.returns-in-Err-read
+returns-in-Err-read c = λ ms is.
     let start = c.args.start in
     let transform = option_copied start.transform in
-    let counts = c.feature_of.new.counts in
-    let stop = c.in-Err-feature_of.stop in
+    let counts = c.feature_of-read.new.counts in
+    let stop = c.in-Err-read.stop in
     made_stop (of_object start.keeping) (typed_object transform start.arcs.now ms) start.counts counts counts stop
     (by.single_stops transform start.arcs.now ms start.counts c.in-Ok.kind (sym (c.in-Ok.ensures ms is.feature.parts.kind)) (sym c.if-is_collection.ensures) counts stop
-    (unmade_stop (of_feature start.keeping) (features.feature transform start.arcs.now c.in-Ok.kind ms) start.counts counts counts stop (c.in-Err-feature_of.ensures ms is.feature)))
+    (unmade_stop (of_feature start.keeping) (features.feature transform start.arcs.now c.in-Ok.kind ms) start.counts counts counts stop ((rw c.in-Err-read.is at c.feature_of-read.ensures) ms is.feature)))
 
-pub returns : goal.returns
-returns c = λ ms is.
+pub returns-in-Ok-read : goal.returns-in-Ok-read
+returns-in-Ok-read c = λ ms is.
     let start = c.args.start in
     let transform = option_copied start.transform in
-    let read = unmade (of_feature start.keeping) (features.feature transform start.arcs.now c.in-Ok.kind ms) start.counts c.in-Ok-feature_of.feature c.feature_of.new.counts (c.in-Ok-feature_of.ensures ms is.feature) in
-    rw read.is (made (of_object start.keeping) (typed_object transform start.arcs.now ms) start.counts (One read.whole) c.feature_of.new.counts
-    (by.single transform start.arcs.now ms start.counts c.in-Ok.kind (sym (c.in-Ok.ensures ms is.feature.parts.kind)) (sym c.if-is_collection.ensures) read.whole c.feature_of.new.counts read.reads))
+    let read = unmade (of_feature start.keeping) (features.feature transform start.arcs.now c.in-Ok.kind ms) start.counts c.in-Ok-read.feature c.feature_of-read.new.counts ((rw c.in-Ok-read.is at c.feature_of-read.ensures) ms is.feature) in
+    rw read.is (made (of_object start.keeping) (typed_object transform start.arcs.now ms) start.counts (One read.whole) c.feature_of-read.new.counts
+    (by.single transform start.arcs.now ms start.counts c.in-Ok.kind (sym (c.in-Ok.ensures ms is.feature.parts.kind)) (sym c.if-is_collection.ensures) read.whole c.feature_of-read.new.counts read.reads))

@@ -10,6 +10,9 @@
 set -u
 cd "$(dirname "$(readlink -f "$0")")/.." || exit 2
 [ $# -gt 0 ] || set -- rt ci --anew
+# (as in .ci/run)
+: "${RT_JOBS:=$(nproc)}"
+export RT_JOBS
 command -v "$1" >/dev/null || { echo "gate-cost: there is no command '$1' on PATH" >&2; exit 2; }
 mkdir -p out
 samples=$(mktemp) || exit 2

@@ -11,7 +11,7 @@ set -u
 cd "$(dirname "$(readlink -f "$0")")/.." || exit 2
 [ $# -gt 0 ] || set -- rt ci --anew
 # (as in .ci/run)
-: "${RT_JOBS:=$(nproc)}"
+: "${RT_JOBS:=$(scripts/lanes.sh)}"
 export RT_JOBS
 command -v "$1" >/dev/null || { echo "gate-cost: there is no command '$1' on PATH" >&2; exit 2; }
 mkdir -p out

@@ -4,13 +4,13 @@ ghost use Rattle.arc_table.specs.Arcs.{number_in};
 ghost use Rattle.arc_table.specs.Starts.{equal, start_of, IsStarts, StartIdentifies};
 
 use crate::comparing::{is_reverse, is_same_line};
-use geometry::{Position, is_same};
-use junctions::{Key, Numbering, hash_of_two};
+use geometry::Position;
+use junctions::{Key, Numbering};
 use owned_values::Items;
 use std::marker::Model;
 
 /// Two positions in a row.
-#[derive(Clone, Copy, Debug, PartialEq, Eq, PartialOrd, Ord)]
+#[derive(Clone, Copy, Debug, PartialEq, Eq, Hash)]
 pub struct Segment {
     from: Position,
     to: Position,
@@ -27,26 +27,14 @@ impl Model for Segment {
 }
 
 impl Key for Segment {
-    ghost use Rattle.arc_table.specs.Hashing.{segment_hash, equal_segments, equal_itself, tied_segments};
+    ghost use Rattle.arc_table.specs.Keys.{equal_same_segment, equal_segments};
     ghost use Rattle.arc_table.specs.Starts.{equal as equal_to};
 
     ghost same = { equal_to };
 
-    ghost hash = { segment_hash };
-
-    fn is_same(self, other: Segment) -> bool {
-        is_same(self.from, other.from) && is_same(self.to, other.to)
-    }
-
-    fn hash(self) -> u64 {
-        hash_of_two(self.from.hash(), self.to.hash())
-    }
+    ghost equal_same = { equal_same_segment };
 
     ghost same_is = { equal_segments };
-
-    ghost same_self = { equal_itself };
-
-    ghost tie_is = { tied_segments };
 }
 
 /// The first segments of the arcs, by which an arc has its number.
@@ -130,6 +118,5 @@ pub fn reversed_arc(
 fn arc_from(starts: &Starts, segment: Segment) -> Option<usize>
     ensures { result ≡ position (equal segment) starts.now }
 {
-    let number = starts.find(segment)?;
-    Some(number as usize)
+    starts.find(segment)
 }

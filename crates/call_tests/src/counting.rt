@@ -25,6 +25,7 @@ fn steps_of_building(alloc: Global) -> Option<Steps> {
     let name = String::from_str(alloc, "a").ok()?;
     let mut sources = [(OwnText::of(name), source(LAYER))];
     let options = Options {
+        seed: 0,
         grid: None,
         level: Level::Fixed(THRESHOLD),
         ring_limit: 0,

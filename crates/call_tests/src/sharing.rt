@@ -78,16 +78,16 @@ fn positions_are_numbered_in_reading_order(rt: HostRuntime) -> Result<(), Fail> 
     Ok(())
 }
 
-// Of two positions and no room one finds no slot. All numbers go into a map then, and stay as they were.
+// Numbers stay as the table grows, and don't depend on the seed.
 #[test]
-fn numbers_stay_where_no_slot_is_free(rt: HostRuntime) -> Result<(), Fail> {
-    let mut numbering = Numbering::with_room(rt.alloc(), 0)?;
-    for number in 0..20u32 {
-        let position = Position::new(i64::from(number), 0).ok_or("no position")?;
+fn numbers_stay_as_the_table_grows(rt: HostRuntime) -> Result<(), Fail> {
+    let mut numbering = Numbering::with_room(rt.alloc(), 0, 7)?;
+    for number in 0..20usize {
+        let position = Position::new(number as i64, 0).ok_or("no position")?;
         assert_eq!(rt; numbering.number(position)?, number);
     }
-    for number in 0..20u32 {
-        let position = Position::new(i64::from(number), 0).ok_or("no position")?;
+    for number in 0..20usize {
+        let position = Position::new(number as i64, 0).ok_or("no position")?;
         assert_eq!(rt; numbering.number(position)?, number);
         assert_eq!(rt; numbering.find(position), Some(number));
     }

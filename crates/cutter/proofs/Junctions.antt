@@ -11,7 +11,7 @@ use Rattle.junctions.specs.Cuts.{is_cut, starts_free_ring}
 use Rattle.junctions.specs.Visits.{Visit, all_visits, visits_at, neighbors, distinct, ends_open, is_junction}
 use Rattle.junctions.specs.declared.stroke.Stroke.{Stroke}
 use Rattle.junctions.proofs.Members.{in_filter, none_of}
-use Rattle.junctions.proofs.Settled.{in_distinct, of_two}
+use Rattle.junctions.proofs.Counting.{in_distinct, of_two}
 
 pub both_in : (v : Visit) (vs : List Visit) → In v vs → In v.before (flat_map (λ v. v.before ∷ (v.after ∷ [])) vs) × In v.after (flat_map (λ v. v.before ∷ (v.after ∷ [])) vs)
 both_in v [] k = elim k [ ]

@@ -38,11 +38,11 @@ use topo_model::{assemble_retained, position_counts};
 use topojson_types::{ArcRef, Cell, Topology};
 
 /// The lines and rings of the layers, cut. What was known of their positions is given back.
-fn cut_lines(alloc: Global, layers: &[(OwnText, Layer)]) -> Result<Pieces, Memory>
+fn cut_lines(alloc: Global, seed: u64, layers: &[(OwnText, Layer)]) -> Result<Pieces, Memory>
     ensures { IfOk result (λ ps. ps ≡ map (split_of (linework (layers_of layers.now))) (linework (layers_of layers.now))) }
 {
     let lines = Lines::of_named(alloc, layers)?;
-    match Vertices::of(alloc, &lines) {
+    match Vertices::by_seed(alloc, seed, &lines) {
         Ok(vertices) => {
             let pieces = cut(alloc, lines, &vertices);
             drop(vertices);
@@ -56,11 +56,11 @@ fn cut_lines(alloc: Global, layers: &[(OwnText, Layer)]) -> Result<Pieces, Memor
 }
 
 /// The arcs that the lines and rings of the layers share.
-fn shared_arcs(alloc: Global, layers: &[(OwnText, Layer)]) -> Result<Table, Memory>
+fn shared_arcs(alloc: Global, seed: u64, layers: &[(OwnText, Layer)]) -> Result<Table, Memory>
     ensures { IfOk result (λ t. t ≡ table_of (map (split_of (linework (layers_of layers.now))) (linework (layers_of layers.now)))) }
 {
-    let pieces = cut_lines(alloc, layers)?;
-    Table::build(alloc, pieces)
+    let pieces = cut_lines(alloc, seed, layers)?;
+    Table::build_by_seed(alloc, seed, pieces)
 }
 
 /// The lines and rings of the layers by the arcs that they share, how many positions each arc has, of each arc the positions that stay,
@@ -68,6 +68,7 @@ fn shared_arcs(alloc: Global, layers: &[(OwnText, Layer)]) -> Result<Table, Memo
 fn shared_and_reduced<Q: Reducer>(
     alloc: Global,
     reducer: &mut Q,
+    seed: u64,
     layers: &[(OwnText, Layer)],
     level: Level,
 ) -> Result<
@@ -88,7 +89,7 @@ fn shared_and_reduced<Q: Reducer>(
     ensures chosen { IfOk result (λ r. r.3 ≡ chosen_at level (arcs_of_layers layers.now)) }
     ensures called { IfOk result (λ _. Q.calls reducer.new ≡ Q.calls reducer.old + calls_at level (arcs_of_layers layers.now)) }
 {
-    let table = shared_arcs(alloc, layers)?;
+    let table = shared_arcs(alloc, seed, layers)?;
     let (arcs, refs) = table.into_parts();
     let counts = position_counts(alloc, &arcs)?;
     let (left, chosen) = left_of_arcs(alloc, reducer, arcs, level)?;
@@ -100,6 +101,7 @@ fn shared_and_reduced<Q: Reducer>(
 fn reduced_topology<Q: Reducer>(
     alloc: Global,
     reducer: &mut Q,
+    seed: u64,
     layers: Vec<(OwnText, Layer)>,
     level: Level,
     ring_limit: u128,
@@ -119,7 +121,7 @@ fn reduced_topology<Q: Reducer>(
     assembles_to_built();
     assembling_drops_expected();
     assembling_removes();
-    match shared_and_reduced(alloc, reducer, &layers, level) {
+    match shared_and_reduced(alloc, reducer, seed, &layers, level) {
         Ok((refs, counts, left, chosen)) => {
             let (topology, dropped, removed_count) = assemble_retained(
                 alloc, layers, refs, left, &counts, ring_limit,
@@ -156,6 +158,7 @@ fn snapped_layers(
 pub fn topology_of_layers<Q: Reducer>(
     alloc: Global,
     reducer: &mut Q,
+    seed: u64,
     layers: Vec<(OwnText, Layer)>,
     grid: Option<u32>,
     level: Level,
@@ -175,7 +178,7 @@ pub fn topology_of_layers<Q: Reducer>(
     built_cells_are_on();
     let (snapped, grid) = snapped_layers(layers, grid);
     let (topology, dropped, removed_count, chosen) = reduced_topology(
-        alloc, reducer, snapped, level, ring_limit,
+        alloc, reducer, seed, snapped, level, ring_limit,
     )?;
     match on_grid(alloc, topology, grid) {
         Ok(topology) => Ok((topology, dropped, removed_count, chosen)),

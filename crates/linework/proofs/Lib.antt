@@ -2,13 +2,3 @@ pub mod Gathered
 pub mod Placing
 pub mod Positions
 pub mod Rows
-pub use Rattle.junctions.proofs.Cleaned
-pub use Rattle.junctions.proofs.Distinct
-pub use Rattle.junctions.proofs.FirstSeen
-pub use Rattle.junctions.proofs.Keeping
-pub use Rattle.junctions.proofs.Members
-pub use Rattle.junctions.proofs.NoteLists
-pub use Rattle.junctions.proofs.Numbers
-pub use Rattle.junctions.proofs.Settled
-pub use Rattle.junctions.proofs.Starts
-pub use Rattle.junctions.proofs.VisitLists

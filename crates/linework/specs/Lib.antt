@@ -1,9 +1,2 @@
 pub mod Laws
 pub mod Linework
-pub use Rattle.junctions.specs.Among
-pub use Rattle.junctions.specs.Answers
-pub use Rattle.junctions.specs.Cleaning
-pub use Rattle.junctions.specs.Cuts
-pub use Rattle.junctions.specs.Gathering
-pub use Rattle.junctions.specs.Notes
-pub use Rattle.junctions.specs.Visits

@@ -8,6 +8,7 @@ use crate::part_file::{PartFile, Target};
 use byte_ends::{FromRead, Sink, Source, ToWrite};
 use mapchain_cli::{Counts, FileKind, Files};
 use std::fs::File;
+use std::hash::{BuildHasher, RandomState};
 use std::io::{BufWriter, ErrorKind};
 use std::{fs, io};
 
@@ -97,6 +98,13 @@ impl Files for System {
 
     // Others write files too, so that the bytes of none are known.
     ghost state = { λ s. record { contents = λ _. None; counts = s.counts; pending = option_map (λ target. string_bytes target.named) s.pending } };
+
+    fn seed(&self) -> u64 {
+        match RandomState::new(&self.rt) {
+            Ok(state) => state.hash_one(0u64),
+            Err(_) => 0,
+        }
+    }
 
     fn open(&mut self, path: &str) -> Option<Source<FromRead<File>>> {
         let opened = File::open(&self.rt, path);

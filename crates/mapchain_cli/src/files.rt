@@ -17,6 +17,12 @@ pub trait Files {
     // was begun.
     ghost state: { Self → FileState };
 
+    /// A number that who makes the files can't know, by which positions are found. With zero, the same in each run, a file can be made
+    /// of which that takes long.
+    fn seed(&self) -> u64 {
+        0
+    }
+
     /// The file of this name from its first byte on, or nothing where it can't be opened.
     fn open(&mut self, path: &str) -> Option<Source<Self::R>>
         // What is given has the bytes of that file left, and has not been read.

@@ -68,6 +68,7 @@ fn level_asked(threshold: u128, keep: Option<&str>) -> Result<Level, Ending>
 pub(crate) fn options_of(
     alloc: Global,
     exact: bool,
+    seed: u64,
     grid: Option<u32>,
     area: &str,
     keep: Option<&str>,
@@ -84,5 +85,6 @@ pub(crate) fn options_of(
         level,
         ring_limit,
         exact,
+        seed,
     })
 }

@@ -100,7 +100,7 @@ pub(crate) fn answer<F: Files, V: Drain>(
             keep,
             ring_area,
         } => {
-            let options = options_of(alloc, *exact, *grid, area, *keep, ring_area)?;
+            let options = options_of(alloc, *exact, files.seed(), *grid, area, *keep, ring_area)?;
             let report = build_layers(alloc, reducer, layers.as_slice(), &options, files, out)?;
             Ok(Some(report))
         }

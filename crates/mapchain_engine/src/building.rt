@@ -61,6 +61,7 @@ fn build_layers<Q: Reducer, R: Feed, W: Drain>(
     let (topology, dropped, removed, chosen) = topology_of_layers(
         alloc,
         reducer,
+        options.seed,
         layers,
         options.grid,
         options.level,

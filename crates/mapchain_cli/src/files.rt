@@ -17,8 +17,8 @@ pub trait Files {
     // was begun.
     ghost state: { Self → FileState };
 
-    /// A number that who makes the files can't know, by which positions are found. With zero, the same in each run, a file can be made
-    /// of which that takes long.
+    /// A number that nobody who made the files can know, with which the hashes of a run begin; zero where there is none, and then a layer
+    /// can be made that takes long.
     fn seed(&self) -> u64 {
         0
     }

@@ -15,7 +15,7 @@ pub struct Options {
     pub ring_limit: u128,
     /// Coordinates that aren't whole in units are refused.
     pub exact: bool,
-    /// What hashes of positions begin with. Nothing that is written depends on it; where strangers make the layers, take a number
+    /// What the hashes of positions begin with. Nothing that is written depends on it; where strangers make the layers, take a number
     /// that they can't know.
     pub seed: u64,
 

@@ -116,6 +116,11 @@ impl<'a> LentFiles<'a> {
         }
     }
 
+    /// What the hashes of a run begin with: devices that give one byte a call have another seed, so that what a page writes is seen under two.
+    pub fn seed(&self) -> u64 {
+        u64::from(self.devices.by_one)
+    }
+
     /// The file of this name from its first byte on, if the page has it or the run has written it.
     pub fn open(&self, path: &str) -> Option<Source<FromRead<CutReader<'a>>>>
         ensures bytes { IfSome result (λ source. source.left ≡ lent self.now path.now) }

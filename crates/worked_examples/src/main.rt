@@ -65,6 +65,10 @@ impl<'a> mapchain_cli::Files for PageFiles<'a> {
 
     ghost state = { λ s. record { contents = lent s.files; counts = s.counts; pending = option_map string_bytes s.pending } };
 
+    fn seed(&self) -> u64 {
+        self.files.seed()
+    }
+
     fn open(&mut self, path: &str) -> Option<Source<FromRead<CutReader<'a>>>> {
         let opened = self.files.open(path);
         self.counts.count_open(opened.is_some());

@@ -3,6 +3,7 @@
 
     scripts/documents.py                     the program of ./mapchain, which is proved and built first where it has to be
     scripts/documents.py path/to/mapchain    another program with the same commands
+    scripts/documents.py --write             the same, and notes in scripts/commands.txt how many commands each document has
 
 Each document is read from front to end, in a folder of its own that is empty at first; that of the README has `mapchain`, `examples` and
 `scripts` in it, as a clone has. A block `KIND file NAME` is a file, as in the pages of the worked examples
@@ -13,7 +14,8 @@ is complained of. A picture that the README shows, as docs/areas.svg, has to be 
 
 An entry of docs/FAULTS.md is a heading of the third level, and names a fault line of docs/FORMATS.md, without its `error:` and its
 numbers. Each fault line has one entry, each entry a fault line, and some command of the entry ends with it; but for the line of which
-docs/FORMATS.md says that it was not seen so far. The status is 0 where all of this is so.
+docs/FORMATS.md says that it was not seen so far. The status is 0 where all of this is so, and where of each document as many commands were run
+as scripts/commands.txt has for it.
 """
 import os
 import re
@@ -24,7 +26,7 @@ from pathlib import Path
 
 sys.dont_write_bytecode = True
 
-from pages import ROOT, bytes_of
+from pages import ROOT, bytes_of, missed, note, path_of, words_of
 
 README = ROOT / "README.md"
 FAULTS = ROOT / "docs" / "FAULTS.md"
@@ -183,15 +185,19 @@ def try_faults(program, room):
     return faults
 
 
+def is_document(path):
+    """Whether this is the path of a document."""
+    return path in map(path_of, (README, FAULTS))
+
+
 def main():
-    if len(sys.argv) > 1:
-        program = Path(sys.argv[1]).resolve()
-    else:
-        path = subprocess.run([ROOT / "scripts" / "program-path.sh"], check=True, capture_output=True, text=True).stdout.strip()
-        program = Path(path)
+    program, writes = words_of("Runs the commands of README.md and of docs/FAULTS.md.")
     with tempfile.TemporaryDirectory() as room:
         tried = [way(program, Path(room)) for way in (try_readme, try_faults)]
-    sys.exit(0 if all(each.ran and not each.otherwise for each in tried) else 1)
+    ran = {path_of(path): each.ran for path, each in zip((README, FAULTS), tried)}
+    if writes:
+        note(ran, is_document)
+    sys.exit(1 if missed(ran, is_document) or any(each.otherwise or not each.ran for each in tried) else 0)
 
 
 if __name__ == "__main__":

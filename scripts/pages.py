@@ -4,12 +4,16 @@ streams, and compares standard output, standard error and the exit status byte f
 
     scripts/pages.py                     the program of ./mapchain, which is proved and built first where it has to be
     scripts/pages.py path/to/mapchain    another program with the same commands
+    scripts/pages.py --write             the same, and notes in scripts/commands.txt how many commands each page has
 
 The gate does it with the program that it built, since the pages run there over files and streams in memory: what they leave out is the
 program's `main`, with the file system and the standard streams. Commands on devices that fail are left out here. After each command its
 folder has to hold the files that it held before, byte for byte, but for the file that the command was to write, and no other. It prints a
-line for each command that went otherwise, and at its end how many pages and commands there were. The status is 0 where all went as they say.
+line for each command that went otherwise, and at its end how many pages and commands there were. The status is 0 where all went as they
+say, and where of each page as many commands were run as scripts/commands.txt has for it: a page that isn't read, or not to its end, is
+complained of.
 """
+import argparse
 import re
 import subprocess
 import sys
@@ -18,6 +22,7 @@ from pathlib import Path
 
 ROOT = Path(__file__).resolve().parent.parent
 PAGES = ROOT / "crates" / "worked_examples" / "data"
+COUNTS = ROOT / "scripts" / "commands.txt"
 
 
 class Command:
@@ -170,19 +175,66 @@ def run_page(program, page, folder, run_command=as_it_stands):
     return ran, otherwise
 
 
+def path_of(file):
+    """The path of a file from the top of the repository on."""
+    return str(file.relative_to(ROOT))
+
+
+def noted():
+    """How many commands are to be run of each page and document, by its path."""
+    lines = (line.split() for line in COUNTS.read_text().splitlines() if not line.startswith("#"))
+    return {path: int(count) for path, count in lines}
+
+
+def note(ran, is_own):
+    """Notes how many commands were run of each, in place of what was noted of such paths."""
+    comments = [line for line in COUNTS.read_text().splitlines() if line.startswith("#")]
+    counts = {path: count for path, count in noted().items() if not is_own(path)} | ran
+    COUNTS.write_text("".join(f"{line}\n" for line in [*comments, *(f"{path} {counts[path]}" for path in sorted(counts))]))
+
+
+def missed(ran, is_own):
+    """Prints of which such paths other numbers of commands were run than were noted, and gives how many they are."""
+    wanted = {path: count for path, count in noted().items() if is_own(path)}
+    wrong = [path for path in sorted(wanted.keys() | ran.keys()) if wanted.get(path, 0) != ran.get(path, 0)]
+    for path in wrong:
+        print(f"{path}: {ran.get(path, 0)} commands were run, and {path_of(COUNTS)} has {wanted.get(path, 0)} (--write notes what was run)")
+    return len(wrong)
+
+
+def is_page(path):
+    """Whether this is the path of a page."""
+    return path.startswith(path_of(PAGES))
+
+
+def words_of(text):
+    """The program's path, and whether the numbers of commands are to be noted."""
+    parser = argparse.ArgumentParser(description=text)
+    parser.add_argument("program", nargs="?", type=Path, help="the program, in place of that of ./mapchain")
+    parser.add_argument("--write", action="store_true", help="note in scripts/commands.txt how many commands were run")
+    words = parser.parse_args()
+    return words.program.resolve() if words.program else program_path(), words.write
+
+
+def program_path():
+    """The program that ./mapchain runs."""
+    run = subprocess.run([ROOT / "scripts" / "program-path.sh"], check=True, stdout=subprocess.PIPE, text=True)
+    return Path(run.stdout.rstrip("\n"))
+
+
 def main():
-    if len(sys.argv) > 1:
-        program = str(Path(sys.argv[1]).resolve())
-    else:
-        program = subprocess.run([ROOT / "scripts" / "program-path.sh"], check=True, capture_output=True, text=True).stdout.strip()
-    pages = sorted(PAGES.glob("*.md"))
-    ran = otherwise = 0
-    for page in pages:
+    program, writes = words_of("Runs the commands of the worked examples.")
+    ran = {}
+    otherwise = 0
+    for page in sorted(PAGES.glob("*.md")):
         with tempfile.TemporaryDirectory() as folder:
-            counts = run_page(program, page, Path(folder))
-        ran, otherwise = ran + counts[0], otherwise + counts[1]
-    print(f"{len(pages)} pages, {ran} commands by the program itself, {otherwise} went otherwise")
-    sys.exit(0 if otherwise == 0 and ran else 1)
+            counts = run_page(str(program), page, Path(folder))
+        ran[path_of(page)] = counts[0]
+        otherwise += counts[1]
+    print(f"{len(ran)} pages, {sum(ran.values())} commands by the program itself, {otherwise} went otherwise")
+    if writes:
+        note(ran, is_page)
+    sys.exit(1 if missed(ran, is_page) or otherwise or not ran else 0)
 
 
 if __name__ == "__main__":

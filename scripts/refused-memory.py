@@ -11,8 +11,9 @@ it compiles and has the program load, refuses the Nth allocation, once, and repo
 asked for fewer than N. Its answer is then the one that stands here. Then it runs crates/allocation_tests in the same way, where a
 reducer that was refused memory has to answer the next call.
 
-It ends with status 0, or with status 1 at the first run that ends in anything else. The gate refuses no memory, so this is run by
-hand, and takes less than a minute.
+It ends with status 0, or with status 1 at the first run that ends in anything else, or where fewer runs than the number that stands beside a
+command ended in its line of want of memory: then the library was not loaded, say, or refused less than it did. The gate runs it with the
+programs that it built; it takes less than a minute.
 """
 import os
 import re
@@ -20,6 +21,7 @@ import subprocess
 import sys
 import tempfile
 import time
+from typing import NamedTuple
 
 ROOT = os.path.dirname(os.path.dirname(os.path.realpath(__file__)))
 
@@ -76,7 +78,8 @@ void *realloc(void *old, size_t size) {
 # The allocations that a run can do without:
 #
 # - a list that gives back what it doesn't use keeps its room where it can't;
-# - std collects the words of the command line with or without a list of 96 bytes, before a file is opened;
+# - std collects the words of the command line, up to four after the program's name, with or without a list of 96 bytes, before a file is
+#   opened;
 # - the names of layers are looked through one by one where the set of them can't be had, whose nodes have these bytes. It is
 #   asked for once all files are open.
 SHRINKING = "less"
@@ -113,6 +116,13 @@ SQUARES_TOPOLOGY = topology(
     "[[[1,0],[1,1]],[[1,1],[0,1],[0,0],[1,0]],[[1,0],[2,0],[2,1],[1,1]]]",
     "[0,0,2,1]",
 )
+WEST = layer(("Polygon", "[[[0,0],[1,0],[1,1],[0,1],[0,0]]]"))
+EAST = layer(("Polygon", "[[[1,0],[2,0],[2,1],[1,1],[1,0]]]"))
+TWO_LAYERS_TOPOLOGY = SQUARES_TOPOLOGY.replace(
+    '{"land":{"type":"GeometryCollection","geometries":[{"type":"Polygon","arcs":[[0,1]]},',
+    '{"west":{"type":"GeometryCollection","geometries":[{"type":"Polygon","arcs":[[0,1]]}]},'
+    '"east":{"type":"GeometryCollection","geometries":[',
+)
 PEAK = layer(("LineString", "[[0,0],[0.5,1],[1,0]]"), ("Point", "[1,1]"))
 PEAK_TOPOLOGY = topology(
     "g",
@@ -144,13 +154,15 @@ FILES = {
     "bend.json": BEND,
     "line.topojson": LINE_TOPOLOGY,
     "squares.json": SQUARES,
+    "west.json": WEST,
+    "east.json": EAST,
     "peak.json": PEAK,
     "land.json": LAND,
     "full.topojson": FULL_TOPOLOGY,
     "less.topojson": LAND_TOPOLOGY,
 }
 
-# ---- the runs: the words, the status, standard output, standard error, and the line of want of memory
+# ---- the runs
 
 
 def report(arcs, kept, drops=(), removed=0):
@@ -159,32 +171,100 @@ def report(arcs, kept, drops=(), removed=0):
     return f"rounded 0\nextra 0\nempty 0\ndropped {len(drops)}\n{dropped}arcs {arcs}\nkept {kept}\nremoved {removed}\n"
 
 
-# The file of an output that goes to a file.
-OUTPUT = "output"
+def run_report(status, fault, counted, *explanation):
+    """The report of a run as JSON."""
+    lines = ",".join('"%s"' % line.replace('"', r'\"') for line in explanation)
+    return '{"status":%d,"fault":%s,"report":%s,"explanation":[%s]}\n' % (status, fault, counted, lines)
+
+
+def fault(code, name, layer="null"):
+    """A fault in the report of a run."""
+    return '{"code":%s,"name":"%s","layer":%s,"feature":null,"at":null,"sent":null}' % (code, name, layer)
+
+
+# The files of an output and of the report of a run, where they go to files.
+OUTPUT, REPORT = "output", "run.json"
 SMALL = ("0 0 1 small", "0 1 0 small")
-BUILD, FILE = "error: B7 Memory\n", "error: E6 Memory\n"
+BUILD, FILE = "B7", "E6"
 # Lines that explain a run, some or all of which aren't there where memory for them is refused.
-KEPT_ALL = "  kept 2 of 2 positions of the arcs, 100.0 %\n"
-CUT_SHORT = '  layer 0 is "a", the file cut.json\n  line 1, column 41 (byte 40): the text ends too early\n'
+KEPT_ALL = "kept 2 of 2 positions of the arcs, 100.0 %"
+CUT_SHORT = ('layer 0 is "a", the file cut.json', "line 1, column 41 (byte 40): the text ends too early")
+LINE_COUNTED = '{"rounded":0,"extra":0,"empty":0,"dropped":[],"arcs":1,"kept":2,"removed":0,"chosen":null}'
+LINE_LAYER = layer(("LineString", "[[0,0],[1.5,0.25]]"))
+SUMMARY = 'objects 1\n"land" 3\narcs 2\npositions 7\ngrid no\n'
+
+
+class Run(NamedTuple):
+    """A command, and what comes of it: its status, standard output or the file of its output, standard error, the code of its want of
+    memory, how often that is told at least where each allocation is refused in turn, and the report of the run, if it writes one."""
+
+    words: str
+    status: int
+    output: str
+    error: str
+    memory: str
+    least: int
+    report: str | None = None
+
+
 RUNS = (
-    ("build a=line.json", 0, LINE_TOPOLOGY, report(1, 2), BUILD),
-    ("build land=squares.json", 0, SQUARES_TOPOLOGY, report(3, 10), BUILD),
-    ("build --grid 4 g=peak.json", 0, PEAK_TOPOLOGY, report(1, 3), BUILD),
-    ("build --min-area 1 land=land.json", 0, LAND_TOPOLOGY, report(2, 7, SMALL), BUILD),
-    ("build --min-ring-area 1 land=land.json", 0, LAND_TOPOLOGY, report(2, 7, SMALL), BUILD),
-    ("build --keep 1/2 b=bend.json", 0, BENT_TOPOLOGY, report(1, 3, removed=1) + "chosen 9000000000000000000\n", BUILD),
-    ("build a=line.json b=cut.json", 1, "", "error: layer 1 J2 Malformed\n", BUILD),
-    ("build a=line.json b=line.json a=line.json", 2, "", "error: layer 2 B2 DuplicateName\n", BUILD),
-    ("build --explain a=line.json", 0, LINE_TOPOLOGY, report(1, 2) + KEPT_ALL, BUILD),
-    ("build --explain a=cut.json", 1, "", "error: layer 0 J2 Malformed\n" + CUT_SHORT, BUILD),
-    ("simplify --min-area 1 full.topojson", 0, LAND_TOPOLOGY, report(2, 7, SMALL), FILE),
-    ("geo --object a line.topojson", 0, layer(("LineString", "[[0,0],[1.5,0.25]]")), "", FILE),
-    ("stat less.topojson", 0, 'objects 1\n"land" 3\narcs 2\npositions 7\ngrid no\n', "", FILE),
-    (f"build -o {OUTPUT} a=line.json", 0, LINE_TOPOLOGY, report(1, 2), BUILD),
-    (f"geo --object=a --output={OUTPUT} line.topojson", 0, layer(("LineString", "[[0,0],[1.5,0.25]]")), "", FILE),
+    Run("build a=line.json", 0, LINE_TOPOLOGY, report(1, 2), BUILD, 20),
+    Run("build land=squares.json", 0, SQUARES_TOPOLOGY, report(3, 10), BUILD, 30),
+    Run("build west=west.json east=east.json", 0, TWO_LAYERS_TOPOLOGY, report(3, 10), BUILD, 30),
+    Run("build --grid 4 g=peak.json", 0, PEAK_TOPOLOGY, report(1, 3), BUILD, 20),
+    Run("build --min-area 1 land=land.json", 0, LAND_TOPOLOGY, report(2, 7, SMALL), BUILD, 35),
+    Run("build --min-ring-area 1 land=land.json", 0, LAND_TOPOLOGY, report(2, 7, SMALL), BUILD, 30),
+    Run("build --keep 1/2 b=bend.json", 0, BENT_TOPOLOGY, report(1, 3, removed=1) + "chosen 9000000000000000000\n", BUILD, 25),
+    Run("build a=line.json b=cut.json", 1, "", "error: layer 1 J2 Malformed\n", BUILD, 5),
+    Run("build a=line.json b=line.json a=line.json", 2, "", "error: layer 2 B2 DuplicateName\n", BUILD, 0),
+    Run("build --explain a=line.json", 0, LINE_TOPOLOGY, f"{report(1, 2)}  {KEPT_ALL}\n", BUILD, 20),
+    Run("build --explain a=cut.json", 1, "", "".join(["error: layer 0 J2 Malformed\n", *(f"  {it}\n" for it in CUT_SHORT)]), BUILD, 1),
+    Run("simplify --min-area 1 full.topojson", 0, LAND_TOPOLOGY, report(2, 7, SMALL), FILE, 25),
+    Run("simplify --min-ring-area 1 full.topojson", 0, LAND_TOPOLOGY, report(2, 7, SMALL), FILE, 25),
+    Run("geo --object a line.topojson", 0, LINE_LAYER, "", FILE, 6),
+    Run("stat less.topojson", 0, SUMMARY, "", FILE, 10),
+    Run(f"build -o {OUTPUT} a=line.json", 0, LINE_TOPOLOGY, report(1, 2), BUILD, 20),
+    Run(f"simplify --min-area=1 --output={OUTPUT} full.topojson", 0, LAND_TOPOLOGY, report(2, 7, SMALL), FILE, 25),
+    Run(f"geo --object=a --output={OUTPUT} line.topojson", 0, LINE_LAYER, "", FILE, 6),
+    Run(f"stat -o {OUTPUT} less.topojson", 0, SUMMARY, "", FILE, 10),
+    Run(
+        f"build --report={REPORT} a=line.json",
+        0,
+        LINE_TOPOLOGY,
+        report(1, 2),
+        BUILD,
+        20,
+        run_report(0, "null", LINE_COUNTED, KEPT_ALL),
+    ),
+    Run(
+        f"build --report={REPORT} a=cut.json",
+        1,
+        "",
+        "error: layer 0 J2 Malformed\n",
+        BUILD,
+        1,
+        run_report(1, fault('"J2"', "Malformed", 0), "null", *CUT_SHORT),
+    ),
+    Run(f"geo --object=a --report={REPORT} line.topojson", 0, LINE_LAYER, "", FILE, 6, run_report(0, "null", "null")),
 )
-# What is told where memory is refused before an output to a file is begun.
+# How many allocations are refused at least, in all commands together.
+LEAST = 2500
+# How often at least a reducer that is called twice is refused memory in either call.
+REDUCED_AGAIN = {"refused, and then answered": 3, "answered, and then refused": 1}
+# What is told where memory is refused before an output to a file is begun, and where it is refused to the report of a run.
 UNBEGUN = ("error: B6 Write sent 0\n", "error: E5 Write sent 0\n")
+UNREPORTED = "error: F4 NoReport\n"
+
+
+class Ended(NamedTuple):
+    """How a run ended: its status, standard output or the file of its output, standard error, the report of the run, and the allocation that
+    was refused, if it was asked for: what it was, how many bytes, and how many files were open before."""
+
+    status: int
+    output: str
+    error: str
+    report: str | None
+    refused: tuple | None
 
 
 class Refusing:
@@ -193,12 +273,15 @@ class Refusing:
     def __init__(self, folder):
         self.folder = folder
         self.library = f"{folder}/refusing.so"
-        words = [os.environ.get("CC", "cc"), "-shared", "-fPIC", "-O1", "-x", "c", "-", "-o", self.library]
-        subprocess.run(words, input=REFUSING.encode(), check=True)
+        compiler = os.environ.get("CC", "cc")
+        words = [compiler, "-shared", "-fPIC", "-O1", "-x", "c", "-", "-o", self.library]
+        try:
+            subprocess.run(words, input=REFUSING.encode(), check=True)
+        except (OSError, subprocess.CalledProcessError) as why:
+            sys.exit(f"refused-memory: it takes a C compiler, and `{compiler}` compiled nothing ({why}): so no allocation was refused")
 
     def run(self, words, number):
-        """The status, standard output or the file of the output, standard error, and the allocation of this number, if it was asked for:
-        what it was, how many bytes, and how many files were open before. No other file may be there after the run."""
+        """How a run ends whose allocation of this number is refused. It may leave no file behind but those of its output and its report."""
         before = {*os.listdir(self.folder), "told"}
         with open(f"{self.folder}/told", "wb") as told:
             file = told.fileno()
@@ -206,87 +289,128 @@ class Refusing:
             ended = subprocess.run(words, cwd=self.folder, env=env, pass_fds=[file], capture_output=True, timeout=60)
         with open(f"{self.folder}/told") as told:
             kind, *numbers = told.read().split() or [None]
-        refused = kind and (kind, *map(int, numbers))
-        output = ended.stdout.decode()
-        if os.path.exists(f"{self.folder}/{OUTPUT}"):
-            with open(f"{self.folder}/{OUTPUT}") as file:
-                output += file.read()
-            os.remove(f"{self.folder}/{OUTPUT}")
+        output = ended.stdout.decode() + (self.taken(OUTPUT) or "")
+        report = self.taken(REPORT)
         if {*os.listdir(self.folder)} != before:
             output += "and left a file behind"
-        return ended.returncode, output, ended.stderr.decode(), refused
+        return Ended(ended.returncode, output, ended.stderr.decode(), report, kind and (kind, *map(int, numbers)))
+
+    def taken(self, name):
+        """The text of a file, which is taken away, if it is there."""
+        path = f"{self.folder}/{name}"
+        if not os.path.exists(path):
+            return None
+        with open(path) as file:
+            text = file.read()
+        os.remove(path)
+        return text
 
 
 def is_dispensable(words, refused):
     """Whether a run of this command can do without this allocation."""
     kind, size, opened = refused
-    files = sum("=" in it for it in words) + (OUTPUT in words)
+    files = sum("=" in it and not it.startswith("-") for it in words) + (OUTPUT in words)
     is_of_names = kind == "new" and size in NAME_SET and words[0] == "build" and opened == files
     return kind == SHRINKING or refused == WORDS_LIST or is_of_names
 
 
 def fail(words, number, ended):
     """Tells of a run that ended in anything else, and ends."""
-    print(f"{words}: allocation {number}, {ended[3]}, refused: status {ended[0]}\n{ended[1]}\n{ended[2]}", file=sys.stderr)
+    print(f"{words}: allocation {number}, {ended.refused}, refused: status {ended.status}", file=sys.stderr)
+    print(ended.output, ended.error, ended.report, sep="\n", file=sys.stderr)
     sys.exit(1)
 
 
+def without_column(text):
+    """The same with the byte of a fault in place of its line and column: that of a file that can't be read once more."""
+    return re.sub(r"line \d+, column \d+ \((byte \d+)\)", r"\1", text)
+
+
 def explained_less(error):
-    """The same with as many lines of its explanation or fewer of the last ones, or with the byte of a fault in place of its line and column:
-    that of a file that can't be read once more."""
+    """The same with as many lines of its explanation or fewer of the last ones."""
     lines = error.splitlines(True)
     first = next((at for at, line in enumerate(lines) if line.startswith("  ")), len(lines))
-    less = ["".join(lines[:end]) for end in range(first, len(lines) + 1)]
-    return [*less, re.sub(r"line \d+, column \d+ \((byte \d+)\)", r"\1", error)]
+    return [*("".join(lines[:end]) for end in range(first, len(lines) + 1)), without_column(error)]
+
+
+def reported_less(report):
+    """The same without its explanation, with all of it, or with less of what it says of a place."""
+    return [report, report and re.sub(r'"explanation":\[.*\]', '"explanation":[]', report), report and without_column(report)]
+
+
+def of_memory(run, code):
+    """The report of a run that ends in want of memory, with this code of it, if it writes one."""
+    return run.report and run_report(3, fault(code, "Memory"), "null")
+
+
+def kind_of(run, ended):
+    """How a run ended whose allocation was refused: nothing where it ended as none may."""
+    words = run.words.split()
+    status, output, error, report, refused = ended
+    if (status, output, error, report) == (run.status, run.output, run.error, run.report) and is_dispensable(words, refused):
+        return "answered"
+    if (status, output) == (run.status, run.output):
+        if "--explain" in words and error in explained_less(run.error):
+            return "unexplained"
+        if run.report and error == run.error and report in reported_less(run.report):
+            return "unexplained"
+    if (status, output, error, report) == (3, "", f"error: {run.memory} Memory\n", of_memory(run, f'"{run.memory}"')):
+        return "told"
+    if (status, output, error) == (3, "", "") and report in (None, of_memory(run, "null")):
+        return "silent"
+    if OUTPUT in run.words and (status, output) == (3, "") and error in UNBEGUN:
+        return "unbegun"
+    if run.report and (status, output, error, report) == (run.status or 3, run.output, run.error + UNREPORTED, None):
+        return "unreported"
+    return None
+
+
+# What a run is said to have ended in, by its kind. The rarer ones are only named where there are any.
+ENDS = {
+    "told": "in the line of want of memory",
+    "silent": "in status 3 with no line",
+    "answered": "in the answer",
+    "unbegun": "before the output was begun",
+    "unexplained": "with less of an explanation",
+    "unreported": "in the answer with no report",
+}
 
 
 def refuse_each(refusing, program, run):
     """Refuses each allocation of a run of the program, and prints how the runs ended."""
-    words, status, output, error, memory = run
-    counts = {"answered": 0, "told": 0, "silent": 0, "unbegun": 0, "unexplained": 0}
+    counts = dict.fromkeys(ENDS, 0)
     number = 1
-    while True:
-        ended = refusing.run([program, *words.split()], number)
-        if ended[:3] == (status, output, error) and not ended[3]:
-            break
-        if ended[:3] == (status, output, error) and is_dispensable(words.split(), ended[3]):
-            counts["answered"] += 1
-        elif "--explain" in words and ended[:2] == (status, output) and ended[2] in explained_less(error) and ended[3]:
-            counts["unexplained"] += 1
-        elif ended[:3] == (3, "", memory) and ended[3]:
-            counts["told"] += 1
-        elif ended[:3] == (3, "", "") and ended[3]:
-            counts["silent"] += 1
-        elif OUTPUT in words and ended[:2] == (3, "") and ended[2] in UNBEGUN and ended[3]:
-            counts["unbegun"] += 1
-        else:
-            fail(words, number, ended)
+    while (ended := refusing.run([program, *run.words.split()], number)).refused:
+        kind = kind_of(run, ended)
+        # (want of memory has no line before a file is read, and has its line from then on)
+        if not kind or kind == "silent" and counts["told"]:
+            fail(run.words, number, ended)
+        counts[kind] += 1
         number += 1
-    print(
-        f"{words}: {number - 1} allocations, each refused once: {counts['told']} runs ended in {memory.strip()!r}, "
-        f"{counts['silent']} in status 3 with no line, {counts['answered']} in the answer"
-        + (f", {counts['unbegun']} before the output was begun" if counts["unbegun"] else "")
-        + (f", {counts['unexplained']} with less of an explanation" if counts["unexplained"] else "")
-    )
+    if ended[:4] != (run.status, run.output, run.error, run.report):
+        fail(run.words, number, ended)
+    ends = ", ".join(f"{counts[kind]} {ENDS[kind]}" for kind in ENDS if counts[kind])
+    print(f"{run.words}: {number - 1} allocations, each refused once: {ends}")
+    if counts["told"] < run.least:
+        sys.exit(f"{run.words}: {counts['told']} runs ended in the line of want of memory, and at least {run.least} have to")
     return number - 1
 
 
 def reduce_again(refusing, program):
     """Refuses each allocation of a reducer that is called twice, and prints how the runs ended."""
-    counts = {}
+    counts = {"refused, and then answered": 0, "answered, and then refused": 0}
     number = 1
-    while True:
-        ended = refusing.run([program], number)
-        told = ended[1].strip()
-        if ended[0] == 0 and ended[2] == "" and told == "answered twice" and not ended[3]:
-            break
-        if ended[0] != 0 or told not in ("refused, and then answered", "answered, and then refused"):
+    while (ended := refusing.run([program], number)).refused:
+        told = ended.output.strip()
+        if ended.status != 0 or told not in counts:
             fail("a reducer", number, ended)
-        counts[told] = counts.get(told, 0) + 1
+        counts[told] += 1
         number += 1
-    if not counts.get("refused, and then answered"):
-        fail("a reducer was never refused", number, ended)
+    if (ended.status, ended.output.strip(), ended.error) != (0, "answered twice", ""):
+        fail("a reducer", number, ended)
     print(f"a reducer, called twice: {number - 1} allocations, each refused once: {counts}")
+    if any(counts[told] < least for told, least in REDUCED_AGAIN.items()):
+        fail(f"a reducer was refused less than {REDUCED_AGAIN}", number, ended)
 
 
 def program_path():
@@ -314,6 +438,8 @@ def main():
         total = sum(refuse_each(refusing, program, run) for run in RUNS)
         reduce_again(refusing, reducing)
     print(f"{total} allocations in {len(RUNS)} commands, {time.monotonic() - start:.0f} seconds")
+    if total < LEAST:
+        sys.exit(f"at least {LEAST} allocations are to be refused")
 
 
 if __name__ == "__main__":

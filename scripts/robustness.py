@@ -3,13 +3,20 @@
 
     scripts/robustness.py                     the program of ./mapchain, which is proved and built first where it has to be
     scripts/robustness.py path/to/mapchain    another program with the same commands
+    scripts/robustness.py --short             the same with small files, as the gate does it
 
 First the deepest nesting that is taken, of each kind, and one more, with a stack of 1 MiB. Then streams: pipes that close early,
 a full disk, closed streams, folders, files that can't be read, named pipes, files with no end. Then large files, at a tenth of
 their size and whole: the seconds of both, the growth, which is the time a byte at the whole size over that at the tenth, and the
-greatest peak of memory. It ends with status 1 where a run ends in anything else; of the times nothing is claimed. It is run by
-hand, takes some two minutes, 2 GB of memory and 300 MB of disk, and has up to 10^5 files open at once: as many as `ulimit -Hn` allows.
+greatest peak of memory. Of these times nothing is claimed. At last files of 10^4, 10^5 and 10^6 positions that were chosen so that
+they, or the segments between them, have one hash where the hash is one that is known before the run: the processor time of a byte
+may not double from the first to the last.
+
+It ends with status 1 where a run ends in anything else, and where fewer runs were judged than stand beside each part. It takes some three
+minutes, 2 GB of memory and 300 MB of disk, and has up to 10^5 files open at once: as many as `ulimit -Hn` allows. The short form
+takes large files at a hundredth of their size, and chosen positions up to 10^5, and some fifteen seconds.
 """
+import argparse
 import os
 import resource
 import shlex
@@ -21,16 +28,27 @@ import time
 
 ROOT = os.path.dirname(os.path.dirname(os.path.realpath(__file__)))
 PROGRAM_PATH = [f"{ROOT}/scripts/program-path.sh"]
-PROGRAM = os.path.abspath(sys.argv[1]) if len(sys.argv) > 1 else subprocess.check_output(PROGRAM_PATH, text=True).rstrip("\n")
-unexpected = []
+WORDS = argparse.ArgumentParser(description="Gives the program files and streams of strangers.")
+WORDS.add_argument("program", nargs="?", type=os.path.abspath, help="the program, in place of that of ./mapchain")
+WORDS.add_argument("--short", action="store_true", help="with small files")
+ASKED = WORDS.parse_args()
+PROGRAM = ASKED.program or subprocess.check_output(PROGRAM_PATH, text=True).rstrip("\n")
+counts = {"judged": 0, "otherwise": 0}
 
 
 def expect(name, wanted, found):
     """Prints how a run ended, and notes it where that isn't as it should."""
-    is_right = wanted == found
-    print(f"{'' if is_right else 'UNEXPECTED '}{name}: {found}" + ("" if is_right else f", not {wanted}"), flush=True)
-    if not is_right:
-        unexpected.append(name)
+    if judge(name, wanted, found) and not ASKED.short:
+        print(f"{name}: {found}", flush=True)
+
+
+def judge(name, wanted, found):
+    """Whether a run ended as it should. It is noted and printed where it did not."""
+    counts["judged"] += 1
+    if wanted != found:
+        counts["otherwise"] += 1
+        print(f"UNEXPECTED {name}: {found}, not {wanted}", flush=True)
+    return wanted == found
 
 
 def write(name, text):
@@ -44,7 +62,8 @@ def write_apart(name, make, n):
     if child == 0:
         write(name, make(n))
         os._exit(0)
-    os.waitpid(child, 0)
+    _, ended = os.waitpid(child, 0)
+    judge(f"a file of {n}", 0, ended)
 
 
 # ---- texts
@@ -258,28 +277,6 @@ def lines_of(coordinates):
     return features(line(it) for it in coordinates)
 
 
-# The hash of a position, as crates/junctions/src/hashing.rt has it: the two halves of the product of its coordinates and these, joined.
-FIRST, SECOND, WORD = 0x9E3779B97F4A7C15, 0xD6E8FEB86659FD93, 1 << 64
-
-
-def close_step(limit):
-    """A step below the limit, so many times SECOND is close to a multiple of 2^64: the denominator of a convergent."""
-    before, step, high, low = 1, 0, SECOND, WORD
-    while low:
-        before, step, whole = step, high // low * step + before, step
-        if step >= limit:
-            return whole
-        high, low = low, high % low
-    return step
-
-
-def colliding(n):
-    """Positions on one line of latitude whose hashes begin alike, so that they are looked for in few places."""
-    step, first = close_step(1 << 34), FIRST >> 56 << 56
-    eastings = (first + i * step ^ FIRST for i in range(n))
-    return listed(f"[{x // 10**9}.{x % 10**9:09},0]" for x in eastings)
-
-
 BUILD, STAT, GEO, SIMPLIFY = "build a=file", "stat file", "geo --object a file", "simplify --min-area 1 file"
 MILLION = 10**6
 OPEN_FILES = min(10**5, resource.getrlimit(resource.RLIMIT_NOFILE)[1] - 100)
@@ -324,7 +321,6 @@ FILES = (
     ("the same, with a least area", MILLION // 4, lambda n: feature(geometry("Polygon", "[[[0,0],%s]]" % ",".join(["[1,0],[0,1],[0,0]"] * n))), BUILD + " --min-ring-area 1", 0),
     ("a segment back and forth", MILLION, lambda n: line(listed(["[0,0],[1,0]"] * n)), BUILD, 0),
     ("lines through one position", MILLION, lambda n: lines_of(f"[[0,0],[{i % 1000 + 1},{i // 1000}]]" for i in range(n)), BUILD, 0),
-    ("a line whose positions collide", MILLION, lambda n: line(colliding(n)), BUILD, 0),
     ("one position, often", MILLION, lambda n: line("[[0,0],%s]" % ",".join(["[1,1]"] * n)), BUILD, 0),
     ("a zigzag that goes", MILLION, lambda n: line(listed(f"[{i},{i % 2}]" for i in range(n))), BUILD + " --min-area 1000", 0),
     ("a spiral that goes", MILLION, lambda n: line(spiral(n)), BUILD + " --min-area 1000000000000", 0),
@@ -362,49 +358,214 @@ def holes(n):
     return feature(geometry("Polygon", f"[[[-1,-1],[2000,-1],[2000,2000],[-1,-1]],{rings}]"))
 
 
-def measured(words, status, name):
-    """The seconds and the peak in MB of the faster of two runs."""
-    best, peak = float("inf"), 0.0
-    for _ in range(2):
-        with open("out", "wb") as out, open("err", "wb") as err:
-            start = time.perf_counter()
-            child = subprocess.Popen([PROGRAM, *shlex.split(words)], stdout=out, stderr=err)
-            _, ended, usage = os.wait4(child.pid, 0)
-            best, peak = min(best, time.perf_counter() - start), max(peak, usage.ru_maxrss / 1024)
-        child.returncode = os.waitstatus_to_exitcode(ended)
-        if child.returncode != status:
-            expect(name, status, child.returncode)
-    return best, peak
+# The seconds after which a run is ended.
+LONGEST = 60
+
+
+def run_once(words):
+    """The status of a run, its seconds by the clock and of the processor, and its peak of memory in MB."""
+    with open("out", "wb") as out, open("err", "wb") as err:
+        start = time.perf_counter()
+        child = subprocess.Popen([PROGRAM, *shlex.split(words)], stdout=out, stderr=err)
+        ending = threading.Timer(LONGEST, child.kill)
+        ending.start()
+        _, ended, usage = os.wait4(child.pid, 0)
+        ending.cancel()
+    child.returncode = os.waitstatus_to_exitcode(ended)
+    return child.returncode, time.perf_counter() - start, usage.ru_utime + usage.ru_stime, usage.ru_maxrss / 1024
+
+
+def run_file(name, n, make, words, status, times):
+    """The bytes that a command reads of a file of this size, and of so many runs the least seconds and the greatest peak in MB."""
+    write_apart("file", make, n)
+    layers = " ".join(f"{i}=file" for i in range(n)) if "LAYERS" in words else ""
+    runs = [run_once(words.replace("LAYERS", layers)) for _ in range(times)]
+    for run in runs:
+        judge(f"{words}, {name}, {n}", status, run[0])
+    return os.path.getsize("file") * (n if layers else 1), min(run[1] for run in runs), max(run[3] for run in runs)
 
 
 def try_sizes():
+    if ASKED.short:
+        for name, size, make, words, status in FILES:
+            run_file(name, size // 100, make, words, status, 1)
+        return
     print("| File | Size | MB | Command | Seconds, a tenth | Seconds | Growth | Peak MB |\n|---|---|---|---|---|---|---|---|")
     for name, size, make, words, status in FILES:
-        rows = []
-        for n in (size // 10, size):
-            write_apart("file", make, n)
-            layers = " ".join(f"{i}=file" for i in range(n)) if "LAYERS" in words else ""
-            read = os.path.getsize("file") * (n if layers else 1)
-            rows.append((*measured(words.replace("LAYERS", layers), status, name), read))
-        (little, _, few), (much, peak, many) = rows
+        few, little, _ = run_file(name, size // 10, make, words, status, 2)
+        many, much, peak = run_file(name, size, make, words, status, 2)
         growth = (much / many) / (little / few)
         command = words.replace(" a=file", "").replace(" file", "").replace(" LAYERS", "")
         print(f"| {name} | {size} | {many / 1e6:.1f} | {command} | {little:.3f} | {much:.3f} | {growth:.2f} | {peak:.0f} |", flush=True)
 
 
+# ---- positions that were chosen by their hashes
+#
+# Two hashes are known. That of release 1.2.7 and before is the two halves of a product, joined, of the two numbers of a position, or the two
+# hashes of a segment's ends, each joined with a number of its own: a table looked from the place on that its first bits name. The other is
+# that of the kit's tables where no number of the run goes in first: each number that is hashed is joined with the state, which becomes the
+# two halves of the product with a third number. A table of the kit keeps 32 bits of it, of which eight are a key's tag, and the last ones name
+# the group of twelve where it begins to look.
+
+WORD = 1 << 64
+FIRST, SECOND = 0x9E3779B97F4A7C15, 0xD6E8FEB86659FD93
+STATE, FACTOR = 0x243F6A8885A308D3, 0x9E3779B97F4A7C15 ^ 16
+# The position whose hash is FIRST in release 1.2.7, so that all segments that begin there have the hash zero, and another one.
+ZEROING, ORDINARY = (37007059560594453, 27551501460005417), (10**9, 2 * 10**9)
+
+
+def folded(first, second):
+    """The two halves of the product, joined."""
+    product = first * second
+    return product % WORD ^ product >> 64
+
+
+def fed(state, *numbers):
+    """The state of the kit's hash after these numbers."""
+    for number in numbers:
+        state = folded(state ^ number, FACTOR)
+    return state
+
+
+def close_step(factor, limit):
+    """A step below the limit, so many times the factor is close to a multiple of 2^64: the denominator of a convergent."""
+    before, step, high, low = 1, 0, factor, WORD
+    while low:
+        before, step, whole = step, high // low * step + before, step
+        if step >= limit:
+            return whole
+        high, low = low, high % low
+    return step
+
+
+def alike_in_release(n):
+    """Positions on one line of latitude whose hashes in release 1.2.7 begin alike."""
+    step, first = close_step(SECOND, 1 << 34), FIRST >> 56 << 56
+    return ((first + i * step ^ FIRST, 0) for i in range(n))
+
+
+def alike_in_kit(n, state):
+    """Positions that bring the kit's hash from this state to one and the same. Northings have 56 bits, so the eastings are such that the states after
+    them begin with the same eight bits, and each northing is the rest of that state, which it takes away."""
+
+    def begun(easting):
+        product = (easting ^ state) * FACTOR
+        return product >> 120, product % WORD >> 56
+
+    step = close_step(FACTOR, 1 << 34)
+    starts = range(state >> 56 << 56, WORD, 1 << 40)
+    start = next(it for it in starts if begun(it ^ state) == begun(it + (n - 1) * step ^ state))
+    for i in range(n):
+        easting = start + i * step ^ state
+        yield easting, fed(state, easting) % (1 << 56)
+
+
+def decimals(position):
+    """A position of two numbers of units of 10^-9 as JSON."""
+    return listed(f"{it // 10**9}.{it % 10**9:09}" for it in position)
+
+
+def line_of(positions):
+    return line(listed(map(decimals, positions)))
+
+
+def fan_of(start, positions):
+    """A line from the start to each position."""
+    return feature(geometry("MultiLineString", listed(listed([decimals(start), decimals(it)]) for it in positions)))
+
+
+def on_a_grid(n):
+    return ((i % 1000 * 10**9, i // 1000 * 10**9) for i in range(n))
+
+
+ZERO_FIRST = fed(STATE, 0)
+CHOSEN = (
+    ("positions of a grid", lambda n: line_of(on_a_grid(n))),
+    ("positions whose hashes begin alike, by release 1.2.7", lambda n: line_of(alike_in_release(n))),
+    ("positions of one hash, by the kit with no number first", lambda n: line_of(alike_in_kit(n, STATE))),
+    ("positions of one hash, by the kit with zero first", lambda n: line_of(alike_in_kit(n, ZERO_FIRST))),
+    ("segments of one hash, by release 1.2.7", lambda n: fan_of(ZEROING, on_a_grid(n))),
+    ("segments of one hash, by the kit with no number first", lambda n: fan_of(ORDINARY, alike_in_kit(n, fed(STATE, *ORDINARY)))),
+    ("segments of one hash, by the kit with zero first", lambda n: fan_of(ORDINARY, alike_in_kit(n, fed(ZERO_FIRST, *ORDINARY)))),
+)
+# By how much the time of a byte may grow from the least size to the greatest, and how often a file is read at least and at most.
+GREATEST_GROWTH, LEAST_RUNS, MOST_RUNS = 2, 3, 10
+
+
+def have_one_hash():
+    """Whether the chosen positions and segments are different ones and have one hash, or begin alike, as they are chosen to."""
+    n = 10**4
+    released = [folded(x ^ FIRST, y ^ SECOND) for x, y in alike_in_release(n)]
+    judge("hashes of positions in release 1.2.7 begin alike", True, len({it >> 54 for it in released}) <= 2)
+    judge("the hash of the start of segments in release 1.2.7", FIRST, folded(ZEROING[0] ^ FIRST, ZEROING[1] ^ SECOND))
+    for state in (STATE, ZERO_FIRST):
+        for start in ((), ORDINARY):
+            chosen = set(alike_in_kit(n, fed(state, *start)))
+            hashes = {fed(state, *start, *it) for it in chosen}
+            judge("different positions, and their hashes", (n, 1), (len(chosen), len(hashes)))
+
+
+def growth_of(times, sizes):
+    """By how much the time of a byte grows from the first size to the last one."""
+    return times[sizes[-1]] / os.path.getsize(f"file-{sizes[-1]}") / (times[sizes[0]] / os.path.getsize(f"file-{sizes[0]}"))
+
+
+def time_chosen(name, sizes):
+    """The least seconds of the processor that the files of these sizes take. Where they grow too much they are read again, a few times: on a machine
+    that is busy with other things, some runs take longer."""
+    times = dict.fromkeys(sizes, float("inf"))
+    statuses = set()
+    for number in range(MOST_RUNS):
+        for n in sizes:
+            status, _, seconds, _ = run_once(f"build a=file-{n}")
+            times[n] = min(times[n], seconds)
+            statuses.add(status)
+        if statuses != {0} or number + 1 >= LEAST_RUNS and growth_of(times, sizes) < GREATEST_GROWTH:
+            break
+    judge(f"{name}: the statuses", {0}, statuses)
+    return times
+
+
+def try_chosen():
+    have_one_hash()
+    sizes = (10**4, 10**5) if ASKED.short else (10**4, 10**5, 10**6)
+    for name, make in CHOSEN:
+        for n in sizes:
+            write_apart(f"file-{n}", make, n)
+        times = time_chosen(name, sizes)
+        growth = growth_of(times, sizes)
+        told = ", ".join(f"{times[n] / os.path.getsize(f'file-{n}') * 1e9:.1f}" for n in sizes)
+        print(f"{name}: {told} ns of the processor a byte at {', '.join(map(str, sizes))} positions, growth {growth:.2f}", flush=True)
+        judge(f"{name}: whether the growth is below {GREATEST_GROWTH}", True, growth < GREATEST_GROWTH)
+
+
+# The parts, how much each judges, and how much in the short form.
+PARTS = (
+    (try_depths, 80, 80),
+    (try_outputs, 31, 31),
+    (try_inputs, 14, 14),
+    (try_sizes, 276, 92),
+    (try_chosen, 41, 34),
+)
+
+
 def main():
     resource.setrlimit(resource.RLIMIT_NOFILE, (OPEN_FILES + 100, OPEN_FILES + 100))
+    short = 0
     with tempfile.TemporaryDirectory() as folder:
         os.chdir(folder)
         write("line", LINE)
         write("line.topojson", LINE_TOPOLOGY)
-        try_depths()
-        try_outputs()
-        try_inputs()
-        try_sizes()
+        for part, whole, small in PARTS:
+            before = counts["judged"]
+            part()
+            judged, wanted = counts["judged"] - before, small if ASKED.short else whole
+            if judged != wanted:
+                short += 1
+                print(f"{part.__name__}: {judged} judged, and {wanted} are to be")
         os.chdir("/")
-    print(f"{len(unexpected)} runs ended otherwise")
-    sys.exit(1 if unexpected else 0)
+    print(f"{counts['judged']} judged, {counts['otherwise']} ended otherwise")
+    sys.exit(1 if counts["otherwise"] or short else 0)
 
 
 if __name__ == "__main__":

@@ -6,7 +6,7 @@ allocation is one that a run can do without, which are named below, it may end i
                                                   and built first where they have to be
     scripts/refused-memory.py path/to/mapchain    another program with the same commands
 
-It needs a C compiler, `cc` or the one that CC names, and the C library of GNU: for N = 1, 2, .. a library of a few lines, which
+It needs a C compiler, the one that CC names, `cc` or `gcc`, and the C library of GNU: for N = 1, 2, .. a library of a few lines, which
 it compiles and has the program load, refuses the Nth allocation, once, and reports which one that was. A command is through where a run
 asked for fewer than N. Its answer is then the one that stands here. Then it runs crates/allocation_tests in the same way, where a
 reducer that was refused memory has to answer the next call.
@@ -17,6 +17,7 @@ programs that it built; it takes less than a minute.
 """
 import os
 import re
+import shutil
 import subprocess
 import sys
 import tempfile
@@ -273,12 +274,12 @@ class Refusing:
     def __init__(self, folder):
         self.folder = folder
         self.library = f"{folder}/refusing.so"
-        compiler = os.environ.get("CC", "cc")
+        compiler = next(filter(shutil.which, [os.environ.get("CC") or "cc", "gcc"]), None)
+        if not compiler:
+            sys.exit("refused-memory: it takes a C compiler, and there is none: neither CC nor cc nor gcc names one, so nothing was tried")
         words = [compiler, "-shared", "-fPIC", "-O1", "-x", "c", "-", "-o", self.library]
-        try:
-            subprocess.run(words, input=REFUSING.encode(), check=True)
-        except (OSError, subprocess.CalledProcessError) as why:
-            sys.exit(f"refused-memory: it takes a C compiler, and `{compiler}` compiled nothing ({why}): so no allocation was refused")
+        if subprocess.run(words, input=REFUSING.encode()).returncode:
+            sys.exit(f"refused-memory: {compiler} didn't compile the library that refuses, so nothing was tried")
 
     def run(self, words, number):
         """How a run ends whose allocation of this number is refused. It may leave no file behind but those of its output and its report."""

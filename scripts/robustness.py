@@ -20,6 +20,7 @@ import argparse
 import os
 import resource
 import shlex
+import shutil
 import subprocess
 import sys
 import tempfile
@@ -219,8 +220,10 @@ def try_inputs():
     for words in ("build a=folder", "build a=line b=folder", "simplify folder", "geo --object a folder", "stat folder"):
         layer = {"build a=folder": "layer 0 ", "build a=line b=folder": "layer 1 "}.get(words, "")
         expect(words, f"error: {layer}F1 Read, status 3", fault_of(words))
+    # (who is root reads every file, and nobody else may come to where the program is)
+    shutil.copy(PROGRAM, "copy")
     nobody = "setpriv --reuid=65534 --regid=65534 --clear-groups " if os.geteuid() == 0 else ""
-    found = shell(f'{nobody}"$P" stat closed 2>&1; echo "status $?"')
+    found = shell(f'{nobody}./copy stat closed 2>&1; echo "status $?"')
     expect("a file that can't be read", "error: F1 Read\nstatus 3", found)
     expect("a path of 5000 bytes", "error: F1 Read, status 3", fault_of("stat " + "x" * 5000))
     expect("a word that isn't UTF-8", "error: a word is not UTF-8, status 2", fault_of("stat \"$(printf '\\377')\""))
@@ -371,6 +374,7 @@ def run_once(words):
         ending.start()
         _, ended, usage = os.wait4(child.pid, 0)
         ending.cancel()
+        ending.join()
     child.returncode = os.waitstatus_to_exitcode(ended)
     return child.returncode, time.perf_counter() - start, usage.ru_utime + usage.ru_stime, usage.ru_maxrss / 1024
 

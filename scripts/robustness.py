@@ -515,8 +515,8 @@ def growth_of(times, sizes):
 
 
 def time_chosen(name, sizes):
-    """The least seconds of the processor that the files of these sizes take. Where they grow too much they are read again, a few times: on a machine
-    that is busy with other things, some runs take longer."""
+    """The least seconds of the processor that the files of these sizes take. Where they grow a little too much they are read again, a few times: on a
+    machine that is busy with other things, some runs take longer."""
     times = dict.fromkeys(sizes, float("inf"))
     statuses = set()
     for number in range(MOST_RUNS):
@@ -524,7 +524,8 @@ def time_chosen(name, sizes):
             status, _, seconds, _ = run_once(f"build a=file-{n}")
             times[n] = min(times[n], seconds)
             statuses.add(status)
-        if statuses != {0} or number + 1 >= LEAST_RUNS and growth_of(times, sizes) < GREATEST_GROWTH:
+        is_close = GREATEST_GROWTH <= growth_of(times, sizes) < 2 * GREATEST_GROWTH
+        if statuses != {0} or number + 1 >= LEAST_RUNS and not is_close:
             break
     judge(f"{name}: the statuses", {0}, statuses)
     return times

@@ -17,12 +17,15 @@ programs that it built; it takes less than a minute.
 """
 import os
 import re
-import shutil
 import subprocess
 import sys
 import tempfile
 import time
 from typing import NamedTuple
+
+sys.dont_write_bytecode = True
+
+from preloaded import compiled
 
 ROOT = os.path.dirname(os.path.dirname(os.path.realpath(__file__)))
 
@@ -273,13 +276,7 @@ class Refusing:
 
     def __init__(self, folder):
         self.folder = folder
-        self.library = f"{folder}/refusing.so"
-        compiler = next(filter(shutil.which, [os.environ.get("CC") or "cc", "gcc"]), None)
-        if not compiler:
-            sys.exit("refused-memory: it takes a C compiler, and there is none: neither CC nor cc nor gcc names one, so nothing was tried")
-        words = [compiler, "-shared", "-fPIC", "-O1", "-x", "c", "-", "-o", self.library]
-        if subprocess.run(words, input=REFUSING.encode()).returncode:
-            sys.exit(f"refused-memory: {compiler} didn't compile the library that refuses, so nothing was tried")
+        self.library = compiled(REFUSING, f"{folder}/refusing.so")
 
     def run(self, words, number):
         """How a run ends whose allocation of this number is refused. It may leave no file behind but those of its output and its report."""

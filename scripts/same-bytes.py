@@ -1,27 +1,50 @@
 #!/usr/bin/env python3
-"""Runs commands twenty times each, and shows that all runs of a command write the same bytes:
+"""Runs commands twenty times each, and shows that all runs of a command write the same bytes, whatever number the system gives a run:
 
     scripts/same-bytes.py                     the program of ./mapchain, which is proved and built first where it has to be
     scripts/same-bytes.py path/to/mapchain    another program with the same commands
 
-Where the tables in which positions and arcs are found begin their hashes with a number of the run, each run lays its tables out in another way.
-Nothing that is written may depend on it. The files are a mesh of 2,025 areas with 4,136 arcs (scripts/mesh.py), the same as two layers, of which
-each border within has an area of either at its sides, and its topology. Compared are the status, standard output, standard error, and the
-files of `-o` and `--report`. That they are right is shown elsewhere, as by the worked examples.
+The tables in which `build` finds positions and arcs begin their hashes with a number of the run, for which it asks the system (`getentropy`), so
+that each run lays its tables out in another way. Nothing that is written may depend on it. A library that the program is made to load gives
+most runs a number that stands here, and notes that it was asked; the other runs get one of the system's. It takes a C compiler, as
+scripts/refused-memory.py does.
 
-It prints how many runs there were. The status is 0 where those of each command wrote the same bytes, no fewer than stand here, and as many
-runs were compared as stand here. It takes some seconds, and a few MB of disk.
+The files are a mesh of 2,025 areas with 4,136 arcs (scripts/mesh.py), the same as two layers, of which each border within has an area of either
+at its sides, and its topology. Compared are the status, standard output, standard error, and the files of `-o` and `--report`. That they are
+right is shown elsewhere, as by the worked examples.
+
+It prints how many runs there were. The status is 0 where those of each command wrote the same bytes, no fewer than stand here, each `build` asked
+for its number, and as many runs were compared as stand here. It takes some seconds, and a few MB of disk. The gate runs it.
 """
 import os
 import subprocess
 import sys
 import tempfile
 
+sys.dont_write_bytecode = True
+
+from preloaded import compiled
+
 ROOT = os.path.dirname(os.path.dirname(os.path.realpath(__file__)))
 PROGRAM_PATH = [f"{ROOT}/scripts/program-path.sh"]
 
-# How often a command is run, how many runs are compared in all, and the cells of the mesh in a row with the segments of their sides.
-TIMES, RUNS = 20, 220
+# What gives a run its number, and notes that it did in a file.
+GIVING = r"""
+#include <stddef.h>
+#include <stdlib.h>
+#include <unistd.h>
+
+int getentropy(void *room, size_t size) {
+    unsigned long long number = strtoull(getenv("GIVEN_NUMBER"), NULL, 10);
+    for (size_t i = 0; i < size; i++) ((unsigned char *)room)[i] = number >> i % 8 * 8;
+    return write(atoi(getenv("GIVEN_TOLD")), ".", 1) == 1 ? 0 : -1;
+}
+"""
+
+# The numbers that are given to the runs of a command, and with none one of the system's; how many runs are compared in all; and the cells of
+# the mesh in a row with the segments of their sides.
+NUMBERS = (*range(5), *(10**17 * it + it for it in range(1, 9)), (1 << 63) - 1, (1 << 64) - 1, *(None,) * 5)
+RUNS = 220
 CELLS, SEGMENTS = 45, 4
 OUTPUT, REPORT = "output", "run.json"
 
@@ -52,22 +75,41 @@ def write_files():
             file.write("\n".join([first, ",\n".join(some), last]))
 
 
-def written(program, words):
-    """All that a run of the program writes, with its status. The files that it wrote are taken away."""
-    run = subprocess.run([program, *words.split()], capture_output=True, timeout=120)
-    files = []
-    for name in OUTPUT, REPORT:
-        if os.path.exists(name):
-            with open(name, "rb") as file:
-                files.append((name, file.read()))
-            os.remove(name)
-    return run.returncode, run.stdout, run.stderr, *files
+def taken(name):
+    """The bytes of a file, which is taken away, if it is there."""
+    if not os.path.exists(name):
+        return None
+    with open(name, "rb") as file:
+        what = file.read()
+    os.remove(name)
+    return what
 
 
-def size_of(outcome):
-    """How many bytes a run wrote as its output."""
-    _, output, _, *files = outcome
-    return len(output) + sum(len(what) for name, what in files if name == OUTPUT)
+class Outcome:
+    """What a run of the program writes, and whether it asked for the number that it was to be given."""
+
+    def __init__(self, program, words, number, library):
+        with open("told", "wb") as told:
+            given = {"LD_PRELOAD": library, "GIVEN_NUMBER": str(number), "GIVEN_TOLD": str(told.fileno())} if number is not None else {}
+            run = subprocess.run([program, *words.split()], capture_output=True, env=given, pass_fds=[told.fileno()], timeout=120)
+        output = taken(OUTPUT)
+        self.status = run.returncode
+        self.written = run.returncode, run.stdout, run.stderr, output, taken(REPORT)
+        self.output = run.stdout if output is None else output
+        self.asked = bool(taken("told"))
+
+
+def what_differs(words, outcomes, least):
+    """In words what is wrong with the outcomes of a command: nothing where they are as they should be."""
+    first = outcomes[0]
+    if (kinds := len({it.written for it in outcomes})) != 1:
+        return f"its runs wrote {kinds} different things"
+    if first.status != 0 or len(first.output) < least:
+        return f"its runs have status {first.status} and write {len(first.output)} bytes, not {least} or more"
+    asked, wanted = (sum(it.asked for it in outcomes), sum(it is not None for it in NUMBERS))
+    if words.startswith("build") and asked != wanted:
+        return f"{asked} of its runs asked for their number, and {wanted} were to be given one"
+    return ""
 
 
 def main():
@@ -75,20 +117,19 @@ def main():
     ran = otherwise = 0
     with tempfile.TemporaryDirectory() as folder:
         os.chdir(folder)
+        library = compiled(GIVING, f"{folder}/giving.so")
         write_files()
         for words, least in COMMANDS:
-            outcomes = [written(program, words) for _ in range(TIMES)]
+            outcomes = [Outcome(program, words, number, library) for number in NUMBERS]
             ran += len(outcomes)
-            first = outcomes[0]
             if words == COMMANDS[0][0]:
                 with open("mesh.topojson", "wb") as file:
-                    file.write(first[1])
-            kinds = len(set(outcomes))
-            if kinds != 1 or first[0] != 0 or size_of(first) < least:
+                    file.write(outcomes[0].output)
+            if difference := what_differs(words, outcomes, least):
                 otherwise += 1
-                print(f"{words}: {TIMES} runs wrote {kinds} different things; the first one has status {first[0]} and {size_of(first)} bytes")
+                print(f"{words}: {difference}")
         os.chdir("/")
-    print(f"{ran} runs of {len(COMMANDS)} commands, of which {otherwise} wrote other bytes in other runs, or too few")
+    print(f"{ran} runs of {len(COMMANDS)} commands, {otherwise} of which went otherwise")
     sys.exit(1 if otherwise or ran != RUNS else 0)
 
 

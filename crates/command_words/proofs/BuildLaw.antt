@@ -1,57 +1,29 @@
--- What `build` asks for, of any layers.
-use Rattle.std.proofs.Common.{◌≡◌, ◌∙◌, ◌<◌, ◌≤◌, ◌==◌, ◌++◌, ℕ, List, [], ◌∷◌, Bool, true, false, Option, Some, None, codes, length, refl, sym, ap, ap₂, arith, append-nil, append_assoc, le-ltb}
-use Rattle.std.specs.Prelude.{is_some, nat_lt, option_and_then, option_map, unwrap_or, find, fold}
+-- What `build` asks for, whichever of its options are given.
+use Rattle.std.proofs.Common.{◌≡◌, ◌∙◌, ◌<◌, ◌≤◌, ◌==◌, ◌++◌, ◌&&◌, ℕ, List, [], ◌∷◌, Bool, true, false, Option, Some, None, codes, length, refl, sym, ap, ap₂, arith, append-nil, append_assoc, le-ltb}
+use Rattle.std.specs.Prelude.{IfSome, is_some, nat_lt, option_and_then, option_map, pos, unwrap_or, find, fold}
+use Rattle.std.specs.Option.{option_or}
+use Rattle.std.specs.Str.{bytes_eq}
 use Rattle.std.proofs.lemmas.Bool.{ne_eqb}
-use Rattle.clap.specs.Lexer.{usize_max}
-use Rattle.clap.specs.Walk.{Row, Text, Walk, answers_to, finished, idle, nothing_held, positional, rows_after, settled, walk_from, walked}
-use Rattle.clap.specs.Simple.{App, Shape, built, entered, help_shape, label_of, names_of}
-use Rattle.std.specs.Prelude.{if◌then◌else◌, pos}
-use Rattle.clap.specs.Kinds.{Kinds, or_else, range_kinds, values_kinds}
-use Rattle.clap.specs.Lexer.{without_minus}
+use Rattle.clap.specs.Lexer.{usize_max, without_minus}
+use Rattle.clap.specs.Walk.{Row, Text, Walk, finished, first_of, has_row, nothing_held, positional, row_text, rows_after, walk_from, walked, with_default}
+use Rattle.clap.specs.Simple.{Shape}
+use Rattle.clap.specs.Kinds.{or_else, range_kinds, values_kinds}
 use Rattle.clap.specs.ValueTests.{accepts}
-use Rattle.clap.specs.declared.error.kind.ErrorKind.TheVariants.{ValueValidation}
 use Rattle.clap.specs.declared.builder.value_parser.Reading.TheVariants.{AsWritten, WithoutMinus}
 use Rattle.clap.specs.declared.parser.matches.ValueSource.TheVariants.{CommandLine}
-use Rattle.clap.specs.Faults.{check_fault, defaults_fault, entered_fault, level_fault, settle_fault, walk_fault}
+use Rattle.clap.specs.Faults.{check_fault, level_fault, settle_fault, walk_fault}
 use Rattle.clap.specs.declared.builder.value_parser.ValueParser.TheVariants as vp
 use Rattle.clap.proofs.OnLiterals.{clap_on_literals}
-use Rattle.command_words.specs.Asked.{Asked, Ordered, build, build_in, cells_of, layers_of, order_of, ordered_in, output_in, where_none}
-use Rattle.command_words.specs.CommandLine.{program_app}
-use Rattle.command_words.specs.Written.{and_output}
+use Rattle.command_words.specs.Asked.{Asked, Ordered, build, build_in, exact_in, grid_at, grid_in, keep_in, layers_in, layers_of, order_of, output_in, ring_area_in, where_none}
+use Rattle.command_words.specs.Written.{flag_word, value_word}
+use Rattle.command_words.proofs.CommandLevels.{asked_at, first_text, flag_read, more_words, no_fault, no_level_fault, or_else_nil, shape_of, text_read}
 use Rattle.command_words.proofs.Getters.{build_asked}
-
-or_else_nil : (k : Kinds) → or_else k [] ≡ k
-or_else_nil [] = refl
-or_else_nil (k ∷ ks) = refl
-
--- ---- the program's own level
-
-abbrev top : App
-top = built program_app
-
--- the walk has met the command of this name, and these words after it
-abbrev at_command : Text → List Text → Walk
-at_command name words = record { held = nothing_held; waiting = idle; position = 1; is_trailing = false; stopped = Some (name, words) }
-
-more_words : (name : Text) (before words : List Text) → fold (walked top.top.rules (names_of top)) (at_command name before) words ≡ at_command name (before ++ words)
-unfolding walked
-more_words name before [] = ap (at_command name) (sym (append-nil before))
-more_words name before (word ∷ words) = more_words name (before ++ word ∷ []) words ∙ ap (at_command name) (append_assoc before (word ∷ []) words)
-
-no_fault : (name : Text) (before words : List Text) → walk_fault top.top (names_of top) (at_command name before) words ≡ []
-unfolding walked walk_fault
-no_fault name before [] = refl
-no_fault name before (word ∷ words) = no_fault name (before ++ word ∷ []) words
-
--- what is asked for, of the walk over the words and its faults
-abbrev asked_at : Walk → Kinds → Option Ordered
-asked_at w k = where_none (or_else k (or_else (entered_fault top w.stopped) (or_else (settle_fault top.top.rules top.top.args_override_self w.held)
-    (or_else (defaults_fault (settled top.top.rules w.held).rows top.top.rules) (check_fault top.top (finished top.top.rules w.held) (is_some (entered top w.stopped)))))))
-    (option_and_then ordered_in (entered top w.stopped))
+use Rattle.command_words.proofs.RowLemmas.{found_at_end, has_id, new_row, values_join, values_replace}
+use Rattle.command_words.proofs.Settings.{Setting, Takes, TakesAll, any_given, between, flag, flag_row, lacks_row, over_settings, read_at_end, row_at, rows_given, value, value_row, words_of}
 
 -- the command `build`, built
 abbrev build_shape : Shape
-build_shape = unwrap_or (find (λ s. answers_to (codes "build") (label_of s)) top.subs) help_shape
+build_shape = shape_of (codes "build")
 
 -- what `build` and the file for its output are asked for
 abbrev order_in : List Row → Option Ordered
@@ -67,7 +39,40 @@ build_level words =
     ap₂ asked_at (more_words (codes "build") [] words) (no_fault (codes "build") [] words)
     ∙ ap (λ k. where_none k (order_in (rows_after build_shape.rules [] words))) (or_else_nil (level_fault build_shape [] nothing_held words false []))
 
--- ---- the level of `build`
+-- ---- the options
+
+-- a text of an option, as the command takes it
+abbrev TakesText : Text → Type 0
+TakesText id = (text : Text) → Takes build_shape (value_word id text) (value_row id AsWritten text)
+
+output_taken : TakesText (codes "output")
+unfolding clap_on_literals
+output_taken text = record { walks = λ rows new. ap between (values_replace (codes "output") AsWritten CommandLine (text ∷ []) rows new); faultless = λ rows new. rw new refl }
+
+area_taken : TakesText (codes "min-area")
+unfolding clap_on_literals
+area_taken text = record { walks = λ rows new. ap between (values_replace (codes "min-area") AsWritten CommandLine (text ∷ []) rows new); faultless = λ rows new. rw new refl }
+
+keep_taken : TakesText (codes "keep")
+unfolding clap_on_literals
+keep_taken text = record { walks = λ rows new. ap between (values_replace (codes "keep") AsWritten CommandLine (text ∷ []) rows new); faultless = λ rows new. rw new refl }
+
+ring_area_taken : TakesText (codes "min-ring-area")
+unfolding clap_on_literals
+ring_area_taken text = record { walks = λ rows new. ap between (values_replace (codes "min-ring-area") AsWritten CommandLine (text ∷ []) rows new); faultless = λ rows new. rw new refl }
+
+exact_taken : Takes build_shape (flag_word (codes "exact")) (flag_row (codes "exact"))
+unfolding clap_on_literals
+exact_taken = record { walks = λ rows new. ap between (values_replace (codes "exact") AsWritten CommandLine (codes "true" ∷ []) rows new); faultless = λ rows new. rw new refl }
+
+abbrev pub is_taken : Text → Bool
+is_taken cells = accepts false (vp.Signed (pos 2) (pos 1000000000)) cells
+
+grid_taken : (cells : Text) → is_taken cells ≡ true → Takes build_shape (value_word (codes "grid") cells) (value_row (codes "grid") WithoutMinus cells)
+unfolding clap_on_literals
+grid_taken cells taken = record { walks = λ rows new. ap between (values_replace (codes "grid") WithoutMinus CommandLine (cells ∷ []) rows new); faultless = λ rows new. rw (new, taken) refl }
+
+-- ---- the layers, and the checks at the end
 
 -- the walk is at the layers after `--`
 abbrev at_layers : List Row → List Text → Walk
@@ -107,166 +112,105 @@ settle_layers rows word words fits =
     let high : length (word ∷ words) ≤ usize_max = omega arith in
     ap₂ or_else (in_range (length (word ∷ words)) low high) (any_text (word ∷ words))
 
--- the checks after the walk
-abbrev checks : Walk → Kinds
-checks w = or_else (defaults_fault (settled build_shape.rules w.held).rows build_shape.rules) (check_fault build_shape (finished build_shape.rules w.held) false)
+abbrev layers_row : List Text → Row
+layers_row words = new_row (codes "layers") AsWritten CommandLine words
 
-abbrev level_at : Walk → Kinds → Kinds
-level_at w k = or_else k (or_else [] (or_else (settle_fault build_shape.rules build_shape.args_override_self w.held) (checks w)))
+-- nothing is missing where layers are found
+nothing_missing : (rows : List Row) (words : List Text) → find (has_id (codes "layers")) rows ≡ Some (layers_row words) → check_fault build_shape rows false ≡ []
+unfolding clap_on_literals
+nothing_missing rows words found = rw found refl
 
-abbrev end_at : List Row → Text → List Text → Walk
-end_at rows word words = at_layers rows (word ∷ words)
+-- ---- the law
 
--- what is asked for where the walk ends at the layers
-build_asks : (given : List Text) (rows : List Row) (word : Text) (words : List Text)
-    → fold (walked build_shape.rules []) (walk_from nothing_held) given ≡ end_at rows word words
-    → walk_fault build_shape [] (walk_from nothing_held) given ≡ [] → length words < usize_max → checks (end_at rows word words) ≡ []
-    → order_of (codes "build" ∷ given) ≡ order_in (finished build_shape.rules (end_at rows word words).held)
-build_asks given rows word words ends faultless fits checked =
-    let level : level_fault build_shape [] nothing_held given false [] ≡ [] =
-    ap₂ level_at ends faultless ∙ ap₂ or_else (settle_layers rows word words fits) checked in
-    build_level given ∙ ap₂ (λ k (w : Walk). where_none k (order_in (finished build_shape.rules w.held))) level ends
+cells_read : (o : Option Text) → option_and_then row_text (option_or (option_or (option_map (value_row (codes "grid") WithoutMinus) o) None) None) ≡ option_map without_minus o
+cells_read None = refl
+cells_read (Some text) = refl
 
-abbrev given_row : List ℕ → Text → Row
-given_row id value = record { id = id; values = value ∷ []; count = None; source = Some CommandLine; reading = AsWritten }
+module _ (output cells area keep : Option Text) (ring_area : Text) (exact : Bool) (word : Text) (words : List Text) (fits : length words < usize_max) (taken : IfSome cells (λ c. is_taken c ≡ true)) where
+  abbrev settings : List Setting
+  settings = value (codes "output") AsWritten output ∷ value (codes "grid") WithoutMinus cells ∷ value (codes "min-area") AsWritten area
+      ∷ value (codes "keep") AsWritten keep ∷ value (codes "min-ring-area") AsWritten (Some ring_area) ∷ flag (codes "exact") exact ∷ []
 
-abbrev exact_row : Row
-exact_row = given_row (codes "exact") (codes "true")
+  grids_taken : (o : Option Text) → IfSome o (λ c. is_taken c ≡ true) → IfSome o (λ c. Takes build_shape (value_word (codes "grid") c) (value_row (codes "grid") WithoutMinus c))
+  grids_taken None h = tt
+  grids_taken (Some c) h = grid_taken c h
 
-abbrev grid_row : Text → Row
-grid_row cells = record (given_row (codes "grid") cells) { reading = WithoutMinus }
+  all_taken : TakesAll build_shape settings
+  all_taken = (any_given output _ output_taken, (grids_taken cells taken, (any_given area _ area_taken, (any_given keep _ keep_taken, (ring_area_taken ring_area, (exact_taken, tt))))))
 
--- the test of a grid's cells, which they pass
-abbrev grid_test : Bool → Kinds → Kinds
-grid_test b k = or_else (or_else (or_else (if b then [] else ValueValidation ∷ []) []) []) k
+  abbrev rows : List Row
+  rows = rows_given settings
 
-module _ (ring_area word : Text) (words : List Text) (layers : List (Text × Text)) (named : layers_of (word ∷ words) ≡ Some layers) (fits : length words < usize_max) where
-  pub build_law : (output : Option Text) (area : Text) → order_of (codes "build" ∷ and_output output ((codes "--min-area=" ++ area) ∷ (codes "--min-ring-area=" ++ ring_area) ∷ codes "--" ∷ word ∷ words))
-      ≡ Some (build layers false None area None ring_area, output)
+  abbrev given : List Text
+  given = words_of settings (codes "--" ∷ word ∷ words)
+
+  abbrev end : Walk
+  end = at_layers rows (word ∷ words)
+
+  abbrev rows_at_end : List Row
+  rows_at_end = fold with_default (rows ++ layers_row (word ∷ words) ∷ []) build_shape.rules
+
+  ends_at : fold (walked build_shape.rules []) (walk_from nothing_held) given ≡ end
   unfolding clap_on_literals
-  build_law None area =
-      let rows = given_row (codes "min-area") area ∷ given_row (codes "min-ring-area") ring_area ∷ [] in
-      build_asks ((codes "--min-area=" ++ area) ∷ (codes "--min-ring-area=" ++ ring_area) ∷ codes "--" ∷ word ∷ words) rows word words
-      (more_layers rows (word ∷ []) words) (no_layer_fault rows (word ∷ []) words) fits refl
-      ∙ order_asked (finished build_shape.rules (end_at rows word words).held) None _ refl
-      (build_asked (finished build_shape.rules (end_at rows word words).held) None layers false area None ring_area refl refl named refl refl refl refl)
-  build_law (Some file) area =
-      let rows = given_row (codes "output") file ∷ given_row (codes "min-area") area ∷ given_row (codes "min-ring-area") ring_area ∷ [] in
-      build_asks ((codes "--output=" ++ file) ∷ (codes "--min-area=" ++ area) ∷ (codes "--min-ring-area=" ++ ring_area) ∷ codes "--" ∷ word ∷ words) rows word words
-      (more_layers rows (word ∷ []) words) (no_layer_fault rows (word ∷ []) words) fits refl
-      ∙ order_asked (finished build_shape.rules (end_at rows word words).held) (Some file) _ refl
-      (build_asked (finished build_shape.rules (end_at rows word words).held) None layers false area None ring_area refl refl named refl refl refl refl)
+  ends_at = (over_settings build_shape settings [] (codes "--" ∷ word ∷ words) refl refl all_taken).0 ∙ more_layers rows (word ∷ []) words
 
-  pub build_exact_law : (output : Option Text) (area : Text) → order_of (codes "build" ∷ and_output output ((codes "--min-area=" ++ area) ∷ (codes "--min-ring-area=" ++ ring_area) ∷ codes "--exact" ∷ codes "--" ∷ word ∷ words))
-      ≡ Some (build layers true None area None ring_area, output)
+  faultless : walk_fault build_shape [] (walk_from nothing_held) given ≡ []
   unfolding clap_on_literals
-  build_exact_law None area =
-      let rows = given_row (codes "min-area") area ∷ given_row (codes "min-ring-area") ring_area ∷ exact_row ∷ [] in
-      build_asks ((codes "--min-area=" ++ area) ∷ (codes "--min-ring-area=" ++ ring_area) ∷ codes "--exact" ∷ codes "--" ∷ word ∷ words) rows word words
-      (more_layers rows (word ∷ []) words) (no_layer_fault rows (word ∷ []) words) fits refl
-      ∙ order_asked (finished build_shape.rules (end_at rows word words).held) None _ refl
-      (build_asked (finished build_shape.rules (end_at rows word words).held) None layers true area None ring_area refl refl named refl refl refl refl)
-  build_exact_law (Some file) area =
-      let rows = given_row (codes "output") file ∷ given_row (codes "min-area") area ∷ given_row (codes "min-ring-area") ring_area ∷ exact_row ∷ [] in
-      build_asks ((codes "--output=" ++ file) ∷ (codes "--min-area=" ++ area) ∷ (codes "--min-ring-area=" ++ ring_area) ∷ codes "--exact" ∷ codes "--" ∷ word ∷ words) rows word words
-      (more_layers rows (word ∷ []) words) (no_layer_fault rows (word ∷ []) words) fits refl
-      ∙ order_asked (finished build_shape.rules (end_at rows word words).held) (Some file) _ refl
-      (build_asked (finished build_shape.rules (end_at rows word words).held) None layers true area None ring_area refl refl named refl refl refl refl)
+  faultless = (over_settings build_shape settings [] (codes "--" ∷ word ∷ words) refl refl all_taken).1 ∙ no_layer_fault rows (word ∷ []) words
 
-  pub build_keep_law : (output : Option Text) (share : Text) → order_of (codes "build" ∷ and_output output ((codes "--keep=" ++ share) ∷ (codes "--min-ring-area=" ++ ring_area) ∷ codes "--" ∷ word ∷ words))
-      ≡ Some (build layers false None (codes "0") (Some share) ring_area, output)
+  no_layers_before : has_row (codes "layers") rows ≡ false
+  no_layers_before = lacks_row (codes "layers") settings refl refl
+
+  finished_so : finished build_shape.rules end.held ≡ rows_at_end
+  finished_so = ap (λ rs. fold with_default rs build_shape.rules) (values_join (codes "layers") AsWritten CommandLine (word ∷ words) rows no_layers_before)
+
+  layers_found : find (has_id (codes "layers")) rows_at_end ≡ Some (layers_row (word ∷ words))
+  layers_found = found_at_end (codes "layers") rows (layers_row (word ∷ words)) build_shape.rules no_layers_before refl
+
+  checked : check_fault build_shape (finished build_shape.rules end.held) false ≡ []
+  checked = ap (λ rs. check_fault build_shape rs false) finished_so ∙ nothing_missing rows_at_end (word ∷ words) layers_found
+
+  level : level_fault build_shape [] nothing_held given false [] ≡ []
   unfolding clap_on_literals
-  build_keep_law None share =
-      let rows = given_row (codes "keep") share ∷ given_row (codes "min-ring-area") ring_area ∷ [] in
-      build_asks ((codes "--keep=" ++ share) ∷ (codes "--min-ring-area=" ++ ring_area) ∷ codes "--" ∷ word ∷ words) rows word words
-      (more_layers rows (word ∷ []) words) (no_layer_fault rows (word ∷ []) words) fits refl
-      ∙ order_asked (finished build_shape.rules (end_at rows word words).held) None _ refl
-      (build_asked (finished build_shape.rules (end_at rows word words).held) None layers false (codes "0") (Some share) ring_area refl refl named refl refl refl refl)
-  build_keep_law (Some file) share =
-      let rows = given_row (codes "output") file ∷ given_row (codes "keep") share ∷ given_row (codes "min-ring-area") ring_area ∷ [] in
-      build_asks ((codes "--output=" ++ file) ∷ (codes "--keep=" ++ share) ∷ (codes "--min-ring-area=" ++ ring_area) ∷ codes "--" ∷ word ∷ words) rows word words
-      (more_layers rows (word ∷ []) words) (no_layer_fault rows (word ∷ []) words) fits refl
-      ∙ order_asked (finished build_shape.rules (end_at rows word words).held) (Some file) _ refl
-      (build_asked (finished build_shape.rules (end_at rows word words).held) None layers false (codes "0") (Some share) ring_area refl refl named refl refl refl refl)
+  level = no_level_fault build_shape given end ends_at faultless (settle_layers rows word words fits) refl checked
 
-  pub build_keep_exact_law : (output : Option Text) (share : Text) → order_of (codes "build" ∷ and_output output ((codes "--keep=" ++ share) ∷ (codes "--min-ring-area=" ++ ring_area) ∷ codes "--exact" ∷ codes "--" ∷ word ∷ words))
-      ≡ Some (build layers true None (codes "0") (Some share) ring_area, output)
-  unfolding clap_on_literals
-  build_keep_exact_law None share =
-      let rows = given_row (codes "keep") share ∷ given_row (codes "min-ring-area") ring_area ∷ exact_row ∷ [] in
-      build_asks ((codes "--keep=" ++ share) ∷ (codes "--min-ring-area=" ++ ring_area) ∷ codes "--exact" ∷ codes "--" ∷ word ∷ words) rows word words
-      (more_layers rows (word ∷ []) words) (no_layer_fault rows (word ∷ []) words) fits refl
-      ∙ order_asked (finished build_shape.rules (end_at rows word words).held) None _ refl
-      (build_asked (finished build_shape.rules (end_at rows word words).held) None layers true (codes "0") (Some share) ring_area refl refl named refl refl refl refl)
-  build_keep_exact_law (Some file) share =
-      let rows = given_row (codes "output") file ∷ given_row (codes "keep") share ∷ given_row (codes "min-ring-area") ring_area ∷ exact_row ∷ [] in
-      build_asks ((codes "--output=" ++ file) ∷ (codes "--keep=" ++ share) ∷ (codes "--min-ring-area=" ++ ring_area) ∷ codes "--exact" ∷ codes "--" ∷ word ∷ words) rows word words
-      (more_layers rows (word ∷ []) words) (no_layer_fault rows (word ∷ []) words) fits refl
-      ∙ order_asked (finished build_shape.rules (end_at rows word words).held) (Some file) _ refl
-      (build_asked (finished build_shape.rules (end_at rows word words).held) None layers true (codes "0") (Some share) ring_area refl refl named refl refl refl refl)
+  -- what is asked for is what the rows at the end ask for
+  asks : order_of (codes "build" ∷ given) ≡ order_in rows_at_end
+  asks = build_level given ∙ ap₂ (λ k (w : Walk). where_none k (order_in (finished build_shape.rules w.held))) level ends_at ∙ ap order_in finished_so
 
-  -- the words of a grid of n cells
-  module _ (cells : Text) (n : ℕ) (taken : accepts false (vp.Signed (pos 2) (pos 1000000000)) cells ≡ true) (read : cells_of (without_minus cells) ≡ Some n) where
-    pub build_grid_law : (output : Option Text) (area : Text) → order_of (codes "build" ∷ and_output output ((codes "--grid=" ++ cells) ∷ (codes "--min-area=" ++ area) ∷ (codes "--min-ring-area=" ++ ring_area) ∷ codes "--" ∷ word ∷ words))
-        ≡ Some (build layers false (Some n) area None ring_area, output)
-    unfolding clap_on_literals
-    build_grid_law None area =
-        let rows = grid_row cells ∷ given_row (codes "min-area") area ∷ given_row (codes "min-ring-area") ring_area ∷ [] in
-        build_asks ((codes "--grid=" ++ cells) ∷ (codes "--min-area=" ++ area) ∷ (codes "--min-ring-area=" ++ ring_area) ∷ codes "--" ∷ word ∷ words) rows word words
-        (more_layers rows (word ∷ []) words) (ap₂ grid_test taken (no_layer_fault rows (word ∷ []) words)) fits refl
-        ∙ order_asked (finished build_shape.rules (end_at rows word words).held) None _ refl
-        (build_asked (finished build_shape.rules (end_at rows word words).held) (Some n) layers false area None ring_area refl (ap (Rattle.std.specs.Option.option_map (λ k. Some k)) read) named refl refl refl refl)
-    build_grid_law (Some file) area =
-        let rows = given_row (codes "output") file ∷ grid_row cells ∷ given_row (codes "min-area") area ∷ given_row (codes "min-ring-area") ring_area ∷ [] in
-        build_asks ((codes "--output=" ++ file) ∷ (codes "--grid=" ++ cells) ∷ (codes "--min-area=" ++ area) ∷ (codes "--min-ring-area=" ++ ring_area) ∷ codes "--" ∷ word ∷ words) rows word words
-        (more_layers rows (word ∷ []) words) (ap₂ grid_test taken (no_layer_fault rows (word ∷ []) words)) fits refl
-        ∙ order_asked (finished build_shape.rules (end_at rows word words).held) (Some file) _ refl
-        (build_asked (finished build_shape.rules (end_at rows word words).held) (Some n) layers false area None ring_area refl (ap (Rattle.std.specs.Option.option_map (λ k. Some k)) read) named refl refl refl refl)
+  -- ---- what each getter reads of them
 
-    pub build_grid_exact_law : (output : Option Text) (area : Text) → order_of (codes "build" ∷ and_output output ((codes "--grid=" ++ cells) ∷ (codes "--min-area=" ++ area) ∷ (codes "--min-ring-area=" ++ ring_area) ∷ codes "--exact" ∷ codes "--" ∷ word ∷ words))
-        ≡ Some (build layers true (Some n) area None ring_area, output)
-    unfolding clap_on_literals
-    build_grid_exact_law None area =
-        let rows = grid_row cells ∷ given_row (codes "min-area") area ∷ given_row (codes "min-ring-area") ring_area ∷ exact_row ∷ [] in
-        build_asks ((codes "--grid=" ++ cells) ∷ (codes "--min-area=" ++ area) ∷ (codes "--min-ring-area=" ++ ring_area) ∷ codes "--exact" ∷ codes "--" ∷ word ∷ words) rows word words
-        (more_layers rows (word ∷ []) words) (ap₂ grid_test taken (no_layer_fault rows (word ∷ []) words)) fits refl
-        ∙ order_asked (finished build_shape.rules (end_at rows word words).held) None _ refl
-        (build_asked (finished build_shape.rules (end_at rows word words).held) (Some n) layers true area None ring_area refl (ap (Rattle.std.specs.Option.option_map (λ k. Some k)) read) named refl refl refl refl)
-    build_grid_exact_law (Some file) area =
-        let rows = given_row (codes "output") file ∷ grid_row cells ∷ given_row (codes "min-area") area ∷ given_row (codes "min-ring-area") ring_area ∷ exact_row ∷ [] in
-        build_asks ((codes "--output=" ++ file) ∷ (codes "--grid=" ++ cells) ∷ (codes "--min-area=" ++ area) ∷ (codes "--min-ring-area=" ++ ring_area) ∷ codes "--exact" ∷ codes "--" ∷ word ∷ words) rows word words
-        (more_layers rows (word ∷ []) words) (ap₂ grid_test taken (no_layer_fault rows (word ∷ []) words)) fits refl
-        ∙ order_asked (finished build_shape.rules (end_at rows word words).held) (Some file) _ refl
-        (build_asked (finished build_shape.rules (end_at rows word words).held) (Some n) layers true area None ring_area refl (ap (Rattle.std.specs.Option.option_map (λ k. Some k)) read) named refl refl refl refl)
+  abbrev at_end_by : (id : Text) → Option Text
+  at_end_by id = first_text (option_or (option_or (row_at id settings) (find (has_id id) (layers_row (word ∷ words) ∷ []))) (find (has_id id) (fold with_default [] build_shape.rules)))
 
-    pub build_grid_keep_law : (output : Option Text) (share : Text) → order_of (codes "build" ∷ and_output output ((codes "--grid=" ++ cells) ∷ (codes "--keep=" ++ share) ∷ (codes "--min-ring-area=" ++ ring_area) ∷ codes "--" ∷ word ∷ words))
-        ≡ Some (build layers false (Some n) (codes "0") (Some share) ring_area, output)
-    unfolding clap_on_literals
-    build_grid_keep_law None share =
-        let rows = grid_row cells ∷ given_row (codes "keep") share ∷ given_row (codes "min-ring-area") ring_area ∷ [] in
-        build_asks ((codes "--grid=" ++ cells) ∷ (codes "--keep=" ++ share) ∷ (codes "--min-ring-area=" ++ ring_area) ∷ codes "--" ∷ word ∷ words) rows word words
-        (more_layers rows (word ∷ []) words) (ap₂ grid_test taken (no_layer_fault rows (word ∷ []) words)) fits refl
-        ∙ order_asked (finished build_shape.rules (end_at rows word words).held) None _ refl
-        (build_asked (finished build_shape.rules (end_at rows word words).held) (Some n) layers false (codes "0") (Some share) ring_area refl (ap (Rattle.std.specs.Option.option_map (λ k. Some k)) read) named refl refl refl refl)
-    build_grid_keep_law (Some file) share =
-        let rows = given_row (codes "output") file ∷ grid_row cells ∷ given_row (codes "keep") share ∷ given_row (codes "min-ring-area") ring_area ∷ [] in
-        build_asks ((codes "--output=" ++ file) ∷ (codes "--grid=" ++ cells) ∷ (codes "--keep=" ++ share) ∷ (codes "--min-ring-area=" ++ ring_area) ∷ codes "--" ∷ word ∷ words) rows word words
-        (more_layers rows (word ∷ []) words) (ap₂ grid_test taken (no_layer_fault rows (word ∷ []) words)) fits refl
-        ∙ order_asked (finished build_shape.rules (end_at rows word words).held) (Some file) _ refl
-        (build_asked (finished build_shape.rules (end_at rows word words).held) (Some n) layers false (codes "0") (Some share) ring_area refl (ap (Rattle.std.specs.Option.option_map (λ k. Some k)) read) named refl refl refl refl)
+  at_end : (id : Text) → first_of id rows_at_end ≡ at_end_by id
+  at_end id = read_at_end first_text id settings (layers_row (word ∷ words) ∷ []) build_shape.rules refl
 
-    pub build_grid_keep_exact_law : (output : Option Text) (share : Text) → order_of (codes "build" ∷ and_output output ((codes "--grid=" ++ cells) ∷ (codes "--keep=" ++ share) ∷ (codes "--min-ring-area=" ++ ring_area) ∷ codes "--exact" ∷ codes "--" ∷ word ∷ words))
-        ≡ Some (build layers true (Some n) (codes "0") (Some share) ring_area, output)
-    unfolding clap_on_literals
-    build_grid_keep_exact_law None share =
-        let rows = grid_row cells ∷ given_row (codes "keep") share ∷ given_row (codes "min-ring-area") ring_area ∷ exact_row ∷ [] in
-        build_asks ((codes "--grid=" ++ cells) ∷ (codes "--keep=" ++ share) ∷ (codes "--min-ring-area=" ++ ring_area) ∷ codes "--exact" ∷ codes "--" ∷ word ∷ words) rows word words
-        (more_layers rows (word ∷ []) words) (ap₂ grid_test taken (no_layer_fault rows (word ∷ []) words)) fits refl
-        ∙ order_asked (finished build_shape.rules (end_at rows word words).held) None _ refl
-        (build_asked (finished build_shape.rules (end_at rows word words).held) (Some n) layers true (codes "0") (Some share) ring_area refl (ap (Rattle.std.specs.Option.option_map (λ k. Some k)) read) named refl refl refl refl)
-    build_grid_keep_exact_law (Some file) share =
-        let rows = given_row (codes "output") file ∷ grid_row cells ∷ given_row (codes "keep") share ∷ given_row (codes "min-ring-area") ring_area ∷ exact_row ∷ [] in
-        build_asks ((codes "--output=" ++ file) ∷ (codes "--grid=" ++ cells) ∷ (codes "--keep=" ++ share) ∷ (codes "--min-ring-area=" ++ ring_area) ∷ codes "--exact" ∷ codes "--" ∷ word ∷ words) rows word words
-        (more_layers rows (word ∷ []) words) (ap₂ grid_test taken (no_layer_fault rows (word ∷ []) words)) fits refl
-        ∙ order_asked (finished build_shape.rules (end_at rows word words).held) (Some file) _ refl
-        (build_asked (finished build_shape.rules (end_at rows word words).held) (Some n) layers true (codes "0") (Some share) ring_area refl (ap (Rattle.std.specs.Option.option_map (λ k. Some k)) read) named refl refl refl refl)
+  output_read : output_in rows_at_end ≡ output
+  output_read = at_end (codes "output") ∙ text_read (codes "output") output
+
+  grid_read : grid_in rows_at_end ≡ grid_at (option_map without_minus cells)
+  grid_read = ap grid_at (read_at_end (option_and_then row_text) (codes "grid") settings (layers_row (word ∷ words) ∷ []) build_shape.rules refl ∙ cells_read cells)
+
+  area_read : first_of (codes "min-area") rows_at_end ≡ area
+  area_read = at_end (codes "min-area") ∙ text_read (codes "min-area") area
+
+  keep_read : keep_in rows_at_end ≡ keep
+  keep_read = at_end (codes "keep") ∙ text_read (codes "keep") keep
+
+  ring_area_read : ring_area_in rows_at_end ≡ ring_area
+  ring_area_read = ap (λ (o : Option Text). unwrap_or o (codes "0")) (at_end (codes "min-ring-area") ∙ text_read (codes "min-ring-area") (Some ring_area))
+
+  exact_read : exact_in rows_at_end ≡ exact
+  exact_read = ap (λ (o : Option Text). bytes_eq (unwrap_or o []) (codes "true")) (at_end (codes "exact")) ∙ flag_read (codes "exact") exact
+
+  layers_read : layers_in rows_at_end ≡ layers_of (word ∷ words)
+  layers_read = ap (λ (o : Option Row). layers_of (unwrap_or (option_map (λ (r : Row). r.values) o) [])) layers_found
+
+  pub build_law : (grid : Option ℕ) (layers : List (Text × Text)) → grid_at (option_map without_minus cells) ≡ Some grid → layers_of (word ∷ words) ≡ Some layers
+      → (is_some area && is_some keep) ≡ false → order_of (codes "build" ∷ given) ≡ Some (build layers exact grid (unwrap_or area (codes "0")) keep ring_area, output)
+  build_law grid layers read named one =
+      asks ∙ order_asked rows_at_end output (build layers exact grid (unwrap_or area (codes "0")) keep ring_area) output_read
+      (build_asked rows_at_end grid layers exact (unwrap_or area (codes "0")) keep ring_area
+      (ap₂ (λ (a k : Option Text). is_some a && is_some k) area_read keep_read ∙ one) (grid_read ∙ read) (layers_read ∙ named)
+      (sym exact_read) (ap (λ (o : Option Text). unwrap_or o (codes "0")) (sym area_read)) (sym keep_read) (sym ring_area_read))

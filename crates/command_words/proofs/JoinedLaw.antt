@@ -1,9 +1,9 @@
 -- Words that are written for a request ask for it once they are joined.
-use Rattle.std.proofs.Common.{◌≡◌, ◌∙◌, ◌++◌, ℕ, List, [], ◌∷◌, Bool, true, false, Option, Some, None, codes, decimal, map, refl, ap}
+use Rattle.std.proofs.Common.{◌≡◌, ◌∙◌, ℕ, List, [], ◌∷◌, Bool, true, false, Option, Some, None, codes, decimal, map, option_map, refl, ap}
 use Rattle.clap.specs.Walk.{Text}
 use Rattle.command_words.specs.Asked.{Ordered, build, geo, order_of, simplify, stat}
 use Rattle.command_words.specs.Joined.{alone, following, joined, joined_from}
-use Rattle.command_words.specs.Written.{IsWritable, and_exact, and_grid, and_output, layer_word, level_apart, level_word, ring_area_apart, ring_area_word, written, written_apart}
+use Rattle.command_words.specs.Written.{IsWritable, and_flag, and_value, layer_word, level_apart, level_word, ring_area_apart, ring_area_word, value_word, written, written_apart}
 use Rattle.command_words.proofs.WrittenLaw.{asked_as_written}
 
 same_after : (words : List Text) → joined_from following words ≡ words
@@ -13,13 +13,14 @@ same_after (word ∷ words) = ap (λ ws. word ∷ ws) (same_after words)
 same_rest : (words : List Text) → joined_from alone (codes "--" ∷ words) ≡ codes "--" ∷ words
 same_rest words = ap (λ ws. codes "--" ∷ ws) (same_after words)
 
-same_exact : (exact : Bool) (words : List Text) → joined_from alone (and_exact exact (codes "--" ∷ words)) ≡ and_exact exact (codes "--" ∷ words)
+same_exact : (exact : Bool) (words : List Text) → joined_from alone (and_flag (codes "exact") exact (codes "--" ∷ words)) ≡ and_flag (codes "exact") exact (codes "--" ∷ words)
 same_exact true words = ap (λ ws. codes "--exact" ∷ ws) (same_rest words)
 same_exact false words = same_rest words
 
-same_grid : (grid : Option ℕ) (words joined_words : List Text) → joined_from alone words ≡ joined_words → joined_from alone (and_grid grid words) ≡ and_grid grid joined_words
+same_grid : (grid : Option ℕ) (words joined_words : List Text) → joined_from alone words ≡ joined_words
+    → joined_from alone (and_value (codes "grid") (option_map decimal grid) words) ≡ and_value (codes "grid") (option_map decimal grid) joined_words
 same_grid None words joined_words h = h
-same_grid (Some n) words joined_words h = ap (λ ws. (codes "--grid=" ++ decimal n) ∷ ws) h
+same_grid (Some n) words joined_words h = ap (λ ws. value_word (codes "grid") (decimal n) ∷ ws) h
 
 module _ (words joined_words : List Text) (h : joined_from alone words ≡ joined_words) where
   same_ring_area : (ring_area : Text) → joined_from alone (ring_area_word ring_area ∷ words) ≡ ring_area_word ring_area ∷ joined_words
@@ -37,34 +38,34 @@ module _ (words joined_words : List Text) (h : joined_from alone words ≡ joine
   joined_level area (Some share) = ap (λ ws. level_word area (Some share) ∷ ws) h
 
 same_output : (output : Option Text) (words joined_words : List Text) → joined_from alone words ≡ joined_words
-    → joined_from alone (and_output output words) ≡ and_output output joined_words
+    → joined_from alone (and_value (codes "output") output words) ≡ and_value (codes "output") output joined_words
 same_output None words joined_words h = h
-same_output (Some file) words joined_words h = ap (λ ws. (codes "--output=" ++ file) ∷ ws) h
+same_output (Some file) words joined_words h = ap (λ ws. value_word (codes "output") file ∷ ws) h
 
 joined_same : (o : Ordered) → joined (written o) ≡ written o
 joined_same (build layers exact grid area keep ring_area, output) =
-    let rest = and_exact exact (codes "--" ∷ map layer_word layers) in
+    let rest = and_flag (codes "exact") exact (codes "--" ∷ map layer_word layers) in
     let rings = ring_area_word ring_area ∷ rest in
     let levels = level_word area keep ∷ rings in
     let below = same_level rings rings (same_ring_area rest rest (same_exact exact (map layer_word layers)) ring_area) area keep in
-    ap (λ ws. codes "build" ∷ ws) (same_output output (and_grid grid levels) (and_grid grid levels) (same_grid grid levels levels below))
+    ap (λ ws. codes "build" ∷ ws) (same_output output (and_value (codes "grid") (option_map decimal grid) levels) (and_value (codes "grid") (option_map decimal grid) levels) (same_grid grid levels levels below))
 joined_same (simplify area ring_area path, output) =
     let rest = codes "--" ∷ path ∷ [] in
     let rings = ring_area_word ring_area ∷ rest in
     let levels = level_word area None ∷ rings in
     ap (λ ws. codes "simplify" ∷ ws)
     (same_output output levels levels (same_level rings rings (same_ring_area rest rest (same_rest (path ∷ [])) ring_area) area None))
-joined_same (geo name path, output) = ap (λ ws. codes "geo" ∷ ws) (same_after (and_output output ((codes "--object=" ++ name) ∷ codes "--" ∷ path ∷ [])))
-joined_same (stat path, output) = ap (λ ws. codes "stat" ∷ ws) (same_after (and_output output (codes "--" ∷ path ∷ [])))
+joined_same (geo name path, output) = ap (λ ws. codes "geo" ∷ ws) (same_after (and_value (codes "output") output (value_word (codes "object") name ∷ codes "--" ∷ path ∷ [])))
+joined_same (stat path, output) = ap (λ ws. codes "stat" ∷ ws) (same_after (and_value (codes "output") output (codes "--" ∷ path ∷ [])))
 
 joined_apart : (o : Ordered) → joined (written_apart o) ≡ written o
 joined_apart (build layers exact grid area keep ring_area, output) =
-    let rest = and_exact exact (codes "--" ∷ map layer_word layers) in
+    let rest = and_flag (codes "exact") exact (codes "--" ∷ map layer_word layers) in
     let rings = ring_area_word ring_area ∷ rest in
     let apart = level_apart area keep (ring_area_apart ring_area rest) in
     let levels = level_word area keep ∷ rings in
     let below = joined_level (ring_area_apart ring_area rest) rings (joined_ring_area rest rest (same_exact exact (map layer_word layers)) ring_area) area keep in
-    ap (λ ws. codes "build" ∷ ws) (same_output output (and_grid grid apart) (and_grid grid levels) (same_grid grid apart levels below))
+    ap (λ ws. codes "build" ∷ ws) (same_output output (and_value (codes "grid") (option_map decimal grid) apart) (and_value (codes "grid") (option_map decimal grid) levels) (same_grid grid apart levels below))
 joined_apart (simplify area ring_area path, output) =
     let rest = codes "--" ∷ path ∷ [] in
     let rings = ring_area_word ring_area ∷ rest in

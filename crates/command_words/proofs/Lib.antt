@@ -1,8 +1,12 @@
 pub mod Apps
 pub mod BuildLaw
+pub mod CommandLevels
 pub mod Getters
 pub mod JoinedLaw
 pub mod Laws
 pub mod LayerLemmas
 pub mod Ranges
+pub mod RowLemmas
+pub mod Settings
+pub mod SimplifyLaw
 pub mod WrittenLaw

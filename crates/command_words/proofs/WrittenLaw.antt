@@ -1,7 +1,7 @@
 -- What is written is what is asked for.
-use Rattle.std.proofs.Common.{◌≡◌, ◌∙◌, ◌+◌, ◌<◌, ◌==◌, ◌||◌, ◌++◌, ℕ, suc, List, [], ◌∷◌, Bool, true, false, Some, None, cond, length, map, take, drop, refl, sym, ap, ap₂, arith, subst, lt-ltb, length-append}
+use Rattle.std.proofs.Common.{◌≡◌, ◌∙◌, ◌+◌, ◌<◌, ◌==◌, ◌||◌, ◌++◌, ℕ, suc, List, [], ◌∷◌, Bool, true, false, Option, Some, None, cond, length, map, take, drop, refl, sym, ap, ap₂, arith, subst, lt-ltb, length-append}
 use Rattle.std.proofs.Common.{ℤ, ◌≤◌, ◌^◌}
-use Rattle.std.specs.Prelude.{FitsSigned, decimal, nat_lt, neg_ℤ, pos, unwrap_or, ◌≤ℤ◌}
+use Rattle.std.specs.Prelude.{FitsSigned, IfSome, decimal, nat_lt, option_map, neg_ℤ, pos, unwrap_or, ◌≤ℤ◌}
 use Rattle.std.specs.Int.{w64}
 use Rattle.std.specs.Str.Parse.{IsNumeral, digits_value, signed_digits_value, starts_with_minus, without_leading_plus, without_leading_sign}
 use Rattle.std.proofs.lemmas.Bool.{ne_eqb}
@@ -11,14 +11,15 @@ use Rattle.std.proofs.lemmas.Str.Parse.{digit_from_value}
 use Rattle.clap.specs.ValueTests.{accepts}
 use Rattle.clap.specs.declared.builder.value_parser.ValueParser.TheVariants.{Signed, Unsigned}
 use Rattle.clap.proofs.ValueTestLemmas.{Accepts-accepts}
-use Rattle.std.specs.List.{list_any, position, position_or_len}
+use Rattle.std.specs.List.{position, position_or_len}
 use Rattle.clap.specs.Lexer.{has_byte, without_minus}
 use Rattle.clap.specs.Walk.{Text}
 use Rattle.command_words.specs.LayerWords.{equals_sign}
-use Rattle.command_words.specs.Asked.{and_layer, Ordered, build, cells_of, geo, layer_of, layers_of, order_of, simplify, stat}
+use Rattle.command_words.specs.Asked.{and_layer, Ordered, build, cells_of, geo, grid_at, layer_of, layers_of, order_of, simplify, stat}
 use Rattle.command_words.specs.Written.{HasPlainNames, IsWritable, layer_word, written}
-use Rattle.command_words.proofs.Laws.{geo_law, simplify_law, stat_law}
-use Rattle.command_words.proofs.BuildLaw.{build_exact_law, build_grid_exact_law, build_grid_keep_exact_law, build_grid_keep_law, build_grid_law, build_keep_exact_law, build_keep_law, build_law}
+use Rattle.command_words.proofs.Laws.{geo_law, stat_law}
+use Rattle.command_words.proofs.SimplifyLaw.{simplify_law}
+use Rattle.command_words.proofs.BuildLaw.{build_law, is_taken}
 use Rattle.command_words.specs.Requests.{IsCells}
 use Rattle.clap.specs.Lexer.{usize_max}
 use Rattle.command_words.proofs.Getters.{in_range}
@@ -52,7 +53,7 @@ split name path none =
     let found : position (λ c. c == equals_sign) word ≡ Some (length name) =
     ap (λ (n : ℕ). cond (nat_lt n (length word)) (Some n) None) at ∙ ap (λ (b : Bool). cond b (Some (length name)) None) (lt-ltb (length name) (length word) within) in
     let one : length name + 1 ≡ suc (length name) = omega arith in
-    ap (Rattle.std.specs.Option.option_map (λ (i : ℕ). (take i word, drop (i + 1) word))) found
+    ap (option_map (λ (i : ℕ). (take i word, drop (i + 1) word))) found
     ∙ (λ i. Some (taken name (equals_sign ∷ path) i, (ap (λ n. drop n word) one ∙ dropped name path) i))
 
 pub all_split : (layers : List (Text × Text)) → HasPlainNames layers → layers_of (map layer_word layers) ≡ Some layers
@@ -93,42 +94,35 @@ cells_read t n h v low high =
     ap cells_of s.2 ∙ in_range t n (sym value)
     (Accepts-accepts false (Unsigned 2 (10 ^ 9)) t (subst (IsNumeral 10) (sym s.1) h, omega arith, omega arith, omega arith))
 
--- a number of cells is read back
-abbrev IsRead : ℕ → Type 0
-IsRead n = (accepts false (Signed (pos 2) (pos 1000000000)) (decimal n) ≡ true) × (cells_of (without_minus (decimal n)) ≡ Some n)
-
-is_read : (n : ℕ) → IsCells n → IsRead n
-is_read n cells =
+-- a number of cells is taken, and read back
+grid_taken : (grid : Option ℕ) → IfSome grid IsCells → IfSome (option_map decimal grid) (λ c. is_taken c ≡ true)
+grid_taken None cells = tt
+grid_taken (Some n) cells =
     let low : 2 ≤ n = cells.0 in
     let high : n ≤ 1000000000 = cells.1 in
     let d = decimal_is_IsNumeral n (omega arith) in
-    (cells_taken (decimal n) n d.0 d.1 low high, cells_read (decimal n) n d.0 d.1 low high)
+    cells_taken (decimal n) n d.0 d.1 low high
+
+grid_read : (grid : Option ℕ) → IfSome grid IsCells → grid_at (option_map without_minus (option_map decimal grid)) ≡ Some grid
+grid_read None cells = refl
+grid_read (Some n) cells =
+    let low : 2 ≤ n = cells.0 in
+    let high : n ≤ 1000000000 = cells.1 in
+    let d = decimal_is_IsNumeral n (omega arith) in
+    ap (option_map (λ k. Some k)) (cells_read (decimal n) n d.0 d.1 low high)
 
 fits : (layers : List (Text × Text)) → suc (length layers) < usize_max → length (map layer_word layers) < usize_max
 fits layers few = let same = length_words layers in omega (arith, few)
 
 pub asked_as_written : (o : Ordered) → IsWritable o.0 → order_of (written o) ≡ Some o
 asked_as_written (build [] exact grid area keep ring_area, output) can = absurd (omega (arith, can.1))
-asked_as_written (build (layer ∷ layers) true None area None ring_area, output) can =
-    build_exact_law ring_area (layer_word layer) (map layer_word layers) (layer ∷ layers) (all_split (layer ∷ layers) can.3) (fits layers can.2) output area
-asked_as_written (build (layer ∷ layers) false None area None ring_area, output) can =
-    build_law ring_area (layer_word layer) (map layer_word layers) (layer ∷ layers) (all_split (layer ∷ layers) can.3) (fits layers can.2) output area
-asked_as_written (build (layer ∷ layers) true None area (Some share) ring_area, output) can =
-    build_keep_exact_law ring_area (layer_word layer) (map layer_word layers) (layer ∷ layers) (all_split (layer ∷ layers) can.3) (fits layers can.2) output share
-    ∙ (λ i. Some (build (layer ∷ layers) true None (sym can.4 i) (Some share) ring_area, output))
-asked_as_written (build (layer ∷ layers) false None area (Some share) ring_area, output) can =
-    build_keep_law ring_area (layer_word layer) (map layer_word layers) (layer ∷ layers) (all_split (layer ∷ layers) can.3) (fits layers can.2) output share
-    ∙ (λ i. Some (build (layer ∷ layers) false None (sym can.4 i) (Some share) ring_area, output))
-asked_as_written (build (layer ∷ layers) true (Some n) area None ring_area, output) can =
-    build_grid_exact_law ring_area (layer_word layer) (map layer_word layers) (layer ∷ layers) (all_split (layer ∷ layers) can.3) (fits layers can.2) (decimal n) n (is_read n can.0).0 (is_read n can.0).1 output area
-asked_as_written (build (layer ∷ layers) false (Some n) area None ring_area, output) can =
-    build_grid_law ring_area (layer_word layer) (map layer_word layers) (layer ∷ layers) (all_split (layer ∷ layers) can.3) (fits layers can.2) (decimal n) n (is_read n can.0).0 (is_read n can.0).1 output area
-asked_as_written (build (layer ∷ layers) true (Some n) area (Some share) ring_area, output) can =
-    build_grid_keep_exact_law ring_area (layer_word layer) (map layer_word layers) (layer ∷ layers) (all_split (layer ∷ layers) can.3) (fits layers can.2) (decimal n) n (is_read n can.0).0 (is_read n can.0).1 output share
-    ∙ (λ i. Some (build (layer ∷ layers) true (Some n) (sym can.4 i) (Some share) ring_area, output))
-asked_as_written (build (layer ∷ layers) false (Some n) area (Some share) ring_area, output) can =
-    build_grid_keep_law ring_area (layer_word layer) (map layer_word layers) (layer ∷ layers) (all_split (layer ∷ layers) can.3) (fits layers can.2) (decimal n) n (is_read n can.0).0 (is_read n can.0).1 output share
-    ∙ (λ i. Some (build (layer ∷ layers) false (Some n) (sym can.4 i) (Some share) ring_area, output))
+asked_as_written (build (layer ∷ layers) exact grid area None ring_area, output) can =
+    build_law output (option_map decimal grid) (Some area) None ring_area exact (layer_word layer) (map layer_word layers) (fits layers can.2)
+    (grid_taken grid can.0) grid (layer ∷ layers) (grid_read grid can.0) (all_split (layer ∷ layers) can.3) refl
+asked_as_written (build (layer ∷ layers) exact grid area (Some share) ring_area, output) can =
+    build_law output (option_map decimal grid) None (Some share) ring_area exact (layer_word layer) (map layer_word layers) (fits layers can.2)
+    (grid_taken grid can.0) grid (layer ∷ layers) (grid_read grid can.0) (all_split (layer ∷ layers) can.3) refl
+    ∙ (λ i. Some (build (layer ∷ layers) exact grid (sym can.4 i) (Some share) ring_area, output))
 asked_as_written (simplify area ring_area path, output) can = simplify_law output area ring_area path
 asked_as_written (geo name path, output) can = geo_law output name path
 asked_as_written (stat path, output) can = stat_law output path

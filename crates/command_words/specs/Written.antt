@@ -1,5 +1,5 @@
 -- Words that ask for a request, whatever it is.
-use Rattle.std.specs.Prelude.{IfSome, decimal, ◌≡◌, ◌<◌, ◌++◌, ℕ, Bool, true, false, List, [], ◌∷◌, length, map, codes, Option, Some, None}
+use Rattle.std.specs.Prelude.{IfSome, decimal, ◌≡◌, ◌<◌, ◌++◌, Bool, true, false, List, [], ◌∷◌, length, map, codes, Option, Some, None, option_map}
 use Rattle.clap.specs.Lexer.{has_byte, usize_max}
 use Rattle.clap.specs.Walk.{Text}
 use Rattle.command_words.specs.LayerWords.{equals_sign}
@@ -10,34 +10,40 @@ use Rattle.command_words.specs.Asked.{Asked, Ordered, build, geo, simplify, stat
 abbrev pub layer_word : Text × Text → Text
 layer_word layer = layer.0 ++ equals_sign ∷ layer.1
 
-abbrev pub and_exact : Bool → List Text → List Text
-and_exact true words = codes "--exact" ∷ words
-and_exact false words = words
+-- an option with its text in one word
+abbrev pub value_word : Text → Text → Text
+value_word option text = codes "--" ++ (option ++ (codes "=" ++ text))
 
-abbrev pub and_grid : Option ℕ → List Text → List Text
-and_grid (Some n) words = (codes "--grid=" ++ decimal n) ∷ words
-and_grid None words = words
+abbrev pub flag_word : Text → Text
+flag_word flag = codes "--" ++ flag
+
+-- an option before other words, if it is given
+abbrev pub and_value : Text → Option Text → List Text → List Text
+and_value option (Some text) words = value_word option text ∷ words
+and_value option None words = words
+
+-- a flag before other words, if it is given
+abbrev pub and_flag : Text → Bool → List Text → List Text
+and_flag flag true words = flag_word flag ∷ words
+and_flag flag false words = words
 
 -- the area, or a share in its place
 abbrev pub level_word : Text → Option Text → Text
-level_word area None = codes "--min-area=" ++ area
-level_word area (Some share) = codes "--keep=" ++ share
+level_word area None = value_word (codes "min-area") area
+level_word area (Some share) = value_word (codes "keep") share
 
 abbrev pub ring_area_word : Text → Text
-ring_area_word ring_area = codes "--min-ring-area=" ++ ring_area
-
-abbrev pub and_output : Option Text → List Text → List Text
-and_output (Some file) words = (codes "--output=" ++ file) ∷ words
-and_output None words = words
+ring_area_word ring_area = value_word (codes "min-ring-area") ring_area
 
 -- the words of a request whose output goes to this file, or to standard output
 abbrev pub written : Ordered → List Text
 written (build layers exact grid area keep ring_area, output) =
-    codes "build" ∷ and_output output (and_grid grid (level_word area keep ∷ ring_area_word ring_area ∷ and_exact exact (codes "--" ∷ map layer_word layers)))
+    codes "build" ∷ and_value (codes "output") output (and_value (codes "grid") (option_map decimal grid)
+    (level_word area keep ∷ ring_area_word ring_area ∷ and_flag (codes "exact") exact (codes "--" ∷ map layer_word layers)))
 written (simplify area ring_area path, output) =
-    codes "simplify" ∷ and_output output (level_word area None ∷ ring_area_word ring_area ∷ codes "--" ∷ path ∷ [])
-written (geo name path, output) = codes "geo" ∷ and_output output ((codes "--object=" ++ name) ∷ codes "--" ∷ path ∷ [])
-written (stat path, output) = codes "stat" ∷ and_output output (codes "--" ∷ path ∷ [])
+    codes "simplify" ∷ and_value (codes "output") output (level_word area None ∷ ring_area_word ring_area ∷ codes "--" ∷ path ∷ [])
+written (geo name path, output) = codes "geo" ∷ and_value (codes "output") output (value_word (codes "object") name ∷ codes "--" ∷ path ∷ [])
+written (stat path, output) = codes "stat" ∷ and_value (codes "output") output (codes "--" ∷ path ∷ [])
 
 -- the words of a level, with a value that may be any text as a word of its own
 abbrev pub level_apart : Text → Option Text → List Text → List Text
@@ -49,9 +55,10 @@ ring_area_apart ring_area words = codes "--min-ring-area" ∷ ring_area ∷ word
 
 abbrev pub written_apart : Ordered → List Text
 written_apart (build layers exact grid area keep ring_area, output) =
-    codes "build" ∷ and_output output (and_grid grid (level_apart area keep (ring_area_apart ring_area (and_exact exact (codes "--" ∷ map layer_word layers)))))
+    codes "build" ∷ and_value (codes "output") output (and_value (codes "grid") (option_map decimal grid)
+    (level_apart area keep (ring_area_apart ring_area (and_flag (codes "exact") exact (codes "--" ∷ map layer_word layers)))))
 written_apart (simplify area ring_area path, output) =
-    codes "simplify" ∷ and_output output (level_apart area None (ring_area_apart ring_area (codes "--" ∷ path ∷ [])))
+    codes "simplify" ∷ and_value (codes "output") output (level_apart area None (ring_area_apart ring_area (codes "--" ∷ path ∷ [])))
 written_apart (geo name path, output) = written (geo name path, output)
 written_apart (stat path, output) = written (stat path, output)
 

@@ -14,12 +14,12 @@ use Rattle.clap.specs.declared.error.kind.ErrorKind.{ErrorKind}
 use Rattle.clap.specs.declared.error.kind.ErrorKind.TheVariants.{OutOfMemory}
 use Rattle.std.specs.List.{list_all}
 use Rattle.std.specs.Prelude.{◌&&◌, codes, is_some}
-use Rattle.command_words.specs.Faults.{IsFaultBy, is_help, is_memory}
+use Rattle.command_words.specs.Faults.{IsBuildFault, IsFaultBy, IsFirstWithout, IsLayersFault, is_help, is_memory, is_refused}
 use Rattle.command_words.specs.declared.words_fault.WordsFault.{WordsFault}
-use Rattle.command_words.specs.declared.words_fault.WordsFault.TheVariants.{Help, Refused, Memory}
+use Rattle.command_words.specs.declared.words_fault.WordsFault.TheVariants.{GridRange, Help, Memory, NoEquals, Refused}
 use Rattle.clap.proofs.WalkLemmas.{first_value-rows, raw_values-rows}
 use Rattle.clap.proofs.ValueTestLemmas.{accepts-Accepts, Accepts-accepts}
-use Rattle.command_words.specs.Asked.{area_in, build, build_in, build_on, cells_of, exact_in, grid_at, grid_in, has_both, keep_in, layers_in, ring_area_in, where_none}
+use Rattle.command_words.specs.Asked.{area_in, build, build_in, build_on, cells_of, exact_in, grid_at, grid_in, has_both, keep_in, layer_words, layers_in, ring_area_in, where_none}
 
 now_or : (r : Option (Bor Text)) (x e : Bor Text) → x ≡ unwrap_or r e → x.now ≡ unwrap_or (option_map (λ s. s.now) r) e.now
 now_or None x e is = ap (λ (y : Bor Text). y.now) is
@@ -170,8 +170,9 @@ and_false true b e = e
 and_false false b e = refl
 
 -- the fault of an error of these kinds
-pub help_for : (kinds : Kinds) (e : Error) → HasKind kinds e → (kind_of e ≡ OutOfMemory → ⊥) → is_help (kind_of e) ≡ true → IsFaultBy kinds (Help e)
-help_for kinds e h other helps = elim h [ inl m ↦ absurd (other m) | inr k ↦ (k, helps) ]
+pub help_for : (kinds : Kinds) (found : Option (Text × List Row)) (e : Error) → HasKind kinds e → (kind_of e ≡ OutOfMemory → ⊥) → is_help (kind_of e) ≡ true
+    → IsFaultBy kinds found (Help e)
+help_for kinds found e h other helps = elim h [ inl m ↦ absurd (other m) | inr k ↦ (k, helps) ]
 
 pub memory_or : (e : Error) → is_memory (kind_of e) ≡ false → kind_of e ≡ OutOfMemory → ⊥
 memory_or e other m = let bad : is_memory (kind_of e) ≡ true = ap is_memory m in cc
@@ -185,6 +186,16 @@ pub refused_by : (kinds : Kinds) (e : Error) → HasKind kinds e → (kind_of e 
 refused_by kinds e h memory other = elim h [ inl m ↦ absurd (memory m) | inr k ↦ not_all_help kinds (kind_of e) k other ]
 
 -- a refusal is reported for words that are refused
-pub refusal_for : (kinds : Kinds) (f : WordsFault) → (f ≡ Memory) ⊎ ((e : Error) × (f ≡ Refused e)) → (kinds ≡ []) ⊎ (list_all is_help kinds ≡ false) → IsFaultBy kinds f
-refusal_for kinds f (inl m) h = subst (IsFaultBy kinds) (sym m) tt
-refusal_for kinds f (inr r) h = subst (IsFaultBy kinds) (sym r.1) h
+pub refusal_for : (kinds : Kinds) (found : Option (Text × List Row)) (f : WordsFault) → (f ≡ Memory) ⊎ ((e : Error) × (f ≡ Refused e))
+    → ((kinds ≡ []) × (is_refused found ≡ true)) ⊎ (list_all is_help kinds ≡ false) → IsFaultBy kinds found f
+refusal_for kinds found f (inl m) h = subst (IsFaultBy kinds found) (sym m) tt
+refusal_for kinds found f (inr r) h = subst (IsFaultBy kinds found) (sym r.1) h
+
+-- the words for layers have this fault where nothing comes before it
+pub layers_fault : (rows : List Row) (grid : Option ℕ) (words : List Text) (f : WordsFault) → has_both rows ≡ false → grid_in rows ≡ Some grid → words ≡ layer_words rows
+    → IsLayersFault words f → IsBuildFault rows f
+layers_fault rows grid words (Help e) one g same h = absurd h
+layers_fault rows grid words (Refused e) one g same h = absurd h
+layers_fault rows grid words (NoEquals layer) one g same h = (one, ap is_some g, subst (λ ws. IsFirstWithout ws layer) same h)
+layers_fault rows grid words GridRange one g same h = absurd h
+layers_fault rows grid words Memory one g same h = tt

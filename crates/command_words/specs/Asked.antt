@@ -96,8 +96,12 @@ grid_at (Some text) = option_map (λ n. Some n) (cells_of text)
 abbrev pub grid_in : List Row → Option (Option ℕ)
 grid_in rows = grid_at (one_of (codes "grid") rows)
 
+-- the words for layers
+abbrev pub layer_words : List Row → List Text
+layer_words rows = unwrap_or (all_of (codes "layers") rows) []
+
 abbrev pub layers_in : List Row → Option (List (Text × Text))
-layers_in rows = layers_of (unwrap_or (all_of (codes "layers") rows) [])
+layers_in rows = layers_of (layer_words rows)
 
 -- a build of these layers on this grid
 abbrev pub build_on : List Row → Option ℕ → List (Text × Text) → Asked

@@ -1,7 +1,7 @@
 // The words that name a layer and its file.
-ghost use Rattle.std.specs.Prelude.{◌≡◌, ◌≢◌, [], EachIndex, IfErr, MatchOption, map, option_map, slice_index};
+ghost use Rattle.std.specs.Prelude.{◌≡◌, ◌≢◌, EachIndex, IfErr, MatchOption, map, option_map, slice_index};
 ghost use Rattle.command_words.specs.Asked.{Answers, layer_of, layers_of};
-ghost use Rattle.command_words.specs.Faults.{IsFaultBy};
+ghost use Rattle.command_words.specs.Faults.{IsLayersFault};
 ghost use Rattle.command_words.specs.LayerWords.{IsSplit, equals_sign};
 
 use crate::words_fault::WordsFault;
@@ -23,7 +23,7 @@ pub(crate) fn names_and_paths<'a>(
     words: &[&'a str],
 ) -> Result<Vec<(&'a str, &'a str)>, WordsFault>
     ensures layers { Answers (layers_of (map (λ w. w.now) words.now)) (λ v. map (λ l. (l.0.now, l.1.now)) v.items) result }
-    ensures fault { IfErr result (IsFaultBy []) }
+    ensures fault { IfErr result (IsLayersFault (map (λ w. w.now) words.now)) }
 {
     let mut layers = Vec::new(alloc);
     'words: for (layer, word) in words.iter().enumerate() {

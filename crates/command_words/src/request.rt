@@ -1,19 +1,20 @@
 // What words ask for.
-ghost use Rattle.std.specs.Prelude.{◌≡◌, ◌⊎◌, IfErr, IfOk, MatchResult, None, Some, [], map, option_map};
+ghost use Rattle.std.specs.Prelude.{◌≡◌, ◌⊎◌, IfErr, IfOk, List, MatchResult, None, Option, Some, [], map, option_map, true};
 ghost use Rattle.std.specs.String.{string_bytes};
 ghost use Rattle.clap.specs.Kinds.{HasKind, Kinds};
 ghost use Rattle.clap.specs.Simple.{subcommand_of, subcommand_rows_of};
 ghost use Rattle.clap.specs.Values.{kind_of};
+ghost use Rattle.clap.specs.Walk.{Row, Text};
 ghost use Rattle.clap.specs.declared.error.Error.{Error as ClapError};
 ghost use Rattle.clap.specs.declared.error.kind.ErrorKind.TheVariants.{OutOfMemory};
-ghost use Rattle.command_words.specs.declared.words_fault.WordsFault.TheVariants.{Memory, Refused};
+ghost use Rattle.command_words.specs.declared.words_fault.WordsFault.TheVariants.{GridRange, Memory, Refused};
 ghost use Rattle.command_words.specs.Asked as spec;
 ghost use Rattle.command_words.specs.Asked.{Answers, area_in, asked, asked_in, build_in, entries_of, exact_in, grid_in};
 ghost use Rattle.command_words.specs.Asked.{Ordered, detail, detail_of, explains_in, keep_in, kinds_of, order_of, ordered};
 ghost use Rattle.command_words.specs.Asked.{output_in, report_in, ring_area_in, text_of};
 ghost use Rattle.command_words.specs.CommandLine.{IsApp, program_app};
 ghost use Rattle.command_words.specs.Faults as faults;
-ghost use Rattle.command_words.specs.Faults.{IsFaultBy};
+ghost use Rattle.command_words.specs.Faults.{IsBuildFault, IsCommandFault, IsFaultBy, IsFaultOf};
 ghost use Rattle.command_words.specs.Written.{IsWritable, written};
 
 use crate::file_usage::{FILE, GEO, OBJECT, SIMPLIFY, STAT};
@@ -79,7 +80,7 @@ pub struct Order<'a> {
 /// program, so the range is looked at here once more.
 fn grid_of(arguments: &ArgMatches<'_>) -> Result<Option<u32>, WordsFault>
     ensures grid { Answers (grid_in (entries_of arguments.now)) (λ grid. grid) result }
-    ensures fault { IfErr result (IsFaultBy []) }
+    ensures fault { IfErr result (λ e. e ≡ GridRange) }
 {
     match arguments.try_get_one::<u32>(GRID) {
         Ok(None) => Ok(None),
@@ -164,7 +165,8 @@ fn build_request<'a>(
 ) -> Result<Option<Request<'a>>, WordsFault>
     ensures asked { MatchResult result (λ found. build_in (entries_of arguments.now) ≡ option_map asked found)
         (λ e. (e ≡ Memory) ⊎ (build_in (entries_of arguments.now) ≡ None)) }
-    ensures fault { IfErr result (IsFaultBy []) }
+    ensures both { IfOk result (λ found. found ≡ None → spec.has_both (entries_of arguments.now) ≡ true) }
+    ensures fault { IfErr result (IsBuildFault (entries_of arguments.now)) }
 {
     if has_both(arguments) {
         return Ok(None);
@@ -193,7 +195,8 @@ fn request_in<'a>(
 ) -> Result<Option<Request<'a>>, WordsFault>
     ensures asked { MatchResult result (λ found. asked_in (name.now, entries_of arguments.now) ≡ option_map asked found)
         (λ e. (e ≡ Memory) ⊎ (asked_in (name.now, entries_of arguments.now) ≡ None)) }
-    ensures fault { IfErr result (IsFaultBy []) }
+    ensures refused { IfOk result (λ found. found ≡ None → faults.is_refused (Some (name.now, entries_of arguments.now)) ≡ true) }
+    ensures fault { IfErr result (IsCommandFault (Some (name.now, entries_of arguments.now))) }
 {
     if name == BUILD {
         return build_request(alloc, arguments);
@@ -249,7 +252,7 @@ fn is_memory(kind: ErrorKind) -> bool
 /// What is said of words by this error of theirs.
 fn fault_by(alloc: Global, words: &[String], error: Error) -> Result<WordsFault, AllocError>
     ensures memory { kind_of error ≡ OutOfMemory → IfOk result (λ f. f ≡ Memory) }
-    ensures fault { (kinds : Kinds) → HasKind kinds error → IfOk result (IsFaultBy kinds) }
+    ensures fault { (kinds : Kinds) (found : Option (Text × List Row)) → HasKind kinds error → IfOk result (IsFaultBy kinds found) }
 {
     let kind = error.kind();
     if is_memory(kind) {
@@ -270,7 +273,7 @@ fn matches_in<'a>(
     requires { IsApp program.old program_app }
     ensures { MatchResult result
         (λ m. (kinds_of (map string_bytes words.now) ≡ []) × (subcommand_rows_of m ≡ subcommand_of program_app (map string_bytes words.now)))
-        (λ e. ((e ≡ Memory) ⊎ (order_of (map string_bytes words.now) ≡ None)) × IsFaultBy (kinds_of (map string_bytes words.now)) e) }
+        (λ e. ((e ≡ Memory) ⊎ (order_of (map string_bytes words.now) ≡ None)) × IsFaultOf (map string_bytes words.now) e) }
 {
     match program.try_get_matches_from_mut(words) {
         Ok(matches) => Ok(matches),
@@ -287,7 +290,7 @@ fn read_by<'a>(
     requires { IsApp program.old program_app }
     ensures exact { Answers (order_of (map string_bytes words.now)) ordered result }
     ensures detail { IfOk result (λ order. detail_of (map string_bytes words.now) ≡ Some (detail order)) }
-    ensures fault { IfErr result (IsFaultBy (kinds_of (map string_bytes words.now))) }
+    ensures fault { IfErr result (IsFaultOf (map string_bytes words.now)) }
 {
     let matches = matches_in(alloc, program, words)?;
     if let Some((name, arguments)) = matches.subcommand() {
@@ -310,8 +313,8 @@ pub fn read_words<'a>(alloc: Global, words: &'a [String]) -> Result<Order<'a>, W
     ensures exact { Answers (order_of (map string_bytes words.now)) ordered result }
     // What is to be said of the run is what the words ask for.
     ensures detail { IfOk result (λ order. detail_of (map string_bytes words.now) ≡ Some (detail order)) }
-    // Help is printed for words that ask for it, and else they are refused, or have a fault of their own.
-    ensures fault { IfErr result (IsFaultBy (kinds_of (map string_bytes words.now))) }
+    // Help is printed for words that ask for it. Else they are refused, or of the arguments of `build` it is said what is the first fault.
+    ensures fault { IfErr result (IsFaultOf (map string_bytes words.now)) }
     // Words that are written for a request and the file of its output ask for both.
     ensures written { (o : Ordered) → IsWritable o.0 → map string_bytes words.now ≡ written o → Answers (Some o) ordered result }
 {

@@ -1,8 +1,8 @@
 -- What a run promises: its exit status, and what standard output, standard error and files took.
 use Rattle.std.specs.Prelude.{◌≡◌, ◌⊎◌, ℕ, true, List, [], IfSome, None, Some}
 use Rattle.byte_ends.specs.Writes.{WritesAll, WritesPrefix}
-use Rattle.command_words.specs.Asked.{detail, detail_of, kinds_of, order_of, ordered}
-use Rattle.command_words.specs.Faults.{IsFaultBy, words_fault_text}
+use Rattle.command_words.specs.Asked.{detail, detail_of, order_of, ordered}
+use Rattle.command_words.specs.Faults.{IsFaultOf, words_fault_text}
 use Rattle.command_words.specs.Joined.{joined}
 use Rattle.command_words.specs.declared.request.Order.{Order}
 use Rattle.command_words.specs.declared.words_fault.WordsFault.{WordsFault}
@@ -41,9 +41,9 @@ EndsAtWords fault old new status = IsRefusedFor fault old new status ⊎ LacksMe
 
 -- ---- a whole run
 
--- the words ask for no request, or memory was wanting; and what is reported is of the kinds of error that `clap` has for them
+-- the words ask for no request, or memory was wanting; and what is reported is the fault that they have
 abbrev pub IsUnasked : List (List ℕ) → WordsFault → Type 0
-IsUnasked given fault = ((fault ≡ words.Memory) ⊎ (order_of given ≡ None)) × IsFaultBy (kinds_of given) fault
+IsUnasked given fault = ((fault ≡ words.Memory) ⊎ (order_of given ≡ None)) × IsFaultOf given fault
 
 -- the order that the words ask for is carried out, or they ask for none
 abbrev pub RunsOn : FileUse → List (List ℕ) → Streams → Streams → ℕ → Type 0

@@ -1,8 +1,9 @@
 use Rattle.std.proofs.Common.{◌≡◌, ◌⊎◌, ◌∙◌, None, ap, codes, inl, inr, refl, rules, sym}
 use Rattle.clap.specs.Matches.{found_of}
 use Rattle.command_words.specs.Asked.{build_in, entries_of, layers_of}
+use Rattle.command_words.specs.Faults.{IsBuildFault}
 use Rattle.command_words.specs.declared.words_fault.WordsFault.TheVariants.{Memory}
-use Rattle.command_words.proofs.Getters.{both_given, build_asked, build_unasked, no_build, read_all_or}
+use Rattle.command_words.proofs.Getters.{both_given, build_asked, build_unasked, layers_fault, no_build, read_all_or}
 use Rattle.command_words.proofs.request.build_request.Goals as goal
 
 pub returns-then-has_both-clause-asked : goal.returns-then-has_both-clause-asked
@@ -36,3 +37,11 @@ returns-clause-asked c =
     let texts = read_all_or (found_of c.args.arguments.now) (codes "layers") c.get_strs.result c.unwrap_or.result _ c.get_strs.ensures c.unwrap_or.ensures refl in
     build_asked rows c.in_ok-grid.grid _ c.is_exact-exact.result _ _ _ one c.in_ok-grid.ensures.grid (ap layers_of (sym texts) ∙ c.in_ok-layers.ensures.layers)
     c.is_exact-exact.ensures c.area_of-area.ensures c.keep_of-keep.ensures c.ring_area_of-ring_area.ensures
+
+pub returns-in_err-layers-clause-fault : goal.returns-in_err-layers-clause-fault
+returns-in_err-layers-clause-fault c =
+    let rows = entries_of c.args.arguments.now in
+    let one = sym c.has_both.ensures ∙ c.if-has_both.false in
+    let texts = read_all_or (found_of c.args.arguments.now) (codes "layers") c.get_strs.result c.unwrap_or.result _ c.get_strs.ensures c.unwrap_or.ensures refl in
+    let fact : IsBuildFault rows c.in_err-layers.field-0.0 = layers_fault rows c.in_ok-grid.grid _ c.in_err-layers.field-0.0 one c.in_ok-grid.ensures.grid texts c.in_err-layers.ensures.fault in
+    search (rules, fact)

@@ -13,7 +13,7 @@ returns-then-is_help-clause-memory c =
 pub returns-then-is_help-clause-fault : goal.returns-then-is_help-clause-fault
 returns-then-is_help-clause-fault c =
     let other : is_memory (kind_of c.args.error) ≡ false = ap is_memory (sym c.kind-kind.ensures) ∙ sym c.is_memory.ensures ∙ c.if-is_memory.false in
-    λ kinds h. help_for kinds c.args.error h (memory_or c.args.error other) (ap is_help (sym c.kind-kind.ensures) ∙ sym c.is_help.ensures ∙ c.if-is_help.true)
+    λ kinds found h. help_for kinds found c.args.error h (memory_or c.args.error other) (ap is_help (sym c.kind-kind.ensures) ∙ sym c.is_help.ensures ∙ c.if-is_help.true)
 
 pub returns-clause-memory : goal.returns-clause-memory
 returns-clause-memory c =
@@ -23,5 +23,5 @@ returns-clause-memory c =
 pub returns-clause-fault : goal.returns-clause-fault
 returns-clause-fault c =
     let other : is_memory (kind_of c.args.error) ≡ false = ap is_memory (sym c.kind-kind.ensures) ∙ sym c.is_memory.ensures ∙ c.if-is_memory.false in
-    λ kinds h. IfOk-weaker c.refusal.result _ (IsFaultBy kinds) (λ f r. refusal_for kinds f r
+    λ kinds found h. IfOk-weaker c.refusal.result _ (IsFaultBy kinds found) (λ f r. refusal_for kinds found f r
     (inr (refused_by kinds c.args.error h (memory_or c.args.error other) (ap is_help (sym c.kind-kind.ensures) ∙ sym c.is_help.ensures ∙ c.if-is_help.false)))) c.refusal.ensures

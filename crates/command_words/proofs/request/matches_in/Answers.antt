@@ -16,7 +16,7 @@ returns-in_ok-fault_by-in-Err c =
     let kinds = c.in-Err.ensures.kinds (ap is_simple_and_free c.requires.app ∙ program_free) in
     let kind = subst (λ (a : App). HasKind (fault_of a words) c.in-Err.error) c.requires.app kinds in (
       refused_for (kinds_of words) (option_and_then ordered_in (subcommand_of program_app words)) c.in-Err.error _ kind c.in_ok-fault_by-in-Err.ensures.memory,
-      c.in_ok-fault_by-in-Err.ensures.fault (kinds_of words) kind,
+      c.in_ok-fault_by-in-Err.ensures.fault (kinds_of words) (subcommand_of program_app words) kind,
     )
 
 pub returns-in-Ok : goal.returns-in-Ok

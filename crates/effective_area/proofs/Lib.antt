@@ -1,3 +1,4 @@
+pub mod CallLists
 pub mod CappedShares
 pub mod ChainLaws
 pub mod Counts

@@ -1,5 +1,6 @@
 -- Steps of a reducer, and how they are counted.
-use Rattle.std.specs.Prelude.{ℕ, ◌+◌, ◌-◌, ◌^◌, ◌≤◌, min}
+use Rattle.std.specs.Prelude.{ℕ, ◌+◌, ◌-◌, ◌^◌, ◌≤◌, List, [], min}
+use Rattle.effective_area.specs.Calls.{Call}
 use Rattle.effective_area.specs.declared.steps.Steps.{Steps}
 
 -- a count stays at the largest `u64`
@@ -33,10 +34,10 @@ pub record RoseBy (m n : ℕ) (old new : Steps) : Type 0 where
 abbrev pub AreasRose : ℕ → Steps → Steps → Type 0
 AreasRose n old new = min (old.areas + n) (2 ^ 64 - 1) ≤ new.areas
 
--- what contracts see of a reducer that counts its steps: how often it was called, and what it did in all its calls
+-- what contracts see of a reducer that counts its steps: its calls, and what it did in all of them
 pub record Counted : Type 0 where
-  pub calls : ℕ
+  pub calls : List Call
   pub steps : Steps
 
 abbrev pub nothing_counted : Counted
-nothing_counted = record { calls = 0; steps = no_steps }
+nothing_counted = record { calls = []; steps = no_steps }

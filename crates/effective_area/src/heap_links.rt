@@ -1,12 +1,14 @@
-ghost use Rattle.std.specs.Prelude.{◌≡◌, ℕ, ◌+◌, ◌-◌, ◌*◌, ◌<◌, ◌≤◌, ◌++◌, true, IfOk, OnOk, List, ◌∷◌, length, vec_capacity};
+ghost use Rattle.std.specs.Prelude.{◌≡◌, ℕ, ◌+◌, ◌-◌, ◌*◌, ◌<◌, ◌≤◌, ◌++◌, [], true, IfOk, OnOk, List, ◌∷◌, length, vec_capacity};
 ghost use Rattle.std.specs.BinaryHeap.{heap_capacity, heap_items, IsHeap};
 ghost use Rattle.std.specs.List.{range_with_len};
 ghost use Rattle.std.specs.List.Sorted.{IsSorted};
+ghost use Rattle.effective_area.specs.Calls.{call_at};
 ghost use Rattle.effective_area.specs.Counts.{AreasRose, RoseAtMost, RoseBy, nothing_counted};
 ghost use Rattle.effective_area.specs.Links.{AreCached, HasCorners, IsFirst, IsLinked, IsState, rentry_cmp};
 ghost use Rattle.elimination_meaning.specs.Elimination.{reduce};
 
 use crate::caching::cached_links;
+use crate::call_log::CallLog;
 use crate::entry::Entry;
 use crate::indexes::all_indexes;
 use crate::links::{Link, present};
@@ -14,7 +16,6 @@ use crate::queue::put_corner;
 use crate::reducer::Reducer;
 use crate::steps::Steps;
 use crate::taking::take_first;
-use crate::tally::Tally;
 use geometry::Position;
 use owned_values::Memory;
 use std::alloc::Global;
@@ -173,11 +174,11 @@ impl Buffers {
 /// A reducer that takes time n log n: of the corners under the threshold those that are due are queued in their order, stale ones among
 /// them, which go before their neighbours, and the positions that are present are linked both ways. A call raises each count of its steps
 /// by three for each position between the ends at most, and at a threshold over zero that of the areas by one or more. Contracts see it as
-/// how often it was called and the steps that it did so far: nothing else is left of a call, whether it answered or not. What it reduces
+/// its calls and the steps that it did so far: nothing else is left of a call, whether it answered or not. What it reduces
 /// in is used again by the next call, unless it became large: then its memory is given back.
 #[derive(Debug, Drop)]
 pub struct HeapLinks {
-    calls: Tally,
+    calls: CallLog,
     steps: Steps,
     buffers: Option<Buffers>,
 }
@@ -187,7 +188,7 @@ impl Model for HeapLinks {
 
     ghost Value = { Counted };
 
-    ghost view = { λ r. record { calls = r.calls.count; steps = r.steps } };
+    ghost view = { λ r. record { calls = r.calls.calls; steps = r.steps } };
 }
 
 impl HeapLinks {
@@ -196,7 +197,7 @@ impl HeapLinks {
         ensures { result ≡ nothing_counted }
     {
         HeapLinks {
-            calls: Tally::none(),
+            calls: CallLog::none(),
             steps: Steps::none(),
             buffers: None,
         }
@@ -216,12 +217,12 @@ impl Reducer for HeapLinks {
     fn kept(&mut self, alloc: Global, arc: &[Position], t: u128) -> Result<Vec<usize>, Memory>
         requires { 2 ≤ length arc.now }
         ensures kept { IfOk result (λ kept. kept.items ≡ reduce t arc.now) }
-        ensures called { self.new.calls ≡ self.old.calls + 1 }
+        ensures called { self.new.calls ≡ self.old.calls ++ call_at t arc.now ∷ [] }
         ensures counted { RoseAtMost (3 * (length arc.now - 2)) self.old.steps self.new.steps }
         // At a threshold over zero the area at each position between the ends is computed.
         ensures computed { 0 < t → IfOk result (λ _. AreasRose (length arc.now - 2) self.old.steps self.new.steps) }
     {
-        self.calls = self.calls.one_more();
+        self.calls = self.calls.and(arc, t);
         if t == 0 {
             return all_indexes(alloc, arc.len());
         }

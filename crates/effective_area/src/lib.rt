@@ -13,6 +13,7 @@
 #![tactic(auto)]
 
 mod caching;
+mod call_log;
 mod candidate;
 mod entry;
 mod heap_links;
@@ -26,7 +27,6 @@ mod share_texts;
 mod shares;
 mod steps;
 mod taking;
-mod tally;
 mod threshold_laws;
 mod thresholds;
 mod weighing;

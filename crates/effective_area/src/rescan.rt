@@ -1,14 +1,14 @@
-ghost use Rattle.std.specs.Prelude.{◌≡◌, ℕ, ◌<◌, All, length, not, ◌==◌, Some};
+ghost use Rattle.std.specs.Prelude.{◌≡◌, ℕ, ◌<◌, [], All, length, not, ◌==◌, Some};
 ghost use Rattle.std.specs.List.{filter};
 ghost use Rattle.elimination_meaning.specs.Elimination.{corners, least, lesser};
 ghost use Rattle.effective_area.specs.Vertices.{candidate_corner, vertices};
 ghost use Rattle.geometry.specs.Lists.{map_some};
 
+use crate::call_log::CallLog;
 use crate::candidate::Candidate;
 use crate::indexes::all_indexes;
 use crate::reducer::Reducer;
 use crate::steps::{Steps, twice_area};
-use crate::tally::Tally;
 use geometry::Position;
 use owned_values::Memory;
 use std::alloc::Global;
@@ -51,27 +51,28 @@ fn take_out(present: &mut Vec<usize>, index: usize)
 }
 
 /// A reducer that looks through all corners of the line for each position that it removes: the plainest body of the law,
-/// in time n squared. Contracts see it as how often it was called: nothing else is left of a call.
+/// in time n squared. Contracts see it as its calls: nothing else is left of them.
 #[derive(Debug, Drop)]
 pub struct Rescan {
-    calls: Tally,
+    calls: CallLog,
 }
 
 impl Model for Rescan {
-    ghost use Rattle.std.specs.Prelude.{ℕ};
+    ghost use Rattle.std.specs.Prelude.{List};
+    ghost use Rattle.effective_area.specs.Calls.{Call};
 
-    ghost Value = { ℕ };
+    ghost Value = { List Call };
 
-    ghost view = { λ r. r.calls.count };
+    ghost view = { λ r. r.calls.calls };
 }
 
 impl Rescan {
     /// A reducer that wasn't called yet.
     pub fn new() -> Rescan
-        ensures { result ≡ 0 }
+        ensures { result ≡ [] }
     {
         Rescan {
-            calls: Tally::none(),
+            calls: CallLog::none(),
         }
     }
 }
@@ -80,7 +81,7 @@ impl Reducer for Rescan {
     ghost calls = { λ calls. calls };
 
     fn kept(&mut self, alloc: Global, arc: &[Position], t: u128) -> Result<Vec<usize>, Memory> {
-        self.calls = self.calls.one_more();
+        self.calls = self.calls.and(arc, t);
         let mut steps = Steps::none();
         let mut present = all_indexes(alloc, arc.len())?;
         for _turn in 0..arc.len() {

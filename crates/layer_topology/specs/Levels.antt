@@ -1,6 +1,7 @@
 -- How much of the detail of the arcs stays.
-use Rattle.std.specs.Prelude.{ℕ, ◌^◌, Bool, ◌&&◌, nat_le, List, length, map, Option, None, Some}
+use Rattle.std.specs.Prelude.{ℕ, ◌^◌, Bool, ◌&&◌, nat_le, List, [], map, Option, None, Some}
 use Rattle.build_meaning.specs.Layers.{Named}
+use Rattle.effective_area.specs.Calls.{Call, calls_for}
 use Rattle.effective_area.specs.Shares.{interior_weights, share}
 use Rattle.effective_area.specs.Weights.{weights_of}
 use Rattle.geometry.specs.Points.{Point}
@@ -32,10 +33,11 @@ level_threshold count level ls = threshold_at level (arcs_of_layers (snapped_to 
 abbrev pub level_chosen : Option ℕ → Level → Named → Option ℕ
 level_chosen count level ls = chosen_at level (arcs_of_layers (snapped_to count ls))
 
--- how often a reducer is called for these arcs: once for each, but never at a share, for which each arc is weighed once in place of that
-abbrev pub calls_at : Level → List (List Point) → ℕ
-calls_at (Fixed t) arcs = length arcs
-calls_at (Share p q) arcs = 0
+-- what a reducer is asked for: to reduce each of these arcs at the threshold, in order, but nothing at a share, for which each arc is weighed once
+-- in place of that
+abbrev pub calls_at : Level → List (List Point) → List Call
+calls_at (Fixed t) arcs = calls_for t arcs
+calls_at (Share p q) arcs = []
 
-abbrev pub level_calls : Option ℕ → Level → Named → ℕ
+abbrev pub level_calls : Option ℕ → Level → Named → List Call
 level_calls count level ls = calls_at level (arcs_of_layers (snapped_to count ls))

@@ -1,6 +1,7 @@
 // Which positions of the arcs stay, and at which threshold.
-ghost use Rattle.std.specs.Prelude.{◌≡◌, ◌+◌, ◌<◌, ◌≤◌, IfOk, Some, length, map, sum_by, true};
+ghost use Rattle.std.specs.Prelude.{◌≡◌, ◌<◌, ◌≤◌, ◌∷◌, ◌++◌, [], IfOk, Some, length, map, sum_by, true};
 ghost use Rattle.std.specs.List.{AllByRecursion};
+ghost use Rattle.effective_area.specs.Calls.{call_at, calls_for};
 ghost use Rattle.effective_area.specs.Capped.{AreCapped};
 ghost use Rattle.effective_area.specs.Shares.{interior_weights, kept_at, share};
 ghost use Rattle.effective_area.specs.Weights.{weights_of};
@@ -28,7 +29,7 @@ pub fn reduced_line<Q: Reducer>(
 ) -> Result<Items<Cell>, Memory>
     requires { 2 ≤ length line.now }
     ensures retained { IfOk result (λ cells. cells ≡ retained (reduce threshold line.now) line.now) }
-    ensures called { IfOk result (λ _. Q.calls reducer.new ≡ Q.calls reducer.old + 1) }
+    ensures called { IfOk result (λ _. Q.calls reducer.new ≡ Q.calls reducer.old ++ call_at threshold line.now ∷ []) }
 {
     let kept = reducer.kept(alloc, line, threshold)?;
     retained_positions(alloc, &kept, line)
@@ -43,7 +44,7 @@ fn reduced_arcs<Q: Reducer>(
 ) -> Result<Vec<Items<Cell>>, Memory>
     requires { AllByRecursion (λ arc. 2 ≤ length arc) arcs.items }
     ensures retained { IfOk result (λ left. left.items ≡ retained_arcs (map (reduce threshold) arcs.items) arcs.items) }
-    ensures called { IfOk result (λ _. Q.calls reducer.new ≡ Q.calls reducer.old + length arcs.items) }
+    ensures called { IfOk result (λ _. Q.calls reducer.new ≡ Q.calls reducer.old ++ calls_for threshold arcs.items) }
 {
     let mut left = Vec::with_capacity(alloc, arcs.len())?;
     'arcs: for arc in arcs {
@@ -149,7 +150,7 @@ pub(crate) fn left_of_arcs<Q: Reducer>(
     requires long { AllByRecursion (λ arc. 2 ≤ length arc) arcs.items }
     ensures retained { IfOk result (λ r. r.0.items ≡ retained_arcs (map (reduce (threshold_at level arcs.items)) arcs.items) arcs.items) }
     ensures chosen { IfOk result (λ r. r.1 ≡ chosen_at level arcs.items) }
-    ensures called { IfOk result (λ _. Q.calls reducer.new ≡ Q.calls reducer.old + calls_at level arcs.items) }
+    ensures called { IfOk result (λ _. Q.calls reducer.new ≡ Q.calls reducer.old ++ calls_at level arcs.items) }
 {
     match level {
         Level::Fixed(threshold) => Ok((reduced_arcs(alloc, reducer, arcs, threshold)?, None)),

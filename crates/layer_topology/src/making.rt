@@ -1,5 +1,5 @@
 // Making the topology of layers.
-ghost use Rattle.std.specs.Prelude.{◌≡◌, ◌+◌, ◌<◌, ◌≤◌, ◌^◌, IfOk, length, map, true};
+ghost use Rattle.std.specs.Prelude.{◌≡◌, ◌<◌, ◌≤◌, ◌^◌, ◌++◌, IfOk, length, map, true};
 ghost use Rattle.arc_table.specs.Arcs.{table_of};
 ghost use Rattle.build_meaning.specs.Built.{built, removed_count};
 ghost use Rattle.build_meaning.specs.Expected.{expected_dropped};
@@ -87,7 +87,7 @@ fn shared_and_reduced<Q: Reducer>(
     ensures retained { IfOk result (λ r. r.2.items
         ≡ retained_arcs (map (reduce (threshold_at level (arcs_of_layers layers.now))) (arcs_of_layers layers.now)) (arcs_of_layers layers.now)) }
     ensures chosen { IfOk result (λ r. r.3 ≡ chosen_at level (arcs_of_layers layers.now)) }
-    ensures called { IfOk result (λ _. Q.calls reducer.new ≡ Q.calls reducer.old + calls_at level (arcs_of_layers layers.now)) }
+    ensures called { IfOk result (λ _. Q.calls reducer.new ≡ Q.calls reducer.old ++ calls_at level (arcs_of_layers layers.now)) }
 {
     let table = shared_arcs(alloc, seed, layers)?;
     let (arcs, refs) = table.into_parts();
@@ -114,7 +114,7 @@ fn reduced_topology<Q: Reducer>(
     ensures dropped { IfOk result (λ r. r.1.items ≡ expected_dropped (threshold_at level (arcs_of_layers layers.items)) ring_limit layers.items) }
     ensures removed_count { IfOk result (λ r. r.2 ≡ saturated (removed_count (threshold_at level (arcs_of_layers layers.items)) ring_limit layers.items)) }
     ensures chosen { IfOk result (λ r. r.3 ≡ chosen_at level (arcs_of_layers layers.items)) }
-    ensures called { IfOk result (λ _. Q.calls reducer.new ≡ Q.calls reducer.old + calls_at level (arcs_of_layers layers.items)) }
+    ensures called { IfOk result (λ _. Q.calls reducer.new ≡ Q.calls reducer.old ++ calls_at level (arcs_of_layers layers.items)) }
     ensures few { IfOk result (λ r. length r.0.arcs < 2 ^ 63) }
 {
     arc_indexes_reach();
@@ -171,7 +171,7 @@ pub fn topology_of_layers<Q: Reducer>(
     ensures dropped { IfOk result (λ r. r.1.items ≡ expected_dropped (level_threshold grid level layers.items) ring_limit (snapped_to grid layers.items)) }
     ensures removed_count { IfOk result (λ r. r.2 ≡ saturated (removed_count (level_threshold grid level layers.items) ring_limit (snapped_to grid layers.items))) }
     ensures chosen { IfOk result (λ r. r.3 ≡ level_chosen grid level layers.items) }
-    ensures called { IfOk result (λ _. Q.calls reducer.new ≡ Q.calls reducer.old + level_calls grid level layers.items) }
+    ensures called { IfOk result (λ _. Q.calls reducer.new ≡ Q.calls reducer.old ++ level_calls grid level layers.items) }
     ensures few { IfOk result (λ r. length r.0.arcs < 2 ^ 63) }
 {
     snapped_are_on();

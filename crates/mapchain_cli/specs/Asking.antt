@@ -3,6 +3,7 @@ use Rattle.std.specs.Prelude.{◌≡◌, ℕ, Bool, List, length, map, Option, S
 use Rattle.std.specs.Borrow.{Bor}
 use Rattle.std.specs.Option.{option_map}
 use Rattle.byte_ends.specs.Ends.{Drained, Fed}
+use Rattle.effective_area.specs.Calls.{Call}
 use Rattle.effective_area.specs.ShareTexts.{share_of}
 use Rattle.effective_area.specs.Thresholds.{threshold_of}
 use Rattle.command_words.specs.declared.request.Request.{Request}
@@ -92,14 +93,14 @@ abbrev pub OpensSome : FileUse → Request → Type 0
 OpensSome files (Build layers exact grid area keep ring_area) = OpensPrefix (length (texts_of layers.items)) files
 OpensSome files request = Opened 0 files
 
--- a reducer that was called so often before was called for what is asked for since: once for each arc of the layers, or of the topology
--- that is simplified, and never for anything else
-abbrev pub CallsFor : Contents → Request → ℕ → ℕ → Type 0
+-- a reducer that was asked for so much before was asked for this since: to reduce each arc of the layers, or of the topology that is simplified, at
+-- the threshold of the area, and for nothing else
+abbrev pub CallsFor : Contents → Request → List Call → List Call → Type 0
 CallsFor contents (Build layers exact grid area keep ring_area) before after =
     (options : Options) × (olds : Sources) × (news : Sources) × IsAskedFor exact grid area.now keep ring_area.now options
     × AreOpened contents (texts_of layers.items) olds × CallsForLayers options olds news before after
 CallsFor contents (Simplify area ring_area path) before after =
-    (old : Fed) × (new : Fed) × IsOpened contents path.now old × CallsForTopology old new before after
+    (t : ℕ) × (old : Fed) × (new : Fed) × (threshold_of area.now ≡ Some t) × IsOpened contents path.now old × CallsForTopology t old new before after
 CallsFor contents request before after = after ≡ before
 
 -- why what was asked for isn't done

@@ -61,7 +61,7 @@ pub(crate) fn simplify_file<F: Files, V: Drain>(
     requires { ring_limit ≤ threshold_limit }
     ensures simplified { IfOk result (λ report. SimplifiesOf (used (F.state files.old) (F.state files.new)) threshold ring_limit path.now out.old out.new report) }
     ensures reduced { IfOk result (λ _. (old : Fed) × (new : Fed) × IsOpened ((F.state files.old).contents) path.now old
-        × CallsForTopology old new reducer.old.calls reducer.new.calls) }
+        × CallsForTopology threshold old new reducer.old.calls reducer.new.calls) }
     ensures refused { IfErr result (λ e. RefusesFile (used (F.state files.old) (F.state files.new)) path.now out.old out.new
         (λ s u. IsSimplifyFault threshold ring_limit s u out.old out.new) e) }
 {

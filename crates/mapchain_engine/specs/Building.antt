@@ -1,5 +1,5 @@
 -- What `build` answers, reads and writes.
-use Rattle.std.specs.Prelude.{◌≡◌, ℕ, ◌+◌, ◌<◌, true, List, length, map, Option, Some, Result, Ok, Err, IsUtf8}
+use Rattle.std.specs.Prelude.{◌≡◌, ℕ, ◌++◌, ◌<◌, true, List, length, map, Option, Some, Result, Ok, Err, IsUtf8}
 use Rattle.std.specs.List.{AllByRecursion}
 use Rattle.byte_ends.specs.Ends.{Drained, Takes, saturated}
 use Rattle.byte_ends.specs.Writes.{WritesAll, WritesPrefix}
@@ -18,6 +18,7 @@ use Rattle.build_meaning.specs.Built.{all_arcs, removed_count}
 use Rattle.build_meaning.specs.Expected.{expected, expected_dropped}
 use Rattle.build_meaning.specs.Layers.{layers_of, names_of}
 use Rattle.cutter.specs.Segments.{line_segments}
+use Rattle.effective_area.specs.Calls.{Call}
 use Rattle.linework.specs.Linework.{linework}
 use Rattle.layer_topology.specs.Laws.{WrittenLaws}
 use Rattle.layer_topology.specs.Levels.{level_calls, level_chosen, level_threshold}
@@ -47,8 +48,8 @@ threshold_for o layers = level_threshold o.grid o.level layers
 abbrev pub chosen_for : Options → Named → Option ℕ
 chosen_for o layers = level_chosen o.grid o.level layers
 
--- how often a reducer is called for them: once for each of their arcs where the threshold is given, and never for a share
-abbrev pub calls_for : Options → Named → ℕ
+-- what a reducer is asked for: to reduce each of their arcs at the threshold that is given, in order, and nothing for a share
+abbrev pub calls_for : Options → Named → List Call
 calls_for o layers = level_calls o.grid o.level layers
 
 -- the topology that is written of layers
@@ -99,12 +100,12 @@ pub record Builds (o : Options) (olds news : Sources) (layers : Named) (counts :
   pub read : AllRead o.exact olds news layers counts
   pub topology : SaysTopology o layers text
 
--- all sources spell layers, and a reducer that was called so often before was called for their arcs since, and for nothing else
-pub record CallsForLayers (o : Options) (olds news : Sources) (before after : ℕ) : Type 0 where
+-- all sources spell layers, and a reducer that was asked for so much before was asked to reduce their arcs since, and for nothing else
+pub record CallsForLayers (o : Options) (olds news : Sources) (before after : List Call) : Type 0 where
   pub layers : Named
   pub counts : List Counts
   pub read : AllRead o.exact olds news layers counts
-  pub called : after ≡ before + calls_for o layers
+  pub called : after ≡ before ++ calls_for o layers
 
 -- the sink took the whole text of the topology and passed it on, and the report is that of the layers
 pub record IsBuilt (o : Options) (olds news : Sources) (sink_old sink_new : Drained) (report : Report) : Type 0 where

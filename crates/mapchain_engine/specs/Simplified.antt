@@ -1,12 +1,13 @@
 -- What `simplify` answers, reads and writes.
-use Rattle.std.specs.Prelude.{◌≡◌, ℕ, ◌+◌, true, List, length, None, IsUtf8}
+use Rattle.std.specs.Prelude.{◌≡◌, ℕ, ◌++◌, true, List, length, map, None, IsUtf8}
 use Rattle.byte_ends.specs.Ends.{Fed, Drained, Takes, saturated}
 use Rattle.byte_ends.specs.Writes.{WritesPrefix}
+use Rattle.effective_area.specs.Calls.{Call, calls_for}
 use Rattle.geojson_types.specs.declared.counts.Counts.{Counts}
 use Rattle.inputs.specs.declared.file_fault.FileFault.{FileFault}
 use Rattle.inputs.specs.declared.file_fault.FileFault.TheVariants.{Write}
 use Rattle.json_value.specs.Text.{json_text}
-use Rattle.simplified_topology.specs.Thresholds.{simplified_contents, simplified_dropped, simplified_removed_count}
+use Rattle.simplified_topology.specs.Thresholds.{placed_cells, simplified_contents, simplified_dropped, simplified_removed_count}
 use Rattle.reports.specs.declared.report.Report.{Report}
 use Rattle.reports.specs.Summaries.{report_with}
 use Rattle.topojson_types.specs.Topologies.{Contents}
@@ -34,13 +35,17 @@ pub record IsReadAndSimplified (t limit : ℕ) (old new : Fed) (less : Contents)
   pub left : less ≡ simplified_contents t limit contents
   pub reported : report ≡ report_of t limit contents counts
 
--- the source was read to its end, its bytes spell a topology, and a reducer that was called so often before was called once for each
--- of its arcs since
-pub record CallsForTopology (old new : Fed) (before after : ℕ) : Type 0 where
+-- what a reducer is asked for: to reduce each arc at a threshold, by the positions that it stands for, in order
+abbrev pub calls_of : ℕ → Contents → List Call
+calls_of t y = calls_for t (map (placed_cells y.transform) y.arcs)
+
+-- the source was read to its end, its bytes spell a topology, and a reducer that was asked for so much before was asked to reduce each of its
+-- arcs at this threshold since, and for nothing else
+pub record CallsForTopology (t : ℕ) (old new : Fed) (before after : List Call) : Type 0 where
   pub contents : Contents
   pub counts : Counts
   pub read : IsTopologyRead old new contents counts
-  pub called : after ≡ before + length contents.arcs
+  pub called : after ≡ before ++ calls_of t contents
 
 -- the source was read to its end, its bytes spell a topology, the text of what is left of it is UTF-8, the sink took the whole of
 -- it and passed it on, and this is its report

@@ -101,7 +101,8 @@ pub fn build<Q: Reducer, R: Feed, W: Drain>(
     // starts, without what is dropped, as rings that enclose less than is asked for. The report says exactly what is dropped, and before
     // reduction each segment of the lines lies once, in exactly one arc.
     ensures built { IfOk result (λ report. IsBuilt options.now sources.old sources.new sink.old sink.new report) }
-    // The reducer was called once for each arc of all lines, or never where a share is asked for: each arc is weighed once in place of that.
+    // The reducer was asked to reduce each arc of all lines at the threshold, in order, or nothing where a share is asked for: each arc is
+    // weighed once in place of that.
     ensures reduced { IfOk result (λ _. CallsForLayers options.now sources.old sources.new (Q.calls reducer.old) (Q.calls reducer.new)) }
     // Every other fault is one that the sources or their bytes have, or a prefix of that text was written.
     ensures refused { IfErr result (λ e. (name_fault (map (λ s. s.0) sources.old) ≡ Some e)

@@ -1,8 +1,9 @@
 // Reducing the arcs of a topology that was read.
-ghost use Rattle.std.specs.Prelude.{◌≡◌, ◌+◌, ◌≤◌, IfOk, None, length, map};
+ghost use Rattle.std.specs.Prelude.{◌≡◌, ◌≤◌, ◌∷◌, ◌++◌, [], IfOk, None, length, map};
 ghost use Rattle.std.specs.List.{AllByRecursion};
 ghost use Rattle.std.specs.Option.{option_copied};
 ghost use Rattle.byte_ends.specs.Ends.{saturated};
+ghost use Rattle.effective_area.specs.Calls.{call_at, calls_for};
 ghost use Rattle.elimination_meaning.specs.Elimination.{reduce};
 ghost use Rattle.geometry.specs.Units.{threshold_limit};
 ghost use Rattle.simplified_topology.specs.Simplified.{retained, retained_arcs};
@@ -40,7 +41,7 @@ fn reduced_cells<Q: Reducer>(
 ) -> Result<Items<Cell>, Memory>
     requires { IsArc (option_copied transform) cells.now }
     ensures retained { IfOk result (λ stay. stay ≡ retained (reduce t (placed_cells (option_copied transform.entry) cells.now)) cells.now) }
-    ensures called { IfOk result (λ _. Q.calls reducer.new ≡ Q.calls reducer.old + 1) }
+    ensures called { IfOk result (λ _. Q.calls reducer.new ≡ Q.calls reducer.old ++ call_at t (placed_cells (option_copied transform.entry) cells.now) ∷ []) }
 {
     let line = positions(alloc, transform, cells)?;
     let kept = reducer.kept(alloc, line.as_slice(), t)?;
@@ -58,7 +59,7 @@ fn reduced_arc<Q: Reducer>(
 ) -> Result<Items<Cell>, Memory>
     requires { IsArc (option_copied transform) arc }
     ensures retained { IfOk result (λ stay. stay ≡ retained (reduce t (placed_cells (option_copied transform.entry) arc)) arc) }
-    ensures called { IfOk result (λ _. Q.calls reducer.new ≡ Q.calls reducer.old + 1) }
+    ensures called { IfOk result (λ _. Q.calls reducer.new ≡ Q.calls reducer.old ++ call_at t (placed_cells (option_copied transform.entry) arc) ∷ []) }
 {
     match transform {
         None => {
@@ -80,7 +81,7 @@ fn reduced_arcs<Q: Reducer>(
     requires { AllByRecursion (IsArc (option_copied transform)) arcs.items }
     ensures retained { IfOk result
         (λ left. left.items ≡ retained_arcs (map (λ cells. reduce t (placed_cells (option_copied transform.entry) cells)) arcs.items) arcs.items) }
-    ensures called { IfOk result (λ _. Q.calls reducer.new ≡ Q.calls reducer.old + length arcs.items) }
+    ensures called { IfOk result (λ _. Q.calls reducer.new ≡ Q.calls reducer.old ++ calls_for t (map (placed_cells (option_copied transform.entry)) arcs.items)) }
 {
     let mut left = Vec::with_capacity(alloc, arcs.len())?;
     'arcs: for arc in arcs {
@@ -101,7 +102,7 @@ fn counted_and_reduced<Q: Reducer>(
     ensures counts { IfOk result (λ r. r.0.items ≡ map length arcs.items) }
     ensures retained { IfOk result
         (λ r. r.1.items ≡ retained_arcs (map (λ cells. reduce t (placed_cells (option_copied transform.entry) cells)) arcs.items) arcs.items) }
-    ensures called { IfOk result (λ _. Q.calls reducer.new ≡ Q.calls reducer.old + length arcs.items) }
+    ensures called { IfOk result (λ _. Q.calls reducer.new ≡ Q.calls reducer.old ++ calls_for t (map (placed_cells (option_copied transform.entry)) arcs.items)) }
 {
     let counts = position_counts(alloc, &arcs)?;
     let left = reduced_arcs(alloc, reducer, transform, arcs, t)?;
@@ -121,7 +122,7 @@ fn reduced_topology<Q: Reducer>(
     ensures topology { IfOk result (λ r. r.0 ≡ simplified_contents t ring_limit topology) }
     ensures dropped { IfOk result (λ r. r.1.items ≡ simplified_dropped t ring_limit topology) }
     ensures removed_count { IfOk result (λ r. r.2 ≡ saturated (simplified_removed_count t ring_limit topology)) }
-    ensures called { IfOk result (λ _. Q.calls reducer.new ≡ Q.calls reducer.old + length topology.arcs) }
+    ensures called { IfOk result (λ _. Q.calls reducer.new ≡ Q.calls reducer.old ++ spec.calls_of t topology) }
 {
     indexes_reach();
     let (objects, lines, transform) = topology.into_parts();
@@ -147,7 +148,7 @@ pub fn simplify_topology<Q: Reducer>(
 ) -> Result<(Topology, Report), Memory>
     requires { ring_limit ≤ threshold_limit }
     ensures left { IfOk result (λ r. (r.0 ≡ simplified_contents t ring_limit topology) × (r.1 ≡ spec.report_of t ring_limit topology counts)) }
-    ensures called { IfOk result (λ _. Q.calls reducer.new ≡ Q.calls reducer.old + length topology.arcs) }
+    ensures called { IfOk result (λ _. Q.calls reducer.new ≡ Q.calls reducer.old ++ spec.calls_of t topology) }
 {
     let (less, dropped, removed) = reduced_topology(alloc, reducer, topology, t, ring_limit)?;
     let report = report_of(counts, dropped, less.arcs(), removed, None);

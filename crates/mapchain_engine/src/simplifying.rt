@@ -33,7 +33,7 @@ fn read_and_simplify<Q: Reducer, R: Feed>(
 ) -> Result<(Topology, Report), FileFault>
     requires { ring_limit ≤ threshold_limit }
     ensures given { IfOk result (λ r. IsReadAndSimplified t ring_limit source.old source.new r.0 r.1) }
-    ensures reduced { IfOk result (λ _. CallsForTopology source.old source.new (Q.calls reducer.old) (Q.calls reducer.new)) }
+    ensures reduced { IfOk result (λ _. CallsForTopology t source.old source.new (Q.calls reducer.old) (Q.calls reducer.new)) }
     ensures refused { IfErr result (λ e. FailsToGive source.old source.new e) }
 {
     let (topology, counts) = read_file(alloc, source)?;
@@ -70,8 +70,8 @@ pub fn simplify<Q: Reducer, R: Feed, W: Drain>(
     requires { ring_limit ≤ threshold_limit }
     // The bytes spell a topology, what was written is the text of what is left of it, which is UTF-8, and the report is that of it.
     ensures written { IfOk result (λ report. IsSimplified t ring_limit source.old source.new sink.old sink.new report) }
-    // The reducer was called once for each arc of the topology that was read.
-    ensures reduced { IfOk result (λ _. CallsForTopology source.old source.new (Q.calls reducer.old) (Q.calls reducer.new)) }
+    // The reducer was asked to reduce each arc of the topology that was read at the threshold, in order, and for nothing else.
+    ensures reduced { IfOk result (λ _. CallsForTopology t source.old source.new (Q.calls reducer.old) (Q.calls reducer.new)) }
     // Every fault is one that the source or its bytes have, or a prefix of that text was written.
     ensures refused { IfErr result (λ e. IsSimplifyFault t ring_limit source.old source.new sink.old sink.new e) }
     // The outcome of the bytes of the source is answered, unless memory, the source or the sink failed.

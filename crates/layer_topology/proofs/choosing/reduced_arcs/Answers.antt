@@ -1,6 +1,7 @@
-use Rattle.std.proofs.Common.{◌≤◌, ◌∙◌, List, length, ap, arith, subst, sym}
+use Rattle.std.proofs.Common.{◌≤◌, ◌∙◌, ◌++◌, List, [], ◌∷◌, length, ap, subst, sym}
 use Rattle.std.specs.List.{AllByRecursion}
-use Rattle.std.proofs.lemmas.List.{length_push}
+use Rattle.effective_area.specs.Calls.{call_at}
+use Rattle.effective_area.proofs.CallLists.{one_called}
 use Rattle.elimination_meaning.specs.Elimination.{reduce}
 use Rattle.geometry.specs.Points.{Point}
 use Rattle.simplified_topology.specs.Simplified.{retained}
@@ -19,5 +20,6 @@ arcs-preserved g c =
       long = long.1;
       left = retained_more (reduce c.args.threshold) c.arcs.yielded c.in-Some.arc _ c.arcs.left.items c.push.new.self.items c.arcs.invariant.left
           (c.in_ok-reduced_line.ensures.retained ∙ ap (λ arc. retained (reduce c.args.threshold arc) arc) c.as_slice.ensures) c.in_ok-push.ensures.items;
-      called = omega (arith, c.in_ok-reduced_line.ensures.called, c.arcs.invariant.called, length_push c.arcs.yielded c.in-Some.arc);
+      called = one_called c.args.threshold _ _ _ c.arcs.yielded c.in-Some.arc c.arcs.invariant.called (c.in_ok-reduced_line.ensures.called
+          ∙ ap (λ arc. g.Q.Reducer.calls c.arcs.reducer ++ call_at c.args.threshold arc ∷ []) c.as_slice.ensures);
     }

@@ -1,4 +1,4 @@
-use Rattle.std.proofs.Common.{◌+◌, ◌≤◌, ◌∙◌, List, ap, length, map, subst, sym}
+use Rattle.std.proofs.Common.{◌++◌, ◌≤◌, ◌∙◌, List, ap, length, map, subst, sym}
 use Rattle.std.specs.List.{AllByRecursion}
 use Rattle.geometry.specs.Points.{Point}
 use Rattle.layer_topology.proofs.Made.{left_at_level, table_arcs}
@@ -29,4 +29,4 @@ returns-clause-chosen g c =
 pub returns-clause-called : goal.returns-clause-called
 returns-clause-called g c =
     let same = c.into_parts-arcs.ensures.arcs ∙ table_arcs c.args.layers.now c.in_ok-table.table c.in_ok-table.ensures in
-    c.in_ok-left.ensures.called ∙ ap (λ arcs. g.Q.Reducer.calls c.args.reducer.now + calls_at c.args.level arcs) same
+    c.in_ok-left.ensures.called ∙ ap (λ arcs. g.Q.Reducer.calls c.args.reducer.now ++ calls_at c.args.level arcs) same

@@ -1,4 +1,4 @@
-use Rattle.std.proofs.Common.{◌≡◌, ◌+◌, ◌∙◌, ap, subst}
+use Rattle.std.proofs.Common.{◌≡◌, ◌++◌, ◌∙◌, ap, subst}
 use Rattle.build_meaning.specs.Built.{built}
 use Rattle.layer_topology.specs.Levels.{calls_at, level_threshold, threshold_at}
 use Rattle.simplified_topology.specs.Assembled.{arcs_of_layers}
@@ -24,4 +24,4 @@ returns-in-Ok-clause-topology g c =
 
 pub returns-in-Ok-clause-called : goal.returns-in-Ok-clause-called
 returns-in-Ok-clause-called g c =
-    c.in_ok-topology.ensures.called ∙ ap (λ ls. g.Q.Reducer.calls c.args.reducer.now + calls_at c.args.level (arcs_of_layers ls)) c.snapped_layers-snapped.ensures.snapped
+    c.in_ok-topology.ensures.called ∙ ap (λ ls. g.Q.Reducer.calls c.args.reducer.now ++ calls_at c.args.level (arcs_of_layers ls)) c.snapped_layers-snapped.ensures.snapped

@@ -15,7 +15,9 @@ returns-in_err-report-in-Build-clause-refused g c =
     c.in_err-report-in-Build.field-0.0 (λ fault h. (options, c.in_ok-options-in-Build.ensures.asked, h)) (λ prefix. prefix) refused)
 
 pub returns-in_ok-report-in-Simplify-clause-reduced : goal.returns-in_ok-report-in-Simplify-clause-reduced
-returns-in_ok-report-in-Simplify-clause-reduced g c = rw c.in-Simplify.is c.in_ok-report-in-Simplify.ensures.reduced
+returns-in_ok-report-in-Simplify-clause-reduced g c =
+    let reduced = c.in_ok-report-in-Simplify.ensures.reduced in
+    rw c.in-Simplify.is (c.in_ok-threshold-in-Simplify.threshold, reduced.0, reduced.1, c.in_ok-threshold-in-Simplify.ensures.area, reduced.2, reduced.3)
 
 pub returns-in_ok-report-in-Build-clause-answered : goal.returns-in_ok-report-in-Build-clause-answered
 returns-in_ok-report-in-Build-clause-answered g c =

@@ -1,6 +1,7 @@
-use Rattle.std.proofs.Common.{◌∙◌, ap}
+use Rattle.std.proofs.Common.{◌∙◌, ◌++◌, [], ◌∷◌, ap}
 use Rattle.std.specs.Option.{option_copied}
 use Rattle.std.proofs.lemmas.Result.{IfOk-weaker}
+use Rattle.effective_area.specs.Calls.{call_at}
 use Rattle.elimination_meaning.specs.Elimination.{reduce}
 use Rattle.simplified_topology.specs.Simplified.{retained}
 use Rattle.mapchain_engine.proofs.Whole.{placed}
@@ -11,4 +12,11 @@ returns-clause-retained g c =
     IfOk-weaker c.retained_cells.result _ _
     (λ stay h. h ∙ ap (λ ns. retained ns c.args.cells.now)
     (c.deref.ensures.value ∙ c.in_ok-kept.ensures.kept ∙ ap (reduce c.args.t) (c.as_slice.ensures ∙ c.in_ok-line.ensures ∙ placed (option_copied c.args.transform) c.args.cells.now)))
+    c.retained_cells.ensures
+
+pub returns-clause-called : goal.returns-clause-called
+returns-clause-called g c =
+    IfOk-weaker c.retained_cells.result _ _
+    (λ stay _. c.in_ok-kept.ensures.called ∙ ap (λ line. g.Q.Reducer.calls c.args.reducer.now ++ call_at c.args.t line ∷ [])
+    (c.as_slice.ensures ∙ c.in_ok-line.ensures ∙ placed (option_copied c.args.transform) c.args.cells.now))
     c.retained_cells.ensures

@@ -1,9 +1,11 @@
-use Rattle.std.proofs.Common.{◌≡◌, ◌+◌, ◌∙◌, List, length, map, ap, refl, sym, subst}
+use Rattle.std.proofs.Common.{◌≡◌, ◌++◌, ◌∙◌, List, length, map, ap, ap₂, refl, sym, subst}
 use Rattle.std.specs.List.{AllByRecursion}
 use Rattle.std.specs.Prelude.{ℕ, Option}
 use Rattle.std.proofs.lemmas.Result.{IfOk-weaker}
 use Rattle.byte_ends.specs.Ends.{saturated}
+use Rattle.effective_area.specs.Calls.{Call, calls_for}
 use Rattle.elimination_meaning.specs.Elimination.{reduce}
+use Rattle.mapchain_engine.specs.Simplified.{calls_of}
 use Rattle.geometry.specs.Points.{Point}
 use Rattle.simplified_topology.specs.Simplified.{dropped_by, removed_count_by, retained_arcs, simplified_by}
 use Rattle.simplified_topology.specs.Thresholds.{placed_cells, reduced_indexes, simplified_contents, simplified_dropped, simplified_removed_count}
@@ -19,6 +21,11 @@ picked : (t : ℕ) (y : Contents) (arcs left : List (List Point)) (transform : O
 picked t y arcs left transform a tr is =
     is ∙ ap (λ (tr : Option Transform). retained_arcs (map (λ cells. reduce t (placed_cells tr cells)) arcs) arcs) tr
     ∙ ap (λ (arcs : List (List Point)). retained_arcs (map (λ cells. reduce t (placed_cells y.transform cells)) arcs) arcs) a
+
+-- what is asked for its arcs is what is asked for the topology
+asked_for : (t : ℕ) (y : Contents) (before : List Call) (arcs : List (List Point)) (transform : Option Transform) → arcs ≡ y.arcs → transform ≡ y.transform
+    → before ++ calls_for t (map (placed_cells transform) arcs) ≡ before ++ calls_of t y
+asked_for t y before arcs transform a tr = ap₂ (λ (tr : Option Transform) (cs : List (List Point)). before ++ calls_for t (map (placed_cells tr) cs)) tr a
 
 pub counted_and_reduced-requires : goal.counted_and_reduced-requires
 counted_and_reduced-requires g c =
@@ -73,5 +80,6 @@ returns-in-Ok-clause-removed_count g c =
 
 pub returns-in-Ok-clause-called : goal.returns-in-Ok-clause-called
 returns-in-Ok-clause-called g c =
+    let parts = c.into_parts-objects.ensures in
     IfOk-weaker c.reassemble.result _ _
-    (λ r _. c.in-Ok.ensures.called ∙ ap (λ arcs. g.Q.Reducer.calls c.args.reducer.now + length arcs) (c.into_inner.ensures ∙ c.into_parts-objects.ensures.arcs)) c.reassemble.ensures.topology
+    (λ r _. c.in-Ok.ensures.called ∙ asked_for c.args.t c.args.topology _ _ _ (c.into_inner.ensures ∙ parts.arcs) (c.as_ref.ensures.value ∙ parts.transform)) c.reassemble.ensures.topology

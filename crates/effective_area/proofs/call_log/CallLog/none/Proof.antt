@@ -1,4 +1,4 @@
--- The empty struct stands for a count of nothing.
+-- The empty struct stands for no calls.
 use Rattle.std.proofs.Common.{[], ◌∷◌, refl}
 use Rattle.std.proofs.raw_atomic.Walks.{proved}
 use mir.Val.{vstruct, vnil}
@@ -10,10 +10,10 @@ use denote.Shadow.{pure_i}
 use denote.Steps.{nothing}
 use denote.Triple.Entry.{on_entry}
 use denote.Triple.Walked.{says, ends_at}
-use Rattle.effective_area.specs.contracts.tally.Tally as tally
-use Rattle.effective_area.specs.contracts.tally.Tally.none as f
-use Rattle.effective_area.proofs.tally.Tally.none.Statement.{statement}
-use Rattle.effective_area.proofs.tally.Tally.none.Code as code
+use Rattle.effective_area.specs.contracts.call_log.CallLog as log
+use Rattle.effective_area.specs.contracts.call_log.CallLog.none as f
+use Rattle.effective_area.proofs.call_log.CallLog.none.Statement.{statement}
+use Rattle.effective_area.proofs.call_log.CallLog.none.Code as code
 
 pub none_spec : {M : Type 1} → statement M
 none_spec 𝓤 𝓛 𝓜 𝓡 wired =
@@ -22,6 +22,6 @@ none_spec 𝓤 𝓛 𝓜 𝓡 wired =
     qed 𝓛 (raw (on_entry 𝓛 f.signature κs qs a tt) ∷ raw ((c κs a).requires g) ∷ []) ∵ drop ! $ drop ! $
     enter ! _ _ _ _ _ $ alloc_all ! (λ l. pass_all ! refl tt $ sets ! (agg ! (no_more !)) refl (tt, tt) $
     returns ! (look_at ! 0 refl) $ free_all ! refl $
-    suffices ! _ (ends_at 𝓛 f.ended tt c ((κs, qs, bounds, a, tt), g) (vstruct vnil) (record { count = 0 }) tt tt) $ says ! refl $
-    pure_i ! (tally.the_row.own_val (record { count = 0 }) (vstruct vnil ∷ [])) ((λ vss. (tt, tt)), tt) ((tt, (refl, tt)), tt) $
+    suffices ! _ (ends_at 𝓛 f.ended tt c ((κs, qs, bounds, a, tt), g) (vstruct vnil) (record { calls = [] }) tt tt) $ says ! refl $
+    pure_i ! (log.the_row.own_val (record { calls = [] }) (vstruct vnil ∷ [])) ((λ vss. (tt, tt)), tt) ((tt, (refl, tt)), tt) $
     nothing ! $ nothing ! $ done !))

@@ -1,7 +1,7 @@
 -- What a run's promise says of its status and of standard output.
 use Rattle.std.proofs.Common.{◌≡◌, ◌⊎◌, ◌<◌, ◌≤◌, inl, inr, ℕ, zero, suc, List, Bool, true, false, Option, None, Some, IfSome, Ok, Err, ap, arith, refl, subst, sym}
 use Rattle.std.specs.Option.{option_and_then}
-use Rattle.byte_ends.specs.Ends.{Drained, Fed}
+use Rattle.byte_ends.specs.Ends.{Drained}
 use Rattle.byte_ends.specs.declared.source.ReadFault.TheVariants as read
 use Rattle.command_words.specs.Asked.{Detail, Ordered, detail, output_of}
 use Rattle.command_words.specs.declared.request.Request.{Request}
@@ -51,38 +51,30 @@ build_keeps c (Simplify area ring_area path) old new e h lt = absurd h
 build_keeps c (Geo name path) old new e h lt = absurd h
 build_keeps c (Stat path) old new e h lt = absurd h
 
-simplify_keeps : (t limit : ℕ) (s u : Fed) (old new : Drained) (e : FileFault) → IsSimplifyFault t limit s u old new e → file_status_of e < 3 → new ≡ old
-simplify_keeps t limit s u old new (file.Write sent) h lt = absurd (omega arith)
-simplify_keeps t limit s u old new (file.Read fault) h lt = h.0
-simplify_keeps t limit s u old new (file.Json fault) h lt = h.0
-simplify_keeps t limit s u old new (file.Topo fault) h lt = h.0
-simplify_keeps t limit s u old new file.NoObject h lt = h.0
-simplify_keeps t limit s u old new file.Memory h lt = h.0
-
-geo_keeps : (name : List ℕ) (s u : Fed) (old new : Drained) (e : FileFault) → IsGeoFault name s u old new e → file_status_of e < 3 → new ≡ old
-geo_keeps name s u old new (file.Write sent) h lt = absurd (omega arith)
-geo_keeps name s u old new (file.Read fault) h lt = h.0
-geo_keeps name s u old new (file.Json fault) h lt = h.0
-geo_keeps name s u old new (file.Topo fault) h lt = h.0
-geo_keeps name s u old new file.NoObject h lt = h.0
-geo_keeps name s u old new file.Memory h lt = h.0
-
-summary_keeps : (s u : Fed) (old new : Drained) (e : FileFault) → IsSummaryFault old new s u e → file_status_of e < 3 → new ≡ old
-summary_keeps s u old new (file.Write sent) h lt = absurd (omega arith)
-summary_keeps s u old new (file.Read fault) h lt = h.0
-summary_keeps s u old new (file.Json fault) h lt = h.0
-summary_keeps s u old new (file.Topo fault) h lt = h.0
-summary_keeps s u old new file.NoObject h lt = h.0
-summary_keeps s u old new file.Memory h lt = h.0
+-- where each fault but that of writing leaves standard output as it was, one with a status under 3 does
+file_keeps : (IsFault : FileFault → Type 0) (old new : Drained) → ((f : _) → IsFault (file.Read f) → new ≡ old) → ((f : _) → IsFault (file.Json f) → new ≡ old)
+    → ((f : _) → IsFault (file.Topo f) → new ≡ old) → (IsFault file.NoObject → new ≡ old) → (IsFault file.Memory → new ≡ old)
+    → (e : FileFault) → IsFault e → file_status_of e < 3 → new ≡ old
+file_keeps IsFault old new at_read at_json at_topo at_object at_memory (file.Write sent) h lt = absurd (omega arith)
+file_keeps IsFault old new at_read at_json at_topo at_object at_memory (file.Read fault) h lt = at_read fault h
+file_keeps IsFault old new at_read at_json at_topo at_object at_memory (file.Json fault) h lt = at_json fault h
+file_keeps IsFault old new at_read at_json at_topo at_object at_memory (file.Topo fault) h lt = at_topo fault h
+file_keeps IsFault old new at_read at_json at_topo at_object at_memory file.NoObject h lt = at_object h
+file_keeps IsFault old new at_read at_json at_topo at_object at_memory file.Memory h lt = at_memory h
 
 topology_keeps : (c : FileUse) (request : Request) (old new : Drained) (e : FileFault) → RefusesTopology c request old new e → file_status_of e < 3 → new ≡ old
 topology_keeps c (Build layers exact grid area keep ring_area) old new e h lt = absurd h
 topology_keeps c (Simplify area ring_area path) old new e h lt =
-    elim h.4 [ inl k ↦ k.0 | inr k ↦ simplify_keeps h.0 h.1 k.source_old k.source_new old new e k.fault lt ]
+    elim h.4 [
+      | inl k ↦ k.0
+      | inr k ↦ file_keeps (λ f. IsSimplifyFault h.0 h.1 k.source_old k.source_new old new f) old new (λ f x. x.0) (λ f x. x.0) (λ f x. x.0) (λ x. x.0) (λ x. x.0) e k.fault lt
+    ]
 topology_keeps c (Geo name path) old new e (inl h) lt = h.0
-topology_keeps c (Geo name path) old new e (inr h) lt = geo_keeps name.now h.source_old h.source_new old new e h.fault lt
+topology_keeps c (Geo name path) old new e (inr h) lt =
+    file_keeps (λ f. IsGeoFault name.now h.source_old h.source_new old new f) old new (λ f x. x.0) (λ f x. x.0) (λ f x. x.0) (λ x. x.0) (λ x. x.0) e h.fault lt
 topology_keeps c (Stat path) old new e (inl h) lt = h.0
-topology_keeps c (Stat path) old new e (inr h) lt = summary_keeps h.source_old h.source_new old new e h.fault lt
+topology_keeps c (Stat path) old new e (inr h) lt =
+    file_keeps (λ f. IsSummaryFault old new h.source_old h.source_new f) old new (λ f x. x.0) (λ f x. x.0) (λ f x. x.0) (λ x. x.0) (λ x. x.0) e h.fault lt
 
 keeps : (c : FileUse) (request : Request) (old new : Drained) (ending : Ending) → IsRefused c request old new ending → ending_status ending < 3 → new ≡ old
 keeps c request old new BadArea h lt = h.0
@@ -187,21 +179,20 @@ helped old new status (text, sent, inr h) = at_other old.out new.out status (ome
 refused_for : (fault : WordsFault) (old new : Streams) (status : ℕ) → IsRefusedFor fault old new status → Says old.out new.out None status
 refused_for fault old new status h = at_other old.out new.out status (omega (arith, h.4), omega (arith, h.4)) (λ _. h.2)
 
+refused_or : (fault : WordsFault) (old new : Streams) (file : Option (List ℕ)) (status : ℕ) → file ≡ None → IsRefusedFor fault old new status ⊎ LacksMemory old new status
+    → Says old.out new.out file status
+refused_or fault old new file status none (inl h) = rw none (refused_for fault old new status h)
+refused_or fault old new file status none (inr h) = lacks old new file status h
+
 at_words : (fault : WordsFault) (old new : Streams) (file : Option (List ℕ)) (status : ℕ) → (fault ≡ words.Memory) ⊎ (file ≡ None) → EndsAtWords fault old new status
     → Says old.out new.out file status
 at_words words.Memory old new file status why h = lacks old new file status h
-at_words (words.Help error) old new file status (inl m) h = cc
+at_words fault old new file status (inl m) h = lacks old new file status (subst (λ f. EndsAtWords f old new status) m h)
 at_words (words.Help error) old new file status (inr none) (inl h) = rw none (helped old new status h)
 at_words (words.Help error) old new file status (inr none) (inr h) = lacks old new file status h
-at_words (words.Refused error) old new file status (inl m) h = cc
-at_words (words.Refused error) old new file status (inr none) (inl h) = rw none (refused_for (words.Refused error) old new status h)
-at_words (words.Refused error) old new file status (inr none) (inr h) = lacks old new file status h
-at_words (words.NoEquals layer) old new file status (inl m) h = cc
-at_words (words.NoEquals layer) old new file status (inr none) (inl h) = rw none (refused_for (words.NoEquals layer) old new status h)
-at_words (words.NoEquals layer) old new file status (inr none) (inr h) = lacks old new file status h
-at_words words.GridRange old new file status (inl m) h = cc
-at_words words.GridRange old new file status (inr none) (inl h) = rw none (refused_for words.GridRange old new status h)
-at_words words.GridRange old new file status (inr none) (inr h) = lacks old new file status h
+at_words (words.Refused error) old new file status (inr none) h = refused_or (words.Refused error) old new file status none h
+at_words (words.NoEquals layer) old new file status (inr none) h = refused_or (words.NoEquals layer) old new file status none h
+at_words words.GridRange old new file status (inr none) h = refused_or words.GridRange old new file status none h
 
 -- ---- the status of a run is that of its request, but where the report of one that is done can't be written
 

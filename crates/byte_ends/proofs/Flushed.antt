@@ -10,4 +10,4 @@ module _ (start mid new : Drained) (count : ℕ) (text : List ℕ) (sent : ℕ) 
   still = record { within = w.took.within; taken = Appends-kept start.taken mid.taken new.taken (take (length text) text) w.took.taken kept; sent = rw same w.took.sent }
 
   pub flushed : new.failures ≡ 0 → new.flushed ≡ true → Sends start new count text (Ok sent)
-  flushed sound passed = (record { took = still; counted = w.counted; sound = sound }, passed)
+  flushed sound passed = (record { unbroken = w.unbroken; took = still; counted = w.counted; sound = sound }, passed)

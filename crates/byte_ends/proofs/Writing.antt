@@ -54,11 +54,13 @@ Takes-prefix old new xs ys n t =
 pub Writes-then : (old mid new : Drained) (count m : ℕ) (xs ys : List ℕ) (r : Result ℕ WriteFault)
     → WritesAll old mid count xs m → Writes mid new m ys r → Writes old new count (xs ++ ys) r
 Writes-then old mid new count m xs ys (Ok answer) t u = record {
+  unbroken = t.unbroken;
   took = rw length-append (Takes-then old mid new xs ys (length ys) t.took u.took);
   counted = omega (arith, length-append xs ys, t.counted, u.counted);
   sound = u.sound;
 }
 Writes-then old mid new count m xs ys (Err (Write sent)) t u = record {
+  broken = λ failed. absurd (omega (arith, t.unbroken, failed));
   many = length xs + u.many;
   took = Takes-then old mid new xs ys u.many t.took u.took;
   counted = omega (arith, t.counted, u.counted);
@@ -69,6 +71,7 @@ Writes-then old mid new count m xs ys (Err (Write sent)) t u = record {
 pub Writes-stop : (old new : Drained) (count : ℕ) (xs ys : List ℕ) (e : WriteFault)
     → Writes old new count xs (Err e) → Writes old new count (xs ++ ys) (Err e)
 Writes-stop old new count xs ys (Write sent) t = record {
+  broken = t.broken;
   many = t.many;
   took = Takes-prefix old new xs ys t.many t.took;
   counted = t.counted;

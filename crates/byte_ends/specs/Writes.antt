@@ -4,14 +4,17 @@ use Rattle.byte_ends.specs.Ends.{Drained, Takes, saturated}
 use Rattle.byte_ends.specs.declared.sink.WriteFault.{WriteFault}
 use Rattle.byte_ends.specs.declared.sink.WriteFault.TheVariants.{Write}
 
--- the sink took the whole text and isn't broken, and the answer counts on from `count` by the text's length
+-- the sink wasn't broken, took the whole text and isn't broken then, and the answer counts on from `count` by the text's length
 pub record WritesAll (old new : Drained) (count : ℕ) (text : List ℕ) (answer : ℕ) : Type 0 where
+  pub unbroken : old.failures ≡ 0
   pub took : Takes old new text (length text)
   pub counted : answer ≡ saturated (count + length text)
   pub sound : new.failures ≡ 0
 
--- the sink took a prefix of the text and is broken, and `sent` counts on from `count` by the prefix's length
+-- the sink took a prefix of the text and is broken, and `sent` counts on from `count` by the prefix's length; a sink that was broken before
+-- stays as it was
 pub record WritesPrefix (old new : Drained) (count : ℕ) (text : List ℕ) (sent : ℕ) : Type 0 where
+  pub broken : 0 < old.failures → new ≡ old
   pub many : ℕ
   pub took : Takes old new text many
   pub counted : sent ≡ saturated (count + many)

@@ -11,7 +11,7 @@ invariant-loop-at g l =
       failures = g.W.Drain.failures l.self-inside.drain;
       flushed = g.W.Drain.flushed l.self-inside.drain;
     } in
-    record { counted : l.count ≡ saturated (l.fn.count + l.at); takes : Takes l.fn.self now l.bytes l.at; sound : now.failures ≡ 0; late : g.W.Drain.late l.self-inside.drain ≡ false; small : l.self-inside.sent < 2 ^ 64 }
+    record { started : l.fn.self.failures ≡ 0; counted : l.count ≡ saturated (l.fn.count + l.at); takes : Takes l.fn.self now l.bytes l.at; sound : now.failures ≡ 0; late : g.W.Drain.late l.self-inside.drain ≡ false; small : l.self-inside.sent < 2 ^ 64 }
 
 abbrev pub decreases-loop-at : goal.decreases-loop-at
 decreases-loop-at g l = length l.initial.bytes - l.at

@@ -43,7 +43,7 @@ pub(crate) const REPORT: &str = "report";
 pub(crate) const EXPLAIN: &str = "explain";
 
 /// The version of the program.
-const VERSION: &str = "1.2.7";
+const VERSION: &str = "1.2.8";
 
 const PROGRAM_HELP: Help = Help {
     about: "Build TopoJSON topologies from GeoJSON files, simplify them, and decode them again",

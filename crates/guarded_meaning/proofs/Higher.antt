@@ -1,0 +1,67 @@
+-- At a higher threshold the same corners go first, and then more.
+use Rattle.std.proofs.Common.{◌≡◌, ℕ, zero, suc, ◌<◌, ◌≤◌, true, false, nat_lt, List, length, map, Option, Some, None, ◌⊎◌, inl, inr, refl, ap, sym, ◌∙◌, subst, arith}
+use Rattle.std.specs.List.{AllByRecursion}
+use Rattle.std.proofs.lemmas.Bool.{and_parts, and_from, cases_lt}
+use Rattle.std.proofs.lemmas.Bool.Decides.{nat_tests}
+use Rattle.geometry.specs.Lists.{joined, In}
+use Rattle.elimination_meaning.specs.Elimination.{Vertex, numbered}
+use Rattle.guarded_meaning.specs.Arcs.{ArcCorner, all_corners, HasOwnIndexes}
+use Rattle.guarded_meaning.specs.Elimination.{goes_before, Guard, goes, next_arcs, eliminate_arcs, remaining_arcs, reduce_arcs}
+use Rattle.guarded_meaning.specs.Laws.{HigherKeepsFewer}
+use Rattle.guarded_meaning.specs.Lists.{EachTo, IsThinned}
+use Rattle.guarded_meaning.proofs.First.{GoesNext, next_law, next_says}
+use Rattle.guarded_meaning.proofs.Kept.{eliminate_keeps}
+use Rattle.guarded_meaning.proofs.Removal.{all_numbered_own, own_indexes_left}
+use Rattle.guarded_meaning.proofs.Thinned.{each_same, each_map, IsSound, sound_step}
+
+lt_passed : (m n : ℕ) → nat_lt m n ≡ true → m < n
+lt_passed m n h = grind (arith, nat_tests)
+
+lt_passes : (m n : ℕ) → m < n → nat_lt m n ≡ true
+lt_passes m n h = grind (arith, nat_tests)
+
+more_last : (c d : ArcCorner) → c.corner.area < d.corner.area → goes_before d c ≡ false
+unfolding goes_before
+more_last c d h = grind (arith, nat_tests)
+
+module _ (guard : Guard) (t u : ℕ) (under : t ≤ u) where
+  goes_higher : (arcs : List (List Vertex)) (c : ArcCorner) → goes guard t arcs c ≡ true → goes guard u arcs c ≡ true
+  goes_higher arcs c h =
+      let m = and_parts (nat_lt c.corner.area t) (guard arcs c) h in
+      let l = lt_passed c.corner.area t m.0 in
+      and_from (nat_lt c.corner.area u) (guard arcs c) (lt_passes c.corner.area u (omega (arith, l, under))) m.1
+
+  -- the next corner is the next one at the higher threshold
+  next_higher : (arcs left : List (List Vertex)) → next_arcs guard t arcs ≡ Some left → next_arcs guard u arcs ≡ Some left
+  next_higher arcs left h =
+      let n = next_says guard t arcs left h in
+      next_law guard u arcs n.corner n.among (goes_higher arcs n.corner n.goes_too) (λ d k g. on n d k g (cases_lt d.corner.area t)) ∙ ap Some n.leaves
+    where
+      on : (n : GoesNext guard t arcs left) (d : ArcCorner) → In d (all_corners 0 arcs) → goes guard u arcs d ≡ true → (d.corner.area < t) ⊎ (t ≤ d.corner.area) → goes_before d n.corner ≡ false
+      on n d k g (inl l) = n.none_before d k (and_from (nat_lt d.corner.area t) (guard arcs d) (lt_passes d.corner.area t l) (and_parts (nat_lt d.corner.area u) (guard arcs d) g).1)
+      on n d k g (inr l) =
+          let m = lt_passed n.corner.corner.area t (and_parts (nat_lt n.corner.corner.area t) (guard arcs n.corner) n.goes_too).0 in
+          more_last n.corner d (omega (arith, l, m))
+
+  thinned : (n : ℕ) (arcs : List (List Vertex)) → AllByRecursion HasOwnIndexes arcs → EachTo IsThinned (eliminate_arcs guard n u arcs) arcs
+  thinned n arcs own = (eliminate_keeps guard u (IsSound arcs) (sound_step guard arcs) n arcs (each_same arcs, own)).0
+
+  own_next : (arcs left : List (List Vertex)) → AllByRecursion HasOwnIndexes arcs → next_arcs guard t arcs ≡ Some left → AllByRecursion HasOwnIndexes left
+  own_next arcs left own h = let n = next_says guard t arcs left h in subst (AllByRecursion HasOwnIndexes) n.leaves (own_indexes_left n.corner.arc n.corner.corner.index arcs own)
+
+  go_higher : (n : ℕ) (arcs : List (List Vertex)) → AllByRecursion HasOwnIndexes arcs →
+      ((left : List (List Vertex)) → AllByRecursion HasOwnIndexes left → EachTo IsThinned (eliminate_arcs guard n u left) (eliminate_arcs guard n t left)) →
+      (o : Option (List (List Vertex))) → next_arcs guard t arcs ≡ o →
+      EachTo IsThinned (eliminate_arcs guard (suc n) u arcs) (elim o [ None ↦ arcs | Some left ↦ eliminate_arcs guard n t left ])
+  go_higher n arcs own f None e = thinned (suc n) arcs own
+  go_higher n arcs own f (Some left) e =
+      subst (λ o. EachTo IsThinned (elim o [ None ↦ arcs | Some more ↦ eliminate_arcs guard n u more ]) (eliminate_arcs guard n t left)) (sym (next_higher arcs left e)) (f left (own_next arcs left own e))
+
+  eliminate_higher : (n : ℕ) (arcs : List (List Vertex)) → AllByRecursion HasOwnIndexes arcs → EachTo IsThinned (eliminate_arcs guard n u arcs) (eliminate_arcs guard n t arcs)
+  eliminate_higher zero arcs own = each_same arcs
+  eliminate_higher (suc n) arcs own = go_higher n arcs own (λ left k. eliminate_higher n left k) (next_arcs guard t arcs) refl
+
+pub higher_keeps_fewer : HigherKeepsFewer
+unfolding reduce_arcs
+higher_keeps_fewer guard t u arcs under = each_map (λ v. v.index) (remaining_arcs guard u arcs) (remaining_arcs guard t arcs)
+    (eliminate_higher guard t u under (length (joined arcs)) (map (numbered 0) arcs) (all_numbered_own arcs))

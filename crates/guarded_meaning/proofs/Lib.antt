@@ -1,0 +1,19 @@
+pub mod Counts
+pub mod Crosses
+pub mod First
+pub mod Free
+pub mod Higher
+pub mod Kept
+pub mod Lists
+pub mod Neighbours
+pub mod NoCrossings
+pub mod Order
+pub mod Pasch
+pub mod Removal
+pub mod Rings
+mod Rows
+pub mod Signs
+pub mod Step
+pub mod Tests
+pub mod Thinned
+pub mod Unguarded

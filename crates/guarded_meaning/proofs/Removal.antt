@@ -1,0 +1,110 @@
+-- What is left when a corner goes: the arcs without one vertex, which keep their own indexes.
+use Rattle.std.proofs.Common.{◌≡◌, ◌≢◌, ℕ, zero, suc, ◌+◌, ◌<◌, not, ◌==◌, List, [], ◌∷◌, ◌++◌, map, refl, ap, sym, ◌∙◌, subst, arith}
+use Rattle.std.specs.List.{AllByRecursion}
+use Rattle.std.proofs.lemmas.Bool.Decides.{nat_tests}
+use Rattle.std.proofs.lemmas.List.{map-append}
+use Rattle.owned_values.proofs.Elements.{all_weaker, all_right, all_of_map}
+use Rattle.geometry.specs.Points.{Point}
+use Rattle.elimination_meaning.specs.Elimination.{Vertex, without, numbered}
+use Rattle.elimination_meaning.proofs.Sublists.{sub_filter, sub_map, sub_apart}
+use Rattle.guarded_meaning.specs.Arcs.{HasOwnIndexes, ArcCorner, arc_corner_at, arc_corners_from, arc_corners, all_corners, without_at}
+
+-- ---- one arc
+
+-- the vertices of the corner stand in the arc one after another, and without it the others
+pub record IsTaken (k : ℕ) (vs : List Vertex) (c : ArcCorner) : Type 0 where
+  pub front : List Vertex
+  pub a : Vertex
+  pub p : Vertex
+  pub d : Vertex
+  pub back : List Vertex
+  pub at : c ≡ arc_corner_at k a p d
+  pub was : vs ≡ front ++ (a ∷ (p ∷ (d ∷ back)))
+  pub is : without p.index vs ≡ front ++ (a ∷ (d ∷ back))
+
+without_other : (i : ℕ) (v : Vertex) (vs : List Vertex) → v.index ≢ i → without i (v ∷ vs) ≡ v ∷ without i vs
+without_other i v vs h = grind (arith, nat_tests)
+
+without_itself : (v : Vertex) (vs : List Vertex) → without v.index (v ∷ vs) ≡ without v.index vs
+without_itself v vs = grind (arith, nat_tests)
+
+without_none : (i : ℕ) (vs : List Vertex) → AllByRecursion (λ j. i ≢ j) (map (λ v. v.index) vs) → without i vs ≡ vs
+without_none i [] h = refl
+without_none i (v ∷ vs) h = without_other i v vs (λ e. h.0 (sym e)) ∙ ap (λ ws. v ∷ ws) (without_none i vs h.1)
+
+taken_here : (k : ℕ) (a b c : Vertex) (vs : List Vertex) → HasOwnIndexes (a ∷ (b ∷ (c ∷ vs))) → IsTaken k (a ∷ (b ∷ (c ∷ vs))) (arc_corner_at k a b c)
+taken_here k a b c vs h = record {
+  front = [];
+  a = a;
+  p = b;
+  d = c;
+  back = vs;
+  at = refl;
+  was = refl;
+  is = without_other b.index a (b ∷ (c ∷ vs)) h.0.0 ∙ ap (λ ws. a ∷ ws) (without_itself b (c ∷ vs) ∙ without_none b.index (c ∷ vs) h.1.0);
+}
+
+taken_later : (k : ℕ) (a : Vertex) (vs : List Vertex) (e : ArcCorner) → HasOwnIndexes (a ∷ vs) → IsTaken k vs e → IsTaken k (a ∷ vs) e
+taken_later k a vs e h t =
+    let others : AllByRecursion (λ v. a.index ≢ v.index) (t.front ++ (t.a ∷ (t.p ∷ (t.d ∷ t.back)))) = subst (AllByRecursion (λ v. a.index ≢ v.index)) t.was (all_of_map (λ j. a.index ≢ j) (λ v. v.index) vs h.0) in
+    record {
+      front = a ∷ t.front;
+      a = t.a;
+      p = t.p;
+      d = t.d;
+      back = t.back;
+      at = t.at;
+      was = ap (λ ws. a ∷ ws) t.was;
+      is = without_other t.p.index a vs (all_right (λ v. a.index ≢ v.index) t.front (t.a ∷ (t.p ∷ (t.d ∷ t.back))) others).1.0 ∙ ap (λ ws. a ∷ ws) t.is;
+    }
+
+taken_from : (k : ℕ) (a b : Vertex) (vs : List Vertex) → HasOwnIndexes (a ∷ (b ∷ vs)) → AllByRecursion (IsTaken k (a ∷ (b ∷ vs))) (arc_corners_from k a b vs)
+taken_from k a b [] h = tt
+taken_from k a b (c ∷ vs) h = (
+  taken_here k a b c vs h,
+  all_weaker (IsTaken k (b ∷ (c ∷ vs))) (IsTaken k (a ∷ (b ∷ (c ∷ vs)))) (λ e t. taken_later k a (b ∷ (c ∷ vs)) e h t) (arc_corners_from k b c vs) (taken_from k b c vs h.1),
+)
+
+pub all_taken : (k : ℕ) (vs : List Vertex) → HasOwnIndexes vs → AllByRecursion (IsTaken k vs) (arc_corners k vs)
+all_taken k [] h = tt
+all_taken k (a ∷ []) h = tt
+all_taken k (a ∷ (b ∷ vs)) h = taken_from k a b vs h
+
+-- ---- several arcs
+
+-- the same corner, where another arc comes first
+abbrev pub in_next_arc : ArcCorner → ArcCorner
+in_next_arc c = record { arc = suc c.arc; before = c.before; corner = c.corner; after = c.after }
+
+next_arc_from : (k : ℕ) (a b : Vertex) (vs : List Vertex) → arc_corners_from (suc k) a b vs ≡ map in_next_arc (arc_corners_from k a b vs)
+next_arc_from k a b [] = refl
+next_arc_from k a b (c ∷ vs) = ap (λ cs. arc_corner_at (suc k) a b c ∷ cs) (next_arc_from k b c vs)
+
+next_arc : (k : ℕ) (vs : List Vertex) → arc_corners (suc k) vs ≡ map in_next_arc (arc_corners k vs)
+next_arc k [] = refl
+next_arc k (a ∷ []) = refl
+next_arc k (a ∷ (b ∷ vs)) = next_arc_from k a b vs
+
+pub later_arcs : (k : ℕ) (arcs : List (List Vertex)) → all_corners (suc k) arcs ≡ map in_next_arc (all_corners k arcs)
+later_arcs k [] = refl
+later_arcs k (vs ∷ arcs) = ap (λ cs. cs ++ all_corners (suc (suc k)) arcs) (next_arc k vs) ∙ ap (λ cs. map in_next_arc (arc_corners k vs) ++ cs) (later_arcs (suc k) arcs)
+    ∙ sym (map-append in_next_arc (arc_corners k vs) (all_corners (suc k) arcs))
+
+-- ---- indexes stay distinct
+
+pub own_indexes_left : (k i : ℕ) (arcs : List (List Vertex)) → AllByRecursion HasOwnIndexes arcs → AllByRecursion HasOwnIndexes (without_at k i arcs)
+own_indexes_left k i [] h = tt
+own_indexes_left zero i (vs ∷ arcs) h = (sub_apart (sub_map (λ v. v.index) (sub_filter (λ v. not (v.index == i)) vs)) h.0, h.1)
+own_indexes_left (suc k) i (vs ∷ arcs) h = (h.0, own_indexes_left k i arcs h.1)
+
+numbered_over : (k i : ℕ) (ps : List Point) → k < i → AllByRecursion (λ j. k ≢ j) (map (λ v. v.index) (numbered i ps))
+numbered_over k i [] h = tt
+numbered_over k i (p ∷ ps) h = ((λ e. omega (arith, e, h)), numbered_over k (i + 1) ps (omega (arith, h)))
+
+numbered_own : (i : ℕ) (ps : List Point) → HasOwnIndexes (numbered i ps)
+numbered_own i [] = tt
+numbered_own i (p ∷ ps) = (numbered_over i (i + 1) ps (omega arith), numbered_own (i + 1) ps)
+
+pub all_numbered_own : (arcs : List (List Point)) → AllByRecursion HasOwnIndexes (map (numbered 0) arcs)
+all_numbered_own [] = tt
+all_numbered_own (ps ∷ arcs) = (numbered_own 0 ps, all_numbered_own arcs)

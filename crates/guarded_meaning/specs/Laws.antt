@@ -1,0 +1,77 @@
+-- What is true of segments and of guarded elimination.
+use Rattle.std.specs.Prelude.{◌≡◌, ◌≢◌, ◌⊎◌, ℕ, ℤ, ◌≤◌, Bool, true, false, List, [], length, map, None}
+use Rattle.std.specs.List.{AllByRecursion}
+use Rattle.geometry.specs.Lists.{In}
+use Rattle.geometry.specs.Points.{Point}
+use Rattle.elimination_meaning.specs.Elimination.{reduce, reduced, numbered}
+use Rattle.elimination_meaning.specs.Rising.{RisesOver}
+use Rattle.elimination_meaning.specs.Sublists.{Sublist}
+use Rattle.guarded_meaning.specs.Arcs.{Neighbours, segment_of, arc_segments, crossings}
+use Rattle.guarded_meaning.specs.Elimination.{Guard, next_arcs, remaining_arcs, reduce_arcs, reduced_arcs}
+use Rattle.guarded_meaning.specs.Guards.{is_long, guarded_by}
+use Rattle.guarded_meaning.specs.Lists.{EachTo, IsThinned}
+use Rattle.guarded_meaning.specs.Origins.{MetBefore}
+use Rattle.guarded_meaning.specs.Segments.{Segment, segment, same_ends, meets_badly}
+use Rattle.guarded_meaning.specs.Triangles.{is_clear}
+
+-- ---- one corner
+
+-- Where p goes from between a and c, which are two positions, and a segment has no end in their triangle but a and c, and doesn't
+-- join these: what the new segment meets badly, one of the two before it met badly.
+abbrev pub StepLaw : Type 0
+StepLaw = (a p c : Point) (s : Segment) → is_clear a p c s.from ≡ true → is_clear a p c s.to ≡ true → same_ends (segment a c) s ≡ false →
+    meets_badly (segment a c) s ≡ true → (meets_badly (segment a p) s ≡ true) ⊎ (meets_badly (segment p c) s ≡ true)
+
+-- ---- no crossings
+
+-- each two segments of the reduced arcs that meet badly come of two that met badly
+abbrev pub NoCrossingsLaw : Type 0
+NoCrossingsLaw = (rings : List (List ℤ)) (t : ℕ) (arcs : List (List Point)) (new other : Neighbours) →
+    In new (arc_segments (remaining_arcs (guarded_by true rings) t arcs)) → In other (arc_segments (remaining_arcs (guarded_by true rings) t arcs)) → new ≢ other →
+    meets_badly (segment_of new) (segment_of other) ≡ true → MetBefore (arc_segments (map (numbered 0) arcs)) new other
+
+-- no more pairs of segments meet badly in the reduced arcs than in the arcs
+abbrev pub CrossingsNeverRise : Type 0
+CrossingsNeverRise = (rings : List (List ℤ)) (t : ℕ) (arcs : List (List Point)) → crossings (reduced_arcs (guarded_by true rings) t arcs) ≤ crossings arcs
+
+-- where no two segments of the arcs meet badly, no two of the reduced arcs do
+abbrev pub NoneStaysNone : Type 0
+NoneStaysNone = (rings : List (List ℤ)) (t : ℕ) (arcs : List (List Point)) → crossings arcs ≡ 0 → crossings (reduced_arcs (guarded_by true rings) t arcs) ≡ 0
+
+-- no more pairs meet badly where some of the arcs are left out
+abbrev pub FewerArcsLaw : Type 0
+FewerArcsLaw = (few arcs : List (List Point)) → Sublist few arcs → crossings few ≤ crossings arcs
+
+-- ---- rings that stay
+
+-- rings of four positions or more keep as many, whether crossings are asked for or not
+abbrev pub RingsStay : Type 0
+RingsStay = (no_crossings : Bool) (rings : List (List ℤ)) (t : ℕ) (arcs : List (List Point)) →
+    AllByRecursion (λ refs. is_long arcs refs ≡ true) rings → AllByRecursion (λ refs. is_long (reduced_arcs (guarded_by no_crossings rings) t arcs) refs ≡ true) rings
+
+-- ---- without a guard
+
+-- each arc is reduced by itself
+abbrev pub UnguardedLaw : Type 0
+UnguardedLaw = (t : ℕ) (arcs : List (List Point)) → reduced_arcs (guarded_by false []) t arcs ≡ map (reduced t) arcs
+
+abbrev pub UnguardedIndexLaw : Type 0
+UnguardedIndexLaw = (t : ℕ) (arcs : List (List Point)) → reduce_arcs (guarded_by false []) t arcs ≡ map (reduce t) arcs
+
+-- ---- with any guard
+
+-- the arcs stay as many, each with its ends, and no position is new
+abbrev pub ThinnedLaw : Type 0
+ThinnedLaw = (guard : Guard) (t : ℕ) (arcs : List (List Point)) → EachTo IsThinned (reduced_arcs guard t arcs) arcs
+
+-- the indexes that stay rise from the first to the last of each arc
+abbrev pub ArcsRise : Type 0
+ArcsRise = (guard : Guard) (t : ℕ) (arcs : List (List Point)) → EachTo (λ is ps. 2 ≤ length ps → RisesOver (length ps) is) (reduce_arcs guard t arcs) arcs
+
+-- no corner that is left is under the threshold and may go: there are steps enough
+abbrev pub NoneGoes : Type 0
+NoneGoes = (guard : Guard) (t : ℕ) (arcs : List (List Point)) → next_arcs guard t (remaining_arcs guard t arcs) ≡ None
+
+-- what stays at a higher threshold stays at a lower one, and more
+abbrev pub HigherKeepsFewer : Type 0
+HigherKeepsFewer = (guard : Guard) (t u : ℕ) (arcs : List (List Point)) → t ≤ u → EachTo IsThinned (reduce_arcs guard u arcs) (reduce_arcs guard t arcs)

@@ -1,0 +1,74 @@
+// Laws of the definitions. A function here does nothing: its contract is the law.
+ghost use Rattle.guarded_meaning.specs.Laws.{ArcsRise, CrossingsNeverRise, FewerArcsLaw, HigherKeepsFewer, NoCrossingsLaw, NoneGoes, NoneStaysNone, RingsStay, StepLaw, ThinnedLaw, UnguardedIndexLaw, UnguardedLaw};
+
+/// What the segment in a corner's place meets badly, one of the two before it met badly.
+#[tactic(auto, using(crate::proofs::Step::step_law))]
+pub fn step_law()
+    ensures { StepLaw }
+{}
+
+/// Each two segments of the reduced arcs that meet badly come of two that met badly.
+#[tactic(auto, using(crate::proofs::NoCrossings::no_crossings_law))]
+pub fn no_crossings_law()
+    ensures { NoCrossingsLaw }
+{}
+
+/// No more pairs of segments meet badly in the reduced arcs than in the arcs.
+#[tactic(auto, using(crate::proofs::Counts::crossings_never_rise))]
+pub fn crossings_never_rise()
+    ensures { CrossingsNeverRise }
+{}
+
+/// Where no two segments of the arcs meet badly, no two of the reduced arcs do.
+#[tactic(auto, using(crate::proofs::Counts::none_stays_none))]
+pub fn none_stays_none()
+    ensures { NoneStaysNone }
+{}
+
+/// No more pairs of segments meet badly where some of the arcs are left out.
+#[tactic(auto, using(crate::proofs::Counts::fewer_arcs_law))]
+pub fn fewer_arcs_law()
+    ensures { FewerArcsLaw }
+{}
+
+/// Rings that have four positions or more, with equal neighbours as one, keep as many.
+#[tactic(auto, using(crate::proofs::Rings::rings_stay))]
+pub fn rings_stay()
+    ensures { RingsStay }
+{}
+
+/// Without a guard each arc is reduced by itself.
+#[tactic(auto, using(crate::proofs::Unguarded::unguarded_law))]
+pub fn unguarded_law()
+    ensures { UnguardedLaw }
+{}
+
+/// Without a guard the indexes that stay are those of each arc by itself.
+#[tactic(auto, using(crate::proofs::Unguarded::unguarded_index_law))]
+pub fn unguarded_index_law()
+    ensures { UnguardedIndexLaw }
+{}
+
+/// The arcs stay as many, each with its ends, and no position is new.
+#[tactic(auto, using(crate::proofs::Thinned::thinned_law))]
+pub fn thinned_law()
+    ensures { ThinnedLaw }
+{}
+
+/// The indexes that stay rise from the first to the last of each arc.
+#[tactic(auto, using(crate::proofs::Thinned::arcs_rise))]
+pub fn arcs_rise()
+    ensures { ArcsRise }
+{}
+
+/// No corner that is left is under the threshold and may go.
+#[tactic(auto, using(crate::proofs::Thinned::none_goes))]
+pub fn none_goes()
+    ensures { NoneGoes }
+{}
+
+/// At a higher threshold no position stays that a lower one removes.
+#[tactic(auto, using(crate::proofs::Higher::higher_keeps_fewer))]
+pub fn higher_keeps_fewer()
+    ensures { HigherKeepsFewer }
+{}

@@ -1,0 +1,12 @@
+//! Guarded reduction of all arcs at once, in which a corner goes only where no crossing is made of it, or where rings keep four
+//! positions: the definition and its laws. It stands on `elimination_meaning`, which reduces a line by itself, on `junctions` for equal
+//! neighbours, and on `geometry`. `specs/Elimination.antt` and `specs/Guards.antt` have what a layer above would use.
+#![tactic(auto)]
+
+mod laws;
+
+pub use laws::{
+    arcs_rise, crossings_never_rise, fewer_arcs_law, higher_keeps_fewer, no_crossings_law,
+    none_goes, none_stays_none, rings_stay, step_law, thinned_law, unguarded_index_law,
+    unguarded_law,
+};

@@ -5,13 +5,14 @@ use Rattle.std.specs.List.{AllByRecursion, filter}
 use Rattle.std.specs.Ordering.{ordering_then, ordering_reverse, is_lt}
 use Rattle.std.specs.declared.cmp.Ordering.{Ordering}
 use Rattle.std.specs.declared.cmp.Ordering.TheVariants.{Equal}
+use Rattle.std.proofs.lemmas.Bool.{false_from_ne_true}
 use Rattle.std.proofs.lemmas.Map.Lookups.{exact_unsigned}
 use Rattle.owned_values.proofs.Elements.{all_of, each_of}
 use Rattle.geometry.specs.Lists.{In, map_some}
 use Rattle.elimination_meaning.proofs.Order.{point_exact}
 use Rattle.elimination_meaning.proofs.Steps.{Holds}
 use Rattle.guarded_meaning.specs.Arcs.{ArcCorner, all_corners, without_at, left_by}
-use Rattle.guarded_meaning.specs.Elimination.{earlier, first_corner, Guard, arc_corner_cmp, goes_before, goes, next_arcs}
+use Rattle.guarded_meaning.specs.Elimination.{earlier, first_corner, Guard, arc_corner_cmp, goes_before, goes, next_corner, next_arcs}
 use Rattle.guarded_meaning.proofs.Kept.{first_holds}
 use Rattle.guarded_meaning.proofs.Lists.{in_passed, passed_says, none_passes, passed_all}
 use Rattle.guarded_meaning.proofs.Order.{arc_corner_total, goes_order}
@@ -104,15 +105,32 @@ pub record GoesNext (guard : Guard) (t : ℕ) (arcs left : List (List Vertex)) :
   pub none_before : (d : ArcCorner) → In d (all_corners 0 arcs) → goes guard t arcs d ≡ true → goes_before d corner ≡ false
   pub leaves : left_by arcs corner ≡ left
 
-pub next_says : (guard : Guard) (t : ℕ) (arcs left : List (List Vertex)) → next_arcs guard t arcs ≡ Some left → GoesNext guard t arcs left
-next_says guard t arcs left h = on (first_corner those) (first_before those) (first_holds (λ d. In d those) those (all_of (λ d. In d those) those (λ d m. m))) h
+-- the corner that goes first of those that pass
+pub record IsNext (passes : Guard) (arcs : List (List Vertex)) (c : ArcCorner) : Type 0 where
+  pub among : In c (all_corners 0 arcs)
+  pub passed : passes arcs c ≡ true
+  pub none_before : (d : ArcCorner) → In d (all_corners 0 arcs) → passes arcs d ≡ true → goes_before d c ≡ false
+
+pub next_is : (passes : Guard) (arcs : List (List Vertex)) (c : ArcCorner) → next_corner passes arcs ≡ Some c → IsNext passes arcs c
+next_is passes arcs c h = on (subst (Holds (NoneBefore those)) h (first_before those)) (subst (Holds (λ d. In d those)) h (first_holds (λ d. In d those) those (all_of (λ d. In d those) those (λ d m. m))))
   where
     those : List ArcCorner
-    those = filter (goes guard t arcs) (all_corners 0 arcs)
+    those = filter (passes arcs) (all_corners 0 arcs)
 
-    on : (o : Option ArcCorner) → Holds (NoneBefore those) o → Holds (λ d. In d those) o → map_some (left_by arcs) o ≡ Some left → GoesNext guard t arcs left
-    on None m i e = absurd cc
-    on (Some c) m i e =
-        let w = passed_says (goes guard t arcs) c (all_corners 0 arcs) i in
+    on : NoneBefore those c → In c those → IsNext passes arcs c
+    on m i =
+        let w = passed_says (passes arcs) c (all_corners 0 arcs) i in
+        record { among = w.0; passed = w.1; none_before = λ d k g. each_of (λ x. goes_before x c ≡ false) those d m (in_passed (passes arcs) d (all_corners 0 arcs) g k) }
+
+pub none_is_next : (passes : Guard) (arcs : List (List Vertex)) → next_corner passes arcs ≡ None → (d : ArcCorner) → In d (all_corners 0 arcs) → passes arcs d ≡ false
+none_is_next passes arcs h d k = false_from_ne_true (passes arcs d) (λ g. elim (subst (In d) (empty_first (filter (passes arcs) (all_corners 0 arcs)) h) (in_passed (passes arcs) d (all_corners 0 arcs) g k)) [ ])
+
+pub next_says : (guard : Guard) (t : ℕ) (arcs left : List (List Vertex)) → next_arcs guard t arcs ≡ Some left → GoesNext guard t arcs left
+next_says guard t arcs left h = on (next_corner (goes guard t) arcs) refl h
+  where
+    on : (o : Option ArcCorner) → next_corner (goes guard t) arcs ≡ o → map_some (left_by arcs) o ≡ Some left → GoesNext guard t arcs left
+    on None e k = absurd cc
+    on (Some c) e k =
         let l : left_by arcs c ≡ left = cc in
-        record { corner = c; among = w.0; goes_too = w.1; none_before = λ d k g. each_of (λ x. goes_before x c ≡ false) those d m (in_passed (goes guard t arcs) d (all_corners 0 arcs) g k); leaves = l }
+        let n = next_is (goes guard t) arcs c e in
+        record { corner = c; among = n.among; goes_too = n.passed; none_before = n.none_before; leaves = l }

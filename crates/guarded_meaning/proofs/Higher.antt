@@ -1,7 +1,7 @@
 -- At a higher threshold the same corners go first, and then more.
 use Rattle.std.proofs.Common.{◌≡◌, ℕ, zero, suc, ◌<◌, ◌≤◌, true, false, nat_lt, List, length, map, Option, Some, None, ◌⊎◌, inl, inr, refl, ap, sym, ◌∙◌, subst, arith}
 use Rattle.std.specs.List.{AllByRecursion}
-use Rattle.std.proofs.lemmas.Bool.{and_parts, and_from, cases_lt}
+use Rattle.std.proofs.lemmas.Bool.{and_parts, and_from, cases_lt, ltb-true, lt-ltb}
 use Rattle.std.proofs.lemmas.Bool.Decides.{nat_tests}
 use Rattle.geometry.specs.Lists.{joined, In}
 use Rattle.elimination_meaning.specs.Elimination.{Vertex, numbered}
@@ -14,12 +14,6 @@ use Rattle.guarded_meaning.proofs.Kept.{eliminate_keeps}
 use Rattle.guarded_meaning.proofs.Removal.{all_numbered_own, own_indexes_left}
 use Rattle.guarded_meaning.proofs.Thinned.{each_same, each_map, IsSound, sound_step}
 
-lt_passed : (m n : ℕ) → nat_lt m n ≡ true → m < n
-lt_passed m n h = grind (arith, nat_tests)
-
-lt_passes : (m n : ℕ) → m < n → nat_lt m n ≡ true
-lt_passes m n h = grind (arith, nat_tests)
-
 more_last : (c d : ArcCorner) → c.corner.area < d.corner.area → goes_before d c ≡ false
 unfolding goes_before
 more_last c d h = grind (arith, nat_tests)
@@ -28,8 +22,8 @@ module _ (guard : Guard) (t u : ℕ) (under : t ≤ u) where
   goes_higher : (arcs : List (List Vertex)) (c : ArcCorner) → goes guard t arcs c ≡ true → goes guard u arcs c ≡ true
   goes_higher arcs c h =
       let m = and_parts (nat_lt c.corner.area t) (guard arcs c) h in
-      let l = lt_passed c.corner.area t m.0 in
-      and_from (nat_lt c.corner.area u) (guard arcs c) (lt_passes c.corner.area u (omega (arith, l, under))) m.1
+      let l = ltb-true c.corner.area t m.0 in
+      and_from (nat_lt c.corner.area u) (guard arcs c) (lt-ltb c.corner.area u (omega (arith, l, under))) m.1
 
   -- the next corner is the next one at the higher threshold
   next_higher : (arcs left : List (List Vertex)) → next_arcs guard t arcs ≡ Some left → next_arcs guard u arcs ≡ Some left
@@ -38,9 +32,9 @@ module _ (guard : Guard) (t u : ℕ) (under : t ≤ u) where
       next_law guard u arcs n.corner n.among (goes_higher arcs n.corner n.goes_too) (λ d k g. on n d k g (cases_lt d.corner.area t)) ∙ ap Some n.leaves
     where
       on : (n : GoesNext guard t arcs left) (d : ArcCorner) → In d (all_corners 0 arcs) → goes guard u arcs d ≡ true → (d.corner.area < t) ⊎ (t ≤ d.corner.area) → goes_before d n.corner ≡ false
-      on n d k g (inl l) = n.none_before d k (and_from (nat_lt d.corner.area t) (guard arcs d) (lt_passes d.corner.area t l) (and_parts (nat_lt d.corner.area u) (guard arcs d) g).1)
+      on n d k g (inl l) = n.none_before d k (and_from (nat_lt d.corner.area t) (guard arcs d) (lt-ltb d.corner.area t l) (and_parts (nat_lt d.corner.area u) (guard arcs d) g).1)
       on n d k g (inr l) =
-          let m = lt_passed n.corner.corner.area t (and_parts (nat_lt n.corner.corner.area t) (guard arcs n.corner) n.goes_too).0 in
+          let m = ltb-true n.corner.corner.area t (and_parts (nat_lt n.corner.corner.area t) (guard arcs n.corner) n.goes_too).0 in
           more_last n.corner d (omega (arith, l, m))
 
   thinned : (n : ℕ) (arcs : List (List Vertex)) → AllByRecursion HasOwnIndexes arcs → EachTo IsThinned (eliminate_arcs guard n u arcs) arcs

@@ -3,6 +3,7 @@ pub mod Crosses
 pub mod First
 pub mod Free
 pub mod Higher
+pub mod Interiors
 pub mod Kept
 pub mod Lists
 pub mod Neighbours
@@ -12,8 +13,10 @@ pub mod Pasch
 pub mod Removal
 pub mod Rings
 mod Rows
+pub mod Shares
 pub mod Signs
 pub mod Step
 pub mod Tests
 pub mod Thinned
 pub mod Unguarded
+pub mod Weights

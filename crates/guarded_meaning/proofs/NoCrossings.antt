@@ -151,7 +151,7 @@ rises_left k i [] h = tt
 rises_left zero i (vs ∷ arcs) h = (sub_rising (sub_map (λ v. v.index) (sub_filter (λ v. not (v.index == i)) vs)) h.0, h.1)
 rises_left (suc k) i (vs ∷ arcs) h = (h.0, rises_left k i arcs h.1)
 
-all_numbered_rise : (arcs : List (List Point)) → AllByRecursion Rises (map (numbered 0) arcs)
+pub all_numbered_rise : (arcs : List (List Point)) → AllByRecursion Rises (map (numbered 0) arcs)
 all_numbered_rise [] = tt
 all_numbered_rise (ps ∷ arcs) = (numbered_rising 0 ps, all_numbered_rise arcs)
 

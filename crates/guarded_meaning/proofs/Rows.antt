@@ -1,5 +1,5 @@
 -- Worked segments and triangles, and the worked rows of guarded reduction in whole units.
-use Rattle.std.proofs.Common.{◌≡◌, ℕ, ◌-◌, ℤ, pos, negsuc, Bool, true, false, List, [], ◌∷◌, refl}
+use Rattle.std.proofs.Common.{◌≡◌, ℕ, ◌-◌, ℤ, pos, negsuc, Bool, true, false, List, [], ◌∷◌, Some, None, refl}
 use Rattle.geometry.specs.Areas.{cross, twice_area}
 use Rattle.geometry.specs.Joins.{number_of}
 use Rattle.geometry.specs.Points.{Point}
@@ -8,7 +8,9 @@ use Rattle.guarded_meaning.specs.Arcs.{crossings}
 use Rattle.guarded_meaning.specs.Elimination.{goes_before, reduced_arcs}
 use Rattle.guarded_meaning.specs.Guards.{is_free, keeps_rings, guarded_by}
 use Rattle.guarded_meaning.specs.Segments.{Segment, segment, is_on, touches, separates, crosses, same_ends, meets_badly}
+use Rattle.guarded_meaning.specs.Shares.{share, chosen}
 use Rattle.guarded_meaning.specs.Triangles.{in_triangle}
+use Rattle.guarded_meaning.specs.Weights.{interior_weights}
 
 abbrev at : ℕ → ℕ → Point
 at x y = record { x = pos x; y = pos y }
@@ -267,6 +269,48 @@ one_comes_back = unfold reduced_arcs keeps_rings goes_before twice_area is_free 
 -- where nothing is in the way a corner goes
 alone_goes : reduction true [] 30 ((at 0 0 ∷ (at 1 5 ∷ (at 5 0 ∷ []))) ∷ []) ≡ (at 0 0 ∷ (at 5 0 ∷ [])) ∷ []
 alone_goes = unfold reduced_arcs keeps_rings goes_before twice_area is_free in_triangle same_ends is_on same cross in refl
+
+-- ---- weights and shares
+
+-- (0,3) is held by (2,2), so (4,0) goes first, with 8; then (0,3) goes, with 0, and has the greatest area so far
+abbrev hooked : List (List Point)
+hooked = two_lines (at 0 4 ∷ (at 0 3 ∷ (at 4 0 ∷ (at 0 1 ∷ [])))) (at 2 3 ∷ (at 2 2 ∷ []))
+
+hooked_weights : interior_weights (guarded_by true []) hooked ≡ Some 8 ∷ (Some 8 ∷ [])
+hooked_weights = unfold keeps_rings goes_before twice_area is_free in_triangle same_ends is_on same cross in refl
+
+hooked_half : chosen 1 2 (guarded_by true []) hooked ≡ 8
+hooked_half = unfold share keeps_rings goes_before twice_area is_free in_triangle same_ends is_on same cross in refl
+
+hooked_whole : chosen 1 1 (guarded_by true []) hooked ≡ 8
+hooked_whole = unfold share keeps_rings goes_before twice_area is_free in_triangle same_ends is_on same cross in refl
+
+hooked_stays : reduction true [] 8 hooked ≡ hooked
+hooked_stays = unfold reduced_arcs keeps_rings goes_before twice_area is_free in_triangle same_ends is_on same cross in refl
+
+-- without a guard (0,3) goes first, with 4, and then (4,0), with 12
+hooked_alone : interior_weights (guarded_by false []) hooked ≡ Some 4 ∷ (Some 12 ∷ [])
+hooked_alone = unfold keeps_rings goes_before twice_area cross in refl
+
+hooked_alone_half : chosen 1 2 (guarded_by false []) hooked ≡ 12
+hooked_alone_half = unfold share keeps_rings goes_before twice_area cross in refl
+
+hooked_alone_goes : reduction false [] 12 hooked ≡ two_lines (at 0 4 ∷ (at 4 0 ∷ (at 0 1 ∷ []))) (at 2 3 ∷ (at 2 2 ∷ []))
+hooked_alone_goes = unfold reduced_arcs keeps_rings goes_before twice_area cross in refl
+
+-- the roof goes after the tower, so it has the tower's weight
+tower_whole : chosen 1 1 (guarded_by true []) (two_lines roof tower) ≡ 20
+tower_whole = unfold share keeps_rings goes_before twice_area is_free in_triangle same_ends is_on same cross in refl
+
+-- what is held for good has no weight, and stays at any threshold: of no share the greatest weight is chosen, or zero
+held_weights : interior_weights (guarded_by true []) (two_lines roof under_roof) ≡ None ∷ []
+held_weights = unfold keeps_rings goes_before twice_area is_free in_triangle same_ends is_on same cross in refl
+
+held_none : chosen 0 1 (guarded_by true []) (two_lines roof under_roof) ≡ 0
+held_none = unfold share keeps_rings goes_before twice_area is_free in_triangle same_ends is_on same cross in refl
+
+hooked_none : chosen 0 1 (guarded_by false []) hooked ≡ 12
+hooked_none = unfold share keeps_rings goes_before twice_area cross in refl
 
 -- ---- counts
 

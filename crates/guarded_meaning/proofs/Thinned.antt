@@ -106,7 +106,7 @@ pub sound_step : (guard : Guard) (old arcs : List (List Vertex)) → IsSound old
 sound_step guard old arcs h = all_weaker (Thins arcs) (λ c. guard arcs c ≡ true → IsSound old (left_by arcs c))
     (λ c r g. (each_chain (left_by arcs c) arcs old r.0 h.0, own_indexes_left c.arc c.corner.index arcs h.1)) (all_corners 0 arcs) (all_thin arcs h.1)
 
-remaining_thinned : (guard : Guard) (t : ℕ) (arcs : List (List Point)) → EachTo IsThinned (remaining_arcs guard t arcs) (map (numbered 0) arcs)
+pub remaining_thinned : (guard : Guard) (t : ℕ) (arcs : List (List Point)) → EachTo IsThinned (remaining_arcs guard t arcs) (map (numbered 0) arcs)
 remaining_thinned guard t arcs = (eliminate_keeps guard t (IsSound (map (numbered 0) arcs)) (sound_step guard (map (numbered 0) arcs)) (length (joined arcs)) (map (numbered 0) arcs)
     (each_same (map (numbered 0) arcs), all_numbered_own arcs)).0
 

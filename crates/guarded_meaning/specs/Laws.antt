@@ -1,9 +1,10 @@
 -- What is true of segments and of guarded elimination.
-use Rattle.std.specs.Prelude.{◌≡◌, ◌≢◌, ◌⊎◌, ℕ, ℤ, ◌≤◌, Bool, true, false, List, [], length, map, None}
+use Rattle.std.specs.Prelude.{◌≡◌, ◌≢◌, ◌⊎◌, ℕ, ℤ, ◌*◌, ◌≤◌, Bool, true, false, List, [], length, map, Option, None}
 use Rattle.std.specs.List.{AllByRecursion}
 use Rattle.geometry.specs.Lists.{In}
 use Rattle.geometry.specs.Points.{Point}
 use Rattle.elimination_meaning.specs.Elimination.{reduce, reduced, numbered}
+use Rattle.elimination_meaning.specs.Weights.{is_kept_at}
 use Rattle.elimination_meaning.specs.Rising.{RisesOver}
 use Rattle.elimination_meaning.specs.Sublists.{Sublist}
 use Rattle.guarded_meaning.specs.Arcs.{Neighbours, segment_of, arc_segments, crossings}
@@ -12,7 +13,9 @@ use Rattle.guarded_meaning.specs.Guards.{is_long, guarded_by}
 use Rattle.guarded_meaning.specs.Lists.{EachTo, IsThinned}
 use Rattle.guarded_meaning.specs.Origins.{MetBefore}
 use Rattle.guarded_meaning.specs.Segments.{Segment, segment, same_ends, meets_badly}
+use Rattle.guarded_meaning.specs.Shares.{count_kept, share, chosen, IsGreatestShare}
 use Rattle.guarded_meaning.specs.Triangles.{is_clear}
+use Rattle.guarded_meaning.specs.Weights.{weight, passing, interior_weights, interior_count}
 
 -- ---- one corner
 
@@ -75,3 +78,21 @@ NoneGoes = (guard : Guard) (t : ℕ) (arcs : List (List Point)) → next_arcs gu
 -- what stays at a higher threshold stays at a lower one, and more
 abbrev pub HigherKeepsFewer : Type 0
 HigherKeepsFewer = (guard : Guard) (t u : ℕ) (arcs : List (List Point)) → t ≤ u → EachTo IsThinned (reduce_arcs guard u arcs) (reduce_arcs guard t arcs)
+
+-- ---- weights and shares
+
+-- the vertices that stay at a threshold are the ends, those that never go, and those whose weight isn't under it
+abbrev pub KeptByWeight : Type 0
+KeptByWeight = (guard : Guard) (t : ℕ) (arcs : List (List Point)) → remaining_arcs guard t arcs ≡ passing (λ x. is_kept_at t (weight guard arcs x)) 0 (map (numbered 0) arcs)
+
+-- the positions between the ends of the reduced arcs are as many as the weights say
+abbrev pub CountedByWeight : Type 0
+CountedByWeight = (guard : Guard) (t : ℕ) (arcs : List (List Point)) → count_kept t (interior_weights guard arcs) ≡ interior_count (reduced_arcs guard t arcs)
+
+-- of these weights the threshold of a share is the greatest, or zero
+abbrev pub ShareIsGreatest : Type 0
+ShareIsGreatest = (p q : ℕ) (ws : List (Option ℕ)) → p ≤ q → IsGreatestShare p q ws (share p q ws)
+
+-- at the threshold that is chosen for it the share of the positions between the ends stays
+abbrev pub ShareStays : Type 0
+ShareStays = (p q : ℕ) (guard : Guard) (arcs : List (List Point)) → p ≤ q → p * interior_count arcs ≤ q * interior_count (reduced_arcs guard (chosen p q guard arcs) arcs)

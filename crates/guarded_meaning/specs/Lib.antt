@@ -5,4 +5,6 @@ pub mod Laws
 pub mod Lists
 pub mod Origins
 pub mod Segments
+pub mod Shares
 pub mod Triangles
+pub mod Weights

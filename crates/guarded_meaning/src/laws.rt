@@ -1,5 +1,5 @@
 // Laws of the definitions. A function here does nothing: its contract is the law.
-ghost use Rattle.guarded_meaning.specs.Laws.{ArcsRise, CrossingsNeverRise, FewerArcsLaw, HigherKeepsFewer, NoCrossingsLaw, NoneGoes, NoneStaysNone, RingsStay, StepLaw, ThinnedLaw, UnguardedIndexLaw, UnguardedLaw};
+ghost use Rattle.guarded_meaning.specs.Laws.{ArcsRise, CountedByWeight, CrossingsNeverRise, FewerArcsLaw, HigherKeepsFewer, KeptByWeight, NoCrossingsLaw, NoneGoes, NoneStaysNone, RingsStay, ShareIsGreatest, ShareStays, StepLaw, ThinnedLaw, UnguardedIndexLaw, UnguardedLaw};
 
 /// What the segment in a corner's place meets badly, one of the two before it met badly.
 #[tactic(auto, using(crate::proofs::Step::step_law))]
@@ -71,4 +71,28 @@ pub fn none_goes()
 #[tactic(auto, using(crate::proofs::Higher::higher_keeps_fewer))]
 pub fn higher_keeps_fewer()
     ensures { HigherKeepsFewer }
+{}
+
+/// What stays is what a weight says: the ends, what never goes, and what has a weight that isn't under the threshold.
+#[tactic(auto, using(crate::proofs::Weights::kept_by_weight))]
+pub fn kept_by_weight()
+    ensures { KeptByWeight }
+{}
+
+/// The positions between the ends of the reduced arcs are as many as the weights say.
+#[tactic(auto, using(crate::proofs::Interiors::counted_by_weight))]
+pub fn counted_by_weight()
+    ensures { CountedByWeight }
+{}
+
+/// The threshold of a share is zero or a weight, the share stays at it, and at no weight over it.
+#[tactic(auto, using(crate::proofs::Shares::share_is_greatest))]
+pub fn share_is_greatest()
+    ensures { ShareIsGreatest }
+{}
+
+/// At the threshold that is chosen for it the share of the positions between the ends stays, whatever the guard.
+#[tactic(auto, using(crate::proofs::Shares::share_stays))]
+pub fn share_stays()
+    ensures { ShareStays }
 {}

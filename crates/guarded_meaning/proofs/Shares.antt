@@ -1,0 +1,96 @@
+-- The greatest threshold at which a share stays.
+use Rattle.std.proofs.Common.{◌≡◌, ℕ, ◌+◌, ◌*◌, ◌<◌, ◌≤◌, max, Bool, true, false, cond, List, [], ◌∷◌, length, Option, refl, ap, sym, ◌∙◌, subst, arith, ◌⊎◌, inl, inr}
+use Rattle.std.specs.List.{filter, count_by}
+use Rattle.std.proofs.lemmas.Bool.{le-leb, leb-true, cases_lt}
+use Rattle.std.proofs.lemmas.List.Sums.{sum_by-cons}
+use Rattle.std.proofs.lemmas.Nat.{mul-le}
+use Rattle.geometry.specs.Lists.{In}
+use Rattle.elimination_meaning.specs.Weights.{is_kept_at}
+use Rattle.guarded_meaning.specs.Elimination.{reduced_arcs}
+use Rattle.guarded_meaning.specs.Laws.{ShareIsGreatest, ShareStays}
+use Rattle.guarded_meaning.specs.Shares.{known, count_kept, keeps_share, greatest, share, chosen, IsGreatestShare}
+use Rattle.guarded_meaning.specs.Weights.{interior_weights, interior_count}
+use Rattle.guarded_meaning.proofs.Interiors.{counted_by_weight, weights_count}
+use Rattle.guarded_meaning.proofs.Weights.{kept_at_zero}
+
+-- ---- the greatest that passes a test
+
+abbrev Passes : (ℕ → Bool) → List ℕ → ℕ → Type 0
+Passes f ws t = (t ≡ 0) ⊎ (In t ws × (f t ≡ true))
+
+following : (f : ℕ → Bool) (w : ℕ) (ws : List ℕ) (t : ℕ) → Passes f ws t → Passes f (w ∷ ws) t
+following f w ws t (inl e) = inl e
+following f w ws t (inr k) = inr (inr k.0, k.1)
+
+larger : (f : ℕ → Bool) (ws : List ℕ) (m n : ℕ) → Passes f ws m → Passes f ws n → Passes f ws (max m n)
+larger f ws m n h k = on (cases_lt m n)
+  where
+    on : (m < n) ⊎ (n ≤ m) → Passes f ws (max m n)
+    on (inl l) = let e : n ≡ max m n = omega arith in subst (λ t. Passes f ws t) e k
+    on (inr l) = let e : m ≡ max m n = omega arith in subst (λ t. Passes f ws t) e h
+
+passes_of : (f : ℕ → Bool) (ws : List ℕ) → Passes f ws (greatest (filter f ws))
+passes_of f [] = inl refl
+passes_of f (w ∷ ws) = on (f w) refl (passes_of f ws)
+  where
+    on : (b : Bool) → f w ≡ b → Passes f ws (greatest (filter f ws)) → Passes f (w ∷ ws) (greatest (cond b (w ∷ filter f ws) (filter f ws)))
+    on true e ih = larger f (w ∷ ws) w (greatest (filter f ws)) (inr (inl refl, e)) (following f w ws (greatest (filter f ws)) ih)
+    on false e ih = following f w ws (greatest (filter f ws)) ih
+
+under_greatest : (f : ℕ → Bool) (ws : List ℕ) (w : ℕ) → In w ws → f w ≡ true → w ≤ greatest (filter f ws)
+under_greatest f [] w m e = elim m [ ]
+under_greatest f (v ∷ ws) w (inl n) e = subst (λ b. w ≤ greatest (cond b (v ∷ filter f ws) (filter f ws))) (sym (ap f (sym n) ∙ e)) (omega (arith, n))
+under_greatest f (v ∷ ws) w (inr m) e = on (f v) (under_greatest f ws w m e)
+  where
+    on : (b : Bool) → w ≤ greatest (filter f ws) → w ≤ greatest (cond b (v ∷ filter f ws) (filter f ws))
+    on true k = omega (arith, k)
+    on false k = k
+
+-- ---- at zero all stay
+
+count_zero : (ws : List (Option ℕ)) → count_kept 0 ws ≡ length ws
+count_zero [] = refl
+count_zero (w ∷ ws) = sum_by-cons (λ v. cond (is_kept_at 0 v) 1 0) w ws ∙ ap (λ b. cond b 1 0 + count_by (is_kept_at 0) ws) (kept_at_zero w) ∙ (let h = count_zero ws in omega (arith, h))
+
+zero_keeps : (p q : ℕ) (ws : List (Option ℕ)) → p ≤ q → p * length ws ≤ q * count_kept 0 ws
+zero_keeps p q ws h = subst (λ n. p * length ws ≤ q * n) (sym (count_zero ws)) (mul-le p (length ws) q (length ws) h (omega arith))
+
+-- ---- the share
+
+module _ (p q : ℕ) (ws : List (Option ℕ)) (h : p ≤ q) where
+  abbrev keeps : ℕ → Bool
+  keeps = keeps_share p q ws
+
+  abbrev best : ℕ
+  best = greatest (filter keeps (0 ∷ known ws))
+
+  zero_passes : keeps 0 ≡ true
+  zero_passes = le-leb (p * length ws) (q * count_kept 0 ws) (zero_keeps p q ws h)
+
+  best_is : best ≡ greatest (filter keeps (known ws))
+  best_is = ap (λ b. greatest (cond b (0 ∷ filter keeps (known ws)) (filter keeps (known ws)))) zero_passes ∙ omega arith
+
+  member : (n : ℕ) → Passes keeps (known ws) n → ((n ≡ 0) ⊎ In n (known ws)) × (p * length ws ≤ q * count_kept n ws)
+  member n (inl e) = (inl e, subst (λ m. p * length ws ≤ q * count_kept m ws) (sym e) (zero_keeps p q ws h))
+  member n (inr k) = (inr k.0, leb-true (p * length ws) (q * count_kept n ws) k.1)
+
+  fewer : (w : ℕ) → In w (known ws) → best < w → (q * count_kept w ws < p * length ws) ⊎ (p * length ws ≤ q * count_kept w ws) → q * count_kept w ws < p * length ws
+  fewer w m over (inl less) = less
+  fewer w m over (inr more) =
+      let k = under_greatest keeps (known ws) w m (le-leb (p * length ws) (q * count_kept w ws) more) in
+      absurd (omega (arith, k, over, best_is))
+
+  is_best : IsGreatestShare p q ws best
+  is_best =
+      let m = subst (λ n. ((n ≡ 0) ⊎ In n (known ws)) × (p * length ws ≤ q * count_kept n ws)) (sym best_is) (member (greatest (filter keeps (known ws))) (passes_of keeps (known ws))) in
+      record { among = m.0; keeps = m.1; fewer_over = λ w k over. fewer w k over (cases_lt (q * count_kept w ws) (p * length ws)) }
+
+pub share_is_greatest : ShareIsGreatest
+unfolding share
+share_is_greatest p q ws h = is_best p q ws h
+
+pub share_stays : ShareStays
+share_stays p q guard arcs h =
+    let k = (share_is_greatest p q (interior_weights guard arcs) h).keeps in
+    subst (λ n. p * n ≤ q * interior_count (reduced_arcs guard (chosen p q guard arcs) arcs)) (weights_count guard arcs)
+    (subst (λ n. p * length (interior_weights guard arcs) ≤ q * n) (counted_by_weight guard (chosen p q guard arcs) arcs) k)

@@ -11,6 +11,7 @@ use Rattle.owned_values.proofs.Elements.{all_of, each_of}
 use Rattle.geometry.specs.Lists.{In, map_some}
 use Rattle.elimination_meaning.proofs.Order.{point_exact}
 use Rattle.elimination_meaning.proofs.Steps.{Holds}
+use Rattle.guarded_meaning.specs.AgendaLaws.{NextLaw, NoNextLaw}
 use Rattle.guarded_meaning.specs.Arcs.{ArcCorner, all_corners, without_at, left_by}
 use Rattle.guarded_meaning.specs.Elimination.{earlier, first_corner, Guard, arc_corner_cmp, goes_before, goes, next_corner, next_arcs}
 use Rattle.guarded_meaning.proofs.Kept.{first_holds}
@@ -73,11 +74,10 @@ first_before (c ∷ cs) = first_step c cs (first_corner cs) (first_before cs) (e
 
 -- ---- the next one
 
-pub no_next_law : (guard : Guard) (t : ℕ) (arcs : List (List Vertex)) → ((d : ArcCorner) → In d (all_corners 0 arcs) → goes guard t arcs d ≡ false) → next_arcs guard t arcs ≡ None
+pub no_next_law : NoNextLaw
 no_next_law guard t arcs h = ap (λ cs. map_some (left_by arcs) (first_corner cs)) (none_passes (goes guard t arcs) (all_corners 0 arcs) (all_of (λ d. goes guard t arcs d ≡ false) (all_corners 0 arcs) h))
 
-pub next_law : (guard : Guard) (t : ℕ) (arcs : List (List Vertex)) (c : ArcCorner) → In c (all_corners 0 arcs) → goes guard t arcs c ≡ true →
-    ((d : ArcCorner) → In d (all_corners 0 arcs) → goes guard t arcs d ≡ true → goes_before d c ≡ false) → next_arcs guard t arcs ≡ Some (left_by arcs c)
+pub next_law : NextLaw
 next_law guard t arcs c k g h = on (first_corner those) refl (first_before those) (first_holds (λ d. In d those) those (all_of (λ d. In d those) those (λ d m. m)))
   where
     those : List ArcCorner

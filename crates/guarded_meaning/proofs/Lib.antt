@@ -1,3 +1,5 @@
+pub mod Agendas
+pub mod Box
 pub mod Counts
 pub mod Crosses
 pub mod First
@@ -14,6 +16,7 @@ pub mod Removal
 pub mod Rings
 mod Rows
 pub mod Shares
+pub mod Shorter
 pub mod Signs
 pub mod Step
 pub mod Tests

@@ -59,13 +59,13 @@ Comes old arcs = (f g : Neighbours) → In f (arc_segments arcs) → In g (arc_s
 abbrev runs : Neighbours → Type 0
 runs n = has_length (segment_of n) ≡ true
 
-own_first : (c : ArcCorner) (a p d : _) → c ≡ arc_corner_at c.arc a p d → is_pair_of c (neighbours_at c.arc a p) ≡ true
+pub own_first : (c : ArcCorner) (a p d : _) → c ≡ arc_corner_at c.arc a p d → is_pair_of c (neighbours_at c.arc a p) ≡ true
 own_first c a p d e = subst (λ (x : ArcCorner). is_pair_of x (neighbours_at c.arc a p) ≡ true) (sym e) (passes c.arc a.index p.index)
   where
     passes : (k i j : ℕ) → ((k == k) && ((i == j) || (j == j))) ≡ true
     passes k i j = grind (arith, nat_tests)
 
-own_second : (c : ArcCorner) (a p d : _) → c ≡ arc_corner_at c.arc a p d → is_pair_of c (neighbours_at c.arc p d) ≡ true
+pub own_second : (c : ArcCorner) (a p d : _) → c ≡ arc_corner_at c.arc a p d → is_pair_of c (neighbours_at c.arc p d) ≡ true
 own_second c a p d e = subst (λ (x : ArcCorner). is_pair_of x (neighbours_at c.arc p d) ≡ true) (sym e) (passes c.arc p.index d.index)
   where
     passes : (k i j : ℕ) → ((k == k) && ((i == i) || (j == i))) ≡ true

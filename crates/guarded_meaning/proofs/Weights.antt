@@ -66,7 +66,7 @@ without_passing j (suc k) i (vs ∷ arcs) =
     differ : (j k : ℕ) → (j == j + suc k) ≡ false
     differ j k = grind (arith, nat_tests)
 
-left_passing : (arcs : List (List Vertex)) (c : ArcCorner) → left_by arcs c ≡ passing (λ x. not (is_place_of c x)) 0 arcs
+pub left_passing : (arcs : List (List Vertex)) (c : ArcCorner) → left_by arcs c ≡ passing (λ x. not (is_place_of c x)) 0 arcs
 left_passing arcs c = let e : 0 + c.arc ≡ c.arc = omega arith in without_passing 0 c.arc c.corner.index arcs ∙ ap (λ n. passing (other n c.corner.index) 0 arcs) e
 
 -- ---- one step

@@ -1,5 +1,5 @@
 -- What is true of segments and of guarded elimination.
-use Rattle.std.specs.Prelude.{◌≡◌, ◌≢◌, ◌⊎◌, ℕ, ℤ, ◌*◌, ◌≤◌, Bool, true, false, List, [], length, map, Option, None}
+use Rattle.std.specs.Prelude.{◌≡◌, ◌≢◌, ◌⊎◌, ℕ, ℤ, ◌≤ℤ◌, ◌*◌, ◌≤◌, Bool, true, false, List, [], length, map, Option, None}
 use Rattle.std.specs.List.{AllByRecursion}
 use Rattle.geometry.specs.Lists.{In}
 use Rattle.geometry.specs.Points.{Point}
@@ -14,7 +14,7 @@ use Rattle.guarded_meaning.specs.Lists.{EachTo, IsThinned}
 use Rattle.guarded_meaning.specs.Origins.{MetBefore}
 use Rattle.guarded_meaning.specs.Segments.{Segment, segment, same_ends, meets_badly}
 use Rattle.guarded_meaning.specs.Shares.{count_kept, share, chosen, IsGreatestShare}
-use Rattle.guarded_meaning.specs.Triangles.{is_clear}
+use Rattle.guarded_meaning.specs.Triangles.{in_triangle, is_clear}
 use Rattle.guarded_meaning.specs.Weights.{weight, passing, interior_weights, interior_count}
 
 -- ---- one corner
@@ -24,6 +24,16 @@ use Rattle.guarded_meaning.specs.Weights.{weight, passing, interior_weights, int
 abbrev pub StepLaw : Type 0
 StepLaw = (a p c : Point) (s : Segment) → is_clear a p c s.from ≡ true → is_clear a p c s.to ≡ true → same_ends (segment a c) s ≡ false →
     meets_badly (segment a c) s ≡ true → (meets_badly (segment a p) s ≡ true) ⊎ (meets_badly (segment p c) s ≡ true)
+
+-- where three positions are on one side of an upright or a level line, so is what their triangle holds
+pub record IsInBox (a p c q : Point) : Type 0 where
+  pub left : (k : ℤ) → (k ≤ℤ a.x) → (k ≤ℤ p.x) → (k ≤ℤ c.x) → (k ≤ℤ q.x)
+  pub right : (k : ℤ) → (a.x ≤ℤ k) → (p.x ≤ℤ k) → (c.x ≤ℤ k) → (q.x ≤ℤ k)
+  pub below : (k : ℤ) → (k ≤ℤ a.y) → (k ≤ℤ p.y) → (k ≤ℤ c.y) → (k ≤ℤ q.y)
+  pub above : (k : ℤ) → (a.y ≤ℤ k) → (p.y ≤ℤ k) → (c.y ≤ℤ k) → (q.y ≤ℤ k)
+
+abbrev pub BoxLaw : Type 0
+BoxLaw = (a p c q : Point) → in_triangle a p c q ≡ true → IsInBox a p c q
 
 -- ---- no crossings
 

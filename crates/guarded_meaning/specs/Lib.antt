@@ -1,3 +1,5 @@
+pub mod AgendaLaws
+pub mod Agendas
 pub mod Arcs
 pub mod Elimination
 pub mod Guards

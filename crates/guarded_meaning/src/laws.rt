@@ -1,10 +1,16 @@
 // Laws of the definitions. A function here does nothing: its contract is the law.
-ghost use Rattle.guarded_meaning.specs.Laws.{ArcsRise, CountedByWeight, CrossingsNeverRise, FewerArcsLaw, HigherKeepsFewer, KeptByWeight, NoCrossingsLaw, NoneGoes, NoneStaysNone, RingsStay, ShareIsGreatest, ShareStays, StepLaw, ThinnedLaw, UnguardedIndexLaw, UnguardedLaw};
+ghost use Rattle.guarded_meaning.specs.Laws.{ArcsRise, BoxLaw, CountedByWeight, CrossingsNeverRise, FewerArcsLaw, HigherKeepsFewer, KeptByWeight, NoCrossingsLaw, NoneGoes, NoneStaysNone, RingsStay, ShareIsGreatest, ShareStays, StepLaw, ThinnedLaw, UnguardedIndexLaw, UnguardedLaw};
 
 /// What the segment in a corner's place meets badly, one of the two before it met badly.
 #[tactic(auto, using(crate::proofs::Step::step_law))]
 pub fn step_law()
     ensures { StepLaw }
+{}
+
+/// A triangle lies in the box round its corners.
+#[tactic(auto, using(crate::proofs::Box::box_law))]
+pub fn box_law()
+    ensures { BoxLaw }
 {}
 
 /// Each two segments of the reduced arcs that meet badly come of two that met badly.

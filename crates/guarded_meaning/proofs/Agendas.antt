@@ -1,0 +1,158 @@
+-- What holds corners, and that an agenda goes on covering them.
+use Rattle.std.proofs.Common.{◌≡◌, ℕ, ℤ, suc, ◌<◌, Bool, true, false, not, ◌||◌, nat_lt, List, [], ◌∷◌, ◌++◌, map, ◌⊎◌, inl, inr, refl, ap, sym, ◌∙◌, subst}
+use Rattle.std.specs.List.{filter, list_all}
+use Rattle.std.proofs.lemmas.Bool.{and_parts, and_cases, and_left, and_right, or_cases, or_parts, or_from, cases_Bool, both_ways, false_from_ne_true, not-true, not-false, not_from_true, not_from_false, ltb-true}
+use Rattle.std.proofs.lemmas.List.Elements.{filter-append}
+use Rattle.owned_values.proofs.Elements.{each_of}
+use Rattle.owned_values.proofs.Members.{in_left, in_right, in_append}
+use Rattle.geometry.specs.Lists.{In}
+use Rattle.geometry.specs.Rings.{same}
+use Rattle.elimination_meaning.specs.Elimination.{Vertex}
+use Rattle.guarded_meaning.specs.AgendaLaws.{FreeOrHeld, HeldIsNotFree, HolderStays, NeverAgain, CoverLaw, ReadyLaw, NoneReady}
+use Rattle.guarded_meaning.specs.Agendas.{Holder, Inside, Across, IsLeft, goes_with, Holds, Agenda, IsHeld, IsCovered}
+use Rattle.guarded_meaning.specs.Arcs.{ArcCorner, all_corners, Place, place_at, places, is_place_of, Neighbours, neighbours_at, segment_of, all_neighbours, is_pair_of, left_by, points_of}
+use Rattle.guarded_meaning.specs.Elimination.{goes}
+use Rattle.guarded_meaning.specs.Guards.{has_empty_triangle, has_open_base, is_free, uses, is_long, keeps_rings, guarded_by}
+use Rattle.guarded_meaning.specs.Segments.{segment, same_ends}
+use Rattle.guarded_meaning.specs.Triangles.{is_clear}
+use Rattle.guarded_meaning.specs.Weights.{passing}
+use Rattle.guarded_meaning.proofs.First.{next_law, no_next_law}
+use Rattle.guarded_meaning.proofs.Lists.{in_passed, filter_map}
+use Rattle.guarded_meaning.proofs.Neighbours.{AreParted, all_parted}
+use Rattle.guarded_meaning.proofs.NoCrossings.{own_first, own_second}
+use Rattle.guarded_meaning.proofs.Shorter.{fewer_left, still_short}
+use Rattle.guarded_meaning.proofs.Weights.{left_passing}
+
+-- ---- one that fails
+
+record Failing {X : Type 0} (p : X → Bool) (xs : List X) : Type 0 where
+  one : X
+  among : In one xs
+  fails : p one ≡ false
+
+failing_later : {X : Type 0} (p : X → Bool) (x : X) (xs : List X) → Failing p xs → Failing p (x ∷ xs)
+failing_later p x xs f = record { one = f.one; among = inr f.among; fails = f.fails }
+
+which_fails : {X : Type 0} (p : X → Bool) (xs : List X) → list_all p xs ≡ false → Failing p xs
+which_fails p [] h = absurd cc
+which_fails p (x ∷ xs) h = on (and_cases (p x) (list_all p xs) h) (λ k. which_fails p xs k)
+  where
+    on : (p x ≡ false) ⊎ (list_all p xs ≡ false) → (list_all p xs ≡ false → Failing p xs) → Failing p (x ∷ xs)
+    on (inl k) f = record { one = x; among = inl refl; fails = k }
+    on (inr k) f = failing_later p x xs (f k)
+
+one_fails : {X : Type 0} (p : X → Bool) (x : X) (xs : List X) → In x xs → p x ≡ false → list_all p xs ≡ false
+one_fails p x [] k h = elim k [ ]
+one_fails p x (y ∷ ys) (inl e) h = and_left (p y) (list_all p ys) (sym (ap p e) ∙ h)
+one_fails p x (y ∷ ys) (inr k) h = and_right (p y) (list_all p ys) (one_fails p x ys k h)
+
+-- ---- holders
+
+module _ (arcs : List (List Vertex)) (c : ArcCorner) where
+  abbrev clear_at : Place → Bool
+  clear_at x = is_place_of c x || is_clear c.before c.corner.point c.after x.vertex.point
+
+  abbrev open_at : Neighbours → Bool
+  open_at n = is_pair_of c n || not (same_ends (segment c.before c.after) (segment_of n))
+
+  free_or_held_by : (has_empty_triangle arcs c ≡ false) ⊎ (has_open_base arcs c ≡ false) → (h : Holder) × IsLeft arcs h × Holds c h
+  free_or_held_by (inl e) =
+      let f = which_fails clear_at (places 0 arcs) e in
+      let m = or_parts (is_place_of c f.one) (is_clear c.before c.corner.point c.after f.one.vertex.point) f.fails in
+      (Inside f.one, f.among, (m.0, m.1))
+  free_or_held_by (inr e) =
+      let s = or_parts (same c.before c.after) (list_all open_at (all_neighbours 0 arcs)) e in
+      let f = which_fails open_at (all_neighbours 0 arcs) s.1 in
+      let m = or_parts (is_pair_of c f.one) (not (same_ends (segment c.before c.after) (segment_of f.one))) f.fails in
+      (Across f.one, f.among, (m.0, not-false (same_ends (segment c.before c.after) (segment_of f.one)) m.1, s.0))
+
+pub free_or_held : FreeOrHeld
+unfolding is_free
+free_or_held arcs c h = free_or_held_by arcs c (and_cases (has_empty_triangle arcs c) (has_open_base arcs c) h)
+
+pub held_is_not_free : HeldIsNotFree
+unfolding is_free
+held_is_not_free arcs c (Inside x) l h = and_left (has_empty_triangle arcs c) (has_open_base arcs c)
+    (one_fails (clear_at arcs c) x (places 0 arcs) l (or_from (is_place_of c x) (is_clear c.before c.corner.point c.after x.vertex.point) h.0 h.1))
+held_is_not_free arcs c (Across n) l h = and_right (has_empty_triangle arcs c) (has_open_base arcs c)
+    (or_from (same c.before c.after) (list_all (open_at arcs c) (all_neighbours 0 arcs)) h.2
+    (one_fails (open_at arcs c) n (all_neighbours 0 arcs) l (or_from (is_pair_of c n) (not (same_ends (segment c.before c.after) (segment_of n))) h.0
+    (not_from_true (same_ends (segment c.before c.after) (segment_of n)) h.1))))
+
+-- ---- what is left
+
+places_passing : (p : Place → Bool) (k : ℕ) (arcs : List (List Vertex)) → places k (passing p k arcs) ≡ filter p (places k arcs)
+places_passing p k [] = refl
+places_passing p k (vs ∷ arcs) = ap (λ xs. xs ++ places (suc k) (passing p (suc k) arcs)) (sym (filter_map p (place_at k) vs))
+    ∙ ap (λ xs. filter p (map (place_at k) vs) ++ xs) (places_passing p (suc k) arcs) ∙ sym (filter-append p (map (place_at k) vs) (places (suc k) arcs))
+
+place_stays : (arcs : List (List Vertex)) (c : ArcCorner) (x : Place) → In x (places 0 arcs) → is_place_of c x ≡ false → In x (places 0 (left_by arcs c))
+place_stays arcs c x m h = subst (In x) (sym (ap (places 0) (left_passing arcs c) ∙ places_passing (λ y. not (is_place_of c y)) 0 arcs))
+    (in_passed (λ y. not (is_place_of c y)) x (places 0 arcs) (not_from_false (is_place_of c x) h) m)
+
+pair_stays : (arcs : List (List Vertex)) (c : ArcCorner) (n : Neighbours) (r : AreParted arcs c) → is_pair_of c n ≡ false →
+    In n r.front ⊎ In n (neighbours_at c.arc r.a r.p ∷ (neighbours_at c.arc r.p r.d ∷ r.back)) → In n (r.front ++ (neighbours_at c.arc r.a r.d ∷ r.back))
+pair_stays arcs c n r h (inl m) = in_left n r.front (neighbours_at c.arc r.a r.d ∷ r.back) m
+pair_stays arcs c n r h (inr (inl e)) = absurd (both_ways (is_pair_of c n) h (ap (is_pair_of c) e ∙ own_first c r.a r.p r.d r.at))
+pair_stays arcs c n r h (inr (inr (inl e))) = absurd (both_ways (is_pair_of c n) h (ap (is_pair_of c) e ∙ own_second c r.a r.p r.d r.at))
+pair_stays arcs c n r h (inr (inr (inr m))) = in_right n r.front (neighbours_at c.arc r.a r.d ∷ r.back) (inr m)
+
+pub holder_stays : HolderStays
+holder_stays arcs c (Inside x) own k l h = place_stays arcs c x l h
+holder_stays arcs c (Across n) own k l h =
+    let r = each_of (AreParted arcs) (all_corners 0 arcs) c (all_parted arcs own) k in
+    subst (In n) (sym r.is) (pair_stays arcs c n r h (in_append n r.front (neighbours_at c.arc r.a r.p ∷ (neighbours_at c.arc r.p r.d ∷ r.back)) (subst (In n) r.was l)))
+
+pub never_again : NeverAgain
+unfolding keeps_rings
+never_again rings arcs c d h =
+    let f = which_fails (λ refs. not (uses d.arc refs) || is_long (points_of (left_by arcs d)) refs) rings h in
+    let m = or_parts (not (uses d.arc f.one)) (is_long (points_of (left_by arcs d)) f.one) f.fails in
+    one_fails (λ refs. not (uses d.arc refs) || is_long (points_of (left_by (left_by arcs c) d)) refs) f.one rings f.among
+    (or_from (not (uses d.arc f.one)) (is_long (points_of (left_by (left_by arcs c) d)) f.one) m.0
+    (still_short f.one (left_by (left_by arcs c) d) (left_by arcs d) (fewer_left d.arc d.corner.index c.arc c.corner.index arcs) m.1))
+
+-- ---- agendas
+
+-- the corner is ready, or held, or can't go for its rings
+abbrev Covered : Bool → List (List ℤ) → Agenda → List (List Vertex) → ArcCorner → Type 0
+Covered b rings a arcs d = In d a.ready ⊎ (((b ≡ true) × IsHeld a arcs d) ⊎ (keeps_rings rings arcs d ≡ false))
+
+pub cover_law : CoverLaw
+cover_law b rings t arcs c old new own k cov go d m u = on (go.fresh d m)
+  where
+    held : b ≡ true → (h : IsHeld old arcs d) → (goes_with c h.holder ≡ true) ⊎ (goes_with c h.holder ≡ false) → Covered b rings new (left_by arcs c) d
+    held a h (inl e) = inl (go.woken d h.holder m h.waits_on e)
+    held a h (inr e) = inr (inl (a, record { holder = h.holder; waits_on = go.wait_on d h.holder m h.waits_on e; left = holder_stays arcs c h.holder own k h.left e; holds = h.holds }))
+
+    which : In d old.ready ⊎ (((b ≡ true) × IsHeld old arcs d) ⊎ (keeps_rings rings arcs d ≡ false)) → Covered b rings new (left_by arcs c) d
+    which (inl r) = inl (go.stay d m r)
+    which (inr (inl h)) = held h.0 h.1 (cases_Bool (goes_with c h.1.holder))
+    which (inr (inr n)) = inr (inr (never_again rings arcs c d n))
+
+    on : In d (all_corners 0 arcs) ⊎ In d new.ready → Covered b rings new (left_by arcs c) d
+    on (inl o) = which (cov d o u)
+    on (inr r) = inl r
+
+-- one that goes is ready
+goes_ready : (b : Bool) (rings : _) (t : ℕ) (arcs : List (List Vertex)) (a : Agenda) (d : ArcCorner) → IsCovered b rings t a arcs → In d (all_corners 0 arcs) →
+    goes (guarded_by b rings) t arcs d ≡ true → (d.corner.area < t) × In d a.ready
+goes_ready b rings t arcs a d cov m g =
+    let p = and_parts (nat_lt d.corner.area t) (guarded_by b rings arcs d) g in
+    let q = and_parts (not b || is_free arcs d) (keeps_rings rings arcs d) p.1 in
+    let u = ltb-true d.corner.area t p.0 in
+    (u, on (or_cases (not b) (is_free arcs d) q.0) q.1 (cov d m u))
+  where
+    on : (not b ≡ true) ⊎ (is_free arcs d ≡ true) → keeps_rings rings arcs d ≡ true → In d a.ready ⊎ (((b ≡ true) × IsHeld a arcs d) ⊎ (keeps_rings rings arcs d ≡ false)) → In d a.ready
+    on f r (inl k) = k
+    on (inl f) r (inr (inl h)) = absurd (both_ways b (not-true b f) h.0)
+    on (inr f) r (inr (inl h)) = absurd (both_ways (is_free arcs d) (held_is_not_free arcs d h.1.holder h.1.left h.1.holds) f)
+    on f r (inr (inr n)) = absurd (both_ways (keeps_rings rings arcs d) n r)
+
+pub ready_law : ReadyLaw
+ready_law b rings t arcs a c cov k g h =
+    next_law (guarded_by b rings) t arcs c k g (λ d m e. let r = goes_ready b rings t arcs a d cov m e in h d m r.0 r.1)
+
+pub none_ready : NoneReady
+none_ready b rings t arcs a cov h =
+    no_next_law (guarded_by b rings) t arcs (λ d m. false_from_ne_true (goes (guarded_by b rings) t arcs d) (λ e. let r = goes_ready b rings t arcs a d cov m e in h d m r.0 r.1))

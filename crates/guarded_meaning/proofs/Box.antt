@@ -105,7 +105,7 @@ module _ (j k l x y z : ℤ) (e : j *ℤ x +ℤ (k *ℤ y +ℤ l *ℤ z) ≡ pos
 
 -- ---- on a side
 
-lt_denied : (x y : ℤ) → int_lt x y ≡ false → (y ≤ℤ x)
+pub lt_denied : (x y : ℤ) → int_lt x y ≡ false → (y ≤ℤ x)
 lt_denied x y h = omega (arith, ints, h)
 
 le_says : (x y : ℤ) → int_le x y ≡ true → (x ≤ℤ y)
@@ -130,7 +130,7 @@ pub record OnSide (a b q : Point) : Type 0 where
   pub x : ((a.x ≤ℤ q.x) × (q.x ≤ℤ b.x)) ⊎ ((b.x ≤ℤ q.x) × (q.x ≤ℤ a.x))
   pub y : ((a.y ≤ℤ q.y) × (q.y ≤ℤ b.y)) ⊎ ((b.y ≤ℤ q.y) × (q.y ≤ℤ a.y))
 
-on_says : (a b q : Point) → is_on a b q ≡ true → OnSide a b q
+pub on_says : (a b q : Point) → is_on a b q ≡ true → OnSide a b q
 unfolding is_on
 on_says a b q h =
     let m = and_parts (is_flat a b q) (is_between a.x b.x q.x && is_between a.y b.y q.y) h in

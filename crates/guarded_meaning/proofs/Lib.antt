@@ -17,6 +17,7 @@ pub mod Rings
 mod Rows
 pub mod Shares
 pub mod Shorter
+pub mod Sides
 pub mod Signs
 pub mod Step
 pub mod Tests

@@ -1,6 +1,7 @@
 -- What is true of segments and of guarded elimination.
-use Rattle.std.specs.Prelude.{◌≡◌, ◌≢◌, ◌⊎◌, ℕ, ℤ, ◌≤ℤ◌, ◌*◌, ◌≤◌, Bool, true, false, List, [], length, map, Option, None}
+use Rattle.std.specs.Prelude.{◌≡◌, ◌≢◌, ◌⊎◌, ℕ, ℤ, pos, ◌≤ℤ◌, ◌*◌, ◌≤◌, Bool, true, false, List, [], length, map, Option, None}
 use Rattle.std.specs.List.{AllByRecursion}
+use Rattle.geometry.specs.Areas.{cross}
 use Rattle.geometry.specs.Lists.{In}
 use Rattle.geometry.specs.Points.{Point}
 use Rattle.elimination_meaning.specs.Elimination.{reduce, reduced, numbered}
@@ -34,6 +35,14 @@ pub record IsInBox (a p c q : Point) : Type 0 where
 
 abbrev pub BoxLaw : Type 0
 BoxLaw = (a p c q : Point) → in_triangle a p c q ≡ true → IsInBox a p c q
+
+-- of a triangle that turns left what it holds is to the right of no side, and of one that turns right to the left of none
+pub record IsBeyondNone (a p c q : Point) : Type 0 where
+  pub left : (pos 0 ≤ℤ cross a p c) → (pos 0 ≤ℤ cross a p q) × (pos 0 ≤ℤ cross p c q) × (pos 0 ≤ℤ cross c a q)
+  pub right : (cross a p c ≤ℤ pos 0) → (cross a p q ≤ℤ pos 0) × (cross p c q ≤ℤ pos 0) × (cross c a q ≤ℤ pos 0)
+
+abbrev pub SideLaw : Type 0
+SideLaw = (a p c q : Point) → in_triangle a p c q ≡ true → IsBeyondNone a p c q
 
 -- ---- no crossings
 

@@ -1,5 +1,5 @@
 // Laws of the definitions. A function here does nothing: its contract is the law.
-ghost use Rattle.guarded_meaning.specs.Laws.{ArcsRise, BoxLaw, CountedByWeight, CrossingsNeverRise, FewerArcsLaw, HigherKeepsFewer, KeptByWeight, NoCrossingsLaw, NoneGoes, NoneStaysNone, RingsStay, ShareIsGreatest, ShareStays, StepLaw, ThinnedLaw, UnguardedIndexLaw, UnguardedLaw};
+ghost use Rattle.guarded_meaning.specs.Laws.{ArcsRise, BoxLaw, CountedByWeight, CrossingsNeverRise, FewerArcsLaw, HigherKeepsFewer, KeptByWeight, NoCrossingsLaw, NoneGoes, NoneStaysNone, RingsStay, ShareIsGreatest, ShareStays, SideLaw, StepLaw, ThinnedLaw, UnguardedIndexLaw, UnguardedLaw};
 
 /// What the segment in a corner's place meets badly, one of the two before it met badly.
 #[tactic(auto, using(crate::proofs::Step::step_law))]
@@ -11,6 +11,12 @@ pub fn step_law()
 #[tactic(auto, using(crate::proofs::Box::box_law))]
 pub fn box_law()
     ensures { BoxLaw }
+{}
+
+/// What a triangle holds is beyond none of its sides.
+#[tactic(auto, using(crate::proofs::Sides::side_law))]
+pub fn side_law()
+    ensures { SideLaw }
 {}
 
 /// Each two segments of the reduced arcs that meet badly come of two that met badly.

@@ -1,5 +1,5 @@
 -- What joins two positions is at the first.
-use Rattle.std.proofs.Common.{◌≡◌, ℕ, true, List, subst, ◌⊎◌, inl, inr}
+use Rattle.std.proofs.Common.{◌≡◌, ℕ, true, List, sym, subst, ◌⊎◌, inl, inr}
 use Rattle.std.proofs.lemmas.Bool.{and_parts, or_cases}
 use Rattle.geometry.specs.Points.{Point}
 use Rattle.geometry.specs.Rings.{same}
@@ -8,7 +8,7 @@ use Rattle.position_index.specs.declared.query.Corner.{Corner}
 use Rattle.position_index.specs.declared.extent.Extent.{Extent}
 use Rattle.position_index.specs.Extents.{HoldsPoint}
 use Rattle.position_index.specs.Blocking.{is_blocked_by, is_joined_at, joins_ends}
-use Rattle.position_index.specs.Tests.{Reaches, is_held_by}
+use Rattle.position_index.specs.Tests.{Reaches, IsOutside, is_held_by}
 
 at_first : (ps : List Point) (befores afters : List ℕ) (a c : Point) (w z : ℕ) (p : Point) → is_joined_at ps befores afters a c w z p ≡ true → same a p ≡ true
 unfolding is_joined_at
@@ -31,3 +31,10 @@ blocked_reach e ps befores afters c r h = record { holds = λ z p b. by z p (blo
     by : (z : ℕ) (p : Point) → (is_held_by c z p ≡ true) ⊎ (joins_ends ps befores afters c z p ≡ true) → HoldsPoint e p
     by z p (inl k) = r.holds z p k
     by z p (inr j) = subst (λ (q : Point). HoldsPoint e q) (same_is c.before p (joins_at_first ps befores afters c z p j)) h
+
+pub blocked_outside : (e : Extent) (ps : List Point) (befores afters : List ℕ) (c : Corner) → (HoldsPoint e c.before → ⊥) → IsOutside e (is_held_by c) → IsOutside e (is_blocked_by ps befores afters c)
+blocked_outside e ps befores afters c n o = record { fails = λ z p h b. by z p h (blocked_cases ps befores afters c z p b) }
+  where
+    by : (z : ℕ) (p : Point) → HoldsPoint e p → (is_held_by c z p ≡ true) ⊎ (joins_ends ps befores afters c z p ≡ true) → ⊥
+    by z p h (inl k) = o.fails z p h k
+    by z p h (inr k) = n (subst (λ (q : Point). HoldsPoint e q) (sym (same_is c.before p (joins_at_first ps befores afters c z p k))) h)

@@ -7,7 +7,7 @@ use Rattle.guarded_meaning.specs.Triangles.{is_clear, in_triangle}
 use Rattle.position_index.specs.declared.extent.Extent.{Extent}
 use Rattle.position_index.specs.declared.query.Corner.{Corner}
 use Rattle.position_index.specs.Extents.{HoldsPoint}
-use Rattle.position_index.specs.Tests.{Reaches, is_held_by}
+use Rattle.position_index.specs.Tests.{Reaches, IsOutside, is_held_by}
 
 not_clear : (a p c q : Point) → not (is_clear a p c q) ≡ true → in_triangle a p c q ≡ true
 not_clear a p c q h = grind arith
@@ -26,3 +26,7 @@ reaches law e c a p b = record { holds = λ z q h. in_box q (law c.before c.at c
       high_x = i.right e.high_x a.high_x p.high_x b.high_x;
       high_y = i.above e.high_y a.high_y p.high_y b.high_y;
     }
+
+-- a box that holds nothing of the corner's triangle holds none that holds the corner
+pub outside : (e : Extent) (c : Corner) → ((q : Point) → HoldsPoint e q → in_triangle c.before c.at c.after q ≡ true → ⊥) → IsOutside e (is_held_by c)
+outside e c n = record { fails = λ z q h t. n q h (held_in c z q t) }

@@ -5,6 +5,7 @@ ghost use Rattle.position_index.specs.Blocking.{is_blocked_by, is_joined_at, joi
 use crate::extent::{Extent, around};
 use crate::query::{Corner, Query, is_held_by, reach_of};
 use crate::searching::position_of;
+use crate::sides::is_aside;
 use geometry::{Position, is_same};
 
 /// The neighbours of places: the place before each, and the one after it; where there is none, the place itself.
@@ -104,7 +105,7 @@ impl Query for Blocked<'_> {
         reach_of(&self.corner)
     }
 
-    fn may_meet(&self, _e: &Extent) -> bool {
-        true
+    fn may_meet(&self, e: &Extent) -> bool {
+        !is_aside(e, self.corner.before, self.corner.at, self.corner.after)
     }
 }

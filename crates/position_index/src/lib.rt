@@ -1,8 +1,8 @@
 //! An index over positions of which more and more go, which finds one that is left and meets a query: above all one that holds a corner, in its
 //! triangle or by a segment between the ends of its base. It stands on `planar_predicates`, and on `guarded_meaning`, whose guard of no crossings
 //! it decides: `free_law` and `blocked_law` say so of arcs that lists of places show. A layer above would use `PositionIndex::find` with a
-//! `Blocked`. It sorts once, and goes up one path of a tree of boxes for each place that goes; how much of it a search looks through is not
-//! promised.
+//! `Blocked`. It sorts once, and goes up one path of a tree of boxes for each place that goes. A search passes over boxes that lie apart from a
+//! corner's own, or beyond a side of its triangle; how many it looks at is not promised.
 #![tactic(auto)]
 
 mod blocking;
@@ -16,6 +16,7 @@ mod ordering;
 mod query;
 mod refitting;
 mod searching;
+mod sides;
 
 pub use blocking::{Blocked, Joined, Links};
 pub use extent::Extent;

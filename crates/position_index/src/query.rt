@@ -6,6 +6,7 @@ ghost use Rattle.position_index.specs.Tests.{IsOutside, Reaches, is_held_by};
 ghost use Rattle.position_index.specs.Tests as spec;
 
 use crate::extent::{Extent, around, joined};
+use crate::sides::is_aside;
 use geometry::Position;
 use planar_predicates::is_clear;
 
@@ -63,7 +64,7 @@ impl Query for Corner {
         reach_of(self)
     }
 
-    fn may_meet(&self, _e: &Extent) -> bool {
-        true
+    fn may_meet(&self, e: &Extent) -> bool {
+        !is_aside(e, self.before, self.at, self.after)
     }
 }

@@ -22,5 +22,6 @@ pub mod Signs
 pub mod Step
 pub mod Tests
 pub mod Thinned
+pub mod Turned
 pub mod Unguarded
 pub mod Weights

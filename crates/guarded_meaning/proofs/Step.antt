@@ -54,7 +54,7 @@ or_turned : (a b : Bool) → (a || b) ≡ true → (b || a) ≡ true
 or_turned true b h = or_right b true refl
 or_turned false b h = or_left b false h
 
-on_turned : (a b q : Point) → is_on a b q ≡ true → is_on b a q ≡ true
+pub on_turned : (a b q : Point) → is_on a b q ≡ true → is_on b a q ≡ true
 unfolding is_on
 on_turned a b q h =
     let m = and_parts (is_flat a b q) (is_between a.x b.x q.x && is_between a.y b.y q.y) h in

@@ -18,7 +18,7 @@ use Rattle.guarded_meaning.specs.Shares.{count_kept, share, chosen, IsGreatestSh
 use Rattle.guarded_meaning.specs.Triangles.{in_triangle, is_clear}
 use Rattle.guarded_meaning.specs.Weights.{weight, passing, interior_weights, interior_count}
 
--- ---- one corner
+-- ---- one corner and its triangle
 
 -- Where p goes from between a and c, which are two positions, and a segment has no end in their triangle but a and c, and doesn't
 -- join these: what the new segment meets badly, one of the two before it met badly.
@@ -43,6 +43,10 @@ pub record IsBeyondNone (a p c q : Point) : Type 0 where
 
 abbrev pub SideLaw : Type 0
 SideLaw = (a p c q : Point) → in_triangle a p c q ≡ true → IsBeyondNone a p c q
+
+-- it holds the same in either direction
+abbrev pub EitherWay : Type 0
+EitherWay = (a p c q : Point) → in_triangle c p a q ≡ in_triangle a p c q
 
 -- ---- no crossings
 

@@ -1,5 +1,5 @@
 // Laws of the definitions. A function here does nothing: its contract is the law.
-ghost use Rattle.guarded_meaning.specs.Laws.{ArcsRise, BoxLaw, CountedByWeight, CrossingsNeverRise, FewerArcsLaw, HigherKeepsFewer, KeptByWeight, NoCrossingsLaw, NoneGoes, NoneStaysNone, RingsStay, ShareIsGreatest, ShareStays, SideLaw, StepLaw, ThinnedLaw, UnguardedIndexLaw, UnguardedLaw};
+ghost use Rattle.guarded_meaning.specs.Laws.{ArcsRise, BoxLaw, CountedByWeight, CrossingsNeverRise, EitherWay, FewerArcsLaw, HigherKeepsFewer, KeptByWeight, NoCrossingsLaw, NoneGoes, NoneStaysNone, RingsStay, ShareIsGreatest, ShareStays, SideLaw, StepLaw, ThinnedLaw, UnguardedIndexLaw, UnguardedLaw};
 
 /// What the segment in a corner's place meets badly, one of the two before it met badly.
 #[tactic(auto, using(crate::proofs::Step::step_law))]
@@ -11,6 +11,12 @@ pub fn step_law()
 #[tactic(auto, using(crate::proofs::Box::box_law))]
 pub fn box_law()
     ensures { BoxLaw }
+{}
+
+/// A triangle holds the same in either direction.
+#[tactic(auto, using(crate::proofs::Turned::either_way))]
+pub fn either_way()
+    ensures { EitherWay }
 {}
 
 /// What a triangle holds is beyond none of its sides.

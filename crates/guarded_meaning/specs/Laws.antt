@@ -20,8 +20,8 @@ use Rattle.guarded_meaning.specs.Weights.{weight, passing, interior_weights, int
 
 -- ---- one corner and its triangle
 
--- Where p goes from between a and c, which are two positions, and a segment has no end in their triangle but a and c, and doesn't
--- join these: what the new segment meets badly, one of the two before it met badly.
+-- Where p goes from between a and c, and another segment has no end in their triangle but a and c, and doesn't join these: if the new
+-- segment meets it badly, one of the two before it did.
 abbrev pub StepLaw : Type 0
 StepLaw = (a p c : Point) (s : Segment) → is_clear a p c s.from ≡ true → is_clear a p c s.to ≡ true → same_ends (segment a c) s ≡ false →
     meets_badly (segment a c) s ≡ true → (meets_badly (segment a p) s ≡ true) ⊎ (meets_badly (segment p c) s ≡ true)
@@ -50,7 +50,8 @@ EitherWay = (a p c q : Point) → in_triangle c p a q ≡ in_triangle a p c q
 
 -- ---- no crossings
 
--- each two segments of the reduced arcs that meet badly come of two that met badly
+-- Each two segments of the reduced arcs that meet badly come of two that met badly: of the old segments between the ends of the one in
+-- its arc, and the old segments between the ends of the other in its arc, one of each meet badly.
 abbrev pub NoCrossingsLaw : Type 0
 NoCrossingsLaw = (rings : List (List ℤ)) (t : ℕ) (arcs : List (List Point)) (new other : Neighbours) →
     In new (arc_segments (remaining_arcs (guarded_by true rings) t arcs)) → In other (arc_segments (remaining_arcs (guarded_by true rings) t arcs)) → new ≢ other →
@@ -70,7 +71,7 @@ FewerArcsLaw = (few arcs : List (List Point)) → Sublist few arcs → crossings
 
 -- ---- rings that stay
 
--- rings of four positions or more keep as many, whether crossings are asked for or not
+-- rings of four positions or more keep as many, whether crossings are to be avoided or not
 abbrev pub RingsStay : Type 0
 RingsStay = (no_crossings : Bool) (rings : List (List ℤ)) (t : ℕ) (arcs : List (List Point)) →
     AllByRecursion (λ refs. is_long arcs refs ≡ true) rings → AllByRecursion (λ refs. is_long (reduced_arcs (guarded_by no_crossings rings) t arcs) refs ≡ true) rings

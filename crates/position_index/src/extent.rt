@@ -16,7 +16,9 @@ pub struct Extent {
 }
 
 /// A box that holds nothing.
-pub fn empty_extent() -> Extent {
+pub fn empty_extent() -> Extent
+    ensures { (p : Point) → HoldsPoint result p → ⊥ }
+{
     Extent {
         low_x: i64::MAX,
         low_y: i64::MAX,
@@ -27,7 +29,8 @@ pub fn empty_extent() -> Extent {
 
 /// A box that holds nothing, and is in another.
 pub fn empty_within(e: Extent) -> Extent
-    ensures { LiesIn result e }
+    ensures nothing { (p : Point) → HoldsPoint result p → ⊥ }
+    ensures within { LiesIn result e }
 {
     let Extent {
         low_x,

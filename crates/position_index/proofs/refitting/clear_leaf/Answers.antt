@@ -8,7 +8,7 @@ pub loop-node-init : goal.loop-node-init
 loop-node-init c = record {
   within = omega (arith, c.requires.within);
   nested = nested_shrunk c.args.extents.now c.set_extent.new.extents c.args.leaf c.args.leaves c.requires.nested c.set_extent.ensures.others
-      (put_in c.args.extents.now c.set_extent.new.extents c.args.leaf c.empty_within-e.result c.set_extent.ensures.there (subst (λ (x : Extent). LiesIn c.empty_within-e.result x) c.read_extent.ensures c.empty_within-e.ensures)) (λ h. absurd (omega (arith, c.requires.leaf)));
+      (put_in c.args.extents.now c.set_extent.new.extents c.args.leaf c.empty_within-e.result c.set_extent.ensures.there (subst (λ (x : Extent). LiesIn c.empty_within-e.result x) c.read_extent.ensures c.empty_within-e.ensures.within)) (λ h. absurd (omega (arith, c.requires.leaf)));
   others = λ i h n. c.set_extent.ensures.others.same i n;
 }
 

@@ -2,8 +2,8 @@
 //! tests `byte_ends`, `json` tests `decimal_json`, `walking` tests `topojson_decoder` and the walk along arcs that it passes on,
 //! `keeping` tests what `json_cursor` keeps and `json_reading` reads again, `reducing` and `weighing` test
 //! `effective_area`, `sharing` tests what `junctions` and `arc_table` say of their tables, `simplifying` tests `topo_model`,
-//! `counting` tests how often the reducer is called that `mapchain_engine` and `mapchain_engine` are lent, and `unused` tests
-//! calls of `effective_area`, `byte_ends`, `decimal_text`, `effective_area`, `linework` and `topojson_types`.
+//! `counting` tests how often the reducer is called that `mapchain_engine` is lent, and `unused` tests calls of `byte_ends`,
+//! `decimal_text`, `effective_area`, `linework` and `topojson_types`.
 #![tactic(auto)]
 
 #[cfg(test)]

@@ -6,7 +6,7 @@ ghost use Rattle.std.specs.String.{string_bytes};
 use crate::OUT_BUFFER;
 use crate::part_file::{PartFile, Target};
 use byte_ends::{FromRead, Sink, Source, ToWrite};
-use mapchain_cli::{Counts, FileKind, Files};
+use mapchain_cli::{Counts, FileKind, Files, Notes, OwnText};
 use std::fs::File;
 use std::hash::{BuildHasher, RandomState};
 use std::io::{BufWriter, ErrorKind};
@@ -21,6 +21,7 @@ pub(crate) struct System {
     pending: Option<Target>,
     /// The file that an output has replaced last.
     replaced: Option<Target>,
+    notes: Notes<FromRead<File>, ToWrite<BufWriter<PartFile>>>,
 }
 
 impl System {
@@ -31,6 +32,7 @@ impl System {
             counts: Counts::none(),
             pending: None,
             replaced: None,
+            notes: Notes::none(),
         }
     }
 }
@@ -97,7 +99,7 @@ impl Files for System {
     type W = ToWrite<BufWriter<PartFile>>;
 
     // Others write files too, so that the bytes of none are known.
-    ghost state = { λ s. record { contents = λ _. None; counts = s.counts; pending = option_map (λ target. string_bytes target.named) s.pending } };
+    ghost state = { λ s. record { contents = λ _. None; counts = s.counts; pending = option_map (λ target. string_bytes target.named) s.pending; noted = s.notes } };
 
     fn seed(&self) -> u64 {
         match RandomState::new(&self.rt) {
@@ -113,6 +115,14 @@ impl Files for System {
         Some(Source::new(FromRead::new(file)))
     }
 
+    fn done_with(&mut self, source: &Source<FromRead<File>>) {
+        self.notes.note_source(source);
+    }
+
+    fn done_with_all(&mut self, sources: &Vec<(OwnText, Source<FromRead<File>>)>) {
+        self.notes.note_sources(sources);
+    }
+
     fn look(&mut self, path: &str) -> FileKind {
         match &self.replaced {
             Some(target) if target.is_at(&self.rt, path) => FileKind::Other,
@@ -125,10 +135,13 @@ impl Files for System {
         self.counts.count_begin(begun.is_ok());
         let (target, output) = begun.ok()?;
         self.pending = Some(target);
-        Some(Sink::new(ToWrite::new(output)))
+        let output = Sink::new(ToWrite::new(output));
+        self.notes.note_begun(&output);
+        Some(output)
     }
 
     fn keep(&mut self, output: ToWrite<BufWriter<PartFile>>) -> bool {
+        self.notes.note_ended(&output);
         let target = self.pending.take();
         self.replaced = keep(target, output.into_inner());
         let is_kept = self.replaced.is_some();
@@ -137,6 +150,7 @@ impl Files for System {
     }
 
     fn discard(&mut self, output: ToWrite<BufWriter<PartFile>>) {
+        self.notes.note_ended(&output);
         let (_part, _held_back) = output.into_inner().into_parts();
         self.pending = None;
         self.counts.count_discard();

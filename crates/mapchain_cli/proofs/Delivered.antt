@@ -1,5 +1,5 @@
 -- How a request comes out whose output takes the place of a file.
-use Rattle.std.proofs.Common.{◌≡◌, ◌∙◌, ℕ, List, Bool, true, Option, Some, Err, ap, subst, sym}
+use Rattle.std.proofs.Common.{◌≡◌, ◌∙◌, ℕ, List, Bool, Option, Some, Err, ap, refl, subst, sym}
 use Rattle.byte_ends.specs.Ends.{Drained}
 use Rattle.byte_ends.specs.Writes.{Sends, WritesPrefix}
 use Rattle.byte_ends.specs.declared.sink.WriteFault.{WriteFault}
@@ -8,6 +8,7 @@ use Rattle.command_words.specs.declared.request.Request.{Request}
 use Rattle.reports.specs.declared.report.Report.{Report}
 use Rattle.mapchain_cli.specs.Asking.{IsAnswered}
 use Rattle.mapchain_cli.specs.Files.{FileState, Keeps, begun, used}
+use Rattle.mapchain_cli.specs.Notes.{Ended, ended_of}
 use Rattle.mapchain_cli.specs.Outputs.{is_build, unkept}
 use Rattle.mapchain_cli.specs.declared.ending.Ending.{Ending}
 use Rattle.mapchain_cli.proofs.Untouched.{answered}
@@ -20,13 +21,21 @@ same_path : (p path : List ℕ) → Some p ≡ Some path → p ≡ path
 same_path p path e = cc
 
 -- the output that is kept is the one that was begun for this path
-pub kept_for : (path : List ℕ) (taken : Option (List ℕ)) (old new : FileState) → old.pending ≡ Some path → (p : List ℕ) × Keeps p taken old new → Keeps path taken old new
-kept_for path taken old new is (p, k) = subst (λ q. Keeps q taken old new) (same_path p path (sym k.begun ∙ is)) k
+pub kept_for : (path : List ℕ) (ended : Ended) (old new : FileState) → old.pending ≡ Some path → (p : List ℕ) × Keeps p ended old new → Keeps path ended old new
+kept_for path ended old new is (p, k) = subst (λ q. Keeps q ended old new) (same_path p path (sym k.begun ∙ is)) k
+
+-- what the device of an output was when it was given back
+pub same_end : (output : Drained) (taken : Option (List ℕ)) (failures : ℕ) (flushed : Bool) → taken ≡ output.taken → failures ≡ output.failures
+    → flushed ≡ output.flushed → record { taken = taken; failures = failures; flushed = flushed } ≡ ended_of output
+same_end output taken failures flushed a b c =
+    subst (λ t. record { taken = t; failures = failures; flushed = flushed } ≡ ended_of output) (sym a)
+    (subst (λ f. record { taken = output.taken; failures = f; flushed = flushed } ≡ ended_of output) (sym b)
+    (subst (λ f. record { taken = output.taken; failures = output.failures; flushed = f } ≡ ended_of output) (sym c) refl))
 
 -- a request that is done leaves the path for which its output was begun
 pub still_pending : (path : List ℕ) (before opened : FileState) (request : Request) (old new : Drained) (report : Option Report)
-    → IsAnswered (used (begun true path before) opened) request old new report → opened.pending ≡ Some path
-still_pending path before opened request old new report h = (answered (used (begun true path before) opened) request old new report h).pending
+    → IsAnswered (used (begun (Some old) path before) opened) request old new report → opened.pending ≡ Some path
+still_pending path before opened request old new report h = (answered (used (begun (Some old) path before) opened) request old new report h).pending
 
 -- a text that wasn't written and passed on was written in part
 pub prefix_of : (old new : Drained) (count : ℕ) (text : List ℕ) (fault : WriteFault) → Sends old new count text (Err fault) → (sent : ℕ) × WritesPrefix old new count text sent

@@ -4,15 +4,16 @@ use Rattle.std.specs.Option.{option_and_then}
 use Rattle.byte_ends.specs.Ends.{Drained}
 use Rattle.command_words.specs.Asked.{Detail, Ordered, detail, report_of}
 use Rattle.command_words.specs.declared.request.Request.{Request}
-use Rattle.mapchain_cli.specs.Files.{FileState, FileUse, HoldsBut, OnlyReads, begun, discarded, not_kept, used, with_discard, with_keep}
+use Rattle.mapchain_cli.specs.Files.{FileState, FileUse, HoldsBut, begun, discarded, not_kept, used, with_discard, with_keep}
 use Rattle.mapchain_cli.specs.Following.{Follows, IsCarriedOut, IsExplained, IsReported, ReportsTo}
+use Rattle.mapchain_cli.specs.Notes.{ended_of}
 use Rattle.mapchain_cli.specs.Outputs.{IsPerformed, IsSent, Settles, SettlesOne, asked_output, over}
 use Rattle.mapchain_cli.specs.Performing.{ComesOut, Outcome, Streams, status_after}
 use Rattle.mapchain_cli.specs.Runs.{RunsOn}
 use Rattle.mapchain_cli.specs.declared.counts.Counts.{Counts}
 use Rattle.mapchain_cli.specs.declared.counts.OutputCounts.{OutputCounts}
 use Rattle.mapchain_cli.proofs.Statuses.{HasStatus, carried_status}
-use Rattle.mapchain_cli.proofs.Untouched.{answered, opened, refused}
+use Rattle.mapchain_cli.proofs.Untouched.{Stays, answered, opened, refused}
 
 -- no output was tried, or one was settled
 abbrev AtMostOne : FileState → FileState → Type 0
@@ -30,7 +31,7 @@ record Performed (before then : FileState) (outcome : Outcome) : Type 0 where
   pub lost : 0 < status_after outcome → then.contents ≡ before.contents
   pub outputs : AtMostOne before then
 
-only_reads : (before then : FileState) (outcome : Outcome) → OnlyReads (used before then) → Performed before then outcome
+only_reads : (before then : FileState) (outcome : Outcome) → Stays (used before then) → Performed before then outcome
 only_reads before then outcome h = record { lost = λ _. h.contents; outputs = inl h.outputs }
 
 sent : (before then : FileState) (path : List ℕ) (request : Request) (outcome : Outcome) → IsSent (used before then) path request outcome → Performed before then outcome
@@ -99,11 +100,11 @@ reported then after path outcome text old new status (run, is, inl (h, same, exi
     let kept = h.kept in
     record { holds = λ other but. kept.others other but; outputs = inr (inr (inl (true, ap (λ (c : Counts). c.outputs) kept.counted))) }
 reported then after path outcome text old new status (run, is, inr (inl unbegun, printed, exit)) =
-    only_outputs then after (begun false path then) path unbegun refl (inl refl)
+    only_outputs then after (begun None path then) path unbegun refl (inl refl)
 reported then after path outcome text old new status (run, is, inr (inr (inl broken), printed, exit)) =
-    only_outputs then after (discarded (begun true path then)) path broken.away refl (inr (inr refl))
+    only_outputs then after (discarded (ended_of broken.output) (begun (Some broken.fresh) path then)) path broken.away refl (inr (inr refl))
 reported then after path outcome text old new status (run, is, inr (inr (inr held), printed, exit)) =
-    only_outputs then after (not_kept (begun true path then)) path held.away refl (inr (inl (false, refl)))
+    only_outputs then after (not_kept (ended_of held.output) (begun (Some held.fresh) path then)) path held.away refl (inr (inl (false, refl)))
 
 reports_to : (then after : FileState) (report : Option (List ℕ)) (outcome : Outcome) (text : List ℕ) (old new : Drained) (status : ℕ)
     → ReportsTo report (used then after) outcome text old new status → Followed then after report
@@ -135,7 +136,7 @@ pub record FilesSay (files : FileUse) (report : Option (List ℕ)) (status : ℕ
   pub kept : (status ≡ 1) ⊎ (status ≡ 2) → HoldsBut report files.before files.after
   pub settled : Settles files.before.counts.outputs files.after.counts.outputs
 
-still : (files : FileUse) (report : Option (List ℕ)) (status : ℕ) → OnlyReads files → FilesSay files report status
+still : (files : FileUse) (report : Option (List ℕ)) (status : ℕ) → Stays files → FilesSay files report status
 still files report status h = record {
   lost = λ _ _. h.contents;
   kept = λ _. holds_still report files.before files.after h.contents;

@@ -1,6 +1,6 @@
 -- Layers and the sources that their files are opened as.
-use Rattle.std.proofs.Common.{◌≡◌, ℕ, zero, ◌+◌, ◌<◌, List, [], ◌∷◌, ◌++◌, length, map, get_or, take, None, true, false, arith, suc, ◌≤◌, refl, sym, ap, subst, ◌∙◌, Bor}
-use Rattle.std.proofs.lemmas.List.{length-map, map_push, take_more}
+use Rattle.std.proofs.Common.{◌≡◌, ℕ, zero, ◌+◌, ◌<◌, List, [], ◌∷◌, ◌++◌, length, map, get_or, take, drop, append-nil, None, true, false, arith, suc, ◌≤◌, refl, sym, ap, subst, ◌∙◌, Bor}
+use Rattle.std.proofs.lemmas.List.{drop_all, length-map, map_push, take_all, take_more}
 use Rattle.std.proofs.lemmas.Option.{slice_get-get_or, slice_get-map}
 use Rattle.std.specs.Option.{option_map}
 use Rattle.byte_ends.specs.Ends.{Fed}
@@ -26,6 +26,12 @@ names_of_opened contents [] [] h = refl
 names_of_opened contents [] (s ∷ sources) h = absurd h
 names_of_opened contents (l ∷ layers) [] h = absurd h
 names_of_opened contents (l ∷ layers) (s ∷ sources) h = λ i. (h.0 i) ∷ (names_of_opened contents layers sources h.2 i)
+
+-- a vector that was lent as a slice holds what became of that
+pub written_back : {A : Type 0} (n : ℕ) (news items : List A) → n ≡ length items → length news ≡ length items → take n (news ++ drop (length news) items) ≡ news
+written_back n news items all same =
+    ap (λ left. take n (news ++ left)) (drop_all (length news) items (omega (arith, same))) ∙ ap (take n) (append-nil news)
+    ∙ take_all n news (omega (arith, all, same))
 
 -- one more file was opened
 pub once_more : (n : ℕ) (s : FileState) → one_more true (opened_times n s) ≡ opened_times (n + 1) s

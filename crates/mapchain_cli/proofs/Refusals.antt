@@ -9,17 +9,25 @@ use Rattle.mapchain_engine.specs.Building.{IsLateFault}
 use Rattle.mapchain_engine.specs.declared.options.Options.{Options}
 use Rattle.mapchain_cli.specs.Asking.{IsRefused, OpensSome, RefusesBuild}
 use Rattle.mapchain_cli.specs.Endings.{IsUnopened, RefusesLayers}
-use Rattle.mapchain_cli.specs.Files.{AreOpened, FileUse, Layers, Opened, OpensPrefix}
+use Rattle.mapchain_cli.specs.Files.{AreOpened, FileUse, Layers, OpensPrefix, ReadsAll}
 use Rattle.mapchain_cli.specs.declared.ending.Ending.{Ending}
 use Rattle.mapchain_cli.specs.declared.ending.Ending.TheVariants.{Refused, Memory}
 use Rattle.mapchain_cli.proofs.Opened.{names_of_opened}
 
 -- the engine refuses to build
 pub engine_refuses : (files : FileUse) (options : Options) (layers : Layers) (olds news : Sources) (old new : Drained) (e : BuildFault)
-    → AreOpened files.before.contents layers olds → Opened (length layers) files → (name_fault (map (λ s. s.0) olds) ≡ Some e → new ≡ old)
+    → AreOpened files.before.contents layers olds → ReadsAll (length layers) news files → (name_fault (map (λ s. s.0) olds) ≡ Some e → (news ≡ olds) × (new ≡ old))
     → (name_fault (map (λ s. s.0) olds) ≡ Some e) ⊎ IsLateFault options olds news old new e → RefusesLayers files options layers old new e
 engine_refuses files options layers olds news old new e opened once keeps (inl named) =
-    inr (inl (keeps named, once, ap name_fault (sym (names_of_opened files.before.contents layers olds opened)) ∙ named))
+    inr (inl (
+      (keeps named).1,
+      record {
+        sources = news;
+        opened = subst (AreOpened files.before.contents layers) (sym (keeps named).0) opened;
+        each_once = once;
+        fault = ap name_fault (sym (names_of_opened files.before.contents layers olds opened)) ∙ named;
+      },
+    ))
 engine_refuses files options layers olds news old new e opened once keeps (inr late) =
     inr (inr (record { sources_old = olds; sources_new = news; opened = opened; each_once = once; fault = late }))
 

@@ -5,14 +5,21 @@ use Rattle.command_words.specs.declared.request.Request.{Request}
 use Rattle.command_words.specs.declared.request.Request.TheVariants.{Build, Simplify, Geo, Stat}
 use Rattle.inputs.specs.declared.fault.BuildFault.{BuildFault}
 use Rattle.inputs.specs.declared.file_fault.FileFault.{FileFault}
+use Rattle.inputs.specs.Sources.{Sources}
 use Rattle.reports.specs.declared.report.Report.{Report}
 use Rattle.mapchain_engine.specs.declared.options.Options.{Options}
 use Rattle.mapchain_cli.specs.Asking.{IsAnswered, IsRefused, RefusesBuild, RefusesTopology, texts_of}
 use Rattle.mapchain_cli.specs.Endings.{RefusesFile, RefusesLayers}
-use Rattle.mapchain_cli.specs.Files.{FileState, FileUse, Layers, OnlyReads, Opened, RefusedAfter, one_more, opened_times, used}
+use Rattle.mapchain_cli.specs.Files.{FileState, FileUse, Layers, OnlyReads, Opened, ReadsAll, ReadsOne, RefusedAfter, one_more, opened_times, used}
 use Rattle.mapchain_cli.specs.declared.ending.Ending.{Ending}
 use Rattle.mapchain_cli.specs.declared.ending.Ending.TheVariants.{BadArea, BadRingArea, BadShare, Refused, FileRefused, Memory}
 use Rattle.mapchain_cli.proofs.Opened.{times_contents}
+
+-- what the files hold, what became of outputs, and the path of the one that was begun last: all but what is counted and noted of sources
+pub record Stays (files : FileUse) : Type 0 where
+  pub contents : files.after.contents ≡ files.before.contents
+  pub outputs : files.after.counts.outputs ≡ files.before.counts.outputs
+  pub pending : files.after.pending ≡ files.before.pending
 
 times_outputs : (n : ℕ) (s : FileState) → (opened_times n s).counts.outputs ≡ s.counts.outputs
 times_outputs zero s = refl
@@ -22,14 +29,29 @@ times_pending : (n : ℕ) (s : FileState) → (opened_times n s).pending ≡ s.p
 times_pending zero s = refl
 times_pending (suc n) s = times_pending n s
 
-pub opened : (files : FileUse) (n : ℕ) → Opened n files → OnlyReads files
+pub opened : (files : FileUse) (n : ℕ) → Opened n files → Stays files
 opened files n e = record {
   contents = ap (λ (s : FileState). s.contents) e ∙ times_contents n files.before;
   outputs = ap (λ (s : FileState). s.counts.outputs) e ∙ times_outputs n files.before;
   pending = ap (λ (s : FileState). s.pending) e ∙ times_pending n files.before;
 }
 
-following : (files : FileUse) (n : ℕ) → RefusedAfter n files → OnlyReads files
+-- the sources were read
+read_all : (files : FileUse) (n : ℕ) (sources : Sources) → ReadsAll n sources files → Stays files
+read_all files n sources e = record {
+  contents = ap (λ (s : FileState). s.contents) e ∙ times_contents n files.before;
+  outputs = ap (λ (s : FileState). s.counts.outputs) e ∙ times_outputs n files.before;
+  pending = ap (λ (s : FileState). s.pending) e ∙ times_pending n files.before;
+}
+
+read_one : (files : FileUse) (source : Fed) → ReadsOne source files → Stays files
+read_one files source e = record {
+  contents = ap (λ (s : FileState). s.contents) e;
+  outputs = ap (λ (s : FileState). s.counts.outputs) e;
+  pending = ap (λ (s : FileState). s.pending) e;
+}
+
+following : (files : FileUse) (n : ℕ) → RefusedAfter n files → Stays files
 following files n e = record {
   contents = ap (λ (s : FileState). s.contents) e ∙ times_contents n files.before;
   outputs = ap (λ (s : FileState). s.counts.outputs) e ∙ times_outputs n files.before;
@@ -44,6 +66,7 @@ unread before after e = record {
   contents = ap (λ (s : FileState). s.contents) e;
   outputs = ap (λ (s : FileState). s.counts.outputs) e;
   pending = ap (λ (s : FileState). s.pending) e;
+  noted = ap (λ (s : FileState). s.noted) e;
 }
 
 -- one more file was opened, or wasn't
@@ -52,11 +75,13 @@ one_read true before after e = record {
   contents = ap (λ (s : FileState). s.contents) e;
   outputs = ap (λ (s : FileState). s.counts.outputs) e;
   pending = ap (λ (s : FileState). s.pending) e;
+  noted = ap (λ (s : FileState). s.noted) e;
 }
 one_read false before after e = record {
   contents = ap (λ (s : FileState). s.contents) e;
   outputs = ap (λ (s : FileState). s.counts.outputs) e;
   pending = ap (λ (s : FileState). s.pending) e;
+  noted = ap (λ (s : FileState). s.noted) e;
 }
 
 pub reads_on : (before between after : FileState) → OnlyReads (used before between) → OnlyReads (used between after) → OnlyReads (used before after)
@@ -64,51 +89,52 @@ reads_on before between after h k = record {
   contents = k.contents ∙ h.contents;
   outputs = k.outputs ∙ h.outputs;
   pending = k.pending ∙ h.pending;
+  noted = k.noted ∙ h.noted;
 }
 
 -- ---- requests that are done
 
-pub answered : (files : FileUse) (request : Request) (old new : Drained) (report : Option Report) → IsAnswered files request old new report → OnlyReads files
-answered files (Build layers exact grid area keep ring_area) old new (Some report) h = opened files (length (texts_of layers.items)) h.2.each_once
+pub answered : (files : FileUse) (request : Request) (old new : Drained) (report : Option Report) → IsAnswered files request old new report → Stays files
+answered files (Build layers exact grid area keep ring_area) old new (Some report) h = read_all files (length (texts_of layers.items)) h.2.sources_new h.2.each_once
 answered files (Build layers exact grid area keep ring_area) old new None h = absurd h
-answered files (Simplify area ring_area path) old new (Some report) h = opened files 1 h.4.once
+answered files (Simplify area ring_area path) old new (Some report) h = read_one files h.4.source_new h.4.once
 answered files (Simplify area ring_area path) old new None h = absurd h
 answered files (Geo name path) old new (Some report) h = absurd h
-answered files (Geo name path) old new None h = opened files 1 h.once
+answered files (Geo name path) old new None h = read_one files h.source_new h.once
 answered files (Stat path) old new (Some report) h = absurd h
-answered files (Stat path) old new None h = opened files 1 h.once
+answered files (Stat path) old new None h = read_one files h.source_new h.once
 
 -- ---- requests that aren't
 
-layers_refused : (files : FileUse) (o : Options) (layers : Layers) (old new : Drained) (e : BuildFault) → RefusesLayers files o layers old new e → OnlyReads files
+layers_refused : (files : FileUse) (o : Options) (layers : Layers) (old new : Drained) (e : BuildFault) → RefusesLayers files o layers old new e → Stays files
 layers_refused files o layers old new e (inl h) = following files h.1.0 h.1.4
-layers_refused files o layers old new e (inr (inl h)) = opened files (length layers) h.1
-layers_refused files o layers old new e (inr (inr h)) = opened files (length layers) h.each_once
+layers_refused files o layers old new e (inr (inl h)) = read_all files (length layers) h.1.sources h.1.each_once
+layers_refused files o layers old new e (inr (inr h)) = read_all files (length layers) h.sources_new h.each_once
 
-build_refused : (files : FileUse) (request : Request) (old new : Drained) (e : BuildFault) → RefusesBuild files request old new e → OnlyReads files
+build_refused : (files : FileUse) (request : Request) (old new : Drained) (e : BuildFault) → RefusesBuild files request old new e → Stays files
 build_refused files (Build layers exact grid area keep ring_area) old new e h = layers_refused files h.0 _ old new e h.2
 build_refused files (Simplify area ring_area path) old new e h = absurd h
 build_refused files (Geo name path) old new e h = absurd h
 build_refused files (Stat path) old new e h = absurd h
 
 file_refused : (files : FileUse) (path : _) (old new : Drained) (Fails : Fed → Fed → FileFault → Type 0) (e : FileFault) → RefusesFile files path old new Fails e
-    → OnlyReads files
+    → Stays files
 file_refused files path old new Fails e (inl h) = following files 0 h.2
-file_refused files path old new Fails e (inr h) = opened files 1 h.once
+file_refused files path old new Fails e (inr h) = read_one files h.source_new h.once
 
-topology_refused : (files : FileUse) (request : Request) (old new : Drained) (e : FileFault) → RefusesTopology files request old new e → OnlyReads files
+topology_refused : (files : FileUse) (request : Request) (old new : Drained) (e : FileFault) → RefusesTopology files request old new e → Stays files
 topology_refused files (Build layers exact grid area keep ring_area) old new e h = absurd h
 topology_refused files (Simplify area ring_area path) old new e h = file_refused files path.now old new _ e h.4
 topology_refused files (Geo name path) old new e h = file_refused files path.now old new _ e h
 topology_refused files (Stat path) old new e h = file_refused files path.now old new _ e h
 
-memory_refused : (files : FileUse) (request : Request) (old new : Drained) → IsRefused files request old new Memory → OnlyReads files
+memory_refused : (files : FileUse) (request : Request) (old new : Drained) → IsRefused files request old new Memory → Stays files
 memory_refused files (Build layers exact grid area keep ring_area) old new h = opened files h.1.0 h.1.2
 memory_refused files (Simplify area ring_area path) old new h = opened files 0 h.1
 memory_refused files (Geo name path) old new h = opened files 0 h.1
 memory_refused files (Stat path) old new h = opened files 0 h.1
 
-pub refused : (files : FileUse) (request : Request) (old new : Drained) (ending : Ending) → IsRefused files request old new ending → OnlyReads files
+pub refused : (files : FileUse) (request : Request) (old new : Drained) (ending : Ending) → IsRefused files request old new ending → Stays files
 refused files request old new BadArea h = opened files 0 h.1
 refused files request old new BadRingArea h = opened files 0 h.1
 refused files request old new BadShare h = opened files 0 h.1

@@ -17,7 +17,7 @@ use Rattle.mapchain_engine.specs.declared.options.Options.{Options}
 use Rattle.mapchain_engine.specs.Files.{FailsToGive, IsSummarised}
 use Rattle.mapchain_engine.specs.Geo.{IsDecoded}
 use Rattle.mapchain_engine.specs.Simplified.{IsSimplified}
-use Rattle.mapchain_cli.specs.Files.{AreOpened, FileUse, IsOpened, Layers, Opened, RefusedAfter}
+use Rattle.mapchain_cli.specs.Files.{AreOpened, FileUse, IsOpened, Layers, ReadsAll, ReadsOne, RefusedAfter}
 
 -- ---- what is written
 
@@ -26,7 +26,7 @@ pub record BuildsOf (files : FileUse) (options : Options) (layers : Layers) (old
   pub sources_old : Sources
   pub sources_new : Sources
   pub opened : AreOpened files.before.contents layers sources_old
-  pub each_once : Opened (length layers) files
+  pub each_once : ReadsAll (length layers) sources_new files
   pub built : IsBuilt options sources_old sources_new old new report
 
 -- what is left of the topology of the file of this path was written, where it is reduced at this threshold, without rings under this
@@ -35,7 +35,7 @@ pub record SimplifiesOf (files : FileUse) (threshold ring_limit : ℕ) (path : L
   pub source_old : Fed
   pub source_new : Fed
   pub opened : IsOpened files.before.contents path source_old
-  pub once : Opened 1 files
+  pub once : ReadsOne source_new files
   pub simplified : IsSimplified threshold ring_limit source_old source_new old new report
 
 -- the text of the features of an object of this name was written, of the topology of the file of this path
@@ -43,7 +43,7 @@ pub record DecodesOf (files : FileUse) (name path : List ℕ) (old new : Drained
   pub source_old : Fed
   pub source_new : Fed
   pub opened : IsOpened files.before.contents path source_old
-  pub once : Opened 1 files
+  pub once : ReadsOne source_new files
   pub sent : ℕ
   pub decoded : IsDecoded name source_old source_new old new sent
 
@@ -56,7 +56,7 @@ pub record Summarises (files : FileUse) (path : List ℕ) (old new : Drained) : 
   pub source_old : Fed
   pub source_new : Fed
   pub opened : IsOpened files.before.contents path source_old
-  pub once : Opened 1 files
+  pub once : ReadsOne source_new files
   pub summary : Summary
   pub reported : IsSummarised source_old source_new summary
   pub sent : SendsSummary old new summary
@@ -69,26 +69,33 @@ abbrev pub IsUnopened : FileUse → Layers → BuildFault → Type 0
 IsUnopened files layers e =
     (i : ℕ) × (layer : List ℕ × List ℕ) × (slice_get layers i ≡ Some layer) × (files.before.contents layer.1 ≡ None) × RefusedAfter i files × (e ≡ Read i read.Read)
 
+-- a name is refused: each layer's source was opened as the file of its path, and none was read
+pub record IsMisnamed (files : FileUse) (layers : Layers) (e : BuildFault) : Type 0 where
+  pub sources : Sources
+  pub opened : AreOpened files.before.contents layers sources
+  pub each_once : ReadsAll (length layers) sources files
+  pub fault : name_fault (map (λ l. l.0) layers) ≡ Some e
+
 -- a layer's source is refused, each opened as the file of its path, or the device failed
 pub record IsRefusedLate (files : FileUse) (options : Options) (layers : Layers) (old new : Drained) (e : BuildFault) : Type 0 where
   pub sources_old : Sources
   pub sources_new : Sources
   pub opened : AreOpened files.before.contents layers sources_old
-  pub each_once : Opened (length layers) files
+  pub each_once : ReadsAll (length layers) sources_new files
   pub fault : IsLateFault options sources_old sources_new old new e
 
 -- why the topology of these layers isn't built: a file can't be opened, or all were and a name is refused, or what was read is
 abbrev pub RefusesLayers : FileUse → Options → Layers → Drained → Drained → BuildFault → Type 0
 RefusesLayers files options layers old new e =
     ((new ≡ old) × IsUnopened files layers e)
-    ⊎ (((new ≡ old) × Opened (length layers) files × (name_fault (map (λ l. l.0) layers) ≡ Some e)) ⊎ IsRefusedLate files options layers old new e)
+    ⊎ (((new ≡ old) × IsMisnamed files layers e) ⊎ IsRefusedLate files options layers old new e)
 
 -- the source that is opened as the file of this path has this fault
 pub record IsRefusedFile (files : FileUse) (path : List ℕ) (Fails : Fed → Fed → FileFault → Type 0) (e : FileFault) : Type 0 where
   pub source_old : Fed
   pub source_new : Fed
   pub opened : IsOpened files.before.contents path source_old
-  pub once : Opened 1 files
+  pub once : ReadsOne source_new files
   pub fault : Fails source_old source_new e
 
 -- why the file of a topology of this path isn't used: it can't be opened, or isn't known, or what was read has this fault

@@ -2,6 +2,7 @@
 use Rattle.std.specs.Prelude.{◌≡◌, ◌≢◌, ℕ, zero, suc, ◌+◌, ◌≤◌, Bool, true, false, List, [], ◌∷◌, Option, Some, None, IfSome}
 use Rattle.byte_ends.specs.Ends.{Drained, Fed, saturated}
 use Rattle.inputs.specs.Sources.{Sources}
+use Rattle.mapchain_cli.specs.Notes.{Ended, Noted, with_ended, with_fresh, with_source, with_sources}
 use Rattle.mapchain_cli.specs.declared.counts.Counts.{Counts}
 use Rattle.mapchain_cli.specs.declared.counts.OutputCounts.{OutputCounts}
 
@@ -15,6 +16,8 @@ pub record FileState : Type 0 where
   pub counts : Counts
   -- the path of the output that was begun last, unless it was kept or taken away
   pub pending : Option (List ℕ)
+  -- what its last outputs and sources were
+  pub noted : Noted
 
 -- ---- files that are read
 
@@ -69,6 +72,24 @@ RefusedAfter n files = files.after ≡ one_more false (opened_times n files.befo
 abbrev pub OpensPrefix : ℕ → FileUse → Type 0
 OpensPrefix most files = (n : ℕ) × (n ≤ most) × Opened n files
 
+-- ---- what sources were when they had been read
+
+-- the run is done with the source of a topology
+abbrev pub done_with : Fed → FileState → FileState
+done_with source s = record s { noted = with_source source s.noted }
+
+-- the run is done with the sources of layers
+abbrev pub done_with_all : Sources → FileState → FileState
+done_with_all sources s = record s { noted = with_sources sources s.noted }
+
+-- one file was opened, none was refused, its source was this in the end, and nothing else was done
+abbrev pub ReadsOne : Fed → FileUse → Type 0
+ReadsOne source files = files.after ≡ done_with source (opened_times 1 files.before)
+
+-- so many files were opened, none was refused, their sources were these in the end, and nothing else was done
+abbrev pub ReadsAll : ℕ → Sources → FileUse → Type 0
+ReadsAll n sources files = files.after ≡ done_with_all sources (opened_times n files.before)
+
 -- ---- outputs that take the place of a file
 
 -- nothing was written to the output, and no call of it has failed
@@ -98,27 +119,28 @@ with_discard c = record c { discarded = saturated (c.discarded + 1) }
 abbrev pub in_outputs : (OutputCounts → OutputCounts) → Counts → Counts
 in_outputs more c = record c { outputs = more c.outputs }
 
--- an output that is to take the place of the file of this path is begun, or it was tried
-abbrev pub begun : Bool → List ℕ → FileState → FileState
-begun true path s = record s { counts = in_outputs (with_begin true) s.counts; pending = Some path }
-begun false path s = record s { counts = in_outputs (with_begin false) s.counts }
+-- an output that is to take the place of the file of this path is begun, and this is what it is, or it was tried
+abbrev pub begun : Option Drained → List ℕ → FileState → FileState
+begun (Some fresh) path s = record s { counts = in_outputs (with_begin true) s.counts; pending = Some path; noted = with_fresh fresh s.noted }
+begun None path s = record s { counts = in_outputs (with_begin false) s.counts }
 
--- an output that wasn't to be kept was taken away
-abbrev pub discarded : FileState → FileState
-discarded s = record s { counts = in_outputs with_discard s.counts; pending = None }
+-- an output that wasn't to be kept was taken away, when its device was this
+abbrev pub discarded : Ended → FileState → FileState
+discarded ended s = record s { counts = in_outputs with_discard s.counts; pending = None; noted = with_ended ended s.noted }
 
--- an output couldn't take the place of a file, and was taken away
-abbrev pub not_kept : FileState → FileState
-not_kept s = record s { counts = in_outputs (with_keep false) s.counts; pending = None }
+-- an output whose device was this couldn't take the place of a file, and was taken away
+abbrev pub not_kept : Ended → FileState → FileState
+not_kept ended s = record s { counts = in_outputs (with_keep false) s.counts; pending = None; noted = with_ended ended s.noted }
 
--- the file of this path, for which an output was begun last, holds all that the output took, where that is known; no other file changes, and
--- that is counted
-pub record Keeps (path : List ℕ) (taken : Option (List ℕ)) (old new : FileState) : Type 0 where
+-- the file of this path, for which an output was begun last, holds all that the output took, where that is known, whose device was this; no
+-- other file changes, and that is counted
+pub record Keeps (path : List ℕ) (ended : Ended) (old new : FileState) : Type 0 where
   pub begun : old.pending ≡ Some path
-  pub holds : IfSome (new.contents path) (λ bytes. taken ≡ Some bytes)
+  pub holds : IfSome (new.contents path) (λ bytes. ended.taken ≡ Some bytes)
   pub others : (other : List ℕ) → other ≢ path → new.contents other ≡ old.contents other
   pub counted : new.counts ≡ in_outputs (with_keep true) old.counts
   pub settled : new.pending ≡ None
+  pub noted : new.noted ≡ with_ended ended old.noted
 
 -- every file holds what it held, but perhaps that of this path, if there is one
 abbrev pub HoldsBut : Option (List ℕ) → FileState → FileState → Type 0
@@ -132,3 +154,4 @@ pub record OnlyReads (files : FileUse) : Type 0 where
   pub contents : files.after.contents ≡ files.before.contents
   pub outputs : files.after.counts.outputs ≡ files.before.counts.outputs
   pub pending : files.after.pending ≡ files.before.pending
+  pub noted : files.after.noted ≡ files.before.noted

@@ -13,6 +13,7 @@ use Rattle.reports.specs.declared.run_report.RunFault.{RunFault}
 use Rattle.reports.specs.declared.run_report.RunFault.TheVariants as fault
 use Rattle.reports.specs.declared.run_report.RunReport.{RunReport}
 use Rattle.mapchain_cli.specs.Files.{FileState, FileUse, IsFresh, Keeps, OnlyReads, begun, discarded, not_kept, used}
+use Rattle.mapchain_cli.specs.Notes.{ended_of}
 use Rattle.mapchain_cli.specs.Outputs.{IsPerformed}
 use Rattle.mapchain_cli.specs.Performing.{Outcome, Streams, status_after, printed_text}
 use Rattle.mapchain_cli.specs.declared.ending.Ending.{Ending}
@@ -56,7 +57,8 @@ pub record PutsReport (files : FileUse) (path : List ℕ) (run : RunReport) : Ty
   pub output : Drained
   pub sent : ℕ
   pub whole : WritesAll fresh output 0 (run_text run) sent
-  pub kept : Keeps path output.taken (begun true path files.before) files.after
+  pub flushed : output.flushed ≡ true
+  pub kept : Keeps path (ended_of output) (begun (Some fresh) path files.before) files.after
 
 -- the device of its output failed, which was taken away
 pub record IsBroken (files : FileUse) (path : List ℕ) (run : RunReport) : Type 0 where
@@ -65,7 +67,7 @@ pub record IsBroken (files : FileUse) (path : List ℕ) (run : RunReport) : Type
   pub output : Drained
   pub sent : ℕ
   pub prefix : WritesPrefix fresh output 0 (run_text run) sent
-  pub away : files.after ≡ discarded (begun true path files.before)
+  pub away : files.after ≡ discarded (ended_of output) (begun (Some fresh) path files.before)
 
 -- the output of the run's report took it, and couldn't take the place of the file
 pub record IsHeld (files : FileUse) (path : List ℕ) (run : RunReport) : Type 0 where
@@ -74,11 +76,11 @@ pub record IsHeld (files : FileUse) (path : List ℕ) (run : RunReport) : Type 0
   pub output : Drained
   pub sent : ℕ
   pub whole : WritesAll fresh output 0 (run_text run) sent
-  pub away : files.after ≡ not_kept (begun true path files.before)
+  pub away : files.after ≡ not_kept (ended_of output) (begun (Some fresh) path files.before)
 
 -- it couldn't be written: its output couldn't be begun, or one of these
 abbrev pub IsUnwritten : FileUse → List ℕ → RunReport → Type 0
-IsUnwritten files path run = (files.after ≡ begun false path files.before) ⊎ (IsBroken files path run ⊎ IsHeld files path run)
+IsUnwritten files path run = (files.after ≡ begun None path files.before) ⊎ (IsBroken files path run ⊎ IsHeld files path run)
 
 -- the line of a report that couldn't be written
 abbrev pub no_report : List ℕ

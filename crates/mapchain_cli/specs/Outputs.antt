@@ -9,6 +9,7 @@ use Rattle.inputs.specs.declared.file_fault.FileFault.TheVariants as file
 use Rattle.reports.specs.declared.report.Report.{Report}
 use Rattle.mapchain_cli.specs.Asking.{IsAnswered, IsRefused}
 use Rattle.mapchain_cli.specs.Files.{FileState, FileUse, IsFresh, Keeps, begun, discarded, not_kept, used, with_begin, with_discard, with_keep}
+use Rattle.mapchain_cli.specs.Notes.{ended_of}
 use Rattle.mapchain_cli.specs.Performing.{ComesOut, Outcome}
 use Rattle.mapchain_cli.specs.declared.counts.OutputCounts.{OutputCounts}
 use Rattle.mapchain_cli.specs.declared.ending.Ending.{Ending}
@@ -34,14 +35,14 @@ pub record Begins (path : List ℕ) (before : FileState) : Type 0 where
   pub opened : FileState
 
 abbrev pub over : (path : List ℕ) (before : FileState) → Begins path before → FileUse
-over path before b = used (begun true path before) b.opened
+over path before b = used (begun (Some b.fresh) path before) b.opened
 
 -- the request is done over the output, which is kept as the file of this path
 pub record IsDelivered (files : FileUse) (path : List ℕ) (request : Request) (outcome : Outcome) : Type 0 where
   pub begins : Begins path files.before
   pub report : Option Report
   pub answered : IsAnswered (over path files.before begins) request begins.fresh begins.output report
-  pub kept : Keeps path begins.output.taken begins.opened files.after
+  pub kept : Keeps path (ended_of begins.output) begins.opened files.after
   pub done : outcome ≡ Ok report
 
 -- the request isn't done over the output, which is taken away; nothing else changes
@@ -49,7 +50,7 @@ pub record IsAbandoned (files : FileUse) (path : List ℕ) (request : Request) (
   pub begins : Begins path files.before
   pub ending : Ending
   pub why : IsRefused (over path files.before begins) request begins.fresh begins.output ending
-  pub away : files.after ≡ discarded begins.opened
+  pub away : files.after ≡ discarded (ended_of begins.output) begins.opened
   pub refused : outcome ≡ Err ending
 
 -- it is done over the output, which can't take the place of the file; nothing else changes
@@ -57,12 +58,12 @@ pub record IsUnkept (files : FileUse) (path : List ℕ) (request : Request) (out
   pub begins : Begins path files.before
   pub report : Option Report
   pub answered : IsAnswered (over path files.before begins) request begins.fresh begins.output report
-  pub away : files.after ≡ not_kept begins.opened
+  pub away : files.after ≡ not_kept (ended_of begins.output) begins.opened
   pub refused : outcome ≡ Err (unkept (is_build request) begins.output.sent)
 
 -- the output can't be begun; nothing else changes
 abbrev pub IsUnbegun : FileUse → List ℕ → Request → Outcome → Type 0
-IsUnbegun files path request outcome = (files.after ≡ begun false path files.before) × (outcome ≡ Err (unkept (is_build request) 0))
+IsUnbegun files path request outcome = (files.after ≡ begun None path files.before) × (outcome ≡ Err (unkept (is_build request) 0))
 
 -- how a request comes out whose output is to take the place of the file of this path
 abbrev pub IsSent : FileUse → List ℕ → Request → Outcome → Type 0

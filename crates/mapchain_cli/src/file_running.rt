@@ -44,7 +44,9 @@ pub(crate) fn decode_object<F: Files, V: Drain>(
         (λ s u. IsGeoFault name.now s u out.old out.new) e) }
 {
     let mut source = open_file(path, files)?;
-    to_geo(alloc, &mut source, name, out)?;
+    let decoded = to_geo(alloc, &mut source, name, out);
+    files.done_with(&source);
+    decoded?;
     Ok(())
 }
 
@@ -66,7 +68,9 @@ pub(crate) fn simplify_file<F: Files, V: Drain>(
         (λ s u. IsSimplifyFault threshold ring_limit s u out.old out.new) e) }
 {
     let mut source = open_file(path, files)?;
-    let report = simplify(alloc, reducer, &mut source, threshold, ring_limit, out)?;
+    let simplified = simplify(alloc, reducer, &mut source, threshold, ring_limit, out);
+    files.done_with(&source);
+    let report = simplified?;
     Ok(report)
 }
 
@@ -90,7 +94,9 @@ pub(crate) fn summarise<F: Files, V: Drain>(
     ensures refused { IfErr result (λ e. RefusesFile (used (F.state files.old) (F.state files.new)) path.now out.old out.new (IsSummaryFault out.old out.new) e) }
 {
     let mut source = open_file(path, files)?;
-    let summary = stat(alloc, &mut source)?;
+    let summarised = stat(alloc, &mut source);
+    files.done_with(&source);
+    let summary = summarised?;
     send_summary(&summary, out)?;
     Ok(())
 }

@@ -74,7 +74,9 @@ fn build_layers<F: Files, V: Drain>(
         × RefusesLayers (used (F.state files.old) (F.state files.new)) options.now (texts_of layers.now) out.old out.new fault)) }
 {
     let mut sources = open_layers(alloc, layers, files)?;
-    let report = build(alloc, reducer, sources.as_mut_slice(), options, out)?;
+    let built = build(alloc, reducer, sources.as_mut_slice(), options, out);
+    files.done_with_all(&sources);
+    let report = built?;
     Ok(report)
 }
 

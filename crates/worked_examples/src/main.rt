@@ -28,7 +28,7 @@ use crate::page::try_page;
 use crate::program::{Ended, Program, Streams};
 use byte_ends::devices::{CutReader, CutWriter};
 use byte_ends::{FromRead, Sink, Source, ToWrite};
-use mapchain_cli::{Counts, FileKind, command};
+use mapchain_cli::{Counts, FileKind, Notes, OwnText, command};
 use std::alloc::{AllocGlobal, Global};
 use std::fs::Files;
 use std::{fs, io};
@@ -41,6 +41,7 @@ struct PageFiles<'a> {
     counts: Counts,
     /// The path of the output that was begun last, unless it was kept or taken away.
     pending: Option<String>,
+    notes: Notes<FromRead<CutReader<'a>>, ToWrite<CutWriter>>,
 }
 
 impl<'a> PageFiles<'a> {
@@ -51,6 +52,7 @@ impl<'a> PageFiles<'a> {
         ensures same { lent self.new.files ≡ lent self.old.files }
         ensures counts { self.new.counts ≡ self.old.counts }
         ensures pending { self.new.pending ≡ self.old.pending }
+        ensures notes { self.new.notes ≡ self.old.notes }
     {
         let name = String::from_str(self.alloc, path).ok()?;
         let output = self.files.begin()?;
@@ -63,7 +65,7 @@ impl<'a> mapchain_cli::Files for PageFiles<'a> {
 
     type W = ToWrite<CutWriter>;
 
-    ghost state = { λ s. record { contents = lent s.files; counts = s.counts; pending = option_map string_bytes s.pending } };
+    ghost state = { λ s. record { contents = lent s.files; counts = s.counts; pending = option_map string_bytes s.pending; noted = s.notes } };
 
     fn seed(&self) -> u64 {
         self.files.seed()
@@ -73,6 +75,14 @@ impl<'a> mapchain_cli::Files for PageFiles<'a> {
         let opened = self.files.open(path);
         self.counts.count_open(opened.is_some());
         opened
+    }
+
+    fn done_with(&mut self, source: &Source<FromRead<CutReader<'a>>>) {
+        self.notes.note_source(source);
+    }
+
+    fn done_with_all(&mut self, sources: &Vec<(OwnText, Source<FromRead<CutReader<'a>>>)>) {
+        self.notes.note_sources(sources);
     }
 
     fn look(&mut self, path: &str) -> FileKind {
@@ -90,10 +100,12 @@ impl<'a> mapchain_cli::Files for PageFiles<'a> {
         self.counts.count_begin(begun.is_some());
         let (name, output) = begun?;
         self.pending = Some(name);
+        self.notes.note_begun(&output);
         Some(output)
     }
 
     fn keep(&mut self, output: ToWrite<CutWriter>) -> bool {
+        self.notes.note_ended(&output);
         let Some(path) = self.pending.take() else {
             self.files.discard(output);
             self.counts.count_keep(false);
@@ -105,6 +117,7 @@ impl<'a> mapchain_cli::Files for PageFiles<'a> {
     }
 
     fn discard(&mut self, output: ToWrite<CutWriter>) {
+        self.notes.note_ended(&output);
         self.pending = None;
         self.files.discard(output);
         self.counts.count_discard();
@@ -127,6 +140,7 @@ impl Program for Mapchain {
             files,
             counts: Counts::none(),
             pending: None,
+            notes: Notes::none(),
         };
         let status = command(
             alloc,

@@ -5,10 +5,12 @@ use Rattle.byte_ends.specs.Writes.{Sends, WritesPrefix}
 use Rattle.byte_ends.specs.declared.sink.WriteFault.{WriteFault}
 use Rattle.byte_ends.specs.declared.sink.WriteFault.TheVariants.{Write}
 use Rattle.command_words.specs.declared.request.Request.{Request}
+use Rattle.command_words.specs.declared.request.Request.TheVariants.{Build, Simplify, Geo, Stat}
+use Rattle.effective_area.specs.Calls.{Call}
 use Rattle.reports.specs.declared.report.Report.{Report}
-use Rattle.mapchain_cli.specs.Asking.{IsAnswered}
+use Rattle.mapchain_cli.specs.Asking.{CallsFor, IsAnswered}
 use Rattle.mapchain_cli.specs.Files.{FileState, Keeps, begun, used}
-use Rattle.mapchain_cli.specs.Notes.{Ended, ended_of}
+use Rattle.mapchain_cli.specs.Notes.{Ended, Noted, ended_of, with_ended}
 use Rattle.mapchain_cli.specs.Outputs.{is_build, unkept}
 use Rattle.mapchain_cli.specs.declared.ending.Ending.{Ending}
 use Rattle.mapchain_cli.proofs.Untouched.{answered}
@@ -40,3 +42,13 @@ still_pending path before opened request old new report h = (answered (used (beg
 -- a text that wasn't written and passed on was written in part
 pub prefix_of : (old new : Drained) (count : ℕ) (text : List ℕ) (fault : WriteFault) → Sends old new count text (Err fault) → (sent : ℕ) × WritesPrefix old new count text sent
 prefix_of old new count text (Write sent) h = (sent, h)
+
+-- what a reducer was asked for stays so where the output is kept, and what was known before it was begun is known of
+pub kept_calls : (path : List ℕ) (fresh : Drained) (ended : Ended) (before opened after : FileState) (request : Request) (asked calls : List Call)
+    → after.noted ≡ with_ended ended opened.noted → CallsFor (used (begun (Some fresh) path before) opened) request asked calls → CallsFor (used before after) request asked calls
+kept_calls path fresh ended before opened after (Build layers exact grid area keep ring_area) asked calls noted (options, olds, news, fits, opens, are, called) =
+    (options, olds, news, fits, opens, ap (λ (n : Noted). n.sources) noted ∙ are, called)
+kept_calls path fresh ended before opened after (Simplify area ring_area path2) asked calls noted (t, old, new, fits, opens, is, called) =
+    (t, old, new, fits, opens, ap (λ (n : Noted). n.source) noted ∙ is, called)
+kept_calls path fresh ended before opened after (Geo name path2) asked calls noted h = h
+kept_calls path fresh ended before opened after (Stat path2) asked calls noted h = h

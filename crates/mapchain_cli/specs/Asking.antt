@@ -21,7 +21,7 @@ use Rattle.mapchain_engine.specs.Simplified.{CallsForTopology, IsSimplifyFault}
 use Rattle.mapchain_cli.specs.declared.ending.Ending.{Ending}
 use Rattle.mapchain_cli.specs.declared.ending.Ending.TheVariants.{BadArea, BadRingArea, BadShare, Refused, FileRefused, Memory}
 use Rattle.mapchain_cli.specs.Endings.{BuildsOf, DecodesOf, IsSummaryFault, RefusesFile, RefusesLayers, SimplifiesOf, Summarises}
-use Rattle.mapchain_cli.specs.Files.{AreOpened, Contents, FileUse, IsOpened, Layers, Opened, OpensPrefix}
+use Rattle.mapchain_cli.specs.Files.{AreOpened, FileUse, IsOpened, Layers, Opened, OpensPrefix}
 
 -- the names of layers and the paths of their files
 abbrev pub texts_of : List (Bor (List ℕ) × Bor (List ℕ)) → Layers
@@ -93,15 +93,16 @@ abbrev pub OpensSome : FileUse → Request → Type 0
 OpensSome files (Build layers exact grid area keep ring_area) = OpensPrefix (length (texts_of layers.items)) files
 OpensSome files request = Opened 0 files
 
--- a reducer that was asked for so much before was asked for this since: to reduce each arc of the layers, or of the topology that is simplified, at
--- the threshold of the area, and for nothing else
-abbrev pub CallsFor : Contents → Request → List Call → List Call → Type 0
-CallsFor contents (Build layers exact grid area keep ring_area) before after =
+-- a reducer that was asked for so much before was asked for this since: to reduce each arc of the layers, or of the topology that is simplified, as
+-- the sources that are noted were read, at the threshold of the area, and for nothing else
+abbrev pub CallsFor : FileUse → Request → List Call → List Call → Type 0
+CallsFor files (Build layers exact grid area keep ring_area) before after =
     (options : Options) × (olds : Sources) × (news : Sources) × IsAskedFor exact grid area.now keep ring_area.now options
-    × AreOpened contents (texts_of layers.items) olds × CallsForLayers options olds news before after
-CallsFor contents (Simplify area ring_area path) before after =
-    (t : ℕ) × (old : Fed) × (new : Fed) × (threshold_of area.now ≡ Some t) × IsOpened contents path.now old × CallsForTopology t old new before after
-CallsFor contents request before after = after ≡ before
+    × AreOpened files.before.contents (texts_of layers.items) olds × (files.after.noted.sources ≡ Some news) × CallsForLayers options olds news before after
+CallsFor files (Simplify area ring_area path) before after =
+    (t : ℕ) × (old : Fed) × (new : Fed) × (threshold_of area.now ≡ Some t) × IsOpened files.before.contents path.now old
+    × (files.after.noted.source ≡ Some new) × CallsForTopology t old new before after
+CallsFor files request before after = after ≡ before
 
 -- why what was asked for isn't done
 abbrev pub IsRefused : FileUse → Request → Drained → Drained → Ending → Type 0

@@ -43,7 +43,7 @@ pub(crate) fn deliver<F: Files>(
 ) -> Result<Option<Report>, Ending>
     requires { IsGridInRange request.now }
     ensures sent { IsSent (used (F.state files.old) (F.state files.new)) path.now request.now result }
-    ensures reduced { IfOk result (λ _. CallsFor (F.state files.old).contents request.now reducer.old.calls reducer.new.calls) }
+    ensures reduced { IfOk result (λ _. CallsFor (used (F.state files.old) (F.state files.new)) request.now reducer.old.calls reducer.new.calls) }
 {
     let is_build = is_build(request);
     let Some(mut output) = files.begin(path) else {

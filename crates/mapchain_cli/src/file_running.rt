@@ -1,5 +1,5 @@
 // Running the commands that take the file of a topology.
-ghost use Rattle.std.specs.Prelude.{◌≡◌, ◌≤◌, None, IfErr, IfOk, OnOk};
+ghost use Rattle.std.specs.Prelude.{◌≡◌, ◌≤◌, None, Some, IfErr, IfOk, OnOk};
 ghost use Rattle.byte_ends.specs.declared.source.ReadFault.TheVariants as read;
 ghost use Rattle.geometry.specs.Units.{threshold_limit};
 ghost use Rattle.inputs.specs.declared.file_fault.FileFault.TheVariants as file;
@@ -63,7 +63,7 @@ pub(crate) fn simplify_file<F: Files, V: Drain>(
     requires { ring_limit ≤ threshold_limit }
     ensures simplified { IfOk result (λ report. SimplifiesOf (used (F.state files.old) (F.state files.new)) threshold ring_limit path.now out.old out.new report) }
     ensures reduced { IfOk result (λ _. (old : Fed) × (new : Fed) × IsOpened ((F.state files.old).contents) path.now old
-        × CallsForTopology threshold old new reducer.old.calls reducer.new.calls) }
+        × ((F.state files.new).noted.source ≡ Some new) × CallsForTopology threshold old new reducer.old.calls reducer.new.calls) }
     ensures refused { IfErr result (λ e. RefusesFile (used (F.state files.old) (F.state files.new)) path.now out.old out.new
         (λ s u. IsSimplifyFault threshold ring_limit s u out.old out.new) e) }
 {

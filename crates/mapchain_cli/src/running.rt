@@ -1,5 +1,5 @@
 // Running the program.
-ghost use Rattle.std.specs.Prelude.{◌≡◌, ◌⊎◌, ◌<◌, ◌≤◌, IfErr, IfOk, IfSome, None, OnOk, length, map, option_map, true};
+ghost use Rattle.std.specs.Prelude.{◌≡◌, ◌⊎◌, ◌<◌, ◌≤◌, IfErr, IfOk, IfSome, None, OnOk, Some, length, map, option_map, true};
 ghost use Rattle.std.specs.String.{string_bytes};
 ghost use Rattle.command_words.specs.Asked.{detail, output_of, report_of};
 ghost use Rattle.command_words.specs.Joined.{joined};
@@ -67,7 +67,7 @@ fn build_layers<F: Files, V: Drain>(
 ) -> Result<Report, Ending>
     ensures built { IfOk result (λ report. BuildsOf (used (F.state files.old) (F.state files.new)) options.now (texts_of layers.now) out.old out.new report) }
     ensures reduced { IfOk result (λ _. (olds : Sources) × (news : Sources) × AreOpened ((F.state files.old).contents) (texts_of layers.now) olds
-        × CallsForLayers options.now olds news reducer.old.calls reducer.new.calls) }
+        × ((F.state files.new).noted.sources ≡ Some news) × CallsForLayers options.now olds news reducer.old.calls reducer.new.calls) }
     ensures refused { IfErr result (λ e. ((e ≡ ending.Memory) × (out.new ≡ out.old)
         × OpensPrefix (length (texts_of layers.now)) (used (F.state files.old) (F.state files.new)))
         ⊎ ((fault : Fault) × (e ≡ ending.Refused fault)
@@ -90,7 +90,7 @@ pub(crate) fn answer<F: Files, V: Drain>(
 ) -> Result<Option<Report>, Ending>
     requires { IsGridInRange request.now }
     ensures answered { IfOk result (λ report. IsAnswered (used (F.state files.old) (F.state files.new)) request.now out.old out.new report) }
-    ensures reduced { IfOk result (λ _. CallsFor ((F.state files.old).contents) request.now reducer.old.calls reducer.new.calls) }
+    ensures reduced { IfOk result (λ _. CallsFor (used (F.state files.old) (F.state files.new)) request.now reducer.old.calls reducer.new.calls) }
     ensures refused { IfErr result (λ e. IsRefused (used (F.state files.old) (F.state files.new)) request.now out.old out.new e) }
 {
     match request {
@@ -138,7 +138,7 @@ pub fn perform<F: Files, V: Drain>(
 ) -> Result<Option<Report>, Ending>
     requires { IsGridInRange request.now }
     ensures performed { IsPerformed (used (F.state files.old) (F.state files.new)) (option_map (λ o. o.now) output.entry) request.now out.old out.new result }
-    ensures reduced { IfOk result (λ _. CallsFor ((F.state files.old).contents) request.now reducer.old.calls reducer.new.calls) }
+    ensures reduced { IfOk result (λ _. CallsFor (used (F.state files.old) (F.state files.new)) request.now reducer.old.calls reducer.new.calls) }
 {
     match output {
         None => answer(alloc, reducer, request, files, out),

@@ -1,9 +1,9 @@
 use Rattle.std.proofs.Common.{Err, ap, inl, inr, refl, subst, ◌∙◌}
-use Rattle.mapchain_cli.specs.Asking.{IsAnswered, IsRefused}
+use Rattle.mapchain_cli.specs.Asking.{CallsFor, IsAnswered, IsRefused}
 use Rattle.mapchain_cli.specs.Files.{FileState, Keeps, discarded, not_kept, used}
 use Rattle.mapchain_cli.specs.Notes.{Ended}
 use Rattle.mapchain_cli.specs.Outputs.{is_build, unkept}
-use Rattle.mapchain_cli.proofs.Delivered.{kept_for, same_end, still_pending, unkept_of}
+use Rattle.mapchain_cli.proofs.Delivered.{kept_calls, kept_for, same_end, still_pending, unkept_of}
 use Rattle.mapchain_cli.proofs.delivering.deliver.Goals as goal
 
 pub returns-else-keep-clause-sent : goal.returns-else-keep-clause-sent
@@ -57,3 +57,11 @@ returns-in-Err-clause-sent g c =
       away = c.discard.ensures.counted ∙ ap (λ (e : Ended). discarded e opened) same;
       refused = refl;
     }))
+
+pub returns-then-keep-clause-reduced : goal.returns-then-keep-clause-reduced
+returns-then-keep-clause-reduced g c =
+    let request = c.args.request.now in
+    let opened = g.F.Files.state c.answer.new.files in
+    let calls = subst (λ (s : FileState). CallsFor (used s opened) request c.args.reducer.now.calls c.answer.new.reducer.calls) c.in-Some.ensures.counted c.in-Ok.ensures.reduced in
+    kept_calls c.args.path.now c.in-Some.output _ (g.F.Files.state c.args.files.now) opened (g.F.Files.state c.keep.new.self) request c.args.reducer.now.calls c.answer.new.reducer.calls
+    (c.if-keep.ensures.kept refl).1.noted calls

@@ -17,7 +17,7 @@ returns-in_err-report-in-Build-clause-refused g c =
 pub returns-in_ok-report-in-Simplify-clause-reduced : goal.returns-in_ok-report-in-Simplify-clause-reduced
 returns-in_ok-report-in-Simplify-clause-reduced g c =
     let reduced = c.in_ok-report-in-Simplify.ensures.reduced in
-    rw c.in-Simplify.is (c.in_ok-threshold-in-Simplify.threshold, reduced.0, reduced.1, c.in_ok-threshold-in-Simplify.ensures.area, reduced.2, reduced.3)
+    rw c.in-Simplify.is (c.in_ok-threshold-in-Simplify.threshold, reduced.0, reduced.1, c.in_ok-threshold-in-Simplify.ensures.area, reduced.2, reduced.3, reduced.4)
 
 pub returns-in_ok-report-in-Build-clause-answered : goal.returns-in_ok-report-in-Build-clause-answered
 returns-in_ok-report-in-Build-clause-answered g c =
@@ -27,4 +27,4 @@ returns-in_ok-report-in-Build-clause-answered g c =
 pub returns-in_ok-report-in-Build-clause-reduced : goal.returns-in_ok-report-in-Build-clause-reduced
 returns-in_ok-report-in-Build-clause-reduced g c =
     let reduced = rw c.as_slice.ensures.value at c.in_ok-report-in-Build.ensures.reduced in
-    rw c.in-Build.is (c.in_ok-options-in-Build.options, reduced.0, reduced.1, c.in_ok-options-in-Build.ensures.asked, reduced.2, reduced.3)
+    rw c.in-Build.is (c.in_ok-options-in-Build.options, reduced.0, reduced.1, c.in_ok-options-in-Build.ensures.asked, reduced.2, reduced.3, reduced.4)

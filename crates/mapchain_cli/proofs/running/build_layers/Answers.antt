@@ -1,8 +1,8 @@
-use Rattle.std.proofs.Common.{ap, inr, length, refl, ◌∙◌}
+use Rattle.std.proofs.Common.{Some, ap, inr, length, refl, ◌∙◌}
 use Rattle.std.proofs.lemmas.Result.{err_from_is_err_and}
 use Rattle.mapchain_cli.specs.Asking.{texts_of}
 use Rattle.inputs.specs.Sources.{Sources}
-use Rattle.mapchain_cli.specs.Files.{done_with_all, used}
+use Rattle.mapchain_cli.specs.Files.{FileState, done_with_all, used}
 use Rattle.mapchain_cli.proofs.Opened.{written_back}
 use Rattle.mapchain_cli.proofs.Refusals.{engine_refuses, opening_refuses}
 use Rattle.mapchain_cli.proofs.running.build_layers.Goals as goal
@@ -39,3 +39,11 @@ returns-clause-built g c =
           ∙ ap (done_with_all news) c.in_ok-sources.ensures.each_once;
       built = c.in_ok-report.ensures.built;
     }
+
+pub returns-clause-reduced : goal.returns-clause-reduced
+returns-clause-reduced g c =
+    let news = c.build-built.new.sources in
+    let back = written_back _ news c.in_ok-sources.sources.items c.in_ok-sources.sources.ok.0 (c.build-built.auto.sources ∙ ap length c.as_mut_slice.ensures.value) in
+    let noted = ap (λ (s : FileState). s.noted.sources) c.done_with_all.ensures.noted ∙ ap (λ (s : Sources). Some s) back in
+    let calls = c.in_ok-report.ensures.reduced in
+    (c.as_mut_slice.result.now, news, rw c.as_mut_slice.ensures.value c.in_ok-sources.ensures.opened, noted, calls)

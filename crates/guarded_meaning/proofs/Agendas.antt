@@ -81,7 +81,7 @@ held_is_not_free arcs c (Across n) l h = and_right (has_empty_triangle arcs c) (
 
 -- ---- what is left
 
-places_passing : (p : Place → Bool) (k : ℕ) (arcs : List (List Vertex)) → places k (passing p k arcs) ≡ filter p (places k arcs)
+pub places_passing : (p : Place → Bool) (k : ℕ) (arcs : List (List Vertex)) → places k (passing p k arcs) ≡ filter p (places k arcs)
 places_passing p k [] = refl
 places_passing p k (vs ∷ arcs) = ap (λ xs. xs ++ places (suc k) (passing p (suc k) arcs)) (sym (filter_map p (place_at k) vs))
     ∙ ap (λ xs. filter p (map (place_at k) vs) ++ xs) (places_passing p (suc k) arcs) ∙ sym (filter-append p (map (place_at k) vs) (places (suc k) arcs))

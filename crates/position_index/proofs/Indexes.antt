@@ -24,7 +24,7 @@ made x p e a b l n h = by (ordered (length x.positions.items) x.places.items x.r
     by o = record { present = b; order = o; extents = l; nested = n; over = over x.positions.items x.present.items x.places.items x.ranks.items x.extents.items o h }
 
 -- a place that is left after another was taken away is another, and was left
-left_before : (bs : List Bool) (k z : ℕ) → k < length bs → is_left_at (slice_set bs k false) z ≡ true → (z ≡ k → ⊥) × (is_left_at bs z ≡ true)
+pub left_before : (bs : List Bool) (k z : ℕ) → k < length bs → is_left_at (slice_set bs k false) z ≡ true → (z ≡ k → ⊥) × (is_left_at bs z ≡ true)
 unfolding is_left_at
 left_before bs k z h l = by (cases_eq z k)
   where

@@ -2,10 +2,11 @@
 ghost use Rattle.std.specs.Prelude.{◌≡◌, ◌<◌, ◌^◌, length, IfOk};
 ghost use Rattle.std.specs.Option.{IfNone, IfSome};
 ghost use Rattle.position_index.specs.Shown.{all_left, without_place};
-ghost use Rattle.position_index.specs.Indexes.{Meets, NoneMeets};
+ghost use Rattle.position_index.specs.Indexes.{Meets, NoneMeets, is_left_at, point_at};
 
 use crate::box_tree::{BoxTree, tree_of};
 use crate::query::Query;
+use crate::searching::position_of;
 use geometry::Position;
 use owned_values::Memory;
 use std::alloc::Global;
@@ -36,6 +37,30 @@ impl PositionIndex {
     {
         let tree = tree_of(alloc, positions)?;
         Ok(PositionIndex { tree })
+    }
+
+    /// The positions of all places, also of those that are gone.
+    pub fn positions(&self) -> &[Position]
+        ensures { result.now ≡ self.now.positions }
+    {
+        self.tree.positions.as_slice()
+    }
+
+    /// The position of a place.
+    pub fn position(&self, place: usize) -> Position
+        requires { place < length self.now.positions }
+        ensures { result ≡ point_at self.now.positions place }
+    {
+        position_of(self.tree.positions.as_slice(), place)
+    }
+
+    /// The place is left.
+    #[tactic(auto, unfolding(crate::specs::Indexes::is_left_at))]
+    pub fn is_left(&self, place: usize) -> bool
+        requires { place < length self.now.positions }
+        ensures { result ≡ is_left_at self.now.left place }
+    {
+        self.tree.present[place]
     }
 
     /// The place goes.

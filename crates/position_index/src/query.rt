@@ -7,8 +7,8 @@ ghost use Rattle.position_index.specs.Tests as spec;
 
 use crate::extent::{Extent, around, joined};
 use crate::sides::is_aside;
+use crate::triangle::is_clear;
 use geometry::Position;
-use planar_predicates::is_clear;
 
 /// What is asked of places and their positions.
 pub trait Query {

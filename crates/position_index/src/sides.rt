@@ -7,8 +7,8 @@ ghost use Rattle.guarded_meaning.specs.Triangles.{in_triangle};
 ghost use Rattle.position_index.specs.Extents.{HoldsPoint};
 
 use crate::extent::Extent;
+use crate::turns::is_right;
 use geometry::{POSITION_LIMIT, Position};
-use planar_predicates::is_right;
 
 /// The greatest coordinate of a position.
 const LIMIT: i64 = POSITION_LIMIT as i64;

@@ -3,7 +3,7 @@ use Rattle.effective_area.proofs.Products.{product_fits, product_bound}
 use Rattle.geometry.proofs.Products as read
 use Rattle.geometry.specs.Units.{position_limit}
 use Rattle.std.specs.Int.RustNames.{unsigned_abs}
-use Rattle.planar_predicates.proofs.turns.product.Goals as goal
+use Rattle.position_index.proofs.turns.product.Goals as goal
 
 pub overflow_mul-result : goal.overflow_mul-result
 overflow_mul-result c = read.product_fits c.args.a c.args.b c.ranges.a c.ranges.b (product_fits c.args.a c.args.b c.requires.a c.requires.b)

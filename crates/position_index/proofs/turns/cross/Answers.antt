@@ -5,7 +5,7 @@ use Rattle.geometry.specs.Areas.{cross}
 use Rattle.geometry.specs.Units.{area_limit}
 use Rattle.std.specs.Int.RustNames.{unsigned_abs}
 use mir.Syntax.{w128, w64}
-use Rattle.planar_predicates.proofs.turns.cross.Goals as goal
+use Rattle.position_index.proofs.turns.cross.Goals as goal
 
 -- a difference that is taken by the bits of its parts is the difference
 through : (p q : ℤ) → FitsSigned w128 p → FitsSigned w128 q → to_z w128 (of_z w128 p) -ℤ to_z w128 (of_z w128 q) ≡ p -ℤ q

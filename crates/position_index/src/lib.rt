@@ -10,8 +10,6 @@
 mod blocking;
 mod box_tree;
 mod extent;
-#[cfg(test)]
-mod finding;
 mod index;
 mod laws;
 mod meeting;

@@ -1,0 +1,66 @@
+-- What is pushed on the heap.
+use Rattle.std.proofs.Common.{◌≡◌, ◌≢◌, ℕ, ◌+◌, ◌-◌, ◌<◌, List, ◌∷◌, length, slice_index, refl, ap, sym, ◌∙◌, subst, ◌⊎◌, inl, inr, arith}
+use Rattle.std.specs.List.{Contains}
+use Rattle.std.specs.List.Sorted.{IsPermutation}
+use Rattle.std.specs.declared.cmp.Reverse.{Reverse}
+use Rattle.std.proofs.lemmas.Bool.{cases_eq}
+use Rattle.std.proofs.lemmas.List.Sorted.{Contains-permutation, IsPermutation-sym}
+use Rattle.effective_area.proofs.HeapLaws.{contains_cases, contains_here, contains_later}
+use Rattle.guarded_reduction.specs.declared.entry.Entry.{Entry}
+use Rattle.guarded_reduction.specs.Entries.{IsDue, IsSound, entry_in, turned}
+use Rattle.guarded_reduction.specs.Linking.{Linked}
+use Rattle.guarded_reduction.specs.States.{Pushed}
+use Rattle.guarded_reduction.specs.declared.waiting_lists.Wait.{Wait}
+use Rattle.guarded_reduction.specs.Waiting.{WaitsFrom, here, later, wait_at}
+
+-- the entry of a corner that is due is sound
+pub due_sound : (t : ℕ) (s : Linked) (v : ℕ) → IsDue t s v → IsSound t s.positions (entry_in s v)
+due_sound t s v h = record { is = refl; before = h.corner.before; after = h.corner.after; under = h.under }
+
+pub pushed : (t : ℕ) (s : Linked) (old new : List (Reverse Entry)) (v : ℕ) (e : Entry) → IsPermutation (turned e ∷ old) new → IsDue t s v → e ≡ entry_in s v → Pushed t s old new v
+pushed t s old new v e perm due is = record {
+  has = λ d h. Contains-permutation (turned e ∷ old) new (turned d) perm (contains_later (turned e) old (turned d) h);
+  here = λ _. subst (λ x. Contains new (turned x)) is (Contains-permutation (turned e ∷ old) new (turned e) perm (contains_here (turned e) old));
+  only = λ d h. on d (contains_cases (turned e) old (turned d) (Contains-permutation new (turned e ∷ old) (turned d) (IsPermutation-sym (turned e ∷ old) new perm) h));
+}
+  where
+    on : (d : Entry) → (turned d ≡ turned e) ⊎ Contains old (turned d) → Contains old (turned d) ⊎ IsSound t s.positions d
+    on d (inl k) = inr (subst (λ x. IsSound t s.positions x) (sym (ap (λ (x : Reverse Entry). x.0) k ∙ is)) (due_sound t s v due))
+    on d (inr k) = inl k
+
+-- one more place is looked at
+pub one_more : (t : ℕ) (s : Linked) (old new : List (Reverse Entry)) (v n : ℕ) → Pushed t s old new n →
+    ((u : ℕ) → u < n → IsDue t s u → Contains old (turned (entry_in s u))) → v < n + 1 → IsDue t s v → Contains new (turned (entry_in s v))
+one_more t s old new v n p h l due = on (cases_eq v n)
+  where
+    on : (v ≡ n) ⊎ (v ≢ n) → Contains new (turned (entry_in s v))
+    on (inl e) = subst (λ (u : ℕ). Contains new (turned (entry_in s u))) (sym e) (p.here (subst (IsDue t s) e due))
+    on (inr e) = p.has (entry_in s v) (h v (omega (arith, l, e)) due)
+
+pub still_sound : (t : ℕ) (s : Linked) (old new : List (Reverse Entry)) (v : ℕ) → Pushed t s old new v → ((d : Entry) → Contains old (turned d) → IsSound t s.positions d) →
+    (d : Entry) → Contains new (turned d) → IsSound t s.positions d
+still_sound t s old new v p h d m = on (p.only d m)
+  where
+    on : Contains old (turned d) ⊎ IsSound t s.positions d → IsSound t s.positions d
+    on (inl k) = h d k
+    on (inr k) = k
+
+pub still_only : (t : ℕ) (s : Linked) (first old new : List (Reverse Entry)) (v : ℕ) → Pushed t s old new v → ((d : Entry) → Contains old (turned d) → Contains first (turned d) ⊎ IsSound t s.positions d) →
+    (d : Entry) → Contains new (turned d) → Contains first (turned d) ⊎ IsSound t s.positions d
+still_only t s first old new v p h d m = on (p.only d m)
+  where
+    on : Contains old (turned d) ⊎ IsSound t s.positions d → Contains first (turned d) ⊎ IsSound t s.positions d
+    on (inl k) = h d k
+    on (inr k) = inr k
+
+-- one more wait is passed
+pub walked : (t : ℕ) (s : Linked) (old new : List (Reverse Entry)) (ws : List Wait) (n v : ℕ) (wait : Wait) → wait ≡ wait_at ws (n - 1) → Pushed t s old new wait.corner →
+    (IsDue t s v → Contains old (turned (entry_in s v))) ⊎ WaitsFrom ws n v → (IsDue t s v → Contains new (turned (entry_in s v))) ⊎ WaitsFrom ws wait.next v
+walked t s old new ws n v wait is p (inl f) = inl (λ due. p.has (entry_in s v) (f due))
+walked t s old new ws n v wait is p (inr (here i e l q)) =
+    let z : n - 1 ≡ i = omega (arith, e) in
+    let same : wait.corner ≡ v = ap (λ (x : Wait). x.corner) (is ∙ ap (wait_at ws) z) ∙ q in
+    inl (λ due. subst (λ (u : ℕ). Contains new (turned (entry_in s u))) same (p.here (subst (IsDue t s) (sym same) due)))
+walked t s old new ws n v wait is p (inr (later i e l r)) =
+    let z : n - 1 ≡ i = omega (arith, e) in
+    inr (subst (λ (x : Wait). WaitsFrom ws x.next v) (sym (is ∙ ap (wait_at ws) z)) r)

@@ -1,0 +1,12 @@
+pub mod Corners
+pub mod Flattened
+pub mod Heap
+pub mod Indexes
+pub mod Next
+pub mod Numbers
+pub mod Placed
+pub mod Queued
+pub mod Showing
+pub mod Starts
+pub mod Unlinking
+pub mod Waits

@@ -1,0 +1,203 @@
+-- The corner that is taken out is the next to go.
+use Rattle.std.proofs.Common.{◌≡◌, ◌≢◌, ℕ, zero, suc, ◌+◌, ◌<◌, ◌≤◌, Bool, true, false, not, ◌&&◌, List, [], ◌∷◌, length, map, slice_index, slice_set, Option, Some, None, refl, ap, sym, ◌∙◌, subst, ◌⊎◌, inl, inr, arith}
+use Rattle.std.specs.List.{Contains}
+use Rattle.std.specs.Cmp.{IsTotalOrder, IsStrictWeakOrder}
+use Rattle.std.specs.Ordering.{ordering_then, nat_cmp, is_lt}
+use Rattle.std.specs.declared.cmp.Ordering.{Ordering}
+use Rattle.std.specs.declared.cmp.Ordering.TheVariants.{Less, Equal, Greater}
+use Rattle.std.specs.declared.cmp.Reverse.{Reverse}
+use Rattle.std.proofs.lemmas.Bool.{and_parts, and_from, both_ways, cases_lt, false_from_ne_true, lt-ltb, ltb-true, or_left}
+use Rattle.std.proofs.lemmas.Bool.Decides.{nat_tests}
+use Rattle.std.proofs.lemmas.Cmp.{on_total, then_total, nat_cmp_total, int_cmp_total}
+use Rattle.std.proofs.lemmas.List.MinMax.{ranks_by}
+use Rattle.geometry.specs.Lists.{In}
+use Rattle.geometry.specs.Order.{point_cmp}
+use Rattle.geometry.specs.Points.{Point}
+use Rattle.elimination_meaning.specs.Elimination.{Vertex}
+use Rattle.guarded_meaning.specs.Arcs.{ArcCorner, all_corners, left_by}
+use Rattle.guarded_meaning.specs.Elimination.{Guard, arc_corner_cmp, eliminate_arcs, goes, goes_before, next_arcs}
+use Rattle.guarded_meaning.specs.Guards.{guarded_by, is_free, keeps_rings}
+use Rattle.guarded_meaning.proofs.First.{next_law, no_next_law}
+use Rattle.position_index.specs.declared.query.Corner.{Corner}
+use Rattle.position_index.specs.Blocking.{is_blocked_by}
+use Rattle.position_index.specs.Indexes.{Meets, NoneMeets, point_at}
+use Rattle.position_index.specs.Laws.{IsOwn, asked}
+use Rattle.position_index.specs.Tests.{is_held_by}
+use Rattle.position_index.proofs.Free.{free_law}
+use Rattle.position_index.proofs.NotFree.{blocked_law}
+use Rattle.guarded_reduction.specs.declared.entry.Entry.{Entry}
+use Rattle.guarded_reduction.specs.Entries.{IsDue, entry_cmp, entry_in, turned}
+use Rattle.guarded_reduction.specs.Linking.{Linked, IsShowing, IsWhole, corner_in, unlinked}
+use Rattle.guarded_reduction.specs.Numbers.{number, left_arcs}
+use Rattle.guarded_reduction.specs.States.{HoldsByLink, IsHeld, IsNext, NoneNext, blocks}
+use Rattle.guarded_reduction.specs.Waiting.{Waiting}
+use Rattle.guarded_reduction.proofs.Numbers.{numbers_rise}
+use Rattle.guarded_reduction.proofs.Showing.{IsFound, IsShownCorner, found, own_from, own_place, own_to, shown_corner}
+use Rattle.guarded_reduction.proofs.Unlinking.{left_is, still_showing}
+
+-- ---- the order of entries
+
+entry_total : IsTotalOrder entry_cmp
+entry_total = then_total (on_total (λ e. e.area) nat_cmp_total) (then_total (on_total (λ e. e.at) (then_total (on_total (λ p. p.x) int_cmp_total) (on_total (λ p. p.y) int_cmp_total)))
+    (then_total (on_total (λ e. e.place) nat_cmp_total) (then_total (on_total (λ e. e.before) nat_cmp_total) (on_total (λ e. e.after) nat_cmp_total))))
+
+abbrev is_first : Entry → Entry → Bool
+is_first d e = is_lt (entry_cmp d e)
+
+entry_order : IsStrictWeakOrder is_first
+entry_order = ranks_by entry_total (λ c. c)
+
+not_before_itself : (e : Entry) → is_first e e ≡ true → ⊥
+not_before_itself e h = both_ways (is_first e e) (entry_order.one_way e e h) h
+
+later_parts : (a b m n : Ordering) → (is_lt m ≡ true → is_lt n ≡ true) → is_lt (ordering_then a (ordering_then b m)) ≡ true → is_lt (ordering_then a (ordering_then b n)) ≡ true
+later_parts Less b m n f h = refl
+later_parts Equal Less m n f h = refl
+later_parts Equal Equal m n f h = f h
+later_parts Equal Greater m n f h = h
+later_parts Greater b m n f h = h
+
+less_cmp : (m n : ℕ) (o : Ordering) → m < n → is_lt (ordering_then (nat_cmp m n) o) ≡ true
+less_cmp m n o h = grind (arith, nat_tests)
+
+less_of : (i j : ℕ) → is_lt (nat_cmp i j) ≡ true → i < j
+less_of i j h = grind (arith, nat_tests)
+
+first_of_two : (a b i j : ℕ) → is_lt (ordering_then (nat_cmp a b) (nat_cmp i j)) ≡ true → (a < b) ⊎ ((a ≡ b) × (i < j))
+first_of_two a b i j h = on (cases_lt a b)
+  where
+    level : a ≡ b → is_lt (nat_cmp i j) ≡ true
+    level e = grind (arith, nat_tests)
+
+    not_over : b < a → ⊥
+    not_over l = grind (arith, nat_tests)
+
+    by : (b < a) ⊎ (a ≡ b) → (a < b) ⊎ ((a ≡ b) × (i < j))
+    by (inl l) = absurd (not_over l)
+    by (inr e) = inr (e, less_of i j (level e))
+
+    on : (a < b) ⊎ (b ≤ a) → (a < b) ⊎ ((a ≡ b) × (i < j))
+    on (inl l) = inl l
+    on (inr l) = by (over (cases_lt b a))
+      where
+        over : (b < a) ⊎ (a ≤ b) → (b < a) ⊎ (a ≡ b)
+        over (inl k) = inl k
+        over (inr k) = inr (omega (arith, k, l))
+
+-- ---- guards
+
+passes : (t : ℕ) (arcs : List (List Vertex)) (c : ArcCorner) → c.corner.area < t → is_free arcs c ≡ true → goes (guarded_by true []) t arcs c ≡ true
+unfolding keeps_rings
+passes t arcs c l f = and_from _ _ (lt-ltb c.corner.area t l) (and_from _ _ f refl)
+
+passed : (t : ℕ) (arcs : List (List Vertex)) (c : ArcCorner) → goes (guarded_by true []) t arcs c ≡ true → (c.corner.area < t) × (is_free arcs c ≡ true)
+passed t arcs c h = let r = and_parts _ _ h in (ltb-true c.corner.area t r.0, (and_parts _ _ r.1).0)
+
+blocked_inside : (ps : List Point) (bs cs : List ℕ) (q : Corner) (z : ℕ) (p : Point) → is_held_by q z p ≡ true → is_blocked_by ps bs cs q z p ≡ true
+unfolding is_blocked_by
+blocked_inside ps bs cs q z p h = or_left _ _ h
+
+module _ (arcs : List (List Point)) (t : ℕ) (s : Linked) (show : IsShowing arcs s) where
+  abbrev now : List (List Vertex)
+  now = left_arcs arcs s.left
+
+  abbrev own : ArcCorner → ℕ
+  own d = number arcs d.arc d.corner.index
+
+  abbrev there : ArcCorner → Type 0
+  there d = In d (all_corners 0 now)
+
+  -- a corner that goes before another has an entry that does
+  entries_before : (d c : ArcCorner) → there d → there c → goes_before d c ≡ true → is_first (entry_in s (own d)) (entry_in s (own c)) ≡ true
+  unfolding goes_before
+  entries_before d c m k h =
+      let x : IsShownCorner arcs s d = shown_corner arcs s show d m in
+      let y : IsShownCorner arcs s c = shown_corner arcs s show c k in
+      let e : two d.corner.area c.corner.area d.corner.point c.corner.point ≡ two (entry_in s (own d)).area (entry_in s (own c)).area (entry_in s (own d)).at (entry_in s (own c)).at =
+      ap (λ a. two a c.corner.area d.corner.point c.corner.point) x.area ∙ ap (λ b. two (entry_in s (own d)).area b d.corner.point c.corner.point) y.area
+      ∙ ap (λ p. two (entry_in s (own d)).area (entry_in s (own c)).area p c.corner.point) x.point ∙ ap (λ q. two (entry_in s (own d)).area (entry_in s (own c)).area (entry_in s (own d)).at q) y.point in
+      later_parts (nat_cmp (entry_in s (own d)).area (entry_in s (own c)).area) (point_cmp (entry_in s (own d)).at (entry_in s (own c)).at) (ordering_then (nat_cmp d.arc c.arc) (nat_cmp d.corner.index c.corner.index))
+      (ordering_then (nat_cmp (own d) (own c)) (ordering_then (nat_cmp (entry_in s (own d)).before (entry_in s (own c)).before) (nat_cmp (entry_in s (own d)).after (entry_in s (own c)).after)))
+      (λ g. less_cmp (own d) (own c) (ordering_then (nat_cmp (entry_in s (own d)).before (entry_in s (own c)).before) (nat_cmp (entry_in s (own d)).after (entry_in s (own c)).after))
+      (numbers_rise arcs d.arc d.corner.index c.arc c.corner.index x.there (first_of_two d.arc c.arc d.corner.index c.corner.index g)))
+      (sym e ∙ h)
+    where
+      two : ℕ → ℕ → Point → Point → Bool
+      two a b p q = is_lt (ordering_then (nat_cmp a b) (ordering_then (point_cmp p q) (ordering_then (nat_cmp d.arc c.arc) (nat_cmp d.corner.index c.corner.index))))
+
+  asked_is : (d : ArcCorner) → there d → asked d (own d) ≡ corner_in s (own d)
+  asked_is d m =
+      let x : IsShownCorner arcs s d = shown_corner arcs s show d m in
+      ap (λ p. corner p d.corner.point d.after) x.before ∙ ap (λ p. corner (point_at s.positions (slice_index s.befores (own d))) p d.after) x.point
+      ∙ ap (λ p. corner (point_at s.positions (slice_index s.befores (own d))) (point_at s.positions (own d)) p) x.after
+    where
+      corner : Point → Point → Point → Corner
+      corner p q r = record { before = p; at = q; after = r; place = own d }
+
+  held_is_not_free : (w : Waiting) (d : ArcCorner) → there d → IsHeld s w (own d) → is_free now d ≡ false
+  held_is_not_free w d m h = blocked_law (number arcs) s.positions s.left s.befores s.afters now d h.holder show.only
+      (subst (λ (q : Corner). Meets s.positions s.left (is_blocked_by s.positions s.befores s.afters q) h.holder) (sym (asked_is d m)) (record { within = h.within; left = h.left; meets = meets h.holds }))
+    where
+      meets : (is_held_by (corner_in s (own d)) h.holder (point_at s.positions h.holder) ≡ true) ⊎ HoldsByLink s w (own d) h.holder → blocks s (own d) h.holder (point_at s.positions h.holder) ≡ true
+      meets (inl k) = blocked_inside s.positions s.befores s.afters (corner_in s (own d)) h.holder (point_at s.positions h.holder) k
+      meets (inr k) = k.blocks
+
+  due_of : (d : ArcCorner) → there d → d.corner.area < t → IsDue t s (own d)
+  due_of d m l = let x : IsShownCorner arcs s d = shown_corner arcs s show d m in record { corner = x.corner; under = subst (λ n. n < t) x.area l }
+
+  -- ---- none goes
+
+  pub none_next : (w : Waiting) → NoneNext t s w → next_arcs (guarded_by true []) t now ≡ None
+  none_next w n = no_next_law (guarded_by true []) t now (λ d m. false_from_ne_true (goes (guarded_by true []) t now d)
+      (λ g. let r = passed t now d g in both_ways (is_free now d) (held_is_not_free w d m (n.held (own d) (due_of d m r.0))) r.1))
+
+  -- ---- one goes
+
+  module _ (items : List (Reverse Entry)) (w : Waiting) (e : Entry) (n : IsNext t s items w e) where
+    the_one : IsFound arcs s show e.place
+    the_one = found arcs s show e.place n.due.corner
+
+    abbrev one : ArcCorner
+    one = the_one.corner
+
+    free : is_free now one ≡ true
+    free = free_law (number arcs) s.positions s.left s.befores s.afters now one (own one) show.shows
+        (let x : IsShownCorner arcs s one = shown_corner arcs s show one the_one.there in record { place = own_place arcs s.left one x.there; from = own_from arcs s.left one x.there; to = own_to arcs s.left one x.there })
+        (subst (λ (q : Corner). NoneMeets s.positions s.left (is_blocked_by s.positions s.befores s.afters q)) (sym (asked_is one the_one.there ∙ ap (corner_in s) the_one.number_is)) n.free)
+
+    under : one.corner.area < t
+    under = let x : IsShownCorner arcs s one = shown_corner arcs s show one the_one.there in subst (λ a. a < t) (sym (x.area ∙ ap (λ v. (entry_in s v).area) the_one.number_is)) n.due.under
+
+    none_before : (d : ArcCorner) → there d → goes (guarded_by true []) t now d ≡ true → goes_before d one ≡ false
+    none_before d m g = false_from_ne_true (goes_before d one) (λ h. on h (n.covers (own d) (due_of d m (passed t now d g).0)))
+      where
+        entry_is : goes_before d one ≡ true → is_first (entry_in s (own d)) e ≡ true
+        entry_is h = subst (λ x. is_first (entry_in s (own d)) x ≡ true) (ap (entry_in s) the_one.number_is ∙ sym n.is) (entries_before d one m the_one.there h)
+
+        on : goes_before d one ≡ true → (own d ≡ e.place) ⊎ (Contains items (turned (entry_in s (own d))) ⊎ IsHeld s w (own d)) → ⊥
+        on h (inl q) = not_before_itself e (subst (λ x. is_first x e ≡ true) (ap (entry_in s) q ∙ sym n.is) (entry_is h))
+        on h (inr (inl k)) = both_ways (is_first (entry_in s (own d)) e) (n.first (entry_in s (own d)) k) (entry_is h)
+        on h (inr (inr k)) = both_ways (is_free now d) (held_is_not_free w d m k) (passed t now d g).1
+
+    pub goes_next : IsWhole s → next_arcs (guarded_by true []) t now ≡ Some (left_arcs arcs (unlinked e.place s).left)
+    goes_next whole = next_law (guarded_by true []) t now one the_one.there (passes t now one under free) none_before
+        ∙ ap Some (sym (left_is arcs s whole show one the_one.there) ∙ ap (λ z. left_arcs arcs (slice_set s.left z false)) the_one.number_is)
+
+    pub showing_next : IsWhole s → IsShowing arcs (unlinked e.place s)
+    showing_next whole = subst (λ z. IsShowing arcs (unlinked z s)) the_one.number_is (still_showing arcs s whole show one the_one.there)
+
+-- ---- step by step
+
+abbrev go_on : Guard → ℕ → ℕ → List (List Vertex) → Option (List (List Vertex)) → List (List Vertex)
+go_on guard n t arcs None = arcs
+go_on guard n t arcs (Some left) = eliminate_arcs guard n t left
+
+pub one_step : (guard : Guard) (n m t : ℕ) (arcs left last : List (List Vertex)) → n ≡ suc m → next_arcs guard t arcs ≡ Some left → eliminate_arcs guard n t arcs ≡ last → eliminate_arcs guard m t left ≡ last
+one_step guard n m t arcs left last e f h = sym (ap (go_on guard m t arcs) f) ∙ sym (ap (λ k. eliminate_arcs guard k t arcs) e) ∙ h
+
+pub no_step : (guard : Guard) (n t : ℕ) (arcs last : List (List Vertex)) → next_arcs guard t arcs ≡ None → eliminate_arcs guard n t arcs ≡ last → arcs ≡ last
+no_step guard zero t arcs last f h = h
+no_step guard (suc n) t arcs last f h = sym (ap (go_on guard n t arcs) f) ∙ h
+
+pub all_steps : (guard : Guard) (n t : ℕ) (arcs last : List (List Vertex)) → n ≡ 0 → eliminate_arcs guard n t arcs ≡ last → arcs ≡ last
+all_steps guard n t arcs last e h = sym (ap (λ k. eliminate_arcs guard k t arcs) e) ∙ h

@@ -1,0 +1,261 @@
+-- The heap and the waits cover all corners under the threshold while corners are looked at and go.
+use Rattle.std.proofs.Common.{◌≡◌, ◌≢◌, ℕ, ◌+◌, ◌<◌, ◌==◌, Bool, true, false, not, ◌&&◌, ◌||◌, List, [], ◌∷◌, length, slice_index, slice_index_or, slice_set, get_or-set_other, refl, ap, sym, ◌∙◌, subst, ◌⊎◌, inl, inr, arith}
+use Rattle.std.specs.BinaryHeap.{IsUpperBound}
+use Rattle.std.specs.List.{Contains}
+use Rattle.std.specs.List.Sorted.{IsPermutation}
+use Rattle.std.specs.Ordering.{is_lt}
+use Rattle.std.specs.declared.cmp.Reverse.{Reverse}
+use Rattle.std.proofs.lemmas.Bool.{cases_eq}
+use Rattle.std.proofs.lemmas.List.Elements.{All-contains, All-from_recursion}
+use Rattle.std.proofs.lemmas.List.Sorted.{Contains-permutation, IsPermutation-sym}
+use Rattle.geometry.specs.Points.{Point}
+use Rattle.geometry.specs.Rings.{same}
+use Rattle.effective_area.proofs.HeapLaws.{contains_cases, contains_here, contains_later}
+use Rattle.position_index.specs.declared.query.Corner.{Corner}
+use Rattle.position_index.specs.Blocking.{is_blocked_by, is_joined_at, joins_ends, leads_on}
+use Rattle.position_index.specs.Indexes.{Meets, NoneMeets, is_left_at, point_at}
+use Rattle.position_index.specs.Tests.{is_held_by}
+use Rattle.position_index.proofs.Indexes.{left_before}
+use Rattle.guarded_reduction.specs.declared.entry.Entry.{Entry}
+use Rattle.guarded_reduction.specs.Entries.{IsCurrent, IsDue, IsSound, entry_at, entry_cmp, entry_in, turned, turned_cmp}
+use Rattle.guarded_reduction.specs.Linking.{Linked, IsChained, IsCorner, IsWhole, corner_in, unlinked}
+use Rattle.guarded_reduction.specs.States.{HoldsByLink, IsHeld, IsNext, IsQueued, Pushed, PushedAll, blocks}
+use Rattle.guarded_reduction.specs.Waiting.{KeepsWaits, Waiting, WaitsOn}
+
+-- ---- a place is waited on
+
+pub held_inside : (s : Linked) (w : Waiting) (v h : ℕ) (q : Corner) (p : Point) → Meets s.positions s.left (blocks s v) h → WaitsOn w h v → q ≡ corner_in s v → p ≡ point_at s.positions h → is_held_by q h p ≡ true → IsHeld s w v
+held_inside s w v h q p meets waits eq ep held = record {
+  holder = h;
+  within = meets.within;
+  left = meets.left;
+  waits = waits;
+  holds = inl (subst (λ (r : Point). is_held_by (corner_in s v) h r ≡ true) ep (subst (λ (r : Corner). is_held_by r h p ≡ true) eq held));
+}
+
+pub held_across : (s : Linked) (w : Waiting) (v h : ℕ) → Meets s.positions s.left (blocks s v) h → WaitsOn w h v → WaitsOn w (slice_index s.befores h) v → WaitsOn w (slice_index s.afters h) v → IsHeld s w v
+held_across s w v h meets waits before after = record { holder = h; within = meets.within; left = meets.left; waits = waits; holds = inr (record { blocks = meets.meets; before = before; after = after }) }
+
+pub still_held : (s : Linked) (old new : Waiting) (v : ℕ) → KeepsWaits old new → IsHeld s old v → IsHeld s new v
+still_held s old new v k h = record { holder = h.holder; within = h.within; left = h.left; waits = k.has h.holder v h.waits; holds = on h.holds }
+  where
+    on : (is_held_by (corner_in s v) h.holder (point_at s.positions h.holder) ≡ true) ⊎ HoldsByLink s old v h.holder → (is_held_by (corner_in s v) h.holder (point_at s.positions h.holder) ≡ true) ⊎ HoldsByLink s new v h.holder
+    on (inl e) = inl e
+    on (inr l) = inr (record { blocks = l.blocks; before = k.has (slice_index s.befores h.holder) v l.before; after = k.has (slice_index s.afters h.holder) v l.after })
+
+-- ---- an entry is taken off the heap
+
+module _ (t : ℕ) (s : Linked) (items new : List (Reverse Entry)) (w : Waiting) (e : Entry) (queued : IsQueued t s items w) (perm : IsPermutation items (turned e ∷ new)) where
+  split : (d : Entry) → Contains items (turned d) → (d ≡ e) ⊎ Contains new (turned d)
+  split d h = on (contains_cases (turned e) new (turned d) (Contains-permutation items (turned e ∷ new) (turned d) perm h))
+    where
+      on : (turned d ≡ turned e) ⊎ Contains new (turned d) → (d ≡ e) ⊎ Contains new (turned d)
+      on (inl k) = inl (ap (λ (x : Reverse Entry). x.0) k)
+      on (inr k) = inr k
+
+  was : (d : Entry) → Contains new (turned d) → Contains items (turned d)
+  was d h = Contains-permutation (turned e ∷ new) items (turned d) (IsPermutation-sym items (turned e ∷ new) perm) (contains_later (turned e) new (turned d) h)
+
+  was_there : Contains items (turned e)
+  was_there = Contains-permutation (turned e ∷ new) items (turned e) (IsPermutation-sym items (turned e ∷ new) perm) (contains_here (turned e) new)
+
+  due_current : (v : ℕ) → IsDue t s v → IsCurrent s (entry_in s v)
+  due_current v h = record { within = h.corner.within; left = h.corner.left; before = refl; after = refl }
+
+  pub drop_stale : (IsCurrent s e → ⊥) → IsQueued t s new w
+  drop_stale stale = record { covers = λ v h. on v h (queued.covers v h); sound = λ d h. queued.sound d (was d h); firsts = queued.firsts }
+    where
+      off : (v : ℕ) → IsDue t s v → (entry_in s v ≡ e) ⊎ Contains new (turned (entry_in s v)) → Contains new (turned (entry_in s v)) ⊎ IsHeld s w v
+      off v h (inl q) = absurd (stale (subst (IsCurrent s) q (due_current v h)))
+      off v h (inr k) = inl k
+
+      on : (v : ℕ) → IsDue t s v → Contains items (turned (entry_in s v)) ⊎ IsHeld s w v → Contains new (turned (entry_in s v)) ⊎ IsHeld s w v
+      on v h (inl k) = off v h (split (entry_in s v) k)
+      on v h (inr k) = inr k
+
+  pub come_to_wait : (more : Waiting) → KeepsWaits w more → IsHeld s more e.place → IsQueued t s new more
+  come_to_wait more keeps held = record { covers = λ v h. on v (queued.covers v h); sound = λ d h. queued.sound d (was d h); firsts = keeps.same ∙ queued.firsts }
+    where
+      off : (v : ℕ) → (entry_in s v ≡ e) ⊎ Contains new (turned (entry_in s v)) → Contains new (turned (entry_in s v)) ⊎ IsHeld s more v
+      off v (inl q) = inr (subst (IsHeld s more) (sym (ap (λ (x : Entry). x.place) q)) held)
+      off v (inr k) = inl k
+
+      on : (v : ℕ) → Contains items (turned (entry_in s v)) ⊎ IsHeld s w v → Contains new (turned (entry_in s v)) ⊎ IsHeld s more v
+      on v (inl k) = off v (split (entry_in s v) k)
+      on v (inr k) = inr (still_held s w more v keeps k)
+
+  current_is : IsCurrent s e → e ≡ entry_in s e.place
+  current_is c = (queued.sound e was_there).is ∙ ap (λ b. entry_at s.positions b e.place e.after) (sym c.before) ∙ ap (λ a. entry_at s.positions (slice_index s.befores e.place) e.place a) (sym c.after)
+
+  current_due : IsCurrent s e → IsDue t s e.place
+  current_due c =
+      let h = queued.sound e was_there in
+      record {
+        corner = record { within = c.within; left = c.left; before = λ q. h.before (sym c.before ∙ q); after = λ q. h.after (sym c.after ∙ q) };
+        under = subst (λ (x : Entry). x.area < t) (current_is c) h.under;
+      }
+
+  pub comes_next : IsUpperBound turned_cmp (turned e) items → IsCurrent s e → NoneMeets s.positions s.left (blocks s e.place) → IsNext t s new w e
+  comes_next upper c free = record {
+    due = current_due c;
+    is = current_is c;
+    free = free;
+    first = λ d h. All-contains (λ (y : Reverse Entry). is_lt (turned_cmp (turned e) y) ≡ false) items (turned d) (All-from_recursion (λ (y : Reverse Entry). is_lt (turned_cmp (turned e) y) ≡ false) items upper) (was d h);
+    covers = λ v h. on v (queued.covers v h);
+    sound = λ d h. queued.sound d (was d h);
+    firsts = queued.firsts;
+  }
+    where
+      off : (v : ℕ) → (entry_in s v ≡ e) ⊎ Contains new (turned (entry_in s v)) → (v ≡ e.place) ⊎ (Contains new (turned (entry_in s v)) ⊎ IsHeld s w v)
+      off v (inl q) = inl (ap (λ (x : Entry). x.place) q)
+      off v (inr k) = inr (inl k)
+
+      on : (v : ℕ) → Contains items (turned (entry_in s v)) ⊎ IsHeld s w v → (v ≡ e.place) ⊎ (Contains new (turned (entry_in s v)) ⊎ IsHeld s w v)
+      on v (inl k) = off v (split (entry_in s v) k)
+      on v (inr k) = inr (inr k)
+
+-- ---- a corner goes
+
+blocked_same : (ps : List Point) (bs ks cs ds : List ℕ) (q : Corner) (h : ℕ) (p : Point) → slice_index_or cs h q.place ≡ slice_index_or bs h q.place → slice_index_or ds h q.place ≡ slice_index_or ks h q.place →
+    is_blocked_by ps cs ds q h p ≡ is_blocked_by ps bs ks q h p
+unfolding is_blocked_by joins_ends is_joined_at
+blocked_same ps bs ks cs ds q h p e f =
+    ap (λ x. is_held_by q h p || (not (same q.before q.after) && (same q.before p && (not (h == q.place) && (leads_on ps q.after q.place x || leads_on ps q.after q.place (slice_index_or ds h q.place)))))) e
+    ∙ ap (λ x. is_held_by q h p || (not (same q.before q.after) && (same q.before p && (not (h == q.place) && (leads_on ps q.after q.place (slice_index_or bs h q.place) || leads_on ps q.after q.place x))))) f
+
+module _ (t : ℕ) (s : Linked) (whole : IsWhole s) (chained : IsChained s) (z : ℕ) (corner : IsCorner s z) where
+  abbrev next : Linked
+  next = unlinked z s
+
+  abbrev prior : ℕ
+  prior = slice_index s.befores z
+
+  abbrev follower : ℕ
+  follower = slice_index s.afters z
+
+  within : z < length s.left
+  within = omega (arith, corner.within, whole.left)
+
+  left_other : (h : ℕ) → h ≢ z → is_left_at s.left h ≡ true → is_left_at next.left h ≡ true
+  unfolding is_left_at
+  left_other h n l = get_or-set_other s.left z h false false n ∙ l
+
+  before_same : (v d : ℕ) → v ≢ follower → slice_index_or next.befores v d ≡ slice_index_or s.befores v d
+  before_same v d n = get_or-set_other s.befores follower v prior d n
+
+  after_same : (v d : ℕ) → v ≢ prior → slice_index_or next.afters v d ≡ slice_index_or s.afters v d
+  after_same v d n = get_or-set_other s.afters prior v follower d n
+
+  module _ (v : ℕ) (not_prior : v ≢ prior) (not_follower : v ≢ follower) where
+    entry_same : entry_in next v ≡ entry_in s v
+    entry_same = ap (λ b. entry_at s.positions b v (slice_index next.afters v)) (before_same v 0 not_follower) ∙ ap (λ a. entry_at s.positions (slice_index s.befores v) v a) (after_same v 0 not_prior)
+
+    corner_same : corner_in next v ≡ corner_in s v
+    corner_same = ap (λ b. corner_of b (slice_index next.afters v)) (before_same v 0 not_follower) ∙ ap (λ a. corner_of (slice_index s.befores v) a) (after_same v 0 not_prior)
+      where
+        corner_of : ℕ → ℕ → Corner
+        corner_of b a = record { before = point_at s.positions b; at = point_at s.positions v; after = point_at s.positions a; place = v }
+
+    due_was : IsDue t next v → (v ≢ z) × IsDue t s v
+    due_was h =
+        let r = left_before s.left z v within h.corner.left in (
+          r.0,
+          record {
+            corner = record { within = h.corner.within; left = r.1; before = λ e. h.corner.before (before_same v 0 not_follower ∙ e); after = λ e. h.corner.after (after_same v 0 not_prior ∙ e) };
+            under = subst (λ (x : Entry). x.area < t) entry_same h.under;
+          },
+        )
+
+    -- what held it holds it still, or it waited on what goes
+    held_or_woken : (w : Waiting) → IsHeld s w v → WaitsOn w z v ⊎ IsHeld next w v
+    held_or_woken w h = on (cases_eq h.holder z)
+      where
+        across : h.holder ≢ z → HoldsByLink s w v h.holder → (slice_index s.befores h.holder ≡ z) ⊎ (slice_index s.befores h.holder ≢ z) → (slice_index s.afters h.holder ≡ z) ⊎ (slice_index s.afters h.holder ≢ z) → WaitsOn w z v ⊎ IsHeld next w v
+        across n k (inl e) r = inl (subst (λ y. WaitsOn w y v) e k.before)
+        across n k (inr l) (inl e) = inl (subst (λ y. WaitsOn w y v) e k.after)
+        across n k (inr l) (inr r) =
+            let not_after : h.holder ≢ follower = λ e. l (ap (λ y. slice_index s.befores y) e ∙ (chained.after z corner.within corner.left corner.after).1) in
+            let not_before : h.holder ≢ prior = λ e. r (ap (λ y. slice_index s.afters y) e ∙ (chained.before z corner.within corner.left corner.before).1) in
+            inr (record {
+              holder = h.holder;
+              within = h.within;
+              left = left_other h.holder n h.left;
+              waits = h.waits;
+              holds = inr (record {
+                blocks = ap (λ q. is_blocked_by s.positions next.befores next.afters q h.holder (point_at s.positions h.holder)) corner_same
+                    ∙ blocked_same s.positions s.befores s.afters next.befores next.afters (corner_in s v) h.holder (point_at s.positions h.holder) (before_same h.holder v not_after) (after_same h.holder v not_before) ∙ k.blocks;
+                before = subst (λ y. WaitsOn w y v) (sym (before_same h.holder 0 not_after)) k.before;
+                after = subst (λ y. WaitsOn w y v) (sym (after_same h.holder 0 not_before)) k.after;
+              });
+            })
+
+        by : h.holder ≢ z → (is_held_by (corner_in s v) h.holder (point_at s.positions h.holder) ≡ true) ⊎ HoldsByLink s w v h.holder → WaitsOn w z v ⊎ IsHeld next w v
+        by n (inl k) = inr (record {
+          holder = h.holder;
+          within = h.within;
+          left = left_other h.holder n h.left;
+          waits = h.waits;
+          holds = inl (subst (λ (q : Corner). is_held_by q h.holder (point_at s.positions h.holder) ≡ true) (sym corner_same) k);
+        })
+        by n (inr k) = across n k (cases_eq (slice_index s.befores h.holder) z) (cases_eq (slice_index s.afters h.holder) z)
+
+        on : (h.holder ≡ z) ⊎ (h.holder ≢ z) → WaitsOn w z v ⊎ IsHeld next w v
+        on (inl e) = inl (subst (λ y. WaitsOn w y v) e h.waits)
+        on (inr n) = by n h.holds
+
+module _ (t : ℕ) (s : Linked) (whole : IsWhole s) (chained : IsChained s) (items first second last : List (Reverse Entry)) (w : Waiting) (e : Entry) (n : IsNext t s items w e)
+    (p : Pushed t (unlinked e.place s) items first e.before) (q : Pushed t (unlinked e.place s) first second e.after) (r : PushedAll t (unlinked e.place s) second last w e.place) where
+  later : (d : Entry) → Contains items (turned d) → Contains last (turned d)
+  later d h = r.has d (q.has d (p.has d h))
+
+  before_is : e.before ≡ slice_index s.befores e.place
+  before_is = ap (λ (x : Entry). x.before) n.is
+
+  after_is : e.after ≡ slice_index s.afters e.place
+  after_is = ap (λ (x : Entry). x.after) n.is
+
+  abbrev Covered : ℕ → Type 0
+  Covered v = Contains last (turned (entry_in (unlinked e.place s) v)) ⊎ IsHeld (unlinked e.place s) w v
+
+  first_sound : (d : Entry) → Contains items (turned d) ⊎ IsSound t s.positions d → IsSound t s.positions d
+  first_sound d (inl k) = n.sound d k
+  first_sound d (inr k) = k
+
+  second_sound : (d : Entry) → Contains first (turned d) ⊎ IsSound t s.positions d → IsSound t s.positions d
+  second_sound d (inl k) = first_sound d (p.only d k)
+  second_sound d (inr k) = k
+
+  last_sound : (d : Entry) → Contains second (turned d) ⊎ IsSound t s.positions d → IsSound t s.positions d
+  last_sound d (inl k) = second_sound d (q.only d k)
+  last_sound d (inr k) = k
+
+  module _ (v : ℕ) (h : IsDue t (unlinked e.place s) v) where
+    woken : WaitsOn w e.place v ⊎ IsHeld (unlinked e.place s) w v → Covered v
+    woken (inl k) = inl (r.here v k h)
+    woken (inr k) = inr k
+
+    at_other : v ≢ slice_index s.befores e.place → v ≢ slice_index s.afters e.place → Covered v
+    at_other a b = on (n.covers v (due_was t s whole chained e.place n.due.corner v a b h).1)
+      where
+        on : (v ≡ e.place) ⊎ (Contains items (turned (entry_in s v)) ⊎ IsHeld s w v) → Covered v
+        on (inl k) = absurd ((due_was t s whole chained e.place n.due.corner v a b h).0 k)
+        on (inr (inl k)) = inl (later (entry_in (unlinked e.place s) v) (subst (λ x. Contains items (turned x)) (sym (entry_same t s whole chained e.place n.due.corner v a b)) k))
+        on (inr (inr k)) = woken (held_or_woken t s whole chained e.place n.due.corner v a b w k)
+
+    at_follower : v ≢ e.before → (v ≡ e.after) ⊎ (v ≢ e.after) → Covered v
+    at_follower a (inl k) = inl (r.has (entry_in (unlinked e.place s) v) (subst (λ u. Contains second (turned (entry_in (unlinked e.place s) u))) (sym k) (q.here (subst (IsDue t (unlinked e.place s)) k h))))
+    at_follower a (inr b) = at_other (λ k. a (k ∙ sym before_is)) (λ k. b (k ∙ sym after_is))
+
+    at_prior : (v ≡ e.before) ⊎ (v ≢ e.before) → Covered v
+    at_prior (inl k) = inl (r.has (entry_in (unlinked e.place s) v) (q.has (entry_in (unlinked e.place s) v) (subst (λ u. Contains first (turned (entry_in (unlinked e.place s) u))) (sym k) (p.here (subst (IsDue t (unlinked e.place s)) k h)))))
+    at_prior (inr a) = at_follower a (cases_eq v e.after)
+
+  taken_out : IsQueued t (unlinked e.place s) last w
+  taken_out = record { covers = λ v h. at_prior v h (cases_eq v e.before); sound = λ d h. last_sound d (r.only d h); firsts = n.firsts }
+
+-- where the places are those without the entry's
+pub taken_out_to : (t : ℕ) (s after : Linked) → IsWhole s → IsChained s → (items first second last : List (Reverse Entry)) (w : Waiting) (e : Entry) → IsNext t s items w e → after ≡ unlinked e.place s →
+    Pushed t after items first e.before → Pushed t after first second e.after → PushedAll t after second last w e.place → IsQueued t after last w
+taken_out_to t s after whole chained items first second last w e n is =
+    subst (λ (x : Linked). Pushed t x items first e.before → Pushed t x first second e.after → PushedAll t x second last w e.place → IsQueued t x last w) (sym is)
+    (λ p q r. taken_out t s whole chained items first second last w e n p q r)

@@ -1,0 +1,15 @@
+use Rattle.std.proofs.Common.{◌<◌, ◌^◌, List, ap, length, subst, sym, ◌∙◌}
+use Rattle.geometry.specs.Lists.{joined}
+use Rattle.geometry.specs.Points.{Point}
+use Rattle.position_index.specs.Shown.{Shown, all_left}
+use Rattle.guarded_reduction.specs.Linking.{IsWhole}
+use Rattle.guarded_reduction.proofs.Starts.{first_is, first_whole}
+use Rattle.guarded_reduction.proofs.linked_places.LinkedPlaces.of.Goals as goal
+
+pub invariant_of-result : goal.invariant_of-result
+invariant_of-result c =
+    let same = c.in_ok-positions.ensures.positions in
+    subst IsWhole
+    (sym (first_is c.args.arcs.now c.in_ok-index.index.positions c.in_ok-index.index.left c.in_ok-befores.befores.items c.in_ok-afters.afters.items (ap (λ (x : Shown). x.positions) c.in_ok-index.ensures ∙ same)
+    (ap (λ (x : Shown). x.left) c.in_ok-index.ensures ∙ ap (λ (x : Shown). x.left) (ap (λ ps. all_left ps) (sym (ap (λ (x : Shown). x.positions) c.in_ok-index.ensures)))) c.in_ok-befores.ensures c.in_ok-afters.ensures))
+    (first_whole c.args.arcs.now (subst (λ (ps : List Point). length ps < 2 ^ 60) same c.in_ok-positions.ensures.few))

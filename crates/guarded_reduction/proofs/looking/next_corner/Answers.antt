@@ -1,0 +1,27 @@
+use Rattle.std.proofs.Common.{subst}
+use Rattle.std.specs.BinaryHeap.{heap_items}
+use Rattle.position_index.specs.declared.query.Corner.{Corner}
+use Rattle.position_index.specs.Blocking.{is_blocked_by}
+use Rattle.position_index.specs.Indexes.{NoneMeets}
+use Rattle.guarded_reduction.proofs.Queued.{come_to_wait, comes_next, drop_stale}
+use Rattle.guarded_reduction.proofs.looking.next_corner.Goals as goal
+
+pub entries-preserved-then-not-is_current : goal.entries-preserved-then-not-is_current
+entries-preserved-then-not-is_current c = record {
+  order = (c.in-Some.ensures.heap_order c.entries.invariant.order).0;
+  queued = drop_stale c.args.threshold c.args.places.now (heap_items c.entries.heap) (heap_items c.pop.new.self) c.entries.waiting c.in-Some.field-0.0 c.entries.invariant.queued c.in-Some.ensures.permutation (c.is_current.ensures.stale c.if-not-is_current.true);
+}
+
+pub returns-in_default-holder-clause-next : goal.returns-in_default-holder-clause-next
+returns-in_default-holder-clause-next c =
+    let s = c.args.places.now in
+    comes_next c.args.threshold s (heap_items c.entries.heap) (heap_items c.pop.new.self) c.entries.waiting c.in-Some.field-0.0 c.entries.invariant.queued c.in-Some.ensures.permutation (c.in-Some.ensures.heap_order c.entries.invariant.order).1
+    (c.is_current.ensures.current c.if-not-is_current.false)
+    (subst (λ (q : Corner). NoneMeets s.positions s.left (is_blocked_by s.positions s.befores s.afters q)) c.corner.ensures c.in_default-holder.ensures.none)
+
+pub entries-preserved : goal.entries-preserved
+entries-preserved c = record {
+  order = (c.in-Some.ensures.heap_order c.entries.invariant.order).0;
+  queued = come_to_wait c.args.threshold c.args.places.now (heap_items c.entries.heap) (heap_items c.pop.new.self) c.entries.waiting c.in-Some.field-0.0 c.entries.invariant.queued c.in-Some.ensures.permutation c.wait_on.new.waiting
+      c.in_ok-wait_on.ensures.kept c.in_ok-wait_on.ensures.held;
+}

@@ -1,0 +1,13 @@
+use Rattle.std.specs.BinaryHeap.{heap_items, heap_len, IsHeap}
+use Rattle.guarded_reduction.specs.Entries.{turned_cmp}
+use Rattle.guarded_reduction.specs.States.{IsQueued}
+use Rattle.guarded_reduction.proofs.looking.next_corner.Given as goal
+
+abbrev pub invariant-entries : goal.invariant-entries
+invariant-entries l = record {
+  order : IsHeap turned_cmp (heap_items l.heap);
+  queued : IsQueued l.threshold l.places (heap_items l.heap) l.waiting;
+}
+
+abbrev pub decreases-entries : goal.decreases-entries
+decreases-entries l = heap_len l.heap

@@ -1,0 +1,18 @@
+use Rattle.std.proofs.Common.{◌≡◌, ◌-◌, true, []}
+use Rattle.std.specs.BinaryHeap.{heap_items, IsHeap}
+use Rattle.guarded_meaning.specs.Elimination.{eliminate_arcs, remaining_arcs}
+use Rattle.guarded_meaning.specs.Guards.{guarded_by}
+use Rattle.guarded_reduction.specs.Entries.{turned_cmp}
+use Rattle.guarded_reduction.specs.Linking.{IsShowing}
+use Rattle.guarded_reduction.specs.Numbers.{left_arcs}
+use Rattle.guarded_reduction.specs.States.{IsQueued}
+use Rattle.guarded_reduction.proofs.reducing.reduced_places.Given as goal
+
+-- what is left is reduced to the same
+abbrev pub invariant-corners : goal.invariant-corners
+invariant-corners l = record {
+  order : IsHeap turned_cmp (heap_items l.heap);
+  queued : IsQueued l.threshold l.places (heap_items l.heap) l.waiting;
+  showing : IsShowing l.arcs l.places;
+  rest : eliminate_arcs (guarded_by true []) (l.n - l._step) l.threshold (left_arcs l.arcs l.places.left) ≡ remaining_arcs (guarded_by true []) l.threshold l.arcs;
+}

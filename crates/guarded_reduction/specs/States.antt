@@ -1,0 +1,63 @@
+-- What is kept true while corners go.
+use Rattle.std.specs.Prelude.{◌≡◌, ◌≢◌, ◌⊎◌, ℕ, ◌<◌, true, false, List, length, slice_index}
+use Rattle.std.specs.List.{Contains}
+use Rattle.std.specs.Ordering.{is_lt}
+use Rattle.std.specs.declared.cmp.Reverse.{Reverse}
+use Rattle.geometry.specs.Points.{Point}
+use Rattle.position_index.specs.Blocking.{is_blocked_by}
+use Rattle.position_index.specs.Indexes.{NoneMeets, is_left_at, point_at}
+use Rattle.position_index.specs.Tests.{Test, is_held_by}
+use Rattle.guarded_reduction.specs.declared.entry.Entry.{Entry}
+use Rattle.guarded_reduction.specs.Entries.{entry_cmp, turned, entry_in, IsDue, IsSound}
+use Rattle.guarded_reduction.specs.Linking.{Linked, corner_in}
+use Rattle.guarded_reduction.specs.Waiting.{Waiting, WaitsOn}
+
+-- which places block a corner
+abbrev pub blocks : Linked → ℕ → Test
+blocks s v = is_blocked_by s.positions s.befores s.afters (corner_in s v)
+
+-- by a segment: the corner waits on the neighbours of the place too
+pub record HoldsByLink (s : Linked) (w : Waiting) (v holder : ℕ) : Type 0 where
+  pub blocks : blocks s v holder (point_at s.positions holder) ≡ true
+  pub before : WaitsOn w (slice_index s.befores holder) v
+  pub after : WaitsOn w (slice_index s.afters holder) v
+
+-- a place that is left keeps the corner from going, which waits on it
+pub record IsHeld (s : Linked) (w : Waiting) (v : ℕ) : Type 0 where
+  pub holder : ℕ
+  pub within : holder < length s.positions
+  pub left : is_left_at s.left holder ≡ true
+  pub waits : WaitsOn w holder v
+  pub holds : (is_held_by (corner_in s v) holder (point_at s.positions holder) ≡ true) ⊎ HoldsByLink s w v holder
+
+-- each corner under the threshold is on the heap, or held
+pub record IsQueued (t : ℕ) (s : Linked) (items : List (Reverse Entry)) (w : Waiting) : Type 0 where
+  pub covers : (v : ℕ) → IsDue t s v → Contains items (turned (entry_in s v)) ⊎ IsHeld s w v
+  pub sound : (e : Entry) → Contains items (turned e) → IsSound t s.positions e
+  pub firsts : length w.firsts ≡ length s.positions
+
+-- the entry is of the corner that goes next: nothing blocks it, and those on the heap don't go before it
+pub record IsNext (t : ℕ) (s : Linked) (items : List (Reverse Entry)) (w : Waiting) (e : Entry) : Type 0 where
+  pub due : IsDue t s e.place
+  pub is : e ≡ entry_in s e.place
+  pub free : NoneMeets s.positions s.left (blocks s e.place)
+  pub first : (d : Entry) → Contains items (turned d) → is_lt (entry_cmp d e) ≡ false
+  pub covers : (v : ℕ) → IsDue t s v → (v ≡ e.place) ⊎ (Contains items (turned (entry_in s v)) ⊎ IsHeld s w v)
+  pub sound : (d : Entry) → Contains items (turned d) → IsSound t s.positions d
+  pub firsts : length w.firsts ≡ length s.positions
+
+-- each corner under the threshold is held
+pub record NoneNext (t : ℕ) (s : Linked) (w : Waiting) : Type 0 where
+  pub held : (v : ℕ) → IsDue t s v → IsHeld s w v
+
+-- the corner at the place is on the heap, if it is due, and nothing else is new
+pub record Pushed (t : ℕ) (s : Linked) (old new : List (Reverse Entry)) (v : ℕ) : Type 0 where
+  pub has : (d : Entry) → Contains old (turned d) → Contains new (turned d)
+  pub here : IsDue t s v → Contains new (turned (entry_in s v))
+  pub only : (d : Entry) → Contains new (turned d) → Contains old (turned d) ⊎ IsSound t s.positions d
+
+-- all corners that wait on the place are on the heap, if they are due
+pub record PushedAll (t : ℕ) (s : Linked) (old new : List (Reverse Entry)) (w : Waiting) (h : ℕ) : Type 0 where
+  pub has : (d : Entry) → Contains old (turned d) → Contains new (turned d)
+  pub here : (v : ℕ) → WaitsOn w h v → IsDue t s v → Contains new (turned (entry_in s v))
+  pub only : (d : Entry) → Contains new (turned d) → Contains old (turned d) ⊎ IsSound t s.positions d

@@ -1,0 +1,12 @@
+use geometry::Position;
+
+/// A corner that is to be looked at, with the neighbours that its area was computed with. Entries compare in the order in which corners go: by area,
+/// then by position, then by place.
+#[derive(Clone, Copy, Debug, PartialEq, Eq, PartialOrd, Ord)]
+pub struct Entry {
+    pub area: u128,
+    pub at: Position,
+    pub place: usize,
+    pub before: usize,
+    pub after: usize,
+}

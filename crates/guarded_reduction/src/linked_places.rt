@@ -1,0 +1,208 @@
+// Places that are left, and their neighbours.
+ghost use Rattle.std.specs.Prelude.{◌≡◌, ◌<◌, IfOk, true, false, length, slice_index};
+ghost use Rattle.std.specs.Option.{IfNone, IfSome};
+ghost use Rattle.position_index.specs.Indexes.{Meets, NoneMeets, is_left_at, point_at};
+ghost use Rattle.position_index.specs.Blocking.{is_blocked_by};
+ghost use Rattle.guarded_reduction.specs.Entries.{IsCurrent, IsDue, entry_at, entry_in};
+ghost use Rattle.guarded_reduction.specs.First.{first_linked};
+ghost use Rattle.guarded_reduction.specs.Linking.{IsWhole as IsWholeLinked, corner_in, unlinked};
+
+use crate::entry::Entry;
+use crate::flattening::{afters_of, all_positions, befores_of};
+use geometry::Position;
+use owned_values::{Items, Memory};
+use position_index::{Blocked, Corner, Links, PositionIndex, cross};
+use std::alloc::Global;
+use std::marker::Model;
+
+/// The places of arcs, numbered one arc after another, of which some are left, and the neighbours of these: the place before each, and the one after
+/// it; where there is none, the place itself.
+#[derive(Drop)]
+pub struct LinkedPlaces {
+    index: PositionIndex,
+    befores: Vec<usize>,
+    afters: Vec<usize>,
+}
+
+impl Model for LinkedPlaces {
+    ghost use Rattle.guarded_reduction.specs.Linking.{IsWhole, Linked};
+
+    ghost Value = { Linked };
+
+    ghost view = { λ p. record { positions = p.index.positions; left = p.index.left; befores = p.befores.items; afters = p.afters.items } };
+
+    ghost invariant = { λ p. IsWhole (record { positions = p.index.positions; left = p.index.left; befores = p.befores.items; afters = p.afters.items }) };
+}
+
+impl LinkedPlaces {
+    /// The places of these arcs, which are all left.
+    pub fn of(alloc: Global, arcs: &[Items<Position>]) -> Result<LinkedPlaces, Memory>
+        ensures { IfOk result (λ s. s ≡ first_linked arcs.now) }
+    {
+        let positions = all_positions(alloc, arcs)?;
+        let index = PositionIndex::of(alloc, positions)?;
+        let befores = befores_of(alloc, arcs)?;
+        let afters = afters_of(alloc, arcs)?;
+        Ok(LinkedPlaces {
+            index,
+            befores,
+            afters,
+        })
+    }
+
+    /// What is true of any of them. A call does nothing.
+    pub fn law(&self)
+        ensures { IsWholeLinked self.now }
+    {
+        let _ = &self.befores;
+    }
+
+    /// How many places there are, with those that are gone.
+    pub fn len(&self) -> usize
+        ensures { result ≡ length self.now.positions }
+    {
+        self.index.positions().len()
+    }
+
+    /// The place is left.
+    pub fn is_left(&self, place: usize) -> bool
+        requires { place < length self.now.positions }
+        ensures { result ≡ is_left_at self.now.left place }
+    {
+        self.index.is_left(place)
+    }
+
+    /// The position of a place.
+    pub fn position(&self, place: usize) -> Position
+        requires { place < length self.now.positions }
+        ensures { result ≡ point_at self.now.positions place }
+    {
+        self.index.position(place)
+    }
+
+    /// The place before a place.
+    pub fn before(&self, place: usize) -> usize
+        requires { place < length self.now.positions }
+        ensures value { result ≡ slice_index self.now.befores place }
+        ensures within { result < length self.now.positions }
+    {
+        self.befores[place]
+    }
+
+    /// The place after a place.
+    pub fn after(&self, place: usize) -> usize
+        requires { place < length self.now.positions }
+        ensures value { result ≡ slice_index self.now.afters place }
+        ensures within { result < length self.now.positions }
+    {
+        self.afters[place]
+    }
+
+    /// The corner at a place between two others.
+    #[tactic(auto, unfolding(geometry::specs::Areas::twice_area))]
+    fn entry_between(&self, before: usize, place: usize, after: usize) -> Entry
+        requires before { before < length self.now.positions }
+        requires place { place < length self.now.positions }
+        requires after { after < length self.now.positions }
+        ensures { result ≡ entry_at self.now.positions before place after }
+    {
+        let at = self.index.position(place);
+        let first = self.index.position(before);
+        let last = self.index.position(after);
+        let area = cross(first, at, last).unsigned_abs();
+        Entry {
+            area,
+            at,
+            place,
+            before,
+            after,
+        }
+    }
+
+    /// The corner at a place, if there is one that is under the threshold.
+    pub fn entry(&self, place: usize, threshold: u128) -> Option<Entry>
+        ensures due { IfSome result (λ e. IsDue threshold self.now place) }
+        ensures value { IfSome result (λ e. e ≡ entry_in self.now place) }
+        ensures none { IfNone result (IsDue threshold self.now place → ⊥) }
+    {
+        if place >= self.len() {
+            return None;
+        }
+        if !self.is_left(place) {
+            return None;
+        }
+        let before = self.before(place);
+        if before == place {
+            return None;
+        }
+        let after = self.after(place);
+        if after == place {
+            return None;
+        }
+        let entry = self.entry_between(before, place, after);
+        if entry.area >= threshold {
+            return None;
+        }
+        Some(entry)
+    }
+
+    /// The entry's place is left, and its neighbours are those that its area was computed with.
+    pub fn is_current(&self, entry: &Entry) -> bool
+        ensures current { result ≡ true → IsCurrent self.now entry.now }
+        ensures stale { result ≡ false → IsCurrent self.now entry.now → ⊥ }
+    {
+        let place = entry.place;
+        if place >= self.len() {
+            return false;
+        }
+        if !self.is_left(place) {
+            return false;
+        }
+        if self.before(place) != entry.before {
+            return false;
+        }
+        self.after(place) == entry.after
+    }
+
+    /// The corner at a place, as the index is asked for it.
+    pub fn corner(&self, place: usize) -> Corner
+        requires { place < length self.now.positions }
+        ensures { result ≡ corner_in self.now place }
+    {
+        Corner {
+            before: self.position(self.before(place)),
+            at: self.position(place),
+            after: self.position(self.after(place)),
+            place,
+        }
+    }
+
+    /// A place that is left and blocks a corner.
+    pub fn holder(&self, corner: Corner) -> Option<usize>
+        ensures some { IfSome result (λ z. Meets self.now.positions self.now.left (is_blocked_by self.now.positions self.now.befores self.now.afters corner) z) }
+        ensures none { IfNone result (NoneMeets self.now.positions self.now.left (is_blocked_by self.now.positions self.now.befores self.now.afters corner)) }
+    {
+        let links = Links {
+            positions: self.index.positions(),
+            befores: self.befores.as_slice(),
+            afters: self.afters.as_slice(),
+        };
+        let blocked = Blocked {
+            corner,
+            links: &links,
+        };
+        self.index.find(&blocked)
+    }
+
+    /// The place goes, and its neighbours become each other's.
+    pub fn remove(&mut self, place: usize)
+        requires { place < length self.old.positions }
+        ensures { self.new ≡ unlinked place self.old }
+    {
+        let before = self.before(place);
+        let after = self.after(place);
+        self.index.remove(place);
+        self.befores[after] = before;
+        self.afters[before] = after;
+    }
+}

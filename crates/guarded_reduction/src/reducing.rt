@@ -1,0 +1,90 @@
+// The reduction.
+ghost use Rattle.std.specs.Prelude.{◌≡◌, ◌+◌, ◌≤◌, IfOk, [], true, length, map};
+ghost use Rattle.geometry.specs.Lists.{joined};
+ghost use Rattle.guarded_meaning.specs.Elimination.{reduce_arcs, remaining_arcs};
+ghost use Rattle.guarded_meaning.specs.Guards.{guarded_by};
+ghost use Rattle.guarded_reduction.specs.Numbers.{all_kept_indexes, kept_indexes, left_arcs};
+
+use crate::linked_places::LinkedPlaces;
+use crate::looking::next_corner;
+use crate::pushing::{first_corners, take_out};
+use crate::waiting_lists::WaitingLists;
+use geometry::Position;
+use owned_values::{Items, Memory};
+use std::alloc::Global;
+
+/// The places that stay.
+fn reduced_places(
+    alloc: Global,
+    arcs: &[Items<Position>],
+    threshold: u128,
+) -> Result<LinkedPlaces, Memory>
+    ensures positions { IfOk result (λ s. length s.positions ≡ length (joined arcs.now)) }
+    ensures left { IfOk result (λ s. left_arcs arcs.now s.left ≡ remaining_arcs (guarded_by true []) threshold arcs.now) }
+{
+    let mut places = LinkedPlaces::of(alloc, arcs)?;
+    let n = places.len();
+    let mut waiting = WaitingLists::none(alloc, n)?;
+    let mut heap = first_corners(alloc, &places, &waiting, threshold)?;
+    'corners: for _step in 0..n {
+        places.law();
+        let Some(entry) = next_corner(&mut heap, &mut waiting, &places, threshold)? else {
+            return Ok(places);
+        };
+        take_out(&mut heap, &mut places, &waiting, threshold, entry)?;
+    }
+    Ok(places)
+}
+
+/// Of n places from a first one on the indexes of those that are left.
+fn kept_from(
+    alloc: Global,
+    places: &LinkedPlaces,
+    first: usize,
+    n: usize,
+) -> Result<Vec<usize>, Memory>
+    requires { first + n ≤ length places.now.positions }
+    ensures { IfOk result (λ kept. kept.items ≡ kept_indexes places.now.left first n) }
+{
+    places.law();
+    let mut kept = Vec::new(alloc);
+    for i in 0..n {
+        if places.is_left(first + i) {
+            kept.push(i)?;
+        }
+    }
+    Ok(kept)
+}
+
+/// Of each arc the indexes of the places that are left.
+fn all_kept(
+    alloc: Global,
+    places: &LinkedPlaces,
+    arcs: &[Items<Position>],
+) -> Result<Vec<Vec<usize>>, Memory>
+    requires { length places.now.positions ≡ length (joined arcs.now) }
+    ensures { IfOk result (λ all. map (λ kept. kept.items) all.items ≡ all_kept_indexes places.now.left 0 arcs.now) }
+{
+    places.law();
+    let mut all = Vec::with_capacity(alloc, arcs.len())?;
+    let mut first = 0;
+    'arcs: for arc in arcs {
+        let n = arc.len();
+        all.push(kept_from(alloc, places, first, n)?)?;
+        first += n;
+    }
+    Ok(all)
+}
+
+/// Of each arc the numbers of the positions that stay, where all arcs are reduced at once and no corner goes that would make a crossing.
+pub fn reduce_without_crossings(
+    alloc: Global,
+    arcs: &[Items<Position>],
+    threshold: u128,
+) -> Result<Vec<Vec<usize>>, Memory>
+    ensures { IfOk result (λ kept. map (λ k. k.items) kept.items ≡ reduce_arcs (guarded_by true []) threshold arcs.now) }
+{
+    let places = reduced_places(alloc, arcs, threshold)?;
+    let kept = all_kept(alloc, &places, arcs)?;
+    Ok(kept)
+}

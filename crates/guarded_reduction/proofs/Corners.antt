@@ -1,11 +1,10 @@
 -- Corners and the neighbours on either side of them.
-use Rattle.std.proofs.Common.{◌≡◌, ◌≢◌, ℕ, suc, ◌+◌, ◌≤◌, List, [], ◌∷◌, ◌++◌, map, refl, ap, sym, ◌∙◌, subst, arith, ◌⊎◌, inl, inr}
+use Rattle.std.proofs.Common.{◌≡◌, ◌≢◌, ℕ, suc, ◌≤◌, List, [], ◌∷◌, ◌++◌, map, ap, sym, ◌∙◌, subst, arith, ◌⊎◌, inl, inr}
 use Rattle.std.specs.List.{AllByRecursion}
-use Rattle.owned_values.proofs.Elements.{all_append, all_weaker, each_of, all_of_map}
 use Rattle.owned_values.proofs.Members.{in_left, in_right, in_append}
 use Rattle.geometry.specs.Lists.{In}
 use Rattle.elimination_meaning.specs.Elimination.{Vertex}
-use Rattle.guarded_meaning.specs.Arcs.{ArcCorner, arc_corner_at, arc_corners_from, arc_corners, all_corners, Neighbours, neighbours_at, neighbours_from, neighbours, all_neighbours, HasOwnIndexes}
+use Rattle.guarded_meaning.specs.Arcs.{arc_corner_at, arc_corners, all_corners, Neighbours, neighbours_at, neighbours_from, neighbours, all_neighbours, HasOwnIndexes}
 
 -- ---- ends of neighbours
 

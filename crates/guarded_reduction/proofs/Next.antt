@@ -1,5 +1,5 @@
 -- The corner that is taken out is the next to go.
-use Rattle.std.proofs.Common.{◌≡◌, ◌≢◌, ℕ, zero, suc, ◌+◌, ◌<◌, ◌≤◌, Bool, true, false, not, ◌&&◌, List, [], ◌∷◌, length, map, slice_index, slice_set, Option, Some, None, refl, ap, sym, ◌∙◌, subst, ◌⊎◌, inl, inr, arith}
+use Rattle.std.proofs.Common.{◌≡◌, ℕ, zero, suc, ◌<◌, ◌≤◌, Bool, true, false, List, [], slice_index, slice_set, Option, Some, None, refl, ap, sym, ◌∙◌, subst, ◌⊎◌, inl, inr, arith}
 use Rattle.std.specs.List.{Contains}
 use Rattle.std.specs.Cmp.{IsTotalOrder, IsStrictWeakOrder}
 use Rattle.std.specs.Ordering.{ordering_then, nat_cmp, is_lt}
@@ -14,14 +14,14 @@ use Rattle.geometry.specs.Lists.{In}
 use Rattle.geometry.specs.Order.{point_cmp}
 use Rattle.geometry.specs.Points.{Point}
 use Rattle.elimination_meaning.specs.Elimination.{Vertex}
-use Rattle.guarded_meaning.specs.Arcs.{ArcCorner, all_corners, left_by}
-use Rattle.guarded_meaning.specs.Elimination.{Guard, arc_corner_cmp, eliminate_arcs, goes, goes_before, next_arcs}
+use Rattle.guarded_meaning.specs.Arcs.{ArcCorner, all_corners}
+use Rattle.guarded_meaning.specs.Elimination.{Guard, eliminate_arcs, goes, goes_before, next_arcs}
 use Rattle.guarded_meaning.specs.Guards.{guarded_by, is_free, keeps_rings}
 use Rattle.guarded_meaning.proofs.First.{next_law, no_next_law}
 use Rattle.position_index.specs.declared.query.Corner.{Corner}
 use Rattle.position_index.specs.Blocking.{is_blocked_by}
 use Rattle.position_index.specs.Indexes.{Meets, NoneMeets, point_at}
-use Rattle.position_index.specs.Laws.{IsOwn, asked}
+use Rattle.position_index.specs.Laws.{asked}
 use Rattle.position_index.specs.Tests.{is_held_by}
 use Rattle.position_index.proofs.Free.{free_law}
 use Rattle.position_index.proofs.NotFree.{blocked_law}

@@ -2,7 +2,7 @@
 use Rattle.std.proofs.Common.{◌≡◌, ℕ, zero, suc, ◌+◌, ◌<◌, Bool, true, false, List, [], ◌∷◌, ◌++◌, length, map, slice_index_or, refl, ap, sym, ◌∙◌, subst, arith, ◌⊎◌, inl, inr, if◌then◌else◌}
 use Rattle.std.specs.List.{AllByRecursion, filter}
 use Rattle.std.proofs.lemmas.List.{get_or_append_left, get_or-append-add}
-use Rattle.owned_values.proofs.Elements.{all_append, each_of}
+use Rattle.owned_values.proofs.Elements.{all_append}
 use Rattle.owned_values.proofs.Members.{in_left, in_right, in_append}
 use Rattle.geometry.specs.Lists.{In, joined}
 use Rattle.geometry.specs.Points.{Point}

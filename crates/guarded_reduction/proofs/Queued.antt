@@ -1,5 +1,5 @@
 -- The heap and the waits cover all corners under the threshold while corners are looked at and go.
-use Rattle.std.proofs.Common.{◌≡◌, ◌≢◌, ℕ, ◌+◌, ◌<◌, ◌==◌, Bool, true, false, not, ◌&&◌, ◌||◌, List, [], ◌∷◌, length, slice_index, slice_index_or, slice_set, get_or-set_other, refl, ap, sym, ◌∙◌, subst, ◌⊎◌, inl, inr, arith}
+use Rattle.std.proofs.Common.{◌≡◌, ◌≢◌, ℕ, ◌<◌, ◌==◌, true, false, not, ◌&&◌, ◌||◌, List, ◌∷◌, length, slice_index, slice_index_or, get_or-set_other, refl, ap, sym, ◌∙◌, subst, ◌⊎◌, inl, inr, arith}
 use Rattle.std.specs.BinaryHeap.{IsUpperBound}
 use Rattle.std.specs.List.{Contains}
 use Rattle.std.specs.List.Sorted.{IsPermutation}
@@ -17,7 +17,7 @@ use Rattle.position_index.specs.Indexes.{Meets, NoneMeets, is_left_at, point_at}
 use Rattle.position_index.specs.Tests.{is_held_by}
 use Rattle.position_index.proofs.Indexes.{left_before}
 use Rattle.guarded_reduction.specs.declared.entry.Entry.{Entry}
-use Rattle.guarded_reduction.specs.Entries.{IsCurrent, IsDue, IsSound, entry_at, entry_cmp, entry_in, turned, turned_cmp}
+use Rattle.guarded_reduction.specs.Entries.{IsCurrent, IsDue, IsSound, entry_at, entry_in, turned, turned_cmp}
 use Rattle.guarded_reduction.specs.Linking.{Linked, IsChained, IsCorner, IsWhole, corner_in, unlinked}
 use Rattle.guarded_reduction.specs.States.{HoldsByLink, IsHeld, IsNext, IsQueued, Pushed, PushedAll, blocks}
 use Rattle.guarded_reduction.specs.Waiting.{KeepsWaits, Waiting, WaitsOn}

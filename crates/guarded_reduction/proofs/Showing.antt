@@ -1,12 +1,12 @@
 -- What lists that show arcs say of their corners.
-use Rattle.std.proofs.Common.{◌≡◌, ◌≢◌, ℕ, suc, ◌+◌, ◌<◌, ◌==◌, Bool, true, false, ◌&&◌, ◌||◌, List, [], ◌∷◌, ◌++◌, length, map, slice_index, slice_index_or, refl, ap, sym, ◌∙◌, subst, ◌⊎◌, inl, inr, arith}
-use Rattle.std.specs.List.{AllByRecursion, filter}
+use Rattle.std.proofs.Common.{◌≡◌, ◌≢◌, ℕ, suc, ◌<◌, ◌==◌, Bool, true, false, ◌&&◌, ◌||◌, List, [], ◌∷◌, length, map, slice_index, refl, ap, sym, ◌∙◌, subst, ◌⊎◌, inl, inr, arith}
+use Rattle.std.specs.List.{AllByRecursion}
 use Rattle.std.proofs.lemmas.Bool.{and_parts, or_cases, false_from_ne_true}
 use Rattle.std.proofs.lemmas.Bool.Decides.{nat_tests}
 use Rattle.owned_values.proofs.Elements.{each_of}
 use Rattle.owned_values.proofs.Members.{in_right}
 use Rattle.geometry.specs.Areas.{twice_area}
-use Rattle.geometry.specs.Lists.{In, joined}
+use Rattle.geometry.specs.Lists.{In}
 use Rattle.geometry.specs.Points.{Point}
 use Rattle.elimination_meaning.specs.Elimination.{Vertex, numbered}
 use Rattle.elimination_meaning.proofs.Sublists.{sub_filter, sub_map, sub_apart}
@@ -23,7 +23,7 @@ use Rattle.guarded_reduction.specs.Entries.{entry_in}
 use Rattle.guarded_reduction.specs.Linking.{Linked, IsChained, IsCorner, IsShowing}
 use Rattle.guarded_reduction.specs.Numbers.{number, HasPlace, left_arcs}
 use Rattle.guarded_reduction.proofs.Corners.{corner_between}
-use Rattle.guarded_reduction.proofs.Numbers.{number_within, numbers_rise, same_number}
+use Rattle.guarded_reduction.proofs.Numbers.{numbers_rise, same_number}
 use Rattle.guarded_reduction.proofs.Placed.{placed}
 
 -- ---- arcs without some places

@@ -1,13 +1,13 @@
 -- Lists that show arcs show what is left when a corner goes.
-use Rattle.std.proofs.Common.{◌≡◌, ◌≢◌, ℕ, ◌+◌, ◌<◌, Bool, true, false, not, List, [], ◌∷◌, ◌++◌, length, map, slice_index, slice_index_or, slice_set, get_or-set_same, get_or-set_other, refl, ap, sym, ◌∙◌, subst, ◌⊎◌, inl, inr, arith, if◌then◌else◌}
+use Rattle.std.proofs.Common.{◌≡◌, ◌≢◌, ℕ, ◌<◌, Bool, true, false, not, List, ◌∷◌, length, map, slice_index, slice_index_or, slice_set, get_or-set_same, get_or-set_other, refl, ap, sym, ◌∙◌, subst, ◌⊎◌, inl, inr, arith, if◌then◌else◌}
 use Rattle.std.proofs.lemmas.Bool.{both_ways, cases_eq, not-true}
 use Rattle.owned_values.proofs.Elements.{each_of}
 use Rattle.owned_values.proofs.Members.{in_append, in_left, in_right}
-use Rattle.geometry.specs.Lists.{In, joined}
+use Rattle.geometry.specs.Lists.{In}
 use Rattle.geometry.specs.Points.{Point}
 use Rattle.elimination_meaning.specs.Elimination.{Vertex, numbered}
 use Rattle.guarded_meaning.specs.Agendas.{Across, Inside}
-use Rattle.guarded_meaning.specs.Arcs.{ArcCorner, all_corners, Place, place_at, places, is_place_of, Neighbours, neighbours_at, all_neighbours, is_pair_of, left_by}
+use Rattle.guarded_meaning.specs.Arcs.{ArcCorner, all_corners, Place, places, is_place_of, Neighbours, neighbours_at, all_neighbours, is_pair_of, left_by}
 use Rattle.guarded_meaning.proofs.Agendas.{holder_stays, places_passing}
 use Rattle.guarded_meaning.proofs.Lists.{passed_says}
 use Rattle.guarded_meaning.proofs.Neighbours.{AreParted, all_parted}
@@ -19,7 +19,7 @@ use Rattle.guarded_reduction.specs.Linking.{Linked, IsShowing, IsWhole, unlinked
 use Rattle.guarded_reduction.specs.Numbers.{number, HasPlace, left_arcs}
 use Rattle.guarded_reduction.proofs.Numbers.{same_number}
 use Rattle.guarded_reduction.proofs.Placed.{passing_where, placed}
-use Rattle.guarded_reduction.proofs.Showing.{IsShownCorner, among, ascends, other_pair, other_place, own_from, own_left, own_place, own_to, place_of, shown_corner}
+use Rattle.guarded_reduction.proofs.Showing.{IsShownCorner, ascends, other_pair, other_place, own_from, own_left, own_place, own_to, place_of, shown_corner}
 
 stays_so : (l p : Bool) → p ≡ false → l ≡ (if l then not p else false)
 stays_so true p h = sym (ap not h)

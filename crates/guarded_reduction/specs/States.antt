@@ -1,9 +1,8 @@
 -- What is kept true while corners go.
-use Rattle.std.specs.Prelude.{◌≡◌, ◌≢◌, ◌⊎◌, ℕ, ◌<◌, true, false, List, length, slice_index}
+use Rattle.std.specs.Prelude.{◌≡◌, ◌⊎◌, ℕ, ◌<◌, true, false, List, length, slice_index}
 use Rattle.std.specs.List.{Contains}
 use Rattle.std.specs.Ordering.{is_lt}
 use Rattle.std.specs.declared.cmp.Reverse.{Reverse}
-use Rattle.geometry.specs.Points.{Point}
 use Rattle.position_index.specs.Blocking.{is_blocked_by}
 use Rattle.position_index.specs.Indexes.{NoneMeets, is_left_at, point_at}
 use Rattle.position_index.specs.Tests.{Test, is_held_by}

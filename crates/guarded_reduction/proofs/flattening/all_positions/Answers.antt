@@ -1,4 +1,4 @@
-use Rattle.std.proofs.Common.{◌≡◌, ◌++◌, sym, ◌∙◌, ap}
+use Rattle.std.proofs.Common.{◌++◌, ◌∙◌, ap}
 use Rattle.guarded_reduction.proofs.Flattened.{positions_all, positions_more}
 use Rattle.guarded_reduction.proofs.flattening.all_positions.Goals as goal
 

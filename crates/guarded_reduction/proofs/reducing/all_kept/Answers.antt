@@ -1,5 +1,4 @@
-use Rattle.std.proofs.Common.{◌+◌, drop, length, arith}
-use Rattle.geometry.specs.Lists.{joined}
+use Rattle.std.proofs.Common.{arith}
 use Rattle.guarded_reduction.proofs.Flattened.{ahead, all_kept_all, all_kept_more}
 use Rattle.guarded_reduction.proofs.reducing.all_kept.Goals as goal
 

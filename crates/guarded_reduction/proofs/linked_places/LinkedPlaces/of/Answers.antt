@@ -1,5 +1,4 @@
 use Rattle.std.proofs.Common.{◌<◌, ◌^◌, List, ap, length, subst, sym, ◌∙◌}
-use Rattle.geometry.specs.Lists.{joined}
 use Rattle.geometry.specs.Points.{Point}
 use Rattle.position_index.specs.Shown.{Shown, all_left}
 use Rattle.guarded_reduction.specs.Linking.{IsWhole}

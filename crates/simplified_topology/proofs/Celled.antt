@@ -40,7 +40,7 @@ retained_map f [] xs = refl
 retained_map f (i ∷ is) xs = ap (λ o. with_some o (retained is (map f xs))) (at_map f xs i) ∙ ap (with_some (map_some f (at xs i)))
     (retained_map f is xs) ∙ (grind arith)
 
-arcs_map : (f : Point → Point) (kept : List (List ℕ)) (arcs : List (List Point)) → retained_arcs kept (map (map f) arcs) ≡ map (map f) (retained_arcs kept arcs)
+pub arcs_map : (f : Point → Point) (kept : List (List ℕ)) (arcs : List (List Point)) → retained_arcs kept (map (map f) arcs) ≡ map (map f) (retained_arcs kept arcs)
 arcs_map f [] arcs = refl
 arcs_map f (is ∷ kept) [] = refl
 arcs_map f (is ∷ kept) (a ∷ arcs) = ap (λ x. x ∷ retained_arcs kept (map (map f) arcs)) (retained_map f is a) ∙ ap (λ xs. map f (retained is a) ∷ xs) (arcs_map f kept arcs)
@@ -126,28 +126,32 @@ module _ (transform : Transform) (cell : Point → Point) where
       ∙ ap (λ arcs. record { objects = objects_celled cell (objects_pruned (line_renumbered (is_used y.objects)) y.objects); arcs = arcs; transform = Some transform })
       (sym (kept_of_map (map cell) (is_used y.objects) 0 y.arcs))
 
-  module _ (t limit : ℕ) (os : List (List ℕ × TopoObject)) (arcs : List (List Point)) (lie : AllByRecursion Lies arcs) where
+  module _ (limit : ℕ) (os : List (List ℕ × TopoObject)) (arcs : List (List Point)) (lie : AllByRecursion Lies arcs) where
     abbrev plain : Contents
     plain = record { objects = os; arcs = arcs; transform = None }
 
     abbrev on_grid : List (List Point) → List (List Point) → Contents
     on_grid places cells = record { objects = objects_pruned (large_refs limit places) (objects_celled cell os); arcs = cells; transform = Some transform }
 
-    pub simplified_celled : simplified_contents t limit (celled transform cell (record { objects = os; arcs = arcs; transform = None })) ≡ celled transform cell (simplified_contents t limit (record { objects = os; arcs = arcs; transform = None }))
-    unfolding simplified_contents simplified_by celled
-    simplified_celled =
-        let kept : List (List ℕ) = map (reduce t) arcs in
+    -- by the same numbers
+    pub retained_celled : (kept : List (List ℕ)) → simplified_by kept limit (celled transform cell (record { objects = os; arcs = arcs; transform = None })) ≡ celled transform cell (simplified_by kept limit (record { objects = os; arcs = arcs; transform = None }))
+    unfolding simplified_by celled
+    retained_celled kept =
         let fewer : List (List Point) = retained_arcs kept arcs in
-        ap (λ k. trimmed (on_grid (map (map (place_on transform)) (retained_arcs k (map (map cell) arcs))) (retained_arcs k (map (map cell) arcs)))) (indexes_same t arcs lie)
-        ∙ ap (λ x. trimmed (on_grid (map (map (place_on transform)) x) x)) (arcs_map cell kept arcs)
+        ap (λ x. trimmed (on_grid (map (map (place_on transform)) x) x)) (arcs_map cell kept arcs)
         ∙ ap (λ x. trimmed (on_grid x (map (map cell) fewer))) (all_lie_back fewer (retained_lie kept arcs lie))
         ∙ ap (λ x. trimmed (record { objects = x; arcs = map (map cell) fewer; transform = Some transform })) (objects_turn (large_refs limit fewer) os)
         ∙ trimmed_celled (retained_whole kept limit plain)
+
+    pub simplified_celled : (t : ℕ) → simplified_contents t limit (celled transform cell (record { objects = os; arcs = arcs; transform = None })) ≡ celled transform cell (simplified_contents t limit (record { objects = os; arcs = arcs; transform = None }))
+    unfolding simplified_contents celled
+    simplified_celled t =
+        ap (λ k. simplified_by k limit (celled transform cell plain)) (indexes_same t arcs lie) ∙ retained_celled (map (reduce t) arcs)
 
 -- ---- what is built of layers
 
 pub simplifies_on_grid : DirectionLaw → ZeroLaw → NoneIsNew → SimplifiesToBuiltOnGrid
 unfolding built trimmed
 simplifies_on_grid law stays none transform cell t limit ls sound lie =
-    (simplified_celled transform cell t limit (built 0 0 ls).objects (built 0 0 ls).arcs (built_cells none (LiesBack transform cell) 0 0 ls lie).0) ∙ ap
+    (simplified_celled transform cell limit (built 0 0 ls).objects (built 0 0 ls).arcs (built_cells none (LiesBack transform cell) 0 0 ls lie).0 t) ∙ ap
     (celled transform cell) (simplifies_to_built law stays t limit ls sound)

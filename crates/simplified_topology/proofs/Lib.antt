@@ -6,6 +6,9 @@ pub mod BuiltOnGrid
 pub mod Celled
 pub mod CelledDecoding
 mod GridRows
+pub mod Guarded
+pub mod GuardedLayers
+mod GuardedRows
 pub mod Kept
 pub mod KeptLabels
 pub mod Simplified

@@ -36,7 +36,7 @@ module _ (g : Axes) (grid : IsGrid g) where
   is_placed : (p : Point) → On p → Placed p
   is_placed p on = ((on_grid g p grid on.0).0, lies p on)
 
-  all_lie : (ps : List Point) → AllByRecursion On ps → AllByRecursion Lies ps
+  pub all_lie : (ps : List Point) → AllByRecursion On ps → AllByRecursion Lies ps
   all_lie ps h = all_weaker On Lies lies ps h
 
   all_placed : (ps : List Point) → AllByRecursion On ps → AllByRecursion Placed ps

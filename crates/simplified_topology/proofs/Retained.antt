@@ -16,7 +16,7 @@ use Rattle.owned_values.proofs.Elements.{all_parts, all_map, all_of_map, all_two
 use Rattle.owned_values.proofs.Lists.{map_agree}
 
 -- the vertex stands in the line at its index
-abbrev Stands : List Point → Vertex → Type 0
+abbrev pub Stands : List Point → Vertex → Type 0
 Stands ps v = at ps v.index ≡ Some v.point
 
 numbered_stand : (ps : List Point) (i : ℕ) (qs : List Point) → ((j : ℕ) → at ps (i + j) ≡ at qs j) → AllByRecursion (Stands ps) (numbered i qs)
@@ -26,16 +26,17 @@ numbered_stand ps i (q ∷ qs) h = (
   numbered_stand ps (i + 1) qs (λ j. ap (at ps) (let e : i + 1 + j ≡ i + suc j = omega arith in e) ∙ h (suc j)),
 )
 
-points_retained : (ps : List Point) (vs : List Vertex) → AllByRecursion (Stands ps) vs → retained (map (λ v. v.index) vs) ps ≡ map (λ v. v.point) vs
+pub points_retained : (ps : List Point) (vs : List Vertex) → AllByRecursion (Stands ps) vs → retained (map (λ v. v.index) vs) ps ≡ map (λ v. v.point) vs
 points_retained ps [] h = refl
 points_retained ps (v ∷ vs) h = ap (λ o. with_some o (retained (map (λ v. v.index) vs) ps)) h.0 ∙ ap (λ l. v.point ∷ l) (points_retained ps vs h.1)
 
+-- each vertex of the line stands in it
+pub all_stand : (ps : List Point) → AllByRecursion (Stands ps) (numbered 0 ps)
+all_stand ps = numbered_stand ps 0 ps (λ j. ap (at ps) (let e : 0 + j ≡ j = omega arith in e))
+
 pub retained_is_reduced : RetainedIsReduced
 unfolding reduce reduced
-retained_is_reduced t ps =
-    points_retained ps (remaining t ps)
-    (sub_all (Stands ps) (eliminate_sub (length ps) t (numbered 0 ps))
-    (numbered_stand ps 0 ps (λ j. ap (at ps) (let e : 0 + j ≡ j = omega arith in e))))
+retained_is_reduced t ps = points_retained ps (remaining t ps) (sub_all (Stands ps) (eliminate_sub (length ps) t (numbered 0 ps)) (all_stand ps))
 
 -- each arc is retained by its own indexes
 pub retained_each : (f : List Point → List ℕ) (arcs : List (List Point)) → retained_arcs (map f arcs) arcs ≡ map (λ a. retained (f a) a) arcs

@@ -73,7 +73,7 @@ module _ (limit : ℕ) (u : ℕ → Bool) (arcs : List (List Point)) where
   refs_same b h = search (arith, all_renumbered u arcs b.1 h)
 
   -- reduced and then renumbered is renumbered and then reduced
-  objects_same : (os : List (List ℕ × TopoObject)) → AllByRecursion (AllUsed u) (objects_lines_and_rings os) →
+  pub objects_same : (os : List (List ℕ × TopoObject)) → AllByRecursion (AllUsed u) (objects_lines_and_rings os) →
       objects_pruned (large_refs limit fewer) (objects_pruned (line_renumbered u) os) ≡ objects_pruned (line_renumbered u) (objects_pruned (large_refs limit arcs) os)
   objects_same os h =
       objects_then (line_renumbered u) (large_refs limit fewer) (λ closed refs. then_some (line_renumbered u closed) (large_refs limit arcs closed refs)) os
@@ -82,7 +82,7 @@ module _ (limit : ℕ) (u : ℕ → Bool) (arcs : List (List Point)) where
       (all_hold (λ b. then_some (line_renumbered u b.0) (large_refs limit arcs b.0 b.1) ≡ then_some (line_renumbered u b.0) (large_refs limit arcs b.0 b.1)) (λ b. refl) (objects_lines_and_rings os)))
 
   -- no index is new
-  left_used : (os : List (List ℕ × TopoObject)) → AllByRecursion (AllUsed u) (objects_lines_and_rings os) → AllByRecursion (AllUsed u) (objects_lines_and_rings (objects_pruned (large_refs limit arcs) os))
+  pub left_used : (os : List (List ℕ × TopoObject)) → AllByRecursion (AllUsed u) (objects_lines_and_rings os) → AllByRecursion (AllUsed u) (objects_lines_and_rings (objects_pruned (large_refs limit arcs) os))
   left_used os h = grind (arith, objects_left (large_refs limit arcs) (AllUsed u) os, all_weaker (AllUsed u))
 
 -- ---- topologies

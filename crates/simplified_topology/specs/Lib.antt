@@ -3,6 +3,8 @@ pub mod Celled
 pub mod GridLaws
 pub mod GridTransforms
 pub mod Quantized
+pub mod Guarded
+pub mod GuardedLaws
 pub mod Laws
 pub mod Simplified
 pub mod Thresholds

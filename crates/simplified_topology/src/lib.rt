@@ -7,12 +7,18 @@
 #![tactic(auto)]
 
 mod grid_laws;
+mod guarded_laws;
 mod laws;
 mod transform_laws;
 
 pub use grid_laws::{
     built_cells_are_on, built_decodes_quantized, built_is_valid_quantized, quantized_decodes,
     quantized_is_valid, quantized_keeps, simplifies_quantized, snapped_are_on, snapped_keep,
+};
+pub use guarded_laws::{
+    arcs_retained_are_reduced, guarded_arc_indexes_reach, guarded_arcs_are_reduced,
+    guarded_crossings_never_rise, guarded_indexes_reach, guarded_is_assembled, guarded_is_valid,
+    guarded_keeps, guarded_none_stays_none, trimmed_first_is_alike, unguarded_is_simplified,
 };
 pub use laws::{
     arc_indexes_reach, assembled_is_valid, assembles_to_built, assembling_drops_expected,

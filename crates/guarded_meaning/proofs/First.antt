@@ -21,7 +21,7 @@ use Rattle.guarded_meaning.proofs.Order.{arc_corner_total, goes_order}
 then_equal : (p q : Ordering) → ordering_then p q ≡ Equal → (p ≡ Equal) × (q ≡ Equal)
 then_equal p q h = grind arith
 
-abbrev Alike : ArcCorner → ArcCorner → Type 0
+abbrev pub Alike : ArcCorner → ArcCorner → Type 0
 Alike c d = (c.arc ≡ d.arc) × (c.corner ≡ d.corner)
 
 arc_exact : (c d : ArcCorner) → arc_corner_cmp c d ≡ Equal → Alike c d
@@ -38,7 +38,7 @@ arc_exact c d h = grind (
 neither : (p q : Ordering) → p ≡ ordering_reverse q → is_lt p ≡ false → is_lt q ≡ false → p ≡ Equal
 neither p q e h k = grind arith
 
-tied : (c d : ArcCorner) → goes_before c d ≡ false → goes_before d c ≡ false → Alike c d
+pub tied : (c d : ArcCorner) → goes_before c d ≡ false → goes_before d c ≡ false → Alike c d
 unfolding goes_before
 tied c d h k = arc_exact c d (neither (arc_corner_cmp c d) (arc_corner_cmp d c) (arc_corner_total.antisymm c d) h k)
 

@@ -23,7 +23,7 @@ filter_all : {X : Type 0} (r : X → Bool) → ((x : X) → r x ≡ true) → (x
 filter_all r f [] = refl
 filter_all r f (x ∷ xs) = ap (λ b. if b then x ∷ filter r xs else filter r xs) (f x) ∙ ap (λ l. x ∷ l) (filter_all r f xs)
 
-pub passing_both : (p q r : Place → Bool) → ((x : Place) → r x ≡ (if q x then p x else false)) → (k : ℕ) (arcs : List (List Vertex)) → passing p k (passing q k arcs) ≡ passing r k arcs
+passing_both : (p q r : Place → Bool) → ((x : Place) → r x ≡ (if q x then p x else false)) → (k : ℕ) (arcs : List (List Vertex)) → passing p k (passing q k arcs) ≡ passing r k arcs
 passing_both p q r f k [] = refl
 passing_both p q r f k (vs ∷ arcs) = ap (λ ws. ws ∷ passing p (suc k) (passing q (suc k) arcs)) (filter_both (λ v. p (place_at k v)) (λ v. q (place_at k v)) (λ v. r (place_at k v)) (λ v. f (place_at k v)) vs)
     ∙ ap (λ more. filter (λ v. r (place_at k v)) vs ∷ more) (passing_both p q r f (suc k) arcs)

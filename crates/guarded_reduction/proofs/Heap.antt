@@ -8,7 +8,8 @@ use Rattle.std.proofs.lemmas.List.Sorted.{Contains-permutation, IsPermutation-sy
 use Rattle.effective_area.proofs.HeapLaws.{contains_cases, contains_here, contains_later}
 use Rattle.guarded_reduction.specs.declared.entry.Entry.{Entry}
 use Rattle.guarded_reduction.specs.Entries.{IsDue, IsSound, entry_in, turned}
-use Rattle.guarded_reduction.specs.Linking.{Linked}
+use Rattle.geometry.specs.Units.{area_limit}
+use Rattle.guarded_reduction.specs.Linking.{Linked, IsCorner}
 use Rattle.guarded_reduction.specs.States.{Pushed}
 use Rattle.guarded_reduction.specs.declared.waiting_lists.Wait.{Wait}
 use Rattle.guarded_reduction.specs.Waiting.{WaitsFrom, here, later, wait_at}
@@ -17,8 +18,9 @@ use Rattle.guarded_reduction.specs.Waiting.{WaitsFrom, here, later, wait_at}
 pub due_sound : (t : ℕ) (s : Linked) (v : ℕ) → IsDue t s v → IsSound t s.positions (entry_in s v)
 due_sound t s v h = record { is = refl; before = h.corner.before; after = h.corner.after; under = h.under }
 
-pub pushed : (t : ℕ) (s : Linked) (old new : List (Reverse Entry)) (v : ℕ) (e : Entry) → IsPermutation (turned e ∷ old) new → IsDue t s v → e ≡ entry_in s v → Pushed t s old new v
-pushed t s old new v e perm due is = record {
+pub pushed : (t : ℕ) (s : Linked) (old new : List (Reverse Entry)) (v : ℕ) (e : Entry) → IsPermutation (turned e ∷ old) new → IsDue t s v → e ≡ entry_in s v → (IsCorner s v → (entry_in s v).area < area_limit) → Pushed t s old new v
+pushed t s old new v e perm due is below = record {
+  below = below;
   has = λ d h. Contains-permutation (turned e ∷ old) new (turned d) perm (contains_later (turned e) old (turned d) h);
   here = λ _. subst (λ x. Contains new (turned x)) is (Contains-permutation (turned e ∷ old) new (turned e) perm (contains_here (turned e) old));
   only = λ d h. on d (contains_cases (turned e) old (turned d) (Contains-permutation new (turned e ∷ old) (turned d) (IsPermutation-sym (turned e ∷ old) new perm) h));
@@ -36,6 +38,14 @@ one_more t s old new v n p h l due = on (cases_eq v n)
     on : (v ≡ n) ⊎ (v ≢ n) → Contains new (turned (entry_in s v))
     on (inl e) = subst (λ (u : ℕ). Contains new (turned (entry_in s u))) (sym e) (p.here (subst (IsDue t s) e due))
     on (inr e) = p.has (entry_in s v) (h v (omega (arith, l, e)) due)
+
+pub one_more_below : (t : ℕ) (s : Linked) (old new : List (Reverse Entry)) (v n : ℕ) → Pushed t s old new n →
+    ((u : ℕ) → u < n → IsCorner s u → (entry_in s u).area < area_limit) → v < n + 1 → IsCorner s v → (entry_in s v).area < area_limit
+one_more_below t s old new v n p h l k = on (cases_eq v n)
+  where
+    on : (v ≡ n) ⊎ (v ≢ n) → (entry_in s v).area < area_limit
+    on (inl e) = subst (λ (u : ℕ). (entry_in s u).area < area_limit) (sym e) (p.below (subst (IsCorner s) e k))
+    on (inr e) = h v (omega (arith, l, e)) k
 
 pub still_sound : (t : ℕ) (s : Linked) (old new : List (Reverse Entry)) (v : ℕ) → Pushed t s old new v → ((d : Entry) → Contains old (turned d) → IsSound t s.positions d) →
     (d : Entry) → Contains new (turned d) → IsSound t s.positions d

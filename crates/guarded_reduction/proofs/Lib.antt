@@ -10,3 +10,4 @@ pub mod Showing
 pub mod Starts
 pub mod Unlinking
 pub mod Waits
+pub mod Weighed

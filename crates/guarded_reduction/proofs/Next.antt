@@ -6,29 +6,30 @@ use Rattle.std.specs.Ordering.{ordering_then, nat_cmp, is_lt}
 use Rattle.std.specs.declared.cmp.Ordering.{Ordering}
 use Rattle.std.specs.declared.cmp.Ordering.TheVariants.{Less, Equal, Greater}
 use Rattle.std.specs.declared.cmp.Reverse.{Reverse}
-use Rattle.std.proofs.lemmas.Bool.{and_parts, and_from, both_ways, cases_lt, false_from_ne_true, lt-ltb, ltb-true, or_left}
+use Rattle.std.proofs.lemmas.Bool.{and_parts, and_from, both_ways, cases_lt, false_from_ne_true, lt-ltb, ltb-true}
 use Rattle.std.proofs.lemmas.Bool.Decides.{nat_tests}
 use Rattle.std.proofs.lemmas.Cmp.{on_total, then_total, nat_cmp_total, int_cmp_total}
 use Rattle.std.proofs.lemmas.List.MinMax.{ranks_by}
 use Rattle.geometry.specs.Lists.{In}
 use Rattle.geometry.specs.Order.{point_cmp}
 use Rattle.geometry.specs.Points.{Point}
+use Rattle.geometry.specs.Units.{area_limit}
 use Rattle.elimination_meaning.specs.Elimination.{Vertex}
-use Rattle.guarded_meaning.specs.Arcs.{ArcCorner, all_corners}
-use Rattle.guarded_meaning.specs.Elimination.{Guard, eliminate_arcs, goes, goes_before, next_arcs}
+use Rattle.guarded_meaning.specs.Arcs.{ArcCorner, all_corners, left_by}
+use Rattle.guarded_meaning.specs.Elimination.{Guard, eliminate_arcs, goes, goes_before, next_arcs, next_corner}
 use Rattle.guarded_meaning.specs.Guards.{guarded_by, is_free, keeps_rings}
-use Rattle.guarded_meaning.proofs.First.{next_law, no_next_law}
+use Rattle.guarded_meaning.proofs.First.{next_is, next_law, no_next_law, none_is_next, tied}
 use Rattle.position_index.specs.declared.query.Corner.{Corner}
 use Rattle.position_index.specs.Blocking.{is_blocked_by}
-use Rattle.position_index.specs.Indexes.{Meets, NoneMeets, point_at}
+use Rattle.position_index.specs.Indexes.{Meets, NoneMeets, is_left_at, point_at}
 use Rattle.position_index.specs.Laws.{asked}
 use Rattle.position_index.specs.Tests.{is_held_by}
-use Rattle.position_index.proofs.Free.{free_law}
+use Rattle.position_index.proofs.Free.{blocked_inside, free_law}
 use Rattle.position_index.proofs.NotFree.{blocked_law}
 use Rattle.guarded_reduction.specs.declared.entry.Entry.{Entry}
-use Rattle.guarded_reduction.specs.Entries.{IsDue, entry_cmp, entry_in, turned}
+use Rattle.guarded_reduction.specs.Entries.{AreBelow, IsDue, entry_cmp, entry_in, turned}
 use Rattle.guarded_reduction.specs.Linking.{Linked, IsShowing, IsWhole, corner_in, unlinked}
-use Rattle.guarded_reduction.specs.Numbers.{number, left_arcs}
+use Rattle.guarded_reduction.specs.Numbers.{HasPlace, left_arcs, number}
 use Rattle.guarded_reduction.specs.States.{HoldsByLink, IsHeld, IsNext, NoneNext, blocks}
 use Rattle.guarded_reduction.specs.Waiting.{Waiting}
 use Rattle.guarded_reduction.proofs.Numbers.{numbers_rise}
@@ -92,10 +93,6 @@ passes t arcs c l f = and_from _ _ (lt-ltb c.corner.area t l) (and_from _ _ f re
 
 passed : (t : ℕ) (arcs : List (List Vertex)) (c : ArcCorner) → goes (guarded_by true []) t arcs c ≡ true → (c.corner.area < t) × (is_free arcs c ≡ true)
 passed t arcs c h = let r = and_parts _ _ h in (ltb-true c.corner.area t r.0, (and_parts _ _ r.1).0)
-
-blocked_inside : (ps : List Point) (bs cs : List ℕ) (q : Corner) (z : ℕ) (p : Point) → is_held_by q z p ≡ true → is_blocked_by ps bs cs q z p ≡ true
-unfolding is_blocked_by
-blocked_inside ps bs cs q z p h = or_left _ _ h
 
 module _ (arcs : List (List Point)) (t : ℕ) (s : Linked) (show : IsShowing arcs s) where
   abbrev now : List (List Vertex)
@@ -185,6 +182,67 @@ module _ (arcs : List (List Point)) (t : ℕ) (s : Linked) (show : IsShowing arc
 
     pub showing_next : IsWhole s → IsShowing arcs (unlinked e.place s)
     showing_next whole = subst (λ z. IsShowing arcs (unlinked z s)) the_one.number_is (still_showing arcs s whole show one the_one.there)
+
+-- ---- without a threshold
+
+-- a corner that is the next of all, but for the positions beside it, whose place is the entry's
+pub record IsGone (arcs : List (List Point)) (s : Linked) (e : Entry) : Type 0 where
+  pub one : ArcCorner
+  pub has_place : HasPlace arcs one.arc one.corner.index
+  pub number_is : number arcs one.arc one.corner.index ≡ e.place
+  pub left : is_left_at s.left e.place ≡ true
+  pub area : one.corner.area ≡ e.area
+  pub next : ArcCorner
+  pub is_next : next_corner (guarded_by true []) (left_arcs arcs s.left) ≡ Some next
+  pub same_arc : next.arc ≡ one.arc
+  pub same_corner : next.corner ≡ one.corner
+  pub leaves : left_by (left_arcs arcs s.left) one ≡ left_arcs arcs (slice_set s.left e.place false)
+
+next_alike : (guard : Guard) (arcs : List (List Vertex)) (c : ArcCorner) → In c (all_corners 0 arcs) → guard arcs c ≡ true → ((d : ArcCorner) → In d (all_corners 0 arcs) → guard arcs d ≡ true → goes_before d c ≡ false) →
+    (d : ArcCorner) × (next_corner guard arcs ≡ Some d) × (d.arc ≡ c.arc) × (d.corner ≡ c.corner)
+next_alike guard arcs c m g h = on (next_corner guard arcs) refl
+  where
+    on : (o : Option ArcCorner) → next_corner guard arcs ≡ o → (d : ArcCorner) × (next_corner guard arcs ≡ Some d) × (d.arc ≡ c.arc) × (d.corner ≡ c.corner)
+    on None e = absurd (both_ways (guard arcs c) (none_is_next guard arcs e c m) g)
+    on (Some d) e = let n = next_is guard arcs d e in let a = tied d c (h d n.among n.passed) (n.none_before c m g) in (d, e, a.0, a.1)
+
+module _ (arcs : List (List Point)) (s : Linked) (show : IsShowing arcs s) (below : AreBelow s) where
+  under_limit : (d : ArcCorner) → In d (all_corners 0 (left_arcs arcs s.left)) → d.corner.area < area_limit
+  under_limit d m = let x : IsShownCorner arcs s d = shown_corner arcs s show d m in subst (λ n. n < area_limit) (sym x.area) (below (number arcs d.arc d.corner.index) x.corner)
+
+  allowed : (d : ArcCorner) → In d (all_corners 0 (left_arcs arcs s.left)) → guarded_by true [] (left_arcs arcs s.left) d ≡ true → goes (guarded_by true []) area_limit (left_arcs arcs s.left) d ≡ true
+  allowed d m g = and_from _ _ (lt-ltb d.corner.area area_limit (under_limit d m)) g
+
+  pub none_at_all : (w : Waiting) → NoneNext area_limit s w → next_corner (guarded_by true []) (left_arcs arcs s.left) ≡ None
+  none_at_all w n = on (next_corner (guarded_by true []) (left_arcs arcs s.left)) refl
+    where
+      on : (o : Option ArcCorner) → next_corner (guarded_by true []) (left_arcs arcs s.left) ≡ o → next_corner (guarded_by true []) (left_arcs arcs s.left) ≡ None
+      on None e = e
+      on (Some d) e =
+          let i = next_is (guarded_by true []) (left_arcs arcs s.left) d e in
+          absurd (both_ways (is_free (left_arcs arcs s.left) d)
+          (held_is_not_free arcs area_limit s show w d i.among (n.held (number arcs d.arc d.corner.index) (due_of arcs area_limit s show d i.among (under_limit d i.among))))
+          (passed area_limit (left_arcs arcs s.left) d (allowed d i.among i.passed)).1)
+
+  pub one_gone : (items : List (Reverse Entry)) (w : Waiting) (e : Entry) → IsWhole s → IsNext area_limit s items w e → IsGone arcs s e
+  one_gone items w e whole n =
+      let f : IsFound arcs s show e.place = the_one arcs area_limit s show items w e n in
+      let x : IsShownCorner arcs s f.corner = shown_corner arcs s show f.corner f.there in
+      let a = next_alike (guarded_by true []) (left_arcs arcs s.left) f.corner f.there
+      (and_parts _ _ (passes area_limit (left_arcs arcs s.left) f.corner (under arcs area_limit s show items w e n) (free arcs area_limit s show items w e n))).1
+      (λ d m g. none_before arcs area_limit s show items w e n d m (allowed d m g)) in
+      record {
+        one = f.corner;
+        has_place = x.there;
+        number_is = f.number_is;
+        left = n.due.corner.left;
+        area = x.area ∙ ap (λ v. (entry_in s v).area) f.number_is ∙ sym (ap (λ (d : Entry). d.area) n.is);
+        next = a.0;
+        is_next = a.1;
+        same_arc = a.2;
+        same_corner = a.3;
+        leaves = sym (left_is arcs s whole show f.corner f.there) ∙ ap (λ z. left_arcs arcs (slice_set s.left z false)) f.number_is;
+      }
 
 -- ---- step by step
 

@@ -10,6 +10,7 @@ use Rattle.std.proofs.lemmas.List.Elements.{All-contains, All-from_recursion}
 use Rattle.std.proofs.lemmas.List.Sorted.{Contains-permutation, IsPermutation-sym}
 use Rattle.geometry.specs.Points.{Point}
 use Rattle.geometry.specs.Rings.{same}
+use Rattle.geometry.specs.Units.{area_limit}
 use Rattle.effective_area.proofs.HeapLaws.{contains_cases, contains_here, contains_later}
 use Rattle.position_index.specs.declared.query.Corner.{Corner}
 use Rattle.position_index.specs.Blocking.{is_blocked_by, is_joined_at, joins_ends, leads_on}
@@ -17,10 +18,11 @@ use Rattle.position_index.specs.Indexes.{Meets, NoneMeets, is_left_at, point_at}
 use Rattle.position_index.specs.Tests.{is_held_by}
 use Rattle.position_index.proofs.Indexes.{left_before}
 use Rattle.guarded_reduction.specs.declared.entry.Entry.{Entry}
-use Rattle.guarded_reduction.specs.Entries.{IsCurrent, IsDue, IsSound, entry_at, entry_in, turned, turned_cmp}
+use Rattle.guarded_reduction.specs.Entries.{AreBelow, IsCurrent, IsDue, IsSound, entry_at, entry_in, turned, turned_cmp}
 use Rattle.guarded_reduction.specs.Linking.{Linked, IsChained, IsCorner, IsWhole, corner_in, unlinked}
 use Rattle.guarded_reduction.specs.States.{HoldsByLink, IsHeld, IsNext, IsQueued, Pushed, PushedAll, blocks}
 use Rattle.guarded_reduction.specs.Waiting.{KeepsWaits, Waiting, WaitsOn}
+use Rattle.guarded_reduction.proofs.Unlinking.{same_at}
 
 -- ---- a place is waited on
 
@@ -84,6 +86,11 @@ module _ (t : ℕ) (s : Linked) (items new : List (Reverse Entry)) (w : Waiting)
       on v (inl k) = off v (split (entry_in s v) k)
       on v (inr k) = inr (still_held s w more v keeps k)
 
+  -- that of a corner that is held is of no more use
+  pub drop_held : (v : ℕ) → e.place ≡ v → (v ≡ length s.positions) ⊎ IsHeld s w v → IsQueued t s new w
+  drop_held v is (inl n) = drop_stale (λ c. let h : e.place < length s.positions = c.within in absurd (omega (arith, h, is, n)))
+  drop_held v is (inr h) = come_to_wait w (record { same = refl; has = λ h v k. k }) (subst (IsHeld s w) (sym is) h)
+
   current_is : IsCurrent s e → e ≡ entry_in s e.place
   current_is c = (queued.sound e was_there).is ∙ ap (λ b. entry_at s.positions b e.place e.after) (sym c.before) ∙ ap (λ a. entry_at s.positions (slice_index s.befores e.place) e.place a) (sym c.after)
 
@@ -137,8 +144,7 @@ module _ (t : ℕ) (s : Linked) (whole : IsWhole s) (chained : IsChained s) (z :
   within = omega (arith, corner.within, whole.left)
 
   left_other : (h : ℕ) → h ≢ z → is_left_at s.left h ≡ true → is_left_at next.left h ≡ true
-  unfolding is_left_at
-  left_other h n l = get_or-set_other s.left z h false false n ∙ l
+  left_other h n l = same_at s.left z h n ∙ l
 
   before_same : (v d : ℕ) → v ≢ follower → slice_index_or next.befores v d ≡ slice_index_or s.befores v d
   before_same v d n = get_or-set_other s.befores follower v prior d n
@@ -155,6 +161,9 @@ module _ (t : ℕ) (s : Linked) (whole : IsWhole s) (chained : IsChained s) (z :
       where
         corner_of : ℕ → ℕ → Corner
         corner_of b a = record { before = point_at s.positions b; at = point_at s.positions v; after = point_at s.positions a; place = v }
+
+    corner_was : IsCorner next v → IsCorner s v
+    corner_was h = record { within = h.within; left = (left_before s.left z v within h.left).1; before = λ e. h.before (before_same v 0 not_follower ∙ e); after = λ e. h.after (after_same v 0 not_prior ∙ e) }
 
     due_was : IsDue t next v → (v ≢ z) × IsDue t s v
     due_was h =
@@ -250,6 +259,23 @@ module _ (t : ℕ) (s : Linked) (whole : IsWhole s) (chained : IsChained s) (ite
     at_prior (inl k) = inl (r.has (entry_in (unlinked e.place s) v) (q.has (entry_in (unlinked e.place s) v) (subst (λ u. Contains first (turned (entry_in (unlinked e.place s) u))) (sym k) (p.here (subst (IsDue t (unlinked e.place s)) k h)))))
     at_prior (inr a) = at_follower a (cases_eq v e.after)
 
+  below_still : AreBelow s → AreBelow (unlinked e.place s)
+  below_still h v k = at_before (cases_eq v e.before)
+    where
+      at_neither : v ≢ e.before → v ≢ e.after → (entry_in (unlinked e.place s) v).area < area_limit
+      at_neither a b =
+          let x : v ≢ slice_index s.befores e.place = λ i. a (i ∙ sym before_is) in
+          let y : v ≢ slice_index s.afters e.place = λ i. b (i ∙ sym after_is) in
+          subst (λ (d : Entry). d.area < area_limit) (sym (entry_same t s whole chained e.place n.due.corner v x y)) (h v (corner_was t s whole chained e.place n.due.corner v x y k))
+
+      at_after : v ≢ e.before → (v ≡ e.after) ⊎ (v ≢ e.after) → (entry_in (unlinked e.place s) v).area < area_limit
+      at_after a (inl i) = subst (λ u. (entry_in (unlinked e.place s) u).area < area_limit) (sym i) (q.below (subst (IsCorner (unlinked e.place s)) i k))
+      at_after a (inr b) = at_neither a b
+
+      at_before : (v ≡ e.before) ⊎ (v ≢ e.before) → (entry_in (unlinked e.place s) v).area < area_limit
+      at_before (inl i) = subst (λ u. (entry_in (unlinked e.place s) u).area < area_limit) (sym i) (p.below (subst (IsCorner (unlinked e.place s)) i k))
+      at_before (inr a) = at_after a (cases_eq v e.after)
+
   taken_out : IsQueued t (unlinked e.place s) last w
   taken_out = record { covers = λ v h. at_prior v h (cases_eq v e.before); sound = λ d h. last_sound d (r.only d h); firsts = n.firsts }
 
@@ -259,3 +285,9 @@ pub taken_out_to : (t : ℕ) (s after : Linked) → IsWhole s → IsChained s �
 taken_out_to t s after whole chained items first second last w e n is =
     subst (λ (x : Linked). Pushed t x items first e.before → Pushed t x first second e.after → PushedAll t x second last w e.place → IsQueued t x last w) (sym is)
     (λ p q r. taken_out t s whole chained items first second last w e n p q r)
+
+pub below_to : (t : ℕ) (s after : Linked) → IsWhole s → IsChained s → (items first second last : List (Reverse Entry)) (w : Waiting) (e : Entry) → IsNext t s items w e → after ≡ unlinked e.place s →
+    Pushed t after items first e.before → Pushed t after first second e.after → PushedAll t after second last w e.place → AreBelow s → AreBelow after
+below_to t s after whole chained items first second last w e n is =
+    subst (λ (x : Linked). Pushed t x items first e.before → Pushed t x first second e.after → PushedAll t x second last w e.place → AreBelow s → AreBelow x) (sym is)
+    (λ p q r. below_still t s whole chained items first second last w e n p q r)

@@ -68,9 +68,9 @@ module _ (arcs : List (List Point)) where
   after_at k i j d h q = let e : 0 + number arcs k (min (i + 1) (size_of arcs k - 1)) ≡ number arcs k (min (i + 1) (size_of arcs k - 1)) = omega arith in
       links_at after_index 0 arcs k i d h ∙ e ∙ ap (number arcs k) q
 
-  is_left : (z : ℕ) → z < length (joined arcs) → is_left_at first.left z ≡ true
+  pub left_first : (z : ℕ) → z < length (joined arcs) → is_left_at first.left z ≡ true
   unfolding is_left_at
-  is_left z h = get_or-replicate (length (joined arcs)) z true _ h
+  left_first z h = get_or-replicate (length (joined arcs)) z true _ h
 
   there : (x : Place) → In x (places 0 whole_arcs) → HasPlace arcs x.arc x.vertex.index × (x.vertex.point ≡ point_at (joined arcs) (number arcs x.arc x.vertex.index))
   there x m =
@@ -79,12 +79,12 @@ module _ (arcs : List (List Point)) where
       (subst (λ k. HasPlace arcs k x.vertex.index) e r.there, r.point ∙ ap (λ k. point_at (joined arcs) (number arcs k x.vertex.index)) e)
 
   pub all_left : left_arcs arcs first.left ≡ whole_arcs
-  all_left = passing_when (λ x. is_left_at first.left (number arcs x.arc x.vertex.index)) 0 whole_arcs (λ x m. is_left (number arcs x.arc x.vertex.index) (number_within arcs x.arc x.vertex.index (there x m).0))
+  all_left = passing_when (λ x. is_left_at first.left (number arcs x.arc x.vertex.index)) 0 whole_arcs (λ x m. left_first (number arcs x.arc x.vertex.index) (number_within arcs x.arc x.vertex.index (there x m).0))
 
   shown : (x : Place) → In x (places 0 whole_arcs) → IsShown (joined arcs) first.left (number arcs x.arc x.vertex.index) x.vertex.point
   shown x m =
       let w = number_within arcs x.arc x.vertex.index (there x m).0 in
-      record { within = w; left = is_left (number arcs x.arc x.vertex.index) w; point = sym (there x m).1 }
+      record { within = w; left = left_first (number arcs x.arc x.vertex.index) w; point = sym (there x m).1 }
 
   linked : (j : Neighbours) → In j (all_neighbours 0 whole_arcs) → IsLinked (joined arcs) first.left first.befores first.afters (number arcs j.arc j.from.index) (number arcs j.arc j.to.index) j.from.point j.to.point
   linked j m =

@@ -29,6 +29,14 @@ goes_so : (l p : Bool) → p ≡ true → (if l then not p else false) ≡ false
 goes_so true p h = ap not h
 goes_so false p h = refl
 
+pub gone_at : (bs : List Bool) (z : ℕ) → z < length bs → is_left_at (slice_set bs z false) z ≡ false
+unfolding is_left_at
+gone_at bs z h = get_or-set_same bs z false false h
+
+pub same_at : (bs : List Bool) (z v : ℕ) → v ≢ z → is_left_at (slice_set bs z false) v ≡ is_left_at bs v
+unfolding is_left_at
+same_at bs z v n = get_or-set_other bs z v false false n
+
 module _ (arcs : List (List Point)) (s : Linked) (whole : IsWhole s) (show : IsShowing arcs s) (c : ArcCorner) (m : In c (all_corners 0 (left_arcs arcs s.left))) where
   abbrev now : List (List Vertex)
   now = left_arcs arcs s.left
@@ -61,12 +69,10 @@ module _ (arcs : List (List Point)) (s : Linked) (whole : IsWhole s) (show : IsS
   within = omega (arith, shown.corner.within, whole.left)
 
   left_own : is_left_at lefts own ≡ false
-  unfolding is_left_at
-  left_own = get_or-set_same s.left own false false within
+  left_own = gone_at s.left own within
 
   left_other : (z : ℕ) → z ≢ own → is_left_at lefts z ≡ is_left_at s.left z
-  unfolding is_left_at
-  left_other z n = get_or-set_other s.left own z false false n
+  left_other z n = same_at s.left own z n
 
   -- ---- which places are left
 

@@ -6,6 +6,7 @@ use Rattle.std.specs.declared.cmp.Reverse.{Reverse}
 use Rattle.geometry.specs.Areas.{twice_area}
 use Rattle.geometry.specs.Order.{point_cmp}
 use Rattle.geometry.specs.Points.{Point}
+use Rattle.geometry.specs.Units.{area_limit}
 use Rattle.position_index.specs.Indexes.{is_left_at, point_at}
 use Rattle.guarded_reduction.specs.declared.entry.Entry.{Entry}
 use Rattle.guarded_reduction.specs.Linking.{Linked, IsCorner}
@@ -31,6 +32,10 @@ entry_in s z = entry_at s.positions (slice_index s.befores z) z (slice_index s.a
 pub record IsDue (t : ℕ) (s : Linked) (z : ℕ) : Type 0 where
   pub corner : IsCorner s z
   pub under : (entry_in s z).area < t
+
+-- the areas of all corners are below the greatest
+abbrev pub AreBelow : Linked → Type 0
+AreBelow s = (z : ℕ) → IsCorner s z → (entry_in s z).area < area_limit
 
 -- the place is left, and its neighbours are the entry's
 pub record IsCurrent (s : Linked) (e : Entry) : Type 0 where

@@ -4,3 +4,4 @@ pub mod Linking
 pub mod Numbers
 pub mod States
 pub mod Waiting
+pub mod Weighing

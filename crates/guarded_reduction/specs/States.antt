@@ -3,12 +3,13 @@ use Rattle.std.specs.Prelude.{◌≡◌, ◌⊎◌, ℕ, ◌<◌, true, false, L
 use Rattle.std.specs.List.{Contains}
 use Rattle.std.specs.Ordering.{is_lt}
 use Rattle.std.specs.declared.cmp.Reverse.{Reverse}
+use Rattle.geometry.specs.Units.{area_limit}
 use Rattle.position_index.specs.Blocking.{is_blocked_by}
 use Rattle.position_index.specs.Indexes.{NoneMeets, is_left_at, point_at}
 use Rattle.position_index.specs.Tests.{Test, is_held_by}
 use Rattle.guarded_reduction.specs.declared.entry.Entry.{Entry}
 use Rattle.guarded_reduction.specs.Entries.{entry_cmp, turned, entry_in, IsDue, IsSound}
-use Rattle.guarded_reduction.specs.Linking.{Linked, corner_in}
+use Rattle.guarded_reduction.specs.Linking.{Linked, IsCorner, corner_in}
 use Rattle.guarded_reduction.specs.Waiting.{Waiting, WaitsOn}
 
 -- which places block a corner
@@ -54,6 +55,7 @@ pub record Pushed (t : ℕ) (s : Linked) (old new : List (Reverse Entry)) (v : �
   pub has : (d : Entry) → Contains old (turned d) → Contains new (turned d)
   pub here : IsDue t s v → Contains new (turned (entry_in s v))
   pub only : (d : Entry) → Contains new (turned d) → Contains old (turned d) ⊎ IsSound t s.positions d
+  pub below : IsCorner s v → (entry_in s v).area < area_limit
 
 -- all corners that wait on the place are on the heap, if they are due
 pub record PushedAll (t : ℕ) (s : Linked) (old new : List (Reverse Entry)) (w : Waiting) (h : ℕ) : Type 0 where

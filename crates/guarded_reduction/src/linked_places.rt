@@ -1,11 +1,12 @@
 // Places that are left, and their neighbours.
 ghost use Rattle.std.specs.Prelude.{◌≡◌, ◌<◌, IfOk, true, false, length, slice_index};
 ghost use Rattle.std.specs.Option.{IfNone, IfSome};
+ghost use Rattle.geometry.specs.Units.{area_limit};
 ghost use Rattle.position_index.specs.Indexes.{Meets, NoneMeets, is_left_at, point_at};
 ghost use Rattle.position_index.specs.Blocking.{is_blocked_by};
 ghost use Rattle.guarded_reduction.specs.Entries.{IsCurrent, IsDue, entry_at, entry_in};
 ghost use Rattle.guarded_reduction.specs.First.{first_linked};
-ghost use Rattle.guarded_reduction.specs.Linking.{IsWhole as IsWholeLinked, corner_in, unlinked};
+ghost use Rattle.guarded_reduction.specs.Linking.{IsCorner, IsWhole as IsWholeLinked, corner_in, unlinked};
 
 use crate::entry::Entry;
 use crate::flattening::{afters_of, all_positions, befores_of};
@@ -104,7 +105,8 @@ impl LinkedPlaces {
         requires before { before < length self.now.positions }
         requires place { place < length self.now.positions }
         requires after { after < length self.now.positions }
-        ensures { result ≡ entry_at self.now.positions before place after }
+        ensures value { result ≡ entry_at self.now.positions before place after }
+        ensures below { result.area < area_limit }
     {
         let at = self.index.position(place);
         let first = self.index.position(before);
@@ -124,6 +126,7 @@ impl LinkedPlaces {
         ensures due { IfSome result (λ e. IsDue threshold self.now place) }
         ensures value { IfSome result (λ e. e ≡ entry_in self.now place) }
         ensures none { IfNone result (IsDue threshold self.now place → ⊥) }
+        ensures below { IsCorner self.now place → (entry_in self.now place).area < area_limit }
     {
         if place >= self.len() {
             return None;

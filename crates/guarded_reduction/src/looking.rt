@@ -38,7 +38,7 @@ fn wait_on(
     waiting.add(places.after(holder), place)
 }
 
-/// The corner that goes next, if there is one. Those that are blocked come to wait.
+/// The corner that goes next, if there is one. Those that are blocked come to wait, each once.
 pub fn next_corner(
     heap: &mut BinaryHeap<Reverse<Entry>>,
     waiting: &mut WaitingLists,
@@ -51,7 +51,12 @@ pub fn next_corner(
     ensures next { IfOk result (λ found. IfSome found (λ e. IsNext threshold places.now (heap_items heap.new) waiting.new e)) }
     ensures none { IfOk result (λ found. IfNone found (NoneNext threshold places.now waiting.new)) }
 {
+    let mut held = places.len();
     'entries: while let Some(Reverse(entry)) = heap.pop() {
+        // (equal entries come off the heap one after another)
+        if entry.place == held {
+            continue;
+        }
         if !places.is_current(&entry) {
             continue;
         }
@@ -59,6 +64,7 @@ pub fn next_corner(
             return Ok(Some(entry));
         };
         wait_on(waiting, places, entry.place, holder)?;
+        held = entry.place;
     }
     Ok(None)
 }

@@ -1,7 +1,7 @@
 // Corners that are put on the heap.
 ghost use Rattle.std.specs.Prelude.{◌≡◌, ◌<◌, IfOk, OnOk, length};
 ghost use Rattle.std.specs.BinaryHeap.{heap_items, IsHeap};
-ghost use Rattle.guarded_reduction.specs.Entries.{IsDue, turned_cmp};
+ghost use Rattle.guarded_reduction.specs.Entries.{AreBelow, IsDue, turned_cmp};
 ghost use Rattle.guarded_reduction.specs.Linking.{IsChained, unlinked};
 ghost use Rattle.guarded_reduction.specs.States.{IsNext, IsQueued, Pushed, PushedAll};
 
@@ -40,6 +40,7 @@ pub fn first_corners(
     requires { length waiting.now.firsts ≡ length places.now.positions }
     ensures order { IfOk result (λ heap. IsHeap turned_cmp (heap_items heap)) }
     ensures queued { IfOk result (λ heap. IsQueued threshold places.now (heap_items heap) waiting.now) }
+    ensures below { IfOk result (λ _. AreBelow places.now) }
 {
     let mut heap = BinaryHeap::new(alloc);
     for place in 0..places.len() {
@@ -84,6 +85,7 @@ pub fn take_out(
     ensures order { OnOk result (IsHeap turned_cmp (heap_items heap.new)) }
     ensures places { OnOk result (places.new ≡ unlinked entry.place places.old) }
     ensures queued { OnOk result (IsQueued threshold places.new (heap_items heap.new) waiting.now) }
+    ensures below { OnOk result (AreBelow places.old → AreBelow places.new) }
 {
     places.law();
     places.remove(entry.place);

@@ -26,7 +26,7 @@ inside : (q : Corner) (z : ℕ) (p : Point) → (z ≡ q.place → ⊥) → is_c
 unfolding is_held_by
 inside q z p n h = and_from _ _ (other z q.place n) (not_from_false _ h)
 
-blocked_inside : (ps : List Point) (befores afters : List ℕ) (q : Corner) (z : ℕ) (p : Point) → is_held_by q z p ≡ true → is_blocked_by ps befores afters q z p ≡ true
+pub blocked_inside : (ps : List Point) (befores afters : List ℕ) (q : Corner) (z : ℕ) (p : Point) → is_held_by q z p ≡ true → is_blocked_by ps befores afters q z p ≡ true
 unfolding is_blocked_by
 blocked_inside ps befores afters q z p h = or_left _ _ h
 

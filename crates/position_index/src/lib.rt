@@ -2,8 +2,8 @@
 //! triangle or by a segment between the ends of its base. Below it are predicates over positions, exact at any of them: on which side of a line one
 //! lies, whether two segments meet badly, and what is in a closed triangle. It stands on `geometry`, on `guarded_meaning`, whose words they decide
 //! and whose guard of no crossings the index decides: `free_law` and `blocked_law` say so of arcs that lists of places show; and on the lemmas of
-//! `effective_area` by which products of differences fit 128 bits. A layer above would use `PositionIndex::find` with a `Blocked`, and `meets_badly`
-//! to count what meets badly. It sorts once, and goes up one path of a tree of boxes for each place that goes. A search passes over boxes that lie
+//! `effective_area` by which products of differences fit 128 bits. The layer above uses `PositionIndex::find` with a `Blocked`; no code calls
+//! `meets_badly`. It sorts once, and goes up one path of a tree of boxes for each place that goes. A search passes over boxes that lie
 //! apart from a corner's own, or beyond a side of its triangle; how many it looks at is not promised.
 #![tactic(auto)]
 

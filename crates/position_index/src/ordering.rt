@@ -92,7 +92,7 @@ pub fn places_in_order(alloc: Global, positions: &[Position]) -> Result<Vec<usiz
     ensures { IfOk result (λ v. IsPermutation (range_with_len 0 (length positions.now)) v.items) }
 {
     let mut keys = keys_of(alloc, positions)?;
-    keys.sort()?;
+    keys.sort_unstable();
     let places = places_of(alloc, &keys)?;
     Ok(places)
 }

@@ -1,15 +1,16 @@
-use Rattle.std.proofs.Common.{subst}
+use Rattle.std.proofs.Common.{inr, subst}
 use Rattle.std.specs.BinaryHeap.{heap_items}
 use Rattle.position_index.specs.declared.query.Corner.{Corner}
 use Rattle.position_index.specs.Blocking.{is_blocked_by}
 use Rattle.position_index.specs.Indexes.{NoneMeets}
-use Rattle.guarded_reduction.proofs.Queued.{come_to_wait, comes_next, drop_stale}
+use Rattle.guarded_reduction.proofs.Queued.{come_to_wait, comes_next, drop_held, drop_stale}
 use Rattle.guarded_reduction.proofs.looking.next_corner.Goals as goal
 
 pub entries-preserved-then-not-is_current : goal.entries-preserved-then-not-is_current
 entries-preserved-then-not-is_current c = record {
   order = (c.in-Some.ensures.heap_order c.entries.invariant.order).0;
   queued = drop_stale c.args.threshold c.args.places.now (heap_items c.entries.heap) (heap_items c.pop.new.self) c.entries.waiting c.in-Some.field-0.0 c.entries.invariant.queued c.in-Some.ensures.permutation (c.is_current.ensures.stale c.if-not-is_current.true);
+  held = c.entries.invariant.held;
 }
 
 pub returns-in_default-holder-clause-next : goal.returns-in_default-holder-clause-next
@@ -24,4 +25,13 @@ entries-preserved c = record {
   order = (c.in-Some.ensures.heap_order c.entries.invariant.order).0;
   queued = come_to_wait c.args.threshold c.args.places.now (heap_items c.entries.heap) (heap_items c.pop.new.self) c.entries.waiting c.in-Some.field-0.0 c.entries.invariant.queued c.in-Some.ensures.permutation c.wait_on.new.waiting
       c.in_ok-wait_on.ensures.kept c.in_ok-wait_on.ensures.held;
+  held = inr c.in_ok-wait_on.ensures.held;
+}
+
+pub entries-preserved-then-entry-held : goal.entries-preserved-then-entry-held
+entries-preserved-then-entry-held c = record {
+  order = (c.in-Some.ensures.heap_order c.entries.invariant.order).0;
+  queued = drop_held c.args.threshold c.args.places.now (heap_items c.entries.heap) (heap_items c.pop.new.self) c.entries.waiting c.in-Some.field-0.0 c.entries.invariant.queued c.in-Some.ensures.permutation c.entries.held c.if-entry-held.true
+      c.entries.invariant.held;
+  held = c.entries.invariant.held;
 }

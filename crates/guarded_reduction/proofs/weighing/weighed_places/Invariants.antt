@@ -1,0 +1,19 @@
+use Rattle.std.proofs.Common.{◌≡◌, ◌-◌, length}
+use Rattle.std.specs.BinaryHeap.{heap_items, IsHeap}
+use Rattle.geometry.specs.Units.{area_limit}
+use Rattle.guarded_reduction.specs.Entries.{AreBelow, turned_cmp}
+use Rattle.guarded_reduction.specs.Linking.{IsShowing}
+use Rattle.guarded_reduction.specs.States.{IsQueued}
+use Rattle.guarded_reduction.specs.Weighing.{IsWeighing}
+use Rattle.guarded_reduction.proofs.weighing.weighed_places.Given as goal
+
+-- what is gone has its weight, and what is left gets it in the steps that are ahead
+abbrev pub invariant-corners : goal.invariant-corners
+invariant-corners l = record {
+  order : IsHeap turned_cmp (heap_items l.heap);
+  queued : IsQueued area_limit l.places (heap_items l.heap) l.waiting;
+  showing : IsShowing l.arcs l.places;
+  below : AreBelow l.places;
+  many : length l.levels.items ≡ length l.places.positions;
+  weighing : IsWeighing l.arcs (l.n - l._step) l.level l.places.left l.levels.items;
+}

@@ -1,0 +1,115 @@
+// The weights of positions.
+ghost use Rattle.std.specs.Prelude.{◌≡◌, ◌+◌, ◌≤◌, ◌<◌, ◌++◌, IfOk, OnOk, [], true, length, max};
+ghost use Rattle.geometry.specs.Lists.{joined};
+ghost use Rattle.guarded_meaning.specs.Guards.{guarded_by};
+ghost use Rattle.guarded_meaning.specs.Weights.{interior_weights};
+ghost use Rattle.guarded_reduction.specs.Weighing.{AreWeights, all_inner_levels, inner_levels, level_at};
+
+use crate::linked_places::LinkedPlaces;
+use crate::looking::next_corner;
+use crate::pushing::{first_corners, take_out};
+use crate::waiting_lists::WaitingLists;
+use geometry::{AREA_LIMIT, Position};
+use owned_values::{Items, Memory};
+use std::alloc::Global;
+
+/// The greater of two numbers.
+fn greater(x: u128, y: u128) -> u128
+    ensures { result ≡ max x y }
+{
+    if x < y { y } else { x }
+}
+
+/// The places that are left where corners go whatever their areas, and for each place the greatest area of those that went until it did.
+fn weighed_places(
+    alloc: Global,
+    arcs: &[Items<Position>],
+) -> Result<(LinkedPlaces, Vec<u128>), Memory>
+    ensures positions { IfOk result (λ r. length r.0.positions ≡ length (joined arcs.now)) }
+    ensures levels { IfOk result (λ r. length r.1.items ≡ length (joined arcs.now)) }
+    ensures weights { IfOk result (λ r. AreWeights arcs.now r.0.left r.1.items) }
+{
+    let mut places = LinkedPlaces::of(alloc, arcs)?;
+    let n = places.len();
+    let mut levels = vec![in alloc; 0u128; n]?;
+    let mut waiting = WaitingLists::none(alloc, n)?;
+    let mut heap = first_corners(alloc, &places, &waiting, AREA_LIMIT)?;
+    let mut level = 0u128;
+    'corners: for _step in 0..n {
+        places.law();
+        let Some(entry) = next_corner(&mut heap, &mut waiting, &places, AREA_LIMIT)? else {
+            return Ok((places, levels));
+        };
+        level = greater(level, entry.area);
+        levels[entry.place] = level;
+        take_out(&mut heap, &mut places, &waiting, AREA_LIMIT, entry)?;
+    }
+    Ok((places, levels))
+}
+
+/// The level at which a place went, if it is gone.
+fn level_of(places: &LinkedPlaces, levels: &[u128], place: usize) -> Option<u128>
+    requires place { place < length places.now.positions }
+    requires levels { length levels.now ≡ length places.now.positions }
+    ensures { result ≡ level_at places.now.left levels.now place }
+{
+    if places.is_left(place) {
+        return None;
+    }
+    Some(levels[place])
+}
+
+/// Puts the levels of an arc's places between its ends after the others.
+fn put_levels(
+    weights: &mut Vec<Option<u128>>,
+    places: &LinkedPlaces,
+    levels: &[u128],
+    first: usize,
+    n: usize,
+) -> Result<(), Memory>
+    requires within { first + n ≤ length places.now.positions }
+    requires levels { length levels.now ≡ length places.now.positions }
+    ensures { OnOk result (weights.new.items ≡ weights.old.items ++ inner_levels places.now.left levels.now first n) }
+{
+    places.law();
+    for i in 0..n.saturating_sub(2) {
+        weights.push(level_of(places, levels, first + (1 + i)))?;
+    }
+    Ok(())
+}
+
+/// The levels of the places between the ends of arcs.
+fn all_levels(
+    alloc: Global,
+    places: &LinkedPlaces,
+    levels: &[u128],
+    arcs: &[Items<Position>],
+) -> Result<Vec<Option<u128>>, Memory>
+    requires positions { length places.now.positions ≡ length (joined arcs.now) }
+    requires levels { length levels.now ≡ length places.now.positions }
+    ensures { IfOk result (λ weights. weights.items ≡ all_inner_levels places.now.left levels.now 0 arcs.now) }
+{
+    places.law();
+    let mut weights = Vec::new(alloc);
+    let mut first = 0;
+    'arcs: for arc in arcs {
+        let n = arc.len();
+        put_levels(&mut weights, places, levels, first, n)?;
+        first += n;
+    }
+    Ok(weights)
+}
+
+/// The weights of the positions between the ends of arcs, in order, where no corner goes that would make a crossing: twice the greatest area of the
+/// corners that go without a threshold, up to and including its own; none where it never goes. At a threshold those stay that have none, or one
+/// that isn't under it.
+pub fn weights_without_crossings(
+    alloc: Global,
+    arcs: &[Items<Position>],
+) -> Result<Vec<Option<u128>>, Memory>
+    ensures { IfOk result (λ weights. weights.items ≡ interior_weights (guarded_by true []) arcs.now) }
+{
+    let weighed = weighed_places(alloc, arcs)?;
+    let weights = all_levels(alloc, &weighed.0, &weighed.1, arcs)?;
+    Ok(weights)
+}

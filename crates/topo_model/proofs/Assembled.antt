@@ -124,7 +124,7 @@ module _ (lines : List Stroke) (arcs : List (List Point)) (limit : ℕ) (b : Boo
   small_none : at_zero [] ≡ Some Small
   small_none = grind arith
 
-  some_pieces : is_short b.0 (clean b.1) ≡ false → own_pieces lines b.0 b.1 ≡ [] → ⊥
+  pub some_pieces : is_short b.0 (clean b.1) ≡ false → own_pieces lines b.0 b.1 ≡ [] → ⊥
   some_pieces long none = none-some Small (sym (no_small lines b whole long) ∙ rw long refl ∙ ap at_zero none ∙ small_none)
 
   by_pieces : is_short b.0 (clean b.1) ≡ false → (ps : List (List Point)) → own_pieces lines b.0 b.1 ≡ ps → draft_cause (of_arcs limit arcs) b.0 (own_refs lines b.0 b.1) ≡ small_cause limit arcs b.0 (own_refs lines b.0 b.1)

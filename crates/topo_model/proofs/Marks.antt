@@ -33,11 +33,11 @@ all_joined f xs i used old le k =
 
 -- ---- a shape, by its kind
 
-of_tagged : (closed : Bool) (n : ℕ) (ls : List (List ℤ)) → any_uses (map (λ l. (closed, l)) ls) n ≡ list_any (λ l. names_arc l n) ls
+pub of_tagged : (closed : Bool) (n : ℕ) (ls : List (List ℤ)) → any_uses (map (λ l. (closed, l)) ls) n ≡ list_any (λ l. names_arc l n) ls
 of_tagged closed n [] = refl
 of_tagged closed n (l ∷ ls) = ap (λ b. names_arc l n || b) (of_tagged closed n ls)
 
-of_rings : (n : ℕ) (areas : List (List (List ℤ))) → any_uses (joined (map (map (λ l. (true, l))) areas)) n ≡ list_any (λ rs. list_any (λ l. names_arc l n) rs) areas
+pub of_rings : (n : ℕ) (areas : List (List (List ℤ))) → any_uses (joined (map (map (λ l. (true, l))) areas)) n ≡ list_any (λ rs. list_any (λ l. names_arc l n) rs) areas
 of_rings n [] = refl
 of_rings n (rs ∷ areas) = grind (arith, list_any-append, of_tagged true n rs, of_rings n areas)
 

@@ -1,11 +1,13 @@
 pub mod ArcUses
+pub mod DraftLaws
+pub mod DraftUses
 pub mod Drafts
 pub mod Drops
 pub mod Marks
 pub mod Parts
 pub mod Passing
 pub mod Places
-pub mod Renumbering
 pub mod Rebuilding
+pub mod Renumbering
 pub mod Retaining
 pub mod Uses

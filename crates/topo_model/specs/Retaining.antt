@@ -1,10 +1,15 @@
 -- Arcs of which only some positions are left.
 use Rattle.std.specs.Prelude.{◌≡◌, ℕ, List, Option, length, map}
+use Rattle.build_meaning.specs.Laws.{AreSound}
+use Rattle.build_meaning.specs.Layers.{Named, layers_of, names_of}
 use Rattle.geometry.specs.Points.{Point}
+use Rattle.linework.specs.Linework.{linework}
+use Rattle.simplified_topology.specs.Assembled.{arcs_of_layers, own_refs}
 use Rattle.simplified_topology.specs.Simplified.{EachFromFirstToLast, retained_arcs}
 use Rattle.topojson_types.specs.declared.object.TopoObject.{TopoObject}
 use Rattle.topojson_types.specs.declared.transform.Transform.{Transform}
-use Rattle.topojson_types.specs.Validity.{IsTopology}
+use Rattle.topojson_types.specs.Validity.{AreDistinct, IsTopology}
+use Rattle.topo_model.specs.Drafts.{objects_drafted}
 use Rattle.topo_model.specs.Parts.{contents}
 
 -- of each of the arcs the positions of some numbers, which begin with its first and end with its last
@@ -19,3 +24,16 @@ pub record AreRetainedOf (objects : List (List ℕ × TopoObject)) (transform : 
   pub valid : IsTopology (contents objects arcs transform)
   pub retained_are : AreRetained arcs retained
   pub counts_are : counts ≡ map length arcs
+
+-- the objects are the draft of these sound layers, which have distinct names
+pub record IsDraftOf (ls : Named) (objects : List (List ℕ × TopoObject)) : Type 0 where
+  pub drafted : objects ≡ objects_drafted (own_refs (linework (layers_of ls))) ls
+  pub sound : AreSound ls
+  pub names : AreDistinct (names_of ls)
+
+-- they are the draft of some layers, of whose arcs these are retained, each of which had so many positions
+pub record IsDraft (objects : List (List ℕ × TopoObject)) (retained : List (List Point)) (counts : List ℕ) : Type 0 where
+  pub layers : Named
+  pub of_layers : IsDraftOf layers objects
+  pub retained_are : AreRetained (arcs_of_layers layers) retained
+  pub counts_are : counts ≡ map length (arcs_of_layers layers)

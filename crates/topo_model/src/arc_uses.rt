@@ -96,7 +96,7 @@ fn mark_areas(areas: &[Items<Items<ArcRef>>], used: &mut [bool])
 }
 
 /// Sets the flags of the arcs that the lines or rings use.
-fn mark_lines(lines: &[Items<ArcRef>], used: &mut [bool])
+pub fn mark_lines(lines: &[Items<ArcRef>], used: &mut [bool])
     ensures { used.new ≡ also_set (λ n. list_any (λ refs. names_arc refs n) lines.now) 0 used.old }
 {
     'lines: for refs in lines {

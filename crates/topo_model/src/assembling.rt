@@ -2,7 +2,7 @@
 ghost use Rattle.std.specs.Prelude.{◌≡◌, ◌<◌, ◌≤◌, ◌^◌, ℕ, IfOk, List, None, length, map};
 ghost use Rattle.arc_table.specs.Arcs.{table_of};
 ghost use Rattle.build_meaning.specs.Laws.{AreSound};
-ghost use Rattle.build_meaning.specs.Layers.{layers_of, names_of};
+ghost use Rattle.build_meaning.specs.Layers.{Named, layers_of, names_of};
 ghost use Rattle.byte_ends.specs.Ends.{saturated};
 ghost use Rattle.cutter.specs.Slices.{split_of};
 ghost use Rattle.geometry.specs.Units.{threshold_limit};
@@ -10,7 +10,7 @@ ghost use Rattle.simplified_topology.specs.Assembled.{arcs_of_layers, assembled,
 ghost use Rattle.simplified_topology.specs.Simplified.{EachFromFirstToLast, retained_arcs};
 ghost use Rattle.linework.specs.Linework.{linework};
 ghost use Rattle.topojson_types.specs.Validity.{AreDistinct};
-ghost use Rattle.topo_model.specs.Retaining.{AreRetained};
+ghost use Rattle.topo_model.specs.Retaining.{AreRetained, IsDraft, IsDraftOf};
 
 use crate::drafting::drafted_objects;
 use crate::finishing::{Finished, finish};
@@ -23,36 +23,55 @@ use json_value::{Items, OwnText};
 use owned_values::Memory;
 use simplified_topology::assembled_is_valid;
 use std::alloc::Global;
-use topojson_types::{ArcRef, Cell, Topology};
+use topojson_types::{ArcRef, Cell, TopoObject, Topology};
 
-/// The objects and the arcs of the topology of named layers over reduced arcs, without the arcs that no kept line uses, the lines
+/// The objects and the arcs of the topology of a draft of layers over reduced arcs, without the arcs that no kept line uses, the lines
 /// and rings that are dropped, in reading order, and how many positions are removed from the arcs that stay.
 fn objects_and_arcs(
     alloc: Global,
-    layers: Vec<(OwnText, Layer)>,
-    refs: Vec<Items<ArcRef>>,
+    objects: Vec<(OwnText, TopoObject)>,
     retained: Vec<Items<Cell>>,
     counts: &[usize],
     ring_limit: u128,
 ) -> Result<Finished, Memory>
-    requires refs { refs.items ≡ (table_of (map (split_of (linework (layers_of layers.items))) (linework (layers_of layers.items)))).refs }
-    requires sound { AreSound layers.items }
-    requires names { AreDistinct (names_of layers.items) }
-    requires retained { AreRetained (arcs_of_layers layers.items) retained.items }
-    requires counts { counts.now ≡ map length (arcs_of_layers layers.items) }
+    requires draft { IsDraft objects.items retained.items counts.now }
     requires limit { ring_limit ≤ threshold_limit }
-    ensures assembled { IfOk result (λ r. (kept : List (List ℕ)) → retained.items ≡ retained_arcs kept (arcs_of_layers layers.items)
-        → assembled kept ring_limit layers.items ≡ record { objects = r.objects.items; arcs = r.arcs.items; transform = None }) }
-    ensures dropped { IfOk result (λ r. (kept : List (List ℕ)) → retained.items ≡ retained_arcs kept (arcs_of_layers layers.items)
-        → r.dropped.items ≡ assembled_dropped kept ring_limit layers.items) }
-    ensures removed_count { IfOk result (λ r. (kept : List (List ℕ)) → retained.items ≡ retained_arcs kept (arcs_of_layers layers.items)
-        → r.removed_count ≡ saturated (assembled_removed_count kept ring_limit layers.items)) }
+    ensures assembled { IfOk result (λ r. (ls : Named) (kept : List (List ℕ)) → IsDraftOf ls objects.items → retained.items ≡ retained_arcs kept (arcs_of_layers ls)
+        → assembled kept ring_limit ls ≡ record { objects = r.objects.items; arcs = r.arcs.items; transform = None }) }
+    ensures dropped { IfOk result (λ r. (ls : Named) (kept : List (List ℕ)) → IsDraftOf ls objects.items → retained.items ≡ retained_arcs kept (arcs_of_layers ls)
+        → r.dropped.items ≡ assembled_dropped kept ring_limit ls) }
+    ensures removed_count { IfOk result (λ r. (ls : Named) (kept : List (List ℕ)) → IsDraftOf ls objects.items → retained.items ≡ retained_arcs kept (arcs_of_layers ls)
+        → counts.now ≡ map length (arcs_of_layers ls) → r.removed_count ≡ saturated (assembled_removed_count kept ring_limit ls)) }
 {
     zero_law();
     ends_stay();
     nothing_is_new();
-    let objects = drafted_objects(alloc, layers, refs)?;
     finish(alloc, objects, retained, counts, None, ring_limit)
+}
+
+/// The topology of a draft of layers over the arcs of their lines, of each of which only some positions are retained, from its first to its
+/// last. It is given how many positions each arc had. What is left out, and what comes with it, is as for `assemble_retained`.
+pub fn assemble_draft(
+    alloc: Global,
+    objects: Vec<(OwnText, TopoObject)>,
+    retained: Vec<Items<Cell>>,
+    counts: &[usize],
+    ring_limit: u128,
+) -> Result<(Topology, Vec<Dropped>, u64), Memory>
+    requires draft { IsDraft objects.items retained.items counts.now }
+    requires limit { ring_limit ≤ threshold_limit }
+    ensures topology { IfOk result (λ r. (ls : Named) (kept : List (List ℕ)) → IsDraftOf ls objects.items → retained.items ≡ retained_arcs kept (arcs_of_layers ls)
+        → r.0 ≡ assembled kept ring_limit ls) }
+    ensures dropped { IfOk result (λ r. (ls : Named) (kept : List (List ℕ)) → IsDraftOf ls objects.items → retained.items ≡ retained_arcs kept (arcs_of_layers ls)
+        → r.1.items ≡ assembled_dropped kept ring_limit ls) }
+    ensures removed_count { IfOk result (λ r. (ls : Named) (kept : List (List ℕ)) → IsDraftOf ls objects.items → retained.items ≡ retained_arcs kept (arcs_of_layers ls)
+        → counts.now ≡ map length (arcs_of_layers ls) → r.2 ≡ saturated (assembled_removed_count kept ring_limit ls)) }
+    ensures few { IfOk result (λ r. length r.0.arcs < 2 ^ 63) }
+{
+    assembled_is_valid();
+    let left = objects_and_arcs(alloc, objects, retained, counts, ring_limit)?;
+    let topology = Topology::of(Items::of(left.objects), Items::of(left.arcs), None);
+    Ok((topology, left.dropped, left.removed_count))
 }
 
 /// The topology of named layers over the arcs of their lines, of each of which only some positions are retained, from its first to its
@@ -82,10 +101,8 @@ pub fn assemble_retained(
         → r.2 ≡ saturated (assembled_removed_count kept ring_limit layers.items)) }
     ensures few { IfOk result (λ r. length r.0.arcs < 2 ^ 63) }
 {
-    assembled_is_valid();
-    let left = objects_and_arcs(alloc, layers, refs, retained, counts, ring_limit)?;
-    let topology = Topology::of(Items::of(left.objects), Items::of(left.arcs), None);
-    Ok((topology, left.dropped, left.removed_count))
+    let objects = drafted_objects(alloc, layers, refs)?;
+    assemble_draft(alloc, objects, retained, counts, ring_limit)
 }
 
 /// The topology of named layers over the arcs of their lines, where of each arc the positions with these numbers are kept: a list

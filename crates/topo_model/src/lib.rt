@@ -11,6 +11,8 @@
 mod arc_uses;
 mod assembling;
 mod choosing;
+mod draft_laws;
+mod draft_uses;
 mod drafting;
 mod dropping;
 mod enclosing;
@@ -28,7 +30,10 @@ mod reducing;
 mod retaining;
 mod trimming;
 
-pub use assembling::{assemble, assemble_retained};
+pub use assembling::{assemble, assemble_draft, assemble_retained};
+pub use draft_laws::draft_uses_at_zero;
+pub use draft_uses::draft_arcs;
+pub use drafting::drafted_objects;
 pub use position_counting::position_counts;
 pub use reassembling::reassemble;
 pub use reducing::Reduces;

@@ -1,22 +1,36 @@
-use Rattle.std.proofs.Common.{sym, ap, ◌∙◌, subst, arith, length, ◌<◌, ◌^◌}
-use Rattle.topojson_types.specs.Validity.{IsTopology}
-use Rattle.simplified_topology.proofs.Assembled.{contents}
+use Rattle.std.proofs.Common.{◌∙◌}
+use Rattle.std.proofs.lemmas.Result.{IfOk-weaker}
+use Rattle.simplified_topology.specs.Assembled.{own_refs}
+use Rattle.topo_model.proofs.Assembled.{lines_of, table_refs}
 use Rattle.topo_model.proofs.assembling.assemble_retained.Goals as goal
 
-pub of-topology-requires : goal.of-topology-requires
-of-topology-requires c =
-    let r = c.requires.retained in
+pub assemble_draft-requires-clause-draft : goal.assemble_draft-requires-clause-draft
+assemble_draft-requires-clause-draft c =
+    let ls = c.args.layers.items in
     record {
-      valid = rw (c.of.ensures, c.of-2.ensures)
-          (subst IsTopology (c.in_ok-left.ensures.assembled r.kept r.picks) (c.assembled_is_valid.ensures r.kept c.args.ring_limit c.args.layers.items c.requires.sound c.requires.names r.through));
+      layers = ls;
+      of_layers = record { drafted = c.in_ok-objects.ensures (own_refs (lines_of ls)) (c.requires.refs ∙ table_refs ls); sound = c.requires.sound; names = c.requires.names };
+      retained_are = c.requires.retained;
+      counts_are = c.requires.counts;
     }
 
 pub returns-clause-topology : goal.returns-clause-topology
-returns-clause-topology c kept picks =
-    c.of-topology.ensures ∙ ap (λ os. contents os c.of-2.result) c.of.ensures ∙ ap (contents c.in_ok-left.left.objects.items) c.of-2.ensures ∙ sym (c.in_ok-left.ensures.assembled kept picks)
+returns-clause-topology c =
+    let ls = c.args.layers.items in
+    IfOk-weaker c.assemble_draft.result _ _
+    (λ r h kept picks. h ls kept (record { drafted = c.in_ok-objects.ensures (own_refs (lines_of ls)) (c.requires.refs ∙ table_refs ls); sound = c.requires.sound; names = c.requires.names }) picks)
+    c.assemble_draft.ensures.topology
 
-pub returns-clause-few : goal.returns-clause-few
-returns-clause-few c =
-    let v = c.in_ok-left.left.arcs in
-    let less : length v.items < 2 ^ 63 = omega (arith, v.ok.0, v.ok.1, v.small) in
-    subst (λ z. length z < 2 ^ 63) (sym (ap (λ z. z.arcs) c.of-topology.ensures ∙ c.of-2.ensures)) less
+pub returns-clause-dropped : goal.returns-clause-dropped
+returns-clause-dropped c =
+    let ls = c.args.layers.items in
+    IfOk-weaker c.assemble_draft.result _ _
+    (λ r h kept picks. h ls kept (record { drafted = c.in_ok-objects.ensures (own_refs (lines_of ls)) (c.requires.refs ∙ table_refs ls); sound = c.requires.sound; names = c.requires.names }) picks)
+    c.assemble_draft.ensures.dropped
+
+pub returns-clause-removed_count : goal.returns-clause-removed_count
+returns-clause-removed_count c =
+    let ls = c.args.layers.items in
+    IfOk-weaker c.assemble_draft.result _ _
+    (λ r h kept picks. h ls kept (record { drafted = c.in_ok-objects.ensures (own_refs (lines_of ls)) (c.requires.refs ∙ table_refs ls); sound = c.requires.sound; names = c.requires.names }) picks c.requires.counts)
+    c.assemble_draft.ensures.removed_count

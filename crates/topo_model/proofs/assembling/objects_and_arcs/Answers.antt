@@ -15,55 +15,53 @@ use Rattle.topojson_types.specs.Topologies.{objects_lines_and_rings}
 use Rattle.topo_model.specs.Drops.{objects_drops}
 use Rattle.topo_model.proofs.Result as result
 use Rattle.topo_model.specs.Drafts.{objects_drafted}
-use Rattle.topo_model.proofs.Assembled.{drops_are, is_assembled, removed_count_is, lines_of, many, retained_is, ranged, table_refs}
+use Rattle.topo_model.proofs.Assembled.{drops_are, is_assembled, removed_count_is, lines_of, many, retained_is, ranged}
 use Rattle.topo_model.proofs.assembling.objects_and_arcs.Goals as goal
 
 pub finish-requires-clause-places : goal.finish-requires-clause-places
 finish-requires-clause-places c =
-    let r = c.requires.retained in
-    let is = retained_is r.kept c.args.ring_limit c.args.layers.items c.zero_law.ensures c.requires.sound c.args.retained.items r.picks in
-    let valid = untrimmed_is_valid c.ends_stay.ensures c.nothing_is_new.ensures 0 0 c.args.layers.items c.requires.sound c.requires.names in
-    result.places_are r.kept c.args.ring_limit (untrimmed 0 0 c.args.layers.items) c.args.retained.items is valid
+    let d = c.requires.draft in
+    let r = d.retained_are in
+    let is = retained_is r.kept c.args.ring_limit d.layers c.zero_law.ensures d.of_layers.sound c.args.retained.items r.picks in
+    let valid = untrimmed_is_valid c.ends_stay.ensures c.nothing_is_new.ensures 0 0 d.layers d.of_layers.sound d.of_layers.names in
+    result.places_are r.kept c.args.ring_limit (untrimmed 0 0 d.layers) c.args.retained.items is valid
 
 pub finish-requires-clause-many : goal.finish-requires-clause-many
 finish-requires-clause-many c =
-    let r = c.requires.retained in
-    many r.kept c.args.ring_limit c.args.layers.items c.zero_law.ensures c.requires.sound c.args.retained.items r.picks r.through
-    ∙ sym (ap length c.requires.counts ∙ length-map (arcs_of_layers c.args.layers.items) length)
+    let d = c.requires.draft in
+    let r = d.retained_are in
+    many r.kept c.args.ring_limit d.layers c.zero_law.ensures d.of_layers.sound c.args.retained.items r.picks r.through ∙ sym (ap length d.counts_are ∙ length-map (arcs_of_layers d.layers) length)
 
 pub finish-requires-clause-ranged : goal.finish-requires-clause-ranged
 finish-requires-clause-ranged c =
-    let r = c.requires.retained in
+    let d = c.requires.draft in
+    let r = d.retained_are in
     let retained = c.args.retained.items in
-    let valid = untrimmed_is_valid c.ends_stay.ensures c.nothing_is_new.ensures 0 0 c.args.layers.items c.requires.sound c.requires.names in
-    let drafted = c.in_ok-objects.ensures (own_refs (lines_of c.args.layers.items)) (c.requires.refs ∙ table_refs c.args.layers.items) in
-    subst (λ os. AllByRecursion (λ b. AreInRange (length retained) b.1) (objects_lines_and_rings (objects_pruned (large_refs c.args.ring_limit retained) os))) (sym drafted)
-    (ranged r.kept c.args.ring_limit c.args.layers.items c.zero_law.ensures c.requires.sound retained r.picks valid r.through)
+    let valid = untrimmed_is_valid c.ends_stay.ensures c.nothing_is_new.ensures 0 0 d.layers d.of_layers.sound d.of_layers.names in
+    subst (λ os. AllByRecursion (λ b. AreInRange (length retained) b.1) (objects_lines_and_rings (objects_pruned (large_refs c.args.ring_limit retained) os))) (sym d.of_layers.drafted)
+    (ranged r.kept c.args.ring_limit d.layers c.zero_law.ensures d.of_layers.sound retained r.picks valid r.through)
 
 pub returns-clause-assembled : goal.returns-clause-assembled
 returns-clause-assembled c =
     let retained = c.args.retained.items in
-    let drafted = c.in_ok-objects.ensures (own_refs (lines_of c.args.layers.items)) (c.requires.refs ∙ table_refs c.args.layers.items) in
     IfOk-weaker c.finish.result _ _
-    (λ r h kept picks. sym (h ∙ ap (λ os. trimmed (contents (objects_pruned (large_refs c.args.ring_limit retained) os) retained)) drafted
-    ∙ is_assembled kept c.args.ring_limit c.args.layers.items c.zero_law.ensures c.requires.sound retained picks)) c.finish.ensures.left
+    (λ r h ls kept of picks. sym (h ∙ ap (λ os. trimmed (contents (objects_pruned (large_refs c.args.ring_limit retained) os) retained)) of.drafted
+    ∙ is_assembled kept c.args.ring_limit ls c.zero_law.ensures of.sound retained picks)) c.finish.ensures.left
 
 pub returns-clause-dropped : goal.returns-clause-dropped
 returns-clause-dropped c =
     let retained = c.args.retained.items in
-    let drafted = c.in_ok-objects.ensures (own_refs (lines_of c.args.layers.items)) (c.requires.refs ∙ table_refs c.args.layers.items) in
     IfOk-weaker c.finish.result _ _
-    (λ r h kept picks. h ∙ ap (objects_drops (record { arcs = retained; limit = c.args.ring_limit }) 0) drafted
-    ∙ drops_are kept c.args.ring_limit c.args.layers.items c.zero_law.ensures c.requires.sound retained picks) c.finish.ensures.dropped
+    (λ r h ls kept of picks. h ∙ ap (objects_drops (record { arcs = retained; limit = c.args.ring_limit }) 0) of.drafted ∙ drops_are kept c.args.ring_limit ls c.zero_law.ensures of.sound retained picks)
+    c.finish.ensures.dropped
 
 pub returns-clause-removed_count : goal.returns-clause-removed_count
 returns-clause-removed_count c =
     let retained = c.args.retained.items in
-    let drafted = c.in_ok-objects.ensures (own_refs (lines_of c.args.layers.items)) (c.requires.refs ∙ table_refs c.args.layers.items) in
     IfOk-weaker c.finish.result _ _
-    (λ r h kept picks. h
+    (λ r h ls kept of picks counted. h
     ∙ ap (λ os. saturated (sum (keep_from (is_used (objects_pruned (large_refs c.args.ring_limit retained) os)) 0 c.args.counts.now)
-    - positions_of (keep_from (is_used (objects_pruned (large_refs c.args.ring_limit retained) os)) 0 retained))) drafted
-    ∙ ap saturated (ap (λ (ns : List ℕ). sum (keep_from (is_used (objects_pruned (large_refs c.args.ring_limit retained) (objects_drafted (own_refs (lines_of c.args.layers.items)) c.args.layers.items))) 0 ns)
-    - positions_of (keep_from (is_used (objects_pruned (large_refs c.args.ring_limit retained) (objects_drafted (own_refs (lines_of c.args.layers.items)) c.args.layers.items))) 0 retained)) c.requires.counts
-    ∙ removed_count_is kept c.args.ring_limit c.args.layers.items c.zero_law.ensures c.requires.sound retained picks)) c.finish.ensures.removed_count
+    - positions_of (keep_from (is_used (objects_pruned (large_refs c.args.ring_limit retained) os)) 0 retained))) of.drafted
+    ∙ ap saturated (ap (λ (ns : List ℕ). sum (keep_from (is_used (objects_pruned (large_refs c.args.ring_limit retained) (objects_drafted (own_refs (lines_of ls)) ls))) 0 ns)
+    - positions_of (keep_from (is_used (objects_pruned (large_refs c.args.ring_limit retained) (objects_drafted (own_refs (lines_of ls)) ls))) 0 retained)) counted
+    ∙ removed_count_is kept c.args.ring_limit ls c.zero_law.ensures of.sound retained picks)) c.finish.ensures.removed_count

@@ -1,0 +1,13 @@
+use Rattle.std.proofs.Common.{◌∙◌, sym, ap, arith}
+use Rattle.std.specs.Option.{option_copied}
+use Rattle.topo_model.proofs.DraftUses.{no_rings, no_outer, with_outer}
+use Rattle.topo_model.proofs.draft_uses.mark_area.Goals as goal
+
+pub returns-in_default : goal.returns-in_default
+returns-in_default c = no_rings c.args.rings.now c.args.used.now (sym c.first.ensures.value ∙ ap option_copied c.in_default.is)
+
+pub returns-else-count-gt0 : goal.returns-else-count-gt0
+returns-else-count-gt0 c = no_outer c.args.rings.now c.in-Some.outer.now c.args.used.now c.in-Some.ensures.value (omega (arith, c.len-count.ensures, c.if-count-gt0.false))
+
+pub returns-then-count-gt0 : goal.returns-then-count-gt0
+returns-then-count-gt0 c = with_outer c.args.rings.now c.in-Some.outer.now c.args.used.now c.mark_lines.new.used c.in-Some.ensures.value (omega (arith, c.len-count.ensures, c.if-count-gt0.true)) c.mark_lines.ensures

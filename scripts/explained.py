@@ -4,7 +4,8 @@
     scripts/explained.py release/mapchain 1000 7
 
 The second word is how many layers and how many topologies there are, the third the seed. The status, standard output and what stands first on
-standard error have to be the same, each line after that has to begin with two blanks, and the report has to hold the status and these lines.
+standard error have to be the same, each line after that has to begin with two blanks, and the report has to hold the status and these lines,
+with those of lost features that standard error leaves out.
 The features of which an explanation says that nothing of their geometry is left have to be those of which a line or a ring was dropped and
 which are written without any. Through a pipe, which can't be read once more, status and standard output have to be the same, and each line of
 the explanation one of those of before, but for the place of what is malformed, of which the byte is known. At its end it prints how many runs there were, and how many faults had no line but that of their file.
@@ -20,6 +21,7 @@ from pathlib import Path
 sys.dont_write_bytecode = True
 
 import random_files
+from pages import brief
 
 COMMANDS = (
     ("layer", ["build", "a=a.json"]),
@@ -82,7 +84,7 @@ def difference(program, words, folder):
         return f"otherwise: {explained[0]}, {explained[2]!r}", 0
     lines = explained[2][len(error) :].splitlines()
     run_report = json.loads((folder / "run.json").read_text())
-    if run_report["status"] != status or [f"  {line}" for line in run_report["explanation"]] != lines:
+    if run_report["status"] != status or [f"  {line}" for line in brief(run_report["explanation"])] != lines:
         return f"the report differs: {run_report}", 0
     if run_report["report"] and emptied(output, run_report["report"]) != set(told_emptied(output, run_report["explanation"])):
         return f"other features are left without a geometry: {run_report}", 0

@@ -1,30 +1,33 @@
 #!/bin/sh
-# Puts the program, its man page and the completions of three shells in place:
+# Puts the program, its documents, its man page, the completions of three shells and the script that draws pictures in place, and takes them
+# away again:
 #
 #     scripts/install.sh ~/.local                     the program of ./mapchain, which is proved and built first where it has to be
 #     scripts/install.sh /usr/local path/to/mapchain  another program with the same commands
+#     scripts/install.sh --uninstall ~/.local         takes all of it away
 #
 # What goes where, below the folder that is named:
 #
 #     bin/mapchain
+#     bin/mapchain-picture                            scripts/picture.py, which takes Python 3
+#     share/doc/mapchain/                             README.md, CHANGELOG.md, and docs/ with the guide and its pictures
 #     share/man/man1/mapchain.1
 #     share/bash-completion/completions/mapchain
 #     share/zsh/site-functions/_mapchain
 #     share/fish/vendor_completions.d/mapchain.fish
-#
-# To take them away again, delete these files.
 set -eu
 
 root=$(dirname "$(dirname "$(readlink -f "$0")")")
-if [ $# -lt 1 ] || [ $# -gt 2 ] || [ "${1#-}" != "$1" ]; then
-    echo "install: scripts/install.sh PREFIX [PROGRAM]" >&2
+documents=share/doc/mapchain
+man=share/man/man1/mapchain.1
+bash=share/bash-completion/completions/mapchain
+zsh=share/zsh/site-functions/_mapchain
+fish=share/fish/vendor_completions.d/mapchain.fish
+
+usage() {
+    echo "install: scripts/install.sh PREFIX [PROGRAM], or scripts/install.sh --uninstall PREFIX" >&2
     exit 2
-fi
-prefix=$1
-program=${2:-}
-if [ -z "$program" ]; then
-    program=$("$root/scripts/program-path.sh")
-fi
+}
 
 put() {
     mkdir -p "$(dirname "$prefix/$3")"
@@ -32,11 +35,40 @@ put() {
     echo "$prefix/$3"
 }
 
-put 755 "$program" bin/mapchain
-put 644 "$root/docs/mapchain.1" share/man/man1/mapchain.1
-put 644 "$root/completions/mapchain.bash" share/bash-completion/completions/mapchain
-put 644 "$root/completions/_mapchain" share/zsh/site-functions/_mapchain
-put 644 "$root/completions/mapchain.fish" share/fish/vendor_completions.d/mapchain.fish
+put_all() {
+    put 755 "$program" bin/mapchain
+    put 755 "$root/scripts/picture.py" bin/mapchain-picture
+    put 644 "$root/README.md" "$documents/README.md"
+    put 644 "$root/CHANGELOG.md" "$documents/CHANGELOG.md"
+    for file in "$root"/docs/*; do
+        put 644 "$file" "$documents/docs/$(basename "$file")"
+    done
+    put 644 "$root/docs/mapchain.1" "$man"
+    put 644 "$root/completions/mapchain.bash" "$bash"
+    put 644 "$root/completions/_mapchain" "$zsh"
+    put 644 "$root/completions/mapchain.fish" "$fish"
+}
+
+take_away() {
+    for file in bin/mapchain bin/mapchain-picture "$man" "$bash" "$zsh" "$fish"; do
+        rm -f "$prefix/$file"
+    done
+    rm -rf "${prefix:?}/$documents"
+}
+
+if [ "${1:-}" = --uninstall ]; then
+    if [ $# -ne 2 ] || [ -z "$2" ]; then usage; fi
+    prefix=$2
+    take_away
+    exit
+fi
+if [ $# -lt 1 ] || [ $# -gt 2 ] || [ -z "$1" ] || [ "${1#-}" != "$1" ]; then usage; fi
+prefix=$1
+program=${2:-}
+if [ -z "$program" ]; then
+    program=$("$root/scripts/program-path.sh")
+fi
+put_all
 case ":$PATH:" in
     *":$prefix/bin:"*) ;;
     *) echo "install: $prefix/bin isn't on PATH" >&2 ;;

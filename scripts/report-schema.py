@@ -23,7 +23,7 @@ sys.dont_write_bytecode = True
 
 import jsonschema
 
-from pages import PAGES, ROOT, is_page, missed, path_of, program_path, run, run_page
+from pages import PAGES, ROOT, brief, is_page, missed, path_of, program_path, run, run_page
 
 SCHEMA = ROOT / "docs" / "report.schema.json"
 COMMANDS = {"build", "simplify", "geo", "stat"}
@@ -109,14 +109,14 @@ class Reports:
             return run(program, step.words, folder)
         status, output, error = run(program, [step.words[0], "--report", REPORT, *step.words[1:]], folder)
         self.seen += 1
-        if difference := self.difference(folder / REPORT, status, error, "--explain" in step.words):
+        if difference := self.difference(folder / REPORT, status, error, set(options_of(step.words[1:]))):
             self.wrong += 1
             print(f"{self.page}: the report of mapchain {' '.join(step.words)}: {difference}")
         (folder / REPORT).unlink(missing_ok=True)
         return status, output, error
 
-    def difference(self, path, status, error, is_explained):
-        """In words what is wrong with a report: nothing where it is as it should be."""
+    def difference(self, path, status, error, options):
+        """In words what is wrong with a report of a run with these options: nothing where it is as it should be."""
         if not path.is_file():
             return "there is none"
         try:
@@ -130,7 +130,9 @@ class Reports:
             return "not laid out as the format says"
         if value["status"] != status:
             return f"status {value['status']}, and that of the process is {status}"
-        lines = told(value) + "".join(f"  {line}\n" for line in value["explanation"] if is_explained)
+        lines = "" if value["status"] == 0 and options & {"-q", "--quiet"} else told(value)
+        if "--explain" in options:
+            lines += "".join(f"  {line}\n" for line in brief(value["explanation"]))
         if lines.encode() != error:
             return f"it gives {lines!r}, and standard error has {error.decode(errors='replace')!r}"
         return ""

@@ -1,3 +1,4 @@
+pub mod Brief
 pub mod Forms
 pub mod Places
 pub mod Numbers

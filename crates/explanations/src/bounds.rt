@@ -12,6 +12,33 @@ pub(crate) struct Corners {
     pub(crate) top: i64,
 }
 
+impl Corners {
+    /// The least and the greatest coordinates of both.
+    fn with(self, other: Corners) -> Corners {
+        Corners {
+            left: self.left.min(other.left),
+            right: self.right.max(other.right),
+            bottom: self.bottom.min(other.bottom),
+            top: self.top.max(other.top),
+        }
+    }
+
+    /// Whether it seems that each position has its latitude first: as degrees each x is a latitude, some y is none, and each y is a longitude.
+    pub(crate) fn seem_swapped(self) -> bool {
+        lies_within(self.left, self.right, QUARTER)
+            && !lies_within(self.bottom, self.top, QUARTER)
+            && lies_within(self.bottom, self.top, 2 * QUARTER)
+    }
+}
+
+/// 90 degrees in units, the greatest latitude.
+const QUARTER: u64 = 90_000_000_000;
+
+/// Whether both are at most so far from zero.
+fn lies_within(least: i64, greatest: i64, limit: u64) -> bool {
+    least.unsigned_abs() <= limit && greatest.unsigned_abs() <= limit
+}
+
 /// The least and the greatest coordinates of positions, of none so far.
 #[derive(Clone, Copy, Debug)]
 pub struct Bounds {
@@ -28,24 +55,24 @@ impl Bounds {
         self.corners
     }
 
+    /// With those of the positions of both.
+    pub(crate) fn add(&mut self, corners: Corners) {
+        self.corners = match self.corners {
+            None => Some(corners),
+            Some(before) => Some(before.with(corners)),
+        };
+    }
+
     /// With one position more.
     fn widen(&mut self, position: Position) {
         let x = position.x();
         let y = position.y();
-        self.corners = match self.corners {
-            None => Some(Corners {
-                left: x,
-                right: x,
-                bottom: y,
-                top: y,
-            }),
-            Some(corners) => Some(Corners {
-                left: corners.left.min(x),
-                right: corners.right.max(x),
-                bottom: corners.bottom.min(y),
-                top: corners.top.max(y),
-            }),
-        };
+        self.add(Corners {
+            left: x,
+            right: x,
+            bottom: y,
+            top: y,
+        });
     }
 
     /// With the position that a value is.

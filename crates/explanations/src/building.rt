@@ -19,7 +19,7 @@ fn thousandths(part: u64, rest: u64) -> u128
 }
 
 /// How many positions of how many were kept.
-pub fn built(alloc: Global, report: &Report) -> Result<String, AllocError> {
+fn kept(alloc: Global, report: &Report) -> Result<String, AllocError> {
     let kept = report.kept;
     let removed = report.removed;
     if kept == 0 && removed == 0 {
@@ -30,6 +30,53 @@ pub fn built(alloc: Global, report: &Report) -> Result<String, AllocError> {
     let percent = share / 10;
     let tenth = share % 10;
     format!(in alloc; "  kept {kept} of {all} positions of the arcs, {percent}.{tenth} %\n")
+}
+
+/// How many attos, which are `10^-18`, one is.
+const ATTOS: u128 = 1_000_000_000_000_000_000;
+
+/// A number of attos as a decimal.
+fn decimal_of_attos(alloc: Global, attos: u128) -> Result<String, AllocError> {
+    let whole = attos / ATTOS;
+    let mut part = attos % ATTOS;
+    let mut text = format!(in alloc; "{whole}")?;
+    if part == 0 {
+        return Ok(text);
+    }
+    text.push_str(".")?;
+    for _ in 0..18 {
+        if part == 0 {
+            break;
+        }
+        part = part.saturating_mul(10);
+        let digit = part / ATTOS;
+        write!(text, "{digit}")?;
+        part %= ATTOS;
+    }
+    Ok(text)
+}
+
+/// The area of which a threshold is twice the number of attos, as `--min-area` takes it. That is too small by half an atto where the
+/// threshold is odd.
+fn chosen(alloc: Global, threshold: u128) -> Result<String, AllocError> {
+    let area = decimal_of_attos(alloc, threshold / 2)?;
+    if threshold % 2 == 0 {
+        return format!(in alloc;
+            "  the area chosen is {area} square units of the coordinates: --min-area {area} keeps the same points\n"
+        );
+    }
+    format!(in alloc;
+        "  the area chosen is {area} square units of the coordinates and half of 10^-18: --min-area {area} keeps these points, and may keep more\n"
+    )
+}
+
+/// How many positions of how many were kept, and which area was chosen, if one was.
+pub fn built(alloc: Global, report: &Report) -> Result<String, AllocError> {
+    let mut lines = kept(alloc, report)?;
+    if let Some(threshold) = report.chosen {
+        lines.push_str(chosen(alloc, threshold)?.as_str())?;
+    }
+    Ok(lines)
 }
 
 /// How far apart the coordinates of a grid of so many cells are, in units: the step of the grid that is built.

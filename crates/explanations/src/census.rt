@@ -138,13 +138,13 @@ pub(crate) struct Census {
 }
 
 impl Census {
-    /// Nothing counted yet, and these bounds of what was read before.
-    pub(crate) fn over(bounds: Bounds, is_topology: bool) -> Census {
+    /// Nothing counted yet.
+    pub(crate) fn of(is_topology: bool) -> Census {
         Census {
             lines: 0,
             has_points: false,
             left_out: LeftOut::none(),
-            bounds,
+            bounds: Bounds::none(),
             is_topology,
         }
     }

@@ -11,8 +11,18 @@ pub enum FileForm {
     Gzip,
     /// A zip archive.
     Zip,
+    /// The part of a shapefile that has the shapes, or their index.
+    Shapefile,
+    /// The part of a shapefile that has the properties.
+    ShapefileTable,
+    /// A database of SQLite, as a GeoPackage is.
+    Sqlite,
+    /// FlatGeobuf.
+    FlatGeobuf,
     /// Text of UTF-16.
     Utf16,
+    /// KML (OGC 12-007r2).
+    Kml,
     /// HTML or XML.
     Markup,
     /// Nothing but white space, if that.
@@ -28,14 +38,28 @@ fn begins(word: &[u8], bytes: &[u8]) -> bool
     after_word(word, bytes).is_some()
 }
 
-/// Whether one of the first two bytes is zero.
-fn zero_soon(bytes: &[u8]) -> bool
-    ensures { result ≡ spec.zero_soon bytes.now }
+/// Whether it is an ASCII character that a text may have.
+pub(crate) fn is_plain(byte: u8) -> bool
+    ensures { result ≡ spec.is_plain byte }
+{
+    byte == b'\t' || byte == b'\n' || byte == b'\r' || (32 <= byte && byte <= 126)
+}
+
+/// Whether these are a zero and an ASCII character.
+fn is_pair(empty: u8, letter: u8) -> bool
+    ensures { result ≡ spec.is_pair empty letter }
+{
+    empty == 0 && is_plain(letter)
+}
+
+/// Whether they begin as two characters of UTF-16 that are ASCII.
+fn begins_in_pairs(bytes: &[u8]) -> bool
+    ensures { result ≡ spec.begins_in_pairs bytes.now }
 {
     match bytes {
-        [] => false,
-        [_] => false,
-        [first, second, ..] => *first == 0 || *second == 0,
+        [a, b, c, d, ..] => (is_pair(*a, *b) && is_pair(*c, *d))
+            || (is_pair(*b, *a) && is_pair(*d, *c)),
+        _ => false,
     }
 }
 
@@ -43,7 +67,45 @@ fn zero_soon(bytes: &[u8]) -> bool
 fn is_utf16(bytes: &[u8]) -> bool
     ensures { result ≡ spec.is_utf16 bytes.now }
 {
-    begins(&[0xff, 0xfe], bytes) || begins(&[0xfe, 0xff], bytes) || zero_soon(bytes)
+    begins(&[0xff, 0xfe], bytes) || begins(&[0xfe, 0xff], bytes) || begins_in_pairs(bytes)
+}
+
+/// Whether they are the table of a shapefile.
+fn is_table(bytes: &[u8]) -> bool
+    ensures { result ≡ spec.is_table bytes.now }
+{
+    match bytes {
+        [version, _, month, day, _, _, _, _, low, ..] => {
+            *version == 3
+                && (1 <= *month && *month <= 12)
+                && (1 <= *day && *day <= 31)
+                && *low % 32 == 1
+        }
+        _ => false,
+    }
+}
+
+/// What stands after the first `>`.
+#[tactic(auto, unfolding(crate::specs::Forms::after_greater))]
+fn after_greater(bytes: &[u8]) -> &[u8]
+    ensures { result.now ≡ spec.after_greater bytes.now }
+{
+    let mut rest = bytes;
+    while let [byte, more @ ..] = rest {
+        if *byte == b'>' {
+            return more;
+        }
+        rest = more;
+    }
+    rest
+}
+
+/// Whether the text is KML.
+fn is_kml(bytes: &[u8]) -> bool
+    ensures { result ≡ spec.is_kml bytes.now }
+{
+    begins(b"<kml", bytes)
+        || (begins(b"<?xml", bytes) && begins(b"<kml", skip(after_greater(bytes))))
 }
 
 /// What kind of text it is, after white space.
@@ -52,6 +114,9 @@ fn text_form(bytes: &[u8]) -> FileForm
 {
     if bytes.is_empty() {
         return FileForm::Blank;
+    }
+    if is_kml(bytes) {
+        return FileForm::Kml;
     }
     if begins(b"<", bytes) {
         return FileForm::Markup;
@@ -69,6 +134,18 @@ pub fn form_of(bytes: &[u8]) -> FileForm
     }
     if begins(b"PK\x03\x04", bytes) {
         return FileForm::Zip;
+    }
+    if begins(&[0x00, 0x00, 0x27, 0x0a], bytes) {
+        return FileForm::Shapefile;
+    }
+    if begins(b"SQLite format 3", bytes) {
+        return FileForm::Sqlite;
+    }
+    if begins(b"fgb\x03", bytes) {
+        return FileForm::FlatGeobuf;
+    }
+    if is_table(bytes) {
+        return FileForm::ShapefileTable;
     }
     if is_utf16(bytes) {
         return FileForm::Utf16;

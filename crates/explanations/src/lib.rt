@@ -6,6 +6,7 @@
 #![tactic(auto)]
 
 mod bounds;
+mod brief;
 mod building;
 mod census;
 mod escaping;
@@ -19,12 +20,14 @@ mod options;
 mod place;
 mod positions;
 mod read_faults;
+mod slips;
 mod topology_faults;
 mod topology_walk;
 mod trees;
 mod walk;
 
 pub use bounds::Bounds;
+pub use brief::put_brief;
 pub use building::{built, grid_step};
 pub use file_kinds::{FileKind, unopened};
 pub use form::{FileForm, form_of};

@@ -1,5 +1,6 @@
 // The features of which nothing is left, and the members of layers that aren't read.
 use crate::bounds::Bounds;
+use crate::brief::LOSS_ENDING;
 use crate::census::{Census, LeftOut, ObjectKind, parts_of};
 use crate::escaping::quoted;
 use crate::labels::label;
@@ -53,7 +54,7 @@ fn add_loss(
         return Ok(());
     }
     let label = label(alloc, members)?;
-    let line = format!(in alloc; "  {place}{label}: nothing of its geometry is left\n")?;
+    let line = format!(in alloc; "  {place}{label}{LOSS_ENDING}\n")?;
     lines.push_str(line.as_str())
 }
 
@@ -133,8 +134,19 @@ fn left_out_line(alloc: Global, place: &str, left_out: &LeftOut) -> Result<Strin
     format!(in alloc; "  {place}left out \"bbox\" {bbox}, \"crs\" {crs}, other members {others}\n")
 }
 
+/// The line for a layer with these bounds whose positions seem to have their latitude first, if they do. `place` is what stands before it.
+fn swapped_line(alloc: Global, place: &str, bounds: &Bounds) -> Result<String, AllocError> {
+    match bounds.corners() {
+        Some(corners) if corners.seem_swapped() => format!(in alloc;
+            "  {place}every x is from -90 to 90 and some y isn't: if these are degrees, latitude and longitude are swapped, as GeoJSON has the longitude first\n"
+        ),
+        _ => Ok(String::new(alloc)),
+    }
+}
+
 /// What became of the features of a layer that was built: a line for each that had lines or rings and no point, and of which all are
-/// dropped; and a line for the members that aren't read. `bounds` is widened by the layer's positions. `dropped` is in reading order.
+/// dropped; one for the members that aren't read; and one where latitude and longitude seem to be swapped. `bounds` is widened by the
+/// layer's positions. `dropped` is in reading order.
 pub fn built_layer(
     alloc: Global,
     layer: usize,
@@ -149,13 +161,16 @@ pub fn built_layer(
     let Some(members) = value.as_object() else {
         return Ok(lines);
     };
-    let mut census = Census::over(*bounds, false);
+    let mut census = Census::of(false);
     let mut drops = DropsLeft { rest: dropped };
     add_layer(alloc, &mut lines, &mut census, layer, members, &mut drops)?;
     let place = format!(in alloc; "layer {layer}: ")?;
     let line = left_out_line(alloc, place.as_str(), &census.left_out)?;
     lines.push_str(line.as_str())?;
-    *bounds = census.bounds;
+    lines.push_str(swapped_line(alloc, place.as_str(), &census.bounds)?.as_str())?;
+    if let Some(corners) = census.bounds.corners() {
+        bounds.add(corners);
+    }
     Ok(lines)
 }
 
@@ -220,7 +235,7 @@ pub fn simplified_topology(
     let Some(value) = tree(alloc, bytes, TOPOLOGY_DEPTH)? else {
         return Ok(lines);
     };
-    let mut census = Census::over(Bounds::none(), true);
+    let mut census = Census::of(true);
     if let Some(members) = value.as_object() {
         count_topology(&mut census, members);
     }

@@ -45,15 +45,44 @@ pub fn bad_area(alloc: Global, option: &str, text: &str) -> Result<String, Alloc
     }
 }
 
+/// Ten times itself so often, or the greatest number.
+fn power_of_ten(exponent: usize) -> u64 {
+    let mut power: u64 = 1;
+    for _ in 0..exponent {
+        power = power.saturating_mul(10);
+    }
+    power
+}
+
+/// The two numbers of the share that a decimal or so many hundredths stand for, with so many decimal places to add.
+fn share_of(alloc: Global, decimal: &str, places: usize) -> Result<Option<(u64, u64)>, AllocError> {
+    let (whole, part) = decimal.split_once(".").unwrap_or((decimal, ""));
+    let digits = format!(in alloc; "{whole}{part}")?;
+    let places = part.len().saturating_add(places);
+    if places == 0 || places > 9 || !is_digits(digits.as_str()) {
+        return Ok(None);
+    }
+    let all = power_of_ten(places);
+    match digits.as_str().parse::<u64>() {
+        Ok(some) if some <= all => Ok(Some((some, all))),
+        _ => Ok(None),
+    }
+}
+
+/// How a share is written as a fraction that stands as a decimal or as hundredths.
+fn share_as_fraction(alloc: Global, text: &str) -> Result<String, AllocError> {
+    let share = match text.strip_suffix("%") {
+        Some(hundredths) => share_of(alloc, hundredths, 2)?,
+        None => share_of(alloc, text, 0)?,
+    };
+    match share {
+        Some((some, all)) => format!(in alloc; "  for {text} write {some}/{all}\n"),
+        None => Ok(String::new(alloc)),
+    }
+}
+
 /// Why the text of a share is none.
 pub fn bad_share(alloc: Global, text: &str) -> Result<String, AllocError> {
-    if let Some(hundredths) = text.strip_suffix("%") {
-        if is_digits(hundredths) {
-            return format!(in alloc;
-                "  a share is two whole numbers, as 1/10\n  for {text} write {hundredths}/100\n"
-            );
-        }
-    }
     if let Some((part, whole)) = text.split_once("/") {
         if is_digits(part) && is_digits(whole) {
             return format!(in alloc;
@@ -61,5 +90,6 @@ pub fn bad_share(alloc: Global, text: &str) -> Result<String, AllocError> {
             );
         }
     }
-    format!(in alloc; "  a share is two whole numbers, as 1/10\n")
+    let mended = share_as_fraction(alloc, text)?;
+    format!(in alloc; "  a share is two whole numbers, as 1/10\n{mended}")
 }

@@ -29,7 +29,7 @@ fn following(byte: u8, place: Place) -> Place
 }
 
 /// So many bytes from the first on, or all.
-fn prefix(bytes: &[u8], count: usize) -> &[u8]
+pub(crate) fn prefix(bytes: &[u8], count: usize) -> &[u8]
     ensures { result.now ≡ take count bytes.now }
 {
     if count < bytes.len() {
